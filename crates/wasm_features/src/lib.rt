@@ -2,11 +2,17 @@
 #![tactic(auto)]
 
 ghost use Rattle.std.specs.Prelude.{◌≡◌, ◌==◌, ⊤, ℕ};
-ghost use Rattle.wasm_features.specs.Features.{flag_table};
+ghost use Rattle.wasm_features.specs.Features.{flag_table, features_of};
+ghost use Rattle.wasm_features.specs.Sets.{default_names};
 
 use bitflags::{Flag, Flags};
 
 mod accessors;
+mod inflated;
+pub mod laws;
+mod operations;
+
+pub use inflated::WasmFeaturesInflated;
 
 /// A set of WebAssembly features, by name.
 #[derive(Clone, Copy, PartialEq, Eq, Hash, Debug)]
@@ -67,6 +73,17 @@ impl WasmFeatures {
     pub const CALL_INDIRECT_OVERLONG: Self = Self { bits: 1 << 22 };
     /// The feature `bulk_memory_opt`.
     pub const BULK_MEMORY_OPT: Self = Self { bits: 1 << 23 };
+
+    /// The features of WebAssembly's first version, of 2017.
+    pub const MVP: Self = Self { bits: Self::FLOATS.bits | Self::GC_TYPES.bits };
+    /// The features of the standard's version 1.0.
+    pub const WASM1: Self = Self { bits: Self::MVP.bits | Self::MUTABLE_GLOBAL.bits };
+    /// The features of the standard's version 2.0.
+    pub const WASM2: Self = Self { bits: Self::WASM1.bits | Self::SATURATING_FLOAT_TO_INT.bits | Self::SIGN_EXTENSION.bits | Self::REFERENCE_TYPES.bits | Self::MULTI_VALUE.bits | Self::BULK_MEMORY.bits | Self::SIMD.bits };
+    /// The features of the standard's version 3.0.
+    pub const WASM3: Self = Self { bits: Self::WASM2.bits | Self::TAIL_CALL.bits | Self::EXTENDED_CONST.bits | Self::FUNCTION_REFERENCES.bits | Self::GC.bits | Self::MULTI_MEMORY.bits | Self::RELAXED_SIMD.bits | Self::EXCEPTIONS.bits | Self::MEMORY64.bits };
+    /// The features of the profile Lime1.
+    pub const LIME1: Self = Self { bits: Self::WASM1.bits | Self::SATURATING_FLOAT_TO_INT.bits | Self::SIGN_EXTENSION.bits | Self::MULTI_VALUE.bits | Self::EXTENDED_CONST.bits | Self::CALL_INDIRECT_OVERLONG.bits | Self::BULK_MEMORY_OPT.bits };
 
     /// Each constant with its name, in the order of their bits.
     pub const FLAGS: &'static [Flag<Self>] = &[
@@ -188,5 +205,13 @@ impl Flags for WasmFeatures {
 
     fn from_bits_retain(bits: u32) -> Self {
         Self { bits }
+    }
+}
+
+impl Default for WasmFeatures {
+    ghost is_default = { λ features. features ≡ features_of default_names };
+
+    fn default() -> Self {
+        Self::WASM3 | Self::THREADS | Self::CUSTOM_PAGE_SIZES
     }
 }

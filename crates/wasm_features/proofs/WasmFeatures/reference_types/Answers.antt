@@ -3,4 +3,4 @@ use Rattle.wasm_features.proofs.Digits.{has_both}
 use Rattle.wasm_features.proofs.WasmFeatures.reference_types.Goals as goal
 
 pub returns : goal.returns
-returns c = c.contains.ensures tt ∙ has_both c.args.self.now.bits 8 4194304
+returns c = c.contains.ensures.bits ∙ has_both c.args.self.now.bits 8 4194304
