@@ -1,10 +1,9 @@
 -- Operations on sets of names, and the sets that go with each version of the standard.
-use Rattle.std.specs.Prelude.{ℕ, Bool, true, List, [], ◌∷◌, ◌<◌, ◌^◌, ◌≡◌, ◌&&◌, ◌||◌, not, if◌then◌else◌, IsTrue, nat_eq}
+use Rattle.std.specs.Prelude.{Bool, true, List, [], ◌∷◌, ◌<◌, ◌^◌, ◌≡◌}
 use Rattle.std.specs.Int.RustNames.{bit_and, bit_or, bit_xor}
-use Rattle.std.specs.List.{list_any}
 use Rattle.bitflags.specs.Sets.{without}
 use Rattle.wasm_features.specs.declared.WasmFeatures.{WasmFeatures}
-use Rattle.wasm_features.specs.Features.{Feature, MutableGlobal, SaturatingFloatToInt, SignExtension, ReferenceTypes, MultiValue, BulkMemory, Simd, RelaxedSimd, Threads, SharedEverythingThreads, TailCall, Floats, MultiMemory, Exceptions, Memory64, ExtendedConst, FunctionReferences, Gc, CustomPageSizes, LegacyExceptions, GcTypes, WideArithmetic, CallIndirectOverlong, BulkMemoryOpt, has, place, features_of, all_names}
+use Rattle.wasm_features.specs.Features.{Feature, MutableGlobal, SaturatingFloatToInt, SignExtension, ReferenceTypes, MultiValue, BulkMemory, Simd, RelaxedSimd, Threads, TailCall, Floats, MultiMemory, Exceptions, Memory64, ExtendedConst, FunctionReferences, Gc, CustomPageSizes, GcTypes, CallIndirectOverlong, BulkMemoryOpt, has, features_of, all_names}
 
 -- a set has a name exactly if the name passes the test
 abbrev pub HasExactly : WasmFeatures → (Feature → Bool) → Type 0

@@ -12,8 +12,7 @@ use crate::WasmFeatures;
 pub fn sets_are_names()
     ensures list { ListIsSet }
     ensures names { SetIsItsNames }
-{
-}
+{}
 
 /// Each operation, by the names of its result.
 pub fn operations_by_names()
@@ -22,8 +21,7 @@ pub fn operations_by_names()
     ensures difference { DifferenceByNames }
     ensures symmetric_difference { SymmetricDifferenceByNames }
     ensures complement { ComplementByNames }
-{
-}
+{}
 
 /// The sets of the standard's versions, by their names.
 pub fn versions_by_names()
@@ -32,8 +30,7 @@ pub fn versions_by_names()
     ensures wasm2 { WasmFeatures.WASM2 ≡ features_of wasm2_names }
     ensures wasm3 { WasmFeatures.WASM3 ≡ features_of wasm3_names }
     ensures lime1 { WasmFeatures.LIME1 ≡ features_of lime1_names }
-{
-}
+{}
 
 /// Each version's set lies within the next, and Lime1 between 1.0 and 3.0.
 pub fn versions_grow()
@@ -43,11 +40,9 @@ pub fn versions_grow()
     ensures wasm3 { IsWithin WasmFeatures.WASM3 (features_of default_names) }
     ensures lime1 { IsWithin WasmFeatures.WASM1 WasmFeatures.LIME1 }
     ensures lime1_below { IsWithin WasmFeatures.LIME1 WasmFeatures.WASM3 }
-{
-}
+{}
 
 /// `inflate` after `from_inflated`.
 pub fn inflate_gives_back()
     ensures { InflateGivesBack }
-{
-}
+{}

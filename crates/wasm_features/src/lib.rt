@@ -75,15 +75,45 @@ impl WasmFeatures {
     pub const BULK_MEMORY_OPT: Self = Self { bits: 1 << 23 };
 
     /// The features of WebAssembly's first version, of 2017.
-    pub const MVP: Self = Self { bits: Self::FLOATS.bits | Self::GC_TYPES.bits };
+    pub const MVP: Self = Self {
+        bits: Self::FLOATS.bits | Self::GC_TYPES.bits,
+    };
     /// The features of the standard's version 1.0.
-    pub const WASM1: Self = Self { bits: Self::MVP.bits | Self::MUTABLE_GLOBAL.bits };
+    pub const WASM1: Self = Self {
+        bits: Self::MVP.bits | Self::MUTABLE_GLOBAL.bits,
+    };
     /// The features of the standard's version 2.0.
-    pub const WASM2: Self = Self { bits: Self::WASM1.bits | Self::SATURATING_FLOAT_TO_INT.bits | Self::SIGN_EXTENSION.bits | Self::REFERENCE_TYPES.bits | Self::MULTI_VALUE.bits | Self::BULK_MEMORY.bits | Self::SIMD.bits };
+    pub const WASM2: Self = Self {
+        bits: Self::WASM1.bits
+            | Self::SATURATING_FLOAT_TO_INT.bits
+            | Self::SIGN_EXTENSION.bits
+            | Self::REFERENCE_TYPES.bits
+            | Self::MULTI_VALUE.bits
+            | Self::BULK_MEMORY.bits
+            | Self::SIMD.bits,
+    };
     /// The features of the standard's version 3.0.
-    pub const WASM3: Self = Self { bits: Self::WASM2.bits | Self::TAIL_CALL.bits | Self::EXTENDED_CONST.bits | Self::FUNCTION_REFERENCES.bits | Self::GC.bits | Self::MULTI_MEMORY.bits | Self::RELAXED_SIMD.bits | Self::EXCEPTIONS.bits | Self::MEMORY64.bits };
+    pub const WASM3: Self = Self {
+        bits: Self::WASM2.bits
+            | Self::TAIL_CALL.bits
+            | Self::EXTENDED_CONST.bits
+            | Self::FUNCTION_REFERENCES.bits
+            | Self::GC.bits
+            | Self::MULTI_MEMORY.bits
+            | Self::RELAXED_SIMD.bits
+            | Self::EXCEPTIONS.bits
+            | Self::MEMORY64.bits,
+    };
     /// The features of the profile Lime1.
-    pub const LIME1: Self = Self { bits: Self::WASM1.bits | Self::SATURATING_FLOAT_TO_INT.bits | Self::SIGN_EXTENSION.bits | Self::MULTI_VALUE.bits | Self::EXTENDED_CONST.bits | Self::CALL_INDIRECT_OVERLONG.bits | Self::BULK_MEMORY_OPT.bits };
+    pub const LIME1: Self = Self {
+        bits: Self::WASM1.bits
+            | Self::SATURATING_FLOAT_TO_INT.bits
+            | Self::SIGN_EXTENSION.bits
+            | Self::MULTI_VALUE.bits
+            | Self::EXTENDED_CONST.bits
+            | Self::CALL_INDIRECT_OVERLONG.bits
+            | Self::BULK_MEMORY_OPT.bits,
+    };
 
     /// Each constant with its name, in the order of their bits.
     pub const FLAGS: &'static [Flag<Self>] = &[
@@ -215,3 +245,6 @@ impl Default for WasmFeatures {
         Self::WASM3 | Self::THREADS | Self::CUSTOM_PAGE_SIZES
     }
 }
+
+#[cfg(test)]
+mod tests;
