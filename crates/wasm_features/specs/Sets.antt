@@ -37,17 +37,17 @@ complement a = difference (features_of all_names) a
 abbrev pub mvp_names : List Feature
 mvp_names = Floats ∷ GcTypes ∷ []
 
--- version 1.0 of the standard
+-- version 1.0 of the standard (Core Specification, appendix Change History, for this and the next two)
 abbrev pub wasm1_names : List Feature
 wasm1_names = MutableGlobal ∷ mvp_names
 
--- version 2.0 of the standard
+-- version 2.0: Release 2.0
 abbrev pub wasm2_names : List Feature
 wasm2_names =
     SaturatingFloatToInt ∷ SignExtension ∷ ReferenceTypes ∷ CallIndirectOverlong ∷ MultiValue ∷ BulkMemory
     ∷ BulkMemoryOpt ∷ Simd ∷ wasm1_names
 
--- version 3.0 of the standard
+-- version 3.0: Release 3.0
 abbrev pub wasm3_names : List Feature
 wasm3_names =
     TailCall ∷ ExtendedConst ∷ FunctionReferences ∷ Gc ∷ MultiMemory ∷ RelaxedSimd ∷ Exceptions ∷ Memory64 ∷ wasm2_names

@@ -1,7 +1,7 @@
 //! Laws of feature sets, as functions that do nothing: each contract is the law.
 
-ghost use Rattle.std.specs.Prelude.{◌≡◌};
-ghost use Rattle.wasm_features.specs.Features.{features_of};
+ghost use Rattle.std.specs.Prelude.{◌≡◌, [], ◌∷◌, map};
+ghost use Rattle.wasm_features.specs.Features.{features_of, constant, all_names};
 ghost use Rattle.wasm_features.specs.Inflated.{InflateGivesBack};
 ghost use Rattle.wasm_features.specs.Laws.{ListIsSet, SetIsItsNames, UnionByNames, IntersectionByNames, DifferenceByNames, SymmetricDifferenceByNames, ComplementByNames};
 ghost use Rattle.wasm_features.specs.Sets.{IsWithin, mvp_names, wasm1_names, wasm2_names, wasm3_names, default_names, lime1_names};
@@ -21,6 +21,19 @@ pub fn operations_by_names()
     ensures difference { DifferenceByNames }
     ensures symmetric_difference { SymmetricDifferenceByNames }
     ensures complement { ComplementByNames }
+{}
+
+/// Each constant, by its names.
+pub fn constants_by_names()
+    ensures { WasmFeatures.MUTABLE_GLOBAL ∷ WasmFeatures.SATURATING_FLOAT_TO_INT ∷ WasmFeatures.SIGN_EXTENSION
+        ∷ WasmFeatures.REFERENCE_TYPES ∷ WasmFeatures.MULTI_VALUE ∷ WasmFeatures.BULK_MEMORY
+        ∷ WasmFeatures.SIMD ∷ WasmFeatures.RELAXED_SIMD ∷ WasmFeatures.THREADS
+        ∷ WasmFeatures.SHARED_EVERYTHING_THREADS ∷ WasmFeatures.TAIL_CALL ∷ WasmFeatures.FLOATS
+        ∷ WasmFeatures.MULTI_MEMORY ∷ WasmFeatures.EXCEPTIONS ∷ WasmFeatures.MEMORY64
+        ∷ WasmFeatures.EXTENDED_CONST ∷ WasmFeatures.FUNCTION_REFERENCES ∷ WasmFeatures.GC
+        ∷ WasmFeatures.CUSTOM_PAGE_SIZES ∷ WasmFeatures.LEGACY_EXCEPTIONS ∷ WasmFeatures.GC_TYPES
+        ∷ WasmFeatures.WIDE_ARITHMETIC ∷ WasmFeatures.CALL_INDIRECT_OVERLONG ∷ WasmFeatures.BULK_MEMORY_OPT ∷ []
+        ≡ map (λ name. features_of (constant name)) all_names }
 {}
 
 /// The sets of the standard's versions, by their names.

@@ -89,6 +89,7 @@ fn fields_come_back(rt: HostRuntime) {
 fn laws_can_be_cited() {
     crate::laws::sets_are_names();
     crate::laws::operations_by_names();
+    crate::laws::constants_by_names();
     crate::laws::versions_by_names();
     crate::laws::versions_grow();
     crate::laws::inflate_gives_back();
