@@ -1,0 +1,5 @@
+pub mod Numbers
+pub mod Spelled
+pub mod Bodies
+pub mod Latest
+pub mod Again
