@@ -3,3 +3,4 @@ pub mod Spelled
 pub mod Bodies
 pub mod Latest
 pub mod Again
+pub mod Pairs
