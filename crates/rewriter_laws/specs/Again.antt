@@ -22,11 +22,11 @@ use Rattle.rewriter_module.specs.Written.{Numbers, written, placed, placed_funct
 use Rattle.rewriter_laws.specs.Numbers.{u32_spells}
 use Rattle.rewriter_laws.specs.Spelled.{InRange, section_spelled, section_spelled_by, type_spelled, code_section_spelled, length-placed_functions}
 use Rattle.rewriter_laws.specs.Bodies.{AllInRange, normal_in_range, normal_nests, spelled_in_range, IsFunctionExport, exports_are_functions}
-use Rattle.rewriter_laws.specs.Latest.{has_latest}
+use Rattle.rewriter_laws.specs.First.{has_first}
 
 refers_in_range : (m : Module) (i j : Item) → Refers m i j → IsItem m j
 refers_in_range m (FunctionItem f) (FunctionItem g) h = absurd h
-refers_in_range m (FunctionItem f) (TypeItem t) h = h.2.there
+refers_in_range m (FunctionItem f) (TypeItem t) h = let there : h.0.type_ < length m.types = h.2.there in let earlier : t ≤ h.0.type_ = h.2.earlier in omega arith
 refers_in_range m (TypeItem s) (FunctionItem g) h = absurd h
 refers_in_range m (TypeItem s) (TypeItem t) h = absurd h
 
@@ -52,7 +52,7 @@ pub type_number_small : (features : Features) (m : Module) (n : Numbers) → Rul
 type_number_small features m n rules numbering f kept =
     let there : f < length m.functions = kept_in_range features m rules (FunctionItem f) kept in
     let typed : (function_at m f).type_ < length m.types = rules.typed f no_function there in
-    let stands : (u : ℕ) × Same m.types (function_at m f).type_ u = has_latest m.types (function_at m f).type_ typed in
+    let stands : (u : ℕ) × Same m.types (function_at m f).type_ u = has_first m.types (function_at m f).type_ typed in
     let kept_type : Kept m (TypeItem stands.0) = refers kept (function_at m f, slice_get-get_or m.functions f no_function there, stands.1) in
     let place : Contains n.types stands.0 = numbering.each_type stands.0 kept_type in
     let read : slice_get n.types place.0 ≡ Some stands.0 = slice_get_read n.types (length n.types) place.0 stands.0 refl place.1 (sym place.2) in

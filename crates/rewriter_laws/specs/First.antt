@@ -1,4 +1,4 @@
--- Each type stands for one: the latest that is equal to it.
+-- Each type stands for one: the first that is equal to it.
 use Rattle.std.proofs.Common.{ℕ, ◌≡◌, ◌≢◌, ◌<◌, ◌≤◌, ◌+◌, ◌⊎◌, zero, suc, List, [], ◌∷◌, length, refl, sym, ap, ◌∙◌, inl, inr, arith, get_or}
 use Rattle.std.specs.Prelude.{Option, Some, None, slice_get}
 use Rattle.std.proofs.lemmas.Option.{slice_get-get_or}
@@ -24,9 +24,12 @@ value_back F32 = refl
 value_back F64 = refl
 value_back V128 = refl
 
+pub same_rank : (s t : ValType) → value_rank s ≡ value_rank t → s ≡ t
+same_rank s t e = sym (value_back s) ∙ ap value_of e ∙ value_back t
+
 same_value : (s t : ValType) → (s ≡ t) ⊎ (s ≢ t)
 same_value s t = elim (cases_eq (value_rank s) (value_rank t)) as (λ _. (s ≡ t) ⊎ (s ≢ t)) [
-    inl e ↦ inl (sym (value_back s) ∙ ap value_of e ∙ value_back t)
+    inl e ↦ inl (same_rank s t e)
   | inr d ↦ inr (λ (e : s ≡ t). d (ap value_rank e))
   ]
 
@@ -61,25 +64,36 @@ at_option (Some y) x = elim (same_type y x) as (λ _. (Some y ≡ Some x) ⊎ (S
 is_at : (ts : List FunctionType) (n : ℕ) (x : FunctionType) → (slice_get ts n ≡ Some x) ⊎ (slice_get ts n ≢ Some x)
 is_at ts n x = at_option (slice_get ts n) x
 
-pub latest_below : (n : ℕ) (ts : List FunctionType) (x : FunctionType) (k : ℕ) → k < n → slice_get ts k ≡ Some x →
-    (u : ℕ) × (u < n) × (slice_get ts u ≡ Some x) × ((v : ℕ) → u < v → v < n → slice_get ts v ≢ Some x)
-latest_below zero ts x k below here = absurd (omega arith)
-latest_below (suc n) ts x k below here = elim (is_at ts n x) as (λ _. (u : ℕ) × (u < suc n) × (slice_get ts u ≡ Some x) × ((v : ℕ) → u < v → v < suc n → slice_get ts v ≢ Some x)) [
-    inl e ↦ (n, omega arith, e, λ (v : ℕ) (above : n < v) (small : v < suc n). absurd (omega arith))
-  | inr d ↦
-      let other : k ≢ n = λ (e : k ≡ n). d (sym (ap (slice_get ts) e) ∙ here) in
-      let found : (u : ℕ) × (u < n) × (slice_get ts u ≡ Some x) × ((v : ℕ) → u < v → v < n → slice_get ts v ≢ Some x) = latest_below n ts x k (omega arith) here in
-      (found.0, omega arith, found.2, λ (v : ℕ) (above : found.0 < v) (small : v < suc n). elim (cases_lt v n) as (λ _. slice_get ts v ≢ Some x) [
-          inl lt ↦ found.3 v above lt
-        | inr ge ↦ let last : v ≡ n = omega arith in λ (e : slice_get ts v ≡ Some x). d (sym (ap (slice_get ts) last) ∙ e)
-        ])
+any_before : (n : ℕ) (ts : List FunctionType) (x : FunctionType) → ((k : ℕ) × (k < n) × (slice_get ts k ≡ Some x)) ⊎ ((v : ℕ) → v < n → slice_get ts v ≢ Some x)
+any_before zero ts x = inr (λ (v : ℕ) (h : v < zero) (e : slice_get ts v ≡ Some x). absurd (omega arith))
+any_before (suc n) ts x = elim (is_at ts n x) as (λ _. ((k : ℕ) × (k < suc n) × (slice_get ts k ≡ Some x)) ⊎ ((v : ℕ) → v < suc n → slice_get ts v ≢ Some x)) [
+    inl e ↦ inl (n, omega arith, e)
+  | inr d ↦ elim (any_before n ts x) as (λ _. ((k : ℕ) × (k < suc n) × (slice_get ts k ≡ Some x)) ⊎ ((v : ℕ) → v < suc n → slice_get ts v ≢ Some x)) [
+        inl found ↦ let low : found.0 < n = found.1 in inl (found.0, omega arith, found.2)
+      | inr none ↦ inr (λ (v : ℕ) (h : v < suc n). elim (cases_lt v n) as (λ _. slice_get ts v ≢ Some x) [
+            inl lt ↦ none v lt
+          | inr ge ↦ let last : v ≡ n = omega arith in λ (e : slice_get ts v ≡ Some x). d (sym (ap (slice_get ts) last) ∙ e)
+          ])
+      ]
+  ]
+
+pub first_below : (n : ℕ) (ts : List FunctionType) (x : FunctionType) (k : ℕ) → k < n → slice_get ts k ≡ Some x →
+    (u : ℕ) × (u ≤ k) × (slice_get ts u ≡ Some x) × ((v : ℕ) → v < u → slice_get ts v ≢ Some x)
+first_below zero ts x k below here = absurd (omega arith)
+first_below (suc n) ts x k below here = elim (any_before k ts x) as (λ _. (u : ℕ) × (u ≤ k) × (slice_get ts u ≡ Some x) × ((v : ℕ) → v < u → slice_get ts v ≢ Some x)) [
+    inl found ↦
+      let low : found.0 < k = found.1 in
+      let first : (u : ℕ) × (u ≤ found.0) × (slice_get ts u ≡ Some x) × ((v : ℕ) → v < u → slice_get ts v ≢ Some x) = first_below n ts x found.0 (omega arith) found.2 in
+      let le : first.0 ≤ found.0 = first.1 in
+      (first.0, omega arith, first.2, first.3)
+  | inr none ↦ (k, omega arith, here, none)
   ]
 
 -- the type that t stands for
-pub has_latest : (ts : List FunctionType) (t : ℕ) → t < length ts → (u : ℕ) × Same ts t u
-has_latest ts t small =
+pub has_first : (ts : List FunctionType) (t : ℕ) → t < length ts → (u : ℕ) × Same ts t u
+has_first ts t small =
     let no_type : FunctionType = record { params = []; results = [] } in
     let x : FunctionType = get_or ts t no_type in
     let here : slice_get ts t ≡ Some x = slice_get-get_or ts t no_type small in
-    let found : (u : ℕ) × (u < length ts) × (slice_get ts u ≡ Some x) × ((v : ℕ) → u < v → v < length ts → slice_get ts v ≢ Some x) = latest_below (length ts) ts x t small here in
-    (found.0, record { there = found.1; equal = found.2 ∙ sym here; latest = λ (v : ℕ) (above : found.0 < v) (small : v < length ts) (e : slice_get ts v ≡ slice_get ts t). found.3 v above small (e ∙ here) })
+    let found : (u : ℕ) × (u ≤ t) × (slice_get ts u ≡ Some x) × ((v : ℕ) → v < u → slice_get ts v ≢ Some x) = first_below (suc t) ts x t (omega arith) here in
+    (found.0, record { there = small; earlier = found.1; equal = found.2 ∙ sym here; first = λ (v : ℕ) (before : v < found.0) (e : slice_get ts v ≡ slice_get ts t). found.3 v before (e ∙ here) })
