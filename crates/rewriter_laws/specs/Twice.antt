@@ -8,17 +8,20 @@ use Rattle.std.specs.Ordering.{ordering_reverse}
 use Rattle.std.proofs.lemmas.Bool.{cases_lt, cases_eq}
 use Rattle.std.proofs.lemmas.Cmp.{tied_itself}
 use Rattle.std.proofs.lemmas.List.{length-map, get_or-map}
-use Rattle.std.proofs.lemmas.List.Elements.{Contains-get_or, All-from_recursion}
+use Rattle.std.proofs.lemmas.List.Elements.{Contains-get_or, All-from_recursion, recursion_from_All}
 use Rattle.std.proofs.lemmas.Option.{slice_get_read, get_or_from_slice_get, slice_get_within, slice_get-get_or, slice_get-map, slice_get_past}
 use Rattle.wasm_model.specs.Module.{Module, Function, FunctionType, Operator, Nop, I32Const, Drop, Return, End, operators, Export, Item, FunctionItem, TypeItem}
 use Rattle.wasm_model.specs.NormalForm.{normal_form, size, counts}
 use Rattle.wasm_model.specs.Kept.{Same, Refers, Root, Kept, root, refers}
 use Rattle.wasm_model.specs.Part.{Renaming, Stands, IsRenamed, Earlier, renamed_export, renamed_item, renamed_operator, type_cmp}
 use Rattle.wasm_model.specs.Features.{Features}
-use Rattle.wasm_model.specs.Rules.{Rules, IsItem}
+use Rattle.wasm_model.specs.Rules.{Rules, IsItem, Reads}
+use Rattle.wasm_model.specs.Spells.{header}
+use Rattle.wasm_model.specs.Shortest.{u32_bytes}
+use Rattle.wasm_model.specs.Spelling.{vec_bytes, sized_bytes, section_bytes, type_bytes, export_bytes, body_bytes, code_bytes, module_bytes}
 use Rattle.rewriter_laws.specs.First.{has_first}
 use Rattle.rewriter_laws.specs.Again.{kept_in_range}
-use Rattle.rewriter_laws.specs.Bodies.{IsFunctionExport}
+use Rattle.rewriter_laws.specs.Bodies.{IsFunctionExport, exports_are_functions}
 use Rattle.rewriter_laws.specs.TypeOrder.{type_cmp_total, type_exact}
 use Rattle.rewriter_laws.specs.Order.{Keeps, keeps_all, keeps_count}
 
@@ -282,3 +285,98 @@ types_stay features n k s read is stands = record {
       let from : (t : ℕ) × Kept n (TypeItem t) × (s.type_ t ≡ j) = stands.only_types j small in
       (from.0, kept_in_range features n read.rules (TypeItem from.0) from.1, from.2)
   }
+
+-- two lists that have the same elements at the same places are one
+same_lists : {A : Type 0} (xs ys : List A) → length xs ≡ length ys → ((i : ℕ) → i < length ys → slice_get xs i ≡ slice_get ys i) → xs ≡ ys
+same_lists [] [] len same = refl
+same_lists [] (y ∷ ys) len same = absurd (omega arith)
+same_lists (x ∷ xs) [] len same = absurd (omega arith)
+same_lists (x ∷ xs) (y ∷ ys) len same =
+    let head : x ≡ y = some_of (same 0 (omega arith)) in
+    let tail : xs ≡ ys = same_lists xs ys (omega arith) (λ (i : ℕ) (small : i < length ys). same (suc i) (omega arith)) in
+    cc
+
+-- two lists whose elements are spelled alike are spelled alike
+same_flat : {A : Type 0} (f : A → List ℕ) (xs ys : List A) → map f xs ≡ map f ys → flat_map f xs ≡ flat_map f ys
+same_flat f [] [] e = refl
+same_flat f [] (y ∷ ys) e = cc
+same_flat f (x ∷ xs) [] e = cc
+same_flat f (x ∷ xs) (y ∷ ys) e =
+    let head : f x ≡ f y = cc in
+    let tail : map f xs ≡ map f ys = cc in
+    ap (λ (b : List ℕ). b ++ flat_map f xs) head ∙ ap (λ (b : List ℕ). f y ++ b) (same_flat f xs ys tail)
+
+same_section : {A : Type 0} (id : ℕ) (f : A → List ℕ) (xs ys : List A) → map f xs ≡ map f ys → section_bytes id f xs ≡ section_bytes id f ys
+same_section id f [] [] e = refl
+same_section id f [] (y ∷ ys) e = cc
+same_section id f (x ∷ xs) [] e = cc
+same_section id f (x ∷ xs) (y ∷ ys) e =
+    let len : length (x ∷ xs) ≡ length (y ∷ ys) = sym (length-map (x ∷ xs) f) ∙ ap length e ∙ length-map (y ∷ ys) f in
+    let whole : vec_bytes f (x ∷ xs) ≡ vec_bytes f (y ∷ ys) = ap (λ (k : ℕ). u32_bytes k ++ flat_map f (x ∷ xs)) len ∙ ap (λ (b : List ℕ). u32_bytes (length (y ∷ ys)) ++ b) (same_flat f (x ∷ xs) (y ∷ ys) e) in
+    ap (λ (b : List ℕ). id ∷ sized_bytes b) whole
+
+types_same : (features : Features) (n k : Module) (s : Renaming) → IsRead features n → IsDone n → Stands n k s → k.types ≡ n.types
+types_same features n k s read is stands =
+    let keeps : Keeps s.type_ (length n.types) (length k.types) = types_stay features n k s read is stands in
+    same_lists k.types n.types (keeps_count s.type_ (length n.types) (length k.types) keeps)
+      (λ (i : ℕ) (small : i < length n.types). sym (ap (slice_get k.types) (keeps_all s.type_ (length n.types) (length k.types) keeps i small)) ∙ stands.types i (kept_type n is i small))
+
+-- each function of the second output has the type and the operators of the first's
+function_same : (features : Features) (n k : Module) (s : Renaming) → IsRead features n → IsDone n → Stands n k s → (i : ℕ) → i < length n.functions →
+    (f : Function) × (g : Function) × (slice_get n.functions i ≡ Some f) × (slice_get k.functions i ≡ Some g) × (g.type_ ≡ f.type_) × (operators g.body ≡ operators f.body)
+function_same features n k s read is stands i small =
+    let f : Function = get_or n.functions i no_function in
+    let at_i : slice_get n.functions i ≡ Some f = slice_get-get_or n.functions i no_function small in
+    let image : (other : Function) × (slice_get k.functions (s.function i) ≡ Some other) × IsRenamed s f other = stands.functions i f (root (is.exported i small)) at_i in
+    let fixed : s.function i ≡ i = keeps_all s.function (length n.functions) (length k.functions) (functions_stay features n k s read is stands) i small in
+    let typed : f.type_ < length n.types = read.rules.typed i no_function small in
+    let type_fixed : s.type_ f.type_ ≡ f.type_ = keeps_all s.type_ (length n.types) (length k.types) (types_stay features n k s read is stands) f.type_ typed in
+    (f, image.0, at_i, sym (ap (slice_get k.functions) fixed) ∙ image.1, image.2.type_ ∙ type_fixed, renamed_operators s f image.0 image.2 ∙ is.normal i f at_i)
+
+-- what of a function is spelled
+functions_same : (features : Features) (n k : Module) (s : Renaming) (bytes_of : Function → List ℕ) → ((f g : Function) → g.type_ ≡ f.type_ → operators g.body ≡ operators f.body → bytes_of g ≡ bytes_of f) →
+    IsRead features n → IsDone n → Stands n k s → map bytes_of k.functions ≡ map bytes_of n.functions
+functions_same features n k s bytes_of alike read is stands =
+    let count : length k.functions ≡ length n.functions = keeps_count s.function (length n.functions) (length k.functions) (functions_stay features n k s read is stands) in
+    same_lists (map bytes_of k.functions) (map bytes_of n.functions) (length-map k.functions bytes_of ∙ count ∙ sym (length-map n.functions bytes_of))
+      (λ (i : ℕ) (small : i < length (map bytes_of n.functions)).
+        let within : i < length n.functions = rw (length-map n.functions bytes_of) at small in
+        let at = function_same features n k s read is stands i within in
+        slice_get-map bytes_of k.functions i ∙ ap (option_map bytes_of) at.3 ∙ ap (λ (b : List ℕ). Some b) (alike at.0 at.1 at.4 at.5) ∙ sym (ap (option_map bytes_of) at.2) ∙ sym (slice_get-map bytes_of n.functions i))
+
+item_same : (features : Features) (n k : Module) (s : Renaming) → IsRead features n → IsDone n → Stands n k s → (i : Item) → IsItem n i → renamed_item s i ≡ i
+item_same features n k s read is stands (FunctionItem f) small = ap (λ (x : ℕ). FunctionItem x) (keeps_all s.function (length n.functions) (length k.functions) (functions_stay features n k s read is stands) f small)
+item_same features n k s read is stands (TypeItem t) small = ap (λ (x : ℕ). TypeItem x) (keeps_all s.type_ (length n.types) (length k.types) (types_stay features n k s read is stands) t small)
+
+each_same : (n : Module) (s : Renaming) → ((i : Item) → IsItem n i → renamed_item s i ≡ i) → (es : List Export) → AllByRecursion (λ e. IsItem n e.item) es → map (renamed_export s) es ≡ es
+each_same n s same [] h = refl
+each_same n s same (e ∷ es) h =
+    let item : renamed_item s e.item ≡ e.item = same e.item h.0 in
+    let head : renamed_export s e ≡ e = λ i. record { name = e.name; item = item i } in
+    let tail : map (renamed_export s) es ≡ es = each_same n s same es h.1 in
+    cc
+
+pub same_bytes : (features : Features) (n k : Module) (s : Renaming) → IsRead features n → IsDone n → Stands n k s → module_bytes k ≡ module_bytes n
+same_bytes features n k s read is stands =
+    let types : section_bytes 1 type_bytes k.types ≡ section_bytes 1 type_bytes n.types = ap (section_bytes 1 type_bytes) (types_same features n k s read is stands) in
+    let functions : section_bytes 3 (λ (f : Function). u32_bytes f.type_) k.functions ≡ section_bytes 3 (λ (f : Function). u32_bytes f.type_) n.functions =
+      same_section 3 (λ (f : Function). u32_bytes f.type_) k.functions n.functions
+        (functions_same features n k s (λ (f : Function). u32_bytes f.type_) (λ (f g : Function) (t : g.type_ ≡ f.type_) (o : operators g.body ≡ operators f.body). ap u32_bytes t) read is stands) in
+    let exports : section_bytes 7 export_bytes k.exports ≡ section_bytes 7 export_bytes n.exports =
+      ap (section_bytes 7 export_bytes) (stands.exports ∙ each_same n s (item_same features n k s read is stands) n.exports (recursion_from_All (λ e. IsItem n e.item) n.exports read.rules.exported)) in
+    let codes : section_bytes 10 code_bytes k.functions ≡ section_bytes 10 code_bytes n.functions =
+      same_section 10 code_bytes k.functions n.functions
+        (functions_same features n k s code_bytes (λ (f g : Function) (t : g.type_ ≡ f.type_) (o : operators g.body ≡ operators f.body). ap (λ (os : List Operator). sized_bytes (body_bytes os)) o) read is stands) in
+    ap (λ (b : List ℕ). header ++ (b ++ (section_bytes 3 (λ (f : Function). u32_bytes f.type_) k.functions ++ (section_bytes 7 export_bytes k.exports ++ section_bytes 10 code_bytes k.functions)))) types
+    ∙ ap (λ (b : List ℕ). header ++ (section_bytes 1 type_bytes n.types ++ (b ++ (section_bytes 7 export_bytes k.exports ++ section_bytes 10 code_bytes k.functions)))) functions
+    ∙ ap (λ (b : List ℕ). header ++ (section_bytes 1 type_bytes n.types ++ (section_bytes 3 (λ (f : Function). u32_bytes f.type_) n.functions ++ (b ++ section_bytes 10 code_bytes k.functions)))) exports
+    ∙ ap (λ (b : List ℕ). header ++ (section_bytes 1 type_bytes n.types ++ (section_bytes 3 (λ (f : Function). u32_bytes f.type_) n.functions ++ (section_bytes 7 export_bytes n.exports ++ b)))) codes
+
+-- a module that reads
+pub is_read : (features : Features) (bytes : List ℕ) (m : Module) → Reads features bytes m → IsRead features m
+is_read features bytes m reads = record { rules = reads.rules; exports = exports_are_functions reads.spells.exports m.exports reads.spells.spells_exports }
+
+-- what is written for what was written has the same bytes
+pub written_twice : (features : Features) (input output : List ℕ) (m n k : Module) (r s : Renaming) → Reads features input m → Stands m n r → Reads features output n → Stands n k s → module_bytes k ≡ module_bytes n
+written_twice features input output m n k r s reads stands again twice =
+    same_bytes features n k s (is_read features output n again) (done features m n r (is_read features input m reads) stands) twice
