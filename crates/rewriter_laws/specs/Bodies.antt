@@ -2,7 +2,7 @@
 use Rattle.std.proofs.Common.{ℕ, ◌≡◌, ◌<◌, ◌≤◌, ◌+◌, List, [], ◌∷◌, ◌++◌, length, refl, sym, ap, subst, ◌∙◌, inl, inr, arith, map}
 use Rattle.std.specs.List.{flat_map, AllByRecursion}
 use Rattle.wasm_model.specs.declared.types.ValType.{ValType}
-use Rattle.wasm_model.specs.Module.{Module, Function, FunctionType, Operator, Nop, I32Const, Drop, Return, End, operators, Export, Item, FunctionItem, TypeItem}
+use Rattle.wasm_model.specs.Module.{Module, Function, FunctionType, Operator, Nop, I32Const, Drop, Return, Call, End, operators, Export, Item, FunctionItem, TypeItem}
 use Rattle.wasm_reader.specs.Numbers.{Spells, signed}
 use Rattle.wasm_model.specs.Grammar.{Grammar, SpellsU32, SpellsEach, SpellsVec, SpellsEachAt, IsSection, SpellsSection}
 use Rattle.wasm_model.specs.Spells.{SpellsOperator, SpellsPlaced, SpellsCode, SpellsCodes, Code, code_of, SpellsExport, SpellsItem, SpellsName}
@@ -12,10 +12,15 @@ use Rattle.std.specs.Str.{IsUtf8}
 use Rattle.wasm_model.specs.Spelling.{operator_bytes}
 use Rattle.rewriter_module.specs.Written.{placed}
 use Rattle.rewriter_laws.specs.Numbers.{InSigned, spelled_signed}
-use Rattle.rewriter_laws.specs.Spelled.{InRange}
+use Rattle.wasm_model.specs.Part.{Renaming, renamed_operator}
+
+-- an operator whose own number is in range; a function's is that of the module
+abbrev pub NumberInRange : Operator → Type 0
+NumberInRange (I32Const n) = InSigned 32 n
+NumberInRange _ = Unit {0}
 
 abbrev pub AllInRange : {P : Type 0} → List (Operator × P) → Type 0
-AllInRange body = AllByRecursion InRange (operators body)
+AllInRange body = AllByRecursion NumberInRange (operators body)
 
 pub normal_in_range : (body : List (Operator × ℕ)) → AllInRange body → AllInRange (normal_form body)
 normal_in_range [] h = (tt, tt)
@@ -23,21 +28,24 @@ normal_in_range ((Nop, p) ∷ rest) h = normal_in_range rest h.1
 normal_in_range ((End, p) ∷ rest) h = (tt, tt)
 normal_in_range ((Return, p) ∷ rest) h = (tt, (tt, tt))
 normal_in_range ((Drop, p) ∷ rest) h = (tt, normal_in_range rest h.1)
+normal_in_range ((Call f, p) ∷ rest) h = (tt, normal_in_range rest h.1)
 normal_in_range ((I32Const n, p) ∷ rest) h = (h.0, normal_in_range rest h.1)
 
-pub normal_nests : (place : ℕ) (body : List (Operator × ℕ)) → Nests body → Nests (placed place (operators (normal_form body)))
-normal_nests place [] h = absurd h
-normal_nests place ((Nop, p) ∷ rest) h = normal_nests place rest h
-normal_nests place ((End, p) ∷ rest) h = refl
-normal_nests place ((Return, p) ∷ rest) h = refl
-normal_nests place ((Drop, p) ∷ rest) h = normal_nests (place + length (operator_bytes Drop)) rest h
-normal_nests place ((I32Const n, p) ∷ rest) h = normal_nests (place + length (operator_bytes (I32Const n))) rest h
+pub normal_nests : (r : Renaming) (place : ℕ) (body : List (Operator × ℕ)) → Nests body → Nests (placed place (map (renamed_operator r) (operators (normal_form body))))
+normal_nests r place [] h = absurd h
+normal_nests r place ((Nop, p) ∷ rest) h = normal_nests r place rest h
+normal_nests r place ((End, p) ∷ rest) h = refl
+normal_nests r place ((Return, p) ∷ rest) h = refl
+normal_nests r place ((Drop, p) ∷ rest) h = normal_nests r (place + length (operator_bytes Drop)) rest h
+normal_nests r place ((Call f, p) ∷ rest) h = normal_nests r (place + length (operator_bytes (Call (r.function f)))) rest h
+normal_nests r place ((I32Const n, p) ∷ rest) h = normal_nests r (place + length (operator_bytes (I32Const n))) rest h
 
-operator_in_range : (bytes : List ℕ) (o : Operator) → SpellsOperator bytes o → InRange o
+operator_in_range : (bytes : List ℕ) (o : Operator) → SpellsOperator bytes o → NumberInRange o
 operator_in_range bytes Nop h = tt
 operator_in_range bytes End h = tt
 operator_in_range bytes Return h = tt
 operator_in_range bytes Drop h = tt
+operator_in_range bytes (Call f) h = tt
 operator_in_range bytes (I32Const n) h = spelled_signed 32 h.0 n h.2
 
 body_in_range : (place : ℕ) (bytes : List ℕ) (body : List (Operator × ℕ)) → SpellsEachAt SpellsPlaced place bytes body → AllInRange body

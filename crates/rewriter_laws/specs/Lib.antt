@@ -1,4 +1,5 @@
 pub mod Numbers
+pub mod Among
 pub mod Spelled
 pub mod Bodies
 pub mod First

@@ -97,3 +97,15 @@ pub spelled_signed : (w : ℕ) (bytes : List ℕ) (z : ℤ) → Spells signed w 
 spelled_signed w [] z h = absurd h
 spelled_signed w (b ∷ bytes) z (inl h) = last_in_range w b z h.0 h.2 h.3
 spelled_signed w (b ∷ bytes) z (inr h) = let P : ℤ → Type 0 = InSigned w in subst P (sym h.4) (onto_in_range w (b - 128) h.3 (omega arith) h.2 (spelled_signed (w - 7) bytes h.3 h.5))
+
+-- no u32 takes more than five bytes
+short_unsigned : (k n : ℕ) → length (shortest_unsigned k n) ≤ k
+short_unsigned zero n = omega arith
+short_unsigned (suc k) n = elim (cases_lt n 128) as (λ _. length (shortest_unsigned (suc k) n) ≤ suc k) [
+    inl h ↦ rw (lt-ltb n 128 h) (omega arith)
+  | inr h ↦ rw (le-ltb n 128 h) (let rest : length (shortest_unsigned k (n / 128)) ≤ k = short_unsigned k (n / 128) in omega arith)
+  ]
+
+pub u32_short : (n : ℕ) → length (u32_bytes n) ≤ 5
+unfolding u32_bytes
+u32_short n = short_unsigned 5 n

@@ -5,7 +5,7 @@ use Rattle.std.specs.List.{flat_map, AllByRecursion}
 use Rattle.std.proofs.lemmas.List.Elements.{recursion_from_All, All-from_recursion}
 use Rattle.std.proofs.lemmas.Option.{slice_get_read, get_or_from_slice_get, slice_get_within, slice_get-get_or}
 use Rattle.wasm_model.specs.Features.{Features}
-use Rattle.wasm_model.specs.Module.{Module, Function, Operator, Nop, I32Const, Drop, Return, End, FunctionItem}
+use Rattle.wasm_model.specs.Module.{Module, Function, Operator, Nop, I32Const, Drop, Return, Call, End, FunctionItem}
 use Rattle.wasm_model.specs.NormalForm.{normal_form}
 use Rattle.wasm_model.specs.Rules.{Rules, Reads}
 use Rattle.wasm_model.specs.Kept.{Kept}
@@ -14,6 +14,7 @@ use Rattle.wasm_model.specs.Shortest.{u32_bytes}
 use Rattle.wasm_model.specs.Spelling.{operator_bytes, body_bytes, sized_bytes}
 use Rattle.rewriter_module.specs.Numbered.{IsNumbering}
 use Rattle.rewriter_module.specs.Written.{Numbers, written, placed, placed_functions, written_operators, function_at, no_function, renaming, pairs_of, pairs_of_all, written_places}
+use Rattle.rewriter_laws.specs.Among.{Among, contains_among, among_left, among_right}
 use Rattle.rewriter_laws.specs.Again.{kept_in_range}
 
 -- the pair of the i-th operators of a normal form and of what is written for it
@@ -30,11 +31,6 @@ pairs_are_paired ((o, Some old) ∷ olds) [] = tt
 pairs_are_paired ((o, None) ∷ olds) [] = tt
 pairs_are_paired ((o, Some old) ∷ olds) ((t, new) ∷ news) = ((0, o, t, refl, refl), later olds news (o, Some old) (t, new) (pairs_of olds news) (pairs_are_paired olds news))
 pairs_are_paired ((o, None) ∷ olds) ((t, new) ∷ news) = later olds news (o, None) (t, new) (pairs_of olds news) (pairs_are_paired olds news)
-
--- p is among ps
-abbrev pub Among : List (ℕ × ℕ) → ℕ × ℕ → Type 0
-Among [] p = ⊥
-Among (q ∷ ps) p = (q ≡ p) ⊎ Among ps p
 
 carried : Option (Operator × Option ℕ) → Option ℕ
 carried None = None
@@ -67,21 +63,6 @@ paired_are_among zero ((p, Some a) ∷ olds) ((s, b) ∷ news) o t old new h k =
 paired_are_among zero ((p, None) ∷ olds) ((s, b) ∷ news) o t old new h k = absurd (no_pair p o old h)
 paired_are_among (suc i) ((p, Some a) ∷ olds) ((s, b) ∷ news) o t old new h k = inr (paired_are_among i olds news o t old new h k)
 paired_are_among (suc i) ((p, None) ∷ olds) ((s, b) ∷ news) o t old new h k = paired_are_among i olds news o t old new h k
-
--- between this form and that by index
-pub contains_among : (ps : List (ℕ × ℕ)) (p : ℕ × ℕ) → Among ps p → Contains ps p
-contains_among [] p h = absurd h
-contains_among (q ∷ ps) p (inl e) = (0, omega arith, e)
-contains_among (q ∷ ps) p (inr h) = let c : Contains ps p = contains_among ps p h in (suc c.0, omega arith, c.2)
-
-among_left : (ps qs : List (ℕ × ℕ)) (p : ℕ × ℕ) → Among ps p → Among (ps ++ qs) p
-among_left [] qs p h = absurd h
-among_left (x ∷ ps) qs p (inl e) = inl e
-among_left (x ∷ ps) qs p (inr h) = inr (among_left ps qs p h)
-
-among_right : (ps qs : List (ℕ × ℕ)) (p : ℕ × ℕ) → Among qs p → Among (ps ++ qs) p
-among_right [] qs p h = h
-among_right (x ∷ ps) qs p h = inr (among_right ps qs p h)
 
 -- the same for all functions
 abbrev pub PairedIn : Module → List ℕ → List Function → ℕ × ℕ → Type 0
@@ -137,6 +118,7 @@ operator_some Nop = omega arith
 operator_some End = omega arith
 operator_some Return = omega arith
 operator_some Drop = omega arith
+operator_some (Call f) = omega arith
 operator_some (I32Const n) = omega arith
 
 pairs_rise : (place : ℕ) (olds : List (Operator × Option ℕ)) (os : List Operator) → RisesTo place (pairs_of olds (placed place os)) (place + length (flat_map operator_bytes os))
@@ -158,15 +140,15 @@ pairs_rise place ((q, None) ∷ olds) (o ∷ os) =
     subst P same (rises_from place next (pairs_of olds (placed next os)) (next + length (flat_map operator_bytes os)) (omega arith) (pairs_rise next olds os))
 
 -- where the entries of these functions end
-ends_at : Module → ℕ → List ℕ → ℕ
-ends_at m place [] = place
-ends_at m place (f ∷ fs) = ends_at m (place + length (sized_bytes (body_bytes (written_operators m f)))) fs
+ends_at : Module → Numbers → ℕ → List ℕ → ℕ
+ends_at m n place [] = place
+ends_at m n place (f ∷ fs) = ends_at m n (place + length (sized_bytes (body_bytes (written_operators m n f)))) fs
 
-all_pairs_rise : (m : Module) (n : Numbers) (place : ℕ) (fs : List ℕ) → RisesTo place (pairs_of_all m fs (placed_functions m n place fs)) (ends_at m place fs)
+all_pairs_rise : (m : Module) (n : Numbers) (place : ℕ) (fs : List ℕ) → RisesTo place (pairs_of_all m fs (placed_functions m n place fs)) (ends_at m n place fs)
 unfolding ends_at
 all_pairs_rise m n place [] = omega arith
 all_pairs_rise m n place (f ∷ fs) =
-    let os : List Operator = written_operators m f in
+    let os : List Operator = written_operators m n f in
     let size : ℕ = length (u32_bytes (length (body_bytes os))) in
     let start : ℕ = place + size + 1 in
     let next : ℕ = place + length (sized_bytes (body_bytes os)) in
@@ -175,7 +157,7 @@ all_pairs_rise m n place (f ∷ fs) =
     let same : start + length (flat_map operator_bytes os) ≡ next = omega arith in
     let ps : List (ℕ × ℕ) = pairs_of (normal_form (function_at m f).body) (placed start os) in
     let P : ℕ → Type 0 = λ high. RisesTo start ps high in
-    rises_append place ps next (pairs_of_all m fs (placed_functions m n next fs)) (ends_at m next fs)
+    rises_append place ps next (pairs_of_all m fs (placed_functions m n next fs)) (ends_at m n next fs)
       (rises_from place start ps next (omega arith) (subst P same (pairs_rise start (normal_form (function_at m f).body) os)))
       (all_pairs_rise m n next fs)
 
@@ -236,6 +218,6 @@ written_are_places features m n rules numbering = record {
     true_pairs = All-from_recursion (λ p. IsTruePair m (written m n) (renaming n) p.0 p.1) (written_places m n)
       (weaken_pairs (PairedIn m n.functions (written m n).functions) (λ p. IsTruePair m (written m n) (renaming n) p.0 p.1) (written_places m n)
         (λ (p : ℕ × ℕ) (h : PairedIn m n.functions (written m n).functions p). paired_is_true features m n rules numbering p h) (all_pairs_are_paired m n.functions (written m n).functions));
-    rising = rising_pairs (length (u32_bytes (length n.functions))) (written_places m n) (ends_at m (length (u32_bytes (length n.functions))) n.functions) (all_pairs_rise m n (length (u32_bytes (length n.functions))) n.functions);
+    rising = rising_pairs (length (u32_bytes (length n.functions))) (written_places m n) (ends_at m n (length (u32_bytes (length n.functions))) n.functions) (all_pairs_rise m n (length (u32_bytes (length n.functions))) n.functions);
     whole = λ (old new : ℕ) (h : IsTruePair m (written m n) (renaming n) old new). true_is_among m n numbering old new h
   }

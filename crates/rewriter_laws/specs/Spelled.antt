@@ -5,7 +5,7 @@ use Rattle.std.specs.Prelude.{ℤ}
 use Rattle.std.specs.List.{flat_map, AllByRecursion}
 use Rattle.wasm_reader.specs.Numbers.{Spells, signed}
 use Rattle.wasm_model.specs.declared.types.ValType.{ValType}
-use Rattle.wasm_model.specs.Module.{Module, Function, FunctionType, Operator, Nop, I32Const, Drop, Return, End, operators}
+use Rattle.wasm_model.specs.Module.{Module, Function, FunctionType, Operator, Nop, I32Const, Drop, Return, Call, End, operators}
 use Rattle.wasm_model.specs.Grammar.{Grammar, SpellsU32, SpellsEach, SpellsVec, SpellsEachAt, IsSection, SpellsSection}
 use Rattle.wasm_model.specs.Spells.{SpellsValueType, SpellsFunctionType, SpellsOperator, SpellsPlaced, SpellsCode, SpellsCodes, Code, code_of}
 use Rattle.wasm_model.specs.Shortest.{u32_bytes, s32_bytes}
@@ -38,9 +38,10 @@ pub type_spelled : (t : FunctionType) → length t.params < 2 ^ 32 → length t.
 type_spelled t params results = (vec_bytes value_bytes t.params, vec_bytes value_bytes t.results, refl,
     vec_spelled SpellsValueType value_bytes t.params params (values_spelled t.params), vec_spelled SpellsValueType value_bytes t.results results (values_spelled t.results))
 
--- an operator whose number is in range
+-- an operator whose numbers are in range
 abbrev pub InRange : Operator → Type 0
 InRange (I32Const n) = InSigned 32 n
+InRange (Call f) = f < 2 ^ 32
 InRange _ = Unit {0}
 
 pub operator_spelled : (o : Operator) → InRange o → SpellsOperator (operator_bytes o) o
@@ -48,6 +49,7 @@ operator_spelled Nop h = refl
 operator_spelled End h = refl
 operator_spelled Return h = refl
 operator_spelled Drop h = refl
+operator_spelled (Call f) h = (u32_bytes f, refl, u32_spells f h)
 operator_spelled (I32Const n) h = (s32_bytes n, refl, s32_spells n h)
 
 pub placed_spelled : (place : ℕ) (os : List Operator) → AllByRecursion InRange os → SpellsEachAt SpellsPlaced place (flat_map operator_bytes os) (placed place os)
@@ -88,12 +90,12 @@ section_spelled_by id S f g (x ∷ xs) few small h = inr (record {
   })
 
 -- the code section: entries that stand one behind the other
-pub codes_spelled : (m : Module) (n : Numbers) (place : ℕ) (fs : List ℕ) → AllByRecursion (λ f. AllByRecursion InRange (written_operators m f)) fs →
-    AllByRecursion (λ f. length (body_bytes (written_operators m f)) ≤ 7654321) fs →
+pub codes_spelled : (m : Module) (n : Numbers) (place : ℕ) (fs : List ℕ) → AllByRecursion (λ f. AllByRecursion InRange (written_operators m n f)) fs →
+    AllByRecursion (λ f. length (body_bytes (written_operators m n f)) ≤ 7654321) fs →
     SpellsEachAt SpellsCode place (flat_map code_bytes (placed_functions m n place fs)) (map code_of (placed_functions m n place fs))
 codes_spelled m n place [] ranges short = refl
 codes_spelled m n place (f ∷ fs) ranges short =
-    let os = written_operators m f in
+    let os = written_operators m n f in
     let at : ℕ = place + length (u32_bytes (length (body_bytes os))) + 1 in
     let next : ℕ = place + length (sized_bytes (body_bytes os)) in
     ( sized_bytes (body_bytes os)
@@ -104,10 +106,10 @@ codes_spelled m n place (f ∷ fs) ranges short =
 
 pub length-placed_functions : (m : Module) (n : Numbers) (place : ℕ) (fs : List ℕ) → length (placed_functions m n place fs) ≡ length fs
 length-placed_functions m n place [] = refl
-length-placed_functions m n place (f ∷ fs) = ap (λ k. suc k) (length-placed_functions m n (place + length (sized_bytes (body_bytes (written_operators m f)))) fs)
+length-placed_functions m n place (f ∷ fs) = ap (λ k. suc k) (length-placed_functions m n (place + length (sized_bytes (body_bytes (written_operators m n f)))) fs)
 
-pub code_section_spelled : (m : Module) (n : Numbers) (fs : List ℕ) → AllByRecursion (λ f. AllByRecursion InRange (written_operators m f)) fs →
-    AllByRecursion (λ f. length (body_bytes (written_operators m f)) ≤ 7654321) fs → length fs < 2 ^ 32 →
+pub code_section_spelled : (m : Module) (n : Numbers) (fs : List ℕ) → AllByRecursion (λ f. AllByRecursion InRange (written_operators m n f)) fs →
+    AllByRecursion (λ f. length (body_bytes (written_operators m n f)) ≤ 7654321) fs → length fs < 2 ^ 32 →
     length (vec_bytes code_bytes (placed_functions m n (length (u32_bytes (length fs))) fs)) < 2 ^ 32 →
     SpellsSection 10 SpellsCodes (section_bytes 10 code_bytes (placed_functions m n (length (u32_bytes (length fs))) fs)) (map code_of (placed_functions m n (length (u32_bytes (length fs))) fs))
 code_section_spelled m n [] ranges short few small = inl (refl, refl)

@@ -1,6 +1,6 @@
 -- What was written once is written again byte for byte.
 use Rattle.std.proofs.Common.{ℕ, ◌≡◌, ◌≢◌, ◌<◌, ◌≤◌, ◌+◌, ◌⊎◌, zero, suc, List, [], ◌∷◌, ◌++◌, length, refl, sym, ap, subst, ◌∙◌, inl, inr, arith, map, get_or}
-use Rattle.std.specs.Prelude.{slice_get, slice_index, slice_index_or, Some, None, Option, option_map, All, AllPairs, Contains, count_by, Bool, cond}
+use Rattle.std.specs.Prelude.{slice_get, slice_index, slice_index_or, Some, None, Option, option_map, All, AllPairs, Contains, count_by, Bool, cond, IfSome}
 use Rattle.std.specs.List.{flat_map, AllByRecursion, fold}
 use Rattle.std.specs.declared.cmp.Ordering.{Ordering}
 use Rattle.std.specs.declared.cmp.Ordering.TheVariants.{Less, Equal, Greater}
@@ -10,16 +10,16 @@ use Rattle.std.proofs.lemmas.Cmp.{tied_itself}
 use Rattle.std.proofs.lemmas.List.{length-map, get_or-map}
 use Rattle.std.proofs.lemmas.List.Elements.{Contains-get_or, All-from_recursion, recursion_from_All}
 use Rattle.std.proofs.lemmas.Option.{slice_get_read, get_or_from_slice_get, slice_get_within, slice_get-get_or, slice_get-map, slice_get_past}
-use Rattle.wasm_model.specs.Module.{Module, Function, FunctionType, Operator, Nop, I32Const, Drop, Return, End, operators, Export, Item, FunctionItem, TypeItem}
+use Rattle.wasm_model.specs.Module.{Module, Function, FunctionType, Operator, Nop, I32Const, Drop, Return, Call, End, operators, Export, Item, FunctionItem, TypeItem}
 use Rattle.wasm_model.specs.NormalForm.{normal_form, size, counts}
 use Rattle.wasm_model.specs.Kept.{Same, Refers, Root, Kept, root, refers}
 use Rattle.wasm_model.specs.Part.{Renaming, Stands, IsRenamed, Earlier, renamed_export, renamed_item, renamed_operator, type_cmp}
 use Rattle.wasm_model.specs.Features.{Features}
-use Rattle.wasm_model.specs.Rules.{Rules, IsItem, Reads}
+use Rattle.wasm_model.specs.Rules.{Rules, IsItem, NamesItems, Reads}
 use Rattle.wasm_model.specs.Spells.{header}
 use Rattle.wasm_model.specs.Shortest.{u32_bytes}
-use Rattle.wasm_model.specs.Spelling.{vec_bytes, sized_bytes, section_bytes, type_bytes, export_bytes, body_bytes, code_bytes, module_bytes}
-use Rattle.rewriter_laws.specs.First.{has_first}
+use Rattle.wasm_model.specs.Spelling.{vec_bytes, sized_bytes, section_bytes, start_bytes, type_bytes, export_bytes, body_bytes, code_bytes, module_bytes}
+use Rattle.rewriter_laws.specs.Among.{Among, contains_among, among_contains}
 use Rattle.rewriter_laws.specs.Again.{kept_in_range}
 use Rattle.rewriter_laws.specs.Bodies.{IsFunctionExport, exports_are_functions}
 use Rattle.rewriter_laws.specs.TypeOrder.{type_cmp_total, type_exact}
@@ -39,6 +39,7 @@ operators_of_normal ((Nop, p) ∷ rest) = operators_of_normal rest
 operators_of_normal ((End, p) ∷ rest) = refl
 operators_of_normal ((Return, p) ∷ rest) = refl
 operators_of_normal ((Drop, p) ∷ rest) = ap (λ os. Drop ∷ os) (operators_of_normal rest)
+operators_of_normal ((Call f, p) ∷ rest) = ap (λ os. Call f ∷ os) (operators_of_normal rest)
 operators_of_normal ((I32Const n, p) ∷ rest) = ap (λ os. I32Const n ∷ os) (operators_of_normal rest)
 
 -- the normal form of a normal form is itself
@@ -48,6 +49,7 @@ normal_twice (End ∷ os) = refl
 normal_twice (Nop ∷ os) = normal_twice os
 normal_twice (Return ∷ os) = refl
 normal_twice (Drop ∷ os) = ap (λ xs. Drop ∷ xs) (normal_twice os)
+normal_twice (Call f ∷ os) = ap (λ xs. Call f ∷ xs) (normal_twice os)
 normal_twice (I32Const n ∷ os) = ap (λ xs. I32Const n ∷ xs) (normal_twice os)
 
 
@@ -61,30 +63,47 @@ counted xs = counted_from xs 0
 pub size_of_operators : (body : List (Operator × ℕ)) → size body ≡ count_by counts (normal_operators (operators body))
 size_of_operators body = counted (normal_form body) ∙ ap (count_by counts) (operators_of_normal body)
 
-same_operators : (r : Renaming) (os : List Operator) → map (renamed_operator r) os ≡ os
-same_operators r [] = refl
-same_operators r (o ∷ os) = ap (λ xs. o ∷ xs) (same_operators r os)
+-- renaming commutes with the normal form, and keeps the size
+pub renamed_normal_operators : (r : Renaming) (os : List Operator) → normal_operators (map (renamed_operator r) os) ≡ map (renamed_operator r) (normal_operators os)
+renamed_normal_operators r [] = refl
+renamed_normal_operators r (End ∷ os) = refl
+renamed_normal_operators r (Nop ∷ os) = renamed_normal_operators r os
+renamed_normal_operators r (Return ∷ os) = refl
+renamed_normal_operators r (Drop ∷ os) = ap (λ xs. Drop ∷ xs) (renamed_normal_operators r os)
+renamed_normal_operators r (Call f ∷ os) = ap (λ xs. Call (r.function f) ∷ xs) (renamed_normal_operators r os)
+renamed_normal_operators r (I32Const n ∷ os) = ap (λ xs. I32Const n ∷ xs) (renamed_normal_operators r os)
 
--- what stands for a function: its normal operators
-pub renamed_operators : (r : Renaming) (f g : Function) → IsRenamed r f g → operators g.body ≡ normal_operators (operators f.body)
-renamed_operators r f g is = is.body ∙ same_operators r (operators (normal_form f.body)) ∙ operators_of_normal f.body
+renamed_counts : (r : Renaming) (o : Operator) → counts (renamed_operator r o) ≡ counts o
+renamed_counts r End = refl
+renamed_counts r Nop = refl
+renamed_counts r Return = refl
+renamed_counts r Drop = refl
+renamed_counts r (Call f) = refl
+renamed_counts r (I32Const n) = refl
+
+renamed_count_from : (r : Renaming) (os : List Operator) (a : ℕ) → fold (λ a x. a + cond (counts x) 1 0) a (map (renamed_operator r) os) ≡ fold (λ a x. a + cond (counts x) 1 0) a os
+renamed_count_from r [] a = refl
+renamed_count_from r (o ∷ os) a = ap (λ (b : Bool). fold (λ a x. a + cond (counts x) 1 0) (a + cond b 1 0) (map (renamed_operator r) os)) (renamed_counts r o) ∙ renamed_count_from r os (a + cond (counts o) 1 0)
+
+-- what stands for a function: its normal operators, renamed
+pub renamed_operators : (r : Renaming) (f g : Function) → IsRenamed r f g → operators g.body ≡ map (renamed_operator r) (normal_operators (operators f.body))
+renamed_operators r f g is = is.body ∙ ap (map (renamed_operator r)) (operators_of_normal f.body)
 
 pub renamed_normal : (r : Renaming) (f g : Function) → IsRenamed r f g → normal_operators (operators g.body) ≡ operators g.body
-renamed_normal r f g is = ap normal_operators (renamed_operators r f g is) ∙ normal_twice (operators f.body) ∙ sym (renamed_operators r f g is)
+renamed_normal r f g is = ap normal_operators (renamed_operators r f g is) ∙ renamed_normal_operators r (normal_operators (operators f.body)) ∙ ap (map (renamed_operator r)) (normal_twice (operators f.body)) ∙ sym (renamed_operators r f g is)
 
 pub renamed_size : (r : Renaming) (f g : Function) → IsRenamed r f g → size g.body ≡ size f.body
-renamed_size r f g is = size_of_operators g.body ∙ ap (count_by counts) (ap normal_operators (renamed_operators r f g is) ∙ normal_twice (operators f.body)) ∙ sym (size_of_operators f.body)
+renamed_size r f g is = size_of_operators g.body ∙ ap (count_by counts) (renamed_normal r f g is ∙ renamed_operators r f g is) ∙ renamed_count_from r (normal_operators (operators f.body)) 0 ∙ sym (size_of_operators f.body)
 
 -- what is known of a module that was written
 pub record IsDone (n : Module) : Type 0 where
-  -- each function is exported
-  pub exported : (k : ℕ) → k < length n.functions → Root n (FunctionItem k)
+  -- all of it is kept
+  pub kept : (i : Item) → IsItem n i → Kept n i
   -- the functions stand in their order, in normal form, with no locals
   pub ordered : (i j : ℕ) (f g : Function) → i < j → slice_get n.functions i ≡ Some f → slice_get n.functions j ≡ Some g → Earlier i f j g
   pub normal : (k : ℕ) (f : Function) → slice_get n.functions k ≡ Some f → normal_operators (operators f.body) ≡ operators f.body
   pub bare : (k : ℕ) (f : Function) → slice_get n.functions k ≡ Some f → f.locals ≡ []
-  -- each type is some function's, and the types stand in their order
-  pub typed : (t : ℕ) → t < length n.types → (k : ℕ) × (f : Function) × (slice_get n.functions k ≡ Some f) × (f.type_ ≡ t)
+  -- the types stand in their order
   pub types_ordered : (i j : ℕ) (s v : FunctionType) → i < j → slice_get n.types i ≡ Some s → slice_get n.types j ≡ Some v → type_cmp s v ≡ Less
 
 some_of : {A : Type 0} {x y : A} → Some x ≡ Some y → x ≡ y
@@ -95,46 +114,48 @@ pub record IsRead (features : Features) (m : Module) : Type 0 where
   pub rules : Rules features m
   pub exports : AllByRecursion IsFunctionExport m.exports
 
--- why an item is kept: a function is exported, a type stands for the type of a kept function
+-- a kept type stands for one
 abbrev pub Why : Module → Item → Type 0
-Why m (FunctionItem f) = Root m (FunctionItem f)
-Why m (TypeItem t) = (f : ℕ) × (function : Function) × Root m (FunctionItem f) × (slice_get m.functions f ≡ Some function) × Same m.types function.type_ t
+Why m (FunctionItem f) = Unit {0}
+Why m (TypeItem t) = (x : ℕ) × Same m.types x t
 
-exported_function : (m : Module) → AllByRecursion IsFunctionExport m.exports → (i : Item) → Root m i → (f : ℕ) × (i ≡ FunctionItem f)
-exported_function m exports i h =
-    let at : IsFunctionExport (slice_index_or m.exports h.1.0 h.0) = All-from_recursion IsFunctionExport m.exports exports h.1.0 h.0 h.1.1 in
-    let is : IsFunctionExport h.0 = subst IsFunctionExport h.1.2 at in
-    (is.function, sym h.2 ∙ is.is_function)
+exported_function : (m : Module) → AllByRecursion IsFunctionExport m.exports → (e : Export) → Contains m.exports e → (f : ℕ) × (e.item ≡ FunctionItem f)
+exported_function m exports e h =
+    let at : IsFunctionExport (slice_index_or m.exports h.0 e) = All-from_recursion IsFunctionExport m.exports exports h.0 e h.1 in
+    let is : IsFunctionExport e = subst IsFunctionExport h.2 at in
+    (is.function, is.is_function)
 
 why_root : (m : Module) → AllByRecursion IsFunctionExport m.exports → (i : Item) → Root m i → Why m i
-why_root m exports (FunctionItem f) h = h
-why_root m exports (TypeItem t) h = let is : (f : ℕ) × (TypeItem t ≡ FunctionItem f) = exported_function m exports (TypeItem t) h in let e : TypeItem t ≡ FunctionItem is.0 = is.1 in absurd (cc)
+why_root m exports (FunctionItem f) h = tt
+why_root m exports (TypeItem t) (inl h) = let is : (f : ℕ) × (h.0.item ≡ FunctionItem f) = exported_function m exports h.0 h.1 in let e : TypeItem t ≡ FunctionItem is.0 = sym h.2 ∙ is.1 in absurd (cc)
+why_root m exports (TypeItem t) (inr h) = let e : FunctionItem h.0 ≡ TypeItem t = h.2 in absurd (cc)
 
-why_refers : (m : Module) (i j : Item) → Why m i → Refers m i j → Why m j
-why_refers m (FunctionItem f) (FunctionItem g) w h = absurd h
-why_refers m (FunctionItem f) (TypeItem t) w h = (f, h.0, w, h.1, h.2)
-why_refers m (TypeItem s) (FunctionItem g) w h = absurd h
-why_refers m (TypeItem s) (TypeItem t) w h = absurd h
+why_refers : (m : Module) (i j : Item) → Refers m i j → Why m j
+why_refers m (FunctionItem f) (FunctionItem g) h = tt
+why_refers m (FunctionItem f) (TypeItem t) h = (h.0.type_, h.2)
+why_refers m (TypeItem s) (FunctionItem g) h = absurd h
+why_refers m (TypeItem s) (TypeItem t) h = absurd h
 
 pub why : (m : Module) → AllByRecursion IsFunctionExport m.exports → (i : Item) → Kept m i → Why m i
 why m exports i (root h) = why_root m exports i h
-why m exports j (refers {i} k h) = why_refers m i j (why m exports i k) h
+why m exports j (refers {i} k h) = why_refers m i j h
 
--- the exports of what is written
-written_root : (m n : Module) (r : Renaming) → Stands m n r → (f : ℕ) → Root m (FunctionItem f) → Root n (FunctionItem (r.function f))
-written_root m n r stands f h =
+-- the roots of what is written
+written_root : (m n : Module) (r : Renaming) → Stands m n r → (i : Item) → Root m i → Root n (renamed_item r i)
+written_root m n r stands i (inl h) =
     let e : Export = h.0 in
     let place : Contains m.exports e = h.1 in
     let here : slice_get m.exports place.0 ≡ Some e = slice_get_read m.exports (length m.exports) place.0 e refl place.1 (sym place.2) in
     let there : slice_get n.exports place.0 ≡ Some (renamed_export r e) = ap (λ xs. slice_get xs place.0) stands.exports ∙ slice_get-map (renamed_export r) m.exports place.0 ∙ ap (option_map (renamed_export r)) here in
     let within : place.0 < length n.exports = slice_get_within n.exports place.0 (renamed_export r e) there in
-    (renamed_export r e, (place.0, within, get_or_from_slice_get n.exports place.0 (renamed_export r e) (renamed_export r e) there), ap (renamed_item r) h.2)
+    inl (renamed_export r e, (place.0, within, get_or_from_slice_get n.exports place.0 (renamed_export r e) (renamed_export r e) there), ap (renamed_item r) h.2)
+written_root m n r stands i (inr h) = inr (r.function h.0, stands.start ∙ ap (option_map r.function) h.1, ap (renamed_item r) h.2)
 
 -- the function of the input that one of the output stands for
 pub record Source (m n : Module) (r : Renaming) (k : ℕ) (g : Function) : Type 0 where
   pub f : ℕ
   pub function : Function
-  pub rooted : Root m (FunctionItem f)
+  pub kept : Kept m (FunctionItem f)
   pub here : slice_get m.functions f ≡ Some function
   pub number : r.function f ≡ k
   pub renamed : IsRenamed r function g
@@ -150,13 +171,13 @@ source features m n r read stands k g h =
     let here : slice_get m.functions from.0 ≡ Some function = slice_get-get_or m.functions from.0 no_function there in
     let image : (other : Function) × (slice_get n.functions (r.function from.0) ≡ Some other) × IsRenamed r function other = stands.functions from.0 function from.1 here in
     let same : image.0 ≡ g = some_of (sym image.1 ∙ ap (slice_get n.functions) from.2 ∙ h) in
-    record { f = from.0; function = function; rooted = why m read.exports (FunctionItem from.0) from.1; here = here; number = from.2; renamed = subst (IsRenamed r function) same image.2 }
+    record { f = from.0; function = function; kept = from.1; here = here; number = from.2; renamed = subst (IsRenamed r function) same image.2 }
 
 in_order : (features : Features) (m n : Module) (r : Renaming) → Stands m n r → (i j : ℕ) (f g : Function) → i < j → Source m n r i f → Source m n r j g → Earlier i f j g
 in_order features m n r stands i j f g before a b =
     let size_f : size f.body ≡ size a.function.body = renamed_size r a.function f a.renamed in
     let size_g : size g.body ≡ size b.function.body = renamed_size r b.function g b.renamed in
-    let back : Earlier b.f b.function a.f a.function → r.function b.f < r.function a.f = stands.functions_in_order b.f a.f b.function a.function (root b.rooted) (root a.rooted) b.here a.here in
+    let back : Earlier b.f b.function a.f a.function → r.function b.f < r.function a.f = stands.functions_in_order b.f a.f b.function a.function b.kept a.kept b.here a.here in
     let na : r.function a.f ≡ i = a.number in
     let nb : r.function b.f ≡ j = b.number in
     elim (cases_lt (size g.body) (size f.body)) as (λ _. Earlier i f j g) [
@@ -180,7 +201,7 @@ type_source : (features : Features) (m n : Module) (r : Renaming) → IsRead fea
 type_source features m n r read stands t v h =
     let from : (u : ℕ) × Kept m (TypeItem u) × (r.type_ u ≡ t) = stands.only_types t (slice_get_within n.types t v h) in
     let reason : Why m (TypeItem from.0) = why m read.exports (TypeItem from.0) from.1 in
-    record { u = from.0; kept = from.1; number = from.2; here = sym (stands.types from.0 from.1) ∙ ap (slice_get n.types) from.2 ∙ h; of = reason.1.type_; stands = reason.4 }
+    record { u = from.0; kept = from.1; number = from.2; here = sym (stands.types from.0 from.1) ∙ ap (slice_get n.types) from.2 ∙ h; of = reason.0; stands = reason.1 }
 
 -- two types that stand for themselves and are equal are one
 one_type : (ts : List FunctionType) (x y t u : ℕ) (v : FunctionType) → Same ts x t → Same ts y u → slice_get ts t ≡ Some v → slice_get ts u ≡ Some v → t ≡ u
@@ -209,62 +230,88 @@ less_type features m n r read stands i j s v before a b Greater e =
 no_type : FunctionType
 no_type = record { params = []; results = [] }
 
--- each type of the output is one of its functions'
-typed_by : (features : Features) (m n : Module) (r : Renaming) → IsRead features m → Stands m n r → (t : ℕ) → t < length n.types → (k : ℕ) × (f : Function) × (slice_get n.functions k ≡ Some f) × (f.type_ ≡ t)
-typed_by features m n r read stands t small =
-    let from : (u : ℕ) × Kept m (TypeItem u) × (r.type_ u ≡ t) = stands.only_types t small in
-    let reason : Why m (TypeItem from.0) = why m read.exports (TypeItem from.0) from.1 in
-    let image : (other : Function) × (slice_get n.functions (r.function reason.0) ≡ Some other) × IsRenamed r reason.1 other = stands.functions reason.0 reason.1 (root reason.2) reason.3 in
-    (r.function reason.0, image.0, image.1, image.2.type_ ∙ stands.merged reason.1.type_ from.0 reason.4 ∙ from.2)
+
+-- in a list of types in their order each stands for itself
+self_type : (ts : List FunctionType) → ((i j : ℕ) (s v : FunctionType) → i < j → slice_get ts i ≡ Some s → slice_get ts j ≡ Some v → type_cmp s v ≡ Less) → (t : ℕ) → t < length ts → Same ts t t
+self_type ts ordered t small = record {
+    there = small;
+    earlier = omega arith;
+    equal = refl;
+    first = λ (v : ℕ) (before : v < t) (e : slice_get ts v ≡ slice_get ts t).
+      let at_t : slice_get ts t ≡ Some (get_or ts t no_type) = slice_get-get_or ts t no_type small in
+      let less : type_cmp (get_or ts t no_type) (get_or ts t no_type) ≡ Less = ordered v t (get_or ts t no_type) (get_or ts t no_type) before (e ∙ at_t) at_t in
+      let tied : type_cmp (get_or ts t no_type) (get_or ts t no_type) ≡ Equal = tied_itself type_cmp_total (get_or ts t no_type) in
+      let wrong : Less ≡ Equal = sym less ∙ tied in cc
+  }
+
+pub written_types_ordered : (features : Features) (m n : Module) (r : Renaming) → IsRead features m → Stands m n r → (i j : ℕ) (s v : FunctionType) → i < j → slice_get n.types i ≡ Some s → slice_get n.types j ≡ Some v → type_cmp s v ≡ Less
+written_types_ordered features m n r read stands i j s v before at_i at_j =
+    less_type features m n r read stands i j s v before (type_source features m n r read stands i s at_i) (type_source features m n r read stands j v at_j) (type_cmp s v) refl
+
+-- an operator of a normal form stands renamed in what is written for it
+renamed_contains : (r : Renaming) (os : List Operator) (o : Operator) → Among os o → Among (map (renamed_operator r) os) (renamed_operator r o)
+renamed_contains r [] o h = absurd h
+renamed_contains r (x ∷ os) o (inl e) = inl (ap (renamed_operator r) e)
+renamed_contains r (x ∷ os) o (inr h) = inr (renamed_contains r os o h)
+
+-- a reference between kept items is one between what is written for them
+image_refers : (features : Features) (m n : Module) (r : Renaming) → IsRead features m → Stands m n r → (i j : Item) → Kept m i → Refers m i j → Refers n (renamed_item r i) (renamed_item r j)
+image_refers features m n r read stands (FunctionItem f) (FunctionItem g) kept h =
+    let image : (other : Function) × (slice_get n.functions (r.function f) ≡ Some other) × IsRenamed r h.0 other = stands.functions f h.0 kept h.1 in
+    let named : Among (operators (normal_form h.0.body)) (Call g) = among_contains (operators (normal_form h.0.body)) (Call g) h.2 in
+    let written : Among (map (renamed_operator r) (operators (normal_form h.0.body))) (Call (r.function g)) = renamed_contains r (operators (normal_form h.0.body)) (Call g) named in
+    let same : map (renamed_operator r) (operators (normal_form h.0.body)) ≡ operators (normal_form image.0.body) = sym image.2.body ∙ sym (renamed_normal r h.0 image.0 image.2) ∙ sym (operators_of_normal image.0.body) in
+    let P : List Operator → Type 0 = λ os. Among os (Call (r.function g)) in
+    (image.0, image.1, contains_among (operators (normal_form image.0.body)) (Call (r.function g)) (subst P same written))
+image_refers features m n r read stands (FunctionItem f) (TypeItem t) kept h =
+    let image : (other : Function) × (slice_get n.functions (r.function f) ≡ Some other) × IsRenamed r h.0 other = stands.functions f h.0 kept h.1 in
+    let kept_type : Kept m (TypeItem t) = refers kept h in
+    let there : t < length m.types = kept_in_range features m read.rules (TypeItem t) kept_type in
+    let at_t : slice_get n.types (r.type_ t) ≡ Some (get_or m.types t no_type) = stands.types t kept_type ∙ slice_get-get_or m.types t no_type there in
+    let self : Same n.types (r.type_ t) (r.type_ t) = self_type n.types (written_types_ordered features m n r read stands) (r.type_ t) (slice_get_within n.types (r.type_ t) (get_or m.types t no_type) at_t) in
+    let number : image.0.type_ ≡ r.type_ t = image.2.type_ ∙ stands.merged h.0.type_ t h.2 in
+    let P : ℕ → Type 0 = λ x. Same n.types x (r.type_ t) in
+    (image.0, image.1, subst P (sym number) self)
+image_refers features m n r read stands (TypeItem s) (FunctionItem g) kept h = absurd h
+image_refers features m n r read stands (TypeItem s) (TypeItem t) kept h = absurd h
+
+pub image_kept : (features : Features) (m n : Module) (r : Renaming) → IsRead features m → Stands m n r → (i : Item) → Kept m i → Kept n (renamed_item r i)
+image_kept features m n r read stands i (root h) = root (written_root m n r stands i h)
+image_kept features m n r read stands j (refers {i} k h) = refers (image_kept features m n r read stands i k) (image_refers features m n r read stands i j k h)
+
+-- all that is written is kept
+pub all_kept : (features : Features) (m n : Module) (r : Renaming) → IsRead features m → Stands m n r → (i : Item) → IsItem n i → Kept n i
+all_kept features m n r read stands (FunctionItem k) small =
+    let from : (f : ℕ) × Kept m (FunctionItem f) × (r.function f ≡ k) = stands.only_functions k small in
+    let P : ℕ → Type 0 = λ x. Kept n (FunctionItem x) in
+    subst P from.2 (image_kept features m n r read stands (FunctionItem from.0) from.1)
+all_kept features m n r read stands (TypeItem k) small =
+    let from : (t : ℕ) × Kept m (TypeItem t) × (r.type_ t ≡ k) = stands.only_types k small in
+    let P : ℕ → Type 0 = λ x. Kept n (TypeItem x) in
+    subst P from.2 (image_kept features m n r read stands (TypeItem from.0) from.1)
 
 pub done : (features : Features) (m n : Module) (r : Renaming) → IsRead features m → Stands m n r → IsDone n
 done features m n r read stands = record {
-    exported = λ (k : ℕ) (small : k < length n.functions).
-      let h : slice_get n.functions k ≡ Some (get_or n.functions k no_function) = slice_get-get_or n.functions k no_function small in
-      let from : Source m n r k (get_or n.functions k no_function) = source features m n r read stands k (get_or n.functions k no_function) h in
-      let P : ℕ → Type 0 = λ x. Root n (FunctionItem x) in
-      subst P from.number (written_root m n r stands from.f from.rooted);
+    kept = all_kept features m n r read stands;
     ordered = λ (i j : ℕ) (f g : Function) (before : i < j) (at_i : slice_get n.functions i ≡ Some f) (at_j : slice_get n.functions j ≡ Some g).
       in_order features m n r stands i j f g before (source features m n r read stands i f at_i) (source features m n r read stands j g at_j);
     normal = λ (k : ℕ) (f : Function) (h : slice_get n.functions k ≡ Some f).
       let from : Source m n r k f = source features m n r read stands k f h in renamed_normal r from.function f from.renamed;
     bare = λ (k : ℕ) (f : Function) (h : slice_get n.functions k ≡ Some f).
       let from : Source m n r k f = source features m n r read stands k f h in from.renamed.locals;
-    typed = typed_by features m n r read stands;
-    types_ordered = λ (i j : ℕ) (s v : FunctionType) (before : i < j) (at_i : slice_get n.types i ≡ Some s) (at_j : slice_get n.types j ≡ Some v).
-      less_type features m n r read stands i j s v before (type_source features m n r read stands i s at_i) (type_source features m n r read stands j v at_j) (type_cmp s v) refl
+    types_ordered = written_types_ordered features m n r read stands
   }
-
--- in what is done, each type stands for itself
-self_type : (n : Module) → IsDone n → (t : ℕ) → t < length n.types → Same n.types t t
-self_type n is t small = record {
-    there = small;
-    earlier = omega arith;
-    equal = refl;
-    first = λ (v : ℕ) (before : v < t) (e : slice_get n.types v ≡ slice_get n.types t).
-      let at_t : slice_get n.types t ≡ Some (get_or n.types t no_type) = slice_get-get_or n.types t no_type small in
-      let less : type_cmp (get_or n.types t no_type) (get_or n.types t no_type) ≡ Less = is.types_ordered v t (get_or n.types t no_type) (get_or n.types t no_type) before (e ∙ at_t) at_t in
-      let tied : type_cmp (get_or n.types t no_type) (get_or n.types t no_type) ≡ Equal = tied_itself type_cmp_total (get_or n.types t no_type) in
-      let wrong : Less ≡ Equal = sym less ∙ tied in cc
-  }
-
--- and is kept
-kept_type : (n : Module) → IsDone n → (t : ℕ) → t < length n.types → Kept n (TypeItem t)
-kept_type n is t small =
-    let by : (k : ℕ) × (f : Function) × (slice_get n.functions k ≡ Some f) × (f.type_ ≡ t) = is.typed t small in
-    let P : ℕ → Type 0 = λ x. Same n.types x t in
-    refers (root (is.exported by.0 (slice_get_within n.functions by.0 by.1 by.2))) (by.1, by.2, subst P (sym by.3) (self_type n is t small))
 
 functions_stay : (features : Features) (n k : Module) (s : Renaming) → IsRead features n → IsDone n → Stands n k s → Keeps s.function (length n.functions) (length k.functions)
 functions_stay features n k s read is stands = record {
     rises = λ (i j : ℕ) (before : i < j) (small : j < length n.functions).
       let at_i : slice_get n.functions i ≡ Some (get_or n.functions i no_function) = slice_get-get_or n.functions i no_function (omega arith) in
       let at_j : slice_get n.functions j ≡ Some (get_or n.functions j no_function) = slice_get-get_or n.functions j no_function small in
-      stands.functions_in_order i j (get_or n.functions i no_function) (get_or n.functions j no_function) (root (is.exported i (omega arith))) (root (is.exported j small)) at_i at_j
+      stands.functions_in_order i j (get_or n.functions i no_function) (get_or n.functions j no_function) (is.kept (FunctionItem i) (omega arith)) (is.kept (FunctionItem j) small) at_i at_j
         (is.ordered i j (get_or n.functions i no_function) (get_or n.functions j no_function) before at_i at_j);
     below = λ (i : ℕ) (small : i < length n.functions).
       let at_i : slice_get n.functions i ≡ Some (get_or n.functions i no_function) = slice_get-get_or n.functions i no_function small in
-      let image = stands.functions i (get_or n.functions i no_function) (root (is.exported i small)) at_i in
+      let image = stands.functions i (get_or n.functions i no_function) (is.kept (FunctionItem i) small) at_i in
       slice_get_within k.functions (s.function i) image.0 image.1;
     onto = λ (j : ℕ) (small : j < length k.functions).
       let from : (f : ℕ) × Kept n (FunctionItem f) × (s.function f ≡ j) = stands.only_functions j small in
@@ -276,11 +323,11 @@ types_stay features n k s read is stands = record {
     rises = λ (i j : ℕ) (before : i < j) (small : j < length n.types).
       let at_i : slice_get n.types i ≡ Some (get_or n.types i no_type) = slice_get-get_or n.types i no_type (omega arith) in
       let at_j : slice_get n.types j ≡ Some (get_or n.types j no_type) = slice_get-get_or n.types j no_type small in
-      stands.types_in_order i j (get_or n.types i no_type) (get_or n.types j no_type) (kept_type n is i (omega arith)) (kept_type n is j small) at_i at_j
+      stands.types_in_order i j (get_or n.types i no_type) (get_or n.types j no_type) (is.kept (TypeItem i) (omega arith)) (is.kept (TypeItem j) small) at_i at_j
         (is.types_ordered i j (get_or n.types i no_type) (get_or n.types j no_type) before at_i at_j);
     below = λ (i : ℕ) (small : i < length n.types).
       let at_i : slice_get n.types i ≡ Some (get_or n.types i no_type) = slice_get-get_or n.types i no_type small in
-      slice_get_within k.types (s.type_ i) (get_or n.types i no_type) (stands.types i (kept_type n is i small) ∙ at_i);
+      slice_get_within k.types (s.type_ i) (get_or n.types i no_type) (stands.types i (is.kept (TypeItem i) small) ∙ at_i);
     onto = λ (j : ℕ) (small : j < length k.types).
       let from : (t : ℕ) × Kept n (TypeItem t) × (s.type_ t ≡ j) = stands.only_types j small in
       (from.0, kept_in_range features n read.rules (TypeItem from.0) from.1, from.2)
@@ -319,7 +366,16 @@ types_same : (features : Features) (n k : Module) (s : Renaming) → IsRead feat
 types_same features n k s read is stands =
     let keeps : Keeps s.type_ (length n.types) (length k.types) = types_stay features n k s read is stands in
     same_lists k.types n.types (keeps_count s.type_ (length n.types) (length k.types) keeps)
-      (λ (i : ℕ) (small : i < length n.types). sym (ap (slice_get k.types) (keeps_all s.type_ (length n.types) (length k.types) keeps i small)) ∙ stands.types i (kept_type n is i small))
+      (λ (i : ℕ) (small : i < length n.types). sym (ap (slice_get k.types) (keeps_all s.type_ (length n.types) (length k.types) keeps i small)) ∙ stands.types i (is.kept (TypeItem i) small))
+
+same_operators : (n : Module) (s : Renaming) → ((g : ℕ) → g < length n.functions → s.function g ≡ g) → (body : List (Operator × ℕ)) → AllByRecursion (λ o. NamesItems n o.0) body → map (renamed_operator s) (operators body) ≡ operators body
+same_operators n s same [] h = refl
+same_operators n s same ((End, p) ∷ os) h = ap (λ xs. End ∷ xs) (same_operators n s same os h.1)
+same_operators n s same ((Nop, p) ∷ os) h = ap (λ xs. Nop ∷ xs) (same_operators n s same os h.1)
+same_operators n s same ((Return, p) ∷ os) h = ap (λ xs. Return ∷ xs) (same_operators n s same os h.1)
+same_operators n s same ((Drop, p) ∷ os) h = ap (λ xs. Drop ∷ xs) (same_operators n s same os h.1)
+same_operators n s same ((Call g, p) ∷ os) h = ap (λ (x : ℕ). Call x ∷ map (renamed_operator s) (operators os)) (same g h.0) ∙ ap (λ xs. Call g ∷ xs) (same_operators n s same os h.1)
+same_operators n s same ((I32Const z, p) ∷ os) h = ap (λ xs. I32Const z ∷ xs) (same_operators n s same os h.1)
 
 -- each function of the second output has the type and the operators of the first's
 function_same : (features : Features) (n k : Module) (s : Renaming) → IsRead features n → IsDone n → Stands n k s → (i : ℕ) → i < length n.functions →
@@ -327,11 +383,12 @@ function_same : (features : Features) (n k : Module) (s : Renaming) → IsRead f
 function_same features n k s read is stands i small =
     let f : Function = get_or n.functions i no_function in
     let at_i : slice_get n.functions i ≡ Some f = slice_get-get_or n.functions i no_function small in
-    let image : (other : Function) × (slice_get k.functions (s.function i) ≡ Some other) × IsRenamed s f other = stands.functions i f (root (is.exported i small)) at_i in
+    let image : (other : Function) × (slice_get k.functions (s.function i) ≡ Some other) × IsRenamed s f other = stands.functions i f (is.kept (FunctionItem i) small) at_i in
     let fixed : s.function i ≡ i = keeps_all s.function (length n.functions) (length k.functions) (functions_stay features n k s read is stands) i small in
     let typed : f.type_ < length n.types = read.rules.typed i no_function small in
     let type_fixed : s.type_ f.type_ ≡ f.type_ = keeps_all s.type_ (length n.types) (length k.types) (types_stay features n k s read is stands) f.type_ typed in
-    (f, image.0, at_i, sym (ap (slice_get k.functions) fixed) ∙ image.1, image.2.type_ ∙ type_fixed, renamed_operators s f image.0 image.2 ∙ is.normal i f at_i)
+    (f, image.0, at_i, sym (ap (slice_get k.functions) fixed) ∙ image.1, image.2.type_ ∙ type_fixed,
+      renamed_operators s f image.0 image.2 ∙ ap (map (renamed_operator s)) (is.normal i f at_i) ∙ same_operators n s (λ (g : ℕ) (there : g < length n.functions). keeps_all s.function (length n.functions) (length k.functions) (functions_stay features n k s read is stands) g there) f.body (recursion_from_All (λ (o : Operator × ℕ). NamesItems n o.0) f.body (read.rules.named i no_function small)))
 
 -- what of a function is spelled
 functions_same : (features : Features) (n k : Module) (s : Renaming) (bytes_of : Function → List ℕ) → ((f g : Function) → g.type_ ≡ f.type_ → operators g.body ≡ operators f.body → bytes_of g ≡ bytes_of f) →
@@ -356,6 +413,10 @@ each_same n s same (e ∷ es) h =
     let tail : map (renamed_export s) es ≡ es = each_same n s same es h.1 in
     cc
 
+start_same : (n : Module) (s : Renaming) → ((g : ℕ) → g < length n.functions → s.function g ≡ g) → (start : Option ℕ) → IfSome start (λ f. f < length n.functions) → option_map s.function start ≡ start
+start_same n s same None h = refl
+start_same n s same (Some f) h = ap (λ (x : ℕ). Some x) (same f h)
+
 pub same_bytes : (features : Features) (n k : Module) (s : Renaming) → IsRead features n → IsDone n → Stands n k s → module_bytes k ≡ module_bytes n
 same_bytes features n k s read is stands =
     let types : section_bytes 1 type_bytes k.types ≡ section_bytes 1 type_bytes n.types = ap (section_bytes 1 type_bytes) (types_same features n k s read is stands) in
@@ -367,10 +428,12 @@ same_bytes features n k s read is stands =
     let codes : section_bytes 10 code_bytes k.functions ≡ section_bytes 10 code_bytes n.functions =
       same_section 10 code_bytes k.functions n.functions
         (functions_same features n k s code_bytes (λ (f g : Function) (t : g.type_ ≡ f.type_) (o : operators g.body ≡ operators f.body). ap (λ (os : List Operator). sized_bytes (body_bytes os)) o) read is stands) in
-    ap (λ (b : List ℕ). header ++ (b ++ (section_bytes 3 (λ (f : Function). u32_bytes f.type_) k.functions ++ (section_bytes 7 export_bytes k.exports ++ section_bytes 10 code_bytes k.functions)))) types
-    ∙ ap (λ (b : List ℕ). header ++ (section_bytes 1 type_bytes n.types ++ (b ++ (section_bytes 7 export_bytes k.exports ++ section_bytes 10 code_bytes k.functions)))) functions
-    ∙ ap (λ (b : List ℕ). header ++ (section_bytes 1 type_bytes n.types ++ (section_bytes 3 (λ (f : Function). u32_bytes f.type_) n.functions ++ (b ++ section_bytes 10 code_bytes k.functions)))) exports
-    ∙ ap (λ (b : List ℕ). header ++ (section_bytes 1 type_bytes n.types ++ (section_bytes 3 (λ (f : Function). u32_bytes f.type_) n.functions ++ (section_bytes 7 export_bytes n.exports ++ b)))) codes
+    let start : start_bytes k.start ≡ start_bytes n.start = ap start_bytes (stands.start ∙ start_same n s (λ (g : ℕ) (there : g < length n.functions). keeps_all s.function (length n.functions) (length k.functions) (functions_stay features n k s read is stands) g there) n.start read.rules.starts) in
+    ap (λ (b : List ℕ). header ++ (b ++ (section_bytes 3 (λ (f : Function). u32_bytes f.type_) k.functions ++ (section_bytes 7 export_bytes k.exports ++ (start_bytes k.start ++ section_bytes 10 code_bytes k.functions))))) types
+    ∙ ap (λ (b : List ℕ). header ++ (section_bytes 1 type_bytes n.types ++ (b ++ (section_bytes 7 export_bytes k.exports ++ (start_bytes k.start ++ section_bytes 10 code_bytes k.functions))))) functions
+    ∙ ap (λ (b : List ℕ). header ++ (section_bytes 1 type_bytes n.types ++ (section_bytes 3 (λ (f : Function). u32_bytes f.type_) n.functions ++ (b ++ (start_bytes k.start ++ section_bytes 10 code_bytes k.functions))))) exports
+    ∙ ap (λ (b : List ℕ). header ++ (section_bytes 1 type_bytes n.types ++ (section_bytes 3 (λ (f : Function). u32_bytes f.type_) n.functions ++ (section_bytes 7 export_bytes n.exports ++ (b ++ section_bytes 10 code_bytes k.functions))))) start
+    ∙ ap (λ (b : List ℕ). header ++ (section_bytes 1 type_bytes n.types ++ (section_bytes 3 (λ (f : Function). u32_bytes f.type_) n.functions ++ (section_bytes 7 export_bytes n.exports ++ (start_bytes n.start ++ b))))) codes
 
 -- a module that reads
 pub is_read : (features : Features) (bytes : List ℕ) (m : Module) → Reads features bytes m → IsRead features m

@@ -3,7 +3,8 @@ use Rattle.std.specs.Prelude.{ℕ, ◌+◌, List, [], ◌∷◌, ◌++◌, lengt
 use Rattle.std.specs.List.{flat_map}
 use Rattle.wasm_model.specs.Module.{Module, Function, FunctionType, Operator, operators}
 use Rattle.wasm_model.specs.NormalForm.{normal_form}
-use Rattle.wasm_model.specs.Part.{Renaming, renamed_export}
+use Rattle.std.specs.Option.{option_map}
+use Rattle.wasm_model.specs.Part.{Renaming, renamed_export, renamed_operator}
 use Rattle.wasm_model.specs.Shortest.{u32_bytes}
 use Rattle.wasm_model.specs.Spelling.{operator_bytes, body_bytes, sized_bytes}
 use Rattle.rewriter_module.specs.declared.Numbering.{Numbering}
@@ -34,8 +35,8 @@ abbrev pub function_at : Module → ℕ → Function
 function_at m f = slice_index_or m.functions f no_function
 
 -- the operators that are written for a function
-abbrev pub written_operators : Module → ℕ → List Operator
-written_operators m f = operators (normal_form (function_at m f).body)
+abbrev pub written_operators : Module → Numbers → ℕ → List Operator
+written_operators m n f = map (renamed_operator (renaming n)) (operators (normal_form (function_at m f).body))
 
 -- operators that stand one behind the other from a place on, each with its own
 abbrev pub placed : ℕ → List Operator → List (Operator × ℕ)
@@ -50,15 +51,16 @@ placed_functions m n place (f ∷ fs) =
     record {
       type_ = slice_index n.new_type (function_at m f).type_;
       locals = [];
-      body = placed (place + length (u32_bytes (length (body_bytes (written_operators m f)))) + 1) (written_operators m f)
-    } ∷ placed_functions m n (place + length (sized_bytes (body_bytes (written_operators m f)))) fs
+      body = placed (place + length (u32_bytes (length (body_bytes (written_operators m n f)))) + 1) (written_operators m n f)
+    } ∷ placed_functions m n (place + length (sized_bytes (body_bytes (written_operators m n f)))) fs
 
 -- the first entry stands behind the count
 abbrev pub written : Module → Numbers → Module
 written m n = record {
     types = map (type_at m) n.types;
     functions = placed_functions m n (length (u32_bytes (length n.functions))) n.functions;
-    exports = map (renamed_export (renaming n)) m.exports
+    exports = map (renamed_export (renaming n)) m.exports;
+    start = option_map (renaming n).function m.start
   }
 
 -- the pairs of a body: of each operator that carries a place, this place and the new one

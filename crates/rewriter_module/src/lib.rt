@@ -28,12 +28,14 @@ pub struct Export<'a> {
     pub function: u32,
 }
 
-/// A module's types, functions and exports, each named by its number in its list.
+/// A module's types, functions and exports, each named by its number in its list, and its start
+/// function.
 #[derive(Drop)]
 pub struct Module<'a> {
     pub types: Vec<FunctionType>,
     pub functions: Vec<Function<'a>>,
     pub exports: Vec<Export<'a>>,
+    pub start: Option<u32>,
 }
 
 /// The numbers of what is kept: `functions` and `types` have the old numbers by the new ones;

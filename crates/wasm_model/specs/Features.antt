@@ -1,10 +1,15 @@
 -- The chosen features, of those that gate a form of the grammar.
-use Rattle.std.specs.Prelude.{Bool, not}
+use Rattle.std.specs.Prelude.{ℕ, Bool, not}
 use Rattle.wasm_model.specs.declared.options.Options.{Options}
 
 pub record Features : Type 0 where
   pub legacy_exceptions : Bool
   pub wide_arithmetic : Bool
+
+-- what is known when a body is read: the features, and how many functions there are
+pub record Known : Type 0 where
+  pub features : Features
+  pub functions : ℕ
 
 -- the features that the options choose
 abbrev pub features_of : Options → Features

@@ -14,6 +14,7 @@ pub mod Shortest
 pub mod Spelling
 pub mod Places
 pub mod Rewrites
+pub mod Machine
 pub use Rattle.wasm_reader.specs.Cursor
 pub use Rattle.wasm_reader.specs.Reading
 pub use Rattle.wasm_reader.specs.Numbers

@@ -1,5 +1,5 @@
 -- The abstract module (Core Specification, Structure, Modules): lists of items, which name one another by their numbers.
-use Rattle.std.specs.Prelude.{ℕ, ℤ, List, [], ◌∷◌, length, map}
+use Rattle.std.specs.Prelude.{ℕ, ℤ, List, [], ◌∷◌, length, map, Option}
 use Rattle.wasm_model.specs.declared.types.ValType.{ValType}
 
 -- a function type (Structure, Types, Function Types)
@@ -13,6 +13,7 @@ pub data Operator : Type 0 where
   I32Const : (number : ℤ) → Operator
   Drop : Operator
   Return : Operator
+  Call : (function : ℕ) → Operator
   End : Operator
 
 -- a function: its type, the types of its declared locals, and its operators through the last `end`, each with its
@@ -36,6 +37,8 @@ pub record Module : Type 0 where
   pub types : List FunctionType
   pub functions : List Function
   pub exports : List Export
+  -- the function that is called once the module is there
+  pub start : Option ℕ
 
 -- the same operators, wherever they stand
 abbrev pub operators : {P : Type 0} → List (Operator × P) → List Operator

@@ -1,12 +1,13 @@
 -- The part of a module that is kept, renamed: one map from old numbers to new ones for each space.
 use Rattle.std.specs.Prelude.{ℕ, ◌<◌, ◌≤◌, ◌≡◌, ◌⊎◌, List, [], ◌∷◌, length, map, Option, Some, slice_get}
+use Rattle.std.specs.Option.{option_map}
 use Rattle.std.specs.Ordering.{nat_cmp, ordering_then}
 use Rattle.std.specs.Cmp.Lexicographic.{slice_cmp}
 use Rattle.std.specs.declared.cmp.Ordering.{Ordering}
 use Rattle.std.specs.declared.cmp.Ordering.TheVariants.{Less}
 use Rattle.wasm_model.specs.declared.types.ValType.{ValType}
 use Rattle.wasm_model.specs.declared.types.ValType.TheVariants.{I32, I64, F32, F64, V128}
-use Rattle.wasm_model.specs.Module.{Module, Function, FunctionType, Operator, Item, FunctionItem, TypeItem, Export, operators}
+use Rattle.wasm_model.specs.Module.{Module, Function, FunctionType, Operator, Call, Item, FunctionItem, TypeItem, Export, operators}
 use Rattle.wasm_model.specs.NormalForm.{normal_form, size}
 use Rattle.wasm_model.specs.Kept.{Same, Kept}
 
@@ -21,8 +22,9 @@ renamed_item r (TypeItem t) = TypeItem (r.type_ t)
 abbrev pub renamed_export : Renaming → Export → Export
 renamed_export r e = record { name = e.name; item = renamed_item r e.item }
 
--- an operator with the items of its immediates renamed: here none has any
+-- an operator with the items of its immediates renamed
 abbrev pub renamed_operator : Renaming → Operator → Operator
+renamed_operator r (Call f) = Call (r.function f)
 renamed_operator r operator = operator
 
 -- function g is function f, its body in normal form, renamed; places aside
@@ -66,3 +68,5 @@ pub record Stands (m n : Module) (r : Renaming) : Type 0 where
   pub merged : (t u : ℕ) → Same m.types t u → r.type_ t ≡ r.type_ u
   -- exports keep their names, kinds and order
   pub exports : n.exports ≡ map (renamed_export r) m.exports
+  -- the start function is the same
+  pub start : n.start ≡ option_map r.function m.start

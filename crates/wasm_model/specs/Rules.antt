@@ -1,7 +1,7 @@
 -- What a spelled module has to meet besides (Core Specification, Validation, Modules; Appendix, Implementation Limitations),
 -- and with it which bytes read as which module.
-use Rattle.std.specs.Prelude.{ℕ, ◌+◌, ◌<◌, ◌≤◌, ◌^◌, ◌≡◌, ◌≢◌, List, [], ◌∷◌, ◌++◌, length, All, AllPairs}
-use Rattle.wasm_model.specs.Module.{Module, Function, FunctionType, Operator, Nop, I32Const, Drop, Return, End, Item, FunctionItem, TypeItem, Export}
+use Rattle.std.specs.Prelude.{ℕ, ◌+◌, ◌<◌, ◌≤◌, ◌^◌, ◌≡◌, ◌≢◌, List, [], ◌∷◌, ◌++◌, length, All, AllPairs, IfSome}
+use Rattle.wasm_model.specs.Module.{Module, Function, FunctionType, Operator, Nop, I32Const, Drop, Return, Call, End, Item, FunctionItem, TypeItem, Export}
 use Rattle.wasm_model.specs.Spells.{SpellsModule, SpellsCode, Code}
 use Rattle.wasm_model.specs.Features.{Features}
 
@@ -15,6 +15,11 @@ abbrev pub Nests : List (Operator × ℕ) → Type 0
 Nests [] = ⊥
 Nests ((End, place) ∷ rest) = rest ≡ []
 Nests (o ∷ rest) = Nests rest
+
+-- the operator names items that are there
+abbrev pub NamesItems : Module → Operator → Type 0
+NamesItems m (Call f) = IsItem m (FunctionItem f)
+NamesItems m _ = Unit {0}
 
 -- the limits on a module (that on a body's size is part of its spelling)
 pub record Fits (m : Module) : Type 0 where
@@ -32,7 +37,11 @@ pub record Rules (features : Features) (m : Module) : Type 0 where
   pub exported : All (λ e. IsItem m e.item) m.exports
   -- no two exports have one name
   pub distinct : AllPairs (λ d e. d.name ≢ e.name) m.exports
+  -- the start function is there
+  pub starts : IfSome m.start (λ f. IsItem m (FunctionItem f))
   pub nested : All (λ f. Nests f.body) m.functions
+  -- each item that a body names is there
+  pub named : All (λ f. All (λ o. NamesItems m o.0) f.body) m.functions
   pub fits : Fits m
 
 -- the bytes read as the module

@@ -14,7 +14,7 @@ use Rattle.wasm_model.specs.declared.fault.Fault.TheVariants as faults
 use Rattle.wasm_model.specs.declared.fault.Space.TheVariants as spaces
 use Rattle.wasm_model.specs.declared.fault.Form.TheVariants as forms
 use Rattle.wasm_model.specs.declared.fault.Limited.TheVariants as limits
-use Rattle.wasm_model.specs.Features.{Features}
+use Rattle.wasm_model.specs.Features.{Features, Known}
 use Rattle.wasm_model.specs.Module.{Module, Function, FunctionType, Item, FunctionItem, Export}
 use Rattle.wasm_model.specs.Spells.{Code, header}
 use Rattle.wasm_model.specs.Stop.{Trouble, Read, Header, SectionOrder, SectionSize, Count, Index, Unsupported, DuplicateExport, Limit, Stop, stop, Parsing, ◌>>=◌, value_at, before, entries_at, vec_at, trouble_of, place_of, is_in_bytes}
@@ -96,6 +96,12 @@ export_entry functions earlier bytes = do
     else (if nat_lt index.0 functions then Ok (record { name = name.0; item = FunctionItem index.0 }, index.1)
     else Err (stop (Index spaces.Function) (length kind.1))))
 
+-- the start section: the number of one of so many functions
+unfoldable pub start_at : ℕ → List ℕ → Parsing ℕ
+start_at functions bytes = do
+  index ← value_at (unsigned_at 32 bytes)
+  if nat_lt index.0 functions then Ok index else Err (stop (Index spaces.Function) (length bytes))
+
 -- a body before its operators are looked at: its place, and its bytes
 pub record Chunk : Type 0 where
   pub place : ℕ
@@ -165,6 +171,7 @@ pub record Sections : Type 0 where
   pub types : List FunctionType
   pub functions : List ℕ
   pub exports : List Export
+  pub start : Option ℕ
   pub chunks : Chunks
 
 -- the sections, to the file's end; a missing code section has no bodies
@@ -173,17 +180,18 @@ sections_at bytes = do
   types ← section_at 1 (λ _. vec_at type_entry) bytes
   functions ← section_at 3 (λ _. vec_at (function_entry (length (unwrap_or types.0 [])))) types.1
   exports ← section_at 7 (λ _. vec_at (export_entry (length (unwrap_or functions.0 [])))) functions.1
-  chunks ← section_at 10 (chunks_at (length (unwrap_or functions.0 []))) exports.1
-  end ← end_at (latest chunks.0 10 (latest exports.0 7 (latest functions.0 3 (latest types.0 1 0)))) chunks.1
+  start ← section_at 8 (λ _. start_at (length (unwrap_or functions.0 []))) exports.1
+  chunks ← section_at 10 (chunks_at (length (unwrap_or functions.0 []))) start.1
+  end ← end_at (latest chunks.0 10 (latest start.0 8 (latest exports.0 7 (latest functions.0 3 (latest types.0 1 0))))) chunks.1
   if is_none chunks.0 && nat_lt 0 (length (unwrap_or functions.0 [])) then Err (stop Count 0)
-    else Ok (record { types = unwrap_or types.0 []; functions = unwrap_or functions.0 []; exports = unwrap_or exports.0 []; chunks = unwrap_or chunks.0 no_chunks })
+    else Ok (record { types = unwrap_or types.0 []; functions = unwrap_or functions.0 []; exports = unwrap_or exports.0 []; start = start.0; chunks = unwrap_or chunks.0 no_chunks })
 
 -- the bodies, where `left` bytes are left from the place 0 on
-unfoldable pub codes_at : Features → ℕ → List Chunk → Result (List Code) Stop
-codes_at features left [] = Ok []
-codes_at features left (chunk ∷ chunks) = do
-  code ← before (left - (chunk.place + length chunk.bytes)) (code_at features chunk.place chunk.bytes)
-  codes ← codes_at features left chunks
+unfoldable pub codes_at : Known → ℕ → List Chunk → Result (List Code) Stop
+codes_at known left [] = Ok []
+codes_at known left (chunk ∷ chunks) = do
+  code ← before (left - (chunk.place + length chunk.bytes)) (code_at known chunk.place chunk.bytes)
+  codes ← codes_at known left chunks
   Ok (code ∷ codes)
 
 -- functions of these types and these bodies
@@ -195,8 +203,8 @@ functions_of _ _ = []
 unfoldable pub module_at : Features → List ℕ → Result Module Stop
 module_at features bytes = if starts_with nat_eq bytes header then (do
       sections ← sections_at (drop 8 bytes)
-      codes ← codes_at features sections.chunks.left sections.chunks.bodies
-      Ok (record { types = sections.types; functions = functions_of sections.functions codes; exports = sections.exports }))
+      codes ← codes_at (record { features = features; functions = length sections.functions }) sections.chunks.left sections.chunks.bodies
+      Ok (record { types = sections.types; functions = functions_of sections.functions codes; exports = sections.exports; start = sections.start }))
     else Err (stop Header (length bytes))
 
 -- the fault that the bytes are refused for. A file past 2^30 bytes comes before all else, then the header, then the sections

@@ -1,9 +1,9 @@
 -- The canonical spelling of a module: each number is the shortest, and a section of no entries is left out.
-use Rattle.std.specs.Prelude.{ℕ, ◌+◌, ◌≡◌, List, [], ◌∷◌, ◌++◌, length, map}
+use Rattle.std.specs.Prelude.{ℕ, ◌+◌, ◌≡◌, List, [], ◌∷◌, ◌++◌, length, map, Option, Some, None}
 use Rattle.std.specs.List.{flat_map}
 use Rattle.wasm_model.specs.Shortest.{u32_bytes, s32_bytes}
 use Rattle.wasm_model.specs.declared.types.ValType.{ValType}
-use Rattle.wasm_model.specs.Module.{Module, Function, FunctionType, Operator, Nop, I32Const, Drop, Return, End, Item, FunctionItem, TypeItem, Export, operators}
+use Rattle.wasm_model.specs.Module.{Module, Function, FunctionType, Operator, Nop, I32Const, Drop, Return, Call, End, Item, FunctionItem, TypeItem, Export, operators}
 use Rattle.wasm_model.specs.Spells.{value_byte, header}
 use Rattle.wasm_model.specs.Features.{Features}
 use Rattle.wasm_model.specs.Rules.{Reads}
@@ -39,6 +39,7 @@ operator_bytes Nop = 0x01 ∷ []
 operator_bytes End = 0x0b ∷ []
 operator_bytes Return = 0x0f ∷ []
 operator_bytes Drop = 0x1a ∷ []
+operator_bytes (Call f) = 0x10 ∷ u32_bytes f
 operator_bytes (I32Const n) = 0x41 ∷ s32_bytes n
 
 -- the locals, of which there are none, and the operators
@@ -48,10 +49,15 @@ body_bytes body = 0x00 ∷ flat_map operator_bytes body
 abbrev pub code_bytes : Function → List ℕ
 code_bytes f = sized_bytes (body_bytes (operators f.body))
 
+-- the start section, left out where there is no start function
+abbrev pub start_bytes : Option ℕ → List ℕ
+start_bytes None = []
+start_bytes (Some f) = 8 ∷ sized_bytes (u32_bytes f)
+
 abbrev pub module_bytes : Module → List ℕ
 module_bytes m =
     header ++ (section_bytes 1 type_bytes m.types ++ (section_bytes 3 (λ f. u32_bytes f.type_) m.functions
-    ++ (section_bytes 7 export_bytes m.exports ++ section_bytes 10 code_bytes m.functions)))
+    ++ (section_bytes 7 export_bytes m.exports ++ (start_bytes m.start ++ section_bytes 10 code_bytes m.functions))))
 
 -- the bytes are the canonical spelling of a module that they read as
 abbrev pub Canon : Features → List ℕ → Type 0

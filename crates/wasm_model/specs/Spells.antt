@@ -1,11 +1,11 @@
 -- The binary format (Core Specification, Binary Format): which bytes spell which module.
-use Rattle.std.specs.Prelude.{ℕ, ◌+◌, ◌<◌, ◌≤◌, ◌≡◌, List, [], ◌∷◌, ◌++◌, length, map, zip}
+use Rattle.std.specs.Prelude.{ℕ, ◌+◌, ◌<◌, ◌≤◌, ◌≡◌, ◌⊎◌, List, [], ◌∷◌, ◌++◌, length, map, Option, Some, None}
 use Rattle.std.specs.Str.{IsUtf8}
 use Rattle.wasm_reader.specs.Numbers.{Spells, signed}
 use Rattle.wasm_model.specs.declared.types.ValType.{ValType}
 use Rattle.wasm_model.specs.declared.types.ValType.TheVariants.{I32, I64, F32, F64, V128}
-use Rattle.wasm_model.specs.Module.{Module, Function, FunctionType, Operator, Nop, I32Const, Drop, Return, End, Item, FunctionItem, TypeItem, Export}
-use Rattle.wasm_model.specs.Grammar.{Grammar, SpellsU32, SpellsEach, SpellsVec, SpellsEachAt, SpellsSection}
+use Rattle.wasm_model.specs.Module.{Module, Function, FunctionType, Operator, Nop, I32Const, Drop, Return, Call, End, Item, FunctionItem, TypeItem, Export}
+use Rattle.wasm_model.specs.Grammar.{Grammar, SpellsU32, SpellsEach, SpellsVec, SpellsEachAt, SpellsSection, IsSection}
 
 -- a value type's byte (Binary Format, Types)
 abbrev pub value_byte : ValType → ℕ
@@ -42,6 +42,7 @@ SpellsOperator bytes Nop = bytes ≡ 0x01 ∷ []
 SpellsOperator bytes End = bytes ≡ 0x0b ∷ []
 SpellsOperator bytes Return = bytes ≡ 0x0f ∷ []
 SpellsOperator bytes Drop = bytes ≡ 0x1a ∷ []
+SpellsOperator bytes (Call f) = (index : List ℕ) × (bytes ≡ 0x10 ∷ index) × SpellsU32 index f
 SpellsOperator bytes (I32Const n) = (number : List ℕ) × (bytes ≡ 0x41 ∷ number) × Spells signed 32 number n
 
 -- an operator that carries the place where it stands
@@ -77,6 +78,11 @@ abbrev pub SpellsCodes : Grammar (List Code)
 SpellsCodes bytes codes =
     (count : List ℕ) × (rest : List ℕ) × (bytes ≡ count ++ rest) × SpellsU32 count (length codes) × SpellsEachAt SpellsCode (length count) rest codes
 
+-- the start section: a function's number, or no section (Binary Format, Start Section)
+abbrev pub SpellsStart : Grammar (Option ℕ)
+SpellsStart bytes None = bytes ≡ []
+SpellsStart bytes (Some f) = IsSection 8 SpellsU32 bytes f
+
 -- the magic number and the version (Binary Format, Modules)
 abbrev pub header : List ℕ
 header = 0x00 ∷ 0x61 ∷ 0x73 ∷ 0x6d ∷ 0x01 ∷ 0x00 ∷ 0x00 ∷ 0x00 ∷ []
@@ -86,9 +92,11 @@ pub record SpellsModule (bytes : List ℕ) (m : Module) : Type 0 where
   pub types : List ℕ
   pub functions : List ℕ
   pub exports : List ℕ
+  pub start : List ℕ
   pub codes : List ℕ
-  pub whole : bytes ≡ header ++ (types ++ (functions ++ (exports ++ codes)))
+  pub whole : bytes ≡ header ++ (types ++ (functions ++ (exports ++ (start ++ codes))))
   pub spells_types : SpellsSection 1 (SpellsVec SpellsFunctionType) types m.types
   pub spells_functions : SpellsSection 3 (SpellsVec SpellsU32) functions (map (λ f. f.type_) m.functions)
   pub spells_exports : SpellsSection 7 (SpellsVec SpellsExport) exports m.exports
+  pub spells_start : SpellsStart start m.start
   pub spells_codes : SpellsSection 10 SpellsCodes codes (map code_of m.functions)
