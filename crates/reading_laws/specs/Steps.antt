@@ -1,0 +1,72 @@
+-- Readings and parsings as pairs: found, and read again; and the steps of which both are made.
+use Rattle.std.proofs.Common.{◌≡◌, ◌≢◌, ℕ, zero, suc, ◌+◌, ◌^◌, ◌<◌, ◌≤◌, Bool, true, false, List, [], ◌∷◌, ◌++◌, length, get_or, take, drop, Result, Ok, Err, refl, sym, ap, subst, ◌∙◌, append_assoc, arith, ◌⊎◌, inl, inr}
+use Rattle.std.specs.Prelude.{if◌then◌else◌}
+use Rattle.std.proofs.Math.Seq.{get_or-append_right}
+use Rattle.std.proofs.lemmas.List.{get_or-append-add}
+use Rattle.wasm_reader.specs.Reading.{Reading}
+use Rattle.wasm_reader.specs.Reading.{Fault as ReadFault}
+use Rattle.wasm_reader.specs.Reading.{◌>>=◌ as ◌>>>◌}
+use Rattle.wasm_model.specs.Grammar.{Grammar}
+use Rattle.wasm_model.specs.Stop.{Stop, Parsing, ◌>>=◌, value_at, before}
+
+-- the elements are bytes
+abbrev pub AreBytes : List ℕ → Type 0
+AreBytes bytes = (i : ℕ) → get_or bytes i 0 < 256
+
+-- what stands at the front of the bytes, before the rest, spells x
+pub record Takes {A : Type 0} (S : Grammar A) (bytes : List ℕ) (x : A) (rest : List ℕ) : Type 0 where
+  pub front : List ℕ
+  pub whole : bytes ≡ front ++ rest
+  pub spelled : S front x
+
+-- what is read is spelled so
+abbrev pub IsFound : {A E : Type 0} → (List ℕ → Result (A × List ℕ) E) → Grammar A → Type 0
+IsFound {A} parse S = (bytes : List ℕ) (x : A) (rest : List ℕ) → AreBytes bytes → parse bytes ≡ Ok (x, rest) → Takes S bytes x rest
+
+-- what is spelled so is read, whatever follows
+abbrev pub IsReadAgain : {A E : Type 0} → (List ℕ → Result (A × List ℕ) E) → Grammar A → Type 0
+IsReadAgain {A} parse S = (front : List ℕ) (x : A) (rest : List ℕ) → S front x → parse (front ++ rest) ≡ Ok (x, rest)
+
+-- the value of a step that did not fail
+pub then_ok : {A B : Type 0} (r : Result A Stop) (f : A → Result B Stop) (y : B) → (r >>= f) ≡ Ok y → (x : A) × (r ≡ Ok x) × (f x ≡ Ok y)
+then_ok (Ok x) f y e = (x, refl, e)
+then_ok (Err d) f y e = absurd cc
+
+pub then_read : {A B : Type 0} (r : Result A ReadFault) (f : A → Result B ReadFault) (y : B) → (r >>> f) ≡ Ok y → (x : A) × (r ≡ Ok x) × (f x ≡ Ok y)
+then_read (Ok x) f y e = (x, refl, e)
+then_read (Err d) f y e = absurd cc
+
+pub value_ok : {A : Type 0} (r : Reading A) (x : A × List ℕ) → value_at r ≡ Ok x → r ≡ Ok x
+value_ok (Ok x) y e = cc
+value_ok (Err d) y e = absurd cc
+
+pub before_ok : {A : Type 0} (after : ℕ) (r : Result A Stop) (x : A) → before after r ≡ Ok x → r ≡ Ok x
+before_ok after (Ok x) y e = cc
+before_ok after (Err d) y e = absurd cc
+
+-- a test that did not fail: refused where it holds, or where it doesn't
+pub refused_if : {A E : Type 0} (b : Bool) (d : E) (r : Result A E) (y : A) → (if b then Err d else r) ≡ Ok y → (b ≡ false) × (r ≡ Ok y)
+refused_if true d r y e = absurd cc
+refused_if false d r y e = (refl, e)
+
+pub refused_unless : {A E : Type 0} (b : Bool) (r : Result A E) (d : E) (y : A) → (if b then r else Err d) ≡ Ok y → (b ≡ true) × (r ≡ Ok y)
+refused_unless true r d y e = (refl, e)
+refused_unless false r d y e = absurd cc
+
+-- which way a test went
+pub chosen : {A : Type 0} (b : Bool) (x y z : A) → (if b then x else y) ≡ z → ((b ≡ true) × (x ≡ z)) ⊎ ((b ≡ false) × (y ≡ z))
+chosen true x y z e = inl (refl, e)
+chosen false x y z e = inr (refl, e)
+
+abbrev done : {A E : Type 0} → A → Result A E
+done x = Ok x
+
+pub ok_is : {A E : Type 0} (x y : A) → done {E = E} x ≡ Ok y → x ≡ y
+ok_is x y e = cc
+
+-- the bytes behind a front
+pub bytes_behind : (front rest bytes : List ℕ) → bytes ≡ front ++ rest → AreBytes bytes → AreBytes rest
+bytes_behind front rest bytes e h i = rw (← get_or-append-add front rest i 0, ← e) (h (length front + i))
+
+pub bytes_rest : (b : ℕ) (bytes : List ℕ) → AreBytes (b ∷ bytes) → AreBytes bytes
+bytes_rest b bytes h i = h (suc i)
