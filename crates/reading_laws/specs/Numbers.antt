@@ -5,7 +5,7 @@ use Rattle.std.proofs.lemmas.Bool.{cases_lt, cases_Bool}
 use Rattle.wasm_reader.specs.declared.error.ErrorKind.{ErrorKind}
 use Rattle.wasm_reader.specs.Reading.{Reading, fault, ◌>>=◌}
 use Rattle.wasm_reader.specs.Numbers.{Style, Spells, number_at}
-use Rattle.reading_laws.specs.Steps.{AreBytes, Takes, IsFound, IsReadAgain, then_read, refused_if, refused_unless, chosen, ok_is, bytes_rest}
+use Rattle.reading_laws.specs.Steps.{AreBytes, Takes, IsFound, IsReadAgain, then_read, refused_if, refused_unless, ok_is, renamed, bytes_rest}
 
 pub number_found : {A : Type 0} (s : Style A) (wrong : ErrorKind) (width : ℕ) (bytes : List ℕ) (n : A) (rest : List ℕ) → AreBytes bytes → number_at s wrong width bytes ≡ Ok (n, rest) → Takes (Spells s width) bytes n rest
 unfolding number_at
@@ -18,10 +18,10 @@ number_found {A} s wrong width (b ∷ bytes) n rest h e =
           | inr misfits ↦ absurd (let no = rw (lt-ltb b 128 lt, misfits) at e in cc)
         ]
       | inr le ↦ elim (cases_lt 7 width) [
-          | inl wide ↦ let k = then_read (number_at s wrong (width - 7) bytes) _ (n, rest) (rw (le-ltb b 128 le, lt-leb width 7 wide) at e) in
-            let t = number_found s wrong (width - 7) bytes k.0.0 k.0.1 (bytes_rest b bytes h) k.1 in
-            let same : (s.onto (b - 128) k.0.0, k.0.1) ≡ (n, rest) = ok_is _ _ k.2 in
-            record { front = b ∷ t.front; whole = ap (λ (p : List ℕ). b ∷ p) t.whole ∙ ap (λ (p : A × List ℕ). b ∷ (t.front ++ p.1)) same; spelled = inr (le, h 0, wide, k.0.0, sym (ap (λ (p : A × List ℕ). p.0) same), t.spelled) }
+          | inl wide ↦ then_read (number_at s wrong (width - 7) bytes) _ (n, rest) (rw (le-ltb b 128 le, lt-leb width 7 wide) at e) (λ x p q.
+            let t = number_found s wrong (width - 7) bytes x.0 x.1 (bytes_rest b bytes h) p in
+            renamed (Spells s width) (b ∷ bytes) (s.onto (b - 128) x.0, x.1) (n, rest) (ok_is _ _ q)
+              (record { front = b ∷ t.front; whole = ap (λ (w : List ℕ). b ∷ w) t.whole; spelled = inr (le, h 0, wide, x.0, refl, t.spelled) }))
           | inr narrow ↦ absurd (let no = rw (le-ltb b 128 le, le-leb width 7 narrow) at e in cc)
         ]
     ]

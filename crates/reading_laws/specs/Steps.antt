@@ -27,14 +27,14 @@ IsFound {A} parse S = (bytes : List ℕ) (x : A) (rest : List ℕ) → AreBytes 
 abbrev pub IsReadAgain : {A E : Type 0} → (List ℕ → Result (A × List ℕ) E) → Grammar A → Type 0
 IsReadAgain {A} parse S = (front : List ℕ) (x : A) (rest : List ℕ) → S front x → parse (front ++ rest) ≡ Ok (x, rest)
 
--- the value of a step that did not fail
-pub then_ok : {A B : Type 0} (r : Result A Stop) (f : A → Result B Stop) (y : B) → (r >>= f) ≡ Ok y → (x : A) × (r ≡ Ok x) × (f x ≡ Ok y)
-then_ok (Ok x) f y e = (x, refl, e)
-then_ok (Err d) f y e = absurd cc
+-- the value of a step that did not fail, for what is proved from it
+pub then_ok : {A B : Type 0} {P : Type 0} (r : Result A Stop) (f : A → Result B Stop) (y : B) → (r >>= f) ≡ Ok y → ((x : A) → r ≡ Ok x → f x ≡ Ok y → P) → P
+then_ok (Ok x) f y e prove = prove x refl e
+then_ok (Err d) f y e prove = absurd cc
 
-pub then_read : {A B : Type 0} (r : Result A ReadFault) (f : A → Result B ReadFault) (y : B) → (r >>> f) ≡ Ok y → (x : A) × (r ≡ Ok x) × (f x ≡ Ok y)
-then_read (Ok x) f y e = (x, refl, e)
-then_read (Err d) f y e = absurd cc
+pub then_read : {A B : Type 0} {P : Type 0} (r : Result A ReadFault) (f : A → Result B ReadFault) (y : B) → (r >>> f) ≡ Ok y → ((x : A) → r ≡ Ok x → f x ≡ Ok y → P) → P
+then_read (Ok x) f y e prove = prove x refl e
+then_read (Err d) f y e prove = absurd cc
 
 pub value_ok : {A : Type 0} (r : Reading A) (x : A × List ℕ) → value_at r ≡ Ok x → r ≡ Ok x
 value_ok (Ok x) y e = cc
@@ -70,3 +70,14 @@ bytes_behind front rest bytes e h i = rw (← get_or-append-add front rest i 0, 
 
 pub bytes_rest : (b : ℕ) (bytes : List ℕ) → AreBytes (b ∷ bytes) → AreBytes bytes
 bytes_rest b bytes h i = h (suc i)
+
+-- the same value and the same rest under other names
+pub renamed : {A : Type 0} (S : Grammar A) (bytes : List ℕ) (p q : A × List ℕ) → p ≡ q → Takes S bytes p.0 p.1 → Takes S bytes q.0 q.1
+renamed {A} S bytes p q same t = subst (λ (r : A × List ℕ). Takes S bytes r.0 r.1) same t
+
+-- one part behind another
+pub part_then : (bytes front mid next rest : List ℕ) → bytes ≡ front ++ mid → mid ≡ next ++ rest → bytes ≡ (front ++ next) ++ rest
+part_then bytes front mid next rest p q = p ∙ ap (λ (b : List ℕ). front ++ b) q ∙ sym (append_assoc front next rest)
+
+abbrev pub parsed : {A : Type 0} → A → List ℕ → Parsing A
+parsed x rest = Ok (x, rest)
