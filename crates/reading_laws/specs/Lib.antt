@@ -2,3 +2,4 @@ pub mod Steps
 pub mod Numbers
 pub mod Lists
 pub mod Types
+pub mod Exports
