@@ -3,3 +3,4 @@ pub mod Numbers
 pub mod Lists
 pub mod Types
 pub mod Exports
+pub mod Bodies

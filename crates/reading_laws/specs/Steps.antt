@@ -1,8 +1,9 @@
 -- Readings and parsings as pairs: found, and read again; and the steps of which both are made.
 use Rattle.std.proofs.Common.{◌≡◌, ◌≢◌, ℕ, zero, suc, ◌+◌, ◌^◌, ◌<◌, ◌≤◌, Bool, true, false, List, [], ◌∷◌, ◌++◌, length, get_or, take, drop, Result, Ok, Err, refl, sym, ap, subst, ◌∙◌, append_assoc, arith, ◌⊎◌, inl, inr}
-use Rattle.std.specs.Prelude.{if◌then◌else◌}
+use Rattle.std.specs.Prelude.{◌==◌, if◌then◌else◌}
 use Rattle.std.proofs.Math.Seq.{get_or-append_right}
 use Rattle.std.proofs.lemmas.List.{get_or-append-add}
+use Rattle.std.proofs.lemmas.Bool.{eqb-true}
 use Rattle.wasm_reader.specs.Reading.{Reading}
 use Rattle.wasm_reader.specs.Reading.{Fault as ReadFault}
 use Rattle.wasm_reader.specs.Reading.{◌>>=◌ as ◌>>>◌}
@@ -81,3 +82,7 @@ part_then bytes front mid next rest p q = p ∙ ap (λ (b : List ℕ). front ++ 
 
 abbrev pub parsed : {A : Type 0} → A → List ℕ → Parsing A
 parsed x rest = Ok (x, rest)
+
+-- one byte of a table
+pub taken_byte : {A : Type 0} (S : Grammar A) (b c : ℕ) (bytes : List ℕ) (t : A) (p : A × List ℕ) → (b == c) ≡ true → S (c ∷ []) t → parsed t bytes ≡ Ok p → Takes S (b ∷ bytes) p.0 p.1
+taken_byte S b c bytes t p is s e = renamed S (b ∷ bytes) (t, bytes) p (ok_is _ _ e) (record { front = c ∷ []; whole = ap (λ (x : ℕ). x ∷ bytes) (eqb-true b c is); spelled = s })

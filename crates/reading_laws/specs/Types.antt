@@ -11,7 +11,7 @@ use Rattle.wasm_model.specs.Module.{FunctionType}
 use Rattle.wasm_model.specs.Spells.{SpellsValueType, SpellsFunctionType}
 use Rattle.wasm_model.specs.Stop.{Stop, Parsing, value_at, entries_at}
 use Rattle.wasm_model.specs.Sections.{value_type_at, value_types_at, function_type_at, type_entry, function_entry}
-use Rattle.reading_laws.specs.Steps.{AreBytes, Takes, IsFound, IsReadAgain, then_ok, then_read, value_ok, ok_is, renamed, parsed, part_then, bytes_behind, bytes_rest}
+use Rattle.reading_laws.specs.Steps.{AreBytes, Takes, IsFound, IsReadAgain, then_ok, then_read, value_ok, ok_is, renamed, taken_byte, part_then, bytes_behind, bytes_rest}
 use Rattle.reading_laws.specs.Numbers.{number_found, number_again}
 use Rattle.reading_laws.specs.Lists.{u32_found, u32_again, read_u32_found, AllAfter, entries_found, entries_again, vec_front}
 
@@ -28,9 +28,6 @@ size_found limit bytes n rest h e = then_read (unsigned_at 32 bytes) _ (n, rest)
 pub size_again : (limit : ℕ) → IsReadAgain (size_at limit) (λ front n. SpellsU32 front n × (n ≤ limit))
 unfolding size_at
 size_again limit front n rest s = rw (u32_again front n rest s.0, le-leb n limit s.1) refl
-
-taken_byte : {A : Type 0} (S : Grammar A) (b c : ℕ) (bytes : List ℕ) (t : A) (p : A × List ℕ) → (b == c) ≡ true → S (c ∷ []) t → parsed t bytes ≡ Ok p → Takes S (b ∷ bytes) p.0 p.1
-taken_byte S b c bytes t p is s e = renamed S (b ∷ bytes) (t, bytes) p (ok_is _ _ e) (record { front = c ∷ []; whole = ap (λ (x : ℕ). x ∷ bytes) (eqb-true b c is); spelled = s })
 
 pub value_type_found : IsFound value_type_at SpellsValueType
 unfolding value_type_at
