@@ -4,3 +4,5 @@ pub mod Lists
 pub mod Types
 pub mod Exports
 pub mod Bodies
+pub mod Framing
+pub mod Codes

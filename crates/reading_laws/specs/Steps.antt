@@ -2,8 +2,8 @@
 use Rattle.std.proofs.Common.{◌≡◌, ◌≢◌, ℕ, zero, suc, ◌+◌, ◌^◌, ◌<◌, ◌≤◌, Bool, true, false, List, [], ◌∷◌, ◌++◌, length, get_or, take, drop, Result, Ok, Err, refl, sym, ap, subst, ◌∙◌, append_assoc, arith, ◌⊎◌, inl, inr}
 use Rattle.std.specs.Prelude.{◌==◌, if◌then◌else◌}
 use Rattle.std.proofs.Math.Seq.{get_or-append_right}
-use Rattle.std.proofs.lemmas.List.{get_or-append-add}
-use Rattle.std.proofs.lemmas.Bool.{eqb-true}
+use Rattle.std.proofs.lemmas.List.{get_or-append-add, get_or_append_left, get_or_past}
+use Rattle.std.proofs.lemmas.Bool.{eqb-true, cases_lt}
 use Rattle.wasm_reader.specs.Reading.{Reading}
 use Rattle.wasm_reader.specs.Reading.{Fault as ReadFault}
 use Rattle.wasm_reader.specs.Reading.{◌>>=◌ as ◌>>>◌}
@@ -68,6 +68,13 @@ ok_is x y e = cc
 -- the bytes behind a front
 pub bytes_behind : (front rest bytes : List ℕ) → bytes ≡ front ++ rest → AreBytes bytes → AreBytes rest
 bytes_behind front rest bytes e h i = rw (← get_or-append-add front rest i 0, ← e) (h (length front + i))
+
+pub bytes_front : (front rest : List ℕ) → AreBytes (front ++ rest) → AreBytes front
+bytes_front front rest h i =
+    elim (cases_lt i (length front)) [
+      | inl lt ↦ rw (← get_or_append_left front rest 0 i lt) (h i)
+      | inr le ↦ rw (get_or_past front i 0 le) (omega arith)
+    ]
 
 pub bytes_rest : (b : ℕ) (bytes : List ℕ) → AreBytes (b ∷ bytes) → AreBytes bytes
 bytes_rest b bytes h i = h (suc i)
