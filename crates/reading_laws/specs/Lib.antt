@@ -6,3 +6,5 @@ pub mod Exports
 pub mod Bodies
 pub mod Framing
 pub mod Codes
+pub mod Ruled
+pub mod Modules
