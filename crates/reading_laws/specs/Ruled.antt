@@ -30,6 +30,9 @@ after_count R limit each earlier (x ∷ xs) le h =
     let more = after_count R limit each (earlier ++ x ∷ []) xs (omega arith) h.1 in
     omega arith
 
+pub count_within : {A : Type 0} (R : List A → A → Type 0) (limit : ℕ) → ((earlier : List A) (x : A) → R earlier x → length earlier < limit) → (xs : List A) → AllAfter R [] xs → length xs ≤ limit
+count_within R limit each xs h = omega (arith, after_count R limit each [] xs (omega arith) h)
+
 pub types_after : (earlier ts : List FunctionType) → length earlier + length ts ≤ 1000000 → AllByRecursion (λ t. length t.params ≤ 1000) ts → AllByRecursion (λ t. length t.results ≤ 1000) ts → AllAfter IsTypeEntry earlier ts
 types_after earlier [] le p r = tt
 types_after earlier (t ∷ ts) le p r =
