@@ -8,3 +8,5 @@ pub mod Framing
 pub mod Codes
 pub mod Ruled
 pub mod Modules
+pub mod Laws
+pub mod Once

@@ -7,9 +7,9 @@ use Rattle.std.proofs.lemmas.Bool.{cases_lt, cases_Bool, eqb-true, eq-eqb, ltb-t
 use Rattle.std.proofs.lemmas.List.{length-append, append-nil, nil_from_length, take-append-drop, length-map}
 use Rattle.std.proofs.lemmas.List.Elements.{All-from_recursion, recursion_from_All}
 use Rattle.wasm_model.specs.Features.{Features}
-use Rattle.wasm_model.specs.Grammar.{Grammar, SpellsU32, SpellsVec, SpellsEachAt, IsSection, SpellsSection}
+use Rattle.wasm_model.specs.Grammar.{Grammar, SpellsU32, SpellsEach, SpellsVec, SpellsEachAt, IsSection, SpellsSection}
 use Rattle.wasm_model.specs.Module.{Module, Function, FunctionType, Export, Item, FunctionItem, TypeItem}
-use Rattle.wasm_model.specs.Spells.{Code, code_of, SpellsFunctionType, SpellsExport, SpellsCode, SpellsCodes, SpellsModule, header}
+use Rattle.wasm_model.specs.Spells.{Code, code_of, SpellsItem, SpellsFunctionType, SpellsExport, SpellsCode, SpellsCodes, SpellsModule, header}
 use Rattle.wasm_model.specs.Rules.{IsItem, Nests, Fits, Rules, Reads}
 use Rattle.wasm_model.specs.Stop.{Stop, Parsing, vec_at}
 use Rattle.wasm_model.specs.Sections.{Chunk, Chunks, no_chunks, Sections, type_entry, function_entry, export_entry, chunks_at, section_at, latest, end_at, sections_at, codes_at, functions_of, module_at}
@@ -238,3 +238,48 @@ sections_again t f e c types functions exports chunks s1 s2 s3 s4 same =
     reads = rw (← i1, ← i2, ← i3) (sections_joined (t ++ (f ++ (e ++ c))) (f ++ (e ++ c)) (e ++ c) c o1 o2 o3 o4 p1 (rw i1 p2) (rw i2 p3) (rw (i2, ← same) p4) (rw i2 (not_missing o4 chunks functions same missing)));
     is = i4
   }
+
+-- what the rules say of each entry again
+types_ruled : (features : Features) (m : Module) → Rules features m → AllAfter IsTypeEntry [] m.types
+types_ruled features m r = types_after [] m.types (omega (arith, r.fits.types))
+    (recursion_from_All (λ (t : FunctionType). length t.params ≤ 1000) m.types r.fits.params) (recursion_from_All (λ (t : FunctionType). length t.results ≤ 1000) m.types r.fits.results)
+
+functions_ruled : (features : Features) (m : Module) → Rules features m → AllAfter (IsFunctionEntry (length m.types)) [] (map (λ f. f.type_) m.functions)
+functions_ruled features m r = functions_after (length m.types) [] (map (λ f. f.type_) m.functions) (omega (arith, r.fits.functions, length-map m.functions (λ f. f.type_)))
+    (all_typed (λ t. t < length m.types) m.functions (recursion_from_All (λ (f : Function). f.type_ < length m.types) m.functions r.typed))
+
+-- an export that is spelled is of a function
+exports_below : (m : Module) (functions : ℕ) → functions ≡ length m.functions → (bytes : List ℕ) (es : List Export) → SpellsEach SpellsExport bytes es → AllByRecursion (λ e. IsItem m e.item) es → AllByRecursion (λ e. IsBelow functions e.item) es
+exports_below m functions same bytes [] s h = tt
+exports_below m functions same bytes (e ∷ es) s h = (item_below e.item s.3.1 s.3.4 h.0, exports_below m functions same s.1 es s.4 h.1)
+  where
+  item_below : (item : Item) (front : List ℕ) → SpellsItem front item → IsItem m item → IsBelow functions item
+  item_below (FunctionItem f) front s h = rw same h
+  item_below (TypeItem t) front s h = absurd s
+
+exports_ruled : (features : Features) (m : Module) (functions : ℕ) → functions ≡ length m.functions → (front : List ℕ) → SpellsSection 7 (SpellsVec SpellsExport) front m.exports → Rules features m → AllAfter (IsExportEntry functions) [] m.exports
+exports_ruled features m functions same front (inl s) r = rw s.1 tt
+exports_ruled features m functions same front (inr s) r = exports_after functions [] m.exports (omega (arith, r.fits.exports))
+    (recursion_from_All (λ (e : Export). length e.name ≤ 100000) m.exports r.fits.names)
+    (exports_below m functions same s.meant.1 m.exports s.meant.4 (recursion_from_All (λ (e : Export). IsItem m e.item) m.exports r.exported))
+    r.distinct
+
+-- what reads so is parsed
+pub module_again : (features : Features) (bytes : List ℕ) (m : Module) → Reads features bytes m → module_at features bytes ≡ Ok m
+unfolding module_at
+module_again features bytes m r =
+    let s = r.spells in
+    let types = map (λ (f : Function). f.type_) m.functions in
+    let count : length types ≡ length m.functions = length-map m.functions (λ f. f.type_) in
+    let codes = code_section_again features s.codes (map code_of m.functions) s.spells_codes (all_coded (λ c. Nests c.body) m.functions (recursion_from_All (λ (f : Function). Nests f.body) m.functions r.rules.nested)) in
+    let sections = sections_again s.types s.functions s.exports s.codes m.types types m.exports codes.chunks
+          (s.spells_types, types_ruled features m r.rules) (s.spells_functions, functions_ruled features m r.rules)
+          (s.spells_exports, exports_ruled features m (length types) count s.exports s.spells_exports r.rules) codes.spelled (codes.counted ∙ length-map m.functions code_of ∙ sym count) in
+    parts_make m bytes s.types s.functions s.exports s.codes s.whole codes.chunks sections.found sections.reads sections.is codes.reads
+  where
+  parts_make : (m : Module) (bytes t f e c : List ℕ) → bytes ≡ header ++ (t ++ (f ++ (e ++ c))) → (chunks : List Chunk) (found : Chunks)
+      → sections_at (t ++ (f ++ (e ++ c))) ≡ Ok (record { types = m.types; functions = map (λ f. f.type_) m.functions; exports = m.exports; chunks = found })
+      → found.bodies ≡ chunks → ((left : ℕ) → codes_at features left chunks ≡ Ok (map code_of m.functions)) → module_at features bytes ≡ Ok m
+  parts_make m bytes t f e c whole chunks found p same reads =
+      let bodies : codes_at features found.left found.bodies ≡ Ok (map code_of m.functions) = rw same (reads found.left) in
+      rw (whole, p, bodies, functions_of_parts m.functions) refl
