@@ -1,19 +1,19 @@
 -- Operators and bodies: found, and read again.
-use Rattle.std.proofs.Common.{◌≡◌, ℕ, zero, suc, ◌+◌, ◌-◌, ◌<◌, ◌≤◌, Bool, true, false, List, [], ◌∷◌, ◌++◌, length, take, drop, Result, Ok, Err, refl, sym, ap, subst, ◌∙◌, append_assoc, arith, ◌⊎◌, inl, inr}
+use Rattle.std.proofs.Common.{◌≡◌, ℕ, zero, suc, ◌+◌, ◌-◌, ◌≤◌, true, false, List, [], ◌∷◌, ◌++◌, length, Ok, refl, sym, ap, subst, ◌∙◌, append_assoc, arith, inl, inr}
 use Rattle.std.specs.Prelude.{◌==◌}
-use Rattle.std.proofs.lemmas.Bool.{cases_lt, cases_Bool, eqb-true, eq-eqb, ltb-true, lt-ltb, le-ltb, lt-leb, le-leb}
+use Rattle.std.proofs.lemmas.Bool.{cases_Bool, eqb-true}
 use Rattle.std.proofs.lemmas.List.{length-append, append-nil, nil_from_length}
 use Rattle.wasm_reader.specs.declared.error.ErrorKind.TheVariants as kinds
-use Rattle.wasm_reader.specs.Numbers.{Spells, signed, unsigned_at, signed_at}
+use Rattle.wasm_reader.specs.Numbers.{signed, unsigned_at, signed_at}
 use Rattle.wasm_model.specs.Features.{Features}
 use Rattle.wasm_model.specs.OperatorTable.{is_prefix}
 use Rattle.wasm_model.specs.Grammar.{Grammar, SpellsU32, SpellsEachAt}
 use Rattle.wasm_model.specs.Module.{Operator, Nop, I32Const, Drop, Return, End}
 use Rattle.wasm_model.specs.Spells.{Code, SpellsOperator, SpellsPlaced, SpellsLocals}
 use Rattle.wasm_model.specs.Rules.{Nests}
-use Rattle.wasm_model.specs.Stop.{Stop, Parsing, value_at}
+use Rattle.wasm_model.specs.Stop.{value_at}
 use Rattle.wasm_model.specs.Bodies.{is_end, operator_at, operators_at, code_at}
-use Rattle.reading_laws.specs.Steps.{AreBytes, Takes, IsFound, IsReadAgain, then_ok, then_read, value_ok, ok_is, renamed, parsed, taken_byte, part_then, bytes_behind, bytes_rest}
+use Rattle.reading_laws.specs.Steps.{AreBytes, Takes, IsFound, IsReadAgain, then_ok, value_ok, ok_is, renamed, taken_byte, part_then, bytes_behind, bytes_rest}
 use Rattle.reading_laws.specs.Numbers.{number_found, number_again}
 use Rattle.reading_laws.specs.Lists.{u32_found, u32_again}
 
@@ -33,19 +33,19 @@ operator_found features (b ∷ bytes) o rest h e =
               | inl is ↦ then_ok (value_at (signed_at 32 bytes)) _ (o, rest) (rw (not01, not0b, not0f, not1a, is) at e) (λ n p q.
                   let t = number_found signed kinds.TooLarge 32 bytes n.0 n.1 (bytes_rest b bytes h) (value_ok (signed_at 32 bytes) n p) in
                   renamed SpellsOperator (b ∷ bytes) (I32Const n.0, n.1) (o, rest) (ok_is _ _ q)
-                    (record {
-                      front = 0x41 ∷ t.front;
-                      whole = ap (λ (x : ℕ). x ∷ bytes) (eqb-true b 0x41 is) ∙ ap (λ (w : List ℕ). 0x41 ∷ w) t.whole;
-                      spelled = (t.front, refl, t.spelled)
-                    }))
+                  (record {
+                    front = 0x41 ∷ t.front;
+                    whole = ap (λ (x : ℕ). x ∷ bytes) (eqb-true b 0x41 is) ∙ ap (λ (w : List ℕ). 0x41 ∷ w) t.whole;
+                    spelled = (t.front, refl, t.spelled);
+                  }))
               | inr not41 ↦ elim (cases_Bool (is_prefix b)) [
                 | inl is ↦ then_ok (value_at (unsigned_at 32 bytes)) _ (o, rest) (rw (not01, not0b, not0f, not1a, not41, is) at e) (λ n p q. absurd cc)
                 | inr none ↦ absurd (let stops = rw (not01, not0b, not0f, not1a, not41, none) at e in cc)
-                ]
               ]
             ]
           ]
         ]
+      ]
     ]
 
 pub operator_again : (features : Features) → IsReadAgain (operator_at features) SpellsOperator
@@ -103,7 +103,7 @@ operators_found features finish (suc turns) place bytes body rest l h e = then_o
           let next : place + length t.front + length o.1 ≡ finish = omega (arith, ap length t.whole, length-append t.front o.1) in
           let m = operators_found features finish turns (place + length t.front) o.1 more.0 more.1 next (bytes_behind t.front o.1 bytes t.whole h) r in
           renamed (SpellsNested place) bytes ((o.0, finish - length bytes) ∷ more.0, more.1) (body, rest) (ok_is _ _ s)
-            (record { front = t.front ++ m.front; whole = part_then _ _ _ _ _ t.whole m.whole; spelled = more_nested t.front m.front o.0 place (finish - length bytes) more.0 not t.spelled here m.spelled }))
+          (record { front = t.front ++ m.front; whole = part_then _ _ _ _ _ t.whole m.whole; spelled = more_nested t.front m.front o.0 place (finish - length bytes) more.0 not t.spelled here m.spelled }))
     ])
 
 -- one turn more
@@ -138,16 +138,16 @@ operators_again features finish (suc turns) place front ((End, p) ∷ []) rest l
 operators_again features finish (suc turns) place front ((End, p) ∷ (x ∷ xs)) rest l le s = absurd (let e = s.1 in cc)
 operators_again features finish (suc turns) place front ((Nop, p) ∷ body) rest l le s =
     more_again features finish turns place p front s.0.0 s.0.1 Nop body rest refl s.0.2 s.0.3.0 s.0.3.1 l
-      (operators_again features finish turns (place + length s.0.0) s.0.1 body rest (next_place place finish front s.0.0 s.0.1 rest s.0.2 l) (fewer front s.0.0 s.0.1 Nop turns s.0.2 s.0.3.0 le) (s.0.4, s.1))
+    (operators_again features finish turns (place + length s.0.0) s.0.1 body rest (next_place place finish front s.0.0 s.0.1 rest s.0.2 l) (fewer front s.0.0 s.0.1 Nop turns s.0.2 s.0.3.0 le) (s.0.4, s.1))
 operators_again features finish (suc turns) place front ((Return, p) ∷ body) rest l le s =
     more_again features finish turns place p front s.0.0 s.0.1 Return body rest refl s.0.2 s.0.3.0 s.0.3.1 l
-      (operators_again features finish turns (place + length s.0.0) s.0.1 body rest (next_place place finish front s.0.0 s.0.1 rest s.0.2 l) (fewer front s.0.0 s.0.1 Return turns s.0.2 s.0.3.0 le) (s.0.4, s.1))
+    (operators_again features finish turns (place + length s.0.0) s.0.1 body rest (next_place place finish front s.0.0 s.0.1 rest s.0.2 l) (fewer front s.0.0 s.0.1 Return turns s.0.2 s.0.3.0 le) (s.0.4, s.1))
 operators_again features finish (suc turns) place front ((Drop, p) ∷ body) rest l le s =
     more_again features finish turns place p front s.0.0 s.0.1 Drop body rest refl s.0.2 s.0.3.0 s.0.3.1 l
-      (operators_again features finish turns (place + length s.0.0) s.0.1 body rest (next_place place finish front s.0.0 s.0.1 rest s.0.2 l) (fewer front s.0.0 s.0.1 Drop turns s.0.2 s.0.3.0 le) (s.0.4, s.1))
+    (operators_again features finish turns (place + length s.0.0) s.0.1 body rest (next_place place finish front s.0.0 s.0.1 rest s.0.2 l) (fewer front s.0.0 s.0.1 Drop turns s.0.2 s.0.3.0 le) (s.0.4, s.1))
 operators_again features finish (suc turns) place front ((I32Const n, p) ∷ body) rest l le s =
     more_again features finish turns place p front s.0.0 s.0.1 (I32Const n) body rest refl s.0.2 s.0.3.0 s.0.3.1 l
-      (operators_again features finish turns (place + length s.0.0) s.0.1 body rest (next_place place finish front s.0.0 s.0.1 rest s.0.2 l) (fewer front s.0.0 s.0.1 (I32Const n) turns s.0.2 s.0.3.0 le) (s.0.4, s.1))
+    (operators_again features finish turns (place + length s.0.0) s.0.1 body rest (next_place place finish front s.0.0 s.0.1 rest s.0.2 l) (fewer front s.0.0 s.0.1 (I32Const n) turns s.0.2 s.0.3.0 le) (s.0.4, s.1))
 
 -- a body that begins at a place: no locals, and its operators
 pub record IsBody (place : ℕ) (bytes : List ℕ) (code : Code) : Type 0 where
@@ -174,7 +174,7 @@ body_found features place bytes code h e = then_ok (value_at (unsigned_at 32 byt
                   whole = c.whole ∙ ap (λ (w : List ℕ). c.front ++ w) (b.whole ∙ ap (λ (w : List ℕ). b.front ++ w) (nil_from_length body.1 (eqb-true _ _ ends)) ∙ append-nil b.front);
                   declares = (subst (λ (n : ℕ). SpellsU32 c.front n) (eqb-true _ _ is) c.spelled, refl);
                   acts = b.spelled.0;
-                  nested = b.spelled.1
+                  nested = b.spelled.1;
                 })
             | inr goes_on ↦ absurd (let none = rw goes_on at s in cc)
           ])
@@ -186,10 +186,10 @@ unfolding code_at
 body_again features place bytes code b =
     let l : place + length b.locals + length (b.operators ++ []) ≡ place + length bytes = omega (arith, ap length b.whole, length-append b.locals b.operators, ap length (append-nil b.operators)) in
     let inner : operators_at features (place + length bytes) (length b.operators) b.operators ≡ Ok (code.body, []) =
-          rw (append-nil b.operators) at (operators_again features (place + length bytes) (length b.operators) (place + length b.locals) b.operators code.body [] l (omega arith) (b.acts, b.nested)) in
+    rw (append-nil b.operators) at (operators_again features (place + length bytes) (length b.operators) (place + length b.locals) b.operators code.body [] l (omega arith) (b.acts, b.nested)) in
     body_joined features place bytes b.locals b.operators code b.whole b.declares inner
   where
-  body_joined : (features : Features) (place : ℕ) (bytes locals operators : List ℕ) (code : Code) → bytes ≡ locals ++ operators → SpellsLocals locals code.locals
-      → operators_at features (place + length bytes) (length operators) operators ≡ Ok (code.body, []) → code_at features place bytes ≡ Ok code
-  body_joined features place bytes locals operators code whole d inner =
-      rw (ap (λ (w : List ℕ). unsigned_at 32 w) whole, u32_again locals 0 operators d.0, inner, ← d.1) refl
+    body_joined : (features : Features) (place : ℕ) (bytes locals operators : List ℕ) (code : Code) → bytes ≡ locals ++ operators → SpellsLocals locals code.locals
+        → operators_at features (place + length bytes) (length operators) operators ≡ Ok (code.body, []) → code_at features place bytes ≡ Ok code
+    body_joined features place bytes locals operators code whole d inner =
+        rw (ap (λ (w : List ℕ). unsigned_at 32 w) whole, u32_again locals 0 operators d.0, inner, ← d.1) refl

@@ -1,23 +1,23 @@
 -- The code section: its bodies' bytes, and then the bodies, found and read again.
-use Rattle.std.proofs.Common.{◌≡◌, ℕ, zero, suc, ◌+◌, ◌-◌, ◌<◌, ◌≤◌, Bool, true, false, List, [], ◌∷◌, ◌++◌, length, take, drop, Option, Some, None, Result, Ok, Err, refl, sym, ap, subst, ◌∙◌, append_assoc, arith, ◌⊎◌, inl, inr}
+use Rattle.std.proofs.Common.{◌≡◌, ℕ, zero, suc, ◌+◌, ◌-◌, ◌≤◌, List, [], ◌∷◌, ◌++◌, length, Option, Some, None, Ok, refl, sym, ap, subst, ◌∙◌, append_assoc, arith, inl, inr}
 use Rattle.std.specs.Prelude.{◌==◌, unwrap_or}
 use Rattle.std.specs.Option.{MatchOption}
 use Rattle.std.specs.List.{AllByRecursion}
-use Rattle.std.proofs.lemmas.Bool.{cases_lt, cases_Bool, eqb-true, eq-eqb, ltb-true, lt-ltb, le-ltb, lt-leb, le-leb}
-use Rattle.std.proofs.lemmas.List.{length-append, append-nil, nil_from_length}
+use Rattle.std.proofs.lemmas.Bool.{cases_lt, cases_Bool, eqb-true, eq-eqb, lt-ltb, le-ltb}
+use Rattle.std.proofs.lemmas.List.{length-append, append-nil}
 use Rattle.wasm_reader.specs.Reading.{bytes_at}
 use Rattle.wasm_reader.specs.Numbers.{unsigned_at}
 use Rattle.wasm_model.specs.Features.{Features}
-use Rattle.wasm_model.specs.Grammar.{Grammar, SpellsU32, SpellsEachAt, IsSection, SpellsSection}
+use Rattle.wasm_model.specs.Grammar.{Grammar, SpellsU32, SpellsEachAt, SpellsSection}
 use Rattle.wasm_model.specs.Rules.{Nests}
-use Rattle.wasm_model.specs.Spells.{Code, SpellsPlaced, SpellsCode, SpellsCodes}
-use Rattle.wasm_model.specs.Stop.{Stop, Parsing, value_at, before, entries_at}
+use Rattle.wasm_model.specs.Spells.{Code, SpellsPlaced, SpellsCode}
+use Rattle.wasm_model.specs.Stop.{value_at, before, entries_at}
 use Rattle.wasm_model.specs.Bodies.{code_at}
 use Rattle.wasm_model.specs.Sections.{Chunk, Chunks, no_chunks, chunk_entry, chunks_at, section_at, codes_at}
 use Rattle.reading_laws.specs.Steps.{AreBytes, Takes, then_ok, before_ok, value_ok, ok_is, renamed, part_then, bytes_behind, bytes_front}
 use Rattle.reading_laws.specs.Lists.{u32_found, u32_again}
 use Rattle.reading_laws.specs.Exports.{run_found, run_again}
-use Rattle.reading_laws.specs.Framing.{IsParsedSection, IsParsed, IsElse, section_again, section_absent}
+use Rattle.reading_laws.specs.Framing.{IsParsed, IsElse, section_again, section_absent}
 use Rattle.reading_laws.specs.Bodies.{IsBody, body_found, body_again}
 
 -- a body's size and its bytes, which begin where the chunk says
@@ -42,7 +42,7 @@ chunk_found finish earlier place bytes chunk rest l h e = then_ok (value_at (uns
       | inr le ↦ then_ok (value_at (bytes_at size.0 size.1)) _ (chunk, rest) (rw (le-ltb 7654321 size.0 le) at q) (λ body r t.
           let b = run_found size.0 size.1 body.0 body.1 (bytes_behind s.front size.1 bytes s.whole h) (value_ok (bytes_at size.0 size.1) body r) in
           renamed (IsChunk place) bytes (record { place = finish - length size.1; bytes = body.0 }, body.1) (chunk, rest) (ok_is _ _ t)
-            (record { front = s.front ++ b.front; whole = part_then _ _ _ _ _ s.whole b.whole; spelled = chunk_front place (finish - length size.1) size.0 s.front b.front body.0 s.spelled b.spelled le here }))
+          (record { front = s.front ++ b.front; whole = part_then _ _ _ _ _ s.whole b.whole; spelled = chunk_front place (finish - length size.1) size.0 s.front b.front body.0 s.spelled b.spelled le here }))
     ])
 
 pub chunk_again : (finish : ℕ) (earlier : List Chunk) (place : ℕ) (front : List ℕ) (chunk : Chunk) (rest : List ℕ)
@@ -50,11 +50,11 @@ pub chunk_again : (finish : ℕ) (earlier : List Chunk) (place : ℕ) (front : L
 unfolding chunk_entry
 chunk_again finish earlier place front chunk rest l c = go finish earlier place front c.size chunk.bytes chunk.place rest l c.whole c.sized c.short c.placed
   where
-  go : (finish : ℕ) (earlier : List Chunk) (place : ℕ) (front size bytes : List ℕ) (at : ℕ) (rest : List ℕ) → place + length (front ++ rest) ≡ finish
-      → front ≡ size ++ bytes → SpellsU32 size (length bytes) → length bytes ≤ 7654321 → at ≡ place + length size → chunk_entry finish earlier (front ++ rest) ≡ Ok (record { place = at; bytes = bytes }, rest)
-  go finish earlier place front size bytes p rest l whole s le e =
-      let here : finish - length (bytes ++ rest) ≡ p = omega (arith, ap (λ (w : List ℕ). length (w ++ rest)) whole, ap length (append_assoc size bytes rest), length-append size (bytes ++ rest)) in
-      rw (whole, append_assoc size bytes rest, u32_again size (length bytes) (bytes ++ rest) s, le-ltb 7654321 (length bytes) le, run_again (length bytes) bytes bytes rest (refl, refl), here) refl
+    go : (finish : ℕ) (earlier : List Chunk) (place : ℕ) (front size bytes : List ℕ) (at : ℕ) (rest : List ℕ) → place + length (front ++ rest) ≡ finish
+        → front ≡ size ++ bytes → SpellsU32 size (length bytes) → length bytes ≤ 7654321 → at ≡ place + length size → chunk_entry finish earlier (front ++ rest) ≡ Ok (record { place = at; bytes = bytes }, rest)
+    go finish earlier place front size bytes p rest l whole s le e =
+        let here : finish - length (bytes ++ rest) ≡ p = omega (arith, ap (λ (w : List ℕ). length (w ++ rest)) whole, ap length (append_assoc size bytes rest), length-append size (bytes ++ rest)) in
+        rw (whole, append_assoc size bytes rest, u32_again size (length bytes) (bytes ++ rest) s, le-ltb 7654321 (length bytes) le, run_again (length bytes) bytes bytes rest (refl, refl), here) refl
 
 -- the bodies' bytes behind the earlier ones
 pub record ChunksFound (place count : ℕ) (earlier : List Chunk) (bytes : List ℕ) (all : List Chunk) (rest : List ℕ) : Type 0 where
@@ -68,7 +68,7 @@ pub chunks_found : (finish count : ℕ) (earlier : List Chunk) (place : ℕ) (by
 unfolding entries_at
 chunks_found finish zero earlier place bytes all rest l h e =
     subst (λ (z : List Chunk × List ℕ). ChunksFound place 0 earlier bytes z.0 z.1) (ok_is (earlier, bytes) (all, rest) e)
-      (record { items = []; joined = sym (append-nil earlier); counted = refl; taken = record { front = []; whole = refl; spelled = refl } })
+    (record { items = []; joined = sym (append-nil earlier); counted = refl; taken = record { front = []; whole = refl; spelled = refl } })
 chunks_found finish (suc count) earlier place bytes all rest l h e = then_ok (chunk_entry finish earlier bytes) _ (all, rest) e (λ x p q.
     let t = chunk_found finish earlier place bytes x.0 x.1 l h p in
     let next : place + length t.front + length x.1 ≡ finish = omega (arith, ap length t.whole, length-append t.front x.1) in
@@ -80,8 +80,8 @@ chunks_found finish (suc count) earlier place bytes all rest l h e = then_ok (ch
       taken = record {
         front = t.front ++ more.taken.front;
         whole = part_then _ _ _ _ _ t.whole more.taken.whole;
-        spelled = (t.front, more.taken.front, refl, t.spelled, more.taken.spelled)
-      }
+        spelled = (t.front, more.taken.front, refl, t.spelled, more.taken.spelled);
+      };
     })
 
 pub chunks_again : (finish : ℕ) (chunks earlier : List Chunk) (place : ℕ) (front rest : List ℕ)
@@ -117,14 +117,14 @@ chunks_at_found functions after bytes chunks rest h e = then_ok (value_at (unsig
           let l : length c.front + length count.1 ≡ length bytes = omega (arith, ap length c.whole, length-append c.front count.1) in
           let b = chunks_found (length bytes) count.0 [] (length c.front) count.1 bodies.0 bodies.1 l (bytes_behind c.front count.1 bytes c.whole h) r in
           subst (λ (z : Chunks × List ℕ). ChunksAre functions after bytes z.0 z.1) (ok_is (record { left = length bytes + after; bodies = bodies.0 }, bodies.1) (chunks, rest) t)
-            (record {
-              taken = record {
-                front = c.front ++ b.taken.front;
-                whole = part_then _ _ _ _ _ c.whole b.taken.whole;
-                spelled = chunks_spelled c.front b.taken.front count.0 b.items bodies.0 b.joined b.counted c.spelled b.taken.spelled
-              };
-              counted = ap length b.joined ∙ b.counted ∙ eqb-true _ _ is
-            }))
+          (record {
+            taken = record {
+              front = c.front ++ b.taken.front;
+              whole = part_then _ _ _ _ _ c.whole b.taken.whole;
+              spelled = chunks_spelled c.front b.taken.front count.0 b.items bodies.0 b.joined b.counted c.spelled b.taken.spelled;
+            };
+            counted = ap length b.joined ∙ b.counted ∙ eqb-true _ _ is;
+          }))
       | inr other ↦ absurd (let none = rw other at q in cc)
     ])
 
@@ -151,9 +151,9 @@ chunk_section_found functions bytes (Some chunks) rest h s =
       taken = record {
         front = 10 ∷ s.size ++ s.contents;
         whole = s.whole;
-        spelled = inr (record { size = s.size; contents = s.contents; whole = refl; sized = s.sized; meant = subst (λ (w : List ℕ). SpellsChunks w chunks.bodies) (sym (c.taken.whole ∙ append-nil c.taken.front)) c.taken.spelled })
+        spelled = inr (record { size = s.size; contents = s.contents; whole = refl; sized = s.sized; meant = subst (λ (w : List ℕ). SpellsChunks w chunks.bodies) (sym (c.taken.whole ∙ append-nil c.taken.front)) c.taken.spelled });
       };
-      counted = c.counted
+      counted = c.counted;
     }
 
 -- what comes of a code section again; where it is missing, there are no functions
@@ -169,7 +169,7 @@ chunk_section_again front chunks rest (inr h) else = record {
   found = Some (record { left = length h.contents + length rest; bodies = chunks });
   reads = rw (h.whole) (section_again 10 (chunks_at (length chunks)) h.size h.contents (record { left = length h.contents + length rest; bodies = chunks }) rest h.sized (chunks_at_again (length rest) h.contents chunks h.meant));
   is = refl;
-  missing = λ e. absurd cc
+  missing = λ e. absurd cc;
 }
 
 -- the bodies of chunks
@@ -186,22 +186,22 @@ codes_found features left place front (chunk ∷ chunks) codes s h e =
     let m = codes_found features left (place + length s.0) s.1 chunks more s.4 (bytes_behind s.0 s.1 front s.2 h) r in
     let chunk_spells : SpellsCode place s.0 code = code_front place s.0 s.3.size chunk code s.3.whole s.3.sized s.3.short s.3.placed b in
     subst (λ (z : List Code). SpellsEachAt SpellsCode place front z × AllByRecursion (λ c. Nests c.body) z × (length z ≡ suc (length chunks))) (ok_is (code ∷ more) codes t)
-      ((s.0, s.1, s.2, chunk_spells, m.0), (b.nested, m.1), ap (λ (n : ℕ). suc n) m.2)))
+    ((s.0, s.1, s.2, chunk_spells, m.0), (b.nested, m.1), ap (λ (n : ℕ). suc n) m.2)))
   where
-  code_front : (place : ℕ) (front size : List ℕ) (chunk : Chunk) (code : Code) → front ≡ size ++ chunk.bytes → SpellsU32 size (length chunk.bytes) → length chunk.bytes ≤ 7654321
-      → chunk.place ≡ place + length size → IsBody chunk.place chunk.bytes code → SpellsCode place front code
-  code_front place front size chunk code whole sized short placed b =
-      let long : length chunk.bytes ≡ length b.locals + length b.operators = ap length b.whole ∙ length-append b.locals b.operators in
-      record {
-        size = size;
-        locals = b.locals;
-        operators = b.operators;
-        whole = whole ∙ ap (λ (w : List ℕ). size ++ w) b.whole;
-        sized = subst (λ (n : ℕ). SpellsU32 size n) long sized;
-        short = omega arith;
-        declares = b.declares;
-        acts = subst (λ (p : ℕ). SpellsEachAt SpellsPlaced (p + length b.locals) b.operators code.body) placed b.acts
-      }
+    code_front : (place : ℕ) (front size : List ℕ) (chunk : Chunk) (code : Code) → front ≡ size ++ chunk.bytes → SpellsU32 size (length chunk.bytes) → length chunk.bytes ≤ 7654321
+        → chunk.place ≡ place + length size → IsBody chunk.place chunk.bytes code → SpellsCode place front code
+    code_front place front size chunk code whole sized short placed b =
+        let long : length chunk.bytes ≡ length b.locals + length b.operators = ap length b.whole ∙ length-append b.locals b.operators in
+        record {
+          size = size;
+          locals = b.locals;
+          operators = b.operators;
+          whole = whole ∙ ap (λ (w : List ℕ). size ++ w) b.whole;
+          sized = subst (λ (n : ℕ). SpellsU32 size n) long sized;
+          short = omega arith;
+          declares = b.declares;
+          acts = subst (λ (p : ℕ). SpellsEachAt SpellsPlaced (p + length b.locals) b.operators code.body) placed b.acts;
+        }
 
 -- chunks of which these are the bodies
 pub record ReadsCodes (features : Features) (place : ℕ) (front : List ℕ) (codes : List Code) : Type 0 where
@@ -223,5 +223,5 @@ codes_again features place front (code ∷ codes) s n =
       chunks = record { place = place + length c.size; bytes = c.locals ++ c.operators } ∷ more.chunks;
       spelled = (s.0, s.1, s.2, record { size = c.size; whole = c.whole; sized = subst (λ (k : ℕ). SpellsU32 c.size k) (sym long) c.sized; short = omega (arith, c.short); placed = refl }, more.spelled);
       counted = ap (λ (k : ℕ). suc k) more.counted;
-      reads = λ left. rw (body_again features (place + length c.size) (c.locals ++ c.operators) code body, more.reads left) refl
+      reads = λ left. rw (body_again features (place + length c.size) (c.locals ++ c.operators) code body, more.reads left) refl;
     }

@@ -1,21 +1,21 @@
 -- Names and the entries of the export section: found, and read again.
-use Rattle.std.proofs.Common.{◌≡◌, ℕ, zero, suc, ◌+◌, ◌-◌, ◌<◌, ◌≤◌, Bool, true, false, List, [], ◌∷◌, ◌++◌, length, take, drop, Result, Ok, Err, refl, sym, ap, ◌∙◌, append_assoc, arith, ◌⊎◌, inl, inr}
+use Rattle.std.proofs.Common.{◌≡◌, ℕ, ◌<◌, ◌≤◌, false, List, [], ◌∷◌, ◌++◌, length, take, drop, Ok, refl, sym, ap, append_assoc, arith, inl, inr}
 use Rattle.std.specs.Prelude.{◌==◌}
 use Rattle.std.specs.List.{list_any}
 use Rattle.std.specs.Str.{is_utf8, IsUtf8}
 use Rattle.std.proofs.lemmas.Str.{is_utf8-from_IsUtf8, IsUtf8-from_is_utf8}
-use Rattle.std.proofs.lemmas.Bool.{cases_lt, cases_Bool, eqb-true, ltb-true, lt-ltb, le-ltb, lt-leb, le-leb}
+use Rattle.std.proofs.lemmas.Bool.{cases_lt, cases_Bool, eqb-true, lt-ltb, le-ltb, lt-leb, le-leb}
 use Rattle.std.proofs.lemmas.List.{take_at, drop_at, take-append-drop, length-append, length-take}
 use Rattle.wasm_reader.specs.Reading.{bytes_at}
 use Rattle.wasm_reader.specs.Numbers.{unsigned_at}
 use Rattle.wasm_reader.specs.Text.{size_at, text_at, string_at}
 use Rattle.wasm_model.specs.Grammar.{Grammar, SpellsU32}
 use Rattle.wasm_model.specs.Module.{Item, FunctionItem, TypeItem, Export}
-use Rattle.wasm_model.specs.Spells.{SpellsName, SpellsItem, SpellsExport}
-use Rattle.wasm_model.specs.Stop.{Stop, Parsing, value_at}
+use Rattle.wasm_model.specs.Spells.{SpellsName, SpellsExport}
+use Rattle.wasm_model.specs.Stop.{value_at}
 use Rattle.wasm_model.specs.Sections.{kind_at, same_name, export_entry}
-use Rattle.reading_laws.specs.Steps.{AreBytes, Takes, IsFound, IsReadAgain, then_ok, then_read, value_ok, ok_is, renamed, parsed, part_then, bytes_behind, bytes_rest}
-use Rattle.reading_laws.specs.Lists.{u32_found, u32_again, read_u32_found}
+use Rattle.reading_laws.specs.Steps.{IsFound, IsReadAgain, then_ok, then_read, value_ok, ok_is, renamed, part_then, bytes_behind}
+use Rattle.reading_laws.specs.Lists.{u32_found, u32_again}
 use Rattle.reading_laws.specs.Types.{size_found, size_again}
 
 -- a run of so many bytes
@@ -121,12 +121,12 @@ export_entry_found functions earlier bytes x rest h e = then_ok (value_at (strin
               (record {
                 front = n.front ++ (k.front ++ i.front);
                 whole = part_then _ _ _ _ _ n.whole (part_then _ _ _ _ _ k.whole i.whole);
-                spelled = export_spelled functions earlier n.front k.front i.front name.0 kind.0 index.0 n.spelled k.spelled i.spelled fresh lt below
+                spelled = export_spelled functions earlier n.front k.front i.front name.0 kind.0 index.0 n.spelled k.spelled i.spelled fresh lt below;
               })
           | inr past ↦ absurd (let none = rw (fresh, lt-leb 1000000 (length earlier) lt, le-ltb index.0 functions past) at e3 in cc)
-          ]
-        | inr le ↦ absurd (let none = rw (fresh, le-leb 1000000 (length earlier) le) at e3 in cc)
         ]
+        | inr le ↦ absurd (let none = rw (fresh, le-leb 1000000 (length earlier) le) at e3 in cc)
+      ]
     ])))
 
 export_again : (functions : ℕ) (earlier : List Export) (front name : List ℕ) (item : Item) (rest : List ℕ) → SpellsExportEntry functions earlier front (record { name = name; item = item })

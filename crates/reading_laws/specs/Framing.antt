@@ -1,13 +1,13 @@
 -- Sections whatever they hold, and sections of vecs: found, and read again.
-use Rattle.std.proofs.Common.{◌≡◌, ℕ, zero, suc, ◌+◌, ◌-◌, ◌<◌, ◌≤◌, Bool, true, false, List, [], ◌∷◌, ◌++◌, length, take, drop, Option, Some, None, Result, Ok, Err, refl, sym, ap, subst, ◌∙◌, append_assoc, arith, ◌⊎◌, inl, inr}
+use Rattle.std.proofs.Common.{◌≡◌, ℕ, ◌-◌, ◌≤◌, false, List, [], ◌∷◌, ◌++◌, length, take, Option, Some, None, Ok, refl, sym, ap, subst, ◌∙◌, append_assoc, arith, inl, inr}
 use Rattle.std.specs.Prelude.{◌==◌, unwrap_or}
-use Rattle.std.proofs.lemmas.Bool.{cases_lt, cases_Bool, eqb-true, eq-eqb, ltb-true, lt-ltb, le-ltb, lt-leb, le-leb}
+use Rattle.std.proofs.lemmas.Bool.{cases_lt, cases_Bool, eqb-true, eq-eqb, lt-ltb, le-ltb}
 use Rattle.std.proofs.lemmas.List.{length-append, append-nil, nil_from_length, take_at, drop_at, take-append-drop, length-take, length-drop}
 use Rattle.wasm_reader.specs.Numbers.{unsigned_at}
-use Rattle.wasm_model.specs.Grammar.{Grammar, SpellsU32, SpellsVec, IsSection, SpellsSection}
-use Rattle.wasm_model.specs.Stop.{Stop, Parsing, value_at, vec_at}
+use Rattle.wasm_model.specs.Grammar.{Grammar, SpellsU32, SpellsVec, SpellsSection}
+use Rattle.wasm_model.specs.Stop.{Parsing, value_at, vec_at}
 use Rattle.wasm_model.specs.Sections.{contents_at, section_at}
-use Rattle.reading_laws.specs.Steps.{AreBytes, Takes, IsFound, IsReadAgain, then_ok, before_ok, value_ok, ok_is, renamed, part_then, bytes_behind, bytes_front, bytes_rest}
+use Rattle.reading_laws.specs.Steps.{AreBytes, Takes, IsFound, IsReadAgain, then_ok, before_ok, ok_is, part_then, bytes_behind, bytes_front, bytes_rest}
 use Rattle.reading_laws.specs.Lists.{u32_found, u32_again, AllAfter, vec_found, vec_again}
 
 -- a section whose contents parse as x to their end
@@ -41,7 +41,7 @@ contents_found {A} parsing size bytes x rest le e =
             contents = take size bytes;
             whole = sym (take-append-drop size bytes);
             sized = omega (arith, length-take size bytes);
-            parsed = rw length-drop (p ∙ ap (λ (w : List ℕ). Ok (y.0, w)) (nil_from_length y.1 (eqb-true _ _ ends)))
+            parsed = rw length-drop (p ∙ ap (λ (w : List ℕ). Ok (y.0, w)) (nil_from_length y.1 (eqb-true _ _ ends)));
           })
       | inr goes_on ↦ absurd (let none = rw goes_on at q in cc)
     ])
@@ -66,13 +66,13 @@ section_found {A} id parsing (b ∷ bytes) o rest h e =
             | inr le ↦ then_ok (contents_at parsing size.0 size.1) _ (o, rest) (rw (le-ltb _ _ le) at q) (λ x r t.
                 let c = contents_found parsing size.0 size.1 x.0 x.1 le r in
                 subst (λ (z : Option A × List ℕ). IsParsed id parsing (b ∷ bytes) z.0 z.1) (ok_is (Some x.0, x.1) (o, rest) t)
-                  (record {
-                    size = s.front;
-                    contents = c.contents;
-                    whole = ap (λ (x : ℕ). x ∷ bytes) (eqb-true b id is) ∙ ap (λ (w : List ℕ). id ∷ w) (part_then _ _ _ _ _ s.whole c.whole);
-                    sized = subst (λ (n : ℕ). SpellsU32 s.front n) (sym c.sized) s.spelled;
-                    parsed = c.parsed
-                  }))
+                (record {
+                  size = s.front;
+                  contents = c.contents;
+                  whole = ap (λ (x : ℕ). x ∷ bytes) (eqb-true b id is) ∙ ap (λ (w : List ℕ). id ∷ w) (part_then _ _ _ _ _ s.whole c.whole);
+                  sized = subst (λ (n : ℕ). SpellsU32 s.front n) (sym c.sized) s.spelled;
+                  parsed = c.parsed;
+                }))
           ])
       | inr other ↦ subst (λ (z : Option A × List ℕ). IsParsed id parsing (b ∷ bytes) z.0 z.1) (ok_is (None, b ∷ bytes) (o, rest) (rw other at e)) refl
     ]
@@ -113,7 +113,7 @@ vec_section_found id entry S R found bytes (Some xs) rest h s =
     record {
       front = id ∷ s.size ++ s.contents;
       whole = s.whole;
-      spelled = (inr (record { size = s.size; contents = s.contents; whole = refl; sized = s.sized; meant = subst (λ (w : List ℕ). SpellsVec S w xs) (sym (v.whole ∙ append-nil v.front)) v.spelled.0 }), v.spelled.1)
+      spelled = (inr (record { size = s.size; contents = s.contents; whole = refl; sized = s.sized; meant = subst (λ (w : List ℕ). SpellsVec S w xs) (sym (v.whole ∙ append-nil v.front)) v.spelled.0 }), v.spelled.1);
     }
 
 -- what comes of a section's list again
@@ -130,5 +130,5 @@ vec_section_again id entry S R again front xs rest (inl h, r) else = record { fo
 vec_section_again id entry S R again front xs rest (inr h, r) else = record {
   found = Some xs;
   reads = rw (h.whole) (section_again id (λ _. vec_at entry) h.size h.contents xs rest h.sized (rw append-nil at (vec_again entry S R again h.contents xs [] (h.meant, r))));
-  is = refl
+  is = refl;
 }

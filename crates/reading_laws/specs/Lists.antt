@@ -1,10 +1,10 @@
 -- Lists of entries: found, and read again, where an entry's parsing is.
-use Rattle.std.proofs.Common.{◌≡◌, ◌≢◌, ℕ, zero, suc, ◌+◌, ◌-◌, ◌^◌, ◌<◌, ◌≤◌, Bool, true, false, ltb, leb, List, [], ◌∷◌, ◌++◌, length, get_or, take, drop, Result, Ok, Err, refl, sym, ap, subst, ◌∙◌, append_assoc, arith, ◌⊎◌, inl, inr}
-use Rattle.std.proofs.lemmas.List.{length-append, append-nil}
+use Rattle.std.proofs.Common.{◌≡◌, ℕ, zero, suc, List, [], ◌∷◌, ◌++◌, length, Ok, refl, sym, ap, ◌∙◌, append_assoc}
+use Rattle.std.proofs.lemmas.List.{append-nil}
 use Rattle.wasm_reader.specs.declared.error.ErrorKind.TheVariants as kinds
-use Rattle.wasm_reader.specs.Numbers.{Spells, unsigned, unsigned_at}
+use Rattle.wasm_reader.specs.Numbers.{unsigned, unsigned_at}
 use Rattle.wasm_model.specs.Grammar.{Grammar, SpellsU32, SpellsEach, SpellsVec}
-use Rattle.wasm_model.specs.Stop.{Stop, Parsing, ◌>>=◌, value_at, entries_at, vec_at}
+use Rattle.wasm_model.specs.Stop.{Parsing, value_at, entries_at, vec_at}
 use Rattle.reading_laws.specs.Steps.{AreBytes, Takes, IsFound, IsReadAgain, then_ok, value_ok, ok_is, part_then, bytes_behind}
 use Rattle.reading_laws.specs.Numbers.{number_found, number_again}
 
@@ -43,7 +43,7 @@ entries_found {A} entry S R found zero earlier bytes all rest h e =
       joined = sym (ap (λ (p : List A × List ℕ). p.0) same) ∙ sym (append-nil earlier);
       counted = refl;
       taken = record { front = []; whole = ap (λ (p : List A × List ℕ). p.1) same; spelled = refl };
-      ruled = tt
+      ruled = tt;
     }
 entries_found {A} entry S R found (suc count) earlier bytes all rest h e =
     then_ok (entry earlier bytes) _ (all, rest) e (λ x p q.
@@ -56,9 +56,9 @@ entries_found {A} entry S R found (suc count) earlier bytes all rest h e =
       taken = record {
         front = t.front ++ more.taken.front;
         whole = part_then _ _ _ _ _ t.whole more.taken.whole;
-        spelled = (t.front, more.taken.front, refl, t.spelled.0, more.taken.spelled)
+        spelled = (t.front, more.taken.front, refl, t.spelled.0, more.taken.spelled);
       };
-      ruled = (t.spelled.1, more.ruled)
+      ruled = (t.spelled.1, more.ruled);
     })
 
 pub entries_again : {A : Type 0} (entry : List A → List ℕ → Parsing A) (S : Grammar A) (R : List A → A → Type 0)
@@ -86,7 +86,7 @@ vec_found entry S R found bytes xs rest h e =
     record {
       front = t.front ++ m.taken.front;
       whole = part_then _ _ _ _ _ t.whole m.taken.whole;
-      spelled = vec_front S R t.front m.taken.front n.0 m.items xs m.joined m.counted t.spelled m.taken.spelled m.ruled
+      spelled = vec_front S R t.front m.taken.front n.0 m.items xs m.joined m.counted t.spelled m.taken.spelled m.ruled;
     })
 
 pub vec_again : {A : Type 0} (entry : List A → List ℕ → Parsing A) (S : Grammar A) (R : List A → A → Type 0)

@@ -1,24 +1,24 @@
 -- Modules: what is parsed reads so, and what reads so is parsed.
-use Rattle.std.proofs.Common.{◌≡◌, ◌≢◌, ℕ, zero, suc, ◌+◌, ◌-◌, ◌^◌, ◌<◌, ◌≤◌, Bool, true, false, List, [], ◌∷◌, ◌++◌, length, take, drop, map, Option, Some, None, Result, Ok, Err, refl, sym, ap, subst, ◌∙◌, append_assoc, arith, ◌⊎◌, inl, inr}
-use Rattle.std.specs.Prelude.{◌==◌, ◌&&◌, nat_eq, nat_lt, is_none, unwrap_or, All, AllPairs}
+use Rattle.std.proofs.Common.{◌≡◌, ℕ, ◌^◌, ◌<◌, ◌≤◌, false, List, [], ◌∷◌, ◌++◌, length, take, drop, map, Option, Some, None, Ok, refl, sym, ap, subst, ◌∙◌, append_assoc, arith, inl, inr}
+use Rattle.std.specs.Prelude.{◌==◌, ◌&&◌, nat_eq, nat_lt, is_none, unwrap_or}
 use Rattle.std.specs.List.{AllByRecursion, starts_with}
-use Rattle.std.specs.Cmp.Lexicographic.{pointwise, same_text}
-use Rattle.std.proofs.lemmas.Bool.{cases_lt, cases_Bool, eqb-true, eq-eqb, ltb-true, ltb-false, lt-ltb, le-ltb, lt-leb, le-leb}
-use Rattle.std.proofs.lemmas.List.{length-append, append-nil, nil_from_length, take-append-drop, length-map}
+use Rattle.std.specs.Cmp.Lexicographic.{same_text}
+use Rattle.std.proofs.lemmas.Bool.{cases_Bool, ltb-false, le-ltb}
+use Rattle.std.proofs.lemmas.List.{append-nil, take-append-drop, length-map}
 use Rattle.std.proofs.lemmas.List.Elements.{All-from_recursion, recursion_from_All}
 use Rattle.wasm_model.specs.Features.{Features}
-use Rattle.wasm_model.specs.Grammar.{Grammar, SpellsU32, SpellsEach, SpellsVec, SpellsEachAt, IsSection, SpellsSection}
+use Rattle.wasm_model.specs.Grammar.{SpellsU32, SpellsEach, SpellsVec, SpellsSection}
 use Rattle.wasm_model.specs.Module.{Module, Function, FunctionType, Export, Item, FunctionItem, TypeItem}
-use Rattle.wasm_model.specs.Spells.{Code, code_of, SpellsItem, SpellsFunctionType, SpellsExport, SpellsCode, SpellsCodes, SpellsModule, header}
-use Rattle.wasm_model.specs.Rules.{IsItem, Nests, Fits, Rules, Reads}
-use Rattle.wasm_model.specs.Stop.{Stop, Parsing, vec_at}
+use Rattle.wasm_model.specs.Spells.{Code, code_of, SpellsItem, SpellsFunctionType, SpellsExport, SpellsCodes, header}
+use Rattle.wasm_model.specs.Rules.{IsItem, Nests, Rules, Reads}
+use Rattle.wasm_model.specs.Stop.{vec_at}
 use Rattle.wasm_model.specs.Sections.{Chunk, Chunks, no_chunks, Sections, type_entry, function_entry, export_entry, chunks_at, section_at, latest, end_at, sections_at, codes_at, functions_of, module_at}
-use Rattle.reading_laws.specs.Steps.{AreBytes, Takes, then_ok, ok_is, bytes_behind, bytes_front}
+use Rattle.reading_laws.specs.Steps.{AreBytes, Takes, then_ok, ok_is, bytes_behind}
 use Rattle.reading_laws.specs.Types.{IsTypeEntry, IsFunctionEntry, type_entry_found, type_entry_again, function_entry_found, function_entry_again}
 use Rattle.reading_laws.specs.Exports.{IsExportEntry, IsBelow, export_entry_found, export_entry_again}
-use Rattle.reading_laws.specs.Lists.{AllAfter, u32_found, u32_again}
+use Rattle.reading_laws.specs.Lists.{AllAfter}
 use Rattle.reading_laws.specs.Framing.{IsElse, SpellsRuled, section_found, vec_section_found, vec_section_again, else_section}
-use Rattle.reading_laws.specs.Codes.{SpellsChunks, ChunkSection, chunk_section_found, ReadsChunks, chunk_section_again, codes_found, codes_again}
+use Rattle.reading_laws.specs.Codes.{SpellsChunks, ChunkSection, chunk_section_found, chunk_section_again, codes_found, codes_again}
 use Rattle.reading_laws.specs.Ruled.{after_all, count_within, types_after, functions_after, distinct_after, exports_after, types_of_functions, codes_of_functions, functions_of_parts, typed_all, all_typed, coded_all, all_coded}
 
 -- a u32 as an entry of the function section
@@ -79,7 +79,7 @@ sections_found bytes s h e = then_ok (section_at 1 (λ _. vec_at type_entry) byt
             spells_functions = f.spelled;
             spells_exports = x.spelled;
             spells_chunks = c.taken.spelled;
-            counted = chunks_counted bodies exports.1 chunks.0 chunks.1 c there
+            counted = chunks_counted bodies exports.1 chunks.0 chunks.1 c there;
           })
     ])))))
 
@@ -102,7 +102,7 @@ code_section_found features left front chunks codes h (inr s) e =
     record {
       spelled = inr (record { size = s.size; contents = s.contents; whole = s.whole; sized = s.sized; meant = (m.0, m.1, m.2, subst (λ (n : ℕ). SpellsU32 m.0 n) (sym c.2) m.3, c.0) });
       nested = c.1;
-      counted = c.2
+      counted = c.2;
     }
 
 pub record CodesAgain (features : Features) (front : List ℕ) (codes : List Code) : Type 0 where
@@ -121,7 +121,7 @@ code_section_again features front codes (inr s) n =
       chunks = c.chunks;
       spelled = inr (record { size = s.size; contents = s.contents; whole = s.whole; sized = s.sized; meant = (m.0, m.1, m.2, subst (λ (n : ℕ). SpellsU32 m.0 n) (sym c.counted) m.3, c.spelled) });
       counted = c.counted;
-      reads = c.reads
+      reads = c.reads;
     }
 
 -- what the sections and the bodies make
@@ -139,7 +139,7 @@ made_reads features bytes tail s codes short whole p c =
     let codes-are : map code_of (functions_of s.functions codes) ≡ codes = codes_of_functions s.functions codes counted in
     let same : length (functions_of s.functions codes) ≡ length s.functions = sym (length-map (functions_of s.functions codes) (λ f. f.type_)) ∙ ap length types-are in
     let items : AllByRecursion (λ e. IsItem (made s codes) e.item) s.exports =
-          after_all (IsExportEntry (length s.functions)) (λ e. IsItem (made s codes) e.item) (λ _ e h. below_is_item s codes same e.item h.present) [] s.exports p.spells_exports.1 in
+    after_all (IsExportEntry (length s.functions)) (λ e. IsItem (made s codes) e.item) (λ _ e h. below_is_item s codes same e.item h.present) [] s.exports p.spells_exports.1 in
     let typed : AllByRecursion (λ t. t < length s.types) s.functions = after_all (IsFunctionEntry (length s.types)) (λ t. t < length s.types) (λ _ t h. h.typed) [] s.functions p.spells_functions.1 in
     record {
       short = short;
@@ -152,7 +152,7 @@ made_reads features bytes tail s codes short whole p c =
         spells_types = p.spells_types.0;
         spells_functions = subst (λ (l : List ℕ). SpellsSection 3 (SpellsVec SpellsU32) p.functions l) (sym types-are) p.spells_functions.0;
         spells_exports = p.spells_exports.0;
-        spells_codes = subst (λ (l : List Code). SpellsSection 10 SpellsCodes p.codes l) (sym codes-are) c.spelled
+        spells_codes = subst (λ (l : List Code). SpellsSection 10 SpellsCodes p.codes l) (sym codes-are) c.spelled;
       };
       rules = record {
         typed = All-from_recursion (λ (f : Function). f.type_ < length s.types) (functions_of s.functions codes)
@@ -167,9 +167,9 @@ made_reads features bytes tail s codes short whole p c =
           exports = count_within (IsExportEntry (length s.functions)) 1000000 (λ _ t h. h.counted) s.exports p.spells_exports.1;
           params = All-from_recursion (λ (t : FunctionType). length t.params ≤ 1000) s.types (after_all IsTypeEntry (λ t. length t.params ≤ 1000) (λ _ t h. h.params) [] s.types p.spells_types.1);
           results = All-from_recursion (λ (t : FunctionType). length t.results ≤ 1000) s.types (after_all IsTypeEntry (λ t. length t.results ≤ 1000) (λ _ t h. h.results) [] s.types p.spells_types.1);
-          names = All-from_recursion (λ (e : Export). length e.name ≤ 100000) s.exports (after_all (IsExportEntry (length s.functions)) (λ e. length e.name ≤ 100000) (λ _ e h. h.named) [] s.exports p.spells_exports.1)
-        }
-      }
+          names = All-from_recursion (λ (e : Export). length e.name ≤ 100000) s.exports (after_all (IsExportEntry (length s.functions)) (λ e. length e.name ≤ 100000) (λ _ e h. h.named) [] s.exports p.spells_exports.1);
+        };
+      };
     }
 
 -- what is parsed reads so
@@ -184,8 +184,8 @@ module_found features bytes m short h e =
           let parts = sections_found (drop 8 bytes) s tail p in
           let inner = subst AreBytes (parts.whole ∙ sym (append_assoc parts.types parts.functions (parts.exports ++ parts.codes)) ∙ sym (append_assoc (parts.types ++ parts.functions) parts.exports parts.codes)) tail in
           subst (λ (z : Module). Reads features bytes z) (ok_is _ _ e2)
-            (made_reads features bytes (drop 8 bytes) s codes short whole parts
-              (code_section_found features s.chunks.left parts.codes s.chunks.bodies codes (bytes_behind ((parts.types ++ parts.functions) ++ parts.exports) parts.codes _ refl inner) parts.spells_chunks q))))
+          (made_reads features bytes (drop 8 bytes) s codes short whole parts
+          (code_section_found features s.chunks.left parts.codes s.chunks.bodies codes (bytes_behind ((parts.types ++ parts.functions) ++ parts.exports) parts.codes _ refl inner) parts.spells_chunks q))))
       | inr other ↦ absurd (let none = rw other at e in cc)
     ]
 
@@ -225,19 +225,19 @@ sections_again t f e c types functions exports chunks s1 s2 s3 s4 same =
     let r4 = chunk_section_again c chunks [] s4 tt in
     all_four t f e c types functions exports chunks r1.found r2.found r3.found r4.found r1.is r2.is r3.is r4.is same r4.missing r1.reads r2.reads r3.reads (rw append-nil at r4.reads)
   where
-  all_four : (t f e c : List ℕ) (types : List FunctionType) (functions : List ℕ) (exports : List Export) (chunks : List Chunk)
-      (o1 : Option (List FunctionType)) (o2 : Option (List ℕ)) (o3 : Option (List Export)) (o4 : Option Chunks)
-      → unwrap_or o1 [] ≡ types → unwrap_or o2 [] ≡ functions → unwrap_or o3 [] ≡ exports → (unwrap_or o4 no_chunks).bodies ≡ chunks → length chunks ≡ length functions → (o4 ≡ None → chunks ≡ [])
-      → section_at 1 (λ _. vec_at type_entry) (t ++ (f ++ (e ++ c))) ≡ Ok (o1, f ++ (e ++ c))
-      → section_at 3 (λ _. vec_at (function_entry (length types))) (f ++ (e ++ c)) ≡ Ok (o2, e ++ c)
-      → section_at 7 (λ _. vec_at (export_entry (length functions))) (e ++ c) ≡ Ok (o3, c)
-      → section_at 10 (chunks_at (length chunks)) c ≡ Ok (o4, [])
-      → ReadsSections (t ++ (f ++ (e ++ c))) types functions exports chunks
-  all_four t f e c types functions exports chunks o1 o2 o3 o4 i1 i2 i3 i4 same missing p1 p2 p3 p4 = record {
-    found = unwrap_or o4 no_chunks;
-    reads = rw (← i1, ← i2, ← i3) (sections_joined (t ++ (f ++ (e ++ c))) (f ++ (e ++ c)) (e ++ c) c o1 o2 o3 o4 p1 (rw i1 p2) (rw i2 p3) (rw (i2, ← same) p4) (rw i2 (not_missing o4 chunks functions same missing)));
-    is = i4
-  }
+    all_four : (t f e c : List ℕ) (types : List FunctionType) (functions : List ℕ) (exports : List Export) (chunks : List Chunk)
+        (o1 : Option (List FunctionType)) (o2 : Option (List ℕ)) (o3 : Option (List Export)) (o4 : Option Chunks)
+        → unwrap_or o1 [] ≡ types → unwrap_or o2 [] ≡ functions → unwrap_or o3 [] ≡ exports → (unwrap_or o4 no_chunks).bodies ≡ chunks → length chunks ≡ length functions → (o4 ≡ None → chunks ≡ [])
+        → section_at 1 (λ _. vec_at type_entry) (t ++ (f ++ (e ++ c))) ≡ Ok (o1, f ++ (e ++ c))
+        → section_at 3 (λ _. vec_at (function_entry (length types))) (f ++ (e ++ c)) ≡ Ok (o2, e ++ c)
+        → section_at 7 (λ _. vec_at (export_entry (length functions))) (e ++ c) ≡ Ok (o3, c)
+        → section_at 10 (chunks_at (length chunks)) c ≡ Ok (o4, [])
+        → ReadsSections (t ++ (f ++ (e ++ c))) types functions exports chunks
+    all_four t f e c types functions exports chunks o1 o2 o3 o4 i1 i2 i3 i4 same missing p1 p2 p3 p4 = record {
+      found = unwrap_or o4 no_chunks;
+      reads = rw (← i1, ← i2, ← i3) (sections_joined (t ++ (f ++ (e ++ c))) (f ++ (e ++ c)) (e ++ c) c o1 o2 o3 o4 p1 (rw i1 p2) (rw i2 p3) (rw (i2, ← same) p4) (rw i2 (not_missing o4 chunks functions same missing)));
+      is = i4;
+    }
 
 -- what the rules say of each entry again
 types_ruled : (features : Features) (m : Module) → Rules features m → AllAfter IsTypeEntry [] m.types
@@ -253,9 +253,9 @@ exports_below : (m : Module) (functions : ℕ) → functions ≡ length m.functi
 exports_below m functions same bytes [] s h = tt
 exports_below m functions same bytes (e ∷ es) s h = (item_below e.item s.3.1 s.3.4 h.0, exports_below m functions same s.1 es s.4 h.1)
   where
-  item_below : (item : Item) (front : List ℕ) → SpellsItem front item → IsItem m item → IsBelow functions item
-  item_below (FunctionItem f) front s h = rw same h
-  item_below (TypeItem t) front s h = absurd s
+    item_below : (item : Item) (front : List ℕ) → SpellsItem front item → IsItem m item → IsBelow functions item
+    item_below (FunctionItem f) front s h = rw same h
+    item_below (TypeItem t) front s h = absurd s
 
 exports_ruled : (features : Features) (m : Module) (functions : ℕ) → functions ≡ length m.functions → (front : List ℕ) → SpellsSection 7 (SpellsVec SpellsExport) front m.exports → Rules features m → AllAfter (IsExportEntry functions) [] m.exports
 exports_ruled features m functions same front (inl s) r = rw s.1 tt
@@ -273,13 +273,13 @@ module_again features bytes m r =
     let count : length types ≡ length m.functions = length-map m.functions (λ f. f.type_) in
     let codes = code_section_again features s.codes (map code_of m.functions) s.spells_codes (all_coded (λ c. Nests c.body) m.functions (recursion_from_All (λ (f : Function). Nests f.body) m.functions r.rules.nested)) in
     let sections = sections_again s.types s.functions s.exports s.codes m.types types m.exports codes.chunks
-          (s.spells_types, types_ruled features m r.rules) (s.spells_functions, functions_ruled features m r.rules)
-          (s.spells_exports, exports_ruled features m (length types) count s.exports s.spells_exports r.rules) codes.spelled (codes.counted ∙ length-map m.functions code_of ∙ sym count) in
+    (s.spells_types, types_ruled features m r.rules) (s.spells_functions, functions_ruled features m r.rules)
+    (s.spells_exports, exports_ruled features m (length types) count s.exports s.spells_exports r.rules) codes.spelled (codes.counted ∙ length-map m.functions code_of ∙ sym count) in
     parts_make m bytes s.types s.functions s.exports s.codes s.whole codes.chunks sections.found sections.reads sections.is codes.reads
   where
-  parts_make : (m : Module) (bytes t f e c : List ℕ) → bytes ≡ header ++ (t ++ (f ++ (e ++ c))) → (chunks : List Chunk) (found : Chunks)
-      → sections_at (t ++ (f ++ (e ++ c))) ≡ Ok (record { types = m.types; functions = map (λ f. f.type_) m.functions; exports = m.exports; chunks = found })
-      → found.bodies ≡ chunks → ((left : ℕ) → codes_at features left chunks ≡ Ok (map code_of m.functions)) → module_at features bytes ≡ Ok m
-  parts_make m bytes t f e c whole chunks found p same reads =
-      let bodies : codes_at features found.left found.bodies ≡ Ok (map code_of m.functions) = rw same (reads found.left) in
-      rw (whole, p, bodies, functions_of_parts m.functions) refl
+    parts_make : (m : Module) (bytes t f e c : List ℕ) → bytes ≡ header ++ (t ++ (f ++ (e ++ c))) → (chunks : List Chunk) (found : Chunks)
+        → sections_at (t ++ (f ++ (e ++ c))) ≡ Ok (record { types = m.types; functions = map (λ f. f.type_) m.functions; exports = m.exports; chunks = found })
+        → found.bodies ≡ chunks → ((left : ℕ) → codes_at features left chunks ≡ Ok (map code_of m.functions)) → module_at features bytes ≡ Ok m
+    parts_make m bytes t f e c whole chunks found p same reads =
+        let bodies : codes_at features found.left found.bodies ≡ Ok (map code_of m.functions) = rw same (reads found.left) in
+        rw (whole, p, bodies, functions_of_parts m.functions) refl

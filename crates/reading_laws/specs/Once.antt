@@ -1,5 +1,5 @@
 -- Bytes read as one module, or stop, and not both.
-use Rattle.std.proofs.Common.{◌≡◌, ℕ, ◌+◌, ◌-◌, ◌^◌, ◌<◌, ◌≤◌, List, length, Result, Ok, Err, refl, sym, ◌∙◌, arith}
+use Rattle.std.proofs.Common.{◌≡◌, ℕ, List, Result, Ok, Err, sym, ◌∙◌, arith}
 use Rattle.wasm_model.specs.declared.fault.Fault.{Fault}
 use Rattle.wasm_model.specs.declared.fault.Fault.TheVariants as faults
 use Rattle.wasm_model.specs.Features.{Features}

@@ -1,14 +1,14 @@
 -- The rules of each entry as it is parsed, and the rules of a module.
-use Rattle.std.proofs.Common.{◌≡◌, ◌≢◌, ℕ, zero, suc, ◌+◌, ◌-◌, ◌<◌, ◌≤◌, Bool, true, false, List, [], ◌∷◌, ◌++◌, length, get_or, map, refl, sym, ap, subst, ◌∙◌, append_assoc, arith, ◌⊎◌, inl, inr}
-use Rattle.std.specs.Prelude.{nat_eq, All, AllPairs}
+use Rattle.std.proofs.Common.{◌≡◌, ◌≢◌, ℕ, ◌+◌, ◌<◌, ◌≤◌, false, List, [], ◌∷◌, ◌++◌, length, get_or, map, refl, sym, ap, subst, append_assoc, arith, inl, inr}
+use Rattle.std.specs.Prelude.{AllPairs}
 use Rattle.std.specs.List.{AllByRecursion, list_any}
-use Rattle.std.specs.Cmp.Lexicographic.{pointwise, same_text, other_text}
+use Rattle.std.specs.Cmp.Lexicographic.{same_text, other_text}
 use Rattle.std.proofs.lemmas.Bool.{cases_Bool}
 use Rattle.std.proofs.lemmas.List.{length-append, append-nil, get_or_append_left}
 use Rattle.std.proofs.lemmas.List.Folds.{list_any_none, list_any_at}
 use Rattle.std.proofs.lemmas.List.Quantifiers.{all_pairs_push}
 use Rattle.std.proofs.Math.Seq.{get_or-append_seam}
-use Rattle.wasm_model.specs.Module.{Function, FunctionType, Export, Item, FunctionItem, TypeItem}
+use Rattle.wasm_model.specs.Module.{Function, FunctionType, Export}
 use Rattle.wasm_model.specs.Spells.{Code, code_of}
 use Rattle.wasm_model.specs.Sections.{same_name, functions_of}
 use Rattle.reading_laws.specs.Lists.{AllAfter}
@@ -57,7 +57,7 @@ pub distinct_after : (functions : ℕ) (earlier es : List Export) → AllPairs (
 distinct_after functions earlier [] pairs h = rw append-nil pairs
 distinct_after functions earlier (e ∷ es) pairs h =
     subst (λ (l : List Export). AllPairs (λ d e. d.name ≢ e.name) l) (append_assoc earlier (e ∷ []) es)
-      (distinct_after functions (earlier ++ e ∷ []) es (all_pairs_push (λ d e. d.name ≢ e.name) earlier e pairs (λ k d lt. fresh_name earlier e.name k d h.0.fresh lt)) h.1)
+    (distinct_after functions (earlier ++ e ∷ []) es (all_pairs_push (λ d e. d.name ≢ e.name) earlier e pairs (λ k d lt. fresh_name earlier e.name k d h.0.fresh lt)) h.1)
 
 is_fresh : (earlier : List Export) (e : Export) (es : List Export) → AllPairs (λ d e. d.name ≢ e.name) (earlier ++ e ∷ es) → list_any (λ d. same_name d.name e.name) earlier ≡ false
 is_fresh earlier e es pairs = list_any_none (λ (d : Export). same_name d.name e.name) earlier (λ k d lt.
@@ -66,18 +66,19 @@ is_fresh earlier e es pairs = list_any_none (λ (d : Export). same_name d.name e
       | inr not ↦ not
     ])
   where
-  different : (k : ℕ) (d : Export) → k < length earlier → (get_or earlier k d).name ≢ e.name
-  different k d lt =
-      let apart = pairs k (length earlier) d lt (omega (arith, length-append earlier (e ∷ es))) in
-      rw (get_or_append_left earlier (e ∷ es) d k lt, get_or-append_seam earlier e es d) at apart
+    different : (k : ℕ) (d : Export) → k < length earlier → (get_or earlier k d).name ≢ e.name
+    different k d lt =
+        let apart = pairs k (length earlier) d lt (omega (arith, length-append earlier (e ∷ es))) in
+        rw (get_or_append_left earlier (e ∷ es) d k lt, get_or-append_seam earlier e es d) at apart
 
 pub exports_after : (functions : ℕ) (earlier es : List Export) → length earlier + length es ≤ 1000000 → AllByRecursion (λ e. length e.name ≤ 100000) es → AllByRecursion (λ e. IsBelow functions e.item) es
     → AllPairs (λ d e. d.name ≢ e.name) (earlier ++ es) → AllAfter (IsExportEntry functions) earlier es
 exports_after functions earlier [] le n p pairs = tt
 exports_after functions earlier (e ∷ es) le n p pairs =
-    let longer : length (earlier ++ e ∷ []) ≡ length earlier + 1 = length-append earlier (e ∷ []) in
-    (record { named = n.0; fresh = is_fresh earlier e es pairs; counted = omega arith; present = p.0 },
-      exports_after functions (earlier ++ e ∷ []) es (omega arith) n.1 p.1 (subst (λ (l : List Export). AllPairs (λ d e. d.name ≢ e.name) l) (sym (append_assoc earlier (e ∷ []) es)) pairs))
+    let longer : length (earlier ++ e ∷ []) ≡ length earlier + 1 = length-append earlier (e ∷ []) in (
+      record { named = n.0; fresh = is_fresh earlier e es pairs; counted = omega arith; present = p.0 },
+      exports_after functions (earlier ++ e ∷ []) es (omega arith) n.1 p.1 (subst (λ (l : List Export). AllPairs (λ d e. d.name ≢ e.name) l) (sym (append_assoc earlier (e ∷ []) es)) pairs),
+    )
 
 -- functions of types and bodies
 pub types_of_functions : (ts : List ℕ) (cs : List Code) → length cs ≡ length ts → map (λ f. f.type_) (functions_of ts cs) ≡ ts

@@ -1,7 +1,7 @@
 -- Types and the entries of the type and function sections: found, and read again.
-use Rattle.std.proofs.Common.{◌≡◌, ℕ, zero, suc, ◌+◌, ◌-◌, ◌<◌, ◌≤◌, Bool, true, false, List, [], ◌∷◌, ◌++◌, length, Result, Ok, Err, refl, sym, ap, ◌∙◌, append_assoc, arith, ◌⊎◌, inl, inr}
+use Rattle.std.proofs.Common.{◌≡◌, ℕ, ◌<◌, ◌≤◌, List, [], ◌∷◌, ◌++◌, length, refl, ap, ◌∙◌, append_assoc, inl, inr}
 use Rattle.std.specs.Prelude.{◌==◌}
-use Rattle.std.proofs.lemmas.Bool.{cases_lt, cases_Bool, eqb-true, ltb-true, lt-ltb, le-ltb, lt-leb, le-leb}
+use Rattle.std.proofs.lemmas.Bool.{cases_lt, cases_Bool, eqb-true, lt-ltb, le-ltb, lt-leb, le-leb}
 use Rattle.wasm_reader.specs.Numbers.{unsigned_at}
 use Rattle.wasm_reader.specs.Text.{size_at}
 use Rattle.wasm_model.specs.declared.types.ValType.{ValType}
@@ -9,10 +9,9 @@ use Rattle.wasm_model.specs.declared.types.ValType.TheVariants.{I32, I64, F32, F
 use Rattle.wasm_model.specs.Grammar.{Grammar, SpellsU32, SpellsEach, SpellsVec}
 use Rattle.wasm_model.specs.Module.{FunctionType}
 use Rattle.wasm_model.specs.Spells.{SpellsValueType, SpellsFunctionType}
-use Rattle.wasm_model.specs.Stop.{Stop, Parsing, value_at, entries_at}
+use Rattle.wasm_model.specs.Stop.{Parsing, value_at}
 use Rattle.wasm_model.specs.Sections.{value_type_at, value_types_at, function_type_at, type_entry, function_entry}
-use Rattle.reading_laws.specs.Steps.{AreBytes, Takes, IsFound, IsReadAgain, then_ok, then_read, value_ok, ok_is, renamed, taken_byte, part_then, bytes_behind, bytes_rest}
-use Rattle.reading_laws.specs.Numbers.{number_found, number_again}
+use Rattle.reading_laws.specs.Steps.{IsFound, IsReadAgain, then_ok, then_read, value_ok, ok_is, renamed, taken_byte, part_then, bytes_behind, bytes_rest}
 use Rattle.reading_laws.specs.Lists.{u32_found, u32_again, read_u32_found, AllAfter, entries_found, entries_again, vec_front}
 
 -- a length or a count within a limit
@@ -44,10 +43,10 @@ value_type_found (b ∷ bytes) t rest h e =
             | inr not7c ↦ elim (cases_Bool (b == 0x7b)) [
               | inl is ↦ taken_byte SpellsValueType b 0x7b bytes V128 (t, rest) is refl (rw (not7f, not7e, not7d, not7c, is) at e)
               | inr not7b ↦ absurd (let none = rw (not7f, not7e, not7d, not7c, not7b) at e in cc)
-              ]
             ]
           ]
         ]
+      ]
     ]
 
 pub value_type_again : IsReadAgain value_type_at SpellsValueType
@@ -86,17 +85,17 @@ value_types_found bytes ts rest h e = then_ok (value_at (size_at 1000 bytes)) _ 
     record {
       front = t.front ++ m.taken.front;
       whole = part_then _ _ _ _ _ t.whole m.taken.whole;
-      spelled = limited t.front m.taken.front n.0 m.items ts m.joined m.counted t.spelled m.taken.spelled m.ruled
+      spelled = limited t.front m.taken.front n.0 m.items ts m.joined m.counted t.spelled m.taken.spelled m.ruled;
     })
   where
-  limited : (count front : List ℕ) (n : ℕ) (xs all : List ValType) → all ≡ xs → length xs ≡ n → SpellsU32 count n × (n ≤ 1000) → SpellsEach SpellsValueType front xs → AllAfter no_rule [] xs → SpellsValueTypes (count ++ front) all
-  limited count front n xs all joined counted c s r = ((vec_front SpellsValueType no_rule count front n xs all joined counted c.0 s r).0, rw (joined, counted) c.1)
+    limited : (count front : List ℕ) (n : ℕ) (xs all : List ValType) → all ≡ xs → length xs ≡ n → SpellsU32 count n × (n ≤ 1000) → SpellsEach SpellsValueType front xs → AllAfter no_rule [] xs → SpellsValueTypes (count ++ front) all
+    limited count front n xs all joined counted c s r = ((vec_front SpellsValueType no_rule count front n xs all joined counted c.0 s r).0, rw (joined, counted) c.1)
 
 pub value_types_again : IsReadAgain value_types_at SpellsValueTypes
 unfolding value_types_at
 value_types_again front ts rest s =
     rw (s.0.2, append_assoc s.0.0 s.0.1 rest, size_again 1000 s.0.0 (length ts) (s.0.1 ++ rest) (s.0.3, s.1))
-      (entries_again (λ _. value_type_at) SpellsValueType no_rule (free_again value_type_at SpellsValueType value_type_again) ts [] s.0.1 rest s.0.4 (all_free [] ts))
+    (entries_again (λ _. value_type_at) SpellsValueType no_rule (free_again value_type_at SpellsValueType value_type_again) ts [] s.0.1 rest s.0.4 (all_free [] ts))
 
 -- a function type, and its limits
 abbrev pub SpellsLimitedType : Grammar FunctionType
@@ -108,14 +107,14 @@ function_type_found [] t rest h e = absurd cc
 function_type_found (b ∷ bytes) t rest h e =
     elim (cases_Bool (b == 0x60)) [
       | inl is ↦ then_ok (value_types_at bytes) _ (t, rest) (rw is at e) (λ params p e1.
-        let f = value_types_found bytes params.0 params.1 (bytes_rest b bytes h) p in
-        then_ok (value_types_at params.1) _ (t, rest) e1 (λ results q e2.
-        let g = value_types_found params.1 results.0 results.1 (bytes_behind f.front params.1 bytes f.whole (bytes_rest b bytes h)) q in
-        renamed SpellsLimitedType (b ∷ bytes) (record { params = params.0; results = results.0 }, results.1) (t, rest) (ok_is _ _ e2)
+          let f = value_types_found bytes params.0 params.1 (bytes_rest b bytes h) p in
+          then_ok (value_types_at params.1) _ (t, rest) e1 (λ results q e2.
+          let g = value_types_found params.1 results.0 results.1 (bytes_behind f.front params.1 bytes f.whole (bytes_rest b bytes h)) q in
+          renamed SpellsLimitedType (b ∷ bytes) (record { params = params.0; results = results.0 }, results.1) (t, rest) (ok_is _ _ e2)
           (record {
             front = 0x60 ∷ (f.front ++ g.front);
             whole = ap (λ (x : ℕ). x ∷ bytes) (eqb-true b 0x60 is) ∙ ap (λ (w : List ℕ). 0x60 ∷ w) (part_then _ _ _ _ _ f.whole g.whole);
-            spelled = ((f.front, g.front, refl, f.spelled.0, g.spelled.0), f.spelled.1, g.spelled.1)
+            spelled = ((f.front, g.front, refl, f.spelled.0, g.spelled.0), f.spelled.1, g.spelled.1);
           })))
       | inr other ↦ absurd (let none = rw other at e in cc)
     ]
@@ -160,7 +159,7 @@ function_entry_found types earlier bytes t rest h e = then_ok (value_at (unsigne
         | inl lt ↦ renamed (λ front t. SpellsU32 front t × IsFunctionEntry types earlier t) bytes x (t, rest) (ok_is _ _ (rw (lt-leb types x.0 below, lt-ltb (length earlier) 1000000 lt) at q))
             (record { front = f.front; whole = f.whole; spelled = (f.spelled, record { counted = lt; typed = below }) })
         | inr le ↦ absurd (let none = rw (lt-leb types x.0 below, le-ltb (length earlier) 1000000 le) at q in cc)
-        ]
+      ]
       | inr past ↦ absurd (let none = rw (le-leb types x.0 past) at q in cc)
     ])
 
