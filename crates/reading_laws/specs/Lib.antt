@@ -10,3 +10,4 @@ pub mod Ruled
 pub mod Modules
 pub mod Laws
 pub mod Once
+pub mod Worked

@@ -3,6 +3,7 @@
 #![tactic(auto)]
 
 ghost use Rattle.reading_laws.specs.Laws.{ParsedReads, ReadIsParsed, ReadsOnce, StopsNeverRead};
+ghost use Rattle.reading_laws.specs.Worked.{ExampleReads, PrefixesStop, DanglingStops};
 
 /// What is parsed as a module reads as that module.
 pub fn parsed_reads()
@@ -23,3 +24,22 @@ pub fn reads_once()
 pub fn stops_never_read()
     ensures { StopsNeverRead }
 {}
+
+/// A worked module reads as what it is.
+pub fn example_reads()
+    ensures { ExampleReads }
+{
+}
+
+/// Its prefixes stop where bytes are missing, a section is longer than the file or the bodies
+/// are missing.
+pub fn prefixes_stop()
+    ensures { PrefixesStop }
+{
+}
+
+/// An export of a function that isn't there stops at the function's number.
+pub fn dangling_stops()
+    ensures { DanglingStops }
+{
+}
