@@ -11,3 +11,4 @@ pub mod Modules
 pub mod Laws
 pub mod Once
 pub mod Worked
+pub mod Places

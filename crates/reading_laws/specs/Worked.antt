@@ -7,7 +7,6 @@ use Rattle.wasm_reader.specs.Numbers.{number_at}
 use Rattle.wasm_reader.specs.Text.{size_at, text_at, string_at}
 use Rattle.wasm_model.specs.Stop.{vec_at, entries_at}
 use Rattle.wasm_model.specs.Bodies.{operator_at, operators_at, code_at}
-use Rattle.wasm_reader.specs.declared.error.Error.{Error}
 use Rattle.wasm_reader.specs.declared.error.ErrorKind.TheVariants as kinds
 use Rattle.wasm_model.specs.declared.fault.Fault.{Fault}
 use Rattle.wasm_model.specs.declared.fault.Fault.TheVariants as faults
@@ -24,10 +23,10 @@ example =
 
 abbrev pub example_module : Module
 example_module = record {
-    types = record { params = []; results = [] } ∷ [];
-    functions = record { type_ = 0; locals = []; body = (Nop, 3) ∷ (End, 4) ∷ [] } ∷ [];
-    exports = record { name = 0x66 ∷ []; item = FunctionItem 0 } ∷ []
-  }
+  types = record { params = []; results = [] } ∷ [];
+  functions = record { type_ = 0; locals = []; body = (Nop, 3) ∷ (End, 4) ∷ [] } ∷ [];
+  exports = record { name = 0x66 ∷ []; item = FunctionItem 0 } ∷ [];
+}
 
 -- an export of a function that isn't there
 abbrev pub dangling : List ℕ
@@ -68,13 +67,13 @@ dangling_stops features = (omega arith, omega arith, refl)
 pub prefixes_stop : PrefixesStop
 unfolding module_at sections_at section_at contents_at chunks_at export_entry function_entry type_entry function_type_at value_types_at kind_at vec_at entries_at number_at size_at text_at string_at is_utf8 chars encode
 prefixes_stop features = (
-    (omega arith, omega arith, refl),
-    (omega arith, omega arith, refl),
-    (omega arith, omega arith, refl),
-    (omega arith, omega arith, refl),
-    (omega arith, omega arith, refl),
-    (omega arith, omega arith, refl),
-    (omega arith, omega arith, refl),
-    (omega arith, omega arith, refl),
-    (omega arith, omega arith, refl)
-  )
+  (omega arith, omega arith, refl),
+  (omega arith, omega arith, refl),
+  (omega arith, omega arith, refl),
+  (omega arith, omega arith, refl),
+  (omega arith, omega arith, refl),
+  (omega arith, omega arith, refl),
+  (omega arith, omega arith, refl),
+  (omega arith, omega arith, refl),
+  (omega arith, omega arith, refl),
+)

@@ -28,18 +28,15 @@ pub fn stops_never_read()
 /// A worked module reads as what it is.
 pub fn example_reads()
     ensures { ExampleReads }
-{
-}
+{}
 
 /// Its prefixes stop where bytes are missing, a section is longer than the file or the bodies
 /// are missing.
 pub fn prefixes_stop()
     ensures { PrefixesStop }
-{
-}
+{}
 
 /// An export of a function that isn't there stops at the function's number.
 pub fn dangling_stops()
     ensures { DanglingStops }
-{
-}
+{}
