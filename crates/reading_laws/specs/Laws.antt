@@ -1,5 +1,5 @@
 -- The two definitions of reading are one: the grammar with its rules, and parsing from left to right.
-use Rattle.std.specs.Prelude.{ℕ, ◌≤◌, ◌^◌, ◌≡◌, List, length, Ok}
+use Rattle.std.specs.Prelude.{ℕ, ◌≤◌, ◌^◌, ◌≡◌, ◌⊎◌, List, length, Ok}
 use Rattle.wasm_model.specs.declared.fault.Fault.{Fault}
 use Rattle.wasm_model.specs.Features.{Features}
 use Rattle.wasm_model.specs.Module.{Module}
@@ -22,3 +22,11 @@ ReadsOnce = (features : Features) (bytes : List ℕ) (m n : Module) → Reads fe
 -- bytes that stop don't read
 abbrev pub StopsNeverRead : Type 0
 StopsNeverRead = (features : Features) (bytes : List ℕ) (fault : Fault) (m : Module) → Stops features bytes fault → Reads features bytes m → ⊥
+
+-- bytes stop with one fault at most
+abbrev pub StopsOnce : Type 0
+StopsOnce = (features : Features) (bytes : List ℕ) (f g : Fault) → Stops features bytes f → Stops features bytes g → f ≡ g
+
+-- bytes read as a module, or stop
+abbrev pub ReadOrStop : Type 0
+ReadOrStop = (features : Features) (bytes : List ℕ) → AreBytes bytes → ((m : Module) × Reads features bytes m) ⊎ ((fault : Fault) × Stops features bytes fault)

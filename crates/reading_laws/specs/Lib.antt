@@ -12,3 +12,4 @@ pub mod Laws
 pub mod Once
 pub mod Worked
 pub mod Places
+pub mod Stopping

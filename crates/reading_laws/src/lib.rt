@@ -2,7 +2,7 @@
 //! right, say of the same bytes that they are the same module.
 #![tactic(auto)]
 
-ghost use Rattle.reading_laws.specs.Laws.{ParsedReads, ReadIsParsed, ReadsOnce, StopsNeverRead};
+ghost use Rattle.reading_laws.specs.Laws.{ParsedReads, ReadIsParsed, ReadsOnce, StopsNeverRead, StopsOnce, ReadOrStop};
 ghost use Rattle.reading_laws.specs.Worked.{ExampleReads, PrefixesStop, DanglingStops};
 
 /// What is parsed as a module reads as that module.
@@ -23,6 +23,16 @@ pub fn reads_once()
 /// Bytes at which reading stops don't read as a module.
 pub fn stops_never_read()
     ensures { StopsNeverRead }
+{}
+
+/// Bytes stop with one fault at most.
+pub fn stops_once()
+    ensures { StopsOnce }
+{}
+
+/// Bytes read as a module, or they stop.
+pub fn read_or_stop()
+    ensures { ReadOrStop }
 {}
 
 /// A worked module reads as what it is.
