@@ -18,4 +18,4 @@ ok_or_stop m s r p q = cc
 
 pub stops_never_read : (features : Features) (bytes : List ℕ) (fault : Fault) (m : Module) → Stops features bytes fault → Reads features bytes m → ⊥
 stops_never_read features bytes faults.InputTooLong m s r = omega (arith, r.short)
-stops_never_read features bytes fault m s r = ok_or_stop m _ (module_at features bytes) (module_again features bytes m r) s.2
+stops_never_read features bytes fault m s r = ok_or_stop m _ (module_at features bytes) (module_again features bytes m r) s.3

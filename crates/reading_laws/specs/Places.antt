@@ -1,5 +1,5 @@
 -- Where parsing stops is a place of the bytes, and why it stops comes from them.
-use Rattle.std.proofs.Common.{◌≡◌, ℕ, zero, suc, ◌+◌, ◌-◌, ◌≤◌, List, [], ◌∷◌, ◌++◌, length, take, drop, Result, Ok, Err, refl, ap, arith, inl, inr}
+use Rattle.std.proofs.Common.{◌≡◌, true, ℕ, zero, suc, ◌+◌, ◌-◌, ◌≤◌, List, [], ◌∷◌, ◌++◌, length, take, drop, Result, Ok, Err, refl, ap, arith, inl, inr}
 use Rattle.std.specs.Prelude.{◌==◌, nat_le, nat_lt}
 use Rattle.std.specs.Str.{is_utf8}
 use Rattle.std.specs.List.{list_any, AllByRecursion}
@@ -13,21 +13,16 @@ use Rattle.wasm_reader.specs.Numbers.{Style, unsigned, signed, number_at, unsign
 use Rattle.wasm_reader.specs.Text.{size_at, text_at, string_at}
 use Rattle.wasm_model.specs.Features.{Features}
 use Rattle.wasm_model.specs.Module.{FunctionType, Export}
-use Rattle.wasm_model.specs.Stop.{Stop, Parsing, ◌>>=◌, value_at, entries_at, vec_at, Trouble, Other}
+use Rattle.wasm_model.specs.Stop.{is_known, Stop, Parsing, ◌>>=◌, value_at, entries_at, vec_at}
 use Rattle.wasm_model.specs.Bodies.{trouble_at_code, trouble_at_number, is_end, operator_at, operators_at, code_at}
 use Rattle.wasm_model.specs.OperatorTable.{among, is_prefix, is_operator, is_prefixed_operator, is_part}
 use Rattle.wasm_model.specs.Sections.{same_name, trouble_at_type, reference_bytes, group_bytes, value_type_at, value_types_at, function_type_at, type_entry, function_entry, kind_at, export_entry, Chunk, Chunks, chunk_entry, chunks_at}
 use Rattle.reading_laws.specs.Steps.{ok_is}
 
--- it comes from the bytes
-abbrev pub IsOfBytes : Trouble → Type 0
-IsOfBytes Other = ⊥
-IsOfBytes _ = Unit {0}
-
 -- what is parsed has the property, or parsing stops for a trouble of the bytes with at most so many left
 abbrev pub IsWithin : {A : Type 0} → (A → Type 0) → ℕ → Result A Stop → Type 0
 IsWithin P n (Ok x) = P x
-IsWithin P n (Err d) = (d.left ≤ n) × IsOfBytes d.trouble
+IsWithin P n (Err d) = (d.left ≤ n) × (is_known d.trouble ≡ true)
 
 -- at most so many bytes are left
 abbrev pub AtMost : {A : Type 0} → ℕ → A × List ℕ → Type 0
@@ -47,7 +42,7 @@ read_then n (Err d) f h g = h
 
 pub value_within : {A : Type 0} (n : ℕ) (r : Reading A) → ReadsWithin n r → IsWithin (AtMost n) n (value_at r)
 value_within n (Ok x) h = h
-value_within n (Err d) h = (h, tt)
+value_within n (Err d) h = (h, refl)
 
 pub read_wider : {A : Type 0} (m n : ℕ) (r : Reading A) → m ≤ n → ReadsWithin m r → ReadsWithin n r
 read_wider m n (Ok x) le h = omega arith
@@ -105,19 +100,19 @@ string_within bytes = read_then (length bytes) (size_at 100000 bytes) _ (size_wi
 
 -- ---- types
 
-type_trouble : (later : List ℕ) (byte : ℕ) → IsOfBytes (trouble_at_type later byte)
+type_trouble : (later : List ℕ) (byte : ℕ) → is_known (trouble_at_type later byte) ≡ true
 type_trouble later byte =
     elim (cases_Bool (byte == 0x65)) [
-      | inl is ↦ rw is tt
+      | inl is ↦ rw is refl
       | inr not ↦ rw not (elim (cases_Bool (among later byte)) [
-        | inl is ↦ rw is tt
-        | inr none ↦ rw none tt
+        | inl is ↦ rw is refl
+        | inr none ↦ rw none refl
       ])
     ]
 
 pub value_type_within : (bytes : List ℕ) → IsWithin (AtMost (length bytes)) (length bytes) (value_type_at bytes)
 unfolding value_type_at
-value_type_within [] = (omega arith, tt)
+value_type_within [] = (omega arith, refl)
 value_type_within (b ∷ bytes) =
     let le : length bytes ≤ length (b ∷ bytes) = omega arith in
     let more : length bytes + 1 ≤ length (b ∷ bytes) = omega arith in
@@ -158,7 +153,7 @@ value_types_within bytes = within_then (AtMost (length bytes)) (AtMost (length b
 
 pub function_type_within : (bytes : List ℕ) → IsWithin (AtMost (length bytes)) (length bytes) (function_type_at bytes)
 unfolding function_type_at
-function_type_within [] = (omega arith, tt)
+function_type_within [] = (omega arith, refl)
 function_type_within (b ∷ bytes) =
     let n = length (b ∷ bytes) in
     elim (cases_Bool (b == 0x60)) [
@@ -172,17 +167,17 @@ unfolding type_entry
 type_entry_within earlier bytes = within_then (AtMost (length bytes)) (AtMost (length bytes)) (length bytes) (function_type_at bytes) _ (function_type_within bytes) (λ x le.
     elim (cases_Bool (nat_lt (length earlier) 1000000)) [
       | inl is ↦ rw is le
-      | inr not ↦ rw not (omega arith, tt)
+      | inr not ↦ rw not (omega arith, refl)
     ])
 
 pub function_entry_within : (types : ℕ) (earlier : List ℕ) (bytes : List ℕ) → IsWithin (AtMost (length bytes)) (length bytes) (function_entry types earlier bytes)
 unfolding function_entry
 function_entry_within types earlier bytes = within_then (AtMost (length bytes)) (AtMost (length bytes)) (length bytes) (value_at (unsigned_at 32 bytes)) _ (u32_within bytes) (λ x le.
     elim (cases_Bool (nat_le types x.0)) [
-      | inl is ↦ rw is (omega arith, tt)
+      | inl is ↦ rw is (omega arith, refl)
       | inr below ↦ rw below (elim (cases_Bool (nat_lt (length earlier) 1000000)) [
         | inl is ↦ rw is le
-        | inr not ↦ rw not (omega arith, tt)
+        | inr not ↦ rw not (omega arith, refl)
       ])
     ])
 
@@ -190,13 +185,13 @@ function_entry_within types earlier bytes = within_then (AtMost (length bytes)) 
 
 pub kind_within : (bytes : List ℕ) → IsWithin (AtMost (length bytes)) (length bytes) (kind_at bytes)
 unfolding kind_at
-kind_within [] = (omega arith, tt)
+kind_within [] = (omega arith, refl)
 kind_within (b ∷ bytes) =
     elim (cases_Bool (b == 0)) [
       | inl is ↦ rw is (omega arith)
       | inr not ↦ rw not (elim (cases_Bool (nat_le b 4)) [
-        | inl is ↦ rw is (omega arith, tt)
-        | inr none ↦ rw none (omega arith, tt)
+        | inl is ↦ rw is (omega arith, refl)
+        | inr none ↦ rw none (omega arith, refl)
       ])
     ]
 
@@ -208,38 +203,38 @@ export_entry_within functions earlier bytes =
     within_then (AtMost n) (AtMost n) n (kind_at name.1) _ (within_wider (length name.1) n (kind_at name.1) le1 (kind_within name.1)) (λ kind le2.
     within_then (AtMost n) (AtMost n) n (value_at (unsigned_at 32 kind.1)) _ (within_wider (length kind.1) n (value_at (unsigned_at 32 kind.1)) le2 (u32_within kind.1)) (λ index le3.
     elim (cases_Bool (list_any (λ d. same_name d.name name.0) earlier)) [
-      | inl old ↦ rw old (omega arith, tt)
+      | inl old ↦ rw old (omega arith, refl)
       | inr fresh ↦ rw fresh (elim (cases_Bool (nat_le 1000000 (length earlier))) [
-        | inl is ↦ rw is (omega arith, tt)
+        | inl is ↦ rw is (omega arith, refl)
         | inr few ↦ rw few (elim (cases_Bool (nat_lt index.0 functions)) [
           | inl is ↦ rw is le3
-          | inr past ↦ rw past (le2, tt)
+          | inr past ↦ rw past (le2, refl)
         ])
       ])
     ])))
 
 -- ---- bodies
 
-code_trouble : (features : Features) (code : ℕ) → IsOfBytes (trouble_at_code features code)
+code_trouble : (features : Features) (code : ℕ) → is_known (trouble_at_code features code) ≡ true
 code_trouble features code =
     elim (cases_Bool (is_part features code)) [
-      | inl is ↦ rw is tt
+      | inl is ↦ rw is refl
       | inr not ↦ rw not (elim (cases_Bool (is_operator features code)) [
-        | inl is ↦ rw is tt
-        | inr none ↦ rw none tt
+        | inl is ↦ rw is refl
+        | inr none ↦ rw none refl
       ])
     ]
 
-prefixed_trouble : (features : Features) (code number : ℕ) → IsOfBytes (trouble_at_number features code number)
+prefixed_trouble : (features : Features) (code number : ℕ) → is_known (trouble_at_number features code number) ≡ true
 prefixed_trouble features code number =
     elim (cases_Bool (is_prefixed_operator features code number)) [
-      | inl is ↦ rw is tt
-      | inr not ↦ rw not tt
+      | inl is ↦ rw is refl
+      | inr not ↦ rw not refl
     ]
 
 pub operator_within : (features : Features) (bytes : List ℕ) → IsWithin (AtMost (length bytes)) (length bytes) (operator_at features bytes)
 unfolding operator_at
-operator_within features [] = (omega arith, tt)
+operator_within features [] = (omega arith, refl)
 operator_within features (b ∷ bytes) =
     let n = length (b ∷ bytes) in
     let le : length bytes ≤ n = omega arith in
@@ -268,7 +263,7 @@ operator_within features (b ∷ bytes) =
 
 pub operators_within : (features : Features) (finish turns : ℕ) (bytes : List ℕ) → IsWithin (AtMost (length bytes)) (length bytes) (operators_at features finish turns bytes)
 unfolding operators_at
-operators_within features finish zero bytes = (omega arith, tt)
+operators_within features finish zero bytes = (omega arith, refl)
 operators_within features finish (suc turns) bytes =
     let n = length bytes in
     within_then (AtMost n) (AtMost n) n (operator_at features bytes) _ (operator_within features bytes) (λ o le.
@@ -291,9 +286,9 @@ code_within features place bytes =
           (within_wider (length count.1) n (operators_at features (place + n) (length count.1) count.1) le (operators_within features (place + n) (length count.1) count.1)) (λ body less.
           elim (cases_Bool (length body.1 == 0)) [
             | inl ends ↦ rw ends tt
-            | inr goes_on ↦ rw goes_on (less, tt)
+            | inr goes_on ↦ rw goes_on (less, refl)
           ]))
-      | inr some ↦ rw some (omega arith, tt)
+      | inr some ↦ rw some (omega arith, refl)
     ])
 
 -- ---- the code section
@@ -325,7 +320,7 @@ chunk_entry_within finish earlier bytes =
     let n = length bytes in
     within_then (AtMost n) (λ x. AtMost n x × IsShort n x.0) n (value_at (unsigned_at 32 bytes)) _ (u32_within bytes) (λ size le.
     elim (cases_Bool (nat_lt 7654321 size.0)) [
-      | inl is ↦ rw is (omega arith, tt)
+      | inl is ↦ rw is (omega arith, refl)
       | inr not ↦ rw not (within_then (λ x. AtMost n x × (length x.0 ≤ n)) (λ x. AtMost n x × IsShort n x.0) n (value_at (bytes_at size.0 size.1)) _
           (value_known (AtMost n) (λ x. length x.0 ≤ n) n (bytes_at size.0 size.1) (value_within n (bytes_at size.0 size.1) (read_wider (length size.1) n (bytes_at size.0 size.1) le (run_within size.0 size.1))) (λ x e. short_run size.0 n size.1 x le e)) (λ body h. h))
     ])
@@ -359,5 +354,5 @@ chunks_at_within functions n after bytes le =
     elim (cases_Bool (count.0 == functions)) [
       | inl is ↦ rw is (within_then (λ x. AtMost m x × AllByRecursion (IsShort m) x.0) (λ x. AtMost m x × AreShort n x.0) m (entries_at (chunk_entry m) count.0 [] count.1) _
           (chunks_within m m count.0 [] count.1 less tt) (λ bodies k. (k.0, (omega arith, shorter_all m n bodies.0 (omega arith) k.1))))
-      | inr other ↦ rw other (omega arith, tt)
+      | inr other ↦ rw other (omega arith, refl)
     ])

@@ -1,5 +1,5 @@
 -- A module's parsing stops at a place of its bytes: so bytes read or stop.
-use Rattle.std.proofs.Common.{◌≡◌, ℕ, ◌+◌, ◌-◌, ◌^◌, ◌<◌, ◌≤◌, List, [], ◌∷◌, length, take, drop, Option, Some, None, Result, Ok, Err, refl, sym, ap, subst, ◌∙◌, arith, ◌⊎◌, inl, inr}
+use Rattle.std.proofs.Common.{◌≡◌, true, ℕ, ◌+◌, ◌-◌, ◌^◌, ◌<◌, ◌≤◌, List, [], ◌∷◌, length, take, drop, Option, Some, None, Result, Ok, Err, refl, sym, ap, subst, ◌∙◌, arith, ◌⊎◌, inl, inr}
 use Rattle.std.specs.Prelude.{◌==◌, ◌&&◌, ◌||◌, nat_le, nat_lt, nat_eq, is_none, unwrap_or}
 use Rattle.std.specs.List.{AllByRecursion, starts_with}
 use Rattle.std.specs.Option.{IfSome}
@@ -12,13 +12,13 @@ use Rattle.wasm_model.specs.Features.{Features}
 use Rattle.wasm_model.specs.Module.{Module}
 use Rattle.wasm_model.specs.Rules.{Reads}
 use Rattle.wasm_model.specs.Spells.{header}
-use Rattle.wasm_model.specs.Stop.{Stop, stop, Parsing, value_at, before, vec_at, Trouble, Read, Header, SectionOrder, SectionSize, Count, Index, TypeForm, ConstExpr, OffsetType, Nesting, Position, Unsupported, DuplicateExport, Bounds, Limit, Other, trouble_of, place_of}
+use Rattle.wasm_model.specs.Stop.{Stop, stop, Parsing, value_at, before, vec_at, Trouble, Read, Header, SectionOrder, SectionSize, Count, Index, TypeForm, ConstExpr, OffsetType, Nesting, Position, Unsupported, DuplicateExport, Bounds, Limit, Other, trouble_of, place_of, is_known, is_in_bytes}
 use Rattle.wasm_model.specs.Stop.{Operator as UnknownOperator}
 use Rattle.wasm_model.specs.Bodies.{code_at}
 use Rattle.wasm_model.specs.Sections.{type_entry, function_entry, export_entry, Chunk, Chunks, no_chunks, chunks_at, contents_at, section_at, rank, trouble_at_id, latest, end_at, Sections, sections_at, codes_at, module_at, Stops}
 use Rattle.reading_laws.specs.Steps.{AreBytes}
 use Rattle.reading_laws.specs.Modules.{module_found}
-use Rattle.reading_laws.specs.Places.{IsOfBytes, IsWithin, AtMost, Anything, IsShort, AreShort, within_then, within_wider, u32_within, vec_within, type_entry_within, function_entry_within, export_entry_within, code_within, chunks_at_within}
+use Rattle.reading_laws.specs.Places.{IsWithin, AtMost, Anything, IsShort, AreShort, within_then, within_wider, u32_within, vec_within, type_entry_within, function_entry_within, export_entry_within, code_within, chunks_at_within}
 
 within_before : {A : Type 0} (P : A → Type 0) (m after n : ℕ) (r : Result A Stop) → m + after ≤ n → IsWithin P m r → IsWithin P n (before after r)
 within_before P m after n (Ok x) le h = h
@@ -38,7 +38,7 @@ contents_within Q n parsing within size bytes fits le =
     (within_then (λ x. AtMost m x × Q x.0) (λ x. AtMost n x × Q x.0) m (parsing (length bytes - size) (take size bytes)) _ (within (length bytes - size) (take size bytes) (omega arith)) (λ x h.
     elim (cases_Bool (length x.1 == 0)) [
       | inl ends ↦ rw ends (omega (arith, length-drop size bytes), h.1)
-      | inr goes_on ↦ rw goes_on (h.0, tt)
+      | inr goes_on ↦ rw goes_on (h.0, refl)
     ]))
 
 pub section_within : {A : Type 0} (Q : A → Type 0) (n id : ℕ) (parsing : ℕ → List ℕ → Parsing A) → IsContentsWithin Q n parsing
@@ -50,7 +50,7 @@ section_within {A} Q n id parsing within (b ∷ bytes) le =
       | inl is ↦ rw is (within_then (AtMost n) (λ (x : Option A × List ℕ). AtMost n x × IfSome x.0 Q) n (value_at (unsigned_at 32 bytes)) _
           (within_wider (length bytes) n (value_at (unsigned_at 32 bytes)) (omega arith) (u32_within bytes)) (λ size less.
           elim (cases_lt (length size.1) size.0) [
-            | inl lt ↦ rw (lt-ltb _ _ lt) (omega arith, tt)
+            | inl lt ↦ rw (lt-ltb _ _ lt) (omega arith, refl)
             | inr fits ↦ rw (le-ltb _ _ fits) (within_then (λ (x : A × List ℕ). AtMost n x × Q x.0) (λ (x : Option A × List ℕ). AtMost n x × IfSome x.0 Q) n (contents_at parsing size.0 size.1) _
                 (contents_within Q n parsing within size.0 size.1 fits less) (λ x h. h))
           ]))
@@ -64,13 +64,13 @@ vec_contents n entry within after contents le = with_anything (length contents) 
     with_anything m (Ok x) h = (h, tt)
     with_anything m (Err d) h = h
 
-id_trouble : (last id : ℕ) → IsOfBytes (trouble_at_id last id)
+id_trouble : (last id : ℕ) → is_known (trouble_at_id last id) ≡ true
 id_trouble last id =
     elim (cases_Bool (id == 0)) [
-      | inl is ↦ rw is tt
+      | inl is ↦ rw is refl
       | inr not ↦ rw not (elim (cases_Bool (nat_lt 13 id || nat_le (rank id) (rank last))) [
-        | inl late ↦ rw late tt
-        | inr next ↦ rw next tt
+        | inl late ↦ rw late refl
+        | inr next ↦ rw next refl
       ])
     ]
 
@@ -99,7 +99,7 @@ sections_within bytes =
     let last = latest chunks.0 10 (latest exports.0 7 (latest functions.0 3 (latest types.0 1 0))) in
     within_then Anything (λ s. AreShort n s.chunks) n (end_at last chunks.1) _ (end_within n last chunks.1 h4.0) (λ end h5.
     elim (cases_Bool (is_none chunks.0 && nat_lt 0 bodies)) [
-      | inl missing ↦ rw missing (omega arith, tt)
+      | inl missing ↦ rw missing (omega arith, refl)
       | inr there ↦ rw there (short_or_none n chunks.0 h4.1)
     ])))))
 
@@ -129,7 +129,7 @@ module_within features bytes =
     elim (cases_Bool (starts_with nat_eq bytes header)) [
       | inl begins ↦ rw begins (within_then (λ s. AreShort m s.chunks) Anything n (sections_at (drop 8 bytes)) _ (sections_wider m n (sections_at (drop 8 bytes)) le (sections_within (drop 8 bytes))) (λ s h.
           within_then Anything Anything n (codes_at features s.chunks.left s.chunks.bodies) _ (anything_wider m n (codes_at features s.chunks.left s.chunks.bodies) le (codes_within features m s.chunks.left s.chunks.bodies h.0 h.1)) (λ codes k. tt)))
-      | inr other ↦ rw other (omega arith, tt)
+      | inr other ↦ rw other (omega arith, refl)
     ]
 
 -- the fault of a trouble that comes from the bytes
@@ -152,28 +152,28 @@ fault_of Bounds place = faults.Bounds place
 fault_of (Limit of) place = faults.Limit of place
 fault_of Other place = faults.NoTree
 
-stops_at : (features : Features) (bytes : List ℕ) (trouble : Trouble) (place : ℕ) → length bytes ≤ 2 ^ 30 → place ≤ length bytes → IsOfBytes trouble
+stops_at : (features : Features) (bytes : List ℕ) (trouble : Trouble) (place : ℕ) → length bytes ≤ 2 ^ 30 → place ≤ length bytes → is_known trouble ≡ true
     → module_at features bytes ≡ Err (stop trouble (length bytes - place)) → Stops features bytes (fault_of trouble place)
-stops_at features bytes (Read kind) place short le from e = (short, le, e)
-stops_at features bytes Header place short le from e = (short, le, e)
-stops_at features bytes SectionOrder place short le from e = (short, le, e)
-stops_at features bytes SectionSize place short le from e = (short, le, e)
-stops_at features bytes Count place short le from e = (short, le, e)
-stops_at features bytes (Index space) place short le from e = (short, le, e)
-stops_at features bytes TypeForm place short le from e = (short, le, e)
-stops_at features bytes ConstExpr place short le from e = (short, le, e)
-stops_at features bytes OffsetType place short le from e = (short, le, e)
-stops_at features bytes Nesting place short le from e = (short, le, e)
-stops_at features bytes Position place short le from e = (short, le, e)
-stops_at features bytes UnknownOperator place short le from e = (short, le, e)
-stops_at features bytes (Unsupported form) place short le from e = (short, le, e)
-stops_at features bytes DuplicateExport place short le from e = (short, le, e)
-stops_at features bytes Bounds place short le from e = (short, le, e)
-stops_at features bytes (Limit of) place short le from e = (short, le, e)
-stops_at features bytes Other place short le from e = absurd from
+stops_at features bytes (Read kind) place short le from e = (refl, short, le, e)
+stops_at features bytes Header place short le from e = (refl, short, le, e)
+stops_at features bytes SectionOrder place short le from e = (refl, short, le, e)
+stops_at features bytes SectionSize place short le from e = (refl, short, le, e)
+stops_at features bytes Count place short le from e = (refl, short, le, e)
+stops_at features bytes (Index space) place short le from e = (refl, short, le, e)
+stops_at features bytes TypeForm place short le from e = (refl, short, le, e)
+stops_at features bytes ConstExpr place short le from e = (refl, short, le, e)
+stops_at features bytes OffsetType place short le from e = (refl, short, le, e)
+stops_at features bytes Nesting place short le from e = (refl, short, le, e)
+stops_at features bytes Position place short le from e = (refl, short, le, e)
+stops_at features bytes UnknownOperator place short le from e = (refl, short, le, e)
+stops_at features bytes (Unsupported form) place short le from e = (refl, short, le, e)
+stops_at features bytes DuplicateExport place short le from e = (refl, short, le, e)
+stops_at features bytes Bounds place short le from e = (refl, short, le, e)
+stops_at features bytes (Limit of) place short le from e = (refl, short, le, e)
+stops_at features bytes Other place short le from e = absurd cc
 
 -- a fault of the bytes is that of its trouble and its place
-fault_is : (fault : Fault) → IsOfBytes (trouble_of fault) → fault ≡ fault_of (trouble_of fault) (place_of fault)
+fault_is : (fault : Fault) → is_known (trouble_of fault) ≡ true → fault ≡ fault_of (trouble_of fault) (place_of fault)
 fault_is (faults.Read e) from = refl
 fault_is (faults.Header offset) from = refl
 fault_is (faults.SectionOrder offset) from = refl
@@ -190,7 +190,7 @@ fault_is (faults.Unsupported form offset) from = refl
 fault_is (faults.DuplicateExport offset) from = refl
 fault_is (faults.Bounds offset) from = refl
 fault_is (faults.Limit of offset) from = refl
-fault_is _ from = absurd from
+fault_is _ from = absurd cc
 
 -- bytes read as a module, or stop
 pub read_or_stop : (features : Features) (bytes : List ℕ) → AreBytes bytes → ((m : Module) × Reads features bytes m) ⊎ ((fault : Fault) × Stops features bytes fault)
@@ -209,19 +209,17 @@ read_or_stop features bytes h =
 
 -- a fault at which parsing stops
 record IsStop (features : Features) (bytes : List ℕ) (fault : Fault) : Type 0 where
+  from : is_in_bytes fault ≡ true
   short : length bytes ≤ 2 ^ 30
   within : place_of fault ≤ length bytes
   parsing : module_at features bytes ≡ Err (stop (trouble_of fault) (length bytes - place_of fault))
 
 which_stop : (features : Features) (bytes : List ℕ) (fault : Fault) → Stops features bytes fault → ((fault ≡ faults.InputTooLong) × (2 ^ 30 < length bytes)) ⊎ IsStop features bytes fault
 which_stop features bytes faults.InputTooLong s = inl (refl, s)
-which_stop features bytes fault s = inr (record { short = s.0; within = s.1; parsing = s.2 })
+which_stop features bytes fault s = inr (record { from = s.0; short = s.1; within = s.2; parsing = s.3 })
 
 same_stop : (m : Result Module Stop) (s t : Stop) → m ≡ Err s → m ≡ Err t → s ≡ t
 same_stop m s t p q = cc
-
-from_bytes : (features : Features) (bytes : List ℕ) (s : Stop) → module_at features bytes ≡ Err s → IsOfBytes s.trouble
-from_bytes features bytes s e = (subst (λ (r : Result Module Stop). IsWithin Anything (length bytes) r) e (module_within features bytes)).1
 
 -- bytes stop with one fault at most
 pub stops_once : (features : Features) (bytes : List ℕ) (f g : Fault) → Stops features bytes f → Stops features bytes g → f ≡ g
@@ -237,6 +235,6 @@ stops_once features bytes f g s t =
             let same = same_stop (module_at features bytes) (stop (trouble_of f) (length bytes - place_of f)) (stop (trouble_of g) (length bytes - place_of g)) a.parsing b.parsing in
             let left : length bytes - place_of f ≡ length bytes - place_of g = ap (λ (s : Stop). s.left) same in
             let place : place_of f ≡ place_of g = omega (arith, a.within, b.within) in
-            fault_is f (from_bytes features bytes _ a.parsing) ∙ ap (λ (t : Trouble). fault_of t (place_of f)) (ap (λ (s : Stop). s.trouble) same) ∙ ap (λ (n : ℕ). fault_of (trouble_of g) n) place ∙ sym (fault_is g (from_bytes features bytes _ b.parsing))
+            fault_is f a.from ∙ ap (λ (t : Trouble). fault_of t (place_of f)) (ap (λ (s : Stop). s.trouble) same) ∙ ap (λ (n : ℕ). fault_of (trouble_of g) n) place ∙ sym (fault_is g b.from)
       ]
     ]

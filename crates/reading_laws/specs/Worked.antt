@@ -62,18 +62,18 @@ example_reads features = refl
 
 pub dangling_stops : DanglingStops
 unfolding module_at sections_at section_at contents_at export_entry kind_at vec_at entries_at number_at size_at text_at string_at is_utf8 chars encode
-dangling_stops features = (omega arith, omega arith, refl)
+dangling_stops features = (refl, omega arith, omega arith, refl)
 
 pub prefixes_stop : PrefixesStop
 unfolding module_at sections_at section_at contents_at chunks_at export_entry function_entry type_entry function_type_at value_types_at kind_at vec_at entries_at number_at size_at text_at string_at is_utf8 chars encode
 prefixes_stop features = (
-  (omega arith, omega arith, refl),
-  (omega arith, omega arith, refl),
-  (omega arith, omega arith, refl),
-  (omega arith, omega arith, refl),
-  (omega arith, omega arith, refl),
-  (omega arith, omega arith, refl),
-  (omega arith, omega arith, refl),
-  (omega arith, omega arith, refl),
-  (omega arith, omega arith, refl),
+  (refl, omega arith, omega arith, refl),
+  (refl, omega arith, omega arith, refl),
+  (refl, omega arith, omega arith, refl),
+  (refl, omega arith, omega arith, refl),
+  (refl, omega arith, omega arith, refl),
+  (refl, omega arith, omega arith, refl),
+  (refl, omega arith, omega arith, refl),
+  (refl, omega arith, omega arith, refl),
+  (refl, omega arith, omega arith, refl),
 )
