@@ -1,5 +1,5 @@
 -- Worked rows: a module, and where its prefixes stop.
-use Rattle.std.specs.Prelude.{ℕ, ◌≡◌, List, [], ◌∷◌, take, Ok}
+use Rattle.std.specs.Prelude.{ℕ, ◌≡◌, List, [], ◌∷◌, ◌++◌, take, Ok}
 use Rattle.std.proofs.Common.{refl, arith}
 use Rattle.std.specs.Str.{is_utf8, chars}
 use lib.Utf8.{encode}
@@ -12,6 +12,7 @@ use Rattle.wasm_model.specs.declared.fault.Fault.{Fault}
 use Rattle.wasm_model.specs.declared.fault.Fault.TheVariants as faults
 use Rattle.wasm_model.specs.declared.fault.Space.TheVariants as spaces
 use Rattle.wasm_model.specs.Features.{Features}
+use Rattle.wasm_model.specs.Spells.{header}
 use Rattle.wasm_model.specs.Module.{Module, Nop, End, FunctionItem}
 use Rattle.wasm_model.specs.Sections.{module_at, Stops, sections_at, section_at, contents_at, chunks_at, chunk_entry, codes_at, export_entry, function_entry, type_entry, function_type_at, value_types_at, kind_at}
 
@@ -31,6 +32,10 @@ example_module = record {
 -- an export of a function that isn't there
 abbrev pub dangling : List ℕ
 dangling = 0x00 ∷ 0x61 ∷ 0x73 ∷ 0x6d ∷ 0x01 ∷ 0x00 ∷ 0x00 ∷ 0x00 ∷ 0x07 ∷ 0x05 ∷ 0x01 ∷ 0x01 ∷ 0x66 ∷ 0x00 ∷ 0x00 ∷ []
+
+-- a module of nothing
+abbrev pub empty_module : Module
+empty_module = record { types = []; functions = []; exports = [] }
 
 -- one byte is missing at the place
 abbrev pub missing_at : ℕ → Fault
@@ -56,6 +61,16 @@ PrefixesStop = (features : Features) → Stops features (take 9 example) (missin
 abbrev pub DanglingStops : Type 0
 DanglingStops = (features : Features) → Stops features dangling (faults.Index spaces.Function 14)
 
+-- nothing, left out or spelled: no sections, an empty one of each, and a count of zero in five bytes
+abbrev pub NothingReads : Type 0
+NothingReads = (features : Features) → (module_at features header ≡ Ok empty_module)
+    × (module_at features (header ++ 0x01 ∷ 0x01 ∷ 0x00 ∷ 0x03 ∷ 0x01 ∷ 0x00 ∷ 0x07 ∷ 0x01 ∷ 0x00 ∷ 0x0a ∷ 0x01 ∷ 0x00 ∷ []) ≡ Ok empty_module)
+    × (module_at features (header ++ 0x01 ∷ 0x05 ∷ 0x80 ∷ 0x80 ∷ 0x80 ∷ 0x80 ∷ 0x00 ∷ []) ≡ Ok empty_module)
+
+-- a section that comes again stops at its id
+abbrev pub RepeatedStops : Type 0
+RepeatedStops = (features : Features) → Stops features (header ++ 0x01 ∷ 0x01 ∷ 0x00 ∷ 0x01 ∷ 0x01 ∷ 0x00 ∷ []) (faults.SectionOrder 11)
+
 pub example_reads : ExampleReads
 unfolding module_at sections_at section_at contents_at chunks_at chunk_entry codes_at code_at operators_at operator_at export_entry function_entry type_entry function_type_at value_types_at kind_at vec_at entries_at number_at size_at text_at string_at is_utf8 chars encode
 example_reads features = refl
@@ -77,3 +92,11 @@ prefixes_stop features = (
   (refl, omega arith, omega arith, refl),
   (refl, omega arith, omega arith, refl),
 )
+
+pub nothing_reads : NothingReads
+unfolding module_at sections_at section_at contents_at chunks_at chunk_entry codes_at code_at operators_at operator_at export_entry function_entry type_entry function_type_at value_types_at kind_at vec_at entries_at number_at size_at text_at string_at is_utf8 chars encode
+nothing_reads features = (refl, refl, refl)
+
+pub repeated_stops : RepeatedStops
+unfolding module_at sections_at section_at contents_at chunks_at chunk_entry codes_at code_at operators_at operator_at export_entry function_entry type_entry function_type_at value_types_at kind_at vec_at entries_at number_at size_at text_at string_at is_utf8 chars encode
+repeated_stops features = (refl, omega arith, omega arith, refl)

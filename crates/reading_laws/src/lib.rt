@@ -3,7 +3,7 @@
 #![tactic(auto)]
 
 ghost use Rattle.reading_laws.specs.Laws.{ParsedReads, ReadIsParsed, ReadsOnce, StopsNeverRead, StopsOnce, ReadOrStop};
-ghost use Rattle.reading_laws.specs.Worked.{ExampleReads, PrefixesStop, DanglingStops};
+ghost use Rattle.reading_laws.specs.Worked.{ExampleReads, PrefixesStop, DanglingStops, NothingReads, RepeatedStops};
 
 /// What is parsed as a module reads as that module.
 pub fn parsed_reads()
@@ -49,4 +49,14 @@ pub fn prefixes_stop()
 /// An export of a function that isn't there stops at the function's number.
 pub fn dangling_stops()
     ensures { DanglingStops }
+{}
+
+/// A module of nothing, whether its sections are left out or empty.
+pub fn nothing_reads()
+    ensures { NothingReads }
+{}
+
+/// A section that comes again stops at its id.
+pub fn repeated_stops()
+    ensures { RepeatedStops }
 {}
