@@ -13,17 +13,13 @@ use Rattle.wasm_model.specs.Spells.{Code, code_of, SpellsItem, SpellsFunctionTyp
 use Rattle.wasm_model.specs.Rules.{IsItem, Nests, Rules, Reads}
 use Rattle.wasm_model.specs.Stop.{vec_at}
 use Rattle.wasm_model.specs.Sections.{Chunk, Chunks, no_chunks, Sections, type_entry, function_entry, export_entry, chunks_at, section_at, latest, end_at, sections_at, codes_at, functions_of, module_at}
-use Rattle.reading_laws.specs.Steps.{AreBytes, Takes, then_ok, ok_is, bytes_behind}
+use Rattle.reading_laws.specs.Steps.{AreBytes, then_ok, ok_is, bytes_behind}
 use Rattle.reading_laws.specs.Types.{IsTypeEntry, IsFunctionEntry, type_entry_found, type_entry_again, function_entry_found, function_entry_again}
 use Rattle.reading_laws.specs.Exports.{IsExportEntry, IsBelow, export_entry_found, export_entry_again}
 use Rattle.reading_laws.specs.Lists.{AllAfter}
 use Rattle.reading_laws.specs.Framing.{IsElse, SpellsRuled, section_found, vec_section_found, vec_section_again, else_section}
 use Rattle.reading_laws.specs.Codes.{SpellsChunks, ChunkSection, chunk_section_found, chunk_section_again, codes_found, codes_again}
 use Rattle.reading_laws.specs.Ruled.{after_all, count_within, types_after, functions_after, distinct_after, exports_after, types_of_functions, codes_of_functions, functions_of_parts, typed_all, all_typed, coded_all, all_coded}
-
--- a u32 as an entry of the function section
-function_index_found : (types : ℕ) (earlier : List ℕ) (bytes : List ℕ) (t : ℕ) (rest : List ℕ) → AreBytes bytes → function_entry types earlier bytes ≡ Ok (t, rest) → Takes (λ front t. SpellsU32 front t × IsFunctionEntry types earlier t) bytes t rest
-function_index_found types earlier = function_entry_found types earlier
 
 end_found : (last : ℕ) (rest : List ℕ) (u : Unit {0}) → end_at last rest ≡ Ok u → rest ≡ []
 end_found last [] u e = refl
@@ -56,7 +52,7 @@ sections_found bytes s h e = then_ok (section_at 1 (λ _. vec_at type_entry) byt
     let h1 = bytes_behind t.front types.1 bytes t.whole h in
     let count = length (unwrap_or types.0 []) in
     then_ok (section_at 3 (λ _. vec_at (function_entry count)) types.1) _ s e1 (λ functions p2 e2.
-    let f = vec_section_found 3 (function_entry count) SpellsU32 (IsFunctionEntry count) (function_index_found count) types.1 functions.0 functions.1 h1 (section_found 3 (λ _. vec_at (function_entry count)) types.1 functions.0 functions.1 h1 p2) in
+    let f = vec_section_found 3 (function_entry count) SpellsU32 (IsFunctionEntry count) (function_entry_found count) types.1 functions.0 functions.1 h1 (section_found 3 (λ _. vec_at (function_entry count)) types.1 functions.0 functions.1 h1 p2) in
     let h2 = bytes_behind f.front functions.1 types.1 f.whole h1 in
     let bodies = length (unwrap_or functions.0 []) in
     then_ok (section_at 7 (λ _. vec_at (export_entry bodies)) functions.1) _ s e2 (λ exports p3 e3.
