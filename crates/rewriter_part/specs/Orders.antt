@@ -1,0 +1,22 @@
+-- The orders of functions and of types, by their numbers.
+use Rattle.std.specs.Prelude.{ℕ, ◌≡◌, ◌<◌, ◌⊎◌, List, slice_index, slice_index_or}
+use Rattle.std.specs.declared.cmp.Ordering.TheVariants.{Less}
+use Rattle.wasm_model.specs.Module.{FunctionType}
+use Rattle.wasm_model.specs.Part.{type_cmp}
+use Rattle.rewriter_module.specs.Written.{no_type}
+use Rattle.rewriter_module.specs.Meaning.{type_of}
+use Rattle.rewriter_part.specs.declared.types.Place.{Place}
+
+-- f stands before g: its size is larger, or the same and its number is smaller
+abbrev pub IsLarger : List ℕ → ℕ → ℕ → Type 0
+IsLarger sizes f g = (slice_index sizes g < slice_index sizes f) ⊎ ((slice_index sizes g ≡ slice_index sizes f) × (f < g))
+
+-- t stands before u among all types: it is less, or equal to it and later
+abbrev pub IsBefore : List FunctionType → ℕ → ℕ → Type 0
+IsBefore types t u =
+    let s = slice_index_or types t no_type in
+    let v = slice_index_or types u no_type in
+    (type_cmp s v ≡ Less) ⊎ ((s ≡ v) × (u < t))
+
+abbrev pub numbered_type : Place → ℕ × FunctionType
+numbered_type p = (p.number.0, type_of p.function_type.now)

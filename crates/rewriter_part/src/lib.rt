@@ -1,0 +1,6 @@
+//! What is kept of a module, and its new numbers.
+#![tactic(auto)]
+
+mod functions;
+mod numbers;
+mod types;
