@@ -1,5 +1,5 @@
 -- Lists of numbers: a range, a filter, an enumeration, one more element.
-use Rattle.std.proofs.Common.{◌≡◌, ◌≢◌, ℕ, ◌+◌, ◌<◌, ◌≤◌, Bool, true, false, cond, List, [], ◌∷◌, ◌++◌, length, get_or, map, take, refl, sym, ap, ◌∙◌, arith, rules}
+use Rattle.std.proofs.Common.{◌≡◌, ℕ, ◌+◌, ◌<◌, Bool, cond, List, [], ◌∷◌, ◌++◌, length, get_or, map, take, sym, ap, ◌∙◌, arith}
 use Rattle.std.specs.List.{range_with_len, enumerate_from, filter}
 use Rattle.std.proofs.lemmas.List.{map-id, map_push, map_more, length-take-le}
 use Rattle.std.proofs.Math.ListN.{length-map}
@@ -7,8 +7,7 @@ use Rattle.rewriter_module.specs.declared.FunctionType.{FunctionType}
 use Rattle.rewriter_module.specs.Meaning.{type_of}
 use Rattle.rewriter_part.specs.declared.types.Place.{Place}
 use Rattle.rewriter_part.specs.Orders.{numbered_type}
-use Rattle.std.proofs.lemmas.List.FromFn.{map-range_with_len_more, filter_of_map_range_with_len_more}
-use Rattle.std.proofs.lemmas.Grind.{common_steps}
+use Rattle.std.proofs.lemmas.List.FromFn.{filter_of_map_range_with_len_more}
 
 pub enumerate_push : {X : Type 0} (n : ℕ) (xs : List X) (x : X) → enumerate_from n (xs ++ x ∷ []) ≡ enumerate_from n xs ++ (n + length xs, x) ∷ []
 enumerate_push n [] x = ap (λ k. (k, x) ∷ []) (omega arith)

@@ -1,5 +1,5 @@
 -- The order of all types.
-use Rattle.std.proofs.Common.{◌≡◌, ◌≢◌, ℕ, ◌+◌, ◌<◌, ◌≤◌, ◌⊎◌, Bool, true, false, Ordering, List, [], ◌∷◌, length, get_or, map, All, AllPairs, Contains, IsPermutation, refl, sym, ap, subst, ◌∙◌, inl, inr, arith}
+use Rattle.std.proofs.Common.{◌≡◌, ◌≢◌, ℕ, ◌+◌, ◌<◌, ◌⊎◌, Bool, false, Ordering, List, [], ◌∷◌, length, get_or, map, All, AllPairs, IsPermutation, refl, sym, ap, subst, ◌∙◌, inl, inr, arith}
 use Rattle.std.specs.declared.cmp.Ordering.TheVariants.{Less, Equal, Greater}
 use Rattle.std.specs.List.{range_with_len, enumerate_from}
 use Rattle.std.specs.Ordering.{ordering_then, ordering_reverse, nat_cmp, is_lt}
@@ -15,10 +15,9 @@ use Rattle.std.proofs.lemmas.Cmp.{on_total, then_total, back_total, nat_cmp_tota
 use Rattle.wasm_model.specs.Module.{FunctionType}
 use Rattle.wasm_model.specs.Part.{type_cmp}
 use Rattle.rewriter_module.specs.Written.{no_type}
-use Rattle.rewriter_module.specs.Meaning.{type_of}
 use Rattle.rewriter_part.specs.Orders.{IsBefore, numbered_type}
-use Rattle.rewriter_part.proofs.TypeLemmas.{type_cmp_total, type_exact, type_cmp_same}
-use Rattle.rewriter_part.proofs.SortLemmas.{numbers_in_order, distinct_range}
+use Rattle.rewriter_part.proofs.TypeLemmas.{type_cmp_total, type_exact}
+use Rattle.rewriter_part.proofs.SortLemmas.{numbers_in_order, distinct_range, map_map}
 use Rattle.rewriter_part.specs.declared.types.Place.{Place}
 
 abbrev number : Place → ℕ
@@ -26,10 +25,6 @@ number p = (numbered_type p).0
 
 abbrev kind : Place → FunctionType
 kind p = (numbered_type p).1
-
-map_map : {X Y Z : Type 0} (g : Y → Z) (f : X → Y) (xs : List X) → map g (map f xs) ≡ map (λ x. g (f x)) xs
-map_map g f [] = refl
-map_map g f (x ∷ xs) = ap (λ ys. g (f x) ∷ ys) (map_map g f xs)
 
 numbers_enumerated : {X : Type 0} (n : ℕ) (xs : List X) → map (λ (e : ℕ × X). e.0) (enumerate_from n xs) ≡ range_with_len n (length xs)
 numbers_enumerated n [] = refl
@@ -65,11 +60,11 @@ before_by kinds s v t u is_s is_v differ Greater e h = inl (type_cmp_total.antis
 before_step : (kinds : List FunctionType) (s v : FunctionType) (t u : ℕ) → s ≡ get_or kinds t no_type → v ≡ get_or kinds u no_type → t ≢ u → is_lt (ordering_then (type_cmp v s) (nat_cmp t u)) ≡ false → IsBefore kinds t u
 before_step kinds s v t u is_s is_v differ h =
     subst (λ (x : FunctionType). (type_cmp x (get_or kinds u no_type) ≡ Less) ⊎ ((x ≡ get_or kinds u no_type) × (u < t))) is_s
-      (subst (λ (y : FunctionType). (type_cmp s y ≡ Less) ⊎ ((s ≡ y) × (u < t))) is_v (before_by kinds s v t u is_s is_v differ (type_cmp v s) refl h))
+    (subst (λ (y : FunctionType). (type_cmp s y ≡ Less) ⊎ ((s ≡ y) × (u < t))) is_v (before_by kinds s v t u is_s is_v differ (type_cmp v s) refl h))
 
 pub types_in_order : (kinds : List FunctionType) (places sorted : List Place) → map numbered_type places ≡ enumerate_from 0 kinds → IsPermutation places sorted → IsSortedBy place_lt sorted → AllPairs (IsBefore kinds) (map (λ p. (numbered_type p).0) sorted)
 types_in_order kinds places sorted h perm up =
     numbers_in_order place_lt place_order number (λ (p : Place). kind p ≡ get_or kinds (number p) no_type) (IsBefore kinds) places sorted perm up
-      (All-of_map (λ (e : ℕ × FunctionType). e.1 ≡ get_or kinds e.0 no_type) numbered_type places (subst (λ (es : List (ℕ × FunctionType)). All (λ (e : ℕ × FunctionType). e.1 ≡ get_or kinds e.0 no_type) es) (sym h) (kinds_at kinds)))
-      (subst (λ (ns : List ℕ). AllPairs ◌≢◌ ns) (sym (numbers_are kinds places h)) (distinct_range (length kinds)))
-      (λ a b is_a is_b differ k. before_step kinds (kind a) (kind b) (number a) (number b) is_a is_b differ k)
+    (All-of_map (λ (e : ℕ × FunctionType). e.1 ≡ get_or kinds e.0 no_type) numbered_type places (subst (λ (es : List (ℕ × FunctionType)). All (λ (e : ℕ × FunctionType). e.1 ≡ get_or kinds e.0 no_type) es) (sym h) (kinds_at kinds)))
+    (subst (λ (ns : List ℕ). AllPairs ◌≢◌ ns) (sym (numbers_are kinds places h)) (distinct_range (length kinds)))
+    (λ a b is_a is_b differ k. before_step kinds (kind a) (kind b) (number a) (number b) is_a is_b differ k)

@@ -1,27 +1,28 @@
 -- Numbers sorted by what stands at them.
-use Rattle.std.proofs.Common.{◌≡◌, ◌≢◌, ℕ, ◌+◌, ◌<◌, ◌≤◌, ◌⊎◌, zero, suc, Bool, true, false, cond, eqb, List, [], ◌∷◌, ◌++◌, length, get_or, map, filter, All, AllPairs, Contains, IsPermutation, refl, sym, ap, subst, ◌∙◌, inl, inr, arith}
+use Rattle.std.proofs.Common.{◌≡◌, ◌≢◌, ℕ, ◌+◌, ◌<◌, ◌⊎◌, zero, suc, Bool, true, false, cond, eqb, List, [], ◌∷◌, length, get_or, map, filter, All, AllPairs, Contains, IsPermutation, refl, sym, ap, subst, ◌∙◌, inl, inr, arith}
 use Rattle.std.specs.List.{range_with_len}
 use Rattle.std.specs.List.Sorted.{IsSortedBy}
 use Rattle.std.specs.Cmp.{IsStrictWeakOrder}
-use Rattle.std.proofs.lemmas.List.{get_or-map, get_or_default}
+use Rattle.std.proofs.lemmas.List.{get_or-map}
 use Rattle.std.proofs.Math.ListN.{length-map}
 use Rattle.std.proofs.lemmas.List.FromFn.{length-range_with_len, get_or-range_with_len}
 use Rattle.std.proofs.lemmas.List.Sorted.{sorted_far, All-permutation, IsPermutation-map}
-use Rattle.std.proofs.lemmas.List.Elements.{Contains-get_or}
 use Rattle.std.proofs.lemmas.Map.Made.{AllPairs-from_IsDistinct, IsDistinct-from_AllPairs}
 use Rattle.std.proofs.lemmas.Map.Keys.{IsDistinct-IsPermutation}
 use Rattle.std.proofs.lemmas.Bool.Decides.{Decides-eqb}
 use Rattle.std.proofs.lemmas.Bool.{false≢true}
 use Rattle.std.proofs.lemmas.Cmp.{nat_eq_equiv}
-use Rattle.std.proofs.lemmas.Option.{slice_get_cases}
+use Rattle.std.specs.Prelude.{slice_get, Some}
+use Rattle.std.proofs.lemmas.Option.{slice_get_cases, slice_get-get_or, slice_get_within, get_or_from_slice_get}
 
 pub AllPairs-map : {X Y : Type 0} (R : Y → Y → Type 0) (f : X → Y) (xs : List X) → AllPairs (λ a b. R (f a) (f b)) xs → AllPairs R (map f xs)
 AllPairs-map R f xs h = λ i j d before in_list.
     let n : length (map f xs) ≡ length xs = length-map xs f in
     let small : j < length xs = omega arith in
     elim (slice_get_cases xs i).1 as (λ _. R (get_or (map f xs) i d) (get_or (map f xs) j d)) [
-      inl (x, inside, found, is) ↦ subst (λ y. R y (get_or (map f xs) j d)) (sym (get_or-map f xs i x d (omega arith))) (subst (λ y. R (f (get_or xs i x)) y) (sym (get_or-map f xs j x d small)) (h i j x before small))
-    | inr past ↦ absurd (omega (arith, past.0)) ]
+      | inl (x, inside, found, is) ↦ subst (λ y. R y (get_or (map f xs) j d)) (sym (get_or-map f xs i x d (omega arith))) (subst (λ y. R (f (get_or xs i x)) y) (sym (get_or-map f xs j x d small)) (h i j x before small))
+      | inr past ↦ absurd (omega (arith, past.0))
+    ]
 
 pub AllPairs-of_map : {X Y : Type 0} (R : Y → Y → Type 0) (f : X → Y) (xs : List X) → AllPairs R (map f xs) → AllPairs (λ a b. R (f a) (f b)) xs
 AllPairs-of_map R f xs h = λ i j d before in_list.
@@ -55,17 +56,17 @@ numbers_in_order lt o number Good Before places sorted perm up good distinct ste
     let differ = AllPairs-of_map ◌≢◌ number sorted (distinct_permuted (map number places) (map number sorted) (IsPermutation-map number places sorted perm) distinct) in
     let fine = All-permutation Good places sorted perm good in
     AllPairs-map Before number sorted (λ i j d before in_list.
-      step (get_or sorted i d) (get_or sorted j d) (fine i d (omega arith)) (fine j d in_list) (differ i j d before in_list) (sorted_far lt o sorted up i j d (omega arith) in_list))
+    step (get_or sorted i d) (get_or sorted j d) (fine i d (omega arith)) (fine j d in_list) (differ i j d before in_list) (sorted_far lt o sorted up i j d (omega arith) in_list))
 
 -- what a filter keeps
-contains_cases : {X : Type 0} (y : X) (ys : List X) (x : X) → Contains (y ∷ ys) x → (y ≡ x) ⊎ Contains ys x
+pub contains_cases : {X : Type 0} (y : X) (ys : List X) (x : X) → Contains (y ∷ ys) x → (y ≡ x) ⊎ Contains ys x
 contains_cases y ys x (zero, below, is) = inl is
 contains_cases y ys x (suc k, below, is) = inr (k, omega arith, is)
 
-contains_first : {X : Type 0} (y : X) (ys : List X) (x : X) → y ≡ x → Contains (y ∷ ys) x
+pub contains_first : {X : Type 0} (y : X) (ys : List X) (x : X) → y ≡ x → Contains (y ∷ ys) x
 contains_first y ys x e = (0, omega arith, e)
 
-contains_later : {X : Type 0} (y : X) (ys : List X) (x : X) → Contains ys x → Contains (y ∷ ys) x
+pub contains_later : {X : Type 0} (y : X) (ys : List X) (x : X) → Contains ys x → Contains (y ∷ ys) x
 contains_later y ys x c = (suc c.0, omega (arith, c.1), c.2)
 
 filter_step : {X : Type 0} (b : Bool) (y : X) (zs : List X) (x : X) → (y ≡ x → b ≡ true) → (y ≡ x) ⊎ Contains zs x → Contains (cond b (y ∷ zs) zs) x
@@ -85,5 +86,31 @@ Contains-filter p (y ∷ ys) x passes c = filter_step (p y) y (filter p ys) x (�
 pub Contains-of_filter : {X : Type 0} (p : X → Bool) (xs : List X) (x : X) → Contains (filter p xs) x → Contains xs x × (p x ≡ true)
 Contains-of_filter p [] x c = absurd (omega (arith, c.1))
 Contains-of_filter p (y ∷ ys) x c = elim (filter_back (p y) y (filter p ys) x c) as (λ _. Contains (y ∷ ys) x × (p x ≡ true)) [
-    inl e ↦ (contains_first y ys x e.0, ap p (sym e.0) ∙ e.1)
-  | inr d ↦ (let h = Contains-of_filter p ys x d in (contains_later y ys x h.0, h.1)) ]
+  | inl e ↦ (contains_first y ys x e.0, ap p (sym e.0) ∙ e.1)
+  | inr d ↦ (let h = Contains-of_filter p ys x d in (contains_later y ys x h.0, h.1))
+]
+
+-- what a list of results has
+pub Contains-map : {X Y : Type 0} (f : X → Y) (xs : List X) (x : X) → Contains xs x → Contains (map f xs) (f x)
+Contains-map f [] x c = absurd (omega (arith, c.1))
+Contains-map f (y ∷ ys) x c = elim (contains_cases y ys x c) as (λ _. Contains (f y ∷ map f ys) (f x)) [
+  | inl e ↦ contains_first (f y) (map f ys) (f x) (ap f e)
+  | inr d ↦ contains_later (f y) (map f ys) (f x) (Contains-map f ys x d)
+]
+
+pub Contains-of_map : {X Y : Type 0} (f : X → Y) (xs : List X) (y : Y) → Contains (map f xs) y → (x : X) × Contains xs x × (f x ≡ y)
+Contains-of_map f [] y c = absurd (omega (arith, c.1))
+Contains-of_map {X = X} f (x ∷ xs) y c = elim (contains_cases (f x) (map f xs) y c) as (λ _. (z : X) × Contains (x ∷ xs) z × (f z ≡ y)) [
+  | inl e ↦ (x, contains_first x xs x refl, e)
+  | inr d ↦ (let h = Contains-of_map f xs y d in (h.0, contains_later x xs h.0 h.1, h.2))
+]
+
+pub Contains-some : {X : Type 0} (xs : List X) (x : X) → Contains xs x → (k : ℕ) × (slice_get xs k ≡ Some x)
+Contains-some xs x c = (c.0, slice_get-get_or xs c.0 x c.1 ∙ ap (λ y. Some y) c.2)
+
+pub some_Contains : {X : Type 0} (xs : List X) (k : ℕ) (x : X) → slice_get xs k ≡ Some x → Contains xs x
+some_Contains xs k x e = (k, slice_get_within xs k x e, get_or_from_slice_get xs k x x e)
+
+pub map_map : {X Y Z : Type 0} (g : Y → Z) (f : X → Y) (xs : List X) → map g (map f xs) ≡ map (λ x. g (f x)) xs
+map_map g f [] = refl
+map_map g f (x ∷ xs) = ap (λ ys. g (f x) ∷ ys) (map_map g f xs)

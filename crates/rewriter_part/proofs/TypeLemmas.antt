@@ -1,7 +1,7 @@
 -- The derived order and equality of types are those of the definitions; both tell types apart.
-use Rattle.std.proofs.Common.{◌≡◌, ◌≢◌, ℕ, Bool, true, false, List, [], ◌∷◌, Ordering, refl, sym, ap, ◌∙◌, arith, rules, Decides}
+use Rattle.std.proofs.Common.{◌≡◌, Bool, true, false, List, [], ◌∷◌, Ordering, refl, sym, ap, ◌∙◌, Decides}
 use Rattle.std.specs.declared.cmp.Ordering.TheVariants.{Less, Equal, Greater}
-use Rattle.std.specs.Ordering.{ordering_then, nat_cmp}
+use Rattle.std.specs.Ordering.{ordering_then}
 use Rattle.std.specs.Cmp.{IsTotalOrder}
 use Rattle.std.specs.Cmp.Lexicographic.{slice_cmp}
 use Rattle.std.proofs.lemmas.Cmp.{on_total, then_total, lists_total, nat_cmp_total}
@@ -145,4 +145,5 @@ pub same_types : (s t : coded.FunctionType) (r : Bool) → r ≡ (pointwise valu
 same_types s t r h =
     let both = both_true _ _ (slice_eq-Decides value_eq-Decides s.params.items t.params.items _ refl) (slice_eq-Decides value_eq-Decides s.results.items t.results.items _ refl) in (
       λ e. (let w = both.0 (sym h ∙ e) in type_same (type_of s) (type_of t) w.0 w.1),
-      λ e. h ∙ both.1 (ap (λ (k : FunctionType). k.params) e, ap (λ (k : FunctionType). k.results) e))
+      λ e. h ∙ both.1 (ap (λ (k : FunctionType). k.params) e, ap (λ (k : FunctionType). k.results) e),
+    )

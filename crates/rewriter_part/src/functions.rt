@@ -5,10 +5,9 @@ ghost use Rattle.std.specs.List.{range_with_len};
 ghost use Rattle.rewriter_part.specs.Marks.{IsMarked, AreMarks};
 ghost use Rattle.rewriter_part.specs.Orders.{IsLarger};
 
+use rewriter_module::{Export, Function};
 use std::alloc::{AllocError, Global};
 use std::cmp::Reverse;
-
-use rewriter_module::{Export, Function};
 
 /// Which of `count` functions an export names.
 fn mark_exported(alloc: Global, exports: &[Export], count: usize) -> Result<Vec<bool>, AllocError>
@@ -47,7 +46,10 @@ fn marked_places(
     let mut places = Vec::new(alloc);
     for (i, function) in functions.iter().enumerate() {
         if marks[i] {
-            places.push(Place { size: Reverse(function.size), function: i as u32 })?;
+            places.push(Place {
+                size: Reverse(function.size),
+                function: i as u32,
+            })?;
         }
     }
     Ok(places)
@@ -74,6 +76,7 @@ pub(crate) fn kept_functions(
     requires in_range { All (λ e. e.function < length functions.now) exports.now }
     ensures exported { IfOk result (λ kept. (f : ℕ) →
         Contains kept.items f ↔ Contains (map (λ e. e.function) exports.now) f) }
+    ensures fewer { IfOk result (λ kept. vec_len kept ≤ length functions.now) }
     ensures in_order { IfOk result (λ kept.
         AllPairs (IsLarger (map (λ f. f.size) functions.now)) kept.items) }
 {

@@ -5,12 +5,13 @@ ghost use Rattle.std.specs.List.{range_with_len, enumerate_from};
 ghost use Rattle.wasm_model.specs.Kept.{Same};
 ghost use Rattle.rewriter_module.specs.Meaning.{type_of};
 ghost use Rattle.rewriter_part.specs.Marks.{IsMarked, AreMarks};
-ghost use Rattle.rewriter_part.specs.Orders.{IsBefore, numbered_type};
+ghost use Rattle.rewriter_part.specs.Orders.{IsOrder, numbered_type, type_index_of};
+ghost use Rattle.rewriter_part.specs.Types.{AreNumbered};
 
+use crate::numbers::{marked_of, places_of};
+use rewriter_module::{Function, FunctionType};
 use std::alloc::{AllocError, Global};
 use std::cmp::Reverse;
-
-use rewriter_module::{Function, FunctionType};
 
 /// Where a type stands among all: by the type, and of equal ones the latest first.
 #[derive(Clone, Copy, PartialEq, Eq, PartialOrd, Ord)]
@@ -27,7 +28,10 @@ fn places<'a>(alloc: Global, types: &'a [FunctionType]) -> Result<Vec<Place<'a>>
 {
     let mut places = Vec::new(alloc);
     for (i, function_type) in types.iter().enumerate() {
-        places.push(Place { function_type, number: Reverse(i as u32) })?;
+        places.push(Place {
+            function_type,
+            number: Reverse(i as u32),
+        })?;
     }
     Ok(places)
 }
@@ -46,10 +50,7 @@ fn types_at(alloc: Global, places: &[Place]) -> Result<Vec<u32>, AllocError>
 /// All types in order, of equal ones the latest first.
 pub(crate) fn ordered(alloc: Global, types: &[FunctionType]) -> Result<Vec<u32>, AllocError>
     requires { length types.now ≤ 2 ^ 32 }
-    ensures whole { IfOk result (λ order.
-        IsPermutation (range_with_len 0 (length types.now)) order.items) }
-    ensures in_order { IfOk result (λ order.
-        AllPairs (IsBefore (map type_of types.now)) order.items) }
+    ensures { IfOk result (λ order. IsOrder (map type_of types.now) order.items) }
 {
     let mut places = places(alloc, types)?;
     places.sort()?;
@@ -61,4 +62,94 @@ fn are_equal(s: &FunctionType, t: &FunctionType) -> bool
     ensures { IsTrue result ↔ (type_of s.now ≡ type_of t.now) }
 {
     s == t
+}
+
+/// For each type the one that it stands for: the latest that is equal to it.
+fn latest_of(alloc: Global, types: &[FunctionType], order: &[u32]) -> Result<Vec<u32>, AllocError>
+    requires { IsOrder (map type_of types.now) order.now }
+    ensures len { IfOk result (λ latest. vec_len latest ≡ length types.now) }
+    ensures same { IfOk result (λ latest. (t : ℕ) → t < length types.now →
+        Same (map type_of types.now) t (slice_index latest.items t)) }
+{
+    let mut latest = vec![in alloc; 0; types.len()]?;
+    let Some(start) = order.first() else {
+        return Ok(latest);
+    };
+    let mut first = *start;
+    for t in order {
+        if !are_equal(&types[first as usize], &types[*t as usize]) {
+            first = *t;
+        }
+        latest[*t as usize] = first;
+    }
+    Ok(latest)
+}
+
+/// Which types these functions have: of each the one that it stands for.
+fn mark_used(
+    alloc: Global,
+    functions: &[Function],
+    kept: &[u32],
+    latest: &[u32],
+) -> Result<Vec<bool>, AllocError>
+    requires kept_in_range { All (λ f. f < length functions.now) kept.now }
+    requires types_in_range { All (λ f. f.type_index < length latest.now) functions.now }
+    requires latest_in_range { All (λ t. t < length latest.now) latest.now }
+    ensures len { IfOk result (λ marks. vec_len marks ≡ length latest.now) }
+    ensures marks { IfOk result (λ marks. AreMarks marks.items
+        (map (λ f. slice_index latest.now (type_index_of functions.now f)) kept.now)) }
+{
+    let mut marks = vec![in alloc; false; latest.len()]?;
+    for f in kept {
+        let t = latest[functions[*f as usize].type_index as usize];
+        marks[t as usize] = true;
+    }
+    Ok(marks)
+}
+
+/// The new number of each type: that of the one that it stands for.
+fn new_numbers(alloc: Global, latest: &[u32], places: &[u32]) -> Result<Vec<u32>, AllocError>
+    requires { All (λ t. t < length places.now) latest.now }
+    ensures { IfOk result (λ numbers.
+        numbers.items ≡ map (λ t. slice_index places.now t) latest.now) }
+{
+    let mut numbers = Vec::new(alloc);
+    for t in latest {
+        numbers.push(places[*t as usize])?;
+    }
+    Ok(numbers)
+}
+
+/// The numbers of types: `types` has the kept ones' old numbers by the new ones, `new_type` the
+/// new number of each type.
+#[derive(Drop)]
+pub(crate) struct TypeNumbers {
+    pub types: Vec<u32>,
+    pub new_type: Vec<u32>,
+}
+
+/// The numbers of the types that these functions have.
+pub(crate) fn number_types(
+    alloc: Global,
+    types: &[FunctionType],
+    functions: &[Function],
+    kept: &[u32],
+) -> Result<TypeNumbers, AllocError>
+    requires fits { length types.now ≤ 2 ^ 32 }
+    requires kept_in_range { All (λ f. f < length functions.now) kept.now }
+    requires types_in_range { All (λ f. f.type_index < length types.now) functions.now }
+    ensures fewer { IfOk result (λ n. vec_len n.types ≤ length types.now) }
+    ensures numbered { IfOk result (λ n. AreNumbered (map type_of types.now)
+        (map (type_index_of functions.now) kept.now) n.types.items n.new_type.items) }
+{
+    let order = ordered(alloc, types)?;
+    let latest = latest_of(alloc, types, &order)?;
+    let used = mark_used(alloc, functions, kept, &latest)?;
+    let kept_types = marked_of(alloc, &order, &used)?;
+    let places = places_of(alloc, &kept_types, types.len())?;
+    let new_type = new_numbers(alloc, &latest, &places)?;
+    Ok(TypeNumbers {
+        types: kept_types,
+        new_type,
+    })
 }
