@@ -4,7 +4,7 @@ pub mod TypeLemmas
 pub mod PlaceLemmas
 pub mod SortLemmas
 pub mod OrderLemmas
-pub mod LatestLemmas
+pub mod FirstLemmas
 pub mod NumberedLemmas
 pub mod StandsLemmas
 pub mod NumberLemmas

@@ -17,7 +17,7 @@ pub filter_range_more : (p : ℕ → Bool) (n : ℕ) → filter p (range_with_le
 filter_range_more p n = simp map-id at (filter_of_map_range_with_len_more p (λ x. x) 0 n n (omega arith))
 
 -- the places of types, one type more
-pub numbered_more : (types : List FunctionType) (n : ℕ) (places : List Place) (place : Place) → n < length types → place.function_type.now ≡ get_or types n place.function_type.now → place.number.0 ≡ n →
+pub numbered_more : (types : List FunctionType) (n : ℕ) (places : List Place) (place : Place) → n < length types → place.function_type.now ≡ get_or types n place.function_type.now → place.number ≡ n →
     map numbered_type places ≡ enumerate_from 0 (map type_of (take n types)) → map numbered_type (places ++ place ∷ []) ≡ enumerate_from 0 (map type_of (take (n + 1) types))
 numbered_more types n places place below is_type is_number h =
     let kinds = map type_of (take n types) in

@@ -35,15 +35,15 @@ pub AreMarks-turn : {X : Type 0} (f : X → ℕ) (xs : List X) (k : ℕ) (d : X)
 AreMarks-turn f xs k d marks in_list below h = rw (map_more f xs k d in_list) (AreMarks-more marks (map f (take k xs)) (f (get_or xs k d)) below h)
 
 -- the same where the numbers are what the types of functions stand for
-pub AreMarks-used : (functions : List Function) (kept latest : List ℕ) (k : ℕ) (marks : List Bool) (d : Function) → k < length kept → length marks ≡ length latest →
-    All (λ f. f < length functions) kept → All (λ f. f.type_index < length latest) functions → All (λ t. t < length latest) latest →
-    AreMarks marks (map (λ f. slice_index latest (type_index_of functions f)) (take k kept)) →
-    AreMarks (set marks (get_or latest (get_or functions (get_or kept k 0) d).type_index 0) true) (map (λ f. slice_index latest (type_index_of functions f)) (take (k + 1) kept))
-AreMarks-used functions kept latest k marks d in_list sized kept_in types_in latest_in h =
+pub AreMarks-used : (functions : List Function) (kept firsts : List ℕ) (k : ℕ) (marks : List Bool) (d : Function) → k < length kept → length marks ≡ length firsts →
+    All (λ f. f < length functions) kept → All (λ f. f.type_index < length firsts) functions → All (λ t. t < length firsts) firsts →
+    AreMarks marks (map (λ f. slice_index firsts (type_index_of functions f)) (take k kept)) →
+    AreMarks (set marks (get_or firsts (get_or functions (get_or kept k 0) d).type_index 0) true) (map (λ f. slice_index firsts (type_index_of functions f)) (take (k + 1) kept))
+AreMarks-used functions kept firsts k marks d in_list sized kept_in types_in firsts_in h =
     let f = get_or kept k 0 in
     let f_in : f < length functions = kept_in k 0 in_list in
     let index : type_index_of functions f ≡ (get_or functions f d).type_index = get_or-map (λ (g : Function). g.type_index) functions f d 0 f_in in
-    let t_in : (get_or functions f d).type_index < length latest = types_in f d f_in in
-    subst (λ i. AreMarks (set marks (get_or latest i 0) true) (map (λ g. slice_index latest (type_index_of functions g)) (take (k + 1) kept))) index
-    (AreMarks-turn (λ g. slice_index latest (type_index_of functions g)) kept k 0 marks in_list
-    (subst (λ i. get_or latest i 0 < length marks) (sym index) (omega (arith, latest_in (get_or functions f d).type_index 0 t_in))) h)
+    let t_in : (get_or functions f d).type_index < length firsts = types_in f d f_in in
+    subst (λ i. AreMarks (set marks (get_or firsts i 0) true) (map (λ g. slice_index firsts (type_index_of functions g)) (take (k + 1) kept))) index
+    (AreMarks-turn (λ g. slice_index firsts (type_index_of functions g)) kept k 0 marks in_list
+    (subst (λ i. get_or firsts i 0 < length marks) (sym index) (omega (arith, firsts_in (get_or functions f d).type_index 0 t_in))) h)

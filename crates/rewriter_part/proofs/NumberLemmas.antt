@@ -18,6 +18,7 @@ use Rattle.rewriter_module.specs.Written.{Numbers, function_at, no_function}
 use Rattle.rewriter_module.specs.Numbered.{IsNumbering}
 use Rattle.rewriter_part.specs.Orders.{IsLarger, type_index_of}
 use Rattle.rewriter_part.specs.Types.{AreNumbered}
+use Rattle.rewriter_part.proofs.FirstLemmas.{stand_in_below}
 use Rattle.rewriter_part.proofs.SortLemmas.{Contains-map, Contains-of_map}
 
 -- what exports name is in range, and each but once
@@ -38,7 +39,7 @@ larger_by f g s t a b e i (inl x) = inl (omega arith)
 larger_by f g s t a b e i (inr x) = inr (sym i ∙ x.0 ∙ e, x.1)
 
 pub numbered_in : (kinds : List model.FunctionType) (used kept numbers : List ℕ) → AreNumbered kinds used kept numbers → All (λ t. t < length kinds) kept
-numbered_in kinds used kept numbers h = λ k d below. (h.only k d below).2.there
+numbered_in kinds used kept numbers h = λ k d below. (let w = h.only k d below in stand_in_below kinds w.0 (get_or kept k d) w.2)
 
 -- what is known of a module's numbers
 pub record AreFound (input : Module) (n : Numbers) : Type 0 where
@@ -135,4 +136,4 @@ module _ {input : Module} {n : Numbers} (h : AreFound input n) (features : Featu
   }
 
   pub types_within : (t : ℕ) → Kept m (TypeItem t) → t < length m.types
-  types_within t kept = (kept_type t kept).2.there
+  types_within t kept = (let w = kept_type t kept in stand_in_below m.types w.0 t w.2)

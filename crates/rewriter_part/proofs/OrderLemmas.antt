@@ -11,7 +11,7 @@ use Rattle.std.proofs.lemmas.List.FromFn.{length-enumerate_from, get_or-enumerat
 use Rattle.std.proofs.lemmas.List.Sorted.{ranks_by, IsPermutation-map}
 use Rattle.std.proofs.lemmas.Bool.{false≢true}
 use Rattle.std.proofs.lemmas.Bool.Decides.{nat_tests}
-use Rattle.std.proofs.lemmas.Cmp.{on_total, then_total, back_total, nat_cmp_total}
+use Rattle.std.proofs.lemmas.Cmp.{on_total, then_total, nat_cmp_total}
 use Rattle.wasm_model.specs.Module.{FunctionType}
 use Rattle.wasm_model.specs.Part.{type_cmp}
 use Rattle.rewriter_module.specs.Written.{no_type}
@@ -47,20 +47,20 @@ kinds_at kinds = λ k d below.
     ap (λ (e : ℕ × FunctionType). e.1) at ∙ get_or_default kinds k d.1 no_type small ∙ ap (λ i. get_or kinds i no_type) (omega arith ∙ sym (ap (λ (e : ℕ × FunctionType). e.0) at))
 
 abbrev pub place_lt : Place → Place → Bool
-place_lt x y = is_lt (ordering_then (type_cmp (kind x) (kind y)) (nat_cmp (number y) (number x)))
+place_lt x y = is_lt (ordering_then (type_cmp (kind x) (kind y)) (nat_cmp (number x) (number y)))
 
 place_order : IsStrictWeakOrder place_lt
-place_order = ranks_by (then_total (on_total kind type_cmp_total) (on_total number (back_total nat_cmp_total))) (λ (p : Place). p)
+place_order = ranks_by (then_total (on_total kind type_cmp_total) (on_total number nat_cmp_total)) (λ (p : Place). p)
 
-before_by : (kinds : List FunctionType) (s v : FunctionType) (t u : ℕ) → s ≡ get_or kinds t no_type → v ≡ get_or kinds u no_type → t ≢ u → (o : Ordering) → type_cmp v s ≡ o → is_lt (ordering_then o (nat_cmp t u)) ≡ false → (type_cmp s v ≡ Less) ⊎ ((s ≡ v) × (u < t))
+before_by : (kinds : List FunctionType) (s v : FunctionType) (t u : ℕ) → s ≡ get_or kinds t no_type → v ≡ get_or kinds u no_type → t ≢ u → (o : Ordering) → type_cmp v s ≡ o → is_lt (ordering_then o (nat_cmp u t)) ≡ false → (type_cmp s v ≡ Less) ⊎ ((s ≡ v) × (t < u))
 before_by kinds s v t u is_s is_v differ Less e h = absurd (false≢true (sym h))
 before_by kinds s v t u is_s is_v differ Equal e h = inr (sym (type_exact v s e), grind (arith, nat_tests))
 before_by kinds s v t u is_s is_v differ Greater e h = inl (type_cmp_total.antisymm s v ∙ ap ordering_reverse e)
 
-before_step : (kinds : List FunctionType) (s v : FunctionType) (t u : ℕ) → s ≡ get_or kinds t no_type → v ≡ get_or kinds u no_type → t ≢ u → is_lt (ordering_then (type_cmp v s) (nat_cmp t u)) ≡ false → IsBefore kinds t u
+before_step : (kinds : List FunctionType) (s v : FunctionType) (t u : ℕ) → s ≡ get_or kinds t no_type → v ≡ get_or kinds u no_type → t ≢ u → is_lt (ordering_then (type_cmp v s) (nat_cmp u t)) ≡ false → IsBefore kinds t u
 before_step kinds s v t u is_s is_v differ h =
-    subst (λ (x : FunctionType). (type_cmp x (get_or kinds u no_type) ≡ Less) ⊎ ((x ≡ get_or kinds u no_type) × (u < t))) is_s
-    (subst (λ (y : FunctionType). (type_cmp s y ≡ Less) ⊎ ((s ≡ y) × (u < t))) is_v (before_by kinds s v t u is_s is_v differ (type_cmp v s) refl h))
+    subst (λ (x : FunctionType). (type_cmp x (get_or kinds u no_type) ≡ Less) ⊎ ((x ≡ get_or kinds u no_type) × (t < u))) is_s
+    (subst (λ (y : FunctionType). (type_cmp s y ≡ Less) ⊎ ((s ≡ y) × (t < u))) is_v (before_by kinds s v t u is_s is_v differ (type_cmp v s) refl h))
 
 pub types_in_order : (kinds : List FunctionType) (places sorted : List Place) → map numbered_type places ≡ enumerate_from 0 kinds → IsPermutation places sorted → IsSortedBy place_lt sorted → AllPairs (IsBefore kinds) (map (λ p. (numbered_type p).0) sorted)
 types_in_order kinds places sorted h perm up =

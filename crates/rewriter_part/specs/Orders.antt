@@ -13,15 +13,15 @@ use Rattle.rewriter_part.specs.declared.types.Place.{Place}
 abbrev pub IsLarger : List ℕ → ℕ → ℕ → Type 0
 IsLarger sizes f g = (slice_index sizes g < slice_index sizes f) ⊎ ((slice_index sizes g ≡ slice_index sizes f) × (f < g))
 
--- t stands before u among all types: it is less, or equal to it and later
+-- t stands before u among all types: it is less, or equal to it and its number is smaller
 abbrev pub IsBefore : List FunctionType → ℕ → ℕ → Type 0
 IsBefore types t u =
     let s = slice_index_or types t no_type in
     let v = slice_index_or types u no_type in
-    (type_cmp s v ≡ Less) ⊎ ((s ≡ v) × (u < t))
+    (type_cmp s v ≡ Less) ⊎ ((s ≡ v) × (t < u))
 
 abbrev pub numbered_type : Place → ℕ × FunctionType
-numbered_type p = (p.number.0, type_of p.function_type.now)
+numbered_type p = (p.number, type_of p.function_type.now)
 
 abbrev pub type_index_of : List Function → ℕ → ℕ
 type_index_of functions f = slice_index (map (λ g. g.type_index) functions) f

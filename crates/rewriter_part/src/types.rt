@@ -11,13 +11,12 @@ ghost use Rattle.rewriter_part.specs.Types.{AreNumbered};
 use crate::numbers::{marked_of, places_of};
 use rewriter_module::{Function, FunctionType};
 use std::alloc::{AllocError, Global};
-use std::cmp::Reverse;
 
-/// Where a type stands among all: by the type, and of equal ones the latest first.
+/// Where a type stands among all: by the type, equal ones by their numbers.
 #[derive(Clone, Copy, PartialEq, Eq, PartialOrd, Ord)]
 struct Place<'a> {
     function_type: &'a FunctionType,
-    number: Reverse<u32>,
+    number: u32,
 }
 
 /// The places of all types.
@@ -30,7 +29,7 @@ fn places<'a>(alloc: Global, types: &'a [FunctionType]) -> Result<Vec<Place<'a>>
     for (i, function_type) in types.iter().enumerate() {
         places.push(Place {
             function_type,
-            number: Reverse(i as u32),
+            number: i as u32,
         })?;
     }
     Ok(places)
@@ -42,12 +41,12 @@ fn types_at(alloc: Global, places: &[Place]) -> Result<Vec<u32>, AllocError>
 {
     let mut types = Vec::new(alloc);
     for place in places {
-        types.push(place.number.0)?;
+        types.push(place.number)?;
     }
     Ok(types)
 }
 
-/// All types in order, of equal ones the latest first.
+/// All types in order, equal ones by their numbers.
 pub(crate) fn ordered(alloc: Global, types: &[FunctionType]) -> Result<Vec<u32>, AllocError>
     requires { length types.now ≤ 2 ^ 32 }
     ensures { IfOk result (λ order. IsOrder (map type_of types.now) order.items) }
@@ -64,25 +63,25 @@ fn are_equal(s: &FunctionType, t: &FunctionType) -> bool
     s == t
 }
 
-/// For each type the one that it stands for: the latest that is equal to it.
-fn latest_of(alloc: Global, types: &[FunctionType], order: &[u32]) -> Result<Vec<u32>, AllocError>
+/// For each type the one that it stands for: the first that is equal to it.
+fn firsts_of(alloc: Global, types: &[FunctionType], order: &[u32]) -> Result<Vec<u32>, AllocError>
     requires { IsOrder (map type_of types.now) order.now }
-    ensures len { IfOk result (λ latest. vec_len latest ≡ length types.now) }
-    ensures same { IfOk result (λ latest. (t : ℕ) → t < length types.now →
-        Same (map type_of types.now) t (slice_index latest.items t)) }
+    ensures len { IfOk result (λ firsts. vec_len firsts ≡ length types.now) }
+    ensures same { IfOk result (λ firsts. (t : ℕ) → t < length types.now →
+        Same (map type_of types.now) t (slice_index firsts.items t)) }
 {
-    let mut latest = vec![in alloc; 0; types.len()]?;
+    let mut firsts = vec![in alloc; 0; types.len()]?;
     let Some(start) = order.first() else {
-        return Ok(latest);
+        return Ok(firsts);
     };
     let mut first = *start;
     for t in order {
         if !are_equal(&types[first as usize], &types[*t as usize]) {
             first = *t;
         }
-        latest[*t as usize] = first;
+        firsts[*t as usize] = first;
     }
-    Ok(latest)
+    Ok(firsts)
 }
 
 /// Which types these functions have: of each the one that it stands for.
@@ -90,31 +89,31 @@ fn mark_used(
     alloc: Global,
     functions: &[Function],
     kept: &[u32],
-    latest: &[u32],
+    firsts: &[u32],
 ) -> Result<Vec<bool>, AllocError>
     requires kept_in_range { All (λ f. f < length functions.now) kept.now }
-    requires types_in_range { All (λ f. f.type_index < length latest.now) functions.now }
-    requires latest_in_range { All (λ t. t < length latest.now) latest.now }
-    ensures len { IfOk result (λ marks. vec_len marks ≡ length latest.now) }
+    requires types_in_range { All (λ f. f.type_index < length firsts.now) functions.now }
+    requires firsts_in_range { All (λ t. t < length firsts.now) firsts.now }
+    ensures len { IfOk result (λ marks. vec_len marks ≡ length firsts.now) }
     ensures marks { IfOk result (λ marks. AreMarks marks.items
-        (map (λ f. slice_index latest.now (type_index_of functions.now f)) kept.now)) }
+        (map (λ f. slice_index firsts.now (type_index_of functions.now f)) kept.now)) }
 {
-    let mut marks = vec![in alloc; false; latest.len()]?;
+    let mut marks = vec![in alloc; false; firsts.len()]?;
     for f in kept {
-        let t = latest[functions[*f as usize].type_index as usize];
+        let t = firsts[functions[*f as usize].type_index as usize];
         marks[t as usize] = true;
     }
     Ok(marks)
 }
 
 /// The new number of each type: that of the one that it stands for.
-fn new_numbers(alloc: Global, latest: &[u32], places: &[u32]) -> Result<Vec<u32>, AllocError>
-    requires { All (λ t. t < length places.now) latest.now }
+fn new_numbers(alloc: Global, firsts: &[u32], places: &[u32]) -> Result<Vec<u32>, AllocError>
+    requires { All (λ t. t < length places.now) firsts.now }
     ensures { IfOk result (λ numbers.
-        numbers.items ≡ map (λ t. slice_index places.now t) latest.now) }
+        numbers.items ≡ map (λ t. slice_index places.now t) firsts.now) }
 {
     let mut numbers = Vec::new(alloc);
-    for t in latest {
+    for t in firsts {
         numbers.push(places[*t as usize])?;
     }
     Ok(numbers)
@@ -143,11 +142,11 @@ pub(crate) fn number_types(
         (map (type_index_of functions.now) kept.now) n.types.items n.new_type.items) }
 {
     let order = ordered(alloc, types)?;
-    let latest = latest_of(alloc, types, &order)?;
-    let used = mark_used(alloc, functions, kept, &latest)?;
+    let firsts = firsts_of(alloc, types, &order)?;
+    let used = mark_used(alloc, functions, kept, &firsts)?;
     let kept_types = marked_of(alloc, &order, &used)?;
     let places = places_of(alloc, &kept_types, types.len())?;
-    let new_type = new_numbers(alloc, &latest, &places)?;
+    let new_type = new_numbers(alloc, &firsts, &places)?;
     Ok(TypeNumbers {
         types: kept_types,
         new_type,

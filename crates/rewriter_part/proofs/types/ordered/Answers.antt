@@ -18,6 +18,6 @@ returns c =
     let order : IsOrder kinds (map (λ (p : Place). (numbered_type p).0) sorted) = record {
       whole = whole_order kinds places sorted c.in_ok-places.ensures c.in_ok-sort.ensures.permutation;
       in_order = types_in_order kinds places sorted c.in_ok-places.ensures c.in_ok-sort.ensures.permutation
-          (λ k d low high. sym (ap (λ o. is_lt (ordering_then o (nat_cmp (get_or sorted k d).number.0 (get_or sorted (k + 1) d).number.0))) (type_cmp_same (type_of (get_or sorted (k + 1) d).function_type.now) (type_of (get_or sorted k d).function_type.now))) ∙ derived k d low high);
+          (λ k d low high. sym (ap (λ o. is_lt (ordering_then o (nat_cmp (get_or sorted (k + 1) d).number (get_or sorted k d).number))) (type_cmp_same (type_of (get_or sorted (k + 1) d).function_type.now) (type_of (get_or sorted k d).function_type.now))) ∙ derived k d low high);
     } in
     IfOk-weaker c.types_at.result _ _ (λ ts is. subst (λ (xs : List ℕ). IsOrder kinds xs) (sym (is ∙ ap (map (λ (p : Place). (numbered_type p).0)) c.deref.ensures.value)) order) c.types_at.ensures

@@ -1,4 +1,4 @@
--- The types that others stand for, found along the order of all.
+-- The types that stand for others, found along the order of all.
 use Rattle.std.proofs.Common.{◌≡◌, ◌≢◌, ℕ, ◌+◌, ◌<◌, ◌≤◌, false, List, length, get_or, map, Some, None, All, refl, sym, ap, subst, ◌∙◌, inl, inr, arith}
 use Rattle.std.specs.declared.cmp.Ordering.TheVariants.{Less, Equal, Greater}
 use Rattle.std.specs.List.{range_with_len}
@@ -55,38 +55,44 @@ kinds_same kinds t u t_in u_in e = same_Some (kind_at kinds u) (kind_at kinds t)
 pub same_kinds : (kinds : List FunctionType) (t u : ℕ) → t < length kinds → u < length kinds → kind_at kinds u ≡ kind_at kinds t → slice_get kinds u ≡ slice_get kinds t
 same_kinds kinds t u t_in u_in e = at_some kinds u u_in ∙ ap (λ k. Some k) e ∙ sym (at_some kinds t t_in)
 
--- the first of its kind in the order is the latest of its kind
+pub stand_in_below : (kinds : List FunctionType) (t u : ℕ) → Same kinds t u → u < length kinds
+stand_in_below kinds t u h = omega (arith, h.there, h.earlier)
+
+-- the first of its kind in the order is the first of its kind
 run_start : (kinds : List FunctionType) (order : List ℕ) → IsOrder kinds order → (i : ℕ) → i < length order →
     ((j : ℕ) → j < i → kind_at kinds (get_or order j 0) ≢ kind_at kinds (get_or order i 0)) → Same kinds (get_or order i 0) (get_or order i 0)
 run_start kinds order o i below new = record {
   there = order_below kinds order o i below;
+  earlier = omega arith;
   equal = refl;
-  latest = λ v later in_kinds e.
-      let at = stands_at kinds order o v in_kinds in
+  first = λ v sooner e.
       let t = get_or order i 0 in
-      let same : kind_at kinds v ≡ kind_at kinds t = kinds_same kinds t v (order_below kinds order o i below) in_kinds e in
+      let t_in = order_below kinds order o i below in
+      let v_in : v < length kinds = omega arith in
+      let at = stands_at kinds order o v v_in in
+      let same : kind_at kinds v ≡ kind_at kinds t = kinds_same kinds t v t_in v_in e in
       elim (cases_lt at.0 i) as (λ _. ⊥) [
-        | inl earlier ↦ new at.0 earlier (ap (kind_at kinds) at.2 ∙ same)
+        | inl front ↦ new at.0 front (ap (kind_at kinds) at.2 ∙ same)
         | inr more ↦ elim (cases_eq at.0 i) as (λ _. ⊥) [
           | inl is ↦ (let again : t ≡ v = ap (λ k. get_or order k 0) (sym is) ∙ at.2 in omega arith)
           | inr other ↦ elim (o.in_order i at.0 0 (omega arith) at.1) as (λ _. ⊥) [
             | inl less ↦ less_differs (kind_at kinds t) (kind_at kinds (get_or order at.0 0)) less (sym same ∙ ap (kind_at kinds) (sym at.2))
-            | inr tied ↦ (let down = tied.1 in omega (arith, at.2))
+            | inr tied ↦ (let up = tied.1 in omega (arith, at.2))
           ]
         ]
       ];
 }
 
 -- the first i types of the order were gone through, and `first` is the first of its kind
-pub record IsScanned (kinds : List FunctionType) (order : List ℕ) (i first : ℕ) (latest : List ℕ) : Type 0 where
-  pub sized : length latest ≡ length kinds
+pub record IsScanned (kinds : List FunctionType) (order : List ℕ) (i first : ℕ) (firsts : List ℕ) : Type 0 where
+  pub sized : length firsts ≡ length kinds
   pub at : (p : ℕ) × (p ≤ i) × (p < length order) × (get_or order p 0 ≡ first)
   pub stands : Same kinds first first
   pub low : (j : ℕ) → j < i → is_gt (type_cmp (kind_at kinds (get_or order j 0)) (kind_at kinds first)) ≡ false
-  pub same : (j : ℕ) → j < i → Same kinds (get_or order j 0) (get_or latest (get_or order j 0) 0)
+  pub same : (j : ℕ) → j < i → Same kinds (get_or order j 0) (get_or firsts (get_or order j 0) 0)
 
-pub scan_start : (kinds : List FunctionType) (order latest : List ℕ) (first : ℕ) → IsOrder kinds order → length latest ≡ length kinds → 0 < length order → first ≡ get_or order 0 0 → IsScanned kinds order 0 first latest
-scan_start kinds order latest first o len some is = record {
+pub scan_start : (kinds : List FunctionType) (order firsts : List ℕ) (first : ℕ) → IsOrder kinds order → length firsts ≡ length kinds → 0 < length order → first ≡ get_or order 0 0 → IsScanned kinds order 0 first firsts
+scan_start kinds order firsts first o len some is = record {
   sized = len;
   at = (0, omega arith, some, sym is);
   stands = subst (λ t. Same kinds t t) (sym is) (run_start kinds order o 0 some (λ j none e. omega arith));
@@ -94,13 +100,13 @@ scan_start kinds order latest first o len some is = record {
   same = λ j none. absurd (omega arith);
 }
 
-same_set : (kinds : List FunctionType) (order latest : List ℕ) (i first : ℕ) → IsOrder kinds order → i < length order → length latest ≡ length kinds →
-    ((j : ℕ) → j < i → Same kinds (get_or order j 0) (get_or latest (get_or order j 0) 0)) → Same kinds (get_or order i 0) first →
-    (j : ℕ) → j < i + 1 → Same kinds (get_or order j 0) (get_or (set latest (get_or order i 0) first) (get_or order j 0) 0)
-same_set kinds order latest i first o below len old now j in_front = elim (cases_eq j i) as (λ _. Same kinds (get_or order j 0) (get_or (set latest (get_or order i 0) first) (get_or order j 0) 0)) [
-  | inl is ↦ subst (λ k. Same kinds (get_or order k 0) (get_or (set latest (get_or order i 0) first) (get_or order k 0) 0)) (sym is)
-      (subst (λ u. Same kinds (get_or order i 0) u) (sym (get_or-set_same latest (get_or order i 0) first 0 (omega (arith, order_below kinds order o i below)))) now)
-  | inr other ↦ subst (λ u. Same kinds (get_or order j 0) u) (sym (get_or-set_other latest (get_or order i 0) (get_or order j 0) first 0 (order_distinct kinds order o j i (omega arith) below))) (old j (omega arith))
+same_set : (kinds : List FunctionType) (order firsts : List ℕ) (i first : ℕ) → IsOrder kinds order → i < length order → length firsts ≡ length kinds →
+    ((j : ℕ) → j < i → Same kinds (get_or order j 0) (get_or firsts (get_or order j 0) 0)) → Same kinds (get_or order i 0) first →
+    (j : ℕ) → j < i + 1 → Same kinds (get_or order j 0) (get_or (set firsts (get_or order i 0) first) (get_or order j 0) 0)
+same_set kinds order firsts i first o below len old now j in_front = elim (cases_eq j i) as (λ _. Same kinds (get_or order j 0) (get_or (set firsts (get_or order i 0) first) (get_or order j 0) 0)) [
+  | inl is ↦ subst (λ k. Same kinds (get_or order k 0) (get_or (set firsts (get_or order i 0) first) (get_or order k 0) 0)) (sym is)
+      (subst (λ u. Same kinds (get_or order i 0) u) (sym (get_or-set_same firsts (get_or order i 0) first 0 (omega (arith, order_below kinds order o i below)))) now)
+  | inr other ↦ subst (λ u. Same kinds (get_or order j 0) u) (sym (get_or-set_other firsts (get_or order i 0) (get_or order j 0) first 0 (order_distinct kinds order o j i (omega arith) below))) (old j (omega arith))
 ]
 
 below_or_is : (P : ℕ → Type 0) (i : ℕ) → ((j : ℕ) → j < i → P j) → P i → (j : ℕ) → j < i + 1 → P j
@@ -109,19 +115,30 @@ below_or_is P i old now j in_front = elim (cases_eq j i) as (λ _. P j) [ inl is
 equal_low : (s v : FunctionType) → s ≡ v → is_gt (type_cmp s v) ≡ false
 equal_low s v e = subst (λ (x : FunctionType). is_gt (type_cmp s x) ≡ false) e (ap is_gt (tied_itself type_cmp_total s))
 
+-- what stands before its equal has a smaller number
+first_sooner : (kinds : List FunctionType) (order : List ℕ) (i first : ℕ) → IsOrder kinds order → i < length order → kind_at kinds first ≡ kind_at kinds (get_or order i 0) → (p : ℕ) → p ≤ i → get_or order p 0 ≡ first → first ≤ get_or order i 0
+first_sooner kinds order i first o below e p upto_i is = elim (cases_eq p i) as (λ _. first ≤ get_or order i 0) [
+  | inl same ↦ (let now : first ≡ get_or order i 0 = sym is ∙ ap (λ k. get_or order k 0) same in omega arith)
+  | inr other ↦ elim (o.in_order p i 0 (omega arith) below) as (λ _. first ≤ get_or order i 0) [
+    | inl less ↦ absurd (less_differs (kind_at kinds (get_or order p 0)) (kind_at kinds (get_or order i 0)) less (ap (kind_at kinds) is ∙ e))
+    | inr tied ↦ omega (arith, tied.1)
+  ]
+]
+
 -- the next one is of the kind of `first`
-pub scan_same : (kinds : List FunctionType) (order latest : List ℕ) (i first : ℕ) → IsOrder kinds order → i < length order → kind_at kinds first ≡ kind_at kinds (get_or order i 0) →
-    IsScanned kinds order i first latest → IsScanned kinds order (i + 1) first (set latest (get_or order i 0) first)
-scan_same kinds order latest i first o below e h =
+pub scan_same : (kinds : List FunctionType) (order firsts : List ℕ) (i first : ℕ) → IsOrder kinds order → i < length order → kind_at kinds first ≡ kind_at kinds (get_or order i 0) →
+    IsScanned kinds order i first firsts → IsScanned kinds order (i + 1) first (set firsts (get_or order i 0) first)
+scan_same kinds order firsts i first o below e h =
     let t = get_or order i 0 in
     let t_in = order_below kinds order o i below in
     let gets = same_kinds kinds t first t_in h.stands.there e in
+    let sooner = first_sooner kinds order i first o below e h.at.0 h.at.1 h.at.3 in
     record {
-      sized = length-set latest t first ∙ h.sized;
+      sized = length-set firsts t first ∙ h.sized;
       at = (h.at.0, omega (arith, h.at.1), h.at.2, h.at.3);
       stands = h.stands;
       low = below_or_is (λ j. is_gt (type_cmp (kind_at kinds (get_or order j 0)) (kind_at kinds first)) ≡ false) i h.low (equal_low (kind_at kinds t) (kind_at kinds first) (sym e));
-      same = same_set kinds order latest i first o below h.sized h.same (record { there = h.stands.there; equal = gets; latest = λ v later in_kinds k. h.stands.latest v later in_kinds (k ∙ sym gets) });
+      same = same_set kinds order firsts i first o below h.sized h.same (record { there = t_in; earlier = sooner; equal = gets; first = λ v sooner k. h.stands.first v sooner (k ∙ sym gets) });
     }
 
 -- the next one is of a new kind
@@ -138,27 +155,27 @@ new_kind kinds order i first o below differ p upto_i is = elim (cases_eq p i) as
   ]
 ]
 
-pub scan_new : (kinds : List FunctionType) (order latest : List ℕ) (i first : ℕ) → IsOrder kinds order → i < length order → kind_at kinds first ≢ kind_at kinds (get_or order i 0) →
-    IsScanned kinds order i first latest → IsScanned kinds order (i + 1) (get_or order i 0) (set latest (get_or order i 0) (get_or order i 0))
-scan_new kinds order latest i first o below differ h =
+pub scan_new : (kinds : List FunctionType) (order firsts : List ℕ) (i first : ℕ) → IsOrder kinds order → i < length order → kind_at kinds first ≢ kind_at kinds (get_or order i 0) →
+    IsScanned kinds order i first firsts → IsScanned kinds order (i + 1) (get_or order i 0) (set firsts (get_or order i 0) (get_or order i 0))
+scan_new kinds order firsts i first o below differ h =
     let t = get_or order i 0 in
     let less = new_kind kinds order i first o below differ h.at.0 h.at.1 h.at.3 in
     let back : type_cmp (kind_at kinds t) (kind_at kinds first) ≡ Greater = type_cmp_total.antisymm (kind_at kinds t) (kind_at kinds first) ∙ ap ordering_reverse less in
     let start = run_start kinds order o i below (λ j earlier e. false≢true (sym (subst (λ (x : FunctionType). is_gt (type_cmp x (kind_at kinds first)) ≡ false) e (h.low j earlier)) ∙ ap is_gt back)) in
     record {
-      sized = length-set latest t t ∙ h.sized;
+      sized = length-set firsts t t ∙ h.sized;
       at = (i, omega arith, below, refl);
       stands = start;
       low = below_or_is (λ j. is_gt (type_cmp (kind_at kinds (get_or order j 0)) (kind_at kinds t)) ≡ false) i
           (λ j earlier. upto type_cmp_total (kind_at kinds (get_or order j 0)) (kind_at kinds first) (kind_at kinds t) (h.low j earlier) (less_low (kind_at kinds first) (kind_at kinds t) less))
           (equal_low (kind_at kinds t) (kind_at kinds t) refl);
-      same = same_set kinds order latest i t o below h.sized h.same start;
+      same = same_set kinds order firsts i t o below h.sized h.same start;
     }
 
-pub scan_all : (kinds : List FunctionType) (order latest : List ℕ) (i first : ℕ) → IsOrder kinds order → length order ≤ i → IsScanned kinds order i first latest → (t : ℕ) → t < length kinds → Same kinds t (get_or latest t 0)
-scan_all kinds order latest i first o done h t t_in =
+pub scan_all : (kinds : List FunctionType) (order firsts : List ℕ) (i first : ℕ) → IsOrder kinds order → length order ≤ i → IsScanned kinds order i first firsts → (t : ℕ) → t < length kinds → Same kinds t (get_or firsts t 0)
+scan_all kinds order firsts i first o done h t t_in =
     let at = stands_at kinds order o t t_in in
-    subst (λ u. Same kinds u (get_or latest u 0)) at.2 (h.same at.0 (omega (arith, at.1)))
+    subst (λ u. Same kinds u (get_or firsts u 0)) at.2 (h.same at.0 (omega (arith, at.1)))
 
 pub empty_order : (kinds : List FunctionType) (order : List ℕ) → IsOrder kinds order → None ≡ slice_get order 0 → (t : ℕ) → t < length kinds → ⊥
 empty_order kinds order o none t t_in =
