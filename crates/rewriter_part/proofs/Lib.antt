@@ -8,3 +8,4 @@ pub mod FirstLemmas
 pub mod NumberedLemmas
 pub mod StandsLemmas
 pub mod NumberLemmas
+pub mod InverseLemmas

@@ -3,7 +3,7 @@ use Rattle.std.proofs.Common.{◌≡◌, ◌≢◌, ℕ, ◌<◌, ◌≤◌, Boo
 use Rattle.std.specs.declared.cmp.Ordering.TheVariants.{Less}
 use Rattle.std.specs.Prelude.{slice_get, slice_index_or, option_map}
 use Rattle.std.proofs.Math.ListN.{length-map}
-use Rattle.std.proofs.lemmas.List.{get_or-map, get_or_default}
+use Rattle.std.proofs.lemmas.List.{get_or-map, get_or_default, get_or_past}
 use Rattle.std.proofs.lemmas.List.Elements.{Contains-get_or, All-contains, All-filter, All-map}
 use Rattle.std.proofs.lemmas.List.Sums.{length-filter, count_by-le-length}
 use Rattle.std.specs.List.{range_with_len}
@@ -42,6 +42,7 @@ pub record AreMade (kinds : List FunctionType) (used order firsts kept places nu
   pub marked : AreMarks marks (map (λ u. slice_index firsts u) used)
   pub kept_is : kept ≡ filter (λ i. slice_index_or marks i false) order
   pub places_are : (k i : ℕ) → slice_get kept k ≡ Some i → slice_get places i ≡ Some k
+  pub places_zero : (i : ℕ) → (Contains kept i → ⊥) → slice_index places i ≡ 0
   pub numbers_are : numbers ≡ map (λ t. slice_index places t) firsts
 
 module _ {kinds : List FunctionType} {used order firsts kept places numbers : List ℕ} {marks : List Bool} (h : AreMade kinds used order firsts kept places numbers marks) where
@@ -89,14 +90,24 @@ module _ {kinds : List FunctionType} {used order firsts kept places numbers : Li
       let b = get_or_from_slice_get numbers u _ 0 (number_at u (stand_in_below kinds t u s)) in
       a ∙ ap (λ v. slice_index places v) (firsts_is t u s ∙ sym (firsts_is u u (same_itself kinds t u s))) ∙ sym b
 
+  numbers_sized : length numbers ≡ length kinds
+  numbers_sized = ap length h.numbers_are ∙ length-map firsts (λ t. slice_index places t) ∙ h.firsts_sized
+
+  other_numbers : (t : ℕ) → ((u : ℕ) → Contains kept u → Same kinds t u → ⊥) → slice_index numbers t ≡ 0
+  other_numbers t out = elim (cases_lt t (length kinds)) as (λ _. slice_index numbers t ≡ 0) [
+    | inl below ↦ get_or_from_slice_get numbers t _ 0 (number_at t below) ∙ h.places_zero (slice_index firsts t) (λ c. out (slice_index firsts t) c (h.firsts_same t below))
+    | inr past ↦ get_or_past numbers t 0 (omega (arith, numbers_sized))
+  ]
+
   pub are_numbered : AreNumbered kinds used kept numbers
   are_numbered = record {
     only = λ k d below. kept_used (get_or kept k d) (Contains-get_or kept k d below);
     each = used_kept;
     in_order = λ i j d before below. strictly (get_or kept i d) (get_or kept j d) (Contains-get_or kept i d (omega arith)) (Contains-get_or kept j d below) (kept_before i j d before below);
-    sized = ap length h.numbers_are ∙ length-map firsts (λ t. slice_index places t) ∙ h.firsts_sized;
+    sized = numbers_sized;
     number = kept_number;
     merged = merged_numbers;
+    others = other_numbers;
   }
 
 -- what a filter of the order has

@@ -15,3 +15,5 @@ pub record AreNumbered (types : List FunctionType) (used kept numbers : List ℕ
   pub sized : length numbers ≡ length types
   pub number : (k t : ℕ) → slice_get kept k ≡ Some t → slice_get numbers t ≡ Some k
   pub merged : (t u : ℕ) → Same types t u → slice_index numbers t ≡ slice_index numbers u
+  -- the others have 0
+  pub others : (t : ℕ) → ((u : ℕ) → Contains kept u → ¬ Same types t u) → slice_index numbers t ≡ 0

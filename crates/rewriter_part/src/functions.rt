@@ -2,7 +2,7 @@
 
 ghost use Rattle.std.specs.Prelude.{◌≡◌, ℕ, ◌<◌, ◌≤◌, ◌^◌, ◌↔◌, IfOk, All, AllPairs, Contains, map, vec_len, length, filter, slice_index, slice_index_or, false};
 ghost use Rattle.std.specs.List.{range_with_len};
-ghost use Rattle.rewriter_part.specs.Marks.{IsMarked, AreMarks};
+ghost use Rattle.rewriter_part.specs.Marks.{AreMarks};
 ghost use Rattle.rewriter_part.specs.Orders.{IsLarger};
 
 use rewriter_module::{Export, Function};

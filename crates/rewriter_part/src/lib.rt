@@ -3,12 +3,15 @@
 
 mod functions;
 mod numbers;
+#[cfg(test)]
+mod tests;
 mod types;
 
-ghost use Rattle.std.specs.Prelude.{◌≡◌, ◌<◌, ◌≤◌, ◌^◌, IfOk, All, vec_len};
+ghost use Rattle.std.specs.Prelude.{◌≡◌, ℕ, ◌<◌, ◌≤◌, ◌^◌, IfOk, All, Contains, map, slice_index, vec_len};
 ghost use Rattle.wasm_model.specs.Features.{Features};
+ghost use Rattle.wasm_model.specs.Kept.{Same};
 ghost use Rattle.wasm_model.specs.Part.{Stands};
-ghost use Rattle.rewriter_module.specs.Meaning.{meaning, IsSound};
+ghost use Rattle.rewriter_module.specs.Meaning.{meaning, type_of, IsSound};
 ghost use Rattle.rewriter_module.specs.Numbered.{IsNumbering};
 ghost use Rattle.rewriter_module.specs.Written.{numbers_of, written, renaming};
 ghost use Rattle.rewriter_part.specs.Ranges.{IsWithin};
@@ -31,6 +34,11 @@ pub fn number(alloc: Global, input: &Module) -> Result<Numbering, AllocError>
     ensures numbers { IfOk result (λ n. (features : Features) →
         IsSound features input.now.functions.items →
         IsNumbering (meaning features input.now) (numbers_of n)) }
+    ensures other_functions { IfOk result (λ n. (f : ℕ) →
+        ¬ Contains n.functions.items f → slice_index n.new_function.items f ≡ 0) }
+    ensures other_types { IfOk result (λ n. (t : ℕ) →
+        ((u : ℕ) → Contains n.types.items u → ¬ Same (map type_of input.now.types.items) t u) →
+        slice_index n.new_type.items t ≡ 0) }
     // what is written by these numbers is the part that is kept, renamed
     ensures stands { IfOk result (λ n. (features : Features) →
         IsSound features input.now.functions.items →

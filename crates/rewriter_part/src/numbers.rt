@@ -1,7 +1,6 @@
 //! Sets of numbers below a bound, as flags, and lists of numbers the other way round.
 
-ghost use Rattle.std.specs.Prelude.{◌≡◌, ◌≢◌, ℕ, ◌<◌, ◌≤◌, ◌^◌, Some, IfOk, All, AllPairs, filter, vec_len, length, slice_get, slice_index_or, false};
-ghost use Rattle.rewriter_part.specs.Marks.{IsMarked, AreMarks};
+ghost use Rattle.std.specs.Prelude.{◌≡◌, ◌≢◌, ℕ, ◌<◌, ◌≤◌, ◌^◌, Some, IfOk, All, AllPairs, Contains, filter, vec_len, length, slice_get, slice_index, slice_index_or, false};
 
 use std::alloc::{AllocError, Global};
 
@@ -36,6 +35,8 @@ pub(crate) fn places_of(
     ensures len { IfOk result (λ places. vec_len places ≡ count) }
     ensures places { IfOk result (λ places. (k i : ℕ) →
         slice_get numbers.now k ≡ Some i → slice_get places.items i ≡ Some k) }
+    ensures others { IfOk result (λ places. (i : ℕ) →
+        ¬ Contains numbers.now i → slice_index places.items i ≡ 0) }
 {
     let mut places = vec![in alloc; 0; count]?;
     for (k, i) in numbers.iter().enumerate() {

@@ -1,10 +1,10 @@
 //! The types that are kept, their order, and what each type stands for.
 
-ghost use Rattle.std.specs.Prelude.{◌≡◌, ℕ, ◌<◌, ◌≤◌, ◌^◌, ◌↔◌, IsTrue, IfOk, All, AllPairs, Contains, map, vec_len, length, slice_index, IsPermutation};
-ghost use Rattle.std.specs.List.{range_with_len, enumerate_from};
+ghost use Rattle.std.specs.Prelude.{◌≡◌, ℕ, ◌<◌, ◌≤◌, ◌^◌, ◌↔◌, IsTrue, IfOk, All, AllPairs, Contains, map, vec_len, length, slice_index};
+ghost use Rattle.std.specs.List.{enumerate_from};
 ghost use Rattle.wasm_model.specs.Kept.{Same};
 ghost use Rattle.rewriter_module.specs.Meaning.{type_of};
-ghost use Rattle.rewriter_part.specs.Marks.{IsMarked, AreMarks};
+ghost use Rattle.rewriter_part.specs.Marks.{AreMarks};
 ghost use Rattle.rewriter_part.specs.Orders.{IsOrder, numbered_type, type_index_of};
 ghost use Rattle.rewriter_part.specs.Types.{AreNumbered};
 

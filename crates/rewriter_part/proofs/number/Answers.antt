@@ -1,4 +1,4 @@
-use Rattle.std.proofs.Common.{◌≡◌, ◌≢◌, ℕ, ◌<◌, List, map, length, Some, All, AllPairs, Contains, arith, sym, ◌∙◌, subst, vec_len}
+use Rattle.std.proofs.Common.{◌≡◌, ◌≢◌, ℕ, ◌<◌, List, map, length, Some, All, AllPairs, Contains, slice_index, arith, sym, ◌∙◌, subst, vec_len}
 use Rattle.std.specs.Prelude.{◌↔◌, slice_get}
 use Rattle.std.proofs.Math.ListN.{length-map}
 use Rattle.rewriter_module.specs.Meaning.{type_of}
@@ -67,3 +67,9 @@ returns-clause-numbers c = λ features sound. is_numbering (found c) features so
 
 pub returns-clause-stands : goal.returns-clause-stands
 returns-clause-stands c = λ features sound. stands_written (is_numbering (found c) features sound) (types_within (found c) features sound)
+
+pub returns-clause-other_functions : goal.returns-clause-other_functions
+returns-clause-other_functions c = subst (λ (xs : List ℕ). (f : ℕ) → (Contains xs f → ⊥) → slice_index c.in_ok-new_function.new_function.items f ≡ 0) c.deref-3.ensures.value c.in_ok-new_function.ensures.others
+
+pub returns-clause-other_types : goal.returns-clause-other_types
+returns-clause-other_types c = (found c).numbered.others

@@ -1,6 +1,6 @@
-use Rattle.std.proofs.Common.{◌≡◌, ℕ, ◌<◌, length, Some}
-use Rattle.std.specs.Prelude.{slice_get}
+use Rattle.std.proofs.Common.{◌≡◌, length}
+use Rattle.rewriter_part.proofs.InverseLemmas.{IsInverse}
 use Rattle.rewriter_part.proofs.numbers.places_of.Given as goal
 
 abbrev pub invariant-loop-k : goal.invariant-loop-k
-invariant-loop-k l = (length l.places.items ≡ l.count) × ((k i : ℕ) → k < l.k → slice_get l.numbers k ≡ Some i → slice_get l.places.items i ≡ Some k)
+invariant-loop-k l = (length l.places.items ≡ l.count) × IsInverse l.numbers l.k l.places.items

@@ -1,4 +1,4 @@
-use Rattle.std.proofs.Common.{◌≡◌, ◌≢◌, ℕ, ◌<◌, Bool, false, List, map, length, filter, All, AllPairs, slice_index, Some, arith, sym, ap, ◌∙◌, subst}
+use Rattle.std.proofs.Common.{◌≡◌, ◌≢◌, ℕ, ◌<◌, Bool, false, List, map, length, filter, All, AllPairs, Contains, slice_index, Some, arith, sym, ap, ◌∙◌, subst}
 use Rattle.std.specs.Prelude.{slice_index_or, slice_get}
 use Rattle.std.proofs.Math.ListN.{length-map}
 use Rattle.rewriter_module.specs.Meaning.{type_of}
@@ -66,6 +66,7 @@ returns-clause-numbered c =
       marked = subst (λ (xs : List ℕ). AreMarks marks xs) (ap (λ (ls : List ℕ). map (λ f. slice_index ls (type_index_of c.args.functions.now f)) c.args.kept.now) c.deref-2.ensures.value ∙ sym (map_map (λ u. slice_index firsts.items u) (type_index_of c.args.functions.now) c.args.kept.now)) c.in_ok-used.ensures.marks;
       kept_is = c.in_ok-kept_types.ensures ∙ ap (filter (λ i. slice_index_or c.deref-4.result.now i false)) c.deref-3.ensures.value ∙ ap (λ (ms : List Bool). filter (λ i. slice_index_or ms i false) c.in_ok-order.order.items) c.deref-4.ensures.value;
       places_are = subst (λ (xs : List ℕ). (k i : ℕ) → slice_get xs k ≡ Some i → slice_get c.in_ok-places.places.items i ≡ Some k) c.deref-5.ensures.value c.in_ok-places.ensures.places;
+      places_zero = subst (λ (xs : List ℕ). (i : ℕ) → (Contains xs i → ⊥) → slice_index c.in_ok-places.places.items i ≡ 0) c.deref-5.ensures.value c.in_ok-places.ensures.others;
       numbers_are = c.in_ok-new_type.ensures ∙ ap (map (λ t. slice_index c.deref-7.result.now t)) c.deref-6.ensures.value ∙ ap (λ (ps : List ℕ). map (λ t. slice_index ps t) firsts.items) c.deref-7.ensures.value;
     } in
     are_numbered made
