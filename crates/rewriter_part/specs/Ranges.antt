@@ -1,0 +1,11 @@
+-- Numbers of a module with this many functions and types.
+use Rattle.std.specs.Prelude.{ℕ, ◌≡◌, ◌<◌, ◌≤◌, length, All}
+use Rattle.rewriter_module.specs.Written.{Numbers}
+
+pub record IsWithin (functions types : ℕ) (n : Numbers) : Type 0 where
+  pub kept_functions : All (λ f. f < functions) n.functions
+  pub kept_types : All (λ t. t < types) n.types
+  pub fewer_functions : length n.functions ≤ functions
+  pub fewer_types : length n.types ≤ types
+  pub all_functions : length n.new_function ≡ functions
+  pub all_types : length n.new_type ≡ types
