@@ -3,3 +3,4 @@ pub mod Shrinks
 pub mod Walk
 pub mod Counting
 pub mod Checking
+pub mod Shortens

@@ -2,3 +2,4 @@ pub mod Views
 pub mod Exactly
 pub mod Live
 pub mod Sizes
+pub mod Signs

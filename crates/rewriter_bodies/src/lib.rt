@@ -4,9 +4,11 @@
 
 mod check;
 mod flow;
+mod number;
 mod operator;
 mod read;
 mod table;
 
 pub use check::check_body;
+pub use number::{write_s32, write_u32};
 pub use operator::Operator;
