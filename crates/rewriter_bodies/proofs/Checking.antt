@@ -8,13 +8,13 @@ use Rattle.wasm_model.specs.declared.fault.Fault.{Fault}
 use Rattle.wasm_model.specs.declared.fault.Form.TheVariants as forms
 use Rattle.wasm_model.specs.Features.{Features}
 use Rattle.wasm_model.specs.Module.{Operator}
-use Rattle.wasm_model.specs.NormalForm.{size}
 use Rattle.wasm_model.specs.Spells.{Code}
 use Rattle.wasm_model.specs.Stop.{Trouble, Other, Nesting, Unsupported, Stop, stop, Parsing, ◌>>=◌, value_at, trouble_of, place_of}
 use Rattle.wasm_model.specs.Bodies.{code_at}
+use Rattle.rewriter_bodies.specs.declared.extent.Extent.{Extent}
 use Rattle.rewriter_bodies.specs.Views.{u32_value_at}
 use Rattle.rewriter_bodies.specs.Exactly.{ParsesExactly, IsPlaced}
-use Rattle.rewriter_bodies.specs.Sizes.{made, body_at, size_at}
+use Rattle.rewriter_bodies.specs.Sizes.{made, body_at, extent_of, extent_at}
 use Rattle.rewriter_bodies.proofs.Operators.{Forward-then, ends_same}
 use Rattle.rewriter_bodies.proofs.Shrinks.{StopsWithin, code_within}
 
@@ -79,23 +79,23 @@ module _ (features : Features) (body : List ℕ) (offset : ℕ) where
           counted count read place
           ∙ ap (λ (n : ℕ). behind_count features (place + length body) (length body) (n, rest next)) none
 
-      pub no_size : (e : Fault) → ((finish : ℕ) → ParsesExactly (size_at features finish) plain next last (Err e)) → (place : ℕ) → code_at features place body ≡ Err (stop (trouble_of e) (offset + length body - place_of e))
+      pub no_size : (e : Fault) → ((finish : ℕ) → ParsesExactly (extent_at features finish) plain next last (Err e)) → (place : ℕ) → code_at features place body ≡ Err (stop (trouble_of e) (offset + length body - place_of e))
       no_size e sized place =
           let it = sized (place + length body) in
           no_locals place
-          ∙ ap closes (made_err size (body_at features (place + length body) (rest next)) _ it.value)
+          ∙ ap closes (made_err extent_of (body_at features (place + length body) (rest next)) _ it.value)
           ∙ ap (λ (n : ℕ). Err (stop (trouble_of e) (n - place_of e))) (ends_same it.moves ∙ ends_same read.moves ∙ finish)
 
-      module _ (n : ℕ) (sized : (finish : ℕ) → ParsesExactly (size_at features finish) plain next last (Ok n)) (place : ℕ) where
-        operators_are : (ops : List (Operator × ℕ)) × (body_at features (place + length body) (rest next) ≡ Ok (ops, rest last)) × (size ops ≡ n)
-        operators_are = made_ok size (body_at features (place + length body) (rest next)) n (rest last) (sized (place + length body)).value
+      module _ (n : Extent) (sized : (finish : ℕ) → ParsesExactly (extent_at features finish) plain next last (Ok n)) (place : ℕ) where
+        operators_are : (ops : List (Operator × ℕ)) × (body_at features (place + length body) (rest next) ≡ Ok (ops, rest last)) × (extent_of ops ≡ n)
+        operators_are = made_ok extent_of (body_at features (place + length body) (rest next)) n (rest last) (sized (place + length body)).value
 
         pub goes_past : length (rest last) ≢ 0 → code_at features place body ≡ Err (stop Nesting (length (rest last)))
         goes_past h =
             no_locals place ∙ ap closes operators_are.1
             ∙ ap (λ (b : Bool). if b then Ok (record { locals = []; body = operators_are.0 }) else Err (stop Nesting (length (rest last)))) (ne_eqb (length (rest last)) 0 h)
 
-        pub is_whole : length (rest last) ≡ 0 → (code : Code) × (code_at features place body ≡ Ok code) × (n ≡ size code.body)
+        pub is_whole : length (rest last) ≡ 0 → (code : Code) × (code_at features place body ≡ Ok code) × (n ≡ extent_of code.body)
         is_whole h = (
           record { locals = []; body = operators_are.0 },
           no_locals place ∙ ap closes operators_are.1

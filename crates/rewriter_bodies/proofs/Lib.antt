@@ -4,3 +4,4 @@ pub mod Walk
 pub mod Counting
 pub mod Checking
 pub mod Shortens
+pub mod Lengths

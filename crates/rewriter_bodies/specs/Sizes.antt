@@ -1,10 +1,12 @@
--- The sizes of bodies.
-use Rattle.std.specs.Prelude.{ℕ, ◌+◌, List, length, Ok, Err}
+-- How long bodies are.
+use Rattle.std.specs.Prelude.{ℕ, List, length, Ok, Err}
 use Rattle.wasm_model.specs.Features.{Features}
-use Rattle.wasm_model.specs.Module.{Operator}
-use Rattle.wasm_model.specs.NormalForm.{size}
+use Rattle.wasm_model.specs.Module.{Operator, operators}
+use Rattle.wasm_model.specs.NormalForm.{size, normal_form}
+use Rattle.wasm_model.specs.Spelling.{body_bytes}
 use Rattle.wasm_model.specs.Stop.{Parsing}
 use Rattle.wasm_model.specs.Bodies.{operators_at}
+use Rattle.rewriter_bodies.specs.declared.extent.Extent.{Extent}
 
 -- what is made of the operators that are parsed
 abbrev pub made : {A B : Type 0} → (A → B) → Parsing A → Parsing B
@@ -15,6 +17,9 @@ made f (Err e) = Err e
 abbrev pub body_at : Features → ℕ → List ℕ → Parsing (List (Operator × ℕ))
 body_at features finish bytes = operators_at features finish (length bytes) bytes
 
--- the number of instructions of their normal form
-abbrev pub size_at : Features → ℕ → List ℕ → Parsing ℕ
-size_at features finish bytes = made size (body_at features finish bytes)
+-- how long the normal form of operators is
+abbrev pub extent_of : List (Operator × ℕ) → Extent
+extent_of ops = record { instructions = size ops; bytes = length (body_bytes (operators (normal_form ops))) }
+
+abbrev pub extent_at : Features → ℕ → List ℕ → Parsing Extent
+extent_at features finish bytes = made extent_of (body_at features finish bytes)

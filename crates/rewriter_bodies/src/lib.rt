@@ -3,12 +3,14 @@
 #![tactic(auto)]
 
 mod check;
+mod extent;
 mod flow;
 mod number;
 mod operator;
 mod read;
 mod table;
 
-pub use check::check_body;
+pub use check::{check_body, measure_body};
+pub use extent::Extent;
 pub use number::{write_s32, write_u32};
 pub use operator::Operator;

@@ -1,6 +1,6 @@
 //! The shortest spelling of numbers (Core Specification, Binary Format, Integers).
 
-ghost use Rattle.std.specs.Prelude.{◌≡◌, ◌<◌, ◌++◌, ◌-◌, OnOk, if◌then◌else◌};
+ghost use Rattle.std.specs.Prelude.{◌≡◌, ◌<◌, ◌≤◌, ◌++◌, ◌-◌, length, OnOk, if◌then◌else◌};
 ghost use Rattle.wasm_model.specs.Shortest.{u32_bytes, s32_bytes};
 ghost use Rattle.rewriter_bodies.specs.Signs.{signed_of};
 
@@ -50,4 +50,19 @@ pub fn write_s32(out: &mut Vec<u8>, n: i32) -> Result<(), AllocError>
     }
     out.push(group(negative, rest as u8))?;
     Ok(())
+}
+
+/// How many bytes an s32 takes.
+pub fn s32_len(n: i32) -> u64
+    ensures bytes { result ≡ length (s32_bytes n) }
+    ensures most { result ≤ 5 }
+{
+    let (_, rest) = split(n);
+    match rest {
+        0..0x40 => 1,
+        0x40..0x2000 => 2,
+        0x2000..0x10_0000 => 3,
+        0x10_0000..0x800_0000 => 4,
+        _ => 5,
+    }
 }

@@ -1,12 +1,16 @@
 //! Reading one operator.
 
+ghost use Rattle.std.specs.Prelude.{◌≡◌, ◌≤◌, ◌++◌, length, OnOk};
+ghost use Rattle.wasm_model.specs.Spelling.{operator_bytes};
 ghost use Rattle.wasm_model.specs.Features.{features_of};
 ghost use Rattle.rewriter_bodies.specs.Exactly.{ParsesExactly};
 ghost use Rattle.wasm_model.specs.Bodies.{operator_at, trouble_at_code, trouble_at_number};
 ghost use Rattle.rewriter_bodies.specs.Views.{operator_of, Refuses};
 
+use crate::number::{s32_len, write_s32};
 use crate::read::{read_s32, read_u8, read_u32};
 use crate::table::{is_operator, is_part, is_prefix, is_prefixed_operator};
+use std::alloc::AllocError;
 use wasm_model::fault::{Fault, Form};
 use wasm_model::options::Options;
 use wasm_reader::BinaryReader;
@@ -73,4 +77,32 @@ pub fn read_operator(options: &Options, reader: &mut BinaryReader) -> Result<Ope
         }
         _ => Err(fault_at_code(options, code, offset)),
     }
+}
+
+/// How many bytes an operator takes.
+pub fn operator_len(operator: Operator) -> u64
+    ensures bytes { result ≡ length (operator_bytes (operator_of operator)) }
+    ensures most { result ≤ 6 }
+{
+    match operator {
+        Operator::I32Const { value } => 1 + s32_len(value),
+        _ => 1,
+    }
+}
+
+/// Writes an operator.
+pub fn write_operator(out: &mut Vec<u8>, operator: Operator) -> Result<(), AllocError>
+    ensures { OnOk result (out.new.items ≡ out.old.items ++ operator_bytes (operator_of operator)) }
+{
+    match operator {
+        Operator::Nop => out.push(0x01)?,
+        Operator::End => out.push(0x0b)?,
+        Operator::Return => out.push(0x0f)?,
+        Operator::Drop => out.push(0x1a)?,
+        Operator::I32Const { value } => {
+            out.push(0x41)?;
+            write_s32(out, value)?;
+        }
+    }
+    Ok(())
 }
