@@ -102,3 +102,38 @@ module _ (features : Features) (body : List ℕ) (offset : ℕ) where
               ∙ ap (λ (k : ℕ). if k == 0 then Ok (record { locals = []; body = operators_are.0 }) else Err (stop Nesting (length (rest last)))) h,
           sym operators_are.2,
         )
+
+then_ok : {A B : Type 0} (r : Parsing A) (f : A × List ℕ → Result B Stop) (y : B) → (let done : B → Result B Stop = λ z. Ok z in (r >>= f) ≡ done y) → (x : A × List ℕ) × (r ≡ Ok x) × (f x ≡ Ok y)
+then_ok (Ok x) f y e = (x, refl, e)
+then_ok (Err s) f y e = cc
+
+-- a test that was passed
+passed : {B : Type 0} (b : Bool) (x : Result B Stop) (s : Stop) (y : B) → (let done : B → Result B Stop = λ z. Ok z in (if b then x else Err s) ≡ done y) → x ≡ Ok y
+passed true x s y e = e
+passed false x s y e = cc
+
+abbrev record_of : List (Operator × ℕ) → Code
+record_of ops = record { locals = []; body = ops }
+
+-- the parts of a body that reads
+pub record Parts (features : Features) (place : ℕ) (bytes : List ℕ) (code : Code) : Type 0 where
+  pub count : ℕ
+  pub behind : List ℕ
+  pub last : List ℕ
+  pub counted : u32_value_at bytes ≡ Ok (count, behind)
+  pub operators : body_at features (place + length bytes) behind ≡ Ok (code.body, last)
+
+pub parts_of : (features : Features) (place : ℕ) (bytes : List ℕ) (code : Code) → code_at features place bytes ≡ Ok code → Parts features place bytes code
+parts_of features place bytes code e =
+    let first = then_ok (u32_value_at bytes) (behind_count features (place + length bytes) (length bytes)) code (sym (code-step features place bytes) ∙ e) in
+    let body = passed (first.0.0 == 0) (closes (body_at features (place + length bytes) first.0.1)) (stop (Unsupported forms.Later) (length bytes)) code first.2 in
+    let second = then_ok (body_at features (place + length bytes) first.0.1) (λ body. if length body.1 == 0 then Ok (record { locals = []; body = body.0 }) else Err (stop Nesting (length body.1))) code body in
+    let same = passed (length second.0.1 == 0) (Ok (record { locals = []; body = second.0.0 })) (stop Nesting (length second.0.1)) code second.2 in
+    let it : record_of second.0.0 ≡ code = ok_is (record_of second.0.0) code same in
+    record {
+      count = first.0.0;
+      behind = first.0.1;
+      last = second.0.1;
+      counted = first.1;
+      operators = second.1 ∙ ap (λ (c : Code). Ok (c.body, second.0.1)) it
+    }

@@ -3,5 +3,6 @@ pub mod Shrinks
 pub mod Walk
 pub mod Counting
 pub mod Checking
+pub mod Writing
 pub mod Shortens
 pub mod Lengths

@@ -3,3 +3,4 @@ pub mod Exactly
 pub mod Live
 pub mod Sizes
 pub mod Signs
+pub mod Texts

@@ -3,6 +3,7 @@
 #![tactic(auto)]
 
 mod check;
+mod code;
 mod extent;
 mod flow;
 mod number;
@@ -11,6 +12,7 @@ mod read;
 mod table;
 
 pub use check::{check_body, measure_body};
+pub use code::CodeWriter;
 pub use extent::Extent;
 pub use number::{write_s32, write_u32};
 pub use operator::Operator;
