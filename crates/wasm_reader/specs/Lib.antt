@@ -3,3 +3,4 @@ pub mod Reading
 pub mod Numbers
 pub mod Text
 pub mod Messages
+pub mod Floats

@@ -28,3 +28,15 @@ unfoldable pub sized_bytes_at : List ℕ → Reading (List ℕ)
 sized_bytes_at bytes = do
   size ← unsigned_at 32 bytes
   bytes_at size.0 size.1
+
+-- a name of any length
+unfoldable pub unlimited_string_at : List ℕ → Reading (List ℕ)
+unlimited_string_at bytes = do
+  size ← unsigned_at 32 bytes
+  text_at size.0 size.1
+
+-- a name of at most 100,000 bytes, of which nothing is answered
+unfoldable pub skipped_string_at : List ℕ → Reading (Unit {0})
+skipped_string_at bytes = do
+  text ← string_at bytes
+  Ok (tt, text.1)

@@ -2,7 +2,7 @@
 
 ghost use Rattle.std.specs.Prelude.{◌≡◌, ◌+◌, ◌-◌, ◌*◌, ◌<◌, ◌≤◌, ◌^◌, true, pos, ◌+ℤ◌, ◌-ℤ◌, ◌*ℤ◌, ◌<ℤ◌, ◌≤ℤ◌, IfOk};
 ghost use Rattle.wasm_reader.specs.Reading.{Reads, plain};
-ghost use Rattle.wasm_reader.specs.Numbers.{unsigned, signed, unsigned_at, signed_at, number_at};
+ghost use Rattle.wasm_reader.specs.Numbers.{unsigned, signed, unsigned_at, signed_at, s33_at, number_at};
 
 use crate::error::{Error, ErrorKind, Result};
 use crate::reader::BinaryReader;
@@ -110,6 +110,27 @@ impl<'a> BinaryReader<'a> {
         ensures { Reads (unsigned_at 32) plain self.old self.new result }
     {
         Ok(self.read_unsigned(32)? as u32)
+    }
+
+    /// A u64.
+    pub fn read_var_u64(&mut self) -> Result<u64>
+        ensures { Reads (unsigned_at 64) plain self.old self.new result }
+    {
+        self.read_unsigned(64)
+    }
+
+    /// An s33.
+    pub fn read_var_s33(&mut self) -> Result<i64>
+        ensures { Reads s33_at plain self.old self.new result }
+    {
+        self.read_signed(33, ErrorKind::TooLong)
+    }
+
+    /// An s64.
+    pub fn read_var_i64(&mut self) -> Result<i64>
+        ensures { Reads (signed_at 64) plain self.old self.new result }
+    {
+        self.read_signed(64, ErrorKind::TooLarge)
     }
 
     /// An s32.
