@@ -1,7 +1,6 @@
 -- The loops over the bytes of a number, for unsigned and signed ones at once.
-use Rattle.std.proofs.Common.{◌≡◌, ◌+◌, ◌-◌, ◌*◌, ◌<◌, ◌≤◌, ◌^◌, ℕ, zero, suc, Bool, true, false, List, [], ◌∷◌, length, Ok, Err, Result, refl, sym, ap, ◌∙◌, subst, arith, rules, add-one, ℤ, pos, ◌+ℤ◌, ◌-ℤ◌, ◌*ℤ◌, IfErr, nat_lt, nat_le}
-use Rattle.std.proofs.lemmas.Nat.{pow-add, pow_pos}
-use Rattle.std.proofs.lemmas.Bool.{lt-ltb, le-ltb, le-leb, lt-leb}
+use Rattle.std.proofs.Common.{◌≡◌, ◌+◌, ◌-◌, ◌*◌, ◌<◌, ◌≤◌, ◌^◌, ℕ, zero, suc, true, false, List, [], ◌∷◌, length, Ok, Err, Result, refl, sym, ap, ◌∙◌, arith, rules, add-one, ℤ, pos, ◌+ℤ◌, ◌*ℤ◌}
+use Rattle.std.proofs.lemmas.Nat.{pow-add}
 use Rattle.std.proofs.lemmas.Int.{ints}
 use borrow.Author.Differences.{up, down, same_in}
 use lib.IntN.{negsuc, neg_ℤ}
@@ -9,9 +8,10 @@ use Rattle.std.proofs.Math.Nat.{mul-zero}
 use Rattle.wasm_reader.specs.declared.error.Error.{Error}
 use Rattle.wasm_reader.specs.declared.error.ErrorKind.{ErrorKind}
 use Rattle.wasm_reader.specs.declared.error.ErrorKind.TheVariants as kinds
-use Rattle.wasm_reader.specs.Cursor.{Window, Cursor, rest, end_of, Forward, IsWithin}
-use Rattle.wasm_reader.specs.Reading.{Reading, Reads, fault, Fault, ◌>>=◌, answer, plain, byte_at}
+use Rattle.wasm_reader.specs.Cursor.{Window, Cursor, rest, end_of, Forward}
+use Rattle.wasm_reader.specs.Reading.{Reading, Reads, fault, Fault, ◌>>=◌, plain, byte_at}
 use Rattle.wasm_reader.proofs.Bits.{joined_below}
+use Rattle.wasm_reader.specs.Spelled.{number_at-last, number_at-wrong, number_at-too_long, number_at-more, number_at-none}
 use Rattle.wasm_reader.specs.Numbers.{Style, unsigned, signed, number_at}
 
 -- how low bits go below what the later bytes stand for
@@ -106,28 +106,6 @@ starts {s = s} k wrong c width h = record {
   so_far = let same : width - 0 ≡ width = omega arith in rw same (raised-nothing k (number_at s wrong width (rest c)));
   moves = Forward-same c;
 }
-
--- what one byte leaves of the reading
-number_at-last : {A : Type 0} (s : Style A) (wrong : ErrorKind) (width b : ℕ) (bytes : List ℕ) → b < 128 → s.fits width b ≡ true → number_at s wrong width (b ∷ bytes) ≡ Ok (s.value b, bytes)
-unfolding number_at
-number_at-last s wrong width b bytes last fits = rw (lt-ltb b 128 last, fits) refl
-
-number_at-wrong : {A : Type 0} (s : Style A) (wrong : ErrorKind) (width b : ℕ) (bytes : List ℕ) → b < 128 → s.fits width b ≡ false → number_at s wrong width (b ∷ bytes) ≡ Err (fault wrong (length bytes + 1))
-unfolding number_at
-number_at-wrong s wrong width b bytes last fits = rw (lt-ltb b 128 last, fits) refl
-
-number_at-too_long : {A : Type 0} (s : Style A) (wrong : ErrorKind) (width b : ℕ) (bytes : List ℕ) → 128 ≤ b → width ≤ 7 → number_at s wrong width (b ∷ bytes) ≡ Err (fault kinds.TooLong (length bytes + 1))
-unfolding number_at
-number_at-too_long s wrong width b bytes goes narrow = rw (le-ltb b 128 goes, le-leb width 7 narrow) refl
-
-number_at-more : {A : Type 0} (s : Style A) (wrong : ErrorKind) (width b : ℕ) (bytes : List ℕ) → 128 ≤ b → 7 < width
-    → number_at s wrong width (b ∷ bytes) ≡ (number_at s wrong (width - 7) bytes >>= λ x. Ok (s.onto (b - 128) x.0, x.1))
-unfolding number_at
-number_at-more s wrong width b bytes goes wide = rw (le-ltb b 128 goes, lt-leb width 7 wide) refl
-
-number_at-none : {A : Type 0} (s : Style A) (wrong : ErrorKind) (width : ℕ) → number_at s wrong width [] ≡ Err (fault (kinds.EndOfFile 1) 0)
-unfolding number_at
-number_at-none s wrong width = refl
 
 ok_is : {A B : Type 0} (x y : A) → (let done : A → Result A B = λ z. Ok z in done x ≡ done y) → x ≡ y
 ok_is x y e = cc

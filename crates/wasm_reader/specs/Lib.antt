@@ -4,3 +4,5 @@ pub mod Numbers
 pub mod Text
 pub mod Messages
 pub mod Floats
+pub mod Shortest
+pub mod Spelled

@@ -1,5 +1,5 @@
 -- Readings: functions from the bytes that are left to a value and the bytes that are then left, or to a fault.
-use Rattle.std.specs.Prelude.{ℕ, ◌+◌, ◌-◌, ◌*◌, ◌≤◌, ◌≡◌, ◌==◌, nat_le, nat_lt, List, [], ◌∷◌, length, take, drop, Result, Ok, Err, IfErr, if◌then◌else◌}
+use Rattle.std.specs.Prelude.{ℕ, ◌+◌, ◌-◌, ◌*◌, ◌≤◌, ◌≡◌, nat_le, nat_lt, List, [], ◌∷◌, length, take, drop, Result, Ok, Err, IfErr, if◌then◌else◌}
 use Rattle.std.specs.Borrow.{Bor}
 use Rattle.wasm_reader.specs.declared.error.Error.{Error}
 use Rattle.wasm_reader.specs.declared.error.ErrorKind.{ErrorKind}

@@ -1,5 +1,5 @@
 -- Names (Core Specification, binary format, values: names).
-use Rattle.std.specs.Prelude.{ℕ, ◌+◌, ◌≤◌, nat_le, List, length, Ok, Err, if◌then◌else◌}
+use Rattle.std.specs.Prelude.{ℕ, nat_le, List, length, Ok, Err, if◌then◌else◌}
 use Rattle.std.specs.Str.{is_utf8}
 use Rattle.wasm_reader.specs.declared.error.ErrorKind.TheVariants as kinds
 use Rattle.wasm_reader.specs.Reading.{Reading, fault, ◌>>=◌, bytes_at}

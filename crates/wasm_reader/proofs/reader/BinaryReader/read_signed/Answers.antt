@@ -1,7 +1,6 @@
-use Rattle.std.proofs.Common.{arith, rules, ◌≡◌, true, sym, ◌∙◌, ℤ, ◌<◌, ◌≤◌, ◌-◌, ◌^◌, to_z, of_z, w64}
+use Rattle.std.proofs.Common.{arith, rules, ◌≡◌, sym, ℤ, to_z, of_z, w64}
 use Rattle.std.proofs.lemmas.Int.{to_z-of_z}
 use Rattle.std.proofs.lemmas.Result.{err_from_is_err_and}
-use Rattle.std.proofs.lemmas.Bool.{ltb-true}
 use Rattle.wasm_reader.specs.Reading.{plain}
 use Rattle.wasm_reader.proofs.Bits.{room_signed, room_more, signed_least, signed_most}
 use Rattle.wasm_reader.proofs.Loop.{raises_signed, starts, goes_on, ends, ends_wrong, ends_long, misses}
