@@ -6,3 +6,6 @@ pub mod Messages
 pub mod Floats
 pub mod Shortest
 pub mod Spelled
+pub mod Laws
+pub mod Final
+pub mod Finals

@@ -59,9 +59,10 @@ bytes_at size bytes =
     else Err (fault (kinds.EndOfFile (size - length bytes)) (length bytes))
 
 -- a byte below 128
-abbrev pub u7_at : List ℕ → Reading ℕ
-u7_at [] = Err (fault (kinds.EndOfFile 1) 0)
-u7_at (b ∷ bytes) = if nat_lt b 128 then Ok (b, bytes) else Err (fault kinds.BadByte (length bytes + 1))
+unfoldable pub u7_at : List ℕ → Reading ℕ
+u7_at bytes = do
+  b ← byte_at bytes
+  if nat_lt b.0 128 then Ok b else Err (fault kinds.BadByte (length bytes))
 
 -- the number of which these are the bytes, the lowest first
 abbrev pub little : List ℕ → ℕ

@@ -174,6 +174,7 @@ impl<'a> BinaryReader<'a> {
     }
 
     /// A byte below 128.
+    #[tactic(auto, unfolding(crate::specs::Reading::u7_at))]
     pub fn read_u7(&mut self) -> Result<u8>
         ensures { Reads u7_at plain self.old self.new result }
     {
