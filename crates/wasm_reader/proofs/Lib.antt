@@ -2,3 +2,4 @@ pub mod Bits
 pub mod Loop
 pub mod Utf8
 pub mod Runs
+pub mod Moved

@@ -1,12 +1,11 @@
 -- Lemmas: how final readings are put together.
-use Rattle.std.specs.Prelude.{ℕ, zero, suc, ◌+◌, ◌-◌, ◌<◌, ◌≤◌, ◌≡◌, ◌≢◌, Bool, true, false, List, [], ◌∷◌, ◌++◌, length, take, drop, Result, Ok, Err, nat_le, if◌then◌else◌, refl}
-use Rattle.std.proofs.Common.{sym, ap, ◌∙◌, subst, arith, inl, inr}
-use Rattle.std.proofs.lemmas.Bool.{cases_lt, cases_Bool, lt-ltb, le-ltb, le-leb, lt-leb}
-use Rattle.std.proofs.lemmas.List.{length-append, length-drop}
+use Rattle.std.specs.Prelude.{ℕ, ◌+◌, ◌<◌, ◌≤◌, ◌≡◌, Bool, true, false, List, ◌++◌, length, Ok, Err, if◌then◌else◌, refl}
+use Rattle.std.proofs.Common.{ap, subst, arith}
+use Rattle.std.proofs.lemmas.List.{length-append}
 use Rattle.wasm_reader.specs.declared.error.ErrorKind.{ErrorKind}
 use Rattle.wasm_reader.specs.declared.error.ErrorKind.TheVariants as kinds
-use Rattle.wasm_reader.specs.Reading.{Reading, Fault, fault, ◌>>=◌, byte_at, bytes_at}
-use Rattle.wasm_reader.specs.Laws.{Passes, HintHolds, GrowsFault, Grows, StaysWithin, IsFinal}
+use Rattle.wasm_reader.specs.Reading.{Reading, Fault, fault, ◌>>=◌}
+use Rattle.wasm_reader.specs.Laws.{Passes, GrowsFault, Grows, StaysWithin, IsFinal}
 
 -- a kind that more bytes do not change
 abbrev pub IsKept : ErrorKind → Type 0
@@ -48,17 +47,17 @@ kept_is_not kind missing h e = subst IsKept e h
 -- a fault where the reading began
 pub fault_from : {A : Type 0} (k : ℕ) (kind : ErrorKind) → IsKept kind → IsFinalFrom {A = A} k (λ start bytes. Err (fault kind start))
 fault_from k kind h = record {
-    grows = λ start bytes more p. fault_grows kind start more (Err (fault kind (start + length more))) h refl;
-    stays = λ start bytes p. (omega arith, λ missing e. absurd (kept_is_not kind missing h e))
-  }
+  grows = λ start bytes more p. fault_grows kind start more (Err (fault kind (start + length more))) h refl;
+  stays = λ start bytes p. (omega arith, λ missing e. absurd (kept_is_not kind missing h e));
+}
 
 -- a fault k bytes back
 pub fault_back : {A : Type 0} (k : ℕ) (kind : ErrorKind) → IsKept kind → IsFinalFrom {A = A} k (λ start bytes. Err (fault kind (length bytes + k)))
 fault_back k kind h = record {
-    grows = λ start bytes more p. fault_grows kind (length bytes + k) more (Err (fault kind (length (bytes ++ more) + k))) h
+  grows = λ start bytes more p. fault_grows kind (length bytes + k) more (Err (fault kind (length (bytes ++ more) + k))) h
       (let same : length (bytes ++ more) + k ≡ length bytes + k + length more = omega (arith, length-append bytes more) in ap (λ n. Err (fault kind n)) same);
-    stays = λ start bytes p. (p, λ missing e. absurd (kept_is_not kind missing h e))
-  }
+  stays = λ start bytes p. (p, λ missing e. absurd (kept_is_not kind missing h e));
+}
 
 pub if_from : {A : Type 0} {k : ℕ} (b : Bool) (f g : ℕ → List ℕ → Reading A) → IsFinalFrom k f → IsFinalFrom k g → IsFinalFrom k (λ start bytes. if b then f start bytes else g start bytes)
 if_from true f g p q = p
@@ -71,9 +70,9 @@ stays_from start n (Err f) h p = (omega arith, λ missing e. p)
 -- a final reading
 pub final_from : {A : Type 0} (k : ℕ) (reading : List ℕ → Reading A) → IsFinal reading → IsFinalFrom k (λ start bytes. reading bytes)
 final_from k reading h = record {
-    grows = λ start bytes more p. h.grows bytes more;
-    stays = λ start bytes p. stays_from start (length bytes) (reading bytes) (omega arith) (h.within bytes)
-  }
+  grows = λ start bytes more p. h.grows bytes more;
+  stays = λ start bytes p. stays_from start (length bytes) (reading bytes) (omega arith) (h.within bytes);
+}
 
 -- ---- one reading after another
 
@@ -87,10 +86,10 @@ passes_from start n place (Err f) h p = λ missing e.
 pub fault_then : {A B : Type 0} (kind : ErrorKind) (left : ℕ) (more : List ℕ) (after : Reading A) (next : A × List ℕ → Reading B)
     → ((place : ℕ) → Passes place after → Passes place (after >>= next)) → GrowsFault kind left more after → GrowsFault kind left more (after >>= next)
 fault_then (kinds.EndOfFile missing) left more after next pass h = record {
-    some = h.some;
-    keeps = λ p. ap (λ r. r >>= next) (h.keeps p);
-    passes = λ p. pass (left + length more) (h.passes p)
-  }
+  some = h.some;
+  keeps = λ p. ap (λ r. r >>= next) (h.keeps p);
+  passes = λ p. pass (left + length more) (h.passes p);
+}
 fault_then kinds.TooLong left more after next pass h = ap (λ r. r >>= next) h
 fault_then kinds.TooLarge left more after next pass h = ap (λ r. r >>= next) h
 fault_then kinds.Utf8 left more after next pass h = ap (λ r. r >>= next) h
@@ -117,7 +116,7 @@ module _ {A B : Type 0} (k j : ℕ) (reading : List ℕ → Reading A) (later : 
   grows_then start bytes more (Ok x) after p e1 e2 h = rw h ((finals x.0).grows start x.1 more (room start bytes x p e1))
   grows_then start bytes more (Err g) after p e1 e2 h =
       fault_then g.kind g.left more after (λ x. later x.0 (start + length more) x.1)
-        (passes_then (start + length more) (bytes ++ more) after (let size = length-append bytes more in omega arith) e2) h
+      (passes_then (start + length more) (bytes ++ more) after (let size = length-append bytes more in omega arith) e2) h
 
   stays_then : (start : ℕ) (bytes : List ℕ) (r : Reading A) → length bytes + k ≤ start → reading bytes ≡ r → StaysWithin (length bytes) r → StaysFrom start (length bytes) (r >>= λ x. later x.0 start x.1)
   stays_then start bytes (Ok x) p e h = stays_wider start (length x.1) (length bytes) (later x.0 start x.1) h ((finals x.0).stays start x.1 (room start bytes x p e))
@@ -126,9 +125,9 @@ module _ {A B : Type 0} (k j : ℕ) (reading : List ℕ → Reading A) (later : 
   -- one reading, and then another that may fail where the first began, after which j bytes are taken
   pub then_from : IsFinalFrom k (λ start bytes. reading bytes >>= λ x. later x.0 start x.1)
   then_from = record {
-      grows = λ start bytes more p. grows_then start bytes more (reading bytes) (reading (bytes ++ more)) p refl refl (final.grows bytes more);
-      stays = λ start bytes p. stays_then start bytes (reading bytes) p refl (final.within bytes)
-    }
+    grows = λ start bytes more p. grows_then start bytes more (reading bytes) (reading (bytes ++ more)) p refl refl (final.grows bytes more);
+    stays = λ start bytes p. stays_then start bytes (reading bytes) p refl (final.within bytes);
+  }
 
 stays_whole : {A : Type 0} (n : ℕ) (r : Reading A) → StaysFrom n n r → StaysWithin n r
 stays_whole n (Ok x) p = p
@@ -137,9 +136,9 @@ stays_whole n (Err f) p = p.0
 -- the whole of a reading that names its beginning
 pub from_start : {A : Type 0} (later : ℕ → List ℕ → Reading A) → IsFinalFrom 0 later → IsFinal (λ bytes. later (length bytes) bytes)
 from_start later h = record {
-    grows = λ bytes more. let size = length-append bytes more in rw size (h.grows (length bytes) bytes more (omega arith));
-    within = λ bytes. stays_whole (length bytes) (later (length bytes) bytes) (h.stays (length bytes) bytes (omega arith))
-  }
+  grows = λ bytes more. let size = length-append bytes more in rw size (h.grows (length bytes) bytes more (omega arith));
+  within = λ bytes. stays_whole (length bytes) (later (length bytes) bytes) (h.stays (length bytes) bytes (omega arith));
+}
 
 pub Takes-none : {A : Type 0} (reading : List ℕ → Reading A) → IsFinal reading → Takes 0 reading
 Takes-none {A} reading h bytes x e = let P : Reading A → Type 0 = λ r. StaysWithin (length bytes) r in let within = subst P e (h.within bytes) in omega arith
@@ -154,8 +153,8 @@ pub tested_final : {A : Type 0} (reading : List ℕ → Reading A) (test : A →
     → IsFinal (λ bytes. reading bytes >>= λ x. if test x.0 then Ok x else Err (fault kind (length bytes)))
 tested_final {A} reading test kind h final =
     from_start (λ start bytes. reading bytes >>= λ x. if test x.0 then Ok x else Err (fault kind start))
-      (then_from 0 0 reading (λ a start bytes. if test a then Ok (a, bytes) else Err (fault kind start)) final (Takes-none reading final)
-        (λ a. if_from (test a) (λ start bytes. Ok (a, bytes)) (λ start bytes. Err (fault kind start)) (done_from 0 a) (fault_from 0 kind h)))
+    (then_from 0 0 reading (λ a start bytes. if test a then Ok (a, bytes) else Err (fault kind start)) final (Takes-none reading final)
+    (λ a. if_from (test a) (λ start bytes. Ok (a, bytes)) (λ start bytes. Err (fault kind start)) (done_from 0 a) (fault_from 0 kind h)))
 
 pub done_final : {A : Type 0} (value : A) → IsFinal (λ bytes. Ok (value, bytes))
 done_final value = from_start (λ start bytes. Ok (value, bytes)) (done_from 0 value)

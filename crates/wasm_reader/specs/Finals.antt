@@ -1,7 +1,7 @@
 -- Lemmas: each reading is final.
-use Rattle.std.specs.Prelude.{ℕ, zero, suc, ◌+◌, ◌-◌, ◌<◌, ◌≤◌, ◌≡◌, ◌≢◌, Bool, true, false, List, [], ◌∷◌, ◌++◌, length, take, drop, Result, Ok, Err, nat_le, nat_lt, if◌then◌else◌, refl}
-use Rattle.std.proofs.Common.{sym, ap, ◌∙◌, subst, arith, inl, inr}
-use Rattle.std.proofs.lemmas.Bool.{cases_lt, cases_Bool, lt-ltb, le-ltb, le-leb, lt-leb}
+use Rattle.std.specs.Prelude.{ℕ, ◌+◌, ◌-◌, ◌<◌, ◌≤◌, ◌≡◌, List, [], ◌∷◌, ◌++◌, length, take, drop, Ok, Err, nat_le, nat_lt, refl}
+use Rattle.std.proofs.Common.{ap, ◌∙◌, subst, arith, inl, inr}
+use Rattle.std.proofs.lemmas.Bool.{cases_lt, cases_Bool, le-leb, lt-leb}
 use Rattle.std.proofs.lemmas.List.{length-append, length-drop, take-append-le, drop-append-le}
 use Rattle.std.specs.Str.{is_utf8}
 use Rattle.wasm_reader.specs.declared.error.ErrorKind.{ErrorKind}
@@ -10,7 +10,7 @@ use Rattle.wasm_reader.specs.Reading.{Reading, Fault, fault, ◌>>=◌, byte_at,
 use Rattle.wasm_reader.specs.Numbers.{Style, unsigned, signed, number_at, unsigned_at, signed_at, s33_at}
 use Rattle.wasm_reader.specs.Text.{size_at, text_at, string_at, sized_bytes_at, unlimited_string_at, skipped_string_at}
 use Rattle.wasm_reader.specs.Spelled.{number_at-last, number_at-wrong, number_at-too_long, number_at-more, number_at-none}
-use Rattle.wasm_reader.specs.Laws.{Passes, HintHolds, GrowsFault, Grows, StaysWithin, IsFinal}
+use Rattle.wasm_reader.specs.Laws.{Passes, Grows, StaysWithin, IsFinal}
 use Rattle.wasm_reader.specs.Final.{IsKept, Takes, fault_grows, fault_then, then_final, tested_final, map_final}
 
 -- ---- one byte
@@ -49,22 +49,24 @@ bytes_grows : (size : ℕ) (bytes more : List ℕ) → Grows more (bytes_at size
 bytes_grows size bytes more =
     let whole : length (bytes ++ more) ≡ length bytes + length more = length-append bytes more in
     elim (cases_lt (length bytes) size) [
-      inl short ↦ rw (bytes_short size bytes short) (record {
-          some = omega arith;
-          keeps = λ h. bytes_short size (bytes ++ more) (omega arith)
+      | inl short ↦ rw (bytes_short size bytes short) (record {
+        some = omega arith;
+        keeps = λ h. bytes_short size (bytes ++ more) (omega arith)
             ∙ ap (λ (n : ℕ). Err (fault (kinds.EndOfFile (size - n)) n)) whole
             ∙ ap (λ (n : ℕ). Err (fault (kinds.EndOfFile n) (length bytes + length more))) (omega arith);
-          passes = λ h. rw (bytes_there size (bytes ++ more) (omega arith), length-drop size (bytes ++ more)) (omega arith)
-        })
-    | inr there ↦ rw (bytes_there size bytes there)
-        (bytes_there size (bytes ++ more) (omega arith)
-         ∙ ap (λ (l : List ℕ). Ok (l, drop size (bytes ++ more))) (take-append-le size bytes more there)
-         ∙ ap (λ (l : List ℕ). Ok (take size bytes, l)) (drop-append-le size bytes more there)) ]
+        passes = λ h. rw (bytes_there size (bytes ++ more) (omega arith), length-drop size (bytes ++ more)) (omega arith);
+      })
+      | inr there ↦ rw (bytes_there size bytes there)
+          (bytes_there size (bytes ++ more) (omega arith)
+          ∙ ap (λ (l : List ℕ). Ok (l, drop size (bytes ++ more))) (take-append-le size bytes more there)
+          ∙ ap (λ (l : List ℕ). Ok (take size bytes, l)) (drop-append-le size bytes more there))
+    ]
 
 bytes_within : (size : ℕ) (bytes : List ℕ) → StaysWithin (length bytes) (bytes_at size bytes)
 bytes_within size bytes = elim (cases_lt (length bytes) size) [
-      inl short ↦ rw (bytes_short size bytes short) (omega arith)
-    | inr there ↦ rw (bytes_there size bytes there, length-drop size bytes) (omega arith) ]
+  | inl short ↦ rw (bytes_short size bytes short) (omega arith)
+  | inr there ↦ rw (bytes_there size bytes there, length-drop size bytes) (omega arith)
+]
 
 pub bytes_final : (size : ℕ) → IsFinal (bytes_at size)
 bytes_final size = record { grows = bytes_grows size; within = bytes_within size }
@@ -95,25 +97,31 @@ module _ {A : Type 0} (s : Style A) (wrong : ErrorKind) (kept : IsKept wrong) wh
   number_within : (width : ℕ) (bytes : List ℕ) → StaysWithin (length bytes) (number_at s wrong width bytes)
   number_within width [] = rw (number_at-none s wrong width) (omega arith)
   number_within width (b ∷ bytes) = elim (cases_lt b 128) [
-        inl last ↦ elim (cases_Bool (s.fits width b)) [
-            inl fits ↦ rw (number_at-last s wrong width b bytes last fits) (omega arith)
-          | inr wrongly ↦ rw (number_at-wrong s wrong width b bytes last wrongly) (omega arith) ]
-      | inr goes ↦ elim (cases_lt 7 width) [
-            inl wide ↦
-              let size : length bytes + 1 ≡ length (b ∷ bytes) = omega arith in
-              rw (number_at-more s wrong width b bytes goes wide) (rw size at (made_within (length bytes) (s.onto (b - 128)) (number_at s wrong (width - 7) bytes) (number_within (width - 7) bytes)))
-          | inr narrow ↦ rw (number_at-too_long s wrong width b bytes goes narrow) (omega arith) ] ]
+    | inl last ↦ elim (cases_Bool (s.fits width b)) [
+      | inl fits ↦ rw (number_at-last s wrong width b bytes last fits) (omega arith)
+      | inr wrongly ↦ rw (number_at-wrong s wrong width b bytes last wrongly) (omega arith)
+    ]
+    | inr goes ↦ elim (cases_lt 7 width) [
+      | inl wide ↦
+          let size : length bytes + 1 ≡ length (b ∷ bytes) = omega arith in
+          rw (number_at-more s wrong width b bytes goes wide) (rw size at (made_within (length bytes) (s.onto (b - 128)) (number_at s wrong (width - 7) bytes) (number_within (width - 7) bytes)))
+      | inr narrow ↦ rw (number_at-too_long s wrong width b bytes goes narrow) (omega arith)
+    ]
+  ]
 
   number_passes : (width b : ℕ) (bytes : List ℕ) → Passes (length bytes + 1) (number_at s wrong width (b ∷ bytes))
   number_passes width b bytes = elim (cases_lt b 128) [
-        inl last ↦ elim (cases_Bool (s.fits width b)) [
-            inl fits ↦ rw (number_at-last s wrong width b bytes last fits) (omega arith)
-          | inr wrongly ↦ rw (number_at-wrong s wrong width b bytes last wrongly) (λ missing. not_end wrong missing (length bytes + 1) (length bytes + 1) kept) ]
-      | inr goes ↦ elim (cases_lt 7 width) [
-            inl wide ↦ rw (number_at-more s wrong width b bytes goes wide)
-              (made_passes (s.onto (b - 128)) (length bytes + 1) (number_at s wrong (width - 7) bytes)
-                (within_passes (length bytes) (length bytes + 1) (number_at s wrong (width - 7) bytes) (omega arith) (number_within (width - 7) bytes)))
-          | inr narrow ↦ rw (number_at-too_long s wrong width b bytes goes narrow) (λ missing. not_end kinds.TooLong missing (length bytes + 1) (length bytes + 1) tt) ] ]
+    | inl last ↦ elim (cases_Bool (s.fits width b)) [
+      | inl fits ↦ rw (number_at-last s wrong width b bytes last fits) (omega arith)
+      | inr wrongly ↦ rw (number_at-wrong s wrong width b bytes last wrongly) (λ missing. not_end wrong missing (length bytes + 1) (length bytes + 1) kept)
+    ]
+    | inr goes ↦ elim (cases_lt 7 width) [
+      | inl wide ↦ rw (number_at-more s wrong width b bytes goes wide)
+          (made_passes (s.onto (b - 128)) (length bytes + 1) (number_at s wrong (width - 7) bytes)
+          (within_passes (length bytes) (length bytes + 1) (number_at s wrong (width - 7) bytes) (omega arith) (number_within (width - 7) bytes)))
+      | inr narrow ↦ rw (number_at-too_long s wrong width b bytes goes narrow) (λ missing. not_end kinds.TooLong missing (length bytes + 1) (length bytes + 1) tt)
+    ]
+  ]
 
   number_grows : (width : ℕ) (bytes more : List ℕ) → Grows more (number_at s wrong width bytes) (number_at s wrong width (bytes ++ more))
   number_grows width [] [] = rw (number_at-none s wrong width) (record { some = omega arith; keeps = λ h. refl; passes = λ h. absurd (omega arith) })
@@ -123,16 +131,19 @@ module _ {A : Type 0} (s : Style A) (wrong : ErrorKind) (kept : IsKept wrong) wh
   number_grows width (b ∷ bytes) more =
       let size : length (bytes ++ more) + 1 ≡ length bytes + 1 + length more = omega (arith, length-append bytes more) in
       elim (cases_lt b 128) [
-        inl last ↦ elim (cases_Bool (s.fits width b)) [
-            inl fits ↦ rw (number_at-last s wrong width b bytes last fits) (number_at-last s wrong width b (bytes ++ more) last fits)
+        | inl last ↦ elim (cases_Bool (s.fits width b)) [
+          | inl fits ↦ rw (number_at-last s wrong width b bytes last fits) (number_at-last s wrong width b (bytes ++ more) last fits)
           | inr wrongly ↦ rw (number_at-wrong s wrong width b bytes last wrongly)
               (fault_grows wrong (length bytes + 1) more (number_at s wrong width (b ∷ (bytes ++ more))) kept
-                (number_at-wrong s wrong width b (bytes ++ more) last wrongly ∙ ap (λ (n : ℕ). Err (fault wrong n)) size)) ]
-      | inr goes ↦ elim (cases_lt 7 width) [
-            inl wide ↦ rw (number_at-more s wrong width b bytes goes wide, number_at-more s wrong width b (bytes ++ more) goes wide)
+              (number_at-wrong s wrong width b (bytes ++ more) last wrongly ∙ ap (λ (n : ℕ). Err (fault wrong n)) size))
+        ]
+        | inr goes ↦ elim (cases_lt 7 width) [
+          | inl wide ↦ rw (number_at-more s wrong width b bytes goes wide, number_at-more s wrong width b (bytes ++ more) goes wide)
               (made_grows (s.onto (b - 128)) more (number_at s wrong (width - 7) bytes) (number_at s wrong (width - 7) (bytes ++ more)) (number_grows (width - 7) bytes more))
           | inr narrow ↦ rw (number_at-too_long s wrong width b bytes goes narrow)
-              (number_at-too_long s wrong width b (bytes ++ more) goes narrow ∙ ap (λ (n : ℕ). Err (fault kinds.TooLong n)) size) ] ]
+              (number_at-too_long s wrong width b (bytes ++ more) goes narrow ∙ ap (λ (n : ℕ). Err (fault kinds.TooLong n)) size)
+        ]
+      ]
 
   pub number_final : (width : ℕ) → IsFinal (number_at s wrong width)
   number_final width = record { grows = number_grows width; within = number_within width }

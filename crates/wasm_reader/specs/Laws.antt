@@ -1,10 +1,10 @@
 -- Laws of readings: what more bytes change, and what they leave.
-use Rattle.std.specs.Prelude.{ℕ, ◌+◌, ◌-◌, ◌<◌, ◌≤◌, ◌≡◌, ◌≢◌, List, ◌++◌, length, Result, Ok, Err, All}
+use Rattle.std.specs.Prelude.{ℕ, ◌+◌, ◌-◌, ◌<◌, ◌≤◌, ◌≡◌, ◌≢◌, List, ◌++◌, length, Result, Ok, Err, IsOk, All, []}
 use Rattle.wasm_reader.specs.declared.error.Error.{Error}
 use Rattle.wasm_reader.specs.declared.error.ErrorKind.{ErrorKind}
 use Rattle.wasm_reader.specs.declared.error.ErrorKind.TheVariants as kinds
 use Rattle.wasm_reader.specs.Cursor.{Cursor, IsWithin}
-use Rattle.wasm_reader.specs.Reading.{Reading, Fault, fault, Reads}
+use Rattle.wasm_reader.specs.Reading.{Reading, fault, Reads}
 
 -- the reading gets past the place, or fails there for another reason than the end
 abbrev pub Passes : {A : Type 0} → ℕ → Reading A → Type 0
@@ -37,11 +37,21 @@ pub record IsFinal {A : Type 0} (reading : List ℕ → Reading A) : Type 0 wher
   pub grows : (bytes more : List ℕ) → Grows more (reading bytes) (reading (bytes ++ more))
   pub within : (bytes : List ℕ) → StaysWithin (length bytes) (reading bytes)
 
+-- the same of a look at the next byte, which takes none
+abbrev pub GrowsNext : {A : Type 0} → List ℕ → Reading A → Reading A → Type 0
+GrowsNext more (Ok x) after = after ≡ Ok (x.0, x.1 ++ more)
+GrowsNext more (Err f) after = (f ≡ fault (kinds.EndOfFile 1) 0) × (0 < length more → IsOk after)
+
+-- a proper front of the bytes of a value is answered with the end of the bytes, and no more is missing than was cut off
+abbrev pub EndsEarly : {A : Type 0} → (List ℕ → Reading A) → Type 0
+EndsEarly {A} reading = (front more : List ℕ) (value : A) → reading (front ++ more) ≡ Ok (value, []) → 0 < length more
+    → (missing left : ℕ) × (missing ≤ length more) × (reading front ≡ Err (fault (kinds.EndOfFile missing) left))
+
 -- the reading takes the spellings, each as its value and whatever follows, and nothing else
 pub record TakesSpelled {A : Type 0} (reading : List ℕ → Reading A) (spells : List ℕ → A → Type 0) : Type 0 where
   pub again : (bytes more : List ℕ) (value : A) → spells bytes value → reading (bytes ++ more) ≡ Ok (value, more)
   pub found : (bytes later : List ℕ) (value : A) → All (λ b. b < 256) bytes → reading bytes ≡ Ok (value, later)
-    → (front : List ℕ) × spells front value × (bytes ≡ front ++ later)
+      → (front : List ℕ) × spells front value × (bytes ≡ front ++ later)
 
 -- no spelling is a proper front of another
 abbrev pub IsPrefixFree : {A : Type 0} → (List ℕ → A → Type 0) → Type 0

@@ -9,3 +9,4 @@ pub mod Spelled
 pub mod Laws
 pub mod Final
 pub mod Finals
+pub mod Spellings

@@ -1,6 +1,6 @@
 -- Lemmas: a number's reading and its spellings.
 use Rattle.std.specs.Prelude.{ℕ, zero, suc, ◌+◌, ◌-◌, ◌*◌, ◌/◌, ◌^◌, ◌<◌, ◌≤◌, ◌≡◌, true, false, ℤ, pos, negsuc, ◌+ℤ◌, ◌*ℤ◌, List, [], ◌∷◌, ◌++◌, length, Ok, Err, All, refl}
-use Rattle.std.proofs.Common.{sym, ap, ◌∙◌, arith, inl, inr}
+use Rattle.std.proofs.Common.{sym, ap, ◌∙◌, subst, arith, inl, inr}
 use Rattle.std.proofs.lemmas.Nat.{pow-add}
 use Rattle.std.proofs.Math.Nat.{pow-le-pow_right}
 use Rattle.std.proofs.lemmas.Bool.{cases_lt, cases_Bool, lt-ltb, le-ltb, le-leb, lt-leb}
@@ -52,10 +52,11 @@ number_at-spelled s wrong width (b ∷ bytes) more n (inr h) =
 -- a number past the last byte's bits needs a greater width
 wider : (bits width n : ℕ) → 2 ^ bits ≤ n → n < 2 ^ width → bits < width
 wider bits width n great below = elim (cases_lt bits width) [
-      inl h ↦ h
-    | inr h ↦
-        let power : 2 ^ width ≤ 2 ^ bits = pow-le-pow_right {n = 2} (omega arith) {i = width} {j = bits} h in
-        absurd (omega arith) ]
+  | inl h ↦ h
+  | inr h ↦
+      let power : 2 ^ width ≤ 2 ^ bits = pow-le-pow_right {n = 2} (omega arith) {i = width} {j = bits} h in
+      absurd (omega arith)
+]
 
 halves : (bits width : ℕ) → bits ≤ width → 2 ^ width ≡ 2 ^ (width - bits) * 2 ^ bits
 halves bits width h = ap (λ (n : ℕ). 2 ^ n) (omega arith) ∙ pow-add 2 (width - bits) bits
@@ -64,24 +65,27 @@ spells_unsigned : (count width n : ℕ) → 0 < width → width ≤ 7 * count �
 unfolding shortest_unsigned
 spells_unsigned zero width n some fits below = absurd (omega arith)
 spells_unsigned (suc count) width n some fits below = elim (cases_lt n 128) [
-      inl small ↦ rw (lt-ltb n 128 small) (inl (small, refl, lt-ltb n (2 ^ width) below, refl))
-    | inr great ↦
-        let wide : 7 < width = wider 7 width n great below in
-        let power : 2 ^ width ≡ 2 ^ (width - 7) * 128 = halves 7 width (omega arith) in
-        rw (le-ltb n 128 great) (inr (omega arith, omega arith, wide, n / 128, omega arith, spells_unsigned count (width - 7) (n / 128) (omega arith) (omega arith) (omega arith))) ]
+  | inl small ↦ rw (lt-ltb n 128 small) (inl (small, refl, lt-ltb n (2 ^ width) below, refl))
+  | inr great ↦
+      let wide : 7 < width = wider 7 width n great below in
+      let power : 2 ^ width ≡ 2 ^ (width - 7) * 128 = halves 7 width (omega arith) in
+      rw (le-ltb n 128 great) (inr (omega arith, omega arith, wide, n / 128, omega arith, spells_unsigned count (width - 7) (n / 128) (omega arith) (omega arith) (omega arith)))
+]
 
 least_unsigned : (count width n : ℕ) (others : List ℕ) → Spells unsigned width others n → length (shortest_unsigned count n) ≤ length others
 unfolding shortest_unsigned
 least_unsigned zero width n others h = omega arith
 least_unsigned (suc count) width n [] h = absurd h
 least_unsigned (suc count) width n (b ∷ bytes) h = elim (cases_lt n 128) [
-      inl small ↦ rw (lt-ltb n 128 small) (omega arith)
-    | inr great ↦ rw (le-ltb n 128 great) (elim h [
-        inl e ↦ absurd (omega (arith, e.0, e.3))
-      | inr e ↦
-          let high : e.3 ≡ n / 128 = omega (arith, e.0, e.1, e.4) in
-          let later = least_unsigned count (width - 7) (n / 128) bytes (rw high at e.5) in
-          omega arith ]) ]
+  | inl small ↦ rw (lt-ltb n 128 small) (omega arith)
+  | inr great ↦ rw (le-ltb n 128 great) (elim h [
+    | inl e ↦ absurd (omega (arith, e.0, e.3))
+    | inr e ↦
+        let high : e.3 ≡ n / 128 = omega (arith, e.0, e.1, e.4) in
+        let later = least_unsigned count (width - 7) (n / 128) bytes (rw high at e.5) in
+        omega arith
+  ])
+]
 
 -- what is left of a number after its low seven bits
 quotient_pos : (n b : ℕ) (high : ℤ) → b < 128 → pos n ≡ pos b +ℤ pos 128 *ℤ high → high ≡ pos (n / 128)
@@ -96,53 +100,61 @@ pub spells_signed : (count width : ℕ) (z : ℤ) → 0 < width → width ≤ 7 
 unfolding shortest_signed
 spells_signed zero width z some fits below = absurd (omega arith)
 spells_signed (suc count) width (pos n) some fits below = elim (cases_lt n 64) [
-      inl small ↦ rw (lt-ltb n 64 small) (inl (omega arith, refl, rw (lt-ltb n 64 small) (lt-ltb n (2 ^ (width - 1)) below), rw (lt-ltb n 64 small) refl))
-    | inr great ↦
-        let wide : 6 < width - 1 = wider 6 (width - 1) n great below in
-        let same : width - 1 - 7 ≡ width - 7 - 1 = omega arith in
-        let power : 2 ^ (width - 1) ≡ 2 ^ (width - 7 - 1) * 128 = rw same at (halves 7 (width - 1) (omega arith)) in
-        rw (le-ltb n 64 great) (inr (omega arith, omega arith, omega arith, pos (n / 128), omega (arith, ints), spells_signed count (width - 7) (pos (n / 128)) (omega arith) (omega arith) (omega arith))) ]
+  | inl small ↦ rw (lt-ltb n 64 small) (inl (omega arith, refl, rw (lt-ltb n 64 small) (lt-ltb n (2 ^ (width - 1)) below), rw (lt-ltb n 64 small) refl))
+  | inr great ↦
+      let wide : 6 < width - 1 = wider 6 (width - 1) n great below in
+      let same : width - 1 - 7 ≡ width - 7 - 1 = omega arith in
+      let power : 2 ^ (width - 1) ≡ 2 ^ (width - 7 - 1) * 128 = rw same at (halves 7 (width - 1) (omega arith)) in
+      rw (le-ltb n 64 great) (inr (omega arith, omega arith, omega arith, pos (n / 128), omega (arith, ints), spells_signed count (width - 7) (pos (n / 128)) (omega arith) (omega arith) (omega arith)))
+]
 spells_signed (suc count) width (negsuc n) some fits below = elim (cases_lt n 64) [
-      inl small ↦
-        let great : 64 ≤ 127 - n = omega arith in
-        rw (lt-ltb n 64 small) (inl (omega arith, refl, rw (le-ltb (127 - n) 64 great) (le-leb 128 (127 - n + 2 ^ (width - 1)) (omega arith)), rw (le-ltb (127 - n) 64 great) (omega (arith, ints))))
-    | inr great ↦
-        let wide : 6 < width - 1 = wider 6 (width - 1) n great below in
-        let same : width - 1 - 7 ≡ width - 7 - 1 = omega arith in
-        let power : 2 ^ (width - 1) ≡ 2 ^ (width - 7 - 1) * 128 = rw same at (halves 7 (width - 1) (omega arith)) in
-        rw (le-ltb n 64 great) (inr (omega arith, omega arith, omega arith, negsuc (n / 128), omega (arith, ints), spells_signed count (width - 7) (negsuc (n / 128)) (omega arith) (omega arith) (omega arith))) ]
+  | inl small ↦
+      let great : 64 ≤ 127 - n = omega arith in
+      rw (lt-ltb n 64 small) (inl (omega arith, refl, rw (le-ltb (127 - n) 64 great) (le-leb 128 (127 - n + 2 ^ (width - 1)) (omega arith)), rw (le-ltb (127 - n) 64 great) (omega (arith, ints))))
+  | inr great ↦
+      let wide : 6 < width - 1 = wider 6 (width - 1) n great below in
+      let same : width - 1 - 7 ≡ width - 7 - 1 = omega arith in
+      let power : 2 ^ (width - 1) ≡ 2 ^ (width - 7 - 1) * 128 = rw same at (halves 7 (width - 1) (omega arith)) in
+      rw (le-ltb n 64 great) (inr (omega arith, omega arith, omega arith, negsuc (n / 128), omega (arith, ints), spells_signed count (width - 7) (negsuc (n / 128)) (omega arith) (omega arith) (omega arith)))
+]
 
 -- a last byte stands for a number from -64 to 63
 last_is_small : (n b : ℕ) → b < 128 → 64 ≤ n → pos n ≡ signed.value b → ⊥
 last_is_small n b last great e = elim (cases_lt b 64) [
-      inl h ↦ let v = rw (lt-ltb b 64 h) at e in omega (arith, ints)
-    | inr h ↦ let v = rw (le-ltb b 64 h) at e in omega (arith, ints) ]
+  | inl h ↦ let v = rw (lt-ltb b 64 h) at e in omega (arith, ints)
+  | inr h ↦ let v = rw (le-ltb b 64 h) at e in omega (arith, ints)
+]
 
 last_is_near : (n b : ℕ) → b < 128 → 64 ≤ n → negsuc n ≡ signed.value b → ⊥
 last_is_near n b last great e = elim (cases_lt b 64) [
-      inl h ↦ let v = rw (lt-ltb b 64 h) at e in omega (arith, ints)
-    | inr h ↦ let v = rw (le-ltb b 64 h) at e in omega (arith, ints) ]
+  | inl h ↦ let v = rw (lt-ltb b 64 h) at e in omega (arith, ints)
+  | inr h ↦ let v = rw (le-ltb b 64 h) at e in omega (arith, ints)
+]
 
 pub least_signed : (count width : ℕ) (z : ℤ) (others : List ℕ) → Spells signed width others z → length (shortest_signed count z) ≤ length others
 unfolding shortest_signed
 least_signed zero width z others h = omega arith
 least_signed (suc count) width z [] h = absurd h
 least_signed (suc count) width (pos n) (b ∷ bytes) h = elim (cases_lt n 64) [
-      inl small ↦ rw (lt-ltb n 64 small) (omega arith)
-    | inr great ↦ rw (le-ltb n 64 great) (elim h [
-        inl e ↦ absurd (last_is_small n b e.0 great e.3)
-      | inr e ↦
-          let high : e.3 ≡ pos (n / 128) = quotient_pos n (b - 128) e.3 (omega (arith, e.0, e.1)) e.4 in
-          let later = least_signed count (width - 7) (pos (n / 128)) bytes (rw high at e.5) in
-          omega arith ]) ]
+  | inl small ↦ rw (lt-ltb n 64 small) (omega arith)
+  | inr great ↦ rw (le-ltb n 64 great) (elim h [
+    | inl e ↦ absurd (last_is_small n b e.0 great e.3)
+    | inr e ↦
+        let high : e.3 ≡ pos (n / 128) = quotient_pos n (b - 128) e.3 (omega (arith, e.0, e.1)) e.4 in
+        let later = least_signed count (width - 7) (pos (n / 128)) bytes (rw high at e.5) in
+        omega arith
+  ])
+]
 least_signed (suc count) width (negsuc n) (b ∷ bytes) h = elim (cases_lt n 64) [
-      inl small ↦ rw (lt-ltb n 64 small) (omega arith)
-    | inr great ↦ rw (le-ltb n 64 great) (elim h [
-        inl e ↦ absurd (last_is_near n b e.0 great e.3)
-      | inr e ↦
-          let high : e.3 ≡ negsuc (n / 128) = quotient_neg n (b - 128) e.3 (omega (arith, e.0, e.1)) e.4 in
-          let later = least_signed count (width - 7) (negsuc (n / 128)) bytes (rw high at e.5) in
-          omega arith ]) ]
+  | inl small ↦ rw (lt-ltb n 64 small) (omega arith)
+  | inr great ↦ rw (le-ltb n 64 great) (elim h [
+    | inl e ↦ absurd (last_is_near n b e.0 great e.3)
+    | inr e ↦
+        let high : e.3 ≡ negsuc (n / 128) = quotient_neg n (b - 128) e.3 (omega (arith, e.0, e.1)) e.4 in
+        let later = least_signed count (width - 7) (negsuc (n / 128)) bytes (rw high at e.5) in
+        omega arith
+  ])
+]
 
 -- ---- the shortest spelling is shortest, and is read as its number
 
@@ -174,15 +186,20 @@ pub number_at-found : {A : Type 0} (s : Style A) (wrong : ErrorKind) (width : �
     → (front : List ℕ) × Spells s width front n × (bytes ≡ front ++ later)
 number_at-found s wrong width [] later n small e = let h = sym (number_at-none s wrong width) ∙ e in cc
 number_at-found s wrong width (b ∷ bytes) later n small e = elim (cases_lt b 128) [
-      inl last ↦ elim (cases_Bool (s.fits width b)) [
-          inl fits ↦
-            let same = ok_is (s.value b, bytes) (n, later) (sym (number_at-last s wrong width b bytes last fits) ∙ e) in
-            (b ∷ [], inl (last, refl, fits, sym (ap (λ p. p.0) same)), ap (λ l. b ∷ l) (ap (λ p. p.1) same))
-        | inr wrongly ↦ let h = sym (number_at-wrong s wrong width b bytes last wrongly) ∙ e in cc ]
-    | inr goes ↦ elim (cases_lt 7 width) [
-          inl wide ↦
-            let was = then_was (number_at s wrong (width - 7) bytes) (λ x. Ok (s.onto (b - 128) x.0, x.1)) (n, later) (sym (number_at-more s wrong width b bytes goes wide) ∙ e) in
-            let same = ok_is (s.onto (b - 128) was.0.0, was.0.1) (n, later) was.2 in
-            let found = number_at-found s wrong (width - 7) bytes was.0.1 was.0.0 (λ k d h. small (suc k) d (omega arith)) was.1 in
-            (b ∷ found.0, inr (goes, small 0 b (omega arith), wide, was.0.0, sym (ap (λ p. p.0) same), found.1), ap (λ l. b ∷ l) (found.2 ∙ ap (λ l. found.0 ++ l) (ap (λ p. p.1) same)))
-        | inr narrow ↦ let h = sym (number_at-too_long s wrong width b bytes goes narrow) ∙ e in cc ] ]
+  | inl last ↦ elim (cases_Bool (s.fits width b)) [
+    | inl fits ↦
+        let same = ok_is (s.value b, bytes) (n, later) (sym (number_at-last s wrong width b bytes last fits) ∙ e) in
+        (b ∷ [], inl (last, refl, fits, sym (ap (λ p. p.0) same)), ap (λ l. b ∷ l) (ap (λ p. p.1) same))
+    | inr wrongly ↦ let h = sym (number_at-wrong s wrong width b bytes last wrongly) ∙ e in cc
+  ]
+  | inr goes ↦ elim (cases_lt 7 width) [
+    | inl wide ↦
+        let was = then_was (number_at s wrong (width - 7) bytes) (λ x. Ok (s.onto (b - 128) x.0, x.1)) (n, later) (sym (number_at-more s wrong width b bytes goes wide) ∙ e) in
+        let same = ok_is (s.onto (b - 128) was.0.0, was.0.1) (n, later) was.2 in
+        let found = number_at-found s wrong (width - 7) bytes was.0.1 was.0.0 (λ k d h. small (suc k) d (omega arith)) was.1 in
+        let there : was.0.1 ≡ later = ap (λ p. p.1) same in
+        let spelled : bytes ≡ found.0 ++ later = subst (λ (l : List ℕ). bytes ≡ found.0 ++ l) there found.2 in
+        (b ∷ found.0, inr (goes, small 0 b (omega arith), wide, was.0.0, sym (ap (λ p. p.0) same), found.1), ap (λ (l : List ℕ). b ∷ l) spelled)
+    | inr narrow ↦ let h = sym (number_at-too_long s wrong width b bytes goes narrow) ∙ e in cc
+  ]
+]

@@ -3,6 +3,7 @@
 
 mod error;
 mod floats;
+pub mod laws;
 pub mod limits;
 mod number;
 mod reader;
