@@ -3,3 +3,4 @@ pub mod Loop
 pub mod Utf8
 pub mod Runs
 pub mod Moved
+pub mod Small

@@ -1,5 +1,5 @@
 -- A reader's place in the bytes that it was given.
-use Rattle.std.specs.Prelude.{ℕ, ◌+◌, ◌-◌, ◌≤◌, ◌≡◌, List, length, drop, take}
+use Rattle.std.specs.Prelude.{ℕ, ◌+◌, ◌-◌, ◌≤◌, ◌≡◌, List, ◌∷◌, length, drop, take}
 use Rattle.wasm_features.specs.declared.WasmFeatures.{WasmFeatures}
 
 -- the bytes of a reader, the offset of the first of them, and the features that are on
@@ -31,6 +31,11 @@ pub record Forward (old new : Cursor) : Type 0 where
   pub forward : old.position ≤ new.position
   pub within : IsWithin old → IsWithin new
 
+-- this byte was next, and was taken
+pub record TakesByte (byte : ℕ) (old new : Cursor) : Type 0 where
+  pub was : rest old ≡ byte ∷ rest new
+  pub moves : Forward old new
+
 -- the front of these bytes
 abbrev pub opened : List ℕ → ℕ → WasmFeatures → Cursor
 opened bytes start features = record { window = record { bytes = bytes; start = start; features = features }; position = 0 }
@@ -49,9 +54,9 @@ with_features features c = record c { window = record c.window { features = feat
 abbrev pub shrunk : Cursor → Cursor
 shrunk c = record { window = record { bytes = rest c; start = c.window.start + c.position; features = c.window.features }; position = 0 }
 
--- a window of the bytes that were read from the old place to the new one
-abbrev pub between : Cursor → Cursor → Cursor
-between old new = record {
-  window = record { bytes = take (new.position - old.position) (rest old); start = old.window.start + old.position; features = new.window.features };
-  position = 0;
-}
+-- a window of the bytes that were read from this position on
+abbrev pub read_since : ℕ → Cursor → Cursor
+read_since position c = record {
+    window = record { bytes = take (c.position - position) (drop position c.window.bytes); start = c.window.start + position; features = c.window.features };
+    position = 0
+  }

@@ -1,7 +1,9 @@
 //! The reader: a window of the input and a position in it.
 
-ghost use Rattle.std.specs.Prelude.{◌≡◌, ◌+◌, ◌-◌, ◌<◌, ◌^◌, ◌==◌, length, IfOk, [], ◌∷◌, IsTrue, ◌↔◌};
-ghost use Rattle.wasm_reader.specs.Cursor.{rest, end_of, IsInner, opened, shrunk, with_features};
+ghost use Rattle.std.specs.Prelude.{◌≡◌, ◌+◌, ◌-◌, ◌<◌, ◌≤◌, ◌^◌, ◌==◌, length, IfOk, [], ◌∷◌, IsTrue, ◌↔◌, Result, MatchResult};
+ghost use Rattle.std.specs.Fn.{FnOnceReturnsAtMut};
+ghost use Rattle.wasm_reader.specs.declared.error.Error.{Error};
+ghost use Rattle.wasm_reader.specs.Cursor.{Cursor, Forward, read_since, rest, end_of, IsInner, opened, shrunk, with_features};
 ghost use Rattle.wasm_reader.specs.Floats.{seen_bits32, seen_bits64};
 ghost use Rattle.wasm_features.specs.Features.{features_of, all_names};
 ghost use Rattle.wasm_reader.specs.Text.{sized_bytes_at};
@@ -16,14 +18,14 @@ use wasm_features::WasmFeatures;
 /// Reads a window of the input from its front on. Offsets count from where the input began.
 #[derive(Drop)]
 pub struct BinaryReader<'a> {
-    buffer: &'a [u8],
-    position: usize,
+    pub(crate) buffer: &'a [u8],
+    pub(crate) position: usize,
     original_offset: u64,
     features: WasmFeatures,
 }
 
 impl<'a> Model for BinaryReader<'a> {
-    ghost use Rattle.std.specs.Prelude.{◌+◌, ◌≤◌, ◌<◌, ◌^◌, length};
+    ghost use Rattle.std.specs.Prelude.{◌+◌, ◌≤◌, ◌<◌, ◌≤◌, ◌^◌, length};
     ghost use Rattle.wasm_reader.specs.Cursor.{Cursor};
 
     ghost Value = { Cursor };
@@ -233,6 +235,35 @@ impl<'a> BinaryReader<'a> {
         let start = self.position;
         self.position += size;
         Ok(&self.buffer[start..start + size])
+    }
+
+    /// Runs `read`, which only reads on, and gives a reader of the bytes that it read, at their place.
+    pub fn skip<F: FnOnce(&mut BinaryReader<'a>) -> Result<()>>(
+        &mut self,
+        read: F,
+    ) -> Result<BinaryReader<'a>>
+        requires callable { F.IsAlwaysCallable read }
+        requires reads_on { (old new : Cursor) (outcome : Result (Unit {0}) Error) → FnOnceReturnsAtMut F.FnOnce read old outcome new → Forward old new }
+        ensures outcome { MatchResult result
+            (λ inner. FnOnceReturnsAtMut F.FnOnce read self.old (Ok tt) self.new × (inner ≡ read_since self.old.position self.new))
+            (λ e. FnOnceReturnsAtMut F.FnOnce read self.old (Err e) self.new) }
+        ensures moves { Forward self.old self.new }
+    {
+        let position = self.position;
+        read(self)?;
+        Ok(self.read_since(position))
+    }
+
+    fn read_since(&self, position: usize) -> BinaryReader<'a>
+        requires { position ≤ self.now.position }
+        ensures { result ≡ read_since position self.now }
+    {
+        BinaryReader {
+            buffer: &self.buffer[position..self.position],
+            position: 0,
+            original_offset: self.original_offset + position as u64,
+            features: self.features,
+        }
     }
 
     /// A length, and a reader of that many bytes where they stand: its offsets are those of the input.
