@@ -57,6 +57,6 @@ shrunk c = record { window = record { bytes = rest c; start = c.window.start + c
 -- a window of the bytes that were read from this position on
 abbrev pub read_since : ℕ → Cursor → Cursor
 read_since position c = record {
-    window = record { bytes = take (c.position - position) (drop position c.window.bytes); start = c.window.start + position; features = c.window.features };
-    position = 0
-  }
+  window = record { bytes = take (c.position - position) (drop position c.window.bytes); start = c.window.start + position; features = c.window.features };
+  position = 0;
+}

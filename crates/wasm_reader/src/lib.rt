@@ -13,3 +13,6 @@ pub use error::{Error, ErrorKind, Result};
 pub use floats::{Ieee32, Ieee64};
 pub use reader::BinaryReader;
 pub use wasm_features::{WasmFeatures, WasmFeaturesInflated};
+
+#[cfg(test)]
+mod tests;
