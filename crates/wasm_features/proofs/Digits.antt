@@ -1,7 +1,7 @@
 -- Digits of numbers, and tests of them.
-use Rattle.std.proofs.Common.{◌≡◌, ℕ, zero, suc, Bool, true, false, ◌&&◌, ◌||◌, not, eqb, ◌<◌, ◌*◌, ◌+◌, ◌%◌, ◌-◌, ◌^◌, min, max, arith, ap, ◌∙◌, sym, refl, cond, inl, inr}
-use Rattle.std.specs.Int.RustNames.{bit_and, bit_or, bit_xor}
-use Rattle.std.specs.Int.{bit_at, w32}
+use Rattle.std.proofs.Common.{◌≡◌, ℕ, zero, suc, ◌&&◌, ◌||◌, not, eqb, ◌<◌, ◌*◌, ◌+◌, ◌%◌, ◌-◌, ◌^◌, min, max, arith, ap, sym, refl, inl, inr}
+use Rattle.std.specs.Int.RustNames.{bit_and, bit_or}
+use Rattle.std.specs.Int.{bit_at}
 use Rattle.std.specs.Prelude.{if◌then◌else◌}
 use Rattle.std.proofs.lemmas.Nat.{pow_pos}
 use Rattle.std.proofs.lemmas.Nat.Bits.{and_pow, bit_at_and, bit_at_or, bit_at-lt, bit_at-pow_same, bit_at-pow_other, same_from_bits}
@@ -29,7 +29,7 @@ both n a b p q = same_from_bits (bit_and n (bit_or a b)) (bit_or a b) (λ i.
 pub has_both : (n a b : ℕ) → eqb (bit_and n (bit_or a b)) (bit_or a b) ≡ (eqb (bit_and n a) a && eqb (bit_and n b) b)
 has_both n a b = same_from_decides _ _ (Decides-eqb _ _)
     (Decides-like _ (λ p. both n a b p.0 p.1) (λ h. (left_of_both n a b h, right_of_both n a b h))
-        (Decides-and _ _ (Decides-eqb (bit_and n a) a) (Decides-eqb (bit_and n b) b)))
+    (Decides-and _ _ (Decides-eqb (bit_and n a) a) (Decides-eqb (bit_and n b) b)))
 
 times : (d m : ℕ) → d < 2 → 0 < m → eqb (d * m) m ≡ eqb d 1
 times zero m small some = ne_eqb (zero * m) m (λ e. omega arith)
@@ -43,9 +43,9 @@ has_digit n k = rw (and_pow n k) (times (bit_at n k) (2 ^ k) (bit_at-lt n k) (po
 -- a power of two has its own digit alone
 pub digit_of_power : (p k : ℕ) → eqb (bit_at (2 ^ p) k) 1 ≡ eqb p k
 digit_of_power p k = elim (cases_eq p k) [
-    inl e ↦ rw (e, bit_at-pow_same k) (sym (eq-eqb k k refl))
-    | inr n ↦ rw (bit_at-pow_other p k (λ e. n (sym e))) (sym (ne_eqb p k n))
-    ]
+  | inl e ↦ rw (e, bit_at-pow_same k) (sym (eq-eqb k k refl))
+  | inr n ↦ rw (bit_at-pow_other p k (λ e. n (sym e))) (sym (ne_eqb p k n))
+]
 
 pub either_digit : (x y : ℕ) → x < 2 → y < 2 → eqb (max x y) 1 ≡ (eqb x 1 || eqb y 1)
 either_digit x y p q = grind (arith, nat_tests)

@@ -1,10 +1,8 @@
 -- Sets made of one field for each name.
-use Rattle.std.proofs.Common.{◌≡◌, ℕ, Bool, true, false, ◌&&◌, ◌||◌, not, eqb, ◌<◌, ◌-◌, ◌^◌, List, [], ◌∷◌, arith, ap, ◌∙◌, sym, subst, refl, lit<, cond}
+use Rattle.std.proofs.Common.{◌≡◌, Bool, true, false, ◌&&◌, ◌||◌, not, eqb, ◌<◌, ◌-◌, ◌^◌, List, [], ◌∷◌, arith, ap, ◌∙◌, sym, subst, refl, cond}
 use Rattle.std.specs.Prelude.{if◌then◌else◌, filter}
 use Rattle.std.specs.List.{list_any}
 use Rattle.std.proofs.lemmas.Nat.{or_lt, and_le_l}
-use Rattle.std.proofs.lemmas.Bool.{cases_Bool}
-use Rattle.std.specs.Int.RustNames.{bit_and}
 use Rattle.wasm_features.specs.declared.WasmFeatures.{WasmFeatures}
 use Rattle.wasm_features.specs.declared.inflated.WasmFeaturesInflated.{WasmFeaturesInflated}
 use Rattle.wasm_features.specs.Features.{Feature, MutableGlobal, SaturatingFloatToInt, SignExtension, ReferenceTypes, MultiValue, BulkMemory, Simd, RelaxedSimd, Threads, SharedEverythingThreads, TailCall, Floats, MultiMemory, Exceptions, Memory64, ExtendedConst, FunctionReferences, Gc, CustomPageSizes, LegacyExceptions, GcTypes, WideArithmetic, CallIndirectOverlong, BulkMemoryOpt, has, enables, constant, place, features_of, all_names}
@@ -109,9 +107,9 @@ then_set fields done last old new before e =
     let other : WasmFeatures = features_of (constant last) in
     let named = list_is_named (constant last) in
     subst (IsTold fields (last ∷ done)) (sym e) (record {
-        names = λ name. set_names old other (field fields last) (omega (arith, named)) name
-            ∙ (λ i. if list_is_set (constant last) name i then field fields last else before.names name i);
-        named = set_named old other (field fields last) before.named named
+      names = λ name. set_names old other (field fields last) (omega (arith, named)) name
+          ∙ (λ i. if list_is_set (constant last) name i then field fields last else before.names name i);
+      named = set_named old other (field fields last) before.named named;
     })
 
 -- all names, the last one first

@@ -1,16 +1,16 @@
 -- Names in sets.
-use Rattle.std.proofs.Common.{◌≡◌, ℕ, zero, suc, Bool, true, false, ◌&&◌, ◌||◌, not, eqb, ◌<◌, ◌≤◌, ◌+◌, ◌-◌, ◌^◌, List, [], ◌∷◌, min, max, arith, ap, ◌∙◌, sym, refl, lit<, get_or, cond, inl, inr}
+use Rattle.std.proofs.Common.{◌≡◌, ℕ, Bool, true, ◌&&◌, ◌||◌, not, eqb, ◌<◌, ◌-◌, ◌^◌, List, [], ◌∷◌, min, arith, ap, ◌∙◌, sym, refl, lit<, get_or}
 use Rattle.std.specs.Prelude.{if◌then◌else◌}
-use Rattle.std.specs.Int.RustNames.{bit_and, bit_or, bit_xor}
+use Rattle.std.specs.Int.RustNames.{bit_and}
 use Rattle.std.specs.Int.{bit_at, w32}
 use Rattle.std.specs.List.{list_any}
-use Rattle.std.proofs.lemmas.Nat.{or_lt, and_le_l, and_le_r}
+use Rattle.std.proofs.lemmas.Nat.{or_lt, and_le_r}
 use Rattle.std.proofs.Math.Pow.{pow-lt}
-use Rattle.std.proofs.lemmas.Nat.Bits.{bit_at_and, bit_at_or, bit_at_xor, bit_at_not, bit_at-lt, bit_at-zero, bit_at_above, same_from_bits_below, same_from_bits}
-use Rattle.std.proofs.lemmas.Bool.{agree_below_at, eqb-true, eqb-false, eq-eqb}
+use Rattle.std.proofs.lemmas.Nat.Bits.{bit_at_and, bit_at_or, bit_at_xor, bit_at_not, bit_at-lt, bit_at-zero, same_from_bits_below}
+use Rattle.std.proofs.lemmas.Bool.{agree_below_at, eqb-true, eq-eqb}
 use Rattle.wasm_features.specs.declared.WasmFeatures.{WasmFeatures}
-use Rattle.wasm_features.specs.Features.{Feature, MutableGlobal, SaturatingFloatToInt, SignExtension, ReferenceTypes, MultiValue, BulkMemory, Simd, RelaxedSimd, Threads, SharedEverythingThreads, TailCall, Floats, MultiMemory, Exceptions, Memory64, ExtendedConst, FunctionReferences, Gc, CustomPageSizes, LegacyExceptions, GcTypes, WideArithmetic, CallIndirectOverlong, BulkMemoryOpt, has, place, bits_of, features_of, all_names}
-use Rattle.wasm_features.specs.Sets.{HasExactly, IsWithin, IsNamed, union, intersection, difference, symmetric_difference, complement}
+use Rattle.wasm_features.specs.Features.{Feature, MutableGlobal, has, place, bits_of, features_of, all_names}
+use Rattle.wasm_features.specs.Sets.{IsWithin, IsNamed, union, intersection, difference, symmetric_difference}
 use Rattle.wasm_features.specs.Laws.{ListIsSet, SetIsItsNames, UnionByNames, IntersectionByNames, DifferenceByNames, SymmetricDifferenceByNames, ComplementByNames}
 use Rattle.wasm_features.proofs.Digits.{has_digit, digit_of_power, either_digit, both_digits, first_digit_alone, one_digit, same_digit, kept_digit}
 
@@ -63,14 +63,16 @@ list_is_named [] = lit< tt
 list_is_named (name ∷ names) = or_lt 24 (2 ^ place name) (bits_of names) (pow-lt (place_below name)) (list_is_named names)
 
 -- ---- a set is its names
+same_digits : (a b : WasmFeatures) → ((name : Feature) → has a name ≡ has b name) → (i : ℕ) → i < 24 → bit_at a.bits i ≡ bit_at b.bits i
+same_digits a b same i h =
+    let at = place-name_at i h in
+    let name = name_at i in
+    let e = sym (has_by_digit a name) ∙ same name ∙ has_by_digit b name in
+    sym (ap (bit_at a.bits) at) ∙ same_digit _ _ (small_digit a name) (small_digit b name) e ∙ ap (bit_at b.bits) at
+
 pub set_is_its_names : SetIsItsNames
 set_is_its_names a b p q same =
-    let digits : (i : ℕ) → i < 24 → bit_at a.bits i ≡ bit_at b.bits i = λ i h.
-        let at = place-name_at i h in
-        let e = sym (has_by_digit a (name_at i)) ∙ same (name_at i) ∙ has_by_digit b (name_at i) in
-        sym (ap (bit_at a.bits) at) ∙ same_digit _ _ (small_digit a (name_at i)) (small_digit b (name_at i)) e ∙ ap (bit_at b.bits) at
-    in
-    ap (λ (n : ℕ). record { bits = n }) (same_from_bits_below 24 a.bits b.bits p q digits)
+    ap (λ (n : ℕ). record { bits = n }) (same_from_bits_below 24 a.bits b.bits p q (same_digits a b same))
 
 -- ---- operations
 pub union_by_names : UnionByNames
@@ -110,11 +112,14 @@ within_of_and small large e name h =
     let at = sym (bit_at_and large.bits small.bits (place name)) ∙ ap (λ (n : ℕ). bit_at n (place name)) e in
     has_by_digit large name ∙ eq-eqb _ _ (omega (arith, at, d, bit_at-lt large.bits (place name)))
 
-pub and_of_within : (small large : WasmFeatures) → IsNamed small → IsWithin small large → bit_and large.bits small.bits ≡ small.bits
-and_of_within small large named within = same_from_bits_below 24 _ _ (omega (arith, and_le_r large.bits small.bits)) named (λ i h.
+kept_digits : (low large : WasmFeatures) → IsWithin low large → (i : ℕ) → i < 24 → bit_at low.bits i ≡ 1 → bit_at large.bits i ≡ 1
+kept_digits low large within i h e =
     let at = place-name_at i h in
     let name = name_at i in
-    let d : (bit_at small.bits i ≡ 1) → bit_at large.bits i ≡ 1 = λ e.
-        sym (ap (bit_at large.bits) at) ∙ eqb-true _ _ (sym (has_by_digit large name) ∙ within name (has_by_digit small name ∙ eq-eqb _ _ (ap (bit_at small.bits) at ∙ e)))
-    in
-    bit_at_and large.bits small.bits i ∙ kept_digit _ _ (bit_at-lt small.bits i) d)
+    let there = has_by_digit low name ∙ eq-eqb _ _ (ap (bit_at low.bits) at ∙ e) in
+    sym (ap (bit_at large.bits) at) ∙ eqb-true _ _ (sym (has_by_digit large name) ∙ within name there)
+
+pub and_of_within : (low large : WasmFeatures) → IsNamed low → IsWithin low large → bit_and large.bits low.bits ≡ low.bits
+and_of_within low large named within =
+    same_from_bits_below 24 _ _ (omega (arith, and_le_r large.bits low.bits)) named
+    (λ i h. bit_at_and large.bits low.bits i ∙ kept_digit _ _ (bit_at-lt low.bits i) (kept_digits low large within i h))

@@ -3,7 +3,7 @@ use Rattle.std.specs.Prelude.{ℕ, Bool, List, [], ◌∷◌, ◌==◌, ◌^◌,
 use Rattle.wasm_features.specs.declared.WasmFeatures.{WasmFeatures}
 use Rattle.std.specs.Int.RustNames.{bit_and, bit_or}
 
--- the names: proposals to WebAssembly, most of them now in the standard
+-- the names: proposals to WebAssembly, most of them in the standard by now (Core Specification, appendix Change History)
 pub data Feature : Type 0 where
   MutableGlobal : Feature
   SaturatingFloatToInt : Feature

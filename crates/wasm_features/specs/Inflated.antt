@@ -34,30 +34,30 @@ field fields BulkMemoryOpt = fields.bulk_memory_opt
 -- the fields that a test of the names gives
 abbrev pub inflated : (Feature → Bool) → WasmFeaturesInflated
 inflated test = record {
-    mutable_global = test MutableGlobal;
-    saturating_float_to_int = test SaturatingFloatToInt;
-    sign_extension = test SignExtension;
-    reference_types = test ReferenceTypes;
-    multi_value = test MultiValue;
-    bulk_memory = test BulkMemory;
-    simd = test Simd;
-    relaxed_simd = test RelaxedSimd;
-    threads = test Threads;
-    shared_everything_threads = test SharedEverythingThreads;
-    tail_call = test TailCall;
-    floats = test Floats;
-    multi_memory = test MultiMemory;
-    exceptions = test Exceptions;
-    memory64 = test Memory64;
-    extended_const = test ExtendedConst;
-    function_references = test FunctionReferences;
-    gc = test Gc;
-    custom_page_sizes = test CustomPageSizes;
-    legacy_exceptions = test LegacyExceptions;
-    gc_types = test GcTypes;
-    wide_arithmetic = test WideArithmetic;
-    call_indirect_overlong = test CallIndirectOverlong;
-    bulk_memory_opt = test BulkMemoryOpt
+  mutable_global = test MutableGlobal;
+  saturating_float_to_int = test SaturatingFloatToInt;
+  sign_extension = test SignExtension;
+  reference_types = test ReferenceTypes;
+  multi_value = test MultiValue;
+  bulk_memory = test BulkMemory;
+  simd = test Simd;
+  relaxed_simd = test RelaxedSimd;
+  threads = test Threads;
+  shared_everything_threads = test SharedEverythingThreads;
+  tail_call = test TailCall;
+  floats = test Floats;
+  multi_memory = test MultiMemory;
+  exceptions = test Exceptions;
+  memory64 = test Memory64;
+  extended_const = test ExtendedConst;
+  function_references = test FunctionReferences;
+  gc = test Gc;
+  custom_page_sizes = test CustomPageSizes;
+  legacy_exceptions = test LegacyExceptions;
+  gc_types = test GcTypes;
+  wide_arithmetic = test WideArithmetic;
+  call_indirect_overlong = test CallIndirectOverlong;
+  bulk_memory_opt = test BulkMemoryOpt;
 }
 
 -- the set of the names whose fields are true
@@ -70,7 +70,7 @@ abbrev pub InflateGivesBack : Type 0
 InflateGivesBack =
     (fields : WasmFeaturesInflated)
     → inflated (enables (deflated fields))
-        ≡ record fields {
-            reference_types = fields.reference_types && fields.call_indirect_overlong;
-            bulk_memory = fields.bulk_memory && fields.bulk_memory_opt
-        }
+    ≡ record fields {
+      reference_types = fields.reference_types && fields.call_indirect_overlong;
+      bulk_memory = fields.bulk_memory && fields.bulk_memory_opt;
+    }

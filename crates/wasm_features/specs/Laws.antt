@@ -1,9 +1,9 @@
 -- Laws of sets of names.
-use Rattle.std.specs.Prelude.{ℕ, Bool, true, List, ◌<◌, ◌^◌, ◌≡◌, ◌&&◌, ◌||◌, not, if◌then◌else◌, ◌==◌}
+use Rattle.std.specs.Prelude.{List, ◌<◌, ◌^◌, ◌≡◌, ◌&&◌, ◌||◌, not, if◌then◌else◌, ◌==◌}
 use Rattle.std.specs.List.{list_any}
 use Rattle.wasm_features.specs.declared.WasmFeatures.{WasmFeatures}
 use Rattle.wasm_features.specs.Features.{Feature, has, place, features_of}
-use Rattle.wasm_features.specs.Sets.{HasExactly, IsWithin, IsNamed, union, intersection, difference, symmetric_difference, complement}
+use Rattle.wasm_features.specs.Sets.{HasExactly, IsNamed, union, intersection, difference, symmetric_difference, complement}
 
 -- the set of a list has the list's names and no other
 abbrev pub ListIsSet : Type 0

@@ -1,10 +1,9 @@
 -- Operations on sets of names, and the sets that go with each version of the standard.
-use Rattle.std.specs.Prelude.{ℕ, Bool, true, List, [], ◌∷◌, ◌<◌, ◌^◌, ◌≡◌, ◌&&◌, ◌||◌, not, if◌then◌else◌, IsTrue, nat_eq}
+use Rattle.std.specs.Prelude.{Bool, true, List, [], ◌∷◌, ◌<◌, ◌^◌, ◌≡◌}
 use Rattle.std.specs.Int.RustNames.{bit_and, bit_or, bit_xor}
-use Rattle.std.specs.List.{list_any}
 use Rattle.bitflags.specs.Sets.{without}
 use Rattle.wasm_features.specs.declared.WasmFeatures.{WasmFeatures}
-use Rattle.wasm_features.specs.Features.{Feature, MutableGlobal, SaturatingFloatToInt, SignExtension, ReferenceTypes, MultiValue, BulkMemory, Simd, RelaxedSimd, Threads, SharedEverythingThreads, TailCall, Floats, MultiMemory, Exceptions, Memory64, ExtendedConst, FunctionReferences, Gc, CustomPageSizes, LegacyExceptions, GcTypes, WideArithmetic, CallIndirectOverlong, BulkMemoryOpt, has, place, features_of, all_names}
+use Rattle.wasm_features.specs.Features.{Feature, MutableGlobal, SaturatingFloatToInt, SignExtension, ReferenceTypes, MultiValue, BulkMemory, Simd, RelaxedSimd, Threads, TailCall, Floats, MultiMemory, Exceptions, Memory64, ExtendedConst, FunctionReferences, Gc, CustomPageSizes, GcTypes, CallIndirectOverlong, BulkMemoryOpt, has, features_of, all_names}
 
 -- a set has a name exactly if the name passes the test
 abbrev pub HasExactly : WasmFeatures → (Feature → Bool) → Type 0
@@ -38,17 +37,17 @@ complement a = difference (features_of all_names) a
 abbrev pub mvp_names : List Feature
 mvp_names = Floats ∷ GcTypes ∷ []
 
--- version 1.0 of the standard
+-- version 1.0 of the standard (Core Specification, appendix Change History, for this and the next two)
 abbrev pub wasm1_names : List Feature
 wasm1_names = MutableGlobal ∷ mvp_names
 
--- version 2.0 of the standard
+-- version 2.0: Release 2.0
 abbrev pub wasm2_names : List Feature
 wasm2_names =
     SaturatingFloatToInt ∷ SignExtension ∷ ReferenceTypes ∷ CallIndirectOverlong ∷ MultiValue ∷ BulkMemory
     ∷ BulkMemoryOpt ∷ Simd ∷ wasm1_names
 
--- version 3.0 of the standard
+-- version 3.0: Release 3.0
 abbrev pub wasm3_names : List Feature
 wasm3_names =
     TailCall ∷ ExtendedConst ∷ FunctionReferences ∷ Gc ∷ MultiMemory ∷ RelaxedSimd ∷ Exceptions ∷ Memory64 ∷ wasm2_names

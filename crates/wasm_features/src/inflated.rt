@@ -66,7 +66,10 @@ impl WasmFeatures {
     {
         let mut features = Self::empty();
         features.set(Self::MUTABLE_GLOBAL, fields.mutable_global);
-        features.set(Self::SATURATING_FLOAT_TO_INT, fields.saturating_float_to_int);
+        features.set(
+            Self::SATURATING_FLOAT_TO_INT,
+            fields.saturating_float_to_int,
+        );
         features.set(Self::SIGN_EXTENSION, fields.sign_extension);
         features.set(Self::REFERENCE_TYPES, fields.reference_types);
         features.set(Self::MULTI_VALUE, fields.multi_value);
@@ -74,7 +77,10 @@ impl WasmFeatures {
         features.set(Self::SIMD, fields.simd);
         features.set(Self::RELAXED_SIMD, fields.relaxed_simd);
         features.set(Self::THREADS, fields.threads);
-        features.set(Self::SHARED_EVERYTHING_THREADS, fields.shared_everything_threads);
+        features.set(
+            Self::SHARED_EVERYTHING_THREADS,
+            fields.shared_everything_threads,
+        );
         features.set(Self::TAIL_CALL, fields.tail_call);
         features.set(Self::FLOATS, fields.floats);
         features.set(Self::MULTI_MEMORY, fields.multi_memory);

@@ -1,4 +1,10 @@
-//! Sets of WebAssembly features, after `WasmFeatures` of the crate `wasmparser`.
+//! Sets of WebAssembly features, after `WasmFeatures` of the crate `wasmparser`, with 24 names and bits in an
+//! order of their own.
+//!
+//! Four names decide what a reader or a writer takes: `gc_types`, `shared_everything_threads`,
+//! `legacy_exceptions` and `wide_arithmetic`. The others are kept and answered, and gate nothing.
+//! `Flags::from_bits_retain` keeps bits that no name has; every other call gives a set of names where it is
+//! given sets of names.
 #![tactic(auto)]
 
 ghost use Rattle.std.specs.Prelude.{◌≡◌, ◌==◌, ⊤, ℕ};
@@ -14,76 +20,106 @@ mod operations;
 
 pub use inflated::WasmFeaturesInflated;
 
-/// A set of WebAssembly features, by name.
+/// A set of WebAssembly features, by name. Operations that are not methods come from `bitflags::Flags`.
 #[derive(Clone, Copy, PartialEq, Eq, Hash, Debug)]
 pub struct WasmFeatures {
     bits: u32,
 }
 
 impl WasmFeatures {
-    /// The feature `mutable_global`.
+    /// Mutable globals are imported and exported.
     pub const MUTABLE_GLOBAL: Self = Self { bits: 1 << 0 };
-    /// The feature `saturating_float_to_int`.
+    /// Floats are cut to integers with saturation in place of a trap.
     pub const SATURATING_FLOAT_TO_INT: Self = Self { bits: 1 << 1 };
-    /// The feature `sign_extension`.
+    /// A number's low bits are extended by their sign.
     pub const SIGN_EXTENSION: Self = Self { bits: 1 << 2 };
-    /// The feature `reference_types`.
+    /// Reference types and tables of them; the constant brings `call_indirect_overlong` along.
     pub const REFERENCE_TYPES: Self = Self {
         bits: 1 << 3 | Self::CALL_INDIRECT_OVERLONG.bits,
     };
-    /// The feature `multi_value`.
+    /// Blocks and functions give several values.
     pub const MULTI_VALUE: Self = Self { bits: 1 << 4 };
-    /// The feature `bulk_memory`.
+    /// Memory and tables are copied and filled in bulk; the constant brings `bulk_memory_opt` along.
     pub const BULK_MEMORY: Self = Self {
         bits: 1 << 5 | Self::BULK_MEMORY_OPT.bits,
     };
-    /// The feature `simd`.
+    /// Vectors of 128 bits.
     pub const SIMD: Self = Self { bits: 1 << 6 };
-    /// The feature `relaxed_simd`.
+    /// Operators on vectors whose result may depend on the machine.
     pub const RELAXED_SIMD: Self = Self { bits: 1 << 7 };
-    /// The feature `threads`.
+    /// Shared memory and atomic operators.
     pub const THREADS: Self = Self { bits: 1 << 8 };
-    /// The feature `shared_everything_threads`.
+    /// Shared types beyond memory, as shared heap types.
     pub const SHARED_EVERYTHING_THREADS: Self = Self { bits: 1 << 9 };
-    /// The feature `tail_call`.
+    /// Calls that end the function that makes them.
     pub const TAIL_CALL: Self = Self { bits: 1 << 10 };
-    /// The feature `floats`.
+    /// Operators on floats.
     pub const FLOATS: Self = Self { bits: 1 << 11 };
-    /// The feature `multi_memory`.
+    /// Several memories in a module.
     pub const MULTI_MEMORY: Self = Self { bits: 1 << 12 };
-    /// The feature `exceptions`.
+    /// Exceptions by `try_table` and `throw_ref`.
     pub const EXCEPTIONS: Self = Self { bits: 1 << 13 };
-    /// The feature `memory64`.
+    /// Memories and tables with 64-bit addresses.
     pub const MEMORY64: Self = Self { bits: 1 << 14 };
-    /// The feature `extended_const`.
+    /// Sums, differences and products in constant expressions.
     pub const EXTENDED_CONST: Self = Self { bits: 1 << 15 };
-    /// The feature `function_references`.
+    /// Typed references to functions.
     pub const FUNCTION_REFERENCES: Self = Self { bits: 1 << 16 };
-    /// The feature `gc`.
+    /// Structs, arrays and `i31`, which are collected.
     pub const GC: Self = Self { bits: 1 << 17 };
-    /// The feature `custom_page_sizes`.
+    /// Memories with pages of another size.
     pub const CUSTOM_PAGE_SIZES: Self = Self { bits: 1 << 18 };
-    /// The feature `legacy_exceptions`.
+    /// Exceptions by `try`, `catch` and `delegate`, as they were before version 3.0.
     pub const LEGACY_EXCEPTIONS: Self = Self { bits: 1 << 19 };
-    /// The feature `gc_types`.
+    /// Types other than functions, numbers, vectors, `funcref`, `externref` and `exnref`.
     pub const GC_TYPES: Self = Self { bits: 1 << 20 };
-    /// The feature `wide_arithmetic`.
+    /// Sums and products of 128 bits.
     pub const WIDE_ARITHMETIC: Self = Self { bits: 1 << 21 };
-    /// The feature `call_indirect_overlong`.
+    /// The table index of `call_indirect` may be a number of several bytes.
     pub const CALL_INDIRECT_OVERLONG: Self = Self { bits: 1 << 22 };
-    /// The feature `bulk_memory_opt`.
+    /// `memory.copy` and `memory.fill` alone.
     pub const BULK_MEMORY_OPT: Self = Self { bits: 1 << 23 };
 
     /// The features of WebAssembly's first version, of 2017.
-    pub const MVP: Self = Self { bits: Self::FLOATS.bits | Self::GC_TYPES.bits };
+    pub const MVP: Self = Self {
+        bits: Self::FLOATS.bits | Self::GC_TYPES.bits,
+    };
     /// The features of the standard's version 1.0.
-    pub const WASM1: Self = Self { bits: Self::MVP.bits | Self::MUTABLE_GLOBAL.bits };
+    pub const WASM1: Self = Self {
+        bits: Self::MVP.bits | Self::MUTABLE_GLOBAL.bits,
+    };
     /// The features of the standard's version 2.0.
-    pub const WASM2: Self = Self { bits: Self::WASM1.bits | Self::SATURATING_FLOAT_TO_INT.bits | Self::SIGN_EXTENSION.bits | Self::REFERENCE_TYPES.bits | Self::MULTI_VALUE.bits | Self::BULK_MEMORY.bits | Self::SIMD.bits };
+    pub const WASM2: Self = Self {
+        bits: Self::WASM1.bits
+            | Self::SATURATING_FLOAT_TO_INT.bits
+            | Self::SIGN_EXTENSION.bits
+            | Self::REFERENCE_TYPES.bits
+            | Self::MULTI_VALUE.bits
+            | Self::BULK_MEMORY.bits
+            | Self::SIMD.bits,
+    };
     /// The features of the standard's version 3.0.
-    pub const WASM3: Self = Self { bits: Self::WASM2.bits | Self::TAIL_CALL.bits | Self::EXTENDED_CONST.bits | Self::FUNCTION_REFERENCES.bits | Self::GC.bits | Self::MULTI_MEMORY.bits | Self::RELAXED_SIMD.bits | Self::EXCEPTIONS.bits | Self::MEMORY64.bits };
+    pub const WASM3: Self = Self {
+        bits: Self::WASM2.bits
+            | Self::TAIL_CALL.bits
+            | Self::EXTENDED_CONST.bits
+            | Self::FUNCTION_REFERENCES.bits
+            | Self::GC.bits
+            | Self::MULTI_MEMORY.bits
+            | Self::RELAXED_SIMD.bits
+            | Self::EXCEPTIONS.bits
+            | Self::MEMORY64.bits,
+    };
     /// The features of the profile Lime1.
-    pub const LIME1: Self = Self { bits: Self::WASM1.bits | Self::SATURATING_FLOAT_TO_INT.bits | Self::SIGN_EXTENSION.bits | Self::MULTI_VALUE.bits | Self::EXTENDED_CONST.bits | Self::CALL_INDIRECT_OVERLONG.bits | Self::BULK_MEMORY_OPT.bits };
+    pub const LIME1: Self = Self {
+        bits: Self::WASM1.bits
+            | Self::SATURATING_FLOAT_TO_INT.bits
+            | Self::SIGN_EXTENSION.bits
+            | Self::MULTI_VALUE.bits
+            | Self::CALL_INDIRECT_OVERLONG.bits
+            | Self::BULK_MEMORY_OPT.bits
+            | Self::EXTENDED_CONST.bits,
+    };
 
     /// Each constant with its name, in the order of their bits.
     pub const FLAGS: &'static [Flag<Self>] = &[
@@ -215,3 +251,6 @@ impl Default for WasmFeatures {
         Self::WASM3 | Self::THREADS | Self::CUSTOM_PAGE_SIZES
     }
 }
+
+#[cfg(test)]
+mod tests;

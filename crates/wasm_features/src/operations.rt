@@ -6,7 +6,9 @@ ghost use Rattle.wasm_features.specs.Sets.{IsNamed, IsWithin, union, intersectio
 
 use crate::WasmFeatures;
 use bitflags::Flags;
-use std::ops::{BitAnd, BitAndAssign, BitOr, BitOrAssign, BitXor, BitXorAssign, Not, Sub, SubAssign};
+use std::ops::{
+    BitAnd, BitAndAssign, BitOr, BitOrAssign, BitXor, BitXorAssign, Not, Sub, SubAssign,
+};
 
 impl WasmFeatures {
     /// The set with no name.
