@@ -4,3 +4,4 @@ pub mod Utf8
 pub mod Runs
 pub mod Moved
 pub mod Small
+pub mod Refused

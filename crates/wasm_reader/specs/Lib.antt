@@ -10,3 +10,4 @@ pub mod Laws
 pub mod Final
 pub mod Finals
 pub mod Spellings
+pub mod Faults

@@ -8,6 +8,8 @@ ghost use Rattle.wasm_reader.specs.Floats.{seen_bits32, seen_bits64};
 ghost use Rattle.wasm_reader.specs.Numbers.{unsigned, signed, Spells, unsigned_at, signed_at, s33_at};
 ghost use Rattle.wasm_reader.specs.Shortest.{IsShortest, shortest_unsigned, shortest_signed};
 ghost use Rattle.wasm_reader.specs.Text.{SpellsText, SpellsName, size_at, text_at, string_at, sized_bytes_at, unlimited_string_at, skipped_string_at};
+ghost use Rattle.wasm_reader.specs.Faults.{RefusesExactly};
+ghost use Rattle.wasm_reader.specs.declared.error.ErrorKind.TheVariants.{TooLarge, TooLong};
 ghost use Rattle.wasm_reader.specs.Laws.{IsFinal, GrowsNext, EndsEarly, TakesSpelled, IsPrefixFree, OffsetsMove};
 
 /// What is answered for bytes, the end of the input aside, is final whatever bytes follow; the hint is exact.
@@ -67,6 +69,14 @@ pub fn spellings_are_prefix_free()
 pub fn shortest_spellings_are_shortest()
     ensures unsigned { (count width n : ℕ) → 0 < width → width ≤ 7 * count → n < 2 ^ width → IsShortest unsigned width (shortest_unsigned count n) n }
     ensures signed { (count width : ℕ) (z : ℤ) → 0 < width → width ≤ 7 * count → mag z < 2 ^ (width - 1) → IsShortest signed width (shortest_signed count z) z }
+{}
+
+/// A number of N bits is refused exactly where its first ceil(N / 7) bytes all go on, where its last byte has wrong
+/// unused bits, or where the bytes end before it, and the fault stands there.
+pub fn numbers_are_refused_exactly()
+    ensures unsigned { (width : ℕ) → 0 < width → RefusesExactly unsigned TooLarge width }
+    ensures signed { (width : ℕ) → 0 < width → RefusesExactly signed TooLarge width }
+    ensures s33 { RefusesExactly signed TooLong 33 }
 {}
 
 /// A call at offset k answers what it answers at offset 0, moved by k, where both windows fit.
