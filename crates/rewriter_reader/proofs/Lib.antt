@@ -1,2 +1,4 @@
 pub mod Stops
 pub mod Repeats
+pub mod Names
+pub mod Contents

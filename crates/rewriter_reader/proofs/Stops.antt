@@ -20,7 +20,7 @@ stops_then _ left first f h = rw h refl
 pub stops_as : {A : Type 0} (e : Fault) (left : ℕ) (first second : Result A Stop) → first ≡ second → StopsWith e left first → StopsWith e left second
 stops_as e left first second same h = rw (← same) h
 
-same_end : (old new : Cursor) → Forward old new → end_of old ≡ end_of new
+pub same_end : (old new : Cursor) → Forward old new → end_of old ≡ end_of new
 same_end old new moves = ap (λ (w : Window). w.start + length w.bytes) (sym moves.window)
 
 -- a fault that was made for a place

@@ -17,7 +17,10 @@ pub(crate) trait ReadEntry<'a>: Sized {
 
     ghost seen: { Self.Entry → Seen };
 
-    ghost parsing: { Self → List Seen → List ℕ → Parsing Seen };
+    // the number that the elements are read with
+    ghost given: { Self → ℕ };
+
+    ghost parsing: { ℕ → List Seen → List ℕ → Parsing Seen };
 
     ghost Knows: { Self → List Self.Entry → Cursor → Type 0 };
 
@@ -29,20 +32,21 @@ pub(crate) trait ReadEntry<'a>: Sized {
         reader: &mut BinaryReader<'a>,
     ) -> Result<Self::Entry, Fault>
         requires { Knows self.old earlier.now reader.old }
-        ensures entry { Parses (parsing self.old (map seen earlier.now)) seen reader.old reader.new result }
-        ensures same { parsing self.new ≡ parsing self.old }
+        ensures entry { Parses (parsing (given self.old) (map seen earlier.now)) seen reader.old reader.new result }
+        ensures same { given self.new ≡ given self.old }
         ensures knows { IfOk result (λ x. Knows self.new (earlier.now ++ x ∷ []) reader.new) };
 }
 
 /// So many elements.
 pub(crate) fn read_entries<'a, E: ReadEntry<'a>>(
     alloc: Global,
-    count: u32,
+    count: usize,
     entries: &mut E,
     reader: &mut BinaryReader<'a>,
 ) -> Result<Vec<E::Entry>, Fault>
     requires { E.Knows entries.old [] reader.old }
-    ensures list { Parses (entries_at (E.parsing entries.old) count []) (λ v. map E.seen v.items) reader.old reader.new result }
+    ensures list { Parses (entries_at (E.parsing (E.given entries.old)) count []) (λ v. map E.seen v.items) reader.old reader.new result }
+    ensures same { E.given entries.new ≡ E.given entries.old }
     ensures knows { IfOk result (λ v. E.Knows entries.new v.items reader.new) }
 {
     let mut list = Vec::new(alloc);
@@ -51,4 +55,18 @@ pub(crate) fn read_entries<'a, E: ReadEntry<'a>>(
         list.push(entry)?;
     }
     Ok(list)
+}
+
+/// A count, and that many elements.
+#[tactic(auto, unfolding(wasm_model::specs::Stop::vec_at))]
+pub(crate) fn read_vec<'a, E: ReadEntry<'a>>(
+    alloc: Global,
+    entries: &mut E,
+    reader: &mut BinaryReader<'a>,
+) -> Result<Vec<E::Entry>, Fault>
+    requires { (c : Cursor) → E.Knows entries.old [] c }
+    ensures { Parses (vec_at (E.parsing (E.given entries.old))) (λ v. map E.seen v.items) reader.old reader.new result }
+{
+    let count = reader.read_var_u32()? as usize;
+    read_entries(alloc, count, entries, reader)
 }

@@ -1,4 +1,4 @@
-use Rattle.std.proofs.Common.{rules, ◌≡◌, ℕ, ◌+◌, length, arith}
+use Rattle.std.proofs.Common.{length, arith}
 use Rattle.std.proofs.lemmas.Grind.{common_steps}
 use Rattle.wasm_reader.specs.Cursor.{rest}
 use Rattle.wasm_reader.specs.Reading.{plain}
