@@ -1,0 +1,5 @@
+pub mod Operators
+pub mod Shrinks
+pub mod Walk
+pub mod Counting
+pub mod Checking

@@ -1,0 +1,4 @@
+pub mod Views
+pub mod Exactly
+pub mod Live
+pub mod Sizes
