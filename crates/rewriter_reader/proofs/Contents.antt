@@ -1,9 +1,8 @@
 -- Sections by steps: the contents are opened, parsed, and closed.
-use Rattle.std.proofs.Common.{ℕ, ◌≡◌, ◌+◌, ◌-◌, ◌<◌, ◌≤◌, ◌==◌, nat_lt, List, [], ◌∷◌, length, take, drop, Result, Ok, Err, Option, Some, None, Bool, true, false, if◌then◌else◌, refl, sym, ◌∙◌, ap, arith, rules, option_map, length-drop}
+use Rattle.std.proofs.Common.{ℕ, ◌≡◌, ◌+◌, ◌-◌, ◌<◌, ◌==◌, nat_lt, List, [], ◌∷◌, length, take, drop, Result, Ok, Err, Option, Some, None, Bool, true, false, if◌then◌else◌, refl, sym, ◌∙◌, arith, option_map, length-drop}
 use Rattle.std.proofs.lemmas.Grind.{common_steps}
-use Rattle.wasm_reader.specs.Cursor.{Cursor, rest, end_of, Forward, IsInner}
-use Rattle.wasm_reader.specs.Reading.{seen_window, Reading}
-use Rattle.wasm_reader.specs.Reading.{Fault as ReadFault}
+use Rattle.wasm_reader.specs.Cursor.{Cursor, rest, end_of, IsInner}
+use Rattle.wasm_reader.specs.Reading.{seen_window}
 use Rattle.wasm_reader.specs.Numbers.{unsigned_at}
 use Rattle.wasm_model.specs.declared.fault.Fault.{Fault}
 use Rattle.wasm_model.specs.declared.fault.Fault.TheVariants as faults

@@ -1,9 +1,9 @@
 -- The loop over a vec's elements.
-use Rattle.std.proofs.Common.{ℕ, ◌≡◌, ◌+◌, ◌-◌, ◌<◌, ◌≤◌, List, [], ◌∷◌, ◌++◌, length, map, Result, Ok, Err, refl, sym, ◌∙◌, ap, arith, subst, suc, zero}
+use Rattle.std.proofs.Common.{ℕ, ◌≡◌, ◌+◌, ◌-◌, ◌<◌, ◌≤◌, List, [], ◌∷◌, ◌++◌, map, Ok, Err, refl, sym, ◌∙◌, arith, suc}
 use Rattle.std.proofs.lemmas.List.{map_push}
-use Rattle.wasm_reader.specs.Cursor.{Cursor, rest, end_of, Forward}
+use Rattle.wasm_reader.specs.Cursor.{Cursor, rest, Forward}
 use Rattle.wasm_model.specs.declared.fault.Fault.{Fault}
-use Rattle.wasm_model.specs.Stop.{Stop, stop, trouble_of, StopsWith, Parsing, Parses, entries_at, ◌>>=◌}
+use Rattle.wasm_model.specs.Stop.{Parsing, Parses, entries_at, ◌>>=◌}
 use Rattle.rewriter_reader.proofs.Stops.{stops_then, stops_as}
 
 -- after `i` of `count` elements

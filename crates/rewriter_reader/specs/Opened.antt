@@ -1,5 +1,5 @@
 -- A section's contents, before they are looked at.
-use Rattle.std.specs.Prelude.{ℕ, ◌==◌, nat_lt, List, [], ◌∷◌, length, take, drop, Result, Ok, Err, Option, Some, None, if◌then◌else◌}
+use Rattle.std.specs.Prelude.{ℕ, ◌==◌, nat_lt, List, [], ◌∷◌, length, take, drop, Ok, Err, Option, Some, None, if◌then◌else◌}
 use Rattle.wasm_reader.specs.Numbers.{unsigned_at}
 use Rattle.wasm_model.specs.Stop.{SectionSize, stop, Parsing, ◌>>=◌, value_at}
 

@@ -4,7 +4,7 @@ ghost use Rattle.std.specs.Prelude.{◌≡◌, ◌+◌, ◌-◌, ◌<◌, ◌≤
 ghost use Rattle.wasm_reader.specs.Cursor.{rest, end_of};
 ghost use Rattle.wasm_model.specs.Stop.{Parses};
 ghost use Rattle.wasm_model.specs.Sections.{chunk_entry, chunks_at, section_at};
-ghost use Rattle.rewriter_reader.specs.Seen.{chunk_of, code_of, AreWithin, EndWithin};
+ghost use Rattle.rewriter_reader.specs.Seen.{chunk_of, code_of, AreWithin, AreBodies};
 
 use std::alloc::Global;
 
@@ -81,7 +81,7 @@ fn read_chunks<'a>(
 ) -> Result<Code<'a>, Fault>
     requires { length (rest reader.old) + after < 2 ^ 32 }
     ensures chunks { Parses (chunks_at functions after) code_of reader.old reader.new result }
-    ensures within { IfOk result (λ code. EndWithin code.left code.bodies.items) }
+    ensures bodies { IfOk result (λ code. AreBodies functions (length (rest reader.old) + after) code) }
 {
     let offset = reader.original_position();
     let finish = reader.bytes_remaining();
@@ -101,7 +101,7 @@ pub(crate) fn read_code<'a>(
 ) -> Result<Option<Code<'a>>, Fault>
     requires { end_of reader.old < 2 ^ 32 }
     ensures code { Parses (section_at 10 (chunks_at functions)) (option_map code_of) reader.old reader.new result }
-    ensures within { IfOk result (λ o. IfSome o (λ code. EndWithin code.left code.bodies.items)) }
+    ensures bodies { IfOk result (λ o. IfSome o (AreBodies functions (end_of reader.old))) }
 {
     let Some(mut contents) = open_section(reader, 10)? else {
         return Ok(None);

@@ -1,6 +1,6 @@
 //! vec (Core Specification, Binary Format, Vectors).
 
-ghost use Rattle.std.specs.Prelude.{◌≡◌, List, [], ◌∷◌, ◌++◌, map, IfOk, ℕ};
+ghost use Rattle.std.specs.Prelude.{◌≡◌, List, [], ◌∷◌, ◌++◌, length, map, IfOk, ℕ};
 ghost use Rattle.wasm_reader.specs.Cursor.{Cursor};
 ghost use Rattle.wasm_model.specs.Stop.{Parsing, Parses, entries_at, vec_at};
 
@@ -46,6 +46,7 @@ pub(crate) fn read_entries<'a, E: ReadEntry<'a>>(
 ) -> Result<Vec<E::Entry>, Fault>
     requires { E.Knows entries.old [] reader.old }
     ensures list { Parses (entries_at (E.parsing (E.given entries.old)) count []) (λ v. map E.seen v.items) reader.old reader.new result }
+    ensures count { IfOk result (λ v. length v.items ≡ count) }
     ensures same { E.given entries.new ≡ E.given entries.old }
     ensures knows { IfOk result (λ v. E.Knows entries.new v.items reader.new) }
 {

@@ -1,4 +1,4 @@
-use Rattle.std.proofs.Common.{arith, refl, ◌∙◌}
+use Rattle.std.proofs.Common.{[], ◌∷◌, length-append, arith, refl, ◌∙◌}
 use Rattle.std.proofs.lemmas.Result.{err_from_is_err_and}
 use Rattle.rewriter_reader.proofs.Repeats.{goes_on, misses, ends}
 use Rattle.rewriter_reader.proofs.entries.read_entries.Goals as goal
@@ -15,6 +15,7 @@ loop-preserved g c =
       (goes_on (g.E.ReadEntry.parsing (g.E.ReadEntry.given c.args.entries.now)) g.E.ReadEntry.seen _ _ _ c.args.count c.loop.counter c.loop.list.items c.in_ok-entry.entry c.loop.invariant.0 c.loop-test.true
       (rw (c.as_slice.ensures.value, c.loop.invariant.1) at c.in_ok-entry.ensures.entry),
       c.in_ok-entry.ensures.same ∙ c.loop.invariant.1,
+      rw (length-append c.loop.list.items (c.in_ok-entry.entry ∷ []), c.loop.invariant.2) refl,
       (rw c.as_slice.ensures.value at c.in_ok-entry.ensures.knows))
 
 pub returns-clause-list : goal.returns-clause-list
