@@ -2,4 +2,7 @@ pub mod Stops
 pub mod Repeats
 pub mod Names
 pub mod Contents
-pub mod Whole
+pub mod Ordered
+pub mod Bodies
+pub mod Named
+pub mod Parsed

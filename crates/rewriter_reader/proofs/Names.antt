@@ -20,8 +20,8 @@ not_not a false h = sym (rw h refl)
 
 -- an earlier export has the name exactly where it wasn't added
 pub is_seen : {S : Type 0} (names : HashSet (Bor (List ℕ)) S) (exports : List Export) (name : List ℕ) (added : Bool)
-  → HasNames names exports → added ≡ not (contains_by (λ k. pointwise nat_eq name k.now) names)
-  → list_any (λ e. same_name e.name name) (map export_of exports) ≡ not added
+    → HasNames names exports → added ≡ not (contains_by (λ k. pointwise nat_eq name k.now) names)
+    → list_any (λ e. same_name e.name name) (map export_of exports) ≡ not added
 is_seen names exports name added has h = sym (has name) ∙ not_not _ _ h
 
 or_last : (a b : Bool) → (a || b) ≡ (b || (a || false))
@@ -32,7 +32,7 @@ or_last false false = refl
 
 -- the name of one more export
 pub has_one_more : {S : Type 0} (names new : HashSet (Bor (List ℕ)) S) (exports : List Export) (key : Bor (List ℕ)) (e : Export)
-  → e.name.now ≡ key.now → HasNames names exports → IsPermutation (key ∷ names.keys) new.keys → HasNames new (exports ++ e ∷ [])
+    → e.name.now ≡ key.now → HasNames names exports → IsPermutation (key ∷ names.keys) new.keys → HasNames new (exports ++ e ∷ [])
 has_one_more names new exports key e same has moved = λ name.
     let p = λ (k : Bor (List ℕ)). same_name name k.now in
     let r = λ (e : model.Export). same_name e.name name in

@@ -30,10 +30,10 @@ pub refused : {X Y : Type 0} (parsing : List ℕ → Parsing Y) (view : X → Y)
 refused parsing view old new e left h place moves =
     let ends : end_of old ≡ end_of new = same_end old new moves in
     record {
-    value = let same : end_of new - place_of e ≡ left = omega arith in rw same (stops_with e left (parsing (rest old)) h);
-    place = omega arith;
-    moves = moves
-  }
+      value = let same : end_of new - place_of e ≡ left = omega arith in rw same (stops_with e left (parsing (rest old)) h);
+      place = omega arith;
+      moves = moves;
+    }
 
 -- a byte was read
 pub byte_is : (bytes more : List ℕ) (byte : ℕ) → byte_at bytes ≡ Ok (byte, more) → bytes ≡ byte ∷ more
@@ -59,11 +59,11 @@ ends_at : (last id : ℕ) (bytes tail : List ℕ) (e : Fault) → bytes ≡ id �
 ends_at last id bytes tail e is trouble = rw (is, trouble, add-one) refl
 
 pub stops_end : (last id place : ℕ) (now : Cursor) (e : Fault) → Reads next_at (plain {X = ℕ}) now now (Ok id) → trouble_of e ≡ trouble_at_id last id → place_of e ≡ place → place + length (rest now) ≡ end_of now
-  → Ends (end_at last) (plain {X = Unit {0}}) now (Err e)
+    → Ends (end_at last) (plain {X = Unit {0}}) now (Err e)
 stops_end last id place now e read trouble at left =
     let is = next_is (rest now) (rest now) id read.value in
     let same : end_of now - place_of e ≡ length (rest now) = omega arith in
     record {
       value = rw same (stops_with e (length (rest now)) (end_at last (rest now)) (ends_at last id (rest now) is.0 e is.1 trouble));
-      place = omega arith
+      place = omega arith;
     }

@@ -6,13 +6,11 @@ ghost use Rattle.wasm_model.specs.Stop.{Parses};
 ghost use Rattle.wasm_model.specs.Sections.{chunk_entry, chunks_at, section_at};
 ghost use Rattle.rewriter_reader.specs.Seen.{chunk_of, code_of, AreWithin, AreBodies};
 
-use std::alloc::Global;
-
-use wasm_model::fault::{Fault, Limited};
-use wasm_reader::BinaryReader;
-
 use crate::entries::{ReadEntry, read_entries};
 use crate::section::{close_section, open_section};
+use std::alloc::Global;
+use wasm_model::fault::{Fault, Limited};
+use wasm_reader::BinaryReader;
 
 const MAX_WASM_FUNCTION_SIZE: usize = 7_654_321;
 
@@ -55,7 +53,10 @@ impl<'a> ReadEntry<'a> for ChunkEntries {
         let offset = reader.original_position();
         let size = reader.read_var_u32()? as usize;
         if size > MAX_WASM_FUNCTION_SIZE {
-            return Err(Fault::Limit { of: Limited::Body, offset });
+            return Err(Fault::Limit {
+                of: Limited::Body,
+                offset,
+            });
         }
         let place = (self.finish - reader.bytes_remaining()) as u32;
         let bytes = reader.read_bytes(size)?;
@@ -90,7 +91,10 @@ fn read_chunks<'a>(
         return Err(Fault::Count { offset });
     }
     let bodies = read_entries(alloc, count, &mut ChunkEntries { finish }, reader)?;
-    Ok(Code { left: finish + after, bodies })
+    Ok(Code {
+        left: finish + after,
+        bodies,
+    })
 }
 
 /// The code section, with as many bodies as functions, where it comes next.

@@ -5,7 +5,6 @@ ghost use Rattle.wasm_reader.specs.Cursor.{Cursor};
 ghost use Rattle.wasm_model.specs.Stop.{Parsing, Parses, entries_at, vec_at};
 
 use std::alloc::Global;
-
 use wasm_model::fault::Fault;
 use wasm_reader::BinaryReader;
 

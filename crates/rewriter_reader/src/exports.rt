@@ -6,14 +6,12 @@ ghost use Rattle.wasm_model.specs.Sections.{export_entry, kind_at};
 ghost use Rattle.rewriter_module.specs.Meaning.{export_of};
 ghost use Rattle.rewriter_reader.specs.Seen.{HasNames};
 
+use crate::entries::ReadEntry;
+use rewriter_module::Export;
 use std::alloc::Global;
 use std::collections::HashSet;
-
-use rewriter_module::Export;
 use wasm_model::fault::{Fault, Form, Limited, Space};
 use wasm_reader::{BinaryReader, Error, ErrorKind};
-
-use crate::entries::ReadEntry;
 
 const MAX_WASM_EXPORTS: usize = 1_000_000;
 
@@ -25,7 +23,10 @@ fn read_kind(reader: &mut BinaryReader<'_>) -> Result<u8, Fault>
     let offset = reader.original_position();
     match reader.read_u8()? {
         0 => Ok(0),
-        1..=4 => Err(Fault::Unsupported { form: Form::Later, offset }),
+        1..=4 => Err(Fault::Unsupported {
+            form: Form::Later,
+            offset,
+        }),
         _ => Err(Fault::Read(Error::new(ErrorKind::BadByte, offset))),
     }
 }
@@ -68,10 +69,16 @@ impl<'a> ReadEntry<'a> for ExportEntries<'a> {
             return Err(Fault::DuplicateExport { offset });
         }
         if earlier.len() >= MAX_WASM_EXPORTS {
-            return Err(Fault::Limit { of: Limited::Exports, offset });
+            return Err(Fault::Limit {
+                of: Limited::Exports,
+                offset,
+            });
         }
         if function as usize >= self.functions {
-            return Err(Fault::Index { space: Space::Function, offset: place });
+            return Err(Fault::Index {
+                space: Space::Function,
+                offset: place,
+            });
         }
         Ok(Export { name, function })
     }

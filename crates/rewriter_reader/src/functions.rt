@@ -3,12 +3,10 @@
 ghost use Rattle.std.specs.Prelude.{◌≡◌};
 ghost use Rattle.wasm_model.specs.Sections.{function_entry};
 
+use crate::entries::ReadEntry;
 use std::alloc::Global;
-
 use wasm_model::fault::{Fault, Limited, Space};
 use wasm_reader::BinaryReader;
-
-use crate::entries::ReadEntry;
 
 const MAX_WASM_FUNCTIONS: usize = 1_000_000;
 
@@ -43,10 +41,16 @@ impl<'a> ReadEntry<'a> for FunctionEntries {
         let offset = reader.original_position();
         let index = reader.read_var_u32()?;
         if index as usize >= self.types {
-            return Err(Fault::Index { space: Space::Type, offset });
+            return Err(Fault::Index {
+                space: Space::Type,
+                offset,
+            });
         }
         if earlier.len() >= MAX_WASM_FUNCTIONS {
-            return Err(Fault::Limit { of: Limited::Functions, offset });
+            return Err(Fault::Limit {
+                of: Limited::Functions,
+                offset,
+            });
         }
         Ok(index)
     }

@@ -8,3 +8,6 @@ mod functions;
 mod section;
 mod sections;
 mod types;
+mod whole;
+
+pub use whole::parse;

@@ -7,16 +7,17 @@ ghost use Rattle.wasm_model.specs.Stop.{SectionSize, Parses, trouble_of, place_o
 ghost use Rattle.wasm_model.specs.Sections.{section_at};
 ghost use Rattle.rewriter_reader.specs.Opened.{opened_at};
 
+use crate::entries::{ReadEntry, read_vec};
 use std::alloc::Global;
-
 use wasm_model::fault::Fault;
 use wasm_reader::BinaryReader;
 
-use crate::entries::{ReadEntry, read_vec};
-
 /// The contents of the section of this id, where it comes next.
 #[tactic(auto, unfolding(crate::specs::Opened::opened_at))]
-pub(crate) fn open_section<'a>(reader: &mut BinaryReader<'a>, id: u8) -> Result<Option<BinaryReader<'a>>, Fault>
+pub(crate) fn open_section<'a>(
+    reader: &mut BinaryReader<'a>,
+    id: u8,
+) -> Result<Option<BinaryReader<'a>>, Fault>
     ensures contents { Parses (opened_at id) (option_map seen_window) reader.old reader.new result }
     ensures place { IfOk result (λ o. IfSome o (λ inner. IsInner reader.new inner)) }
 {
@@ -45,7 +46,9 @@ pub(crate) fn close_section(contents: &BinaryReader<'_>) -> Result<(), Fault>
     ensures left_over { OnErr result (0 < length (rest contents.now)) }
 {
     if !contents.eof() {
-        return Err(Fault::SectionSize { offset: contents.original_position() });
+        return Err(Fault::SectionSize {
+            offset: contents.original_position(),
+        });
     }
     Ok(())
 }

@@ -9,18 +9,16 @@ ghost use Rattle.wasm_model.specs.Sections.{latest as latest_of, rank as rank_of
 ghost use Rattle.rewriter_reader.specs.Seen.{items_of, sections_of, AreBodies, Ends};
 ghost use Rattle.rewriter_reader.specs.Seen.{code_of as seen_code};
 
-use std::alloc::Global;
-use std::collections::HashSet;
-
-use rewriter_module::{Export, FunctionType};
-use wasm_model::fault::{Fault, Form};
-use wasm_reader::BinaryReader;
-
 use crate::code::{Code, read_code};
 use crate::exports::ExportEntries;
 use crate::functions::FunctionEntries;
 use crate::section::read_list;
 use crate::types::TypeEntries;
+use rewriter_module::{Export, FunctionType};
+use std::alloc::Global;
+use std::collections::HashSet;
+use wasm_model::fault::{Fault, Form};
+use wasm_reader::BinaryReader;
 
 /// What the sections say, the operators of bodies aside.
 #[derive(Drop)]
@@ -56,7 +54,10 @@ fn id_fault(last: u8, id: u8, offset: u64) -> Fault
     if id != 0 && (id > 13 || rank(id) <= rank(last)) {
         Fault::SectionOrder { offset }
     } else {
-        Fault::Unsupported { form: Form::Later, offset }
+        Fault::Unsupported {
+            form: Form::Later,
+            offset,
+        }
     }
 }
 
@@ -102,7 +103,12 @@ fn or_empty<T>(alloc: Global, list: Option<Vec<T>>) -> Vec<T>
 }
 
 // A missing code section, at the file's end, has no bodies.
-fn code_of<'a>(alloc: Global, code: Option<Code<'a>>, functions: usize, end: u64) -> Result<Code<'a>, Fault>
+fn code_of<'a>(
+    alloc: Global,
+    code: Option<Code<'a>>,
+    functions: usize,
+    end: u64,
+) -> Result<Code<'a>, Fault>
     ensures code { IfOk result (λ c. seen_code c ≡ unwrap_or (option_map seen_code code.entry) no_chunks) }
     ensures bodies { (bound : ℕ) → IfSome code.entry (AreBodies functions bound) → IfOk result (AreBodies functions bound) }
     ensures count { OnOk result ((is_none code.entry && nat_lt 0 functions) ≡ false) }
@@ -110,23 +116,34 @@ fn code_of<'a>(alloc: Global, code: Option<Code<'a>>, functions: usize, end: u64
 {
     match code {
         Some(code) => Ok(code),
-        None if functions == 0 => Ok(Code { left: 0, bodies: Vec::new(alloc) }),
+        None if functions == 0 => Ok(Code {
+            left: 0,
+            bodies: Vec::new(alloc),
+        }),
         None => Err(Fault::Count { offset: end }),
     }
 }
 
 /// The sections, to the file's end.
 #[tactic(auto, unfolding(wasm_model::specs::Sections::sections_at))]
-pub(crate) fn read_sections<'a>(alloc: Global, reader: &mut BinaryReader<'a>) -> Result<Sections<'a>, Fault>
+pub(crate) fn read_sections<'a>(
+    alloc: Global,
+    reader: &mut BinaryReader<'a>,
+) -> Result<Sections<'a>, Fault>
     requires { end_of reader.old < 2 ^ 32 }
     ensures sections { Ends sections_at sections_of reader.old result }
     ensures bodies { IfOk result (λ s. AreBodies (length s.functions.items) (end_of reader.old) s.code) }
 {
     let types = read_list(alloc, 1, &mut TypeEntries, reader)?;
-    let mut entries = FunctionEntries { types: length_of(&types) };
+    let mut entries = FunctionEntries {
+        types: length_of(&types),
+    };
     let functions = read_list(alloc, 3, &mut entries, reader)?;
     let count = length_of(&functions);
-    let mut entries = ExportEntries { functions: count, names: HashSet::new(alloc) };
+    let mut entries = ExportEntries {
+        functions: count,
+        names: HashSet::new(alloc),
+    };
     let exports = read_list(alloc, 7, &mut entries, reader)?;
     let code = read_code(alloc, count, reader)?;
     let last = latest(&types, 1, 0);

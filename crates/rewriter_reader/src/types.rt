@@ -6,16 +6,15 @@ ghost use Rattle.wasm_model.specs.Stop.{Parses, trouble_of, place_of};
 ghost use Rattle.wasm_model.specs.Sections.{trouble_at_type, value_type_at, value_types_at, function_type_at, type_entry};
 ghost use Rattle.rewriter_module.specs.Meaning.{type_of};
 
-use std::alloc::Global;
-
+use crate::entries::{ReadEntry, read_entries};
 use rewriter_module::FunctionType;
+use std::alloc::Global;
 use wasm_model::fault::{Fault, Form, Limited};
 use wasm_model::types::ValType;
 use wasm_reader::{BinaryReader, Error, ErrorKind};
 
-use crate::entries::{ReadEntry, read_entries};
-
 const MAX_WASM_TYPES: usize = 1_000_000;
+
 const MAX_WASM_FUNCTION_TYPES: usize = 1_000;
 
 // 63, 64, and the abstract heap types.
@@ -34,7 +33,10 @@ fn type_fault(later: &[u8], byte: u8, offset: u64) -> Fault
     if byte == 0x65 {
         Fault::Read(Error::new(ErrorKind::Feature, offset))
     } else if later.contains(&byte) {
-        Fault::Unsupported { form: Form::Later, offset }
+        Fault::Unsupported {
+            form: Form::Later,
+            offset,
+        }
     } else {
         Fault::Read(Error::new(ErrorKind::BadByte, offset))
     }
@@ -135,7 +137,10 @@ impl<'a> ReadEntry<'a> for TypeEntries {
         let offset = reader.original_position();
         let entry = read_function_type(alloc, reader)?;
         if earlier.len() >= MAX_WASM_TYPES {
-            return Err(Fault::Limit { of: Limited::Types, offset });
+            return Err(Fault::Limit {
+                of: Limited::Types,
+                offset,
+            });
         }
         Ok(entry)
     }

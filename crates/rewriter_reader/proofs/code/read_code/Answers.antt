@@ -21,7 +21,7 @@ returns-in_err-code-clause-code c =
     rw (p.1, p.2) (not_parsed 10 (chunks_at c.args.functions) code_of _ _ _ _ _ _ opened within (rw c.bytes_remaining.ensures at c.in_err-code.ensures.chunks))
 
 pub returns-in_err-close_section-clause-code : goal.returns-in_err-close_section-clause-code
-returns-in_err-close_section-clause-code c = 
+returns-in_err-close_section-clause-code c =
     let p = err_from_is_err_and c.from_residual-in_err-close_section.result c.from_residual-in_err-close_section.ensures.1 in
     let opened = (rw c.in-Some.is at c.in_ok-contents.ensures.contents) in
     let within = (rw c.in-Some.is at c.in_ok-contents.ensures.place) in

@@ -21,7 +21,7 @@ returns-in_err-list g c =
     rw (p.1, p.2) (not_parsed c.args.id (λ _. vec_at (g.E.ReadEntry.parsing (g.E.ReadEntry.given c.args.entries.now))) (λ v. map g.E.ReadEntry.seen v.items) _ _ _ _ _ _ opened within c.in_err-list.ensures)
 
 pub returns-in_err-close_section : goal.returns-in_err-close_section
-returns-in_err-close_section g c = 
+returns-in_err-close_section g c =
     let p = err_from_is_err_and c.from_residual-in_err-close_section.result c.from_residual-in_err-close_section.ensures.1 in
     let opened = (rw c.in-Some.is at c.in_ok-contents.ensures.contents) in
     let within = (rw c.in-Some.is at c.in_ok-contents.ensures.place) in

@@ -1,6 +1,6 @@
 use Rattle.std.proofs.Common.{arith}
 use Rattle.std.proofs.lemmas.Result.{err_from_is_err_and}
-use Rattle.rewriter_reader.proofs.Whole.{fails, reach_functions, reach_exports, reach_code, reach_end, latest_is, not_at_end, without_code, all_there}
+use Rattle.rewriter_reader.proofs.Ordered.{fails, reach_functions, reach_exports, reach_code, reach_end, latest_is, not_at_end, without_code, all_there}
 use Rattle.rewriter_reader.proofs.sections.read_sections.Goals as goal
 
 pub returns-in_err-functions-clause-sections : goal.returns-in_err-functions-clause-sections

@@ -67,19 +67,19 @@ pub begins : (start : Cursor) → Reached start start (section_at 1 (λ _. vec_a
 begins start = record { so_far = sections_are (rest start); ends = refl }
 
 passes : {A X : Type 0} (parsing : List ℕ → Parsing A) (view : X → A) (f : A × List ℕ → Result sections.Sections Stop) (start now new : Cursor) (x : X)
-  → Reached start now (parsing (rest now) >>= f) → Parses parsing view now new (Ok x) → Reached start new (f (view x, rest new))
+    → Reached start now (parsing (rest now) >>= f) → Parses parsing view now new (Ok x) → Reached start new (f (view x, rest new))
 passes parsing view f start now new x so p = record {
-    so_far = so.so_far ∙ rw p.value refl;
-    ends = so.ends ∙ same_end now new p.moves
-  }
+  so_far = so.so_far ∙ rw p.value refl;
+  ends = so.ends ∙ same_end now new p.moves;
+}
 
 pub fails : {A X : Type 0} (parsing : List ℕ → Parsing A) (view : X → A) (f : A × List ℕ → Result sections.Sections Stop) (start now new : Cursor) (e : Fault)
-  → Reached start now (parsing (rest now) >>= f) → Parses parsing view now new (Err e) → Ends sections_at sections_of start (Err e)
+    → Reached start now (parsing (rest now) >>= f) → Parses parsing view now new (Err e) → Ends sections_at sections_of start (Err e)
 fails parsing view f start now new e so p =
     let same : end_of start ≡ end_of new = so.ends ∙ same_end now new p.moves in
     record {
       value = rw same (stops_as e _ _ _ (sym so.so_far) (stops_then e _ _ _ p.value));
-      place = rw same p.place
+      place = rw same p.place;
     }
 
 abbrev pub seen_types : Option (Vec FunctionType) → Option (List model.FunctionType)
@@ -107,24 +107,24 @@ latest_map f (Some x) id last = refl
 latest_map f None id last = refl
 
 pub reach_functions : (n : ℕ) (start c1 : Cursor) (types : Option (Vec FunctionType)) → n ≡ length (items_of types)
-  → Parses (section_at 1 (λ _. vec_at type_entry)) seen_types start c1 (Ok types)
-  → Reached start c1 (section_at 3 (λ _. vec_at (function_entry n)) (rest c1) >>= functions_then (seen_types types))
+    → Parses (section_at 1 (λ _. vec_at type_entry)) seen_types start c1 (Ok types)
+    → Reached start c1 (section_at 3 (λ _. vec_at (function_entry n)) (rest c1) >>= functions_then (seen_types types))
 reach_functions n start c1 types count p =
     let same : n ≡ length (unwrap_or (seen_types types) []) = count ∙ sym (count_types types) in
     rw same (passes (section_at 1 (λ _. vec_at type_entry)) seen_types types_then start start c1 types (begins start) p)
 
 pub reach_exports : (n m : ℕ) (start c1 c2 : Cursor) (types : Option (Vec FunctionType)) (functions : Option (Vec ℕ)) → m ≡ length (items_of functions)
-  → Reached start c1 (section_at 3 (λ _. vec_at (function_entry n)) (rest c1) >>= functions_then (seen_types types))
-  → Parses (section_at 3 (λ _. vec_at (function_entry n))) seen_functions c1 c2 (Ok functions)
-  → Reached start c2 (section_at 7 (λ _. vec_at (export_entry m)) (rest c2) >>= exports_then (seen_types types) (seen_functions functions))
+    → Reached start c1 (section_at 3 (λ _. vec_at (function_entry n)) (rest c1) >>= functions_then (seen_types types))
+    → Parses (section_at 3 (λ _. vec_at (function_entry n))) seen_functions c1 c2 (Ok functions)
+    → Reached start c2 (section_at 7 (λ _. vec_at (export_entry m)) (rest c2) >>= exports_then (seen_types types) (seen_functions functions))
 reach_exports n m start c1 c2 types functions count so p =
     let same : m ≡ length (unwrap_or (seen_functions functions) []) = count ∙ sym (count_functions functions) in
     rw same (passes (section_at 3 (λ _. vec_at (function_entry n))) seen_functions (functions_then (seen_types types)) start c1 c2 functions so p)
 
 pub reach_code : (m : ℕ) (start c2 c3 : Cursor) (types : Option (Vec FunctionType)) (functions : Option (Vec ℕ)) (exports : Option (Vec Export)) → m ≡ length (items_of functions)
-  → Reached start c2 (section_at 7 (λ _. vec_at (export_entry m)) (rest c2) >>= exports_then (seen_types types) (seen_functions functions))
-  → Parses (section_at 7 (λ _. vec_at (export_entry m))) seen_exports c2 c3 (Ok exports)
-  → Reached start c3 (section_at 10 (chunks_at m) (rest c3) >>= chunks_then (seen_types types) (seen_functions functions) (seen_exports exports))
+    → Reached start c2 (section_at 7 (λ _. vec_at (export_entry m)) (rest c2) >>= exports_then (seen_types types) (seen_functions functions))
+    → Parses (section_at 7 (λ _. vec_at (export_entry m))) seen_exports c2 c3 (Ok exports)
+    → Reached start c3 (section_at 10 (chunks_at m) (rest c3) >>= chunks_then (seen_types types) (seen_functions functions) (seen_exports exports))
 reach_code m start c2 c3 types functions exports count so p =
     let same : m ≡ length (unwrap_or (seen_functions functions) []) = count ∙ sym (count_functions functions) in
     rw same (passes (section_at 7 (λ _. vec_at (export_entry m))) seen_exports (exports_then (seen_types types) (seen_functions functions)) start c2 c3 exports so p)
@@ -150,7 +150,7 @@ some_exports None = refl
 
 -- the last section that was there
 last_is : (types : Option (Vec FunctionType)) (functions : Option (Vec ℕ)) (exports : Option (Vec Export)) (code : Option Code)
-  → latest (seen_code code) 10 (latest (seen_exports exports) 7 (latest (seen_functions functions) 3 (latest (seen_types types) 1 0)))
+    → latest (seen_code code) 10 (latest (seen_exports exports) 7 (latest (seen_functions functions) 3 (latest (seen_types types) 1 0)))
     ≡ latest code 10 (latest exports 7 (latest functions 3 (latest types 1 0)))
 last_is types functions exports code =
     latest_map code_of code 10 _ ∙ latest_at code 10 _ _ (latest_map (λ (v : Vec Export). map export_of v.items) exports 7 _ ∙ latest_at exports 7 _ _ (latest_map (λ (v : Vec ℕ). map (λ (n : ℕ). n) v.items) functions 3 _ ∙ latest_at functions 3 _ _ (latest_map (λ (v : Vec FunctionType). map type_of v.items) types 1 0)))
@@ -161,7 +161,7 @@ end_with bytes last none count types functions exports chunks = end_at last byte
     if none && nat_lt 0 count then Err (stop Count 0) else Ok (record { types = types; functions = functions; exports = exports; chunks = chunks })
 
 same_end_with : (F : ℕ → Bool → ℕ → List model.FunctionType → List ℕ → List model.Export → Result sections.Sections Stop) (a1 a2 : ℕ) (b1 b2 : Bool) (c1 c2 : ℕ) (d1 d2 : List model.FunctionType) (e1 e2 : List ℕ) (f1 f2 : List model.Export)
-  → a1 ≡ a2 → b1 ≡ b2 → c1 ≡ c2 → d1 ≡ d2 → e1 ≡ e2 → f1 ≡ f2 → F a1 b1 c1 d1 e1 f1 ≡ F a2 b2 c2 d2 e2 f2
+    → a1 ≡ a2 → b1 ≡ b2 → c1 ≡ c2 → d1 ≡ d2 → e1 ≡ e2 → f1 ≡ f2 → F a1 b1 c1 d1 e1 f1 ≡ F a2 b2 c2 d2 e2 f2
 same_end_with F a1 a2 b1 b2 c1 c2 d1 d2 e1 e2 f1 f2 a b c d e f = cc
 
 -- how the end of the file is reached
@@ -170,44 +170,44 @@ pub record AtEnd (start c4 : Cursor) (types : Option (Vec FunctionType)) (functi
   pub ends : end_of start ≡ end_of c4
 
 pub reach_end : (m : ℕ) (start c3 c4 : Cursor) (types : Option (Vec FunctionType)) (functions : Option (Vec ℕ)) (exports : Option (Vec Export)) (code : Option Code) (last : ℕ)
-  → last ≡ latest code 10 (latest exports 7 (latest functions 3 (latest types 1 0)))
-  → Reached start c3 (section_at 10 (chunks_at m) (rest c3) >>= chunks_then (seen_types types) (seen_functions functions) (seen_exports exports))
-  → Parses (section_at 10 (chunks_at m)) seen_code c3 c4 (Ok code)
-  → AtEnd start c4 types functions exports code last
+    → last ≡ latest code 10 (latest exports 7 (latest functions 3 (latest types 1 0)))
+    → Reached start c3 (section_at 10 (chunks_at m) (rest c3) >>= chunks_then (seen_types types) (seen_functions functions) (seen_exports exports))
+    → Parses (section_at 10 (chunks_at m)) seen_code c3 c4 (Ok code)
+    → AtEnd start c4 types functions exports code last
 reach_end m start c3 c4 types functions exports code last is before p =
     let so = passes (section_at 10 (chunks_at m)) seen_code (chunks_then (seen_types types) (seen_functions functions) (seen_exports exports)) start c3 c4 code before p in
     record {
       so_far = so.so_far ∙ same_end_with (λ last none count ts fs es. end_with (rest c4) last none count ts fs es (unwrap_or (seen_code code) no_chunks)) _ _ _ _ _ _ _ _ _ _ _ _
-        (last_is types functions exports code ∙ sym is) (none_map code_of code) (count_functions functions) (some_types types) (some_functions functions) (some_exports exports);
-      ends = so.ends
+          (last_is types functions exports code ∙ sym is) (none_map code_of code) (count_functions functions) (some_types types) (some_functions functions) (some_exports exports);
+      ends = so.ends;
     }
 
 pub not_at_end : (start c4 : Cursor) (types : Option (Vec FunctionType)) (functions : Option (Vec ℕ)) (exports : Option (Vec Export)) (code : Option Code) (last : ℕ) (e : Fault)
-  → AtEnd start c4 types functions exports code last → Ends (end_at last) plain c4 (Err e) → Ends sections_at sections_of start (Err e)
+    → AtEnd start c4 types functions exports code last → Ends (end_at last) plain c4 (Err e) → Ends sections_at sections_of start (Err e)
 not_at_end start c4 types functions exports code last e so p = record {
-    value = rw so.ends (stops_as e _ _ _ (sym so.so_far) (stops_then e _ _ _ p.value));
-    place = rw so.ends p.place
-  }
+  value = rw so.ends (stops_as e _ _ _ (sym so.so_far) (stops_then e _ _ _ p.value));
+  place = rw so.ends p.place;
+}
 
 pub without_code : (start c4 : Cursor) (types : Option (Vec FunctionType)) (functions : Option (Vec ℕ)) (exports : Option (Vec Export)) (code : Option Code) (last place : ℕ)
-  → AtEnd start c4 types functions exports code last → Ends (end_at last) (plain {X = Unit {0}}) c4 (Ok tt)
-  → (is_none code && nat_lt 0 (length (items_of functions))) ≡ true → place ≡ end_of c4 → Ends sections_at sections_of start (Err (faults.Count place))
+    → AtEnd start c4 types functions exports code last → Ends (end_at last) (plain {X = Unit {0}}) c4 (Ok tt)
+    → (is_none code && nat_lt 0 (length (items_of functions))) ≡ true → place ≡ end_of c4 → Ends sections_at sections_of start (Err (faults.Count place))
 without_code start c4 types functions exports code last place so p missing same = record {
-    value = let none : end_of start - place ≡ 0 = omega (arith, so.ends) in rw (none, so.so_far, p.value, missing) refl;
-    place = omega (arith, so.ends)
-  }
+  value = let none : end_of start - place ≡ 0 = omega (arith, so.ends) in rw (none, so.so_far, p.value, missing) refl;
+  place = omega (arith, so.ends);
+}
 
 pub all_there : (start c4 : Cursor) (types : Option (Vec FunctionType)) (functions : Option (Vec ℕ)) (exports : Option (Vec Export)) (code : Option Code) (last : ℕ) (s : Sections)
-  → AtEnd start c4 types functions exports code last → Ends (end_at last) (plain {X = Unit {0}}) c4 (Ok tt)
-  → (is_none code && nat_lt 0 (length (items_of functions))) ≡ false
-  → s.types.items ≡ items_of types → s.functions.items ≡ items_of functions → s.exports.items ≡ items_of exports → code_of s.code ≡ unwrap_or (seen_code code) no_chunks
-  → Ends sections_at sections_of start (Ok s)
+    → AtEnd start c4 types functions exports code last → Ends (end_at last) (plain {X = Unit {0}}) c4 (Ok tt)
+    → (is_none code && nat_lt 0 (length (items_of functions))) ≡ false
+    → s.types.items ≡ items_of types → s.functions.items ≡ items_of functions → s.exports.items ≡ items_of exports → code_of s.code ≡ unwrap_or (seen_code code) no_chunks
+    → Ends sections_at sections_of start (Ok s)
 all_there start c4 types functions exports code last s so p there ts fs es cs = record {
-    value = so.so_far ∙ rw (p.value, there, ts, fs, es, cs) refl;
-    place = tt
-  }
+  value = so.so_far ∙ rw (p.value, there, ts, fs, es, cs) refl;
+  place = tt;
+}
 
 pub latest_is : (types : Option (Vec FunctionType)) (functions : Option (Vec ℕ)) (exports : Option (Vec Export)) (code : Option Code) (l1 l2 l3 l4 : ℕ)
-  → l1 ≡ latest types 1 0 → l2 ≡ latest functions 3 l1 → l3 ≡ latest exports 7 l2 → l4 ≡ latest code 10 l3
-  → l4 ≡ latest code 10 (latest exports 7 (latest functions 3 (latest types 1 0)))
+    → l1 ≡ latest types 1 0 → l2 ≡ latest functions 3 l1 → l3 ≡ latest exports 7 l2 → l4 ≡ latest code 10 l3
+    → l4 ≡ latest code 10 (latest exports 7 (latest functions 3 (latest types 1 0)))
 latest_is types functions exports code l1 l2 l3 l4 h1 h2 h3 h4 = h4 ∙ latest_at code 10 _ _ (h3 ∙ latest_at exports 7 _ _ (h2 ∙ latest_at functions 3 _ _ h1))
