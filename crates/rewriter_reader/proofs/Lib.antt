@@ -6,3 +6,4 @@ pub mod Ordered
 pub mod Bodies
 pub mod Named
 pub mod Parsed
+pub mod Refused
