@@ -20,9 +20,11 @@ IsBefore types t u =
     let v = slice_index_or types u no_type in
     (type_cmp s v ≡ Less) ⊎ ((s ≡ v) × (t < u))
 
+-- a type in memory with its number, and with no memory in it
 abbrev pub numbered_type : Place → ℕ × FunctionType
 numbered_type p = (p.number, type_of p.function_type.now)
 
+-- the number of a function's type
 abbrev pub type_index_of : List Function → ℕ → ℕ
 type_index_of functions f = slice_index (map (λ g. g.type_index) functions) f
 

@@ -1,7 +1,8 @@
--- Numbers of a module with this many functions and types.
+-- Numbers that fit a module.
 use Rattle.std.specs.Prelude.{ℕ, ◌≡◌, ◌<◌, ◌≤◌, length, All}
 use Rattle.rewriter_module.specs.Written.{Numbers}
 
+-- the numbers are those of a module with so many functions and types
 pub record IsWithin (functions types : ℕ) (n : Numbers) : Type 0 where
   pub kept_functions : All (λ f. f < functions) n.functions
   pub kept_types : All (λ t. t < types) n.types

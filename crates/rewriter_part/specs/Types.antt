@@ -6,6 +6,8 @@ use Rattle.wasm_model.specs.Kept.{Same}
 use Rattle.wasm_model.specs.Part.{type_cmp}
 use Rattle.rewriter_module.specs.Written.{no_type}
 
+-- the new numbers of types, of which functions have the used ones: `kept` has the old numbers by the new ones, `numbers` the
+-- new ones by the old
 pub record AreNumbered (types : List FunctionType) (used kept numbers : List ℕ) : Type 0 where
   -- the kept ones are those that used ones stand for, in their order
   pub only : All (λ t. (u : ℕ) × Contains used u × Same types u t) kept
