@@ -11,3 +11,6 @@ mod types;
 mod whole;
 
 pub use whole::parse;
+
+#[cfg(test)]
+mod tests;
