@@ -1,0 +1,9 @@
+//! What a rewriting reads from and writes to: byte sources and sinks that tell what became of the bytes,
+//! devices in memory and over `std::io`, and the loops that read an input and write an output.
+#![tactic(auto)]
+
+mod device;
+mod memory;
+
+pub use device::{DeviceFailed, Sink, Source};
+pub use memory::{MemorySink, MemorySource, SinkFail};
