@@ -3,7 +3,13 @@
 #![tactic(auto)]
 
 mod device;
+mod input;
 mod memory;
+mod output;
+mod standard;
 
 pub use device::{DeviceFailed, Sink, Source};
+pub use input::{MAX_INPUT_LEN, ReadFault, read_all};
 pub use memory::{MemorySink, MemorySource, SinkFail};
+pub use output::{WriteFault, send};
+pub use standard::{StdSink, StdSource};
