@@ -1,5 +1,5 @@
 // Reading all of an input.
-ghost use Rattle.std.specs.Prelude.{◌≡◌, ◌≤◌, ◌<◌, ◌+◌, ◌^◌, ℕ, List, true, false, IfOk, OnOk, OnErr, IsErrOf, length, vec_len};
+ghost use Rattle.std.specs.Prelude.{◌≡◌, ◌≤◌, ◌<◌, ◌+◌, ◌^◌, ℕ, List, true, IfOk, IsErrOf, ◌↔◌, length, vec_len};
 ghost use Rattle.std.specs.Io.KnownBytes.{Consumes, IsAtEnd};
 
 use crate::Source;
@@ -22,8 +22,8 @@ pub fn read_all<R: Source>(alloc: Global, reader: &mut R) -> Result<Vec<u8>, Rea
     ensures bytes { IfOk result (λ bytes. Consumes (R.left reader.old) (R.left reader.new) bytes.items) }
     ensures at_end { IfOk result (λ bytes. vec_len bytes ≤ 2 ^ 30 → IsAtEnd (R.left reader.new)) }
     ensures at_most { IfOk result (λ bytes. vec_len bytes ≤ 2 ^ 30 + 1) }
-    ensures sound { OnOk result (R.failed reader.new ≡ false) }
-    ensures fails { IsErrOf result ReadFault.Reader → R.failed reader.new ≡ true }
+    ensures fails { IsErrOf result ReadFault.Reader ↔ (R.failed reader.new ≡ true) }
+    ensures stays_failed { R.failed reader.old ≡ true → IsErrOf result ReadFault.Reader }
     ensures so_far { (bytes : List ℕ) × (length bytes ≤ 2 ^ 30 + 1) × Consumes (R.left reader.old) (R.left reader.new) bytes }
     ensures counted { R.reads reader.new ≤ R.reads reader.old + (2 ^ 30 + 2) }
 {
