@@ -15,3 +15,6 @@ pub use lines::send_places;
 pub use memory::{MemorySink, MemorySource, SinkFail};
 pub use output::{WriteFault, send};
 pub use standard::{StdSink, StdSource};
+
+#[cfg(test)]
+mod tests;
