@@ -1,5 +1,5 @@
 -- What several calls of a device did to its bytes.
-use Rattle.std.proofs.Common.{◌≡◌, ℕ, List, ◌++◌, take, Option, None, Some, Result, Ok, Err, ap, sym, ◌∙◌}
+use Rattle.std.proofs.Common.{ℕ, List, ◌++◌, take, Option, None, Some, Result, Ok, Err, ap, sym, ◌∙◌}
 use Rattle.std.specs.Io.KnownBytes.{Keeps, Appends, Consumes, ReadConsumes, WriteAppends}
 use Rattle.std.proofs.KnownBytes.{Keeps-trans}
 

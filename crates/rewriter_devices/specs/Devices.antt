@@ -1,5 +1,5 @@
 -- When a call of a device fails.
-use Rattle.std.specs.Prelude.{ℕ, Bool, true, false, nat_eq, nat_lt, ◌&&◌, Result, Ok, Err}
+use Rattle.std.specs.Prelude.{ℕ, Bool, true, nat_eq, nat_lt, ◌&&◌, Result, Ok, Err}
 
 -- a write of `len` bytes fails by an error, or by taking none of some bytes
 abbrev pub write_fails : {E : Type 0} → Result ℕ E → ℕ → Bool

@@ -1,5 +1,5 @@
 -- A sink in memory, and what a write and a flush do to it.
-use Rattle.std.specs.Prelude.{ℕ, ◌+◌, ◌-◌, min, List, ◌++◌, length, take, Bool, true, false, nat_eq, nat_lt, nat_le, ◌||◌, ◌&&◌, if◌then◌else◌, Option, None, Some}
+use Rattle.std.specs.Prelude.{ℕ, ◌-◌, min, List, ◌++◌, length, take, Bool, true, false, nat_eq, nat_lt, nat_le, ◌||◌, ◌&&◌, if◌then◌else◌, Option, None, Some}
 use Rattle.rewriter_devices.specs.declared.memory.SinkFail.{SinkFail}
 use Rattle.rewriter_devices.specs.declared.memory.SinkFail.TheVariants.{Never, After, Zero, Flush}
 

@@ -1,5 +1,5 @@
 -- A source in memory, and what a read does to it.
-use Rattle.std.specs.Prelude.{ℕ, ◌+◌, ◌-◌, ◌^◌, min, List, length, drop, Bool, true, false, nat_eq, ◌||◌, if◌then◌else◌, Option, None, Some}
+use Rattle.std.specs.Prelude.{ℕ, ◌+◌, ◌-◌, ◌^◌, min, List, length, drop, Bool, false, nat_eq, ◌||◌, if◌then◌else◌, Option, None, Some}
 
 -- the bytes left, how many reads were made, the number of the read that fails, and whether one has
 pub record MemorySourceState : Type 0 where

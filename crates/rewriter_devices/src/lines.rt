@@ -21,7 +21,7 @@ pub fn send_places<W: Sink>(writer: &mut W, places: &[(u32, u32)]) -> Result<(),
     ensures sent { MatchResult result
         (λ _. Appends (W.taken writer.old) (W.taken writer.new) (lines_of places.now))
         (λ e. (e.written ≤ length (lines_of places.now))
-            × Appends (W.taken writer.old) (W.taken writer.new) (take e.written (lines_of places.now))) }
+        × Appends (W.taken writer.old) (W.taken writer.new) (take e.written (lines_of places.now))) }
     ensures fails { W.failed writer.new ≡ is_err result }
     ensures stays_failed { W.failed writer.old ≡ true → IsErr result }
 {
@@ -47,7 +47,7 @@ fn write_lines<W: Sink>(writer: &mut W, places: &[(u32, u32)]) -> Result<usize, 
     ensures sent { MatchResult result
         (λ _. Appends (W.taken writer.old) (W.taken writer.new) (lines_of places.now))
         (λ e. (e.written < length (lines_of places.now))
-            × Appends (W.taken writer.old) (W.taken writer.new) (take e.written (lines_of places.now))) }
+        × Appends (W.taken writer.old) (W.taken writer.new) (take e.written (lines_of places.now))) }
     ensures fails { OnErr result (W.failed writer.new ≡ true) }
     ensures stays_failed { W.failed writer.old ≡ true → W.failed writer.new ≡ true }
 {

@@ -15,7 +15,7 @@ pub fn send<W: Sink>(writer: &mut W, bytes: &[u8]) -> Result<(), WriteFault>
     ensures sent { MatchResult result
         (λ _. Appends (W.taken writer.old) (W.taken writer.new) bytes.now)
         (λ e. (e.written ≤ length bytes.now)
-            × Appends (W.taken writer.old) (W.taken writer.new) (take e.written bytes.now)) }
+        × Appends (W.taken writer.old) (W.taken writer.new) (take e.written bytes.now)) }
     ensures fails { W.failed writer.new ≡ is_err result }
     ensures stays_failed { W.failed writer.old ≡ true → IsErr result }
 {
@@ -29,7 +29,7 @@ pub(crate) fn write_all<W: Sink>(writer: &mut W, bytes: &[u8]) -> Result<(), Wri
     ensures sent { MatchResult result
         (λ _. Appends (W.taken writer.old) (W.taken writer.new) bytes.now)
         (λ e. (e.written < length bytes.now)
-            × Appends (W.taken writer.old) (W.taken writer.new) (take e.written bytes.now)) }
+        × Appends (W.taken writer.old) (W.taken writer.new) (take e.written bytes.now)) }
     ensures fails { OnErr result (W.failed writer.new ≡ true) }
     ensures stays_failed { W.failed writer.old ≡ true → W.failed writer.new ≡ true }
 {

@@ -29,7 +29,11 @@ fn a_read_that_fails_is_told(rt: HostRuntime) {
     for (failing, fails) in [(0, true), (1, true), (2, false)] {
         let mut source = MemorySource::new(&MODULE, Some(failing));
         let answer = read_all(rt.alloc(), &mut source);
-        assert_eq!(rt; answer.err() == Some(ReadFault::Reader), fails, "at {failing}");
+        assert_eq!(rt;
+            answer.err() == Some(ReadFault::Reader),
+            fails,
+            "at {failing}"
+        );
         let mut buffer = [0; 4];
         assert_eq!(rt; source.read(&mut buffer).is_err(), true, "after {failing}");
     }
@@ -107,7 +111,10 @@ fn long_place_lists_are_written_in_parts(rt: HostRuntime) -> Result<(), Fail> {
     assert!(rt; send_places(&mut all, &places).is_ok());
     assert_eq!(rt; all.bytes(), text.as_bytes());
     let mut cut = MemorySink::new(rt.alloc(), text.len(), SinkFail::Zero(40_000))?;
-    assert_eq!(rt; send_places(&mut cut, &places), Err(WriteFault { written: 40_000 }));
+    assert_eq!(rt;
+        send_places(&mut cut, &places),
+        Err(WriteFault { written: 40_000 })
+    );
     assert!(rt; text.as_bytes().starts_with(cut.bytes()));
     Ok(())
 }

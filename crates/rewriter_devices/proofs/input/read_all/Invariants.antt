@@ -1,5 +1,5 @@
 -- What was read so far is what the source gave, in no more reads than bytes.
-use Rattle.std.proofs.Common.{◌≡◌, ◌≤◌, ◌+◌, ◌-◌, ◌^◌, ℕ, true, false, ◌<◌, vec_len}
+use Rattle.std.proofs.Common.{◌≡◌, ◌≤◌, ◌+◌, ◌-◌, ◌^◌, true, false, ◌<◌, vec_len}
 use Rattle.std.specs.Io.KnownBytes.{Consumes}
 use Rattle.rewriter_devices.proofs.input.read_all.Given as goal
 
@@ -9,7 +9,8 @@ invariant-loop-buffer g l = record {
   read : Consumes (g.R.Source.left l.initial.reader) (g.R.Source.left l.reader) l.bytes.items;
   sound : 0 < vec_len l.bytes → g.R.Source.failed l.reader ≡ false;
   stays : g.R.Source.failed l.initial.reader ≡ true → g.R.Source.failed l.reader ≡ true;
-  counted : g.R.Source.reads l.reader ≤ g.R.Source.reads l.initial.reader + vec_len l.bytes }
+  counted : g.R.Source.reads l.reader ≤ g.R.Source.reads l.initial.reader + vec_len l.bytes;
+}
 
 abbrev pub decreases-loop-buffer : goal.decreases-loop-buffer
 decreases-loop-buffer g l = (2 ^ 30 + 1) - vec_len l.bytes

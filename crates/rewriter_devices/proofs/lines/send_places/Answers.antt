@@ -21,13 +21,16 @@ pub loop-chunk-preserved : goal.loop-chunk-preserved
 loop-chunk-preserved g c =
     let (front, facts) = c.loop-chunk.invariant in
     let part = lines_of c.in-Some.chunk.now in
-    let steps = c.in-Some.ensures.steps in
-    (front ++ part, record {
-      split = split_on _ front _ _ _ facts.split steps.1.0 ∙ sym (append_assoc front part _);
-      counted = omega (arith, length-append front part, facts.counted, c.in-Ok.ensures.len);
-      short = omega (arith, facts.short, c.in-Ok.ensures.len, c.in-Ok.ensures.short, length-append c.in-Some.chunk.now c.next.new.self.rest.now, ap length steps.1.0);
-      sent = Appends-trans _ _ _ front part facts.sent c.in-Ok.ensures.sent;
-      stays = λ h. c.in-Ok.ensures.stays_failed (facts.stays h) })
+    let steps = c.in-Some.ensures.steps in (
+      front ++ part,
+      record {
+        split = split_on _ front _ _ _ facts.split steps.1.0 ∙ sym (append_assoc front part _);
+        counted = omega (arith, length-append front part, facts.counted, c.in-Ok.ensures.len);
+        short = omega (arith, facts.short, c.in-Ok.ensures.len, c.in-Ok.ensures.short, length-append c.in-Some.chunk.now c.next.new.self.rest.now, ap length steps.1.0);
+        sent = Appends-trans _ _ _ front part facts.sent c.in-Ok.ensures.sent;
+        stays = λ h. c.in-Ok.ensures.stays_failed (facts.stays h);
+      },
+    )
 
 pub returns-in-Err-clause-sent : goal.returns-in-Err-clause-sent
 returns-in-Err-clause-sent g c =
@@ -36,6 +39,7 @@ returns-in-Err-clause-sent g c =
     let more = lines_of c.next.new.self.rest.now in
     let e = c.in-Err.e.written in
     let sent = c.in-Err.ensures.sent in
-    let split = split_on _ front _ _ _ facts.split c.in-Some.ensures.steps.1.0 in
-    (omega (arith, sent.0, facts.counted, ap length split, length-append front (part ++ more), length-append part more),
-      subst (Appends _ _) (sym (take_into _ front part more _ e split facts.counted (omega (arith, sent.0)))) (Appends-trans _ _ _ front (take e part) facts.sent sent.1))
+    let split = split_on _ front _ _ _ facts.split c.in-Some.ensures.steps.1.0 in (
+      omega (arith, sent.0, facts.counted, ap length split, length-append front (part ++ more), length-append part more),
+      subst (Appends _ _) (sym (take_into _ front part more _ e split facts.counted (omega (arith, sent.0)))) (Appends-trans _ _ _ front (take e part) facts.sent sent.1),
+    )

@@ -10,4 +10,5 @@ invariant-loop-chunk g l = (front : List ℕ) × record {
   counted : l.written ≡ length front;
   short : l.written + 22 * length l.chunk-iterator.rest.now ≤ 22 * length l.places;
   sent : Appends (g.W.Sink.taken l.initial.writer) (g.W.Sink.taken l.writer) front;
-  stays : g.W.Sink.failed l.initial.writer ≡ true → g.W.Sink.failed l.writer ≡ true }
+  stays : g.W.Sink.failed l.initial.writer ≡ true → g.W.Sink.failed l.writer ≡ true;
+}

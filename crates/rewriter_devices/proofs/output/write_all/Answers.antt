@@ -1,4 +1,4 @@
-use Rattle.std.proofs.Common.{false, true, rules, ◌≡◌, ◌+◌, List, ◌++◌, take, drop, length, arith, length-drop}
+use Rattle.std.proofs.Common.{false, true, ◌≡◌, arith, length-drop}
 use Rattle.std.proofs.KnownBytes.{Appends-trans}
 use Rattle.std.proofs.lemmas.List.{take_rest}
 use lib.Seq.{take-add}
@@ -13,4 +13,5 @@ loop-written-preserved g c =
     record {
       within = omega (arith, length-drop before bytes, c.in-Ok.ensures.bound);
       sent = rw (take-add before count bytes) (Appends-trans _ _ _ _ _ c.loop-written.invariant.sent appended);
-      stays = λ h. let bad : false ≡ true = c.in-Ok.ensures.stays_failed (c.loop-written.invariant.stays h) in cc }
+      stays = λ h. let bad : false ≡ true = c.in-Ok.ensures.stays_failed (c.loop-written.invariant.stays h) in cc;
+    }

@@ -7,7 +7,8 @@ abbrev pub invariant-loop-written : goal.invariant-loop-written
 invariant-loop-written g l = record {
   within : l.written ≤ length l.bytes;
   sent : Appends (g.W.Sink.taken l.initial.writer) (g.W.Sink.taken l.writer) (take l.written l.bytes);
-  stays : g.W.Sink.failed l.initial.writer ≡ true → g.W.Sink.failed l.writer ≡ true }
+  stays : g.W.Sink.failed l.initial.writer ≡ true → g.W.Sink.failed l.writer ≡ true;
+}
 
 abbrev pub decreases-loop-written : goal.decreases-loop-written
 decreases-loop-written g l = length l.bytes - l.written
