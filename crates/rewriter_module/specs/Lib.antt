@@ -1,0 +1,3 @@
+pub mod Meaning
+pub mod Numbered
+pub mod Written

@@ -1,0 +1,23 @@
+-- What is kept of a module: all that a chain of references reaches from a root.
+use Rattle.std.specs.Prelude.{ℕ, ◌<◌, ◌≤◌, ◌≡◌, ◌≢◌, List, length, Some, slice_get, Contains}
+use Rattle.wasm_model.specs.Module.{Module, Function, FunctionType, Item, FunctionItem, TypeItem, Export}
+
+-- u is the type that t stands for: the latest that is equal to it
+pub record Same (types : List FunctionType) (t u : ℕ) : Type 0 where
+  pub there : u < length types
+  pub equal : slice_get types u ≡ slice_get types t
+  pub latest : (v : ℕ) → u < v → v < length types → slice_get types v ≢ slice_get types t
+
+-- one item refers to another: a function to what its type stands for
+abbrev pub Refers : Module → Item → Item → Type 0
+Refers m (FunctionItem f) (TypeItem t) = (function : Function) × (slice_get m.functions f ≡ Some function) × Same m.types function.type_ t
+Refers m _ _ = ⊥
+
+-- a root: what an export names
+abbrev pub Root : Module → Item → Type 0
+Root m i = (e : Export) × Contains m.exports e × (e.item ≡ i)
+
+-- what is kept: a finite chain of references leads to it from a root
+pub data Kept (m : Module) : Item → Type 0 where
+  root : {i : Item} → Root m i → Kept m i
+  refers : {i j : Item} → Kept m i → Refers m i j → Kept m j

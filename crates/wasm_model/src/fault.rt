@@ -1,0 +1,205 @@
+//! Why a module is refused, and where.
+
+use std::error;
+use std::fmt;
+
+use wasm_reader::Error;
+
+/// A kind of item that an index names.
+#[derive(Clone, Copy, Debug, PartialEq, Eq)]
+pub enum Space {
+    Type,
+    Function,
+    Table,
+    Memory,
+    Tag,
+    Global,
+    Element,
+    Data,
+    Local,
+    Label,
+}
+
+/// A form of the standard that isn't supported.
+#[derive(Clone, Copy, Debug, PartialEq, Eq)]
+pub enum Form {
+    SharedTable,
+    SharedGlobal,
+    SharedType,
+    ExactType,
+    ContinuationType,
+    Select,
+    /// A form that a later version will read.
+    Later,
+}
+
+/// What there is a limit on.
+#[derive(Clone, Copy, Debug, PartialEq, Eq)]
+pub enum Limited {
+    Types,
+    Imports,
+    Functions,
+    Globals,
+    Tags,
+    Exports,
+    Tables,
+    Memories,
+    Elements,
+    Data,
+    Locals,
+    Body,
+    /// Of the output alone: the whole file.
+    File,
+    /// Of the output alone: a list past a limit of the reader.
+    List,
+    /// Of the output alone: a name past the limit of the reader.
+    String,
+}
+
+/// Why a module is refused. Where the cause is in the bytes, `offset` is its place from the
+/// beginning of the file, in bytes.
+#[derive(Clone, Copy, Debug, PartialEq, Eq)]
+pub enum Fault {
+    /// The bytes spell no value that may stand there.
+    Read(Error),
+    /// The first eight bytes aren't the magic number and the version.
+    Header { offset: u64 },
+    /// A section that is unknown, late or repeated; at its id.
+    SectionOrder { offset: u64 },
+    /// A section that is longer than the file, at its size, or than its contents, at the first
+    /// byte that is left over.
+    SectionSize { offset: u64 },
+    /// Two counts that have to agree and don't; at the later one, or at the file's end.
+    Count { offset: u64 },
+    /// An index with no item.
+    Index { space: Space, offset: u64 },
+    /// A function type is needed.
+    TypeForm { offset: u64 },
+    /// An operator that isn't constant.
+    ConstExpr { offset: u64 },
+    /// An offset of the wrong type.
+    OffsetType { offset: u64 },
+    /// Blocks that don't nest.
+    Nesting { offset: u64 },
+    /// An operator that may not stand where it does.
+    Position { offset: u64 },
+    /// No operator, or one that is switched off.
+    Operator { offset: u64 },
+    /// A form of the standard that isn't supported.
+    Unsupported { form: Form, offset: u64 },
+    /// A second export of a name; at its entry.
+    DuplicateExport { offset: u64 },
+    /// A number out of bounds.
+    Bounds { offset: u64 },
+    /// More items, or a longer body, than may be; at the entry, count or size.
+    Limit { of: Limited, offset: u64 },
+    /// The output would pass a limit.
+    OutputLimit { of: Limited },
+    /// A reference to a deleted item.
+    DeadReference { space: Space },
+    /// Instruction sequences that form no tree.
+    NoTree,
+    /// An import and an item that don't name each other, or a function without a body.
+    NotLinked,
+    /// A growth was refused.
+    Memory,
+    /// The input is longer than 2^30 bytes.
+    InputTooLong,
+    /// The reader failed.
+    ReaderFault,
+    /// The writer failed once it had taken this many bytes.
+    WriterFault { written: u64 },
+    /// The writer of places failed once it had taken this many bytes.
+    PlacesFault { written: u64 },
+}
+
+impl fmt::Display for Space {
+    fn fmt<W: fmt::Write>(&self, f: &mut fmt::Formatter<W>) -> fmt::Result {
+        match self {
+            Space::Type => write!(f, "type"),
+            Space::Function => write!(f, "function"),
+            Space::Table => write!(f, "table"),
+            Space::Memory => write!(f, "memory"),
+            Space::Tag => write!(f, "tag"),
+            Space::Global => write!(f, "global"),
+            Space::Element => write!(f, "element"),
+            Space::Data => write!(f, "data"),
+            Space::Local => write!(f, "local"),
+            Space::Label => write!(f, "label"),
+        }
+    }
+}
+
+impl fmt::Display for Form {
+    fn fmt<W: fmt::Write>(&self, f: &mut fmt::Formatter<W>) -> fmt::Result {
+        match self {
+            Form::SharedTable => write!(f, "shared table"),
+            Form::SharedGlobal => write!(f, "shared global"),
+            Form::SharedType => write!(f, "shared type"),
+            Form::ExactType => write!(f, "exact type"),
+            Form::ContinuationType => write!(f, "continuation type"),
+            Form::Select => write!(f, "select"),
+            Form::Later => write!(f, "later"),
+        }
+    }
+}
+
+impl fmt::Display for Limited {
+    fn fmt<W: fmt::Write>(&self, f: &mut fmt::Formatter<W>) -> fmt::Result {
+        match self {
+            Limited::Types => write!(f, "types"),
+            Limited::Imports => write!(f, "imports"),
+            Limited::Functions => write!(f, "functions"),
+            Limited::Globals => write!(f, "globals"),
+            Limited::Tags => write!(f, "tags"),
+            Limited::Exports => write!(f, "exports"),
+            Limited::Tables => write!(f, "tables"),
+            Limited::Memories => write!(f, "memories"),
+            Limited::Elements => write!(f, "elements"),
+            Limited::Data => write!(f, "data"),
+            Limited::Locals => write!(f, "locals"),
+            Limited::Body => write!(f, "body"),
+            Limited::File => write!(f, "file"),
+            Limited::List => write!(f, "list"),
+            Limited::String => write!(f, "string"),
+        }
+    }
+}
+
+impl fmt::Display for Fault {
+    fn fmt<W: fmt::Write>(&self, f: &mut fmt::Formatter<W>) -> fmt::Result {
+        match self {
+            Fault::Read(error) => write!(f, "{}", error.message()),
+            Fault::Header { .. } => write!(f, "not a WebAssembly module"),
+            Fault::SectionOrder { .. } => write!(f, "section out of order"),
+            Fault::SectionSize { .. } => write!(f, "section size is wrong"),
+            Fault::Count { .. } => write!(f, "counts do not agree"),
+            Fault::Index { space, .. } => write!(f, "index of a {space} is out of range"),
+            Fault::TypeForm { .. } => write!(f, "a function type is needed"),
+            Fault::ConstExpr { .. } => write!(f, "not a constant expression"),
+            Fault::OffsetType { .. } => write!(f, "offset has the wrong type"),
+            Fault::Nesting { .. } => write!(f, "blocks do not nest"),
+            Fault::Position { .. } => write!(f, "operator may not stand here"),
+            Fault::Operator { .. } => write!(f, "unknown operator"),
+            Fault::Unsupported { form, .. } => write!(f, "not supported: {form}"),
+            Fault::DuplicateExport { .. } => write!(f, "duplicate export name"),
+            Fault::Bounds { .. } => write!(f, "number out of bounds"),
+            Fault::Limit { of, .. } => write!(f, "limit passed: {of}"),
+            Fault::OutputLimit { of } => write!(f, "output limit passed: {of}"),
+            Fault::DeadReference { space } => write!(f, "reference to a deleted {space}"),
+            Fault::NoTree => write!(f, "instructions form no tree"),
+            Fault::NotLinked => write!(f, "import and item do not agree"),
+            Fault::Memory => write!(f, "out of memory"),
+            Fault::InputTooLong => write!(f, "input is too long"),
+            Fault::ReaderFault => write!(f, "input can not be read"),
+            Fault::WriterFault { written } => {
+                write!(f, "output can not be written after {written} bytes")
+            }
+            Fault::PlacesFault { written } => {
+                write!(f, "places can not be written after {written} bytes")
+            }
+        }
+    }
+}
+
+impl error::Error for Fault {}

@@ -1,0 +1,4 @@
+pub mod Bits
+pub mod Loop
+pub mod Utf8
+pub mod Runs
