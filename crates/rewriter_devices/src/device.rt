@@ -1,5 +1,5 @@
 // The two kinds of devices, and how one fails.
-ghost use Rattle.std.specs.Prelude.{◌≡◌, ℕ, ◌+◌, ◌≤◌, List, Option, Bool, true, IsErr, is_err, length};
+ghost use Rattle.std.specs.Prelude.{◌≡◌, ℕ, ◌+◌, ◌≤◌, List, Option, Bool, true, IsErr, OnOk, is_err, length};
 ghost use Rattle.std.specs.Io.{ReadsAtMost, WritesAtMost};
 ghost use Rattle.std.specs.Io.KnownBytes.{Keeps, ReadConsumes, WriteAppends};
 ghost use Rattle.rewriter_devices.specs.Devices.{write_fails};
@@ -40,6 +40,9 @@ pub trait Sink {
     // Whether a call has failed.
     ghost failed: { Self → Bool };
 
+    // Whether it holds nothing back of what it took.
+    ghost flushed: { Self → Bool };
+
     /// Takes bytes from the front of `buf` and returns how many. To take none of some bytes is to fail,
     /// as an `Err` is. An `Err` takes none.
     fn write(&mut self, buf: &[u8]) -> Result<usize, DeviceFailed>
@@ -52,5 +55,6 @@ pub trait Sink {
     fn flush(&mut self) -> Result<(), DeviceFailed>
         ensures bytes { Keeps (taken self.old) (taken self.new) }
         ensures fails { failed self.new ≡ is_err result }
-        ensures stays_failed { failed self.old ≡ true → IsErr result };
+        ensures stays_failed { failed self.old ≡ true → IsErr result }
+        ensures flushed { OnOk result (flushed self.new ≡ true) };
 }

@@ -1,5 +1,5 @@
 // Writing a place list.
-ghost use Rattle.std.specs.Prelude.{◌≡◌, ◌≤◌, ◌<◌, ◌+◌, ◌*◌, ◌^◌, ◌++◌, ◌∷◌, true, IsErr, IfOk, OnErr, MatchResult, is_err, length, take, drop, decimal};
+ghost use Rattle.std.specs.Prelude.{◌≡◌, ◌≤◌, ◌<◌, ◌+◌, ◌*◌, ◌^◌, ◌++◌, ◌∷◌, true, IsErr, OnOk, IfOk, OnErr, MatchResult, is_err, length, take, drop, decimal};
 ghost use Rattle.std.specs.Io.KnownBytes.{Appends};
 ghost use Rattle.rewriter_devices.specs.Lines.{line_of, lines_of};
 
@@ -24,6 +24,7 @@ pub fn send_places<W: Sink>(writer: &mut W, places: &[(u32, u32)]) -> Result<(),
         × Appends (W.taken writer.old) (W.taken writer.new) (take e.written (lines_of places.now))) }
     ensures fails { W.failed writer.new ≡ is_err result }
     ensures stays_failed { W.failed writer.old ≡ true → IsErr result }
+    ensures flushed { OnOk result (W.flushed writer.new ≡ true) }
 {
     let mut written = 0;
     for chunk in places.chunks(LINES_AT_ONCE) {

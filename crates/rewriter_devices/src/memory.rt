@@ -1,5 +1,5 @@
 // Devices in memory, which tell their bytes and fail where they were told to.
-ghost use Rattle.std.specs.Prelude.{◌≡◌, ◌≢◌, ℕ, ◌+◌, ◌-◌, ◌≤◌, List, [], ◌++◌, Bool, true, false, if◌then◌else◌, None, Some, IsErr, IfOk, is_err, is_ok, length, take, drop, vec_len, vec_capacity, Result};
+ghost use Rattle.std.specs.Prelude.{◌≡◌, ◌≢◌, ℕ, ◌+◌, ◌-◌, ◌≤◌, List, [], ◌++◌, Bool, true, false, if◌then◌else◌, None, Some, IsErr, OnOk, IfOk, is_err, is_ok, length, take, drop, vec_len, vec_capacity, Result};
 ghost use Rattle.std.specs.Result.{result_ok};
 ghost use Rattle.std.specs.Io.{ReadsAtMost, WritesAtMost};
 ghost use Rattle.std.specs.Io.KnownBytes.{Keeps, ReadConsumes, WriteAppends};
@@ -133,6 +133,9 @@ impl Sink for MemorySink {
 
     ghost failed = { λ s. s.has_failed };
 
+    // There is nowhere to pass it on to.
+    ghost flushed = { λ _. true };
+
     fn write(&mut self, buf: &[u8]) -> Result<usize, DeviceFailed>
         ensures bound { WritesAtMost result buf.now }
         ensures bytes { WriteAppends (Some self.old.bytes) (Some self.new.bytes) result buf.now }
@@ -156,6 +159,7 @@ impl Sink for MemorySink {
         ensures bytes { Keeps (Some self.old.bytes) (Some self.new.bytes) }
         ensures fails { self.new.has_failed ≡ is_err result }
         ensures stays_failed { self.old.has_failed ≡ true → IsErr result }
+        ensures flushed { OnOk result (true ≡ true) }
 
         ensures after { self.new ≡ record self.old { has_failed = flush_fails self.old } }
     {

@@ -1,5 +1,5 @@
 // Writing out what was made.
-ghost use Rattle.std.specs.Prelude.{◌≡◌, ◌≤◌, ◌<◌, true, IsErr, OnErr, MatchResult, is_err, length, take};
+ghost use Rattle.std.specs.Prelude.{◌≡◌, ◌≤◌, ◌<◌, true, IsErr, OnOk, OnErr, MatchResult, is_err, length, take};
 ghost use Rattle.std.specs.Io.KnownBytes.{Appends};
 
 use crate::Sink;
@@ -18,6 +18,7 @@ pub fn send<W: Sink>(writer: &mut W, bytes: &[u8]) -> Result<(), WriteFault>
         × Appends (W.taken writer.old) (W.taken writer.new) (take e.written bytes.now)) }
     ensures fails { W.failed writer.new ≡ is_err result }
     ensures stays_failed { W.failed writer.old ≡ true → IsErr result }
+    ensures flushed { OnOk result (W.flushed writer.new ≡ true) }
 {
     write_all(writer, bytes)?;
     let written = bytes.len() as u64;

@@ -1,5 +1,5 @@
 // Devices over the readers and writers of `std::io`.
-ghost use Rattle.std.specs.Prelude.{◌≡◌, ◌≤◌, ◌+◌, true, false, None, IsErr, OnErr, IfOk, is_err, length, take};
+ghost use Rattle.std.specs.Prelude.{◌≡◌, ◌≤◌, ◌+◌, true, false, None, IsErr, OnOk, OnErr, IfOk, is_err, length, take};
 ghost use Rattle.std.specs.Io.{ReadsAtMost, WritesAtMost};
 ghost use Rattle.std.specs.Io.KnownBytes.{Keeps, ReadConsumes, WriteAppends};
 ghost use Rattle.rewriter_devices.specs.Devices.{write_fails};
@@ -56,15 +56,17 @@ impl<R: Read> Source for StdSource<R> {
 pub struct StdSink<W> {
     writer: W,
     has_failed: bool,
+    is_flushed: bool,
 }
 
 impl<W> StdSink<W> {
     pub fn new(writer: W) -> StdSink<W>
-        ensures { result ≡ record { writer = writer; has_failed = false } }
+        ensures { result ≡ record { writer = writer; has_failed = false; is_flushed = true } }
     {
         StdSink {
             writer,
             has_failed: false,
+            is_flushed: true,
         }
     }
 }
@@ -73,6 +75,8 @@ impl<W: Write> Sink for StdSink<W> {
     ghost taken = { λ _. None };
 
     ghost failed = { λ s. s.has_failed };
+
+    ghost flushed = { λ s. s.is_flushed };
 
     fn write(&mut self, buf: &[u8]) -> Result<usize, DeviceFailed>
         ensures bound { WritesAtMost result buf.now }
@@ -85,6 +89,7 @@ impl<W: Write> Sink for StdSink<W> {
         if self.has_failed {
             return Err(DeviceFailed);
         }
+        self.is_flushed = false;
         let answer = write_once(&mut self.writer, buf);
         self.has_failed = match answer {
             Ok(count) => count == 0 && buf.len() > 0,
@@ -97,6 +102,7 @@ impl<W: Write> Sink for StdSink<W> {
         ensures bytes { Keeps None None }
         ensures fails { self.new.has_failed ≡ is_err result }
         ensures stays_failed { self.old.has_failed ≡ true → IsErr result }
+        ensures flushed { OnOk result (self.new.is_flushed ≡ true) }
 
         ensures inner { Keeps (W.contents self.old.writer) (W.contents self.new.writer) }
     {
@@ -104,6 +110,7 @@ impl<W: Write> Sink for StdSink<W> {
             return Err(DeviceFailed);
         }
         let answer = self.writer.flush().map_err(|_| DeviceFailed);
+        self.is_flushed = answer.is_ok();
         self.has_failed = answer.is_err();
         answer
     }
