@@ -1,3 +1,4 @@
+pub mod Input
 pub mod Lines
 pub mod Devices
 pub mod MemorySourceState

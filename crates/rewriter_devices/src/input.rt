@@ -1,6 +1,7 @@
 // Reading all of an input.
-ghost use Rattle.std.specs.Prelude.{◌≡◌, ◌≤◌, ◌<◌, ◌+◌, ◌^◌, ℕ, List, true, IfOk, IsErrOf, ◌↔◌, length, vec_len};
-ghost use Rattle.std.specs.Io.KnownBytes.{Consumes, IsAtEnd};
+ghost use Rattle.std.specs.Prelude.{◌≡◌, ◌≤◌, ◌<◌, ◌+◌, ◌^◌, ℕ, List, true, IfOk, IsErrOf, ◌↔◌, length};
+ghost use Rattle.std.specs.Io.KnownBytes.{Consumes};
+ghost use Rattle.rewriter_devices.specs.Input.{IsInput};
 
 use crate::Source;
 use std::alloc::{AllocError, Global};
@@ -19,9 +20,7 @@ pub enum ReadFault {
 
 /// Reads to the end, or until more than `MAX_INPUT_LEN` bytes came. Memory grows with what was read.
 pub fn read_all<R: Source>(alloc: Global, reader: &mut R) -> Result<Vec<u8>, ReadFault>
-    ensures bytes { IfOk result (λ bytes. Consumes (R.left reader.old) (R.left reader.new) bytes.items) }
-    ensures at_end { IfOk result (λ bytes. vec_len bytes ≤ 2 ^ 30 → IsAtEnd (R.left reader.new)) }
-    ensures at_most { IfOk result (λ bytes. vec_len bytes ≤ 2 ^ 30 + 1) }
+    ensures input { IfOk result (λ bytes. IsInput (R.left reader.old) (R.left reader.new) bytes.items) }
     ensures fails { IsErrOf result ReadFault.Reader ↔ (R.failed reader.new ≡ true) }
     ensures stays_failed { R.failed reader.old ≡ true → IsErrOf result ReadFault.Reader }
     ensures so_far { (bytes : List ℕ) × (length bytes ≤ 2 ^ 30 + 1) × Consumes (R.left reader.old) (R.left reader.new) bytes }
