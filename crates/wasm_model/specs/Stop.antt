@@ -1,5 +1,5 @@
 -- Where reading from left to right stops, and why.
-use Rattle.std.specs.Prelude.{ℕ, ◌+◌, ◌-◌, ◌≤◌, ◌≡◌, zero, suc, List, [], ◌∷◌, ◌++◌, length, Result, Ok, Err, nat_lt, nat_le, Bool, IfErr, if◌then◌else◌}
+use Rattle.std.specs.Prelude.{ℕ, ◌+◌, ◌-◌, ◌≤◌, ◌≡◌, zero, suc, List, [], ◌∷◌, ◌++◌, length, Result, Ok, Err, Option, Some, None, nat_lt, nat_le, Bool, true, false, IfErr, if◌then◌else◌}
 use Rattle.wasm_reader.specs.declared.error.Error.{Error}
 use Rattle.wasm_reader.specs.declared.error.ErrorKind.{ErrorKind}
 use Rattle.wasm_reader.specs.Numbers.{unsigned_at}
@@ -31,6 +31,11 @@ pub data Trouble : Type 0 where
   Limit : (of : Limited) → Trouble
   -- what doesn't come from the bytes
   Other : Trouble
+
+-- trouble that comes from the bytes
+abbrev pub is_known : Trouble → Bool
+is_known Other = false
+is_known _ = true
 
 -- trouble, and how many bytes are left from its place to the end
 pub record Stop : Type 0 where
@@ -98,6 +103,14 @@ place_of (faults.DuplicateExport offset) = offset
 place_of (faults.Bounds offset) = offset
 place_of (faults.Limit of offset) = offset
 place_of _ = 0
+
+-- a fault that the bytes are the cause of
+abbrev pub is_in_bytes : Fault → Bool
+is_in_bytes fault = is_known (trouble_of fault)
+
+-- where its cause is in the bytes, the fault's place
+abbrev pub offset_of : Fault → Option ℕ
+offset_of fault = if is_in_bytes fault then Some (place_of fault) else None
 
 -- reading stops with this fault, with so many bytes left; want of memory may stand in place of whatever comes
 abbrev pub StopsWith : {A : Type 0} → Fault → ℕ → Result A Stop → Type 0

@@ -1,5 +1,10 @@
 //! Why a module is refused, and where.
 
+ghost use Rattle.std.specs.Prelude.{◌≡◌};
+ghost use Rattle.wasm_model.specs.declared.fault.Fault.TheVariants.{Read, Memory};
+ghost use Rattle.wasm_model.specs.Stop.{offset_of};
+
+use std::alloc::AllocFailed;
 use std::error;
 use std::fmt;
 
@@ -113,6 +118,34 @@ pub enum Fault {
     PlacesFault { written: u64 },
 }
 
+impl Fault {
+    /// The place of its cause from the beginning of the file, in bytes, where its cause is in the
+    /// bytes.
+    pub fn offset(&self) -> Option<u64>
+        ensures { result ≡ offset_of self.now }
+    {
+        match *self {
+            Fault::Read(error) => Some(error.offset()),
+            Fault::Header { offset }
+            | Fault::SectionOrder { offset }
+            | Fault::SectionSize { offset }
+            | Fault::Count { offset }
+            | Fault::Index { offset, .. }
+            | Fault::TypeForm { offset }
+            | Fault::ConstExpr { offset }
+            | Fault::OffsetType { offset }
+            | Fault::Nesting { offset }
+            | Fault::Position { offset }
+            | Fault::Operator { offset }
+            | Fault::Unsupported { offset, .. }
+            | Fault::DuplicateExport { offset }
+            | Fault::Bounds { offset }
+            | Fault::Limit { offset, .. } => Some(offset),
+            _ => None,
+        }
+    }
+}
+
 impl fmt::Display for Space {
     fn fmt<W: fmt::Write>(&self, f: &mut fmt::Formatter<W>) -> fmt::Result {
         match self {
@@ -203,3 +236,19 @@ impl fmt::Display for Fault {
 }
 
 impl error::Error for Fault {}
+
+impl From<Error> for Fault {
+    ghost from_gives = { λ error fault. fault ≡ Read error };
+
+    fn from(error: Error) -> Fault {
+        Fault::Read(error)
+    }
+}
+
+impl<T: Drop> From<AllocFailed<T>> for Fault {
+    ghost from_gives = { λ _ fault. fault ≡ Memory };
+
+    fn from(_refused: AllocFailed<T>) -> Fault {
+        Fault::Memory
+    }
+}
