@@ -1,0 +1,4 @@
+pub mod Features
+pub mod Inflated
+pub mod Laws
+pub mod Sets
