@@ -1,4 +1,4 @@
-use Rattle.std.proofs.Common.{rules, ◌≡◌, ◌≤◌, length, ◌-◌, List, ℕ, nat_eq, Bool, true, false, Err, refl, sym, ap, ◌∙◌, arith, cond}
+use Rattle.std.proofs.Common.{◌≡◌, length, ◌-◌, List, ℕ, nat_eq, false, Err, refl, sym, arith}
 use Rattle.std.specs.List.{starts_with}
 use Rattle.wasm_model.specs.Sections.{module_at}
 use Rattle.wasm_model.specs.Stop.{stop, Header}

@@ -1,4 +1,3 @@
-use Rattle.std.proofs.Common.{ℕ, List, ◌≡◌}
 use Rattle.std.proofs.lemmas.Result.{err_from_is_err_and}
 use Rattle.wasm_rewriter.proofs.RunLemmas.{written_runs, refused_runs}
 use Rattle.wasm_rewriter.proofs.running.run.Goals as goal
