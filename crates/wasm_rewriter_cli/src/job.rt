@@ -39,7 +39,9 @@ fn command<'a>(alloc: Global) -> Result<Command<'a>, Error> {
     let places = Arg::new(alloc, "places")
         .long("places")
         .value_name("FILE")
-        .help("Write a line `OLD NEW` to FILE for each operator: its place in INPUT, and in OUTPUT");
+        .help(
+            "Write a line `OLD NEW` to FILE for each operator: its place in INPUT, and in OUTPUT",
+        );
     let command = Command::new(alloc, "wasm_rewriter")
         .bin_name("wasm_rewriter")?
         .about("Keeps of a WebAssembly module what its exports need, in the shortest spelling")
@@ -49,7 +51,11 @@ fn command<'a>(alloc: Global) -> Result<Command<'a>, Error> {
         .arg(flag(alloc, "stable", "Accept stable features alone"))?
         .arg(flag(alloc, "no-legacy", "Refuse legacy exception operators"))?
         .arg(positional(alloc, "INPUT", "The module to read"))?
-        .arg(positional(alloc, "OUTPUT", "The file to write; it is created once INPUT was accepted"))?;
+        .arg(positional(
+            alloc,
+            "OUTPUT",
+            "The file to write; it is created once INPUT was accepted",
+        ))?;
     Ok(command)
 }
 

@@ -10,16 +10,12 @@ mod job;
 ghost use Rattle.std.specs.Prelude.{◌≡◌, if◌then◌else◌};
 ghost use Rattle.wasm_rewriter.specs.Run.{tells_of_device};
 
-use clap::error::ErrorKind;
 use file_sink::FileSink;
 use job::{Job, job_of};
-use std::env;
-use std::fs;
-use std::io;
 use std::process::ExitCode;
 use std::rt::{Env, Files};
+use std::{env, fs, io};
 use wasm_rewriter::{Fault, StdSource, run};
-
 
 fn main(rt: HostRuntime) -> ExitCode {
     ExitCode::from(status(&rt))
