@@ -1,6 +1,7 @@
 // Reading a module, rewriting it, and writing it out.
-ghost use Rattle.std.specs.Prelude.{◌≡◌, ◌≤◌, ◌+◌, ◌^◌, true, false, IfErr, IfSome, OnOk, IfOk, None, vec_len, vec_items};
+ghost use Rattle.std.specs.Prelude.{◌≡◌, ◌≤◌, ◌+◌, ◌^◌, true, false, IfErr, IfSome, OnOk, IfOk, IsErrOf, ◌↔◌, None, vec_len, vec_items};
 ghost use Rattle.std.specs.Option.{option_map};
+ghost use Rattle.wasm_model.specs.declared.fault.Fault.TheVariants.{ReaderFault};
 ghost use Rattle.wasm_rewriter.specs.Run.{Runs, Writes, pairs_of, tells_of_writer, tells_of_places};
 
 use crate::{Fault, Options, Rewritten, Sink, Source, rewrite};
@@ -33,8 +34,10 @@ pub fn run<R: Source, W: Sink, P: Sink>(
         record { before = W.taken writer.old; after = W.taken writer.new; has_failed = W.failed writer.new }
         record { before = P.taken places_writer.old; after = P.taken places_writer.new; has_failed = P.failed places_writer.new }
         result }
-    ensures flushed { OnOk result (W.flushed writer.new ≡ true) }
-    ensures places_flushed { OnOk result (options.now.places ≡ true → P.flushed places_writer.new ≡ true) }
+    ensures reader_failed { IsErrOf result Fault.ReaderFault ↔ (R.failed reader.new ≡ true) }
+    ensures writer_done { OnOk result ((W.failed writer.new ≡ false) × (W.flushed writer.new ≡ true)) }
+    ensures places_done { OnOk result (options.now.places ≡ true →
+        (P.failed places_writer.new ≡ false) × (P.flushed places_writer.new ≡ true)) }
     ensures writer_kept { IfErr result (λ fault. tells_of_writer fault ≡ false → writer.new ≡ writer.old) }
     ensures places_kept { IfErr result (λ fault. tells_of_places fault ≡ false → places_writer.new ≡ places_writer.old) }
     ensures no_places { options.now.places ≡ false → places_writer.new ≡ places_writer.old }
@@ -60,8 +63,10 @@ fn write_out<W: Sink, P: Sink>(
         record { before = W.taken writer.old; after = W.taken writer.new; has_failed = W.failed writer.new }
         record { before = P.taken places_writer.old; after = P.taken places_writer.new; has_failed = P.failed places_writer.new }
         result }
-    ensures flushed { OnOk result (W.flushed writer.new ≡ true) }
-    ensures places_flushed { OnOk result (IfSome rewritten.now.places (λ _. P.flushed places_writer.new ≡ true)) }
+    ensures own { IfErr result (λ fault. fault ≡ ReaderFault → ⊥) }
+    ensures writer_done { OnOk result ((W.failed writer.new ≡ false) × (W.flushed writer.new ≡ true)) }
+    ensures places_done { OnOk result (IfSome rewritten.now.places (λ _.
+        (P.failed places_writer.new ≡ false) × (P.flushed places_writer.new ≡ true))) }
     ensures places_kept { IfErr result (λ fault. tells_of_places fault ≡ false → places_writer.new ≡ places_writer.old) }
     ensures no_places { rewritten.now.places ≡ None → places_writer.new ≡ places_writer.old }
 {
