@@ -37,7 +37,8 @@ pub struct Module<'a> {
 }
 
 /// The numbers of what is kept: `functions` and `types` have the old numbers by the new ones;
-/// `new_function` and `new_type` the new ones by the old, 0 where an item isn't kept.
+/// `new_function` and `new_type` the new ones by the old. A type that stands for a kept one has
+/// its number; what isn't kept otherwise has 0.
 #[derive(Drop)]
 pub struct Numbering {
     pub functions: Vec<u32>,

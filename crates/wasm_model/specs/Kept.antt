@@ -2,11 +2,13 @@
 use Rattle.std.specs.Prelude.{ℕ, ◌<◌, ◌≤◌, ◌≡◌, ◌≢◌, List, length, Some, slice_get, Contains}
 use Rattle.wasm_model.specs.Module.{Module, Function, FunctionType, Item, FunctionItem, TypeItem, Export}
 
--- u is the type that t stands for: the latest that is equal to it
+-- u is the type that t stands for: itself, or where an earlier type is equal to it and stands for itself, that one. Types
+-- that stand in no group of several are equal where their parameters and results are, so it is the first equal one
 pub record Same (types : List FunctionType) (t u : ℕ) : Type 0 where
-  pub there : u < length types
+  pub there : t < length types
+  pub earlier : u ≤ t
   pub equal : slice_get types u ≡ slice_get types t
-  pub latest : (v : ℕ) → u < v → v < length types → slice_get types v ≢ slice_get types t
+  pub first : (v : ℕ) → v < u → slice_get types v ≢ slice_get types t
 
 -- one item refers to another: a function to what its type stands for
 abbrev pub Refers : Module → Item → Item → Type 0

@@ -17,7 +17,7 @@ use Rattle.wasm_model.specs.declared.fault.Limited.TheVariants as limits
 use Rattle.wasm_model.specs.Features.{Features}
 use Rattle.wasm_model.specs.Module.{Module, Function, FunctionType, Item, FunctionItem, Export}
 use Rattle.wasm_model.specs.Spells.{Code, header}
-use Rattle.wasm_model.specs.Stop.{Trouble, Read, Header, SectionOrder, SectionSize, Count, Index, Unsupported, DuplicateExport, Limit, Stop, stop, Parsing, ◌>>=◌, value_at, before, entries_at, vec_at, trouble_of, place_of}
+use Rattle.wasm_model.specs.Stop.{Trouble, Read, Header, SectionOrder, SectionSize, Count, Index, Unsupported, DuplicateExport, Limit, Stop, stop, Parsing, ◌>>=◌, value_at, before, entries_at, vec_at, trouble_of, place_of, is_in_bytes}
 use Rattle.wasm_model.specs.Bodies.{code_at}
 use Rattle.wasm_model.specs.OperatorTable.{among}
 
@@ -199,10 +199,11 @@ module_at features bytes = if starts_with nat_eq bytes header then (do
       Ok (record { types = sections.types; functions = functions_of sections.functions codes; exports = sections.exports }))
     else Err (stop Header (length bytes))
 
--- the fault that the bytes are refused for: of those whose condition holds at their places, the first from the left, and
--- at one place the one of the smallest number; a file past 2^30 bytes before all others
+-- the fault that the bytes are refused for. A file past 2^30 bytes comes before all else, then the header, then the sections
+-- from left to right, each rule tested as soon as what it speaks of was read, then a missing code section, and then the
+-- bodies in order. Of what is due at one moment the first place stands, and at one place the fault of the smallest number.
 abbrev pub Stops : Features → List ℕ → Fault → Type 0
 Stops features bytes faults.InputTooLong = 2 ^ 30 < length bytes
 Stops features bytes fault =
-    (length bytes ≤ 2 ^ 30) × (place_of fault ≤ length bytes)
+    (is_in_bytes fault ≡ true) × (length bytes ≤ 2 ^ 30) × (place_of fault ≤ length bytes)
     × (module_at features bytes ≡ Err (stop (trouble_of fault) (length bytes - place_of fault)))

@@ -5,6 +5,8 @@ use Rattle.wasm_model.specs.Shortest.{u32_bytes, s32_bytes}
 use Rattle.wasm_model.specs.declared.types.ValType.{ValType}
 use Rattle.wasm_model.specs.Module.{Module, Function, FunctionType, Operator, Nop, I32Const, Drop, Return, End, Item, FunctionItem, TypeItem, Export, operators}
 use Rattle.wasm_model.specs.Spells.{value_byte, header}
+use Rattle.wasm_model.specs.Features.{Features}
+use Rattle.wasm_model.specs.Rules.{Reads}
 
 -- vec(x)
 abbrev pub vec_bytes : {A : Type 0} → (A → List ℕ) → List A → List ℕ
@@ -51,6 +53,6 @@ module_bytes m =
     header ++ (section_bytes 1 type_bytes m.types ++ (section_bytes 3 (λ f. u32_bytes f.type_) m.functions
     ++ (section_bytes 7 export_bytes m.exports ++ section_bytes 10 code_bytes m.functions)))
 
--- the bytes are the canonical spelling of a module
-abbrev pub Canon : List ℕ → Type 0
-Canon bytes = (m : Module) × (bytes ≡ module_bytes m)
+-- the bytes are the canonical spelling of a module that they read as
+abbrev pub Canon : Features → List ℕ → Type 0
+Canon features bytes = (m : Module) × Reads features bytes m × (bytes ≡ module_bytes m)

@@ -1,0 +1,9 @@
+pub mod Numbers
+pub mod Spelled
+pub mod Bodies
+pub mod First
+pub mod Again
+pub mod Pairs
+pub mod TypeOrder
+pub mod Order
+pub mod Twice

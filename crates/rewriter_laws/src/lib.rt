@@ -1,0 +1,2 @@
+//! Laws of what the rewriter writes.
+#![tactic(auto)]
