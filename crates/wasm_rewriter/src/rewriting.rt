@@ -1,8 +1,7 @@
 // Rewriting a module, from bytes to bytes.
-ghost use Rattle.std.specs.Prelude.{◌≡◌, ◌≤◌, false, length, IfOk, IfErr, IfSome, vec_items, vec_len};
+ghost use Rattle.std.specs.Prelude.{◌≤◌, length, IfOk, IfErr, IfSome, vec_items, vec_len};
 ghost use Rattle.std.specs.Option.{option_map};
 ghost use Rattle.wasm_model.specs.Rewrites.{Rewritten as IsRewritten, IsRefused};
-ghost use Rattle.wasm_rewriter.specs.Run.{tells_of_device};
 
 use crate::{Fault, Options};
 use rewriter_devices::MAX_INPUT_LEN;
@@ -23,7 +22,6 @@ pub struct Rewritten {
 pub fn rewrite(_alloc: Global, bytes: &[u8], options: &Options) -> Result<Rewritten, Fault>
     ensures rewritten { IfOk result (λ out. IsRewritten options.now bytes.now out.bytes.items (option_map vec_items out.places)) }
     ensures refused { IfErr result (λ fault. IsRefused options.now bytes.now fault) }
-    ensures own { IfErr result (λ fault. tells_of_device fault ≡ false) }
     ensures few { IfOk result (λ out. IfSome out.places (λ places. vec_len places ≤ vec_len out.bytes)) }
 {
     if bytes.len() > MAX_INPUT_LEN {

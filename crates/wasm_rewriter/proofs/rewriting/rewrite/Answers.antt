@@ -13,4 +13,4 @@ no_header features bytes h = rw h refl
 pub returns-then-not-starts_with-clause-refused : goal.returns-then-not-starts_with-clause-refused
 returns-then-not-starts_with-clause-refused c =
     let whole : length c.args.bytes.now - 0 ≡ length c.args.bytes.now = omega arith in
-    (omega arith, omega arith, rw whole (no_header _ _ (sym c.if-not-starts_with.ensures.value)))
+    (refl, omega arith, omega arith, rw whole (no_header _ _ (sym c.if-not-starts_with.ensures.value)))

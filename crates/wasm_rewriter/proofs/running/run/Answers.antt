@@ -6,7 +6,7 @@ pub returns-in_err-rewritten-clause-runs : goal.returns-in_err-rewritten-clause-
 returns-in_err-rewritten-clause-runs g c =
     let p = err_from_is_err_and c.from_residual.result c.from_residual.ensures.1 in
     let refused = rw c.deref.ensures.value at c.in_err-rewritten.ensures.refused in
-    rw (p.1, p.2) (refused_runs _ _ _ _ c.in-Ok.input.items _ c.in-Ok.ensures.input refused c.in_err-rewritten.ensures.own)
+    rw (p.1, p.2) (refused_runs _ _ _ _ c.in-Ok.input.items _ c.in-Ok.ensures.input refused)
 
 pub returns-clause-runs : goal.returns-clause-runs
 returns-clause-runs g c =
