@@ -1,0 +1,111 @@
+#!/usr/bin/env python3
+"""Times the program against wasm-opt and wasm-strip, and prints times, peak memory and ratios.
+
+    bench/compare.py [--seed N] [--size BYTES] [--functions N] [--rounds N]
+
+It makes a module of half the size and half the functions, and one of the whole. Each program reads a module
+and writes one; wasm-opt runs no passes. A time is the least of the rounds, in seconds of the clock; memory is
+the most that was resident. binaryen and wabt are installed where they are missing.
+"""
+import argparse
+import os
+import shutil
+import subprocess
+import sys
+import tempfile
+import time
+
+from make_module import bytes_of
+
+ROOT = os.path.dirname(os.path.dirname(os.path.abspath(__file__)))
+LAUNCHER = f"{ROOT}/bin/wasm_rewriter"
+PROGRAM = f"{ROOT}/crates/wasm_rewriter_cli/out/wasm_rewriter_cli"
+PACKAGES = {"wasm-opt": "binaryen", "wasm-strip": "wabt"}
+
+
+def install():
+    missing = [package for tool, package in PACKAGES.items() if not shutil.which(tool)]
+    if not missing:
+        return
+    print(f"installing {' '.join(missing)}", file=sys.stderr)
+    # A package list that is old or missing is fetched and the installation tried again.
+    for words in (["install"], ["update"], ["install"]):
+        asked = [*words, "-y", *(missing if words == ["install"] else [])]
+        done = subprocess.run(["apt-get", *asked], stdout=subprocess.DEVNULL, stderr=subprocess.DEVNULL)
+        if words == ["install"] and done.returncode == 0:
+            return
+    sys.exit(f"{' '.join(missing)} could not be installed")
+
+
+def measured(words):
+    """The seconds and the bytes of memory that a command takes."""
+    began = time.monotonic()
+    process = subprocess.Popen(words, stdout=subprocess.DEVNULL, stderr=subprocess.PIPE)
+    said = process.stderr.read()
+    _, status, usage = os.wait4(process.pid, 0)
+    took = time.monotonic() - began
+    if status:
+        sys.exit(f"{' '.join(words)} failed: {said.decode(errors='replace')[-400:]}")
+    return took, usage.ru_maxrss * 1024
+
+
+def best(command, rounds):
+    runs = [measured(command()) for _ in range(rounds)]
+    return min(seconds for seconds, _ in runs), max(memory for _, memory in runs)
+
+
+def make(seed, size, functions, file):
+    # In a process of its own: what this one has resident counts as its children's too.
+    script = f"{ROOT}/bench/make_module.py"
+    numbers = ["--seed", str(seed), "--size", str(size), "--functions", str(functions)]
+    subprocess.run([sys.executable, script, *numbers, file], check=True)
+
+
+def compare(name, source, rounds):
+    """Runs the three programs on a module, prints a table, and returns our time and the module's size."""
+    target = f"{source}.out"
+    size = os.path.getsize(source)
+
+    def strip():
+        # It writes over what it reads.
+        shutil.copyfile(source, target)
+        return ["wasm-strip", target]
+
+    commands = {
+        "wasm_rewriter": lambda: [PROGRAM, source, target],
+        "wasm-opt": lambda: ["wasm-opt", "--all-features", source, "-o", target],
+        "wasm-strip": strip,
+    }
+    results = {tool: best(command, rounds) for tool, command in commands.items()}
+    # What we write has to be a module for wasm-opt too.
+    subprocess.run([PROGRAM, source, target], check=True)
+    subprocess.run(["wasm-opt", "--all-features", target, "-o", os.devnull], check=True, stderr=subprocess.DEVNULL)
+    ours = results["wasm_rewriter"]
+    print(f"\n{name}: {size:,} bytes, written {os.path.getsize(target):,}")
+    print(f"{'':16}{'seconds':>10}{'times ours':>12}{'MiB':>10}{'times input':>13}")
+    for tool, (seconds, memory) in results.items():
+        print(f"{tool:16}{seconds:10.3f}{seconds / ours[0]:12.2f}{memory / 2**20:10.1f}{memory / size:13.2f}")
+    return ours[0], size
+
+
+def main():
+    parser = argparse.ArgumentParser(description=__doc__.splitlines()[0])
+    parser.add_argument("--seed", type=int, default=1)
+    parser.add_argument("--size", type=bytes_of, default=64 * 2**20)
+    parser.add_argument("--functions", type=int, default=1_000_000)
+    parser.add_argument("--rounds", type=int, default=3)
+    words = parser.parse_args()
+    install()
+    # Builds the program where it is missing.
+    subprocess.run([LAUNCHER, "--help"], check=True, stdout=subprocess.DEVNULL)
+    with tempfile.TemporaryDirectory(prefix="wasm_rewriter-bench-") as folder:
+        half, whole = f"{folder}/half.wasm", f"{folder}/whole.wasm"
+        make(words.seed, words.size // 2, words.functions // 2, half)
+        make(words.seed, words.size, words.functions, whole)
+        half_time, half_size = compare("half", half, words.rounds)
+        whole_time, whole_size = compare("whole", whole, words.rounds)
+    print(f"\ntwice the input, {whole_size / half_size:.2f} times the bytes: {whole_time / half_time:.2f} times the time")
+
+
+if __name__ == "__main__":
+    main()

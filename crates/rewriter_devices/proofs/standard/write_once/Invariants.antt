@@ -1,0 +1,6 @@
+-- Writes that were interrupted took nothing.
+use Rattle.std.specs.Io.KnownBytes.{Keeps}
+use Rattle.rewriter_devices.proofs.standard.write_once.Given as goal
+
+abbrev pub invariant-loop : goal.invariant-loop
+invariant-loop g l = Keeps (g.W.Write.contents l.initial.writer) (g.W.Write.contents l.writer)

@@ -1,0 +1,5 @@
+pub mod Input
+pub mod Lines
+pub mod Devices
+pub mod MemorySourceState
+pub mod MemorySinkState

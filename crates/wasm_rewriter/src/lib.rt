@@ -1,0 +1,14 @@
+//! Rewrites WebAssembly modules: keeps what their exports need, in the shortest spelling.
+#![tactic(auto)]
+
+mod rewriting;
+mod running;
+
+pub use rewriter_devices::{
+    DeviceFailed, MemorySink, MemorySource, Sink, SinkFail, Source, StdSink, StdSource,
+};
+pub use rewriting::{Rewritten, rewrite};
+pub use running::{Summary, run};
+pub use wasm_model::fault::{Fault, Form, Limited, Space};
+pub use wasm_model::options::Options;
+pub use wasm_reader::Error;
