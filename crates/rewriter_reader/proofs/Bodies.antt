@@ -1,9 +1,12 @@
 -- The loop over bodies.
-use Rattle.std.proofs.Common.{ℕ, ◌≡◌, ◌+◌, ◌-◌, ◌<◌, ◌≤◌, ◌≢◌, List, [], ◌∷◌, ◌++◌, length, map, take, drop, slice_get, IsTrue, Result, Ok, Err, Some, refl, sym, ◌∙◌, arith, get_or, append_assoc, drop-cons, add-one, ◌⊎◌, inl, inr, suc, zero}
-use Rattle.std.proofs.lemmas.List.{map_push, append-nil, take_more, take_all, drop_all}
+use Rattle.std.proofs.Common.{ℕ, ◌≡◌, ◌+◌, ◌-◌, ◌<◌, ◌≤◌, ◌≢◌, List, [], ◌∷◌, ◌++◌, length, map, take, drop, slice_get, IsTrue, Result, Ok, Err, Some, refl, sym, ap, ◌∙◌, arith, get_or, append_assoc, drop-cons, add-one, ◌⊎◌, inl, inr, suc, zero}
+use Rattle.std.proofs.lemmas.List.Elements.{All-map}
+use Rattle.std.specs.Prelude.{All}
+use Rattle.std.proofs.Common.{subst}
+use Rattle.std.proofs.lemmas.List.{get_or-map, length-map, map_push, append-nil, take_more, take_all, drop_all}
 use Rattle.wasm_model.specs.declared.fault.Fault.{Fault}
 use Rattle.wasm_model.specs.declared.fault.Fault.TheVariants as faults
-use Rattle.rewriter_reader.specs.Checked.{AreChecked, IsRefused, IsPlaced}
+use Rattle.rewriter_reader.specs.Checked.{AreChecked, IsRefused, IsPlaced, end_of_function, end_of_chunk}
 use Rattle.rewriter_reader.proofs.Stops.{stops_with}
 use Rattle.wasm_model.specs.Features.{Features}
 use Rattle.wasm_model.specs.NormalForm.{size}
@@ -28,6 +31,7 @@ pub record Checks (features : Features) (types : List ℕ) (left : ℕ) (chunks 
   pub so_far : codes_at features left (map chunk_of chunks) ≡ with_front (map (code_in features) functions) (codes_at features left (map chunk_of (drop i chunks)))
   pub typed : map (λ f. f.type_index) functions ≡ take i types
   pub sound : IsSound features functions
+  pub ends : map end_of_function functions ≡ map end_of_chunk (take i chunks)
 
 -- an element is the last one or an earlier one
 pushed : {A : Type 0} (xs : List A) (x y : A) (k : ℕ) → slice_get (xs ++ x ∷ []) k ≡ Some y → (slice_get xs k ≡ Some y) ⊎ (y ≡ x)
@@ -57,11 +61,16 @@ front_nil (Err e) = refl
 front_all : (front : List Code) → with_front front (Ok []) ≡ Ok front
 front_all front = rw append-nil refl
 
+nothing_taken : (chunks : List Chunk) → map end_of_function [] ≡ map end_of_chunk (take 0 chunks)
+nothing_taken [] = refl
+nothing_taken (c ∷ cs) = refl
+
 pub starts : (features : Features) (types : List ℕ) (left : ℕ) (chunks : List Chunk) → Checks features types left chunks 0 []
 starts features types left chunks = record {
   so_far = front_nil (codes_at features left (map chunk_of chunks));
   typed = refl;
   sound = record { spelled = λ k f h. absurd (cc); sized = λ k f h. absurd (cc) };
+  ends = nothing_taken chunks;
 }
 
 -- what a body's check gives
@@ -100,6 +109,7 @@ goes_on features types left chunks i functions d size_ so below within found =
       so_far = so.so_far ∙ rw (rest_is chunks i d below, next, map_push (code_in features) functions f, code_is features f one.0 one.1) (one_front (codes_at features left (map chunk_of (drop (i + 1) chunks))) (map (code_in features) functions) one.0);
       typed = rw (map_push (λ (f : Function). f.type_index) functions f, so.typed) (sym (take_more types i 0 within));
       sound = still_sound features functions f so.sound checked;
+      ends = rw (map_push end_of_function functions f, so.ends, take_more chunks i d below, map_push end_of_chunk (take i chunks) c) refl;
     }
 
 pub known_if : (t : Trouble) → t ≢ Other → IsTrue (is_known t)
@@ -136,4 +146,18 @@ is_checked features types code i functions so all count = record {
   codes = let none : drop i code.bodies.items ≡ [] = drop_all i code.bodies.items all in so.so_far ∙ rw none (front_all (map (code_in features) functions));
   typed = so.typed ∙ take_all i types (omega arith);
   sound = so.sound;
+  ends = so.ends ∙ ap (map end_of_chunk) (take_all i code.bodies.items all);
 }
+
+-- a fact of each element of a map is one of the elements
+all_of_map : {A : Type 0} (P : ℕ → Type 0) (f : A → ℕ) (xs : List A) → All P (map f xs) → All (λ x. P (f x)) xs
+all_of_map P f xs h = λ k d small. let P' : ℕ → Type 0 = P in subst P' (get_or-map f xs k d (f d) small) (h k (f d) (let n : length (map f xs) ≡ length xs = length-map xs f in omega arith))
+
+-- bodies that end within the code section end within the file
+pub ends_within : (features : Features) (types : List ℕ) (code : BodiesCode) (functions : List Function) (end : ℕ) → AreChecked features types code functions → EndWithin code.left code.bodies.items → code.left ≤ end → All (λ f. f.place + length f.body.now ≤ end) functions
+ends_within features types code functions end checked within left =
+    let all : All (λ e. e ≤ code.left) (map end_of_chunk code.bodies.items) = All-map (λ e. e ≤ code.left) end_of_chunk code.bodies.items within in
+    let Q : List ℕ → Type 0 = All (λ e. e ≤ code.left) in
+    let same : All (λ e. e ≤ code.left) (map end_of_function functions) = subst Q (sym checked.ends) all in
+    let each : All (λ f. end_of_function f ≤ code.left) functions = all_of_map (λ e. e ≤ code.left) end_of_function functions same in
+    λ k d small. let one : end_of_function (get_or functions k d) ≤ code.left = each k d small in omega arith

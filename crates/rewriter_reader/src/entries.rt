@@ -12,6 +12,7 @@ use wasm_reader::BinaryReader;
 pub(crate) trait ReadEntry<'a>: Sized {
     type Entry: Drop;
 
+    // what is seen of an element
     ghost Seen: { Type 0 };
 
     ghost seen: { Self.Entry → Seen };
@@ -19,8 +20,10 @@ pub(crate) trait ReadEntry<'a>: Sized {
     // the number that the elements are read with
     ghost given: { Self → ℕ };
 
+    // how an element is parsed, with that number, and with those before it
     ghost parsing: { ℕ → List Seen → List ℕ → Parsing Seen };
 
+    // what is known once these elements were read, at this place
     ghost Knows: { Self → List Self.Entry → Cursor → Type 0 };
 
     /// The element behind `earlier`.

@@ -1,12 +1,13 @@
 //! The export section (Core Specification, Binary Format, Export Section).
 
-ghost use Rattle.std.specs.Prelude.{◌≡◌};
-ghost use Rattle.wasm_model.specs.Stop.{Parses};
-ghost use Rattle.wasm_model.specs.Sections.{export_entry, kind_at};
+ghost use Rattle.std.specs.Prelude.{◌≡◌, map, option_map};
+ghost use Rattle.wasm_model.specs.Stop.{Parses, vec_at};
+ghost use Rattle.wasm_model.specs.Sections.{export_entry, kind_at, section_at};
 ghost use Rattle.rewriter_module.specs.Meaning.{export_of};
 ghost use Rattle.rewriter_reader.specs.Seen.{HasNames};
 
 use crate::entries::ReadEntry;
+use crate::section::read_list;
 use rewriter_module::Export;
 use std::alloc::Global;
 use std::collections::HashSet;
@@ -31,11 +32,11 @@ fn read_kind(reader: &mut BinaryReader<'_>) -> Result<u8, Fault>
     }
 }
 
-/// The entries of the export section: names of so many functions, each another one.
+// The entries of the export section: names of so many functions, each another one.
 #[derive(Drop)]
-pub(crate) struct ExportEntries<'a> {
-    pub(crate) functions: usize,
-    pub(crate) names: HashSet<&'a str>,
+struct ExportEntries<'a> {
+    functions: usize,
+    names: HashSet<&'a str>,
 }
 
 impl<'a> ReadEntry<'a> for ExportEntries<'a> {
@@ -82,4 +83,16 @@ impl<'a> ReadEntry<'a> for ExportEntries<'a> {
         }
         Ok(Export { name, function })
     }
+}
+
+/// The export section, where it comes next: names of so many functions, each another one.
+pub(crate) fn read_exports<'a>(
+    alloc: Global,
+    functions: usize,
+    reader: &mut BinaryReader<'a>,
+) -> Result<Option<Vec<Export<'a>>>, Fault>
+    ensures { Parses (section_at 7 (λ _. vec_at (export_entry functions))) (option_map (λ v. map export_of v.items)) reader.old reader.new result }
+{
+    let names = HashSet::new(alloc);
+    read_list(alloc, 7, &mut ExportEntries { functions, names }, reader)
 }

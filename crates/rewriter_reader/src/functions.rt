@@ -1,19 +1,21 @@
 //! The function section (Core Specification, Binary Format, Function Section).
 
-ghost use Rattle.std.specs.Prelude.{◌≡◌};
-ghost use Rattle.wasm_model.specs.Sections.{function_entry};
+ghost use Rattle.std.specs.Prelude.{◌≡◌, map, option_map};
+ghost use Rattle.wasm_model.specs.Stop.{Parses, vec_at};
+ghost use Rattle.wasm_model.specs.Sections.{function_entry, section_at};
 
 use crate::entries::ReadEntry;
+use crate::section::read_list;
 use std::alloc::Global;
 use wasm_model::fault::{Fault, Limited, Space};
 use wasm_reader::BinaryReader;
 
 const MAX_WASM_FUNCTIONS: usize = 1_000_000;
 
-/// The entries of the function section: indices of so many types.
+// The entries of the function section: indices of so many types.
 #[derive(Drop)]
-pub(crate) struct FunctionEntries {
-    pub(crate) types: usize,
+struct FunctionEntries {
+    types: usize,
 }
 
 impl<'a> ReadEntry<'a> for FunctionEntries {
@@ -54,4 +56,15 @@ impl<'a> ReadEntry<'a> for FunctionEntries {
         }
         Ok(index)
     }
+}
+
+/// The function section, where it comes next: indices of so many types.
+pub(crate) fn read_functions(
+    alloc: Global,
+    types: usize,
+    reader: &mut BinaryReader<'_>,
+) -> Result<Option<Vec<u32>>, Fault>
+    ensures { Parses (section_at 3 (λ _. vec_at (function_entry types))) (option_map (λ v. map (λ n. n) v.items)) reader.old reader.new result }
+{
+    read_list(alloc, 3, &mut FunctionEntries { types }, reader)
 }

@@ -10,13 +10,11 @@ ghost use Rattle.rewriter_reader.specs.Seen.{items_of, sections_of, AreBodies, E
 ghost use Rattle.rewriter_reader.specs.Seen.{code_of as seen_code};
 
 use crate::code::{Code, read_code};
-use crate::exports::ExportEntries;
-use crate::functions::FunctionEntries;
-use crate::section::read_list;
-use crate::types::TypeEntries;
+use crate::exports::read_exports;
+use crate::functions::read_functions;
+use crate::types::read_types;
 use rewriter_module::{Export, FunctionType};
 use std::alloc::Global;
-use std::collections::HashSet;
 use wasm_model::fault::{Fault, Form};
 use wasm_reader::BinaryReader;
 
@@ -134,17 +132,10 @@ pub(crate) fn read_sections<'a>(
     ensures sections { Ends sections_at sections_of reader.old result }
     ensures bodies { IfOk result (λ s. AreBodies (length s.functions.items) (end_of reader.old) s.code) }
 {
-    let types = read_list(alloc, 1, &mut TypeEntries, reader)?;
-    let mut entries = FunctionEntries {
-        types: length_of(&types),
-    };
-    let functions = read_list(alloc, 3, &mut entries, reader)?;
+    let types = read_types(alloc, reader)?;
+    let functions = read_functions(alloc, length_of(&types), reader)?;
     let count = length_of(&functions);
-    let mut entries = ExportEntries {
-        functions: count,
-        names: HashSet::new(alloc),
-    };
-    let exports = read_list(alloc, 7, &mut entries, reader)?;
+    let exports = read_exports(alloc, count, reader)?;
     let code = read_code(alloc, count, reader)?;
     let last = latest(&types, 1, 0);
     let last = latest(&functions, 3, last);

@@ -1,12 +1,13 @@
 //! Types (Core Specification, Binary Format, Types).
 
-ghost use Rattle.std.specs.Prelude.{◌≡◌};
+ghost use Rattle.std.specs.Prelude.{◌≡◌, map, option_map};
 ghost use Rattle.wasm_reader.specs.Reading.{plain};
-ghost use Rattle.wasm_model.specs.Stop.{Parses, trouble_of, place_of};
-ghost use Rattle.wasm_model.specs.Sections.{trouble_at_type, value_type_at, value_types_at, function_type_at, type_entry};
+ghost use Rattle.wasm_model.specs.Stop.{Parses, trouble_of, place_of, vec_at};
+ghost use Rattle.wasm_model.specs.Sections.{trouble_at_type, value_type_at, value_types_at, function_type_at, type_entry, section_at};
 ghost use Rattle.rewriter_module.specs.Meaning.{type_of};
 
 use crate::entries::{ReadEntry, read_entries};
+use crate::section::read_list;
 use rewriter_module::FunctionType;
 use std::alloc::Global;
 use wasm_features::WasmFeatures;
@@ -109,9 +110,9 @@ fn read_function_type(alloc: Global, reader: &mut BinaryReader<'_>) -> Result<Fu
     Ok(FunctionType { params, results })
 }
 
-/// The entries of the type section.
+// The entries of the type section.
 #[derive(Drop)]
-pub(crate) struct TypeEntries;
+struct TypeEntries;
 
 impl<'a> ReadEntry<'a> for TypeEntries {
     type Entry = FunctionType;
@@ -145,4 +146,14 @@ impl<'a> ReadEntry<'a> for TypeEntries {
         }
         Ok(entry)
     }
+}
+
+/// The type section, where it comes next.
+pub(crate) fn read_types(
+    alloc: Global,
+    reader: &mut BinaryReader<'_>,
+) -> Result<Option<Vec<FunctionType>>, Fault>
+    ensures { Parses (section_at 1 (λ _. vec_at type_entry)) (option_map (λ v. map type_of v.items)) reader.old reader.new result }
+{
+    read_list(alloc, 1, &mut TypeEntries, reader)
 }

@@ -1,6 +1,6 @@
 //! A whole module (Core Specification, Binary Format, Modules).
 
-ghost use Rattle.std.specs.Prelude.{◌≡◌, ◌≤◌, ◌^◌, length, IfOk, IfErr};
+ghost use Rattle.std.specs.Prelude.{◌≡◌, ◌≤◌, ◌+◌, ◌^◌, length, All, IfOk, IfErr};
 ghost use Rattle.wasm_model.specs.Features.{features_of};
 ghost use Rattle.wasm_model.specs.Sections.{module_at};
 ghost use Rattle.rewriter_module.specs.Meaning.{meaning, IsSound};
@@ -56,6 +56,7 @@ pub fn parse<'a>(alloc: Global, bytes: &'a [u8], options: &Options) -> Result<Mo
     requires { length bytes.now ≤ 2 ^ 30 }
     ensures parsed { IfOk result (λ m. module_at (features_of options.now) bytes.now ≡ Ok (meaning (features_of options.now) m)) }
     ensures sound { IfOk result (λ m. IsSound (features_of options.now) m.functions.items) }
+    ensures within { IfOk result (λ m. All (λ f. f.place + length f.body.now ≤ length bytes.now) m.functions.items) }
     ensures refused { IfErr result (IsStop (features_of options.now) bytes.now) }
 {
     if !bytes.starts_with(&HEADER) {

@@ -36,10 +36,6 @@ pub record TakesByte (byte : ℕ) (old new : Cursor) : Type 0 where
   pub was : rest old ≡ byte ∷ rest new
   pub moves : Forward old new
 
--- the front of these bytes
-abbrev pub opened : List ℕ → ℕ → WasmFeatures → Cursor
-opened bytes start features = record { window = record { bytes = bytes; start = start; features = features }; position = 0 }
-
 -- the inner window is what the outer one has just read, at its place, of which nothing is read yet
 pub record IsInner (outer inner : Cursor) : Type 0 where
   pub ends : end_of inner + length (rest outer) ≡ end_of outer

@@ -11,3 +11,6 @@ pub mod Final
 pub mod Finals
 pub mod Spellings
 pub mod Faults
+pub use Rattle.wasm_features.specs.Features
+pub use Rattle.wasm_features.specs.Inflated
+pub use Rattle.wasm_features.specs.Sets

@@ -75,6 +75,14 @@ little_at size bytes = do
   run ← bytes_at size bytes
   Ok (little run.0, run.1)
 
+-- the bytes of a run of that many bytes: themselves
+abbrev pub SpellsRun : ℕ → List ℕ → List ℕ → Type 0
+SpellsRun size bytes run = (length bytes ≡ size) × (run ≡ bytes)
+
+-- the bytes of a number of that many bytes
+abbrev pub SpellsLittle : ℕ → List ℕ → ℕ → Type 0
+SpellsLittle size bytes n = (length bytes ≡ size) × (n ≡ little bytes)
+
 -- the bytes of an inner reader
 abbrev pub seen_window : Cursor → List ℕ
 seen_window c = c.window.bytes

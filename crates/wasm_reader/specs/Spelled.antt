@@ -1,9 +1,9 @@
 -- Lemmas: a number's reading and its spellings.
-use Rattle.std.specs.Prelude.{ℕ, zero, suc, ◌+◌, ◌-◌, ◌*◌, ◌/◌, ◌^◌, ◌<◌, ◌≤◌, ◌≡◌, true, false, ℤ, pos, negsuc, ◌+ℤ◌, ◌*ℤ◌, List, [], ◌∷◌, ◌++◌, length, Ok, Err, All, refl}
+use Rattle.std.specs.Prelude.{ℕ, zero, suc, ◌+◌, ◌-◌, ◌*◌, ◌/◌, ◌^◌, ◌<◌, ◌≤◌, ◌≡◌, true, false, ℤ, pos, negsuc, ◌+ℤ◌, ◌-ℤ◌, ◌*ℤ◌, List, [], ◌∷◌, ◌++◌, length, Ok, Err, All, refl}
 use Rattle.std.proofs.Common.{sym, ap, ◌∙◌, subst, arith, inl, inr}
 use Rattle.std.proofs.lemmas.Nat.{pow-add}
 use Rattle.std.proofs.Math.Nat.{pow-le-pow_right}
-use Rattle.std.proofs.lemmas.Bool.{cases_lt, cases_Bool, lt-ltb, le-ltb, le-leb, lt-leb}
+use Rattle.std.proofs.lemmas.Bool.{cases_lt, cases_Bool, lt-ltb, le-ltb, le-leb, lt-leb, ltb-true, leb-true}
 use Rattle.std.proofs.lemmas.Int.{ints}
 use Rattle.std.specs.Int.Signed.{mag}
 use Rattle.wasm_reader.specs.declared.error.ErrorKind.{ErrorKind}
@@ -203,3 +203,43 @@ number_at-found s wrong width (b ∷ bytes) later n small e = elim (cases_lt b 1
     | inr narrow ↦ let h = sym (number_at-too_long s wrong width b bytes goes narrow) ∙ e in cc
   ]
 ]
+
+-- ---- which numbers have a spelling
+
+pub spelled_short : {A : Type 0} (s : Style A) (width : ℕ) (bytes : List ℕ) (n : A) → 0 < width → Spells s width bytes n → 7 * length bytes < width + 7
+spelled_short s width [] n some h = absurd h
+spelled_short s width (b ∷ bytes) n some (inl h) = let size : length bytes ≡ 0 = ap length h.1 in omega arith
+spelled_short s width (b ∷ bytes) n some (inr h) = let wide = h.2 in let later = spelled_short s (width - 7) bytes h.3 (omega arith) h.5 in omega arith
+
+pub spelled_unsigned : (width : ℕ) (bytes : List ℕ) (n : ℕ) → Spells unsigned width bytes n → n < 2 ^ width
+spelled_unsigned width [] n h = absurd h
+spelled_unsigned width (b ∷ bytes) n (inl h) = let below = ltb-true b (2 ^ width) h.2 in let same = h.3 in omega arith
+spelled_unsigned width (b ∷ bytes) n (inr h) =
+    let power : 2 ^ width ≡ 2 ^ (width - 7) * 128 = halves 7 width (let wide = h.2 in omega arith) in
+    let later = spelled_unsigned (width - 7) bytes h.3 h.5 in
+    omega (arith, h.1, h.4)
+
+mag_last : (width b : ℕ) → b < 128 → signed.fits width b ≡ true → mag (signed.value b) < 2 ^ (width - 1)
+mag_last width b last fits = elim (cases_lt b 64) [
+  | inl small ↦ rw (lt-ltb b 64 small) (ltb-true b (2 ^ (width - 1)) (rw (lt-ltb b 64 small) at fits))
+  | inr great ↦
+      let value : pos b -ℤ pos 128 ≡ negsuc (127 - b) = omega (arith, ints) in
+      let room = leb-true 128 (b + 2 ^ (width - 1)) (rw (le-ltb b 64 great) at fits) in
+      rw (le-ltb b 64 great, value) (omega arith)
+]
+
+mag_more : (width b : ℕ) (high : ℤ) → 7 < width → b < 128 → mag high < 2 ^ (width - 7 - 1) → mag (pos b +ℤ pos 128 *ℤ high) < 2 ^ (width - 1)
+mag_more width b (pos h) wide small below =
+    let same : width - 1 - 7 ≡ width - 7 - 1 = omega arith in
+    let power : 2 ^ (width - 1) ≡ 2 ^ (width - 7 - 1) * 128 = rw same at (halves 7 (width - 1) (omega arith)) in
+    omega arith
+mag_more width b (negsuc h) wide small below =
+    let same : width - 1 - 7 ≡ width - 7 - 1 = omega arith in
+    let power : 2 ^ (width - 1) ≡ 2 ^ (width - 7 - 1) * 128 = rw same at (halves 7 (width - 1) (omega arith)) in
+    let value : pos b +ℤ pos 128 *ℤ negsuc h ≡ negsuc (128 * h + 127 - b) = omega (arith, ints) in
+    rw value (omega arith)
+
+pub spelled_signed : (width : ℕ) (bytes : List ℕ) (z : ℤ) → Spells signed width bytes z → mag z < 2 ^ (width - 1)
+spelled_signed width [] z h = absurd h
+spelled_signed width (b ∷ bytes) z (inl h) = rw (h.3) (mag_last width b h.0 h.2)
+spelled_signed width (b ∷ bytes) z (inr h) = rw (h.4) (mag_more width (b - 128) h.3 h.2 (omega (arith, h.0, h.1)) (spelled_signed (width - 7) bytes h.3 h.5))

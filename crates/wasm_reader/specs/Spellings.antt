@@ -6,8 +6,8 @@ use Rattle.std.proofs.lemmas.List.{length-append, length-take-le, take-append-dr
 use Rattle.std.proofs.Math.Seq.{take-append_seam, drop-append_seam}
 use Rattle.wasm_reader.specs.declared.error.ErrorKind.{ErrorKind}
 use Rattle.wasm_reader.specs.declared.error.ErrorKind.TheVariants as kinds
-use Rattle.wasm_reader.specs.Reading.{Reading, Fault, fault, ◌>>=◌, next_at, bytes_at}
-use Rattle.wasm_reader.specs.Text.{size_at, text_at, string_at, unlimited_string_at, SpellsText, SpellsName}
+use Rattle.wasm_reader.specs.Reading.{Reading, Fault, fault, ◌>>=◌, next_at, bytes_at, little, little_at, SpellsRun, SpellsLittle}
+use Rattle.wasm_reader.specs.Text.{size_at, text_at, string_at, sized_bytes_at, unlimited_string_at, SpellsSized, SpellsText, SpellsName}
 use Rattle.std.specs.Str.{is_utf8}
 use Rattle.wasm_reader.specs.Numbers.{Style, Spells, number_at, unsigned, unsigned_at}
 use Rattle.wasm_reader.specs.Spelled.{number_at-spelled, number_at-found}
@@ -83,6 +83,40 @@ run_was size bytes run later e = elim (cases_lt (length bytes) size) [
       let back : drop size bytes ≡ later = ap (λ p. p.1) same in
       (ap length (sym front) ∙ length-take-le size bytes there, sym (take-append-drop size bytes) ∙ ap (λ (l : List ℕ). l ++ drop size bytes) front ∙ ap (λ (l : List ℕ). run ++ l) back)
 ]
+
+pub run_taken : (size : ℕ) → TakesSpelled (bytes_at size) (SpellsRun size)
+run_taken size = record {
+  again = λ bytes more run h. rw (sym h.0, h.1) (run_again bytes more);
+  found = λ bytes later run small e. let was = run_was size bytes run later e in (run, (was.0, refl), was.1);
+}
+
+pub little_taken : (size : ℕ) → TakesSpelled (little_at size) (SpellsLittle size)
+unfolding little_at
+little_taken size = record {
+  again = λ bytes more n h. rw (sym h.0, run_again bytes more, h.1) refl;
+  found = λ bytes later n small e.
+      let was = then_was (bytes_at size bytes) (λ run. Ok (little run.0, run.1)) (n, later) e in
+      let same = ok_is (little was.0.0, was.0.1) (n, later) was.2 in
+      let there : was.0.1 ≡ later = ap (λ p. p.1) same in
+      let run = run_was size bytes was.0.0 was.0.1 was.1 in
+      (was.0.0, (run.0, sym (ap (λ p. p.0) same)), run.1 ∙ ap (λ (l : List ℕ). was.0.0 ++ l) there);
+}
+
+pub sized_bytes_taken : TakesSpelled sized_bytes_at SpellsSized
+unfolding sized_bytes_at
+sized_bytes_taken = record {
+  again = λ bytes more run h.
+      rw (h.joined, append_assoc h.size run more, number_at-spelled unsigned kinds.TooLarge 32 h.size (run ++ more) (length run) h.spells)
+      (run_again run more);
+  found = λ bytes later run small e.
+      let was = then_was (unsigned_at 32 bytes) (λ x. bytes_at x.0 x.1) (run, later) e in
+      let size = number_at-found unsigned kinds.TooLarge 32 bytes was.0.1 was.0.0 small was.1 in
+      let body = run_was was.0.0 was.0.1 run later was.2 in (
+        size.0 ++ run,
+        record { size = size.0; spells = subst (λ (n : ℕ). Spells unsigned 32 size.0 n) (sym body.0) size.1; joined = refl },
+        size.2 ∙ ap (λ (l : List ℕ). size.0 ++ l) body.1 ∙ sym (append_assoc size.0 run later),
+      );
+}
 
 text_again : (text more : List ℕ) → is_utf8 text ≡ true → text_at (length text) (text ++ more) ≡ Ok (text, more)
 unfolding text_at

@@ -17,6 +17,12 @@ text_at size bytes = do
   text ← bytes_at size bytes
   if is_utf8 text.0 then Ok text else Err (fault kinds.Utf8 (length bytes))
 
+-- the bytes of a run with its length before it
+pub record SpellsSized (bytes run : List ℕ) : Type 0 where
+  pub size : List ℕ
+  pub spells : Spells unsigned 32 size (length run)
+  pub joined : bytes ≡ size ++ run
+
 -- the bytes of a name: its length, and then its text, which is UTF-8
 pub record SpellsText (bytes text : List ℕ) : Type 0 where
   pub size : List ℕ

@@ -1,13 +1,13 @@
 //! Laws of the readings: functions with nothing to do, whose contracts hold of all bytes.
 
-ghost use Rattle.std.specs.Prelude.{ℕ, ℤ, ◌<◌, ◌≤◌, ◌*◌, ◌-◌, ◌^◌, List, ◌++◌};
+ghost use Rattle.std.specs.Prelude.{ℕ, ℤ, ◌+◌, length, ◌<◌, ◌≤◌, ◌*◌, ◌-◌, ◌^◌, List, ◌++◌};
 ghost use Rattle.std.specs.Int.Signed.{mag};
 ghost use Rattle.wasm_reader.specs.Cursor.{Cursor};
-ghost use Rattle.wasm_reader.specs.Reading.{byte_at, next_at, bytes_at, u7_at, little_at, plain, seen_bytes, seen_window};
+ghost use Rattle.wasm_reader.specs.Reading.{byte_at, next_at, bytes_at, u7_at, little_at, SpellsRun, SpellsLittle, plain, seen_bytes, seen_window};
 ghost use Rattle.wasm_reader.specs.Floats.{seen_bits32, seen_bits64};
 ghost use Rattle.wasm_reader.specs.Numbers.{unsigned, signed, Spells, unsigned_at, signed_at, s33_at};
 ghost use Rattle.wasm_reader.specs.Shortest.{IsShortest, shortest_unsigned, shortest_signed};
-ghost use Rattle.wasm_reader.specs.Text.{SpellsText, SpellsName, size_at, text_at, string_at, sized_bytes_at, unlimited_string_at, skipped_string_at};
+ghost use Rattle.wasm_reader.specs.Text.{SpellsSized, SpellsText, SpellsName, size_at, text_at, string_at, sized_bytes_at, unlimited_string_at, skipped_string_at};
 ghost use Rattle.wasm_reader.specs.Faults.{RefusesExactly};
 ghost use Rattle.wasm_reader.specs.declared.error.ErrorKind.TheVariants.{TooLarge, TooLong};
 ghost use Rattle.wasm_reader.specs.Laws.{IsFinal, GrowsNext, EndsEarly, TakesSpelled, IsPrefixFree, OffsetsMove};
@@ -48,19 +48,25 @@ pub fn fronts_end_early()
     ensures sized { EndsEarly sized_bytes_at }
 {}
 
-/// Bytes are read as a number, or as a name, exactly if they spell it.
+/// Bytes are read as a run of bytes, a number or a name exactly if they spell it.
 pub fn spellings_are_read()
     ensures unsigned { (width : ℕ) → TakesSpelled (unsigned_at width) (Spells unsigned width) }
     ensures signed { (width : ℕ) → TakesSpelled (signed_at width) (Spells signed width) }
     ensures s33 { TakesSpelled s33_at (Spells signed 33) }
+    ensures run { (size : ℕ) → TakesSpelled (bytes_at size) (SpellsRun size) }
+    ensures little { (size : ℕ) → TakesSpelled (little_at size) (SpellsLittle size) }
+    ensures sized { TakesSpelled sized_bytes_at SpellsSized }
     ensures string { TakesSpelled string_at SpellsName }
     ensures unlimited { TakesSpelled unlimited_string_at SpellsText }
 {}
 
-/// No spelling of a number, or of a name, is a proper front of another, and none has two values.
+/// No spelling is a proper front of another of its kind, and none has two values.
 pub fn spellings_are_prefix_free()
     ensures unsigned { (width : ℕ) → IsPrefixFree (Spells unsigned width) }
     ensures signed { (width : ℕ) → IsPrefixFree (Spells signed width) }
+    ensures run { (size : ℕ) → IsPrefixFree (SpellsRun size) }
+    ensures little { (size : ℕ) → IsPrefixFree (SpellsLittle size) }
+    ensures sized { IsPrefixFree SpellsSized }
     ensures name { IsPrefixFree SpellsName }
     ensures text { IsPrefixFree SpellsText }
 {}
@@ -69,6 +75,14 @@ pub fn spellings_are_prefix_free()
 pub fn shortest_spellings_are_shortest()
     ensures unsigned { (count width n : ℕ) → 0 < width → width ≤ 7 * count → n < 2 ^ width → IsShortest unsigned width (shortest_unsigned count n) n }
     ensures signed { (count width : ℕ) (z : ℤ) → 0 < width → width ≤ 7 * count → mag z < 2 ^ (width - 1) → IsShortest signed width (shortest_signed count z) z }
+{}
+
+/// A number that is spelled in N bits fits them, and its spelling has at most ceil(N / 7) bytes.
+pub fn spellings_fit_their_width()
+    ensures unsigned { (width : ℕ) (bytes : List ℕ) (n : ℕ) → Spells unsigned width bytes n → n < 2 ^ width }
+    ensures signed { (width : ℕ) (bytes : List ℕ) (z : ℤ) → Spells signed width bytes z → mag z < 2 ^ (width - 1) }
+    ensures unsigned_size { (width : ℕ) (bytes : List ℕ) (n : ℕ) → 0 < width → Spells unsigned width bytes n → 7 * length bytes < width + 7 }
+    ensures signed_size { (width : ℕ) (bytes : List ℕ) (z : ℤ) → 0 < width → Spells signed width bytes z → 7 * length bytes < width + 7 }
 {}
 
 /// A number of N bits is refused exactly where its first ceil(N / 7) bytes all go on, where its last byte has wrong

@@ -3,7 +3,7 @@
 ghost use Rattle.std.specs.Prelude.{◌≡◌, ◌+◌, ◌-◌, ◌<◌, ◌≤◌, ◌^◌, ◌==◌, length, IfOk, [], ◌∷◌, IsTrue, ◌↔◌, Result, MatchResult};
 ghost use Rattle.std.specs.Fn.{FnOnceReturnsAtMut};
 ghost use Rattle.wasm_reader.specs.declared.error.Error.{Error};
-ghost use Rattle.wasm_reader.specs.Cursor.{Cursor, Forward, read_since, rest, end_of, IsInner, opened, shrunk, with_features};
+ghost use Rattle.wasm_reader.specs.Cursor.{Cursor, Forward, read_since, rest, end_of, IsInner, shrunk, with_features};
 ghost use Rattle.wasm_reader.specs.Floats.{seen_bits32, seen_bits64};
 ghost use Rattle.wasm_features.specs.Features.{features_of, all_names};
 ghost use Rattle.wasm_reader.specs.Text.{sized_bytes_at};
@@ -39,7 +39,10 @@ impl<'a> BinaryReader<'a> {
     /// A reader at the front of `bytes`, whose first byte has this offset, with all features on.
     pub fn new(bytes: &'a [u8], original_offset: u64) -> BinaryReader<'a>
         requires { original_offset + length bytes.now < 2 ^ 64 }
-        ensures { result ≡ opened bytes.now original_offset (features_of all_names) }
+        ensures bytes { result.window.bytes ≡ bytes.now }
+        ensures start { result.window.start ≡ original_offset }
+        ensures position { result.position ≡ 0 }
+        ensures features { result.window.features ≡ features_of all_names }
     {
         BinaryReader::new_features(bytes, original_offset, WasmFeatures::all())
     }
@@ -51,7 +54,10 @@ impl<'a> BinaryReader<'a> {
         features: WasmFeatures,
     ) -> BinaryReader<'a>
         requires { original_offset + length bytes.now < 2 ^ 64 }
-        ensures { result ≡ opened bytes.now original_offset features }
+        ensures bytes { result.window.bytes ≡ bytes.now }
+        ensures start { result.window.start ≡ original_offset }
+        ensures position { result.position ≡ 0 }
+        ensures features { result.window.features ≡ features }
     {
         BinaryReader {
             buffer: bytes,

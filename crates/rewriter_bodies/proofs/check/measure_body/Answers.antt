@@ -63,7 +63,7 @@ returns-then-not-eof-clause-place c =
     let finish : end_of c.new-reader.result ≡ c.args.offset + length c.args.body.now = search rules in
     let ends : end_of c.read_extent.new.reader ≡ c.args.offset + length c.args.body.now = ends_same (c.in_ok-extent.ensures 0).moves ∙ ends_same c.in_ok-locals.ensures.moves ∙ finish in
     let begins : c.read_extent.new.reader.window.start ≡ c.args.offset =
-    ap (λ (w : Window). w.start) ((c.in_ok-extent.ensures 0).moves.window ∙ c.in_ok-locals.ensures.moves.window) ∙ ap (λ (x : Cursor). x.window.start) c.new-reader.ensures in
+    ap (λ (w : Window). w.start) ((c.in_ok-extent.ensures 0).moves.window ∙ c.in_ok-locals.ensures.moves.window) ∙ c.new-reader.ensures.start in
     (omega arith, omega arith, λ e. cc)
 
 pub returns-clause-extent : goal.returns-clause-extent

@@ -1,3 +1,6 @@
+use Rattle.wasm_reader.specs.Spellings.{run_taken, little_taken, sized_bytes_taken}
+use Rattle.wasm_reader.specs.Reading.{bytes_at, little_at, SpellsRun, SpellsLittle}
+use Rattle.wasm_reader.specs.Text.{sized_bytes_at, SpellsSized}
 use Rattle.wasm_reader.specs.declared.error.ErrorKind.TheVariants.{TooLarge}
 use Rattle.wasm_reader.specs.Numbers.{unsigned, signed, Spells, unsigned_at, signed_at}
 use Rattle.wasm_reader.specs.Text.{SpellsName, SpellsText, string_at, unlimited_string_at}
@@ -15,3 +18,12 @@ returns-clause-name c = taken_free string_at SpellsName string_taken
 
 pub returns-clause-text : goal.returns-clause-text
 returns-clause-text c = taken_free unlimited_string_at SpellsText unlimited_string_taken
+
+pub returns-clause-run : goal.returns-clause-run
+returns-clause-run c = λ size. taken_free (bytes_at size) (SpellsRun size) (run_taken size)
+
+pub returns-clause-little : goal.returns-clause-little
+returns-clause-little c = λ size. taken_free (little_at size) (SpellsLittle size) (little_taken size)
+
+pub returns-clause-sized : goal.returns-clause-sized
+returns-clause-sized c = taken_free sized_bytes_at SpellsSized sized_bytes_taken

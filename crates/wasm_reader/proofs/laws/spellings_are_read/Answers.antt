@@ -1,3 +1,4 @@
+use Rattle.wasm_reader.specs.Spellings.{run_taken, little_taken, sized_bytes_taken}
 use Rattle.wasm_reader.specs.declared.error.ErrorKind.TheVariants.{TooLarge, TooLong}
 use Rattle.wasm_reader.specs.Numbers.{unsigned, signed}
 use Rattle.wasm_reader.specs.Spellings.{number_taken, string_taken, unlimited_string_taken}
@@ -17,3 +18,12 @@ returns-clause-string c = string_taken
 
 pub returns-clause-unlimited : goal.returns-clause-unlimited
 returns-clause-unlimited c = unlimited_string_taken
+
+pub returns-clause-run : goal.returns-clause-run
+returns-clause-run c = run_taken
+
+pub returns-clause-little : goal.returns-clause-little
+returns-clause-little c = little_taken
+
+pub returns-clause-sized : goal.returns-clause-sized
+returns-clause-sized c = sized_bytes_taken
