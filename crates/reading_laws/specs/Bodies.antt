@@ -91,19 +91,20 @@ operator_long front (I32Const n) s = omega (arith, ap length s.1)
 
 nests_more : (o : Operator) (place : ℕ) (body : List (Operator × ℕ)) → is_end o ≡ false → Nests body → Nests ((o, place) ∷ body)
 nests_more End place body not n = absurd cc
-nests_more Nop place body not n = n
-nests_more Return place body not n = n
-nests_more Drop place body not n = n
-nests_more (Call f) place body not n = n
-nests_more (I32Const k) place body not n = n
+nests_more _ place body not n = n
+
+-- behind an operator the rest nests, and behind the `end` comes nothing
+nests_behind : (o : Operator) (place : ℕ) (body : List (Operator × ℕ)) → is_end o ≡ false → Nests ((o, place) ∷ body) → Nests body
+nests_behind End place body not n = absurd cc
+nests_behind _ place body not n = n
+
+nests_last : (o : Operator) (place : ℕ) (body : List (Operator × ℕ)) → is_end o ≡ true → Nests ((o, place) ∷ body) → body ≡ []
+nests_last End place body is n = n
+nests_last _ place body is n = absurd cc
 
 is_end_true : (o : Operator) → is_end o ≡ true → o ≡ End
 is_end_true End is = refl
-is_end_true Nop is = absurd cc
-is_end_true Return is = absurd cc
-is_end_true Drop is = absurd cc
-is_end_true (Call f) is = absurd cc
-is_end_true (I32Const k) is = absurd cc
+is_end_true _ is = absurd cc
 
 -- a body nests, and the functions that its operators name are of so many
 pub record IsRuled (functions : ℕ) (body : List (Operator × ℕ)) : Type 0 where
@@ -166,23 +167,17 @@ pub operators_again : (known : Known) (finish turns place : ℕ) (front : List �
 unfolding operators_at
 operators_again known finish turns place front [] rest l le s = absurd s.1.nested
 operators_again known finish zero place front (o ∷ body) rest l le s = absurd (omega (arith, operator_long s.0.0 o.0 s.0.3.0, ap length s.0.2, length-append s.0.0 s.0.1))
-operators_again known finish (suc turns) place front ((End, p) ∷ []) rest l le s = last_again known finish turns place p front s.0.0 s.0.1 rest s.0.2 s.0.3.0 s.0.4 s.0.3.1 l
-operators_again known finish (suc turns) place front ((End, p) ∷ (x ∷ xs)) rest l le s = absurd (let e = s.1.nested in cc)
-operators_again known finish (suc turns) place front ((Nop, p) ∷ body) rest l le s =
-    more_again known finish turns place p front s.0.0 s.0.1 Nop body rest refl s.0.2 (s.0.3.0, s.1.named.0) s.0.3.1 l
-    (operators_again known finish turns (place + length s.0.0) s.0.1 body rest (next_place place finish front s.0.0 s.0.1 rest s.0.2 l) (fewer front s.0.0 s.0.1 Nop turns s.0.2 s.0.3.0 le) (s.0.4, record { nested = s.1.nested; named = s.1.named.1 }))
-operators_again known finish (suc turns) place front ((Return, p) ∷ body) rest l le s =
-    more_again known finish turns place p front s.0.0 s.0.1 Return body rest refl s.0.2 (s.0.3.0, s.1.named.0) s.0.3.1 l
-    (operators_again known finish turns (place + length s.0.0) s.0.1 body rest (next_place place finish front s.0.0 s.0.1 rest s.0.2 l) (fewer front s.0.0 s.0.1 Return turns s.0.2 s.0.3.0 le) (s.0.4, record { nested = s.1.nested; named = s.1.named.1 }))
-operators_again known finish (suc turns) place front ((Drop, p) ∷ body) rest l le s =
-    more_again known finish turns place p front s.0.0 s.0.1 Drop body rest refl s.0.2 (s.0.3.0, s.1.named.0) s.0.3.1 l
-    (operators_again known finish turns (place + length s.0.0) s.0.1 body rest (next_place place finish front s.0.0 s.0.1 rest s.0.2 l) (fewer front s.0.0 s.0.1 Drop turns s.0.2 s.0.3.0 le) (s.0.4, record { nested = s.1.nested; named = s.1.named.1 }))
-operators_again known finish (suc turns) place front ((Call f, p) ∷ body) rest l le s =
-    more_again known finish turns place p front s.0.0 s.0.1 (Call f) body rest refl s.0.2 (s.0.3.0, s.1.named.0) s.0.3.1 l
-    (operators_again known finish turns (place + length s.0.0) s.0.1 body rest (next_place place finish front s.0.0 s.0.1 rest s.0.2 l) (fewer front s.0.0 s.0.1 (Call f) turns s.0.2 s.0.3.0 le) (s.0.4, record { nested = s.1.nested; named = s.1.named.1 }))
-operators_again known finish (suc turns) place front ((I32Const n, p) ∷ body) rest l le s =
-    more_again known finish turns place p front s.0.0 s.0.1 (I32Const n) body rest refl s.0.2 (s.0.3.0, s.1.named.0) s.0.3.1 l
-    (operators_again known finish turns (place + length s.0.0) s.0.1 body rest (next_place place finish front s.0.0 s.0.1 rest s.0.2 l) (fewer front s.0.0 s.0.1 (I32Const n) turns s.0.2 s.0.3.0 le) (s.0.4, record { nested = s.1.nested; named = s.1.named.1 }))
+operators_again known finish (suc turns) place front ((o, p) ∷ body) rest l le s =
+    elim (cases_Bool (is_end o)) [
+      | inl is ↦
+          let one : body ≡ [] = nests_last o p body is s.1.nested in
+          let first : s.0.0 ≡ 0x0b ∷ [] = subst (λ (x : Operator). SpellsOperator s.0.0 x) (is_end_true o is) s.0.3.0 in
+          let next : s.0.1 ≡ [] = subst (λ (b : List (Operator × ℕ)). SpellsEachAt SpellsPlaced (place + length s.0.0) s.0.1 b) one s.0.4 in
+          rw (is_end_true o is, one) (last_again known finish turns place p front s.0.0 s.0.1 rest s.0.2 first next s.0.3.1 l)
+      | inr not ↦ more_again known finish turns place p front s.0.0 s.0.1 o body rest not s.0.2 (s.0.3.0, s.1.named.0) s.0.3.1 l
+          (operators_again known finish turns (place + length s.0.0) s.0.1 body rest (next_place place finish front s.0.0 s.0.1 rest s.0.2 l) (fewer front s.0.0 s.0.1 o turns s.0.2 s.0.3.0 le)
+          (s.0.4, record { nested = nests_behind o p body not s.1.nested; named = s.1.named.1 }))
+    ]
 
 -- a body that begins at a place: no locals, and its operators
 pub record IsBody (functions place : ℕ) (bytes : List ℕ) (code : Code) : Type 0 where

@@ -9,8 +9,8 @@ use Rattle.std.proofs.lemmas.List.{append-nil, take-append-drop, length-map}
 use Rattle.std.proofs.lemmas.List.Elements.{All-from_recursion, recursion_from_All}
 use Rattle.wasm_model.specs.Features.{Features, Known}
 use Rattle.wasm_model.specs.Grammar.{SpellsU32, SpellsEach, SpellsVec, SpellsSection}
-use Rattle.wasm_model.specs.Module.{Module, Function, FunctionType, Operator, Nop, I32Const, Drop, Return, Call, End, Export, Item, FunctionItem, TypeItem}
-use Rattle.wasm_model.specs.Spells.{Code, code_of, SpellsItem, SpellsFunctionType, SpellsExport, SpellsStart, SpellsCodes, header}
+use Rattle.wasm_model.specs.Module.{Module, Function, FunctionType, Operator, Call, Export, Item, FunctionItem, TypeItem}
+use Rattle.wasm_model.specs.Spells.{Code, code_of, SpellsItem, SpellsFunctionType, SpellsExport, SpellsCodes, header}
 use Rattle.wasm_model.specs.Rules.{IsItem, Nests, NamesItems, Rules, Reads}
 use Rattle.wasm_model.specs.Stop.{vec_at}
 use Rattle.wasm_model.specs.Sections.{Chunk, Chunks, no_chunks, Sections, type_entry, function_entry, export_entry, start_at, chunks_at, section_at, latest, end_at, sections_at, codes_at, functions_of, module_at}
@@ -142,22 +142,14 @@ start_is_item : (s : Sections) (codes : List Code) → length (functions_of s.fu
 start_is_item s codes same None h = tt
 start_is_item s codes same (Some f) h = rw same h
 
--- the functions that an operator names are items, and those are among so many
+-- an operator names items of a module of so many functions exactly where those functions are among them
 named_is_item : (m : Module) (functions : ℕ) → length m.functions ≡ functions → (o : Operator) → IsNamed functions o → NamesItems m o
 named_is_item m functions same (Call f) h = rw same h
-named_is_item m functions same Nop h = tt
-named_is_item m functions same (I32Const n) h = tt
-named_is_item m functions same Drop h = tt
-named_is_item m functions same Return h = tt
-named_is_item m functions same End h = tt
+named_is_item m functions same _ h = tt
 
 item_is_named : (m : Module) (functions : ℕ) → functions ≡ length m.functions → (o : Operator) → NamesItems m o → IsNamed functions o
 item_is_named m functions same (Call f) h = rw same h
-item_is_named m functions same Nop h = tt
-item_is_named m functions same (I32Const n) h = tt
-item_is_named m functions same Drop h = tt
-item_is_named m functions same Return h = tt
-item_is_named m functions same End h = tt
+item_is_named m functions same _ h = tt
 
 -- the rules of a module's bodies
 bodies_nested : (functions : ℕ) (fs : List Function) → AllByRecursion (λ f. IsRuled functions f.body) fs → AllByRecursion (λ f. Nests f.body) fs
