@@ -7,9 +7,8 @@ use Rattle.std.proofs.lemmas.Bool.{cases_lt, cases_Bool, eqb-true, eq-eqb, lt-lt
 use Rattle.std.proofs.lemmas.List.{length-append, append-nil}
 use Rattle.wasm_reader.specs.Reading.{bytes_at}
 use Rattle.wasm_reader.specs.Numbers.{unsigned_at}
-use Rattle.wasm_model.specs.Features.{Features}
+use Rattle.wasm_model.specs.Features.{Known}
 use Rattle.wasm_model.specs.Grammar.{Grammar, SpellsU32, SpellsEachAt, SpellsSection}
-use Rattle.wasm_model.specs.Rules.{Nests}
 use Rattle.wasm_model.specs.Spells.{Code, SpellsPlaced, SpellsCode}
 use Rattle.wasm_model.specs.Stop.{value_at, before, entries_at}
 use Rattle.wasm_model.specs.Bodies.{code_at}
@@ -18,7 +17,7 @@ use Rattle.reading_laws.specs.Steps.{AreBytes, Takes, then_ok, before_ok, value_
 use Rattle.reading_laws.specs.Lists.{u32_found, u32_again}
 use Rattle.reading_laws.specs.Exports.{run_found, run_again}
 use Rattle.reading_laws.specs.Framing.{IsParsed, IsElse, section_again, section_absent}
-use Rattle.reading_laws.specs.Bodies.{IsBody, body_found, body_again}
+use Rattle.reading_laws.specs.Bodies.{IsRuled, IsBody, body_found, body_again}
 
 -- a body's size and its bytes, which begin where the chunk says
 pub record IsChunk (place : ℕ) (front : List ℕ) (chunk : Chunk) : Type 0 where
@@ -173,23 +172,23 @@ chunk_section_again front chunks rest (inr h) else = record {
 }
 
 -- the bodies of chunks
-pub codes_found : (features : Features) (left place : ℕ) (front : List ℕ) (chunks : List Chunk) (codes : List Code)
-    → SpellsEachAt IsChunk place front chunks → AreBytes front → codes_at features left chunks ≡ Ok codes
-    → SpellsEachAt SpellsCode place front codes × AllByRecursion (λ c. Nests c.body) codes × (length codes ≡ length chunks)
+pub codes_found : (known : Known) (left place : ℕ) (front : List ℕ) (chunks : List Chunk) (codes : List Code)
+    → SpellsEachAt IsChunk place front chunks → AreBytes front → codes_at known left chunks ≡ Ok codes
+    → SpellsEachAt SpellsCode place front codes × AllByRecursion (λ c. IsRuled known.functions c.body) codes × (length codes ≡ length chunks)
 unfolding codes_at
-codes_found features left place front [] codes s h e = subst (λ (z : List Code). SpellsEachAt SpellsCode place front z × AllByRecursion (λ c. Nests c.body) z × (length z ≡ 0)) (ok_is _ _ e) (s, tt, refl)
-codes_found features left place front (chunk ∷ chunks) codes s h e =
-    then_ok (before (left - (chunk.place + length chunk.bytes)) (code_at features chunk.place chunk.bytes)) _ codes e (λ code p q.
-    then_ok (codes_at features left chunks) _ codes q (λ more r t.
+codes_found known left place front [] codes s h e = subst (λ (z : List Code). SpellsEachAt SpellsCode place front z × AllByRecursion (λ c. IsRuled known.functions c.body) z × (length z ≡ 0)) (ok_is _ _ e) (s, tt, refl)
+codes_found known left place front (chunk ∷ chunks) codes s h e =
+    then_ok (before (left - (chunk.place + length chunk.bytes)) (code_at known chunk.place chunk.bytes)) _ codes e (λ code p q.
+    then_ok (codes_at known left chunks) _ codes q (λ more r t.
     let first = bytes_front s.0 s.1 (subst AreBytes s.2 h) in
-    let b = body_found features chunk.place chunk.bytes code (bytes_behind s.3.size chunk.bytes s.0 s.3.whole first) (before_ok (left - (chunk.place + length chunk.bytes)) (code_at features chunk.place chunk.bytes) code p) in
-    let m = codes_found features left (place + length s.0) s.1 chunks more s.4 (bytes_behind s.0 s.1 front s.2 h) r in
+    let b = body_found known chunk.place chunk.bytes code (bytes_behind s.3.size chunk.bytes s.0 s.3.whole first) (before_ok (left - (chunk.place + length chunk.bytes)) (code_at known chunk.place chunk.bytes) code p) in
+    let m = codes_found known left (place + length s.0) s.1 chunks more s.4 (bytes_behind s.0 s.1 front s.2 h) r in
     let chunk_spells : SpellsCode place s.0 code = code_front place s.0 s.3.size chunk code s.3.whole s.3.sized s.3.short s.3.placed b in
-    subst (λ (z : List Code). SpellsEachAt SpellsCode place front z × AllByRecursion (λ c. Nests c.body) z × (length z ≡ suc (length chunks))) (ok_is (code ∷ more) codes t)
-    ((s.0, s.1, s.2, chunk_spells, m.0), (b.nested, m.1), ap (λ (n : ℕ). suc n) m.2)))
+    subst (λ (z : List Code). SpellsEachAt SpellsCode place front z × AllByRecursion (λ c. IsRuled known.functions c.body) z × (length z ≡ suc (length chunks))) (ok_is (code ∷ more) codes t)
+    ((s.0, s.1, s.2, chunk_spells, m.0), (b.ruled, m.1), ap (λ (n : ℕ). suc n) m.2)))
   where
     code_front : (place : ℕ) (front size : List ℕ) (chunk : Chunk) (code : Code) → front ≡ size ++ chunk.bytes → SpellsU32 size (length chunk.bytes) → length chunk.bytes ≤ 7654321
-        → chunk.place ≡ place + length size → IsBody chunk.place chunk.bytes code → SpellsCode place front code
+        → chunk.place ≡ place + length size → IsBody known.functions chunk.place chunk.bytes code → SpellsCode place front code
     code_front place front size chunk code whole sized short placed b =
         let long : length chunk.bytes ≡ length b.locals + length b.operators = ap length b.whole ∙ length-append b.locals b.operators in
         record {
@@ -204,24 +203,24 @@ codes_found features left place front (chunk ∷ chunks) codes s h e =
         }
 
 -- chunks of which these are the bodies
-pub record ReadsCodes (features : Features) (place : ℕ) (front : List ℕ) (codes : List Code) : Type 0 where
+pub record ReadsCodes (known : Known) (place : ℕ) (front : List ℕ) (codes : List Code) : Type 0 where
   pub chunks : List Chunk
   pub spelled : SpellsEachAt IsChunk place front chunks
   pub counted : length chunks ≡ length codes
-  pub reads : (left : ℕ) → codes_at features left chunks ≡ Ok codes
+  pub reads : (left : ℕ) → codes_at known left chunks ≡ Ok codes
 
-pub codes_again : (features : Features) (place : ℕ) (front : List ℕ) (codes : List Code)
-    → SpellsEachAt SpellsCode place front codes → AllByRecursion (λ c. Nests c.body) codes → ReadsCodes features place front codes
+pub codes_again : (known : Known) (place : ℕ) (front : List ℕ) (codes : List Code)
+    → SpellsEachAt SpellsCode place front codes → AllByRecursion (λ c. IsRuled known.functions c.body) codes → ReadsCodes known place front codes
 unfolding codes_at
-codes_again features place front [] s n = record { chunks = []; spelled = s; counted = refl; reads = λ left. refl }
-codes_again features place front (code ∷ codes) s n =
+codes_again known place front [] s n = record { chunks = []; spelled = s; counted = refl; reads = λ left. refl }
+codes_again known place front (code ∷ codes) s n =
     let c = s.3 in
-    let more = codes_again features (place + length s.0) s.1 codes s.4 n.1 in
+    let more = codes_again known (place + length s.0) s.1 codes s.4 n.1 in
     let long : length (c.locals ++ c.operators) ≡ length c.locals + length c.operators = length-append c.locals c.operators in
-    let body : IsBody (place + length c.size) (c.locals ++ c.operators) code = record { locals = c.locals; operators = c.operators; whole = refl; declares = c.declares; acts = c.acts; nested = n.0 } in
+    let body : IsBody known.functions (place + length c.size) (c.locals ++ c.operators) code = record { locals = c.locals; operators = c.operators; whole = refl; declares = c.declares; acts = c.acts; ruled = n.0 } in
     record {
       chunks = record { place = place + length c.size; bytes = c.locals ++ c.operators } ∷ more.chunks;
       spelled = (s.0, s.1, s.2, record { size = c.size; whole = c.whole; sized = subst (λ (k : ℕ). SpellsU32 c.size k) (sym long) c.sized; short = omega (arith, c.short); placed = refl }, more.spelled);
       counted = ap (λ (k : ℕ). suc k) more.counted;
-      reads = λ left. rw (body_again features (place + length c.size) (c.locals ++ c.operators) code body, more.reads left) refl;
+      reads = λ left. rw (body_again known (place + length c.size) (c.locals ++ c.operators) code body, more.reads left) refl;
     }

@@ -5,6 +5,7 @@ pub mod Types
 pub mod Exports
 pub mod Bodies
 pub mod Framing
+pub mod Start
 pub mod Codes
 pub mod Ruled
 pub mod Modules

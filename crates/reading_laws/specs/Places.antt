@@ -11,12 +11,12 @@ use Rattle.wasm_reader.specs.Reading.{Reading, bytes_at}
 use Rattle.wasm_reader.specs.Reading.{◌>>=◌ as ◌>>>◌}
 use Rattle.wasm_reader.specs.Numbers.{Style, unsigned, signed, number_at, unsigned_at, signed_at}
 use Rattle.wasm_reader.specs.Text.{size_at, text_at, string_at}
-use Rattle.wasm_model.specs.Features.{Features}
+use Rattle.wasm_model.specs.Features.{Features, Known}
 use Rattle.wasm_model.specs.Module.{FunctionType, Export}
 use Rattle.wasm_model.specs.Stop.{is_known, Stop, Parsing, ◌>>=◌, value_at, entries_at, vec_at}
 use Rattle.wasm_model.specs.Bodies.{trouble_at_code, trouble_at_number, is_end, operator_at, operators_at, code_at}
 use Rattle.wasm_model.specs.OperatorTable.{among, is_prefix, is_operator, is_prefixed_operator, is_part}
-use Rattle.wasm_model.specs.Sections.{same_name, trouble_at_type, reference_bytes, group_bytes, value_type_at, value_types_at, function_type_at, type_entry, function_entry, kind_at, export_entry, Chunk, Chunks, chunk_entry, chunks_at}
+use Rattle.wasm_model.specs.Sections.{same_name, trouble_at_type, reference_bytes, group_bytes, value_type_at, value_types_at, function_type_at, type_entry, function_entry, kind_at, export_entry, Chunk, Chunks, start_at, chunk_entry, chunks_at}
 use Rattle.reading_laws.specs.Steps.{ok_is}
 
 -- what is parsed has the property, or parsing stops for a trouble of the bytes with at most so many left
@@ -181,7 +181,7 @@ function_entry_within types earlier bytes = within_then (AtMost (length bytes)) 
       ])
     ])
 
--- ---- exports
+-- ---- exports and the start function
 
 pub kind_within : (bytes : List ℕ) → IsWithin (AtMost (length bytes)) (length bytes) (kind_at bytes)
 unfolding kind_at
@@ -213,6 +213,14 @@ export_entry_within functions earlier bytes =
       ])
     ])))
 
+pub start_within : (functions : ℕ) (bytes : List ℕ) → IsWithin (AtMost (length bytes)) (length bytes) (start_at functions bytes)
+unfolding start_at
+start_within functions bytes = within_then (AtMost (length bytes)) (AtMost (length bytes)) (length bytes) (value_at (unsigned_at 32 bytes)) _ (u32_within bytes) (λ x le.
+    elim (cases_Bool (nat_lt x.0 functions)) [
+      | inl below ↦ rw below le
+      | inr past ↦ rw past (omega arith, refl)
+    ])
+
 -- ---- bodies
 
 code_trouble : (features : Features) (code : ℕ) → is_known (trouble_at_code features code) ≡ true
@@ -232,10 +240,10 @@ prefixed_trouble features code number =
       | inr not ↦ rw not refl
     ]
 
-pub operator_within : (features : Features) (bytes : List ℕ) → IsWithin (AtMost (length bytes)) (length bytes) (operator_at features bytes)
+pub operator_within : (known : Known) (bytes : List ℕ) → IsWithin (AtMost (length bytes)) (length bytes) (operator_at known bytes)
 unfolding operator_at
-operator_within features [] = (omega arith, refl)
-operator_within features (b ∷ bytes) =
+operator_within known [] = (omega arith, refl)
+operator_within known (b ∷ bytes) =
     let n = length (b ∷ bytes) in
     let le : length bytes ≤ n = omega arith in
     let more : length bytes + 1 ≤ n = omega arith in
@@ -247,13 +255,21 @@ operator_within features (b ∷ bytes) =
           | inl is ↦ rw is le
           | inr not0f ↦ rw not0f (elim (cases_Bool (b == 0x1a)) [
             | inl is ↦ rw is le
-            | inr not1a ↦ rw not1a (elim (cases_Bool (b == 0x41)) [
-              | inl is ↦ rw is (within_then (AtMost n) (AtMost n) n (value_at (signed_at 32 bytes)) _
-                  (value_within n (signed_at 32 bytes) (read_wider (length bytes) n (signed_at 32 bytes) le (number_within signed kinds.TooLarge 32 bytes))) (λ x less. less))
-              | inr not41 ↦ rw not41 (elim (cases_Bool (is_prefix b)) [
-                | inl is ↦ rw is (within_then (AtMost n) (AtMost n) n (value_at (unsigned_at 32 bytes)) _
-                    (value_within n (unsigned_at 32 bytes) (read_wider (length bytes) n (unsigned_at 32 bytes) le (number_within unsigned kinds.TooLarge 32 bytes))) (λ x less. (more, prefixed_trouble features b x.0)))
-                | inr none ↦ rw none (more, code_trouble features b)
+            | inr not1a ↦ rw not1a (elim (cases_Bool (b == 0x10)) [
+              | inl is ↦ rw is (within_then (AtMost n) (AtMost n) n (value_at (unsigned_at 32 bytes)) _
+                  (value_within n (unsigned_at 32 bytes) (read_wider (length bytes) n (unsigned_at 32 bytes) le (number_within unsigned kinds.TooLarge 32 bytes))) (λ x less.
+                  elim (cases_Bool (nat_lt x.0 known.functions)) [
+                    | inl below ↦ rw below less
+                    | inr past ↦ rw past (more, refl)
+                  ]))
+              | inr not10 ↦ rw not10 (elim (cases_Bool (b == 0x41)) [
+                | inl is ↦ rw is (within_then (AtMost n) (AtMost n) n (value_at (signed_at 32 bytes)) _
+                    (value_within n (signed_at 32 bytes) (read_wider (length bytes) n (signed_at 32 bytes) le (number_within signed kinds.TooLarge 32 bytes))) (λ x less. less))
+                | inr not41 ↦ rw not41 (elim (cases_Bool (is_prefix b)) [
+                  | inl is ↦ rw is (within_then (AtMost n) (AtMost n) n (value_at (unsigned_at 32 bytes)) _
+                      (value_within n (unsigned_at 32 bytes) (read_wider (length bytes) n (unsigned_at 32 bytes) le (number_within unsigned kinds.TooLarge 32 bytes))) (λ x less. (more, prefixed_trouble known.features b x.0)))
+                  | inr none ↦ rw none (more, code_trouble known.features b)
+                ])
               ])
             ])
           ])
@@ -261,29 +277,29 @@ operator_within features (b ∷ bytes) =
       ])
     ]
 
-pub operators_within : (features : Features) (finish turns : ℕ) (bytes : List ℕ) → IsWithin (AtMost (length bytes)) (length bytes) (operators_at features finish turns bytes)
+pub operators_within : (known : Known) (finish turns : ℕ) (bytes : List ℕ) → IsWithin (AtMost (length bytes)) (length bytes) (operators_at known finish turns bytes)
 unfolding operators_at
-operators_within features finish zero bytes = (omega arith, refl)
-operators_within features finish (suc turns) bytes =
+operators_within known finish zero bytes = (omega arith, refl)
+operators_within known finish (suc turns) bytes =
     let n = length bytes in
-    within_then (AtMost n) (AtMost n) n (operator_at features bytes) _ (operator_within features bytes) (λ o le.
+    within_then (AtMost n) (AtMost n) n (operator_at known bytes) _ (operator_within known bytes) (λ o le.
     elim (cases_Bool (is_end o.0)) [
       | inl is ↦ rw is le
-      | inr not ↦ rw not (within_then (AtMost n) (AtMost n) n (operators_at features finish turns o.1) _ (within_wider (length o.1) n (operators_at features finish turns o.1) le (operators_within features finish turns o.1)) (λ more less. less))
+      | inr not ↦ rw not (within_then (AtMost n) (AtMost n) n (operators_at known finish turns o.1) _ (within_wider (length o.1) n (operators_at known finish turns o.1) le (operators_within known finish turns o.1)) (λ more less. less))
     ])
 
 -- nothing is said of what is parsed
 abbrev pub Anything : {A : Type 0} → A → Type 0
 Anything x = Unit {0}
 
-pub code_within : (features : Features) (place : ℕ) (bytes : List ℕ) → IsWithin Anything (length bytes) (code_at features place bytes)
+pub code_within : (known : Known) (place : ℕ) (bytes : List ℕ) → IsWithin Anything (length bytes) (code_at known place bytes)
 unfolding code_at
-code_within features place bytes =
+code_within known place bytes =
     let n = length bytes in
     within_then (AtMost n) Anything n (value_at (unsigned_at 32 bytes)) _ (u32_within bytes) (λ count le.
     elim (cases_Bool (count.0 == 0)) [
-      | inl is ↦ rw is (within_then (AtMost n) Anything n (operators_at features (place + n) (length count.1) count.1) _
-          (within_wider (length count.1) n (operators_at features (place + n) (length count.1) count.1) le (operators_within features (place + n) (length count.1) count.1)) (λ body less.
+      | inl is ↦ rw is (within_then (AtMost n) Anything n (operators_at known (place + n) (length count.1) count.1) _
+          (within_wider (length count.1) n (operators_at known (place + n) (length count.1) count.1) le (operators_within known (place + n) (length count.1) count.1)) (λ body less.
           elim (cases_Bool (length body.1 == 0)) [
             | inl ends ↦ rw ends tt
             | inr goes_on ↦ rw goes_on (less, refl)

@@ -112,3 +112,12 @@ coded_all P (f ∷ fs) h = (h.0, coded_all P fs h.1)
 pub all_coded : (P : Code → Type 0) (fs : List Function) → AllByRecursion (λ f. P (code_of f)) fs → AllByRecursion P (map code_of fs)
 all_coded P [] h = tt
 all_coded P (f ∷ fs) h = (h.0, all_coded P fs h.1)
+
+-- what follows of each element
+pub each_all : {A : Type 0} (P Q : A → Type 0) → ((x : A) → P x → Q x) → (xs : List A) → AllByRecursion P xs → AllByRecursion Q xs
+each_all P Q each [] h = tt
+each_all P Q each (x ∷ xs) h = (each x h.0, each_all P Q each xs h.1)
+
+pub all_both : {A : Type 0} (P Q R : A → Type 0) → ((x : A) → P x → Q x → R x) → (xs : List A) → AllByRecursion P xs → AllByRecursion Q xs → AllByRecursion R xs
+all_both P Q R each [] h k = tt
+all_both P Q R each (x ∷ xs) h k = (each x h.0 k.0, all_both P Q R each xs h.1 k.1)

@@ -8,17 +8,17 @@ use Rattle.std.proofs.lemmas.List.{length-take, length-drop}
 use Rattle.wasm_reader.specs.Numbers.{unsigned_at}
 use Rattle.wasm_model.specs.declared.fault.Fault.{Fault}
 use Rattle.wasm_model.specs.declared.fault.Fault.TheVariants as faults
-use Rattle.wasm_model.specs.Features.{Features}
+use Rattle.wasm_model.specs.Features.{Features, Known}
 use Rattle.wasm_model.specs.Module.{Module}
 use Rattle.wasm_model.specs.Rules.{Reads}
 use Rattle.wasm_model.specs.Spells.{header}
 use Rattle.wasm_model.specs.Stop.{Stop, stop, Parsing, value_at, before, vec_at, Trouble, Read, Header, SectionOrder, SectionSize, Count, Index, TypeForm, ConstExpr, OffsetType, Nesting, Position, Unsupported, DuplicateExport, Bounds, Limit, Other, trouble_of, place_of, is_known, is_in_bytes}
 use Rattle.wasm_model.specs.Stop.{Operator as UnknownOperator}
 use Rattle.wasm_model.specs.Bodies.{code_at}
-use Rattle.wasm_model.specs.Sections.{type_entry, function_entry, export_entry, Chunk, Chunks, no_chunks, chunks_at, contents_at, section_at, rank, trouble_at_id, latest, end_at, Sections, sections_at, codes_at, module_at, Stops}
+use Rattle.wasm_model.specs.Sections.{type_entry, function_entry, export_entry, start_at, Chunk, Chunks, no_chunks, chunks_at, contents_at, section_at, rank, trouble_at_id, latest, end_at, Sections, sections_at, codes_at, module_at, Stops}
 use Rattle.reading_laws.specs.Steps.{AreBytes}
 use Rattle.reading_laws.specs.Modules.{module_found}
-use Rattle.reading_laws.specs.Places.{IsWithin, AtMost, Anything, IsShort, AreShort, within_then, within_wider, u32_within, vec_within, type_entry_within, function_entry_within, export_entry_within, code_within, chunks_at_within}
+use Rattle.reading_laws.specs.Places.{IsWithin, AtMost, Anything, IsShort, AreShort, within_then, within_wider, u32_within, vec_within, type_entry_within, function_entry_within, export_entry_within, start_within, code_within, chunks_at_within}
 
 within_before : {A : Type 0} (P : A → Type 0) (m after n : ℕ) (r : Result A Stop) → m + after ≤ n → IsWithin P m r → IsWithin P n (before after r)
 within_before P m after n (Ok x) le h = h
@@ -57,12 +57,15 @@ section_within {A} Q n id parsing within (b ∷ bytes) le =
       | inr other ↦ rw other (le, tt)
     ]
 
+with_anything : {A : Type 0} (m : ℕ) (r : Parsing A) → IsWithin (AtMost m) m r → IsWithin (λ x. AtMost m x × Anything x.0) m r
+with_anything m (Ok x) h = (h, tt)
+with_anything m (Err d) h = h
+
 vec_contents : {A : Type 0} (n : ℕ) (entry : List A → List ℕ → Parsing A) → ((earlier : List A) (bytes : List ℕ) → IsWithin (AtMost (length bytes)) (length bytes) (entry earlier bytes)) → IsContentsWithin Anything n (λ _. vec_at entry)
 vec_contents n entry within after contents le = with_anything (length contents) (vec_at entry contents) (vec_within entry within contents)
-  where
-    with_anything : {A : Type 0} (m : ℕ) (r : Parsing A) → IsWithin (AtMost m) m r → IsWithin (λ x. AtMost m x × Anything x.0) m r
-    with_anything m (Ok x) h = (h, tt)
-    with_anything m (Err d) h = h
+
+start_contents : (n functions : ℕ) → IsContentsWithin Anything n (λ _. start_at functions)
+start_contents n functions after contents le = with_anything (length contents) (start_at functions contents) (start_within functions contents)
 
 id_trouble : (last id : ℕ) → is_known (trouble_at_id last id) ≡ true
 id_trouble last id =
@@ -94,22 +97,24 @@ sections_within bytes =
     let bodies = length (unwrap_or functions.0 []) in
     within_then (λ x. AtMost n x × IfSome x.0 Anything) (λ s. AreShort n s.chunks) n (section_at 7 (λ _. vec_at (export_entry bodies)) functions.1) _
     (section_within Anything n 7 (λ _. vec_at (export_entry bodies)) (vec_contents n (export_entry bodies) (export_entry_within bodies)) functions.1 h2.0) (λ exports h3.
-    within_then (λ x. AtMost n x × IfSome x.0 (AreShort n)) (λ s. AreShort n s.chunks) n (section_at 10 (chunks_at bodies) exports.1) _
-    (section_within (AreShort n) n 10 (chunks_at bodies) (λ after contents le. chunks_at_within bodies n after contents le) exports.1 h3.0) (λ chunks h4.
-    let last = latest chunks.0 10 (latest exports.0 7 (latest functions.0 3 (latest types.0 1 0))) in
-    within_then Anything (λ s. AreShort n s.chunks) n (end_at last chunks.1) _ (end_within n last chunks.1 h4.0) (λ end h5.
+    within_then (λ x. AtMost n x × IfSome x.0 Anything) (λ s. AreShort n s.chunks) n (section_at 8 (λ _. start_at bodies) exports.1) _
+    (section_within Anything n 8 (λ _. start_at bodies) (start_contents n bodies) exports.1 h3.0) (λ start h4.
+    within_then (λ x. AtMost n x × IfSome x.0 (AreShort n)) (λ s. AreShort n s.chunks) n (section_at 10 (chunks_at bodies) start.1) _
+    (section_within (AreShort n) n 10 (chunks_at bodies) (λ after contents le. chunks_at_within bodies n after contents le) start.1 h4.0) (λ chunks h5.
+    let last = latest chunks.0 10 (latest start.0 8 (latest exports.0 7 (latest functions.0 3 (latest types.0 1 0)))) in
+    within_then Anything (λ s. AreShort n s.chunks) n (end_at last chunks.1) _ (end_within n last chunks.1 h5.0) (λ end h6.
     elim (cases_Bool (is_none chunks.0 && nat_lt 0 bodies)) [
       | inl missing ↦ rw missing (omega arith, refl)
-      | inr there ↦ rw there (short_or_none n chunks.0 h4.1)
-    ])))))
+      | inr there ↦ rw there (short_or_none n chunks.0 h5.1)
+    ]))))))
 
-pub codes_within : (features : Features) (n left : ℕ) (chunks : List Chunk) → left ≤ n → AllByRecursion (IsShort n) chunks → IsWithin Anything n (codes_at features left chunks)
+pub codes_within : (known : Known) (n left : ℕ) (chunks : List Chunk) → left ≤ n → AllByRecursion (IsShort n) chunks → IsWithin Anything n (codes_at known left chunks)
 unfolding codes_at
-codes_within features n left [] le h = tt
-codes_within features n left (chunk ∷ chunks) le h =
-    within_then Anything Anything n (before (left - (chunk.place + length chunk.bytes)) (code_at features chunk.place chunk.bytes)) _
-    (within_before Anything (length chunk.bytes) (left - (chunk.place + length chunk.bytes)) n (code_at features chunk.place chunk.bytes) (omega (arith, h.0)) (code_within features chunk.place chunk.bytes)) (λ code k1.
-    within_then Anything Anything n (codes_at features left chunks) _ (codes_within features n left chunks le h.1) (λ codes k2. tt))
+codes_within known n left [] le h = tt
+codes_within known n left (chunk ∷ chunks) le h =
+    within_then Anything Anything n (before (left - (chunk.place + length chunk.bytes)) (code_at known chunk.place chunk.bytes)) _
+    (within_before Anything (length chunk.bytes) (left - (chunk.place + length chunk.bytes)) n (code_at known chunk.place chunk.bytes) (omega (arith, h.0)) (code_within known chunk.place chunk.bytes)) (λ code k1.
+    within_then Anything Anything n (codes_at known left chunks) _ (codes_within known n left chunks le h.1) (λ codes k2. tt))
 
 sections_wider : (m n : ℕ) (r : Result Sections Stop) → m ≤ n → IsWithin (λ s. AreShort m s.chunks) m r → IsWithin (λ s. AreShort m s.chunks) n r
 sections_wider m n (Ok x) le h = h
@@ -128,7 +133,8 @@ module_within features bytes =
     let le : m ≤ n = omega (arith, length-drop 8 bytes) in
     elim (cases_Bool (starts_with nat_eq bytes header)) [
       | inl begins ↦ rw begins (within_then (λ s. AreShort m s.chunks) Anything n (sections_at (drop 8 bytes)) _ (sections_wider m n (sections_at (drop 8 bytes)) le (sections_within (drop 8 bytes))) (λ s h.
-          within_then Anything Anything n (codes_at features s.chunks.left s.chunks.bodies) _ (anything_wider m n (codes_at features s.chunks.left s.chunks.bodies) le (codes_within features m s.chunks.left s.chunks.bodies h.0 h.1)) (λ codes k. tt)))
+          let known : Known = record { features = features; functions = length s.functions } in
+          within_then Anything Anything n (codes_at known s.chunks.left s.chunks.bodies) _ (anything_wider m n (codes_at known s.chunks.left s.chunks.bodies) le (codes_within known m s.chunks.left s.chunks.bodies h.0 h.1)) (λ codes k. tt)))
       | inr other ↦ rw other (omega arith, refl)
     ]
 

@@ -1,5 +1,5 @@
 -- Worked rows: a module, and where its prefixes stop.
-use Rattle.std.specs.Prelude.{ℕ, ◌≡◌, List, [], ◌∷◌, ◌++◌, take, Ok}
+use Rattle.std.specs.Prelude.{ℕ, ◌≡◌, List, [], ◌∷◌, ◌++◌, take, Some, None, Ok}
 use Rattle.std.proofs.Common.{refl, arith}
 use Rattle.std.specs.Str.{is_utf8, chars}
 use lib.Utf8.{encode}
@@ -13,8 +13,8 @@ use Rattle.wasm_model.specs.declared.fault.Fault.TheVariants as faults
 use Rattle.wasm_model.specs.declared.fault.Space.TheVariants as spaces
 use Rattle.wasm_model.specs.Features.{Features}
 use Rattle.wasm_model.specs.Spells.{header}
-use Rattle.wasm_model.specs.Module.{Module, Nop, End, FunctionItem}
-use Rattle.wasm_model.specs.Sections.{module_at, Stops, sections_at, section_at, contents_at, chunks_at, chunk_entry, codes_at, export_entry, function_entry, type_entry, function_type_at, value_types_at, kind_at}
+use Rattle.wasm_model.specs.Module.{Module, Nop, Call, End, FunctionItem}
+use Rattle.wasm_model.specs.Sections.{module_at, Stops, sections_at, section_at, contents_at, chunks_at, chunk_entry, codes_at, export_entry, function_entry, type_entry, function_type_at, value_types_at, kind_at, start_at}
 
 -- a type without parameters and results, a function of it that is exported as `f`, and its body: nop, end
 abbrev pub example : List ℕ
@@ -27,15 +27,34 @@ example_module = record {
   types = record { params = []; results = [] } ∷ [];
   functions = record { type_ = 0; locals = []; body = (Nop, 3) ∷ (End, 4) ∷ [] } ∷ [];
   exports = record { name = 0x66 ∷ []; item = FunctionItem 0 } ∷ [];
+  start = None;
 }
 
 -- an export of a function that isn't there
 abbrev pub dangling : List ℕ
 dangling = 0x00 ∷ 0x61 ∷ 0x73 ∷ 0x6d ∷ 0x01 ∷ 0x00 ∷ 0x00 ∷ 0x00 ∷ 0x07 ∷ 0x05 ∷ 0x01 ∷ 0x01 ∷ 0x66 ∷ 0x00 ∷ 0x00 ∷ []
 
+-- a type without parameters and results, and a function of it, which isn't looked at yet
+abbrev pub one_function : List ℕ
+one_function = header ++ 0x01 ∷ 0x04 ∷ 0x01 ∷ 0x60 ∷ 0x00 ∷ 0x00 ∷ 0x03 ∷ 0x02 ∷ 0x01 ∷ 0x00 ∷ []
+
+-- its function is the start function, and its body: call the function itself, end
+abbrev pub start_module : Module
+start_module = record {
+  types = record { params = []; results = [] } ∷ [];
+  functions = record { type_ = 0; locals = []; body = (Call 0, 3) ∷ (End, 5) ∷ [] } ∷ [];
+  exports = [];
+  start = Some 0;
+}
+
+-- a function that is exported as `f`, and its body: call a function that isn't there, end
+abbrev pub dangling_call : List ℕ
+dangling_call =
+    one_function ++ 0x07 ∷ 0x05 ∷ 0x01 ∷ 0x01 ∷ 0x66 ∷ 0x00 ∷ 0x00 ∷ 0x0a ∷ 0x06 ∷ 0x01 ∷ 0x04 ∷ 0x00 ∷ 0x10 ∷ 0x05 ∷ 0x0b ∷ []
+
 -- a module of nothing
 abbrev pub empty_module : Module
-empty_module = record { types = []; functions = []; exports = [] }
+empty_module = record { types = []; functions = []; exports = []; start = None }
 
 -- one byte is missing at the place
 abbrev pub missing_at : ℕ → Fault
@@ -61,6 +80,18 @@ PrefixesStop = (features : Features) → Stops features (take 9 example) (missin
 abbrev pub DanglingStops : Type 0
 DanglingStops = (features : Features) → Stops features dangling (faults.Index spaces.Function 14)
 
+-- a call of a function that isn't there stops at the operator
+abbrev pub DanglingCallStops : Type 0
+DanglingCallStops = (features : Features) → Stops features dangling_call (faults.Index spaces.Function 30)
+
+-- a start function that isn't there stops at its number
+abbrev pub DanglingStartStops : Type 0
+DanglingStartStops = (features : Features) → Stops features (one_function ++ 0x08 ∷ 0x01 ∷ 0x01 ∷ []) (faults.Index spaces.Function 20)
+
+-- a start function that is there, and which calls itself
+abbrev pub StartReads : Type 0
+StartReads = (features : Features) → module_at features (one_function ++ 0x08 ∷ 0x01 ∷ 0x00 ∷ 0x0a ∷ 0x06 ∷ 0x01 ∷ 0x04 ∷ 0x00 ∷ 0x10 ∷ 0x00 ∷ 0x0b ∷ []) ≡ Ok start_module
+
 -- nothing, left out or spelled: no sections, an empty one of each, and a count of zero in five bytes
 abbrev pub NothingReads : Type 0
 NothingReads = (features : Features) → (module_at features header ≡ Ok empty_module)
@@ -78,6 +109,18 @@ example_reads features = refl
 pub dangling_stops : DanglingStops
 unfolding module_at sections_at section_at contents_at export_entry kind_at vec_at entries_at number_at size_at text_at string_at is_utf8 chars encode
 dangling_stops features = (refl, omega arith, omega arith, refl)
+
+pub dangling_call_stops : DanglingCallStops
+unfolding module_at sections_at section_at contents_at chunks_at chunk_entry codes_at code_at operators_at operator_at export_entry function_entry type_entry function_type_at value_types_at kind_at vec_at entries_at number_at size_at text_at string_at is_utf8 chars encode
+dangling_call_stops features = (refl, omega arith, omega arith, refl)
+
+pub dangling_start_stops : DanglingStartStops
+unfolding module_at sections_at section_at contents_at start_at function_entry type_entry function_type_at value_types_at vec_at entries_at number_at size_at
+dangling_start_stops features = (refl, omega arith, omega arith, refl)
+
+pub start_reads : StartReads
+unfolding module_at sections_at section_at contents_at start_at chunks_at chunk_entry codes_at code_at operators_at operator_at function_entry type_entry function_type_at value_types_at vec_at entries_at number_at size_at
+start_reads features = refl
 
 pub prefixes_stop : PrefixesStop
 unfolding module_at sections_at section_at contents_at chunks_at export_entry function_entry type_entry function_type_at value_types_at kind_at vec_at entries_at number_at size_at text_at string_at is_utf8 chars encode

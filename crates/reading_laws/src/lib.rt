@@ -3,7 +3,7 @@
 #![tactic(auto)]
 
 ghost use Rattle.reading_laws.specs.Laws.{ParsedReads, ReadIsParsed, ReadsOnce, StopsNeverRead, StopsOnce, ReadOrStop};
-ghost use Rattle.reading_laws.specs.Worked.{ExampleReads, PrefixesStop, DanglingStops, NothingReads, RepeatedStops};
+ghost use Rattle.reading_laws.specs.Worked.{ExampleReads, PrefixesStop, DanglingStops, DanglingCallStops, DanglingStartStops, StartReads, NothingReads, RepeatedStops};
 
 /// What is parsed as a module reads as that module.
 pub fn parsed_reads()
@@ -49,6 +49,21 @@ pub fn prefixes_stop()
 /// An export of a function that isn't there stops at the function's number.
 pub fn dangling_stops()
     ensures { DanglingStops }
+{}
+
+/// A call of a function that isn't there stops at the operator.
+pub fn dangling_call_stops()
+    ensures { DanglingCallStops }
+{}
+
+/// A start function that isn't there stops at its number.
+pub fn dangling_start_stops()
+    ensures { DanglingStartStops }
+{}
+
+/// A module with a start function, which calls itself, reads as what it is.
+pub fn start_reads()
+    ensures { StartReads }
 {}
 
 /// A module of nothing, whether its sections are left out or empty.
