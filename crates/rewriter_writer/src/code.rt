@@ -1,6 +1,7 @@
 //! The entries of the code section.
 
 ghost use Rattle.std.specs.Prelude.{◌≡◌, ◌+◌, ◌<◌, ◌≤◌, ◌^◌, length, [], OnOk, IfOk, IfErr};
+ghost use Rattle.std.specs.Option.{option_map};
 ghost use Rattle.wasm_model.specs.Module.{operators};
 ghost use Rattle.wasm_model.specs.NormalForm.{normal_form};
 ghost use Rattle.wasm_model.specs.Spelling.{body_bytes};
@@ -48,14 +49,11 @@ fn write_entry(writer: &mut CodeWriter, options: &Options, function: &Function) 
     Ok(())
 }
 
-fn new_writer(alloc: Global, places: bool) -> CodeWriter
-    ensures { text_of result ≡ record { bytes = []; pairs = asked_pairs places [] } }
+/// The pairs of places, of which there are none yet, where they are asked for.
+pub fn no_places(alloc: Global, places: bool) -> Option<Vec<(u32, u32)>>
+    ensures { option_map (λ v. v.items) result ≡ asked_pairs places [] }
 {
-    let places = if places { Some(Vec::new(alloc)) } else { None };
-    CodeWriter {
-        bytes: Vec::new(alloc),
-        places,
-    }
+    if places { Some(Vec::new(alloc)) } else { None }
 }
 
 /// vec(code): the bodies of the functions that a numbering keeps, and their pairs of places where
@@ -72,7 +70,10 @@ pub fn write_codes(alloc: Global, options: &Options, module: &Module, numbering:
             (codes_text (meaning (features_of options.now) module.now) (numbers_of numbering.now) options.now.places).bytes)
     }
 {
-    let mut writer = new_writer(alloc, options.places);
+    let mut writer = CodeWriter {
+        bytes: Vec::new(alloc),
+        places: no_places(alloc, options.places),
+    };
     write_u32(&mut writer.bytes, numbering.functions.len() as u32)?;
     for &f in &numbering.functions {
         write_entry(&mut writer, options, &module.functions[f as usize])?;

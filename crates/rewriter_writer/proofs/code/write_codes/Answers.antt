@@ -17,11 +17,10 @@ use Rattle.rewriter_writer.proofs.code.write_codes.Goals as goal
 pub loop-f-init : goal.loop-f-init
 loop-f-init c =
     let size : c.len.result ≡ length c.args.numbering.now.functions.items = search rules in
-    let empty : c.new_writer-writer.result.bytes.items ≡ [] = ap (λ (t : Text). t.bytes) c.new_writer-writer.ensures in
     let bytes : c.write_u32.new.out.items ≡ u32_bytes (length c.args.numbering.now.functions.items) =
-      c.in_ok-write_u32.ensures ∙ ap (λ (b : List ℕ). b ++ u32_bytes c.len.result) empty ∙ ap u32_bytes size in
+      c.in_ok-write_u32.ensures ∙ ap (λ (b : List ℕ). b ++ u32_bytes c.len.result) c.new.ensures.items ∙ ap u32_bytes size in
     begins (meaning (features_of c.args.options.now) c.args.module.now) (numbers_of c.args.numbering.now) c.args.options.now.places _
-      (λ i. record { bytes = bytes i; pairs = (c.new_writer-writer.ensures i).pairs })
+      (λ i. record { bytes = bytes i; pairs = c.no_places.ensures i })
 
 pub write_entry-requires-clause-reads : goal.write_entry-requires-clause-reads
 write_entry-requires-clause-reads c =
