@@ -1,8 +1,12 @@
 -- Why a module isn't written.
 use Rattle.std.specs.Prelude.{ℕ, ◌<◌, ◌^◌, List, length, Contains}
 use Rattle.wasm_model.specs.declared.fault.Limited.TheVariants as limits
-use Rattle.wasm_model.specs.Module.{Function, operators}
+use Rattle.wasm_model.specs.Module.{Module, Function, operators}
 use Rattle.wasm_model.specs.Spelling.{body_bytes}
+use Rattle.wasm_model.specs.declared.fault.Fault.{Fault}
+use Rattle.wasm_model.specs.declared.fault.Fault.TheVariants as faults
+use Rattle.wasm_model.specs.declared.options.Options.{Options}
+use Rattle.wasm_model.specs.Rewrites.{Passes}
 use Rattle.rewriter_writer.specs.declared.failure.Failure.{Failure}
 use Rattle.rewriter_writer.specs.declared.failure.Failure.TheVariants as failures
 
@@ -19,3 +23,9 @@ IsCauseOfEntry failures.Memory body file = Unit {0}
 IsCauseOfEntry (failures.Limit limits.Body) body file = 7654321 < body
 IsCauseOfEntry (failures.Limit limits.File) body file = 2 ^ 30 < file
 IsCauseOfEntry _ body file = ⊥
+
+-- the fault for which a module isn't written: memory was refused, or what would be written passes a limit
+abbrev pub IsUnwritten : Options → Module → Fault → Type 0
+IsUnwritten o n faults.Memory = Unit {0}
+IsUnwritten o n (faults.OutputLimit limit) = Passes o n limit
+IsUnwritten o n _ = ⊥

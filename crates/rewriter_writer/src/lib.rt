@@ -6,3 +6,6 @@ mod entry;
 mod failure;
 mod limits;
 mod section;
+mod writer;
+
+pub use writer::{Written, write_module};
