@@ -1,6 +1,7 @@
 -- The entries of the code section.
 use Rattle.std.proofs.Common.{◌≡◌, ◌+◌, ◌-◌, ◌/◌, ◌%◌, ◌≤◌, ◌<◌, ◌^◌, ℕ, zero, suc, Bool, true, false, List, [], ◌∷◌, ◌++◌, length, Ok, Err, Result, Option, Some, None, nat_lt, if◌then◌else◌, refl, sym, ap, ◌∙◌, arith, append_assoc, length-append, get_or, drop, map, add-one, drop-cons, subst, Contains, All}
-use Rattle.std.proofs.lemmas.List.{append-nil, drop_all, get_or-map}
+use Rattle.std.proofs.lemmas.List.{append-nil, drop_all, take_all, take_more, get_or-map}
+use Rattle.std.proofs.Common.{take}
 use Rattle.std.specs.List.{flat_map, slice_index}
 use Rattle.wasm_model.specs.Module.{Module, Function, Operator, operators}
 use Rattle.wasm_model.specs.NormalForm.{normal_form}
@@ -19,7 +20,7 @@ use Rattle.rewriter_writer.specs.Codes.{with_bytes, with_entry, with_entries, as
 use Rattle.rewriter_writer.specs.declared.failure.Failure.{Failure}
 use Rattle.rewriter_writer.specs.declared.failure.Failure.TheVariants as failures
 use Rattle.wasm_model.specs.declared.fault.Limited.TheVariants as limits
-use Rattle.rewriter_writer.specs.Causes.{IsCause, IsCauseOfEntry}
+use Rattle.rewriter_writer.specs.Causes.{IsCause, IsCauseOfEntry, AreShort}
 
 ok_is : {A B : Type 0} (x y : A) → (let done : A → Result A B = λ z. Ok z in done x ≡ done y) → x ≡ y
 ok_is x y e = cc
@@ -131,12 +132,22 @@ whole_codes m n places =
 pub record IsCoding (m : Module) (n : Numbers) (places : Bool) (text : Text) (i : ℕ) : Type 0 where
   pub so_far : with_entries m n text (drop i n.functions) ≡ codes_text m n places
   pub short : length text.bytes ≤ 2 ^ 30
+  pub bodies : AreShort m (take i n.functions)
+
+no_bodies : (m : Module) (fs : List ℕ) → AreShort m (take 0 fs)
+no_bodies m [] = tt
+no_bodies m (f ∷ fs) = tt
+
+one_more : (m : Module) (fs : List ℕ) (f : ℕ) → AreShort m fs → length (body_bytes (written_operators m f)) ≤ 7654321 → AreShort m (fs ++ f ∷ [])
+one_more m [] f h k = (k, tt)
+one_more m (g ∷ fs) f h k = (h.0, one_more m fs f h.1 k)
 
 module _ (m : Module) (n : Numbers) (places : Bool) where
   pub begins : (text : Text) → text ≡ counted n places → IsCoding m n places text 0
   begins text e = record {
       so_far = ap (λ (t : Text). with_entries m n t n.functions) e ∙ whole_codes m n places;
-      short = let small = u32_small (length n.functions) in omega (arith, ap (λ (t : Text). length t.bytes) e, small)
+      short = let small = u32_small (length n.functions) in omega (arith, ap (λ (t : Text). length t.bytes) e, small);
+      bodies = no_bodies m n.functions
     }
 
   module _ (text : Text) (i f : ℕ) (coding : IsCoding m n places text i) (inside : i < length n.functions) (is : f ≡ get_or n.functions i f) where
@@ -146,8 +157,12 @@ module _ (m : Module) (n : Numbers) (places : Bool) where
     on : (next : Text) → next ≡ with_entry text (normal_form (function_at m f).body) → with_entries m n next (drop (i + 1) n.functions) ≡ codes_text m n places
     on next e = with_entries-cons m n text next f (drop (i + 1) n.functions) e ∙ ap (with_entries m n text) (sym left_are) ∙ coding.so_far
 
-    pub codes_on : (next : Text) → next ≡ with_entry text (normal_form (function_at m f).body) → length next.bytes ≤ 2 ^ 30 → IsCoding m n places next (i + 1)
-    codes_on next e small = record { so_far = on next e; short = small }
+    pub codes_on : (next : Text) → next ≡ with_entry text (normal_form (function_at m f).body) → length next.bytes ≤ 2 ^ 30 → length (body_bytes (written_operators m f)) ≤ 7654321 → IsCoding m n places next (i + 1)
+    codes_on next e small body = record {
+        so_far = on next e;
+        short = small;
+        bodies = subst (λ (fs : List ℕ). AreShort m fs) (sym (take_more n.functions i f inside ∙ ap (λ (x : ℕ). take i n.functions ++ x ∷ []) (sym is))) (one_more m (take i n.functions) f coding.bodies body)
+      }
 
     pub causes : (e : Failure) → IsCauseOfEntry e (length (body_bytes (written_operators m f))) (length (with_entry text (normal_form (function_at m f).body)).bytes)
         → IsCause e (written m n).functions (codes_text m n places).bytes
@@ -164,6 +179,9 @@ module _ (m : Module) (n : Numbers) (places : Bool) where
 
   pub codes_end : (text : Text) (i : ℕ) → IsCoding m n places text i → length n.functions ≤ i → text ≡ codes_text m n places
   codes_end text i coding h = sym (with_entries-nil m n text) ∙ ap (with_entries m n text) (sym (drop_all i n.functions h)) ∙ coding.so_far
+
+  pub bodies_end : (text : Text) (i : ℕ) → IsCoding m n places text i → length n.functions ≤ i → AreShort m n.functions
+  bodies_end text i coding h = subst (λ (fs : List ℕ). AreShort m fs) (take_all i n.functions h) coding.bodies
 
 read_again : (xs : List ℕ) (i : ℕ) → i < length xs → get_or xs i 0 ≡ get_or xs i (get_or xs i 0)
 read_again [] i h = absurd (omega arith)

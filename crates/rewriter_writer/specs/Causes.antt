@@ -1,11 +1,13 @@
 -- Why a module isn't written.
-use Rattle.std.specs.Prelude.{ℕ, ◌<◌, ◌^◌, List, length, Contains}
+use Rattle.std.specs.Prelude.{ℕ, ◌<◌, ◌≤◌, ◌^◌, List, length, Contains}
 use Rattle.wasm_model.specs.declared.fault.Limited.TheVariants as limits
 use Rattle.wasm_model.specs.Module.{Module, Function, operators}
 use Rattle.wasm_model.specs.Spelling.{body_bytes}
 use Rattle.wasm_model.specs.declared.fault.Fault.{Fault}
 use Rattle.wasm_model.specs.declared.fault.Fault.TheVariants as faults
 use Rattle.wasm_model.specs.declared.options.Options.{Options}
+use Rattle.std.specs.List.{AllByRecursion}
+use Rattle.rewriter_module.specs.Written.{written_operators}
 use Rattle.wasm_model.specs.Rewrites.{Passes}
 use Rattle.rewriter_writer.specs.declared.failure.Failure.{Failure}
 use Rattle.rewriter_writer.specs.declared.failure.Failure.TheVariants as failures
@@ -23,6 +25,10 @@ IsCauseOfEntry failures.Memory body file = Unit {0}
 IsCauseOfEntry (failures.Limit limits.Body) body file = 7654321 < body
 IsCauseOfEntry (failures.Limit limits.File) body file = 2 ^ 30 < file
 IsCauseOfEntry _ body file = ⊥
+
+-- the bodies that are written for these functions are within their limit
+abbrev pub AreShort : Module → List ℕ → Type 0
+AreShort m fs = AllByRecursion (λ f. length (body_bytes (written_operators m f)) ≤ 7654321) fs
 
 -- the fault for which a module isn't written: memory was refused, or what would be written passes a limit
 abbrev pub IsUnwritten : Options → Module → Fault → Type 0

@@ -12,7 +12,7 @@ ghost use Rattle.rewriter_module.specs.Written.{numbers_of, written};
 ghost use Rattle.rewriter_bodies.specs.Texts.{text_of};
 ghost use Rattle.rewriter_writer.specs.Codes.{with_entry, asked_pairs, codes_text};
 ghost use Rattle.rewriter_writer.specs.Premises.{IsWritable};
-ghost use Rattle.rewriter_writer.specs.Causes.{IsCause, IsCauseOfEntry};
+ghost use Rattle.rewriter_writer.specs.Causes.{IsCause, IsCauseOfEntry, AreShort};
 
 use crate::failure::Failure;
 use crate::limits::{MAX_FILE_SIZE, MAX_FUNCTION_SIZE};
@@ -29,6 +29,7 @@ fn write_entry(writer: &mut CodeWriter, options: &Options, function: &Function) 
     requires room { length writer.old.bytes.items ≤ 2 ^ 30 }
     ensures ok { OnOk result (text_of writer.new ≡ with_entry (text_of writer.old) (normal_form (code_in (features_of options.now) function.now).body)) }
     ensures short { OnOk result (length writer.new.bytes.items ≤ 2 ^ 30) }
+    ensures fits { OnOk result (length (body_bytes (operators (normal_form (code_in (features_of options.now) function.now).body))) ≤ 7654321) }
     ensures cause {
         IfErr result (λ e. IsCauseOfEntry e
             (length (body_bytes (operators (normal_form (code_in (features_of options.now) function.now).body))))
@@ -64,6 +65,7 @@ pub fn write_codes(alloc: Global, options: &Options, module: &Module, numbering:
     ensures ok {
         IfOk result (λ w. text_of w ≡ codes_text (meaning (features_of options.now) module.now) (numbers_of numbering.now) options.now.places)
     }
+    ensures bodies { OnOk result (AreShort (meaning (features_of options.now) module.now) (numbers_of numbering.now).functions) }
     ensures cause {
         IfErr result (λ e. IsCause e
             (written (meaning (features_of options.now) module.now) (numbers_of numbering.now)).functions

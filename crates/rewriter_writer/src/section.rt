@@ -11,7 +11,7 @@ ghost use Rattle.rewriter_module.specs.Meaning.{meaning, type_of, export_of, IsS
 ghost use Rattle.rewriter_module.specs.Written.{numbers_of, renaming, no_type, written, written_places};
 ghost use Rattle.rewriter_writer.specs.Codes.{asked_pairs};
 ghost use Rattle.rewriter_writer.specs.Premises.{IsShortType, IsShortName, IsWritable};
-ghost use Rattle.rewriter_writer.specs.Causes.{IsCause};
+ghost use Rattle.rewriter_writer.specs.Causes.{IsCause, AreShort};
 
 use crate::code::{no_places, write_codes};
 use crate::entry::{write_exports, write_type_numbers, write_types};
@@ -128,6 +128,7 @@ pub fn write_code_section(
         IfOk result (λ places. option_map (λ v. v.items) places
             ≡ asked_pairs options.now.places (written_places (meaning (features_of options.now) module.now) (numbers_of numbering.now)))
     }
+    ensures bodies { OnOk result (AreShort (meaning (features_of options.now) module.now) (numbers_of numbering.now).functions) }
     ensures cause {
         IfErr result (λ e. IsCause e
             (written (meaning (features_of options.now) module.now) (numbers_of numbering.now)).functions

@@ -9,7 +9,7 @@ ghost use Rattle.rewriter_module.specs.Meaning.{meaning, IsSound};
 ghost use Rattle.rewriter_module.specs.Written.{numbers_of, written, written_places};
 ghost use Rattle.rewriter_writer.specs.Codes.{asked_pairs};
 ghost use Rattle.rewriter_writer.specs.Premises.{IsWritable};
-ghost use Rattle.rewriter_writer.specs.Causes.{IsCause, IsUnwritten};
+ghost use Rattle.rewriter_writer.specs.Causes.{IsCause, IsUnwritten, AreShort};
 
 use crate::failure::Failure;
 use crate::limits::MAX_FILE_SIZE;
@@ -56,6 +56,7 @@ fn write_parts(alloc: Global, options: &Options, module: &Module, numbering: &Nu
         IfOk result (λ w. option_map (λ v. v.items) w.places
             ≡ asked_pairs options.now.places (written_places (meaning (features_of options.now) module.now) (numbers_of numbering.now)))
     }
+    ensures bodies { OnOk result (AreShort (meaning (features_of options.now) module.now) (numbers_of numbering.now).functions) }
     ensures cause {
         IfErr result (λ e. IsCause e
             (written (meaning (features_of options.now) module.now) (numbers_of numbering.now)).functions
@@ -99,6 +100,7 @@ pub fn write_module(alloc: Global, options: &Options, module: &Module, numbering
         IfOk result (λ w. option_map (λ v. v.items) w.places
             ≡ asked_pairs options.now.places (written_places (meaning (features_of options.now) module.now) (numbers_of numbering.now)))
     }
+    ensures bodies { OnOk result (AreShort (meaning (features_of options.now) module.now) (numbers_of numbering.now).functions) }
     ensures refused {
         IfErr result (λ e. IsUnwritten options.now (written (meaning (features_of options.now) module.now) (numbers_of numbering.now)) e)
     }

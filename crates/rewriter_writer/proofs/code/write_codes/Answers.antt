@@ -52,3 +52,4 @@ loop-f-preserved c =
     codes_on (meaning (features_of c.args.options.now) c.args.module.now) (numbers_of c.args.numbering.now) c.args.options.now.places (text_of c.loop-f.writer) c.loop-f.f-index f c.loop-f.invariant there
       (turn_is c.deref-f-items.result.now c.args.numbering.now.functions.items c.loop-f.f-index c.deref-f-items.ensures.value c.loop-f-test.true)
       (text_of c.write_entry.new.writer) (c.in_ok-write_entry.ensures.ok ∙ ap (λ (b : List (Operator × ℕ)). with_entry (text_of c.loop-f.writer) (normal_form b)) (sym body)) c.in_ok-write_entry.ensures.short
+      (subst (λ (b : List (Operator × ℕ)). length (body_bytes (operators (normal_form b))) ≤ 7654321) (sym body) c.in_ok-write_entry.ensures.fits)

@@ -37,3 +37,8 @@ returns-clause-ok c =
       c.in_ok-write_u32.ensures ∙ ap (λ (n : ℕ). c.args.writer.now.bytes.items ++ u32_bytes n) size in
     c.in_ok-write_body.ensures (code_in (features_of c.args.options.now) c.args.function.now) c.requires.reads
     ∙ ap (λ (b : List ℕ). with_body (record { bytes = b; pairs = (text_of c.args.writer.now).pairs }) (normal_form (code_in (features_of c.args.options.now) c.args.function.now).body)) behind
+
+pub returns-clause-fits : goal.returns-clause-fits
+returns-clause-fits c =
+    let size = measured _ (code_in (features_of c.args.options.now) c.args.function.now) c.in-Ok.extent c.requires.reads (c.in-Ok.ensures.extent c.args.function.now.place) in
+    omega (arith, size)
