@@ -4,6 +4,7 @@ use Rattle.std.specs.Prelude.{ℕ, ◌+◌, ◌-◌, ◌*◌, ◌^◌, ◌<◌, 
 use Rattle.std.specs.List.{list_any, starts_with}
 use Rattle.std.specs.Cmp.Lexicographic.{pointwise}
 use Rattle.wasm_reader.specs.declared.error.ErrorKind.TheVariants as kinds
+use Rattle.wasm_features.specs.Features.{constant, SharedEverythingThreads, features_of as set_of}
 use Rattle.wasm_reader.specs.Reading.{bytes_at}
 use Rattle.wasm_reader.specs.Numbers.{unsigned_at}
 use Rattle.wasm_reader.specs.Text.{size_at, string_at}
@@ -21,11 +22,11 @@ use Rattle.wasm_model.specs.Stop.{Trouble, Read, Header, SectionOrder, SectionSi
 use Rattle.wasm_model.specs.Bodies.{code_at}
 use Rattle.wasm_model.specs.OperatorTable.{among}
 
--- what a value type's or a group's first byte is when it isn't one of this grammar's: 65 needs a feature that is off,
+-- what a value type's or a group's first byte is when it isn't one of this grammar's: 65 needs shared-everything-threads, which is off,
 -- those of `later` are forms that are read later, no other is a form at all
 abbrev pub trouble_at_type : List ℕ → ℕ → Trouble
 trouble_at_type later byte =
-    if byte == 0x65 then Read kinds.Feature else (if among later byte then Unsupported forms.Later else Read kinds.BadByte)
+    if byte == 0x65 then Read (kinds.Feature (set_of (constant SharedEverythingThreads))) else (if among later byte then Unsupported forms.Later else Read kinds.BadByte)
 
 -- 63, 64, and the abstract heap types
 abbrev pub reference_bytes : List ℕ

@@ -1,11 +1,11 @@
 -- Groups of seven bits, by arithmetic.
-use Rattle.std.proofs.Common.{◌≡◌, ◌+◌, ◌-◌, ◌*◌, ◌<◌, ◌≤◌, ◌^◌, ℕ, zero, suc, Bool, true, false, nat_lt, nat_le, sym, ap, ◌∙◌, arith, bit_or, ◌%◌, if◌then◌else◌, refl, inl, inr, ℤ, pos, ◌+ℤ◌, ◌-ℤ◌, ◌*ℤ◌, ◌≤ℤ◌, ◌<ℤ◌, neg_ℤ, to_z, of_z}
+use Rattle.std.proofs.Common.{◌≡◌, ◌+◌, ◌-◌, ◌*◌, ◌<◌, ◌≤◌, ◌^◌, ℕ, suc, true, nat_lt, sym, ap, ◌∙◌, arith, bit_or, ◌%◌, refl, inl, inr, ℤ, pos, ◌+ℤ◌, ◌-ℤ◌, ◌*ℤ◌, ◌≤ℤ◌, ◌<ℤ◌}
 use lib.IntN.{negsuc}
 use Rattle.std.proofs.lemmas.Nat.{pow-add, pow_below}
 use Rattle.std.proofs.lemmas.Bool.{cases_lt, lt-ltb, le-leb, le-ltb, ltb-true, leb-true}
-use Rattle.std.proofs.Math.Nat.{mul-suc, add_comm, mod-eq_of_lt, mul-lt-mul_of_pos_right, mul-le-mul_right, pow-le-pow_right}
+use Rattle.std.proofs.Math.Nat.{mul-suc, add_comm, mod-eq_of_lt, mul-le-mul_right, pow-le-pow_right}
 use Rattle.std.specs.Int.Bits.{or_shifted_r}
-use Rattle.std.proofs.Math.IntN.{pos-*ℤ-pos, pos-*ℤ-negsuc}
+use Rattle.std.proofs.Math.IntN.{pos-*ℤ-negsuc}
 use Rattle.std.proofs.lemmas.Int.{ints}
 use Rattle.wasm_reader.specs.Numbers.{signed}
 
@@ -32,8 +32,9 @@ pub seven_fit_signed : (left b : ℕ) → b < 128 → 7 ≤ left → signed.fits
 seven_fit_signed left b last wide =
     let power : 2 ^ 6 ≤ 2 ^ (left - 1) = pow-le-pow_right {n = 2} (omega arith) {i = 6} {j = left - 1} (omega arith) in
     elim (cases_lt b 64) [
-      inl small ↦ rw (lt-ltb b 64 small) (lt-ltb b (2 ^ (left - 1)) (omega arith))
-    | inr great ↦ rw (le-ltb b 64 great) (le-leb 128 (b + 2 ^ (left - 1)) (omega arith)) ]
+      | inl small ↦ rw (lt-ltb b 64 small) (lt-ltb b (2 ^ (left - 1)) (omega arith))
+      | inr great ↦ rw (le-ltb b 64 great) (le-leb 128 (b + 2 ^ (left - 1)) (omega arith))
+    ]
 
 -- what the test of a last byte's unused bits says
 pub fits_positive : (left b : ℕ) → b < 64 → signed.fits left b ≡ true → b < 2 ^ (left - 1)
@@ -75,12 +76,13 @@ pub room_signed : (width shift b : ℕ) → width ≤ 64 → b < 128 → shift <
 room_signed width shift b wide last within fits =
     let power : 2 ^ (width - shift - 1) ≤ 2 ^ (64 - shift - 1) = pow-le-pow_right {n = 2} (omega arith) {i = width - shift - 1} {j = 64 - shift - 1} (omega arith) in
     elim (cases_lt b 64) [
-      inl small ↦
-        let below = fits_positive (width - shift) b small fits in
-        rw (lt-ltb b 64 small) (lt-ltb b (2 ^ (64 - shift - 1)) (omega arith))
-    | inr great ↦
-        let below = fits_negative (width - shift) b great last fits in
-        rw (le-ltb b 64 great) (le-leb 128 (b + 2 ^ (64 - shift - 1)) (omega arith)) ]
+      | inl small ↦
+          let below = fits_positive (width - shift) b small fits in
+          rw (lt-ltb b 64 small) (lt-ltb b (2 ^ (64 - shift - 1)) (omega arith))
+      | inr great ↦
+          let below = fits_negative (width - shift) b great last fits in
+          rw (le-ltb b 64 great) (le-leb 128 (b + 2 ^ (64 - shift - 1)) (omega arith))
+    ]
 
 -- the range of a signed number
 signed_range : (width low b shift : ℕ) → shift < width → low < 2 ^ shift → b < 128 → signed.fits (width - shift) b ≡ true
@@ -88,14 +90,15 @@ signed_range : (width low b shift : ℕ) → shift < width → low < 2 ^ shift �
 signed_range width low b shift within below last fits =
     let same : width - shift - 1 ≡ width - 1 - shift = omega arith in
     elim (cases_lt b 64) [
-      inl small ↦
-        let group = rw same at (fits_positive (width - shift) b small fits) in
-        let bound = joined_below (width - 1) low b shift (omega arith) below group in
-        rw (sym (positive_is low b shift small)) (omega (arith, ints), omega (arith, ints))
-    | inr great ↦
-        let group = rw same at (fits_negative (width - shift) b great last fits) in
-        let bound = joined_below (width - 1) (2 ^ shift - 1 - low) (127 - b) shift (omega arith) (omega arith) group in
-        rw (sym (negative_is low b shift below great last)) (omega (arith, ints), omega (arith, ints)) ]
+      | inl small ↦
+          let group = rw same at (fits_positive (width - shift) b small fits) in
+          let bound = joined_below (width - 1) low b shift (omega arith) below group in
+          rw (sym (positive_is low b shift small)) (omega (arith, ints), omega (arith, ints))
+      | inr great ↦
+          let group = rw same at (fits_negative (width - shift) b great last fits) in
+          let bound = joined_below (width - 1) (2 ^ shift - 1 - low) (127 - b) shift (omega arith) (omega arith) group in
+          rw (sym (negative_is low b shift below great last)) (omega (arith, ints), omega (arith, ints))
+    ]
 
 pub signed_least : (width low b shift : ℕ) → shift < width → low < 2 ^ shift → b < 128 → signed.fits (width - shift) b ≡ true
     → pos 0 ≤ℤ (pos low +ℤ pos (2 ^ shift) *ℤ signed.value b +ℤ pos (2 ^ (width - 1)))

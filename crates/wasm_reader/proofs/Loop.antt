@@ -1,7 +1,6 @@
 -- The loops over the bytes of a number, for unsigned and signed ones at once.
-use Rattle.std.proofs.Common.{◌≡◌, ◌+◌, ◌-◌, ◌*◌, ◌<◌, ◌≤◌, ◌^◌, ℕ, zero, suc, Bool, true, false, List, [], ◌∷◌, length, Ok, Err, Result, refl, sym, ap, ◌∙◌, subst, arith, rules, add-one, ℤ, pos, ◌+ℤ◌, ◌-ℤ◌, ◌*ℤ◌, IfErr, nat_lt, nat_le}
-use Rattle.std.proofs.lemmas.Nat.{pow-add, pow_pos}
-use Rattle.std.proofs.lemmas.Bool.{lt-ltb, le-ltb, le-leb, lt-leb}
+use Rattle.std.proofs.Common.{◌≡◌, ◌+◌, ◌-◌, ◌*◌, ◌<◌, ◌≤◌, ◌^◌, ℕ, zero, suc, true, false, List, [], ◌∷◌, length, Ok, Err, Result, refl, sym, ap, ◌∙◌, arith, rules, add-one, ℤ, pos, ◌+ℤ◌, ◌*ℤ◌}
+use Rattle.std.proofs.lemmas.Nat.{pow-add}
 use Rattle.std.proofs.lemmas.Int.{ints}
 use borrow.Author.Differences.{up, down, same_in}
 use lib.IntN.{negsuc, neg_ℤ}
@@ -9,9 +8,10 @@ use Rattle.std.proofs.Math.Nat.{mul-zero}
 use Rattle.wasm_reader.specs.declared.error.Error.{Error}
 use Rattle.wasm_reader.specs.declared.error.ErrorKind.{ErrorKind}
 use Rattle.wasm_reader.specs.declared.error.ErrorKind.TheVariants as kinds
-use Rattle.wasm_reader.specs.Cursor.{Window, Cursor, rest, end_of, Forward, IsWithin}
-use Rattle.wasm_reader.specs.Reading.{Reading, Reads, fault, Fault, ◌>>=◌, answer, plain, byte_at}
+use Rattle.wasm_reader.specs.Cursor.{Window, Cursor, rest, end_of, Forward}
+use Rattle.wasm_reader.specs.Reading.{Reading, Reads, fault, Fault, ◌>>=◌, plain, byte_at}
 use Rattle.wasm_reader.proofs.Bits.{joined_below}
+use Rattle.wasm_reader.specs.Spelled.{number_at-last, number_at-wrong, number_at-too_long, number_at-more, number_at-none}
 use Rattle.wasm_reader.specs.Numbers.{Style, unsigned, signed, number_at}
 
 -- how low bits go below what the later bytes stand for
@@ -49,8 +49,8 @@ regroup_signed low shift b x =
     let parts : up inner + 128 * down x ≡ b + 128 * up x + down inner = omega (arith, ints, up_times 128 x, down_times 128 x) in
     let times : unit * (up inner + 128 * down x) ≡ unit * (b + 128 * up x + down inner) = ap (λ (n : ℕ). unit * n) parts in
     rw (seven_above shift)
-      (same_in (pos low +ℤ pos unit *ℤ inner) (pos (low + unit * b) +ℤ pos (unit * 128) *ℤ x)
-        (omega (arith, ints, up_times unit inner, down_times unit inner, up_times (unit * 128) x, down_times (unit * 128) x, times)))
+    (same_in (pos low +ℤ pos unit *ℤ inner) (pos (low + unit * b) +ℤ pos (unit * 128) *ℤ x)
+    (omega (arith, ints, up_times unit inner, down_times unit inner, up_times (unit * 128) x, down_times (unit * 128) x, times)))
 
 pub nothing_unsigned : (x : ℕ) → 0 + 2 ^ 0 * x ≡ x
 nothing_unsigned x = omega arith
@@ -60,18 +60,17 @@ nothing_signed x = same_in (pos 0 +ℤ pos 1 *ℤ x) x (omega (arith, up_times 1
 
 abbrev pub raises_unsigned : Raises unsigned
 raises_unsigned = record {
-    raise = λ low shift x. low + 2 ^ shift * x;
-    nothing = nothing_unsigned;
-    regroup = regroup_unsigned
-  }
+  raise = λ low shift x. low + 2 ^ shift * x;
+  nothing = nothing_unsigned;
+  regroup = regroup_unsigned;
+}
 
 abbrev pub raises_signed : Raises signed
 raises_signed = record {
-    raise = λ low shift x. pos low +ℤ pos (2 ^ shift) *ℤ x;
-    nothing = nothing_signed;
-    regroup = regroup_signed
-  }
-
+  raise = λ low shift x. pos low +ℤ pos (2 ^ shift) *ℤ x;
+  nothing = nothing_signed;
+  regroup = regroup_signed;
+}
 
 -- a reading of the later bytes, with the low bits below it
 abbrev pub raised : {A : Type 0} → {s : Style A} → Raises s → ℕ → ℕ → Reading A → Reading A
@@ -102,33 +101,11 @@ Forward-same a = record { window = refl; forward = omega arith; within = λ h. h
 
 pub starts : {A : Type 0} {s : Style A} (k : Raises s) (wrong : ErrorKind) (c : Cursor) (width : ℕ) → 0 < width → Rises s k wrong c c width 0 0
 starts {s = s} k wrong c width h = record {
-    within = h;
-    below = omega arith;
-    so_far = let same : width - 0 ≡ width = omega arith in rw same (raised-nothing k (number_at s wrong width (rest c)));
-    moves = Forward-same c
-  }
-
--- what one byte leaves of the reading
-number_at-last : {A : Type 0} (s : Style A) (wrong : ErrorKind) (width b : ℕ) (bytes : List ℕ) → b < 128 → s.fits width b ≡ true → number_at s wrong width (b ∷ bytes) ≡ Ok (s.value b, bytes)
-unfolding number_at
-number_at-last s wrong width b bytes last fits = rw (lt-ltb b 128 last, fits) refl
-
-number_at-wrong : {A : Type 0} (s : Style A) (wrong : ErrorKind) (width b : ℕ) (bytes : List ℕ) → b < 128 → s.fits width b ≡ false → number_at s wrong width (b ∷ bytes) ≡ Err (fault wrong (length bytes + 1))
-unfolding number_at
-number_at-wrong s wrong width b bytes last fits = rw (lt-ltb b 128 last, fits) refl
-
-number_at-too_long : {A : Type 0} (s : Style A) (wrong : ErrorKind) (width b : ℕ) (bytes : List ℕ) → 128 ≤ b → width ≤ 7 → number_at s wrong width (b ∷ bytes) ≡ Err (fault kinds.TooLong (length bytes + 1))
-unfolding number_at
-number_at-too_long s wrong width b bytes goes narrow = rw (le-ltb b 128 goes, le-leb width 7 narrow) refl
-
-number_at-more : {A : Type 0} (s : Style A) (wrong : ErrorKind) (width b : ℕ) (bytes : List ℕ) → 128 ≤ b → 7 < width
-    → number_at s wrong width (b ∷ bytes) ≡ (number_at s wrong (width - 7) bytes >>= λ x. Ok (s.onto (b - 128) x.0, x.1))
-unfolding number_at
-number_at-more s wrong width b bytes goes wide = rw (le-ltb b 128 goes, lt-leb width 7 wide) refl
-
-number_at-none : {A : Type 0} (s : Style A) (wrong : ErrorKind) (width : ℕ) → number_at s wrong width [] ≡ Err (fault (kinds.EndOfFile 1) 0)
-unfolding number_at
-number_at-none s wrong width = refl
+  within = h;
+  below = omega arith;
+  so_far = let same : width - 0 ≡ width = omega arith in rw same (raised-nothing k (number_at s wrong width (rest c)));
+  moves = Forward-same c;
+}
 
 ok_is : {A B : Type 0} (x y : A) → (let done : A → Result A B = λ z. Ok z in done x ≡ done y) → x ≡ y
 ok_is x y e = cc
@@ -154,26 +131,26 @@ module _ {A X : Type 0} {s : Style A} (k : Raises s) (wrong : ErrorKind) (view :
 
     pub goes_on : 128 ≤ b → 7 < width - shift → b < 256 → Rises s k wrong start next width (shift + 7) (low + 2 ^ shift * (b - 128))
     goes_on goes wide small = record {
-        within = omega arith;
-        below = joined_below (shift + 7) low (b - 128) shift (omega arith) rises.below (let same : shift + 7 - shift ≡ 7 = omega arith in rw same (omega arith));
-        so_far =
+      within = omega arith;
+      below = joined_below (shift + 7) low (b - 128) shift (omega arith) rises.below (let same : shift + 7 - shift ≡ 7 = omega arith in rw same (omega arith));
+      so_far =
           let same : width - shift - 7 ≡ width - (shift + 7) = omega arith in
           let step = number_at-more s wrong (width - shift) b (rest next) goes wide in
           let sofar = rises.so_far in
           sym (raised-then k low shift (b - 128) (number_at s wrong (width - (shift + 7)) (rest next)))
           ∙ ap (raised k low shift) (sym (rw same at (ap (number_at s wrong (width - shift)) bytes_are ∙ step)))
           ∙ sofar;
-        moves = Forward-then rises.moves read.moves
-      }
+      moves = Forward-then rises.moves read.moves;
+    }
 
     -- the value of a number's last byte
     pub ends : (x : X) → b < 128 → s.fits (width - shift) b ≡ true → view x ≡ k.raise low shift (s.value b) → Reads (number_at s wrong width) view start next (Ok x)
     ends x last fits e = record {
-        value = sym rises.so_far ∙ ap (λ bytes. raised k low shift (number_at s wrong (width - shift) bytes)) bytes_are
+      value = sym rises.so_far ∙ ap (λ bytes. raised k low shift (number_at s wrong (width - shift) bytes)) bytes_are
           ∙ ap (raised k low shift) (number_at-last s wrong (width - shift) b (rest next) last fits) ∙ ap (λ v. Ok (v, rest next)) (sym e);
-        place = search rules;
-        moves = Forward-then rises.moves read.moves
-      }
+      place = search rules;
+      moves = Forward-then rises.moves read.moves;
+    }
 
     fails : (e : Error) (kind : ErrorKind) → e.kind ≡ kind → e.offset + length (rest now) ≡ end_of now
         → number_at s wrong (width - shift) (b ∷ rest next) ≡ Err (fault kind (length (rest next) + 1)) → Reads (number_at s wrong width) view start next (Err e)
@@ -182,11 +159,11 @@ module _ {A X : Type 0} {s : Style A} (k : Raises s) (wrong : ErrorKind) (view :
         let end : end_of next ≡ end_of now = ap (λ (w : Window). w.start + length w.bytes) read.moves.window in
         let left : end_of next - e.offset ≡ length (rest next) + 1 = omega arith in
         record {
-        value = sym rises.so_far ∙ ap (λ bytes. raised k low shift (number_at s wrong (width - shift) bytes)) bytes_are
-          ∙ ap (raised k low shift) step ∙ sym (ap (λ (n : ℕ). Err (fault e.kind n)) left ∙ ap (λ (w : ErrorKind). Err (fault w (length (rest next) + 1))) same);
-        place = omega arith;
-        moves = Forward-then rises.moves read.moves
-      }
+          value = sym rises.so_far ∙ ap (λ bytes. raised k low shift (number_at s wrong (width - shift) bytes)) bytes_are
+              ∙ ap (raised k low shift) step ∙ sym (ap (λ (n : ℕ). Err (fault e.kind n)) left ∙ ap (λ (w : ErrorKind). Err (fault w (length (rest next) + 1))) same);
+          place = omega arith;
+          moves = Forward-then rises.moves read.moves;
+        }
 
     -- a last byte whose unused bits are wrong
     pub ends_wrong : (e : Error) → e.kind ≡ wrong → e.offset + length (rest now) ≡ end_of now → b < 128 → s.fits (width - shift) b ≡ false
@@ -203,8 +180,8 @@ module _ {A X : Type 0} {s : Style A} (k : Raises s) (wrong : ErrorKind) (view :
   misses e read =
       let none = no_byte_was (rest now) (fault e.kind (end_of next - e.offset)) read.value in
       record {
-      value = sym rises.so_far ∙ ap (λ bytes. raised k low shift (number_at s wrong (width - shift) bytes)) none.0
-        ∙ ap (raised k low shift) (number_at-none s wrong (width - shift)) ∙ sym (ap (λ (f : Fault). Err f) none.1);
-      place = read.place;
-      moves = Forward-then rises.moves read.moves
-    }
+        value = sym rises.so_far ∙ ap (λ bytes. raised k low shift (number_at s wrong (width - shift) bytes)) none.0
+            ∙ ap (raised k low shift) (number_at-none s wrong (width - shift)) ∙ sym (ap (λ (f : Fault). Err f) none.1);
+        place = read.place;
+        moves = Forward-then rises.moves read.moves;
+      }

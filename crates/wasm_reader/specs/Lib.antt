@@ -3,3 +3,11 @@ pub mod Reading
 pub mod Numbers
 pub mod Text
 pub mod Messages
+pub mod Floats
+pub mod Shortest
+pub mod Spelled
+pub mod Laws
+pub mod Final
+pub mod Finals
+pub mod Spellings
+pub mod Faults

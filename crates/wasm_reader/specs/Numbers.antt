@@ -20,10 +20,10 @@ unsigned = record { value = λ b. b; fits = λ width b. nat_lt b (2 ^ width); on
 -- sN
 abbrev pub signed : Style ℤ
 signed = record {
-    value = λ b. if nat_lt b 64 then pos b else (pos b -ℤ pos 128);
-    fits = λ width b. if nat_lt b 64 then nat_lt b (2 ^ (width - 1)) else nat_le 128 (b + 2 ^ (width - 1));
-    onto = λ low high. pos low +ℤ pos 128 *ℤ high
-  }
+  value = λ b. if nat_lt b 64 then pos b else (pos b -ℤ pos 128);
+  fits = λ width b. if nat_lt b 64 then nat_lt b (2 ^ (width - 1)) else nat_le 128 (b + 2 ^ (width - 1));
+  onto = λ low high. pos low +ℤ pos 128 *ℤ high;
+}
 
 -- the production of a last byte
 abbrev pub EndsNumber : {A : Type 0} → Style A → ℕ → ℕ → List ℕ → A → Type 0

@@ -1,5 +1,5 @@
 -- Readings: functions from the bytes that are left to a value and the bytes that are then left, or to a fault.
-use Rattle.std.specs.Prelude.{ℕ, ◌+◌, ◌-◌, ◌≤◌, ◌≡◌, ◌==◌, nat_le, List, [], ◌∷◌, length, take, drop, Result, Ok, Err, IfErr, if◌then◌else◌}
+use Rattle.std.specs.Prelude.{ℕ, ◌+◌, ◌-◌, ◌*◌, ◌≤◌, ◌≡◌, nat_le, nat_lt, List, [], ◌∷◌, length, take, drop, Result, Ok, Err, IfErr, if◌then◌else◌}
 use Rattle.std.specs.Borrow.{Bor}
 use Rattle.wasm_reader.specs.declared.error.Error.{Error}
 use Rattle.wasm_reader.specs.declared.error.ErrorKind.{ErrorKind}
@@ -57,6 +57,23 @@ abbrev pub bytes_at : ℕ → List ℕ → Reading (List ℕ)
 bytes_at size bytes =
     if nat_le size (length bytes) then Ok (take size bytes, drop size bytes)
     else Err (fault (kinds.EndOfFile (size - length bytes)) (length bytes))
+
+-- a byte below 128
+unfoldable pub u7_at : List ℕ → Reading ℕ
+u7_at bytes = do
+  b ← byte_at bytes
+  if nat_lt b.0 128 then Ok b else Err (fault kinds.BadByte (length bytes))
+
+-- the number of which these are the bytes, the lowest first
+abbrev pub little : List ℕ → ℕ
+little [] = 0
+little (b ∷ bytes) = b + 256 * little bytes
+
+-- a number of so many bytes, the lowest first
+unfoldable pub little_at : ℕ → List ℕ → Reading ℕ
+little_at size bytes = do
+  run ← bytes_at size bytes
+  Ok (little run.0, run.1)
 
 -- the bytes of an inner reader
 abbrev pub seen_window : Cursor → List ℕ

@@ -1,9 +1,10 @@
 //! What a reader refuses, and where.
 
 ghost use Rattle.std.specs.Prelude.{◌≡◌};
-ghost use Rattle.wasm_reader.specs.Messages.{message_of, hint_of};
+ghost use Rattle.wasm_reader.specs.Messages.{message_of, hint_of, missing_of};
 
 use thiserror::Error as ThisError;
+use wasm_features::WasmFeatures;
 
 /// What a call of the reader answers.
 pub type Result<T, E = Error> = std::result::Result<T, E>;
@@ -23,8 +24,8 @@ pub enum ErrorKind {
     BadByte,
     /// A count, a length or an index is past its limit.
     Limit,
-    /// A form whose feature is off.
-    Feature,
+    /// A form whose feature, this one, is off.
+    Feature(WasmFeatures),
     /// Bytes are left over at the end of a section.
     Trailing,
     /// Memory was refused.
@@ -51,7 +52,7 @@ impl ErrorKind {
             ErrorKind::Utf8 => "text is not UTF-8",
             ErrorKind::BadByte => "byte is not allowed here",
             ErrorKind::Limit => "count passes a limit",
-            ErrorKind::Feature => "feature is off",
+            ErrorKind::Feature(_) => "feature is off",
             ErrorKind::Trailing => "trailing bytes",
             ErrorKind::Memory => "out of memory",
         }
@@ -86,6 +87,16 @@ impl Error {
         ensures { result ≡ self.now.offset }
     {
         self.offset
+    }
+
+    /// The feature that has to be on, where one is off.
+    pub fn missing_wasm_feature(&self) -> Option<WasmFeatures>
+        ensures { result ≡ missing_of self.now.kind }
+    {
+        match self.kind {
+            ErrorKind::Feature(missing) => Some(missing),
+            _ => None,
+        }
     }
 
     /// How many more bytes the reading needs at least, where it met the end.

@@ -2,10 +2,17 @@
 #![tactic(auto)]
 
 mod error;
+mod floats;
+pub mod laws;
 pub mod limits;
 mod number;
 mod reader;
 mod text;
 
 pub use error::{Error, ErrorKind, Result};
+pub use floats::{Ieee32, Ieee64};
 pub use reader::BinaryReader;
+pub use wasm_features::{WasmFeatures, WasmFeaturesInflated};
+
+#[cfg(test)]
+mod tests;

@@ -1,8 +1,9 @@
 //! LEB128 numbers (Core Specification, binary format, values: integers).
 
-ghost use Rattle.std.specs.Prelude.{◌≡◌, ◌+◌, ◌-◌, ◌*◌, ◌<◌, ◌≤◌, ◌^◌, true, pos, ◌+ℤ◌, ◌-ℤ◌, ◌*ℤ◌, ◌<ℤ◌, ◌≤ℤ◌, IfOk};
+ghost use Rattle.std.specs.Prelude.{◌+◌, ◌-◌, ◌*◌, ◌<◌, ◌≤◌, ◌^◌, true, pos, ◌+ℤ◌, ◌-ℤ◌, ◌*ℤ◌, ◌<ℤ◌, ◌≤ℤ◌, ◌≡◌, IfOk, IfSome, IfNone};
+ghost use Rattle.wasm_reader.specs.Cursor.{TakesByte};
 ghost use Rattle.wasm_reader.specs.Reading.{Reads, plain};
-ghost use Rattle.wasm_reader.specs.Numbers.{unsigned, signed, unsigned_at, signed_at, number_at};
+ghost use Rattle.wasm_reader.specs.Numbers.{unsigned, signed, unsigned_at, signed_at, s33_at, number_at};
 
 use crate::error::{Error, ErrorKind, Result};
 use crate::reader::BinaryReader;
@@ -50,7 +51,37 @@ fn signed_joined(low: u64, last: u8, shift: u32) -> i64
     }
 }
 
+// The number that a last byte stands for.
+#[inline]
+fn small_signed(byte: u8) -> i32
+    requires { byte < 128 }
+    ensures value { result ≡ signed.value byte }
+    ensures least { pos 0 ≤ℤ (result +ℤ pos 64) }
+    ensures most { result <ℤ pos 64 }
+{
+    if byte < 0x40 {
+        i32::from(byte)
+    } else {
+        i32::from(byte) - 0x80
+    }
+}
+
 impl<'a> BinaryReader<'a> {
+    // Most numbers have one byte: it is read here, and a longer one by the loops below.
+    #[inline]
+    fn read_small(&mut self) -> Option<u8>
+        ensures taken { IfSome result (λ byte. TakesByte byte self.old self.new) }
+        ensures none { IfNone result (self.new ≡ self.old) }
+        ensures small { IfSome result (λ byte. byte < 128) }
+    {
+        let byte = *self.buffer.get(self.position)?;
+        if byte >= 0x80 {
+            return None;
+        }
+        self.position += 1;
+        Some(byte)
+    }
+
     fn read_unsigned(&mut self, width: u32) -> Result<u64>
         requires some { 0 < width }
         requires wide { width ≤ 64 }
@@ -106,16 +137,60 @@ impl<'a> BinaryReader<'a> {
     }
 
     /// A u32.
+    #[inline]
     pub fn read_var_u32(&mut self) -> Result<u32>
         ensures { Reads (unsigned_at 32) plain self.old self.new result }
     {
-        Ok(self.read_unsigned(32)? as u32)
+        match self.read_small() {
+            Some(byte) => Ok(u32::from(byte)),
+            None => Ok(self.read_unsigned(32)? as u32),
+        }
+    }
+
+    /// A u64.
+    #[inline]
+    pub fn read_var_u64(&mut self) -> Result<u64>
+        ensures { Reads (unsigned_at 64) plain self.old self.new result }
+    {
+        match self.read_small() {
+            Some(byte) => Ok(u64::from(byte)),
+            None => self.read_unsigned(64),
+        }
     }
 
     /// An s32.
+    #[inline]
+    #[tactic(auto, using(crate::proofs::Small::small_signed))]
     pub fn read_var_i32(&mut self) -> Result<i32>
         ensures { Reads (signed_at 32) plain self.old self.new result }
     {
-        Ok(self.read_signed(32, ErrorKind::TooLarge)? as i32)
+        match self.read_small() {
+            Some(byte) => Ok(small_signed(byte)),
+            None => Ok(self.read_signed(32, ErrorKind::TooLarge)? as i32),
+        }
+    }
+
+    /// An s33.
+    #[inline]
+    #[tactic(auto, using(crate::proofs::Small::small_signed))]
+    pub fn read_var_s33(&mut self) -> Result<i64>
+        ensures { Reads s33_at plain self.old self.new result }
+    {
+        match self.read_small() {
+            Some(byte) => Ok(i64::from(small_signed(byte))),
+            None => self.read_signed(33, ErrorKind::TooLong),
+        }
+    }
+
+    /// An s64.
+    #[inline]
+    #[tactic(auto, using(crate::proofs::Small::small_signed))]
+    pub fn read_var_i64(&mut self) -> Result<i64>
+        ensures { Reads (signed_at 64) plain self.old self.new result }
+    {
+        match self.read_small() {
+            Some(byte) => Ok(i64::from(small_signed(byte))),
+            None => self.read_signed(64, ErrorKind::TooLarge),
+        }
     }
 }

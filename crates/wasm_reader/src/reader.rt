@@ -1,41 +1,95 @@
 //! The reader: a window of the input and a position in it.
 
-ghost use Rattle.std.specs.Prelude.{◌≡◌, ◌+◌, ◌-◌, ◌<◌, ◌^◌, ◌==◌, length, IfOk, []};
-ghost use Rattle.wasm_reader.specs.Cursor.{rest, end_of, IsInner};
+ghost use Rattle.std.specs.Prelude.{◌≡◌, ◌+◌, ◌-◌, ◌<◌, ◌≤◌, ◌^◌, ◌==◌, length, IfOk, [], ◌∷◌, IsTrue, ◌↔◌, Result, MatchResult};
+ghost use Rattle.std.specs.Fn.{FnOnceReturnsAtMut};
+ghost use Rattle.wasm_reader.specs.declared.error.Error.{Error};
+ghost use Rattle.wasm_reader.specs.Cursor.{Cursor, Forward, read_since, rest, end_of, IsInner, opened, shrunk, with_features};
+ghost use Rattle.wasm_reader.specs.Floats.{seen_bits32, seen_bits64};
+ghost use Rattle.wasm_features.specs.Features.{features_of, all_names};
 ghost use Rattle.wasm_reader.specs.Text.{sized_bytes_at};
-ghost use Rattle.wasm_reader.specs.Reading.{Reads, byte_at, next_at, bytes_at, plain, seen_bytes, seen_window};
+ghost use Rattle.wasm_reader.specs.Reading.{Reads, byte_at, next_at, bytes_at, u7_at, little_at, plain, seen_bytes, seen_window};
 
 use crate::error::{Error, ErrorKind, Result};
+use crate::floats::{Ieee32, Ieee64};
 use std::marker::Model;
+use std::ops::Range;
+use wasm_features::WasmFeatures;
 
 /// Reads a window of the input from its front on. Offsets count from where the input began.
 #[derive(Drop)]
 pub struct BinaryReader<'a> {
-    buffer: &'a [u8],
-    position: usize,
+    pub(crate) buffer: &'a [u8],
+    pub(crate) position: usize,
     original_offset: u64,
+    features: WasmFeatures,
 }
 
 impl<'a> Model for BinaryReader<'a> {
-    ghost use Rattle.std.specs.Prelude.{◌+◌, ◌≤◌, ◌<◌, ◌^◌, length};
+    ghost use Rattle.std.specs.Prelude.{◌+◌, ◌≤◌, ◌<◌, ◌≤◌, ◌^◌, length};
     ghost use Rattle.wasm_reader.specs.Cursor.{Cursor};
 
     ghost Value = { Cursor };
 
-    ghost view = { λ r. record { window = record { bytes = r.buffer.now; start = r.original_offset }; position = r.position } };
+    ghost view = { λ r. record { window = record { bytes = r.buffer.now; start = r.original_offset; features = r.features }; position = r.position } };
 
     ghost invariant = { λ r. (r.position ≤ length r.buffer.now) × (r.original_offset + length r.buffer.now < 2 ^ 64) };
 }
 
 impl<'a> BinaryReader<'a> {
-    /// A reader at the front of `bytes`, whose first byte has this offset.
+    /// A reader at the front of `bytes`, whose first byte has this offset, with all features on.
     pub fn new(bytes: &'a [u8], original_offset: u64) -> BinaryReader<'a>
         requires { original_offset + length bytes.now < 2 ^ 64 }
-        ensures bytes { result.window.bytes ≡ bytes.now }
-        ensures start { result.window.start ≡ original_offset }
-        ensures position { result.position ≡ 0 }
+        ensures { result ≡ opened bytes.now original_offset (features_of all_names) }
     {
-        BinaryReader { buffer: bytes, position: 0, original_offset }
+        BinaryReader::new_features(bytes, original_offset, WasmFeatures::all())
+    }
+
+    /// A reader at the front of `bytes`, whose first byte has this offset, with these features on.
+    pub fn new_features(
+        bytes: &'a [u8],
+        original_offset: u64,
+        features: WasmFeatures,
+    ) -> BinaryReader<'a>
+        requires { original_offset + length bytes.now < 2 ^ 64 }
+        ensures { result ≡ opened bytes.now original_offset features }
+    {
+        BinaryReader {
+            buffer: bytes,
+            position: 0,
+            original_offset,
+            features,
+        }
+    }
+
+    /// The features that are on.
+    #[inline]
+    pub fn features(&self) -> WasmFeatures
+        ensures { result ≡ self.now.window.features }
+    {
+        self.features
+    }
+
+    /// Sets the features that are on.
+    pub fn set_features(&mut self, features: WasmFeatures)
+        ensures { self.new ≡ with_features features self.old }
+    {
+        self.features = features;
+    }
+
+    /// The offsets of the window.
+    pub fn range(&self) -> Range<u64>
+        ensures start { result.start ≡ self.now.window.start }
+        ensures end { result.end ≡ end_of self.now }
+    {
+        self.original_offset..self.original_offset + self.buffer.len() as u64
+    }
+
+    /// The offsets of the bytes that are left.
+    pub fn remaining_range(&self) -> Range<u64>
+        ensures start { result.start ≡ self.now.window.start + self.now.position }
+        ensures end { result.end ≡ end_of self.now }
+    {
+        self.original_position()..self.original_offset + self.buffer.len() as u64
     }
 
     /// The offset of the next byte.
@@ -79,6 +133,25 @@ impl<'a> BinaryReader<'a> {
         self.position >= self.buffer.len()
     }
 
+    /// All that is left is one byte, the `end` of an expression.
+    pub fn is_end_then_eof(&self) -> bool
+        ensures { IsTrue result ↔ (rest self.now ≡ 0x0b ∷ []) }
+    {
+        matches!(&self.buffer[self.position..], [0x0b])
+    }
+
+    /// A reader of the bytes that are left, at their place.
+    pub fn shrink(&self) -> BinaryReader<'a>
+        ensures { result ≡ shrunk self.now }
+    {
+        BinaryReader {
+            buffer: &self.buffer[self.position..],
+            position: 0,
+            original_offset: self.original_position(),
+            features: self.features,
+        }
+    }
+
     /// The next byte, which stays to be read.
     #[inline]
     pub fn peek(&self) -> Result<u8>
@@ -102,9 +175,57 @@ impl<'a> BinaryReader<'a> {
         Ok(byte)
     }
 
+    /// A byte below 128.
+    #[tactic(auto, unfolding(crate::specs::Reading::u7_at))]
+    pub fn read_u7(&mut self) -> Result<u8>
+        ensures { Reads u7_at plain self.old self.new result }
+    {
+        let offset = self.original_position();
+        let byte = self.read_u8()?;
+        if byte >= 0x80 {
+            return Err(Error::new(ErrorKind::BadByte, offset));
+        }
+        Ok(byte)
+    }
+
+    /// A number of four bytes, the lowest first.
+    #[tactic(auto, unfolding(crate::specs::Reading::little_at))]
+    pub fn read_u32(&mut self) -> Result<u32>
+        ensures { Reads (little_at 4) plain self.old self.new result }
+    {
+        let bytes = self.read_bytes(4)?;
+        Ok(u32::from_le_bytes([bytes[0], bytes[1], bytes[2], bytes[3]]))
+    }
+
+    /// A number of eight bytes, the lowest first.
+    #[tactic(auto, unfolding(crate::specs::Reading::little_at))]
+    pub fn read_u64(&mut self) -> Result<u64>
+        ensures { Reads (little_at 8) plain self.old self.new result }
+    {
+        let bytes = self.read_bytes(8)?;
+        Ok(u64::from_le_bytes([
+            bytes[0], bytes[1], bytes[2], bytes[3], bytes[4], bytes[5], bytes[6], bytes[7],
+        ]))
+    }
+
+    /// The bits of an f32.
+    pub fn read_f32(&mut self) -> Result<Ieee32>
+        ensures { Reads (little_at 4) seen_bits32 self.old self.new result }
+    {
+        Ok(Ieee32(self.read_u32()?))
+    }
+
+    /// The bits of an f64.
+    pub fn read_f64(&mut self) -> Result<Ieee64>
+        ensures { Reads (little_at 8) seen_bits64 self.old self.new result }
+    {
+        Ok(Ieee64(self.read_u64()?))
+    }
+
     /// The next `size` bytes, borrowed from the input.
     pub fn read_bytes(&mut self, size: usize) -> Result<&'a [u8]>
-        ensures { Reads (bytes_at size) seen_bytes self.old self.new result }
+        ensures bytes { Reads (bytes_at size) seen_bytes self.old self.new result }
+        ensures size { IfOk result (λ bytes. length bytes.now ≡ size) }
     {
         let left = self.bytes_remaining();
         if size > left {
@@ -114,6 +235,35 @@ impl<'a> BinaryReader<'a> {
         let start = self.position;
         self.position += size;
         Ok(&self.buffer[start..start + size])
+    }
+
+    /// Runs `read`, which only reads on, and gives a reader of the bytes that it read, at their place.
+    pub fn skip<F: FnOnce(&mut BinaryReader<'a>) -> Result<()>>(
+        &mut self,
+        read: F,
+    ) -> Result<BinaryReader<'a>>
+        requires callable { F.IsAlwaysCallable read }
+        requires reads_on { (old new : Cursor) (outcome : Result (Unit {0}) Error) → FnOnceReturnsAtMut F.FnOnce read old outcome new → Forward old new }
+        ensures outcome { MatchResult result
+            (λ inner. FnOnceReturnsAtMut F.FnOnce read self.old (Ok tt) self.new × (inner ≡ read_since self.old.position self.new))
+            (λ e. FnOnceReturnsAtMut F.FnOnce read self.old (Err e) self.new) }
+        ensures moves { Forward self.old self.new }
+    {
+        let position = self.position;
+        read(self)?;
+        Ok(self.read_since(position))
+    }
+
+    fn read_since(&self, position: usize) -> BinaryReader<'a>
+        requires { position ≤ self.now.position }
+        ensures { result ≡ read_since position self.now }
+    {
+        BinaryReader {
+            buffer: &self.buffer[position..self.position],
+            position: 0,
+            original_offset: self.original_offset + position as u64,
+            features: self.features,
+        }
     }
 
     /// A length, and a reader of that many bytes where they stand: its offsets are those of the input.
@@ -129,6 +279,7 @@ impl<'a> BinaryReader<'a> {
             buffer,
             position: 0,
             original_offset,
+            features: self.features,
         })
     }
 }

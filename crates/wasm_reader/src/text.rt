@@ -1,7 +1,7 @@
 //! Names (Core Specification, binary format, values: names).
 
 ghost use Rattle.wasm_reader.specs.Reading.{Reads, plain, seen_bytes};
-ghost use Rattle.wasm_reader.specs.Text.{size_at, string_at, text_at};
+ghost use Rattle.wasm_reader.specs.Text.{size_at, skipped_string_at, string_at, text_at, unlimited_string_at};
 
 use crate::error::{Error, ErrorKind, Result};
 use crate::limits::MAX_WASM_STRING_SIZE;
@@ -40,5 +40,23 @@ impl<'a> BinaryReader<'a> {
     {
         let size = self.read_size(MAX_WASM_STRING_SIZE)?;
         self.read_text(size)
+    }
+
+    /// A name of any length.
+    #[tactic(auto, unfolding(crate::specs::Text::unlimited_string_at))]
+    pub fn read_unlimited_string(&mut self) -> Result<&'a str>
+        ensures { Reads unlimited_string_at seen_bytes self.old self.new result }
+    {
+        let size = self.read_var_u32()? as usize;
+        self.read_text(size)
+    }
+
+    /// Reads a name, as [`BinaryReader::read_string`] does.
+    #[tactic(auto, unfolding(crate::specs::Text::skipped_string_at))]
+    pub fn skip_string(&mut self) -> Result<()>
+        ensures { Reads skipped_string_at plain self.old self.new result }
+    {
+        self.read_string()?;
+        Ok(())
     }
 }

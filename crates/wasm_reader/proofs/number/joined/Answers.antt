@@ -1,4 +1,3 @@
-use Rattle.std.proofs.Common.{arith}
 use Rattle.wasm_reader.proofs.Bits.{joined_is}
 use Rattle.wasm_reader.proofs.number.joined.Goals as goal
 

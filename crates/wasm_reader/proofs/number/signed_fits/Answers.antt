@@ -1,4 +1,4 @@
-use Rattle.std.proofs.Common.{arith, ◌≡◌, ◌≤◌, true, nat_le, sym, ◌∙◌}
+use Rattle.std.proofs.Common.{arith, ◌≤◌, sym, ◌∙◌}
 use Rattle.std.proofs.lemmas.Bool.{le-leb}
 use Rattle.wasm_reader.proofs.Bits.{seven_fit_signed}
 use Rattle.wasm_reader.proofs.number.signed_fits.Goals as goal

@@ -1,4 +1,4 @@
-use Rattle.std.proofs.Common.{arith, ◌≡◌, ◌≤◌, ◌<◌, ◌^◌, ◌+◌, ◌-◌, ◌*◌, true, sym, ap, ◌∙◌, pos, ◌-ℤ◌, ◌%◌, ℕ, w64, FitsSigned, to_z, of_z, rules}
+use Rattle.std.proofs.Common.{arith, ◌≡◌, ◌≤◌, ◌<◌, ◌^◌, ◌+◌, ◌-◌, ◌*◌, true, ap, ◌∙◌, pos, ◌-ℤ◌, ◌%◌, ℕ, w64, to_z, of_z}
 use Rattle.std.proofs.lemmas.Int.{ints, to_z_pos}
 use Rattle.wasm_reader.proofs.Bits.{joined_below, fits_positive, fits_negative, positive_is, negative_is, one_above}
 use Rattle.wasm_reader.specs.Numbers.{signed}

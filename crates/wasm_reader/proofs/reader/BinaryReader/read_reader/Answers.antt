@@ -4,5 +4,5 @@ use Rattle.wasm_reader.proofs.reader.BinaryReader.read_reader.Goals as goal
 
 pub invariant_of-result : goal.invariant_of-result
 invariant_of-result c =
-    let within = run_within _ _ _ _ c.in_ok-buffer.ensures.value in
+    let within = run_within _ _ _ _ c.in_ok-buffer.ensures.bytes.value in
     (omega arith, omega arith)

@@ -1,4 +1,4 @@
-use Rattle.std.proofs.Common.{arith, rules, ◌≡◌, true, sym, ◌∙◌, ℕ, ◌<◌, ◌≤◌, ◌-◌, ◌^◌}
+use Rattle.std.proofs.Common.{arith, sym, ℕ, ◌-◌, ◌^◌}
 use Rattle.std.proofs.lemmas.Result.{err_from_is_err_and}
 use Rattle.std.proofs.lemmas.Bool.{ltb-true}
 use Rattle.wasm_reader.specs.declared.error.ErrorKind.TheVariants.{TooLarge}
@@ -18,7 +18,7 @@ returns-in_err-byte-clause-number c =
 pub returns-then-not-unsigned_fits-clause-number : goal.returns-then-not-unsigned_fits-clause-number
 returns-then-not-unsigned_fits-clause-number c =
     ends_wrong raises_unsigned TooLarge plain c.args.self.now c.loop-byte.self c.read_u8.new.self c.args.width c.loop-byte.shift c.loop-byte.low c.in_ok-byte.byte c.loop-byte.invariant c.in_ok-byte.ensures
-      c.new.result c.new.ensures.kind (rw c.new.ensures.offset c.original_position-offset.ensures.left) c.if-byte-lt128.true (sym c.if-not-unsigned_fits.ensures)
+    c.new.result c.new.ensures.kind (rw c.new.ensures.offset c.original_position-offset.ensures.left) c.if-byte-lt128.true (sym c.if-not-unsigned_fits.ensures)
 
 pub joined-requires-clause-fits : goal.joined-requires-clause-fits
 joined-requires-clause-fits c = room_last c.args.width c.loop-byte.shift c.in_ok-byte.byte c.requires.wide (sym c.if-not-unsigned_fits.ensures)
@@ -26,7 +26,7 @@ joined-requires-clause-fits c = room_last c.args.width c.loop-byte.shift c.in_ok
 pub returns-then-byte-lt128-clause-number : goal.returns-then-byte-lt128-clause-number
 returns-then-byte-lt128-clause-number c =
     ends raises_unsigned TooLarge plain c.args.self.now c.loop-byte.self c.read_u8.new.self c.args.width c.loop-byte.shift c.loop-byte.low c.in_ok-byte.byte c.loop-byte.invariant c.in_ok-byte.ensures
-      c.joined.result c.if-byte-lt128.true (sym c.if-not-unsigned_fits.ensures) c.joined.ensures
+    c.joined.result c.if-byte-lt128.true (sym c.if-not-unsigned_fits.ensures) c.joined.ensures
 
 pub returns-then-byte-lt128-clause-range : goal.returns-then-byte-lt128-clause-range
 returns-then-byte-lt128-clause-range c =
@@ -35,7 +35,7 @@ returns-then-byte-lt128-clause-range c =
 pub returns-then-left-le7-clause-number : goal.returns-then-left-le7-clause-number
 returns-then-left-le7-clause-number c =
     ends_long raises_unsigned TooLarge plain c.args.self.now c.loop-byte.self c.read_u8.new.self c.args.width c.loop-byte.shift c.loop-byte.low c.in_ok-byte.byte c.loop-byte.invariant c.in_ok-byte.ensures
-      c.new-then-left-le7.result c.new-then-left-le7.ensures.kind (rw c.new-then-left-le7.ensures.offset c.original_position-offset.ensures.left) c.if-byte-lt128.false c.if-left-le7.true
+    c.new-then-left-le7.result c.new-then-left-le7.ensures.kind (rw c.new-then-left-le7.ensures.offset c.original_position-offset.ensures.left) c.if-byte-lt128.false c.if-left-le7.true
 
 pub joined-low-requires-clause-fits : goal.joined-low-requires-clause-fits
 joined-low-requires-clause-fits c = room_more c.args.width c.loop-byte.shift c.in_ok-byte.byte c.requires.wide (omega arith) c.if-left-le7.false
@@ -43,4 +43,4 @@ joined-low-requires-clause-fits c = room_more c.args.width c.loop-byte.shift c.i
 pub loop-byte-preserved : goal.loop-byte-preserved
 loop-byte-preserved c =
     rw c.joined-low.ensures (goes_on raises_unsigned TooLarge (plain {X = ℕ}) c.args.self.now c.loop-byte.self c.read_u8.new.self c.args.width c.loop-byte.shift c.loop-byte.low c.in_ok-byte.byte c.loop-byte.invariant c.in_ok-byte.ensures
-      c.if-byte-lt128.false c.if-left-le7.false (omega arith))
+    c.if-byte-lt128.false c.if-left-le7.false (omega arith))

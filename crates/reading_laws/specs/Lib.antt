@@ -1,0 +1,15 @@
+pub mod Steps
+pub mod Numbers
+pub mod Lists
+pub mod Types
+pub mod Exports
+pub mod Bodies
+pub mod Framing
+pub mod Codes
+pub mod Ruled
+pub mod Modules
+pub mod Laws
+pub mod Once
+pub mod Worked
+pub mod Places
+pub mod Stopping

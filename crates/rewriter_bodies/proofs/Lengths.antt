@@ -1,0 +1,65 @@
+-- How many bytes a signed number takes.
+use Rattle.std.proofs.Common.{◌≡◌, ◌+◌, ◌-◌, ◌*◌, ◌/◌, ◌%◌, ◌<◌, ◌≤◌, ℕ, zero, suc, Bool, true, false, List, [], ◌∷◌, length, refl, sym, ap, ◌∙◌, arith, ℤ, pos, nat_lt, if◌then◌else◌}
+use Rattle.std.proofs.lemmas.Bool.{lt-ltb, le-ltb}
+use lib.IntN.{negsuc}
+use Rattle.wasm_model.specs.Shortest.{shortest_signed, s32_bytes}
+use Rattle.rewriter_bodies.specs.Signs.{signed_of}
+use Rattle.rewriter_bodies.proofs.Shortens.{spell_signed, signed_spelling}
+
+one : (negative : Bool) (k n : ℕ) → n < 64 → length (spell_signed negative (suc k) n) ≡ 1
+one negative k n h = ap length ((signed_spelling negative).last k n h)
+
+more : (negative : Bool) (k n : ℕ) → 64 ≤ n → length (spell_signed negative (suc k) n) ≡ length (spell_signed negative k (n / 128)) + 1
+more negative k n h = ap length ((signed_spelling negative).goes k n h) ∙ omega arith
+
+module _ (z : ℤ) (negative : Bool) (n : ℕ) (e : z ≡ signed_of negative n) where
+  same : length (s32_bytes z) ≡ length (spell_signed negative 5 n)
+  unfolding s32_bytes
+  same = ap (λ (x : ℤ). length (shortest_signed 5 x)) e
+
+  pub one_byte : n < 64 → length (s32_bytes z) ≡ 1
+  one_byte h = same ∙ one negative 4 n h
+
+  pub two_bytes : 64 ≤ n → n < 8192 → length (s32_bytes z) ≡ 2
+  two_bytes h i =
+      let a = more negative 4 n h in
+      let b = one negative 3 (n / 128) (omega arith) in
+      omega (arith, same, a, b)
+
+  pub three_bytes : 8192 ≤ n → n < 1048576 → length (s32_bytes z) ≡ 3
+  three_bytes h i =
+      let a = more negative 4 n (omega arith) in
+      let b = more negative 3 (n / 128) (omega arith) in
+      let d = one negative 2 (n / 128 / 128) (omega arith) in
+      omega (arith, same, a, b, d)
+
+  pub four_bytes : 1048576 ≤ n → n < 134217728 → length (s32_bytes z) ≡ 4
+  four_bytes h i =
+      let a = more negative 4 n (omega arith) in
+      let b = more negative 3 (n / 128) (omega arith) in
+      let d = more negative 2 (n / 128 / 128) (omega arith) in
+      let f = one negative 1 (n / 128 / 128 / 128) (omega arith) in
+      omega (arith, same, a, b, d, f)
+
+  pub five_bytes : 134217728 ≤ n → n < 2147483648 → length (s32_bytes z) ≡ 5
+  five_bytes h i =
+      let a = more negative 4 n (omega arith) in
+      let b = more negative 3 (n / 128) (omega arith) in
+      let d = more negative 2 (n / 128 / 128) (omega arith) in
+      let f = more negative 1 (n / 128 / 128 / 128) (omega arith) in
+      let g = one negative 0 (n / 128 / 128 / 128 / 128) (omega arith) in
+      omega (arith, same, a, b, d, f, g)
+
+shorter : (k : ℕ) (b : Bool) (xs ys : List ℕ) → length xs ≤ suc k → length ys ≤ suc k → length (if b then xs else ys) ≤ suc k
+shorter k true xs ys p q = p
+shorter k false xs ys p q = q
+
+-- five bytes at most
+at_most : (k : ℕ) (z : ℤ) → length (shortest_signed k z) ≤ k
+at_most zero z = omega arith
+at_most (suc k) (pos n) = let h = at_most k (pos (n / 128)) in shorter k (nat_lt n 64) (n ∷ []) ((n % 128 + 128) ∷ shortest_signed k (pos (n / 128))) (omega arith) (omega arith)
+at_most (suc k) (negsuc n) = let h = at_most k (negsuc (n / 128)) in shorter k (nat_lt n 64) ((127 - n) ∷ []) ((255 - n % 128) ∷ shortest_signed k (negsuc (n / 128))) (omega arith) (omega arith)
+
+pub s32_small : (z : ℤ) → length (s32_bytes z) ≤ 5
+unfolding s32_bytes
+s32_small z = at_most 5 z

@@ -1,0 +1,108 @@
+//! Reading one operator.
+
+ghost use Rattle.std.specs.Prelude.{◌≡◌, ◌≤◌, ◌++◌, length, OnOk};
+ghost use Rattle.wasm_model.specs.Spelling.{operator_bytes};
+ghost use Rattle.wasm_model.specs.Features.{features_of};
+ghost use Rattle.rewriter_bodies.specs.Exactly.{ParsesExactly};
+ghost use Rattle.wasm_model.specs.Bodies.{operator_at, trouble_at_code, trouble_at_number};
+ghost use Rattle.rewriter_bodies.specs.Views.{operator_of, Refuses};
+
+use crate::number::{s32_len, write_s32};
+use crate::read::{read_s32, read_u8, read_u32};
+use crate::table::{is_operator, is_part, is_prefix, is_prefixed_operator};
+use std::alloc::AllocError;
+use wasm_model::fault::{Fault, Form};
+use wasm_model::options::Options;
+use wasm_reader::BinaryReader;
+
+/// An operator of a body (Core Specification, Structure, Instructions).
+#[derive(Clone, Copy, Debug, PartialEq, Eq)]
+pub enum Operator {
+    Nop,
+    I32Const { value: i32 },
+    Drop,
+    Return,
+    End,
+}
+
+// Why a code is refused that isn't one of this grammar's.
+fn fault_at_code(options: &Options, code: u8, offset: u64) -> Fault
+    ensures { Refuses (trouble_at_code (features_of options.now) code) offset result }
+{
+    if is_part(options, code) {
+        Fault::Nesting { offset }
+    } else if is_operator(options, code) {
+        Fault::Unsupported {
+            form: Form::Later,
+            offset,
+        }
+    } else {
+        Fault::Operator { offset }
+    }
+}
+
+// Why a number behind a prefix is refused.
+fn fault_at_number(options: &Options, code: u8, number: u32, offset: u64) -> Fault
+    ensures { Refuses (trouble_at_number (features_of options.now) code number) offset result }
+{
+    if is_prefixed_operator(options, code, number) {
+        Fault::Unsupported {
+            form: Form::Later,
+            offset,
+        }
+    } else {
+        Fault::Operator { offset }
+    }
+}
+
+#[tactic(auto, unfolding(wasm_model::specs::Bodies::operator_at))]
+/// The next operator: its form is tested as soon as its code was read, behind a prefix its number.
+pub fn read_operator(options: &Options, reader: &mut BinaryReader) -> Result<Operator, Fault>
+    ensures { ParsesExactly (operator_at (features_of options.now)) operator_of reader.old reader.new result }
+{
+    let offset = reader.original_position();
+    let code = read_u8(reader)?;
+    match code {
+        0x01 => Ok(Operator::Nop),
+        0x0b => Ok(Operator::End),
+        0x0f => Ok(Operator::Return),
+        0x1a => Ok(Operator::Drop),
+        0x41 => {
+            let value = read_s32(reader)?;
+            Ok(Operator::I32Const { value })
+        }
+        _ if is_prefix(code) => {
+            let number = read_u32(reader)?;
+            Err(fault_at_number(options, code, number, offset))
+        }
+        _ => Err(fault_at_code(options, code, offset)),
+    }
+}
+
+/// How many bytes an operator takes.
+pub fn operator_len(operator: Operator) -> u64
+    ensures bytes { result ≡ length (operator_bytes (operator_of operator)) }
+    ensures most { result ≤ 6 }
+{
+    match operator {
+        Operator::I32Const { value } => 1 + s32_len(value),
+        _ => 1,
+    }
+}
+
+/// Writes an operator.
+pub fn write_operator(out: &mut Vec<u8>, operator: Operator) -> Result<(), AllocError>
+    ensures { OnOk result (out.new.items ≡ out.old.items ++ operator_bytes (operator_of operator)) }
+{
+    match operator {
+        Operator::Nop => out.push(0x01)?,
+        Operator::End => out.push(0x0b)?,
+        Operator::Return => out.push(0x0f)?,
+        Operator::Drop => out.push(0x1a)?,
+        Operator::I32Const { value } => {
+            out.push(0x41)?;
+            write_s32(out, value)?;
+        }
+    }
+    Ok(())
+}

@@ -1,0 +1,11 @@
+pub mod MarkLemmas
+pub mod ListLemmas
+pub mod TypeLemmas
+pub mod PlaceLemmas
+pub mod SortLemmas
+pub mod OrderLemmas
+pub mod FirstLemmas
+pub mod NumberedLemmas
+pub mod StandsLemmas
+pub mod NumberLemmas
+pub mod InverseLemmas

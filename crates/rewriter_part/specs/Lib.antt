@@ -1,0 +1,4 @@
+pub mod Marks
+pub mod Orders
+pub mod Types
+pub mod Ranges

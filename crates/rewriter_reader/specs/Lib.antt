@@ -1,0 +1,4 @@
+pub mod Seen
+pub mod Checked
+pub mod IsStop
+pub mod Opened

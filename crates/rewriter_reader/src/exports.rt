@@ -1,0 +1,85 @@
+//! The export section (Core Specification, Binary Format, Export Section).
+
+ghost use Rattle.std.specs.Prelude.{◌≡◌};
+ghost use Rattle.wasm_model.specs.Stop.{Parses};
+ghost use Rattle.wasm_model.specs.Sections.{export_entry, kind_at};
+ghost use Rattle.rewriter_module.specs.Meaning.{export_of};
+ghost use Rattle.rewriter_reader.specs.Seen.{HasNames};
+
+use crate::entries::ReadEntry;
+use rewriter_module::Export;
+use std::alloc::Global;
+use std::collections::HashSet;
+use wasm_model::fault::{Fault, Form, Limited, Space};
+use wasm_reader::{BinaryReader, Error, ErrorKind};
+
+const MAX_WASM_EXPORTS: usize = 1_000_000;
+
+// The kind of a function: other kinds are read later.
+#[tactic(auto, unfolding(wasm_model::specs::Sections::kind_at))]
+fn read_kind(reader: &mut BinaryReader<'_>) -> Result<u8, Fault>
+    ensures { Parses kind_at (λ k. k) reader.old reader.new result }
+{
+    let offset = reader.original_position();
+    match reader.read_u8()? {
+        0 => Ok(0),
+        1..=4 => Err(Fault::Unsupported {
+            form: Form::Later,
+            offset,
+        }),
+        _ => Err(Fault::Read(Error::new(ErrorKind::BadByte, offset))),
+    }
+}
+
+/// The entries of the export section: names of so many functions, each another one.
+#[derive(Drop)]
+pub(crate) struct ExportEntries<'a> {
+    pub(crate) functions: usize,
+    pub(crate) names: HashSet<&'a str>,
+}
+
+impl<'a> ReadEntry<'a> for ExportEntries<'a> {
+    type Entry = Export<'a>;
+
+    ghost use Rattle.wasm_model.specs.Module as model;
+
+    ghost Seen = { model.Export };
+
+    ghost seen = { export_of };
+
+    ghost given = { λ s. s.functions };
+
+    ghost parsing = { export_entry };
+
+    ghost Knows = { λ s items _. HasNames s.names items };
+
+    #[tactic(auto, unfolding(wasm_model::specs::Sections::export_entry))]
+    fn read_entry(
+        &mut self,
+        _alloc: Global,
+        earlier: &[Export<'a>],
+        reader: &mut BinaryReader<'a>,
+    ) -> Result<Export<'a>, Fault> {
+        let offset = reader.original_position();
+        let name = reader.read_string()?;
+        read_kind(reader)?;
+        let place = reader.original_position();
+        let function = reader.read_var_u32()?;
+        if !self.names.insert(name)? {
+            return Err(Fault::DuplicateExport { offset });
+        }
+        if earlier.len() >= MAX_WASM_EXPORTS {
+            return Err(Fault::Limit {
+                of: Limited::Exports,
+                offset,
+            });
+        }
+        if function as usize >= self.functions {
+            return Err(Fault::Index {
+                space: Space::Function,
+                offset: place,
+            });
+        }
+        Ok(Export { name, function })
+    }
+}

@@ -1,0 +1,177 @@
+use super::parse;
+use std::alloc::Global;
+use std::process::Abort;
+use std::test::Fail;
+use wasm_model::fault::{Fault, Form, Limited, Space};
+use wasm_model::options::Options;
+use wasm_model::types::ValType;
+use wasm_reader::{Error, ErrorKind};
+
+// A type without parameters, a function of it, its export as `f`, and its body, a `nop`.
+const ONE: [u8; 32] =
+    *b"\0asm\x01\0\0\0\x01\x04\x01\x60\0\0\x03\x02\x01\0\x07\x05\x01\x01f\0\0\x0a\x05\x01\x03\0\x01\x0b";
+
+fn fault_of(alloc: Global, rt: &impl Abort, bytes: &[u8]) -> Option<Fault> {
+    assert!(rt; bytes.len() <= 1 << 30);
+    parse(alloc, bytes, &Options::new()).err()
+}
+
+fn read(kind: ErrorKind, offset: u64) -> Option<Fault> {
+    Some(Fault::Read(Error::new(kind, offset)))
+}
+
+fn later(offset: u64) -> Option<Fault> {
+    Some(Fault::Unsupported {
+        form: Form::Later,
+        offset,
+    })
+}
+
+#[test]
+fn reads_a_module(rt: HostRuntime) -> Result<(), Fail> {
+    let module = parse(rt.alloc(), &ONE, &Options::new())?;
+    assert_eq!(rt; module.types.len(), 1);
+    assert_eq!(rt; module.functions.len(), 1);
+    assert_eq!(rt; module.functions[0].type_index, 0);
+    assert_eq!(rt; module.functions[0].place, 2);
+    assert_eq!(rt; module.functions[0].body, b"\0\x01\x0b".as_slice());
+    assert_eq!(rt; module.exports.len(), 1);
+    assert_eq!(rt; module.exports[0].name, "f");
+    assert_eq!(rt; module.exports[0].function, 0);
+    Ok(())
+}
+
+#[test]
+fn refuses_each_prefix(rt: HostRuntime) {
+    for end in 0..ONE.len() {
+        let want = match end {
+            0..8 => Some(Fault::Header { offset: 0 }),
+            9 | 15 | 19 | 26 => read(ErrorKind::EndOfFile(1), end as u64),
+            10..14 => Some(Fault::SectionSize { offset: 9 }),
+            16..18 => Some(Fault::SectionSize { offset: 15 }),
+            18 | 25 => Some(Fault::Count { offset: end as u64 }),
+            20..25 => Some(Fault::SectionSize { offset: 19 }),
+            27.. => Some(Fault::SectionSize { offset: 26 }),
+            _ => None,
+        };
+        assert_eq!(rt; fault_of(rt.alloc(), &rt, &ONE[..end]), want, "at {end}");
+    }
+}
+
+#[test]
+fn refuses_what_stands_first(rt: HostRuntime) {
+    let cases: [(&[u8], Option<Fault>); 24] = [
+        // Section ids: a custom section, a known one, an unknown one, a late one, a repeated one.
+        (b"\0asm\x01\0\0\0\0", later(8)),
+        (b"\0asm\x01\0\0\0\x02\x01", later(8)),
+        (
+            b"\0asm\x01\0\0\0\x0e",
+            Some(Fault::SectionOrder { offset: 8 }),
+        ),
+        (
+            b"\0asm\x01\0\0\0\x03\x01\0\x01",
+            Some(Fault::SectionOrder { offset: 11 }),
+        ),
+        (
+            b"\0asm\x01\0\0\0\x0a\x01\0\x0a",
+            Some(Fault::SectionOrder { offset: 11 }),
+        ),
+        (b"\0asm\x01\0\0\0\x03\x01\0\x0d", later(11)),
+        // Sizes and counts.
+        (
+            b"\0asm\x01\0\0\0\x01\xff\xff\xff\xff\x0f",
+            Some(Fault::SectionSize { offset: 9 }),
+        ),
+        (
+            b"\0asm\x01\0\0\0\x01\x80\x80\x80\x80\x10",
+            read(ErrorKind::TooLarge, 13),
+        ),
+        (
+            b"\0asm\x01\0\0\0\x01\x80\x80\x80\x80\x80\0",
+            read(ErrorKind::TooLong, 13),
+        ),
+        (
+            b"\0asm\x01\0\0\0\x01\x05\xff\xff\xff\xff\x0f",
+            read(ErrorKind::EndOfFile(1), 15),
+        ),
+        (
+            b"\0asm\x01\0\0\0\x01\x02\0\x60",
+            Some(Fault::SectionSize { offset: 11 }),
+        ),
+        (
+            b"\0asm\x01\0\0\0\x0a\x01\x01",
+            Some(Fault::Count { offset: 10 }),
+        ),
+        // Types: a group, a reference, a shared type, no type, too many parameters.
+        (b"\0asm\x01\0\0\0\x01\x02\x01\x4e", later(11)),
+        (b"\0asm\x01\0\0\0\x01\x04\x01\x60\x01\x70", later(13)),
+        (
+            b"\0asm\x01\0\0\0\x01\x05\x01\x65\x60\0\0",
+            read(ErrorKind::Feature, 11),
+        ),
+        (
+            b"\0asm\x01\0\0\0\x01\x04\x01\x60\x01\x40",
+            read(ErrorKind::BadByte, 13),
+        ),
+        (
+            b"\0asm\x01\0\0\0\x01\x07\x01\x60\xff\xff\xff\xff\x0f",
+            read(ErrorKind::Limit, 12),
+        ),
+        // A function without a type.
+        (
+            b"\0asm\x01\0\0\0\x03\x02\x01\0",
+            Some(Fault::Index {
+                space: Space::Type,
+                offset: 11,
+            }),
+        ),
+        // Exports: no function, a table, no kind, a name twice.
+        (
+            b"\0asm\x01\0\0\0\x07\x05\x01\x01f\0\0",
+            Some(Fault::Index {
+                space: Space::Function,
+                offset: 14,
+            }),
+        ),
+        (b"\0asm\x01\0\0\0\x07\x05\x01\x01f\x01\0", later(13)),
+        (
+            b"\0asm\x01\0\0\0\x07\x05\x01\x01f\x05\0",
+            read(ErrorKind::BadByte, 13),
+        ),
+        (
+            b"\0asm\x01\0\0\0\x01\x04\x01\x60\0\0\x03\x02\x01\0\x07\x09\x02\x01f\0\0\x01f\0\x01",
+            Some(Fault::DuplicateExport { offset: 25 }),
+        ),
+        // Bodies: too long, and with bytes behind their end.
+        (
+            b"\0asm\x01\0\0\0\x01\x04\x01\x60\0\0\x03\x02\x01\0\x0a\x05\x01\xb2\x97\xd3\x03",
+            Some(Fault::Limit {
+                of: Limited::Body,
+                offset: 21,
+            }),
+        ),
+        (
+            b"\0asm\x01\0\0\0\x01\x04\x01\x60\0\0\x03\x02\x01\0\x0a\x06\x01\x04\0\x0b\x01\x0b",
+            Some(Fault::Nesting { offset: 24 }),
+        ),
+    ];
+    for (bytes, want) in cases {
+        assert_eq!(rt; fault_of(rt.alloc(), &rt, bytes), want, "in {bytes:?}");
+    }
+}
+
+#[test]
+fn reads_types(rt: HostRuntime) -> Result<(), Fail> {
+    let bytes = b"\0asm\x01\0\0\0\x01\x07\x01\x60\x02\x7f\x7b\x01\x7c";
+    let module = parse(rt.alloc(), bytes, &Options::new())?;
+    assert_eq!(rt; module.types.len(), 1);
+    assert_eq!(rt;
+        module.types[0].params.as_slice(),
+        [ValType::I32, ValType::V128].as_slice()
+    );
+    assert_eq!(rt;
+        module.types[0].results.as_slice(),
+        [ValType::F64].as_slice()
+    );
+    Ok(())
+}
