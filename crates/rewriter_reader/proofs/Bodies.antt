@@ -36,27 +36,33 @@ pushed [] x y (suc k) h = inl h
 pushed (z ∷ zs) x y zero h = inl h
 pushed (z ∷ zs) x y (suc k) h = pushed zs x y k h
 
+-- a code in front, moved to the end of those before it
 one_front : (r : Result (List Code) Stop) (front : List Code) (code : Code) → with_front front (r >>= λ codes. Ok (code ∷ codes)) ≡ with_front (front ++ code ∷ []) r
 one_front (Ok more) front code = rw append_assoc refl
 one_front (Err e) front code = refl
 
+-- a body that was parsed, and then the others
 next_code : (features : Features) (left : ℕ) (c : sections.Chunk) (more : List sections.Chunk) (code : Code) → code_at features c.place c.bytes ≡ Ok code
     → codes_at features left (c ∷ more) ≡ (codes_at features left more >>= λ codes. Ok (code ∷ codes))
 unfolding codes_at
 next_code features left c more code h = rw h refl
 
+-- a body that stops
 no_code : (features : Features) (left : ℕ) (c : sections.Chunk) (more : List sections.Chunk) (s : Stop) → code_at features c.place c.bytes ≡ Err s
     → codes_at features left (c ∷ more) ≡ Err (stop s.trouble (s.left + (left - (c.place + length c.bytes))))
 unfolding codes_at
 no_code features left c more s h = rw h refl
 
+-- none in front
 front_nil : (r : Result (List Code) Stop) → r ≡ with_front [] r
 front_nil (Ok more) = refl
 front_nil (Err e) = refl
 
+-- nothing behind
 front_all : (front : List Code) → with_front front (Ok []) ≡ Ok front
 front_all front = rw append-nil refl
 
+-- before the first body
 pub starts : (features : Features) (types : List ℕ) (left : ℕ) (chunks : List Chunk) → Checks features types left chunks 0 []
 starts features types left chunks = record {
   so_far = front_nil (codes_at features left (map chunk_of chunks));
@@ -70,9 +76,11 @@ pub record IsChecked (features : Features) (f : Function) : Type 0 where
   pub spelled : code_at features f.place f.body.now ≡ Ok code
   pub sized : f.size ≡ size code.body
 
+-- the code that was found is what the function means
 code_is : (features : Features) (f : Function) (code : Code) → code_at features f.place f.body.now ≡ Ok code → code_in features f ≡ code
 code_is features f code h = rw h refl
 
+-- one more function
 still_sound : (features : Features) (functions : List Function) (f : Function) → IsSound features functions → IsChecked features f → IsSound features (functions ++ f ∷ [])
 still_sound features functions f sound checked =
     let is : code_in features f ≡ checked.code = code_is features f checked.code checked.spelled in
@@ -83,9 +91,11 @@ still_sound features functions f sound checked =
       sized = λ k g h. elim (pushed functions f g k h) [ inl e ↦ sound.sized k g e | inr e ↦ rw e sized ];
     }
 
+-- the next body, and those behind it
 rest_is : (chunks : List Chunk) (i : ℕ) (d : Chunk) → i < length chunks → drop i chunks ≡ get_or chunks i d ∷ drop (i + 1) chunks
 rest_is chunks i d below = rw add-one (drop-cons chunks i d below)
 
+-- one more body was checked
 pub goes_on : (features : Features) (types : List ℕ) (left : ℕ) (chunks : List Chunk) (i : ℕ) (functions : List Function) (d : Chunk) (size_ : ℕ)
     → Checks features types left chunks i functions → i < length chunks → i < length types
     → ((place : ℕ) → (code : Code) × (code_at features place (get_or chunks i d).bytes.now ≡ Ok code) × (size_ ≡ size code.body))
@@ -102,10 +112,12 @@ goes_on features types left chunks i functions d size_ so below within found =
       sound = still_sound features functions f so.sound checked;
     }
 
+-- a trouble with a name comes from the bytes
 pub known_if : (t : Trouble) → t ≢ Other → IsTrue (is_known t)
 known_if Other h = absurd (h refl)
 known_if _ h = refl
 
+-- and so does its fault
 placed : (e : Fault) → trouble_of e ≢ Other → IsPlaced e
 placed faults.Memory h = tt
 placed e h = known_if (trouble_of e) h
