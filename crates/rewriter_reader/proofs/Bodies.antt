@@ -3,7 +3,7 @@ use Rattle.std.proofs.Common.{ℕ, ◌≡◌, ◌+◌, ◌-◌, ◌<◌, ◌≤�
 use Rattle.std.proofs.lemmas.List.{map_push, append-nil, take_more, take_all, drop_all}
 use Rattle.wasm_model.specs.declared.fault.Fault.{Fault}
 use Rattle.wasm_model.specs.declared.fault.Fault.TheVariants as faults
-use Rattle.rewriter_reader.specs.Checked.{AreChecked, IsRefused, IsPlaced}
+use Rattle.rewriter_reader.specs.Checked.{AreChecked, StopsInBodies, IsPlaced}
 use Rattle.rewriter_reader.proofs.Stops.{stops_with}
 use Rattle.wasm_model.specs.Features.{Features}
 use Rattle.wasm_model.specs.NormalForm.{size}
@@ -128,7 +128,7 @@ pub refuses : (features : Features) (types : List ℕ) (code : BodiesCode) (i en
     → offset ≡ end - code.left + (get_or code.bodies.items i d).place
     → code_at features (get_or code.bodies.items i d).place (get_or code.bodies.items i d).bytes.now ≡ Err (stop (trouble_of e) (offset + length (get_or code.bodies.items i d).bytes.now - place_of e))
     → place_of e ≤ offset + length (get_or code.bodies.items i d).bytes.now → trouble_of e ≢ Other
-    → IsRefused features code end e
+    → StopsInBodies features code end e
 refuses features types code i end offset functions d e so below left within is h at known =
     let c = get_or code.bodies.items i d in
     let ends : c.place + length c.bytes.now ≤ code.left = within i d below in

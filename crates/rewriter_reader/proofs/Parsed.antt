@@ -16,7 +16,7 @@ use Rattle.rewriter_module.specs.declared.Module.{Module}
 use Rattle.rewriter_module.specs.Meaning.{meaning, function_of, code_in}
 use Rattle.rewriter_reader.specs.declared.sections.Sections.{Sections}
 use Rattle.rewriter_reader.specs.Seen.{Ends, sections_of}
-use Rattle.rewriter_reader.specs.Checked.{AreChecked, IsRefused}
+use Rattle.rewriter_reader.specs.Checked.{AreChecked, StopsInBodies}
 use Rattle.rewriter_reader.specs.IsStop.{IsStop}
 use Rattle.rewriter_reader.proofs.Bodies.{known_if}
 use Rattle.rewriter_reader.proofs.Named.{sections_named}
@@ -65,7 +65,7 @@ unfolding module_at
 in_bodies features bytes s t headed h k = rw (headed, h, k) refl
 
 -- the fault of bodies that stop
-pub bodies_stop : (features : Features) (bytes : List ℕ) (c : Cursor) (s : Sections) (e : Fault) → Behind bytes c → Ends sections_at sections_of c (Ok s) → IsRefused features s.code (length bytes) e → IsStop features bytes e
+pub bodies_stop : (features : Features) (bytes : List ℕ) (c : Cursor) (s : Sections) (e : Fault) → Behind bytes c → Ends sections_at sections_of c (Ok s) → StopsInBodies features s.code (length bytes) e → IsStop features bytes e
 bodies_stop features bytes c s faults.Memory behind ends refused = behind.headed
 bodies_stop features bytes c s e behind ends refused =
     (refused.placed, refused.place, in_bodies features bytes (sections_of s) (stop (trouble_of e) (length bytes - place_of e)) behind.headed (rw behind.left at ends.value) refused.stops)
