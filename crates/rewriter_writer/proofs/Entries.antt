@@ -65,28 +65,28 @@ with_entries-cons m n t next f fs e =
     let whole : List ℕ = t.bytes ++ size ++ body in
     let sized : length (sized_bytes body) ≡ length size + length body = length-append size body in
     let reached : length (t.bytes ++ size ++ body) ≡ length t.bytes + length (sized_bytes body) =
-      length-append (t.bytes ++ size) body ∙ (let first = length-append t.bytes size in omega (arith, sized, first)) in
+    length-append (t.bytes ++ size) body ∙ (let first = length-append t.bytes size in omega (arith, sized, first)) in
     let later : ℕ → List ℕ = λ k. flat_map code_bytes (placed_functions m n k fs) in
     let pairs : ℕ → List (ℕ × ℕ) = λ k. pairs_of_all m fs (placed_functions m n k fs) in
     let mine : ℕ → List (ℕ × ℕ) = λ k. pairs_of ops (placed k (written_operators m f)) in
     ap (λ (u : Text). with_entries m n u fs) e
     ∙ same_text (t.bytes ++ size ++ body ++ later (length (t.bytes ++ size ++ body))) (t.bytes ++ (sized_bytes (body_bytes (operators (placed (length t.bytes + length size + 1) (written_operators m f)))) ++ later (length t.bytes + length (sized_bytes body))))
-      (with_pairs (with_pairs t.pairs (mine (length (t.bytes ++ size) + 1))) (pairs (length (t.bytes ++ size ++ body)))) (with_pairs t.pairs (mine (length t.bytes + length size + 1) ++ pairs (length t.bytes + length (sized_bytes body))))
-      (ap (λ (k : ℕ). t.bytes ++ size ++ body ++ later k) reached
-        ∙ ap (λ (xs : List ℕ). xs ++ later (length t.bytes + length (sized_bytes body))) (append_assoc t.bytes size body)
-        ∙ append_assoc t.bytes (size ++ body) (later (length t.bytes + length (sized_bytes body)))
-        ∙ ap (λ (os : List Operator). t.bytes ++ (sized_bytes (body_bytes os) ++ later (length t.bytes + length (sized_bytes body)))) (sym (operators-placed (length t.bytes + length size + 1) (written_operators m f))))
-      (ap (λ (k : ℕ). with_pairs (with_pairs t.pairs (mine (length (t.bytes ++ size) + 1))) (pairs k)) reached
-        ∙ ap (λ (k : ℕ). with_pairs (with_pairs t.pairs (mine (k + 1))) (pairs (length t.bytes + length (sized_bytes body)))) (length-append t.bytes size)
-        ∙ with_pairs-append t.pairs (mine (length t.bytes + length size + 1)) (pairs (length t.bytes + length (sized_bytes body))))
+    (with_pairs (with_pairs t.pairs (mine (length (t.bytes ++ size) + 1))) (pairs (length (t.bytes ++ size ++ body)))) (with_pairs t.pairs (mine (length t.bytes + length size + 1) ++ pairs (length t.bytes + length (sized_bytes body))))
+    (ap (λ (k : ℕ). t.bytes ++ size ++ body ++ later k) reached
+    ∙ ap (λ (xs : List ℕ). xs ++ later (length t.bytes + length (sized_bytes body))) (append_assoc t.bytes size body)
+    ∙ append_assoc t.bytes (size ++ body) (later (length t.bytes + length (sized_bytes body)))
+    ∙ ap (λ (os : List Operator). t.bytes ++ (sized_bytes (body_bytes os) ++ later (length t.bytes + length (sized_bytes body)))) (sym (operators-placed (length t.bytes + length size + 1) (written_operators m f))))
+    (ap (λ (k : ℕ). with_pairs (with_pairs t.pairs (mine (length (t.bytes ++ size) + 1))) (pairs k)) reached
+    ∙ ap (λ (k : ℕ). with_pairs (with_pairs t.pairs (mine (k + 1))) (pairs (length t.bytes + length (sized_bytes body)))) (length-append t.bytes size)
+    ∙ with_pairs-append t.pairs (mine (length t.bytes + length size + 1)) (pairs (length t.bytes + length (sized_bytes body))))
 
 -- the entry of a function that stands first
 abbrev entry_at : Module → Numbers → ℕ → ℕ → Function
 entry_at m n place f = record {
-    type_ = slice_index n.new_type (function_at m f).type_;
-    locals = [];
-    body = placed (place + length (u32_bytes (length (body_bytes (written_operators m f)))) + 1) (written_operators m f)
-  }
+  type_ = slice_index n.new_type (function_at m f).type_;
+  locals = [];
+  body = placed (place + length (u32_bytes (length (body_bytes (written_operators m f)))) + 1) (written_operators m f);
+}
 
 -- each function of the list has its entry
 pub entry_of : (m : Module) (n : Numbers) (place : ℕ) (fs : List ℕ) (i f : ℕ) → i < length fs → get_or fs i f ≡ f
@@ -124,9 +124,9 @@ whole_codes : (m : Module) (n : Numbers) (places : Bool) → with_entries m n (c
 whole_codes m n places =
     let entries : List ℕ = flat_map code_bytes (placed_functions m n (length (u32_bytes (length n.functions))) n.functions) in
     same_text (u32_bytes (length n.functions) ++ entries) (u32_bytes (length (placed_functions m n (length (u32_bytes (length n.functions))) n.functions)) ++ entries)
-      (with_pairs (asked_pairs places []) (written_places m n)) (asked_pairs places (written_places m n))
-      (ap (λ (k : ℕ). u32_bytes k ++ entries) (sym (length-placed_functions m n (length (u32_bytes (length n.functions))) n.functions)))
-      (asked-with places (written_places m n))
+    (with_pairs (asked_pairs places []) (written_places m n)) (asked_pairs places (written_places m n))
+    (ap (λ (k : ℕ). u32_bytes k ++ entries) (sym (length-placed_functions m n (length (u32_bytes (length n.functions))) n.functions)))
+    (asked-with places (written_places m n))
 
 -- the loop's invariant: the entries that are left, behind what was written, make the whole
 pub record IsCoding (m : Module) (n : Numbers) (places : Bool) (text : Text) (i : ℕ) : Type 0 where
@@ -145,10 +145,10 @@ one_more m (g ∷ fs) f h k = (h.0, one_more m fs f h.1 k)
 module _ (m : Module) (n : Numbers) (places : Bool) where
   pub begins : (text : Text) → text ≡ counted n places → IsCoding m n places text 0
   begins text e = record {
-      so_far = ap (λ (t : Text). with_entries m n t n.functions) e ∙ whole_codes m n places;
-      short = let small = u32_small (length n.functions) in omega (arith, ap (λ (t : Text). length t.bytes) e, small);
-      bodies = no_bodies m n.functions
-    }
+    so_far = ap (λ (t : Text). with_entries m n t n.functions) e ∙ whole_codes m n places;
+    short = let small = u32_small (length n.functions) in omega (arith, ap (λ (t : Text). length t.bytes) e, small);
+    bodies = no_bodies m n.functions;
+  }
 
   module _ (text : Text) (i f : ℕ) (coding : IsCoding m n places text i) (inside : i < length n.functions) (is : f ≡ get_or n.functions i f) where
     left_are : drop i n.functions ≡ f ∷ drop (i + 1) n.functions
@@ -179,9 +179,6 @@ module _ (m : Module) (n : Numbers) (places : Bool) where
 
   pub codes_end : (text : Text) (i : ℕ) → IsCoding m n places text i → length n.functions ≤ i → text ≡ codes_text m n places
   codes_end text i coding h = sym (with_entries-nil m n text) ∙ ap (with_entries m n text) (sym (drop_all i n.functions h)) ∙ coding.so_far
-
-  pub bodies_end : (text : Text) (i : ℕ) → IsCoding m n places text i → length n.functions ≤ i → AreShort m n.functions
-  bodies_end text i coding h = subst (λ (fs : List ℕ). AreShort m fs) (take_all i n.functions h) coding.bodies
 
 read_again : (xs : List ℕ) (i : ℕ) → i < length xs → get_or xs i 0 ≡ get_or xs i (get_or xs i 0)
 read_again [] i h = absurd (omega arith)

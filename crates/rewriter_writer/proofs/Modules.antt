@@ -40,7 +40,7 @@ types_placed : (features : Features) (m : Module) (fs : List Held) (n : Numbers)
 types_placed features m fs n place [] e = refl
 types_placed features m fs n place (f ∷ kept) e =
     ap (λ (t : ℕ). u32_bytes (slice_index n.new_type t) ++ flat_map (λ f. u32_bytes (slice_index n.new_type (slice_index (map (λ g. g.type_index) fs) f))) kept)
-      (type_at_number features fs f ∙ ap (λ (gs : List Function). (slice_index_or gs f no_function).type_) (sym e))
+    (type_at_number features fs f ∙ ap (λ (gs : List Function). (slice_index_or gs f no_function).type_) (sym e))
     ∙ ap (λ (b : List ℕ). u32_bytes (slice_index n.new_type (function_at m f).type_) ++ b) (types_placed features m fs n (place + length (sized_bytes (body_bytes (written_operators m f)))) kept e)
 
 module _ (features : Features) (m : HeldModule) (n : Numbers) where

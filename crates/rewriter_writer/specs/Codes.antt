@@ -18,9 +18,9 @@ with_entry t ops = with_body (with_bytes t (u32_bytes (length (body_bytes (opera
 -- the entries of functions of these numbers
 abbrev pub with_entries : Module → Numbers → Text → List ℕ → Text
 with_entries m n t fs = record {
-    bytes = t.bytes ++ flat_map code_bytes (placed_functions m n (length t.bytes) fs);
-    pairs = with_pairs t.pairs (pairs_of_all m fs (placed_functions m n (length t.bytes) fs))
-  }
+  bytes = t.bytes ++ flat_map code_bytes (placed_functions m n (length t.bytes) fs);
+  pairs = with_pairs t.pairs (pairs_of_all m fs (placed_functions m n (length t.bytes) fs));
+}
 
 -- pairs that are asked for or aren't
 abbrev pub asked_pairs : Bool → List (ℕ × ℕ) → Option (List (ℕ × ℕ))

@@ -23,18 +23,20 @@ use wasm_model::fault::Limited;
 use wasm_model::options::Options;
 
 // A body behind its size.
-fn write_entry(writer: &mut CodeWriter, options: &Options, function: &Function) -> Result<(), Failure>
+fn write_entry(
+    writer: &mut CodeWriter,
+    options: &Options,
+    function: &Function,
+) -> Result<(), Failure>
     requires reads { code_at (features_of options.now) function.now.place function.now.body.now ≡ Ok (code_in (features_of options.now) function.now) }
     requires place { function.now.place + length function.now.body.now < 2 ^ 32 }
     requires room { length writer.old.bytes.items ≤ 2 ^ 30 }
     ensures ok { OnOk result (text_of writer.new ≡ with_entry (text_of writer.old) (normal_form (code_in (features_of options.now) function.now).body)) }
     ensures short { OnOk result (length writer.new.bytes.items ≤ 2 ^ 30) }
     ensures fits { OnOk result (length (body_bytes (operators (normal_form (code_in (features_of options.now) function.now).body))) ≤ 7654321) }
-    ensures cause {
-        IfErr result (λ e. IsCauseOfEntry e
-            (length (body_bytes (operators (normal_form (code_in (features_of options.now) function.now).body))))
-            (length (with_entry (text_of writer.old) (normal_form (code_in (features_of options.now) function.now).body)).bytes))
-    }
+    ensures cause { IfErr result (λ e. IsCauseOfEntry e
+        (length (body_bytes (operators (normal_form (code_in (features_of options.now) function.now).body))))
+        (length (with_entry (text_of writer.old) (normal_form (code_in (features_of options.now) function.now).body)).bytes)) }
 {
     let Ok(extent) = measure_body(options, function.body, 0) else {
         unreachable!()
@@ -59,18 +61,19 @@ pub fn no_places(alloc: Global, places: bool) -> Option<Vec<(u32, u32)>>
 
 /// vec(code): the bodies of the functions that a numbering keeps, and their pairs of places where
 /// they are asked for.
-pub fn write_codes(alloc: Global, options: &Options, module: &Module, numbering: &Numbering) -> Result<CodeWriter, Failure>
-    requires sound { IsSound (features_of options.now) module.now.functions.items }
-    requires fits { IsWritable module.now numbering.now }
-    ensures ok {
-        IfOk result (λ w. text_of w ≡ codes_text (meaning (features_of options.now) module.now) (numbers_of numbering.now) options.now.places)
-    }
-    ensures bodies { OnOk result (AreShort (meaning (features_of options.now) module.now) (numbers_of numbering.now).functions) }
-    ensures cause {
-        IfErr result (λ e. IsCause e
-            (written (meaning (features_of options.now) module.now) (numbers_of numbering.now)).functions
-            (codes_text (meaning (features_of options.now) module.now) (numbers_of numbering.now) options.now.places).bytes)
-    }
+pub fn write_codes(
+    alloc: Global,
+    options: &Options,
+    source: &Module,
+    numbering: &Numbering,
+) -> Result<CodeWriter, Failure>
+    requires sound { IsSound (features_of options.now) source.now.functions.items }
+    requires fits { IsWritable source.now numbering.now }
+    ensures ok { IfOk result (λ w. text_of w ≡ codes_text (meaning (features_of options.now) source.now) (numbers_of numbering.now) options.now.places) }
+    ensures bodies { OnOk result (AreShort (meaning (features_of options.now) source.now) (numbers_of numbering.now).functions) }
+    ensures cause { IfErr result (λ e. IsCause e
+        (written (meaning (features_of options.now) source.now) (numbers_of numbering.now)).functions
+        (codes_text (meaning (features_of options.now) source.now) (numbers_of numbering.now) options.now.places).bytes) }
 {
     let mut writer = CodeWriter {
         bytes: Vec::new(alloc),
@@ -78,7 +81,7 @@ pub fn write_codes(alloc: Global, options: &Options, module: &Module, numbering:
     };
     write_u32(&mut writer.bytes, numbering.functions.len() as u32)?;
     for &f in &numbering.functions {
-        write_entry(&mut writer, options, &module.functions[f as usize])?;
+        write_entry(&mut writer, options, &source.functions[f as usize])?;
     }
     Ok(writer)
 }

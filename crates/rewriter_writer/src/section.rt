@@ -38,18 +38,19 @@ fn write_section(out: &mut Vec<u8>, id: u8, contents: &[u8]) -> Result<(), Failu
 }
 
 /// Section 1: the types of these numbers.
-pub fn write_type_section(alloc: Global, out: &mut Vec<u8>, types: &[FunctionType], kept: &[u32]) -> Result<(), Failure>
+pub fn write_type_section(
+    alloc: Global,
+    out: &mut Vec<u8>,
+    types: &[FunctionType],
+    kept: &[u32],
+) -> Result<(), Failure>
     requires few { length kept.now < 2 ^ 32 }
     requires there { All (λ t. t < length types.now) kept.now }
     requires short { All IsShortType types.now }
-    ensures ok {
-        OnOk result (out.new.items ≡ out.old.items
-            ++ section_bytes 1 (λ t. type_bytes (slice_index_or (map type_of types.now) t no_type)) kept.now)
-    }
-    ensures cause {
-        IfErr result (λ e. (fs : List WrittenFunction) →
-            IsCause e fs (section_bytes 1 (λ t. type_bytes (slice_index_or (map type_of types.now) t no_type)) kept.now))
-    }
+    ensures ok { OnOk result (out.new.items ≡ out.old.items
+        ++ section_bytes 1 (λ t. type_bytes (slice_index_or (map type_of types.now) t no_type)) kept.now) }
+    ensures cause { IfErr result (λ e. (fs : List WrittenFunction) →
+        IsCause e fs (section_bytes 1 (λ t. type_bytes (slice_index_or (map type_of types.now) t no_type)) kept.now)) }
 {
     if kept.is_empty() {
         return Ok(());
@@ -70,14 +71,10 @@ pub fn write_function_section(
     requires few { length kept.now < 2 ^ 32 }
     requires there { All (λ f. f < length functions.now) kept.now }
     requires typed { All (λ f. f.type_index < length new_type.now) functions.now }
-    ensures ok {
-        OnOk result (out.new.items ≡ out.old.items
-            ++ section_bytes 3 (λ f. u32_bytes (slice_index new_type.now (slice_index (map (λ g. g.type_index) functions.now) f))) kept.now)
-    }
-    ensures cause {
-        IfErr result (λ e. (fs : List WrittenFunction) → IsCause e fs
-            (section_bytes 3 (λ f. u32_bytes (slice_index new_type.now (slice_index (map (λ g. g.type_index) functions.now) f))) kept.now))
-    }
+    ensures ok { OnOk result (out.new.items ≡ out.old.items
+        ++ section_bytes 3 (λ f. u32_bytes (slice_index new_type.now (slice_index (map (λ g. g.type_index) functions.now) f))) kept.now) }
+    ensures cause { IfErr result (λ e. (fs : List WrittenFunction) → IsCause e fs
+        (section_bytes 3 (λ f. u32_bytes (slice_index new_type.now (slice_index (map (λ g. g.type_index) functions.now) f))) kept.now)) }
 {
     if kept.is_empty() {
         return Ok(());
@@ -88,18 +85,19 @@ pub fn write_function_section(
 }
 
 /// Section 7: exports, renamed.
-pub fn write_export_section(alloc: Global, out: &mut Vec<u8>, numbering: &Numbering, exports: &[Export]) -> Result<(), Failure>
+pub fn write_export_section(
+    alloc: Global,
+    out: &mut Vec<u8>,
+    numbering: &Numbering,
+    exports: &[Export],
+) -> Result<(), Failure>
     requires few { length exports.now < 2 ^ 32 }
     requires short { All IsShortName exports.now }
     requires there { All (λ e. e.function < length numbering.now.new_function.items) exports.now }
-    ensures ok {
-        OnOk result (out.new.items ≡ out.old.items
-            ++ section_bytes 7 (λ e. export_bytes (renamed_export (renaming (numbers_of numbering.now)) (export_of e))) exports.now)
-    }
-    ensures cause {
-        IfErr result (λ e. (fs : List WrittenFunction) → IsCause e fs
-            (section_bytes 7 (λ e. export_bytes (renamed_export (renaming (numbers_of numbering.now)) (export_of e))) exports.now))
-    }
+    ensures ok { OnOk result (out.new.items ≡ out.old.items
+        ++ section_bytes 7 (λ e. export_bytes (renamed_export (renaming (numbers_of numbering.now)) (export_of e))) exports.now) }
+    ensures cause { IfErr result (λ e. (fs : List WrittenFunction) → IsCause e fs
+        (section_bytes 7 (λ e. export_bytes (renamed_export (renaming (numbers_of numbering.now)) (export_of e))) exports.now)) }
 {
     if exports.is_empty() {
         return Ok(());
@@ -115,30 +113,24 @@ pub fn write_code_section(
     alloc: Global,
     out: &mut Vec<u8>,
     options: &Options,
-    module: &Module,
+    source: &Module,
     numbering: &Numbering,
 ) -> Result<Option<Vec<(u32, u32)>>, Failure>
-    requires sound { IsSound (features_of options.now) module.now.functions.items }
-    requires fits { IsWritable module.now numbering.now }
-    ensures ok {
-        OnOk result (out.new.items ≡ out.old.items
-            ++ section_bytes 10 code_bytes (written (meaning (features_of options.now) module.now) (numbers_of numbering.now)).functions)
-    }
-    ensures places {
-        IfOk result (λ places. option_map (λ v. v.items) places
-            ≡ asked_pairs options.now.places (written_places (meaning (features_of options.now) module.now) (numbers_of numbering.now)))
-    }
-    ensures bodies { OnOk result (AreShort (meaning (features_of options.now) module.now) (numbers_of numbering.now).functions) }
-    ensures cause {
-        IfErr result (λ e. IsCause e
-            (written (meaning (features_of options.now) module.now) (numbers_of numbering.now)).functions
-            (section_bytes 10 code_bytes (written (meaning (features_of options.now) module.now) (numbers_of numbering.now)).functions))
-    }
+    requires sound { IsSound (features_of options.now) source.now.functions.items }
+    requires fits { IsWritable source.now numbering.now }
+    ensures ok { OnOk result (out.new.items ≡ out.old.items
+        ++ section_bytes 10 code_bytes (written (meaning (features_of options.now) source.now) (numbers_of numbering.now)).functions) }
+    ensures places { IfOk result (λ places. option_map (λ v. v.items) places
+        ≡ asked_pairs options.now.places (written_places (meaning (features_of options.now) source.now) (numbers_of numbering.now))) }
+    ensures bodies { OnOk result (AreShort (meaning (features_of options.now) source.now) (numbers_of numbering.now).functions) }
+    ensures cause { IfErr result (λ e. IsCause e
+        (written (meaning (features_of options.now) source.now) (numbers_of numbering.now)).functions
+        (section_bytes 10 code_bytes (written (meaning (features_of options.now) source.now) (numbers_of numbering.now)).functions)) }
 {
     if numbering.functions.is_empty() {
         return Ok(no_places(alloc, options.places));
     }
-    let codes = write_codes(alloc, options, module, numbering)?;
+    let codes = write_codes(alloc, options, source, numbering)?;
     write_section(out, 10, &codes.bytes)?;
     Ok(codes.places)
 }

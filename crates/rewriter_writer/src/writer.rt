@@ -13,7 +13,9 @@ ghost use Rattle.rewriter_writer.specs.Causes.{IsCause, IsUnwritten, AreShort};
 
 use crate::failure::Failure;
 use crate::limits::MAX_FILE_SIZE;
-use crate::section::{write_code_section, write_export_section, write_function_section, write_type_section};
+use crate::section::{
+    write_code_section, write_export_section, write_function_section, write_type_section,
+};
 use rewriter_module::{Module, Numbering};
 use std::alloc::{AllocError, Global};
 use wasm_model::fault::{Fault, Limited};
@@ -44,37 +46,36 @@ fn write_added(out: &mut Vec<u8>, options: &Options) -> Result<(), AllocError>
     Ok(())
 }
 
-fn write_parts(alloc: Global, options: &Options, module: &Module, numbering: &Numbering) -> Result<Written, Failure>
-    requires sound { IsSound (features_of options.now) module.now.functions.items }
-    requires fits { IsWritable module.now numbering.now }
-    ensures bytes {
-        IfOk result (λ w. w.bytes.items
-            ≡ module_bytes (written (meaning (features_of options.now) module.now) (numbers_of numbering.now)) ++ added_bytes options.now)
-    }
+fn write_parts(
+    alloc: Global,
+    options: &Options,
+    source: &Module,
+    numbering: &Numbering,
+) -> Result<Written, Failure>
+    requires sound { IsSound (features_of options.now) source.now.functions.items }
+    requires fits { IsWritable source.now numbering.now }
+    ensures bytes { IfOk result (λ w. w.bytes.items
+        ≡ module_bytes (written (meaning (features_of options.now) source.now) (numbers_of numbering.now)) ++ added_bytes options.now) }
     ensures short { IfOk result (λ w. length w.bytes.items ≤ 2 ^ 30) }
-    ensures places {
-        IfOk result (λ w. option_map (λ v. v.items) w.places
-            ≡ asked_pairs options.now.places (written_places (meaning (features_of options.now) module.now) (numbers_of numbering.now)))
-    }
-    ensures bodies { OnOk result (AreShort (meaning (features_of options.now) module.now) (numbers_of numbering.now).functions) }
-    ensures cause {
-        IfErr result (λ e. IsCause e
-            (written (meaning (features_of options.now) module.now) (numbers_of numbering.now)).functions
-            (module_bytes (written (meaning (features_of options.now) module.now) (numbers_of numbering.now)) ++ added_bytes options.now))
-    }
+    ensures places { IfOk result (λ w. option_map (λ v. v.items) w.places
+        ≡ asked_pairs options.now.places (written_places (meaning (features_of options.now) source.now) (numbers_of numbering.now))) }
+    ensures bodies { OnOk result (AreShort (meaning (features_of options.now) source.now) (numbers_of numbering.now).functions) }
+    ensures cause { IfErr result (λ e. IsCause e
+        (written (meaning (features_of options.now) source.now) (numbers_of numbering.now)).functions
+        (module_bytes (written (meaning (features_of options.now) source.now) (numbers_of numbering.now)) ++ added_bytes options.now)) }
 {
     let mut bytes = Vec::new(alloc);
     bytes.extend_from_slice(HEADER)?;
-    write_type_section(alloc, &mut bytes, &module.types, &numbering.types)?;
+    write_type_section(alloc, &mut bytes, &source.types, &numbering.types)?;
     write_function_section(
         alloc,
         &mut bytes,
-        &module.functions,
+        &source.functions,
         &numbering.new_type,
         &numbering.functions,
     )?;
-    write_export_section(alloc, &mut bytes, numbering, &module.exports)?;
-    let places = write_code_section(alloc, &mut bytes, options, module, numbering)?;
+    write_export_section(alloc, &mut bytes, numbering, &source.exports)?;
+    let places = write_code_section(alloc, &mut bytes, options, source, numbering)?;
     write_added(&mut bytes, options)?;
     if bytes.len() > MAX_FILE_SIZE {
         return Err(Failure::Limit { of: Limited::File });
@@ -88,24 +89,23 @@ fn write_parts(alloc: Global, options: &Options, module: &Module, numbering: &Nu
 /// # Errors
 ///
 /// [`Fault::OutputLimit`] where a body or the file would pass its limit, and [`Fault::Memory`].
-pub fn write_module(alloc: Global, options: &Options, module: &Module, numbering: &Numbering) -> Result<Written, Fault>
-    requires sound { IsSound (features_of options.now) module.now.functions.items }
-    requires fits { IsWritable module.now numbering.now }
-    ensures bytes {
-        IfOk result (λ w. w.bytes.items
-            ≡ module_bytes (written (meaning (features_of options.now) module.now) (numbers_of numbering.now)) ++ added_bytes options.now)
-    }
+pub fn write_module(
+    alloc: Global,
+    options: &Options,
+    source: &Module,
+    numbering: &Numbering,
+) -> Result<Written, Fault>
+    requires sound { IsSound (features_of options.now) source.now.functions.items }
+    requires fits { IsWritable source.now numbering.now }
+    ensures bytes { IfOk result (λ w. w.bytes.items
+        ≡ module_bytes (written (meaning (features_of options.now) source.now) (numbers_of numbering.now)) ++ added_bytes options.now) }
     ensures short { IfOk result (λ w. length w.bytes.items ≤ 2 ^ 30) }
-    ensures places {
-        IfOk result (λ w. option_map (λ v. v.items) w.places
-            ≡ asked_pairs options.now.places (written_places (meaning (features_of options.now) module.now) (numbers_of numbering.now)))
-    }
-    ensures bodies { OnOk result (AreShort (meaning (features_of options.now) module.now) (numbers_of numbering.now).functions) }
-    ensures refused {
-        IfErr result (λ e. IsUnwritten options.now (written (meaning (features_of options.now) module.now) (numbers_of numbering.now)) e)
-    }
+    ensures places { IfOk result (λ w. option_map (λ v. v.items) w.places
+        ≡ asked_pairs options.now.places (written_places (meaning (features_of options.now) source.now) (numbers_of numbering.now))) }
+    ensures bodies { OnOk result (AreShort (meaning (features_of options.now) source.now) (numbers_of numbering.now).functions) }
+    ensures refused { IfErr result (λ e. IsUnwritten options.now (written (meaning (features_of options.now) source.now) (numbers_of numbering.now)) e) }
 {
-    match write_parts(alloc, options, module, numbering) {
+    match write_parts(alloc, options, source, numbering) {
         Ok(written) => Ok(written),
         Err(Failure::Memory) => Err(Fault::Memory),
         Err(Failure::Limit { of }) => Err(Fault::OutputLimit { of }),

@@ -6,4 +6,4 @@ use Rattle.rewriter_writer.proofs.Entries.{IsCoding}
 use Rattle.rewriter_writer.proofs.code.write_codes.Given as goal
 
 abbrev pub invariant-loop-f : goal.invariant-loop-f
-invariant-loop-f l = IsCoding (meaning (features_of l.options) l.module) (numbers_of l.numbering) l.options.places (text_of l.writer) l.f-index
+invariant-loop-f l = IsCoding (meaning (features_of l.options) l.source) (numbers_of l.numbering) l.options.places (text_of l.writer) l.f-index

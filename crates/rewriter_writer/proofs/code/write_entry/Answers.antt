@@ -25,16 +25,19 @@ pub returns-then-len-gt-MAX_FILE_SIZE-clause-cause : goal.returns-then-len-gt-MA
 returns-then-len-gt-MAX_FILE_SIZE-clause-cause c =
     let size = measured _ (code_in (features_of c.args.options.now) c.args.function.now) c.in-Ok.extent c.requires.reads (c.in-Ok.ensures.extent c.args.function.now.place) in
     let behind : c.write_u32.new.out.items ≡ c.args.writer.now.bytes.items ++ u32_bytes (length (body_bytes (operators (normal_form (code_in (features_of c.args.options.now) c.args.function.now).body)))) =
-      c.in_ok-write_u32.ensures ∙ ap (λ (n : ℕ). c.args.writer.now.bytes.items ++ u32_bytes n) size in
+    c.in_ok-write_u32.ensures ∙ ap (λ (n : ℕ). c.args.writer.now.bytes.items ++ u32_bytes n) size in
     let whole = c.in_ok-write_body.ensures (code_in (features_of c.args.options.now) c.args.function.now) c.requires.reads in
-    omega (arith, ap (λ (t : Text). length t.bytes) whole,
-      ap (λ (b : List ℕ). length (b ++ body_bytes (operators (normal_form (code_in (features_of c.args.options.now) c.args.function.now).body)))) behind)
+    omega (
+      arith,
+      ap (λ (t : Text). length t.bytes) whole,
+      ap (λ (b : List ℕ). length (b ++ body_bytes (operators (normal_form (code_in (features_of c.args.options.now) c.args.function.now).body)))) behind,
+    )
 
 pub returns-clause-ok : goal.returns-clause-ok
 returns-clause-ok c =
     let size = measured _ (code_in (features_of c.args.options.now) c.args.function.now) c.in-Ok.extent c.requires.reads (c.in-Ok.ensures.extent c.args.function.now.place) in
     let behind : c.write_u32.new.out.items ≡ c.args.writer.now.bytes.items ++ u32_bytes (length (body_bytes (operators (normal_form (code_in (features_of c.args.options.now) c.args.function.now).body)))) =
-      c.in_ok-write_u32.ensures ∙ ap (λ (n : ℕ). c.args.writer.now.bytes.items ++ u32_bytes n) size in
+    c.in_ok-write_u32.ensures ∙ ap (λ (n : ℕ). c.args.writer.now.bytes.items ++ u32_bytes n) size in
     c.in_ok-write_body.ensures (code_in (features_of c.args.options.now) c.args.function.now) c.requires.reads
     ∙ ap (λ (b : List ℕ). with_body (record { bytes = b; pairs = (text_of c.args.writer.now).pairs }) (normal_form (code_in (features_of c.args.options.now) c.args.function.now).body)) behind
 

@@ -14,8 +14,8 @@ use Rattle.rewriter_writer.proofs.section.write_code_section.Goals as goal
 pub returns-in_err-write_section-clause-cause : goal.returns-in_err-write_section-clause-cause
 returns-in_err-write_section-clause-cause c =
     let kept : 0 < length c.args.numbering.now.functions.items = search rules in
-    let there = length-placed_functions (meaning (features_of c.args.options.now) c.args.module.now) (numbers_of c.args.numbering.now) (length (u32_bytes (length c.args.numbering.now.functions.items))) c.args.numbering.now.functions.items in
-    let functions : List Function = (written (meaning (features_of c.args.options.now) c.args.module.now) (numbers_of c.args.numbering.now)).functions in
+    let there = length-placed_functions (meaning (features_of c.args.options.now) c.args.source.now) (numbers_of c.args.numbering.now) (length (u32_bytes (length c.args.numbering.now.functions.items))) c.args.numbering.now.functions.items in
+    let functions : List Function = (written (meaning (features_of c.args.options.now) c.args.source.now) (numbers_of c.args.numbering.now)).functions in
     let some : 0 < length functions = omega (arith, there, kept) in
     let contents : c.deref.result.now ≡ vec_bytes code_bytes functions = c.deref.ensures.value ∙ ap (λ (t : Text). t.bytes) c.in_ok-codes.ensures.ok in
     let p = err_from_is_err_and c.from_residual-in_err-write_section.result c.from_residual-in_err-write_section.ensures.1 in
@@ -24,8 +24,8 @@ returns-in_err-write_section-clause-cause c =
 pub returns-clause-ok : goal.returns-clause-ok
 returns-clause-ok c =
     let kept : 0 < length c.args.numbering.now.functions.items = search rules in
-    let there = length-placed_functions (meaning (features_of c.args.options.now) c.args.module.now) (numbers_of c.args.numbering.now) (length (u32_bytes (length c.args.numbering.now.functions.items))) c.args.numbering.now.functions.items in
-    let functions : List Function = (written (meaning (features_of c.args.options.now) c.args.module.now) (numbers_of c.args.numbering.now)).functions in
+    let there = length-placed_functions (meaning (features_of c.args.options.now) c.args.source.now) (numbers_of c.args.numbering.now) (length (u32_bytes (length c.args.numbering.now.functions.items))) c.args.numbering.now.functions.items in
+    let functions : List Function = (written (meaning (features_of c.args.options.now) c.args.source.now) (numbers_of c.args.numbering.now)).functions in
     let some : 0 < length functions = omega (arith, there, kept) in
     let contents : c.deref.result.now ≡ vec_bytes code_bytes functions = c.deref.ensures.value ∙ ap (λ (t : Text). t.bytes) c.in_ok-codes.ensures.ok in
     c.in_ok-write_section.ensures.ok
@@ -35,8 +35,8 @@ returns-clause-ok c =
 pub returns-in_err-codes-clause-cause : goal.returns-in_err-codes-clause-cause
 returns-in_err-codes-clause-cause c =
     let kept : 0 < length c.args.numbering.now.functions.items = search rules in
-    let there = length-placed_functions (meaning (features_of c.args.options.now) c.args.module.now) (numbers_of c.args.numbering.now) (length (u32_bytes (length c.args.numbering.now.functions.items))) c.args.numbering.now.functions.items in
-    let functions : List Function = (written (meaning (features_of c.args.options.now) c.args.module.now) (numbers_of c.args.numbering.now)).functions in
+    let there = length-placed_functions (meaning (features_of c.args.options.now) c.args.source.now) (numbers_of c.args.numbering.now) (length (u32_bytes (length c.args.numbering.now.functions.items))) c.args.numbering.now.functions.items in
+    let functions : List Function = (written (meaning (features_of c.args.options.now) c.args.source.now) (numbers_of c.args.numbering.now)).functions in
     let some : 0 < length functions = omega (arith, there, kept) in
     let p = err_from_is_err_and c.from_residual.result c.from_residual.ensures.1 in
     rw (p.1, p.2) (section_cause 10 code_bytes functions (vec_bytes code_bytes functions) _ functions some refl c.in_err-codes.ensures.cause)
