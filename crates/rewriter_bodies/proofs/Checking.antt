@@ -135,5 +135,5 @@ parts_of features place bytes code e =
       behind = first.0.1;
       last = second.0.1;
       counted = first.1;
-      operators = second.1 ∙ ap (λ (c : Code). Ok (c.body, second.0.1)) it
+      operators = second.1 ∙ ap (λ (c : Code). Ok (c.body, second.0.1)) it;
     }

@@ -46,10 +46,10 @@ with_operators-more t next o p ops e f =
     let size : length next.bytes ≡ length t.bytes + length (operator_bytes o) = ap length e ∙ length-append t.bytes (operator_bytes o) in
     let later : ℕ → List (ℕ × ℕ) = λ n. pairs_of ops (placed n (operators ops)) in
     same_text (next.bytes ++ flat_map operator_bytes (operators ops)) (t.bytes ++ (operator_bytes o ++ flat_map operator_bytes (operators ops)))
-      (with_pairs next.pairs (later (length next.bytes))) (with_pairs t.pairs ((p, length t.bytes) ∷ later (length t.bytes + length (operator_bytes o))))
-      (ap (λ (b : List ℕ). b ++ flat_map operator_bytes (operators ops)) e ∙ append_assoc t.bytes (operator_bytes o) (flat_map operator_bytes (operators ops)))
-      (ap (λ (n : ℕ). with_pairs next.pairs (later n)) size ∙ ap (λ (ps : Option (List (ℕ × ℕ))). with_pairs ps (later (length t.bytes + length (operator_bytes o)))) f
-        ∙ with_pairs-append t.pairs ((p, length t.bytes) ∷ []) (later (length t.bytes + length (operator_bytes o))))
+    (with_pairs next.pairs (later (length next.bytes))) (with_pairs t.pairs ((p, length t.bytes) ∷ later (length t.bytes + length (operator_bytes o))))
+    (ap (λ (b : List ℕ). b ++ flat_map operator_bytes (operators ops)) e ∙ append_assoc t.bytes (operator_bytes o) (flat_map operator_bytes (operators ops)))
+    (ap (λ (n : ℕ). with_pairs next.pairs (later n)) size ∙ ap (λ (ps : Option (List (ℕ × ℕ))). with_pairs ps (later (length t.bytes + length (operator_bytes o)))) f
+    ∙ with_pairs-append t.pairs ((p, length t.bytes) ∷ []) (later (length t.bytes + length (operator_bytes o))))
 
 with_operators-nil : (t : Text) → with_operators t [] ≡ t
 with_operators-nil t = same_text (t.bytes ++ []) t.bytes (with_pairs t.pairs []) t.pairs (append-nil t.bytes) (with_pairs-nil t.pairs)
@@ -95,9 +95,9 @@ module _ (features : Features) (start now : Cursor) (first text : Text) (reached
 
     on : (later : Text) → ((ops : List (Operator × Option ℕ)) → with_operators later ops ≡ with_operators text (put kept (operator_of o) (end_of start - length (rest now)) ops)) → IsWriting features start next first later after
     on later same = record {
-        way = goes_on features (end_of start) start whole now next (λ ops. with_operators text (live reached ops)) is.way (operator_of o) (no_end o h) read moves
-          (λ ops. with_operators later (live after ops)) (λ ops. same (live after ops) ∙ ap (with_operators text) (sym (keeps (end_of start - length (rest now)) ops)))
-      }
+      way = goes_on features (end_of start) start whole now next (λ ops. with_operators text (live reached ops)) is.way (operator_of o) (no_end o h) read moves
+          (λ ops. with_operators later (live after ops)) (λ ops. same (live after ops) ∙ ap (with_operators text) (sym (keeps (end_of start - length (rest now)) ops)));
+    }
 
     pub passes_text : kept ≡ false → IsWriting features start next first text after
     passes_text e = on text (λ ops. ap (λ (b : Bool). with_operators text (put b (operator_of o) (end_of start - length (rest now)) ops)) (sym e))
@@ -114,10 +114,10 @@ module _ (features : Features) (start now : Cursor) (first text : Text) (reached
   writes_out next read later p at bytes pairs =
       ends features (end_of start) start whole now next (λ ops. with_operators text (live reached ops)) is.way read
       ∙ ap (λ (t : Text). Ok (t, rest next))
-        (ap (with_operators text) (live_end reached (end_of start - length (rest now)))
-        ∙ sym (ap (λ (n : ℕ). with_operators text ((End, Some n) ∷ [])) (place_is p at))
-        ∙ sym (with_operators-more text later End p [] bytes pairs)
-        ∙ with_operators-nil later)
+      (ap (with_operators text) (live_end reached (end_of start - length (rest now)))
+      ∙ sym (ap (λ (n : ℕ). with_operators text ((End, Some n) ∷ [])) (place_is p at))
+      ∙ sym (with_operators-more text later End p [] bytes pairs)
+      ∙ with_operators-nil later)
 
 -- a body behind a text is its operators behind the count of locals
 pub with_body-is : (t next : Text) (ops : List (Operator × Option ℕ)) → next.bytes ≡ t.bytes ++ 0 ∷ [] → next.pairs ≡ t.pairs → with_operators next ops ≡ with_body t ops
@@ -125,8 +125,8 @@ with_body-is t next ops e f =
     let size : length next.bytes ≡ length t.bytes + 1 = ap length e ∙ length-append t.bytes (0 ∷ []) in
     let later : ℕ → List (ℕ × ℕ) = λ n. pairs_of ops (placed n (operators ops)) in
     same_text (next.bytes ++ flat_map operator_bytes (operators ops)) (t.bytes ++ body_bytes (operators ops)) (with_pairs next.pairs (later (length next.bytes))) (with_pairs t.pairs (later (length t.bytes + 1)))
-      (ap (λ (b : List ℕ). b ++ flat_map operator_bytes (operators ops)) e ∙ append_assoc t.bytes (0 ∷ []) (flat_map operator_bytes (operators ops)))
-      (ap (λ (n : ℕ). with_pairs next.pairs (later n)) size ∙ ap (λ (ps : Option (List (ℕ × ℕ))). with_pairs ps (later (length t.bytes + 1))) f)
+    (ap (λ (b : List ℕ). b ++ flat_map operator_bytes (operators ops)) e ∙ append_assoc t.bytes (0 ∷ []) (flat_map operator_bytes (operators ops)))
+    (ap (λ (n : ℕ). with_pairs next.pairs (later n)) size ∙ ap (λ (ps : Option (List (ℕ × ℕ))). with_pairs ps (later (length t.bytes + 1))) f)
 
 ok_is : {A B : Type 0} (x y : A) → (let done : A → Result A B = λ z. Ok z in done x ≡ done y) → x ≡ y
 ok_is x y e = cc
@@ -157,9 +157,12 @@ module _ (features : Features) (place : ℕ) (body : List ℕ) (start : Cursor) 
         ∙ ap (λ (u : Text). Ok (u, parts.last)) (with_body-is t after (normal_form code.body) bytes pairs)
 
     pub has_text : length t.bytes + length (body_bytes (operators (normal_form code.body))) < 2 ^ 32 → HasText features next after
-    has_text small =
-        (with_body t (normal_form code.body), (parts_of features place body code reads).last, body_text,
-          let size = length-append t.bytes (body_bytes (operators (normal_form code.body))) in omega (arith, size, small))
+    has_text small = (
+      with_body t (normal_form code.body),
+      (parts_of features place body code reads).last,
+      body_text,
+      let size = length-append t.bytes (body_bytes (operators (normal_form code.body))) in omega (arith, size, small),
+    )
 
     pub is_text : (new : Text) (later : List ℕ) → text_at features (end_of next) after (rest next) ≡ Ok (new, later) → new ≡ with_body t (normal_form code.body)
     is_text new later e = firsts new (with_body t (normal_form code.body)) later (parts_of features place body code reads).last (sym e ∙ body_text)

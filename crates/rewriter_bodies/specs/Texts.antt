@@ -27,16 +27,16 @@ with_pairs (Some pairs) more = Some (pairs ++ more)
 -- operators behind a text, and their pairs
 abbrev pub with_operators : Text → List (Operator × Option ℕ) → Text
 with_operators t ops = record {
-    bytes = t.bytes ++ flat_map operator_bytes (operators ops);
-    pairs = with_pairs t.pairs (pairs_of ops (placed (length t.bytes) (operators ops)))
-  }
+  bytes = t.bytes ++ flat_map operator_bytes (operators ops);
+  pairs = with_pairs t.pairs (pairs_of ops (placed (length t.bytes) (operators ops)));
+}
 
 -- a body behind a text: the count of locals, one byte, and the operators
 abbrev pub with_body : Text → List (Operator × Option ℕ) → Text
 with_body t ops = record {
-    bytes = t.bytes ++ body_bytes (operators ops);
-    pairs = with_pairs t.pairs (pairs_of ops (placed (length t.bytes + 1) (operators ops)))
-  }
+  bytes = t.bytes ++ body_bytes (operators ops);
+  pairs = with_pairs t.pairs (pairs_of ops (placed (length t.bytes + 1) (operators ops)));
+}
 
 -- the normal form of operators behind a text
 abbrev pub text_at : Features → ℕ → Text → List ℕ → Parsing Text

@@ -31,9 +31,7 @@ impl CodeWriter {
     fn write_operator(&mut self, operator: Operator, place: u32) -> Result<(), AllocError>
         requires { length self.old.bytes.items < 2 ^ 32 }
         ensures bytes { OnOk result ((text_of self.new).bytes ≡ (text_of self.old).bytes ++ operator_bytes (operator_of operator)) }
-        ensures pairs {
-            OnOk result ((text_of self.new).pairs ≡ with_pairs (text_of self.old).pairs ((place, length (text_of self.old).bytes) ∷ []))
-        }
+        ensures pairs { OnOk result ((text_of self.new).pairs ≡ with_pairs (text_of self.old).pairs ((place, length (text_of self.old).bytes) ∷ [])) }
     {
         let new_place = self.bytes.len() as u32;
         if let Some(places) = &mut self.places {
@@ -43,17 +41,17 @@ impl CodeWriter {
     }
 
     // The normal form of the operators through the last `end`.
-    fn write_operators(&mut self, options: &Options, reader: &mut BinaryReader) -> Result<(), AllocError>
-        requires reads {
-            (text : Text) × (later : List ℕ)
+    fn write_operators(
+        &mut self,
+        options: &Options,
+        reader: &mut BinaryReader,
+    ) -> Result<(), AllocError>
+        requires reads { (text : Text) × (later : List ℕ)
             × (text_at (features_of options.now) (end_of reader.old) (text_of self.old) (rest reader.old) ≡ Ok (text, later))
-            × (length text.bytes < 2 ^ 32)
-        }
+            × (length text.bytes < 2 ^ 32) }
         requires places { end_of reader.old < 2 ^ 32 }
-        ensures {
-            OnOk result
-                (text_at (features_of options.now) (end_of reader.old) (text_of self.old) (rest reader.old) ≡ Ok (text_of self.new, rest reader.new))
-        }
+        ensures { OnOk result
+            (text_at (features_of options.now) (end_of reader.old) (text_of self.old) (rest reader.old) ≡ Ok (text_of self.new, rest reader.new)) }
     {
         let mut flow = Flow { reached: true };
         loop {
@@ -75,16 +73,17 @@ impl CodeWriter {
     /// # Errors
     ///
     /// Where memory is refused; what was written then is of no use.
-    pub fn write_body(&mut self, options: &Options, place: u32, body: &[u8]) -> Result<(), AllocError>
-        requires reads {
-            (code : Code) × (code_at (features_of options.now) place body.now ≡ Ok code)
-            × (length self.old.bytes.items + length (body_bytes (operators (normal_form code.body))) < 2 ^ 32)
-        }
+    pub fn write_body(
+        &mut self,
+        options: &Options,
+        place: u32,
+        body: &[u8],
+    ) -> Result<(), AllocError>
+        requires reads { (code : Code) × (code_at (features_of options.now) place body.now ≡ Ok code)
+            × (length self.old.bytes.items + length (body_bytes (operators (normal_form code.body))) < 2 ^ 32) }
         requires places { place + length body.now < 2 ^ 32 }
-        ensures {
-            (code : Code) → code_at (features_of options.now) place body.now ≡ Ok code →
-                OnOk result (text_of self.new ≡ with_body (text_of self.old) (normal_form code.body))
-        }
+        ensures { (code : Code) → code_at (features_of options.now) place body.now ≡ Ok code →
+            OnOk result (text_of self.new ≡ with_body (text_of self.old) (normal_form code.body)) }
     {
         // the count of locals
         self.bytes.push(0x00)?;

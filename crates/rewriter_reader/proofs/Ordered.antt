@@ -54,6 +54,7 @@ functions_then t f = section_at 7 (λ _. vec_at (export_entry (count_of f.0))) f
 abbrev types_then : Types × List ℕ → Result sections.Sections Stop
 types_then t = section_at 3 (λ _. vec_at (function_entry (count_of t.0))) t.1 >>= functions_then t.0
 
+-- the sections by these steps
 sections_are : (bytes : List ℕ) → sections_at bytes ≡ (section_at 1 (λ _. vec_at type_entry) bytes >>= types_then)
 unfolding sections_at
 sections_are bytes = refl
@@ -63,9 +64,11 @@ pub record Reached (start now : Cursor) (next : Result sections.Sections Stop) :
   pub so_far : sections_at (rest start) ≡ next
   pub ends : end_of start ≡ end_of now
 
+-- nothing was read yet
 pub begins : (start : Cursor) → Reached start start (section_at 1 (λ _. vec_at type_entry) (rest start) >>= types_then)
 begins start = record { so_far = sections_are (rest start); ends = refl }
 
+-- a step that was parsed
 passes : {A X : Type 0} (parsing : List ℕ → Parsing A) (view : X → A) (f : A × List ℕ → Result sections.Sections Stop) (start now new : Cursor) (x : X)
     → Reached start now (parsing (rest now) >>= f) → Parses parsing view now new (Ok x) → Reached start new (f (view x, rest new))
 passes parsing view f start now new x so p = record {
@@ -73,6 +76,7 @@ passes parsing view f start now new x so p = record {
   ends = so.ends ∙ same_end now new p.moves;
 }
 
+-- a step that stops
 pub fails : {A X : Type 0} (parsing : List ℕ → Parsing A) (view : X → A) (f : A × List ℕ → Result sections.Sections Stop) (start now new : Cursor) (e : Fault)
     → Reached start now (parsing (rest now) >>= f) → Parses parsing view now new (Err e) → Ends sections_at sections_of start (Err e)
 fails parsing view f start now new e so p =
@@ -94,6 +98,7 @@ seen_exports = option_map (λ v. map export_of v.items)
 abbrev pub seen_code : Option Code → Option sections.Chunks
 seen_code = option_map code_of
 
+-- the counts, of what is seen and of what was read
 count_types : (o : Option (Vec FunctionType)) → length (unwrap_or (seen_types o) []) ≡ length (items_of o)
 count_types (Some v) = length-map v.items type_of
 count_types None = refl
@@ -102,10 +107,12 @@ count_functions : (o : Option (Vec ℕ)) → length (unwrap_or (seen_functions o
 count_functions (Some v) = length-map v.items (λ (n : ℕ). n)
 count_functions None = refl
 
+-- what is seen is there where what was read is
 latest_map : {A B : Type 0} (f : A → B) (o : Option A) (id last : ℕ) → latest (option_map f o) id last ≡ latest o id last
 latest_map f (Some x) id last = refl
 latest_map f None id last = refl
 
+-- the types were read
 pub reach_functions : (n : ℕ) (start c1 : Cursor) (types : Option (Vec FunctionType)) → n ≡ length (items_of types)
     → Parses (section_at 1 (λ _. vec_at type_entry)) seen_types start c1 (Ok types)
     → Reached start c1 (section_at 3 (λ _. vec_at (function_entry n)) (rest c1) >>= functions_then (seen_types types))
@@ -113,6 +120,7 @@ reach_functions n start c1 types count p =
     let same : n ≡ length (unwrap_or (seen_types types) []) = count ∙ sym (count_types types) in
     rw same (passes (section_at 1 (λ _. vec_at type_entry)) seen_types types_then start start c1 types (begins start) p)
 
+-- the functions were read
 pub reach_exports : (n m : ℕ) (start c1 c2 : Cursor) (types : Option (Vec FunctionType)) (functions : Option (Vec ℕ)) → m ≡ length (items_of functions)
     → Reached start c1 (section_at 3 (λ _. vec_at (function_entry n)) (rest c1) >>= functions_then (seen_types types))
     → Parses (section_at 3 (λ _. vec_at (function_entry n))) seen_functions c1 c2 (Ok functions)
@@ -121,6 +129,7 @@ reach_exports n m start c1 c2 types functions count so p =
     let same : m ≡ length (unwrap_or (seen_functions functions) []) = count ∙ sym (count_functions functions) in
     rw same (passes (section_at 3 (λ _. vec_at (function_entry n))) seen_functions (functions_then (seen_types types)) start c1 c2 functions so p)
 
+-- the exports were read
 pub reach_code : (m : ℕ) (start c2 c3 : Cursor) (types : Option (Vec FunctionType)) (functions : Option (Vec ℕ)) (exports : Option (Vec Export)) → m ≡ length (items_of functions)
     → Reached start c2 (section_at 7 (λ _. vec_at (export_entry m)) (rest c2) >>= exports_then (seen_types types) (seen_functions functions))
     → Parses (section_at 7 (λ _. vec_at (export_entry m))) seen_exports c2 c3 (Ok exports)
@@ -129,6 +138,7 @@ reach_code m start c2 c3 types functions exports count so p =
     let same : m ≡ length (unwrap_or (seen_functions functions) []) = count ∙ sym (count_functions functions) in
     rw same (passes (section_at 7 (λ _. vec_at (export_entry m))) seen_exports (exports_then (seen_types types) (seen_functions functions)) start c2 c3 exports so p)
 
+-- the last section, by the one before
 latest_at : {A : Type 0} (o : Option A) (id a b : ℕ) → a ≡ b → latest o id a ≡ latest o id b
 latest_at o id a b e = ap (λ (n : ℕ). latest o id n) e
 
@@ -136,6 +146,7 @@ none_map : {A B : Type 0} (f : A → B) (o : Option A) → is_none (option_map f
 none_map f (Some x) = refl
 none_map f None = refl
 
+-- a missing list is empty
 some_types : (o : Option (Vec FunctionType)) → unwrap_or (seen_types o) [] ≡ map type_of (items_of o)
 some_types (Some v) = refl
 some_types None = refl
@@ -160,6 +171,7 @@ abbrev end_with : List ℕ → ℕ → Bool → ℕ → List model.FunctionType 
 end_with bytes last none count types functions exports chunks = end_at last bytes >>= λ _.
     if none && nat_lt 0 count then Err (stop Count 0) else Ok (record { types = types; functions = functions; exports = exports; chunks = chunks })
 
+-- equal parts lead to the same end
 same_end_with : (F : ℕ → Bool → ℕ → List model.FunctionType → List ℕ → List model.Export → Result sections.Sections Stop) (a1 a2 : ℕ) (b1 b2 : Bool) (c1 c2 : ℕ) (d1 d2 : List model.FunctionType) (e1 e2 : List ℕ) (f1 f2 : List model.Export)
     → a1 ≡ a2 → b1 ≡ b2 → c1 ≡ c2 → d1 ≡ d2 → e1 ≡ e2 → f1 ≡ f2 → F a1 b1 c1 d1 e1 f1 ≡ F a2 b2 c2 d2 e2 f2
 same_end_with F a1 a2 b1 b2 c1 c2 d1 d2 e1 e2 f1 f2 a b c d e f = cc
@@ -169,6 +181,7 @@ pub record AtEnd (start c4 : Cursor) (types : Option (Vec FunctionType)) (functi
   pub so_far : sections_at (rest start) ≡ end_with (rest c4) last (is_none code) (length (items_of functions)) (map type_of (items_of types)) (items_of functions) (map export_of (items_of exports)) (unwrap_or (seen_code code) no_chunks)
   pub ends : end_of start ≡ end_of c4
 
+-- the code was read
 pub reach_end : (m : ℕ) (start c3 c4 : Cursor) (types : Option (Vec FunctionType)) (functions : Option (Vec ℕ)) (exports : Option (Vec Export)) (code : Option Code) (last : ℕ)
     → last ≡ latest code 10 (latest exports 7 (latest functions 3 (latest types 1 0)))
     → Reached start c3 (section_at 10 (chunks_at m) (rest c3) >>= chunks_then (seen_types types) (seen_functions functions) (seen_exports exports))
@@ -182,6 +195,7 @@ reach_end m start c3 c4 types functions exports code last is before p =
       ends = so.ends;
     }
 
+-- something stands at the end
 pub not_at_end : (start c4 : Cursor) (types : Option (Vec FunctionType)) (functions : Option (Vec ℕ)) (exports : Option (Vec Export)) (code : Option Code) (last : ℕ) (e : Fault)
     → AtEnd start c4 types functions exports code last → Ends (end_at last) plain c4 (Err e) → Ends sections_at sections_of start (Err e)
 not_at_end start c4 types functions exports code last e so p = record {
@@ -189,6 +203,7 @@ not_at_end start c4 types functions exports code last e so p = record {
   place = rw so.ends p.place;
 }
 
+-- the bodies are missing
 pub without_code : (start c4 : Cursor) (types : Option (Vec FunctionType)) (functions : Option (Vec ℕ)) (exports : Option (Vec Export)) (code : Option Code) (last place : ℕ)
     → AtEnd start c4 types functions exports code last → Ends (end_at last) (plain {X = Unit {0}}) c4 (Ok tt)
     → (is_none code && nat_lt 0 (length (items_of functions))) ≡ true → place ≡ end_of c4 → Ends sections_at sections_of start (Err (faults.Count place))
@@ -197,6 +212,7 @@ without_code start c4 types functions exports code last place so p missing same 
   place = omega (arith, so.ends);
 }
 
+-- all was read
 pub all_there : (start c4 : Cursor) (types : Option (Vec FunctionType)) (functions : Option (Vec ℕ)) (exports : Option (Vec Export)) (code : Option Code) (last : ℕ) (s : Sections)
     → AtEnd start c4 types functions exports code last → Ends (end_at last) (plain {X = Unit {0}}) c4 (Ok tt)
     → (is_none code && nat_lt 0 (length (items_of functions))) ≡ false
@@ -207,6 +223,7 @@ all_there start c4 types functions exports code last s so p there ts fs es cs = 
   place = tt;
 }
 
+-- the last section, by the code's steps
 pub latest_is : (types : Option (Vec FunctionType)) (functions : Option (Vec ℕ)) (exports : Option (Vec Export)) (code : Option Code) (l1 l2 l3 l4 : ℕ)
     → l1 ≡ latest types 1 0 → l2 ≡ latest functions 3 l1 → l3 ≡ latest exports 7 l2 → l4 ≡ latest code 10 l3
     → l4 ≡ latest code 10 (latest exports 7 (latest functions 3 (latest types 1 0)))

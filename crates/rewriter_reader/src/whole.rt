@@ -5,7 +5,7 @@ ghost use Rattle.wasm_model.specs.Features.{features_of};
 ghost use Rattle.wasm_model.specs.Sections.{module_at};
 ghost use Rattle.rewriter_module.specs.Meaning.{meaning, IsSound};
 ghost use Rattle.rewriter_reader.specs.Seen.{AreBodies};
-ghost use Rattle.rewriter_reader.specs.Checked.{AreChecked, IsRefused};
+ghost use Rattle.rewriter_reader.specs.Checked.{AreChecked, StopsInBodies};
 ghost use Rattle.rewriter_reader.specs.IsStop.{IsStop};
 
 use crate::code::Code;
@@ -31,7 +31,7 @@ fn check_bodies<'a>(
     requires bodies { AreBodies (length types.now) end code.now }
     requires short { end ≤ 2 ^ 30 }
     ensures checked { IfOk result (λ v. AreChecked (features_of options.now) types.now code.now v.items) }
-    ensures refused { IfErr result (IsRefused (features_of options.now) code.now end) }
+    ensures refused { IfErr result (StopsInBodies (features_of options.now) code.now end) }
 {
     let start = (end - code.left) as u64;
     let mut functions = Vec::with_capacity(alloc, types.len())?;

@@ -10,20 +10,20 @@ pub unreachable-requires : goal.unreachable-requires
 unreachable-requires c =
     let whole : rest c.new-reader.result ≡ c.args.body.now = search rules in
     no_stop_at_count (features_of c.args.options.now) c.args.place c.args.body.now c.new-reader.result whole c.requires.reads.0 c.requires.reads.1
-      (stop (trouble_of c.in_default.field-0) (end_of c.read_u32.new.reader - place_of c.in_default.field-0)) c.in_default.ensures.value
+    (stop (trouble_of c.in_default.field-0) (end_of c.read_u32.new.reader - place_of c.in_default.field-0)) c.in_default.ensures.value
 
 pub write_operators-requires-clause-reads : goal.write_operators-requires-clause-reads
 write_operators-requires-clause-reads c =
     let whole : rest c.new-reader.result ≡ c.args.body.now = search rules in
     let finish : end_of c.new-reader.result ≡ c.args.place + length c.args.body.now = search rules in
     has_text (features_of c.args.options.now) c.args.place c.args.body.now c.new-reader.result whole c.requires.reads.0 c.requires.reads.1
-      c.read_u32.new.reader c.in-Ok.field-0 c.in-Ok.ensures finish (text_of c.args.self.now) (text_of (record { bytes = c.push.new.self; places = c.args.self.now.places })) c.in_ok-push.ensures.items refl c.requires.reads.2
+    c.read_u32.new.reader c.in-Ok.field-0 c.in-Ok.ensures finish (text_of c.args.self.now) (text_of (record { bytes = c.push.new.self; places = c.args.self.now.places })) c.in_ok-push.ensures.items refl c.requires.reads.2
 
 pub returns : goal.returns
 returns c = λ code reads.
     let whole : rest c.new-reader.result ≡ c.args.body.now = search rules in
     let finish : end_of c.new-reader.result ≡ c.args.place + length c.args.body.now = search rules in
     on_ok c.write_operators.result c.write_operators.ensures (λ e.
-      is_text (features_of c.args.options.now) c.args.place c.args.body.now c.new-reader.result whole code reads
-        c.read_u32.new.reader c.in-Ok.field-0 c.in-Ok.ensures finish (text_of c.args.self.now) (text_of (record { bytes = c.push.new.self; places = c.args.self.now.places })) c.in_ok-push.ensures.items refl
-        (text_of c.write_operators.new.self) _ e)
+    is_text (features_of c.args.options.now) c.args.place c.args.body.now c.new-reader.result whole code reads
+    c.read_u32.new.reader c.in-Ok.field-0 c.in-Ok.ensures finish (text_of c.args.self.now) (text_of (record { bytes = c.push.new.self; places = c.args.self.now.places })) c.in_ok-push.ensures.items refl
+    (text_of c.write_operators.new.self) _ e)
