@@ -19,8 +19,8 @@ operator_of (code.Call f) = model.Call f
 operator_of code.End = model.End
 
 -- what is known of a module of so many functions
-abbrev pub known_of : Options → ℕ → Known
-known_of options functions = record { features = features_of options; functions = functions }
+abbrev pub known_with : Options → ℕ → Known
+known_with options functions = record { features = features_of options; functions = functions }
 
 -- the operator calls one of so many functions, if it calls any
 abbrev pub CallsOneOf : ℕ → Operator → Type 0

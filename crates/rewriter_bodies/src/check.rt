@@ -9,7 +9,7 @@ ghost use Rattle.wasm_model.specs.Bodies.{code_at};
 ghost use Rattle.wasm_model.specs.NormalForm.{size};
 ghost use Rattle.rewriter_bodies.specs.Exactly.{ParsesExactly};
 ghost use Rattle.rewriter_bodies.specs.Sizes.{size_at};
-ghost use Rattle.rewriter_bodies.specs.Views.{known_of};
+ghost use Rattle.rewriter_bodies.specs.Views.{known_with};
 
 use crate::flow::Flow;
 use crate::operator::{Operator, read_operator};
@@ -21,7 +21,7 @@ use wasm_reader::BinaryReader;
 // The operators through the last `end`.
 fn read_size(options: &Options, functions: usize, reader: &mut BinaryReader) -> Result<u32, Fault>
     requires { length (rest reader.old) < 2 ^ 32 }
-    ensures { (finish : ℕ) → ParsesExactly (size_at (known_of options.now functions) finish) plain reader.old reader.new result }
+    ensures { (finish : ℕ) → ParsesExactly (size_at (known_with options.now functions) finish) plain reader.old reader.new result }
 {
     let mut size = 0;
     let mut flow = Flow { reached: true };
@@ -54,9 +54,9 @@ pub fn check_body(
     requires short { length body.now < 2 ^ 32 }
     requires in_file { offset + length body.now < 2 ^ 63 }
     ensures size { IfOk result (λ n. (place : ℕ) →
-        (code : Code) × (code_at (known_of options.now functions) place body.now ≡ Ok code) × (n ≡ size code.body)) }
+        (code : Code) × (code_at (known_with options.now functions) place body.now ≡ Ok code) × (n ≡ size code.body)) }
     ensures refused { IfErr result (λ e. (place : ℕ) →
-        code_at (known_of options.now functions) place body.now ≡ Err (stop (trouble_of e) (offset + length body.now - place_of e))) }
+        code_at (known_with options.now functions) place body.now ≡ Err (stop (trouble_of e) (offset + length body.now - place_of e))) }
     ensures place { IfErr result (λ e. (offset ≤ place_of e) × (place_of e ≤ offset + length body.now) × (trouble_of e ≢ Other)) }
 {
     let mut reader = BinaryReader::new(body, offset);

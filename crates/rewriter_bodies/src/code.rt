@@ -6,7 +6,7 @@ ghost use Rattle.wasm_model.specs.NormalForm.{normal_form};
 ghost use Rattle.wasm_model.specs.Spells.{Code};
 ghost use Rattle.wasm_model.specs.Spelling.{operator_bytes};
 ghost use Rattle.wasm_model.specs.Bodies.{code_at};
-ghost use Rattle.rewriter_bodies.specs.Views.{operator_of, known_of};
+ghost use Rattle.rewriter_bodies.specs.Views.{operator_of, known_with};
 ghost use Rattle.rewriter_bodies.specs.Renamed.{renaming_to};
 ghost use Rattle.rewriter_bodies.specs.Sizes.{written_length};
 ghost use Rattle.rewriter_bodies.specs.Texts.{Text, text_of, with_pairs, with_body, text_at};
@@ -48,12 +48,12 @@ impl CodeWriter {
         reader: &mut BinaryReader,
     ) -> Result<(), AllocError>
         requires reads { (text : Text) × (later : List ℕ)
-            × (text_at (renaming_to new_function.now) (known_of options.now (length new_function.now)) (end_of reader.old) (text_of self.old) (rest reader.old)
+            × (text_at (renaming_to new_function.now) (known_with options.now (length new_function.now)) (end_of reader.old) (text_of self.old) (rest reader.old)
             ≡ Ok (text, later))
             × (length text.bytes < 2 ^ 32) }
         requires places { end_of reader.old < 2 ^ 32 }
         ensures { OnOk result
-            (text_at (renaming_to new_function.now) (known_of options.now (length new_function.now)) (end_of reader.old) (text_of self.old) (rest reader.old)
+            (text_at (renaming_to new_function.now) (known_with options.now (length new_function.now)) (end_of reader.old) (text_of self.old) (rest reader.old)
             ≡ Ok (text_of self.new, rest reader.new)) }
     {
         let mut flow = Flow { reached: true };
@@ -85,10 +85,10 @@ impl CodeWriter {
         place: u32,
         body: &[u8],
     ) -> Result<(), AllocError>
-        requires reads { (code : Code) × (code_at (known_of options.now (length new_function.now)) place body.now ≡ Ok code)
+        requires reads { (code : Code) × (code_at (known_with options.now (length new_function.now)) place body.now ≡ Ok code)
             × (length self.old.bytes.items + written_length new_function.now code.body < 2 ^ 32) }
         requires places { place + length body.now < 2 ^ 32 }
-        ensures { (code : Code) → code_at (known_of options.now (length new_function.now)) place body.now ≡ Ok code →
+        ensures { (code : Code) → code_at (known_with options.now (length new_function.now)) place body.now ≡ Ok code →
             OnOk result (text_of self.new ≡ with_body (renaming_to new_function.now) (text_of self.old) (normal_form code.body)) }
     {
         // the count of locals

@@ -6,7 +6,7 @@ ghost use Rattle.wasm_model.specs.Module as model;
 ghost use Rattle.wasm_model.specs.Spells.{Code};
 ghost use Rattle.wasm_model.specs.Bodies.{code_at};
 ghost use Rattle.rewriter_bodies.specs.Sizes.{body_at, written_length};
-ghost use Rattle.rewriter_bodies.specs.Views.{known_of};
+ghost use Rattle.rewriter_bodies.specs.Views.{known_with};
 
 use crate::flow::Flow;
 use crate::operator::{Operator, operator_len, read_operator, renamed};
@@ -18,9 +18,9 @@ use wasm_reader::BinaryReader;
 fn measure_operators(options: &Options, new_function: &[u32], reader: &mut BinaryReader) -> u64
     requires short { length (rest reader.old) < 2 ^ 32 }
     requires reads { (finish : ℕ) × (ops : List (model.Operator × ℕ)) × (later : List ℕ)
-        × (body_at (known_of options.now (length new_function.now)) finish (rest reader.old) ≡ Ok (ops, later)) }
+        × (body_at (known_with options.now (length new_function.now)) finish (rest reader.old) ≡ Ok (ops, later)) }
     ensures { (finish : ℕ) (ops : List (model.Operator × ℕ)) (later : List ℕ) →
-        body_at (known_of options.now (length new_function.now)) finish (rest reader.old) ≡ Ok (ops, later) →
+        body_at (known_with options.now (length new_function.now)) finish (rest reader.old) ≡ Ok (ops, later) →
         result ≡ written_length new_function.now ops }
 {
     let mut bytes = 1;
@@ -42,8 +42,8 @@ fn measure_operators(options: &Options, new_function: &[u32], reader: &mut Binar
 /// new numbers of functions (Core Specification, Binary Format, Code Section).
 pub fn measure_body(options: &Options, new_function: &[u32], body: &[u8]) -> u64
     requires short { length body.now < 2 ^ 32 }
-    requires reads { (place : ℕ) × (code : Code) × (code_at (known_of options.now (length new_function.now)) place body.now ≡ Ok code) }
-    ensures { (place : ℕ) (code : Code) → code_at (known_of options.now (length new_function.now)) place body.now ≡ Ok code →
+    requires reads { (place : ℕ) × (code : Code) × (code_at (known_with options.now (length new_function.now)) place body.now ≡ Ok code) }
+    ensures { (place : ℕ) (code : Code) → code_at (known_with options.now (length new_function.now)) place body.now ≡ Ok code →
         result ≡ written_length new_function.now code.body }
 {
     let mut reader = BinaryReader::new(body, 0);

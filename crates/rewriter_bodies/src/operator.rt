@@ -7,7 +7,7 @@ ghost use Rattle.rewriter_bodies.specs.Exactly.{ParsesExactly};
 ghost use Rattle.wasm_model.specs.Bodies.{operator_at, trouble_at_code, trouble_at_number};
 ghost use Rattle.wasm_model.specs.Part.{renamed_operator};
 ghost use Rattle.rewriter_bodies.specs.Renamed.{renaming_to};
-ghost use Rattle.rewriter_bodies.specs.Views.{operator_of, known_of, CallsOneOf, Refuses};
+ghost use Rattle.rewriter_bodies.specs.Views.{operator_of, known_with, CallsOneOf, Refuses};
 
 use crate::number::{s32_len, u32_len, write_s32, write_u32};
 use crate::read::{read_s32, read_u8, read_u32};
@@ -66,7 +66,7 @@ pub fn read_operator(
     functions: usize,
     reader: &mut BinaryReader,
 ) -> Result<Operator, Fault>
-    ensures parsed { ParsesExactly (operator_at (known_of options.now functions)) operator_of reader.old reader.new result }
+    ensures parsed { ParsesExactly (operator_at (known_with options.now functions)) operator_of reader.old reader.new result }
     ensures calls { IfOk result (CallsOneOf functions) }
 {
     let offset = reader.original_position();
