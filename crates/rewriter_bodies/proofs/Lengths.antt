@@ -1,10 +1,53 @@
--- How many bytes a signed number takes.
-use Rattle.std.proofs.Common.{◌≡◌, ◌+◌, ◌-◌, ◌*◌, ◌/◌, ◌%◌, ◌<◌, ◌≤◌, ℕ, zero, suc, Bool, true, false, List, [], ◌∷◌, length, refl, sym, ap, ◌∙◌, arith, ℤ, pos, nat_lt, if◌then◌else◌}
-use Rattle.std.proofs.lemmas.Bool.{lt-ltb, le-ltb}
+-- How many bytes a number takes.
+use Rattle.std.proofs.Common.{◌≡◌, ◌+◌, ◌-◌, ◌/◌, ◌%◌, ◌<◌, ◌≤◌, ℕ, zero, suc, Bool, true, false, List, [], ◌∷◌, length, refl, ap, ◌∙◌, arith, ℤ, pos, nat_lt, if◌then◌else◌}
 use lib.IntN.{negsuc}
-use Rattle.wasm_model.specs.Shortest.{shortest_signed, s32_bytes}
+use Rattle.wasm_model.specs.Shortest.{shortest_unsigned, shortest_signed, u32_bytes, s32_bytes}
 use Rattle.rewriter_bodies.specs.Signs.{signed_of}
-use Rattle.rewriter_bodies.proofs.Shortens.{spell_signed, signed_spelling}
+use Rattle.rewriter_bodies.proofs.Shortens.{spell_signed, unsigned_spelling, signed_spelling}
+
+last_one : (k n : ℕ) → n < 128 → length (shortest_unsigned (suc k) n) ≡ 1
+last_one k n h = ap length (unsigned_spelling.last k n h)
+
+one_more : (k n : ℕ) → 128 ≤ n → length (shortest_unsigned (suc k) n) ≡ length (shortest_unsigned k (n / 128)) + 1
+one_more k n h = ap length (unsigned_spelling.goes k n h) ∙ omega arith
+
+module _ (n : ℕ) where
+  whole_of : length (u32_bytes n) ≡ length (shortest_unsigned 5 n)
+  unfolding u32_bytes
+  whole_of = refl
+
+  pub in_one_byte : n < 128 → length (u32_bytes n) ≡ 1
+  in_one_byte h = whole_of ∙ last_one 4 n h
+
+  pub in_two_bytes : 128 ≤ n → n < 16384 → length (u32_bytes n) ≡ 2
+  in_two_bytes h i =
+      let a = one_more 4 n h in
+      let b = last_one 3 (n / 128) (omega arith) in
+      omega (arith, whole_of, a, b)
+
+  pub in_three_bytes : 16384 ≤ n → n < 2097152 → length (u32_bytes n) ≡ 3
+  in_three_bytes h i =
+      let a = one_more 4 n (omega arith) in
+      let b = one_more 3 (n / 128) (omega arith) in
+      let d = last_one 2 (n / 128 / 128) (omega arith) in
+      omega (arith, whole_of, a, b, d)
+
+  pub in_four_bytes : 2097152 ≤ n → n < 268435456 → length (u32_bytes n) ≡ 4
+  in_four_bytes h i =
+      let a = one_more 4 n (omega arith) in
+      let b = one_more 3 (n / 128) (omega arith) in
+      let d = one_more 2 (n / 128 / 128) (omega arith) in
+      let f = last_one 1 (n / 128 / 128 / 128) (omega arith) in
+      omega (arith, whole_of, a, b, d, f)
+
+  pub in_five_bytes : 268435456 ≤ n → n < 4294967296 → length (u32_bytes n) ≡ 5
+  in_five_bytes h i =
+      let a = one_more 4 n (omega arith) in
+      let b = one_more 3 (n / 128) (omega arith) in
+      let d = one_more 2 (n / 128 / 128) (omega arith) in
+      let f = one_more 1 (n / 128 / 128 / 128) (omega arith) in
+      let g = last_one 0 (n / 128 / 128 / 128 / 128) (omega arith) in
+      omega (arith, whole_of, a, b, d, f, g)
 
 one : (negative : Bool) (k n : ℕ) → n < 64 → length (spell_signed negative (suc k) n) ≡ 1
 one negative k n h = ap length ((signed_spelling negative).last k n h)
@@ -63,3 +106,11 @@ at_most (suc k) (negsuc n) = let h = at_most k (negsuc (n / 128)) in shorter k (
 pub s32_small : (z : ℤ) → length (s32_bytes z) ≤ 5
 unfolding s32_bytes
 s32_small z = at_most 5 z
+
+unsigned_at_most : (k n : ℕ) → length (shortest_unsigned k n) ≤ k
+unsigned_at_most zero n = omega arith
+unsigned_at_most (suc k) n = let h = unsigned_at_most k (n / 128) in shorter k (nat_lt n 128) (n ∷ []) ((n % 128 + 128) ∷ shortest_unsigned k (n / 128)) (omega arith) (omega arith)
+
+pub u32_small : (n : ℕ) → length (u32_bytes n) ≤ 5
+unfolding u32_bytes
+u32_small n = unsigned_at_most 5 n

@@ -4,5 +4,7 @@ pub mod Walk
 pub mod Counting
 pub mod Checking
 pub mod Writing
+pub mod Measuring
 pub mod Shortens
 pub mod Lengths
+pub mod Renames

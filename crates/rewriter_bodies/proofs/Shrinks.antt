@@ -1,12 +1,11 @@
 -- Parsing goes on: what it leaves is no longer than what it had, and it stops within that.
-use Rattle.std.proofs.Common.{◌≡◌, ◌+◌, ◌-◌, ◌≤◌, ◌<◌, ℕ, zero, suc, Bool, true, false, List, [], ◌∷◌, length, Ok, Err, Result, refl, sym, ap, ◌∙◌, subst, arith, nat_lt, nat_le, if◌then◌else◌, ◌==◌}
+use Rattle.std.proofs.Common.{◌≡◌, ◌+◌, ◌-◌, ◌≤◌, ◌<◌, ℕ, zero, suc, Bool, true, false, List, [], ◌∷◌, length, Ok, Err, Result, subst, arith, nat_lt, nat_le, if◌then◌else◌, ◌==◌}
 use Rattle.wasm_reader.specs.declared.error.ErrorKind.{ErrorKind}
 use Rattle.wasm_reader.specs.Reading.{Reading, ◌>>=◌ as ◌then_read◌}
 use Rattle.wasm_reader.specs.Numbers.{Style, number_at, unsigned_at, signed_at}
-use Rattle.wasm_model.specs.Features.{Features}
+use Rattle.wasm_model.specs.Features.{Known}
 use Rattle.wasm_model.specs.Module.{Operator}
 use Rattle.wasm_model.specs.OperatorTable.{is_prefix}
-use Rattle.wasm_model.specs.Spells.{Code}
 use Rattle.wasm_model.specs.Stop.{Stop, Parsing, ◌>>=◌, value_at}
 use Rattle.wasm_model.specs.Bodies.{operator_at, operators_at, code_at, is_end}
 
@@ -40,41 +39,44 @@ number_leaves {A} s wrong width (b ∷ bytes) =
     behind (Ok x) h = omega arith
     behind (Err e) h = omega arith
 
-operator_leaves : (features : Features) (b : ℕ) (bytes : List ℕ) → Leaves (length bytes) (suc (length bytes)) (operator_at features (b ∷ bytes))
+operator_leaves : (known : Known) (b : ℕ) (bytes : List ℕ) → Leaves (length bytes) (suc (length bytes)) (operator_at known (b ∷ bytes))
 unfolding operator_at
-operator_leaves features b bytes =
+operator_leaves known b bytes =
     let P : Parsing Operator → Type 0 = Leaves (length bytes) (suc (length bytes)) in
     either (b == 0x01) _ _ P (omega arith)
     (either (b == 0x0b) _ _ P (omega arith)
     (either (b == 0x0f) _ _ P (omega arith)
     (either (b == 0x1a) _ _ P (omega arith)
+    (either (b == 0x10) _ _ P
+    (and_then (length bytes) (length bytes) (suc (length bytes)) (value_at (unsigned_at 32 bytes)) _ (more _ _ _ _ (value_at (unsigned_at 32 bytes)) (omega arith) (omega arith) (number_leaves _ _ 32 bytes))
+    (λ x h. either (nat_lt x.0 known.functions) _ _ P h (omega arith)))
     (either (b == 0x41) _ _ P
     (and_then (length bytes) (length bytes) (suc (length bytes)) (value_at (signed_at 32 bytes)) _ (more _ _ _ _ (value_at (signed_at 32 bytes)) (omega arith) (omega arith) (number_leaves _ _ 32 bytes)) (λ x h. h))
     (either (is_prefix b) _ _ P
     (and_then (length bytes) (length bytes) (suc (length bytes)) (value_at (unsigned_at 32 bytes)) _ (more _ _ _ _ (value_at (unsigned_at 32 bytes)) (omega arith) (omega arith) (number_leaves _ _ 32 bytes)) (λ x h. omega arith))
-    (omega arith))))))
+    (omega arith)))))))
 
-operator_leaves_all : (features : Features) (bytes : List ℕ) → Leaves (length bytes) (length bytes) (operator_at features bytes)
+operator_leaves_all : (known : Known) (bytes : List ℕ) → Leaves (length bytes) (length bytes) (operator_at known bytes)
 unfolding operator_at
-operator_leaves_all features [] = omega arith
-operator_leaves_all features (b ∷ bytes) = more (length bytes) (suc (length bytes)) _ _ (operator_at features (b ∷ bytes)) (omega arith) (omega arith) (operator_leaves features b bytes)
+operator_leaves_all known [] = omega arith
+operator_leaves_all known (b ∷ bytes) = more (length bytes) (suc (length bytes)) _ _ (operator_at known (b ∷ bytes)) (omega arith) (omega arith) (operator_leaves known b bytes)
 
 -- an operator takes a byte at least
-pub operator_takes : (features : Features) (bytes later : List ℕ) (o : Operator) → operator_at features bytes ≡ Ok (o, later) → length later < length bytes
+pub operator_takes : (known : Known) (bytes later : List ℕ) (o : Operator) → operator_at known bytes ≡ Ok (o, later) → length later < length bytes
 unfolding operator_at
-operator_takes features [] later o e = cc
-operator_takes features (b ∷ bytes) later o e =
-    let h : Leaves (length bytes) (suc (length bytes)) (Ok (o, later)) = subst (λ (r : Parsing Operator). Leaves (length bytes) (suc (length bytes)) r) e (operator_leaves features b bytes) in
+operator_takes known [] later o e = cc
+operator_takes known (b ∷ bytes) later o e =
+    let h : Leaves (length bytes) (suc (length bytes)) (Ok (o, later)) = subst (λ (r : Parsing Operator). Leaves (length bytes) (suc (length bytes)) r) e (operator_leaves known b bytes) in
     omega arith
 
-operators_leave : (features : Features) (finish turns : ℕ) (bytes : List ℕ) → Leaves (length bytes) (length bytes) (operators_at features finish turns bytes)
+operators_leave : (known : Known) (finish turns : ℕ) (bytes : List ℕ) → Leaves (length bytes) (length bytes) (operators_at known finish turns bytes)
 unfolding operators_at
-operators_leave features finish zero bytes = omega arith
-operators_leave features finish (suc turns) bytes =
-    and_then (length bytes) (length bytes) (length bytes) (operator_at features bytes) _ (operator_leaves_all features bytes) (λ o h.
+operators_leave known finish zero bytes = omega arith
+operators_leave known finish (suc turns) bytes =
+    and_then (length bytes) (length bytes) (length bytes) (operator_at known bytes) _ (operator_leaves_all known bytes) (λ o h.
     either (is_end o.0) _ _ (Leaves (length bytes) (length bytes)) h
-    (and_then (length bytes) (length bytes) (length bytes) (operators_at features finish turns o.1) _
-    (more _ _ _ _ (operators_at features finish turns o.1) h h (operators_leave features finish turns o.1)) (λ x i. i)))
+    (and_then (length bytes) (length bytes) (length bytes) (operators_at known finish turns o.1) _
+    (more _ _ _ _ (operators_at known finish turns o.1) h h (operators_leave known finish turns o.1)) (λ x i. i)))
 
 -- at most m bytes are left from a stop on
 abbrev pub StopsWithin : {A : Type 0} → ℕ → Result A Stop → Type 0
@@ -85,12 +87,12 @@ stops_then : {A B : Type 0} (n m : ℕ) (r : Parsing A) (f : A × List ℕ → R
 stops_then n m (Ok x) f p q = q x p
 stops_then n m (Err s) f p q = p
 
-pub code_within : (features : Features) (place : ℕ) (bytes : List ℕ) → StopsWithin (length bytes) (code_at features place bytes)
+pub code_within : (known : Known) (place : ℕ) (bytes : List ℕ) → StopsWithin (length bytes) (code_at known place bytes)
 unfolding code_at
-code_within features place bytes =
+code_within known place bytes =
     stops_then (length bytes) (length bytes) (value_at (unsigned_at 32 bytes)) _ (number_leaves _ _ 32 bytes) (λ count h.
     either (count.0 == 0) _ _ (StopsWithin (length bytes))
-    (stops_then (length bytes) (length bytes) (operators_at features (place + length bytes) (length count.1) count.1) _
-    (more _ _ _ _ (operators_at features (place + length bytes) (length count.1) count.1) h h (operators_leave features _ (length count.1) count.1))
+    (stops_then (length bytes) (length bytes) (operators_at known (place + length bytes) (length count.1) count.1) _
+    (more _ _ _ _ (operators_at known (place + length bytes) (length count.1) count.1) h h (operators_leave known _ (length count.1) count.1))
     (λ body i. either (length body.1 == 0) _ _ (StopsWithin (length bytes)) tt i))
     (omega arith))

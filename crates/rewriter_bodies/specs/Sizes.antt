@@ -1,12 +1,12 @@
--- How long bodies are.
+-- What is made of the operators of a body.
 use Rattle.std.specs.Prelude.{ℕ, List, length, Ok, Err}
-use Rattle.wasm_model.specs.Features.{Features}
-use Rattle.wasm_model.specs.Module.{Operator, operators}
-use Rattle.wasm_model.specs.NormalForm.{size, normal_form}
+use Rattle.wasm_model.specs.Features.{Known}
+use Rattle.wasm_model.specs.Module.{Operator}
+use Rattle.wasm_model.specs.NormalForm.{size}
 use Rattle.wasm_model.specs.Spelling.{body_bytes}
 use Rattle.wasm_model.specs.Stop.{Parsing}
 use Rattle.wasm_model.specs.Bodies.{operators_at}
-use Rattle.rewriter_bodies.specs.declared.extent.Extent.{Extent}
+use Rattle.rewriter_bodies.specs.Renamed.{written_operators}
 
 -- what is made of the operators that are parsed
 abbrev pub made : {A B : Type 0} → (A → B) → Parsing A → Parsing B
@@ -14,12 +14,16 @@ made f (Ok x) = Ok (f x.0, x.1)
 made f (Err e) = Err e
 
 -- the operators through the `end` of a body, which ends before the place `finish`
-abbrev pub body_at : Features → ℕ → List ℕ → Parsing (List (Operator × ℕ))
-body_at features finish bytes = operators_at features finish (length bytes) bytes
+abbrev pub body_at : Known → ℕ → List ℕ → Parsing (List (Operator × ℕ))
+body_at known finish bytes = operators_at known finish (length bytes) bytes
 
--- how long the normal form of operators is
-abbrev pub extent_of : List (Operator × ℕ) → Extent
-extent_of ops = record { instructions = size ops; bytes = length (body_bytes (operators (normal_form ops))) }
+-- the number of instructions of the normal form
+abbrev pub size_at : Known → ℕ → List ℕ → Parsing ℕ
+size_at known finish bytes = made size (body_at known finish bytes)
 
-abbrev pub extent_at : Features → ℕ → List ℕ → Parsing Extent
-extent_at features finish bytes = made extent_of (body_at features finish bytes)
+-- the number of bytes that a body is written with
+abbrev pub written_length : List ℕ → List (Operator × ℕ) → ℕ
+written_length new_function body = length (body_bytes (written_operators new_function body))
+
+abbrev pub length_at : List ℕ → Known → ℕ → List ℕ → Parsing ℕ
+length_at new_function known finish bytes = made (written_length new_function) (body_at known finish bytes)

@@ -4,8 +4,8 @@
 
 mod check;
 mod code;
-mod extent;
 mod flow;
+mod measure;
 mod number;
 mod operator;
 mod read;
@@ -13,8 +13,8 @@ mod table;
 #[cfg(test)]
 mod tests;
 
-pub use check::{check_body, measure_body};
+pub use check::check_body;
 pub use code::CodeWriter;
-pub use extent::Extent;
-pub use number::{write_s32, write_u32};
+pub use measure::measure_body;
+pub use number::{u32_len, write_s32, write_u32};
 pub use operator::Operator;

@@ -19,6 +19,20 @@ pub fn write_u32(out: &mut Vec<u8>, n: u32) -> Result<(), AllocError>
     Ok(())
 }
 
+/// How many bytes a u32 takes.
+pub fn u32_len(n: u32) -> u64
+    ensures bytes { result ≡ length (u32_bytes n) }
+    ensures most { result ≤ 5 }
+{
+    match n {
+        0..0x80 => 1,
+        0x80..0x4000 => 2,
+        0x4000..0x20_0000 => 3,
+        0x20_0000..0x1000_0000 => 4,
+        _ => 5,
+    }
+}
+
 // A number's sign, and what it or its complement is.
 fn split(n: i32) -> (bool, u32)
     ensures number { n ≡ signed_of result.0 result.1 }
