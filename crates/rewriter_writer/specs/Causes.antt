@@ -7,7 +7,7 @@ use Rattle.wasm_model.specs.declared.fault.Fault.{Fault}
 use Rattle.wasm_model.specs.declared.fault.Fault.TheVariants as faults
 use Rattle.wasm_model.specs.declared.options.Options.{Options}
 use Rattle.std.specs.List.{AllByRecursion}
-use Rattle.rewriter_module.specs.Written.{written_operators}
+use Rattle.rewriter_module.specs.Written.{Numbers, written_operators}
 use Rattle.wasm_model.specs.Rewrites.{Passes}
 use Rattle.rewriter_writer.specs.declared.failure.Failure.{Failure}
 use Rattle.rewriter_writer.specs.declared.failure.Failure.TheVariants as failures
@@ -27,8 +27,8 @@ IsCauseOfEntry (failures.Limit limits.File) body file = 2 ^ 30 < file
 IsCauseOfEntry _ body file = ⊥
 
 -- the bodies that are written for these functions are within their limit
-abbrev pub AreShort : Module → List ℕ → Type 0
-AreShort m fs = AllByRecursion (λ f. length (body_bytes (written_operators m f)) ≤ 7654321) fs
+abbrev pub AreShort : Module → Numbers → List ℕ → Type 0
+AreShort m n fs = AllByRecursion (λ f. length (body_bytes (written_operators m n f)) ≤ 7654321) fs
 
 -- the fault for which a module isn't written: memory was refused, or what would be written passes a limit
 abbrev pub IsUnwritten : Options → Module → Fault → Type 0

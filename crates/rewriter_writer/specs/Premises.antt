@@ -1,5 +1,5 @@
 -- What a module and a numbering of it have to meet to be written.
-use Rattle.std.specs.Prelude.{◌+◌, ◌<◌, ◌^◌, length, All}
+use Rattle.std.specs.Prelude.{◌+◌, ◌<◌, ◌^◌, ◌≡◌, length, All, IfSome}
 use Rattle.rewriter_module.specs.declared.FunctionType.{FunctionType}
 use Rattle.rewriter_module.specs.declared.Export.{Export}
 use Rattle.rewriter_module.specs.declared.Module.{Module}
@@ -18,6 +18,8 @@ pub record IsWritable (m : Module) (n : Numbering) : Type 0 where
   pub functions : All (λ f. f < length m.functions.items) n.functions.items
   pub types : All (λ t. t < length m.types.items) n.types.items
   pub typed : All (λ f. f.type_index < length n.new_type.items) m.functions.items
+  pub numbered : length n.new_function.items ≡ length m.functions.items
+  pub started : IfSome m.start (λ f. f < length n.new_function.items)
   pub exported : All (λ e. e.function < length n.new_function.items) m.exports.items
   pub few_functions : length n.functions.items < 2 ^ 32
   pub few_types : length n.types.items < 2 ^ 32

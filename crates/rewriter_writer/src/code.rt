@@ -2,15 +2,16 @@
 
 ghost use Rattle.std.specs.Prelude.{◌≡◌, ◌+◌, ◌<◌, ◌≤◌, ◌^◌, length, [], OnOk, IfOk, IfErr};
 ghost use Rattle.std.specs.Option.{option_map};
-ghost use Rattle.wasm_model.specs.Module.{operators};
 ghost use Rattle.wasm_model.specs.NormalForm.{normal_form};
-ghost use Rattle.wasm_model.specs.Spelling.{body_bytes};
 ghost use Rattle.wasm_model.specs.Features.{features_of};
 ghost use Rattle.wasm_model.specs.Bodies.{code_at};
-ghost use Rattle.rewriter_module.specs.Meaning.{code_in, meaning, IsSound};
+ghost use Rattle.rewriter_module.specs.Meaning.{code_in, known_of, meaning, IsSound};
 ghost use Rattle.rewriter_module.specs.Written.{numbers_of, written};
+ghost use Rattle.rewriter_bodies.specs.Renamed.{renaming_to};
+ghost use Rattle.rewriter_bodies.specs.Sizes.{written_length};
 ghost use Rattle.rewriter_bodies.specs.Texts.{text_of};
-ghost use Rattle.rewriter_writer.specs.Codes.{with_entry, asked_pairs, codes_text};
+ghost use Rattle.rewriter_bodies.specs.Views.{known_with};
+ghost use Rattle.rewriter_writer.specs.Codes.{with_entry, body_in, asked_pairs, codes_text};
 ghost use Rattle.rewriter_writer.specs.Premises.{IsWritable};
 ghost use Rattle.rewriter_writer.specs.Causes.{IsCause, IsCauseOfEntry, AreShort};
 
@@ -22,30 +23,31 @@ use std::alloc::Global;
 use wasm_model::fault::Limited;
 use wasm_model::options::Options;
 
-// A body behind its size.
+// A body behind its size, with the new numbers of functions.
 fn write_entry(
     writer: &mut CodeWriter,
     options: &Options,
+    new_function: &[u32],
     function: &Function,
 ) -> Result<(), Failure>
-    requires reads { code_at (features_of options.now) function.now.place function.now.body.now ≡ Ok (code_in (features_of options.now) function.now) }
+    requires reads { code_at (known_with options.now (length new_function.now)) function.now.place function.now.body.now
+        ≡ Ok (code_in (known_with options.now (length new_function.now)) function.now) }
     requires place { function.now.place + length function.now.body.now < 2 ^ 32 }
     requires room { length writer.old.bytes.items ≤ 2 ^ 30 }
-    ensures ok { OnOk result (text_of writer.new ≡ with_entry (text_of writer.old) (normal_form (code_in (features_of options.now) function.now).body)) }
+    ensures ok { OnOk result (text_of writer.new
+        ≡ with_entry (renaming_to new_function.now) (text_of writer.old) (normal_form (body_in options.now new_function.now function.now))) }
     ensures short { OnOk result (length writer.new.bytes.items ≤ 2 ^ 30) }
-    ensures fits { OnOk result (length (body_bytes (operators (normal_form (code_in (features_of options.now) function.now).body))) ≤ 7654321) }
+    ensures fits { OnOk result (written_length new_function.now (body_in options.now new_function.now function.now) ≤ 7654321) }
     ensures cause { IfErr result (λ e. IsCauseOfEntry e
-        (length (body_bytes (operators (normal_form (code_in (features_of options.now) function.now).body))))
-        (length (with_entry (text_of writer.old) (normal_form (code_in (features_of options.now) function.now).body)).bytes)) }
+        (written_length new_function.now (body_in options.now new_function.now function.now))
+        (length (with_entry (renaming_to new_function.now) (text_of writer.old) (normal_form (body_in options.now new_function.now function.now))).bytes)) }
 {
-    let Ok(extent) = measure_body(options, function.body, 0) else {
-        unreachable!()
-    };
-    if extent.bytes > MAX_FUNCTION_SIZE {
+    let bytes = measure_body(options, new_function, function.body);
+    if bytes > MAX_FUNCTION_SIZE {
         return Err(Failure::Limit { of: Limited::Body });
     }
-    write_u32(&mut writer.bytes, extent.bytes as u32)?;
-    writer.write_body(options, function.place, function.body)?;
+    write_u32(&mut writer.bytes, bytes as u32)?;
+    writer.write_body(options, new_function, function.place, function.body)?;
     if writer.bytes.len() > MAX_FILE_SIZE {
         return Err(Failure::Limit { of: Limited::File });
     }
@@ -67,10 +69,10 @@ pub fn write_codes(
     source: &Module,
     numbering: &Numbering,
 ) -> Result<CodeWriter, Failure>
-    requires sound { IsSound (features_of options.now) source.now.functions.items }
+    requires sound { IsSound (known_of (features_of options.now) source.now) source.now.functions.items }
     requires fits { IsWritable source.now numbering.now }
     ensures ok { IfOk result (λ w. text_of w ≡ codes_text (meaning (features_of options.now) source.now) (numbers_of numbering.now) options.now.places) }
-    ensures bodies { OnOk result (AreShort (meaning (features_of options.now) source.now) (numbers_of numbering.now).functions) }
+    ensures bodies { OnOk result (AreShort (meaning (features_of options.now) source.now) (numbers_of numbering.now) (numbers_of numbering.now).functions) }
     ensures cause { IfErr result (λ e. IsCause e
         (written (meaning (features_of options.now) source.now) (numbers_of numbering.now)).functions
         (codes_text (meaning (features_of options.now) source.now) (numbers_of numbering.now) options.now.places).bytes) }
@@ -81,7 +83,8 @@ pub fn write_codes(
     };
     write_u32(&mut writer.bytes, numbering.functions.len() as u32)?;
     for &f in &numbering.functions {
-        write_entry(&mut writer, options, &source.functions[f as usize])?;
+        let function = &source.functions[f as usize];
+        write_entry(&mut writer, options, &numbering.new_function, function)?;
     }
     Ok(writer)
 }

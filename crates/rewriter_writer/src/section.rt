@@ -1,13 +1,13 @@
 //! Sections (Core Specification, Binary Format, Sections): none is written of no entries.
 
-ghost use Rattle.std.specs.Prelude.{◌≡◌, ◌<◌, ◌^◌, List, ◌∷◌, ◌++◌, length, map, slice_index, slice_index_or, All, OnOk, IfOk, IfErr};
+ghost use Rattle.std.specs.Prelude.{◌≡◌, ◌<◌, ◌^◌, List, ◌∷◌, ◌++◌, length, map, slice_index, slice_index_or, All, OnOk, IfOk, IfErr, IfSome};
 ghost use Rattle.std.specs.Option.{option_map};
 ghost use Rattle.wasm_model.specs.Module.{Function as WrittenFunction};
 ghost use Rattle.wasm_model.specs.Shortest.{u32_bytes};
-ghost use Rattle.wasm_model.specs.Spelling.{sized_bytes, section_bytes, type_bytes, export_bytes, code_bytes};
+ghost use Rattle.wasm_model.specs.Spelling.{sized_bytes, section_bytes, start_bytes, type_bytes, export_bytes, code_bytes};
 ghost use Rattle.wasm_model.specs.Part.{renamed_export};
 ghost use Rattle.wasm_model.specs.Features.{features_of};
-ghost use Rattle.rewriter_module.specs.Meaning.{meaning, type_of, export_of, IsSound};
+ghost use Rattle.rewriter_module.specs.Meaning.{known_of, meaning, type_of, export_of, IsSound};
 ghost use Rattle.rewriter_module.specs.Written.{numbers_of, renaming, no_type, written, written_places};
 ghost use Rattle.rewriter_writer.specs.Codes.{asked_pairs};
 ghost use Rattle.rewriter_writer.specs.Premises.{IsShortType, IsShortName, IsWritable};
@@ -17,9 +17,9 @@ use crate::code::{no_places, write_codes};
 use crate::entry::{write_exports, write_type_numbers, write_types};
 use crate::failure::Failure;
 use crate::limits::MAX_FILE_SIZE;
-use rewriter_bodies::write_u32;
+use rewriter_bodies::{u32_len, write_u32};
 use rewriter_module::{Export, Function, FunctionType, Module, Numbering};
-use std::alloc::Global;
+use std::alloc::{AllocError, Global};
 use wasm_model::fault::Limited;
 use wasm_model::options::Options;
 
@@ -107,6 +107,25 @@ pub fn write_export_section(
     write_section(out, 7, &contents)
 }
 
+/// Section 8: the new number of the start function, where there is one.
+pub fn write_start_section(
+    out: &mut Vec<u8>,
+    numbering: &Numbering,
+    start: Option<u32>,
+) -> Result<(), AllocError>
+    requires { IfSome start (λ f. f < length numbering.now.new_function.items) }
+    ensures { OnOk result (out.new.items ≡ out.old.items
+        ++ start_bytes (option_map (renaming (numbers_of numbering.now)).function start)) }
+{
+    let Some(function) = start else {
+        return Ok(());
+    };
+    let number = numbering.new_function[function as usize];
+    out.push(8)?;
+    write_u32(out, u32_len(number) as u32)?;
+    write_u32(out, number)
+}
+
 /// Section 10: the bodies of the functions that a numbering keeps. Gives their pairs of places where
 /// they are asked for.
 pub fn write_code_section(
@@ -116,13 +135,13 @@ pub fn write_code_section(
     source: &Module,
     numbering: &Numbering,
 ) -> Result<Option<Vec<(u32, u32)>>, Failure>
-    requires sound { IsSound (features_of options.now) source.now.functions.items }
+    requires sound { IsSound (known_of (features_of options.now) source.now) source.now.functions.items }
     requires fits { IsWritable source.now numbering.now }
     ensures ok { OnOk result (out.new.items ≡ out.old.items
         ++ section_bytes 10 code_bytes (written (meaning (features_of options.now) source.now) (numbers_of numbering.now)).functions) }
     ensures places { IfOk result (λ places. option_map (λ v. v.items) places
         ≡ asked_pairs options.now.places (written_places (meaning (features_of options.now) source.now) (numbers_of numbering.now))) }
-    ensures bodies { OnOk result (AreShort (meaning (features_of options.now) source.now) (numbers_of numbering.now).functions) }
+    ensures bodies { OnOk result (AreShort (meaning (features_of options.now) source.now) (numbers_of numbering.now) (numbers_of numbering.now).functions) }
     ensures cause { IfErr result (λ e. IsCause e
         (written (meaning (features_of options.now) source.now) (numbers_of numbering.now)).functions
         (section_bytes 10 code_bytes (written (meaning (features_of options.now) source.now) (numbers_of numbering.now)).functions)) }

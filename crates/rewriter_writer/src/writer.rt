@@ -5,7 +5,7 @@ ghost use Rattle.std.specs.Option.{option_map};
 ghost use Rattle.wasm_model.specs.Features.{features_of};
 ghost use Rattle.wasm_model.specs.Spelling.{module_bytes};
 ghost use Rattle.wasm_model.specs.Rewrites.{producers_bytes, added_bytes};
-ghost use Rattle.rewriter_module.specs.Meaning.{meaning, IsSound};
+ghost use Rattle.rewriter_module.specs.Meaning.{known_of, meaning, IsSound};
 ghost use Rattle.rewriter_module.specs.Written.{numbers_of, written, written_places};
 ghost use Rattle.rewriter_writer.specs.Codes.{asked_pairs};
 ghost use Rattle.rewriter_writer.specs.Premises.{IsWritable};
@@ -14,7 +14,8 @@ ghost use Rattle.rewriter_writer.specs.Causes.{IsCause, IsUnwritten, AreShort};
 use crate::failure::Failure;
 use crate::limits::MAX_FILE_SIZE;
 use crate::section::{
-    write_code_section, write_export_section, write_function_section, write_type_section,
+    write_code_section, write_export_section, write_function_section, write_start_section,
+    write_type_section,
 };
 use rewriter_module::{Module, Numbering};
 use std::alloc::{AllocError, Global};
@@ -52,14 +53,14 @@ fn write_parts(
     source: &Module,
     numbering: &Numbering,
 ) -> Result<Written, Failure>
-    requires sound { IsSound (features_of options.now) source.now.functions.items }
+    requires sound { IsSound (known_of (features_of options.now) source.now) source.now.functions.items }
     requires fits { IsWritable source.now numbering.now }
     ensures bytes { IfOk result (λ w. w.bytes.items
         ≡ module_bytes (written (meaning (features_of options.now) source.now) (numbers_of numbering.now)) ++ added_bytes options.now) }
     ensures short { IfOk result (λ w. length w.bytes.items ≤ 2 ^ 30) }
     ensures places { IfOk result (λ w. option_map (λ v. v.items) w.places
         ≡ asked_pairs options.now.places (written_places (meaning (features_of options.now) source.now) (numbers_of numbering.now))) }
-    ensures bodies { OnOk result (AreShort (meaning (features_of options.now) source.now) (numbers_of numbering.now).functions) }
+    ensures bodies { OnOk result (AreShort (meaning (features_of options.now) source.now) (numbers_of numbering.now) (numbers_of numbering.now).functions) }
     ensures cause { IfErr result (λ e. IsCause e
         (written (meaning (features_of options.now) source.now) (numbers_of numbering.now)).functions
         (module_bytes (written (meaning (features_of options.now) source.now) (numbers_of numbering.now)) ++ added_bytes options.now)) }
@@ -75,6 +76,7 @@ fn write_parts(
         &numbering.functions,
     )?;
     write_export_section(alloc, &mut bytes, numbering, &source.exports)?;
+    write_start_section(&mut bytes, numbering, source.start)?;
     let places = write_code_section(alloc, &mut bytes, options, source, numbering)?;
     write_added(&mut bytes, options)?;
     if bytes.len() > MAX_FILE_SIZE {
@@ -95,14 +97,14 @@ pub fn write_module(
     source: &Module,
     numbering: &Numbering,
 ) -> Result<Written, Fault>
-    requires sound { IsSound (features_of options.now) source.now.functions.items }
+    requires sound { IsSound (known_of (features_of options.now) source.now) source.now.functions.items }
     requires fits { IsWritable source.now numbering.now }
     ensures bytes { IfOk result (λ w. w.bytes.items
         ≡ module_bytes (written (meaning (features_of options.now) source.now) (numbers_of numbering.now)) ++ added_bytes options.now) }
     ensures short { IfOk result (λ w. length w.bytes.items ≤ 2 ^ 30) }
     ensures places { IfOk result (λ w. option_map (λ v. v.items) w.places
         ≡ asked_pairs options.now.places (written_places (meaning (features_of options.now) source.now) (numbers_of numbering.now))) }
-    ensures bodies { OnOk result (AreShort (meaning (features_of options.now) source.now) (numbers_of numbering.now).functions) }
+    ensures bodies { OnOk result (AreShort (meaning (features_of options.now) source.now) (numbers_of numbering.now) (numbers_of numbering.now).functions) }
     ensures refused { IfErr result (λ e. IsUnwritten options.now (written (meaning (features_of options.now) source.now) (numbers_of numbering.now)) e) }
 {
     match write_parts(alloc, options, source, numbering) {
