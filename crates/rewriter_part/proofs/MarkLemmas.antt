@@ -8,7 +8,8 @@ use Rattle.rewriter_module.specs.declared.Function.{Function}
 use Rattle.rewriter_part.specs.Orders.{type_index_of}
 use Rattle.std.proofs.lemmas.List.Elements.{Contains-push, Contains-push_cases, Contains-append_left}
 use Rattle.std.proofs.lemmas.Bool.{cases_eq, cases_lt, false≢true}
-use Rattle.rewriter_part.specs.Marks.{IsMarked, AreMarks}
+use Rattle.rewriter_reach.specs.Marks.{IsMarked}
+use Rattle.rewriter_part.specs.Marks.{AreMarks}
 
 pub unmarked : (n i : ℕ) → IsMarked (replicate n false) i → ⊥
 unmarked n i h = elim (cases_lt i n) as (λ _. ⊥) [

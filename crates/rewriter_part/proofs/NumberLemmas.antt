@@ -4,28 +4,21 @@ use Rattle.std.specs.Prelude.{◌↔◌, slice_get, option_map}
 use Rattle.std.proofs.lemmas.List.{get_or-map}
 use Rattle.std.proofs.lemmas.List.Elements.{Contains-get_or, All-contains}
 use Rattle.std.proofs.lemmas.Option.{slice_get_cases, slice_get_within, slice_get-map, get_or_from_slice_get, same_Some}
-use Rattle.wasm_model.specs.Features.{Features}
+use Rattle.wasm_model.specs.Features.{Features, Known}
 use Rattle.wasm_model.specs.Module as model
 use Rattle.wasm_model.specs.Module.{FunctionItem, TypeItem}
 use Rattle.wasm_model.specs.NormalForm.{size}
 use Rattle.wasm_model.specs.Kept.{Same, Refers, Root, Kept, root, refers}
 use Rattle.wasm_model.specs.Part.{Earlier}
 use Rattle.rewriter_module.specs.declared.Function.{Function}
-use Rattle.rewriter_module.specs.declared.Export.{Export}
 use Rattle.rewriter_module.specs.declared.Module.{Module}
-use Rattle.rewriter_module.specs.Meaning.{type_of, function_of, export_of, meaning, IsSound}
+use Rattle.rewriter_module.specs.Meaning.{type_of, function_of, export_of, meaning, known_of, IsSound}
 use Rattle.rewriter_module.specs.Written.{Numbers, function_at, no_function}
 use Rattle.rewriter_module.specs.Numbered.{IsNumbering}
 use Rattle.rewriter_part.specs.Orders.{IsLarger, type_index_of}
 use Rattle.rewriter_part.specs.Types.{AreNumbered}
 use Rattle.rewriter_part.proofs.FirstLemmas.{stand_in_below}
 use Rattle.rewriter_part.proofs.SortLemmas.{Contains-map, Contains-of_map}
-
--- what exports name is in range, and each but once
-pub exported_in : (exports : List Export) (kept : List ℕ) (n : ℕ) → All (λ e. e.function < n) exports → ((f : ℕ) → Contains kept f ↔ Contains (map (λ e. e.function) exports) f) → All (λ f. f < n) kept
-exported_in exports kept n in_range same = λ k d below.
-    let from = Contains-of_map (λ (e : Export). e.function) exports (get_or kept k d) ((same (get_or kept k d)).0 (Contains-get_or kept k d below)) in
-    subst (λ f. f < n) from.2 (All-contains (λ (e : Export). e.function < n) exports from.0 in_range from.1)
 
 not_larger : (sizes : List ℕ) (f g : ℕ) → f ≡ g → IsLarger sizes f g → ⊥
 not_larger sizes f g e (inl x) = let s : slice_index sizes f ≡ slice_index sizes g = ap (slice_index sizes) e in omega arith
@@ -43,25 +36,25 @@ numbered_in kinds used kept numbers h = λ k d below. (let w = h.only k d below 
 
 -- what is known of a module's numbers
 pub record AreFound (input : Module) (n : Numbers) : Type 0 where
-  pub in_range : All (λ e. e.function < length input.functions.items) input.exports.items
-  pub exported : (f : ℕ) → Contains n.functions f ↔ Contains (map (λ e. e.function) input.exports.items) f
+  pub in_range : All (λ f. f < length input.functions.items) n.functions
+  pub kept : (features : Features) → IsSound (known_of features input) input.functions.items → (f : ℕ) → Contains n.functions f ↔ Kept (meaning features input) (FunctionItem f)
   pub in_order : AllPairs (IsLarger (map (λ f. f.size) input.functions.items)) n.functions
   pub function_number : (k f : ℕ) → slice_get n.functions k ≡ Some f → slice_get n.new_function f ≡ Some k
   pub numbered : AreNumbered (map type_of input.types.items) (map (type_index_of input.functions.items) n.functions) n.types n.new_type
 
-module _ {input : Module} {n : Numbers} (h : AreFound input n) (features : Features) (sound : IsSound features input.functions.items) where
+module _ {input : Module} {n : Numbers} (h : AreFound input n) (features : Features) (sound : IsSound (known_of features input) input.functions.items) where
   abbrev m : model.Module
   m = meaning features input
 
-  kept_in : All (λ f. f < length input.functions.items) n.functions
-  kept_in = exported_in input.exports.items n.functions (length input.functions.items) h.in_range h.exported
+  abbrev known : Known
+  known = known_of features input
 
   -- a function in range, with its meaning
-  function_there : (f : ℕ) → f < length input.functions.items → (g : Function) × (slice_get input.functions.items f ≡ Some g) × (slice_get m.functions f ≡ Some (function_of features g))
+  function_there : (f : ℕ) → f < length input.functions.items → (g : Function) × (slice_get input.functions.items f ≡ Some g) × (slice_get m.functions f ≡ Some (function_of known g))
   function_there f below =
       let at = slice_get_cases input.functions.items f in
-      elim at.1 as (λ _. (g : Function) × (slice_get input.functions.items f ≡ Some g) × (slice_get m.functions f ≡ Some (function_of features g))) [
-        | inl (g, inside, found, is) ↦ (g, found, slice_get-map (function_of features) input.functions.items f ∙ ap (λ o. option_map (function_of features) o) found)
+      elim at.1 as (λ _. (g : Function) × (slice_get input.functions.items f ≡ Some g) × (slice_get m.functions f ≡ Some (function_of known g))) [
+        | inl (g, inside, found, is) ↦ (g, found, slice_get-map (function_of known) input.functions.items f ∙ ap (λ o. option_map (function_of known) o) found)
         | inr past ↦ absurd (omega (arith, past.0))
       ]
 
@@ -74,42 +67,27 @@ module _ {input : Module} {n : Numbers} (h : AreFound input n) (features : Featu
       get_or-map (λ (k : Function). k.size) input.functions.items f there.0 0 below
       ∙ ap (λ (k : Function). k.size) (get_or_from_slice_get input.functions.items f there.0 there.0 there.1)
       ∙ sound.sized f there.0 there.1
-      ∙ ap (λ (k : model.Function). size k.body) (sym (get_or_from_slice_get m.functions f (function_of features there.0) no_function there.2))
-
-  exported_root : (f : ℕ) → Contains n.functions f → Kept m (FunctionItem f)
-  exported_root f c =
-      let from = Contains-of_map (λ (e : Export). e.function) input.exports.items f ((h.exported f).0 c) in
-      root (export_of from.0, Contains-map export_of input.exports.items from.0 from.1, ap FunctionItem from.2)
-
-  root_exported : (f : ℕ) → Root m (FunctionItem f) → Contains n.functions f
-  root_exported f r =
-      let from = Contains-of_map export_of input.exports.items r.0 r.1 in
-      let item : FunctionItem from.0.function ≡ FunctionItem f = ap (λ (e : model.Export). e.item) from.2 ∙ r.2 in
-      let same : from.0.function ≡ f = cc in
-      (h.exported f).1 (subst (λ k. Contains (map (λ e. e.function) input.exports.items) k) same (Contains-map (λ (e : Export). e.function) input.exports.items from.0 from.1))
+      ∙ ap (λ (k : model.Function). size k.body) (sym (get_or_from_slice_get m.functions f (function_of known there.0) no_function there.2))
 
   no_type_root : (t : ℕ) → Root m (TypeItem t) → ⊥
-  no_type_root t r =
+  no_type_root t (inl r) =
       let from = Contains-of_map export_of input.exports.items r.0 r.1 in
       let item : FunctionItem from.0.function ≡ TypeItem t = ap (λ (e : model.Export). e.item) from.2 ∙ r.2 in
       cc
-
-  kept_exported : (f : ℕ) → Kept m (FunctionItem f) → Contains n.functions f
-  kept_exported f (root r) = root_exported f r
-  kept_exported f (refers {i} k r) = elim i as (λ j. Refers m j (FunctionItem f) → Contains n.functions f) [ FunctionItem g ↦ λ none. absurd none | TypeItem t ↦ λ none. absurd none ] r
+  no_type_root t (inr r) = let item : FunctionItem r.0 ≡ TypeItem t = r.2 in cc
 
   -- a kept function's type
   type_used : (t u : ℕ) → Contains (map (type_index_of input.functions.items) n.functions) u → Same m.types u t → Kept m (TypeItem t)
   type_used t u c same =
       let from = Contains-of_map (type_index_of input.functions.items) n.functions u c in
-      let there = function_there from.0 (All-contains (λ f. f < length input.functions.items) n.functions from.0 kept_in from.1) in
-      refers {i = FunctionItem from.0} (exported_root from.0 from.1) (function_of features there.0, there.2, subst (λ v. Same m.types v t) (sym from.2 ∙ index_is from.0 there.0 there.1) same)
+      let there = function_there from.0 (All-contains (λ f. f < length input.functions.items) n.functions from.0 h.in_range from.1) in
+      refers {i = FunctionItem from.0} ((h.kept features sound from.0).0 from.1) (function_of known there.0, there.2, subst (λ v. Same m.types v t) (sym from.2 ∙ index_is from.0 there.0 there.1) same)
 
   type_from : (f t : ℕ) → Kept m (FunctionItem f) → (function : model.Function) × (slice_get m.functions f ≡ Some function) × Same m.types function.type_ t → (u : ℕ) × Contains (map (type_index_of input.functions.items) n.functions) u × Same m.types u t
   type_from f t kept (function, at, same) =
-      let c = kept_exported f kept in
-      let there = function_there f (All-contains (λ g. g < length input.functions.items) n.functions f kept_in c) in
-      let is : function ≡ function_of features there.0 = same_Some function (function_of features there.0) (sym at ∙ there.2) in
+      let c = (h.kept features sound f).1 kept in
+      let there = function_there f (All-contains (λ g. g < length input.functions.items) n.functions f h.in_range c) in
+      let is : function ≡ function_of known there.0 = same_Some function (function_of known there.0) (sym at ∙ there.2) in
       (type_index_of input.functions.items f, Contains-map (type_index_of input.functions.items) n.functions f c, subst (λ v. Same m.types v t) (ap (λ (k : model.Function). k.type_) is ∙ sym (index_is f there.0 there.1)) same)
 
   kept_type : (t : ℕ) → Kept m (TypeItem t) → (u : ℕ) × Contains (map (type_index_of input.functions.items) n.functions) u × Same m.types u t
@@ -124,9 +102,9 @@ module _ {input : Module} {n : Numbers} (h : AreFound input n) (features : Featu
 
   pub is_numbering : IsNumbering m n
   is_numbering = record {
-    functions = λ k d below. exported_root (get_or n.functions k d) (Contains-get_or n.functions k d below);
-    each_function = kept_exported;
-    functions_in_order = λ i j d before below. larger_earlier (get_or n.functions i d) (get_or n.functions j d) (kept_in i d (omega arith)) (kept_in j d below) (h.in_order i j d before below);
+    functions = λ k d below. (h.kept features sound (get_or n.functions k d)).0 (Contains-get_or n.functions k d below);
+    each_function = λ f. (h.kept features sound f).1;
+    functions_in_order = λ i j d before below. larger_earlier (get_or n.functions i d) (get_or n.functions j d) (h.in_range i d (omega arith)) (h.in_range j d below) (h.in_order i j d before below);
     function_number = h.function_number;
     types = λ k d below. (let w = h.numbered.only k d below in type_used (get_or n.types k d) w.0 w.1 w.2);
     each_type = λ t kept. (let w = kept_type t kept in h.numbered.each t w.0 w.1 w.2);

@@ -18,7 +18,7 @@ use Rattle.std.proofs.lemmas.List.Sorted.{ranks_by, IsPermutation-map, IsPermuta
 use Rattle.std.proofs.lemmas.Bool.{cases_lt, false≢true}
 use Rattle.std.proofs.lemmas.Bool.Decides.{nat_tests}
 use Rattle.std.proofs.lemmas.Cmp.{on_total, then_total, back_total, nat_cmp_total}
-use Rattle.rewriter_part.specs.Marks.{IsMarked, AreMarks}
+use Rattle.rewriter_reach.specs.Marks.{IsMarked}
 use Rattle.rewriter_part.specs.Orders.{IsLarger}
 use Rattle.rewriter_part.proofs.SortLemmas.{Contains-filter, Contains-of_filter, Contains-range, distinct_range, numbers_in_order}
 use Rattle.rewriter_part.specs.declared.functions.Place.{Place}
@@ -41,27 +41,27 @@ ArePlaced-unmarked marks sizes n places unmarked h = record {
   sized = h.sized;
 }
 
-marked_below : (marks : List Bool) (i : ℕ) → IsMarked marks i → i < length marks
+pub marked_below : (marks : List Bool) (i : ℕ) → IsMarked marks i → i < length marks
 marked_below marks i h = elim (cases_lt i (length marks)) as (λ _. i < length marks) [ inl below ↦ below | inr past ↦ absurd (false≢true (sym (get_or_past marks i false past) ∙ h)) ]
 
--- the marked ones of all numbers are those of the list
-pub marked_are : (marks : List Bool) (targets : List ℕ) (n : ℕ) → AreMarks marks targets → length marks ≡ n → (f : ℕ) → Contains (filter (λ i. slice_index_or marks i false) (range_with_len 0 n)) f ↔ Contains targets f
-marked_are marks targets n h len f = (
-  λ c. (h.same f).0 (Contains-of_filter (λ i. slice_index_or marks i false) (range_with_len 0 n) f c).1,
-  λ c. Contains-filter (λ i. slice_index_or marks i false) (range_with_len 0 n) f ((h.same f).1 c) (Contains-range n f (omega (arith, marked_below marks f ((h.same f).1 c)))),
+-- a filter of all numbers has the marked ones
+marked_are : (marks : List Bool) (n : ℕ) → length marks ≡ n → (f : ℕ) → Contains (filter (λ i. slice_index_or marks i false) (range_with_len 0 n)) f ↔ IsMarked marks f
+marked_are marks n len f = (
+  λ c. (Contains-of_filter (λ i. slice_index_or marks i false) (range_with_len 0 n) f c).1,
+  λ m. Contains-filter (λ i. slice_index_or marks i false) (range_with_len 0 n) f m (Contains-range n f (omega (arith, marked_below marks f m))),
 )
 
 abbrev number : Place → ℕ
 number p = p.function
 
--- after the sort, the functions are those that exports name
-pub exported_kept : (marks : List Bool) (targets : List ℕ) (n : ℕ) (places sorted : List Place) → AreMarks marks targets → length marks ≡ n →
-    map (λ p. p.function) places ≡ filter (λ i. slice_index_or marks i false) (range_with_len 0 n) → IsPermutation places sorted → (f : ℕ) → Contains (map (λ p. p.function) sorted) f ↔ Contains targets f
-exported_kept marks targets n places sorted h len numbers perm f =
+-- after the sort, the functions are those that are marked
+pub marked_kept : (marks : List Bool) (n : ℕ) (places sorted : List Place) → length marks ≡ n →
+    map (λ p. p.function) places ≡ filter (λ i. slice_index_or marks i false) (range_with_len 0 n) → IsPermutation places sorted → (f : ℕ) → Contains (map (λ p. p.function) sorted) f ↔ IsMarked marks f
+marked_kept marks n places sorted len numbers perm f =
     let moved = IsPermutation-map number places sorted perm in
-    let are = marked_are marks targets n h len f in (
+    let are = marked_are marks n len f in (
       λ c. are.0 (subst (λ (xs : List ℕ). Contains xs f) numbers (Contains-permutation (map number sorted) (map number places) f (IsPermutation-sym (map number places) (map number sorted) moved) c)),
-      λ c. Contains-permutation (map number places) (map number sorted) f moved (subst (λ (xs : List ℕ). Contains xs f) (sym numbers) (are.1 c)),
+      λ m. Contains-permutation (map number places) (map number sorted) f moved (subst (λ (xs : List ℕ). Contains xs f) (sym numbers) (are.1 m)),
     )
 
 abbrev pub place_lt : Place → Place → Bool

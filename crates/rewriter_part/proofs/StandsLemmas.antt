@@ -4,13 +4,12 @@ use Rattle.std.specs.declared.cmp.Ordering.TheVariants.{Less, Greater}
 use Rattle.std.specs.Prelude.{slice_get, option_map}
 use Rattle.std.specs.Ordering.{ordering_reverse}
 use Rattle.std.proofs.Math.ListN.{length-map}
-use Rattle.std.proofs.lemmas.List.{map-id}
 use Rattle.std.proofs.lemmas.Option.{slice_get-get_or, slice_get_within, slice_get-map, get_or_from_slice_get, same_Some}
 use Rattle.std.proofs.lemmas.Bool.{cases_eq, cases_lt}
 use Rattle.wasm_model.specs.Module.{Module, Function, FunctionType, Operator, FunctionItem, TypeItem, operators}
 use Rattle.wasm_model.specs.NormalForm.{normal_form, size}
 use Rattle.wasm_model.specs.Kept.{Kept}
-use Rattle.wasm_model.specs.Part.{IsRenamed, Earlier, type_cmp, Stands}
+use Rattle.wasm_model.specs.Part.{IsRenamed, renamed_operator, Earlier, type_cmp, Stands}
 use Rattle.rewriter_module.specs.Written.{Numbers, renaming, no_type, no_function, type_at, function_at, written_operators, placed, placed_functions, written}
 use Rattle.wasm_model.specs.Spelling.{operator_bytes}
 use Rattle.wasm_model.specs.Shortest.{u32_bytes}
@@ -26,11 +25,11 @@ operators_placed (o ∷ os) place = ap (λ rest. o ∷ rest) (operators_placed o
 record IsWrittenFor (m : Module) (n : Numbers) (f : ℕ) (g : Function) : Type 0 where
   type_ : g.type_ ≡ slice_index n.new_type (function_at m f).type_
   locals : g.locals ≡ []
-  body : operators g.body ≡ written_operators m f
+  body : operators g.body ≡ written_operators m n f
 
 written_at : (m : Module) (n : Numbers) (fs : List ℕ) (k : ℕ) (place f : ℕ) → slice_get fs k ≡ Some f → (g : Function) × (slice_get (placed_functions m n place fs) k ≡ Some g) × IsWrittenFor m n f g
 written_at m n [] k place f at = cc
-written_at m n (e ∷ fs) zero place f at = (_, refl, record { type_ = ap (λ h. slice_index n.new_type (function_at m h).type_) (same_Some e f at); locals = refl; body = operators_placed (written_operators m e) _ ∙ ap (λ h. written_operators m h) (same_Some e f at) })
+written_at m n (e ∷ fs) zero place f at = (_, refl, record { type_ = ap (λ h. slice_index n.new_type (function_at m h).type_) (same_Some e f at); locals = refl; body = operators_placed (written_operators m n e) _ ∙ ap (λ h. written_operators m n h) (same_Some e f at) })
 written_at m n (e ∷ fs) (suc k) place f at = written_at m n fs k _ f at
 
 length_placed : (m : Module) (n : Numbers) (fs : List ℕ) (place : ℕ) → length (placed_functions m n place fs) ≡ length fs
@@ -79,7 +78,7 @@ module _ {m : Module} {n : Numbers} (is : IsNumbering m n) (types_in : (t : ℕ)
         record {
           type_ = for.type_ ∙ ap (λ (h : Function). slice_index n.new_type h.type_) same;
           locals = for.locals;
-          body = for.body ∙ ap (λ (h : Function). operators (normal_form h.body)) same ∙ sym (map-id (operators (normal_form function.body)));
+          body = for.body ∙ ap (λ (h : Function). map (renamed_operator (renaming n)) (operators (normal_form h.body))) same;
         },
       )
 
@@ -156,4 +155,5 @@ module _ {m : Module} {n : Numbers} (is : IsNumbering m n) (types_in : (t : ℕ)
     types_in_order = types_ordered;
     merged = is.merged;
     exports = refl;
+    start = refl;
   }

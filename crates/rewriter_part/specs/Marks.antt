@@ -1,9 +1,6 @@
 -- Sets of numbers, as flags.
-use Rattle.std.specs.Prelude.{ℕ, ◌≡◌, ◌↔◌, Bool, true, false, List, Contains, slice_index_or}
-
--- i's flag is set
-abbrev pub IsMarked : List Bool → ℕ → Type 0
-IsMarked marks i = slice_index_or marks i false ≡ true
+use Rattle.std.specs.Prelude.{ℕ, ◌↔◌, Bool, List, Contains}
+use Rattle.rewriter_reach.specs.Marks.{IsMarked}
 
 -- the marked numbers are those of a list
 pub record AreMarks (marks : List Bool) (numbers : List ℕ) : Type 0 where

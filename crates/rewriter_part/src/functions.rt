@@ -1,27 +1,17 @@
 //! The functions that are kept, and their order.
 
-ghost use Rattle.std.specs.Prelude.{◌≡◌, ℕ, ◌<◌, ◌≤◌, ◌^◌, ◌↔◌, IfOk, All, AllPairs, Contains, map, vec_len, length, filter, slice_index, slice_index_or, false};
+ghost use Rattle.std.specs.Prelude.{◌≡◌, ℕ, ◌<◌, ◌≤◌, ◌^◌, ◌↔◌, IfOk, IfSome, All, AllPairs, Contains, map, vec_len, length, filter, slice_index, slice_index_or, false};
 ghost use Rattle.std.specs.List.{range_with_len};
-ghost use Rattle.rewriter_part.specs.Marks.{AreMarks};
+ghost use Rattle.wasm_model.specs.Features.{Features};
+ghost use Rattle.wasm_model.specs.Module.{FunctionItem};
+ghost use Rattle.wasm_model.specs.Kept.{Kept};
+ghost use Rattle.rewriter_module.specs.Meaning.{meaning, known_of, IsSound};
 ghost use Rattle.rewriter_part.specs.Orders.{IsLarger};
 
-use rewriter_module::{Export, Function};
+use rewriter_module::{Function, Module};
+use rewriter_reach::kept_functions;
 use std::alloc::{AllocError, Global};
 use std::cmp::Reverse;
-
-/// Which of `count` functions an export names.
-fn mark_exported(alloc: Global, exports: &[Export], count: usize) -> Result<Vec<bool>, AllocError>
-    requires { All (λ e. e.function < count) exports.now }
-    ensures len { IfOk result (λ marks. vec_len marks ≡ count) }
-    ensures marks { IfOk result (λ marks.
-        AreMarks marks.items (map (λ e. e.function) exports.now)) }
-{
-    let mut marks = vec![in alloc; false; count]?;
-    for export in exports {
-        marks[export.function as usize] = true;
-    }
-    Ok(marks)
-}
 
 /// Where a function stands among those that are kept: larger ones first.
 #[derive(Clone, Copy, PartialEq, Eq, PartialOrd, Ord)]
@@ -66,22 +56,23 @@ fn functions_at(alloc: Global, places: &[Place]) -> Result<Vec<u32>, AllocError>
     Ok(functions)
 }
 
-/// The functions that exports name, larger ones first, those of one size by their numbers.
-pub(crate) fn kept_functions(
-    alloc: Global,
-    functions: &[Function],
-    exports: &[Export],
-) -> Result<Vec<u32>, AllocError>
-    requires fits { length functions.now ≤ 2 ^ 32 }
-    requires in_range { All (λ e. e.function < length functions.now) exports.now }
-    ensures exported { IfOk result (λ kept. (f : ℕ) →
-        Contains kept.items f ↔ Contains (map (λ e. e.function) exports.now) f) }
-    ensures fewer { IfOk result (λ kept. vec_len kept ≤ length functions.now) }
-    ensures in_order { IfOk result (λ kept.
-        AllPairs (IsLarger (map (λ f. f.size) functions.now)) kept.items) }
+/// The functions that are kept, larger ones first, those of one size by their numbers.
+pub(crate) fn ordered_functions(alloc: Global, input: &Module) -> Result<Vec<u32>, AllocError>
+    requires fits { vec_len input.now.functions ≤ 2 ^ 32 }
+    requires sound { (features : Features) × IsSound (known_of features input.now) input.now.functions.items }
+    requires exported { All (λ e. e.function < vec_len input.now.functions) input.now.exports.items }
+    requires started { IfSome input.now.start (λ f. f < vec_len input.now.functions) }
+    ensures kept { IfOk result (λ order. (features : Features) →
+        IsSound (known_of features input.now) input.now.functions.items →
+        (f : ℕ) → Contains order.items f ↔ Kept (meaning features input.now) (FunctionItem f)) }
+    ensures in_range { IfOk result (λ order.
+        All (λ f. f < vec_len input.now.functions) order.items) }
+    ensures fewer { IfOk result (λ order. vec_len order ≤ vec_len input.now.functions) }
+    ensures in_order { IfOk result (λ order.
+        AllPairs (IsLarger (map (λ f. f.size) input.now.functions.items)) order.items) }
 {
-    let marks = mark_exported(alloc, exports, functions.len())?;
-    let mut places = marked_places(alloc, functions, &marks)?;
+    let marks = kept_functions(alloc, input)?;
+    let mut places = marked_places(alloc, &input.functions, &marks)?;
     places.sort()?;
     functions_at(alloc, &places)
 }

@@ -1,21 +1,46 @@
 //! A small module, numbered by hand.
 
-ghost use Rattle.std.specs.Prelude.{◌≡◌};
+ghost use Rattle.std.specs.Prelude.{◌≡◌, ◌<◌, IfOk, All, vec_len};
+ghost use Rattle.wasm_model.specs.Features.{Features};
+ghost use Rattle.rewriter_module.specs.Meaning.{IsSound};
 
 use crate::number;
 use rewriter_module::{Export, Function, FunctionType, Module};
 use std::alloc::{AllocError, Global};
 use wasm_model::types::ValType;
 
-fn function(type_index: u32, size: u32) -> Function<'static>
-    ensures { result.type_index ≡ type_index }
+fn function(type_index: u32, size: u32, body: &'static [u8]) -> Function<'static>
+    ensures { (result.type_index ≡ type_index) × (result.size ≡ size) × (result.body.now ≡ body.now) }
 {
     Function {
         type_index,
         size,
         place: 0,
-        body: b"",
+        body,
     }
+}
+
+fn functions(alloc: Global) -> Result<Vec<Function<'static>>, AllocError>
+    ensures len { IfOk result (λ fs. vec_len fs ≡ 8) }
+    ensures typed { IfOk result (λ fs. All (λ f. f.type_index < 4) fs.items) }
+    ensures sound { IfOk result (λ fs. (features : Features) →
+        IsSound (record { features = features; functions = 8 }) fs.items) }
+{
+    let functions = vec![in alloc;
+        // exported, calls the next, and behind a `return` the last
+        function(2, 2, b"\x00\x10\x01\x0f\x10\x07\x0b"),
+        // calls the next
+        function(1, 1, b"\x00\x10\x02\x0b"),
+        function(0, 2, b"\x00\x41\x07\x01\x1a\x0b"),
+        // these call one another; the first of them calls another one
+        function(3, 2, b"\x00\x10\x04\x10\x06\x0b"),
+        function(3, 1, b"\x00\x10\x03\x0b"),
+        // the start function
+        function(1, 0, b"\x00\x0b"),
+        function(3, 0, b"\x00\x0b"),
+        function(3, 0, b"\x00\x0b"),
+    ]?;
+    Ok(functions)
 }
 
 fn takes(alloc: Global, params: &[ValType]) -> Result<FunctionType, AllocError> {
@@ -25,8 +50,8 @@ fn takes(alloc: Global, params: &[ValType]) -> Result<FunctionType, AllocError> 
     })
 }
 
-/// The larger function comes first, then those of one size by their numbers; the third type is
-/// the first one again; what isn't exported, and a type of none that is, are left out.
+/// What calls reach from the export and the start function is kept: larger functions first, those
+/// of one size by their numbers. The third type is the first one again.
 #[test]
 fn numbers_a_small_module(rt: HostRuntime) -> Result<(), AllocError> {
     let alloc = rt.alloc();
@@ -37,34 +62,21 @@ fn numbers_a_small_module(rt: HostRuntime) -> Result<(), AllocError> {
             takes(alloc, &[ValType::I32])?,
             takes(alloc, &[ValType::I64])?,
         ]?,
-        functions: vec![in alloc;
-            function(2, 2),
-            function(1, 5),
-            function(0, 2),
-            function(3, 9),
-        ]?,
+        functions: functions(alloc)?,
         exports: vec![in alloc;
-            Export {
-                name: "c",
-                function: 2
-            },
             Export {
                 name: "a",
                 function: 0
             },
-            Export {
-                name: "b",
-                function: 1
-            },
-            Export {
-                name: "d",
-                function: 0
-            },
         ]?,
+        start: Some(5),
     };
     let numbers = number(alloc, &input)?;
-    assert_eq!(rt; numbers.functions.as_slice(), [1, 0, 2].as_slice());
-    assert_eq!(rt; numbers.new_function.as_slice(), [1, 0, 2, 0].as_slice());
+    assert_eq!(rt; numbers.functions.as_slice(), [0, 2, 1, 5].as_slice());
+    assert_eq!(rt;
+        numbers.new_function.as_slice(),
+        [0, 2, 1, 0, 0, 3, 0, 0].as_slice()
+    );
     assert_eq!(rt; numbers.types.as_slice(), [1, 0].as_slice());
     assert_eq!(rt; numbers.new_type.as_slice(), [1, 0, 1, 0].as_slice());
     Ok(())

@@ -6,7 +6,7 @@ use Rattle.std.proofs.Common.{subst}
 use Rattle.std.proofs.lemmas.List.{get_or-map, length-map, map_push, append-nil, take_more, take_all, drop_all}
 use Rattle.wasm_model.specs.declared.fault.Fault.{Fault}
 use Rattle.wasm_model.specs.declared.fault.Fault.TheVariants as faults
-use Rattle.rewriter_reader.specs.Checked.{AreChecked, IsRefused, IsPlaced, end_of_function, end_of_chunk}
+use Rattle.rewriter_reader.specs.Checked.{AreChecked, StopsInBodies, IsPlaced, end_of_function, end_of_chunk}
 use Rattle.rewriter_reader.proofs.Stops.{stops_with}
 use Rattle.wasm_model.specs.Features.{Known}
 use Rattle.wasm_model.specs.NormalForm.{size}
@@ -40,24 +40,29 @@ pushed [] x y (suc k) h = inl h
 pushed (z ∷ zs) x y zero h = inl h
 pushed (z ∷ zs) x y (suc k) h = pushed zs x y k h
 
+-- a code in front, moved to the end of those before it
 one_front : (r : Result (List Code) Stop) (front : List Code) (code : Code) → with_front front (r >>= λ codes. Ok (code ∷ codes)) ≡ with_front (front ++ code ∷ []) r
 one_front (Ok more) front code = rw append_assoc refl
 one_front (Err e) front code = refl
 
+-- a body that was parsed, and then the others
 next_code : (known : Known) (left : ℕ) (c : sections.Chunk) (more : List sections.Chunk) (code : Code) → code_at known c.place c.bytes ≡ Ok code
     → codes_at known left (c ∷ more) ≡ (codes_at known left more >>= λ codes. Ok (code ∷ codes))
 unfolding codes_at
 next_code known left c more code h = rw h refl
 
+-- a body that stops
 no_code : (known : Known) (left : ℕ) (c : sections.Chunk) (more : List sections.Chunk) (s : Stop) → code_at known c.place c.bytes ≡ Err s
     → codes_at known left (c ∷ more) ≡ Err (stop s.trouble (s.left + (left - (c.place + length c.bytes))))
 unfolding codes_at
 no_code known left c more s h = rw h refl
 
+-- none in front
 front_nil : (r : Result (List Code) Stop) → r ≡ with_front [] r
 front_nil (Ok more) = refl
 front_nil (Err e) = refl
 
+-- nothing behind
 front_all : (front : List Code) → with_front front (Ok []) ≡ Ok front
 front_all front = rw append-nil refl
 
@@ -65,6 +70,7 @@ nothing_taken : (chunks : List Chunk) → map end_of_function [] ≡ map end_of_
 nothing_taken [] = refl
 nothing_taken (c ∷ cs) = refl
 
+-- before the first body
 pub starts : (known : Known) (types : List ℕ) (left : ℕ) (chunks : List Chunk) → Checks known types left chunks 0 []
 starts known types left chunks = record {
   so_far = front_nil (codes_at known left (map chunk_of chunks));
@@ -79,9 +85,11 @@ pub record IsChecked (known : Known) (f : Function) : Type 0 where
   pub spelled : code_at known f.place f.body.now ≡ Ok code
   pub sized : f.size ≡ size code.body
 
+-- the code that was found is what the function means
 code_is : (known : Known) (f : Function) (code : Code) → code_at known f.place f.body.now ≡ Ok code → code_in known f ≡ code
 code_is known f code h = rw h refl
 
+-- one more function
 still_sound : (known : Known) (functions : List Function) (f : Function) → IsSound known functions → IsChecked known f → IsSound known (functions ++ f ∷ [])
 still_sound known functions f sound checked =
     let is : code_in known f ≡ checked.code = code_is known f checked.code checked.spelled in
@@ -92,9 +100,11 @@ still_sound known functions f sound checked =
       sized = λ k g h. elim (pushed functions f g k h) [ inl e ↦ sound.sized k g e | inr e ↦ rw e sized ];
     }
 
+-- the next body, and those behind it
 rest_is : (chunks : List Chunk) (i : ℕ) (d : Chunk) → i < length chunks → drop i chunks ≡ get_or chunks i d ∷ drop (i + 1) chunks
 rest_is chunks i d below = rw add-one (drop-cons chunks i d below)
 
+-- one more body was checked
 pub goes_on : (known : Known) (types : List ℕ) (left : ℕ) (chunks : List Chunk) (i : ℕ) (functions : List Function) (d : Chunk) (size_ : ℕ)
     → Checks known types left chunks i functions → i < length chunks → i < length types
     → ((place : ℕ) → (code : Code) × (code_at known place (get_or chunks i d).bytes.now ≡ Ok code) × (size_ ≡ size code.body))
@@ -112,10 +122,12 @@ goes_on known types left chunks i functions d size_ so below within found =
       ends = rw (map_push end_of_function functions f, so.ends, take_more chunks i d below, map_push end_of_chunk (take i chunks) c) refl;
     }
 
+-- a trouble with a name comes from the bytes
 pub known_if : (t : Trouble) → t ≢ Other → IsTrue (is_known t)
 known_if Other h = absurd (h refl)
 known_if _ h = refl
 
+-- and so does its fault
 placed : (e : Fault) → trouble_of e ≢ Other → IsPlaced e
 placed faults.Memory h = tt
 placed e h = known_if (trouble_of e) h
@@ -126,7 +138,7 @@ pub refuses : (known : Known) (types : List ℕ) (code : BodiesCode) (i end offs
     → offset ≡ end - code.left + (get_or code.bodies.items i d).place
     → code_at known (get_or code.bodies.items i d).place (get_or code.bodies.items i d).bytes.now ≡ Err (stop (trouble_of e) (offset + length (get_or code.bodies.items i d).bytes.now - place_of e))
     → place_of e ≤ offset + length (get_or code.bodies.items i d).bytes.now → trouble_of e ≢ Other
-    → IsRefused known code end e
+    → StopsInBodies known code end e
 refuses known types code i end offset functions d e so below left within is h at named =
     let c = get_or code.bodies.items i d in
     let ends : c.place + length c.bytes.now ≤ code.left = within i d below in

@@ -15,12 +15,15 @@ use Rattle.rewriter_reader.proofs.Stops.{stops_then, stops_as, refused, same_end
 abbrev closed : {A B : Type 0} → (A → B) → List ℕ → A × List ℕ → Parsing B
 closed f later x = if length x.1 == 0 then Ok (f x.0, later) else Err (stop SectionSize (length x.1))
 
+-- a section that is there
 abbrev there : {A : Type 0} → A × List ℕ → Parsing (Option A)
 there x = Ok (Some x.0, x.1)
 
+-- a section of this size is opened
 abbrev opened : List ℕ → ℕ × List ℕ → Parsing (Option (List ℕ))
 opened bytes s = if nat_lt (length s.1) s.0 then Err (stop SectionSize (length bytes)) else Ok (Some (take s.0 s.1), drop s.0 s.1)
 
+-- a section of this size is opened and parsed
 abbrev filled : {A : Type 0} → (ℕ → List ℕ → Parsing A) → List ℕ → ℕ × List ℕ → Parsing (Option A)
 filled parsing bytes s = if nat_lt (length s.1) s.0 then Err (stop SectionSize (length bytes)) else (contents_at parsing s.0 s.1 >>= there)
 
@@ -29,9 +32,11 @@ abbrev pub finished : {A : Type 0} → (ℕ → List ℕ → Parsing A) → Opti
 finished parsing None later = Ok (None, later)
 finished parsing (Some contents) later = before (length later) (parsing (length later) contents >>= closed (λ x. Some x) later)
 
+-- `finished`, of what opening gives
 abbrev finishes : {A : Type 0} → (ℕ → List ℕ → Parsing A) → Option (List ℕ) × List ℕ → Parsing (Option A)
 finishes parsing o = finished parsing o.0 o.1
 
+-- contents that were parsed and are there
 finish_is : {A : Type 0} (r : Parsing A) (after : ℕ) (later : List ℕ)
     → (before after (r >>= closed (λ x. x) later) >>= there) ≡ before after (r >>= closed (λ x. Some x) later)
 finish_is (Err e) after later = refl
@@ -40,6 +45,7 @@ finish_is {A} (Ok x) after later =
     let right : Bool → Parsing (Option A) = λ b. if b then Ok (Some x.0, later) else Err (stop SectionSize (length x.1)) in
     elim (length x.1 == 0) as (λ b. (before after (left b) >>= there) ≡ before after (right b)) [ true ↦ refl | false ↦ refl ]
 
+-- the steps behind the id
 sized : {A : Type 0} (parsing : ℕ → List ℕ → Parsing A) (bytes : List ℕ) (size : Parsing ℕ)
     → (size >>= filled parsing bytes) ≡ ((size >>= opened bytes) >>= finishes parsing)
 unfolding contents_at
@@ -80,12 +86,14 @@ not_there id parsing view old new p = record {
   moves = p.moves;
 }
 
+-- the contents of the section that was opened
 opened_to : {A : Type 0} (id : ℕ) (parsing : ℕ → List ℕ → Parsing A) (old new inner : Cursor)
     → Parses (opened_at id) (option_map seen_window) old new (Ok (Some inner)) → IsInner new inner
     → section_at id parsing (rest old) ≡ finished parsing (Some (rest inner)) (rest new)
 opened_to id parsing old new inner p within =
     section_opens id parsing (rest old) ∙ rw (p.value, within.begins) refl
 
+-- what stops in a part, counted from the end of the whole
 stops_before : {A B : Type 0} (e : Fault) (left after whole : ℕ) (first : Result A Stop) (f : A → Result B Stop) → left + after ≡ whole → StopsWith e left first → StopsWith e whole (before after (first >>= f))
 stops_before faults.Memory left after whole first f sums h = tt
 stops_before _ left after whole first f sums h = rw (h, sums) refl

@@ -10,35 +10,44 @@ use Rattle.wasm_model.specs.OperatorTable.{among}
 use Rattle.wasm_model.specs.Sections as sections
 use Rattle.wasm_model.specs.Sections.{trouble_at_type, reference_bytes, group_bytes, value_type_at, value_types_at, function_type_at, type_entry, function_entry, kind_at, export_entry, start_at, same_name, chunk_entry, chunks_at, contents_at, section_at, rank, trouble_at_id, end_at, latest, no_chunks, sections_at}
 
+-- where it stops, the trouble has a name
 pub record IsNamed {A : Type 0} (r : Result A Stop) : Type 0 where
   pub named : (s : Stop) → r ≡ Err s → s.trouble ≢ Other
 
+-- what is done
 done : {A : Type 0} (x : A) → IsNamed (Ok x)
 done x = record { named = λ s h. absurd (cc) }
 
+-- what stops with a named trouble
 stops : {A : Type 0} (t : Trouble) (left : ℕ) → t ≢ Other → IsNamed {A = A} (Err (stop t left))
 stops t left h = record { named = λ s e is. h (cc) }
 
+-- one step after another
 onto : {A B : Type 0} (first : Result A Stop) (f : A → Result B Stop) → IsNamed first → ((x : A) → IsNamed (f x)) → IsNamed (first >>= f)
 onto (Ok x) f h g = g x
 onto (Err s) f h g = record { named = λ t e is. h.named s refl (cc) }
 
+-- a value of the reader
 value : {A : Type 0} (r : Reading A) → IsNamed (value_at r)
 value (Ok x) = done x
 value (Err e) = stops (Read e.kind) e.left (λ h. cc)
 
+-- either of two
 choice : {A : Type 0} (b : Bool) (x y : Result A Stop) → IsNamed x → IsNamed y → IsNamed (if b then x else y)
 choice true x y h k = h
 choice false x y h k = k
 
+-- either of two troubles
 other_if : (b : Bool) (t u : Trouble) → t ≢ Other → u ≢ Other → (if b then t else u) ≢ Other
 other_if true t u h k = h
 other_if false t u h k = k
 
+-- a part
 within : {A : Type 0} (after : ℕ) (r : Result A Stop) → IsNamed r → IsNamed (before after r)
 within after (Ok x) h = h
 within after (Err s) h = record { named = λ t e is. h.named s refl (cc) }
 
+-- and now each parsing of a section, in their order
 entries : {A : Type 0} (entry : List A → List ℕ → Parsing A) → ((earlier : List A) (bytes : List ℕ) → IsNamed (entry earlier bytes)) → (count : ℕ) (earlier : List A) (bytes : List ℕ) → IsNamed (entries_at entry count earlier bytes)
 unfolding entries_at
 entries entry h zero earlier bytes = done (earlier, bytes)

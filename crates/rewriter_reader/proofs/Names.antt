@@ -14,6 +14,7 @@ use Rattle.rewriter_module.specs.declared.Export.{Export}
 use Rattle.rewriter_module.specs.Meaning.{export_of}
 use Rattle.rewriter_reader.specs.Seen.{HasNames}
 
+-- a negation turned round
 not_not : (a b : Bool) → a ≡ not b → b ≡ not a
 not_not a true h = sym (rw h refl)
 not_not a false h = sym (rw h refl)
@@ -24,6 +25,7 @@ pub is_seen : {S : Type 0} (names : HashSet (Bor (List ℕ)) S) (exports : List 
     → list_any (λ e. same_name e.name name) (map export_of exports) ≡ not added
 is_seen names exports name added has h = sym (has name) ∙ not_not _ _ h
 
+-- the first of two moved to the end
 or_last : (a b : Bool) → (a || b) ≡ (b || (a || false))
 or_last true true = refl
 or_last true false = refl

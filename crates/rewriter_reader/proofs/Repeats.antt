@@ -16,6 +16,7 @@ next_is : {A : Type 0} (entry : List A → List ℕ → Parsing A) (count i : �
 unfolding entries_at
 next_is entry count i earlier bytes below = let step : count - i ≡ suc (count - (i + 1)) = omega arith in rw step refl
 
+-- an element was read
 pub goes_on : {A X : Type 0} (entry : List A → List ℕ → Parsing A) (seen : X → A) (start now new : Cursor) (count i : ℕ) (items : List X) (x : X)
     → Repeats entry seen start now count i items → i < count → Parses (entry (map seen items)) seen now new (Ok x) → Repeats entry seen start new count (i + 1) (items ++ x ∷ [])
 goes_on entry seen start now new count i items x so below p = record {
@@ -23,6 +24,7 @@ goes_on entry seen start now new count i items x so below p = record {
   moves = record { window = p.moves.window ∙ so.moves.window; forward = omega (arith, so.moves.forward, p.moves.forward); within = λ w. p.moves.within (so.moves.within w) };
 }
 
+-- an element stops
 pub misses : {A X V : Type 0} (entry : List A → List ℕ → Parsing A) (seen : X → A) (view : V → List A) (start now new : Cursor) (count i : ℕ) (items : List X) (e : Fault)
     → Repeats entry seen start now count i items → i < count → Parses (entry (map seen items)) seen now new (Err e) → Parses (entries_at entry count []) view start new (Err e)
 misses entry seen view start now new count i items e so below p = record {
@@ -31,6 +33,7 @@ misses entry seen view start now new count i items e so below p = record {
   moves = record { window = p.moves.window ∙ so.moves.window; forward = omega (arith, so.moves.forward, p.moves.forward); within = λ w. p.moves.within (so.moves.within w) };
 }
 
+-- all were read
 pub ends : {A X V : Type 0} (entry : List A → List ℕ → Parsing A) (seen : X → A) (view : V → List A) (start now : Cursor) (count i : ℕ) (items : List X) (v : V)
     → Repeats entry seen start now count i items → count ≤ i → view v ≡ map seen items → Parses (entries_at entry count []) view start now (Ok v)
 unfolding entries_at

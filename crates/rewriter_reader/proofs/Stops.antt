@@ -22,6 +22,7 @@ stops_then _ left first f h = rw h refl
 pub stops_as : {A : Type 0} (e : Fault) (left : ℕ) (first second : Result A Stop) → first ≡ second → StopsWith e left first → StopsWith e left second
 stops_as e left first second same h = rw (← same) h
 
+-- a window keeps its end
 pub same_end : (old new : Cursor) → Forward old new → end_of old ≡ end_of new
 same_end old new moves = ap (λ (w : Window). w.start + length w.bytes) (sym moves.window)
 
@@ -58,6 +59,7 @@ next_is (b ∷ bytes) more byte h =
 ends_at : (last id : ℕ) (bytes tail : List ℕ) (e : Fault) → bytes ≡ id ∷ tail → trouble_of e ≡ trouble_at_id last id → end_at last bytes ≡ Err (stop (trouble_of e) (length bytes))
 ends_at last id bytes tail e is trouble = rw (is, trouble, add-one) refl
 
+-- the fault of an id that no section may have, at the end
 pub stops_end : (last id place : ℕ) (now : Cursor) (e : Fault) → Reads next_at (plain {X = ℕ}) now now (Ok id) → trouble_of e ≡ trouble_at_id last id → place_of e ≡ place → place + length (rest now) ≡ end_of now
     → Ends (end_at last) (plain {X = Unit {0}}) now (Err e)
 stops_end last id place now e read trouble at left =

@@ -31,7 +31,7 @@ IsPlaced faults.Memory = Unit {0}
 IsPlaced fault = IsTrue (is_in_bytes fault)
 
 -- a body stops with the fault, in a file of `end` bytes
-pub record IsRefused (known : Known) (code : Code) (end : ℕ) (fault : Fault) : Type 0 where
+pub record StopsInBodies (known : Known) (code : Code) (end : ℕ) (fault : Fault) : Type 0 where
   pub stops : StopsWith fault (end - place_of fault) (codes_at known code.left (map chunk_of code.bodies.items))
   pub place : place_of fault ≤ end
   pub placed : IsPlaced fault

@@ -185,6 +185,7 @@ fn reads_a_start_function(rt: HostRuntime) -> Result<(), Fail> {
         b"\0asm\x01\0\0\0\x01\x04\x01\x60\0\0\x03\x02\x01\0\x08\x01\0\x0a\x06\x01\x04\0\x10\0\x0b";
     let module = parse(rt.alloc(), bytes, &Options::new())?;
     assert_eq!(rt; module.start, Some(0));
+    assert_eq!(rt; module.functions.len(), 1);
     assert_eq!(rt; module.functions[0].size, 1);
     assert_eq!(rt; parse(rt.alloc(), &ONE, &Options::new())?.start, None);
     Ok(())

@@ -6,7 +6,7 @@ ghost use Rattle.wasm_model.specs.Sections.{module_at};
 ghost use Rattle.rewriter_module.specs.Meaning.{meaning, known_of, IsSound};
 ghost use Rattle.rewriter_bodies.specs.Views.{known_with};
 ghost use Rattle.rewriter_reader.specs.Seen.{AreBodies};
-ghost use Rattle.rewriter_reader.specs.Checked.{AreChecked, IsRefused};
+ghost use Rattle.rewriter_reader.specs.Checked.{AreChecked, StopsInBodies};
 ghost use Rattle.rewriter_reader.specs.IsStop.{IsStop};
 
 use crate::code::Code;
@@ -32,7 +32,7 @@ fn check_bodies<'a>(
     requires bodies { AreBodies (length types.now) end code.now }
     requires short { end ≤ 2 ^ 30 }
     ensures checked { IfOk result (λ v. AreChecked (known_with options.now (length types.now)) types.now code.now v.items) }
-    ensures refused { IfErr result (IsRefused (known_with options.now (length types.now)) code.now end) }
+    ensures refused { IfErr result (StopsInBodies (known_with options.now (length types.now)) code.now end) }
 {
     let start = (end - code.left) as u64;
     let mut functions = Vec::with_capacity(alloc, types.len())?;

@@ -5,9 +5,7 @@ ghost use Rattle.wasm_model.specs.declared.fault.Fault.TheVariants.{Read, Memory
 ghost use Rattle.wasm_model.specs.Stop.{offset_of};
 
 use std::alloc::{AllocError, AllocFailed};
-use std::error;
-use std::fmt;
-
+use std::{error, fmt};
 use wasm_reader::Error;
 
 /// A kind of item that an index names.

@@ -136,7 +136,7 @@ impl<'a> BinaryReader<'a> {
         }
     }
 
-    /// A u32.
+    /// A u32 of at most five bytes. `EndOfFile` where the bytes end, `TooLong` or `TooLarge` at the last byte allowed.
     #[inline]
     pub fn read_var_u32(&mut self) -> Result<u32>
         ensures { Reads (unsigned_at 32) plain self.old self.new result }
@@ -147,7 +147,7 @@ impl<'a> BinaryReader<'a> {
         }
     }
 
-    /// A u64.
+    /// A u64 of at most ten bytes, refused as [`BinaryReader::read_var_u32`] is.
     #[inline]
     pub fn read_var_u64(&mut self) -> Result<u64>
         ensures { Reads (unsigned_at 64) plain self.old self.new result }
@@ -158,7 +158,7 @@ impl<'a> BinaryReader<'a> {
         }
     }
 
-    /// An s32.
+    /// An s32 of at most five bytes, refused as [`BinaryReader::read_var_u32`] is.
     #[inline]
     #[tactic(auto, using(crate::proofs::Small::small_signed))]
     pub fn read_var_i32(&mut self) -> Result<i32>
@@ -170,7 +170,7 @@ impl<'a> BinaryReader<'a> {
         }
     }
 
-    /// An s33.
+    /// An s33 of at most five bytes. `EndOfFile` where the bytes end, `TooLong` at the last byte allowed.
     #[inline]
     #[tactic(auto, using(crate::proofs::Small::small_signed))]
     pub fn read_var_s33(&mut self) -> Result<i64>
@@ -182,7 +182,7 @@ impl<'a> BinaryReader<'a> {
         }
     }
 
-    /// An s64.
+    /// An s64 of at most ten bytes, refused as [`BinaryReader::read_var_u32`] is.
     #[inline]
     #[tactic(auto, using(crate::proofs::Small::small_signed))]
     pub fn read_var_i64(&mut self) -> Result<i64>

@@ -15,7 +15,9 @@ use std::marker::Model;
 use std::ops::Range;
 use wasm_features::WasmFeatures;
 
-/// Reads a window of the input from its front on. Offsets count from where the input began.
+/// Reads a window of the input from its front on. Offsets count bytes from where the input began.
+///
+/// What a refused reading took is not told: the position then lies between the old one and the window's end.
 #[derive(Drop)]
 pub struct BinaryReader<'a> {
     pub(crate) buffer: &'a [u8],
@@ -25,7 +27,7 @@ pub struct BinaryReader<'a> {
 }
 
 impl<'a> Model for BinaryReader<'a> {
-    ghost use Rattle.std.specs.Prelude.{◌+◌, ◌≤◌, ◌<◌, ◌≤◌, ◌^◌, length};
+    ghost use Rattle.std.specs.Prelude.{◌+◌, ◌≤◌, ◌<◌, ◌^◌, length};
     ghost use Rattle.wasm_reader.specs.Cursor.{Cursor};
 
     ghost Value = { Cursor };
@@ -158,7 +160,7 @@ impl<'a> BinaryReader<'a> {
         }
     }
 
-    /// The next byte, which stays to be read.
+    /// The next byte, which stays to be read. `EndOfFile` where there is none.
     #[inline]
     pub fn peek(&self) -> Result<u8>
         ensures { Reads next_at plain self.now self.now result }
@@ -169,7 +171,7 @@ impl<'a> BinaryReader<'a> {
         Ok(byte)
     }
 
-    /// One byte.
+    /// One byte. `EndOfFile` where there is none.
     #[inline]
     pub fn read_u8(&mut self) -> Result<u8>
         ensures { Reads byte_at plain self.old self.new result }
@@ -181,7 +183,7 @@ impl<'a> BinaryReader<'a> {
         Ok(byte)
     }
 
-    /// A byte below 128.
+    /// A byte below 128. A greater one is `BadByte` at its place.
     #[tactic(auto, unfolding(crate::specs::Reading::u7_at))]
     pub fn read_u7(&mut self) -> Result<u8>
         ensures { Reads u7_at plain self.old self.new result }
@@ -194,7 +196,7 @@ impl<'a> BinaryReader<'a> {
         Ok(byte)
     }
 
-    /// A number of four bytes, the lowest first.
+    /// A number of four bytes, the lowest first. `EndOfFile` where fewer are left.
     #[tactic(auto, unfolding(crate::specs::Reading::little_at))]
     pub fn read_u32(&mut self) -> Result<u32>
         ensures { Reads (little_at 4) plain self.old self.new result }
@@ -203,7 +205,7 @@ impl<'a> BinaryReader<'a> {
         Ok(u32::from_le_bytes([bytes[0], bytes[1], bytes[2], bytes[3]]))
     }
 
-    /// A number of eight bytes, the lowest first.
+    /// A number of eight bytes, the lowest first. `EndOfFile` where fewer are left.
     #[tactic(auto, unfolding(crate::specs::Reading::little_at))]
     pub fn read_u64(&mut self) -> Result<u64>
         ensures { Reads (little_at 8) plain self.old self.new result }
@@ -214,21 +216,21 @@ impl<'a> BinaryReader<'a> {
         ]))
     }
 
-    /// The bits of an f32.
+    /// The bits of an f32 (Core Specification, binary format, values: floating-point).
     pub fn read_f32(&mut self) -> Result<Ieee32>
         ensures { Reads (little_at 4) seen_bits32 self.old self.new result }
     {
         Ok(Ieee32(self.read_u32()?))
     }
 
-    /// The bits of an f64.
+    /// The bits of an f64 (Core Specification, binary format, values: floating-point).
     pub fn read_f64(&mut self) -> Result<Ieee64>
         ensures { Reads (little_at 8) seen_bits64 self.old self.new result }
     {
         Ok(Ieee64(self.read_u64()?))
     }
 
-    /// The next `size` bytes, borrowed from the input.
+    /// The next `size` bytes, borrowed from the input. `EndOfFile`, with the number that is missing, where fewer are left.
     pub fn read_bytes(&mut self, size: usize) -> Result<&'a [u8]>
         ensures bytes { Reads (bytes_at size) seen_bytes self.old self.new result }
         ensures size { IfOk result (λ bytes. length bytes.now ≡ size) }
@@ -244,6 +246,7 @@ impl<'a> BinaryReader<'a> {
     }
 
     /// Runs `read`, which only reads on, and gives a reader of the bytes that it read, at their place.
+    /// Refused where `read` is.
     pub fn skip<F: FnOnce(&mut BinaryReader<'a>) -> Result<()>>(
         &mut self,
         read: F,
@@ -272,7 +275,8 @@ impl<'a> BinaryReader<'a> {
         }
     }
 
-    /// A length, and a reader of that many bytes where they stand: its offsets are those of the input.
+    /// A u32, and a reader of that many bytes where they stand: its offsets are those of the input.
+    /// Refused as the number and the run of bytes are.
     #[tactic(auto, unfolding(crate::specs::Text::sized_bytes_at))]
     pub fn read_reader(&mut self) -> Result<BinaryReader<'a>>
         ensures bytes { Reads sized_bytes_at seen_window self.old self.new result }

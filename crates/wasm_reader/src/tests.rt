@@ -205,3 +205,17 @@ fn faults(rt: HostRuntime) -> std::result::Result<(), Fail> {
     assert_eq!(rt; Error::new(ErrorKind::Memory, 0).message(), "out of memory");
     Ok(())
 }
+
+#[test]
+fn laws_can_be_cited() {
+    laws::bytes_are_final();
+    laws::numbers_are_final();
+    laws::names_are_final();
+    laws::fronts_end_early();
+    laws::spellings_are_read();
+    laws::spellings_are_prefix_free();
+    laws::shortest_spellings_are_shortest();
+    laws::spellings_fit_their_width();
+    laws::numbers_are_refused_exactly();
+    laws::offsets_move();
+}

@@ -8,7 +8,7 @@ use crate::limits::MAX_WASM_STRING_SIZE;
 use crate::reader::BinaryReader;
 
 impl<'a> BinaryReader<'a> {
-    /// A length or a count of at most `limit`.
+    /// A length or a count of at most `limit`. A greater one is `Limit` at its first byte.
     #[tactic(auto, unfolding(crate::specs::Text::size_at))]
     pub fn read_size(&mut self, limit: usize) -> Result<usize>
         ensures { Reads (size_at limit) plain self.old self.new result }
@@ -33,7 +33,8 @@ impl<'a> BinaryReader<'a> {
         }
     }
 
-    /// A name: a text of at most [`MAX_WASM_STRING_SIZE`] bytes.
+    /// A name: a length of at most [`MAX_WASM_STRING_SIZE`], and that many bytes of text, borrowed from the input.
+    /// `Limit` at the length's first byte, `Utf8` at the text's, `EndOfFile` where bytes are missing.
     #[tactic(auto, unfolding(crate::specs::Text::string_at))]
     pub fn read_string(&mut self) -> Result<&'a str>
         ensures { Reads string_at seen_bytes self.old self.new result }
@@ -42,7 +43,7 @@ impl<'a> BinaryReader<'a> {
         self.read_text(size)
     }
 
-    /// A name of any length.
+    /// A name of any length, refused as [`BinaryReader::read_string`] is, `Limit` aside.
     #[tactic(auto, unfolding(crate::specs::Text::unlimited_string_at))]
     pub fn read_unlimited_string(&mut self) -> Result<&'a str>
         ensures { Reads unlimited_string_at seen_bytes self.old self.new result }
@@ -51,7 +52,7 @@ impl<'a> BinaryReader<'a> {
         self.read_text(size)
     }
 
-    /// Reads a name, as [`BinaryReader::read_string`] does.
+    /// Reads a name, and refuses it, as [`BinaryReader::read_string`] does.
     #[tactic(auto, unfolding(crate::specs::Text::skipped_string_at))]
     pub fn skip_string(&mut self) -> Result<()>
         ensures { Reads skipped_string_at plain self.old self.new result }

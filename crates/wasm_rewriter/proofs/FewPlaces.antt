@@ -1,11 +1,11 @@
 -- There are no more pairs of places than bytes, since each written operator has a byte of its own.
-use Rattle.std.proofs.Common.{ℕ, ◌≤◌, ◌<◌, ◌+◌, List, [], ◌∷◌, ◌++◌, Option, Some, None, length, arith, length-append, map}
+use Rattle.std.proofs.Common.{ℕ, ◌≤◌, ◌<◌, List, [], ◌∷◌, ◌++◌, Option, Some, None, length, arith, length-append}
 use Rattle.std.specs.List.{flat_map}
 use Rattle.wasm_model.specs.Module.{Module, Function, Operator, Nop, I32Const, Drop, Return, End, operators}
 use Rattle.wasm_model.specs.NormalForm.{normal_form}
 use Rattle.wasm_model.specs.Spells.{header}
 use Rattle.wasm_model.specs.Shortest.{u32_bytes}
-use Rattle.wasm_model.specs.Spelling.{operator_bytes, body_bytes, sized_bytes, code_bytes, vec_bytes, section_bytes, type_bytes, export_bytes, module_bytes}
+use Rattle.wasm_model.specs.Spelling.{operator_bytes, body_bytes, code_bytes, vec_bytes, section_bytes, type_bytes, export_bytes, module_bytes}
 use Rattle.rewriter_module.specs.Written.{Numbers, function_at, pairs_of, pairs_of_all, written, written_places}
 
 pairs_few : (olds : List (Operator × Option ℕ)) (news : List (Operator × ℕ)) → length (pairs_of olds news) ≤ length news
@@ -36,8 +36,14 @@ all_few m [] gs = omega arith
 all_few m (f ∷ fs) [] = omega arith
 all_few m (f ∷ fs) (g ∷ gs) =
     let here = pairs_of (normal_form (function_at m f).body) g.body in
-    omega (arith, pairs_few (normal_form (function_at m f).body) g.body, body_few g, all_few m fs gs,
-      length-append here (pairs_of_all m fs gs), length-append (code_bytes g) (flat_map code_bytes gs))
+    omega (
+      arith,
+      pairs_few (normal_form (function_at m f).body) g.body,
+      body_few g,
+      all_few m fs gs,
+      length-append here (pairs_of_all m fs gs),
+      length-append (code_bytes g) (flat_map code_bytes gs),
+    )
 
 section_whole : (gs : List Function) → length (flat_map code_bytes gs) ≤ length (section_bytes 10 code_bytes gs)
 section_whole [] = omega arith
@@ -53,6 +59,12 @@ few_places m n =
     let exports = section_bytes 7 export_bytes w.exports in
     let functions = section_bytes 3 (λ f. u32_bytes f.type_) w.functions in
     let types = section_bytes 1 type_bytes w.types in
-    omega (arith, all_few m n.functions w.functions, section_whole w.functions, length-append exports code,
-      length-append functions (exports ++ code), length-append types (functions ++ (exports ++ code)),
-      length-append header (types ++ (functions ++ (exports ++ code))))
+    omega (
+      arith,
+      all_few m n.functions w.functions,
+      section_whole w.functions,
+      length-append exports code,
+      length-append functions (exports ++ code),
+      length-append types (functions ++ (exports ++ code)),
+      length-append header (types ++ (functions ++ (exports ++ code))),
+    )

@@ -2,3 +2,4 @@ pub mod Run
 pub use Rattle.rewriter_devices.specs.Input
 pub use Rattle.rewriter_devices.specs.Lines
 pub use Rattle.rewriter_devices.specs.Devices
+pub mod Accepts

@@ -1,10 +1,17 @@
 // Rewriting a module, from bytes to bytes.
-ghost use Rattle.std.specs.Prelude.{◌≤◌, length, IfOk, IfErr, IfSome, vec_items, vec_len};
+ghost use Rattle.std.specs.Prelude.{◌≡◌, ◌≤◌, ⊤, length, IfOk, IfErr, IfSome, MatchResult, vec_items, vec_len};
 ghost use Rattle.std.specs.Option.{option_map};
+ghost use Rattle.wasm_model.specs.Features.{features_of};
+ghost use Rattle.wasm_model.specs.Module.{Module};
+ghost use Rattle.wasm_model.specs.Rules.{Reads};
 ghost use Rattle.wasm_model.specs.Rewrites.{Rewritten as IsRewritten, IsRefused};
+ghost use Rattle.wasm_rewriter.specs.Accepts.{MayBeRefused};
 
 use crate::{Fault, Options};
 use rewriter_devices::MAX_INPUT_LEN;
+use rewriter_part::number;
+use rewriter_reader::parse;
+use rewriter_writer::write_module;
 use std::alloc::Global;
 
 /// A module's bytes, and the pairs (old, new) of places, by rising new place, where they were asked for.
@@ -14,21 +21,27 @@ pub struct Rewritten {
     pub places: Option<Vec<(u32, u32)>>,
 }
 
-/// Rewrites a module.
+/// Rewrites a module: keeps what its exports need, in the shortest spelling.
 ///
 /// # Errors
 ///
-/// The first fault from the left, or `Memory` where a growth was refused.
-pub fn rewrite(_alloc: Global, bytes: &[u8], options: &Options) -> Result<Rewritten, Fault>
+/// The fault that stands first, `OutputLimit` where the output would pass a limit, or `Memory` where a
+/// growth was refused, once the length and the header were found right.
+pub fn rewrite(alloc: Global, bytes: &[u8], options: &Options) -> Result<Rewritten, Fault>
     ensures rewritten { IfOk result (λ out. IsRewritten options.now bytes.now out.bytes.items (option_map vec_items out.places)) }
     ensures refused { IfErr result (λ fault. IsRefused options.now bytes.now fault) }
+    // what reads is refused for want of memory or for the output's limits alone
+    ensures accepted { IfErr result (λ fault. (m : Module) → Reads (features_of options.now) bytes.now m → MayBeRefused fault) }
     ensures few { IfOk result (λ out. IfSome out.places (λ places. vec_len places ≤ vec_len out.bytes)) }
 {
     if bytes.len() > MAX_INPUT_LEN {
         return Err(Fault::InputTooLong);
     }
-    if !bytes.starts_with(&[0x00, 0x61, 0x73, 0x6d, 0x01, 0x00, 0x00, 0x00]) {
-        return Err(Fault::Header { offset: 0 });
-    }
-    Err(Fault::Memory)
+    let module = parse(alloc, bytes, options)?;
+    let numbering = number(alloc, &module)?;
+    let written = write_module(alloc, options, &module, &numbering)?;
+    Ok(Rewritten {
+        bytes: written.bytes,
+        places: written.places,
+    })
 }

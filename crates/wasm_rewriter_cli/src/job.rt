@@ -1,6 +1,7 @@
 // The program's words.
 use clap::{Arg, ArgAction, ArgMatches, Command, Error};
 use std::alloc::Global;
+use std::convert::AsStr;
 use wasm_rewriter::Options;
 
 /// What the words ask for.
@@ -13,7 +14,7 @@ pub struct Job<'a> {
 }
 
 /// Reads the words, the program's name first.
-pub fn job_of<'a>(alloc: Global, words: &'a [String]) -> Result<Job<'a>, Error> {
+pub fn job_of<'a, S: AsStr>(alloc: Global, words: &'a [S]) -> Result<Job<'a>, Error> {
     let matches = command(alloc)?.try_get_matches_from(words)?;
     let mut options = Options::new();
     let places = matches.get_str("places");

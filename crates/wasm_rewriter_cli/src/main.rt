@@ -12,25 +12,26 @@ ghost use Rattle.wasm_rewriter.specs.Run.{tells_of_device};
 
 use file_sink::FileSink;
 use job::{Job, job_of};
+use std::convert::AsStr;
 use std::process::ExitCode;
 use std::rt::{Env, Files};
 use std::{env, fs, io};
 use wasm_rewriter::{Fault, StdSource, run};
 
 fn main(rt: HostRuntime) -> ExitCode {
-    ExitCode::from(status(&rt))
+    let status = match words(&rt) {
+        Ok(words) => status(&rt, &words),
+        Err(error) => {
+            let _ = rt.eprintln(error);
+            2
+        }
+    };
+    ExitCode::from(status)
 }
 
 // Does what the words ask for, and says with which status the program ends.
-fn status<R: Files + Env + Print + Eprint + AllocGlobal>(rt: &R) -> u8 {
-    let words = match words(rt) {
-        Ok(words) => words,
-        Err(error) => {
-            let _ = rt.eprintln(error);
-            return 2;
-        }
-    };
-    let job = match job_of(rt.alloc(), &words) {
+fn status<R: Files + Print + Eprint + AllocGlobal, S: AsStr>(rt: &R, words: &[S]) -> u8 {
+    let job = match job_of(rt.alloc(), words) {
         Ok(job) => job,
         Err(error) => {
             let _ = error.print(rt);
@@ -84,3 +85,6 @@ fn status_of(fault: Fault) -> u8
         _ => 1,
     }
 }
+
+#[cfg(test)]
+mod tests;

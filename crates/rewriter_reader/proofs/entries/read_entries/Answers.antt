@@ -1,4 +1,4 @@
-use Rattle.std.proofs.Common.{[], ◌∷◌, length-append, arith, refl, ◌∙◌}
+use Rattle.std.proofs.Common.{[], ◌∷◌, length-append, map, arith, refl, ◌∙◌}
 use Rattle.std.proofs.lemmas.Result.{err_from_is_err_and}
 use Rattle.rewriter_reader.proofs.Repeats.{goes_on, misses, ends}
 use Rattle.rewriter_reader.proofs.entries.read_entries.Goals as goal
@@ -6,7 +6,7 @@ use Rattle.rewriter_reader.proofs.entries.read_entries.Goals as goal
 pub returns-in_err-entry-clause-list : goal.returns-in_err-entry-clause-list
 returns-in_err-entry-clause-list g c =
     let p = err_from_is_err_and c.from_residual.result c.from_residual.ensures.1 in
-    rw (p.1, p.2) (misses (g.E.ReadEntry.parsing (g.E.ReadEntry.given c.args.entries.now)) g.E.ReadEntry.seen _ _ _ _ c.args.count c.loop.counter c.loop.list.items _ c.loop.invariant.0 c.loop-test.true
+    rw (p.1, p.2) (misses (g.E.ReadEntry.parsing (g.E.ReadEntry.given c.args.entries.now)) g.E.ReadEntry.seen (λ v. map g.E.ReadEntry.seen v.items) c.args.reader.now c.loop.reader c.read_entry.new.reader c.args.count c.loop.counter c.loop.list.items c.in_err-entry.field-0.0 c.loop.invariant.0 c.loop-test.true
     (rw (c.as_slice.ensures.value, c.loop.invariant.1) at c.in_err-entry.ensures.entry))
 
 pub loop-preserved : goal.loop-preserved

@@ -1,0 +1,14 @@
+use Rattle.std.proofs.Common.{arith, rules, ◌≡◌, length}
+use Rattle.rewriter_bodies.proofs.tests.bodies.Goals as goal
+
+pub measure_body-bytes-requires-clause-reads : goal.measure_body-bytes-requires-clause-reads
+measure_body-bytes-requires-clause-reads g c =
+    let it = c.in-Ok.ensures.size 2 in
+    (2, it.0, it.1)
+
+pub write_body-requires-clause-reads : goal.write_body-requires-clause-reads
+write_body-requires-clause-reads g c =
+    let it = c.in-Ok.ensures.size 2 in
+    let size : c.len.result ≡ length c.write_u32-2.new.out.items = search rules in
+    let measured = c.measure_body-bytes.ensures 2 it.0 it.1 in
+    (it.0, it.1, omega (arith, size, measured))

@@ -1,0 +1,5 @@
+pub mod StepLemmas
+pub mod CallLemmas
+pub mod ListLemmas
+pub mod SweepLemmas
+pub mod KeptLemmas

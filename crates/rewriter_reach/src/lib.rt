@@ -1,0 +1,8 @@
+//! Which functions of a module are kept: those that a chain of calls reaches from its exports and
+//! its start function.
+#![tactic(auto)]
+
+mod calls;
+mod reach;
+
+pub use reach::kept_functions;
