@@ -1,6 +1,6 @@
 //! Worked values.
 
-use crate::{CodeWriter, check_body, measure_body, u32_len, write_s32, write_u32};
+use crate::{CodeWriter, check_body, measure_body, write_s32, write_u32};
 use std::alloc::AllocError;
 use wasm_model::fault::{Fault, Form, Space};
 use wasm_model::options::Options;
@@ -9,6 +9,7 @@ use wasm_model::options::Options;
 fn sizes(rt: HostRuntime) {
     let options = Options::new();
     let cases: [(&[u8], u32); 5] = [
+        (&[0x00, 0x10, 0x04, 0x0b], 1),
         (&[0x00, 0x01, 0x0b], 0),
         (&[0x00, 0x41, 0x07, 0x1a, 0x0b], 2),
         (&[0x80, 0x00, 0x0f, 0x41, 0x07, 0x1a, 0x0b], 1),
@@ -16,10 +17,9 @@ fn sizes(rt: HostRuntime) {
             &[0x00, 0x01, 0x41, 0x80, 0x00, 0x01, 0x0f, 0x01, 0x0f, 0x0b],
             2,
         ),
-        (&[0x00, 0x10, 0x01, 0x10, 0x00, 0x0b], 2),
     ];
     for (body, size) in cases {
-        assert_eq!(rt; check_body(&options, 2, body, 27), Ok(size));
+        assert_eq!(rt; check_body(&options, 5, body, 27), Ok(size));
     }
 }
 
@@ -28,6 +28,14 @@ fn faults(rt: HostRuntime) {
     let mut stable = Options::new();
     stable.legacy_exceptions = false;
     let cases: [(&[u8], Options, Fault); 9] = [
+        (
+            &[0x00, 0x10, 0x05, 0x0b],
+            Options::new(),
+            Fault::Index {
+                space: Space::Function,
+                offset: 28,
+            },
+        ),
         (
             &[0x01, 0x01, 0x7f, 0x0b],
             Options::new(),
@@ -70,17 +78,9 @@ fn faults(rt: HostRuntime) {
             Options::new(),
             Fault::Operator { offset: 28 },
         ),
-        (
-            &[0x00, 0x01, 0x10, 0x02, 0x0b],
-            Options::new(),
-            Fault::Index {
-                space: Space::Function,
-                offset: 29,
-            },
-        ),
     ];
     for (body, options, fault) in cases {
-        assert_eq!(rt; check_body(&options, 2, body, 27), Err(fault));
+        assert_eq!(rt; check_body(&options, 5, body, 27), Err(fault));
     }
 }
 
@@ -96,27 +96,25 @@ fn numbers(rt: HostRuntime) -> Result<(), AllocError> {
         0xe5, 0x8e, 0x26, 0xc0, 0xbb, 0x78, 0x3f, 0xc0, 0x00, 0x40, 0xbf, 0x7f,
     ];
     assert_eq!(rt; out.as_slice(), wanted);
-    assert_eq!(rt; u32_len(624_485), 3);
     Ok(())
 }
 
 #[test]
 fn bodies(rt: HostRuntime) -> Result<(), AllocError> {
     let options = Options::new();
-    let new_function: &[u32] = &[1, 200];
     let body: &[u8] = &[0x00, 0x01, 0x10, 0x01, 0x0f, 0x41, 0x07, 0x1a, 0x0b];
-    let Ok(size) = check_body(&options, new_function.len(), body, 2) else {
-        return Err(AllocError);
-    };
-    assert_eq!(rt; size, 2);
-    let bytes = measure_body(&options, new_function, body);
-    assert_eq!(rt; bytes, 6);
+    let new_function: &[u32] = &[0, 200];
     let mut writer = CodeWriter {
         bytes: Vec::new(rt.alloc()),
         places: Some(Vec::new(rt.alloc())),
     };
     write_u32(&mut writer.bytes, 1)?;
     write_u32(&mut writer.bytes, 6)?;
+    let Ok(_) = check_body(&options, new_function.len(), body, 27) else {
+        return Err(AllocError);
+    };
+    let bytes = measure_body(&options, new_function, body);
+    assert_eq!(rt; bytes, 6);
     if writer.bytes.len() < 100 && bytes < 100 {
         writer.write_body(&options, new_function, 2, body)?;
     }

@@ -8,7 +8,7 @@ use Rattle.wasm_model.specs.Module.{Export, FunctionType}
 use Rattle.wasm_model.specs.Stop.{Trouble, Read, Count, Other, Stop, stop, Parsing, ◌>>=◌, value_at, before, entries_at, vec_at}
 use Rattle.wasm_model.specs.OperatorTable.{among}
 use Rattle.wasm_model.specs.Sections as sections
-use Rattle.wasm_model.specs.Sections.{trouble_at_type, reference_bytes, group_bytes, value_type_at, value_types_at, function_type_at, type_entry, function_entry, kind_at, export_entry, same_name, chunk_entry, chunks_at, contents_at, section_at, rank, trouble_at_id, end_at, latest, no_chunks, sections_at}
+use Rattle.wasm_model.specs.Sections.{trouble_at_type, reference_bytes, group_bytes, value_type_at, value_types_at, function_type_at, type_entry, function_entry, kind_at, export_entry, start_at, same_name, chunk_entry, chunks_at, contents_at, section_at, rank, trouble_at_id, end_at, latest, no_chunks, sections_at}
 
 -- where it stops, the trouble has a name
 pub record IsNamed {A : Type 0} (r : Result A Stop) : Type 0 where
@@ -95,6 +95,10 @@ unfolding export_entry
 an_export functions earlier bytes = onto _ _ (value (string_at bytes)) (λ name. onto _ _ (kind name.1) (λ k. onto _ _ (value (unsigned_at 32 k.1)) (λ index.
     choice (list_any (λ e. same_name e.name name.0) earlier) _ _ (stops _ _ (λ h. cc)) (choice (nat_le 1000000 (length earlier)) _ _ (stops _ _ (λ h. cc)) (choice (nat_lt index.0 functions) _ _ (done _) (stops _ _ (λ h. cc)))))))
 
+a_start : (functions : ℕ) (bytes : List ℕ) → IsNamed (start_at functions bytes)
+unfolding start_at
+a_start functions bytes = onto _ _ (value (unsigned_at 32 bytes)) (λ index. choice (nat_lt index.0 functions) _ _ (done index) (stops _ _ (λ h. cc)))
+
 a_chunk : (finish : ℕ) (earlier : List sections.Chunk) (bytes : List ℕ) → IsNamed (chunk_entry finish earlier bytes)
 unfolding chunk_entry
 a_chunk finish earlier bytes = onto _ _ (value (unsigned_at 32 bytes)) (λ size. choice (nat_lt 7654321 size.0) _ _ (stops _ _ (λ h. cc)) (onto _ _ (value (bytes_at size.0 size.1)) (λ body. done _)))
@@ -128,6 +132,7 @@ sections_named bytes =
     onto _ _ (a_section 1 _ (λ _. vec type_entry a_type) bytes) (λ types.
     onto _ _ (a_section 3 _ (λ _. vec (function_entry (length (unwrap_or types.0 []))) (a_function _)) types.1) (λ functions.
     onto _ _ (a_section 7 _ (λ _. vec (export_entry (length (unwrap_or functions.0 []))) (an_export _)) functions.1) (λ exports.
-    onto _ _ (a_section 10 _ (chunks (length (unwrap_or functions.0 []))) exports.1) (λ code.
-    onto _ _ (end (latest code.0 10 (latest exports.0 7 (latest functions.0 3 (latest types.0 1 0)))) code.1) (λ _. choice (is_none code.0 && nat_lt 0 (length (unwrap_or functions.0 []))) _ _ (stops Count 0 (λ h. cc))
-    (done (record { types = unwrap_or types.0 []; functions = unwrap_or functions.0 []; exports = unwrap_or exports.0 []; chunks = unwrap_or code.0 no_chunks })))))))
+    onto _ _ (a_section 8 _ (λ _. a_start (length (unwrap_or functions.0 []))) exports.1) (λ start.
+    onto _ _ (a_section 10 _ (chunks (length (unwrap_or functions.0 []))) start.1) (λ code.
+    onto _ _ (end (latest code.0 10 (latest start.0 8 (latest exports.0 7 (latest functions.0 3 (latest types.0 1 0))))) code.1) (λ _. choice (is_none code.0 && nat_lt 0 (length (unwrap_or functions.0 []))) _ _ (stops Count 0 (λ h. cc))
+    (done (record { types = unwrap_or types.0 []; functions = unwrap_or functions.0 []; exports = unwrap_or exports.0 []; start = start.0; chunks = unwrap_or code.0 no_chunks }))))))))

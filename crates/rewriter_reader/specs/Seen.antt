@@ -37,7 +37,7 @@ items_of (Some list) = list.items
 items_of None = []
 
 abbrev pub sections_of : Sections → sections.Sections
-sections_of s = record { types = map type_of s.types.items; functions = s.functions.items; exports = map export_of s.exports.items; chunks = code_of s.code }
+sections_of s = record { types = map type_of s.types.items; functions = s.functions.items; exports = map export_of s.exports.items; start = s.start; chunks = code_of s.code }
 
 -- the names are those of the exports
 abbrev pub HasNames : {S : Type 0} → HashSet (Bor (List ℕ)) S → List Export → Type 0

@@ -7,6 +7,7 @@ mod exports;
 mod functions;
 mod section;
 mod sections;
+mod start;
 mod types;
 mod whole;
 

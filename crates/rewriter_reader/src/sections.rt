@@ -12,6 +12,7 @@ ghost use Rattle.rewriter_reader.specs.Seen.{code_of as seen_code};
 use crate::code::{Code, read_code};
 use crate::exports::read_exports;
 use crate::functions::read_functions;
+use crate::start::read_start;
 use crate::types::read_types;
 use rewriter_module::{Export, FunctionType};
 use std::alloc::Global;
@@ -24,6 +25,7 @@ pub(crate) struct Sections<'a> {
     pub(crate) types: Vec<FunctionType>,
     pub(crate) functions: Vec<u32>,
     pub(crate) exports: Vec<Export<'a>>,
+    pub(crate) start: Option<u32>,
     pub(crate) code: Code<'a>,
 }
 
@@ -136,10 +138,12 @@ pub(crate) fn read_sections<'a>(
     let functions = read_functions(alloc, length_of(&types), reader)?;
     let count = length_of(&functions);
     let exports = read_exports(alloc, count, reader)?;
+    let start = read_start(count, reader)?;
     let code = read_code(alloc, count, reader)?;
     let last = latest(&types, 1, 0);
     let last = latest(&functions, 3, last);
     let last = latest(&exports, 7, last);
+    let last = latest(&start, 8, last);
     let last = latest(&code, 10, last);
     read_end(last, reader)?;
     let code = code_of(alloc, code, count, reader.original_position())?;
@@ -147,6 +151,7 @@ pub(crate) fn read_sections<'a>(
         types: or_empty(alloc, types),
         functions: or_empty(alloc, functions),
         exports: or_empty(alloc, exports),
+        start,
         code,
     })
 }

@@ -2,6 +2,7 @@ use super::parse;
 use std::alloc::Global;
 use std::process::Abort;
 use std::test::Fail;
+use wasm_features::WasmFeatures;
 use wasm_model::fault::{Fault, Form, Limited, Space};
 use wasm_model::options::Options;
 use wasm_model::types::ValType;
@@ -60,7 +61,7 @@ fn refuses_each_prefix(rt: HostRuntime) {
 
 #[test]
 fn refuses_what_stands_first(rt: HostRuntime) {
-    let cases: [(&[u8], Option<Fault>); 24] = [
+    let cases: [(&[u8], Option<Fault>); 26] = [
         // Section ids: a custom section, a known one, an unknown one, a late one, a repeated one.
         (b"\0asm\x01\0\0\0\0", later(8)),
         (b"\0asm\x01\0\0\0\x02\x01", later(8)),
@@ -107,7 +108,10 @@ fn refuses_what_stands_first(rt: HostRuntime) {
         (b"\0asm\x01\0\0\0\x01\x04\x01\x60\x01\x70", later(13)),
         (
             b"\0asm\x01\0\0\0\x01\x05\x01\x65\x60\0\0",
-            read(ErrorKind::Feature, 11),
+            read(
+                ErrorKind::Feature(WasmFeatures::SHARED_EVERYTHING_THREADS),
+                11,
+            ),
         ),
         (
             b"\0asm\x01\0\0\0\x01\x04\x01\x60\x01\x40",
@@ -142,7 +146,15 @@ fn refuses_what_stands_first(rt: HostRuntime) {
             b"\0asm\x01\0\0\0\x01\x04\x01\x60\0\0\x03\x02\x01\0\x07\x09\x02\x01f\0\0\x01f\0\x01",
             Some(Fault::DuplicateExport { offset: 25 }),
         ),
-        // Bodies: too long, and with bytes behind their end.
+        // A start function that is missing.
+        (
+            b"\0asm\x01\0\0\0\x01\x04\x01\x60\0\0\x03\x02\x01\0\x08\x01\x01",
+            Some(Fault::Index {
+                space: Space::Function,
+                offset: 20,
+            }),
+        ),
+        // Bodies: too long, with bytes behind their end, and with a call of a missing function.
         (
             b"\0asm\x01\0\0\0\x01\x04\x01\x60\0\0\x03\x02\x01\0\x0a\x05\x01\xb2\x97\xd3\x03",
             Some(Fault::Limit {
@@ -154,10 +166,29 @@ fn refuses_what_stands_first(rt: HostRuntime) {
             b"\0asm\x01\0\0\0\x01\x04\x01\x60\0\0\x03\x02\x01\0\x0a\x06\x01\x04\0\x0b\x01\x0b",
             Some(Fault::Nesting { offset: 24 }),
         ),
+        (
+            b"\0asm\x01\0\0\0\x01\x04\x01\x60\0\0\x03\x02\x01\0\x07\x05\x01\x01f\0\0\x0a\x06\x01\x04\0\x10\x05\x0b",
+            Some(Fault::Index {
+                space: Space::Function,
+                offset: 30,
+            }),
+        ),
     ];
     for (bytes, want) in cases {
         assert_eq!(rt; fault_of(rt.alloc(), &rt, bytes), want, "in {bytes:?}");
     }
+}
+
+#[test]
+fn reads_a_start_function(rt: HostRuntime) -> Result<(), Fail> {
+    let bytes =
+        b"\0asm\x01\0\0\0\x01\x04\x01\x60\0\0\x03\x02\x01\0\x08\x01\0\x0a\x06\x01\x04\0\x10\0\x0b";
+    let module = parse(rt.alloc(), bytes, &Options::new())?;
+    assert_eq!(rt; module.start, Some(0));
+    assert_eq!(rt; module.functions.len(), 1);
+    assert_eq!(rt; module.functions[0].size, 1);
+    assert_eq!(rt; parse(rt.alloc(), &ONE, &Options::new())?.start, None);
+    Ok(())
 }
 
 #[test]

@@ -3,7 +3,8 @@
 ghost use Rattle.std.specs.Prelude.{◌≡◌, ◌≤◌, ◌+◌, ◌^◌, length, All, IfOk, IfErr};
 ghost use Rattle.wasm_model.specs.Features.{features_of};
 ghost use Rattle.wasm_model.specs.Sections.{module_at};
-ghost use Rattle.rewriter_module.specs.Meaning.{meaning, IsSound};
+ghost use Rattle.rewriter_module.specs.Meaning.{meaning, known_of, IsSound};
+ghost use Rattle.rewriter_bodies.specs.Views.{known_with};
 ghost use Rattle.rewriter_reader.specs.Seen.{AreBodies};
 ghost use Rattle.rewriter_reader.specs.Checked.{AreChecked, StopsInBodies};
 ghost use Rattle.rewriter_reader.specs.IsStop.{IsStop};
@@ -30,13 +31,18 @@ fn check_bodies<'a>(
 ) -> Result<Vec<Function<'a>>, Fault>
     requires bodies { AreBodies (length types.now) end code.now }
     requires short { end ≤ 2 ^ 30 }
-    ensures checked { IfOk result (λ v. AreChecked (features_of options.now) types.now code.now v.items) }
-    ensures refused { IfErr result (StopsInBodies (features_of options.now) code.now end) }
+    ensures checked { IfOk result (λ v. AreChecked (known_with options.now (length types.now)) types.now code.now v.items) }
+    ensures refused { IfErr result (StopsInBodies (known_with options.now (length types.now)) code.now end) }
 {
     let start = (end - code.left) as u64;
     let mut functions = Vec::with_capacity(alloc, types.len())?;
     for (index, chunk) in code.bodies.iter().enumerate() {
-        let size = check_body(options, chunk.bytes, start + u64::from(chunk.place))?;
+        let size = check_body(
+            options,
+            types.len(),
+            chunk.bytes,
+            start + u64::from(chunk.place),
+        )?;
         functions.push(Function {
             type_index: types[index],
             size,
@@ -55,7 +61,7 @@ fn check_bodies<'a>(
 pub fn parse<'a>(alloc: Global, bytes: &'a [u8], options: &Options) -> Result<Module<'a>, Fault>
     requires { length bytes.now ≤ 2 ^ 30 }
     ensures parsed { IfOk result (λ m. module_at (features_of options.now) bytes.now ≡ Ok (meaning (features_of options.now) m)) }
-    ensures sound { IfOk result (λ m. IsSound (features_of options.now) m.functions.items) }
+    ensures sound { IfOk result (λ m. IsSound (known_of (features_of options.now) m) m.functions.items) }
     ensures within { IfOk result (λ m. All (λ f. f.place + length f.body.now ≤ length bytes.now) m.functions.items) }
     ensures refused { IfErr result (IsStop (features_of options.now) bytes.now) }
 {
@@ -68,6 +74,7 @@ pub fn parse<'a>(alloc: Global, bytes: &'a [u8], options: &Options) -> Result<Mo
         types,
         functions,
         exports,
+        start,
         code,
     } = sections;
     let functions = check_bodies(alloc, options, functions.as_slice(), &code, bytes.len())?;
@@ -75,5 +82,6 @@ pub fn parse<'a>(alloc: Global, bytes: &'a [u8], options: &Options) -> Result<Mo
         types,
         functions,
         exports,
+        start,
     })
 }

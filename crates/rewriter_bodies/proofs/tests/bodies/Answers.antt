@@ -1,8 +1,10 @@
-use Rattle.std.proofs.Common.{rules, arith, ◌≡◌, ap, length, ℕ}
+use Rattle.std.proofs.Common.{arith, rules, ◌≡◌, length}
 use Rattle.rewriter_bodies.proofs.tests.bodies.Goals as goal
 
 pub measure_body-bytes-requires-clause-reads : goal.measure_body-bytes-requires-clause-reads
-measure_body-bytes-requires-clause-reads g c = let it = c.in-Ok.ensures.size 2 in (2, it.0, it.1)
+measure_body-bytes-requires-clause-reads g c =
+    let it = c.in-Ok.ensures.size 2 in
+    (2, it.0, it.1)
 
 pub write_body-requires-clause-reads : goal.write_body-requires-clause-reads
 write_body-requires-clause-reads g c =
