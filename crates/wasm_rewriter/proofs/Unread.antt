@@ -1,5 +1,5 @@
 -- The producers section isn't read: bytes that read don't read with it behind them.
-use Rattle.std.proofs.Common.{ℕ, ◌≡◌, ◌≢◌, ◌+◌, List, [], ◌∷◌, ◌++◌, length, drop, Ok, Result, refl, sym, ap, subst, ◌∙◌, inl, inr, arith, append_assoc, map}
+use Rattle.std.proofs.Common.{ℕ, ◌≡◌, ◌≢◌, List, [], ◌∷◌, ◌++◌, length, drop, Ok, sym, ap, subst, ◌∙◌, inl, inr, arith, append_assoc, map}
 use Rattle.std.proofs.lemmas.List.{append_cancel_left, append-nil}
 use Rattle.std.proofs.Math.Seq.{drop-append_seam}
 use Rattle.wasm_reader.specs.Numbers.{number_at, unsigned}
@@ -8,9 +8,8 @@ use Rattle.wasm_reader.specs.Reading.{Reading}
 use Rattle.reading_laws.specs.Numbers.{number_again}
 use Rattle.wasm_model.specs.Features.{Features}
 use Rattle.wasm_model.specs.Module.{Module}
-use Rattle.wasm_model.specs.Grammar.{Grammar, SpellsU32, IsSection, SpellsSection, SpellsVec}
+use Rattle.wasm_model.specs.Grammar.{Grammar, SpellsU32, SpellsSection, SpellsVec}
 use Rattle.wasm_model.specs.Spells.{header, SpellsModule, SpellsFunctionType, SpellsExport, SpellsCodes, code_of}
-use Rattle.wasm_model.specs.Stop.{Stop, value_at}
 use Rattle.wasm_model.specs.Rules.{Reads}
 use Rattle.wasm_model.specs.Rewrites.{producers_bytes}
 
@@ -70,26 +69,26 @@ spelled_once a b x y m n p q x1 x3 x7 x10 y1 y3 y7 y10 e =
     let wb : b ++ y ≡ header ++ (q.types ++ (q.functions ++ (q.exports ++ (q.codes ++ y)))) = ap (λ (z : List ℕ). z ++ y) q.whole ∙ regrouped header q.types q.functions q.exports q.codes y in
     let e0 : p.types ++ (p.functions ++ (p.exports ++ (p.codes ++ x))) ≡ q.types ++ (q.functions ++ (q.exports ++ (q.codes ++ y))) = append_cancel_left header (p.types ++ (p.functions ++ (p.exports ++ (p.codes ++ x)))) (q.types ++ (q.functions ++ (q.exports ++ (q.codes ++ y)))) (sym wa ∙ e ∙ wb) in
     let e1 : p.functions ++ (p.exports ++ (p.codes ++ x)) ≡ q.functions ++ (q.exports ++ (q.codes ++ y)) =
-      section_once 1 (SpellsVec SpellsFunctionType) (SpellsVec SpellsFunctionType) p.types q.types (p.functions ++ (p.exports ++ (p.codes ++ x))) (q.functions ++ (q.exports ++ (q.codes ++ y))) m.types n.types p.spells_types q.spells_types
-        (section_first 1 3 (SpellsVec SpellsU32) p.functions (p.exports ++ (p.codes ++ x)) (map (λ f. f.type_) m.functions) p.spells_functions (omega arith) (section_first 1 7 (SpellsVec SpellsExport) p.exports (p.codes ++ x) m.exports p.spells_exports (omega arith) (section_first 1 10 SpellsCodes p.codes x (map code_of m.functions) p.spells_codes (omega arith) x1)))
-        (section_first 1 3 (SpellsVec SpellsU32) q.functions (q.exports ++ (q.codes ++ y)) (map (λ f. f.type_) n.functions) q.spells_functions (omega arith) (section_first 1 7 (SpellsVec SpellsExport) q.exports (q.codes ++ y) n.exports q.spells_exports (omega arith) (section_first 1 10 SpellsCodes q.codes y (map code_of n.functions) q.spells_codes (omega arith) y1)))
-        e0 in
+    section_once 1 (SpellsVec SpellsFunctionType) (SpellsVec SpellsFunctionType) p.types q.types (p.functions ++ (p.exports ++ (p.codes ++ x))) (q.functions ++ (q.exports ++ (q.codes ++ y))) m.types n.types p.spells_types q.spells_types
+    (section_first 1 3 (SpellsVec SpellsU32) p.functions (p.exports ++ (p.codes ++ x)) (map (λ f. f.type_) m.functions) p.spells_functions (omega arith) (section_first 1 7 (SpellsVec SpellsExport) p.exports (p.codes ++ x) m.exports p.spells_exports (omega arith) (section_first 1 10 SpellsCodes p.codes x (map code_of m.functions) p.spells_codes (omega arith) x1)))
+    (section_first 1 3 (SpellsVec SpellsU32) q.functions (q.exports ++ (q.codes ++ y)) (map (λ f. f.type_) n.functions) q.spells_functions (omega arith) (section_first 1 7 (SpellsVec SpellsExport) q.exports (q.codes ++ y) n.exports q.spells_exports (omega arith) (section_first 1 10 SpellsCodes q.codes y (map code_of n.functions) q.spells_codes (omega arith) y1)))
+    e0 in
     let e2 : p.exports ++ (p.codes ++ x) ≡ q.exports ++ (q.codes ++ y) =
-      section_once 3 (SpellsVec SpellsU32) (SpellsVec SpellsU32) p.functions q.functions (p.exports ++ (p.codes ++ x)) (q.exports ++ (q.codes ++ y)) (map (λ f. f.type_) m.functions) (map (λ f. f.type_) n.functions) p.spells_functions q.spells_functions
-        (section_first 3 7 (SpellsVec SpellsExport) p.exports (p.codes ++ x) m.exports p.spells_exports (omega arith) (section_first 3 10 SpellsCodes p.codes x (map code_of m.functions) p.spells_codes (omega arith) x3))
-        (section_first 3 7 (SpellsVec SpellsExport) q.exports (q.codes ++ y) n.exports q.spells_exports (omega arith) (section_first 3 10 SpellsCodes q.codes y (map code_of n.functions) q.spells_codes (omega arith) y3))
-        e1 in
+    section_once 3 (SpellsVec SpellsU32) (SpellsVec SpellsU32) p.functions q.functions (p.exports ++ (p.codes ++ x)) (q.exports ++ (q.codes ++ y)) (map (λ f. f.type_) m.functions) (map (λ f. f.type_) n.functions) p.spells_functions q.spells_functions
+    (section_first 3 7 (SpellsVec SpellsExport) p.exports (p.codes ++ x) m.exports p.spells_exports (omega arith) (section_first 3 10 SpellsCodes p.codes x (map code_of m.functions) p.spells_codes (omega arith) x3))
+    (section_first 3 7 (SpellsVec SpellsExport) q.exports (q.codes ++ y) n.exports q.spells_exports (omega arith) (section_first 3 10 SpellsCodes q.codes y (map code_of n.functions) q.spells_codes (omega arith) y3))
+    e1 in
     let e3 : p.codes ++ x ≡ q.codes ++ y =
-      section_once 7 (SpellsVec SpellsExport) (SpellsVec SpellsExport) p.exports q.exports (p.codes ++ x) (q.codes ++ y) m.exports n.exports p.spells_exports q.spells_exports
-        (section_first 7 10 SpellsCodes p.codes x (map code_of m.functions) p.spells_codes (omega arith) x7)
-        (section_first 7 10 SpellsCodes q.codes y (map code_of n.functions) q.spells_codes (omega arith) y7)
-        e2 in
+    section_once 7 (SpellsVec SpellsExport) (SpellsVec SpellsExport) p.exports q.exports (p.codes ++ x) (q.codes ++ y) m.exports n.exports p.spells_exports q.spells_exports
+    (section_first 7 10 SpellsCodes p.codes x (map code_of m.functions) p.spells_codes (omega arith) x7)
+    (section_first 7 10 SpellsCodes q.codes y (map code_of n.functions) q.spells_codes (omega arith) y7)
+    e2 in
     section_once 10 SpellsCodes SpellsCodes p.codes q.codes x y (map code_of m.functions) (map code_of n.functions) p.spells_codes q.spells_codes x10 y10 e3
 
 -- bytes that read don't read with the producers section behind them
 pub producers_unread : (features : Features) (bytes : List ℕ) (m n : Module) → Reads features bytes n → Reads features (bytes ++ producers_bytes) m → ⊥
 producers_unread features bytes m n reads again =
     let same : producers_bytes ≡ [] = spelled_once bytes (bytes ++ producers_bytes) producers_bytes [] n m reads.spells again.spells
-      (not_first 1 0 _ (omega arith)) (not_first 3 0 _ (omega arith)) (not_first 7 0 _ (omega arith)) (not_first 10 0 _ (omega arith)) (none_first 1) (none_first 3) (none_first 7) (none_first 10)
-      (sym (append-nil (bytes ++ producers_bytes))) in
+    (not_first 1 0 _ (omega arith)) (not_first 3 0 _ (omega arith)) (not_first 7 0 _ (omega arith)) (not_first 10 0 _ (omega arith)) (none_first 1) (none_first 3) (none_first 7) (none_first 10)
+    (sym (append-nil (bytes ++ producers_bytes))) in
     cc
