@@ -1,5 +1,5 @@
 -- The entries of the code section.
-use Rattle.std.proofs.Common.{◌≡◌, ◌+◌, ◌-◌, ◌/◌, ◌%◌, ◌≤◌, ◌<◌, ◌^◌, ℕ, zero, suc, Bool, true, false, List, [], ◌∷◌, ◌++◌, length, Ok, Err, Result, Option, Some, None, nat_lt, if◌then◌else◌, refl, sym, ap, ◌∙◌, arith, append_assoc, length-append, get_or, drop, map, add-one, drop-cons, subst, Contains, All}
+use Rattle.std.proofs.Common.{◌≡◌, ◌+◌, ◌/◌, ◌%◌, ◌≤◌, ◌<◌, ◌^◌, ℕ, zero, suc, Bool, true, false, List, [], ◌∷◌, ◌++◌, length, Ok, Result, Option, Some, None, nat_lt, if◌then◌else◌, refl, sym, ap, ◌∙◌, arith, append_assoc, length-append, get_or, drop, map, add-one, drop-cons, subst, Contains, All}
 use Rattle.std.proofs.lemmas.List.{append-nil, drop_all, get_or-map}
 use Rattle.std.specs.List.{flat_map, slice_index}
 use Rattle.wasm_model.specs.Module.{Module, Function, Operator, operators}
@@ -14,8 +14,8 @@ use Rattle.rewriter_module.specs.Meaning.{code_in, function_of}
 use Rattle.rewriter_module.specs.Written.{Numbers, function_at, placed, placed_functions, pairs_of, pairs_of_all, written_operators, written, written_places, no_function}
 use Rattle.rewriter_bodies.specs.declared.extent.Extent.{Extent}
 use Rattle.rewriter_bodies.specs.Sizes.{extent_of}
-use Rattle.rewriter_bodies.specs.Texts.{Text, with_pairs, with_body}
-use Rattle.rewriter_writer.specs.Codes.{with_bytes, with_entry, with_entries, asked_pairs, codes_text}
+use Rattle.rewriter_bodies.specs.Texts.{Text, with_pairs}
+use Rattle.rewriter_writer.specs.Codes.{with_entry, with_entries, asked_pairs, codes_text}
 use Rattle.rewriter_writer.specs.declared.failure.Failure.{Failure}
 use Rattle.rewriter_writer.specs.declared.failure.Failure.TheVariants as failures
 use Rattle.wasm_model.specs.declared.fault.Limited.TheVariants as limits
