@@ -2,9 +2,11 @@
 //! spelling.
 #![tactic(auto)]
 
+mod laws;
 mod rewriting;
 mod running;
 
+pub use laws::rewriting_is_idempotent;
 pub use rewriter_devices::{
     DeviceFailed, MemorySink, MemorySource, Sink, SinkFail, Source, StdSink, StdSource,
 };
