@@ -13,8 +13,8 @@ pub mod Part
 pub mod Shortest
 pub mod Spelling
 pub mod Places
-pub mod Rewrites
 pub mod Machine
+pub mod Rewrites
 pub use Rattle.wasm_reader.specs.Cursor
 pub use Rattle.wasm_reader.specs.Reading
 pub use Rattle.wasm_reader.specs.Numbers

@@ -3,7 +3,7 @@
 use Rattle.std.specs.Prelude.{ℕ, zero, suc, ◌≡◌, List, [], ◌∷◌, map, Option, Some, None, slice_get}
 use Rattle.std.specs.List.{AllByRecursion}
 use Rattle.wasm_model.specs.Module.{Module, Function, Operator, Nop, I32Const, Drop, Return, Call, End, FunctionItem, operators}
-use Rattle.wasm_model.specs.Kept.{Kept}
+use Rattle.wasm_model.specs.Kept.{Root, Kept}
 use Rattle.wasm_model.specs.Part.{Renaming, renamed_operator}
 
 -- how an operator that may do several things goes on
@@ -136,3 +136,8 @@ renamed_outcome r outcome = outcome
 
 abbrev pub renamed_event : Renaming → Event → Event
 renamed_event r v = event (r.function v.function) (renamed_operator r v.operator)
+
+-- of an exported function or the start function, the trace in what is written is the trace in the module, renamed
+abbrev pub SameTraces : Module → Module → Renaming → Type 0
+SameTraces m n r = (f : ℕ) → Root m (FunctionItem f) → (outcomes : List Outcome) → Fits m outcomes → (bound : ℕ) (events : List Event) (ending : Ending) →
+    Trace m f outcomes bound events ending → Trace n (r.function f) (map (renamed_outcome r) outcomes) bound (map (renamed_event r) events) ending

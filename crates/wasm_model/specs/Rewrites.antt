@@ -12,6 +12,7 @@ use Rattle.wasm_model.specs.Rules.{Reads}
 use Rattle.wasm_model.specs.Spells.{header}
 use Rattle.wasm_model.specs.Spelling.{body_bytes, module_bytes}
 use Rattle.wasm_model.specs.Part.{Renaming, Stands}
+use Rattle.wasm_model.specs.Machine.{SameTraces}
 use Rattle.wasm_model.specs.Places.{ArePlaces}
 use Rattle.wasm_model.specs.Sections.{Stops}
 
@@ -41,6 +42,8 @@ pub record Rewritten (o : Options) (input bytes : List ℕ) (places : Option (Li
   pub reads : Reads (features_of o) input m
   -- n is m's least part that holds the roots and is closed, bodies in normal form, renamed by r
   pub stands : Stands m n r
+  -- corresponding runs of m and n execute the same operators, renamed, and end the same way
+  pub runs : SameTraces m n r
   -- what is written is n's canonical spelling, with the producers section behind it where it is asked for
   pub canonical : bytes ≡ module_bytes n ++ added_bytes o
   -- and reads as n

@@ -1,7 +1,6 @@
 -- What was parsed, numbered and written is the input rewritten.
-use Rattle.std.proofs.Common.{ℕ, ◌≡◌, ◌<◌, ◌≤◌, ◌+◌, ◌^◌, List, [], ◌∷◌, ◌++◌, length, Option, Some, None, Bool, true, false, refl, sym, ap, subst, ◌∙◌, arith, length-append, map, get_or}
+use Rattle.std.proofs.Common.{ℕ, ◌≡◌, ◌<◌, ◌≤◌, ◌+◌, ◌^◌, List, ◌++◌, length, Option, Some, None, Bool, true, false, refl, sym, ap, subst, ◌∙◌, arith, length-append, map, get_or}
 use Rattle.std.specs.Prelude.{All, MatchOption}
-use Rattle.std.specs.List.{AllByRecursion}
 use Rattle.std.proofs.lemmas.List.{get_or-map, length-map}
 use Rattle.wasm_model.specs.declared.options.Options.{Options}
 use Rattle.wasm_model.specs.Features.{Features, features_of}
@@ -9,7 +8,7 @@ use Rattle.wasm_model.specs.Module as model
 use Rattle.wasm_model.specs.Rules.{Reads, IsItem}
 use Rattle.wasm_model.specs.Part.{Stands}
 use Rattle.wasm_model.specs.Places.{ArePlaces}
-use Rattle.wasm_model.specs.Spelling.{body_bytes, module_bytes}
+use Rattle.wasm_model.specs.Spelling.{module_bytes}
 use Rattle.wasm_model.specs.Rewrites.{Rewritten, added_bytes}
 use Rattle.rewriter_module.specs.declared.Module.{Module}
 use Rattle.rewriter_module.specs.declared.Export.{Export}
@@ -32,10 +31,11 @@ use Rattle.rewriter_writer.specs.Causes.{AreShort, IsUnwritten}
 use Rattle.rewriter_writer.specs.Codes.{asked_pairs}
 use Rattle.rewriter_module.specs.declared.Numbering.{Numbering}
 use Rattle.wasm_rewriter.specs.Accepts.{MayBeRefused}
-use Rattle.rewriter_module.specs.Meaning.{meaning, type_of, export_of, function_of}
+use Rattle.rewriter_module.specs.Meaning.{known_of, meaning, type_of, export_of, function_of}
 use Rattle.rewriter_module.specs.Numbered.{IsNumbering}
-use Rattle.rewriter_module.specs.Written.{Numbers, numbers_of, written, written_operators, written_places, renaming}
+use Rattle.rewriter_module.specs.Written.{Numbers, numbers_of, written, written_places, renaming}
 use Rattle.rewriter_laws.specs.Again.{IsSmall, written_reads}
+use Rattle.run_laws.specs.Same.{same_traces}
 use Rattle.rewriter_laws.specs.Pairs.{written_are_places}
 
 -- the pairs of places are there exactly where they are asked for
@@ -55,6 +55,7 @@ is_rewritten o input bytes m n places reads numbering stands small canonical sho
   r = renaming n;
   reads = reads;
   stands = stands;
+  runs = same_traces (features_of o) input m (written m n) (renaming n) reads stands;
   canonical = canonical;
   reads_again = written_reads (features_of o) input m n reads numbering small
       (let e : length bytes ≡ length (module_bytes (written m n)) + length (added_bytes o) = ap length canonical ∙ length-append (module_bytes (written m n)) (added_bytes o) in omega arith);
@@ -69,14 +70,14 @@ exported_small features bytes m reads k d small =
     let at : IsItem (meaning features m) (get_or (map export_of m.exports.items) k (export_of d)).item = reads.rules.exported k (export_of d) there in
     let same : get_or (map export_of m.exports.items) k (export_of d) ≡ export_of (get_or m.exports.items k d) = get_or-map export_of m.exports.items k d (export_of d) small in
     let P : model.Export → Type 0 = λ e. IsItem (meaning features m) e.item in
-    let named : (get_or m.exports.items k d).function < length (map (function_of features) m.functions.items) = subst P same at in
-    let count : length (map (function_of features) m.functions.items) ≡ length m.functions.items = length-map m.functions.items (function_of features) in
+    let named : (get_or m.exports.items k d).function < length (map (function_of (known_of features m)) m.functions.items) = subst P same at in
+    let count : length (map (function_of (known_of features m)) m.functions.items) ≡ length m.functions.items = length-map m.functions.items (function_of (known_of features m)) in
     let Q : ℕ → Type 0 = λ n. (get_or m.exports.items k d).function < n in
     subst Q count named
 
 pub typed_small : (features : Features) (bytes : List ℕ) (m : Module) → Reads features bytes (meaning features m) → All (λ f. f.type_index < length m.types.items) m.functions.items
 typed_small features bytes m reads k d small =
-    let view : Function → model.Function = function_of features in
+    let view : Function → model.Function = function_of (known_of features m) in
     let there : k < length (map view m.functions.items) = rw (length-map m.functions.items view) small in
     let at : (get_or (map view m.functions.items) k (view d)).type_ < length (meaning features m).types = reads.rules.typed k (view d) there in
     let same : get_or (map view m.functions.items) k (view d) ≡ view (get_or m.functions.items k d) = get_or-map view m.functions.items k d (view d) small in
@@ -86,7 +87,7 @@ typed_small features bytes m reads k d small =
     subst Q count (subst P same at)
 
 pub few_functions : (features : Features) (bytes : List ℕ) (m : Module) → Reads features bytes (meaning features m) → length m.functions.items ≤ 1000000
-few_functions features bytes m reads = let fits : length (map (function_of features) m.functions.items) ≤ 1000000 = reads.rules.fits.functions in rw (length-map m.functions.items (function_of features)) at fits
+few_functions features bytes m reads = let fits : length (map (function_of (known_of features m)) m.functions.items) ≤ 1000000 = reads.rules.fits.functions in rw (length-map m.functions.items (function_of (known_of features m))) at fits
 
 pub few_types : (features : Features) (bytes : List ℕ) (m : Module) → Reads features bytes (meaning features m) → length m.types.items ≤ 1000000
 few_types features bytes m reads =
@@ -150,6 +151,12 @@ within_bound f xs low high le h k d small = let one : f (get_or xs k d) < low = 
 ends_within : (fs : List Function) (end : ℕ) → end ≤ 2 ^ 30 → All (λ f. f.place + length f.body.now ≤ end) fs → All (λ f. f.place + length f.body.now < 2 ^ 32) fs
 ends_within fs end small h k d inside = let one : (get_or fs k d).place + length (get_or fs k d).body.now ≤ end = h k d inside in omega arith
 
+start_within : (features : Features) (m : Module) (start : Option ℕ) (most : ℕ) → length m.functions.items ≡ most → IfSome start (λ f. IsItem (meaning features m) (model.FunctionItem f)) → IfSome start (λ f. f < most)
+start_within features m None most e h = tt
+start_within features m (Some f) most e h =
+    let P : ℕ → Type 0 = λ k. f < k in
+    subst P (length-map m.functions.items (function_of (known_of features m)) ∙ e) h
+
 -- a numbering of a module that was read can be written
 pub is_writable : (features : Features) (bytes : List ℕ) (m : Module) (n : Numbering) → Reads features bytes (meaning features m) → IsWithin (vec_len m.functions) (vec_len m.types) (numbers_of n) →
     All (λ f. f.place + length f.body.now ≤ length bytes) m.functions.items → IsWritable m n
@@ -167,13 +174,15 @@ is_writable features bytes m n reads within ends =
       functions = within_bound (λ (f : ℕ). f) n.functions.items (vec_len m.functions) (length m.functions.items) (omega arith) within.kept_functions;
       types = within_bound (λ (t : ℕ). t) n.types.items (vec_len m.types) (length m.types.items) (omega arith) within.kept_types;
       typed = within_bound (λ (f : Function). f.type_index) m.functions.items (length m.types.items) (length n.new_type.items) (omega arith) (typed_small features bytes m reads);
+      numbered = omega arith;
+      started = start_within features m m.start (length n.new_function.items) (omega arith) reads.rules.starts;
       exported = within_bound (λ (e : Export). e.function) m.exports.items (length m.functions.items) (length n.new_function.items) (omega arith) (exported_small features bytes m reads);
       few_functions = omega arith;
       few_types = omega arith;
       few_exports = omega arith;
       short_types = types_short features bytes m reads;
       short_names = names_short features bytes m reads;
-      bodies = ends_within m.functions.items (length bytes) reads.short ends
+      bodies = ends_within m.functions.items (length bytes) reads.short ends;
     }
 
 pub functions_fit : (features : Features) (bytes : List ℕ) (m : Module) → Reads features bytes (meaning features m) → vec_len m.functions ≤ 2 ^ 32
@@ -185,15 +194,18 @@ types_fit features bytes m reads = let few : length m.types.items ≤ 1000000 = 
 pub exports_fit : (features : Features) (bytes : List ℕ) (m : Module) → Reads features bytes (meaning features m) → All (λ e. e.function < vec_len m.functions) m.exports.items
 exports_fit features bytes m reads = let count : vec_len m.functions ≡ length m.functions.items = items_counted m.functions in within_bound (λ (e : Export). e.function) m.exports.items (length m.functions.items) (vec_len m.functions) (omega arith) (exported_small features bytes m reads)
 
+pub start_fits : (features : Features) (bytes : List ℕ) (m : Module) → Reads features bytes (meaning features m) → IfSome m.start (λ f. f < vec_len m.functions)
+start_fits features bytes m reads = start_within features m m.start (vec_len m.functions) (sym (items_counted m.functions)) reads.rules.starts
+
 pub types_named : (features : Features) (bytes : List ℕ) (m : Module) → Reads features bytes (meaning features m) → All (λ f. f.type_index < vec_len m.types) m.functions.items
 types_named features bytes m reads = let count : vec_len m.types ≡ length m.types.items = items_counted m.types in within_bound (λ (f : Function). f.type_index) m.functions.items (length m.types.items) (vec_len m.types) (omega arith) (typed_small features bytes m reads)
 
 -- the numbering is small
-pub is_small : (features : Features) (m : Module) (n : Numbering) → IsWithin (vec_len m.functions) (vec_len m.types) (numbers_of n) → AreShort (meaning features m) (numbers_of n).functions → IsSmall (meaning features m) (numbers_of n)
+pub is_small : (features : Features) (m : Module) (n : Numbering) → IsWithin (vec_len m.functions) (vec_len m.types) (numbers_of n) → AreShort (meaning features m) (numbers_of n) (numbers_of n).functions → IsSmall (meaning features m) (numbers_of n)
 is_small features m n within short =
     let functions : vec_len m.functions ≡ length m.functions.items = items_counted m.functions in
     let types : vec_len m.types ≡ length m.types.items = items_counted m.types in
-    let count_f : length (map (function_of features) m.functions.items) ≡ length m.functions.items = length-map m.functions.items (function_of features) in
+    let count_f : length (map (function_of (known_of features m)) m.functions.items) ≡ length m.functions.items = length-map m.functions.items (function_of (known_of features m)) in
     let count_t : length (map type_of m.types.items) ≡ length m.types.items = length-map m.types.items type_of in
     let fewer_f : length n.functions.items ≤ vec_len m.functions = within.fewer_functions in
     let fewer_t : length n.types.items ≤ vec_len m.types = within.fewer_types in

@@ -1,11 +1,11 @@
 -- There are no more pairs of places than bytes, since each written operator has a byte of its own.
 use Rattle.std.proofs.Common.{ℕ, ◌≤◌, ◌<◌, List, [], ◌∷◌, ◌++◌, Option, Some, None, length, arith, length-append}
 use Rattle.std.specs.List.{flat_map}
-use Rattle.wasm_model.specs.Module.{Module, Function, Operator, Nop, I32Const, Drop, Return, End, operators}
+use Rattle.wasm_model.specs.Module.{Module, Function, Operator, Nop, I32Const, Drop, Return, Call, End, operators}
 use Rattle.wasm_model.specs.NormalForm.{normal_form}
 use Rattle.wasm_model.specs.Spells.{header}
 use Rattle.wasm_model.specs.Shortest.{u32_bytes}
-use Rattle.wasm_model.specs.Spelling.{operator_bytes, body_bytes, code_bytes, vec_bytes, section_bytes, type_bytes, export_bytes, module_bytes}
+use Rattle.wasm_model.specs.Spelling.{operator_bytes, body_bytes, code_bytes, vec_bytes, section_bytes, type_bytes, export_bytes, start_bytes, module_bytes}
 use Rattle.rewriter_module.specs.Written.{Numbers, function_at, pairs_of, pairs_of_all, written, written_places}
 
 pairs_few : (olds : List (Operator × Option ℕ)) (news : List (Operator × ℕ)) → length (pairs_of olds news) ≤ length news
@@ -20,6 +20,7 @@ operator_some Nop = omega arith
 operator_some (I32Const n) = omega arith
 operator_some Drop = omega arith
 operator_some Return = omega arith
+operator_some (Call f) = omega arith
 operator_some End = omega arith
 
 operators_few : (body : List (Operator × ℕ)) → length body ≤ length (flat_map operator_bytes (operators body))
@@ -56,6 +57,7 @@ pub few_places : (m : Module) (n : Numbers) → length (written_places m n) ≤ 
 few_places m n =
     let w = written m n in
     let code = section_bytes 10 code_bytes w.functions in
+    let start = start_bytes w.start in
     let exports = section_bytes 7 export_bytes w.exports in
     let functions = section_bytes 3 (λ f. u32_bytes f.type_) w.functions in
     let types = section_bytes 1 type_bytes w.types in
@@ -63,8 +65,9 @@ few_places m n =
       arith,
       all_few m n.functions w.functions,
       section_whole w.functions,
-      length-append exports code,
-      length-append functions (exports ++ code),
-      length-append types (functions ++ (exports ++ code)),
-      length-append header (types ++ (functions ++ (exports ++ code))),
+      length-append start code,
+      length-append exports (start ++ code),
+      length-append functions (exports ++ (start ++ code)),
+      length-append types (functions ++ (exports ++ (start ++ code))),
+      length-append header (types ++ (functions ++ (exports ++ (start ++ code)))),
     )

@@ -1,4 +1,5 @@
-//! Rewrites WebAssembly modules: keeps what their exports need, in the shortest spelling.
+//! Rewrites WebAssembly modules: keeps what their exports and start functions need, in the shortest
+//! spelling.
 #![tactic(auto)]
 
 mod laws;

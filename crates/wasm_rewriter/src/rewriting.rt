@@ -21,7 +21,7 @@ pub struct Rewritten {
     pub places: Option<Vec<(u32, u32)>>,
 }
 
-/// Rewrites a module: keeps what its exports need, in the shortest spelling.
+/// Rewrites a module: keeps what its exports and its start function need, in the shortest spelling.
 ///
 /// # Errors
 ///
