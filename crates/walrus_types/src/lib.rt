@@ -1,0 +1,12 @@
+//! The types of WebAssembly as a module's table holds them: by id in place of index.
+#![tactic(auto)]
+
+mod composite;
+
+
+mod value;
+
+pub use composite::{ArrayType, CompositeType, FunctionType, StructType};
+
+
+pub use value::{AbstractHeapType, FieldType, HeapType, RefType, StorageType, ValType};
