@@ -46,6 +46,15 @@ abbrev pub is_array : Form → Bool
 is_array (ArrayForm _) = true
 is_array _ = false
 
+-- the parameters and results of a function form
+abbrev pub params_of : Form → List ValType
+params_of (FunctionForm params _) = params
+params_of _ = []
+
+abbrev pub results_of : Form → List ValType
+results_of (FunctionForm _ results) = results
+results_of _ = []
+
 -- the types that a form names, in its order
 abbrev pub form_names : Form → List ℕ
 form_names (FunctionForm params results) = flat_map value_names params ++ flat_map value_names results

@@ -1,3 +1,5 @@
-pub mod Values
 pub mod Forms
+pub mod Kinds
 pub mod Lends
+pub mod LocalLends
+pub mod Values

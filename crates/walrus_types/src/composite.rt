@@ -1,5 +1,5 @@
 //! Composite types (Core Specification, composite types).
-ghost use Rattle.std.specs.Prelude.{◌≡◌, IfOk, IsSome, Some, option_copied};
+ghost use Rattle.std.specs.Prelude.{◌≡◌, IfOk, IsTrue, Some, option_copied};
 ghost use Rattle.std.specs.Option.{option_copied_mut};
 ghost use Rattle.std.specs.Borrow.{sem};
 ghost use Rattle.walrus_types.specs.Forms.{form_of, function_of, struct_of, array_of, is_function, is_struct, is_array};
@@ -133,26 +133,35 @@ impl CompositeType {
 
     /// The function type. Asks that it is one.
     pub fn unwrap_function(&self) -> &FunctionType
-        requires { IsSome (function_of self.now) }
+        requires { IsTrue (is_function (form_of self.now)) }
         ensures { function_of self.now ≡ Some result.now }
     {
-        self.as_function().unwrap()
+        match self {
+            CompositeType::Function(ty) => ty,
+            _ => unreachable!(),
+        }
     }
 
     /// The structure type. Asks that it is one.
     pub fn unwrap_struct(&self) -> &StructType
-        requires { IsSome (struct_of self.now) }
+        requires { IsTrue (is_struct (form_of self.now)) }
         ensures { struct_of self.now ≡ Some result.now }
     {
-        self.as_struct().unwrap()
+        match self {
+            CompositeType::Struct(ty) => ty,
+            _ => unreachable!(),
+        }
     }
 
     /// The array type. Asks that it is one.
     pub fn unwrap_array(&self) -> &ArrayType
-        requires { IsSome (array_of self.now) }
+        requires { IsTrue (is_array (form_of self.now)) }
         ensures { array_of self.now ≡ Some result.now }
     {
-        self.as_array().unwrap()
+        match self {
+            CompositeType::Array(ty) => ty,
+            _ => unreachable!(),
+        }
     }
 
     /// Whether it is a function type.

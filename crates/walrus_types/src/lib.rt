@@ -2,11 +2,11 @@
 #![tactic(auto)]
 
 mod composite;
-
-
+mod local;
+mod subtype;
 mod value;
 
 pub use composite::{ArrayType, CompositeType, FunctionType, StructType};
-
-
+pub use local::{Local, ModuleLocals};
+pub use subtype::{RecGroup, Type};
 pub use value::{AbstractHeapType, FieldType, HeapType, RefType, StorageType, ValType};
