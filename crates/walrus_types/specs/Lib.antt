@@ -2,4 +2,5 @@ pub mod Forms
 pub mod Kinds
 pub mod Lends
 pub mod LocalLends
+pub mod Same
 pub mod Values

@@ -2,6 +2,7 @@
 #![tactic(auto)]
 
 mod composite;
+pub mod laws;
 mod local;
 mod subtype;
 mod value;
