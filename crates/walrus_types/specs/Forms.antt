@@ -1,6 +1,7 @@
 -- What a contract sees of composite types: their lists, and not the memory that holds them.
-use Rattle.std.specs.Prelude.{ℕ, Bool, true, false, List, [], ◌∷◌, ◌++◌, Option, Some, None}
-use Rattle.std.specs.List.{flat_map}
+use Rattle.std.specs.Prelude.{ℕ, Bool, true, false, List, [], ◌++◌, Option, Some, None}
+use Rattle.std.specs.List.{filter_map}
+use Rattle.std.specs.Option.{option_to_list}
 use Rattle.walrus_types.specs.declared.value.ValType.{ValType}
 use Rattle.walrus_types.specs.declared.value.FieldType.{FieldType}
 use Rattle.walrus_types.specs.declared.composite.FunctionType.{FunctionType}
@@ -8,7 +9,7 @@ use Rattle.walrus_types.specs.declared.composite.StructType.{StructType}
 use Rattle.walrus_types.specs.declared.composite.ArrayType.{ArrayType}
 use Rattle.walrus_types.specs.declared.composite.CompositeType.{CompositeType}
 use Rattle.walrus_types.specs.declared.composite.CompositeType.TheVariants.{Function, Struct, Array}
-use Rattle.walrus_types.specs.Values.{value_names, field_names}
+use Rattle.walrus_types.specs.Values.{value_name, field_name}
 
 -- the form of a type (Core Specification, composite types)
 pub data Form : Type 0 where
@@ -57,6 +58,6 @@ results_of _ = []
 
 -- the types that a form names, in its order
 abbrev pub form_names : Form → List ℕ
-form_names (FunctionForm params results) = flat_map value_names params ++ flat_map value_names results
-form_names (StructForm fields) = flat_map field_names fields
-form_names (ArrayForm field) = field_names field
+form_names (FunctionForm params results) = filter_map value_name params ++ filter_map value_name results
+form_names (StructForm fields) = filter_map field_name fields
+form_names (ArrayForm field) = option_to_list (field_name field)

@@ -1,5 +1,5 @@
 -- Value types and the types that they name.
-use Rattle.std.specs.Prelude.{ℕ, List, [], ◌∷◌}
+use Rattle.std.specs.Prelude.{ℕ, Option, Some, None}
 use Rattle.walrus_types.specs.declared.value.HeapType.{HeapType}
 use Rattle.walrus_types.specs.declared.value.HeapType.TheVariants.{Abstract, Concrete, Exact}
 use Rattle.walrus_types.specs.declared.value.ValType.{ValType}
@@ -14,17 +14,17 @@ unpacked (Val ty) = ty
 unpacked I8 = I32
 unpacked I16 = I32
 
--- the types that a heap type names
-abbrev pub heap_names : HeapType → List ℕ
-heap_names (Abstract _) = []
-heap_names (Concrete id) = id ∷ []
-heap_names (Exact id) = id ∷ []
+-- the type that a heap type names, if it names one
+abbrev pub heap_name : HeapType → Option ℕ
+heap_name (Abstract _) = None
+heap_name (Concrete id) = Some id
+heap_name (Exact id) = Some id
 
--- the types that a value type names
-abbrev pub value_names : ValType → List ℕ
-value_names (Ref ty) = heap_names ty.heap_type
-value_names _ = []
+-- the type that a value type names
+abbrev pub value_name : ValType → Option ℕ
+value_name (Ref ty) = heap_name ty.heap_type
+value_name _ = None
 
--- the types that a field names
-abbrev pub field_names : FieldType → List ℕ
-field_names field = value_names (unpacked field.element_type)
+-- the type that a field names
+abbrev pub field_name : FieldType → Option ℕ
+field_name field = value_name (unpacked field.element_type)

@@ -4,6 +4,7 @@
 mod composite;
 pub mod laws;
 mod local;
+mod names;
 mod subtype;
 mod value;
 

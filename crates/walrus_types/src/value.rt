@@ -1,6 +1,6 @@
 //! Value types (Core Specification, value types) and what fields hold (field types).
 ghost use Rattle.std.specs.Prelude.{◌≡◌};
-ghost use Rattle.walrus_types.specs.Values.{unpacked};
+ghost use Rattle.walrus_types.specs.Values.{unpacked, heap_name, value_name, field_name};
 
 use walrus_arena::TypeId;
 
@@ -36,6 +36,18 @@ pub enum HeapType {
 pub struct RefType {
     pub nullable: bool,
     pub heap_type: HeapType,
+}
+
+impl HeapType {
+    // The type that it names, if it names one.
+    pub(crate) fn type_name(&self) -> Option<TypeId>
+        ensures { result ≡ heap_name self.now }
+    {
+        match self {
+            HeapType::Abstract(_) => None,
+            HeapType::Concrete(id) | HeapType::Exact(id) => Some(*id),
+        }
+    }
 }
 
 impl RefType {
@@ -103,6 +115,18 @@ pub enum ValType {
     Ref(RefType),
 }
 
+impl ValType {
+    // The type that it names, if it names one.
+    pub(crate) fn type_name(&self) -> Option<TypeId>
+        ensures { result ≡ value_name self.now }
+    {
+        match self {
+            ValType::Ref(ty) => ty.heap_type.type_name(),
+            _ => None,
+        }
+    }
+}
+
 /// What a field holds: a value, or an integer of 8 or 16 bits.
 #[derive(Clone, Copy, PartialEq, Eq, PartialOrd, Ord, Hash)]
 pub enum StorageType {
@@ -128,4 +152,13 @@ impl StorageType {
 pub struct FieldType {
     pub element_type: StorageType,
     pub mutable: bool,
+}
+
+impl FieldType {
+    // The type that it names, if it names one.
+    pub(crate) fn type_name(&self) -> Option<TypeId>
+        ensures { result ≡ field_name self.now }
+    {
+        self.element_type.unpack().type_name()
+    }
 }
