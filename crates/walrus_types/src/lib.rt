@@ -6,9 +6,11 @@ pub mod laws;
 mod local;
 mod names;
 mod subtype;
+mod table;
 mod value;
 
 pub use composite::{ArrayType, CompositeType, FunctionType, StructType};
 pub use local::{Local, ModuleLocals};
 pub use subtype::{RecGroup, Type};
+pub use table::ModuleTypes;
 pub use value::{AbstractHeapType, FieldType, HeapType, RefType, StorageType, ValType};

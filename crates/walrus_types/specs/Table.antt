@@ -1,0 +1,115 @@
+-- What a contract sees of a type table: the types and the groups by id, live or dead.
+use Rattle.std.specs.Prelude.{◌≡◌, ◌≢◌, ℕ, ◌<◌, Bool, true, false, not, ◌&&◌, ◌==◌, List, [], ◌∷◌, ◌++◌, length, map, find, Contains, Option, Some, None, IsSome, IsTrue, MatchOption, slice_index, slice_index_or, slice_set, if◌then◌else◌}
+use Rattle.std.specs.List.{list_any}
+use Rattle.std.specs.Option.{option_map, option_map_or}
+use Rattle.std.specs.Str.{bytes_eq}
+use Rattle.walrus_arena.specs.Arena.{entries_from}
+use Rattle.walrus_types.specs.declared.value.ValType.{ValType}
+use Rattle.walrus_types.specs.declared.subtype.Type.{«Type» as TypeItem}
+use Rattle.walrus_types.specs.declared.subtype.RecGroup.{RecGroup}
+use Rattle.walrus_types.specs.Forms.{Form, FunctionForm, is_function}
+use Rattle.walrus_types.specs.Kinds.{Kind, Item, Group, item_of, group_of, kind_of, kind_names}
+use Rattle.walrus_types.specs.Same.{same_kind}
+
+-- for each id ever given out, the type or the group while it lives
+pub record Table : Type 0 where
+  pub types : List (Option Item)
+  pub groups : List (Option Group)
+
+abbrev pub table_of : List (Option TypeItem) → List (Option RecGroup) → Table
+table_of types groups = record { types = map (option_map item_of) types; groups = map (option_map group_of) groups }
+
+-- the live type of an id
+abbrev pub type_at : Table → ℕ → Option Item
+type_at t id = slice_index_or t.types id None
+
+-- the live group of an id
+abbrev pub group_at : Table → ℕ → Option Group
+group_at t id = slice_index_or t.groups id None
+
+-- the id has been given out, and its type wasn't deleted
+abbrev pub IsLive : Table → ℕ → Type 0
+IsLive t id = IsSome (type_at t id)
+
+-- the id has a live function type
+abbrev pub IsFunctionType : Table → ℕ → Type 0
+IsFunctionType t id = MatchOption (type_at t id) ⊥ (λ item. IsTrue (is_function item.kind.form))
+
+-- the id that the next new type gets
+abbrev pub next_id : Table → ℕ
+next_id t = length t.types
+
+-- the live types with their ids, by rising id
+abbrev pub entries : Table → List (ℕ × Item)
+entries t = entries_from 0 t.types
+
+-- the last of these entries that passes the test, else what was found before
+abbrev pub latest_in : (ℕ × Item → Bool) → Option ℕ → List (ℕ × Item) → Option ℕ
+latest_in test found [] = found
+latest_in test found (e ∷ es) = latest_in test (if test e then Some e.0 else found) es
+
+-- the latest live type that passes the test
+abbrev pub latest_id : (ℕ × Item → Bool) → Table → Option ℕ
+latest_id test t = latest_in test None (entries t)
+
+-- the kind of a final function type without supertype
+abbrev pub function_kind : List ValType → List ValType → Kind
+function_kind params results = record { form = FunctionForm params results; final = true; supertype = None; entry = false }
+
+-- the kind of the type of a body's own block
+abbrev pub entry_kind : List ValType → Kind
+entry_kind results = record { form = FunctionForm [] results; final = true; supertype = None; entry = true }
+
+-- the latest final function type without supertype of just these parameters and results
+abbrev pub found_type : List ValType → List ValType → Table → Option ℕ
+found_type params results t = latest_id (λ e. same_kind e.1.kind (function_kind params results)) t
+
+-- whether a type names itself
+abbrev pub names_itself : ℕ × Item → Bool
+names_itself e = list_any (λ name. name == e.0) (kind_names e.1.kind)
+
+-- whether a new type of this kind stands for that type: the kinds are equal, and a type that names
+-- itself equals no other
+abbrev pub merges : Kind → ℕ × Item → Bool
+merges kind e = same_kind e.1.kind kind && not (names_itself e)
+
+-- the type that stands for a new type of this kind
+abbrev pub equal_type : Kind → Table → Option ℕ
+equal_type kind t = latest_id (merges kind) t
+
+-- whether a type has this name
+abbrev pub has_name : List ℕ → ℕ × Item → Bool
+has_name name e = option_map_or (λ bytes. bytes_eq bytes name) e.1.name false
+
+-- the lowest live type of this name
+abbrev pub named_type : List ℕ → Table → Option ℕ
+named_type name t = option_map (λ e. e.0) (find (has_name name) (entries t))
+
+-- the new table has one more type, of this kind, under the next id, and a group of it alone
+pub record Adds (kind : Kind) (id : ℕ) (old new : Table) : Type 0 where
+  pub given : id ≡ next_id old
+  pub types : new.types ≡ old.types ++ Some (record { id = id; kind = kind; name = None }) ∷ []
+  pub groups : new.groups ≡ old.groups ++ Some (record { explicit = false; types = id ∷ [] }) ∷ []
+
+-- an equal live type is answered, or else there is one more
+abbrev pub Merges : Kind → ℕ → Table → Table → Type 0
+Merges kind id old new = MatchOption (equal_type kind old) (Adds kind id old new) (λ found. (id ≡ found) × (new ≡ old))
+
+-- the look-up finds for each type the one that stands for it
+abbrev pub IsIndex : (TypeItem → Option ℕ) → List (Option Item) → Type 0
+IsIndex lookup types = (q : TypeItem) → lookup q ≡ latest_in (merges (kind_of q)) None (entries_from 0 types)
+
+-- each live type stands in one group, its home, once, and groups have live members alone
+pub record IsGrouped (types : List (Option Item)) (groups : List (Option Group)) (homes : List ℕ) : Type 0 where
+  pub sized : length homes ≡ length types
+  pub listed : (id : ℕ) (item : Item) → slice_index_or types id None ≡ Some item
+      → (g : Group) × (slice_index_or groups (slice_index homes id) None ≡ Some g) × Contains g.types id
+  pub member : (group : ℕ) (g : Group) → slice_index_or groups group None ≡ Some g → (k : ℕ) → k < length g.types
+      → (item : Item) × (slice_index_or types (slice_index g.types k) None ≡ Some item) × (slice_index homes (slice_index g.types k) ≡ group)
+  pub once : (group : ℕ) (g : Group) → slice_index_or groups group None ≡ Some g → (j k : ℕ) → j < k → k < length g.types
+      → slice_index g.types j ≢ slice_index g.types k
+
+-- what holds of every table: types are grouped, and while the index is fresh it finds equal types
+pub record IsSound (fresh : Bool) (lookup : TypeItem → Option ℕ) (t : Table) (homes : List ℕ) : Type 0 where
+  pub index : fresh ≡ true → IsIndex lookup t.types
+  pub grouped : IsGrouped t.types t.groups homes

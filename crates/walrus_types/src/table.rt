@@ -1,0 +1,167 @@
+//! The type table of a module.
+ghost use Rattle.std.specs.Prelude.{◌≡◌, ◌↔◌, ℕ, true, [], ◌++◌, IfOk, OnOk, OnErr, IsTrue, Some, option_copied, if◌then◌else◌};
+ghost use Rattle.std.specs.Option.{option_map};
+ghost use Rattle.std.specs.HashMap.{get, IsUnchanged};
+ghost use Rattle.std.specs.Borrow.{sem};
+ghost use Rattle.walrus_types.specs.Forms.{form_of, params_of, results_of};
+ghost use Rattle.walrus_types.specs.Kinds.{kind_of, item_of, group_of};
+ghost use Rattle.walrus_types.specs.Table.{table_of, type_at, IsLive, IsFunctionType, found_type, named_type, merges, Merges, IsIndex, function_kind, entry_kind};
+ghost use Rattle.walrus_types.specs.TableLends.{lends_type};
+ghost use Rattle.walrus_types.specs.declared.subtype.Type.{«Type» as TypeItem};
+ghost use Rattle.walrus_types.specs.contracts.subtype.TypePartialEq.TheImpl.{ghosts as type_eq};
+
+use crate::composite::{ArrayType, CompositeType, FunctionType, StructType};
+use crate::subtype::{RecGroup, Type};
+use crate::value::{FieldType, ValType};
+use std::alloc::{AllocError, Global};
+use std::collections::HashMap;
+use std::marker::Model;
+use walrus_arena::{RecGroupId, RecGroupSpace, TombstoneArena, TypeId, TypeSpace};
+
+/// The types of a module by id, each in one recursion group.
+///
+/// A new type that equals a live one is not added: the live one's id is answered. Where several live
+/// types are equal, the latest one stands for the new one. A type that names itself equals no other.
+#[derive(Drop)]
+pub struct ModuleTypes {
+    alloc: Global,
+    types: TombstoneArena<Type, TypeSpace>,
+    groups: TombstoneArena<RecGroup, RecGroupSpace>,
+    // The group of each type ever added.
+    homes: Vec<RecGroupId>,
+    // Where `fresh`, the latest live type of each kind, those that name themselves aside.
+    index: HashMap<Type, usize>,
+    // False once a type was lent for writing or deleted: the next add builds the index anew.
+    fresh: bool,
+}
+
+impl Model for ModuleTypes {
+    ghost use Rattle.std.specs.HashMap.{get};
+    ghost use Rattle.walrus_types.specs.contracts.subtype.TypePartialEq.TheImpl.{ghosts as type_eq};
+    ghost use Rattle.walrus_types.specs.Table.{Table, table_of, IsSound};
+
+    ghost Value = { Table };
+
+    ghost view = { λ t. table_of t.types.slots t.groups.slots };
+
+    ghost invariant = { λ t. IsSound t.fresh (get type_eq.eq t.index) (table_of t.types.slots t.groups.slots) t.homes.items };
+}
+
+// Enters a type into the index, under a clone of it, unless it names itself.
+fn note(index: &mut HashMap<Type, usize>, ty: &Type, id: TypeId) -> Result<(), AllocError>
+    ensures noted { OnOk result ((q : TypeItem) → get type_eq.eq index.new q
+        ≡ (if merges (kind_of q) (id, item_of ty.now) then Some id else get type_eq.eq index.old q)) }
+    ensures refused { OnErr result (IsUnchanged index.old index.new) }
+{
+    if ty.names(id) {
+        return Ok(());
+    }
+    index.insert(ty.clone()?, id.index())?;
+    Ok(())
+}
+
+// The latest live type of each kind, those that name themselves aside.
+fn index_of(
+    alloc: Global,
+    types: &TombstoneArena<Type, TypeSpace>,
+) -> Result<HashMap<Type, usize>, AllocError>
+    ensures { IfOk result (λ index. IsIndex (get type_eq.eq index) (table_of types.now.slots []).types) }
+{
+    let mut index = HashMap::new(alloc);
+    for (id, ty) in types.iter() {
+        note(&mut index, ty, id)?;
+    }
+    Ok(index)
+}
+
+// Builds the index anew where it is stale.
+fn refresh(
+    alloc: Global,
+    fresh: &mut bool,
+    index: &mut HashMap<Type, usize>,
+    types: &TombstoneArena<Type, TypeSpace>,
+) -> Result<(), AllocError>
+    requires { fresh.old ≡ true → IsIndex (get type_eq.eq index.old) (table_of types.now.slots []).types }
+    ensures fresh { OnOk result (fresh.new ≡ true) }
+    ensures index { fresh.new ≡ true → IsIndex (get type_eq.eq index.new) (table_of types.now.slots []).types }
+{
+    if !*fresh {
+        *index = index_of(alloc, types)?;
+        *fresh = true;
+    }
+    Ok(())
+}
+
+impl ModuleTypes {
+    /// No types. Takes no memory.
+    pub fn new(alloc: Global) -> Self
+        ensures { result ≡ record { types = []; groups = [] } }
+    {
+        ModuleTypes {
+            alloc,
+            types: TombstoneArena::new(alloc),
+            groups: TombstoneArena::new(alloc),
+            homes: Vec::new(alloc),
+            index: HashMap::new(alloc),
+            fresh: true,
+        }
+    }
+
+    /// Whether the id's type lives.
+    pub fn contains(&self, id: TypeId) -> bool
+        ensures { IsTrue result ↔ IsLive self.now id }
+    {
+        self.types.contains(id)
+    }
+
+    /// The type of a live id.
+    pub fn get(&self, id: TypeId) -> &Type
+        requires { IsLive self.now id }
+        ensures { type_at self.now id ≡ Some (item_of result.now) }
+    {
+        self.types.get(id).unwrap()
+    }
+
+    /// The type of a live id, for writing.
+    pub fn get_mut(&mut self, id: TypeId) -> &mut Type
+        requires { IsLive self.old id }
+        ensures* writes_back { sem 𝓛 (lends_type self.entry id result) }
+        ensures value { type_at self.old id ≡ Some (item_of result.now) }
+    {
+        self.fresh = false;
+        &mut self.types[id]
+    }
+
+    // The id of the type that stands for one of this kind, which is added where there is none.
+    fn insert(
+        &mut self,
+        kind: CompositeType,
+        is_final: bool,
+        supertype: Option<TypeId>,
+        entry: bool,
+    ) -> Result<TypeId, AllocError>
+        ensures inserted { IfOk result (λ id. Merges (record { form = form_of kind; final = is_final; supertype = supertype; entry = entry }) id self.old self.new) }
+        ensures refused { OnErr result (self.new ≡ self.old) }
+    {
+        refresh(
+            self.alloc,
+            &mut self.fresh,
+            &mut self.index,
+            &self.types,
+        )?;
+        let id = self.types.next_id();
+        let ty = Type::new(id, kind, is_final, supertype, entry);
+        if let Some(found) = self.index.get(&ty) {
+            return Ok(TypeId::from_index(*found));
+        }
+        let mut members = Vec::new(self.alloc);
+        members.push(id)?;
+        self.types.reserve(1)?;
+        self.groups.reserve(1)?;
+        self.homes.reserve(1)?;
+        note(&mut self.index, &ty, id)?;
+        let home = self.groups.alloc_reserved(RecGroup::new(false, members));
+        self.homes.push_reserved(home);
+        Ok(self.types.alloc_reserved(ty))
+    }
+}
