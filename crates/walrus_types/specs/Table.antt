@@ -1,14 +1,13 @@
 -- What a contract sees of a type table: the types and the groups by id, live or dead.
-use Rattle.std.specs.Prelude.{◌≡◌, ◌≢◌, ℕ, ◌<◌, Bool, true, false, not, ◌&&◌, ◌==◌, List, [], ◌∷◌, ◌++◌, length, map, find, Contains, Option, Some, None, IsSome, IsTrue, MatchOption, slice_index, slice_index_or, slice_set, if◌then◌else◌}
+use Rattle.std.specs.Prelude.{◌≡◌, ◌≢◌, ℕ, ◌<◌, Bool, true, false, not, ◌&&◌, ◌==◌, List, [], ◌∷◌, ◌++◌, length, map, find, Contains, Option, Some, None, IsSome, IsTrue, MatchOption, slice_index, slice_index_or, if◌then◌else◌}
 use Rattle.std.specs.List.{list_any}
-use Rattle.std.specs.Option.{option_map, option_map_or}
-use Rattle.std.specs.Str.{bytes_eq}
+use Rattle.std.specs.Option.{option_map}
 use Rattle.walrus_arena.specs.Arena.{entries_from}
 use Rattle.walrus_types.specs.declared.value.ValType.{ValType}
 use Rattle.walrus_types.specs.declared.subtype.Type.{«Type» as TypeItem}
 use Rattle.walrus_types.specs.declared.subtype.RecGroup.{RecGroup}
-use Rattle.walrus_types.specs.Forms.{Form, FunctionForm, is_function}
-use Rattle.walrus_types.specs.Kinds.{Kind, Item, Group, item_of, group_of, kind_of, kind_names}
+use Rattle.walrus_types.specs.Forms.{is_function}
+use Rattle.walrus_types.specs.Kinds.{Kind, Item, Group, item_of, group_of, kind_of, kind_names, has_name, function_kind}
 use Rattle.walrus_types.specs.Same.{same_kind}
 
 -- for each id ever given out, the type or the group while it lives
@@ -52,14 +51,6 @@ latest_in test found (e ∷ es) = latest_in test (if test e then Some e.0 else f
 abbrev pub latest_id : (ℕ × Item → Bool) → Table → Option ℕ
 latest_id test t = latest_in test None (entries t)
 
--- the kind of a final function type without supertype
-abbrev pub function_kind : List ValType → List ValType → Kind
-function_kind params results = record { form = FunctionForm params results; final = true; supertype = None; entry = false }
-
--- the kind of the type of a body's own block
-abbrev pub entry_kind : List ValType → Kind
-entry_kind results = record { form = FunctionForm [] results; final = true; supertype = None; entry = true }
-
 -- the latest final function type without supertype of just these parameters and results
 abbrev pub found_type : List ValType → List ValType → Table → Option ℕ
 found_type params results t = latest_id (λ e. same_kind e.1.kind (function_kind params results)) t
@@ -77,13 +68,15 @@ merges kind e = same_kind e.1.kind kind && not (names_itself e)
 abbrev pub equal_type : Kind → Table → Option ℕ
 equal_type kind t = latest_id (merges kind) t
 
--- whether a type has this name
-abbrev pub has_name : List ℕ → ℕ × Item → Bool
-has_name name e = option_map_or (λ bytes. bytes_eq bytes name) e.1.name false
-
 -- the lowest live type of this name
 abbrev pub named_type : List ℕ → Table → Option ℕ
-named_type name t = option_map (λ e. e.0) (find (has_name name) (entries t))
+named_type name t = option_map (λ e. e.0) (find (λ e. has_name name e.1) (entries t))
+
+-- a live group has the type among its members
+pub record HasMember (t : Table) (id : ℕ) (group : Group) : Type 0 where
+  pub place : ℕ
+  pub live : group_at t place ≡ Some group
+  pub listed : Contains group.types id
 
 -- the new table has one more type, of this kind, under the next id, and a group of it alone
 pub record Adds (kind : Kind) (id : ℕ) (old new : Table) : Type 0 where

@@ -3,7 +3,7 @@ use Rattle.std.specs.Prelude.{ℕ, Option, Some, None}
 use Rattle.walrus_types.specs.declared.value.HeapType.{HeapType}
 use Rattle.walrus_types.specs.declared.value.HeapType.TheVariants.{Abstract, Concrete, Exact}
 use Rattle.walrus_types.specs.declared.value.ValType.{ValType}
-use Rattle.walrus_types.specs.declared.value.ValType.TheVariants.{I32, I64, F32, F64, V128, Ref}
+use Rattle.walrus_types.specs.declared.value.ValType.TheVariants.{I32, Ref}
 use Rattle.walrus_types.specs.declared.value.StorageType.{StorageType}
 use Rattle.walrus_types.specs.declared.value.StorageType.TheVariants.{Val, I8, I16}
 use Rattle.walrus_types.specs.declared.value.FieldType.{FieldType}

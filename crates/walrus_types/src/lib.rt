@@ -2,6 +2,7 @@
 #![tactic(auto)]
 
 mod composite;
+mod iter;
 pub mod laws;
 mod local;
 mod names;
@@ -10,6 +11,7 @@ mod table;
 mod value;
 
 pub use composite::{ArrayType, CompositeType, FunctionType, StructType};
+pub use iter::{RecGroups, Types};
 pub use local::{Local, ModuleLocals};
 pub use subtype::{RecGroup, Type};
 pub use table::ModuleTypes;

@@ -2,7 +2,8 @@
 ghost use Rattle.std.specs.Prelude.{◌≡◌, ◌++◌, IfOk, OnOk, OnErr, IsTrue, None, option_copied};
 ghost use Rattle.std.specs.Borrow.{sem};
 ghost use Rattle.walrus_types.specs.Forms.{form_of, function_of, struct_of, array_of, is_function, is_struct, is_array, params_of, results_of};
-ghost use Rattle.walrus_types.specs.Kinds.{kind_of, kind_names, item_of, group_of};
+ghost use Rattle.walrus_types.specs.Kinds.{kind_of, item_of, group_of, has_name, function_kind};
+ghost use Rattle.walrus_types.specs.Same.{same_kind};
 ghost use Rattle.walrus_types.specs.Lends.{lends_kind};
 
 use crate::composite::{ArrayType, CompositeType, FunctionType, StructType};
@@ -130,6 +131,32 @@ impl Type {
         ensures { result ≡ is_array (form_of self.now.kind) }
     {
         self.kind.is_array()
+    }
+
+    // Whether it has this name.
+    pub(crate) fn is_named(&self, name: &str) -> bool
+        ensures { result ≡ has_name name.now (item_of self.now) }
+    {
+        match &self.name {
+            Some(text) => text.as_str() == name,
+            None => false,
+        }
+    }
+
+    // Whether it is the final function type without supertype of just these lists.
+    pub(crate) fn is_function_of(&self, params: &[ValType], results: &[ValType]) -> bool
+        ensures { result ≡ same_kind (kind_of self.now) (function_kind params.now results.now) }
+    {
+        match &self.kind {
+            CompositeType::Function(ty) => {
+                ty.params() == params
+                    && ty.results() == results
+                    && self.is_final
+                    && self.supertype.is_none()
+                    && !self.entry
+            }
+            _ => false,
+        }
     }
 
     /// A type with the same id, kind and name.

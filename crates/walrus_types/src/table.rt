@@ -1,16 +1,18 @@
 //! The type table of a module.
-ghost use Rattle.std.specs.Prelude.{◌≡◌, ◌↔◌, ℕ, true, [], ◌++◌, IfOk, OnOk, OnErr, IsTrue, Some, option_copied, if◌then◌else◌};
+ghost use Rattle.std.specs.Prelude.{◌≡◌, ◌↔◌, ℕ, true, [], ◌++◌, map, IfOk, OnOk, OnErr, IfSome, MatchOption, IsTrue, Some, None, option_copied, if◌then◌else◌};
 ghost use Rattle.std.specs.Option.{option_map};
 ghost use Rattle.std.specs.HashMap.{get, IsUnchanged};
 ghost use Rattle.std.specs.Borrow.{sem};
 ghost use Rattle.walrus_types.specs.Forms.{form_of, params_of, results_of};
-ghost use Rattle.walrus_types.specs.Kinds.{kind_of, item_of, group_of};
-ghost use Rattle.walrus_types.specs.Table.{table_of, type_at, IsLive, IsFunctionType, found_type, named_type, merges, Merges, IsIndex, function_kind, entry_kind};
+ghost use Rattle.walrus_types.specs.Kinds.{kind_of, item_of, group_of, function_kind, entry_kind, struct_kind, array_kind, declared_kind};
+ghost use Rattle.walrus_types.specs.Table.{table_of, type_at, IsLive, IsFunctionType, found_type, named_type, entries, merges, Merges, IsIndex, HasMember};
+ghost use Rattle.walrus_arena.specs.Arena.{entries_from};
 ghost use Rattle.walrus_types.specs.TableLends.{lends_type};
 ghost use Rattle.walrus_types.specs.declared.subtype.Type.{«Type» as TypeItem};
 ghost use Rattle.walrus_types.specs.contracts.subtype.TypePartialEq.TheImpl.{ghosts as type_eq};
 
 use crate::composite::{ArrayType, CompositeType, FunctionType, StructType};
+use crate::iter::{RecGroups, Types};
 use crate::subtype::{RecGroup, Type};
 use crate::value::{FieldType, ValType};
 use std::alloc::{AllocError, Global};
@@ -143,12 +145,7 @@ impl ModuleTypes {
         ensures inserted { IfOk result (λ id. Merges (record { form = form_of kind; final = is_final; supertype = supertype; entry = entry }) id self.old self.new) }
         ensures refused { OnErr result (self.new ≡ self.old) }
     {
-        refresh(
-            self.alloc,
-            &mut self.fresh,
-            &mut self.index,
-            &self.types,
-        )?;
+        refresh(self.alloc, &mut self.fresh, &mut self.index, &self.types)?;
         let id = self.types.next_id();
         let ty = Type::new(id, kind, is_final, supertype, entry);
         if let Some(found) = self.index.get(&ty) {
@@ -163,5 +160,159 @@ impl ModuleTypes {
         let home = self.groups.alloc_reserved(RecGroup::new(false, members));
         self.homes.push_reserved(home);
         Ok(self.types.alloc_reserved(ty))
+    }
+
+    /// The parameters of a live function type.
+    pub fn params(&self, id: TypeId) -> &[ValType]
+        requires { IsFunctionType self.now id }
+        ensures { IfSome (type_at self.now id) (λ item. result.now ≡ params_of item.kind.form) }
+    {
+        self.get(id).params()
+    }
+
+    /// The results of a live function type.
+    pub fn results(&self, id: TypeId) -> &[ValType]
+        requires { IsFunctionType self.now id }
+        ensures { IfSome (type_at self.now id) (λ item. result.now ≡ results_of item.kind.form) }
+    {
+        self.get(id).results()
+    }
+
+    /// The parameters and the results of a live function type.
+    pub fn params_results(&self, id: TypeId) -> (&[ValType], &[ValType])
+        requires { IsFunctionType self.now id }
+        ensures params { IfSome (type_at self.now id) (λ item. result.0.now ≡ params_of item.kind.form) }
+        ensures results { IfSome (type_at self.now id) (λ item. result.1.now ≡ results_of item.kind.form) }
+    {
+        let ty = self.get(id);
+        (ty.params(), ty.results())
+    }
+
+    /// The lowest live type of this name.
+    pub fn by_name(&self, name: &str) -> Option<TypeId>
+        ensures { result ≡ named_type name.now self.now }
+    {
+        for (id, ty) in self.types.iter() {
+            if ty.is_named(name) {
+                return Some(id);
+            }
+        }
+        None
+    }
+
+    /// The latest final function type without supertype of just these parameters and results.
+    pub fn find(&self, params: &[ValType], results: &[ValType]) -> Option<TypeId>
+        ensures { result ≡ found_type params.now results.now self.now }
+    {
+        let mut found = None;
+        for (id, ty) in self.types.iter() {
+            if ty.is_function_of(params, results) {
+                found = Some(id);
+            }
+        }
+        found
+    }
+
+    /// The live types, by rising id.
+    pub fn iter(&self) -> Types<'_>
+        ensures { result ≡ map (λ e. e.1) (entries self.now) }
+    {
+        Types::new(self.types.iter())
+    }
+
+    /// The live groups, by rising id.
+    pub fn rec_groups(&self) -> RecGroups<'_>
+        ensures { result ≡ map (λ e. e.1) (entries_from 0 self.now.groups) }
+    {
+        RecGroups::new(self.groups.iter())
+    }
+
+    /// The group of a live type, or `None` where the type is dead or was never added.
+    pub fn rec_group_for_type(&self, id: TypeId) -> Option<&RecGroup>
+        ensures { MatchOption result (type_at self.now id ≡ None) (λ group. HasMember self.now id (group_of group.now)) }
+    {
+        if !self.types.contains(id) {
+            return None;
+        }
+        self.groups.get(self.homes[id.index()])
+    }
+
+    /// The id of the final function type without supertype of these parameters and results: of the
+    /// latest equal live type, or else of one that is added.
+    ///
+    /// # Errors
+    ///
+    /// Want of memory. The table stays as it was.
+    pub fn add(&mut self, params: &[ValType], results: &[ValType]) -> Result<TypeId, AllocError>
+        ensures added { IfOk result (λ id. Merges (function_kind params.now results.now) id self.old self.new) }
+        ensures refused { OnErr result (self.new ≡ self.old) }
+    {
+        let params = Vec::from_slice(self.alloc, params)?;
+        let results = Vec::from_slice(self.alloc, results)?;
+        let ty = FunctionType::new(params, results);
+        self.insert(CompositeType::Function(ty), true, None, false)
+    }
+
+    /// The id of the type of a body's own block with these results, which is never written.
+    ///
+    /// # Errors
+    ///
+    /// Want of memory. The table stays as it was.
+    pub fn add_entry_ty(&mut self, results: &[ValType]) -> Result<TypeId, AllocError>
+        ensures added { IfOk result (λ id. Merges (entry_kind results.now) id self.old self.new) }
+        ensures refused { OnErr result (self.new ≡ self.old) }
+    {
+        let results = Vec::from_slice(self.alloc, results)?;
+        let ty = FunctionType::new(Vec::new(self.alloc), results);
+        self.insert(CompositeType::Function(ty), true, None, true)
+    }
+
+    /// The id of the final structure type without supertype of these fields: of the latest equal live
+    /// type, or else of one that is added.
+    ///
+    /// # Errors
+    ///
+    /// Want of memory. The table stays as it was.
+    pub fn add_struct(&mut self, fields: Vec<FieldType>) -> Result<TypeId, AllocError>
+        ensures added { IfOk result (λ id. Merges (struct_kind fields.items) id self.old self.new) }
+        ensures refused { OnErr result (self.new ≡ self.old) }
+    {
+        self.insert(
+            CompositeType::Struct(StructType { fields }),
+            true,
+            None,
+            false,
+        )
+    }
+
+    /// The id of the final array type without supertype of this field: of the latest equal live type,
+    /// or else of one that is added.
+    ///
+    /// # Errors
+    ///
+    /// Want of memory. The table stays as it was.
+    pub fn add_array(&mut self, field: FieldType) -> Result<TypeId, AllocError>
+        ensures added { IfOk result (λ id. Merges (array_kind field) id self.old self.new) }
+        ensures refused { OnErr result (self.new ≡ self.old) }
+    {
+        self.insert(CompositeType::Array(ArrayType { field }), true, None, false)
+    }
+
+    /// The id of the type of this form, finality and supertype: of the latest equal live type, or else
+    /// of one that is added.
+    ///
+    /// # Errors
+    ///
+    /// Want of memory. The table stays as it was.
+    pub fn add_composite(
+        &mut self,
+        kind: CompositeType,
+        is_final: bool,
+        supertype: Option<TypeId>,
+    ) -> Result<TypeId, AllocError>
+        ensures added { IfOk result (λ id. Merges (declared_kind (form_of kind) is_final supertype) id self.old self.new) }
+        ensures refused { OnErr result (self.new ≡ self.old) }
+    {
+        self.insert(kind, is_final, supertype, false)
     }
 }

@@ -55,42 +55,52 @@ impl RefType {
         nullable: true,
         heap_type: HeapType::Abstract(AbstractHeapType::Any),
     };
+
     pub const EQREF: RefType = RefType {
         nullable: true,
         heap_type: HeapType::Abstract(AbstractHeapType::Eq),
     };
+
     pub const FUNCREF: RefType = RefType {
         nullable: true,
         heap_type: HeapType::Abstract(AbstractHeapType::Func),
     };
+
     pub const EXTERNREF: RefType = RefType {
         nullable: true,
         heap_type: HeapType::Abstract(AbstractHeapType::Extern),
     };
+
     pub const I31REF: RefType = RefType {
         nullable: true,
         heap_type: HeapType::Abstract(AbstractHeapType::I31),
     };
+
     pub const ARRAYREF: RefType = RefType {
         nullable: true,
         heap_type: HeapType::Abstract(AbstractHeapType::Array),
     };
+
     pub const STRUCTREF: RefType = RefType {
         nullable: true,
         heap_type: HeapType::Abstract(AbstractHeapType::Struct),
     };
+
     pub const EXNREF: RefType = RefType {
         nullable: true,
         heap_type: HeapType::Abstract(AbstractHeapType::Exn),
     };
+
     pub const NULLREF: RefType = RefType {
         nullable: true,
         heap_type: HeapType::Abstract(AbstractHeapType::None),
     };
+
     pub const NULLEXTERNREF: RefType = RefType {
         nullable: true,
         heap_type: HeapType::Abstract(AbstractHeapType::NoExtern),
     };
+
     pub const NULLFUNCREF: RefType = RefType {
         nullable: true,
         heap_type: HeapType::Abstract(AbstractHeapType::NoFunc),

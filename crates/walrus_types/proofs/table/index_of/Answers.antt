@@ -1,7 +1,4 @@
-use Rattle.std.proofs.Common.{◌≡◌, ◌∙◌, ℕ, [], List, ap, sym, map, None}
-use Rattle.std.specs.HashMap.{get}
-use Rattle.walrus_types.specs.declared.subtype.Type.{«Type» as TypeItem}
-use Rattle.walrus_types.specs.contracts.subtype.TypePartialEq.TheImpl.{ghosts as type_eq}
+use Rattle.std.proofs.Common.{◌∙◌, ℕ, List, ap, sym, None}
 use Rattle.walrus_types.specs.Kinds.{Item, kind_of, item_of}
 use Rattle.walrus_types.specs.Table.{latest_in, merges}
 use Rattle.walrus_types.proofs.TableLemmas.{entries_from-map}

@@ -12,5 +12,5 @@ invariant-loop-id l = record {
   can : (goal.iterator-loop-id).can_next l.id-iterator;
   ends : (goal.iterator-loop-id).is_finite l.id-iterator;
   index : (q : TypeItem) → latest_in (merges (kind_of q)) (get type_eq.eq l.index q) (map (λ (e : ℕ × TypeItem). (e.0, item_of e.1)) l.id-iterator)
-    ≡ latest_in (merges (kind_of q)) None (map (λ (e : ℕ × TypeItem). (e.0, item_of e.1)) (entries l.types))
+      ≡ latest_in (merges (kind_of q)) None (map (λ (e : ℕ × TypeItem). (e.0, item_of e.1)) (entries l.types));
 }

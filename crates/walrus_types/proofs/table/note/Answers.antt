@@ -1,4 +1,4 @@
-use Rattle.std.proofs.Common.{◌≡◌, ◌∙◌, ap, sym, cond, Bool, ℕ, Option, Some}
+use Rattle.std.proofs.Common.{◌∙◌, ap, sym, cond, Bool, ℕ, Some}
 use Rattle.std.specs.HashMap.{get}
 use Rattle.walrus_types.specs.contracts.subtype.TypePartialEq.TheImpl.{ghosts as type_eq}
 use Rattle.walrus_types.specs.Kinds.{kind_of, item_of}
