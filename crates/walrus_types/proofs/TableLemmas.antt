@@ -1,5 +1,5 @@
 -- The table over its adds, deletes and writes: groups and index.
-use Rattle.std.proofs.Common.{◌≡◌, ◌∙◌, ℕ, ◌+◌, ◌<◌, Bool, true, false, cond, not, ◌&&◌, ◌==◌, List, [], ◌∷◌, ◌++◌, length, map, Option, Some, None, slice_index, slice_index_or, slice_set, refl, sym, ap, arith, ⊎_elim, length-append, IsSome, Bor, subst}
+use Rattle.std.proofs.Common.{◌≡◌, ◌∙◌, ℕ, ◌+◌, ◌<◌, Bool, true, false, cond, not, ◌&&◌, ◌==◌, List, [], ◌∷◌, ◌++◌, length, map, Contains, Option, Some, None, slice_index, slice_index_or, slice_set, refl, sym, ap, arith, ⊎_elim, length-append, IsSome, Bor, subst}
 use Rattle.std.specs.Option.{option_map, option_copied, MatchOption}
 use Rattle.std.specs.List.{list_any}
 use Rattle.std.proofs.lemmas.Bool.{cases_eq, and_right}
@@ -38,8 +38,8 @@ pub grouped-nil : IsGrouped [] [] []
 grouped-nil = record {
   sized = refl;
   listed = λ id item at. absurd cc;
-  member = λ group g at k less. absurd cc;
-  once = λ group g at j k less within. absurd cc;
+  member = λ group g at id in_it. absurd cc;
+  once = λ group g at. absurd cc;
 }
 
 -- a type is written over a live one
@@ -56,17 +56,24 @@ grouped-written types groups homes id old new g live =
           g.listed other old there)
           (λ apart. g.listed other item (sym (at-other types (Some new) id other apart) ∙ at))
           (cases_eq other id);
-      member = λ group h at k less.
-          let m = g.member group h at k less in
+      member = λ group h at other in_it.
+          let m = g.member group h at other in_it in
           ⊎_elim
           (λ same.
-          let here : slice_index_or (slice_set types id (Some new)) (slice_index h.types k) None ≡ Some new =
+          let here : slice_index_or (slice_set types id (Some new)) other None ≡ Some new =
           ap (λ (i : ℕ). slice_index_or (slice_set types id (Some new)) i None) same ∙ get_or-set_same types id (Some new) None within in
           (new, here, m.2))
-          (λ apart. (m.0, at-other types (Some new) id (slice_index h.types k) apart ∙ m.1, m.2))
-          (cases_eq (slice_index h.types k) id);
+          (λ apart. (m.0, at-other types (Some new) id other apart ∙ m.1, m.2))
+          (cases_eq other id);
       once = g.once;
     }
+
+-- a list of one has that one alone
+only-member : (xs : List ℕ) (id other : ℕ) → xs ≡ id ∷ [] → Contains xs other → other ≡ id
+only-member xs id other is (k, less, at) =
+    let few : k < 1 = let n : length xs ≡ 1 = ap (λ (ys : List ℕ). length ys) is in omega arith in
+    let zeroth : k ≡ 0 = omega arith in
+    sym at ∙ ap (λ (ys : List ℕ). slice_index_or ys k other) is ∙ ap (λ (i : ℕ). slice_index_or (id ∷ []) i other) zeroth
 
 -- one more type, in a group of its own
 pub grouped-added : (types : List (Option Item)) (groups : List (Option Group)) (homes : List ℕ) (id home : ℕ) (item : Item) (explicit : Bool)
@@ -91,26 +98,23 @@ grouped-added types groups homes id home item explicit g is_id is_home =
           ap (λ (i : ℕ). slice_index_or (groups ++ Some alone ∷ []) i None) this_home ∙ at-last groups (Some alone) home is_home in
           (alone, at_home, (0, omega arith, sym is_id ∙ sym last.0)))
           (at-push types item x other at);
-      member = λ group h at k less. ⊎_elim
+      member = λ group h at other in_it. ⊎_elim
           (λ old.
-          let m = g.member group h old k less in
-          let within = live-within types (slice_index h.types k) m.0 m.1 in
-          let same_home : slice_index (homes ++ home ∷ []) (slice_index h.types k) ≡ slice_index homes (slice_index h.types k) =
-          get_or_append_left homes (home ∷ []) 0 (slice_index h.types k) (omega (arith, g.sized)) in
-          (m.0, at-kept types (Some item) (slice_index h.types k) within ∙ m.1, same_home ∙ m.2))
+          let m = g.member group h old other in_it in
+          let within = live-within types other m.0 m.1 in
+          let same_home : slice_index (homes ++ home ∷ []) other ≡ slice_index homes other =
+          get_or_append_left homes (home ∷ []) 0 other (omega (arith, g.sized)) in
+          (m.0, at-kept types (Some item) other within ∙ m.1, same_home ∙ m.2))
           (λ last.
-          let members : h.types ≡ id ∷ [] = ap (λ (x : Group). x.types) last.1 in
-          let few : k < 1 = let n : length h.types ≡ 1 = ap (λ (xs : List ℕ). length xs) members in omega arith in
-          let is_zero : k ≡ 0 = omega arith in
-          let this : slice_index h.types k ≡ id = ap (λ (xs : List ℕ). slice_index xs k) members ∙ ap (λ (i : ℕ). slice_index (id ∷ []) i) is_zero in
-          let here : slice_index_or (types ++ Some item ∷ []) (slice_index h.types k) None ≡ Some item =
+          let this : other ≡ id = only-member h.types id other (ap (λ (x : Group). x.types) last.1) in_it in
+          let here : slice_index_or (types ++ Some item ∷ []) other None ≡ Some item =
           ap (λ (i : ℕ). slice_index_or (types ++ Some item ∷ []) i None) this ∙ at-last types (Some item) id is_id in
-          let this_home : slice_index (homes ++ home ∷ []) (slice_index h.types k) ≡ home = get_or_push homes home 0 (slice_index h.types k) (g.sized ∙ is_id ∙ sym this) in
+          let this_home : slice_index (homes ++ home ∷ []) other ≡ home = get_or_push homes home 0 other (g.sized ∙ is_id ∙ sym this) in
           (item, here, this_home ∙ sym is_home ∙ sym last.0))
           (at-push groups alone h group at);
-      once = λ group h at j k less within. ⊎_elim
-          (λ old. g.once group h old j k less within)
-          (λ last.
+      once = λ group h at. ⊎_elim
+          (λ old. g.once group h old)
+          (λ last. λ i j d less within.
           let n : length h.types ≡ 1 = ap (λ (x : Group). length x.types) last.1 in
           absurd (omega arith))
           (at-push groups alone h group at);

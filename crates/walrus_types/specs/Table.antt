@@ -1,7 +1,7 @@
 -- What a contract sees of a type table: the types and the groups by id, live or dead.
-use Rattle.std.specs.Prelude.{◌≡◌, ◌≢◌, ℕ, ◌<◌, Bool, true, false, not, ◌&&◌, ◌==◌, List, [], ◌∷◌, ◌++◌, length, map, find, Contains, Option, Some, None, IsSome, IsTrue, MatchOption, slice_index, slice_index_or, if◌then◌else◌}
+use Rattle.std.specs.Prelude.{◌≡◌, ◌≢◌, ℕ, Bool, true, false, not, ◌&&◌, ◌==◌, List, [], ◌∷◌, ◌++◌, length, map, filter, find, Contains, AllPairs, Option, Some, None, IsSome, IsTrue, MatchOption, slice_index, slice_index_or, slice_set, if◌then◌else◌}
 use Rattle.std.specs.List.{list_any}
-use Rattle.std.specs.Option.{option_map}
+use Rattle.std.specs.Option.{option_map, option_map_or}
 use Rattle.walrus_arena.specs.Arena.{entries_from}
 use Rattle.walrus_types.specs.declared.value.ValType.{ValType}
 use Rattle.walrus_types.specs.declared.subtype.Type.{«Type» as TypeItem}
@@ -88,6 +88,38 @@ pub record Adds (kind : Kind) (id : ℕ) (old new : Table) : Type 0 where
 abbrev pub Merges : Kind → ℕ → Table → Table → Type 0
 Merges kind id old new = MatchOption (equal_type kind old) (Adds kind id old new) (λ found. (id ≡ found) × (new ≡ old))
 
+-- a group after a member is deleted: an emptied group goes
+abbrev pub nonempty_group : Bool → List ℕ → Option Group
+nonempty_group explicit [] = None
+nonempty_group explicit (id ∷ ids) = Some (record { explicit = explicit; types = id ∷ ids })
+
+abbrev pub without_member : ℕ → Group → Option Group
+without_member id group = nonempty_group group.explicit (filter (λ member. not (member == id)) group.types)
+
+-- the type is gone, from its group too
+pub record Deletes (id : ℕ) (old new : Table) : Type 0 where
+  pub types : new.types ≡ slice_set old.types id None
+  pub groups : (place : ℕ) (group : Group) → group_at old place ≡ Some group → Contains group.types id
+      → new.groups ≡ slice_set old.groups place (without_member id group)
+
+-- the types after those of these ids are deleted
+abbrev pub clear_all : List ℕ → List (Option Item) → List (Option Item)
+clear_all [] types = types
+clear_all (id ∷ ids) types = clear_all ids (slice_set types id None)
+
+-- the group of the type is gone, with all its members
+abbrev pub DeletesGroup : ℕ → Table → Table → Type 0
+DeletesGroup id old new = (place : ℕ) (group : Group) → group_at old place ≡ Some group → Contains group.types id
+    → new ≡ record { types = clear_all group.types old.types; groups = slice_set old.groups place None }
+
+-- whether the type of that id, if it lives, names this one
+abbrev pub is_named_at : Table → ℕ → ℕ → Bool
+is_named_at t id other = option_map_or (λ item. list_any (λ name. name == id) (kind_names item.kind)) (type_at t other) false
+
+-- whether another member of the type's group names it
+abbrev pub is_named_in : Table → ℕ → Group → Bool
+is_named_in t id group = list_any (λ other. not (other == id) && is_named_at t id other) group.types
+
 -- the look-up finds for each type the one that stands for it
 abbrev pub IsIndex : (TypeItem → Option ℕ) → List (Option Item) → Type 0
 IsIndex lookup types = (q : TypeItem) → lookup q ≡ latest_in (merges (kind_of q)) None (entries_from 0 types)
@@ -97,10 +129,9 @@ pub record IsGrouped (types : List (Option Item)) (groups : List (Option Group))
   pub sized : length homes ≡ length types
   pub listed : (id : ℕ) (item : Item) → slice_index_or types id None ≡ Some item
       → (g : Group) × (slice_index_or groups (slice_index homes id) None ≡ Some g) × Contains g.types id
-  pub member : (group : ℕ) (g : Group) → slice_index_or groups group None ≡ Some g → (k : ℕ) → k < length g.types
-      → (item : Item) × (slice_index_or types (slice_index g.types k) None ≡ Some item) × (slice_index homes (slice_index g.types k) ≡ group)
-  pub once : (group : ℕ) (g : Group) → slice_index_or groups group None ≡ Some g → (j k : ℕ) → j < k → k < length g.types
-      → slice_index g.types j ≢ slice_index g.types k
+  pub member : (group : ℕ) (g : Group) → slice_index_or groups group None ≡ Some g → (id : ℕ) → Contains g.types id
+      → (item : Item) × (slice_index_or types id None ≡ Some item) × (slice_index homes id ≡ group)
+  pub once : (group : ℕ) (g : Group) → slice_index_or groups group None ≡ Some g → AllPairs (λ x y. x ≢ y) g.types
 
 -- what holds of every table: types are grouped, and while the index is fresh it finds equal types
 pub record IsSound (fresh : Bool) (lookup : TypeItem → Option ℕ) (t : Table) (homes : List ℕ) : Type 0 where

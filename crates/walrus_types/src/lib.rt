@@ -2,6 +2,7 @@
 #![tactic(auto)]
 
 mod composite;
+mod delete;
 mod iter;
 pub mod laws;
 mod local;

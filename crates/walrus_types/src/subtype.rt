@@ -1,5 +1,5 @@
 //! Types as they stand in a table, and recursion groups (Core Specification, recursive types).
-ghost use Rattle.std.specs.Prelude.{◌≡◌, ◌++◌, IfOk, OnOk, OnErr, IsTrue, None, option_copied};
+ghost use Rattle.std.specs.Prelude.{◌≡◌, ◌==◌, not, filter, ◌++◌, IfOk, OnOk, OnErr, IsTrue, None, option_copied};
 ghost use Rattle.std.specs.Borrow.{sem};
 ghost use Rattle.walrus_types.specs.Forms.{form_of, function_of, struct_of, array_of, is_function, is_struct, is_array, params_of, results_of};
 ghost use Rattle.walrus_types.specs.Kinds.{kind_of, item_of, group_of, has_name, function_kind};
@@ -201,6 +201,14 @@ impl RecGroup {
         ensures { result ≡ self.now.explicit }
     {
         self.explicit
+    }
+
+    // Takes the type out of its members.
+    pub(crate) fn remove(&mut self, id: TypeId)
+        ensures members { self.new.types.items ≡ filter (λ member. not (member == id)) self.old.types.items }
+        ensures explicit { self.new.explicit ≡ self.old.explicit }
+    {
+        self.types.retain(|member| member.index() != id.index());
     }
 
     /// An equal group.
