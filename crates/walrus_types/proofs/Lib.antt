@@ -1,3 +1,4 @@
+pub mod DeleteLemmas
 pub mod ListLemmas
 pub mod SameLemmas
 pub mod TableLemmas

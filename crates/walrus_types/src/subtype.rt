@@ -1,5 +1,5 @@
 //! Types as they stand in a table, and recursion groups (Core Specification, recursive types).
-ghost use Rattle.std.specs.Prelude.{◌≡◌, ◌==◌, not, filter, ◌++◌, IfOk, OnOk, OnErr, IsTrue, None, option_copied};
+ghost use Rattle.std.specs.Prelude.{◌≡◌, ◌==◌, ◌↔◌, [], not, filter, ◌++◌, IfOk, OnOk, OnErr, IsTrue, None, option_copied};
 ghost use Rattle.std.specs.Borrow.{sem};
 ghost use Rattle.walrus_types.specs.Forms.{form_of, function_of, struct_of, array_of, is_function, is_struct, is_array, params_of, results_of};
 ghost use Rattle.walrus_types.specs.Kinds.{kind_of, item_of, group_of, has_name, function_kind};
@@ -209,6 +209,13 @@ impl RecGroup {
         ensures explicit { self.new.explicit ≡ self.old.explicit }
     {
         self.types.retain(|member| member.index() != id.index());
+    }
+
+    // Whether it has no member.
+    pub(crate) fn is_empty(&self) -> bool
+        ensures { IsTrue result ↔ (self.now.types.items ≡ []) }
+    {
+        self.types.is_empty()
     }
 
     /// An equal group.

@@ -1,23 +1,26 @@
 //! The type table of a module.
-ghost use Rattle.std.specs.Prelude.{◌≡◌, ◌↔◌, ℕ, true, [], ◌++◌, map, IfOk, OnOk, OnErr, IfSome, MatchOption, IsTrue, Some, None, option_copied, if◌then◌else◌};
+ghost use Rattle.std.specs.Prelude.{◌≡◌, ◌↔◌, ℕ, true, not, Contains, [], ◌++◌, map, IfOk, OnOk, OnErr, IfSome, MatchOption, IsTrue, Some, None, option_copied, if◌then◌else◌};
 ghost use Rattle.std.specs.Option.{option_map};
+ghost use Rattle.std.specs.Bool.{OnTrue, OnFalse};
 ghost use Rattle.std.specs.HashMap.{get, IsUnchanged};
 ghost use Rattle.std.specs.Borrow.{sem};
 ghost use Rattle.walrus_types.specs.Forms.{form_of, params_of, results_of};
-ghost use Rattle.walrus_types.specs.Kinds.{kind_of, item_of, group_of, function_kind, entry_kind, struct_kind, array_kind, declared_kind};
-ghost use Rattle.walrus_types.specs.Table.{table_of, type_at, IsLive, IsFunctionType, found_type, named_type, entries, merges, Merges, IsIndex, HasMember};
+ghost use Rattle.walrus_types.specs.Kinds.{Group, kind_of, item_of, group_of, function_kind, entry_kind, struct_kind, array_kind, declared_kind};
+ghost use Rattle.walrus_types.specs.Table.{table_of, type_at, IsLive, IsFunctionType, found_type, named_type, entries, merges, Merges, IsIndex, HasMember, Deletes, DeletesGroup, group_at, is_named_in};
 ghost use Rattle.walrus_arena.specs.Arena.{entries_from};
 ghost use Rattle.walrus_types.specs.TableLends.{lends_type};
 ghost use Rattle.walrus_types.specs.declared.subtype.Type.{«Type» as TypeItem};
 ghost use Rattle.walrus_types.specs.contracts.subtype.TypePartialEq.TheImpl.{ghosts as type_eq};
 
 use crate::composite::{ArrayType, CompositeType, FunctionType, StructType};
+use crate::delete::{clear_types, home_of, leave_group, members_name};
 use crate::iter::{RecGroups, Types};
 use crate::subtype::{RecGroup, Type};
 use crate::value::{FieldType, ValType};
 use std::alloc::{AllocError, Global};
 use std::collections::HashMap;
 use std::marker::Model;
+use std::mem;
 use walrus_arena::{RecGroupId, RecGroupSpace, TombstoneArena, TypeId, TypeSpace};
 
 /// The types of a module by id, each in one recursion group.
@@ -132,6 +135,57 @@ impl ModuleTypes {
     {
         self.fresh = false;
         &mut self.types[id]
+    }
+
+    /// Deletes a live type. Its group keeps the other members, and goes where there is none.
+    pub fn delete(&mut self, id: TypeId)
+        requires { IsLive self.old id }
+        ensures { Deletes id self.old self.new }
+    {
+        let home = home_of(self.homes.as_slice(), id);
+        self.fresh = false;
+        leave_group(&mut self.groups, home, id);
+        self.types.delete(id);
+    }
+
+    /// Deletes a live type unless another member of its group names it. Answers whether it was deleted;
+    /// where not, nothing changes.
+    pub fn try_delete(&mut self, id: TypeId) -> bool
+        requires { IsLive self.old id }
+        ensures named { (place : ℕ) (group : Group) → group_at self.old place ≡ Some group → Contains group.types id
+            → result ≡ not (is_named_in self.old id group) }
+        ensures kept { OnFalse result (self.new ≡ self.old) }
+        ensures deleted { OnTrue result (Deletes id self.old self.new) }
+    {
+        if self.is_named_by_sibling(id) {
+            return false;
+        }
+        self.delete(id);
+        true
+    }
+
+    // Whether another member of the type's group names it.
+    fn is_named_by_sibling(&self, id: TypeId) -> bool
+        ensures { (place : ℕ) (group : Group) → group_at self.now place ≡ Some group → Contains group.types id
+            → result ≡ is_named_in self.now id group }
+    {
+        match self.rec_group_for_type(id) {
+            Some(group) => members_name(&self.types, group, id),
+            None => false,
+        }
+    }
+
+    /// Deletes the group of a live type with all its members.
+    pub fn delete_entire_group(&mut self, id: TypeId)
+        requires { IsLive self.old id }
+        ensures { DeletesGroup id self.old self.new }
+    {
+        let home = home_of(self.homes.as_slice(), id);
+        let group = &mut self.groups[home];
+        let members = mem::replace(&mut group.types, Vec::new(self.alloc));
+        self.fresh = false;
+        clear_types(&mut self.types, members.as_slice());
+        self.groups.delete(home);
     }
 
     // The id of the type that stands for one of this kind, which is added where there is none.
