@@ -55,18 +55,18 @@ latest_id test t = latest_in test None (entries t)
 abbrev pub found_type : List ValType → List ValType → Table → Option ℕ
 found_type params results t = latest_id (λ e. same_kind e.1.kind (function_kind params results)) t
 
--- whether a type names itself
-abbrev pub names_itself : ℕ × Item → Bool
-names_itself e = list_any (λ name. name == e.0) (kind_names e.1.kind)
+-- whether a type of this kind and id names itself
+abbrev pub names_itself : ℕ → Kind → Bool
+names_itself id kind = list_any (λ name. name == id) (kind_names kind)
 
 -- whether a new type of this kind stands for that type: the kinds are equal, and a type that names
 -- itself equals no other
 abbrev pub merges : Kind → ℕ × Item → Bool
-merges kind e = same_kind e.1.kind kind && not (names_itself e)
+merges kind e = same_kind e.1.kind kind && not (names_itself e.0 e.1.kind)
 
--- the type that stands for a new type of this kind
+-- the type that stands for a new type of this kind: the latest equal one
 abbrev pub equal_type : Kind → Table → Option ℕ
-equal_type kind t = latest_id (merges kind) t
+equal_type kind t = if names_itself (next_id t) kind then None else latest_id (merges kind) t
 
 -- the lowest live type of this name
 abbrev pub named_type : List ℕ → Table → Option ℕ

@@ -6,7 +6,7 @@ ghost use Rattle.std.specs.HashMap.{get, IsUnchanged};
 ghost use Rattle.std.specs.Borrow.{sem};
 ghost use Rattle.walrus_types.specs.Forms.{form_of, params_of, results_of};
 ghost use Rattle.walrus_types.specs.Kinds.{Group, kind_of, item_of, group_of, function_kind, entry_kind, struct_kind, array_kind, declared_kind};
-ghost use Rattle.walrus_types.specs.Table.{table_of, type_at, IsLive, IsFunctionType, found_type, named_type, entries, merges, Merges, IsIndex, HasMember, Deletes, DeletesGroup, group_at, is_named_in};
+ghost use Rattle.walrus_types.specs.Table.{table_of, type_at, IsLive, IsFunctionType, found_type, named_type, entries, names_itself, merges, Merges, IsIndex, HasMember, Deletes, DeletesGroup, group_at, is_named_in};
 ghost use Rattle.walrus_arena.specs.Arena.{entries_from};
 ghost use Rattle.walrus_types.specs.TableLends.{lends_type};
 ghost use Rattle.walrus_types.specs.declared.subtype.Type.{«Type» as TypeItem};
@@ -63,6 +63,16 @@ fn note(index: &mut HashMap<Type, usize>, ty: &Type, id: TypeId) -> Result<(), A
     }
     index.insert(ty.clone()?, id.index())?;
     Ok(())
+}
+
+// The id of the type that stands for this one, which is to have the id `id`.
+fn look_up(index: &HashMap<Type, usize>, ty: &Type, id: TypeId) -> Option<usize>
+    ensures { result ≡ (if names_itself id (kind_of ty.now) then None else get type_eq.eq index.now ty.now) }
+{
+    if ty.names(id) {
+        return None;
+    }
+    index.get(ty).copied()
 }
 
 // The latest live type of each kind, those that name themselves aside.
@@ -202,8 +212,8 @@ impl ModuleTypes {
         refresh(self.alloc, &mut self.fresh, &mut self.index, &self.types)?;
         let id = self.types.next_id();
         let ty = Type::new(id, kind, is_final, supertype, entry);
-        if let Some(found) = self.index.get(&ty) {
-            return Ok(TypeId::from_index(*found));
+        if let Some(found) = look_up(&self.index, &ty, id) {
+            return Ok(TypeId::from_index(found));
         }
         let mut members = Vec::new(self.alloc);
         members.push(id)?;
