@@ -1,4 +1,5 @@
 pub mod DeleteLemmas
+pub mod GroupLemmas
 pub mod ListLemmas
 pub mod SameLemmas
 pub mod TableLemmas

@@ -1,4 +1,5 @@
 pub mod Forms
+pub mod Groups
 pub mod Kinds
 pub mod Lends
 pub mod LocalLends

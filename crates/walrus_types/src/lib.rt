@@ -3,6 +3,8 @@
 
 mod composite;
 mod delete;
+mod error;
+mod group;
 mod iter;
 pub mod laws;
 mod local;
@@ -12,6 +14,8 @@ mod table;
 mod value;
 
 pub use composite::{ArrayType, CompositeType, FunctionType, StructType};
+pub use error::IrError;
+pub use group::NewType;
 pub use iter::{RecGroups, Types};
 pub use local::{Local, ModuleLocals};
 pub use subtype::{RecGroup, Type};

@@ -1,0 +1,26 @@
+-- New recursion groups.
+use Rattle.std.specs.Prelude.{ℕ, ◌+◌, ◌≡◌, Bool, true, List, [], ◌∷◌, ◌++◌, length, Option, Some, None}
+use Rattle.std.specs.List.{range_with_len}
+use Rattle.walrus_types.specs.declared.group.NewType.{NewType}
+use Rattle.walrus_types.specs.Forms.{form_of}
+use Rattle.walrus_types.specs.Kinds.{Kind, Item, Group, declared_kind}
+use Rattle.walrus_types.specs.Table.{Table, next_id}
+
+-- the kind of a new member
+abbrev pub member_kind : NewType → Kind
+member_kind member = declared_kind (form_of member.kind) member.is_final member.supertype
+
+-- the types of new members, the first of which has this id
+abbrev pub member_items : ℕ → List NewType → List (Option Item)
+member_items id [] = []
+member_items id (member ∷ members) = Some (record { id = id; kind = member_kind member; name = None }) ∷ member_items (id + 1) members
+
+-- the slot of a new group: an empty group takes none
+abbrev pub group_slot : List ℕ → List (Option Group)
+group_slot [] = []
+group_slot (id ∷ ids) = Some (record { explicit = true; types = id ∷ ids }) ∷ []
+
+-- the table has these new types, under the next ids, in an explicit group of their own
+pub record AddsGroup (members : List NewType) (old new : Table) : Type 0 where
+  pub types : new.types ≡ old.types ++ member_items (next_id old) members
+  pub groups : new.groups ≡ old.groups ++ group_slot (range_with_len (next_id old) (length members))
