@@ -1,7 +1,10 @@
 -- New recursion groups.
-use Rattle.std.specs.Prelude.{ℕ, ◌+◌, ◌≡◌, Bool, true, List, [], ◌∷◌, ◌++◌, length, Option, Some, None}
+use Rattle.std.specs.Prelude.{ℕ, ◌+◌, ◌≡◌, ◌≢◌, ◌⊎◌, ⊤, Vec, Result, Ok, Err, Bool, true, List, [], ◌∷◌, ◌++◌, length, Option, Some, None}
 use Rattle.std.specs.List.{range_with_len}
 use Rattle.walrus_types.specs.declared.group.NewType.{NewType}
+use Rattle.std.specs.declared.alloc.Global.{Global}
+use Rattle.walrus_types.specs.declared.error.IrError.{IrError}
+use Rattle.walrus_types.specs.declared.error.IrError.TheVariants.{Memory, WrongCount}
 use Rattle.walrus_types.specs.Forms.{form_of}
 use Rattle.walrus_types.specs.Kinds.{Kind, Item, Group, declared_kind}
 use Rattle.walrus_types.specs.Table.{Table, next_id}
@@ -24,3 +27,16 @@ group_slot (id ∷ ids) = Some (record { explicit = true; types = id ∷ ids }) 
 pub record AddsGroup (members : List NewType) (old new : Table) : Type 0 where
   pub types : new.types ≡ old.types ++ member_items (next_id old) members
   pub groups : new.groups ≡ old.groups ++ group_slot (range_with_len (next_id old) (length members))
+
+-- the closure made so many members, and the table has them
+pub record IsBuilt (returns : Result (Vec NewType Global) IrError → Type 0) (count : ℕ) (old new : Table) : Type 0 where
+  pub members : Vec NewType Global
+  pub returned : returns (Ok members)
+  pub counted : length members.items ≡ count
+  pub added : AddsGroup members.items old new
+
+-- why no group was added: a count that differs, or what the closure answered
+abbrev pub IsCause : (Result (Vec NewType Global) IrError → Type 0) → ℕ → IrError → Type 0
+IsCause returns count Memory = ⊤
+IsCause returns count WrongCount =
+    returns (Err WrongCount) ⊎ ((members : Vec NewType Global) × returns (Ok members) × (length members.items ≢ count))

@@ -1,19 +1,24 @@
 //! The type table of a module.
-ghost use Rattle.std.specs.Prelude.{◌≡◌, ◌↔◌, ℕ, true, not, Contains, [], ◌++◌, map, IfOk, OnOk, OnErr, IfSome, MatchOption, IsTrue, Some, None, option_copied, if◌then◌else◌};
+ghost use Rattle.std.specs.Prelude.{◌≡◌, ◌↔◌, ◌+◌, ◌<◌, ◌^◌, length, ℕ, true, not, Contains, [], ◌++◌, map, IfOk, IfErr, OnOk, OnErr, IfSome, MatchOption, IsTrue, Some, None, option_copied, if◌then◌else◌};
 ghost use Rattle.std.specs.Option.{option_map};
 ghost use Rattle.std.specs.Bool.{OnTrue, OnFalse};
 ghost use Rattle.std.specs.HashMap.{get, IsUnchanged};
 ghost use Rattle.std.specs.Borrow.{sem};
 ghost use Rattle.walrus_types.specs.Forms.{form_of, params_of, results_of};
 ghost use Rattle.walrus_types.specs.Kinds.{Group, kind_of, item_of, group_of, function_kind, entry_kind, struct_kind, array_kind, declared_kind};
-ghost use Rattle.walrus_types.specs.Table.{table_of, type_at, IsLive, IsFunctionType, found_type, named_type, entries, names_itself, merges, Merges, IsIndex, HasMember, Deletes, DeletesGroup, group_at, is_named_in};
+ghost use Rattle.walrus_types.specs.Table.{table_of, next_id, type_at, IsLive, IsFunctionType, found_type, named_type, entries, names_itself, merges, Merges, IsIndex, HasMember, Deletes, DeletesGroup, group_at, is_named_in};
 ghost use Rattle.walrus_arena.specs.Arena.{entries_from};
+ghost use Rattle.std.specs.Fn.{FnOnceTakesAt, FnOnceReturnsAt};
+ghost use Rattle.std.specs.List.{range_with_len};
+ghost use Rattle.walrus_types.specs.Groups.{AddsGroup, IsBuilt, IsCause};
 ghost use Rattle.walrus_types.specs.TableLends.{lends_type};
 ghost use Rattle.walrus_types.specs.declared.subtype.Type.{«Type» as TypeItem};
 ghost use Rattle.walrus_types.specs.contracts.subtype.TypePartialEq.TheImpl.{ghosts as type_eq};
 
 use crate::composite::{ArrayType, CompositeType, FunctionType, StructType};
 use crate::delete::{clear_types, home_of, leave_group, members_name};
+use crate::error::IrError;
+use crate::group::{NewType, ids_from, note_all, push_types, types_of};
 use crate::iter::{RecGroups, Types};
 use crate::subtype::{RecGroup, Type};
 use crate::value::{FieldType, ValType};
@@ -378,5 +383,60 @@ impl ModuleTypes {
         ensures refused { OnErr result (self.new ≡ self.old) }
     {
         self.insert(kind, is_final, supertype, false)
+    }
+
+    /// Adds an explicit recursion group of `count` types, which `build` makes of their ids, and gives
+    /// the ids. No group is added for no types. Members of explicit groups stand for themselves.
+    ///
+    /// # Errors
+    ///
+    /// `WrongCount` where `build` made another count of types, `Memory` for want of memory, and what
+    /// `build` answered. The table stays as it was.
+    pub fn add_rec_group<F: FnOnce(&[TypeId]) -> Result<Vec<NewType>, IrError> + Drop>(
+        &mut self,
+        count: usize,
+        build: F,
+    ) -> Result<Vec<TypeId>, IrError>
+        requires { FnOnceTakesAt F.FnOnce build (range_with_len (next_id self.old) count) }
+        ensures ids { IfOk result (λ ids. ids.items ≡ range_with_len (next_id self.old) count) }
+        ensures added { OnOk result (IsBuilt (FnOnceReturnsAt F.FnOnce build (range_with_len (next_id self.old) count)) count self.old self.new) }
+        ensures cause { IfErr result (IsCause (FnOnceReturnsAt F.FnOnce build (range_with_len (next_id self.old) count)) count) }
+        ensures refused { OnErr result (self.new ≡ self.old) }
+    {
+        let first = self.types.next_id();
+        if count > usize::MAX - first.index() {
+            return Err(IrError::Memory);
+        }
+        let ids = ids_from(self.alloc, first, count)?;
+        let members = build(ids.as_slice())?;
+        if members.len() != count {
+            return Err(IrError::WrongCount);
+        }
+        self.append_group(members)?;
+        Ok(ids)
+    }
+
+    // Adds an explicit group of these types. Asks that their ids fit.
+    fn append_group(&mut self, members: Vec<NewType>) -> Result<(), AllocError>
+        requires { next_id self.old + length members.items < 2 ^ 64 }
+        ensures added { OnOk result (AddsGroup members.items self.old self.new) }
+        ensures refused { OnErr result (self.new ≡ self.old) }
+    {
+        let count = members.len();
+        if count == 0 {
+            return Ok(());
+        }
+        let first = self.types.next_id();
+        let ids = ids_from(self.alloc, first, count)?;
+        let types = types_of(self.alloc, first, members)?;
+        self.types.reserve(count)?;
+        self.homes.reserve(count)?;
+        self.groups.reserve(1)?;
+        let fresh = mem::replace(&mut self.fresh, false);
+        note_all(&mut self.index, types.as_slice())?;
+        let home = self.groups.alloc_reserved(RecGroup::new(true, ids));
+        push_types(&mut self.types, &mut self.homes, types, home);
+        self.fresh = fresh;
+        Ok(())
     }
 }
