@@ -1,7 +1,7 @@
 //! The refusals of a type table.
 ghost use Rattle.std.specs.Prelude.{◌≡◌};
 
-use std::alloc::AllocError;
+use std::alloc::{AllocError, AllocFailed};
 use thiserror::Error;
 
 /// Why a call on a type table was refused.
@@ -21,6 +21,16 @@ impl From<AllocError> for IrError {
     ghost from_gives = { λ _ e. e ≡ Memory };
 
     fn from(_refused: AllocError) -> IrError {
+        IrError::Memory
+    }
+}
+
+impl<T: Drop> From<AllocFailed<T>> for IrError {
+    ghost use Rattle.walrus_types.specs.declared.error.IrError.TheVariants.{Memory};
+
+    ghost from_gives = { λ _ e. e ≡ Memory };
+
+    fn from(_refused: AllocFailed<T>) -> IrError {
         IrError::Memory
     }
 }
