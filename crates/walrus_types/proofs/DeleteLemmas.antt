@@ -1,15 +1,15 @@
 -- The table over its deletes.
-use Rattle.std.proofs.Common.{◌≡◌, ◌≢◌, ◌∙◌, ℕ, zero, suc, ◌+◌, ◌<◌, Bool, true, false, cond, not, ◌==◌, List, [], ◌∷◌, length, map, filter, take, ◌++◌, add-one, Contains, AllPairs, Option, Some, None, slice_index, slice_index_or, slice_set, refl, sym, ap, arith, ◌⊎◌, inl, inr, ⊎_elim, subst, IsSome}
+use Rattle.std.proofs.Common.{◌≡◌, ◌≢◌, ◌∙◌, ℕ, zero, suc, ◌+◌, ◌<◌, Bool, true, false, not, ◌==◌, List, [], ◌∷◌, length, map, filter, take, ◌++◌, add-one, Contains, AllPairs, Option, Some, None, slice_index, slice_index_or, slice_set, refl, sym, ap, arith, ◌⊎◌, inl, inr, ⊎_elim, subst, IsSome}
 use Rattle.std.specs.Option.{option_map}
-use Rattle.std.proofs.lemmas.Bool.{cases_Bool, cases_eq, eqb-true, eqb-false, ne_eqb, not-true}
-use Rattle.std.proofs.lemmas.List.{get_or-set_same, get_or-set_other, length-set, map-set}
+use Rattle.std.proofs.lemmas.Bool.{cases_Bool, cases_eq, eqb-false, ne_eqb, not-true}
+use Rattle.std.proofs.lemmas.List.{get_or-set_same, length-set, map-set}
 use Rattle.std.proofs.Math.Seq.{take-suc}
 use Rattle.std.proofs.lemmas.List.Kept.{AllPairs-filter}
 use Rattle.walrus_arena.proofs.ArenaLemmas.{live-within, at-other, at-deleted}
 use Rattle.walrus_types.specs.declared.subtype.RecGroup.{RecGroup}
 use Rattle.walrus_types.specs.Kinds.{Item, Group, item_of, group_of}
 use Rattle.walrus_types.specs.declared.subtype.Type.{«Type» as TypeItem}
-use Rattle.walrus_types.specs.Table.{Table, IsGrouped, HasMember, Deletes, DeletesGroup, table_of, group_at, type_at, is_named_in, nonempty_group, without_member, clear_all}
+use Rattle.walrus_types.specs.Table.{Table, IsGrouped, HasMember, Deletes, DeletesGroup, table_of, group_at, type_at, nonempty_group, without_member, clear_all}
 use Rattle.walrus_types.proofs.TableLemmas.{at-map, held}
 
 -- a group with a member is no empty one
@@ -50,14 +50,14 @@ contains-filter p [] x (k, less, at) = absurd (omega arith)
 contains-filter p (y ∷ ys) x in_it =
     ⊎_elim
     (λ passes.
-      let kept = subst (λ (zs : List ℕ). Contains zs x) (filter-keeps p y ys passes) in_it in
-      ⊎_elim
-      (λ is. (cons-here y ys x is, ap p (sym is) ∙ passes))
-      (λ later. let h = contains-filter p ys x later in (cons-later y ys x h.0, h.1))
-      (cons-cases y (filter p ys) x kept))
+    let kept = subst (λ (zs : List ℕ). Contains zs x) (filter-keeps p y ys passes) in_it in
+    ⊎_elim
+    (λ is. (cons-here y ys x is, ap p (sym is) ∙ passes))
+    (λ later. let h = contains-filter p ys x later in (cons-later y ys x h.0, h.1))
+    (cons-cases y (filter p ys) x kept))
     (λ fails.
-      let h = contains-filter p ys x (subst (λ (zs : List ℕ). Contains zs x) (filter-skips p y ys fails) in_it) in
-      (cons-later y ys x h.0, h.1))
+    let h = contains-filter p ys x (subst (λ (zs : List ℕ). Contains zs x) (filter-skips p y ys fails) in_it) in
+    (cons-later y ys x h.0, h.1))
     (cases_Bool (p y))
 
 -- an element that passes is left
@@ -66,14 +66,14 @@ filter-contains p [] x (k, less, at) ok = absurd (omega arith)
 filter-contains p (y ∷ ys) x in_it ok =
     ⊎_elim
     (λ is.
-      let passes : p y ≡ true = ap p is ∙ ok in
-      subst (λ (zs : List ℕ). Contains zs x) (sym (filter-keeps p y ys passes)) (cons-here y (filter p ys) x is))
+    let passes : p y ≡ true = ap p is ∙ ok in
+    subst (λ (zs : List ℕ). Contains zs x) (sym (filter-keeps p y ys passes)) (cons-here y (filter p ys) x is))
     (λ later.
-      let h = filter-contains p ys x later ok in
-      ⊎_elim
-      (λ passes. subst (λ (zs : List ℕ). Contains zs x) (sym (filter-keeps p y ys passes)) (cons-later y (filter p ys) x h))
-      (λ fails. subst (λ (zs : List ℕ). Contains zs x) (sym (filter-skips p y ys fails)) h)
-      (cases_Bool (p y)))
+    let h = filter-contains p ys x later ok in
+    ⊎_elim
+    (λ passes. subst (λ (zs : List ℕ). Contains zs x) (sym (filter-keeps p y ys passes)) (cons-later y (filter p ys) x h))
+    (λ fails. subst (λ (zs : List ℕ). Contains zs x) (sym (filter-skips p y ys fails)) h)
+    (cases_Bool (p y)))
     (cons-cases y ys x in_it)
 
 -- what is left of a group has the members that aren't deleted
@@ -101,44 +101,44 @@ grouped-deleted types groups homes id home group g at_home is_group =
     record {
       sized = g.sized ∙ sym (length-set types id None);
       listed = λ other item at.
-        let old = at-deleted types id other item at in
-        let h = g.listed other item old.0 in
-        ⊎_elim
-        (λ same.
+          let old = at-deleted types id other item at in
+          let h = g.listed other item old.0 in
+          ⊎_elim
+          (λ same.
           let there : slice_index_or groups home None ≡ Some h.0 = ap (λ (i : ℕ). slice_index_or groups i None) (sym same) ∙ h.1 in
           let is : h.0 ≡ group = cc in
           let member = filter-contains (λ m. not (m == id)) group.types other (subst (λ (x : Group). Contains x.types other) is h.2) (other-passes id other old.1) in
           let some = nonempty-some group.explicit left (λ e. nothing other (subst (λ (zs : List ℕ). Contains zs other) e member)) in
           let here : slice_index_or (slice_set groups home (without_member id group)) (slice_index homes other) None ≡ Some (record { explicit = group.explicit; types = left }) =
-            ap (λ (i : ℕ). slice_index_or (slice_set groups home (without_member id group)) i None) same
-            ∙ get_or-set_same groups home (without_member id group) None within ∙ some in
+          ap (λ (i : ℕ). slice_index_or (slice_set groups home (without_member id group)) i None) same
+          ∙ get_or-set_same groups home (without_member id group) None within ∙ some in
           (record { explicit = group.explicit; types = left }, here, member))
-        (λ apart. (h.0, at-other groups (without_member id group) home (slice_index homes other) apart ∙ h.1, h.2))
-        (cases_eq (slice_index homes other) home);
+          (λ apart. (h.0, at-other groups (without_member id group) home (slice_index homes other) apart ∙ h.1, h.2))
+          (cases_eq (slice_index homes other) home);
       member = λ place h at other in_it. ⊎_elim
-        (λ same.
+          (λ same.
           let is : without_member id group ≡ Some h =
-            sym (get_or-set_same groups home (without_member id group) None within)
-            ∙ ap (λ (i : ℕ). slice_index_or (slice_set groups home (without_member id group)) i None) (sym same) ∙ at in
+          sym (get_or-set_same groups home (without_member id group) None within)
+          ∙ ap (λ (i : ℕ). slice_index_or (slice_set groups home (without_member id group)) i None) (sym same) ∙ at in
           let members = left-types group.explicit left h is in
           let was = contains-filter (λ m. not (m == id)) group.types other (subst (λ (zs : List ℕ). Contains zs other) members in_it) in
           let m = g.member home group is_group other was.0 in
           (m.0, at-other types None id other (passes-other id other was.1) ∙ m.1, m.2 ∙ sym same))
-        (λ apart.
+          (λ apart.
           let old : slice_index_or groups place None ≡ Some h = sym (at-other groups (without_member id group) home place apart) ∙ at in
           let m = g.member place h old other in_it in
           let differs : other ≢ id = λ e. apart (sym m.2 ∙ ap (λ (i : ℕ). slice_index homes i) e ∙ at_home) in
           (m.0, at-other types None id other differs ∙ m.1, m.2))
-        (cases_eq place home);
+          (cases_eq place home);
       once = λ place h at. ⊎_elim
-        (λ same.
+          (λ same.
           let is : without_member id group ≡ Some h =
-            sym (get_or-set_same groups home (without_member id group) None within)
-            ∙ ap (λ (i : ℕ). slice_index_or (slice_set groups home (without_member id group)) i None) (sym same) ∙ at in
+          sym (get_or-set_same groups home (without_member id group) None within)
+          ∙ ap (λ (i : ℕ). slice_index_or (slice_set groups home (without_member id group)) i None) (sym same) ∙ at in
           subst (λ (zs : List ℕ). AllPairs (λ x y. x ≢ y) zs) (sym (left-types group.explicit left h is))
-            (AllPairs-filter (λ x y. x ≢ y) (λ m. not (m == id)) group.types (g.once home group is_group)))
-        (λ apart. g.once place h (sym (at-other groups (without_member id group) home place apart) ∙ at))
-        (cases_eq place home)
+          (AllPairs-filter (λ x y. x ≢ y) (λ m. not (m == id)) group.types (g.once home group is_group)))
+          (λ apart. g.once place h (sym (at-other groups (without_member id group) home place apart) ∙ at))
+          (cases_eq place home);
     }
 
 -- deleting all of a list's ids leaves the others
@@ -180,19 +180,19 @@ pub grouped-cleared : (types : List (Option Item)) (groups : List (Option Group)
 grouped-cleared types groups homes home group g is_group = record {
   sized = g.sized ∙ sym (length-clear_all group.types types);
   listed = λ other item at.
-    let old = at-cleared group.types types other item at in
-    let h = g.listed other item old.0 in
-    let apart : slice_index homes other ≢ home = λ same.
+      let old = at-cleared group.types types other item at in
+      let h = g.listed other item old.0 in
+      let apart : slice_index homes other ≢ home = λ same.
       let there : slice_index_or groups home None ≡ Some h.0 = ap (λ (i : ℕ). slice_index_or groups i None) (sym same) ∙ h.1 in
       let is : h.0 ≡ group = cc in
       old.1 (subst (λ (x : Group). Contains x.types other) is h.2) in
-    (h.0, at-other groups None home (slice_index homes other) apart ∙ h.1, h.2);
+      (h.0, at-other groups None home (slice_index homes other) apart ∙ h.1, h.2);
   member = λ place h at other in_it.
-    let old = at-deleted groups home place h at in
-    let m = g.member place h old.0 other in_it in
-    let kept = cleared-at group.types types other (λ doomed. let d = g.member home group is_group other doomed in old.1 (sym m.2 ∙ d.2)) in
-    (m.0, kept ∙ m.1, m.2);
-  once = λ place h at. g.once place h (at-deleted groups home place h at).0
+      let old = at-deleted groups home place h at in
+      let m = g.member place h old.0 other in_it in
+      let kept = cleared-at group.types types other (λ doomed. let d = g.member home group is_group other doomed in old.1 (sym m.2 ∙ d.2)) in
+      (m.0, kept ∙ m.1, m.2);
+  once = λ place h at. g.once place h (at-deleted groups home place h at).0;
 }
 
 -- a type's home is the one group that lists it
@@ -246,20 +246,20 @@ module _ (types : List (Option TypeItem)) (groups : List (Option RecGroup)) (hom
   -- a type is deleted
   pub deletes : (after : List (Option RecGroup)) (id home : ℕ) (t : Table) → table_of types groups ≡ t → slice_index homes id ≡ home
       → ((group : Group) → option_map group_of (slice_index_or groups home None) ≡ Some group
-        → map (option_map group_of) after ≡ slice_set (map (option_map group_of) groups) home (without_member id group))
+      → map (option_map group_of) after ≡ slice_set (map (option_map group_of) groups) home (without_member id group))
       → Deletes id t (table_of (slice_set types id None) after)
   deletes after id home t view at_home left = record {
     types = map-set (option_map item_of) types id None ∙ ap (λ (u : Table). slice_set u.types id None) view;
     groups = λ place group at in_it.
-      let is = home-is id home place group t view at_home at in_it in
-      left group (shown-at home place group t view is at)
-      ∙ ap (λ (u : Table). slice_set u.groups home (without_member id group)) view
-      ∙ ap (λ (i : ℕ). slice_set t.groups i (without_member id group)) is
+        let is = home-is id home place group t view at_home at in_it in
+        left group (shown-at home place group t view is at)
+        ∙ ap (λ (u : Table). slice_set u.groups home (without_member id group)) view
+        ∙ ap (λ (i : ℕ). slice_set t.groups i (without_member id group)) is;
   }
 
   pub deletes-grouped : (after : List (Option RecGroup)) (id home : ℕ) → slice_index homes id ≡ home → IsSome (slice_index_or types id None)
       → ((group : Group) → option_map group_of (slice_index_or groups home None) ≡ Some group
-        → map (option_map group_of) after ≡ slice_set (map (option_map group_of) groups) home (without_member id group))
+      → map (option_map group_of) after ≡ slice_set (map (option_map group_of) groups) home (without_member id group))
       → IsGrouped (map (option_map item_of) (slice_set types id None)) (map (option_map group_of) after) homes
   deletes-grouped after id home at_home live left =
       let h = home-shown id home at_home live in
@@ -276,9 +276,9 @@ module _ (types : List (Option TypeItem)) (groups : List (Option RecGroup)) (hom
       let shown : Some (group_of was) ≡ Some group = ap (option_map group_of) (sym is_was) ∙ shown-at home place group t view is at in
       let same : group_of was ≡ group = cc in
       let new_types : map (option_map item_of) after ≡ clear_all group.types t.types =
-        cleared ∙ ap (λ (x : Group). clear_all x.types (map (option_map item_of) types)) same ∙ ap (λ (u : Table). clear_all group.types u.types) view in
+      cleared ∙ ap (λ (x : Group). clear_all x.types (map (option_map item_of) types)) same ∙ ap (λ (u : Table). clear_all group.types u.types) view in
       let new_groups : map (option_map group_of) (slice_set groups home None) ≡ slice_set t.groups place None =
-        map-set (option_map group_of) groups home None ∙ ap (λ (u : Table). slice_set u.groups home None) view ∙ ap (λ (i : ℕ). slice_set t.groups i None) is in
+      map-set (option_map group_of) groups home None ∙ ap (λ (u : Table). slice_set u.groups home None) view ∙ ap (λ (i : ℕ). slice_set t.groups i None) is in
       ap (λ (ts : List (Option Item)). let u : Table = record { types = ts; groups = map (option_map group_of) (slice_set groups home None) } in u) new_types
       ∙ ap (λ (gs : List (Option Group)). let u : Table = record { types = clear_all group.types t.types; groups = gs } in u) new_groups
 
@@ -289,7 +289,7 @@ module _ (types : List (Option TypeItem)) (groups : List (Option RecGroup)) (hom
   deletes-group-grouped after home was is_was cleared =
       rw (map-set, cleared)
       (grouped-cleared (map (option_map item_of) types) (map (option_map group_of) groups) homes home (group_of was) g
-        (at-map group_of groups home ∙ ap (option_map group_of) is_was))
+      (at-map group_of groups home ∙ ap (option_map group_of) is_was))
 
   -- two groups that list a type are one
   pub one-group : (t : Table) (id place : ℕ) (mine group : Group) → table_of types groups ≡ t → HasMember t id mine

@@ -1,5 +1,5 @@
 -- New recursion groups.
-use Rattle.std.proofs.Common.{◌≡◌, ◌≢◌, ◌∙◌, ℕ, zero, suc, ◌+◌, ◌-◌, ◌<◌, ◌≤◌, Bool, true, false, List, [], ◌∷◌, ◌++◌, length, map, take, Contains, AllPairs, Option, Some, None, slice_index, slice_index_or, refl, sym, ap, arith, ⊎_elim, subst, length-append, add-one, cond}
+use Rattle.std.proofs.Common.{◌≡◌, ◌≢◌, ◌∙◌, ℕ, zero, suc, ◌+◌, ◌-◌, ◌<◌, Bool, true, List, [], ◌∷◌, ◌++◌, length, map, take, Contains, AllPairs, Option, Some, None, slice_index, slice_index_or, refl, sym, ap, arith, ⊎_elim, subst, length-append, add-one, cond}
 use Rattle.std.specs.List.{range_with_len}
 use Rattle.std.specs.Option.{option_map}
 use Rattle.std.proofs.lemmas.Bool.{cases_lt}
@@ -26,10 +26,10 @@ range-more (suc n) a b is =
 -- one more type in the index, as at a step of a loop
 pub latest_in-more : (types : List TypeItem) (i : ℕ) (ty : TypeItem) (test : ℕ × Item → Bool) (found : Option ℕ) → i < length types → ty ≡ slice_index_or types i ty
     → latest_in test found (map (λ (t : TypeItem). (t.id, item_of t)) (take (i + 1) types))
-      ≡ cond (test (ty.id, item_of ty)) (Some ty.id) (latest_in test found (map (λ (t : TypeItem). (t.id, item_of t)) (take i types)))
+    ≡ cond (test (ty.id, item_of ty)) (Some ty.id) (latest_in test found (map (λ (t : TypeItem). (t.id, item_of t)) (take i types)))
 latest_in-more types i ty test found less is =
     ap (latest_in test found) (map_more (λ (t : TypeItem). (t.id, item_of t)) types i ty less
-      ∙ ap (λ (t : TypeItem). map (λ (u : TypeItem). (u.id, item_of u)) (take i types) ++ (t.id, item_of t) ∷ []) (sym is))
+    ∙ ap (λ (t : TypeItem). map (λ (u : TypeItem). (u.id, item_of u)) (take i types) ++ (t.id, item_of t) ∷ []) (sym is))
     ∙ latest_in-push (map (λ (t : TypeItem). (t.id, item_of t)) (take i types)) test found (ty.id, item_of ty)
 
 -- as many new types as members, each of them alive
@@ -51,51 +51,58 @@ pub grouped-group : (types news : List (Option Item)) (groups : List (Option Gro
 grouped-group types news groups homes tail count home g is_home sized_news sized_tail at_tail at_news =
     let alone : Group = record { explicit = true; types = range_with_len (length types) count } in
     let later : (i : ℕ) → i < count → slice_index (homes ++ tail) (length types + i) ≡ home =
-      λ i less. get_or-append_right homes tail (length types + i) 0 (omega (arith, g.sized))
-        ∙ ap (λ (k : ℕ). slice_index tail k) (let e : length types + i - length homes ≡ i = omega (arith, g.sized) in e) ∙ at_tail i less in
+    λ i less. get_or-append_right homes tail (length types + i) 0 (omega (arith, g.sized))
+    ∙ ap (λ (k : ℕ). slice_index tail k) (let e : length types + i - length homes ≡ i = omega (arith, g.sized) in e) ∙ at_tail i less in
     let new_at : (i : ℕ) → slice_index_or (types ++ news) (length types + i) None ≡ slice_index_or news i None =
-      λ i. get_or-append_right types news (length types + i) None (omega arith)
-        ∙ ap (λ (k : ℕ). slice_index_or news k None) (let e : length types + i - length types ≡ i = omega arith in e) in
+    λ i. get_or-append_right types news (length types + i) None (omega arith)
+    ∙ ap (λ (k : ℕ). slice_index_or news k None) (let e : length types + i - length types ≡ i = omega arith in e) in
     record {
       sized = omega (arith, length-append homes tail, length-append types news, g.sized);
       listed = λ other x at. ⊎_elim
-        (λ less.
+          (λ less.
           let h = g.listed other x (sym (get_or_append_left types news None other less) ∙ at) in
-          let same_home : slice_index (homes ++ tail) other ≡ slice_index homes other = get_or_append_left homes tail 0 other (omega (arith, g.sized)) in
-          (h.0, ap (λ (i : ℕ). slice_index_or (groups ++ Some alone ∷ []) i None) same_home
-            ∙ at-kept groups (Some alone) (slice_index homes other) (live-within groups (slice_index homes other) h.0 h.1) ∙ h.1, h.2))
-        (λ past.
+          let same_home : slice_index (homes ++ tail) other ≡ slice_index homes other = get_or_append_left homes tail 0 other (omega (arith, g.sized)) in (
+            h.0,
+            ap (λ (i : ℕ). slice_index_or (groups ++ Some alone ∷ []) i None) same_home
+                ∙ at-kept groups (Some alone) (slice_index homes other) (live-within groups (slice_index homes other) h.0 h.1) ∙ h.1,
+            h.2,
+          ))
+          (λ past.
           let k : ℕ = other - length types in
           let is : length types + k ≡ other = omega arith in
           let there : slice_index_or news k None ≡ Some x = sym (new_at k) ∙ ap (λ (i : ℕ). slice_index_or (types ++ news) i None) is ∙ at in
           let less : k < count = omega (arith, live-within news k x there, sized_news) in
-          let this_home : slice_index (homes ++ tail) other ≡ home = ap (λ (i : ℕ). slice_index (homes ++ tail) i) (sym is) ∙ later k less in
-          (alone, ap (λ (i : ℕ). slice_index_or (groups ++ Some alone ∷ []) i None) this_home ∙ at-last groups (Some alone) home is_home,
-            (k, omega (arith, length-range_with_len (length types) count), get_or-range_with_len (length types) count k other less ∙ is)))
-        (cases_lt other (length types));
+          let this_home : slice_index (homes ++ tail) other ≡ home = ap (λ (i : ℕ). slice_index (homes ++ tail) i) (sym is) ∙ later k less in (
+            alone,
+            ap (λ (i : ℕ). slice_index_or (groups ++ Some alone ∷ []) i None) this_home ∙ at-last groups (Some alone) home is_home,
+            (k, omega (arith, length-range_with_len (length types) count), get_or-range_with_len (length types) count k other less ∙ is),
+          ))
+          (cases_lt other (length types));
       member = λ place h at other in_it. ⊎_elim
-        (λ old.
+          (λ old.
           let m = g.member place h old other in_it in
           let within = live-within types other m.0 m.1 in
           (m.0, get_or_append_left types news None other within ∙ m.1, get_or_append_left homes tail 0 other (omega (arith, g.sized)) ∙ m.2))
-        (λ last.
+          (λ last.
           let range_in : Contains (range_with_len (length types) count) other = subst (λ (x : Group). Contains x.types other) last.1 in_it in
           let less : range_in.0 < count = omega (arith, range_in.1, length-range_with_len (length types) count) in
           let is : length types + range_in.0 ≡ other = sym (get_or-range_with_len (length types) count range_in.0 other less) ∙ range_in.2 in
-          let item = at_news range_in.0 less in
-          (item.0, ap (λ (i : ℕ). slice_index_or (types ++ news) i None) (sym is) ∙ new_at range_in.0 ∙ item.1,
-            ap (λ (i : ℕ). slice_index (homes ++ tail) i) (sym is) ∙ later range_in.0 less ∙ sym is_home ∙ sym last.0))
-        (at-push groups alone h place at);
+          let item = at_news range_in.0 less in (
+            item.0,
+            ap (λ (i : ℕ). slice_index_or (types ++ news) i None) (sym is) ∙ new_at range_in.0 ∙ item.1,
+            ap (λ (i : ℕ). slice_index (homes ++ tail) i) (sym is) ∙ later range_in.0 less ∙ sym is_home ∙ sym last.0,
+          ))
+          (at-push groups alone h place at);
       once = λ place h at. ⊎_elim
-        (λ old. g.once place h old)
-        (λ last. subst (λ (x : Group). AllPairs (λ a b. a ≢ b) x.types) (sym last.1)
+          (λ old. g.once place h old)
+          (λ last. subst (λ (x : Group). AllPairs (λ a b. a ≢ b) x.types) (sym last.1)
           (λ i j d less within.
-            let bound : j < count = omega (arith, within, length-range_with_len (length types) count) in
-            λ same.
-              let a = get_or-range_with_len (length types) count i d (omega arith) in
-              let b = get_or-range_with_len (length types) count j d bound in
-              omega (arith, a, b, same)))
-        (at-push groups alone h place at)
+          let bound : j < count = omega (arith, within, length-range_with_len (length types) count) in
+          λ same.
+          let a = get_or-range_with_len (length types) count i d (omega arith) in
+          let b = get_or-range_with_len (length types) count j d bound in
+          omega (arith, a, b, same)))
+          (at-push groups alone h place at);
     }
 
 -- types that were made, as a table shows them
@@ -138,7 +145,7 @@ index-group types made members old new index is updates = λ q.
     ∙ ap (λ (es : List (ℕ × Item)). latest_in (merges (kind_of q)) (latest_in (merges (kind_of q)) None (entries_from 0 types)) es) (seen-members made members (length types) is)
     ∙ sym (latest_in-append (entries_from 0 types) (entries_from (length types) (member_items (length types) members)) (merges (kind_of q)) None)
     ∙ ap (λ (es : List (ℕ × Item)). latest_in (merges (kind_of q)) None es)
-      (sym (entries_from-append 0 types (member_items (length types) members) (length types) (omega arith)))
+    (sym (entries_from-append 0 types (member_items (length types) members) (length types) (omega arith)))
 
 -- each of a list of one value is that value
 pub const-at : {X : Type 0} (xs : List X) (home i : ℕ) → i < length xs → slice_index (map (λ (x : X). home) xs) i ≡ home
@@ -159,27 +166,27 @@ pub sound-group : (types : List (Option TypeItem)) (groups : List (Option RecGro
 sound-group types groups homes made members group n home fresh old new g index is_n is_home shown alone noted =
     let count_types : n ≡ length (map (option_map item_of) types) = sym (length-map types (option_map item_of) ∙ is_n) in
     let there : map (λ (ty : TypeItem). Some (item_of ty)) made ≡ member_items (length (map (option_map item_of) types)) members =
-      shown ∙ ap (λ (k : ℕ). member_items k members) count_types in
+    shown ∙ ap (λ (k : ℕ). member_items k members) count_types in
     let more_types : map (option_map item_of) (types ++ map (λ (ty : TypeItem). Some ty) made) ≡ map (option_map item_of) types ++ member_items (length (map (option_map item_of) types)) members =
-      map-append (option_map item_of) types (map (λ (ty : TypeItem). Some ty) made)
-      ∙ ap (λ (xs : List (Option Item)). map (option_map item_of) types ++ xs) (shown-made made ∙ there) in
+    map-append (option_map item_of) types (map (λ (ty : TypeItem). Some ty) made)
+    ∙ ap (λ (xs : List (Option Item)). map (option_map item_of) types ++ xs) (shown-made made ∙ there) in
     let alone_here : group_of group ≡ record { explicit = true; types = range_with_len (length (map (option_map item_of) types)) (length members) } =
-      alone ∙ ap (λ (k : ℕ). let h : Group = record { explicit = true; types = range_with_len k (length members) } in h) count_types in
+    alone ∙ ap (λ (k : ℕ). let h : Group = record { explicit = true; types = range_with_len k (length members) } in h) count_types in
     let more_groups : map (option_map group_of) (groups ++ Some group ∷ [])
-        ≡ map (option_map group_of) groups ++ Some (record { explicit = true; types = range_with_len (length (map (option_map item_of) types)) (length members) }) ∷ [] =
-      map-append (option_map group_of) groups (Some group ∷ []) ∙ ap (λ (h : Group). map (option_map group_of) groups ++ Some h ∷ []) alone_here in
+    ≡ map (option_map group_of) groups ++ Some (record { explicit = true; types = range_with_len (length (map (option_map item_of) types)) (length members) }) ∷ [] =
+    map-append (option_map group_of) groups (Some group ∷ []) ∙ ap (λ (h : Group). map (option_map group_of) groups ++ Some h ∷ []) alone_here in
     let count_made : length made ≡ length members =
-      sym (length-map made (λ (ty : TypeItem). Some (item_of ty))) ∙ ap (λ (xs : List (Option Item)). length xs) shown ∙ length-member_items n members in
+    sym (length-map made (λ (ty : TypeItem). Some (item_of ty))) ∙ ap (λ (xs : List (Option Item)). length xs) shown ∙ length-member_items n members in
     record {
       index = λ f. rw more_types (index-group (map (option_map item_of) types) made members old new (index f) there noted);
       grouped = rw (more_types, more_groups)
-        (grouped-group (map (option_map item_of) types) (member_items (length (map (option_map item_of) types)) members) (map (option_map group_of) groups) homes
+          (grouped-group (map (option_map item_of) types) (member_items (length (map (option_map item_of) types)) members) (map (option_map group_of) groups) homes
           (map (λ (ty : TypeItem). home) made) (length members) home g
           (length-map groups (option_map group_of) ∙ is_home)
           (length-member_items (length (map (option_map item_of) types)) members)
           (length-map made (λ (ty : TypeItem). home) ∙ count_made)
           (λ i less. const-at made home i (omega arith))
-          (member-some (length (map (option_map item_of) types)) members))
+          (member-some (length (map (option_map item_of) types)) members));
     }
 
 -- as many types are made as there are members
@@ -204,15 +211,15 @@ adds-group types groups made members group n t view is_n shown alone some =
     let next : n ≡ next_id t = sym (length-map types (option_map item_of) ∙ is_n) ∙ ap (λ (u : Table). length u.types) view in
     record {
       types =
-        map-append (option_map item_of) types (map (λ (ty : TypeItem). Some ty) made)
-        ∙ ap (λ (xs : List (Option Item)). map (option_map item_of) types ++ xs) (shown-made made ∙ shown ∙ ap (λ (k : ℕ). member_items k members) next)
-        ∙ ap (λ (u : Table). u.types ++ member_items (next_id t) members) view;
+          map-append (option_map item_of) types (map (λ (ty : TypeItem). Some ty) made)
+          ∙ ap (λ (xs : List (Option Item)). map (option_map item_of) types ++ xs) (shown-made made ∙ shown ∙ ap (λ (k : ℕ). member_items k members) next)
+          ∙ ap (λ (u : Table). u.types ++ member_items (next_id t) members) view;
       groups =
-        map-append (option_map group_of) groups (Some group ∷ [])
-        ∙ ap (λ (h : Group). map (option_map group_of) groups ++ Some h ∷ []) alone
-        ∙ ap (λ (xs : List (Option Group)). map (option_map group_of) groups ++ xs) (sym (some-slot n (length members) some))
-        ∙ ap (λ (k : ℕ). map (option_map group_of) groups ++ group_slot (range_with_len k (length members))) next
-        ∙ ap (λ (u : Table). u.groups ++ group_slot (range_with_len (next_id t) (length members))) view
+          map-append (option_map group_of) groups (Some group ∷ [])
+          ∙ ap (λ (h : Group). map (option_map group_of) groups ++ Some h ∷ []) alone
+          ∙ ap (λ (xs : List (Option Group)). map (option_map group_of) groups ++ xs) (sym (some-slot n (length members) some))
+          ∙ ap (λ (k : ℕ). map (option_map group_of) groups ++ group_slot (range_with_len k (length members))) next
+          ∙ ap (λ (u : Table). u.groups ++ group_slot (range_with_len (next_id t) (length members))) view;
     }
 
 -- the next id of a table

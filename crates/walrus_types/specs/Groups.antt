@@ -1,5 +1,5 @@
 -- New recursion groups.
-use Rattle.std.specs.Prelude.{ℕ, ◌+◌, ◌≡◌, ◌≢◌, ◌⊎◌, ⊤, Vec, Result, Ok, Err, Bool, true, List, [], ◌∷◌, ◌++◌, length, Option, Some, None}
+use Rattle.std.specs.Prelude.{ℕ, ◌+◌, ◌≡◌, ◌≢◌, ◌⊎◌, ⊤, Vec, Result, Ok, Err, true, List, [], ◌∷◌, ◌++◌, length, Option, Some, None}
 use Rattle.std.specs.List.{range_with_len}
 use Rattle.walrus_types.specs.declared.group.NewType.{NewType}
 use Rattle.std.specs.declared.alloc.Global.{Global}

@@ -11,7 +11,11 @@ use crate::table::ModuleTypes;
 use walrus_arena::{RecGroupId, RecGroupSpace, TombstoneArena, TypeId, TypeSpace};
 
 // Takes a type out of its group, which goes where none is left.
-pub(crate) fn leave_group(groups: &mut TombstoneArena<RecGroup, RecGroupSpace>, home: RecGroupId, id: TypeId)
+pub(crate) fn leave_group(
+    groups: &mut TombstoneArena<RecGroup, RecGroupSpace>,
+    home: RecGroupId,
+    id: TypeId,
+)
     requires { HasLive groups.old home }
     ensures { (group : Group) → option_map group_of (item_at groups.old home) ≡ Some group
         → map (option_map group_of) groups.new.slots ≡ slice_set (map (option_map group_of) groups.old.slots) home (without_member id group) }
@@ -59,10 +63,7 @@ pub(crate) fn members_name(
 ) -> bool
     ensures { result ≡ is_named_in (table_of types.now.slots []) id (group_of group.now) }
 {
-    group
-        .types
-        .iter()
-        .any(|other| other.index() != id.index() && names_at(types, *other, id))
+    group.types.iter().any(|other| other.index() != id.index() && names_at(types, *other, id))
 }
 
 // The group of a type that was added.

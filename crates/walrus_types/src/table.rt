@@ -58,7 +58,11 @@ impl Model for ModuleTypes {
 }
 
 // Enters a type into the index, under a clone of it, unless it names itself.
-pub(crate) fn note(index: &mut HashMap<Type, usize>, ty: &Type, id: TypeId) -> Result<(), AllocError>
+pub(crate) fn note(
+    index: &mut HashMap<Type, usize>,
+    ty: &Type,
+    id: TypeId,
+) -> Result<(), AllocError>
     ensures noted { OnOk result ((q : TypeItem) → get type_eq.eq index.new q
         ≡ (if merges (kind_of q) (id, item_of ty.now) then Some id else get type_eq.eq index.old q)) }
     ensures refused { OnErr result (IsUnchanged index.old index.new) }

@@ -1,5 +1,4 @@
-use Rattle.std.proofs.Common.{◌≡◌, ◌∙◌, ℕ, ◌+◌, ◌∷◌, [], ◌++◌, List, ap, sym}
-use Rattle.std.specs.List.{range_with_len}
+use Rattle.std.proofs.Common.{◌∙◌, ℕ, ◌+◌, ◌∷◌, [], ◌++◌, List, ap, sym}
 use Rattle.walrus_types.proofs.GroupLemmas.{range-more}
 use Rattle.walrus_types.proofs.group.ids_from.Goals as goal
 

@@ -1,6 +1,5 @@
-use Rattle.std.proofs.Common.{◌≡◌, ◌∙◌, ℕ, List, Option, Some, ap, sym, cond, map, take}
+use Rattle.std.proofs.Common.{◌∙◌, ℕ, Option, Some, ap, sym, cond}
 use Rattle.std.specs.HashMap.{get}
-use Rattle.walrus_types.specs.declared.subtype.Type.{«Type» as TypeItem}
 use Rattle.walrus_types.specs.contracts.subtype.TypePartialEq.TheImpl.{ghosts as type_eq}
 use Rattle.walrus_types.specs.Kinds.{item_of, kind_of}
 use Rattle.walrus_types.specs.Table.{merges}

@@ -7,5 +7,5 @@ invariant-loop-ty l = record {
   room : length (into_iter_items l.ty-iterator) ≤ l.types.room;
   fits : vec_len l.homes + length (into_iter_items l.ty-iterator) ≤ vec_capacity l.homes;
   types : l.types.slots ++ map (λ ty. Some ty) (into_iter_items l.ty-iterator) ≡ l.fn.types.slots ++ map (λ ty. Some ty) l.fn.new.items;
-  homes : l.homes.items ++ map (λ _. l.home) (into_iter_items l.ty-iterator) ≡ l.fn.homes.items ++ map (λ _. l.home) l.fn.new.items
+  homes : l.homes.items ++ map (λ _. l.home) (into_iter_items l.ty-iterator) ≡ l.fn.homes.items ++ map (λ _. l.home) l.fn.new.items;
 }

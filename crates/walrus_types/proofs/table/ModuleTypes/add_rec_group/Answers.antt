@@ -1,4 +1,4 @@
-use Rattle.std.proofs.Common.{◌≡◌, ◌∙◌, ℕ, inl, inr, ap, sym}
+use Rattle.std.proofs.Common.{◌∙◌, ℕ, inr, ap, sym}
 use Rattle.std.specs.List.{range_with_len}
 use Rattle.walrus_types.proofs.GroupLemmas.{next-seen}
 use Rattle.walrus_types.proofs.table.ModuleTypes.add_rec_group.Goals as goal
@@ -17,5 +17,5 @@ returns-clause-added g c =
       members = c.in_ok-members.members;
       returned = (c.as_slice.result, c.in_ok-members.ensures, shown);
       counted = sym c.in_ok-members.members.ok.0 ∙ sym c.len.ensures ∙ c.if-len-count.false;
-      added = c.in_ok-append_group.ensures.added
+      added = c.in_ok-append_group.ensures.added;
     }
