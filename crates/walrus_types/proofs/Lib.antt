@@ -1,5 +1,6 @@
 pub mod DeleteLemmas
 pub mod GroupLemmas
+pub mod LawLemmas
 pub mod ListLemmas
 pub mod SameLemmas
 pub mod TableLemmas

@@ -6,4 +6,5 @@ pub mod LocalLends
 pub mod Same
 pub mod Table
 pub mod TableLends
+pub mod TypeLaws
 pub mod Values

@@ -1,10 +1,12 @@
 //! Laws of the words that the contracts of this crate cite. Each function is its contract alone.
-ghost use Rattle.std.specs.Prelude.{◌≡◌};
-ghost use Rattle.walrus_types.specs.Kinds.{kind_of};
+ghost use Rattle.std.specs.Prelude.{◌≡◌, ℕ, Bool};
+ghost use Rattle.walrus_types.specs.Kinds.{Item, kind_of};
+ghost use Rattle.walrus_types.specs.TypeLaws.{FindsLatest};
 ghost use Rattle.walrus_types.specs.Same.{same_kind};
 ghost use Rattle.walrus_types.specs.contracts.subtype.TypePartialEq.TheImpl.{ghosts as type_eq};
 
 use crate::subtype::Type;
+use crate::table::ModuleTypes;
 
 /// Two types are equal exactly where their form, finality, supertype and entry mark are.
 pub fn equal_types_are_of_one_kind(a: &Type, b: &Type)
@@ -12,4 +14,11 @@ pub fn equal_types_are_of_one_kind(a: &Type, b: &Type)
 {
     let _ = a;
     let _ = b;
+}
+
+/// A search for the latest type that passes a test answers it, or nothing where none passes.
+pub fn search_finds_latest(types: &ModuleTypes)
+    ensures { (test : ℕ × Item → Bool) → FindsLatest test types.now }
+{
+    let _ = types;
 }

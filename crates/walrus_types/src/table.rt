@@ -11,6 +11,7 @@ ghost use Rattle.walrus_arena.specs.Arena.{entries_from};
 ghost use Rattle.std.specs.Fn.{FnOnceTakesAt, FnOnceReturnsAt};
 ghost use Rattle.std.specs.List.{range_with_len};
 ghost use Rattle.walrus_types.specs.Groups.{AddsGroup, IsBuilt, IsCause};
+ghost use Rattle.walrus_types.specs.TypeLaws.{AreGrouped};
 ghost use Rattle.walrus_types.specs.TableLends.{lends_type};
 ghost use Rattle.walrus_types.specs.declared.subtype.Type.{«Type» as TypeItem};
 ghost use Rattle.walrus_types.specs.contracts.subtype.TypePartialEq.TheImpl.{ghosts as type_eq};
@@ -293,9 +294,10 @@ impl ModuleTypes {
         Types::new(self.types.iter())
     }
 
-    /// The live groups, by rising id.
+    /// The live groups, by rising id. Each live type stands in exactly one of them, once.
     pub fn rec_groups(&self) -> RecGroups<'_>
-        ensures { result ≡ map (λ e. e.1) (entries_from 0 self.now.groups) }
+        ensures groups { result ≡ map (λ e. e.1) (entries_from 0 self.now.groups) }
+        ensures grouped { AreGrouped self.now }
     {
         RecGroups::new(self.groups.iter())
     }
