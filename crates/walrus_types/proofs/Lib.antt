@@ -1,4 +1,6 @@
+pub mod AbstractLemmas
 pub mod DeleteLemmas
+pub mod EqLemmas
 pub mod GroupLemmas
 pub mod LawLemmas
 pub mod ListLemmas
