@@ -1,5 +1,5 @@
 -- The test of kinds is true exactly where they are one.
-use Rattle.std.proofs.Common.{◌≡◌, ◌∙◌, ◌↔◌, ℕ, Bool, true, false, ◌&&◌, List, [], ◌∷◌, Option, Some, None, refl, sym, ap, nat_eq, rules}
+use Rattle.std.proofs.Common.{◌≡◌, ◌∙◌, ℕ, Bool, true, false, ◌&&◌, List, [], ◌∷◌, Option, Some, None, refl, sym, ap, nat_eq}
 use Rattle.std.specs.Bool.{beq}
 use Rattle.std.specs.Option.{option_eq}
 use Rattle.std.specs.Cmp.Lexicographic.{pointwise}
@@ -32,9 +32,10 @@ record Tells {X : Type 0} (E : X → X → Bool) : Type 0 where
 bools : Tells beq
 bools = record {
   same = λ x y. elim x as (λ a. beq a y ≡ true → a ≡ y) [
-    true ↦ elim y as (λ b. beq true b ≡ true → true ≡ b) [ true ↦ λ e. refl | false ↦ λ e. cc ]
-  | false ↦ elim y as (λ b. beq false b ≡ true → false ≡ b) [ true ↦ λ e. cc | false ↦ λ e. refl ] ];
-  itself = elim [ true ↦ refl | false ↦ refl ]
+    | true ↦ elim y as (λ b. beq true b ≡ true → true ≡ b) [ true ↦ λ e. refl | false ↦ λ e. cc ]
+    | false ↦ elim y as (λ b. beq false b ≡ true → false ≡ b) [ true ↦ λ e. cc | false ↦ λ e. refl ]
+  ];
+  itself = elim [ true ↦ refl | false ↦ refl ];
 }
 
 numbers : Tells nat_eq
@@ -90,10 +91,10 @@ heaps = record { same = heaps-same; itself = heaps-itself }
 refs : Tells ref_eq.eq
 refs = record {
   same = λ x y e.
-    let parts = and_parts (beq x.nullable y.nullable) (heap_eq.eq x.heap_type y.heap_type) e in
-    ap (λ (b : Bool). let r : RefType = record { nullable = b; heap_type = x.heap_type } in r) (bools.same x.nullable y.nullable parts.0)
-    ∙ ap (λ (h : HeapType). let r : RefType = record { nullable = y.nullable; heap_type = h } in r) (heaps.same x.heap_type y.heap_type parts.1);
-  itself = λ x. and_from (beq x.nullable x.nullable) (heap_eq.eq x.heap_type x.heap_type) (bools.itself x.nullable) (heaps.itself x.heap_type)
+      let parts = and_parts (beq x.nullable y.nullable) (heap_eq.eq x.heap_type y.heap_type) e in
+      ap (λ (b : Bool). let r : RefType = record { nullable = b; heap_type = x.heap_type } in r) (bools.same x.nullable y.nullable parts.0)
+      ∙ ap (λ (h : HeapType). let r : RefType = record { nullable = y.nullable; heap_type = h } in r) (heaps.same x.heap_type y.heap_type parts.1);
+  itself = λ x. and_from (beq x.nullable x.nullable) (heap_eq.eq x.heap_type x.heap_type) (bools.itself x.nullable) (heaps.itself x.heap_type);
 }
 
 values-itself : (x : ValType) → value_eq.eq x x ≡ true
@@ -167,10 +168,10 @@ storages = record { same = storages-same; itself = storages-itself }
 fields : Tells field_eq.eq
 fields = record {
   same = λ x y e.
-    let parts = and_parts (storage_eq.eq x.element_type y.element_type) (beq x.mutable y.mutable) e in
-    ap (λ (t : StorageType). let f : FieldType = record { element_type = t; mutable = x.mutable } in f) (storages.same x.element_type y.element_type parts.0)
-    ∙ ap (λ (b : Bool). let f : FieldType = record { element_type = y.element_type; mutable = b } in f) (bools.same x.mutable y.mutable parts.1);
-  itself = λ x. and_from (storage_eq.eq x.element_type x.element_type) (beq x.mutable x.mutable) (storages.itself x.element_type) (bools.itself x.mutable)
+      let parts = and_parts (storage_eq.eq x.element_type y.element_type) (beq x.mutable y.mutable) e in
+      ap (λ (t : StorageType). let f : FieldType = record { element_type = t; mutable = x.mutable } in f) (storages.same x.element_type y.element_type parts.0)
+      ∙ ap (λ (b : Bool). let f : FieldType = record { element_type = y.element_type; mutable = b } in f) (bools.same x.mutable y.mutable parts.1);
+  itself = λ x. and_from (storage_eq.eq x.element_type x.element_type) (beq x.mutable x.mutable) (storages.itself x.element_type) (bools.itself x.mutable);
 }
 
 forms-same : (a b : Form) → same_form a b ≡ true → a ≡ b
@@ -205,7 +206,7 @@ kinds-itself : (a : Kind) → same_kind a a ≡ true
 kinds-itself a =
     and_from (same_form a.form a.form) (beq a.final a.final && (option_eq nat_eq a.supertype a.supertype && beq a.entry a.entry)) (forms-itself a.form)
     (and_from (beq a.final a.final) (option_eq nat_eq a.supertype a.supertype && beq a.entry a.entry) (bools.itself a.final)
-      (and_from (option_eq nat_eq a.supertype a.supertype) (beq a.entry a.entry) ((options numbers).itself a.supertype) (bools.itself a.entry)))
+    (and_from (option_eq nat_eq a.supertype a.supertype) (beq a.entry a.entry) ((options numbers).itself a.supertype) (bools.itself a.entry)))
 
 pub same-kind-law : SameKindIsEquality
 same-kind-law a b = (kinds-same a b, λ is. ap (λ (k : Kind). same_kind a k) (sym is) ∙ kinds-itself a)

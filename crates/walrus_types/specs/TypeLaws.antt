@@ -1,5 +1,5 @@
 -- What the words on types and tables mean to a reader.
-use Rattle.std.specs.Prelude.{◌≡◌, ◌≢◌, ℕ, ◌<◌, Bool, true, false, ◌↔◌, Option, Some, Contains, AllPairs, MatchOption}
+use Rattle.std.specs.Prelude.{◌≡◌, ◌≢◌, ℕ, ◌<◌, Bool, true, false, ◌↔◌, Some, Contains, AllPairs, MatchOption}
 use Rattle.walrus_types.specs.Kinds.{Kind, Item, Group}
 use Rattle.walrus_types.specs.Same.{same_kind}
 use Rattle.walrus_types.specs.Table.{Table, type_at, group_at, HasMember, latest_id}
