@@ -4,5 +4,6 @@ pub mod EqLemmas
 pub mod GroupLemmas
 pub mod LawLemmas
 pub mod ListLemmas
+pub mod OrderLemmas
 pub mod SameLemmas
 pub mod TableLemmas

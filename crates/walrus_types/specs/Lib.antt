@@ -3,6 +3,7 @@ pub mod Groups
 pub mod Kinds
 pub mod Lends
 pub mod LocalLends
+pub mod Order
 pub mod Same
 pub mod Table
 pub mod TableLends

@@ -3,6 +3,8 @@ ghost use Rattle.std.specs.Prelude.{◌≡◌, ℕ, Bool};
 ghost use Rattle.walrus_types.specs.Kinds.{Item, kind_of};
 ghost use Rattle.walrus_types.specs.TypeLaws.{FindsLatest, SameKindIsEquality};
 ghost use Rattle.walrus_types.specs.Same.{same_kind};
+ghost use Rattle.walrus_types.specs.Order.{kind_cmp};
+ghost use Rattle.walrus_types.specs.contracts.subtype.TypeOrd.TheImpl.{ghosts as type_ord};
 ghost use Rattle.walrus_types.specs.contracts.subtype.TypePartialEq.TheImpl.{ghosts as type_eq};
 
 use crate::subtype::Type;
@@ -27,3 +29,11 @@ pub fn search_finds_latest(types: &ModuleTypes)
 pub fn same_kind_is_equality()
     ensures { SameKindIsEquality }
 {}
+
+/// Two types are ordered as their form, finality, supertype and entry mark are.
+pub fn types_are_ordered_by_kind(a: &Type, b: &Type)
+    ensures { type_ord.cmp a.now b.now ≡ kind_cmp (kind_of a.now) (kind_of b.now) }
+{
+    let _ = a;
+    let _ = b;
+}
