@@ -4,8 +4,8 @@
     bench/compare.py [--seed N] [--size BYTES] [--functions N] [--rounds N]
 
 It makes a module of half the size and half the functions, and one of the whole. Each program reads a module
-and writes one; wasm-opt runs no passes. A time is the least of the rounds, in seconds of the clock; memory is
-the most that was resident. binaryen and wabt are installed where they are missing.
+and writes one; wasm-opt runs no passes. A time is the least of the rounds, in seconds, by the clock and of the
+processor; memory is the most that was resident. binaryen and wabt are installed where they are missing.
 """
 import argparse
 import os
@@ -38,7 +38,7 @@ def install():
 
 
 def measured(words):
-    """The seconds and the bytes of memory that a command takes."""
+    """The seconds by the clock and of the processor, and the bytes of memory, that a command takes."""
     began = time.monotonic()
     process = subprocess.Popen(words, stdout=subprocess.DEVNULL, stderr=subprocess.PIPE)
     said = process.stderr.read()
@@ -46,12 +46,13 @@ def measured(words):
     took = time.monotonic() - began
     if status:
         sys.exit(f"{' '.join(words)} failed: {said.decode(errors='replace')[-400:]}")
-    return took, usage.ru_maxrss * 1024
+    return took, usage.ru_utime + usage.ru_stime, usage.ru_maxrss * 1024
 
 
 def best(command, rounds):
     runs = [measured(command()) for _ in range(rounds)]
-    return min(seconds for seconds, _ in runs), max(memory for _, memory in runs)
+    clocks, processors, memories = zip(*runs)
+    return min(clocks), min(processors), max(memories)
 
 
 def make(seed, size, functions, file):
@@ -62,7 +63,7 @@ def make(seed, size, functions, file):
 
 
 def compare(name, source, rounds):
-    """Runs the three programs on a module, prints a table, and returns our time and the module's size."""
+    """Runs the three programs on a module, prints a table, and returns our times and the module's size."""
     target = f"{source}.out"
     size = os.path.getsize(source)
 
@@ -82,10 +83,19 @@ def compare(name, source, rounds):
     subprocess.run(["wasm-opt", "--all-features", target, "-o", os.devnull], check=True, stderr=subprocess.DEVNULL)
     ours = results["wasm_rewriter"]
     print(f"\n{name}: {size:,} bytes, written {os.path.getsize(target):,}")
-    print(f"{'':16}{'seconds':>10}{'times ours':>12}{'MiB':>10}{'times input':>13}")
-    for tool, (seconds, memory) in results.items():
-        print(f"{tool:16}{seconds:10.3f}{seconds / ours[0]:12.2f}{memory / 2**20:10.1f}{memory / size:13.2f}")
-    return ours[0], size
+    heads = ("clock", "times ours", "processor", "times ours", "MiB", "times input")
+    print(" " * 16 + "".join(f"{head:>12}" for head in heads))
+    for tool, (clock, processor, memory) in results.items():
+        numbers = (
+            f"{clock:.3f}",
+            f"{clock / ours[0]:.2f}",
+            f"{processor:.3f}",
+            f"{processor / ours[1]:.2f}",
+            f"{memory / 2**20:.1f}",
+            f"{memory / size:.2f}",
+        )
+        print(f"{tool:16}" + "".join(f"{number:>12}" for number in numbers))
+    return ours, size
 
 
 def main():
@@ -102,9 +112,10 @@ def main():
         half, whole = f"{folder}/half.wasm", f"{folder}/whole.wasm"
         make(words.seed, words.size // 2, words.functions // 2, half)
         make(words.seed, words.size, words.functions, whole)
-        half_time, half_size = compare("half", half, words.rounds)
-        whole_time, whole_size = compare("whole", whole, words.rounds)
-    print(f"\ntwice the input, {whole_size / half_size:.2f} times the bytes: {whole_time / half_time:.2f} times the time")
+        half_times, half_size = compare("half", half, words.rounds)
+        whole_times, whole_size = compare("whole", whole, words.rounds)
+    clock, processor = (whole_times[at] / half_times[at] for at in range(2))
+    print(f"\n{whole_size / half_size:.2f} times the input: {clock:.2f} times the clock, {processor:.2f} the processor")
 
 
 if __name__ == "__main__":

@@ -1,0 +1,3 @@
+pub mod ArenaLemmas
+pub mod LawLemmas
+pub mod SetLemmas

@@ -1,0 +1,4 @@
+pub mod Arena
+pub mod Laws
+pub mod Lends
+pub mod Set

@@ -1,0 +1,66 @@
+// Each call once, with ample memory.
+use super::*;
+use std::test::Fail;
+
+#[derive(Clone, PartialEq, Eq, Hash, Drop)]
+struct Word(u32);
+
+impl Tombstone for Word {}
+
+#[test]
+fn arena(rt: HostRuntime) -> Result<(), Fail> {
+    let mut arena: TombstoneArena<Word, TypeSpace> = TombstoneArena::new(rt.alloc());
+    arena.reserve(3)?;
+    let a = arena.alloc(Word(7))?;
+    let b = arena.alloc_with_id(|id| Word(if id.index() == 1 { 1 } else { 0 }))?;
+    assert_eq!(rt; a.index(), 0);
+    assert_eq!(rt; b, TypeId::from_index(1));
+    assert_eq!(rt; arena.next_id().index(), 2);
+    arena.delete(a);
+    assert!(rt; !arena.contains(a));
+    assert!(rt; arena.get(a).is_none());
+    assert_eq!(rt; arena.len(), 1);
+    let c = arena.alloc(Word(9))?;
+    assert_eq!(rt; c.index(), 2);
+    if let Some(item) = arena.get_mut(c) {
+        *item = Word(4);
+    }
+    assert!(rt; arena.contains(c));
+    assert_eq!(rt; arena[c].0, 4);
+    let mut ids = arena.ids();
+    assert_eq!(rt; ids.next().map_or(99, |id| id.index()), 1);
+    assert_eq!(rt; ids.next().map_or(99, |id| id.index()), 2);
+    assert!(rt; ids.next().is_none());
+    let mut sum = 0;
+    for (_, word) in arena.iter() {
+        sum ^= word.0;
+    }
+    assert_eq!(rt; sum, 5);
+    Ok(())
+}
+
+#[test]
+fn set(rt: HostRuntime) -> Result<(), Fail> {
+    let mut set = ArenaSet::new(rt.alloc());
+    let a = set.insert(Word(7))?;
+    let b = set.insert(Word(8))?;
+    assert_eq!(rt; set.insert(Word(7))?, a);
+    set.remove(a);
+    assert_eq!(rt; set.insert(Word(7))?.index(), 2);
+    assert_eq!(rt; set.next_id().index(), 3);
+    assert_eq!(rt; b.index(), 1);
+    assert_eq!(rt; set.iter().count(), 2);
+    Ok(())
+}
+
+#[test]
+fn maps(rt: HostRuntime) -> Result<(), Fail> {
+    let mut names: IdHashMap<FunctionSpace, u8> = IdHashMap::new(rt.alloc());
+    let mut seen: IdHashSet<FunctionSpace> = IdHashSet::new(rt.alloc());
+    let f = FunctionId::from_index(3);
+    names.insert(f, 5)?;
+    seen.insert(f)?;
+    assert!(rt; seen.contains(&f));
+    assert_eq!(rt; names.get(&f).copied(), Some(5));
+    Ok(())
+}

@@ -1,0 +1,8 @@
+use Rattle.std.proofs.Common.{◌≡◌, map, take}
+use Rattle.std.specs.Option.{option_map}
+use Rattle.walrus_types.specs.Kinds.{item_of}
+use Rattle.walrus_types.specs.Table.{clear_all}
+use Rattle.walrus_types.proofs.delete.clear_types.Given as goal
+
+abbrev pub invariant-loop-id : goal.invariant-loop-id
+invariant-loop-id l = map (option_map item_of) l.types.slots ≡ clear_all (take l.id-index l.ids) (map (option_map item_of) l.fn.types.slots)

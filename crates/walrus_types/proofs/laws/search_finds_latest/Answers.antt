@@ -1,0 +1,5 @@
+use Rattle.walrus_types.proofs.LawLemmas.{latest-law}
+use Rattle.walrus_types.proofs.laws.search_finds_latest.Goals as goal
+
+pub returns : goal.returns
+returns c = latest-law c.args.types.now

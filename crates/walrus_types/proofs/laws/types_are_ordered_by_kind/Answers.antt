@@ -1,0 +1,5 @@
+use Rattle.walrus_types.proofs.OrderLemmas.{type_ord-kinds}
+use Rattle.walrus_types.proofs.laws.types_are_ordered_by_kind.Goals as goal
+
+pub returns : goal.returns
+returns c = type_ord-kinds c.args.a.now c.args.b.now

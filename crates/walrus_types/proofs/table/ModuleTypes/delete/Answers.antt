@@ -1,0 +1,18 @@
+use Rattle.std.proofs.Common.{◌∙◌, ap, sym, slice_index}
+use Rattle.walrus_types.proofs.DeleteLemmas.{live-inside, home-live, deletes, deletes-grouped}
+use Rattle.walrus_types.proofs.table.ModuleTypes.delete.Goals as goal
+
+pub leave_group-requires : goal.leave_group-requires
+leave_group-requires c = home-live c.self.inside.types.slots c.self.inside.groups.slots c.self.inside.homes.items c.self.invariant.grouped c.args.id c.home_of-home.result
+    (sym (c.home_of-home.ensures ∙ ap (λ xs. slice_index xs c.args.id) c.as_slice.ensures.value)) (live-inside c.self.inside.types.slots c.self.inside.groups.slots c.args.self.now c.args.id c.self.view_is c.requires)
+
+pub invariant_of-self : goal.invariant_of-self
+invariant_of-self c = record {
+  index = λ f. absurd cc;
+  grouped = rw c.delete.ensures.deleted (deletes-grouped c.self.inside.types.slots c.self.inside.groups.slots c.self.inside.homes.items c.self.invariant.grouped c.leave_group.new.groups.slots c.args.id c.home_of-home.result
+      (sym (c.home_of-home.ensures ∙ ap (λ xs. slice_index xs c.args.id) c.as_slice.ensures.value)) (live-inside c.self.inside.types.slots c.self.inside.groups.slots c.args.self.now c.args.id c.self.view_is c.requires) c.leave_group.ensures);
+}
+
+pub returns : goal.returns
+returns c = rw c.delete.ensures.deleted (deletes c.self.inside.types.slots c.self.inside.groups.slots c.self.inside.homes.items c.self.invariant.grouped c.leave_group.new.groups.slots c.args.id c.home_of-home.result c.args.self.now c.self.view_is
+    (sym (c.home_of-home.ensures ∙ ap (λ xs. slice_index xs c.args.id) c.as_slice.ensures.value)) c.leave_group.ensures)

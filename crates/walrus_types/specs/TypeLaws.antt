@@ -1,0 +1,30 @@
+-- What the words on types and tables mean to a reader.
+use Rattle.std.specs.Prelude.{◌≡◌, ◌≢◌, ℕ, ◌<◌, Bool, true, false, ◌↔◌, Some, Contains, AllPairs, MatchOption}
+use Rattle.walrus_types.specs.Kinds.{Kind, Item, Group}
+use Rattle.walrus_types.specs.Same.{same_kind}
+use Rattle.walrus_types.specs.Table.{Table, type_at, group_at, HasMember, latest_id}
+
+-- each live type stands in exactly one group, once, and groups have live members alone
+pub record AreGrouped (t : Table) : Type 0 where
+  pub listed : (id : ℕ) (item : Item) → type_at t id ≡ Some item → (group : Group) × HasMember t id group
+  pub live : (place : ℕ) (group : Group) → group_at t place ≡ Some group → (id : ℕ) → Contains group.types id
+      → (item : Item) × (type_at t id ≡ Some item)
+  pub one : (id p q : ℕ) (g h : Group) → group_at t p ≡ Some g → Contains g.types id → group_at t q ≡ Some h → Contains h.types id → p ≡ q
+  pub once : (place : ℕ) (group : Group) → group_at t place ≡ Some group → AllPairs (λ x y. x ≢ y) group.types
+
+-- the id has a live type that passes, and no higher id has
+pub record IsLatest (test : ℕ × Item → Bool) (t : Table) (id : ℕ) : Type 0 where
+  pub item : Item
+  pub live : type_at t id ≡ Some item
+  pub passes : test (id, item) ≡ true
+  pub latest : (other : ℕ) (x : Item) → id < other → type_at t other ≡ Some x → test (other, x) ≡ false
+
+-- a search for the latest answers it, or nothing where none passes
+abbrev pub FindsLatest : (ℕ × Item → Bool) → Table → Type 0
+FindsLatest test t = MatchOption (latest_id test t)
+    ((id : ℕ) (item : Item) → type_at t id ≡ Some item → test (id, item) ≡ false)
+    (IsLatest test t)
+
+-- the test of kinds is true exactly where they are one
+abbrev pub SameKindIsEquality : Type 0
+SameKindIsEquality = (a b : Kind) → (same_kind a b ≡ true) ↔ (a ≡ b)

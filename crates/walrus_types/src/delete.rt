@@ -1,0 +1,75 @@
+//! Deleting types from a table.
+ghost use Rattle.std.specs.Prelude.{◌≡◌, ◌<◌, length, slice_index, ℕ, Bool, true, false, not, [], map, Contains, Some, None, IsSome, slice_set};
+ghost use Rattle.std.specs.Bool.{OnTrue, OnFalse};
+ghost use Rattle.std.specs.Option.{option_map};
+ghost use Rattle.walrus_arena.specs.Arena.{IsLive as HasLive, item_at};
+ghost use Rattle.walrus_types.specs.Kinds.{Group, group_of, item_of};
+ghost use Rattle.walrus_types.specs.Table.{IsLive, Deletes, DeletesGroup, group_at, is_named_in, is_named_at, clear_all, without_member, table_of};
+
+use crate::subtype::{RecGroup, Type};
+use crate::table::ModuleTypes;
+use walrus_arena::{RecGroupId, RecGroupSpace, TombstoneArena, TypeId, TypeSpace};
+
+// Takes a type out of its group, which goes where none is left.
+pub(crate) fn leave_group(
+    groups: &mut TombstoneArena<RecGroup, RecGroupSpace>,
+    home: RecGroupId,
+    id: TypeId,
+)
+    requires { HasLive groups.old home }
+    ensures { (group : Group) → option_map group_of (item_at groups.old home) ≡ Some group
+        → map (option_map group_of) groups.new.slots ≡ slice_set (map (option_map group_of) groups.old.slots) home (without_member id group) }
+{
+    let group = &mut groups[home];
+    group.remove(id);
+    if group.is_empty() {
+        groups.delete(home);
+    }
+}
+
+// Deletes a type, if it lives.
+fn clear(types: &mut TombstoneArena<Type, TypeSpace>, id: TypeId)
+    ensures { types.new.slots ≡ slice_set types.old.slots id None }
+{
+    if types.contains(id) {
+        types.delete(id);
+    }
+}
+
+// Deletes these types, those of them that live.
+pub(crate) fn clear_types(types: &mut TombstoneArena<Type, TypeSpace>, ids: &[TypeId])
+    ensures { map (option_map item_of) types.new.slots ≡ clear_all ids.now (map (option_map item_of) types.old.slots) }
+{
+    for id in ids {
+        clear(types, *id);
+    }
+}
+
+// Whether that type lives and names this one.
+fn names_at(types: &TombstoneArena<Type, TypeSpace>, other: TypeId, id: TypeId) -> bool
+    ensures { result ≡ is_named_at (table_of types.now.slots []) id other }
+{
+    match types.get(other) {
+        Some(ty) => ty.names(id),
+        None => false,
+    }
+}
+
+// Whether another member of the group names the type.
+pub(crate) fn members_name(
+    types: &TombstoneArena<Type, TypeSpace>,
+    group: &RecGroup,
+    id: TypeId,
+) -> bool
+    ensures { result ≡ is_named_in (table_of types.now.slots []) id (group_of group.now) }
+{
+    group.types.iter().any(|other| other.index() != id.index() && names_at(types, *other, id))
+}
+
+// The group of a type that was added.
+pub(crate) fn home_of(homes: &[RecGroupId], id: TypeId) -> RecGroupId
+    requires { id < length homes.now }
+    ensures { result ≡ slice_index homes.now id }
+{
+    homes[id.index()]
+}

@@ -1,0 +1,39 @@
+//! Laws of the words that the contracts of this crate cite. Each function is its contract alone.
+ghost use Rattle.std.specs.Prelude.{◌≡◌, ℕ, Bool};
+ghost use Rattle.walrus_types.specs.Kinds.{Item, kind_of};
+ghost use Rattle.walrus_types.specs.TypeLaws.{FindsLatest, SameKindIsEquality};
+ghost use Rattle.walrus_types.specs.Same.{same_kind};
+ghost use Rattle.walrus_types.specs.Order.{kind_cmp};
+ghost use Rattle.walrus_types.specs.contracts.subtype.TypeOrd.TheImpl.{ghosts as type_ord};
+ghost use Rattle.walrus_types.specs.contracts.subtype.TypePartialEq.TheImpl.{ghosts as type_eq};
+
+use crate::subtype::Type;
+use crate::table::ModuleTypes;
+
+/// Two types are equal exactly where their form, finality, supertype and entry mark are.
+pub fn equal_types_are_of_one_kind(a: &Type, b: &Type)
+    ensures { type_eq.eq a.now b.now ≡ same_kind (kind_of a.now) (kind_of b.now) }
+{
+    let _ = a;
+    let _ = b;
+}
+
+/// A search for the latest type that passes a test answers it, or nothing where none passes.
+pub fn search_finds_latest(types: &ModuleTypes)
+    ensures { (test : ℕ × Item → Bool) → FindsLatest test types.now }
+{
+    let _ = types;
+}
+
+/// The test of kinds is true exactly where they are one.
+pub fn same_kind_is_equality()
+    ensures { SameKindIsEquality }
+{}
+
+/// Two types are ordered as their form, finality, supertype and entry mark are.
+pub fn types_are_ordered_by_kind(a: &Type, b: &Type)
+    ensures { type_ord.cmp a.now b.now ≡ kind_cmp (kind_of a.now) (kind_of b.now) }
+{
+    let _ = a;
+    let _ = b;
+}

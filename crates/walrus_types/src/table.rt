@@ -1,0 +1,448 @@
+//! The type table of a module.
+ghost use Rattle.std.specs.Prelude.{◌≡◌, ◌↔◌, ◌+◌, ◌<◌, ◌^◌, length, ℕ, true, not, Contains, [], ◌++◌, map, IfOk, IfErr, OnOk, OnErr, IfSome, MatchOption, IsTrue, Some, None, option_copied, if◌then◌else◌};
+ghost use Rattle.std.specs.Option.{option_map};
+ghost use Rattle.std.specs.Bool.{OnTrue, OnFalse};
+ghost use Rattle.std.specs.HashMap.{get, IsUnchanged};
+ghost use Rattle.std.specs.Borrow.{sem};
+ghost use Rattle.walrus_types.specs.Forms.{form_of, params_of, results_of};
+ghost use Rattle.walrus_types.specs.Kinds.{Group, kind_of, item_of, group_of, function_kind, entry_kind, struct_kind, array_kind, declared_kind};
+ghost use Rattle.walrus_types.specs.Table.{table_of, next_id, type_at, IsLive, IsFunctionType, found_type, named_type, entries, names_itself, merges, Merges, IsIndex, HasMember, Deletes, DeletesGroup, group_at, is_named_in};
+ghost use Rattle.walrus_arena.specs.Arena.{entries_from};
+ghost use Rattle.std.specs.Fn.{FnOnceTakesAt, FnOnceReturnsAt};
+ghost use Rattle.std.specs.List.{range_with_len};
+ghost use Rattle.walrus_types.specs.Groups.{AddsGroup, IsBuilt, IsCause};
+ghost use Rattle.walrus_types.specs.TypeLaws.{AreGrouped};
+ghost use Rattle.walrus_types.specs.TableLends.{lends_type};
+ghost use Rattle.walrus_types.specs.declared.subtype.Type.{«Type» as TypeItem};
+ghost use Rattle.walrus_types.specs.contracts.subtype.TypePartialEq.TheImpl.{ghosts as type_eq};
+
+use crate::composite::{ArrayType, CompositeType, FunctionType, StructType};
+use crate::delete::{clear_types, home_of, leave_group, members_name};
+use crate::error::IrError;
+use crate::group::{NewType, ids_from, note_all, push_types, types_of};
+use crate::iter::{RecGroups, Types};
+use crate::subtype::{RecGroup, Type};
+use crate::value::{FieldType, ValType};
+use std::alloc::{AllocError, Global};
+use std::collections::HashMap;
+use std::marker::Model;
+use std::mem;
+use walrus_arena::{RecGroupId, RecGroupSpace, TombstoneArena, TypeId, TypeSpace};
+
+/// The types of a module by id, each in one recursion group.
+///
+/// A new type that equals a live one is not added: the live one's id is answered. Where several live
+/// types are equal, the latest one stands for the new one. A type that names itself equals no other.
+#[derive(Drop)]
+pub struct ModuleTypes {
+    alloc: Global,
+    types: TombstoneArena<Type, TypeSpace>,
+    groups: TombstoneArena<RecGroup, RecGroupSpace>,
+    // The group of each type ever added.
+    homes: Vec<RecGroupId>,
+    // Where `fresh`, the latest live type of each kind, those that name themselves aside.
+    index: HashMap<Type, usize>,
+    // False once a type was lent for writing or deleted: the next add builds the index anew.
+    fresh: bool,
+}
+
+impl Model for ModuleTypes {
+    ghost use Rattle.std.specs.HashMap.{get};
+    ghost use Rattle.walrus_types.specs.contracts.subtype.TypePartialEq.TheImpl.{ghosts as type_eq};
+    ghost use Rattle.walrus_types.specs.Table.{Table, table_of, IsSound};
+
+    ghost Value = { Table };
+
+    ghost view = { λ t. table_of t.types.slots t.groups.slots };
+
+    ghost invariant = { λ t. IsSound t.fresh (get type_eq.eq t.index) (table_of t.types.slots t.groups.slots) t.homes.items };
+}
+
+// Enters a type into the index, under a clone of it, unless it names itself.
+pub(crate) fn note(
+    index: &mut HashMap<Type, usize>,
+    ty: &Type,
+    id: TypeId,
+) -> Result<(), AllocError>
+    ensures noted { OnOk result ((q : TypeItem) → get type_eq.eq index.new q
+        ≡ (if merges (kind_of q) (id, item_of ty.now) then Some id else get type_eq.eq index.old q)) }
+    ensures refused { OnErr result (IsUnchanged index.old index.new) }
+{
+    if ty.names(id) {
+        return Ok(());
+    }
+    index.insert(ty.clone()?, id.index())?;
+    Ok(())
+}
+
+// The id of the type that stands for this one, which is to have the id `id`.
+fn look_up(index: &HashMap<Type, usize>, ty: &Type, id: TypeId) -> Option<usize>
+    ensures { result ≡ (if names_itself id (kind_of ty.now) then None else get type_eq.eq index.now ty.now) }
+{
+    if ty.names(id) {
+        return None;
+    }
+    index.get(ty).copied()
+}
+
+// The latest live type of each kind, those that name themselves aside.
+fn index_of(
+    alloc: Global,
+    types: &TombstoneArena<Type, TypeSpace>,
+) -> Result<HashMap<Type, usize>, AllocError>
+    ensures { IfOk result (λ index. IsIndex (get type_eq.eq index) (table_of types.now.slots []).types) }
+{
+    let mut index = HashMap::new(alloc);
+    for (id, ty) in types.iter() {
+        note(&mut index, ty, id)?;
+    }
+    Ok(index)
+}
+
+// Builds the index anew where it is stale.
+fn refresh(
+    alloc: Global,
+    fresh: &mut bool,
+    index: &mut HashMap<Type, usize>,
+    types: &TombstoneArena<Type, TypeSpace>,
+) -> Result<(), AllocError>
+    requires { fresh.old ≡ true → IsIndex (get type_eq.eq index.old) (table_of types.now.slots []).types }
+    ensures fresh { OnOk result (fresh.new ≡ true) }
+    ensures index { fresh.new ≡ true → IsIndex (get type_eq.eq index.new) (table_of types.now.slots []).types }
+{
+    if !*fresh {
+        *index = index_of(alloc, types)?;
+        *fresh = true;
+    }
+    Ok(())
+}
+
+impl ModuleTypes {
+    /// No types. Takes no memory.
+    pub fn new(alloc: Global) -> Self
+        ensures { result ≡ record { types = []; groups = [] } }
+    {
+        ModuleTypes {
+            alloc,
+            types: TombstoneArena::new(alloc),
+            groups: TombstoneArena::new(alloc),
+            homes: Vec::new(alloc),
+            index: HashMap::new(alloc),
+            fresh: true,
+        }
+    }
+
+    /// Whether the id's type lives.
+    pub fn contains(&self, id: TypeId) -> bool
+        ensures { IsTrue result ↔ IsLive self.now id }
+    {
+        self.types.contains(id)
+    }
+
+    /// The type of a live id.
+    pub fn get(&self, id: TypeId) -> &Type
+        requires { IsLive self.now id }
+        ensures { type_at self.now id ≡ Some (item_of result.now) }
+    {
+        self.types.get(id).unwrap()
+    }
+
+    /// The type of a live id, for writing.
+    pub fn get_mut(&mut self, id: TypeId) -> &mut Type
+        requires { IsLive self.old id }
+        ensures* writes_back { sem 𝓛 (lends_type self.entry id result) }
+        ensures value { type_at self.old id ≡ Some (item_of result.now) }
+    {
+        self.fresh = false;
+        &mut self.types[id]
+    }
+
+    /// Deletes a live type. Its group keeps the other members, and goes where there is none.
+    pub fn delete(&mut self, id: TypeId)
+        requires { IsLive self.old id }
+        ensures { Deletes id self.old self.new }
+    {
+        let home = home_of(self.homes.as_slice(), id);
+        self.fresh = false;
+        leave_group(&mut self.groups, home, id);
+        self.types.delete(id);
+    }
+
+    /// Deletes a live type unless another member of its group names it. Answers whether it was deleted;
+    /// where not, nothing changes.
+    pub fn try_delete(&mut self, id: TypeId) -> bool
+        requires { IsLive self.old id }
+        ensures named { (place : ℕ) (group : Group) → group_at self.old place ≡ Some group → Contains group.types id
+            → result ≡ not (is_named_in self.old id group) }
+        ensures kept { OnFalse result (self.new ≡ self.old) }
+        ensures deleted { OnTrue result (Deletes id self.old self.new) }
+    {
+        if self.is_named_by_sibling(id) {
+            return false;
+        }
+        self.delete(id);
+        true
+    }
+
+    // Whether another member of the type's group names it.
+    fn is_named_by_sibling(&self, id: TypeId) -> bool
+        ensures { (place : ℕ) (group : Group) → group_at self.now place ≡ Some group → Contains group.types id
+            → result ≡ is_named_in self.now id group }
+    {
+        match self.rec_group_for_type(id) {
+            Some(group) => members_name(&self.types, group, id),
+            None => false,
+        }
+    }
+
+    /// Deletes the group of a live type with all its members.
+    pub fn delete_entire_group(&mut self, id: TypeId)
+        requires { IsLive self.old id }
+        ensures { DeletesGroup id self.old self.new }
+    {
+        let home = home_of(self.homes.as_slice(), id);
+        let group = &mut self.groups[home];
+        let members = mem::replace(&mut group.types, Vec::new(self.alloc));
+        self.fresh = false;
+        clear_types(&mut self.types, members.as_slice());
+        self.groups.delete(home);
+    }
+
+    // The id of the type that stands for one of this kind, which is added where there is none.
+    fn insert(
+        &mut self,
+        kind: CompositeType,
+        is_final: bool,
+        supertype: Option<TypeId>,
+        entry: bool,
+    ) -> Result<TypeId, AllocError>
+        ensures inserted { IfOk result (λ id. Merges (record { form = form_of kind; final = is_final; supertype = supertype; entry = entry }) id self.old self.new) }
+        ensures refused { OnErr result (self.new ≡ self.old) }
+    {
+        refresh(self.alloc, &mut self.fresh, &mut self.index, &self.types)?;
+        let id = self.types.next_id();
+        let ty = Type::new(id, kind, is_final, supertype, entry);
+        if let Some(found) = look_up(&self.index, &ty, id) {
+            return Ok(TypeId::from_index(found));
+        }
+        let mut members = Vec::new(self.alloc);
+        members.push(id)?;
+        self.types.reserve(1)?;
+        self.groups.reserve(1)?;
+        self.homes.reserve(1)?;
+        note(&mut self.index, &ty, id)?;
+        let home = self.groups.alloc_reserved(RecGroup::new(false, members));
+        self.homes.push_reserved(home);
+        Ok(self.types.alloc_reserved(ty))
+    }
+
+    /// The parameters of a live function type.
+    pub fn params(&self, id: TypeId) -> &[ValType]
+        requires { IsFunctionType self.now id }
+        ensures { IfSome (type_at self.now id) (λ item. result.now ≡ params_of item.kind.form) }
+    {
+        self.get(id).params()
+    }
+
+    /// The results of a live function type.
+    pub fn results(&self, id: TypeId) -> &[ValType]
+        requires { IsFunctionType self.now id }
+        ensures { IfSome (type_at self.now id) (λ item. result.now ≡ results_of item.kind.form) }
+    {
+        self.get(id).results()
+    }
+
+    /// The parameters and the results of a live function type.
+    pub fn params_results(&self, id: TypeId) -> (&[ValType], &[ValType])
+        requires { IsFunctionType self.now id }
+        ensures params { IfSome (type_at self.now id) (λ item. result.0.now ≡ params_of item.kind.form) }
+        ensures results { IfSome (type_at self.now id) (λ item. result.1.now ≡ results_of item.kind.form) }
+    {
+        let ty = self.get(id);
+        (ty.params(), ty.results())
+    }
+
+    /// The lowest live type of this name.
+    pub fn by_name(&self, name: &str) -> Option<TypeId>
+        ensures { result ≡ named_type name.now self.now }
+    {
+        for (id, ty) in self.types.iter() {
+            if ty.is_named(name) {
+                return Some(id);
+            }
+        }
+        None
+    }
+
+    /// The latest final function type without supertype of just these parameters and results.
+    pub fn find(&self, params: &[ValType], results: &[ValType]) -> Option<TypeId>
+        ensures { result ≡ found_type params.now results.now self.now }
+    {
+        let mut found = None;
+        for (id, ty) in self.types.iter() {
+            if ty.is_function_of(params, results) {
+                found = Some(id);
+            }
+        }
+        found
+    }
+
+    /// The live types, by rising id.
+    pub fn iter(&self) -> Types<'_>
+        ensures { result ≡ map (λ e. e.1) (entries self.now) }
+    {
+        Types::new(self.types.iter())
+    }
+
+    /// The live groups, by rising id. Each live type stands in exactly one of them, once.
+    pub fn rec_groups(&self) -> RecGroups<'_>
+        ensures groups { result ≡ map (λ e. e.1) (entries_from 0 self.now.groups) }
+        ensures grouped { AreGrouped self.now }
+    {
+        RecGroups::new(self.groups.iter())
+    }
+
+    /// The group of a live type, or `None` where the type is dead or was never added.
+    pub fn rec_group_for_type(&self, id: TypeId) -> Option<&RecGroup>
+        ensures { MatchOption result (type_at self.now id ≡ None) (λ group. HasMember self.now id (group_of group.now)) }
+    {
+        if !self.types.contains(id) {
+            return None;
+        }
+        self.groups.get(self.homes[id.index()])
+    }
+
+    /// The id of the final function type without supertype of these parameters and results: of the
+    /// latest equal live type, or else of one that is added.
+    ///
+    /// # Errors
+    ///
+    /// Want of memory. The table stays as it was.
+    pub fn add(&mut self, params: &[ValType], results: &[ValType]) -> Result<TypeId, AllocError>
+        ensures added { IfOk result (λ id. Merges (function_kind params.now results.now) id self.old self.new) }
+        ensures refused { OnErr result (self.new ≡ self.old) }
+    {
+        let params = Vec::from_slice(self.alloc, params)?;
+        let results = Vec::from_slice(self.alloc, results)?;
+        let ty = FunctionType::new(params, results);
+        self.insert(CompositeType::Function(ty), true, None, false)
+    }
+
+    /// The id of the type of a body's own block with these results, which is never written.
+    ///
+    /// # Errors
+    ///
+    /// Want of memory. The table stays as it was.
+    pub fn add_entry_ty(&mut self, results: &[ValType]) -> Result<TypeId, AllocError>
+        ensures added { IfOk result (λ id. Merges (entry_kind results.now) id self.old self.new) }
+        ensures refused { OnErr result (self.new ≡ self.old) }
+    {
+        let results = Vec::from_slice(self.alloc, results)?;
+        let ty = FunctionType::new(Vec::new(self.alloc), results);
+        self.insert(CompositeType::Function(ty), true, None, true)
+    }
+
+    /// The id of the final structure type without supertype of these fields: of the latest equal live
+    /// type, or else of one that is added.
+    ///
+    /// # Errors
+    ///
+    /// Want of memory. The table stays as it was.
+    pub fn add_struct(&mut self, fields: Vec<FieldType>) -> Result<TypeId, AllocError>
+        ensures added { IfOk result (λ id. Merges (struct_kind fields.items) id self.old self.new) }
+        ensures refused { OnErr result (self.new ≡ self.old) }
+    {
+        self.insert(
+            CompositeType::Struct(StructType { fields }),
+            true,
+            None,
+            false,
+        )
+    }
+
+    /// The id of the final array type without supertype of this field: of the latest equal live type,
+    /// or else of one that is added.
+    ///
+    /// # Errors
+    ///
+    /// Want of memory. The table stays as it was.
+    pub fn add_array(&mut self, field: FieldType) -> Result<TypeId, AllocError>
+        ensures added { IfOk result (λ id. Merges (array_kind field) id self.old self.new) }
+        ensures refused { OnErr result (self.new ≡ self.old) }
+    {
+        self.insert(CompositeType::Array(ArrayType { field }), true, None, false)
+    }
+
+    /// The id of the type of this form, finality and supertype: of the latest equal live type, or else
+    /// of one that is added.
+    ///
+    /// # Errors
+    ///
+    /// Want of memory. The table stays as it was.
+    pub fn add_composite(
+        &mut self,
+        kind: CompositeType,
+        is_final: bool,
+        supertype: Option<TypeId>,
+    ) -> Result<TypeId, AllocError>
+        ensures added { IfOk result (λ id. Merges (declared_kind (form_of kind) is_final supertype) id self.old self.new) }
+        ensures refused { OnErr result (self.new ≡ self.old) }
+    {
+        self.insert(kind, is_final, supertype, false)
+    }
+
+    /// Adds an explicit recursion group of `count` types, which `build` makes of their ids, and gives
+    /// the ids. No group is added for no types. Members of explicit groups stand for themselves.
+    ///
+    /// # Errors
+    ///
+    /// `WrongCount` where `build` made another count of types, `Memory` for want of memory, and what
+    /// `build` answered. The table stays as it was.
+    pub fn add_rec_group<F: FnOnce(&[TypeId]) -> Result<Vec<NewType>, IrError> + Drop>(
+        &mut self,
+        count: usize,
+        build: F,
+    ) -> Result<Vec<TypeId>, IrError>
+        requires { FnOnceTakesAt F.FnOnce build (range_with_len (next_id self.old) count) }
+        ensures ids { IfOk result (λ ids. ids.items ≡ range_with_len (next_id self.old) count) }
+        ensures added { OnOk result (IsBuilt (FnOnceReturnsAt F.FnOnce build (range_with_len (next_id self.old) count)) count self.old self.new) }
+        ensures cause { IfErr result (IsCause (FnOnceReturnsAt F.FnOnce build (range_with_len (next_id self.old) count)) count) }
+        ensures refused { OnErr result (self.new ≡ self.old) }
+    {
+        let first = self.types.next_id();
+        if count > usize::MAX - first.index() {
+            return Err(IrError::Memory);
+        }
+        let ids = ids_from(self.alloc, first, count)?;
+        let members = build(ids.as_slice())?;
+        if members.len() != count {
+            return Err(IrError::WrongCount);
+        }
+        self.append_group(members)?;
+        Ok(ids)
+    }
+
+    // Adds an explicit group of these types. Asks that their ids fit.
+    fn append_group(&mut self, members: Vec<NewType>) -> Result<(), AllocError>
+        requires { next_id self.old + length members.items < 2 ^ 64 }
+        ensures added { OnOk result (AddsGroup members.items self.old self.new) }
+        ensures refused { OnErr result (self.new ≡ self.old) }
+    {
+        let count = members.len();
+        if count == 0 {
+            return Ok(());
+        }
+        let first = self.types.next_id();
+        let ids = ids_from(self.alloc, first, count)?;
+        let types = types_of(self.alloc, first, members)?;
+        self.types.reserve(count)?;
+        self.homes.reserve(count)?;
+        self.groups.reserve(1)?;
+        let fresh = mem::replace(&mut self.fresh, false);
+        note_all(&mut self.index, types.as_slice())?;
+        let home = self.groups.alloc_reserved(RecGroup::new(true, ids));
+        push_types(&mut self.types, &mut self.homes, types, home);
+        self.fresh = fresh;
+        Ok(())
+    }
+}

@@ -1,0 +1,73 @@
+// Adds answer an equal live type where there is one.
+use std::test::Fail;
+use walrus_arena::LocalId;
+use walrus_types::{
+    AbstractHeapType, ArrayType, CompositeType, FieldType, HeapType, ModuleLocals, ModuleTypes,
+    RefType, StorageType, ValType,
+};
+
+#[test]
+fn functions(rt: HostRuntime) -> Result<(), Fail> {
+    let mut types = ModuleTypes::new(rt.alloc());
+    let a = types.add(&[ValType::I64], &[])?;
+    let b = types.add(&[], &[ValType::I64])?;
+    let c = types.add(&[ValType::I64], &[])?;
+    assert_eq!(rt; (a.index(), b.index(), c.index()), (0, 1, 0));
+    assert_eq!(rt; types.find(&[], &[ValType::I64]), Some(b));
+    assert!(rt; types.find(&[], &[]).is_none());
+    Ok(())
+}
+
+fn bytes() -> FieldType {
+    FieldType {
+        element_type: StorageType::I8,
+        mutable: false,
+    }
+}
+
+fn array() -> CompositeType {
+    CompositeType::Array(ArrayType { field: bytes() })
+}
+
+#[test]
+fn other_forms(rt: HostRuntime) -> Result<(), Fail> {
+    let mut types = ModuleTypes::new(rt.alloc());
+    let a = types.add_struct(Vec::new(rt.alloc()))?;
+    let b = types.add_array(bytes())?;
+    let c = types.add_composite(array(), true, None)?;
+    let d = types.add_composite(array(), false, None)?;
+    assert_eq!(rt; (a.index(), b.index(), c.index(), d.index()), (0, 1, 1, 2));
+    Ok(())
+}
+
+#[test]
+fn entry_types(rt: HostRuntime) -> Result<(), Fail> {
+    let mut types = ModuleTypes::new(rt.alloc());
+    let a = types.add_entry_ty(&[])?;
+    let b = types.add(&[], &[])?;
+    let c = types.add_entry_ty(&[])?;
+    assert_eq!(rt; (a.index(), b.index(), c.index()), (0, 1, 0));
+    Ok(())
+}
+
+#[test]
+fn locals(rt: HostRuntime) -> Result<(), Fail> {
+    let mut locals = ModuleLocals::new(rt.alloc());
+    let a = locals.add(ValType::V128)?;
+    let b = locals.add(ValType::I32)?;
+    assert_eq!(rt; a.index(), 0);
+    assert_eq!(rt; b, LocalId::from_index(1));
+    Ok(())
+}
+
+#[test]
+fn order(rt: HostRuntime) {
+    let null = ValType::Ref(RefType::FUNCREF);
+    let non_null = ValType::Ref(RefType {
+        nullable: false,
+        heap_type: HeapType::Abstract(AbstractHeapType::NoExn),
+    });
+    assert!(rt; ValType::V128 < non_null);
+    assert!(rt; non_null < null);
+    assert!(rt; null < ValType::Ref(RefType::EXTERNREF));
+}

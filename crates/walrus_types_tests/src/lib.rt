@@ -1,0 +1,9 @@
+//! Tests of the type table, each call with ample memory.
+#![tactic(auto)]
+
+#[cfg(test)]
+mod adds;
+#[cfg(test)]
+mod edits;
+#[cfg(test)]
+mod groups;
