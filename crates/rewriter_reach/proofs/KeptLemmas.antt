@@ -1,7 +1,6 @@
 -- What is marked of a module is what is kept.
-use Rattle.std.proofs.Common.{◌≡◌, ℕ, ◌<◌, Bool, true, false, List, [], ◌∷◌, ◌++◌, length, map, Some, None, Option, All, Contains, refl, sym, ap, subst, ◌∙◌, inl, inr, arith, option_to_list}
+use Rattle.std.proofs.Common.{◌≡◌, ◌+◌, length-append, ℕ, ◌<◌, Bool, false, List, [], ◌∷◌, ◌++◌, length, map, Some, None, Option, All, Contains, refl, sym, ap, subst, ◌∙◌, inl, inr, arith, option_to_list}
 use Rattle.std.specs.Prelude.{slice_get, IfSome, replicate, option_map, ◌↔◌}
-use Rattle.std.proofs.Math.ListN.{set, length-set}
 use Rattle.std.proofs.lemmas.List.{length-replicate}
 use Rattle.std.proofs.Math.ListN.{length-map}
 use Rattle.std.proofs.lemmas.List.Elements.{Contains-append_left, Contains-append_right, Contains-append_cases, Contains-push, All-contains}
@@ -16,25 +15,28 @@ use Rattle.rewriter_module.specs.declared.Export.{Export}
 use Rattle.rewriter_module.specs.declared.Module.{Module}
 use Rattle.rewriter_module.specs.Meaning.{code_in, function_of, export_of, meaning, known_of, IsSound}
 use Rattle.rewriter_module.specs.Written.{function_at, no_function}
-use Rattle.rewriter_reach.specs.Calls.{called_in}
+use Rattle.rewriter_reach.specs.Calls.{called_in, roots_of}
+use Rattle.rewriter_reach.specs.Seen.{Met, meet}
+use Rattle.std.specs.List.{fold, AllByRecursion}
 use Rattle.rewriter_reach.specs.Marks.{IsMarked}
 use Rattle.rewriter_reach.proofs.CallLemmas.{called_known}
-use Rattle.rewriter_reach.proofs.ListLemmas.{contains_cases, Contains-map, Contains-of_map, called_by, calls}
-use Rattle.rewriter_reach.proofs.SweepLemmas.{Sweep, sweep_begins, sweep_passes, sweep_marks, roots_marked, all_marked}
+use Rattle.rewriter_reach.proofs.ListLemmas.{contains_cases, contains_first, contains_later, Contains-map, Contains-of_map, called_by, calls, left_out, marked_below}
+use Rattle.rewriter_reach.proofs.MetLemmas.{Grows, all_met}
+use Rattle.rewriter_reach.proofs.SweepLemmas.{Sweep, sweep_begins, sweep_turn, all_marked}
 
 -- the functions that a module's function calls
 abbrev pub next_of : model.Module → ℕ → List ℕ
 next_of m f = called_in (function_at m f).body
 
-abbrev pub roots_of : Module → List ℕ
-roots_of input = map (λ e. e.function) input.exports.items ++ option_to_list input.start
-
 -- the loop's invariant
-pub record Sweeps (input : Module) (marks : List Bool) (work : List ℕ) : Type 0 where
-  pub sized : length marks ≡ length input.functions.items
-  pub in_range : (f : ℕ) → Contains work f → f < length input.functions.items
+pub record Sweeps (input : Module) (s : Met) : Type 0 where
+  pub sized : length s.marks ≡ length input.functions.items
   pub sweep : (features : Features) → IsSound (known_of features input) input.functions.items
-      → Sweep (λ f. Kept (meaning features input) (FunctionItem f)) (next_of (meaning features input)) (roots_of input) marks work
+      → Sweep (λ f. Kept (meaning features input) (FunctionItem f)) (next_of (meaning features input)) (roots_of input) s
+
+in_list : (P : ℕ → Type 0) (fs : List ℕ) → ((f : ℕ) → Contains fs f → P f) → AllByRecursion P fs
+in_list P [] h = tt
+in_list P (f ∷ fs) h = (h f (contains_first f fs f refl), in_list P fs (λ g c. h g (contains_later f fs g c)))
 
 start_is : (start : Option ℕ) (f : ℕ) → Contains (option_to_list start) f → start ≡ Some f
 start_is None f c = absurd (omega (arith, c.1))
@@ -103,47 +105,52 @@ module _ (input : Module) (features : Features) where
     kept_marked i (root r) = root_marked i r
     kept_marked j (refers {i} k r) = referred_marked i j (kept_marked i k) r
 
-pub sweeps_begin : (input : Module) (marks : List Bool) → marks ≡ replicate (length input.functions.items) false → All (λ e. e.function < length input.functions.items) input.exports.items → IfSome input.start (λ f. f < length input.functions.items)
-    → Sweeps input marks (roots_of input)
-sweeps_begin input marks is exported started = record {
-  sized = ap length is ∙ length-replicate (length input.functions.items) false;
-  in_range = roots_in input exported started;
-  sweep = λ features sound. subst (λ (bs : List Bool). Sweep (λ f. Kept (meaning features input) (FunctionItem f)) (next_of (meaning features input)) (roots_of input) bs (roots_of input)) (sym is)
-      (sweep_begins (length input.functions.items) (root_kept input features));
+pub sweeps_begin : (input : Module) (s t : Met) → s ≡ record { marks = replicate (length input.functions.items) false; work = [] } → All (λ e. e.function < length input.functions.items) input.exports.items → IfSome input.start (λ f. f < length input.functions.items)
+    → t ≡ fold meet s (roots_of input) → Sweeps input t
+sweeps_begin input s t is exported started met =
+    let n = length input.functions.items in
+    let none : Met = record { marks = replicate n false; work = [] } in
+    let sized : length none.marks ≡ n = length-replicate n false in
+    let in_range = in_list (λ f. f < length none.marks) (roots_of input) (λ f c. omega (arith, roots_in input exported started f c)) in
+    let grows : Grows none t (roots_of input) = subst (λ (u : Met). Grows none u (roots_of input)) (sym (met ∙ ap (λ (v : Met). fold meet v (roots_of input)) is)) (all_met (roots_of input) none in_range) in
+    record {
+      sized = grows.sized ∙ sized;
+      sweep = λ features sound. sweep_begins n t grows (root_kept input features);
+    }
+
+-- what is taken from the work is in range
+pub sweeps_in : (input : Module) (marks : List Bool) (work : List ℕ) (f : ℕ) → (features : Features) × IsSound (known_of features input) input.functions.items
+    → Sweeps input (record { marks = marks; work = work ++ f ∷ [] }) → f < length input.functions.items
+sweeps_in input marks work f sound h = omega (arith, marked_below marks f ((h.sweep sound.0 sound.1).pending f (Contains-push work f)), h.sized)
+
+turn_grows : (input : Module) (marks : List Bool) (work : List ℕ) (t : Met) (f : ℕ) (g : Function) → length marks ≡ length input.functions.items → slice_get input.functions.items f ≡ Some g → (features : Features) → IsSound (known_of features input) input.functions.items
+    → t ≡ fold meet (record { marks = marks; work = work }) (called_in (code_in (known_of features input) g).body) → Grows (record { marks = marks; work = work }) t (next_of (meaning features input) f)
+turn_grows input marks work t f g sized at features sound met =
+    let code = code_in (known_of features input) g in
+    let in_range = subst (λ n. AllByRecursion (λ a. a < n) (called_in code.body)) (sym sized) (called_known (known_of features input) g.place g.body.now code (sound.spelled f g at)) in
+    let grows = subst (λ (u : Met). Grows (record { marks = marks; work = work }) u (called_in code.body)) (sym met) (all_met (called_in code.body) (record { marks = marks; work = work }) in_range) in
+    subst (λ (x : model.Function). Grows (record { marks = marks; work = work }) t (called_in x.body)) (sym (function_is input features f g at)) grows
+
+-- a turn
+pub sweeps_turn : (input : Module) (marks : List Bool) (work : List ℕ) (t : Met) (f : ℕ) (g : Function) → slice_get input.functions.items f ≡ Some g → (features : Features) × IsSound (known_of features input) input.functions.items
+    → ((features : Features) → IsSound (known_of features input) input.functions.items → t ≡ fold meet (record { marks = marks; work = work }) (called_in (code_in (known_of features input) g).body))
+    → Sweeps input (record { marks = marks; work = work ++ f ∷ [] }) → Sweeps input t
+sweeps_turn input marks work t f g at known met h = record {
+  sized = (turn_grows input marks work t f g h.sized at known.0 known.1 (met known.0 known.1)).sized ∙ h.sized;
+  sweep = λ features sound.
+      sweep_turn marks work f t (turn_grows input marks work t f g h.sized at features sound (met features sound))
+      (λ b. call_kept input features f b (sweeps_in input marks work f known h)) (h.sweep features sound);
 }
 
-pub sweeps_pass : (input : Module) (marks : List Bool) (work : List ℕ) (f : ℕ) → IsMarked marks f → Sweeps input marks (work ++ f ∷ []) → Sweeps input marks work
-sweeps_pass input marks work f marked h = record {
-  sized = h.sized;
-  in_range = λ g c. h.in_range g (Contains-append_left work (f ∷ []) g c);
-  sweep = λ features sound. sweep_passes marks work f marked (h.sweep features sound);
-}
+pub turn_falls : (input : Module) (marks : List Bool) (work : List ℕ) (t : Met) (f : ℕ) (g : Function) → slice_get input.functions.items f ≡ Some g → (features : Features) × IsSound (known_of features input) input.functions.items
+    → ((features : Features) → IsSound (known_of features input) input.functions.items → t ≡ fold meet (record { marks = marks; work = work }) (called_in (code_in (known_of features input) g).body))
+    → Sweeps input (record { marks = marks; work = work ++ f ∷ [] }) → left_out t.marks + length t.work < left_out marks + length (work ++ f ∷ [])
+turn_falls input marks work t f g at known met h =
+    let grows = turn_grows input marks work t f g h.sized at known.0 known.1 (met known.0 known.1) in
+    omega (arith, grows.counted, length-append work (f ∷ []))
 
-pub sweeps_mark : (input : Module) (marks : List Bool) (work more : List ℕ) (f : ℕ) (g : Function) → slice_get input.functions.items f ≡ Some g → (features : Features) × IsSound (known_of features input) input.functions.items
-    → ((features : Features) → IsSound (known_of features input) input.functions.items → more ≡ work ++ called_in (code_in (known_of features input) g).body)
-    → Sweeps input marks (work ++ f ∷ []) → Sweeps input (set marks f true) more
-sweeps_mark input marks work more f g at sound pushed h = record {
-  sized = length-set marks f true ∙ h.sized;
-  in_range = λ a c.
-      let code = code_in (known_of sound.0 input) g in
-      elim (Contains-append_cases work (called_in code.body) a (subst (λ (fs : List ℕ). Contains fs a) (pushed sound.0 sound.1) c)) as (λ _. a < length input.functions.items) [
-        | inl d ↦ h.in_range a (Contains-append_left work (f ∷ []) a d)
-        | inr d ↦ All-contains (λ b. b < length input.functions.items) (called_in code.body) a (called_known (known_of sound.0 input) g.place g.body.now code (sound.1.spelled f g at)) d
-      ];
-  sweep = λ features is.
-      let m = meaning features input in
-      let below = h.in_range f (Contains-push work f) in
-      let next : more ≡ work ++ next_of m f = pushed features is ∙ ap (λ (x : model.Function). work ++ called_in x.body) (sym (function_is input features f g at)) in
-      subst (λ (fs : List ℕ). Sweep (λ a. Kept m (FunctionItem a)) (next_of m) (roots_of input) (set marks f true) fs) (sym next)
-      (sweep_marks marks work f (omega (arith, h.sized)) (λ b. call_kept input features f b below) (h.sweep features is));
-}
-
-pub sweeps_end : (input : Module) (marks : List Bool) (work : List ℕ) → work ≡ [] → Sweeps input marks work → (features : Features) → IsSound (known_of features input) input.functions.items
+pub sweeps_end : (input : Module) (marks : List Bool) → Sweeps input (record { marks = marks; work = [] }) → (features : Features) → IsSound (known_of features input) input.functions.items
     → (f : ℕ) → IsMarked marks f ↔ Kept (meaning features input) (FunctionItem f)
-sweeps_end input marks work none h features sound f =
-    let sweep = subst (λ (fs : List ℕ). Sweep (λ a. Kept (meaning features input) (FunctionItem a)) (next_of (meaning features input)) (roots_of input) marks fs) none (h.sweep features sound) in
-    (sweep.sound f, λ kept. kept_marked input features marks (roots_marked sweep) (all_marked sweep) (FunctionItem f) kept)
-
--- what was taken from the work is in range
-pub sweeps_in : (input : Module) (marks : List Bool) (work rest : List ℕ) (f : ℕ) → work ≡ rest ++ f ∷ [] → Sweeps input marks work → f < length input.functions.items
-sweeps_in input marks work rest f is h = h.in_range f (subst (λ (fs : List ℕ). Contains fs f) (sym is) (Contains-push rest f))
+sweeps_end input marks h features sound f =
+    let sweep = h.sweep features sound in
+    (sweep.sound f, λ kept. kept_marked input features marks sweep.rooted (all_marked sweep) (FunctionItem f) kept)

@@ -3,3 +3,4 @@ pub mod CallLemmas
 pub mod ListLemmas
 pub mod SweepLemmas
 pub mod KeptLemmas
+pub mod MetLemmas

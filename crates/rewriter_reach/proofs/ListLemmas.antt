@@ -1,5 +1,5 @@
 -- Elements of lists, and flags.
-use Rattle.std.proofs.Common.{◌≡◌, ℕ, ◌+◌, ◌*◌, ◌^◌, ◌<◌, ◌⊎◌, zero, suc, Bool, true, false, not, cond, List, [], ◌∷◌, length, get_or, map, Contains, refl, sym, ap, subst, ◌∙◌, inl, inr, arith, count_by}
+use Rattle.std.proofs.Common.{◌≡◌, ℕ, ◌+◌, ◌<◌, ◌⊎◌, zero, suc, Bool, true, false, not, cond, List, [], ◌∷◌, length, get_or, map, Contains, refl, sym, ap, subst, ◌∙◌, inl, inr, arith, count_by}
 use Rattle.std.specs.Prelude.{replicate}
 use Rattle.std.proofs.Math.ListN.{set}
 use Rattle.std.proofs.lemmas.List.{get_or-set_same, get_or-set_other, get_or-replicate, get_or_past, length-replicate}
@@ -9,10 +9,10 @@ use Rattle.wasm_model.specs.Module.{Operator, Nop, I32Const, Drop, Return, Call,
 use Rattle.rewriter_reach.specs.Calls.{called}
 use Rattle.rewriter_reach.specs.Marks.{IsMarked}
 
-contains_first : {X : Type 0} (y : X) (xs : List X) (x : X) → y ≡ x → Contains (y ∷ xs) x
+pub contains_first : {X : Type 0} (y : X) (xs : List X) (x : X) → y ≡ x → Contains (y ∷ xs) x
 contains_first y xs x e = (0, omega arith, e)
 
-contains_later : {X : Type 0} (y : X) (xs : List X) (x : X) → Contains xs x → Contains (y ∷ xs) x
+pub contains_later : {X : Type 0} (y : X) (xs : List X) (x : X) → Contains xs x → Contains (y ∷ xs) x
 contains_later y xs x c = (suc c.0, omega (arith, c.1), c.2)
 
 contains_at : {X : Type 0} (y : X) (xs : List X) (x : X) (k : ℕ) → k < length (y ∷ xs) → get_or (y ∷ xs) k x ≡ x → (y ≡ x) ⊎ Contains xs x
@@ -96,6 +96,5 @@ one_less marks i below h =
     let one : (let a : ℕ = 1 in cond (not (get_or marks i false)) a 0 ≡ a) = ap (λ (b : Bool). cond (not b) 1 0) h in
     omega (arith, moved, one)
 
--- a mark more outweighs all that memory can hold
-pub falls : (marks : List Bool) (i work more : ℕ) → i < length marks → get_or marks i false ≡ false → more < 2 ^ 64 → left_out (set marks i true) * 2 ^ 64 + more < left_out marks * 2 ^ 64 + work
-falls marks i work more below h small = let less = one_less marks i below h in omega (arith, less)
+pub marked_below : (marks : List Bool) (i : ℕ) → IsMarked marks i → i < length marks
+marked_below marks i h = elim (cases_lt i (length marks)) as (λ _. i < length marks) [ inl below ↦ below | inr past ↦ absurd (false≢true (sym (get_or_past marks i false past) ∙ h)) ]

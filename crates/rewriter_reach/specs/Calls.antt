@@ -1,7 +1,8 @@
--- The functions that operators call.
-use Rattle.std.specs.Prelude.{ℕ, List, [], ◌∷◌}
+-- The functions that operators call, and those to begin with.
+use Rattle.std.specs.Prelude.{ℕ, List, [], ◌∷◌, ◌++◌, map, option_to_list}
 use Rattle.wasm_model.specs.Module.{Operator, Return, Call, End, operators}
 use Rattle.wasm_model.specs.NormalForm.{normal_form}
+use Rattle.rewriter_module.specs.declared.Module.{Module}
 use Rattle.rewriter_reach.specs.declared.calls.Step.{Step}
 use Rattle.rewriter_reach.specs.declared.calls.Step.TheVariants as step
 
@@ -21,3 +22,7 @@ step_of (Call f) = step.Call f
 step_of Return = step.End
 step_of End = step.End
 step_of _ = step.Other
+
+-- the functions that exports name, and the start function
+abbrev pub roots_of : Module → List ℕ
+roots_of input = map (λ e. e.function) input.exports.items ++ option_to_list input.start

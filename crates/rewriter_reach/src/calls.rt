@@ -1,6 +1,7 @@
 //! The functions that a body calls.
 
-ghost use Rattle.std.specs.Prelude.{◌≡◌, ◌<◌, ◌++◌, ℕ, List, Ok, length, IfOk, OnOk};
+ghost use Rattle.std.specs.Prelude.{◌≡◌, ◌<◌, ℕ, List, Ok, length, IfOk, OnOk};
+ghost use Rattle.std.specs.List.{fold};
 ghost use Rattle.wasm_reader.specs.Cursor.{rest};
 ghost use Rattle.wasm_reader.specs.Reading.{answer, plain};
 ghost use Rattle.wasm_model.specs.Features.{Known};
@@ -8,7 +9,9 @@ ghost use Rattle.wasm_model.specs.Module as model;
 ghost use Rattle.wasm_model.specs.Spells.{Code};
 ghost use Rattle.wasm_model.specs.Bodies.{operator_at, code_at};
 ghost use Rattle.rewriter_reach.specs.Calls.{called_in, step_of};
+ghost use Rattle.rewriter_reach.specs.Seen.{met_by, meet};
 
+use crate::seen::Seen;
 use std::alloc::AllocError;
 use wasm_reader::{BinaryReader, Result as ReadResult};
 
@@ -38,12 +41,13 @@ fn read_step(reader: &mut BinaryReader) -> ReadResult<Step>
     }
 }
 
-/// Adds the functions that the normal form of a body calls, one for each call.
-pub(crate) fn push_called(called: &mut Vec<u32>, body: &[u8]) -> Result<(), AllocError>
-    requires { (known : Known) × (place : ℕ) × (code : Code) × (code_at known place body.now ≡ Ok code) }
+/// Meets the functions that the normal form of a body calls.
+pub(crate) fn meet_called(seen: &mut Seen, body: &[u8]) -> Result<(), AllocError>
+    requires { (known : Known) × (place : ℕ) × (code : Code) × (code_at known place body.now ≡ Ok code)
+        × (known.functions ≡ length seen.old.marks.items) }
     ensures { OnOk result ((known : Known) (place : ℕ) (code : Code) →
         code_at known place body.now ≡ Ok code →
-        called.new.items ≡ called.old.items ++ called_in code.body) }
+        met_by seen.new ≡ fold meet (met_by seen.old) (called_in code.body)) }
 {
     let mut reader = BinaryReader::new(body, 0);
     // the count of locals
@@ -55,7 +59,7 @@ pub(crate) fn push_called(called: &mut Vec<u32>, body: &[u8]) -> Result<(), Allo
             unreachable!()
         };
         match step {
-            Step::Call(function) => called.push(function)?,
+            Step::Call(function) => seen.meet(function)?,
             Step::Other => {}
             Step::End => return Ok(()),
         }

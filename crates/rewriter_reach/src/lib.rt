@@ -4,5 +4,6 @@
 
 mod calls;
 mod reach;
+mod seen;
 
 pub use reach::kept_functions;
