@@ -15,6 +15,3 @@ pub use running::{Summary, run};
 pub use wasm_model::fault::{Fault, Form, Limited, Space};
 pub use wasm_model::options::Options;
 pub use wasm_reader::Error;
-
-#[cfg(test)]
-mod tests;

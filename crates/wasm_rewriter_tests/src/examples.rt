@@ -1,0 +1,112 @@
+// What is rewritten, to what, and with which places.
+use crate::pieces::{
+    CODE, EXPORT, FUNCTION, HEADER, NOP_CODE, TWO_FUNCTIONS, TYPE, check_rewritten, exported,
+    fault_of, smallest, with_places,
+};
+use std::test::Fail;
+use wasm_rewriter::{Fault, Options, Space, rewrite};
+
+#[test]
+fn bodies_are_written_in_normal_form(rt: HostRuntime) -> Result<(), Fail> {
+    // code sections before and after, and the places of their operators
+    let examples: [(&[u8], &[u8], &[(u32, u32)]); 4] = [
+        // a body that is as short as can be stays
+        (CODE, CODE, &[(3, 3)]),
+        // a `nop` goes
+        (NOP_CODE, CODE, &[(4, 3)]),
+        // what stands behind a `return` goes, but for the `end`
+        (
+            b"\x0a\x08\x01\x06\x00\x0f\x41\x07\x1a\x0b",
+            b"\x0a\x05\x01\x03\x00\x0f\x0b",
+            &[(3, 3), (7, 4)],
+        ),
+        // of two equal operators each is paired with its own
+        (
+            b"\x0a\x0b\x01\x09\x00\x41\x07\x1a\x01\x41\x07\x1a\x0b",
+            b"\x0a\x0a\x01\x08\x00\x41\x07\x1a\x41\x07\x1a\x0b",
+            &[(3, 3), (5, 5), (7, 6), (9, 8), (10, 9)],
+        ),
+    ];
+    for (code, new_code, places) in examples {
+        let input = exported(rt.alloc(), code)?;
+        let output = exported(rt.alloc(), new_code)?;
+        check_rewritten(&rt, rt.alloc(), &input, &output, places)?;
+    }
+    Ok(())
+}
+
+#[test]
+fn what_nothing_reaches_goes(rt: HostRuntime) -> Result<(), Fail> {
+    let second_exported: &[u8] = b"\x07\x05\x01\x01f\x00\x01";
+    let code: &[u8] = b"\x0a\x08\x02\x03\x00\x0f\x0b\x02\x00\x0b";
+    let input = [HEADER, TYPE, TWO_FUNCTIONS, second_exported, code].concat(rt.alloc())?;
+    check_rewritten(&rt, rt.alloc(), &input, &smallest(rt.alloc())?, &[(7, 3)])
+}
+
+#[test]
+fn equal_types_merge(rt: HostRuntime) -> Result<(), Fail> {
+    let types: &[u8] = b"\x01\x07\x02\x60\x00\x00\x60\x00\x00";
+    let function_of_the_second: &[u8] = b"\x03\x02\x01\x01";
+    let input = [HEADER, types, function_of_the_second, EXPORT, CODE].concat(rt.alloc())?;
+    check_rewritten(&rt, rt.alloc(), &input, &smallest(rt.alloc())?, &[(3, 3)])
+}
+
+#[test]
+fn padded_numbers_are_written_short(rt: HostRuntime) -> Result<(), Fail> {
+    let padded: &[u8] = b"\x01\x84\x00\x01\x60\x00\x00";
+    let input = [HEADER, padded, FUNCTION, EXPORT, CODE].concat(rt.alloc())?;
+    check_rewritten(&rt, rt.alloc(), &input, &smallest(rt.alloc())?, &[(3, 3)])
+}
+
+#[test]
+fn a_header_stays_alone(rt: HostRuntime) -> Result<(), Fail> {
+    check_rewritten(&rt, rt.alloc(), HEADER, HEADER, &[])
+}
+
+#[test]
+fn producers_tell_who_processed_a_module(rt: HostRuntime) -> Result<(), Fail> {
+    let mut options = with_places();
+    options.producers = true;
+    let producers: &[u8] = b"\x00\x27\x09producers\x01\x0cprocessed-by\x01\x06walrus\x060.28.0";
+    let output = [HEADER, producers].concat(rt.alloc())?;
+    let rewritten = rewrite(rt.alloc(), HEADER, &options)?;
+    assert_eq!(rt; rewritten.bytes.as_slice(), output.as_slice());
+    let pairs = rewritten.places.expect(&rt, "no places");
+    assert!(rt; pairs.is_empty());
+    Ok(())
+}
+
+#[test]
+fn places_are_given_where_asked_for(rt: HostRuntime) -> Result<(), Fail> {
+    let mut options = with_places();
+    options.places = false;
+    let input = exported(rt.alloc(), NOP_CODE)?;
+    let output = smallest(rt.alloc())?;
+    let rewritten = rewrite(rt.alloc(), &input, &options)?;
+    assert_eq!(rt; rewritten.bytes.as_slice(), output.as_slice());
+    assert!(rt; rewritten.places.is_none());
+    Ok(())
+}
+
+#[test]
+fn an_export_of_a_missing_function_is_refused(rt: HostRuntime) -> Result<(), Fail> {
+    let input = [HEADER, EXPORT].concat(rt.alloc())?;
+    let space = Space::Function;
+    assert_eq!(rt;
+        fault_of(rt.alloc(), &input),
+        Some(Fault::Index { space, offset: 14 })
+    );
+    Ok(())
+}
+
+#[test]
+fn a_call_asks_for_names_and_producers_alone(rt: HostRuntime) {
+    let want = Options {
+        only_stable_features: false,
+        legacy_exceptions: true,
+        names: true,
+        producers: true,
+        places: false,
+    };
+    assert_eq!(rt; Options::new(), want);
+}

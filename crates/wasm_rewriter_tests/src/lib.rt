@@ -1,0 +1,13 @@
+//! Tests of `wasm_rewriter`, against examples that were worked by hand.
+#![tactic(auto)]
+
+#[cfg(test)]
+mod examples;
+#[cfg(test)]
+mod faults;
+#[cfg(test)]
+mod pieces;
+#[cfg(test)]
+mod prefixes;
+#[cfg(test)]
+mod runs;
