@@ -164,9 +164,8 @@ operators_written m n numbering few (o ∷ os) ranges kept = (operator_written m
 written_of_kept : (features : Features) (m : Module) (n : Numbers) → Rules features m → IsNumbering m n → length n.functions < 2 ^ 32 → AllByRecursion (λ g. AllInRange g.body) m.functions → (f : ℕ) → Kept m (FunctionItem f) → AllByRecursion (IsWrittenOperator m n) (written_operators m n f)
 written_of_kept features m n rules numbering few ranges f kept =
     operators_written m n numbering few (operators (normal_form (function_at m f).body))
-      (normal_in_range (function_at m f).body (All-from_recursion (λ g. AllInRange g.body) m.functions ranges f no_function (kept_in_range features m rules (FunctionItem f) kept)))
-      (all_names_kept features m rules f kept)
-
+    (normal_in_range (function_at m f).body (All-from_recursion (λ g. AllInRange g.body) m.functions ranges f no_function (kept_in_range features m rules (FunctionItem f) kept)))
+    (all_names_kept features m rules f kept)
 
 export_spelled : (name : List ℕ) (f : ℕ) → IsUtf8 name → length name < 2 ^ 32 → f < 2 ^ 32 → SpellsExport (export_bytes (record { name = name; item = FunctionItem f })) (record { name = name; item = FunctionItem f })
 export_spelled name f text small few = (sized_bytes name, 0 ∷ u32_bytes f, refl, (u32_bytes (length name), refl, u32_spells (length name) small, text), (u32_bytes f, refl, u32_spells f few))
@@ -230,30 +229,30 @@ both P Q (x ∷ xs) h k = ((h.0, k.0), both P Q xs h.1 k.1)
 types_spelled : (features : Features) (bytes : List ℕ) (m : Module) (n : Numbers) → Reads features bytes m → IsNumbering m n → AllByRecursion (λ t. SpellsFunctionType (type_bytes t) t × ((length t.params ≤ 1000) × (length t.results ≤ 1000))) (written m n).types
 types_spelled features bytes m n reads numbering =
     mapped (λ t. Kept m (TypeItem t)) (λ t. SpellsFunctionType (type_bytes t) t × ((length t.params ≤ 1000) × (length t.results ≤ 1000))) (type_at m) n.types
-      (λ (t : ℕ) (kept : Kept m (TypeItem t)).
-        let fits : (length (type_at m t).params ≤ 1000) × (length (type_at m t).results ≤ 1000) = types_fit m reads.rules.fits t (kept_in_range features m reads.rules (TypeItem t) kept) in
-        (type_spelled (type_at m t) (omega arith) (omega arith), fits))
-      (recursion_from_All (λ t. Kept m (TypeItem t)) n.types numbering.types)
+    (λ (t : ℕ) (kept : Kept m (TypeItem t)).
+    let fits : (length (type_at m t).params ≤ 1000) × (length (type_at m t).results ≤ 1000) = types_fit m reads.rules.fits t (kept_in_range features m reads.rules (TypeItem t) kept) in
+    (type_spelled (type_at m t) (omega arith) (omega arith), fits))
+    (recursion_from_All (λ t. Kept m (TypeItem t)) n.types numbering.types)
 
 functions_typed : (features : Features) (bytes : List ℕ) (m : Module) (n : Numbers) → Reads features bytes m → IsNumbering m n → AllByRecursion (λ g. g.type_ < length n.types) (written m n).functions
 functions_typed features bytes m n reads numbering =
     typed_functions m n (length (u32_bytes (length n.functions))) (length n.types) n.functions
-      (weaken (λ f. Kept m (FunctionItem f)) (λ f. slice_index n.new_type (function_at m f).type_ < length n.types) n.functions
-        (λ (f : ℕ) (kept : Kept m (FunctionItem f)). type_number_small features m n reads.rules numbering f kept)
-        (recursion_from_All (λ f. Kept m (FunctionItem f)) n.functions numbering.functions))
+    (weaken (λ f. Kept m (FunctionItem f)) (λ f. slice_index n.new_type (function_at m f).type_ < length n.types) n.functions
+    (λ (f : ℕ) (kept : Kept m (FunctionItem f)). type_number_small features m n reads.rules numbering f kept)
+    (recursion_from_All (λ f. Kept m (FunctionItem f)) n.functions numbering.functions))
 
 functions_nested : (features : Features) (bytes : List ℕ) (m : Module) (n : Numbers) → Reads features bytes m → IsNumbering m n → AllByRecursion (λ g. Nests g.body) (written m n).functions
 functions_nested features bytes m n reads numbering =
     nested_functions m n (length (u32_bytes (length n.functions))) n.functions
-      (weaken (λ f. Kept m (FunctionItem f)) (λ f. Nests (function_at m f).body) n.functions
-        (λ (f : ℕ) (kept : Kept m (FunctionItem f)). bodies_of_kept features m reads.rules f kept)
-        (recursion_from_All (λ f. Kept m (FunctionItem f)) n.functions numbering.functions))
+    (weaken (λ f. Kept m (FunctionItem f)) (λ f. Nests (function_at m f).body) n.functions
+    (λ (f : ℕ) (kept : Kept m (FunctionItem f)). bodies_of_kept features m reads.rules f kept)
+    (recursion_from_All (λ f. Kept m (FunctionItem f)) n.functions numbering.functions))
 
 operators_of_functions : (features : Features) (bytes : List ℕ) (m : Module) (n : Numbers) → Reads features bytes m → IsNumbering m n → length n.functions < 2 ^ 32 → AllByRecursion (λ f. AllByRecursion (IsWrittenOperator m n) (written_operators m n f)) n.functions
 operators_of_functions features bytes m n reads numbering few =
     weaken (λ f. Kept m (FunctionItem f)) (λ f. AllByRecursion (IsWrittenOperator m n) (written_operators m n f)) n.functions
-      (λ (f : ℕ) (kept : Kept m (FunctionItem f)). written_of_kept features m n reads.rules numbering few (spelled_in_range reads.spells.codes m.functions reads.spells.spells_codes) f kept)
-      (recursion_from_All (λ f. Kept m (FunctionItem f)) n.functions numbering.functions)
+    (λ (f : ℕ) (kept : Kept m (FunctionItem f)). written_of_kept features m n reads.rules numbering few (spelled_in_range reads.spells.codes m.functions reads.spells.spells_codes) f kept)
+    (recursion_from_All (λ f. Kept m (FunctionItem f)) n.functions numbering.functions)
 
 first_of : {A : Type 0} (P Q : A → Type 0) (xs : List A) → AllByRecursion (λ x. P x × Q x) xs → AllByRecursion P xs
 first_of P Q xs h = weaken (λ x. P x × Q x) P xs (λ x p. p.0) h
@@ -264,8 +263,8 @@ second_of P Q xs h = weaken (λ x. P x × Q x) Q xs (λ x p. p.1) h
 ranges_of_functions : (features : Features) (bytes : List ℕ) (m : Module) (n : Numbers) → Reads features bytes m → IsNumbering m n → length n.functions < 2 ^ 32 → AllByRecursion (λ f. AllByRecursion InRange (written_operators m n f)) n.functions
 ranges_of_functions features bytes m n reads numbering few =
     weaken (λ f. AllByRecursion (IsWrittenOperator m n) (written_operators m n f)) (λ f. AllByRecursion InRange (written_operators m n f)) n.functions
-      (λ (f : ℕ) (h : AllByRecursion (IsWrittenOperator m n) (written_operators m n f)). first_of InRange (NamesItems (written m n)) (written_operators m n f) h)
-      (operators_of_functions features bytes m n reads numbering few)
+    (λ (f : ℕ) (h : AllByRecursion (IsWrittenOperator m n) (written_operators m n f)). first_of InRange (NamesItems (written m n)) (written_operators m n f) h)
+    (operators_of_functions features bytes m n reads numbering few)
 
 placed_named : (m : Module) (place : ℕ) (os : List Operator) → AllByRecursion (NamesItems m) os → AllByRecursion (λ o. NamesItems m o.0) (placed place os)
 placed_named m place [] h = tt
@@ -274,10 +273,11 @@ placed_named m place (o ∷ os) h = (h.0, placed_named m (place + length (operat
 named_functions : (m : Module) (n : Numbers) (place : ℕ) (fs : List ℕ) → AllByRecursion (λ f. AllByRecursion (IsWrittenOperator m n) (written_operators m n f)) fs → AllByRecursion (λ g. All (λ o. NamesItems (written m n) o.0) g.body) (placed_functions m n place fs)
 named_functions m n place [] h = tt
 named_functions m n place (f ∷ fs) h =
-    let start : ℕ = place + length (u32_bytes (length (body_bytes (written_operators m n f)))) + 1 in
-    ( All-from_recursion (λ (o : Operator × ℕ). NamesItems (written m n) o.0) (placed start (written_operators m n f))
-        (placed_named (written m n) start (written_operators m n f) (second_of InRange (NamesItems (written m n)) (written_operators m n f) h.0))
-    , named_functions m n (place + length (sized_bytes (body_bytes (written_operators m n f)))) fs h.1 )
+    let start : ℕ = place + length (u32_bytes (length (body_bytes (written_operators m n f)))) + 1 in (
+      All-from_recursion (λ (o : Operator × ℕ). NamesItems (written m n) o.0) (placed start (written_operators m n f))
+          (placed_named (written m n) start (written_operators m n f) (second_of InRange (NamesItems (written m n)) (written_operators m n f) h.0)),
+      named_functions m n (place + length (sized_bytes (body_bytes (written_operators m n f)))) fs h.1,
+    )
 
 -- the start function that is written
 start_there : (m : Module) (n : Numbers) → IsNumbering m n → (start : Option ℕ) → m.start ≡ start → IfSome (option_map (renaming n).function start) (λ f. IsItem (written m n) (FunctionItem f))
@@ -300,7 +300,7 @@ start_spelled m n numbering few (Some f) e =
       contents = u32_bytes k;
       whole = refl;
       sized = u32_spells (length (u32_bytes k)) (let short : length (u32_bytes k) ≤ 5 = u32_short k in omega arith);
-      meant = u32_spells k (omega arith)
+      meant = u32_spells k (omega arith);
     }
 
 roots_from : (m : Module) → AllByRecursion (λ e. Root m e.item) m.exports
@@ -310,10 +310,10 @@ exports_spelled : (features : Features) (bytes : List ℕ) (m : Module) (n : Num
     AllByRecursion (λ e. SpellsExport (export_bytes e) e × (IsItem (written m n) e.item × (length e.name ≤ 100000))) (written m n).exports
 exports_spelled features bytes m n reads numbering few =
     mapped (λ e. Root m e.item × (IsFunctionExport e × (length e.name ≤ 100000))) (λ e. SpellsExport (export_bytes e) e × (IsItem (written m n) e.item × (length e.name ≤ 100000))) (renamed_export (renaming n)) m.exports
-      (λ (e : Export) (h : Root m e.item × (IsFunctionExport e × (length e.name ≤ 100000))). (renamed_spelled m n numbering few e h.0 h.1.0 (omega arith), (renamed_there m n numbering e h.0 h.1.0, h.1.1)))
-      (both (λ e. Root m e.item) (λ e. IsFunctionExport e × (length e.name ≤ 100000)) m.exports (roots_from m)
-        (both IsFunctionExport (λ e. length e.name ≤ 100000) m.exports (exports_are_functions reads.spells.exports m.exports reads.spells.spells_exports)
-          (recursion_from_All (λ e. length e.name ≤ 100000) m.exports reads.rules.fits.names)))
+    (λ (e : Export) (h : Root m e.item × (IsFunctionExport e × (length e.name ≤ 100000))). (renamed_spelled m n numbering few e h.0 h.1.0 (omega arith), (renamed_there m n numbering e h.0 h.1.0, h.1.1)))
+    (both (λ e. Root m e.item) (λ e. IsFunctionExport e × (length e.name ≤ 100000)) m.exports (roots_from m)
+    (both IsFunctionExport (λ e. length e.name ≤ 100000) m.exports (exports_are_functions reads.spells.exports m.exports reads.spells.spells_exports)
+    (recursion_from_All (λ e. length e.name ≤ 100000) m.exports reads.rules.fits.names)))
 
 names_distinct : (m : Module) (n : Numbers) → AllPairs (λ d e. d.name ≢ e.name) m.exports → AllPairs (λ d e. d.name ≢ e.name) (map (renamed_export (renaming n)) m.exports)
 names_distinct m n distinct i j d before there e =
@@ -334,25 +334,25 @@ written_rules features bytes m n reads numbering small =
     let exports = exports_spelled features bytes m n reads numbering few in
     record {
       typed = let P : ℕ → Type 0 = λ k. All (λ g. g.type_ < k) (written m n).functions in
-        subst P (sym same_types) (All-from_recursion (λ g. g.type_ < length n.types) (written m n).functions (functions_typed features bytes m n reads numbering));
+          subst P (sym same_types) (All-from_recursion (λ g. g.type_ < length n.types) (written m n).functions (functions_typed features bytes m n reads numbering));
       exported = All-from_recursion (λ e. IsItem (written m n) e.item) (written m n).exports
-        (first_of (λ e. IsItem (written m n) e.item) (λ e. length e.name ≤ 100000) (written m n).exports (second_of (λ e. SpellsExport (export_bytes e) e) (λ e. IsItem (written m n) e.item × (length e.name ≤ 100000)) (written m n).exports exports));
+          (first_of (λ e. IsItem (written m n) e.item) (λ e. length e.name ≤ 100000) (written m n).exports (second_of (λ e. SpellsExport (export_bytes e) e) (λ e. IsItem (written m n) e.item × (length e.name ≤ 100000)) (written m n).exports exports));
       distinct = names_distinct m n reads.rules.distinct;
       starts = start_there m n numbering m.start refl;
       named = All-from_recursion (λ g. All (λ o. NamesItems (written m n) o.0) g.body) (written m n).functions
-        (named_functions m n (length (u32_bytes (length n.functions))) n.functions (operators_of_functions features bytes m n reads numbering few));
+          (named_functions m n (length (u32_bytes (length n.functions))) n.functions (operators_of_functions features bytes m n reads numbering few));
       nested = All-from_recursion (λ g. Nests g.body) (written m n).functions (functions_nested features bytes m n reads numbering);
       fits = record {
         types = let a : length m.types ≤ 1000000 = fits.types in let b : length n.types ≤ length m.types = small.types in omega arith;
         functions = let a : length m.functions ≤ 1000000 = fits.functions in let b : length n.functions ≤ length m.functions = small.functions in omega arith;
         exports = let a : length m.exports ≤ 1000000 = fits.exports in omega arith;
         params = All-from_recursion (λ t. length t.params ≤ 1000) (written m n).types (first_of (λ t. length t.params ≤ 1000) (λ t. length t.results ≤ 1000) (written m n).types
-          (second_of (λ t. SpellsFunctionType (type_bytes t) t) (λ t. (length t.params ≤ 1000) × (length t.results ≤ 1000)) (written m n).types types));
+            (second_of (λ t. SpellsFunctionType (type_bytes t) t) (λ t. (length t.params ≤ 1000) × (length t.results ≤ 1000)) (written m n).types types));
         results = All-from_recursion (λ t. length t.results ≤ 1000) (written m n).types (second_of (λ t. length t.params ≤ 1000) (λ t. length t.results ≤ 1000) (written m n).types
-          (second_of (λ t. SpellsFunctionType (type_bytes t) t) (λ t. (length t.params ≤ 1000) × (length t.results ≤ 1000)) (written m n).types types));
+            (second_of (λ t. SpellsFunctionType (type_bytes t) t) (λ t. (length t.params ≤ 1000) × (length t.results ≤ 1000)) (written m n).types types));
         names = All-from_recursion (λ e. length e.name ≤ 100000) (written m n).exports
-          (second_of (λ e. IsItem (written m n) e.item) (λ e. length e.name ≤ 100000) (written m n).exports (second_of (λ e. SpellsExport (export_bytes e) e) (λ e. IsItem (written m n) e.item × (length e.name ≤ 100000)) (written m n).exports exports))
-      }
+            (second_of (λ e. IsItem (written m n) e.item) (λ e. length e.name ≤ 100000) (written m n).exports (second_of (λ e. SpellsExport (export_bytes e) e) (λ e. IsItem (written m n) e.item × (length e.name ≤ 100000)) (written m n).exports exports));
+      };
     }
 
 pub written_spells : (features : Features) (bytes : List ℕ) (m : Module) (n : Numbers) → Reads features bytes m → IsNumbering m n → IsSmall m n →
@@ -378,19 +378,19 @@ written_spells features bytes m n reads numbering small short =
       whole = refl;
       spells_start = start_spelled m n numbering few m.start refl;
       spells_types = section_spelled 1 SpellsFunctionType type_bytes (written m n).types (omega arith) (section_small 1 type_bytes (written m n).types parts.0)
-        (first_of (λ t. SpellsFunctionType (type_bytes t) t) (λ t. (length t.params ≤ 1000) × (length t.results ≤ 1000)) (written m n).types (types_spelled features bytes m n reads numbering));
+          (first_of (λ t. SpellsFunctionType (type_bytes t) t) (λ t. (length t.params ≤ 1000) × (length t.results ≤ 1000)) (written m n).types (types_spelled features bytes m n reads numbering));
       spells_functions = section_spelled_by 3 SpellsU32 (λ (f : Function). u32_bytes f.type_) (λ (f : Function). f.type_) (written m n).functions (omega arith) (section_small 3 (λ (f : Function). u32_bytes f.type_) (written m n).functions parts.1)
-        (weaken (λ g. g.type_ < length n.types) (λ g. SpellsU32 (u32_bytes g.type_) g.type_) (written m n).functions (λ (g : Function) (h : g.type_ < length n.types). u32_spells g.type_ (let a : length n.types ≤ length m.types = small.types in let b : length m.types ≤ 1000000 = reads.rules.fits.types in omega arith)) (functions_typed features bytes m n reads numbering));
+          (weaken (λ g. g.type_ < length n.types) (λ g. SpellsU32 (u32_bytes g.type_) g.type_) (written m n).functions (λ (g : Function) (h : g.type_ < length n.types). u32_spells g.type_ (let a : length n.types ≤ length m.types = small.types in let b : length m.types ≤ 1000000 = reads.rules.fits.types in omega arith)) (functions_typed features bytes m n reads numbering));
       spells_exports = section_spelled 7 SpellsExport export_bytes (written m n).exports (omega arith) (section_small 7 export_bytes (written m n).exports parts.2)
-        (first_of (λ e. SpellsExport (export_bytes e) e) (λ e. IsItem (written m n) e.item × (length e.name ≤ 100000)) (written m n).exports (exports_spelled features bytes m n reads numbering few));
-      spells_codes = code_section_spelled m n n.functions (ranges_of_functions features bytes m n reads numbering few) small.bodies few (section_small 10 code_bytes (written m n).functions parts.3)
+          (first_of (λ e. SpellsExport (export_bytes e) e) (λ e. IsItem (written m n) e.item × (length e.name ≤ 100000)) (written m n).exports (exports_spelled features bytes m n reads numbering few));
+      spells_codes = code_section_spelled m n n.functions (ranges_of_functions features bytes m n reads numbering few) small.bodies few (section_small 10 code_bytes (written m n).functions parts.3);
     }
 
 -- what is written reads as the module that it was written for
 pub written_reads : (features : Features) (bytes : List ℕ) (m : Module) (n : Numbers) → Reads features bytes m → IsNumbering m n → IsSmall m n →
     length (module_bytes (written m n)) ≤ 2 ^ 30 → Reads features (module_bytes (written m n)) (written m n)
 written_reads features bytes m n reads numbering small short = record {
-    short = short;
-    spells = written_spells features bytes m n reads numbering small short;
-    rules = written_rules features bytes m n reads numbering small
-  }
+  short = short;
+  spells = written_spells features bytes m n reads numbering small short;
+  rules = written_rules features bytes m n reads numbering small;
+}

@@ -23,20 +23,25 @@ vec_spelled S f xs small h = (u32_bytes (length xs), flat_map f xs, refl, u32_sp
 pub section_spelled : {A : Type 0} (id : ℕ) (S : Grammar A) (f : A → List ℕ) (xs : List A) → length xs < 2 ^ 32 → length (vec_bytes f xs) < 2 ^ 32 → AllByRecursion (λ x. S (f x) x) xs → SpellsSection id (SpellsVec S) (section_bytes id f xs) xs
 section_spelled id S f [] few small h = inl (refl, refl)
 section_spelled id S f (x ∷ xs) few small h = inr (record {
-    size = u32_bytes (length (vec_bytes f (x ∷ xs)));
-    contents = vec_bytes f (x ∷ xs);
-    whole = refl;
-    sized = u32_spells (length (vec_bytes f (x ∷ xs))) small;
-    meant = vec_spelled S f (x ∷ xs) few h
-  })
+  size = u32_bytes (length (vec_bytes f (x ∷ xs)));
+  contents = vec_bytes f (x ∷ xs);
+  whole = refl;
+  sized = u32_spells (length (vec_bytes f (x ∷ xs))) small;
+  meant = vec_spelled S f (x ∷ xs) few h;
+})
 
 values_spelled : (ts : List ValType) → AllByRecursion (λ t. SpellsValueType (value_bytes t) t) ts
 values_spelled [] = tt
 values_spelled (t ∷ ts) = (refl, values_spelled ts)
 
 pub type_spelled : (t : FunctionType) → length t.params < 2 ^ 32 → length t.results < 2 ^ 32 → SpellsFunctionType (type_bytes t) t
-type_spelled t params results = (vec_bytes value_bytes t.params, vec_bytes value_bytes t.results, refl,
-    vec_spelled SpellsValueType value_bytes t.params params (values_spelled t.params), vec_spelled SpellsValueType value_bytes t.results results (values_spelled t.results))
+type_spelled t params results = (
+  vec_bytes value_bytes t.params,
+  vec_bytes value_bytes t.results,
+  refl,
+  vec_spelled SpellsValueType value_bytes t.params params (values_spelled t.params),
+  vec_spelled SpellsValueType value_bytes t.results results (values_spelled t.results),
+)
 
 -- an operator whose numbers are in range
 abbrev pub InRange : Operator → Type 0
@@ -64,15 +69,15 @@ operators_placed place (o ∷ os) = ap (λ rest. o ∷ rest) (operators_placed (
 pub code_spelled : (place : ℕ) (os : List Operator) → AllByRecursion InRange os → length (body_bytes os) ≤ 7654321 →
     SpellsCode place (sized_bytes (body_bytes os)) (record { locals = []; body = placed (place + length (u32_bytes (length (body_bytes os))) + 1) os })
 code_spelled place os ranges short = record {
-    size = u32_bytes (length (body_bytes os));
-    locals = 0 ∷ [];
-    operators = flat_map operator_bytes os;
-    whole = refl;
-    sized = let one : 1 + length (flat_map operator_bytes os) ≡ suc (length (flat_map operator_bytes os)) = omega arith in rw one (u32_spells (length (body_bytes os)) (omega arith));
-    short = let one : 1 + length (flat_map operator_bytes os) ≡ suc (length (flat_map operator_bytes os)) = omega arith in omega arith;
-    declares = (inl (omega arith, refl, refl, refl), refl);
-    acts = placed_spelled (place + length (u32_bytes (length (body_bytes os))) + 1) os ranges
-  }
+  size = u32_bytes (length (body_bytes os));
+  locals = 0 ∷ [];
+  operators = flat_map operator_bytes os;
+  whole = refl;
+  sized = let one : 1 + length (flat_map operator_bytes os) ≡ suc (length (flat_map operator_bytes os)) = omega arith in rw one (u32_spells (length (body_bytes os)) (omega arith));
+  short = let one : 1 + length (flat_map operator_bytes os) ≡ suc (length (flat_map operator_bytes os)) = omega arith in omega arith;
+  declares = (inl (omega arith, refl, refl, refl), refl);
+  acts = placed_spelled (place + length (u32_bytes (length (body_bytes os))) + 1) os ranges;
+}
 
 -- the same of the parts of xs that f and g look at
 pub each_spelled_by : {A B : Type 0} (S : Grammar B) (f : A → List ℕ) (g : A → B) (xs : List A) → AllByRecursion (λ x. S (f x) (g x)) xs → SpellsEach S (flat_map f xs) (map g xs)
@@ -82,12 +87,12 @@ each_spelled_by S f g (x ∷ xs) h = (f x, flat_map f xs, refl, h.0, each_spelle
 pub section_spelled_by : {A B : Type 0} (id : ℕ) (S : Grammar B) (f : A → List ℕ) (g : A → B) (xs : List A) → length xs < 2 ^ 32 → length (vec_bytes f xs) < 2 ^ 32 → AllByRecursion (λ x. S (f x) (g x)) xs → SpellsSection id (SpellsVec S) (section_bytes id f xs) (map g xs)
 section_spelled_by id S f g [] few small h = inl (refl, refl)
 section_spelled_by id S f g (x ∷ xs) few small h = inr (record {
-    size = u32_bytes (length (vec_bytes f (x ∷ xs)));
-    contents = vec_bytes f (x ∷ xs);
-    whole = refl;
-    sized = u32_spells (length (vec_bytes f (x ∷ xs))) small;
-    meant = (u32_bytes (length (x ∷ xs)), flat_map f (x ∷ xs), refl, rw (length-map (x ∷ xs) g) (u32_spells (length (x ∷ xs)) few), each_spelled_by S f g (x ∷ xs) h)
-  })
+  size = u32_bytes (length (vec_bytes f (x ∷ xs)));
+  contents = vec_bytes f (x ∷ xs);
+  whole = refl;
+  sized = u32_spells (length (vec_bytes f (x ∷ xs))) small;
+  meant = (u32_bytes (length (x ∷ xs)), flat_map f (x ∷ xs), refl, rw (length-map (x ∷ xs) g) (u32_spells (length (x ∷ xs)) few), each_spelled_by S f g (x ∷ xs) h);
+})
 
 -- the code section: entries that stand one behind the other
 pub codes_spelled : (m : Module) (n : Numbers) (place : ℕ) (fs : List ℕ) → AllByRecursion (λ f. AllByRecursion InRange (written_operators m n f)) fs →
@@ -97,12 +102,13 @@ codes_spelled m n place [] ranges short = refl
 codes_spelled m n place (f ∷ fs) ranges short =
     let os = written_operators m n f in
     let at : ℕ = place + length (u32_bytes (length (body_bytes os))) + 1 in
-    let next : ℕ = place + length (sized_bytes (body_bytes os)) in
-    ( sized_bytes (body_bytes os)
-    , flat_map code_bytes (placed_functions m n next fs)
-    , ap (λ (o : List Operator). sized_bytes (body_bytes o) ++ flat_map code_bytes (placed_functions m n next fs)) (operators_placed at os)
-    , code_spelled place os ranges.0 short.0
-    , codes_spelled m n next fs ranges.1 short.1 )
+    let next : ℕ = place + length (sized_bytes (body_bytes os)) in (
+      sized_bytes (body_bytes os),
+      flat_map code_bytes (placed_functions m n next fs),
+      ap (λ (o : List Operator). sized_bytes (body_bytes o) ++ flat_map code_bytes (placed_functions m n next fs)) (operators_placed at os),
+      code_spelled place os ranges.0 short.0,
+      codes_spelled m n next fs ranges.1 short.1,
+    )
 
 pub length-placed_functions : (m : Module) (n : Numbers) (place : ℕ) (fs : List ℕ) → length (placed_functions m n place fs) ≡ length fs
 length-placed_functions m n place [] = refl
@@ -121,6 +127,11 @@ code_section_spelled m n (f ∷ fs) ranges short few small =
       contents = vec_bytes code_bytes gs;
       whole = refl;
       sized = u32_spells (length (vec_bytes code_bytes gs)) small;
-      meant = (u32_bytes (length (f ∷ fs)), flat_map code_bytes gs, ap (λ k. u32_bytes k ++ flat_map code_bytes gs) count,
-          rw (length-map gs code_of) (rw count (u32_spells (length (f ∷ fs)) few)), codes_spelled m n (length (u32_bytes (length (f ∷ fs)))) (f ∷ fs) ranges short)
+      meant = (
+        u32_bytes (length (f ∷ fs)),
+        flat_map code_bytes gs,
+        ap (λ k. u32_bytes k ++ flat_map code_bytes gs) count,
+        rw (length-map gs code_of) (rw count (u32_spells (length (f ∷ fs)) few)),
+        codes_spelled m n (length (u32_bytes (length (f ∷ fs)))) (f ∷ fs) ranges short,
+      );
     })

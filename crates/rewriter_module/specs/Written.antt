@@ -51,17 +51,17 @@ placed_functions m n place (f ∷ fs) =
     record {
       type_ = slice_index n.new_type (function_at m f).type_;
       locals = [];
-      body = placed (place + length (u32_bytes (length (body_bytes (written_operators m n f)))) + 1) (written_operators m n f)
+      body = placed (place + length (u32_bytes (length (body_bytes (written_operators m n f)))) + 1) (written_operators m n f);
     } ∷ placed_functions m n (place + length (sized_bytes (body_bytes (written_operators m n f)))) fs
 
 -- the first entry stands behind the count
 abbrev pub written : Module → Numbers → Module
 written m n = record {
-    types = map (type_at m) n.types;
-    functions = placed_functions m n (length (u32_bytes (length n.functions))) n.functions;
-    exports = map (renamed_export (renaming n)) m.exports;
-    start = option_map (renaming n).function m.start
-  }
+  types = map (type_at m) n.types;
+  functions = placed_functions m n (length (u32_bytes (length n.functions))) n.functions;
+  exports = map (renamed_export (renaming n)) m.exports;
+  start = option_map (renaming n).function m.start;
+}
 
 -- the pairs of a body: of each operator that carries a place, this place and the new one
 abbrev pub pairs_of : List (Operator × Option ℕ) → List (Operator × ℕ) → List (ℕ × ℕ)

@@ -149,27 +149,27 @@ quiet_same h = cc
 -- the run of what is written, from the image of a state
 pub same_run : (features : Features) (m n : Module) (r : Renaming) → Rules features m → Stands m n r → (s : State) (vs : List Event) (e : Ending) → StackKept m s.stack → Traces m s vs e → Traces n (image_of r s) (map (renamed_event r) vs) e
 same_run features m n r rules stands s vs e kept (ends h) = elim (step_alike features m n r rules stands s.stack s.bound s.outcomes kept) as (λ _. Traces n (image_of r s) [] e) [
-    inl a ↦ let wrong : Ends e ≡ Quiet a.0 = sym h ∙ a.1 in absurd (cc)
+  | inl a ↦ let wrong : Ends e ≡ Quiet a.0 = sym h ∙ a.1 in absurd (cc)
   | inr a ↦ ends (a ∙ ap (renamed_move r) h)
-  ]
+]
 same_run features m n r rules stands s vs e kept (ends_at {v = v} h) = elim (step_alike features m n r rules stands s.stack s.bound s.outcomes kept) as (λ _. Traces n (image_of r s) (renamed_event r v ∷ []) e) [
-    inl a ↦ let wrong : EndsAt v e ≡ Quiet a.0 = sym h ∙ a.1 in absurd (cc)
+  | inl a ↦ let wrong : EndsAt v e ≡ Quiet a.0 = sym h ∙ a.1 in absurd (cc)
   | inr a ↦ ends_at (a ∙ ap (renamed_move r) h)
-  ]
+]
 same_run features m n r rules stands s vs e kept (quiet {t = t} h rest) =
     let kept_t : StackKept m t.stack = subst (MoveKept m) h (step_kept m s.stack s.bound s.outcomes kept) in
     let more : Traces n (image_of r t) (map (renamed_event r) vs) e = same_run features m n r rules stands t vs e kept_t rest in
     elim (step_alike features m n r rules stands s.stack s.bound s.outcomes kept) as (λ _. Traces n (image_of r s) (map (renamed_event r) vs) e) [
-        inl a ↦ let one : a.0 ≡ t = quiet_same (sym a.1 ∙ h) in let P : State → Type 0 = λ x. Traces n x (map (renamed_event r) vs) e in subst P (sym (ap (image_of r) one) ∙ a.2) more
+      | inl a ↦ let one : a.0 ≡ t = quiet_same (sym a.1 ∙ h) in let P : State → Type 0 = λ x. Traces n x (map (renamed_event r) vs) e in subst P (sym (ap (image_of r) one) ∙ a.2) more
       | inr a ↦ quiet (a ∙ ap (renamed_move r) h) more
-      ]
+    ]
 same_run features m n r rules stands s ws e kept (shows {t = t} {v = v} {vs = vs} h rest) =
     let kept_t : StackKept m t.stack = subst (MoveKept m) h (step_kept m s.stack s.bound s.outcomes kept) in
     let more : Traces n (image_of r t) (map (renamed_event r) vs) e = same_run features m n r rules stands t vs e kept_t rest in
     elim (step_alike features m n r rules stands s.stack s.bound s.outcomes kept) as (λ _. Traces n (image_of r s) (renamed_event r v ∷ map (renamed_event r) vs) e) [
-        inl a ↦ let wrong : Shows v t ≡ Quiet a.0 = sym h ∙ a.1 in absurd (cc)
+      | inl a ↦ let wrong : Shows v t ≡ Quiet a.0 = sym h ∙ a.1 in absurd (cc)
       | inr a ↦ shows (a ∙ ap (renamed_move r) h) more
-      ]
+    ]
 
 -- of a root, the trace in what is written is the trace in the module, renamed
 pub same_traces : (features : Features) (bytes : List ℕ) (m n : Module) (r : Renaming) → Reads features bytes m → Stands m n r → (f : ℕ) → Root m (FunctionItem f) → (outcomes : List Outcome) → Fits m outcomes → (bound : ℕ) (events : List Event) (ending : Ending) →
@@ -184,5 +184,5 @@ same_traces features bytes m n r reads stands f rooted outcomes fits bound event
     let Q : List Operator → Type 0 = λ os. Traces n (state (activation (r.function f) os ∷ []) bound (map (renamed_outcome r) outcomes)) (map (renamed_event r) events) ending in
     let R : Option Function → Type 0 = λ o. Traces n (state (activation (r.function f) (body_of o) ∷ []) bound (map (renamed_outcome r) outcomes)) (map (renamed_event r) events) ending in
     let run : Traces n (state (activation (r.function f) (map (renamed_operator r) (normal_operators (operators function.body))) ∷ []) bound (map (renamed_outcome r) outcomes)) (map (renamed_event r) events) ending =
-      same_run features m n r reads.rules stands (state (activation f (operators function.body) ∷ []) bound outcomes) events ending (calls_kept m f function kept here, tt) (subst P here trace) in
+    same_run features m n r reads.rules stands (state (activation f (operators function.body) ∷ []) bound outcomes) events ending (calls_kept m f function kept here, tt) (subst P here trace) in
     subst R (sym found.1) (subst Q (sym (renamed_operators r function found.0 found.2)) run)

@@ -7,18 +7,15 @@ ghost use Rattle.run_laws.specs.Laws.{EachRunEnds, OneTrace, SameRuns};
 /// a trace.
 pub fn each_run_ends()
     ensures { EachRunEnds }
-{
-}
+{}
 
 /// And there is but one.
 pub fn one_trace()
     ensures { OneTrace }
-{
-}
+{}
 
 /// Of each exported function and the start function of a module that reads, the trace in what is
 /// written for it is the trace in the module, renamed.
 pub fn same_runs()
     ensures { SameRuns }
-{
-}
+{}

@@ -33,7 +33,7 @@ operator_at known (code ∷ bytes) =
     else (if code == 0x0f then Ok (Return, bytes)
     else (if code == 0x1a then Ok (Drop, bytes)
     else (if code == 0x10 then (value_at (unsigned_at 32 bytes) >>= λ f.
-        if nat_lt f.0 known.functions then Ok (Call f.0, f.1) else Err (stop (Index spaces.Function) (length bytes + 1)))
+    if nat_lt f.0 known.functions then Ok (Call f.0, f.1) else Err (stop (Index spaces.Function) (length bytes + 1)))
     else (if code == 0x41 then (value_at (signed_at 32 bytes) >>= λ n. Ok (I32Const n.0, n.1))
     else (if is_prefix code then (value_at (unsigned_at 32 bytes) >>= λ n. Err (stop (trouble_at_number known.features code n.0) (length bytes + 1)))
     else Err (stop (trouble_at_code known.features code) (length bytes + 1))))))))
@@ -50,5 +50,5 @@ operators_at known finish (suc turns) bytes = operator_at known bytes >>= λ o.
 unfoldable pub code_at : Known → ℕ → List ℕ → Result Code Stop
 code_at known place bytes = value_at (unsigned_at 32 bytes) >>= λ count.
     if count.0 == 0 then (operators_at known (place + length bytes) (length count.1) count.1 >>= λ body.
-        if length body.1 == 0 then Ok (record { locals = []; body = body.0 }) else Err (stop Nesting (length body.1)))
+    if length body.1 == 0 then Ok (record { locals = []; body = body.0 }) else Err (stop Nesting (length body.1)))
     else Err (stop (Unsupported forms.Later) (length bytes))

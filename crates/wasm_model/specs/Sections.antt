@@ -57,9 +57,9 @@ value_types_at bytes = do
 unfoldable pub function_type_at : List ℕ → Parsing FunctionType
 function_type_at [] = Err (stop (Read (kinds.EndOfFile 1)) 0)
 function_type_at (byte ∷ bytes) = if byte == 0x60 then (do
-      params ← value_types_at bytes
-      results ← value_types_at params.1
-      Ok (record { params = params.0; results = results.0 }, results.1))
+  params ← value_types_at bytes
+  results ← value_types_at params.1
+  Ok (record { params = params.0; results = results.0 }, results.1))
     else Err (stop (trouble_at_type group_bytes byte) (length bytes + 1))
 
 -- an entry of the type section: at most 1,000,000 types
@@ -73,7 +73,7 @@ unfoldable pub function_entry : ℕ → List ℕ → List ℕ → Parsing ℕ
 function_entry types earlier bytes = do
   index ← value_at (unsigned_at 32 bytes)
   if nat_le types index.0 then Err (stop (Index spaces.Type) (length bytes))
-    else (if nat_lt (length earlier) 1000000 then Ok index else Err (stop (Limit limits.Functions) (length bytes)))
+      else (if nat_lt (length earlier) 1000000 then Ok index else Err (stop (Limit limits.Functions) (length bytes)))
 
 -- an export's kind: 00 is a function; tables, memories, globals and tags are read later
 unfoldable pub kind_at : List ℕ → Parsing ℕ
@@ -93,9 +93,9 @@ export_entry functions earlier bytes = do
   kind ← kind_at name.1
   index ← value_at (unsigned_at 32 kind.1)
   if list_any (λ e. same_name e.name name.0) earlier then Err (stop DuplicateExport (length bytes))
-    else (if nat_le 1000000 (length earlier) then Err (stop (Limit limits.Exports) (length bytes))
-    else (if nat_lt index.0 functions then Ok (record { name = name.0; item = FunctionItem index.0 }, index.1)
-    else Err (stop (Index spaces.Function) (length kind.1))))
+      else (if nat_le 1000000 (length earlier) then Err (stop (Limit limits.Exports) (length bytes))
+      else (if nat_lt index.0 functions then Ok (record { name = name.0; item = FunctionItem index.0 }, index.1)
+      else Err (stop (Index spaces.Function) (length kind.1))))
 
 -- the start section: the number of one of so many functions
 unfoldable pub start_at : ℕ → List ℕ → Parsing ℕ
@@ -113,7 +113,7 @@ unfoldable pub chunk_entry : ℕ → List Chunk → List ℕ → Parsing Chunk
 chunk_entry finish earlier bytes = do
   size ← value_at (unsigned_at 32 bytes)
   if nat_lt 7654321 size.0 then Err (stop (Limit limits.Body) (length bytes))
-    else (value_at (bytes_at size.0 size.1) >>= λ body. Ok (record { place = finish - length size.1; bytes = body.0 }, body.1))
+      else (value_at (bytes_at size.0 size.1) >>= λ body. Ok (record { place = finish - length size.1; bytes = body.0 }, body.1))
 
 -- the code section: how many bytes are left from its function count on, and its bodies
 pub record Chunks : Type 0 where
@@ -128,7 +128,7 @@ unfoldable pub chunks_at : ℕ → ℕ → List ℕ → Parsing Chunks
 chunks_at functions after bytes = do
   count ← value_at (unsigned_at 32 bytes)
   if count.0 == functions then (entries_at (chunk_entry (length bytes)) count.0 [] count.1 >>= λ bodies. Ok (record { left = length bytes + after; bodies = bodies.0 }, bodies.1))
-    else Err (stop Count (length bytes))
+      else Err (stop Count (length bytes))
 
 -- what a section holds, where its contents fill it; `parsing` is told how many bytes follow the section
 unfoldable pub contents_at : {A : Type 0} → (ℕ → List ℕ → Parsing A) → ℕ → List ℕ → Parsing A
@@ -139,9 +139,9 @@ contents_at parsing size bytes = before (length bytes - size) (parsing (length b
 unfoldable pub section_at : {A : Type 0} → ℕ → (ℕ → List ℕ → Parsing A) → List ℕ → Parsing (Option A)
 section_at id parsing [] = Ok (None, [])
 section_at id parsing (byte ∷ bytes) = if byte == id then (do
-      size ← value_at (unsigned_at 32 bytes)
-      if nat_lt (length size.1) size.0 then Err (stop SectionSize (length bytes))
-        else (contents_at parsing size.0 size.1 >>= λ x. Ok (Some x.0, x.1)))
+  size ← value_at (unsigned_at 32 bytes)
+  if nat_lt (length size.1) size.0 then Err (stop SectionSize (length bytes))
+      else (contents_at parsing size.0 size.1 >>= λ x. Ok (Some x.0, x.1)))
     else Ok (None, byte ∷ bytes)
 
 -- where the section of an id stands in a module: 13 (tags) behind 5, 12 (the data count) before 10
@@ -185,7 +185,7 @@ sections_at bytes = do
   chunks ← section_at 10 (chunks_at (length (unwrap_or functions.0 []))) start.1
   end ← end_at (latest chunks.0 10 (latest start.0 8 (latest exports.0 7 (latest functions.0 3 (latest types.0 1 0))))) chunks.1
   if is_none chunks.0 && nat_lt 0 (length (unwrap_or functions.0 [])) then Err (stop Count 0)
-    else Ok (record { types = unwrap_or types.0 []; functions = unwrap_or functions.0 []; exports = unwrap_or exports.0 []; start = start.0; chunks = unwrap_or chunks.0 no_chunks })
+      else Ok (record { types = unwrap_or types.0 []; functions = unwrap_or functions.0 []; exports = unwrap_or exports.0 []; start = start.0; chunks = unwrap_or chunks.0 no_chunks })
 
 -- the bodies, where `left` bytes are left from the place 0 on
 unfoldable pub codes_at : Known → ℕ → List Chunk → Result (List Code) Stop
@@ -203,9 +203,9 @@ functions_of _ _ = []
 -- what begins with the header has its sections parsed, and then its bodies
 unfoldable pub module_at : Features → List ℕ → Result Module Stop
 module_at features bytes = if starts_with nat_eq bytes header then (do
-      sections ← sections_at (drop 8 bytes)
-      codes ← codes_at (record { features = features; functions = length sections.functions }) sections.chunks.left sections.chunks.bodies
-      Ok (record { types = sections.types; functions = functions_of sections.functions codes; exports = sections.exports; start = sections.start }))
+  sections ← sections_at (drop 8 bytes)
+  codes ← codes_at (record { features = features; functions = length sections.functions }) sections.chunks.left sections.chunks.bodies
+  Ok (record { types = sections.types; functions = functions_of sections.functions codes; exports = sections.exports; start = sections.start }))
     else Err (stop Header (length bytes))
 
 -- the fault that the bytes are refused for. A file past 2^30 bytes comes before all else, then the header, then the sections
