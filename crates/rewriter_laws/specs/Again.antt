@@ -1,17 +1,16 @@
 -- What is written reads as what it was written for.
-use Rattle.std.proofs.Common.{ℕ, ◌≡◌, ◌≢◌, ◌<◌, ◌≤◌, ◌+◌, ◌^◌, ◌⊎◌, zero, suc, List, [], ◌∷◌, ◌++◌, length, refl, sym, ap, subst, ◌∙◌, inl, inr, arith, map, get_or, length-append}
+use Rattle.std.proofs.Common.{ℕ, ◌≡◌, ◌≢◌, ◌<◌, ◌≤◌, ◌+◌, ◌^◌, suc, List, [], ◌∷◌, ◌++◌, length, refl, sym, ap, subst, ◌∙◌, inl, inr, arith, map, get_or, length-append}
 use Rattle.std.specs.Prelude.{slice_get, slice_index, slice_index_or, Some, None, Option, All, AllPairs, Contains}
 use Rattle.std.specs.Str.{IsUtf8}
-use Rattle.std.specs.List.{flat_map, AllByRecursion}
+use Rattle.std.specs.List.{AllByRecursion}
 use Rattle.std.proofs.lemmas.List.{length-map, get_or-map}
 use Rattle.std.proofs.lemmas.List.Elements.{recursion_from_All, All-from_recursion, Contains-get_or}
 use Rattle.std.proofs.lemmas.Option.{slice_get_read, get_or_from_slice_get, slice_get_within, slice_get-get_or}
-use Rattle.wasm_model.specs.declared.types.ValType.{ValType}
 use Rattle.wasm_model.specs.Features.{Features}
-use Rattle.wasm_model.specs.Module.{Module, Function, FunctionType, Operator, Nop, I32Const, Drop, Return, Call, End, operators, Export, Item, FunctionItem, TypeItem}
+use Rattle.wasm_model.specs.Module.{Module, Function, Operator, Nop, I32Const, Drop, Return, Call, End, operators, Export, Item, FunctionItem, TypeItem}
 use Rattle.std.specs.Prelude.{IfSome}
 use Rattle.std.specs.Option.{option_map}
-use Rattle.wasm_model.specs.Spells.{SpellsStart, SpellsModule, SpellsFunctionType, SpellsExport, code_of, header}
+use Rattle.wasm_model.specs.Spells.{SpellsStart, SpellsModule, SpellsFunctionType, SpellsExport, header}
 use Rattle.wasm_model.specs.Grammar.{SpellsU32}
 use Rattle.wasm_model.specs.NormalForm.{normal_form}
 use Rattle.wasm_model.specs.Rules.{Rules, Fits, Reads, IsItem, Nests, NamesItems}

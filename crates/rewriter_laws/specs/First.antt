@@ -1,5 +1,5 @@
 -- Each type stands for one: the first that is equal to it.
-use Rattle.std.proofs.Common.{ℕ, ◌≡◌, ◌≢◌, ◌<◌, ◌≤◌, ◌+◌, ◌⊎◌, zero, suc, List, [], ◌∷◌, length, refl, sym, ap, ◌∙◌, inl, inr, arith, get_or}
+use Rattle.std.proofs.Common.{ℕ, ◌≡◌, ◌≢◌, ◌<◌, ◌≤◌, ◌⊎◌, zero, suc, List, [], ◌∷◌, length, refl, sym, ap, ◌∙◌, inl, inr, arith, get_or}
 use Rattle.std.specs.Prelude.{Option, Some, None, slice_get}
 use Rattle.std.proofs.lemmas.Option.{slice_get-get_or}
 use Rattle.std.proofs.lemmas.Bool.{cases_lt, cases_eq}

@@ -1,13 +1,13 @@
 -- The pairs of places of what is written are the true ones.
-use Rattle.std.proofs.Common.{ℕ, ◌≡◌, ◌⊎◌, ◌<◌, ◌≤◌, ◌+◌, zero, suc, List, [], ◌∷◌, ◌++◌, length, refl, sym, ap, subst, ◌∙◌, inl, inr, arith, map, get_or, length-append}
-use Rattle.std.specs.Prelude.{slice_get, slice_index, slice_index_or, Some, None, Option, All, AllPairs, Contains}
+use Rattle.std.proofs.Common.{ℕ, ◌≡◌, ◌<◌, ◌≤◌, ◌+◌, zero, suc, List, [], ◌∷◌, ◌++◌, length, refl, sym, ap, subst, ◌∙◌, inl, inr, arith, get_or, length-append}
+use Rattle.std.specs.Prelude.{slice_get, slice_index, slice_index_or, Some, None, Option, AllPairs, Contains}
 use Rattle.std.specs.List.{flat_map, AllByRecursion}
-use Rattle.std.proofs.lemmas.List.Elements.{recursion_from_All, All-from_recursion}
+use Rattle.std.proofs.lemmas.List.Elements.{All-from_recursion}
 use Rattle.std.proofs.lemmas.Option.{slice_get_read, get_or_from_slice_get, slice_get_within, slice_get-get_or}
 use Rattle.wasm_model.specs.Features.{Features}
 use Rattle.wasm_model.specs.Module.{Module, Function, Operator, Nop, I32Const, Drop, Return, Call, End, FunctionItem}
 use Rattle.wasm_model.specs.NormalForm.{normal_form}
-use Rattle.wasm_model.specs.Rules.{Rules, Reads}
+use Rattle.wasm_model.specs.Rules.{Rules}
 use Rattle.wasm_model.specs.Kept.{Kept}
 use Rattle.wasm_model.specs.Places.{IsTruePair, ArePlaces}
 use Rattle.wasm_model.specs.Shortest.{u32_bytes}

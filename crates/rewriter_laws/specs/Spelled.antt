@@ -1,13 +1,11 @@
 -- Canonical bytes spell what they are the bytes of.
-use Rattle.std.proofs.Common.{ℕ, ◌≡◌, ◌<◌, ◌≤◌, ◌+◌, ◌-◌, ◌*◌, ◌^◌, ◌⊎◌, zero, suc, List, [], ◌∷◌, ◌++◌, length, refl, sym, ap, subst, ◌∙◌, inl, inr, arith, append_assoc, add_assoc, length-append, map}
+use Rattle.std.proofs.Common.{ℕ, ◌≡◌, ◌<◌, ◌≤◌, ◌+◌, ◌^◌, suc, List, [], ◌∷◌, ◌++◌, length, refl, ap, inl, inr, arith, map}
 use Rattle.std.proofs.lemmas.List.{length-map}
-use Rattle.std.specs.Prelude.{ℤ}
 use Rattle.std.specs.List.{flat_map, AllByRecursion}
-use Rattle.wasm_reader.specs.Numbers.{Spells, signed}
 use Rattle.wasm_model.specs.declared.types.ValType.{ValType}
-use Rattle.wasm_model.specs.Module.{Module, Function, FunctionType, Operator, Nop, I32Const, Drop, Return, Call, End, operators}
-use Rattle.wasm_model.specs.Grammar.{Grammar, SpellsU32, SpellsEach, SpellsVec, SpellsEachAt, IsSection, SpellsSection}
-use Rattle.wasm_model.specs.Spells.{SpellsValueType, SpellsFunctionType, SpellsOperator, SpellsPlaced, SpellsCode, SpellsCodes, Code, code_of}
+use Rattle.wasm_model.specs.Module.{Module, FunctionType, Operator, Nop, I32Const, Drop, Return, Call, End, operators}
+use Rattle.wasm_model.specs.Grammar.{Grammar, SpellsEach, SpellsVec, SpellsEachAt, SpellsSection}
+use Rattle.wasm_model.specs.Spells.{SpellsValueType, SpellsFunctionType, SpellsOperator, SpellsPlaced, SpellsCode, SpellsCodes, code_of}
 use Rattle.wasm_model.specs.Shortest.{u32_bytes, s32_bytes}
 use Rattle.wasm_model.specs.Spelling.{vec_bytes, sized_bytes, section_bytes, value_bytes, type_bytes, operator_bytes, body_bytes, code_bytes}
 use Rattle.rewriter_module.specs.Written.{Numbers, placed, placed_functions, written_operators}

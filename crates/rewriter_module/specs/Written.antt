@@ -1,6 +1,5 @@
 -- The module that is written for a module and a numbering of what is kept, and the places of its operators.
-use Rattle.std.specs.Prelude.{ℕ, ◌+◌, List, [], ◌∷◌, ◌++◌, length, map, zip, Option, Some, None, slice_index, slice_index_or}
-use Rattle.std.specs.List.{flat_map}
+use Rattle.std.specs.Prelude.{ℕ, ◌+◌, List, [], ◌∷◌, ◌++◌, length, map, Option, Some, None, slice_index, slice_index_or}
 use Rattle.wasm_model.specs.Module.{Module, Function, FunctionType, Operator, operators}
 use Rattle.wasm_model.specs.NormalForm.{normal_form}
 use Rattle.std.specs.Option.{option_map}

@@ -1,8 +1,8 @@
 -- Each run ends, and in one way.
-use Rattle.std.proofs.Common.{ℕ, ◌≡◌, ◌<◌, ◌≤◌, ◌+◌, ◌*◌, ◌⊎◌, zero, suc, List, [], ◌∷◌, length, refl, sym, ap, subst, ◌∙◌, inl, inr, arith, map}
+use Rattle.std.proofs.Common.{ℕ, ◌≡◌, ◌<◌, ◌≤◌, ◌+◌, ◌*◌, zero, suc, List, [], ◌∷◌, length, refl, sym, ap, subst, ◌∙◌, arith}
 use Rattle.std.specs.Prelude.{slice_get, Some, None, Option}
 use Rattle.wasm_model.specs.Module.{Module, Function, Operator, Nop, I32Const, Drop, Return, Call, End, operators}
-use Rattle.wasm_model.specs.Machine.{Outcome, Go, Trap, Throws, Holds, Fails, Arm, Enter, Returns, Ending, Returned, Trapped, Threw, Waiting, Spent, Misfit, Event, Activation, State, Move, Ends, EndsAt, Quiet, Shows, state, activation, event, leaves, leaves_at, takes, enters, acts, step, Traces, ends, ends_at, quiet, shows}
+use Rattle.wasm_model.specs.Machine.{Outcome, Go, Trap, Throws, Holds, Fails, Arm, Enter, Returns, Ending, Event, Activation, State, Move, Ends, EndsAt, Quiet, Shows, activation, event, leaves, leaves_at, takes, enters, acts, step, Traces, ends, ends_at, quiet, shows}
 
 -- what a move says of how a run goes on
 same_ending : {e d : Ending} → Ends e ≡ Ends d → e ≡ d

@@ -1,3 +1,4 @@
 pub mod Same
 pub mod Ends
 pub mod Laws
+pub mod Worked

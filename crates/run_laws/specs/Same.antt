@@ -1,7 +1,6 @@
 -- Corresponding runs of a module and of what is written for it execute the same operators, renamed, and end the same way.
-use Rattle.std.proofs.Common.{ℕ, ◌≡◌, ◌<◌, ◌≤◌, ◌+◌, ◌⊎◌, zero, suc, List, [], ◌∷◌, length, refl, sym, ap, subst, ◌∙◌, inl, inr, arith, map, get_or}
+use Rattle.std.proofs.Common.{ℕ, ◌≡◌, ◌<◌, ◌⊎◌, zero, suc, List, [], ◌∷◌, length, refl, sym, ap, subst, ◌∙◌, inl, inr, map, get_or}
 use Rattle.std.specs.Prelude.{slice_get, Some, None, Option}
-use Rattle.std.specs.List.{AllByRecursion}
 use Rattle.std.proofs.lemmas.Option.{slice_get-get_or}
 use Rattle.wasm_model.specs.Features.{Features}
 use Rattle.wasm_model.specs.Module.{Module, Function, Operator, Nop, I32Const, Drop, Return, Call, End, FunctionItem, operators}
@@ -9,7 +8,7 @@ use Rattle.wasm_model.specs.NormalForm.{normal_form}
 use Rattle.wasm_model.specs.Rules.{Rules, Reads}
 use Rattle.wasm_model.specs.Kept.{Root, Kept, root, refers}
 use Rattle.wasm_model.specs.Part.{Renaming, Stands, IsRenamed, renamed_operator}
-use Rattle.wasm_model.specs.Machine.{Outcome, Go, Trap, Throws, Holds, Fails, Arm, Enter, Returns, Ending, Returned, Trapped, Threw, Waiting, Spent, Misfit, Event, Activation, State, Move, Ends, EndsAt, Quiet, Shows, state, activation, event, leaves, leaves_at, takes, enters, acts, step, Traces, ends, ends_at, quiet, shows, body_of, begins, Trace, Fits, renamed_outcome, renamed_event}
+use Rattle.wasm_model.specs.Machine.{Outcome, Go, Trap, Throws, Holds, Fails, Arm, Enter, Returns, Ending, Event, Activation, State, Move, Ends, EndsAt, Quiet, Shows, state, activation, event, leaves, leaves_at, takes, enters, acts, step, Traces, ends, ends_at, quiet, shows, body_of, Trace, Fits, renamed_outcome, renamed_event}
 use Rattle.rewriter_laws.specs.Among.{Among, contains_among}
 use Rattle.rewriter_laws.specs.Again.{kept_in_range}
 use Rattle.rewriter_laws.specs.Twice.{normal_operators, operators_of_normal, renamed_operators}

@@ -2,6 +2,7 @@
 #![tactic(auto)]
 
 ghost use Rattle.run_laws.specs.Laws.{EachRunEnds, OneTrace, SameRuns};
+ghost use Rattle.run_laws.specs.Worked.{ExampleRuns};
 
 /// Each run of a function ends: from every module, function, list of outcomes and bound there is
 /// a trace.
@@ -18,4 +19,9 @@ pub fn one_trace()
 /// written for it is the trace in the module, renamed.
 pub fn same_runs()
     ensures { SameRuns }
+{}
+
+/// Worked runs of a module, and of what is written for it.
+pub fn example_runs()
+    ensures { ExampleRuns }
 {}

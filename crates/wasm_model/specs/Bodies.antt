@@ -1,5 +1,5 @@
 -- Parsing a body from left to right: its operators, or where it stops.
-use Rattle.std.specs.Prelude.{ℕ, ◌+◌, ◌-◌, ◌==◌, zero, suc, List, [], ◌∷◌, length, Result, Ok, Err, nat_lt, nat_le, Bool, true, false, if◌then◌else◌}
+use Rattle.std.specs.Prelude.{ℕ, ◌+◌, ◌-◌, ◌==◌, zero, suc, List, [], ◌∷◌, length, Result, Ok, Err, nat_lt, Bool, true, false, if◌then◌else◌}
 use Rattle.wasm_reader.specs.declared.error.ErrorKind.TheVariants as kinds
 use Rattle.wasm_reader.specs.Numbers.{unsigned_at, signed_at}
 use Rattle.wasm_model.specs.declared.fault.Form.TheVariants as forms

@@ -1,6 +1,6 @@
 -- What is kept of a module: all that a chain of references reaches from a root.
 use Rattle.std.specs.Prelude.{ℕ, ◌<◌, ◌≤◌, ◌≡◌, ◌≢◌, ◌⊎◌, List, length, Some, slice_get, Contains}
-use Rattle.wasm_model.specs.Module.{Module, Function, FunctionType, Operator, Call, operators, Item, FunctionItem, TypeItem, Export}
+use Rattle.wasm_model.specs.Module.{Module, Function, FunctionType, Call, operators, Item, FunctionItem, TypeItem, Export}
 use Rattle.wasm_model.specs.NormalForm.{normal_form}
 
 -- u is the type that t stands for: itself, or where an earlier type is equal to it and stands for itself, that one. Types

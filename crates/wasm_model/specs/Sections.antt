@@ -1,6 +1,6 @@
 -- Parsing a module from left to right: its sections, then its bodies, or where it stops. In the order of the sections,
 -- each rule is tested as soon as what it speaks of was read.
-use Rattle.std.specs.Prelude.{ℕ, ◌+◌, ◌-◌, ◌*◌, ◌^◌, ◌<◌, ◌≤◌, ◌≡◌, ◌==◌, zero, suc, List, [], ◌∷◌, ◌++◌, length, map, take, drop, Result, Ok, Err, Option, Some, None, nat_lt, nat_le, nat_eq, Bool, true, false, ◌&&◌, ◌||◌, not, is_none, unwrap_or, if◌then◌else◌}
+use Rattle.std.specs.Prelude.{ℕ, ◌+◌, ◌-◌, ◌^◌, ◌<◌, ◌≤◌, ◌≡◌, ◌==◌, List, [], ◌∷◌, length, take, drop, Result, Ok, Err, Option, Some, None, nat_lt, nat_le, nat_eq, Bool, true, ◌&&◌, ◌||◌, is_none, unwrap_or, if◌then◌else◌}
 use Rattle.std.specs.List.{list_any, starts_with}
 use Rattle.std.specs.Cmp.Lexicographic.{pointwise}
 use Rattle.wasm_reader.specs.declared.error.ErrorKind.TheVariants as kinds
@@ -16,7 +16,7 @@ use Rattle.wasm_model.specs.declared.fault.Space.TheVariants as spaces
 use Rattle.wasm_model.specs.declared.fault.Form.TheVariants as forms
 use Rattle.wasm_model.specs.declared.fault.Limited.TheVariants as limits
 use Rattle.wasm_model.specs.Features.{Features, Known}
-use Rattle.wasm_model.specs.Module.{Module, Function, FunctionType, Item, FunctionItem, Export}
+use Rattle.wasm_model.specs.Module.{Module, Function, FunctionType, FunctionItem, Export}
 use Rattle.wasm_model.specs.Spells.{Code, header}
 use Rattle.wasm_model.specs.Stop.{Trouble, Read, Header, SectionOrder, SectionSize, Count, Index, Unsupported, DuplicateExport, Limit, Stop, stop, Parsing, ◌>>=◌, value_at, before, entries_at, vec_at, trouble_of, place_of, is_in_bytes}
 use Rattle.wasm_model.specs.Bodies.{code_at}

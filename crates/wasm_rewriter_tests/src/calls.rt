@@ -1,0 +1,51 @@
+// Calls and start functions.
+use crate::pieces::{
+    CODE, EXPORT, FUNCTION, HEADER, TWO_FUNCTIONS, TYPE, check_rewritten, fault_of, smallest,
+};
+use std::test::Fail;
+use wasm_rewriter::{Fault, Space};
+
+#[test]
+fn calls_have_new_numbers(rt: HostRuntime) -> Result<(), Fail> {
+    // the longer body is written first
+    let code: &[u8] = b"\x0a\x0c\x02\x04\x00\x10\x01\x0b\x05\x00\x41\x07\x1a\x0b";
+    let input = [HEADER, TYPE, TWO_FUNCTIONS, EXPORT, code].concat(rt.alloc())?;
+    let second_exported: &[u8] = b"\x07\x05\x01\x01f\x00\x01";
+    let new_code: &[u8] = b"\x0a\x0c\x02\x05\x00\x41\x07\x1a\x0b\x04\x00\x10\x00\x0b";
+    let output = [HEADER, TYPE, TWO_FUNCTIONS, second_exported, new_code].concat(rt.alloc())?;
+    let places = [(8, 3), (10, 5), (11, 6), (3, 9), (5, 11)];
+    check_rewritten(&rt, rt.alloc(), &input, &output, &places)
+}
+
+#[test]
+fn a_start_function_stays(rt: HostRuntime) -> Result<(), Fail> {
+    let start: &[u8] = b"\x08\x01\x00";
+    let input = [HEADER, TYPE, FUNCTION, start, CODE].concat(rt.alloc())?;
+    check_rewritten(&rt, rt.alloc(), &input, &input, &[(3, 3)])
+}
+
+#[test]
+fn a_cycle_that_nothing_reaches_goes(rt: HostRuntime) -> Result<(), Fail> {
+    let three_functions: &[u8] = b"\x03\x04\x03\x00\x00\x00";
+    let code: &[u8] = b"\x0a\x0e\x03\x02\x00\x0b\x04\x00\x10\x02\x0b\x04\x00\x10\x01\x0b";
+    let input = [HEADER, TYPE, three_functions, EXPORT, code].concat(rt.alloc())?;
+    check_rewritten(&rt, rt.alloc(), &input, &smallest(rt.alloc())?, &[(3, 3)])
+}
+
+#[test]
+fn a_missing_function_is_refused(rt: HostRuntime) -> Result<(), Fail> {
+    let space = Space::Function;
+    let calls: &[u8] = b"\x0a\x06\x01\x04\x00\x10\x05\x0b";
+    let input = [HEADER, TYPE, FUNCTION, EXPORT, calls].concat(rt.alloc())?;
+    assert_eq!(rt;
+        fault_of(rt.alloc(), &input),
+        Some(Fault::Index { space, offset: 30 })
+    );
+    let start: &[u8] = b"\x08\x01\x01";
+    let input = [HEADER, TYPE, FUNCTION, start].concat(rt.alloc())?;
+    assert_eq!(rt;
+        fault_of(rt.alloc(), &input),
+        Some(Fault::Index { space, offset: 20 })
+    );
+    Ok(())
+}
