@@ -1,21 +1,20 @@
 -- A whole body: the count of locals, the operators, and nothing behind them.
-use Rattle.std.proofs.Common.{◌≡◌, ◌≢◌, ◌==◌, ◌+◌, ◌-◌, ◌≤◌, ◌<◌, ℕ, zero, suc, Bool, true, false, List, [], ◌∷◌, length, Ok, Err, Result, refl, sym, ap, ◌∙◌, subst, arith, if◌then◌else◌}
+use Rattle.std.proofs.Common.{◌≡◌, ◌≢◌, ◌==◌, ◌+◌, ◌-◌, ◌≤◌, ℕ, Bool, true, false, List, [], length, Ok, Err, Result, refl, sym, ap, ◌∙◌, subst, arith, if◌then◌else◌}
 use Rattle.std.proofs.lemmas.Bool.{ne_eqb}
-use Rattle.wasm_reader.specs.Cursor.{Cursor, rest, end_of, Forward}
+use Rattle.wasm_reader.specs.Cursor.{Cursor, rest, end_of}
 use Rattle.wasm_reader.specs.Reading.{plain}
-use Rattle.wasm_reader.specs.Numbers.{unsigned_at}
 use Rattle.wasm_model.specs.declared.fault.Fault.{Fault}
 use Rattle.wasm_model.specs.declared.fault.Form.TheVariants as forms
 use Rattle.wasm_model.specs.Features.{Features}
 use Rattle.wasm_model.specs.Module.{Operator}
 use Rattle.wasm_model.specs.Spells.{Code}
-use Rattle.wasm_model.specs.Stop.{Trouble, Other, Nesting, Unsupported, Stop, stop, Parsing, ◌>>=◌, value_at, trouble_of, place_of}
+use Rattle.wasm_model.specs.Stop.{Other, Nesting, Unsupported, Stop, stop, Parsing, ◌>>=◌, trouble_of, place_of}
 use Rattle.wasm_model.specs.Bodies.{code_at}
 use Rattle.rewriter_bodies.specs.declared.extent.Extent.{Extent}
 use Rattle.rewriter_bodies.specs.Views.{u32_value_at}
 use Rattle.rewriter_bodies.specs.Exactly.{ParsesExactly, IsPlaced}
 use Rattle.rewriter_bodies.specs.Sizes.{made, body_at, extent_of, extent_at}
-use Rattle.rewriter_bodies.proofs.Operators.{Forward-then, ends_same}
+use Rattle.rewriter_bodies.proofs.Operators.{ends_same}
 use Rattle.rewriter_bodies.proofs.Shrinks.{StopsWithin, code_within}
 
 -- nothing is behind the operators

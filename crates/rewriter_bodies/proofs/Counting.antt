@@ -1,13 +1,13 @@
 -- Counting the operators of a normal form.
-use Rattle.std.proofs.Common.{◌≡◌, ◌≢◌, ◌+◌, ◌-◌, ◌*◌, ◌≤◌, ◌<◌, ℕ, zero, suc, Bool, true, false, List, [], ◌∷◌, length, Ok, Err, Result, Option, Some, cond, refl, sym, ap, ◌∙◌, arith, count_by, length-append}
+use Rattle.std.proofs.Common.{◌≡◌, ◌≢◌, ◌+◌, ◌-◌, ◌*◌, ◌≤◌, ◌<◌, ℕ, suc, Bool, true, false, List, [], ◌∷◌, length, Ok, Err, Option, Some, cond, refl, sym, ap, ◌∙◌, arith, count_by, length-append}
 use Rattle.std.proofs.lemmas.List.Sums.{sum_by-cons}
 use Rattle.std.specs.List.{flat_map}
-use Rattle.wasm_reader.specs.Cursor.{Cursor, rest, end_of, Forward}
+use Rattle.wasm_reader.specs.Cursor.{Cursor, rest, end_of}
 use Rattle.wasm_reader.specs.Reading.{plain}
 use Rattle.wasm_model.specs.declared.fault.Fault.{Fault}
 use Rattle.wasm_model.specs.Features.{Features}
 use Rattle.wasm_model.specs.Module.{Operator, End, operators}
-use Rattle.wasm_model.specs.Spelling.{operator_bytes, body_bytes}
+use Rattle.wasm_model.specs.Spelling.{operator_bytes}
 use Rattle.wasm_model.specs.NormalForm.{size, counts}
 use Rattle.wasm_model.specs.Stop.{stop, trouble_of, place_of}
 use Rattle.wasm_model.specs.Bodies.{operator_at, is_end}
@@ -15,9 +15,9 @@ use Rattle.rewriter_bodies.specs.declared.operator.Operator.{Operator as Code}
 use Rattle.rewriter_bodies.specs.declared.operator.Operator.TheVariants as code
 use Rattle.rewriter_bodies.specs.declared.extent.Extent.{Extent}
 use Rattle.rewriter_bodies.specs.Views.{operator_of}
-use Rattle.rewriter_bodies.specs.Exactly.{ParsesExactly, IsPlaced}
+use Rattle.rewriter_bodies.specs.Exactly.{ParsesExactly}
 use Rattle.rewriter_bodies.specs.Live.{live, put}
-use Rattle.rewriter_bodies.specs.Sizes.{made, body_at, extent_of, extent_at}
+use Rattle.rewriter_bodies.specs.Sizes.{body_at, extent_of, extent_at}
 use Rattle.rewriter_bodies.proofs.Operators.{Forward-then}
 use Rattle.rewriter_bodies.proofs.Lengths.{s32_small}
 use Rattle.rewriter_bodies.proofs.Shrinks.{operator_takes}

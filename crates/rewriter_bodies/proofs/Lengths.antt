@@ -1,6 +1,5 @@
 -- How many bytes a signed number takes.
-use Rattle.std.proofs.Common.{◌≡◌, ◌+◌, ◌-◌, ◌*◌, ◌/◌, ◌%◌, ◌<◌, ◌≤◌, ℕ, zero, suc, Bool, true, false, List, [], ◌∷◌, length, refl, sym, ap, ◌∙◌, arith, ℤ, pos, nat_lt, if◌then◌else◌}
-use Rattle.std.proofs.lemmas.Bool.{lt-ltb, le-ltb}
+use Rattle.std.proofs.Common.{◌≡◌, ◌+◌, ◌-◌, ◌/◌, ◌%◌, ◌<◌, ◌≤◌, ℕ, zero, suc, Bool, true, false, List, [], ◌∷◌, length, ap, ◌∙◌, arith, ℤ, pos, nat_lt, if◌then◌else◌}
 use lib.IntN.{negsuc}
 use Rattle.wasm_model.specs.Shortest.{shortest_signed, s32_bytes}
 use Rattle.rewriter_bodies.specs.Signs.{signed_of}

@@ -1,15 +1,13 @@
 -- One operator: what its code says, and the faults of those that are refused.
-use Rattle.std.proofs.Common.{◌≡◌, ◌≢◌, ◌+◌, ◌-◌, ◌≤◌, ℕ, zero, suc, Bool, true, false, List, [], ◌∷◌, length, Ok, Err, Result, IfErr, refl, sym, ap, ◌∙◌, arith, rules, add-one}
+use Rattle.std.proofs.Common.{◌≡◌, ◌≢◌, ◌+◌, ◌-◌, ◌≤◌, ℕ, true, false, List, [], ◌∷◌, length, Ok, Err, Result, refl, sym, ap, ◌∙◌, arith, add-one}
 use Rattle.std.proofs.lemmas.Bool.{ne_eqb}
-use Rattle.wasm_reader.specs.declared.error.ErrorKind.TheVariants as kinds
-use Rattle.wasm_reader.specs.Cursor.{Window, Cursor, rest, end_of, Forward, IsWithin}
-use Rattle.wasm_reader.specs.Reading.{plain, byte_at}
+use Rattle.wasm_reader.specs.Cursor.{Window, Cursor, rest, end_of, Forward}
+use Rattle.wasm_reader.specs.Reading.{plain}
 use Rattle.wasm_reader.specs.Numbers.{unsigned_at}
 use Rattle.wasm_model.specs.declared.fault.Fault.{Fault}
-use Rattle.wasm_model.specs.declared.fault.Fault.TheVariants as faults
 use Rattle.wasm_model.specs.Features.{Features}
 use Rattle.wasm_model.specs.OperatorTable.{is_prefix}
-use Rattle.wasm_model.specs.Stop.{Trouble, Stop, stop, Parsing, ◌>>=◌, value_at, trouble_of, place_of}
+use Rattle.wasm_model.specs.Stop.{Trouble, stop, Parsing, ◌>>=◌, value_at, trouble_of, place_of}
 use Rattle.wasm_model.specs.Bodies.{operator_at, trouble_at_code, trouble_at_number}
 use Rattle.rewriter_bodies.specs.Exactly.{ParsesExactly}
 use Rattle.rewriter_bodies.specs.Views.{operator_of, Refuses, byte_value_at, u32_value_at}

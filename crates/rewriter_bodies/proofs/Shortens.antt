@@ -1,8 +1,7 @@
 -- Writing a number byte by byte, unsigned and signed at once.
-use Rattle.std.proofs.Common.{◌≡◌, ◌+◌, ◌-◌, ◌*◌, ◌/◌, ◌%◌, ◌<◌, ◌≤◌, ◌^◌, ℕ, zero, suc, Bool, true, false, List, [], ◌∷◌, ◌++◌, length, refl, sym, ap, ◌∙◌, arith, ℤ, pos, nat_lt, append_assoc, if◌then◌else◌}
+use Rattle.std.proofs.Common.{◌≡◌, ◌+◌, ◌-◌, ◌*◌, ◌/◌, ◌%◌, ◌<◌, ◌≤◌, ◌^◌, ℕ, zero, suc, Bool, true, false, List, [], ◌∷◌, ◌++◌, refl, sym, ap, ◌∙◌, arith, ℤ, append_assoc, if◌then◌else◌}
 use Rattle.std.proofs.lemmas.Bool.{lt-ltb, le-ltb}
 use Rattle.std.proofs.Math.Nat.{pow-suc, mul_assoc}
-use lib.IntN.{negsuc}
 use Rattle.wasm_model.specs.Shortest.{shortest_unsigned, shortest_signed, u32_bytes, s32_bytes}
 use Rattle.rewriter_bodies.specs.Signs.{signed_of}
 

@@ -1,12 +1,11 @@
 -- Parsing goes on: what it leaves is no longer than what it had, and it stops within that.
-use Rattle.std.proofs.Common.{◌≡◌, ◌+◌, ◌-◌, ◌≤◌, ◌<◌, ℕ, zero, suc, Bool, true, false, List, [], ◌∷◌, length, Ok, Err, Result, refl, sym, ap, ◌∙◌, subst, arith, nat_lt, nat_le, if◌then◌else◌, ◌==◌}
+use Rattle.std.proofs.Common.{◌≡◌, ◌+◌, ◌-◌, ◌≤◌, ◌<◌, ℕ, zero, suc, Bool, true, false, List, [], ◌∷◌, length, Ok, Err, Result, subst, arith, nat_lt, nat_le, if◌then◌else◌, ◌==◌}
 use Rattle.wasm_reader.specs.declared.error.ErrorKind.{ErrorKind}
 use Rattle.wasm_reader.specs.Reading.{Reading, ◌>>=◌ as ◌then_read◌}
 use Rattle.wasm_reader.specs.Numbers.{Style, number_at, unsigned_at, signed_at}
 use Rattle.wasm_model.specs.Features.{Features}
 use Rattle.wasm_model.specs.Module.{Operator}
 use Rattle.wasm_model.specs.OperatorTable.{is_prefix}
-use Rattle.wasm_model.specs.Spells.{Code}
 use Rattle.wasm_model.specs.Stop.{Stop, Parsing, ◌>>=◌, value_at}
 use Rattle.wasm_model.specs.Bodies.{operator_at, operators_at, code_at, is_end}
 

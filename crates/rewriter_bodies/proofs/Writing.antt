@@ -1,8 +1,8 @@
 -- Writing the operators of a normal form.
-use Rattle.std.proofs.Common.{◌≡◌, ◌≢◌, ◌+◌, ◌-◌, ◌≤◌, ◌<◌, ◌^◌, ℕ, zero, suc, Bool, true, false, List, [], ◌∷◌, ◌++◌, length, Ok, Err, Result, Option, Some, None, OnOk, refl, sym, ap, ◌∙◌, arith, append_assoc, length-append}
+use Rattle.std.proofs.Common.{◌≡◌, ◌≢◌, ◌+◌, ◌-◌, ◌<◌, ◌^◌, ℕ, Bool, true, false, List, [], ◌∷◌, ◌++◌, length, Ok, Err, Result, Option, Some, None, OnOk, refl, sym, ap, ◌∙◌, arith, append_assoc, length-append}
 use Rattle.std.proofs.lemmas.List.{append-nil}
 use Rattle.std.specs.List.{flat_map}
-use Rattle.wasm_reader.specs.Cursor.{Window, Cursor, rest, end_of, Forward}
+use Rattle.wasm_reader.specs.Cursor.{Cursor, rest, end_of, Forward}
 use Rattle.wasm_model.specs.Features.{Features}
 use Rattle.wasm_model.specs.Module.{Operator, End, operators}
 use Rattle.wasm_model.specs.NormalForm.{normal_form}
@@ -17,12 +17,12 @@ use Rattle.rewriter_bodies.specs.Views.{operator_of, u32_value_at}
 use Rattle.rewriter_bodies.specs.Exactly.{ParsesExactly}
 use Rattle.wasm_reader.specs.Reading.{plain}
 use Rattle.rewriter_bodies.specs.Live.{live, put}
-use Rattle.rewriter_bodies.specs.Sizes.{made, body_at}
+use Rattle.rewriter_bodies.specs.Sizes.{made}
 use Rattle.rewriter_bodies.specs.Texts.{Text, with_pairs, with_operators, with_body, text_at}
 use Rattle.rewriter_bodies.proofs.Operators.{ends_same}
 use Rattle.rewriter_bodies.proofs.Walk.{OnWay, sets_out, goes_on, ends, fails}
 use Rattle.rewriter_bodies.proofs.Counting.{no_end, live_end}
-use Rattle.rewriter_bodies.proofs.Checking.{made_ok, parts_of}
+use Rattle.rewriter_bodies.proofs.Checking.{parts_of}
 
 pub both_ok : {A E : Type 0} {P Q R : Type 0} (r : Result A E) → OnOk r P → OnOk r Q → (P → Q → R) → OnOk r R
 both_ok (Ok x) p q f = f p q
@@ -73,13 +73,6 @@ module _ (features : Features) (start now : Cursor) (first text : Text) (reached
   -- an operator's place
   pub place_is : (place : ℕ) → place + length (rest now) ≡ end_of now → place ≡ end_of start - length (rest now)
   place_is place e = let same = ends_same is.way.moves in omega arith
-
-  pub is_small : HasText features start first → length text.bytes < 2 ^ 32
-  is_small it =
-      let made_of = made_ok (λ ops. with_operators text (live reached ops)) (body_at features (end_of start) (rest now)) it.0 it.1 (is.way.so_far ∙ it.2) in
-      let bytes : text.bytes ++ flat_map operator_bytes (operators (live reached made_of.0)) ≡ it.0.bytes = ap (λ (t : Text). t.bytes) made_of.2 in
-      let size = length-append text.bytes (flat_map operator_bytes (operators (live reached made_of.0))) in
-      omega (arith, ap length bytes, size, it.3)
 
   pub no_stop : HasText features start first → (s : Stop) → operator_at features (rest now) ≡ Err s → ⊥
   no_stop it s e = let stopped = fails features (end_of start) start whole now now (λ ops. with_operators text (live reached ops)) is.way s e in

@@ -2,7 +2,7 @@
 use Rattle.std.specs.Prelude.{ℕ, ◌-◌, ◌≤◌, ◌≡◌, ◌≢◌, List, Result, Ok, Err, IfErr}
 use Rattle.wasm_reader.specs.Cursor.{Cursor, rest, end_of, Forward}
 use Rattle.wasm_model.specs.declared.fault.Fault.{Fault}
-use Rattle.wasm_model.specs.Stop.{Trouble, Other, Stop, stop, Parsing, trouble_of, place_of}
+use Rattle.wasm_model.specs.Stop.{Other, stop, Parsing, trouble_of, place_of}
 
 -- a call's result, and the reader as the call leaves it, as a parsing's answer
 abbrev pub answer : {X Y : Type 0} → (X → Y) → Cursor → Result X Fault → Parsing Y

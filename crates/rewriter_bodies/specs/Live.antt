@@ -1,5 +1,5 @@
 -- The normal form of what is left of a body.
-use Rattle.std.specs.Prelude.{ℕ, List, [], ◌∷◌, Option, Some, Bool, true, false}
+use Rattle.std.specs.Prelude.{ℕ, List, ◌∷◌, Option, Some, Bool, true, false}
 use Rattle.wasm_model.specs.Module.{Operator}
 use Rattle.wasm_model.specs.NormalForm.{Tree, Close, tree_of, normal, end_place, flat}
 

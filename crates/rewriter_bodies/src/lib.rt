@@ -17,4 +17,3 @@ pub use check::{check_body, measure_body};
 pub use code::CodeWriter;
 pub use extent::Extent;
 pub use number::{write_s32, write_u32};
-pub use operator::Operator;

@@ -1,24 +1,22 @@
 -- What is written reads as what it was written for.
-use Rattle.std.proofs.Common.{ℕ, ◌≡◌, ◌≢◌, ◌<◌, ◌≤◌, ◌+◌, ◌^◌, zero, suc, List, [], ◌∷◌, ◌++◌, length, refl, sym, ap, subst, ◌∙◌, inl, inr, arith, map, get_or, length-append}
-use Rattle.std.specs.Prelude.{slice_get, slice_index, slice_index_or, Some, None, Option, All, AllPairs, Contains}
+use Rattle.std.proofs.Common.{ℕ, ◌≡◌, ◌≢◌, ◌<◌, ◌≤◌, ◌+◌, ◌^◌, suc, List, [], ◌∷◌, ◌++◌, length, refl, sym, ap, subst, ◌∙◌, arith, map, get_or, length-append}
+use Rattle.std.specs.Prelude.{slice_get, slice_index, slice_index_or, Some, All, AllPairs, Contains}
 use Rattle.std.specs.Str.{IsUtf8}
-use Rattle.std.specs.List.{flat_map, AllByRecursion}
+use Rattle.std.specs.List.{AllByRecursion}
 use Rattle.std.proofs.lemmas.List.{length-map, get_or-map}
 use Rattle.std.proofs.lemmas.List.Elements.{recursion_from_All, All-from_recursion, Contains-get_or}
-use Rattle.std.proofs.lemmas.Option.{slice_get_read, get_or_from_slice_get, slice_get_within, slice_get-get_or}
-use Rattle.wasm_model.specs.declared.types.ValType.{ValType}
+use Rattle.std.proofs.lemmas.Option.{slice_get_read, get_or_from_slice_get, slice_get-get_or}
 use Rattle.wasm_model.specs.Features.{Features}
-use Rattle.wasm_model.specs.Module.{Module, Function, FunctionType, Operator, operators, Export, Item, FunctionItem, TypeItem}
-use Rattle.wasm_model.specs.Spells.{SpellsModule, SpellsFunctionType, SpellsExport, code_of, header}
+use Rattle.wasm_model.specs.Module.{Module, Function, Export, Item, FunctionItem, TypeItem}
+use Rattle.wasm_model.specs.Spells.{SpellsModule, SpellsFunctionType, SpellsExport, header}
 use Rattle.wasm_model.specs.Grammar.{SpellsU32}
-use Rattle.wasm_model.specs.NormalForm.{normal_form}
 use Rattle.wasm_model.specs.Rules.{Rules, Fits, Reads, IsItem, Nests}
 use Rattle.wasm_model.specs.Kept.{Same, Refers, Root, Kept, root, refers}
 use Rattle.wasm_model.specs.Part.{renamed_export, renamed_item}
 use Rattle.wasm_model.specs.Shortest.{u32_bytes}
 use Rattle.wasm_model.specs.Spelling.{vec_bytes, sized_bytes, section_bytes, type_bytes, export_bytes, body_bytes, code_bytes, module_bytes}
 use Rattle.rewriter_module.specs.Numbered.{IsNumbering}
-use Rattle.rewriter_module.specs.Written.{Numbers, written, placed, placed_functions, written_operators, function_at, type_at, no_function, no_type, renaming}
+use Rattle.rewriter_module.specs.Written.{Numbers, written, placed_functions, written_operators, function_at, type_at, no_function, no_type, renaming}
 use Rattle.rewriter_laws.specs.Numbers.{u32_spells}
 use Rattle.rewriter_laws.specs.Spelled.{InRange, section_spelled, section_spelled_by, type_spelled, code_section_spelled, length-placed_functions}
 use Rattle.rewriter_laws.specs.Bodies.{AllInRange, normal_in_range, normal_nests, spelled_in_range, IsFunctionExport, exports_are_functions}
@@ -88,7 +86,6 @@ ranges_of_kept : (features : Features) (m : Module) → Rules features m → All
 ranges_of_kept features m rules ranges f kept =
     normal_in_range (function_at m f).body (All-from_recursion (λ g. AllInRange g.body) m.functions ranges f no_function (kept_in_range features m rules (FunctionItem f) kept))
 
-
 export_spelled : (name : List ℕ) (f : ℕ) → IsUtf8 name → length name < 2 ^ 32 → f < 2 ^ 32 → SpellsExport (export_bytes (record { name = name; item = FunctionItem f })) (record { name = name; item = FunctionItem f })
 export_spelled name f text small few = (sized_bytes name, 0 ∷ u32_bytes f, refl, (u32_bytes (length name), refl, u32_spells (length name) small, text), (u32_bytes f, refl, u32_spells f few))
 
@@ -151,30 +148,30 @@ both P Q (x ∷ xs) h k = ((h.0, k.0), both P Q xs h.1 k.1)
 types_spelled : (features : Features) (bytes : List ℕ) (m : Module) (n : Numbers) → Reads features bytes m → IsNumbering m n → AllByRecursion (λ t. SpellsFunctionType (type_bytes t) t × ((length t.params ≤ 1000) × (length t.results ≤ 1000))) (written m n).types
 types_spelled features bytes m n reads numbering =
     mapped (λ t. Kept m (TypeItem t)) (λ t. SpellsFunctionType (type_bytes t) t × ((length t.params ≤ 1000) × (length t.results ≤ 1000))) (type_at m) n.types
-      (λ (t : ℕ) (kept : Kept m (TypeItem t)).
-        let fits : (length (type_at m t).params ≤ 1000) × (length (type_at m t).results ≤ 1000) = types_fit m reads.rules.fits t (kept_in_range features m reads.rules (TypeItem t) kept) in
-        (type_spelled (type_at m t) (omega arith) (omega arith), fits))
-      (recursion_from_All (λ t. Kept m (TypeItem t)) n.types numbering.types)
+    (λ (t : ℕ) (kept : Kept m (TypeItem t)).
+    let fits : (length (type_at m t).params ≤ 1000) × (length (type_at m t).results ≤ 1000) = types_fit m reads.rules.fits t (kept_in_range features m reads.rules (TypeItem t) kept) in
+    (type_spelled (type_at m t) (omega arith) (omega arith), fits))
+    (recursion_from_All (λ t. Kept m (TypeItem t)) n.types numbering.types)
 
 functions_typed : (features : Features) (bytes : List ℕ) (m : Module) (n : Numbers) → Reads features bytes m → IsNumbering m n → AllByRecursion (λ g. g.type_ < length n.types) (written m n).functions
 functions_typed features bytes m n reads numbering =
     typed_functions m n (length (u32_bytes (length n.functions))) (length n.types) n.functions
-      (weaken (λ f. Kept m (FunctionItem f)) (λ f. slice_index n.new_type (function_at m f).type_ < length n.types) n.functions
-        (λ (f : ℕ) (kept : Kept m (FunctionItem f)). type_number_small features m n reads.rules numbering f kept)
-        (recursion_from_All (λ f. Kept m (FunctionItem f)) n.functions numbering.functions))
+    (weaken (λ f. Kept m (FunctionItem f)) (λ f. slice_index n.new_type (function_at m f).type_ < length n.types) n.functions
+    (λ (f : ℕ) (kept : Kept m (FunctionItem f)). type_number_small features m n reads.rules numbering f kept)
+    (recursion_from_All (λ f. Kept m (FunctionItem f)) n.functions numbering.functions))
 
 functions_nested : (features : Features) (bytes : List ℕ) (m : Module) (n : Numbers) → Reads features bytes m → IsNumbering m n → AllByRecursion (λ g. Nests g.body) (written m n).functions
 functions_nested features bytes m n reads numbering =
     nested_functions m n (length (u32_bytes (length n.functions))) n.functions
-      (weaken (λ f. Kept m (FunctionItem f)) (λ f. Nests (function_at m f).body) n.functions
-        (λ (f : ℕ) (kept : Kept m (FunctionItem f)). bodies_of_kept features m reads.rules f kept)
-        (recursion_from_All (λ f. Kept m (FunctionItem f)) n.functions numbering.functions))
+    (weaken (λ f. Kept m (FunctionItem f)) (λ f. Nests (function_at m f).body) n.functions
+    (λ (f : ℕ) (kept : Kept m (FunctionItem f)). bodies_of_kept features m reads.rules f kept)
+    (recursion_from_All (λ f. Kept m (FunctionItem f)) n.functions numbering.functions))
 
 ranges_of_functions : (features : Features) (bytes : List ℕ) (m : Module) (n : Numbers) → Reads features bytes m → IsNumbering m n → AllByRecursion (λ f. AllByRecursion InRange (written_operators m f)) n.functions
 ranges_of_functions features bytes m n reads numbering =
     weaken (λ f. Kept m (FunctionItem f)) (λ f. AllByRecursion InRange (written_operators m f)) n.functions
-      (λ (f : ℕ) (kept : Kept m (FunctionItem f)). ranges_of_kept features m reads.rules (spelled_in_range reads.spells.codes m.functions reads.spells.spells_codes) f kept)
-      (recursion_from_All (λ f. Kept m (FunctionItem f)) n.functions numbering.functions)
+    (λ (f : ℕ) (kept : Kept m (FunctionItem f)). ranges_of_kept features m reads.rules (spelled_in_range reads.spells.codes m.functions reads.spells.spells_codes) f kept)
+    (recursion_from_All (λ f. Kept m (FunctionItem f)) n.functions numbering.functions)
 
 roots_from : (m : Module) → AllByRecursion (λ e. Root m e.item) m.exports
 roots_from m = recursion_from_All (λ e. Root m e.item) m.exports (λ (k : ℕ) (e : Export) (small : k < length m.exports). each_root m k e small)
@@ -183,10 +180,10 @@ exports_spelled : (features : Features) (bytes : List ℕ) (m : Module) (n : Num
     AllByRecursion (λ e. SpellsExport (export_bytes e) e × (IsItem (written m n) e.item × (length e.name ≤ 100000))) (written m n).exports
 exports_spelled features bytes m n reads numbering few =
     mapped (λ e. Root m e.item × (IsFunctionExport e × (length e.name ≤ 100000))) (λ e. SpellsExport (export_bytes e) e × (IsItem (written m n) e.item × (length e.name ≤ 100000))) (renamed_export (renaming n)) m.exports
-      (λ (e : Export) (h : Root m e.item × (IsFunctionExport e × (length e.name ≤ 100000))). (renamed_spelled m n numbering few e h.0 h.1.0 (omega arith), (renamed_there m n numbering e h.0 h.1.0, h.1.1)))
-      (both (λ e. Root m e.item) (λ e. IsFunctionExport e × (length e.name ≤ 100000)) m.exports (roots_from m)
-        (both IsFunctionExport (λ e. length e.name ≤ 100000) m.exports (exports_are_functions reads.spells.exports m.exports reads.spells.spells_exports)
-          (recursion_from_All (λ e. length e.name ≤ 100000) m.exports reads.rules.fits.names)))
+    (λ (e : Export) (h : Root m e.item × (IsFunctionExport e × (length e.name ≤ 100000))). (renamed_spelled m n numbering few e h.0 h.1.0 (omega arith), (renamed_there m n numbering e h.0 h.1.0, h.1.1)))
+    (both (λ e. Root m e.item) (λ e. IsFunctionExport e × (length e.name ≤ 100000)) m.exports (roots_from m)
+    (both IsFunctionExport (λ e. length e.name ≤ 100000) m.exports (exports_are_functions reads.spells.exports m.exports reads.spells.spells_exports)
+    (recursion_from_All (λ e. length e.name ≤ 100000) m.exports reads.rules.fits.names)))
 
 names_distinct : (m : Module) (n : Numbers) → AllPairs (λ d e. d.name ≢ e.name) m.exports → AllPairs (λ d e. d.name ≢ e.name) (map (renamed_export (renaming n)) m.exports)
 names_distinct m n distinct i j d before there e =
@@ -213,9 +210,9 @@ written_rules features bytes m n reads numbering small =
     let exports = exports_spelled features bytes m n reads numbering few in
     record {
       typed = let P : ℕ → Type 0 = λ k. All (λ g. g.type_ < k) (written m n).functions in
-        subst P (sym same_types) (All-from_recursion (λ g. g.type_ < length n.types) (written m n).functions (functions_typed features bytes m n reads numbering));
+          subst P (sym same_types) (All-from_recursion (λ g. g.type_ < length n.types) (written m n).functions (functions_typed features bytes m n reads numbering));
       exported = All-from_recursion (λ e. IsItem (written m n) e.item) (written m n).exports
-        (first_of (λ e. IsItem (written m n) e.item) (λ e. length e.name ≤ 100000) (written m n).exports (second_of (λ e. SpellsExport (export_bytes e) e) (λ e. IsItem (written m n) e.item × (length e.name ≤ 100000)) (written m n).exports exports));
+          (first_of (λ e. IsItem (written m n) e.item) (λ e. length e.name ≤ 100000) (written m n).exports (second_of (λ e. SpellsExport (export_bytes e) e) (λ e. IsItem (written m n) e.item × (length e.name ≤ 100000)) (written m n).exports exports));
       distinct = names_distinct m n reads.rules.distinct;
       nested = All-from_recursion (λ g. Nests g.body) (written m n).functions (functions_nested features bytes m n reads numbering);
       fits = record {
@@ -223,12 +220,12 @@ written_rules features bytes m n reads numbering small =
         functions = let a : length m.functions ≤ 1000000 = fits.functions in let b : length n.functions ≤ length m.functions = small.functions in omega arith;
         exports = let a : length m.exports ≤ 1000000 = fits.exports in omega arith;
         params = All-from_recursion (λ t. length t.params ≤ 1000) (written m n).types (first_of (λ t. length t.params ≤ 1000) (λ t. length t.results ≤ 1000) (written m n).types
-          (second_of (λ t. SpellsFunctionType (type_bytes t) t) (λ t. (length t.params ≤ 1000) × (length t.results ≤ 1000)) (written m n).types types));
+            (second_of (λ t. SpellsFunctionType (type_bytes t) t) (λ t. (length t.params ≤ 1000) × (length t.results ≤ 1000)) (written m n).types types));
         results = All-from_recursion (λ t. length t.results ≤ 1000) (written m n).types (second_of (λ t. length t.params ≤ 1000) (λ t. length t.results ≤ 1000) (written m n).types
-          (second_of (λ t. SpellsFunctionType (type_bytes t) t) (λ t. (length t.params ≤ 1000) × (length t.results ≤ 1000)) (written m n).types types));
+            (second_of (λ t. SpellsFunctionType (type_bytes t) t) (λ t. (length t.params ≤ 1000) × (length t.results ≤ 1000)) (written m n).types types));
         names = All-from_recursion (λ e. length e.name ≤ 100000) (written m n).exports
-          (second_of (λ e. IsItem (written m n) e.item) (λ e. length e.name ≤ 100000) (written m n).exports (second_of (λ e. SpellsExport (export_bytes e) e) (λ e. IsItem (written m n) e.item × (length e.name ≤ 100000)) (written m n).exports exports))
-      }
+            (second_of (λ e. IsItem (written m n) e.item) (λ e. length e.name ≤ 100000) (written m n).exports (second_of (λ e. SpellsExport (export_bytes e) e) (λ e. IsItem (written m n) e.item × (length e.name ≤ 100000)) (written m n).exports exports));
+      };
     }
 
 pub written_spells : (features : Features) (bytes : List ℕ) (m : Module) (n : Numbers) → Reads features bytes m → IsNumbering m n → IsSmall m n →
@@ -252,19 +249,19 @@ written_spells features bytes m n reads numbering small short =
       codes = codes;
       whole = refl;
       spells_types = section_spelled 1 SpellsFunctionType type_bytes (written m n).types (omega arith) (section_small 1 type_bytes (written m n).types parts.0)
-        (first_of (λ t. SpellsFunctionType (type_bytes t) t) (λ t. (length t.params ≤ 1000) × (length t.results ≤ 1000)) (written m n).types (types_spelled features bytes m n reads numbering));
+          (first_of (λ t. SpellsFunctionType (type_bytes t) t) (λ t. (length t.params ≤ 1000) × (length t.results ≤ 1000)) (written m n).types (types_spelled features bytes m n reads numbering));
       spells_functions = section_spelled_by 3 SpellsU32 (λ (f : Function). u32_bytes f.type_) (λ (f : Function). f.type_) (written m n).functions (omega arith) (section_small 3 (λ (f : Function). u32_bytes f.type_) (written m n).functions parts.1)
-        (weaken (λ g. g.type_ < length n.types) (λ g. SpellsU32 (u32_bytes g.type_) g.type_) (written m n).functions (λ (g : Function) (h : g.type_ < length n.types). u32_spells g.type_ (let a : length n.types ≤ length m.types = small.types in let b : length m.types ≤ 1000000 = reads.rules.fits.types in omega arith)) (functions_typed features bytes m n reads numbering));
+          (weaken (λ g. g.type_ < length n.types) (λ g. SpellsU32 (u32_bytes g.type_) g.type_) (written m n).functions (λ (g : Function) (h : g.type_ < length n.types). u32_spells g.type_ (let a : length n.types ≤ length m.types = small.types in let b : length m.types ≤ 1000000 = reads.rules.fits.types in omega arith)) (functions_typed features bytes m n reads numbering));
       spells_exports = section_spelled 7 SpellsExport export_bytes (written m n).exports (omega arith) (section_small 7 export_bytes (written m n).exports parts.2)
-        (first_of (λ e. SpellsExport (export_bytes e) e) (λ e. IsItem (written m n) e.item × (length e.name ≤ 100000)) (written m n).exports (exports_spelled features bytes m n reads numbering few));
-      spells_codes = code_section_spelled m n n.functions (ranges_of_functions features bytes m n reads numbering) small.bodies few (section_small 10 code_bytes (written m n).functions parts.3)
+          (first_of (λ e. SpellsExport (export_bytes e) e) (λ e. IsItem (written m n) e.item × (length e.name ≤ 100000)) (written m n).exports (exports_spelled features bytes m n reads numbering few));
+      spells_codes = code_section_spelled m n n.functions (ranges_of_functions features bytes m n reads numbering) small.bodies few (section_small 10 code_bytes (written m n).functions parts.3);
     }
 
 -- what is written reads as the module that it was written for
 pub written_reads : (features : Features) (bytes : List ℕ) (m : Module) (n : Numbers) → Reads features bytes m → IsNumbering m n → IsSmall m n →
     length (module_bytes (written m n)) ≤ 2 ^ 30 → Reads features (module_bytes (written m n)) (written m n)
 written_reads features bytes m n reads numbering small short = record {
-    short = short;
-    spells = written_spells features bytes m n reads numbering small short;
-    rules = written_rules features bytes m n reads numbering small
-  }
+  short = short;
+  spells = written_spells features bytes m n reads numbering small short;
+  rules = written_rules features bytes m n reads numbering small;
+}

@@ -1,17 +1,15 @@
 -- Normal forms nest, and name no number that isn't named before.
-use Rattle.std.proofs.Common.{ℕ, ◌≡◌, ◌<◌, ◌≤◌, ◌+◌, List, [], ◌∷◌, ◌++◌, length, refl, sym, ap, subst, ◌∙◌, inl, inr, arith, map}
-use Rattle.std.specs.List.{flat_map, AllByRecursion}
-use Rattle.wasm_model.specs.declared.types.ValType.{ValType}
-use Rattle.wasm_model.specs.Module.{Module, Function, FunctionType, Operator, Nop, I32Const, Drop, Return, End, operators, Export, Item, FunctionItem, TypeItem}
-use Rattle.wasm_reader.specs.Numbers.{Spells, signed}
-use Rattle.wasm_model.specs.Grammar.{Grammar, SpellsU32, SpellsEach, SpellsVec, SpellsEachAt, IsSection, SpellsSection}
-use Rattle.wasm_model.specs.Spells.{SpellsOperator, SpellsPlaced, SpellsCode, SpellsCodes, Code, code_of, SpellsExport, SpellsItem, SpellsName}
+use Rattle.std.proofs.Common.{ℕ, ◌≡◌, ◌+◌, List, [], ◌∷◌, length, refl, sym, subst, inl, inr, map}
+use Rattle.std.specs.List.{AllByRecursion}
+use Rattle.wasm_model.specs.Module.{Function, Operator, Nop, I32Const, Drop, Return, End, operators, Export, Item, FunctionItem, TypeItem}
+use Rattle.wasm_model.specs.Grammar.{SpellsEach, SpellsVec, SpellsEachAt, SpellsSection}
+use Rattle.wasm_model.specs.Spells.{SpellsOperator, SpellsPlaced, SpellsCode, SpellsCodes, Code, code_of, SpellsExport, SpellsItem}
 use Rattle.wasm_model.specs.NormalForm.{normal_form}
 use Rattle.wasm_model.specs.Rules.{Nests}
 use Rattle.std.specs.Str.{IsUtf8}
 use Rattle.wasm_model.specs.Spelling.{operator_bytes}
 use Rattle.rewriter_module.specs.Written.{placed}
-use Rattle.rewriter_laws.specs.Numbers.{InSigned, spelled_signed}
+use Rattle.rewriter_laws.specs.Numbers.{spelled_signed}
 use Rattle.rewriter_laws.specs.Spelled.{InRange}
 
 abbrev pub AllInRange : {P : Type 0} → List (Operator × P) → Type 0

@@ -1,11 +1,10 @@
 -- A number's shortest spelling spells it.
-use Rattle.std.proofs.Common.{ℕ, ◌≡◌, ◌<◌, ◌≤◌, ◌+◌, ◌-◌, ◌*◌, ◌/◌, ◌%◌, ◌^◌, ◌⊎◌, zero, suc, List, [], ◌∷◌, length, refl, sym, ap, subst, ◌∙◌, inl, inr, arith, true, false, Bool, cond, ltb, ltb-true, ltb-false, leb, pow-add}
-use Rattle.std.specs.Prelude.{nat_lt, nat_le, ℤ, pos, negsuc, ◌+ℤ◌, ◌-ℤ◌, ◌*ℤ◌, if◌then◌else◌}
+use Rattle.std.proofs.Common.{ℕ, ◌≡◌, ◌<◌, ◌≤◌, ◌+◌, ◌-◌, ◌*◌, ◌/◌, ◌%◌, ◌^◌, zero, suc, List, [], ◌∷◌, refl, sym, ap, subst, ◌∙◌, inl, inr, arith, true, ltb, ltb-true, leb, pow-add}
+use Rattle.std.specs.Prelude.{ℤ, pos, negsuc, ◌+ℤ◌, ◌-ℤ◌, ◌*ℤ◌}
 use Rattle.std.proofs.Math.Nat.{pow-le-pow_right}
 use Rattle.std.proofs.lemmas.Bool.{lt-ltb, le-leb, leb-true, le-ltb, cases_lt}
 use Rattle.std.proofs.lemmas.Int.{ints}
-use Rattle.std.proofs.Math.IntN.{pos-*ℤ-pos, pos-*ℤ-negsuc}
-use Rattle.wasm_reader.specs.Numbers.{Spells, EndsNumber, unsigned, signed}
+use Rattle.wasm_reader.specs.Numbers.{Spells, unsigned, signed}
 use Rattle.wasm_model.specs.Shortest.{shortest_unsigned, shortest_signed, u32_bytes, s32_bytes}
 use Rattle.wasm_model.specs.Grammar.{SpellsU32}
 
@@ -22,10 +21,16 @@ rest_small w n big small =
 pub shortest_spells : (k w n : ℕ) → 0 < w → w ≤ 7 * k → n < 2 ^ w → Spells unsigned w (shortest_unsigned k n) n
 shortest_spells zero w n some fits small = absurd (omega arith)
 shortest_spells (suc k) w n some fits small = elim (cases_lt n 128) as (λ _. Spells unsigned w (shortest_unsigned (suc k) n) n) [
-    inl h ↦ rw (lt-ltb n 128 h) (inl (h, refl, lt-ltb n (2 ^ w) small, refl))
-  | inr h ↦ rw (le-ltb n 128 h) (inr (omega arith, omega arith, wide w n h small, n / 128, omega arith,
-        shortest_spells k (w - 7) (n / 128) (let b : 7 < w = wide w n h small in omega arith) (let b : 7 < w = wide w n h small in omega arith) (rest_small w n (wide w n h small) small)))
-  ]
+  | inl h ↦ rw (lt-ltb n 128 h) (inl (h, refl, lt-ltb n (2 ^ w) small, refl))
+  | inr h ↦ rw (le-ltb n 128 h) (inr (
+    omega arith,
+    omega arith,
+    wide w n h small,
+    n / 128,
+    omega arith,
+    shortest_spells k (w - 7) (n / 128) (let b : 7 < w = wide w n h small in omega arith) (let b : 7 < w = wide w n h small in omega arith) (rest_small w n (wide w n h small) small),
+  ))
+]
 
 pub u32_spells : (n : ℕ) → n < 2 ^ 32 → SpellsU32 (u32_bytes n) n
 unfolding u32_bytes
@@ -57,15 +62,27 @@ neg_value n h = omega (arith, ints)
 pub shortest_signed_spells : (k w : ℕ) (z : ℤ) → 0 < w → w ≤ 7 * k → InSigned w z → Spells signed w (shortest_signed k z) z
 shortest_signed_spells zero w z some fits small = absurd (omega arith)
 shortest_signed_spells (suc k) w (pos n) some fits small = elim (cases_lt n 64) as (λ _. Spells signed w (shortest_signed (suc k) (pos n)) (pos n)) [
-    inl h ↦ rw (lt-ltb n 64 h) (inl (omega arith, refl, rw (lt-ltb n 64 h) (lt-ltb n (2 ^ (w - 1)) small), rw (lt-ltb n 64 h) refl))
-  | inr h ↦ rw (le-ltb n 64 h) (inr (omega arith, omega arith, signed_wide w n h small, pos (n / 128), pos_onto n,
-        shortest_signed_spells k (w - 7) (pos (n / 128)) (let b : 7 < w = signed_wide w n h small in omega arith) (let b : 7 < w = signed_wide w n h small in omega arith) (signed_rest_small w n (signed_wide w n h small) small)))
-  ]
+  | inl h ↦ rw (lt-ltb n 64 h) (inl (omega arith, refl, rw (lt-ltb n 64 h) (lt-ltb n (2 ^ (w - 1)) small), rw (lt-ltb n 64 h) refl))
+  | inr h ↦ rw (le-ltb n 64 h) (inr (
+    omega arith,
+    omega arith,
+    signed_wide w n h small,
+    pos (n / 128),
+    pos_onto n,
+    shortest_signed_spells k (w - 7) (pos (n / 128)) (let b : 7 < w = signed_wide w n h small in omega arith) (let b : 7 < w = signed_wide w n h small in omega arith) (signed_rest_small w n (signed_wide w n h small) small),
+  ))
+]
 shortest_signed_spells (suc k) w (negsuc n) some fits small = elim (cases_lt n 64) as (λ _. Spells signed w (shortest_signed (suc k) (negsuc n)) (negsuc n)) [
-    inl h ↦ rw (lt-ltb n 64 h) (inl (omega arith, refl, rw (le-ltb (127 - n) 64 (omega arith)) (le-leb 128 (127 - n + 2 ^ (w - 1)) (omega arith)), rw (le-ltb (127 - n) 64 (omega arith)) (neg_value n h)))
-  | inr h ↦ rw (le-ltb n 64 h) (inr (omega arith, omega arith, signed_wide w n h small, negsuc (n / 128), neg_onto n,
-        shortest_signed_spells k (w - 7) (negsuc (n / 128)) (let b : 7 < w = signed_wide w n h small in omega arith) (let b : 7 < w = signed_wide w n h small in omega arith) (signed_rest_small w n (signed_wide w n h small) small)))
-  ]
+  | inl h ↦ rw (lt-ltb n 64 h) (inl (omega arith, refl, rw (le-ltb (127 - n) 64 (omega arith)) (le-leb 128 (127 - n + 2 ^ (w - 1)) (omega arith)), rw (le-ltb (127 - n) 64 (omega arith)) (neg_value n h)))
+  | inr h ↦ rw (le-ltb n 64 h) (inr (
+    omega arith,
+    omega arith,
+    signed_wide w n h small,
+    negsuc (n / 128),
+    neg_onto n,
+    shortest_signed_spells k (w - 7) (negsuc (n / 128)) (let b : 7 < w = signed_wide w n h small in omega arith) (let b : 7 < w = signed_wide w n h small in omega arith) (signed_rest_small w n (signed_wide w n h small) small),
+  ))
+]
 
 pub s32_spells : (z : ℤ) → InSigned 32 z → Spells signed 32 (s32_bytes z) z
 unfolding s32_bytes
@@ -83,10 +100,10 @@ high_power w wide = let split : w - 1 ≡ (w - 7 - 1) + 7 = omega arith in ap (�
 
 last_in_range : (w b : ℕ) (z : ℤ) → b < 128 → signed.fits w b ≡ true → z ≡ signed.value b → InSigned w z
 last_in_range w b z small fits e = let P : ℤ → Type 0 = InSigned w in subst P (sym e) (elim (cases_lt b 64) as (λ _. InSigned w (signed.value b)) [
-    inl h ↦ rw (lt-ltb b 64 h) (let f : ltb b (2 ^ (w - 1)) ≡ true = rw (lt-ltb b 64 h) at fits in ltb-true b (2 ^ (w - 1)) f)
+  | inl h ↦ rw (lt-ltb b 64 h) (let f : ltb b (2 ^ (w - 1)) ≡ true = rw (lt-ltb b 64 h) at fits in ltb-true b (2 ^ (w - 1)) f)
   | inr h ↦ rw (le-ltb b 64 h) (let P : ℤ → Type 0 = InSigned w in subst P (sym (neg_last b small))
-        (let f : leb 128 (b + 2 ^ (w - 1)) ≡ true = rw (le-ltb b 64 h) at fits in let g : 128 ≤ b + 2 ^ (w - 1) = leb-true 128 (b + 2 ^ (w - 1)) f in omega arith))
-  ])
+      (let f : leb 128 (b + 2 ^ (w - 1)) ≡ true = rw (le-ltb b 64 h) at fits in let g : 128 ≤ b + 2 ^ (w - 1) = leb-true 128 (b + 2 ^ (w - 1)) f in omega arith))
+])
 
 onto_in_range : (w low : ℕ) (high : ℤ) → low < 128 → 7 < w → InSigned (w - 7) high → InSigned w (pos low +ℤ pos 128 *ℤ high)
 onto_in_range w low (pos h) small wide in_range = let power : 2 ^ (w - 1) ≡ 2 ^ (w - 7 - 1) * 128 = high_power w wide in omega arith

@@ -1,13 +1,13 @@
 -- The pairs of places of what is written are the true ones.
-use Rattle.std.proofs.Common.{ℕ, ◌≡◌, ◌⊎◌, ◌<◌, ◌≤◌, ◌+◌, zero, suc, List, [], ◌∷◌, ◌++◌, length, refl, sym, ap, subst, ◌∙◌, inl, inr, arith, map, get_or, length-append}
-use Rattle.std.specs.Prelude.{slice_get, slice_index, slice_index_or, Some, None, Option, All, AllPairs, Contains}
+use Rattle.std.proofs.Common.{ℕ, ◌≡◌, ◌⊎◌, ◌<◌, ◌≤◌, ◌+◌, zero, suc, List, [], ◌∷◌, ◌++◌, length, refl, sym, ap, subst, ◌∙◌, inl, inr, arith, get_or, length-append}
+use Rattle.std.specs.Prelude.{slice_get, slice_index, slice_index_or, Some, None, Option, AllPairs, Contains}
 use Rattle.std.specs.List.{flat_map, AllByRecursion}
-use Rattle.std.proofs.lemmas.List.Elements.{recursion_from_All, All-from_recursion}
+use Rattle.std.proofs.lemmas.List.Elements.{All-from_recursion}
 use Rattle.std.proofs.lemmas.Option.{slice_get_read, get_or_from_slice_get, slice_get_within, slice_get-get_or}
 use Rattle.wasm_model.specs.Features.{Features}
 use Rattle.wasm_model.specs.Module.{Module, Function, Operator, Nop, I32Const, Drop, Return, End, FunctionItem}
 use Rattle.wasm_model.specs.NormalForm.{normal_form}
-use Rattle.wasm_model.specs.Rules.{Rules, Reads}
+use Rattle.wasm_model.specs.Rules.{Rules}
 use Rattle.wasm_model.specs.Kept.{Kept}
 use Rattle.wasm_model.specs.Places.{IsTruePair, ArePlaces}
 use Rattle.wasm_model.specs.Shortest.{u32_bytes}
@@ -176,8 +176,8 @@ all_pairs_rise m n place (f ∷ fs) =
     let ps : List (ℕ × ℕ) = pairs_of (normal_form (function_at m f).body) (placed start os) in
     let P : ℕ → Type 0 = λ high. RisesTo start ps high in
     rises_append place ps next (pairs_of_all m fs (placed_functions m n next fs)) (ends_at m next fs)
-      (rises_from place start ps next (omega arith) (subst P same (pairs_rise start (normal_form (function_at m f).body) os)))
-      (all_pairs_rise m n next fs)
+    (rises_from place start ps next (omega arith) (subst P same (pairs_rise start (normal_form (function_at m f).body) os)))
+    (all_pairs_rise m n next fs)
 
 above : (low : ℕ) (ps : List (ℕ × ℕ)) (high : ℕ) → RisesTo low ps high → (j : ℕ) (d : ℕ × ℕ) → j < length ps → low ≤ (slice_index_or ps j d).1
 above low [] high h j d there = absurd (omega arith)
@@ -216,7 +216,7 @@ paired_is_true features m n rules numbering p h =
       is_function = slice_get-get_or m.functions h.1 no_function (kept_in_range features m rules (FunctionItem h.1) kept);
       is_written = ap (slice_get (written m n).functions) number ∙ h.4;
       carries = h.5.3;
-      stands = h.5.4
+      stands = h.5.4;
     }
 
 true_is_among : (m : Module) (n : Numbers) → IsNumbering m n → (old new : ℕ) → IsTruePair m (written m n) (renaming n) old new → Contains (written_places m n) (old, new)
@@ -228,14 +228,14 @@ true_is_among m n numbering old new h =
     let is : function_at m h.f ≡ h.function = get_or_from_slice_get m.functions h.f h.function no_function h.is_function in
     let P : Function → Type 0 = λ x. Among (pairs_of (normal_form x.body) h.written.body) (old, new) in
     contains_among (written_places m n) (old, new) (all_paired_are_among m place.0 n.functions (written m n).functions h.f h.written (old, new) read there
-      (subst P (sym is) (paired_are_among h.i (normal_form h.function.body) h.written.body h.source h.target old new h.carries h.stands)))
+    (subst P (sym is) (paired_are_among h.i (normal_form h.function.body) h.written.body h.source h.target old new h.carries h.stands)))
 
 -- the places that are given are those of the module and of what is written for it
 pub written_are_places : (features : Features) (m : Module) (n : Numbers) → Rules features m → IsNumbering m n → ArePlaces m (written m n) (renaming n) (written_places m n)
 written_are_places features m n rules numbering = record {
-    true_pairs = All-from_recursion (λ p. IsTruePair m (written m n) (renaming n) p.0 p.1) (written_places m n)
+  true_pairs = All-from_recursion (λ p. IsTruePair m (written m n) (renaming n) p.0 p.1) (written_places m n)
       (weaken_pairs (PairedIn m n.functions (written m n).functions) (λ p. IsTruePair m (written m n) (renaming n) p.0 p.1) (written_places m n)
-        (λ (p : ℕ × ℕ) (h : PairedIn m n.functions (written m n).functions p). paired_is_true features m n rules numbering p h) (all_pairs_are_paired m n.functions (written m n).functions));
-    rising = rising_pairs (length (u32_bytes (length n.functions))) (written_places m n) (ends_at m (length (u32_bytes (length n.functions))) n.functions) (all_pairs_rise m n (length (u32_bytes (length n.functions))) n.functions);
-    whole = λ (old new : ℕ) (h : IsTruePair m (written m n) (renaming n) old new). true_is_among m n numbering old new h
-  }
+      (λ (p : ℕ × ℕ) (h : PairedIn m n.functions (written m n).functions p). paired_is_true features m n rules numbering p h) (all_pairs_are_paired m n.functions (written m n).functions));
+  rising = rising_pairs (length (u32_bytes (length n.functions))) (written_places m n) (ends_at m (length (u32_bytes (length n.functions))) n.functions) (all_pairs_rise m n (length (u32_bytes (length n.functions))) n.functions);
+  whole = λ (old new : ℕ) (h : IsTruePair m (written m n) (renaming n) old new). true_is_among m n numbering old new h;
+}

@@ -1,15 +1,15 @@
 -- What was written once is written again byte for byte.
-use Rattle.std.proofs.Common.{ℕ, ◌≡◌, ◌≢◌, ◌<◌, ◌≤◌, ◌+◌, ◌⊎◌, zero, suc, List, [], ◌∷◌, ◌++◌, length, refl, sym, ap, subst, ◌∙◌, inl, inr, arith, map, get_or}
-use Rattle.std.specs.Prelude.{slice_get, slice_index, slice_index_or, Some, None, Option, option_map, All, AllPairs, Contains, count_by, Bool, cond}
+use Rattle.std.proofs.Common.{ℕ, ◌≡◌, ◌<◌, ◌+◌, suc, List, [], ◌∷◌, ◌++◌, length, refl, sym, ap, subst, ◌∙◌, inl, inr, arith, map, get_or}
+use Rattle.std.specs.Prelude.{slice_get, slice_index_or, Some, option_map, Contains, count_by, cond}
 use Rattle.std.specs.List.{flat_map, AllByRecursion, fold}
 use Rattle.std.specs.declared.cmp.Ordering.{Ordering}
 use Rattle.std.specs.declared.cmp.Ordering.TheVariants.{Less, Equal, Greater}
 use Rattle.std.specs.Ordering.{ordering_reverse}
-use Rattle.std.proofs.lemmas.Bool.{cases_lt, cases_eq}
+use Rattle.std.proofs.lemmas.Bool.{cases_lt}
 use Rattle.std.proofs.lemmas.Cmp.{tied_itself}
-use Rattle.std.proofs.lemmas.List.{length-map, get_or-map}
-use Rattle.std.proofs.lemmas.List.Elements.{Contains-get_or, All-from_recursion, recursion_from_All}
-use Rattle.std.proofs.lemmas.Option.{slice_get_read, get_or_from_slice_get, slice_get_within, slice_get-get_or, slice_get-map, slice_get_past}
+use Rattle.std.proofs.lemmas.List.{length-map}
+use Rattle.std.proofs.lemmas.List.Elements.{All-from_recursion, recursion_from_All}
+use Rattle.std.proofs.lemmas.Option.{slice_get_read, get_or_from_slice_get, slice_get_within, slice_get-get_or, slice_get-map}
 use Rattle.wasm_model.specs.Module.{Module, Function, FunctionType, Operator, Nop, I32Const, Drop, Return, End, operators, Export, Item, FunctionItem, TypeItem}
 use Rattle.wasm_model.specs.NormalForm.{normal_form, size, counts}
 use Rattle.wasm_model.specs.Kept.{Same, Refers, Root, Kept, root, refers}
@@ -19,7 +19,6 @@ use Rattle.wasm_model.specs.Rules.{Rules, IsItem, Reads}
 use Rattle.wasm_model.specs.Spells.{header}
 use Rattle.wasm_model.specs.Shortest.{u32_bytes}
 use Rattle.wasm_model.specs.Spelling.{vec_bytes, sized_bytes, section_bytes, type_bytes, export_bytes, body_bytes, code_bytes, module_bytes}
-use Rattle.rewriter_laws.specs.First.{has_first}
 use Rattle.rewriter_laws.specs.Again.{kept_in_range}
 use Rattle.rewriter_laws.specs.Bodies.{IsFunctionExport, exports_are_functions}
 use Rattle.rewriter_laws.specs.TypeOrder.{type_cmp_total, type_exact}
@@ -49,7 +48,6 @@ normal_twice (Nop ∷ os) = normal_twice os
 normal_twice (Return ∷ os) = refl
 normal_twice (Drop ∷ os) = ap (λ xs. Drop ∷ xs) (normal_twice os)
 normal_twice (I32Const n ∷ os) = ap (λ xs. I32Const n ∷ xs) (normal_twice os)
-
 
 counted_from : {P : Type 0} (xs : List (Operator × P)) (a : ℕ) → fold (λ a x. a + cond (counts x.0) 1 0) a xs ≡ fold (λ a x. a + cond (counts x) 1 0) a (operators xs)
 counted_from [] a = refl
@@ -160,12 +158,12 @@ in_order features m n r stands i j f g before a b =
     let na : r.function a.f ≡ i = a.number in
     let nb : r.function b.f ≡ j = b.number in
     elim (cases_lt (size g.body) (size f.body)) as (λ _. Earlier i f j g) [
-        inl smaller ↦ inl smaller
+      | inl smaller ↦ inl smaller
       | inr le ↦ elim (cases_lt (size f.body) (size g.body)) as (λ _. Earlier i f j g) [
-            inl larger ↦ let wrong : r.function b.f < r.function a.f = back (inl (omega arith)) in absurd (omega arith)
-          | inr ge ↦ inr (omega arith, before)
-          ]
+        | inl larger ↦ let wrong : r.function b.f < r.function a.f = back (inl (omega arith)) in absurd (omega arith)
+        | inr ge ↦ inr (omega arith, before)
       ]
+    ]
 
 -- the type of the input that one of the output stands for
 pub record TypeSource (m n : Module) (r : Renaming) (t : ℕ) (v : FunctionType) : Type 0 where
@@ -185,12 +183,12 @@ type_source features m n r read stands t v h =
 -- two types that stand for themselves and are equal are one
 one_type : (ts : List FunctionType) (x y t u : ℕ) (v : FunctionType) → Same ts x t → Same ts y u → slice_get ts t ≡ Some v → slice_get ts u ≡ Some v → t ≡ u
 one_type ts x y t u v a b at_t at_u = elim (cases_lt t u) as (λ _. t ≡ u) [
-    inl less ↦ absurd (b.first t less (at_t ∙ sym at_u ∙ b.equal))
+  | inl less ↦ absurd (b.first t less (at_t ∙ sym at_u ∙ b.equal))
   | inr ge ↦ elim (cases_lt u t) as (λ _. t ≡ u) [
-        inl more ↦ absurd (a.first u more (at_u ∙ sym at_t ∙ a.equal))
-      | inr le ↦ omega arith
-      ]
+    | inl more ↦ absurd (a.first u more (at_u ∙ sym at_t ∙ a.equal))
+    | inr le ↦ omega arith
   ]
+]
 
 less_type : (features : Features) (m n : Module) (r : Renaming) → IsRead features m → Stands m n r → (i j : ℕ) (s v : FunctionType) → i < j → TypeSource m n r i s → TypeSource m n r j v → (o : Ordering) → type_cmp s v ≡ o → o ≡ Less
 less_type features m n r read stands i j s v before a b Less e = refl
@@ -219,34 +217,34 @@ typed_by features m n r read stands t small =
 
 pub done : (features : Features) (m n : Module) (r : Renaming) → IsRead features m → Stands m n r → IsDone n
 done features m n r read stands = record {
-    exported = λ (k : ℕ) (small : k < length n.functions).
+  exported = λ (k : ℕ) (small : k < length n.functions).
       let h : slice_get n.functions k ≡ Some (get_or n.functions k no_function) = slice_get-get_or n.functions k no_function small in
       let from : Source m n r k (get_or n.functions k no_function) = source features m n r read stands k (get_or n.functions k no_function) h in
       let P : ℕ → Type 0 = λ x. Root n (FunctionItem x) in
       subst P from.number (written_root m n r stands from.f from.rooted);
-    ordered = λ (i j : ℕ) (f g : Function) (before : i < j) (at_i : slice_get n.functions i ≡ Some f) (at_j : slice_get n.functions j ≡ Some g).
+  ordered = λ (i j : ℕ) (f g : Function) (before : i < j) (at_i : slice_get n.functions i ≡ Some f) (at_j : slice_get n.functions j ≡ Some g).
       in_order features m n r stands i j f g before (source features m n r read stands i f at_i) (source features m n r read stands j g at_j);
-    normal = λ (k : ℕ) (f : Function) (h : slice_get n.functions k ≡ Some f).
+  normal = λ (k : ℕ) (f : Function) (h : slice_get n.functions k ≡ Some f).
       let from : Source m n r k f = source features m n r read stands k f h in renamed_normal r from.function f from.renamed;
-    bare = λ (k : ℕ) (f : Function) (h : slice_get n.functions k ≡ Some f).
+  bare = λ (k : ℕ) (f : Function) (h : slice_get n.functions k ≡ Some f).
       let from : Source m n r k f = source features m n r read stands k f h in from.renamed.locals;
-    typed = typed_by features m n r read stands;
-    types_ordered = λ (i j : ℕ) (s v : FunctionType) (before : i < j) (at_i : slice_get n.types i ≡ Some s) (at_j : slice_get n.types j ≡ Some v).
-      less_type features m n r read stands i j s v before (type_source features m n r read stands i s at_i) (type_source features m n r read stands j v at_j) (type_cmp s v) refl
-  }
+  typed = typed_by features m n r read stands;
+  types_ordered = λ (i j : ℕ) (s v : FunctionType) (before : i < j) (at_i : slice_get n.types i ≡ Some s) (at_j : slice_get n.types j ≡ Some v).
+      less_type features m n r read stands i j s v before (type_source features m n r read stands i s at_i) (type_source features m n r read stands j v at_j) (type_cmp s v) refl;
+}
 
 -- in what is done, each type stands for itself
 self_type : (n : Module) → IsDone n → (t : ℕ) → t < length n.types → Same n.types t t
 self_type n is t small = record {
-    there = small;
-    earlier = omega arith;
-    equal = refl;
-    first = λ (v : ℕ) (before : v < t) (e : slice_get n.types v ≡ slice_get n.types t).
+  there = small;
+  earlier = omega arith;
+  equal = refl;
+  first = λ (v : ℕ) (before : v < t) (e : slice_get n.types v ≡ slice_get n.types t).
       let at_t : slice_get n.types t ≡ Some (get_or n.types t no_type) = slice_get-get_or n.types t no_type small in
       let less : type_cmp (get_or n.types t no_type) (get_or n.types t no_type) ≡ Less = is.types_ordered v t (get_or n.types t no_type) (get_or n.types t no_type) before (e ∙ at_t) at_t in
       let tied : type_cmp (get_or n.types t no_type) (get_or n.types t no_type) ≡ Equal = tied_itself type_cmp_total (get_or n.types t no_type) in
-      let wrong : Less ≡ Equal = sym less ∙ tied in cc
-  }
+      let wrong : Less ≡ Equal = sym less ∙ tied in cc;
+}
 
 -- and is kept
 kept_type : (n : Module) → IsDone n → (t : ℕ) → t < length n.types → Kept n (TypeItem t)
@@ -257,34 +255,34 @@ kept_type n is t small =
 
 functions_stay : (features : Features) (n k : Module) (s : Renaming) → IsRead features n → IsDone n → Stands n k s → Keeps s.function (length n.functions) (length k.functions)
 functions_stay features n k s read is stands = record {
-    rises = λ (i j : ℕ) (before : i < j) (small : j < length n.functions).
+  rises = λ (i j : ℕ) (before : i < j) (small : j < length n.functions).
       let at_i : slice_get n.functions i ≡ Some (get_or n.functions i no_function) = slice_get-get_or n.functions i no_function (omega arith) in
       let at_j : slice_get n.functions j ≡ Some (get_or n.functions j no_function) = slice_get-get_or n.functions j no_function small in
       stands.functions_in_order i j (get_or n.functions i no_function) (get_or n.functions j no_function) (root (is.exported i (omega arith))) (root (is.exported j small)) at_i at_j
-        (is.ordered i j (get_or n.functions i no_function) (get_or n.functions j no_function) before at_i at_j);
-    below = λ (i : ℕ) (small : i < length n.functions).
+      (is.ordered i j (get_or n.functions i no_function) (get_or n.functions j no_function) before at_i at_j);
+  below = λ (i : ℕ) (small : i < length n.functions).
       let at_i : slice_get n.functions i ≡ Some (get_or n.functions i no_function) = slice_get-get_or n.functions i no_function small in
       let image = stands.functions i (get_or n.functions i no_function) (root (is.exported i small)) at_i in
       slice_get_within k.functions (s.function i) image.0 image.1;
-    onto = λ (j : ℕ) (small : j < length k.functions).
+  onto = λ (j : ℕ) (small : j < length k.functions).
       let from : (f : ℕ) × Kept n (FunctionItem f) × (s.function f ≡ j) = stands.only_functions j small in
-      (from.0, kept_in_range features n read.rules (FunctionItem from.0) from.1, from.2)
-  }
+      (from.0, kept_in_range features n read.rules (FunctionItem from.0) from.1, from.2);
+}
 
 types_stay : (features : Features) (n k : Module) (s : Renaming) → IsRead features n → IsDone n → Stands n k s → Keeps s.type_ (length n.types) (length k.types)
 types_stay features n k s read is stands = record {
-    rises = λ (i j : ℕ) (before : i < j) (small : j < length n.types).
+  rises = λ (i j : ℕ) (before : i < j) (small : j < length n.types).
       let at_i : slice_get n.types i ≡ Some (get_or n.types i no_type) = slice_get-get_or n.types i no_type (omega arith) in
       let at_j : slice_get n.types j ≡ Some (get_or n.types j no_type) = slice_get-get_or n.types j no_type small in
       stands.types_in_order i j (get_or n.types i no_type) (get_or n.types j no_type) (kept_type n is i (omega arith)) (kept_type n is j small) at_i at_j
-        (is.types_ordered i j (get_or n.types i no_type) (get_or n.types j no_type) before at_i at_j);
-    below = λ (i : ℕ) (small : i < length n.types).
+      (is.types_ordered i j (get_or n.types i no_type) (get_or n.types j no_type) before at_i at_j);
+  below = λ (i : ℕ) (small : i < length n.types).
       let at_i : slice_get n.types i ≡ Some (get_or n.types i no_type) = slice_get-get_or n.types i no_type small in
       slice_get_within k.types (s.type_ i) (get_or n.types i no_type) (stands.types i (kept_type n is i small) ∙ at_i);
-    onto = λ (j : ℕ) (small : j < length k.types).
+  onto = λ (j : ℕ) (small : j < length k.types).
       let from : (t : ℕ) × Kept n (TypeItem t) × (s.type_ t ≡ j) = stands.only_types j small in
-      (from.0, kept_in_range features n read.rules (TypeItem from.0) from.1, from.2)
-  }
+      (from.0, kept_in_range features n read.rules (TypeItem from.0) from.1, from.2);
+}
 
 -- two lists that have the same elements at the same places are one
 same_lists : {A : Type 0} (xs ys : List A) → length xs ≡ length ys → ((i : ℕ) → i < length ys → slice_get xs i ≡ slice_get ys i) → xs ≡ ys
@@ -319,7 +317,7 @@ types_same : (features : Features) (n k : Module) (s : Renaming) → IsRead feat
 types_same features n k s read is stands =
     let keeps : Keeps s.type_ (length n.types) (length k.types) = types_stay features n k s read is stands in
     same_lists k.types n.types (keeps_count s.type_ (length n.types) (length k.types) keeps)
-      (λ (i : ℕ) (small : i < length n.types). sym (ap (slice_get k.types) (keeps_all s.type_ (length n.types) (length k.types) keeps i small)) ∙ stands.types i (kept_type n is i small))
+    (λ (i : ℕ) (small : i < length n.types). sym (ap (slice_get k.types) (keeps_all s.type_ (length n.types) (length k.types) keeps i small)) ∙ stands.types i (kept_type n is i small))
 
 -- each function of the second output has the type and the operators of the first's
 function_same : (features : Features) (n k : Module) (s : Renaming) → IsRead features n → IsDone n → Stands n k s → (i : ℕ) → i < length n.functions →
@@ -339,10 +337,10 @@ functions_same : (features : Features) (n k : Module) (s : Renaming) (bytes_of :
 functions_same features n k s bytes_of alike read is stands =
     let count : length k.functions ≡ length n.functions = keeps_count s.function (length n.functions) (length k.functions) (functions_stay features n k s read is stands) in
     same_lists (map bytes_of k.functions) (map bytes_of n.functions) (length-map k.functions bytes_of ∙ count ∙ sym (length-map n.functions bytes_of))
-      (λ (i : ℕ) (small : i < length (map bytes_of n.functions)).
-        let within : i < length n.functions = rw (length-map n.functions bytes_of) at small in
-        let at = function_same features n k s read is stands i within in
-        slice_get-map bytes_of k.functions i ∙ ap (option_map bytes_of) at.3 ∙ ap (λ (b : List ℕ). Some b) (alike at.0 at.1 at.4 at.5) ∙ sym (ap (option_map bytes_of) at.2) ∙ sym (slice_get-map bytes_of n.functions i))
+    (λ (i : ℕ) (small : i < length (map bytes_of n.functions)).
+    let within : i < length n.functions = rw (length-map n.functions bytes_of) at small in
+    let at = function_same features n k s read is stands i within in
+    slice_get-map bytes_of k.functions i ∙ ap (option_map bytes_of) at.3 ∙ ap (λ (b : List ℕ). Some b) (alike at.0 at.1 at.4 at.5) ∙ sym (ap (option_map bytes_of) at.2) ∙ sym (slice_get-map bytes_of n.functions i))
 
 item_same : (features : Features) (n k : Module) (s : Renaming) → IsRead features n → IsDone n → Stands n k s → (i : Item) → IsItem n i → renamed_item s i ≡ i
 item_same features n k s read is stands (FunctionItem f) small = ap (λ (x : ℕ). FunctionItem x) (keeps_all s.function (length n.functions) (length k.functions) (functions_stay features n k s read is stands) f small)
@@ -360,13 +358,13 @@ pub same_bytes : (features : Features) (n k : Module) (s : Renaming) → IsRead 
 same_bytes features n k s read is stands =
     let types : section_bytes 1 type_bytes k.types ≡ section_bytes 1 type_bytes n.types = ap (section_bytes 1 type_bytes) (types_same features n k s read is stands) in
     let functions : section_bytes 3 (λ (f : Function). u32_bytes f.type_) k.functions ≡ section_bytes 3 (λ (f : Function). u32_bytes f.type_) n.functions =
-      same_section 3 (λ (f : Function). u32_bytes f.type_) k.functions n.functions
-        (functions_same features n k s (λ (f : Function). u32_bytes f.type_) (λ (f g : Function) (t : g.type_ ≡ f.type_) (o : operators g.body ≡ operators f.body). ap u32_bytes t) read is stands) in
+    same_section 3 (λ (f : Function). u32_bytes f.type_) k.functions n.functions
+    (functions_same features n k s (λ (f : Function). u32_bytes f.type_) (λ (f g : Function) (t : g.type_ ≡ f.type_) (o : operators g.body ≡ operators f.body). ap u32_bytes t) read is stands) in
     let exports : section_bytes 7 export_bytes k.exports ≡ section_bytes 7 export_bytes n.exports =
-      ap (section_bytes 7 export_bytes) (stands.exports ∙ each_same n s (item_same features n k s read is stands) n.exports (recursion_from_All (λ e. IsItem n e.item) n.exports read.rules.exported)) in
+    ap (section_bytes 7 export_bytes) (stands.exports ∙ each_same n s (item_same features n k s read is stands) n.exports (recursion_from_All (λ e. IsItem n e.item) n.exports read.rules.exported)) in
     let codes : section_bytes 10 code_bytes k.functions ≡ section_bytes 10 code_bytes n.functions =
-      same_section 10 code_bytes k.functions n.functions
-        (functions_same features n k s code_bytes (λ (f g : Function) (t : g.type_ ≡ f.type_) (o : operators g.body ≡ operators f.body). ap (λ (os : List Operator). sized_bytes (body_bytes os)) o) read is stands) in
+    same_section 10 code_bytes k.functions n.functions
+    (functions_same features n k s code_bytes (λ (f g : Function) (t : g.type_ ≡ f.type_) (o : operators g.body ≡ operators f.body). ap (λ (os : List Operator). sized_bytes (body_bytes os)) o) read is stands) in
     ap (λ (b : List ℕ). header ++ (b ++ (section_bytes 3 (λ (f : Function). u32_bytes f.type_) k.functions ++ (section_bytes 7 export_bytes k.exports ++ section_bytes 10 code_bytes k.functions)))) types
     ∙ ap (λ (b : List ℕ). header ++ (section_bytes 1 type_bytes n.types ++ (b ++ (section_bytes 7 export_bytes k.exports ++ section_bytes 10 code_bytes k.functions)))) functions
     ∙ ap (λ (b : List ℕ). header ++ (section_bytes 1 type_bytes n.types ++ (section_bytes 3 (λ (f : Function). u32_bytes f.type_) n.functions ++ (b ++ section_bytes 10 code_bytes k.functions)))) exports

@@ -1,12 +1,11 @@
 -- The order of types is total, and tells types apart.
-use Rattle.std.proofs.Common.{◌≡◌, List, [], ◌∷◌, Ordering, refl, sym, ap, ◌∙◌}
+use Rattle.std.proofs.Common.{◌≡◌, List, [], ◌∷◌, Ordering, refl}
 use Rattle.std.specs.declared.cmp.Ordering.TheVariants.{Less, Equal, Greater}
-use Rattle.std.specs.Ordering.{ordering_then, nat_cmp}
+use Rattle.std.specs.Ordering.{ordering_then}
 use Rattle.std.specs.Cmp.{IsTotalOrder}
 use Rattle.std.specs.Cmp.Lexicographic.{slice_cmp}
 use Rattle.std.proofs.lemmas.Cmp.{on_total, then_total, lists_total, nat_cmp_total}
 use Rattle.std.proofs.lemmas.Map.Lookups.{CmpEqualImpliesEq, exact_unsigned}
-use Rattle.wasm_model.specs.declared.types.ValType.{ValType}
 use Rattle.wasm_model.specs.Module.{FunctionType}
 use Rattle.wasm_model.specs.Part.{value_rank, value_cmp, type_cmp}
 use Rattle.rewriter_laws.specs.First.{same_rank}

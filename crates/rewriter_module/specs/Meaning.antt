@@ -1,5 +1,5 @@
 -- The abstract module that a module in memory stands for.
-use Rattle.std.specs.Prelude.{ℕ, ◌≡◌, List, [], ◌∷◌, map, Result, Ok, Err, slice_get, Some}
+use Rattle.std.specs.Prelude.{ℕ, ◌≡◌, List, [], map, Result, Ok, Err, slice_get, Some}
 use Rattle.rewriter_module.specs.declared.FunctionType.{FunctionType}
 use Rattle.rewriter_module.specs.declared.Function.{Function}
 use Rattle.rewriter_module.specs.declared.Export.{Export}

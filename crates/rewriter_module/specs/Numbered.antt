@@ -1,5 +1,5 @@
 -- What a numbering of the kept items has to meet.
-use Rattle.std.specs.Prelude.{ℕ, ◌<◌, ◌≡◌, List, length, Some, slice_get, slice_index, All, AllPairs, Contains}
+use Rattle.std.specs.Prelude.{ℕ, ◌≡◌, Some, slice_get, slice_index, All, AllPairs, Contains}
 use Rattle.std.specs.declared.cmp.Ordering.TheVariants.{Less}
 use Rattle.wasm_model.specs.Module.{Module, FunctionItem, TypeItem}
 use Rattle.wasm_model.specs.Kept.{Same, Kept}

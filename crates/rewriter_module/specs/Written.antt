@@ -1,6 +1,5 @@
 -- The module that is written for a module and a numbering of what is kept, and the places of its operators.
-use Rattle.std.specs.Prelude.{ℕ, ◌+◌, List, [], ◌∷◌, ◌++◌, length, map, zip, Option, Some, None, slice_index, slice_index_or}
-use Rattle.std.specs.List.{flat_map}
+use Rattle.std.specs.Prelude.{ℕ, ◌+◌, List, [], ◌∷◌, ◌++◌, length, map, Option, Some, None, slice_index, slice_index_or}
 use Rattle.wasm_model.specs.Module.{Module, Function, FunctionType, Operator, operators}
 use Rattle.wasm_model.specs.NormalForm.{normal_form}
 use Rattle.wasm_model.specs.Part.{Renaming, renamed_export}
@@ -50,16 +49,16 @@ placed_functions m n place (f ∷ fs) =
     record {
       type_ = slice_index n.new_type (function_at m f).type_;
       locals = [];
-      body = placed (place + length (u32_bytes (length (body_bytes (written_operators m f)))) + 1) (written_operators m f)
+      body = placed (place + length (u32_bytes (length (body_bytes (written_operators m f)))) + 1) (written_operators m f);
     } ∷ placed_functions m n (place + length (sized_bytes (body_bytes (written_operators m f)))) fs
 
 -- the first entry stands behind the count
 abbrev pub written : Module → Numbers → Module
 written m n = record {
-    types = map (type_at m) n.types;
-    functions = placed_functions m n (length (u32_bytes (length n.functions))) n.functions;
-    exports = map (renamed_export (renaming n)) m.exports
-  }
+  types = map (type_at m) n.types;
+  functions = placed_functions m n (length (u32_bytes (length n.functions))) n.functions;
+  exports = map (renamed_export (renaming n)) m.exports;
+}
 
 -- the pairs of a body: of each operator that carries a place, this place and the new one
 abbrev pub pairs_of : List (Operator × Option ℕ) → List (Operator × ℕ) → List (ℕ × ℕ)

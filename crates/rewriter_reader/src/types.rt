@@ -33,7 +33,10 @@ fn type_fault(later: &[u8], byte: u8, offset: u64) -> Fault
     ensures place { place_of result ≡ offset }
 {
     if byte == 0x65 {
-        Fault::Read(Error::new(ErrorKind::Feature(WasmFeatures::SHARED_EVERYTHING_THREADS), offset))
+        Fault::Read(Error::new(
+            ErrorKind::Feature(WasmFeatures::SHARED_EVERYTHING_THREADS),
+            offset,
+        ))
     } else if later.contains(&byte) {
         Fault::Unsupported {
             form: Form::Later,

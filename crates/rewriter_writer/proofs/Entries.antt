@@ -1,6 +1,6 @@
 -- The entries of the code section.
-use Rattle.std.proofs.Common.{◌≡◌, ◌+◌, ◌-◌, ◌/◌, ◌%◌, ◌≤◌, ◌<◌, ◌^◌, ℕ, zero, suc, Bool, true, false, List, [], ◌∷◌, ◌++◌, length, Ok, Err, Result, Option, Some, None, nat_lt, if◌then◌else◌, refl, sym, ap, ◌∙◌, arith, append_assoc, length-append, get_or, drop, map, add-one, drop-cons, subst, Contains, All}
-use Rattle.std.proofs.lemmas.List.{append-nil, drop_all, take_all, take_more, get_or-map}
+use Rattle.std.proofs.Common.{◌≡◌, ◌+◌, ◌/◌, ◌%◌, ◌≤◌, ◌<◌, ◌^◌, ℕ, zero, suc, Bool, true, false, List, [], ◌∷◌, ◌++◌, length, Ok, Result, Option, Some, None, nat_lt, if◌then◌else◌, refl, sym, ap, ◌∙◌, arith, append_assoc, length-append, get_or, drop, map, add-one, drop-cons, subst, Contains, All}
+use Rattle.std.proofs.lemmas.List.{append-nil, drop_all, take_more, get_or-map}
 use Rattle.std.proofs.Common.{take}
 use Rattle.std.specs.List.{flat_map, slice_index}
 use Rattle.wasm_model.specs.Module.{Module, Function, Operator, operators}
@@ -15,8 +15,8 @@ use Rattle.rewriter_module.specs.Meaning.{code_in, function_of}
 use Rattle.rewriter_module.specs.Written.{Numbers, function_at, placed, placed_functions, pairs_of, pairs_of_all, written_operators, written, written_places, no_function}
 use Rattle.rewriter_bodies.specs.declared.extent.Extent.{Extent}
 use Rattle.rewriter_bodies.specs.Sizes.{extent_of}
-use Rattle.rewriter_bodies.specs.Texts.{Text, with_pairs, with_body}
-use Rattle.rewriter_writer.specs.Codes.{with_bytes, with_entry, with_entries, asked_pairs, codes_text}
+use Rattle.rewriter_bodies.specs.Texts.{Text, with_pairs}
+use Rattle.rewriter_writer.specs.Codes.{with_entry, with_entries, asked_pairs, codes_text}
 use Rattle.rewriter_writer.specs.declared.failure.Failure.{Failure}
 use Rattle.rewriter_writer.specs.declared.failure.Failure.TheVariants as failures
 use Rattle.wasm_model.specs.declared.fault.Limited.TheVariants as limits
@@ -159,10 +159,10 @@ module _ (m : Module) (n : Numbers) (places : Bool) where
 
     pub codes_on : (next : Text) → next ≡ with_entry text (normal_form (function_at m f).body) → length next.bytes ≤ 2 ^ 30 → length (body_bytes (written_operators m f)) ≤ 7654321 → IsCoding m n places next (i + 1)
     codes_on next e small body = record {
-        so_far = on next e;
-        short = small;
-        bodies = subst (λ (fs : List ℕ). AreShort m fs) (sym (take_more n.functions i f inside ∙ ap (λ (x : ℕ). take i n.functions ++ x ∷ []) (sym is))) (one_more m (take i n.functions) f coding.bodies body)
-      }
+      so_far = on next e;
+      short = small;
+      bodies = subst (λ (fs : List ℕ). AreShort m fs) (sym (take_more n.functions i f inside ∙ ap (λ (x : ℕ). take i n.functions ++ x ∷ []) (sym is))) (one_more m (take i n.functions) f coding.bodies body);
+    }
 
     pub causes : (e : Failure) → IsCauseOfEntry e (length (body_bytes (written_operators m f))) (length (with_entry text (normal_form (function_at m f).body)).bytes)
         → IsCause e (written m n).functions (codes_text m n places).bytes

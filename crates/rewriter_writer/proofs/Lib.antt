@@ -1,3 +1,4 @@
 pub mod Entries
 pub mod Sections
 pub mod Modules
+pub mod Fixture

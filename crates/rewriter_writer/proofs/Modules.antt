@@ -1,14 +1,13 @@
 -- The sections of what is written, as the module's spelling has them.
-use Rattle.std.proofs.Common.{◌≡◌, ◌+◌, ◌≤◌, ◌<◌, ℕ, zero, suc, List, [], ◌∷◌, ◌++◌, length, map, Ok, Err, Result, refl, sym, ap, ◌∙◌, arith, length-append, append_assoc, get_or, slice_index, slice_index_or}
+use Rattle.std.proofs.Common.{◌≡◌, ◌+◌, ◌≤◌, ℕ, zero, suc, List, [], ◌∷◌, ◌++◌, length, map, refl, sym, ap, ◌∙◌, arith, length-append, append_assoc, slice_index, slice_index_or}
 use Rattle.std.specs.List.{flat_map}
 use Rattle.std.proofs.lemmas.List.{length-map}
 use Rattle.std.proofs.lemmas.List.Folds.{flat_map-map}
 use Rattle.wasm_model.specs.Features.{Features}
-use Rattle.wasm_model.specs.Module.{Module, Function, FunctionType, Export as WrittenExport}
+use Rattle.wasm_model.specs.Module.{Module, Function}
 use Rattle.wasm_model.specs.Part.{renamed_export}
 use Rattle.wasm_model.specs.Shortest.{u32_bytes}
-use Rattle.wasm_model.specs.Spells.{header}
-use Rattle.wasm_model.specs.Spelling.{vec_bytes, sized_bytes, section_bytes, type_bytes, export_bytes, code_bytes, body_bytes, module_bytes}
+use Rattle.wasm_model.specs.Spelling.{vec_bytes, sized_bytes, section_bytes, type_bytes, export_bytes, body_bytes}
 use Rattle.rewriter_module.specs.declared.Function.{Function as Held}
 use Rattle.rewriter_module.specs.declared.Export.{Export}
 use Rattle.rewriter_module.specs.declared.FunctionType.{FunctionType as HeldType}

@@ -1,9 +1,7 @@
 -- Sections, and why they aren't written.
-use Rattle.std.proofs.Common.{◌≡◌, ◌+◌, ◌≤◌, ◌<◌, ℕ, zero, suc, List, [], ◌∷◌, ◌++◌, length, map, Ok, Err, Result, IfErr, refl, sym, ap, ◌∙◌, arith, length-append, get_or, slice_index}
-use Rattle.std.specs.List.{flat_map}
+use Rattle.std.proofs.Common.{◌≡◌, ◌≤◌, ◌<◌, ℕ, suc, List, [], ◌∷◌, ◌++◌, length, Ok, Err, Result, IfErr, refl, ap, ◌∙◌, arith, length-append}
 use Rattle.wasm_model.specs.declared.fault.Limited.TheVariants as limits
-use Rattle.wasm_model.specs.Features.{Features}
-use Rattle.wasm_model.specs.Module.{Module, Function}
+use Rattle.wasm_model.specs.Module.{Function}
 use Rattle.wasm_model.specs.Shortest.{u32_bytes}
 use Rattle.wasm_model.specs.Spelling.{vec_bytes, sized_bytes, section_bytes}
 use Rattle.rewriter_writer.specs.declared.failure.Failure.{Failure}

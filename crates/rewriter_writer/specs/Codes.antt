@@ -1,5 +1,5 @@
 -- The entries of the code section behind what was written.
-use Rattle.std.specs.Prelude.{ℕ, List, ◌++◌, length, [], Option, Some, None, Bool, if◌then◌else◌}
+use Rattle.std.specs.Prelude.{ℕ, List, ◌++◌, length, Option, Some, None, Bool, if◌then◌else◌}
 use Rattle.std.specs.List.{flat_map}
 use Rattle.wasm_model.specs.Module.{Module, Operator, operators}
 use Rattle.wasm_model.specs.Shortest.{u32_bytes}

@@ -6,6 +6,8 @@ mod entry;
 mod failure;
 mod limits;
 mod section;
+#[cfg(test)]
+mod tests;
 mod writer;
 
 pub use writer::{Written, write_module};

@@ -1,5 +1,5 @@
 -- Parsing a body from left to right: its operators, or where it stops.
-use Rattle.std.specs.Prelude.{ℕ, ◌+◌, ◌-◌, ◌==◌, zero, suc, List, [], ◌∷◌, length, Result, Ok, Err, nat_lt, nat_le, Bool, true, false, if◌then◌else◌}
+use Rattle.std.specs.Prelude.{ℕ, ◌+◌, ◌-◌, ◌==◌, zero, suc, List, [], ◌∷◌, length, Result, Ok, Err, Bool, true, false, if◌then◌else◌}
 use Rattle.wasm_reader.specs.declared.error.ErrorKind.TheVariants as kinds
 use Rattle.wasm_reader.specs.Numbers.{unsigned_at, signed_at}
 use Rattle.wasm_model.specs.declared.fault.Form.TheVariants as forms
@@ -47,5 +47,5 @@ operators_at features finish (suc turns) bytes = operator_at features bytes >>= 
 unfoldable pub code_at : Features → ℕ → List ℕ → Result Code Stop
 code_at features place bytes = value_at (unsigned_at 32 bytes) >>= λ count.
     if count.0 == 0 then (operators_at features (place + length bytes) (length count.1) count.1 >>= λ body.
-        if length body.1 == 0 then Ok (record { locals = []; body = body.0 }) else Err (stop Nesting (length body.1)))
+    if length body.1 == 0 then Ok (record { locals = []; body = body.0 }) else Err (stop Nesting (length body.1)))
     else Err (stop (Unsupported forms.Later) (length bytes))

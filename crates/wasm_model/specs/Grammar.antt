@@ -1,6 +1,6 @@
 -- The shapes of which the binary format is made (Core Specification, Binary Format, Conventions), as relations between
 -- bytes and what they spell. A relation takes the place of the first byte, for the operators that carry theirs.
-use Rattle.std.specs.Prelude.{ℕ, ◌+◌, ◌<◌, ◌≤◌, ◌≡◌, ◌⊎◌, List, [], ◌∷◌, ◌++◌, length}
+use Rattle.std.specs.Prelude.{ℕ, ◌+◌, ◌≡◌, ◌⊎◌, List, [], ◌∷◌, ◌++◌, length}
 use Rattle.wasm_reader.specs.Numbers.{Spells, unsigned}
 
 -- bytes, and what they spell

@@ -1,5 +1,5 @@
 -- The abstract module (Core Specification, Structure, Modules): lists of items, which name one another by their numbers.
-use Rattle.std.specs.Prelude.{ℕ, ℤ, List, [], ◌∷◌, length, map}
+use Rattle.std.specs.Prelude.{ℕ, ℤ, List, map}
 use Rattle.wasm_model.specs.declared.types.ValType.{ValType}
 
 -- a function type (Structure, Types, Function Types)

@@ -1,7 +1,7 @@
 -- The normal form of a body (over Core Specification, Structure, Instructions): without `nop`, and each sequence no longer
 -- than its first operator behind which nothing is reached.
-use Rattle.std.specs.Prelude.{ℕ, ◌+◌, List, [], ◌∷◌, ◌++◌, Option, Some, None, Bool, true, false, not, count_by, if◌then◌else◌}
-use Rattle.wasm_model.specs.Module.{Operator, Nop, I32Const, Drop, Return, End}
+use Rattle.std.specs.Prelude.{ℕ, List, [], ◌∷◌, Option, Some, None, Bool, true, false, count_by, if◌then◌else◌}
+use Rattle.wasm_model.specs.Module.{Operator, Nop, Return, End}
 
 -- a sequence of instructions from here on; its leaf has the place of what closes it
 pub data Tree : Type 0 where

@@ -1,5 +1,5 @@
 -- What rewriting is: the headline of the product, over the definitions beside this one.
-use Rattle.std.specs.Prelude.{ℕ, ◌+◌, ◌<◌, ◌≤◌, ◌^◌, ◌≡◌, ◌⊎◌, nat_eq, List, [], ◌∷◌, ◌++◌, length, Contains, Bool, true, false, IsTrue, Option, Some, None, MatchOption, if◌then◌else◌}
+use Rattle.std.specs.Prelude.{ℕ, ◌+◌, ◌<◌, ◌≤◌, ◌^◌, ◌≡◌, nat_eq, List, [], ◌∷◌, ◌++◌, length, Contains, true, false, IsTrue, Option, MatchOption, if◌then◌else◌}
 use Rattle.std.specs.List.{starts_with}
 use Rattle.wasm_model.specs.declared.options.Options.{Options}
 use Rattle.wasm_model.specs.declared.fault.Fault.{Fault}

@@ -1,8 +1,8 @@
 -- What a spelled module has to meet besides (Core Specification, Validation, Modules; Appendix, Implementation Limitations),
 -- and with it which bytes read as which module.
-use Rattle.std.specs.Prelude.{ℕ, ◌+◌, ◌<◌, ◌≤◌, ◌^◌, ◌≡◌, ◌≢◌, List, [], ◌∷◌, ◌++◌, length, All, AllPairs}
-use Rattle.wasm_model.specs.Module.{Module, Function, FunctionType, Operator, Nop, I32Const, Drop, Return, End, Item, FunctionItem, TypeItem, Export}
-use Rattle.wasm_model.specs.Spells.{SpellsModule, SpellsCode, Code}
+use Rattle.std.specs.Prelude.{ℕ, ◌<◌, ◌≤◌, ◌^◌, ◌≡◌, ◌≢◌, List, [], ◌∷◌, length, All, AllPairs}
+use Rattle.wasm_model.specs.Module.{Module, Operator, End, Item, FunctionItem, TypeItem}
+use Rattle.wasm_model.specs.Spells.{SpellsModule}
 use Rattle.wasm_model.specs.Features.{Features}
 
 -- the item is there

@@ -1,6 +1,6 @@
 -- Parsing a module from left to right: its sections, then its bodies, or where it stops. In the order of the sections,
 -- each rule is tested as soon as what it speaks of was read.
-use Rattle.std.specs.Prelude.{ℕ, ◌+◌, ◌-◌, ◌*◌, ◌^◌, ◌<◌, ◌≤◌, ◌≡◌, ◌==◌, zero, suc, List, [], ◌∷◌, ◌++◌, length, map, take, drop, Result, Ok, Err, Option, Some, None, nat_lt, nat_le, nat_eq, Bool, true, false, ◌&&◌, ◌||◌, not, is_none, unwrap_or, if◌then◌else◌}
+use Rattle.std.specs.Prelude.{ℕ, ◌+◌, ◌-◌, ◌^◌, ◌<◌, ◌≤◌, ◌≡◌, ◌==◌, List, [], ◌∷◌, length, take, drop, Result, Ok, Err, Option, Some, None, nat_lt, nat_le, nat_eq, Bool, true, ◌&&◌, ◌||◌, is_none, unwrap_or, if◌then◌else◌}
 use Rattle.std.specs.List.{list_any, starts_with}
 use Rattle.std.specs.Cmp.Lexicographic.{pointwise}
 use Rattle.wasm_reader.specs.declared.error.ErrorKind.TheVariants as kinds
@@ -16,7 +16,7 @@ use Rattle.wasm_model.specs.declared.fault.Space.TheVariants as spaces
 use Rattle.wasm_model.specs.declared.fault.Form.TheVariants as forms
 use Rattle.wasm_model.specs.declared.fault.Limited.TheVariants as limits
 use Rattle.wasm_model.specs.Features.{Features}
-use Rattle.wasm_model.specs.Module.{Module, Function, FunctionType, Item, FunctionItem, Export}
+use Rattle.wasm_model.specs.Module.{Module, Function, FunctionType, FunctionItem, Export}
 use Rattle.wasm_model.specs.Spells.{Code, header}
 use Rattle.wasm_model.specs.Stop.{Trouble, Read, Header, SectionOrder, SectionSize, Count, Index, Unsupported, DuplicateExport, Limit, Stop, stop, Parsing, ◌>>=◌, value_at, before, entries_at, vec_at, trouble_of, place_of, is_in_bytes}
 use Rattle.wasm_model.specs.Bodies.{code_at}
@@ -57,9 +57,9 @@ value_types_at bytes = do
 unfoldable pub function_type_at : List ℕ → Parsing FunctionType
 function_type_at [] = Err (stop (Read (kinds.EndOfFile 1)) 0)
 function_type_at (byte ∷ bytes) = if byte == 0x60 then (do
-      params ← value_types_at bytes
-      results ← value_types_at params.1
-      Ok (record { params = params.0; results = results.0 }, results.1))
+  params ← value_types_at bytes
+  results ← value_types_at params.1
+  Ok (record { params = params.0; results = results.0 }, results.1))
     else Err (stop (trouble_at_type group_bytes byte) (length bytes + 1))
 
 -- an entry of the type section: at most 1,000,000 types
@@ -73,7 +73,7 @@ unfoldable pub function_entry : ℕ → List ℕ → List ℕ → Parsing ℕ
 function_entry types earlier bytes = do
   index ← value_at (unsigned_at 32 bytes)
   if nat_le types index.0 then Err (stop (Index spaces.Type) (length bytes))
-    else (if nat_lt (length earlier) 1000000 then Ok index else Err (stop (Limit limits.Functions) (length bytes)))
+      else (if nat_lt (length earlier) 1000000 then Ok index else Err (stop (Limit limits.Functions) (length bytes)))
 
 -- an export's kind: 00 is a function; tables, memories, globals and tags are read later
 unfoldable pub kind_at : List ℕ → Parsing ℕ
@@ -93,9 +93,9 @@ export_entry functions earlier bytes = do
   kind ← kind_at name.1
   index ← value_at (unsigned_at 32 kind.1)
   if list_any (λ e. same_name e.name name.0) earlier then Err (stop DuplicateExport (length bytes))
-    else (if nat_le 1000000 (length earlier) then Err (stop (Limit limits.Exports) (length bytes))
-    else (if nat_lt index.0 functions then Ok (record { name = name.0; item = FunctionItem index.0 }, index.1)
-    else Err (stop (Index spaces.Function) (length kind.1))))
+      else (if nat_le 1000000 (length earlier) then Err (stop (Limit limits.Exports) (length bytes))
+      else (if nat_lt index.0 functions then Ok (record { name = name.0; item = FunctionItem index.0 }, index.1)
+      else Err (stop (Index spaces.Function) (length kind.1))))
 
 -- a body before its operators are looked at: its place, and its bytes
 pub record Chunk : Type 0 where
@@ -107,7 +107,7 @@ unfoldable pub chunk_entry : ℕ → List Chunk → List ℕ → Parsing Chunk
 chunk_entry finish earlier bytes = do
   size ← value_at (unsigned_at 32 bytes)
   if nat_lt 7654321 size.0 then Err (stop (Limit limits.Body) (length bytes))
-    else (value_at (bytes_at size.0 size.1) >>= λ body. Ok (record { place = finish - length size.1; bytes = body.0 }, body.1))
+      else (value_at (bytes_at size.0 size.1) >>= λ body. Ok (record { place = finish - length size.1; bytes = body.0 }, body.1))
 
 -- the code section: how many bytes are left from its function count on, and its bodies
 pub record Chunks : Type 0 where
@@ -122,7 +122,7 @@ unfoldable pub chunks_at : ℕ → ℕ → List ℕ → Parsing Chunks
 chunks_at functions after bytes = do
   count ← value_at (unsigned_at 32 bytes)
   if count.0 == functions then (entries_at (chunk_entry (length bytes)) count.0 [] count.1 >>= λ bodies. Ok (record { left = length bytes + after; bodies = bodies.0 }, bodies.1))
-    else Err (stop Count (length bytes))
+      else Err (stop Count (length bytes))
 
 -- what a section holds, where its contents fill it; `parsing` is told how many bytes follow the section
 unfoldable pub contents_at : {A : Type 0} → (ℕ → List ℕ → Parsing A) → ℕ → List ℕ → Parsing A
@@ -133,9 +133,9 @@ contents_at parsing size bytes = before (length bytes - size) (parsing (length b
 unfoldable pub section_at : {A : Type 0} → ℕ → (ℕ → List ℕ → Parsing A) → List ℕ → Parsing (Option A)
 section_at id parsing [] = Ok (None, [])
 section_at id parsing (byte ∷ bytes) = if byte == id then (do
-      size ← value_at (unsigned_at 32 bytes)
-      if nat_lt (length size.1) size.0 then Err (stop SectionSize (length bytes))
-        else (contents_at parsing size.0 size.1 >>= λ x. Ok (Some x.0, x.1)))
+  size ← value_at (unsigned_at 32 bytes)
+  if nat_lt (length size.1) size.0 then Err (stop SectionSize (length bytes))
+      else (contents_at parsing size.0 size.1 >>= λ x. Ok (Some x.0, x.1)))
     else Ok (None, byte ∷ bytes)
 
 -- where the section of an id stands in a module: 13 (tags) behind 5, 12 (the data count) before 10
@@ -177,7 +177,7 @@ sections_at bytes = do
   chunks ← section_at 10 (chunks_at (length (unwrap_or functions.0 []))) exports.1
   end ← end_at (latest chunks.0 10 (latest exports.0 7 (latest functions.0 3 (latest types.0 1 0)))) chunks.1
   if is_none chunks.0 && nat_lt 0 (length (unwrap_or functions.0 [])) then Err (stop Count 0)
-    else Ok (record { types = unwrap_or types.0 []; functions = unwrap_or functions.0 []; exports = unwrap_or exports.0 []; chunks = unwrap_or chunks.0 no_chunks })
+      else Ok (record { types = unwrap_or types.0 []; functions = unwrap_or functions.0 []; exports = unwrap_or exports.0 []; chunks = unwrap_or chunks.0 no_chunks })
 
 -- the bodies, where `left` bytes are left from the place 0 on
 unfoldable pub codes_at : Features → ℕ → List Chunk → Result (List Code) Stop
@@ -195,9 +195,9 @@ functions_of _ _ = []
 -- what begins with the header has its sections parsed, and then its bodies
 unfoldable pub module_at : Features → List ℕ → Result Module Stop
 module_at features bytes = if starts_with nat_eq bytes header then (do
-      sections ← sections_at (drop 8 bytes)
-      codes ← codes_at features sections.chunks.left sections.chunks.bodies
-      Ok (record { types = sections.types; functions = functions_of sections.functions codes; exports = sections.exports }))
+  sections ← sections_at (drop 8 bytes)
+  codes ← codes_at features sections.chunks.left sections.chunks.bodies
+  Ok (record { types = sections.types; functions = functions_of sections.functions codes; exports = sections.exports }))
     else Err (stop Header (length bytes))
 
 -- the fault that the bytes are refused for. A file past 2^30 bytes comes before all else, then the header, then the sections

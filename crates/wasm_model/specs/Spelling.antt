@@ -1,5 +1,5 @@
 -- The canonical spelling of a module: each number is the shortest, and a section of no entries is left out.
-use Rattle.std.specs.Prelude.{ℕ, ◌+◌, ◌≡◌, List, [], ◌∷◌, ◌++◌, length, map}
+use Rattle.std.specs.Prelude.{ℕ, ◌≡◌, List, [], ◌∷◌, ◌++◌, length}
 use Rattle.std.specs.List.{flat_map}
 use Rattle.wasm_model.specs.Shortest.{u32_bytes, s32_bytes}
 use Rattle.wasm_model.specs.declared.types.ValType.{ValType}

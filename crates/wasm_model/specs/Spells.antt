@@ -1,11 +1,11 @@
 -- The binary format (Core Specification, Binary Format): which bytes spell which module.
-use Rattle.std.specs.Prelude.{ℕ, ◌+◌, ◌<◌, ◌≤◌, ◌≡◌, List, [], ◌∷◌, ◌++◌, length, map, zip}
+use Rattle.std.specs.Prelude.{ℕ, ◌+◌, ◌≤◌, ◌≡◌, List, [], ◌∷◌, ◌++◌, length, map}
 use Rattle.std.specs.Str.{IsUtf8}
 use Rattle.wasm_reader.specs.Numbers.{Spells, signed}
 use Rattle.wasm_model.specs.declared.types.ValType.{ValType}
 use Rattle.wasm_model.specs.declared.types.ValType.TheVariants.{I32, I64, F32, F64, V128}
 use Rattle.wasm_model.specs.Module.{Module, Function, FunctionType, Operator, Nop, I32Const, Drop, Return, End, Item, FunctionItem, TypeItem, Export}
-use Rattle.wasm_model.specs.Grammar.{Grammar, SpellsU32, SpellsEach, SpellsVec, SpellsEachAt, SpellsSection}
+use Rattle.wasm_model.specs.Grammar.{Grammar, SpellsU32, SpellsVec, SpellsEachAt, SpellsSection}
 
 -- a value type's byte (Binary Format, Types)
 abbrev pub value_byte : ValType → ℕ

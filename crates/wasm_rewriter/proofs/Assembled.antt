@@ -1,7 +1,6 @@
 -- What was parsed, numbered and written is the input rewritten.
-use Rattle.std.proofs.Common.{ℕ, ◌≡◌, ◌<◌, ◌≤◌, ◌+◌, ◌^◌, List, [], ◌∷◌, ◌++◌, length, Option, Some, None, Bool, true, false, refl, sym, ap, subst, ◌∙◌, arith, length-append, map, get_or}
+use Rattle.std.proofs.Common.{ℕ, ◌≡◌, ◌<◌, ◌≤◌, ◌+◌, ◌^◌, List, ◌++◌, length, Option, Some, None, Bool, true, false, refl, sym, ap, subst, ◌∙◌, arith, length-append, map, get_or}
 use Rattle.std.specs.Prelude.{All, MatchOption}
-use Rattle.std.specs.List.{AllByRecursion}
 use Rattle.std.proofs.lemmas.List.{get_or-map, length-map}
 use Rattle.wasm_model.specs.declared.options.Options.{Options}
 use Rattle.wasm_model.specs.Features.{Features, features_of}
@@ -9,7 +8,7 @@ use Rattle.wasm_model.specs.Module as model
 use Rattle.wasm_model.specs.Rules.{Reads, IsItem}
 use Rattle.wasm_model.specs.Part.{Stands}
 use Rattle.wasm_model.specs.Places.{ArePlaces}
-use Rattle.wasm_model.specs.Spelling.{body_bytes, module_bytes}
+use Rattle.wasm_model.specs.Spelling.{module_bytes}
 use Rattle.wasm_model.specs.Rewrites.{Rewritten, added_bytes}
 use Rattle.rewriter_module.specs.declared.Module.{Module}
 use Rattle.rewriter_module.specs.declared.Export.{Export}
@@ -34,7 +33,7 @@ use Rattle.rewriter_module.specs.declared.Numbering.{Numbering}
 use Rattle.wasm_rewriter.specs.Accepts.{MayBeRefused}
 use Rattle.rewriter_module.specs.Meaning.{meaning, type_of, export_of, function_of}
 use Rattle.rewriter_module.specs.Numbered.{IsNumbering}
-use Rattle.rewriter_module.specs.Written.{Numbers, numbers_of, written, written_operators, written_places, renaming}
+use Rattle.rewriter_module.specs.Written.{Numbers, numbers_of, written, written_places, renaming}
 use Rattle.rewriter_laws.specs.Again.{IsSmall, written_reads}
 use Rattle.rewriter_laws.specs.Pairs.{written_are_places}
 
@@ -173,7 +172,7 @@ is_writable features bytes m n reads within ends =
       few_exports = omega arith;
       short_types = types_short features bytes m reads;
       short_names = names_short features bytes m reads;
-      bodies = ends_within m.functions.items (length bytes) reads.short ends
+      bodies = ends_within m.functions.items (length bytes) reads.short ends;
     }
 
 pub functions_fit : (features : Features) (bytes : List ℕ) (m : Module) → Reads features bytes (meaning features m) → vec_len m.functions ≤ 2 ^ 32

@@ -1,3 +1,5 @@
 pub mod RunLemmas
 pub mod FewPlaces
 pub mod Assembled
+pub mod Unread
+pub mod Idempotent

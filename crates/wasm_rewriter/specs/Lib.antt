@@ -3,3 +3,4 @@ pub use Rattle.rewriter_devices.specs.Input
 pub use Rattle.rewriter_devices.specs.Lines
 pub use Rattle.rewriter_devices.specs.Devices
 pub mod Accepts
+pub mod Laws

@@ -1,9 +1,11 @@
 //! Rewrites WebAssembly modules: keeps what their exports need, in the shortest spelling.
 #![tactic(auto)]
 
+mod laws;
 mod rewriting;
 mod running;
 
+pub use laws::rewriting_is_idempotent;
 pub use rewriter_devices::{
     DeviceFailed, MemorySink, MemorySource, Sink, SinkFail, Source, StdSink, StdSource,
 };

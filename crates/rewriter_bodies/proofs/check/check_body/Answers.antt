@@ -1,4 +1,4 @@
-use Rattle.std.proofs.Common.{ap, ◌∙◌, ℕ}
+use Rattle.std.proofs.Common.{ap}
 use Rattle.rewriter_bodies.specs.declared.extent.Extent.{Extent}
 use Rattle.rewriter_bodies.proofs.check.check_body.Goals as goal
 

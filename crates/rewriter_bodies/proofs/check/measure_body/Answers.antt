@@ -1,8 +1,7 @@
-use Rattle.std.proofs.Common.{rules, arith, ◌≡◌, ◌≢◌, ◌+◌, ◌-◌, ◌<◌, ◌≤◌, ℕ, length, true, false, refl, ap, sym, ◌∙◌}
+use Rattle.std.proofs.Common.{rules, arith, ◌≡◌, ◌≢◌, ◌+◌, ◌-◌, length, ap, ◌∙◌}
 use Rattle.std.proofs.lemmas.Result.{err_from_is_err_and}
-use Rattle.wasm_reader.specs.Cursor.{Cursor, Window, rest, end_of}
+use Rattle.wasm_reader.specs.Cursor.{Window, rest, end_of}
 use Rattle.wasm_model.specs.Features.{features_of}
-use Rattle.wasm_model.specs.Stop.{trouble_of, place_of, Nesting, stop}
 use Rattle.rewriter_bodies.proofs.Operators.{ends_same}
 use Rattle.rewriter_bodies.proofs.Checking.{is_placed, no_count, has_locals, no_size, goes_past, is_whole}
 use Rattle.rewriter_bodies.proofs.check.measure_body.Goals as goal

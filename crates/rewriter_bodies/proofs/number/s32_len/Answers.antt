@@ -1,4 +1,4 @@
-use Rattle.std.proofs.Common.{◌<◌, ◌≤◌, ◌≡◌, ◌∙◌, arith, rules, sym, to_z, of_z, w32}
+use Rattle.std.proofs.Common.{◌≡◌, ◌∙◌, arith, rules, sym, to_z, of_z, w32}
 use Rattle.std.proofs.lemmas.Int.{to_z-of_z}
 use Rattle.rewriter_bodies.proofs.Lengths.{one_byte, two_bytes, three_bytes, four_bytes, five_bytes}
 use Rattle.rewriter_bodies.proofs.number.s32_len.Goals as goal

@@ -1,4 +1,4 @@
-use Rattle.std.proofs.Common.{◌++◌, ◌+◌, ℕ, ◌≡◌, arith, rules, refl, ap, to_z, of_z, w32}
+use Rattle.std.proofs.Common.{◌++◌, ◌+◌, ℕ, ◌≡◌, rules, ap, to_z, of_z, w32}
 use Rattle.std.proofs.lemmas.Int.{to_z-of_z}
 use Rattle.wasm_model.specs.Shortest.{s32_bytes}
 use Rattle.rewriter_bodies.proofs.Shortens.{begins_signed, signed_spelling, shortens_on, shortened}

@@ -1,6 +1,6 @@
-use Rattle.std.proofs.Common.{rules, ◌≡◌, ◌≢◌, ℕ, ◌+◌, ◌-◌, ◌*◌, ◌<◌, ◌≤◌, length, arith}
+use Rattle.std.proofs.Common.{rules}
 use Rattle.wasm_model.specs.Features.{features_of}
-use Rattle.rewriter_bodies.proofs.Operators.{IsOther, refuses_code, refuses_number}
+use Rattle.rewriter_bodies.proofs.Operators.{refuses_code, refuses_number}
 use Rattle.rewriter_bodies.proofs.operator.read_operator.Goals as goal
 
 pub returns-in_default-2 : goal.returns-in_default-2

@@ -1,4 +1,4 @@
-use Rattle.std.proofs.Common.{arith, rules, ◌≡◌, ap, length, ℕ}
+use Rattle.std.proofs.Common.{arith, rules, ◌≡◌, ap, length}
 use Rattle.rewriter_bodies.specs.declared.extent.Extent.{Extent}
 use Rattle.rewriter_bodies.proofs.tests.bodies.Goals as goal
 

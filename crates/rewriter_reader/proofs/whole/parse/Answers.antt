@@ -1,5 +1,5 @@
-use Rattle.std.proofs.Common.{◌≡◌, ◌≤◌, refl, sym, ap, length, arith}
-use Rattle.wasm_reader.specs.Cursor.{Cursor, end_of}
+use Rattle.std.proofs.Common.{◌≡◌, ◌≤◌, refl, sym, length, arith}
+use Rattle.wasm_reader.specs.Cursor.{end_of}
 use Rattle.std.proofs.lemmas.Result.{err_from_is_err_and}
 use Rattle.wasm_model.specs.Features.{features_of}
 use Rattle.rewriter_reader.proofs.Bodies.{ends_within}

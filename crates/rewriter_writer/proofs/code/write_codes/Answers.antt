@@ -1,4 +1,4 @@
-use Rattle.std.proofs.Common.{rules, arith, ◌≡◌, ◌+◌, ◌<◌, ◌≤◌, ◌^◌, ◌++◌, ◌∙◌, length, [], OnOk, IfOk, IfErr, ℕ, List, Option, Some, get_or, sym, ap, subst, refl}
+use Rattle.std.proofs.Common.{rules, ◌≡◌, ◌<◌, ◌≤◌, ◌++◌, ◌∙◌, length, ℕ, List, get_or, sym, ap, subst, refl}
 use Rattle.std.proofs.lemmas.Option.{slice_get_read}
 use Rattle.std.proofs.lemmas.Result.{err_from_is_err_and}
 use Rattle.wasm_model.specs.Features.{features_of}
@@ -6,9 +6,9 @@ use Rattle.wasm_model.specs.Module.{Operator, operators}
 use Rattle.wasm_model.specs.NormalForm.{normal_form}
 use Rattle.wasm_model.specs.Shortest.{u32_bytes}
 use Rattle.wasm_model.specs.Spelling.{body_bytes}
-use Rattle.rewriter_module.specs.Meaning.{code_in, meaning, IsSound}
-use Rattle.rewriter_module.specs.Written.{numbers_of, written}
-use Rattle.rewriter_bodies.specs.Texts.{Text, text_of}
+use Rattle.rewriter_module.specs.Meaning.{meaning}
+use Rattle.rewriter_module.specs.Written.{numbers_of}
+use Rattle.rewriter_bodies.specs.Texts.{text_of}
 use Rattle.rewriter_writer.specs.Codes.{with_entry}
 use Rattle.rewriter_writer.specs.Causes.{IsCauseOfEntry}
 use Rattle.rewriter_writer.proofs.Entries.{begins, codes_on, causes, turn_is, number_inside, body_at_number}

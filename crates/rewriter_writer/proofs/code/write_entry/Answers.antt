@@ -6,7 +6,7 @@ use Rattle.wasm_model.specs.Shortest.{u32_bytes}
 use Rattle.wasm_model.specs.Spelling.{body_bytes}
 use Rattle.rewriter_module.specs.Meaning.{code_in}
 use Rattle.rewriter_bodies.specs.Texts.{Text, text_of, with_body}
-use Rattle.rewriter_writer.proofs.Entries.{measured, u32_small, entry_of, with_entries-cons}
+use Rattle.rewriter_writer.proofs.Entries.{measured, u32_small}
 use Rattle.rewriter_writer.proofs.code.write_entry.Goals as goal
 
 pub returns-then-extent-gt-MAX_FUNCTION_SIZE-clause-cause : goal.returns-then-extent-gt-MAX_FUNCTION_SIZE-clause-cause

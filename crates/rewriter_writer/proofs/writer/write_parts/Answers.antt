@@ -1,14 +1,13 @@
-use Rattle.std.proofs.Common.{rules, arith, ◌≡◌, ◌<◌, ◌≤◌, ◌∷◌, ◌++◌, ◌∙◌, ℕ, List, [], length, sym, ap, refl, subst, map, slice_index, slice_index_or}
+use Rattle.std.proofs.Common.{rules, arith, ◌≡◌, ◌++◌, ◌∙◌, ℕ, List, length, ap, subst}
 use Rattle.std.proofs.lemmas.Result.{err_from_is_err_and}
-use Rattle.wasm_model.specs.Module.{Module, Function}
+use Rattle.wasm_model.specs.Module.{Module}
 use Rattle.wasm_model.specs.Features.{features_of}
 use Rattle.wasm_model.specs.Shortest.{u32_bytes}
 use Rattle.wasm_model.specs.Spells.{header}
-use Rattle.wasm_model.specs.Spelling.{code_bytes, type_bytes, export_bytes, section_bytes, module_bytes}
-use Rattle.wasm_model.specs.Part.{renamed_export}
+use Rattle.wasm_model.specs.Spelling.{code_bytes, type_bytes, export_bytes, section_bytes}
 use Rattle.wasm_model.specs.Rewrites.{added_bytes}
-use Rattle.rewriter_module.specs.Meaning.{meaning, type_of, export_of}
-use Rattle.rewriter_module.specs.Written.{Numbers, numbers_of, renaming, no_type, written}
+use Rattle.rewriter_module.specs.Meaning.{meaning}
+use Rattle.rewriter_module.specs.Written.{Numbers, numbers_of, written}
 use Rattle.rewriter_writer.specs.Causes.{IsCause}
 use Rattle.rewriter_writer.proofs.Sections.{cause_grows}
 use Rattle.rewriter_writer.proofs.Modules.{types_seen, functions_seen, exports_seen, sections_are, first_within, second_within, third_within}

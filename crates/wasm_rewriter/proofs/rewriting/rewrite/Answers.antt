@@ -1,4 +1,4 @@
-use Rattle.std.proofs.Common.{rules, arith, ◌≡◌, ◌≤◌, ◌<◌, ◌^◌, ◌++◌, ℕ, List, Option, length, refl, sym, ap, subst, get_or}
+use Rattle.std.proofs.Common.{arith, ◌≤◌, ◌^◌, length}
 use Rattle.std.proofs.lemmas.Result.{err_from_is_err_and}
 use Rattle.std.specs.Option.{option_map}
 use Rattle.wasm_model.specs.Features.{features_of}
@@ -21,35 +21,35 @@ pub number-requires-clause-functions_fit : goal.number-requires-clause-functions
 number-requires-clause-functions_fit c =
     let short : length c.args.bytes.now ≤ 2 ^ 30 = omega arith in
     let reads : Reads (features_of c.args.options.now) c.args.bytes.now (meaning (features_of c.args.options.now) c.in_ok-module.module) =
-      module_found (features_of c.args.options.now) c.args.bytes.now (meaning (features_of c.args.options.now) c.in_ok-module.module) short (λ i. omega (arith, c.type_inv.bytes i)) c.in_ok-module.ensures.parsed in
+    module_found (features_of c.args.options.now) c.args.bytes.now (meaning (features_of c.args.options.now) c.in_ok-module.module) short (λ i. omega (arith, c.type_inv.bytes i)) c.in_ok-module.ensures.parsed in
     functions_fit (features_of c.args.options.now) c.args.bytes.now c.in_ok-module.module reads
 
 pub number-requires-clause-types_fit : goal.number-requires-clause-types_fit
 number-requires-clause-types_fit c =
     let short : length c.args.bytes.now ≤ 2 ^ 30 = omega arith in
     let reads : Reads (features_of c.args.options.now) c.args.bytes.now (meaning (features_of c.args.options.now) c.in_ok-module.module) =
-      module_found (features_of c.args.options.now) c.args.bytes.now (meaning (features_of c.args.options.now) c.in_ok-module.module) short (λ i. omega (arith, c.type_inv.bytes i)) c.in_ok-module.ensures.parsed in
+    module_found (features_of c.args.options.now) c.args.bytes.now (meaning (features_of c.args.options.now) c.in_ok-module.module) short (λ i. omega (arith, c.type_inv.bytes i)) c.in_ok-module.ensures.parsed in
     types_fit (features_of c.args.options.now) c.args.bytes.now c.in_ok-module.module reads
 
 pub number-requires-clause-exported : goal.number-requires-clause-exported
 number-requires-clause-exported c =
     let short : length c.args.bytes.now ≤ 2 ^ 30 = omega arith in
     let reads : Reads (features_of c.args.options.now) c.args.bytes.now (meaning (features_of c.args.options.now) c.in_ok-module.module) =
-      module_found (features_of c.args.options.now) c.args.bytes.now (meaning (features_of c.args.options.now) c.in_ok-module.module) short (λ i. omega (arith, c.type_inv.bytes i)) c.in_ok-module.ensures.parsed in
+    module_found (features_of c.args.options.now) c.args.bytes.now (meaning (features_of c.args.options.now) c.in_ok-module.module) short (λ i. omega (arith, c.type_inv.bytes i)) c.in_ok-module.ensures.parsed in
     exports_fit (features_of c.args.options.now) c.args.bytes.now c.in_ok-module.module reads
 
 pub number-requires-clause-typed : goal.number-requires-clause-typed
 number-requires-clause-typed c =
     let short : length c.args.bytes.now ≤ 2 ^ 30 = omega arith in
     let reads : Reads (features_of c.args.options.now) c.args.bytes.now (meaning (features_of c.args.options.now) c.in_ok-module.module) =
-      module_found (features_of c.args.options.now) c.args.bytes.now (meaning (features_of c.args.options.now) c.in_ok-module.module) short (λ i. omega (arith, c.type_inv.bytes i)) c.in_ok-module.ensures.parsed in
+    module_found (features_of c.args.options.now) c.args.bytes.now (meaning (features_of c.args.options.now) c.in_ok-module.module) short (λ i. omega (arith, c.type_inv.bytes i)) c.in_ok-module.ensures.parsed in
     types_named (features_of c.args.options.now) c.args.bytes.now c.in_ok-module.module reads
 
 pub returns-in_err-numbering-clause-refused : goal.returns-in_err-numbering-clause-refused
 returns-in_err-numbering-clause-refused c =
     let short : length c.args.bytes.now ≤ 2 ^ 30 = omega arith in
     let reads : Reads (features_of c.args.options.now) c.args.bytes.now (meaning (features_of c.args.options.now) c.in_ok-module.module) =
-      module_found (features_of c.args.options.now) c.args.bytes.now (meaning (features_of c.args.options.now) c.in_ok-module.module) short (λ i. omega (arith, c.type_inv.bytes i)) c.in_ok-module.ensures.parsed in
+    module_found (features_of c.args.options.now) c.args.bytes.now (meaning (features_of c.args.options.now) c.in_ok-module.module) short (λ i. omega (arith, c.type_inv.bytes i)) c.in_ok-module.ensures.parsed in
     let p = err_from_is_err_and c.from_residual-in_err-numbering.result c.from_residual-in_err-numbering.ensures.1 in
     rw (p.1, p.2) (short, headed (features_of c.args.options.now) c.args.bytes.now (meaning (features_of c.args.options.now) c.in_ok-module.module) reads)
 
@@ -57,14 +57,14 @@ pub write_module-requires-clause-fits : goal.write_module-requires-clause-fits
 write_module-requires-clause-fits c =
     let short : length c.args.bytes.now ≤ 2 ^ 30 = omega arith in
     let reads : Reads (features_of c.args.options.now) c.args.bytes.now (meaning (features_of c.args.options.now) c.in_ok-module.module) =
-      module_found (features_of c.args.options.now) c.args.bytes.now (meaning (features_of c.args.options.now) c.in_ok-module.module) short (λ i. omega (arith, c.type_inv.bytes i)) c.in_ok-module.ensures.parsed in
+    module_found (features_of c.args.options.now) c.args.bytes.now (meaning (features_of c.args.options.now) c.in_ok-module.module) short (λ i. omega (arith, c.type_inv.bytes i)) c.in_ok-module.ensures.parsed in
     is_writable (features_of c.args.options.now) c.args.bytes.now c.in_ok-module.module c.in_ok-numbering.numbering reads c.in_ok-numbering.ensures.within c.in_ok-module.ensures.within
 
 pub returns-in_err-written-clause-refused : goal.returns-in_err-written-clause-refused
 returns-in_err-written-clause-refused c =
     let short : length c.args.bytes.now ≤ 2 ^ 30 = omega arith in
     let reads : Reads (features_of c.args.options.now) c.args.bytes.now (meaning (features_of c.args.options.now) c.in_ok-module.module) =
-      module_found (features_of c.args.options.now) c.args.bytes.now (meaning (features_of c.args.options.now) c.in_ok-module.module) short (λ i. omega (arith, c.type_inv.bytes i)) c.in_ok-module.ensures.parsed in
+    module_found (features_of c.args.options.now) c.args.bytes.now (meaning (features_of c.args.options.now) c.in_ok-module.module) short (λ i. omega (arith, c.type_inv.bytes i)) c.in_ok-module.ensures.parsed in
     let numbering : IsNumbering (meaning (features_of c.args.options.now) c.in_ok-module.module) (numbers_of c.in_ok-numbering.numbering) = c.in_ok-numbering.ensures.numbers (features_of c.args.options.now) c.in_ok-module.ensures.sound in
     let stands : Stands (meaning (features_of c.args.options.now) c.in_ok-module.module) (written (meaning (features_of c.args.options.now) c.in_ok-module.module) (numbers_of c.in_ok-numbering.numbering)) (renaming (numbers_of c.in_ok-numbering.numbering)) = c.in_ok-numbering.ensures.stands (features_of c.args.options.now) c.in_ok-module.ensures.sound in
     let p = err_from_is_err_and c.from_residual-in_err-written.result c.from_residual-in_err-written.ensures.1 in
@@ -74,16 +74,15 @@ pub returns-clause-rewritten : goal.returns-clause-rewritten
 returns-clause-rewritten c =
     let short : length c.args.bytes.now ≤ 2 ^ 30 = omega arith in
     let reads : Reads (features_of c.args.options.now) c.args.bytes.now (meaning (features_of c.args.options.now) c.in_ok-module.module) =
-      module_found (features_of c.args.options.now) c.args.bytes.now (meaning (features_of c.args.options.now) c.in_ok-module.module) short (λ i. omega (arith, c.type_inv.bytes i)) c.in_ok-module.ensures.parsed in
+    module_found (features_of c.args.options.now) c.args.bytes.now (meaning (features_of c.args.options.now) c.in_ok-module.module) short (λ i. omega (arith, c.type_inv.bytes i)) c.in_ok-module.ensures.parsed in
     let numbering : IsNumbering (meaning (features_of c.args.options.now) c.in_ok-module.module) (numbers_of c.in_ok-numbering.numbering) = c.in_ok-numbering.ensures.numbers (features_of c.args.options.now) c.in_ok-module.ensures.sound in
     let stands : Stands (meaning (features_of c.args.options.now) c.in_ok-module.module) (written (meaning (features_of c.args.options.now) c.in_ok-module.module) (numbers_of c.in_ok-numbering.numbering)) (renaming (numbers_of c.in_ok-numbering.numbering)) = c.in_ok-numbering.ensures.stands (features_of c.args.options.now) c.in_ok-module.ensures.sound in
     is_rewritten c.args.options.now c.args.bytes.now c.in_ok-written.written.bytes.items (meaning (features_of c.args.options.now) c.in_ok-module.module) (numbers_of c.in_ok-numbering.numbering) (option_map (λ v. v.items) c.in_ok-written.written.places) reads numbering stands
-      (is_small (features_of c.args.options.now) c.in_ok-module.module c.in_ok-numbering.numbering c.in_ok-numbering.ensures.within c.in_ok-written.ensures.bodies) c.in_ok-written.ensures.bytes c.in_ok-written.ensures.short
-      (are_asked c.args.options.now (meaning (features_of c.args.options.now) c.in_ok-module.module) (numbers_of c.in_ok-numbering.numbering) (option_map (λ v. v.items) c.in_ok-written.written.places) c.in_ok-written.ensures.places)
+    (is_small (features_of c.args.options.now) c.in_ok-module.module c.in_ok-numbering.numbering c.in_ok-numbering.ensures.within c.in_ok-written.ensures.bodies) c.in_ok-written.ensures.bytes c.in_ok-written.ensures.short
+    (are_asked c.args.options.now (meaning (features_of c.args.options.now) c.in_ok-module.module) (numbers_of c.in_ok-numbering.numbering) (option_map (λ v. v.items) c.in_ok-written.written.places) c.in_ok-written.ensures.places)
 
 pub returns-clause-few : goal.returns-clause-few
 returns-clause-few c =
     few_counted c.in_ok-written.written.places c.in_ok-written.written.bytes
-      (few_pairs c.args.options.now (meaning (features_of c.args.options.now) c.in_ok-module.module) (numbers_of c.in_ok-numbering.numbering) c.in_ok-written.written.bytes.items (option_map (λ v. v.items) c.in_ok-written.written.places) c.in_ok-written.ensures.bytes
-        (are_asked c.args.options.now (meaning (features_of c.args.options.now) c.in_ok-module.module) (numbers_of c.in_ok-numbering.numbering) (option_map (λ v. v.items) c.in_ok-written.written.places) c.in_ok-written.ensures.places))
-
+    (few_pairs c.args.options.now (meaning (features_of c.args.options.now) c.in_ok-module.module) (numbers_of c.in_ok-numbering.numbering) c.in_ok-written.written.bytes.items (option_map (λ v. v.items) c.in_ok-written.written.places) c.in_ok-written.ensures.bytes
+    (are_asked c.args.options.now (meaning (features_of c.args.options.now) c.in_ok-module.module) (numbers_of c.in_ok-numbering.numbering) (option_map (λ v. v.items) c.in_ok-written.written.places) c.in_ok-written.ensures.places))

@@ -1,8 +1,8 @@
-use Rattle.std.proofs.Common.{rules, arith, refl, ◌≡◌, ◌+◌, ◌-◌, ◌<◌, ℕ, length}
+use Rattle.std.proofs.Common.{rules, refl, ◌≡◌, ◌+◌, ◌-◌, length}
 use Rattle.wasm_reader.specs.Cursor.{rest, end_of}
 use Rattle.wasm_model.specs.Features.{features_of}
 use Rattle.wasm_model.specs.Stop.{stop, trouble_of, place_of}
-use Rattle.rewriter_bodies.specs.Texts.{Text, text_of}
+use Rattle.rewriter_bodies.specs.Texts.{text_of}
 use Rattle.rewriter_bodies.proofs.Writing.{no_stop_at_count, has_text, is_text, on_ok}
 use Rattle.rewriter_bodies.proofs.code.CodeWriter.write_body.Goals as goal
 

@@ -1,11 +1,11 @@
-use Rattle.std.proofs.Common.{rules, arith, ◌≡◌, ◌≢◌, ◌+◌, ◌-◌, ◌<◌, ◌^◌, ℕ, length}
+use Rattle.std.proofs.Common.{◌-◌}
 use Rattle.wasm_reader.specs.Cursor.{rest, end_of}
 use Rattle.wasm_model.specs.Features.{features_of}
 use Rattle.wasm_model.specs.Stop.{stop, trouble_of, place_of}
 use Rattle.rewriter_bodies.specs.Views.{operator_of}
-use Rattle.rewriter_bodies.specs.Texts.{Text, text_of}
+use Rattle.rewriter_bodies.specs.Texts.{text_of}
 use Rattle.rewriter_bodies.proofs.Shrinks.{operator_takes}
-use Rattle.rewriter_bodies.proofs.Writing.{both_ok, no_stop, is_small, passes_text, writes_on, writes_out}
+use Rattle.rewriter_bodies.proofs.Writing.{both_ok, no_stop, passes_text, writes_on, writes_out}
 use Rattle.rewriter_bodies.proofs.code.CodeWriter.write_operators.Goals as goal
 
 pub unreachable-requires : goal.unreachable-requires
