@@ -15,6 +15,22 @@ const OUTPUT: [u8; 31] = [
     0x01, 0x00, 0x07, 0x05, 0x01, 0x01, 0x66, 0x00, 0x00, 0x0a, 0x04, 0x01, 0x02, 0x00, 0x0b,
 ];
 
+// Function 1 is exported and calls function 2, which the module starts with; function 0 is called
+// only behind a `return`.
+const CALLING: [u8; 56] = [
+    0x00, 0x61, 0x73, 0x6d, 0x01, 0x00, 0x00, 0x00, 0x01, 0x04, 0x01, 0x60, 0x00, 0x00, 0x03, 0x04,
+    0x03, 0x00, 0x00, 0x00, 0x07, 0x05, 0x01, 0x01, 0x66, 0x00, 0x01, 0x08, 0x01, 0x02, 0x0a, 0x18,
+    0x03, 0x05, 0x00, 0x41, 0x07, 0x1a, 0x0b, 0x07, 0x00, 0x01, 0x10, 0x02, 0x10, 0x02, 0x0b, 0x08,
+    0x00, 0x41, 0x07, 0x1a, 0x0f, 0x10, 0x00, 0x0b,
+];
+
+// Function 2 is larger than function 1, and stands first.
+const CALLED: [u8; 46] = [
+    0x00, 0x61, 0x73, 0x6d, 0x01, 0x00, 0x00, 0x00, 0x01, 0x04, 0x01, 0x60, 0x00, 0x00, 0x03, 0x03,
+    0x02, 0x00, 0x00, 0x07, 0x05, 0x01, 0x01, 0x66, 0x00, 0x01, 0x08, 0x01, 0x00, 0x0a, 0x0f, 0x02,
+    0x06, 0x00, 0x41, 0x07, 0x1a, 0x0f, 0x0b, 0x06, 0x00, 0x10, 0x00, 0x10, 0x00, 0x0b,
+];
+
 fn options() -> Options {
     let mut options = Options::new();
     options.names = false;
@@ -32,8 +48,8 @@ fn outcome(
     places_fail: SinkFail,
 ) -> Result<(Result<Summary, Fault>, MemorySink, MemorySink), Fail> {
     let mut source = MemorySource::new(bytes, failing_read);
-    let mut sink = MemorySink::new(alloc, 40, fail)?;
-    let mut places = MemorySink::new(alloc, 8, places_fail)?;
+    let mut sink = MemorySink::new(alloc, 48, fail)?;
+    let mut places = MemorySink::new(alloc, 40, places_fail)?;
     let answer = run(alloc, &mut source, &mut sink, &mut places, &options());
     Ok((answer, sink, places))
 }
@@ -56,6 +72,28 @@ fn what_is_written_is_counted(rt: HostRuntime) -> Result<(), Fail> {
     );
     assert_eq!(rt; sink.bytes(), OUTPUT.as_slice());
     assert_eq!(rt; places.bytes(), b"4 3\n".as_slice());
+    Ok(())
+}
+
+#[test]
+fn what_is_called_is_kept(rt: HostRuntime) -> Result<(), Fail> {
+    let (answer, sink, places) = outcome(
+        rt.alloc(),
+        &CALLING,
+        None,
+        SinkFail::Never,
+        SinkFail::Never,
+    )?;
+    assert_eq!(rt;
+        answer,
+        Ok(Summary {
+            bytes: 46,
+            places: 7
+        })
+    );
+    assert_eq!(rt; sink.bytes(), CALLED.as_slice());
+    let wanted = b"17 3\n19 5\n20 6\n23 7\n10 10\n12 12\n14 14\n";
+    assert_eq!(rt; places.bytes(), wanted.as_slice());
     Ok(())
 }
 
