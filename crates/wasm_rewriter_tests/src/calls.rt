@@ -24,13 +24,22 @@ fn what_is_called_is_kept(rt: HostRuntime) -> Result<(), Fail> {
     let functions: &[u8] = b"\x03\x04\x03\x00\x00\x00";
     let export: &[u8] = b"\x07\x05\x01\x01f\x00\x01";
     let start: &[u8] = b"\x08\x01\x02";
-    let code: &[u8] = b"\x0a\x18\x03\x05\x00\x41\x07\x1a\x0b\x07\x00\x01\x10\x02\x10\x02\x0b\x08\x00\x41\x07\x1a\x0f\x10\x00\x0b";
+    let code: &[u8] =
+        b"\x0a\x18\x03\x05\x00\x41\x07\x1a\x0b\x07\x00\x01\x10\x02\x10\x02\x0b\x08\x00\x41\x07\x1a\x0f\x10\x00\x0b";
     let input = [HEADER, TYPE, functions, export, start, code].concat(rt.alloc())?;
     // function 2 is larger than function 1, and stands first
     let new_start: &[u8] = b"\x08\x01\x00";
     let new_code: &[u8] = b"\x0a\x0f\x02\x06\x00\x41\x07\x1a\x0f\x0b\x06\x00\x10\x00\x10\x00\x0b";
     let output = [HEADER, TYPE, TWO_FUNCTIONS, export, new_start, new_code].concat(rt.alloc())?;
-    let places = [(17, 3), (19, 5), (20, 6), (23, 7), (10, 10), (12, 12), (14, 14)];
+    let places = [
+        (17, 3),
+        (19, 5),
+        (20, 6),
+        (23, 7),
+        (10, 10),
+        (12, 12),
+        (14, 14),
+    ];
     check_rewritten(&rt, rt.alloc(), &input, &output, &places)
 }
 
