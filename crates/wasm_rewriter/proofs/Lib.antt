@@ -3,3 +3,4 @@ pub mod FewPlaces
 pub mod Assembled
 pub mod Unread
 pub mod Idempotent
+pub mod Least

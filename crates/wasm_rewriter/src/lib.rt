@@ -6,7 +6,7 @@ mod laws;
 mod rewriting;
 mod running;
 
-pub use laws::rewriting_is_idempotent;
+pub use laws::{kept_is_least, rewriting_is_idempotent, written_is_least};
 pub use rewriter_devices::{
     DeviceFailed, MemorySink, MemorySource, Sink, SinkFail, Source, StdSink, StdSource,
 };
