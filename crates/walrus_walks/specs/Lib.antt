@@ -1,0 +1,4 @@
+pub mod Events
+pub mod Tree
+pub mod Steps
+pub mod Walk
