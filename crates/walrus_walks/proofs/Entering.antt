@@ -1,5 +1,5 @@
 -- Steps that enter the handlers of a legacy `try`.
-use Rattle.std.proofs.Common.{ℕ, List, [], ◌∷◌, ◌++◌, ◌≡◌, refl, sym, ap, ◌∙◌, append_assoc}
+use Rattle.std.proofs.Common.{ℕ, List, [], ◌∷◌, ◌++◌, ◌≡◌, sym, ap, ◌∙◌, append_assoc}
 use Rattle.std.proofs.lemmas.List.{append-nil}
 use Rattle.walrus_instr.specs.declared.instr.LegacyCatch.{LegacyCatch}
 use Rattle.walrus_walks.specs.declared.steps.Step.{Step}

@@ -1,5 +1,5 @@
 -- Nested sequences: their walk is the plain recursion, and what they hold is nested.
-use Rattle.std.proofs.Common.{ℕ, zero, suc, ◌+◌, ◌<◌, ◌≤◌, ◌≡◌, Bool, true, false, cond, ◌&&◌, nat_lt, nat_le, List, [], ◌∷◌, ◌++◌, length, get_or, Option, Some, None, refl, sym, ap, subst, arith, ◌∙◌, ◌⊎◌, inl, inr}
+use Rattle.std.proofs.Common.{ℕ, zero, suc, ◌+◌, ◌<◌, ◌≤◌, ◌≡◌, cond, ◌&&◌, nat_lt, nat_le, List, [], ◌∷◌, ◌++◌, length, get_or, Option, Some, refl, sym, ap, subst, arith, ◌∙◌, ◌⊎◌, inl, inr}
 use Rattle.std.specs.Prelude.{slice_get}
 use Rattle.std.proofs.lemmas.Bool.Decides.{nat_tests}
 use Rattle.std.proofs.Math.Nat.{eq-or-lt_of_le}
@@ -9,7 +9,7 @@ use Rattle.walrus_instr.specs.declared.instr.Instr.{Instr}
 use Rattle.walrus_instr.specs.declared.seq.InstrLocId.{InstrLocId}
 use Rattle.walrus_instr.specs.declared.seq.InstrSeq.{InstrSeq}
 use Rattle.walrus_walks.specs.Tree.{children, children_in, Falls, IsRank, IsNested}
-use Rattle.walrus_walks.specs.Events.{Event, StartOf, EndOf, Visits, names, block_names, events_of}
+use Rattle.walrus_walks.specs.Events.{Event, StartOf, EndOf, block_names, events_of}
 use Rattle.walrus_walks.specs.Walk.{of_items, of_seq, walk_within, walk}
 
 -- 1 where r is a rank up to t

@@ -1,5 +1,5 @@
 -- What one step tells, over plain lists.
-use Rattle.std.proofs.Common.{ℕ, zero, suc, ◌+◌, ◌<◌, ◌≤◌, ◌≡◌, List, [], ◌∷◌, ◌++◌, length, drop, get_or, Option, Some, None, refl, sym, ap, subst, arith, ◌∙◌, add-one, drop-cons, length-append}
+use Rattle.std.proofs.Common.{ℕ, zero, suc, ◌+◌, ◌<◌, ◌≤◌, ◌≡◌, List, [], ◌∷◌, ◌++◌, length, drop, get_or, Some, sym, ap, subst, arith, ◌∙◌, add-one, drop-cons, length-append}
 use Rattle.std.specs.Prelude.{slice_get}
 use Rattle.std.specs.List.{FoldsTo}
 use Rattle.std.proofs.lemmas.List.{drop_all}
@@ -10,7 +10,7 @@ use Rattle.walrus_walks.specs.declared.steps.Step.{Step}
 use Rattle.walrus_walks.specs.declared.steps.Step.TheVariants.{Enter, Resume}
 use Rattle.walrus_walks.specs.Tree.{children, children_in, IsNested}
 use Rattle.walrus_walks.specs.Events.{Event, StartOf, EndOf, Visits, names, block_names}
-use Rattle.walrus_walks.specs.Steps.{entering, id_of, ahead, left, AreSteps, Told}
+use Rattle.walrus_walks.specs.Steps.{entering, ahead, left, AreSteps, Told}
 use Rattle.walrus_walks.proofs.Nested.{AllNested, nested_seq, nested_split}
 use Rattle.walrus_walks.proofs.Folds.{folds_append}
 use Rattle.walrus_walks.proofs.Turns.{left_snoc, enters, ends, resumes, steps_snoc, steps_entering}

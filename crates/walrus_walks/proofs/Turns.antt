@@ -1,5 +1,5 @@
 -- One turn of the walk, over the steps on its list.
-use Rattle.std.proofs.Common.{ℕ, zero, suc, ◌+◌, ◌<◌, ◌≤◌, ◌≡◌, List, [], ◌∷◌, ◌++◌, length, drop, get_or, Option, Some, None, refl, sym, ap, subst, arith, ◌∙◌, append_assoc, add-one, drop-cons}
+use Rattle.std.proofs.Common.{ℕ, ◌+◌, ◌≡◌, List, [], ◌∷◌, ◌++◌, drop, Option, Some, sym, ap, subst, ◌∙◌, append_assoc}
 use Rattle.std.specs.Prelude.{slice_get}
 use Rattle.std.proofs.lemmas.List.{append-nil}
 use Rattle.walrus_instr.specs.declared.instr.Instr.{Instr}
@@ -7,11 +7,11 @@ use Rattle.walrus_instr.specs.declared.seq.InstrLocId.{InstrLocId}
 use Rattle.walrus_instr.specs.declared.seq.InstrSeq.{InstrSeq}
 use Rattle.walrus_walks.specs.declared.steps.Step.{Step}
 use Rattle.walrus_walks.specs.declared.steps.Step.TheVariants.{Enter, Resume}
-use Rattle.walrus_walks.specs.Tree.{children, children_in, IsNested}
+use Rattle.walrus_walks.specs.Tree.{children, IsNested}
 use Rattle.walrus_walks.specs.Events.{Event, StartOf, EndOf, Visits, names, block_names, events_of}
 use Rattle.walrus_walks.specs.Walk.{of_items, walk}
 use Rattle.walrus_walks.specs.Steps.{entering, id_of, rest_of, ahead, left, AreSteps}
-use Rattle.walrus_walks.proofs.Nested.{AllNested, walk_at, nested_seq}
+use Rattle.walrus_walks.proofs.Nested.{AllNested, walk_at}
 
 pub left_snoc : (b : List InstrSeq) (fs : List Step) (f : Step) → left b (fs ++ f ∷ []) ≡ ahead b f ++ left b fs
 left_snoc b [] f = sym (append-nil (ahead b f))

@@ -1,5 +1,5 @@
 -- What a walk tells its visitor: one event a hook.
-use Rattle.std.specs.Prelude.{ℕ, List, [], ◌∷◌, ◌++◌, Option, Some, None, map}
+use Rattle.std.specs.Prelude.{ℕ, List, [], ◌∷◌, ◌++◌, Option, Some, None}
 use Rattle.walrus_types.specs.declared.value.HeapType.{HeapType}
 use Rattle.walrus_types.specs.declared.value.HeapType.TheVariants.{Abstract, Concrete, Exact}
 use Rattle.walrus_types.specs.declared.value.RefType.{RefType}

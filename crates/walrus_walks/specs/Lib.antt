@@ -1,3 +1,4 @@
+pub mod Checks
 pub mod Events
 pub mod Tree
 pub mod Steps

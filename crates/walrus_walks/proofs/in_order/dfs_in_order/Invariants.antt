@@ -1,4 +1,4 @@
-use Rattle.std.proofs.Common.{ℕ, length}
+use Rattle.std.proofs.Common.{length}
 use Rattle.std.specs.List.{FoldsTo}
 use Rattle.walrus_walks.specs.Walk.{walk}
 use Rattle.walrus_walks.specs.Steps.{AreSteps, left}

@@ -1,4 +1,4 @@
-use Rattle.std.proofs.Common.{◌≡◌, ◌++◌, ◌∷◌, [], List, refl, sym, subst}
+use Rattle.std.proofs.Common.{List, sym, subst}
 use Rattle.walrus_walks.specs.declared.steps.Step.{Step}
 use Rattle.walrus_walks.specs.declared.steps.Step.TheVariants.{Resume}
 use Rattle.walrus_walks.specs.Steps.{AreSteps}

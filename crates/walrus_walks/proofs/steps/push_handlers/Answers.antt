@@ -1,4 +1,4 @@
-use Rattle.std.proofs.Common.{◌≡◌, ◌++◌, ◌∷◌, [], List, ap, sym, ◌∙◌}
+use Rattle.std.proofs.Common.{◌++◌, List, ap, sym, ◌∙◌}
 use Rattle.walrus_instr.specs.declared.instr.LegacyCatch.{LegacyCatch}
 use Rattle.walrus_walks.specs.declared.steps.Step.{Step}
 use Rattle.walrus_walks.specs.Tree.{handlers}

@@ -1,4 +1,4 @@
-use Rattle.std.proofs.Common.{◌∷◌, ◌≡◌, ℕ, ◌+◌, drop, subst, sym, arith, List}
+use Rattle.std.proofs.Common.{◌+◌, drop, subst, sym, arith, List}
 use Rattle.std.specs.List.{FoldsTo}
 use Rattle.walrus_walks.specs.Events.{Event, events_of}
 use Rattle.walrus_walks.proofs.Folds.{folds_append, events_drop}

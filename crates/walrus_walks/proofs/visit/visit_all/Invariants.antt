@@ -1,4 +1,4 @@
-use Rattle.std.proofs.Common.{List, [], ◌∷◌, ◌≡◌, ℕ, length, drop}
+use Rattle.std.proofs.Common.{drop}
 use Rattle.std.specs.List.{FoldsTo}
 use Rattle.walrus_walks.specs.Events.{events_of}
 use Rattle.walrus_walks.proofs.visit.visit_all.Given as goal

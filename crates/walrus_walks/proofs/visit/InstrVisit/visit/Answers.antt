@@ -1,6 +1,5 @@
-use Rattle.std.proofs.Common.{List, [], ◌∷◌, ◌≡◌, ◌++◌, ℕ, subst, sym, ap, ◌∙◌}
+use Rattle.std.proofs.Common.{List, [], ◌∷◌, ◌++◌, ℕ, subst, sym, ap, ◌∙◌}
 use Rattle.std.specs.List.{FoldsTo}
-use Rattle.walrus_instr.specs.declared.instr.Instr.{Instr}
 use Rattle.walrus_walks.specs.Events.{names, events_of, NamesSeq, Event}
 use Rattle.walrus_walks.proofs.Folds.{folds_snoc}
 use Rattle.walrus_walks.proofs.visit.InstrVisit.visit.Goals as goal
