@@ -49,7 +49,7 @@ impl FunctionBuilder {
     /// # Errors
     ///
     /// Want of memory. It stays as it was.
-    pub fn set_name(&mut self, name: &str) -> Result<(), AllocError>
+    pub fn name(&mut self, name: &str) -> Result<(), AllocError>
         ensures named { IfOk result (λ _. IfSome self.new.name (λ text. string_bytes text ≡ name.now)) }
         ensures ty { self.new.ty ≡ self.old.ty }
         ensures seqs { seqs_of self.new ≡ seqs_of self.old }
