@@ -32,10 +32,51 @@ edited_same (s ∷ ss) (suc k) = ap (λ (ys : List Seq). s ∷ ys) (edited_same 
 pub kept_set : (xs : List InstrSeq) (j k : ℕ) (s t : InstrSeq) → j ≡ k → k < length xs → s ≡ get_or xs j s → seq_of t ≡ seq_of s → map seq_of (slice_set xs j t) ≡ map seq_of xs
 kept_set xs j k s t q l e h = edited_set (λ u. u) xs j k s t q l e h ∙ edited_same (map seq_of xs) k
 
+edited_length : (f : Seq → Seq) (ss : List Seq) (k : ℕ) → length (edited f ss k) ≡ length ss
+edited_length f [] k = refl
+edited_length f (s ∷ ss) zero = refl
+edited_length f (s ∷ ss) (suc k) = ap suc (edited_length f ss k)
+
+edited_others : (f : Seq → Seq) (ss : List Seq) (k j : ℕ) → j ≢ k → slice_get (edited f ss k) j ≡ slice_get ss j
+edited_others f [] k j n = refl
+edited_others f (s ∷ ss) zero zero n = absurd (n refl)
+edited_others f (s ∷ ss) zero (suc j) n = refl
+edited_others f (s ∷ ss) (suc k) zero n = refl
+edited_others f (s ∷ ss) (suc k) (suc j) n = edited_others f ss k j (λ e. n (ap suc e))
+
+-- an edit changes the sequence at hand alone
+extends_edited : (old : InstrSeqBuilder) (f : Seq → Seq) (new : InstrSeqBuilder) → new.id ≡ old.id → contents new ≡ edited f (contents old) old.id → Extends old new
+extends_edited old f new i e = record {
+  id = i;
+  known = omega (arith, ap length e, edited_length f (contents old) old.id);
+  kept = λ k l n. ap (λ (ss : List Seq). slice_get ss k) e ∙ edited_others f (contents old) old.id k n;
+}
+
+-- what is seen as before extends
+pub extends_same : (old new : InstrSeqBuilder) → new.id ≡ old.id → contents new ≡ contents old → Extends old new
+extends_same old new i e = record { id = i; known = omega (arith, ap length e); kept = λ k l n. ap (λ (ss : List Seq). slice_get ss k) e }
+
+pub extends_trans : (a b c : InstrSeqBuilder) → Extends a b → Extends b c → Extends a c
+extends_trans a b c x y = record {
+  id = y.id ∙ x.id;
+  known = let p = x.known in let q = y.known in omega (arith, p, q);
+  kept = λ k l n.
+      let p = x.known in
+      let other : k ≢ b.id = λ e. n (e ∙ x.id) in
+      y.kept k (omega (arith, l, p)) other ∙ x.kept k l n;
+}
+
+-- to keep all sequences is to extend
+pub keeps_extends : (a b : InstrSeqBuilder) → Keeps a b → Extends a b
+keeps_extends a b h = record { id = h.id; known = h.known; kept = λ k l n. h.kept k l }
+
+pub edits_ok : (old : InstrSeqBuilder) (f : Seq → Seq) (new : InstrSeqBuilder) → new.id ≡ old.id → contents new ≡ edited f (contents old) old.id → Edits old f (Ok tt) new
+edits_ok old f new i e = record { id = i; made = e; others = extends_edited old f new i e }
+
 -- a refused edit
 pub edits_err : (old : InstrSeqBuilder) (f : Seq → Seq) (r : Result (Unit {0}) AllocError) (new : InstrSeqBuilder) → IsErr r → new.id ≡ old.id → contents new ≡ contents old → Edits old f r new
 edits_err old f (Ok x) new h i e = let z : ⊥ = cc in absurd z
-edits_err old f (Err x) new h i e = record { id = i; made = e }
+edits_err old f (Err x) new h i e = record { id = i; made = e; others = extends_same old new i e }
 
 -- the sequence with other instructions
 pub instrs_become : (s : InstrSeq) (is js : List (Instr × InstrLocId)) → is ≡ js → with_instrs (seq_of s) is ≡ with_instrs (seq_of s) js

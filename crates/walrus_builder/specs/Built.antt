@@ -49,10 +49,17 @@ edited f [] k = []
 edited f (s ∷ ss) zero = f s ∷ ss
 edited f (s ∷ ss) (suc k) = s ∷ edited f ss k
 
+-- at most the sequence at hand was changed, and others were added
+pub record Extends (b c : InstrSeqBuilder) : Type 0 where
+  pub id : c.id ≡ b.id
+  pub known : length (contents b) ≤ length (contents c)
+  pub kept : (k : ℕ) → k < length (contents b) → k ≢ b.id → slice_get (contents c) k ≡ slice_get (contents b) k
+
 -- an `Ok` edits the sequence at hand alone, a refusal leaves all as it was; the same sequence is at hand
 pub record Edits (old : InstrSeqBuilder) (f : Seq → Seq) (r : Result (Unit {0}) AllocError) (new : InstrSeqBuilder) : Type 0 where
   pub id : new.id ≡ old.id
   pub made : MatchResult r (λ _. contents new ≡ edited f (contents old) old.id) (λ _. contents new ≡ contents old)
+  pub others : Extends old new
 
 -- the sequences at hand and before it stay as they were; others may have been added
 pub record Keeps (old new : InstrSeqBuilder) : Type 0 where
@@ -64,12 +71,6 @@ pub record Keeps (old new : InstrSeqBuilder) : Type 0 where
 pub record IsBegun (ss : List Seq) (ty : InstrSeqType) (b : InstrSeqBuilder) : Type 0 where
   pub id : b.id ≡ length ss
   pub added : contents b ≡ ss ++ empty_seq (length ss) ty ∷ []
-
--- at most the sequence at hand was changed, and others were added
-pub record Extends (b c : InstrSeqBuilder) : Type 0 where
-  pub id : c.id ≡ b.id
-  pub known : length (contents b) ≤ length (contents c)
-  pub kept : (k : ℕ) → k < length (contents b) → k ≢ b.id → slice_get (contents c) k ≡ slice_get (contents b) k
 
 -- a sequence of this type was added to these and filled by the closure, which gives those
 pub record IsFilled {F : Type 0} (g : Once F (MutBor InstrSeqBuilder × Unit {0}) (Result (Unit {0}) AllocError × (MutBor InstrSeqBuilder × Unit {0}))) (make : F) (ss : List Seq) (ty : InstrSeqType) (ts : List Seq) : Type 0 where

@@ -1,6 +1,6 @@
 //! Blocks: instructions that hold sequences, which closures fill.
 ghost use Rattle.std.specs.Prelude.{◌≡◌, ◌≤◌, length, slice_get, Some, IfOk, IfErr};
-ghost use Rattle.walrus_builder.specs.Built.{contents, pushes, inserts, Keeps, ExtendsAlways, IsMade, IsMadeOfTwo};
+ghost use Rattle.walrus_builder.specs.Built.{contents, pushes, inserts, Keeps, Extends, ExtendsAlways, IsMade, IsMadeOfTwo};
 
 use crate::seq_builder::InstrSeqBuilder;
 use std::alloc::AllocError;
@@ -12,6 +12,7 @@ impl InstrSeqBuilder {
     /// # Errors
     ///
     /// Want of memory, or what the closure answers. The sequence stays as it was; those begun may dangle.
+    #[tactic(auto, using(crate::proofs::BuiltLemmas::extends_trans, crate::proofs::BuiltLemmas::keeps_extends))]
     pub fn block<F: FnOnce(&mut InstrSeqBuilder) -> Result<(), AllocError>>(
         &mut self,
         ty: InstrSeqType,
@@ -21,6 +22,7 @@ impl InstrSeqBuilder {
         requires keeps { ExtendsAlways F.FnOnce make }
         ensures made { IfOk result (λ _. IsMade F.FnOnce make ty self.old (λ seq. pushes (Instr.Block seq)) self.new) }
         ensures id { self.new.id ≡ self.old.id }
+        ensures others { Extends self.old self.new }
         ensures refused { IfErr result (λ _. Keeps self.old self.new) }
     {
         let seq = self.fill_seq(ty, make)?;
@@ -33,6 +35,7 @@ impl InstrSeqBuilder {
     /// # Errors
     ///
     /// Want of memory, or what the closure answers. The sequence stays as it was; those begun may dangle.
+    #[tactic(auto, using(crate::proofs::BuiltLemmas::extends_trans, crate::proofs::BuiltLemmas::keeps_extends))]
     pub fn block_at<F: FnOnce(&mut InstrSeqBuilder) -> Result<(), AllocError>>(
         &mut self,
         position: usize,
@@ -44,6 +47,7 @@ impl InstrSeqBuilder {
         requires within { (s : _) → slice_get (contents self.old) self.old.id ≡ Some s → position ≤ length s.instrs }
         ensures made { IfOk result (λ _. IsMade F.FnOnce make ty self.old (λ seq. inserts position (Instr.Block seq)) self.new) }
         ensures id { self.new.id ≡ self.old.id }
+        ensures others { Extends self.old self.new }
         ensures refused { IfErr result (λ _. Keeps self.old self.new) }
     {
         let seq = self.fill_seq(ty, make)?;
@@ -56,6 +60,7 @@ impl InstrSeqBuilder {
     /// # Errors
     ///
     /// Want of memory, or what the closure answers. The sequence stays as it was; those begun may dangle.
+    #[tactic(auto, using(crate::proofs::BuiltLemmas::extends_trans, crate::proofs::BuiltLemmas::keeps_extends))]
     pub fn loop_<F: FnOnce(&mut InstrSeqBuilder) -> Result<(), AllocError>>(
         &mut self,
         ty: InstrSeqType,
@@ -65,6 +70,7 @@ impl InstrSeqBuilder {
         requires keeps { ExtendsAlways F.FnOnce make }
         ensures made { IfOk result (λ _. IsMade F.FnOnce make ty self.old (λ seq. pushes (Instr.Loop seq)) self.new) }
         ensures id { self.new.id ≡ self.old.id }
+        ensures others { Extends self.old self.new }
         ensures refused { IfErr result (λ _. Keeps self.old self.new) }
     {
         let seq = self.fill_seq(ty, make)?;
@@ -77,6 +83,7 @@ impl InstrSeqBuilder {
     /// # Errors
     ///
     /// Want of memory, or what the closure answers. The sequence stays as it was; those begun may dangle.
+    #[tactic(auto, using(crate::proofs::BuiltLemmas::extends_trans, crate::proofs::BuiltLemmas::keeps_extends))]
     pub fn loop_at<F: FnOnce(&mut InstrSeqBuilder) -> Result<(), AllocError>>(
         &mut self,
         position: usize,
@@ -88,6 +95,7 @@ impl InstrSeqBuilder {
         requires within { (s : _) → slice_get (contents self.old) self.old.id ≡ Some s → position ≤ length s.instrs }
         ensures made { IfOk result (λ _. IsMade F.FnOnce make ty self.old (λ seq. inserts position (Instr.Loop seq)) self.new) }
         ensures id { self.new.id ≡ self.old.id }
+        ensures others { Extends self.old self.new }
         ensures refused { IfErr result (λ _. Keeps self.old self.new) }
     {
         let seq = self.fill_seq(ty, make)?;
@@ -100,6 +108,7 @@ impl InstrSeqBuilder {
     /// # Errors
     ///
     /// Want of memory, or what a closure answers. The sequence stays as it was; those begun may dangle.
+    #[tactic(auto, using(crate::proofs::BuiltLemmas::extends_trans, crate::proofs::BuiltLemmas::keeps_extends))]
     pub fn if_else<
         F: FnOnce(&mut InstrSeqBuilder) -> Result<(), AllocError>,
         G: FnOnce(&mut InstrSeqBuilder) -> Result<(), AllocError> + Drop,
@@ -115,6 +124,7 @@ impl InstrSeqBuilder {
         requires keeps_too { ExtendsAlways G.FnOnce make_alternative }
         ensures made { IfOk result (λ _. IsMadeOfTwo F.FnOnce make_consequent G.FnOnce make_alternative ty self.old (λ consequent alternative. pushes (Instr.IfElse consequent alternative)) self.new) }
         ensures id { self.new.id ≡ self.old.id }
+        ensures others { Extends self.old self.new }
         ensures refused { IfErr result (λ _. Keeps self.old self.new) }
     {
         let alternative_ty = ty;
@@ -133,6 +143,7 @@ impl InstrSeqBuilder {
     /// # Errors
     ///
     /// Want of memory, or what a closure answers. The sequence stays as it was; those begun may dangle.
+    #[tactic(auto, using(crate::proofs::BuiltLemmas::extends_trans, crate::proofs::BuiltLemmas::keeps_extends))]
     pub fn if_else_at<
         F: FnOnce(&mut InstrSeqBuilder) -> Result<(), AllocError>,
         G: FnOnce(&mut InstrSeqBuilder) -> Result<(), AllocError> + Drop,
@@ -150,6 +161,7 @@ impl InstrSeqBuilder {
         requires within { (s : _) → slice_get (contents self.old) self.old.id ≡ Some s → position ≤ length s.instrs }
         ensures made { IfOk result (λ _. IsMadeOfTwo F.FnOnce make_consequent G.FnOnce make_alternative ty self.old (λ consequent alternative. inserts position (Instr.IfElse consequent alternative)) self.new) }
         ensures id { self.new.id ≡ self.old.id }
+        ensures others { Extends self.old self.new }
         ensures refused { IfErr result (λ _. Keeps self.old self.new) }
     {
         let alternative_ty = ty;

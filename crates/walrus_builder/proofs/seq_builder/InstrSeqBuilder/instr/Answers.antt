@@ -1,6 +1,6 @@
 use Rattle.std.proofs.Common.{refl}
 use Rattle.walrus_builder.specs.Built.{pushes}
-use Rattle.walrus_builder.proofs.BuiltLemmas.{edited_set, kept_set, edits_err, instrs_become, pushed_items}
+use Rattle.walrus_builder.proofs.BuiltLemmas.{edited_set, kept_set, edits_err, edits_ok, instrs_become, pushed_items}
 use Rattle.walrus_builder.proofs.seq_builder.InstrSeqBuilder.instr.Goals as goal
 
 pub returns-in_err-push : goal.returns-in_err-push
@@ -15,4 +15,4 @@ returns c =
     let s = c.index_mut-seq.result.now in
     let items = pushed_items s.instrs.items c.push.new.self.items c.args.instr c.default.result c.in_ok-push.ensures.items c.default.ensures in
     let same = instrs_become s c.push.new.self.items _ items in
-    record { id = refl; made = edited_set (pushes c.args.instr) c.args.self.now.seqs.items c.index.result c.args.self.now.id s _ c.index.ensures c.args.self.now.known c.index_mut-seq.ensures.value same }
+    edits_ok _ _ _ refl (edited_set (pushes c.args.instr) c.args.self.now.seqs.items c.index.result c.args.self.now.id s _ c.index.ensures c.args.self.now.known c.index_mut-seq.ensures.value same)

@@ -1,6 +1,6 @@
 use Rattle.std.proofs.Common.{ℕ, get_or, subst, arith, refl, ◌≡◌}
 use Rattle.walrus_builder.specs.Built.{inserts, seq_of}
-use Rattle.walrus_builder.proofs.BuiltLemmas.{edited_set, kept_set, edits_err, instrs_become, inserted_items, seq_seen}
+use Rattle.walrus_builder.proofs.BuiltLemmas.{edited_set, kept_set, edits_err, edits_ok, instrs_become, inserted_items, seq_seen}
 use Rattle.walrus_builder.proofs.seq_builder.InstrSeqBuilder.instr_at.Goals as goal
 
 pub returns-in_err-insert : goal.returns-in_err-insert
@@ -15,7 +15,7 @@ returns c =
     let s = c.index_mut-seq.result.now in
     let items = inserted_items s.instrs.items c.insert.new.self.items c.args.position c.args.instr c.default.result c.in_ok-insert.ensures.items c.default.ensures in
     let same = instrs_become s c.insert.new.self.items _ items in
-    record { id = refl; made = edited_set (inserts c.args.position c.args.instr) c.args.self.now.seqs.items c.index.result c.args.self.now.id s _ c.index.ensures c.args.self.now.known c.index_mut-seq.ensures.value same }
+    edits_ok _ _ _ refl (edited_set (inserts c.args.position c.args.instr) c.args.self.now.seqs.items c.index.result c.args.self.now.id s _ c.index.ensures c.args.self.now.known c.index_mut-seq.ensures.value same)
 
 pub insert-requires : goal.insert-requires
 insert-requires c =
