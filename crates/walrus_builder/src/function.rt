@@ -1,0 +1,112 @@
+//! Building of functions.
+ghost use Rattle.std.specs.Prelude.{◌≡◌, ◌<◌, [], ◌∷◌, ◌++◌, length, IfOk, OnErr, IfSome, None, string_bytes};
+ghost use Rattle.std.specs.Borrow.{sem};
+ghost use Rattle.walrus_builder.specs.Built.{contents, empty_seq};
+ghost use Rattle.walrus_builder.specs.Functions.{lends_builder, seqs_of, IsOf};
+
+use crate::seq_builder::InstrSeqBuilder;
+use std::alloc::{AllocError, Global};
+use walrus_arena::{InstrSeqId, TypeId};
+use walrus_instr::{InstrSeq, InstrSeqType};
+
+/// A function that is built: its type, its name, and the sequences of its body, whose own is the first.
+#[derive(Drop)]
+pub struct FunctionBuilder {
+    alloc: Global,
+    ty: TypeId,
+    /// The name that is written for it.
+    pub name: Option<String>,
+    builder: InstrSeqBuilder,
+}
+
+impl FunctionBuilder {
+    /// A function of this type, whose body is empty and has this block type, without a name.
+    ///
+    /// # Errors
+    ///
+    /// Want of memory.
+    pub fn with_types(alloc: Global, ty: TypeId, entry: InstrSeqType) -> Result<Self, AllocError>
+        ensures { IfOk result (λ f. IsOf f ty entry) }
+    {
+        let builder = InstrSeqBuilder::new(alloc, entry)?;
+        Ok(FunctionBuilder {
+            alloc,
+            ty,
+            name: None,
+            builder,
+        })
+    }
+
+    /// Its type.
+    pub fn ty(&self) -> TypeId
+        ensures { result ≡ self.now.ty }
+    {
+        self.ty
+    }
+
+    /// Gives it a name.
+    ///
+    /// # Errors
+    ///
+    /// Want of memory. It stays as it was.
+    pub fn name(&mut self, name: &str) -> Result<(), AllocError>
+        ensures named { IfOk result (λ _. IfSome self.new.name (λ text. string_bytes text ≡ name.now)) }
+        ensures ty { self.new.ty ≡ self.old.ty }
+        ensures seqs { seqs_of self.new ≡ seqs_of self.old }
+        ensures refused { OnErr result (self.new.name ≡ self.old.name) }
+    {
+        let text = String::from_str(self.alloc, name)?;
+        self.name = Some(text);
+        Ok(())
+    }
+
+    /// The id of the body's own sequence.
+    pub fn func_body_id(&self) -> InstrSeqId
+        ensures { result ≡ 0 }
+    {
+        InstrSeqId::from_index(0)
+    }
+
+    /// All sequences, by id.
+    pub fn seqs(&self) -> &[InstrSeq]
+        ensures { result.now ≡ seqs_of self.now }
+    {
+        self.builder.seqs()
+    }
+
+    /// The body's own sequence, to add to.
+    pub fn func_body(&mut self) -> &mut InstrSeqBuilder
+        ensures* writes_back { sem 𝓛 (lends_builder self.entry result) }
+        ensures at { result.now.id ≡ 0 }
+        ensures contents { contents result.now ≡ contents self.old.builder }
+    {
+        self.builder.go_to(InstrSeqId::from_index(0));
+        &mut self.builder
+    }
+
+    /// A sequence of a known id, to add to.
+    pub fn instr_seq(&mut self, id: InstrSeqId) -> &mut InstrSeqBuilder
+        requires { id < length (seqs_of self.old) }
+        ensures* writes_back { sem 𝓛 (lends_builder self.entry result) }
+        ensures at { result.now.id ≡ id }
+        ensures contents { contents result.now ≡ contents self.old.builder }
+    {
+        self.builder.go_to(id);
+        &mut self.builder
+    }
+
+    /// Adds an empty sequence that no instruction holds yet, and gives its id.
+    ///
+    /// # Errors
+    ///
+    /// Want of memory. The sequences stay as they were.
+    pub fn dangling_instr_seq(&mut self, ty: InstrSeqType) -> Result<InstrSeqId, AllocError>
+        ensures id { IfOk result (λ id. id ≡ length (seqs_of self.old)) }
+        ensures added { IfOk result (λ id. contents self.new.builder ≡ contents self.old.builder ++ empty_seq id ty ∷ []) }
+        ensures refused { OnErr result (contents self.new.builder ≡ contents self.old.builder) }
+        ensures ty { self.new.ty ≡ self.old.ty }
+        ensures name { self.new.name ≡ self.old.name }
+    {
+        self.builder.add_seq(ty)
+    }
+}

@@ -1,0 +1,14 @@
+//! Building of bodies, instruction by instruction.
+#![tactic(auto)]
+
+mod blocks;
+mod function;
+mod plain_control;
+mod plain_memory;
+mod plain_reference;
+mod seq_builder;
+mod walks;
+
+pub use function::FunctionBuilder;
+pub use seq_builder::InstrSeqBuilder;
+pub use walks::{check_nesting, dfs_in_order};

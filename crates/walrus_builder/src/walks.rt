@@ -1,0 +1,45 @@
+//! Walks over a function that is built.
+ghost use Rattle.std.specs.Prelude.{IfOk, MatchBool};
+ghost use Rattle.std.specs.List.{FoldsTo};
+ghost use Rattle.walrus_walks.specs.Tree.{IsNested};
+ghost use Rattle.walrus_walks.specs.Walk.{walk};
+ghost use Rattle.walrus_builder.specs.Functions.{seqs_of};
+
+use crate::function::FunctionBuilder;
+use std::alloc::{AllocError, Global};
+use walrus_arena::InstrSeqId;
+use walrus_walks::Visitor;
+
+/// Tells the visitor of the start sequence and of all that it holds, in the order of the text, as
+/// `walrus_walks::dfs_in_order` does. Asks for a nested start, as `check_nesting` tests.
+///
+/// # Errors
+///
+/// Want of memory. The visitor has been told a part.
+pub fn dfs_in_order<V: Visitor>(
+    alloc: Global,
+    visitor: &mut V,
+    body: &FunctionBuilder,
+    start: InstrSeqId,
+) -> Result<(), AllocError>
+    requires { IsNested (seqs_of body.now) start }
+    ensures { IfOk result (λ _. FoldsTo V.step visitor.old (walk (seqs_of body.now) start) visitor.new) }
+{
+    walrus_walks::dfs_in_order(alloc, visitor, body.seqs(), start)?;
+    Ok(())
+}
+
+/// Whether each sequence that is reached from the start is known, and none reaches itself.
+///
+/// # Errors
+///
+/// Want of memory.
+pub fn check_nesting(
+    alloc: Global,
+    body: &FunctionBuilder,
+    start: InstrSeqId,
+) -> Result<bool, AllocError>
+    ensures { IfOk result (λ nested. MatchBool nested (IsNested (seqs_of body.now) start) (IsNested (seqs_of body.now) start → ⊥)) }
+{
+    walrus_walks::check_nesting(alloc, body.seqs(), start)
+}

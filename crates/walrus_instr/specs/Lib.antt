@@ -1,0 +1,4 @@
+pub mod Constants
+pub mod Cuts
+pub mod Lends
+pub mod Widths

@@ -1,0 +1,14 @@
+//! Instructions as nodes of a tree: sequences that hold instructions, which name sequences by id.
+#![tactic(auto)]
+
+mod const_expr;
+mod instr;
+mod memory;
+mod operators;
+mod seq;
+
+pub use const_expr::{ConstExpr, ConstOp};
+pub use instr::{Instr, LegacyCatch, ShuffleIndices, TryTableCatch, Value};
+pub use memory::{AtomicOp, AtomicWidth, ExtendedLoad, LoadKind, LoadSimdKind, MemArg, StoreKind};
+pub use operators::{BinaryOp, TernaryOp, UnaryOp};
+pub use seq::{InstrLocId, InstrSeq, InstrSeqType};

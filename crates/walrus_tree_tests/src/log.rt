@@ -1,0 +1,108 @@
+//! A visitor that writes down what it is told.
+ghost use Rattle.std.specs.Prelude.{⊤};
+
+use std::alloc::Global;
+use walrus_arena::{
+    DataId, ElementId, FunctionId, GlobalId, InstrSeqId, LocalId, MemoryId, TableId, TagId, TypeId,
+};
+use walrus_instr::{Instr, InstrLocId, InstrSeq, Value};
+use walrus_walks::Visitor;
+
+#[derive(Drop)]
+pub struct Log {
+    pub text: String,
+    pub refused: bool,
+}
+
+impl Log {
+    pub fn new(alloc: Global) -> Self {
+        Log {
+            text: String::new(alloc),
+            refused: false,
+        }
+    }
+
+    fn word(&mut self, word: &str) {
+        if self.text.push_str(word).is_err() || self.text.push(' ').is_err() {
+            self.refused = true;
+        }
+    }
+}
+
+impl Visitor for Log {
+    ghost step = { λ _ _ _. ⊤ };
+
+    fn start_instr_seq(&mut self, _seq: &InstrSeq) {
+        self.word("start")
+    }
+
+    fn end_instr_seq(&mut self, _seq: &InstrSeq) {
+        self.word("end")
+    }
+
+    fn visit_instr(&mut self, instr: &Instr, _place: &InstrLocId) {
+        match instr {
+            Instr::Drop => self.word("drop"),
+            Instr::Block { .. } => self.word("block"),
+            Instr::IfElse { .. } => self.word("if-else"),
+            Instr::Try { .. } => self.word("try"),
+            _ => {}
+        }
+    }
+
+    fn visit_value(&mut self, value: &Value) {
+        match value {
+            Value::I32(1) => self.word("1"),
+            Value::I32(2) => self.word("2"),
+            Value::I32(3) => self.word("3"),
+            Value::I32(4) => self.word("4"),
+            Value::I32(5) => self.word("5"),
+            Value::I32(6) => self.word("6"),
+            Value::I32(7) => self.word("7"),
+            Value::I32(8) => self.word("8"),
+            Value::I32(9) => self.word("9"),
+            Value::I32(10) => self.word("10"),
+            _ => self.word("value"),
+        }
+    }
+
+    fn visit_instr_seq_id(&mut self, _id: &InstrSeqId) {
+        self.word("label")
+    }
+
+    fn visit_local_id(&mut self, _id: &LocalId) {
+        self.word("local")
+    }
+
+    fn visit_memory_id(&mut self, _id: &MemoryId) {
+        self.word("memory")
+    }
+
+    fn visit_table_id(&mut self, _id: &TableId) {
+        self.word("table")
+    }
+
+    fn visit_global_id(&mut self, _id: &GlobalId) {
+        self.word("global")
+    }
+
+    fn visit_function_id(&mut self, _id: &FunctionId) {
+        self.word("function")
+    }
+
+    fn visit_data_id(&mut self, _id: &DataId) {
+        self.word("data")
+    }
+
+    fn visit_type_id(&mut self, _id: &TypeId) {
+        self.word("type")
+    }
+
+    fn visit_element_id(&mut self, _id: &ElementId) {
+        self.word("element")
+    }
+
+    fn visit_tag_id(&mut self, _id: &TagId) {
+        self.word("tag")
+    }
+}

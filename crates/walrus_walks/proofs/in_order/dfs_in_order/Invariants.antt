@@ -1,0 +1,14 @@
+use Rattle.std.proofs.Common.{length}
+use Rattle.std.specs.List.{FoldsTo}
+use Rattle.walrus_walks.specs.Walk.{walk}
+use Rattle.walrus_walks.specs.Steps.{AreSteps, left}
+use Rattle.walrus_walks.proofs.in_order.dfs_in_order.Given as goal
+
+abbrev pub invariant-loop-step : goal.invariant-loop-step
+invariant-loop-step g l = record {
+  steps : AreSteps l.seqs l.stack.items;
+  told : (last : _) → FoldsTo g.V.Visitor.step l.visitor (left l.seqs l.stack.items) last → FoldsTo g.V.Visitor.step l.fn.visitor (walk l.seqs l.fn.start) last;
+}
+
+abbrev pub decreases-loop-step : goal.decreases-loop-step
+decreases-loop-step g l = length (left l.seqs l.stack.items)

@@ -1,0 +1,5 @@
+pub mod Checks
+pub mod Events
+pub mod Tree
+pub mod Steps
+pub mod Walk

@@ -1,0 +1,104 @@
+//! The walk that reads.
+ghost use Rattle.std.specs.Prelude.{◌≡◌, ◌++◌, ◌<◌, [], ◌∷◌, IfOk, Some, length, slice_get};
+ghost use Rattle.std.specs.List.{FoldsTo};
+ghost use Rattle.walrus_walks.specs.declared.steps.Step.TheVariants.{Enter, Resume};
+ghost use Rattle.walrus_walks.specs.Tree.{IsNested};
+ghost use Rattle.walrus_walks.specs.Walk.{walk};
+ghost use Rattle.walrus_walks.specs.Steps.{AreSteps, Told, ahead, left, id_of};
+
+use crate::steps::{Step, push_children};
+use crate::visit::Visit;
+use crate::visitor::Visitor;
+use std::alloc::{AllocError, Global};
+use walrus_arena::InstrSeqId;
+use walrus_instr::InstrSeq;
+
+// Begins a sequence.
+fn enter<V: Visitor>(
+    visitor: &mut V,
+    seqs: &[InstrSeq],
+    stack: &mut Vec<Step>,
+    id: InstrSeqId,
+) -> Result<(), AllocError>
+    requires nested { IsNested seqs.now id }
+    requires steps { AreSteps seqs.now stack.old.items }
+    ensures told { IfOk result (λ _. Told V.step visitor.old (ahead seqs.now (Enter id) ++ left seqs.now stack.old.items) visitor.new (left seqs.now stack.new.items)) }
+    ensures steps { IfOk result (λ _. AreSteps seqs.now stack.new.items) }
+{
+    let seq = &seqs[id.index()];
+    visitor.start_instr_seq(seq);
+    seq.visit(visitor);
+    stack.push(Step::Resume(id, 0))?;
+    Ok(())
+}
+
+// Goes on with a sequence: with its instruction at the index, or past the last with its end.
+fn resume<V: Visitor>(
+    visitor: &mut V,
+    seqs: &[InstrSeq],
+    stack: &mut Vec<Step>,
+    id: InstrSeqId,
+    index: usize,
+) -> Result<(), AllocError>
+    requires nested { IsNested seqs.now id }
+    requires steps { AreSteps seqs.now stack.old.items }
+    ensures told { IfOk result (λ _. Told V.step visitor.old (ahead seqs.now (Resume id index) ++ left seqs.now stack.old.items) visitor.new (left seqs.now stack.new.items)) }
+    ensures steps { IfOk result (λ _. AreSteps seqs.now stack.new.items) }
+{
+    let seq = &seqs[id.index()];
+    let instrs = seq.instrs.as_slice();
+    if index < instrs.len() {
+        let (instr, place) = &instrs[index];
+        visitor.visit_instr(instr, place);
+        instr.visit(visitor);
+        stack.push(Step::Resume(id, index + 1))?;
+        push_children(stack, instr)?;
+    } else {
+        visitor.end_instr_seq(seq);
+    }
+    Ok(())
+}
+
+// Takes one step.
+fn turn<V: Visitor>(
+    visitor: &mut V,
+    seqs: &[InstrSeq],
+    stack: &mut Vec<Step>,
+    step: Step,
+) -> Result<(), AllocError>
+    requires nested { IsNested seqs.now (id_of step) }
+    requires steps { AreSteps seqs.now stack.old.items }
+    ensures told { IfOk result (λ _. Told V.step visitor.old (ahead seqs.now step ++ left seqs.now stack.old.items) visitor.new (left seqs.now stack.new.items)) }
+    ensures steps { IfOk result (λ _. AreSteps seqs.now stack.new.items) }
+{
+    match step {
+        Step::Enter(id) => enter(visitor, seqs, stack, id),
+        Step::Resume(id, index) => resume(visitor, seqs, stack, id, index),
+    }
+}
+
+/// Tells the visitor of the start sequence and of all that it holds, in the order of the text: each
+/// sequence's start, what its block type names, its instructions, its end; each instruction with
+/// what it names, then what it holds. Asks for a nested start, as `check_nesting` tests.
+///
+/// Takes time and memory in proportion to the instructions, and keeps its own list of what is left.
+///
+/// # Errors
+///
+/// Want of memory. The visitor has been told a part.
+pub fn dfs_in_order<V: Visitor>(
+    alloc: Global,
+    visitor: &mut V,
+    seqs: &[InstrSeq],
+    start: InstrSeqId,
+) -> Result<(), AllocError>
+    requires { IsNested seqs.now start }
+    ensures { IfOk result (λ _. FoldsTo V.step visitor.old (walk seqs.now start) visitor.new) }
+{
+    let mut stack = Vec::new(alloc);
+    stack.push(Step::Enter(start))?;
+    while let Some(step) = stack.pop() {
+        turn(visitor, seqs, &mut stack, step)?;
+    }
+    Ok(())
+}

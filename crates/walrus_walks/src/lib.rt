@@ -1,0 +1,13 @@
+//! Walks over the sequences of a body, with hooks for what is met.
+#![tactic(auto)]
+
+mod in_order;
+mod nesting;
+mod steps;
+mod visit;
+mod visitor;
+
+pub use in_order::dfs_in_order;
+pub use nesting::check_nesting;
+pub use visit::Visit;
+pub use visitor::Visitor;
