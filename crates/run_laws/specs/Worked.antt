@@ -9,8 +9,8 @@ abbrev pub caller_first : Module
 caller_first = record {
   types = record { params = []; results = [] } ∷ [];
   functions =
-    record { type_ = 0; locals = []; body = (Call 1, 3) ∷ (End, 5) ∷ [] }
-    ∷ record { type_ = 0; locals = []; body = (I32Const (pos 7), 8) ∷ (Drop, 10) ∷ (End, 11) ∷ [] } ∷ [];
+      record { type_ = 0; locals = []; body = (Call 1, 3) ∷ (End, 5) ∷ [] }
+      ∷ record { type_ = 0; locals = []; body = (I32Const (pos 7), 8) ∷ (Drop, 10) ∷ (End, 11) ∷ [] } ∷ [];
   exports = record { name = 0x66 ∷ []; item = FunctionItem 0 } ∷ [];
   start = None;
 }
@@ -20,8 +20,8 @@ abbrev pub callee_first : Module
 callee_first = record {
   types = record { params = []; results = [] } ∷ [];
   functions =
-    record { type_ = 0; locals = []; body = (I32Const (pos 7), 3) ∷ (Drop, 5) ∷ (End, 6) ∷ [] }
-    ∷ record { type_ = 0; locals = []; body = (Call 0, 9) ∷ (End, 11) ∷ [] } ∷ [];
+      record { type_ = 0; locals = []; body = (I32Const (pos 7), 3) ∷ (Drop, 5) ∷ (End, 6) ∷ [] }
+      ∷ record { type_ = 0; locals = []; body = (Call 0, 9) ∷ (End, 11) ∷ [] } ∷ [];
   exports = record { name = 0x66 ∷ []; item = FunctionItem 1 } ∷ [];
   start = None;
 }
@@ -46,18 +46,19 @@ abbrev pub ExampleRuns : Type 0
 ExampleRuns = RunsAre caller_first 0 1 × RunsAre callee_first 1 0
 
 pub example_runs : ExampleRuns
-example_runs =
-    (record {
-      spent = ends refl;
-      waiting = shows refl (ends refl);
-      returned = shows refl (shows refl (shows refl (quiet refl (ends refl))));
-      trapped = shows refl (shows refl (ends_at refl));
-      misfit = shows refl (ends refl);
-    },
-    record {
-      spent = ends refl;
-      waiting = shows refl (ends refl);
-      returned = shows refl (shows refl (shows refl (quiet refl (ends refl))));
-      trapped = shows refl (shows refl (ends_at refl));
-      misfit = shows refl (ends refl);
-    })
+example_runs = (
+  record {
+    spent = ends refl;
+    waiting = shows refl (ends refl);
+    returned = shows refl (shows refl (shows refl (quiet refl (ends refl))));
+    trapped = shows refl (shows refl (ends_at refl));
+    misfit = shows refl (ends refl);
+  },
+  record {
+    spent = ends refl;
+    waiting = shows refl (ends refl);
+    returned = shows refl (shows refl (shows refl (quiet refl (ends refl))));
+    trapped = shows refl (shows refl (ends_at refl));
+    misfit = shows refl (ends refl);
+  },
+)
