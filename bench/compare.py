@@ -1,13 +1,17 @@
 #!/usr/bin/env python3
 """Times the program against wasm-opt and wasm-strip, and prints times, peak memory and ratios.
 
-    bench/compare.py [--seed N] [--size BYTES] [--functions N] [--rounds N]
+    bench/compare.py [--seed N] [--size BYTES] [--functions N] [--rounds N] [--calls]
 
 It makes a module of half the size and half the functions, and one of the whole. Each program reads a module
-and writes one; wasm-opt runs no passes. A time is the least of the rounds, in seconds, by the clock and of the
-processor; memory is the most that was resident. binaryen and wabt are installed where they are missing.
+and writes one; wasm-opt runs no passes. With --calls the functions call one another and half are not reached,
+and wasm-opt is also run with --remove-unused-module-elements, as "wasm-opt unused". A time is the least of the
+rounds, in seconds, by the clock and of the processor; memory is the most that was resident. What our program
+writes must be a module for wasm-opt, and without a producers section must stay as it is when it is rewritten
+again. binaryen and wabt are installed where they are missing.
 """
 import argparse
+import filecmp
 import os
 import shutil
 import subprocess
@@ -49,21 +53,34 @@ def measured(words):
     return took, usage.ru_utime + usage.ru_stime, usage.ru_maxrss * 1024
 
 
-def best(command, rounds):
+def best(command, rounds, target):
     runs = [measured(command()) for _ in range(rounds)]
     clocks, processors, memories = zip(*runs)
-    return min(clocks), min(processors), max(memories)
+    return min(clocks), min(processors), max(memories), os.path.getsize(target)
 
 
-def make(seed, size, functions, file):
+def make(seed, size, functions, with_calls, file):
     # In a process of its own: what this one has resident counts as its children's too.
     script = f"{ROOT}/bench/make_module.py"
     numbers = ["--seed", str(seed), "--size", str(size), "--functions", str(functions)]
-    subprocess.run([sys.executable, script, *numbers, file], check=True)
+    calls = ["--calls"] if with_calls else []
+    subprocess.run([sys.executable, script, *numbers, *calls, file], check=True)
 
 
-def compare(name, source, rounds):
-    """Runs the three programs on a module, prints a table, and returns our times and the module's size."""
+def check(source, target):
+    """What we write has to be a module for wasm-opt too, and has to stay as it is."""
+    subprocess.run([PROGRAM, source, target], check=True)
+    subprocess.run(["wasm-opt", "--all-features", target, "-o", os.devnull], check=True, stderr=subprocess.DEVNULL)
+    # Without the producers section, as custom sections aren't read yet.
+    again = f"{target}.again"
+    subprocess.run([PROGRAM, "--no-producers", source, target], check=True)
+    subprocess.run([PROGRAM, "--no-producers", target, again], check=True)
+    if not filecmp.cmp(target, again, shallow=False):
+        sys.exit("what was rewritten isn't the same when it is rewritten again")
+
+
+def compare(name, source, rounds, with_calls):
+    """Runs the programs on a module, prints a table, and returns our times and the module's size."""
     target = f"{source}.out"
     size = os.path.getsize(source)
 
@@ -77,15 +94,16 @@ def compare(name, source, rounds):
         "wasm-opt": lambda: ["wasm-opt", "--all-features", source, "-o", target],
         "wasm-strip": strip,
     }
-    results = {tool: best(command, rounds) for tool, command in commands.items()}
-    # What we write has to be a module for wasm-opt too.
-    subprocess.run([PROGRAM, source, target], check=True)
-    subprocess.run(["wasm-opt", "--all-features", target, "-o", os.devnull], check=True, stderr=subprocess.DEVNULL)
+    if with_calls:
+        unused = "--remove-unused-module-elements"
+        commands["wasm-opt unused"] = lambda: ["wasm-opt", "--all-features", unused, source, "-o", target]
+    results = {tool: best(command, rounds, target) for tool, command in commands.items()}
+    check(source, target)
     ours = results["wasm_rewriter"]
-    print(f"\n{name}: {size:,} bytes, written {os.path.getsize(target):,}")
-    heads = ("clock", "times ours", "processor", "times ours", "MiB", "times input")
+    print(f"\n{name}: {size:,} bytes")
+    heads = ("clock", "times ours", "processor", "times ours", "MiB", "times input", "written", "times ours")
     print(" " * 16 + "".join(f"{head:>12}" for head in heads))
-    for tool, (clock, processor, memory) in results.items():
+    for tool, (clock, processor, memory, written) in results.items():
         numbers = (
             f"{clock:.3f}",
             f"{clock / ours[0]:.2f}",
@@ -93,6 +111,8 @@ def compare(name, source, rounds):
             f"{processor / ours[1]:.2f}",
             f"{memory / 2**20:.1f}",
             f"{memory / size:.2f}",
+            f"{written:,}",
+            f"{written / ours[3]:.2f}",
         )
         print(f"{tool:16}" + "".join(f"{number:>12}" for number in numbers))
     return ours, size
@@ -104,16 +124,17 @@ def main():
     parser.add_argument("--size", type=bytes_of, default=64 * 2**20)
     parser.add_argument("--functions", type=int, default=1_000_000)
     parser.add_argument("--rounds", type=int, default=3)
+    parser.add_argument("--calls", action="store_true", help="functions call one another, and half are reached")
     words = parser.parse_args()
     install()
     # Builds the program where it is missing.
     subprocess.run([LAUNCHER, "--help"], check=True, stdout=subprocess.DEVNULL)
     with tempfile.TemporaryDirectory(prefix="wasm_rewriter-bench-") as folder:
         half, whole = f"{folder}/half.wasm", f"{folder}/whole.wasm"
-        make(words.seed, words.size // 2, words.functions // 2, half)
-        make(words.seed, words.size, words.functions, whole)
-        half_times, half_size = compare("half", half, words.rounds)
-        whole_times, whole_size = compare("whole", whole, words.rounds)
+        make(words.seed, words.size // 2, words.functions // 2, words.calls, half)
+        make(words.seed, words.size, words.functions, words.calls, whole)
+        half_times, half_size = compare("half", half, words.rounds, words.calls)
+        whole_times, whole_size = compare("whole", whole, words.rounds, words.calls)
     clock, processor = (whole_times[at] / half_times[at] for at in range(2))
     print(f"\n{whole_size / half_size:.2f} times the input: {clock:.2f} times the clock, {processor:.2f} the processor")
 
