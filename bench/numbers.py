@@ -28,9 +28,9 @@ def main():
     with tempfile.TemporaryDirectory() as folder:
         loop = f"{folder}/numbers"
         subprocess.run(["gcc", "-O2", "-o", loop, f"{ROOT}/bench/numbers.c"], check=True)
-        if not os.path.exists(f"{CRATE}/out/wasmparser_bench"):
-            print("building wasmparser_bench", file=sys.stderr)
-            subprocess.run(["rt", "run", "--", "16"], cwd=CRATE, check=True, stdout=subprocess.DEVNULL, stderr=subprocess.DEVNULL)
+        # proved and built anew where its sources are newer
+        print("building wasmparser_bench", file=sys.stderr)
+        subprocess.run(["rt", "run", "--", "16"], cwd=CRATE, check=True, stdout=subprocess.DEVNULL, stderr=subprocess.DEVNULL)
         rounds = [(measured(f"{CRATE}/out/wasmparser_bench", asked.size), measured(loop, asked.size)) for _ in range(asked.rounds)]
     if any(ours[1] != theirs[1] for ours, theirs in rounds):
         sys.exit("the two don't read the same")
