@@ -1,7 +1,8 @@
 // Laws of what rewriting is.
 ghost use Rattle.wasm_rewriter.specs.Laws.{KeptIsLeast, RewritingIsIdempotent, WrittenIsLeast};
 
-/// What was rewritten, rewritten once more by the same options, stays as it is.
+/// What was rewritten, rewritten once more by the same options where it isn't refused, stays as
+/// it is.
 pub fn rewriting_is_idempotent()
     ensures { RewritingIsIdempotent }
 {}
