@@ -13,7 +13,7 @@ use Rattle.std.specs.Option.{option_map}
 use Rattle.wasm_model.specs.Spells.{SpellsStart, SpellsModule, SpellsFunctionType, SpellsExport, header}
 use Rattle.wasm_model.specs.Grammar.{SpellsU32}
 use Rattle.wasm_model.specs.NormalForm.{normal_form}
-use Rattle.wasm_model.specs.Rules.{Rules, Fits, Reads, IsItem, Nests, NamesItems}
+use Rattle.wasm_model.specs.Rules.{Rules, IsWithinLimits, Reads, IsItem, Nests, NamesItems}
 use Rattle.wasm_model.specs.Kept.{Same, Refers, Root, Kept, root, refers}
 use Rattle.wasm_model.specs.Part.{renamed_export, renamed_item, renamed_operator}
 use Rattle.wasm_model.specs.Shortest.{u32_bytes}
@@ -213,7 +213,7 @@ parts_small h a b c s d small =
     (omega arith, omega arith, omega arith, omega arith)
 
 -- what of a module is spelled, and how
-types_fit : (m : Module) → Fits m → (t : ℕ) → t < length m.types → (length (type_at m t).params ≤ 1000) × (length (type_at m t).results ≤ 1000)
+types_fit : (m : Module) → IsWithinLimits m → (t : ℕ) → t < length m.types → (length (type_at m t).params ≤ 1000) × (length (type_at m t).results ≤ 1000)
 types_fit m fits t there = (fits.params t no_type there, fits.results t no_type there)
 
 -- of each number of a list that a fact holds of, a map's element has what follows from the fact
@@ -327,7 +327,7 @@ written_rules features bytes m n reads numbering small =
     let same_types : length (written m n).types ≡ length n.types = length-map n.types (type_at m) in
     let same_functions : length (written m n).functions ≡ length n.functions = length-placed_functions m n (length (u32_bytes (length n.functions))) n.functions in
     let same_exports : length (written m n).exports ≡ length m.exports = length-map m.exports (renamed_export (renaming n)) in
-    let fits : Fits m = reads.rules.fits in
+    let fits : IsWithinLimits m = reads.rules.fits in
     let few : length n.functions < 2 ^ 32 = let a : length m.functions ≤ 1000000 = fits.functions in let b : length n.functions ≤ length m.functions = small.functions in omega arith in
     let types = types_spelled features bytes m n reads numbering in
     let exports = exports_spelled features bytes m n reads numbering few in

@@ -1,12 +1,14 @@
 -- The entries of the code section.
 use Rattle.std.proofs.Common.{◌≡◌, ◌+◌, ◌/◌, ◌%◌, ◌≤◌, ◌<◌, ◌^◌, ℕ, zero, suc, Bool, true, false, List, [], ◌∷◌, ◌++◌, length, Option, Some, None, nat_lt, if◌then◌else◌, refl, sym, ap, ◌∙◌, arith, append_assoc, length-append, get_or, drop, map, add-one, drop-cons, subst, Contains, All}
-use Rattle.std.proofs.lemmas.List.{append-nil, drop_all, take_more, get_or-map}
+use Rattle.std.proofs.lemmas.List.{append-nil, drop_all, take_all, take_more, get_or-map}
+use Rattle.std.proofs.lemmas.List.Elements.{All-from_recursion}
 use Rattle.std.proofs.Common.{take}
-use Rattle.std.specs.List.{flat_map, slice_index}
+use Rattle.std.specs.List.{AllByRecursion, flat_map, slice_index}
 use Rattle.wasm_model.specs.Module.{Module, Function, Operator, operators}
 use Rattle.wasm_model.specs.NormalForm.{normal_form}
 use Rattle.wasm_model.specs.Shortest.{shortest_unsigned, u32_bytes}
 use Rattle.wasm_model.specs.Spelling.{operator_bytes, body_bytes, sized_bytes, code_bytes}
+use Rattle.wasm_model.specs.Rewrites.{body_length, HasLongBody}
 use Rattle.wasm_model.specs.declared.options.Options.{Options}
 use Rattle.wasm_model.specs.Features.{Known, features_of}
 use Rattle.rewriter_module.specs.declared.Function.{Function as Held}
@@ -135,6 +137,31 @@ one_more : (m : Module) (n : Numbers) (fs : List ℕ) (f : ℕ) → AreShort m n
 one_more m n [] f h k = (k, tt)
 one_more m n (g ∷ fs) f h k = (h.0, one_more m n fs f h.1 k)
 
+-- the bodies so far, and one more
+pub short_on : (m : Module) (n : Numbers) (i f : ℕ) → i < length n.functions → f ≡ get_or n.functions i f → AreShort m n (take i n.functions)
+    → length (body_bytes (written_operators m n f)) ≤ 7654321 → AreShort m n (take (i + 1) n.functions)
+short_on m n i f inside is short body =
+    subst (λ (fs : List ℕ). AreShort m n fs) (sym (take_more n.functions i f inside ∙ ap (λ (x : ℕ). take i n.functions ++ x ∷ []) (sym is))) (one_more m n (take i n.functions) f short body)
+
+-- the bodies of all entries
+all_short : (m : Module) (n : Numbers) (place : ℕ) (fs : List ℕ) → AreShort m n fs → AllByRecursion (λ f. body_length f ≤ 7654321) (placed_functions m n place fs)
+all_short m n place [] h = tt
+all_short m n place (f ∷ fs) h =
+    let behind : ℕ = place + length (u32_bytes (length (body_bytes (written_operators m n f)))) + 1 in
+    (subst (λ (os : List Operator). length (body_bytes os) ≤ 7654321) (sym (operators-placed behind (written_operators m n f))) h.0,
+    all_short m n (place + length (sized_bytes (body_bytes (written_operators m n f)))) fs h.1)
+
+pub bodies_short : (m : Module) (n : Numbers) (i : ℕ) → AreShort m n (take i n.functions) → length n.functions ≤ i → All (λ f. body_length f ≤ 7654321) (written m n).functions
+bodies_short m n i h end =
+    All-from_recursion (λ f. body_length f ≤ 7654321) (written m n).functions
+    (all_short m n (length (u32_bytes (length n.functions))) n.functions (subst (λ (fs : List ℕ). AreShort m n fs) (take_all i n.functions end) h))
+
+-- one that is too long
+pub body_long : (m : Module) (n : Numbers) (i f : ℕ) → i < length n.functions → f ≡ get_or n.functions i f → 7654321 < length (body_bytes (written_operators m n f)) → HasLongBody (written m n)
+body_long m n i f inside is h =
+    let entry = entry_of m n (length (u32_bytes (length n.functions))) n.functions i f inside (sym is) in
+    (entry.0, entry.1, subst (λ (os : List Operator). 7654321 < length (body_bytes os)) (sym entry.2) h)
+
 module _ (m : Module) (n : Numbers) (places : Bool) where
   pub begins : (text : Text) → text ≡ counted n places → IsCoding m n places text 0
   begins text e = record {
@@ -154,15 +181,13 @@ module _ (m : Module) (n : Numbers) (places : Bool) where
     codes_on next e small body = record {
       so_far = on next e;
       short = small;
-      bodies = subst (λ (fs : List ℕ). AreShort m n fs) (sym (take_more n.functions i f inside ∙ ap (λ (x : ℕ). take i n.functions ++ x ∷ []) (sym is))) (one_more m n (take i n.functions) f coding.bodies body);
+      bodies = short_on m n i f inside is coding.bodies body;
     }
 
     pub causes : (e : Failure) → IsCauseOfEntry e (length (body_bytes (written_operators m n f))) (length (with_entry (renaming n) text (normal_form (function_at m f).body)).bytes)
         → IsCause e (written m n).functions (codes_text m n places).bytes
     causes failures.Memory h = tt
-    causes (failures.Limit limits.Body) h =
-        let entry = entry_of m n (length (u32_bytes (length n.functions))) n.functions i f inside (sym is) in
-        (entry.0, entry.1, subst (λ (os : List Operator). 7654321 < length (body_bytes os)) (sym entry.2) h)
+    causes (failures.Limit limits.Body) h = body_long m n i f inside is h
     causes (failures.Limit limits.File) h =
         let next : Text = with_entry (renaming n) text (normal_form (function_at m f).body) in
         let whole = on next refl in
@@ -221,6 +246,11 @@ pub body_seen : (o : Options) (new_function : List ℕ) (m : HeldModule) (f : �
     → body_in o new_function x ≡ (function_at (meaning (features_of o) m) f).body
 body_seen o new_function m f x e h is =
     ap (λ (k : Known). (code_in k x).body) (known_seen o new_function m e) ∙ sym (body_at_number (known_of (features_of o) m) m.functions.items f x h is)
+
+-- what is measured for a function is the length that is written
+pub measured : (o : Options) (new_function : List ℕ) (m : HeldModule) (n : Numbers) (f : ℕ) (x : Held) → new_function ≡ n.new_function → length n.new_function ≡ length m.functions.items
+    → f < length m.functions.items → x ≡ get_or m.functions.items f x → written_length new_function (body_in o new_function x) ≡ length (body_bytes (written_operators (meaning (features_of o) m) n f))
+measured o new_function m n f x e sized h is = length_seen new_function n _ _ e (body_seen o new_function m f x (ap length e ∙ sized) h is)
 
 pub cause_seen : (e : Failure) (a b c d : ℕ) → a ≡ b → c ≡ d → IsCauseOfEntry e a c → IsCauseOfEntry e b d
 cause_seen e a b c d p q h = subst (λ (k : ℕ). IsCauseOfEntry e k d) p (subst (λ (k : ℕ). IsCauseOfEntry e a k) q h)

@@ -1,10 +1,11 @@
 //! The entries of the code section.
 
-ghost use Rattle.std.specs.Prelude.{◌≡◌, ◌+◌, ◌<◌, ◌≤◌, ◌^◌, length, [], OnOk, IfOk, IfErr};
+ghost use Rattle.std.specs.Prelude.{◌≡◌, ◌+◌, ◌<◌, ◌≤◌, ◌^◌, length, [], All, MatchBool, OnOk, IfOk, IfErr};
 ghost use Rattle.std.specs.Option.{option_map};
 ghost use Rattle.wasm_model.specs.NormalForm.{normal_form};
 ghost use Rattle.wasm_model.specs.Features.{features_of};
 ghost use Rattle.wasm_model.specs.Bodies.{code_at};
+ghost use Rattle.wasm_model.specs.Rewrites.{body_length, HasLongBody};
 ghost use Rattle.rewriter_module.specs.Meaning.{code_in, known_of, meaning, IsSound};
 ghost use Rattle.rewriter_module.specs.Written.{numbers_of, written};
 ghost use Rattle.rewriter_bodies.specs.Renamed.{renaming_to};
@@ -52,6 +53,33 @@ fn write_entry(
         return Err(Failure::Limit { of: Limited::File });
     }
     Ok(())
+}
+
+// How many bytes a function's body is written with.
+fn body_len(options: &Options, new_function: &[u32], function: &Function) -> u64
+    requires reads { code_at (known_with options.now (length new_function.now)) function.now.place function.now.body.now
+        ≡ Ok (code_in (known_with options.now (length new_function.now)) function.now) }
+    requires place { function.now.place + length function.now.body.now < 2 ^ 32 }
+    ensures { result ≡ written_length new_function.now (body_in options.now new_function.now function.now) }
+{
+    measure_body(options, new_function, function.body)
+}
+
+/// Whether a body that a numbering keeps would be written with more bytes than its limit.
+pub fn has_long_body(options: &Options, source: &Module, numbering: &Numbering) -> bool
+    requires sound { IsSound (known_of (features_of options.now) source.now) source.now.functions.items }
+    requires fits { IsWritable source.now numbering.now }
+    ensures { MatchBool result
+        (HasLongBody (written (meaning (features_of options.now) source.now) (numbers_of numbering.now)))
+        (All (λ f. body_length f ≤ 7654321) (written (meaning (features_of options.now) source.now) (numbers_of numbering.now)).functions) }
+{
+    for &f in &numbering.functions {
+        let function = &source.functions[f as usize];
+        if body_len(options, &numbering.new_function, function) > MAX_FUNCTION_SIZE {
+            return true;
+        }
+    }
+    false
 }
 
 /// The pairs of places, of which there are none yet, where they are asked for.

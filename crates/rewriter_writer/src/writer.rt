@@ -11,6 +11,7 @@ ghost use Rattle.rewriter_writer.specs.Codes.{asked_pairs};
 ghost use Rattle.rewriter_writer.specs.Premises.{IsWritable};
 ghost use Rattle.rewriter_writer.specs.Causes.{IsCause, IsUnwritten, AreShort};
 
+use crate::code::has_long_body;
 use crate::failure::Failure;
 use crate::limits::MAX_FILE_SIZE;
 use crate::section::{
@@ -90,7 +91,8 @@ fn write_parts(
 ///
 /// # Errors
 ///
-/// [`Fault::OutputLimit`] where a body or the file would pass its limit, and [`Fault::Memory`].
+/// [`Fault::OutputLimit`] where a body would pass its limit, or where none does and the file would, and
+/// [`Fault::Memory`].
 pub fn write_module(
     alloc: Global,
     options: &Options,
@@ -110,6 +112,10 @@ pub fn write_module(
     match write_parts(alloc, options, source, numbering) {
         Ok(written) => Ok(written),
         Err(Failure::Memory) => Err(Fault::Memory),
+        // a body may stand behind the place where the file passed its limit
+        Err(Failure::Limit { of: Limited::File }) if has_long_body(options, source, numbering) => {
+            Err(Fault::OutputLimit { of: Limited::Body })
+        }
         Err(Failure::Limit { of }) => Err(Fault::OutputLimit { of }),
     }
 }

@@ -24,7 +24,8 @@ abbrev pub is_end : Operator → Bool
 is_end End = true
 is_end _ = false
 
--- one operator: its form is tested as soon as its code was read, behind a prefix its number
+-- one operator: its form is tested as soon as its code was read, behind a prefix its number. The number of a called function is
+-- tested once it was read whole; its fault stands at the operator's first byte
 unfoldable pub operator_at : Known → List ℕ → Parsing Operator
 operator_at known [] = Err (stop (Read (kinds.EndOfFile 1)) 0)
 operator_at known (code ∷ bytes) =

@@ -82,13 +82,15 @@ takes v stack bound (Go ∷ outcomes) = Shows v (state stack bound outcomes)
 takes v stack bound (Trap ∷ outcomes) = EndsAt v Trapped
 takes v stack bound (_ ∷ outcomes) = Ends Misfit
 
--- a direct call enters a function of the module, which spends one of the bound
+-- a direct call enters a function of the module, which spends one of the bound. A module that reads calls none that isn't there, so
+-- the first case never occurs in it
 abbrev pub enters : Event → ℕ → Option Function → List Activation → ℕ → List Outcome → Move
 enters v g None stack bound outcomes = Ends Misfit
 enters v g (Some function) stack zero outcomes = Ends Spent
 enters v g (Some function) stack (suc bound) outcomes = Shows v (state (activation g (operators function.body) ∷ stack) bound outcomes)
 
--- one operator of function f, with those ahead of it, above the activations of its callers
+-- one operator of function f, with those ahead of it, above the activations of its callers. A body of a module that reads ends with
+-- its `end`, so the first case never occurs in it
 abbrev pub acts : Module → ℕ → List Operator → List Activation → ℕ → List Outcome → Move
 acts m f [] stack bound outcomes = leaves stack bound outcomes
 acts m f (End ∷ ahead) stack bound outcomes = leaves stack bound outcomes
@@ -109,7 +111,7 @@ pub data Traces (m : Module) : State → List Event → Ending → Type 0 where
   quiet : {s t : State} {vs : List Event} {e : Ending} → step m s.stack s.bound s.outcomes ≡ Quiet t → Traces m t vs e → Traces m s vs e
   shows : {s t : State} {v : Event} {vs : List Event} {e : Ending} → step m s.stack s.bound s.outcomes ≡ Shows v t → Traces m t vs e → Traces m s (v ∷ vs) e
 
--- the operators of a function
+-- the operators of a function, or none where there is no such function, which is no root of a module that reads
 abbrev pub body_of : Option Function → List Operator
 body_of None = []
 body_of (Some function) = operators function.body

@@ -1,5 +1,5 @@
 -- What rewriting is: the headline of the product, over the definitions beside this one.
-use Rattle.std.specs.Prelude.{ℕ, ◌+◌, ◌<◌, ◌≤◌, ◌^◌, ◌≡◌, nat_eq, List, [], ◌∷◌, ◌++◌, length, Contains, true, false, IsTrue, Option, MatchOption, if◌then◌else◌}
+use Rattle.std.specs.Prelude.{ℕ, ◌+◌, ◌<◌, ◌≤◌, ◌^◌, ◌≡◌, nat_eq, List, [], ◌∷◌, ◌++◌, length, All, Contains, true, false, IsTrue, Option, MatchOption, if◌then◌else◌}
 use Rattle.std.specs.List.{starts_with}
 use Rattle.wasm_model.specs.declared.options.Options.{Options}
 use Rattle.wasm_model.specs.declared.fault.Fault.{Fault}
@@ -27,10 +27,18 @@ producers_bytes =
 abbrev pub added_bytes : Options → List ℕ
 added_bytes o = if o.producers then producers_bytes else []
 
--- n's spelling, and what is added, pass the limit
+-- how many bytes a body is written with
+abbrev pub body_length : Function → ℕ
+body_length f = length (body_bytes (operators f.body))
+
+-- a body passes its limit
+abbrev pub HasLongBody : Module → Type 0
+HasLongBody n = (f : Function) × Contains n.functions f × (7654321 < body_length f)
+
+-- n's spelling, and what is added, pass this limit first: that of a body before that of the file
 abbrev pub Passes : Options → Module → Limited → Type 0
-Passes o n limits.Body = (f : Function) × Contains n.functions f × (7654321 < length (body_bytes (operators f.body)))
-Passes o n limits.File = 2 ^ 30 < length (module_bytes n) + length (added_bytes o)
+Passes o n limits.Body = HasLongBody n
+Passes o n limits.File = All (λ f. body_length f ≤ 7654321) n.functions × (2 ^ 30 < length (module_bytes n) + length (added_bytes o))
 Passes o n _ = ⊥
 
 -- the bytes and the places are the input rewritten
@@ -52,7 +60,7 @@ pub record Rewritten (o : Options) (input bytes : List ℕ) (places : Option (Li
   -- the places are there where they are asked for, and are those of m and n
   pub asked : MatchOption places (o.places ≡ false) (λ ps. (o.places ≡ true) × ArePlaces m n r ps)
 
--- an input that reads, and whose part's spelling would pass a limit
+-- an input that reads, and whose part's spelling would pass a limit, and no other one before it
 pub record IsTooLarge (o : Options) (input : List ℕ) (limit : Limited) : Type 0 where
   pub m : Module
   pub n : Module

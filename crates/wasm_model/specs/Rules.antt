@@ -22,7 +22,7 @@ NamesItems m (Call f) = IsItem m (FunctionItem f)
 NamesItems m _ = Unit {0}
 
 -- the limits on a module (that on a body's size is part of its spelling)
-pub record Fits (m : Module) : Type 0 where
+pub record IsWithinLimits (m : Module) : Type 0 where
   pub types : length m.types ≤ 1000000
   pub functions : length m.functions ≤ 1000000
   pub exports : length m.exports ≤ 1000000
@@ -42,7 +42,7 @@ pub record Rules (features : Features) (m : Module) : Type 0 where
   pub nested : All (λ f. Nests f.body) m.functions
   -- each item that a body names is there
   pub named : All (λ f. All (λ o. NamesItems m o.0) f.body) m.functions
-  pub fits : Fits m
+  pub fits : IsWithinLimits m
 
 -- the bytes read as the module
 pub record Reads (features : Features) (bytes : List ℕ) (m : Module) : Type 0 where

@@ -97,7 +97,8 @@ export_entry functions earlier bytes = do
       else (if nat_lt index.0 functions then Ok (record { name = name.0; item = FunctionItem index.0 }, index.1)
       else Err (stop (Index spaces.Function) (length kind.1))))
 
--- the start section: the number of one of so many functions
+-- the start section: the number of one of so many functions. It is tested once it was read whole, before bytes that are left over in
+-- the section; its fault stands at its own first byte
 unfoldable pub start_at : ℕ → List ℕ → Parsing ℕ
 start_at functions bytes = do
   index ← value_at (unsigned_at 32 bytes)

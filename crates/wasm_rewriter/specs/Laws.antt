@@ -8,7 +8,7 @@ use Rattle.wasm_model.specs.Rules.{IsItem, Reads}
 use Rattle.wasm_model.specs.Part.{Renaming, Stands}
 use Rattle.wasm_model.specs.Rewrites.{Rewritten}
 
--- what was rewritten, rewritten once more by the same options, stays as it is
+-- what was rewritten, rewritten once more by the same options where it isn't refused, stays as it is
 abbrev pub RewritingIsIdempotent : Type 0
 RewritingIsIdempotent = (o : Options) (input out again : List ℕ) (places others : Option (List (ℕ × ℕ))) → Rewritten o input out places → Rewritten o out again others → again ≡ out
 

@@ -25,8 +25,9 @@ pub struct Rewritten {
 ///
 /// # Errors
 ///
-/// The fault that stands first, `OutputLimit` where the output would pass a limit, or `Memory` where a
-/// growth was refused, once the length and the header were found right.
+/// The fault that stands first, `OutputLimit` where the output would pass a limit, that of a body before
+/// that of the file, or `Memory` where a growth was refused, once the length and the header were found
+/// right.
 pub fn rewrite(alloc: Global, bytes: &[u8], options: &Options) -> Result<Rewritten, Fault>
     ensures rewritten { IfOk result (λ out. IsRewritten options.now bytes.now out.bytes.items (option_map vec_items out.places)) }
     ensures refused { IfErr result (λ fault. IsRefused options.now bytes.now fault) }

@@ -8,6 +8,8 @@ mod examples;
 #[cfg(test)]
 mod faults;
 #[cfg(test)]
+mod limits;
+#[cfg(test)]
 mod pieces;
 #[cfg(test)]
 mod prefixes;
