@@ -45,7 +45,9 @@ fn command<'a>(alloc: Global) -> Result<Command<'a>, Error> {
         );
     let command = Command::new(alloc, "wasm_rewriter")
         .bin_name("wasm_rewriter")?
-        .about("Keeps of a WebAssembly module what its exports and its start function need, in the shortest spelling")
+        .about(
+            "Keeps of a WebAssembly module what its exports and its start function need, in the shortest spelling",
+        )
         .arg(places)?
         .arg(flag(alloc, "no-names", "Write no `name` section"))?
         .arg(flag(alloc, "no-producers", "Write no `producers` section"))?

@@ -1,4 +1,5 @@
 // Statuses, and what becomes of the files.
+use super::job::job_of;
 use super::status;
 use std::test::Fail;
 use std::{env, fs, process};
@@ -108,4 +109,40 @@ fn wrong_words_are_refused(rt: HostRuntime) {
     );
     assert_eq!(rt; status(&rt, &["wasm_rewriter", "--places"]), 2);
     assert_eq!(rt; status(&rt, &["wasm_rewriter", "--help"]), 0);
+}
+
+// What is said of words that are wrong, or that ask for help.
+fn said(rt: &HostRuntime, words: &[&str]) -> Result<String, Fail> {
+    match job_of(rt.alloc(), words) {
+        Ok(_) => Ok(String::new(rt.alloc())),
+        Err(error) => Ok(error.to_string(rt.alloc())?),
+    }
+}
+
+#[test]
+fn wrong_words_are_told(rt: HostRuntime) -> Result<(), Fail> {
+    assert_eq!(rt;
+        said(&rt, &["wasm_rewriter", "input"])?.as_str(),
+        "error: the following required arguments were not provided:\n  <OUTPUT>\n\nUsage: wasm_rewriter <INPUT> <OUTPUT>\n\nFor more information, try '--help'.\n"
+    );
+    assert_eq!(rt;
+        said(&rt, &["wasm_rewriter", "input", "output", "other"])?.as_str(),
+        "error: unexpected argument 'other' found\n\nUsage: wasm_rewriter [OPTIONS] <INPUT> <OUTPUT>\n\nFor more information, try '--help'.\n"
+    );
+    assert_eq!(rt;
+        said(&rt, &["wasm_rewriter", "--places"])?.as_str(),
+        "error: a value is required for '--places <FILE>' but none was supplied\n\nFor more information, try '--help'.\n"
+    );
+    Ok(())
+}
+
+#[test]
+fn help_says_what_is_kept(rt: HostRuntime) -> Result<(), Fail> {
+    let help = said(&rt, &["wasm_rewriter", "--help"])?;
+    assert!(rt;
+        help.starts_with(
+            "Keeps of a WebAssembly module what its exports and its start function need, in the shortest spelling\n\nUsage: wasm_rewriter [OPTIONS] <INPUT> <OUTPUT>\n"
+        )
+    );
+    Ok(())
 }
