@@ -4,32 +4,53 @@
 //! It ends with the status 0 where it is done, else with 1.
 #![tactic(auto)]
 
+use std::convert::AsStr;
 use std::process::ExitCode;
 use std::rt::Env;
 use std::{env, io};
 use wasm_rewriter::{Fault, Options, StdSink, StdSource, run};
 
+const USAGE: &str =
+    "usage: wasm_rewriter_filter [--places] [--no-names] [--no-producers] [--stable] [--no-legacy]";
+
 fn main(rt: HostRuntime) -> ExitCode {
-    let Some(options) = options(&rt) else {
-        let _ = eprintln!(rt;
-            "usage: wasm_rewriter_filter [--places] [--no-names] [--no-producers] [--stable] [--no-legacy]"
-        );
-        return ExitCode::FAILURE;
+    let is_done = match words(&rt) {
+        Ok(words) => filter(&rt, &words),
+        Err(error) => {
+            let _ = rt.eprintln(error);
+            false
+        }
     };
-    match rewrite_input(&rt, &options) {
-        Ok(()) => ExitCode::SUCCESS,
+    if is_done {
+        ExitCode::SUCCESS
+    } else {
+        ExitCode::FAILURE
+    }
+}
+
+fn words<R: Env + AllocGlobal>(rt: &R) -> io::Result<Vec<String>> {
+    let words = env::args(rt)?.collect(rt.alloc())?;
+    Ok(words)
+}
+
+// Does what the words ask for, the program's name first: whether it could be done.
+fn filter<R: Input + Print + Eprint + AllocGlobal, S: AsStr>(rt: &R, words: &[S]) -> bool {
+    let Some(options) = options_of(words) else {
+        let _ = rt.eprintln(USAGE);
+        return false;
+    };
+    match rewrite_input(rt, &options) {
+        Ok(()) => true,
         Err(fault) => {
-            report(&rt, fault);
-            ExitCode::FAILURE
+            report(rt, fault);
+            false
         }
     }
 }
 
-// The options that the program's words choose, where each is known.
-fn options<R: Env + AllocGlobal>(rt: &R) -> Option<Options> {
-    let words: Vec<String> = env::args(rt).ok()?.collect(rt.alloc()).ok()?;
+// The options that the words choose, where each word is known.
+fn options_of<S: AsStr>(words: &[S]) -> Option<Options> {
     let mut options = Options::new();
-    // the first is the program's name
     for word in words.iter().skip(1) {
         match word.as_str() {
             "--places" => options.places = true,
@@ -65,3 +86,6 @@ fn report<R: Eprint>(rt: &R, fault: Fault) {
         None => eprintln!(rt; "error: {fault}"),
     };
 }
+
+#[cfg(test)]
+mod tests;
