@@ -147,9 +147,10 @@ short_on m n i f inside is short body =
 all_short : (m : Module) (n : Numbers) (place : ℕ) (fs : List ℕ) → AreShort m n fs → AllByRecursion (λ f. body_length f ≤ 7654321) (placed_functions m n place fs)
 all_short m n place [] h = tt
 all_short m n place (f ∷ fs) h =
-    let behind : ℕ = place + length (u32_bytes (length (body_bytes (written_operators m n f)))) + 1 in
-    (subst (λ (os : List Operator). length (body_bytes os) ≤ 7654321) (sym (operators-placed behind (written_operators m n f))) h.0,
-    all_short m n (place + length (sized_bytes (body_bytes (written_operators m n f)))) fs h.1)
+    let behind : ℕ = place + length (u32_bytes (length (body_bytes (written_operators m n f)))) + 1 in (
+      subst (λ (os : List Operator). length (body_bytes os) ≤ 7654321) (sym (operators-placed behind (written_operators m n f))) h.0,
+      all_short m n (place + length (sized_bytes (body_bytes (written_operators m n f)))) fs h.1,
+    )
 
 pub bodies_short : (m : Module) (n : Numbers) (i : ℕ) → AreShort m n (take i n.functions) → length n.functions ≤ i → All (λ f. body_length f ≤ 7654321) (written m n).functions
 bodies_short m n i h end =
