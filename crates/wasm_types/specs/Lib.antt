@@ -1,0 +1,6 @@
+pub mod Fields
+pub mod Forms
+pub mod Entities
+pub mod Groups
+pub mod Members
+pub mod MembersLeft
