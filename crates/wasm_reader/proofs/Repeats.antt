@@ -1,11 +1,11 @@
 -- The loop over a vec's items.
-use Rattle.std.proofs.Common.{ℕ, ◌≡◌, ◌+◌, ◌-◌, ◌<◌, ◌≤◌, Bool, List, [], ◌∷◌, ◌++◌, map, Ok, Err, refl, sym, ◌∙◌, ap, arith, suc, inl, inr}
+use Rattle.std.proofs.Common.{ℕ, ◌≡◌, ◌+◌, ◌-◌, ◌<◌, ◌≤◌, List, [], ◌∷◌, ◌++◌, map, Ok, Err, refl, sym, ◌∙◌, ap, arith, suc, inr}
 use Rattle.std.proofs.lemmas.List.{map_push, append-nil, append_assoc}
 use Rattle.wasm_reader.specs.declared.error.Error.{Error}
 use Rattle.wasm_reader.specs.Cursor.{Cursor, rest, end_of, Forward}
-use Rattle.wasm_reader.specs.Reading.{Reading, Fault, ◌>>=◌}
-use Rattle.wasm_reader.specs.Items.{FailsAs, WantsMemory, ReadsUnlessMemory, ReadsBy, items_at}
-use Rattle.wasm_reader.specs.Unless.{fails_then, fails_as, by_either}
+use Rattle.wasm_reader.specs.Reading.{Reading, ◌>>=◌}
+use Rattle.wasm_reader.specs.Items.{FailsAs, WantsMemory, ReadsUnlessMemory, items_at}
+use Rattle.wasm_reader.specs.Unless.{fails_then, fails_as}
 
 -- these items before those that are read
 abbrev pub behind : {A : Type 0} → List A → Reading (List A) → Reading (List A)

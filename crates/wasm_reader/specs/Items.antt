@@ -1,5 +1,6 @@
 -- Readings by calls that take memory, and readings of many items (Core Specification, binary format, conventions: vectors).
-use Rattle.std.specs.Prelude.{ℕ, zero, suc, ◌+◌, ◌-◌, ◌≤◌, ◌≡◌, ◌⊎◌, Bool, true, false, List, [], ◌∷◌, Result, Ok, Err, IfErr}
+use Rattle.std.specs.Prelude.{ℕ, zero, suc, ◌+◌, ◌-◌, ◌≤◌, ◌≡◌, ◌⊎◌, Bool, true, false, List, [], ◌∷◌, map, Result, Ok, Err, IfErr}
+use Rattle.std.specs.Global.{Vec}
 use Rattle.wasm_reader.specs.declared.error.Error.{Error}
 use Rattle.wasm_reader.specs.declared.error.ErrorKind.TheVariants as kinds
 use Rattle.wasm_reader.specs.Cursor.{Cursor, rest, end_of, Forward}
@@ -44,3 +45,7 @@ unfoldable pub vec_at : {A : Type 0} → ℕ → (List ℕ → Reading A) → Li
 vec_at limit item bytes = do
   count ← size_at limit bytes
   items_at item count.0 count.1
+
+-- the items of a vec
+abbrev pub seen_items : {X Y : Type 0} → (X → Y) → Vec X → List Y
+seen_items seen items = map seen items.items

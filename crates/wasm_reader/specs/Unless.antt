@@ -5,7 +5,7 @@ use Rattle.wasm_reader.specs.declared.error.Error.{Error}
 use Rattle.wasm_reader.specs.Cursor.{Window, Cursor, end_of}
 use Rattle.wasm_features.specs.declared.WasmFeatures.{WasmFeatures}
 use Rattle.wasm_reader.specs.Reading.{Reading, fault, ◌>>=◌, Reads}
-use Rattle.wasm_reader.specs.Items.{WantsMemory, FailsAs, ReadsUnlessMemory, ReadsBy}
+use Rattle.wasm_reader.specs.Items.{FailsAs, ReadsUnlessMemory, ReadsBy}
 
 -- a fault of the reading
 pub fails_with : {Y : Type 0} (now : Cursor) (e : Error) (read : Reading Y) → read ≡ Err (fault e.kind (end_of now - e.offset)) → FailsAs now e read
@@ -31,9 +31,9 @@ module _ {X Y : Type 0} (reading : List ℕ → Reading Y) (view : X → Y) (old
   by_either true result h = h
   by_either false result h = unless_memory result h
 
--- the features that are on stay
-pub by_features : {X Y : Type 0} (takes : Bool) (reading : WasmFeatures → List ℕ → Reading Y) (view : X → Y) (start old new : Cursor) (result : Result X Error) → old.window ≡ start.window
-    → ReadsBy takes (reading old.window.features) view old new result → ReadsUnlessMemory (reading start.window.features) view old new result
-by_features takes reading view start old new result same h =
-    by_either (reading start.window.features) view old new takes result
-    (subst (λ (w : Window). ReadsBy takes (reading w.features) view old new result) same h)
+-- the window stays
+pub in_window : {X Y : Type 0} (takes : Bool) (reading : WasmFeatures → List ℕ → Reading Y) (seen : X → Y) (start old new : Cursor) (result : Result X Error) → old.window ≡ start.window
+    → ReadsBy takes (reading old.window.features) seen old new result → ReadsUnlessMemory (reading start.window.features) seen old new result
+in_window takes reading seen start old new result same h =
+    by_either (reading start.window.features) seen old new takes result
+    (subst (λ (w : Window). ReadsBy takes (reading w.features) seen old new result) same h)

@@ -1,12 +1,12 @@
 //! Values that are read by their type.
 
-ghost use Rattle.std.specs.Prelude.{ℕ, List, Bool, map};
+ghost use Rattle.std.specs.Prelude.{ℕ, List, Bool};
 ghost use Rattle.wasm_features.specs.declared.WasmFeatures.{WasmFeatures};
 ghost use Rattle.wasm_reader.specs.Reading.{Reading};
-ghost use Rattle.wasm_reader.specs.Items.{ReadsBy, ReadsUnlessMemory, items_at, vec_at};
+ghost use Rattle.wasm_reader.specs.Items.{ReadsBy, ReadsUnlessMemory, items_at, vec_at, seen_items};
 ghost use Rattle.wasm_reader.specs.Laws.{IsFinal};
 
-use crate::error::{Error, ErrorKind, Result};
+use crate::error::Result;
 use crate::reader::BinaryReader;
 use std::alloc::Global;
 use wasm_features::WasmFeatures;
@@ -33,41 +33,33 @@ pub trait FromReader<'a>: Sized + Drop {
 }
 
 impl<'a> BinaryReader<'a> {
-    /// A value, read by its type.
+    /// A value, read by its type. Refused as [`FromReader::from_reader`] is.
     pub fn read<T: FromReader<'a>>(&mut self, alloc: Global) -> Result<T>
         ensures { ReadsBy T.takes_memory (T.reading self.old.window.features) T.seen self.old self.new result }
     {
         T::from_reader(alloc, self)
     }
-}
 
-/// A count of at most `limit`, and that many values (Core Specification, binary format, conventions: vectors).
-/// Nothing is reserved by the count. A greater count is `Limit` at its first byte.
-#[tactic(auto, unfolding(crate::specs::Items::vec_at))]
-pub fn read_vec<'a, T: FromReader<'a>>(
-    alloc: Global,
-    reader: &mut BinaryReader<'a>,
-    limit: usize,
-) -> Result<Vec<T>>
-    ensures { ReadsUnlessMemory (vec_at limit (T.reading reader.old.window.features)) (λ v. map T.seen v.items) reader.old reader.new result }
-{
-    let count = reader.read_size(limit)?;
-    read_items(alloc, reader, count)
-}
-
-fn read_items<'a, T: FromReader<'a>>(
-    alloc: Global,
-    reader: &mut BinaryReader<'a>,
-    count: usize,
-) -> Result<Vec<T>>
-    ensures { ReadsUnlessMemory (items_at (T.reading reader.old.window.features) count) (λ v. map T.seen v.items) reader.old reader.new result }
-{
-    let mut items = Vec::new(alloc);
-    for _ in 0..count {
-        let item = T::from_reader(alloc, reader)?;
-        if items.push(item).is_err() {
-            return Err(reader.out_of_memory());
-        }
+    /// A count of at most `limit`, and that many values (Core Specification, binary format, conventions: vectors).
+    /// Nothing is reserved by the count. A greater count is `Limit` at its first byte.
+    #[tactic(auto, unfolding(crate::specs::Items::vec_at))]
+    pub fn read_vec<T: FromReader<'a>>(&mut self, alloc: Global, limit: usize) -> Result<Vec<T>>
+        ensures { ReadsUnlessMemory (vec_at limit (T.reading self.old.window.features)) (seen_items T.seen) self.old self.new result }
+    {
+        let count = self.read_size(limit)?;
+        self.read_items(alloc, count)
     }
-    Ok(items)
+
+    fn read_items<T: FromReader<'a>>(&mut self, alloc: Global, count: usize) -> Result<Vec<T>>
+        ensures { ReadsUnlessMemory (items_at (T.reading self.old.window.features) count) (seen_items T.seen) self.old self.new result }
+    {
+        let mut items = Vec::new(alloc);
+        for _ in 0..count {
+            let item = T::from_reader(alloc, self)?;
+            if items.push(item).is_err() {
+                return Err(self.out_of_memory());
+            }
+        }
+        Ok(items)
+    }
 }

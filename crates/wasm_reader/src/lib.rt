@@ -12,7 +12,7 @@ mod text;
 
 pub use error::{Error, ErrorKind, Result};
 pub use floats::{Ieee32, Ieee64};
-pub use from_reader::{FromReader, read_vec};
+pub use from_reader::FromReader;
 pub use reader::BinaryReader;
 pub use wasm_features::{WasmFeatures, WasmFeaturesInflated};
 
