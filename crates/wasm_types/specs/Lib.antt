@@ -4,3 +4,5 @@ pub mod Entities
 pub mod Groups
 pub mod Members
 pub mod MembersLeft
+pub mod Readings
+pub mod Finals
