@@ -1,0 +1,12 @@
+//! Heap types, reference types and value types of WebAssembly (Core Specification, types), read from the binary format.
+#![tactic(auto)]
+
+mod heap;
+mod index;
+mod reference;
+mod value;
+
+pub use heap::{AbstractHeapType, HeapType};
+pub use index::{CoreTypeId, PackedIndex, UnpackedIndex};
+pub use reference::RefType;
+pub use value::ValType;
