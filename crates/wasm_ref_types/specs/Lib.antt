@@ -4,3 +4,5 @@ pub mod Reference
 pub mod Digits
 pub mod Packed
 pub mod Orders
+pub mod Constants
+pub mod Values

@@ -1,8 +1,10 @@
 //! Heap types, reference types and value types of WebAssembly (Core Specification, types), read from the binary format.
 #![tactic(auto)]
 
+mod constants;
 mod heap;
 mod index;
+pub mod laws;
 mod reference;
 mod value;
 

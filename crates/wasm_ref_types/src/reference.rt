@@ -20,7 +20,7 @@ use std::cmp::Ordering;
 use std::hash::{Hash, Hasher};
 use std::marker::Model;
 
-const NULLABLE: u32 = 1 << 24;
+pub(crate) const NULLABLE: u32 = 1 << 24;
 
 const HEAP: u32 = NULLABLE - 1;
 
@@ -38,7 +38,7 @@ const NUMBER: u32 = SHARED - 1;
 /// not shared before shared ones; the others by the kind of index, then by its number.
 #[derive(Clone, Copy)]
 pub struct RefType {
-    bits: u32,
+    pub(crate) bits: u32,
 }
 
 impl Model for RefType {
