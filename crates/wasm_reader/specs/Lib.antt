@@ -2,6 +2,8 @@ pub mod Cursor
 pub mod Reading
 pub mod Numbers
 pub mod Text
+pub mod Items
+pub mod Unless
 pub mod Messages
 pub mod Floats
 pub mod Shortest

@@ -3,6 +3,7 @@
 
 mod error;
 mod floats;
+mod from_reader;
 pub mod laws;
 pub mod limits;
 mod number;
@@ -11,6 +12,7 @@ mod text;
 
 pub use error::{Error, ErrorKind, Result};
 pub use floats::{Ieee32, Ieee64};
+pub use from_reader::FromReader;
 pub use reader::BinaryReader;
 pub use wasm_features::{WasmFeatures, WasmFeaturesInflated};
 
