@@ -13,7 +13,7 @@ use Rattle.wasm_reader.specs.Text.{size_at}
 use Rattle.wasm_reader.specs.Items.{vec_at}
 use Rattle.wasm_ref_types.specs.declared.index.UnpackedIndex.{UnpackedIndex}
 use Rattle.wasm_ref_types.specs.declared.index.UnpackedIndex.TheVariants.{Module}
-use Rattle.wasm_ref_types.specs.Readings.{val_at, val_final, val_none}
+use Rattle.wasm_ref_types.specs.ReadTypes.{value_at, value_final, value_none}
 use Rattle.wasm_types.specs.declared.field.StorageType.{StorageType}
 use Rattle.wasm_types.specs.declared.field.StorageType.TheVariants.{I8, I16, Val}
 use Rattle.wasm_types.specs.declared.form.CompositeInnerType.TheVariants.{Func, Array, Struct}
@@ -49,7 +49,7 @@ storage_choice : WasmFeatures → ℕ → List ℕ → Reading StorageType
 storage_choice features b bytes =
     if b == 0x78 then (byte_at bytes >>= λ x. Ok (I8, x.1))
     else (if b == 0x77 then (byte_at bytes >>= λ x. Ok (I16, x.1))
-    else (val_at features bytes >>= λ x. Ok (Val x.0, x.1)))
+    else (value_at features bytes >>= λ x. Ok (Val x.0, x.1)))
 
 byte_made_final : {A : Type 0} (value : A) → IsFinal (λ bytes. byte_at bytes >>= λ x. Ok (value, x.1))
 byte_made_final value = map_final byte_at (λ _. value) byte_final
@@ -59,8 +59,8 @@ unfolding storage_at storage_choice
 storage_final features = chosen_final (storage_choice features)
     (λ b. if_final (b == 0x78) _ _ (byte_made_final I8)
         (if_final (b == 0x77) _ _ (byte_made_final I16)
-        (map_final (val_at features) Val (val_final features))))
-    (λ b. if_same (b == 0x78) _ _ _ refl (if_same (b == 0x77) _ _ _ refl (rw (val_none features) refl)))
+        (map_final (value_at features) Val (value_final features))))
+    (λ b. if_same (b == 0x78) _ _ _ refl (if_same (b == 0x77) _ _ _ refl (rw (value_none features) refl)))
 
 pub mutable_final : IsFinal mutable_at
 unfolding mutable_at
@@ -74,13 +74,13 @@ field_final features = then_final (storage_at features) _ (storage_final feature
 
 -- ---- forms
 
-vals_final : (features : WasmFeatures) → IsFinal (vec_at 1000 (val_at features))
-vals_final features = vec_final 1000 (val_at features) (val_final features)
+values_final : (features : WasmFeatures) → IsFinal (vec_at 1000 (value_at features))
+values_final features = vec_final 1000 (value_at features) (value_final features)
 
 pub func_final : (features : WasmFeatures) → IsFinal (func_at features)
 unfolding func_at
-func_final features = then_final (vec_at 1000 (val_at features)) _ (vals_final features)
-    (λ params. map_final (vec_at 1000 (val_at features)) (λ results. record { params = params; results = results }) (vals_final features))
+func_final features = then_final (vec_at 1000 (value_at features)) _ (values_final features)
+    (λ params. map_final (vec_at 1000 (value_at features)) (λ results. record { params = params; results = results }) (values_final features))
 
 pub array_final : (features : WasmFeatures) → IsFinal (array_at features)
 unfolding array_at

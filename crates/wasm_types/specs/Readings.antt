@@ -10,7 +10,7 @@ use Rattle.wasm_reader.specs.Text.{size_at}
 use Rattle.wasm_reader.specs.Items.{vec_at}
 use Rattle.wasm_ref_types.specs.declared.index.UnpackedIndex.{UnpackedIndex}
 use Rattle.wasm_ref_types.specs.declared.index.UnpackedIndex.TheVariants.{Module}
-use Rattle.wasm_ref_types.specs.Readings.{val_at}
+use Rattle.wasm_ref_types.specs.ReadTypes.{value_at}
 use Rattle.wasm_types.specs.declared.field.StorageType.{StorageType}
 use Rattle.wasm_types.specs.declared.field.StorageType.TheVariants.{I8, I16, Val}
 use Rattle.wasm_types.specs.declared.field.FieldType.{FieldType}
@@ -32,7 +32,7 @@ storage_at features bytes = do
   b ← next_at bytes
   (if b.0 == 0x78 then (byte_at bytes >>= λ x. Ok (I8, x.1))
     else (if b.0 == 0x77 then (byte_at bytes >>= λ x. Ok (I16, x.1))
-    else (val_at features bytes >>= λ x. Ok (Val x.0, x.1))))
+    else (value_at features bytes >>= λ x. Ok (Val x.0, x.1))))
 
 -- whether a field or a global can be written
 unfoldable pub mutable_at : List ℕ → Reading Bool
@@ -48,8 +48,8 @@ field_at features bytes = do
 
 unfoldable pub func_at : WasmFeatures → List ℕ → Reading FuncType
 func_at features bytes = do
-  params ← vec_at 1000 (val_at features) bytes
-  results ← vec_at 1000 (val_at features) params.1
+  params ← vec_at 1000 (value_at features) bytes
+  results ← vec_at 1000 (value_at features) params.1
   Ok (record { params = params.0; results = results.0 }, results.1)
 
 unfoldable pub array_at : WasmFeatures → List ℕ → Reading ArrayType

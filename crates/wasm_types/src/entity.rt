@@ -6,7 +6,7 @@ ghost use Rattle.wasm_types.specs.Entities.{address_type, log_of};
 use wasm_ref_types::{RefType, ValType};
 
 /// The type of a table.
-#[derive(Clone, Copy, Debug, PartialEq, Eq, Hash)]
+#[derive(Clone, Copy, PartialEq, Eq, Hash)]
 pub struct TableType {
     /// What its elements are.
     pub element_type: RefType,
@@ -30,7 +30,7 @@ impl TableType {
 }
 
 /// The type of a memory.
-#[derive(Clone, Copy, Debug, PartialEq, Eq, Hash)]
+#[derive(Clone, Copy, PartialEq, Eq, Hash)]
 pub struct MemoryType {
     /// Whether it is addressed by integers of 64 bits.
     pub memory64: bool,
@@ -75,7 +75,7 @@ fn address_type(is_64: bool) -> ValType
 }
 
 /// The type of a global.
-#[derive(Clone, Copy, Debug, PartialEq, Eq, Hash)]
+#[derive(Clone, Copy, PartialEq, Eq, Hash)]
 pub struct GlobalType {
     /// What it holds.
     pub content_type: ValType,
@@ -86,14 +86,14 @@ pub struct GlobalType {
 }
 
 /// What a tag is for.
-#[derive(Clone, Copy, Debug, PartialEq, Eq, Hash)]
+#[derive(Clone, Copy, PartialEq, Eq, Hash)]
 pub enum TagKind {
     /// Exceptions.
     Exception,
 }
 
 /// The type of a tag.
-#[derive(Clone, Copy, Debug, PartialEq, Eq, Hash)]
+#[derive(Clone, Copy, PartialEq, Eq, Hash)]
 pub struct TagType {
     /// What it is for.
     pub kind: TagKind,

@@ -6,7 +6,7 @@ ghost use Rattle.wasm_types.specs.Fields.{is_packed, unpacked};
 use wasm_ref_types::ValType;
 
 /// What a field holds: a value, or an integer of 8 or 16 bits.
-#[derive(Clone, Copy, Debug, PartialEq, Eq, PartialOrd, Ord, Hash)]
+#[derive(Clone, Copy, PartialEq, Eq, PartialOrd, Ord, Hash)]
 pub enum StorageType {
     /// An integer of 8 bits.
     I8,
@@ -39,7 +39,7 @@ impl StorageType {
 }
 
 /// The type of a field.
-#[derive(Clone, Copy, Debug, PartialEq, Eq, PartialOrd, Ord, Hash)]
+#[derive(Clone, Copy, PartialEq, Eq, PartialOrd, Ord, Hash)]
 pub struct FieldType {
     /// What the field holds.
     pub element_type: StorageType,

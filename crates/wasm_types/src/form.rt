@@ -71,7 +71,7 @@ impl FuncType {
 }
 
 /// The type of arrays of elements of this field type.
-#[derive(Clone, Copy, Debug, PartialEq, Eq, PartialOrd, Ord, Hash)]
+#[derive(Clone, Copy, PartialEq, Eq, PartialOrd, Ord, Hash)]
 pub struct ArrayType(pub FieldType);
 
 /// The type of structures of these fields.
@@ -97,7 +97,7 @@ impl StructType {
 }
 
 /// The type of continuations of functions of the type that this index names. No bytes give it.
-#[derive(Clone, Copy, Debug, PartialEq, Eq, PartialOrd, Ord, Hash)]
+#[derive(Clone, Copy, PartialEq, Eq, PartialOrd, Ord, Hash)]
 pub struct ContType(pub PackedIndex);
 
 /// The form of a type.

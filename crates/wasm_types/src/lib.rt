@@ -8,6 +8,7 @@ mod form;
 mod group;
 mod into_types;
 mod list;
+mod read;
 mod subtype;
 
 pub use entity::{GlobalType, MemoryType, TableType, TagKind, TagType};
