@@ -6,3 +6,4 @@ pub mod Members
 pub mod MembersLeft
 pub mod Readings
 pub mod Finals
+pub mod Placed

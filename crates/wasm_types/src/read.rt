@@ -1,11 +1,12 @@
 //! Types, read from the binary format (Core Specification, binary format, types).
 
-ghost use Rattle.std.specs.Prelude.{◌≡◌, ◌-◌, ◌≤◌, Bool, ℕ, List, true, false, IfOk, IfErr, map};
+ghost use Rattle.std.specs.Prelude.{◌≡◌, ◌-◌, ◌≤◌, Bool, ℕ, List, true, false, IfOk, IfErr, map, All};
 ghost use Rattle.wasm_features.specs.Features.{GcTypes, SharedEverythingThreads, enables, constant, features_of};
 ghost use Rattle.wasm_reader.specs.declared.error.ErrorKind.TheVariants.{Feature};
 ghost use Rattle.wasm_reader.specs.Cursor.{Cursor, rest, end_of};
 ghost use Rattle.wasm_reader.specs.Reading.{Reads, plain};
-ghost use Rattle.wasm_reader.specs.Items.{ReadsUnlessMemory, vec_at};
+ghost use Rattle.wasm_reader.specs.Items.{ReadsUnlessMemory, items_at, vec_at};
+ghost use Rattle.wasm_types.specs.Placed.{placed_sub_at, placed_member, placed_members, placed_after, placed_at, placed};
 
 ghost use Rattle.wasm_types.specs.Readings.{mutable_at, form_after, form_at, composite_after, index_at, supertype_at, declared_at, sub_after, group_after};
 ghost use Rattle.wasm_ref_types.specs.ReadTypes.{value_at};
@@ -367,4 +368,57 @@ impl<'a> FromReader<'a> for SubType {
     }
 
     ghost is_final = { sub_final };
+}
+
+impl RecGroup {
+    // A type, and its offset.
+    #[tactic(auto, unfolding(crate::specs::Placed::placed_sub_at))]
+    fn read_member(alloc: Global, reader: &mut BinaryReader<'_>) -> Result<(u64, SubType)>
+        ensures reads { ReadsUnlessMemory (placed_sub_at reader.old.window.features) (placed_member (end_of reader.old)) reader.old reader.new result }
+        ensures within { IfOk result (λ member. member.0 ≤ end_of reader.old) }
+    {
+        let offset = reader.original_position();
+        let ty = reader.read(alloc)?;
+        Ok((offset, ty))
+    }
+
+    fn read_members(alloc: Global, reader: &mut BinaryReader<'_>, count: usize) -> Result<Self>
+        ensures reads { ReadsUnlessMemory (items_at (placed_sub_at reader.old.window.features) count) (placed_members (end_of reader.old)) reader.old reader.new result }
+        ensures explicit { IfOk result (λ group. group.explicit ≡ true) }
+        ensures within { IfOk result (λ group. All (λ offset. offset ≤ end_of reader.old) group.offsets) }
+    {
+        let mut offsets = Vec::new(alloc);
+        let mut types = Vec::new(alloc);
+        for _ in 0..count {
+            let (offset, ty) = RecGroup::read_member(alloc, reader)?;
+            if offsets.push(offset).is_err() {
+                return Err(reader.out_of_memory());
+            }
+            if types.push(ty).is_err() {
+                return Err(reader.out_of_memory());
+            }
+        }
+        Ok(RecGroup::explicit(offsets, types))
+    }
+
+    // The group that begins with this byte, which stands at this offset.
+    #[tactic(auto, unfolding(crate::specs::Placed::placed_after, wasm_reader::specs::Items::vec_at))]
+    fn read_after(
+        alloc: Global,
+        reader: &mut BinaryReader<'_>,
+        byte: u8,
+        offset: u64,
+    ) -> Result<Self>
+        requires { offset ≤ end_of reader.old }
+        ensures reads { ReadsUnlessMemory (placed_after reader.old.window.features byte (end_of reader.old - offset)) (placed (end_of reader.old)) reader.old reader.new result }
+        ensures within { IfOk result (λ group. All (λ offset. offset ≤ end_of reader.old) group.offsets) }
+    {
+        if byte == 0x4e {
+            expect_gc(reader, offset)?;
+            let count = reader.read_size(MAX_WASM_GROUP_TYPES)?;
+            return RecGroup::read_members(alloc, reader, count);
+        }
+        let ty = SubType::read_after(alloc, reader, byte, offset)?;
+        Ok(RecGroup::implicit(offset, ty))
+    }
 }
