@@ -1,6 +1,6 @@
 //! Types, read from the binary format (Core Specification, binary format, types).
 
-ghost use Rattle.std.specs.Prelude.{◌≡◌, ◌-◌, ◌≤◌, Bool, ℕ, List, true, false, IfOk, IfErr, map, All};
+ghost use Rattle.std.specs.Prelude.{◌≡◌, ◌-◌, ◌≤◌, Bool, ℕ, List, true, false, IfOk, IfErr, map, length, All};
 ghost use Rattle.wasm_features.specs.Features.{GcTypes, SharedEverythingThreads, enables, constant, features_of};
 ghost use Rattle.wasm_reader.specs.declared.error.ErrorKind.TheVariants.{Feature};
 ghost use Rattle.wasm_reader.specs.Cursor.{Cursor, rest, end_of};
@@ -386,6 +386,7 @@ impl RecGroup {
         ensures reads { ReadsUnlessMemory (items_at (placed_sub_at reader.old.window.features) count) (placed_members (end_of reader.old)) reader.old reader.new result }
         ensures explicit { IfOk result (λ group. group.explicit ≡ true) }
         ensures within { IfOk result (λ group. All (λ offset. offset ≤ end_of reader.old) group.offsets) }
+        ensures paired { IfOk result (λ group. length group.offsets ≡ length group.types) }
     {
         let mut offsets = Vec::new(alloc);
         let mut types = Vec::new(alloc);
@@ -412,6 +413,7 @@ impl RecGroup {
         requires { offset ≤ end_of reader.old }
         ensures reads { ReadsUnlessMemory (placed_after reader.old.window.features byte (end_of reader.old - offset)) (placed (end_of reader.old)) reader.old reader.new result }
         ensures within { IfOk result (λ group. All (λ offset. offset ≤ end_of reader.old) group.offsets) }
+        ensures paired { IfOk result (λ group. length group.offsets ≡ length group.types) }
     {
         if byte == 0x4e {
             expect_gc(reader, offset)?;
@@ -421,4 +423,44 @@ impl RecGroup {
         let ty = SubType::read_after(alloc, reader, byte, offset)?;
         Ok(RecGroup::implicit(offset, ty))
     }
+}
+
+impl RecGroup {
+    // A group, with the places of its types.
+    #[tactic(auto, unfolding(crate::specs::Placed::placed_at))]
+    fn read_placed(alloc: Global, reader: &mut BinaryReader<'_>) -> Result<Self>
+        ensures reads { ReadsUnlessMemory (placed_at reader.old.window.features) (placed (end_of reader.old)) reader.old reader.new result }
+        ensures within { IfOk result (λ group. All (λ offset. offset ≤ end_of reader.old) group.offsets) }
+        ensures paired { IfOk result (λ group. length group.offsets ≡ length group.types) }
+    {
+        let offset = reader.original_position();
+        let byte = reader.read_u8()?;
+        RecGroup::read_after(alloc, reader, byte, offset)
+    }
+}
+
+impl<'a> FromReader<'a> for RecGroup {
+    ghost use Rattle.wasm_types.specs.Readings.{Listed, group_at};
+    ghost use Rattle.wasm_types.specs.Finals.{group_final};
+    ghost use Rattle.wasm_types.specs.Placed.{listed};
+
+    ghost Seen = { Listed };
+
+    ghost seen = { listed };
+
+    ghost reading = { group_at };
+
+    ghost takes_memory = { true };
+
+    /// Reads a group. The offset of each type is that of its first byte.
+    fn from_reader(alloc: Global, reader: &mut BinaryReader<'a>) -> Result<Self>
+        ensures reads { ReadsUnlessMemory (group_at reader.old.window.features) listed reader.old reader.new result }
+        ensures places { ReadsUnlessMemory (placed_at reader.old.window.features) (placed (end_of reader.old)) reader.old reader.new result }
+        ensures within { IfOk result (λ group. All (λ offset. offset ≤ end_of reader.old) group.offsets) }
+        ensures paired { IfOk result (λ group. length group.offsets ≡ length group.types) }
+    {
+        RecGroup::read_placed(alloc, reader)
+    }
+
+    ghost is_final = { group_final };
 }
