@@ -6,3 +6,5 @@ pub mod Packed
 pub mod Orders
 pub mod Constants
 pub mod Values
+pub mod Texts
+pub mod Subtypes

@@ -6,6 +6,7 @@ mod heap;
 mod index;
 pub mod laws;
 mod reference;
+mod text;
 mod value;
 
 pub use heap::{AbstractHeapType, HeapType};
