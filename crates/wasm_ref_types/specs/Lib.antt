@@ -8,3 +8,6 @@ pub mod Constants
 pub mod Values
 pub mod Texts
 pub mod Subtypes
+pub mod ReadTypes
+pub mod Begins
+pub mod TypesFinal

@@ -5,6 +5,7 @@ mod constants;
 mod heap;
 mod index;
 pub mod laws;
+mod read;
 mod reference;
 mod text;
 mod value;
