@@ -6,3 +6,8 @@ pub mod Packed
 pub mod Orders
 pub mod Constants
 pub mod Values
+pub mod Texts
+pub mod Subtypes
+pub mod ReadTypes
+pub mod Begins
+pub mod TypesFinal

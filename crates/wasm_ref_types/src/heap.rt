@@ -1,8 +1,9 @@
 //! Heap types (Core Specification, types: heap types).
 
-ghost use Rattle.std.specs.Prelude.{◌≡◌, ◌<◌};
+ghost use Rattle.std.specs.Prelude.{◌≡◌, ◌<◌, ◌↔◌, IsTrue};
 ghost use Rattle.wasm_ref_types.specs.Heaps.{rank};
 ghost use Rattle.wasm_ref_types.specs.Packed.{of_rank};
+ghost use Rattle.wasm_ref_types.specs.Subtypes.{IsBelow, supertypes};
 
 use crate::index::UnpackedIndex;
 
@@ -40,6 +41,39 @@ pub enum AbstractHeapType {
 }
 
 impl AbstractHeapType {
+    /// Whether each value of the type is one of the other type. No type is below one of another of the hierarchies of `any`,
+    /// `func`, `extern`, `exn` and `cont`.
+    pub fn is_subtype_of(&self, other: AbstractHeapType) -> bool
+        ensures { IsTrue result ↔ IsBelow self.now other }
+    {
+        self.supertypes().contains(&other)
+    }
+
+    // The types that the type is below, itself first.
+    fn supertypes(&self) -> &'static [AbstractHeapType]
+        ensures { result.now ≡ supertypes self.now }
+    {
+        use AbstractHeapType::{
+            Any, Array, Cont, Eq, Exn, Extern, Func, I31, NoCont, NoExn, NoExtern, NoFunc, None, Struct,
+        };
+        match self {
+            Func => &[Func],
+            Extern => &[Extern],
+            Any => &[Any],
+            None => &[None, I31, Struct, Array, Eq, Any],
+            NoExtern => &[NoExtern, Extern],
+            NoFunc => &[NoFunc, Func],
+            Eq => &[Eq, Any],
+            Struct => &[Struct, Eq, Any],
+            Array => &[Array, Eq, Any],
+            I31 => &[I31, Eq, Any],
+            Exn => &[Exn],
+            NoExn => &[NoExn, Exn],
+            Cont => &[Cont],
+            NoCont => &[NoCont, Cont],
+        }
+    }
+
     // The place of the type in their order.
     pub(crate) fn rank(self) -> u32
         ensures rank { result ≡ rank self }

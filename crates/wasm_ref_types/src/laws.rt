@@ -3,6 +3,7 @@
 ghost use Rattle.std.specs.Prelude.{◌≡◌, [], ◌∷◌, false};
 ghost use Rattle.wasm_ref_types.specs.declared.heap.AbstractHeapType.TheVariants as kinds;
 ghost use Rattle.wasm_ref_types.specs.declared.heap.HeapType.TheVariants.{Abstract};
+ghost use Rattle.wasm_ref_types.specs.Subtypes.{IsBelow, IsPartialOrder};
 ghost use Rattle.wasm_ref_types.specs.Constants.{nullable_types, non_null_types, value_types};
 
 use crate::heap::HeapType;
@@ -71,3 +72,8 @@ pub fn heap_constants() -> [HeapType; 2]
 {
     [HeapType::FUNC, HeapType::EXTERN]
 }
+
+/// `is_subtype_of` is a partial order.
+pub fn subtypes_are_ordered()
+    ensures { IsPartialOrder IsBelow }
+{}

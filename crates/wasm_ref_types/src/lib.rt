@@ -5,7 +5,9 @@ mod constants;
 mod heap;
 mod index;
 pub mod laws;
+mod read;
 mod reference;
+mod text;
 mod value;
 
 pub use heap::{AbstractHeapType, HeapType};

@@ -103,7 +103,8 @@ impl RefType {
         }
     }
 
-    fn of_abstract(nullable: bool, shared: bool, ty: AbstractHeapType) -> Self
+    // The type of an abstract type.
+    pub(crate) fn of_abstract(nullable: bool, shared: bool, ty: AbstractHeapType) -> Self
         ensures { result ≡ reference nullable (Abstract shared ty) }
     {
         let kind = if shared { SHARED } else { 0 };
