@@ -13,54 +13,26 @@ use Rattle.wasm_reader.specs.Text.{size_at}
 use Rattle.wasm_reader.specs.Items.{vec_at}
 use Rattle.wasm_ref_types.specs.declared.index.UnpackedIndex.{UnpackedIndex}
 use Rattle.wasm_ref_types.specs.declared.index.UnpackedIndex.TheVariants.{Module}
-use Rattle.wasm_ref_types.specs.ReadTypes.{value_at, value_final, value_none}
+use Rattle.wasm_ref_types.specs.ReadTypes.{value_at}
+use Rattle.wasm_ref_types.specs.Begins.{Begins, peeked_begins, if_begins, map_begins}
+use Rattle.wasm_ref_types.specs.TypesFinal.{value_begins}
 use Rattle.wasm_types.specs.declared.field.StorageType.{StorageType}
 use Rattle.wasm_types.specs.declared.field.StorageType.TheVariants.{I8, I16, Val}
 use Rattle.wasm_types.specs.declared.form.CompositeInnerType.TheVariants.{Func, Array, Struct}
 use Rattle.wasm_types.specs.declared.subtype.SubType.{SubType}
 use Rattle.wasm_types.specs.Readings.{Listed, gated, storage_at, mutable_at, field_at, func_at, array_at, struct_at, form_after, form_at, composite_after, composite_at, index_at, supertype_at, declared_at, sub_after, sub_at, group_after, group_at}
 
--- ---- a reading that is chosen by its first byte, which it reads itself
-
-if_final : {A : Type 0} (b : Bool) (f g : List ℕ → Reading A) → IsFinal f → IsFinal g → IsFinal (λ bytes. if b then f bytes else g bytes)
-if_final true f g p q = p
-if_final false f g p q = q
-
-if_same : {A : Type 0} (b : Bool) (x y z : Reading A) → x ≡ z → y ≡ z → (if b then x else y) ≡ z
-if_same true x y z p q = p
-if_same false x y z p q = q
-
-module _ {A : Type 0} (choice : ℕ → List ℕ → Reading A) (finals : (b : ℕ) → IsFinal (choice b)) (none : (b : ℕ) → choice b [] ≡ Err (fault (kinds.EndOfFile 1) 0)) where
-  chosen_grows : (bytes more : List ℕ) → Grows more (next_at bytes >>= λ x. choice x.0 bytes) (next_at (bytes ++ more) >>= λ x. choice x.0 (bytes ++ more))
-  chosen_grows [] [] = record { some = omega arith; keeps = λ h. refl; passes = λ h. absurd (omega arith) }
-  chosen_grows [] (b ∷ more) = rw (none b) at ((finals b).grows [] (b ∷ more))
-  chosen_grows (b ∷ bytes) more = (finals b).grows (b ∷ bytes) more
-
-  chosen_within : (bytes : List ℕ) → StaysWithin (length bytes) (next_at bytes >>= λ x. choice x.0 bytes)
-  chosen_within [] = omega arith
-  chosen_within (b ∷ bytes) = (finals b).within (b ∷ bytes)
-
-  chosen_final : IsFinal (λ bytes. next_at bytes >>= λ x. choice x.0 bytes)
-  chosen_final = record { grows = chosen_grows; within = chosen_within }
-
 -- ---- fields
 
-storage_choice : WasmFeatures → ℕ → List ℕ → Reading StorageType
-storage_choice features b bytes =
-    if b == 0x78 then (byte_at bytes >>= λ x. Ok (I8, x.1))
-    else (if b == 0x77 then (byte_at bytes >>= λ x. Ok (I16, x.1))
-    else (value_at features bytes >>= λ x. Ok (Val x.0, x.1)))
-
-byte_made_final : {A : Type 0} (value : A) → IsFinal (λ bytes. byte_at bytes >>= λ x. Ok (value, x.1))
-byte_made_final value = map_final byte_at (λ _. value) byte_final
+byte_begins : {A : Type 0} (value : A) → Begins (λ bytes. byte_at bytes >>= λ x. Ok (value, x.1))
+byte_begins value = map_begins byte_at (λ _. value) (record { final = byte_final; none = refl })
 
 pub storage_final : (features : WasmFeatures) → IsFinal (storage_at features)
-unfolding storage_at storage_choice
-storage_final features = chosen_final (storage_choice features)
-    (λ b. if_final (b == 0x78) _ _ (byte_made_final I8)
-        (if_final (b == 0x77) _ _ (byte_made_final I16)
-        (map_final (value_at features) Val (value_final features))))
-    (λ b. if_same (b == 0x78) _ _ _ refl (if_same (b == 0x77) _ _ _ refl (rw (value_none features) refl)))
+unfolding storage_at
+storage_final features = (peeked_begins _ (λ b.
+    if_begins (b == 0x78) _ _ (byte_begins I8)
+    (if_begins (b == 0x77) _ _ (byte_begins I16)
+    (map_begins (value_at features) Val (value_begins features))))).final
 
 pub mutable_final : IsFinal mutable_at
 unfolding mutable_at
@@ -75,7 +47,7 @@ field_final features = then_final (storage_at features) _ (storage_final feature
 -- ---- forms
 
 values_final : (features : WasmFeatures) → IsFinal (vec_at 1000 (value_at features))
-values_final features = vec_final 1000 (value_at features) (value_final features)
+values_final features = vec_final 1000 (value_at features) (value_begins features).final
 
 pub func_final : (features : WasmFeatures) → IsFinal (func_at features)
 unfolding func_at
@@ -148,10 +120,14 @@ unfolding index_at
 index_final = from_start _ (then_from 0 0 (unsigned_at 32) _ (unsigned_final 32) (Takes-none (unsigned_at 32) (unsigned_final 32)) (λ n.
     if_from (nat_lt n (2 ^ 20)) _ _ (done_from 0 (Module n)) (fault_from 0 kinds.Limit tt)))
 
+either_final : {A : Type 0} (test : Bool) (f g : List ℕ → Reading A) → IsFinal f → IsFinal g → IsFinal (λ bytes. if test then f bytes else g bytes)
+either_final true f g p q = p
+either_final false f g p q = q
+
 supertype_final : IsFinal supertype_at
 unfolding supertype_at
 supertype_final = then_final (size_at 1) _ (size_final 1) (λ count.
-    if_final (count == 0) _ _ (done_final None) (map_final index_at Some index_final))
+    either_final (count == 0) _ _ (done_final None) (map_final index_at Some index_final))
 
 declared_final : (features : WasmFeatures) (is_final : Bool) → IsFinal (declared_at features is_final)
 unfolding declared_at
