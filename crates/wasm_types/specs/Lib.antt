@@ -7,3 +7,5 @@ pub mod MembersLeft
 pub mod Readings
 pub mod Finals
 pub mod Placed
+pub mod Section
+pub mod Plain

@@ -141,6 +141,16 @@ pub struct CompositeType {
 }
 
 impl CompositeType {
+    // The function type, if it is one.
+    pub(crate) fn into_function(self) -> Option<FuncType>
+        ensures { result ≡ function_of self.inner }
+    {
+        match self.inner {
+            CompositeInnerType::Func(ty) => Some(ty),
+            _ => None,
+        }
+    }
+
     /// The function type. Asks that it is one.
     pub fn unwrap_func(&self) -> &FuncType
         requires { IsTrue (is_function self.now.inner) }

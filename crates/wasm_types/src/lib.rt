@@ -9,6 +9,7 @@ mod group;
 mod into_types;
 mod list;
 mod read;
+mod section;
 mod subtype;
 
 pub use entity::{GlobalType, MemoryType, TableType, TagKind, TagType};
@@ -17,4 +18,5 @@ pub use form::{ArrayType, CompositeInnerType, CompositeType, ContType, FuncType,
 pub use group::{RecGroup, Types};
 pub use into_types::{IntoTypes, IntoTypesAndOffsets};
 pub use list::TypeList;
+pub use section::{FuncTypes, TypeSectionReader};
 pub use subtype::SubType;

@@ -2,6 +2,7 @@
 
 ghost use Rattle.std.specs.Prelude.{◌≡◌, true, IfOk, IsTrue, IsOk, Some, None, option_copied};
 ghost use Rattle.wasm_types.specs.Forms.{function_of, array_of, struct_of, continuation_of, is_function, is_array, is_struct, is_continuation};
+ghost use Rattle.wasm_types.specs.Plain.{plain_function_of};
 ghost use Rattle.wasm_types.specs.declared.form.CompositeInnerType.TheVariants.{Func};
 
 use crate::form::{ArrayType, CompositeInnerType, CompositeType, ContType, FuncType, StructType};
@@ -32,6 +33,21 @@ impl SubType {
                 shared,
             },
         })
+    }
+
+    // The function type, if it is one and neither another type is above it nor may one be below it.
+    pub(crate) fn into_function(self) -> Option<FuncType>
+        ensures { result ≡ plain_function_of self }
+    {
+        let SubType {
+            is_final,
+            supertype_idx,
+            composite_type,
+        } = self;
+        if !is_final || supertype_idx.is_some() {
+            return None;
+        }
+        composite_type.into_function()
     }
 
     /// The function type. Asks that it is one.
