@@ -1,7 +1,16 @@
 //! Laws: functions with next to nothing to do, whose contracts hold of all values.
 
-ghost use Rattle.std.specs.Prelude.{◌≡◌, [], ◌∷◌, false};
+ghost use Rattle.std.specs.Prelude.{◌≡◌, ◌↔◌, [], ◌∷◌, true, false, Some};
+ghost use Rattle.std.specs.Ordering.{nat_cmp, is_eq};
+ghost use Rattle.wasm_ref_types.specs.declared.heap.AbstractHeapType.{AbstractHeapType};
 ghost use Rattle.wasm_ref_types.specs.declared.heap.AbstractHeapType.TheVariants as kinds;
+ghost use Rattle.wasm_ref_types.specs.declared.index.UnpackedIndex.{UnpackedIndex};
+ghost use Rattle.wasm_ref_types.specs.contracts.heap.AbstractHeapTypeOrd.TheImpl.{ghosts as abstract_ord};
+ghost use Rattle.wasm_ref_types.specs.contracts.index.UnpackedIndexOrd.TheImpl.{ghosts as unpacked_ord};
+ghost use Rattle.wasm_ref_types.specs.contracts.reference.RefTypeHash.TheImpl.{ghosts as reference_hash};
+ghost use Rattle.wasm_ref_types.specs.Heaps.{rank};
+ghost use Rattle.wasm_ref_types.specs.Indices.{index_cmp, index_eq};
+ghost use Rattle.wasm_ref_types.specs.Reference.{Reference, reference_cmp, reference_eq};
 ghost use Rattle.wasm_ref_types.specs.declared.heap.HeapType.TheVariants.{Abstract};
 ghost use Rattle.wasm_features.specs.declared.WasmFeatures.{WasmFeatures};
 ghost use Rattle.wasm_reader.specs.Laws.{IsFinal, EndsEarly, TakesSpelled, IsPrefixFree};
@@ -11,6 +20,7 @@ ghost use Rattle.wasm_ref_types.specs.Subtypes.{IsBelow, IsPartialOrder};
 ghost use Rattle.wasm_ref_types.specs.Constants.{nullable_types, non_null_types, value_types};
 
 use crate::heap::HeapType;
+use crate::index::PackedIndex;
 use crate::reference::RefType;
 use crate::value::ValType;
 
@@ -120,4 +130,33 @@ pub fn written_types_are_read()
     ensures heap_type { ReadsWritten heap_at IsWritten }
     ensures reference_type { ReadsWritten reference_at (λ r. IsWritten r.heap_type) }
     ensures value_type { ReadsWritten value_at IsWrittenValue }
+{}
+
+/// A reference type made of the nullability and the heap type of another is that one.
+pub fn references_are_their_parts(ty: RefType) -> Option<RefType>
+    ensures { result ≡ Some ty }
+{
+    RefType::new(ty.is_nullable(), ty.heap_type())
+}
+
+/// A packed index, unpacked and packed again, is that one.
+pub fn packed_indices_unpack(index: PackedIndex) -> Option<PackedIndex>
+    ensures { result ≡ Some index }
+{
+    index.unpack().pack()
+}
+
+/// Packed references are equal exactly if their nullability and heap type are, packed indices exactly if what they unpack to is.
+pub fn packed_types_are_equal_as_plain_ones()
+    ensures references { (a b : Reference) → (reference_eq a b ≡ true) ↔ (a ≡ b) }
+    ensures indices { (a b : UnpackedIndex) → (index_eq a b ≡ true) ↔ (a ≡ b) }
+{}
+
+/// Packed indices have the order of what they unpack to, abstract heap types that of their places, and equal references are
+/// those of which neither comes first; they hash alike.
+pub fn orders_agree()
+    ensures indices { (a b : UnpackedIndex) → unpacked_ord.cmp a b ≡ index_cmp a b }
+    ensures abstract_types { (a b : AbstractHeapType) → abstract_ord.cmp a b ≡ nat_cmp (rank a) (rank b) }
+    ensures references { (a b : Reference) → reference_eq a b ≡ is_eq (reference_cmp a b) }
+    ensures hashes { (a b : Reference) → reference_eq a b ≡ true → reference_hash.hash_input a ≡ reference_hash.hash_input b }
 {}
