@@ -11,3 +11,5 @@ pub mod Subtypes
 pub mod ReadTypes
 pub mod Begins
 pub mod TypesFinal
+pub mod TypeSpellings
+pub mod TypesTaken
