@@ -1,7 +1,7 @@
 -- Lemmas: vecs are read as they are spelled.
-use Rattle.std.specs.Prelude.{ℕ, zero, suc, ◌+◌, ◌*◌, ◌^◌, ◌<◌, ◌≤◌, ◌≡◌, List, [], ◌∷◌, ◌++◌, length, Ok, All, refl}
+use Rattle.std.specs.Prelude.{ℕ, zero, suc, ◌^◌, ◌<◌, ◌≤◌, ◌≡◌, List, [], ◌∷◌, ◌++◌, length, Ok, All, refl}
 use Rattle.std.proofs.Common.{sym, ap, ◌∙◌, subst, arith}
-use Rattle.std.proofs.lemmas.List.{append_assoc, length-append}
+use Rattle.std.proofs.lemmas.List.{append_assoc}
 use Rattle.wasm_reader.specs.Reading.{Reading, ◌>>=◌}
 use Rattle.wasm_reader.specs.Numbers.{unsigned, Spells}
 use Rattle.wasm_reader.specs.Shortest.{shortest_unsigned}
@@ -70,7 +70,7 @@ module _ {A : Type 0} (item : List ℕ → Reading A) (spells : List ℕ → A �
             most = let n = body.3 in let below = size.3 in omega arith;
             lists = body.1;
           },
-            size.2 ∙ ap (λ (l : List ℕ). size.0 ++ l) body.2 ∙ sym (append_assoc size.0 body.0 later),
+          size.2 ∙ ap (λ (l : List ℕ). size.0 ++ l) body.2 ∙ sym (append_assoc size.0 body.0 later),
         );
   }
 

@@ -9,28 +9,13 @@ use crate::reader::BinaryReader;
 use std::alloc::Global;
 use std::marker::PhantomData;
 
-/// Reads the items of a vec, one each time that it is asked, and none after a fault.
-/// Where it is dropped, it still reads those to come, up to a first fault, so that the reader stands behind the vec.
+/// Reads the items of a vec one by one, and none after a first fault. Where it is dropped, it still reads those to come, up to
+/// a first fault.
 pub struct BinaryReaderIter<'a, 'me, T: FromReader<'a>> {
     reader: &'me mut BinaryReader<'a>,
     alloc: Global,
     remaining: usize,
     item: PhantomData<T>,
-}
-
-impl<'a, 'me, T: FromReader<'a>> BinaryReaderIter<'a, 'me, T> {
-    fn new(reader: &'me mut BinaryReader<'a>, alloc: Global, remaining: usize) -> Self
-        ensures same_reference { result.reader.ghost_name ≡ reader.entry.ghost_name }
-        ensures reader { result.reader.now ≡ reader.old }
-        ensures remaining { result.remaining ≡ remaining }
-    {
-        BinaryReaderIter {
-            reader,
-            alloc,
-            remaining,
-            item: PhantomData,
-        }
-    }
 }
 
 impl<'a, 'me, T: FromReader<'a>> Iterator for BinaryReaderIter<'a, 'me, T> {
@@ -54,13 +39,10 @@ impl<'a, 'me, T: FromReader<'a>> Iterator for BinaryReaderIter<'a, 'me, T> {
 }
 
 impl<'a, 'me, T: FromReader<'a>> Drop for BinaryReaderIter<'a, 'me, T> {
-    ghost use Rattle.std.specs.Prelude.{Result};
-    ghost use Rattle.wasm_reader.specs.declared.error.Error.{Error};
-    ghost use Rattle.wasm_reader.specs.Items.{ReadsBy, passed_at};
-    ghost use Rattle.wasm_reader.specs.Reading.{plain};
+    ghost use Rattle.wasm_reader.specs.Iter.{PassesRest};
 
     fn drop(self)
-        ensures { (outcome : Result (Unit {0}) Error) × ReadsBy T.takes_memory (passed_at (T.reading self.entry.reader.now.window.features) self.entry.remaining) plain self.entry.reader.now self.exit.0.now outcome }
+        ensures { PassesRest T.takes_memory T.reading self.entry.reader.now self.exit.0.now self.entry.remaining }
     {
         let BinaryReaderIter {
             reader,
@@ -90,7 +72,12 @@ impl<'a> BinaryReader<'a> {
         ensures fault { IfErr result (λ e. (size_at limit (rest self.old) ≡ Err (fault e.kind (end_of self.old - e.offset))) × (e.offset ≤ end_of self.old)) }
     {
         let remaining = self.read_size(limit)?;
-        Ok(BinaryReaderIter::new(self, alloc, remaining))
+        Ok(BinaryReaderIter {
+            reader: self,
+            alloc,
+            remaining,
+            item: PhantomData,
+        })
     }
 
     // Items that are read and let go.

@@ -19,6 +19,8 @@ pub use reader::BinaryReader;
 pub use wasm_features::{WasmFeatures, WasmFeaturesInflated};
 
 #[cfg(test)]
+mod item_tests;
+#[cfg(test)]
 mod number_tests;
 #[cfg(test)]
 mod tests;
