@@ -9,3 +9,6 @@ pub mod Finals
 pub mod Placed
 pub mod Section
 pub mod Plain
+pub mod Spellings
+pub mod Taken
+pub mod TypesTaken
