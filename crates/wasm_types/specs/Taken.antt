@@ -86,6 +86,14 @@ module _ {A B C : Type 0} (first : List ℕ → Reading A) (First : List ℕ →
   pub both_taken : TakesSpelled (λ bytes. joined make (first bytes) second) Made
   both_taken = record { again = both_again; found = both_found }
 
+-- the same spellings in other words
+pub same_taken : {A : Type 0} (reading : List ℕ → Reading A) (One Other : List ℕ → A → Type 0) → TakesSpelled reading One
+    → ((bytes : List ℕ) (value : A) → Other bytes value → One bytes value) → ((bytes : List ℕ) (value : A) → One bytes value → Other bytes value) → TakesSpelled reading Other
+same_taken reading One Other taken into onto = record {
+  again = λ bytes more value h. taken.again bytes more value (into bytes value h);
+  found = λ bytes later value small e. let found = taken.found bytes later value small e in (found.0, onto found.0 value found.1, found.2);
+}
+
 -- a byte, and what follows it, by that byte
 module _ {A : Type 0} (after : ℕ → ℕ → List ℕ → Reading A) (spells : List ℕ → A → Type 0)
     (none : (value : A) → spells [] value → ⊥) (taken : (b start : ℕ) → TakesSpelled (after b start) (λ bytes value. spells (b ∷ bytes) value)) where
