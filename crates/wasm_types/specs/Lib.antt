@@ -12,3 +12,4 @@ pub mod Plain
 pub mod Spellings
 pub mod Taken
 pub mod TypesTaken
+pub mod Written

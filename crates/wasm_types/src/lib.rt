@@ -7,6 +7,7 @@ mod field;
 mod form;
 mod group;
 mod into_types;
+pub mod laws;
 mod list;
 mod read;
 mod section;
