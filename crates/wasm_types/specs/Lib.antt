@@ -13,3 +13,4 @@ pub mod Spellings
 pub mod Taken
 pub mod TypesTaken
 pub mod Written
+pub mod Remap

@@ -10,6 +10,7 @@ mod into_types;
 pub mod laws;
 mod list;
 mod read;
+mod remap;
 mod section;
 mod subtype;
 
