@@ -5,3 +5,4 @@ pub mod Runs
 pub mod Moved
 pub mod Small
 pub mod Refused
+pub mod Repeats

@@ -1,5 +1,5 @@
 -- Lemmas: each reading is final.
-use Rattle.std.specs.Prelude.{ℕ, ◌+◌, ◌-◌, ◌<◌, ◌≤◌, ◌≡◌, List, [], ◌∷◌, ◌++◌, length, take, drop, Ok, Err, nat_le, nat_lt, refl}
+use Rattle.std.specs.Prelude.{ℕ, zero, suc, ◌+◌, ◌-◌, ◌<◌, ◌≤◌, ◌≡◌, List, [], ◌∷◌, ◌++◌, length, take, drop, Ok, Err, nat_le, nat_lt, refl}
 use Rattle.std.proofs.Common.{ap, ◌∙◌, subst, arith, inl, inr}
 use Rattle.std.proofs.lemmas.Bool.{cases_lt, cases_Bool, le-leb, lt-leb}
 use Rattle.std.proofs.lemmas.List.{length-append, length-drop, take-append-le, drop-append-le}
@@ -8,10 +8,11 @@ use Rattle.wasm_reader.specs.declared.error.ErrorKind.{ErrorKind}
 use Rattle.wasm_reader.specs.declared.error.ErrorKind.TheVariants as kinds
 use Rattle.wasm_reader.specs.Reading.{Reading, Fault, fault, ◌>>=◌, byte_at, bytes_at, u7_at, little, little_at}
 use Rattle.wasm_reader.specs.Numbers.{Style, unsigned, signed, number_at, unsigned_at, signed_at, s33_at}
+use Rattle.wasm_reader.specs.Items.{items_at, vec_at}
 use Rattle.wasm_reader.specs.Text.{size_at, text_at, string_at, sized_bytes_at, unlimited_string_at, skipped_string_at}
 use Rattle.wasm_reader.specs.Spelled.{number_at-last, number_at-wrong, number_at-too_long, number_at-more, number_at-none}
 use Rattle.wasm_reader.specs.Laws.{Passes, Grows, StaysWithin, IsFinal}
-use Rattle.wasm_reader.specs.Final.{IsKept, Takes, fault_grows, fault_then, then_final, tested_final, map_final}
+use Rattle.wasm_reader.specs.Final.{IsKept, Takes, fault_grows, fault_then, then_final, tested_final, map_final, done_final}
 
 -- ---- one byte
 
@@ -190,3 +191,15 @@ skipped_string_final = map_final string_at (λ text. tt) string_final
 pub sized_bytes_final : IsFinal sized_bytes_at
 unfolding sized_bytes_at
 sized_bytes_final = then_final (unsigned_at 32) bytes_at (unsigned_final 32) bytes_final
+
+-- ---- items
+
+pub items_final : {A : Type 0} (item : List ℕ → Reading A) → IsFinal item → (count : ℕ) → IsFinal (items_at item count)
+unfolding items_at
+items_final item h zero = done_final []
+items_final item h (suc count) = then_final item (λ first bytes. items_at item count bytes >>= λ later. Ok (first ∷ later.0, later.1)) h
+    (λ first. map_final (items_at item count) (λ later. first ∷ later) (items_final item h count))
+
+pub vec_final : {A : Type 0} (limit : ℕ) (item : List ℕ → Reading A) → IsFinal item → IsFinal (vec_at limit item)
+unfolding vec_at
+vec_final limit item h = then_final (size_at limit) (items_at item) (size_final limit) (items_final item h)

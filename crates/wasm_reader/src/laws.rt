@@ -1,6 +1,6 @@
 //! Laws of the readings: functions with nothing to do, whose contracts hold of all bytes.
 
-ghost use Rattle.std.specs.Prelude.{ℕ, ℤ, ◌+◌, length, ◌<◌, ◌≤◌, ◌*◌, ◌-◌, ◌^◌, List, ◌++◌};
+ghost use Rattle.std.specs.Prelude.{ℕ, ℤ, true, ◌+◌, length, ◌<◌, ◌≤◌, ◌*◌, ◌-◌, ◌^◌, List, ◌++◌};
 ghost use Rattle.std.specs.Int.Signed.{mag};
 ghost use Rattle.wasm_reader.specs.Cursor.{Cursor};
 ghost use Rattle.wasm_reader.specs.Reading.{byte_at, next_at, bytes_at, u7_at, little_at, SpellsRun, SpellsLittle, plain, seen_bytes, seen_window};
@@ -10,7 +10,11 @@ ghost use Rattle.wasm_reader.specs.Shortest.{IsShortest, shortest_unsigned, shor
 ghost use Rattle.wasm_reader.specs.Text.{SpellsSized, SpellsText, SpellsName, size_at, text_at, string_at, sized_bytes_at, unlimited_string_at, skipped_string_at};
 ghost use Rattle.wasm_reader.specs.Faults.{RefusesExactly};
 ghost use Rattle.wasm_reader.specs.declared.error.ErrorKind.TheVariants.{TooLarge, TooLong};
-ghost use Rattle.wasm_reader.specs.Laws.{IsFinal, GrowsNext, EndsEarly, TakesSpelled, IsPrefixFree, OffsetsMove};
+ghost use Rattle.wasm_reader.specs.Laws.{IsFinal, GrowsNext, EndsEarly, TakesSpelled, IsPrefixFree, OffsetsMove, OffsetsMoveBy};
+ghost use Rattle.wasm_reader.specs.Items.{items_at, vec_at, seen_items};
+ghost use Rattle.wasm_features.specs.declared.WasmFeatures.{WasmFeatures};
+
+use crate::from_reader::FromReader;
 
 /// What is answered for bytes, the end of the input aside, is final whatever bytes follow; the hint is exact.
 pub fn bytes_are_final()
@@ -102,4 +106,25 @@ pub fn offsets_move()
     ensures f64 { OffsetsMove seen_bits64 }
     ensures bytes { OffsetsMove seen_bytes }
     ensures inner { OffsetsMove seen_window }
+{}
+
+/// A value that is read by its type, the end of the input aside, is final whatever bytes follow, and so are vecs of such values;
+/// the hint is exact.
+pub fn values_are_final<'a, T: FromReader<'a>>()
+    ensures value { (features : WasmFeatures) → IsFinal (T.reading features) }
+    ensures items { (features : WasmFeatures) (count : ℕ) → IsFinal (items_at (T.reading features) count) }
+    ensures vec { (features : WasmFeatures) (limit : ℕ) → IsFinal (vec_at limit (T.reading features)) }
+{}
+
+/// A proper front of the bytes of such a value, or of such a vec, is answered with the end of the input.
+pub fn fronts_of_values_end_early<'a, T: FromReader<'a>>()
+    ensures value { (features : WasmFeatures) → EndsEarly (T.reading features) }
+    ensures vec { (features : WasmFeatures) (limit : ℕ) → EndsEarly (vec_at limit (T.reading features)) }
+{}
+
+/// Such a value, or such a vec, that is read at offset k is the one that is read at offset 0, and a fault moves by k, where both windows
+/// fit and memory is there.
+pub fn offsets_of_values_move<'a, T: FromReader<'a>>()
+    ensures value { OffsetsMoveBy T.takes_memory T.seen }
+    ensures vec { OffsetsMoveBy true (seen_items T.seen) }
 {}

@@ -6,6 +6,7 @@ ghost use Rattle.wasm_reader.specs.declared.error.Error.{Error};
 ghost use Rattle.wasm_reader.specs.Cursor.{Cursor, Forward, read_since, rest, end_of, IsInner, shrunk, with_features};
 ghost use Rattle.wasm_reader.specs.Floats.{seen_bits32, seen_bits64};
 ghost use Rattle.wasm_features.specs.Features.{features_of, all_names};
+ghost use Rattle.wasm_reader.specs.Items.{WantsMemory};
 ghost use Rattle.wasm_reader.specs.Text.{sized_bytes_at};
 ghost use Rattle.wasm_reader.specs.Reading.{Reads, byte_at, next_at, bytes_at, u7_at, little_at, plain, seen_bytes, seen_window};
 
@@ -108,6 +109,14 @@ impl<'a> BinaryReader<'a> {
         ensures fits { end_of self.now < 2 ^ 64 }
     {
         self.original_offset + self.position as u64
+    }
+
+    /// Want of memory, where the reader stands.
+    pub fn out_of_memory(&self) -> Error
+        ensures wants { WantsMemory self.now result }
+        ensures place { result.offset ≤ end_of self.now }
+    {
+        Error::new(ErrorKind::Memory, self.original_position())
     }
 
     /// How many bytes a window may have whose first byte has this offset.

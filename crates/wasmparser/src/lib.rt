@@ -1,6 +1,9 @@
 //! The part of `wasmparser` that the rewriter stands on: the cursor over a binary module, its
-//! numbers and texts, and the names of the features.
+//! numbers and texts, the names of the features, and the types.
 #![tactic(auto)]
 
 pub use wasm_features::{WasmFeatures, WasmFeaturesInflated};
-pub use wasm_reader::{BinaryReader, Error, Ieee32, Ieee64, Result, limits};
+pub use wasm_reader::{BinaryReader, Error, FromReader, Ieee32, Ieee64, Result, limits};
+pub use wasm_ref_types::{
+    AbstractHeapType, CoreTypeId, HeapType, PackedIndex, RefType, UnpackedIndex, ValType,
+};

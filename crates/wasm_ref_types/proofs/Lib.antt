@@ -1,0 +1,5 @@
+pub mod Bits
+pub mod Compared
+pub mod Below
+pub mod Same
+pub mod Ranks

@@ -1,0 +1,15 @@
+pub mod Indices
+pub mod Heaps
+pub mod Reference
+pub mod Digits
+pub mod Packed
+pub mod Orders
+pub mod Constants
+pub mod Values
+pub mod Texts
+pub mod Subtypes
+pub mod ReadTypes
+pub mod Begins
+pub mod TypesFinal
+pub mod TypeSpellings
+pub mod TypesTaken

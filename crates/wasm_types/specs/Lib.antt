@@ -1,0 +1,16 @@
+pub mod Fields
+pub mod Forms
+pub mod Entities
+pub mod Groups
+pub mod Members
+pub mod MembersLeft
+pub mod Readings
+pub mod Finals
+pub mod Placed
+pub mod Section
+pub mod Plain
+pub mod Spellings
+pub mod Taken
+pub mod TypesTaken
+pub mod Written
+pub mod Remap

@@ -1,0 +1,80 @@
+//! Changing the indices that types name.
+
+ghost use Rattle.std.specs.Prelude.{◌≡◌, ◌<◌, MatchResult, Ok, Err, length, slice_index_or};
+ghost use Rattle.std.specs.Fn.{CalledAtMut};
+ghost use Rattle.wasm_types.specs.Remap.{VisitsIndex, VisitsReference, VisitsValue, VisitsStorage, VisitsField, VisitsEach, VisitsFunc, VisitsForm, VisitsSupertype, VisitsSub, VisitsGroup};
+
+use crate::field::{FieldType, StorageType};
+use crate::form::{ArrayType, CompositeInnerType, ContType, FuncType, StructType};
+use crate::group::RecGroup;
+use crate::subtype::SubType;
+use wasm_ref_types::{PackedIndex, RefType, ValType};
+
+// The index that a call leaves.
+fn remap_index<E, F: FnMut(&mut PackedIndex) -> Result<(), E>>(
+    index: PackedIndex,
+    map: &mut F,
+) -> Result<PackedIndex, E>
+    requires { F.IsAlwaysCallable map.old }
+    ensures visits { MatchResult result (λ new. VisitsIndex (CalledAtMut F.FnMut) map.old index (Ok tt) map.new new) (λ e. VisitsIndex (CalledAtMut F.FnMut) map.old index (Err e) map.new index) }
+    ensures callable { F.IsAlwaysCallable map.new }
+{
+    let mut index = index;
+    map(&mut index)?;
+    Ok(index)
+}
+
+fn remap_reference<E, F: FnMut(&mut PackedIndex) -> Result<(), E>>(
+    ty: RefType,
+    map: &mut F,
+) -> Result<RefType, E>
+    requires { F.IsAlwaysCallable map.old }
+    ensures visits { MatchResult result (λ new. VisitsReference (CalledAtMut F.FnMut) map.old ty (Ok tt) map.new new) (λ e. VisitsReference (CalledAtMut F.FnMut) map.old ty (Err e) map.new ty) }
+    ensures callable { F.IsAlwaysCallable map.new }
+{
+    let Some(index) = ty.type_index() else {
+        return Ok(ty);
+    };
+    let index = remap_index(index, map)?;
+    if ty.is_exact_type_ref() {
+        return Ok(RefType::exact(ty.is_nullable(), index));
+    }
+    Ok(RefType::concrete(ty.is_nullable(), index))
+}
+
+fn remap_value<E, F: FnMut(&mut PackedIndex) -> Result<(), E>>(
+    ty: ValType,
+    map: &mut F,
+) -> Result<ValType, E>
+    requires { F.IsAlwaysCallable map.old }
+    ensures visits { MatchResult result (λ new. VisitsValue (CalledAtMut F.FnMut) map.old ty (Ok tt) map.new new) (λ e. VisitsValue (CalledAtMut F.FnMut) map.old ty (Err e) map.new ty) }
+    ensures callable { F.IsAlwaysCallable map.new }
+{
+    match ty {
+        ValType::Ref(reference) => Ok(ValType::Ref(remap_reference(reference, map)?)),
+        ValType::I32 | ValType::I64 | ValType::F32 | ValType::F64 | ValType::V128 => Ok(ty),
+    }
+}
+
+fn remap_field<E, F: FnMut(&mut PackedIndex) -> Result<(), E>>(
+    field: FieldType,
+    map: &mut F,
+) -> Result<FieldType, E>
+    requires { F.IsAlwaysCallable map.old }
+    ensures visits { MatchResult result (λ new. VisitsField (CalledAtMut F.FnMut) map.old field (Ok tt) map.new new) (λ e. VisitsField (CalledAtMut F.FnMut) map.old field (Err e) map.new field) }
+    ensures callable { F.IsAlwaysCallable map.new }
+{
+    let FieldType {
+        element_type,
+        mutable,
+    } = field;
+    let element_type = match element_type {
+        StorageType::Val(ty) => StorageType::Val(remap_value(ty, map)?),
+        StorageType::I8 => StorageType::I8,
+        StorageType::I16 => StorageType::I16,
+    };
+    Ok(FieldType {
+        element_type,
+        mutable,
+    })
+}
