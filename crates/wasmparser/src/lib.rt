@@ -3,4 +3,6 @@
 #![tactic(auto)]
 
 pub use wasm_features::{WasmFeatures, WasmFeaturesInflated};
-pub use wasm_reader::{BinaryReader, Error, Ieee32, Ieee64, Result, limits};
+pub use wasm_reader::{
+    BinaryReader, BinaryReaderIter, Error, ErrorKind, FromReader, Ieee32, Ieee64, Result, limits,
+};
