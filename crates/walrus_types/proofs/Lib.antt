@@ -2,5 +2,6 @@ pub mod DeleteLemmas
 pub mod GroupLemmas
 pub mod LawLemmas
 pub mod OrderLemmas
+pub mod ParseLemmas
 pub mod SameLemmas
 pub mod TableLemmas
