@@ -1,9 +1,8 @@
-pub mod AbstractLemmas
 pub mod DeleteLemmas
-pub mod EqLemmas
 pub mod GroupLemmas
 pub mod LawLemmas
-pub mod ListLemmas
+pub mod MergerLemmas
 pub mod OrderLemmas
+pub mod ParseLemmas
 pub mod SameLemmas
 pub mod TableLemmas

@@ -1,9 +1,10 @@
 //! Laws of the words that the contracts of this crate cite. Each function is its contract alone.
 ghost use Rattle.std.specs.Prelude.{◌≡◌, ℕ, Bool};
-ghost use Rattle.walrus_types.specs.Kinds.{Item, kind_of};
-ghost use Rattle.walrus_types.specs.TypeLaws.{FindsLatest, SameKindIsEquality};
-ghost use Rattle.walrus_types.specs.Same.{same_kind};
-ghost use Rattle.walrus_types.specs.Order.{kind_cmp};
+ghost use Rattle.walrus_types.specs.Items.{Item, kind_of};
+ghost use Rattle.walrus_types.specs.TypeLaws.{FindsLatest};
+ghost use Rattle.walrus_types.specs.Mergers.{ParsingCarriesSame};
+ghost use Rattle.walrus_forms.specs.Same.{same_kind};
+ghost use Rattle.walrus_forms.specs.Order.{kind_cmp};
 ghost use Rattle.walrus_types.specs.contracts.subtype.TypeOrd.TheImpl.{ghosts as type_ord};
 ghost use Rattle.walrus_types.specs.contracts.subtype.TypePartialEq.TheImpl.{ghosts as type_eq};
 
@@ -25,11 +26,6 @@ pub fn search_finds_latest(types: &ModuleTypes)
     let _ = types;
 }
 
-/// The test of kinds is true exactly where they are one.
-pub fn same_kind_is_equality()
-    ensures { SameKindIsEquality }
-{}
-
 /// Two types are ordered as their form, finality, supertype and entry mark are.
 pub fn types_are_ordered_by_kind(a: &Type, b: &Type)
     ensures { type_ord.cmp a.now b.now ≡ kind_cmp (kind_of a.now) (kind_of b.now) }
@@ -37,3 +33,9 @@ pub fn types_are_ordered_by_kind(a: &Type, b: &Type)
     let _ = a;
     let _ = b;
 }
+
+/// What is parsed into a new table carries what stands for what: two types of a section have one id
+/// exactly where they stand for one type.
+pub fn parsing_carries_same()
+    ensures { ParsingCarriesSame }
+{}

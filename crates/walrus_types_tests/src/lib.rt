@@ -7,3 +7,5 @@ mod adds;
 mod edits;
 #[cfg(test)]
 mod groups;
+#[cfg(test)]
+mod records;

@@ -1,0 +1,5 @@
+pub mod AbstractLemmas
+pub mod EqLemmas
+pub mod FormLemmas
+pub mod ListLemmas
+pub mod RenamingLemmas

@@ -1,0 +1,30 @@
+-- Value types and the types that they name.
+use Rattle.std.specs.Prelude.{ℕ, Option, Some, None}
+use Rattle.walrus_forms.specs.declared.value.HeapType.{HeapType}
+use Rattle.walrus_forms.specs.declared.value.HeapType.TheVariants.{Abstract, Concrete, Exact}
+use Rattle.walrus_forms.specs.declared.value.ValType.{ValType}
+use Rattle.walrus_forms.specs.declared.value.ValType.TheVariants.{I32, Ref}
+use Rattle.walrus_forms.specs.declared.value.StorageType.{StorageType}
+use Rattle.walrus_forms.specs.declared.value.StorageType.TheVariants.{Val, I8, I16}
+use Rattle.walrus_forms.specs.declared.value.FieldType.{FieldType}
+
+-- the value type of a field's value on the stack (Core Specification, field types: unpacking)
+abbrev pub unpacked : StorageType → ValType
+unpacked (Val ty) = ty
+unpacked I8 = I32
+unpacked I16 = I32
+
+-- the type that a heap type names, if it names one
+abbrev pub heap_name : HeapType → Option ℕ
+heap_name (Abstract _) = None
+heap_name (Concrete id) = Some id
+heap_name (Exact id) = Some id
+
+-- the type that a value type names
+abbrev pub value_name : ValType → Option ℕ
+value_name (Ref ty) = heap_name ty.heap_type
+value_name _ = None
+
+-- the type that a field names
+abbrev pub field_name : FieldType → Option ℕ
+field_name field = value_name (unpacked field.element_type)
