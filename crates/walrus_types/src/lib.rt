@@ -2,6 +2,8 @@
 #![tactic(auto)]
 
 mod delete;
+mod describe;
+mod emit;
 mod error;
 mod group;
 mod iter;
@@ -11,6 +13,7 @@ mod names;
 mod subtype;
 mod table;
 
+pub use emit::{EmittedTypes, TypeIndices};
 pub use error::IrError;
 pub use group::NewType;
 pub use iter::{RecGroups, Types};
