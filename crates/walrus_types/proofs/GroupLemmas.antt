@@ -9,10 +9,10 @@ use Rattle.std.proofs.Math.Seq.{get_or-append_right}
 use Rattle.walrus_arena.specs.Arena.{entries_from}
 use Rattle.walrus_arena.proofs.ArenaLemmas.{live-within, at-kept, at-last, at-push}
 use Rattle.walrus_types.specs.declared.subtype.Type.{«Type» as TypeItem}
-use Rattle.walrus_types.specs.declared.group.NewType.{NewType}
 use Rattle.walrus_types.specs.Items.{Item, Group, item_of, group_of, kind_of}
+use Rattle.walrus_forms.specs.Kinds.{Kind}
 use Rattle.walrus_types.specs.declared.subtype.RecGroup.{RecGroup}
-use Rattle.walrus_types.specs.Groups.{member_kind, member_items, group_slot, AddsGroup}
+use Rattle.walrus_types.specs.Groups.{new_items, group_slot, AddsGroup}
 use Rattle.walrus_types.specs.Table.{Table, next_id, latest_in, merges, table_of, IsIndex, IsGrouped, IsSound}
 use Rattle.walrus_types.proofs.TableLemmas.{latest_in-push}
 
@@ -32,24 +32,24 @@ latest_in-more types i ty test found less is =
     ∙ ap (λ (t : TypeItem). map (λ (u : TypeItem). (u.id, item_of u)) (take i types) ++ (t.id, item_of t) ∷ []) (sym is))
     ∙ latest_in-push (map (λ (t : TypeItem). (t.id, item_of t)) (take i types)) test found (ty.id, item_of ty)
 
--- as many new types as members, each of them alive
-pub length-member_items : (id : ℕ) (members : List NewType) → length (member_items id members) ≡ length members
-length-member_items id [] = refl
-length-member_items id (m ∷ ms) = ap (λ (n : ℕ). suc n) (length-member_items (id + 1) ms)
+-- as many new types as kinds, each of them alive
+pub length-new_items : (id : ℕ) (kinds : List Kind) → length (new_items id kinds) ≡ length kinds
+length-new_items id [] = refl
+length-new_items id (k ∷ ks) = ap (λ (n : ℕ). suc n) (length-new_items (id + 1) ks)
 
-pub member-some : (id : ℕ) (members : List NewType) (i : ℕ) → i < length members → (item : Item) × (slice_index_or (member_items id members) i None ≡ Some item)
-member-some id [] i less = absurd (omega arith)
-member-some id (m ∷ ms) zero less = (_, refl)
-member-some id (m ∷ ms) (suc i) less = member-some (id + 1) ms i (omega arith)
+pub new-some : (id : ℕ) (kinds : List Kind) (i : ℕ) → i < length kinds → (item : Item) × (slice_index_or (new_items id kinds) i None ≡ Some item)
+new-some id [] i less = absurd (omega arith)
+new-some id (k ∷ ks) zero less = (_, refl)
+new-some id (k ∷ ks) (suc i) less = new-some (id + 1) ks i (omega arith)
 
 -- a new group with its members
-pub grouped-group : (types news : List (Option Item)) (groups : List (Option Group)) (homes tail : List ℕ) (count home : ℕ)
+pub grouped-group : (types news : List (Option Item)) (groups : List (Option Group)) (homes tail : List ℕ) (count home : ℕ) (explicit : Bool)
     → IsGrouped types groups homes → length groups ≡ home → length news ≡ count → length tail ≡ count
     → ((i : ℕ) → i < count → slice_index tail i ≡ home)
     → ((i : ℕ) → i < count → (item : Item) × (slice_index_or news i None ≡ Some item))
-    → IsGrouped (types ++ news) (groups ++ Some (record { explicit = true; types = range_with_len (length types) count }) ∷ []) (homes ++ tail)
-grouped-group types news groups homes tail count home g is_home sized_news sized_tail at_tail at_news =
-    let alone : Group = record { explicit = true; types = range_with_len (length types) count } in
+    → IsGrouped (types ++ news) (groups ++ Some (record { explicit = explicit; types = range_with_len (length types) count }) ∷ []) (homes ++ tail)
+grouped-group types news groups homes tail count home explicit g is_home sized_news sized_tail at_tail at_news =
+    let alone : Group = record { explicit = explicit; types = range_with_len (length types) count } in
     let later : (i : ℕ) → i < count → slice_index (homes ++ tail) (length types + i) ≡ home =
     λ i less. get_or-append_right homes tail (length types + i) 0 (omega (arith, g.sized))
     ∙ ap (λ (k : ℕ). slice_index tail k) (let e : length types + i - length homes ≡ i = omega (arith, g.sized) in e) ∙ at_tail i less in
@@ -111,17 +111,17 @@ shown-made [] = refl
 shown-made (ty ∷ made) = ap (λ (xs : List (Option Item)). Some (item_of ty) ∷ xs) (shown-made made)
 
 -- the entries of new types
-pub seen-members : (made : List TypeItem) (members : List NewType) (n : ℕ) → map (λ (ty : TypeItem). Some (item_of ty)) made ≡ member_items n members
-    → map (λ (ty : TypeItem). (ty.id, item_of ty)) made ≡ entries_from n (member_items n members)
-seen-members [] [] n is = refl
-seen-members [] (m ∷ ms) n is = absurd cc
-seen-members (ty ∷ made) [] n is = absurd cc
-seen-members (ty ∷ made) (m ∷ ms) n is =
-    let item : Item = record { id = n; kind = member_kind m; name = None } in
+pub seen-new : (made : List TypeItem) (kinds : List Kind) (n : ℕ) → map (λ (ty : TypeItem). Some (item_of ty)) made ≡ new_items n kinds
+    → map (λ (ty : TypeItem). (ty.id, item_of ty)) made ≡ entries_from n (new_items n kinds)
+seen-new [] [] n is = refl
+seen-new [] (k ∷ ks) n is = absurd cc
+seen-new (ty ∷ made) [] n is = absurd cc
+seen-new (ty ∷ made) (k ∷ ks) n is =
+    let item : Item = record { id = n; kind = k; name = None } in
     let head : item_of ty ≡ item = cc in
-    let rest : map (λ (t : TypeItem). Some (item_of t)) made ≡ member_items (n + 1) ms = cc in
+    let rest : map (λ (t : TypeItem). Some (item_of t)) made ≡ new_items (n + 1) ks = cc in
     ap (λ (i : Item). (i.id, i) ∷ map (λ (t : TypeItem). (t.id, item_of t)) made) head
-    ∙ ap (λ (es : List (ℕ × Item)). (n, item) ∷ es) (seen-members made ms (n + 1) rest)
+    ∙ ap (λ (es : List (ℕ × Item)). (n, item) ∷ es) (seen-new made ks (n + 1) rest)
 
 pub entries_from-append : {X : Type 0} (id : ℕ) (xs ys : List (Option X)) (next : ℕ) → id + length xs ≡ next
     → entries_from id (xs ++ ys) ≡ entries_from id xs ++ entries_from next ys
@@ -135,17 +135,17 @@ latest_in-append [] ys test found = refl
 latest_in-append (x ∷ xs) ys test found = latest_in-append xs ys test (cond (test x) (Some x.0) found)
 
 -- new types in the index
-pub index-group : (types : List (Option Item)) (made : List TypeItem) (members : List NewType) (old new : TypeItem → Option ℕ)
-    → IsIndex old types → map (λ (ty : TypeItem). Some (item_of ty)) made ≡ member_items (length types) members
+pub index-group : (types : List (Option Item)) (made : List TypeItem) (kinds : List Kind) (old new : TypeItem → Option ℕ)
+    → IsIndex old types → map (λ (ty : TypeItem). Some (item_of ty)) made ≡ new_items (length types) kinds
     → ((q : TypeItem) → new q ≡ latest_in (merges (kind_of q)) (old q) (map (λ (ty : TypeItem). (ty.id, item_of ty)) made))
-    → IsIndex new (types ++ member_items (length types) members)
-index-group types made members old new index is updates = λ q.
+    → IsIndex new (types ++ new_items (length types) kinds)
+index-group types made kinds old new index is updates = λ q.
     updates q
     ∙ ap (λ (o : Option ℕ). latest_in (merges (kind_of q)) o (map (λ (ty : TypeItem). (ty.id, item_of ty)) made)) (index q)
-    ∙ ap (λ (es : List (ℕ × Item)). latest_in (merges (kind_of q)) (latest_in (merges (kind_of q)) None (entries_from 0 types)) es) (seen-members made members (length types) is)
-    ∙ sym (latest_in-append (entries_from 0 types) (entries_from (length types) (member_items (length types) members)) (merges (kind_of q)) None)
+    ∙ ap (λ (es : List (ℕ × Item)). latest_in (merges (kind_of q)) (latest_in (merges (kind_of q)) None (entries_from 0 types)) es) (seen-new made kinds (length types) is)
+    ∙ sym (latest_in-append (entries_from 0 types) (entries_from (length types) (new_items (length types) kinds)) (merges (kind_of q)) None)
     ∙ ap (λ (es : List (ℕ × Item)). latest_in (merges (kind_of q)) None es)
-    (sym (entries_from-append 0 types (member_items (length types) members) (length types) (omega arith)))
+    (sym (entries_from-append 0 types (new_items (length types) kinds) (length types) (omega arith)))
 
 -- each of a list of one value is that value
 pub const-at : {X : Type 0} (xs : List X) (home i : ℕ) → i < length xs → slice_index (map (λ (x : X). home) xs) i ≡ home
@@ -154,72 +154,72 @@ const-at (x ∷ xs) home zero less = refl
 const-at (x ∷ xs) home (suc i) less = const-at xs home i (omega arith)
 
 -- a new group in a table
-pub sound-group : (types : List (Option TypeItem)) (groups : List (Option RecGroup)) (homes : List ℕ) (made : List TypeItem) (members : List NewType)
-    (group : RecGroup) (n home : ℕ) (fresh : Bool) (old new : TypeItem → Option ℕ)
+pub sound-group : (types : List (Option TypeItem)) (groups : List (Option RecGroup)) (homes : List ℕ) (made : List TypeItem) (kinds : List Kind)
+    (group : RecGroup) (n home : ℕ) (explicit fresh : Bool) (old new : TypeItem → Option ℕ)
     → IsGrouped (map (option_map item_of) types) (map (option_map group_of) groups) homes
     → (fresh ≡ true → IsIndex old (map (option_map item_of) types))
     → length types ≡ n → length groups ≡ home
-    → map (λ (ty : TypeItem). Some (item_of ty)) made ≡ member_items n members
-    → group_of group ≡ record { explicit = true; types = range_with_len n (length members) }
+    → map (λ (ty : TypeItem). Some (item_of ty)) made ≡ new_items n kinds
+    → group_of group ≡ record { explicit = explicit; types = range_with_len n (length kinds) }
     → ((q : TypeItem) → new q ≡ latest_in (merges (kind_of q)) (old q) (map (λ (ty : TypeItem). (ty.id, item_of ty)) made))
     → IsSound fresh new (table_of (types ++ map (λ (ty : TypeItem). Some ty) made) (groups ++ Some group ∷ [])) (homes ++ map (λ (ty : TypeItem). home) made)
-sound-group types groups homes made members group n home fresh old new g index is_n is_home shown alone noted =
+sound-group types groups homes made kinds group n home explicit fresh old new g index is_n is_home shown alone noted =
     let count_types : n ≡ length (map (option_map item_of) types) = sym (length-map types (option_map item_of) ∙ is_n) in
-    let there : map (λ (ty : TypeItem). Some (item_of ty)) made ≡ member_items (length (map (option_map item_of) types)) members =
-    shown ∙ ap (λ (k : ℕ). member_items k members) count_types in
-    let more_types : map (option_map item_of) (types ++ map (λ (ty : TypeItem). Some ty) made) ≡ map (option_map item_of) types ++ member_items (length (map (option_map item_of) types)) members =
+    let there : map (λ (ty : TypeItem). Some (item_of ty)) made ≡ new_items (length (map (option_map item_of) types)) kinds =
+    shown ∙ ap (λ (k : ℕ). new_items k kinds) count_types in
+    let more_types : map (option_map item_of) (types ++ map (λ (ty : TypeItem). Some ty) made) ≡ map (option_map item_of) types ++ new_items (length (map (option_map item_of) types)) kinds =
     map-append (option_map item_of) types (map (λ (ty : TypeItem). Some ty) made)
     ∙ ap (λ (xs : List (Option Item)). map (option_map item_of) types ++ xs) (shown-made made ∙ there) in
-    let alone_here : group_of group ≡ record { explicit = true; types = range_with_len (length (map (option_map item_of) types)) (length members) } =
-    alone ∙ ap (λ (k : ℕ). let h : Group = record { explicit = true; types = range_with_len k (length members) } in h) count_types in
+    let alone_here : group_of group ≡ record { explicit = explicit; types = range_with_len (length (map (option_map item_of) types)) (length kinds) } =
+    alone ∙ ap (λ (k : ℕ). let h : Group = record { explicit = explicit; types = range_with_len k (length kinds) } in h) count_types in
     let more_groups : map (option_map group_of) (groups ++ Some group ∷ [])
-    ≡ map (option_map group_of) groups ++ Some (record { explicit = true; types = range_with_len (length (map (option_map item_of) types)) (length members) }) ∷ [] =
+    ≡ map (option_map group_of) groups ++ Some (record { explicit = explicit; types = range_with_len (length (map (option_map item_of) types)) (length kinds) }) ∷ [] =
     map-append (option_map group_of) groups (Some group ∷ []) ∙ ap (λ (h : Group). map (option_map group_of) groups ++ Some h ∷ []) alone_here in
-    let count_made : length made ≡ length members =
-    sym (length-map made (λ (ty : TypeItem). Some (item_of ty))) ∙ ap (λ (xs : List (Option Item)). length xs) shown ∙ length-member_items n members in
+    let count_made : length made ≡ length kinds =
+    sym (length-map made (λ (ty : TypeItem). Some (item_of ty))) ∙ ap (λ (xs : List (Option Item)). length xs) shown ∙ length-new_items n kinds in
     record {
-      index = λ f. rw more_types (index-group (map (option_map item_of) types) made members old new (index f) there noted);
+      index = λ f. rw more_types (index-group (map (option_map item_of) types) made kinds old new (index f) there noted);
       grouped = rw (more_types, more_groups)
-          (grouped-group (map (option_map item_of) types) (member_items (length (map (option_map item_of) types)) members) (map (option_map group_of) groups) homes
-          (map (λ (ty : TypeItem). home) made) (length members) home g
+          (grouped-group (map (option_map item_of) types) (new_items (length (map (option_map item_of) types)) kinds) (map (option_map group_of) groups) homes
+          (map (λ (ty : TypeItem). home) made) (length kinds) home explicit g
           (length-map groups (option_map group_of) ∙ is_home)
-          (length-member_items (length (map (option_map item_of) types)) members)
+          (length-new_items (length (map (option_map item_of) types)) kinds)
           (length-map made (λ (ty : TypeItem). home) ∙ count_made)
           (λ i less. const-at made home i (omega arith))
-          (member-some (length (map (option_map item_of) types)) members));
+          (new-some (length (map (option_map item_of) types)) kinds));
     }
 
--- as many types are made as there are members
-pub made-length : (made : List TypeItem) (members : List NewType) (n : ℕ) → map (λ (ty : TypeItem). Some (item_of ty)) made ≡ member_items n members
-    → length made ≡ length members
-made-length made members n shown =
-    sym (length-map made (λ (ty : TypeItem). Some (item_of ty))) ∙ ap (λ (xs : List (Option Item)). length xs) shown ∙ length-member_items n members
+-- as many types are made as there are kinds
+pub made-length : (made : List TypeItem) (kinds : List Kind) (n : ℕ) → map (λ (ty : TypeItem). Some (item_of ty)) made ≡ new_items n kinds
+    → length made ≡ length kinds
+made-length made kinds n shown =
+    sym (length-map made (λ (ty : TypeItem). Some (item_of ty))) ∙ ap (λ (xs : List (Option Item)). length xs) shown ∙ length-new_items n kinds
 
 -- a group with a member takes a slot
-some-slot : (n count : ℕ) → 0 < count → group_slot (range_with_len n count) ≡ Some (record { explicit = true; types = range_with_len n count }) ∷ []
-some-slot n zero some = absurd (omega arith)
-some-slot n (suc count) some = refl
+some-slot : (explicit : Bool) (n count : ℕ) → 0 < count → group_slot explicit (range_with_len n count) ≡ Some (record { explicit = explicit; types = range_with_len n count }) ∷ []
+some-slot explicit n zero some = absurd (omega arith)
+some-slot explicit n (suc count) some = refl
 
 -- the table with a new group is as it should be
-pub adds-group : (types : List (Option TypeItem)) (groups : List (Option RecGroup)) (made : List TypeItem) (members : List NewType) (group : RecGroup) (n : ℕ) (t : Table)
+pub adds-group : (types : List (Option TypeItem)) (groups : List (Option RecGroup)) (made : List TypeItem) (kinds : List Kind) (group : RecGroup) (n : ℕ) (explicit : Bool) (t : Table)
     → table_of types groups ≡ t → length types ≡ n
-    → map (λ (ty : TypeItem). Some (item_of ty)) made ≡ member_items n members
-    → group_of group ≡ record { explicit = true; types = range_with_len n (length members) }
-    → 0 < length members
-    → AddsGroup members t (table_of (types ++ map (λ (ty : TypeItem). Some ty) made) (groups ++ Some group ∷ []))
-adds-group types groups made members group n t view is_n shown alone some =
+    → map (λ (ty : TypeItem). Some (item_of ty)) made ≡ new_items n kinds
+    → group_of group ≡ record { explicit = explicit; types = range_with_len n (length kinds) }
+    → 0 < length kinds
+    → AddsGroup explicit kinds t (table_of (types ++ map (λ (ty : TypeItem). Some ty) made) (groups ++ Some group ∷ []))
+adds-group types groups made kinds group n explicit t view is_n shown alone some =
     let next : n ≡ next_id t = sym (length-map types (option_map item_of) ∙ is_n) ∙ ap (λ (u : Table). length u.types) view in
     record {
       types =
           map-append (option_map item_of) types (map (λ (ty : TypeItem). Some ty) made)
-          ∙ ap (λ (xs : List (Option Item)). map (option_map item_of) types ++ xs) (shown-made made ∙ shown ∙ ap (λ (k : ℕ). member_items k members) next)
-          ∙ ap (λ (u : Table). u.types ++ member_items (next_id t) members) view;
+          ∙ ap (λ (xs : List (Option Item)). map (option_map item_of) types ++ xs) (shown-made made ∙ shown ∙ ap (λ (k : ℕ). new_items k kinds) next)
+          ∙ ap (λ (u : Table). u.types ++ new_items (next_id t) kinds) view;
       groups =
           map-append (option_map group_of) groups (Some group ∷ [])
           ∙ ap (λ (h : Group). map (option_map group_of) groups ++ Some h ∷ []) alone
-          ∙ ap (λ (xs : List (Option Group)). map (option_map group_of) groups ++ xs) (sym (some-slot n (length members) some))
-          ∙ ap (λ (k : ℕ). map (option_map group_of) groups ++ group_slot (range_with_len k (length members))) next
-          ∙ ap (λ (u : Table). u.groups ++ group_slot (range_with_len (next_id t) (length members))) view;
+          ∙ ap (λ (xs : List (Option Group)). map (option_map group_of) groups ++ xs) (sym (some-slot explicit n (length kinds) some))
+          ∙ ap (λ (k : ℕ). map (option_map group_of) groups ++ group_slot explicit (range_with_len k (length kinds))) next
+          ∙ ap (λ (u : Table). u.groups ++ group_slot explicit (range_with_len (next_id t) (length kinds))) view;
     }
 
 -- the next id of a table

@@ -1,5 +1,5 @@
 -- New recursion groups.
-use Rattle.std.specs.Prelude.{ℕ, ◌+◌, ◌≡◌, ◌≢◌, ◌⊎◌, ⊤, Vec, Result, Ok, Err, true, List, [], ◌∷◌, ◌++◌, length, Option, Some, None}
+use Rattle.std.specs.Prelude.{ℕ, ◌+◌, ◌≡◌, ◌≢◌, ◌⊎◌, ⊤, Vec, Result, Ok, Err, Bool, true, List, [], ◌∷◌, ◌++◌, length, map, Option, Some, None}
 use Rattle.std.specs.List.{range_with_len}
 use Rattle.walrus_types.specs.declared.group.NewType.{NewType}
 use Rattle.std.specs.declared.alloc.Global.{Global}
@@ -14,27 +14,28 @@ use Rattle.walrus_types.specs.Table.{Table, next_id}
 abbrev pub member_kind : NewType → Kind
 member_kind member = declared_kind (form_of member.kind) member.is_final member.supertype
 
--- the types of new members, the first of which has this id
-abbrev pub member_items : ℕ → List NewType → List (Option Item)
-member_items id [] = []
-member_items id (member ∷ members) = Some (record { id = id; kind = member_kind member; name = None }) ∷ member_items (id + 1) members
+-- types of these kinds, the first of which has this id
+abbrev pub new_items : ℕ → List Kind → List (Option Item)
+new_items id [] = []
+new_items id (kind ∷ kinds) = Some (record { id = id; kind = kind; name = None }) ∷ new_items (id + 1) kinds
 
 -- the slot of a new group: an empty group takes none
-abbrev pub group_slot : List ℕ → List (Option Group)
-group_slot [] = []
-group_slot (id ∷ ids) = Some (record { explicit = true; types = id ∷ ids }) ∷ []
+abbrev pub group_slot : Bool → List ℕ → List (Option Group)
+group_slot explicit [] = []
+group_slot explicit (id ∷ ids) = Some (record { explicit = explicit; types = id ∷ ids }) ∷ []
 
--- the table has these new types, under the next ids, in an explicit group of their own
-pub record AddsGroup (members : List NewType) (old new : Table) : Type 0 where
-  pub types : new.types ≡ old.types ++ member_items (next_id old) members
-  pub groups : new.groups ≡ old.groups ++ group_slot (range_with_len (next_id old) (length members))
+-- the table has new types of these kinds, under the next ids, in a group of their own, which is written
+-- as one or not
+pub record AddsGroup (explicit : Bool) (kinds : List Kind) (old new : Table) : Type 0 where
+  pub types : new.types ≡ old.types ++ new_items (next_id old) kinds
+  pub groups : new.groups ≡ old.groups ++ group_slot explicit (range_with_len (next_id old) (length kinds))
 
 -- the closure made so many members, and the table has them
 pub record IsBuilt (returns : Result (Vec NewType Global) IrError → Type 0) (count : ℕ) (old new : Table) : Type 0 where
   pub members : Vec NewType Global
   pub returned : returns (Ok members)
   pub counted : length members.items ≡ count
-  pub added : AddsGroup members.items old new
+  pub added : AddsGroup true (map member_kind members.items) old new
 
 -- why no group was added: a count that differs, or what the closure answered
 abbrev pub IsCause : (Result (Vec NewType Global) IrError → Type 0) → ℕ → IrError → Type 0

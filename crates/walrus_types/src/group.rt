@@ -4,7 +4,7 @@ ghost use Rattle.std.specs.List.{range_with_len};
 ghost use Rattle.std.specs.HashMap.{get};
 ghost use Rattle.walrus_types.specs.Items.{item_of, kind_of};
 ghost use Rattle.walrus_types.specs.Table.{latest_in, merges};
-ghost use Rattle.walrus_types.specs.Groups.{member_items};
+ghost use Rattle.walrus_types.specs.Groups.{new_items, member_kind};
 ghost use Rattle.walrus_types.specs.declared.subtype.Type.{«Type» as TypeItem};
 ghost use Rattle.walrus_types.specs.contracts.subtype.TypePartialEq.TheImpl.{ghosts as type_eq};
 
@@ -48,7 +48,7 @@ pub(crate) fn types_of(
     members: Vec<NewType>,
 ) -> Result<Vec<Type>, AllocError>
     requires { first + length members.items < 2 ^ 64 }
-    ensures { IfOk result (λ types. map (λ ty. Some (item_of ty)) types.items ≡ member_items first members.items) }
+    ensures { IfOk result (λ types. map (λ ty. Some (item_of ty)) types.items ≡ new_items first (map member_kind members.items)) }
 {
     let mut types = Vec::new(alloc);
     let mut next = first.index();

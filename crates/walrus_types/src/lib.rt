@@ -10,6 +10,7 @@ mod iter;
 pub mod laws;
 mod local;
 mod names;
+mod parse;
 mod subtype;
 mod table;
 

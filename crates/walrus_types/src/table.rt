@@ -11,7 +11,7 @@ ghost use Rattle.walrus_types.specs.Table.{table_of, next_id, type_at, IsLive, I
 ghost use Rattle.walrus_arena.specs.Arena.{entries_from};
 ghost use Rattle.std.specs.Fn.{FnOnceTakesAt, FnOnceReturnsAt};
 ghost use Rattle.std.specs.List.{range_with_len};
-ghost use Rattle.walrus_types.specs.Groups.{AddsGroup, IsBuilt, IsCause};
+ghost use Rattle.walrus_types.specs.Groups.{AddsGroup, IsBuilt, IsCause, member_kind};
 ghost use Rattle.walrus_types.specs.TypeLaws.{AreGrouped};
 ghost use Rattle.walrus_types.specs.TableLends.{lends_type};
 ghost use Rattle.walrus_types.specs.declared.subtype.Type.{«Type» as TypeItem};
@@ -208,8 +208,20 @@ impl ModuleTypes {
         self.groups.delete(home);
     }
 
+    // Where its lists take their memory.
+    pub(crate) fn alloc(&self) -> Global {
+        self.alloc
+    }
+
+    // The id that the next new type gets.
+    pub(crate) fn next_id(&self) -> TypeId
+        ensures { result ≡ next_id self.now }
+    {
+        self.types.next_id()
+    }
+
     // The id of the type that stands for one of this kind, which is added where there is none.
-    fn insert(
+    pub(crate) fn insert(
         &mut self,
         kind: CompositeType,
         is_final: bool,
@@ -418,14 +430,18 @@ impl ModuleTypes {
         if members.len() != count {
             return Err(IrError::WrongCount);
         }
-        self.append_group(members)?;
+        self.append_group(true, members)?;
         Ok(ids)
     }
 
-    // Adds an explicit group of these types. Asks that their ids fit.
-    fn append_group(&mut self, members: Vec<NewType>) -> Result<(), AllocError>
+    // Adds a group of these types, which is written as one or not. Asks that their ids fit.
+    pub(crate) fn append_group(
+        &mut self,
+        explicit: bool,
+        members: Vec<NewType>,
+    ) -> Result<(), AllocError>
         requires { next_id self.old + length members.items < 2 ^ 64 }
-        ensures added { OnOk result (AddsGroup members.items self.old self.new) }
+        ensures added { OnOk result (AddsGroup explicit (map member_kind members.items) self.old self.new) }
         ensures refused { OnErr result (self.new ≡ self.old) }
     {
         let count = members.len();
@@ -440,7 +456,7 @@ impl ModuleTypes {
         self.groups.reserve(1)?;
         let fresh = mem::replace(&mut self.fresh, false);
         note_all(&mut self.index, types.as_slice())?;
-        let home = self.groups.alloc_reserved(RecGroup::new(true, ids));
+        let home = self.groups.alloc_reserved(RecGroup::new(explicit, ids));
         push_types(&mut self.types, &mut self.homes, types, home);
         self.fresh = fresh;
         Ok(())

@@ -1,11 +1,11 @@
 use Rattle.std.proofs.Common.{◌≡◌, ◌+◌, ◌++◌, map, length, Some}
 use Rattle.std.specs.Vec.Iter.{into_iter_items}
-use Rattle.walrus_types.specs.Groups.{member_items}
+use Rattle.walrus_types.specs.Groups.{new_items, member_kind}
 use Rattle.walrus_types.specs.Items.{item_of}
 use Rattle.walrus_types.proofs.group.types_of.Given as goal
 
 abbrev pub invariant-loop-member : goal.invariant-loop-member
 invariant-loop-member l = record {
   counted : l.next + length (into_iter_items l.member-iterator) ≡ l.fn.first + length l.fn.members.items;
-  made : map (λ ty. Some (item_of ty)) l.types.items ++ member_items l.next (into_iter_items l.member-iterator) ≡ member_items l.fn.first l.fn.members.items;
+  made : map (λ ty. Some (item_of ty)) l.types.items ++ new_items l.next (map member_kind (into_iter_items l.member-iterator)) ≡ new_items l.fn.first (map member_kind l.fn.members.items);
 }

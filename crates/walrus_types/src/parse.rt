@@ -1,0 +1,121 @@
+//! Adding the groups of a type section to a table.
+ghost use Rattle.std.specs.Prelude.{◌≡◌, ◌+◌, ◌<◌, ◌++◌, ◌∷◌, ◌&&◌, ◌==◌, not, false, [], All, IfOk, OnOk, OnErr, IfSome, length, map};
+ghost use Rattle.walrus_forms.specs.Kinds.{Kind};
+ghost use Rattle.walrus_forms.specs.Records.{record_kind, type_group};
+ghost use Rattle.walrus_forms.specs.Renaming.{KindBelow, at, renamed_kind};
+ghost use Rattle.walrus_types.specs.Groups.{member_kind};
+ghost use Rattle.walrus_types.specs.Table.{next_id};
+ghost use Rattle.walrus_types.specs.Parsing.{Parsed, parsed, parsed_group, unparsed, AreBelow, IsPartOf};
+
+use crate::group::{NewType, ids_from};
+use crate::table::ModuleTypes;
+use std::alloc::{AllocError, Global};
+use walrus_arena::TypeId;
+use walrus_forms::{GroupRecord, TypeRecord};
+
+// The type that the record describes, where each index names the id that the list has there.
+fn resolve(alloc: Global, ty: &TypeRecord, ids: &[TypeId]) -> Result<NewType, AllocError>
+    requires { KindBelow (length ids.now) (record_kind ty.now) }
+    ensures { IfOk result (λ new. member_kind new ≡ renamed_kind (at ids.now) (record_kind ty.now)) }
+{
+    let kind = ty.kind.resolve(alloc, ids)?;
+    let supertype = match ty.supertype {
+        Some(index) => Some(ids[index as usize]),
+        None => None,
+    };
+    Ok(NewType {
+        kind,
+        is_final: ty.is_final,
+        supertype,
+    })
+}
+
+// Whether it is one type that stands in no written group.
+fn is_single(group: &GroupRecord) -> bool
+    ensures { result ≡ (not group.now.marked && length group.now.types.items == 1) }
+{
+    !group.marked && group.types.len() == 1
+}
+
+// The types that the records describe.
+fn resolve_all(
+    alloc: Global,
+    types: &[TypeRecord],
+    ids: &[TypeId],
+) -> Result<Vec<NewType>, AllocError>
+    requires { All (KindBelow (length ids.now)) (map record_kind types.now) }
+    ensures { IfOk result (λ news. map member_kind news.items ≡ map (renamed_kind (at ids.now)) (map record_kind types.now)) }
+{
+    let mut news = Vec::new(alloc);
+    for ty in types {
+        news.push(resolve(alloc, ty, ids)?)?;
+    }
+    Ok(news)
+}
+
+impl ModuleTypes {
+    /// Adds the groups of a type section and gives, for each of its types, the id of the type that
+    /// stands for it.
+    ///
+    /// A type of an unmarked record of its own merges with the latest equal type of the table, unless
+    /// it names itself. Other records are added as groups, whose mark is kept; a record of no types
+    /// adds nothing. Asks that each index is below the end of its group.
+    ///
+    /// # Errors
+    ///
+    /// Want of memory. The groups before the refused one stay added.
+    pub fn parse_types(&mut self, groups: &[GroupRecord]) -> Result<Vec<TypeId>, AllocError>
+        requires { AreBelow 0 (map type_group groups.now) }
+        ensures ids { IfOk result (λ ids. ids.items ≡ (parsed (map type_group groups.now) (unparsed self.old)).ids) }
+        ensures table { OnOk result (self.new ≡ (parsed (map type_group groups.now) (unparsed self.old)).table) }
+        ensures refused { OnErr result (IsPartOf (map type_group groups.now) self.old self.new) }
+    {
+        let mut ids = Vec::new(self.alloc());
+        for group in groups {
+            self.parse_group(group, &mut ids)?;
+        }
+        Ok(ids)
+    }
+
+    // Adds a group, and to `ids` those of its types.
+    fn parse_group(&mut self, group: &GroupRecord, ids: &mut Vec<TypeId>) -> Result<(), AllocError>
+        requires { let g = type_group group.now in All (KindBelow (length ids.old.items + length g.kinds)) g.kinds }
+        ensures ids { OnOk result (ids.new.items ≡ (parsed_group (type_group group.now) (record { ids = ids.old.items; table = self.old })).ids) }
+        ensures table { OnOk result (self.new ≡ (parsed_group (type_group group.now) (record { ids = ids.old.items; table = self.old })).table) }
+        ensures refused { OnErr result (self.new ≡ self.old) }
+    {
+        let types = group.types.as_slice();
+        if is_single(group) {
+            return self.parse_single(&types[0], ids);
+        }
+        let first = self.next_id();
+        if types.len() > usize::MAX - first.index() {
+            return Err(AllocError);
+        }
+        let own = ids_from(self.alloc(), first, types.len())?;
+        ids.extend_from_slice(own.as_slice())?;
+        let members = resolve_all(self.alloc(), types, ids.as_slice())?;
+        self.append_group(group.marked, members)
+    }
+
+    // Adds a type that stands in no group, and to `ids` that of the type that stands for it.
+    fn parse_single(&mut self, ty: &TypeRecord, ids: &mut Vec<TypeId>) -> Result<(), AllocError>
+        requires { KindBelow (length ids.old.items + 1) (record_kind ty.now) }
+        ensures ids { OnOk result (ids.new.items ≡ (parsed_group (record { marked = false; kinds = record_kind ty.now ∷ [] }) (record { ids = ids.old.items; table = self.old })).ids) }
+        ensures table { OnOk result (self.new ≡ (parsed_group (record { marked = false; kinds = record_kind ty.now ∷ [] }) (record { ids = ids.old.items; table = self.old })).table) }
+        ensures refused { OnErr result (self.new ≡ self.old) }
+    {
+        let before = ids.len();
+        ids.push(self.next_id())?;
+        let new = resolve(self.alloc(), ty, ids.as_slice())?;
+        let NewType {
+            kind,
+            is_final,
+            supertype,
+        } = new;
+        let id = self.insert(kind, is_final, supertype, false)?;
+        ids.truncate(before);
+        ids.push_reserved(id);
+        Ok(())
+    }
+}
