@@ -6,4 +6,6 @@ mod adds;
 #[cfg(test)]
 mod edits;
 #[cfg(test)]
+mod emission;
+#[cfg(test)]
 mod groups;
