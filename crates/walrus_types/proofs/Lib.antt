@@ -1,4 +1,5 @@
 pub mod DeleteLemmas
+pub mod EmitLemmas
 pub mod GroupLemmas
 pub mod LawLemmas
 pub mod MergerLemmas

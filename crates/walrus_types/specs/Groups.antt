@@ -4,7 +4,7 @@ use Rattle.std.specs.List.{range_with_len}
 use Rattle.walrus_types.specs.declared.group.NewType.{NewType}
 use Rattle.std.specs.declared.alloc.Global.{Global}
 use Rattle.walrus_types.specs.declared.error.IrError.{IrError}
-use Rattle.walrus_types.specs.declared.error.IrError.TheVariants.{Memory, WrongCount}
+use Rattle.walrus_types.specs.declared.error.IrError.TheVariants.{Memory, WrongCount, Dead, EntryOnly, Later}
 use Rattle.walrus_forms.specs.Forms.{form_of}
 use Rattle.walrus_forms.specs.Kinds.{Kind, declared_kind}
 use Rattle.walrus_types.specs.Items.{Item, Group}
@@ -42,3 +42,6 @@ abbrev pub IsCause : (Result (Vec NewType Global) IrError → Type 0) → ℕ �
 IsCause returns count Memory = ⊤
 IsCause returns count WrongCount =
     returns (Err WrongCount) ⊎ ((members : Vec NewType Global) × returns (Ok members) × (length members.items ≢ count))
+IsCause returns count Dead = returns (Err Dead)
+IsCause returns count EntryOnly = returns (Err EntryOnly)
+IsCause returns count Later = returns (Err Later)

@@ -1,3 +1,4 @@
+pub mod Emission
 pub mod Groups
 pub mod Items
 pub mod Lends

@@ -13,6 +13,15 @@ pub enum IrError {
     /// A recursion group was made with another count of types than was asked for.
     #[error("a recursion group has another count of types than was asked for")]
     WrongCount,
+    /// A type that is written names a deleted one.
+    #[error("a type names a deleted type")]
+    Dead,
+    /// A type that is written names an entry type, which never is.
+    #[error("a type names an entry type")]
+    EntryOnly,
+    /// A type that is written names one past its own group.
+    #[error("a type names one past its own group")]
+    Later,
 }
 
 impl From<AllocError> for IrError {

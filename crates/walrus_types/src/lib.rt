@@ -2,6 +2,8 @@
 #![tactic(auto)]
 
 mod delete;
+mod describe;
+mod emit;
 mod error;
 mod group;
 mod iter;
@@ -12,6 +14,7 @@ mod parse;
 mod subtype;
 mod table;
 
+pub use emit::{EmittedTypes, TypeIndices};
 pub use error::IrError;
 pub use group::NewType;
 pub use iter::{RecGroups, Types};

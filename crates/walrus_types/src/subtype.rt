@@ -133,6 +133,13 @@ impl Type {
         self.kind.is_array()
     }
 
+    // Whether it is the type of a body's own block, which is never written.
+    pub(crate) fn is_entry(&self) -> bool
+        ensures { result ≡ self.now.entry }
+    {
+        self.entry
+    }
+
     // Whether it has this name.
     pub(crate) fn is_named(&self, name: &str) -> bool
         ensures { result ≡ has_name name.now (item_of self.now) }

@@ -35,9 +35,9 @@ use walrus_forms::{ArrayType, CompositeType, FieldType, FunctionType, StructType
 /// types are equal, the latest one stands for the new one. A type that names itself equals no other.
 #[derive(Drop)]
 pub struct ModuleTypes {
-    alloc: Global,
-    types: TombstoneArena<Type, TypeSpace>,
-    groups: TombstoneArena<RecGroup, RecGroupSpace>,
+    pub(crate) alloc: Global,
+    pub(crate) types: TombstoneArena<Type, TypeSpace>,
+    pub(crate) groups: TombstoneArena<RecGroup, RecGroupSpace>,
     // The group of each type ever added.
     homes: Vec<RecGroupId>,
     // Where `fresh`, the latest live type of each kind, those that name themselves aside.

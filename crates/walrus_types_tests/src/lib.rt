@@ -6,6 +6,8 @@ mod adds;
 #[cfg(test)]
 mod edits;
 #[cfg(test)]
+mod emission;
+#[cfg(test)]
 mod groups;
 #[cfg(test)]
 mod records;

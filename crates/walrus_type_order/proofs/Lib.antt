@@ -1,0 +1,5 @@
+mod AnchorLemmas
+mod ListLemmas
+mod OrderLemmas
+mod PlaceLemmas
+mod UniqueLemmas
