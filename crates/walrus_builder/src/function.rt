@@ -78,9 +78,9 @@ impl FunctionBuilder {
     pub fn func_body(&mut self) -> &mut InstrSeqBuilder
         ensures* writes_back { sem 𝓛 (lends_builder self.entry result) }
         ensures at { result.now.id ≡ 0 }
-        ensures contents { contents result.now ≡ contents self.old.builder }
+        ensures seqs { result.now.seqs ≡ seqs_of self.old }
     {
-        self.builder.go_to(InstrSeqId::from_index(0));
+        self.builder.go_to_body();
         &mut self.builder
     }
 
@@ -89,7 +89,7 @@ impl FunctionBuilder {
         requires { id < length (seqs_of self.old) }
         ensures* writes_back { sem 𝓛 (lends_builder self.entry result) }
         ensures at { result.now.id ≡ id }
-        ensures contents { contents result.now ≡ contents self.old.builder }
+        ensures seqs { result.now.seqs ≡ seqs_of self.old }
     {
         self.builder.go_to(id);
         &mut self.builder
