@@ -10,7 +10,7 @@ use Rattle.walrus_arena.specs.Arena.{entries_from}
 use Rattle.walrus_arena.proofs.ArenaLemmas.{live-within, at-kept, at-last, at-push}
 use Rattle.walrus_types.specs.declared.subtype.Type.{«Type» as TypeItem}
 use Rattle.walrus_types.specs.declared.group.NewType.{NewType}
-use Rattle.walrus_types.specs.Kinds.{Item, Group, item_of, group_of, kind_of}
+use Rattle.walrus_types.specs.Items.{Item, Group, item_of, group_of, kind_of}
 use Rattle.walrus_types.specs.declared.subtype.RecGroup.{RecGroup}
 use Rattle.walrus_types.specs.Groups.{member_kind, member_items, group_slot, AddsGroup}
 use Rattle.walrus_types.specs.Table.{Table, next_id, latest_in, merges, table_of, IsIndex, IsGrouped, IsSound}

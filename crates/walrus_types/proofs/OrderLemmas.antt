@@ -6,25 +6,12 @@ use Rattle.std.specs.Ordering.{ordering_then, bool_cmp, nat_cmp}
 use Rattle.std.specs.Option.{option_cmp}
 use Rattle.walrus_arena.specs.contracts.id.IdOrd.TheImpl as id_impl
 use Rattle.walrus_arena.specs.contracts.id.TypeSpace.{the_row as type_space}
-use Rattle.walrus_types.specs.declared.composite.CompositeType.{CompositeType}
-use Rattle.walrus_types.specs.declared.composite.CompositeType.TheVariants.{Function, Struct, Array}
 use Rattle.walrus_types.specs.declared.subtype.Type.{«Type» as TypeItem}
 use Rattle.walrus_types.specs.contracts.subtype.TypeOrd.TheImpl.{ghosts as type_ord}
-use Rattle.walrus_types.specs.contracts.composite.CompositeTypeOrd.TheImpl.{ghosts as composite_ord}
-use Rattle.walrus_types.specs.Forms.{form_of}
-use Rattle.walrus_types.specs.Kinds.{kind_of}
-use Rattle.walrus_types.specs.Order.{form_cmp, kind_cmp}
-
-pub composite_ord-forms : (a b : CompositeType) → composite_ord.cmp a b ≡ form_cmp (form_of a) (form_of b)
-composite_ord-forms (Function a) (Function b) = refl
-composite_ord-forms (Function a) (Struct b) = refl
-composite_ord-forms (Function a) (Array b) = refl
-composite_ord-forms (Struct a) (Function b) = refl
-composite_ord-forms (Struct a) (Struct b) = refl
-composite_ord-forms (Struct a) (Array b) = refl
-composite_ord-forms (Array a) (Function b) = refl
-composite_ord-forms (Array a) (Struct b) = refl
-composite_ord-forms (Array a) (Array b) = refl
+use Rattle.walrus_forms.proofs.FormLemmas.{composite_ord-forms}
+use Rattle.walrus_forms.specs.Forms.{form_of}
+use Rattle.walrus_types.specs.Items.{kind_of}
+use Rattle.walrus_forms.specs.Order.{form_cmp, kind_cmp}
 
 then-equal : (o : Ordering) → ordering_then o Equal ≡ o
 then-equal Less = refl

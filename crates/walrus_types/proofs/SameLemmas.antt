@@ -3,27 +3,14 @@ use Rattle.std.proofs.Common.{◌≡◌, ℕ, Bool, refl, ap, ◌∙◌, Option,
 use Rattle.std.specs.Bool.{beq}
 use Rattle.std.specs.Option.{option_eq}
 use Rattle.std.proofs.Math.Bool.{and-true}
-use Rattle.walrus_types.specs.declared.composite.CompositeType.{CompositeType}
-use Rattle.walrus_types.specs.declared.composite.CompositeType.TheVariants.{Function, Struct, Array}
 use Rattle.walrus_types.specs.declared.subtype.Type.{«Type» as TypeItem}
 use Rattle.walrus_types.specs.contracts.subtype.TypePartialEq.TheImpl.{ghosts as type_eq}
-use Rattle.walrus_types.specs.contracts.composite.CompositeTypePartialEq.TheImpl.{ghosts as composite_eq}
+use Rattle.walrus_forms.proofs.FormLemmas.{composite_eq-forms}
 use Rattle.walrus_arena.specs.contracts.id.IdPartialEq.TheImpl as id_impl
 use Rattle.walrus_arena.specs.contracts.id.TypeSpace.{the_row as type_space}
-use Rattle.walrus_types.specs.Forms.{form_of}
-use Rattle.walrus_types.specs.Kinds.{kind_of}
-use Rattle.walrus_types.specs.Same.{same_form, same_kind}
-
-pub composite_eq-forms : (a b : CompositeType) → composite_eq.eq a b ≡ same_form (form_of a) (form_of b)
-composite_eq-forms (Function a) (Function b) = refl
-composite_eq-forms (Function a) (Struct b) = refl
-composite_eq-forms (Function a) (Array b) = refl
-composite_eq-forms (Struct a) (Function b) = refl
-composite_eq-forms (Struct a) (Struct b) = refl
-composite_eq-forms (Struct a) (Array b) = refl
-composite_eq-forms (Array a) (Function b) = refl
-composite_eq-forms (Array a) (Struct b) = refl
-composite_eq-forms (Array a) (Array b) = refl
+use Rattle.walrus_forms.specs.Forms.{form_of}
+use Rattle.walrus_types.specs.Items.{kind_of}
+use Rattle.walrus_forms.specs.Same.{same_form, same_kind}
 
 id_eq-nat : (x y : ℕ) → (id_impl.eq-value type_space).it x y ≡ nat_eq x y
 id_eq-nat x y = and-true (nat_eq x y)

@@ -9,8 +9,9 @@ use Rattle.walrus_arena.specs.Arena.{entries_from}
 use Rattle.walrus_arena.proofs.ArenaLemmas.{live-within, at-kept, at-last, at-push, at-other, entries_from-push}
 use Rattle.walrus_types.specs.declared.subtype.Type.{«Type» as TypeItem}
 use Rattle.walrus_types.specs.declared.subtype.RecGroup.{RecGroup}
-use Rattle.walrus_types.specs.Kinds.{Item, Group, item_of, group_of, kind_of, kind_names}
-use Rattle.walrus_types.specs.Same.{same_kind}
+use Rattle.walrus_forms.specs.Kinds.{kind_names}
+use Rattle.walrus_types.specs.Items.{Item, Group, item_of, group_of, kind_of}
+use Rattle.walrus_forms.specs.Same.{same_kind}
 use Rattle.walrus_types.specs.contracts.subtype.TypePartialEq.TheImpl.{ghosts as type_eq}
 use Rattle.walrus_types.proofs.SameLemmas.{type_eq-kinds}
 use Rattle.std.proofs.Math.Bool.{and-true}

@@ -5,8 +5,9 @@ use Rattle.walrus_types.specs.declared.group.NewType.{NewType}
 use Rattle.std.specs.declared.alloc.Global.{Global}
 use Rattle.walrus_types.specs.declared.error.IrError.{IrError}
 use Rattle.walrus_types.specs.declared.error.IrError.TheVariants.{Memory, WrongCount}
-use Rattle.walrus_types.specs.Forms.{form_of}
-use Rattle.walrus_types.specs.Kinds.{Kind, Item, Group, declared_kind}
+use Rattle.walrus_forms.specs.Forms.{form_of}
+use Rattle.walrus_forms.specs.Kinds.{Kind, declared_kind}
+use Rattle.walrus_types.specs.Items.{Item, Group}
 use Rattle.walrus_types.specs.Table.{Table, next_id}
 
 -- the kind of a new member

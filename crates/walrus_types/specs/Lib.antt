@@ -1,11 +1,7 @@
-pub mod Forms
 pub mod Groups
-pub mod Kinds
+pub mod Items
 pub mod Lends
 pub mod LocalLends
-pub mod Order
-pub mod Same
 pub mod Table
 pub mod TableLends
 pub mod TypeLaws
-pub mod Values

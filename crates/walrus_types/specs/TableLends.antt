@@ -4,7 +4,7 @@ use Rattle.std.specs.Borrow.{Lends, Fml, MutBor}
 use Rattle.walrus_types.specs.declared.subtype.Type.{«Type» as TypeItem}
 use Rattle.walrus_types.specs.contracts.subtype.Type.{the_row as type_row}
 use Rattle.walrus_types.specs.contracts.table.ModuleTypes.{the_row}
-use Rattle.walrus_types.specs.Kinds.{item_of}
+use Rattle.walrus_types.specs.Items.{item_of}
 use Rattle.walrus_types.specs.Table.{Table}
 
 -- once the borrow r ends, the id has the last type written through r

@@ -1,7 +1,6 @@
 -- What the words on types and tables mean to a reader.
-use Rattle.std.specs.Prelude.{◌≡◌, ◌≢◌, ℕ, ◌<◌, Bool, true, false, ◌↔◌, Some, Contains, AllPairs, MatchOption}
-use Rattle.walrus_types.specs.Kinds.{Kind, Item, Group}
-use Rattle.walrus_types.specs.Same.{same_kind}
+use Rattle.std.specs.Prelude.{◌≡◌, ◌≢◌, ℕ, ◌<◌, Bool, true, false, Some, Contains, AllPairs, MatchOption}
+use Rattle.walrus_types.specs.Items.{Item, Group}
 use Rattle.walrus_types.specs.Table.{Table, type_at, group_at, HasMember, latest_id}
 
 -- each live type stands in exactly one group, once, and groups have live members alone
@@ -24,7 +23,3 @@ abbrev pub FindsLatest : (ℕ × Item → Bool) → Table → Type 0
 FindsLatest test t = MatchOption (latest_id test t)
     ((id : ℕ) (item : Item) → type_at t id ≡ Some item → test (id, item) ≡ false)
     (IsLatest test t)
-
--- the test of kinds is true exactly where they are one
-abbrev pub SameKindIsEquality : Type 0
-SameKindIsEquality = (a b : Kind) → (same_kind a b ≡ true) ↔ (a ≡ b)

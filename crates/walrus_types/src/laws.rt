@@ -1,9 +1,9 @@
 //! Laws of the words that the contracts of this crate cite. Each function is its contract alone.
 ghost use Rattle.std.specs.Prelude.{◌≡◌, ℕ, Bool};
-ghost use Rattle.walrus_types.specs.Kinds.{Item, kind_of};
-ghost use Rattle.walrus_types.specs.TypeLaws.{FindsLatest, SameKindIsEquality};
-ghost use Rattle.walrus_types.specs.Same.{same_kind};
-ghost use Rattle.walrus_types.specs.Order.{kind_cmp};
+ghost use Rattle.walrus_types.specs.Items.{Item, kind_of};
+ghost use Rattle.walrus_types.specs.TypeLaws.{FindsLatest};
+ghost use Rattle.walrus_forms.specs.Same.{same_kind};
+ghost use Rattle.walrus_forms.specs.Order.{kind_cmp};
 ghost use Rattle.walrus_types.specs.contracts.subtype.TypeOrd.TheImpl.{ghosts as type_ord};
 ghost use Rattle.walrus_types.specs.contracts.subtype.TypePartialEq.TheImpl.{ghosts as type_eq};
 
@@ -24,11 +24,6 @@ pub fn search_finds_latest(types: &ModuleTypes)
 {
     let _ = types;
 }
-
-/// The test of kinds is true exactly where they are one.
-pub fn same_kind_is_equality()
-    ensures { SameKindIsEquality }
-{}
 
 /// Two types are ordered as their form, finality, supertype and entry mark are.
 pub fn types_are_ordered_by_kind(a: &Type, b: &Type)

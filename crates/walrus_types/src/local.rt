@@ -4,11 +4,11 @@ ghost use Rattle.std.specs.Borrow.{sem};
 ghost use Rattle.std.specs.Slice.Iter.{iter_rest};
 ghost use Rattle.walrus_types.specs.LocalLends.{lends_local};
 
-use crate::value::ValType;
 use std::alloc::{AllocError, Global};
 use std::marker::Model;
 use std::slice;
 use walrus_arena::LocalId;
+use walrus_forms::ValType;
 
 /// A local of a function (Core Specification, functions: locals).
 #[derive(Drop)]

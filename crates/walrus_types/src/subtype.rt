@@ -1,15 +1,15 @@
 //! Types as they stand in a table, and recursion groups (Core Specification, recursive types).
 ghost use Rattle.std.specs.Prelude.{◌≡◌, ◌==◌, ◌↔◌, [], not, filter, ◌++◌, IfOk, OnOk, OnErr, IsTrue, None, option_copied};
 ghost use Rattle.std.specs.Borrow.{sem};
-ghost use Rattle.walrus_types.specs.Forms.{form_of, function_of, struct_of, array_of, is_function, is_struct, is_array, params_of, results_of};
-ghost use Rattle.walrus_types.specs.Kinds.{kind_of, item_of, group_of, has_name, function_kind};
-ghost use Rattle.walrus_types.specs.Same.{same_kind};
+ghost use Rattle.walrus_forms.specs.Forms.{form_of, function_of, struct_of, array_of, is_function, is_struct, is_array, params_of, results_of};
+ghost use Rattle.walrus_forms.specs.Kinds.{function_kind};
+ghost use Rattle.walrus_types.specs.Items.{kind_of, item_of, group_of, has_name};
+ghost use Rattle.walrus_forms.specs.Same.{same_kind};
 ghost use Rattle.walrus_types.specs.Lends.{lends_kind};
 
-use crate::composite::{ArrayType, CompositeType, FunctionType, StructType};
-use crate::value::ValType;
 use std::alloc::AllocError;
 use walrus_arena::{Tombstone, TypeId};
+use walrus_forms::{ArrayType, CompositeType, FunctionType, StructType, ValType};
 
 /// A type of a table.
 ///

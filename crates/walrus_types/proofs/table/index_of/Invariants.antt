@@ -3,7 +3,7 @@ use Rattle.std.specs.HashMap.{get}
 use Rattle.walrus_arena.specs.Arena.{entries}
 use Rattle.walrus_types.specs.declared.subtype.Type.{«Type» as TypeItem}
 use Rattle.walrus_types.specs.contracts.subtype.TypePartialEq.TheImpl.{ghosts as type_eq}
-use Rattle.walrus_types.specs.Kinds.{kind_of, item_of}
+use Rattle.walrus_types.specs.Items.{kind_of, item_of}
 use Rattle.walrus_types.specs.Table.{latest_in, merges}
 use Rattle.walrus_types.proofs.table.index_of.Given as goal
 

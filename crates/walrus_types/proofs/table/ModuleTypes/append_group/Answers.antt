@@ -3,7 +3,7 @@ use Rattle.std.specs.List.{range_with_len}
 use Rattle.std.specs.HashMap.{get}
 use Rattle.walrus_types.specs.declared.subtype.Type.{«Type» as TypeItem}
 use Rattle.walrus_types.specs.contracts.subtype.TypePartialEq.TheImpl.{ghosts as type_eq}
-use Rattle.walrus_types.specs.Kinds.{Group, item_of, group_of, kind_of}
+use Rattle.walrus_types.specs.Items.{Group, item_of, group_of, kind_of}
 use Rattle.walrus_types.specs.Table.{latest_in, merges}
 use Rattle.walrus_types.proofs.GroupLemmas.{made-length, sound-group, adds-group}
 use Rattle.walrus_types.proofs.table.ModuleTypes.append_group.Goals as goal

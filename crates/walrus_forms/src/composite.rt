@@ -2,8 +2,8 @@
 ghost use Rattle.std.specs.Prelude.{◌≡◌, IfOk, IsTrue, Some, option_copied};
 ghost use Rattle.std.specs.Option.{option_copied_mut};
 ghost use Rattle.std.specs.Borrow.{sem};
-ghost use Rattle.walrus_types.specs.Forms.{form_of, function_of, struct_of, array_of, is_function, is_struct, is_array};
-ghost use Rattle.walrus_types.specs.Lends.{lends_function};
+ghost use Rattle.walrus_forms.specs.Forms.{form_of, function_of, struct_of, array_of, is_function, is_struct, is_array};
+ghost use Rattle.walrus_forms.specs.Lends.{lends_function};
 
 use crate::value::{FieldType, ValType};
 use std::alloc::AllocError;

@@ -1,10 +1,10 @@
 -- Equality of abstract heap types.
 use Rattle.std.proofs.Common.{◌≡◌, true, refl, rules}
 use denote.Enum.Bare.{same_true}
-use Rattle.walrus_types.specs.declared.value.AbstractHeapType.{AbstractHeapType}
-use Rattle.walrus_types.specs.declared.value.AbstractHeapType.TheVariants.{Func, Extern, Any, None, NoExtern, NoFunc, Eq, Struct, Array, I31, Exn, NoExn}
-use Rattle.walrus_types.specs.contracts.value.AbstractHeapType.{the_type}
-use Rattle.walrus_types.specs.contracts.value.AbstractHeapTypePartialEq.TheImpl.{ghosts as abstract_eq}
+use Rattle.walrus_forms.specs.declared.value.AbstractHeapType.{AbstractHeapType}
+use Rattle.walrus_forms.specs.declared.value.AbstractHeapType.TheVariants.{Func, Extern, Any, None, NoExtern, NoFunc, Eq, Struct, Array, I31, Exn, NoExn}
+use Rattle.walrus_forms.specs.contracts.value.AbstractHeapType.{the_type}
+use Rattle.walrus_forms.specs.contracts.value.AbstractHeapTypePartialEq.TheImpl.{ghosts as abstract_eq}
 
 pub abstract-same : (x y : AbstractHeapType) → abstract_eq.eq x y ≡ true → x ≡ y
 abstract-same x y e = same_true the_type (search rules) x y e

@@ -5,24 +5,23 @@ use Rattle.std.specs.Option.{option_eq}
 use Rattle.std.specs.Cmp.Lexicographic.{pointwise}
 use Rattle.std.proofs.Math.Bool.{and-true}
 use Rattle.std.proofs.lemmas.Bool.{and_parts, and_from, eqb-true, eq-eqb}
-use Rattle.walrus_types.proofs.AbstractLemmas.{abstract-same, abstract-itself}
-use Rattle.walrus_types.specs.declared.value.HeapType.{HeapType}
-use Rattle.walrus_types.specs.declared.value.HeapType.TheVariants.{Abstract, Concrete, Exact}
-use Rattle.walrus_types.specs.declared.value.RefType.{RefType}
-use Rattle.walrus_types.specs.declared.value.ValType.{ValType}
-use Rattle.walrus_types.specs.declared.value.ValType.TheVariants.{I32, I64, F32, F64, V128, Ref}
-use Rattle.walrus_types.specs.declared.value.StorageType.{StorageType}
-use Rattle.walrus_types.specs.declared.value.StorageType.TheVariants.{Val, I8, I16}
-use Rattle.walrus_types.specs.declared.value.FieldType.{FieldType}
-use Rattle.walrus_types.specs.contracts.value.HeapTypePartialEq.TheImpl.{ghosts as heap_eq}
-use Rattle.walrus_types.specs.contracts.value.RefTypePartialEq.TheImpl.{ghosts as ref_eq}
-use Rattle.walrus_types.specs.contracts.value.ValTypePartialEq.TheImpl.{ghosts as value_eq}
-use Rattle.walrus_types.specs.contracts.value.StorageTypePartialEq.TheImpl.{ghosts as storage_eq}
-use Rattle.walrus_types.specs.contracts.value.FieldTypePartialEq.TheImpl.{ghosts as field_eq}
-use Rattle.walrus_types.specs.Forms.{Form, FunctionForm, StructForm, ArrayForm}
-use Rattle.walrus_types.specs.Kinds.{Kind}
-use Rattle.walrus_types.specs.Same.{same_form, same_kind}
-use Rattle.walrus_types.specs.TypeLaws.{SameKindIsEquality}
+use Rattle.walrus_forms.proofs.AbstractLemmas.{abstract-same, abstract-itself}
+use Rattle.walrus_forms.specs.declared.value.HeapType.{HeapType}
+use Rattle.walrus_forms.specs.declared.value.HeapType.TheVariants.{Abstract, Concrete, Exact}
+use Rattle.walrus_forms.specs.declared.value.RefType.{RefType}
+use Rattle.walrus_forms.specs.declared.value.ValType.{ValType}
+use Rattle.walrus_forms.specs.declared.value.ValType.TheVariants.{I32, I64, F32, F64, V128, Ref}
+use Rattle.walrus_forms.specs.declared.value.StorageType.{StorageType}
+use Rattle.walrus_forms.specs.declared.value.StorageType.TheVariants.{Val, I8, I16}
+use Rattle.walrus_forms.specs.declared.value.FieldType.{FieldType}
+use Rattle.walrus_forms.specs.contracts.value.HeapTypePartialEq.TheImpl.{ghosts as heap_eq}
+use Rattle.walrus_forms.specs.contracts.value.RefTypePartialEq.TheImpl.{ghosts as ref_eq}
+use Rattle.walrus_forms.specs.contracts.value.ValTypePartialEq.TheImpl.{ghosts as value_eq}
+use Rattle.walrus_forms.specs.contracts.value.StorageTypePartialEq.TheImpl.{ghosts as storage_eq}
+use Rattle.walrus_forms.specs.contracts.value.FieldTypePartialEq.TheImpl.{ghosts as field_eq}
+use Rattle.walrus_forms.specs.Forms.{Form, FunctionForm, StructForm, ArrayForm}
+use Rattle.walrus_forms.specs.Kinds.{Kind}
+use Rattle.walrus_forms.specs.Same.{same_form, same_kind, SameKindIsEquality}
 
 -- a test that is true exactly where two values are one
 record Tells {X : Type 0} (E : X → X → Bool) : Type 0 where

@@ -1,12 +1,12 @@
 -- When two kinds are equal, as a test. `same_kind a b` is true exactly where a and b are one kind.
-use Rattle.std.specs.Prelude.{Bool, false, ◌&&◌, nat_eq}
+use Rattle.std.specs.Prelude.{◌≡◌, ◌↔◌, Bool, true, false, ◌&&◌, nat_eq}
 use Rattle.std.specs.Bool.{beq}
 use Rattle.std.specs.Option.{option_eq}
 use Rattle.std.specs.Cmp.Lexicographic.{pointwise}
-use Rattle.walrus_types.specs.contracts.value.ValTypePartialEq.TheImpl.{ghosts as value_eq}
-use Rattle.walrus_types.specs.contracts.value.FieldTypePartialEq.TheImpl.{ghosts as field_eq}
-use Rattle.walrus_types.specs.Forms.{Form, FunctionForm, StructForm, ArrayForm}
-use Rattle.walrus_types.specs.Kinds.{Kind}
+use Rattle.walrus_forms.specs.contracts.value.ValTypePartialEq.TheImpl.{ghosts as value_eq}
+use Rattle.walrus_forms.specs.contracts.value.FieldTypePartialEq.TheImpl.{ghosts as field_eq}
+use Rattle.walrus_forms.specs.Forms.{Form, FunctionForm, StructForm, ArrayForm}
+use Rattle.walrus_forms.specs.Kinds.{Kind}
 
 abbrev pub same_form : Form → Form → Bool
 same_form (FunctionForm params results) (FunctionForm others outs) = pointwise value_eq.eq params others && pointwise value_eq.eq results outs
@@ -16,3 +16,7 @@ same_form _ _ = false
 
 abbrev pub same_kind : Kind → Kind → Bool
 same_kind a b = same_form a.form b.form && (beq a.final b.final && (option_eq nat_eq a.supertype b.supertype && beq a.entry b.entry))
+
+-- the test of kinds is true exactly where they are one
+abbrev pub SameKindIsEquality : Type 0
+SameKindIsEquality = (a b : Kind) → (same_kind a b ≡ true) ↔ (a ≡ b)

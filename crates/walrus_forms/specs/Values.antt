@@ -1,12 +1,12 @@
 -- Value types and the types that they name.
 use Rattle.std.specs.Prelude.{ℕ, Option, Some, None}
-use Rattle.walrus_types.specs.declared.value.HeapType.{HeapType}
-use Rattle.walrus_types.specs.declared.value.HeapType.TheVariants.{Abstract, Concrete, Exact}
-use Rattle.walrus_types.specs.declared.value.ValType.{ValType}
-use Rattle.walrus_types.specs.declared.value.ValType.TheVariants.{I32, Ref}
-use Rattle.walrus_types.specs.declared.value.StorageType.{StorageType}
-use Rattle.walrus_types.specs.declared.value.StorageType.TheVariants.{Val, I8, I16}
-use Rattle.walrus_types.specs.declared.value.FieldType.{FieldType}
+use Rattle.walrus_forms.specs.declared.value.HeapType.{HeapType}
+use Rattle.walrus_forms.specs.declared.value.HeapType.TheVariants.{Abstract, Concrete, Exact}
+use Rattle.walrus_forms.specs.declared.value.ValType.{ValType}
+use Rattle.walrus_forms.specs.declared.value.ValType.TheVariants.{I32, Ref}
+use Rattle.walrus_forms.specs.declared.value.StorageType.{StorageType}
+use Rattle.walrus_forms.specs.declared.value.StorageType.TheVariants.{Val, I8, I16}
+use Rattle.walrus_forms.specs.declared.value.FieldType.{FieldType}
 
 -- the value type of a field's value on the stack (Core Specification, field types: unpacking)
 abbrev pub unpacked : StorageType → ValType

@@ -1,6 +1,6 @@
 //! Value types (Core Specification, value types) and what fields hold (field types).
 ghost use Rattle.std.specs.Prelude.{◌≡◌};
-ghost use Rattle.walrus_types.specs.Values.{unpacked, heap_name, value_name, field_name};
+ghost use Rattle.walrus_forms.specs.Values.{unpacked, heap_name, value_name, field_name};
 
 use walrus_arena::TypeId;
 

@@ -2,14 +2,14 @@
 use Rattle.std.specs.Prelude.{ℕ, Bool, true, false, List, [], ◌++◌, Option, Some, None}
 use Rattle.std.specs.List.{filter_map}
 use Rattle.std.specs.Option.{option_to_list}
-use Rattle.walrus_types.specs.declared.value.ValType.{ValType}
-use Rattle.walrus_types.specs.declared.value.FieldType.{FieldType}
-use Rattle.walrus_types.specs.declared.composite.FunctionType.{FunctionType}
-use Rattle.walrus_types.specs.declared.composite.StructType.{StructType}
-use Rattle.walrus_types.specs.declared.composite.ArrayType.{ArrayType}
-use Rattle.walrus_types.specs.declared.composite.CompositeType.{CompositeType}
-use Rattle.walrus_types.specs.declared.composite.CompositeType.TheVariants.{Function, Struct, Array}
-use Rattle.walrus_types.specs.Values.{value_name, field_name}
+use Rattle.walrus_forms.specs.declared.value.ValType.{ValType}
+use Rattle.walrus_forms.specs.declared.value.FieldType.{FieldType}
+use Rattle.walrus_forms.specs.declared.composite.FunctionType.{FunctionType}
+use Rattle.walrus_forms.specs.declared.composite.StructType.{StructType}
+use Rattle.walrus_forms.specs.declared.composite.ArrayType.{ArrayType}
+use Rattle.walrus_forms.specs.declared.composite.CompositeType.{CompositeType}
+use Rattle.walrus_forms.specs.declared.composite.CompositeType.TheVariants.{Function, Struct, Array}
+use Rattle.walrus_forms.specs.Values.{value_name, field_name}
 
 -- the form of a type (Core Specification, composite types)
 pub data Form : Type 0 where

@@ -1,6 +1,6 @@
-use Rattle.walrus_types.proofs.ListLemmas.{filter_map-turn}
-use Rattle.walrus_types.specs.Values.{value_name}
-use Rattle.walrus_types.proofs.names.push_value_names.Goals as goal
+use Rattle.walrus_forms.proofs.ListLemmas.{filter_map-turn}
+use Rattle.walrus_forms.specs.Values.{value_name}
+use Rattle.walrus_forms.proofs.names.push_value_names.Goals as goal
 
 pub loop-value-preserved : goal.loop-value-preserved
 loop-value-preserved c =

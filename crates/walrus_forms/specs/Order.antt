@@ -4,10 +4,10 @@ use Rattle.std.specs.declared.cmp.Ordering.TheVariants.{Less, Greater}
 use Rattle.std.specs.Ordering.{ordering_then, bool_cmp, nat_cmp}
 use Rattle.std.specs.Option.{option_cmp}
 use Rattle.std.specs.Cmp.Lexicographic.{slice_cmp}
-use Rattle.walrus_types.specs.contracts.value.ValTypeOrd.TheImpl.{ghosts as value_ord}
-use Rattle.walrus_types.specs.contracts.value.FieldTypeOrd.TheImpl.{ghosts as field_ord}
-use Rattle.walrus_types.specs.Forms.{Form, FunctionForm, StructForm, ArrayForm}
-use Rattle.walrus_types.specs.Kinds.{Kind}
+use Rattle.walrus_forms.specs.contracts.value.ValTypeOrd.TheImpl.{ghosts as value_ord}
+use Rattle.walrus_forms.specs.contracts.value.FieldTypeOrd.TheImpl.{ghosts as field_ord}
+use Rattle.walrus_forms.specs.Forms.{Form, FunctionForm, StructForm, ArrayForm}
+use Rattle.walrus_forms.specs.Kinds.{Kind}
 
 -- functions, then structures, then arrays; functions by parameters and then results, structures by
 -- their fields, as lists, a prefix first

@@ -1,6 +1,6 @@
-use Rattle.walrus_types.proofs.ListLemmas.{filter_map-turn}
-use Rattle.walrus_types.specs.Values.{field_name}
-use Rattle.walrus_types.proofs.names.push_field_names.Goals as goal
+use Rattle.walrus_forms.proofs.ListLemmas.{filter_map-turn}
+use Rattle.walrus_forms.specs.Values.{field_name}
+use Rattle.walrus_forms.proofs.names.push_field_names.Goals as goal
 
 pub loop-field-preserved : goal.loop-field-preserved
 loop-field-preserved c =

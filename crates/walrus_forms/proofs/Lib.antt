@@ -1,0 +1,4 @@
+pub mod AbstractLemmas
+pub mod EqLemmas
+pub mod FormLemmas
+pub mod ListLemmas

@@ -1,0 +1,7 @@
+use Rattle.std.proofs.Common.{◌≡◌, map, take}
+use Rattle.walrus_forms.specs.Records.{field_of}
+use Rattle.walrus_forms.specs.Renaming.{renamed_field, at}
+use Rattle.walrus_forms.proofs.record.resolve_fields.Given as goal
+
+abbrev pub invariant-loop-field : goal.invariant-loop-field
+invariant-loop-field l = l.types.items ≡ map (renamed_field (at l.ids)) (map field_of (take l.field-index l.fields))

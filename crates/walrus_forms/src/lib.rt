@@ -1,0 +1,16 @@
+//! The forms of WebAssembly's types: value types, fields, functions, structures and arrays, which name
+//! types by id; and the records of a type section, which name them by index.
+#![tactic(auto)]
+
+mod composite;
+pub mod laws;
+mod names;
+mod record;
+mod value;
+
+pub use composite::{ArrayType, CompositeType, FunctionType, StructType};
+pub use record::{
+    CompositeRecord, FieldRecord, GroupRecord, HeapRecord, RefRecord, StorageRecord, TypeRecord,
+    ValRecord,
+};
+pub use value::{AbstractHeapType, FieldType, HeapType, RefType, StorageType, ValType};

@@ -1,0 +1,257 @@
+//! The records of a type section: types that name one another by index (Core Specification, recursive
+//! types).
+ghost use Rattle.std.specs.Prelude.{◌≡◌, ◌<◌, IfOk, IfSome, All, length, map};
+ghost use Rattle.walrus_forms.specs.Forms.{form_of};
+ghost use Rattle.walrus_forms.specs.Records.{heap_of, value_of, storage_of, field_of, record_form, record_kind, type_group};
+ghost use Rattle.walrus_forms.specs.Renaming.{HeapBelow, ValueBelow, FieldBelow, FormBelow, renamed_heap, renamed_value, renamed_field, renamed_storage, renamed_form, at};
+
+use crate::composite::{ArrayType, CompositeType, FunctionType, StructType};
+use crate::value::{AbstractHeapType, FieldType, HeapType, RefType, StorageType, ValType};
+use std::alloc::{AllocError, Global};
+use walrus_arena::TypeId;
+
+/// What a reference of a record points to.
+#[derive(Clone, Copy, PartialEq, Eq)]
+pub enum HeapRecord {
+    Abstract(AbstractHeapType),
+    /// Values of the type of this index and of its subtypes.
+    Concrete(u32),
+    /// Values of the type of this index alone.
+    Exact(u32),
+}
+
+/// A reference type of a record.
+#[derive(Clone, Copy, PartialEq, Eq)]
+pub struct RefRecord {
+    pub nullable: bool,
+    pub heap_type: HeapRecord,
+}
+
+/// A value type of a record.
+#[derive(Clone, Copy, PartialEq, Eq)]
+pub enum ValRecord {
+    I32,
+    I64,
+    F32,
+    F64,
+    V128,
+    Ref(RefRecord),
+}
+
+/// What a field of a record holds: a value, or an integer of 8 or 16 bits.
+#[derive(Clone, Copy, PartialEq, Eq)]
+pub enum StorageRecord {
+    Val(ValRecord),
+    I8,
+    I16,
+}
+
+/// The type of a field of a record.
+#[derive(Clone, Copy, PartialEq, Eq)]
+pub struct FieldRecord {
+    pub element_type: StorageRecord,
+    pub mutable: bool,
+}
+
+/// The form of a record.
+#[derive(PartialEq, Eq, Drop)]
+pub enum CompositeRecord {
+    Function {
+        params: Vec<ValRecord>,
+        results: Vec<ValRecord>,
+    },
+    Struct {
+        fields: Vec<FieldRecord>,
+    },
+    Array {
+        field: FieldRecord,
+    },
+}
+
+/// A type of a type section: what a table's type is, with indices of the section for ids.
+#[derive(PartialEq, Eq, Drop)]
+pub struct TypeRecord {
+    pub kind: CompositeRecord,
+    /// Whether no type has it as supertype.
+    pub is_final: bool,
+    /// The index of the type that it declares to be below.
+    pub supertype: Option<u32>,
+}
+
+/// A recursion group of a type section.
+#[derive(PartialEq, Eq, Drop)]
+pub struct GroupRecord {
+    /// Whether it is written as a group, even if it has one member alone.
+    pub marked: bool,
+    /// The members, in their order.
+    pub types: Vec<TypeRecord>,
+}
+
+impl HeapRecord {
+    // The type that it describes, where each index names the id that the list has there.
+    fn resolve(self, ids: &[TypeId]) -> HeapType
+        requires { HeapBelow (length ids.now) (heap_of self) }
+        ensures { result ≡ renamed_heap (at ids.now) (heap_of self) }
+    {
+        match self {
+            HeapRecord::Abstract(ty) => HeapType::Abstract(ty),
+            HeapRecord::Concrete(index) => HeapType::Concrete(ids[index as usize]),
+            HeapRecord::Exact(index) => HeapType::Exact(ids[index as usize]),
+        }
+    }
+}
+
+impl ValRecord {
+    // The type that it describes, where each index names the id that the list has there.
+    fn resolve(self, ids: &[TypeId]) -> ValType
+        requires { ValueBelow (length ids.now) (value_of self) }
+        ensures { result ≡ renamed_value (at ids.now) (value_of self) }
+    {
+        match self {
+            ValRecord::I32 => ValType::I32,
+            ValRecord::I64 => ValType::I64,
+            ValRecord::F32 => ValType::F32,
+            ValRecord::F64 => ValType::F64,
+            ValRecord::V128 => ValType::V128,
+            ValRecord::Ref(ty) => ValType::Ref(RefType {
+                nullable: ty.nullable,
+                heap_type: ty.heap_type.resolve(ids),
+            }),
+        }
+    }
+}
+
+impl FieldRecord {
+    // The type that it describes, where each index names the id that the list has there.
+    fn resolve(self, ids: &[TypeId]) -> FieldType
+        requires { FieldBelow (length ids.now) (field_of self) }
+        ensures { result ≡ renamed_field (at ids.now) (field_of self) }
+    {
+        let element_type = match self.element_type {
+            StorageRecord::Val(ty) => StorageType::Val(ty.resolve(ids)),
+            StorageRecord::I8 => StorageType::I8,
+            StorageRecord::I16 => StorageType::I16,
+        };
+        FieldType {
+            element_type,
+            mutable: self.mutable,
+        }
+    }
+}
+
+// The types that the values describe, where each index names the id that the list has there.
+fn resolve_values(
+    alloc: Global,
+    values: &[ValRecord],
+    ids: &[TypeId],
+) -> Result<Vec<ValType>, AllocError>
+    requires { All (ValueBelow (length ids.now)) (map value_of values.now) }
+    ensures { IfOk result (λ types. types.items ≡ map (renamed_value (at ids.now)) (map value_of values.now)) }
+{
+    let mut types = Vec::new(alloc);
+    for value in values {
+        types.extend_from_slice(&[value.resolve(ids)])?;
+    }
+    Ok(types)
+}
+
+// The types that the fields describe, where each index names the id that the list has there.
+fn resolve_fields(
+    alloc: Global,
+    fields: &[FieldRecord],
+    ids: &[TypeId],
+) -> Result<Vec<FieldType>, AllocError>
+    requires { All (FieldBelow (length ids.now)) (map field_of fields.now) }
+    ensures { IfOk result (λ types. types.items ≡ map (renamed_field (at ids.now)) (map field_of fields.now)) }
+{
+    let mut types = Vec::new(alloc);
+    for field in fields {
+        types.extend_from_slice(&[field.resolve(ids)])?;
+    }
+    Ok(types)
+}
+
+impl CompositeRecord {
+    /// The form that it describes, where each index names the id that the list has there. Asks that the
+    /// list has one for each.
+    ///
+    /// # Errors
+    ///
+    /// Want of memory.
+    pub fn resolve(&self, alloc: Global, ids: &[TypeId]) -> Result<CompositeType, AllocError>
+        requires { FormBelow (length ids.now) (record_form self.now) }
+        ensures { IfOk result (λ ty. form_of ty ≡ renamed_form (at ids.now) (record_form self.now)) }
+    {
+        match self {
+            CompositeRecord::Function { params, results } => {
+                let params = resolve_values(alloc, params.as_slice(), ids)?;
+                let results = resolve_values(alloc, results.as_slice(), ids)?;
+                Ok(CompositeType::Function(FunctionType::new(params, results)))
+            }
+            CompositeRecord::Struct { fields } => {
+                let fields = resolve_fields(alloc, fields.as_slice(), ids)?;
+                Ok(CompositeType::Struct(StructType { fields }))
+            }
+            CompositeRecord::Array { field } => Ok(CompositeType::Array(ArrayType {
+                field: field.resolve(ids),
+            })),
+        }
+    }
+
+    /// An equal form.
+    ///
+    /// # Errors
+    ///
+    /// Want of memory.
+    pub fn clone(&self) -> Result<Self, AllocError>
+        ensures { IfOk result (λ copy. record_form copy ≡ record_form self.now) }
+    {
+        match self {
+            CompositeRecord::Function { params, results } => Ok(CompositeRecord::Function {
+                params: params.clone()?,
+                results: results.clone()?,
+            }),
+            CompositeRecord::Struct { fields } => Ok(CompositeRecord::Struct {
+                fields: fields.clone()?,
+            }),
+            CompositeRecord::Array { field } => Ok(CompositeRecord::Array { field: *field }),
+        }
+    }
+}
+
+impl TypeRecord {
+    /// An equal record.
+    ///
+    /// # Errors
+    ///
+    /// Want of memory.
+    pub fn clone(&self) -> Result<Self, AllocError>
+        ensures { IfOk result (λ copy. record_kind copy ≡ record_kind self.now) }
+    {
+        Ok(TypeRecord {
+            kind: self.kind.clone()?,
+            is_final: self.is_final,
+            supertype: self.supertype,
+        })
+    }
+}
+
+impl GroupRecord {
+    /// An equal record.
+    ///
+    /// # Errors
+    ///
+    /// Want of memory.
+    pub fn clone(&self, alloc: Global) -> Result<Self, AllocError>
+        ensures { IfOk result (λ copy. type_group copy ≡ type_group self.now) }
+    {
+        let mut types = Vec::new(alloc);
+        for ty in &self.types {
+            types.push(ty.clone()?)?;
+        }
+        Ok(GroupRecord {
+            marked: self.marked,
+            types,
+        })
+    }
+}

@@ -1,5 +1,0 @@
-use Rattle.walrus_types.proofs.EqLemmas.{same-kind-law}
-use Rattle.walrus_types.proofs.laws.same_kind_is_equality.Goals as goal
-
-pub returns : goal.returns
-returns c = same-kind-law
