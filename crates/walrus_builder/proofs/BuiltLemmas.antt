@@ -1,7 +1,7 @@
 -- Writes to one of the sequences, as edits.
 use Rattle.std.proofs.Common.{ℕ, zero, suc, ◌+◌, ◌<◌, ◌≡◌, ◌≢◌, List, [], ◌∷◌, ◌++◌, length, map, get_or, Some, refl, sym, ap, subst, arith, ◌∙◌, Result, Ok, Err, length-append}
 use Rattle.std.proofs.lemmas.List.{length-map}
-use Rattle.std.specs.Prelude.{slice_get, slice_set, insert, IsErr}
+use Rattle.std.specs.Prelude.{slice_get, slice_set, insert, IsErr, OnErr}
 use Rattle.std.specs.Fn.{Once, FnOnceReturnsAtMut}
 use Rattle.std.specs.Borrow.{MutBor}
 use Rattle.std.specs.declared.alloc.AllocError.{AllocError}
@@ -152,3 +152,8 @@ module _ {F : Type 0} (g : Once F (MutBor Building × Unit {0}) (Result (Unit {0
   filled_is ss ty begun filled r b h e =
       let G : Result (Unit {0}) AllocError → Type 0 = λ q. FnOnceReturnsAtMut g make begun q filled in
       record { begun = begun; filled = filled; begins = b; fills = subst G e h; gives = refl }
+
+-- what holds anyway holds at `Err`
+pub on_err : {A E : Type 0} {P : Type 0} (r : Result A E) → P → OnErr r P
+on_err (Ok x) p = tt
+on_err (Err e) p = p

@@ -1,4 +1,4 @@
-use Rattle.std.proofs.Common.{◌≡◌, ◌<◌, ◌∙◌, List, length, ap, sym, subst, arith, refl}
+use Rattle.std.proofs.Common.{◌<◌, ◌∙◌, List, length, ap, sym, subst, arith, refl}
 use Rattle.walrus_builder.specs.Built.{Building, Seq, contents, IsFilled}
 use Rattle.walrus_builder.proofs.BuiltLemmas.{called, known_filled, keeps_filled, begun_at, filled_is}
 use Rattle.walrus_builder.proofs.seq_builder.InstrSeqBuilder.fill_seq.Goals as goal
