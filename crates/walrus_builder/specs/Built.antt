@@ -7,7 +7,6 @@ use Rattle.walrus_instr.specs.declared.instr.Instr.{Instr}
 use Rattle.walrus_instr.specs.declared.seq.InstrLocId.{InstrLocId}
 use Rattle.walrus_instr.specs.declared.seq.InstrSeq.{InstrSeq}
 use Rattle.walrus_instr.specs.declared.seq.InstrSeqType.{InstrSeqType}
-use Rattle.walrus_builder.specs.declared.seq_builder.InstrSeqBuilder.{InstrSeqBuilder}
 
 -- a sequence: its id and type, its instructions with their locations, the location of its end
 pub record Seq : Type 0 where
@@ -19,9 +18,14 @@ pub record Seq : Type 0 where
 abbrev pub seq_of : InstrSeq → Seq
 seq_of s = record { id = s.id; ty = s.ty; instrs = s.instrs.items; end = s.end }
 
--- the sequences by id
-abbrev pub contents : InstrSeqBuilder → List Seq
-contents b = map seq_of b.seqs.items
+-- the sequences by id, and which of them is at hand
+pub record Building : Type 0 where
+  pub id : ℕ
+  pub seqs : List InstrSeq
+
+-- the sequences by id, as they are seen
+abbrev pub contents : Building → List Seq
+contents b = map seq_of b.seqs
 
 -- no location
 abbrev pub no_place : InstrLocId
@@ -44,50 +48,50 @@ abbrev pub inserts : ℕ → Instr → Seq → Seq
 inserts at i s = with_instrs s (insert s.instrs at (i, no_place))
 
 -- the sequences with that of an id edited
-abbrev pub edited : (Seq → Seq) → List Seq → ℕ → List Seq
+abbrev pub edited : {S : Type 0} → (S → S) → List S → ℕ → List S
 edited f [] k = []
 edited f (s ∷ ss) zero = f s ∷ ss
 edited f (s ∷ ss) (suc k) = s ∷ edited f ss k
 
 -- at most the sequence at hand was changed, and others were added
-pub record Extends (b c : InstrSeqBuilder) : Type 0 where
+pub record Extends (b c : Building) : Type 0 where
   pub id : c.id ≡ b.id
   pub known : length (contents b) ≤ length (contents c)
   pub kept : (k : ℕ) → k < length (contents b) → k ≢ b.id → slice_get (contents c) k ≡ slice_get (contents b) k
 
 -- an `Ok` edits the sequence at hand alone, a refusal leaves all as it was; the same sequence is at hand
-pub record Edits (old : InstrSeqBuilder) (f : Seq → Seq) (r : Result (Unit {0}) AllocError) (new : InstrSeqBuilder) : Type 0 where
+pub record Edits (old : Building) (f : Seq → Seq) (r : Result (Unit {0}) AllocError) (new : Building) : Type 0 where
   pub id : new.id ≡ old.id
   pub made : MatchResult r (λ _. contents new ≡ edited f (contents old) old.id) (λ _. contents new ≡ contents old)
   pub others : Extends old new
 
 -- the sequences at hand and before it stay as they were; others may have been added
-pub record Keeps (old new : InstrSeqBuilder) : Type 0 where
+pub record Keeps (old new : Building) : Type 0 where
   pub id : new.id ≡ old.id
   pub known : length (contents old) ≤ length (contents new)
   pub kept : (k : ℕ) → k < length (contents old) → slice_get (contents new) k ≡ slice_get (contents old) k
 
 -- an empty sequence was added to these, and is at hand
-pub record IsBegun (ss : List Seq) (ty : InstrSeqType) (b : InstrSeqBuilder) : Type 0 where
+pub record IsBegun (ss : List Seq) (ty : InstrSeqType) (b : Building) : Type 0 where
   pub id : b.id ≡ length ss
   pub added : contents b ≡ ss ++ empty_seq (length ss) ty ∷ []
 
 -- a sequence of this type was added to these and filled by the closure, which gives those
-pub record IsFilled {F : Type 0} (g : Once F (MutBor InstrSeqBuilder × Unit {0}) (Result (Unit {0}) AllocError × (MutBor InstrSeqBuilder × Unit {0}))) (make : F) (ss : List Seq) (ty : InstrSeqType) (ts : List Seq) : Type 0 where
-  pub begun : InstrSeqBuilder
-  pub filled : InstrSeqBuilder
+pub record IsFilled {F : Type 0} (g : Once F (MutBor Building × Unit {0}) (Result (Unit {0}) AllocError × (MutBor Building × Unit {0}))) (make : F) (ss : List Seq) (ty : InstrSeqType) (ts : List Seq) : Type 0 where
+  pub begun : Building
+  pub filled : Building
   pub begins : IsBegun ss ty begun
   pub fills : FnOnceReturnsAtMut g make begun (Ok tt) filled
   pub gives : contents filled ≡ ts
 
 -- a sequence was filled by the closure, and then the one at hand was edited with its id
-pub record IsMade {F : Type 0} (g : Once F (MutBor InstrSeqBuilder × Unit {0}) (Result (Unit {0}) AllocError × (MutBor InstrSeqBuilder × Unit {0}))) (make : F) (ty : InstrSeqType) (old : InstrSeqBuilder) (edit : ℕ → Seq → Seq) (new : InstrSeqBuilder) : Type 0 where
+pub record IsMade {F : Type 0} (g : Once F (MutBor Building × Unit {0}) (Result (Unit {0}) AllocError × (MutBor Building × Unit {0}))) (make : F) (ty : InstrSeqType) (old : Building) (edit : ℕ → Seq → Seq) (new : Building) : Type 0 where
   pub filled : List Seq
   pub fills : IsFilled g make (contents old) ty filled
   pub made : contents new ≡ edited (edit (length (contents old))) filled old.id
 
 -- two sequences were filled by two closures, the first's first, and then the one at hand was edited with their ids
-pub record IsMadeOfTwo {F G : Type 0} (g : Once F (MutBor InstrSeqBuilder × Unit {0}) (Result (Unit {0}) AllocError × (MutBor InstrSeqBuilder × Unit {0}))) (first : F) (h : Once G (MutBor InstrSeqBuilder × Unit {0}) (Result (Unit {0}) AllocError × (MutBor InstrSeqBuilder × Unit {0}))) (second : G) (ty : InstrSeqType) (old : InstrSeqBuilder) (edit : ℕ → ℕ → Seq → Seq) (new : InstrSeqBuilder) : Type 0 where
+pub record IsMadeOfTwo {F G : Type 0} (g : Once F (MutBor Building × Unit {0}) (Result (Unit {0}) AllocError × (MutBor Building × Unit {0}))) (first : F) (h : Once G (MutBor Building × Unit {0}) (Result (Unit {0}) AllocError × (MutBor Building × Unit {0}))) (second : G) (ty : InstrSeqType) (old : Building) (edit : ℕ → ℕ → Seq → Seq) (new : Building) : Type 0 where
   pub half : List Seq
   pub filled : List Seq
   pub fills_first : IsFilled g first (contents old) ty half
@@ -95,5 +99,5 @@ pub record IsMadeOfTwo {F G : Type 0} (g : Once F (MutBor InstrSeqBuilder × Uni
   pub made : contents new ≡ edited (edit (length (contents old)) (length half)) filled old.id
 
 -- whatever it is called at, the closure changes at most the sequence at hand
-abbrev pub ExtendsAlways : {F : Type 0} → Once F (MutBor InstrSeqBuilder × Unit {0}) (Result (Unit {0}) AllocError × (MutBor InstrSeqBuilder × Unit {0})) → F → Type 0
-ExtendsAlways g make = (b c : InstrSeqBuilder) (r : Result (Unit {0}) AllocError) → FnOnceReturnsAtMut g make b r c → Extends b c
+abbrev pub ExtendsAlways : {F : Type 0} → Once F (MutBor Building × Unit {0}) (Result (Unit {0}) AllocError × (MutBor Building × Unit {0})) → F → Type 0
+ExtendsAlways g make = (b c : Building) (r : Result (Unit {0}) AllocError) → FnOnceReturnsAtMut g make b r c → Extends b c

@@ -1,17 +1,20 @@
 -- What a contract sees of a function that is built.
-use Rattle.std.specs.Prelude.{◌≡◌, ℕ, List, [], ◌∷◌, None}
+use Rattle.std.specs.Prelude.{◌≡◌, ◌⊎◌, ℕ, List, [], ◌∷◌, None}
 use Rattle.std.specs.Borrow.{Lends, Fml, MutBor}
 use Rattle.walrus_instr.specs.declared.seq.InstrSeq.{InstrSeq}
+use Rattle.walrus_forms.specs.declared.value.ValType.{ValType}
+use Rattle.walrus_forms.specs.Kinds.{Kind, function_kind, entry_kind}
+use Rattle.walrus_types.specs.Table.{Table, Merges}
 use Rattle.walrus_instr.specs.declared.seq.InstrSeqType.{InstrSeqType}
-use Rattle.walrus_builder.specs.declared.seq_builder.InstrSeqBuilder.{InstrSeqBuilder}
+use Rattle.walrus_instr.specs.declared.seq.InstrSeqType.TheVariants.{MultiValue}
 use Rattle.walrus_builder.specs.declared.function.FunctionBuilder.{FunctionBuilder}
 use Rattle.walrus_builder.specs.contracts.seq_builder.InstrSeqBuilder.{the_row as builder_row}
 use Rattle.walrus_builder.specs.contracts.function.FunctionBuilder.{the_row as function_row}
-use Rattle.walrus_builder.specs.Built.{contents, empty_seq}
+use Rattle.walrus_builder.specs.Built.{Building, contents, empty_seq}
 
 -- the sequences by id
 abbrev pub seqs_of : FunctionBuilder → List InstrSeq
-seqs_of f = f.builder.seqs.items
+seqs_of f = f.builder.seqs
 
 -- a function of this type without a name, whose body is empty and has this block type
 pub record IsOf (f : FunctionBuilder) (ty : ℕ) (entry : InstrSeqType) : Type 0 where
@@ -19,6 +22,23 @@ pub record IsOf (f : FunctionBuilder) (ty : ℕ) (entry : InstrSeqType) : Type 0
   pub unnamed : f.name ≡ None
   pub body : contents f.builder ≡ empty_seq 0 entry ∷ []
 
+-- a function of the type that stands for these parameters and results, whose body's own block has the entry
+-- type of the results; the two types were added where none was equal
+pub record IsNew (params results : List ValType) (f : FunctionBuilder) (old new : Table) : Type 0 where
+  pub between : Table
+  pub entry : ℕ
+  pub ty_added : Merges (function_kind params results) f.ty old between
+  pub entry_added : Merges (entry_kind results) entry between new
+  pub is_of : IsOf f f.ty (MultiValue entry)
+
+-- the table, or the one that has a type of this kind
+abbrev pub MayAdd : Kind → Table → Table → Type 0
+MayAdd kind old new = (new ≡ old) ⊎ ((id : ℕ) × Merges kind id old new)
+
+-- the table with at most the types of a new function more
+abbrev pub MayLeave : List ValType → List ValType → Table → Table → Type 0
+MayLeave params results old new = (between : Table) × MayAdd (function_kind params results) old between × MayAdd (entry_kind results) between new
+
 -- once the borrow r ends, the function has the sequences written through r
-abbrev pub lends_builder : MutBor FunctionBuilder → MutBor InstrSeqBuilder → Fml
+abbrev pub lends_builder : MutBor FunctionBuilder → MutBor Building → Fml
 lends_builder s r = Lends function_row builder_row s r (λ b. record s.now { builder = b })

@@ -2,12 +2,13 @@
 ghost use Rattle.std.specs.Prelude.{◌≡◌, ◌<◌, [], ◌∷◌, ◌++◌, length, IfOk, OnErr, IfSome, None, string_bytes};
 ghost use Rattle.std.specs.Borrow.{sem};
 ghost use Rattle.walrus_builder.specs.Built.{contents, empty_seq};
-ghost use Rattle.walrus_builder.specs.Functions.{lends_builder, seqs_of, IsOf};
+ghost use Rattle.walrus_builder.specs.Functions.{lends_builder, seqs_of, IsOf, IsNew, MayLeave};
 
 use crate::seq_builder::InstrSeqBuilder;
 use std::alloc::{AllocError, Global};
 use walrus_arena::{InstrSeqId, TypeId};
 use walrus_instr::{InstrSeq, InstrSeqType};
+use walrus_types::{ModuleTypes, ValType};
 
 /// A function that is built: its type, its name, and the sequences of its body, whose own is the first.
 #[derive(Drop)]
@@ -20,6 +21,27 @@ pub struct FunctionBuilder {
 }
 
 impl FunctionBuilder {
+    /// A function of these parameters and results, whose body is empty, without a name. Its type and the type of
+    /// its body's own block are added to the types, where no live one is equal.
+    ///
+    /// # Errors
+    ///
+    /// Want of memory. The types may have been added, and nothing names them.
+    pub fn new(
+        alloc: Global,
+        types: &mut ModuleTypes,
+        params: &[ValType],
+        results: &[ValType],
+    ) -> Result<Self, AllocError>
+        ensures made { IfOk result (λ f. IsNew params.now results.now f types.old types.new) }
+        ensures refused { OnErr result (MayLeave params.now results.now types.old types.new) }
+    {
+        let ty = types.add(params, results)?;
+        let entry = types.add_entry_ty(results)?;
+        let function = FunctionBuilder::with_types(alloc, ty, InstrSeqType::MultiValue(entry))?;
+        Ok(function)
+    }
+
     /// A function of this type, whose body is empty and has this block type, without a name.
     ///
     /// # Errors
@@ -78,9 +100,9 @@ impl FunctionBuilder {
     pub fn func_body(&mut self) -> &mut InstrSeqBuilder
         ensures* writes_back { sem 𝓛 (lends_builder self.entry result) }
         ensures at { result.now.id ≡ 0 }
-        ensures contents { contents result.now ≡ contents self.old.builder }
+        ensures seqs { result.now.seqs ≡ seqs_of self.old }
     {
-        self.builder.go_to(InstrSeqId::from_index(0));
+        self.builder.go_to_body();
         &mut self.builder
     }
 
@@ -89,7 +111,7 @@ impl FunctionBuilder {
         requires { id < length (seqs_of self.old) }
         ensures* writes_back { sem 𝓛 (lends_builder self.entry result) }
         ensures at { result.now.id ≡ id }
-        ensures contents { contents result.now ≡ contents self.old.builder }
+        ensures seqs { result.now.seqs ≡ seqs_of self.old }
     {
         self.builder.go_to(id);
         &mut self.builder

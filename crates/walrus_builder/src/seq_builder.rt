@@ -1,7 +1,12 @@
 //! Building of sequences.
-ghost use Rattle.std.specs.Prelude.{◌<◌, length};
+ghost use Rattle.std.specs.Prelude.{◌≡◌, ◌<◌, ◌≤◌, [], ◌∷◌, ◌++◌, length, slice_get, Some, IfOk, OnErr};
+ghost use Rattle.std.specs.Borrow.{sem};
+ghost use Rattle.std.specs.Option.{option_map};
+ghost use Rattle.walrus_builder.specs.Built.{contents, empty_seq, pushes, inserts, Edits, Keeps, ExtendsAlways, IsFilled};
+ghost use Rattle.walrus_builder.specs.Lends.{lends_instrs};
 
 use std::alloc::{AllocError, Global};
+use std::marker::Model;
 use walrus_arena::InstrSeqId;
 use walrus_instr::{Instr, InstrLocId, InstrSeq, InstrSeqType, Value};
 
@@ -11,15 +16,20 @@ pub struct InstrSeqBuilder {
     alloc: Global,
     seqs: Vec<InstrSeq>,
     id: InstrSeqId,
-    ghost known: { id < length seqs.items },
+}
+
+impl Model for InstrSeqBuilder {
+    ghost use Rattle.std.specs.Prelude.{◌<◌, length};
+    ghost use Rattle.walrus_builder.specs.Built.{Building};
+
+    ghost Value = { Building };
+
+    ghost view = { λ b. record { id = b.id; seqs = b.seqs.items } };
+
+    ghost invariant = { λ b. b.id < length b.seqs.items };
 }
 
 impl InstrSeqBuilder {
-    ghost use Rattle.std.specs.Prelude.{◌≡◌, ◌≢◌, ◌≤◌, [], ◌∷◌, ◌++◌, slice_get, Some, Result, IfOk, IfErr, OnErr, Ok};
-    ghost use Rattle.std.specs.declared.alloc.AllocError.{AllocError};
-    ghost use Rattle.std.specs.Fn.{FnOnceReturnsAtMut};
-    ghost use Rattle.walrus_builder.specs.Built.{contents, empty_seq, pushes, inserts, edited, Edits, Keeps, IsBegun, Extends, ExtendsAlways, IsFilled};
-
     /// One empty sequence of this type, at hand.
     ///
     /// # Errors
@@ -36,23 +46,40 @@ impl InstrSeqBuilder {
 
     /// All sequences, by id.
     pub fn seqs(&self) -> &[InstrSeq]
-        ensures { result.now ≡ self.now.seqs.items }
+        ensures { result.now ≡ self.now.seqs }
     {
         self.seqs.as_slice()
     }
 
     /// The instructions of the sequence at hand, with their locations.
     pub fn instrs(&self) -> &[(Instr, InstrLocId)]
-        ensures { (s : _) → slice_get (contents self.now) self.now.id ≡ Some s → result.now ≡ s.instrs }
+        ensures { option_map (λ s. s.instrs) (slice_get (contents self.now) self.now.id) ≡ Some result.now }
     {
         self.seqs[self.id.index()].instrs.as_slice()
     }
 
+    /// The instructions of the sequence at hand, with their locations, for writing.
+    pub fn instrs_mut(&mut self) -> &mut Vec<(Instr, InstrLocId)>
+        ensures* writes_back { sem 𝓛 (lends_instrs self.entry result) }
+        ensures value { option_map (λ s. s.instrs) (slice_get (contents self.old) self.old.id) ≡ Some result.now.items }
+    {
+        let seq = &mut self.seqs[self.id.index()];
+        &mut seq.instrs
+    }
+
+    // Takes the body's own sequence at hand.
+    pub(crate) fn go_to_body(&mut self)
+        ensures id { self.new.id ≡ 0 }
+        ensures seqs { self.new.seqs ≡ self.old.seqs }
+    {
+        self.id = InstrSeqId::from_index(0);
+    }
+
     // Takes another sequence at hand.
     pub(crate) fn go_to(&mut self, id: InstrSeqId)
-        requires { id < length (contents self.old) }
+        requires { id < length self.old.seqs }
         ensures id { self.new.id ≡ id }
-        ensures contents { contents self.new ≡ contents self.old }
+        ensures seqs { self.new.seqs ≡ self.old.seqs }
     {
         self.id = id;
     }
@@ -111,6 +138,7 @@ impl InstrSeqBuilder {
         requires callable { F.IsAlwaysCallable make }
         requires keeps { ExtendsAlways F.FnOnce make }
         ensures filled { IfOk result (λ id. (id ≡ length (contents self.old)) × IsFilled F.FnOnce make (contents self.old) ty (contents self.new)) }
+        ensures at_hand { self.old.id < length self.old.seqs }
         ensures keeps { Keeps self.old self.new }
     {
         let outer = self.id;

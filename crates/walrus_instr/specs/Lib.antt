@@ -1,4 +1,6 @@
+pub mod BlockTypes
 pub mod Constants
+pub mod Copies
 pub mod Cuts
 pub mod Lends
 pub mod Widths

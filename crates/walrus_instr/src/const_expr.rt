@@ -1,6 +1,7 @@
 //! Constant expressions (Core Specification, constant expressions).
 ghost use Rattle.std.specs.Prelude.{◌≡◌, [], ◌∷◌, ◌++◌, IfOk, IfSome, MatchResult};
 ghost use Rattle.walrus_instr.specs.Constants.{const_of, ops_of};
+ghost use Rattle.walrus_instr.specs.Copies.{IsExprCopy};
 
 use crate::instr::Value;
 use std::alloc::AllocError;
@@ -121,14 +122,14 @@ impl ConstExpr {
     ///
     /// Want of memory.
     pub fn clone(&self) -> Result<Self, AllocError>
-        ensures { IfOk result (λ copy. ops_of copy ≡ ops_of self.now) }
+        ensures { IfOk result (λ copy. IsExprCopy self.now copy) }
     {
-        Ok(match self {
-            ConstExpr::Value(value) => ConstExpr::Value(*value),
-            ConstExpr::Global(global) => ConstExpr::Global(*global),
-            ConstExpr::RefNull(ty) => ConstExpr::RefNull(*ty),
-            ConstExpr::RefFunc(func) => ConstExpr::RefFunc(*func),
-            ConstExpr::Extended(ops) => ConstExpr::Extended(ops.clone()?),
-        })
+        match self {
+            ConstExpr::Value(value) => Ok(ConstExpr::Value(*value)),
+            ConstExpr::Global(global) => Ok(ConstExpr::Global(*global)),
+            ConstExpr::RefNull(ty) => Ok(ConstExpr::RefNull(*ty)),
+            ConstExpr::RefFunc(func) => Ok(ConstExpr::RefFunc(*func)),
+            ConstExpr::Extended(ops) => Ok(ConstExpr::Extended(ops.clone()?)),
+        }
     }
 }

@@ -2,6 +2,7 @@
 #![tactic(auto)]
 
 mod const_expr;
+mod copies;
 mod instr;
 mod memory;
 mod operators;

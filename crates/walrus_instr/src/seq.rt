@@ -1,14 +1,16 @@
 //! Sequences of instructions, their block types and locations.
-ghost use Rattle.std.specs.Prelude.{◌≡◌, ◌==◌, ◌<◌, [], Some};
+ghost use Rattle.std.specs.Prelude.{◌≡◌, ◌==◌, ◌<◌, [], IfOk, OnErr, Some};
 ghost use Rattle.std.specs.Borrow.{sem};
+ghost use Rattle.walrus_instr.specs.BlockTypes.{short_form, picked, Makes};
+ghost use Rattle.walrus_instr.specs.Copies.{IsSeqCopy};
 ghost use Rattle.walrus_instr.specs.Lends.{lends_instrs};
 ghost use Rattle.walrus_instr.specs.declared.seq.InstrSeqType.TheVariants.{Simple, MultiValue};
 
 use crate::instr::Instr;
-use std::alloc::Global;
+use std::alloc::{AllocError, Global};
 use std::ops::{Deref, DerefMut};
 use walrus_arena::{InstrSeqId, TypeId};
-use walrus_types::ValType;
+use walrus_types::{ModuleTypes, ValType};
 
 /// Where an instruction stood in the file that it was read from, as the reader of that file numbers places.
 #[derive(Clone, Copy, PartialEq, Eq, PartialOrd, Ord, Hash)]
@@ -80,6 +82,53 @@ impl From<TypeId> for InstrSeqType {
     }
 }
 
+impl InstrSeqType {
+    // The short form, where these lists have one.
+    fn short(params: &[ValType], results: &[ValType]) -> Option<Self>
+        ensures { result ≡ short_form params.now results.now }
+    {
+        match (params, results) {
+            ([], []) => Some(InstrSeqType::Simple(None)),
+            ([], [ty]) => Some(InstrSeqType::Simple(Some(*ty))),
+            _ => None,
+        }
+    }
+
+    /// The block type of these parameters and results: the short one, where there are no parameters and at
+    /// most one result, or else that of a function type, which is added where no live one is equal.
+    ///
+    /// # Errors
+    ///
+    /// Want of memory. The types stay as they were.
+    pub fn new(
+        types: &mut ModuleTypes,
+        params: &[ValType],
+        results: &[ValType],
+    ) -> Result<Self, AllocError>
+        ensures made { IfOk result (λ ty. Makes params.now results.now ty types.old types.new) }
+        ensures refused { OnErr result (types.new ≡ types.old) }
+    {
+        if let Some(short) = InstrSeqType::short(params, results) {
+            return Ok(short);
+        }
+        let ty = types.add(params, results)?;
+        Ok(InstrSeqType::MultiValue(ty))
+    }
+
+    /// The block type of these parameters and results among the types as they are: the short one, where there
+    /// are no parameters and at most one result, or else that of the latest final function type without
+    /// supertype of just these lists, if there is one.
+    pub fn existing(types: &ModuleTypes, params: &[ValType], results: &[ValType]) -> Option<Self>
+        ensures { result ≡ picked params.now results.now types.now }
+    {
+        if let Some(short) = InstrSeqType::short(params, results) {
+            return Some(short);
+        }
+        let ty = types.find(params, results)?;
+        Some(InstrSeqType::MultiValue(ty))
+    }
+}
+
 /// A sequence of instructions with their locations: a body's own, or that of a block.
 #[derive(Drop)]
 pub struct InstrSeq {
@@ -113,6 +162,26 @@ impl InstrSeq {
         ensures { result ≡ self.now.id }
     {
         self.id
+    }
+
+    /// An equal sequence, of the same id.
+    ///
+    /// # Errors
+    ///
+    /// Want of memory.
+    pub fn clone(&self) -> Result<Self, AllocError>
+        ensures { IfOk result (λ copy. IsSeqCopy self.now copy) }
+    {
+        let mut instrs = Vec::new(*self.instrs.allocator());
+        for (instr, place) in self.instrs.iter() {
+            instrs.push((instr.clone()?, *place))?;
+        }
+        Ok(InstrSeq {
+            id: self.id,
+            ty: self.ty,
+            instrs,
+            end: self.end,
+        })
     }
 }
 

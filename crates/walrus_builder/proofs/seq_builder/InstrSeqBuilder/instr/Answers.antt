@@ -7,12 +7,12 @@ pub returns-in_err-push : goal.returns-in_err-push
 returns-in_err-push c =
     let s = c.index_mut-seq.result.now in
     let same = instrs_become s c.push.new.self.items s.instrs.items c.in_err-push.ensures.items in
-    let kept = kept_set c.args.self.now.seqs.items c.index.result c.args.self.now.id s _ c.index.ensures c.args.self.now.known c.index_mut-seq.ensures.value same in
-    edits_err _ _ _ _ c.from_residual.ensures.0 refl kept
+    let kept = kept_set c.self.inside.seqs.items c.index.result c.self.inside.id s _ c.index.ensures c.self.invariant c.index_mut-seq.ensures.value same in
+    rw (← c.self.view_is) (edits_err _ _ _ _ c.from_residual.ensures.0 refl kept)
 
 pub returns : goal.returns
 returns c =
     let s = c.index_mut-seq.result.now in
     let items = pushed_items s.instrs.items c.push.new.self.items c.args.instr c.default.result c.in_ok-push.ensures.items c.default.ensures in
     let same = instrs_become s c.push.new.self.items _ items in
-    edits_ok _ _ _ refl (edited_set (pushes c.args.instr) c.args.self.now.seqs.items c.index.result c.args.self.now.id s _ c.index.ensures c.args.self.now.known c.index_mut-seq.ensures.value same)
+    rw (← c.self.view_is) (edits_ok _ _ _ refl (edited_set (pushes c.args.instr) c.self.inside.seqs.items c.index.result c.self.inside.id s _ c.index.ensures c.self.invariant c.index_mut-seq.ensures.value same))

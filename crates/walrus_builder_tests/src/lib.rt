@@ -1,0 +1,15 @@
+//! Tests of the builder, each call with ample memory.
+#![tactic(auto)]
+
+#[cfg(test)]
+mod blocks;
+#[cfg(test)]
+mod common;
+#[cfg(test)]
+mod control;
+#[cfg(test)]
+mod functions;
+#[cfg(test)]
+mod memory;
+#[cfg(test)]
+mod reference;

@@ -1,0 +1,24 @@
+//! Types, instructions and trees of a WebAssembly module, with ids in place of indices: arenas, the table of
+//! types, constant expressions, bodies as trees of sequences, what builds them and what walks over them.
+#![tactic(auto)]
+
+pub use walrus_arena::{
+    ArenaSet, DataId, DataSpace, ElementId, ElementSpace, ExportId, ExportSpace, FunctionId,
+    FunctionSpace, GlobalId, GlobalSpace, Id, IdHashMap, IdHashSet, Ids, ImportId, ImportSpace,
+    InstrSeqId, InstrSeqSpace, Iter, LocalId, LocalSpace, MemoryId, MemorySpace, RecGroupId,
+    RecGroupSpace, TableId, TableSpace, TagId, TagSpace, Tombstone, TombstoneArena, TypeId,
+    TypeSpace, UntypedCustomSectionId, UntypedCustomSectionSpace,
+};
+pub use walrus_builder::{FunctionBuilder, InstrSeqBuilder, check_nesting, dfs_in_order};
+pub use walrus_instr::{
+    AtomicOp, AtomicWidth, BinaryOp, ConstExpr, ConstOp, ExtendedLoad, Instr, InstrLocId, InstrSeq,
+    InstrSeqType, LegacyCatch, LoadKind, LoadSimdKind, MemArg, ShuffleIndices, StoreKind,
+    TernaryOp, TryTableCatch, UnaryOp, Value,
+};
+pub use walrus_types::{
+    AbstractHeapType, ArrayType, CompositeRecord, CompositeType, FieldRecord, FieldType,
+    FunctionType, GroupRecord, HeapRecord, HeapType, IrError, Local, ModuleLocals, ModuleTypes,
+    NewType, RecGroup, RecGroups, RefRecord, RefType, StorageRecord, StorageType, StructType, Type,
+    TypeRecord, Types, ValRecord, ValType,
+};
+pub use walrus_walks::{Visit, Visitor};
