@@ -5,3 +5,4 @@ pub mod Nested
 pub mod Taken
 pub mod Transitions
 pub mod Turns
+pub mod Threaded
