@@ -6,3 +6,5 @@ pub mod Taken
 pub mod Transitions
 pub mod Turns
 pub mod Threaded
+pub mod Keeping
+pub mod Visiting
