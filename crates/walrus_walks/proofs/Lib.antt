@@ -8,3 +8,4 @@ pub mod Turns
 pub mod Threaded
 pub mod Keeping
 pub mod Visiting
+pub mod Orders

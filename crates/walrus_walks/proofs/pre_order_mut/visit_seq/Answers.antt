@@ -2,7 +2,7 @@ use Rattle.std.proofs.Common.{refl, ap, ◌∙◌}
 use Rattle.std.specs.Vec.{with_items}
 use Rattle.walrus_instr.specs.declared.seq.InstrSeq.{InstrSeq}
 use Rattle.walrus_walks.specs.Changing.{ItemChanged}
-use Rattle.walrus_walks.specs.Order.{held_by, last_first}
+use Rattle.walrus_walks.specs.Order.{last_first}
 use Rattle.walrus_walks.proofs.Keeping.{written_keep}
 use Rattle.walrus_walks.proofs.Threaded.{threads_written}
 use Rattle.walrus_walks.proofs.pre_order_mut.visit_seq.Goals as goal

@@ -1,4 +1,4 @@
-use Rattle.std.proofs.Common.{length, arith}
+use Rattle.std.proofs.Common.{arith}
 use Rattle.walrus_walks.proofs.Threaded.{threads_end, threads_turn}
 use Rattle.walrus_walks.proofs.visit_mut.visit_all_mut.Goals as goal
 
