@@ -9,3 +9,4 @@ pub mod Threaded
 pub mod Keeping
 pub mod Visiting
 pub mod Orders
+pub mod Holding

@@ -15,15 +15,15 @@ use Rattle.walrus_walks.proofs.Nested.{AllNested, count_most, nested_known, nest
 use Rattle.walrus_walks.proofs.Turns.{steps_last, steps_entering}
 
 -- ---- what holds of all sequences that are held, holds of them last first
-falls_split : (rank : ℕ → ℕ) (t : ℕ) (xs ys : List ℕ) → Falls rank t (xs ++ ys) → Falls rank t xs × Falls rank t ys
+pub falls_split : (rank : ℕ → ℕ) (t : ℕ) (xs ys : List ℕ) → Falls rank t (xs ++ ys) → Falls rank t xs × Falls rank t ys
 falls_split rank t [] ys h = (tt, h)
 falls_split rank t (x ∷ xs) ys h = let p = falls_split rank t xs ys h.2 in ((h.0, h.1, p.0), p.1)
 
-falls_append : (rank : ℕ → ℕ) (t : ℕ) (xs ys : List ℕ) → Falls rank t xs → Falls rank t ys → Falls rank t (xs ++ ys)
+pub falls_append : (rank : ℕ → ℕ) (t : ℕ) (xs ys : List ℕ) → Falls rank t xs → Falls rank t ys → Falls rank t (xs ++ ys)
 falls_append rank t [] ys h g = g
 falls_append rank t (x ∷ xs) ys h g = (h.0, h.1, falls_append rank t xs ys h.2 g)
 
-falls_last_first : (rank : ℕ → ℕ) (t : ℕ) (is : List (Instr × InstrLocId)) → Falls rank t (children_in is) → Falls rank t (last_first is)
+pub falls_last_first : (rank : ℕ → ℕ) (t : ℕ) (is : List (Instr × InstrLocId)) → Falls rank t (children_in is) → Falls rank t (last_first is)
 falls_last_first rank t [] h = tt
 falls_last_first rank t (i ∷ is) h =
     let p = falls_split rank t (children i.0) (children_in is) h in

@@ -71,7 +71,7 @@ fn visit_next<V: VisitorMut>(
 ///
 /// # Errors
 ///
-/// Want of memory. The visitor has been handed a part. The sequences hold what they held.
+/// Want of memory. The visitor has been handed a part. Each sequence still holds what it held.
 pub fn dfs_pre_order_mut<V: VisitorMut>(
     alloc: Global,
     visitor: &mut V,
@@ -81,6 +81,7 @@ pub fn dfs_pre_order_mut<V: VisitorMut>(
     requires { IsNested seqs.old start }
     ensures walked { IfOk result (λ _. Walked V.step visitor.old seqs.old start visitor.new seqs.new) }
     ensures keeps { map held_by seqs.new ≡ map held_by seqs.old }
+    ensures nested { IsNested seqs.new start }
 {
     let mut stack = Vec::new(alloc);
     stack.push(Step::Enter(start))?;
