@@ -2,6 +2,16 @@
 #![tactic(auto)]
 
 #[cfg(test)]
+mod changing;
+#[cfg(test)]
+mod counts;
+#[cfg(test)]
+mod forms;
+#[cfg(test)]
+mod hooks;
+#[cfg(test)]
 mod log;
+#[cfg(test)]
+mod log_mut;
 #[cfg(test)]
 mod tests;

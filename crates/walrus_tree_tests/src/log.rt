@@ -22,7 +22,7 @@ impl Log {
         }
     }
 
-    fn word(&mut self, word: &str) {
+    pub fn word(&mut self, word: &str) {
         if self.text.push_str(word).is_err() || self.text.push(' ').is_err() {
             self.refused = true;
         }

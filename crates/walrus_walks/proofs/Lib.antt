@@ -5,3 +5,8 @@ pub mod Nested
 pub mod Taken
 pub mod Transitions
 pub mod Turns
+pub mod Threaded
+pub mod Keeping
+pub mod Visiting
+pub mod Orders
+pub mod Holding

@@ -3,11 +3,17 @@
 
 mod in_order;
 mod nesting;
+mod pre_order_mut;
 mod steps;
 mod visit;
+mod visit_mut;
 mod visitor;
+mod visitor_mut;
 
 pub use in_order::dfs_in_order;
 pub use nesting::check_nesting;
+pub use pre_order_mut::dfs_pre_order_mut;
 pub use visit::Visit;
+pub use visit_mut::VisitMut;
 pub use visitor::Visitor;
+pub use visitor_mut::VisitorMut;

@@ -1,7 +1,7 @@
 //! The list of what a walk has still to do.
 ghost use Rattle.std.specs.Prelude.{◌≡◌, ◌++◌, IfOk};
 ghost use Rattle.walrus_walks.specs.Tree.{children, handler, handlers};
-ghost use Rattle.walrus_walks.specs.Steps.{entering};
+ghost use Rattle.walrus_walks.specs.Steps.{entering, id_of};
 
 use std::alloc::AllocError;
 use walrus_arena::InstrSeqId;
@@ -14,6 +14,18 @@ pub enum Step {
     Enter(InstrSeqId),
     /// Go on with a sequence at this instruction.
     Resume(InstrSeqId, usize),
+}
+
+impl Step {
+    /// The sequence that it is of.
+    pub(crate) fn id(self) -> InstrSeqId
+        ensures { result ≡ id_of self }
+    {
+        match self {
+            Step::Enter(id) => id,
+            Step::Resume(id, _) => id,
+        }
+    }
 }
 
 // Pushes the handler, where there is one.

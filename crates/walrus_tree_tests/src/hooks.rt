@@ -1,0 +1,104 @@
+//! Each form of instruction tells of what it names, in both walks.
+use crate::counts::Counts;
+use crate::forms::{
+    Rows, aggregate_rows, control_rows, memory_rows, operand_rows, structured_rows, table_rows,
+};
+use crate::log::Log;
+use std::alloc::{AllocError, Global};
+use std::process::Abort;
+use std::test::Fail;
+use walrus_arena::{InstrSeqId, TypeId};
+use walrus_instr::{Instr, InstrLocId, InstrSeq, InstrSeqType};
+use walrus_types::{RefType, ValType};
+use walrus_walks::{Visit, VisitMut, check_nesting, dfs_in_order, dfs_pre_order_mut};
+
+fn told(rt: &impl Abort, alloc: Global, mut rows: Rows) {
+    while let Some((mut instr, words)) = rows.pop() {
+        let mut log = Log::new(alloc);
+        instr.visit(&mut log);
+        assert!(rt; !log.refused);
+        assert_eq!(rt; log.text.trim_end(), words);
+        let mut changing = Log::new(alloc);
+        instr.visit_mut(&mut changing);
+        assert!(rt; !changing.refused);
+        assert_eq!(rt; changing.text.trim_end(), words);
+    }
+}
+
+#[test]
+fn each_form_tells_of_what_it_names(rt: HostRuntime) -> Result<(), Fail> {
+    told(&rt, rt.alloc(), control_rows(rt.alloc())?);
+    told(&rt, rt.alloc(), operand_rows(rt.alloc())?);
+    told(&rt, rt.alloc(), table_rows(rt.alloc())?);
+    told(&rt, rt.alloc(), memory_rows(rt.alloc())?);
+    told(&rt, rt.alloc(), aggregate_rows(rt.alloc())?);
+    told(&rt, rt.alloc(), structured_rows(rt.alloc())?);
+    Ok(())
+}
+
+fn add_all(instrs: &mut Vec<(Instr, InstrLocId)>, mut rows: Rows) -> Result<(), AllocError> {
+    while let Some((instr, _)) = rows.pop() {
+        instrs.push((instr, InstrLocId::default()))?;
+    }
+    Ok(())
+}
+
+// A body with each form once, of whose block types two name a type.
+fn body(alloc: Global) -> Result<Vec<InstrSeq>, AllocError> {
+    let ty = TypeId::from_index(0);
+    let plain = InstrSeqType::Simple(None);
+    let named = InstrSeqType::Simple(Some(ValType::Ref(RefType {
+        nullable: false,
+        heap_type: walrus_types::HeapType::Exact(ty),
+    })));
+    let mut own = InstrSeq::new(alloc, InstrSeqId::from_index(0), plain);
+    add_all(&mut own.instrs, structured_rows(alloc)?)?;
+    add_all(&mut own.instrs, control_rows(alloc)?)?;
+    add_all(&mut own.instrs, operand_rows(alloc)?)?;
+    add_all(&mut own.instrs, table_rows(alloc)?)?;
+    add_all(&mut own.instrs, memory_rows(alloc)?)?;
+    add_all(&mut own.instrs, aggregate_rows(alloc)?)?;
+    let mut seqs = Vec::new(alloc);
+    seqs.push(own)?;
+    for index in 1..9 {
+        let block_type = match index {
+            2 => InstrSeqType::MultiValue(ty),
+            3 => named,
+            _ => plain,
+        };
+        seqs.push(InstrSeq::new(alloc, InstrSeqId::from_index(index), block_type))?;
+    }
+    Ok(seqs)
+}
+
+// By the table of operators: 93 forms in one sequence, and the empty ones that they hold.
+const EXPECTED: Counts = Counts {
+    starts: 9,
+    ends: 9,
+    instrs: 93,
+    labels: 13,
+    locals: 3,
+    memories: 13,
+    tables: 10,
+    globals: 2,
+    functions: 3,
+    data: 4,
+    types: 34,
+    elements: 4,
+    tags: 4,
+    values: 1,
+};
+
+#[test]
+fn each_hook_is_counted(rt: HostRuntime) -> Result<(), Fail> {
+    let mut seqs = body(rt.alloc())?;
+    let start = InstrSeqId::from_index(0);
+    assert!(rt; check_nesting(rt.alloc(), seqs.as_slice(), start)?);
+    let mut counts = Counts::NONE;
+    dfs_in_order(rt.alloc(), &mut counts, seqs.as_slice(), start)?;
+    assert!(rt; counts == EXPECTED);
+    let mut changing = Counts::NONE;
+    dfs_pre_order_mut(rt.alloc(), &mut changing, seqs.as_mut_slice(), start)?;
+    assert!(rt; changing == EXPECTED);
+    Ok(())
+}
