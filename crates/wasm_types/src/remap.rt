@@ -7,6 +7,7 @@ ghost use Rattle.wasm_types.specs.Remap.{VisitsIndex, VisitsReference, VisitsVal
 use crate::field::{FieldType, StorageType};
 use crate::form::{ArrayType, CompositeInnerType, ContType, FuncType, StructType};
 use crate::group::RecGroup;
+use crate::list::TypeList;
 use crate::subtype::SubType;
 use wasm_ref_types::{PackedIndex, RefType, ValType};
 
@@ -77,4 +78,19 @@ fn remap_field<E, F: FnMut(&mut PackedIndex) -> Result<(), E>>(
         element_type,
         mutable,
     })
+}
+
+fn remap_values<E, F: FnMut(&mut PackedIndex) -> Result<(), E>>(
+    types: &mut TypeList<ValType>,
+    map: &mut F,
+) -> Result<(), E>
+    requires { F.IsAlwaysCallable map.old }
+    ensures visits { VisitsEach (CalledAtMut F.FnMut) (VisitsValue (CalledAtMut F.FnMut)) map.old types.old result map.new types.new }
+    ensures callable { F.IsAlwaysCallable map.new }
+{
+    for i in 0..types.as_slice().len() {
+        let ty = remap_value(types.as_slice()[i], map)?;
+        types.set(i, ty);
+    }
+    Ok(())
 }
