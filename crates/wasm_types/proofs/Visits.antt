@@ -47,3 +47,9 @@ module _ {F E : Type 0} (call : F → UnpackedIndex → Result (Unit {0}) E → 
       let none = drop_all i xs above in
       let all = so.completes (Ok tt) now [] (subst (λ (l : List X). VisitsEach call One now l (Ok tt) now []) (sym none) (refl, refl, refl)) in
       subst (λ (l : List X). VisitsEach call One start old (Ok tt) now l) (ap (λ (l : List X). take i xs ++ l) (sym none) ∙ take-append-drop i xs) all
+
+  pub as_long : (start now : F) (xs ys : List X) (r : Result (Unit {0}) E) → VisitsEach call One start xs r now ys → length ys ≡ length xs
+  as_long start now [] ys r h = ap length h.2
+  as_long start now (x ∷ xs) [] r h = absurd h
+  as_long start now (x ∷ xs) (y ∷ ys) r (inl h) = let later = as_long h.0 now xs ys r h.2 in omega arith
+  as_long start now (x ∷ xs) (y ∷ ys) r (inr h) = let later : length ys ≡ length xs = ap length h.3 in omega arith

@@ -7,6 +7,7 @@ ghost use Rattle.std.specs.Hash as fed;
 ghost use Rattle.std.specs.Hash.{on_Alike, items_Alike};
 ghost use Rattle.std.specs.Fn.{CalledAtMut};
 ghost use Rattle.wasm_types.specs.Remap.{VisitsGroup};
+ghost use Rattle.wasm_types.specs.Members.{group_of};
 ghost use Rattle.std.specs.Iterator.{YieldsFirst, YieldsFirstBy, item_count};
 
 use crate::into_types::{IntoTypes, IntoTypesAndOffsets};
@@ -125,10 +126,7 @@ impl RecGroup {
         ensures visits { VisitsGroup (CalledAtMut F.FnMut) map.old self.old result map.new self.new }
         ensures callable { F.IsAlwaysCallable map.new }
     {
-        match &mut self.members {
-            Members::Implicit { ty, .. } => remap_sub(ty, map),
-            Members::Explicit { types, .. } => remap_types(types, map),
-        }
+        remap_members(&mut self.members, map)
     }
 
     /// An equal group, with its mark and its offsets.
@@ -147,6 +145,20 @@ impl RecGroup {
                 Ok(RecGroup::explicit(offsets, clone_types(alloc, types.as_slice())?))
             }
         }
+    }
+}
+
+fn remap_members<E, F: FnMut(&mut PackedIndex) -> Result<(), E>>(
+    members: &mut Members,
+    map: &mut F,
+) -> Result<(), E>
+    requires { F.IsAlwaysCallable map.old }
+    ensures visits { VisitsGroup (CalledAtMut F.FnMut) map.old (group_of members.old) result map.new (group_of members.new) }
+    ensures callable { F.IsAlwaysCallable map.new }
+{
+    match members {
+        Members::Implicit { ty, .. } => remap_sub(ty, map),
+        Members::Explicit { types, .. } => remap_types(types, map),
     }
 }
 
