@@ -5,15 +5,20 @@ ghost use Rattle.std.specs.Cmp.{on_equiv, on_total, on_po, on_per};
 ghost use Rattle.std.specs.Cmp.Lexicographic.{pointwise, slice_cmp, slice_partial_cmp, lists_per, lists_equiv, lists_po, lists_total, lists_agrees, lists_ties};
 ghost use Rattle.std.specs.Hash as fed;
 ghost use Rattle.std.specs.Hash.{on_Alike, items_Alike};
+ghost use Rattle.std.specs.Fn.{CalledAtMut};
+ghost use Rattle.wasm_types.specs.Remap.{VisitsGroup};
+ghost use Rattle.wasm_types.specs.Members.{group_of};
 ghost use Rattle.std.specs.Iterator.{YieldsFirst, YieldsFirstBy, item_count};
 
 use crate::into_types::{IntoTypes, IntoTypesAndOffsets};
+use crate::remap::{remap_sub, remap_types};
 use crate::subtype::SubType;
 use std::alloc::{AllocError, Global};
 use std::cmp::Ordering;
 use std::hash::{Hash, Hasher};
 use std::marker::Model;
 use std::slice;
+use wasm_ref_types::PackedIndex;
 
 /// Types that may name one another: a type that stands alone, or an explicit group.
 ///
@@ -107,6 +112,23 @@ impl RecGroup {
         }
     }
 
+    /// Calls `map` at each index that the types name, in the order of their bytes, a type's supertype first. Each is replaced
+    /// by what its call leaves, up to the first call that refuses; nothing else changes.
+    ///
+    /// # Errors
+    ///
+    /// What a call of `map` refuses with. Its index and those behind it stay.
+    pub fn remap_indices<E, F: FnMut(&mut PackedIndex) -> Result<(), E>>(
+        &mut self,
+        map: &mut F,
+    ) -> Result<(), E>
+        requires { F.IsAlwaysCallable map.old }
+        ensures visits { VisitsGroup (CalledAtMut F.FnMut) map.old self.old result map.new self.new }
+        ensures callable { F.IsAlwaysCallable map.new }
+    {
+        remap_members(&mut self.members, map)
+    }
+
     /// An equal group, with its mark and its offsets.
     ///
     /// # Errors
@@ -123,6 +145,20 @@ impl RecGroup {
                 Ok(RecGroup::explicit(offsets, clone_types(alloc, types.as_slice())?))
             }
         }
+    }
+}
+
+fn remap_members<E, F: FnMut(&mut PackedIndex) -> Result<(), E>>(
+    members: &mut Members,
+    map: &mut F,
+) -> Result<(), E>
+    requires { F.IsAlwaysCallable map.old }
+    ensures visits { VisitsGroup (CalledAtMut F.FnMut) map.old (group_of members.old) result map.new (group_of members.new) }
+    ensures callable { F.IsAlwaysCallable map.new }
+{
+    match members {
+        Members::Implicit { ty, .. } => remap_sub(ty, map),
+        Members::Explicit { types, .. } => remap_types(types, map),
     }
 }
 

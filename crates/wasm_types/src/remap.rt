@@ -7,6 +7,7 @@ ghost use Rattle.wasm_types.specs.Remap.{VisitsIndex, VisitsReference, VisitsVal
 use crate::field::{FieldType, StorageType};
 use crate::form::{ArrayType, CompositeInnerType, ContType, FuncType, StructType};
 use crate::group::RecGroup;
+use crate::list::TypeList;
 use crate::subtype::SubType;
 use wasm_ref_types::{PackedIndex, RefType, ValType};
 
@@ -77,4 +78,108 @@ fn remap_field<E, F: FnMut(&mut PackedIndex) -> Result<(), E>>(
         element_type,
         mutable,
     })
+}
+
+fn remap_values<E, F: FnMut(&mut PackedIndex) -> Result<(), E>>(
+    types: &mut TypeList<ValType>,
+    map: &mut F,
+) -> Result<(), E>
+    requires { F.IsAlwaysCallable map.old }
+    ensures visits { VisitsEach (CalledAtMut F.FnMut) (VisitsValue (CalledAtMut F.FnMut)) map.old types.old result map.new types.new }
+    ensures callable { F.IsAlwaysCallable map.new }
+{
+    for i in 0..types.as_slice().len() {
+        let ty = remap_value(types.as_slice()[i], map)?;
+        types.set(i, ty);
+    }
+    Ok(())
+}
+
+fn remap_fields<E, F: FnMut(&mut PackedIndex) -> Result<(), E>>(
+    fields: &mut TypeList<FieldType>,
+    map: &mut F,
+) -> Result<(), E>
+    requires { F.IsAlwaysCallable map.old }
+    ensures visits { VisitsEach (CalledAtMut F.FnMut) (VisitsField (CalledAtMut F.FnMut)) map.old fields.old result map.new fields.new }
+    ensures callable { F.IsAlwaysCallable map.new }
+{
+    for i in 0..fields.as_slice().len() {
+        let field = remap_field(fields.as_slice()[i], map)?;
+        fields.set(i, field);
+    }
+    Ok(())
+}
+
+fn remap_func<E, F: FnMut(&mut PackedIndex) -> Result<(), E>>(
+    ty: &mut FuncType,
+    map: &mut F,
+) -> Result<(), E>
+    requires { F.IsAlwaysCallable map.old }
+    ensures visits { VisitsFunc (CalledAtMut F.FnMut) map.old ty.old result map.new ty.new }
+    ensures callable { F.IsAlwaysCallable map.new }
+{
+    remap_values(&mut ty.params, map)?;
+    remap_values(&mut ty.results, map)
+}
+
+fn remap_form<E, F: FnMut(&mut PackedIndex) -> Result<(), E>>(
+    form: &mut CompositeInnerType,
+    map: &mut F,
+) -> Result<(), E>
+    requires { F.IsAlwaysCallable map.old }
+    ensures visits { VisitsForm (CalledAtMut F.FnMut) map.old form.old result map.new form.new }
+    ensures callable { F.IsAlwaysCallable map.new }
+{
+    match form {
+        CompositeInnerType::Func(ty) => remap_func(ty, map),
+        CompositeInnerType::Struct(ty) => remap_fields(&mut ty.fields, map),
+        CompositeInnerType::Array(ty) => {
+            *ty = ArrayType(remap_field(ty.0, map)?);
+            Ok(())
+        }
+        CompositeInnerType::Cont(ty) => {
+            *ty = ContType(remap_index(ty.0, map)?);
+            Ok(())
+        }
+    }
+}
+
+fn remap_supertype<E, F: FnMut(&mut PackedIndex) -> Result<(), E>>(
+    supertype: Option<PackedIndex>,
+    map: &mut F,
+) -> Result<Option<PackedIndex>, E>
+    requires { F.IsAlwaysCallable map.old }
+    ensures visits { MatchResult result (λ new. VisitsSupertype (CalledAtMut F.FnMut) map.old supertype (Ok tt) map.new new) (λ e. VisitsSupertype (CalledAtMut F.FnMut) map.old supertype (Err e) map.new supertype) }
+    ensures callable { F.IsAlwaysCallable map.new }
+{
+    match supertype {
+        Some(index) => Ok(Some(remap_index(index, map)?)),
+        None => Ok(None),
+    }
+}
+
+pub(crate) fn remap_sub<E, F: FnMut(&mut PackedIndex) -> Result<(), E>>(
+    ty: &mut SubType,
+    map: &mut F,
+) -> Result<(), E>
+    requires { F.IsAlwaysCallable map.old }
+    ensures visits { VisitsSub (CalledAtMut F.FnMut) map.old ty.old result map.new ty.new }
+    ensures callable { F.IsAlwaysCallable map.new }
+{
+    ty.supertype_idx = remap_supertype(ty.supertype_idx, map)?;
+    remap_form(&mut ty.composite_type.inner, map)
+}
+
+pub(crate) fn remap_types<E, F: FnMut(&mut PackedIndex) -> Result<(), E>>(
+    types: &mut Vec<SubType>,
+    map: &mut F,
+) -> Result<(), E>
+    requires { F.IsAlwaysCallable map.old }
+    ensures visits { VisitsEach (CalledAtMut F.FnMut) (VisitsSub (CalledAtMut F.FnMut)) map.old types.old.items result map.new types.new.items }
+    ensures callable { F.IsAlwaysCallable map.new }
+{
+    for i in 0..types.len() {
+        remap_sub(&mut types[i], map)?;
+    }
+    Ok(())
 }
