@@ -9,16 +9,18 @@ pub use walrus_arena::{
     RecGroupSpace, TableId, TableSpace, TagId, TagSpace, Tombstone, TombstoneArena, TypeId,
     TypeSpace, UntypedCustomSectionId, UntypedCustomSectionSpace,
 };
-pub use walrus_builder::{FunctionBuilder, InstrSeqBuilder, check_nesting, dfs_in_order};
+pub use walrus_builder::{
+    FunctionBuilder, InstrSeqBuilder, check_nesting, dfs_in_order, dfs_pre_order_mut,
+};
 pub use walrus_instr::{
     AtomicOp, AtomicWidth, BinaryOp, ConstExpr, ConstOp, ExtendedLoad, Instr, InstrLocId, InstrSeq,
     InstrSeqType, LegacyCatch, LoadKind, LoadSimdKind, MemArg, ShuffleIndices, StoreKind,
     TernaryOp, TryTableCatch, UnaryOp, Value,
 };
 pub use walrus_types::{
-    AbstractHeapType, ArrayType, CompositeRecord, CompositeType, FieldRecord, FieldType,
-    FunctionType, GroupRecord, HeapRecord, HeapType, IrError, Local, ModuleLocals, ModuleTypes,
-    NewType, RecGroup, RecGroups, RefRecord, RefType, StorageRecord, StorageType, StructType, Type,
-    TypeRecord, Types, ValRecord, ValType,
+    AbstractHeapType, ArrayType, CompositeRecord, CompositeType, EmittedTypes, FieldRecord,
+    FieldType, FunctionType, GroupRecord, HeapRecord, HeapType, IrError, Local, ModuleLocals,
+    ModuleTypes, NewType, RecGroup, RecGroups, RefRecord, RefType, StorageRecord, StorageType,
+    StructType, Type, TypeIndices, TypeRecord, Types, ValRecord, ValType,
 };
-pub use walrus_walks::{Visit, Visitor};
+pub use walrus_walks::{Visit, VisitMut, Visitor, VisitorMut};

@@ -9,3 +9,8 @@ pub use wasm_reader::{
 pub use wasm_ref_types::{
     AbstractHeapType, CoreTypeId, HeapType, PackedIndex, RefType, UnpackedIndex, ValType,
 };
+pub use wasm_types::{
+    ArrayType, CompositeInnerType, CompositeType, ContType, FieldType, FuncType, FuncTypes,
+    GlobalType, IntoTypes, IntoTypesAndOffsets, MemoryType, RecGroup, StorageType, StructType,
+    SubType, TableType, TagKind, TagType, TypeList, TypeSectionReader, Types,
+};
