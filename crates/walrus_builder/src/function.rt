@@ -17,7 +17,7 @@ pub struct FunctionBuilder {
     ty: TypeId,
     /// The name that is written for it.
     pub name: Option<String>,
-    builder: InstrSeqBuilder,
+    pub(crate) builder: InstrSeqBuilder,
 }
 
 impl FunctionBuilder {

@@ -11,4 +11,4 @@ mod walks;
 
 pub use function::FunctionBuilder;
 pub use seq_builder::InstrSeqBuilder;
-pub use walks::{check_nesting, dfs_in_order};
+pub use walks::{check_nesting, dfs_in_order, dfs_pre_order_mut};

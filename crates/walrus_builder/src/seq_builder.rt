@@ -14,7 +14,7 @@ use walrus_instr::{Instr, InstrLocId, InstrSeq, InstrSeqType, Value};
 #[derive(Drop)]
 pub struct InstrSeqBuilder {
     alloc: Global,
-    seqs: Vec<InstrSeq>,
+    pub(crate) seqs: Vec<InstrSeq>,
     id: InstrSeqId,
 }
 

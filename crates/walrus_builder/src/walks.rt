@@ -1,6 +1,8 @@
 //! Walks over a function that is built.
-ghost use Rattle.std.specs.Prelude.{IfOk, MatchBool};
+ghost use Rattle.std.specs.Prelude.{◌≡◌, IfOk, MatchBool, map};
 ghost use Rattle.std.specs.List.{FoldsTo};
+ghost use Rattle.walrus_walks.specs.Changing.{Walked};
+ghost use Rattle.walrus_walks.specs.Order.{held_by};
 ghost use Rattle.walrus_walks.specs.Tree.{IsNested};
 ghost use Rattle.walrus_walks.specs.Walk.{walk};
 ghost use Rattle.walrus_builder.specs.Functions.{seqs_of};
@@ -8,7 +10,7 @@ ghost use Rattle.walrus_builder.specs.Functions.{seqs_of};
 use crate::function::FunctionBuilder;
 use std::alloc::{AllocError, Global};
 use walrus_arena::InstrSeqId;
-use walrus_walks::Visitor;
+use walrus_walks::{Visitor, VisitorMut};
 
 /// Tells the visitor of the start sequence and of all that it holds, in the order of the text, as
 /// `walrus_walks::dfs_in_order` does. Asks for a nested start, as `check_nesting` tests.
@@ -26,6 +28,29 @@ pub fn dfs_in_order<V: Visitor>(
     ensures { IfOk result (λ _. FoldsTo V.step visitor.old (walk (seqs_of body.now) start) visitor.new) }
 {
     walrus_walks::dfs_in_order(alloc, visitor, body.seqs(), start)?;
+    Ok(())
+}
+
+/// Hands the visitor the start sequence and all that it holds, to be changed, as
+/// `walrus_walks::dfs_pre_order_mut` does. Asks for a nested start, as `check_nesting` tests.
+///
+/// # Errors
+///
+/// Want of memory. The visitor has been handed a part. Each sequence still holds what it held.
+pub fn dfs_pre_order_mut<V: VisitorMut>(
+    alloc: Global,
+    visitor: &mut V,
+    body: &mut FunctionBuilder,
+    start: InstrSeqId,
+) -> Result<(), AllocError>
+    requires { IsNested (seqs_of body.old) start }
+    ensures walked { IfOk result (λ _. Walked V.step visitor.old (seqs_of body.old) start visitor.new (seqs_of body.new)) }
+    ensures keeps { map held_by (seqs_of body.new) ≡ map held_by (seqs_of body.old) }
+    ensures nested { IsNested (seqs_of body.new) start }
+    ensures ty { body.new.ty ≡ body.old.ty }
+    ensures name { body.new.name ≡ body.old.name }
+{
+    walrus_walks::dfs_pre_order_mut(alloc, visitor, body.builder.seqs.as_mut_slice(), start)?;
     Ok(())
 }
 
