@@ -10,7 +10,6 @@ use std::alloc::AllocError;
 use std::cmp::Ordering;
 use std::hash::{Hash, Hasher};
 use std::marker::Model;
-use std::ops::DerefSlice;
 
 /// A list that a type holds. Contracts see its items alone.
 #[derive(Drop)]
@@ -73,17 +72,6 @@ impl<T: Copy> TypeList<T> {
         Ok(TypeList {
             items: Vec::from_slice(*self.items.allocator(), self.items.as_slice())?,
         })
-    }
-}
-
-impl<T> DerefSlice for TypeList<T> {
-    type Elem = T;
-
-    ghost deref_gives = { λ list items. items ≡ list };
-
-    #[inline]
-    fn deref(&self) -> &[T] {
-        self.as_slice()
     }
 }
 

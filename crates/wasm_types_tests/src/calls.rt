@@ -1,0 +1,139 @@
+//! Calls on types.
+
+use std::test::Fail;
+use wasm_ref_types::{HeapType, PackedIndex, RefType, UnpackedIndex, ValType};
+use wasm_reader::BinaryReader;
+use wasm_types::{
+    CompositeType, FuncType, GlobalType, MemoryType, RecGroup, StructType, SubType, TableType,
+    TagKind, TagType, TypeList, laws,
+};
+
+#[test]
+fn function_types(rt: HostRuntime) -> Result<(), Fail> {
+    let ty = FuncType::new(rt.alloc(), [ValType::I32], [])?;
+    assert!(rt; ty.params().len() == 1);
+    assert!(rt; ty.params()[0] == ValType::I32);
+    assert!(rt; ty.results().is_empty());
+    let copy = ty.clone()?;
+    assert!(rt; copy == ty);
+    let sub = SubType::func(copy, true)?;
+    assert!(rt; sub.is_final);
+    assert!(rt; sub.supertype_idx.is_none());
+    assert!(rt; sub.composite_type.shared);
+    assert!(rt; *sub.unwrap_func() == ty);
+    assert!(rt; sub.clone()? == sub);
+    assert!(rt; sub.composite_type.clone()? == sub.composite_type);
+    assert!(rt; sub.composite_type.inner.clone()? == sub.composite_type.inner);
+    Ok(())
+}
+
+#[test]
+fn lists(rt: HostRuntime) -> Result<(), Fail> {
+    let list = TypeList::from_vec(vec![in rt.alloc(); ValType::F32, ValType::F64]?);
+    assert!(rt; list.as_slice().len() == 2);
+    let copy = list.clone()?;
+    assert!(rt; copy == list);
+    let items = list.into_vec();
+    assert!(rt; items.len() == 2);
+    assert!(rt; items[1] == ValType::F64);
+    Ok(())
+}
+
+#[test]
+fn structures_are_copied(rt: HostRuntime) -> Result<(), Fail> {
+    let bytes = [0x5f, 0x01, 0x78, 0x01];
+    let ty: CompositeType = BinaryReader::new(&bytes, 0).read(rt.alloc())?;
+    let fields: StructType = ty.unwrap_struct().clone()?;
+    assert!(rt; fields == *ty.unwrap_struct());
+    Ok(())
+}
+
+#[test]
+fn tables_and_memories(rt: HostRuntime) -> Result<(), Fail> {
+    let table = TableType {
+        element_type: RefType::FUNCREF,
+        table64: false,
+        initial: 1,
+        maximum: Some(2),
+        shared: false,
+    };
+    assert!(rt; table.index_type() == ValType::I32);
+    let memory = MemoryType {
+        memory64: true,
+        shared: false,
+        initial: 1,
+        maximum: None,
+        page_size_log2: None,
+    };
+    assert!(rt; memory.index_type() == ValType::I64);
+    assert!(rt; memory.page_size_log2() == 16);
+    assert!(rt; memory.page_size() == 65_536);
+    let bytes = MemoryType {
+        page_size_log2: Some(0),
+        ..memory
+    };
+    assert!(rt; bytes.page_size() == 1);
+    assert!(rt; bytes != memory);
+    Ok(())
+}
+
+#[test]
+fn globals_and_tags(rt: HostRuntime) -> Result<(), Fail> {
+    let global = GlobalType {
+        content_type: ValType::I32,
+        mutable: true,
+        shared: false,
+    };
+    assert!(rt; global == global.clone()?);
+    let tag = TagType {
+        kind: TagKind::Exception,
+        func_type_idx: 3,
+    };
+    assert!(rt; tag.func_type_idx == 3);
+    Ok(())
+}
+
+// A group of a function type of one parameter and a structure below type 1, each of which names type 1.
+const NAMING: [u8; 14] = [
+    0x4e, 0x02, 0x60, 0x01, 0x63, 0x01, 0x00, 0x50, 0x01, 0x01, 0x5f, 0x01, 0x64, 0x01,
+];
+
+#[test]
+fn indices_are_changed_in_their_order(rt: HostRuntime) -> Result<(), Fail> {
+    let mut bytes = vec![in rt.alloc(); 0x01]?;
+    bytes.clear();
+    bytes.extend_from_slice(&NAMING)?;
+    bytes.push(0x00)?;
+    let mut group: RecGroup = BinaryReader::new(bytes.as_slice(), 0).read(rt.alloc())?;
+    let mut next = 10u32;
+    let mut number = |index: &mut PackedIndex| -> Result<(), u32> {
+        let Some(new) = PackedIndex::from_module_index(next) else {
+            return Err(next);
+        };
+        *index = new;
+        next = next.wrapping_add(1);
+        Ok(())
+    };
+    assert!(rt; group.remap_indices(&mut number).is_ok());
+    let mut types = group.into_types();
+    if let Some(ty) = types.next() {
+        let ValType::Ref(param) = ty.unwrap_func().params()[0] else {
+            return Ok(());
+        };
+        assert!(rt; param.heap_type() == HeapType::Concrete(UnpackedIndex::Module(10)));
+        assert!(rt; param.is_nullable());
+    }
+    if let Some(ty) = types.next() {
+        assert!(rt; ty.supertype_idx == PackedIndex::from_module_index(11));
+    }
+    Ok(())
+}
+
+#[test]
+fn laws_can_be_cited() {
+    laws::types_are_final();
+    laws::fronts_of_types_end_early();
+    laws::spelled_types_are_read();
+    laws::type_spellings_are_prefix_free();
+    laws::written_types_are_read();
+}

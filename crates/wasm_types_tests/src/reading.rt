@@ -1,0 +1,144 @@
+//! Bytes of the Core Specification's binary format for each form of type, and of shared types.
+
+use std::alloc::Global;
+use std::test::Fail;
+use wasm_reader::{BinaryReader, FromReader, Result};
+use wasm_ref_types::{PackedIndex, RefType, ValType};
+use wasm_types::{
+    ArrayType, CompositeType, FieldType, FuncType, RecGroup, StorageType, StructType, SubType,
+};
+
+// The first byte of each text stands at 11, as that of the first type of a module. All features are on.
+fn read<'a, T: FromReader<'a>>(alloc: Global, bytes: &'a [u8]) -> Result<T> {
+    BinaryReader::new(bytes, 11).read(alloc)
+}
+
+fn same(types: &[ValType], expected: &[ValType]) -> bool {
+    types == expected
+}
+
+#[test]
+fn storage_types(rt: HostRuntime) -> std::result::Result<(), Fail> {
+    let byte: StorageType = read(rt.alloc(), &[0x78])?;
+    assert!(rt; byte == StorageType::I8);
+    assert!(rt; byte.is_packed());
+    assert!(rt; byte.unpack() == ValType::I32);
+    let half: StorageType = read(rt.alloc(), &[0x77])?;
+    assert!(rt; half == StorageType::I16);
+    assert!(rt; half.unpack() == ValType::I32);
+    let value: StorageType = read(rt.alloc(), &[0x7e])?;
+    assert!(rt; value == StorageType::Val(ValType::I64));
+    assert!(rt; !value.is_packed());
+    assert!(rt; value.unpack() == ValType::I64);
+    Ok(())
+}
+
+#[test]
+fn field_types(rt: HostRuntime) -> std::result::Result<(), Fail> {
+    let fixed: FieldType = read(rt.alloc(), &[0x77, 0x00])?;
+    assert!(rt; fixed.element_type == StorageType::I16);
+    assert!(rt; !fixed.mutable);
+    let mutable: FieldType = read(rt.alloc(), &[0x70, 0x01])?;
+    assert!(rt; mutable.element_type == StorageType::Val(ValType::FUNCREF));
+    assert!(rt; mutable.mutable);
+    let array: ArrayType = read(rt.alloc(), &[0x78, 0x01])?;
+    assert!(rt; array.0.element_type == StorageType::I8);
+    assert!(rt; array.0.mutable);
+    Ok(())
+}
+
+#[test]
+fn what_follows_the_byte_of_a_form(rt: HostRuntime) -> std::result::Result<(), Fail> {
+    let function: FuncType = read(rt.alloc(), &[0x02, 0x7f, 0x7e, 0x01, 0x7d])?;
+    assert!(rt; same(function.params(), &[ValType::I32, ValType::I64]));
+    assert!(rt; same(function.results(), &[ValType::F32]));
+    let structure: StructType = read(rt.alloc(), &[0x02, 0x7f, 0x00, 0x78, 0x01])?;
+    let fields = structure.fields.as_slice();
+    assert!(rt; fields.len() == 2);
+    assert!(rt; fields[0].element_type == StorageType::Val(ValType::I32));
+    assert!(rt; !fields[0].mutable);
+    assert!(rt; fields[1].element_type == StorageType::I8);
+    assert!(rt; fields[1].mutable);
+    Ok(())
+}
+
+#[test]
+fn composite_types(rt: HostRuntime) -> std::result::Result<(), Fail> {
+    let function: CompositeType = read(rt.alloc(), &[0x60, 0x01, 0x7b, 0x00])?;
+    assert!(rt; !function.shared);
+    let structure: CompositeType = read(rt.alloc(), &[0x5f, 0x01, 0x6e, 0x01])?;
+    let array: CompositeType = read(rt.alloc(), &[0x5e, 0x7c, 0x00])?;
+    let shared: CompositeType = read(rt.alloc(), &[0x65, 0x60, 0x00, 0x00])?;
+    assert!(rt; shared.shared);
+    let sub = SubType::func(
+        FuncType::new(rt.alloc(), [ValType::V128], [])?,
+        false,
+    )?;
+    assert!(rt; sub.composite_type == function);
+    assert!(rt; array < structure);
+    Ok(())
+}
+
+#[test]
+fn subtypes(rt: HostRuntime) -> std::result::Result<(), Fail> {
+    let bare: SubType = read(rt.alloc(), &[0x60, 0x00, 0x00])?;
+    assert!(rt; bare.is_final);
+    assert!(rt; bare.supertype_idx.is_none());
+    let open: SubType = read(rt.alloc(), &[0x50, 0x00, 0x60, 0x00, 0x00])?;
+    assert!(rt; !open.is_final);
+    assert!(rt; open.supertype_idx.is_none());
+    assert!(rt; open.unwrap_func().params().is_empty());
+    let closed: SubType = read(rt.alloc(), &[0x4f, 0x01, 0x07, 0x5f, 0x00])?;
+    assert!(rt; closed.is_final);
+    assert!(rt; closed.supertype_idx == PackedIndex::from_module_index(7));
+    assert!(rt; closed.unwrap_struct().fields.as_slice().is_empty());
+    let written: SubType = read(rt.alloc(), &[0x4f, 0x00, 0x60, 0x00, 0x00])?;
+    assert!(rt; written == bare);
+    let array: SubType = read(rt.alloc(), &[0x5e, 0x64, 0x05, 0x01])?;
+    let element = array.unwrap_array().0;
+    let Some(index) = PackedIndex::from_module_index(5) else {
+        return Ok(());
+    };
+    let expected = StorageType::Val(ValType::Ref(RefType::concrete(false, index)));
+    assert!(rt; element.element_type == expected);
+    Ok(())
+}
+
+#[test]
+fn groups(rt: HostRuntime) -> std::result::Result<(), Fail> {
+    let single: RecGroup = read(rt.alloc(), &[0x60, 0x00, 0x00])?;
+    assert!(rt; !single.is_explicit_rec_group());
+    assert!(rt; single.types().len() == 1);
+    let alone: RecGroup = read(rt.alloc(), &[0x4e, 0x01, 0x60, 0x00, 0x00])?;
+    assert!(rt; alone.is_explicit_rec_group());
+    assert!(rt; alone == single);
+    let empty: RecGroup = read(rt.alloc(), &[0x4e, 0x00])?;
+    assert!(rt; empty.is_explicit_rec_group());
+    assert!(rt; empty.types().next().is_none());
+    assert!(rt; empty < single);
+    Ok(())
+}
+
+#[test]
+fn places_of_a_groups_types(rt: HostRuntime) -> std::result::Result<(), Fail> {
+    let bytes = [0x4e, 0x02, 0x60, 0x00, 0x00, 0x50, 0x00, 0x5f, 0x00];
+    let group: RecGroup = read(rt.alloc(), &bytes)?;
+    let copy = group.clone()?;
+    let mut types = copy.into_types_and_offsets();
+    assert!(rt; types.len() == 2);
+    if let Some((offset, ty)) = types.next() {
+        assert!(rt; offset == 13);
+        assert!(rt; ty.is_final);
+    }
+    if let Some((offset, ty)) = types.next() {
+        assert!(rt; offset == 16);
+        assert!(rt; !ty.is_final);
+    }
+    assert!(rt; types.next().is_none());
+    let mut types = group.into_types();
+    assert!(rt; types.len() == 2);
+    assert!(rt; types.next().is_some());
+    assert!(rt; types.next().is_some());
+    assert!(rt; types.next().is_none());
+    Ok(())
+}
