@@ -1,11 +1,9 @@
 -- Records that tests make.
-use Rattle.std.specs.Prelude.{ℕ, true, false}
-use Rattle.walrus_forms.specs.declared.record.FieldRecord.{FieldRecord}
-use Rattle.walrus_forms.specs.declared.record.RefRecord.{RefRecord}
-use Rattle.walrus_forms.specs.declared.record.StorageRecord.TheVariants.{Val}
-use Rattle.walrus_forms.specs.declared.record.ValRecord.TheVariants.{Ref}
-use Rattle.walrus_forms.specs.declared.record.HeapRecord.TheVariants.{Concrete}
+use Rattle.std.specs.Prelude.{◌≡◌, ◌≤◌, ℕ, All, length}
+use Rattle.walrus_forms.specs.declared.record.GroupRecord.{GroupRecord}
+use Rattle.walrus_forms.specs.Records.{type_group}
+use Rattle.walrus_forms.specs.Renaming.{KindBelow}
 
--- an immutable field that refers to the type of this index
-abbrev pub link_to : ℕ → FieldRecord
-link_to index = record { element_type = Val (Ref (record { nullable = true; heap_type = Concrete index })); mutable = false }
+-- a group of one type, whose names are below n
+abbrev pub NamesBelow : ℕ → GroupRecord → Type 0
+NamesBelow n group = (length (type_group group).kinds ≡ 1) × ((m : ℕ) → n ≤ m → All (KindBelow m) (type_group group).kinds)

@@ -1,9 +1,9 @@
 // Parsing the records of a type section.
-ghost use Rattle.std.specs.Prelude.{◌≡◌, [], ◌∷◌, ◌++◌, true, false, None, IfOk, map};
-ghost use Rattle.walrus_forms.specs.Forms.{FunctionForm, StructForm};
+ghost use Rattle.std.specs.Prelude.{◌≡◌, ◌+◌, [], ◌∷◌, true, None, IfOk, length};
 ghost use Rattle.walrus_forms.specs.Kinds.{declared_kind};
-ghost use Rattle.walrus_forms.specs.Records.{field_of, record_form, type_group, value_of};
-ghost use Rattle.walrus_types_tests.specs.Records.{link_to};
+ghost use Rattle.walrus_forms.specs.Records.{record_form, type_group, value_of};
+ghost use Rattle.walrus_forms.specs.Renaming.{ValueBelow};
+ghost use Rattle.walrus_types_tests.specs.Records.{NamesBelow};
 
 use std::alloc::{AllocError, Global};
 use std::test::Fail;
@@ -12,25 +12,6 @@ use walrus_types::{
     CompositeRecord, FieldRecord, GroupRecord, HeapRecord, ModuleTypes, RefRecord, StorageRecord,
     TypeRecord, ValRecord,
 };
-
-// A function type of these parameters, without results.
-fn function(alloc: Global, params: &[ValRecord]) -> Result<CompositeRecord, AllocError>
-    ensures { IfOk result (λ kind. record_form kind ≡ FunctionForm (map value_of params.now) []) }
-{
-    Ok(CompositeRecord::Function {
-        params: Vec::from_slice(alloc, params)?,
-        results: Vec::new(alloc),
-    })
-}
-
-// A structure type of these fields.
-fn structure(alloc: Global, fields: &[FieldRecord]) -> Result<CompositeRecord, AllocError>
-    ensures { IfOk result (λ kind. record_form kind ≡ StructForm (map field_of fields.now)) }
-{
-    Ok(CompositeRecord::Struct {
-        fields: Vec::from_slice(alloc, fields)?,
-    })
-}
 
 // A group of one final type of this form, without supertype.
 fn group(alloc: Global, marked: bool, kind: CompositeRecord) -> Result<GroupRecord, AllocError>
@@ -45,16 +26,47 @@ fn group(alloc: Global, marked: bool, kind: CompositeRecord) -> Result<GroupReco
     Ok(GroupRecord { marked, types })
 }
 
-// An immutable field that refers to the type of this index.
-fn link(index: u32) -> FieldRecord
-    ensures { result ≡ link_to index }
+// A group of a function type of this parameter, without results. Asks that it names no type.
+fn function(alloc: Global, marked: bool, param: ValRecord) -> Result<GroupRecord, AllocError>
+    requires { ValueBelow 0 (value_of param) }
+    ensures { IfOk result (NamesBelow 0) }
 {
-    FieldRecord {
+    let mut params = Vec::new(alloc);
+    params.extend_from_slice(&[param])?;
+    let results = Vec::new(alloc);
+    group(alloc, marked, CompositeRecord::Function { params, results })
+}
+
+// A group of a structure type without fields.
+fn structure(alloc: Global) -> Result<GroupRecord, AllocError>
+    ensures { IfOk result (NamesBelow 0) }
+{
+    let fields = Vec::new(alloc);
+    group(alloc, false, CompositeRecord::Struct { fields })
+}
+
+// A group of a structure type of one immutable field, which refers to the type of this index.
+fn holder(alloc: Global, index: u32) -> Result<GroupRecord, AllocError>
+    ensures { IfOk result (NamesBelow (index + 1)) }
+{
+    let mut fields = Vec::new(alloc);
+    fields.push(FieldRecord {
         element_type: StorageRecord::Val(ValRecord::Ref(RefRecord {
             nullable: true,
             heap_type: HeapRecord::Concrete(index),
         })),
         mutable: false,
+    })?;
+    group(alloc, false, CompositeRecord::Struct { fields })
+}
+
+// A marked group of no types.
+fn no_types(alloc: Global) -> GroupRecord
+    ensures { length (type_group result).kinds ≡ 0 }
+{
+    GroupRecord {
+        marked: true,
+        types: Vec::new(alloc),
     }
 }
 
@@ -68,10 +80,10 @@ fn id(index: usize) -> TypeId
 fn singles(rt: HostRuntime) -> Result<(), Fail> {
     let alloc = rt.alloc();
     let mut types = ModuleTypes::new(alloc);
-    let long = group(alloc, false, function(alloc, &[ValRecord::I64])?)?;
-    let empty = group(alloc, false, structure(alloc, &[])?)?;
-    let short = group(alloc, false, function(alloc, &[ValRecord::I32])?)?;
-    let again = group(alloc, false, function(alloc, &[ValRecord::I64])?)?;
+    let long = function(alloc, false, ValRecord::I64)?;
+    let empty = structure(alloc)?;
+    let short = function(alloc, false, ValRecord::I32)?;
+    let again = function(alloc, false, ValRecord::I64)?;
     let ids = types.parse_types(&[long, empty, short, again])?;
     assert!(rt; ids.as_slice() == [id(0), id(1), id(2), id(0)].as_slice());
     Ok(())
@@ -81,15 +93,15 @@ fn singles(rt: HostRuntime) -> Result<(), Fail> {
 fn a_type_that_names_another(rt: HostRuntime) -> Result<(), Fail> {
     let alloc = rt.alloc();
     let mut types = ModuleTypes::new(alloc);
-    let long = group(alloc, false, function(alloc, &[ValRecord::I64])?)?;
-    let holder = group(alloc, false, structure(alloc, &[link(0)])?)?;
-    let short = group(alloc, false, function(alloc, &[ValRecord::I32])?)?;
-    let ids = types.parse_types(&[long, holder, short])?;
+    let long = function(alloc, false, ValRecord::I64)?;
+    let second = holder(alloc, 0)?;
+    let short = function(alloc, false, ValRecord::I32)?;
+    let ids = types.parse_types(&[long, second, short])?;
     assert!(rt; ids.as_slice() == [id(0), id(1), id(2)].as_slice());
-    let second = id(1);
-    assert!(rt; types.contains(second));
+    let named = id(1);
+    assert!(rt; types.contains(named));
     let mut names = Vec::new(alloc);
-    types.get(second).referenced_types(&mut names)?;
+    types.get(named).referenced_types(&mut names)?;
     assert!(rt; names.as_slice() == [id(0)].as_slice());
     Ok(())
 }
@@ -98,13 +110,10 @@ fn a_type_that_names_another(rt: HostRuntime) -> Result<(), Fail> {
 fn the_latest_equal_type(rt: HostRuntime) -> Result<(), Fail> {
     let alloc = rt.alloc();
     let mut types = ModuleTypes::new(alloc);
-    let first = group(alloc, false, function(alloc, &[ValRecord::I64])?)?;
-    let member = group(alloc, true, function(alloc, &[ValRecord::I64])?)?;
-    let nothing = GroupRecord {
-        marked: true,
-        types: Vec::new(alloc),
-    };
-    let again = group(alloc, false, function(alloc, &[ValRecord::I64])?)?;
+    let first = function(alloc, false, ValRecord::I64)?;
+    let member = function(alloc, true, ValRecord::I64)?;
+    let nothing = no_types(alloc);
+    let again = function(alloc, false, ValRecord::I64)?;
     let ids = types.parse_types(&[first, member, nothing, again])?;
     assert!(rt; ids.as_slice() == [id(0), id(1), id(1)].as_slice());
     let mut marks = 0;
@@ -119,11 +128,11 @@ fn the_latest_equal_type(rt: HostRuntime) -> Result<(), Fail> {
 fn a_type_that_names_itself(rt: HostRuntime) -> Result<(), Fail> {
     let alloc = rt.alloc();
     let mut types = ModuleTypes::new(alloc);
-    let first = group(alloc, false, structure(alloc, &[link(0)])?)?;
-    let second = group(alloc, false, structure(alloc, &[link(1)])?)?;
-    let holder = group(alloc, false, structure(alloc, &[link(1)])?)?;
-    let again = group(alloc, false, structure(alloc, &[link(1)])?)?;
-    let ids = types.parse_types(&[first, second, holder, again])?;
+    let first = holder(alloc, 0)?;
+    let second = holder(alloc, 1)?;
+    let third = holder(alloc, 1)?;
+    let again = holder(alloc, 1)?;
+    let ids = types.parse_types(&[first, second, third, again])?;
     assert!(rt; ids.as_slice() == [id(0), id(1), id(2), id(2)].as_slice());
     Ok(())
 }
