@@ -1,10 +1,11 @@
 -- The same bytes at another offset give the same answer, moved.
-use Rattle.std.proofs.Common.{◌≡◌, ◌+◌, ◌-◌, ℕ, List, length, drop, Result, Ok, Err, sym, ap, ◌∙◌, arith}
+use Rattle.std.proofs.Common.{◌≡◌, ◌+◌, ◌-◌, ℕ, Bool, true, false, inl, inr, List, length, drop, Result, Ok, Err, sym, ap, ◌∙◌, arith}
 use Rattle.std.proofs.lemmas.List.{length-drop}
 use Rattle.wasm_reader.specs.declared.error.Error.{Error}
 use Rattle.wasm_reader.specs.Cursor.{Window, Cursor, rest, end_of, IsWithin}
 use Rattle.wasm_reader.specs.Reading.{Reading, Reads, Fault, fault, answer}
-use Rattle.wasm_reader.specs.Laws.{IsMoved, MovedAnswer, OffsetsMove}
+use Rattle.wasm_reader.specs.Laws.{IsMoved, MovedAnswer, OffsetsMove, SparesMemory, OffsetsMoveBy}
+use Rattle.wasm_reader.specs.Items.{ReadsBy}
 
 ok_is : {A : Type 0} (x y : A × List ℕ) → (let done : A × List ℕ → Reading A = λ v. Ok v in done x ≡ done y) → x ≡ y
 ok_is x y e = cc
@@ -46,3 +47,13 @@ pub offsets_move_lem : {X Y : Type 0} (view : X → Y) → OffsetsMove view
 offsets_move_lem view reading k old new old' new' result result' moved within p q =
     answers view reading k old new old' new' moved within result result' p q
     (sym p.value ∙ sym (ap reading (same_rest view reading k old new old' new' moved within)) ∙ q.value)
+
+-- want of memory aside, a call reads as one that takes none
+spared : {X Y : Type 0} (takes : Bool) (reading : List ℕ → Reading Y) (view : X → Y) (old new : Cursor) (result : Result X Error) → SparesMemory new result → ReadsBy takes reading view old new result → Reads reading view old new result
+spared false reading view old new result spares h = h
+spared true reading view old new (Ok x) spares h = record { value = h.value; place = h.place; moves = h.moves }
+spared true reading view old new (Err e) spares h = record { value = elim h.value [ inl fails ↦ fails | inr wants ↦ absurd (spares wants) ]; place = h.place; moves = h.moves }
+
+pub offsets_move_by : {X Y : Type 0} (takes : Bool) (view : X → Y) → OffsetsMoveBy takes view
+offsets_move_by takes view reading k old new old' new' result result' moved within spares spares' p q =
+    offsets_move_lem view reading k old new old' new' result result' moved within (spared takes reading view old new result spares p) (spared takes reading view old' new' result' spares' q)

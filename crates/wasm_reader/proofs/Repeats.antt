@@ -1,10 +1,10 @@
 -- The loop over a vec's items.
-use Rattle.std.proofs.Common.{ℕ, ◌≡◌, ◌+◌, ◌-◌, ◌<◌, ◌≤◌, List, [], ◌∷◌, ◌++◌, map, Ok, Err, refl, sym, ◌∙◌, ap, arith, suc, inr}
+use Rattle.std.proofs.Common.{ℕ, ◌≡◌, ◌+◌, ◌-◌, ◌<◌, ◌≤◌, Bool, true, false, List, [], ◌∷◌, ◌++◌, map, Ok, Err, refl, sym, ◌∙◌, ap, arith, suc, inr}
 use Rattle.std.proofs.lemmas.List.{map_push, append-nil, append_assoc}
 use Rattle.wasm_reader.specs.declared.error.Error.{Error}
 use Rattle.wasm_reader.specs.Cursor.{Cursor, rest, end_of, Forward}
-use Rattle.wasm_reader.specs.Reading.{Reading, ◌>>=◌}
-use Rattle.wasm_reader.specs.Items.{FailsAs, WantsMemory, ReadsUnlessMemory, items_at}
+use Rattle.wasm_reader.specs.Reading.{Reading, ◌>>=◌, plain}
+use Rattle.wasm_reader.specs.Items.{FailsAs, WantsMemory, ReadsUnlessMemory, ReadsBy, items_at, passed_at}
 use Rattle.wasm_reader.specs.Unless.{fails_then, fails_as}
 
 -- these items before those that are read
@@ -76,3 +76,52 @@ ends item seen view start now count i items v so above same = record {
   place = tt;
   moves = so.moves;
 }
+
+-- ---- items that are let go
+
+-- after `i` of `count` items
+pub record Passes {A : Type 0} (item : List ℕ → Reading A) (start now : Cursor) (count i : ℕ) : Type 0 where
+  pub so_far : passed_at item (count - i) (rest now) ≡ passed_at item count (rest start)
+  pub moves : Forward start now
+
+pub passes_none : {A : Type 0} (item : List ℕ → Reading A) (start : Cursor) (count : ℕ) → Passes item start start count 0
+passes_none item start count = record {
+  so_far = let whole : count - 0 ≡ count = omega arith in rw whole refl;
+  moves = record { window = refl; forward = omega arith; within = λ w. w };
+}
+
+passes_next : {A : Type 0} (item : List ℕ → Reading A) (count i : ℕ) (bytes : List ℕ) → i < count → passed_at item (count - i) bytes ≡ (item bytes >>= λ first. passed_at item (count - (i + 1)) first.1)
+unfolding passed_at
+passes_next item count i bytes below = let step : count - i ≡ suc (count - (i + 1)) = omega arith in rw step refl
+
+module _ {A X : Type 0} (item : List ℕ → Reading A) (seen : X → A) (start now new : Cursor) (count i : ℕ) (so : Passes item start now count i) (below : i < count) where
+  pass_step : (item (rest now) >>= λ first. passed_at item (count - (i + 1)) first.1) ≡ passed_at item count (rest start)
+  pass_step = sym (passes_next item count i (rest now) below) ∙ so.so_far
+
+  -- an item was read
+  pub passes_more : (takes : Bool) (x : X) → ReadsBy takes item seen now new (Ok x) → Passes item start new count (i + 1)
+  passes_more true x p = record { so_far = rw p.value at pass_step; moves = goes_on start now new so.moves p.moves }
+  passes_more false x p = record { so_far = rw p.value at pass_step; moves = goes_on start now new so.moves p.moves }
+
+  -- an item fails
+  pub passes_stops : (takes : Bool) (e : Error) → ReadsBy takes item seen now new (Err e) → ReadsBy takes (passed_at item count) (plain {X = Unit {0}}) start new (Err e)
+  passes_stops true e p = record {
+    value = fails_as new e _ _ pass_step (fails_then new e (item (rest now)) _ p.value);
+    place = p.place;
+    moves = goes_on start now new so.moves p.moves;
+  }
+  passes_stops false e p = record {
+    value = sym pass_step ∙ rw p.value refl;
+    place = p.place;
+    moves = goes_on start now new so.moves p.moves;
+  }
+
+module _ {A : Type 0} (item : List ℕ → Reading A) (start now : Cursor) (count i : ℕ) (so : Passes item start now count i) (above : count ≤ i) where
+  passed_all : passed_at item count (rest start) ≡ Ok (tt, rest now)
+  unfolding passed_at
+  passed_all = let none : count - i ≡ 0 = omega arith in sym (rw none at so.so_far)
+
+  -- all were read
+  pub passes_ends : (takes : Bool) → ReadsBy takes (passed_at item count) (plain {X = Unit {0}}) start now (Ok tt)
+  passes_ends true = record { value = passed_all; place = tt; moves = so.moves }
+  passes_ends false = record { value = passed_all; place = tt; moves = so.moves }

@@ -1,10 +1,11 @@
 -- Readings by calls that take memory, and readings of many items (Core Specification, binary format, conventions: vectors).
-use Rattle.std.specs.Prelude.{ℕ, zero, suc, ◌+◌, ◌-◌, ◌≤◌, ◌≡◌, ◌⊎◌, Bool, true, false, List, [], ◌∷◌, map, Result, Ok, Err, IfErr}
+use Rattle.std.specs.Prelude.{ℕ, zero, suc, ◌+◌, ◌-◌, ◌≤◌, ◌≡◌, ◌⊎◌, Bool, true, false, List, [], ◌∷◌, ◌++◌, length, map, Result, Ok, Err, IfErr}
 use Rattle.std.specs.Global.{Vec}
 use Rattle.wasm_reader.specs.declared.error.Error.{Error}
 use Rattle.wasm_reader.specs.declared.error.ErrorKind.TheVariants as kinds
 use Rattle.wasm_reader.specs.Cursor.{Cursor, rest, end_of, Forward}
 use Rattle.wasm_reader.specs.Reading.{Reading, fault, ◌>>=◌, Reads}
+use Rattle.wasm_reader.specs.Numbers.{unsigned, Spells}
 use Rattle.wasm_reader.specs.Text.{size_at}
 
 -- memory was refused, where the reader stands
@@ -49,3 +50,24 @@ vec_at limit item bytes = do
 -- the items of a vec
 abbrev pub seen_items : {X Y : Type 0} → (X → Y) → Vec X → List Y
 seen_items seen items = map seen items.items
+
+-- so many items, of which nothing is answered
+unfoldable pub passed_at : {A : Type 0} → (List ℕ → Reading A) → ℕ → List ℕ → Reading (Unit {0})
+passed_at item zero bytes = Ok (tt, bytes)
+passed_at item (suc count) bytes = do
+  first ← item bytes
+  passed_at item count first.1
+
+-- the bytes of these items, one after another, where `spells` says which bytes are an item's
+abbrev pub SpellsItems : {A : Type 0} → (List ℕ → A → Type 0) → List ℕ → List A → Type 0
+SpellsItems spells bytes [] = bytes ≡ []
+SpellsItems spells bytes (x ∷ items) = (front later : List ℕ) × (bytes ≡ front ++ later) × spells front x × SpellsItems spells later items
+
+-- the bytes of a vec of at most `limit` items: their number, and theirs
+pub record SpellsVec {A : Type 0} (limit : ℕ) (spells : List ℕ → A → Type 0) (bytes : List ℕ) (items : List A) : Type 0 where
+  pub count : List ℕ
+  pub listed : List ℕ
+  pub joined : bytes ≡ count ++ listed
+  pub counts : Spells unsigned 32 count (length items)
+  pub most : length items ≤ limit
+  pub lists : SpellsItems spells listed items

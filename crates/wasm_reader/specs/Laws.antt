@@ -1,10 +1,11 @@
 -- Laws of readings: what more bytes change, and what they leave.
-use Rattle.std.specs.Prelude.{ℕ, ◌+◌, ◌-◌, ◌<◌, ◌≤◌, ◌≡◌, ◌≢◌, List, ◌++◌, length, Result, Ok, Err, IsOk, All, []}
+use Rattle.std.specs.Prelude.{ℕ, ◌+◌, ◌-◌, ◌<◌, ◌≤◌, ◌≡◌, ◌≢◌, List, ◌++◌, length, Result, Ok, Err, IfErr, IsOk, All, [], Bool}
 use Rattle.wasm_reader.specs.declared.error.Error.{Error}
 use Rattle.wasm_reader.specs.declared.error.ErrorKind.{ErrorKind}
 use Rattle.wasm_reader.specs.declared.error.ErrorKind.TheVariants as kinds
 use Rattle.wasm_reader.specs.Cursor.{Cursor, IsWithin}
 use Rattle.wasm_reader.specs.Reading.{Reading, fault, Reads}
+use Rattle.wasm_reader.specs.Items.{WantsMemory, ReadsBy}
 
 -- the reading gets past the place, or fails there for another reason than the end
 abbrev pub Passes : {A : Type 0} → ℕ → Reading A → Type 0
@@ -74,3 +75,13 @@ MovedAnswer view k here there (Err e) (Ok y) = ⊥
 abbrev pub OffsetsMove : {X Y : Type 0} → (X → Y) → Type 0
 OffsetsMove {X} {Y} view = (reading : List ℕ → Reading Y) (k : ℕ) (old new old' new' : Cursor) (result result' : Result X Error)
     → IsMoved k old old' → IsWithin old → Reads reading view old new result → Reads reading view old' new' result' → MovedAnswer view k new new' result result'
+
+-- the call was not refused memory
+abbrev pub SparesMemory : {X : Type 0} → Cursor → Result X Error → Type 0
+SparesMemory new result = IfErr result (λ e. WantsMemory new e → ⊥)
+
+-- the same of a call that may take memory, where memory is there
+abbrev pub OffsetsMoveBy : Bool → {X Y : Type 0} → (X → Y) → Type 0
+OffsetsMoveBy takes {X} {Y} view = (reading : List ℕ → Reading Y) (k : ℕ) (old new old' new' : Cursor) (result result' : Result X Error)
+    → IsMoved k old old' → IsWithin old → SparesMemory new result → SparesMemory new' result' → ReadsBy takes reading view old new result → ReadsBy takes reading view old' new' result'
+    → MovedAnswer view k new new' result result'

@@ -4,6 +4,7 @@ pub mod Numbers
 pub mod Text
 pub mod Items
 pub mod Unless
+pub mod Iter
 pub mod Messages
 pub mod Floats
 pub mod Shortest
@@ -12,6 +13,7 @@ pub mod Laws
 pub mod Final
 pub mod Finals
 pub mod Spellings
+pub mod Vecs
 pub mod Faults
 pub use Rattle.wasm_features.specs.Features
 pub use Rattle.wasm_features.specs.Inflated

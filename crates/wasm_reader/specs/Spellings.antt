@@ -24,7 +24,7 @@ number_taken s wrong width = record {
   found = λ bytes later n small e. number_at-found s wrong width bytes later n small e;
 }
 
-ok_is : {A : Type 0} (x y : A × List ℕ) → (let done : A × List ℕ → Reading A = λ v. Ok v in done x ≡ done y) → x ≡ y
+pub ok_is : {A : Type 0} (x y : A × List ℕ) → (let done : A × List ℕ → Reading A = λ v. Ok v in done x ≡ done y) → x ≡ y
 ok_is x y e = cc
 
 -- spellings that a reading takes whatever follows are prefix-free
@@ -59,12 +59,12 @@ ends_early {A} reading front more value (Err f) e some grows = at f.kind f.left 
 -- ---- names
 
 -- a reading on which another follows succeeded
-then_was : {A B : Type 0} (r : Reading A) (f : A × List ℕ → Reading B) (y : B × List ℕ) → (r >>= f) ≡ Ok y → (x : A × List ℕ) × (r ≡ Ok x) × (f x ≡ Ok y)
+pub then_was : {A B : Type 0} (r : Reading A) (f : A × List ℕ → Reading B) (y : B × List ℕ) → (r >>= f) ≡ Ok y → (x : A × List ℕ) × (r ≡ Ok x) × (f x ≡ Ok y)
 then_was (Ok x) f y e = (x, refl, e)
 then_was (Err g) f y e = cc
 
 -- a test passed
-if_was : {A : Type 0} (b : Bool) (x y : A × List ℕ) (f : Fault) → (let none : Reading A = Err f in let done : Reading A = Ok x in (if b then done else none) ≡ Ok y) → (b ≡ true) × (x ≡ y)
+pub if_was : {A : Type 0} (b : Bool) (x y : A × List ℕ) (f : Fault) → (let none : Reading A = Err f in let done : Reading A = Ok x in (if b then done else none) ≡ Ok y) → (b ≡ true) × (x ≡ y)
 if_was true x y f e = (refl, ok_is x y e)
 if_was false x y f e = cc
 
@@ -131,11 +131,11 @@ text_was size bytes text later e =
     let same : was.0.0 ≡ text = ap (λ p. p.0) tested.1 in
     (run.0, ap is_utf8 (sym same) ∙ tested.0, run.1)
 
-size_again : (limit : ℕ) (front more : List ℕ) (n : ℕ) → Spells unsigned 32 front n → n ≤ limit → size_at limit (front ++ more) ≡ Ok (n, more)
+pub size_again : (limit : ℕ) (front more : List ℕ) (n : ℕ) → Spells unsigned 32 front n → n ≤ limit → size_at limit (front ++ more) ≡ Ok (n, more)
 unfolding size_at
 size_again limit front more n h below = rw (number_at-spelled unsigned kinds.TooLarge 32 front more n h, le-leb n limit below) refl
 
-size_was : (limit : ℕ) (bytes later : List ℕ) (n : ℕ) → All (λ b. b < 256) bytes → size_at limit bytes ≡ Ok (n, later) → (front : List ℕ) × Spells unsigned 32 front n × (bytes ≡ front ++ later) × (n ≤ limit)
+pub size_was : (limit : ℕ) (bytes later : List ℕ) (n : ℕ) → All (λ b. b < 256) bytes → size_at limit bytes ≡ Ok (n, later) → (front : List ℕ) × Spells unsigned 32 front n × (bytes ≡ front ++ later) × (n ≤ limit)
 unfolding size_at
 size_was limit bytes later n small e =
     let was = then_was (unsigned_at 32 bytes) (λ x. if nat_le x.0 limit then Ok x else Err (fault kinds.Limit (length bytes))) (n, later) e in

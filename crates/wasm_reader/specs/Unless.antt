@@ -32,8 +32,9 @@ module _ {X Y : Type 0} (reading : List ℕ → Reading Y) (view : X → Y) (old
   by_either false result h = unless_memory result h
 
 -- the window stays
-pub in_window : {X Y : Type 0} (takes : Bool) (reading : WasmFeatures → List ℕ → Reading Y) (seen : X → Y) (start old new : Cursor) (result : Result X Error) → old.window ≡ start.window
-    → ReadsBy takes (reading old.window.features) seen old new result → ReadsUnlessMemory (reading start.window.features) seen old new result
-in_window takes reading seen start old new result same h =
-    by_either (reading start.window.features) seen old new takes result
-    (subst (λ (w : Window). ReadsBy takes (reading w.features) seen old new result) same h)
+module _ {X Y : Type 0} (takes : Bool) (reading : WasmFeatures → List ℕ → Reading Y) (seen : X → Y) (start old new : Cursor) (result : Result X Error) (same : old.window ≡ start.window) where
+  pub by_window : ReadsBy takes (reading old.window.features) seen old new result → ReadsBy takes (reading start.window.features) seen old new result
+  by_window h = subst (λ (w : Window). ReadsBy takes (reading w.features) seen old new result) same h
+
+  pub in_window : ReadsBy takes (reading old.window.features) seen old new result → ReadsUnlessMemory (reading start.window.features) seen old new result
+  in_window h = by_either (reading start.window.features) seen old new takes result (by_window h)

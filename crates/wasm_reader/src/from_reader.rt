@@ -32,6 +32,49 @@ pub trait FromReader<'a>: Sized + Drop {
     ghost is_final: { (features : WasmFeatures) → IsFinal (reading features) };
 }
 
+/// A u32, as [`BinaryReader::read_var_u32`] reads it.
+impl<'a> FromReader<'a> for u32 {
+    ghost use Rattle.std.specs.Prelude.{ℕ, false};
+    ghost use Rattle.wasm_reader.specs.Numbers.{unsigned_at};
+    ghost use Rattle.wasm_reader.specs.Finals.{unsigned_final};
+
+    ghost Seen = { ℕ };
+
+    ghost seen = { λ n. n };
+
+    ghost reading = { λ _. unsigned_at 32 };
+
+    ghost takes_memory = { false };
+
+    fn from_reader(_alloc: Global, reader: &mut BinaryReader<'a>) -> Result<Self> {
+        reader.read_var_u32()
+    }
+
+    ghost is_final = { λ _. unsigned_final 32 };
+}
+
+/// A name, as [`BinaryReader::read_string`] reads it.
+impl<'a> FromReader<'a> for &'a str {
+    ghost use Rattle.std.specs.Prelude.{ℕ, List, false};
+    ghost use Rattle.wasm_reader.specs.Reading.{seen_bytes};
+    ghost use Rattle.wasm_reader.specs.Text.{string_at};
+    ghost use Rattle.wasm_reader.specs.Finals.{string_final};
+
+    ghost Seen = { List ℕ };
+
+    ghost seen = { seen_bytes };
+
+    ghost reading = { λ _. string_at };
+
+    ghost takes_memory = { false };
+
+    fn from_reader(_alloc: Global, reader: &mut BinaryReader<'a>) -> Result<Self> {
+        reader.read_string()
+    }
+
+    ghost is_final = { λ _. string_final };
+}
+
 impl<'a> BinaryReader<'a> {
     /// A value, read by its type. Refused as [`FromReader::from_reader`] is.
     pub fn read<T: FromReader<'a>>(&mut self, alloc: Global) -> Result<T>

@@ -1,6 +1,6 @@
 //! Laws of the readings: functions with nothing to do, whose contracts hold of all bytes.
 
-ghost use Rattle.std.specs.Prelude.{ℕ, ℤ, ◌+◌, length, ◌<◌, ◌≤◌, ◌*◌, ◌-◌, ◌^◌, List, ◌++◌};
+ghost use Rattle.std.specs.Prelude.{ℕ, ℤ, true, ◌+◌, length, ◌<◌, ◌≤◌, ◌*◌, ◌-◌, ◌^◌, List, ◌++◌};
 ghost use Rattle.std.specs.Int.Signed.{mag};
 ghost use Rattle.wasm_reader.specs.Cursor.{Cursor};
 ghost use Rattle.wasm_reader.specs.Reading.{byte_at, next_at, bytes_at, u7_at, little_at, SpellsRun, SpellsLittle, plain, seen_bytes, seen_window};
@@ -10,7 +10,11 @@ ghost use Rattle.wasm_reader.specs.Shortest.{IsShortest, shortest_unsigned, shor
 ghost use Rattle.wasm_reader.specs.Text.{SpellsSized, SpellsText, SpellsName, size_at, text_at, string_at, sized_bytes_at, unlimited_string_at, skipped_string_at};
 ghost use Rattle.wasm_reader.specs.Faults.{RefusesExactly};
 ghost use Rattle.wasm_reader.specs.declared.error.ErrorKind.TheVariants.{TooLarge, TooLong};
-ghost use Rattle.wasm_reader.specs.Laws.{IsFinal, GrowsNext, EndsEarly, TakesSpelled, IsPrefixFree, OffsetsMove};
+ghost use Rattle.wasm_reader.specs.Laws.{IsFinal, GrowsNext, EndsEarly, TakesSpelled, IsPrefixFree, OffsetsMove, OffsetsMoveBy};
+ghost use Rattle.wasm_reader.specs.Items.{items_at, vec_at, seen_items, SpellsVec};
+ghost use Rattle.wasm_features.specs.declared.WasmFeatures.{WasmFeatures};
+
+use crate::from_reader::FromReader;
 
 /// What is answered for bytes, the end of the input aside, is final whatever bytes follow; the hint is exact.
 pub fn bytes_are_final()
@@ -48,7 +52,7 @@ pub fn fronts_end_early()
     ensures sized { EndsEarly sized_bytes_at }
 {}
 
-/// Bytes are read as a run of bytes, a number or a name exactly if they spell it.
+/// Bytes are read as a run of bytes, a number, a name or a vec of numbers or names exactly if they spell it.
 pub fn spellings_are_read()
     ensures unsigned { (width : ℕ) → TakesSpelled (unsigned_at width) (Spells unsigned width) }
     ensures signed { (width : ℕ) → TakesSpelled (signed_at width) (Spells signed width) }
@@ -58,6 +62,8 @@ pub fn spellings_are_read()
     ensures sized { TakesSpelled sized_bytes_at SpellsSized }
     ensures string { TakesSpelled string_at SpellsName }
     ensures unlimited { TakesSpelled unlimited_string_at SpellsText }
+    ensures numbers { (limit : ℕ) → TakesSpelled (vec_at limit (unsigned_at 32)) (SpellsVec limit (Spells unsigned 32)) }
+    ensures names { (limit : ℕ) → TakesSpelled (vec_at limit string_at) (SpellsVec limit SpellsName) }
 {}
 
 /// No spelling is a proper front of another of its kind, and none has two values.
@@ -69,6 +75,8 @@ pub fn spellings_are_prefix_free()
     ensures sized { IsPrefixFree SpellsSized }
     ensures name { IsPrefixFree SpellsName }
     ensures text { IsPrefixFree SpellsText }
+    ensures numbers { (limit : ℕ) → IsPrefixFree (SpellsVec limit (Spells unsigned 32)) }
+    ensures names { (limit : ℕ) → IsPrefixFree (SpellsVec limit SpellsName) }
 {}
 
 /// The shortest spelling of a number, in `count` bytes at most, spells it, and no spelling is shorter.
@@ -102,4 +110,25 @@ pub fn offsets_move()
     ensures f64 { OffsetsMove seen_bits64 }
     ensures bytes { OffsetsMove seen_bytes }
     ensures inner { OffsetsMove seen_window }
+{}
+
+/// A value that is read by its type, the end of the input aside, is final whatever bytes follow, and so are vecs of such values;
+/// the hint is exact.
+pub fn values_are_final<'a, T: FromReader<'a>>()
+    ensures value { (features : WasmFeatures) → IsFinal (T.reading features) }
+    ensures items { (features : WasmFeatures) (count : ℕ) → IsFinal (items_at (T.reading features) count) }
+    ensures vec { (features : WasmFeatures) (limit : ℕ) → IsFinal (vec_at limit (T.reading features)) }
+{}
+
+/// A proper front of the bytes of such a value, or of such a vec, is answered with the end of the input.
+pub fn fronts_of_values_end_early<'a, T: FromReader<'a>>()
+    ensures value { (features : WasmFeatures) → EndsEarly (T.reading features) }
+    ensures vec { (features : WasmFeatures) (limit : ℕ) → EndsEarly (vec_at limit (T.reading features)) }
+{}
+
+/// Such a value, or such a vec, that is read at offset k is the one that is read at offset 0, and a fault moves by k, where both windows
+/// fit and memory is there.
+pub fn offsets_of_values_move<'a, T: FromReader<'a>>()
+    ensures value { OffsetsMoveBy T.takes_memory T.seen }
+    ensures vec { OffsetsMoveBy true (seen_items T.seen) }
 {}

@@ -4,6 +4,7 @@
 mod error;
 mod floats;
 mod from_reader;
+mod items;
 pub mod laws;
 pub mod limits;
 mod number;
@@ -13,8 +14,13 @@ mod text;
 pub use error::{Error, ErrorKind, Result};
 pub use floats::{Ieee32, Ieee64};
 pub use from_reader::FromReader;
+pub use items::BinaryReaderIter;
 pub use reader::BinaryReader;
 pub use wasm_features::{WasmFeatures, WasmFeaturesInflated};
 
+#[cfg(test)]
+mod item_tests;
+#[cfg(test)]
+mod number_tests;
 #[cfg(test)]
 mod tests;

@@ -4,7 +4,7 @@ use super::*;
 use crate::limits::MAX_WASM_STRING_SIZE;
 use std::test::Fail;
 
-fn refused<T>(outcome: Result<T>) -> Option<(ErrorKind, u64)>
+pub(crate) fn refused<T>(outcome: Result<T>) -> Option<(ErrorKind, u64)>
 where
     T: Drop,
 {
@@ -12,86 +12,6 @@ where
         Ok(_) => None,
         Err(e) => Some((e.kind(), e.offset())),
     }
-}
-
-fn unsigned(bytes: &[u8]) -> Result<u32> {
-    read_at_nine(bytes).read_var_u32()
-}
-
-// As the size of a module's first section.
-fn read_at_nine(bytes: &[u8]) -> BinaryReader<'_> {
-    BinaryReader::new(bytes, 9)
-}
-
-#[test]
-fn unsigned_numbers(rt: HostRuntime) -> std::result::Result<(), Fail> {
-    assert_eq!(rt; unsigned(&[0x00])?, 0);
-    assert_eq!(rt; unsigned(&[0x80, 0x00])?, 0);
-    assert_eq!(rt; unsigned(&[0x7f])?, 127);
-    assert_eq!(rt; unsigned(&[0xe5, 0x8e, 0x26])?, 624_485);
-    assert_eq!(rt; unsigned(&[0xff, 0xff, 0xff, 0xff, 0x0f])?, 4_294_967_295);
-    assert_eq!(rt;
-        refused(unsigned(&[0x80, 0x80, 0x80, 0x80, 0x10])),
-        Some((ErrorKind::TooLarge, 13))
-    );
-    assert_eq!(rt;
-        refused(unsigned(&[0x80, 0x80, 0x80, 0x80, 0x80, 0x00])),
-        Some((ErrorKind::TooLong, 13))
-    );
-    assert_eq!(rt; refused(unsigned(&[])), Some((ErrorKind::EndOfFile(1), 9)));
-    assert_eq!(rt;
-        refused(unsigned(&[0x80])),
-        Some((ErrorKind::EndOfFile(1), 10))
-    );
-    let mut wide = BinaryReader::new(
-        &[0xff, 0xff, 0xff, 0xff, 0xff, 0xff, 0xff, 0xff, 0xff, 0x01],
-        0,
-    );
-    assert_eq!(rt; wide.read_var_u64()?, u64::MAX);
-    let mut past = BinaryReader::new(
-        &[0xff, 0xff, 0xff, 0xff, 0xff, 0xff, 0xff, 0xff, 0xff, 0x02],
-        0,
-    );
-    assert_eq!(rt;
-        refused(past.read_var_u64()),
-        Some((ErrorKind::TooLarge, 9))
-    );
-    Ok(())
-}
-
-#[test]
-fn signed_numbers(rt: HostRuntime) -> std::result::Result<(), Fail> {
-    assert_eq!(rt; BinaryReader::new(&[0x7f], 0).read_var_i32()?, -1);
-    assert_eq!(rt; BinaryReader::new(&[0x3f], 0).read_var_i32()?, 63);
-    assert_eq!(rt; BinaryReader::new(&[0x40], 0).read_var_i32()?, -64);
-    assert_eq!(rt;
-        BinaryReader::new(&[0xc0, 0xbb, 0x78], 0).read_var_i32()?,
-        -123_456
-    );
-    assert_eq!(rt;
-        BinaryReader::new(&[0x80, 0x80, 0x80, 0x80, 0x78], 0).read_var_i32()?,
-        i32::MIN
-    );
-    assert_eq!(rt;
-        BinaryReader::new(&[0xff, 0xff, 0xff, 0xff, 0x07], 0).read_var_i32()?,
-        i32::MAX
-    );
-    let mut least = BinaryReader::new(&[0x80, 0x80, 0x80, 0x80, 0x70], 0);
-    assert_eq!(rt; least.read_var_s33()?, -4_294_967_296);
-    assert!(rt; least.eof());
-    let mut wide = BinaryReader::new(
-        &[0x80, 0x80, 0x80, 0x80, 0x80, 0x80, 0x80, 0x80, 0x80, 0x7f],
-        0,
-    );
-    assert_eq!(rt; wide.read_var_i64()?, i64::MIN);
-    let mut narrow = BinaryReader::new(&[0xff, 0xff, 0xff, 0xff, 0x4f], 0);
-    assert_eq!(rt;
-        refused(narrow.read_var_i32()),
-        Some((ErrorKind::TooLarge, 4))
-    );
-    let mut heap = BinaryReader::new(&[0x80, 0x80, 0x80, 0x80, 0x10], 0);
-    assert_eq!(rt; refused(heap.read_var_s33()), Some((ErrorKind::TooLong, 4)));
-    Ok(())
 }
 
 #[test]
