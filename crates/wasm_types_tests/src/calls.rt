@@ -136,4 +136,5 @@ fn laws_can_be_cited() {
     laws::spelled_types_are_read();
     laws::type_spellings_are_prefix_free();
     laws::written_types_are_read();
+    laws::groups_are_equal_as_lists();
 }
