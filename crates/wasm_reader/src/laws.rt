@@ -11,7 +11,7 @@ ghost use Rattle.wasm_reader.specs.Text.{SpellsSized, SpellsText, SpellsName, si
 ghost use Rattle.wasm_reader.specs.Faults.{RefusesExactly};
 ghost use Rattle.wasm_reader.specs.declared.error.ErrorKind.TheVariants.{TooLarge, TooLong};
 ghost use Rattle.wasm_reader.specs.Laws.{IsFinal, GrowsNext, EndsEarly, TakesSpelled, IsPrefixFree, OffsetsMove, OffsetsMoveBy};
-ghost use Rattle.wasm_reader.specs.Items.{items_at, vec_at, seen_items};
+ghost use Rattle.wasm_reader.specs.Items.{items_at, vec_at, seen_items, SpellsVec};
 ghost use Rattle.wasm_features.specs.declared.WasmFeatures.{WasmFeatures};
 
 use crate::from_reader::FromReader;
@@ -52,7 +52,7 @@ pub fn fronts_end_early()
     ensures sized { EndsEarly sized_bytes_at }
 {}
 
-/// Bytes are read as a run of bytes, a number or a name exactly if they spell it.
+/// Bytes are read as a run of bytes, a number, a name or a vec of numbers or names exactly if they spell it.
 pub fn spellings_are_read()
     ensures unsigned { (width : ℕ) → TakesSpelled (unsigned_at width) (Spells unsigned width) }
     ensures signed { (width : ℕ) → TakesSpelled (signed_at width) (Spells signed width) }
@@ -62,6 +62,8 @@ pub fn spellings_are_read()
     ensures sized { TakesSpelled sized_bytes_at SpellsSized }
     ensures string { TakesSpelled string_at SpellsName }
     ensures unlimited { TakesSpelled unlimited_string_at SpellsText }
+    ensures numbers { (limit : ℕ) → TakesSpelled (vec_at limit (unsigned_at 32)) (SpellsVec limit (Spells unsigned 32)) }
+    ensures names { (limit : ℕ) → TakesSpelled (vec_at limit string_at) (SpellsVec limit SpellsName) }
 {}
 
 /// No spelling is a proper front of another of its kind, and none has two values.
@@ -73,6 +75,8 @@ pub fn spellings_are_prefix_free()
     ensures sized { IsPrefixFree SpellsSized }
     ensures name { IsPrefixFree SpellsName }
     ensures text { IsPrefixFree SpellsText }
+    ensures numbers { (limit : ℕ) → IsPrefixFree (SpellsVec limit (Spells unsigned 32)) }
+    ensures names { (limit : ℕ) → IsPrefixFree (SpellsVec limit SpellsName) }
 {}
 
 /// The shortest spelling of a number, in `count` bytes at most, spells it, and no spelling is shorter.

@@ -58,8 +58,10 @@ fn u32_bounds(rt: HostRuntime) -> std::result::Result<(), Fail> {
 
 #[test]
 fn u32_lengths(rt: HostRuntime) {
-    let long = u32_of(b"\xff\xff\xff\xff\x8f\x00");
+    let long = u32_of(b"\x80\x80\x80\x80\x80\x00");
     assert_eq!(rt; refused(long), Some((ErrorKind::TooLong, 13)));
+    let endless = u32_of(b"\x80\x80\x80\x80\x80");
+    assert_eq!(rt; refused(endless), Some((ErrorKind::TooLong, 13)));
     let cut = u32_of(b"\x80\x80\x80\x80");
     assert_eq!(rt; refused(cut), Some((ErrorKind::EndOfFile(1), 13)));
     assert_eq!(rt; refused(u32_of(b"")), Some((ErrorKind::EndOfFile(1), 9)));

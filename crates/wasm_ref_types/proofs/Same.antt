@@ -1,15 +1,10 @@
 -- Packed types are equal exactly where they are one.
-use Rattle.std.proofs.Common.{ℕ, ◌≡◌, ◌==◌, ◌&&◌, ◌↔◌, Bool, true, false, refl, ap, sym, ◌∙◌, subst, arith, rules}
+use Rattle.std.proofs.Common.{ℕ, ◌≡◌, ◌==◌, Bool, true, false, refl, ap, sym, ◌∙◌, arith}
 use Rattle.std.specs.Bool.{beq}
-use Rattle.std.specs.declared.cmp.Ordering.{Ordering}
-use Rattle.std.specs.declared.cmp.Ordering.TheVariants.{Less, Equal, Greater}
-use Rattle.std.specs.Ordering.{nat_cmp, ordering_then, is_eq}
 use Rattle.std.proofs.lemmas.Bool.{and_parts, eqb-true, eq-eqb}
 use Rattle.wasm_ref_types.specs.declared.index.UnpackedIndex.{UnpackedIndex}
 use Rattle.wasm_ref_types.specs.declared.index.UnpackedIndex.TheVariants.{Module, RecGroup, Id}
-use Rattle.wasm_ref_types.specs.declared.index.CoreTypeId.{CoreTypeId}
 use Rattle.wasm_ref_types.specs.declared.heap.AbstractHeapType.{AbstractHeapType}
-use Rattle.wasm_ref_types.specs.declared.heap.AbstractHeapType.TheVariants as kinds
 use Rattle.wasm_ref_types.specs.declared.heap.HeapType.{HeapType}
 use Rattle.wasm_ref_types.specs.declared.heap.HeapType.TheVariants.{Abstract, Concrete, Exact}
 use Rattle.wasm_ref_types.specs.contracts.index.UnpackedIndexOrd.TheImpl.{ghosts as unpacked_ord}
@@ -75,7 +70,7 @@ reference-same a b e =
     let third = and_parts _ _ second.1 in
     ap (λ (n : Bool). reference n a.heap_type) (bool_same a.nullable b.nullable first.0)
     ∙ ap (λ (h : HeapType). reference b.nullable h)
-      (heap_parts a.heap_type b.heap_type (eqb-true _ _ second.0) (eqb-true _ _ third.0) (eqb-true _ _ third.1))
+    (heap_parts a.heap_type b.heap_type (eqb-true _ _ second.0) (eqb-true _ _ third.0) (eqb-true _ _ third.1))
 
 pub reference-itself : (a b : Reference) → a ≡ b → reference_eq a b ≡ true
 reference-itself a b e =

@@ -1,6 +1,6 @@
 -- Lemmas: final readings that need a byte, and what a look at that byte chooses among them.
-use Rattle.std.specs.Prelude.{ℕ, ◌+◌, ◌<◌, ◌≤◌, ◌≡◌, Bool, true, false, List, [], ◌∷◌, ◌++◌, length, Ok, Err, if◌then◌else◌, refl}
-use Rattle.std.proofs.Common.{ap, subst, arith}
+use Rattle.std.specs.Prelude.{ℕ, ◌≡◌, Bool, true, false, List, [], ◌∷◌, ◌++◌, length, Ok, Err, if◌then◌else◌, refl}
+use Rattle.std.proofs.Common.{subst, arith}
 use Rattle.wasm_reader.specs.declared.error.ErrorKind.TheVariants as faults
 use Rattle.wasm_reader.specs.Reading.{Reading, fault, ◌>>=◌, next_at}
 use Rattle.wasm_reader.specs.Laws.{Grows, StaysWithin, IsFinal}

@@ -1,6 +1,7 @@
 -- Indices and reference types as numbers of 22 and 25 bits: the number of an index, or an abstract type's place in their
 -- order, in the lowest 20 bits; above it two bits of the kind of index, or of whether an abstract type is shared; above
 -- those two bits of form, and at the top whether the type is nullable. So the numbers have the order of what they stand for.
+-- 1048576 is 2^20, 4194304 is 2^22 and 16777216 is 2^24.
 use Rattle.std.specs.Prelude.{ℕ, ◌+◌, ◌*◌, ◌/◌, ◌%◌, ◌<◌, ◌≡◌, ◌==◌, nat_le, if◌then◌else◌, refl}
 use Rattle.std.proofs.Common.{arith, suc, zero, ap, sym, subst, inl, inr}
 use Rattle.std.proofs.lemmas.Bool.{cases_lt, lt-leb, le-leb}

@@ -64,7 +64,7 @@ unfoldable pub shared_at : WasmFeatures → List ℕ → Reading HeapType
 shared_at features bytes = do
   b ← byte_at bytes
   (if has features SharedEverythingThreads then (abstract_at features b.1 >>= λ ty. Ok (Abstract true ty.0, ty.1))
-    else Err (fault (faults.Feature shared_types) (length bytes)))
+      else Err (fault (faults.Feature shared_types) (length bytes)))
 
 -- what a number is taken for as an index
 abbrev pub index_as : ℤ → ℕ → List ℕ → Reading HeapType
@@ -82,23 +82,23 @@ unfoldable pub heap_at : WasmFeatures → List ℕ → Reading HeapType
 heap_at features bytes = do
   b ← next_at bytes
   (if is_some (abstract_byte b.0) then (abstract_at features b.1 >>= λ ty. Ok (Abstract false ty.0, ty.1))
-    else (if b.0 == 0x65 then shared_at features b.1 else index_at b.1))
+      else (if b.0 == 0x65 then shared_at features b.1 else index_at b.1))
 
 -- a reference type in its long form: one byte, and a heap type
 unfoldable pub long_at : WasmFeatures → Bool → List ℕ → Reading Reference
 long_at features nullable bytes = do
   b ← byte_at bytes
   (if has features GcTypes then (heap_at features b.1 >>= λ ty. Ok (reference nullable ty.0, ty.1))
-    else Err (fault (faults.Feature gc_types) (length bytes)))
+      else Err (fault (faults.Feature gc_types) (length bytes)))
 
 -- a reference type: in its long form, or a shared or abstract heap type for its nullable reference
 unfoldable pub reference_at : WasmFeatures → List ℕ → Reading Reference
 reference_at features bytes = do
   b ← next_at bytes
   (if b.0 == 0x63 then long_at features true b.1
-    else (if b.0 == 0x64 then long_at features false b.1
-    else (if b.0 == 0x65 then (shared_at features b.1 >>= λ ty. Ok (reference true ty.0, ty.1))
-    else (abstract_at features b.1 >>= λ ty. Ok (reference true (Abstract false ty.0), ty.1)))))
+      else (if b.0 == 0x64 then long_at features false b.1
+      else (if b.0 == 0x65 then (shared_at features b.1 >>= λ ty. Ok (reference true ty.0, ty.1))
+      else (abstract_at features b.1 >>= λ ty. Ok (reference true (Abstract false ty.0), ty.1)))))
 
 -- a number or vector type: one byte
 unfoldable pub plain_at : ValType → List ℕ → Reading ValType
@@ -111,8 +111,8 @@ unfoldable pub value_at : WasmFeatures → List ℕ → Reading ValType
 value_at features bytes = do
   b ← next_at bytes
   (if b.0 == 0x7f then plain_at I32 b.1
-    else (if b.0 == 0x7e then plain_at I64 b.1
-    else (if b.0 == 0x7d then plain_at F32 b.1
-    else (if b.0 == 0x7c then plain_at F64 b.1
-    else (if b.0 == 0x7b then plain_at V128 b.1
-    else (reference_at features b.1 >>= λ r. Ok (Ref r.0, r.1)))))))
+      else (if b.0 == 0x7e then plain_at I64 b.1
+      else (if b.0 == 0x7d then plain_at F32 b.1
+      else (if b.0 == 0x7c then plain_at F64 b.1
+      else (if b.0 == 0x7b then plain_at V128 b.1
+      else (reference_at features b.1 >>= λ r. Ok (Ref r.0, r.1)))))))

@@ -1,5 +1,5 @@
 -- The texts of types (Core Specification, text format: types).
-use Rattle.std.specs.Prelude.{ℕ, true, false, List, [], ◌++◌, codes, if◌then◌else◌}
+use Rattle.std.specs.Prelude.{ℕ, true, false, List, ◌++◌, codes, if◌then◌else◌}
 use Rattle.std.specs.Fmt.{decimal}
 use Rattle.wasm_ref_types.specs.declared.heap.AbstractHeapType.{AbstractHeapType}
 use Rattle.wasm_ref_types.specs.declared.heap.AbstractHeapType.TheVariants as kinds

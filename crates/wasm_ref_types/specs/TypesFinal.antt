@@ -1,24 +1,22 @@
 -- Lemmas: the readings of types are final.
-use Rattle.std.specs.Prelude.{ℕ, ◌==◌, ◌||◌, ◌≡◌, Bool, true, false, ℤ, pos, negsuc, nat_lt, List, Option, Some, None, Ok, Err, refl}
+use Rattle.std.specs.Prelude.{◌==◌, ◌||◌, Bool, true, false, ℤ, pos, negsuc, nat_lt, Option, Some, None, Ok, refl}
 use Rattle.std.specs.Option.{is_some}
 use Rattle.wasm_features.specs.declared.WasmFeatures.{WasmFeatures}
 use Rattle.wasm_features.specs.Features.{has, GcTypes, SharedEverythingThreads}
 use Rattle.wasm_reader.specs.declared.error.ErrorKind.TheVariants as faults
 use Rattle.wasm_reader.specs.Numbers.{signed, s33_at}
 use Rattle.wasm_reader.specs.Spelled.{number_at-none}
-use Rattle.wasm_reader.specs.Reading.{Reading, fault, ◌>>=◌, byte_at}
-use Rattle.wasm_reader.specs.Laws.{IsFinal}
+use Rattle.wasm_reader.specs.Reading.{byte_at}
 use Rattle.wasm_reader.specs.Final.{IsFinalFrom, then_from, if_from, done_from, fault_from, from_start, final_from, map_final, Takes-none, then_final, done_final}
 use Rattle.wasm_reader.specs.Finals.{byte_final, Takes-byte, s33_final}
 use Rattle.wasm_ref_types.specs.declared.heap.AbstractHeapType.{AbstractHeapType}
-use Rattle.wasm_ref_types.specs.declared.heap.HeapType.{HeapType}
 use Rattle.wasm_ref_types.specs.declared.heap.HeapType.TheVariants.{Abstract, Concrete}
 use Rattle.wasm_ref_types.specs.declared.index.UnpackedIndex.TheVariants.{Module}
 use Rattle.wasm_ref_types.specs.declared.value.ValType.{ValType}
 use Rattle.wasm_ref_types.specs.declared.value.ValType.TheVariants.{I32, I64, F32, F64, V128, Ref}
 use Rattle.wasm_ref_types.specs.Begins.{Begins, if_begins, map_begins, peeked_begins}
 use Rattle.wasm_ref_types.specs.ReadTypes.{abstract_byte, is_basic, gc_types, shared_types, abstract_as, abstract_at, shared_at, index_as, index_at, heap_at, long_at, reference_at, plain_at, value_at}
-use Rattle.wasm_ref_types.specs.Reference.{Reference, reference}
+use Rattle.wasm_ref_types.specs.Reference.{reference}
 
 abstract_from : (features : WasmFeatures) (ty : Option AbstractHeapType) → IsFinalFrom 1 (λ start bytes. abstract_as features ty start bytes)
 abstract_from features None = fault_from 1 faults.BadByte tt

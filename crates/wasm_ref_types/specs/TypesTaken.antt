@@ -1,7 +1,7 @@
 -- Lemmas: a type is read from the bytes that spell it, and from no others.
-use Rattle.std.specs.Prelude.{ℕ, ◌+◌, ◌-◌, ◌<◌, ◌≤◌, ◌^◌, ◌≡◌, ◌==◌, ◌||◌, ◌⊎◌, nat_lt, Bool, true, false, ℤ, pos, negsuc, ◌-ℤ◌, ◌+ℤ◌, ◌*ℤ◌, List, [], ◌∷◌, ◌++◌, length, Option, Some, None, All, Ok, Err, if◌then◌else◌, refl}
+use Rattle.std.specs.Prelude.{ℕ, ◌<◌, ◌≤◌, ◌^◌, ◌≡◌, ◌==◌, ◌||◌, ◌⊎◌, nat_lt, Bool, true, false, ℤ, pos, negsuc, ◌-ℤ◌, List, [], ◌∷◌, ◌++◌, length, Option, Some, None, All, Ok, Err, if◌then◌else◌, refl}
 use Rattle.std.specs.Option.{is_some}
-use Rattle.std.proofs.Common.{ap, sym, ◌∙◌, subst, arith, rules, inl, inr}
+use Rattle.std.proofs.Common.{ap, sym, ◌∙◌, subst, arith, inl, inr}
 use Rattle.std.proofs.lemmas.Int.{ints}
 use Rattle.std.proofs.lemmas.List.Elements.{All-tail}
 use Rattle.std.proofs.lemmas.Bool.{cases_lt, cases_Bool, eqb-true, ltb-true, lt-ltb, le-ltb, ne_eqb}
@@ -9,7 +9,7 @@ use Rattle.wasm_features.specs.declared.WasmFeatures.{WasmFeatures}
 use Rattle.wasm_features.specs.Features.{has, GcTypes, SharedEverythingThreads}
 use Rattle.wasm_reader.specs.declared.error.ErrorKind.TheVariants as faults
 use Rattle.wasm_reader.specs.Numbers.{signed, Spells, s33_at}
-use Rattle.wasm_reader.specs.Reading.{Reading, Fault, fault, ◌>>=◌, byte_at, next_at}
+use Rattle.wasm_reader.specs.Reading.{Reading, ◌>>=◌}
 use Rattle.wasm_reader.specs.Laws.{TakesSpelled}
 use Rattle.std.proofs.lemmas.List.{append-nil}
 use Rattle.wasm_reader.specs.Shortest.{s33_bytes}
@@ -21,9 +21,9 @@ use Rattle.wasm_ref_types.specs.declared.heap.HeapType.TheVariants.{Abstract, Co
 use Rattle.wasm_ref_types.specs.declared.index.UnpackedIndex.TheVariants.{Module, RecGroup, Id}
 use Rattle.wasm_ref_types.specs.declared.value.ValType.{ValType}
 use Rattle.wasm_ref_types.specs.declared.value.ValType.TheVariants.{I32, I64, F32, F64, V128, Ref}
-use Rattle.wasm_ref_types.specs.ReadTypes.{abstract_byte, is_basic, gc_types, shared_types, abstract_as, abstract_at, shared_at, index_as, index_at, heap_at, long_at, reference_at, plain_at, value_at}
+use Rattle.wasm_ref_types.specs.ReadTypes.{abstract_byte, is_basic, abstract_as, abstract_at, shared_at, index_as, index_at, heap_at, long_at, reference_at, plain_at, value_at}
 use Rattle.wasm_ref_types.specs.Reference.{Reference, reference}
-use Rattle.wasm_ref_types.specs.TypeSpellings.{HasGcTypes, HasSharedTypes, SpellsAbstract, SpellsBehind, SpellsShared, SpellsHeap, SpellsReference, SpellsValue, long_byte, IsAbstract, IsWritten, IsWrittenValue, ReadsWritten}
+use Rattle.wasm_ref_types.specs.TypeSpellings.{HasGcTypes, HasSharedTypes, SpellsAbstract, SpellsShared, SpellsHeap, SpellsReference, SpellsValue, long_byte, IsAbstract, IsWritten, IsWrittenValue, ReadsWritten}
 
 -- ---- abstract heap types
 
@@ -203,8 +203,7 @@ unfolding index_at
 index_found features bytes later value small e =
     let was = then_was (s33_at bytes) (λ n. index_as n.0 (length bytes) n.1) (value, later) e in
     let number = number_at-found signed faults.TooLong 33 bytes was.0.1 was.0.0 small was.1 in
-    let index = index_was was.0.0 (length bytes) was.0.1 later value was.2 in
-    (
+    let index = index_was was.0.0 (length bytes) was.0.1 later value was.2 in (
       number.0,
       subst (SpellsHeap features number.0) (sym index.3) (index.2, subst (Spells signed 33 number.0) index.1 number.1),
       number.2 ∙ ap (λ (l : List ℕ). number.0 ++ l) index.4,
@@ -400,31 +399,30 @@ plain_found features b byte bytes later value ty is h e =
     let named : ty ≡ value = ap (λ p. p.0) same in
     (b ∷ [], subst (SpellsValue features (b ∷ [])) named (rw is h), ap (λ p. b ∷ p.1) same)
 
+plain_or : (features : WasmFeatures) (b byte : ℕ) (bytes later : List ℕ) (value ty : ValType) (other : Reading ValType) → SpellsValue features (byte ∷ []) ty
+    → (if b == byte then plain_at ty (b ∷ bytes) else other) ≡ Ok (value, later)
+    → (other ≡ Ok (value, later) → Fronts (SpellsValue features) (b ∷ bytes) later value) → Fronts (SpellsValue features) (b ∷ bytes) later value
+plain_or features b byte bytes later value ty other h e next = elim (cases_Bool (b == byte)) [
+  | inl is ↦ plain_found features b byte bytes later value ty (eqb-true b byte is) h (rw is at e)
+  | inr apart ↦ next (rw apart at e)
+]
+
+by_reference_found : (features : WasmFeatures) (b : ℕ) (bytes later : List ℕ) (value : ValType) → All (λ b. b < 256) (b ∷ bytes)
+    → (reference_at features (b ∷ bytes) >>= made (λ r. Ref r)) ≡ Ok (value, later) → Fronts (SpellsValue features) (b ∷ bytes) later value
+by_reference_found features b bytes later value small e =
+    let was = map_was (reference_at features (b ∷ bytes)) (λ r. Ref r) value later e in
+    subst (Fronts (SpellsValue features) (b ∷ bytes) later) was.2 (reference_found features (b ∷ bytes) later was.0 small was.1)
+
 value_found : (features : WasmFeatures) (bytes later : List ℕ) (value : ValType) → All (λ b. b < 256) bytes → value_at features bytes ≡ Ok (value, later) → Fronts (SpellsValue features) bytes later value
 unfolding value_at
 value_found features [] later value small e = absurd cc
-value_found features (b ∷ bytes) later value small e = elim (cases_Bool (b == 0x7f)) [
-  | inl is ↦ plain_found features b 0x7f bytes later value I32 (eqb-true b 0x7f is) refl (rw is at e)
-  | inr not0 ↦ let e = (rw not0 at e) in
-    elim (cases_Bool (b == 0x7e)) [
-    | inl is ↦ plain_found features b 0x7e bytes later value I64 (eqb-true b 0x7e is) refl (rw is at e)
-    | inr not1 ↦ let e = (rw not1 at e) in
-      elim (cases_Bool (b == 0x7d)) [
-      | inl is ↦ plain_found features b 0x7d bytes later value F32 (eqb-true b 0x7d is) refl (rw is at e)
-      | inr not2 ↦ let e = (rw not2 at e) in
-        elim (cases_Bool (b == 0x7c)) [
-        | inl is ↦ plain_found features b 0x7c bytes later value F64 (eqb-true b 0x7c is) refl (rw is at e)
-        | inr not3 ↦ let e = (rw not3 at e) in
-          elim (cases_Bool (b == 0x7b)) [
-          | inl is ↦ plain_found features b 0x7b bytes later value V128 (eqb-true b 0x7b is) refl (rw is at e)
-          | inr not4 ↦ let e = (rw not4 at e) in
-            let was = map_was (reference_at features (b ∷ bytes)) (λ r. Ref r) value later e in
-            subst (Fronts (SpellsValue features) (b ∷ bytes) later) was.2 (reference_found features (b ∷ bytes) later was.0 small was.1)
-        ]
-      ]
-    ]
-  ]
-]
+value_found features (b ∷ bytes) later value small e =
+    (plain_or features b 0x7f bytes later value I32 _ refl e (λ e.
+    (plain_or features b 0x7e bytes later value I64 _ refl e (λ e.
+    (plain_or features b 0x7d bytes later value F32 _ refl e (λ e.
+    (plain_or features b 0x7c bytes later value F64 _ refl e (λ e.
+    (plain_or features b 0x7b bytes later value V128 _ refl e (λ e.
+    by_reference_found features b bytes later value small e))))))))))
 
 pub value_taken : (features : WasmFeatures) → TakesSpelled (value_at features) (SpellsValue features)
 value_taken features = record {

@@ -1,7 +1,7 @@
 -- Value types (Core Specification, types: value types).
 use Rattle.std.specs.Prelude.{Bool, true, false, Option, Some, None}
 use Rattle.wasm_ref_types.specs.declared.value.ValType.{ValType}
-use Rattle.wasm_ref_types.specs.declared.value.ValType.TheVariants.{I32, I64, F32, F64, V128, Ref}
+use Rattle.wasm_ref_types.specs.declared.value.ValType.TheVariants.{Ref}
 use Rattle.wasm_ref_types.specs.Reference.{Reference}
 
 -- the reference type that it is

@@ -54,7 +54,8 @@ impl AbstractHeapType {
         ensures { result.now ≡ supertypes self.now }
     {
         use AbstractHeapType::{
-            Any, Array, Cont, Eq, Exn, Extern, Func, I31, NoCont, NoExn, NoExtern, NoFunc, None, Struct,
+            Any, Array, Cont, Eq, Exn, Extern, Func, I31, NoCont, NoExn, NoExtern, NoFunc, None,
+            Struct,
         };
         match self {
             Func => &[Func],

@@ -148,11 +148,7 @@ impl<'a> FromReader<'a> for HeapType {
 
 impl RefType {
     #[tactic(auto, unfolding(crate::specs::ReadTypes::long_at))]
-    fn read_long(
-        alloc: Global,
-        nullable: bool,
-        reader: &mut BinaryReader<'_>,
-    ) -> Result<RefType>
+    fn read_long(alloc: Global, nullable: bool, reader: &mut BinaryReader<'_>) -> Result<RefType>
         ensures { Reads (long_at reader.old.window.features nullable) plain reader.old reader.new result }
     {
         let offset = reader.original_position();

@@ -20,6 +20,8 @@ use std::cmp::Ordering;
 use std::hash::{Hash, Hasher};
 use std::marker::Model;
 
+// The layout: in the lowest 20 bits the number of an index, or an abstract type's place in their order; above it in two bits
+// the kind of index, or whether an abstract type is shared; above those in two bits the form; at the top nullability.
 pub(crate) const NULLABLE: u32 = 1 << 24;
 
 const HEAP: u32 = NULLABLE - 1;
@@ -74,43 +76,6 @@ impl RefType {
         RefType::of_form(nullable, 2, index.bits())
     }
 
-    // 0 for an abstract type, 1 for a concrete one, 2 for an exact one.
-    fn form(&self) -> u32
-        ensures { result ≡ heap_form self.now.heap_type }
-    {
-        self.bits >> 22 & 3
-    }
-
-    // The type of a form, and of the 22 bits below it.
-    fn of_form(nullable: bool, form: u32, rest: u32) -> Self
-        requires form { form < 3 }
-        requires kind { rest < 3145728 }
-        requires abstract_kind { form ≡ 0 → (rest < 2097152) × (rest % 1048576 < 14) }
-        ensures { result ≡ reference nullable (heap_of form rest) }
-    {
-        RefType::of_heap(nullable, form * FORM + rest)
-    }
-
-    // The type of the heap type that these 24 bits stand for.
-    fn of_heap(nullable: bool, heap_bits: u32) -> Self
-        requires below { heap_bits < 16777216 }
-        requires heap { IsReference heap_bits }
-        ensures { result ≡ reference nullable (heap_of (heap_bits / 4194304) (heap_bits % 4194304)) }
-    {
-        let null = if nullable { NULLABLE } else { 0 };
-        RefType {
-            bits: null + heap_bits,
-        }
-    }
-
-    // The type of an abstract type.
-    pub(crate) fn of_abstract(nullable: bool, shared: bool, ty: AbstractHeapType) -> Self
-        ensures { result ≡ reference nullable (Abstract shared ty) }
-    {
-        let kind = if shared { SHARED } else { 0 };
-        RefType::of_form(nullable, 0, kind + ty.rank())
-    }
-
     /// The type of this nullability and heap type, if the number of an index in it is below 2^20.
     pub fn new(nullable: bool, heap_type: HeapType) -> Option<Self>
         ensures small { IsSome result ↔ HasSmallIndex heap_type }
@@ -123,7 +88,7 @@ impl RefType {
         }
     }
 
-    /// What null leaves of the first type where the second is taken away: the first type, nullable if it is and the second isn't.
+    /// The first type without the second one's null: nullable exactly if the first is and the second isn't.
     pub fn difference(a: RefType, b: RefType) -> RefType
         ensures { result ≡ reference (a.nullable && not b.nullable) a.heap_type }
     {
@@ -229,15 +194,6 @@ impl RefType {
         }
     }
 
-    fn is_of(&self, ty: AbstractHeapType) -> bool
-        ensures { result ≡ is_of ty self.now.heap_type }
-    {
-        match self.heap_type() {
-            HeapType::Abstract { shared: _, ty: own } => own.rank() == ty.rank(),
-            _ => false,
-        }
-    }
-
     /// What the values other than null point to.
     pub fn heap_type(&self) -> HeapType
         ensures { result ≡ self.now.heap_type }
@@ -250,6 +206,55 @@ impl RefType {
             },
             1 => HeapType::Concrete(PackedIndex::from_bits(rest).unpack()),
             _ => HeapType::Exact(PackedIndex::from_bits(rest).unpack()),
+        }
+    }
+}
+
+impl RefType {
+    // 0 for an abstract type, 1 for a concrete one, 2 for an exact one.
+    fn form(&self) -> u32
+        ensures { result ≡ heap_form self.now.heap_type }
+    {
+        self.bits >> 22 & 3
+    }
+
+    // The type of a form, and of the 22 bits below it.
+    fn of_form(nullable: bool, form: u32, rest: u32) -> Self
+        requires form { form < 3 }
+        requires kind { rest < 3145728 }
+        requires abstract_kind { form ≡ 0 → (rest < 2097152) × (rest % 1048576 < 14) }
+        ensures { result ≡ reference nullable (heap_of form rest) }
+    {
+        RefType::of_heap(nullable, form * FORM + rest)
+    }
+
+    // The type of the heap type that these 24 bits stand for.
+    fn of_heap(nullable: bool, heap_bits: u32) -> Self
+        requires below { heap_bits < 16777216 }
+        requires heap { IsReference heap_bits }
+        ensures { result ≡ reference nullable (heap_of (heap_bits / 4194304) (heap_bits % 4194304)) }
+    {
+        let null = if nullable { NULLABLE } else { 0 };
+        RefType {
+            bits: null + heap_bits,
+        }
+    }
+
+    // The type of an abstract type.
+    pub(crate) fn of_abstract(nullable: bool, shared: bool, ty: AbstractHeapType) -> Self
+        ensures { result ≡ reference nullable (Abstract shared ty) }
+    {
+        let kind = if shared { SHARED } else { 0 };
+        RefType::of_form(nullable, 0, kind + ty.rank())
+    }
+
+    // Whether the abstract type is this one.
+    fn is_of(&self, ty: AbstractHeapType) -> bool
+        ensures { result ≡ is_of ty self.now.heap_type }
+    {
+        match self.heap_type() {
+            HeapType::Abstract { shared: _, ty: own } => own.rank() == ty.rank(),
+            _ => false,
         }
     }
 }

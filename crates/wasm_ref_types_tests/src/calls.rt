@@ -33,17 +33,30 @@ fn kinds_of_indices(rt: HostRuntime) -> Result<(), Fail> {
     };
     assert_eq!(rt; module < group, true);
     assert_eq!(rt; group < core, true);
-    assert_eq!(rt; module.as_module_index(), Some(4));
-    assert_eq!(rt; group.as_module_index(), None);
-    assert_eq!(rt; group.as_rec_group_index(), Some(4));
-    assert_eq!(rt; core.as_rec_group_index(), None);
-    assert_eq!(rt; core.as_core_type_id(), Some(id));
-    assert_eq!(rt; core.is_canonical(), true);
-    assert_eq!(rt; module.is_canonical(), false);
-    assert_eq!(rt; core.unpack().is_canonical(), true);
-    assert_eq!(rt; core.unpack().as_core_type_id(), Some(id));
-    assert_eq!(rt; module.unpack().as_module_index(), Some(4));
-    assert_eq!(rt; group.unpack().as_rec_group_index(), Some(4));
+    Ok(())
+}
+
+#[test]
+fn numbers_of_indices(rt: HostRuntime) -> Result<(), Fail> {
+    let id = CoreTypeId::from_index(4);
+    let kinds = [
+        (UnpackedIndex::Module(4), (Some(4), None, None)),
+        (UnpackedIndex::RecGroup(4), (None, Some(4), None)),
+        (UnpackedIndex::Id(id), (None, None, Some(id))),
+    ];
+    for (index, (module, group, core)) in kinds {
+        assert_eq!(rt; index.as_module_index(), module);
+        assert_eq!(rt; index.as_rec_group_index(), group);
+        assert_eq!(rt; index.as_core_type_id(), core);
+        assert_eq!(rt; index.is_canonical(), core.is_some());
+        let Some(packed) = index.pack() else {
+            return Ok(());
+        };
+        assert_eq!(rt; packed.as_module_index(), module);
+        assert_eq!(rt; packed.as_rec_group_index(), group);
+        assert_eq!(rt; packed.as_core_type_id(), core);
+        assert_eq!(rt; packed.is_canonical(), core.is_some());
+    }
     Ok(())
 }
 
@@ -58,7 +71,16 @@ fn a_concrete_reference(rt: HostRuntime) -> Result<(), Fail> {
     assert_eq!(rt; ty.is_concrete_type_ref(), true);
     assert_eq!(rt; ty.is_exact_type_ref(), false);
     assert_eq!(rt; RefType::exact(true, index).is_exact_type_ref(), true);
-    assert_eq!(rt; ty.as_non_null().is_nullable(), false);
+    Ok(())
+}
+
+#[test]
+fn forms_of_a_reference(rt: HostRuntime) -> Result<(), Fail> {
+    let Some(index) = PackedIndex::from_module_index(983_040) else {
+        return Ok(());
+    };
+    let ty = RefType::concrete(true, index);
+    assert_eq!(rt; ty.as_non_null(), RefType::concrete(false, index));
     assert_eq!(rt; ty.as_non_null().nullable(), ty);
     assert_eq!(rt; ty.shared(), None);
     assert_eq!(rt;
@@ -72,19 +94,36 @@ fn a_concrete_reference(rt: HostRuntime) -> Result<(), Fail> {
 
 #[test]
 fn abstract_references(rt: HostRuntime) -> Result<(), Fail> {
-    assert_eq!(rt; RefType::FUNCREF.is_func_ref(), true);
+    let types = [
+        (RefType::FUNCREF, (true, false, false, false, false, false)),
+        (RefType::EXTERN, (false, true, false, false, false, false)),
+        (RefType::ARRAYREF, (false, false, true, false, false, false)),
+        (RefType::STRUCT, (false, false, false, true, false, false)),
+        (RefType::CONTREF, (false, false, false, false, true, false)),
+        (RefType::NONE, (false, false, false, false, false, true)),
+        (
+            RefType::NULLFUNCREF,
+            (false, false, false, false, false, false),
+        ),
+    ];
+    for (ty, (func, external, array, structure, cont, none)) in types {
+        assert_eq!(rt; ty.is_func_ref(), func);
+        assert_eq!(rt; ty.is_extern_ref(), external);
+        assert_eq!(rt; ty.is_array_ref(), array);
+        assert_eq!(rt; ty.is_struct_ref(), structure);
+        assert_eq!(rt; ty.is_cont_ref(), cont);
+        assert_eq!(rt; ty.is_none_ref(), none);
+    }
     assert_eq!(rt;
         RefType::FUNC.shared().map(|ty| ty.is_func_ref()),
         Some(true)
     );
-    assert_eq!(rt; RefType::EXTERN.is_extern_ref(), true);
-    assert_eq!(rt; RefType::EXTERN.is_func_ref(), false);
-    assert_eq!(rt; RefType::ARRAYREF.is_array_ref(), true);
-    assert_eq!(rt; RefType::STRUCTREF.is_struct_ref(), true);
-    assert_eq!(rt; RefType::CONT.is_cont_ref(), true);
-    assert_eq!(rt; RefType::NULLREF.is_none_ref(), true);
-    assert_eq!(rt; RefType::NULLFUNCREF.is_none_ref(), false);
     assert_eq!(rt; RefType::ANYREF.type_index(), None);
+    Ok(())
+}
+
+#[test]
+fn differences(rt: HostRuntime) -> Result<(), Fail> {
     assert_eq!(rt;
         RefType::difference(RefType::ANYREF, RefType::NULLREF),
         RefType::ANY
@@ -128,45 +167,32 @@ fn the_order_of_references(rt: HostRuntime) -> Result<(), Fail> {
 
 #[test]
 fn subtypes(rt: HostRuntime) -> Result<(), Fail> {
-    assert_eq!(rt;
-        AbstractHeapType::None.is_subtype_of(AbstractHeapType::Any),
-        true
-    );
-    assert_eq!(rt;
-        AbstractHeapType::I31.is_subtype_of(AbstractHeapType::Eq),
-        true
-    );
-    assert_eq!(rt;
-        AbstractHeapType::Eq.is_subtype_of(AbstractHeapType::I31),
-        false
-    );
-    assert_eq!(rt;
-        AbstractHeapType::NoFunc.is_subtype_of(AbstractHeapType::Func),
-        true
-    );
-    assert_eq!(rt;
-        AbstractHeapType::NoFunc.is_subtype_of(AbstractHeapType::Any),
-        false
-    );
-    assert_eq!(rt;
-        AbstractHeapType::Exn.is_subtype_of(AbstractHeapType::Exn),
-        true
-    );
+    let pairs = [
+        (AbstractHeapType::None, AbstractHeapType::Any, true),
+        (AbstractHeapType::I31, AbstractHeapType::Eq, true),
+        (AbstractHeapType::Eq, AbstractHeapType::I31, false),
+        (AbstractHeapType::NoFunc, AbstractHeapType::Func, true),
+        (AbstractHeapType::NoFunc, AbstractHeapType::Any, false),
+        (AbstractHeapType::Exn, AbstractHeapType::Exn, true),
+    ];
+    for (small, large, below) in pairs {
+        assert_eq!(rt; small.is_subtype_of(large), below);
+    }
     Ok(())
 }
 
 #[test]
 fn value_types(rt: HostRuntime) -> Result<(), Fail> {
-    assert_eq!(rt; ValType::FUNCREF.is_reference_type(), true);
-    assert_eq!(rt; ValType::V128.is_reference_type(), false);
-    assert_eq!(rt;
-        ValType::CONTREF.as_reference_type(),
-        Some(RefType::CONTREF)
-    );
-    assert_eq!(rt; ValType::F64.as_reference_type(), None);
-    assert_eq!(rt; ValType::I32.is_defaultable(), true);
-    assert_eq!(rt; ValType::EXTERNREF.is_defaultable(), true);
-    assert_eq!(rt; ValType::from(RefType::EXTERN).is_defaultable(), false);
-    assert_eq!(rt; ValType::from(RefType::EXNREF), ValType::EXNREF);
+    let types = [
+        (ValType::FUNCREF, Some(RefType::FUNCREF), true),
+        (ValType::CONTREF, Some(RefType::CONTREF), true),
+        (ValType::from(RefType::EXTERN), Some(RefType::EXTERN), false),
+        (ValType::F64, None, true),
+    ];
+    for (ty, reference, defaultable) in types {
+        assert_eq!(rt; ty.is_reference_type(), reference.is_some());
+        assert_eq!(rt; ty.as_reference_type(), reference);
+        assert_eq!(rt; ty.is_defaultable(), defaultable);
+    }
     Ok(())
 }

@@ -6,20 +6,16 @@ use wasm_reader::{BinaryReader, ErrorKind, Result, WasmFeatures};
 use wasm_ref_types::{AbstractHeapType, HeapType, PackedIndex, RefType, UnpackedIndex, ValType};
 
 // The first byte of each text stands at 11, as that of the first type of a module.
-fn value(alloc: Global, bytes: &[u8]) -> Result<ValType> {
-    BinaryReader::new(bytes, 11).read(alloc)
+fn value(alloc: Global, features: WasmFeatures, bytes: &[u8]) -> Result<ValType> {
+    BinaryReader::new_features(bytes, 11, features).read(alloc)
 }
 
-fn reference(alloc: Global, bytes: &[u8]) -> Result<RefType> {
-    BinaryReader::new(bytes, 11).read(alloc)
+fn reference(alloc: Global, bytes: &[u8]) -> Option<RefType> {
+    BinaryReader::new(bytes, 11).read(alloc).ok()
 }
 
 fn heap(alloc: Global, bytes: &[u8]) -> Result<HeapType> {
     BinaryReader::new(bytes, 11).read(alloc)
-}
-
-fn value_under(alloc: Global, features: WasmFeatures, bytes: &[u8]) -> Result<ValType> {
-    BinaryReader::new_features(bytes, 11, features).read(alloc)
 }
 
 fn refused<T>(outcome: Result<T>) -> Option<(ErrorKind, u64)>
@@ -32,199 +28,175 @@ where
     }
 }
 
-fn shared(ty: AbstractHeapType) -> HeapType {
-    HeapType::Abstract { shared: true, ty }
+fn module(index: u32) -> HeapType {
+    HeapType::Concrete(UnpackedIndex::Module(index))
 }
 
 #[test]
 fn numbers_and_vectors(rt: HostRuntime) -> std::result::Result<(), Fail> {
-    assert_eq!(rt; value(rt.alloc(), &[0x7f])?, ValType::I32);
-    assert_eq!(rt; value(rt.alloc(), &[0x7e])?, ValType::I64);
-    assert_eq!(rt; value(rt.alloc(), &[0x7d])?, ValType::F32);
-    assert_eq!(rt; value(rt.alloc(), &[0x7c])?, ValType::F64);
-    assert_eq!(rt; value(rt.alloc(), &[0x7b])?, ValType::V128);
-    Ok(())
-}
-
-#[test]
-fn abstract_types_alone_are_nullable(rt: HostRuntime) -> std::result::Result<(), Fail> {
-    assert_eq!(rt; reference(rt.alloc(), &[0x70])?, RefType::FUNCREF);
-    assert_eq!(rt; reference(rt.alloc(), &[0x6f])?, RefType::EXTERNREF);
-    assert_eq!(rt; reference(rt.alloc(), &[0x6e])?, RefType::ANYREF);
-    assert_eq!(rt; reference(rt.alloc(), &[0x71])?, RefType::NULLREF);
-    assert_eq!(rt; reference(rt.alloc(), &[0x72])?, RefType::NULLEXTERNREF);
-    assert_eq!(rt; reference(rt.alloc(), &[0x73])?, RefType::NULLFUNCREF);
-    assert_eq!(rt; reference(rt.alloc(), &[0x6d])?, RefType::EQREF);
-    assert_eq!(rt; reference(rt.alloc(), &[0x6b])?, RefType::STRUCTREF);
-    assert_eq!(rt; reference(rt.alloc(), &[0x6a])?, RefType::ARRAYREF);
-    assert_eq!(rt; reference(rt.alloc(), &[0x6c])?, RefType::I31REF);
-    assert_eq!(rt; reference(rt.alloc(), &[0x69])?, RefType::EXNREF);
-    assert_eq!(rt; reference(rt.alloc(), &[0x74])?, RefType::NULLEXNREF);
-    Ok(())
-}
-
-#[test]
-fn abstract_types_behind_64_have_no_null(rt: HostRuntime) -> std::result::Result<(), Fail> {
-    assert_eq!(rt; reference(rt.alloc(), &[0x64, 0x70])?, RefType::FUNC);
-    assert_eq!(rt; reference(rt.alloc(), &[0x64, 0x6f])?, RefType::EXTERN);
-    assert_eq!(rt; reference(rt.alloc(), &[0x64, 0x6e])?, RefType::ANY);
-    assert_eq!(rt; reference(rt.alloc(), &[0x64, 0x71])?, RefType::NONE);
-    assert_eq!(rt; reference(rt.alloc(), &[0x64, 0x72])?, RefType::NOEXTERN);
-    assert_eq!(rt; reference(rt.alloc(), &[0x64, 0x73])?, RefType::NOFUNC);
-    assert_eq!(rt; reference(rt.alloc(), &[0x64, 0x6d])?, RefType::EQ);
-    assert_eq!(rt; reference(rt.alloc(), &[0x64, 0x6b])?, RefType::STRUCT);
-    assert_eq!(rt; reference(rt.alloc(), &[0x64, 0x6a])?, RefType::ARRAY);
-    assert_eq!(rt; reference(rt.alloc(), &[0x64, 0x6c])?, RefType::I31);
-    assert_eq!(rt; reference(rt.alloc(), &[0x64, 0x69])?, RefType::EXN);
-    assert_eq!(rt; reference(rt.alloc(), &[0x64, 0x74])?, RefType::NOEXN);
-    Ok(())
-}
-
-#[test]
-fn long_forms(rt: HostRuntime) -> std::result::Result<(), Fail> {
-    let alloc = rt.alloc();
-    assert_eq!(rt; value(alloc, &[0x63, 0x70])?, ValType::FUNCREF);
-    assert_eq!(rt; value(alloc, &[0x64, 0x6f])?, ValType::Ref(RefType::EXTERN));
-    let zero = RefType::new(false, HeapType::Concrete(UnpackedIndex::Module(0)));
-    assert_eq!(rt; reference(alloc, &[0x64, 0x00]).ok(), zero);
-    // 300 as an s33
-    let large = RefType::new(true, HeapType::Concrete(UnpackedIndex::Module(300)));
-    assert_eq!(rt; reference(alloc, &[0x63, 0xac, 0x02]).ok(), large);
-    assert_eq!(rt;
-        heap(alloc, &[0x80, 0x00])?,
-        HeapType::Concrete(UnpackedIndex::Module(0))
-    );
-    Ok(())
-}
-
-#[test]
-fn shared_types(rt: HostRuntime) -> std::result::Result<(), Fail> {
-    let alloc = rt.alloc();
-    assert_eq!(rt; heap(alloc, &[0x65, 0x70])?, shared(AbstractHeapType::Func));
-    assert_eq!(rt;
-        reference(alloc, &[0x65, 0x70]).ok(),
-        RefType::FUNCREF.shared()
-    );
-    assert_eq!(rt;
-        reference(alloc, &[0x63, 0x65, 0x6e]).ok(),
-        RefType::ANYREF.shared()
-    );
-    assert_eq!(rt;
-        reference(alloc, &[0x64, 0x65, 0x6e]).ok(),
-        RefType::ANY.shared()
-    );
-    assert_eq!(rt;
-        refused(value(alloc, &[0x63, 0x65, 0x00])),
-        Some((ErrorKind::BadByte, 13))
-    );
-    assert_eq!(rt;
-        refused(value(alloc, &[0x65, 0x60])),
-        Some((ErrorKind::BadByte, 12))
-    );
-    Ok(())
-}
-
-#[test]
-fn features_that_are_off(rt: HostRuntime) -> std::result::Result<(), Fail> {
-    let alloc = rt.alloc();
-    let shared = ErrorKind::Feature(WasmFeatures::SHARED_EVERYTHING_THREADS);
-    let default = WasmFeatures::default();
-    assert_eq!(rt;
-        refused(value_under(alloc, default, &[0x65, 0x70])),
-        Some((shared, 11))
-    );
-    assert_eq!(rt;
-        refused(value_under(alloc, default, &[0x63, 0x65, 0x00])),
-        Some((shared, 12))
-    );
-    let types = ErrorKind::Feature(WasmFeatures::GC_TYPES);
-    let floats = WasmFeatures::FLOATS;
-    assert_eq!(rt;
-        refused(value_under(alloc, floats, &[0x63, 0x70])),
-        Some((types, 11))
-    );
-    assert_eq!(rt;
-        refused(value_under(alloc, floats, &[0x64])),
-        Some((types, 11))
-    );
-    assert_eq!(rt;
-        refused(value_under(alloc, floats, &[0x6e])),
-        Some((types, 11))
-    );
-    assert_eq!(rt;
-        refused(value_under(alloc, floats, &[0x74])),
-        Some((types, 11))
-    );
-    assert_eq!(rt; value_under(alloc, floats, &[0x70])?, ValType::FUNCREF);
-    assert_eq!(rt; value_under(alloc, floats, &[0x6f])?, ValType::EXTERNREF);
-    assert_eq!(rt; value_under(alloc, floats, &[0x69])?, ValType::EXNREF);
-    Ok(())
-}
-
-#[test]
-fn faults(rt: HostRuntime) -> std::result::Result<(), Fail> {
-    let alloc = rt.alloc();
-    assert_eq!(rt;
-        refused(value(alloc, &[])),
-        Some((ErrorKind::EndOfFile(1), 11))
-    );
-    assert_eq!(rt;
-        refused(value(alloc, &[0x63])),
-        Some((ErrorKind::EndOfFile(1), 12))
-    );
-    assert_eq!(rt;
-        refused(value(alloc, &[0x63, 0x80])),
-        Some((ErrorKind::EndOfFile(1), 13))
-    );
-    assert_eq!(rt;
-        refused(value(alloc, &[0x40])),
-        Some((ErrorKind::BadByte, 11))
-    );
-    assert_eq!(rt;
-        refused(value(alloc, &[0x00])),
-        Some((ErrorKind::BadByte, 11))
-    );
-    assert_eq!(rt;
-        refused(value(alloc, &[0x68])),
-        Some((ErrorKind::BadByte, 11))
-    );
-    // func, padded
-    assert_eq!(rt;
-        refused(heap(alloc, &[0xf0, 0x7f])),
-        Some((ErrorKind::BadByte, 11))
-    );
-    assert_eq!(rt;
-        refused(heap(alloc, &[0x62, 0x00])),
-        Some((ErrorKind::BadByte, 11))
-    );
-    // 2^20 - 1 and 2^20
-    let last = HeapType::Concrete(UnpackedIndex::Module(1_048_575));
-    assert_eq!(rt; heap(alloc, &[0xff, 0xff, 0x3f])?, last);
-    assert_eq!(rt;
-        refused(value(alloc, &[0x63, 0x80, 0x80, 0xc0, 0x00])),
-        Some((ErrorKind::Limit, 12))
-    );
-    assert_eq!(rt;
-        refused(heap(alloc, &[0x80, 0x80, 0x80, 0x80, 0x80, 0x00])),
-        Some((ErrorKind::TooLong, 15))
-    );
+    let types = [
+        (0x7f, ValType::I32),
+        (0x7e, ValType::I64),
+        (0x7d, ValType::F32),
+        (0x7c, ValType::F64),
+        (0x7b, ValType::V128),
+    ];
+    for (byte, ty) in types {
+        assert_eq!(rt;
+            value(rt.alloc(), WasmFeatures::MVP, &[byte]).ok(),
+            Some(ty)
+        );
+    }
     Ok(())
 }
 
 #[test]
 fn abstract_types(rt: HostRuntime) -> std::result::Result<(), Fail> {
-    let mut reader = BinaryReader::new(&[0x6b, 0x65], 0);
-    let ty: AbstractHeapType = reader.read(rt.alloc())?;
-    assert_eq!(rt; ty, AbstractHeapType::Struct);
-    assert_eq!(rt; reader.current_position(), 1);
-    let next: Result<AbstractHeapType> = reader.read(rt.alloc());
-    assert_eq!(rt; refused(next), Some((ErrorKind::BadByte, 1)));
+    let types = [
+        (
+            0x70,
+            AbstractHeapType::Func,
+            RefType::FUNCREF,
+            RefType::FUNC,
+        ),
+        (
+            0x6f,
+            AbstractHeapType::Extern,
+            RefType::EXTERNREF,
+            RefType::EXTERN,
+        ),
+        (0x6e, AbstractHeapType::Any, RefType::ANYREF, RefType::ANY),
+        (
+            0x71,
+            AbstractHeapType::None,
+            RefType::NULLREF,
+            RefType::NONE,
+        ),
+        (
+            0x72,
+            AbstractHeapType::NoExtern,
+            RefType::NULLEXTERNREF,
+            RefType::NOEXTERN,
+        ),
+        (
+            0x73,
+            AbstractHeapType::NoFunc,
+            RefType::NULLFUNCREF,
+            RefType::NOFUNC,
+        ),
+        (0x6d, AbstractHeapType::Eq, RefType::EQREF, RefType::EQ),
+        (
+            0x6b,
+            AbstractHeapType::Struct,
+            RefType::STRUCTREF,
+            RefType::STRUCT,
+        ),
+        (
+            0x6a,
+            AbstractHeapType::Array,
+            RefType::ARRAYREF,
+            RefType::ARRAY,
+        ),
+        (0x6c, AbstractHeapType::I31, RefType::I31REF, RefType::I31),
+        (0x69, AbstractHeapType::Exn, RefType::EXNREF, RefType::EXN),
+        (
+            0x74,
+            AbstractHeapType::NoExn,
+            RefType::NULLEXNREF,
+            RefType::NOEXN,
+        ),
+    ];
+    for (byte, ty, nullable, non_null) in types {
+        let bytes = [byte];
+        let mut reader = BinaryReader::new(&bytes, 0);
+        let read: Result<AbstractHeapType> = reader.read(rt.alloc());
+        assert_eq!(rt; read.ok(), Some(ty));
+        assert_eq!(rt; reference(rt.alloc(), &[byte]), Some(nullable));
+        assert_eq!(rt; reference(rt.alloc(), &[0x63, byte]), Some(nullable));
+        assert_eq!(rt; reference(rt.alloc(), &[0x64, byte]), Some(non_null));
+        assert_eq!(rt; reference(rt.alloc(), &[0x65, byte]), nullable.shared());
+        assert_eq!(rt;
+            reference(rt.alloc(), &[0x64, 0x65, byte]),
+            non_null.shared()
+        );
+    }
     Ok(())
 }
 
 #[test]
-fn an_index_of_a_module(rt: HostRuntime) -> std::result::Result<(), Fail> {
-    let ty = reference(rt.alloc(), &[0x64, 0x05])?;
-    assert_eq!(rt; ty.type_index(), PackedIndex::from_module_index(5));
+fn indices(rt: HostRuntime) -> std::result::Result<(), Fail> {
+    let alloc = rt.alloc();
+    let zero = RefType::new(false, module(0));
+    assert_eq!(rt; reference(alloc, &[0x64, 0x00]), zero);
+    assert_eq!(rt; heap(alloc, &[0x80, 0x00])?, module(0));
+    assert_eq!(rt;
+        reference(alloc, &[0x63, 0xac, 0x02]),
+        RefType::new(true, module(300))
+    );
+    assert_eq!(rt; heap(alloc, &[0xff, 0xff, 0x3f])?, module(1_048_575));
+    let five = reference(alloc, &[0x64, 0x05]).and_then(|ty| ty.type_index());
+    assert_eq!(rt; five, PackedIndex::from_module_index(5));
+    Ok(())
+}
+
+#[test]
+fn features_that_are_off(rt: HostRuntime) -> std::result::Result<(), Fail> {
+    let shared = ErrorKind::Feature(WasmFeatures::SHARED_EVERYTHING_THREADS);
+    let forms: [(&[u8], u64); 2] = [(&[0x65, 0x70], 11), (&[0x63, 0x65, 0x00], 12)];
+    for (bytes, place) in forms {
+        let outcome = value(rt.alloc(), WasmFeatures::default(), bytes);
+        assert_eq!(rt; refused(outcome), Some((shared, place)));
+    }
+    let types = ErrorKind::Feature(WasmFeatures::GC_TYPES);
+    for byte in [
+        0x63, 0x64, 0x6e, 0x71, 0x72, 0x73, 0x6d, 0x6b, 0x6a, 0x6c, 0x74,
+    ] {
+        let outcome = value(rt.alloc(), WasmFeatures::FLOATS, &[byte]);
+        assert_eq!(rt; refused(outcome), Some((types, 11)));
+    }
+    for byte in [0x70, 0x6f, 0x69] {
+        assert_eq!(rt;
+            value(rt.alloc(), WasmFeatures::FLOATS, &[byte]).is_ok(),
+            true
+        );
+    }
+    Ok(())
+}
+
+#[test]
+fn faults_of_values(rt: HostRuntime) -> std::result::Result<(), Fail> {
+    let faults: [(&[u8], ErrorKind, u64); 9] = [
+        (&[], ErrorKind::EndOfFile(1), 11),
+        (&[0x63], ErrorKind::EndOfFile(1), 12),
+        (&[0x63, 0x80], ErrorKind::EndOfFile(1), 13),
+        (&[0x40], ErrorKind::BadByte, 11),
+        (&[0x00], ErrorKind::BadByte, 11),
+        (&[0x68], ErrorKind::BadByte, 11),
+        (&[0x63, 0x65, 0x00], ErrorKind::BadByte, 13),
+        (&[0x65, 0x60], ErrorKind::BadByte, 12),
+        (&[0x63, 0x80, 0x80, 0xc0, 0x00], ErrorKind::Limit, 12),
+    ];
+    for (bytes, kind, place) in faults {
+        let outcome = value(rt.alloc(), WasmFeatures::all(), bytes);
+        assert_eq!(rt; refused(outcome), Some((kind, place)));
+    }
+    Ok(())
+}
+
+// A padded `func` is no byte of an abstract type, and exact types have no bytes.
+#[test]
+fn faults_of_heap_types(rt: HostRuntime) -> std::result::Result<(), Fail> {
+    let faults: [(&[u8], ErrorKind, u64); 3] = [
+        (&[0xf0, 0x7f], ErrorKind::BadByte, 11),
+        (&[0x62, 0x00], ErrorKind::BadByte, 11),
+        (
+            &[0x80, 0x80, 0x80, 0x80, 0x80, 0x00],
+            ErrorKind::TooLong,
+            15,
+        ),
+    ];
+    for (bytes, kind, place) in faults {
+        assert_eq!(rt; refused(heap(rt.alloc(), bytes)), Some((kind, place)));
+    }
     Ok(())
 }

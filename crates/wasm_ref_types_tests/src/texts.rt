@@ -1,156 +1,97 @@
 //! Texts of the Core Specification's text format, and of shared and exact types.
 
-use std::alloc::{AllocError, Global};
 use std::test::Fail;
 use wasm_ref_types::{
     AbstractHeapType, CoreTypeId, HeapType, PackedIndex, RefType, UnpackedIndex, ValType,
 };
 
-fn text(alloc: Global, ty: RefType) -> Result<String, AllocError> {
-    ty.wat(alloc)
-}
-
 #[test]
-fn nullable_constants(rt: HostRuntime) -> Result<(), Fail> {
-    assert_eq!(rt;
-        text(rt.alloc(), RefType::FUNCREF)?.as_str(),
-        "(ref null func)"
-    );
-    assert_eq!(rt;
-        text(rt.alloc(), RefType::EXTERNREF)?.as_str(),
-        "(ref null extern)"
-    );
-    assert_eq!(rt;
-        text(rt.alloc(), RefType::ANYREF)?.as_str(),
-        "(ref null any)"
-    );
-    assert_eq!(rt;
-        text(rt.alloc(), RefType::NULLREF)?.as_str(),
-        "(ref null none)"
-    );
-    assert_eq!(rt;
-        text(rt.alloc(), RefType::NULLEXTERNREF)?.as_str(),
-        "(ref null noextern)"
-    );
-    assert_eq!(rt;
-        text(rt.alloc(), RefType::NULLFUNCREF)?.as_str(),
-        "(ref null nofunc)"
-    );
-    assert_eq!(rt; text(rt.alloc(), RefType::EQREF)?.as_str(), "(ref null eq)");
-    assert_eq!(rt;
-        text(rt.alloc(), RefType::STRUCTREF)?.as_str(),
-        "(ref null struct)"
-    );
-    assert_eq!(rt;
-        text(rt.alloc(), RefType::ARRAYREF)?.as_str(),
-        "(ref null array)"
-    );
-    assert_eq!(rt;
-        text(rt.alloc(), RefType::I31REF)?.as_str(),
-        "(ref null i31)"
-    );
-    assert_eq!(rt;
-        text(rt.alloc(), RefType::EXNREF)?.as_str(),
-        "(ref null exn)"
-    );
-    assert_eq!(rt;
-        text(rt.alloc(), RefType::NULLEXNREF)?.as_str(),
-        "(ref null noexn)"
-    );
-    assert_eq!(rt;
-        text(rt.alloc(), RefType::CONTREF)?.as_str(),
-        "(ref null cont)"
-    );
-    assert_eq!(rt;
-        text(rt.alloc(), RefType::NULLCONTREF)?.as_str(),
-        "(ref null nocont)"
-    );
+fn references(rt: HostRuntime) -> Result<(), Fail> {
+    let texts = [
+        (RefType::FUNCREF, "(ref null func)"),
+        (RefType::FUNC, "(ref func)"),
+        (RefType::EXTERNREF, "(ref null extern)"),
+        (RefType::EXTERN, "(ref extern)"),
+        (RefType::ANYREF, "(ref null any)"),
+        (RefType::ANY, "(ref any)"),
+        (RefType::NULLREF, "(ref null none)"),
+        (RefType::NONE, "(ref none)"),
+        (RefType::NULLEXTERNREF, "(ref null noextern)"),
+        (RefType::NOEXTERN, "(ref noextern)"),
+        (RefType::NULLFUNCREF, "(ref null nofunc)"),
+        (RefType::NOFUNC, "(ref nofunc)"),
+        (RefType::EQREF, "(ref null eq)"),
+        (RefType::EQ, "(ref eq)"),
+        (RefType::STRUCTREF, "(ref null struct)"),
+        (RefType::STRUCT, "(ref struct)"),
+        (RefType::ARRAYREF, "(ref null array)"),
+        (RefType::ARRAY, "(ref array)"),
+        (RefType::I31REF, "(ref null i31)"),
+        (RefType::I31, "(ref i31)"),
+        (RefType::EXNREF, "(ref null exn)"),
+        (RefType::EXN, "(ref exn)"),
+        (RefType::NULLEXNREF, "(ref null noexn)"),
+        (RefType::NOEXN, "(ref noexn)"),
+        (RefType::CONTREF, "(ref null cont)"),
+        (RefType::CONT, "(ref cont)"),
+        (RefType::NULLCONTREF, "(ref null nocont)"),
+        (RefType::NOCONT, "(ref nocont)"),
+    ];
+    for (ty, text) in texts {
+        let wat = ty.wat(rt.alloc())?;
+        assert_eq!(rt; wat.as_str(), text);
+        let written = format!(in rt.alloc(); "{ty}")?;
+        assert_eq!(rt; written.as_str(), text);
+    }
     Ok(())
 }
 
 #[test]
-fn constants_without_null(rt: HostRuntime) -> Result<(), Fail> {
-    assert_eq!(rt; text(rt.alloc(), RefType::FUNC)?.as_str(), "(ref func)");
-    assert_eq!(rt; text(rt.alloc(), RefType::EXTERN)?.as_str(), "(ref extern)");
-    assert_eq!(rt; text(rt.alloc(), RefType::ANY)?.as_str(), "(ref any)");
-    assert_eq!(rt; text(rt.alloc(), RefType::NONE)?.as_str(), "(ref none)");
-    assert_eq!(rt;
-        text(rt.alloc(), RefType::NOEXTERN)?.as_str(),
-        "(ref noextern)"
-    );
-    assert_eq!(rt; text(rt.alloc(), RefType::NOFUNC)?.as_str(), "(ref nofunc)");
-    assert_eq!(rt; text(rt.alloc(), RefType::EQ)?.as_str(), "(ref eq)");
-    assert_eq!(rt; text(rt.alloc(), RefType::STRUCT)?.as_str(), "(ref struct)");
-    assert_eq!(rt; text(rt.alloc(), RefType::ARRAY)?.as_str(), "(ref array)");
-    assert_eq!(rt; text(rt.alloc(), RefType::I31)?.as_str(), "(ref i31)");
-    assert_eq!(rt; text(rt.alloc(), RefType::EXN)?.as_str(), "(ref exn)");
-    assert_eq!(rt; text(rt.alloc(), RefType::NOEXN)?.as_str(), "(ref noexn)");
-    assert_eq!(rt; text(rt.alloc(), RefType::CONT)?.as_str(), "(ref cont)");
-    assert_eq!(rt; text(rt.alloc(), RefType::NOCONT)?.as_str(), "(ref nocont)");
-    Ok(())
-}
-
-#[test]
-fn display_is_wat(rt: HostRuntime) -> Result<(), Fail> {
-    let alloc = rt.alloc();
-    let func = format!(in alloc; "{}", RefType::FUNCREF)?;
-    assert_eq!(rt; func.as_str(), "(ref null func)");
-    let any = format!(in alloc; "{:?}", RefType::ANY)?;
-    assert_eq!(rt; any.as_str(), "(ref any)");
-    Ok(())
-}
-
-#[test]
-fn indices(rt: HostRuntime) -> Result<(), Fail> {
-    let alloc = rt.alloc();
-    let module = format!(in alloc; "{}", HeapType::Concrete(UnpackedIndex::Module(7)))?;
-    assert_eq!(rt; module.as_str(), "7");
-    let group = format!(in alloc; "{}", HeapType::Exact(UnpackedIndex::RecGroup(12)))?;
-    assert_eq!(rt; group.as_str(), "(exact 12)");
+fn heap_types(rt: HostRuntime) -> Result<(), Fail> {
+    let ty = AbstractHeapType::I31;
     let id = UnpackedIndex::Id(CoreTypeId::from_index(3));
-    let third = format!(in alloc; "{}", HeapType::Concrete(id))?;
-    assert_eq!(rt; third.as_str(), "3");
+    let texts = [
+        (HeapType::FUNC, "func"),
+        (HeapType::EXTERN, "extern"),
+        (HeapType::Abstract { shared: true, ty }, "(shared i31)"),
+        (HeapType::Concrete(UnpackedIndex::Module(7)), "7"),
+        (HeapType::Exact(UnpackedIndex::RecGroup(12)), "(exact 12)"),
+        (HeapType::Concrete(id), "3"),
+    ];
+    for (ty, text) in texts {
+        let written = format!(in rt.alloc(); "{ty}")?;
+        assert_eq!(rt; written.as_str(), text);
+    }
+    Ok(())
+}
+
+#[test]
+fn references_by_index(rt: HostRuntime) -> Result<(), Fail> {
     let Some(index) = PackedIndex::from_module_index(983_040) else {
         return Ok(());
     };
-    assert_eq!(rt;
-        text(alloc, RefType::concrete(true, index))?.as_str(),
-        "(ref null 983040)"
-    );
-    assert_eq!(rt;
-        text(alloc, RefType::exact(false, index))?.as_str(),
-        "(ref (exact 983040))"
-    );
-    Ok(())
-}
-
-#[test]
-fn shared(rt: HostRuntime) -> Result<(), Fail> {
-    let alloc = rt.alloc();
-    let ty = AbstractHeapType::I31;
-    let heap_type = format!(in alloc; "{}", HeapType::Abstract { shared: true, ty })?;
-    assert_eq!(rt; heap_type.as_str(), "(shared i31)");
-    let Some(reference) = RefType::EQREF.shared() else {
-        return Ok(());
-    };
-    assert_eq!(rt; text(alloc, reference)?.as_str(), "(ref null (shared eq))");
+    let concrete = RefType::concrete(true, index).wat(rt.alloc())?;
+    assert_eq!(rt; concrete.as_str(), "(ref null 983040)");
+    let exact = RefType::exact(false, index).wat(rt.alloc())?;
+    assert_eq!(rt; exact.as_str(), "(ref (exact 983040))");
     Ok(())
 }
 
 #[test]
 fn values(rt: HostRuntime) -> Result<(), Fail> {
-    let alloc = rt.alloc();
-    let i32 = format!(in alloc; "{}", ValType::I32)?;
-    assert_eq!(rt; i32.as_str(), "i32");
-    let i64 = format!(in alloc; "{}", ValType::I64)?;
-    assert_eq!(rt; i64.as_str(), "i64");
-    let f32 = format!(in alloc; "{}", ValType::F32)?;
-    assert_eq!(rt; f32.as_str(), "f32");
-    let f64 = format!(in alloc; "{}", ValType::F64)?;
-    assert_eq!(rt; f64.as_str(), "f64");
-    let v128 = format!(in alloc; "{}", ValType::V128)?;
-    assert_eq!(rt; v128.as_str(), "v128");
-    let exn = format!(in alloc; "{}", ValType::EXNREF)?;
-    assert_eq!(rt; exn.as_str(), "(ref null exn)");
+    let texts = [
+        (ValType::I32, "i32"),
+        (ValType::I64, "i64"),
+        (ValType::F32, "f32"),
+        (ValType::F64, "f64"),
+        (ValType::V128, "v128"),
+        (ValType::EXNREF, "(ref null exn)"),
+    ];
+    for (ty, text) in texts {
+        let written = format!(in rt.alloc(); "{ty}")?;
+        assert_eq!(rt; written.as_str(), text);
+        let debug = format!(in rt.alloc(); "{ty:?}")?;
+        assert_eq!(rt; debug.as_str(), text);
+    }
     Ok(())
 }

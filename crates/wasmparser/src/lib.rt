@@ -3,7 +3,9 @@
 #![tactic(auto)]
 
 pub use wasm_features::{WasmFeatures, WasmFeaturesInflated};
-pub use wasm_reader::{BinaryReader, Error, FromReader, Ieee32, Ieee64, Result, limits};
+pub use wasm_reader::{
+    BinaryReader, BinaryReaderIter, Error, ErrorKind, FromReader, Ieee32, Ieee64, Result, limits,
+};
 pub use wasm_ref_types::{
     AbstractHeapType, CoreTypeId, HeapType, PackedIndex, RefType, UnpackedIndex, ValType,
 };

@@ -1,3 +1,5 @@
+use Rattle.wasm_reader.specs.Items.{vec_at, SpellsVec}
+use Rattle.wasm_reader.specs.Vecs.{vec_taken}
 use Rattle.wasm_reader.specs.Spellings.{run_taken, little_taken, sized_bytes_taken}
 use Rattle.wasm_reader.specs.Reading.{bytes_at, little_at, SpellsRun, SpellsLittle}
 use Rattle.wasm_reader.specs.Text.{sized_bytes_at, SpellsSized}
@@ -27,3 +29,9 @@ returns-clause-little c = λ size. taken_free (little_at size) (SpellsLittle siz
 
 pub returns-clause-sized : goal.returns-clause-sized
 returns-clause-sized c = taken_free sized_bytes_at SpellsSized sized_bytes_taken
+
+pub returns-clause-numbers : goal.returns-clause-numbers
+returns-clause-numbers c = λ limit. taken_free (vec_at limit (unsigned_at 32)) (SpellsVec limit (Spells unsigned 32)) (vec_taken (unsigned_at 32) (Spells unsigned 32) (number_taken unsigned TooLarge 32) limit)
+
+pub returns-clause-names : goal.returns-clause-names
+returns-clause-names c = λ limit. taken_free (vec_at limit string_at) (SpellsVec limit SpellsName) (vec_taken string_at SpellsName string_taken limit)

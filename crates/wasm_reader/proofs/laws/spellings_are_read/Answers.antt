@@ -1,6 +1,8 @@
+use Rattle.wasm_reader.specs.Vecs.{vec_taken}
 use Rattle.wasm_reader.specs.Spellings.{run_taken, little_taken, sized_bytes_taken}
 use Rattle.wasm_reader.specs.declared.error.ErrorKind.TheVariants.{TooLarge, TooLong}
-use Rattle.wasm_reader.specs.Numbers.{unsigned, signed}
+use Rattle.wasm_reader.specs.Numbers.{unsigned, signed, Spells, unsigned_at}
+use Rattle.wasm_reader.specs.Text.{SpellsName, string_at}
 use Rattle.wasm_reader.specs.Spellings.{number_taken, string_taken, unlimited_string_taken}
 use Rattle.wasm_reader.proofs.laws.spellings_are_read.Goals as goal
 
@@ -27,3 +29,9 @@ returns-clause-little c = little_taken
 
 pub returns-clause-sized : goal.returns-clause-sized
 returns-clause-sized c = sized_bytes_taken
+
+pub returns-clause-numbers : goal.returns-clause-numbers
+returns-clause-numbers c = vec_taken (unsigned_at 32) (Spells unsigned 32) (number_taken unsigned TooLarge 32)
+
+pub returns-clause-names : goal.returns-clause-names
+returns-clause-names c = vec_taken string_at SpellsName string_taken

@@ -1,4 +1,4 @@
-use Rattle.std.proofs.Common.{◌≡◌, ap}
+use Rattle.std.proofs.Common.{ap}
 use Rattle.wasm_ref_types.specs.Orders.{reference-ties}
 use Rattle.wasm_ref_types.proofs.Ranks.{abstract_ord-rank}
 use Rattle.wasm_ref_types.proofs.Same.{unpacked_ord-index, reference-same}

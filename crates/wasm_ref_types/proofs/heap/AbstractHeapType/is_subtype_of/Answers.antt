@@ -1,4 +1,4 @@
-use Rattle.std.proofs.Common.{◌≡◌, ◌∙◌, ap, sym}
+use Rattle.std.proofs.Common.{◌∙◌, ap, sym}
 use Rattle.wasm_ref_types.specs.declared.heap.AbstractHeapType.{AbstractHeapType}
 use Rattle.wasm_ref_types.proofs.Below.{has, sound, complete}
 use Rattle.wasm_ref_types.proofs.heap.AbstractHeapType.is_subtype_of.Goals as goal
