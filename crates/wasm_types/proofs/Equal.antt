@@ -1,5 +1,5 @@
 -- Types are equal exactly where they are one.
-use Rattle.std.proofs.Common.{ℕ, suc, ◌≡◌, ◌&&◌, Bool, true, false, List, [], ◌∷◌, Option, Some, None, refl, ap, sym, ◌∙◌}
+use Rattle.std.proofs.Common.{◌≡◌, ◌&&◌, Bool, true, false, List, [], ◌∷◌, Option, Some, None, refl, ap, ◌∙◌}
 use Rattle.std.specs.Bool.{beq}
 use Rattle.std.specs.Option.{option_eq}
 use Rattle.std.specs.Cmp.Lexicographic.{pointwise}
@@ -14,9 +14,6 @@ use Rattle.wasm_types.specs.declared.field.StorageType.{StorageType}
 use Rattle.wasm_types.specs.declared.field.StorageType.TheVariants.{I8, I16, Val}
 use Rattle.wasm_types.specs.declared.field.FieldType.{FieldType}
 use Rattle.wasm_types.specs.declared.form.FuncType.{FuncType}
-use Rattle.wasm_types.specs.declared.form.ArrayType.{ArrayType}
-use Rattle.wasm_types.specs.declared.form.StructType.{StructType}
-use Rattle.wasm_types.specs.declared.form.ContType.{ContType}
 use Rattle.wasm_types.specs.declared.form.CompositeInnerType.{CompositeInnerType}
 use Rattle.wasm_types.specs.declared.form.CompositeInnerType.TheVariants.{Func, Array, Struct, Cont}
 use Rattle.wasm_types.specs.declared.form.CompositeType.{CompositeType}

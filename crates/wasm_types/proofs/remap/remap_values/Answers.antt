@@ -1,4 +1,4 @@
-use Rattle.std.proofs.Common.{ap, sym, ◌∙◌, arith, length, get_or, subst, ◌≡◌, List, rules, length-set}
+use Rattle.std.proofs.Common.{ap, sym, ◌∙◌, arith, length, get_or, List, length-set}
 use Rattle.std.proofs.lemmas.Result.{err_from_is_err_and}
 use Rattle.std.specs.Fn.{CalledAtMut}
 use Rattle.wasm_ref_types.specs.declared.value.ValType.{ValType}
