@@ -41,7 +41,6 @@ module _ {F E : Type 0} (call : F → UnpackedIndex → Result (Unit {0}) E → 
         let all = so.completes (Err e) new (x ∷ drop (suc i) xs) (subst (λ (l : List X). VisitsEach call One now l (Err e) new (x ∷ drop (suc i) xs)) (sym next) visit) in
         subst (λ (l : List X). VisitsEach call One start old (Err e) new l) (ap (λ (l : List X). take i xs ++ l) (sym next) ∙ take-append-drop i xs) all
 
-
   pub ends : (start now : F) (old xs : List X) (i : ℕ) → Visited start old now xs i → length xs ≤ i → VisitsEach call One start old (Ok tt) now xs
   ends start now old xs i so above =
       let none = drop_all i xs above in

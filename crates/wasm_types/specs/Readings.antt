@@ -31,8 +31,8 @@ unfoldable pub storage_at : WasmFeatures → List ℕ → Reading StorageType
 storage_at features bytes = do
   b ← next_at bytes
   (if b.0 == 0x78 then (byte_at b.1 >>= λ x. Ok (I8, x.1))
-    else (if b.0 == 0x77 then (byte_at b.1 >>= λ x. Ok (I16, x.1))
-    else (value_at features b.1 >>= λ x. Ok (Val x.0, x.1))))
+      else (if b.0 == 0x77 then (byte_at b.1 >>= λ x. Ok (I16, x.1))
+      else (value_at features b.1 >>= λ x. Ok (Val x.0, x.1))))
 
 -- whether a field or a global can be written
 unfoldable pub mutable_at : List ℕ → Reading Bool

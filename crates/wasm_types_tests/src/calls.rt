@@ -1,8 +1,8 @@
 //! Calls on types.
 
 use std::test::Fail;
-use wasm_ref_types::{HeapType, PackedIndex, RefType, UnpackedIndex, ValType};
 use wasm_reader::BinaryReader;
+use wasm_ref_types::{HeapType, PackedIndex, RefType, UnpackedIndex, ValType};
 use wasm_types::{
     CompositeType, FuncType, GlobalType, MemoryType, RecGroup, StructType, SubType, TableType,
     TagKind, TagType, TypeList, laws,
