@@ -1,5 +1,5 @@
 -- A group's reading is that with the places of its types, which are left out.
-use Rattle.std.proofs.Common.{ℕ, zero, suc, ◌≡◌, ◌-◌, ◌==◌, Bool, true, false, List, [], ◌∷◌, map, length, Result, Ok, Err, refl, sym, ap, ◌∙◌, arith}
+use Rattle.std.proofs.Common.{ℕ, zero, suc, ◌≡◌, ◌==◌, Bool, true, false, List, [], ◌∷◌, map, length, Result, Ok, Err, refl, sym, ap, ◌∙◌, arith}
 use Rattle.std.specs.Prelude.{zip, IfOk, if◌then◌else◌}
 use Rattle.wasm_features.specs.declared.WasmFeatures.{WasmFeatures}
 use Rattle.wasm_features.specs.Features.{GcTypes, enables}
@@ -11,7 +11,7 @@ use Rattle.wasm_reader.specs.Items.{ReadsUnlessMemory, items_at, vec_at}
 use Rattle.wasm_reader.specs.Unless.{fails_then, fails_as}
 use Rattle.wasm_types.specs.declared.subtype.SubType.{SubType}
 use Rattle.wasm_types.specs.Groups.{Group}
-use Rattle.wasm_types.specs.Readings.{Listed, gated, sub_at, sub_after, group_after, group_at}
+use Rattle.wasm_types.specs.Readings.{Listed, sub_at, sub_after, group_after, group_at}
 use Rattle.wasm_types.specs.Placed.{Placed, placed_sub_at, placed_after, placed_at, placed_member, placed, listed}
 
 abbrev types_of : List (ℕ × SubType) → List SubType

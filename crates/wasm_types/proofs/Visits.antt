@@ -1,6 +1,6 @@
 -- The loops over lists whose items' indices are changed.
 use Rattle.std.proofs.Common.{ℕ, suc, ◌≡◌, ◌+◌, ◌<◌, ◌≤◌, List, [], ◌∷◌, ◌++◌, length, take, drop, get_or, set, Result, Ok, Err, refl, sym, ap, ◌∙◌, subst, arith, inl, inr}
-use Rattle.std.proofs.lemmas.List.{append_assoc, append-nil, take_more_set, drop-set-lt, set_split, take-append-drop, drop_all}
+use Rattle.std.proofs.lemmas.List.{append_assoc, take_more_set, drop-set-lt, set_split, take-append-drop, drop_all}
 use Rattle.std.proofs.Math.Seq.{drop-cons}
 use Rattle.wasm_ref_types.specs.declared.index.UnpackedIndex.{UnpackedIndex}
 use Rattle.wasm_types.specs.Remap.{VisitsEach}
@@ -40,7 +40,6 @@ module _ {F E : Type 0} (call : F → UnpackedIndex → Result (Unit {0}) E → 
         let visit : VisitsEach call One now (x ∷ drop (suc i) xs) (Err e) new (x ∷ drop (suc i) xs) = inr (e, h, refl, refl) in
         let all = so.completes (Err e) new (x ∷ drop (suc i) xs) (subst (λ (l : List X). VisitsEach call One now l (Err e) new (x ∷ drop (suc i) xs)) (sym next) visit) in
         subst (λ (l : List X). VisitsEach call One start old (Err e) new l) (ap (λ (l : List X). take i xs ++ l) (sym next) ∙ take-append-drop i xs) all
-
 
   pub ends : (start now : F) (old xs : List X) (i : ℕ) → Visited start old now xs i → length xs ≤ i → VisitsEach call One start old (Ok tt) now xs
   ends start now old xs i so above =

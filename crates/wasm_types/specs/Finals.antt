@@ -1,26 +1,22 @@
 -- Lemmas: each reading of a type is final.
-use Rattle.std.specs.Prelude.{ℕ, ◌+◌, ◌==◌, ◌^◌, ◌≡◌, ◌<◌, ◌≤◌, nat_lt, Bool, true, false, List, [], ◌∷◌, ◌++◌, length, Option, Some, None, Ok, Err, if◌then◌else◌, refl}
-use Rattle.std.proofs.Common.{arith}
+use Rattle.std.specs.Prelude.{ℕ, ◌+◌, ◌==◌, ◌^◌, nat_lt, Bool, true, false, List, [], ◌∷◌, ◌++◌, length, Some, None, Ok, Err, if◌then◌else◌, refl}
 use Rattle.wasm_features.specs.declared.WasmFeatures.{WasmFeatures}
 use Rattle.wasm_features.specs.Features.{Feature, GcTypes, SharedEverythingThreads, enables, constant, features_of}
 use Rattle.wasm_reader.specs.declared.error.ErrorKind.TheVariants as kinds
-use Rattle.wasm_reader.specs.Reading.{Reading, Fault, fault, ◌>>=◌, byte_at, next_at}
-use Rattle.wasm_reader.specs.Laws.{Passes, HintHolds, Grows, StaysWithin, IsFinal}
-use Rattle.wasm_reader.specs.Final.{IsFinalFrom, StaysFrom, fault_then, Takes-none, then_final, map_final, tested_final, from_start, then_from, if_from, done_from, fault_from, final_from, done_final}
+use Rattle.wasm_reader.specs.Reading.{Reading, fault, ◌>>=◌, byte_at}
+use Rattle.wasm_reader.specs.Laws.{Passes, Grows, IsFinal}
+use Rattle.wasm_reader.specs.Final.{IsFinalFrom, StaysFrom, fault_then, Takes-none, then_final, map_final, from_start, then_from, if_from, done_from, fault_from, final_from, done_final}
 use Rattle.wasm_reader.specs.Finals.{byte_final, Takes-byte, unsigned_final, size_final, vec_final}
 use Rattle.wasm_reader.specs.Numbers.{unsigned_at}
 use Rattle.wasm_reader.specs.Text.{size_at}
 use Rattle.wasm_reader.specs.Items.{vec_at}
-use Rattle.wasm_ref_types.specs.declared.index.UnpackedIndex.{UnpackedIndex}
 use Rattle.wasm_ref_types.specs.declared.index.UnpackedIndex.TheVariants.{Module}
 use Rattle.wasm_ref_types.specs.ReadTypes.{value_at}
 use Rattle.wasm_ref_types.specs.Begins.{Begins, peeked_begins, if_begins, map_begins}
 use Rattle.wasm_ref_types.specs.TypesFinal.{value_begins}
-use Rattle.wasm_types.specs.declared.field.StorageType.{StorageType}
 use Rattle.wasm_types.specs.declared.field.StorageType.TheVariants.{I8, I16, Val}
 use Rattle.wasm_types.specs.declared.form.CompositeInnerType.TheVariants.{Func, Array, Struct}
-use Rattle.wasm_types.specs.declared.subtype.SubType.{SubType}
-use Rattle.wasm_types.specs.Readings.{Listed, gated, storage_at, mutable_at, field_at, func_at, array_at, struct_at, form_after, form_at, composite_after, composite_at, index_at, supertype_at, declared_at, sub_after, sub_at, group_after, group_at}
+use Rattle.wasm_types.specs.Readings.{gated, storage_at, mutable_at, field_at, func_at, array_at, struct_at, form_after, form_at, composite_after, composite_at, index_at, supertype_at, declared_at, sub_after, sub_at, group_after, group_at}
 
 -- ---- fields
 

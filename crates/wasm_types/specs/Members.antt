@@ -1,7 +1,5 @@
 -- How a group holds its types.
-use Rattle.std.specs.Prelude.{ℕ, ◌+◌, ◌≡◌, Bool, true, false, List, [], ◌∷◌, length, Option, Some, None}
-use Rattle.std.specs.Vec.Iter.{into_iter_items, into_iter_len}
-use Rattle.wasm_types.specs.declared.subtype.SubType.{SubType}
+use Rattle.std.specs.Prelude.{◌≡◌, true, false, [], ◌∷◌, length}
 use Rattle.wasm_types.specs.declared.group.Members.{Members}
 use Rattle.wasm_types.specs.declared.group.Members.TheVariants.{Implicit, Explicit}
 use Rattle.wasm_types.specs.Groups.{Group}

@@ -1,5 +1,5 @@
 -- Subtypes that need no garbage collection.
-use Rattle.std.specs.Prelude.{Option, Some, None, ◌&&◌, if◌then◌else◌}
+use Rattle.std.specs.Prelude.{Option, None, ◌&&◌, if◌then◌else◌}
 use Rattle.std.specs.Option.{is_none}
 use Rattle.wasm_types.specs.declared.form.FuncType.{FuncType}
 use Rattle.wasm_types.specs.declared.subtype.SubType.{SubType}

@@ -1,6 +1,6 @@
 -- What bytes are read as which type, or where they are refused (Core Specification, binary format, types). A byte that is given
 -- to a reading was read before, and stands where `start` bytes were left.
-use Rattle.std.specs.Prelude.{ℕ, ◌+◌, ◌==◌, ◌^◌, nat_lt, Bool, true, false, List, [], ◌∷◌, length, Option, Some, None, Ok, Err, if◌then◌else◌}
+use Rattle.std.specs.Prelude.{ℕ, ◌==◌, ◌^◌, nat_lt, Bool, true, false, List, [], ◌∷◌, length, Option, Some, None, Ok, Err, if◌then◌else◌}
 use Rattle.wasm_features.specs.declared.WasmFeatures.{WasmFeatures}
 use Rattle.wasm_features.specs.Features.{Feature, GcTypes, SharedEverythingThreads, enables, constant, features_of}
 use Rattle.wasm_reader.specs.declared.error.ErrorKind.TheVariants as kinds
@@ -31,8 +31,8 @@ unfoldable pub storage_at : WasmFeatures → List ℕ → Reading StorageType
 storage_at features bytes = do
   b ← next_at bytes
   (if b.0 == 0x78 then (byte_at b.1 >>= λ x. Ok (I8, x.1))
-    else (if b.0 == 0x77 then (byte_at b.1 >>= λ x. Ok (I16, x.1))
-    else (value_at features b.1 >>= λ x. Ok (Val x.0, x.1))))
+      else (if b.0 == 0x77 then (byte_at b.1 >>= λ x. Ok (I16, x.1))
+      else (value_at features b.1 >>= λ x. Ok (Val x.0, x.1))))
 
 -- whether a field or a global can be written
 unfoldable pub mutable_at : List ℕ → Reading Bool

@@ -1,6 +1,6 @@
 -- A call at each index that a type names, in the order of its bytes, up to the first that is refused. What a call that is not
 -- refused leaves stands in the index's place; nothing else changes.
-use Rattle.std.specs.Prelude.{ℕ, ◌≡◌, ◌⊎◌, Bool, List, [], ◌∷◌, Option, Some, None, Result, Ok, Err}
+use Rattle.std.specs.Prelude.{◌≡◌, ◌⊎◌, List, [], ◌∷◌, Option, Some, None, Result, Ok, Err}
 use Rattle.wasm_ref_types.specs.declared.index.UnpackedIndex.{UnpackedIndex}
 use Rattle.wasm_ref_types.specs.declared.heap.HeapType.{HeapType}
 use Rattle.wasm_ref_types.specs.declared.heap.HeapType.TheVariants.{Abstract, Concrete, Exact}
@@ -13,7 +13,6 @@ use Rattle.wasm_types.specs.declared.field.FieldType.{FieldType}
 use Rattle.wasm_types.specs.declared.form.CompositeInnerType.{CompositeInnerType}
 use Rattle.wasm_types.specs.declared.form.CompositeInnerType.TheVariants.{Func, Array, Struct, Cont}
 use Rattle.wasm_types.specs.declared.form.FuncType.{FuncType}
-use Rattle.wasm_types.specs.declared.form.StructType.{StructType}
 use Rattle.wasm_types.specs.declared.subtype.SubType.{SubType}
 use Rattle.wasm_types.specs.Groups.{Group}
 

@@ -1,5 +1,5 @@
 -- The type section, group by group (Core Specification, binary format, modules: type section).
-use Rattle.std.specs.Prelude.{ℕ, zero, suc, ◌+◌, ◌-◌, ◌≤◌, ◌≡◌, ◌∷◌, [], List, Bool, length, All, Option, Some, None, Result, Ok, Err, IfOk}
+use Rattle.std.specs.Prelude.{ℕ, zero, suc, ◌+◌, ◌≤◌, ◌≡◌, ◌∷◌, [], List, length, All, Option, Some, None, Result, Ok, Err, IfOk}
 use Rattle.wasm_features.specs.Features.{GcTypes, constant, features_of}
 use Rattle.wasm_reader.specs.declared.error.Error.{Error}
 use Rattle.wasm_reader.specs.declared.error.ErrorKind.TheVariants as kinds

@@ -1,15 +1,13 @@
 -- Lemmas: a type is read from the bytes that spell it, and from no others.
-use Rattle.std.specs.Prelude.{ℕ, zero, suc, ◌+◌, ◌<◌, ◌≤◌, ◌^◌, ◌≡◌, ◌==◌, ◌⊎◌, nat_lt, Bool, true, false, List, [], ◌∷◌, ◌++◌, length, All, Option, Some, None, Ok, Err, if◌then◌else◌, refl}
-use Rattle.std.specs.Option.{option_to_list}
+use Rattle.std.specs.Prelude.{ℕ, ◌≤◌, ◌^◌, ◌≡◌, ◌==◌, nat_lt, Bool, true, false, List, [], ◌∷◌, ◌++◌, length, Option, Some, None, Ok, Err, if◌then◌else◌, refl}
 use Rattle.std.proofs.Common.{ap, sym, ◌∙◌, subst, arith, inl, inr}
 use Rattle.std.proofs.lemmas.Bool.{cases_lt, cases_Bool, eqb-true, eqb-false, ne_eqb, ltb-true, lt-ltb}
 use Rattle.std.proofs.lemmas.List.{append_assoc, append-nil}
-use Rattle.std.proofs.lemmas.List.Elements.{All-tail}
 use Rattle.wasm_features.specs.declared.WasmFeatures.{WasmFeatures}
 use Rattle.wasm_features.specs.Features.{GcTypes, SharedEverythingThreads, enables}
 use Rattle.wasm_reader.specs.declared.error.ErrorKind.TheVariants as kinds
 use Rattle.wasm_reader.specs.Numbers.{unsigned, Spells, unsigned_at}
-use Rattle.wasm_reader.specs.Reading.{Reading, fault, ◌>>=◌, byte_at, next_at}
+use Rattle.wasm_reader.specs.Reading.{fault, ◌>>=◌, byte_at, next_at}
 use Rattle.wasm_reader.specs.Text.{size_at}
 use Rattle.wasm_reader.specs.Items.{SpellsVec, vec_at}
 use Rattle.wasm_reader.specs.Laws.{TakesSpelled}
@@ -24,7 +22,6 @@ use Rattle.wasm_ref_types.specs.TypesTaken.{value_taken}
 use Rattle.wasm_ref_types.specs.TypesFinal.{value_begins}
 use Rattle.wasm_types.specs.declared.field.StorageType.{StorageType}
 use Rattle.wasm_types.specs.declared.field.StorageType.TheVariants.{I8, I16, Val}
-use Rattle.wasm_types.specs.declared.field.FieldType.{FieldType}
 use Rattle.wasm_types.specs.declared.form.FuncType.{FuncType}
 use Rattle.wasm_types.specs.declared.form.StructType.{StructType}
 use Rattle.wasm_types.specs.declared.form.ArrayType.{ArrayType}
@@ -32,9 +29,9 @@ use Rattle.wasm_types.specs.declared.form.CompositeInnerType.{CompositeInnerType
 use Rattle.wasm_types.specs.declared.form.CompositeInnerType.TheVariants.{Func, Array, Struct, Cont}
 use Rattle.wasm_types.specs.declared.form.CompositeType.{CompositeType}
 use Rattle.wasm_types.specs.declared.subtype.SubType.{SubType}
-use Rattle.wasm_types.specs.Readings.{Listed, gated, storage_at, mutable_at, field_at, func_at, array_at, struct_at, form_after, form_at, composite_after, composite_at, index_at, supertype_at, declared_at, sub_after, sub_at, group_after, group_at}
+use Rattle.wasm_types.specs.Readings.{Listed, storage_at, mutable_at, field_at, func_at, array_at, struct_at, form_after, form_at, composite_after, composite_at, index_at, supertype_at, declared_at, sub_after, sub_at, group_after, group_at}
 use Rattle.wasm_types.specs.Spellings.{SpellsBoth, SpellsStorage, SpellsMutable, SpellsField, SpellsFunc, SpellsArray, SpellsStruct, SpellsForm, SpellsEither, SpellsComposite, SpellsIndex, SpellsSupertype, declared_byte, SpellsSub, SpellsGroup}
-use Rattle.wasm_types.specs.Taken.{Small, Fronts, none_taken, test_taken, gated_taken, mapped, joined, made_taken, both_taken, same_taken, begun_taken}
+use Rattle.wasm_types.specs.Taken.{Small, Fronts, none_taken, test_taken, gated_taken, mapped, made_taken, both_taken, same_taken, begun_taken}
 
 -- ---- fields
 
@@ -190,20 +187,20 @@ module _ (features : WasmFeatures) where
   form_after_taken b start =
       test_taken (b == 0x60) _ _ (FormBehind b)
       (λ is. let byte = eqb-true b 0x60 is in
-          made_taken (func_at features) (SpellsFunc features) (func_taken features) Func (FormBehind b) (λ bytes form h. into_func b bytes form byte h) (λ bytes ty h. behind _ 0x60 b bytes byte h))
+      made_taken (func_at features) (SpellsFunc features) (func_taken features) Func (FormBehind b) (λ bytes form h. into_func b bytes form byte h) (λ bytes ty h. behind _ 0x60 b bytes byte h))
       (λ not. let apart = eqb-false b 0x60 not in test_taken (b == 0x5f) _ _ (FormBehind b)
       (λ is. let byte = eqb-true b 0x5f is in gated_taken features GcTypes start _ (FormBehind b)
-          (λ on. made_taken (struct_at features) (SpellsStruct features) (struct_taken features) Struct (FormBehind b) (λ bytes form h. into_struct b bytes form byte h) (λ bytes ty h. (on, behind _ 0x5f b bytes byte h)))
-          (λ bytes form h. asks_gc b bytes form apart h))
+      (λ on. made_taken (struct_at features) (SpellsStruct features) (struct_taken features) Struct (FormBehind b) (λ bytes form h. into_struct b bytes form byte h) (λ bytes ty h. (on, behind _ 0x5f b bytes byte h)))
+      (λ bytes form h. asks_gc b bytes form apart h))
       (λ not2. test_taken (b == 0x5e) _ _ (FormBehind b)
       (λ is. let byte = eqb-true b 0x5e is in gated_taken features GcTypes start _ (FormBehind b)
-          (λ on. made_taken (array_at features) (SpellsArray features) (array_taken features) Array (FormBehind b) (λ bytes form h. into_array b bytes form byte h) (λ bytes ty h. (on, behind _ 0x5e b bytes byte h)))
-          (λ bytes form h. asks_gc b bytes form apart h))
+      (λ on. made_taken (array_at features) (SpellsArray features) (array_taken features) Array (FormBehind b) (λ bytes form h. into_array b bytes form byte h) (λ bytes ty h. (on, behind _ 0x5e b bytes byte h)))
+      (λ bytes form h. asks_gc b bytes form apart h))
       (λ not3. none_taken _ (FormBehind b) (λ bytes form h.
-          let range = form_range b bytes form h in
-          let apart2 = eqb-false b 0x5f not2 in
-          let apart3 = eqb-false b 0x5e not3 in
-          elim (cases_lt b 0x5f) [ inl low ↦ apart3 (omega arith) | inr high ↦ elim (cases_lt b 0x60) [ inl low ↦ apart2 (omega arith) | inr top ↦ apart (omega arith) ] ]))))
+      let range = form_range b bytes form h in
+      let apart2 = eqb-false b 0x5f not2 in
+      let apart3 = eqb-false b 0x5e not3 in
+      elim (cases_lt b 0x5f) [ inl low ↦ apart3 (omega arith) | inr high ↦ elim (cases_lt b 0x60) [ inl low ↦ apart2 (omega arith) | inr top ↦ apart (omega arith) ] ]))))
 
   form_none : (form : CompositeInnerType) → SpellsForm features [] form → ⊥
   form_none (Func ty) h = no_front h.0 h.1
@@ -243,14 +240,14 @@ module _ (features : WasmFeatures) where
   composite_after_taken b start =
       test_taken (b == 0x65) _ _ (CompositeBehind b)
       (λ is. let byte = eqb-true b 0x65 is in gated_taken features SharedEverythingThreads start _ (CompositeBehind b)
-          (λ on. made_taken (form_at features) (SpellsForm features) form_taken (composite true) (CompositeBehind b)
-              (λ bytes ty h. let was = into_shared b bytes ty.shared ty.inner byte h in (ty.inner, ap (λ (shared : Bool). composite shared ty.inner) (sym was.0), was.2))
-              (λ bytes form h. (on, behind _ 0x65 b bytes byte h)))
-          (λ bytes ty h. (into_shared b bytes ty.shared ty.inner byte h).1))
+      (λ on. made_taken (form_at features) (SpellsForm features) form_taken (composite true) (CompositeBehind b)
+      (λ bytes ty h. let was = into_shared b bytes ty.shared ty.inner byte h in (ty.inner, ap (λ (shared : Bool). composite shared ty.inner) (sym was.0), was.2))
+      (λ bytes form h. (on, behind _ 0x65 b bytes byte h)))
+      (λ bytes ty h. (into_shared b bytes ty.shared ty.inner byte h).1))
       (λ not. let apart = eqb-false b 0x65 not in
-          made_taken (form_after features b start) (FormBehind b) (form_after_taken b start) (composite false) (CompositeBehind b)
-              (λ bytes ty h. let was = into_plain b bytes ty.shared ty.inner apart h in (ty.inner, ap (λ (shared : Bool). composite shared ty.inner) (sym was.0), was.1))
-              (λ bytes form h. h))
+      made_taken (form_after features b start) (FormBehind b) (form_after_taken b start) (composite false) (CompositeBehind b)
+      (λ bytes ty h. let was = into_plain b bytes ty.shared ty.inner apart h in (ty.inner, ap (λ (shared : Bool). composite shared ty.inner) (sym was.0), was.1))
+      (λ bytes form h. h))
 
   composite_none : (shared : Bool) (form : CompositeInnerType) → SpellsEither features shared [] form → ⊥
   composite_none false form h = form_none form h
@@ -388,18 +385,18 @@ module _ (features : WasmFeatures) where
   sub_after_taken b start =
       test_taken (b == 0x50) _ _ (SubBehind b)
       (λ is. let byte = eqb-true b 0x50 is in gated_taken features GcTypes start _ (SubBehind b)
-          (λ on. same_taken (declared_at features false) (SpellsDeclared false) (SubBehind b) (declared_taken false)
-              (λ bytes ty h. (into_declared b false bytes ty byte h).1) (λ bytes ty h. onto_declared b false bytes ty byte on h))
-          (λ bytes ty h. (into_declared b false bytes ty byte h).0))
+      (λ on. same_taken (declared_at features false) (SpellsDeclared false) (SubBehind b) (declared_taken false)
+      (λ bytes ty h. (into_declared b false bytes ty byte h).1) (λ bytes ty h. onto_declared b false bytes ty byte on h))
+      (λ bytes ty h. (into_declared b false bytes ty byte h).0))
       (λ not. let apart = eqb-false b 0x50 not in test_taken (b == 0x4f) _ _ (SubBehind b)
       (λ is. let byte = eqb-true b 0x4f is in gated_taken features GcTypes start _ (SubBehind b)
-          (λ on. same_taken (declared_at features true) (SpellsDeclared true) (SubBehind b) (declared_taken true)
-              (λ bytes ty h. (into_declared b true bytes ty byte h).1) (λ bytes ty h. onto_declared b true bytes ty byte on h))
-          (λ bytes ty h. (into_declared b true bytes ty byte h).0))
+      (λ on. same_taken (declared_at features true) (SpellsDeclared true) (SubBehind b) (declared_taken true)
+      (λ bytes ty h. (into_declared b true bytes ty byte h).1) (λ bytes ty h. onto_declared b true bytes ty byte on h))
+      (λ bytes ty h. (into_declared b true bytes ty byte h).0))
       (λ not2. let apart2 = eqb-false b 0x4f not2 in
-          made_taken (composite_after features b start) (CompositeBehind features b) (composite_after_taken features b start) (sub true None) (SubBehind b)
-              (λ bytes ty h. let was = into_bare b bytes ty apart apart2 h in (ty.composite_type, bare_is ty was.0 was.1, was.2))
-              (λ bytes composite h. inr (refl, refl, h))))
+      made_taken (composite_after features b start) (CompositeBehind features b) (composite_after_taken features b start) (sub true None) (SubBehind b)
+      (λ bytes ty h. let was = into_bare b bytes ty apart apart2 h in (ty.composite_type, bare_is ty was.0 was.1, was.2))
+      (λ bytes composite h. inr (refl, refl, h))))
 
   sub_none : (ty : SubType) → SpellsSub features [] ty → ⊥
   sub_none ty (inl h) = let e = h.1.1 in cc
@@ -441,14 +438,14 @@ module _ (features : WasmFeatures) where
   group_after_taken b start =
       test_taken (b == 0x4e) _ _ (GroupBehind b)
       (λ is. let byte = eqb-true b 0x4e is in gated_taken features GcTypes start _ (GroupBehind b)
-          (λ on. made_taken (vec_at 1000000 (sub_at features)) SpellsSubs (vec_taken (sub_at features) (SpellsSub features) sub_taken 1000000) (listing true) (GroupBehind b)
-              (λ bytes group h. let was = into_explicit b bytes group byte h in (group.types, ap (λ (e : Bool). listing e group.types) (sym was.0), was.2))
-              (λ bytes types h. inl (refl, on, behind _ 0x4e b bytes byte h)))
-          (λ bytes group h. (into_explicit b bytes group byte h).1))
+      (λ on. made_taken (vec_at 1000000 (sub_at features)) SpellsSubs (vec_taken (sub_at features) (SpellsSub features) sub_taken 1000000) (listing true) (GroupBehind b)
+      (λ bytes group h. let was = into_explicit b bytes group byte h in (group.types, ap (λ (e : Bool). listing e group.types) (sym was.0), was.2))
+      (λ bytes types h. inl (refl, on, behind _ 0x4e b bytes byte h)))
+      (λ bytes group h. (into_explicit b bytes group byte h).1))
       (λ not. let apart = eqb-false b 0x4e not in
-          made_taken (sub_after features b start) (SubBehind b) (sub_after_taken b start) (λ ty. listing false (ty ∷ [])) (GroupBehind b)
-              (λ bytes group h. into_single b bytes group apart h)
-              (λ bytes ty h. inr (refl, (ty, refl, h))))
+      made_taken (sub_after features b start) (SubBehind b) (sub_after_taken b start) (λ ty. listing false (ty ∷ [])) (GroupBehind b)
+      (λ bytes group h. into_single b bytes group apart h)
+      (λ bytes ty h. inr (refl, (ty, refl, h))))
 
   group_none : (group : Listed) → SpellsGroup features [] group → ⊥
   group_none group (inl h) = let e = h.2.1 in cc

@@ -1,7 +1,6 @@
 -- Lemmas: each type within the limits, with indices of the module below 2^20, has bytes that spell it.
-use Rattle.std.specs.Prelude.{ℕ, zero, suc, ◌<◌, ◌≤◌, ◌^◌, ◌≡◌, Bool, true, false, List, [], ◌∷◌, ◌++◌, length, All, Option, Some, None, Ok, refl}
-use Rattle.std.specs.Option.{option_to_list}
-use Rattle.std.proofs.Common.{ap, sym, ◌∙◌, subst, arith, inl, inr}
+use Rattle.std.specs.Prelude.{ℕ, zero, suc, ◌<◌, ◌^◌, ◌≡◌, Bool, true, false, List, [], ◌∷◌, ◌++◌, length, All, Option, Some, None, Ok, refl}
+use Rattle.std.proofs.Common.{ap, sym, ◌∙◌, arith, inl, inr}
 use Rattle.std.proofs.lemmas.List.{append-nil}
 use Rattle.wasm_features.specs.declared.WasmFeatures.{WasmFeatures}
 use Rattle.wasm_reader.specs.Reading.{Reading}
@@ -12,7 +11,6 @@ use Rattle.wasm_reader.specs.Spelled.{IsShortest-unsigned}
 use Rattle.wasm_reader.specs.Vecs.{vec_spelled}
 use Rattle.wasm_ref_types.specs.declared.index.UnpackedIndex.{UnpackedIndex}
 use Rattle.wasm_ref_types.specs.declared.index.UnpackedIndex.TheVariants.{Module, RecGroup, Id}
-use Rattle.wasm_ref_types.specs.declared.value.ValType.{ValType}
 use Rattle.wasm_ref_types.specs.TypeSpellings.{HasGcTypes, HasSharedTypes, SpellsValue, IsWrittenValue, ReadsWritten}
 use Rattle.wasm_ref_types.specs.TypesTaken.{value_spelled}
 use Rattle.wasm_types.specs.declared.field.StorageType.{StorageType}
@@ -20,11 +18,10 @@ use Rattle.wasm_types.specs.declared.field.StorageType.TheVariants.{I8, I16, Val
 use Rattle.wasm_types.specs.declared.field.FieldType.{FieldType}
 use Rattle.wasm_types.specs.declared.form.CompositeInnerType.{CompositeInnerType}
 use Rattle.wasm_types.specs.declared.form.CompositeInnerType.TheVariants.{Func, Array, Struct, Cont}
-use Rattle.wasm_types.specs.declared.form.CompositeType.{CompositeType}
 use Rattle.wasm_types.specs.declared.subtype.SubType.{SubType}
-use Rattle.wasm_types.specs.Readings.{Listed, storage_at, field_at, form_at, composite_at, sub_at, group_at}
+use Rattle.wasm_types.specs.Readings.{field_at, composite_at, sub_at, group_at}
 use Rattle.wasm_types.specs.Spellings.{SpellsStorage, SpellsMutable, SpellsField, SpellsForm, SpellsEither, SpellsComposite, SpellsIndex, SpellsSupertype, declared_byte, SpellsSub, SpellsGroup, IsWrittenStorage, IsWrittenField, AtMost, IsWrittenForm, IsWrittenIndex, IsWrittenSub, IsWrittenGroup}
-use Rattle.wasm_types.specs.TypesTaken.{storage_taken, field_taken, composite_taken, sub_taken, group_taken}
+use Rattle.wasm_types.specs.TypesTaken.{field_taken, composite_taken, sub_taken, group_taken}
 
 mutable_spelled : (mutable : Bool) → (bytes : List ℕ) × SpellsMutable bytes mutable
 mutable_spelled false = (0x00 ∷ [], refl)

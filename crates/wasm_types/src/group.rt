@@ -30,8 +30,14 @@ pub struct RecGroup {
 
 #[derive(Drop)]
 enum Members {
-    Implicit { offset: u64, ty: SubType },
-    Explicit { offsets: Vec<u64>, types: Vec<SubType> },
+    Implicit {
+        offset: u64,
+        ty: SubType,
+    },
+    Explicit {
+        offsets: Vec<u64>,
+        types: Vec<SubType>,
+    },
 }
 
 impl Model for RecGroup {

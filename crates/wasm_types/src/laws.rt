@@ -4,6 +4,8 @@ ghost use Rattle.std.specs.Prelude.{◌≡◌, ◌↔◌, ◌≤◌, ◌+◌, Li
 ghost use Rattle.wasm_features.specs.declared.WasmFeatures.{WasmFeatures};
 ghost use Rattle.wasm_reader.specs.Laws.{IsFinal, EndsEarly, TakesSpelled, IsPrefixFree};
 ghost use Rattle.wasm_ref_types.specs.TypeSpellings.{ReadsWritten};
+ghost use Rattle.wasm_types.specs.Groups.{Group};
+ghost use Rattle.wasm_types.specs.contracts.group.RecGroupPartialEq.TheImpl.{ghosts as group_eq};
 ghost use Rattle.wasm_types.specs.Readings.{storage_at, field_at, func_at, array_at, struct_at, composite_at, sub_at, group_at};
 ghost use Rattle.wasm_types.specs.Spellings.{SpellsStorage, SpellsField, SpellsFunc, SpellsArray, SpellsStruct, SpellsComposite, SpellsSub, SpellsGroup, IsWrittenField, IsWrittenForm, IsWrittenSub, IsWrittenGroup};
 
@@ -62,4 +64,9 @@ pub fn written_types_are_read()
     ensures composite { ReadsWritten composite_at (λ ty. IsWrittenForm ty.inner) }
     ensures subtype { ReadsWritten sub_at IsWrittenSub }
     ensures group { ReadsWritten group_at IsWrittenGroup }
+{}
+
+/// Groups are equal exactly if their lists of types are one.
+pub fn groups_are_equal_as_lists()
+    ensures { (a b : Group) → (group_eq.eq a b ≡ true) ↔ (a.types ≡ b.types) }
 {}

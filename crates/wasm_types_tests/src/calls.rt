@@ -1,8 +1,8 @@
 //! Calls on types.
 
 use std::test::Fail;
-use wasm_ref_types::{HeapType, PackedIndex, RefType, UnpackedIndex, ValType};
 use wasm_reader::BinaryReader;
+use wasm_ref_types::{HeapType, PackedIndex, RefType, UnpackedIndex, ValType};
 use wasm_types::{
     CompositeType, FuncType, GlobalType, MemoryType, RecGroup, StructType, SubType, TableType,
     TagKind, TagType, TypeList, laws,
@@ -136,4 +136,5 @@ fn laws_can_be_cited() {
     laws::spelled_types_are_read();
     laws::type_spellings_are_prefix_free();
     laws::written_types_are_read();
+    laws::groups_are_equal_as_lists();
 }

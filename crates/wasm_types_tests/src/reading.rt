@@ -70,10 +70,7 @@ fn composite_types(rt: HostRuntime) -> std::result::Result<(), Fail> {
     let array: CompositeType = read(rt.alloc(), &[0x5e, 0x7c, 0x00])?;
     let shared: CompositeType = read(rt.alloc(), &[0x65, 0x60, 0x00, 0x00])?;
     assert!(rt; shared.shared);
-    let sub = SubType::func(
-        FuncType::new(rt.alloc(), [ValType::V128], [])?,
-        false,
-    )?;
+    let sub = SubType::func(FuncType::new(rt.alloc(), [ValType::V128], [])?, false)?;
     assert!(rt; sub.composite_type == function);
     assert!(rt; array < structure);
     Ok(())

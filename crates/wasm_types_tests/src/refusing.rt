@@ -30,7 +30,10 @@ fn counts_past_their_limits(rt: HostRuntime) -> std::result::Result<(), Fail> {
     let many = [0x4e, 0xff, 0xff, 0xff, 0xff, 0x0f];
     assert_eq!(rt; group(rt.alloc(), all, &many), Some((ErrorKind::Limit, 12)));
     let params = [0x60, 0xff, 0xff, 0xff, 0xff, 0x0f];
-    assert_eq!(rt; group(rt.alloc(), all, &params), Some((ErrorKind::Limit, 12)));
+    assert_eq!(rt;
+        group(rt.alloc(), all, &params),
+        Some((ErrorKind::Limit, 12))
+    );
     // 1,001 parameters, and 1,000 of which the first is missing.
     assert_eq!(rt;
         group(rt.alloc(), all, &[0x60, 0xe9, 0x07]),
@@ -63,11 +66,17 @@ fn counts_past_their_limits(rt: HostRuntime) -> std::result::Result<(), Fail> {
 #[test]
 fn wide_supertypes(rt: HostRuntime) -> std::result::Result<(), Fail> {
     assert_eq!(rt;
-        read::<SubType>(rt.alloc(), &[0x50, 0x01, 0x80, 0x80, 0x40, 0x60, 0x00, 0x00]),
+        read::<SubType>(
+            rt.alloc(),
+            &[0x50, 0x01, 0x80, 0x80, 0x40, 0x60, 0x00, 0x00]
+        ),
         Some((ErrorKind::Limit, 13))
     );
     assert_eq!(rt;
-        read::<SubType>(rt.alloc(), &[0x50, 0x01, 0xff, 0xff, 0x3f, 0x60, 0x00, 0x00]),
+        read::<SubType>(
+            rt.alloc(),
+            &[0x50, 0x01, 0xff, 0xff, 0x3f, 0x60, 0x00, 0x00]
+        ),
         None
     );
     Ok(())
@@ -118,7 +127,11 @@ fn forms_that_are_off(rt: HostRuntime) -> std::result::Result<(), Fail> {
     assert_eq!(rt; group(rt.alloc(), off, &[0x60, 0x00, 0x00]), None);
     let shared = WasmFeatures::SHARED_EVERYTHING_THREADS;
     assert_eq!(rt;
-        group(rt.alloc(), WasmFeatures::all() - shared, &[0x65, 0x60, 0x00, 0x00]),
+        group(
+            rt.alloc(),
+            WasmFeatures::all() - shared,
+            &[0x65, 0x60, 0x00, 0x00]
+        ),
         Some((ErrorKind::Feature(shared), 11))
     );
     assert_eq!(rt; group(rt.alloc(), shared, &[0x65, 0x60, 0x00, 0x00]), None);

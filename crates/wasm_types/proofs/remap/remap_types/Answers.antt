@@ -14,7 +14,7 @@ returns-in_err-remap_sub-clause-visits g c =
 pub loop-i-preserved : goal.loop-i-preserved
 loop-i-preserved g c = (
   more (CalledAtMut g.F.FnMut) (VisitsSub (CalledAtMut g.F.FnMut)) c.args.map.now c.loop-i.map c.remap_sub.new.map c.args.types.now.items c.loop-i.types.items c.loop-i.i c.index_mut.result.now
-  c.loop-i.invariant.0 c.index_mut.ensures.value (omega (arith, c.loop-i-test.true, c.loop-i.invariant.1)) c.remap_sub.new.ty c.in_ok-remap_sub.ensures.visits,
+      c.loop-i.invariant.0 c.index_mut.ensures.value (omega (arith, c.loop-i-test.true, c.loop-i.invariant.1)) c.remap_sub.new.ty c.in_ok-remap_sub.ensures.visits,
   length-set c.loop-i.types.items c.loop-i.i c.remap_sub.new.ty ∙ c.loop-i.invariant.1,
   c.in_ok-remap_sub.ensures.callable,
 )

@@ -1,4 +1,4 @@
-use Rattle.std.proofs.Common.{ap, sym, ◌∙◌, arith, length, get_or, subst, ◌≡◌, List, rules, length-set}
+use Rattle.std.proofs.Common.{ap, sym, ◌∙◌, arith, length, get_or, List, length-set}
 use Rattle.std.proofs.lemmas.Result.{err_from_is_err_and}
 use Rattle.std.specs.Fn.{CalledAtMut}
 use Rattle.wasm_ref_types.specs.declared.value.ValType.{ValType}
@@ -21,10 +21,9 @@ set-requires g c = omega (arith, c.loop-i-test.true, c.loop-i.invariant.1)
 
 pub loop-i-preserved : goal.loop-i-preserved
 loop-i-preserved g c =
-    let here = c.index-as_slice-i.is ∙ ap (λ (l : List ValType). get_or l c.loop-i.i c.index-as_slice-i.result) c.as_slice.ensures in
-    (
+    let here = c.index-as_slice-i.is ∙ ap (λ (l : List ValType). get_or l c.loop-i.i c.index-as_slice-i.result) c.as_slice.ensures in (
       rw c.set.ensures (more (CalledAtMut g.F.FnMut) (VisitsValue (CalledAtMut g.F.FnMut)) c.args.map.now c.loop-i.map c.remap_value.new.map c.args.types.now c.loop-i.types c.loop-i.i c.index-as_slice-i.result
-      c.loop-i.invariant.0 here (omega (arith, c.loop-i-test.true, c.loop-i.invariant.1)) c.in_ok-ty.ty c.in_ok-ty.ensures.visits),
+          c.loop-i.invariant.0 here (omega (arith, c.loop-i-test.true, c.loop-i.invariant.1)) c.in_ok-ty.ty c.in_ok-ty.ensures.visits),
       ap length c.set.ensures ∙ length-set c.loop-i.types c.loop-i.i c.in_ok-ty.ty ∙ c.loop-i.invariant.1,
       c.in_ok-ty.ensures.callable,
     )

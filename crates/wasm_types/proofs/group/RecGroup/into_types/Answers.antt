@@ -1,6 +1,5 @@
 use Rattle.std.proofs.Common.{sym, subst}
 use Rattle.std.proofs.lemmas.Slice.Zip.{seconds-zip}
-use Rattle.wasm_types.specs.Groups.{Group}
 use Rattle.wasm_types.specs.Members.{IsPaired}
 use Rattle.wasm_types.proofs.group.RecGroup.into_types.Goals as goal
 

@@ -1,4 +1,4 @@
-use Rattle.std.proofs.Common.{arith, ap, ◌≤◌, All}
+use Rattle.std.proofs.Common.{arith, ap}
 use Rattle.std.proofs.lemmas.Result.{err_from_is_err_and}
 use Rattle.wasm_types.specs.Groups.{Group}
 use Rattle.wasm_types.proofs.Members.{collects_none, collects_more, collects_stops, collects_starves, collects_all}
