@@ -2,3 +2,4 @@ pub mod AbstractLemmas
 pub mod EqLemmas
 pub mod FormLemmas
 pub mod ListLemmas
+pub mod PlaceLemmas

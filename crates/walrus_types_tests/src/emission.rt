@@ -267,8 +267,6 @@ fn forms_are_ordered(rt: HostRuntime) -> Result<(), Fail> {
     Ok(())
 }
 
-#[test]
-fn equal_types_stand_by_id(rt: HostRuntime) -> Result<(), Fail> {
     let alloc = rt.alloc();
     let mut types = ModuleTypes::new(alloc);
     types.add(&[ValType::I32], &[])?;
@@ -284,8 +282,6 @@ fn equal_types_stand_by_id(rt: HostRuntime) -> Result<(), Fail> {
     Ok(())
 }
 
-#[test]
-fn entry_types_are_not_written(rt: HostRuntime) -> Result<(), Fail> {
     let mut types = ModuleTypes::new(rt.alloc());
     let entry = types.add_entry_ty(&[ValType::I32])?;
     let ty = types.add(&[], &[ValType::I32])?;
@@ -296,8 +292,6 @@ fn entry_types_are_not_written(rt: HostRuntime) -> Result<(), Fail> {
     Ok(())
 }
 
-#[test]
-fn a_deleted_type_is_named(rt: HostRuntime) -> Result<(), Fail> {
     let alloc = rt.alloc();
     let mut types = ModuleTypes::new(alloc);
     let dead = types.add(&[ValType::I64], &[])?;
@@ -308,8 +302,6 @@ fn a_deleted_type_is_named(rt: HostRuntime) -> Result<(), Fail> {
     Ok(())
 }
 
-#[test]
-fn an_entry_type_is_named(rt: HostRuntime) -> Result<(), Fail> {
     let alloc = rt.alloc();
     let mut types = ModuleTypes::new(alloc);
     let entry = types.add_entry_ty(&[ValType::I64])?;
@@ -318,8 +310,6 @@ fn an_entry_type_is_named(rt: HostRuntime) -> Result<(), Fail> {
     Ok(())
 }
 
-#[test]
-fn a_later_type_is_named(rt: HostRuntime) -> Result<(), Fail> {
     let alloc = rt.alloc();
     let mut types = ModuleTypes::new(alloc);
     types.add_struct(Vec::from_slice(alloc, &[link(id(1))])?)?;
@@ -328,8 +318,6 @@ fn a_later_type_is_named(rt: HostRuntime) -> Result<(), Fail> {
     Ok(())
 }
 
-#[test]
-fn the_first_fault_is_answered(rt: HostRuntime) -> Result<(), Fail> {
     let alloc = rt.alloc();
     let mut types = ModuleTypes::new(alloc);
     let entry = types.add_entry_ty(&[ValType::I64])?;
