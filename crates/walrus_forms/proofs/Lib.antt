@@ -3,3 +3,4 @@ pub mod EqLemmas
 pub mod FormLemmas
 pub mod ListLemmas
 pub mod PlaceLemmas
+pub mod RenamingLemmas

@@ -1,7 +1,9 @@
+pub mod BelowLemmas
 pub mod DeleteLemmas
 pub mod EmitLemmas
 pub mod GroupLemmas
 pub mod LawLemmas
+pub mod MergerLemmas
 pub mod OrderLemmas
 pub mod ParseLemmas
 pub mod SameLemmas

@@ -3,6 +3,7 @@ pub mod Groups
 pub mod Items
 pub mod Lends
 pub mod LocalLends
+pub mod Mergers
 pub mod Parsing
 pub mod Table
 pub mod TableLends

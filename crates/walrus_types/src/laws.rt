@@ -2,6 +2,7 @@
 ghost use Rattle.std.specs.Prelude.{◌≡◌, ℕ, Bool};
 ghost use Rattle.walrus_types.specs.Items.{Item, kind_of};
 ghost use Rattle.walrus_types.specs.TypeLaws.{FindsLatest};
+ghost use Rattle.walrus_types.specs.Mergers.{ParsingCarriesSame};
 ghost use Rattle.walrus_forms.specs.Same.{same_kind};
 ghost use Rattle.walrus_forms.specs.Order.{kind_cmp};
 ghost use Rattle.walrus_types.specs.contracts.subtype.TypeOrd.TheImpl.{ghosts as type_ord};
@@ -32,3 +33,9 @@ pub fn types_are_ordered_by_kind(a: &Type, b: &Type)
     let _ = a;
     let _ = b;
 }
+
+/// What is parsed into a new table carries what stands for what: two types of a section have one id
+/// exactly where they stand for one type.
+pub fn parsing_carries_same()
+    ensures { ParsingCarriesSame }
+{}

@@ -9,3 +9,5 @@ mod edits;
 mod emission;
 #[cfg(test)]
 mod groups;
+#[cfg(test)]
+mod records;
