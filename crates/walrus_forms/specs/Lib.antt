@@ -6,3 +6,4 @@ pub mod Records
 pub mod Renaming
 pub mod Same
 pub mod Values
+pub mod ValueOrder

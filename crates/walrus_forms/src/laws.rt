@@ -1,7 +1,30 @@
 //! Laws of the words that the contracts of this crate cite. Each function is its contract alone.
+ghost use Rattle.std.specs.Prelude.{◌≡◌};
 ghost use Rattle.walrus_forms.specs.Same.{SameKindIsEquality};
+ghost use Rattle.walrus_forms.specs.ValueOrder.{value_cmp, field_cmp};
+ghost use Rattle.walrus_forms.specs.contracts.value.ValTypeOrd.TheImpl.{ghosts as value_ord};
+ghost use Rattle.walrus_forms.specs.contracts.value.FieldTypeOrd.TheImpl.{ghosts as field_ord};
+
+use crate::value::{FieldType, ValType};
 
 /// The test of kinds is true exactly where they are one.
 pub fn same_kind_is_equality()
     ensures { SameKindIsEquality }
 {}
+
+/// Value types are ordered by the list that the formats of the output give: numbers, the vector type,
+/// references without null, nullable ones.
+pub fn values_are_ordered(a: ValType, b: ValType)
+    ensures { value_ord.cmp a b ≡ value_cmp a b }
+{
+    let _ = a;
+    let _ = b;
+}
+
+/// Fields are ordered by what they hold, those that can't be written first.
+pub fn fields_are_ordered(a: FieldType, b: FieldType)
+    ensures { field_ord.cmp a b ≡ field_cmp a b }
+{
+    let _ = a;
+    let _ = b;
+}

@@ -105,7 +105,7 @@ or-assoc : (a b c : Option IrError) → option_or (option_or a b) c ≡ option_o
 or-assoc None b c = refl
 or-assoc (Some a) b c = refl
 
-first-fault-append : (f : ℕ → Option IrError) (xs ys : List ℕ) → first_fault f (xs ++ ys) ≡ option_or (first_fault f xs) (first_fault f ys)
+pub first-fault-append : (f : ℕ → Option IrError) (xs ys : List ℕ) → first_fault f (xs ++ ys) ≡ option_or (first_fault f xs) (first_fault f ys)
 first-fault-append f [] ys = refl
 first-fault-append f (x ∷ xs) ys = ap (option_or (f x)) (first-fault-append f xs ys) ∙ sym (or-assoc (f x) (first_fault f xs) (first_fault f ys))
 

@@ -1,3 +1,4 @@
+pub mod BelowLemmas
 pub mod DeleteLemmas
 pub mod EmitLemmas
 pub mod GroupLemmas

@@ -7,6 +7,7 @@ ghost use Rattle.walrus_type_order.specs.Order.{IsEmissionOrder};
 ghost use Rattle.walrus_types.specs.Items.{kind_of, group_of};
 ghost use Rattle.walrus_types.specs.Table.{table_of};
 ghost use Rattle.walrus_types.specs.Emission.{written_kind, is_written, written_groups, key_of, no_group, AreInOrder, written_in, written_types, AreIndices, index_at, fault_at, first_fault, group_names, groups_fault, described_group, IsEmission, IsRefusal};
+ghost use Rattle.walrus_types.specs.Parsing.{AreBelow};
 ghost use Rattle.walrus_forms.specs.Kinds.{kind_names};
 ghost use Rattle.walrus_forms.specs.Records.{type_group};
 
@@ -367,7 +368,8 @@ impl ModuleTypes {
     ///
     /// Groups stand by rising id. Those that are written as groups, and single types that name a type,
     /// keep this order; the single types between two of them are sorted, equal ones by id: functions,
-    /// structures, arrays; by parameters and then results, or fields; open ones before final ones.
+    /// structures, arrays; by parameters and then results, or fields; open ones before final ones. A type
+    /// names types below the end of its group, so that [`ModuleTypes::parse_types`] reads the groups.
     ///
     /// # Errors
     ///
@@ -377,6 +379,7 @@ impl ModuleTypes {
     /// written than indices can number.
     pub fn emit(&self) -> Result<EmittedTypes, IrError>
         ensures emitted { IfOk result (λ emitted. IsEmission self.now (map type_group emitted.groups.items) emitted.indices) }
+        ensures below { IfOk result (λ emitted. AreBelow 0 (map type_group emitted.groups.items)) }
         ensures refused { IfErr result (IsRefusal self.now) }
     {
         let groups = groups_in_order(self.alloc, &self.types, &self.groups)?;

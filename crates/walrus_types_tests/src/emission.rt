@@ -3,9 +3,9 @@ use std::alloc::Global;
 use std::test::Fail;
 use walrus_arena::TypeId;
 use walrus_types::{
-    AbstractHeapType, CompositeRecord, CompositeType, FieldRecord, FieldType, FunctionType,
+    AbstractHeapType, ArrayType, CompositeRecord, CompositeType, FieldRecord, FieldType,
     GroupRecord, HeapRecord, HeapType, IrError, ModuleTypes, NewType, RefRecord, RefType,
-    StorageRecord, StorageType, StructType, TypeRecord, ValRecord, ValType,
+    StorageRecord, StorageType, StructType, ValRecord, ValType,
 };
 
 fn id(index: usize) -> TypeId {
@@ -34,39 +34,41 @@ fn link(to: TypeId) -> FieldType {
     })))
 }
 
-// A record of a single type of this form.
-fn single(alloc: Global, kind: CompositeRecord) -> Result<GroupRecord, Fail> {
-    let mut types = Vec::new(alloc);
-    types.push(TypeRecord {
-        kind,
-        is_final: true,
-        supertype: None,
-    })?;
-    Ok(GroupRecord {
-        marked: false,
-        types,
-    })
+// An immutable field that refers to the type of this index.
+fn link_to(index: u32) -> FieldRecord {
+    FieldRecord {
+        element_type: StorageRecord::Val(ValRecord::Ref(RefRecord {
+            nullable: true,
+            heap_type: HeapRecord::Concrete(index),
+        })),
+        mutable: false,
+    }
 }
 
-fn consumer(alloc: Global, parameter: ValRecord) -> Result<GroupRecord, Fail> {
-    let mut params = Vec::new(alloc);
-    params.extend_from_slice(&[parameter])?;
-    single(
-        alloc,
-        CompositeRecord::Function {
-            params,
-            results: Vec::new(alloc),
-        },
-    )
+// The form of the single type of the group, if it is one.
+fn single(group: Option<&GroupRecord>) -> Option<&CompositeRecord> {
+    match group {
+        Some(group) if !group.marked && group.types.len() == 1 => Some(&group.types[0].kind),
+        _ => None,
+    }
 }
 
-fn structure(alloc: Global, fields: &[FieldRecord]) -> Result<GroupRecord, Fail> {
-    single(
-        alloc,
-        CompositeRecord::Struct {
-            fields: Vec::from_slice(alloc, fields)?,
-        },
-    )
+// Whether it is a single function type of this parameter, without results.
+fn is_consumer(group: Option<&GroupRecord>, parameter: ValRecord) -> bool {
+    match single(group) {
+        Some(CompositeRecord::Function { params, results }) => {
+            params.as_slice() == [parameter].as_slice() && results.is_empty()
+        }
+        _ => false,
+    }
+}
+
+// Whether it is a single structure type of these fields.
+fn is_structure(group: Option<&GroupRecord>, expected: &[FieldRecord]) -> bool {
+    match single(group) {
+        Some(CompositeRecord::Struct { fields }) => fields.as_slice() == expected,
+        _ => false,
+    }
 }
 
 #[test]
@@ -78,12 +80,9 @@ fn single_types_are_sorted(rt: HostRuntime) -> Result<(), Fail> {
     let short = types.add(&[ValType::I32], &[])?;
     assert_eq!(rt; types.add(&[ValType::I64], &[])?, long);
     let emitted = types.emit()?;
-    let groups = [
-        consumer(alloc, ValRecord::I32)?,
-        consumer(alloc, ValRecord::I64)?,
-        structure(alloc, &[])?,
-    ];
-    assert!(rt; emitted.groups.as_slice() == &groups[..]);
+    assert!(rt; is_consumer(emitted.groups.get(0), ValRecord::I32));
+    assert!(rt; is_consumer(emitted.groups.get(1), ValRecord::I64));
+    assert!(rt; is_structure(emitted.groups.get(2), &[]));
     assert_eq!(rt; emitted.indices.get(long), Some(1));
     assert_eq!(rt; emitted.indices.get(empty), Some(2));
     assert_eq!(rt; emitted.indices.get(short), Some(0));
@@ -98,19 +97,9 @@ fn a_type_that_names_a_type_stays(rt: HostRuntime) -> Result<(), Fail> {
     types.add_struct(Vec::from_slice(alloc, &[link(long)])?)?;
     types.add(&[ValType::I32], &[])?;
     let emitted = types.emit()?;
-    let field = FieldRecord {
-        element_type: StorageRecord::Val(ValRecord::Ref(RefRecord {
-            nullable: true,
-            heap_type: HeapRecord::Concrete(0),
-        })),
-        mutable: false,
-    };
-    let groups = [
-        consumer(alloc, ValRecord::I64)?,
-        structure(alloc, &[field])?,
-        consumer(alloc, ValRecord::I32)?,
-    ];
-    assert!(rt; emitted.groups.as_slice() == &groups[..]);
+    assert!(rt; is_consumer(emitted.groups.get(0), ValRecord::I64));
+    assert!(rt; is_structure(emitted.groups.get(1), &[link_to(0)]));
+    assert!(rt; is_consumer(emitted.groups.get(2), ValRecord::I32));
     Ok(())
 }
 
@@ -144,7 +133,10 @@ fn a_group_stays(rt: HostRuntime) -> Result<(), Fail> {
         assert_eq!(rt; emitted.indices.get(id(k)), Some(*index));
     }
     assert_eq!(rt; emitted.groups.len(), 5);
-    let marked = emitted.groups.get(2).map(|group| (group.marked, group.types.len()));
+    let marked = emitted
+        .groups
+        .get(2)
+        .map(|group| (group.marked, group.types.len()));
     assert_eq!(rt; marked, Some((true, 2)));
     Ok(())
 }
@@ -175,27 +167,30 @@ fn a_group_of_one_type_stays(rt: HostRuntime) -> Result<(), Fail> {
 
 #[test]
 fn supertypes_are_written(rt: HostRuntime) -> Result<(), Fail> {
-    let alloc = rt.alloc();
-    let mut types = ModuleTypes::new(alloc);
+    let mut types = ModuleTypes::new(rt.alloc());
     types.add(&[ValType::I64], &[])?;
-    let fields = CompositeType::Struct(StructType {
-        fields: Vec::new(alloc),
-    });
-    let base = types.add_composite(fields, false, None)?;
-    types.add(&[ValType::I32], &[])?;
-    let fields = CompositeType::Struct(StructType {
-        fields: Vec::new(alloc),
-    });
-    types.add_composite(fields, true, Some(base))?;
+    let base = types.add_composite(array(), false, None)?;
+    types.add_composite(array(), true, Some(base))?;
     let emitted = types.emit()?;
-    let Some(group) = emitted.groups.get(3) else {
-        return Err(Fail::from(IrError::Later));
-    };
-    let supertype = group.types.get(0).map(|ty| (ty.is_final, ty.supertype));
-    assert_eq!(rt; supertype, Some((true, Some(2))));
-    let open = emitted.groups.get(2).and_then(|group| group.types.get(0).map(|ty| ty.is_final));
-    assert_eq!(rt; open, Some(false));
+    assert_eq!(rt; head(emitted.groups.get(1)), Some((false, None)));
+    assert_eq!(rt; head(emitted.groups.get(2)), Some((true, Some(1))));
     Ok(())
+}
+
+fn array() -> CompositeType {
+    CompositeType::Array(ArrayType {
+        field: immutable(StorageType::I8),
+    })
+}
+
+// Whether the first type of the group is final, and its supertype.
+fn head(group: Option<&GroupRecord>) -> Option<(bool, Option<u32>)> {
+    match group {
+        Some(group) if !group.types.is_empty() => {
+            Some((group.types[0].is_final, group.types[0].supertype))
+        }
+        _ => None,
+    }
 }
 
 // Field types as they are ordered, one for each place.
@@ -244,42 +239,30 @@ fn fields_are_ordered(rt: HostRuntime) -> Result<(), Fail> {
 }
 
 #[test]
-fn forms_are_ordered(rt: HostRuntime) -> Result<(), Fail> {
-    let alloc = rt.alloc();
-    let (i32, i64) = (ValType::I32, ValType::I64);
-    let mut types = ModuleTypes::new(alloc);
-    types.add_array(immutable(StorageType::I8))?;
-    let fields = Vec::from_slice(alloc, &[immutable(StorageType::I8), immutable(StorageType::I8)])?;
-    types.add_struct(fields)?;
-    types.add_struct(Vec::from_slice(alloc, &[immutable(StorageType::I8)])?)?;
-    types.add(&[i64], &[])?;
-    types.add(&[i32, i32], &[])?;
-    types.add(&[i32], &[i64])?;
-    types.add(&[i32], &[i32])?;
-    types.add(&[i32], &[])?;
-    let open = FunctionType::new(Vec::from_slice(alloc, &[i32])?, Vec::new(alloc));
-    types.add_composite(CompositeType::Function(open), false, None)?;
-    types.add(&[], &[i64])?;
+fn functions_are_ordered(rt: HostRuntime) -> Result<(), Fail> {
+    let mut types = ModuleTypes::new(rt.alloc());
+    types.add(&[ValType::I64], &[])?;
+    types.add(&[ValType::I32, ValType::I32], &[])?;
+    types.add(&[ValType::I32], &[ValType::I64])?;
+    types.add(&[ValType::I32], &[])?;
+    types.add(&[], &[ValType::I64])?;
     let emitted = types.emit()?;
-    for k in 0..10 {
-        assert_eq!(rt; emitted.indices.get(id(k)), Some(9 - k as u32));
+    for k in 0..5 {
+        assert_eq!(rt; emitted.indices.get(id(k)), Some(4 - k as u32));
     }
     Ok(())
 }
 
 #[test]
-fn equal_types_stand_by_id(rt: HostRuntime) -> Result<(), Fail> {
-    let alloc = rt.alloc();
-    let mut types = ModuleTypes::new(alloc);
-    types.add(&[ValType::I32], &[])?;
+fn forms_are_ordered(rt: HostRuntime) -> Result<(), Fail> {
+    let mut types = ModuleTypes::new(rt.alloc());
+    types.add_composite(array(), true, None)?;
+    types.add_composite(array(), false, None)?;
+    types.add_struct(Vec::new(rt.alloc()))?;
     types.add(&[ValType::I64], &[])?;
-    types.add_struct(Vec::new(alloc))?;
-    assert!(rt; types.contains(id(1)));
-    let params = Vec::from_slice(alloc, &[ValType::I32])?;
-    *types.get_mut(id(1)).kind_mut() = CompositeType::Function(FunctionType::new(params, Vec::new(alloc)));
     let emitted = types.emit()?;
-    for k in 0..3 {
-        assert_eq!(rt; emitted.indices.get(id(k)), Some(k as u32));
+    for k in 0..4 {
+        assert_eq!(rt; emitted.indices.get(id(k)), Some(3 - k as u32));
     }
     Ok(())
 }
