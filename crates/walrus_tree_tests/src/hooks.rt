@@ -9,11 +9,11 @@ use std::process::Abort;
 use std::test::Fail;
 use walrus_arena::{InstrSeqId, TypeId};
 use walrus_instr::{Instr, InstrLocId, InstrSeq, InstrSeqType};
-use walrus_types::{RefType, ValType};
+use walrus_types::{HeapType, RefType, ValType};
 use walrus_walks::{Visit, VisitMut, check_nesting, dfs_in_order, dfs_pre_order_mut};
 
-fn told(rt: &impl Abort, alloc: Global, mut rows: Rows) {
-    while let Some((mut instr, words)) = rows.pop() {
+fn told(rt: &impl Abort, alloc: Global, rows: Rows) {
+    for (mut instr, words) in rows {
         let mut log = Log::new(alloc);
         instr.visit(&mut log);
         assert!(rt; !log.refused);
@@ -36,8 +36,8 @@ fn each_form_tells_of_what_it_names(rt: HostRuntime) -> Result<(), Fail> {
     Ok(())
 }
 
-fn add_all(instrs: &mut Vec<(Instr, InstrLocId)>, mut rows: Rows) -> Result<(), AllocError> {
-    while let Some((instr, _)) = rows.pop() {
+fn add_all(instrs: &mut Vec<(Instr, InstrLocId)>, rows: Rows) -> Result<(), AllocError> {
+    for (instr, _) in rows {
         instrs.push((instr, InstrLocId::default()))?;
     }
     Ok(())
@@ -49,7 +49,7 @@ fn body(alloc: Global) -> Result<Vec<InstrSeq>, AllocError> {
     let plain = InstrSeqType::Simple(None);
     let named = InstrSeqType::Simple(Some(ValType::Ref(RefType {
         nullable: false,
-        heap_type: walrus_types::HeapType::Exact(ty),
+        heap_type: HeapType::Exact(ty),
     })));
     let mut own = InstrSeq::new(alloc, InstrSeqId::from_index(0), plain);
     add_all(&mut own.instrs, structured_rows(alloc)?)?;

@@ -10,7 +10,7 @@ use walrus_arena::{
 use walrus_instr::{Instr, InstrLocId, InstrSeq, Value};
 
 /// The hooks of a walk that changes. Each changes the visitor, and what it is handed, by one step
-/// of its own. The three that could, leave what sequences are held, and in which order.
+/// of its own. Those that are handed instructions leave the sequences that these hold, in their order.
 ///
 /// A visitor that can fail keeps that in itself.
 pub trait VisitorMut {
