@@ -1,5 +1,6 @@
 //! Building of functions.
-ghost use Rattle.std.specs.Prelude.{◌≡◌, ◌<◌, [], ◌∷◌, ◌++◌, length, IfOk, OnErr, IfSome, None, string_bytes};
+ghost use Rattle.std.specs.Prelude.{◌≡◌, ◌<◌, [], ◌∷◌, ◌++◌, length, IfOk, OnOk, OnErr, Some, None, string_bytes};
+ghost use Rattle.std.specs.Option.{option_map};
 ghost use Rattle.std.specs.Borrow.{sem};
 ghost use Rattle.walrus_builder.specs.Built.{contents, empty_seq};
 ghost use Rattle.walrus_builder.specs.Functions.{lends_builder, seqs_of, IsOf, IsNew, MayLeave};
@@ -72,7 +73,7 @@ impl FunctionBuilder {
     ///
     /// Want of memory. It stays as it was.
     pub fn name(&mut self, name: &str) -> Result<(), AllocError>
-        ensures named { IfOk result (λ _. IfSome self.new.name (λ text. string_bytes text ≡ name.now)) }
+        ensures named { OnOk result (option_map string_bytes self.new.name ≡ Some name.now) }
         ensures ty { self.new.ty ≡ self.old.ty }
         ensures seqs { seqs_of self.new ≡ seqs_of self.old }
         ensures refused { OnErr result (self.new.name ≡ self.old.name) }

@@ -1,5 +1,5 @@
 -- The operators of a constant expression (Core Specification, constant expressions).
-use Rattle.std.specs.Prelude.{List, [], ◌∷◌}
+use Rattle.std.specs.Prelude.{List, [], ◌∷◌, Option, Some, None}
 use Rattle.walrus_instr.specs.declared.instr.Value.{Value as Constant}
 use Rattle.walrus_instr.specs.declared.instr.Value.TheVariants.{I32, I64, F32, F64, V128}
 use Rattle.walrus_instr.specs.declared.const_expr.ConstOp.{ConstOp}
@@ -22,3 +22,20 @@ ops_of (Global global) = GlobalGet global ∷ []
 ops_of (RefNull ty) = RefNullOp ty ∷ []
 ops_of (RefFunc func) = RefFuncOp func ∷ []
 ops_of (Extended ops) = ops.items
+
+-- the short form of an expression of this operator alone, where it has one
+abbrev pub short_form : ConstOp → Option ConstExpr
+short_form (I32Const n) = Some («Value» (I32 n))
+short_form (I64Const n) = Some («Value» (I64 n))
+short_form (F32Const bits) = Some («Value» (F32 bits))
+short_form (F64Const bits) = Some («Value» (F64 bits))
+short_form (V128Const bits) = Some («Value» (V128 bits))
+short_form (GlobalGet global) = Some (Global global)
+short_form (RefNullOp ty) = Some (RefNull ty)
+short_form (RefFuncOp func) = Some (RefFunc func)
+short_form _ = None
+
+-- the short form of an expression of these operators
+abbrev pub short_of : List ConstOp → Option ConstExpr
+short_of (op ∷ []) = short_form op
+short_of _ = None

@@ -1,6 +1,8 @@
 //! Constant expressions (Core Specification, constant expressions).
 ghost use Rattle.std.specs.Prelude.{◌≡◌, [], ◌∷◌, ◌++◌, IfOk, IfSome, MatchResult};
-ghost use Rattle.walrus_instr.specs.Constants.{const_of, ops_of};
+ghost use Rattle.std.specs.Option.{unwrap_or};
+ghost use Rattle.walrus_instr.specs.Constants.{const_of, ops_of, short_form, short_of};
+ghost use Rattle.walrus_instr.specs.declared.const_expr.ConstExpr.TheVariants.{Extended};
 ghost use Rattle.walrus_instr.specs.Copies.{IsExprCopy};
 
 use crate::instr::Value;
@@ -69,7 +71,8 @@ impl From<Value> for ConstOp {
 impl ConstOp {
     // The operator as an expression of its own, where it has a short form.
     fn as_expr(self) -> Option<ConstExpr>
-        ensures { IfSome result (λ expr. ops_of expr ≡ self ∷ []) }
+        ensures short { result ≡ short_form self }
+        ensures ops { IfSome result (λ expr. ops_of expr ≡ self ∷ []) }
     {
         match self {
             ConstOp::I32Const(n) => Some(ConstExpr::Value(Value::I32(n))),
@@ -86,16 +89,26 @@ impl ConstOp {
 }
 
 impl ConstExpr {
+    // The short form of an expression of these operators, where it has one.
+    fn short(ops: &[ConstOp]) -> Option<ConstExpr>
+        ensures short { result ≡ short_of ops.now }
+        ensures ops { IfSome result (λ expr. ops_of expr ≡ ops.now) }
+    {
+        match ops {
+            [op] => op.as_expr(),
+            _ => None,
+        }
+    }
+
     /// The expression of these operators: in its short form, where a single operator has one.
     pub fn from_ops(ops: Vec<ConstOp>) -> Self
-        ensures { ops_of result ≡ ops.items }
+        ensures ops { ops_of result ≡ ops.items }
+        ensures short { result ≡ unwrap_or (short_of ops.items) (Extended ops) }
     {
-        if let [op] = ops.as_slice() {
-            if let Some(expr) = op.as_expr() {
-                return expr;
-            }
+        match ConstExpr::short(ops.as_slice()) {
+            Some(expr) => expr,
+            None => ConstExpr::Extended(ops),
         }
-        ConstExpr::Extended(ops)
     }
 
     /// Appends the operators to a list.
