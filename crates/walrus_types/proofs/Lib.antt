@@ -8,3 +8,4 @@ pub mod OrderLemmas
 pub mod ParseLemmas
 pub mod SameLemmas
 pub mod TableLemmas
+pub mod SameOnce

@@ -34,7 +34,7 @@ at-right xs ys n i j sized is =
 at-range : (xs : List ℕ) (n a c i j : ℕ) → length xs ≡ n → i < c → n + i ≡ j → at (xs ++ range_with_len a c) j ≡ a + i
 at-range xs n a c i j sized less is = at-right xs (range_with_len a c) n i j sized is ∙ get_or-range_with_len a c i 0 less
 
-get-left : {X : Type 0} (xs ys : List X) (i : ℕ) → i < length xs → slice_get (xs ++ ys) i ≡ slice_get xs i
+pub get-left : {X : Type 0} (xs ys : List X) (i : ℕ) → i < length xs → slice_get (xs ++ ys) i ≡ slice_get xs i
 get-left [] ys i less = absurd (omega arith)
 get-left (x ∷ xs) ys zero less = refl
 get-left (x ∷ xs) ys (suc i) less = get-left xs ys i (omega arith)
@@ -133,7 +133,7 @@ option-from f None y is = absurd cc
 option-from f (Some x) y is = let e : y ≡ f x = cc in (x, refl, e)
 
 -- a type of the longer list is one of the first, or a new one
-get-split : (entries : List Entry) (b : Bool) (ks : List Kind) (i : ℕ) (e : Entry)
+pub get-split : (entries : List Entry) (b : Bool) (ks : List Kind) (i : ℕ) (e : Entry)
     → slice_get (entries ++ map (λ (kind : Kind). let x : Entry = record { single = b; kind = kind } in x) ks) i ≡ Some e
     → ((i < length entries) × (slice_get entries i ≡ Some e))
     ⊎ ((k : ℕ) × (kind : Kind) × (k < length ks) × (length entries + k ≡ i) × (slice_get ks k ≡ Some kind) × (e ≡ record { single = b; kind = kind }))
@@ -150,7 +150,7 @@ get-split entries b ks i e get =
     ]
 
 -- the kind of a new type
-kind-at : (P : Kind → Type 0) (ks : List Kind) (k : ℕ) (kind : Kind) → slice_get ks k ≡ Some kind → All P ks → P kind
+pub kind-at : (P : Kind → Type 0) (ks : List Kind) (k : ℕ) (kind : Kind) → slice_get ks k ≡ Some kind → All P ks → P kind
 kind-at P ks k kind get all = subst P (get_or_from_slice_get ks k kind kind get) (all k kind (slice_get_within ks k kind get))
 
 -- new types that stand for themselves

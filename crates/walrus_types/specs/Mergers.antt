@@ -58,3 +58,8 @@ pub record CarriesSame (entries : List Entry) (p : Parsed) : Type 0 where
 abbrev pub ParsingCarriesSame : Type 0
 ParsingCarriesSame = (groups : List TypeGroup) → AreBelow 0 groups
     → CarriesSame (entries_of groups) (parsed groups (unparsed (record { types = []; groups = [] })))
+
+-- what stands for what is determined: two lists that say it agree
+abbrev pub SameIsOne : Type 0
+SameIsOne = (groups : List TypeGroup) → AreBelow 0 groups → (same other : List ℕ) → IsSame (entries_of groups) same → IsSame (entries_of groups) other
+    → (i : ℕ) → i < length (entries_of groups) → at same i ≡ at other i

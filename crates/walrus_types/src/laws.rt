@@ -2,7 +2,7 @@
 ghost use Rattle.std.specs.Prelude.{◌≡◌, ℕ, Bool};
 ghost use Rattle.walrus_types.specs.Items.{Item, kind_of};
 ghost use Rattle.walrus_types.specs.TypeLaws.{FindsLatest};
-ghost use Rattle.walrus_types.specs.Mergers.{ParsingCarriesSame};
+ghost use Rattle.walrus_types.specs.Mergers.{ParsingCarriesSame, SameIsOne};
 ghost use Rattle.walrus_forms.specs.Same.{same_kind};
 ghost use Rattle.walrus_forms.specs.Order.{kind_cmp};
 ghost use Rattle.walrus_types.specs.contracts.subtype.TypeOrd.TheImpl.{ghosts as type_ord};
@@ -38,4 +38,9 @@ pub fn types_are_ordered_by_kind(a: &Type, b: &Type)
 /// exactly where they stand for one type.
 pub fn parsing_carries_same()
     ensures { ParsingCarriesSame }
+{}
+
+/// What stands for what is determined by the section.
+pub fn same_is_one()
+    ensures { SameIsOne }
 {}
