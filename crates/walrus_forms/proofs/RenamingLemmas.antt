@@ -1,5 +1,5 @@
 -- Renamed kinds, and the names that they have.
-use Rattle.std.proofs.Common.{◌≡◌, ◌∙◌, ℕ, zero, suc, ◌+◌, ◌<◌, ◌==◌, ◌||◌, ◌⊎◌, inl, inr, Bool, true, false, All, List, [], ◌∷◌, ◌++◌, length, map, Option, Some, None, IfSome, refl, sym, ap, arith, subst}
+use Rattle.std.proofs.Common.{◌≡◌, ◌∙◌, ℕ, suc, ◌<◌, ◌==◌, ◌||◌, ◌⊎◌, inl, inr, Bool, true, All, List, [], ◌∷◌, ◌++◌, map, Option, Some, None, IfSome, refl, sym, ap, arith, subst}
 use Rattle.std.specs.List.{filter_map, cons_option, list_any}
 use Rattle.std.specs.Option.{option_map, option_to_list}
 use Rattle.std.proofs.lemmas.Bool.{eqb-true, eq-eqb, cases_Bool}
@@ -15,7 +15,7 @@ use Rattle.walrus_forms.specs.declared.value.FieldType.{FieldType}
 use Rattle.walrus_forms.specs.Values.{unpacked, heap_name, value_name, field_name}
 use Rattle.walrus_forms.specs.Forms.{Form, FunctionForm, StructForm, ArrayForm, form_names}
 use Rattle.walrus_forms.specs.Kinds.{Kind, kind_names}
-use Rattle.walrus_forms.specs.Renaming.{renamed_heap, renamed_ref, renamed_value, renamed_storage, renamed_field, renamed_form, renamed_kind, ValueBelow, FieldBelow, FormBelow, KindBelow}
+use Rattle.walrus_forms.specs.Renaming.{renamed_heap, renamed_value, renamed_storage, renamed_field, renamed_form, renamed_kind, FormBelow, KindBelow}
 
 -- a number is one of the list
 abbrev pub In : ℕ → List ℕ → Type 0
