@@ -1,5 +1,5 @@
 -- Value types and fields compare by their places.
-use Rattle.std.proofs.Common.{◌≡◌, refl, ap, ◌∙◌, Ordering}
+use Rattle.std.proofs.Common.{◌≡◌, refl, ap, Ordering}
 use Rattle.std.specs.declared.cmp.Ordering.TheVariants.{Less, Equal, Greater}
 use Rattle.std.specs.Ordering.{ordering_then, bool_cmp, nat_cmp}
 use Rattle.walrus_forms.specs.declared.value.AbstractHeapType.{AbstractHeapType}

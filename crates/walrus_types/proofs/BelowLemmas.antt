@@ -4,7 +4,6 @@ use Rattle.std.specs.Prelude.{nat_lt, is_some, IfSome, if◌then◌else◌}
 use Rattle.std.specs.List.{filter_map, cons_option}
 use Rattle.std.specs.Option.{option_map, option_map_or, option_or, option_to_list}
 use Rattle.std.proofs.Math.ListN.{length-map}
-use Rattle.std.proofs.lemmas.Bool.{false≢true}
 use Rattle.std.proofs.lemmas.Bool.Decides.{nat_tests}
 use Rattle.std.proofs.lemmas.List.Elements.{All-nil, All-cons}
 use Rattle.std.proofs.lemmas.Option.{none-some}
@@ -18,7 +17,6 @@ use Rattle.walrus_forms.specs.declared.value.FieldType.{FieldType}
 use Rattle.walrus_forms.specs.Values.{unpacked, heap_name, value_name, field_name}
 use Rattle.walrus_forms.specs.Forms.{Form, FunctionForm, StructForm, ArrayForm, form_names}
 use Rattle.walrus_forms.specs.Kinds.{Kind, kind_names}
-use Rattle.walrus_forms.specs.Records.{TypeGroup}
 use Rattle.walrus_forms.specs.Renaming.{HeapBelow, ValueBelow, FieldBelow, FormBelow, KindBelow, renamed_heap, renamed_value, renamed_field, renamed_storage, renamed_form, renamed_kind}
 use Rattle.walrus_types.specs.declared.error.IrError.{IrError}
 use Rattle.walrus_types.specs.declared.error.IrError.TheVariants.{Dead, EntryOnly, Later}

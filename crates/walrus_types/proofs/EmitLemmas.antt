@@ -1,5 +1,5 @@
 -- The order and the indices of the types that are written.
-use Rattle.std.proofs.Common.{◌≡◌, ◌≢◌, ℕ, ◌+◌, ◌<◌, ◌≤◌, ◌⊎◌, zero, suc, Bor, Bool, true, false, Ordering, List, [], ◌∷◌, ◌++◌, length, get_or, map, take, drop, filter, flat_map, All, Contains, IsPermutation, Option, Some, None, IsSome, option_copied, refl, sym, ap, subst, ◌∙◌, inl, inr, arith}
+use Rattle.std.proofs.Common.{◌≡◌, ℕ, ◌+◌, ◌<◌, ◌≤◌, ◌⊎◌, zero, suc, Bor, Bool, true, false, Ordering, List, [], ◌∷◌, ◌++◌, length, get_or, map, take, drop, flat_map, All, Option, Some, None, IsSome, option_copied, refl, sym, ap, subst, ◌∙◌, inl, inr, arith}
 use Rattle.walrus_types.specs.declared.error.IrError.TheVariants.{Memory, WrongCount, Dead, EntryOnly, Later}
 use Rattle.std.specs.Prelude.{nat_lt, is_some, slice_get, slice_index_or, slice_set}
 use Rattle.std.specs.List.{range_with_len}

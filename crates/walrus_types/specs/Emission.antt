@@ -1,7 +1,7 @@
 -- How a table is written: its groups in order, and the index of each type that is written.
-use Rattle.std.specs.Prelude.{◌≡◌, ℕ, ◌+◌, ◌<◌, ◌==◌, ⊤, Bool, true, false, not, List, [], ◌∷◌, length, map, filter, flat_map, Contains, Option, Some, None, IsSome, is_some, unwrap_or, slice_get, slice_index_or, if◌then◌else◌, nat_lt}
+use Rattle.std.specs.Prelude.{◌≡◌, ℕ, ◌+◌, ⊤, Bool, false, List, [], ◌∷◌, length, map, filter, flat_map, Contains, Option, Some, None, IsSome, is_some, unwrap_or, slice_get, slice_index_or, if◌then◌else◌, nat_lt}
 use Rattle.std.specs.List.{list_any, filter_map}
-use Rattle.std.specs.Option.{option_map, option_map_or, option_or, option_and_then, option_to_list}
+use Rattle.std.specs.Option.{option_map_or, option_or, option_and_then}
 use Rattle.walrus_arena.specs.Arena.{entries_from}
 use Rattle.walrus_type_order.specs.Order.{IsEmissionOrder}
 use Rattle.walrus_types.specs.declared.error.IrError.{IrError}

@@ -1,8 +1,5 @@
-use Rattle.std.proofs.Common.{◌≡◌, ◌≤◌, ◌<◌, ◌+◌, [], Bor, map, take, length, arith}
-use Rattle.walrus_types.specs.declared.subtype.RecGroup.{RecGroup}
-use Rattle.walrus_types.specs.Items.{group_of}
+use Rattle.std.proofs.Common.{[], arith}
 use Rattle.walrus_types.specs.Table.{table_of}
-use Rattle.walrus_types.specs.Emission.{written_in, written_types}
 use Rattle.walrus_types.proofs.EmitLemmas.{count-fits}
 use Rattle.walrus_types.proofs.emit.groups_fault.Goals as goal
 

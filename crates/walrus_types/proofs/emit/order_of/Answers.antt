@@ -1,4 +1,4 @@
-use Rattle.std.proofs.Common.{◌∙◌, ap, subst, List, Option, Bor, map, option_copied}
+use Rattle.std.proofs.Common.{subst, List, Option, Bor, map, option_copied}
 use Rattle.std.proofs.lemmas.Result.{IfOk-weaker}
 use Rattle.walrus_type_order.specs.Order.{IsEmissionOrder}
 use Rattle.walrus_types.specs.declared.subtype.Type.{«Type» as TypeItem}

@@ -1,4 +1,4 @@
-use Rattle.std.proofs.Common.{◌≡◌, ◌∙◌, List, Bor, map, sym, ap, subst}
+use Rattle.std.proofs.Common.{◌∙◌, List, Bor, map, sym, subst}
 use Rattle.walrus_forms.specs.Records.{TypeGroup, type_group}
 use Rattle.walrus_types.specs.declared.subtype.RecGroup.{RecGroup}
 use Rattle.walrus_types.specs.Items.{group_of}
