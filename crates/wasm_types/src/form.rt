@@ -1,6 +1,6 @@
 //! Composite types (Core Specification, types: composite types).
 
-ghost use Rattle.std.specs.Prelude.{◌≡◌, ℕ, List, IfOk, IsTrue, Ok, Some, option_copied};
+ghost use Rattle.std.specs.Prelude.{◌≡◌, IfOk, IsTrue, Some};
 ghost use Rattle.std.specs.Iterator.{IsFinite, Drains};
 ghost use Rattle.wasm_types.specs.Forms.{function_of, array_of, struct_of, continuation_of, is_function, is_array, is_struct, is_continuation};
 

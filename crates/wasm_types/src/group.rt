@@ -1,6 +1,6 @@
 //! Recursion groups (Core Specification, types: recursive types).
 
-ghost use Rattle.std.specs.Prelude.{◌≡◌, IfOk, IsOk, zip, length, [], ◌∷◌, true, false, List, take, ◌++◌};
+ghost use Rattle.std.specs.Prelude.{◌≡◌, IfOk, zip, length, [], ◌∷◌, true, false, List};
 ghost use Rattle.std.specs.Cmp.{on_equiv, on_total, on_po, on_per};
 ghost use Rattle.std.specs.Cmp.Lexicographic.{pointwise, slice_cmp, slice_partial_cmp, lists_per, lists_equiv, lists_po, lists_total, lists_agrees, lists_ties};
 ghost use Rattle.std.specs.Hash as fed;
@@ -8,7 +8,7 @@ ghost use Rattle.std.specs.Hash.{on_Alike, items_Alike};
 ghost use Rattle.std.specs.Fn.{CalledAtMut};
 ghost use Rattle.wasm_types.specs.Remap.{VisitsGroup};
 ghost use Rattle.wasm_types.specs.Members.{group_of};
-ghost use Rattle.std.specs.Iterator.{YieldsFirst, YieldsFirstBy, item_count};
+ghost use Rattle.std.specs.Iterator.{YieldsFirstBy, item_count};
 
 use crate::into_types::{IntoTypes, IntoTypesAndOffsets};
 use crate::remap::{remap_sub, remap_types};
@@ -119,7 +119,7 @@ impl RecGroup {
     }
 
     /// Calls `map` at each index that the types name, in the order of their bytes, a type's supertype first. Each is replaced
-    /// by what its call leaves, up to the first call that refuses; nothing else changes.
+    /// by what its call leaves, up to the first call that refuses; nothing else changes. Asks that `map` may always be called.
     ///
     /// # Errors
     ///

@@ -1,6 +1,6 @@
 //! Laws: functions with nothing to do, whose contracts hold of all types and bytes.
 
-ghost use Rattle.std.specs.Prelude.{◌≡◌, ◌↔◌, ◌≤◌, ◌+◌, List, ℕ, true, length};
+ghost use Rattle.std.specs.Prelude.{◌≡◌, ◌↔◌, true};
 ghost use Rattle.wasm_features.specs.declared.WasmFeatures.{WasmFeatures};
 ghost use Rattle.wasm_reader.specs.Laws.{IsFinal, EndsEarly, TakesSpelled, IsPrefixFree};
 ghost use Rattle.wasm_ref_types.specs.TypeSpellings.{ReadsWritten};

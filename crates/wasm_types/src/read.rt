@@ -1,14 +1,13 @@
 //! Types, read from the binary format (Core Specification, binary format, types).
 
-ghost use Rattle.std.specs.Prelude.{◌≡◌, ◌-◌, ◌≤◌, Bool, ℕ, List, true, false, IfOk, IfErr, map, length, All};
-ghost use Rattle.wasm_features.specs.Features.{GcTypes, SharedEverythingThreads, enables, constant, features_of};
+ghost use Rattle.std.specs.Prelude.{◌≡◌, ◌-◌, ◌≤◌, true, false, IfOk, IfErr, map, length, All};
+ghost use Rattle.wasm_features.specs.Features.{GcTypes, enables, constant, features_of};
 ghost use Rattle.wasm_reader.specs.declared.error.ErrorKind.TheVariants.{Feature};
-ghost use Rattle.wasm_reader.specs.Cursor.{Cursor, rest, end_of};
+ghost use Rattle.wasm_reader.specs.Cursor.{end_of};
 ghost use Rattle.wasm_reader.specs.Reading.{Reads, plain};
 ghost use Rattle.wasm_reader.specs.Items.{ReadsUnlessMemory, items_at, vec_at};
 ghost use Rattle.wasm_types.specs.Placed.{placed_sub_at, placed_member, placed_members, placed_after, placed_at, placed};
-ghost use Rattle.wasm_types.specs.Readings.{mutable_at, form_after, form_at, composite_after, index_at, supertype_at, declared_at, sub_after, group_after};
-ghost use Rattle.wasm_ref_types.specs.ReadTypes.{value_at};
+ghost use Rattle.wasm_types.specs.Readings.{mutable_at, form_after, form_at, composite_after, index_at, supertype_at, declared_at, sub_after};
 
 use crate::field::{FieldType, StorageType};
 use crate::form::{ArrayType, CompositeInnerType, CompositeType, FuncType, StructType};

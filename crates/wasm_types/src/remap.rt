@@ -1,8 +1,8 @@
 //! Changing the indices that types name.
 
-ghost use Rattle.std.specs.Prelude.{◌≡◌, ◌<◌, MatchResult, Ok, Err, length, slice_index_or};
+ghost use Rattle.std.specs.Prelude.{MatchResult, Ok, Err};
 ghost use Rattle.std.specs.Fn.{CalledAtMut};
-ghost use Rattle.wasm_types.specs.Remap.{VisitsIndex, VisitsReference, VisitsValue, VisitsStorage, VisitsField, VisitsEach, VisitsFunc, VisitsForm, VisitsSupertype, VisitsSub, VisitsGroup};
+ghost use Rattle.wasm_types.specs.Remap.{VisitsIndex, VisitsReference, VisitsValue, VisitsField, VisitsEach, VisitsFunc, VisitsForm, VisitsSupertype, VisitsSub};
 
 use crate::field::{FieldType, StorageType};
 use crate::form::{ArrayType, CompositeInnerType, ContType, FuncType, StructType};

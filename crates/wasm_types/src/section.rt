@@ -5,7 +5,7 @@ ghost use Rattle.std.specs.Iterator.{at_most};
 ghost use Rattle.wasm_reader.specs.Cursor.{rest, end_of};
 ghost use Rattle.wasm_reader.specs.Reading.{Reads, plain, fault};
 ghost use Rattle.wasm_reader.specs.Numbers.{unsigned_at};
-ghost use Rattle.wasm_types.specs.Section.{GivesGroup, ending, gc_fault, GivesFunction, most_left, function_or, plain_function, offset_of};
+ghost use Rattle.wasm_types.specs.Section.{GivesGroup, ending, gc_fault, GivesFunction, most_left, function_or, plain_function};
 
 use crate::form::{CompositeInnerType, FuncType};
 use crate::group::RecGroup;

@@ -1,6 +1,6 @@
 //! Subtypes (Core Specification, types: recursive types).
 
-ghost use Rattle.std.specs.Prelude.{◌≡◌, true, IfOk, IsTrue, IsOk, Some, None, option_copied};
+ghost use Rattle.std.specs.Prelude.{◌≡◌, true, IfOk, IsTrue, Some, None};
 ghost use Rattle.wasm_types.specs.Forms.{function_of, array_of, struct_of, continuation_of, is_function, is_array, is_struct, is_continuation};
 ghost use Rattle.wasm_types.specs.Plain.{plain_function_of};
 ghost use Rattle.wasm_types.specs.declared.form.CompositeInnerType.TheVariants.{Func};

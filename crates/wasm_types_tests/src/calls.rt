@@ -2,10 +2,10 @@
 
 use std::test::Fail;
 use wasm_reader::BinaryReader;
-use wasm_ref_types::{HeapType, PackedIndex, RefType, UnpackedIndex, ValType};
+use wasm_ref_types::{PackedIndex, RefType, ValType};
 use wasm_types::{
-    CompositeType, FuncType, GlobalType, MemoryType, RecGroup, StructType, SubType, TableType,
-    TagKind, TagType, TypeList, laws,
+    CompositeInnerType, CompositeType, FuncType, GlobalType, MemoryType, RecGroup, StructType,
+    SubType, TableType, TagKind, TagType, TypeList, laws,
 };
 
 #[test]
@@ -41,10 +41,14 @@ fn lists(rt: HostRuntime) -> Result<(), Fail> {
 
 #[test]
 fn structures_are_copied(rt: HostRuntime) -> Result<(), Fail> {
-    let bytes = [0x5f, 0x01, 0x78, 0x01];
-    let ty: CompositeType = BinaryReader::new(&bytes, 0).read(rt.alloc())?;
-    let fields: StructType = ty.unwrap_struct().clone()?;
-    assert!(rt; fields == *ty.unwrap_struct());
+    let fields: StructType = BinaryReader::new(&[0x01, 0x78, 0x01], 0).read(rt.alloc())?;
+    let copy = fields.clone()?;
+    assert!(rt; copy == fields);
+    let ty = CompositeType {
+        inner: CompositeInnerType::Struct(copy),
+        shared: false,
+    };
+    assert!(rt; *ty.unwrap_struct() == fields);
     Ok(())
 }
 
@@ -94,17 +98,20 @@ fn globals_and_tags(rt: HostRuntime) -> Result<(), Fail> {
 }
 
 // A group of a function type of one parameter and a structure below type 1, each of which names type 1.
-const NAMING: [u8; 14] = [
-    0x4e, 0x02, 0x60, 0x01, 0x63, 0x01, 0x00, 0x50, 0x01, 0x01, 0x5f, 0x01, 0x64, 0x01,
+const NAMING: [u8; 15] = [
+    0x4e, 0x02, 0x60, 0x01, 0x63, 0x01, 0x00, 0x50, 0x01, 0x01, 0x5f, 0x01, 0x64, 0x01, 0x00,
 ];
+
+fn first_param(ty: &SubType) -> Option<ValType> {
+    match &ty.composite_type.inner {
+        CompositeInnerType::Func(ty) => ty.params().first().copied(),
+        _ => None,
+    }
+}
 
 #[test]
 fn indices_are_changed_in_their_order(rt: HostRuntime) -> Result<(), Fail> {
-    let mut bytes = vec![in rt.alloc(); 0x01]?;
-    bytes.clear();
-    bytes.extend_from_slice(&NAMING)?;
-    bytes.push(0x00)?;
-    let mut group: RecGroup = BinaryReader::new(bytes.as_slice(), 0).read(rt.alloc())?;
+    let mut group: RecGroup = BinaryReader::new(&NAMING, 0).read(rt.alloc())?;
     let mut next = 10u32;
     let mut number = |index: &mut PackedIndex| -> Result<(), u32> {
         let Some(new) = PackedIndex::from_module_index(next) else {
@@ -116,12 +123,9 @@ fn indices_are_changed_in_their_order(rt: HostRuntime) -> Result<(), Fail> {
     };
     assert!(rt; group.remap_indices(&mut number).is_ok());
     let mut types = group.into_types();
+    let ten = PackedIndex::from_module_index(10).map(|index| RefType::concrete(true, index));
     if let Some(ty) = types.next() {
-        let ValType::Ref(param) = ty.unwrap_func().params()[0] else {
-            return Ok(());
-        };
-        assert!(rt; param.heap_type() == HeapType::Concrete(UnpackedIndex::Module(10)));
-        assert!(rt; param.is_nullable());
+        assert!(rt; first_param(&ty) == ten.map(ValType::Ref));
     }
     if let Some(ty) = types.next() {
         assert!(rt; ty.supertype_idx == PackedIndex::from_module_index(11));

@@ -5,7 +5,8 @@ use std::test::Fail;
 use wasm_reader::{BinaryReader, FromReader, Result};
 use wasm_ref_types::{PackedIndex, RefType, ValType};
 use wasm_types::{
-    ArrayType, CompositeType, FieldType, FuncType, RecGroup, StorageType, StructType, SubType,
+    ArrayType, CompositeInnerType, CompositeType, FieldType, FuncType, RecGroup, StorageType,
+    StructType, SubType,
 };
 
 // The first byte of each text stands at 11, as that of the first type of a module. All features are on.
@@ -76,6 +77,22 @@ fn composite_types(rt: HostRuntime) -> std::result::Result<(), Fail> {
     Ok(())
 }
 
+// A function type without parameters and results, or a structure without fields.
+fn is_empty(ty: &SubType) -> bool {
+    match &ty.composite_type.inner {
+        CompositeInnerType::Func(ty) => ty.params().is_empty() && ty.results().is_empty(),
+        CompositeInnerType::Struct(ty) => ty.fields.as_slice().is_empty(),
+        _ => false,
+    }
+}
+
+fn element(ty: &SubType) -> Option<StorageType> {
+    match &ty.composite_type.inner {
+        CompositeInnerType::Array(ty) => Some(ty.0.element_type),
+        _ => None,
+    }
+}
+
 #[test]
 fn subtypes(rt: HostRuntime) -> std::result::Result<(), Fail> {
     let bare: SubType = read(rt.alloc(), &[0x60, 0x00, 0x00])?;
@@ -84,20 +101,19 @@ fn subtypes(rt: HostRuntime) -> std::result::Result<(), Fail> {
     let open: SubType = read(rt.alloc(), &[0x50, 0x00, 0x60, 0x00, 0x00])?;
     assert!(rt; !open.is_final);
     assert!(rt; open.supertype_idx.is_none());
-    assert!(rt; open.unwrap_func().params().is_empty());
+    assert!(rt; is_empty(&open));
     let closed: SubType = read(rt.alloc(), &[0x4f, 0x01, 0x07, 0x5f, 0x00])?;
     assert!(rt; closed.is_final);
     assert!(rt; closed.supertype_idx == PackedIndex::from_module_index(7));
-    assert!(rt; closed.unwrap_struct().fields.as_slice().is_empty());
+    assert!(rt; is_empty(&closed));
     let written: SubType = read(rt.alloc(), &[0x4f, 0x00, 0x60, 0x00, 0x00])?;
     assert!(rt; written == bare);
     let array: SubType = read(rt.alloc(), &[0x5e, 0x64, 0x05, 0x01])?;
-    let element = array.unwrap_array().0;
     let Some(index) = PackedIndex::from_module_index(5) else {
         return Ok(());
     };
     let expected = StorageType::Val(ValType::Ref(RefType::concrete(false, index)));
-    assert!(rt; element.element_type == expected);
+    assert!(rt; element(&array) == Some(expected));
     Ok(())
 }
 
