@@ -1,6 +1,6 @@
 //! Recursion groups (Core Specification, types: recursive types).
 
-ghost use Rattle.std.specs.Prelude.{◌≡◌, IfOk, zip, length, [], ◌∷◌, true, false, List};
+ghost use Rattle.std.specs.Prelude.{◌≡◌, IfOk, IfSome, Some, zip, length, [], ◌∷◌, true, false, List};
 ghost use Rattle.std.specs.Cmp.{on_equiv, on_total, on_po, on_per};
 ghost use Rattle.std.specs.Cmp.Lexicographic.{pointwise, slice_cmp, slice_partial_cmp, lists_per, lists_equiv, lists_po, lists_total, lists_agrees, lists_ties};
 ghost use Rattle.std.specs.Hash as fed;
@@ -8,7 +8,8 @@ ghost use Rattle.std.specs.Hash.{on_Alike, items_Alike};
 ghost use Rattle.std.specs.Fn.{CalledAtMut};
 ghost use Rattle.wasm_types.specs.Remap.{VisitsGroup};
 ghost use Rattle.wasm_types.specs.Members.{group_of};
-ghost use Rattle.std.specs.Iterator.{YieldsFirstBy, item_count};
+ghost use Rattle.std.specs.Iterator.{UpTo, YieldsFirstBy, at_most, item_count};
+ghost use Rattle.std.specs.Iterator.SizeHint.{IsWithinCount};
 
 use crate::into_types::{IntoTypes, IntoTypesAndOffsets};
 use crate::remap::{remap_sub, remap_types};
@@ -268,7 +269,11 @@ impl<'a> Iterator for Types<'a> {
         Some(first)
     }
 
-    fn size_hint(&self) -> (usize, Option<usize>) {
+    fn size_hint(&self) -> (usize, Option<usize>)
+        ensures lower { IsWithinCount result.0 (at_most (length self.now)) }
+        ensures upper { IfSome result.1 (UpTo (at_most (length self.now))) }
+        ensures exact { result ≡ (length self.now, Some (length self.now)) }
+    {
         let len = self.types.len();
         (len, Some(len))
     }

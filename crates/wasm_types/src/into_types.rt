@@ -1,7 +1,8 @@
 //! Iterators that hand out the types of a recursion group.
 
-ghost use Rattle.std.specs.Prelude.{◌≡◌, length, zip, map};
-ghost use Rattle.std.specs.Iterator.{YieldsFirst, item_count};
+ghost use Rattle.std.specs.Prelude.{◌≡◌, IfSome, Some, length, zip, map};
+ghost use Rattle.std.specs.Iterator.{UpTo, YieldsFirst, at_most, item_count};
+ghost use Rattle.std.specs.Iterator.SizeHint.{IsWithinCount};
 
 use crate::subtype::SubType;
 use std::alloc::Global;
@@ -78,7 +79,11 @@ impl Iterator for IntoTypesAndOffsets {
         }
     }
 
-    fn size_hint(&self) -> (usize, Option<usize>) {
+    fn size_hint(&self) -> (usize, Option<usize>)
+        ensures lower { IsWithinCount result.0 (at_most (length self.now)) }
+        ensures upper { IfSome result.1 (UpTo (at_most (length self.now))) }
+        ensures exact { result ≡ (length self.now, Some (length self.now)) }
+    {
         let len = self.len();
         (len, Some(len))
     }
@@ -129,7 +134,11 @@ impl Iterator for IntoTypes {
         Some(ty)
     }
 
-    fn size_hint(&self) -> (usize, Option<usize>) {
+    fn size_hint(&self) -> (usize, Option<usize>)
+        ensures lower { IsWithinCount result.0 (at_most (length self.now)) }
+        ensures upper { IfSome result.1 (UpTo (at_most (length self.now))) }
+        ensures exact { result ≡ (length self.now, Some (length self.now)) }
+    {
         let len = self.len();
         (len, Some(len))
     }
