@@ -1,66 +1,11 @@
 //! The walk that changes.
-ghost use Rattle.std.specs.Prelude.{⊤};
-
 use crate::log::Log;
+use crate::renamer::Renamer;
 use std::alloc::{AllocError, Global};
 use std::test::Fail;
-use walrus_arena::{
-    DataId, ElementId, FunctionId, GlobalId, InstrSeqId, LocalId, MemoryId, TableId, TagId, TypeId,
-};
+use walrus_arena::{FunctionId, InstrSeqId, LocalId, MemoryId, TagId};
 use walrus_instr::{Instr, InstrLocId, InstrSeq, InstrSeqType, LegacyCatch, Value};
-use walrus_walks::{VisitorMut, check_nesting, dfs_pre_order_mut};
-
-// Moves functions and locals to later numbers, adds one to each constant, and puts `unreachable`
-// in place of `drop`.
-#[derive(Clone, Copy)]
-struct Renamer {
-    functions: usize,
-    locals: usize,
-}
-
-impl VisitorMut for Renamer {
-    ghost step = { λ _ _ _ _. ⊤ };
-
-    fn start_instr_seq_mut(&mut self, _seq: &mut InstrSeq) {}
-
-    fn end_instr_seq_mut(&mut self, _seq: &mut InstrSeq) {}
-
-    fn visit_instr_mut(&mut self, instr: &mut Instr, _place: &mut InstrLocId) {
-        if matches!(instr, Instr::Drop) {
-            *instr = Instr::Unreachable;
-        }
-    }
-
-    fn visit_local_id_mut(&mut self, id: &mut LocalId) {
-        *id = LocalId::from_index(id.index().wrapping_add(self.locals));
-    }
-
-    fn visit_function_id_mut(&mut self, id: &mut FunctionId) {
-        *id = FunctionId::from_index(id.index().wrapping_add(self.functions));
-    }
-
-    fn visit_value_mut(&mut self, value: &mut Value) {
-        if let Value::I32(number) = value {
-            *number = number.wrapping_add(1);
-        }
-    }
-
-    fn visit_instr_seq_id_mut(&mut self, _id: &mut InstrSeqId) {}
-
-    fn visit_memory_id_mut(&mut self, _id: &mut MemoryId) {}
-
-    fn visit_table_id_mut(&mut self, _id: &mut TableId) {}
-
-    fn visit_global_id_mut(&mut self, _id: &mut GlobalId) {}
-
-    fn visit_data_id_mut(&mut self, _id: &mut DataId) {}
-
-    fn visit_type_id_mut(&mut self, _id: &mut TypeId) {}
-
-    fn visit_element_id_mut(&mut self, _id: &mut ElementId) {}
-
-    fn visit_tag_id_mut(&mut self, _id: &mut TagId) {}
-}
+use walrus_walks::{check_nesting, dfs_pre_order_mut};
 
 fn push_seq(
     alloc: Global,

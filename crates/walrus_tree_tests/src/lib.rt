@@ -2,6 +2,8 @@
 #![tactic(auto)]
 
 #[cfg(test)]
+mod built;
+#[cfg(test)]
 mod changing;
 #[cfg(test)]
 mod counts;
@@ -13,5 +15,7 @@ mod hooks;
 mod log;
 #[cfg(test)]
 mod log_mut;
+#[cfg(test)]
+mod renamer;
 #[cfg(test)]
 mod tests;
