@@ -17,10 +17,3 @@ pub use from_reader::FromReader;
 pub use items::BinaryReaderIter;
 pub use reader::BinaryReader;
 pub use wasm_features::{WasmFeatures, WasmFeaturesInflated};
-
-#[cfg(test)]
-mod item_tests;
-#[cfg(test)]
-mod number_tests;
-#[cfg(test)]
-mod tests;

@@ -1,6 +1,3 @@
-pub mod Fields
-pub mod Forms
-pub mod Entities
 pub mod Groups
 pub mod Members
 pub mod MembersLeft
@@ -10,7 +7,6 @@ pub mod Placed
 pub mod Section
 pub mod Plain
 pub mod Spellings
-pub mod Taken
 pub mod TypesTaken
 pub mod Written
 pub mod Remap

@@ -7,7 +7,8 @@ use Rattle.wasm_reader.specs.Reading.{Reading, ◌>>=◌, byte_at}
 use Rattle.wasm_reader.specs.Items.{vec_at}
 use Rattle.wasm_types.specs.declared.subtype.SubType.{SubType}
 use Rattle.wasm_types.specs.Groups.{Group}
-use Rattle.wasm_types.specs.Readings.{Listed, gated, sub_at, sub_after}
+use Rattle.wasm_composite_types.specs.Readings.{gated}
+use Rattle.wasm_types.specs.Readings.{Listed, sub_at, sub_after}
 
 -- whether a group was written as one, and its types with their places
 pub record Placed : Type 0 where

@@ -1,9 +1,9 @@
 -- Subtypes that need no garbage collection.
 use Rattle.std.specs.Prelude.{Option, None, ◌&&◌, if◌then◌else◌}
 use Rattle.std.specs.Option.{is_none}
-use Rattle.wasm_types.specs.declared.form.FuncType.{FuncType}
+use Rattle.wasm_composite_types.specs.declared.form.FuncType.{FuncType}
 use Rattle.wasm_types.specs.declared.subtype.SubType.{SubType}
-use Rattle.wasm_types.specs.Forms.{function_of}
+use Rattle.wasm_composite_types.specs.Forms.{function_of}
 
 -- the function type, if it is one that is final and has no supertype
 abbrev pub plain_function_of : SubType → Option FuncType

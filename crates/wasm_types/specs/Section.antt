@@ -5,7 +5,7 @@ use Rattle.wasm_reader.specs.declared.error.Error.{Error}
 use Rattle.wasm_reader.specs.declared.error.ErrorKind.TheVariants as kinds
 use Rattle.wasm_reader.specs.Cursor.{Cursor, rest, end_of}
 use Rattle.wasm_reader.specs.Items.{ReadsUnlessMemory}
-use Rattle.wasm_types.specs.declared.form.FuncType.{FuncType}
+use Rattle.wasm_composite_types.specs.declared.form.FuncType.{FuncType}
 use Rattle.wasm_types.specs.declared.subtype.SubType.{SubType}
 use Rattle.wasm_types.specs.Plain.{plain_function_of}
 use Rattle.wasm_types.specs.Groups.{Group}

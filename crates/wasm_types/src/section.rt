@@ -7,10 +7,10 @@ ghost use Rattle.wasm_reader.specs.Reading.{Reads, plain, fault};
 ghost use Rattle.wasm_reader.specs.Numbers.{unsigned_at};
 ghost use Rattle.wasm_types.specs.Section.{GivesGroup, ending, gc_fault, GivesFunction, most_left, function_or, plain_function};
 
-use crate::form::{CompositeInnerType, FuncType};
 use crate::group::RecGroup;
 use std::alloc::Global;
 use std::marker::Model;
+use wasm_composite_types::FuncType;
 use wasm_features::WasmFeatures;
 use wasm_reader::{BinaryReader, Error, ErrorKind, FromReader, Result};
 

@@ -1,12 +1,14 @@
 //! Subtypes (Core Specification, types: recursive types).
 
 ghost use Rattle.std.specs.Prelude.{◌≡◌, true, IfOk, IsTrue, Some, None};
-ghost use Rattle.wasm_types.specs.Forms.{function_of, array_of, struct_of, continuation_of, is_function, is_array, is_struct, is_continuation};
+ghost use Rattle.wasm_composite_types.specs.Forms.{function_of, array_of, struct_of, continuation_of, is_function, is_array, is_struct, is_continuation};
 ghost use Rattle.wasm_types.specs.Plain.{plain_function_of};
-ghost use Rattle.wasm_types.specs.declared.form.CompositeInnerType.TheVariants.{Func};
+ghost use Rattle.wasm_composite_types.specs.declared.form.CompositeInnerType.TheVariants.{Func};
 
-use crate::form::{ArrayType, CompositeInnerType, CompositeType, ContType, FuncType, StructType};
 use std::alloc::AllocError;
+use wasm_composite_types::{
+    ArrayType, CompositeInnerType, CompositeType, ContType, FuncType, StructType,
+};
 use wasm_ref_types::PackedIndex;
 
 /// A type with its place among subtypes.
@@ -47,7 +49,7 @@ impl SubType {
         if !is_final || supertype_idx.is_some() {
             return None;
         }
-        composite_type.into_function()
+        function_of(composite_type.inner)
     }
 
     /// The function type. Asks that it is one.
@@ -95,5 +97,15 @@ impl SubType {
             supertype_idx: self.supertype_idx,
             composite_type: self.composite_type.clone()?,
         })
+    }
+}
+
+// The function type, if it is one.
+fn function_of(form: CompositeInnerType) -> Option<FuncType>
+    ensures { result ≡ function_of form }
+{
+    match form {
+        CompositeInnerType::Func(ty) => Some(ty),
+        _ => None,
     }
 }

@@ -1,12 +1,13 @@
 //! Calls on types.
 
 use std::test::Fail;
+use wasm_composite_types::{
+    CompositeInnerType, CompositeType, FuncType, GlobalType, MemoryType, StructType, TableType,
+    TagKind, TagType, TypeList,
+};
 use wasm_reader::BinaryReader;
 use wasm_ref_types::{PackedIndex, RefType, ValType};
-use wasm_types::{
-    CompositeInnerType, CompositeType, FuncType, GlobalType, MemoryType, RecGroup, StructType,
-    SubType, TableType, TagKind, TagType, TypeList, laws,
-};
+use wasm_types::{RecGroup, SubType};
 
 #[test]
 fn function_types(rt: HostRuntime) -> Result<(), Fail> {
@@ -16,14 +17,27 @@ fn function_types(rt: HostRuntime) -> Result<(), Fail> {
     assert!(rt; ty.results().is_empty());
     let copy = ty.clone()?;
     assert!(rt; copy == ty);
-    let sub = SubType::func(copy, true)?;
+    Ok(())
+}
+
+#[test]
+fn subtypes_of_functions(rt: HostRuntime) -> Result<(), Fail> {
+    let ty = FuncType::new(rt.alloc(), [ValType::I32], [])?;
+    let sub = SubType::func(ty.clone()?, true)?;
     assert!(rt; sub.is_final);
     assert!(rt; sub.supertype_idx.is_none());
     assert!(rt; sub.composite_type.shared);
     assert!(rt; *sub.unwrap_func() == ty);
+    Ok(())
+}
+
+#[test]
+fn subtypes_are_copied(rt: HostRuntime) -> Result<(), Fail> {
+    let sub = SubType::func(FuncType::new(rt.alloc(), [ValType::I32], [])?, true)?;
     assert!(rt; sub.clone()? == sub);
-    assert!(rt; sub.composite_type.clone()? == sub.composite_type);
-    assert!(rt; sub.composite_type.inner.clone()? == sub.composite_type.inner);
+    let ty = &sub.composite_type;
+    assert!(rt; ty.clone()? == *ty);
+    assert!(rt; ty.inner.clone()? == ty.inner);
     Ok(())
 }
 
@@ -53,7 +67,7 @@ fn structures_are_copied(rt: HostRuntime) -> Result<(), Fail> {
 }
 
 #[test]
-fn tables_and_memories(rt: HostRuntime) -> Result<(), Fail> {
+fn tables(rt: HostRuntime) {
     let table = TableType {
         element_type: RefType::FUNCREF,
         table64: false,
@@ -62,6 +76,10 @@ fn tables_and_memories(rt: HostRuntime) -> Result<(), Fail> {
         shared: false,
     };
     assert!(rt; table.index_type() == ValType::I32);
+}
+
+#[test]
+fn memories(rt: HostRuntime) {
     let memory = MemoryType {
         memory64: true,
         shared: false,
@@ -78,7 +96,6 @@ fn tables_and_memories(rt: HostRuntime) -> Result<(), Fail> {
     };
     assert!(rt; bytes.page_size() == 1);
     assert!(rt; bytes != memory);
-    Ok(())
 }
 
 #[test]
@@ -135,10 +152,15 @@ fn indices_are_changed_in_their_order(rt: HostRuntime) -> Result<(), Fail> {
 
 #[test]
 fn laws_can_be_cited() {
-    laws::types_are_final();
-    laws::fronts_of_types_end_early();
-    laws::spelled_types_are_read();
-    laws::type_spellings_are_prefix_free();
-    laws::written_types_are_read();
-    laws::groups_are_equal_as_lists();
+    wasm_composite_types::laws::types_are_final();
+    wasm_composite_types::laws::fronts_of_types_end_early();
+    wasm_composite_types::laws::spelled_types_are_read();
+    wasm_composite_types::laws::type_spellings_are_prefix_free();
+    wasm_composite_types::laws::written_types_are_read();
+    wasm_types::laws::types_are_final();
+    wasm_types::laws::fronts_of_types_end_early();
+    wasm_types::laws::spelled_types_are_read();
+    wasm_types::laws::type_spellings_are_prefix_free();
+    wasm_types::laws::written_types_are_read();
+    wasm_types::laws::groups_are_equal_as_lists();
 }

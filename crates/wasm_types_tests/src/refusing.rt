@@ -1,9 +1,9 @@
 //! Bytes that no type has, and forms whose feature is off.
 
 use std::alloc::Global;
-use std::test::Fail;
+use wasm_composite_types::{FieldType, StorageType};
 use wasm_reader::{BinaryReader, ErrorKind, FromReader, Result, WasmFeatures};
-use wasm_types::{FieldType, RecGroup, StorageType, SubType};
+use wasm_types::{RecGroup, SubType};
 
 fn refused<T>(outcome: Result<T>) -> Option<(ErrorKind, u64)>
 where
@@ -25,115 +25,94 @@ fn read<'a, T: FromReader<'a>>(alloc: Global, bytes: &'a [u8]) -> Option<(ErrorK
 }
 
 #[test]
-fn counts_past_their_limits(rt: HostRuntime) -> std::result::Result<(), Fail> {
-    let all = WasmFeatures::all();
-    let many = [0x4e, 0xff, 0xff, 0xff, 0xff, 0x0f];
-    assert_eq!(rt; group(rt.alloc(), all, &many), Some((ErrorKind::Limit, 12)));
-    let params = [0x60, 0xff, 0xff, 0xff, 0xff, 0x0f];
+fn counts_past_their_limits(rt: HostRuntime) {
+    let rows: [(&[u8], ErrorKind, u64); 8] = [
+        (&[0x4e, 0xff, 0xff, 0xff, 0xff, 0x0f], ErrorKind::Limit, 12),
+        (&[0x60, 0xff, 0xff, 0xff, 0xff, 0x0f], ErrorKind::Limit, 12),
+        // 1,001 parameters, and 1,000 of which the first is missing.
+        (&[0x60, 0xe9, 0x07], ErrorKind::Limit, 12),
+        (&[0x60, 0xe8, 0x07], ErrorKind::EndOfFile(1), 14),
+        (&[0x60, 0x00, 0xe9, 0x07], ErrorKind::Limit, 13),
+        // 10,001 fields, 1,000,001 members, two supertypes.
+        (&[0x5f, 0x91, 0x4e], ErrorKind::Limit, 12),
+        (&[0x4e, 0xc1, 0x84, 0x3d], ErrorKind::Limit, 12),
+        (&[0x50, 0x02, 0x00, 0x00], ErrorKind::Limit, 12),
+    ];
+    for (bytes, kind, place) in rows {
+        let outcome = group(rt.alloc(), WasmFeatures::all(), bytes);
+        assert_eq!(rt; outcome, Some((kind, place)));
+    }
+}
+
+#[test]
+fn wide_supertypes(rt: HostRuntime) {
+    let wide = [0x50, 0x01, 0x80, 0x80, 0x40, 0x60, 0x00, 0x00];
     assert_eq!(rt;
-        group(rt.alloc(), all, &params),
-        Some((ErrorKind::Limit, 12))
-    );
-    // 1,001 parameters, and 1,000 of which the first is missing.
-    assert_eq!(rt;
-        group(rt.alloc(), all, &[0x60, 0xe9, 0x07]),
-        Some((ErrorKind::Limit, 12))
-    );
-    assert_eq!(rt;
-        group(rt.alloc(), all, &[0x60, 0xe8, 0x07]),
-        Some((ErrorKind::EndOfFile(1), 14))
-    );
-    assert_eq!(rt;
-        group(rt.alloc(), all, &[0x60, 0x00, 0xe9, 0x07]),
+        read::<SubType>(rt.alloc(), &wide),
         Some((ErrorKind::Limit, 13))
     );
-    // 10,001 fields, 1,000,001 members, two supertypes.
-    assert_eq!(rt;
-        group(rt.alloc(), all, &[0x5f, 0x91, 0x4e]),
-        Some((ErrorKind::Limit, 12))
-    );
-    assert_eq!(rt;
-        group(rt.alloc(), all, &[0x4e, 0xc1, 0x84, 0x3d]),
-        Some((ErrorKind::Limit, 12))
-    );
-    assert_eq!(rt;
-        group(rt.alloc(), all, &[0x50, 0x02, 0x00, 0x00]),
-        Some((ErrorKind::Limit, 12))
-    );
-    Ok(())
+    let last = [0x50, 0x01, 0xff, 0xff, 0x3f, 0x60, 0x00, 0x00];
+    assert_eq!(rt; read::<SubType>(rt.alloc(), &last), None);
 }
 
 #[test]
-fn wide_supertypes(rt: HostRuntime) -> std::result::Result<(), Fail> {
-    assert_eq!(rt;
-        read::<SubType>(
-            rt.alloc(),
-            &[0x50, 0x01, 0x80, 0x80, 0x40, 0x60, 0x00, 0x00]
-        ),
-        Some((ErrorKind::Limit, 13))
-    );
-    assert_eq!(rt;
-        read::<SubType>(
-            rt.alloc(),
-            &[0x50, 0x01, 0xff, 0xff, 0x3f, 0x60, 0x00, 0x00]
-        ),
-        None
-    );
-    Ok(())
+fn bytes_of_no_subtype(rt: HostRuntime) {
+    let rows: [(&[u8], u64); 3] = [
+        (&[0x5d, 0x00], 11),
+        (&[0x50, 0x00, 0x50, 0x00], 13),
+        (&[0x65, 0x65, 0x60], 12),
+    ];
+    for (bytes, place) in rows {
+        let outcome = read::<SubType>(rt.alloc(), bytes);
+        assert_eq!(rt; outcome, Some((ErrorKind::BadByte, place)));
+    }
 }
 
 #[test]
-fn bytes_of_no_type(rt: HostRuntime) -> std::result::Result<(), Fail> {
-    assert_eq!(rt;
-        read::<SubType>(rt.alloc(), &[0x5d, 0x00]),
-        Some((ErrorKind::BadByte, 11))
-    );
-    assert_eq!(rt;
-        read::<SubType>(rt.alloc(), &[0x50, 0x00, 0x50, 0x00]),
-        Some((ErrorKind::BadByte, 13))
-    );
-    assert_eq!(rt;
-        read::<SubType>(rt.alloc(), &[0x65, 0x65, 0x60]),
-        Some((ErrorKind::BadByte, 12))
-    );
-    assert_eq!(rt;
-        read::<RecGroup>(rt.alloc(), &[0x4e, 0x01, 0x4e, 0x00]),
-        Some((ErrorKind::BadByte, 13))
-    );
-    assert_eq!(rt;
-        read::<FieldType>(rt.alloc(), &[0x7f, 0x02]),
-        Some((ErrorKind::BadByte, 12))
-    );
-    assert_eq!(rt;
-        read::<StorageType>(rt.alloc(), &[0x79]),
-        Some((ErrorKind::BadByte, 11))
-    );
-    assert_eq!(rt;
-        read::<RecGroup>(rt.alloc(), &[]),
-        Some((ErrorKind::EndOfFile(1), 11))
-    );
-    Ok(())
+fn bytes_of_no_group(rt: HostRuntime) {
+    let rows: [(&[u8], ErrorKind, u64); 2] = [
+        (&[0x4e, 0x01, 0x4e, 0x00], ErrorKind::BadByte, 13),
+        (&[], ErrorKind::EndOfFile(1), 11),
+    ];
+    for (bytes, kind, place) in rows {
+        let outcome = read::<RecGroup>(rt.alloc(), bytes);
+        assert_eq!(rt; outcome, Some((kind, place)));
+    }
 }
 
 #[test]
-fn forms_that_are_off(rt: HostRuntime) -> std::result::Result<(), Fail> {
-    let gc = Some((ErrorKind::Feature(WasmFeatures::GC_TYPES), 11));
+fn bytes_of_no_field(rt: HostRuntime) {
+    let mutability = read::<FieldType>(rt.alloc(), &[0x7f, 0x02]);
+    assert_eq!(rt; mutability, Some((ErrorKind::BadByte, 12)));
+    let storage = read::<StorageType>(rt.alloc(), &[0x79]);
+    assert_eq!(rt; storage, Some((ErrorKind::BadByte, 11)));
+}
+
+#[test]
+fn forms_that_are_off(rt: HostRuntime) {
     let off = WasmFeatures::all() - WasmFeatures::GC_TYPES;
-    assert_eq!(rt; group(rt.alloc(), off, &[0x4e, 0x00]), gc);
-    assert_eq!(rt; group(rt.alloc(), off, &[0x50, 0x00, 0x60, 0x00, 0x00]), gc);
-    assert_eq!(rt; group(rt.alloc(), off, &[0x4f, 0x00, 0x60, 0x00, 0x00]), gc);
-    assert_eq!(rt; group(rt.alloc(), off, &[0x5f, 0x00]), gc);
-    assert_eq!(rt; group(rt.alloc(), off, &[0x5e, 0x7f, 0x00]), gc);
+    let forms: [&[u8]; 5] = [
+        &[0x4e, 0x00],
+        &[0x50, 0x00, 0x60, 0x00, 0x00],
+        &[0x4f, 0x00, 0x60, 0x00, 0x00],
+        &[0x5f, 0x00],
+        &[0x5e, 0x7f, 0x00],
+    ];
+    for bytes in forms {
+        let outcome = group(rt.alloc(), off, bytes);
+        assert_eq!(rt;
+            outcome,
+            Some((ErrorKind::Feature(WasmFeatures::GC_TYPES), 11))
+        );
+    }
     assert_eq!(rt; group(rt.alloc(), off, &[0x60, 0x00, 0x00]), None);
+}
+
+#[test]
+fn shared_types_that_are_off(rt: HostRuntime) {
     let shared = WasmFeatures::SHARED_EVERYTHING_THREADS;
-    assert_eq!(rt;
-        group(
-            rt.alloc(),
-            WasmFeatures::all() - shared,
-            &[0x65, 0x60, 0x00, 0x00]
-        ),
-        Some((ErrorKind::Feature(shared), 11))
-    );
-    assert_eq!(rt; group(rt.alloc(), shared, &[0x65, 0x60, 0x00, 0x00]), None);
-    Ok(())
+    let bytes = [0x65, 0x60, 0x00, 0x00];
+    let outcome = group(rt.alloc(), WasmFeatures::all() - shared, &bytes);
+    assert_eq!(rt; outcome, Some((ErrorKind::Feature(shared), 11)));
+    assert_eq!(rt; group(rt.alloc(), shared, &bytes), None);
 }

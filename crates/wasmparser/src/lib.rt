@@ -2,6 +2,10 @@
 //! numbers and texts, the names of the features, and the types.
 #![tactic(auto)]
 
+pub use wasm_composite_types::{
+    ArrayType, CompositeInnerType, CompositeType, ContType, FieldType, FuncType, GlobalType,
+    MemoryType, StorageType, StructType, TableType, TagKind, TagType, TypeList,
+};
 pub use wasm_features::{WasmFeatures, WasmFeaturesInflated};
 pub use wasm_reader::{
     BinaryReader, BinaryReaderIter, Error, ErrorKind, FromReader, Ieee32, Ieee64, Result, limits,
@@ -10,7 +14,5 @@ pub use wasm_ref_types::{
     AbstractHeapType, CoreTypeId, HeapType, PackedIndex, RefType, UnpackedIndex, ValType,
 };
 pub use wasm_types::{
-    ArrayType, CompositeInnerType, CompositeType, ContType, FieldType, FuncType, FuncTypes,
-    GlobalType, IntoTypes, IntoTypesAndOffsets, MemoryType, RecGroup, StorageType, StructType,
-    SubType, TableType, TagKind, TagType, TypeList, TypeSectionReader, Types,
+    FuncTypes, IntoTypes, IntoTypesAndOffsets, RecGroup, SubType, TypeSectionReader, Types,
 };

@@ -2,7 +2,7 @@ use Rattle.std.proofs.Common.{arith, ◌∙◌, length-set}
 use Rattle.std.proofs.lemmas.Result.{err_from_is_err_and}
 use Rattle.std.specs.Fn.{CalledAtMut}
 use Rattle.wasm_types.specs.Remap.{VisitsSub}
-use Rattle.wasm_types.proofs.Visits.{more, stops, ends}
+use Rattle.wasm_composite_types.proofs.Visits.{more, stops, ends}
 use Rattle.wasm_types.proofs.remap.remap_types.Goals as goal
 
 pub returns-in_err-remap_sub-clause-visits : goal.returns-in_err-remap_sub-clause-visits

@@ -1,7 +1,7 @@
 use Rattle.std.proofs.Common.{◌≡◌, length}
 use Rattle.std.specs.Fn.{CalledAtMut}
 use Rattle.wasm_types.specs.Remap.{VisitsSub}
-use Rattle.wasm_types.proofs.Visits.{Visited}
+use Rattle.wasm_composite_types.proofs.Visits.{Visited}
 use Rattle.wasm_types.proofs.remap.remap_types.Given as goal
 
 abbrev pub invariant-loop-i : goal.invariant-loop-i

@@ -2,7 +2,7 @@ use Rattle.std.proofs.Common.{ap, sym, ◌∙◌, length}
 use Rattle.std.specs.Fn.{CalledAtMut}
 use Rattle.wasm_types.specs.Remap.{VisitsSub}
 use Rattle.wasm_types.specs.Members.{group_of}
-use Rattle.wasm_types.proofs.Visits.{as_long}
+use Rattle.wasm_composite_types.proofs.Visits.{as_long}
 use Rattle.wasm_types.proofs.group.RecGroup.remap_indices.Goals as goal
 
 pub invariant_of-self : goal.invariant_of-self

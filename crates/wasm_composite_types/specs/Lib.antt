@@ -1,0 +1,10 @@
+pub mod Fields
+pub mod Forms
+pub mod Entities
+pub mod Readings
+pub mod Finals
+pub mod Spellings
+pub mod Taken
+pub mod TypesTaken
+pub mod Written
+pub mod Remap

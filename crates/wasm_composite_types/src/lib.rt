@@ -1,0 +1,16 @@
+//! Composite types of WebAssembly, read from the binary format, and the types of a module's tables, memories, globals
+//! and tags (Core Specification, types).
+#![tactic(auto)]
+
+mod entity;
+mod field;
+mod form;
+pub mod laws;
+mod list;
+pub mod read;
+pub mod remap;
+
+pub use entity::{GlobalType, MemoryType, TableType, TagKind, TagType};
+pub use field::{FieldType, StorageType};
+pub use form::{ArrayType, CompositeInnerType, CompositeType, ContType, FuncType, StructType};
+pub use list::TypeList;
