@@ -1,6 +1,6 @@
 -- Two tables that are written alike: the one has the other's types under other ids, and its groups in
 -- another order in which the anchors stand where they did.
-use Rattle.std.specs.Prelude.{◌≡◌, ◌≢◌, ℕ, ◌<◌, true, List, length, map, Contains, AllPairs, IsPermutation, Option, Some, slice_get, slice_index_or}
+use Rattle.std.specs.Prelude.{◌≡◌, ◌≢◌, ◌↔◌, ℕ, ◌<◌, true, List, length, map, Contains, AllPairs, IsPermutation, Option, Some, slice_get, slice_index_or}
 use Rattle.std.specs.List.{range_with_len, flat_map}
 use Rattle.std.specs.Option.{option_map}
 use Rattle.std.specs.declared.cmp.Ordering.TheVariants.{Equal}
@@ -25,9 +25,9 @@ members t = flat_map (λ group. group.types) (written_groups t)
 abbrev pub renamed_group : (ℕ → ℕ) → Group → Group
 renamed_group r group = record { explicit = group.explicit; types = map r group.types }
 
--- each type that is written is a member of one group, once
+-- the members of the groups are the types that are written, each once
 pub record AreHomed (t : Table) : Type 0 where
-  pub homed : (id : ℕ) → is_written t id ≡ true → Contains (members t) id
+  pub homed : (id : ℕ) → Contains (members t) id ↔ (is_written t id ≡ true)
   pub once : AllPairs (λ id other. id ≢ other) (members t)
 
 -- u is t with its ids replaced by r and its groups in another order, at which none passes an anchor and
