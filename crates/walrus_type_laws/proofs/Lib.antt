@@ -1,2 +1,5 @@
+pub mod Faults
+pub mod KindOrder
 pub mod Places
+pub mod TurnLemmas
 pub mod Written
