@@ -1,3 +1,5 @@
+pub mod AlikeLemmas
+pub mod Dense
 pub mod Faults
 pub mod KindOrder
 pub mod Places

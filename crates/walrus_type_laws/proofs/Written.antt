@@ -90,7 +90,7 @@ order_once t gs order homed re = λ i j id at_i at_j.
     let same : s.piece ≡ z.piece = re.turns.one s.piece z.piece a.0 a.1 (b.1 ∙ ap Some (sym q.0)) in
     s.is ∙ ap (λ (p : ℕ). start types_of gs p + s.place) same ∙ ap (λ (k : ℕ). start types_of gs z.piece + k) q.1 ∙ sym z.is
 
-some_is : (o : Option ℕ) → IsSome o → o ≡ Some (unwrap_or o 0)
+pub some_is : (o : Option ℕ) → IsSome o → o ≡ Some (unwrap_or o 0)
 some_is None h = absurd (false≢true h)
 some_is (Some x) h = refl
 
