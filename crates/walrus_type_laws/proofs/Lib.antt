@@ -1,8 +1,10 @@
 pub mod AlikeLemmas
+pub mod CarriedLemmas
 pub mod Dense
 pub mod Faults
 pub mod KindOrder
 pub mod Places
 pub mod Shape
+pub mod ShapeRun
 pub mod TurnLemmas
 pub mod Written
