@@ -26,7 +26,7 @@ pub record Dense (kinds : List Kind) (gs : List Group) (t : Table) : Type 0 wher
   pub listed : flat_map types_of gs ≡ range_with_len 0 (length kinds)
   pub filled : (p : ℕ) (g : Group) → slice_get gs p ≡ Some g → 0 < length g.types
 
-items_at : (a : ℕ) (kinds : List Kind) (i j : ℕ) (k : Kind) → a + i ≡ j → slice_get kinds i ≡ Some k → slice_index_or (new_items a kinds) i None ≡ Some (record { id = j; kind = k; name = None })
+pub items_at : (a : ℕ) (kinds : List Kind) (i j : ℕ) (k : Kind) → a + i ≡ j → slice_get kinds i ≡ Some k → slice_index_or (new_items a kinds) i None ≡ Some (record { id = j; kind = k; name = None })
 items_at a [] i j k is at = absurd (none-some k at)
 items_at a (x ∷ kinds) zero j k is at =
     let e : a ≡ j = omega (arith, is) in

@@ -6,5 +6,6 @@ pub mod KindOrder
 pub mod Places
 pub mod Shape
 pub mod ShapeRun
+pub mod Straight
 pub mod TurnLemmas
 pub mod Written

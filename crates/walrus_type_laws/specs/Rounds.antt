@@ -53,6 +53,6 @@ SectionsAreCarried = (section : List GroupRecord) → AreBelow 0 (map type_group
 
 -- reading what was emitted and emitting it again changes nothing
 abbrev pub SecondRoundIsFirst : Type 0
-SecondRoundIsFirst = (section : List GroupRecord) → AreBelow 0 (map type_group section) → (out again : List TypeGroup) (indices others : List (Option ℕ))
+SecondRoundIsFirst = (section : List GroupRecord) (out again : List TypeGroup) (indices others : List (Option ℕ))
     → IsEmission (read (map type_group section)).table out indices → IsEmission (read out).table again others
     → (again ≡ out) × ((i : ℕ) → i < length (entries_of out) → index_map out others i ≡ i)
