@@ -1,11 +1,10 @@
 -- Tables that are alike are written alike.
-use Rattle.std.proofs.Common.{◌≡◌, ◌∙◌, ℕ, zero, suc, ◌+◌, ◌<◌, Bool, true, false, List, [], ◌∷◌, ◌++◌, length, map, Contains, Option, Some, None, is_some, IsSome, if◌then◌else◌, refl, sym, ap, subst, arith}
-use Rattle.std.specs.Prelude.{slice_index_or, unwrap_or}
+use Rattle.std.proofs.Common.{◌≡◌, ◌∙◌, ℕ, suc, ◌<◌, Bool, true, false, List, [], ◌∷◌, ◌++◌, length, map, Option, Some, None, is_some, if◌then◌else◌, refl, sym, ap, subst, arith}
+use Rattle.std.specs.Prelude.{slice_index_or}
 use Rattle.std.specs.List.{slice_get, flat_map, filter_map, cons_option}
 use Rattle.std.specs.Option.{option_map, option_map_or, option_and_then}
-use Rattle.std.proofs.lemmas.Bool.{false≢true}
 use Rattle.std.proofs.lemmas.List.{length-map, map-append}
-use Rattle.std.proofs.lemmas.Option.{slice_get_within, slice_get-get_or, get_or_from_slice_get, same_Some, none-some}
+use Rattle.std.proofs.lemmas.Option.{slice_get-get_or, get_or_from_slice_get, same_Some, none-some}
 use Rattle.walrus_forms.specs.Kinds.{Kind, kind_names}
 use Rattle.walrus_forms.specs.Order.{kind_cmp}
 use Rattle.walrus_forms.specs.Records.{TypeGroup}
@@ -16,12 +15,12 @@ use Rattle.walrus_type_order.specs.Order.{HasAnchor}
 use Rattle.walrus_types.specs.Items.{Item, Group}
 use Rattle.walrus_types.specs.Table.{Table, type_at}
 use Rattle.walrus_types.specs.Emission.{shown_kind, written_kind, is_written, written_groups, loose_kind, single_kind, key_of, index_at, no_group, AreInOrder, AreArranged, written_types, described_group, IsEmission}
-use Rattle.walrus_type_laws.specs.Alike.{keys_of, members, renamed_group, AreHomed, Alike, AlikeAreWrittenAlike}
+use Rattle.walrus_type_laws.specs.Alike.{keys_of, renamed_group, AreHomed, Alike, AlikeAreWrittenAlike}
 use Rattle.walrus_type_laws.proofs.Faults.{names_written}
 use Rattle.walrus_type_laws.proofs.KindOrder.{kinds-kept}
-use Rattle.walrus_type_laws.proofs.Places.{Has, Pairs, Once, Turns, get, has_contains, contains_has, pairs_of, turns_of, map_at, at_map, maps_agree, maps_twice, seat, unseat, start}
+use Rattle.walrus_type_laws.proofs.Places.{Turns, has_contains, pairs_of, turns_of, map_at, at_map, maps_agree, maps_twice, seat}
 use Rattle.walrus_type_laws.proofs.TurnLemmas.{IsTurned, one_composed}
-use Rattle.walrus_type_laws.proofs.Written.{types_of, AllWritten, home_written, written_all, reordered, Indexed, indexed, kind_of, some_is}
+use Rattle.walrus_type_laws.proofs.Written.{types_of, AllWritten, home_written, written_all, Indexed, indexed, kind_of, some_is}
 
 -- the item of a type that is written
 shown_is : (entry : Bool) (kind k : Kind) → (if entry then None else Some kind) ≡ Some k → kind ≡ k

@@ -1,5 +1,5 @@
 -- The index map carries a section onto what is emitted.
-use Rattle.std.proofs.Common.{◌≡◌, ◌∙◌, ◌↔◌, ℕ, zero, suc, ◌+◌, ◌<◌, ◌≤◌, ◌⊎◌, inl, inr, Bool, true, false, List, [], ◌∷◌, ◌++◌, length, map, take, Option, Some, None, refl, sym, ap, subst, arith, length-append}
+use Rattle.std.proofs.Common.{◌≡◌, ◌∙◌, ℕ, zero, suc, ◌+◌, ◌<◌, ◌≤◌, inl, inr, Bool, true, List, [], ◌∷◌, length, map, take, Option, Some, None, sym, ap, subst, arith}
 use Rattle.std.specs.List.{slice_get, range_with_len, flat_map, filter_map}
 use Rattle.std.proofs.lemmas.Bool.{cases_Bool}
 use Rattle.std.proofs.lemmas.List.{length-map, take-map}
@@ -12,18 +12,18 @@ use Rattle.walrus_forms.specs.Records.{TypeGroup, record_kind, type_group}
 use Rattle.walrus_forms.specs.Renaming.{at, renamed_kind}
 use Rattle.walrus_forms.proofs.RenamingLemmas.{kinds-twice}
 use Rattle.walrus_types.specs.Items.{Item, Group}
-use Rattle.walrus_types.specs.Table.{Table, type_at}
+use Rattle.walrus_types.specs.Table.{Table}
 use Rattle.walrus_types.specs.Parsing.{Parsed, AreBelow}
-use Rattle.walrus_types.specs.Mergers.{Entry, is_single, entries_of, IsEqual, IsSame, CarriesSame}
+use Rattle.walrus_types.specs.Mergers.{Entry, is_single, entries_of, IsSame, CarriesSame}
 use Rattle.walrus_types.specs.Emission.{written_kind, is_written, written_groups, index_at, described_group, IsEmission}
 use Rattle.walrus_types.proofs.MergerLemmas.{parsing-law}
 use Rattle.walrus_types.proofs.SameOnce.{once-law}
 use Rattle.walrus_type_laws.specs.Alike.{AreHomed}
 use Rattle.walrus_type_laws.specs.Rounds.{read, index_map, IsGroupAt, renamed_types, IsCarried, SectionsAreCarried}
-use Rattle.walrus_type_laws.proofs.Places.{Has, get, map_at, at_map, same_list, seat, unseat, start, range_at, at_range, left_at, right_at}
-use Rattle.walrus_type_laws.proofs.Written.{types_of, AllWritten, reordered, Indexed, indexed, group_kinds, group_kind_at, make_entry, described_length, described_at}
+use Rattle.walrus_type_laws.proofs.Places.{get, map_at, at_map, same_list, seat, unseat, start, range_at, left_at, right_at}
+use Rattle.walrus_type_laws.proofs.Written.{types_of, reordered, Indexed, indexed, group_kinds, group_kind_at, make_entry, described_length, described_at}
 use Rattle.walrus_type_laws.proofs.Dense.{dense_length, dense_type, dense_written, dense_below, dense_is, dense_groups, dense_homed}
-use Rattle.walrus_type_laws.proofs.Shape.{Shape, Stood, entries_more, before_end}
+use Rattle.walrus_type_laws.proofs.Shape.{Shape, entries_more, before_end}
 use Rattle.walrus_type_laws.proofs.ShapeRun.{PlainGroups, shape_read}
 
 -- a type of a group among all types
@@ -44,7 +44,7 @@ entry_at (h ∷ groups) (suc p) k g kind at_p at_k =
     right_at news (entries_of groups) (length (entries_of (take p groups)) + k) (length (entries_of (take (suc p) (h ∷ groups))) + k) (make_entry (is_single g) kind)
     (omega (arith, sized, entries_more h (take p groups))) (entry_at groups p k g kind at_p at_k)
 
-front_at : {X : Type 0} (n : ℕ) (xs : List X) (i : ℕ) (x : X) → slice_get (take n xs) i ≡ Some x → slice_get xs i ≡ Some x
+pub front_at : {X : Type 0} (n : ℕ) (xs : List X) (i : ℕ) (x : X) → slice_get (take n xs) i ≡ Some x → slice_get xs i ≡ Some x
 front_at zero xs i x is = absurd (none-some x is)
 front_at (suc n) [] i x is = absurd (none-some x is)
 front_at (suc n) (y ∷ xs) zero x is = is

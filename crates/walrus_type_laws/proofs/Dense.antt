@@ -1,12 +1,12 @@
 -- Tables in which each id has a type that is written, the members of the groups one after the other.
-use Rattle.std.proofs.Common.{◌≡◌, ◌∙◌, ◌≢◌, ℕ, zero, suc, ◌+◌, ◌<◌, ◌≤◌, ◌⊎◌, inl, inr, Bool, true, false, ◌||◌, AllPairs, List, [], ◌∷◌, ◌++◌, length, map, filter, Contains, Option, Some, None, is_some, if◌then◌else◌, refl, sym, ap, subst, arith, length-append}
+use Rattle.std.proofs.Common.{◌≡◌, ◌∙◌, ◌≢◌, ℕ, zero, suc, ◌+◌, ◌<◌, inl, inr, Bool, true, false, ◌||◌, AllPairs, List, [], ◌∷◌, ◌++◌, length, map, filter, Option, Some, None, is_some, if◌then◌else◌, refl, sym, ap, subst, arith, length-append}
 use Rattle.std.specs.Prelude.{slice_index_or}
 use Rattle.std.specs.List.{slice_get, range_with_len, flat_map, list_any}
 use Rattle.std.specs.Option.{option_and_then}
 use Rattle.std.proofs.lemmas.Bool.{false≢true, cases_lt}
 use Rattle.std.proofs.lemmas.List.{append-nil, get_or_past, map-append}
 use Rattle.std.proofs.lemmas.List.Concat.{flat_map-append}
-use Rattle.std.proofs.lemmas.Option.{slice_get_within, same_Some, none-some}
+use Rattle.std.proofs.lemmas.Option.{same_Some, none-some}
 use Rattle.walrus_arena.specs.Arena.{entries_from}
 use Rattle.walrus_forms.specs.Kinds.{Kind}
 use Rattle.walrus_types.specs.Items.{Item, Group}
@@ -16,7 +16,7 @@ use Rattle.walrus_types.specs.Parsing.{with_group}
 use Rattle.walrus_types.specs.Emission.{shown_kind, written_kind, is_written, written_groups}
 use Rattle.walrus_types.proofs.GroupLemmas.{length-new_items}
 use Rattle.walrus_type_laws.specs.Alike.{members, AreHomed}
-use Rattle.walrus_type_laws.proofs.Places.{Has, get, has_contains, contains_has, once_to, range_at, at_range, range_once, append_at, unseat, start}
+use Rattle.walrus_type_laws.proofs.Places.{get, has_contains, contains_has, once_to, range_at, at_range, range_once, append_at, unseat, start}
 use Rattle.walrus_type_laws.proofs.Written.{types_of, filter_all}
 
 pub record Dense (kinds : List Kind) (gs : List Group) (t : Table) : Type 0 where

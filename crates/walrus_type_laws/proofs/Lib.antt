@@ -1,3 +1,4 @@
+pub mod AgainLemmas
 pub mod AlikeLemmas
 pub mod CarriedLemmas
 pub mod Dense

@@ -1,11 +1,10 @@
 -- Lists by what stands at each place.
-use Rattle.std.proofs.Common.{◌≡◌, ◌≢◌, ◌∙◌, eqb, ℕ, zero, suc, ◌+◌, ◌-◌, ◌<◌, ◌≤◌, ◌⊎◌, inl, inr, List, [], ◌∷◌, ◌++◌, length, get_or, map, take, AllPairs, Contains, IsPermutation, Option, Some, None, refl, sym, ap, subst, arith, length-append, append_assoc}
+use Rattle.std.proofs.Common.{◌≡◌, ◌≢◌, ◌∙◌, eqb, ℕ, zero, suc, ◌+◌, ◌<◌, ◌≤◌, ◌⊎◌, inl, inr, List, [], ◌∷◌, ◌++◌, length, get_or, map, take, AllPairs, Contains, IsPermutation, Some, refl, sym, ap, subst, arith, length-append}
 use Rattle.std.specs.List.{range_with_len, slice_get, flat_map}
 use Rattle.std.specs.Option.{option_map}
 use Rattle.std.proofs.lemmas.Bool.{cases_lt, cases_eq}
 use Rattle.std.proofs.lemmas.Bool.Decides.{Decides-eqb}
 use Rattle.std.proofs.lemmas.Cmp.{nat_eq_equiv}
-use Rattle.std.proofs.lemmas.List.{length-map}
 use Rattle.std.proofs.lemmas.List.FromFn.{length-range_with_len, get_or-range_with_len}
 use Rattle.std.proofs.lemmas.List.Sorted.{Contains-permutation, IsPermutation-sym, length_permutation}
 use Rattle.std.proofs.lemmas.Map.Made.{AllPairs-from_IsDistinct, IsDistinct-from_AllPairs}
@@ -213,7 +212,7 @@ unseat f (z ∷ xs) (suc p) k x y at_p at_k =
     right_at (f z) (flat_map f xs) (start f xs p + k) (start f (z ∷ xs) (suc p) + k) y (omega (arith, length-append (f z) (flat_map f (take p xs)))) (unseat f xs p k x y at_p at_k)
 
 -- a later piece begins behind the earlier ones
-starts_rise : {X Y : Type 0} (f : X → List Y) (xs : List X) (p q : ℕ) (x : X) → p < q → slice_get xs p ≡ Some x → start f xs p + length (f x) ≤ start f xs q
+pub starts_rise : {X Y : Type 0} (f : X → List Y) (xs : List X) (p q : ℕ) (x : X) → p < q → slice_get xs p ≡ Some x → start f xs p + length (f x) ≤ start f xs q
 starts_rise f [] p q x before at = absurd (none-some x at)
 starts_rise f (z ∷ xs) p zero x before at = absurd (omega (arith, before))
 starts_rise {X} f (z ∷ xs) zero (suc q) x before at =

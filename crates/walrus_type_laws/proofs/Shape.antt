@@ -1,27 +1,19 @@
 -- What a new table is after groups were read into it.
-use Rattle.std.proofs.Common.{◌≡◌, ◌∙◌, ℕ, zero, suc, ◌+◌, ◌-◌, ◌<◌, ◌≤◌, ◌⊎◌, inl, inr, Bool, true, false, not, ◌&&◌, ◌==◌, List, [], ◌∷◌, ◌++◌, length, map, take, Option, Some, None, refl, sym, ap, subst, arith, length-append, append_assoc}
-use Rattle.std.specs.Prelude.{slice_index_or}
+use Rattle.std.proofs.Common.{◌≡◌, ◌∙◌, ℕ, zero, suc, ◌+◌, ◌-◌, ◌<◌, ◌≤◌, ◌⊎◌, inl, inr, Bool, true, false, List, [], ◌∷◌, ◌++◌, length, map, take, Option, Some, refl, sym, ap, subst, arith, length-append}
 use Rattle.std.specs.List.{slice_get, range_with_len}
-use Rattle.std.specs.Option.{MatchOption}
-use Rattle.std.proofs.lemmas.Bool.{false≢true, cases_lt, cases_Bool, and_from}
+use Rattle.std.proofs.lemmas.Bool.{cases_lt}
 use Rattle.std.proofs.lemmas.List.{append-nil, get_or_append_left, get_or-append-add, length-map, take_at, take-append-le}
 use Rattle.std.proofs.lemmas.List.FromFn.{length-range_with_len, get_or-range_with_len}
 use Rattle.std.proofs.lemmas.Option.{slice_get_within, same_Some, none-some}
 use Rattle.walrus_forms.specs.Kinds.{Kind}
 use Rattle.walrus_forms.specs.Records.{TypeGroup}
-use Rattle.walrus_forms.specs.Renaming.{at, renamed_kind}
-use Rattle.walrus_forms.specs.Same.{same_kind}
-use Rattle.walrus_forms.proofs.EqLemmas.{same-kind-law}
-use Rattle.walrus_types.specs.Items.{Item, Group}
-use Rattle.walrus_types.specs.Table.{Table, next_id, type_at, names_itself, merges, latest_id, equal_type}
-use Rattle.walrus_types.specs.TypeLaws.{IsLatest}
-use Rattle.walrus_types.specs.Parsing.{Parsed, with_group, merged, added, known_ids, parsed_group, parsed, unparsed}
+use Rattle.walrus_forms.specs.Renaming.{at}
+use Rattle.walrus_types.specs.Items.{Group}
+use Rattle.walrus_types.specs.Table.{next_id, names_itself}
+use Rattle.walrus_types.specs.Parsing.{Parsed, with_group}
 use Rattle.walrus_types.specs.Mergers.{Entry, is_single, entries_of}
-use Rattle.walrus_types.proofs.LawLemmas.{latest-law}
-use Rattle.walrus_type_laws.specs.Rounds.{empty_table, read}
-use Rattle.walrus_type_laws.proofs.Places.{Has, get, map_at, append_at, left_at, right_at, seat, start}
-use Rattle.walrus_type_laws.proofs.Written.{types_of}
-use Rattle.walrus_type_laws.proofs.Dense.{Dense, dense_length, dense_type, dense_member, one_group, one_is, of_one, dense_more}
+use Rattle.walrus_type_laws.proofs.Places.{Has, get, append_at, left_at, right_at}
+use Rattle.walrus_type_laws.proofs.Dense.{Dense, dense_length, dense_member, one_group, one_is, of_one, dense_more}
 
 -- how many types stand in groups
 pub entries_more : (g : TypeGroup) (gs : List TypeGroup) → length (entries_of (g ∷ gs)) ≡ length g.kinds + length (entries_of gs)

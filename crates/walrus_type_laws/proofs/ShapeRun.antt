@@ -1,7 +1,6 @@
 -- The table after a section was read into a new one, group by group.
-use Rattle.std.proofs.Common.{◌≡◌, ◌∙◌, ℕ, suc, ◌+◌, ◌<◌, inl, inr, Bool, true, false, not, ◌&&◌, ◌==◌, List, [], ◌∷◌, ◌++◌, length, map, Option, Some, None, if◌then◌else◌, refl, sym, ap, subst, arith, append_assoc}
+use Rattle.std.proofs.Common.{◌≡◌, ◌∙◌, ℕ, suc, ◌<◌, inl, inr, Bool, true, false, not, ◌==◌, List, [], ◌∷◌, ◌++◌, length, map, Option, Some, None, if◌then◌else◌, refl, sym, ap, subst, arith, append_assoc}
 use Rattle.std.specs.List.{slice_get, range_with_len}
-use Rattle.std.specs.Option.{MatchOption}
 use Rattle.std.proofs.lemmas.Bool.{false≢true, cases_Bool, and_from, eq-eqb}
 use Rattle.std.proofs.lemmas.List.{append-nil, length-map}
 use Rattle.std.proofs.lemmas.Option.{same_Some, none-some, MatchOption-at_some, MatchOption-at_none}
@@ -15,7 +14,6 @@ use Rattle.walrus_types.specs.Items.{Item}
 use Rattle.walrus_types.specs.Table.{Table, next_id, type_at, names_itself, merges, latest_id, equal_type}
 use Rattle.walrus_types.specs.TypeLaws.{IsLatest}
 use Rattle.walrus_types.specs.Parsing.{Parsed, with_group, merged, added, known_ids, parsed_group, parsed, unparsed}
-use Rattle.walrus_types.specs.Mergers.{is_single}
 use Rattle.walrus_types.proofs.LawLemmas.{latest-law}
 use Rattle.walrus_type_laws.specs.Rounds.{empty_table, read}
 use Rattle.walrus_type_laws.proofs.Places.{map_at}

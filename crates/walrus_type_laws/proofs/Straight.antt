@@ -1,22 +1,21 @@
 -- Reading a section in which no type merges: each id is the index, and each name is kept.
-use Rattle.std.proofs.Common.{◌≡◌, ◌∙◌, ℕ, zero, suc, ◌+◌, ◌<◌, ◌⊎◌, inl, inr, Bool, true, false, List, [], ◌∷◌, ◌++◌, length, map, Option, Some, None, refl, sym, ap, subst, arith, append_assoc, length-append}
+use Rattle.std.proofs.Common.{◌≡◌, ◌∙◌, ℕ, suc, ◌+◌, ◌<◌, inl, inr, Bool, true, false, List, [], ◌∷◌, ◌++◌, length, map, Option, Some, None, refl, sym, ap, subst, arith, append_assoc, length-append}
 use Rattle.std.specs.List.{slice_get, range_with_len, flat_map}
 use Rattle.std.proofs.lemmas.List.{append-nil, length-map, map-append, map-id}
 use Rattle.std.proofs.lemmas.List.Concat.{flat_map-append}
 use Rattle.std.proofs.lemmas.List.FromFn.{get_or-range_with_len}
-use Rattle.std.proofs.lemmas.Option.{same_Some, none-some}
+use Rattle.std.proofs.lemmas.Option.{none-some}
 use Rattle.walrus_forms.specs.Kinds.{Kind, kind_names}
 use Rattle.walrus_forms.specs.Records.{TypeGroup}
 use Rattle.walrus_forms.specs.Renaming.{at, renamed_kind}
 use Rattle.walrus_forms.proofs.RenamingLemmas.{In, kinds-agree}
 use Rattle.walrus_types.specs.Items.{Item, Group}
 use Rattle.walrus_types.specs.Groups.{new_items, group_slot}
-use Rattle.walrus_types.specs.Table.{Table, next_id, equal_type}
-use Rattle.walrus_types.specs.Parsing.{Parsed, with_group, merged, added, known_ids, parsed_group, parsed, unparsed}
+use Rattle.walrus_types.specs.Table.{next_id, equal_type}
+use Rattle.walrus_types.specs.Parsing.{Parsed, with_group, merged, added, known_ids, parsed_group, parsed}
 use Rattle.walrus_types.specs.Mergers.{Entry, is_single, entries_of}
 use Rattle.walrus_types.proofs.GroupLemmas.{length-new_items}
-use Rattle.walrus_types.proofs.ParseLemmas.{states-same}
-use Rattle.walrus_type_laws.specs.Rounds.{empty_table, read}
+use Rattle.walrus_type_laws.specs.Rounds.{read}
 use Rattle.walrus_type_laws.proofs.KindOrder.{kinds-kept}
 use Rattle.walrus_type_laws.proofs.Places.{append_at, maps_twice}
 use Rattle.walrus_type_laws.proofs.Written.{types_of}

@@ -1,17 +1,17 @@
 -- The order in which the groups of a table are written, where the groups of another were turned.
-use Rattle.std.proofs.Common.{◌≡◌, ◌≢◌, ◌∙◌, ℕ, ◌<◌, ◌≤◌, ◌⊎◌, inl, inr, Bool, List, [], ◌∷◌, length, map, AllPairs, IsPermutation, Option, Some, None, Ordering, refl, sym, ap, subst, arith}
+use Rattle.std.proofs.Common.{◌≡◌, ◌≢◌, ◌∙◌, ℕ, ◌<◌, ◌≤◌, ◌⊎◌, inl, inr, List, length, map, Option, Some, None, Ordering, sym, ap, subst, arith}
 use Rattle.std.specs.Prelude.{slice_index_or}
-use Rattle.std.specs.List.{slice_get, range_with_len}
+use Rattle.std.specs.List.{slice_get}
 use Rattle.std.specs.declared.cmp.Ordering.TheVariants.{Less, Equal, Greater}
 use Rattle.std.specs.Ordering.{ordering_reverse, is_lt, is_eq}
-use Rattle.std.proofs.lemmas.Bool.{false≢true, cases_lt, cases_eq}
+use Rattle.std.proofs.lemmas.Bool.{false≢true, cases_lt}
 use Rattle.std.proofs.lemmas.List.{length-map}
 use Rattle.std.proofs.lemmas.Option.{slice_get_within, slice_get-get_or, get_or_from_slice_get, same_Some}
 use Rattle.walrus_forms.specs.Kinds.{Kind}
 use Rattle.walrus_forms.specs.Order.{kind_cmp}
 use Rattle.walrus_type_order.specs.Order.{HasAnchor, IsLess, IsEmissionOrder}
 use Rattle.walrus_type_laws.proofs.KindOrder.{kinds-turned}
-use Rattle.walrus_type_laws.proofs.Places.{Has, Pairs, Once, Turns, get, pairs_of, turns_of, map_at, at_map, one_order}
+use Rattle.walrus_type_laws.proofs.Places.{Pairs, Turns, get, pairs_of, turns_of, map_at, at_map, one_order}
 
 module _ (keys : List (Option Kind)) where
   -- i is written before j

@@ -1,21 +1,19 @@
 -- What is written of a table whose groups have just the types that are written, each once.
-use Rattle.std.proofs.Common.{◌≡◌, ◌∙◌, ℕ, zero, suc, ◌+◌, ◌<◌, ◌≤◌, ◌⊎◌, inl, inr, Bool, true, false, not, ◌&&◌, ◌==◌, List, [], ◌∷◌, ◌++◌, length, map, filter, take, if◌then◌else◌, Option, Some, None, is_some, IsSome, refl, sym, ap, subst, arith, length-append}
+use Rattle.std.proofs.Common.{◌≡◌, ◌∙◌, ℕ, zero, suc, ◌+◌, Bool, true, List, [], ◌∷◌, ◌++◌, length, map, filter, take, if◌then◌else◌, Option, Some, None, is_some, IsSome, refl, sym, ap, subst, arith, length-append}
 use Rattle.std.specs.Prelude.{slice_index_or, unwrap_or}
 use Rattle.std.specs.List.{slice_get, flat_map, filter_map, cons_option}
 use Rattle.std.proofs.lemmas.Bool.{false≢true}
 use Rattle.std.proofs.lemmas.List.{length-map}
-use Rattle.std.proofs.lemmas.Option.{slice_get_within, slice_get-get_or, get_or_from_slice_get, same_Some, none-some}
+use Rattle.std.proofs.lemmas.Option.{slice_get_within, slice_get-get_or, same_Some, none-some}
 use Rattle.walrus_forms.specs.Kinds.{Kind}
-use Rattle.walrus_forms.specs.Order.{kind_cmp}
 use Rattle.walrus_forms.specs.Records.{TypeGroup}
 use Rattle.walrus_forms.specs.Renaming.{renamed_kind}
-use Rattle.walrus_type_order.specs.Order.{IsEmissionOrder}
 use Rattle.walrus_types.specs.Items.{Group}
 use Rattle.walrus_types.specs.Table.{Table}
 use Rattle.walrus_types.specs.Mergers.{Entry, is_single, entries_of}
-use Rattle.walrus_types.specs.Emission.{written_kind, is_written, written_groups, key_of, index_at, no_group, AreInOrder, AreIndices, AreArranged, written_in, written_types, described_group}
+use Rattle.walrus_types.specs.Emission.{written_kind, is_written, written_groups, key_of, index_at, no_group, AreInOrder, AreArranged, written_types, described_group}
 use Rattle.walrus_type_laws.specs.Alike.{keys_of, members, AreHomed}
-use Rattle.walrus_type_laws.proofs.Places.{Has, Once, Turns, turns_of, get, has_contains, contains_has, once_of, map_at, at_map, Seat, seat, unseat, seats_one, start, left_at, right_at}
+use Rattle.walrus_type_laws.proofs.Places.{Has, Once, Turns, turns_of, has_contains, contains_has, once_of, map_at, at_map, Seat, seat, unseat, seats_one, start, left_at, right_at}
 
 abbrev pub types_of : Group → List ℕ
 types_of g = g.types
