@@ -190,8 +190,15 @@ module _ (groups : List TypeGroup) (plain : PlainGroups groups) (out : List Type
       let w = idx.all s.piece s.place s.from x.0 s.at_piece s.at_place in
       let k = kind_of t x.0 w in
       let index = idx.back j x.0 x.1 in
-      record { id = x.0; kind = k.0; there = x.1; index = index; written = w; is = k.1;
-        found = ap (λ (n : ℕ). slice_get (all_kinds out) n) (sym index) ∙ out_kind x.0 k.0 w k.1; }
+      record {
+        id = x.0;
+        kind = k.0;
+        there = x.1;
+        index = index;
+        written = w;
+        is = k.1;
+        found = ap (λ (n : ℕ). slice_get (all_kinds out) n) (sym index) ∙ out_kind x.0 k.0 w k.1;
+      }
 
   -- the groups of what is emitted, each with the types of the group of the table
   record Of (before : List TypeGroup) (g : TypeGroup) : Type 0 where
@@ -427,8 +434,7 @@ module _ (groups : List TypeGroup) (plain : PlainGroups groups) (out : List Type
   pub again : (second : List TypeGroup) (others : List (Option ℕ)) → IsEmission (read out).table second others
       → (second ≡ out) × ((i : ℕ) → i < length (entries_of out) → index_map out others i ≡ i)
   again second others is =
-      let both = alike-law r t u homed alike out second indices others emission (subst (λ (s : Parsed). IsEmission s.table second others) straight_is is) in
-      (
+      let both = alike-law r t u homed alike out second indices others emission (subst (λ (s : Parsed). IsEmission s.table second others) straight_is is) in (
         both.0,
         λ i less.
             let small : i < length (all_kinds out) = omega (arith, less, kinds_length out) in

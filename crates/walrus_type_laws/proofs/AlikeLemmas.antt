@@ -163,8 +163,7 @@ module _ (r : ℕ → ℕ) (t u : Table) (homed : AreHomed t) (alike : Alike r t
       let kinds : (p : ℕ) (g : Group) → slice_get gs p ≡ Some g → (k id : ℕ) → slice_get g.types k ≡ Some id
       → (x : Kind) × (written_kind t id ≡ Some x) × (renamed_kind (index_at others) (renamed_kind r x) ≡ renamed_kind index x) =
       λ p g at_p k id at_k.
-      let x = kind_of t id (idx.all p k g id at_p at_k) in
-      (
+      let x = kind_of t id (idx.all p k g id at_p at_k) in (
         x.0,
         x.1,
         kinds-twice r (index_at others) x.0

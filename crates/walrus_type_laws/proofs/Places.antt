@@ -197,8 +197,14 @@ seat f (x ∷ xs) j y at = elim (append_at (f x) (flat_map f xs) j y at) as (λ 
   | inl here ↦ record { piece = 0; place = j; from = x; at_piece = refl; at_place = here; is = omega arith }
   | inr there ↦
       let s = seat f xs there.0 y there.2 in
-      record { piece = suc s.piece; place = s.place; from = s.from; at_piece = s.at_piece; at_place = s.at_place;
-        is = omega (arith, s.is, there.1, length-append (f x) (flat_map f (take s.piece xs))); }
+      record {
+        piece = suc s.piece;
+        place = s.place;
+        from = s.from;
+        at_piece = s.at_piece;
+        at_place = s.at_place;
+        is = omega (arith, s.is, there.1, length-append (f x) (flat_map f (take s.piece xs)));
+      }
 ]
 
 pub unseat : {X Y : Type 0} (f : X → List Y) (xs : List X) (p k : ℕ) (x : X) (y : Y) → slice_get xs p ≡ Some x → slice_get (f x) k ≡ Some y → slice_get (flat_map f xs) (start f xs p + k) ≡ Some y

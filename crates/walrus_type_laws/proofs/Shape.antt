@@ -62,8 +62,11 @@ stood_kept ids more gs news b g some fits stood =
     elim stood as (λ _. Stood (ids ++ more) (gs ++ news) b g) [
       | inl m ↦ inl (m.0, m.1, m.2, at_left ids more m.1 (let l = m.2 in omega (arith, l, some, fits)) ∙ m.3 ∙ sym first)
       | inr h ↦ inr (
-        (h.0.0, left_at gs news h.0.0 (record { explicit = g.marked; types = range_with_len (at (ids ++ more) b) (length g.kinds) })
-        (h.0.1 ∙ ap (λ (n : ℕ). let o : Option Group = Some (record { explicit = g.marked; types = range_with_len n (length g.kinds) }) in o) (sym first))),
+        (
+          h.0.0,
+          left_at gs news h.0.0 (record { explicit = g.marked; types = range_with_len (at (ids ++ more) b) (length g.kinds) })
+              (h.0.1 ∙ ap (λ (n : ℕ). let o : Option Group = Some (record { explicit = g.marked; types = range_with_len n (length g.kinds) }) in o) (sym first)),
+        ),
         λ k less. at_left ids more (b + k) (omega (arith, less, fits)) ∙ h.1 k less ∙ ap (λ (n : ℕ). n + k) (sym first),
       )
     ]

@@ -141,8 +141,7 @@ module _ (keys turned : List (Option Kind)) (turn : List ℕ) (is : IsTurned key
   composed_pairs order turns pairs = λ a b i j before at_a at_b.
       let c = composed_at order turns a i at_a in
       let d = composed_at order turns b j at_b in
-      let known : Before turned c.0 d.0 = pairs a b c.0 d.0 before c.1 d.1 in
-      (
+      let known : Before turned c.0 d.0 = pairs a b c.0 d.0 before c.1 d.1 in (
         λ has. known.0 (anchor_turned c.0 d.0 i j c.2 d.2 has),
         λ none. less_turned c.0 d.0 i j c.2 d.2 (known.1 (λ has. none (anchor_back c.0 d.0 i j c.2 d.2 has))),
       )
