@@ -6,7 +6,10 @@ mod laws;
 mod rewriting;
 mod running;
 
-pub use laws::{kept_is_least, rewriting_is_idempotent, written_is_least};
+pub use laws::{
+    canonical_is_one, kept_is_least, rewriting_is_idempotent, written_is_canonical,
+    written_is_least,
+};
 pub use rewriter_devices::{
     DeviceFailed, MemorySink, MemorySource, Sink, SinkFail, Source, StdSink, StdSource,
 };
