@@ -17,4 +17,4 @@ pub use rewriting::{Rewritten, rewrite};
 pub use running::{Summary, run};
 pub use wasm_model::fault::{Fault, Form, Limited, Space};
 pub use wasm_model::options::Options;
-pub use wasm_reader::Error;
+pub use wasm_reader::{Error, ErrorKind};
