@@ -101,6 +101,12 @@ fn windows(rt: HostRuntime) -> std::result::Result<(), Fail> {
     })?;
     assert_eq!(rt; skipped.read_bytes(3)?, [0x02, 0x80, 0x01].as_slice());
     assert_eq!(rt; again.current_position(), 3);
+    let back = again.skip(|r| {
+        *r = BinaryReader::new(&[0x7f], 7);
+        Ok(())
+    })?;
+    assert!(rt; back.eof());
+    assert_eq!(rt; back.original_position(), 7);
     assert_eq!(rt; BinaryReader::new(&[0x10], 4_294_967_296).read_u8()?, 0x10);
     assert_eq!(rt; BinaryReader::max_data_len(u64::MAX), 0);
     Ok(())
