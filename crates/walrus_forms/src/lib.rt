@@ -6,6 +6,7 @@ mod composite;
 pub mod laws;
 mod names;
 mod record;
+mod text;
 mod value;
 
 pub use composite::{ArrayType, CompositeType, FunctionType, StructType};

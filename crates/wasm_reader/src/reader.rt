@@ -1,6 +1,6 @@
 //! The reader: a window of the input and a position in it.
 
-ghost use Rattle.std.specs.Prelude.{◌≡◌, ◌+◌, ◌-◌, ◌<◌, ◌≤◌, ◌^◌, ◌==◌, length, IfOk, [], ◌∷◌, IsTrue, ◌↔◌, Result, MatchResult};
+ghost use Rattle.std.specs.Prelude.{◌≡◌, ◌+◌, ◌-◌, ◌<◌, ◌≤◌, ◌^◌, ◌==◌, min, length, IfOk, [], ◌∷◌, IsTrue, ◌↔◌, Result, MatchResult};
 ghost use Rattle.std.specs.Fn.{FnOnceReturnsAtMut};
 ghost use Rattle.wasm_reader.specs.declared.error.Error.{Error};
 ghost use Rattle.wasm_reader.specs.Cursor.{Cursor, Forward, read_since, rest, end_of, IsInner, shrunk, with_features};
@@ -254,22 +254,20 @@ impl<'a> BinaryReader<'a> {
         Ok(&self.buffer[start..start + size])
     }
 
-    /// Runs `read`, which only reads on, and gives a reader of the bytes that it read, at their place.
+    /// Runs `read`, and gives a reader of the bytes that it read, at their place: of none where it went back.
     /// Refused where `read` is.
     pub fn skip<F: FnOnce(&mut BinaryReader<'a>) -> Result<()>>(
         &mut self,
         read: F,
     ) -> Result<BinaryReader<'a>>
         requires callable { F.IsAlwaysCallable read }
-        requires reads_on { (old new : Cursor) (outcome : Result (Unit {0}) Error) → FnOnceReturnsAtMut F.FnOnce read old outcome new → Forward old new }
         ensures outcome { MatchResult result
-            (λ inner. FnOnceReturnsAtMut F.FnOnce read self.old (Ok tt) self.new × (inner ≡ read_since self.old.position self.new))
+            (λ inner. FnOnceReturnsAtMut F.FnOnce read self.old (Ok tt) self.new × (inner ≡ read_since (min self.old.position self.new.position) self.new))
             (λ e. FnOnceReturnsAtMut F.FnOnce read self.old (Err e) self.new) }
-        ensures moves { Forward self.old self.new }
     {
         let position = self.position;
         read(self)?;
-        Ok(self.read_since(position))
+        Ok(self.read_since(position.min(self.position)))
     }
 
     fn read_since(&self, position: usize) -> BinaryReader<'a>

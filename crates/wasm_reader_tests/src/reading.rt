@@ -114,6 +114,12 @@ fn skipped_bytes(rt: HostRuntime) -> std::result::Result<(), Fail> {
     })?;
     assert_eq!(rt; skipped.read_bytes(3)?, [0x02, 0x80, 0x01].as_slice());
     assert_eq!(rt; reader.current_position(), 3);
+    let back = reader.skip(|r| {
+        *r = BinaryReader::new(&[0x7f], 7);
+        Ok(())
+    })?;
+    assert!(rt; back.eof());
+    assert_eq!(rt; back.original_position(), 7);
     Ok(())
 }
 
