@@ -163,4 +163,5 @@ fn laws_can_be_cited() {
     wasm_types::laws::type_spellings_are_prefix_free();
     wasm_types::laws::written_types_are_read();
     wasm_types::laws::groups_are_equal_as_lists();
+    wasm_types::laws::offsets_of_groups_move();
 }

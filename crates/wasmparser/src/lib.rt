@@ -16,3 +16,12 @@ pub use wasm_ref_types::{
 pub use wasm_types::{
     FuncTypes, IntoTypes, IntoTypesAndOffsets, RecGroup, SubType, TypeSectionReader, Types,
 };
+
+/// Laws of the words that contracts cite.
+pub mod laws {
+    pub use wasm_composite_types::laws as composite_types;
+    pub use wasm_features::laws as features;
+    pub use wasm_reader::laws as reader;
+    pub use wasm_ref_types::laws as ref_types;
+    pub use wasm_types::laws as types;
+}
