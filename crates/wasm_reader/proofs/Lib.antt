@@ -6,3 +6,4 @@ pub mod Moved
 pub mod Small
 pub mod Refused
 pub mod Repeats
+pub mod Taken

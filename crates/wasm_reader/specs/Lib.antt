@@ -2,6 +2,7 @@ pub mod Cursor
 pub mod Reading
 pub mod Numbers
 pub mod Text
+pub mod SmallSpellings
 pub mod Items
 pub mod Unless
 pub mod Iter

@@ -8,6 +8,7 @@ ghost use Rattle.wasm_reader.specs.Floats.{seen_bits32, seen_bits64};
 ghost use Rattle.wasm_reader.specs.Numbers.{unsigned, signed, Spells, unsigned_at, signed_at, s33_at};
 ghost use Rattle.wasm_reader.specs.Shortest.{IsShortest, shortest_unsigned, shortest_signed};
 ghost use Rattle.wasm_reader.specs.Text.{SpellsSized, SpellsText, SpellsName, size_at, text_at, string_at, sized_bytes_at, unlimited_string_at, skipped_string_at};
+ghost use Rattle.wasm_reader.specs.SmallSpellings.{SpellsByte, SpellsU7, SpellsSize, SpellsSkipped};
 ghost use Rattle.wasm_reader.specs.Faults.{RefusesExactly};
 ghost use Rattle.wasm_reader.specs.declared.error.ErrorKind.TheVariants.{TooLarge, TooLong};
 ghost use Rattle.wasm_reader.specs.Laws.{IsFinal, GrowsNext, EndsEarly, TakesSpelled, IsPrefixFree, OffsetsMove, OffsetsMoveBy};
@@ -57,9 +58,15 @@ pub fn fronts_end_early()
     ensures string { EndsEarly string_at }
     ensures unlimited { EndsEarly unlimited_string_at }
     ensures sized { EndsEarly sized_bytes_at }
+    ensures byte { EndsEarly byte_at }
+    ensures u7 { EndsEarly u7_at }
+    ensures run { (size : ℕ) → EndsEarly (bytes_at size) }
+    ensures little { (size : ℕ) → EndsEarly (little_at size) }
+    ensures size { (limit : ℕ) → EndsEarly (size_at limit) }
+    ensures skipped { EndsEarly skipped_string_at }
 {}
 
-/// Bytes are read as a run of bytes, a number, a name or a vec of numbers or names exactly if they spell it.
+/// Bytes are read as a byte, a run of bytes, a number, a length, a name or a vec of numbers or names exactly if they spell it.
 pub fn spellings_are_read()
     ensures unsigned { (width : ℕ) → TakesSpelled (unsigned_at width) (Spells unsigned width) }
     ensures signed { (width : ℕ) → TakesSpelled (signed_at width) (Spells signed width) }
@@ -71,6 +78,10 @@ pub fn spellings_are_read()
     ensures unlimited { TakesSpelled unlimited_string_at SpellsText }
     ensures numbers { (limit : ℕ) → TakesSpelled (vec_at limit (unsigned_at 32)) (SpellsVec limit (Spells unsigned 32)) }
     ensures names { (limit : ℕ) → TakesSpelled (vec_at limit string_at) (SpellsVec limit SpellsName) }
+    ensures byte { TakesSpelled byte_at SpellsByte }
+    ensures u7 { TakesSpelled u7_at SpellsU7 }
+    ensures size { (limit : ℕ) → TakesSpelled (size_at limit) (SpellsSize limit) }
+    ensures skipped { TakesSpelled skipped_string_at SpellsSkipped }
 {}
 
 /// No spelling is a proper front of another of its kind, and none has two values.
@@ -84,6 +95,10 @@ pub fn spellings_are_prefix_free()
     ensures text { IsPrefixFree SpellsText }
     ensures numbers { (limit : ℕ) → IsPrefixFree (SpellsVec limit (Spells unsigned 32)) }
     ensures names { (limit : ℕ) → IsPrefixFree (SpellsVec limit SpellsName) }
+    ensures byte { IsPrefixFree SpellsByte }
+    ensures u7 { IsPrefixFree SpellsU7 }
+    ensures size { (limit : ℕ) → IsPrefixFree (SpellsSize limit) }
+    ensures skipped { IsPrefixFree SpellsSkipped }
 {}
 
 /// The shortest spelling of a number, in `count` bytes at most, spells it, and no spelling is shorter.

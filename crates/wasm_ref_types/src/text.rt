@@ -111,13 +111,19 @@ impl fmt::Display for ValType {
     }
 }
 
+/// Writes what Display writes.
 impl fmt::Debug for RefType {
+    ghost debug_output = { λ ty. Some (reference_text ty) };
+
     fn fmt<W: fmt::Write>(&self, f: &mut fmt::Formatter<W>) -> fmt::Result {
         fmt::Display::fmt(self, f)
     }
 }
 
+/// Writes what Display writes.
 impl fmt::Debug for ValType {
+    ghost debug_output = { λ ty. Some (value_text ty) };
+
     fn fmt<W: fmt::Write>(&self, f: &mut fmt::Formatter<W>) -> fmt::Result {
         fmt::Display::fmt(self, f)
     }

@@ -1,12 +1,14 @@
 use Rattle.wasm_reader.specs.Items.{vec_at, SpellsVec}
 use Rattle.wasm_reader.specs.Vecs.{vec_taken}
 use Rattle.wasm_reader.specs.Spellings.{run_taken, little_taken, sized_bytes_taken}
-use Rattle.wasm_reader.specs.Reading.{bytes_at, little_at, SpellsRun, SpellsLittle}
+use Rattle.wasm_reader.specs.Reading.{byte_at, u7_at, bytes_at, little_at, SpellsRun, SpellsLittle}
 use Rattle.wasm_reader.specs.Text.{sized_bytes_at, SpellsSized}
 use Rattle.wasm_reader.specs.declared.error.ErrorKind.TheVariants.{TooLarge}
 use Rattle.wasm_reader.specs.Numbers.{unsigned, signed, Spells, unsigned_at, signed_at}
-use Rattle.wasm_reader.specs.Text.{SpellsName, SpellsText, string_at, unlimited_string_at}
+use Rattle.wasm_reader.specs.Text.{SpellsName, SpellsText, size_at, string_at, unlimited_string_at, skipped_string_at}
 use Rattle.wasm_reader.specs.Spellings.{number_taken, string_taken, unlimited_string_taken, taken_free}
+use Rattle.wasm_reader.specs.SmallSpellings.{SpellsByte, SpellsU7, SpellsSize, SpellsSkipped}
+use Rattle.wasm_reader.proofs.Taken.{byte_taken, u7_taken, size_taken, skipped_taken}
 use Rattle.wasm_reader.proofs.laws.spellings_are_prefix_free.Goals as goal
 
 pub returns-clause-unsigned : goal.returns-clause-unsigned
@@ -35,3 +37,15 @@ returns-clause-numbers c = λ limit. taken_free (vec_at limit (unsigned_at 32)) 
 
 pub returns-clause-names : goal.returns-clause-names
 returns-clause-names c = λ limit. taken_free (vec_at limit string_at) (SpellsVec limit SpellsName) (vec_taken string_at SpellsName string_taken limit)
+
+pub returns-clause-byte : goal.returns-clause-byte
+returns-clause-byte c = taken_free byte_at SpellsByte byte_taken
+
+pub returns-clause-u7 : goal.returns-clause-u7
+returns-clause-u7 c = taken_free u7_at SpellsU7 u7_taken
+
+pub returns-clause-size : goal.returns-clause-size
+returns-clause-size c = λ limit. taken_free (size_at limit) (SpellsSize limit) (size_taken limit)
+
+pub returns-clause-skipped : goal.returns-clause-skipped
+returns-clause-skipped c = taken_free skipped_string_at SpellsSkipped skipped_taken

@@ -4,6 +4,7 @@ use Rattle.wasm_reader.specs.declared.error.ErrorKind.TheVariants.{TooLarge, Too
 use Rattle.wasm_reader.specs.Numbers.{unsigned, signed, Spells, unsigned_at}
 use Rattle.wasm_reader.specs.Text.{SpellsName, string_at}
 use Rattle.wasm_reader.specs.Spellings.{number_taken, string_taken, unlimited_string_taken}
+use Rattle.wasm_reader.proofs.Taken.{byte_taken, u7_taken, size_taken, skipped_taken}
 use Rattle.wasm_reader.proofs.laws.spellings_are_read.Goals as goal
 
 pub returns-clause-unsigned : goal.returns-clause-unsigned
@@ -35,3 +36,15 @@ returns-clause-numbers c = vec_taken (unsigned_at 32) (Spells unsigned 32) (numb
 
 pub returns-clause-names : goal.returns-clause-names
 returns-clause-names c = vec_taken string_at SpellsName string_taken
+
+pub returns-clause-byte : goal.returns-clause-byte
+returns-clause-byte c = byte_taken
+
+pub returns-clause-u7 : goal.returns-clause-u7
+returns-clause-u7 c = u7_taken
+
+pub returns-clause-size : goal.returns-clause-size
+returns-clause-size c = size_taken
+
+pub returns-clause-skipped : goal.returns-clause-skipped
+returns-clause-skipped c = skipped_taken
