@@ -1,5 +1,5 @@
 -- Lemmas: each reading of a type is final.
-use Rattle.std.specs.Prelude.{ℕ, ◌+◌, ◌==◌, true, false, List, [], ◌++◌, length, Ok, Err, refl}
+use Rattle.std.specs.Prelude.{ℕ, ◌+◌, ◌==◌, true, false, List, ◌++◌, length, Ok, Err, refl}
 use Rattle.wasm_features.specs.declared.WasmFeatures.{WasmFeatures}
 use Rattle.wasm_features.specs.Features.{Feature, GcTypes, SharedEverythingThreads, enables, constant, features_of}
 use Rattle.wasm_reader.specs.declared.error.ErrorKind.TheVariants as kinds

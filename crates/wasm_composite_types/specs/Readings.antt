@@ -1,6 +1,6 @@
 -- What bytes are read as which type, or where they are refused (Core Specification, binary format, types). A byte that is given
 -- to a reading was read before, and stands where `start` bytes were left.
-use Rattle.std.specs.Prelude.{ℕ, ◌==◌, Bool, true, false, List, [], length, Ok, Err, if◌then◌else◌}
+use Rattle.std.specs.Prelude.{ℕ, ◌==◌, Bool, true, false, List, length, Ok, Err, if◌then◌else◌}
 use Rattle.wasm_features.specs.declared.WasmFeatures.{WasmFeatures}
 use Rattle.wasm_features.specs.Features.{Feature, GcTypes, SharedEverythingThreads, enables, constant, features_of}
 use Rattle.wasm_reader.specs.declared.error.ErrorKind.TheVariants as kinds

@@ -1,5 +1,5 @@
 -- Which bytes spell a type (Core Specification, binary format, types), under which features.
-use Rattle.std.specs.Prelude.{ℕ, ◌≤◌, ◌^◌, ◌≡◌, Bool, true, false, List, [], ◌∷◌, ◌++◌, length, All}
+use Rattle.std.specs.Prelude.{ℕ, ◌≤◌, ◌≡◌, Bool, true, false, List, [], ◌∷◌, ◌++◌, length, All}
 use Rattle.wasm_features.specs.declared.WasmFeatures.{WasmFeatures}
 use Rattle.wasm_reader.specs.Items.{SpellsVec}
 use Rattle.wasm_ref_types.specs.TypeSpellings.{HasGcTypes, HasSharedTypes, SpellsBehind, SpellsValue, IsWrittenValue}

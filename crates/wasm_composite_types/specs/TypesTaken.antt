@@ -4,7 +4,6 @@ use Rattle.std.proofs.Common.{ap, sym, ◌∙◌, subst, arith, inl, inr}
 use Rattle.std.proofs.lemmas.Bool.{cases_lt, cases_Bool, eqb-true, eqb-false, ne_eqb}
 use Rattle.wasm_features.specs.declared.WasmFeatures.{WasmFeatures}
 use Rattle.wasm_features.specs.Features.{GcTypes, SharedEverythingThreads, enables}
-use Rattle.wasm_reader.specs.declared.error.ErrorKind.TheVariants as kinds
 use Rattle.wasm_reader.specs.Reading.{◌>>=◌, byte_at, next_at}
 use Rattle.wasm_reader.specs.Items.{SpellsVec, vec_at}
 use Rattle.wasm_reader.specs.Laws.{TakesSpelled}

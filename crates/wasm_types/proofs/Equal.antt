@@ -1,5 +1,5 @@
 -- Types are equal exactly where they are one.
-use Rattle.std.proofs.Common.{◌≡◌, ◌&&◌, Bool, true, List, [], Option, Some, None, refl, ap, ◌∙◌}
+use Rattle.std.proofs.Common.{◌≡◌, ◌&&◌, Bool, true, List, Option, Some, None, refl, ap, ◌∙◌}
 use Rattle.std.specs.Bool.{beq}
 use Rattle.std.specs.Option.{option_eq}
 use Rattle.std.specs.Cmp.Lexicographic.{pointwise}

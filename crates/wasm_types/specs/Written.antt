@@ -1,5 +1,5 @@
 -- Lemmas: each type within the limits, with indices of the module below 2^20, has bytes that spell it.
-use Rattle.std.specs.Prelude.{ℕ, zero, suc, ◌^◌, ◌≡◌, Bool, true, false, List, [], ◌∷◌, ◌++◌, length, All, Option, Some, None, refl}
+use Rattle.std.specs.Prelude.{ℕ, zero, suc, ◌≡◌, Bool, true, false, List, [], ◌∷◌, ◌++◌, length, All, Option, Some, None, refl}
 use Rattle.std.proofs.Common.{arith, inl, inr}
 use Rattle.wasm_features.specs.declared.WasmFeatures.{WasmFeatures}
 use Rattle.wasm_reader.specs.Shortest.{shortest_unsigned}
