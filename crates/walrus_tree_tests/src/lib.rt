@@ -6,8 +6,6 @@ mod built;
 #[cfg(test)]
 mod changing;
 #[cfg(test)]
-mod counts;
-#[cfg(test)]
 mod forms;
 #[cfg(test)]
 mod hooks;
