@@ -39,8 +39,8 @@ returns-in_err-visit_next-clause-refused g c =
     let n = c.in_err-visit_next.ensures in
     let p = err_from_is_err_and c.from_residual-in_err-visit_next.result c.from_residual-in_err-visit_next.ensures.1 in
     rw p.1 (l.invariant.front (c.visit_next.new.visitor, c.visit_next.new.seqs)
-      (front_step c.args.seqs.now l.seqs l.invariant.keeps c.in-Some.step c.pop.new.self.items l.stack.items c.id.result c.id.ensures c.in-Some.ensures.items l.invariant.steps n.visited.seq n.visited.known
-      (c.pop.new.self.items ++ entering (held_by n.visited.seq)) refl (SeqVisited g.V.VisitorMut.step) (l.visitor, l.seqs) (c.visit_next.new.visitor, c.visit_next.new.seqs) n.visited))
+    (front_step c.args.seqs.now l.seqs l.invariant.keeps c.in-Some.step c.pop.new.self.items l.stack.items c.id.result c.id.ensures c.in-Some.ensures.items l.invariant.steps n.visited.seq n.visited.known
+    (c.pop.new.self.items ++ entering (held_by n.visited.seq)) refl (SeqVisited g.V.VisitorMut.step) (l.visitor, l.seqs) (c.visit_next.new.visitor, c.visit_next.new.seqs) n.visited))
 
 pub returns-in_err-visit_next-clause-nested : goal.returns-in_err-visit_next-clause-nested
 returns-in_err-visit_next-clause-nested g c =
