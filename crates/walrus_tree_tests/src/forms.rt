@@ -402,3 +402,39 @@ pub fn structured_rows(alloc: Global) -> Result<Rows, AllocError> {
     ]?;
     Ok(rows)
 }
+
+/// Types that name no id, and a `try_table` with clauses of two kinds.
+pub fn other_rows(alloc: Global) -> Result<Rows, AllocError> {
+    let n = ids();
+    let clauses = vec![in alloc;
+        TryTableCatch::CatchRef {
+            tag: n.tag,
+            label: n.block
+        },
+        TryTableCatch::CatchAll { label: n.block },
+    ]?;
+    let rows = vec![in alloc;
+        (
+            Instr::Select {
+                ty: Some(ValType::I32)
+            },
+            ""
+        ),
+        (
+            Instr::BrOnCast {
+                block: n.block,
+                from_ty: RefType::ANYREF,
+                to_ty: n.named
+            },
+            "label type"
+        ),
+        (
+            Instr::TryTable {
+                seq: n.block,
+                catches: clauses
+            },
+            "tag label label"
+        ),
+    ]?;
+    Ok(rows)
+}

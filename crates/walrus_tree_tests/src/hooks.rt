@@ -1,7 +1,7 @@
 //! Each form of instruction tells of what it names, in both walks.
-use crate::counts::Counts;
 use crate::forms::{
-    Rows, aggregate_rows, control_rows, memory_rows, operand_rows, structured_rows, table_rows,
+    Rows, aggregate_rows, control_rows, memory_rows, operand_rows, other_rows, structured_rows,
+    table_rows,
 };
 use crate::log::Log;
 use std::alloc::{AllocError, Global};
@@ -33,6 +33,7 @@ fn each_form_tells_of_what_it_names(rt: HostRuntime) -> Result<(), Fail> {
     told(&rt, rt.alloc(), memory_rows(rt.alloc())?);
     told(&rt, rt.alloc(), aggregate_rows(rt.alloc())?);
     told(&rt, rt.alloc(), structured_rows(rt.alloc())?);
+    told(&rt, rt.alloc(), other_rows(rt.alloc())?);
     Ok(())
 }
 
@@ -71,34 +72,45 @@ fn body(alloc: Global) -> Result<Vec<InstrSeq>, AllocError> {
     Ok(seqs)
 }
 
-// By the table of operators: 93 forms in one sequence, and the empty ones that they hold.
-const EXPECTED: Counts = Counts {
-    starts: 9,
-    ends: 9,
-    instrs: 93,
-    labels: 13,
-    locals: 3,
-    memories: 13,
-    tables: 10,
-    globals: 2,
-    functions: 3,
-    data: 4,
-    types: 34,
-    elements: 4,
-    tags: 4,
-    values: 1,
-};
+// By the table of operators, for 93 forms in one sequence and the empty ones that they hold.
+const EXPECTED: [(&str, usize); 13] = [
+    ("start", 9),
+    ("end", 9),
+    ("label", 13),
+    ("local", 3),
+    ("memory", 13),
+    ("table", 10),
+    ("global", 2),
+    ("function", 3),
+    ("data", 4),
+    ("type", 34),
+    ("element", 4),
+    ("tag", 4),
+    ("value", 1),
+];
+
+fn count(text: &str, word: &str) -> usize {
+    text.split(' ').filter(|told| *told == word).count()
+}
+
+fn counted(rt: &impl Abort, log: &Log) {
+    assert!(rt; !log.refused);
+    assert_eq!(rt; log.instrs, 93);
+    for (word, wanted) in EXPECTED {
+        assert_eq!(rt; count(&log.text, word), wanted);
+    }
+}
 
 #[test]
 fn each_hook_is_counted(rt: HostRuntime) -> Result<(), Fail> {
     let mut seqs = body(rt.alloc())?;
     let start = InstrSeqId::from_index(0);
     assert!(rt; check_nesting(rt.alloc(), seqs.as_slice(), start)?);
-    let mut counts = Counts::NONE;
-    dfs_in_order(rt.alloc(), &mut counts, seqs.as_slice(), start)?;
-    assert!(rt; counts == EXPECTED);
-    let mut changing = Counts::NONE;
+    let mut log = Log::new(rt.alloc());
+    dfs_in_order(rt.alloc(), &mut log, seqs.as_slice(), start)?;
+    counted(&rt, &log);
+    let mut changing = Log::new(rt.alloc());
     dfs_pre_order_mut(rt.alloc(), &mut changing, seqs.as_mut_slice(), start)?;
-    assert!(rt; changing == EXPECTED);
+    counted(&rt, &changing);
     Ok(())
 }

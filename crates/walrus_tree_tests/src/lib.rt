@@ -6,8 +6,6 @@ mod built;
 #[cfg(test)]
 mod changing;
 #[cfg(test)]
-mod counts;
-#[cfg(test)]
 mod forms;
 #[cfg(test)]
 mod hooks;
@@ -15,6 +13,8 @@ mod hooks;
 mod log;
 #[cfg(test)]
 mod log_mut;
+#[cfg(test)]
+mod refused;
 #[cfg(test)]
 mod renamer;
 #[cfg(test)]

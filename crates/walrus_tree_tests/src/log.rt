@@ -12,6 +12,8 @@ use walrus_walks::Visitor;
 pub struct Log {
     pub text: String,
     pub refused: bool,
+    /// How many instructions it was told of.
+    pub instrs: usize,
 }
 
 impl Log {
@@ -19,6 +21,7 @@ impl Log {
         Log {
             text: String::new(alloc),
             refused: false,
+            instrs: 0,
         }
     }
 
@@ -26,6 +29,32 @@ impl Log {
         if self.text.push_str(word).is_err() || self.text.push(' ').is_err() {
             self.refused = true;
         }
+    }
+}
+
+fn form(instr: &Instr) -> Option<&'static str> {
+    match instr {
+        Instr::Drop => Some("drop"),
+        Instr::Block { .. } => Some("block"),
+        Instr::IfElse { .. } => Some("if-else"),
+        Instr::Try { .. } => Some("try"),
+        _ => None,
+    }
+}
+
+fn constant(value: &Value) -> &'static str {
+    match value {
+        Value::I32(1) => "1",
+        Value::I32(2) => "2",
+        Value::I32(3) => "3",
+        Value::I32(4) => "4",
+        Value::I32(5) => "5",
+        Value::I32(6) => "6",
+        Value::I32(7) => "7",
+        Value::I32(8) => "8",
+        Value::I32(9) => "9",
+        Value::I32(10) => "10",
+        _ => "value",
     }
 }
 
@@ -41,29 +70,14 @@ impl Visitor for Log {
     }
 
     fn visit_instr(&mut self, instr: &Instr, _place: &InstrLocId) {
-        match instr {
-            Instr::Drop => self.word("drop"),
-            Instr::Block { .. } => self.word("block"),
-            Instr::IfElse { .. } => self.word("if-else"),
-            Instr::Try { .. } => self.word("try"),
-            _ => {}
+        self.instrs = self.instrs.wrapping_add(1);
+        if let Some(word) = form(instr) {
+            self.word(word);
         }
     }
 
     fn visit_value(&mut self, value: &Value) {
-        match value {
-            Value::I32(1) => self.word("1"),
-            Value::I32(2) => self.word("2"),
-            Value::I32(3) => self.word("3"),
-            Value::I32(4) => self.word("4"),
-            Value::I32(5) => self.word("5"),
-            Value::I32(6) => self.word("6"),
-            Value::I32(7) => self.word("7"),
-            Value::I32(8) => self.word("8"),
-            Value::I32(9) => self.word("9"),
-            Value::I32(10) => self.word("10"),
-            _ => self.word("value"),
-        }
+        self.word(constant(value))
     }
 
     fn visit_instr_seq_id(&mut self, _id: &InstrSeqId) {

@@ -1,7 +1,9 @@
-//! The same visitor in a walk that changes. It changes nothing.
+//! The same visitor in a walk that changes. It moves functions and locals to later numbers, adds one to each
+//! constant, and puts `unreachable` in place of `drop`, once it has written down what it was told.
 ghost use Rattle.std.specs.Prelude.{⊤};
 
 use crate::log::Log;
+use crate::renamer::{add_one, move_function, move_local, replace_drop};
 use walrus_arena::{
     DataId, ElementId, FunctionId, GlobalId, InstrSeqId, LocalId, MemoryId, TableId, TagId, TypeId,
 };
@@ -20,19 +22,22 @@ impl VisitorMut for Log {
     }
 
     fn visit_instr_mut(&mut self, instr: &mut Instr, place: &mut InstrLocId) {
-        self.visit_instr(&*instr, &*place)
+        self.visit_instr(&*instr, &*place);
+        replace_drop(instr)
     }
 
     fn visit_value_mut(&mut self, value: &mut Value) {
-        self.visit_value(&*value)
+        self.visit_value(&*value);
+        add_one(value)
     }
 
     fn visit_instr_seq_id_mut(&mut self, _id: &mut InstrSeqId) {
         self.word("label")
     }
 
-    fn visit_local_id_mut(&mut self, _id: &mut LocalId) {
-        self.word("local")
+    fn visit_local_id_mut(&mut self, id: &mut LocalId) {
+        self.word("local");
+        move_local(id)
     }
 
     fn visit_memory_id_mut(&mut self, _id: &mut MemoryId) {
@@ -47,8 +52,9 @@ impl VisitorMut for Log {
         self.word("global")
     }
 
-    fn visit_function_id_mut(&mut self, _id: &mut FunctionId) {
-        self.word("function")
+    fn visit_function_id_mut(&mut self, id: &mut FunctionId) {
+        self.word("function");
+        move_function(id)
     }
 
     fn visit_data_id_mut(&mut self, _id: &mut DataId) {

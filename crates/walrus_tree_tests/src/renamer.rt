@@ -1,60 +1,36 @@
-//! A visitor that changes what it is handed.
-ghost use Rattle.std.specs.Prelude.{⊤};
+//! What the log changes in a walk that changes.
+ghost use Rattle.std.specs.Prelude.{◌≡◌};
+ghost use Rattle.walrus_walks.specs.Tree.{children};
 
-use walrus_arena::{
-    DataId, ElementId, FunctionId, GlobalId, InstrSeqId, LocalId, MemoryId, TableId, TagId, TypeId,
-};
-use walrus_instr::{Instr, InstrLocId, InstrSeq, Value};
-use walrus_walks::VisitorMut;
+use walrus_arena::{FunctionId, LocalId};
+use walrus_instr::{Instr, Value};
 
-/// Moves functions and locals to later numbers, adds one to each constant, and puts `unreachable`
-/// in place of `drop`.
-#[derive(Clone, Copy)]
-pub struct Renamer {
-    pub functions: usize,
-    pub locals: usize,
+const LATER_FUNCTIONS: usize = 10;
+
+const LATER_LOCALS: usize = 20;
+
+/// Moves the function to a later number.
+pub fn move_function(id: &mut FunctionId) {
+    *id = FunctionId::from_index(id.index().wrapping_add(LATER_FUNCTIONS));
 }
 
-impl VisitorMut for Renamer {
-    ghost step = { λ _ _ _ _. ⊤ };
+/// Moves the local to a later number.
+pub fn move_local(id: &mut LocalId) {
+    *id = LocalId::from_index(id.index().wrapping_add(LATER_LOCALS));
+}
 
-    fn start_instr_seq_mut(&mut self, _seq: &mut InstrSeq) {}
-
-    fn end_instr_seq_mut(&mut self, _seq: &mut InstrSeq) {}
-
-    fn visit_instr_mut(&mut self, instr: &mut Instr, _place: &mut InstrLocId) {
-        if matches!(instr, Instr::Drop) {
-            *instr = Instr::Unreachable;
-        }
+/// Adds one to a constant.
+pub fn add_one(value: &mut Value) {
+    if let Value::I32(number) = value {
+        *number = number.wrapping_add(1);
     }
+}
 
-    fn visit_local_id_mut(&mut self, id: &mut LocalId) {
-        *id = LocalId::from_index(id.index().wrapping_add(self.locals));
+/// Puts `unreachable` in place of `drop`.
+pub fn replace_drop(instr: &mut Instr)
+    ensures { children instr.new ≡ children instr.old }
+{
+    if matches!(instr, Instr::Drop) {
+        *instr = Instr::Unreachable;
     }
-
-    fn visit_function_id_mut(&mut self, id: &mut FunctionId) {
-        *id = FunctionId::from_index(id.index().wrapping_add(self.functions));
-    }
-
-    fn visit_value_mut(&mut self, value: &mut Value) {
-        if let Value::I32(number) = value {
-            *number = number.wrapping_add(1);
-        }
-    }
-
-    fn visit_instr_seq_id_mut(&mut self, _id: &mut InstrSeqId) {}
-
-    fn visit_memory_id_mut(&mut self, _id: &mut MemoryId) {}
-
-    fn visit_table_id_mut(&mut self, _id: &mut TableId) {}
-
-    fn visit_global_id_mut(&mut self, _id: &mut GlobalId) {}
-
-    fn visit_data_id_mut(&mut self, _id: &mut DataId) {}
-
-    fn visit_type_id_mut(&mut self, _id: &mut TypeId) {}
-
-    fn visit_element_id_mut(&mut self, _id: &mut ElementId) {}
-
-    fn visit_tag_id_mut(&mut self, _id: &mut TagId) {}
 }

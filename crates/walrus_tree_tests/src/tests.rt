@@ -3,16 +3,15 @@ use crate::log::Log;
 use std::alloc::{AllocError, Global};
 use std::process::Abort;
 use std::test::Fail;
-use walrus_arena::{
-    DataId, ElementId, FunctionId, GlobalId, InstrSeqId, LocalId, MemoryId, TableId, TagId, TypeId,
+use walrus_arena::{InstrSeqId, TagId, TypeId};
+use walrus_builder::{
+    FunctionBuilder, InstrSeqBuilder, check_nesting, dfs_in_order, dfs_pre_order_mut,
 };
-use walrus_builder::{FunctionBuilder, InstrSeqBuilder, check_nesting, dfs_in_order};
 use walrus_instr::{
     AtomicWidth, ConstExpr, ConstOp, ExtendedLoad, Instr, InstrLocId, InstrSeqType, LegacyCatch,
-    LoadKind, MemArg, StoreKind, TryTableCatch, Value,
+    LoadKind, StoreKind, Value,
 };
-use walrus_types::{HeapType, RefType, ValType};
-use walrus_walks::Visit;
+use walrus_types::ValType;
 
 const PLAIN: InstrSeqType = InstrSeqType::Simple(None);
 
@@ -26,60 +25,95 @@ fn drops(seq: &mut InstrSeqBuilder, value: i32) -> Result<(), AllocError> {
     seq.drop()
 }
 
-fn holds(seq: &InstrSeqBuilder, length: usize) -> bool {
-    seq.instrs().len() == length
+// Six sequences, each with a constant of its own.
+fn add_seqs(rt: &impl Abort, body: &mut FunctionBuilder) -> Result<(), AllocError> {
+    for value in [4, 3, 2, 7, 8, 9] {
+        let id = body.dangling_instr_seq(PLAIN)?;
+        assert!(rt; id.index() < body.seqs().len());
+        drops(body.instr_seq(id), value)?;
+    }
+    Ok(())
+}
+
+fn add_arms(seq: &mut InstrSeqBuilder) -> Result<(), AllocError> {
+    seq.instr(Instr::IfElse {
+        consequent: InstrSeqId::from_index(2),
+        alternative: InstrSeqId::from_index(1),
+    })?;
+    drops(seq, 5)
+}
+
+fn add_block(seq: &mut InstrSeqBuilder) -> Result<(), AllocError> {
+    seq.instr(Instr::Block {
+        seq: InstrSeqId::from_index(3),
+    })?;
+    drops(seq, 6)
+}
+
+fn add_try(seq: &mut InstrSeqBuilder, alloc: Global) -> Result<(), AllocError> {
+    let catches = vec![in alloc;
+        LegacyCatch::Catch {
+            tag: TagId::from_index(0),
+            handler: InstrSeqId::from_index(5)
+        },
+        LegacyCatch::CatchAll {
+            handler: InstrSeqId::from_index(6)
+        },
+    ]?;
+    seq.instr(Instr::Try {
+        seq: InstrSeqId::from_index(4),
+        catches,
+    })?;
+    drops(seq, 10)
+}
+
+// A block that holds an `if`, and a legacy `try` with two handlers.
+fn add_all(rt: &impl Abort, body: &mut FunctionBuilder, alloc: Global) -> Result<(), AllocError> {
+    add_seqs(rt, body)?;
+    let block = InstrSeqId::from_index(3);
+    assert!(rt; block.index() < body.seqs().len());
+    add_arms(body.instr_seq(block))?;
+    let outer = body.func_body();
+    drops(outer, 1)?;
+    add_block(outer)?;
+    add_try(outer, alloc)
+}
+
+// What the walk in order tells.
+fn told(rt: &impl Abort, body: &FunctionBuilder, alloc: Global) -> Result<Log, AllocError> {
+    let start = body.func_body_id();
+    assert!(rt; check_nesting(alloc, body, start)?);
+    let mut log = Log::new(alloc);
+    dfs_in_order(alloc, &mut log, body, start)?;
+    assert!(rt; !log.refused);
+    Ok(log)
 }
 
 #[test]
 fn in_order(rt: HostRuntime) -> Result<(), Fail> {
     let mut body = function(rt.alloc())?;
-    let alternative = body.dangling_instr_seq(PLAIN)?;
-    let consequent = body.dangling_instr_seq(PLAIN)?;
-    let block = body.dangling_instr_seq(PLAIN)?;
-    let tried = body.dangling_instr_seq(PLAIN)?;
-    let caught = body.dangling_instr_seq(PLAIN)?;
-    let others = body.dangling_instr_seq(PLAIN)?;
-    let start = body.func_body_id();
-    for (id, value) in [
-        (alternative, 4),
-        (consequent, 3),
-        (block, 2),
-        (tried, 7),
-        (caught, 8),
-        (others, 9),
-        (start, 1),
-    ] {
-        assert!(rt; id.index() < body.seqs().len());
-        drops(body.instr_seq(id), value)?;
-    }
-    assert!(rt; block.index() < body.seqs().len());
-    let inner = body.instr_seq(block);
-    inner.instr(Instr::IfElse {
-        consequent,
-        alternative,
-    })?;
-    drops(inner, 5)?;
-    let mut catches = Vec::new(rt.alloc());
-    catches.push(LegacyCatch::Catch {
-        tag: TagId::from_index(0),
-        handler: caught,
-    })?;
-    catches.push(LegacyCatch::CatchAll { handler: others })?;
-    let outer = body.func_body();
-    outer.instr(Instr::Block { seq: block })?;
-    drops(outer, 6)?;
-    outer.instr(Instr::Try {
-        seq: tried,
-        catches,
-    })?;
-    drops(outer, 10)?;
-    assert!(rt; check_nesting(rt.alloc(), &body, start)?);
-    let mut log = Log::new(rt.alloc());
-    dfs_in_order(rt.alloc(), &mut log, &body, start)?;
-    assert!(rt; !log.refused);
+    add_all(&rt, &mut body, rt.alloc())?;
+    let log = told(&rt, &body, rt.alloc())?;
     assert_eq!(rt;
         log.text.as_str(),
         "start 1 drop block start 2 drop if-else start 3 drop end start 4 drop end 5 drop end 6 drop try tag start 7 drop end start 8 drop end start 9 drop end 10 drop end "
+    );
+    Ok(())
+}
+
+// A sequence is done before what it holds; what its last instruction holds comes first.
+#[test]
+fn pre_order(rt: HostRuntime) -> Result<(), Fail> {
+    let mut body = function(rt.alloc())?;
+    add_all(&rt, &mut body, rt.alloc())?;
+    let start = body.func_body_id();
+    assert!(rt; check_nesting(rt.alloc(), &body, start)?);
+    let mut log = Log::new(rt.alloc());
+    dfs_pre_order_mut(rt.alloc(), &mut log, &mut body, start)?;
+    assert!(rt; !log.refused);
+    assert_eq!(rt;
+        log.text.as_str(),
+        "start 1 drop block 6 drop try tag 10 drop end start 7 drop end start 8 drop end start 9 drop end start 2 drop if-else 5 drop end start 3 drop end start 4 drop end "
     );
     Ok(())
 }
@@ -99,13 +133,10 @@ fn holds_itself(rt: HostRuntime) -> Result<(), Fail> {
 fn shared_sequence(rt: HostRuntime) -> Result<(), Fail> {
     let mut body = function(rt.alloc())?;
     let shared = body.dangling_instr_seq(PLAIN)?;
-    let start = body.func_body_id();
     let outer = body.func_body();
     outer.instr(Instr::Block { seq: shared })?;
     outer.instr(Instr::Block { seq: shared })?;
-    assert!(rt; check_nesting(rt.alloc(), &body, start)?);
-    let mut log = Log::new(rt.alloc());
-    dfs_in_order(rt.alloc(), &mut log, &body, start)?;
+    let log = told(&rt, &body, rt.alloc())?;
     assert_eq!(rt;
         log.text.as_str(),
         "start block start end block start end end "
@@ -113,23 +144,31 @@ fn shared_sequence(rt: HostRuntime) -> Result<(), Fail> {
     Ok(())
 }
 
-#[test]
-fn deep_nest(rt: HostRuntime) -> Result<(), Fail> {
-    let mut body = function(rt.alloc())?;
-    let start = body.func_body_id();
-    let mut outer = start;
+fn add_nest(rt: &impl Abort, body: &mut FunctionBuilder) -> Result<(), AllocError> {
+    let mut outer = body.func_body_id();
     for _ in 0..100_000 {
         let seq = body.dangling_instr_seq(PLAIN)?;
         assert!(rt; outer.index() < body.seqs().len());
         body.instr_seq(outer).instr(Instr::Block { seq })?;
         outer = seq;
     }
-    assert!(rt; check_nesting(rt.alloc(), &body, start)?);
-    let mut log = Log::new(rt.alloc());
-    dfs_in_order(rt.alloc(), &mut log, &body, start)?;
+    Ok(())
+}
+
+#[test]
+fn deep_nest(rt: HostRuntime) -> Result<(), Fail> {
+    let mut body = function(rt.alloc())?;
+    add_nest(&rt, &mut body)?;
+    let log = told(&rt, &body, rt.alloc())?;
     // 100,001 times `start `, `end `, and 100,000 times `block `.
     assert_eq!(rt; log.text.len(), 1_600_010);
     Ok(())
+}
+
+fn add_blocks(seq: &mut InstrSeqBuilder) -> Result<(), AllocError> {
+    seq.block(PLAIN, |inner| inner.i32_const(2))?;
+    seq.loop_(PLAIN, |inner| inner.i32_const(3))?;
+    seq.if_else(PLAIN, |then| then.i32_const(4), |other| other.i32_const(5))
 }
 
 #[test]
@@ -137,139 +176,12 @@ fn blocks(rt: HostRuntime) -> Result<(), Fail> {
     let mut body = function(rt.alloc())?;
     body.name("f")?;
     let outer = body.func_body();
-    outer.block(PLAIN, |seq| seq.i32_const(2))?;
-    outer.loop_(PLAIN, |seq| seq.i32_const(3))?;
-    outer.if_else(PLAIN, |seq| seq.i32_const(4), |seq| seq.i32_const(5))?;
-    assert!(rt; holds(outer, 3));
-    let start = body.func_body_id();
-    assert!(rt; check_nesting(rt.alloc(), &body, start)?);
-    let mut log = Log::new(rt.alloc());
-    dfs_in_order(rt.alloc(), &mut log, &body, start)?;
+    add_blocks(outer)?;
+    assert!(rt; outer.instrs().len() == 3);
+    let log = told(&rt, &body, rt.alloc())?;
     assert_eq!(rt;
         log.text.as_str(),
         "start block start 2 end start 3 end if-else start 4 end start 5 end end "
-    );
-    Ok(())
-}
-
-fn told(rt: &impl Abort, alloc: Global, instr: Instr, text: &str) {
-    let mut log = Log::new(alloc);
-    instr.visit(&mut log);
-    assert!(rt; !log.refused);
-    assert_eq!(rt; log.text.as_str(), text);
-}
-
-fn named() -> RefType {
-    RefType {
-        nullable: true,
-        heap_type: HeapType::Concrete(TypeId::from_index(0)),
-    }
-}
-
-#[test]
-fn names(rt: HostRuntime) -> Result<(), Fail> {
-    let a = rt.alloc();
-    let ty = TypeId::from_index(0);
-    let table = TableId::from_index(0);
-    let memory = MemoryId::from_index(0);
-    let block = InstrSeqId::from_index(0);
-    let tag = TagId::from_index(0);
-    let data = DataId::from_index(0);
-    let elem = ElementId::from_index(0);
-    let arg = MemArg {
-        align: 4,
-        offset: 0,
-    };
-    told(&rt, a, Instr::Return, "");
-    told(&rt, a, Instr::Br { block }, "label ");
-    told(&rt, a, Instr::Throw { tag }, "tag ");
-    told(
-        &rt,
-        a,
-        Instr::Call {
-            func: FunctionId::from_index(0),
-        },
-        "function ",
-    );
-    told(&rt, a, Instr::CallIndirect { ty, table }, "type table ");
-    told(
-        &rt,
-        a,
-        Instr::LocalTee {
-            local: LocalId::from_index(0),
-        },
-        "local ",
-    );
-    told(
-        &rt,
-        a,
-        Instr::GlobalSet {
-            global: GlobalId::from_index(0),
-        },
-        "global ",
-    );
-    told(&rt, a, Instr::MemoryInit { memory, data }, "memory data ");
-    told(&rt, a, Instr::TableInit { table, elem }, "table element ");
-    told(
-        &rt,
-        a,
-        Instr::Load {
-            memory,
-            kind: LoadKind::F64,
-            arg,
-        },
-        "memory ",
-    );
-    told(
-        &rt,
-        a,
-        Instr::Select {
-            ty: Some(ValType::Ref(named())),
-        },
-        "type ",
-    );
-    told(
-        &rt,
-        a,
-        Instr::Select {
-            ty: Some(ValType::I32),
-        },
-        "",
-    );
-    told(
-        &rt,
-        a,
-        Instr::BrOnCast {
-            block,
-            from_ty: RefType::ANYREF,
-            to_ty: named(),
-        },
-        "label type ",
-    );
-    told(&rt, a, Instr::ArrayInitElem { ty, elem }, "type element ");
-    let mut blocks = Vec::new(a);
-    blocks.push(block)?;
-    blocks.push(block)?;
-    told(
-        &rt,
-        a,
-        Instr::BrTable {
-            blocks,
-            default: block,
-        },
-        "label label label ",
-    );
-    let mut catches = Vec::new(a);
-    catches.push(TryTableCatch::CatchRef { tag, label: block })?;
-    catches.push(TryTableCatch::CatchAll { label: block })?;
-    told(
-        &rt,
-        a,
-        Instr::TryTable {
-            seq: block,
-            catches,
-        },
-        "tag label label ",
     );
     Ok(())
 }

@@ -1,5 +1,5 @@
 //! The list of what a walk has still to do.
-ghost use Rattle.std.specs.Prelude.{◌≡◌, ◌++◌, IfOk};
+ghost use Rattle.std.specs.Prelude.{◌≡◌, [], ◌∷◌, ◌++◌, IfOk};
 ghost use Rattle.walrus_walks.specs.Tree.{children, handler, handlers};
 ghost use Rattle.walrus_walks.specs.Steps.{entering, id_of};
 
@@ -52,6 +52,32 @@ fn push_handlers(stack: &mut Vec<Step>, catches: &[LegacyCatch]) -> Result<(), A
     Ok(())
 }
 
+// Pushes the two arms of an `if`, so that the first is entered next.
+fn push_arms(
+    stack: &mut Vec<Step>,
+    consequent: InstrSeqId,
+    alternative: InstrSeqId,
+) -> Result<(), AllocError>
+    ensures { IfOk result (λ _. stack.new.items ≡ stack.old.items ++ entering (consequent ∷ alternative ∷ [])) }
+{
+    stack.push(Step::Enter(alternative))?;
+    stack.push(Step::Enter(consequent))?;
+    Ok(())
+}
+
+// Pushes the body of a legacy `try` and its handlers, so that the body is entered next.
+fn push_try(
+    stack: &mut Vec<Step>,
+    seq: InstrSeqId,
+    catches: &[LegacyCatch],
+) -> Result<(), AllocError>
+    ensures { IfOk result (λ _. stack.new.items ≡ stack.old.items ++ entering (seq ∷ handlers catches.now)) }
+{
+    push_handlers(stack, catches)?;
+    stack.push(Step::Enter(seq))?;
+    Ok(())
+}
+
 /// Pushes the sequences that an instruction holds, so that the first is entered next.
 ///
 /// # Errors
@@ -67,14 +93,8 @@ pub(crate) fn push_children(stack: &mut Vec<Step>, instr: &Instr) -> Result<(), 
         Instr::IfElse {
             consequent,
             alternative,
-        } => {
-            stack.push(Step::Enter(*alternative))?;
-            stack.push(Step::Enter(*consequent))?
-        }
-        Instr::Try { seq, catches } => {
-            push_handlers(stack, catches.as_slice())?;
-            stack.push(Step::Enter(*seq))?
-        }
+        } => push_arms(stack, *consequent, *alternative)?,
+        Instr::Try { seq, catches } => push_try(stack, *seq, catches.as_slice())?,
         _ => {}
     }
     Ok(())

@@ -1,4 +1,5 @@
-use Rattle.std.proofs.Common.{List, sym, subst}
+use Rattle.std.proofs.Common.{List, refl, sym, subst}
+use Rattle.std.proofs.lemmas.Result.{err_from_is_err_and}
 use Rattle.walrus_walks.specs.declared.steps.Step.{Step}
 use Rattle.walrus_walks.specs.declared.steps.Step.TheVariants.{Resume}
 use Rattle.walrus_walks.specs.Steps.{AreSteps}
@@ -20,3 +21,6 @@ returns-clause-steps g c =
     let b = c.args.seqs.now in
     let F : List Step → Type 0 = AreSteps b in
     subst F (sym c.in_ok-push.ensures.items) (steps_snoc b c.args.stack.now.items (Resume c.args.id 0) c.requires.steps c.requires.nested)
+
+pub returns-in_err-push-clause-refused : goal.returns-in_err-push-clause-refused
+returns-in_err-push-clause-refused g c = rw (err_from_is_err_and c.from_residual.result c.from_residual.ensures.1).1 refl
