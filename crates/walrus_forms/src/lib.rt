@@ -3,12 +3,14 @@
 #![tactic(auto)]
 
 mod composite;
+mod describe;
 pub mod laws;
 mod names;
 mod record;
 mod value;
 
 pub use composite::{ArrayType, CompositeType, FunctionType, StructType};
+pub use describe::index_of;
 pub use record::{
     CompositeRecord, FieldRecord, GroupRecord, HeapRecord, RefRecord, StorageRecord, TypeRecord,
     ValRecord,

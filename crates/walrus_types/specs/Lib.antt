@@ -1,8 +1,6 @@
+pub use Rattle.walrus_items.specs.Items
 pub mod Emission
 pub mod Groups
-pub mod Items
-pub mod Lends
-pub mod LocalLends
 pub mod Mergers
 pub mod Parsing
 pub mod Table

@@ -2,7 +2,7 @@
 ghost use Rattle.std.specs.Prelude.{◌≡◌, ◌<◌, [], ◌∷◌, ◌++◌, IfOk, OnOk, OnErr, None, Some, length, slice_get};
 ghost use Rattle.std.specs.Borrow.{sem};
 ghost use Rattle.std.specs.Slice.Iter.{iter_rest};
-ghost use Rattle.walrus_types.specs.LocalLends.{lends_local};
+ghost use Rattle.walrus_items.specs.LocalLends.{lends_local};
 
 use std::alloc::{AllocError, Global};
 use std::marker::Model;
@@ -50,7 +50,7 @@ pub struct ModuleLocals {
 
 impl Model for ModuleLocals {
     ghost use Rattle.std.specs.Prelude.{List};
-    ghost use Rattle.walrus_types.specs.declared.local.Local.{Local};
+    ghost use Rattle.walrus_items.specs.declared.local.Local.{Local};
 
     ghost Value = { List Local };
 

@@ -3,9 +3,9 @@ ghost use Rattle.std.specs.Prelude.{◌≡◌, ◌==◌, ◌↔◌, [], not, fil
 ghost use Rattle.std.specs.Borrow.{sem};
 ghost use Rattle.walrus_forms.specs.Forms.{form_of, function_of, struct_of, array_of, is_function, is_struct, is_array, params_of, results_of};
 ghost use Rattle.walrus_forms.specs.Kinds.{function_kind};
-ghost use Rattle.walrus_types.specs.Items.{kind_of, item_of, group_of, has_name};
+ghost use Rattle.walrus_items.specs.Items.{kind_of, item_of, group_of, has_name};
 ghost use Rattle.walrus_forms.specs.Same.{same_kind};
-ghost use Rattle.walrus_types.specs.Lends.{lends_kind};
+ghost use Rattle.walrus_items.specs.Lends.{lends_kind};
 
 use std::alloc::AllocError;
 use walrus_arena::{Tombstone, TypeId};
@@ -34,7 +34,7 @@ pub struct Type {
 impl Tombstone for Type {}
 
 impl Type {
-    pub(crate) fn new(
+    pub fn new(
         id: TypeId,
         kind: CompositeType,
         is_final: bool,
@@ -134,14 +134,14 @@ impl Type {
     }
 
     // Whether it is the type of a body's own block, which is never written.
-    pub(crate) fn is_entry(&self) -> bool
+    pub fn is_entry(&self) -> bool
         ensures { result ≡ self.now.entry }
     {
         self.entry
     }
 
     // Whether it has this name.
-    pub(crate) fn is_named(&self, name: &str) -> bool
+    pub fn is_named(&self, name: &str) -> bool
         ensures { result ≡ has_name name.now (item_of self.now) }
     {
         match &self.name {
@@ -151,7 +151,7 @@ impl Type {
     }
 
     // Whether it is the final function type without supertype of just these lists.
-    pub(crate) fn is_function_of(&self, params: &[ValType], results: &[ValType]) -> bool
+    pub fn is_function_of(&self, params: &[ValType], results: &[ValType]) -> bool
         ensures { result ≡ same_kind (kind_of self.now) (function_kind params.now results.now) }
     {
         match &self.kind {
@@ -197,7 +197,7 @@ pub struct RecGroup {
 impl Tombstone for RecGroup {}
 
 impl RecGroup {
-    pub(crate) fn new(explicit: bool, types: Vec<TypeId>) -> Self
+    pub fn new(explicit: bool, types: Vec<TypeId>) -> Self
         ensures { result ≡ record { types = types; explicit = explicit } }
     {
         RecGroup { types, explicit }
@@ -211,7 +211,7 @@ impl RecGroup {
     }
 
     // Takes the type out of its members.
-    pub(crate) fn remove(&mut self, id: TypeId)
+    pub fn remove(&mut self, id: TypeId)
         ensures members { self.new.types.items ≡ filter (λ member. not (member == id)) self.old.types.items }
         ensures explicit { self.new.explicit ≡ self.old.explicit }
     {
@@ -219,7 +219,7 @@ impl RecGroup {
     }
 
     // Whether it has no member.
-    pub(crate) fn is_empty(&self) -> bool
+    pub fn is_empty(&self) -> bool
         ensures { IsTrue result ↔ (self.now.types.items ≡ []) }
     {
         self.types.is_empty()
