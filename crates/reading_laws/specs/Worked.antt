@@ -1,4 +1,4 @@
--- Worked rows: a module, and where its prefixes stop.
+-- Worked examples: a module, and where its prefixes stop.
 use Rattle.std.specs.Prelude.{ℕ, ◌≡◌, List, [], ◌∷◌, ◌++◌, take, Some, None, Ok}
 use Rattle.std.proofs.Common.{refl, arith}
 use Rattle.std.specs.Str.{is_utf8, chars}

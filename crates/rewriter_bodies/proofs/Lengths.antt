@@ -1,7 +1,7 @@
 -- How many bytes a number takes.
 use Rattle.std.proofs.Common.{◌≡◌, ◌+◌, ◌-◌, ◌/◌, ◌%◌, ◌<◌, ◌≤◌, ℕ, zero, suc, Bool, true, false, List, [], ◌∷◌, length, refl, ap, ◌∙◌, arith, ℤ, pos, nat_lt, if◌then◌else◌}
 use lib.IntN.{negsuc}
-use Rattle.wasm_model.specs.Shortest.{shortest_unsigned, shortest_signed, u32_bytes, s32_bytes}
+use Rattle.wasm_reader.specs.Shortest.{shortest_unsigned, shortest_signed, u32_bytes, s32_bytes}
 use Rattle.rewriter_bodies.specs.Signs.{signed_of}
 use Rattle.rewriter_bodies.proofs.Shortens.{spell_signed, unsigned_spelling, signed_spelling}
 
@@ -13,7 +13,6 @@ one_more k n h = ap length (unsigned_spelling.goes k n h) ∙ omega arith
 
 module _ (n : ℕ) where
   whole_of : length (u32_bytes n) ≡ length (shortest_unsigned 5 n)
-  unfolding u32_bytes
   whole_of = refl
 
   pub in_one_byte : n < 128 → length (u32_bytes n) ≡ 1
@@ -57,7 +56,6 @@ more negative k n h = ap length ((signed_spelling negative).goes k n h) ∙ omeg
 
 module _ (z : ℤ) (negative : Bool) (n : ℕ) (e : z ≡ signed_of negative n) where
   same : length (s32_bytes z) ≡ length (spell_signed negative 5 n)
-  unfolding s32_bytes
   same = ap (λ (x : ℤ). length (shortest_signed 5 x)) e
 
   pub one_byte : n < 64 → length (s32_bytes z) ≡ 1
@@ -99,18 +97,18 @@ shorter k false xs ys p q = q
 
 -- five bytes at most
 at_most : (k : ℕ) (z : ℤ) → length (shortest_signed k z) ≤ k
+unfolding shortest_signed
 at_most zero z = omega arith
 at_most (suc k) (pos n) = let h = at_most k (pos (n / 128)) in shorter k (nat_lt n 64) (n ∷ []) ((n % 128 + 128) ∷ shortest_signed k (pos (n / 128))) (omega arith) (omega arith)
 at_most (suc k) (negsuc n) = let h = at_most k (negsuc (n / 128)) in shorter k (nat_lt n 64) ((127 - n) ∷ []) ((255 - n % 128) ∷ shortest_signed k (negsuc (n / 128))) (omega arith) (omega arith)
 
 pub s32_small : (z : ℤ) → length (s32_bytes z) ≤ 5
-unfolding s32_bytes
 s32_small z = at_most 5 z
 
 unsigned_at_most : (k n : ℕ) → length (shortest_unsigned k n) ≤ k
+unfolding shortest_unsigned
 unsigned_at_most zero n = omega arith
 unsigned_at_most (suc k) n = let h = unsigned_at_most k (n / 128) in shorter k (nat_lt n 128) (n ∷ []) ((n % 128 + 128) ∷ shortest_unsigned k (n / 128)) (omega arith) (omega arith)
 
 pub u32_small : (n : ℕ) → length (u32_bytes n) ≤ 5
-unfolding u32_bytes
 u32_small n = unsigned_at_most 5 n

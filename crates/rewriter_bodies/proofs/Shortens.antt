@@ -2,7 +2,7 @@
 use Rattle.std.proofs.Common.{◌≡◌, ◌+◌, ◌-◌, ◌*◌, ◌/◌, ◌%◌, ◌<◌, ◌≤◌, ◌^◌, ℕ, zero, suc, Bool, true, false, List, [], ◌∷◌, ◌++◌, refl, sym, ap, ◌∙◌, arith, ℤ, append_assoc, if◌then◌else◌}
 use Rattle.std.proofs.lemmas.Bool.{lt-ltb, le-ltb}
 use Rattle.std.proofs.Math.Nat.{pow-suc, mul_assoc}
-use Rattle.wasm_model.specs.Shortest.{shortest_unsigned, shortest_signed, u32_bytes, s32_bytes}
+use Rattle.wasm_reader.specs.Shortest.{shortest_unsigned, shortest_signed, u32_bytes, s32_bytes}
 use Rattle.rewriter_bodies.specs.Signs.{signed_of}
 
 -- how many bytes may follow, and what the number that is left spells with that many bytes
@@ -41,6 +41,7 @@ module _ {spell : ℕ → ℕ → List ℕ} {limit : ℕ} {low high : ℕ → �
   shortened it h e same = e ∙ ap (λ (x : ℕ). now ++ x ∷ []) same ∙ ap (λ (xs : List ℕ). now ++ xs) (sym (s.last it.more left h)) ∙ it.so_far
 
 pub unsigned_spelling : Spelling shortest_unsigned 128 (λ n. n) (λ n. n + 128)
+unfolding shortest_unsigned
 unsigned_spelling = record {
   last = λ k n h. rw (lt-ltb n 128 h) refl;
   goes = λ k n h. rw (le-ltb n 128 h) refl;
@@ -54,10 +55,12 @@ abbrev pub spell_signed : Bool → ℕ → ℕ → List ℕ
 spell_signed negative k n = shortest_signed k (signed_of negative n)
 
 signed_last : (negative : Bool) (k n : ℕ) → n < 64 → spell_signed negative (suc k) n ≡ bits negative n ∷ []
+unfolding shortest_signed
 signed_last true k n h = rw (lt-ltb n 64 h) refl
 signed_last false k n h = rw (lt-ltb n 64 h) refl
 
 signed_goes : (negative : Bool) (k n : ℕ) → 64 ≤ n → spell_signed negative (suc k) n ≡ (bits negative (n % 128) + 128) ∷ spell_signed negative k (n / 128)
+unfolding shortest_signed
 signed_goes true k n h = let e : 255 - n % 128 ≡ 127 - n % 128 + 128 = omega arith in rw (le-ltb n 64 h, e) refl
 signed_goes false k n h = rw (le-ltb n 64 h) refl
 
@@ -65,9 +68,7 @@ pub signed_spelling : (negative : Bool) → Spelling (spell_signed negative) 64 
 signed_spelling negative = record { last = signed_last negative; goes = signed_goes negative }
 
 pub begins_unsigned : (start : List ℕ) (n : ℕ) → n < 4294967296 → Shortens shortest_unsigned 128 (start ++ u32_bytes n) start n
-unfolding u32_bytes
 begins_unsigned start n h = record { more = 4; fits = omega arith; so_far = refl }
 
 pub begins_signed : (start : List ℕ) (n : ℤ) (negative : Bool) (left : ℕ) → left < 2147483648 → n ≡ signed_of negative left → Shortens (spell_signed negative) 64 (start ++ s32_bytes n) start left
-unfolding s32_bytes
 begins_signed start n negative left h e = record { more = 4; fits = omega arith; so_far = ap (λ (z : ℤ). start ++ shortest_signed 5 z) (sym e) }

@@ -1,7 +1,7 @@
 //! The shortest spelling of numbers (Core Specification, Binary Format, Integers).
 
 ghost use Rattle.std.specs.Prelude.{◌≡◌, ◌<◌, ◌≤◌, ◌++◌, ◌-◌, length, OnOk, if◌then◌else◌};
-ghost use Rattle.wasm_model.specs.Shortest.{u32_bytes, s32_bytes};
+ghost use Rattle.wasm_reader.specs.Shortest.{u32_bytes, s32_bytes};
 ghost use Rattle.rewriter_bodies.specs.Signs.{signed_of};
 
 use std::alloc::AllocError;

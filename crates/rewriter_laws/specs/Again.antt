@@ -16,7 +16,7 @@ use Rattle.wasm_model.specs.NormalForm.{normal_form}
 use Rattle.wasm_model.specs.Rules.{Rules, IsWithinLimits, Reads, IsItem, Nests, NamesItems}
 use Rattle.wasm_model.specs.Kept.{Same, Refers, Root, Kept, root, refers}
 use Rattle.wasm_model.specs.Part.{renamed_export, renamed_item, renamed_operator}
-use Rattle.wasm_model.specs.Shortest.{u32_bytes}
+use Rattle.wasm_reader.specs.Shortest.{shortest_unsigned, u32_bytes}
 use Rattle.wasm_model.specs.Spelling.{vec_bytes, sized_bytes, start_bytes, operator_bytes, section_bytes, type_bytes, export_bytes, body_bytes, code_bytes, module_bytes}
 use Rattle.rewriter_module.specs.Numbered.{IsNumbering}
 use Rattle.rewriter_module.specs.Written.{Numbers, written, placed, placed_functions, written_operators, function_at, type_at, no_function, no_type, renaming}
@@ -192,7 +192,7 @@ each_root : (m : Module) (k : ℕ) (e : Export) → k < length m.exports → Roo
 each_root m k e small = inl (slice_index_or m.exports k e, Contains-get_or m.exports k e small, refl)
 
 empty_small : {A : Type 0} (f : A → List ℕ) → length (vec_bytes f []) < 2 ^ 32
-unfolding u32_bytes
+unfolding shortest_unsigned
 empty_small f = omega arith
 
 -- a section of a file is no longer than the file

@@ -1,5 +1,5 @@
 -- Normal forms nest, and name no number that isn't named before.
-use Rattle.std.proofs.Common.{ℕ, ◌≡◌, ◌+◌, List, [], ◌∷◌, length, refl, sym, subst, inl, inr, map}
+use Rattle.std.proofs.Common.{ℕ, ◌≡◌, ◌<◌, ◌+◌, ◌^◌, List, [], ◌∷◌, length, refl, sym, subst, inl, inr, map}
 use Rattle.std.specs.List.{AllByRecursion}
 use Rattle.wasm_model.specs.Module.{Function, Operator, Nop, I32Const, Drop, Return, Call, End, operators, Export, Item, FunctionItem, TypeItem}
 use Rattle.wasm_model.specs.Grammar.{SpellsEach, SpellsVec, SpellsEachAt, SpellsSection}
@@ -9,12 +9,13 @@ use Rattle.wasm_model.specs.Rules.{Nests}
 use Rattle.std.specs.Str.{IsUtf8}
 use Rattle.wasm_model.specs.Spelling.{operator_bytes}
 use Rattle.rewriter_module.specs.Written.{placed}
-use Rattle.rewriter_laws.specs.Numbers.{InSigned, spelled_signed}
+use Rattle.std.specs.Int.Signed.{mag}
+use Rattle.wasm_reader.specs.Spelled.{spelled_signed}
 use Rattle.wasm_model.specs.Part.{Renaming, renamed_operator}
 
 -- an operator whose own number is in range; a function's is that of the module
 abbrev pub NumberInRange : Operator → Type 0
-NumberInRange (I32Const n) = InSigned 32 n
+NumberInRange (I32Const n) = mag n < 2 ^ 31
 NumberInRange _ = Unit {0}
 
 abbrev pub AllInRange : {P : Type 0} → List (Operator × P) → Type 0

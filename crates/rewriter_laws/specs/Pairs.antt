@@ -10,7 +10,7 @@ use Rattle.wasm_model.specs.NormalForm.{normal_form}
 use Rattle.wasm_model.specs.Rules.{Rules}
 use Rattle.wasm_model.specs.Kept.{Kept}
 use Rattle.wasm_model.specs.Places.{IsTruePair, ArePlaces}
-use Rattle.wasm_model.specs.Shortest.{u32_bytes}
+use Rattle.wasm_reader.specs.Shortest.{u32_bytes}
 use Rattle.wasm_model.specs.Spelling.{operator_bytes, body_bytes, sized_bytes}
 use Rattle.rewriter_module.specs.Numbered.{IsNumbering}
 use Rattle.rewriter_module.specs.Written.{Numbers, written, placed, placed_functions, written_operators, function_at, no_function, renaming, pairs_of, pairs_of_all, written_places}

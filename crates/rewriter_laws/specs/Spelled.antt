@@ -6,10 +6,11 @@ use Rattle.wasm_model.specs.declared.types.ValType.{ValType}
 use Rattle.wasm_model.specs.Module.{Module, FunctionType, Operator, Nop, I32Const, Drop, Return, Call, End, operators}
 use Rattle.wasm_model.specs.Grammar.{Grammar, SpellsEach, SpellsVec, SpellsEachAt, SpellsSection}
 use Rattle.wasm_model.specs.Spells.{SpellsValueType, SpellsFunctionType, SpellsOperator, SpellsPlaced, SpellsCode, SpellsCodes, code_of}
-use Rattle.wasm_model.specs.Shortest.{u32_bytes, s32_bytes}
+use Rattle.wasm_reader.specs.Shortest.{u32_bytes, s32_bytes}
 use Rattle.wasm_model.specs.Spelling.{vec_bytes, sized_bytes, section_bytes, value_bytes, type_bytes, operator_bytes, body_bytes, code_bytes}
 use Rattle.rewriter_module.specs.Written.{Numbers, placed, placed_functions, written_operators}
-use Rattle.rewriter_laws.specs.Numbers.{InSigned, u32_spells, s32_spells}
+use Rattle.std.specs.Int.Signed.{mag}
+use Rattle.rewriter_laws.specs.Numbers.{u32_spells, s32_spells}
 
 pub each_spelled : {A : Type 0} (S : Grammar A) (f : A → List ℕ) (xs : List A) → AllByRecursion (λ x. S (f x) x) xs → SpellsEach S (flat_map f xs) xs
 each_spelled S f [] h = refl
@@ -43,7 +44,7 @@ type_spelled t params results = (
 
 -- an operator whose numbers are in range
 abbrev pub InRange : Operator → Type 0
-InRange (I32Const n) = InSigned 32 n
+InRange (I32Const n) = mag n < 2 ^ 31
 InRange (Call f) = f < 2 ^ 32
 InRange _ = Unit {0}
 

@@ -17,7 +17,7 @@ use Rattle.wasm_model.specs.Part.{Renaming, Stands, IsRenamed, Earlier, renamed_
 use Rattle.wasm_model.specs.Features.{Features}
 use Rattle.wasm_model.specs.Rules.{Rules, IsItem, NamesItems, Reads}
 use Rattle.wasm_model.specs.Spells.{header}
-use Rattle.wasm_model.specs.Shortest.{u32_bytes}
+use Rattle.wasm_reader.specs.Shortest.{u32_bytes}
 use Rattle.wasm_model.specs.Spelling.{vec_bytes, sized_bytes, section_bytes, start_bytes, type_bytes, export_bytes, body_bytes, code_bytes, module_bytes}
 use Rattle.rewriter_laws.specs.Among.{Among, contains_among, among_contains}
 use Rattle.rewriter_laws.specs.Again.{kept_in_range}

@@ -12,7 +12,7 @@ use Rattle.wasm_model.specs.Kept.{Kept}
 use Rattle.wasm_model.specs.Part.{IsRenamed, renamed_operator, Earlier, type_cmp, Stands}
 use Rattle.rewriter_module.specs.Written.{Numbers, renaming, no_type, no_function, type_at, function_at, written_operators, placed, placed_functions, written}
 use Rattle.wasm_model.specs.Spelling.{operator_bytes}
-use Rattle.wasm_model.specs.Shortest.{u32_bytes}
+use Rattle.wasm_reader.specs.Shortest.{u32_bytes}
 use Rattle.rewriter_module.specs.Numbered.{IsNumbering}
 use Rattle.rewriter_part.proofs.SortLemmas.{Contains-some}
 use Rattle.rewriter_part.proofs.TypeLemmas.{type_cmp_total}

@@ -6,7 +6,7 @@ use Rattle.std.proofs.Common.{take}
 use Rattle.std.specs.List.{AllByRecursion, flat_map, slice_index}
 use Rattle.wasm_model.specs.Module.{Module, Function, Operator, operators}
 use Rattle.wasm_model.specs.NormalForm.{normal_form}
-use Rattle.wasm_model.specs.Shortest.{shortest_unsigned, u32_bytes}
+use Rattle.wasm_reader.specs.Shortest.{shortest_unsigned, u32_bytes}
 use Rattle.wasm_model.specs.Spelling.{operator_bytes, body_bytes, sized_bytes, code_bytes}
 use Rattle.wasm_model.specs.Rewrites.{body_length, HasLongBody}
 use Rattle.wasm_model.specs.declared.options.Options.{Options}
@@ -31,12 +31,12 @@ shorter k true xs ys p q = p
 shorter k false xs ys p q = q
 
 at_most : (k n : ℕ) → length (shortest_unsigned k n) ≤ k
+unfolding shortest_unsigned
 at_most zero n = omega arith
 at_most (suc k) n = let h = at_most k (n / 128) in shorter k (nat_lt n 128) (n ∷ []) ((n % 128 + 128) ∷ shortest_unsigned k (n / 128)) (omega arith) (omega arith)
 
 -- a u32 takes five bytes at most
 pub u32_small : (n : ℕ) → length (u32_bytes n) ≤ 5
-unfolding u32_bytes
 u32_small n = at_most 5 n
 
 same_text : (a b : List ℕ) (p q : Option (List (ℕ × ℕ))) → a ≡ b → p ≡ q → (let t : List ℕ → Option (List (ℕ × ℕ)) → Text = λ x y. record { bytes = x; pairs = y } in t a p ≡ t b q)

@@ -6,7 +6,7 @@ use Rattle.std.proofs.lemmas.List.Folds.{flat_map-map}
 use Rattle.wasm_model.specs.Features.{Features, Known}
 use Rattle.wasm_model.specs.Module.{Module, Function}
 use Rattle.wasm_model.specs.Part.{renamed_export}
-use Rattle.wasm_model.specs.Shortest.{u32_bytes}
+use Rattle.wasm_reader.specs.Shortest.{u32_bytes}
 use Rattle.wasm_model.specs.Spelling.{vec_bytes, sized_bytes, section_bytes, type_bytes, export_bytes, body_bytes}
 use Rattle.rewriter_module.specs.declared.Function.{Function as Held}
 use Rattle.rewriter_module.specs.declared.Export.{Export}

@@ -2,7 +2,7 @@
 use Rattle.std.proofs.Common.{◌≡◌, ◌≤◌, ◌<◌, ℕ, suc, List, [], ◌∷◌, ◌++◌, length, Ok, Err, Result, IfErr, refl, ap, ◌∙◌, arith, length-append}
 use Rattle.wasm_model.specs.declared.fault.Limited.TheVariants as limits
 use Rattle.wasm_model.specs.Module.{Function}
-use Rattle.wasm_model.specs.Shortest.{u32_bytes}
+use Rattle.wasm_reader.specs.Shortest.{u32_bytes}
 use Rattle.wasm_model.specs.Spelling.{vec_bytes, sized_bytes, section_bytes}
 use Rattle.rewriter_writer.specs.declared.failure.Failure.{Failure}
 use Rattle.rewriter_writer.specs.declared.failure.Failure.TheVariants as failures

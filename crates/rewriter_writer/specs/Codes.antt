@@ -4,7 +4,7 @@ use Rattle.std.specs.List.{flat_map}
 use Rattle.wasm_model.specs.declared.options.Options.{Options}
 use Rattle.wasm_model.specs.Module.{Module, Operator}
 use Rattle.wasm_model.specs.Part.{Renaming}
-use Rattle.wasm_model.specs.Shortest.{u32_bytes}
+use Rattle.wasm_reader.specs.Shortest.{u32_bytes}
 use Rattle.wasm_model.specs.Spelling.{body_bytes, code_bytes, vec_bytes}
 use Rattle.rewriter_module.specs.declared.Function.{Function}
 use Rattle.rewriter_module.specs.Meaning.{code_in}

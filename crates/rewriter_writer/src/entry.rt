@@ -2,7 +2,7 @@
 
 ghost use Rattle.std.specs.Prelude.{◌≡◌, ◌<◌, ◌^◌, ℕ, ◌∷◌, ◌++◌, length, map, slice_index, slice_index_or, All, OnOk};
 ghost use Rattle.wasm_model.specs.Spells.{value_byte};
-ghost use Rattle.wasm_model.specs.Shortest.{u32_bytes};
+ghost use Rattle.wasm_reader.specs.Shortest.{u32_bytes};
 ghost use Rattle.wasm_model.specs.Spelling.{vec_bytes, value_bytes, type_bytes, export_bytes};
 ghost use Rattle.wasm_model.specs.Part.{renamed_export};
 ghost use Rattle.rewriter_module.specs.Meaning.{type_of, export_of};

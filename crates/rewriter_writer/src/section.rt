@@ -3,7 +3,7 @@
 ghost use Rattle.std.specs.Prelude.{◌≡◌, ◌<◌, ◌^◌, List, ◌∷◌, ◌++◌, length, map, slice_index, slice_index_or, All, OnOk, IfOk, IfErr, IfSome};
 ghost use Rattle.std.specs.Option.{option_map};
 ghost use Rattle.wasm_model.specs.Module.{Function as WrittenFunction};
-ghost use Rattle.wasm_model.specs.Shortest.{u32_bytes};
+ghost use Rattle.wasm_reader.specs.Shortest.{u32_bytes};
 ghost use Rattle.wasm_model.specs.Spelling.{sized_bytes, section_bytes, start_bytes, type_bytes, export_bytes, code_bytes};
 ghost use Rattle.wasm_model.specs.Part.{renamed_export};
 ghost use Rattle.wasm_model.specs.Features.{features_of};

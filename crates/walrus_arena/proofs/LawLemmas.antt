@@ -1,6 +1,9 @@
 -- The laws of the words on an arena.
 use Rattle.std.proofs.Common.{◌≡◌, ◌∙◌, ℕ, ◌+◌, Bool, false, find, Contains, Some, None, is_some, refl, sym, ap, arith}
 use Rattle.std.specs.Option.{option_map, MatchOption}
+use Rattle.std.specs.declared.cmp.Ordering.{Ordering}
+use Rattle.std.specs.declared.cmp.Ordering.TheVariants.{Less, Equal, Greater}
+use Rattle.std.specs.Ordering.{ordering_then}
 use Rattle.std.proofs.lemmas.List.Sums.{length-filter}
 use Rattle.walrus_arena.specs.Arena.{Arena, item_at, entries}
 use Rattle.walrus_arena.specs.Laws.{EntriesAreLive, IsLowest, FindsLowest}
@@ -35,3 +38,8 @@ module _ {T : Type 0} where
               lowest = λ other x less at. h.4 other x (omega arith) at;
             }
       ] refl
+
+pub then-equal : (o : Ordering) → ordering_then o Equal ≡ o
+then-equal Less = refl
+then-equal Equal = refl
+then-equal Greater = refl

@@ -1,7 +1,7 @@
 -- Writes to one of the sequences, as edits.
 use Rattle.std.proofs.Common.{ℕ, zero, suc, ◌+◌, ◌<◌, ◌≡◌, ◌≢◌, List, [], ◌∷◌, ◌++◌, length, map, get_or, Some, refl, sym, ap, subst, arith, ◌∙◌, Result, Ok, Err, length-append}
 use Rattle.std.proofs.lemmas.List.{length-map}
-use Rattle.std.specs.Prelude.{slice_get, slice_set, insert, IsErr, OnErr}
+use Rattle.std.specs.Prelude.{slice_get, slice_set, IsErr, OnErr}
 use Rattle.std.specs.Fn.{Once, FnOnceReturnsAtMut}
 use Rattle.std.specs.Borrow.{MutBor}
 use Rattle.std.specs.declared.alloc.AllocError.{AllocError}
@@ -95,9 +95,6 @@ instrs_become s is js e = ap (with_instrs (seq_of s)) e
 -- the instruction with the location that was made for it
 pub pushed_items : (is js : List (Instr × InstrLocId)) (i : Instr) (p : InstrLocId) → js ≡ is ++ (i, p) ∷ [] → p ≡ no_place → js ≡ is ++ (i, no_place) ∷ []
 pushed_items is js i p e q = e ∙ ap (λ (l : InstrLocId). is ++ (i, l) ∷ []) q
-
-pub inserted_items : (is js : List (Instr × InstrLocId)) (at : ℕ) (i : Instr) (p : InstrLocId) → js ≡ insert is at (i, p) → p ≡ no_place → js ≡ insert is at (i, no_place)
-inserted_items is js at i p e q = e ∙ ap (λ (l : InstrLocId). insert is at (i, l)) q
 
 -- the sequence at an id, as it is seen
 pub seq_seen : (xs : List InstrSeq) (k : ℕ) (s : InstrSeq) → k < length xs → s ≡ get_or xs k s → slice_get (map seq_of xs) k ≡ Some (seq_of s)

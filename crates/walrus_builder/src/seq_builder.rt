@@ -1,8 +1,8 @@
 //! Building of sequences.
-ghost use Rattle.std.specs.Prelude.{◌≡◌, ◌<◌, ◌≤◌, [], ◌∷◌, ◌++◌, length, slice_get, Some, IfOk, OnErr};
+ghost use Rattle.std.specs.Prelude.{◌≡◌, ◌<◌, ◌≤◌, [], ◌∷◌, ◌++◌, length, slice_get, Some, IfOk, OnOk, OnErr, insert};
 ghost use Rattle.std.specs.Borrow.{sem};
 ghost use Rattle.std.specs.Option.{option_map};
-ghost use Rattle.walrus_builder.specs.Built.{contents, empty_seq, pushes, inserts, Edits, Keeps, ExtendsAlways, IsFilled};
+ghost use Rattle.walrus_builder.specs.Built.{contents, empty_seq, no_place, pushes, inserts, Edits, Keeps, ExtendsAlways, IsFilled};
 ghost use Rattle.walrus_builder.specs.Lends.{lends_instrs};
 
 use std::alloc::{AllocError, Global};
@@ -27,6 +27,20 @@ impl Model for InstrSeqBuilder {
     ghost view = { λ b. record { id = b.id; seqs = b.seqs.items } };
 
     ghost invariant = { λ b. b.id < length b.seqs.items };
+}
+
+// Inserts an instruction without a location.
+fn insert_at(
+    instrs: &mut Vec<(Instr, InstrLocId)>,
+    position: usize,
+    instr: Instr,
+) -> Result<(), AllocError>
+    requires { position ≤ length instrs.old.items }
+    ensures inserted { OnOk result (instrs.new.items ≡ insert instrs.old.items position (instr, no_place)) }
+    ensures refused { OnErr result (instrs.new.items ≡ instrs.old.items) }
+{
+    instrs.insert(position, (instr, InstrLocId::default()))?;
+    Ok(())
 }
 
 impl InstrSeqBuilder {
@@ -114,7 +128,7 @@ impl InstrSeqBuilder {
         ensures { Edits self.old (inserts position instr) result self.new }
     {
         let seq = &mut self.seqs[self.id.index()];
-        seq.instrs.insert(position, (instr, InstrLocId::default()))?;
+        insert_at(&mut seq.instrs, position, instr)?;
         Ok(())
     }
 

@@ -5,5 +5,6 @@ pub mod Order
 pub mod Records
 pub mod Renaming
 pub mod Same
+pub mod Texts
 pub mod Values
 pub mod ValueOrder

@@ -1,12 +1,25 @@
 -- Value types and the types that they name.
-use Rattle.std.specs.Prelude.{ℕ, Option, Some, None}
+use Rattle.std.specs.Prelude.{ℕ, true, List, [], ◌∷◌, map, Option, Some, None}
+use Rattle.walrus_forms.specs.declared.value.AbstractHeapType.{AbstractHeapType}
+use Rattle.walrus_forms.specs.declared.value.AbstractHeapType.TheVariants as kinds
 use Rattle.walrus_forms.specs.declared.value.HeapType.{HeapType}
 use Rattle.walrus_forms.specs.declared.value.HeapType.TheVariants.{Abstract, Concrete, Exact}
+use Rattle.walrus_forms.specs.declared.value.RefType.{RefType}
 use Rattle.walrus_forms.specs.declared.value.ValType.{ValType}
 use Rattle.walrus_forms.specs.declared.value.ValType.TheVariants.{I32, Ref}
 use Rattle.walrus_forms.specs.declared.value.StorageType.{StorageType}
 use Rattle.walrus_forms.specs.declared.value.StorageType.TheVariants.{Val, I8, I16}
 use Rattle.walrus_forms.specs.declared.value.FieldType.{FieldType}
+
+-- nullable references to the values of an abstract type
+abbrev pub nullable : AbstractHeapType → RefType
+nullable ty = record { nullable = true; heap_type = Abstract ty }
+
+-- the reference types that have names, in the order of the abstract types
+abbrev pub named_types : List RefType
+named_types =
+    map nullable (kinds.Func ∷ kinds.Extern ∷ kinds.Any ∷ kinds.None ∷ kinds.NoExtern ∷ kinds.NoFunc ∷ kinds.Eq ∷ kinds.Struct ∷ kinds.Array
+    ∷ kinds.I31 ∷ kinds.Exn ∷ [])
 
 -- the value type of a field's value on the stack (Core Specification, field types: unpacking)
 abbrev pub unpacked : StorageType → ValType

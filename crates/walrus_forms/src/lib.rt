@@ -7,6 +7,7 @@ mod describe;
 pub mod laws;
 mod names;
 mod record;
+mod text;
 mod value;
 
 pub use composite::{ArrayType, CompositeType, FunctionType, StructType};

@@ -24,3 +24,10 @@ pub use walrus_types::{
     StructType, Type, TypeIndices, TypeRecord, Types, ValRecord, ValType,
 };
 pub use walrus_walks::{Visit, VisitMut, Visitor, VisitorMut};
+
+/// Laws of the words that contracts cite.
+pub mod laws {
+    pub use walrus_arena::laws as arenas;
+    pub use walrus_forms::laws as forms;
+    pub use walrus_types::laws as types;
+}

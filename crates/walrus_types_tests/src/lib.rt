@@ -11,3 +11,5 @@ mod emission;
 mod groups;
 #[cfg(test)]
 mod records;
+#[cfg(test)]
+mod texts;

@@ -10,7 +10,6 @@ pub mod Sections
 pub mod NormalForm
 pub mod Kept
 pub mod Part
-pub mod Shortest
 pub mod Spelling
 pub mod Places
 pub mod Machine

@@ -62,13 +62,15 @@ function_type_at (byte ∷ bytes) = if byte == 0x60 then (do
   Ok (record { params = params.0; results = results.0 }, results.1))
     else Err (stop (trouble_at_type group_bytes byte) (length bytes + 1))
 
--- an entry of the type section: at most 1,000,000 types
+-- an entry of the type section: at most 1,000,000 types. A type is read whole before anything in it is tested, so a fault of its bytes
+-- goes before the limit, which stands at its first byte
 unfoldable pub type_entry : List FunctionType → List ℕ → Parsing FunctionType
 type_entry earlier bytes = do
   t ← function_type_at bytes
   if nat_lt (length earlier) 1000000 then Ok t else Err (stop (Limit limits.Types) (length bytes))
 
--- an entry of the function section: the index of one of so many types
+-- an entry of the function section: the index of one of so many types. The index and the limit stand at one place, where the index has
+-- the smaller number
 unfoldable pub function_entry : ℕ → List ℕ → List ℕ → Parsing ℕ
 function_entry types earlier bytes = do
   index ← value_at (unsigned_at 32 bytes)
@@ -86,7 +88,9 @@ kind_at (kind ∷ bytes) =
 abbrev pub same_name : List ℕ → List ℕ → Bool
 same_name name other = pointwise nat_eq name other
 
--- an entry of the export section: a name that no earlier one has, of one of so many functions
+-- an entry of the export section: a name that no earlier one has, of one of so many functions. It is read whole before these are tested.
+-- What is due then goes by place, and at one place by number: an earlier export of the name, and then the limit, stand at the entry's
+-- first byte, and so both go before the index, whose fault stands at its own first byte
 unfoldable pub export_entry : ℕ → List Export → List ℕ → Parsing Export
 export_entry functions earlier bytes = do
   name ← value_at (string_at bytes)
@@ -109,7 +113,8 @@ pub record Chunk : Type 0 where
   pub place : ℕ
   pub bytes : List ℕ
 
--- an entry of the code section, whose contents end at the place `finish`
+-- an entry of the code section, whose contents end at the place `finish`. The limit, which stands at the size, is tested first; a body
+-- that passes the section's end is then a fault at the body's own first byte
 unfoldable pub chunk_entry : ℕ → List Chunk → List ℕ → Parsing Chunk
 chunk_entry finish earlier bytes = do
   size ← value_at (unsigned_at 32 bytes)

@@ -1,7 +1,7 @@
 -- The canonical spelling of a module: each number is the shortest, and a section of no entries is left out.
 use Rattle.std.specs.Prelude.{ℕ, ◌≡◌, List, [], ◌∷◌, ◌++◌, length, Option, Some, None}
 use Rattle.std.specs.List.{flat_map}
-use Rattle.wasm_model.specs.Shortest.{u32_bytes, s32_bytes}
+use Rattle.wasm_reader.specs.Shortest.{u32_bytes, s32_bytes}
 use Rattle.wasm_model.specs.declared.types.ValType.{ValType}
 use Rattle.wasm_model.specs.Module.{Module, Function, FunctionType, Operator, Nop, I32Const, Drop, Return, Call, End, Item, FunctionItem, TypeItem, Export, operators}
 use Rattle.wasm_model.specs.Spells.{value_byte, header}

@@ -9,7 +9,8 @@ pub struct Options {
     pub only_stable_features: bool,
     /// Accept the legacy exception operators.
     pub legacy_exceptions: bool,
-    /// Read and write the `name` section.
+    /// Read and write the `name` section. It makes no difference yet: custom sections are read
+    /// later.
     pub names: bool,
     /// Write the `producers` section.
     pub producers: bool,
@@ -18,8 +19,8 @@ pub struct Options {
 }
 
 impl Options {
-    /// The options of a call that asks for nothing: all features but none that is left out by
-    /// name, names and producers written, no list of places.
+    /// The options of a call that asks for nothing: wide arithmetic and the legacy exceptions are
+    /// accepted, names and producers are written, and no list of places is given.
     pub fn new() -> Options
         ensures stable { result.only_stable_features ≡ false }
         ensures legacy { result.legacy_exceptions ≡ true }

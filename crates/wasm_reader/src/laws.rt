@@ -1,6 +1,6 @@
 //! Laws of the readings: functions with nothing to do, whose contracts hold of all bytes.
 
-ghost use Rattle.std.specs.Prelude.{ℕ, ℤ, true, ◌+◌, length, ◌<◌, ◌≤◌, ◌*◌, ◌-◌, ◌^◌, List, ◌++◌};
+ghost use Rattle.std.specs.Prelude.{ℕ, ℤ, true, ◌≡◌, ◌+◌, length, ◌<◌, ◌≤◌, ◌*◌, ◌-◌, ◌^◌, List, ◌++◌};
 ghost use Rattle.std.specs.Int.Signed.{mag};
 ghost use Rattle.wasm_reader.specs.Cursor.{Cursor};
 ghost use Rattle.wasm_reader.specs.Reading.{byte_at, next_at, bytes_at, u7_at, little_at, SpellsRun, SpellsLittle, plain, seen_bytes, seen_window};
@@ -15,6 +15,13 @@ ghost use Rattle.wasm_reader.specs.Items.{items_at, vec_at, seen_items, SpellsVe
 ghost use Rattle.wasm_features.specs.declared.WasmFeatures.{WasmFeatures};
 
 use crate::from_reader::FromReader;
+use crate::limits::{
+    MAX_WASM_DATA_SEGMENTS, MAX_WASM_ELEMENT_SEGMENTS, MAX_WASM_EXPORTS, MAX_WASM_FUNCTION_LOCALS,
+    MAX_WASM_FUNCTION_PARAMS, MAX_WASM_FUNCTION_RETURNS, MAX_WASM_FUNCTION_SIZE,
+    MAX_WASM_FUNCTIONS, MAX_WASM_GLOBALS, MAX_WASM_GROUP_TYPES, MAX_WASM_IMPORTS,
+    MAX_WASM_MEMORIES, MAX_WASM_MODULE_SIZE, MAX_WASM_STRING_SIZE, MAX_WASM_STRUCT_FIELDS,
+    MAX_WASM_SUPERTYPES, MAX_WASM_TABLES, MAX_WASM_TAGS, MAX_WASM_TYPES,
+};
 
 /// What is answered for bytes, the end of the input aside, is final whatever bytes follow; the hint is exact.
 pub fn bytes_are_final()
@@ -131,4 +138,31 @@ pub fn fronts_of_values_end_early<'a, T: FromReader<'a>>()
 pub fn offsets_of_values_move<'a, T: FromReader<'a>>()
     ensures value { OffsetsMoveBy T.takes_memory T.seen }
     ensures vec { OffsetsMoveBy true (seen_items T.seen) }
+{}
+
+/// The most that a module may hold of each kind.
+pub fn limits_of_modules()
+    ensures module_size { MAX_WASM_MODULE_SIZE ≡ 2 ^ 30 }
+    ensures types { MAX_WASM_TYPES ≡ 1000000 }
+    ensures imports { MAX_WASM_IMPORTS ≡ 1000000 }
+    ensures functions { MAX_WASM_FUNCTIONS ≡ 1000000 }
+    ensures globals { MAX_WASM_GLOBALS ≡ 1000000 }
+    ensures tags { MAX_WASM_TAGS ≡ 1000000 }
+    ensures exports { MAX_WASM_EXPORTS ≡ 1000000 }
+    ensures tables { MAX_WASM_TABLES ≡ 100 }
+    ensures memories { MAX_WASM_MEMORIES ≡ 100 }
+    ensures element_segments { MAX_WASM_ELEMENT_SEGMENTS ≡ 100000 }
+    ensures data_segments { MAX_WASM_DATA_SEGMENTS ≡ 100000 }
+    ensures function_locals { MAX_WASM_FUNCTION_LOCALS ≡ 50000 }
+    ensures function_size { MAX_WASM_FUNCTION_SIZE ≡ 7654321 }
+{}
+
+/// The most that the reader takes of what a type or a name holds.
+pub fn limits_of_parts()
+    ensures group_types { MAX_WASM_GROUP_TYPES ≡ 1000000 }
+    ensures supertypes { MAX_WASM_SUPERTYPES ≡ 1 }
+    ensures function_params { MAX_WASM_FUNCTION_PARAMS ≡ 1000 }
+    ensures function_returns { MAX_WASM_FUNCTION_RETURNS ≡ 1000 }
+    ensures struct_fields { MAX_WASM_STRUCT_FIELDS ≡ 10000 }
+    ensures string_size { MAX_WASM_STRING_SIZE ≡ 100000 }
 {}

@@ -4,7 +4,7 @@ use Rattle.std.specs.List.{flat_map}
 use Rattle.wasm_model.specs.Module.{Module, Function, Operator, Nop, I32Const, Drop, Return, Call, End, operators}
 use Rattle.wasm_model.specs.NormalForm.{normal_form}
 use Rattle.wasm_model.specs.Spells.{header}
-use Rattle.wasm_model.specs.Shortest.{u32_bytes}
+use Rattle.wasm_reader.specs.Shortest.{u32_bytes}
 use Rattle.wasm_model.specs.Spelling.{operator_bytes, body_bytes, code_bytes, vec_bytes, section_bytes, type_bytes, export_bytes, start_bytes, module_bytes}
 use Rattle.rewriter_module.specs.Written.{Numbers, function_at, pairs_of, pairs_of_all, written, written_places}
 

@@ -4,3 +4,4 @@ pub mod Assembled
 pub mod Unread
 pub mod Idempotent
 pub mod Least
+pub mod Canonical

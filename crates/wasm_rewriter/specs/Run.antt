@@ -1,5 +1,5 @@
 -- What a run reads, writes and answers.
-use Rattle.std.specs.Prelude.{ℕ, ◌≡◌, ◌≤◌, List, [], length, take, Bool, true, false, Option, Some, None, Result, Ok, Err}
+use Rattle.std.specs.Prelude.{ℕ, ◌≡◌, ◌≤◌, ◌+◌, ◌^◌, List, [], length, take, Bool, true, false, Option, Some, None, Result, Ok, Err}
 use Rattle.std.specs.Io.KnownBytes.{Appends, Consumes}
 use Rattle.wasm_model.specs.declared.options.Options.{Options}
 use Rattle.wasm_model.specs.declared.fault.Fault.{Fault}
@@ -62,14 +62,24 @@ pub record RefusesInput (o : Options) (source : Device) (fault : Fault) : Type 0
   pub is_input : IsInput source.before source.after input
   pub refused : IsRefused o input fault
 
--- what a run did, by its answer. Want of memory may be met while the input is read
+-- so many bytes were read, at most one more than an input may have, and no others are gone
+abbrev pub ReadSome : Device → Type 0
+ReadSome source = (read : List ℕ) × (length read ≤ 2 ^ 30 + 1) × Consumes source.before source.after read
+
+-- what a run did, by its answer. The source may fail, and memory be wanting, while the input is read
 abbrev pub Runs : Options → Device → Device → Device → Result Summary Fault → Type 0
 Runs o source sink places (Ok summary) = RewritesInput o source sink places (Ok summary)
 Runs o source sink places (Err (faults.WriterFault n)) = RewritesInput o source sink places (Err (faults.WriterFault n))
 Runs o source sink places (Err (faults.PlacesFault n)) = RewritesInput o source sink places (Err (faults.PlacesFault n))
-Runs o source sink places (Err faults.ReaderFault) = source.has_failed ≡ true
-Runs o source sink places (Err faults.Memory) = (read : List ℕ) × Consumes source.before source.after read
+Runs o source sink places (Err faults.ReaderFault) = (source.has_failed ≡ true) × ReadSome source
+Runs o source sink places (Err faults.Memory) = ReadSome source
 Runs o source sink places (Err fault) = RefusesInput o source fault
+
+-- the answer says that all bytes were written: the lines alone may be missing
+abbrev pub tells_of_bytes : Result Summary Fault → Bool
+tells_of_bytes (Ok summary) = true
+tells_of_bytes (Err (faults.PlacesFault n)) = true
+tells_of_bytes (Err fault) = false
 
 -- the answer says that something may have been written to the writer
 abbrev pub tells_of_writer : Fault → Bool

@@ -6,7 +6,10 @@ mod laws;
 mod rewriting;
 mod running;
 
-pub use laws::{kept_is_least, rewriting_is_idempotent, written_is_least};
+pub use laws::{
+    canonical_is_one, kept_is_least, rewriting_is_idempotent, written_is_canonical,
+    written_is_least,
+};
 pub use rewriter_devices::{
     DeviceFailed, MemorySink, MemorySource, Sink, SinkFail, Source, StdSink, StdSource,
 };
@@ -14,4 +17,4 @@ pub use rewriting::{Rewritten, rewrite};
 pub use running::{Summary, run};
 pub use wasm_model::fault::{Fault, Form, Limited, Space};
 pub use wasm_model::options::Options;
-pub use wasm_reader::Error;
+pub use wasm_reader::{Error, ErrorKind};

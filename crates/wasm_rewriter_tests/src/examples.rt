@@ -89,6 +89,18 @@ fn places_are_given_where_asked_for(rt: HostRuntime) -> Result<(), Fail> {
 }
 
 #[test]
+fn a_copy_has_the_same_bytes_and_places(rt: HostRuntime) -> Result<(), Fail> {
+    let input = exported(rt.alloc(), NOP_CODE)?;
+    let output = smallest(rt.alloc())?;
+    let rewritten = rewrite(rt.alloc(), &input, &with_places())?;
+    let copy = rewritten.clone()?;
+    assert_eq!(rt; copy.bytes.as_slice(), output.as_slice());
+    let pairs = copy.places.expect(&rt, "no places");
+    assert_eq!(rt; pairs.as_slice(), [(4, 3)].as_slice());
+    Ok(())
+}
+
+#[test]
 fn an_export_of_a_missing_function_is_refused(rt: HostRuntime) -> Result<(), Fail> {
     let input = [HEADER, EXPORT].concat(rt.alloc())?;
     let space = Space::Function;

@@ -8,6 +8,7 @@ pub mod Readings
 pub mod Finals
 pub mod Placed
 pub mod Section
+pub mod Moving
 pub mod Plain
 pub mod Spellings
 pub mod Taken

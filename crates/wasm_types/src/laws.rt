@@ -5,6 +5,7 @@ ghost use Rattle.wasm_features.specs.declared.WasmFeatures.{WasmFeatures};
 ghost use Rattle.wasm_reader.specs.Laws.{IsFinal, EndsEarly, TakesSpelled, IsPrefixFree};
 ghost use Rattle.wasm_ref_types.specs.TypeSpellings.{ReadsWritten};
 ghost use Rattle.wasm_types.specs.Groups.{Group};
+ghost use Rattle.wasm_types.specs.Moving.{OffsetsOfGroupsMove, OffsetsOfSectionsMove};
 ghost use Rattle.wasm_types.specs.contracts.group.RecGroupPartialEq.TheImpl.{ghosts as group_eq};
 ghost use Rattle.wasm_types.specs.Readings.{storage_at, field_at, func_at, array_at, struct_at, composite_at, sub_at, group_at};
 ghost use Rattle.wasm_types.specs.Spellings.{SpellsStorage, SpellsField, SpellsFunc, SpellsArray, SpellsStruct, SpellsComposite, SpellsSub, SpellsGroup, IsWrittenField, IsWrittenForm, IsWrittenSub, IsWrittenGroup};
@@ -69,4 +70,11 @@ pub fn written_types_are_read()
 /// Groups are equal exactly if their lists of types are one.
 pub fn groups_are_equal_as_lists()
     ensures { (a b : Group) → (group_eq.eq a b ≡ true) ↔ (a.types ≡ b.types) }
+{}
+
+/// A group that is read at an offset greater by k is the same group, the places of its types greater by k, and so is
+/// what a section gives next.
+pub fn offsets_of_groups_move()
+    ensures groups { OffsetsOfGroupsMove }
+    ensures sections { OffsetsOfSectionsMove }
 {}

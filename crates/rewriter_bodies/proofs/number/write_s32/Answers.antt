@@ -1,6 +1,6 @@
 use Rattle.std.proofs.Common.{◌++◌, ◌+◌, ℕ, ◌≡◌, rules, ap, to_z, of_z, w32}
 use Rattle.std.proofs.lemmas.Int.{to_z-of_z}
-use Rattle.wasm_model.specs.Shortest.{s32_bytes}
+use Rattle.wasm_reader.specs.Shortest.{s32_bytes}
 use Rattle.rewriter_bodies.proofs.Shortens.{begins_signed, signed_spelling, shortens_on, shortened}
 use Rattle.rewriter_bodies.proofs.number.write_s32.Goals as goal
 

@@ -1,5 +1,5 @@
 use Rattle.std.proofs.Common.{◌++◌}
-use Rattle.wasm_model.specs.Shortest.{s32_bytes}
+use Rattle.wasm_reader.specs.Shortest.{s32_bytes}
 use Rattle.rewriter_bodies.proofs.Shortens.{Shortens, spell_signed}
 use Rattle.rewriter_bodies.proofs.number.write_s32.Given as goal
 

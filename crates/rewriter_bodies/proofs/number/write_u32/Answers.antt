@@ -1,5 +1,5 @@
 use Rattle.std.proofs.Common.{◌++◌, refl}
-use Rattle.wasm_model.specs.Shortest.{u32_bytes}
+use Rattle.wasm_reader.specs.Shortest.{u32_bytes}
 use Rattle.rewriter_bodies.proofs.Shortens.{begins_unsigned, unsigned_spelling, shortens_on, shortened}
 use Rattle.rewriter_bodies.proofs.number.write_u32.Goals as goal
 

@@ -1,5 +1,5 @@
 use Rattle.std.proofs.Common.{◌++◌}
-use Rattle.wasm_model.specs.Shortest.{shortest_unsigned, u32_bytes}
+use Rattle.wasm_reader.specs.Shortest.{shortest_unsigned, u32_bytes}
 use Rattle.rewriter_bodies.proofs.Shortens.{Shortens}
 use Rattle.rewriter_bodies.proofs.number.write_u32.Given as goal
 

@@ -3,7 +3,7 @@ use Rattle.std.proofs.lemmas.Option.{slice_get_read}
 use Rattle.std.proofs.lemmas.Result.{err_from_is_err_and}
 use Rattle.wasm_model.specs.Features.{Known, features_of}
 use Rattle.wasm_model.specs.Module.{Module}
-use Rattle.wasm_model.specs.Shortest.{u32_bytes}
+use Rattle.wasm_reader.specs.Shortest.{u32_bytes}
 use Rattle.rewriter_module.specs.Meaning.{code_in, meaning}
 use Rattle.rewriter_module.specs.declared.Function.{Function}
 use Rattle.wasm_model.specs.Bodies.{code_at}

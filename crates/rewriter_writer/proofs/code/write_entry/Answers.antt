@@ -1,6 +1,6 @@
 use Rattle.std.proofs.Common.{◌≡◌, ◌++◌, length, ap, arith, length-append}
 use Rattle.wasm_model.specs.Spells.{Code}
-use Rattle.wasm_model.specs.Shortest.{u32_bytes}
+use Rattle.wasm_reader.specs.Shortest.{u32_bytes}
 use Rattle.rewriter_module.specs.Meaning.{code_in}
 use Rattle.rewriter_bodies.specs.Sizes.{written_length}
 use Rattle.rewriter_bodies.specs.Views.{known_with}

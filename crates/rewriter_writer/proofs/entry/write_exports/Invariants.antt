@@ -1,6 +1,6 @@
 use Rattle.std.proofs.Common.{◌≡◌, ◌++◌, length, take}
 use Rattle.std.specs.List.{flat_map}
-use Rattle.wasm_model.specs.Shortest.{u32_bytes}
+use Rattle.wasm_reader.specs.Shortest.{u32_bytes}
 use Rattle.wasm_model.specs.Spelling.{export_bytes}
 use Rattle.wasm_model.specs.Part.{renamed_export}
 use Rattle.rewriter_module.specs.Meaning.{export_of}

@@ -1,6 +1,6 @@
 use Rattle.std.proofs.Common.{◌≡◌, ◌++◌, length, take, map, slice_index_or}
 use Rattle.std.specs.List.{flat_map}
-use Rattle.wasm_model.specs.Shortest.{u32_bytes}
+use Rattle.wasm_reader.specs.Shortest.{u32_bytes}
 use Rattle.wasm_model.specs.Spelling.{type_bytes}
 use Rattle.rewriter_module.specs.Meaning.{type_of}
 use Rattle.rewriter_module.specs.Written.{no_type}

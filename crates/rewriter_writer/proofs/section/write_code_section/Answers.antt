@@ -2,7 +2,7 @@ use Rattle.std.proofs.Common.{rules, arith, ◌≡◌, ◌<◌, ◌∷◌, ◌++
 use Rattle.std.proofs.lemmas.Result.{err_from_is_err_and}
 use Rattle.wasm_model.specs.Module.{Function}
 use Rattle.wasm_model.specs.Features.{features_of}
-use Rattle.wasm_model.specs.Shortest.{u32_bytes}
+use Rattle.wasm_reader.specs.Shortest.{u32_bytes}
 use Rattle.wasm_model.specs.Spelling.{code_bytes, vec_bytes, sized_bytes}
 use Rattle.rewriter_module.specs.Meaning.{meaning}
 use Rattle.rewriter_module.specs.Written.{numbers_of, written}

@@ -2,7 +2,7 @@ use Rattle.std.proofs.Common.{rules, arith, ◌≡◌, ◌++◌, ◌∙◌, ℕ,
 use Rattle.std.proofs.lemmas.Result.{err_from_is_err_and}
 use Rattle.wasm_model.specs.Module.{Module}
 use Rattle.wasm_model.specs.Features.{features_of}
-use Rattle.wasm_model.specs.Shortest.{u32_bytes}
+use Rattle.wasm_reader.specs.Shortest.{u32_bytes}
 use Rattle.wasm_model.specs.Spells.{header}
 use Rattle.wasm_model.specs.Spelling.{code_bytes, type_bytes, export_bytes, section_bytes, start_bytes}
 use Rattle.wasm_model.specs.Rewrites.{added_bytes}

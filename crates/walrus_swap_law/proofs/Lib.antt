@@ -1,0 +1,9 @@
+mod Exchange
+mod Filled
+mod Follows
+mod Kept
+mod Renamed
+mod Starts
+mod SwapLemmas
+mod Tied
+mod Turned

@@ -1,0 +1,15 @@
+//! A law of the order in which types are written: neighbours that name no type may change places.
+#![tactic(auto)]
+
+ghost use Rattle.walrus_swap_law.specs.Swap.{RecordsHaveNoEntries, SwapChangesNothing};
+
+/// Two neighbouring single types that name no type may stand in either order: what is emitted stays
+/// the same, and so does the index of each type.
+pub fn swap_changes_nothing()
+    ensures { SwapChangesNothing }
+{}
+
+/// The law is of all sections that records describe.
+pub fn records_have_no_entries()
+    ensures { RecordsHaveNoEntries }
+{}

@@ -1,0 +1,12 @@
+pub mod AgainLemmas
+pub mod AlikeLemmas
+pub mod CarriedLemmas
+pub mod Dense
+pub mod Faults
+pub mod KindOrder
+pub mod Places
+pub mod Shape
+pub mod ShapeRun
+pub mod Straight
+pub mod TurnLemmas
+pub mod Written

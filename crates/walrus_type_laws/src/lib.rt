@@ -1,0 +1,23 @@
+//! Laws of tables of types: what is parsed and emitted, once and again.
+#![tactic(auto)]
+
+ghost use Rattle.walrus_type_laws.specs.Alike.{AlikeAreWrittenAlike};
+ghost use Rattle.walrus_type_laws.specs.Rounds.{SectionsAreCarried, SecondRoundIsFirst};
+
+/// Tables that differ only in their ids and in the order of groups that aren't anchors are written by
+/// the same records.
+pub fn alike_tables_are_written_alike()
+    ensures { AlikeAreWrittenAlike }
+{}
+
+/// What is emitted after a section was read into a new table has its types and no others: an index map
+/// carries each onto the output, its definition kept, and two to one place exactly where they stand for
+/// one type.
+pub fn sections_are_carried()
+    ensures { SectionsAreCarried }
+{}
+
+/// What was emitted is emitted again, each type at its index, after it is read into a new table.
+pub fn second_round_is_first()
+    ensures { SecondRoundIsFirst }
+{}
