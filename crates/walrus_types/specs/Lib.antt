@@ -2,6 +2,7 @@ pub use Rattle.walrus_items.specs.Items
 pub mod Emission
 pub mod Groups
 pub mod Mergers
+pub mod Pairs
 pub mod Parsing
 pub mod Table
 pub mod TableLends

@@ -25,6 +25,23 @@ pub struct NewType {
     pub supertype: Option<TypeId>,
 }
 
+impl NewType {
+    /// An equal member.
+    ///
+    /// # Errors
+    ///
+    /// Want of memory.
+    pub fn clone(&self) -> Result<Self, AllocError>
+        ensures { IfOk result (λ copy. member_kind copy ≡ member_kind self.now) }
+    {
+        Ok(NewType {
+            kind: self.kind.clone()?,
+            is_final: self.is_final,
+            supertype: self.supertype,
+        })
+    }
+}
+
 // So many ids from this one on, or `None` where they don't fit.
 pub(crate) fn ids_from(
     alloc: Global,

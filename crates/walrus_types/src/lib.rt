@@ -7,6 +7,7 @@ mod error;
 mod group;
 mod iter;
 pub mod laws;
+mod pair;
 mod parse;
 mod table;
 

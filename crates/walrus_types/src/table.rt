@@ -39,11 +39,11 @@ pub struct ModuleTypes {
     pub(crate) types: TombstoneArena<Type, TypeSpace>,
     pub(crate) groups: TombstoneArena<RecGroup, RecGroupSpace>,
     // The group of each type ever added.
-    homes: Vec<RecGroupId>,
+    pub(crate) homes: Vec<RecGroupId>,
     // Where `fresh`, the latest live type of each kind, those that name themselves aside.
-    index: HashMap<Type, usize>,
+    pub(crate) index: HashMap<Type, usize>,
     // False once a type was lent for writing or deleted: the next add builds the index anew.
-    fresh: bool,
+    pub(crate) fresh: bool,
 }
 
 impl Model for ModuleTypes {
@@ -76,7 +76,7 @@ pub(crate) fn note(
 }
 
 // The id of the type that stands for this one, which is to have the id `id`.
-fn look_up(index: &HashMap<Type, usize>, ty: &Type, id: TypeId) -> Option<usize>
+pub(crate) fn look_up(index: &HashMap<Type, usize>, ty: &Type, id: TypeId) -> Option<usize>
     ensures { result ≡ (if names_itself id (kind_of ty.now) then None else get type_eq.eq index.now ty.now) }
 {
     if ty.names(id) {
@@ -100,7 +100,7 @@ fn index_of(
 }
 
 // Builds the index anew where it is stale.
-fn refresh(
+pub(crate) fn refresh(
     alloc: Global,
     fresh: &mut bool,
     index: &mut HashMap<Type, usize>,

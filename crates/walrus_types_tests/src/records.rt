@@ -136,3 +136,11 @@ fn a_type_that_names_itself(rt: HostRuntime) -> Result<(), Fail> {
     assert!(rt; ids.as_slice() == [id(0), id(1), id(2), id(2)].as_slice());
     Ok(())
 }
+
+#[test]
+fn copies_of_records(rt: HostRuntime) -> Result<(), Fail> {
+    let group = function(rt.alloc(), true, ValRecord::I64)?;
+    let copy = group.clone(rt.alloc())?;
+    assert!(rt; copy == group);
+    Ok(())
+}
