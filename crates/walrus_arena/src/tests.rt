@@ -1,11 +1,33 @@
 // Each call once, with ample memory.
 use super::*;
+use std::cell::Cell;
 use std::test::Fail;
 
 #[derive(Clone, PartialEq, Eq, Hash, Drop)]
 struct Word(u32);
 
 impl Tombstone for Word {}
+
+// Counts how often it is told that it is deleted.
+#[derive(Drop)]
+struct Watched<'a>(&'a Cell<u32>);
+
+impl Tombstone for Watched<'_> {
+    fn on_delete(&mut self) {
+        self.0.set(self.0.get().wrapping_add(1));
+    }
+}
+
+#[test]
+fn deleting_is_told_once(rt: HostRuntime) -> Result<(), Fail> {
+    let told = Cell::new(0);
+    let mut arena: TombstoneArena<Watched, TypeSpace> = TombstoneArena::new(rt.alloc());
+    let a = arena.alloc(Watched(&told))?;
+    arena.alloc(Watched(&told))?;
+    arena.delete(a);
+    assert_eq!(rt; told.get(), 1);
+    Ok(())
+}
 
 #[test]
 fn arena(rt: HostRuntime) -> Result<(), Fail> {

@@ -1,7 +1,8 @@
 //! Walks over a function that is built.
-ghost use Rattle.std.specs.Prelude.{◌≡◌, IfOk, MatchBool, map};
+ghost use Rattle.std.specs.Prelude.{◌≡◌, IfOk, MatchBool, OnErr, map};
 ghost use Rattle.std.specs.List.{FoldsTo};
-ghost use Rattle.walrus_walks.specs.Changing.{Walked};
+ghost use Rattle.walrus_walks.specs.Changing.{Walked, WalkedPart};
+ghost use Rattle.walrus_walks.specs.Fronts.{FoldsFront};
 ghost use Rattle.walrus_walks.specs.Order.{held_by};
 ghost use Rattle.walrus_walks.specs.Tree.{IsNested};
 ghost use Rattle.walrus_walks.specs.Walk.{walk};
@@ -17,7 +18,7 @@ use walrus_walks::{Visitor, VisitorMut};
 ///
 /// # Errors
 ///
-/// Want of memory. The visitor has been told a part.
+/// Want of memory. The visitor has then been told a first part of that, and nothing else.
 pub fn dfs_in_order<V: Visitor>(
     alloc: Global,
     visitor: &mut V,
@@ -25,7 +26,8 @@ pub fn dfs_in_order<V: Visitor>(
     start: InstrSeqId,
 ) -> Result<(), AllocError>
     requires { IsNested (seqs_of body.now) start }
-    ensures { IfOk result (λ _. FoldsTo V.step visitor.old (walk (seqs_of body.now) start) visitor.new) }
+    ensures walked { IfOk result (λ _. FoldsTo V.step visitor.old (walk (seqs_of body.now) start) visitor.new) }
+    ensures refused { OnErr result (FoldsFront V.step visitor.old (walk (seqs_of body.now) start) visitor.new) }
 {
     walrus_walks::dfs_in_order(alloc, visitor, body.seqs(), start)?;
     Ok(())
@@ -36,7 +38,8 @@ pub fn dfs_in_order<V: Visitor>(
 ///
 /// # Errors
 ///
-/// Want of memory. The visitor has been handed a part. Each sequence still holds what it held.
+/// Want of memory. The visitor has then been handed the first of those sequences, each whole; all
+/// others are as they were. Each sequence still holds what it held.
 pub fn dfs_pre_order_mut<V: VisitorMut>(
     alloc: Global,
     visitor: &mut V,
@@ -45,6 +48,7 @@ pub fn dfs_pre_order_mut<V: VisitorMut>(
 ) -> Result<(), AllocError>
     requires { IsNested (seqs_of body.old) start }
     ensures walked { IfOk result (λ _. Walked V.step visitor.old (seqs_of body.old) start visitor.new (seqs_of body.new)) }
+    ensures refused { OnErr result (WalkedPart V.step visitor.old (seqs_of body.old) start visitor.new (seqs_of body.new)) }
     ensures keeps { map held_by (seqs_of body.new) ≡ map held_by (seqs_of body.old) }
     ensures nested { IsNested (seqs_of body.new) start }
     ensures ty { body.new.ty ≡ body.old.ty }

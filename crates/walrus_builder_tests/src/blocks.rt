@@ -1,65 +1,56 @@
 //! Blocks, positions and constants.
-use crate::common::{PLAIN, function, nth};
+use crate::common::{PLAIN, function};
+use crate::rows::assert_rows;
+use std::alloc::AllocError;
 use std::test::Fail;
 use walrus_arena::InstrSeqId;
-use walrus_builder::FunctionBuilder;
+use walrus_builder::{FunctionBuilder, InstrSeqBuilder};
 use walrus_instr::{Instr, InstrSeqType, Value};
 use walrus_types::ValType;
 
 const LONG: InstrSeqType = InstrSeqType::Simple(Some(ValType::I64));
 
+fn is_constant(instr: &Instr, wanted: Value) -> bool {
+    match instr {
+        Instr::Const { value } => *value == wanted,
+        _ => false,
+    }
+}
+
 // Whether the sequence of that id has the type and just this constant.
 fn holds(body: &FunctionBuilder, id: usize, ty: InstrSeqType, value: i32) -> bool {
-    match body.seqs().get(id) {
-        Some(seq) => {
-            seq.ty == ty
-                && seq.id().index() == id
-                && matches!(seq.instrs.as_slice(), [(Instr::Const { value: Value::I32(n) }, _)] if *n == value)
-        }
-        None => false,
-    }
+    let Some(seq) = body.seqs().get(id) else {
+        return false;
+    };
+    let [(instr, _)] = seq.instrs.as_slice() else {
+        return false;
+    };
+    seq.ty == ty && seq.id().index() == id && is_constant(instr, Value::I32(value))
+}
+
+fn add_constants(seq: &mut InstrSeqBuilder) -> Result<(), AllocError> {
+    seq.i32_const(-7)?;
+    seq.i64_const(-8)?;
+    seq.f32_const(0x7fc0_0001)?;
+    seq.f64_const(9)
 }
 
 #[test]
 fn constants(rt: HostRuntime) -> Result<(), Fail> {
     let mut body = function(rt.alloc())?;
     let seq = body.func_body();
-    seq.i32_const(-7)?;
-    assert!(rt;
-        matches!(
-            nth(seq, 1),
-            Some(Instr::Const {
-                value: Value::I32(-7)
-            })
-        )
-    );
-    seq.i64_const(-8)?;
-    assert!(rt;
-        matches!(
-            nth(seq, 2),
-            Some(Instr::Const {
-                value: Value::I64(-8)
-            })
-        )
-    );
-    seq.f32_const(0x7fc0_0001)?;
-    assert!(rt;
-        matches!(
-            nth(seq, 3),
-            Some(Instr::Const {
-                value: Value::F32(0x7fc0_0001)
-            })
-        )
-    );
-    seq.f64_const(9)?;
-    assert!(rt;
-        matches!(
-            nth(seq, 4),
-            Some(Instr::Const {
-                value: Value::F64(9)
-            })
-        )
-    );
+    add_constants(seq)?;
+    let values = [
+        Value::I32(-7),
+        Value::I64(-8),
+        Value::F32(0x7fc0_0001),
+        Value::F64(9),
+    ];
+    assert!(rt; seq.instrs().len() == values.len());
+    for ((instr, place), wanted) in seq.instrs().iter().zip(values) {
+        assert!(rt; place.is_default());
+        assert!(rt; is_constant(instr, wanted));
+    }
     Ok(())
 }
 
@@ -70,7 +61,7 @@ fn block(rt: HostRuntime) -> Result<(), Fail> {
     seq.drop()?;
     seq.block(LONG, |inner| inner.i32_const(2))?;
     assert_eq!(rt; seq.id().index(), 0);
-    assert!(rt; matches!(nth(seq, 2), Some(Instr::Block { seq }) if seq.index() == 1));
+    assert_rows(&rt, seq.instrs(), &[("drop", 0, 0, 0), ("block", 1, 0, 0)]);
     assert!(rt; holds(&body, 1, LONG, 2));
     Ok(())
 }
@@ -83,8 +74,10 @@ fn block_at(rt: HostRuntime) -> Result<(), Fail> {
     seq.return_()?;
     assert!(rt; 1 <= seq.instrs().len());
     seq.block_at(1, PLAIN, |inner| inner.i32_const(3))?;
-    assert!(rt;
-        matches!(seq.instrs(), [(Instr::Drop, _), (Instr::Block { seq }, at), (Instr::Return, _)] if seq.index() == 1 && at.is_default())
+    assert_rows(
+        &rt,
+        seq.instrs(),
+        &[("drop", 0, 0, 0), ("block", 1, 0, 0), ("return", 0, 0, 0)],
     );
     assert!(rt; holds(&body, 1, PLAIN, 3));
     Ok(())
@@ -97,9 +90,7 @@ fn loops(rt: HostRuntime) -> Result<(), Fail> {
     seq.loop_(PLAIN, |inner| inner.i32_const(4))?;
     assert!(rt; seq.instrs().len() == 1);
     seq.loop_at(0, LONG, |inner| inner.i32_const(5))?;
-    assert!(rt;
-        matches!(seq.instrs(), [(Instr::Loop { seq: first }, _), (Instr::Loop { seq: second }, _)] if first.index() == 2 && second.index() == 1)
-    );
+    assert_rows(&rt, seq.instrs(), &[("loop", 2, 0, 0), ("loop", 1, 0, 0)]);
     assert!(rt; holds(&body, 1, PLAIN, 4));
     assert!(rt; holds(&body, 2, LONG, 5));
     Ok(())
@@ -110,9 +101,7 @@ fn if_else(rt: HostRuntime) -> Result<(), Fail> {
     let mut body = function(rt.alloc())?;
     let seq = body.func_body();
     seq.if_else(LONG, |then| then.i32_const(6), |other| other.i32_const(7))?;
-    assert!(rt;
-        matches!(nth(seq, 1), Some(Instr::IfElse { consequent, alternative }) if consequent.index() == 1 && alternative.index() == 2)
-    );
+    assert_rows(&rt, seq.instrs(), &[("if_else", 1, 2, 0)]);
     assert!(rt; holds(&body, 1, LONG, 6));
     assert!(rt; holds(&body, 2, LONG, 7));
     Ok(())
@@ -130,8 +119,10 @@ fn if_else_at(rt: HostRuntime) -> Result<(), Fail> {
         |then| then.i32_const(8),
         |other| other.i32_const(9),
     )?;
-    assert!(rt;
-        matches!(seq.instrs(), [(Instr::IfElse { consequent, alternative }, _), (Instr::Drop, _)] if consequent.index() == 1 && alternative.index() == 2)
+    assert_rows(
+        &rt,
+        seq.instrs(),
+        &[("if_else", 1, 2, 0), ("drop", 0, 0, 0)],
     );
     assert!(rt; holds(&body, 1, PLAIN, 8));
     assert!(rt; holds(&body, 2, PLAIN, 9));
@@ -148,8 +139,15 @@ fn instr_at(rt: HostRuntime) -> Result<(), Fail> {
     seq.instr_at(1, Instr::ArrayLen)?;
     assert!(rt; seq.instrs().len() == 3);
     seq.instr_at(3, Instr::RefEq)?;
-    assert!(rt;
-        matches!(seq.instrs(), [(Instr::Drop, _), (Instr::ArrayLen, at), (Instr::Return, _), (Instr::RefEq, _)] if at.is_default())
+    assert_rows(
+        &rt,
+        seq.instrs(),
+        &[
+            ("drop", 0, 0, 0),
+            ("array_len", 0, 0, 0),
+            ("return", 0, 0, 0),
+            ("ref_eq", 0, 0, 0),
+        ],
     );
     Ok(())
 }
@@ -159,9 +157,9 @@ fn a_refused_block_leaves_its_sequence(rt: HostRuntime) -> Result<(), Fail> {
     let mut body = function(rt.alloc())?;
     let seq = body.func_body();
     seq.drop()?;
-    let refused = seq.block(PLAIN, |_| Err(std::alloc::AllocError));
+    let refused = seq.block(PLAIN, |_| Err(AllocError));
     assert!(rt; refused.is_err());
     assert_eq!(rt; seq.id(), InstrSeqId::from_index(0));
-    assert!(rt; matches!(seq.instrs(), [(Instr::Drop, _)]));
+    assert_rows(&rt, seq.instrs(), &[("drop", 0, 0, 0)]);
     Ok(())
 }

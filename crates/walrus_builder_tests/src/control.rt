@@ -1,161 +1,149 @@
 //! The calls for control, parametric, numeric and variable instructions.
-use crate::common::{function, nth};
+use crate::common::function;
+use crate::rows::assert_rows;
+use std::alloc::AllocError;
 use std::test::Fail;
 use walrus_arena::{FunctionId, GlobalId, InstrSeqId, LocalId, TableId, TagId, TypeId};
-use walrus_instr::{BinaryOp, Instr, TernaryOp, UnaryOp, Value};
+use walrus_builder::InstrSeqBuilder;
+use walrus_instr::{BinaryOp, TernaryOp, UnaryOp, Value};
 use walrus_types::{RefType, ValType};
 
-#[test]
-fn control(rt: HostRuntime) -> Result<(), Fail> {
-    let mut body = function(rt.alloc())?;
-    let seq = body.func_body();
+fn add_branches(seq: &mut InstrSeqBuilder) -> Result<(), AllocError> {
     seq.unreachable()?;
-    assert!(rt; matches!(nth(seq, 1), Some(Instr::Unreachable)));
     seq.br(InstrSeqId::from_index(3))?;
-    assert!(rt; matches!(nth(seq, 2), Some(Instr::Br { block }) if block.index() == 3));
     seq.br_if(InstrSeqId::from_index(3))?;
-    assert!(rt; matches!(nth(seq, 3), Some(Instr::BrIf { block }) if block.index() == 3));
-    let mut blocks = Vec::new(rt.alloc());
-    blocks.push(InstrSeqId::from_index(8))?;
-    seq.br_table(blocks, InstrSeqId::from_index(5))?;
-    assert!(rt;
-        matches!(nth(seq, 4), Some(Instr::BrTable { blocks, default }) if blocks.len() == 1 && default.index() == 5)
-    );
     seq.br_on_null(InstrSeqId::from_index(3))?;
-    assert!(rt; matches!(nth(seq, 5), Some(Instr::BrOnNull { block }) if block.index() == 3));
     seq.br_on_non_null(InstrSeqId::from_index(3))?;
-    assert!(rt; matches!(nth(seq, 6), Some(Instr::BrOnNonNull { block }) if block.index() == 3));
-    seq.return_()?;
-    assert!(rt; matches!(nth(seq, 7), Some(Instr::Return)));
-    Ok(())
+    seq.return_()
 }
 
 #[test]
-fn exceptions(rt: HostRuntime) -> Result<(), Fail> {
+fn branches(rt: HostRuntime) -> Result<(), Fail> {
+    let blocks = vec![in rt.alloc(); InstrSeqId::from_index(8)]?;
     let mut body = function(rt.alloc())?;
     let seq = body.func_body();
-    seq.throw(TagId::from_index(3))?;
-    assert!(rt; matches!(nth(seq, 1), Some(Instr::Throw { tag }) if tag.index() == 3));
-    seq.throw_ref()?;
-    assert!(rt; matches!(nth(seq, 2), Some(Instr::ThrowRef)));
-    seq.rethrow(3)?;
-    assert!(rt;
-        matches!(nth(seq, 3), Some(Instr::Rethrow { relative_depth }) if *relative_depth == 3)
+    seq.br_table(blocks, InstrSeqId::from_index(5))?;
+    add_branches(seq)?;
+    assert_rows(
+        &rt,
+        seq.instrs(),
+        &[
+            ("br_table", 1, 5, 0),
+            ("unreachable", 0, 0, 0),
+            ("br", 3, 0, 0),
+            ("br_if", 3, 0, 0),
+            ("br_on_null", 3, 0, 0),
+            ("br_on_non_null", 3, 0, 0),
+            ("return", 0, 0, 0),
+        ],
     );
+    Ok(())
+}
+
+fn add_exceptions(seq: &mut InstrSeqBuilder) -> Result<(), AllocError> {
+    seq.throw(TagId::from_index(3))?;
+    seq.throw_ref()?;
+    seq.rethrow(3)?;
     seq.br_on_cast(
         InstrSeqId::from_index(3),
         RefType::EXTERNREF,
         RefType::I31REF,
     )?;
-    assert!(rt;
-        matches!(nth(seq, 4), Some(Instr::BrOnCast { block, from_ty, to_ty }) if block.index() == 3 && *from_ty == RefType::EXTERNREF && *to_ty == RefType::I31REF)
-    );
     seq.br_on_cast_fail(
         InstrSeqId::from_index(3),
         RefType::EXTERNREF,
         RefType::I31REF,
-    )?;
-    assert!(rt;
-        matches!(nth(seq, 5), Some(Instr::BrOnCastFail { block, from_ty, to_ty }) if block.index() == 3 && *from_ty == RefType::EXTERNREF && *to_ty == RefType::I31REF)
-    );
-    Ok(())
+    )
 }
 
-#[test]
-fn calls(rt: HostRuntime) -> Result<(), Fail> {
-    let mut body = function(rt.alloc())?;
-    let seq = body.func_body();
+fn add_calls(seq: &mut InstrSeqBuilder) -> Result<(), AllocError> {
     seq.call(FunctionId::from_index(3))?;
-    assert!(rt; matches!(nth(seq, 1), Some(Instr::Call { func }) if func.index() == 3));
     seq.call_indirect(TypeId::from_index(3), TableId::from_index(5))?;
-    assert!(rt;
-        matches!(nth(seq, 2), Some(Instr::CallIndirect { ty, table }) if ty.index() == 3 && table.index() == 5)
-    );
     seq.call_ref(TypeId::from_index(3))?;
-    assert!(rt; matches!(nth(seq, 3), Some(Instr::CallRef { ty }) if ty.index() == 3));
     seq.return_call(FunctionId::from_index(3))?;
-    assert!(rt; matches!(nth(seq, 4), Some(Instr::ReturnCall { func }) if func.index() == 3));
     seq.return_call_indirect(TypeId::from_index(3), TableId::from_index(5))?;
-    assert!(rt;
-        matches!(nth(seq, 5), Some(Instr::ReturnCallIndirect { ty, table }) if ty.index() == 3 && table.index() == 5)
-    );
-    seq.return_call_ref(TypeId::from_index(3))?;
-    assert!(rt; matches!(nth(seq, 6), Some(Instr::ReturnCallRef { ty }) if ty.index() == 3));
-    Ok(())
+    seq.return_call_ref(TypeId::from_index(3))
 }
 
 #[test]
-fn parametric(rt: HostRuntime) -> Result<(), Fail> {
+fn exceptions_and_calls(rt: HostRuntime) -> Result<(), Fail> {
     let mut body = function(rt.alloc())?;
     let seq = body.func_body();
+    add_exceptions(seq)?;
+    add_calls(seq)?;
+    assert_rows(
+        &rt,
+        seq.instrs(),
+        &[
+            ("throw", 3, 0, 0),
+            ("throw_ref", 0, 0, 0),
+            ("rethrow", 3, 0, 0),
+            ("br_on_cast", 3, 2, 3),
+            ("br_on_cast_fail", 3, 2, 3),
+            ("call", 3, 0, 0),
+            ("call_indirect", 3, 5, 0),
+            ("call_ref", 3, 0, 0),
+            ("return_call", 3, 0, 0),
+            ("return_call_indirect", 3, 5, 0),
+            ("return_call_ref", 3, 0, 0),
+        ],
+    );
+    Ok(())
+}
+
+fn add_operators(seq: &mut InstrSeqBuilder) -> Result<(), AllocError> {
     seq.drop()?;
-    assert!(rt; matches!(nth(seq, 1), Some(Instr::Drop)));
     seq.select(Some(ValType::I64))?;
-    assert!(rt; matches!(nth(seq, 2), Some(Instr::Select { ty }) if *ty == Some(ValType::I64)));
     seq.const_(Value::V128(17))?;
-    assert!(rt; matches!(nth(seq, 3), Some(Instr::Const { value }) if *value == Value::V128(17)));
     seq.unop(UnaryOp::I32Popcnt)?;
-    assert!(rt;
-        matches!(
-            nth(seq, 4),
-            Some(Instr::Unop {
-                op: UnaryOp::I32Popcnt
-            })
-        )
-    );
     seq.binop(BinaryOp::I64Rotr)?;
-    assert!(rt;
-        matches!(
-            nth(seq, 5),
-            Some(Instr::Binop {
-                op: BinaryOp::I64Rotr
-            })
-        )
-    );
-    seq.tern_op(TernaryOp::F32x4RelaxedNmadd)?;
-    assert!(rt;
-        matches!(
-            nth(seq, 6),
-            Some(Instr::TernOp {
-                op: TernaryOp::F32x4RelaxedNmadd
-            })
-        )
-    );
-    Ok(())
+    seq.tern_op(TernaryOp::F32x4RelaxedNmadd)
 }
 
-#[test]
-fn variables(rt: HostRuntime) -> Result<(), Fail> {
-    let mut body = function(rt.alloc())?;
-    let seq = body.func_body();
-    seq.local_get(LocalId::from_index(3))?;
-    assert!(rt; matches!(nth(seq, 1), Some(Instr::LocalGet { local }) if local.index() == 3));
-    seq.local_set(LocalId::from_index(3))?;
-    assert!(rt; matches!(nth(seq, 2), Some(Instr::LocalSet { local }) if local.index() == 3));
-    seq.local_tee(LocalId::from_index(3))?;
-    assert!(rt; matches!(nth(seq, 3), Some(Instr::LocalTee { local }) if local.index() == 3));
-    seq.global_get(GlobalId::from_index(3))?;
-    assert!(rt; matches!(nth(seq, 4), Some(Instr::GlobalGet { global }) if global.index() == 3));
-    seq.global_set(GlobalId::from_index(3))?;
-    assert!(rt; matches!(nth(seq, 5), Some(Instr::GlobalSet { global }) if global.index() == 3));
-    Ok(())
-}
-
-#[test]
-fn wide_and_vector(rt: HostRuntime) -> Result<(), Fail> {
-    let mut body = function(rt.alloc())?;
-    let seq = body.func_body();
+fn add_wide(seq: &mut InstrSeqBuilder) -> Result<(), AllocError> {
     seq.i64_add128()?;
-    assert!(rt; matches!(nth(seq, 1), Some(Instr::I64Add128)));
     seq.i64_sub128()?;
-    assert!(rt; matches!(nth(seq, 2), Some(Instr::I64Sub128)));
     seq.v128_bitselect()?;
-    assert!(rt; matches!(nth(seq, 3), Some(Instr::V128Bitselect)));
     seq.i8x16_swizzle()?;
-    assert!(rt; matches!(nth(seq, 4), Some(Instr::I8x16Swizzle)));
-    seq.i8x16_shuffle([0, 1, 2, 3, 4, 5, 6, 7, 24, 25, 26, 27, 28, 29, 30, 31])?;
-    assert!(rt;
-        matches!(nth(seq, 5), Some(Instr::I8x16Shuffle { indices }) if indices[7] == 7 && indices[8] == 24)
+    seq.i8x16_shuffle([0, 1, 2, 3, 4, 5, 6, 7, 24, 25, 26, 27, 28, 29, 30, 31])
+}
+
+fn add_variables(seq: &mut InstrSeqBuilder) -> Result<(), AllocError> {
+    seq.local_get(LocalId::from_index(3))?;
+    seq.local_set(LocalId::from_index(3))?;
+    seq.local_tee(LocalId::from_index(3))?;
+    seq.global_get(GlobalId::from_index(3))?;
+    seq.global_set(GlobalId::from_index(3))
+}
+
+#[test]
+fn operators_and_variables(rt: HostRuntime) -> Result<(), Fail> {
+    let mut body = function(rt.alloc())?;
+    let seq = body.func_body();
+    add_operators(seq)?;
+    add_wide(seq)?;
+    add_variables(seq)?;
+    assert_rows(
+        &rt,
+        seq.instrs(),
+        &[
+            ("drop", 0, 0, 0),
+            ("select", 1, 0, 0),
+            ("const", 1, 0, 0),
+            ("unop", 1, 0, 0),
+            ("binop", 1, 0, 0),
+            ("tern_op", 1, 0, 0),
+            ("i64_add128", 0, 0, 0),
+            ("i64_sub128", 0, 0, 0),
+            ("v128_bitselect", 0, 0, 0),
+            ("i8x16_swizzle", 0, 0, 0),
+            ("i8x16_shuffle", 7, 24, 0),
+            ("local_get", 3, 0, 0),
+            ("local_set", 3, 0, 0),
+            ("local_tee", 3, 0, 0),
+            ("global_get", 3, 0, 0),
+            ("global_set", 3, 0, 0),
+        ],
     );
     Ok(())
 }

@@ -13,3 +13,5 @@ mod functions;
 mod memory;
 #[cfg(test)]
 mod reference;
+#[cfg(test)]
+mod rows;

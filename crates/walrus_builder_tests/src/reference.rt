@@ -1,125 +1,131 @@
 //! The calls for reference, structure and array instructions.
-use crate::common::{function, nth};
+use crate::common::function;
+use crate::rows::assert_rows;
+use std::alloc::AllocError;
 use std::test::Fail;
 use walrus_arena::{DataId, ElementId, FunctionId, TypeId};
-use walrus_instr::Instr;
+use walrus_builder::InstrSeqBuilder;
 use walrus_types::RefType;
+
+fn add_references(seq: &mut InstrSeqBuilder) -> Result<(), AllocError> {
+    seq.ref_null(RefType::FUNCREF)?;
+    seq.ref_is_null()?;
+    seq.ref_func(FunctionId::from_index(3))?;
+    seq.ref_eq()?;
+    seq.ref_as_non_null()?;
+    seq.ref_test(RefType::FUNCREF)?;
+    seq.ref_cast(RefType::FUNCREF)
+}
+
+fn add_conversions(seq: &mut InstrSeqBuilder) -> Result<(), AllocError> {
+    seq.ref_i31()?;
+    seq.i31_get_s()?;
+    seq.i31_get_u()?;
+    seq.any_convert_extern()?;
+    seq.extern_convert_any()
+}
 
 #[test]
 fn references(rt: HostRuntime) -> Result<(), Fail> {
     let mut body = function(rt.alloc())?;
     let seq = body.func_body();
-    seq.ref_null(RefType::FUNCREF)?;
-    assert!(rt; matches!(nth(seq, 1), Some(Instr::RefNull { ty }) if *ty == RefType::FUNCREF));
-    seq.ref_is_null()?;
-    assert!(rt; matches!(nth(seq, 2), Some(Instr::RefIsNull)));
-    seq.ref_func(FunctionId::from_index(3))?;
-    assert!(rt; matches!(nth(seq, 3), Some(Instr::RefFunc { func }) if func.index() == 3));
-    seq.ref_eq()?;
-    assert!(rt; matches!(nth(seq, 4), Some(Instr::RefEq)));
-    seq.ref_as_non_null()?;
-    assert!(rt; matches!(nth(seq, 5), Some(Instr::RefAsNonNull)));
-    seq.ref_test(RefType::FUNCREF)?;
-    assert!(rt; matches!(nth(seq, 6), Some(Instr::RefTest { ty }) if *ty == RefType::FUNCREF));
-    seq.ref_cast(RefType::FUNCREF)?;
-    assert!(rt; matches!(nth(seq, 7), Some(Instr::RefCast { ty }) if *ty == RefType::FUNCREF));
+    add_references(seq)?;
+    add_conversions(seq)?;
+    assert_rows(
+        &rt,
+        seq.instrs(),
+        &[
+            ("ref_null", 1, 0, 0),
+            ("ref_is_null", 0, 0, 0),
+            ("ref_func", 3, 0, 0),
+            ("ref_eq", 0, 0, 0),
+            ("ref_as_non_null", 0, 0, 0),
+            ("ref_test", 1, 0, 0),
+            ("ref_cast", 1, 0, 0),
+            ("ref_i31", 0, 0, 0),
+            ("i31_get_s", 0, 0, 0),
+            ("i31_get_u", 0, 0, 0),
+            ("any_convert_extern", 0, 0, 0),
+            ("extern_convert_any", 0, 0, 0),
+        ],
+    );
     Ok(())
 }
 
-#[test]
-fn conversions(rt: HostRuntime) -> Result<(), Fail> {
-    let mut body = function(rt.alloc())?;
-    let seq = body.func_body();
-    seq.ref_i31()?;
-    assert!(rt; matches!(nth(seq, 1), Some(Instr::RefI31)));
-    seq.i31_get_s()?;
-    assert!(rt; matches!(nth(seq, 2), Some(Instr::I31GetS)));
-    seq.i31_get_u()?;
-    assert!(rt; matches!(nth(seq, 3), Some(Instr::I31GetU)));
-    seq.any_convert_extern()?;
-    assert!(rt; matches!(nth(seq, 4), Some(Instr::AnyConvertExtern)));
-    seq.extern_convert_any()?;
-    assert!(rt; matches!(nth(seq, 5), Some(Instr::ExternConvertAny)));
-    Ok(())
+fn add_structures(seq: &mut InstrSeqBuilder) -> Result<(), AllocError> {
+    seq.struct_new(TypeId::from_index(3))?;
+    seq.struct_new_default(TypeId::from_index(3))?;
+    seq.struct_get(TypeId::from_index(3), 5)?;
+    seq.struct_get_s(TypeId::from_index(3), 5)?;
+    seq.struct_get_u(TypeId::from_index(3), 5)?;
+    seq.struct_set(TypeId::from_index(3), 5)
 }
 
 #[test]
 fn structures(rt: HostRuntime) -> Result<(), Fail> {
     let mut body = function(rt.alloc())?;
     let seq = body.func_body();
-    seq.struct_new(TypeId::from_index(3))?;
-    assert!(rt; matches!(nth(seq, 1), Some(Instr::StructNew { ty }) if ty.index() == 3));
-    seq.struct_new_default(TypeId::from_index(3))?;
-    assert!(rt; matches!(nth(seq, 2), Some(Instr::StructNewDefault { ty }) if ty.index() == 3));
-    seq.struct_get(TypeId::from_index(3), 5)?;
-    assert!(rt;
-        matches!(nth(seq, 3), Some(Instr::StructGet { ty, field }) if ty.index() == 3 && *field == 5)
-    );
-    seq.struct_get_s(TypeId::from_index(3), 5)?;
-    assert!(rt;
-        matches!(nth(seq, 4), Some(Instr::StructGetS { ty, field }) if ty.index() == 3 && *field == 5)
-    );
-    seq.struct_get_u(TypeId::from_index(3), 5)?;
-    assert!(rt;
-        matches!(nth(seq, 5), Some(Instr::StructGetU { ty, field }) if ty.index() == 3 && *field == 5)
-    );
-    seq.struct_set(TypeId::from_index(3), 5)?;
-    assert!(rt;
-        matches!(nth(seq, 6), Some(Instr::StructSet { ty, field }) if ty.index() == 3 && *field == 5)
+    add_structures(seq)?;
+    assert_rows(
+        &rt,
+        seq.instrs(),
+        &[
+            ("struct_new", 3, 0, 0),
+            ("struct_new_default", 3, 0, 0),
+            ("struct_get", 3, 5, 0),
+            ("struct_get_s", 3, 5, 0),
+            ("struct_get_u", 3, 5, 0),
+            ("struct_set", 3, 5, 0),
+        ],
     );
     Ok(())
+}
+
+fn add_new_arrays(seq: &mut InstrSeqBuilder) -> Result<(), AllocError> {
+    seq.array_new(TypeId::from_index(3))?;
+    seq.array_new_default(TypeId::from_index(3))?;
+    seq.array_new_fixed(TypeId::from_index(3), 5)?;
+    seq.array_new_data(TypeId::from_index(3), DataId::from_index(5))?;
+    seq.array_new_elem(TypeId::from_index(3), ElementId::from_index(5))?;
+    seq.array_init_data(TypeId::from_index(3), DataId::from_index(5))?;
+    seq.array_init_elem(TypeId::from_index(3), ElementId::from_index(5))
+}
+
+fn add_array_accesses(seq: &mut InstrSeqBuilder) -> Result<(), AllocError> {
+    seq.array_get(TypeId::from_index(3))?;
+    seq.array_get_s(TypeId::from_index(3))?;
+    seq.array_get_u(TypeId::from_index(3))?;
+    seq.array_set(TypeId::from_index(3))?;
+    seq.array_len()?;
+    seq.array_fill(TypeId::from_index(3))?;
+    seq.array_copy(TypeId::from_index(3), TypeId::from_index(5))
 }
 
 #[test]
 fn arrays(rt: HostRuntime) -> Result<(), Fail> {
     let mut body = function(rt.alloc())?;
     let seq = body.func_body();
-    seq.array_new(TypeId::from_index(3))?;
-    assert!(rt; matches!(nth(seq, 1), Some(Instr::ArrayNew { ty }) if ty.index() == 3));
-    seq.array_new_default(TypeId::from_index(3))?;
-    assert!(rt; matches!(nth(seq, 2), Some(Instr::ArrayNewDefault { ty }) if ty.index() == 3));
-    seq.array_new_fixed(TypeId::from_index(3), 5)?;
-    assert!(rt;
-        matches!(nth(seq, 3), Some(Instr::ArrayNewFixed { ty, size }) if ty.index() == 3 && *size == 5)
-    );
-    seq.array_new_data(TypeId::from_index(3), DataId::from_index(5))?;
-    assert!(rt;
-        matches!(nth(seq, 4), Some(Instr::ArrayNewData { ty, data }) if ty.index() == 3 && data.index() == 5)
-    );
-    seq.array_new_elem(TypeId::from_index(3), ElementId::from_index(5))?;
-    assert!(rt;
-        matches!(nth(seq, 5), Some(Instr::ArrayNewElem { ty, elem }) if ty.index() == 3 && elem.index() == 5)
-    );
-    seq.array_get(TypeId::from_index(3))?;
-    assert!(rt; matches!(nth(seq, 6), Some(Instr::ArrayGet { ty }) if ty.index() == 3));
-    seq.array_get_s(TypeId::from_index(3))?;
-    assert!(rt; matches!(nth(seq, 7), Some(Instr::ArrayGetS { ty }) if ty.index() == 3));
-    seq.array_get_u(TypeId::from_index(3))?;
-    assert!(rt; matches!(nth(seq, 8), Some(Instr::ArrayGetU { ty }) if ty.index() == 3));
-    Ok(())
-}
-
-#[test]
-fn more_arrays(rt: HostRuntime) -> Result<(), Fail> {
-    let mut body = function(rt.alloc())?;
-    let seq = body.func_body();
-    seq.array_set(TypeId::from_index(3))?;
-    assert!(rt; matches!(nth(seq, 1), Some(Instr::ArraySet { ty }) if ty.index() == 3));
-    seq.array_len()?;
-    assert!(rt; matches!(nth(seq, 2), Some(Instr::ArrayLen)));
-    seq.array_fill(TypeId::from_index(3))?;
-    assert!(rt; matches!(nth(seq, 3), Some(Instr::ArrayFill { ty }) if ty.index() == 3));
-    seq.array_copy(TypeId::from_index(3), TypeId::from_index(5))?;
-    assert!(rt;
-        matches!(nth(seq, 4), Some(Instr::ArrayCopy { src, dst }) if src.index() == 3 && dst.index() == 5)
-    );
-    seq.array_init_data(TypeId::from_index(3), DataId::from_index(5))?;
-    assert!(rt;
-        matches!(nth(seq, 5), Some(Instr::ArrayInitData { ty, data }) if ty.index() == 3 && data.index() == 5)
-    );
-    seq.array_init_elem(TypeId::from_index(3), ElementId::from_index(5))?;
-    assert!(rt;
-        matches!(nth(seq, 6), Some(Instr::ArrayInitElem { ty, elem }) if ty.index() == 3 && elem.index() == 5)
+    add_new_arrays(seq)?;
+    add_array_accesses(seq)?;
+    assert_rows(
+        &rt,
+        seq.instrs(),
+        &[
+            ("array_new", 3, 0, 0),
+            ("array_new_default", 3, 0, 0),
+            ("array_new_fixed", 3, 5, 0),
+            ("array_new_data", 3, 5, 0),
+            ("array_new_elem", 3, 5, 0),
+            ("array_init_data", 3, 5, 0),
+            ("array_init_elem", 3, 5, 0),
+            ("array_get", 3, 0, 0),
+            ("array_get_s", 3, 0, 0),
+            ("array_get_u", 3, 0, 0),
+            ("array_set", 3, 0, 0),
+            ("array_len", 0, 0, 0),
+            ("array_fill", 3, 0, 0),
+            ("array_copy", 3, 5, 0),
+        ],
     );
     Ok(())
 }

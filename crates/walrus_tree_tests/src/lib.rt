@@ -16,6 +16,8 @@ mod log;
 #[cfg(test)]
 mod log_mut;
 #[cfg(test)]
+mod refused;
+#[cfg(test)]
 mod renamer;
 #[cfg(test)]
 mod tests;

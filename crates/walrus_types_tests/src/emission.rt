@@ -104,7 +104,7 @@ fn a_type_that_names_a_type_stays(rt: HostRuntime) -> Result<(), Fail> {
 }
 
 // Two final structures that name each other.
-fn pair(alloc: Global, ids: &[TypeId]) -> Result<Vec<NewType>, IrError> {
+pub fn pair(alloc: Global, ids: &[TypeId]) -> Result<Vec<NewType>, IrError> {
     let mut members = Vec::new(alloc);
     for k in 0..ids.len() {
         let other = ids[ids.len() - 1 - k];

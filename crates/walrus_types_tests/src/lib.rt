@@ -12,4 +12,6 @@ mod groups;
 #[cfg(test)]
 mod records;
 #[cfg(test)]
+mod rounds;
+#[cfg(test)]
 mod texts;

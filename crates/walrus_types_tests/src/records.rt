@@ -9,8 +9,8 @@ use std::alloc::{AllocError, Global};
 use std::test::Fail;
 use walrus_arena::TypeId;
 use walrus_types::{
-    CompositeRecord, FieldRecord, GroupRecord, HeapRecord, ModuleTypes, RefRecord, StorageRecord,
-    TypeRecord, ValRecord,
+    CompositeRecord, EmittedTypes, FieldRecord, GroupRecord, HeapRecord, IrError, ModuleTypes,
+    RefRecord, StorageRecord, TypeRecord, ValRecord,
 };
 
 // A group of one final type of this form, without supertype.
@@ -142,5 +142,37 @@ fn copies_of_records(rt: HostRuntime) -> Result<(), Fail> {
     let group = function(rt.alloc(), true, ValRecord::I64)?;
     let copy = group.clone(rt.alloc())?;
     assert!(rt; copy == group);
+    Ok(())
+}
+
+// What is emitted of two neighbours, and a structure that refers to the first.
+fn long_first(alloc: Global) -> Result<EmittedTypes, IrError> {
+    let mut types = ModuleTypes::new(alloc);
+    let long = function(alloc, false, ValRecord::I64)?;
+    let short = function(alloc, false, ValRecord::I32)?;
+    let to_long = holder(alloc, 0)?;
+    types.parse_types(&[long, short, to_long])?;
+    types.emit()
+}
+
+// The same with the neighbours in each other's places.
+fn short_first(alloc: Global) -> Result<EmittedTypes, IrError> {
+    let mut types = ModuleTypes::new(alloc);
+    let short = function(alloc, false, ValRecord::I32)?;
+    let long = function(alloc, false, ValRecord::I64)?;
+    let to_long = holder(alloc, 1)?;
+    types.parse_types(&[short, long, to_long])?;
+    types.emit()
+}
+
+#[test]
+fn neighbours_change_places(rt: HostRuntime) -> Result<(), Fail> {
+    let one = long_first(rt.alloc())?;
+    let other = short_first(rt.alloc())?;
+    assert!(rt; one.groups.as_slice() == other.groups.as_slice());
+    for k in 0..3 {
+        assert_eq!(rt; one.indices.get(id(k)), Some([1, 0, 2][k]));
+        assert_eq!(rt; other.indices.get(id(k)), Some(k as u32));
+    }
     Ok(())
 }

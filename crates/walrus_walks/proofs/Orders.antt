@@ -10,6 +10,7 @@ use Rattle.walrus_walks.specs.declared.steps.Step.{Step}
 use Rattle.walrus_walks.specs.declared.steps.Step.TheVariants.{Enter}
 use Rattle.walrus_walks.specs.Tree.{children, children_in, Falls, IsRank, IsNested}
 use Rattle.walrus_walks.specs.Steps.{entering, id_of, AreSteps}
+use Rattle.walrus_walks.specs.Fronts.{FoldsFront}
 use Rattle.walrus_walks.specs.Order.{last_first, held_by, orders, order_of, order_within, order}
 use Rattle.walrus_walks.proofs.Nested.{AllNested, count_most, nested_known, nested_seq, nested_split, squeezed, squeezed_some, squeezed_is_rank}
 use Rattle.walrus_walks.proofs.Turns.{steps_last, steps_entering}
@@ -138,3 +139,14 @@ module _ (b c : List InstrSeq) (kept : map held_by c ≡ map held_by b) (f : Ste
     walk_turn R p q last h t =
         let F : List ℕ → Type 0 = λ ks. FoldsTo R p ks last in
         subst F (sym ids_turn) (q, h, t)
+
+    pub front_turn : {P : Type 0} (R : P → ℕ → P → Type 0) (p q last : P) → R p k q → FoldsFront R q (ids_left b gs) last → FoldsFront R p (ids_left b items) last
+    front_turn R p q last h t = record {
+      part = k ∷ t.part;
+      rest = t.rest;
+      splits = ids_turn ∙ ap (λ (ks : List ℕ). k ∷ ks) t.splits;
+      folds = (q, h, t.folds);
+    }
+
+    pub front_step : {P : Type 0} (R : P → ℕ → P → Type 0) (p q : P) → R p k q → FoldsFront R p (ids_left b items) q
+    front_step R p q h = record { part = k ∷ []; rest = ids_left b gs; splits = ids_turn; folds = (q, h, λ _. q) }

@@ -1,5 +1,5 @@
 -- What one step tells, over plain lists.
-use Rattle.std.proofs.Common.{ℕ, zero, suc, ◌+◌, ◌<◌, ◌≤◌, ◌≡◌, List, [], ◌∷◌, ◌++◌, length, drop, get_or, Some, sym, ap, subst, arith, ◌∙◌, add-one, drop-cons, length-append}
+use Rattle.std.proofs.Common.{ℕ, zero, suc, ◌+◌, ◌<◌, ◌≤◌, ◌≡◌, List, [], ◌∷◌, ◌++◌, length, drop, get_or, Some, sym, ap, subst, arith, ◌∙◌, add-one, drop-cons, length-append, append_assoc}
 use Rattle.std.specs.Prelude.{slice_get}
 use Rattle.std.specs.List.{FoldsTo}
 use Rattle.std.proofs.lemmas.List.{drop_all}
@@ -10,6 +10,7 @@ use Rattle.walrus_walks.specs.declared.steps.Step.{Step}
 use Rattle.walrus_walks.specs.declared.steps.Step.TheVariants.{Enter, Resume}
 use Rattle.walrus_walks.specs.Tree.{children, children_in, IsNested}
 use Rattle.walrus_walks.specs.Events.{Event, StartOf, EndOf, Visits, names, block_names}
+use Rattle.walrus_walks.specs.Fronts.{FoldsFront}
 use Rattle.walrus_walks.specs.Steps.{entering, ahead, left, AreSteps, Told}
 use Rattle.walrus_walks.proofs.Nested.{AllNested, nested_seq, nested_split}
 use Rattle.walrus_walks.proofs.Folds.{folds_append}
@@ -71,6 +72,15 @@ module _ {V : Type 0} (step : V → Event → V → Type 0) (b : List InstrSeq) 
   told_on t e last h =
       let F : List Event → Type 0 = λ es. FoldsTo step v es last in
       subst F (sym (left_before e t)) (folds_append step v t.events w (left b gs) last t.told h)
+
+  -- told in part after the step, it is told in part
+  pub part_on : (t : Told step v (ahead b f ++ left b fs) w (left b gs)) → items ≡ fs ++ f ∷ [] → (last : V) → FoldsFront step w (left b gs) last → FoldsFront step v (left b items) last
+  part_on t e last p = record {
+    part = t.events ++ p.part;
+    rest = p.rest;
+    splits = left_before e t ∙ ap (λ (es : List Event). t.events ++ es) p.splits ∙ sym (append_assoc t.events p.part p.rest);
+    folds = folds_append step v t.events w p.part last t.told p.folds;
+  }
 
   pub told_less : (t : Told step v (ahead b f ++ left b fs) w (left b gs)) → items ≡ fs ++ f ∷ [] → length (left b gs) < length (left b items)
   told_less t e = omega (arith, t.some, ap length (left_before e t), length-append t.events (left b gs))

@@ -6,6 +6,7 @@ use Rattle.walrus_instr.specs.declared.seq.InstrLocId.{InstrLocId}
 use Rattle.walrus_instr.specs.declared.seq.InstrSeq.{InstrSeq}
 use Rattle.walrus_walks.specs.Events.{Event, StartOf, EndOf, Visits}
 use Rattle.walrus_walks.specs.Changes.{Threads, BlockTypeChanged, InstrChanged}
+use Rattle.walrus_walks.specs.Fronts.{FoldsFront}
 use Rattle.walrus_walks.specs.Order.{order}
 
 -- an instruction with its location was handed over, then what the instruction left there names
@@ -50,3 +51,7 @@ pub record SeqVisited {V : Type 0} (step : V → Event → Event → V → Type 
 -- the sequences of a nest were changed one after the other, a sequence before what it holds
 abbrev pub Walked : {V : Type 0} → (V → Event → Event → V → Type 0) → V → List InstrSeq → ℕ → V → List InstrSeq → Type 0
 Walked step v b start w c = FoldsTo (SeqVisited step) (v, b) (order b start) (w, c)
+
+-- the same of a part from the front
+abbrev pub WalkedPart : {V : Type 0} → (V → Event → Event → V → Type 0) → V → List InstrSeq → ℕ → V → List InstrSeq → Type 0
+WalkedPart step v b start w c = FoldsFront (SeqVisited step) (v, b) (order b start) (w, c)

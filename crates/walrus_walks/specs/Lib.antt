@@ -6,3 +6,4 @@ pub mod Walk
 pub mod Changes
 pub mod Changing
 pub mod Order
+pub mod Fronts

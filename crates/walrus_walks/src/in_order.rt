@@ -1,8 +1,9 @@
 //! The walk that reads.
-ghost use Rattle.std.specs.Prelude.{◌≡◌, ◌++◌, ◌<◌, [], ◌∷◌, IfOk, Some, length, slice_get};
+ghost use Rattle.std.specs.Prelude.{◌≡◌, ◌++◌, ◌<◌, [], ◌∷◌, IfOk, OnErr, Some, length, slice_get};
 ghost use Rattle.std.specs.List.{FoldsTo};
 ghost use Rattle.walrus_walks.specs.declared.steps.Step.TheVariants.{Enter, Resume};
 ghost use Rattle.walrus_walks.specs.Tree.{IsNested};
+ghost use Rattle.walrus_walks.specs.Fronts.{FoldsFront};
 ghost use Rattle.walrus_walks.specs.Walk.{walk};
 ghost use Rattle.walrus_walks.specs.Steps.{AreSteps, Told, ahead, left, id_of};
 
@@ -13,7 +14,7 @@ use std::alloc::{AllocError, Global};
 use walrus_arena::InstrSeqId;
 use walrus_instr::InstrSeq;
 
-// Begins a sequence.
+// Begins a sequence. What is to follow is pushed first: where that is refused, nothing is told.
 fn enter<V: Visitor>(
     visitor: &mut V,
     seqs: &[InstrSeq],
@@ -24,11 +25,12 @@ fn enter<V: Visitor>(
     requires steps { AreSteps seqs.now stack.old.items }
     ensures told { IfOk result (λ _. Told V.step visitor.old (ahead seqs.now (Enter id) ++ left seqs.now stack.old.items) visitor.new (left seqs.now stack.new.items)) }
     ensures steps { IfOk result (λ _. AreSteps seqs.now stack.new.items) }
+    ensures refused { OnErr result (visitor.new ≡ visitor.old) }
 {
     let seq = &seqs[id.index()];
+    stack.push(Step::Resume(id, 0))?;
     visitor.start_instr_seq(seq);
     seq.visit(visitor);
-    stack.push(Step::Resume(id, 0))?;
     Ok(())
 }
 
@@ -44,15 +46,16 @@ fn resume<V: Visitor>(
     requires steps { AreSteps seqs.now stack.old.items }
     ensures told { IfOk result (λ _. Told V.step visitor.old (ahead seqs.now (Resume id index) ++ left seqs.now stack.old.items) visitor.new (left seqs.now stack.new.items)) }
     ensures steps { IfOk result (λ _. AreSteps seqs.now stack.new.items) }
+    ensures refused { OnErr result (visitor.new ≡ visitor.old) }
 {
     let seq = &seqs[id.index()];
     let instrs = seq.instrs.as_slice();
     if index < instrs.len() {
         let (instr, place) = &instrs[index];
-        visitor.visit_instr(instr, place);
-        instr.visit(visitor);
         stack.push(Step::Resume(id, index + 1))?;
         push_children(stack, instr)?;
+        visitor.visit_instr(instr, place);
+        instr.visit(visitor);
     } else {
         visitor.end_instr_seq(seq);
     }
@@ -70,6 +73,7 @@ fn turn<V: Visitor>(
     requires steps { AreSteps seqs.now stack.old.items }
     ensures told { IfOk result (λ _. Told V.step visitor.old (ahead seqs.now step ++ left seqs.now stack.old.items) visitor.new (left seqs.now stack.new.items)) }
     ensures steps { IfOk result (λ _. AreSteps seqs.now stack.new.items) }
+    ensures refused { OnErr result (visitor.new ≡ visitor.old) }
 {
     match step {
         Step::Enter(id) => enter(visitor, seqs, stack, id),
@@ -81,11 +85,12 @@ fn turn<V: Visitor>(
 /// sequence's start, what its block type names, its instructions, its end; each instruction with
 /// what it names, then what it holds. Asks for a nested start, as `check_nesting` tests.
 ///
-/// Takes time and memory in proportion to the instructions, and keeps its own list of what is left.
+/// Takes time and memory in proportion to what is told; a sequence that several instructions hold
+/// is told for each. Keeps its own list of what is left.
 ///
 /// # Errors
 ///
-/// Want of memory. The visitor has been told a part.
+/// Want of memory. The visitor has then been told a first part of that, and nothing else.
 pub fn dfs_in_order<V: Visitor>(
     alloc: Global,
     visitor: &mut V,
@@ -93,7 +98,8 @@ pub fn dfs_in_order<V: Visitor>(
     start: InstrSeqId,
 ) -> Result<(), AllocError>
     requires { IsNested seqs.now start }
-    ensures { IfOk result (λ _. FoldsTo V.step visitor.old (walk seqs.now start) visitor.new) }
+    ensures walked { IfOk result (λ _. FoldsTo V.step visitor.old (walk seqs.now start) visitor.new) }
+    ensures refused { OnErr result (FoldsFront V.step visitor.old (walk seqs.now start) visitor.new) }
 {
     let mut stack = Vec::new(alloc);
     stack.push(Step::Enter(start))?;

@@ -1,10 +1,10 @@
 //! The walk that changes.
-ghost use Rattle.std.specs.Prelude.{◌≡◌, ◌<◌, ◌++◌, IfOk, Some, map, length, slice_get};
+ghost use Rattle.std.specs.Prelude.{◌≡◌, ◌<◌, ◌++◌, IfOk, OnErr, Some, map, length, slice_get};
 ghost use Rattle.walrus_walks.specs.Tree.{IsNested, children};
 ghost use Rattle.walrus_walks.specs.Changes.{Threads};
 ghost use Rattle.walrus_walks.specs.Steps.{entering};
 ghost use Rattle.walrus_walks.specs.Order.{last_first, held_by};
-ghost use Rattle.walrus_walks.specs.Changing.{ItemChanged, SeqChanged, SeqVisited, Walked};
+ghost use Rattle.walrus_walks.specs.Changing.{ItemChanged, SeqChanged, SeqVisited, Walked, WalkedPart};
 
 use crate::nesting::push_all;
 use crate::steps::Step;
@@ -67,11 +67,13 @@ fn visit_next<V: VisitorMut>(
 /// and the sequence at its end; only then the sequences that it holds, those of its last
 /// instruction first. Asks for a nested start, as `check_nesting` tests.
 ///
-/// Takes time and memory in proportion to the instructions, and keeps its own list of what is left.
+/// Takes time and memory in proportion to what is handed over; a sequence that several instructions
+/// hold is handed over for each. Keeps its own list of what is left.
 ///
 /// # Errors
 ///
-/// Want of memory. The visitor has been handed a part. Each sequence still holds what it held.
+/// Want of memory. The visitor has then been handed the first of those sequences, each whole; all
+/// others are as they were. Each sequence still holds what it held.
 pub fn dfs_pre_order_mut<V: VisitorMut>(
     alloc: Global,
     visitor: &mut V,
@@ -80,6 +82,7 @@ pub fn dfs_pre_order_mut<V: VisitorMut>(
 ) -> Result<(), AllocError>
     requires { IsNested seqs.old start }
     ensures walked { IfOk result (λ _. Walked V.step visitor.old seqs.old start visitor.new seqs.new) }
+    ensures refused { OnErr result (WalkedPart V.step visitor.old seqs.old start visitor.new seqs.new) }
     ensures keeps { map held_by seqs.new ≡ map held_by seqs.old }
     ensures nested { IsNested seqs.new start }
 {

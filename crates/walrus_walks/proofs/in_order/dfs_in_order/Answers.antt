@@ -1,7 +1,8 @@
-use Rattle.std.proofs.Common.{List, subst}
+use Rattle.std.proofs.Common.{List, [], refl, sym, subst}
+use Rattle.std.proofs.lemmas.Result.{err_from_is_err_and}
 use Rattle.walrus_walks.specs.declared.steps.Step.{Step}
-use Rattle.walrus_walks.specs.Steps.{AreSteps}
-use Rattle.walrus_walks.proofs.Taken.{told_on, told_less}
+use Rattle.walrus_walks.specs.Steps.{AreSteps, left}
+use Rattle.walrus_walks.proofs.Taken.{told_on, told_less, part_on}
 use Rattle.walrus_walks.proofs.Turns.{steps_last}
 use Rattle.walrus_walks.proofs.in_order.dfs_in_order.Goals as goal
 
@@ -26,4 +27,12 @@ loop-step-preserved g c = record {
   steps = c.in_ok-turn.ensures.steps;
   told = λ last h. c.loop-step.invariant.told last
       (told_on g.V.Visitor.step c.args.seqs.now c.in-Some.step c.pop.new.self.items c.turn.new.stack.items c.loop-step.stack.items c.loop-step.visitor c.turn.new.visitor c.in_ok-turn.ensures.told c.in-Some.ensures.items last h);
+  part = λ last p. c.loop-step.invariant.part last
+      (part_on g.V.Visitor.step c.args.seqs.now c.in-Some.step c.pop.new.self.items c.turn.new.stack.items c.loop-step.stack.items c.loop-step.visitor c.turn.new.visitor c.in_ok-turn.ensures.told c.in-Some.ensures.items last p);
 }
+
+pub returns-in_err-turn-clause-refused : goal.returns-in_err-turn-clause-refused
+returns-in_err-turn-clause-refused g c =
+    let p = err_from_is_err_and c.from_residual-in_err-turn.result c.from_residual-in_err-turn.ensures.1 in
+    let rest = left c.args.seqs.now c.loop-step.stack.items in
+    rw p.1 (c.loop-step.invariant.part c.turn.new.visitor (record { part = []; rest = rest; splits = refl; folds = sym c.in_err-turn.ensures.refused }))
