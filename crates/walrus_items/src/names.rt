@@ -38,7 +38,7 @@ impl Type {
         Ok(())
     }
 
-    // Whether it names the type.
+    /// Whether it names the type.
     pub fn names(&self, id: TypeId) -> bool
         ensures { result ≡ list_any (λ name. name == id) (kind_names (kind_of self.now)) }
     {

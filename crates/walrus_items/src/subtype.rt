@@ -34,6 +34,7 @@ pub struct Type {
 impl Tombstone for Type {}
 
 impl Type {
+    /// A type without a name. One that is marked as an entry type is that of a body's own block.
     pub fn new(
         id: TypeId,
         kind: CompositeType,
@@ -133,14 +134,14 @@ impl Type {
         self.kind.is_array()
     }
 
-    // Whether it is the type of a body's own block, which is never written.
+    /// Whether it is the type of a body's own block, which is never written.
     pub fn is_entry(&self) -> bool
         ensures { result ≡ self.now.entry }
     {
         self.entry
     }
 
-    // Whether it has this name.
+    /// Whether it has this name.
     pub fn is_named(&self, name: &str) -> bool
         ensures { result ≡ has_name name.now (item_of self.now) }
     {
@@ -150,7 +151,7 @@ impl Type {
         }
     }
 
-    // Whether it is the final function type without supertype of just these lists.
+    /// Whether it is the final function type without supertype of just these lists.
     pub fn is_function_of(&self, params: &[ValType], results: &[ValType]) -> bool
         ensures { result ≡ same_kind (kind_of self.now) (function_kind params.now results.now) }
     {
@@ -197,6 +198,7 @@ pub struct RecGroup {
 impl Tombstone for RecGroup {}
 
 impl RecGroup {
+    /// A group of these members, which is written as one, even of one member alone, or not.
     pub fn new(explicit: bool, types: Vec<TypeId>) -> Self
         ensures { result ≡ record { types = types; explicit = explicit } }
     {
@@ -210,7 +212,7 @@ impl RecGroup {
         self.explicit
     }
 
-    // Takes the type out of its members.
+    /// Takes the type out of its members.
     pub fn remove(&mut self, id: TypeId)
         ensures members { self.new.types.items ≡ filter (λ member. not (member == id)) self.old.types.items }
         ensures explicit { self.new.explicit ≡ self.old.explicit }
@@ -218,7 +220,7 @@ impl RecGroup {
         self.types.retain(|member| member.index() != id.index());
     }
 
-    // Whether it has no member.
+    /// Whether it has no member.
     pub fn is_empty(&self) -> bool
         ensures { IsTrue result ↔ (self.now.types.items ≡ []) }
     {

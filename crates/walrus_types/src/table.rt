@@ -75,11 +75,11 @@ pub(crate) fn note(
     Ok(())
 }
 
-// The id of the type that stands for this one, which is to have the id `id`.
-pub(crate) fn look_up(index: &HashMap<Type, usize>, ty: &Type, id: TypeId) -> Option<usize>
-    ensures { result ≡ (if names_itself id (kind_of ty.now) then None else get type_eq.eq index.now ty.now) }
+// The id of the type that stands for this one, which is to have the id `next`.
+pub(crate) fn look_up(index: &HashMap<Type, usize>, ty: &Type, next: TypeId) -> Option<usize>
+    ensures { result ≡ (if names_itself next (kind_of ty.now) then None else get type_eq.eq index.now ty.now) }
 {
-    if ty.names(id) {
+    if ty.names(next) {
         return None;
     }
     index.get(ty).copied()

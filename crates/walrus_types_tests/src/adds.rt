@@ -82,7 +82,8 @@ fn copies_of_locals(rt: HostRuntime) -> Result<(), Fail> {
     let mut local = Local::new(LocalId::from_index(3), ValType::F64);
     local.name = Some(String::from_str(rt.alloc(), "x")?);
     let copy = local.clone()?;
-    assert_eq!(rt; (copy.id().index(), copy.ty()), (3, ValType::F64));
+    assert_eq!(rt; copy.id().index(), 3);
+    assert!(rt; copy.ty() == ValType::F64);
     assert!(rt; matches!(&copy.name, Some(name) if name.as_str() == "x"));
     Ok(())
 }
