@@ -1,10 +1,10 @@
 -- What a contract sees of a function that is built.
-use Rattle.std.specs.Prelude.{◌≡◌, ◌⊎◌, ℕ, List, [], ◌∷◌, None}
+use Rattle.std.specs.Prelude.{◌≡◌, ℕ, List, [], ◌∷◌, None}
 use Rattle.std.specs.Borrow.{Lends, Fml, MutBor}
 use Rattle.walrus_instr.specs.declared.seq.InstrSeq.{InstrSeq}
 use Rattle.walrus_forms.specs.declared.value.ValType.{ValType}
-use Rattle.walrus_forms.specs.Kinds.{Kind, function_kind, entry_kind}
-use Rattle.walrus_types.specs.Table.{Table, Merges}
+use Rattle.walrus_forms.specs.Kinds.{function_kind, entry_kind}
+use Rattle.walrus_types.specs.Table.{Table, MergesBoth}
 use Rattle.walrus_instr.specs.declared.seq.InstrSeqType.{InstrSeqType}
 use Rattle.walrus_instr.specs.declared.seq.InstrSeqType.TheVariants.{MultiValue}
 use Rattle.walrus_builder.specs.declared.function.FunctionBuilder.{FunctionBuilder}
@@ -25,19 +25,9 @@ pub record IsOf (f : FunctionBuilder) (ty : ℕ) (entry : InstrSeqType) : Type 0
 -- a function of the type that stands for these parameters and results, whose body's own block has the entry
 -- type of the results; the two types were added where none was equal
 pub record IsNew (params results : List ValType) (f : FunctionBuilder) (old new : Table) : Type 0 where
-  pub between : Table
   pub entry : ℕ
-  pub ty_added : Merges (function_kind params results) f.ty old between
-  pub entry_added : Merges (entry_kind results) entry between new
+  pub types_added : MergesBoth (function_kind params results) f.ty (entry_kind results) entry old new
   pub is_of : IsOf f f.ty (MultiValue entry)
-
--- the table, or the one that has a type of this kind
-abbrev pub MayAdd : Kind → Table → Table → Type 0
-MayAdd kind old new = (new ≡ old) ⊎ ((id : ℕ) × Merges kind id old new)
-
--- the table with at most the types of a new function more
-abbrev pub MayLeave : List ValType → List ValType → Table → Table → Type 0
-MayLeave params results old new = (between : Table) × MayAdd (function_kind params results) old between × MayAdd (entry_kind results) between new
 
 -- once the borrow r ends, the function has the sequences written through r
 abbrev pub lends_builder : MutBor FunctionBuilder → MutBor Building → Fml

@@ -3,7 +3,7 @@ ghost use Rattle.std.specs.Prelude.{◌≡◌, ◌<◌, [], ◌∷◌, ◌++◌,
 ghost use Rattle.std.specs.Option.{option_map};
 ghost use Rattle.std.specs.Borrow.{sem};
 ghost use Rattle.walrus_builder.specs.Built.{contents, empty_seq};
-ghost use Rattle.walrus_builder.specs.Functions.{lends_builder, seqs_of, IsOf, IsNew, MayLeave};
+ghost use Rattle.walrus_builder.specs.Functions.{lends_builder, seqs_of, IsOf, IsNew};
 
 use crate::seq_builder::InstrSeqBuilder;
 use std::alloc::{AllocError, Global};
@@ -27,7 +27,7 @@ impl FunctionBuilder {
     ///
     /// # Errors
     ///
-    /// Want of memory. The types may have been added, and nothing names them.
+    /// Want of memory. The types stay as they were.
     pub fn new(
         alloc: Global,
         types: &mut ModuleTypes,
@@ -35,11 +35,15 @@ impl FunctionBuilder {
         results: &[ValType],
     ) -> Result<Self, AllocError>
         ensures made { IfOk result (λ f. IsNew params.now results.now f types.old types.new) }
-        ensures refused { OnErr result (MayLeave params.now results.now types.old types.new) }
+        ensures refused { OnErr result (types.new ≡ types.old) }
     {
-        let ty = types.add(params, results)?;
-        let entry = types.add_entry_ty(results)?;
-        let function = FunctionBuilder::with_types(alloc, ty, InstrSeqType::MultiValue(entry))?;
+        let none = TypeId::from_index(0);
+        let mut function =
+            FunctionBuilder::with_types(alloc, none, InstrSeqType::MultiValue(none))?;
+        // Last, so that nothing is refused once the types are added.
+        let (ty, entry) = types.add_with_entry_ty(params, results)?;
+        function.ty = ty;
+        function.builder.seqs[0].ty = InstrSeqType::MultiValue(entry);
         Ok(function)
     }
 

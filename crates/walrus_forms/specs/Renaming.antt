@@ -1,5 +1,5 @@
 -- Forms and kinds with each name replaced.
-use Rattle.std.specs.Prelude.{ℕ, ◌<◌, List, map, All, IfSome, slice_index}
+use Rattle.std.specs.Prelude.{ℕ, ◌<◌, List, map, All, Option, None, IfSome, unwrap_or, slice_index, slice_index_or}
 use Rattle.std.specs.Option.{option_map}
 use Rattle.walrus_forms.specs.declared.value.HeapType.{HeapType}
 use Rattle.walrus_forms.specs.declared.value.HeapType.TheVariants.{Abstract, Concrete, Exact}
@@ -49,6 +49,10 @@ renamed_kind r kind = record { form = renamed_form r kind.form; final = kind.fin
 -- the renaming of an index to what a list has there
 abbrev pub at : List ℕ → ℕ → ℕ
 at ids index = slice_index ids index
+
+-- the index that a list has for an id, 0 where it has none
+abbrev pub index_at : List (Option ℕ) → ℕ → ℕ
+index_at indices id = unwrap_or (slice_index_or indices id None) 0
 
 -- each name is below n
 abbrev pub HeapBelow : ℕ → HeapType → Type 0

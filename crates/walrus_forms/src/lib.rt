@@ -3,6 +3,7 @@
 #![tactic(auto)]
 
 mod composite;
+mod describe;
 pub mod laws;
 mod names;
 mod record;
@@ -10,6 +11,7 @@ mod text;
 mod value;
 
 pub use composite::{ArrayType, CompositeType, FunctionType, StructType};
+pub use describe::index_of;
 pub use record::{
     CompositeRecord, FieldRecord, GroupRecord, HeapRecord, RefRecord, StorageRecord, TypeRecord,
     ValRecord,

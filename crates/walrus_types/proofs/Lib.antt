@@ -5,6 +5,7 @@ pub mod GroupLemmas
 pub mod LawLemmas
 pub mod MergerLemmas
 pub mod OrderLemmas
+pub mod PairLemmas
 pub mod ParseLemmas
 pub mod SameLemmas
 pub mod TableLemmas

@@ -6,11 +6,11 @@ use Rattle.std.specs.Ordering.{ordering_then, bool_cmp, nat_cmp}
 use Rattle.std.specs.Option.{option_cmp}
 use Rattle.walrus_arena.specs.contracts.id.IdOrd.TheImpl as id_impl
 use Rattle.walrus_arena.specs.contracts.id.TypeSpace.{the_row as type_space}
-use Rattle.walrus_types.specs.declared.subtype.Type.{«Type» as TypeItem}
-use Rattle.walrus_types.specs.contracts.subtype.TypeOrd.TheImpl.{ghosts as type_ord}
+use Rattle.walrus_items.specs.declared.subtype.Type.{«Type» as TypeItem}
+use Rattle.walrus_items.specs.contracts.subtype.TypeOrd.TheImpl.{ghosts as type_ord}
 use Rattle.walrus_forms.proofs.FormLemmas.{composite_ord-forms}
 use Rattle.walrus_forms.specs.Forms.{form_of}
-use Rattle.walrus_types.specs.Items.{kind_of}
+use Rattle.walrus_items.specs.Items.{kind_of}
 use Rattle.walrus_forms.specs.Order.{form_cmp, kind_cmp}
 
 then-equal : (o : Ordering) → ordering_then o Equal ≡ o

@@ -7,12 +7,12 @@ use Rattle.std.proofs.lemmas.List.{get_or_push, get_or_append_left, get_or-set_s
 use Rattle.std.proofs.Math.ListN.{get_or-map}
 use Rattle.walrus_arena.specs.Arena.{entries_from}
 use Rattle.walrus_arena.proofs.ArenaLemmas.{live-within, at-kept, at-last, at-push, at-other, entries_from-push}
-use Rattle.walrus_types.specs.declared.subtype.Type.{«Type» as TypeItem}
-use Rattle.walrus_types.specs.declared.subtype.RecGroup.{RecGroup}
+use Rattle.walrus_items.specs.declared.subtype.Type.{«Type» as TypeItem}
+use Rattle.walrus_items.specs.declared.subtype.RecGroup.{RecGroup}
 use Rattle.walrus_forms.specs.Kinds.{kind_names}
-use Rattle.walrus_types.specs.Items.{Item, Group, item_of, group_of, kind_of}
+use Rattle.walrus_items.specs.Items.{Item, Group, item_of, group_of, kind_of}
 use Rattle.walrus_forms.specs.Same.{same_kind}
-use Rattle.walrus_types.specs.contracts.subtype.TypePartialEq.TheImpl.{ghosts as type_eq}
+use Rattle.walrus_items.specs.contracts.subtype.TypePartialEq.TheImpl.{ghosts as type_eq}
 use Rattle.walrus_types.proofs.SameLemmas.{type_eq-kinds}
 use Rattle.std.proofs.Math.Bool.{and-true}
 use Rattle.walrus_types.specs.Table.{Table, HasMember, group_at, entries, latest_in, merges, table_of, IsIndex, IsGrouped, IsSound}

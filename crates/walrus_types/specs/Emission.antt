@@ -1,5 +1,5 @@
 -- How a table is written: its groups in order, and the index of each type that is written.
-use Rattle.std.specs.Prelude.{◌≡◌, ℕ, ◌+◌, ⊤, Bool, false, List, [], ◌∷◌, length, map, filter, flat_map, Contains, Option, Some, None, IsSome, is_some, unwrap_or, slice_get, slice_index_or, if◌then◌else◌, nat_lt}
+use Rattle.std.specs.Prelude.{◌≡◌, ℕ, ◌+◌, ⊤, Bool, false, List, [], ◌∷◌, length, map, filter, flat_map, Contains, Option, Some, None, IsSome, is_some, slice_get, slice_index_or, if◌then◌else◌, nat_lt}
 use Rattle.std.specs.List.{list_any, filter_map}
 use Rattle.std.specs.Option.{option_map_or, option_or, option_and_then}
 use Rattle.walrus_arena.specs.Arena.{entries_from}
@@ -10,7 +10,8 @@ use Rattle.walrus_forms.specs.Kinds.{Kind, kind_names}
 use Rattle.walrus_forms.specs.Order.{kind_cmp}
 use Rattle.walrus_forms.specs.Records.{TypeGroup}
 use Rattle.walrus_forms.specs.Renaming.{renamed_kind}
-use Rattle.walrus_types.specs.Items.{Item, Group}
+pub use Rattle.walrus_forms.specs.Renaming.{index_at}
+use Rattle.walrus_items.specs.Items.{Item, Group}
 use Rattle.walrus_types.specs.Table.{Table, type_at}
 
 -- the kind of a type that is written: one that lives and isn't an entry type
@@ -39,10 +40,6 @@ single_kind item_at ids = None
 
 abbrev pub key_of : Table → Group → Option Kind
 key_of t group = if group.explicit then None else single_kind (type_at t) group.types
-
--- the index of a type that is written, 0 where it has none
-abbrev pub index_at : List (Option ℕ) → ℕ → ℕ
-index_at indices id = unwrap_or (slice_index_or indices id None) 0
 
 -- what stands where there is no group
 abbrev pub no_group : Group

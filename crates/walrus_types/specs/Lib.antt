@@ -1,9 +1,8 @@
+pub use Rattle.walrus_items.specs.Items
 pub mod Emission
 pub mod Groups
-pub mod Items
-pub mod Lends
-pub mod LocalLends
 pub mod Mergers
+pub mod Pairs
 pub mod Parsing
 pub mod Table
 pub mod TableLends

@@ -1,24 +1,24 @@
 //! Writing a table as the records of a type section.
-ghost use Rattle.std.specs.Prelude.{◌≡◌, ◌<◌, ◌≤◌, ◌^◌, ◌++◌, [], None, IfOk, OnOk, IfErr, All, length, map, slice_index_or};
+ghost use Rattle.std.specs.Prelude.{◌≡◌, ◌<◌, ◌≤◌, ◌^◌, ◌++◌, [], None, false, IfOk, OnOk, IfErr, All, length, map, slice_index_or};
 ghost use Rattle.std.specs.List.{list_any};
 ghost use Rattle.std.specs.Option.{option_map};
 ghost use Rattle.walrus_forms.specs.Order.{kind_cmp};
 ghost use Rattle.walrus_type_order.specs.Order.{IsEmissionOrder};
-ghost use Rattle.walrus_types.specs.Items.{kind_of, group_of};
+ghost use Rattle.walrus_items.specs.Items.{kind_of, group_of};
 ghost use Rattle.walrus_types.specs.Table.{table_of};
 ghost use Rattle.walrus_types.specs.Emission.{written_kind, is_written, written_groups, key_of, no_group, AreInOrder, written_in, written_types, AreIndices, index_at, fault_at, first_fault, group_names, groups_fault, described_group, IsEmission, IsRefusal};
 ghost use Rattle.walrus_types.specs.Parsing.{AreBelow};
 ghost use Rattle.walrus_forms.specs.Kinds.{kind_names};
-ghost use Rattle.walrus_forms.specs.Records.{type_group};
+ghost use Rattle.walrus_forms.specs.Records.{record_kind, type_group};
+ghost use Rattle.walrus_forms.specs.Renaming.{renamed_kind};
 
-use crate::describe::{index_of, type_record};
 use crate::error::IrError;
-use crate::subtype::{RecGroup, Type};
 use crate::table::ModuleTypes;
 use std::alloc::{AllocError, Global};
 use std::marker::Model;
 use walrus_arena::{RecGroupSpace, TombstoneArena, TypeId, TypeSpace};
-use walrus_forms::GroupRecord;
+use walrus_forms::{GroupRecord, TypeRecord, index_of};
+use walrus_items::{RecGroup, Type};
 use walrus_type_order::emission_order;
 
 // The type of this id, if it is written: entry types never are.
@@ -288,6 +288,22 @@ fn groups_fault(
         }
     }
     Ok(None)
+}
+
+// The record of a type, in which each type is named by its index.
+fn type_record(alloc: Global, ty: &Type, indices: &[Option<u32>]) -> Result<TypeRecord, AllocError>
+    ensures { IfOk result (λ r. record_kind r ≡ record (renamed_kind (index_at indices.now) (kind_of ty.now)) { entry = false }) }
+{
+    let kind = ty.kind().describe(alloc, indices)?;
+    let supertype = match ty.supertype {
+        Some(id) => Some(index_of(indices, id)),
+        None => None,
+    };
+    Ok(TypeRecord {
+        kind,
+        is_final: ty.is_final,
+        supertype,
+    })
 }
 
 // The record of a group.

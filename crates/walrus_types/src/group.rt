@@ -2,18 +2,18 @@
 ghost use Rattle.std.specs.Prelude.{◌≡◌, ◌+◌, ◌<◌, ◌≤◌, ◌^◌, ℕ, List, [], ◌++◌, length, map, replicate, Some, IfOk, OnOk, OnErr, vec_len, vec_capacity};
 ghost use Rattle.std.specs.List.{range_with_len};
 ghost use Rattle.std.specs.HashMap.{get};
-ghost use Rattle.walrus_types.specs.Items.{item_of, kind_of};
+ghost use Rattle.walrus_items.specs.Items.{item_of, kind_of};
 ghost use Rattle.walrus_types.specs.Table.{latest_in, merges};
 ghost use Rattle.walrus_types.specs.Groups.{new_items, member_kind};
-ghost use Rattle.walrus_types.specs.declared.subtype.Type.{«Type» as TypeItem};
-ghost use Rattle.walrus_types.specs.contracts.subtype.TypePartialEq.TheImpl.{ghosts as type_eq};
+ghost use Rattle.walrus_items.specs.declared.subtype.Type.{«Type» as TypeItem};
+ghost use Rattle.walrus_items.specs.contracts.subtype.TypePartialEq.TheImpl.{ghosts as type_eq};
 
-use crate::subtype::Type;
 use crate::table::note;
 use std::alloc::{AllocError, Global};
 use std::collections::HashMap;
 use walrus_arena::{RecGroupId, TombstoneArena, TypeId, TypeSpace};
 use walrus_forms::CompositeType;
+use walrus_items::Type;
 
 /// What a new member of a recursion group is to be.
 #[derive(Drop)]
@@ -23,6 +23,23 @@ pub struct NewType {
     pub is_final: bool,
     /// The type that it declares to be below.
     pub supertype: Option<TypeId>,
+}
+
+impl NewType {
+    /// An equal member.
+    ///
+    /// # Errors
+    ///
+    /// Want of memory.
+    pub fn clone(&self) -> Result<Self, AllocError>
+        ensures { IfOk result (λ copy. member_kind copy ≡ member_kind self.now) }
+    {
+        Ok(NewType {
+            kind: self.kind.clone()?,
+            is_final: self.is_final,
+            supertype: self.supertype,
+        })
+    }
 }
 
 // So many ids from this one on, or `None` where they don't fit.

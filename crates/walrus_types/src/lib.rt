@@ -2,27 +2,23 @@
 #![tactic(auto)]
 
 mod delete;
-mod describe;
 mod emit;
 mod error;
 mod group;
 mod iter;
 pub mod laws;
-mod local;
-mod names;
+mod pair;
 mod parse;
-mod subtype;
 mod table;
 
 pub use emit::{EmittedTypes, TypeIndices};
 pub use error::IrError;
 pub use group::NewType;
 pub use iter::{RecGroups, Types};
-pub use local::{Local, ModuleLocals};
-pub use subtype::{RecGroup, Type};
 pub use table::ModuleTypes;
 pub use walrus_forms::{
     AbstractHeapType, ArrayType, CompositeRecord, CompositeType, FieldRecord, FieldType,
     FunctionType, GroupRecord, HeapRecord, HeapType, RefRecord, RefType, StorageRecord,
     StorageType, StructType, TypeRecord, ValRecord, ValType,
 };
+pub use walrus_items::{Local, ModuleLocals, RecGroup, Type};

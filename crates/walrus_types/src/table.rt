@@ -6,7 +6,7 @@ ghost use Rattle.std.specs.HashMap.{get, IsUnchanged};
 ghost use Rattle.std.specs.Borrow.{sem};
 ghost use Rattle.walrus_forms.specs.Forms.{form_of, params_of, results_of};
 ghost use Rattle.walrus_forms.specs.Kinds.{function_kind, entry_kind, struct_kind, array_kind, declared_kind};
-ghost use Rattle.walrus_types.specs.Items.{Group, kind_of, item_of, group_of};
+ghost use Rattle.walrus_items.specs.Items.{Group, kind_of, item_of, group_of};
 ghost use Rattle.walrus_types.specs.Table.{table_of, next_id, type_at, IsLive, IsFunctionType, found_type, named_type, entries, names_itself, merges, Merges, IsIndex, HasMember, Deletes, DeletesGroup, group_at, is_named_in};
 ghost use Rattle.walrus_arena.specs.Arena.{entries_from};
 ghost use Rattle.std.specs.Fn.{FnOnceTakesAt, FnOnceReturnsAt};
@@ -14,20 +14,20 @@ ghost use Rattle.std.specs.List.{range_with_len};
 ghost use Rattle.walrus_types.specs.Groups.{AddsGroup, IsBuilt, IsCause, member_kind};
 ghost use Rattle.walrus_types.specs.TypeLaws.{AreGrouped};
 ghost use Rattle.walrus_types.specs.TableLends.{lends_type};
-ghost use Rattle.walrus_types.specs.declared.subtype.Type.{«Type» as TypeItem};
-ghost use Rattle.walrus_types.specs.contracts.subtype.TypePartialEq.TheImpl.{ghosts as type_eq};
+ghost use Rattle.walrus_items.specs.declared.subtype.Type.{«Type» as TypeItem};
+ghost use Rattle.walrus_items.specs.contracts.subtype.TypePartialEq.TheImpl.{ghosts as type_eq};
 
 use crate::delete::{clear_types, home_of, leave_group, members_name};
 use crate::error::IrError;
 use crate::group::{NewType, ids_from, note_all, push_types, types_of};
 use crate::iter::{RecGroups, Types};
-use crate::subtype::{RecGroup, Type};
 use std::alloc::{AllocError, Global};
 use std::collections::HashMap;
 use std::marker::Model;
 use std::mem;
 use walrus_arena::{RecGroupId, RecGroupSpace, TombstoneArena, TypeId, TypeSpace};
 use walrus_forms::{ArrayType, CompositeType, FieldType, FunctionType, StructType, ValType};
+use walrus_items::{RecGroup, Type};
 
 /// The types of a module by id, each in one recursion group.
 ///
@@ -39,16 +39,16 @@ pub struct ModuleTypes {
     pub(crate) types: TombstoneArena<Type, TypeSpace>,
     pub(crate) groups: TombstoneArena<RecGroup, RecGroupSpace>,
     // The group of each type ever added.
-    homes: Vec<RecGroupId>,
+    pub(crate) homes: Vec<RecGroupId>,
     // Where `fresh`, the latest live type of each kind, those that name themselves aside.
-    index: HashMap<Type, usize>,
+    pub(crate) index: HashMap<Type, usize>,
     // False once a type was lent for writing or deleted: the next add builds the index anew.
-    fresh: bool,
+    pub(crate) fresh: bool,
 }
 
 impl Model for ModuleTypes {
     ghost use Rattle.std.specs.HashMap.{get};
-    ghost use Rattle.walrus_types.specs.contracts.subtype.TypePartialEq.TheImpl.{ghosts as type_eq};
+    ghost use Rattle.walrus_items.specs.contracts.subtype.TypePartialEq.TheImpl.{ghosts as type_eq};
     ghost use Rattle.walrus_types.specs.Table.{Table, table_of, IsSound};
 
     ghost Value = { Table };
@@ -75,11 +75,11 @@ pub(crate) fn note(
     Ok(())
 }
 
-// The id of the type that stands for this one, which is to have the id `id`.
-fn look_up(index: &HashMap<Type, usize>, ty: &Type, id: TypeId) -> Option<usize>
-    ensures { result ≡ (if names_itself id (kind_of ty.now) then None else get type_eq.eq index.now ty.now) }
+// The id of the type that stands for this one, which is to have the id `next`.
+pub(crate) fn look_up(index: &HashMap<Type, usize>, ty: &Type, next: TypeId) -> Option<usize>
+    ensures { result ≡ (if names_itself next (kind_of ty.now) then None else get type_eq.eq index.now ty.now) }
 {
-    if ty.names(id) {
+    if ty.names(next) {
         return None;
     }
     index.get(ty).copied()
@@ -100,7 +100,7 @@ fn index_of(
 }
 
 // Builds the index anew where it is stale.
-fn refresh(
+pub(crate) fn refresh(
     alloc: Global,
     fresh: &mut bool,
     index: &mut HashMap<Type, usize>,

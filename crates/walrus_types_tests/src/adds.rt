@@ -2,8 +2,8 @@
 use std::test::Fail;
 use walrus_arena::LocalId;
 use walrus_types::{
-    AbstractHeapType, ArrayType, CompositeType, FieldType, HeapType, ModuleLocals, ModuleTypes,
-    RefType, StorageType, ValType,
+    AbstractHeapType, ArrayType, CompositeType, FieldType, HeapType, Local, ModuleLocals,
+    ModuleTypes, RefType, StorageType, ValType,
 };
 
 #[test]
@@ -51,12 +51,40 @@ fn entry_types(rt: HostRuntime) -> Result<(), Fail> {
 }
 
 #[test]
+fn types_with_their_entry_types(rt: HostRuntime) -> Result<(), Fail> {
+    let mut types = ModuleTypes::new(rt.alloc());
+    let (a, entry) = types.add_with_entry_ty(&[ValType::I32], &[ValType::I64])?;
+    assert_eq!(rt; (a.index(), entry.index()), (0, 1));
+    assert_eq!(rt; types.add(&[ValType::I32], &[ValType::I64])?, a);
+    assert_eq!(rt; types.add_entry_ty(&[ValType::I64])?, entry);
+    let (b, same) = types.add_with_entry_ty(&[], &[ValType::I64])?;
+    assert_eq!(rt; (b.index(), same.index()), (2, 1));
+    let (again, other) = types.add_with_entry_ty(&[], &[ValType::I64])?;
+    assert_eq!(rt; (again, other), (b, entry));
+    let c = types.add(&[ValType::F32], &[])?;
+    let (found, new) = types.add_with_entry_ty(&[ValType::F32], &[])?;
+    assert_eq!(rt; (found, new.index()), (c, 4));
+    Ok(())
+}
+
+#[test]
 fn locals(rt: HostRuntime) -> Result<(), Fail> {
     let mut locals = ModuleLocals::new(rt.alloc());
     let a = locals.add(ValType::V128)?;
     let b = locals.add(ValType::I32)?;
     assert_eq!(rt; a.index(), 0);
     assert_eq!(rt; b, LocalId::from_index(1));
+    Ok(())
+}
+
+#[test]
+fn copies_of_locals(rt: HostRuntime) -> Result<(), Fail> {
+    let mut local = Local::new(LocalId::from_index(3), ValType::F64);
+    local.name = Some(String::from_str(rt.alloc(), "x")?);
+    let copy = local.clone()?;
+    assert_eq!(rt; copy.id().index(), 3);
+    assert!(rt; copy.ty() == ValType::F64);
+    assert!(rt; matches!(&copy.name, Some(name) if name.as_str() == "x"));
     Ok(())
 }
 

@@ -56,3 +56,13 @@ fn another_count(rt: HostRuntime) -> Result<(), Fail> {
     assert_eq!(rt; types.add(&[], &[])?.index(), 0);
     Ok(())
 }
+
+#[test]
+fn copies_of_members(rt: HostRuntime) -> Result<(), Fail> {
+    let alloc = rt.alloc();
+    let member = link(alloc, TypeId::from_index(7))?;
+    let copy = member.clone()?;
+    assert!(rt; copy.is_final && copy.supertype.is_none());
+    assert!(rt; copy.kind == member.kind);
+    Ok(())
+}

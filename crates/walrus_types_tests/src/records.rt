@@ -137,6 +137,14 @@ fn a_type_that_names_itself(rt: HostRuntime) -> Result<(), Fail> {
     Ok(())
 }
 
+#[test]
+fn copies_of_records(rt: HostRuntime) -> Result<(), Fail> {
+    let group = function(rt.alloc(), true, ValRecord::I64)?;
+    let copy = group.clone(rt.alloc())?;
+    assert!(rt; copy == group);
+    Ok(())
+}
+
 // What is emitted of two neighbours, and a structure that refers to the first.
 fn long_first(alloc: Global) -> Result<EmittedTypes, IrError> {
     let mut types = ModuleTypes::new(alloc);

@@ -1,6 +1,6 @@
 use Rattle.std.proofs.Common.{◌≡◌, map, take}
 use Rattle.std.specs.Option.{option_map}
-use Rattle.walrus_types.specs.Items.{item_of}
+use Rattle.walrus_items.specs.Items.{item_of}
 use Rattle.walrus_types.specs.Table.{clear_all}
 use Rattle.walrus_types.proofs.delete.clear_types.Given as goal
 

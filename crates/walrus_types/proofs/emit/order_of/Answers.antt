@@ -1,8 +1,8 @@
 use Rattle.std.proofs.Common.{subst, List, Option, Bor, map, option_copied}
 use Rattle.std.proofs.lemmas.Result.{IfOk-weaker}
 use Rattle.walrus_type_order.specs.Order.{IsEmissionOrder}
-use Rattle.walrus_types.specs.declared.subtype.Type.{«Type» as TypeItem}
-use Rattle.walrus_types.specs.contracts.subtype.TypeOrd.TheImpl.{ghosts as type_ord}
+use Rattle.walrus_items.specs.declared.subtype.Type.{«Type» as TypeItem}
+use Rattle.walrus_items.specs.contracts.subtype.TypeOrd.TheImpl.{ghosts as type_ord}
 use Rattle.walrus_types.proofs.EmitLemmas.{order-seen}
 use Rattle.walrus_types.proofs.emit.order_of.Goals as goal
 

@@ -1,7 +1,7 @@
 use Rattle.std.proofs.Common.{◌∙◌, ℕ, Option, Some, ap, sym, cond}
 use Rattle.std.specs.HashMap.{get}
-use Rattle.walrus_types.specs.contracts.subtype.TypePartialEq.TheImpl.{ghosts as type_eq}
-use Rattle.walrus_types.specs.Items.{item_of, kind_of}
+use Rattle.walrus_items.specs.contracts.subtype.TypePartialEq.TheImpl.{ghosts as type_eq}
+use Rattle.walrus_items.specs.Items.{item_of, kind_of}
 use Rattle.walrus_types.specs.Table.{merges}
 use Rattle.walrus_types.proofs.GroupLemmas.{latest_in-more}
 use Rattle.walrus_types.proofs.group.note_all.Goals as goal

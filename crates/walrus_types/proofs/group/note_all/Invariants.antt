@@ -1,8 +1,8 @@
 use Rattle.std.proofs.Common.{◌≡◌, map, take}
 use Rattle.std.specs.HashMap.{get}
-use Rattle.walrus_types.specs.declared.subtype.Type.{«Type» as TypeItem}
-use Rattle.walrus_types.specs.contracts.subtype.TypePartialEq.TheImpl.{ghosts as type_eq}
-use Rattle.walrus_types.specs.Items.{item_of, kind_of}
+use Rattle.walrus_items.specs.declared.subtype.Type.{«Type» as TypeItem}
+use Rattle.walrus_items.specs.contracts.subtype.TypePartialEq.TheImpl.{ghosts as type_eq}
+use Rattle.walrus_items.specs.Items.{item_of, kind_of}
 use Rattle.walrus_types.specs.Table.{latest_in, merges}
 use Rattle.walrus_types.proofs.group.note_all.Given as goal
 

@@ -1,5 +1,5 @@
 use Rattle.std.proofs.Common.{◌∙◌, ℕ, List, ap, sym, None}
-use Rattle.walrus_types.specs.Items.{Item, kind_of, item_of}
+use Rattle.walrus_items.specs.Items.{Item, kind_of, item_of}
 use Rattle.walrus_types.specs.Table.{latest_in, merges}
 use Rattle.walrus_types.proofs.TableLemmas.{entries_from-map}
 use Rattle.walrus_types.proofs.table.index_of.Goals as goal

@@ -1,7 +1,7 @@
 use Rattle.std.proofs.Common.{◌∙◌, ap, sym, cond, Bool, ℕ, Some}
 use Rattle.std.specs.HashMap.{get}
-use Rattle.walrus_types.specs.contracts.subtype.TypePartialEq.TheImpl.{ghosts as type_eq}
-use Rattle.walrus_types.specs.Items.{kind_of, item_of}
+use Rattle.walrus_items.specs.contracts.subtype.TypePartialEq.TheImpl.{ghosts as type_eq}
+use Rattle.walrus_items.specs.Items.{kind_of, item_of}
 use Rattle.walrus_types.specs.Table.{merges}
 use Rattle.walrus_types.proofs.TableLemmas.{merges-key}
 use Rattle.walrus_types.proofs.table.note.Goals as goal

@@ -1,22 +1,16 @@
-use Rattle.std.proofs.Common.{inl, inr, refl}
-use Rattle.walrus_builder.specs.Functions.{MayLeave}
-use Rattle.walrus_builder.proofs.BuiltLemmas.{on_err}
+use Rattle.std.proofs.Common.{◌≡◌, ◌∙◌, ℕ, List, [], ◌∷◌, length, map, slice_set, get_or, refl, sym, ap, arith}
+use Rattle.std.proofs.lemmas.List.{length-map}
+use Rattle.walrus_instr.specs.declared.seq.InstrSeqType.{InstrSeqType}
+use Rattle.walrus_instr.specs.declared.seq.InstrSeq.{InstrSeq}
+use Rattle.walrus_builder.specs.Built.{Seq, seq_of, empty_seq}
 use Rattle.walrus_builder.proofs.function.FunctionBuilder.new.Goals as goal
 
-pub returns-in_err-ty-clause-refused : goal.returns-in_err-ty-clause-refused
-returns-in_err-ty-clause-refused c =
-    let left : MayLeave c.args.params.now c.args.results.now c.args.types.now c.add.new.self =
-    (c.args.types.now, inl refl, inl c.in_err-ty.ensures.refused) in
-    on_err _ left
-
-pub returns-in_err-entry-clause-refused : goal.returns-in_err-entry-clause-refused
-returns-in_err-entry-clause-refused c =
-    let left : MayLeave c.args.params.now c.args.results.now c.args.types.now c.add_entry_ty.new.self =
-    (c.add.new.self, inr (c.in_ok-ty.ty, c.in_ok-ty.ensures.added), inl c.in_err-entry.ensures.refused) in
-    on_err _ left
-
-pub returns-in_err-function-clause-refused : goal.returns-in_err-function-clause-refused
-returns-in_err-function-clause-refused c =
-    let left : MayLeave c.args.params.now c.args.results.now c.args.types.now c.add_entry_ty.new.self =
-    (c.add.new.self, inr (c.in_ok-ty.ty, c.in_ok-ty.ensures.added), inr (c.in_ok-entry.entry, c.in_ok-entry.ensures.added)) in
-    on_err _ left
+-- the one sequence with another type
+retyped : (seqs : List InstrSeq) (s t : InstrSeq) (old ty : InstrSeqType) → map seq_of seqs ≡ empty_seq 0 old ∷ [] → s ≡ get_or seqs 0 s
+    → t ≡ record s { ty = ty } → map seq_of (slice_set seqs 0 t) ≡ empty_seq 0 ty ∷ []
+retyped [] s t old ty one at is = absurd cc
+retyped (x ∷ y ∷ xs) s t old ty one at is = absurd cc
+retyped (x ∷ []) s t old ty one at is =
+    let first : seq_of x ≡ empty_seq 0 old = cc in
+    ap (λ (u : InstrSeq). seq_of u ∷ []) (is ∙ ap (λ (u : InstrSeq). let v : InstrSeq = record u { ty = ty } in v) at)
+    ∙ ap (λ (u : Seq). let v : Seq = record u { ty = ty } in v ∷ []) first

@@ -1,7 +1,7 @@
 use Rattle.std.proofs.Common.{◌∙◌, List, Bor, map, sym, subst}
 use Rattle.walrus_forms.specs.Records.{TypeGroup, type_group}
-use Rattle.walrus_types.specs.declared.subtype.RecGroup.{RecGroup}
-use Rattle.walrus_types.specs.Items.{group_of}
+use Rattle.walrus_items.specs.declared.subtype.RecGroup.{RecGroup}
+use Rattle.walrus_items.specs.Items.{group_of}
 use Rattle.walrus_types.specs.Table.{Table, table_of}
 use Rattle.walrus_types.specs.Emission.{IsEmission, IsRefusal, index_at}
 use Rattle.walrus_types.specs.Parsing.{AreBelow}

@@ -1,6 +1,6 @@
 use Rattle.std.proofs.Common.{◌∙◌, ℕ, List, None, ap}
 use Rattle.walrus_forms.specs.Kinds.{function_kind}
-use Rattle.walrus_types.specs.Items.{Item}
+use Rattle.walrus_items.specs.Items.{Item}
 use Rattle.walrus_forms.specs.Same.{same_kind}
 use Rattle.walrus_types.specs.Table.{latest_in}
 use Rattle.walrus_types.proofs.TableLemmas.{entries-seen}

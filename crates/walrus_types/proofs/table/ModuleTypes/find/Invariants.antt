@@ -1,7 +1,7 @@
 use Rattle.std.proofs.Common.{◌≡◌, ℕ, map, None}
-use Rattle.walrus_types.specs.declared.subtype.Type.{«Type» as TypeItem}
+use Rattle.walrus_items.specs.declared.subtype.Type.{«Type» as TypeItem}
 use Rattle.walrus_forms.specs.Kinds.{function_kind}
-use Rattle.walrus_types.specs.Items.{item_of}
+use Rattle.walrus_items.specs.Items.{item_of}
 use Rattle.walrus_forms.specs.Same.{same_kind}
 use Rattle.walrus_types.specs.Table.{entries, latest_in}
 use Rattle.walrus_types.proofs.table.ModuleTypes.find.Given as goal

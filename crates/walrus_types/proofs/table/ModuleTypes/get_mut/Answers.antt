@@ -1,7 +1,7 @@
 use Rattle.std.proofs.Common.{◌∙◌, refl, Option, Some, List, map, ap}
 use Rattle.std.specs.Option.{option_map}
 use Rattle.std.proofs.lemmas.List.{map-set}
-use Rattle.walrus_types.specs.Items.{Item, item_of, group_of}
+use Rattle.walrus_items.specs.Items.{Item, item_of, group_of}
 use Rattle.walrus_types.specs.Table.{Table}
 use Rattle.walrus_types.proofs.TableLemmas.{grouped-written, at-map}
 use Rattle.walrus_types.proofs.table.ModuleTypes.get_mut.Goals as goal

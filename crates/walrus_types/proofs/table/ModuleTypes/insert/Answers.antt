@@ -1,5 +1,5 @@
 use Rattle.std.proofs.Common.{◌≡◌, ◌∙◌, ℕ, List, [], ◌∷◌, ◌++◌, length, ap, sym, false}
-use Rattle.walrus_types.specs.Items.{group_of}
+use Rattle.walrus_items.specs.Items.{group_of}
 use Rattle.walrus_types.proofs.TableLemmas.{sound-added}
 use Rattle.walrus_types.proofs.table.ModuleTypes.insert.Goals as goal
 

@@ -1,21 +1,19 @@
 //! Records of forms: each name of a type replaced by its index.
-ghost use Rattle.std.specs.Prelude.{◌≡◌, IfOk, map, false};
+ghost use Rattle.std.specs.Prelude.{◌≡◌, IfOk, map};
 ghost use Rattle.walrus_forms.specs.Forms.{form_of};
-ghost use Rattle.walrus_forms.specs.Records.{heap_of, value_of, storage_of, field_of, record_form, record_kind};
-ghost use Rattle.walrus_forms.specs.Renaming.{renamed_heap, renamed_value, renamed_storage, renamed_field, renamed_form, renamed_kind};
-ghost use Rattle.walrus_types.specs.Emission.{index_at};
-ghost use Rattle.walrus_types.specs.Items.{kind_of};
+ghost use Rattle.walrus_forms.specs.Records.{heap_of, value_of, storage_of, field_of, record_form};
+ghost use Rattle.walrus_forms.specs.Renaming.{renamed_heap, renamed_value, renamed_storage, renamed_field, renamed_form, index_at};
 
-use crate::subtype::Type;
+use crate::composite::CompositeType;
+use crate::record::{
+    CompositeRecord, FieldRecord, HeapRecord, RefRecord, StorageRecord, ValRecord,
+};
+use crate::value::{FieldType, HeapType, StorageType, ValType};
 use std::alloc::{AllocError, Global};
 use walrus_arena::TypeId;
-use walrus_forms::{
-    CompositeRecord, CompositeType, FieldRecord, FieldType, HeapRecord, HeapType, RefRecord,
-    StorageRecord, StorageType, TypeRecord, ValRecord, ValType,
-};
 
-/// The index of a type that is written. Others have none, and are given 0.
-pub(crate) fn index_of(indices: &[Option<u32>], id: TypeId) -> u32
+/// The index that the list has for a type, 0 where it has none.
+pub fn index_of(indices: &[Option<u32>], id: TypeId) -> u32
     ensures { result ≡ index_at indices.now id }
 {
     match indices.get(id.index()) {
@@ -97,46 +95,33 @@ fn field_records(
     Ok(records)
 }
 
-/// The record of a form, in which each type is named by its index.
-pub(crate) fn form_record(
-    alloc: Global,
-    form: &CompositeType,
-    indices: &[Option<u32>],
-) -> Result<CompositeRecord, AllocError>
-    ensures { IfOk result (λ ty. record_form ty ≡ renamed_form (index_at indices.now) (form_of form.now)) }
-{
-    match form {
-        CompositeType::Function(ty) => {
-            let params = value_records(alloc, ty.params(), indices)?;
-            let results = value_records(alloc, ty.results(), indices)?;
-            Ok(CompositeRecord::Function { params, results })
+impl CompositeType {
+    /// The record of this form, in which each type is named by the index that the list has for it, 0 where
+    /// it has none.
+    ///
+    /// # Errors
+    ///
+    /// Want of memory.
+    pub fn describe(
+        &self,
+        alloc: Global,
+        indices: &[Option<u32>],
+    ) -> Result<CompositeRecord, AllocError>
+        ensures { IfOk result (λ ty. record_form ty ≡ renamed_form (index_at indices.now) (form_of self.now)) }
+    {
+        match self {
+            CompositeType::Function(ty) => {
+                let params = value_records(alloc, ty.params(), indices)?;
+                let results = value_records(alloc, ty.results(), indices)?;
+                Ok(CompositeRecord::Function { params, results })
+            }
+            CompositeType::Struct(ty) => {
+                let fields = field_records(alloc, ty.fields.as_slice(), indices)?;
+                Ok(CompositeRecord::Struct { fields })
+            }
+            CompositeType::Array(ty) => Ok(CompositeRecord::Array {
+                field: field_record(ty.field, indices),
+            }),
         }
-        CompositeType::Struct(ty) => {
-            let fields = field_records(alloc, ty.fields.as_slice(), indices)?;
-            Ok(CompositeRecord::Struct { fields })
-        }
-        CompositeType::Array(ty) => Ok(CompositeRecord::Array {
-            field: field_record(ty.field, indices),
-        }),
     }
-}
-
-/// The record of a type, in which each type is named by its index.
-pub(crate) fn type_record(
-    alloc: Global,
-    ty: &Type,
-    indices: &[Option<u32>],
-) -> Result<TypeRecord, AllocError>
-    ensures { IfOk result (λ r. record_kind r ≡ record (renamed_kind (index_at indices.now) (kind_of ty.now)) { entry = false }) }
-{
-    let kind = form_record(alloc, ty.kind(), indices)?;
-    let supertype = match ty.supertype {
-        Some(id) => Some(index_of(indices, id)),
-        None => None,
-    };
-    Ok(TypeRecord {
-        kind,
-        is_final: ty.is_final,
-        supertype,
-    })
 }

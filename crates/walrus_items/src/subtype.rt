@@ -3,9 +3,9 @@ ghost use Rattle.std.specs.Prelude.{◌≡◌, ◌==◌, ◌↔◌, [], not, fil
 ghost use Rattle.std.specs.Borrow.{sem};
 ghost use Rattle.walrus_forms.specs.Forms.{form_of, function_of, struct_of, array_of, is_function, is_struct, is_array, params_of, results_of};
 ghost use Rattle.walrus_forms.specs.Kinds.{function_kind};
-ghost use Rattle.walrus_types.specs.Items.{kind_of, item_of, group_of, has_name};
+ghost use Rattle.walrus_items.specs.Items.{kind_of, item_of, group_of, has_name};
 ghost use Rattle.walrus_forms.specs.Same.{same_kind};
-ghost use Rattle.walrus_types.specs.Lends.{lends_kind};
+ghost use Rattle.walrus_items.specs.Lends.{lends_kind};
 
 use std::alloc::AllocError;
 use walrus_arena::{Tombstone, TypeId};
@@ -34,7 +34,8 @@ pub struct Type {
 impl Tombstone for Type {}
 
 impl Type {
-    pub(crate) fn new(
+    /// A type without a name. One that is marked as an entry type is that of a body's own block.
+    pub fn new(
         id: TypeId,
         kind: CompositeType,
         is_final: bool,
@@ -133,15 +134,15 @@ impl Type {
         self.kind.is_array()
     }
 
-    // Whether it is the type of a body's own block, which is never written.
-    pub(crate) fn is_entry(&self) -> bool
+    /// Whether it is the type of a body's own block, which is never written.
+    pub fn is_entry(&self) -> bool
         ensures { result ≡ self.now.entry }
     {
         self.entry
     }
 
-    // Whether it has this name.
-    pub(crate) fn is_named(&self, name: &str) -> bool
+    /// Whether it has this name.
+    pub fn is_named(&self, name: &str) -> bool
         ensures { result ≡ has_name name.now (item_of self.now) }
     {
         match &self.name {
@@ -150,8 +151,8 @@ impl Type {
         }
     }
 
-    // Whether it is the final function type without supertype of just these lists.
-    pub(crate) fn is_function_of(&self, params: &[ValType], results: &[ValType]) -> bool
+    /// Whether it is the final function type without supertype of just these lists.
+    pub fn is_function_of(&self, params: &[ValType], results: &[ValType]) -> bool
         ensures { result ≡ same_kind (kind_of self.now) (function_kind params.now results.now) }
     {
         match &self.kind {
@@ -197,7 +198,8 @@ pub struct RecGroup {
 impl Tombstone for RecGroup {}
 
 impl RecGroup {
-    pub(crate) fn new(explicit: bool, types: Vec<TypeId>) -> Self
+    /// A group of these members, which is written as one, even of one member alone, or not.
+    pub fn new(explicit: bool, types: Vec<TypeId>) -> Self
         ensures { result ≡ record { types = types; explicit = explicit } }
     {
         RecGroup { types, explicit }
@@ -210,16 +212,16 @@ impl RecGroup {
         self.explicit
     }
 
-    // Takes the type out of its members.
-    pub(crate) fn remove(&mut self, id: TypeId)
+    /// Takes the type out of its members.
+    pub fn remove(&mut self, id: TypeId)
         ensures members { self.new.types.items ≡ filter (λ member. not (member == id)) self.old.types.items }
         ensures explicit { self.new.explicit ≡ self.old.explicit }
     {
         self.types.retain(|member| member.index() != id.index());
     }
 
-    // Whether it has no member.
-    pub(crate) fn is_empty(&self) -> bool
+    /// Whether it has no member.
+    pub fn is_empty(&self) -> bool
         ensures { IsTrue result ↔ (self.now.types.items ≡ []) }
     {
         self.types.is_empty()

@@ -5,8 +5,8 @@ use Rattle.std.specs.Str.{bytes_eq}
 use Rattle.std.specs.String.{string_bytes}
 use Rattle.walrus_forms.specs.Forms.{form_of}
 use Rattle.walrus_forms.specs.Kinds.{Kind}
-use Rattle.walrus_types.specs.declared.subtype.Type.{«Type» as TypeItem}
-use Rattle.walrus_types.specs.declared.subtype.RecGroup.{RecGroup}
+use Rattle.walrus_items.specs.declared.subtype.Type.{«Type» as TypeItem}
+use Rattle.walrus_items.specs.declared.subtype.RecGroup.{RecGroup}
 
 abbrev pub kind_of : TypeItem → Kind
 kind_of ty = record { form = form_of ty.kind; final = ty.is_final; supertype = ty.supertype; entry = ty.entry }

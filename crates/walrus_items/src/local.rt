@@ -1,8 +1,9 @@
 //! Locals: the parameters and variables of all functions of a module.
-ghost use Rattle.std.specs.Prelude.{◌≡◌, ◌<◌, [], ◌∷◌, ◌++◌, IfOk, OnOk, OnErr, None, Some, length, slice_get};
+ghost use Rattle.std.specs.Prelude.{◌≡◌, ◌<◌, [], ◌∷◌, ◌++◌, IfOk, OnOk, OnErr, None, Some, length, slice_get, string_bytes};
+ghost use Rattle.std.specs.Option.{option_map};
 ghost use Rattle.std.specs.Borrow.{sem};
 ghost use Rattle.std.specs.Slice.Iter.{iter_rest};
-ghost use Rattle.walrus_types.specs.LocalLends.{lends_local};
+ghost use Rattle.walrus_items.specs.LocalLends.{lends_local};
 
 use std::alloc::{AllocError, Global};
 use std::marker::Model;
@@ -40,6 +41,23 @@ impl Local {
     {
         self.ty
     }
+
+    /// An equal local, of the same id.
+    ///
+    /// # Errors
+    ///
+    /// Want of memory.
+    pub fn clone(&self) -> Result<Self, AllocError>
+        ensures id { IfOk result (λ copy. copy.id ≡ self.now.id) }
+        ensures ty { IfOk result (λ copy. copy.ty ≡ self.now.ty) }
+        ensures name { IfOk result (λ copy. option_map string_bytes copy.name ≡ option_map string_bytes self.now.name) }
+    {
+        Ok(Local {
+            id: self.id,
+            ty: self.ty,
+            name: self.name.clone()?,
+        })
+    }
 }
 
 /// The locals of a module by id. None is ever deleted.
@@ -50,7 +68,7 @@ pub struct ModuleLocals {
 
 impl Model for ModuleLocals {
     ghost use Rattle.std.specs.Prelude.{List};
-    ghost use Rattle.walrus_types.specs.declared.local.Local.{Local};
+    ghost use Rattle.walrus_items.specs.declared.local.Local.{Local};
 
     ghost Value = { List Local };
 

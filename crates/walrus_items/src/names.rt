@@ -2,7 +2,7 @@
 ghost use Rattle.std.specs.Prelude.{◌≡◌, ◌++◌, ◌==◌, ◌||◌, Some, OnOk, OnErr, take, length};
 ghost use Rattle.std.specs.List.{list_any};
 ghost use Rattle.walrus_forms.specs.Kinds.{kind_names};
-ghost use Rattle.walrus_types.specs.Items.{kind_of};
+ghost use Rattle.walrus_items.specs.Items.{kind_of};
 
 use crate::subtype::Type;
 use std::alloc::AllocError;
@@ -38,8 +38,8 @@ impl Type {
         Ok(())
     }
 
-    // Whether it names the type.
-    pub(crate) fn names(&self, id: TypeId) -> bool
+    /// Whether it names the type.
+    pub fn names(&self, id: TypeId) -> bool
         ensures { result ≡ list_any (λ name. name == id) (kind_names (kind_of self.now)) }
     {
         let index = id.index();

@@ -1,0 +1,3 @@
+pub mod Items
+pub mod Lends
+pub mod LocalLends

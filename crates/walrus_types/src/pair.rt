@@ -1,0 +1,142 @@
+//! Adding a function type and the type of its body's own block, both or neither.
+ghost use Rattle.std.specs.Prelude.{◌≡◌, ◌+◌, ◌<◌, true, false, [], ◌∷◌, ◌++◌, length, IfOk, OnErr, Some, None, vec_len, vec_capacity};
+ghost use Rattle.walrus_forms.specs.Forms.{form_of};
+ghost use Rattle.walrus_forms.specs.Kinds.{function_kind, entry_kind, declared_kind};
+ghost use Rattle.walrus_items.specs.Items.{kind_of};
+ghost use Rattle.walrus_types.specs.Table.{next_id, equal_type};
+ghost use Rattle.walrus_types.specs.Pairs.{MergesBoth};
+
+use crate::table::{ModuleTypes, look_up, note, refresh};
+use std::alloc::AllocError;
+use walrus_arena::{RecGroupId, RecGroupSpace, TombstoneArena, TypeId, TypeSpace};
+use walrus_forms::{CompositeType, FunctionType, ValType};
+use walrus_items::{RecGroup, Type};
+
+// Adds the type, in a group of these members. Asks for room.
+fn push_single(
+    types: &mut TombstoneArena<Type, TypeSpace>,
+    groups: &mut TombstoneArena<RecGroup, RecGroupSpace>,
+    homes: &mut Vec<RecGroupId>,
+    ty: Type,
+    members: Vec<TypeId>,
+)
+    requires types { 0 < types.old.room }
+    requires groups { 0 < groups.old.room }
+    requires homes { vec_len homes.old < vec_capacity homes.old }
+    ensures types { types.new.slots ≡ types.old.slots ++ Some ty ∷ [] }
+    ensures types_room { types.new.room + 1 ≡ types.old.room }
+    ensures groups { groups.new.slots ≡ groups.old.slots ++ Some (record { types = members; explicit = false }) ∷ [] }
+    ensures groups_room { groups.new.room + 1 ≡ groups.old.room }
+    ensures homes { homes.new.items ≡ homes.old.items ++ length groups.old.slots ∷ [] }
+    ensures homes_len { vec_len homes.new ≡ vec_len homes.old + 1 }
+    ensures homes_room { vec_capacity homes.new ≡ vec_capacity homes.old }
+{
+    let home = groups.alloc_reserved(RecGroup::new(false, members));
+    homes.push_reserved(home);
+    types.alloc_reserved(ty);
+}
+
+impl ModuleTypes {
+    /// The ids of the final function type without supertype of these parameters and results, and of the
+    /// type of its body's own block, as `add` and then `add_entry_ty` give them.
+    ///
+    /// # Errors
+    ///
+    /// Want of memory. The table stays as it was: neither type is added without the other.
+    pub fn add_with_entry_ty(
+        &mut self,
+        params: &[ValType],
+        results: &[ValType],
+    ) -> Result<(TypeId, TypeId), AllocError>
+        ensures added { IfOk result (λ ids. MergesBoth (function_kind params.now results.now) ids.0 (entry_kind results.now) ids.1 self.old self.new) }
+        ensures refused { OnErr result (self.new ≡ self.old) }
+    {
+        let alloc = self.alloc();
+        let params = Vec::from_slice(alloc, params)?;
+        let entry_results = Vec::from_slice(alloc, results)?;
+        let results = Vec::from_slice(alloc, results)?;
+        let ty = FunctionType::new(params, results);
+        let entry = FunctionType::new(Vec::new(alloc), entry_results);
+        self.insert_with_entry(CompositeType::Function(ty), CompositeType::Function(entry))
+    }
+
+    // The ids of the types that stand for a final type of the first form without supertype, and then for
+    // an entry type of the second, which are added where there are none.
+    fn insert_with_entry(
+        &mut self,
+        kind: CompositeType,
+        entry: CompositeType,
+    ) -> Result<(TypeId, TypeId), AllocError>
+        ensures inserted { IfOk result (λ ids. MergesBoth (declared_kind (form_of kind) true None) ids.0 (record { form = form_of entry; final = true; supertype = None; entry = true }) ids.1 self.old self.new) }
+        ensures refused { OnErr result (self.new ≡ self.old) }
+    {
+        refresh(self.alloc, &mut self.fresh, &mut self.index, &self.types)?;
+        let id = self.types.next_id();
+        let ty = Type::new(id, kind, true, None, false);
+        if let Some(found) = look_up(&self.index, &ty, id) {
+            let entry_id = self.insert(entry, true, None, true)?;
+            return Ok((TypeId::from_index(found), entry_id));
+        }
+        self.add_then_entry(ty, entry)
+    }
+
+    // Adds a type that equals no live one, under the next id, and then an entry type of this form, unless
+    // one stands for it. Answers the ids.
+    fn add_then_entry(
+        &mut self,
+        ty: Type,
+        entry: CompositeType,
+    ) -> Result<(TypeId, TypeId), AllocError>
+        requires unnamed { ty.name ≡ None }
+        requires id { ty.id ≡ next_id self.old }
+        requires new { equal_type (kind_of ty) self.old ≡ None }
+        ensures inserted { IfOk result (λ ids. MergesBoth (kind_of ty) ids.0 (record { form = form_of entry; final = true; supertype = None; entry = true }) ids.1 self.old self.new) }
+        ensures refused { OnErr result (self.new ≡ self.old) }
+    {
+        let id = self.types.next_id();
+        let Some(next) = id.index().checked_add(1) else {
+            return Err(AllocError);
+        };
+        let entry_id = TypeId::from_index(next);
+        let entry = Type::new(entry_id, entry, true, None, true);
+        let mut members = Vec::new(self.alloc);
+        members.push(id)?;
+        let mut entry_members = Vec::new(self.alloc);
+        entry_members.push(entry_id)?;
+        self.types.reserve(2)?;
+        self.groups.reserve(2)?;
+        self.homes.reserve(2)?;
+        refresh(self.alloc, &mut self.fresh, &mut self.index, &self.types)?;
+        // The index is ahead of the types until they stand.
+        self.fresh = false;
+        note(&mut self.index, &ty, id)?;
+        if let Some(found) = look_up(&self.index, &entry, entry_id) {
+            push_single(
+                &mut self.types,
+                &mut self.groups,
+                &mut self.homes,
+                ty,
+                members,
+            );
+            self.fresh = true;
+            return Ok((id, TypeId::from_index(found)));
+        }
+        note(&mut self.index, &entry, entry_id)?;
+        push_single(
+            &mut self.types,
+            &mut self.groups,
+            &mut self.homes,
+            ty,
+            members,
+        );
+        push_single(
+            &mut self.types,
+            &mut self.groups,
+            &mut self.homes,
+            entry,
+            entry_members,
+        );
+        self.fresh = true;
+        Ok((id, entry_id))
+    }
+}
