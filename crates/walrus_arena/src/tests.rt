@@ -97,3 +97,11 @@ fn maps(rt: HostRuntime) -> Result<(), Fail> {
     assert_eq!(rt; names.get(&f).copied(), Some(5));
     Ok(())
 }
+
+#[test]
+fn ids_are_told_by_number(rt: HostRuntime) -> Result<(), Fail> {
+    let id = TypeId::from_index(3);
+    let text = format!(in rt.alloc(); "{id:?}")?;
+    assert!(rt; text.as_str().starts_with("Id { index: 3,"));
+    Ok(())
+}
