@@ -62,6 +62,17 @@ fn arena(rt: HostRuntime) -> Result<(), Fail> {
 }
 
 #[test]
+fn reserved(rt: HostRuntime) -> Result<(), Fail> {
+    let mut arena: TombstoneArena<Word, TypeSpace> = TombstoneArena::new(rt.alloc());
+    arena.reserve(2)?;
+    assert_eq!(rt; arena.alloc_reserved(Word(7)).index(), 0);
+    let made = arena.alloc_with_id(|id| Word(if id.index() == 1 { 5 } else { 0 }))?;
+    assert_eq!(rt; made.index(), 1);
+    assert_eq!(rt; arena.get(made).map_or(0, |word| word.0), 5);
+    Ok(())
+}
+
+#[test]
 fn set(rt: HostRuntime) -> Result<(), Fail> {
     let mut set = ArenaSet::new(rt.alloc());
     let a = set.insert(Word(7))?;
@@ -84,5 +95,13 @@ fn maps(rt: HostRuntime) -> Result<(), Fail> {
     seen.insert(f)?;
     assert!(rt; seen.contains(&f));
     assert_eq!(rt; names.get(&f).copied(), Some(5));
+    Ok(())
+}
+
+#[test]
+fn ids_are_told_by_number(rt: HostRuntime) -> Result<(), Fail> {
+    let id = TypeId::from_index(3);
+    let text = format!(in rt.alloc(); "{id:?}")?;
+    assert!(rt; text.as_str().starts_with("Id { index: 3,"));
     Ok(())
 }

@@ -1,0 +1,7 @@
+//! Tests of the forms of types and of their records, each call with ample memory.
+#![tactic(auto)]
+
+#[cfg(test)]
+mod forms;
+#[cfg(test)]
+mod records;
