@@ -8,6 +8,8 @@ mod common;
 #[cfg(test)]
 mod control;
 #[cfg(test)]
+mod copies;
+#[cfg(test)]
 mod functions;
 #[cfg(test)]
 mod memory;

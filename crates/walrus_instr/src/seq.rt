@@ -13,7 +13,7 @@ use walrus_arena::{InstrSeqId, TypeId};
 use walrus_types::{ModuleTypes, ValType};
 
 /// Where an instruction stood in the file that it was read from, as the reader of that file numbers places.
-#[derive(Clone, Copy, PartialEq, Eq, PartialOrd, Ord, Hash)]
+#[derive(Clone, Copy, Debug, PartialEq, Eq, PartialOrd, Ord, Hash)]
 pub struct InstrLocId(u32);
 
 impl InstrLocId {

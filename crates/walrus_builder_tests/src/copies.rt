@@ -1,0 +1,172 @@
+//! Copies of instructions, sequences and constant expressions, and the text of a location.
+use crate::rows::{ARG, assert_rows};
+use std::alloc::{AllocError, Global};
+use std::test::Fail;
+use walrus_arena::{FunctionId, GlobalId, InstrSeqId, LocalId, MemoryId, TagId};
+use walrus_instr::{
+    ConstExpr, ConstOp, Instr, InstrLocId, InstrSeq, InstrSeqType, LegacyCatch, LoadKind,
+    TryTableCatch,
+};
+use walrus_types::{RefType, ValType};
+
+fn copies(
+    alloc: Global,
+    instrs: &[(Instr, InstrLocId)],
+) -> Result<Vec<(Instr, InstrLocId)>, AllocError> {
+    let mut all = Vec::new(alloc);
+    for (instr, place) in instrs {
+        all.push((instr.clone()?, *place))?;
+    }
+    Ok(all)
+}
+
+#[test]
+fn plain_instructions(rt: HostRuntime) -> Result<(), Fail> {
+    let none = InstrLocId::default();
+    let func = FunctionId::from_index(3);
+    let local = LocalId::from_index(3);
+    let memory = MemoryId::from_index(3);
+    let kind = LoadKind::F64;
+    let arg = ARG;
+    let instrs = vec![in rt.alloc();
+        (Instr::Unreachable, none),
+        (Instr::Call { func }, none),
+        (Instr::LocalTee { local }, none),
+        (Instr::Load { memory, kind, arg }, none),
+    ]?;
+    let all = copies(rt.alloc(), instrs.as_slice())?;
+    assert_rows(
+        &rt,
+        all.as_slice(),
+        &[
+            ("unreachable", 0, 0, 0),
+            ("call", 3, 0, 0),
+            ("local_tee", 3, 0, 0),
+            ("load", 3, 1, 1),
+        ],
+    );
+    Ok(())
+}
+
+#[test]
+fn labels(rt: HostRuntime) -> Result<(), Fail> {
+    let blocks = vec![in rt.alloc(); InstrSeqId::from_index(3), InstrSeqId::from_index(1)]?;
+    let default = InstrSeqId::from_index(2);
+    let copy = Instr::BrTable { blocks, default }.clone()?;
+    assert!(rt;
+        matches!(&copy, Instr::BrTable { blocks, default }
+        if default.index() == 2
+            && matches!(blocks.as_slice(), [a, b] if a.index() == 3 && b.index() == 1))
+    );
+    Ok(())
+}
+
+#[test]
+fn clauses(rt: HostRuntime) -> Result<(), Fail> {
+    let tag = TagId::from_index(6);
+    let label = InstrSeqId::from_index(3);
+    let catches = vec![in rt.alloc();
+        TryTableCatch::Catch { tag, label },
+        TryTableCatch::CatchRef { tag, label },
+        TryTableCatch::CatchAll { label },
+        TryTableCatch::CatchAllRef { label },
+    ]?;
+    let seq = InstrSeqId::from_index(8);
+    let copy = Instr::TryTable { seq, catches }.clone()?;
+    let Instr::TryTable { seq, catches } = &copy else {
+        assert!(rt; false);
+        return Ok(());
+    };
+    assert_eq!(rt; seq.index(), 8);
+    assert!(rt;
+        catches.as_slice()
+            == [
+                TryTableCatch::Catch { tag, label },
+                TryTableCatch::CatchRef { tag, label },
+                TryTableCatch::CatchAll { label },
+                TryTableCatch::CatchAllRef { label },
+            ]
+            .as_slice()
+    );
+    Ok(())
+}
+
+#[test]
+fn parts(rt: HostRuntime) -> Result<(), Fail> {
+    let tag = TagId::from_index(6);
+    let handler = InstrSeqId::from_index(3);
+    let catches = vec![in rt.alloc();
+        LegacyCatch::Catch { tag, handler },
+        LegacyCatch::CatchAll { handler },
+        LegacyCatch::Delegate { relative_depth: 4 },
+    ]?;
+    let seq = InstrSeqId::from_index(8);
+    let copy = Instr::Try { seq, catches }.clone()?;
+    let Instr::Try { seq, catches } = &copy else {
+        assert!(rt; false);
+        return Ok(());
+    };
+    assert_eq!(rt; seq.index(), 8);
+    assert!(rt;
+        catches.as_slice()
+            == [
+                LegacyCatch::Catch { tag, handler },
+                LegacyCatch::CatchAll { handler },
+                LegacyCatch::Delegate { relative_depth: 4 },
+            ]
+            .as_slice()
+    );
+    Ok(())
+}
+
+#[test]
+fn sequences(rt: HostRuntime) -> Result<(), Fail> {
+    let ty = InstrSeqType::Simple(Some(ValType::F32));
+    let block = InstrSeqId::from_index(4);
+    let mut seq = InstrSeq::new(rt.alloc(), block, ty);
+    seq.push((Instr::Br { block }, InstrLocId::new(7)))?;
+    seq.push((Instr::Return, InstrLocId::default()))?;
+    seq.end = InstrLocId::new(9);
+    let copy = seq.clone()?;
+    assert!(rt; copy.id() == block && copy.ty == ty && copy.end.data() == 9);
+    assert!(rt;
+        matches!(copy.as_slice(), [(Instr::Br { block }, at), (Instr::Return, none)]
+        if block.index() == 4 && at.data() == 7 && none.is_default())
+    );
+    Ok(())
+}
+
+// The operators of a copy of the expression of one operator.
+fn ops_of_copy(alloc: Global, op: ConstOp) -> Result<Vec<ConstOp>, AllocError> {
+    let ops = vec![in alloc; op]?;
+    let copy = ConstExpr::from_ops(ops).clone()?;
+    let mut all = Vec::new(alloc);
+    copy.push_ops(&mut all)?;
+    Ok(all)
+}
+
+#[test]
+fn single_constants(rt: HostRuntime) -> Result<(), Fail> {
+    for op in [
+        ConstOp::I32Const(-7),
+        ConstOp::I64Const(-8),
+        ConstOp::F32Const(9),
+        ConstOp::F64Const(10),
+        ConstOp::V128Const(11),
+        ConstOp::GlobalGet(GlobalId::from_index(3)),
+        ConstOp::RefNull(RefType::I31REF),
+        ConstOp::RefFunc(FunctionId::from_index(3)),
+        ConstOp::RefI31,
+    ] {
+        let ops = ops_of_copy(rt.alloc(), op)?;
+        assert!(rt; matches!(ops.as_slice(), [only] if *only == op));
+    }
+    Ok(())
+}
+
+#[test]
+fn text_of_a_location(rt: HostRuntime) -> Result<(), Fail> {
+    let text = format!(in rt.alloc(); "{:?}", InstrLocId::new(5))?;
+    assert_eq!(rt; text.as_str(), "InstrLocId(5)");
+    Ok(())
+}
