@@ -38,8 +38,11 @@ impl FunctionBuilder {
         ensures refused { OnErr result (types.new ≡ types.old) }
     {
         let none = TypeId::from_index(0);
-        let mut function =
-            FunctionBuilder::with_types(alloc, none, InstrSeqType::MultiValue(none))?;
+        let mut function = FunctionBuilder::with_types(
+            alloc,
+            none,
+            InstrSeqType::MultiValue(none),
+        )?;
         // Last, so that nothing is refused once the types are added.
         let (ty, entry) = types.add_with_entry_ty(params, results)?;
         function.ty = ty;
