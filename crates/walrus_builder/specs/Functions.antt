@@ -4,7 +4,8 @@ use Rattle.std.specs.Borrow.{Lends, Fml, MutBor}
 use Rattle.walrus_instr.specs.declared.seq.InstrSeq.{InstrSeq}
 use Rattle.walrus_forms.specs.declared.value.ValType.{ValType}
 use Rattle.walrus_forms.specs.Kinds.{function_kind, entry_kind}
-use Rattle.walrus_types.specs.Table.{Table, MergesBoth}
+use Rattle.walrus_types.specs.Pairs.{MergesBoth}
+use Rattle.walrus_types.specs.Table.{Table}
 use Rattle.walrus_instr.specs.declared.seq.InstrSeqType.{InstrSeqType}
 use Rattle.walrus_instr.specs.declared.seq.InstrSeqType.TheVariants.{MultiValue}
 use Rattle.walrus_builder.specs.declared.function.FunctionBuilder.{FunctionBuilder}

@@ -4,7 +4,18 @@ ghost use Rattle.walrus_builder.specs.Built.{contents, pushes, inserts, Keeps, E
 
 use crate::seq_builder::InstrSeqBuilder;
 use std::alloc::AllocError;
+use walrus_arena::InstrSeqId;
 use walrus_instr::{Instr, InstrSeqType};
+
+// An `if` with these arms.
+fn if_else_of(consequent: InstrSeqId, alternative: InstrSeqId) -> Instr
+    ensures { result ≡ Instr.IfElse consequent alternative }
+{
+    Instr::IfElse {
+        consequent,
+        alternative,
+    }
+}
 
 impl InstrSeqBuilder {
     /// Appends a block: the closure fills its body.
@@ -130,10 +141,7 @@ impl InstrSeqBuilder {
         let alternative_ty = ty;
         let consequent = self.fill_seq(ty, make_consequent)?;
         let alternative = self.fill_seq(alternative_ty, make_alternative)?;
-        self.instr(Instr::IfElse {
-            consequent,
-            alternative,
-        })?;
+        self.instr(if_else_of(consequent, alternative))?;
         Ok(())
     }
 
@@ -167,13 +175,7 @@ impl InstrSeqBuilder {
         let alternative_ty = ty;
         let consequent = self.fill_seq(ty, make_consequent)?;
         let alternative = self.fill_seq(alternative_ty, make_alternative)?;
-        self.instr_at(
-            position,
-            Instr::IfElse {
-                consequent,
-                alternative,
-            },
-        )?;
+        self.instr_at(position, if_else_of(consequent, alternative))?;
         Ok(())
     }
 }
