@@ -39,9 +39,13 @@ fn two_that_name_each_other(rt: HostRuntime) -> Result<(), Fail> {
     let alloc = rt.alloc();
     let mut types = ModuleTypes::new(alloc);
     let ids = types.add_rec_group(2, |ids| ring(alloc, ids))?;
-    assert_eq!(rt; ids.len(), 2);
-    let first = TypeId::from_index(0);
+    let (first, second) = (TypeId::from_index(0), TypeId::from_index(1));
+    assert!(rt; ids.as_slice() == [first, second].as_slice());
     assert!(rt; types.contains(first));
+    assert!(rt; types.contains(second));
+    let (to_second, to_first) = (link(alloc, second)?, link(alloc, first)?);
+    assert!(rt; *types.get(first).kind() == to_second.kind);
+    assert!(rt; *types.get(second).kind() == to_first.kind);
     assert!(rt; !types.try_delete(first));
     assert!(rt; types.contains(first));
     Ok(())
