@@ -264,6 +264,7 @@ impl<'a> BinaryReader<'a> {
         ensures outcome { MatchResult result
             (λ inner. FnOnceReturnsAtMut F.FnOnce read self.old (Ok tt) self.new × (inner ≡ read_since (min self.old.position self.new.position) self.new))
             (λ e. FnOnceReturnsAtMut F.FnOnce read self.old (Err e) self.new) }
+        ensures moves { ((old new : Cursor) (outcome : Result (Unit {0}) Error) → FnOnceReturnsAtMut F.FnOnce read old outcome new → Forward old new) → Forward self.old self.new }
     {
         let position = self.position;
         read(self)?;
