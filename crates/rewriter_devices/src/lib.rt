@@ -15,6 +15,3 @@ pub use lines::send_places;
 pub use memory::{MemorySink, MemorySource, SinkFail};
 pub use output::{WriteFault, send};
 pub use standard::{StdSink, StdSource};
-
-#[cfg(test)]
-mod tests;

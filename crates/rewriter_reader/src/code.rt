@@ -11,8 +11,7 @@ use crate::section::{close_section, open_section};
 use std::alloc::Global;
 use wasm_model::fault::{Fault, Limited};
 use wasm_reader::BinaryReader;
-
-const MAX_WASM_FUNCTION_SIZE: usize = 7_654_321;
+use wasm_reader::limits::MAX_WASM_FUNCTION_SIZE;
 
 /// A body before its operators are looked at: its bytes begin `place` bytes behind the function
 /// count.

@@ -12,9 +12,8 @@ use rewriter_module::Export;
 use std::alloc::Global;
 use std::collections::HashSet;
 use wasm_model::fault::{Fault, Form, Limited, Space};
+use wasm_reader::limits::MAX_WASM_EXPORTS;
 use wasm_reader::{BinaryReader, Error, ErrorKind};
-
-const MAX_WASM_EXPORTS: usize = 1_000_000;
 
 // The kind of a function: other kinds are read later.
 #[tactic(auto, unfolding(wasm_model::specs::Sections::kind_at))]

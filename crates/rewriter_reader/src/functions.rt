@@ -9,8 +9,7 @@ use crate::section::read_list;
 use std::alloc::Global;
 use wasm_model::fault::{Fault, Limited, Space};
 use wasm_reader::BinaryReader;
-
-const MAX_WASM_FUNCTIONS: usize = 1_000_000;
+use wasm_reader::limits::MAX_WASM_FUNCTIONS;
 
 // The entries of the function section: indices of so many types.
 #[derive(Drop)]

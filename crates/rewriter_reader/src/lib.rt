@@ -12,6 +12,3 @@ mod types;
 mod whole;
 
 pub use whole::parse;
-
-#[cfg(test)]
-mod tests;

@@ -13,11 +13,8 @@ use std::alloc::Global;
 use wasm_features::WasmFeatures;
 use wasm_model::fault::{Fault, Form, Limited};
 use wasm_model::types::ValType;
+use wasm_reader::limits::{MAX_WASM_FUNCTION_PARAMS, MAX_WASM_FUNCTION_RETURNS, MAX_WASM_TYPES};
 use wasm_reader::{BinaryReader, Error, ErrorKind};
-
-const MAX_WASM_TYPES: usize = 1_000_000;
-
-const MAX_WASM_FUNCTION_TYPES: usize = 1_000;
 
 // 63, 64, and the abstract heap types.
 const REFERENCE_BYTES: [u8; 14] = [
@@ -90,12 +87,17 @@ impl<'a> ReadEntry<'a> for ValueTypes {
     }
 }
 
-// At most 1,000 value types: the parameters, or the results.
+// At most `limit` value types: the parameters, or the results.
 #[tactic(auto, unfolding(wasm_model::specs::Sections::value_types_at))]
-fn read_value_types(alloc: Global, reader: &mut BinaryReader<'_>) -> Result<Vec<ValType>, Fault>
+fn read_value_types(
+    alloc: Global,
+    limit: usize,
+    reader: &mut BinaryReader<'_>,
+) -> Result<Vec<ValType>, Fault>
+    requires { limit ≡ 1000 }
     ensures { Parses value_types_at (λ v. v.items) reader.old reader.new result }
 {
-    let count = reader.read_size(MAX_WASM_FUNCTION_TYPES)?;
+    let count = reader.read_size(limit)?;
     read_entries(alloc, count, &mut ValueTypes, reader)
 }
 
@@ -108,8 +110,8 @@ fn read_function_type(alloc: Global, reader: &mut BinaryReader<'_>) -> Result<Fu
     if form != 0x60 {
         return Err(type_fault(&GROUP_BYTES, form, offset));
     }
-    let params = read_value_types(alloc, reader)?;
-    let results = read_value_types(alloc, reader)?;
+    let params = read_value_types(alloc, MAX_WASM_FUNCTION_PARAMS, reader)?;
+    let results = read_value_types(alloc, MAX_WASM_FUNCTION_RETURNS, reader)?;
     Ok(FunctionType { params, results })
 }
 

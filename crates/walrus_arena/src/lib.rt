@@ -6,8 +6,6 @@ mod id;
 mod iter;
 pub mod laws;
 mod set;
-#[cfg(test)]
-mod tests;
 
 pub use arena::{Tombstone, TombstoneArena};
 pub use id::{

@@ -1,7 +1,10 @@
 // Each call once, with ample memory.
-use super::*;
 use std::cell::Cell;
 use std::test::Fail;
+use walrus_arena::{
+    ArenaSet, FunctionId, FunctionSpace, IdHashMap, IdHashSet, Tombstone, TombstoneArena, TypeId,
+    TypeSpace,
+};
 
 #[derive(Clone, PartialEq, Eq, Hash, Drop)]
 struct Word(u32);

@@ -1,4 +1,4 @@
-use super::parse;
+use rewriter_reader::parse;
 use std::alloc::Global;
 use std::process::Abort;
 use std::test::Fail;

@@ -1,5 +1,5 @@
 // Values from outside: which bytes stand where a device fails at a given byte or call.
-use crate::{
+use rewriter_devices::{
     DeviceFailed, MemorySink, MemorySource, ReadFault, Sink, SinkFail, Source, StdSink, StdSource,
     WriteFault, read_all, send, send_places,
 };
