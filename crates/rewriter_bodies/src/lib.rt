@@ -10,8 +10,6 @@ mod number;
 mod operator;
 mod read;
 mod table;
-#[cfg(test)]
-mod tests;
 
 pub use check::check_body;
 pub use code::CodeWriter;

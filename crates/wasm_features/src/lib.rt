@@ -251,6 +251,3 @@ impl Default for WasmFeatures {
         Self::WASM3 | Self::THREADS | Self::CUSTOM_PAGE_SIZES
     }
 }
-
-#[cfg(test)]
-mod tests;

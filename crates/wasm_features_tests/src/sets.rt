@@ -1,7 +1,7 @@
 // The sets against the list of what each version of the standard has, and the behaviour of the Rust crate.
 
-use crate::{WasmFeatures, WasmFeaturesInflated};
 use bitflags::Flags;
+use wasm_features::{WasmFeatures, WasmFeaturesInflated};
 
 #[test]
 fn versions_have_their_features(rt: HostRuntime) {
@@ -87,10 +87,10 @@ fn fields_come_back(rt: HostRuntime) {
 
 #[test]
 fn laws_can_be_cited() {
-    crate::laws::sets_are_names();
-    crate::laws::operations_by_names();
-    crate::laws::constants_by_names();
-    crate::laws::versions_by_names();
-    crate::laws::versions_grow();
-    crate::laws::inflate_gives_back();
+    wasm_features::laws::sets_are_names();
+    wasm_features::laws::operations_by_names();
+    wasm_features::laws::constants_by_names();
+    wasm_features::laws::versions_by_names();
+    wasm_features::laws::versions_grow();
+    wasm_features::laws::inflate_gives_back();
 }

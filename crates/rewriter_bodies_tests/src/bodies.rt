@@ -1,6 +1,6 @@
 //! Worked values.
 
-use crate::{CodeWriter, check_body, measure_body, write_s32, write_u32};
+use rewriter_bodies::{CodeWriter, check_body, measure_body, write_s32, write_u32};
 use std::alloc::AllocError;
 use wasm_model::fault::{Fault, Form, Space};
 use wasm_model::options::Options;

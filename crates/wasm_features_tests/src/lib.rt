@@ -1,0 +1,5 @@
+//! Tests of the sets of features.
+#![tactic(auto)]
+
+#[cfg(test)]
+mod sets;
