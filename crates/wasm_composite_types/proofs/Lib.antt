@@ -1,3 +1,4 @@
 pub mod Items
 pub mod Visits
 pub mod Equal
+pub mod Taken

@@ -1,7 +1,8 @@
 //! Composite types (Core Specification, types: composite types).
 
-ghost use Rattle.std.specs.Prelude.{◌≡◌, IfOk, IsTrue, Some};
-ghost use Rattle.std.specs.Iterator.{IsFinite, Drains};
+ghost use Rattle.std.specs.Prelude.{◌≡◌, [], ◌∷◌, ◌++◌, IfOk, IsTrue, IsFalse, Some, None};
+ghost use Rattle.std.specs.Iterator.{Drains};
+ghost use Rattle.wasm_ref_types.specs.declared.value.ValType.{ValType};
 ghost use Rattle.wasm_composite_types.specs.Forms.{function_of, array_of, struct_of, continuation_of, is_function, is_array, is_struct, is_continuation};
 
 use crate::field::FieldType;
@@ -16,8 +17,40 @@ pub struct FuncType {
     pub(crate) results: TypeList<ValType>,
 }
 
+// Adds what the iterator gives next, and says whether it gave any.
+fn push_next<I: Iterator<Item = ValType>>(
+    items: &mut I,
+    taken: &mut Vec<ValType>,
+) -> Result<bool, AllocError>
+    requires { I.can_next items.old }
+    ensures more { IfOk result (λ more. IsTrue more → (item : ValType) × I.next_gives items.old (Some item) items.new
+        × (taken.new.items ≡ taken.old.items ++ item ∷ []) × I.can_next items.new) }
+    ensures end { IfOk result (λ more. IsFalse more → I.next_gives items.old None items.new × (taken.new.items ≡ taken.old.items)) }
+{
+    match items.next() {
+        Some(item) => {
+            taken.push(item)?;
+            Ok(true)
+        }
+        None => Ok(false),
+    }
+}
+
+// All that the iterator gives. One that never ends is refused for want of memory.
+fn drained<I: Iterator<Item = ValType> + Drop>(
+    alloc: Global,
+    mut items: I,
+) -> Result<Vec<ValType>, AllocError>
+    requires { I.can_next items }
+    ensures { IfOk result (λ all. Drains I.next_gives items all.items) }
+{
+    let mut taken = Vec::new(alloc);
+    while push_next(&mut items, &mut taken)? {}
+    Ok(taken)
+}
+
 impl FuncType {
-    /// The type of these parameters and results, in their order. Asks that both end.
+    /// The type of these parameters and results, in their order.
     ///
     /// # Errors
     ///
@@ -26,13 +59,13 @@ impl FuncType {
     where
         P: IntoIterator<Item = ValType>,
         R: IntoIterator<Item = ValType> + Drop,
-        requires params { (it : P.IntoIter) → P.into_iter_gives params it → P.IntoIter.can_next it × IsFinite (P.IntoIter.remaining it) }
-        requires results { (it : R.IntoIter) → R.into_iter_gives results it → R.IntoIter.can_next it × IsFinite (R.IntoIter.remaining it) }
+        requires params { (it : P.IntoIter) → P.into_iter_gives params it → P.IntoIter.can_next it }
+        requires results { (it : R.IntoIter) → R.into_iter_gives results it → R.IntoIter.can_next it }
         ensures params { IfOk result (λ ty. (it : P.IntoIter) × P.into_iter_gives params it × Drains P.IntoIter.next_gives it ty.params) }
         ensures results { IfOk result (λ ty. (it : R.IntoIter) × R.into_iter_gives results it × Drains R.IntoIter.next_gives it ty.results) }
     {
-        let params = Vec::from_iter(alloc, params)?;
-        let results = Vec::from_iter(alloc, results)?;
+        let params = drained(alloc, params.into_iter())?;
+        let results = drained(alloc, results.into_iter())?;
         Ok(FuncType {
             params: TypeList::from_vec(params),
             results: TypeList::from_vec(results),

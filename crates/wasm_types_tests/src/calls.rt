@@ -21,6 +21,15 @@ fn function_types(rt: HostRuntime) -> Result<(), Fail> {
 }
 
 #[test]
+fn function_types_keep_their_order(rt: HostRuntime) -> Result<(), Fail> {
+    let params = [ValType::I64, ValType::F32, ValType::I64];
+    let ty = FuncType::new(rt.alloc(), params, [ValType::F64, ValType::I32])?;
+    assert_eq!(rt; ty.params(), &[ValType::I64, ValType::F32, ValType::I64][..]);
+    assert_eq!(rt; ty.results(), &[ValType::F64, ValType::I32][..]);
+    Ok(())
+}
+
+#[test]
 fn subtypes_of_functions(rt: HostRuntime) -> Result<(), Fail> {
     let ty = FuncType::new(rt.alloc(), [ValType::I32], [])?;
     let sub = SubType::func(ty.clone()?, true)?;
