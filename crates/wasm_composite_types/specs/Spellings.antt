@@ -2,7 +2,7 @@
 use Rattle.std.specs.Prelude.{ℕ, ◌≤◌, ◌≡◌, Bool, true, false, List, [], ◌∷◌, ◌++◌, length, All}
 use Rattle.wasm_features.specs.declared.WasmFeatures.{WasmFeatures}
 use Rattle.wasm_reader.specs.Items.{SpellsVec}
-use Rattle.wasm_ref_types.specs.TypeSpellings.{HasGcTypes, HasSharedTypes, SpellsBehind, SpellsValue, IsWrittenValue}
+use Rattle.wasm_ref_types.specs.TypeSpellings.{HasGcTypes, HasSharedTypes, SpellsBehind, SpellsValue, MayBeShared, IsWrittenValue}
 use Rattle.wasm_composite_types.specs.declared.field.StorageType.{StorageType}
 use Rattle.wasm_composite_types.specs.declared.field.StorageType.TheVariants.{I8, I16, Val}
 use Rattle.wasm_composite_types.specs.declared.field.FieldType.{FieldType}
@@ -61,19 +61,31 @@ SpellsComposite features bytes ty = SpellsEither features ty.shared bytes ty.inn
 
 -- ---- types that files have: within the limits, with indices of the module below 2^20
 
-abbrev pub IsWrittenStorage : StorageType → Type 0
-IsWrittenStorage I8 = Unit {0}
-IsWrittenStorage I16 = Unit {0}
-IsWrittenStorage (Val ty) = IsWrittenValue ty
+abbrev pub IsWrittenStorage : WasmFeatures → StorageType → Type 0
+IsWrittenStorage features I8 = Unit {0}
+IsWrittenStorage features I16 = Unit {0}
+IsWrittenStorage features (Val ty) = IsWrittenValue features ty
 
-abbrev pub IsWrittenField : FieldType → Type 0
-IsWrittenField field = IsWrittenStorage field.element_type
+abbrev pub IsWrittenField : WasmFeatures → FieldType → Type 0
+IsWrittenField features field = IsWrittenStorage features field.element_type
 
 abbrev pub AtMost : {A : Type 0} → ℕ → (A → Type 0) → List A → Type 0
 AtMost limit Written items = (length items ≤ limit) × All Written items
 
-abbrev pub IsWrittenForm : CompositeInnerType → Type 0
-IsWrittenForm (Func ty) = AtMost 1000 IsWrittenValue ty.params × AtMost 1000 IsWrittenValue ty.results
-IsWrittenForm (Struct ty) = AtMost 10000 IsWrittenField ty.fields
-IsWrittenForm (Array ty) = IsWrittenField ty.0
-IsWrittenForm (Cont ty) = ⊥
+abbrev pub IsWrittenFunc : WasmFeatures → FuncType → Type 0
+IsWrittenFunc features ty = AtMost 1000 (IsWrittenValue features) ty.params × AtMost 1000 (IsWrittenValue features) ty.results
+
+abbrev pub IsWrittenStruct : WasmFeatures → StructType → Type 0
+IsWrittenStruct features ty = AtMost 10000 (IsWrittenField features) ty.fields
+
+abbrev pub IsWrittenArray : WasmFeatures → ArrayType → Type 0
+IsWrittenArray features ty = IsWrittenField features ty.0
+
+abbrev pub IsWrittenForm : WasmFeatures → CompositeInnerType → Type 0
+IsWrittenForm features (Func ty) = IsWrittenFunc features ty
+IsWrittenForm features (Struct ty) = IsWrittenStruct features ty
+IsWrittenForm features (Array ty) = IsWrittenArray features ty
+IsWrittenForm features (Cont ty) = ⊥
+
+abbrev pub IsWrittenComposite : WasmFeatures → CompositeType → Type 0
+IsWrittenComposite features ty = MayBeShared features ty.shared × IsWrittenForm features ty.inner

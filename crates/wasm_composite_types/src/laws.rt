@@ -4,7 +4,7 @@ ghost use Rattle.wasm_features.specs.declared.WasmFeatures.{WasmFeatures};
 ghost use Rattle.wasm_reader.specs.Laws.{IsFinal, EndsEarly, TakesSpelled, IsPrefixFree};
 ghost use Rattle.wasm_ref_types.specs.TypeSpellings.{ReadsWritten};
 ghost use Rattle.wasm_composite_types.specs.Readings.{storage_at, field_at, func_at, array_at, struct_at, composite_at};
-ghost use Rattle.wasm_composite_types.specs.Spellings.{SpellsStorage, SpellsField, SpellsFunc, SpellsArray, SpellsStruct, SpellsComposite, IsWrittenField, IsWrittenForm};
+ghost use Rattle.wasm_composite_types.specs.Spellings.{SpellsStorage, SpellsField, SpellsFunc, SpellsArray, SpellsStruct, SpellsComposite, IsWrittenStorage, IsWrittenField, IsWrittenFunc, IsWrittenArray, IsWrittenStruct, IsWrittenComposite};
 
 /// What is read for a type, the end of the input aside, is final whatever bytes follow; the hint is exact.
 pub fn types_are_final()
@@ -46,9 +46,13 @@ pub fn type_spellings_are_prefix_free()
     ensures composite { (features : WasmFeatures) → IsPrefixFree (SpellsComposite features) }
 {}
 
-/// With the features on, each type within the limits whose indices are those of a module below 2^20, continuations and exact
-/// types aside, is read from some bytes.
+/// With garbage-collected types on, each type within the limits whose indices are those of a module below 2^20, continuations and
+/// exact types aside, and shared ones where their feature is off, is read from some bytes.
 pub fn written_types_are_read()
+    ensures storage { ReadsWritten storage_at IsWrittenStorage }
     ensures field { ReadsWritten field_at IsWrittenField }
-    ensures composite { ReadsWritten composite_at (λ ty. IsWrittenForm ty.inner) }
+    ensures function { ReadsWritten func_at IsWrittenFunc }
+    ensures array { ReadsWritten array_at IsWrittenArray }
+    ensures structure { ReadsWritten struct_at IsWrittenStruct }
+    ensures composite { ReadsWritten composite_at IsWrittenComposite }
 {}

@@ -80,21 +80,29 @@ SpellsValue features bytes F64 = bytes ≡ 0x7c ∷ []
 SpellsValue features bytes V128 = bytes ≡ 0x7b ∷ []
 SpellsValue features bytes (Ref r) = SpellsReference features bytes r
 
--- a heap type that files have: no continuation, no exact type, and an index of a module below 2^20
-abbrev pub IsWritten : HeapType → Type 0
-IsWritten (Abstract shared kinds.Cont) = ⊥
-IsWritten (Abstract shared kinds.NoCont) = ⊥
-IsWritten (Abstract shared ty) = Unit {0}
-IsWritten (Concrete (Module index)) = index < 2 ^ 20
-IsWritten (Concrete (RecGroup index)) = ⊥
-IsWritten (Concrete (Id id)) = ⊥
-IsWritten (Exact index) = ⊥
+-- an absheaptype that files have: no continuation
+abbrev pub IsWrittenAbstract : AbstractHeapType → Type 0
+IsWrittenAbstract kinds.Cont = ⊥
+IsWrittenAbstract kinds.NoCont = ⊥
+IsWrittenAbstract ty = Unit {0}
 
-abbrev pub IsWrittenValue : ValType → Type 0
-IsWrittenValue (Ref r) = IsWritten r.heap_type
-IsWrittenValue ty = Unit {0}
+-- what is shared asks for the feature
+abbrev pub MayBeShared : WasmFeatures → Bool → Type 0
+MayBeShared features shared = shared ≡ true → HasSharedTypes features
 
--- with the features on, each such value is what some bytes are read as
-abbrev pub ReadsWritten : {A : Type 0} → (WasmFeatures → List ℕ → Reading A) → (A → Type 0) → Type 0
+-- a heap type that files have under these features: no continuation, no exact type, and an index of a module below 2^20
+abbrev pub IsWritten : WasmFeatures → HeapType → Type 0
+IsWritten features (Abstract shared ty) = MayBeShared features shared × IsWrittenAbstract ty
+IsWritten features (Concrete (Module index)) = index < 2 ^ 20
+IsWritten features (Concrete (RecGroup index)) = ⊥
+IsWritten features (Concrete (Id id)) = ⊥
+IsWritten features (Exact index) = ⊥
+
+abbrev pub IsWrittenValue : WasmFeatures → ValType → Type 0
+IsWrittenValue features (Ref r) = IsWritten features r.heap_type
+IsWrittenValue features ty = Unit {0}
+
+-- with garbage-collected types on, each value that files have under the features is what some bytes are read as
+abbrev pub ReadsWritten : {A : Type 0} → (WasmFeatures → List ℕ → Reading A) → (WasmFeatures → A → Type 0) → Type 0
 ReadsWritten {A} reading Written =
-    (features : WasmFeatures) (value : A) → HasGcTypes features → HasSharedTypes features → Written value → (bytes : List ℕ) × (reading features bytes ≡ Ok (value, []))
+    (features : WasmFeatures) (value : A) → HasGcTypes features → Written features value → (bytes : List ℕ) × (reading features bytes ≡ Ok (value, []))

@@ -23,7 +23,7 @@ use Rattle.wasm_ref_types.specs.declared.value.ValType.{ValType}
 use Rattle.wasm_ref_types.specs.declared.value.ValType.TheVariants.{I32, I64, F32, F64, V128, Ref}
 use Rattle.wasm_ref_types.specs.ReadTypes.{abstract_byte, is_basic, abstract_as, abstract_at, shared_at, index_as, index_at, heap_at, long_at, reference_at, plain_at, value_at}
 use Rattle.wasm_ref_types.specs.Reference.{Reference, reference}
-use Rattle.wasm_ref_types.specs.TypeSpellings.{HasGcTypes, HasSharedTypes, SpellsAbstract, SpellsShared, SpellsHeap, SpellsReference, SpellsValue, long_byte, IsAbstract, IsWritten, IsWrittenValue, ReadsWritten}
+use Rattle.wasm_ref_types.specs.TypeSpellings.{HasGcTypes, HasSharedTypes, SpellsAbstract, SpellsShared, SpellsHeap, SpellsReference, SpellsValue, long_byte, IsAbstract, IsWrittenAbstract, IsWritten, IsWrittenValue, ReadsWritten}
 
 -- ---- abstract heap types
 
@@ -432,56 +432,57 @@ value_taken features = record {
 
 -- ---- what has a spelling
 
-abstract_spelled : (features : WasmFeatures) (shared : Bool) (ty : AbstractHeapType) → HasGcTypes features → IsWritten (Abstract shared ty) → (bytes : List ℕ) × SpellsAbstract features bytes ty
-abstract_spelled features shared kinds.Func gc h = (0x70 ∷ [], refl)
-abstract_spelled features shared kinds.Extern gc h = (0x6f ∷ [], refl)
-abstract_spelled features shared kinds.Any gc h = (0x6e ∷ [], (refl, gc))
-abstract_spelled features shared kinds.None gc h = (0x71 ∷ [], (refl, gc))
-abstract_spelled features shared kinds.NoExtern gc h = (0x72 ∷ [], (refl, gc))
-abstract_spelled features shared kinds.NoFunc gc h = (0x73 ∷ [], (refl, gc))
-abstract_spelled features shared kinds.Eq gc h = (0x6d ∷ [], (refl, gc))
-abstract_spelled features shared kinds.Struct gc h = (0x6b ∷ [], (refl, gc))
-abstract_spelled features shared kinds.Array gc h = (0x6a ∷ [], (refl, gc))
-abstract_spelled features shared kinds.I31 gc h = (0x6c ∷ [], (refl, gc))
-abstract_spelled features shared kinds.Exn gc h = (0x69 ∷ [], refl)
-abstract_spelled features shared kinds.NoExn gc h = (0x74 ∷ [], (refl, gc))
-abstract_spelled features shared kinds.Cont gc h = absurd h
-abstract_spelled features shared kinds.NoCont gc h = absurd h
+abstract_spelled : (features : WasmFeatures) (ty : AbstractHeapType) → HasGcTypes features → IsWrittenAbstract ty → (bytes : List ℕ) × SpellsAbstract features bytes ty
+abstract_spelled features kinds.Func gc h = (0x70 ∷ [], refl)
+abstract_spelled features kinds.Extern gc h = (0x6f ∷ [], refl)
+abstract_spelled features kinds.Any gc h = (0x6e ∷ [], (refl, gc))
+abstract_spelled features kinds.None gc h = (0x71 ∷ [], (refl, gc))
+abstract_spelled features kinds.NoExtern gc h = (0x72 ∷ [], (refl, gc))
+abstract_spelled features kinds.NoFunc gc h = (0x73 ∷ [], (refl, gc))
+abstract_spelled features kinds.Eq gc h = (0x6d ∷ [], (refl, gc))
+abstract_spelled features kinds.Struct gc h = (0x6b ∷ [], (refl, gc))
+abstract_spelled features kinds.Array gc h = (0x6a ∷ [], (refl, gc))
+abstract_spelled features kinds.I31 gc h = (0x6c ∷ [], (refl, gc))
+abstract_spelled features kinds.Exn gc h = (0x69 ∷ [], refl)
+abstract_spelled features kinds.NoExn gc h = (0x74 ∷ [], (refl, gc))
+abstract_spelled features kinds.Cont gc h = absurd h
+abstract_spelled features kinds.NoCont gc h = absurd h
 
-heap_spelled : (features : WasmFeatures) (ty : HeapType) → HasGcTypes features → HasSharedTypes features → IsWritten ty → (bytes : List ℕ) × SpellsHeap features bytes ty
-heap_spelled features (Abstract false ty) gc on h = abstract_spelled features false ty gc h
-heap_spelled features (Abstract true ty) gc on h =
-    let inner = abstract_spelled features true ty gc h in
-    (0x65 ∷ inner.0, (on, (inner.0, refl, inner.1)))
-heap_spelled features (Concrete (Module n)) gc on h = (s33_bytes (pos n), (h, spells_signed 5 33 (pos n) (omega arith) (omega arith) (omega (arith, h))))
-heap_spelled features (Concrete (RecGroup n)) gc on h = absurd h
-heap_spelled features (Concrete (Id n)) gc on h = absurd h
-heap_spelled features (Exact index) gc on h = absurd h
+heap_spelled : (features : WasmFeatures) (ty : HeapType) → HasGcTypes features → IsWritten features ty → (bytes : List ℕ) × SpellsHeap features bytes ty
+heap_spelled features (Abstract false ty) gc h = abstract_spelled features ty gc h.1
+heap_spelled features (Abstract true ty) gc h =
+    let inner = abstract_spelled features ty gc h.1 in
+    (0x65 ∷ inner.0, (h.0 refl, (inner.0, refl, inner.1)))
+heap_spelled features (Concrete (Module n)) gc h = (s33_bytes (pos n), (h, spells_signed 5 33 (pos n) (omega arith) (omega arith) (omega (arith, h))))
+heap_spelled features (Concrete (RecGroup n)) gc h = absurd h
+heap_spelled features (Concrete (Id n)) gc h = absurd h
+heap_spelled features (Exact index) gc h = absurd h
 
-pub reference_spelled : (features : WasmFeatures) (r : Reference) → HasGcTypes features → HasSharedTypes features → IsWritten r.heap_type → (bytes : List ℕ) × SpellsReference features bytes r
-reference_spelled features r gc on h =
-    let inner = heap_spelled features r.heap_type gc on h in
+pub reference_spelled : (features : WasmFeatures) (r : Reference) → HasGcTypes features → IsWritten features r.heap_type → (bytes : List ℕ) × SpellsReference features bytes r
+reference_spelled features r gc h =
+    let inner = heap_spelled features r.heap_type gc h in
     (long_byte r.nullable ∷ inner.0, inl (gc, (inner.0, refl, inner.1)))
 
-pub value_spelled : (features : WasmFeatures) (ty : ValType) → HasGcTypes features → HasSharedTypes features → IsWrittenValue ty → (bytes : List ℕ) × SpellsValue features bytes ty
-value_spelled features I32 gc on h = (0x7f ∷ [], refl)
-value_spelled features I64 gc on h = (0x7e ∷ [], refl)
-value_spelled features F32 gc on h = (0x7d ∷ [], refl)
-value_spelled features F64 gc on h = (0x7c ∷ [], refl)
-value_spelled features V128 gc on h = (0x7b ∷ [], refl)
-value_spelled features (Ref r) gc on h = reference_spelled features r gc on h
+pub value_spelled : (features : WasmFeatures) (ty : ValType) → HasGcTypes features → IsWrittenValue features ty → (bytes : List ℕ) × SpellsValue features bytes ty
+value_spelled features I32 gc h = (0x7f ∷ [], refl)
+value_spelled features I64 gc h = (0x7e ∷ [], refl)
+value_spelled features F32 gc h = (0x7d ∷ [], refl)
+value_spelled features F64 gc h = (0x7c ∷ [], refl)
+value_spelled features V128 gc h = (0x7b ∷ [], refl)
+value_spelled features (Ref r) gc h = reference_spelled features r gc h
+
+-- what has a spelling is read from it
+pub spelled_read : {A : Type 0} (reading : List ℕ → Reading A) (spells : List ℕ → A → Type 0) → TakesSpelled reading spells → (value : A) → (bytes : List ℕ) × spells bytes value → (bytes : List ℕ) × (reading bytes ≡ Ok (value, []))
+spelled_read reading spells taken value found = (found.0, ap reading (sym (append-nil found.0)) ∙ taken.again found.0 [] value found.1)
+
+pub abstract_is_read : ReadsWritten abstract_at (λ _ ty. IsWrittenAbstract ty)
+abstract_is_read features ty gc h = spelled_read (abstract_at features) (SpellsAbstract features) (abstract_taken features) ty (abstract_spelled features ty gc h)
 
 pub heap_is_read : ReadsWritten heap_at IsWritten
-heap_is_read features ty gc on h =
-    let found = heap_spelled features ty gc on h in
-    (found.0, ap (heap_at features) (sym (append-nil found.0)) ∙ heap_again features found.0 [] ty found.1)
+heap_is_read features ty gc h = spelled_read (heap_at features) (SpellsHeap features) (heap_taken features) ty (heap_spelled features ty gc h)
 
-pub reference_is_read : ReadsWritten reference_at (λ r. IsWritten r.heap_type)
-reference_is_read features r gc on h =
-    let found = reference_spelled features r gc on h in
-    (found.0, ap (reference_at features) (sym (append-nil found.0)) ∙ reference_again features found.0 [] r found.1)
+pub reference_is_read : ReadsWritten reference_at (λ features r. IsWritten features r.heap_type)
+reference_is_read features r gc h = spelled_read (reference_at features) (SpellsReference features) (reference_taken features) r (reference_spelled features r gc h)
 
 pub value_is_read : ReadsWritten value_at IsWrittenValue
-value_is_read features ty gc on h =
-    let found = value_spelled features ty gc on h in
-    (found.0, ap (value_at features) (sym (append-nil found.0)) ∙ value_again features found.0 [] ty found.1)
+value_is_read features ty gc h = spelled_read (value_at features) (SpellsValue features) (value_taken features) ty (value_spelled features ty gc h)

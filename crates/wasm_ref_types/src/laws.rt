@@ -15,7 +15,7 @@ ghost use Rattle.wasm_ref_types.specs.declared.heap.HeapType.TheVariants.{Abstra
 ghost use Rattle.wasm_features.specs.declared.WasmFeatures.{WasmFeatures};
 ghost use Rattle.wasm_reader.specs.Laws.{IsFinal, EndsEarly, TakesSpelled, IsPrefixFree};
 ghost use Rattle.wasm_ref_types.specs.ReadTypes.{abstract_at, heap_at, reference_at, value_at};
-ghost use Rattle.wasm_ref_types.specs.TypeSpellings.{SpellsAbstract, SpellsHeap, SpellsReference, SpellsValue, IsWritten, IsWrittenValue, ReadsWritten};
+ghost use Rattle.wasm_ref_types.specs.TypeSpellings.{SpellsAbstract, SpellsHeap, SpellsReference, SpellsValue, IsWrittenAbstract, IsWritten, IsWrittenValue, ReadsWritten};
 ghost use Rattle.wasm_ref_types.specs.Subtypes.{IsBelow, IsPartialOrder};
 ghost use Rattle.wasm_ref_types.specs.Constants.{nullable_types, non_null_types, value_types};
 
@@ -124,11 +124,12 @@ pub fn type_spellings_are_prefix_free()
     ensures value_type { (features : WasmFeatures) → IsPrefixFree (SpellsValue features) }
 {}
 
-/// With the features on, each type that files have is read from some bytes: all but continuations, exact types and indices
-/// other than those of a module below 2^20.
+/// With garbage-collected types on, each type that files have is read from some bytes: all but continuations, exact types,
+/// indices other than those of a module below 2^20, and shared types where their feature is off.
 pub fn written_types_are_read()
+    ensures abstract_type { ReadsWritten abstract_at (λ _ ty. IsWrittenAbstract ty) }
     ensures heap_type { ReadsWritten heap_at IsWritten }
-    ensures reference_type { ReadsWritten reference_at (λ r. IsWritten r.heap_type) }
+    ensures reference_type { ReadsWritten reference_at (λ features r. IsWritten features r.heap_type) }
     ensures value_type { ReadsWritten value_at IsWrittenValue }
 {}
 

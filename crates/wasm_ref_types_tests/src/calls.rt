@@ -62,9 +62,7 @@ fn numbers_of_indices(rt: HostRuntime) -> Result<(), Fail> {
 
 #[test]
 fn a_concrete_reference(rt: HostRuntime) -> Result<(), Fail> {
-    let Some(index) = PackedIndex::from_module_index(983_040) else {
-        return Ok(());
-    };
+    let index = PackedIndex::from_module_index(983_040).ok_or("no index")?;
     let ty = RefType::concrete(true, index);
     assert_eq!(rt; ty.is_nullable(), true);
     assert_eq!(rt; ty.type_index(), Some(index));
@@ -76,9 +74,7 @@ fn a_concrete_reference(rt: HostRuntime) -> Result<(), Fail> {
 
 #[test]
 fn forms_of_a_reference(rt: HostRuntime) -> Result<(), Fail> {
-    let Some(index) = PackedIndex::from_module_index(983_040) else {
-        return Ok(());
-    };
+    let index = PackedIndex::from_module_index(983_040).ok_or("no index")?;
     let ty = RefType::concrete(true, index);
     assert_eq!(rt; ty.as_non_null(), RefType::concrete(false, index));
     assert_eq!(rt; ty.as_non_null().nullable(), ty);
@@ -141,15 +137,9 @@ fn differences(rt: HostRuntime) -> Result<(), Fail> {
 
 #[test]
 fn the_order_of_references(rt: HostRuntime) -> Result<(), Fail> {
-    let (Some(first), Some(second)) = (
-        PackedIndex::from_module_index(900),
-        PackedIndex::from_rec_group_index(0),
-    ) else {
-        return Ok(());
-    };
-    let Some(shared) = RefType::FUNC.shared() else {
-        return Ok(());
-    };
+    let first = PackedIndex::from_module_index(900).ok_or("no index")?;
+    let second = PackedIndex::from_rec_group_index(0).ok_or("no index")?;
+    let shared = RefType::FUNC.shared().ok_or("no type")?;
     assert_eq!(rt; RefType::FUNC < RefType::NOCONT, true);
     assert_eq!(rt; RefType::NOCONT < shared, true);
     assert_eq!(rt; shared < RefType::concrete(false, first), true);

@@ -114,10 +114,14 @@ fn abstract_types(rt: HostRuntime) -> std::result::Result<(), Fail> {
         assert_eq!(rt; reference(rt.alloc(), &[byte]), Some(nullable));
         assert_eq!(rt; reference(rt.alloc(), &[0x63, byte]), Some(nullable));
         assert_eq!(rt; reference(rt.alloc(), &[0x64, byte]), Some(non_null));
-        assert_eq!(rt; reference(rt.alloc(), &[0x65, byte]), nullable.shared());
+        let shared = HeapType::Abstract { shared: true, ty };
+        assert_eq!(rt;
+            reference(rt.alloc(), &[0x65, byte]),
+            RefType::new(true, shared)
+        );
         assert_eq!(rt;
             reference(rt.alloc(), &[0x64, 0x65, byte]),
-            non_null.shared()
+            RefType::new(false, shared)
         );
     }
     Ok(())

@@ -67,9 +67,7 @@ fn heap_types(rt: HostRuntime) -> Result<(), Fail> {
 
 #[test]
 fn references_by_index(rt: HostRuntime) -> Result<(), Fail> {
-    let Some(index) = PackedIndex::from_module_index(983_040) else {
-        return Ok(());
-    };
+    let index = PackedIndex::from_module_index(983_040).ok_or("no index")?;
     let concrete = RefType::concrete(true, index).wat(rt.alloc())?;
     assert_eq!(rt; concrete.as_str(), "(ref null 983040)");
     let exact = RefType::exact(false, index).wat(rt.alloc())?;

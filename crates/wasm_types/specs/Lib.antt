@@ -11,3 +11,4 @@ pub mod Spellings
 pub mod TypesTaken
 pub mod Written
 pub mod Remap
+pub mod Parts

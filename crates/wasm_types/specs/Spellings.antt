@@ -8,7 +8,7 @@ use Rattle.wasm_ref_types.specs.declared.index.UnpackedIndex.{UnpackedIndex}
 use Rattle.wasm_ref_types.specs.declared.index.UnpackedIndex.TheVariants.{Module, RecGroup, Id}
 use Rattle.wasm_ref_types.specs.TypeSpellings.{HasGcTypes, SpellsBehind}
 use Rattle.wasm_types.specs.declared.subtype.SubType.{SubType}
-use Rattle.wasm_composite_types.specs.Spellings.{SpellsBoth, SpellsComposite, AtMost, IsWrittenForm}
+use Rattle.wasm_composite_types.specs.Spellings.{SpellsBoth, SpellsComposite, AtMost, IsWrittenComposite}
 use Rattle.wasm_types.specs.Readings.{Listed}
 
 -- typeidx: the index of a module's type, below 2^20
@@ -46,9 +46,9 @@ IsWrittenIndex (Some (Module index)) = index < 2 ^ 20
 IsWrittenIndex (Some (RecGroup index)) = ⊥
 IsWrittenIndex (Some (Id id)) = ⊥
 
-abbrev pub IsWrittenSub : SubType → Type 0
-IsWrittenSub ty = IsWrittenIndex ty.supertype_idx × IsWrittenForm ty.composite_type.inner
+abbrev pub IsWrittenSub : WasmFeatures → SubType → Type 0
+IsWrittenSub features ty = IsWrittenIndex ty.supertype_idx × IsWrittenComposite features ty.composite_type
 
 -- a group that wasn't written as one has one type
-abbrev pub IsWrittenGroup : Listed → Type 0
-IsWrittenGroup group = AtMost 1000000 IsWrittenSub group.types × (group.explicit ≡ false → length group.types ≡ 1)
+abbrev pub IsWrittenGroup : WasmFeatures → Listed → Type 0
+IsWrittenGroup features group = AtMost 1000000 (IsWrittenSub features) group.types × (group.explicit ≡ false → length group.types ≡ 1)

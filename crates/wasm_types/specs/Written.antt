@@ -7,9 +7,10 @@ use Rattle.wasm_reader.specs.Spelled.{IsShortest-unsigned}
 use Rattle.wasm_reader.specs.Vecs.{vec_spelled}
 use Rattle.wasm_ref_types.specs.declared.index.UnpackedIndex.{UnpackedIndex}
 use Rattle.wasm_ref_types.specs.declared.index.UnpackedIndex.TheVariants.{Module, RecGroup, Id}
-use Rattle.wasm_ref_types.specs.TypeSpellings.{HasGcTypes, HasSharedTypes, ReadsWritten}
+use Rattle.wasm_ref_types.specs.TypeSpellings.{HasGcTypes, ReadsWritten}
+use Rattle.wasm_ref_types.specs.TypesTaken.{spelled_read}
 use Rattle.wasm_types.specs.declared.subtype.SubType.{SubType}
-use Rattle.wasm_composite_types.specs.Written.{items_spelled, either_spelled, spelled_read}
+use Rattle.wasm_composite_types.specs.Written.{items_spelled, composite_spelled}
 use Rattle.wasm_types.specs.Readings.{sub_at, group_at}
 use Rattle.wasm_composite_types.specs.Spellings.{AtMost}
 use Rattle.wasm_types.specs.Spellings.{SpellsIndex, SpellsSupertype, declared_byte, SpellsSub, SpellsGroup, IsWrittenIndex, IsWrittenSub, IsWrittenGroup}
@@ -28,25 +29,25 @@ supertype_spelled (Some index) h = vec_spelled 1 SpellsIndex (index ∷ []) (ome
     only x found zero d low = found
     only x found (suc k) d low = absurd (omega arith)
 
-module _ (features : WasmFeatures) (gc : HasGcTypes features) (on : HasSharedTypes features) where
-  sub_spelled : (ty : SubType) → IsWrittenSub ty → (bytes : List ℕ) × SpellsSub features bytes ty
+module _ (features : WasmFeatures) (gc : HasGcTypes features) where
+  sub_spelled : (ty : SubType) → IsWrittenSub features ty → (bytes : List ℕ) × SpellsSub features bytes ty
   sub_spelled ty h =
       let supertype = supertype_spelled ty.supertype_idx h.0 in
-      let composite = either_spelled features gc on ty.composite_type.shared ty.composite_type.inner h.1 in
+      let composite = composite_spelled features gc ty.composite_type h.1 in
       let inner = supertype.0 ++ composite.0 in
       (declared_byte ty.is_final ∷ inner, inl (gc, (inner, refl, (supertype.0, composite.0, refl, supertype.1, composite.1))))
 
-  single_spelled : (explicit : Bool) (types : List SubType) → explicit ≡ false → AtMost 1000000 IsWrittenSub types → length types ≡ 1 → (bytes : List ℕ) × SpellsGroup features bytes (record { explicit = explicit; types = types })
+  single_spelled : (explicit : Bool) (types : List SubType) → explicit ≡ false → AtMost 1000000 (IsWrittenSub features) types → length types ≡ 1 → (bytes : List ℕ) × SpellsGroup features bytes (record { explicit = explicit; types = types })
   single_spelled explicit [] alone h one = absurd (omega arith)
   single_spelled explicit (ty ∷ []) alone h one = let found = sub_spelled ty (h.1 0 ty (omega arith)) in (found.0, inr (alone, (ty, refl, found.1)))
   single_spelled explicit (ty ∷ another ∷ types) alone h one = absurd (omega arith)
 
-  listed_spelled : (explicit : Bool) (types : List SubType) → AtMost 1000000 IsWrittenSub types → (explicit ≡ false → length types ≡ 1) → (bytes : List ℕ) × SpellsGroup features bytes (record { explicit = explicit; types = types })
-  listed_spelled true types h one = let found = items_spelled 1000000 (SpellsSub features) IsWrittenSub (omega arith) sub_spelled types h in (0x4e ∷ found.0, inl (refl, gc, (found.0, refl, found.1)))
+  listed_spelled : (explicit : Bool) (types : List SubType) → AtMost 1000000 (IsWrittenSub features) types → (explicit ≡ false → length types ≡ 1) → (bytes : List ℕ) × SpellsGroup features bytes (record { explicit = explicit; types = types })
+  listed_spelled true types h one = let found = items_spelled 1000000 (SpellsSub features) (IsWrittenSub features) (omega arith) sub_spelled types h in (0x4e ∷ found.0, inl (refl, gc, (found.0, refl, found.1)))
   listed_spelled false types h one = single_spelled false types refl h (one refl)
 
 pub sub_is_read : ReadsWritten sub_at IsWrittenSub
-sub_is_read features ty gc on h = spelled_read (sub_at features) (SpellsSub features) (sub_taken features) ty (sub_spelled features gc on ty h)
+sub_is_read features ty gc h = spelled_read (sub_at features) (SpellsSub features) (sub_taken features) ty (sub_spelled features gc ty h)
 
 pub group_is_read : ReadsWritten group_at IsWrittenGroup
-group_is_read features group gc on h = spelled_read (group_at features) (SpellsGroup features) (group_taken features) group (listed_spelled features gc on group.explicit group.types h.0 h.1)
+group_is_read features group gc h = spelled_read (group_at features) (SpellsGroup features) (group_taken features) group (listed_spelled features gc group.explicit group.types h.0 h.1)

@@ -105,6 +105,7 @@ impl RecGroup {
     pub fn into_types(self) -> IntoTypes
         ensures { result ≡ self.types }
     {
+        // What holds of every group is known where its parts are named.
         let _ = &self.members;
         IntoTypes::new(self.into_types_and_offsets())
     }

@@ -8,6 +8,7 @@ ghost use Rattle.wasm_types.specs.Groups.{Group};
 ghost use Rattle.wasm_types.specs.Moving.{OffsetsOfGroupsMove, OffsetsOfSectionsMove};
 ghost use Rattle.wasm_types.specs.contracts.group.RecGroupPartialEq.TheImpl.{ghosts as group_eq};
 ghost use Rattle.wasm_types.specs.Readings.{sub_at, group_at};
+ghost use Rattle.wasm_types.specs.Parts.{PartsTakeBytes};
 ghost use Rattle.wasm_types.specs.Spellings.{SpellsSub, SpellsGroup, IsWrittenSub, IsWrittenGroup};
 
 /// What is read for a type, the end of the input aside, is final whatever bytes follow; the hint is exact.
@@ -34,11 +35,16 @@ pub fn type_spellings_are_prefix_free()
     ensures group { (features : WasmFeatures) → IsPrefixFree (SpellsGroup features) }
 {}
 
-/// With the features on, each type within the limits whose indices are those of a module below 2^20, continuations and exact
-/// types aside, is read from some bytes.
+/// With garbage-collected types on, each type within the limits whose indices are those of a module below 2^20, continuations and
+/// exact types aside, and shared ones where their feature is off, is read from some bytes.
 pub fn written_types_are_read()
     ensures subtype { ReadsWritten sub_at IsWrittenSub }
     ensures group { ReadsWritten group_at IsWrittenGroup }
+{}
+
+/// The subtypes, supertypes, fields, parameters and results of a group that is read are together at most its bytes.
+pub fn parts_take_bytes()
+    ensures { (features : WasmFeatures) → PartsTakeBytes features }
 {}
 
 /// Groups are equal exactly if their lists of types are one.

@@ -1,12 +1,13 @@
 //! Calls on types.
 
+use std::process::Abort;
 use std::test::Fail;
 use wasm_composite_types::{
-    CompositeInnerType, CompositeType, FuncType, GlobalType, MemoryType, StructType, TableType,
-    TagKind, TagType, TypeList,
+    CompositeInnerType, CompositeType, FuncType, GlobalType, MemoryType, StorageType, StructType,
+    TableType, TagKind, TagType, TypeList,
 };
 use wasm_reader::BinaryReader;
-use wasm_ref_types::{PackedIndex, RefType, ValType};
+use wasm_ref_types::{HeapType, PackedIndex, RefType, UnpackedIndex, ValType};
 use wasm_types::{RecGroup, SubType};
 
 #[test]
@@ -24,7 +25,10 @@ fn function_types(rt: HostRuntime) -> Result<(), Fail> {
 fn function_types_keep_their_order(rt: HostRuntime) -> Result<(), Fail> {
     let params = [ValType::I64, ValType::F32, ValType::I64];
     let ty = FuncType::new(rt.alloc(), params, [ValType::F64, ValType::I32])?;
-    assert_eq!(rt; ty.params(), &[ValType::I64, ValType::F32, ValType::I64][..]);
+    assert_eq!(rt;
+        ty.params(),
+        &[ValType::I64, ValType::F32, ValType::I64][..]
+    );
     assert_eq!(rt; ty.results(), &[ValType::F64, ValType::I32][..]);
     Ok(())
 }
@@ -135,28 +139,68 @@ fn first_param(ty: &SubType) -> Option<ValType> {
     }
 }
 
+fn first_field(ty: &SubType) -> Option<StorageType> {
+    match &ty.composite_type.inner {
+        CompositeInnerType::Struct(ty) => ty
+            .fields
+            .as_slice()
+            .first()
+            .map(|field| field.element_type),
+        _ => None,
+    }
+}
+
+// The value type that refers to the type of this index.
+fn reference_to(index: u32, nullable: bool) -> Option<ValType> {
+    RefType::new(nullable, HeapType::Concrete(UnpackedIndex::Module(index))).map(ValType::Ref)
+}
+
+// Whether the three indices that the group names are these.
+fn names(
+    rt: &impl Abort,
+    group: RecGroup,
+    param: u32,
+    supertype: u32,
+    field: u32,
+) -> Result<(), Fail> {
+    let mut types = group.into_types();
+    let function = types.next().ok_or("no type")?;
+    assert!(rt; first_param(&function) == reference_to(param, true));
+    let structure = types.next().ok_or("no type")?;
+    assert!(rt; structure.supertype_idx == PackedIndex::from_module_index(supertype));
+    assert!(rt; first_field(&structure) == reference_to(field, false).map(StorageType::Val));
+    assert!(rt; types.next().is_none());
+    Ok(())
+}
+
+// Numbers indices from 10 on, below `end`.
+fn renumbered(group: &mut RecGroup, end: u32) -> Result<(), u32> {
+    let mut next = 10u32;
+    let mut number = |index: &mut PackedIndex| -> Result<(), u32> {
+        match PackedIndex::from_module_index(next) {
+            Some(new) if next < end => {
+                *index = new;
+                next = next.wrapping_add(1);
+                Ok(())
+            }
+            _ => Err(next),
+        }
+    };
+    group.remap_indices(&mut number)
+}
+
 #[test]
 fn indices_are_changed_in_their_order(rt: HostRuntime) -> Result<(), Fail> {
     let mut group: RecGroup = BinaryReader::new(&NAMING, 0).read(rt.alloc())?;
-    let mut next = 10u32;
-    let mut number = |index: &mut PackedIndex| -> Result<(), u32> {
-        let Some(new) = PackedIndex::from_module_index(next) else {
-            return Err(next);
-        };
-        *index = new;
-        next = next.wrapping_add(1);
-        Ok(())
-    };
-    assert!(rt; group.remap_indices(&mut number).is_ok());
-    let mut types = group.into_types();
-    let ten = PackedIndex::from_module_index(10).map(|index| RefType::concrete(true, index));
-    if let Some(ty) = types.next() {
-        assert!(rt; first_param(&ty) == ten.map(ValType::Ref));
-    }
-    if let Some(ty) = types.next() {
-        assert!(rt; ty.supertype_idx == PackedIndex::from_module_index(11));
-    }
-    Ok(())
+    assert!(rt; renumbered(&mut group, 20).is_ok());
+    names(&rt, group, 10, 11, 12)
+}
+
+#[test]
+fn indices_behind_a_refusal_stay(rt: HostRuntime) -> Result<(), Fail> {
+    let mut group: RecGroup = BinaryReader::new(&NAMING, 0).read(rt.alloc())?;
+    assert!(rt; renumbered(&mut group, 11) == Err(11));
+    names(&rt, group, 10, 1, 1)
 }
 
 #[test]
@@ -171,6 +215,7 @@ fn laws_can_be_cited() {
     wasm_types::laws::spelled_types_are_read();
     wasm_types::laws::type_spellings_are_prefix_free();
     wasm_types::laws::written_types_are_read();
+    wasm_types::laws::parts_take_bytes();
     wasm_types::laws::groups_are_equal_as_lists();
     wasm_types::laws::offsets_of_groups_move();
 }

@@ -179,14 +179,12 @@ fn places_of_a_groups_types(rt: HostRuntime) -> std::result::Result<(), Fail> {
     let group: RecGroup = read(rt.alloc(), &PAIR)?;
     let mut types = group.clone()?.into_types_and_offsets();
     assert!(rt; types.len() == 2);
-    if let Some((offset, ty)) = types.next() {
-        assert!(rt; offset == 13);
-        assert!(rt; ty.is_final);
-    }
-    if let Some((offset, ty)) = types.next() {
-        assert!(rt; offset == 16);
-        assert!(rt; !ty.is_final);
-    }
+    let (offset, function) = types.next().ok_or("no type")?;
+    assert!(rt; offset == 13);
+    assert!(rt; function.is_final);
+    let (offset, structure) = types.next().ok_or("no type")?;
+    assert!(rt; offset == 16);
+    assert!(rt; !structure.is_final);
     assert!(rt; types.next().is_none());
     Ok(())
 }

@@ -24,12 +24,12 @@ where
 fn groups_one_by_one(rt: HostRuntime) -> std::result::Result<(), Fail> {
     let bytes = [0x02, 0x60, 0x00, 0x00, 0x4e, 0x02, 0x5f, 0x00, 0x5f, 0x00];
     let mut groups = section(rt.alloc(), &bytes)?;
-    if let Some(group) = groups.next() {
-        assert!(rt; group?.types().len() == 1);
-    }
-    if let Some(group) = groups.next() {
-        assert!(rt; group?.types().len() == 2);
-    }
+    let single = groups.next().ok_or("no group")??;
+    assert!(rt; single.types().len() == 1);
+    assert!(rt; !single.is_explicit_rec_group());
+    let pair = groups.next().ok_or("no group")??;
+    assert!(rt; pair.types().len() == 2);
+    assert!(rt; pair.is_explicit_rec_group());
     assert!(rt; groups.next().is_none());
     assert!(rt; groups.next().is_none());
     Ok(())
@@ -64,12 +64,10 @@ fn function_types_alone(rt: HostRuntime) -> std::result::Result<(), Fail> {
     ];
     let gc = ErrorKind::Feature(WasmFeatures::GC_TYPES);
     let mut types = section(rt.alloc(), &bytes)?.into_iter_err_on_gc_types();
-    if let Some(ty) = types.next() {
-        assert!(rt; ty?.params().len() == 1);
-    }
-    if let Some(ty) = types.next() {
-        assert!(rt; ty?.params().is_empty());
-    }
+    let first = types.next().ok_or("no type")??;
+    assert!(rt; first.params().len() == 1);
+    let second = types.next().ok_or("no type")??;
+    assert!(rt; second.params().is_empty());
     assert_eq!(rt; refused(types.next()), Some((gc, 22)));
     assert_eq!(rt; refused(types.next()), Some((gc, 24)));
     assert_eq!(rt; refused(types.next()), Some((gc, 29)));
