@@ -52,6 +52,8 @@ fn arena(rt: HostRuntime) -> Result<(), Fail> {
     }
     assert!(rt; arena.contains(c));
     assert_eq!(rt; arena[c].0, 4);
+    arena[c] = Word(6);
+    assert_eq!(rt; arena[c].0, 6);
     let mut ids = arena.ids();
     assert_eq!(rt; ids.next().map_or(99, |id| id.index()), 1);
     assert_eq!(rt; ids.next().map_or(99, |id| id.index()), 2);
@@ -60,7 +62,7 @@ fn arena(rt: HostRuntime) -> Result<(), Fail> {
     for (_, word) in arena.iter() {
         sum ^= word.0;
     }
-    assert_eq!(rt; sum, 5);
+    assert_eq!(rt; sum, 7);
     Ok(())
 }
 
@@ -80,6 +82,8 @@ fn set(rt: HostRuntime) -> Result<(), Fail> {
     let mut set = ArenaSet::new(rt.alloc());
     let a = set.insert(Word(7))?;
     let b = set.insert(Word(8))?;
+    assert_eq!(rt; set[a].0, 7);
+    assert_eq!(rt; set[b].0, 8);
     assert_eq!(rt; set.insert(Word(7))?, a);
     set.remove(a);
     assert_eq!(rt; set.insert(Word(7))?.index(), 2);
