@@ -11,7 +11,7 @@ use Rattle.walrus_instr.specs.declared.instr.Instr.{Instr}
 use Rattle.walrus_instr.specs.declared.seq.InstrLocId.{InstrLocId}
 use Rattle.walrus_instr.specs.declared.seq.InstrSeq.{InstrSeq}
 use Rattle.walrus_builder.specs.Built.{Building, Seq, seq_of, contents, no_place, with_instrs, edited, Edits, Keeps, Extends, ExtendsAlways, EditsAt, inserts, back_to, IsLeft, IsRefused, IsRefusedOfTwo}
-use Rattle.walrus_builder.specs.Built.IsRefused.{Unbegun, Called}
+use Rattle.walrus_builder.specs.Built.IsRefused.{Unbegun, Failed, Ungrown}
 use Rattle.walrus_builder.specs.Built.IsRefusedOfTwo.{First, Second}
 
 edited_at : (f : Seq → Seq) (xs : List InstrSeq) (k : ℕ) (s t : InstrSeq) → k < length xs → s ≡ get_or xs k s → seq_of t ≡ f (seq_of s) → map seq_of (slice_set xs k t) ≡ edited f (map seq_of xs) k
@@ -142,8 +142,11 @@ known_filled old begun filled s k l a x =
 
 module _ {F : Type 0} (g : Once F (MutBor Building × Unit {0}) (Result (Unit {0}) AllocError × (MutBor Building × Unit {0}))) (make : F) where
   -- what a call of the closure shows and leaves
-  pub called : (shown left : MutBor Building) (r : Result (Unit {0}) AllocError) → g.post make (shown, tt) (r, (left, tt)) → FnOnceReturnsAtMut g make shown.now r left.now
+  called : (shown left : MutBor Building) (r : Result (Unit {0}) AllocError) → g.post make (shown, tt) (r, (left, tt)) → FnOnceReturnsAtMut g make shown.now r left.now
   called shown left r h = record { shown = shown; shows = refl; left = left; met = h; leaves = refl }
+
+  pub called_as : (shown left : MutBor Building) (r q : Result (Unit {0}) AllocError) → r ≡ q → g.post make (shown, tt) (r, (left, tt)) → FnOnceReturnsAtMut g make shown.now q left.now
+  called_as shown left r q e h = let G : Result (Unit {0}) AllocError → Type 0 = λ p. FnOnceReturnsAtMut g make shown.now p left.now in subst G e (called shown left r h)
 
 -- ---- an edit at an id
 edited_past : (f : Seq → Seq) (ss : List Seq) (k : ℕ) → length ss ≤ k → edited f ss k ≡ ss
@@ -159,6 +162,7 @@ edits_nowhere old outer id f back same other = record {
     | inl h ↦ absurd (true≢false (sym (other ∙ ap (λ (b : Bool). b && true) (eq-eqb id outer (same ∙ back h)))))
     | inr h ↦ sym (edited_past f (contents old) outer (omega (arith, h, length-map old.seqs seq_of)))
   ];
+  found = tt;
 }
 
 edited_like : (f g : Seq → Seq) (ss : List Seq) (k : ℕ) → ((s : Seq) → slice_get ss k ≡ Some s → f s ≡ g s) → edited f ss k ≡ edited g ss k
@@ -211,7 +215,8 @@ module _ {F : Type 0} (g : Once F (MutBor Building × Unit {0}) (Result (Unit {0
 
   pub refused_keeps : (new : Building) → IsRefused g make ty outer old new → Keeps old new
   refused_keeps new (Unbegun i e) = keeps_all old new i e
-  refused_keeps new (Called r h) = left_keeps r new h
+  refused_keeps new (Failed e h) = left_keeps (Err e) new h
+  refused_keeps new (Ungrown there h) = left_keeps (Ok tt) new h
 
 module _ {F G : Type 0} (g : Once F (MutBor Building × Unit {0}) (Result (Unit {0}) AllocError × (MutBor Building × Unit {0}))) (first : F) (h : Once G (MutBor Building × Unit {0}) (Result (Unit {0}) AllocError × (MutBor Building × Unit {0}))) (second : G) (always : ExtendsAlways g first) (too : ExtendsAlways h second) (ty : InstrSeqType) (old : Building) (outer : ℕ) (same : outer ≡ old.id) (known : outer < length old.seqs) (half : Building) (x : IsLeft g first (contents old) ty outer (Ok tt) half) where
   half_keeps : Keeps old half
@@ -241,7 +246,9 @@ put_left g make ss ty outer r mid new h i e = record { begun = h.begun; left = h
 pub put_refused : {F : Type 0} (g : Once F (MutBor Building × Unit {0}) (Result (Unit {0}) AllocError × (MutBor Building × Unit {0}))) (make : F) (ty : InstrSeqType) (old : Building) (outer at : ℕ) (mid new : Building) (f : Seq → Seq) (e : AllocError) → outer ≡ at → IsLeft g make (contents old) ty outer (Ok tt) mid → EditsAt mid outer f (Err e) new → IsRefused g make ty at old new
 put_refused g make ty old outer at mid new f e same h x =
     let G : ℕ → Type 0 = λ k. IsLeft g make (contents old) ty k (Ok tt) new in
-    Called (Ok tt) (subst G same (put_left g make (contents old) ty outer (Ok tt) mid new h x.id x.made))
+    let there = x.found in
+    let grown : at < length new.seqs = omega (arith, there, same, ap length x.made, length-map mid.seqs seq_of, length-map new.seqs seq_of) in
+    Ungrown grown (subst G same (put_left g make (contents old) ty outer (Ok tt) mid new h x.id x.made))
 
 module _ {F G : Type 0} (g : Once F (MutBor Building × Unit {0}) (Result (Unit {0}) AllocError × (MutBor Building × Unit {0}))) (first : F) (h : Once G (MutBor Building × Unit {0}) (Result (Unit {0}) AllocError × (MutBor Building × Unit {0}))) (second : G) (ty : InstrSeqType) (old new : Building) (outer : ℕ) (same : outer ≡ old.id) where
   pub first_refused : IsRefused g first ty outer old new → IsRefusedOfTwo g first h second ty old new

@@ -1,5 +1,5 @@
 -- What a contract sees of a body that is built: its sequences by id.
-use Rattle.std.specs.Prelude.{◌≡◌, ◌≢◌, ℕ, zero, suc, ◌<◌, ◌≤◌, List, [], ◌∷◌, ◌++◌, length, map, insert, slice_get, Result, Ok, MatchResult, nat_lt, if◌then◌else◌}
+use Rattle.std.specs.Prelude.{◌≡◌, ◌≢◌, ℕ, zero, suc, ◌<◌, ◌≤◌, List, [], ◌∷◌, ◌++◌, length, map, insert, slice_get, Result, Ok, Err, MatchResult, OnErr, nat_lt, if◌then◌else◌}
 use Rattle.std.specs.Fn.{Once, FnOnceReturnsAtMut}
 use Rattle.std.specs.Borrow.{MutBor}
 use Rattle.std.specs.declared.alloc.AllocError.{AllocError}
@@ -69,6 +69,7 @@ pub record Edits (old : Building) (f : Seq → Seq) (r : Result (Unit {0}) Alloc
 pub record EditsAt (old : Building) (k : ℕ) (f : Seq → Seq) (r : Result (Unit {0}) AllocError) (new : Building) : Type 0 where
   pub id : new.id ≡ old.id
   pub made : MatchResult r (λ _. contents new ≡ edited f (contents old) k) (λ _. contents new ≡ contents old)
+  pub found : OnErr r (k < length old.seqs)
 
 -- the sequences at hand and before it stay as they were; others may have been added
 pub record Keeps (old new : Building) : Type 0 where
@@ -110,10 +111,11 @@ pub record IsMadeOfTwo {F G : Type 0} (g : Once F (MutBor Building × Unit {0}) 
   pub made : contents new ≡ edited (edit (length (contents old)) (length (contents half))) (contents filled) old.id
   pub id : new.id ≡ filled.id
 
--- what a refusal leaves: all as it was, or what the closure left
+-- what a refusal leaves: all as it was, or what the closure left, which failed or after which the outer sequence didn't grow
 pub data IsRefused {F : Type 0} (g : Once F (MutBor Building × Unit {0}) (Result (Unit {0}) AllocError × (MutBor Building × Unit {0}))) (make : F) (ty : InstrSeqType) (outer : ℕ) (old new : Building) : Type 0 where
   Unbegun : new.id ≡ old.id → contents new ≡ contents old → IsRefused g make ty outer old new
-  Called : (r : Result (Unit {0}) AllocError) → IsLeft g make (contents old) ty outer r new → IsRefused g make ty outer old new
+  Failed : (e : AllocError) → IsLeft g make (contents old) ty outer (Err e) new → IsRefused g make ty outer old new
+  Ungrown : outer < length new.seqs → IsLeft g make (contents old) ty outer (Ok tt) new → IsRefused g make ty outer old new
 
 -- what a refusal leaves, where the first closure fills one sequence and the second another
 pub data IsRefusedOfTwo {F G : Type 0} (g : Once F (MutBor Building × Unit {0}) (Result (Unit {0}) AllocError × (MutBor Building × Unit {0}))) (first : F) (h : Once G (MutBor Building × Unit {0}) (Result (Unit {0}) AllocError × (MutBor Building × Unit {0}))) (second : G) (ty : InstrSeqType) (old new : Building) : Type 0 where
