@@ -1,5 +1,5 @@
 -- What a contract sees of a body that is built: its sequences by id.
-use Rattle.std.specs.Prelude.{◌≡◌, ◌≢◌, ℕ, zero, suc, ◌<◌, ◌≤◌, List, [], ◌∷◌, ◌++◌, length, map, insert, slice_get, Result, Ok, MatchResult}
+use Rattle.std.specs.Prelude.{◌≡◌, ◌≢◌, ℕ, zero, suc, ◌<◌, ◌≤◌, List, [], ◌∷◌, ◌++◌, length, map, insert, slice_get, Result, Ok, Err, MatchResult, OnErr, nat_lt, if◌then◌else◌}
 use Rattle.std.specs.Fn.{Once, FnOnceReturnsAtMut}
 use Rattle.std.specs.Borrow.{MutBor}
 use Rattle.std.specs.declared.alloc.AllocError.{AllocError}
@@ -47,7 +47,7 @@ pushes i s = with_instrs s (s.instrs ++ (i, no_place) ∷ [])
 abbrev pub inserts : ℕ → Instr → Seq → Seq
 inserts at i s = with_instrs s (insert s.instrs at (i, no_place))
 
--- the sequences with that of an id edited
+-- the sequences with that of an id edited, if it is there
 abbrev pub edited : {S : Type 0} → (S → S) → List S → ℕ → List S
 edited f [] k = []
 edited f (s ∷ ss) zero = f s ∷ ss
@@ -65,6 +65,12 @@ pub record Edits (old : Building) (f : Seq → Seq) (r : Result (Unit {0}) Alloc
   pub made : MatchResult r (λ _. contents new ≡ edited f (contents old) old.id) (λ _. contents new ≡ contents old)
   pub others : Extends old new
 
+-- an `Ok` edits the sequence of that id alone, if it is there, a refusal leaves all as it was; the same sequence is at hand
+pub record EditsAt (old : Building) (k : ℕ) (f : Seq → Seq) (r : Result (Unit {0}) AllocError) (new : Building) : Type 0 where
+  pub id : new.id ≡ old.id
+  pub made : MatchResult r (λ _. contents new ≡ edited f (contents old) k) (λ _. contents new ≡ contents old)
+  pub found : OnErr r (k < length old.seqs)
+
 -- the sequences at hand and before it stay as they were; others may have been added
 pub record Keeps (old new : Building) : Type 0 where
   pub id : new.id ≡ old.id
@@ -76,27 +82,45 @@ pub record IsBegun (ss : List Seq) (ty : InstrSeqType) (b : Building) : Type 0 w
   pub id : b.id ≡ length ss
   pub added : contents b ≡ ss ++ empty_seq (length ss) ty ∷ []
 
--- a sequence of this type was added to these and filled by the closure, which gives those
-pub record IsFilled {F : Type 0} (g : Once F (MutBor Building × Unit {0}) (Result (Unit {0}) AllocError × (MutBor Building × Unit {0}))) (make : F) (ss : List Seq) (ty : InstrSeqType) (ts : List Seq) : Type 0 where
+-- what is at hand again: the outer sequence, if there is one of that id, else the one at hand
+abbrev pub back_to : ℕ → Building → ℕ
+back_to outer b = if nat_lt outer (length b.seqs) then outer else b.id
+
+-- an added sequence was filled by the closure, which answered r; the outer one is at hand again, if it is there
+pub record IsLeft {F : Type 0} (g : Once F (MutBor Building × Unit {0}) (Result (Unit {0}) AllocError × (MutBor Building × Unit {0}))) (make : F) (ss : List Seq) (ty : InstrSeqType) (outer : ℕ) (r : Result (Unit {0}) AllocError) (new : Building) : Type 0 where
   pub begun : Building
-  pub filled : Building
+  pub left : Building
   pub begins : IsBegun ss ty begun
-  pub fills : FnOnceReturnsAtMut g make begun (Ok tt) filled
-  pub gives : contents filled ≡ ts
+  pub calls : FnOnceReturnsAtMut g make begun r left
+  pub stays : contents new ≡ contents left
+  pub back : new.id ≡ back_to outer left
 
--- a sequence was filled by the closure, and then the one at hand was edited with its id
+-- a sequence was filled by the closure, and then the one at hand before, if it is there, was edited with its id
 pub record IsMade {F : Type 0} (g : Once F (MutBor Building × Unit {0}) (Result (Unit {0}) AllocError × (MutBor Building × Unit {0}))) (make : F) (ty : InstrSeqType) (old : Building) (edit : ℕ → Seq → Seq) (new : Building) : Type 0 where
-  pub filled : List Seq
-  pub fills : IsFilled g make (contents old) ty filled
-  pub made : contents new ≡ edited (edit (length (contents old))) filled old.id
+  pub filled : Building
+  pub fills : IsLeft g make (contents old) ty old.id (Ok tt) filled
+  pub made : contents new ≡ edited (edit (length (contents old))) (contents filled) old.id
+  pub id : new.id ≡ filled.id
 
--- two sequences were filled by two closures, the first's first, and then the one at hand was edited with their ids
+-- two were filled by two closures, the first's first, and then the one at hand before was edited with their ids
 pub record IsMadeOfTwo {F G : Type 0} (g : Once F (MutBor Building × Unit {0}) (Result (Unit {0}) AllocError × (MutBor Building × Unit {0}))) (first : F) (h : Once G (MutBor Building × Unit {0}) (Result (Unit {0}) AllocError × (MutBor Building × Unit {0}))) (second : G) (ty : InstrSeqType) (old : Building) (edit : ℕ → ℕ → Seq → Seq) (new : Building) : Type 0 where
-  pub half : List Seq
-  pub filled : List Seq
-  pub fills_first : IsFilled g first (contents old) ty half
-  pub fills_second : IsFilled h second half ty filled
-  pub made : contents new ≡ edited (edit (length (contents old)) (length half)) filled old.id
+  pub half : Building
+  pub filled : Building
+  pub fills_first : IsLeft g first (contents old) ty old.id (Ok tt) half
+  pub fills_second : IsLeft h second (contents half) ty old.id (Ok tt) filled
+  pub made : contents new ≡ edited (edit (length (contents old)) (length (contents half))) (contents filled) old.id
+  pub id : new.id ≡ filled.id
+
+-- what a refusal leaves: all as it was, or what the closure left, which failed or after which the outer sequence didn't grow
+pub data IsRefused {F : Type 0} (g : Once F (MutBor Building × Unit {0}) (Result (Unit {0}) AllocError × (MutBor Building × Unit {0}))) (make : F) (ty : InstrSeqType) (outer : ℕ) (old new : Building) : Type 0 where
+  Unbegun : new.id ≡ old.id → contents new ≡ contents old → IsRefused g make ty outer old new
+  Failed : (e : AllocError) → IsLeft g make (contents old) ty outer (Err e) new → IsRefused g make ty outer old new
+  Ungrown : outer < length new.seqs → IsLeft g make (contents old) ty outer (Ok tt) new → IsRefused g make ty outer old new
+
+-- what a refusal leaves, where the first closure fills one sequence and the second another
+pub data IsRefusedOfTwo {F G : Type 0} (g : Once F (MutBor Building × Unit {0}) (Result (Unit {0}) AllocError × (MutBor Building × Unit {0}))) (first : F) (h : Once G (MutBor Building × Unit {0}) (Result (Unit {0}) AllocError × (MutBor Building × Unit {0}))) (second : G) (ty : InstrSeqType) (old new : Building) : Type 0 where
+  First : IsRefused g first ty old.id old new → IsRefusedOfTwo g first h second ty old new
+  Second : (half : Building) → IsLeft g first (contents old) ty old.id (Ok tt) half → IsRefused h second ty old.id half new → IsRefusedOfTwo g first h second ty old new
 
 -- whatever it is called at, the closure changes at most the sequence at hand
 abbrev pub ExtendsAlways : {F : Type 0} → Once F (MutBor Building × Unit {0}) (Result (Unit {0}) AllocError × (MutBor Building × Unit {0})) → F → Type 0

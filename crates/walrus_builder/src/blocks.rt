@@ -1,6 +1,6 @@
 //! Blocks: instructions that hold sequences, which closures fill.
 ghost use Rattle.std.specs.Prelude.{◌≡◌, ◌≤◌, length, slice_get, Some, IfOk, IfErr};
-ghost use Rattle.walrus_builder.specs.Built.{contents, pushes, inserts, Keeps, Extends, ExtendsAlways, IsMade, IsMadeOfTwo};
+ghost use Rattle.walrus_builder.specs.Built.{contents, pushes, inserts, Keeps, Extends, ExtendsAlways, IsMade, IsMadeOfTwo, IsRefused, IsRefusedOfTwo};
 
 use crate::seq_builder::InstrSeqBuilder;
 use std::alloc::AllocError;
@@ -18,35 +18,40 @@ fn if_else_of(consequent: InstrSeqId, alternative: InstrSeqId) -> Instr
 }
 
 impl InstrSeqBuilder {
-    /// Appends a block: the closure fills its body.
+    /// Appends a block: the closure fills its body. A closure that only builds leaves all other sequences alone.
+    /// If it puts another builder in place, that one stays; its sequence of the same id, if it has one, is at hand
+    /// then and gets the block.
     ///
     /// # Errors
     ///
-    /// Want of memory, or what the closure answers. The sequence stays as it was; those begun may dangle.
-    #[tactic(auto, using(crate::proofs::BuiltLemmas::extends_trans, crate::proofs::BuiltLemmas::keeps_extends))]
+    /// Want of memory, or what the closure answers. The sequence stays as it was, and those begun may dangle; what a
+    /// closure put in place stays.
+    #[tactic(auto, using(crate::proofs::BuiltLemmas::left_back))]
     pub fn block<F: FnOnce(&mut InstrSeqBuilder) -> Result<(), AllocError>>(
         &mut self,
         ty: InstrSeqType,
         make: F,
     ) -> Result<(), AllocError>
         requires callable { F.IsAlwaysCallable make }
-        requires keeps { ExtendsAlways F.FnOnce make }
         ensures made { IfOk result (λ _. IsMade F.FnOnce make ty self.old (λ seq. pushes (Instr.Block seq)) self.new) }
-        ensures id { self.new.id ≡ self.old.id }
-        ensures others { Extends self.old self.new }
-        ensures refused { IfErr result (λ _. Keeps self.old self.new) }
+        ensures left { IfErr result (λ _. IsRefused F.FnOnce make ty self.old.id self.old self.new) }
+        ensures id { ExtendsAlways F.FnOnce make → self.new.id ≡ self.old.id }
+        ensures others { ExtendsAlways F.FnOnce make → Extends self.old self.new }
+        ensures refused { ExtendsAlways F.FnOnce make → IfErr result (λ _. Keeps self.old self.new) }
     {
-        let seq = self.fill_seq(ty, make)?;
-        self.instr(Instr::Block { seq })?;
+        let outer = self.id();
+        let seq = self.fill_seq(outer, ty, make)?;
+        self.instr_in(outer, Instr::Block { seq })?;
         Ok(())
     }
 
-    /// Inserts a block at a position, which is at most the sequence's length: the closure fills its body.
+    /// Inserts a block at a position, which is at most the sequence's length: the closure fills its body. Another
+    /// builder that it puts in place is met as by `block`; a position past the end is the end there.
     ///
     /// # Errors
     ///
-    /// Want of memory, or what the closure answers. The sequence stays as it was; those begun may dangle.
-    #[tactic(auto, using(crate::proofs::BuiltLemmas::extends_trans, crate::proofs::BuiltLemmas::keeps_extends))]
+    /// Want of memory, or what the closure answers. What is left is as with `block`.
+    #[tactic(auto, using(crate::proofs::BuiltLemmas::left_back))]
     pub fn block_at<F: FnOnce(&mut InstrSeqBuilder) -> Result<(), AllocError>>(
         &mut self,
         position: usize,
@@ -54,47 +59,50 @@ impl InstrSeqBuilder {
         make: F,
     ) -> Result<(), AllocError>
         requires callable { F.IsAlwaysCallable make }
-        requires keeps { ExtendsAlways F.FnOnce make }
         requires within { (s : _) → slice_get (contents self.old) self.old.id ≡ Some s → position ≤ length s.instrs }
         ensures made { IfOk result (λ _. IsMade F.FnOnce make ty self.old (λ seq. inserts position (Instr.Block seq)) self.new) }
-        ensures id { self.new.id ≡ self.old.id }
-        ensures others { Extends self.old self.new }
-        ensures refused { IfErr result (λ _. Keeps self.old self.new) }
+        ensures left { IfErr result (λ _. IsRefused F.FnOnce make ty self.old.id self.old self.new) }
+        ensures id { ExtendsAlways F.FnOnce make → self.new.id ≡ self.old.id }
+        ensures others { ExtendsAlways F.FnOnce make → Extends self.old self.new }
+        ensures refused { ExtendsAlways F.FnOnce make → IfErr result (λ _. Keeps self.old self.new) }
     {
-        let seq = self.fill_seq(ty, make)?;
-        self.instr_at(position, Instr::Block { seq })?;
+        let outer = self.id();
+        let seq = self.fill_seq(outer, ty, make)?;
+        self.instr_at_in(outer, position, Instr::Block { seq })?;
         Ok(())
     }
 
-    /// Appends a loop: the closure fills its body.
+    /// Appends a loop: the closure fills its body. Another builder that it puts in place is met as by `block`.
     ///
     /// # Errors
     ///
-    /// Want of memory, or what the closure answers. The sequence stays as it was; those begun may dangle.
-    #[tactic(auto, using(crate::proofs::BuiltLemmas::extends_trans, crate::proofs::BuiltLemmas::keeps_extends))]
+    /// Want of memory, or what the closure answers. What is left is as with `block`.
+    #[tactic(auto, using(crate::proofs::BuiltLemmas::left_back))]
     pub fn loop_<F: FnOnce(&mut InstrSeqBuilder) -> Result<(), AllocError>>(
         &mut self,
         ty: InstrSeqType,
         make: F,
     ) -> Result<(), AllocError>
         requires callable { F.IsAlwaysCallable make }
-        requires keeps { ExtendsAlways F.FnOnce make }
         ensures made { IfOk result (λ _. IsMade F.FnOnce make ty self.old (λ seq. pushes (Instr.Loop seq)) self.new) }
-        ensures id { self.new.id ≡ self.old.id }
-        ensures others { Extends self.old self.new }
-        ensures refused { IfErr result (λ _. Keeps self.old self.new) }
+        ensures left { IfErr result (λ _. IsRefused F.FnOnce make ty self.old.id self.old self.new) }
+        ensures id { ExtendsAlways F.FnOnce make → self.new.id ≡ self.old.id }
+        ensures others { ExtendsAlways F.FnOnce make → Extends self.old self.new }
+        ensures refused { ExtendsAlways F.FnOnce make → IfErr result (λ _. Keeps self.old self.new) }
     {
-        let seq = self.fill_seq(ty, make)?;
-        self.instr(Instr::Loop { seq })?;
+        let outer = self.id();
+        let seq = self.fill_seq(outer, ty, make)?;
+        self.instr_in(outer, Instr::Loop { seq })?;
         Ok(())
     }
 
-    /// Inserts a loop at a position, which is at most the sequence's length: the closure fills its body.
+    /// Inserts a loop at a position, which is at most the sequence's length: the closure fills its body. Another
+    /// builder that it puts in place is met as by `block`; a position past the end is the end there.
     ///
     /// # Errors
     ///
-    /// Want of memory, or what the closure answers. The sequence stays as it was; those begun may dangle.
-    #[tactic(auto, using(crate::proofs::BuiltLemmas::extends_trans, crate::proofs::BuiltLemmas::keeps_extends))]
+    /// Want of memory, or what the closure answers. What is left is as with `block`.
+    #[tactic(auto, using(crate::proofs::BuiltLemmas::left_back))]
     pub fn loop_at<F: FnOnce(&mut InstrSeqBuilder) -> Result<(), AllocError>>(
         &mut self,
         position: usize,
@@ -102,24 +110,26 @@ impl InstrSeqBuilder {
         make: F,
     ) -> Result<(), AllocError>
         requires callable { F.IsAlwaysCallable make }
-        requires keeps { ExtendsAlways F.FnOnce make }
         requires within { (s : _) → slice_get (contents self.old) self.old.id ≡ Some s → position ≤ length s.instrs }
         ensures made { IfOk result (λ _. IsMade F.FnOnce make ty self.old (λ seq. inserts position (Instr.Loop seq)) self.new) }
-        ensures id { self.new.id ≡ self.old.id }
-        ensures others { Extends self.old self.new }
-        ensures refused { IfErr result (λ _. Keeps self.old self.new) }
+        ensures left { IfErr result (λ _. IsRefused F.FnOnce make ty self.old.id self.old self.new) }
+        ensures id { ExtendsAlways F.FnOnce make → self.new.id ≡ self.old.id }
+        ensures others { ExtendsAlways F.FnOnce make → Extends self.old self.new }
+        ensures refused { ExtendsAlways F.FnOnce make → IfErr result (λ _. Keeps self.old self.new) }
     {
-        let seq = self.fill_seq(ty, make)?;
-        self.instr_at(position, Instr::Loop { seq })?;
+        let outer = self.id();
+        let seq = self.fill_seq(outer, ty, make)?;
+        self.instr_at_in(outer, position, Instr::Loop { seq })?;
         Ok(())
     }
 
-    /// Appends an `if` with both arms: the closures fill them.
+    /// Appends an `if` with both arms: the closures fill them, the first one first. Another builder that one of them
+    /// puts in place is met as by `block`, after both.
     ///
     /// # Errors
     ///
-    /// Want of memory, or what a closure answers. The sequence stays as it was; those begun may dangle.
-    #[tactic(auto, using(crate::proofs::BuiltLemmas::extends_trans, crate::proofs::BuiltLemmas::keeps_extends))]
+    /// Want of memory, or what a closure answers. What is left is as with `block`.
+    #[tactic(auto, using(crate::proofs::BuiltLemmas::left_back))]
     pub fn if_else<
         F: FnOnce(&mut InstrSeqBuilder) -> Result<(), AllocError>,
         G: FnOnce(&mut InstrSeqBuilder) -> Result<(), AllocError> + Drop,
@@ -130,28 +140,29 @@ impl InstrSeqBuilder {
         make_alternative: G,
     ) -> Result<(), AllocError>
         requires callable { F.IsAlwaysCallable make_consequent }
-        requires keeps { ExtendsAlways F.FnOnce make_consequent }
         requires callable_too { G.IsAlwaysCallable make_alternative }
-        requires keeps_too { ExtendsAlways G.FnOnce make_alternative }
         ensures made { IfOk result (λ _. IsMadeOfTwo F.FnOnce make_consequent G.FnOnce make_alternative ty self.old (λ consequent alternative. pushes (Instr.IfElse consequent alternative)) self.new) }
-        ensures id { self.new.id ≡ self.old.id }
-        ensures others { Extends self.old self.new }
-        ensures refused { IfErr result (λ _. Keeps self.old self.new) }
+        ensures left { IfErr result (λ _. IsRefusedOfTwo F.FnOnce make_consequent G.FnOnce make_alternative ty self.old self.new) }
+        ensures id { ExtendsAlways F.FnOnce make_consequent → ExtendsAlways G.FnOnce make_alternative → self.new.id ≡ self.old.id }
+        ensures others { ExtendsAlways F.FnOnce make_consequent → ExtendsAlways G.FnOnce make_alternative → Extends self.old self.new }
+        ensures refused { ExtendsAlways F.FnOnce make_consequent → ExtendsAlways G.FnOnce make_alternative → IfErr result (λ _. Keeps self.old self.new) }
     {
+        let outer = self.id();
         let alternative_ty = ty;
-        let consequent = self.fill_seq(ty, make_consequent)?;
-        let alternative = self.fill_seq(alternative_ty, make_alternative)?;
-        self.instr(if_else_of(consequent, alternative))?;
+        let consequent = self.fill_seq(outer, ty, make_consequent)?;
+        let alternative = self.fill_seq(outer, alternative_ty, make_alternative)?;
+        self.instr_in(outer, if_else_of(consequent, alternative))?;
         Ok(())
     }
 
-    /// Inserts an `if` with both arms at a position, which is at most the sequence's length: the closures
-    /// fill the arms.
+    /// Inserts an `if` with both arms at a position, which is at most the sequence's length: the closures fill the
+    /// arms, the first one first. Another builder that one of them puts in place is met as by `block`, after both; a
+    /// position past the end is the end there.
     ///
     /// # Errors
     ///
-    /// Want of memory, or what a closure answers. The sequence stays as it was; those begun may dangle.
-    #[tactic(auto, using(crate::proofs::BuiltLemmas::extends_trans, crate::proofs::BuiltLemmas::keeps_extends))]
+    /// Want of memory, or what a closure answers. What is left is as with `block`.
+    #[tactic(auto, using(crate::proofs::BuiltLemmas::left_back))]
     pub fn if_else_at<
         F: FnOnce(&mut InstrSeqBuilder) -> Result<(), AllocError>,
         G: FnOnce(&mut InstrSeqBuilder) -> Result<(), AllocError> + Drop,
@@ -163,19 +174,19 @@ impl InstrSeqBuilder {
         make_alternative: G,
     ) -> Result<(), AllocError>
         requires callable { F.IsAlwaysCallable make_consequent }
-        requires keeps { ExtendsAlways F.FnOnce make_consequent }
         requires callable_too { G.IsAlwaysCallable make_alternative }
-        requires keeps_too { ExtendsAlways G.FnOnce make_alternative }
         requires within { (s : _) → slice_get (contents self.old) self.old.id ≡ Some s → position ≤ length s.instrs }
         ensures made { IfOk result (λ _. IsMadeOfTwo F.FnOnce make_consequent G.FnOnce make_alternative ty self.old (λ consequent alternative. inserts position (Instr.IfElse consequent alternative)) self.new) }
-        ensures id { self.new.id ≡ self.old.id }
-        ensures others { Extends self.old self.new }
-        ensures refused { IfErr result (λ _. Keeps self.old self.new) }
+        ensures left { IfErr result (λ _. IsRefusedOfTwo F.FnOnce make_consequent G.FnOnce make_alternative ty self.old self.new) }
+        ensures id { ExtendsAlways F.FnOnce make_consequent → ExtendsAlways G.FnOnce make_alternative → self.new.id ≡ self.old.id }
+        ensures others { ExtendsAlways F.FnOnce make_consequent → ExtendsAlways G.FnOnce make_alternative → Extends self.old self.new }
+        ensures refused { ExtendsAlways F.FnOnce make_consequent → ExtendsAlways G.FnOnce make_alternative → IfErr result (λ _. Keeps self.old self.new) }
     {
+        let outer = self.id();
         let alternative_ty = ty;
-        let consequent = self.fill_seq(ty, make_consequent)?;
-        let alternative = self.fill_seq(alternative_ty, make_alternative)?;
-        self.instr_at(position, if_else_of(consequent, alternative))?;
+        let consequent = self.fill_seq(outer, ty, make_consequent)?;
+        let alternative = self.fill_seq(outer, alternative_ty, make_alternative)?;
+        self.instr_at_in(outer, position, if_else_of(consequent, alternative))?;
         Ok(())
     }
 }

@@ -1,8 +1,8 @@
 //! Building of sequences.
-ghost use Rattle.std.specs.Prelude.{◌≡◌, ◌<◌, ◌≤◌, [], ◌∷◌, ◌++◌, length, slice_get, Some, IfOk, OnOk, OnErr, insert};
+ghost use Rattle.std.specs.Prelude.{◌≡◌, ◌<◌, ◌≤◌, [], ◌∷◌, ◌++◌, length, slice_get, Some, Ok, IfOk, IfErr, OnOk, OnErr, insert};
 ghost use Rattle.std.specs.Borrow.{sem};
 ghost use Rattle.std.specs.Option.{option_map};
-ghost use Rattle.walrus_builder.specs.Built.{contents, empty_seq, no_place, pushes, inserts, Edits, Keeps, ExtendsAlways, IsFilled};
+ghost use Rattle.walrus_builder.specs.Built.{contents, empty_seq, no_place, pushes, inserts, back_to, Edits, EditsAt, IsBegun, IsLeft, IsRefused};
 ghost use Rattle.walrus_builder.specs.Lends.{lends_instrs};
 
 use std::alloc::{AllocError, Global};
@@ -100,7 +100,8 @@ impl InstrSeqBuilder {
 
     /// The id of the sequence at hand.
     pub fn id(&self) -> InstrSeqId
-        ensures { result ≡ self.now.id }
+        ensures id { result ≡ self.now.id }
+        ensures known { result < length self.now.seqs }
     {
         self.id
     }
@@ -143,24 +144,77 @@ impl InstrSeqBuilder {
         Ok(id)
     }
 
-    // Adds a sequence and has it filled, then goes back to the one at hand.
+    // Adds an empty sequence, and takes it at hand.
+    fn begin_seq(&mut self, ty: InstrSeqType) -> Result<InstrSeqId, AllocError>
+        ensures begun { IfOk result (λ id. (id ≡ length (contents self.old)) × IsBegun (contents self.old) ty self.new) }
+        ensures id { OnErr result (self.new.id ≡ self.old.id) }
+        ensures refused { OnErr result (contents self.new ≡ contents self.old) }
+    {
+        let id = self.add_seq(ty)?;
+        self.go_to(id);
+        Ok(id)
+    }
+
+    // Takes the outer sequence at hand again: what a closure put in place may have none of that id.
+    fn go_back(&mut self, outer: InstrSeqId)
+        ensures id { self.new.id ≡ back_to outer self.old }
+        ensures seqs { self.new.seqs ≡ self.old.seqs }
+    {
+        if outer.index() < self.seqs.len() {
+            self.id = outer;
+        }
+    }
+
+    // Adds a sequence and has it filled, then goes back to the outer one.
     pub(crate) fn fill_seq<F: FnOnce(&mut InstrSeqBuilder) -> Result<(), AllocError>>(
         &mut self,
+        outer: InstrSeqId,
         ty: InstrSeqType,
         make: F,
     ) -> Result<InstrSeqId, AllocError>
         requires callable { F.IsAlwaysCallable make }
-        requires keeps { ExtendsAlways F.FnOnce make }
-        ensures filled { IfOk result (λ id. (id ≡ length (contents self.old)) × IsFilled F.FnOnce make (contents self.old) ty (contents self.new)) }
-        ensures at_hand { self.old.id < length self.old.seqs }
-        ensures keeps { Keeps self.old self.new }
+        ensures filled { IfOk result (λ id. (id ≡ length (contents self.old)) × IsLeft F.FnOnce make (contents self.old) ty outer (Ok tt) self.new) }
+        ensures refused { IfErr result (λ _. IsRefused F.FnOnce make ty outer self.old self.new) }
     {
-        let outer = self.id;
-        let id = self.add_seq(ty)?;
-        self.id = id;
+        let id = self.begin_seq(ty)?;
         let made = make(self);
-        self.id = outer;
+        self.go_back(outer);
         made?;
         Ok(id)
+    }
+
+    // Appends an instruction to the outer sequence, which is at hand if it is there.
+    pub(crate) fn instr_in(&mut self, outer: InstrSeqId, instr: Instr) -> Result<(), AllocError>
+        requires { outer < length self.old.seqs → self.old.id ≡ outer }
+        ensures { EditsAt self.old outer (pushes instr) result self.new }
+    {
+        if self.id() == outer {
+            self.instr(instr)?;
+        }
+        Ok(())
+    }
+
+    // Inserts an instruction at a position, and at the end if that is past it.
+    fn insert_here(&mut self, position: usize, instr: Instr) -> Result<(), AllocError>
+        ensures { Edits self.old (inserts position instr) result self.new }
+    {
+        let within = position.min(self.instrs().len());
+        self.instr_at(within, instr)
+    }
+
+    // Inserts an instruction into the outer sequence, which is at hand if it is there.
+    pub(crate) fn instr_at_in(
+        &mut self,
+        outer: InstrSeqId,
+        position: usize,
+        instr: Instr,
+    ) -> Result<(), AllocError>
+        requires { outer < length self.old.seqs → self.old.id ≡ outer }
+        ensures { EditsAt self.old outer (inserts position instr) result self.new }
+    {
+        if self.id() == outer {
+            self.insert_here(position, instr)?;
+        }
+        Ok(())
     }
 }

@@ -2,6 +2,7 @@
 use crate::common::{PLAIN, function};
 use crate::rows::assert_rows;
 use std::alloc::AllocError;
+use std::mem;
 use std::test::Fail;
 use walrus_arena::InstrSeqId;
 use walrus_builder::{FunctionBuilder, InstrSeqBuilder};
@@ -161,5 +162,50 @@ fn a_refused_block_leaves_its_sequence(rt: HostRuntime) -> Result<(), Fail> {
     assert!(rt; refused.is_err());
     assert_eq!(rt; seq.id(), InstrSeqId::from_index(0));
     assert_rows(&rt, seq.instrs(), &[("drop", 0, 0, 0)]);
+    Ok(())
+}
+
+#[test]
+fn another_builder_without_that_sequence(rt: HostRuntime) -> Result<(), Fail> {
+    let mut body = function(rt.alloc())?;
+    let mut other = function(rt.alloc())?;
+    let begun = body.dangling_instr_seq(PLAIN)?;
+    assert!(rt; begun.index() < body.seqs().len());
+    let seq = body.instr_seq(begun);
+    let put = other.func_body();
+    put.drop()?;
+    seq.block(LONG, |inner| {
+        mem::swap(inner, put);
+        Ok(())
+    })?;
+    // It has the sequence 0 alone, and the block was for the sequence 1.
+    assert_eq!(rt; seq.id().index(), 0);
+    assert_rows(&rt, seq.instrs(), &[("drop", 0, 0, 0)]);
+    assert_eq!(rt; body.seqs().len(), 1);
+    assert_eq!(rt; other.seqs().len(), 3);
+    Ok(())
+}
+
+#[test]
+fn another_builder_with_that_sequence(rt: HostRuntime) -> Result<(), Fail> {
+    let mut body = function(rt.alloc())?;
+    let mut other = function(rt.alloc())?;
+    let seq = body.func_body();
+    seq.drop()?;
+    seq.return_()?;
+    assert!(rt; 2 <= seq.instrs().len());
+    let put = other.func_body();
+    put.unreachable()?;
+    seq.block_at(2, LONG, |inner| {
+        mem::swap(inner, put);
+        Ok(())
+    })?;
+    // Its sequence has one instruction, so that 2 is past the end.
+    assert_eq!(rt; seq.id().index(), 0);
+    assert_rows(
+        &rt,
+        seq.instrs(),
+        &[("unreachable", 0, 0, 0), ("block", 1, 0, 0)],
+    );
     Ok(())
 }

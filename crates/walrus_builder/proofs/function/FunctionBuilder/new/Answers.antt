@@ -1,9 +1,7 @@
-use Rattle.std.proofs.Common.{◌≡◌, ◌∙◌, ℕ, List, [], ◌∷◌, length, map, slice_set, get_or, refl, sym, ap, arith}
-use Rattle.std.proofs.lemmas.List.{length-map}
+use Rattle.std.proofs.Common.{◌≡◌, ◌∙◌, List, [], ◌∷◌, map, slice_set, get_or, ap}
 use Rattle.walrus_instr.specs.declared.seq.InstrSeqType.{InstrSeqType}
 use Rattle.walrus_instr.specs.declared.seq.InstrSeq.{InstrSeq}
 use Rattle.walrus_builder.specs.Built.{Seq, seq_of, empty_seq}
-use Rattle.walrus_builder.proofs.function.FunctionBuilder.new.Goals as goal
 
 -- the one sequence with another type
 retyped : (seqs : List InstrSeq) (s t : InstrSeq) (old ty : InstrSeqType) → map seq_of seqs ≡ empty_seq 0 old ∷ [] → s ≡ get_or seqs 0 s
