@@ -2,7 +2,7 @@
 use Rattle.std.proofs.Common.{ℕ, zero, suc, ◌+◌, ◌<◌, ◌≤◌, ◌≡◌, ◌≢◌, min, Bool, true, false, ◌&&◌, if◌then◌else◌, eqb, eq-eqb, lt-ltb, true≢false, insert, take, drop, option_map, List, [], ◌∷◌, ◌++◌, length, map, get_or, Some, refl, sym, ap, subst, arith, ◌∙◌, inl, inr, Result, Ok, Err, length-append}
 use Rattle.std.proofs.lemmas.List.{length-map, take_min, drop_min}
 use Rattle.std.proofs.lemmas.Bool.{cases_lt}
-use Rattle.std.specs.Prelude.{slice_get, slice_set, IsErr, IfErr, OnErr}
+use Rattle.std.specs.Prelude.{slice_get, slice_set, IsErr, IfErr}
 use Rattle.std.specs.Fn.{Once, FnOnceReturnsAtMut}
 use Rattle.std.specs.Borrow.{MutBor}
 use Rattle.std.specs.declared.alloc.AllocError.{AllocError}
@@ -267,11 +267,6 @@ left_back g make ss ty outer r new h l =
     h.back ∙ ap (λ (b : Bool). if b then outer else h.left.id) (lt-ltb outer (length h.left.seqs) there)
 
 -- what holds anyway holds at `Err`
-pub on_err : {A E : Type 0} {P : Type 0} (r : Result A E) → P → OnErr r P
-on_err (Ok x) p = tt
-on_err (Err e) p = p
-
--- the same, with the error at hand
 pub if_err : {A E : Type 0} {P : Type 0} (r : Result A E) → P → IfErr r (λ _. P)
 if_err (Ok x) p = tt
 if_err (Err e) p = p

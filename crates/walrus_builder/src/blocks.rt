@@ -45,8 +45,8 @@ impl InstrSeqBuilder {
         Ok(())
     }
 
-    /// Inserts a block at a position, which is at most the sequence's length: the closure fills its body. Another
-    /// builder that it puts in place is met as by `block`; a position past the end is the end there.
+    /// Inserts a block at a position, which is at most the sequence's length: the closure fills its body. If it puts
+    /// another builder in place, all is as with `block`, and a position past the end there is the end.
     ///
     /// # Errors
     ///
@@ -72,7 +72,7 @@ impl InstrSeqBuilder {
         Ok(())
     }
 
-    /// Appends a loop: the closure fills its body. Another builder that it puts in place is met as by `block`.
+    /// Appends a loop: the closure fills its body. If it puts another builder in place, all is as with `block`.
     ///
     /// # Errors
     ///
@@ -96,8 +96,8 @@ impl InstrSeqBuilder {
         Ok(())
     }
 
-    /// Inserts a loop at a position, which is at most the sequence's length: the closure fills its body. Another
-    /// builder that it puts in place is met as by `block`; a position past the end is the end there.
+    /// Inserts a loop at a position, which is at most the sequence's length: the closure fills its body. If it puts
+    /// another builder in place, all is as with `block`, and a position past the end there is the end.
     ///
     /// # Errors
     ///
@@ -123,8 +123,8 @@ impl InstrSeqBuilder {
         Ok(())
     }
 
-    /// Appends an `if` with both arms: the closures fill them, the first one first. Another builder that one of them
-    /// puts in place is met as by `block`, after both.
+    /// Appends an `if` with both arms: the closures fill them, the first one first. If one of them puts another
+    /// builder in place, all is as with `block`.
     ///
     /// # Errors
     ///
@@ -156,8 +156,8 @@ impl InstrSeqBuilder {
     }
 
     /// Inserts an `if` with both arms at a position, which is at most the sequence's length: the closures fill the
-    /// arms, the first one first. Another builder that one of them puts in place is met as by `block`, after both; a
-    /// position past the end is the end there.
+    /// arms, the first one first. If one of them puts another builder in place, all is as with `block`, and a
+    /// position past the end there is the end.
     ///
     /// # Errors
     ///

@@ -15,25 +15,25 @@ returns-in_err-instr_at_in-clause-left g c = if_err c.from_residual-in_err-instr
 
 pub returns-in_err-instr_at_in-clause-id : goal.returns-in_err-instr_at_in-clause-id
 returns-in_err-instr_at_in-clause-id g c always =
-    let kept = left_keeps g.F.FnOnce c.args.make always c.args.ty c.args.self.now _ c.id-outer.ensures.id c.id-outer.ensures.known _ _ c.in_ok-seq.ensures.filled.1 in
-    (put_keeps _ _ kept _ c.id-outer.ensures.id _ _ _ c.in_err-instr_at_in.ensures).id
+    let kept = left_keeps g.F.FnOnce c.args.make always c.args.ty c.args.self.now _ c.id-outer.ensures.id c.id-outer.ensures.known _ c.fill_seq.new.self c.in_ok-seq.ensures.filled.1 in
+    (put_keeps c.args.self.now c.fill_seq.new.self kept c.id-outer.result c.id-outer.ensures.id _ _ c.instr_at_in.new.self c.in_err-instr_at_in.ensures).id
 
 pub returns-in_err-instr_at_in-clause-others : goal.returns-in_err-instr_at_in-clause-others
 returns-in_err-instr_at_in-clause-others g c always =
-    let kept = left_keeps g.F.FnOnce c.args.make always c.args.ty c.args.self.now _ c.id-outer.ensures.id c.id-outer.ensures.known _ _ c.in_ok-seq.ensures.filled.1 in
-    put_extends _ _ kept _ c.id-outer.ensures.id _ _ _ c.in_err-instr_at_in.ensures
+    let kept = left_keeps g.F.FnOnce c.args.make always c.args.ty c.args.self.now _ c.id-outer.ensures.id c.id-outer.ensures.known _ c.fill_seq.new.self c.in_ok-seq.ensures.filled.1 in
+    put_extends c.args.self.now c.fill_seq.new.self kept c.id-outer.result c.id-outer.ensures.id _ _ c.instr_at_in.new.self c.in_err-instr_at_in.ensures
 
 pub returns-in_err-instr_at_in-clause-refused : goal.returns-in_err-instr_at_in-clause-refused
 returns-in_err-instr_at_in-clause-refused g c always =
-    let kept = left_keeps g.F.FnOnce c.args.make always c.args.ty c.args.self.now _ c.id-outer.ensures.id c.id-outer.ensures.known _ _ c.in_ok-seq.ensures.filled.1 in
-    if_err c.from_residual-in_err-instr_at_in.result (put_keeps _ _ kept _ c.id-outer.ensures.id _ _ _ c.in_err-instr_at_in.ensures)
+    let kept = left_keeps g.F.FnOnce c.args.make always c.args.ty c.args.self.now _ c.id-outer.ensures.id c.id-outer.ensures.known _ c.fill_seq.new.self c.in_ok-seq.ensures.filled.1 in
+    if_err c.from_residual-in_err-instr_at_in.result (put_keeps c.args.self.now c.fill_seq.new.self kept c.id-outer.result c.id-outer.ensures.id _ _ c.instr_at_in.new.self c.in_err-instr_at_in.ensures)
 
 pub returns-clause-id : goal.returns-clause-id
 returns-clause-id g c always =
-    let kept = left_keeps g.F.FnOnce c.args.make always c.args.ty c.args.self.now _ c.id-outer.ensures.id c.id-outer.ensures.known _ _ c.in_ok-seq.ensures.filled.1 in
-    (put_extends _ _ kept _ c.id-outer.ensures.id _ _ _ c.in_ok-instr_at_in.ensures).id
+    let kept = left_keeps g.F.FnOnce c.args.make always c.args.ty c.args.self.now _ c.id-outer.ensures.id c.id-outer.ensures.known _ c.fill_seq.new.self c.in_ok-seq.ensures.filled.1 in
+    (put_extends c.args.self.now c.fill_seq.new.self kept c.id-outer.result c.id-outer.ensures.id _ _ c.instr_at_in.new.self c.in_ok-instr_at_in.ensures).id
 
 pub returns-clause-others : goal.returns-clause-others
 returns-clause-others g c always =
-    let kept = left_keeps g.F.FnOnce c.args.make always c.args.ty c.args.self.now _ c.id-outer.ensures.id c.id-outer.ensures.known _ _ c.in_ok-seq.ensures.filled.1 in
-    put_extends _ _ kept _ c.id-outer.ensures.id _ _ _ c.in_ok-instr_at_in.ensures
+    let kept = left_keeps g.F.FnOnce c.args.make always c.args.ty c.args.self.now _ c.id-outer.ensures.id c.id-outer.ensures.known _ c.fill_seq.new.self c.in_ok-seq.ensures.filled.1 in
+    put_extends c.args.self.now c.fill_seq.new.self kept c.id-outer.result c.id-outer.ensures.id _ _ c.instr_at_in.new.self c.in_ok-instr_at_in.ensures

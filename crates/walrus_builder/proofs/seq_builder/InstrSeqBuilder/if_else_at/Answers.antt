@@ -25,7 +25,7 @@ returns-in_err-alternative-clause-id g c always too =
 pub returns-in_err-alternative-clause-others : goal.returns-in_err-alternative-clause-others
 returns-in_err-alternative-clause-others g c always too =
     let kept = second_keeps g.F.FnOnce c.args.make_consequent g.G.FnOnce c.args.make_alternative always too c.args.ty c.args.self.now _ c.id-outer.ensures.id c.id-outer.ensures.known c.fill_seq.new.self c.in_ok-consequent.ensures.filled.1 _ c.in_err-alternative.ensures.refused in
-    keeps_extends _ _ kept
+    keeps_extends c.args.self.now c.fill_seq-2.new.self kept
 
 pub returns-in_err-alternative-clause-refused : goal.returns-in_err-alternative-clause-refused
 returns-in_err-alternative-clause-refused g c always too =
@@ -38,24 +38,24 @@ returns-in_err-instr_at_in-clause-left g c = if_err c.from_residual-in_err-instr
 pub returns-in_err-instr_at_in-clause-id : goal.returns-in_err-instr_at_in-clause-id
 returns-in_err-instr_at_in-clause-id g c always too =
     let kept = both_keep g.F.FnOnce c.args.make_consequent g.G.FnOnce c.args.make_alternative always too c.args.ty c.args.self.now _ c.id-outer.ensures.id c.id-outer.ensures.known c.fill_seq.new.self c.in_ok-consequent.ensures.filled.1 _ c.fill_seq-2.new.self c.in_ok-alternative.ensures.filled.1 in
-    (put_keeps _ _ kept _ c.id-outer.ensures.id _ _ _ c.in_err-instr_at_in.ensures).id
+    (put_keeps c.args.self.now c.fill_seq-2.new.self kept c.id-outer.result c.id-outer.ensures.id _ _ c.instr_at_in.new.self c.in_err-instr_at_in.ensures).id
 
 pub returns-in_err-instr_at_in-clause-others : goal.returns-in_err-instr_at_in-clause-others
 returns-in_err-instr_at_in-clause-others g c always too =
     let kept = both_keep g.F.FnOnce c.args.make_consequent g.G.FnOnce c.args.make_alternative always too c.args.ty c.args.self.now _ c.id-outer.ensures.id c.id-outer.ensures.known c.fill_seq.new.self c.in_ok-consequent.ensures.filled.1 _ c.fill_seq-2.new.self c.in_ok-alternative.ensures.filled.1 in
-    put_extends _ _ kept _ c.id-outer.ensures.id _ _ _ c.in_err-instr_at_in.ensures
+    put_extends c.args.self.now c.fill_seq-2.new.self kept c.id-outer.result c.id-outer.ensures.id _ _ c.instr_at_in.new.self c.in_err-instr_at_in.ensures
 
 pub returns-in_err-instr_at_in-clause-refused : goal.returns-in_err-instr_at_in-clause-refused
 returns-in_err-instr_at_in-clause-refused g c always too =
     let kept = both_keep g.F.FnOnce c.args.make_consequent g.G.FnOnce c.args.make_alternative always too c.args.ty c.args.self.now _ c.id-outer.ensures.id c.id-outer.ensures.known c.fill_seq.new.self c.in_ok-consequent.ensures.filled.1 _ c.fill_seq-2.new.self c.in_ok-alternative.ensures.filled.1 in
-    if_err c.from_residual-in_err-instr_at_in.result (put_keeps _ _ kept _ c.id-outer.ensures.id _ _ _ c.in_err-instr_at_in.ensures)
+    if_err c.from_residual-in_err-instr_at_in.result (put_keeps c.args.self.now c.fill_seq-2.new.self kept c.id-outer.result c.id-outer.ensures.id _ _ c.instr_at_in.new.self c.in_err-instr_at_in.ensures)
 
 pub returns-clause-id : goal.returns-clause-id
 returns-clause-id g c always too =
     let kept = both_keep g.F.FnOnce c.args.make_consequent g.G.FnOnce c.args.make_alternative always too c.args.ty c.args.self.now _ c.id-outer.ensures.id c.id-outer.ensures.known c.fill_seq.new.self c.in_ok-consequent.ensures.filled.1 _ c.fill_seq-2.new.self c.in_ok-alternative.ensures.filled.1 in
-    (put_extends _ _ kept _ c.id-outer.ensures.id _ _ _ c.in_ok-instr_at_in.ensures).id
+    (put_extends c.args.self.now c.fill_seq-2.new.self kept c.id-outer.result c.id-outer.ensures.id _ _ c.instr_at_in.new.self c.in_ok-instr_at_in.ensures).id
 
 pub returns-clause-others : goal.returns-clause-others
 returns-clause-others g c always too =
     let kept = both_keep g.F.FnOnce c.args.make_consequent g.G.FnOnce c.args.make_alternative always too c.args.ty c.args.self.now _ c.id-outer.ensures.id c.id-outer.ensures.known c.fill_seq.new.self c.in_ok-consequent.ensures.filled.1 _ c.fill_seq-2.new.self c.in_ok-alternative.ensures.filled.1 in
-    put_extends _ _ kept _ c.id-outer.ensures.id _ _ _ c.in_ok-instr_at_in.ensures
+    put_extends c.args.self.now c.fill_seq-2.new.self kept c.id-outer.result c.id-outer.ensures.id _ _ c.instr_at_in.new.self c.in_ok-instr_at_in.ensures
