@@ -14,8 +14,8 @@ HeldAreNested = (b : List InstrSeq) (k : ℕ) (s : InstrSeq) → IsNested b k �
 
 -- of each nested sequence: its start, what its block type names, its instructions with the walks of what they hold, its end
 abbrev pub IsPlainWalk : List InstrSeq → (ℕ → List Event) → Type 0
-IsPlainWalk b walk = (k : ℕ) (s : InstrSeq) → IsNested b k → slice_get b k ≡ Some s
-    → walk k ≡ StartOf s ∷ (block_names s.ty ++ (of_items walk s.instrs.items ++ EndOf s ∷ []))
+IsPlainWalk b w = (k : ℕ) (s : InstrSeq) → IsNested b k → slice_get b k ≡ Some s
+    → w k ≡ StartOf s ∷ (block_names s.ty ++ (of_items w s.instrs.items ++ EndOf s ∷ []))
 
 -- the walk is the plain recursion
 abbrev pub WalkIsPlain : Type 0
@@ -27,7 +27,7 @@ PlainWalkIsOne = (b : List InstrSeq) (plain : ℕ → List Event) → IsPlainWal
 
 -- of each nested sequence: itself, then the orders of what it holds
 abbrev pub IsPlainOrder : List InstrSeq → (ℕ → List ℕ) → Type 0
-IsPlainOrder b order = (k : ℕ) (s : InstrSeq) → IsNested b k → slice_get b k ≡ Some s → order k ≡ k ∷ orders order (held_by s)
+IsPlainOrder b o = (k : ℕ) (s : InstrSeq) → IsNested b k → slice_get b k ≡ Some s → o k ≡ k ∷ orders o (held_by s)
 
 -- the order of the walk that changes is the plain recursion
 abbrev pub OrderIsPlain : Type 0
