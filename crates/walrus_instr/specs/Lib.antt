@@ -3,4 +3,5 @@ pub mod Constants
 pub mod Copies
 pub mod Cuts
 pub mod Lends
+pub mod Renamed
 pub mod Widths

@@ -4,6 +4,7 @@
 mod const_expr;
 mod copies;
 mod instr;
+pub mod laws;
 mod memory;
 mod operators;
 mod seq;

@@ -29,5 +29,16 @@ pub use walrus_walks::{Visit, VisitMut, Visitor, VisitorMut};
 pub mod laws {
     pub use walrus_arena::laws as arenas;
     pub use walrus_forms::laws as forms;
+    pub use walrus_instr::laws as constants;
+    pub use walrus_type_order::laws as sorting;
     pub use walrus_types::laws as types;
+    pub use walrus_walks::laws as walks;
+
+    /// Laws of tables of types: what is read and emitted, once and again, and in another order.
+    pub mod tables {
+        pub use walrus_swap_law::{records_have_no_entries, swap_changes_nothing};
+        pub use walrus_type_laws::{
+            alike_tables_are_written_alike, second_round_is_first, sections_are_carried,
+        };
+    }
 }

@@ -9,4 +9,5 @@ pub mod Threaded
 pub mod Keeping
 pub mod Visiting
 pub mod Orders
+pub mod Plain
 pub mod Holding

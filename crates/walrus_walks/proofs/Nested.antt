@@ -87,7 +87,7 @@ squeezed_is_rank b rank r k h =
     (s.0, s.1, falls_squeezed b rank r k p (slice_get_within b k s.0 s.1) (children_in s.0.instrs.items) s.2)
 
 -- two walks agree on these sequences
-abbrev Agree : (ℕ → List Event) → (ℕ → List Event) → List ℕ → Type 0
+abbrev pub Agree : (ℕ → List Event) → (ℕ → List Event) → List ℕ → Type 0
 Agree w v [] = Unit {0}
 Agree w v (k ∷ ks) = (w k ≡ v k) × Agree w v ks
 
@@ -102,7 +102,7 @@ events_agree w v (k ∷ ks) h =
     let f = events_agree w v ks h.1 in
     cc
 
-items_agree : (w v : ℕ → List Event) (is : List (Instr × InstrLocId)) → Agree w v (children_in is) → of_items w is ≡ of_items v is
+pub items_agree : (w v : ℕ → List Event) (is : List (Instr × InstrLocId)) → Agree w v (children_in is) → of_items w is ≡ of_items v is
 items_agree w v [] h = refl
 items_agree w v (i ∷ is) h =
     let p = agree_split w v (children i.0) (children_in is) h in
@@ -116,7 +116,7 @@ seq_agrees w v o s e h =
     let G : List Event → List Event = λ es. StartOf s ∷ (block_names s.ty ++ (es ++ EndOf s ∷ [])) in
     subst F (sym e) (ap G (items_agree w v s.instrs.items h))
 
-falls_agree : (rank : ℕ → ℕ) (w v : ℕ → List Event) (t : ℕ) → ((c : ℕ) → 0 < rank c → rank c < t → w c ≡ v c) → (ks : List ℕ) → Falls rank t ks → Agree w v ks
+pub falls_agree : (rank : ℕ → ℕ) (w v : ℕ → List Event) (t : ℕ) → ((c : ℕ) → 0 < rank c → rank c < t → w c ≡ v c) → (ks : List ℕ) → Falls rank t ks → Agree w v ks
 falls_agree rank w v t same [] f = tt
 falls_agree rank w v t same (c ∷ cs) f = (same c f.0 f.1, falls_agree rank w v t same cs f.2)
 

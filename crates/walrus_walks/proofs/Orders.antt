@@ -41,7 +41,7 @@ nested_last_first b (i ∷ is) h =
     nested_append b (last_first is) (children i.0) (nested_last_first b is p.1) p.0
 
 -- ---- an order deep enough is as good as a deeper one
-orders_agree : (rank : ℕ → ℕ) (w v : ℕ → List ℕ) (t : ℕ) → ((c : ℕ) → 0 < rank c → rank c < t → w c ≡ v c) → (ks : List ℕ) → Falls rank t ks → orders w ks ≡ orders v ks
+pub orders_agree : (rank : ℕ → ℕ) (w v : ℕ → List ℕ) (t : ℕ) → ((c : ℕ) → 0 < rank c → rank c < t → w c ≡ v c) → (ks : List ℕ) → Falls rank t ks → orders w ks ≡ orders v ks
 orders_agree rank w v t same [] f = refl
 orders_agree rank w v t same (c ∷ cs) f =
     let e = same c f.0 f.1 in

@@ -6,4 +6,5 @@ pub mod Walk
 pub mod Changes
 pub mod Changing
 pub mod Order
+pub mod Plain
 pub mod Fronts

@@ -2,6 +2,7 @@
 #![tactic(auto)]
 
 mod in_order;
+pub mod laws;
 mod nesting;
 mod pre_order_mut;
 mod steps;

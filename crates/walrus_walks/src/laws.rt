@@ -1,0 +1,29 @@
+//! Laws of the words that the contracts of this crate cite. Each function is its contract alone.
+ghost use Rattle.walrus_walks.specs.Plain.{HeldAreNested, WalkIsPlain, PlainWalkIsOne, OrderIsPlain, PlainOrderIsOne, OrderIsKept, ChangesArePlain};
+
+use crate::visitor_mut::VisitorMut;
+
+/// The sequences that a nested sequence holds are nested.
+pub fn held_are_nested()
+    ensures { HeldAreNested }
+{}
+
+/// The walk of a nested sequence is its start, what its block type names, each instruction with what it
+/// names and the walks of what it holds, and its end; and nothing else is so.
+pub fn walk_is_plain()
+    ensures plain { WalkIsPlain }
+    ensures one { PlainWalkIsOne }
+{}
+
+/// The order of the walk that changes is a nested sequence, then the orders of what it holds; and
+/// nothing else is so. It is the same after the walk.
+pub fn order_is_plain()
+    ensures plain { OrderIsPlain }
+    ensures one { PlainOrderIsOne }
+    ensures kept { OrderIsKept }
+{}
+
+/// A walk that changes a nested sequence changes that, and then walks what it holds, one after the other.
+pub fn changes_are_plain<V: VisitorMut>()
+    ensures { ChangesArePlain V.step }
+{}
