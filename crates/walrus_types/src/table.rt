@@ -306,7 +306,8 @@ impl ModuleTypes {
         Types::new(self.types.iter())
     }
 
-    /// The live groups, by rising id. Each live type stands in exactly one of them, once.
+    /// The live groups, by rising id. Each live type stands in exactly one of them, once, and the types of
+    /// a later one have the higher ids.
     pub fn rec_groups(&self) -> RecGroups<'_>
         ensures groups { result ≡ map (λ e. e.1) (entries_from 0 self.now.groups) }
         ensures grouped { AreGrouped self.now }
