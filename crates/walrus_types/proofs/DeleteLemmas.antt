@@ -9,7 +9,7 @@ use Rattle.walrus_arena.proofs.ArenaLemmas.{live-within, at-other, at-deleted}
 use Rattle.walrus_items.specs.declared.subtype.RecGroup.{RecGroup}
 use Rattle.walrus_items.specs.Items.{Item, Group, item_of, group_of}
 use Rattle.walrus_items.specs.declared.subtype.Type.{«Type» as TypeItem}
-use Rattle.walrus_types.specs.Table.{Table, IsGrouped, HasMember, Deletes, DeletesGroup, table_of, group_at, type_at, nonempty_group, without_member, clear_all}
+use Rattle.walrus_types.specs.Table.{Table, RiseBelow, IsGrouped, HasMember, Deletes, DeletesGroup, table_of, group_at, type_at, nonempty_group, without_member, clear_all}
 use Rattle.walrus_types.proofs.TableLemmas.{at-map, held}
 
 -- a group with a member is no empty one
@@ -139,6 +139,7 @@ grouped-deleted types groups homes id home group g at_home is_group =
           (AllPairs-filter (λ x y. x ≢ y) (λ m. not (m == id)) group.types (g.once home group is_group)))
           (λ apart. g.once place h (sym (at-other groups (without_member id group) home place apart) ∙ at))
           (cases_eq place home);
+      homes_rise = subst (λ (n : ℕ). RiseBelow n homes) (sym (length-set groups home (without_member id group))) g.homes_rise;
     }
 
 -- deleting all of a list's ids leaves the others
@@ -193,6 +194,7 @@ grouped-cleared types groups homes home group g is_group = record {
       let kept = cleared-at group.types types other (λ doomed. let d = g.member home group is_group other doomed in old.1 (sym m.2 ∙ d.2)) in
       (m.0, kept ∙ m.1, m.2);
   once = λ place h at. g.once place h (at-deleted groups home place h at).0;
+  homes_rise = subst (λ (n : ℕ). RiseBelow n homes) (sym (length-set groups home None)) g.homes_rise;
 }
 
 -- a type's home is the one group that lists it

@@ -14,7 +14,7 @@ use Rattle.walrus_forms.specs.Kinds.{Kind}
 use Rattle.walrus_items.specs.declared.subtype.RecGroup.{RecGroup}
 use Rattle.walrus_types.specs.Groups.{new_items, group_slot, AddsGroup}
 use Rattle.walrus_types.specs.Table.{Table, next_id, latest_in, merges, table_of, IsIndex, IsGrouped, IsSound}
-use Rattle.walrus_types.proofs.TableLemmas.{latest_in-push}
+use Rattle.walrus_types.proofs.TableLemmas.{latest_in-push, rise-more}
 
 -- one more number
 pub range-more : (n a b : ℕ) → a + n ≡ b → range_with_len a (n + 1) ≡ range_with_len a n ++ b ∷ []
@@ -103,6 +103,8 @@ grouped-group types news groups homes tail count home explicit g is_home sized_n
           let b = get_or-range_with_len (length types) count j d bound in
           omega (arith, a, b, same)))
           (at-push groups alone h place at);
+      homes_rise = rise-more homes tail (length groups) (length (groups ++ Some alone ∷ [])) g.homes_rise (omega (arith, length-append groups (Some alone ∷ [])))
+          (λ k less. at_tail k (omega arith) ∙ sym is_home);
     }
 
 -- types that were made, as a table shows them

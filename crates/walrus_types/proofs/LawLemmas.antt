@@ -1,8 +1,9 @@
 -- The laws of the words on types and tables.
-use Rattle.std.proofs.Common.{◌≡◌, ◌∙◌, ℕ, zero, suc, ◌+◌, ◌<◌, Bool, true, false, cond, List, [], ◌∷◌, Option, Some, None, slice_index, slice_index_or, map, refl, sym, ap, arith, ◌⊎◌, inl, inr, ⊎_elim, subst}
+use Rattle.std.proofs.Common.{◌≡◌, ◌∙◌, ℕ, zero, suc, ◌+◌, ◌<◌, Bool, true, false, cond, List, [], ◌∷◌, length, Option, Some, None, slice_index, slice_index_or, map, refl, sym, ap, arith, ◌⊎◌, inl, inr, ⊎_elim, subst}
 use Rattle.std.specs.Option.{option_map, MatchOption}
-use Rattle.std.proofs.lemmas.Bool.{cases_Bool}
+use Rattle.std.proofs.lemmas.Bool.{cases_Bool, cases_eq, cases_lt}
 use Rattle.walrus_arena.specs.Arena.{entries_from}
+use Rattle.walrus_arena.proofs.ArenaLemmas.{live-within}
 use Rattle.walrus_items.specs.declared.subtype.Type.{«Type» as TypeItem}
 use Rattle.walrus_items.specs.declared.subtype.RecGroup.{RecGroup}
 use Rattle.walrus_items.specs.Items.{Item, item_of, group_of}
@@ -21,6 +22,17 @@ grouped-law types groups homes t g view = subst AreGrouped view (record {
   one = λ id p q a b at_p in_a at_q in_b.
       sym (g.member p a at_p id in_a).2 ∙ (g.member q b at_q id in_b).2;
   once = g.once;
+  rising = λ p q a b less at_p at_q i j in_a in_b.
+      let m = g.member p a at_p i in_a in
+      let n = g.member q b at_q j in_b in
+      let within : i < length homes = omega (arith, g.sized, live-within (map (option_map item_of) types) i m.0 m.1) in
+      ⊎_elim
+      (λ ordered. ordered)
+      (λ past. ⊎_elim
+      (λ same. let h : slice_index homes i ≡ slice_index homes j = ap (λ (k : ℕ). slice_index homes k) same in absurd (omega (arith, h, m.2, n.2)))
+      (λ apart. let h = g.homes_rise.rising j i (let before : j < i = omega (arith, apart) in before) within in absurd (omega (arith, h, m.2, n.2)))
+      (cases_eq i j))
+      (cases_lt i j);
 })
 
 -- what a search for the latest finds: what was found before where none passes, or the latest that passes

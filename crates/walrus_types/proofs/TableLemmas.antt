@@ -1,10 +1,11 @@
 -- The table over its adds, deletes and writes: groups and index.
-use Rattle.std.proofs.Common.{◌≡◌, ◌∙◌, ℕ, ◌+◌, ◌<◌, Bool, true, false, cond, not, ◌&&◌, ◌==◌, List, [], ◌∷◌, ◌++◌, length, map, Contains, Option, Some, None, slice_index, slice_index_or, slice_set, refl, sym, ap, arith, ⊎_elim, length-append, IsSome, Bor, subst}
+use Rattle.std.proofs.Common.{◌≡◌, ◌∙◌, ℕ, ◌+◌, ◌-◌, ◌<◌, ◌≤◌, Bool, true, false, cond, not, ◌&&◌, ◌==◌, List, [], ◌∷◌, ◌++◌, length, map, Contains, Option, Some, None, slice_index, slice_index_or, slice_set, refl, sym, ap, arith, ◌⊎◌, inl, inr, ⊎_elim, length-append, IsSome, Bor, subst}
 use Rattle.std.specs.Option.{option_map, option_copied, MatchOption}
 use Rattle.std.specs.List.{list_any}
-use Rattle.std.proofs.lemmas.Bool.{cases_eq, and_right}
+use Rattle.std.proofs.lemmas.Bool.{cases_eq, cases_lt, and_right}
 use Rattle.std.proofs.lemmas.List.{get_or_push, get_or_append_left, get_or-set_same, length-set, length-map, map-append}
 use Rattle.std.proofs.Math.ListN.{get_or-map}
+use Rattle.std.proofs.Math.Seq.{get_or-append_right}
 use Rattle.walrus_arena.specs.Arena.{entries_from}
 use Rattle.walrus_arena.proofs.ArenaLemmas.{live-within, at-kept, at-last, at-push, at-other, entries_from-push}
 use Rattle.walrus_items.specs.declared.subtype.Type.{«Type» as TypeItem}
@@ -15,7 +16,7 @@ use Rattle.walrus_forms.specs.Same.{same_kind}
 use Rattle.walrus_items.specs.contracts.subtype.TypePartialEq.TheImpl.{ghosts as type_eq}
 use Rattle.walrus_types.proofs.SameLemmas.{type_eq-kinds}
 use Rattle.std.proofs.Math.Bool.{and-true}
-use Rattle.walrus_types.specs.Table.{Table, HasMember, group_at, entries, latest_in, merges, table_of, IsIndex, IsGrouped, IsSound}
+use Rattle.walrus_types.specs.Table.{Table, HasMember, group_at, entries, latest_in, merges, table_of, IsIndex, RiseBelow, IsGrouped, IsSound}
 
 -- a look-up in mapped slots
 pub at-map : {X Y : Type 0} (f : X → Y) (slots : List (Option X)) (id : ℕ) → slice_index_or (map (option_map f) slots) id None ≡ option_map f (slice_index_or slots id None)
@@ -34,6 +35,34 @@ pub latest_in-push : (es : List (ℕ × Item)) (test : ℕ × Item → Bool) (fo
 latest_in-push [] test found e = refl
 latest_in-push (first ∷ rest) test found e = latest_in-push rest test (cond (test first) (Some first.0) found) e
 
+-- a number of a list, or one of those behind it
+rise-cases : (xs tail : List ℕ) (x i : ℕ) → ((k : ℕ) → k < length tail → slice_index tail k ≡ x) → i < length (xs ++ tail)
+    → ((i < length xs) × (slice_index (xs ++ tail) i ≡ slice_index xs i)) ⊎ ((length xs ≤ i) × (slice_index (xs ++ tail) i ≡ x))
+rise-cases xs tail x i all less = ⊎_elim
+    (λ before. inl (before, get_or_append_left xs tail 0 i before))
+    (λ past. inr (
+      omega arith,
+      get_or-append_right xs tail i 0 (omega arith) ∙ all (i - length xs) (omega (arith, length-append xs tail)),
+    ))
+    (cases_lt i (length xs))
+
+-- more numbers, all of them the bound before
+pub rise-more : (xs tail : List ℕ) (count more : ℕ) → RiseBelow count xs → count < more
+    → ((k : ℕ) → k < length tail → slice_index tail k ≡ count) → RiseBelow more (xs ++ tail)
+rise-more xs tail count more r less all = record {
+  below = λ i within. ⊎_elim
+      (λ old. let h = r.below i old.0 in omega (arith, old.1))
+      (λ new. omega (arith, new.1))
+      (rise-cases xs tail count i all within);
+  rising = λ i j first within. ⊎_elim
+      (λ old. let here = get_or_append_left xs tail 0 i (omega (arith, old.0)) in let h = r.rising i j first old.0 in omega (arith, old.1, here))
+      (λ new. ⊎_elim
+      (λ old. let h = r.below i old.0 in omega (arith, old.1, new.1))
+      (λ later. omega (arith, later.1, new.1))
+      (rise-cases xs tail count i all (omega arith)))
+      (rise-cases xs tail count j all within);
+}
+
 -- no types, no groups
 pub grouped-nil : IsGrouped [] [] []
 grouped-nil = record {
@@ -41,6 +70,7 @@ grouped-nil = record {
   listed = λ id item at. absurd cc;
   member = λ group g at id in_it. absurd cc;
   once = λ group g at. absurd cc;
+  homes_rise = record { below = λ i less. absurd (omega arith); rising = λ i j less within. absurd (omega arith) };
 }
 
 -- a type is written over a live one
@@ -67,6 +97,7 @@ grouped-written types groups homes id old new g live =
           (λ apart. (m.0, at-other types (Some new) id other apart ∙ m.1, m.2))
           (cases_eq other id);
       once = g.once;
+      homes_rise = g.homes_rise;
     }
 
 -- a list of one has that one alone
@@ -119,6 +150,8 @@ grouped-added types groups homes id home item explicit g is_id is_home =
           let n : length h.types ≡ 1 = ap (λ (x : Group). length x.types) last.1 in
           absurd (omega arith))
           (at-push groups alone h group at);
+      homes_rise = rise-more homes (home ∷ []) (length groups) (length (groups ++ Some alone ∷ [])) g.homes_rise (omega (arith, length-append groups (Some alone ∷ [])))
+          (λ k less. ap (λ (i : ℕ). slice_index (home ∷ []) i) (let zeroth : k ≡ 0 = omega arith in zeroth) ∙ sym is_home);
     }
 
 -- the index of no types

@@ -1,5 +1,5 @@
 -- What a contract sees of a type table: the types and the groups by id, live or dead.
-use Rattle.std.specs.Prelude.{◌≡◌, ◌≢◌, ℕ, Bool, true, false, not, ◌&&◌, ◌==◌, List, [], ◌∷◌, ◌++◌, length, map, filter, find, Contains, AllPairs, Option, Some, None, IsSome, IsTrue, MatchOption, slice_index, slice_index_or, slice_set, if◌then◌else◌}
+use Rattle.std.specs.Prelude.{◌≡◌, ◌≢◌, ℕ, ◌<◌, ◌≤◌, Bool, true, false, not, ◌&&◌, ◌==◌, List, [], ◌∷◌, ◌++◌, length, map, filter, find, Contains, AllPairs, Option, Some, None, IsSome, IsTrue, MatchOption, slice_index, slice_index_or, slice_set, if◌then◌else◌}
 use Rattle.std.specs.List.{list_any}
 use Rattle.std.specs.Option.{option_map, option_map_or}
 use Rattle.walrus_arena.specs.Arena.{entries_from}
@@ -125,7 +125,13 @@ is_named_in t id group = list_any (λ other. not (other == id) && is_named_at t 
 abbrev pub IsIndex : (TypeItem → Option ℕ) → List (Option Item) → Type 0
 IsIndex lookup types = (q : TypeItem) → lookup q ≡ latest_in (merges (kind_of q)) None (entries_from 0 types)
 
--- each live type stands in one group, its home, once, and groups have live members alone
+-- the numbers are below the count, and never fall along the list
+pub record RiseBelow (count : ℕ) (xs : List ℕ) : Type 0 where
+  pub below : (i : ℕ) → i < length xs → slice_index xs i < count
+  pub rising : (i j : ℕ) → i < j → j < length xs → slice_index xs i ≤ slice_index xs j
+
+-- each live type stands in one group, its home, once, and groups have live members alone; homes never fall
+-- along the ids
 pub record IsGrouped (types : List (Option Item)) (groups : List (Option Group)) (homes : List ℕ) : Type 0 where
   pub sized : length homes ≡ length types
   pub listed : (id : ℕ) (item : Item) → slice_index_or types id None ≡ Some item
@@ -133,6 +139,7 @@ pub record IsGrouped (types : List (Option Item)) (groups : List (Option Group))
   pub member : (group : ℕ) (g : Group) → slice_index_or groups group None ≡ Some g → (id : ℕ) → Contains g.types id
       → (item : Item) × (slice_index_or types id None ≡ Some item) × (slice_index homes id ≡ group)
   pub once : (group : ℕ) (g : Group) → slice_index_or groups group None ≡ Some g → AllPairs (λ x y. x ≢ y) g.types
+  pub homes_rise : RiseBelow (length groups) homes
 
 -- what holds of every table: types are grouped, and while the index is fresh it finds equal types
 pub record IsSound (fresh : Bool) (lookup : TypeItem → Option ℕ) (t : Table) (homes : List ℕ) : Type 0 where

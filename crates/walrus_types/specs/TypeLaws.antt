@@ -10,6 +10,9 @@ pub record AreGrouped (t : Table) : Type 0 where
       → (item : Item) × (type_at t id ≡ Some item)
   pub one : (id p q : ℕ) (g h : Group) → group_at t p ≡ Some g → Contains g.types id → group_at t q ≡ Some h → Contains h.types id → p ≡ q
   pub once : (place : ℕ) (group : Group) → group_at t place ≡ Some group → AllPairs (λ x y. x ≢ y) group.types
+  -- the types of a later group have the higher ids
+  pub rising : (p q : ℕ) (g h : Group) → p < q → group_at t p ≡ Some g → group_at t q ≡ Some h
+      → (i j : ℕ) → Contains g.types i → Contains h.types j → i < j
 
 -- the id has a live type that passes, and no higher id has
 pub record IsLatest (test : ℕ × Item → Bool) (t : Table) (id : ℕ) : Type 0 where

@@ -348,7 +348,7 @@ fn group_records(
 /// The index of each type that was written, a finite map.
 #[derive(Drop)]
 pub struct TypeIndices {
-    indices: Vec<Option<u32>>,
+    pub(crate) indices: Vec<Option<u32>>,
 }
 
 impl Model for TypeIndices {

@@ -1,6 +1,7 @@
 //! The types of WebAssembly as a module's table holds them: by id in place of index.
 #![tactic(auto)]
 
+mod copies;
 mod delete;
 mod emit;
 mod error;

@@ -147,7 +147,8 @@ impl ModuleTypes {
         self.types.get(id).unwrap()
     }
 
-    /// The type of a live id, for writing.
+    /// The type of a live id, for writing. The next add of a single type goes through all types once, as
+    /// the index of equal types is made anew.
     pub fn get_mut(&mut self, id: TypeId) -> &mut Type
         requires { IsLive self.old id }
         ensures* writes_back { sem 𝓛 (lends_type self.entry id result) }
@@ -157,7 +158,8 @@ impl ModuleTypes {
         &mut self.types[id]
     }
 
-    /// Deletes a live type. Its group keeps the other members, and goes where there is none.
+    /// Deletes a live type. Its group keeps the other members, and goes where there is none. The next add
+    /// of a single type goes through all types once, as the index of equal types is made anew.
     pub fn delete(&mut self, id: TypeId)
         requires { IsLive self.old id }
         ensures { Deletes id self.old self.new }
@@ -195,7 +197,8 @@ impl ModuleTypes {
         }
     }
 
-    /// Deletes the group of a live type with all its members.
+    /// Deletes the group of a live type with all its members. The next add of a single type goes through
+    /// all types once, as the index of equal types is made anew.
     pub fn delete_entire_group(&mut self, id: TypeId)
         requires { IsLive self.old id }
         ensures { DeletesGroup id self.old self.new }
@@ -306,7 +309,8 @@ impl ModuleTypes {
         Types::new(self.types.iter())
     }
 
-    /// The live groups, by rising id. Each live type stands in exactly one of them, once.
+    /// The live groups, by rising id. Each live type stands in exactly one of them, once, and the types of
+    /// a later one have the higher ids.
     pub fn rec_groups(&self) -> RecGroups<'_>
         ensures groups { result ≡ map (λ e. e.1) (entries_from 0 self.now.groups) }
         ensures grouped { AreGrouped self.now }

@@ -37,6 +37,9 @@ fn other_forms(rt: HostRuntime) -> Result<(), Fail> {
     let c = types.add_composite(array(), true, None)?;
     let d = types.add_composite(array(), false, None)?;
     assert_eq!(rt; (a.index(), b.index(), c.index(), d.index()), (0, 1, 1, 2));
+    for id in [a, b, c, d] {
+        assert!(rt; types.contains(id));
+    }
     Ok(())
 }
 

@@ -35,7 +35,7 @@ fn link(to: TypeId) -> FieldType {
 }
 
 // An immutable field that refers to the type of this index.
-fn link_to(index: u32) -> FieldRecord {
+pub fn link_to(index: u32) -> FieldRecord {
     FieldRecord {
         element_type: StorageRecord::Val(ValRecord::Ref(RefRecord {
             nullable: true,
@@ -45,16 +45,19 @@ fn link_to(index: u32) -> FieldRecord {
     }
 }
 
-// The form of the single type of the group, if it is one.
+// The form of the single type of the group, if it is one, final and without supertype.
 fn single(group: Option<&GroupRecord>) -> Option<&CompositeRecord> {
     match group {
-        Some(group) if !group.marked && group.types.len() == 1 => Some(&group.types[0].kind),
+        Some(group) if !group.marked && group.types.len() == 1 => match &group.types[0] {
+            ty if ty.is_final && ty.supertype.is_none() => Some(&ty.kind),
+            _ => None,
+        },
         _ => None,
     }
 }
 
 // Whether it is a single function type of this parameter, without results.
-fn is_consumer(group: Option<&GroupRecord>, parameter: ValRecord) -> bool {
+pub fn is_consumer(group: Option<&GroupRecord>, parameter: ValRecord) -> bool {
     match single(group) {
         Some(CompositeRecord::Function { params, results }) => {
             params.as_slice() == [parameter].as_slice() && results.is_empty()
@@ -64,7 +67,7 @@ fn is_consumer(group: Option<&GroupRecord>, parameter: ValRecord) -> bool {
 }
 
 // Whether it is a single structure type of these fields.
-fn is_structure(group: Option<&GroupRecord>, expected: &[FieldRecord]) -> bool {
+pub fn is_structure(group: Option<&GroupRecord>, expected: &[FieldRecord]) -> bool {
     match single(group) {
         Some(CompositeRecord::Struct { fields }) => fields.as_slice() == expected,
         _ => false,
@@ -242,13 +245,46 @@ fn fields_are_ordered(rt: HostRuntime) -> Result<(), Fail> {
 fn functions_are_ordered(rt: HostRuntime) -> Result<(), Fail> {
     let mut types = ModuleTypes::new(rt.alloc());
     types.add(&[ValType::I64], &[])?;
+    types.add(&[ValType::I32, ValType::I64], &[])?;
     types.add(&[ValType::I32, ValType::I32], &[])?;
     types.add(&[ValType::I32], &[ValType::I64])?;
     types.add(&[ValType::I32], &[])?;
     types.add(&[], &[ValType::I64])?;
     let emitted = types.emit()?;
+    for k in 0..6 {
+        assert_eq!(rt; emitted.indices.get(id(k)), Some(5 - k as u32));
+    }
+    Ok(())
+}
+
+#[test]
+fn structures_are_ordered(rt: HostRuntime) -> Result<(), Fail> {
+    let mut types = ModuleTypes::new(rt.alloc());
+    let short = immutable(StorageType::Val(ValType::I32));
+    let long = immutable(StorageType::Val(ValType::I64));
+    let falling: [&[FieldType]; 5] = [&[long], &[short, long], &[short, short], &[short], &[]];
+    for fields in falling {
+        types.add_struct(Vec::from_slice(rt.alloc(), fields)?)?;
+    }
+    let emitted = types.emit()?;
     for k in 0..5 {
         assert_eq!(rt; emitted.indices.get(id(k)), Some(4 - k as u32));
+    }
+    Ok(())
+}
+
+// Adds merge equal types; a type that is written over may come to equal another.
+#[test]
+fn equal_types_stand_by_id(rt: HostRuntime) -> Result<(), Fail> {
+    let mut types = ModuleTypes::new(rt.alloc());
+    types.add_composite(array(), true, None)?;
+    let open = types.add_composite(array(), false, None)?;
+    types.add(&[], &[])?;
+    assert!(rt; types.contains(open));
+    types.get_mut(open).is_final = true;
+    let emitted = types.emit()?;
+    for (k, index) in [1, 2, 0].iter().enumerate() {
+        assert_eq!(rt; emitted.indices.get(id(k)), Some(*index));
     }
     Ok(())
 }

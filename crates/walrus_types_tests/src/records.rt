@@ -5,6 +5,7 @@ ghost use Rattle.walrus_forms.specs.Records.{record_form, type_group, value_of};
 ghost use Rattle.walrus_forms.specs.Renaming.{ValueBelow};
 ghost use Rattle.walrus_types_tests.specs.Records.{NamesBelow};
 
+use crate::emission::{is_consumer, is_structure, link_to};
 use std::alloc::{AllocError, Global};
 use std::test::Fail;
 use walrus_arena::TypeId;
@@ -76,16 +77,52 @@ fn id(index: usize) -> TypeId
     TypeId::from_index(index)
 }
 
-#[test]
-fn singles(rt: HostRuntime) -> Result<(), Fail> {
-    let alloc = rt.alloc();
-    let mut types = ModuleTypes::new(alloc);
+// A function type, an empty structure type, another function type, and the first again.
+fn parse_singles(alloc: Global, types: &mut ModuleTypes) -> Result<Vec<TypeId>, AllocError> {
     let long = function(alloc, false, ValRecord::I64)?;
     let empty = structure(alloc)?;
     let short = function(alloc, false, ValRecord::I32)?;
     let again = function(alloc, false, ValRecord::I64)?;
-    let ids = types.parse_types(&[long, empty, short, again])?;
+    types.parse_types(&[long, empty, short, again])
+}
+
+#[test]
+fn singles(rt: HostRuntime) -> Result<(), Fail> {
+    let mut types = ModuleTypes::new(rt.alloc());
+    let ids = parse_singles(rt.alloc(), &mut types)?;
     assert!(rt; ids.as_slice() == [id(0), id(1), id(2), id(0)].as_slice());
+    let emitted = types.emit()?;
+    assert_eq!(rt; emitted.groups.len(), 3);
+    assert!(rt; is_consumer(emitted.groups.get(0), ValRecord::I32));
+    assert!(rt; is_consumer(emitted.groups.get(1), ValRecord::I64));
+    assert!(rt; is_structure(emitted.groups.get(2), &[]));
+    for (k, index) in [1, 2, 0].iter().enumerate() {
+        assert_eq!(rt; emitted.indices.get(id(k)), Some(*index));
+    }
+    Ok(())
+}
+
+// A function type, a structure type that refers to it, and another function type.
+fn parse_linked(alloc: Global, types: &mut ModuleTypes) -> Result<Vec<TypeId>, AllocError> {
+    let long = function(alloc, false, ValRecord::I64)?;
+    let second = holder(alloc, 0)?;
+    let short = function(alloc, false, ValRecord::I32)?;
+    types.parse_types(&[long, second, short])
+}
+
+#[test]
+fn a_type_between_that_names_another(rt: HostRuntime) -> Result<(), Fail> {
+    let mut types = ModuleTypes::new(rt.alloc());
+    let ids = parse_linked(rt.alloc(), &mut types)?;
+    assert!(rt; ids.as_slice() == [id(0), id(1), id(2)].as_slice());
+    let emitted = types.emit()?;
+    assert_eq!(rt; emitted.groups.len(), 3);
+    assert!(rt; is_consumer(emitted.groups.get(0), ValRecord::I64));
+    assert!(rt; is_structure(emitted.groups.get(1), &[link_to(0)]));
+    assert!(rt; is_consumer(emitted.groups.get(2), ValRecord::I32));
+    for k in 0..3 {
+        assert_eq!(rt; emitted.indices.get(id(k)), Some(k as u32));
+    }
     Ok(())
 }
 
@@ -93,11 +130,7 @@ fn singles(rt: HostRuntime) -> Result<(), Fail> {
 fn a_type_that_names_another(rt: HostRuntime) -> Result<(), Fail> {
     let alloc = rt.alloc();
     let mut types = ModuleTypes::new(alloc);
-    let long = function(alloc, false, ValRecord::I64)?;
-    let second = holder(alloc, 0)?;
-    let short = function(alloc, false, ValRecord::I32)?;
-    let ids = types.parse_types(&[long, second, short])?;
-    assert!(rt; ids.as_slice() == [id(0), id(1), id(2)].as_slice());
+    parse_linked(alloc, &mut types)?;
     let named = id(1);
     assert!(rt; types.contains(named));
     let mut names = Vec::new(alloc);
@@ -142,6 +175,21 @@ fn copies_of_records(rt: HostRuntime) -> Result<(), Fail> {
     let group = function(rt.alloc(), true, ValRecord::I64)?;
     let copy = group.clone(rt.alloc())?;
     assert!(rt; copy == group);
+    Ok(())
+}
+
+#[test]
+fn copies_of_what_is_written(rt: HostRuntime) -> Result<(), Fail> {
+    let mut types = ModuleTypes::new(rt.alloc());
+    parse_linked(rt.alloc(), &mut types)?;
+    let emitted = types.emit()?;
+    let copy = emitted.clone(rt.alloc())?;
+    assert!(rt; copy.groups.as_slice() == emitted.groups.as_slice());
+    let indices = emitted.indices.clone()?;
+    for k in 0..4 {
+        assert_eq!(rt; copy.indices.get(id(k)), emitted.indices.get(id(k)));
+        assert_eq!(rt; indices.get(id(k)), emitted.indices.get(id(k)));
+    }
     Ok(())
 }
 

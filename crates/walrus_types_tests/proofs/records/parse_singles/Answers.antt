@@ -1,8 +1,8 @@
 use Rattle.std.proofs.Common.{arith}
-use Rattle.walrus_types_tests.proofs.records.singles.Goals as goal
+use Rattle.walrus_types_tests.proofs.records.parse_singles.Goals as goal
 
 pub parse_types-requires : goal.parse_types-requires
-parse_types-requires g c = (
+parse_types-requires c = (
   c.in_ok-long.ensures.1 _ (omega (arith, c.in_ok-long.ensures.0)),
   (
     c.in_ok-empty.ensures.1 _ (omega (arith, c.in_ok-long.ensures.0, c.in_ok-empty.ensures.0)),
