@@ -7,6 +7,7 @@ pub mod MergerLemmas
 pub mod OrderLemmas
 pub mod PairLemmas
 pub mod ParseLemmas
+pub mod RankLemmas
 pub mod SameLemmas
 pub mod TableLemmas
 pub mod SameOnce

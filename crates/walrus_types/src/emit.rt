@@ -8,11 +8,13 @@ ghost use Rattle.walrus_items.specs.Items.{kind_of, group_of};
 ghost use Rattle.walrus_types.specs.Table.{table_of};
 ghost use Rattle.walrus_types.specs.Emission.{written_kind, is_written, written_groups, key_of, no_group, AreInOrder, written_in, written_types, AreIndices, index_at, fault_at, first_fault, group_names, groups_fault, described_group, IsEmission, IsRefusal};
 ghost use Rattle.walrus_types.specs.Parsing.{AreBelow};
+ghost use Rattle.walrus_types.specs.Ranks.{ranked};
 ghost use Rattle.walrus_forms.specs.Kinds.{kind_names};
 ghost use Rattle.walrus_forms.specs.Records.{record_kind, type_group};
 ghost use Rattle.walrus_forms.specs.Renaming.{renamed_kind};
 
 use crate::error::IrError;
+use crate::rank::with_rank;
 use crate::table::ModuleTypes;
 use std::alloc::{AllocError, Global};
 use std::marker::Model;
@@ -79,19 +81,19 @@ fn key_of<'a>(
     Ok(if names.is_empty() { Some(ty) } else { None })
 }
 
-// The types by which these groups are sorted.
+// The types by which these groups are sorted, with their ranks.
 fn keys_of<'a>(
     alloc: Global,
     types: &'a TombstoneArena<Type, TypeSpace>,
     groups: &[&RecGroup],
-) -> Result<Vec<Option<&'a Type>>, AllocError>
-    ensures { IfOk result (λ keys. map (option_map (λ ty. kind_of ty.now)) keys.items
-        ≡ map (key_of (table_of types.now.slots [])) (map (λ g. group_of g.now) groups.now)) }
+) -> Result<Vec<Option<(u64, &'a Type)>>, AllocError>
+    ensures { IfOk result (λ keys. map (option_map (λ k. (k.0, kind_of k.1.now))) keys.items
+        ≡ map (option_map ranked) (map (key_of (table_of types.now.slots [])) (map (λ g. group_of g.now) groups.now))) }
 {
     let mut names = Vec::new(alloc);
     let mut keys = Vec::with_capacity(alloc, groups.len())?;
     for group in groups {
-        keys.push(key_of(types, group, &mut names)?)?;
+        keys.push(with_rank(key_of(types, group, &mut names)?))?;
     }
     Ok(keys)
 }
