@@ -109,7 +109,7 @@ indices-step count types indices x i within small is are =
     (indices-more count (take i types) indices x i are (subst (λ n. n < count) (sym is) below) (sym (length-take-le i types (omega arith))))
 
 -- what is wrong with the first of two lists of names
-or-assoc : (a b c : Option IrError) → option_or (option_or a b) c ≡ option_or a (option_or b c)
+pub or-assoc : (a b c : Option IrError) → option_or (option_or a b) c ≡ option_or a (option_or b c)
 or-assoc None b c = refl
 or-assoc (Some a) b c = refl
 
@@ -237,7 +237,7 @@ fault-refuses t Dead h = h
 fault-refuses t EntryOnly h = h
 fault-refuses t Later h = h
 
-abbrev shown-groups : List (Bor RecGroup) → List Group
+abbrev pub shown-groups : List (Bor RecGroup) → List Group
 shown-groups gs = map (λ (g : Bor RecGroup). group_of g.now) gs
 
 -- the code's lists are those of the definition

@@ -1,4 +1,5 @@
 pub mod BelowLemmas
+pub mod BlockLemmas
 pub mod DeleteLemmas
 pub mod EmitLemmas
 pub mod GroupLemmas
