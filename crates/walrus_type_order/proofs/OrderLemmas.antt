@@ -1,5 +1,5 @@
 -- Places that are sorted stand in the order in which entries are written.
-use Rattle.std.proofs.Common.{◌≡◌, ◌≢◌, ℕ, ◌+◌, ◌<◌, ◌≤◌, ◌⊎◌, Bool, false, Bor, Ordering, List, length, get_or, map, All, AllPairs, IsPermutation, Option, Some, None, option_copied, refl, sym, ap, subst, ◌∙◌, inl, inr, arith}
+use Rattle.std.proofs.Common.{◌≡◌, ◌≢◌, ℕ, ◌<◌, ◌≤◌, ◌⊎◌, Bool, false, Ordering, List, length, map, All, AllPairs, IsPermutation, Option, Some, None, refl, sym, ap, subst, ◌∙◌, inl, inr, arith}
 use Rattle.std.specs.Prelude.{slice_get}
 use Rattle.std.specs.declared.cmp.Ordering.TheVariants.{Less, Equal, Greater}
 use Rattle.std.specs.Option.{option_cmp}
@@ -21,7 +21,7 @@ use Rattle.walrus_type_order.proofs.ListLemmas.{numbers_in_order, distinct_range
 
 -- places as they are compared, seen through their keys
 abbrev key_cmp : {T : Type 0} → (T → T → Ordering) → Place T → Place T → Ordering
-key_cmp cmp p q = option_cmp cmp (option_copied p.key) (option_copied q.key)
+key_cmp cmp p q = option_cmp cmp p.key q.key
 
 abbrev pub place_cmp : {T : Type 0} → (T → T → Ordering) → Place T → Place T → Ordering
 place_cmp cmp p q = ordering_then (nat_cmp p.anchors q.anchors) (ordering_then (key_cmp cmp p q) (nat_cmp p.position q.position))
@@ -29,22 +29,8 @@ place_cmp cmp p q = ordering_then (nat_cmp p.anchors q.anchors) (ordering_then (
 abbrev pub place_lt : {T : Type 0} → (T → T → Ordering) → Place T → Place T → Bool
 place_lt cmp p q = is_lt (place_cmp cmp p q)
 
-keys_same : {T : Type 0} (cmp : T → T → Ordering) (a b : Option (Bor T)) → option_cmp cmp (option_copied a) (option_copied b) ≡ option_cmp (λ x y. cmp x.now y.now) a b
-keys_same cmp None None = refl
-keys_same cmp None (Some y) = refl
-keys_same cmp (Some x) None = refl
-keys_same cmp (Some x) (Some y) = refl
-
--- sorted by what the code compares: the keys that are lent
-pub sorted_lent : {T : Type 0} (cmp : T → T → Ordering) (sorted : List (Place T)) →
-    IsSortedBy (λ (p q : Place T). is_lt (ordering_then (nat_cmp p.anchors q.anchors) (ordering_then (option_cmp (λ x y. cmp x.now y.now) p.key q.key) (nat_cmp p.position q.position)))) sorted → IsSortedBy (place_lt cmp) sorted
-sorted_lent cmp sorted up = λ k d low high.
-    let p = get_or sorted (k + 1) d in
-    let q = get_or sorted k d in
-    ap (λ (o : Ordering). is_lt (ordering_then (nat_cmp p.anchors q.anchors) (ordering_then o (nat_cmp p.position q.position)))) (keys_same cmp p.key q.key) ∙ up k d low high
-
 place_order : {T : Type 0} (cmp : T → T → Ordering) → IsTotalOrder cmp → IsStrictWeakOrder (place_lt cmp)
-place_order {T} cmp total = ranks_by (then_total (on_total (λ (p : Place T). p.anchors) nat_cmp_total) (then_total (on_total (λ (p : Place T). option_copied p.key) (options_total total)) (on_total (λ (p : Place T). p.position) nat_cmp_total))) (λ (p : Place T). p)
+place_order {T} cmp total = ranks_by (then_total (on_total (λ (p : Place T). p.anchors) nat_cmp_total) (then_total (on_total (λ (p : Place T). p.key) (options_total total)) (on_total (λ (p : Place T). p.position) nat_cmp_total))) (λ (p : Place T). p)
 
 not_more : (a b : ℕ) (o : Ordering) → is_lt (ordering_then (nat_cmp a b) o) ≡ false → b ≤ a
 not_more a b o h = grind (arith, nat_tests)
@@ -79,10 +65,10 @@ module _ {T : Type 0} (cmp : T → T → Ordering) (total : IsTotalOrder cmp) (e
         | inr at ↦
             let same : has.position ≡ q.position = omega arith in
             let low : anchors_upto entries q.position ≤ anchors_upto entries p.position = anchors_le entries q.position p.position (omega arith) p_in in
-            let no_key : option_copied q.key ≡ None = sym (same_Some _ _ (sym (subst (λ n. slice_get entries n ≡ Some None) same has.anchor) ∙ is_q.key)) in
-            let keys : is_lt (ordering_then (option_cmp cmp (option_copied q.key) (option_copied p.key)) (nat_cmp q.position p.position)) ≡ false = when_equal q.anchors p.anchors _ (omega arith) h in
-            let first : is_lt (ordering_then (option_cmp cmp None (option_copied p.key)) (nat_cmp q.position p.position)) ≡ false = subst (λ (k : Option T). is_lt (ordering_then (option_cmp cmp k (option_copied p.key)) (nat_cmp q.position p.position)) ≡ false) no_key keys in
-            let anchor : slice_get entries p.position ≡ Some None = before_anchor (option_copied p.key) (nat_cmp q.position p.position) p.position is_p.key first in
+            let no_key : q.key ≡ None = sym (same_Some _ _ (sym (subst (λ n. slice_get entries n ≡ Some None) same has.anchor) ∙ is_q.key)) in
+            let keys : is_lt (ordering_then (option_cmp cmp q.key p.key) (nat_cmp q.position p.position)) ≡ false = when_equal q.anchors p.anchors _ (omega arith) h in
+            let first : is_lt (ordering_then (option_cmp cmp None p.key) (nat_cmp q.position p.position)) ≡ false = subst (λ (k : Option T). is_lt (ordering_then (option_cmp cmp k p.key) (nat_cmp q.position p.position)) ≡ false) no_key keys in
+            let anchor : slice_get entries p.position ≡ Some None = before_anchor p.key (nat_cmp q.position p.position) p.position is_p.key first in
             let more : anchors_upto entries q.position < anchors_upto entries p.position = anchors_lt entries q.position p.position p.position before (omega arith) p_in anchor in
             omega arith
       ]
@@ -105,12 +91,12 @@ module _ {T : Type 0} (cmp : T → T → Ordering) (total : IsTotalOrder cmp) (e
 
   lesser : (p q : Place T) → IsPlaceIn entries p → IsPlaceIn entries q → p.position ≢ q.position → place_lt cmp q p ≡ false → (HasAnchor entries p.position q.position → ⊥) → IsLess cmp entries p.position q.position
   lesser p q is_p is_q differ h none = λ x y at_x at_y.
-      let keys : is_lt (ordering_then (option_cmp cmp (option_copied q.key) (option_copied p.key)) (nat_cmp q.position p.position)) ≡ false = when_equal q.anchors p.anchors _ (undivided p q is_p is_q differ h none) h in
-      let is_x : option_copied p.key ≡ Some x = same_Some _ _ (sym is_p.key ∙ at_x) in
-      let is_y : option_copied q.key ≡ Some y = same_Some _ _ (sym is_q.key ∙ at_y) in
+      let keys : is_lt (ordering_then (option_cmp cmp q.key p.key) (nat_cmp q.position p.position)) ≡ false = when_equal q.anchors p.anchors _ (undivided p q is_p is_q differ h none) h in
+      let is_x : p.key ≡ Some x = same_Some _ _ (sym is_p.key ∙ at_x) in
+      let is_y : q.key ≡ Some y = same_Some _ _ (sym is_q.key ∙ at_y) in
       let known : is_lt (ordering_then (cmp y x) (nat_cmp q.position p.position)) ≡ false =
       subst (λ (k : Option T). is_lt (ordering_then (option_cmp cmp (Some y) k) (nat_cmp q.position p.position)) ≡ false) is_x
-      (subst (λ (k : Option T). is_lt (ordering_then (option_cmp cmp k (option_copied p.key)) (nat_cmp q.position p.position)) ≡ false) is_y keys) in
+      (subst (λ (k : Option T). is_lt (ordering_then (option_cmp cmp k p.key) (nat_cmp q.position p.position)) ≡ false) is_y keys) in
       less_by cmp total x y p.position q.position differ (cmp y x) refl known
 
   -- the positions of sorted places

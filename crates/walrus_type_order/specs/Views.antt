@@ -42,6 +42,11 @@ module _ {X Y : Type 0} (f : X → Y) where
       let is : cmp a.0 b.0 ≡ by y z = same a.0 b.0 ∙ ap (λ (v : Y). by v (f b.0)) a.2 ∙ ap (λ (v : Y). by y v) b.2 in
       subst (λ (o : Ordering). (o ≡ Less) ⊎ ((o ≡ Equal) × (i < j))) is (less a.0 b.0 a.1 b.1)
 
+  less_under : (cmp : X → X → Ordering) (by : Y → Y → Ordering) → ((a b : X) → by (f a) (f b) ≡ cmp a b) → (es : List (Option X)) (i j : ℕ) → IsLess by (map (option_map f) es) i j → IsLess cmp es i j
+  less_under cmp by same es i j less = λ x y at_x at_y.
+      subst (λ (o : Ordering). (o ≡ Less) ⊎ ((o ≡ Equal) × (i < j))) (same x y)
+      (less (f x) (f y) (slice_get-map (option_map f) es i ∙ ap (option_map (option_map f)) at_x) (slice_get-map (option_map f) es j ∙ ap (option_map (option_map f)) at_y))
+
   -- what compares as the keys do may stand for them
   pub ordered_by : (cmp : X → X → Ordering) (by : Y → Y → Ordering) → ((a b : X) → cmp a b ≡ by (f a) (f b)) → (es : List (Option X)) (order : List ℕ) →
       IsEmissionOrder cmp es order → IsEmissionOrder by (map (option_map f) es) order
@@ -49,4 +54,13 @@ module _ {X Y : Type 0} (f : X → Y) where
     whole = subst (λ n. IsPermutation (range_with_len 0 n) order) (sym (length-map es (option_map f))) is.whole;
     anchored = λ i j d before small has. is.anchored i j d before small (anchor_of es _ _ has);
     sorted = λ i j d before small none. less_of cmp by same es _ _ (is.sorted i j d before small (λ has. none (anchor_forth es _ _ has)));
+  }
+
+  -- and the keys for it
+  pub ordered_under : (cmp : X → X → Ordering) (by : Y → Y → Ordering) → ((a b : X) → by (f a) (f b) ≡ cmp a b) → (es : List (Option X)) (order : List ℕ) →
+      IsEmissionOrder by (map (option_map f) es) order → IsEmissionOrder cmp es order
+  ordered_under cmp by same es order is = record {
+    whole = subst (λ n. IsPermutation (range_with_len 0 n) order) (length-map es (option_map f)) is.whole;
+    anchored = λ i j d before small has. is.anchored i j d before small (anchor_forth es _ _ has);
+    sorted = λ i j d before small none. less_under cmp by same es _ _ (is.sorted i j d before small (λ has. none (anchor_of es _ _ has)));
   }

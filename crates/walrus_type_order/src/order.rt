@@ -1,5 +1,5 @@
 //! Sorting around anchors.
-ghost use Rattle.std.specs.Prelude.{◌≡◌, ◌<◌, ◌^◌, All, IfOk, length, map, option_copied};
+ghost use Rattle.std.specs.Prelude.{◌≡◌, ◌<◌, ◌^◌, All, IfOk, length, map};
 ghost use Rattle.std.specs.List.{range_with_len};
 ghost use Rattle.walrus_type_order.specs.Order.{IsEmissionOrder};
 ghost use Rattle.walrus_type_order.specs.Places.{IsPlaceIn};
@@ -9,18 +9,18 @@ use std::alloc::{AllocError, Global};
 /// Where an entry is to stand: after the anchors before it, an anchor first in its run, the others by
 /// key, equal ones by position.
 #[derive(PartialEq, Eq, PartialOrd, Ord, Drop)]
-struct Place<'a, T> {
+struct Place<T> {
     // How many anchors stand up to the entry, an anchor itself among them.
     anchors: usize,
     // None for an anchor.
-    key: Option<&'a T>,
+    key: Option<T>,
     position: usize,
 }
 
 /// The places of all entries.
-fn places<'a, T>(alloc: Global, entries: &[Option<&'a T>]) -> Result<Vec<Place<'a, T>>, AllocError>
+fn places<T: Copy>(alloc: Global, entries: &[Option<T>]) -> Result<Vec<Place<T>>, AllocError>
     ensures positions { IfOk result (λ places. map (λ p. p.position) places.items ≡ range_with_len 0 (length entries.now)) }
-    ensures places { IfOk result (λ places. All (IsPlaceIn (map option_copied entries.now)) places.items) }
+    ensures places { IfOk result (λ places. All (IsPlaceIn entries.now) places.items) }
 {
     let mut places = Vec::with_capacity(alloc, entries.len())?;
     let mut anchors = 0;
@@ -38,7 +38,7 @@ fn places<'a, T>(alloc: Global, entries: &[Option<&'a T>]) -> Result<Vec<Place<'
 }
 
 /// The positions of these places.
-fn positions_of<T>(alloc: Global, places: &[Place<'_, T>]) -> Result<Vec<usize>, AllocError>
+fn positions_of<T>(alloc: Global, places: &[Place<T>]) -> Result<Vec<usize>, AllocError>
     ensures { IfOk result (λ positions. positions.items ≡ map (λ p. p.position) places.now) }
 {
     places.iter().map(|place| place.position).collect(alloc)
@@ -53,11 +53,11 @@ fn positions_of<T>(alloc: Global, places: &[Place<'_, T>]) -> Result<Vec<usize>,
 /// # Errors
 ///
 /// Want of memory.
-pub fn emission_order<T: Ord>(
+pub fn emission_order<T: Ord + Copy>(
     alloc: Global,
-    entries: &[Option<&T>],
+    entries: &[Option<T>],
 ) -> Result<Vec<usize>, AllocError>
-    ensures { IfOk result (λ order. IsEmissionOrder T.cmp (map option_copied entries.now) order.items) }
+    ensures { IfOk result (λ order. IsEmissionOrder T.cmp entries.now order.items) }
 {
     let mut places = places(alloc, entries)?;
     places.sort()?;

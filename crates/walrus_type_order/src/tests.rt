@@ -4,18 +4,17 @@ use std::test::Fail;
 
 #[test]
 fn runs_around_anchors(rt: HostRuntime) -> Result<(), Fail> {
-    let (one, two, three) = (1u32, 2u32, 3u32);
     let entries = [
-        Some(&three),
-        Some(&one),
+        Some(3u32),
+        Some(1),
         None,
-        Some(&two),
+        Some(2),
         None,
         None,
-        Some(&three),
-        Some(&one),
-        Some(&three),
-        Some(&two),
+        Some(3),
+        Some(1),
+        Some(3),
+        Some(2),
     ];
     let order = emission_order(rt.alloc(), &entries)?;
     assert_eq!(rt; order.as_slice(), &[1, 0, 2, 3, 4, 5, 7, 9, 6, 8][..]);
@@ -24,7 +23,7 @@ fn runs_around_anchors(rt: HostRuntime) -> Result<(), Fail> {
 
 #[test]
 fn no_entries(rt: HostRuntime) -> Result<(), Fail> {
-    let entries: [Option<&u32>; 0] = [];
+    let entries: [Option<u32>; 0] = [];
     assert!(rt; emission_order(rt.alloc(), &entries)?.is_empty());
     Ok(())
 }

@@ -1,5 +1,5 @@
 -- The order and the indices of the types that are written.
-use Rattle.std.proofs.Common.{◌≡◌, ℕ, ◌+◌, ◌<◌, ◌≤◌, ◌⊎◌, zero, suc, Bor, Bool, true, false, Ordering, List, [], ◌∷◌, ◌++◌, length, get_or, map, take, drop, flat_map, All, Option, Some, None, IsSome, option_copied, refl, sym, ap, subst, ◌∙◌, inl, inr, arith}
+use Rattle.std.proofs.Common.{◌≡◌, ℕ, ◌+◌, ◌<◌, ◌≤◌, ◌⊎◌, zero, suc, Bor, Bool, true, false, Ordering, List, [], ◌∷◌, ◌++◌, length, get_or, map, take, drop, flat_map, All, Option, Some, None, IsSome, refl, sym, ap, subst, ◌∙◌, inl, inr, arith}
 use Rattle.walrus_types.specs.declared.error.IrError.TheVariants.{Memory, WrongCount, Dead, EntryOnly, Later}
 use Rattle.std.specs.Prelude.{nat_lt, is_some, slice_get, slice_index_or, slice_set}
 use Rattle.std.specs.List.{range_with_len}
@@ -21,7 +21,7 @@ use Rattle.walrus_forms.specs.Order.{kind_cmp}
 use Rattle.walrus_forms.specs.Records.{TypeGroup}
 use Rattle.walrus_forms.specs.Renaming.{renamed_kind}
 use Rattle.walrus_type_order.specs.Order.{IsEmissionOrder}
-use Rattle.walrus_type_order.specs.Views.{ordered_by}
+use Rattle.walrus_type_order.specs.Views.{ordered_by, ordered_under}
 use Rattle.walrus_items.specs.declared.subtype.Type.{«Type» as TypeItem}
 use Rattle.walrus_items.specs.contracts.subtype.TypeOrd.TheImpl.{ghosts as type_ord}
 use Rattle.walrus_items.specs.declared.subtype.RecGroup.{RecGroup}
@@ -29,20 +29,28 @@ use Rattle.walrus_types.specs.declared.error.IrError.{IrError}
 use Rattle.walrus_items.specs.Items.{Item, Group, kind_of, item_of, group_of}
 use Rattle.walrus_types.specs.Table.{Table, table_of, type_at}
 use Rattle.walrus_types.specs.Emission.{key_of, written_groups, no_group, AreInOrder, AreIndices, shown_kind, written_kind, written_in, written_types, is_written, first_fault, fault_at, group_names, groups_fault, index_at, described_group, AreArranged, HasFault, IsRefusal}
+use Rattle.walrus_types.specs.Ranks.{ranked}
 use Rattle.walrus_types.proofs.OrderLemmas.{type_ord-kinds}
+use Rattle.walrus_types.proofs.RankLemmas.{rank-first}
+use Rattle.std.specs.Ordering.{ordering_then, nat_cmp}
 
-key-seen : (key : Option (Bor TypeItem)) → option_map kind_of (option_copied key) ≡ option_map (λ (ty : Bor TypeItem). kind_of ty.now) key
-key-seen None = refl
-key-seen (Some ty) = refl
+-- a key seen through its type's kind
+abbrev seen : ℕ × Bor TypeItem → ℕ × Kind
+seen key = (key.0, kind_of key.1.now)
 
-keys-seen : (keys : List (Option (Bor TypeItem))) → map (option_map kind_of) (map option_copied keys) ≡ map (option_map (λ (ty : Bor TypeItem). kind_of ty.now)) keys
-keys-seen [] = refl
-keys-seen (key ∷ keys) = ap (λ (k : Option Kind). k ∷ map (option_map kind_of) (map option_copied keys)) (key-seen key) ∙ ap (λ (ks : List (Option Kind)). option_map (λ (ty : Bor TypeItem). kind_of ty.now) key ∷ ks) (keys-seen keys)
+-- how keys are compared: by rank, and then by type
+abbrev pub key-cmp : ℕ × Bor TypeItem → ℕ × Bor TypeItem → Ordering
+key-cmp a b = ordering_then (nat_cmp a.0 b.0) (type_ord.cmp a.1.now b.1.now)
 
--- an order by types is one by their kinds
-pub order-seen : (keys : List (Option (Bor TypeItem))) (kinds : List (Option Kind)) (order : List ℕ) → map (option_map (λ (ty : Bor TypeItem). kind_of ty.now)) keys ≡ kinds →
-    IsEmissionOrder type_ord.cmp (map option_copied keys) order → IsEmissionOrder kind_cmp kinds order
-order-seen keys kinds order are is = subst (λ (ks : List (Option Kind)). IsEmissionOrder kind_cmp ks order) (keys-seen keys ∙ are) (ordered_by kind_of type_ord.cmp kind_cmp type_ord-kinds (map option_copied keys) order is)
+abbrev ranked-cmp : ℕ × Kind → ℕ × Kind → Ordering
+ranked-cmp a b = ordering_then (nat_cmp a.0 b.0) (kind_cmp a.1 b.1)
+
+-- an order by ranked types is one by their kinds
+pub order-seen : (keys : List (Option (ℕ × Bor TypeItem))) (kinds : List (Option Kind)) (order : List ℕ) → map (option_map seen) keys ≡ map (option_map ranked) kinds →
+    IsEmissionOrder key-cmp keys order → IsEmissionOrder kind_cmp kinds order
+order-seen keys kinds order are is =
+    ordered_under ranked kind_cmp ranked-cmp rank-first kinds order (subst (λ (ks : List (Option (ℕ × Kind))). IsEmissionOrder ranked-cmp ks order) are
+    (ordered_by seen key-cmp ranked-cmp (λ a b. ap (λ (o : Ordering). ordering_then (nat_cmp a.0 b.0) o) (type_ord-kinds a.1.now b.1.now)) keys order is))
 
 range-below : (n : ℕ) → All (λ i. i < n) (range_with_len 0 n)
 range-below n = λ k d below.
@@ -101,7 +109,7 @@ indices-step count types indices x i within small is are =
     (indices-more count (take i types) indices x i are (subst (λ n. n < count) (sym is) below) (sym (length-take-le i types (omega arith))))
 
 -- what is wrong with the first of two lists of names
-or-assoc : (a b c : Option IrError) → option_or (option_or a b) c ≡ option_or a (option_or b c)
+pub or-assoc : (a b c : Option IrError) → option_or (option_or a b) c ≡ option_or a (option_or b c)
 or-assoc None b c = refl
 or-assoc (Some a) b c = refl
 
@@ -229,7 +237,7 @@ fault-refuses t Dead h = h
 fault-refuses t EntryOnly h = h
 fault-refuses t Later h = h
 
-abbrev shown-groups : List (Bor RecGroup) → List Group
+abbrev pub shown-groups : List (Bor RecGroup) → List Group
 shown-groups gs = map (λ (g : Bor RecGroup). group_of g.now) gs
 
 -- the code's lists are those of the definition

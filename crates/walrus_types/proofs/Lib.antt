@@ -1,4 +1,5 @@
 pub mod BelowLemmas
+pub mod BlockLemmas
 pub mod DeleteLemmas
 pub mod EmitLemmas
 pub mod GroupLemmas
@@ -7,6 +8,7 @@ pub mod MergerLemmas
 pub mod OrderLemmas
 pub mod PairLemmas
 pub mod ParseLemmas
+pub mod RankLemmas
 pub mod SameLemmas
 pub mod TableLemmas
 pub mod SameOnce

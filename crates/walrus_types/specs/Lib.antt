@@ -4,6 +4,7 @@ pub mod Groups
 pub mod Mergers
 pub mod Pairs
 pub mod Parsing
+pub mod Ranks
 pub mod Table
 pub mod TableLends
 pub mod TypeLaws

@@ -1,5 +1,5 @@
 //! Writing a table as the records of a type section.
-ghost use Rattle.std.specs.Prelude.{◌≡◌, ◌<◌, ◌≤◌, ◌^◌, ◌++◌, [], None, false, IfOk, OnOk, IfErr, All, length, map, slice_index_or};
+ghost use Rattle.std.specs.Prelude.{◌≡◌, ◌+◌, ◌<◌, ◌≤◌, ◌^◌, ◌++◌, [], Some, None, false, IfOk, OnOk, IfErr, All, length, map, slice_index_or};
 ghost use Rattle.std.specs.List.{list_any};
 ghost use Rattle.std.specs.Option.{option_map};
 ghost use Rattle.walrus_forms.specs.Order.{kind_cmp};
@@ -8,11 +8,13 @@ ghost use Rattle.walrus_items.specs.Items.{kind_of, group_of};
 ghost use Rattle.walrus_types.specs.Table.{table_of};
 ghost use Rattle.walrus_types.specs.Emission.{written_kind, is_written, written_groups, key_of, no_group, AreInOrder, written_in, written_types, AreIndices, index_at, fault_at, first_fault, group_names, groups_fault, described_group, IsEmission, IsRefusal};
 ghost use Rattle.walrus_types.specs.Parsing.{AreBelow};
+ghost use Rattle.walrus_types.specs.Ranks.{ranked};
 ghost use Rattle.walrus_forms.specs.Kinds.{kind_names};
 ghost use Rattle.walrus_forms.specs.Records.{record_kind, type_group};
 ghost use Rattle.walrus_forms.specs.Renaming.{renamed_kind};
 
 use crate::error::IrError;
+use crate::rank::with_rank;
 use crate::table::ModuleTypes;
 use std::alloc::{AllocError, Global};
 use std::marker::Model;
@@ -79,19 +81,19 @@ fn key_of<'a>(
     Ok(if names.is_empty() { Some(ty) } else { None })
 }
 
-// The types by which these groups are sorted.
+// The types by which these groups are sorted, with their ranks.
 fn keys_of<'a>(
     alloc: Global,
     types: &'a TombstoneArena<Type, TypeSpace>,
     groups: &[&RecGroup],
-) -> Result<Vec<Option<&'a Type>>, AllocError>
-    ensures { IfOk result (λ keys. map (option_map (λ ty. kind_of ty.now)) keys.items
-        ≡ map (key_of (table_of types.now.slots [])) (map (λ g. group_of g.now) groups.now)) }
+) -> Result<Vec<Option<(u64, &'a Type)>>, AllocError>
+    ensures { IfOk result (λ keys. map (option_map (λ k. (k.0, kind_of k.1.now))) keys.items
+        ≡ map (option_map ranked) (map (key_of (table_of types.now.slots [])) (map (λ g. group_of g.now) groups.now))) }
 {
     let mut names = Vec::new(alloc);
     let mut keys = Vec::with_capacity(alloc, groups.len())?;
     for group in groups {
-        keys.push(key_of(types, group, &mut names)?)?;
+        keys.push(with_rank(key_of(types, group, &mut names)?))?;
     }
     Ok(keys)
 }
@@ -269,21 +271,23 @@ fn written_count(types: &TombstoneArena<Type, TypeSpace>, group: &RecGroup) -> u
     count
 }
 
-// What is wrong with the first name in these groups with which anything is.
+// What is wrong with the first name in these groups with which anything is. Where nothing is, `end` goes
+// from the index at which the first group begins past their types.
 fn groups_fault(
     alloc: Global,
     types: &TombstoneArena<Type, TypeSpace>,
     indices: &[Option<u32>],
+    end: &mut usize,
     groups: &[&RecGroup],
 ) -> Result<Option<IrError>, AllocError>
-    requires { length (written_types (table_of types.now.slots []) (map (λ g. group_of g.now) groups.now)) < 2 ^ 64 }
-    ensures { IfOk result (λ fault. fault ≡ groups_fault (table_of types.now.slots []) (index_at indices.now) 0 (map (λ g. group_of g.now) groups.now)) }
+    requires { end.old + length (written_types (table_of types.now.slots []) (map (λ g. group_of g.now) groups.now)) < 2 ^ 64 }
+    ensures fault { IfOk result (λ fault. fault ≡ groups_fault (table_of types.now.slots []) (index_at indices.now) end.old (map (λ g. group_of g.now) groups.now)) }
+    ensures end { IfOk result (λ fault. fault ≡ None → end.new ≡ end.old + length (written_types (table_of types.now.slots []) (map (λ g. group_of g.now) groups.now))) }
 {
     let mut names = Vec::new(alloc);
-    let mut end = 0;
     for group in groups {
-        end += written_count(types, group);
-        if let Some(fault) = group_fault(types, indices, end, group, &mut names)? {
+        *end += written_count(types, group);
+        if let Some(fault) = group_fault(types, indices, *end, group, &mut names)? {
             return Ok(Some(fault));
         }
     }
@@ -328,21 +332,52 @@ fn group_record(
     })
 }
 
-// The records of these groups.
+// Adds the records of these groups.
+fn push_records(
+    alloc: Global,
+    types: &TombstoneArena<Type, TypeSpace>,
+    indices: &[Option<u32>],
+    groups: &[&RecGroup],
+    records: &mut Vec<GroupRecord>,
+) -> Result<(), AllocError>
+    ensures { OnOk result (map type_group records.new.items ≡ map type_group records.old.items
+        ++ map (described_group (table_of types.now.slots []) (index_at indices.now)) (map (λ g. group_of g.now) groups.now)) }
+{
+    for group in groups {
+        records.push(group_record(alloc, types, indices, group)?)?;
+    }
+    Ok(())
+}
+
+// How many groups are looked through before they are described: the caches hold their types.
+const BLOCK: usize = 256;
+
+// The records of these groups, or what is wrong with the first name in them with which anything is.
 fn group_records(
     alloc: Global,
     types: &TombstoneArena<Type, TypeSpace>,
     indices: &[Option<u32>],
     groups: &[&RecGroup],
-) -> Result<Vec<GroupRecord>, AllocError>
-    ensures { IfOk result (λ records. map type_group records.items
-        ≡ map (described_group (table_of types.now.slots []) (index_at indices.now)) (map (λ g. group_of g.now) groups.now)) }
+) -> Result<Result<Vec<GroupRecord>, IrError>, AllocError>
+    requires { length (written_types (table_of types.now.slots []) (map (λ g. group_of g.now) groups.now)) < 2 ^ 64 }
+    ensures sound { IfOk result (λ made. IfOk made (λ records. groups_fault (table_of types.now.slots []) (index_at indices.now) 0 (map (λ g. group_of g.now) groups.now) ≡ None)) }
+    ensures described { IfOk result (λ made. IfOk made (λ records. map type_group records.items
+        ≡ map (described_group (table_of types.now.slots []) (index_at indices.now)) (map (λ g. group_of g.now) groups.now))) }
+    ensures faulty { IfOk result (λ made. IfErr made (λ fault. groups_fault (table_of types.now.slots []) (index_at indices.now) 0 (map (λ g. group_of g.now) groups.now) ≡ Some fault)) }
 {
     let mut records = Vec::with_capacity(alloc, groups.len())?;
-    for group in groups {
-        records.push(group_record(alloc, types, indices, group)?)?;
+    let mut end = 0;
+    let mut start = 0;
+    while start < groups.len() {
+        let stop = groups.len().min(start.saturating_add(BLOCK));
+        let block = &groups[start..stop];
+        if let Some(fault) = groups_fault(alloc, types, indices, &mut end, block)? {
+            return Ok(Err(fault));
+        }
+        push_records(alloc, types, indices, block, &mut records)?;
+        start = stop;
     }
-    Ok(records)
+    Ok(Ok(records))
 }
 
 /// The index of each type that was written, a finite map.
@@ -405,24 +440,18 @@ impl ModuleTypes {
         }
         let count = self.types.next_id().index();
         let indices = indices_of(self.alloc, count, written.as_slice())?;
-        let fault = groups_fault(
+        let made = group_records(
             self.alloc,
             &self.types,
             indices.as_slice(),
             groups.as_slice(),
         )?;
-        if let Some(fault) = fault {
-            return Err(fault);
+        match made {
+            Ok(groups) => Ok(EmittedTypes {
+                groups,
+                indices: TypeIndices { indices },
+            }),
+            Err(fault) => Err(fault),
         }
-        let groups = group_records(
-            self.alloc,
-            &self.types,
-            indices.as_slice(),
-            groups.as_slice(),
-        )?;
-        Ok(EmittedTypes {
-            groups,
-            indices: TypeIndices { indices },
-        })
     }
 }

@@ -10,6 +10,7 @@ mod iter;
 pub mod laws;
 mod pair;
 mod parse;
+mod rank;
 mod table;
 
 pub use emit::{EmittedTypes, TypeIndices};

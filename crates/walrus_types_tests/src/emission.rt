@@ -289,6 +289,32 @@ fn equal_types_stand_by_id(rt: HostRuntime) -> Result<(), Fail> {
     Ok(())
 }
 
+// Twenty-one parameters, the last of this type.
+fn many(last: ValType) -> [ValType; 21] {
+    let mut params = [ValType::I32; 21];
+    params[20] = last;
+    params
+}
+
+// Types of one rank, by a parameter past the twentieth and by what stands behind references, between others.
+#[test]
+fn parameters_are_ordered(rt: HostRuntime) -> Result<(), Fail> {
+    let mut types = ModuleTypes::new(rt.alloc());
+    types.add(&[ValType::Ref(RefType::EXTERNREF), ValType::I32], &[])?;
+    types.add(&[ValType::Ref(RefType::FUNCREF), ValType::I64], &[])?;
+    types.add(&[ValType::V128], &[])?;
+    types.add(&[ValType::F64], &[])?;
+    types.add(&[ValType::F32, ValType::I32], &[])?;
+    let (later, sooner) = (many(ValType::I64), many(ValType::I32));
+    types.add(&later, &[])?;
+    types.add(&sooner, &[])?;
+    let emitted = types.emit()?;
+    for k in 0..7 {
+        assert_eq!(rt; emitted.indices.get(id(k)), Some(6 - k as u32));
+    }
+    Ok(())
+}
+
 #[test]
 fn forms_are_ordered(rt: HostRuntime) -> Result<(), Fail> {
     let mut types = ModuleTypes::new(rt.alloc());

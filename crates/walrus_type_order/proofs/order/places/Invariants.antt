@@ -1,6 +1,5 @@
-use Rattle.std.proofs.Common.{map, option_copied}
 use Rattle.walrus_type_order.proofs.PlaceLemmas.{AreFirst}
 use Rattle.walrus_type_order.proofs.order.places.Given as goal
 
 abbrev pub invariant-loop-position : goal.invariant-loop-position
-invariant-loop-position g l = AreFirst (map option_copied l.entries) l.position l.anchors l.places.items
+invariant-loop-position g l = AreFirst l.entries l.position l.anchors l.places.items

@@ -1,9 +1,13 @@
-use Rattle.std.proofs.Common.{◌≡◌, [], map, take}
+use Rattle.std.proofs.Common.{◌-◌, [], length, map, drop}
 use Rattle.walrus_forms.specs.Records.{type_group}
-use Rattle.walrus_items.specs.Items.{group_of}
 use Rattle.walrus_types.specs.Table.{table_of}
-use Rattle.walrus_types.specs.Emission.{index_at, described_group}
+use Rattle.walrus_types.specs.Emission.{index_at}
+use Rattle.walrus_types.proofs.EmitLemmas.{shown-groups}
+use Rattle.walrus_types.proofs.BlockLemmas.{AreDone}
 use Rattle.walrus_types.proofs.emit.group_records.Given as goal
 
-abbrev pub invariant-loop-group : goal.invariant-loop-group
-invariant-loop-group l = map type_group l.records.items ≡ map (described_group (table_of l.types.slots []) (index_at l.indices)) (map (λ g. group_of g.now) (take l.group-index l.groups))
+abbrev pub invariant-loop-start : goal.invariant-loop-start
+invariant-loop-start l = AreDone (table_of l.types.slots []) (index_at l.indices) (shown-groups l.groups) (shown-groups (drop l.start l.groups)) l.end (map type_group l.records.items)
+
+abbrev pub decreases-loop-start : goal.decreases-loop-start
+decreases-loop-start l = length l.groups - l.start

@@ -3,7 +3,8 @@ use Rattle.std.specs.Option.{option_map}
 use Rattle.walrus_items.specs.Items.{kind_of, group_of}
 use Rattle.walrus_types.specs.Table.{table_of}
 use Rattle.walrus_types.specs.Emission.{key_of}
+use Rattle.walrus_types.specs.Ranks.{ranked}
 use Rattle.walrus_types.proofs.emit.keys_of.Given as goal
 
 abbrev pub invariant-loop-group : goal.invariant-loop-group
-invariant-loop-group l = map (option_map (λ ty. kind_of ty.now)) l.keys.items ≡ map (key_of (table_of l.types.slots [])) (map (λ g. group_of g.now) (take l.group-index l.groups))
+invariant-loop-group l = map (option_map (λ k. (k.0, kind_of k.1.now))) l.keys.items ≡ map (option_map ranked) (map (key_of (table_of l.types.slots [])) (map (λ g. group_of g.now) (take l.group-index l.groups)))
