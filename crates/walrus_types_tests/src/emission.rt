@@ -353,6 +353,35 @@ fn a_deleted_type_is_named(rt: HostRuntime) -> Result<(), Fail> {
     Ok(())
 }
 
+// A table of 601 types, more than stand in two blocks, each of which names the one before it.
+fn chain(alloc: Global) -> Result<ModuleTypes, IrError> {
+    let mut types = ModuleTypes::new(alloc);
+    types.add_struct(Vec::new(alloc))?;
+    for k in 0..600 {
+        types.add_struct(Vec::from_slice(alloc, &[link(id(k))])?)?;
+    }
+    Ok(types)
+}
+
+#[test]
+fn blocks_are_written(rt: HostRuntime) -> Result<(), Fail> {
+    let emitted = chain(rt.alloc())?.emit()?;
+    assert_eq!(rt; emitted.groups.len(), 601);
+    for k in 0..601 {
+        assert_eq!(rt; emitted.indices.get(id(k)), Some(k as u32));
+    }
+    Ok(())
+}
+
+#[test]
+fn a_fault_past_two_blocks_is_found(rt: HostRuntime) -> Result<(), Fail> {
+    let alloc = rt.alloc();
+    let mut types = chain(alloc)?;
+    types.add_struct(Vec::from_slice(alloc, &[link(id(1000))])?)?;
+    assert!(rt; matches!(types.emit(), Err(IrError::Dead)));
+    Ok(())
+}
+
 #[test]
 fn an_entry_type_is_named(rt: HostRuntime) -> Result<(), Fail> {
     let alloc = rt.alloc();
