@@ -3,7 +3,7 @@ use std::cell::Cell;
 use std::test::Fail;
 use walrus_arena::{
     ArenaSet, FunctionId, FunctionSpace, IdHashMap, IdHashSet, Tombstone, TombstoneArena, TypeId,
-    TypeSpace,
+    TypeSpace, laws,
 };
 
 #[derive(Clone, PartialEq, Eq, Hash, Drop)]
@@ -102,6 +102,16 @@ fn maps(rt: HostRuntime) -> Result<(), Fail> {
     seen.insert(f)?;
     assert!(rt; seen.contains(&f));
     assert_eq!(rt; names.get(&f).copied(), Some(5));
+    Ok(())
+}
+
+#[test]
+fn laws_can_be_cited(rt: HostRuntime) -> Result<(), Fail> {
+    let mut arena: TombstoneArena<Word, TypeSpace> = TombstoneArena::new(rt.alloc());
+    arena.alloc(Word(7))?;
+    laws::entries_are_live(&arena);
+    laws::search_finds_lowest(&arena);
+    laws::ids_go_by_number::<TypeSpace>();
     Ok(())
 }
 

@@ -10,6 +10,8 @@ mod forms;
 #[cfg(test)]
 mod hooks;
 #[cfg(test)]
+mod laws;
+#[cfg(test)]
 mod log;
 #[cfg(test)]
 mod log_mut;

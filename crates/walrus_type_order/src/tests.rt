@@ -1,4 +1,5 @@
 // Orders against lists worked out by hand.
+use crate::laws::order_is_determined;
 use crate::order::emission_order;
 use std::test::Fail;
 
@@ -17,6 +18,7 @@ fn runs_around_anchors(rt: HostRuntime) -> Result<(), Fail> {
         Some(2),
     ];
     let order = emission_order(rt.alloc(), &entries)?;
+    order_is_determined(&entries);
     assert_eq!(rt; order.as_slice(), &[1, 0, 2, 3, 4, 5, 7, 9, 6, 8][..]);
     Ok(())
 }
