@@ -30,7 +30,7 @@ pub struct TombstoneArena<T, S> {
 }
 
 impl<T, S> Model for TombstoneArena<T, S> {
-    ghost use Rattle.std.specs.Prelude.{◌≡◌, ◌-◌, count_by, is_some, vec_len, vec_capacity};
+    ghost use Rattle.std.specs.Prelude.{◌≡◌, ◌-◌, ◌<◌, ◌^◌, min, count_by, is_some, vec_len, vec_capacity};
     ghost use Rattle.walrus_arena.specs.Arena.{Arena, arena_code};
 
     ghost Value = { Arena T };
@@ -39,10 +39,13 @@ impl<T, S> Model for TombstoneArena<T, S> {
 
     ghost view = { λ a. record {
       slots = a.items.items;
-      room = vec_capacity a.items - vec_len a.items;
+      room = min (vec_capacity a.items) (2 ^ 32 - 1) - vec_len a.items;
     } };
 
-    ghost invariant = { λ a. a.live ≡ count_by is_some a.items.items };
+    ghost invariant = { λ a. record {
+      counted : a.live ≡ count_by is_some a.items.items;
+      fits : vec_len a.items < 2 ^ 32;
+    } };
 }
 
 // The item of a slot that holds one, for writing.
@@ -82,6 +85,9 @@ impl<T, S> TombstoneArena<T, S> {
         ensures succeeds { additional ≤ self.old.room → IsOk result }
         ensures refused { OnErr result (self.new.room < additional) }
     {
+        if additional > u32::MAX as usize - self.items.len() {
+            return Err(AllocError);
+        }
         self.items.reserve(additional)
     }
 

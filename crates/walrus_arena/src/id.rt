@@ -1,5 +1,5 @@
 //! Ids: numbers of a space, each the count of the ids of that space given out before.
-ghost use Rattle.std.specs.Prelude.{◌≡◌};
+ghost use Rattle.std.specs.Prelude.{◌≡◌, ◌<◌, ◌^◌};
 
 use std::collections::{HashMap, HashSet};
 use std::marker::{Model, PhantomData};
@@ -9,7 +9,7 @@ use std::marker::{Model, PhantomData};
 /// Ids are equal, ordered and hashed by that number.
 #[derive_where(Clone, Copy, PartialEq, Eq, PartialOrd, Ord, Hash, Debug)]
 pub struct Id<S> {
-    index: usize,
+    index: u32,
     space: PhantomData<S>,
 }
 
@@ -24,12 +24,13 @@ impl<S> Model for Id<S> {
 }
 
 impl<S> Id<S> {
-    /// The id of this number.
+    /// The id of this number, which is below 2^32.
     pub fn from_index(index: usize) -> Self
+        requires fits { index < 2 ^ 32 }
         ensures { result ≡ index }
     {
         Id {
-            index,
+            index: index as u32,
             space: PhantomData,
         }
     }
@@ -38,7 +39,7 @@ impl<S> Id<S> {
     pub fn index(self) -> usize
         ensures { result ≡ self }
     {
-        self.index
+        self.index as usize
     }
 }
 

@@ -24,12 +24,13 @@ impl<'a, T, S> Model for Iter<'a, T, S> {
 
     ghost view = { λ it. entries_from it.next it.items.now };
 
-    ghost invariant = { λ it. it.next + length it.items.now < 2 ^ 64 };
+    ghost invariant = { λ it. it.next + length it.items.now < 2 ^ 32 };
 }
 
 impl<'a, T, S> Iter<'a, T, S> {
     // The items of these slots, the first of which has the id 0.
     pub(crate) fn new(items: &'a [Option<T>]) -> Self
+        requires { length items.now < 2 ^ 32 }
         ensures { result ≡ entries_from 0 items.now }
     {
         Iter {

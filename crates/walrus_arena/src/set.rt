@@ -19,7 +19,7 @@ use std::ops::Index;
 pub struct ArenaSet<T: Clone + Eq + Hash> {
     arena: TombstoneArena<T, T>,
     // The id of each live value, under a clone of it.
-    index: HashMap<T, usize>,
+    index: HashMap<T, u32>,
 }
 
 impl<T: Clone + Eq + Hash> Model for ArenaSet<T> {
@@ -62,11 +62,11 @@ impl<T: Clone + Eq + Hash> ArenaSet<T> {
         ensures refused { OnErr result (self.new ≡ self.old) }
     {
         if let Some(found) = self.index.get(&value) {
-            return Ok(Id::from_index(*found));
+            return Ok(Id::from_index(*found as usize));
         }
         let key = value.clone()?;
         self.arena.reserve(1)?;
-        self.index.insert(key, self.arena.next_id().index())?;
+        self.index.insert(key, self.arena.next_id().index() as u32)?;
         Ok(self.arena.alloc_reserved(value))
     }
 

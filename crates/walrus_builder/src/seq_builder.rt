@@ -139,6 +139,9 @@ impl InstrSeqBuilder {
         ensures added { IfOk result (λ id. (id ≡ length (contents self.old)) × (contents self.new ≡ contents self.old ++ empty_seq id ty ∷ [])) }
         ensures refused { OnErr result (contents self.new ≡ contents self.old) }
     {
+        if self.seqs.len() > u32::MAX as usize {
+            return Err(AllocError);
+        }
         let id = InstrSeqId::from_index(self.seqs.len());
         self.seqs.push(InstrSeq::new(self.alloc, id, ty))?;
         Ok(id)

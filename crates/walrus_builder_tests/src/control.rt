@@ -5,7 +5,7 @@ use std::alloc::AllocError;
 use std::test::Fail;
 use walrus_arena::{FunctionId, GlobalId, InstrSeqId, LocalId, TableId, TagId, TypeId};
 use walrus_builder::InstrSeqBuilder;
-use walrus_instr::{BinaryOp, TernaryOp, UnaryOp, Value};
+use walrus_instr::{BinaryOp, Bits128, TernaryOp, UnaryOp, Value};
 use walrus_types::{RefType, ValType};
 
 fn add_branches(seq: &mut InstrSeqBuilder) -> Result<(), AllocError> {
@@ -94,7 +94,7 @@ fn exceptions_and_calls(rt: HostRuntime) -> Result<(), Fail> {
 fn add_operators(seq: &mut InstrSeqBuilder) -> Result<(), AllocError> {
     seq.drop()?;
     seq.select(Some(ValType::I64))?;
-    seq.const_(Value::V128(17))?;
+    seq.const_(Value::V128(Bits128::new(17)))?;
     seq.unop(UnaryOp::I32Popcnt)?;
     seq.binop(BinaryOp::I64Rotr)?;
     seq.tern_op(TernaryOp::F32x4RelaxedNmadd)

@@ -4,7 +4,7 @@ use std::alloc::{AllocError, Global};
 use std::test::Fail;
 use walrus_arena::{FunctionId, GlobalId, InstrSeqId, LocalId, MemoryId, TagId};
 use walrus_instr::{
-    ConstExpr, ConstOp, Instr, InstrLocId, InstrSeq, InstrSeqType, LegacyCatch, LoadKind,
+    Bits128, ConstExpr, ConstOp, Instr, InstrLocId, InstrSeq, InstrSeqType, LegacyCatch, LoadKind,
     TryTableCatch,
 };
 use walrus_types::{RefType, ValType};
@@ -152,7 +152,7 @@ fn single_constants(rt: HostRuntime) -> Result<(), Fail> {
         ConstOp::I64Const(-8),
         ConstOp::F32Const(9),
         ConstOp::F64Const(10),
-        ConstOp::V128Const(11),
+        ConstOp::V128Const(Bits128::new(11)),
         ConstOp::GlobalGet(GlobalId::from_index(3)),
         ConstOp::RefNull(RefType::I31REF),
         ConstOp::RefFunc(FunctionId::from_index(3)),

@@ -1,8 +1,8 @@
 //! Instructions as rows of a table.
 use std::process::Abort;
 use walrus_instr::{
-    AtomicOp, AtomicWidth, BinaryOp, Instr, InstrLocId, LoadKind, LoadSimdKind, MemArg, StoreKind,
-    TernaryOp, UnaryOp, Value,
+    AtomicOp, AtomicWidth, BinaryOp, Bits128, Instr, InstrLocId, LoadKind, LoadSimdKind, MemArg,
+    StoreKind, TernaryOp, UnaryOp, Value,
 };
 use walrus_types::{RefType, ValType};
 
@@ -108,7 +108,12 @@ fn operator_row(instr: &Instr) -> Option<Row> {
     let row = match instr {
         Instr::Drop => ("drop", 0, 0, 0),
         Instr::Select { ty } => ("select", usize::from(*ty == Some(ValType::I64)), 0, 0),
-        Instr::Const { value } => ("const", usize::from(*value == Value::V128(17)), 0, 0),
+        Instr::Const { value } => (
+            "const",
+            usize::from(*value == Value::V128(Bits128::new(17))),
+            0,
+            0,
+        ),
         Instr::Unop { op } => ("unop", usize::from(is_count(op)), 0, 0),
         Instr::Binop { op } => ("binop", usize::from(is_rotation(op)), 0, 0),
         Instr::TernOp { op } => ("tern_op", usize::from(is_sum(op)), 0, 0),

@@ -13,10 +13,10 @@ const BYTES: FieldType = FieldType {
 };
 
 // A nullable reference to the type.
-fn reference(id: usize) -> ValType {
+fn reference(id: u32) -> ValType {
     ValType::Ref(RefType {
         nullable: true,
-        heap_type: HeapType::Concrete(TypeId::from_index(id)),
+        heap_type: HeapType::Concrete(TypeId::from_index(id as usize)),
     })
 }
 

@@ -9,8 +9,8 @@ fn reference(nullable: bool, heap_type: HeapType) -> ValType {
     })
 }
 
-fn concrete(id: usize) -> HeapType {
-    HeapType::Concrete(TypeId::from_index(id))
+fn concrete(id: u32) -> HeapType {
+    HeapType::Concrete(TypeId::from_index(id as usize))
 }
 
 #[test]

@@ -1,3 +1,4 @@
+pub mod Bits
 pub mod BlockTypes
 pub mod Constants
 pub mod Copies

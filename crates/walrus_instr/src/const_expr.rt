@@ -5,6 +5,7 @@ ghost use Rattle.walrus_instr.specs.Constants.{const_of, ops_of, short_form, sho
 ghost use Rattle.walrus_instr.specs.declared.const_expr.ConstExpr.TheVariants.{Extended};
 ghost use Rattle.walrus_instr.specs.Copies.{IsExprCopy};
 
+use crate::bits::Bits128;
 use crate::instr::Value;
 use std::alloc::AllocError;
 use walrus_arena::{FunctionId, GlobalId, TypeId};
@@ -17,7 +18,7 @@ pub enum ConstOp {
     I64Const(i64),
     F32Const(u32),
     F64Const(u64),
-    V128Const(u128),
+    V128Const(Bits128),
     GlobalGet(GlobalId),
     RefNull(RefType),
     RefFunc(FunctionId),

@@ -2,6 +2,7 @@
 ghost use Rattle.std.specs.Prelude.{◌≡◌};
 ghost use Rattle.walrus_instr.specs.Cuts.{cuts};
 
+use crate::bits::Bits128;
 use crate::memory::{AtomicOp, AtomicWidth, LoadKind, LoadSimdKind, MemArg, StoreKind};
 use crate::operators::{BinaryOp, TernaryOp, UnaryOp};
 use walrus_arena::{
@@ -16,7 +17,7 @@ pub enum Value {
     I64(i64),
     F32(u32),
     F64(u64),
-    V128(u128),
+    V128(Bits128),
 }
 
 /// The lanes that `i8x16.shuffle` picks.

@@ -1,6 +1,7 @@
 //! Instructions as nodes of a tree: sequences that hold instructions, which name sequences by id.
 #![tactic(auto)]
 
+mod bits;
 mod const_expr;
 mod copies;
 mod instr;
@@ -9,6 +10,7 @@ mod memory;
 mod operators;
 mod seq;
 
+pub use bits::Bits128;
 pub use const_expr::{ConstExpr, ConstOp};
 pub use instr::{Instr, LegacyCatch, ShuffleIndices, TryTableCatch, Value};
 pub use memory::{AtomicOp, AtomicWidth, ExtendedLoad, LoadKind, LoadSimdKind, MemArg, StoreKind};

@@ -13,8 +13,8 @@ pub use walrus_builder::{
     FunctionBuilder, InstrSeqBuilder, check_nesting, dfs_in_order, dfs_pre_order_mut,
 };
 pub use walrus_instr::{
-    AtomicOp, AtomicWidth, BinaryOp, ConstExpr, ConstOp, ExtendedLoad, Instr, InstrLocId, InstrSeq,
-    InstrSeqType, LegacyCatch, LoadKind, LoadSimdKind, MemArg, ShuffleIndices, StoreKind,
+    AtomicOp, AtomicWidth, BinaryOp, Bits128, ConstExpr, ConstOp, ExtendedLoad, Instr, InstrLocId,
+    InstrSeq, InstrSeqType, LegacyCatch, LoadKind, LoadSimdKind, MemArg, ShuffleIndices, StoreKind,
     TernaryOp, TryTableCatch, UnaryOp, Value,
 };
 pub use walrus_types::{

@@ -8,6 +8,9 @@ use walrus_instr::{Instr, InstrLocId, InstrSeq, InstrSeqType, Value};
 use walrus_walks::{check_nesting, dfs_pre_order_mut};
 
 fn push_seq(alloc: Global, seqs: &mut Vec<InstrSeq>) -> Result<InstrSeqId, AllocError> {
+    if seqs.len() > u32::MAX as usize {
+        return Err(AllocError);
+    }
     let id = InstrSeqId::from_index(seqs.len());
     seqs.push(InstrSeq::new(alloc, id, InstrSeqType::Simple(None)))?;
     Ok(id)

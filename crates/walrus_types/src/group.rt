@@ -48,7 +48,7 @@ pub(crate) fn ids_from(
     first: TypeId,
     count: usize,
 ) -> Result<Vec<TypeId>, AllocError>
-    requires { first + count < 2 ^ 64 }
+    requires { first + count < 2 ^ 32 }
     ensures { IfOk result (λ ids. ids.items ≡ range_with_len first count) }
 {
     let mut ids = Vec::new(alloc);
@@ -64,7 +64,7 @@ pub(crate) fn types_of(
     first: TypeId,
     members: Vec<NewType>,
 ) -> Result<Vec<Type>, AllocError>
-    requires { first + length members.items < 2 ^ 64 }
+    requires { first + length members.items < 2 ^ 32 }
     ensures { IfOk result (λ types. map (λ ty. Some (item_of ty)) types.items ≡ new_items first (map member_kind members.items)) }
 {
     let mut types = Vec::new(alloc);
@@ -83,7 +83,7 @@ pub(crate) fn types_of(
 }
 
 // Enters these types into the index, those that name themselves aside.
-pub(crate) fn note_all(index: &mut HashMap<Type, usize>, types: &[Type]) -> Result<(), AllocError>
+pub(crate) fn note_all(index: &mut HashMap<Type, u32>, types: &[Type]) -> Result<(), AllocError>
     ensures { OnOk result ((q : TypeItem) → get type_eq.eq index.new q
         ≡ latest_in (merges (kind_of q)) (get type_eq.eq index.old q) (map (λ ty. (ty.id, item_of ty)) types.now)) }
 {

@@ -75,7 +75,7 @@ impl ModuleTypes {
         let ty = Type::new(id, kind, true, None, false);
         if let Some(found) = look_up(&self.index, &ty, id) {
             let entry_id = self.insert(entry, true, None, true)?;
-            return Ok((TypeId::from_index(found), entry_id));
+            return Ok((TypeId::from_index(found as usize), entry_id));
         }
         self.add_then_entry(ty, entry)
     }
@@ -94,10 +94,10 @@ impl ModuleTypes {
         ensures refused { OnErr result (self.new ≡ self.old) }
     {
         let id = self.types.next_id();
-        let Some(next) = id.index().checked_add(1) else {
+        let Some(next) = (id.index() as u32).checked_add(1) else {
             return Err(AllocError);
         };
-        let entry_id = TypeId::from_index(next);
+        let entry_id = TypeId::from_index(next as usize);
         let entry = Type::new(entry_id, entry, true, None, true);
         let mut members = Vec::new(self.alloc);
         members.push(id)?;
@@ -119,7 +119,7 @@ impl ModuleTypes {
                 members,
             );
             self.fresh = true;
-            return Ok((id, TypeId::from_index(found)));
+            return Ok((id, TypeId::from_index(found as usize)));
         }
         note(&mut self.index, &entry, entry_id)?;
         push_single(

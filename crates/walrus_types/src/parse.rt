@@ -89,7 +89,7 @@ impl ModuleTypes {
             return self.parse_single(&types[0], ids);
         }
         let first = self.next_id();
-        if types.len() > usize::MAX - first.index() {
+        if types.len() > u32::MAX as usize - first.index() {
             return Err(AllocError);
         }
         let own = ids_from(self.alloc(), first, types.len())?;

@@ -41,7 +41,7 @@ pub struct ModuleTypes {
     // The group of each type ever added.
     pub(crate) homes: Vec<RecGroupId>,
     // Where `fresh`, the latest live type of each kind, those that name themselves aside.
-    pub(crate) index: HashMap<Type, usize>,
+    pub(crate) index: HashMap<Type, u32>,
     // False once a type was lent for writing or deleted: the next add builds the index anew.
     pub(crate) fresh: bool,
 }
@@ -59,11 +59,7 @@ impl Model for ModuleTypes {
 }
 
 // Enters a type into the index, under a clone of it, unless it names itself.
-pub(crate) fn note(
-    index: &mut HashMap<Type, usize>,
-    ty: &Type,
-    id: TypeId,
-) -> Result<(), AllocError>
+pub(crate) fn note(index: &mut HashMap<Type, u32>, ty: &Type, id: TypeId) -> Result<(), AllocError>
     ensures noted { OnOk result ((q : TypeItem) → get type_eq.eq index.new q
         ≡ (if merges (kind_of q) (id, item_of ty.now) then Some id else get type_eq.eq index.old q)) }
     ensures refused { OnErr result (IsUnchanged index.old index.new) }
@@ -71,12 +67,12 @@ pub(crate) fn note(
     if ty.names(id) {
         return Ok(());
     }
-    index.insert(ty.clone()?, id.index())?;
+    index.insert(ty.clone()?, id.index() as u32)?;
     Ok(())
 }
 
 // The id of the type that stands for this one, which is to have the id `next`.
-pub(crate) fn look_up(index: &HashMap<Type, usize>, ty: &Type, next: TypeId) -> Option<usize>
+pub(crate) fn look_up(index: &HashMap<Type, u32>, ty: &Type, next: TypeId) -> Option<u32>
     ensures { result ≡ (if names_itself next (kind_of ty.now) then None else get type_eq.eq index.now ty.now) }
 {
     if ty.names(next) {
@@ -89,7 +85,7 @@ pub(crate) fn look_up(index: &HashMap<Type, usize>, ty: &Type, next: TypeId) -> 
 fn index_of(
     alloc: Global,
     types: &TombstoneArena<Type, TypeSpace>,
-) -> Result<HashMap<Type, usize>, AllocError>
+) -> Result<HashMap<Type, u32>, AllocError>
     ensures { IfOk result (λ index. IsIndex (get type_eq.eq index) (table_of types.now.slots []).types) }
 {
     let mut index = HashMap::new(alloc);
@@ -103,7 +99,7 @@ fn index_of(
 pub(crate) fn refresh(
     alloc: Global,
     fresh: &mut bool,
-    index: &mut HashMap<Type, usize>,
+    index: &mut HashMap<Type, u32>,
     types: &TombstoneArena<Type, TypeSpace>,
 ) -> Result<(), AllocError>
     requires { fresh.old ≡ true → IsIndex (get type_eq.eq index.old) (table_of types.now.slots []).types }
@@ -238,7 +234,7 @@ impl ModuleTypes {
         let id = self.types.next_id();
         let ty = Type::new(id, kind, is_final, supertype, entry);
         if let Some(found) = look_up(&self.index, &ty, id) {
-            return Ok(TypeId::from_index(found));
+            return Ok(TypeId::from_index(found as usize));
         }
         let mut members = Vec::new(self.alloc);
         members.push(id)?;
@@ -426,7 +422,7 @@ impl ModuleTypes {
         ensures refused { OnErr result (self.new ≡ self.old) }
     {
         let first = self.types.next_id();
-        if count > usize::MAX - first.index() {
+        if count > u32::MAX as usize - first.index() {
             return Err(IrError::Memory);
         }
         let ids = ids_from(self.alloc, first, count)?;
@@ -444,7 +440,7 @@ impl ModuleTypes {
         explicit: bool,
         members: Vec<NewType>,
     ) -> Result<(), AllocError>
-        requires { next_id self.old + length members.items < 2 ^ 64 }
+        requires { next_id self.old + length members.items < 2 ^ 32 }
         ensures added { OnOk result (AddsGroup explicit (map member_kind members.items) self.old self.new) }
         ensures refused { OnErr result (self.new ≡ self.old) }
     {

@@ -1,4 +1,6 @@
 // Writing a table: worked examples, the order of types, refusals.
+ghost use Rattle.std.specs.Prelude.{◌<◌, ◌^◌};
+
 use std::alloc::Global;
 use std::test::Fail;
 use walrus_arena::TypeId;
@@ -8,7 +10,9 @@ use walrus_types::{
     StorageRecord, StorageType, StructType, ValRecord, ValType,
 };
 
-fn id(index: usize) -> TypeId {
+fn id(index: usize) -> TypeId
+    requires { index < 2 ^ 32 }
+{
     TypeId::from_index(index)
 }
 

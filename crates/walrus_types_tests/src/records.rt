@@ -1,5 +1,5 @@
 // Parsing the records of a type section.
-ghost use Rattle.std.specs.Prelude.{◌≡◌, ◌+◌, [], ◌∷◌, true, None, IfOk, length};
+ghost use Rattle.std.specs.Prelude.{◌≡◌, ◌+◌, ◌<◌, ◌^◌, [], ◌∷◌, true, None, IfOk, length};
 ghost use Rattle.walrus_forms.specs.Kinds.{declared_kind};
 ghost use Rattle.walrus_forms.specs.Records.{record_form, type_group, value_of};
 ghost use Rattle.walrus_forms.specs.Renaming.{ValueBelow};
@@ -72,6 +72,7 @@ fn no_types(alloc: Global) -> GroupRecord
 }
 
 fn id(index: usize) -> TypeId
+    requires { index < 2 ^ 32 }
     ensures { result ≡ index }
 {
     TypeId::from_index(index)

@@ -4,7 +4,7 @@ use Rattle.walrus_arena.proofs.iter.IterIterator.next.Given as goal
 
 abbrev pub invariant-loop-slot : goal.invariant-loop-slot
 invariant-loop-slot g l = record {
-  fits : l.self-inside.next + length l.self-inside.items.now < 2 ^ 64;
+  fits : l.self-inside.next + length l.self-inside.items.now < 2 ^ 32;
   rest : entries_from l.self-inside.next l.self-inside.items.now ≡ l.fn.self;
 }
 
