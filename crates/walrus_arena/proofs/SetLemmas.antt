@@ -1,6 +1,9 @@
 -- The look-up of a set, over its adds and removes.
 use Rattle.std.proofs.Common.{◌≡◌, ◌≢◌, ℕ, Bool, true, cond, List, [], ◌∷◌, ◌++◌, length, Option, Some, None, slice_index_or, slice_set, sym, ap, ◌∙◌, arith, ⊎_elim}
 use Rattle.std.specs.Option.{option_map}
+use Rattle.std.specs.declared.cmp.Ordering.{Ordering}
+use Rattle.std.specs.Ordering.{eq_by_cmp}
+use Rattle.std.specs.BTreeMap.{is_at}
 use Rattle.std.specs.Cmp.{IsEquivalence}
 use Rattle.std.proofs.lemmas.Bool.{cases_Bool, both_ways}
 use Rattle.walrus_arena.specs.Arena.{Arena}
@@ -8,6 +11,12 @@ use Rattle.walrus_arena.specs.Set.{IsIndex, id_equal_to}
 use Rattle.walrus_arena.proofs.ArenaLemmas.{live-within, at-kept, at-last, at-push, at-deleted, at-other, find-none, find-lowest}
 
 module _ {T : Type 0} {eq : T → T → Bool} where
+  -- what a change at an equal key makes of the look-up, where keys are equal that the order doesn't tell apart
+  pub updated_where_equal : (cmp : T → T → Ordering) (find new : T → Option ℕ) → ((x y : T) → eq x y ≡ eq_by_cmp cmp x y)
+      → (key : T) (id : Option ℕ) → ((q : T) → new q ≡ cond (is_at (cmp key) q) id (find q))
+      → (q : T) → new q ≡ cond (eq key q) id (find q)
+  updated_where_equal cmp find new ties key id updates q = updates q ∙ ap (λ (b : Bool). cond b id (find q)) (sym (ties key q))
+
   -- equal live items have one id
   pub IsIndex-distinct : {find : T → Option ℕ} {slots : List (Option T)} → IsEquivalence eq → IsIndex eq find slots
       → (i j : ℕ) (x y : T) → slice_index_or slots i None ≡ Some x → slice_index_or slots j None ≡ Some y → eq x y ≡ true → i ≡ j

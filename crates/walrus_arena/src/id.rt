@@ -41,6 +41,13 @@ impl<S> Id<S> {
     {
         self.index as usize
     }
+
+    /// The number of this id, as the 32 bits that it is kept in.
+    pub fn number(self) -> u32
+        ensures { result ≡ self }
+    {
+        self.index
+    }
 }
 
 /// A map keyed by the ids of the space `S`.

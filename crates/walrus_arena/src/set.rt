@@ -7,23 +7,22 @@ use crate::arena::{Tombstone, TombstoneArena};
 use crate::id::Id;
 use crate::iter::Iter;
 use std::alloc::{AllocError, Global};
-use std::collections::HashMap;
-use std::hash::Hash;
+use std::collections::BTreeMap;
 use std::marker::Model;
 use std::ops::Index;
 
 /// Values under ids, each value once. A removed value's id stays dead, and no id is given out twice.
 ///
-/// A value is found by its hash, in constant time.
+/// A value is found by the order of values, in the logarithm of their count of comparisons, whatever the values are.
 #[derive(Drop)]
-pub struct ArenaSet<T: Clone + Eq + Hash> {
+pub struct ArenaSet<T: Clone + Ord> {
     arena: TombstoneArena<T, T>,
     // The id of each live value, under a clone of it.
-    index: HashMap<T, u32>,
+    index: BTreeMap<T, u32>,
 }
 
-impl<T: Clone + Eq + Hash> Model for ArenaSet<T> {
-    ghost use Rattle.std.specs.HashMap.{get};
+impl<T: Clone + Ord> Model for ArenaSet<T> {
+    ghost use Rattle.std.specs.BTreeMap.{get};
     ghost use Rattle.walrus_arena.specs.Arena.{Arena, arena_code};
     ghost use Rattle.walrus_arena.specs.Set.{IsIndex};
 
@@ -33,17 +32,17 @@ impl<T: Clone + Eq + Hash> Model for ArenaSet<T> {
 
     ghost view = { λ s. record s.arena { room = 0 } };
 
-    ghost invariant = { λ s. IsIndex T.eq (get T.eq s.index) s.arena.slots };
+    ghost invariant = { λ s. IsIndex T.eq (get T.cmp s.index) s.arena.slots };
 }
 
-impl<T: Clone + Eq + Hash> ArenaSet<T> {
+impl<T: Clone + Ord> ArenaSet<T> {
     /// A set that has given out no id. Takes no memory.
     pub fn new(alloc: Global) -> Self
         ensures { result ≡ record { slots = []; room = 0 } }
     {
         ArenaSet {
             arena: TombstoneArena::new(alloc),
-            index: HashMap::new(alloc),
+            index: BTreeMap::new(alloc),
         }
     }
 
@@ -66,7 +65,7 @@ impl<T: Clone + Eq + Hash> ArenaSet<T> {
         }
         let key = value.clone()?;
         self.arena.reserve(1)?;
-        self.index.insert(key, self.arena.next_id().index() as u32)?;
+        self.index.insert(key, self.arena.next_id().number())?;
         Ok(self.arena.alloc_reserved(value))
     }
 
@@ -100,7 +99,7 @@ impl<T: Clone + Eq + Hash> ArenaSet<T> {
     }
 }
 
-impl<T: Clone + Eq + Hash> Index<Id<T>> for ArenaSet<T> {
+impl<T: Clone + Ord> Index<Id<T>> for ArenaSet<T> {
     type Output = T;
 
     ghost can_index = { IsLive };

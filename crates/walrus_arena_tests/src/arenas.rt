@@ -1,12 +1,13 @@
 // Each call once, with ample memory.
 use std::cell::Cell;
+use std::mem::size_of;
 use std::test::Fail;
 use walrus_arena::{
     ArenaSet, FunctionId, FunctionSpace, IdHashMap, IdHashSet, Tombstone, TombstoneArena, TypeId,
     TypeSpace, laws,
 };
 
-#[derive(Clone, PartialEq, Eq, Hash, Drop)]
+#[derive(Clone, PartialEq, Eq, PartialOrd, Ord, Drop)]
 struct Word(u32);
 
 impl Tombstone for Word {}
@@ -113,6 +114,13 @@ fn laws_can_be_cited(rt: HostRuntime) -> Result<(), Fail> {
     laws::search_finds_lowest(&arena);
     laws::ids_go_by_number::<TypeSpace>();
     Ok(())
+}
+
+#[test]
+fn ids_take_four_bytes(rt: HostRuntime) {
+    assert_eq!(rt; size_of::<TypeId>(), 4);
+    assert_eq!(rt; size_of::<Option<TypeId>>(), 8);
+    assert_eq!(rt; TypeId::from_index(4294967295).number(), 4294967295);
 }
 
 #[test]

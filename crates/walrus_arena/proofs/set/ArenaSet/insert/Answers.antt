@@ -1,5 +1,5 @@
 use Rattle.std.proofs.Common.{◌∙◌, refl, sym, ap, length}
-use Rattle.walrus_arena.proofs.SetLemmas.{IsIndex-found, IsIndex-absent, IsIndex-push}
+use Rattle.walrus_arena.proofs.SetLemmas.{IsIndex-found, IsIndex-absent, IsIndex-push, updated_where_equal}
 use Rattle.walrus_arena.proofs.set.ArenaSet.insert.Goals as goal
 
 pub returns-in-Some-clause-inserted : goal.returns-in-Some-clause-inserted
@@ -10,11 +10,11 @@ returns-in-Some-clause-inserted g c =
 pub invariant_of-self-2 : goal.invariant_of-self-2
 invariant_of-self-2 g c =
     rw (c.alloc_reserved.ensures.added, c.reserve.ensures.items)
-    (IsIndex-push g.met.T.Eq.laws c.self.invariant c.in_ok-key.key c.args.value c.index.result
+    (IsIndex-push g.met.T.Eq.laws c.self.invariant c.in_ok-key.key c.args.value c.number.result
     (c.requires c.in_ok-key.key c.in_ok-key.ensures.cases)
     (sym c.in_default.ensures.value)
-    (sym (ap length c.reserve.ensures.items) ∙ sym (c.index.ensures ∙ c.next_id.ensures))
-    c.in_ok-insert.ensures.updates.0)
+    (sym (ap length c.reserve.ensures.items) ∙ sym (c.number.ensures ∙ c.next_id.ensures))
+    (updated_where_equal _ _ _ g.met.T.Ord.matches_eq c.in_ok-key.key _ c.in_ok-insert.ensures.updates.0))
 
 pub returns-clause-inserted : goal.returns-clause-inserted
 returns-clause-inserted g c =
