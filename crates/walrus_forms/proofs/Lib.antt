@@ -1,4 +1,5 @@
 pub mod AbstractLemmas
+pub mod ConversionLemmas
 pub mod EqLemmas
 pub mod FormLemmas
 pub mod ListLemmas

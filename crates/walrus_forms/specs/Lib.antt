@@ -1,3 +1,4 @@
+pub mod Conversions
 pub mod Forms
 pub mod Kinds
 pub mod Lends

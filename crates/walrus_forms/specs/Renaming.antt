@@ -9,7 +9,7 @@ use Rattle.walrus_forms.specs.declared.value.ValType.TheVariants.{I32, I64, F32,
 use Rattle.walrus_forms.specs.declared.value.StorageType.{StorageType}
 use Rattle.walrus_forms.specs.declared.value.StorageType.TheVariants.{Val, I8, I16}
 use Rattle.walrus_forms.specs.declared.value.FieldType.{FieldType}
-use Rattle.walrus_forms.specs.Values.{heap_name, value_name, field_name}
+use Rattle.walrus_forms.specs.Values.{heap_name, ref_name, value_name, storage_name, field_name}
 use Rattle.walrus_forms.specs.Forms.{Form, FunctionForm, StructForm, ArrayForm}
 use Rattle.walrus_forms.specs.Kinds.{Kind}
 
@@ -58,8 +58,14 @@ index_at indices id = unwrap_or (slice_index_or indices id None) 0
 abbrev pub HeapBelow : ℕ → HeapType → Type 0
 HeapBelow n ty = IfSome (heap_name ty) (λ name. name < n)
 
+abbrev pub RefBelow : ℕ → RefType → Type 0
+RefBelow n ty = IfSome (ref_name ty) (λ name. name < n)
+
 abbrev pub ValueBelow : ℕ → ValType → Type 0
 ValueBelow n ty = IfSome (value_name ty) (λ name. name < n)
+
+abbrev pub StorageBelow : ℕ → StorageType → Type 0
+StorageBelow n storage = IfSome (storage_name storage) (λ name. name < n)
 
 abbrev pub FieldBelow : ℕ → FieldType → Type 0
 FieldBelow n field = IfSome (field_name field) (λ name. name < n)

@@ -33,10 +33,18 @@ heap_name (Abstract _) = None
 heap_name (Concrete id) = Some id
 heap_name (Exact id) = Some id
 
+-- the type that a reference type names
+abbrev pub ref_name : RefType → Option ℕ
+ref_name ty = heap_name ty.heap_type
+
 -- the type that a value type names
 abbrev pub value_name : ValType → Option ℕ
 value_name (Ref ty) = heap_name ty.heap_type
 value_name _ = None
+
+-- the type that what a field holds names
+abbrev pub storage_name : StorageType → Option ℕ
+storage_name storage = value_name (unpacked storage)
 
 -- the type that a field names
 abbrev pub field_name : FieldType → Option ℕ

@@ -1,14 +1,14 @@
 //! Records of forms: each name of a type replaced by its index.
 ghost use Rattle.std.specs.Prelude.{◌≡◌, IfOk, map};
 ghost use Rattle.walrus_forms.specs.Forms.{form_of};
-ghost use Rattle.walrus_forms.specs.Records.{heap_of, value_of, storage_of, field_of, record_form};
-ghost use Rattle.walrus_forms.specs.Renaming.{renamed_heap, renamed_value, renamed_storage, renamed_field, renamed_form, index_at};
+ghost use Rattle.walrus_forms.specs.Records.{heap_of, ref_of, value_of, storage_of, field_of, record_form};
+ghost use Rattle.walrus_forms.specs.Renaming.{renamed_heap, renamed_ref, renamed_value, renamed_storage, renamed_field, renamed_form, index_at};
 
 use crate::composite::CompositeType;
 use crate::record::{
     CompositeRecord, FieldRecord, HeapRecord, RefRecord, StorageRecord, ValRecord,
 };
-use crate::value::{FieldType, HeapType, StorageType, ValType};
+use crate::value::{FieldType, HeapType, RefType, StorageType, ValType};
 use std::alloc::{AllocError, Global};
 use walrus_arena::TypeId;
 
@@ -22,48 +22,74 @@ pub fn index_of(indices: &[Option<u32>], id: TypeId) -> u32
     }
 }
 
-fn heap_record(ty: HeapType, indices: &[Option<u32>]) -> HeapRecord
-    ensures { heap_of result ≡ renamed_heap (index_at indices.now) ty }
-{
-    match ty {
-        HeapType::Abstract(ty) => HeapRecord::Abstract(ty),
-        HeapType::Concrete(id) => HeapRecord::Concrete(index_of(indices, id)),
-        HeapType::Exact(id) => HeapRecord::Exact(index_of(indices, id)),
+impl HeapType {
+    /// Its record, in which the type that it names has the index that the list has for it, 0 where it has
+    /// none.
+    pub fn describe(self, indices: &[Option<u32>]) -> HeapRecord
+        ensures { heap_of result ≡ renamed_heap (index_at indices.now) self }
+    {
+        match self {
+            HeapType::Abstract(ty) => HeapRecord::Abstract(ty),
+            HeapType::Concrete(id) => HeapRecord::Concrete(index_of(indices, id)),
+            HeapType::Exact(id) => HeapRecord::Exact(index_of(indices, id)),
+        }
     }
 }
 
-fn value_record(ty: ValType, indices: &[Option<u32>]) -> ValRecord
-    ensures { value_of result ≡ renamed_value (index_at indices.now) ty }
-{
-    match ty {
-        ValType::I32 => ValRecord::I32,
-        ValType::I64 => ValRecord::I64,
-        ValType::F32 => ValRecord::F32,
-        ValType::F64 => ValRecord::F64,
-        ValType::V128 => ValRecord::V128,
-        ValType::Ref(ty) => ValRecord::Ref(RefRecord {
-            nullable: ty.nullable,
-            heap_type: heap_record(ty.heap_type, indices),
-        }),
+impl RefType {
+    /// Its record, in which the type that it names has the index that the list has for it, 0 where it has
+    /// none.
+    pub fn describe(self, indices: &[Option<u32>]) -> RefRecord
+        ensures { ref_of result ≡ renamed_ref (index_at indices.now) self }
+    {
+        RefRecord {
+            nullable: self.nullable,
+            heap_type: self.heap_type.describe(indices),
+        }
     }
 }
 
-fn storage_record(storage: StorageType, indices: &[Option<u32>]) -> StorageRecord
-    ensures { storage_of result ≡ renamed_storage (index_at indices.now) storage }
-{
-    match storage {
-        StorageType::Val(ty) => StorageRecord::Val(value_record(ty, indices)),
-        StorageType::I8 => StorageRecord::I8,
-        StorageType::I16 => StorageRecord::I16,
+impl ValType {
+    /// Its record, in which the type that it names has the index that the list has for it, 0 where it has
+    /// none.
+    pub fn describe(self, indices: &[Option<u32>]) -> ValRecord
+        ensures { value_of result ≡ renamed_value (index_at indices.now) self }
+    {
+        match self {
+            ValType::I32 => ValRecord::I32,
+            ValType::I64 => ValRecord::I64,
+            ValType::F32 => ValRecord::F32,
+            ValType::F64 => ValRecord::F64,
+            ValType::V128 => ValRecord::V128,
+            ValType::Ref(ty) => ValRecord::Ref(ty.describe(indices)),
+        }
     }
 }
 
-fn field_record(field: FieldType, indices: &[Option<u32>]) -> FieldRecord
-    ensures { field_of result ≡ renamed_field (index_at indices.now) field }
-{
-    FieldRecord {
-        element_type: storage_record(field.element_type, indices),
-        mutable: field.mutable,
+impl StorageType {
+    /// Its record, in which the type that it names has the index that the list has for it, 0 where it has
+    /// none.
+    pub fn describe(self, indices: &[Option<u32>]) -> StorageRecord
+        ensures { storage_of result ≡ renamed_storage (index_at indices.now) self }
+    {
+        match self {
+            StorageType::Val(ty) => StorageRecord::Val(ty.describe(indices)),
+            StorageType::I8 => StorageRecord::I8,
+            StorageType::I16 => StorageRecord::I16,
+        }
+    }
+}
+
+impl FieldType {
+    /// Its record, in which the type that it names has the index that the list has for it, 0 where it has
+    /// none.
+    pub fn describe(self, indices: &[Option<u32>]) -> FieldRecord
+        ensures { field_of result ≡ renamed_field (index_at indices.now) self }
+    {
+        FieldRecord {
+            element_type: self.element_type.describe(indices),
+            mutable: self.mutable,
+        }
     }
 }
 
@@ -76,7 +102,7 @@ fn value_records(
 {
     let mut records = Vec::with_capacity(alloc, values.len())?;
     for value in values {
-        records.push(value_record(*value, indices))?;
+        records.push(value.describe(indices))?;
     }
     Ok(records)
 }
@@ -90,7 +116,7 @@ fn field_records(
 {
     let mut records = Vec::with_capacity(alloc, fields.len())?;
     for field in fields {
-        records.push(field_record(*field, indices))?;
+        records.push(field.describe(indices))?;
     }
     Ok(records)
 }
@@ -120,7 +146,7 @@ impl CompositeType {
                 Ok(CompositeRecord::Struct { fields })
             }
             CompositeType::Array(ty) => Ok(CompositeRecord::Array {
-                field: field_record(ty.field, indices),
+                field: ty.field.describe(indices),
             }),
         }
     }

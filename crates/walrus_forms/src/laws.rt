@@ -1,5 +1,6 @@
 //! Laws of the words that the contracts of this crate cite. Each function is its contract alone.
 ghost use Rattle.std.specs.Prelude.{◌≡◌};
+ghost use Rattle.walrus_forms.specs.Conversions.{NamesAreRenamed, TypesComeBack, RecordsAreTold};
 ghost use Rattle.walrus_forms.specs.Same.{SameKindIsEquality};
 ghost use Rattle.walrus_forms.specs.Values.{named_types};
 ghost use Rattle.walrus_forms.specs.ValueOrder.{value_cmp, field_cmp};
@@ -48,3 +49,20 @@ pub fn fields_are_ordered(a: FieldType, b: FieldType)
     let _ = a;
     let _ = b;
 }
+
+/// The type that a renamed type names is the one that it named, renamed.
+pub fn names_are_renamed()
+    ensures { NamesAreRenamed }
+{}
+
+/// A type whose name is sent through a map, and then through one that undoes it, is the same: so a type is
+/// described and resolved again, where the lists undo each other on its name.
+pub fn types_come_back()
+    ensures { TypesComeBack }
+{}
+
+/// Records that describe one type are one: so a record is resolved and described again, where the lists undo
+/// each other on its index.
+pub fn records_are_told_apart()
+    ensures { RecordsAreTold }
+{}

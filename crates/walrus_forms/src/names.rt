@@ -28,7 +28,7 @@ fn push_value_names(values: &[ValType], refs: &mut Vec<TypeId>) -> Result<(), Al
     ensures kept { (n : ℕ) → n ≤ length refs.old.items → take n refs.new.items ≡ take n refs.old.items }
 {
     for value in values {
-        push_name(value.type_name(), refs)?;
+        push_name(value.type_id(), refs)?;
     }
     Ok(())
 }
@@ -40,7 +40,7 @@ fn push_field_names(fields: &[FieldType], refs: &mut Vec<TypeId>) -> Result<(), 
     ensures kept { (n : ℕ) → n ≤ length refs.old.items → take n refs.new.items ≡ take n refs.old.items }
 {
     for field in fields {
-        push_name(field.type_name(), refs)?;
+        push_name(field.type_id(), refs)?;
     }
     Ok(())
 }
@@ -85,7 +85,7 @@ fn values_name(values: &[ValType], id: TypeId) -> bool
 {
     values
         .iter()
-        .filter_map(|value| value.type_name())
+        .filter_map(|value| value.type_id())
         .any(|name| name.index() == id.index())
 }
 
@@ -94,6 +94,6 @@ fn fields_name(fields: &[FieldType], id: TypeId) -> bool
 {
     fields
         .iter()
-        .filter_map(|field| field.type_name())
+        .filter_map(|field| field.type_id())
         .any(|name| name.index() == id.index())
 }

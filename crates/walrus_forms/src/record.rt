@@ -2,8 +2,9 @@
 //! types).
 ghost use Rattle.std.specs.Prelude.{◌≡◌, ◌<◌, IfOk, IfSome, All, length, map};
 ghost use Rattle.walrus_forms.specs.Forms.{form_of};
-ghost use Rattle.walrus_forms.specs.Records.{heap_of, value_of, storage_of, field_of, record_form, record_kind, type_group};
-ghost use Rattle.walrus_forms.specs.Renaming.{HeapBelow, ValueBelow, FieldBelow, FormBelow, renamed_heap, renamed_value, renamed_field, renamed_storage, renamed_form, at};
+ghost use Rattle.walrus_forms.specs.Records.{heap_of, ref_of, value_of, storage_of, field_of, record_form, record_kind, type_group};
+ghost use Rattle.walrus_forms.specs.Values.{heap_name, ref_name, value_name, storage_name, field_name};
+ghost use Rattle.walrus_forms.specs.Renaming.{HeapBelow, RefBelow, ValueBelow, StorageBelow, FieldBelow, FormBelow, renamed_heap, renamed_ref, renamed_value, renamed_field, renamed_storage, renamed_form, at};
 
 use crate::composite::{ArrayType, CompositeType, FunctionType, StructType};
 use crate::value::{AbstractHeapType, FieldType, HeapType, RefType, StorageType, ValType};
@@ -88,8 +89,19 @@ pub struct GroupRecord {
 }
 
 impl HeapRecord {
-    // The type that it describes, where each index names the id that the list has there.
-    fn resolve(self, ids: &[TypeId]) -> HeapType
+    /// The index of the type that it names, if it names one.
+    pub fn type_index(&self) -> Option<u32>
+        ensures { result ≡ heap_name (heap_of self.now) }
+    {
+        match self {
+            HeapRecord::Abstract(_) => None,
+            HeapRecord::Concrete(index) | HeapRecord::Exact(index) => Some(*index),
+        }
+    }
+
+    /// The type that it describes, where each index names the id that the list has there. Asks that the
+    /// list has one for its index.
+    pub fn resolve(self, ids: &[TypeId]) -> HeapType
         requires { HeapBelow (length ids.now) (heap_of self) }
         ensures { result ≡ renamed_heap (at ids.now) (heap_of self) }
     {
@@ -101,9 +113,41 @@ impl HeapRecord {
     }
 }
 
+impl RefRecord {
+    /// The index of the type that it names, if it names one.
+    pub fn type_index(&self) -> Option<u32>
+        ensures { result ≡ ref_name (ref_of self.now) }
+    {
+        self.heap_type.type_index()
+    }
+
+    /// The type that it describes, where each index names the id that the list has there. Asks that the
+    /// list has one for its index.
+    pub fn resolve(self, ids: &[TypeId]) -> RefType
+        requires { RefBelow (length ids.now) (ref_of self) }
+        ensures { result ≡ renamed_ref (at ids.now) (ref_of self) }
+    {
+        RefType {
+            nullable: self.nullable,
+            heap_type: self.heap_type.resolve(ids),
+        }
+    }
+}
+
 impl ValRecord {
-    // The type that it describes, where each index names the id that the list has there.
-    fn resolve(self, ids: &[TypeId]) -> ValType
+    /// The index of the type that it names, if it names one.
+    pub fn type_index(&self) -> Option<u32>
+        ensures { result ≡ value_name (value_of self.now) }
+    {
+        match self {
+            ValRecord::Ref(ty) => ty.type_index(),
+            _ => None,
+        }
+    }
+
+    /// The type that it describes, where each index names the id that the list has there. Asks that the
+    /// list has one for its index.
+    pub fn resolve(self, ids: &[TypeId]) -> ValType
         requires { ValueBelow (length ids.now) (value_of self) }
         ensures { result ≡ renamed_value (at ids.now) (value_of self) }
     {
@@ -113,27 +157,52 @@ impl ValRecord {
             ValRecord::F32 => ValType::F32,
             ValRecord::F64 => ValType::F64,
             ValRecord::V128 => ValType::V128,
-            ValRecord::Ref(ty) => ValType::Ref(RefType {
-                nullable: ty.nullable,
-                heap_type: ty.heap_type.resolve(ids),
-            }),
+            ValRecord::Ref(ty) => ValType::Ref(ty.resolve(ids)),
+        }
+    }
+}
+
+impl StorageRecord {
+    /// The index of the type that it names, if it names one.
+    pub fn type_index(&self) -> Option<u32>
+        ensures { result ≡ storage_name (storage_of self.now) }
+    {
+        match self {
+            StorageRecord::Val(ty) => ty.type_index(),
+            StorageRecord::I8 | StorageRecord::I16 => None,
+        }
+    }
+
+    /// The type that it describes, where each index names the id that the list has there. Asks that the
+    /// list has one for its index.
+    pub fn resolve(self, ids: &[TypeId]) -> StorageType
+        requires { StorageBelow (length ids.now) (storage_of self) }
+        ensures { result ≡ renamed_storage (at ids.now) (storage_of self) }
+    {
+        match self {
+            StorageRecord::Val(ty) => StorageType::Val(ty.resolve(ids)),
+            StorageRecord::I8 => StorageType::I8,
+            StorageRecord::I16 => StorageType::I16,
         }
     }
 }
 
 impl FieldRecord {
-    // The type that it describes, where each index names the id that the list has there.
-    fn resolve(self, ids: &[TypeId]) -> FieldType
+    /// The index of the type that it names, if it names one.
+    pub fn type_index(&self) -> Option<u32>
+        ensures { result ≡ field_name (field_of self.now) }
+    {
+        self.element_type.type_index()
+    }
+
+    /// The type that it describes, where each index names the id that the list has there. Asks that the
+    /// list has one for its index.
+    pub fn resolve(self, ids: &[TypeId]) -> FieldType
         requires { FieldBelow (length ids.now) (field_of self) }
         ensures { result ≡ renamed_field (at ids.now) (field_of self) }
     {
-        let element_type = match self.element_type {
-            StorageRecord::Val(ty) => StorageType::Val(ty.resolve(ids)),
-            StorageRecord::I8 => StorageType::I8,
-            StorageRecord::I16 => StorageType::I16,
-        };
         FieldType {
-            element_type,
+            element_type: self.element_type.resolve(ids),
             mutable: self.mutable,
         }
     }

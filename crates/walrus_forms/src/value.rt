@@ -1,6 +1,6 @@
 //! Value types (Core Specification, value types) and what fields hold (field types).
 ghost use Rattle.std.specs.Prelude.{◌≡◌};
-ghost use Rattle.walrus_forms.specs.Values.{unpacked, heap_name, value_name, field_name};
+ghost use Rattle.walrus_forms.specs.Values.{unpacked, heap_name, ref_name, value_name, storage_name, field_name};
 
 use walrus_arena::TypeId;
 
@@ -39,8 +39,8 @@ pub struct RefType {
 }
 
 impl HeapType {
-    // The type that it names, if it names one.
-    pub(crate) fn type_name(&self) -> Option<TypeId>
+    /// The type that it names, if it names one.
+    pub fn type_id(&self) -> Option<TypeId>
         ensures { result ≡ heap_name self.now }
     {
         match self {
@@ -112,6 +112,13 @@ impl RefType {
     {
         self.nullable
     }
+
+    /// The type that it names, if it names one.
+    pub fn type_id(&self) -> Option<TypeId>
+        ensures { result ≡ ref_name self.now }
+    {
+        self.heap_type.type_id()
+    }
 }
 
 /// The type of a value on the stack, in the order in which types are written.
@@ -126,12 +133,12 @@ pub enum ValType {
 }
 
 impl ValType {
-    // The type that it names, if it names one.
-    pub(crate) fn type_name(&self) -> Option<TypeId>
+    /// The type that it names, if it names one.
+    pub fn type_id(&self) -> Option<TypeId>
         ensures { result ≡ value_name self.now }
     {
         match self {
-            ValType::Ref(ty) => ty.heap_type.type_name(),
+            ValType::Ref(ty) => ty.type_id(),
             _ => None,
         }
     }
@@ -155,6 +162,13 @@ impl StorageType {
             StorageType::I8 | StorageType::I16 => ValType::I32,
         }
     }
+
+    /// The type that it names, if it names one.
+    pub fn type_id(&self) -> Option<TypeId>
+        ensures { result ≡ storage_name self.now }
+    {
+        self.unpack().type_id()
+    }
 }
 
 /// The type of a field. Those that can't be written come first in the order.
@@ -165,10 +179,10 @@ pub struct FieldType {
 }
 
 impl FieldType {
-    // The type that it names, if it names one.
-    pub(crate) fn type_name(&self) -> Option<TypeId>
+    /// The type that it names, if it names one.
+    pub fn type_id(&self) -> Option<TypeId>
         ensures { result ≡ field_name self.now }
     {
-        self.element_type.unpack().type_name()
+        self.element_type.type_id()
     }
 }

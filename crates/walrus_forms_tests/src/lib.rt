@@ -2,8 +2,12 @@
 #![tactic(auto)]
 
 #[cfg(test)]
+mod conversions;
+#[cfg(test)]
 mod forms;
 #[cfg(test)]
 mod orders;
 #[cfg(test)]
 mod records;
+#[cfg(test)]
+mod sizes;
