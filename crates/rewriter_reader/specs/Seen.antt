@@ -3,7 +3,9 @@ use Rattle.std.specs.Prelude.{ℕ, ◌+◌, ◌-◌, ◌≤◌, ◌<◌, ◌^◌
 use Rattle.std.specs.Borrow.{Bor}
 use Rattle.std.specs.Global.{Vec}
 use Rattle.std.specs.List.{list_any}
-use Rattle.std.specs.HashSet.{HashSet, contains_by}
+use Rattle.std.specs.BTreeSet.{BTreeSet, contains}
+use Rattle.std.specs.Cmp.Lexicographic.{slice_cmp}
+use Rattle.std.specs.Ordering.{nat_cmp}
 use Rattle.wasm_reader.specs.Cursor.{Cursor, rest, end_of}
 use Rattle.wasm_model.specs.declared.fault.Fault.{Fault}
 use Rattle.wasm_model.specs.Stop.{Stop, StopsWith, place_of}
@@ -40,8 +42,8 @@ abbrev pub sections_of : Sections → sections.Sections
 sections_of s = record { types = map type_of s.types.items; functions = s.functions.items; exports = map export_of s.exports.items; start = s.start; chunks = code_of s.code }
 
 -- the names are those of the exports
-abbrev pub HasNames : {S : Type 0} → HashSet (Bor (List ℕ)) S → List Export → Type 0
-HasNames names exports = (name : List ℕ) → contains_by (λ k. same_name name k.now) names ≡ list_any (λ e. same_name e.name name) (map export_of exports)
+abbrev pub HasNames : BTreeSet (Bor (List ℕ)) → List Export → Type 0
+HasNames names exports = (name : Bor (List ℕ)) → contains (λ k l. slice_cmp nat_cmp k.now l.now) names name ≡ list_any (λ e. same_name e.name name.now) (map export_of exports)
 
 -- what is left to read and what was read end in a code section that ends `finish` bytes behind its function count
 pub record AreWithin (finish : ℕ) (chunks : List Chunk) (c : Cursor) : Type 0 where

@@ -10,7 +10,7 @@ use crate::entries::ReadEntry;
 use crate::section::read_list;
 use rewriter_module::Export;
 use std::alloc::Global;
-use std::collections::HashSet;
+use std::collections::BTreeSet;
 use wasm_model::fault::{Fault, Form, Limited, Space};
 use wasm_reader::limits::MAX_WASM_EXPORTS;
 use wasm_reader::{BinaryReader, Error, ErrorKind};
@@ -31,11 +31,12 @@ fn read_kind(reader: &mut BinaryReader<'_>) -> Result<u8, Fault>
     }
 }
 
-// The entries of the export section: names of so many functions, each another one.
+// The entries of the export section: names of so many functions, each another one. The names come from the file, so they are kept in order
+// and not in a hash table: whatever they are, each is compared with few others.
 #[derive(Drop)]
 struct ExportEntries<'a> {
     functions: usize,
-    names: HashSet<&'a str>,
+    names: BTreeSet<&'a str>,
 }
 
 impl<'a> ReadEntry<'a> for ExportEntries<'a> {
@@ -92,6 +93,6 @@ pub(crate) fn read_exports<'a>(
 ) -> Result<Option<Vec<Export<'a>>>, Fault>
     ensures { Parses (section_at 7 (λ _. vec_at (export_entry functions))) (option_map (λ v. map export_of v.items)) reader.old reader.new result }
 {
-    let names = HashSet::new(alloc);
+    let names = BTreeSet::new(alloc);
     read_list(alloc, 7, &mut ExportEntries { functions, names }, reader)
 }
