@@ -52,3 +52,8 @@ module _ {T : Type 0} where
   -- the lowest live id whose item passes the test
   abbrev pub lowest_id : (T → Bool) → Arena T → Option ℕ
   lowest_id test a = option_map (λ e. e.0) (find (λ e. test e.1) (entries a))
+
+  -- the item was told that it is deleted, which made something of it: as `told` is any relation of the
+  -- items' type, nothing but a call shows that
+  abbrev pub IsTold : (T → T → Type 0) → T → Type 0
+  IsTold told item = (after : T) × told item after

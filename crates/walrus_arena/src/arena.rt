@@ -1,8 +1,8 @@
 //! The arena: slots by id, live or dead.
-ghost use Rattle.std.specs.Prelude.{◌≡◌, ◌+◌, ◌<◌, ◌≤◌, ◌↔◌, [], ◌∷◌, ◌++◌, IsTrue, IsSome, IsOk, IfOk, OnOk, OnErr, Some, None, slice_set, option_copied};
+ghost use Rattle.std.specs.Prelude.{◌≡◌, ◌+◌, ◌<◌, ◌≤◌, ◌↔◌, [], ◌∷◌, ◌++◌, IsTrue, IsSome, IfSome, IsOk, IfOk, OnOk, OnErr, Some, None, slice_set, option_copied};
 ghost use Rattle.std.specs.Option.{option_copied_mut};
 ghost use Rattle.std.specs.Borrow.{sem};
-ghost use Rattle.walrus_arena.specs.Arena.{item_at, IsLive, next_id, live_count, entries, ids};
+ghost use Rattle.walrus_arena.specs.Arena.{item_at, IsLive, next_id, live_count, entries, ids, IsTold};
 ghost use Rattle.walrus_arena.specs.Lends.{lends_get, lends_item, lends_slot};
 
 use crate::id::Id;
@@ -13,8 +13,12 @@ use std::ops::{Index, IndexMut};
 
 /// An item that frees what it holds as it is deleted.
 pub trait Tombstone {
+    /// What being told so may make of an item.
+    ghost told: { Self → Self → Type 0 } = { λ _ _. Unit {0} };
+
     /// Is called once, as the item is deleted. The item is dropped afterwards.
-    fn on_delete(&mut self) {}
+    fn on_delete(&mut self)
+        ensures { told self.old self.new };
 }
 
 /// Items under ids. A deleted item's id stays dead, and no id is given out twice.
@@ -149,6 +153,7 @@ impl<T, S> TombstoneArena<T, S> {
         T: Tombstone + Drop,
         requires { IsLive self.old id }
         ensures deleted { self.new.slots ≡ slice_set self.old.slots id None }
+        ensures told { IfSome (item_at self.old id) (IsTold T.told) }
         ensures room { self.old.room ≤ self.new.room }
     {
         if let Some(mut item) = self.items[id.index()].take() {

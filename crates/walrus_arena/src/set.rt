@@ -1,6 +1,6 @@
 //! A set of values under ids.
-ghost use Rattle.std.specs.Prelude.{◌≡◌, [], ◌∷◌, ◌++◌, IsTrue, IfOk, OnErr, Some, None, MatchOption, slice_set};
-ghost use Rattle.walrus_arena.specs.Arena.{item_at, IsLive, next_id, entries};
+ghost use Rattle.std.specs.Prelude.{◌≡◌, [], ◌∷◌, ◌++◌, IsTrue, IfSome, IfOk, OnErr, Some, None, MatchOption, slice_set};
+ghost use Rattle.walrus_arena.specs.Arena.{item_at, IsLive, next_id, entries, IsTold};
 ghost use Rattle.walrus_arena.specs.Set.{id_equal_to, AreDistinct};
 
 use crate::arena::{Tombstone, TombstoneArena};
@@ -81,7 +81,8 @@ impl<T: Clone + Ord> ArenaSet<T> {
     pub fn remove(&mut self, id: Id<T>)
     where
         T: Tombstone,
-        ensures { self.new ≡ record self.old { slots = slice_set self.old.slots id None } }
+        ensures removed { self.new ≡ record self.old { slots = slice_set self.old.slots id None } }
+        ensures told { IfSome (item_at self.old id) (IsTold T.told) }
     {
         let index = id.index();
         if let Some(value) = self.arena.get(Id::from_index(index)) {

@@ -10,7 +10,9 @@ use walrus_arena::{
 #[derive(Clone, PartialEq, Eq, PartialOrd, Ord, Drop)]
 struct Word(u32);
 
-impl Tombstone for Word {}
+impl Tombstone for Word {
+    fn on_delete(&mut self) {}
+}
 
 // Counts how often it is told that it is deleted.
 #[derive(Drop)]

@@ -32,7 +32,7 @@ pub mod laws {
     pub use walrus_instr::laws as constants;
     pub use walrus_type_order::laws as sorting;
     pub use walrus_types::laws as types;
-    pub use walrus_walks::laws as walks;
+    pub use walrus_walks::{laws as walks, visit_laws as visits};
 
     /// Laws of tables of types: what is read and emitted, once and again, and in another order.
     pub mod tables {

@@ -31,7 +31,9 @@ pub struct Type {
     pub name: Option<String>,
 }
 
-impl Tombstone for Type {}
+impl Tombstone for Type {
+    fn on_delete(&mut self) {}
+}
 
 impl Type {
     /// A type without a name. One that is marked as an entry type is that of a body's own block.
@@ -195,7 +197,9 @@ pub struct RecGroup {
     explicit: bool,
 }
 
-impl Tombstone for RecGroup {}
+impl Tombstone for RecGroup {
+    fn on_delete(&mut self) {}
+}
 
 impl RecGroup {
     /// A group of these members, which is written as one, even of one member alone, or not.

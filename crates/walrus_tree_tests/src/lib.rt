@@ -6,6 +6,8 @@ mod built;
 #[cfg(test)]
 mod changing;
 #[cfg(test)]
+mod constants;
+#[cfg(test)]
 mod forms;
 #[cfg(test)]
 mod hooks;
@@ -19,5 +21,7 @@ mod log_mut;
 mod refused;
 #[cfg(test)]
 mod renamer;
+#[cfg(test)]
+mod sizes;
 #[cfg(test)]
 mod tests;

@@ -1,5 +1,6 @@
 pub mod Checks
 pub mod Events
+pub mod ConstEvents
 pub mod Tree
 pub mod Steps
 pub mod Walk

@@ -7,6 +7,8 @@ mod nesting;
 mod pre_order_mut;
 mod steps;
 mod visit;
+mod visit_const;
+pub mod visit_laws;
 mod visit_mut;
 mod visitor;
 mod visitor_mut;

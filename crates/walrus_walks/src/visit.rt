@@ -18,7 +18,7 @@ pub trait Visit {
         ensures { FoldsTo V.step visitor.old (tells self.now) visitor.new };
 }
 
-fn visit_ref_type<V: Visitor>(visitor: &mut V, ty: &RefType)
+pub(crate) fn visit_ref_type<V: Visitor>(visitor: &mut V, ty: &RefType)
     ensures { FoldsTo V.step visitor.old (ref_names ty.now) visitor.new }
 {
     match &ty.heap_type {
@@ -97,7 +97,7 @@ impl Visit for InstrSeqId {
     }
 }
 
-fn visit_all<T: Visit, V: Visitor>(visitor: &mut V, items: &[T])
+pub(crate) fn visit_all<T: Visit, V: Visitor>(visitor: &mut V, items: &[T])
     ensures { FoldsTo V.step visitor.old (events_of T.tells items.now) visitor.new }
 {
     for item in items {
