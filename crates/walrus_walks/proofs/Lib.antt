@@ -1,3 +1,4 @@
+pub mod Bodies
 pub mod Entering
 pub mod Folds
 pub mod Marks
