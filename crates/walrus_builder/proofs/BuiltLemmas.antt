@@ -1,5 +1,5 @@
 -- Writes to one of the sequences, as edits.
-use Rattle.std.proofs.Common.{ℕ, zero, suc, ◌+◌, ◌<◌, ◌≤◌, ◌≡◌, ◌≢◌, min, Bool, true, false, ◌&&◌, if◌then◌else◌, eqb, eq-eqb, lt-ltb, true≢false, insert, take, drop, option_map, List, [], ◌∷◌, ◌++◌, length, map, get_or, Some, refl, sym, ap, subst, arith, ◌∙◌, inl, inr, Result, Ok, Err, length-append}
+use Rattle.std.proofs.Common.{ℕ, zero, suc, ◌+◌, ◌<◌, ◌≡◌, ◌≢◌, min, Bool, true, false, ◌&&◌, if◌then◌else◌, eqb, eq-eqb, lt-ltb, true≢false, insert, take, drop, option_map, List, [], ◌∷◌, ◌++◌, length, map, get_or, Some, refl, sym, ap, subst, arith, ◌∙◌, inl, inr, Result, Ok, Err, length-append}
 use Rattle.std.proofs.lemmas.List.{length-map, take_min, drop_min}
 use Rattle.std.proofs.lemmas.Bool.{cases_lt}
 use Rattle.std.specs.Prelude.{slice_get, slice_set, IsErr, IfErr}
@@ -11,6 +11,7 @@ use Rattle.walrus_instr.specs.declared.instr.Instr.{Instr}
 use Rattle.walrus_instr.specs.declared.seq.InstrLocId.{InstrLocId}
 use Rattle.walrus_instr.specs.declared.seq.InstrSeq.{InstrSeq}
 use Rattle.walrus_builder.specs.Built.{Building, Seq, seq_of, contents, no_place, with_instrs, edited, Edits, Keeps, Extends, ExtendsAlways, EditsAt, inserts, back_to, IsLeft, IsRefused, IsRefusedOfTwo}
+use Rattle.walrus_builder.specs.Edited.{edited_length, edited_others, edited_past}
 use Rattle.walrus_builder.specs.Built.IsRefused.{Unbegun, Failed, Ungrown}
 use Rattle.walrus_builder.specs.Built.IsRefusedOfTwo.{First, Second}
 
@@ -44,18 +45,6 @@ edited_same (s ∷ ss) (suc k) = ap (λ (ys : List Seq). s ∷ ys) (edited_same 
 -- a write that leaves what is seen
 pub kept_set : (xs : List InstrSeq) (j k : ℕ) (s t : InstrSeq) → j ≡ k → k < length xs → s ≡ get_or xs j s → seq_of t ≡ seq_of s → map seq_of (slice_set xs j t) ≡ map seq_of xs
 kept_set xs j k s t q l e h = edited_set (λ u. u) xs j k s t q l e h ∙ edited_same (map seq_of xs) k
-
-edited_length : (f : Seq → Seq) (ss : List Seq) (k : ℕ) → length (edited f ss k) ≡ length ss
-edited_length f [] k = refl
-edited_length f (s ∷ ss) zero = refl
-edited_length f (s ∷ ss) (suc k) = ap suc (edited_length f ss k)
-
-edited_others : (f : Seq → Seq) (ss : List Seq) (k j : ℕ) → j ≢ k → slice_get (edited f ss k) j ≡ slice_get ss j
-edited_others f [] k j n = refl
-edited_others f (s ∷ ss) zero zero n = absurd (n refl)
-edited_others f (s ∷ ss) zero (suc j) n = refl
-edited_others f (s ∷ ss) (suc k) zero n = refl
-edited_others f (s ∷ ss) (suc k) (suc j) n = edited_others f ss k j (λ e. n (ap suc e))
 
 -- an edit changes the sequence at hand alone
 extends_edited : (old : Building) (f : Seq → Seq) (new : Building) → new.id ≡ old.id → contents new ≡ edited f (contents old) old.id → Extends old new
@@ -94,10 +83,6 @@ edits_err old f (Err x) new h i e = record { id = i; made = e; others = extends_
 -- the sequence with other instructions
 pub instrs_become : (s : InstrSeq) (is js : List (Instr × InstrLocId)) → is ≡ js → with_instrs (seq_of s) is ≡ with_instrs (seq_of s) js
 instrs_become s is js e = ap (with_instrs (seq_of s)) e
-
--- the instruction with the location that was made for it
-pub pushed_items : (is js : List (Instr × InstrLocId)) (i : Instr) (p : InstrLocId) → js ≡ is ++ (i, p) ∷ [] → p ≡ no_place → js ≡ is ++ (i, no_place) ∷ []
-pushed_items is js i p e q = e ∙ ap (λ (l : InstrLocId). is ++ (i, l) ∷ []) q
 
 -- the sequence at an id, as it is seen
 pub seq_seen : (xs : List InstrSeq) (k : ℕ) (s : InstrSeq) → k < length xs → s ≡ get_or xs k s → slice_get (map seq_of xs) k ≡ Some (seq_of s)
@@ -149,11 +134,6 @@ module _ {F : Type 0} (g : Once F (MutBor Building × Unit {0}) (Result (Unit {0
   called_as shown left r q e h = let G : Result (Unit {0}) AllocError → Type 0 = λ p. FnOnceReturnsAtMut g make shown.now p left.now in subst G e (called shown left r h)
 
 -- ---- an edit at an id
-edited_past : (f : Seq → Seq) (ss : List Seq) (k : ℕ) → length ss ≤ k → edited f ss k ≡ ss
-edited_past f [] k l = refl
-edited_past f (s ∷ ss) zero l = absurd (omega (arith, l))
-edited_past f (s ∷ ss) (suc k) l = ap (λ (ys : List Seq). s ∷ ys) (edited_past f ss k (omega (arith, l)))
-
 -- nothing is to be done where there is no sequence of that id
 pub edits_nowhere : (old : Building) (outer id : ℕ) (f : Seq → Seq) → (outer < length old.seqs → old.id ≡ outer) → id ≡ old.id → false ≡ (eqb id outer && true) → EditsAt old outer f (Ok tt) old
 edits_nowhere old outer id f back same other = record {

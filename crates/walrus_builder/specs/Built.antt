@@ -39,9 +39,17 @@ empty_seq id ty = record { id = id; ty = ty; instrs = []; end = no_place }
 abbrev pub with_instrs : Seq → List (Instr × InstrLocId) → Seq
 with_instrs s is = record { id = s.id; ty = s.ty; instrs = is; end = s.end }
 
--- the sequence with this instruction at its end
+-- the sequence with this instruction from this location at its end
+abbrev pub pushes_from : InstrLocId → Instr → Seq → Seq
+pushes_from place i s = with_instrs s (s.instrs ++ (i, place) ∷ [])
+
+-- the sequence with this instruction at its end, without a location
 abbrev pub pushes : Instr → Seq → Seq
-pushes i s = with_instrs s (s.instrs ++ (i, no_place) ∷ [])
+pushes i s = pushes_from no_place i s
+
+-- the sequence with these instructions and this location of its end in place of its own
+abbrev pub filled_with : List (Instr × InstrLocId) → InstrLocId → Seq → Seq
+filled_with is end s = record { id = s.id; ty = s.ty; instrs = is; end = end }
 
 -- the sequence with this instruction at a position
 abbrev pub inserts : ℕ → Instr → Seq → Seq

@@ -1,7 +1,8 @@
 -- What a contract sees of a function that is built.
-use Rattle.std.specs.Prelude.{◌≡◌, ℕ, List, [], ◌∷◌, None}
+use Rattle.std.specs.Prelude.{◌≡◌, ℕ, List, [], ◌∷◌, None, slice_set}
 use Rattle.std.specs.Borrow.{Lends, Fml, MutBor}
 use Rattle.walrus_instr.specs.declared.seq.InstrSeq.{InstrSeq}
+use Rattle.walrus_instr.specs.contracts.seq.InstrSeq.{the_row as seq_row}
 use Rattle.walrus_forms.specs.declared.value.ValType.{ValType}
 use Rattle.walrus_forms.specs.Kinds.{function_kind, entry_kind}
 use Rattle.walrus_types.specs.Pairs.{MergesBoth}
@@ -33,3 +34,7 @@ pub record IsNew (params results : List ValType) (f : FunctionBuilder) (old new 
 -- once the borrow r ends, the function has the sequences written through r
 abbrev pub lends_builder : MutBor FunctionBuilder → MutBor Building → Fml
 lends_builder s r = Lends function_row builder_row s r (λ b. record s.now { builder = b })
+
+-- once the borrow r ends, the function has at the id the sequence written through r
+abbrev pub lends_seq_of : MutBor FunctionBuilder → ℕ → MutBor InstrSeq → Fml
+lends_seq_of s id r = Lends function_row seq_row s r (λ seq. record s.now { builder = record s.now.builder { seqs = slice_set s.now.builder.seqs id seq } })

@@ -1,3 +1,5 @@
 pub mod Built
+pub mod Edited
 pub mod Functions
 pub mod Lends
+pub mod OwnIds

@@ -1,14 +1,14 @@
 //! Building of functions.
-ghost use Rattle.std.specs.Prelude.{◌≡◌, ◌<◌, [], ◌∷◌, ◌++◌, length, IfOk, OnOk, OnErr, Some, None, string_bytes};
+ghost use Rattle.std.specs.Prelude.{◌≡◌, ◌<◌, [], ◌∷◌, ◌++◌, length, slice_get, IfOk, OnOk, OnErr, Some, None, string_bytes};
 ghost use Rattle.std.specs.Option.{option_map};
 ghost use Rattle.std.specs.Borrow.{sem};
-ghost use Rattle.walrus_builder.specs.Built.{contents, empty_seq};
-ghost use Rattle.walrus_builder.specs.Functions.{lends_builder, seqs_of, IsOf, IsNew};
+ghost use Rattle.walrus_builder.specs.Built.{contents, edited, empty_seq, filled_with};
+ghost use Rattle.walrus_builder.specs.Functions.{lends_builder, lends_seq_of, seqs_of, IsOf, IsNew};
 
 use crate::seq_builder::InstrSeqBuilder;
 use std::alloc::{AllocError, Global};
 use walrus_arena::{InstrSeqId, TypeId};
-use walrus_instr::{InstrSeq, InstrSeqType};
+use walrus_instr::{Instr, InstrLocId, InstrSeq, InstrSeqType};
 use walrus_types::{ModuleTypes, ValType};
 
 /// A function that is built: its type, its name, and the sequences of its body, whose own is the first.
@@ -123,6 +123,29 @@ impl FunctionBuilder {
     {
         self.builder.go_to(id);
         &mut self.builder
+    }
+
+    /// A sequence of a known id, for writing: its type, its instructions and the location of its `end`. Its id
+    /// stays; a whole sequence that is put in its place brings its own.
+    pub fn seq_mut(&mut self, id: InstrSeqId) -> &mut InstrSeq
+        requires { id < length (seqs_of self.old) }
+        ensures* writes_back { sem 𝓛 (lends_seq_of self.entry id result) }
+        ensures value { slice_get (seqs_of self.old) id ≡ Some result.now }
+    {
+        self.builder.seq_mut(id)
+    }
+
+    /// Gives a sequence of a known id these instructions, and its `end` this location, in place of its own. Takes
+    /// no memory.
+    pub fn fill(&mut self, id: InstrSeqId, instrs: Vec<(Instr, InstrLocId)>, end: InstrLocId)
+        requires { id < length (seqs_of self.old) }
+        ensures filled { contents self.new.builder ≡ edited (filled_with instrs.items end) (contents self.old.builder) id }
+        ensures ty { self.new.ty ≡ self.old.ty }
+        ensures name { self.new.name ≡ self.old.name }
+    {
+        let seq = self.seq_mut(id);
+        seq.instrs = instrs;
+        seq.end = end;
     }
 
     /// Adds an empty sequence that no instruction holds yet, and gives its id.

@@ -3,6 +3,7 @@
 
 mod blocks;
 mod function;
+pub mod laws;
 mod plain_control;
 mod plain_memory;
 mod plain_reference;
@@ -11,4 +12,4 @@ mod walks;
 
 pub use function::FunctionBuilder;
 pub use seq_builder::InstrSeqBuilder;
-pub use walks::{check_nesting, dfs_in_order, dfs_pre_order_mut};
+pub use walks::{check_nesting, dfs_body_in_order, dfs_in_order, dfs_pre_order_mut};

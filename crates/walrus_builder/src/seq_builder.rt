@@ -2,8 +2,8 @@
 ghost use Rattle.std.specs.Prelude.{◌≡◌, ◌<◌, ◌≤◌, [], ◌∷◌, ◌++◌, length, slice_get, Some, Ok, IfOk, IfErr, OnOk, OnErr, insert};
 ghost use Rattle.std.specs.Borrow.{sem};
 ghost use Rattle.std.specs.Option.{option_map};
-ghost use Rattle.walrus_builder.specs.Built.{contents, empty_seq, no_place, pushes, inserts, back_to, Edits, EditsAt, IsBegun, IsLeft, IsRefused};
-ghost use Rattle.walrus_builder.specs.Lends.{lends_instrs};
+ghost use Rattle.walrus_builder.specs.Built.{contents, empty_seq, no_place, pushes, pushes_from, inserts, back_to, Edits, EditsAt, IsBegun, IsLeft, IsRefused};
+ghost use Rattle.walrus_builder.specs.Lends.{lends_instrs, lends_seq};
 
 use std::alloc::{AllocError, Global};
 use std::marker::Model;
@@ -81,6 +81,15 @@ impl InstrSeqBuilder {
         &mut seq.instrs
     }
 
+    // A sequence of a known id, for writing.
+    pub(crate) fn seq_mut(&mut self, id: InstrSeqId) -> &mut InstrSeq
+        requires { id < length self.old.seqs }
+        ensures* writes_back { sem 𝓛 (lends_seq self.entry id result) }
+        ensures value { slice_get self.old.seqs id ≡ Some result.now }
+    {
+        &mut self.seqs[id.index()]
+    }
+
     // Takes the body's own sequence at hand.
     pub(crate) fn go_to_body(&mut self)
         ensures id { self.new.id ≡ 0 }
@@ -114,8 +123,23 @@ impl InstrSeqBuilder {
     pub fn instr(&mut self, instr: Instr) -> Result<(), AllocError>
         ensures { Edits self.old (pushes instr) result self.new }
     {
+        self.instr_with_location(instr, InstrLocId::default())
+    }
+
+    /// Appends an instruction with the location that it is from.
+    ///
+    /// # Errors
+    ///
+    /// Want of memory. The sequences stay as they were, and the instruction is dropped.
+    pub fn instr_with_location(
+        &mut self,
+        instr: Instr,
+        location: InstrLocId,
+    ) -> Result<(), AllocError>
+        ensures { Edits self.old (pushes_from location instr) result self.new }
+    {
         let seq = &mut self.seqs[self.id.index()];
-        seq.instrs.push((instr, InstrLocId::default()))?;
+        seq.instrs.push((instr, location))?;
         Ok(())
     }
 

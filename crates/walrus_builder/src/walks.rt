@@ -5,7 +5,7 @@ ghost use Rattle.walrus_walks.specs.Changing.{Walked, WalkedPart};
 ghost use Rattle.walrus_walks.specs.Fronts.{FoldsFront};
 ghost use Rattle.walrus_walks.specs.Order.{held_by};
 ghost use Rattle.walrus_walks.specs.Tree.{IsNested};
-ghost use Rattle.walrus_walks.specs.Walk.{walk};
+ghost use Rattle.walrus_walks.specs.Walk.{body_walk, walk};
 ghost use Rattle.walrus_builder.specs.Functions.{seqs_of};
 
 use crate::function::FunctionBuilder;
@@ -30,6 +30,26 @@ pub fn dfs_in_order<V: Visitor>(
     ensures refused { OnErr result (FoldsFront V.step visitor.old (walk (seqs_of body.now) start) visitor.new) }
 {
     walrus_walks::dfs_in_order(alloc, visitor, body.seqs(), start)?;
+    Ok(())
+}
+
+/// Tells the visitor of a body, as `walrus_walks::dfs_body_in_order` does: of its own sequence and of all that it
+/// holds, but for what the block type of its own sequence names, which is no reference. Asks for a nested body.
+///
+/// # Errors
+///
+/// Want of memory. The visitor has then been told a first part of that, and nothing else.
+pub fn dfs_body_in_order<V: Visitor>(
+    alloc: Global,
+    visitor: &mut V,
+    body: &FunctionBuilder,
+) -> Result<(), AllocError>
+    requires { IsNested (seqs_of body.now) 0 }
+    ensures walked { IfOk result (λ _. FoldsTo V.step visitor.old (body_walk (seqs_of body.now) 0) visitor.new) }
+    ensures refused { OnErr result (FoldsFront V.step visitor.old (body_walk (seqs_of body.now) 0) visitor.new) }
+{
+    let own = body.func_body_id();
+    walrus_walks::dfs_body_in_order(alloc, visitor, body.seqs(), own)?;
     Ok(())
 }
 

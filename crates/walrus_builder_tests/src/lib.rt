@@ -17,3 +17,5 @@ mod memory;
 mod reference;
 #[cfg(test)]
 mod rows;
+#[cfg(test)]
+mod writing;

@@ -10,7 +10,8 @@ pub use walrus_arena::{
     TypeSpace, UntypedCustomSectionId, UntypedCustomSectionSpace,
 };
 pub use walrus_builder::{
-    FunctionBuilder, InstrSeqBuilder, check_nesting, dfs_in_order, dfs_pre_order_mut,
+    FunctionBuilder, InstrSeqBuilder, check_nesting, dfs_body_in_order, dfs_in_order,
+    dfs_pre_order_mut,
 };
 pub use walrus_instr::{
     AtomicOp, AtomicWidth, BinaryOp, Bits128, ConstExpr, ConstOp, ExtendedLoad, Instr, InstrLocId,
@@ -28,6 +29,7 @@ pub use walrus_walks::{Visit, VisitMut, Visitor, VisitorMut};
 /// Laws of the words that contracts cite.
 pub mod laws {
     pub use walrus_arena::laws as arenas;
+    pub use walrus_builder::laws as building;
     pub use walrus_forms::laws as forms;
     pub use walrus_instr::laws as constants;
     pub use walrus_type_order::laws as sorting;

@@ -1,3 +1,4 @@
+pub mod Bodies
 pub mod ConstTells
 pub mod Entering
 pub mod Folds

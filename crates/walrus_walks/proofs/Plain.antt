@@ -7,10 +7,11 @@ use Rattle.std.proofs.lemmas.List.Elements.{All-nil, All-cons}
 use Rattle.walrus_instr.specs.declared.seq.InstrSeq.{InstrSeq}
 use Rattle.walrus_walks.specs.Tree.{children_in, IsRank, IsNested}
 use Rattle.walrus_walks.specs.Events.{Event, StartOf, EndOf, block_names}
-use Rattle.walrus_walks.specs.Walk.{walk}
+use Rattle.walrus_walks.specs.Walk.{of_items, walk}
 use Rattle.walrus_walks.specs.Order.{held_by, orders, order_of, order_within, order}
 use Rattle.walrus_walks.specs.Changing.{SeqVisited}
-use Rattle.walrus_walks.specs.Plain.{HeldAreNested, IsPlainWalk, WalkIsPlain, PlainWalkIsOne, IsPlainOrder, OrderIsPlain, PlainOrderIsOne, OrderIsKept, ChangesArePlain}
+use Rattle.walrus_walks.specs.Plain.{HeldAreNested, IsPlainWalk, WalkIsPlain, PlainWalkIsOne, BodyWalkIsWalk, IsPlainOrder, OrderIsPlain, PlainOrderIsOne, OrderIsKept, ChangesArePlain}
+use Rattle.walrus_walks.proofs.Bodies.{body_at}
 use Rattle.walrus_walks.proofs.Folds.{folds_append}
 use Rattle.walrus_walks.proofs.Nested.{AllNested, items_agree, falls_agree, walk_at, nested_seq}
 use Rattle.walrus_walks.proofs.Orders.{falls_last_first, orders_agree, order_at}
@@ -24,6 +25,9 @@ held_are_nested b k s h e = all_nested b (children_in s.instrs.items) (nested_se
 
 pub walk_is_plain : WalkIsPlain
 walk_is_plain b k s h e = walk_at b k s h e
+
+pub body_walk_is_walk : BodyWalkIsWalk
+body_walk_is_walk b k s h e = (of_items (walk b) s.instrs.items ++ EndOf s ∷ [], walk_at b k s h e, body_at b k s e)
 
 pub order_is_plain : OrderIsPlain
 order_is_plain b k s h e = order_at b k s h e

@@ -4,7 +4,7 @@ use Rattle.std.specs.List.{FoldsTo}
 use Rattle.walrus_instr.specs.declared.seq.InstrSeq.{InstrSeq}
 use Rattle.walrus_walks.specs.Tree.{children_in, IsNested}
 use Rattle.walrus_walks.specs.Events.{Event, StartOf, EndOf, block_names}
-use Rattle.walrus_walks.specs.Walk.{of_items, walk}
+use Rattle.walrus_walks.specs.Walk.{of_items, walk, body_walk}
 use Rattle.walrus_walks.specs.Order.{held_by, orders, order}
 use Rattle.walrus_walks.specs.Changing.{SeqVisited}
 
@@ -24,6 +24,11 @@ WalkIsPlain = (b : List InstrSeq) → IsPlainWalk b (walk b)
 -- what meets the plain recursion is the walk
 abbrev pub PlainWalkIsOne : Type 0
 PlainWalkIsOne = (b : List InstrSeq) (plain : ℕ → List Event) → IsPlainWalk b plain → (k : ℕ) → IsNested b k → plain k ≡ walk b k
+
+-- the walk of a body is the walk of its own sequence without what follows the start: what the block type names
+abbrev pub BodyWalkIsWalk : Type 0
+BodyWalkIsWalk = (b : List InstrSeq) (k : ℕ) (s : InstrSeq) → IsNested b k → slice_get b k ≡ Some s
+    → (rest : List Event) × (walk b k ≡ StartOf s ∷ (block_names s.ty ++ rest)) × (body_walk b k ≡ StartOf s ∷ rest)
 
 -- of each nested sequence: itself, then the orders of what it holds
 abbrev pub IsPlainOrder : List InstrSeq → (ℕ → List ℕ) → Type 0

@@ -24,3 +24,11 @@ walk_within b (suc n) k = of_seq (walk_within b n) (slice_get b k)
 -- the walk of the sequence k: a nest is no deeper than it has sequences
 abbrev pub walk : List InstrSeq → ℕ → List Event
 walk b k = walk_within b (length b) k
+
+-- the walk of a body by its own sequence, but for what that sequence's block type names
+abbrev pub body_walk : List InstrSeq → ℕ → List Event
+body_walk b k = of_body (slice_get b k)
+  where
+    of_body : Option InstrSeq → List Event
+    of_body (Some s) = StartOf s ∷ (of_items (walk b) s.instrs.items ++ EndOf s ∷ [])
+    of_body None = []

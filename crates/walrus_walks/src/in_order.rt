@@ -4,7 +4,7 @@ ghost use Rattle.std.specs.List.{FoldsTo};
 ghost use Rattle.walrus_walks.specs.declared.steps.Step.TheVariants.{Enter, Resume};
 ghost use Rattle.walrus_walks.specs.Tree.{IsNested};
 ghost use Rattle.walrus_walks.specs.Fronts.{FoldsFront};
-ghost use Rattle.walrus_walks.specs.Walk.{walk};
+ghost use Rattle.walrus_walks.specs.Walk.{body_walk, walk};
 ghost use Rattle.walrus_walks.specs.Steps.{AreSteps, Told, ahead, left, id_of};
 
 use crate::steps::{Step, push_children};
@@ -81,6 +81,22 @@ fn turn<V: Visitor>(
     }
 }
 
+// Takes the steps that are left, the last of the list next.
+fn follow<V: Visitor>(
+    visitor: &mut V,
+    seqs: &[InstrSeq],
+    stack: &mut Vec<Step>,
+) -> Result<(), AllocError>
+    requires { AreSteps seqs.now stack.old.items }
+    ensures walked { IfOk result (λ _. FoldsTo V.step visitor.old (left seqs.now stack.old.items) visitor.new) }
+    ensures refused { OnErr result (FoldsFront V.step visitor.old (left seqs.now stack.old.items) visitor.new) }
+{
+    while let Some(step) = stack.pop() {
+        turn(visitor, seqs, stack, step)?;
+    }
+    Ok(())
+}
+
 /// Tells the visitor of the start sequence and of all that it holds, in the order of the text: each
 /// sequence's start, what its block type names, its instructions, its end; each instruction with
 /// what it names, then what it holds. Asks for a nested start, as `check_nesting` tests.
@@ -103,8 +119,29 @@ pub fn dfs_in_order<V: Visitor>(
 {
     let mut stack = Vec::new(alloc);
     stack.push(Step::Enter(start))?;
-    while let Some(step) = stack.pop() {
-        turn(visitor, seqs, &mut stack, step)?;
-    }
+    follow(visitor, seqs, &mut stack)?;
+    Ok(())
+}
+
+/// Tells the visitor of a body by its own sequence, as `dfs_in_order` does, but for what that sequence's block
+/// type names: the type of a body's own sequence is no reference.
+///
+/// # Errors
+///
+/// Want of memory. The visitor has then been told a first part of that, and nothing else.
+pub fn dfs_body_in_order<V: Visitor>(
+    alloc: Global,
+    visitor: &mut V,
+    seqs: &[InstrSeq],
+    start: InstrSeqId,
+) -> Result<(), AllocError>
+    requires { IsNested seqs.now start }
+    ensures walked { IfOk result (λ _. FoldsTo V.step visitor.old (body_walk seqs.now start) visitor.new) }
+    ensures refused { OnErr result (FoldsFront V.step visitor.old (body_walk seqs.now start) visitor.new) }
+{
+    let mut stack = Vec::new(alloc);
+    stack.push(Step::Resume(start, 0))?;
+    visitor.start_instr_seq(&seqs[start.index()]);
+    follow(visitor, seqs, &mut stack)?;
     Ok(())
 }

@@ -1,5 +1,5 @@
 //! Laws of the words that the contracts of this crate cite. Each function is its contract alone.
-ghost use Rattle.walrus_walks.specs.Plain.{HeldAreNested, WalkIsPlain, PlainWalkIsOne, OrderIsPlain, PlainOrderIsOne, OrderIsKept, ChangesArePlain};
+ghost use Rattle.walrus_walks.specs.Plain.{HeldAreNested, WalkIsPlain, PlainWalkIsOne, BodyWalkIsWalk, OrderIsPlain, PlainOrderIsOne, OrderIsKept, ChangesArePlain};
 
 use crate::visitor_mut::VisitorMut;
 
@@ -13,6 +13,11 @@ pub fn held_are_nested()
 pub fn walk_is_plain()
     ensures plain { WalkIsPlain }
     ensures one { PlainWalkIsOne }
+{}
+
+/// The walk of a body is the walk of its own sequence, but for what that sequence's block type names.
+pub fn body_walk_is_walk()
+    ensures { BodyWalkIsWalk }
 {}
 
 /// The order of the walk that changes is a nested sequence, then the orders of what it holds; and

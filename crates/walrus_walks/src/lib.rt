@@ -13,7 +13,7 @@ mod visit_mut;
 mod visitor;
 mod visitor_mut;
 
-pub use in_order::dfs_in_order;
+pub use in_order::{dfs_body_in_order, dfs_in_order};
 pub use nesting::check_nesting;
 pub use pre_order_mut::dfs_pre_order_mut;
 pub use visit::Visit;

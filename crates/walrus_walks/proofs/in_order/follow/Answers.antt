@@ -4,7 +4,7 @@ use Rattle.walrus_walks.specs.declared.steps.Step.{Step}
 use Rattle.walrus_walks.specs.Steps.{AreSteps, left}
 use Rattle.walrus_walks.proofs.Taken.{told_on, told_less, part_on}
 use Rattle.walrus_walks.proofs.Turns.{steps_last}
-use Rattle.walrus_walks.proofs.in_order.dfs_in_order.Goals as goal
+use Rattle.walrus_walks.proofs.in_order.follow.Goals as goal
 
 pub turn-requires-clause-nested : goal.turn-requires-clause-nested
 turn-requires-clause-nested g c =
@@ -33,6 +33,6 @@ loop-step-preserved g c = record {
 
 pub returns-in_err-turn-clause-refused : goal.returns-in_err-turn-clause-refused
 returns-in_err-turn-clause-refused g c =
-    let p = err_from_is_err_and c.from_residual-in_err-turn.result c.from_residual-in_err-turn.ensures.1 in
+    let p = err_from_is_err_and c.from_residual.result c.from_residual.ensures.1 in
     let rest = left c.args.seqs.now c.loop-step.stack.items in
     rw p.1 (c.loop-step.invariant.part c.turn.new.visitor (record { part = []; rest = rest; splits = refl; folds = sym c.in_err-turn.ensures.refused }))
