@@ -1,8 +1,8 @@
 -- The walks of nested sequences as plain recursions, with no bound on their depth.
-use Rattle.std.specs.Prelude.{◌≡◌, ◌↔◌, ℕ, List, [], ◌∷◌, ◌++◌, map, Some, slice_get, All}
+use Rattle.std.specs.Prelude.{◌≡◌, ◌↔◌, ℕ, ◌<◌, ◌≤◌, List, [], ◌∷◌, ◌++◌, length, map, Some, slice_get, All}
 use Rattle.std.specs.List.{FoldsTo}
 use Rattle.walrus_instr.specs.declared.seq.InstrSeq.{InstrSeq}
-use Rattle.walrus_walks.specs.Tree.{children_in, IsNested}
+use Rattle.walrus_walks.specs.Tree.{children_in, IsRank, IsNested}
 use Rattle.walrus_walks.specs.Events.{Event, StartOf, EndOf, block_names}
 use Rattle.walrus_walks.specs.Walk.{of_items, walk, body_walk}
 use Rattle.walrus_walks.specs.Order.{held_by, orders, order}
@@ -11,6 +11,10 @@ use Rattle.walrus_walks.specs.Changing.{SeqVisited}
 -- the sequences that a nested sequence holds are nested
 abbrev pub HeldAreNested : Type 0
 HeldAreNested = (b : List InstrSeq) (k : ℕ) (s : InstrSeq) → IsNested b k → slice_get b k ≡ Some s → All (IsNested b) (children_in s.instrs.items)
+
+-- a nested sequence has a rank, and no rank need pass the number of sequences
+abbrev pub RanksFit : Type 0
+RanksFit = (b : List InstrSeq) (k : ℕ) → IsNested b k → (rank : ℕ → ℕ) × IsRank b rank × (0 < rank k) × ((j : ℕ) → rank j ≤ length b)
 
 -- of each nested sequence: its start, what its block type names, its instructions with the walks of what they hold, its end
 abbrev pub IsPlainWalk : List InstrSeq → (ℕ → List Event) → Type 0

@@ -1,11 +1,16 @@
 //! Laws of the words that the contracts of this crate cite. Each function is its contract alone.
-ghost use Rattle.walrus_walks.specs.Plain.{HeldAreNested, WalkIsPlain, PlainWalkIsOne, BodyWalkIsWalk, OrderIsPlain, PlainOrderIsOne, OrderIsKept, ChangesArePlain};
+ghost use Rattle.walrus_walks.specs.Plain.{HeldAreNested, RanksFit, WalkIsPlain, PlainWalkIsOne, BodyWalkIsWalk, OrderIsPlain, PlainOrderIsOne, OrderIsKept, ChangesArePlain};
 
 use crate::visitor_mut::VisitorMut;
 
 /// The sequences that a nested sequence holds are nested.
 pub fn held_are_nested()
     ensures { HeldAreNested }
+{}
+
+/// A nested sequence has a rank, and no rank need pass the number of sequences: a nest is no deeper than that.
+pub fn ranks_fit()
+    ensures { RanksFit }
 {}
 
 /// The walk of a nested sequence is its start, what its block type names, each instruction with what it

@@ -1,0 +1,7 @@
+mod Entering
+mod Labels
+mod Marking
+mod Lefts
+mod Goings
+mod Nests
+mod Texts

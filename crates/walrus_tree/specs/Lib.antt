@@ -1,0 +1,4 @@
+pub mod Trees
+pub mod Testing
+pub mod Text
+pub mod TextLaws

@@ -1,0 +1,10 @@
+//! Trees of sequences: whether the sequences of a body form one.
+#![tactic(auto)]
+
+mod check;
+pub mod laws;
+mod marks;
+mod steps;
+mod tree;
+
+pub use tree::check_tree;
