@@ -31,14 +31,15 @@ use Rattle.walrus_type_laws.specs.Alike.{keys_of, renamed_group, AreHomed, Alike
 use Rattle.walrus_type_laws.specs.Rounds.{read, index_map, SecondRoundIsFirst}
 use Rattle.walrus_type_laws.proofs.AlikeLemmas.{alike-law}
 use Rattle.walrus_type_laws.proofs.CarriedLemmas.{front_at, section_plain}
-use Rattle.walrus_type_laws.proofs.Dense.{dense_members, dense_groups, dense_homed, dense_kind, dense_written, items_at, one_group, one_is}
+use Rattle.walrus_type_laws.proofs.Dense.{dense_groups, dense_written, items_at, one_group, one_is}
 use Rattle.walrus_type_laws.proofs.Faults.{names_written}
 use Rattle.walrus_type_laws.proofs.KindOrder.{kinds-kept}
-use Rattle.walrus_type_laws.proofs.Places.{Pairs, get, map_at, at_map, maps_twice, pairs_of, pairs_to, seat, unseat, start, starts_rise, at_range, left_at, right_at}
-use Rattle.walrus_type_laws.proofs.Shape.{Shape}
-use Rattle.walrus_type_laws.proofs.ShapeRun.{PlainGroups, shape_read}
+use Rattle.walrus_types.proofs.OnceLemmas.{reordered}
+use Rattle.walrus_types.proofs.Places.{Pairs, get, map_at, at_map, maps_twice, pairs_of, pairs_to, seat, unseat, start, starts_rise, left_at, right_at}
+use Rattle.walrus_type_laws.proofs.ShapeRun.{shape_read}
+use Rattle.walrus_type_laws.proofs.Steady.{Steady, shape_steady}
 use Rattle.walrus_type_laws.proofs.Straight.{kinds_in, all_kinds, groups_from, straight, kinds_entries, kinds_length, Goes, straight_read, straight_dense}
-use Rattle.walrus_type_laws.proofs.Written.{types_of, AllWritten, filter_all, written_all, reordered, Indexed, indexed, kind_of, group_kinds, group_kind_at, make_entry, described_length, described_at}
+use Rattle.walrus_type_laws.proofs.Written.{types_of, AllWritten, filter_all, written_all, Indexed, indexed, kind_of, group_kinds, group_kind_at, make_entry, described_length, described_at, written_item}
 
 -- a type that names itself does so renamed
 itself_renamed : (r : ℕ → ℕ) (id : ℕ) (x : Kind) → names_itself id x ≡ true → names_itself (r id) (renamed_kind r x) ≡ true
@@ -106,26 +107,20 @@ from_described t r b (g ∷ gs) all filled places =
     let n : b + (length g.types + j) ≡ b + length d.kinds + j = omega (arith, len) in
     places (length g.types + j) id (right_at g.types (flat_map types_of gs) j (length g.types + j) id refl is) ∙ n))
 
-module _ (groups : List TypeGroup) (plain : PlainGroups groups) (out : List TypeGroup) (indices : List (Option ℕ)) (emission : IsEmission (read groups).table out indices) where
-  abbrev t : Table
-  t = (read groups).table
-
-  abbrev r : ℕ → ℕ
+module _ (t : Table) (steady : Steady t) (out : List TypeGroup) (indices : List (Option ℕ)) (emission : IsEmission t out indices) where
+  abbrev pub r : ℕ → ℕ
   r = index_at indices
 
-  abbrev hs : List Group
+  abbrev pub hs : List Group
   hs = emission.groups
 
   abbrev flat : List ℕ
   flat = flat_map types_of emission.groups
 
-  shape : Shape groups (read groups)
-  shape = shape_read groups plain
+  pub homed : AreHomed t
+  homed = steady.homed
 
-  homed : AreHomed t
-  homed = dense_homed shape.kinds shape.gs t shape.dense
-
-  idx : Indexed t hs r
+  pub idx : Indexed t hs r
   idx = indexed t hs indices homed emission.arranged
 
   front_written : (n : ℕ) → AllWritten t (take n hs)
@@ -160,7 +155,7 @@ module _ (groups : List TypeGroup) (plain : PlainGroups groups) (out : List Type
   out_is : out ≡ map (described_group t r) hs
   out_is = emission.described
 
-  out_kind : (id : ℕ) (x : Kind) → is_written t id ≡ true → written_kind t id ≡ Some x → slice_get (all_kinds out) (r id) ≡ Some (renamed_kind r x)
+  pub out_kind : (id : ℕ) (x : Kind) → is_written t id ≡ true → written_kind t id ≡ Some x → slice_get (all_kinds out) (r id) ≡ Some (renamed_kind r x)
   out_kind id x written is =
       let s = seat types_of hs (r id) id (idx.there id written) in
       let e : slice_get (entries_of out) (r id) ≡ Some (make_entry (is_single (described_group t r s.from)) (renamed_kind r x)) =
@@ -174,16 +169,16 @@ module _ (groups : List TypeGroup) (plain : PlainGroups groups) (out : List Type
   out_length = kinds_length out ∙ ap (λ (gs : List TypeGroup). length (entries_of gs)) out_is ∙ described_length t r hs idx.all
 
   -- the type at a place of what is emitted
-  record At (j : ℕ) : Type 0 where
-    id : ℕ
-    kind : Kind
-    there : slice_get flat j ≡ Some id
-    index : r id ≡ j
-    written : is_written t id ≡ true
-    is : written_kind t id ≡ Some kind
-    found : slice_get (all_kinds out) j ≡ Some (renamed_kind r kind)
+  pub record At (j : ℕ) : Type 0 where
+    pub id : ℕ
+    pub kind : Kind
+    pub there : slice_get flat j ≡ Some id
+    pub index : r id ≡ j
+    pub written : is_written t id ≡ true
+    pub is : written_kind t id ≡ Some kind
+    pub found : slice_get (all_kinds out) j ≡ Some (renamed_kind r kind)
 
-  at_place : (j : ℕ) → j < length (all_kinds out) → At j
+  pub at_place : (j : ℕ) → j < length (all_kinds out) → At j
   at_place j less =
       let x = get flat j (omega (arith, less, out_length)) in
       let s = seat types_of hs j x.0 x.1 in
@@ -257,20 +252,11 @@ module _ (groups : List TypeGroup) (plain : PlainGroups groups) (out : List Type
     turn : ℕ
     ordered : slice_get emission.arranged.in_order.order q ≡ Some turn
     group : slice_get (written_groups t) turn ≡ Some g
-    stands : slice_get shape.gs turn ≡ Some g
 
   home : (q : ℕ) (g : Group) → slice_get hs q ≡ Some g → Home q g
   home q g at_q =
       let b = (reordered t hs emission.arranged.in_order).back q g at_q in
-      record { turn = b.0; ordered = b.1; group = b.2; stands = ap (λ (gs : List Group). slice_get gs b.0) (sym (dense_groups shape.kinds shape.gs t shape.dense)) ∙ b.2 }
-
-  -- members of the table's groups rise
-  member_is : (p k : ℕ) (g : Group) (id : ℕ) → slice_get (written_groups t) p ≡ Some g → slice_get g.types k ≡ Some id → id ≡ start types_of (written_groups t) p + k
-  member_is p k g id at_p at_k =
-      let wg : List Group = written_groups t in
-      let there = ap (λ (xs : List ℕ). slice_get xs (start types_of wg p + k)) (sym (dense_members shape.kinds shape.gs t shape.dense)) ∙ unseat types_of wg p k g id at_p at_k in
-      let e = at_range 0 (length shape.kinds) (start types_of wg p + k) id there in
-      omega (arith, e.1)
+      record { turn = b.0; ordered = b.1; group = b.2 }
 
   -- a single type equals no type written before it, unless one of them names itself
   no_twin : (q other_q other_place a b : ℕ) (g h : Group) (x : Kind) → slice_get hs q ≡ Some g → g ≡ record { explicit = false; types = b ∷ [] } → slice_get hs other_q ≡ Some h → slice_get h.types other_place ≡ Some a
@@ -278,17 +264,13 @@ module _ (groups : List TypeGroup) (plain : PlainGroups groups) (out : List Type
   no_twin q other_q other_place a b g h x at_q single at_o at_a before is_a is_b apart_a apart_b =
       let home_g = home q g at_q in
       let home_h = home other_q h at_o in
-      let kind_a = dense_kind shape.kinds shape.gs t shape.dense a x is_a in
-      let kind_b = dense_kind shape.kinds shape.gs t shape.dense b x is_b in
       let wg : List Group = written_groups t in
       let in_g : slice_get g.types 0 ≡ Some b = ap (λ (w : Group). slice_get w.types 0) single in
-      let b_is = member_is home_g.turn 0 g b home_g.group in_g in
-      let a_is = member_is home_h.turn other_place h a home_h.group at_a in
       elim (cases_lt a b) as (λ _. ⊥) [
-        | inl less ↦ shape.twins home_g.turn a b x (home_g.stands ∙ ap Some single) less kind_a kind_b apart_a apart_b
+        | inl less ↦ steady.twins home_g.turn a b x (home_g.group ∙ ap Some single) less is_a is_b apart_a apart_b
         | inr upto ↦ elim (alone_or_anchor t h.explicit h.types other_place a at_a) as (λ _. ⊥) [
           | inl alone ↦ elim (cases_lt b a) as (λ _. ⊥) [
-            | inl less ↦ shape.twins home_h.turn b a x (home_h.stands ∙ ap Some alone) less kind_b kind_a apart_b apart_a
+            | inl less ↦ steady.twins home_h.turn b a x (home_h.group ∙ ap Some alone) less is_b is_a apart_b apart_a
             | inr both ↦
                 let e : b ≡ a = omega (arith, upto, both) in
                 let f = idx.back (start types_of hs q + 0) b (unseat types_of hs q 0 g b at_q in_g) in
@@ -302,9 +284,7 @@ module _ (groups : List TypeGroup) (plain : PlainGroups groups) (out : List Type
               let low : home_g.turn ≤ home_h.turn =
               elim (cases_lt home_h.turn home_g.turn) as (λ _. home_g.turn ≤ home_h.turn) [
                 | inl under ↦
-                    let rise = starts_rise types_of wg home_h.turn home_g.turn h under home_h.group in
-                    let small = slice_get_within h.types other_place a at_a in
-                    absurd (omega (arith, rise, small, a_is, b_is, upto))
+                    absurd (omega (arith, upto, steady.rising home_h.turn home_g.turn other_place 0 a b h g under home_h.group home_g.group at_a in_g))
                 | inr le ↦ le
               ] in
               let anchored = pairs_of (λ i j. HasAnchor (keys_of t) j i → ⊥) emission.arranged.in_order.order emission.arranged.in_order.ordered.anchored in
@@ -372,30 +352,34 @@ module _ (groups : List TypeGroup) (plain : PlainGroups groups) (out : List Type
         ] refl;
       }
 
-  straight_is : read out ≡ straight out
+  pub straight_is : read out ≡ straight out
   straight_is = straight_read out goes
 
-  plain_out : (i : ℕ) (k : Kind) → slice_get (all_kinds out) i ≡ Some k → k.entry ≡ false
+  pub plain_out : (i : ℕ) (k : Kind) → slice_get (all_kinds out) i ≡ Some k → k.entry ≡ false
   plain_out i k is =
       let a = at_place i (slice_get_within (all_kinds out) i k is) in
       ap (λ (x : Kind). x.entry) (same_Some k (renamed_kind r a.kind) (sym is ∙ a.found))
-      ∙ (shape.dense).plain a.id a.kind (dense_kind shape.kinds shape.gs t shape.dense a.id a.kind a.is)
+      ∙ (written_item t a.id a.kind a.is).3
 
-  abbrev u : Table
+  abbrev pub u : Table
   u = (straight out).table
+
+  pub groups_out : groups_from 0 out ≡ map (renamed_group r) hs
+  groups_out =
+      ap (λ (gs : List TypeGroup). groups_from 0 gs) out_is
+      ∙ from_described t r 0 hs idx.all (λ p g is. let h = home p g is in steady.filled h.turn g h.group)
+      (λ j id is. let e : j ≡ 0 + j = omega arith in idx.back j id is ∙ e)
 
   groups_again : written_groups u ≡ map (λ i. renamed_group r (slice_index_or (written_groups t) i no_group)) emission.arranged.in_order.order
   groups_again =
       let in_order = emission.arranged.in_order in
       let pick : ℕ → Group = λ i. slice_index_or (written_groups t) i no_group in
       dense_groups (all_kinds out) (groups_from 0 out) u (straight_dense out plain_out)
-      ∙ ap (λ (gs : List TypeGroup). groups_from 0 gs) out_is
-      ∙ from_described t r 0 hs idx.all (λ p g is. let h = home p g is in (shape.dense).filled h.turn g h.stands)
-      (λ j id is. let e : j ≡ 0 + j = omega arith in idx.back j id is ∙ e)
+      ∙ groups_out
       ∙ ap (λ (gs : List Group). map (renamed_group r) gs) in_order.places
       ∙ maps_twice pick (renamed_group r) in_order.order
 
-  index_one : (id other : ℕ) → is_written t id ≡ true → is_written t other ≡ true → r id ≡ r other → id ≡ other
+  pub index_one : (id other : ℕ) → is_written t id ≡ true → is_written t other ≡ true → r id ≡ r other → id ≡ other
   index_one id other one two e = same_Some id other (sym (idx.there id one) ∙ ap (λ (n : ℕ). slice_get flat n) e ∙ idx.there other two)
 
   still : Pairs (λ i j. (a b : Kind) → slice_get (keys_of t) i ≡ Some (Some a) → slice_get (keys_of t) j ≡ Some (Some b) → kind_cmp a b ≡ Equal → i < j) emission.arranged.in_order.order
@@ -416,7 +400,7 @@ module _ (groups : List TypeGroup) (plain : PlainGroups groups) (out : List Type
         ]
   ]
 
-  alike : Alike r t u
+  pub alike : Alike r t u
   alike = record {
     turn = emission.arranged.in_order.order;
     whole = subst (λ (n : ℕ). IsPermutation (range_with_len 0 n) emission.arranged.in_order.order) (length-map (written_groups t) (key_of t)) emission.arranged.in_order.ordered.whole;
@@ -431,10 +415,14 @@ module _ (groups : List TypeGroup) (plain : PlainGroups groups) (out : List Type
     stable = pairs_to (λ i j. (a b : Kind) → slice_get (keys_of t) i ≡ Some (Some a) → slice_get (keys_of t) j ≡ Some (Some b) → kind_cmp a b ≡ Equal → i < j) emission.arranged.in_order.order still;
   }
 
+  pub both_again : (second : List TypeGroup) (others : List (Option ℕ)) → IsEmission (read out).table second others
+      → (second ≡ out) × ((id : ℕ) → is_written t id ≡ true → index_at others (r id) ≡ r id)
+  both_again second others is = alike-law r t u homed alike out second indices others emission (subst (λ (s : Parsed). IsEmission s.table second others) straight_is is)
+
   pub again : (second : List TypeGroup) (others : List (Option ℕ)) → IsEmission (read out).table second others
       → (second ≡ out) × ((i : ℕ) → i < length (entries_of out) → index_map out others i ≡ i)
   again second others is =
-      let both = alike-law r t u homed alike out second indices others emission (subst (λ (s : Parsed). IsEmission s.table second others) straight_is is) in (
+      let both = both_again second others is in (
         both.0,
         λ i less.
             let small : i < length (all_kinds out) = omega (arith, less, kinds_length out) in
@@ -445,4 +433,6 @@ module _ (groups : List TypeGroup) (plain : PlainGroups groups) (out : List Type
       )
 
 pub again-law : SecondRoundIsFirst
-again-law section out second indices others first emission = again (map type_group section) (section_plain section) out indices first second others emission
+again-law section out second indices others first emission =
+    let groups : List TypeGroup = map type_group section in
+    again (read groups).table (shape_steady groups (read groups) (shape_read groups (section_plain section))) out indices first second others emission

@@ -1,10 +1,10 @@
 -- Tables that are alike are written alike.
-use Rattle.std.proofs.Common.{◌≡◌, ◌∙◌, ℕ, suc, ◌<◌, Bool, true, false, List, [], ◌∷◌, ◌++◌, length, map, Option, Some, None, is_some, if◌then◌else◌, refl, sym, ap, subst, arith}
+use Rattle.std.proofs.Common.{◌≡◌, ◌∙◌, ℕ, suc, ◌<◌, true, List, [], ◌∷◌, ◌++◌, length, map, Option, Some, None, is_some, if◌then◌else◌, refl, sym, ap, subst, arith}
 use Rattle.std.specs.Prelude.{slice_index_or}
 use Rattle.std.specs.List.{slice_get, flat_map, filter_map, cons_option}
-use Rattle.std.specs.Option.{option_map, option_map_or, option_and_then}
+use Rattle.std.specs.Option.{option_map, option_map_or}
 use Rattle.std.proofs.lemmas.List.{length-map, map-append}
-use Rattle.std.proofs.lemmas.Option.{slice_get-get_or, get_or_from_slice_get, same_Some, none-some}
+use Rattle.std.proofs.lemmas.Option.{slice_get-get_or, get_or_from_slice_get}
 use Rattle.walrus_forms.specs.Kinds.{Kind, kind_names}
 use Rattle.walrus_forms.specs.Order.{kind_cmp}
 use Rattle.walrus_forms.specs.Records.{TypeGroup}
@@ -14,26 +14,18 @@ use Rattle.std.specs.declared.cmp.Ordering.TheVariants.{Equal}
 use Rattle.walrus_type_order.specs.Order.{HasAnchor}
 use Rattle.walrus_types.specs.Items.{Item, Group}
 use Rattle.walrus_types.specs.Table.{Table, type_at}
-use Rattle.walrus_types.specs.Emission.{shown_kind, written_kind, is_written, written_groups, loose_kind, single_kind, key_of, index_at, no_group, AreInOrder, AreArranged, written_types, described_group, IsEmission}
+use Rattle.walrus_types.specs.Emission.{written_kind, is_written, written_groups, loose_kind, single_kind, key_of, index_at, no_group, AreInOrder, AreArranged, written_types, described_group, IsEmission}
 use Rattle.walrus_type_laws.specs.Alike.{keys_of, renamed_group, AreHomed, Alike, AlikeAreWrittenAlike}
 use Rattle.walrus_type_laws.proofs.Faults.{names_written}
 use Rattle.walrus_type_laws.proofs.KindOrder.{kinds-kept}
-use Rattle.walrus_type_laws.proofs.Places.{Turns, has_contains, pairs_of, turns_of, map_at, at_map, maps_agree, maps_twice, seat}
+use Rattle.walrus_types.proofs.Places.{Turns, has_contains, pairs_of, turns_of, map_at, at_map, maps_agree, maps_twice, seat}
 use Rattle.walrus_type_laws.proofs.TurnLemmas.{IsTurned, one_composed}
-use Rattle.walrus_type_laws.proofs.Written.{types_of, AllWritten, home_written, written_all, Indexed, indexed, kind_of, some_is}
-
--- the item of a type that is written
-shown_is : (entry : Bool) (kind k : Kind) → (if entry then None else Some kind) ≡ Some k → kind ≡ k
-shown_is true kind k e = absurd (none-some k e)
-shown_is false kind k e = same_Some kind k e
-
-shown_item : (o : Option Item) (k : Kind) → option_and_then (λ item. shown_kind item.kind) o ≡ Some k → (item : Item) × (o ≡ Some item) × (item.kind ≡ k)
-shown_item None k e = absurd (none-some k e)
-shown_item (Some item) k e = (item, refl, shown_is item.kind.entry item.kind k e)
+use Rattle.walrus_type_laws.proofs.Written.{types_of, AllWritten, home_written, written_all, Indexed, indexed, kind_of, written_item}
+use Rattle.walrus_types.proofs.OnceLemmas.{some_is}
 
 single_is : (t : Table) (id : ℕ) (k : Kind) → written_kind t id ≡ Some k → single_kind (type_at t) (id ∷ []) ≡ loose_kind (kind_names k) k
 single_is t id k is =
-    let found = shown_item (type_at t id) k is in
+    let found = written_item t id k is in
     ap (λ (o : Option Item). option_map_or (λ item. loose_kind (kind_names item.kind) item.kind) o None) found.1
     ∙ ap (λ (x : Kind). loose_kind (kind_names x) x) found.2
 
@@ -52,10 +44,10 @@ module _ (r : ℕ → ℕ) (t u : Table) (homed : AreHomed t) (alike : Alike r t
   abbrev pub wg : List Group
   wg = written_groups t
 
-  kind_renamed : (id : ℕ) (k : Kind) → written_kind t id ≡ Some k → written_kind u (r id) ≡ Some (renamed_kind r k)
+  pub kind_renamed : (id : ℕ) (k : Kind) → written_kind t id ≡ Some k → written_kind u (r id) ≡ Some (renamed_kind r k)
   kind_renamed id k is = alike.kinds id ((homed.homed id).1 (ap (λ (o : Option Kind). is_some o) is)) ∙ ap (option_map (renamed_kind r)) is
 
-  written_renamed : (id : ℕ) → is_written t id ≡ true → is_written u (r id) ≡ true
+  pub written_renamed : (id : ℕ) → is_written t id ≡ true → is_written u (r id) ≡ true
   written_renamed id written = let k = kind_of t id written in ap (λ (o : Option Kind). is_some o) (kind_renamed id k.0 k.1)
 
   single_same : (ids : List ℕ) → ((k id : ℕ) → slice_get ids k ≡ Some id → is_written t id ≡ true) → single_kind (type_at u) (map r ids) ≡ single_kind (type_at t) ids
@@ -91,7 +83,7 @@ module _ (r : ℕ → ℕ) (t u : Table) (homed : AreHomed t) (alike : Alike r t
   }
 
   -- the groups of u in order are those of t, renamed
-  groups_same : (gs hs : List Group) → AreInOrder t gs → AreInOrder u hs → hs ≡ map (renamed_group r) gs
+  pub groups_same : (gs hs : List Group) → AreInOrder t gs → AreInOrder u hs → hs ≡ map (renamed_group r) gs
   groups_same gs hs in_t in_u =
       let a : List ℕ = in_t.order in
       let b : List ℕ = in_u.order in
@@ -121,7 +113,7 @@ module _ (r : ℕ → ℕ) (t u : Table) (homed : AreHomed t) (alike : Alike r t
       let i = map_at r h.0.types k id (ap (λ (w : Group). slice_get w.types k) h.2 ∙ at_k) in
       subst (λ (n : ℕ). is_written u n ≡ true) i.2 (written_renamed i.0 (all p k h.0 i.0 h.1 i.1))
 
-  index_same : (gs : List Group) (index : ℕ → ℕ) (others : List (Option ℕ)) → Indexed t gs index → AreArranged u (map (renamed_group r) gs) others
+  pub index_same : (gs : List Group) (index : ℕ → ℕ) (others : List (Option ℕ)) → Indexed t gs index → AreArranged u (map (renamed_group r) gs) others
       → (id : ℕ) → is_written t id ≡ true → index_at others (r id) ≡ index id
   index_same gs index others idx arranged id written =
       let ids : List ℕ = flat_map types_of gs in

@@ -20,8 +20,9 @@ use Rattle.walrus_types.proofs.MergerLemmas.{parsing-law}
 use Rattle.walrus_types.proofs.SameOnce.{once-law}
 use Rattle.walrus_type_laws.specs.Alike.{AreHomed}
 use Rattle.walrus_type_laws.specs.Rounds.{read, index_map, IsGroupAt, renamed_types, IsCarried, SectionsAreCarried}
-use Rattle.walrus_type_laws.proofs.Places.{get, map_at, at_map, same_list, seat, unseat, start, range_at, left_at, right_at}
-use Rattle.walrus_type_laws.proofs.Written.{types_of, reordered, Indexed, indexed, group_kinds, group_kind_at, make_entry, described_length, described_at}
+use Rattle.walrus_types.proofs.OnceLemmas.{reordered}
+use Rattle.walrus_types.proofs.Places.{get, map_at, at_map, same_list, seat, unseat, start, range_at, left_at, right_at}
+use Rattle.walrus_type_laws.proofs.Written.{types_of, Indexed, indexed, group_kinds, group_kind_at, make_entry, described_length, described_at}
 use Rattle.walrus_type_laws.proofs.Dense.{dense_length, dense_type, dense_written, dense_below, dense_is, dense_groups, dense_homed}
 use Rattle.walrus_type_laws.proofs.Shape.{Shape, entries_more, before_end}
 use Rattle.walrus_type_laws.proofs.ShapeRun.{PlainGroups, shape_read}

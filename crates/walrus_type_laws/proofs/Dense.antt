@@ -16,7 +16,7 @@ use Rattle.walrus_types.specs.Parsing.{with_group}
 use Rattle.walrus_types.specs.Emission.{shown_kind, written_kind, is_written, written_groups}
 use Rattle.walrus_types.proofs.GroupLemmas.{length-new_items}
 use Rattle.walrus_type_laws.specs.Alike.{members, AreHomed}
-use Rattle.walrus_type_laws.proofs.Places.{get, has_contains, contains_has, once_to, range_at, at_range, range_once, append_at, unseat, start}
+use Rattle.walrus_types.proofs.Places.{get, has_contains, contains_has, once_to, range_at, at_range, range_once, append_at, unseat, start}
 use Rattle.walrus_type_laws.proofs.Written.{types_of, filter_all}
 
 pub record Dense (kinds : List Kind) (gs : List Group) (t : Table) : Type 0 where

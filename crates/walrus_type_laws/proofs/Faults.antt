@@ -11,7 +11,7 @@ use Rattle.walrus_forms.proofs.RenamingLemmas.{In}
 use Rattle.walrus_types.specs.Items.{Item, Group}
 use Rattle.walrus_types.specs.Table.{Table, type_at}
 use Rattle.walrus_types.specs.Emission.{shown_kind, written_kind, is_written, written_in, fault_at, first_fault, group_names, groups_fault}
-use Rattle.walrus_type_laws.proofs.Places.{start}
+use Rattle.walrus_types.proofs.Places.{start}
 
 in_left : (xs ys : List ℕ) (m : ℕ) → In m xs → In m (xs ++ ys)
 in_left [] ys m h = absurd h
@@ -22,7 +22,7 @@ in_right : (xs ys : List ℕ) (m : ℕ) → In m ys → In m (xs ++ ys)
 in_right [] ys m h = h
 in_right (x ∷ xs) ys m h = inr (in_right xs ys m h)
 
-or_none : (a b : Option IrError) → option_or a b ≡ None → (a ≡ None) × (b ≡ None)
+pub or_none : (a b : Option IrError) → option_or a b ≡ None → (a ≡ None) × (b ≡ None)
 or_none None b e = (refl, e)
 or_none (Some a) b e = absurd (none-some a (sym e))
 
@@ -47,7 +47,7 @@ tests true b kind e = absurd (none-some EntryOnly (sym e))
 tests false true kind e = (refl, refl)
 tests false false kind e = absurd (none-some Later (sym e))
 
-item_tests : (o : Option Item) (b : Bool) → option_map_or (λ item. if item.kind.entry then Some EntryOnly else if b then None else Some Later) o (Some Dead) ≡ None
+pub item_tests : (o : Option Item) (b : Bool) → option_map_or (λ item. if item.kind.entry then Some EntryOnly else if b then None else Some Later) o (Some Dead) ≡ None
     → (is_some (option_and_then (λ item. shown_kind item.kind) o) ≡ true) × (b ≡ true)
 item_tests None b e = absurd (none-some Dead (sym e))
 item_tests (Some item) b e = tests item.kind.entry b item.kind e

@@ -2,11 +2,13 @@ pub mod AgainLemmas
 pub mod AlikeLemmas
 pub mod CarriedLemmas
 pub mod Dense
+pub mod EditedLemmas
 pub mod Faults
 pub mod KindOrder
-pub mod Places
 pub mod Shape
 pub mod ShapeRun
+pub mod Sound
+pub mod Steady
 pub mod Straight
 pub mod TurnLemmas
 pub mod Written

@@ -12,7 +12,7 @@ use Rattle.walrus_types.specs.Items.{Group}
 use Rattle.walrus_types.specs.Table.{next_id, names_itself}
 use Rattle.walrus_types.specs.Parsing.{Parsed, with_group}
 use Rattle.walrus_types.specs.Mergers.{Entry, is_single, entries_of}
-use Rattle.walrus_type_laws.proofs.Places.{Has, get, append_at, left_at, right_at}
+use Rattle.walrus_types.proofs.Places.{Has, get, append_at, left_at, right_at}
 use Rattle.walrus_type_laws.proofs.Dense.{Dense, dense_length, dense_member, one_group, one_is, of_one, dense_more}
 
 -- how many types stand in groups

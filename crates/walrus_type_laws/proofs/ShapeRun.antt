@@ -16,7 +16,7 @@ use Rattle.walrus_types.specs.TypeLaws.{IsLatest}
 use Rattle.walrus_types.specs.Parsing.{Parsed, with_group, merged, added, known_ids, parsed_group, parsed, unparsed}
 use Rattle.walrus_types.proofs.LawLemmas.{latest-law}
 use Rattle.walrus_type_laws.specs.Rounds.{empty_table, read}
-use Rattle.walrus_type_laws.proofs.Places.{map_at}
+use Rattle.walrus_types.proofs.Places.{map_at}
 use Rattle.walrus_type_laws.proofs.Dense.{dense_length, dense_type}
 use Rattle.walrus_type_laws.proofs.Shape.{Shape, shape_merged, shape_more}
 

@@ -17,7 +17,7 @@ use Rattle.walrus_types.specs.Mergers.{Entry, is_single, entries_of}
 use Rattle.walrus_types.proofs.GroupLemmas.{length-new_items}
 use Rattle.walrus_type_laws.specs.Rounds.{read}
 use Rattle.walrus_type_laws.proofs.KindOrder.{kinds-kept}
-use Rattle.walrus_type_laws.proofs.Places.{append_at, maps_twice}
+use Rattle.walrus_types.proofs.Places.{append_at, maps_twice}
 use Rattle.walrus_type_laws.proofs.Written.{types_of}
 use Rattle.walrus_type_laws.proofs.Dense.{Dense, range_append, items_append, one_group, slot_is, one_types, of_one}
 

@@ -11,7 +11,7 @@ use Rattle.walrus_forms.specs.Kinds.{Kind}
 use Rattle.walrus_forms.specs.Order.{kind_cmp}
 use Rattle.walrus_type_order.specs.Order.{HasAnchor, IsLess, IsEmissionOrder}
 use Rattle.walrus_type_laws.proofs.KindOrder.{kinds-turned}
-use Rattle.walrus_type_laws.proofs.Places.{Pairs, Turns, get, pairs_of, turns_of, map_at, at_map, one_order}
+use Rattle.walrus_types.proofs.Places.{Pairs, Turns, get, pairs_of, turns_of, map_at, at_map, one_order}
 
 module _ (keys : List (Option Kind)) where
   -- i is written before j

@@ -1,19 +1,21 @@
 -- What is written of a table whose groups have just the types that are written, each once.
-use Rattle.std.proofs.Common.{◌≡◌, ◌∙◌, ℕ, zero, suc, ◌+◌, Bool, true, List, [], ◌∷◌, ◌++◌, length, map, filter, take, if◌then◌else◌, Option, Some, None, is_some, IsSome, refl, sym, ap, subst, arith, length-append}
-use Rattle.std.specs.Prelude.{slice_index_or, unwrap_or}
+use Rattle.std.proofs.Common.{◌≡◌, ◌∙◌, ℕ, zero, suc, ◌+◌, Bool, true, false, List, [], ◌∷◌, ◌++◌, length, map, filter, take, if◌then◌else◌, Option, Some, None, is_some, refl, sym, ap, arith, length-append}
+use Rattle.std.specs.Prelude.{slice_index_or}
 use Rattle.std.specs.List.{slice_get, flat_map, filter_map, cons_option}
 use Rattle.std.proofs.lemmas.Bool.{false≢true}
 use Rattle.std.proofs.lemmas.List.{length-map}
-use Rattle.std.proofs.lemmas.Option.{slice_get_within, slice_get-get_or, same_Some, none-some}
+use Rattle.std.proofs.lemmas.Option.{slice_get_within, same_Some, none-some}
 use Rattle.walrus_forms.specs.Kinds.{Kind}
 use Rattle.walrus_forms.specs.Records.{TypeGroup}
 use Rattle.walrus_forms.specs.Renaming.{renamed_kind}
-use Rattle.walrus_types.specs.Items.{Group}
-use Rattle.walrus_types.specs.Table.{Table}
+use Rattle.std.specs.Option.{option_and_then}
+use Rattle.walrus_types.specs.Items.{Item, Group}
+use Rattle.walrus_types.specs.Table.{Table, type_at}
 use Rattle.walrus_types.specs.Mergers.{Entry, is_single, entries_of}
-use Rattle.walrus_types.specs.Emission.{written_kind, is_written, written_groups, key_of, index_at, no_group, AreInOrder, AreArranged, written_types, described_group}
-use Rattle.walrus_type_laws.specs.Alike.{keys_of, members, AreHomed}
-use Rattle.walrus_type_laws.proofs.Places.{Has, Once, Turns, turns_of, has_contains, contains_has, once_of, map_at, at_map, Seat, seat, unseat, seats_one, start, left_at, right_at}
+use Rattle.walrus_types.specs.Emission.{shown_kind, written_kind, is_written, written_groups, index_at, AreArranged, written_types, described_group}
+use Rattle.walrus_type_laws.specs.Alike.{members, AreHomed}
+use Rattle.walrus_types.proofs.OnceLemmas.{Reordered, reordered, some_is}
+use Rattle.walrus_types.proofs.Places.{Has, Once, has_contains, contains_has, once_of, at_map, Seat, seat, unseat, seats_one, start, left_at, right_at}
 
 abbrev pub types_of : Group → List ℕ
 types_of g = g.types
@@ -32,27 +34,6 @@ written_all t [] all = refl
 written_all t (g ∷ gs) all =
     ap (λ (ids : List ℕ). ids ++ written_types t gs) (filter_all (is_written t) g.types (λ k id at. all 0 k g id refl at))
     ∙ ap (λ (ids : List ℕ). g.types ++ ids) (written_all t gs (λ p k h id at_p at_k. all (suc p) k h id at_p at_k))
-
--- these groups are those of t that are written, in some order
-pub record Reordered (t : Table) (gs : List Group) (order : List ℕ) : Type 0 where
-  pub turns : Turns (length (written_groups t)) order
-  pub forth : (p i : ℕ) → slice_get order p ≡ Some i → (g : Group) × (slice_get gs p ≡ Some g) × (slice_get (written_groups t) i ≡ Some g)
-  pub back : (p : ℕ) (g : Group) → slice_get gs p ≡ Some g → (i : ℕ) × (slice_get order p ≡ Some i) × (slice_get (written_groups t) i ≡ Some g)
-
-pub reordered : (t : Table) (gs : List Group) (in_order : AreInOrder t gs) → Reordered t gs in_order.order
-reordered t gs in_order =
-    let wg : List Group = written_groups t in
-    let order : List ℕ = in_order.order in
-    let pick : ℕ → Group = λ i. slice_index_or wg i no_group in
-    let turns : Turns (length wg) order = subst (λ (n : ℕ). Turns n order) (length-map wg (key_of t)) (turns_of (length (keys_of t)) order in_order.ordered.whole) in
-    record {
-      turns = turns;
-      forth = λ p i at.
-          (pick i, ap (λ (hs : List Group). slice_get hs p) in_order.places ∙ at_map pick order p i at, slice_get-get_or wg i no_group (turns.below p i at));
-      back = λ p g at.
-          let m = map_at pick order p g (ap (λ (hs : List Group). slice_get hs p) (sym in_order.places) ∙ at) in
-          (m.0, m.1, slice_get-get_or wg m.0 no_group (turns.below p m.0 m.1) ∙ ap Some m.2);
-    }
 
 -- the written groups have written members
 pub home_written : (t : Table) → AreHomed t → AllWritten t (written_groups t)
@@ -87,10 +68,6 @@ order_once t gs order homed re = λ i j id at_i at_j.
     let q = seats_one types_of wg (start types_of wg a.0 + s.place) id id sx sy in
     let same : s.piece ≡ z.piece = re.turns.one s.piece z.piece a.0 a.1 (b.1 ∙ ap Some (sym q.0)) in
     s.is ∙ ap (λ (p : ℕ). start types_of gs p + s.place) same ∙ ap (λ (k : ℕ). start types_of gs z.piece + k) q.1 ∙ sym z.is
-
-pub some_is : (o : Option ℕ) → IsSome o → o ≡ Some (unwrap_or o 0)
-some_is None h = absurd (false≢true h)
-some_is (Some x) h = refl
 
 -- each type that is written stands at its index
 pub record Indexed (t : Table) (gs : List Group) (r : ℕ → ℕ) : Type 0 where
@@ -195,3 +172,20 @@ described_at t r (h ∷ gs) all (suc p) k g id x at_p at_k is =
     right_at news (entries_of (map (described_group t r) gs)) (start types_of gs p + k) (start types_of (h ∷ gs) (suc p) + k) (make_entry (is_single (described_group t r g)) (renamed_kind r x))
     (omega (arith, sized, length-append h.types (flat_map types_of (take p gs))))
     (described_at t r gs (λ q j w i at_q at_j. all (suc q) j w i at_q at_j) p k g id x at_p at_k is)
+
+shown_same : (entry : Bool) (kind k : Kind) → (if entry then None else Some kind) ≡ Some k → kind ≡ k
+shown_same true kind k is = absurd (none-some k is)
+shown_same false kind k is = same_Some kind k is
+
+-- what is written is no entry type
+shown_plain : (entry : Bool) (kind k : Kind) → (if entry then None else Some kind) ≡ Some k → kind ≡ k → entry ≡ kind.entry → k.entry ≡ false
+shown_plain true kind k is same own = absurd (none-some k is)
+shown_plain false kind k is same own = ap (λ (x : Kind). x.entry) (sym same) ∙ sym own
+
+plain_item : (o : Option Item) (k : Kind) → option_and_then (λ item. shown_kind item.kind) o ≡ Some k → (item : Item) × (o ≡ Some item) × (item.kind ≡ k) × (k.entry ≡ false)
+plain_item None k is = absurd (none-some k is)
+plain_item (Some item) k is = let same = shown_same item.kind.entry item.kind k is in (item, refl, same, shown_plain item.kind.entry item.kind k is same refl)
+
+-- the item of a type that is written
+pub written_item : (t : Table) (id : ℕ) (k : Kind) → written_kind t id ≡ Some k → (item : Item) × (type_at t id ≡ Some item) × (item.kind ≡ k) × (k.entry ≡ false)
+written_item t id k is = plain_item (type_at t id) k is

@@ -5,9 +5,11 @@ pub mod EmitLemmas
 pub mod GroupLemmas
 pub mod LawLemmas
 pub mod MergerLemmas
+pub mod OnceLemmas
 pub mod OrderLemmas
 pub mod PairLemmas
 pub mod ParseLemmas
+pub mod Places
 pub mod RankLemmas
 pub mod SameLemmas
 pub mod TableLemmas

@@ -1,6 +1,8 @@
 pub use Rattle.walrus_items.specs.Items
 pub mod Emission
 pub mod Groups
+pub mod Inverse
+pub mod Merged
 pub mod Mergers
 pub mod Pairs
 pub mod Parsing

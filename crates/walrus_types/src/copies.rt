@@ -21,7 +21,7 @@ impl TypeIndices {
 }
 
 impl EmittedTypes {
-    /// Equal records and indices.
+    /// Equal records, indices and ids.
     ///
     /// # Errors
     ///
@@ -29,6 +29,7 @@ impl EmittedTypes {
     pub fn clone(&self, alloc: Global) -> Result<Self, AllocError>
         ensures groups { IfOk result (λ copy. map type_group copy.groups.items ≡ map type_group self.now.groups.items) }
         ensures indices { IfOk result (λ copy. copy.indices ≡ self.now.indices) }
+        ensures ids { IfOk result (λ copy. copy.ids.items ≡ self.now.ids.items) }
     {
         let mut groups = Vec::with_capacity(alloc, self.groups.len())?;
         for group in &self.groups {
@@ -37,6 +38,7 @@ impl EmittedTypes {
         Ok(EmittedTypes {
             groups,
             indices: self.indices.clone()?,
+            ids: self.ids.clone()?,
         })
     }
 }

@@ -7,6 +7,8 @@ ghost use Rattle.walrus_type_order.specs.Order.{IsEmissionOrder};
 ghost use Rattle.walrus_items.specs.Items.{kind_of, group_of};
 ghost use Rattle.walrus_types.specs.Table.{table_of};
 ghost use Rattle.walrus_types.specs.Emission.{written_kind, is_written, written_groups, key_of, no_group, AreInOrder, written_in, written_types, AreIndices, index_at, fault_at, first_fault, group_names, groups_fault, described_group, IsEmission, IsRefusal};
+ghost use Rattle.walrus_types.specs.Inverse.{AreInverse};
+ghost use Rattle.walrus_types.specs.Mergers.{entries_of};
 ghost use Rattle.walrus_types.specs.Parsing.{AreBelow};
 ghost use Rattle.walrus_types.specs.Ranks.{ranked};
 ghost use Rattle.walrus_forms.specs.Kinds.{kind_names};
@@ -406,16 +408,19 @@ impl TypeIndices {
     }
 }
 
-/// A table as it is written: the groups of a type section, and the index of each type.
+/// A table as it is written: the groups of a type section, the index of each type, and the type at each
+/// index.
 #[derive(Drop)]
 pub struct EmittedTypes {
     pub groups: Vec<GroupRecord>,
     pub indices: TypeIndices,
+    /// The types in the order in which they are written.
+    pub ids: Vec<TypeId>,
 }
 
 impl ModuleTypes {
-    /// The table as the groups of a type section, in the order in which they are written, and the index
-    /// of each type. Entry types aren't written.
+    /// The table as the groups of a type section, in the order in which they are written, with the index
+    /// of each type and the type at each index. Entry types aren't written.
     ///
     /// Groups stand by rising id. Those that are written as groups, and single types that name a type,
     /// keep this order; the single types between two of them are sorted, equal ones by id: functions,
@@ -430,6 +435,8 @@ impl ModuleTypes {
     /// written than indices can number.
     pub fn emit(&self) -> Result<EmittedTypes, IrError>
         ensures emitted { IfOk result (λ emitted. IsEmission self.now (map type_group emitted.groups.items) emitted.indices) }
+        ensures inverse { IfOk result (λ emitted. AreInverse emitted.ids.items emitted.indices) }
+        ensures counted { IfOk result (λ emitted. length emitted.ids.items ≡ length (entries_of (map type_group emitted.groups.items))) }
         ensures below { IfOk result (λ emitted. AreBelow 0 (map type_group emitted.groups.items)) }
         ensures refused { IfErr result (IsRefusal self.now) }
     {
@@ -450,6 +457,7 @@ impl ModuleTypes {
             Ok(groups) => Ok(EmittedTypes {
                 groups,
                 indices: TypeIndices { indices },
+                ids: written,
             }),
             Err(fault) => Err(fault),
         }

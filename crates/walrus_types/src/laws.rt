@@ -1,7 +1,7 @@
 //! Laws of the words that the contracts of this crate cite. Each function is its contract alone.
 ghost use Rattle.std.specs.Prelude.{◌≡◌, ℕ, Bool};
 ghost use Rattle.walrus_items.specs.Items.{Item, kind_of};
-ghost use Rattle.walrus_types.specs.TypeLaws.{FindsLatest};
+ghost use Rattle.walrus_types.specs.TypeLaws.{AreGrouped, FindsLatest};
 ghost use Rattle.walrus_types.specs.Mergers.{ParsingCarriesSame, SameIsOne};
 ghost use Rattle.walrus_forms.specs.Same.{same_kind};
 ghost use Rattle.walrus_forms.specs.Order.{kind_cmp};
@@ -24,6 +24,14 @@ pub fn search_finds_latest(types: &ModuleTypes)
     ensures { (test : ℕ × Item → Bool) → FindsLatest test types.now }
 {
     let _ = types;
+}
+
+/// Each live type of a table stands in exactly one group, once, and the types of a later group have the
+/// higher ids.
+pub fn types_are_grouped(types: &ModuleTypes)
+    ensures { AreGrouped types.now }
+{
+    let _ = types.rec_groups();
 }
 
 /// Two types are ordered as their form, finality, supertype and entry mark are.

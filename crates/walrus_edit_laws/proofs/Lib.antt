@@ -1,0 +1,5 @@
+pub mod Deleted
+pub mod EditLemmas
+pub mod Grown
+pub mod LocalLemmas
+pub mod OrdinaryLemmas

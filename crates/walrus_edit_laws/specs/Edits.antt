@@ -1,0 +1,44 @@
+-- What the calls that change a table do, and what they keep.
+use Rattle.std.specs.Prelude.{◌≡◌, ℕ, true, List, [], map, Some, slice_set}
+use Rattle.walrus_types.specs.declared.group.NewType.{NewType}
+use Rattle.walrus_forms.specs.Kinds.{Kind}
+use Rattle.walrus_forms.specs.Records.{TypeGroup}
+use Rattle.walrus_types.specs.Items.{Item}
+use Rattle.walrus_types.specs.Groups.{member_kind, AddsGroup}
+use Rattle.walrus_types.specs.Table.{Table, type_at, IsLive, Merges, Deletes, DeletesGroup}
+use Rattle.walrus_types.specs.Pairs.{MergesBoth}
+use Rattle.walrus_types.specs.Parsing.{parsed, unparsed, IsPartOf}
+use Rattle.walrus_types.specs.TypeLaws.{AreGrouped}
+use Rattle.walrus_types.specs.Merged.{IsMerged, UnmarkedAreSingle, TypesHaveOwnIds}
+use Rattle.walrus_edit_laws.specs.Ordinary.{AreOrdinary}
+
+-- one call changed the table, or left it. Of a type that was lent for writing its name alone was written.
+pub data Edit (old new : Table) : Type 0 where
+  Stays : new ≡ old → Edit old new
+  Adds : (kind : Kind) (id : ℕ) → Merges kind id old new → Edit old new
+  AddsBoth : (first second : Kind) (id other : ℕ) → MergesBoth first id second other old new → Edit old new
+  AddsAll : (members : List NewType) → AddsGroup true (map member_kind members) old new → Edit old new
+  Parses : (groups : List TypeGroup) → AreOrdinary groups → new ≡ (parsed groups (unparsed old)).table → Edit old new
+  ParsesPart : (groups : List TypeGroup) → AreOrdinary groups → IsPartOf groups old new → Edit old new
+  DeletesOne : (id : ℕ) → IsLive old id → Deletes id old new → Edit old new
+  DeletesAll : (id : ℕ) → IsLive old id → DeletesGroup id old new → Edit old new
+  Names : (id : ℕ) (x y : Item) → type_at old id ≡ Some x → y.id ≡ x.id → y.kind ≡ x.kind
+      → new ≡ record old { types = slice_set old.types id (Some y) } → Edit old new
+
+-- what is emitted of the table is read back as its types, and deletes keep this
+pub record IsSettled (t : Table) : Type 0 where
+  pub merged : IsMerged t
+  pub single : UnmarkedAreSingle t
+
+-- P holds of a new table, and each call keeps it
+pub record IsKept (P : Table → Type 0) : Type 0 where
+  pub begins : P (record { types = []; groups = [] })
+  pub keeps : (old new : Table) → AreGrouped old → Edit old new → P old → P new
+
+-- tables stay settled
+abbrev pub SettledIsKept : Type 0
+SettledIsKept = IsKept IsSettled
+
+-- types keep the ids by which they are found
+abbrev pub OwnIdsAreKept : Type 0
+OwnIdsAreKept = IsKept TypesHaveOwnIds
