@@ -3,9 +3,10 @@ pub mod BlockLemmas
 pub mod DeleteLemmas
 pub mod EmitLemmas
 pub mod GroupLemmas
+pub mod HighestLemmas
+pub mod IndexLemmas
 pub mod LawLemmas
 pub mod MergerLemmas
-pub mod OrderLemmas
 pub mod PairLemmas
 pub mod ParseLemmas
 pub mod RankLemmas
