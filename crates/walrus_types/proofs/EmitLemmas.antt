@@ -30,7 +30,7 @@ use Rattle.walrus_items.specs.Items.{Item, Group, kind_of, item_of, group_of}
 use Rattle.walrus_types.specs.Table.{Table, table_of, type_at}
 use Rattle.walrus_types.specs.Emission.{key_of, written_groups, no_group, AreInOrder, AreIndices, shown_kind, written_kind, written_in, written_types, is_written, first_fault, fault_at, group_names, groups_fault, index_at, described_group, AreArranged, HasFault, IsRefusal}
 use Rattle.walrus_types.specs.Ranks.{ranked}
-use Rattle.walrus_types.proofs.OrderLemmas.{type_ord-kinds}
+use Rattle.walrus_type_index.proofs.OrderLemmas.{type_ord-kinds}
 use Rattle.walrus_types.proofs.RankLemmas.{rank-first}
 use Rattle.std.specs.Ordering.{ordering_then, nat_cmp}
 

@@ -1,20 +1,20 @@
 -- New recursion groups.
-use Rattle.std.proofs.Common.{◌≡◌, ◌≢◌, ◌∙◌, ℕ, zero, suc, ◌+◌, ◌-◌, ◌<◌, Bool, true, List, [], ◌∷◌, ◌++◌, length, map, take, Contains, AllPairs, Option, Some, None, slice_index, slice_index_or, refl, sym, ap, arith, ⊎_elim, subst, length-append, add-one, cond}
+use Rattle.std.proofs.Common.{◌≡◌, ◌≢◌, ◌∙◌, ℕ, zero, suc, ◌+◌, ◌-◌, ◌<◌, Bool, List, [], ◌∷◌, ◌++◌, length, map, Contains, AllPairs, Option, Some, None, slice_index, slice_index_or, refl, sym, ap, arith, ⊎_elim, subst, length-append, add-one, cond}
 use Rattle.std.specs.List.{range_with_len}
 use Rattle.std.specs.Option.{option_map}
 use Rattle.std.proofs.lemmas.Bool.{cases_lt}
-use Rattle.std.proofs.lemmas.List.{get_or_append_left, length-map, map-append, map_more}
+use Rattle.std.proofs.lemmas.List.{get_or_append_left, length-map, map-append}
 use Rattle.std.proofs.lemmas.List.FromFn.{length-range_with_len, get_or-range_with_len}
 use Rattle.std.proofs.Math.Seq.{get_or-append_right}
 use Rattle.walrus_arena.specs.Arena.{entries_from}
 use Rattle.walrus_arena.proofs.ArenaLemmas.{live-within, at-kept, at-last, at-push}
 use Rattle.walrus_items.specs.declared.subtype.Type.{«Type» as TypeItem}
-use Rattle.walrus_items.specs.Items.{Item, Group, item_of, group_of, kind_of}
+use Rattle.walrus_items.specs.Items.{Item, Group, item_of, group_of}
 use Rattle.walrus_forms.specs.Kinds.{Kind}
 use Rattle.walrus_items.specs.declared.subtype.RecGroup.{RecGroup}
 use Rattle.walrus_types.specs.Groups.{new_items, group_slot, AddsGroup}
-use Rattle.walrus_types.specs.Table.{Table, next_id, latest_in, merges, table_of, IsIndex, IsGrouped, IsSound}
-use Rattle.walrus_types.proofs.TableLemmas.{latest_in-push, rise-more}
+use Rattle.walrus_types.specs.Table.{Table, next_id, latest_in, table_of, IsGrouped}
+use Rattle.walrus_types.proofs.TableLemmas.{rise-more}
 
 -- one more number
 pub range-more : (n a b : ℕ) → a + n ≡ b → range_with_len a (n + 1) ≡ range_with_len a n ++ b ∷ []
@@ -22,15 +22,6 @@ range-more zero a b is = let e : a ≡ b = omega arith in ap (λ (x : ℕ). x �
 range-more (suc n) a b is =
     ap (λ (k : ℕ). range_with_len a k) (add-one (suc n))
     ∙ ap (λ (xs : List ℕ). a ∷ xs) (sym (ap (λ (k : ℕ). range_with_len (a + 1) k) (add-one n)) ∙ range-more n (a + 1) b (omega arith))
-
--- one more type in the index, as at a step of a loop
-pub latest_in-more : (types : List TypeItem) (i : ℕ) (ty : TypeItem) (test : ℕ × Item → Bool) (found : Option ℕ) → i < length types → ty ≡ slice_index_or types i ty
-    → latest_in test found (map (λ (t : TypeItem). (t.id, item_of t)) (take (i + 1) types))
-    ≡ cond (test (ty.id, item_of ty)) (Some ty.id) (latest_in test found (map (λ (t : TypeItem). (t.id, item_of t)) (take i types)))
-latest_in-more types i ty test found less is =
-    ap (latest_in test found) (map_more (λ (t : TypeItem). (t.id, item_of t)) types i ty less
-    ∙ ap (λ (t : TypeItem). map (λ (u : TypeItem). (u.id, item_of u)) (take i types) ++ (t.id, item_of t) ∷ []) (sym is))
-    ∙ latest_in-push (map (λ (t : TypeItem). (t.id, item_of t)) (take i types)) test found (ty.id, item_of ty)
 
 -- as many new types as kinds, each of them alive
 pub length-new_items : (id : ℕ) (kinds : List Kind) → length (new_items id kinds) ≡ length kinds
@@ -108,22 +99,9 @@ grouped-group types news groups homes tail count home explicit g is_home sized_n
     }
 
 -- types that were made, as a table shows them
-pub shown-made : (made : List TypeItem) → map (option_map item_of) (map (λ (ty : TypeItem). Some ty) made) ≡ map (λ (ty : TypeItem). Some (item_of ty)) made
-shown-made [] = refl
-shown-made (ty ∷ made) = ap (λ (xs : List (Option Item)). Some (item_of ty) ∷ xs) (shown-made made)
-
--- the entries of new types
-pub seen-new : (made : List TypeItem) (kinds : List Kind) (n : ℕ) → map (λ (ty : TypeItem). Some (item_of ty)) made ≡ new_items n kinds
-    → map (λ (ty : TypeItem). (ty.id, item_of ty)) made ≡ entries_from n (new_items n kinds)
-seen-new [] [] n is = refl
-seen-new [] (k ∷ ks) n is = absurd cc
-seen-new (ty ∷ made) [] n is = absurd cc
-seen-new (ty ∷ made) (k ∷ ks) n is =
-    let item : Item = record { id = n; kind = k; name = None } in
-    let head : item_of ty ≡ item = cc in
-    let rest : map (λ (t : TypeItem). Some (item_of t)) made ≡ new_items (n + 1) ks = cc in
-    ap (λ (i : Item). (i.id, i) ∷ map (λ (t : TypeItem). (t.id, item_of t)) made) head
-    ∙ ap (λ (es : List (ℕ × Item)). (n, item) ∷ es) (seen-new made ks (n + 1) rest)
+pub shown-made : {X : Type 0} (made : List X) (f : X → TypeItem) → map (option_map item_of) (map (λ (x : X). Some (f x)) made) ≡ map (λ (x : X). Some (item_of (f x))) made
+shown-made [] f = refl
+shown-made (x ∷ made) f = ap (λ (xs : List (Option Item)). Some (item_of (f x)) ∷ xs) (shown-made made f)
 
 pub entries_from-append : {X : Type 0} (id : ℕ) (xs ys : List (Option X)) (next : ℕ) → id + length xs ≡ next
     → entries_from id (xs ++ ys) ≡ entries_from id xs ++ entries_from next ys
@@ -136,19 +114,6 @@ pub latest_in-append : (xs ys : List (ℕ × Item)) (test : ℕ × Item → Bool
 latest_in-append [] ys test found = refl
 latest_in-append (x ∷ xs) ys test found = latest_in-append xs ys test (cond (test x) (Some x.0) found)
 
--- new types in the index
-pub index-group : (types : List (Option Item)) (made : List TypeItem) (kinds : List Kind) (old new : TypeItem → Option ℕ)
-    → IsIndex old types → map (λ (ty : TypeItem). Some (item_of ty)) made ≡ new_items (length types) kinds
-    → ((q : TypeItem) → new q ≡ latest_in (merges (kind_of q)) (old q) (map (λ (ty : TypeItem). (ty.id, item_of ty)) made))
-    → IsIndex new (types ++ new_items (length types) kinds)
-index-group types made kinds old new index is updates = λ q.
-    updates q
-    ∙ ap (λ (o : Option ℕ). latest_in (merges (kind_of q)) o (map (λ (ty : TypeItem). (ty.id, item_of ty)) made)) (index q)
-    ∙ ap (λ (es : List (ℕ × Item)). latest_in (merges (kind_of q)) (latest_in (merges (kind_of q)) None (entries_from 0 types)) es) (seen-new made kinds (length types) is)
-    ∙ sym (latest_in-append (entries_from 0 types) (entries_from (length types) (new_items (length types) kinds)) (merges (kind_of q)) None)
-    ∙ ap (λ (es : List (ℕ × Item)). latest_in (merges (kind_of q)) None es)
-    (sym (entries_from-append 0 types (new_items (length types) kinds) (length types) (omega arith)))
-
 -- each of a list of one value is that value
 pub const-at : {X : Type 0} (xs : List X) (home i : ℕ) → i < length xs → slice_index (map (λ (x : X). home) xs) i ≡ home
 const-at [] home i less = absurd (omega arith)
@@ -156,46 +121,41 @@ const-at (x ∷ xs) home zero less = refl
 const-at (x ∷ xs) home (suc i) less = const-at xs home i (omega arith)
 
 -- a new group in a table
-pub sound-group : (types : List (Option TypeItem)) (groups : List (Option RecGroup)) (homes : List ℕ) (made : List TypeItem) (kinds : List Kind)
-    (group : RecGroup) (n home : ℕ) (explicit fresh : Bool) (old new : TypeItem → Option ℕ)
+pub group-pushed : {X : Type 0} (types : List (Option TypeItem)) (groups : List (Option RecGroup)) (homes : List ℕ) (made : List X) (f : X → TypeItem) (kinds : List Kind)
+    (group : RecGroup) (n home : ℕ) (explicit : Bool)
     → IsGrouped (map (option_map item_of) types) (map (option_map group_of) groups) homes
-    → (fresh ≡ true → IsIndex old (map (option_map item_of) types))
     → length types ≡ n → length groups ≡ home
-    → map (λ (ty : TypeItem). Some (item_of ty)) made ≡ new_items n kinds
+    → map (λ (x : X). Some (item_of (f x))) made ≡ new_items n kinds
     → group_of group ≡ record { explicit = explicit; types = range_with_len n (length kinds) }
-    → ((q : TypeItem) → new q ≡ latest_in (merges (kind_of q)) (old q) (map (λ (ty : TypeItem). (ty.id, item_of ty)) made))
-    → IsSound fresh new (table_of (types ++ map (λ (ty : TypeItem). Some ty) made) (groups ++ Some group ∷ [])) (homes ++ map (λ (ty : TypeItem). home) made)
-sound-group types groups homes made kinds group n home explicit fresh old new g index is_n is_home shown alone noted =
+    → IsGrouped (map (option_map item_of) (types ++ map (λ (x : X). Some (f x)) made)) (map (option_map group_of) (groups ++ Some group ∷ [])) (homes ++ map (λ (x : X). home) made)
+group-pushed {X} types groups homes made f kinds group n home explicit g is_n is_home shown alone =
     let count_types : n ≡ length (map (option_map item_of) types) = sym (length-map types (option_map item_of) ∙ is_n) in
-    let there : map (λ (ty : TypeItem). Some (item_of ty)) made ≡ new_items (length (map (option_map item_of) types)) kinds =
+    let there : map (λ (x : X). Some (item_of (f x))) made ≡ new_items (length (map (option_map item_of) types)) kinds =
     shown ∙ ap (λ (k : ℕ). new_items k kinds) count_types in
-    let more_types : map (option_map item_of) (types ++ map (λ (ty : TypeItem). Some ty) made) ≡ map (option_map item_of) types ++ new_items (length (map (option_map item_of) types)) kinds =
-    map-append (option_map item_of) types (map (λ (ty : TypeItem). Some ty) made)
-    ∙ ap (λ (xs : List (Option Item)). map (option_map item_of) types ++ xs) (shown-made made ∙ there) in
+    let more_types : map (option_map item_of) (types ++ map (λ (x : X). Some (f x)) made) ≡ map (option_map item_of) types ++ new_items (length (map (option_map item_of) types)) kinds =
+    map-append (option_map item_of) types (map (λ (x : X). Some (f x)) made)
+    ∙ ap (λ (xs : List (Option Item)). map (option_map item_of) types ++ xs) (shown-made made f ∙ there) in
     let alone_here : group_of group ≡ record { explicit = explicit; types = range_with_len (length (map (option_map item_of) types)) (length kinds) } =
     alone ∙ ap (λ (k : ℕ). let h : Group = record { explicit = explicit; types = range_with_len k (length kinds) } in h) count_types in
     let more_groups : map (option_map group_of) (groups ++ Some group ∷ [])
     ≡ map (option_map group_of) groups ++ Some (record { explicit = explicit; types = range_with_len (length (map (option_map item_of) types)) (length kinds) }) ∷ [] =
     map-append (option_map group_of) groups (Some group ∷ []) ∙ ap (λ (h : Group). map (option_map group_of) groups ++ Some h ∷ []) alone_here in
     let count_made : length made ≡ length kinds =
-    sym (length-map made (λ (ty : TypeItem). Some (item_of ty))) ∙ ap (λ (xs : List (Option Item)). length xs) shown ∙ length-new_items n kinds in
-    record {
-      index = λ f. rw more_types (index-group (map (option_map item_of) types) made kinds old new (index f) there noted);
-      grouped = rw (more_types, more_groups)
-          (grouped-group (map (option_map item_of) types) (new_items (length (map (option_map item_of) types)) kinds) (map (option_map group_of) groups) homes
-          (map (λ (ty : TypeItem). home) made) (length kinds) home explicit g
-          (length-map groups (option_map group_of) ∙ is_home)
-          (length-new_items (length (map (option_map item_of) types)) kinds)
-          (length-map made (λ (ty : TypeItem). home) ∙ count_made)
-          (λ i less. const-at made home i (omega arith))
-          (new-some (length (map (option_map item_of) types)) kinds));
-    }
+    sym (length-map made (λ (x : X). Some (item_of (f x)))) ∙ ap (λ (xs : List (Option Item)). length xs) shown ∙ length-new_items n kinds in
+    rw (more_types, more_groups)
+    (grouped-group (map (option_map item_of) types) (new_items (length (map (option_map item_of) types)) kinds) (map (option_map group_of) groups) homes
+    (map (λ (x : X). home) made) (length kinds) home explicit g
+    (length-map groups (option_map group_of) ∙ is_home)
+    (length-new_items (length (map (option_map item_of) types)) kinds)
+    (length-map made (λ (x : X). home) ∙ count_made)
+    (λ i less. const-at made home i (omega arith))
+    (new-some (length (map (option_map item_of) types)) kinds))
 
 -- as many types are made as there are kinds
-pub made-length : (made : List TypeItem) (kinds : List Kind) (n : ℕ) → map (λ (ty : TypeItem). Some (item_of ty)) made ≡ new_items n kinds
+pub made-length : {X : Type 0} (made : List X) (f : X → TypeItem) (kinds : List Kind) (n : ℕ) → map (λ (x : X). Some (item_of (f x))) made ≡ new_items n kinds
     → length made ≡ length kinds
-made-length made kinds n shown =
-    sym (length-map made (λ (ty : TypeItem). Some (item_of ty))) ∙ ap (λ (xs : List (Option Item)). length xs) shown ∙ length-new_items n kinds
+made-length {X} made f kinds n shown =
+    sym (length-map made (λ (x : X). Some (item_of (f x)))) ∙ ap (λ (xs : List (Option Item)). length xs) shown ∙ length-new_items n kinds
 
 -- a group with a member takes a slot
 some-slot : (explicit : Bool) (n count : ℕ) → 0 < count → group_slot explicit (range_with_len n count) ≡ Some (record { explicit = explicit; types = range_with_len n count }) ∷ []
@@ -203,18 +163,18 @@ some-slot explicit n zero some = absurd (omega arith)
 some-slot explicit n (suc count) some = refl
 
 -- the table with a new group is as it should be
-pub adds-group : (types : List (Option TypeItem)) (groups : List (Option RecGroup)) (made : List TypeItem) (kinds : List Kind) (group : RecGroup) (n : ℕ) (explicit : Bool) (t : Table)
+pub adds-group : {X : Type 0} (types : List (Option TypeItem)) (groups : List (Option RecGroup)) (made : List X) (f : X → TypeItem) (kinds : List Kind) (group : RecGroup) (n : ℕ) (explicit : Bool) (t : Table)
     → table_of types groups ≡ t → length types ≡ n
-    → map (λ (ty : TypeItem). Some (item_of ty)) made ≡ new_items n kinds
+    → map (λ (x : X). Some (item_of (f x))) made ≡ new_items n kinds
     → group_of group ≡ record { explicit = explicit; types = range_with_len n (length kinds) }
     → 0 < length kinds
-    → AddsGroup explicit kinds t (table_of (types ++ map (λ (ty : TypeItem). Some ty) made) (groups ++ Some group ∷ []))
-adds-group types groups made kinds group n explicit t view is_n shown alone some =
+    → AddsGroup explicit kinds t (table_of (types ++ map (λ (x : X). Some (f x)) made) (groups ++ Some group ∷ []))
+adds-group {X} types groups made f kinds group n explicit t view is_n shown alone some =
     let next : n ≡ next_id t = sym (length-map types (option_map item_of) ∙ is_n) ∙ ap (λ (u : Table). length u.types) view in
     record {
       types =
-          map-append (option_map item_of) types (map (λ (ty : TypeItem). Some ty) made)
-          ∙ ap (λ (xs : List (Option Item)). map (option_map item_of) types ++ xs) (shown-made made ∙ shown ∙ ap (λ (k : ℕ). new_items k kinds) next)
+          map-append (option_map item_of) types (map (λ (x : X). Some (f x)) made)
+          ∙ ap (λ (xs : List (Option Item)). map (option_map item_of) types ++ xs) (shown-made made f ∙ shown ∙ ap (λ (k : ℕ). new_items k kinds) next)
           ∙ ap (λ (u : Table). u.types ++ new_items (next_id t) kinds) view;
       groups =
           map-append (option_map group_of) groups (Some group ∷ [])

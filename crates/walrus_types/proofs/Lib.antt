@@ -3,10 +3,11 @@ pub mod BlockLemmas
 pub mod DeleteLemmas
 pub mod EmitLemmas
 pub mod GroupLemmas
+pub mod HighestLemmas
+pub mod IndexLemmas
 pub mod LawLemmas
 pub mod MergerLemmas
 pub mod OnceLemmas
-pub mod OrderLemmas
 pub mod PairLemmas
 pub mod ParseLemmas
 pub mod Places

@@ -1,22 +1,16 @@
 -- The table over its adds, deletes and writes: groups and index.
-use Rattle.std.proofs.Common.{◌≡◌, ◌∙◌, ℕ, ◌+◌, ◌-◌, ◌<◌, ◌≤◌, Bool, true, false, cond, not, ◌&&◌, ◌==◌, List, [], ◌∷◌, ◌++◌, length, map, Contains, Option, Some, None, slice_index, slice_index_or, slice_set, refl, sym, ap, arith, ◌⊎◌, inl, inr, ⊎_elim, length-append, IsSome, Bor, subst}
+use Rattle.std.proofs.Common.{◌≡◌, ◌∙◌, ℕ, ◌+◌, ◌-◌, ◌<◌, ◌≤◌, Bool, cond, List, [], ◌∷◌, ◌++◌, length, map, Contains, Option, Some, None, slice_index, slice_index_or, slice_set, refl, sym, ap, arith, ◌⊎◌, inl, inr, ⊎_elim, length-append, IsSome, Bor, subst}
 use Rattle.std.specs.Option.{option_map, option_copied, MatchOption}
-use Rattle.std.specs.List.{list_any}
-use Rattle.std.proofs.lemmas.Bool.{cases_eq, cases_lt, and_right}
-use Rattle.std.proofs.lemmas.List.{get_or_push, get_or_append_left, get_or-set_same, length-set, length-map, map-append}
+use Rattle.std.proofs.lemmas.Bool.{cases_eq, cases_lt}
+use Rattle.std.proofs.lemmas.List.{get_or_push, get_or_append_left, get_or-set_same, length-set}
 use Rattle.std.proofs.Math.ListN.{get_or-map}
 use Rattle.std.proofs.Math.Seq.{get_or-append_right}
 use Rattle.walrus_arena.specs.Arena.{entries_from}
-use Rattle.walrus_arena.proofs.ArenaLemmas.{live-within, at-kept, at-last, at-push, at-other, entries_from-push}
+use Rattle.walrus_arena.proofs.ArenaLemmas.{live-within, at-kept, at-last, at-push, at-other}
 use Rattle.walrus_items.specs.declared.subtype.Type.{«Type» as TypeItem}
 use Rattle.walrus_items.specs.declared.subtype.RecGroup.{RecGroup}
-use Rattle.walrus_forms.specs.Kinds.{kind_names}
-use Rattle.walrus_items.specs.Items.{Item, Group, item_of, group_of, kind_of}
-use Rattle.walrus_forms.specs.Same.{same_kind}
-use Rattle.walrus_items.specs.contracts.subtype.TypePartialEq.TheImpl.{ghosts as type_eq}
-use Rattle.walrus_types.proofs.SameLemmas.{type_eq-kinds}
-use Rattle.std.proofs.Math.Bool.{and-true}
-use Rattle.walrus_types.specs.Table.{Table, HasMember, group_at, entries, latest_in, merges, table_of, IsIndex, RiseBelow, IsGrouped, IsSound}
+use Rattle.walrus_items.specs.Items.{Item, Group, item_of, group_of}
+use Rattle.walrus_types.specs.Table.{Table, HasMember, group_at, entries, latest_in, table_of, RiseBelow, IsGrouped}
 
 -- a look-up in mapped slots
 pub at-map : {X Y : Type 0} (f : X → Y) (slots : List (Option X)) (id : ℕ) → slice_index_or (map (option_map f) slots) id None ≡ option_map f (slice_index_or slots id None)
@@ -152,57 +146,6 @@ grouped-added types groups homes id home item explicit g is_id is_home =
           (at-push groups alone h group at);
       homes_rise = rise-more homes (home ∷ []) (length groups) (length (groups ++ Some alone ∷ [])) g.homes_rise (omega (arith, length-append groups (Some alone ∷ [])))
           (λ k less. ap (λ (i : ℕ). slice_index (home ∷ []) i) (let zeroth : k ≡ 0 = omega arith in zeroth) ∙ sym is_home);
-    }
-
--- the index of no types
-pub index-nil : IsIndex (λ q. None) []
-index-nil = λ q. refl
-
--- one more type in the index
-pub index-added : (types : List (Option Item)) (item : Item) (id : ℕ) (old new : TypeItem → Option ℕ)
-    → IsIndex old types → length types ≡ id
-    → ((q : TypeItem) → new q ≡ cond (merges (kind_of q) (id, item)) (Some id) (old q))
-    → IsIndex new (types ++ Some item ∷ [])
-index-added types item id old new index is_id updates = λ q.
-    updates q
-    ∙ ap (λ (o : Option ℕ). cond (merges (kind_of q) (id, item)) (Some id) o) (index q)
-    ∙ sym (latest_in-push (entries_from 0 types) (merges (kind_of q)) None (id, item))
-    ∙ ap (λ (es : List (ℕ × Item)). latest_in (merges (kind_of q)) None es) (sym (entries_from-push 0 types item id (omega arith)))
-
--- a type that doesn't name itself is entered into the index under a clone of it
-pub merges-key : (ty key q : TypeItem) (id : ℕ) → item_of key ≡ item_of ty
-    → list_any (λ (name : ℕ). name == id) (kind_names (kind_of ty)) ≡ false
-    → type_eq.eq key q ≡ merges (kind_of q) (id, item_of ty)
-merges-key ty key q id same none =
-    type_eq-kinds key q
-    ∙ ap (λ (i : Item). same_kind i.kind (kind_of q)) same
-    ∙ sym (and-true (same_kind (kind_of ty) (kind_of q)))
-    ∙ ap (λ (b : Bool). same_kind (kind_of ty) (kind_of q) && not b) (sym none)
-
--- a type that names itself stands for no other
-pub merges-self : (ty q : TypeItem) (id : ℕ)
-    → list_any (λ (name : ℕ). name == id) (kind_names (kind_of ty)) ≡ true
-    → merges (kind_of q) (id, item_of ty) ≡ false
-merges-self ty q id names = and_right (same_kind (kind_of ty) (kind_of q)) _ (ap not names)
-
--- one more type in a table, in a group of its own
-pub sound-added : (types : List (Option TypeItem)) (groups : List (Option RecGroup)) (homes : List ℕ) (ty : TypeItem) (group : RecGroup) (id home : ℕ) (fresh : Bool)
-    (old new : TypeItem → Option ℕ)
-    → IsGrouped (map (option_map item_of) types) (map (option_map group_of) groups) homes
-    → IsIndex old (map (option_map item_of) types)
-    → length types ≡ id → length groups ≡ home
-    → group_of group ≡ record { explicit = false; types = id ∷ [] }
-    → ((q : TypeItem) → new q ≡ cond (merges (kind_of q) (id, item_of ty)) (Some id) (old q))
-    → IsSound fresh new (table_of (types ++ Some ty ∷ []) (groups ++ Some group ∷ [])) (homes ++ home ∷ [])
-sound-added types groups homes ty group id home fresh old new grouped index is_id is_home alone noted =
-    let more_types = map-append (option_map item_of) types (Some ty ∷ []) in
-    let more_groups : map (option_map group_of) (groups ++ Some group ∷ []) ≡ map (option_map group_of) groups ++ Some (record { explicit = false; types = id ∷ [] }) ∷ [] =
-    map-append (option_map group_of) groups (Some group ∷ []) ∙ ap (λ (g : Group). map (option_map group_of) groups ++ Some g ∷ []) alone in
-    let count_types : length (map (option_map item_of) types) ≡ id = length-map types (option_map item_of) ∙ is_id in
-    let count_groups : length (map (option_map group_of) groups) ≡ home = length-map groups (option_map group_of) ∙ is_home in
-    record {
-      index = λ f. rw more_types (index-added (map (option_map item_of) types) (item_of ty) id old new index count_types noted);
-      grouped = rw (more_types, more_groups) (grouped-added (map (option_map item_of) types) (map (option_map group_of) groups) homes id home (item_of ty) false grouped count_types count_groups);
     }
 
 -- the entries of a table, from those of its types

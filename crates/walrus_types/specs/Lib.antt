@@ -1,6 +1,7 @@
 pub use Rattle.walrus_items.specs.Items
 pub mod Emission
 pub mod Groups
+pub mod Highest
 pub mod Inverse
 pub mod Merged
 pub mod Mergers

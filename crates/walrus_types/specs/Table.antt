@@ -1,5 +1,5 @@
 -- What a contract sees of a type table: the types and the groups by id, live or dead.
-use Rattle.std.specs.Prelude.{◌≡◌, ◌≢◌, ℕ, ◌<◌, ◌≤◌, Bool, true, false, not, ◌&&◌, ◌==◌, List, [], ◌∷◌, ◌++◌, length, map, filter, find, Contains, AllPairs, Option, Some, None, IsSome, IsTrue, MatchOption, slice_index, slice_index_or, slice_set, if◌then◌else◌}
+use Rattle.std.specs.Prelude.{◌≡◌, ◌≢◌, ℕ, ◌<◌, ◌≤◌, Bool, false, not, ◌&&◌, ◌==◌, List, [], ◌∷◌, ◌++◌, length, map, filter, find, Contains, AllPairs, Option, Some, None, IsSome, IsTrue, MatchOption, slice_index, slice_index_or, slice_set, if◌then◌else◌}
 use Rattle.std.specs.List.{list_any}
 use Rattle.std.specs.Option.{option_map, option_map_or}
 use Rattle.walrus_arena.specs.Arena.{entries_from}
@@ -8,8 +8,11 @@ use Rattle.walrus_items.specs.declared.subtype.Type.{«Type» as TypeItem}
 use Rattle.walrus_items.specs.declared.subtype.RecGroup.{RecGroup}
 use Rattle.walrus_forms.specs.Forms.{is_function}
 use Rattle.walrus_forms.specs.Kinds.{Kind, kind_names, function_kind}
-use Rattle.walrus_items.specs.Items.{Item, Group, item_of, group_of, kind_of, has_name}
+use Rattle.walrus_items.specs.Items.{Item, Group, item_of, group_of, has_name}
 use Rattle.walrus_forms.specs.Same.{same_kind}
+use Rattle.walrus_type_index.specs.Ordered.{IsOrdered}
+-- whether a type of an id and kind names itself
+pub use Rattle.walrus_type_index.specs.Places.{names_itself}
 
 -- for each id ever given out, the type or the group while it lives
 pub record Table : Type 0 where
@@ -55,10 +58,6 @@ latest_id test t = latest_in test None (entries t)
 -- the latest final function type without supertype of just these parameters and results
 abbrev pub found_type : List ValType → List ValType → Table → Option ℕ
 found_type params results t = latest_id (λ e. same_kind e.1.kind (function_kind params results)) t
-
--- whether a type of this kind and id names itself
-abbrev pub names_itself : ℕ → Kind → Bool
-names_itself id kind = list_any (λ name. name == id) (kind_names kind)
 
 -- whether a new type of this kind stands for that type: the kinds are equal, and a type that names
 -- itself equals no other
@@ -121,10 +120,6 @@ is_named_at t id other = option_map_or (λ item. list_any (λ name. name == id) 
 abbrev pub is_named_in : Table → ℕ → Group → Bool
 is_named_in t id group = list_any (λ other. not (other == id) && is_named_at t id other) group.types
 
--- the look-up finds for each type the one that stands for it
-abbrev pub IsIndex : (TypeItem → Option ℕ) → List (Option Item) → Type 0
-IsIndex lookup types = (q : TypeItem) → lookup q ≡ latest_in (merges (kind_of q)) None (entries_from 0 types)
-
 -- the numbers are below the count, and never fall along the list
 pub record RiseBelow (count : ℕ) (xs : List ℕ) : Type 0 where
   pub below : (i : ℕ) → i < length xs → slice_index xs i < count
@@ -141,7 +136,7 @@ pub record IsGrouped (types : List (Option Item)) (groups : List (Option Group))
   pub once : (group : ℕ) (g : Group) → slice_index_or groups group None ≡ Some g → AllPairs (λ x y. x ≢ y) g.types
   pub homes_rise : RiseBelow (length groups) homes
 
--- what holds of every table: types are grouped, and while the index is fresh it finds equal types
-pub record IsSound (fresh : Bool) (lookup : TypeItem → Option ℕ) (t : Table) (homes : List ℕ) : Type 0 where
-  pub index : fresh ≡ true → IsIndex lookup t.types
+-- what holds of every table: types are grouped, and the index has those of these kinds in order
+pub record IsSound (lent : Option ℕ) (index : List ℕ) (kinds : List (Option Kind)) (t : Table) (homes : List ℕ) : Type 0 where
+  pub ordered : IsOrdered lent index kinds
   pub grouped : IsGrouped t.types t.groups homes

@@ -4,11 +4,14 @@ ghost use Rattle.std.specs.Bool.{OnTrue, OnFalse};
 ghost use Rattle.std.specs.Option.{option_map};
 ghost use Rattle.walrus_arena.specs.Arena.{IsLive as HasLive, item_at};
 ghost use Rattle.walrus_items.specs.Items.{Group, group_of, item_of};
+ghost use Rattle.walrus_type_index.specs.Places.{kinds_in};
+ghost use Rattle.walrus_type_index.specs.Ordered.{IsOrdered};
 ghost use Rattle.walrus_types.specs.Table.{IsLive, Deletes, DeletesGroup, group_at, is_named_in, is_named_at, clear_all, without_member, table_of};
 
 use crate::table::ModuleTypes;
 use walrus_arena::{RecGroupId, RecGroupSpace, TombstoneArena, TypeId, TypeSpace};
 use walrus_items::{RecGroup, Type};
+use walrus_type_index::{Tree, lend};
 
 // Takes a type out of its group, which goes where none is left.
 pub(crate) fn leave_group(
@@ -27,21 +30,31 @@ pub(crate) fn leave_group(
     }
 }
 
-// Deletes a type, if it lives.
-fn clear(types: &mut TombstoneArena<Type, TypeSpace>, id: TypeId)
-    ensures { types.new.slots ≡ slice_set types.old.slots id None }
+// Deletes a type, if it lives. No type is lent.
+fn clear(types: &mut TombstoneArena<Type, TypeSpace>, index: &mut Tree, id: TypeId)
+    requires { IsOrdered None index.old (kinds_in types.old.slots) }
+    ensures types { types.new.slots ≡ slice_set types.old.slots id None }
+    ensures ordered { IsOrdered None index.new (kinds_in types.new.slots) }
 {
     if types.contains(id) {
+        let mut lent = None;
+        lend(index, &mut lent, types, id);
         types.delete(id);
     }
 }
 
-// Deletes these types, those of them that live.
-pub(crate) fn clear_types(types: &mut TombstoneArena<Type, TypeSpace>, ids: &[TypeId])
-    ensures { map (option_map item_of) types.new.slots ≡ clear_all ids.now (map (option_map item_of) types.old.slots) }
+// Deletes these types, those of them that live. No type is lent.
+pub(crate) fn clear_types(
+    types: &mut TombstoneArena<Type, TypeSpace>,
+    index: &mut Tree,
+    ids: &[TypeId],
+)
+    requires { IsOrdered None index.old (kinds_in types.old.slots) }
+    ensures types { map (option_map item_of) types.new.slots ≡ clear_all ids.now (map (option_map item_of) types.old.slots) }
+    ensures ordered { IsOrdered None index.new (kinds_in types.new.slots) }
 {
     for id in ids {
-        clear(types, *id);
+        clear(types, index, *id);
     }
 }
 

@@ -1,19 +1,16 @@
 //! Adding recursion groups to a table.
-ghost use Rattle.std.specs.Prelude.{◌≡◌, ◌+◌, ◌<◌, ◌≤◌, ◌^◌, ℕ, List, [], ◌++◌, length, map, replicate, Some, IfOk, OnOk, OnErr, vec_len, vec_capacity};
+ghost use Rattle.std.specs.Prelude.{◌≡◌, ◌+◌, ◌<◌, ◌≤◌, ◌^◌, ℕ, List, [], ◌∷◌, ◌++◌, length, map, Some, None, false, IfOk, vec_len, vec_capacity};
 ghost use Rattle.std.specs.List.{range_with_len};
-ghost use Rattle.std.specs.HashMap.{get};
-ghost use Rattle.walrus_items.specs.Items.{item_of, kind_of};
-ghost use Rattle.walrus_types.specs.Table.{latest_in, merges};
+ghost use Rattle.walrus_items.specs.Items.{item_of};
+ghost use Rattle.walrus_type_index.specs.Places.{kinds_in};
+ghost use Rattle.walrus_type_index.specs.Ordered.{IsOrdered};
 ghost use Rattle.walrus_types.specs.Groups.{new_items, member_kind};
-ghost use Rattle.walrus_items.specs.declared.subtype.Type.{«Type» as TypeItem};
-ghost use Rattle.walrus_items.specs.contracts.subtype.TypePartialEq.TheImpl.{ghosts as type_eq};
 
-use crate::table::note;
 use std::alloc::{AllocError, Global};
-use std::collections::HashMap;
-use walrus_arena::{RecGroupId, TombstoneArena, TypeId, TypeSpace};
+use walrus_arena::{RecGroupId, RecGroupSpace, TombstoneArena, TypeId, TypeSpace};
 use walrus_forms::CompositeType;
-use walrus_items::Type;
+use walrus_items::{RecGroup, Type};
+use walrus_type_index::{Spare, Tree, enter};
 
 /// What a new member of a recursion group is to be.
 #[derive(Drop)]
@@ -58,14 +55,15 @@ pub(crate) fn ids_from(
     Ok(ids)
 }
 
-// The types of these members, the first of which has this id.
+// The types of these members, the first of which has this id, each with the memory to enter it into the
+// index.
 pub(crate) fn types_of(
     alloc: Global,
     first: TypeId,
     members: Vec<NewType>,
-) -> Result<Vec<Type>, AllocError>
+) -> Result<Vec<(Type, Spare)>, AllocError>
     requires { first + length members.items < 2 ^ 32 }
-    ensures { IfOk result (λ types. map (λ ty. Some (item_of ty)) types.items ≡ new_items first (map member_kind members.items)) }
+    ensures { IfOk result (λ types. map (λ new. Some (item_of new.0)) types.items ≡ new_items first (map member_kind members.items)) }
 {
     let mut types = Vec::new(alloc);
     let mut next = first.index();
@@ -76,37 +74,70 @@ pub(crate) fn types_of(
             supertype,
         } = member;
         let id = TypeId::from_index(next);
-        types.push(Type::new(id, kind, is_final, supertype, false))?;
+        let spare = Spare::new(alloc, id)?;
+        types.push((Type::new(id, kind, is_final, supertype, false), spare))?;
         next += 1;
     }
     Ok(types)
 }
 
-// Enters these types into the index, those that name themselves aside.
-pub(crate) fn note_all(index: &mut HashMap<Type, u32>, types: &[Type]) -> Result<(), AllocError>
-    ensures { OnOk result ((q : TypeItem) → get type_eq.eq index.new q
-        ≡ latest_in (merges (kind_of q)) (get type_eq.eq index.old q) (map (λ ty. (ty.id, item_of ty)) types.now)) }
+// Adds the type, and enters it into the index. Asks for room.
+fn push_type(types: &mut TombstoneArena<Type, TypeSpace>, index: &mut Tree, ty: Type, spare: Spare)
+    requires room { 0 < types.old.room }
+    requires ordered { IsOrdered None index.old (kinds_in types.old.slots) }
+    ensures types { types.new.slots ≡ types.old.slots ++ Some ty ∷ [] }
+    ensures room { types.new.room + 1 ≡ types.old.room }
+    ensures ordered { IsOrdered None index.new (kinds_in types.new.slots) }
 {
-    for ty in types {
-        note(index, ty, ty.id())?;
-    }
-    Ok(())
+    let id = types.alloc_reserved(ty);
+    enter(index, types, spare.with_id(id));
 }
 
-// Adds these types, all of one group. Asks for room.
+// Adds the type, in a group of these members, and enters it into the index. Asks for room.
+pub(crate) fn push_single(
+    types: &mut TombstoneArena<Type, TypeSpace>,
+    groups: &mut TombstoneArena<RecGroup, RecGroupSpace>,
+    homes: &mut Vec<RecGroupId>,
+    index: &mut Tree,
+    ty: Type,
+    members: Vec<TypeId>,
+    spare: Spare,
+)
+    requires types { 0 < types.old.room }
+    requires groups { 0 < groups.old.room }
+    requires homes { vec_len homes.old < vec_capacity homes.old }
+    requires ordered { IsOrdered None index.old (kinds_in types.old.slots) }
+    ensures types { types.new.slots ≡ types.old.slots ++ Some ty ∷ [] }
+    ensures types_room { types.new.room + 1 ≡ types.old.room }
+    ensures groups { groups.new.slots ≡ groups.old.slots ++ Some (record { types = members; explicit = false }) ∷ [] }
+    ensures groups_room { groups.new.room + 1 ≡ groups.old.room }
+    ensures homes { homes.new.items ≡ homes.old.items ++ length groups.old.slots ∷ [] }
+    ensures homes_len { vec_len homes.new ≡ vec_len homes.old + 1 }
+    ensures homes_room { vec_capacity homes.new ≡ vec_capacity homes.old }
+    ensures ordered { IsOrdered None index.new (kinds_in types.new.slots) }
+{
+    let home = groups.alloc_reserved(RecGroup::new(false, members));
+    homes.push_reserved(home);
+    push_type(types, index, ty, spare);
+}
+
+// Adds these types, all of one group, and enters them into the index. Asks for room.
 pub(crate) fn push_types(
     types: &mut TombstoneArena<Type, TypeSpace>,
     homes: &mut Vec<RecGroupId>,
-    new: Vec<Type>,
+    index: &mut Tree,
+    new: Vec<(Type, Spare)>,
     home: RecGroupId,
 )
     requires types { length new.items ≤ types.old.room }
     requires homes { vec_len homes.old + length new.items ≤ vec_capacity homes.old }
-    ensures types { types.new.slots ≡ types.old.slots ++ map (λ ty. Some ty) new.items }
+    requires ordered { IsOrdered None index.old (kinds_in types.old.slots) }
+    ensures types { types.new.slots ≡ types.old.slots ++ map (λ one. Some one.0) new.items }
     ensures homes { homes.new.items ≡ homes.old.items ++ map (λ _. home) new.items }
+    ensures ordered { IsOrdered None index.new (kinds_in types.new.slots) }
 {
-    for ty in new {
-        types.alloc_reserved(ty);
+    for (ty, spare) in new {
+        push_type(types, index, ty, spare);
         homes.push_reserved(home);
     }
 }

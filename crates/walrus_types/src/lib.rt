@@ -6,6 +6,7 @@ mod delete;
 mod emit;
 mod error;
 mod group;
+mod index;
 mod iter;
 pub mod laws;
 mod pair;

@@ -1,40 +1,19 @@
 //! Adding a function type and the type of its body's own block, both or neither.
-ghost use Rattle.std.specs.Prelude.{◌≡◌, ◌+◌, ◌<◌, true, false, [], ◌∷◌, ◌++◌, length, IfOk, OnErr, Some, None, vec_len, vec_capacity};
+ghost use Rattle.std.specs.Prelude.{◌≡◌, true, false, IfOk, OnErr, None};
 ghost use Rattle.walrus_forms.specs.Forms.{form_of};
 ghost use Rattle.walrus_forms.specs.Kinds.{function_kind, entry_kind, declared_kind};
 ghost use Rattle.walrus_items.specs.Items.{kind_of};
 ghost use Rattle.walrus_types.specs.Table.{next_id, equal_type};
 ghost use Rattle.walrus_types.specs.Pairs.{MergesBoth};
 
-use crate::table::{ModuleTypes, look_up, note, refresh};
+use crate::group::push_single;
+use crate::index::look_up;
+use crate::table::ModuleTypes;
 use std::alloc::AllocError;
-use walrus_arena::{RecGroupId, RecGroupSpace, TombstoneArena, TypeId, TypeSpace};
+use walrus_arena::TypeId;
 use walrus_forms::{CompositeType, FunctionType, ValType};
-use walrus_items::{RecGroup, Type};
-
-// Adds the type, in a group of these members. Asks for room.
-fn push_single(
-    types: &mut TombstoneArena<Type, TypeSpace>,
-    groups: &mut TombstoneArena<RecGroup, RecGroupSpace>,
-    homes: &mut Vec<RecGroupId>,
-    ty: Type,
-    members: Vec<TypeId>,
-)
-    requires types { 0 < types.old.room }
-    requires groups { 0 < groups.old.room }
-    requires homes { vec_len homes.old < vec_capacity homes.old }
-    ensures types { types.new.slots ≡ types.old.slots ++ Some ty ∷ [] }
-    ensures types_room { types.new.room + 1 ≡ types.old.room }
-    ensures groups { groups.new.slots ≡ groups.old.slots ++ Some (record { types = members; explicit = false }) ∷ [] }
-    ensures groups_room { groups.new.room + 1 ≡ groups.old.room }
-    ensures homes { homes.new.items ≡ homes.old.items ++ length groups.old.slots ∷ [] }
-    ensures homes_len { vec_len homes.new ≡ vec_len homes.old + 1 }
-    ensures homes_room { vec_capacity homes.new ≡ vec_capacity homes.old }
-{
-    let home = groups.alloc_reserved(RecGroup::new(false, members));
-    homes.push_reserved(home);
-    types.alloc_reserved(ty);
-}
+use walrus_items::Type;
+use walrus_type_index::{Spare, settle};
 
 impl ModuleTypes {
     /// The ids of the final function type without supertype of these parameters and results, and of the
@@ -70,12 +49,12 @@ impl ModuleTypes {
         ensures inserted { IfOk result (λ ids. MergesBoth (declared_kind (form_of kind) true None) ids.0 (record { form = form_of entry; final = true; supertype = None; entry = true }) ids.1 self.old self.new) }
         ensures refused { OnErr result (self.new ≡ self.old) }
     {
-        refresh(self.alloc, &mut self.fresh, &mut self.index, &self.types)?;
+        settle(&mut self.index, &mut self.lent, &self.types);
         let id = self.types.next_id();
         let ty = Type::new(id, kind, true, None, false);
-        if let Some(found) = look_up(&self.index, &ty, id) {
+        if let Some(found) = look_up(&self.index, &self.types, &ty, id) {
             let entry_id = self.insert(entry, true, None, true)?;
-            return Ok((TypeId::from_index(found as usize), entry_id));
+            return Ok((found, entry_id));
         }
         self.add_then_entry(ty, entry)
     }
@@ -106,37 +85,30 @@ impl ModuleTypes {
         self.types.reserve(2)?;
         self.groups.reserve(2)?;
         self.homes.reserve(2)?;
-        refresh(self.alloc, &mut self.fresh, &mut self.index, &self.types)?;
-        // The index is ahead of the types until they stand.
-        self.fresh = false;
-        note(&mut self.index, &ty, id)?;
-        if let Some(found) = look_up(&self.index, &entry, entry_id) {
-            push_single(
-                &mut self.types,
-                &mut self.groups,
-                &mut self.homes,
-                ty,
-                members,
-            );
-            self.fresh = true;
-            return Ok((id, TypeId::from_index(found as usize)));
-        }
-        note(&mut self.index, &entry, entry_id)?;
+        let spare = Spare::new(self.alloc, id)?;
+        let entry_spare = Spare::new(self.alloc, entry_id)?;
+        settle(&mut self.index, &mut self.lent, &self.types);
         push_single(
             &mut self.types,
             &mut self.groups,
             &mut self.homes,
+            &mut self.index,
             ty,
             members,
+            spare,
         );
+        if let Some(found) = look_up(&self.index, &self.types, &entry, entry_id) {
+            return Ok((id, found));
+        }
         push_single(
             &mut self.types,
             &mut self.groups,
             &mut self.homes,
+            &mut self.index,
             entry,
             entry_members,
+            entry_spare,
         );
-        self.fresh = true;
         Ok((id, entry_id))
     }
 }

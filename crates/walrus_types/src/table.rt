@@ -1,33 +1,30 @@
 //! The type table of a module.
-ghost use Rattle.std.specs.Prelude.{◌≡◌, ◌↔◌, ◌+◌, ◌<◌, ◌^◌, length, ℕ, true, not, Contains, [], ◌++◌, map, IfOk, IfErr, OnOk, OnErr, IfSome, MatchOption, IsTrue, Some, None, option_copied, if◌then◌else◌};
-ghost use Rattle.std.specs.Option.{option_map};
+ghost use Rattle.std.specs.Prelude.{◌≡◌, ◌↔◌, ◌+◌, ◌<◌, ◌^◌, length, ℕ, true, not, Contains, [], map, IfOk, IfErr, OnOk, OnErr, IfSome, MatchOption, IsTrue, Some, None};
 ghost use Rattle.std.specs.Bool.{OnTrue, OnFalse};
-ghost use Rattle.std.specs.HashMap.{get, IsUnchanged};
 ghost use Rattle.std.specs.Borrow.{sem};
 ghost use Rattle.walrus_forms.specs.Forms.{form_of, params_of, results_of};
 ghost use Rattle.walrus_forms.specs.Kinds.{function_kind, entry_kind, struct_kind, array_kind, declared_kind};
-ghost use Rattle.walrus_items.specs.Items.{Group, kind_of, item_of, group_of};
-ghost use Rattle.walrus_types.specs.Table.{table_of, next_id, type_at, IsLive, IsFunctionType, found_type, named_type, entries, names_itself, merges, Merges, IsIndex, HasMember, Deletes, DeletesGroup, group_at, is_named_in};
+ghost use Rattle.walrus_items.specs.Items.{Group, item_of, group_of};
+ghost use Rattle.walrus_types.specs.Table.{next_id, type_at, IsLive, IsFunctionType, found_type, named_type, entries, Merges, HasMember, Deletes, DeletesGroup, group_at, is_named_in};
 ghost use Rattle.walrus_arena.specs.Arena.{entries_from};
 ghost use Rattle.std.specs.Fn.{FnOnceTakesAt, FnOnceReturnsAt};
 ghost use Rattle.std.specs.List.{range_with_len};
 ghost use Rattle.walrus_types.specs.Groups.{AddsGroup, IsBuilt, IsCause, member_kind};
 ghost use Rattle.walrus_types.specs.TypeLaws.{AreGrouped};
 ghost use Rattle.walrus_types.specs.TableLends.{lends_type};
-ghost use Rattle.walrus_items.specs.declared.subtype.Type.{«Type» as TypeItem};
-ghost use Rattle.walrus_items.specs.contracts.subtype.TypePartialEq.TheImpl.{ghosts as type_eq};
 
 use crate::delete::{clear_types, home_of, leave_group, members_name};
 use crate::error::IrError;
-use crate::group::{NewType, ids_from, note_all, push_types, types_of};
+use crate::group::{NewType, ids_from, push_single, push_types, types_of};
+use crate::index::{later, lent_function, look_up};
 use crate::iter::{RecGroups, Types};
 use std::alloc::{AllocError, Global};
-use std::collections::HashMap;
 use std::marker::Model;
 use std::mem;
 use walrus_arena::{RecGroupId, RecGroupSpace, TombstoneArena, TypeId, TypeSpace};
 use walrus_forms::{ArrayType, CompositeType, FieldType, FunctionType, StructType, ValType};
 use walrus_items::{RecGroup, Type};
+use walrus_type_index::{Spare, Target, Tree, lend, settle};
 
 /// The types of a module by id, each in one recursion group.
 ///
@@ -40,77 +37,21 @@ pub struct ModuleTypes {
     pub(crate) groups: TombstoneArena<RecGroup, RecGroupSpace>,
     // The group of each type ever added.
     pub(crate) homes: Vec<RecGroupId>,
-    // Where `fresh`, the latest live type of each kind, those that name themselves aside.
-    pub(crate) index: HashMap<Type, u32>,
-    // False once a type was lent for writing or deleted: the next add builds the index anew.
-    pub(crate) fresh: bool,
+    // The live types in the order of the index, the lent one aside.
+    pub(crate) index: Tree,
+    // The type that was lent for writing last, until the index takes it back.
+    pub(crate) lent: Option<Spare>,
 }
 
 impl Model for ModuleTypes {
-    ghost use Rattle.std.specs.HashMap.{get};
-    ghost use Rattle.walrus_items.specs.contracts.subtype.TypePartialEq.TheImpl.{ghosts as type_eq};
+    ghost use Rattle.walrus_type_index.specs.Places.{kinds_in};
     ghost use Rattle.walrus_types.specs.Table.{Table, table_of, IsSound};
 
     ghost Value = { Table };
 
     ghost view = { λ t. table_of t.types.slots t.groups.slots };
 
-    ghost invariant = { λ t. IsSound t.fresh (get type_eq.eq t.index) (table_of t.types.slots t.groups.slots) t.homes.items };
-}
-
-// Enters a type into the index, under a clone of it, unless it names itself.
-pub(crate) fn note(index: &mut HashMap<Type, u32>, ty: &Type, id: TypeId) -> Result<(), AllocError>
-    ensures noted { OnOk result ((q : TypeItem) → get type_eq.eq index.new q
-        ≡ (if merges (kind_of q) (id, item_of ty.now) then Some id else get type_eq.eq index.old q)) }
-    ensures refused { OnErr result (IsUnchanged index.old index.new) }
-{
-    if ty.names(id) {
-        return Ok(());
-    }
-    index.insert(ty.clone()?, id.index() as u32)?;
-    Ok(())
-}
-
-// The id of the type that stands for this one, which is to have the id `next`.
-pub(crate) fn look_up(index: &HashMap<Type, u32>, ty: &Type, next: TypeId) -> Option<u32>
-    ensures { result ≡ (if names_itself next (kind_of ty.now) then None else get type_eq.eq index.now ty.now) }
-{
-    if ty.names(next) {
-        return None;
-    }
-    index.get(ty).copied()
-}
-
-// The latest live type of each kind, those that name themselves aside.
-fn index_of(
-    alloc: Global,
-    types: &TombstoneArena<Type, TypeSpace>,
-) -> Result<HashMap<Type, u32>, AllocError>
-    ensures { IfOk result (λ index. IsIndex (get type_eq.eq index) (table_of types.now.slots []).types) }
-{
-    let mut index = HashMap::new(alloc);
-    for (id, ty) in types.iter() {
-        note(&mut index, ty, id)?;
-    }
-    Ok(index)
-}
-
-// Builds the index anew where it is stale.
-pub(crate) fn refresh(
-    alloc: Global,
-    fresh: &mut bool,
-    index: &mut HashMap<Type, u32>,
-    types: &TombstoneArena<Type, TypeSpace>,
-) -> Result<(), AllocError>
-    requires { fresh.old ≡ true → IsIndex (get type_eq.eq index.old) (table_of types.now.slots []).types }
-    ensures fresh { OnOk result (fresh.new ≡ true) }
-    ensures index { fresh.new ≡ true → IsIndex (get type_eq.eq index.new) (table_of types.now.slots []).types }
-{
-    if !*fresh {
-        *index = index_of(alloc, types)?;
-        *fresh = true;
-    }
-    Ok(())
+    ghost invariant = { λ t. IsSound t.lent t.index (kinds_in t.types.slots) (table_of t.types.slots t.groups.slots) t.homes.items };
 }
 
 impl ModuleTypes {
@@ -123,8 +64,8 @@ impl ModuleTypes {
             types: TombstoneArena::new(alloc),
             groups: TombstoneArena::new(alloc),
             homes: Vec::new(alloc),
-            index: HashMap::new(alloc),
-            fresh: true,
+            index: Tree::new(),
+            lent: None,
         }
     }
 
@@ -143,25 +84,24 @@ impl ModuleTypes {
         self.types.get(id).unwrap()
     }
 
-    /// The type of a live id, for writing. The next add of a single type goes through all types once, as
-    /// the index of equal types is made anew.
+    /// The type of a live id, for writing.
     pub fn get_mut(&mut self, id: TypeId) -> &mut Type
         requires { IsLive self.old id }
         ensures* writes_back { sem 𝓛 (lends_type self.entry id result) }
         ensures value { type_at self.old id ≡ Some (item_of result.now) }
     {
-        self.fresh = false;
+        lend(&mut self.index, &mut self.lent, &self.types, id);
         &mut self.types[id]
     }
 
-    /// Deletes a live type. Its group keeps the other members, and goes where there is none. The next add
-    /// of a single type goes through all types once, as the index of equal types is made anew.
+    /// Deletes a live type. Its group keeps the other members, and goes where there is none.
     pub fn delete(&mut self, id: TypeId)
         requires { IsLive self.old id }
         ensures { Deletes id self.old self.new }
     {
         let home = home_of(self.homes.as_slice(), id);
-        self.fresh = false;
+        lend(&mut self.index, &mut self.lent, &self.types, id);
+        self.lent = None;
         leave_group(&mut self.groups, home, id);
         self.types.delete(id);
     }
@@ -193,8 +133,7 @@ impl ModuleTypes {
         }
     }
 
-    /// Deletes the group of a live type with all its members. The next add of a single type goes through
-    /// all types once, as the index of equal types is made anew.
+    /// Deletes the group of a live type with all its members.
     pub fn delete_entire_group(&mut self, id: TypeId)
         requires { IsLive self.old id }
         ensures { DeletesGroup id self.old self.new }
@@ -202,8 +141,8 @@ impl ModuleTypes {
         let home = home_of(self.homes.as_slice(), id);
         let group = &mut self.groups[home];
         let members = mem::replace(&mut group.types, Vec::new(self.alloc));
-        self.fresh = false;
-        clear_types(&mut self.types, members.as_slice());
+        settle(&mut self.index, &mut self.lent, &self.types);
+        clear_types(&mut self.types, &mut self.index, members.as_slice());
         self.groups.delete(home);
     }
 
@@ -230,21 +169,28 @@ impl ModuleTypes {
         ensures inserted { IfOk result (λ id. Merges (record { form = form_of kind; final = is_final; supertype = supertype; entry = entry }) id self.old self.new) }
         ensures refused { OnErr result (self.new ≡ self.old) }
     {
-        refresh(self.alloc, &mut self.fresh, &mut self.index, &self.types)?;
+        settle(&mut self.index, &mut self.lent, &self.types);
         let id = self.types.next_id();
         let ty = Type::new(id, kind, is_final, supertype, entry);
-        if let Some(found) = look_up(&self.index, &ty, id) {
-            return Ok(TypeId::from_index(found as usize));
+        if let Some(found) = look_up(&self.index, &self.types, &ty, id) {
+            return Ok(found);
         }
         let mut members = Vec::new(self.alloc);
         members.push(id)?;
         self.types.reserve(1)?;
         self.groups.reserve(1)?;
         self.homes.reserve(1)?;
-        note(&mut self.index, &ty, id)?;
-        let home = self.groups.alloc_reserved(RecGroup::new(false, members));
-        self.homes.push_reserved(home);
-        Ok(self.types.alloc_reserved(ty))
+        let spare = Spare::new(self.alloc, id)?;
+        push_single(
+            &mut self.types,
+            &mut self.groups,
+            &mut self.homes,
+            &mut self.index,
+            ty,
+            members,
+            spare,
+        );
+        Ok(id)
     }
 
     /// The parameters of a live function type.
@@ -289,13 +235,12 @@ impl ModuleTypes {
     pub fn find(&self, params: &[ValType], results: &[ValType]) -> Option<TypeId>
         ensures { result ≡ found_type params.now results.now self.now }
     {
-        let mut found = None;
-        for (id, ty) in self.types.iter() {
-            if ty.is_function_of(params, results) {
-                found = Some(id);
-            }
-        }
-        found
+        let target = Target::Function(params, results);
+        let plain = self.index.latest(&self.types, target, false);
+        let own = self.index.latest(&self.types, target, true);
+        let found = later(plain, own);
+        let lent = lent_function(&self.lent, &self.types, params, results);
+        later(found, lent)
     }
 
     /// The live types, by rising id.
@@ -454,11 +399,15 @@ impl ModuleTypes {
         self.types.reserve(count)?;
         self.homes.reserve(count)?;
         self.groups.reserve(1)?;
-        let fresh = mem::replace(&mut self.fresh, false);
-        note_all(&mut self.index, types.as_slice())?;
+        settle(&mut self.index, &mut self.lent, &self.types);
         let home = self.groups.alloc_reserved(RecGroup::new(explicit, ids));
-        push_types(&mut self.types, &mut self.homes, types, home);
-        self.fresh = fresh;
+        push_types(
+            &mut self.types,
+            &mut self.homes,
+            &mut self.index,
+            types,
+            home,
+        );
         Ok(())
     }
 }

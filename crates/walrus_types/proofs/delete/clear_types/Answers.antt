@@ -6,8 +6,11 @@ use Rattle.walrus_types.proofs.DeleteLemmas.{clear_all-more}
 use Rattle.walrus_types.proofs.delete.clear_types.Goals as goal
 
 pub loop-id-preserved : goal.loop-id-preserved
-loop-id-preserved c =
-    ap (map (option_map item_of)) c.clear.ensures
-    ∙ map-set (option_map item_of) c.loop-id.types.slots c.id-item.result None
-    ∙ clear_all-more c.args.ids.now c.loop-id.id-index c.id-item.result (map (option_map item_of) c.args.types.now.slots) (map (option_map item_of) c.loop-id.types.slots)
-    c.loop-id-test.true c.id-item.is c.loop-id.invariant
+loop-id-preserved c = record {
+  types =
+      ap (map (option_map item_of)) c.clear.ensures.types
+      ∙ map-set (option_map item_of) c.loop-id.types.slots c.id-item.result None
+      ∙ clear_all-more c.args.ids.now c.loop-id.id-index c.id-item.result (map (option_map item_of) c.args.types.now.slots) (map (option_map item_of) c.loop-id.types.slots)
+      c.loop-id-test.true c.id-item.is c.loop-id.invariant.types;
+  ordered = c.clear.ensures.ordered;
+}

@@ -1,80 +1,115 @@
-use Rattle.std.proofs.Common.{◌≡◌, ◌∙◌, ℕ, ◌+◌, false, List, [], ◌∷◌, ◌++◌, ap, sym}
-use Rattle.std.specs.HashMap.{get}
-use Rattle.walrus_items.specs.contracts.subtype.TypePartialEq.TheImpl.{ghosts as type_eq}
-use Rattle.walrus_items.specs.Items.{Group, kind_of}
+use Rattle.std.proofs.Common.{◌≡◌, ◌∙◌, ℕ, ◌+◌, false, List, [], ◌∷◌, ◌++◌, Option, Some, length, length-append, arith, refl, ap, sym, subst}
+use Rattle.std.specs.Option.{option_map}
+use Rattle.std.proofs.lemmas.List.{length-map}
+use Rattle.walrus_forms.specs.Kinds.{Kind}
+use Rattle.walrus_items.specs.Items.{Group, group_of, item_of, kind_of}
+use Rattle.walrus_items.specs.declared.subtype.RecGroup.{RecGroup}
 use Rattle.walrus_items.specs.declared.subtype.Type.{«Type» as TypeItem}
-use Rattle.walrus_types.proofs.PairLemmas.{one-more, two-more, both-found, both-added}
+use Rattle.walrus_type_index.specs.Places.{kinds_in}
+use Rattle.walrus_type_index.specs.Ordered.{IsOrdered}
+use Rattle.walrus_types.specs.Table.{Merges, next_id, table_of}
+use Rattle.walrus_types.proofs.PairLemmas.{type-pushed, new-merges, found-merges}
 use Rattle.walrus_types.proofs.table.ModuleTypes.add_then_entry.Goals as goal
+
+pub look_up-requires-clause-next : goal.look_up-requires-clause-next
+look_up-requires-clause-next c =
+    let slots = c.self.inside.types.slots in
+    let types_is : c.push_single.new.types.slots ≡ slots ++ Some c.args.ty ∷ [] = c.push_single.ensures.types ∙ ap (λ (xs : List (Option TypeItem)). xs ++ Some c.args.ty ∷ []) c.reserve.ensures.items in
+    let next : c.from_index-entry_id.result ≡ c.next_id-id.result + 1 = c.from_index-entry_id.ensures ∙ c.in-Some.ensures.1 ∙ ap (λ (i : ℕ). i + 1) c.index.ensures in
+    omega (arith, next, c.next_id-id.ensures, ap (λ (xs : List (Option TypeItem)). length xs) types_is, length-append slots (Some c.args.ty ∷ []))
 
 pub invariant_of-self-in-Some-look_up : goal.invariant_of-self-in-Some-look_up
 invariant_of-self-in-Some-look_up c =
-    let members : c.push.new.self.items ≡ c.next_id-id.result ∷ [] =
-    c.in_ok-push.ensures.items ∙ ap (λ (xs : List ℕ). xs ++ c.next_id-id.result ∷ []) c.new-members.ensures.items in
-    rw (c.push_single.ensures.types, c.reserve.ensures.items, c.push_single.ensures.homes, c.reserve-3.ensures.items, c.push_single.ensures.groups, c.reserve-2.ensures.items)
-    (one-more c.self.inside.types.slots c.self.inside.groups.slots c.self.inside.homes.items c.args.ty (record { types = c.push.new.self; explicit = false }) c.next_id-id.result
-    (get type_eq.eq c.refresh.new.index) (get type_eq.eq c.note.new.index)
-    c.self.invariant.grouped
-    (rw c.reserve.ensures.items at (c.in_ok-refresh.ensures.index c.in_ok-refresh.ensures.fresh))
-    (sym c.next_id-id.ensures)
-    (ap (λ (xs : List ℕ). let g : Group = record { explicit = false; types = xs } in g) members)
-    c.in_ok-note.ensures.noted)
+    let slots = c.self.inside.types.slots in
+    let groups = c.self.inside.groups.slots in
+    let homes = c.self.inside.homes.items in
+    let id = c.next_id-id.result in
+    let group : RecGroup = record { types = c.push.new.self; explicit = false } in
+    let members : c.push.new.self.items ≡ id ∷ [] = c.in_ok-push.ensures.items ∙ ap (λ (xs : List ℕ). xs ++ id ∷ []) c.new-members.ensures.items in
+    let alone : group_of group ≡ record { explicit = false; types = id ∷ [] } = ap (λ (xs : List ℕ). let g : Group = record { explicit = false; types = xs } in g) members in
+    let types_is : c.push_single.new.types.slots ≡ slots ++ Some c.args.ty ∷ [] = c.push_single.ensures.types ∙ ap (λ (xs : List (Option TypeItem)). xs ++ Some c.args.ty ∷ []) c.reserve.ensures.items in
+    let groups_is : c.push_single.new.groups.slots ≡ groups ++ Some group ∷ [] = c.push_single.ensures.groups ∙ ap (λ (xs : List (Option RecGroup)). xs ++ Some group ∷ []) c.reserve-2.ensures.items in
+    let homes_is : c.push_single.new.homes.items ≡ homes ++ length groups ∷ [] =
+    c.push_single.ensures.homes ∙ ap (λ (xs : List ℕ). xs ++ length c.reserve-2.new.self.slots ∷ []) c.reserve-3.ensures.items ∙ ap (λ (gs : List (Option RecGroup)). homes ++ length gs ∷ []) c.reserve-2.ensures.items in
+    let grouped = type-pushed slots c.push_single.new.types.slots groups c.push_single.new.groups.slots homes c.push_single.new.homes.items c.args.ty group id c.self.invariant.grouped (sym c.next_id-id.ensures) alone types_is groups_is homes_is in
+    record {
+      ordered = subst (λ (l : Option ℕ). IsOrdered l c.push_single.new.index (kinds_in c.push_single.new.types.slots)) (sym c.settle.ensures.lent) c.push_single.ensures.ordered;
+      grouped = grouped;
+    }
 
 pub returns-in-Some-look_up-clause-inserted : goal.returns-in-Some-look_up-clause-inserted
 returns-in-Some-look_up-clause-inserted c =
-    let members : c.push.new.self.items ≡ c.next_id-id.result ∷ [] =
-    c.in_ok-push.ensures.items ∙ ap (λ (xs : List ℕ). xs ++ c.next_id-id.result ∷ []) c.new-members.ensures.items in
-    let next : c.from_index-entry_id.result ≡ c.next_id-id.result + 1 = c.from_index-entry_id.ensures ∙ c.in-Some.ensures.1 ∙ ap (λ (i : ℕ). i + 1) c.index.ensures in
-    rw (c.push_single.ensures.types, c.reserve.ensures.items, c.push_single.ensures.groups, c.reserve-2.ensures.items, c.from_index.ensures)
-    (both-found c.self.inside.types.slots c.self.inside.groups.slots c.args.self.now c.args.ty (record { types = c.push.new.self; explicit = false }) c.next_id-id.result
-    (get type_eq.eq c.refresh.new.index) (get type_eq.eq c.note.new.index) c.new-entry.result _ c.from_index-entry_id.result c.in-Some-look_up.found
-    c.self.view_is c.requires.new (sym c.next_id-id.ensures) c.requires.id c.requires.unnamed
-    (ap (λ (xs : List ℕ). let g : Group = record { explicit = false; types = xs } in g) members)
-    (rw c.reserve.ensures.items at (c.in_ok-refresh.ensures.index c.in_ok-refresh.ensures.fresh))
-    c.in_ok-note.ensures.noted
-    next (ap kind_of c.new-entry.ensures) (sym c.in-Some-look_up.is ∙ c.look_up.ensures))
+    let slots = c.self.inside.types.slots in
+    let groups = c.self.inside.groups.slots in
+    let homes = c.self.inside.homes.items in
+    let id = c.next_id-id.result in
+    let group : RecGroup = record { types = c.push.new.self; explicit = false } in
+    let members : c.push.new.self.items ≡ id ∷ [] = c.in_ok-push.ensures.items ∙ ap (λ (xs : List ℕ). xs ++ id ∷ []) c.new-members.ensures.items in
+    let alone : group_of group ≡ record { explicit = false; types = id ∷ [] } = ap (λ (xs : List ℕ). let g : Group = record { explicit = false; types = xs } in g) members in
+    let types_is : c.push_single.new.types.slots ≡ slots ++ Some c.args.ty ∷ [] = c.push_single.ensures.types ∙ ap (λ (xs : List (Option TypeItem)). xs ++ Some c.args.ty ∷ []) c.reserve.ensures.items in
+    let groups_is : c.push_single.new.groups.slots ≡ groups ++ Some group ∷ [] = c.push_single.ensures.groups ∙ ap (λ (xs : List (Option RecGroup)). xs ++ Some group ∷ []) c.reserve-2.ensures.items in
+    let first = new-merges slots c.push_single.new.types.slots groups c.push_single.new.groups.slots c.args.self.now c.args.ty group id c.self.view_is c.requires.new (sym c.next_id-id.ensures)
+    (c.requires.id ∙ ap next_id (sym c.self.view_is) ∙ length-map slots (option_map item_of) ∙ sym c.next_id-id.ensures) c.requires.unnamed alone types_is groups_is in
+    let between = table_of c.push_single.new.types.slots c.push_single.new.groups.slots in
+    record {
+      between = between;
+      first_merges = first;
+      second_merges = subst (λ (k : Kind). Merges k c.in-Some-look_up.found between between) (ap kind_of c.new-entry.ensures)
+          (found-merges (kind_of c.new-entry.result) c.in-Some-look_up.found between (sym c.look_up.ensures ∙ c.in-Some-look_up.is));
+    }
 
 pub invariant_of-self-2 : goal.invariant_of-self-2
 invariant_of-self-2 c =
-    let members : c.push.new.self.items ≡ c.next_id-id.result ∷ [] =
-    c.in_ok-push.ensures.items ∙ ap (λ (xs : List ℕ). xs ++ c.next_id-id.result ∷ []) c.new-members.ensures.items in
-    let entry_members : c.push-2.new.self.items ≡ c.from_index-entry_id.result ∷ [] =
-    c.in_ok-push-2.ensures.items ∙ ap (λ (xs : List ℕ). xs ++ c.from_index-entry_id.result ∷ []) c.new-entry_members.ensures.items in
-    let next : c.from_index-entry_id.result ≡ c.next_id-id.result + 1 = c.from_index-entry_id.ensures ∙ c.in-Some.ensures.1 ∙ ap (λ (i : ℕ). i + 1) c.index.ensures in
-    rw (
-      c.push_single-3.ensures.types,
-      c.push_single-2.ensures.types,
-      c.reserve.ensures.items,
-      c.push_single-3.ensures.homes,
-      c.push_single-2.ensures.homes,
-      c.reserve-3.ensures.items,
-      c.push_single-3.ensures.groups,
-      c.push_single-2.ensures.groups,
-      c.reserve-2.ensures.items,
-    )
-    (two-more c.self.inside.types.slots c.self.inside.groups.slots c.self.inside.homes.items c.args.ty (record { types = c.push.new.self; explicit = false }) c.next_id-id.result c.new-entry.result (record { types = c.push-2.new.self; explicit = false }) c.from_index-entry_id.result
-    (get type_eq.eq c.refresh.new.index) (get type_eq.eq c.note.new.index) (get type_eq.eq c.note-2.new.index)
-    c.self.invariant.grouped
-    (rw c.reserve.ensures.items at (c.in_ok-refresh.ensures.index c.in_ok-refresh.ensures.fresh))
-    (sym c.next_id-id.ensures)
-    (ap (λ (xs : List ℕ). let g : Group = record { explicit = false; types = xs } in g) members)
-    c.in_ok-note.ensures.noted
-    next
-    (ap (λ (xs : List ℕ). let g : Group = record { explicit = false; types = xs } in g) entry_members)
-    c.in_ok-note-2.ensures.noted)
+    let slots = c.self.inside.types.slots in
+    let groups = c.self.inside.groups.slots in
+    let homes = c.self.inside.homes.items in
+    let id = c.next_id-id.result in
+    let group : RecGroup = record { types = c.push.new.self; explicit = false } in
+    let members : c.push.new.self.items ≡ id ∷ [] = c.in_ok-push.ensures.items ∙ ap (λ (xs : List ℕ). xs ++ id ∷ []) c.new-members.ensures.items in
+    let alone : group_of group ≡ record { explicit = false; types = id ∷ [] } = ap (λ (xs : List ℕ). let g : Group = record { explicit = false; types = xs } in g) members in
+    let types_is : c.push_single.new.types.slots ≡ slots ++ Some c.args.ty ∷ [] = c.push_single.ensures.types ∙ ap (λ (xs : List (Option TypeItem)). xs ++ Some c.args.ty ∷ []) c.reserve.ensures.items in
+    let groups_is : c.push_single.new.groups.slots ≡ groups ++ Some group ∷ [] = c.push_single.ensures.groups ∙ ap (λ (xs : List (Option RecGroup)). xs ++ Some group ∷ []) c.reserve-2.ensures.items in
+    let homes_is : c.push_single.new.homes.items ≡ homes ++ length groups ∷ [] =
+    c.push_single.ensures.homes ∙ ap (λ (xs : List ℕ). xs ++ length c.reserve-2.new.self.slots ∷ []) c.reserve-3.ensures.items ∙ ap (λ (gs : List (Option RecGroup)). homes ++ length gs ∷ []) c.reserve-2.ensures.items in
+    let grouped = type-pushed slots c.push_single.new.types.slots groups c.push_single.new.groups.slots homes c.push_single.new.homes.items c.args.ty group id c.self.invariant.grouped (sym c.next_id-id.ensures) alone types_is groups_is homes_is in
+    let entry_id = c.from_index-entry_id.result in
+    let entry_group : RecGroup = record { types = c.push-2.new.self; explicit = false } in
+    let entry_members : c.push-2.new.self.items ≡ entry_id ∷ [] = c.in_ok-push-2.ensures.items ∙ ap (λ (xs : List ℕ). xs ++ entry_id ∷ []) c.new-entry_members.ensures.items in
+    let entry_alone : group_of entry_group ≡ record { explicit = false; types = entry_id ∷ [] } = ap (λ (xs : List ℕ). let g : Group = record { explicit = false; types = xs } in g) entry_members in
+    let next : entry_id ≡ id + 1 = c.from_index-entry_id.ensures ∙ c.in-Some.ensures.1 ∙ ap (λ (i : ℕ). i + 1) c.index.ensures in
+    record {
+      ordered = subst (λ (l : Option ℕ). IsOrdered l c.push_single-2.new.index (kinds_in c.push_single-2.new.types.slots)) (sym c.settle.ensures.lent) c.push_single-2.ensures.ordered;
+      grouped = type-pushed c.push_single.new.types.slots c.push_single-2.new.types.slots c.push_single.new.groups.slots c.push_single-2.new.groups.slots c.push_single.new.homes.items c.push_single-2.new.homes.items
+          c.new-entry.result entry_group entry_id grouped
+          (omega (arith, next, c.next_id-id.ensures, ap (λ (xs : List (Option TypeItem)). length xs) types_is, length-append slots (Some c.args.ty ∷ [])))
+          entry_alone c.push_single-2.ensures.types c.push_single-2.ensures.groups c.push_single-2.ensures.homes;
+    }
 
 pub returns-clause-inserted : goal.returns-clause-inserted
 returns-clause-inserted c =
-    let members : c.push.new.self.items ≡ c.next_id-id.result ∷ [] =
-    c.in_ok-push.ensures.items ∙ ap (λ (xs : List ℕ). xs ++ c.next_id-id.result ∷ []) c.new-members.ensures.items in
-    let entry_members : c.push-2.new.self.items ≡ c.from_index-entry_id.result ∷ [] =
-    c.in_ok-push-2.ensures.items ∙ ap (λ (xs : List ℕ). xs ++ c.from_index-entry_id.result ∷ []) c.new-entry_members.ensures.items in
-    let next : c.from_index-entry_id.result ≡ c.next_id-id.result + 1 = c.from_index-entry_id.ensures ∙ c.in-Some.ensures.1 ∙ ap (λ (i : ℕ). i + 1) c.index.ensures in
-    rw (c.push_single-3.ensures.types, c.push_single-2.ensures.types, c.reserve.ensures.items, c.push_single-3.ensures.groups, c.push_single-2.ensures.groups, c.reserve-2.ensures.items)
-    (both-added c.self.inside.types.slots c.self.inside.groups.slots c.args.self.now c.args.ty (record { types = c.push.new.self; explicit = false }) c.next_id-id.result
-    (get type_eq.eq c.refresh.new.index) (get type_eq.eq c.note.new.index) c.new-entry.result _ c.from_index-entry_id.result (record { types = c.push-2.new.self; explicit = false })
-    c.self.view_is c.requires.new (sym c.next_id-id.ensures) c.requires.id c.requires.unnamed
-    (ap (λ (xs : List ℕ). let g : Group = record { explicit = false; types = xs } in g) members)
-    (rw c.reserve.ensures.items at (c.in_ok-refresh.ensures.index c.in_ok-refresh.ensures.fresh))
-    c.in_ok-note.ensures.noted
-    next (ap kind_of c.new-entry.ensures) (ap (λ (t : TypeItem). t.id) c.new-entry.ensures) (ap (λ (t : TypeItem). t.name) c.new-entry.ensures) (sym c.in_default-look_up.is ∙ c.look_up.ensures)
-    (ap (λ (xs : List ℕ). let g : Group = record { explicit = false; types = xs } in g) entry_members))
+    let slots = c.self.inside.types.slots in
+    let groups = c.self.inside.groups.slots in
+    let homes = c.self.inside.homes.items in
+    let id = c.next_id-id.result in
+    let group : RecGroup = record { types = c.push.new.self; explicit = false } in
+    let members : c.push.new.self.items ≡ id ∷ [] = c.in_ok-push.ensures.items ∙ ap (λ (xs : List ℕ). xs ++ id ∷ []) c.new-members.ensures.items in
+    let alone : group_of group ≡ record { explicit = false; types = id ∷ [] } = ap (λ (xs : List ℕ). let g : Group = record { explicit = false; types = xs } in g) members in
+    let types_is : c.push_single.new.types.slots ≡ slots ++ Some c.args.ty ∷ [] = c.push_single.ensures.types ∙ ap (λ (xs : List (Option TypeItem)). xs ++ Some c.args.ty ∷ []) c.reserve.ensures.items in
+    let groups_is : c.push_single.new.groups.slots ≡ groups ++ Some group ∷ [] = c.push_single.ensures.groups ∙ ap (λ (xs : List (Option RecGroup)). xs ++ Some group ∷ []) c.reserve-2.ensures.items in
+    let first = new-merges slots c.push_single.new.types.slots groups c.push_single.new.groups.slots c.args.self.now c.args.ty group id c.self.view_is c.requires.new (sym c.next_id-id.ensures)
+    (c.requires.id ∙ ap next_id (sym c.self.view_is) ∙ length-map slots (option_map item_of) ∙ sym c.next_id-id.ensures) c.requires.unnamed alone types_is groups_is in
+    let entry_id = c.from_index-entry_id.result in
+    let entry_group : RecGroup = record { types = c.push-2.new.self; explicit = false } in
+    let entry_members : c.push-2.new.self.items ≡ entry_id ∷ [] = c.in_ok-push-2.ensures.items ∙ ap (λ (xs : List ℕ). xs ++ entry_id ∷ []) c.new-entry_members.ensures.items in
+    let entry_alone : group_of entry_group ≡ record { explicit = false; types = entry_id ∷ [] } = ap (λ (xs : List ℕ). let g : Group = record { explicit = false; types = xs } in g) entry_members in
+    let next : entry_id ≡ id + 1 = c.from_index-entry_id.ensures ∙ c.in-Some.ensures.1 ∙ ap (λ (i : ℕ). i + 1) c.index.ensures in
+    let between = table_of c.push_single.new.types.slots c.push_single.new.groups.slots in
+    record {
+      between = between;
+      first_merges = first;
+      second_merges = subst (λ (k : Kind). Merges k entry_id between (table_of c.push_single-2.new.types.slots c.push_single-2.new.groups.slots)) (ap kind_of c.new-entry.ensures)
+          (new-merges c.push_single.new.types.slots c.push_single-2.new.types.slots c.push_single.new.groups.slots c.push_single-2.new.groups.slots between c.new-entry.result entry_group entry_id refl
+          (sym c.look_up.ensures ∙ c.in_default-look_up.is)
+          (omega (arith, next, c.next_id-id.ensures, ap (λ (xs : List (Option TypeItem)). length xs) types_is, length-append slots (Some c.args.ty ∷ [])))
+          (ap (λ (t : TypeItem). t.id) c.new-entry.ensures) (ap (λ (t : TypeItem). t.name) c.new-entry.ensures) entry_alone c.push_single-2.ensures.types c.push_single-2.ensures.groups);
+    }

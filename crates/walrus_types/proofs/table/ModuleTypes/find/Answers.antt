@@ -1,16 +1,20 @@
-use Rattle.std.proofs.Common.{◌∙◌, ℕ, List, None, ap}
+use Rattle.std.proofs.Common.{◌∙◌, Option, None, ℕ, true, ap}
 use Rattle.walrus_forms.specs.Kinds.{function_kind}
-use Rattle.walrus_items.specs.Items.{Item}
-use Rattle.walrus_forms.specs.Same.{same_kind}
-use Rattle.walrus_types.specs.Table.{latest_in}
-use Rattle.walrus_types.proofs.TableLemmas.{entries-seen}
+use Rattle.walrus_type_index.specs.Places.{kinds_in, is_exactly, last_in}
+use Rattle.walrus_types.specs.Highest.{later_of}
+use Rattle.walrus_types.specs.Table.{Table, found_type}
+use Rattle.walrus_types.proofs.HighestLemmas.{finds-function}
 use Rattle.walrus_types.proofs.table.ModuleTypes.find.Goals as goal
 
-pub loop-id-init : goal.loop-id-init
-loop-id-init c = record {
-  can = tt;
-  ends = tt;
-  latest = ap (λ (es : List (ℕ × Item)). latest_in (λ e. same_kind e.1.kind (function_kind c.args.params.now c.args.results.now)) None es)
-      (entries-seen c.self.inside.types.slots c.args.self.now c.into_iter-id-iterator.result c.self.inside.groups.slots
-      (c.into_iter-id-iterator.ensures.into_iter_gives ∙ c.iter-id-items.ensures) c.self.view_is);
-}
+pub returns : goal.returns
+returns c =
+    let slots = c.self.inside.types.slots in
+    let kind = function_kind c.args.params.now c.args.results.now in
+    let own : Option ℕ = last_in (is_exactly (kinds_in slots) kind true) None c.self.inside.index in
+    c.later.ensures
+    ∙ ap (λ (a : Option ℕ). later_of a c.lent_function-lent.result) (c.later-found.ensures
+    ∙ ap (λ (b : Option ℕ). later_of c.latest-plain.result b) c.latest-own.ensures
+    ∙ ap (λ (a : Option ℕ). later_of a own) c.latest-plain.ensures)
+    ∙ ap (λ (b : Option ℕ). later_of (later_of (last_in (is_exactly (kinds_in slots) kind Rattle.std.proofs.Common.false) None c.self.inside.index) own) b) c.lent_function-lent.ensures
+    ∙ finds-function slots c.self.inside.lent c.self.inside.index kind c.self.invariant.ordered
+    ∙ ap (λ (t : Table). found_type c.args.params.now c.args.results.now t) c.self.view_is

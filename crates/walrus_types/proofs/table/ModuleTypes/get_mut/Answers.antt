@@ -1,17 +1,28 @@
-use Rattle.std.proofs.Common.{◌∙◌, refl, Option, Some, List, map, ap}
+use Rattle.std.proofs.Common.{◌∙◌, ℕ, Option, Some, List, map, slice_set, ap, sym, subst, refl}
 use Rattle.std.specs.Option.{option_map}
 use Rattle.std.proofs.lemmas.List.{map-set}
 use Rattle.walrus_items.specs.Items.{Item, item_of, group_of}
+use Rattle.walrus_type_index.specs.Ordered.{IsOrdered}
+use Rattle.walrus_type_index.specs.Places.{kinds_in}
 use Rattle.walrus_types.specs.Table.{Table}
 use Rattle.walrus_types.proofs.TableLemmas.{grouped-written, at-map}
+use Rattle.walrus_types.proofs.DeleteLemmas.{live-inside}
+use Rattle.walrus_types.proofs.IndexLemmas.{lives-seen, lent-written}
 use Rattle.walrus_types.proofs.table.ModuleTypes.get_mut.Goals as goal
 
+pub lend-requires-clause-lives : goal.lend-requires-clause-lives
+lend-requires-clause-lives c =
+    lives-seen c.self.inside.types.slots c.args.id (live-inside c.self.inside.types.slots c.self.inside.groups.slots c.args.self.now c.args.id c.self.view_is c.requires)
+
 pub invariant_of-self-lent : goal.invariant_of-self-lent
-invariant_of-self-lent c = λ w. record {
-  index = λ f. absurd cc;
-  grouped = rw map-set (grouped-written _ _ _ c.args.id (item_of c.index_mut.result.now) (item_of w) c.self.invariant.grouped
-      (at-map item_of c.self.inside.types.slots c.args.id ∙ ap (option_map item_of) c.index_mut.ensures.value));
-}
+invariant_of-self-lent c = λ w.
+    let slots = c.self.inside.types.slots in
+    record {
+      ordered = subst (λ (l : Option ℕ). IsOrdered l c.lend.new.index (kinds_in (slice_set slots c.args.id (Some w)))) (sym c.lend.ensures.lent)
+          (lent-written slots c.lend.new.index c.args.id c.index_mut.result.now w c.index_mut.ensures.value c.lend.ensures.index);
+      grouped = rw map-set (grouped-written _ _ _ c.args.id (item_of c.index_mut.result.now) (item_of w) c.self.invariant.grouped
+          (at-map item_of slots c.args.id ∙ ap (option_map item_of) c.index_mut.ensures.value));
+    }
 
 pub returns : goal.returns
 returns c =

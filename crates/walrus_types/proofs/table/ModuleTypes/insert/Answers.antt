@@ -1,17 +1,26 @@
-use Rattle.std.proofs.Common.{◌≡◌, ◌∙◌, ℕ, List, [], ◌∷◌, ◌++◌, length, ap, sym, false}
-use Rattle.walrus_items.specs.Items.{group_of}
-use Rattle.walrus_types.proofs.TableLemmas.{sound-added}
+use Rattle.std.proofs.Common.{◌≡◌, ◌∙◌, ℕ, List, [], ◌∷◌, ◌++◌, Some, Option, length, ap, sym, subst, false}
+use Rattle.walrus_items.specs.Items.{Group}
+use Rattle.walrus_items.specs.declared.subtype.RecGroup.{RecGroup}
+use Rattle.walrus_items.specs.declared.subtype.Type.{«Type» as TypeItem}
+use Rattle.walrus_type_index.specs.Places.{kinds_in}
+use Rattle.walrus_type_index.specs.Ordered.{IsOrdered}
+use Rattle.walrus_types.proofs.PairLemmas.{type-pushed}
 use Rattle.walrus_types.proofs.table.ModuleTypes.insert.Goals as goal
 
 pub invariant_of-self-2 : goal.invariant_of-self-2
 invariant_of-self-2 c =
+    let slots = c.self.inside.types.slots in
+    let groups = c.self.inside.groups.slots in
+    let homes = c.self.inside.homes.items in
+    let group : RecGroup = record { types = c.push.new.self; explicit = false } in
     let members : c.push.new.self.items ≡ c.next_id-id.result ∷ [] =
     c.in_ok-push.ensures.items ∙ ap (λ (xs : List ℕ). xs ++ c.next_id-id.result ∷ []) c.new-members.ensures.items in
-    rw (c.alloc_reserved.ensures.added, c.reserve.ensures.items, c.alloc_reserved-home.ensures.added, c.reserve-2.ensures.items, c.push_reserved.ensures.items, c.reserve-3.ensures.items)
-    (sound-added c.self.inside.types.slots c.self.inside.groups.slots c.self.inside.homes.items c.new-ty.result c.new.result c.next_id-id.result c.alloc_reserved-home.result c.refresh.new.fresh _ _
-    c.self.invariant.grouped
-    (c.in_ok-refresh.ensures.index c.in_ok-refresh.ensures.fresh)
-    (sym c.next_id-id.ensures)
-    (sym (c.alloc_reserved-home.ensures.id ∙ ap length c.reserve-2.ensures.items))
-    (ap group_of c.new.ensures ∙ ap (λ (xs : List ℕ). record { explicit = false; types = xs }) members)
-    c.in_ok-note.ensures.noted)
+    record {
+      ordered = subst (λ (l : Option ℕ). IsOrdered l c.push_single.new.index (kinds_in c.push_single.new.types.slots)) (sym c.settle.ensures.lent) c.push_single.ensures.ordered;
+      grouped = type-pushed slots c.push_single.new.types.slots groups c.push_single.new.groups.slots homes c.push_single.new.homes.items c.new-ty.result group c.next_id-id.result
+          c.self.invariant.grouped (sym c.next_id-id.ensures) (ap (λ (xs : List ℕ). let g : Group = record { explicit = false; types = xs } in g) members)
+          (c.push_single.ensures.types ∙ ap (λ (xs : List (Option TypeItem)). xs ++ Some c.new-ty.result ∷ []) c.reserve.ensures.items)
+          (c.push_single.ensures.groups ∙ ap (λ (xs : List (Option RecGroup)). xs ++ Some group ∷ []) c.reserve-2.ensures.items)
+          (c.push_single.ensures.homes ∙ ap (λ (xs : List ℕ). xs ++ length c.reserve-2.new.self.slots ∷ []) c.reserve-3.ensures.items
+          ∙ ap (λ (gs : List (Option RecGroup)). homes ++ length gs ∷ []) c.reserve-2.ensures.items);
+    }

@@ -1,0 +1,9 @@
+-- What a search looks for.
+use Rattle.walrus_forms.specs.Kinds.{Kind, function_kind}
+use Rattle.walrus_items.specs.Items.{kind_of}
+use Rattle.walrus_type_index.specs.declared.order.Target.{Target}
+use Rattle.walrus_type_index.specs.declared.order.Target.TheVariants.{Like, Function}
+
+abbrev pub target_kind : Target → Kind
+target_kind (Like ty) = kind_of ty.now
+target_kind (Function params results) = function_kind params.now results.now

@@ -1,0 +1,119 @@
+//! How the types of a table are ordered.
+ghost use Rattle.std.specs.Prelude.{◌≡◌, ℕ, Some, None};
+ghost use Rattle.std.specs.Ordering.{ordering_then, bool_cmp, is_lt, nat_cmp};
+ghost use Rattle.std.specs.Option.{option_cmp, option_map};
+ghost use Rattle.walrus_arena.specs.Arena.{item_at};
+ghost use Rattle.walrus_forms.specs.Kinds.{function_kind};
+ghost use Rattle.walrus_forms.specs.Order.{kind_cmp};
+ghost use Rattle.walrus_items.specs.Items.{kind_of};
+ghost use Rattle.walrus_type_index.specs.Places.{kinds_in, id_cmp, key_cmp, place_cmp, place_of, names_itself};
+ghost use Rattle.walrus_type_index.specs.Targets.{target_kind};
+
+use std::cmp::Ordering;
+use walrus_arena::{TombstoneArena, TypeId, TypeSpace};
+use walrus_forms::{CompositeType, ValType};
+use walrus_items::Type;
+
+/// What a search looks for: the kind of a type, or that of a final function type without supertype.
+#[derive(Clone, Copy)]
+pub enum Target<'a> {
+    Like(&'a Type),
+    Function(&'a [ValType], &'a [ValType]),
+}
+
+// How the one stands to the other.
+pub(crate) fn compare(types: &TombstoneArena<Type, TypeSpace>, a: TypeId, b: TypeId) -> Ordering
+    ensures { result ≡ id_cmp (kinds_in types.now.slots) a b }
+{
+    let first = types.get(a);
+    let second = types.get(b);
+    compare_live(first, a, second, b).then(compare_numbers(a, b))
+}
+
+fn compare_numbers(a: TypeId, b: TypeId) -> Ordering
+    ensures { result ≡ nat_cmp a b }
+{
+    a.index().cmp(&b.index())
+}
+
+// How what one id has stands to what the other has.
+fn compare_live(first: Option<&Type>, a: TypeId, second: Option<&Type>, b: TypeId) -> Ordering
+    ensures { result ≡ place_cmp (place_of a (option_map (λ t. kind_of t.now) first.entry)) (place_of b (option_map (λ t. kind_of t.now) second.entry)) }
+{
+    match (first, second) {
+        (Some(x), Some(y)) => compare_types(x, a, y, b),
+        (Some(_), None) => Ordering::Greater,
+        (None, Some(_)) => Ordering::Less,
+        (None, None) => Ordering::Equal,
+    }
+}
+
+// How the type of one id stands to that of another.
+fn compare_types(x: &Type, a: TypeId, y: &Type, b: TypeId) -> Ordering
+    ensures { result ≡ place_cmp (place_of a (Some (kind_of x.now))) (place_of b (Some (kind_of y.now))) }
+{
+    match compare_kinds(x, y) {
+        Ordering::Equal => {
+            let own = x.names(a);
+            let other = y.names(b);
+            own.cmp(&other)
+        }
+        found => found,
+    }
+}
+
+fn compare_kinds(x: &Type, y: &Type) -> Ordering
+    ensures { result ≡ kind_cmp (kind_of x.now) (kind_of y.now) }
+{
+    x.cmp(y)
+}
+
+// How a type stands to the final function type without supertype of these lists.
+fn compare_function(ty: &Type, params: &[ValType], results: &[ValType]) -> Ordering
+    ensures { result ≡ kind_cmp (kind_of ty.now) (function_kind params.now results.now) }
+{
+    match ty.kind() {
+        CompositeType::Function(own) => own
+            .params()
+            .cmp(params)
+            .then(own.results().cmp(results))
+            .then(ty.is_final.cmp(&true))
+            .then(ty.supertype.is_some().cmp(&false))
+            .then(ty.is_entry().cmp(&false)),
+        _ => Ordering::Greater,
+    }
+}
+
+fn compare_target(ty: &Type, target: Target<'_>) -> Ordering
+    ensures { result ≡ kind_cmp (kind_of ty.now) (target_kind target.entry) }
+{
+    match target {
+        Target::Like(other) => compare_kinds(ty, other),
+        Target::Function(params, results) => compare_function(ty, params, results),
+    }
+}
+
+// How an id stands to the types that are looked for, those that name themselves or those that don't.
+pub(crate) fn compare_key(
+    types: &TombstoneArena<Type, TypeSpace>,
+    id: TypeId,
+    target: Target<'_>,
+    own: bool,
+) -> Ordering
+    ensures { result ≡ key_cmp (kinds_in types.now.slots) (target_kind target.entry) own id }
+{
+    let found = types.get(id);
+    compare_found(found, id, target, own)
+}
+
+fn compare_found(found: Option<&Type>, id: TypeId, target: Target<'_>, own: bool) -> Ordering
+    ensures { result ≡ place_cmp (place_of id (option_map (λ t. kind_of t.now) found.entry)) (Some (target_kind target.entry), own) }
+{
+    match found {
+        Some(ty) => match compare_target(ty, target) {
+            Ordering::Equal => ty.names(id).cmp(&own),
+            found => found,
+        },
+        None => Ordering::Less,
+    }
+}

@@ -1,0 +1,332 @@
+//! A balanced tree of the ids of a table's types, in the order of their types.
+ghost use Rattle.std.specs.Prelude.{◌≡◌, ℕ, [], ◌∷◌, ◌++◌, ◌==◌, not, filter, find, None, Some, IfOk};
+ghost use Rattle.std.specs.Option.{option_map};
+ghost use Rattle.std.specs.List.Sorted.{IsStrictlySortedBy};
+ghost use Rattle.walrus_type_index.specs.Places.{kinds_in, id_cmp, is_before, is_upto, is_exactly, last_in, put_in};
+ghost use Rattle.walrus_type_index.specs.Targets.{target_kind};
+ghost use Rattle.walrus_type_index.specs.Tree.{node_ids, ids_of};
+
+use crate::node::{Node, Spare, Tree};
+use crate::order::{Target, compare, compare_key};
+use std::alloc::{AllocError, Global};
+use std::cmp::Ordering;
+use std::mem;
+use walrus_arena::{TombstoneArena, TypeId, TypeSpace};
+use walrus_items::Type;
+
+impl Spare {
+    /// Memory for this id.
+    pub fn new(alloc: Global, id: TypeId) -> Result<Spare, AllocError>
+        ensures { IfOk result (λ spare. spare ≡ id) }
+    {
+        let node = Box::new(
+            alloc,
+            Node {
+                left: Tree::new(),
+                id,
+                height: 1,
+                right: Tree::new(),
+            },
+        )?;
+        Ok(Spare { node })
+    }
+
+    /// The same memory, for this id.
+    pub fn with_id(mut self, id: TypeId) -> Spare
+        ensures { result ≡ id }
+    {
+        self.node.id = id;
+        self
+    }
+
+    /// Its id.
+    pub fn id(&self) -> TypeId
+        ensures { result ≡ self.now }
+    {
+        self.node.id
+    }
+}
+
+impl Tree {
+    /// No ids. Takes no memory.
+    pub fn new() -> Tree
+        ensures { result ≡ [] }
+    {
+        Tree { top: None }
+    }
+
+    fn height(&self) -> u64 {
+        match &self.top {
+            None => 0,
+            Some(node) => node.height,
+        }
+    }
+
+    fn open(self) -> Option<Box<Node>>
+        ensures { ids_of result ≡ self }
+    {
+        self.top
+    }
+
+    fn of(node: Box<Node>) -> Tree
+        ensures { result ≡ node_ids node.value }
+    {
+        Tree { top: Some(node) }
+    }
+
+    /// Puts the id where it belongs.
+    pub fn put(&mut self, types: &TombstoneArena<Type, TypeSpace>, spare: Spare)
+        requires { IsStrictlySortedBy (id_cmp (kinds_in types.now.slots)) self.old }
+        ensures { self.new ≡ put_in (is_before (kinds_in types.now.slots) spare) spare self.old }
+    {
+        let tree = mem::replace(self, Tree::new());
+        *self = put(tree, types, spare.node);
+    }
+
+    /// Takes the id out, if it is in.
+    pub fn take(&mut self, types: &TombstoneArena<Type, TypeSpace>, id: TypeId) -> Option<Spare>
+        requires { IsStrictlySortedBy (id_cmp (kinds_in types.now.slots)) self.old }
+        ensures rest { self.new ≡ filter (λ x. not (x == id)) self.old }
+        ensures taken { result ≡ find (λ x. x == id) self.old }
+    {
+        let tree = mem::replace(self, Tree::new());
+        let (rest, taken) = take(tree, types, id);
+        *self = rest;
+        match taken {
+            Some(node) => Some(Spare { node }),
+            None => None,
+        }
+    }
+
+    /// The last id of a type of the kind that is looked for, of those that name themselves or of the others.
+    pub fn latest(
+        &self,
+        types: &TombstoneArena<Type, TypeSpace>,
+        target: Target<'_>,
+        own: bool,
+    ) -> Option<TypeId>
+        requires { IsStrictlySortedBy (id_cmp (kinds_in types.now.slots)) self.now }
+        ensures { result ≡ last_in (is_exactly (kinds_in types.now.slots) (target_kind target.entry) own) None self.now }
+    {
+        match last(self, types, target, own, None) {
+            Some(id) => {
+                if compare_key(types, id, target, own).is_eq() {
+                    Some(id)
+                } else {
+                    None
+                }
+            }
+            None => None,
+        }
+    }
+}
+
+// How high a node over these is.
+fn height_over(left: &Tree, right: &Tree) -> u64 {
+    left.height().max(right.height()).saturating_add(1)
+}
+
+// Turns a node so that its left side comes to the top.
+fn turn_right(mut node: Box<Node>) -> Box<Node>
+    ensures { node_ids result.value ≡ node_ids node.value }
+{
+    match mem::replace(&mut node.left, Tree::new()).open() {
+        None => node,
+        Some(mut top) => {
+            node.left = mem::replace(&mut top.right, Tree::new());
+            node.height = height_over(&node.left, &node.right);
+            top.right = Tree::of(node);
+            top.height = height_over(&top.left, &top.right);
+            top
+        }
+    }
+}
+
+// Turns a node so that its right side comes to the top.
+fn turn_left(mut node: Box<Node>) -> Box<Node>
+    ensures { node_ids result.value ≡ node_ids node.value }
+{
+    match mem::replace(&mut node.right, Tree::new()).open() {
+        None => node,
+        Some(mut top) => {
+            node.right = mem::replace(&mut top.left, Tree::new());
+            node.height = height_over(&node.left, &node.right);
+            top.left = Tree::of(node);
+            top.height = height_over(&top.left, &top.right);
+            top
+        }
+    }
+}
+
+// The tree, no higher on the right than on the left.
+fn lean_left(tree: Tree) -> Tree
+    ensures { result ≡ tree }
+{
+    match tree.open() {
+        None => Tree::new(),
+        Some(node) => {
+            if node.right.height() > node.left.height() {
+                return Tree::of(turn_left(node));
+            }
+            Tree::of(node)
+        }
+    }
+}
+
+// The tree, no higher on the left than on the right.
+fn lean_right(tree: Tree) -> Tree
+    ensures { result ≡ tree }
+{
+    match tree.open() {
+        None => Tree::new(),
+        Some(node) => {
+            if node.left.height() > node.right.height() {
+                return Tree::of(turn_right(node));
+            }
+            Tree::of(node)
+        }
+    }
+}
+
+// The node with its sides near each other in height, after one of them changed by one.
+fn balance(mut node: Box<Node>) -> Box<Node>
+    ensures { node_ids result.value ≡ node_ids node.value }
+{
+    let left = node.left.height();
+    let right = node.right.height();
+    if left > right.saturating_add(1) {
+        let side = mem::replace(&mut node.left, Tree::new());
+        node.left = lean_left(side);
+        return turn_right(node);
+    }
+    if right > left.saturating_add(1) {
+        let side = mem::replace(&mut node.right, Tree::new());
+        node.right = lean_right(side);
+        return turn_left(node);
+    }
+    node.height = height_over(&node.left, &node.right);
+    node
+}
+
+// The tree with one more id.
+fn put(tree: Tree, types: &TombstoneArena<Type, TypeSpace>, mut new: Box<Node>) -> Tree
+    requires { IsStrictlySortedBy (id_cmp (kinds_in types.now.slots)) tree }
+    ensures { result ≡ put_in (is_before (kinds_in types.now.slots) new.value.id) new.value.id tree }
+{
+    match tree.open() {
+        None => {
+            new.left = Tree::new();
+            new.right = Tree::new();
+            new.height = 1;
+            Tree::of(new)
+        }
+        Some(mut node) => {
+            if compare(types, new.id, node.id).is_lt() {
+                let side = mem::replace(&mut node.left, Tree::new());
+                node.left = put(side, types, new);
+                return Tree::of(balance(node));
+            }
+            let side = mem::replace(&mut node.right, Tree::new());
+            node.right = put(side, types, new);
+            Tree::of(balance(node))
+        }
+    }
+}
+
+// The first node, and the others.
+fn split_first(mut node: Box<Node>) -> (Box<Node>, Tree)
+    ensures { node_ids node.value ≡ result.0.value.id ∷ result.1 }
+{
+    match mem::replace(&mut node.left, Tree::new()).open() {
+        None => {
+            let rest = mem::replace(&mut node.right, Tree::new());
+            (node, rest)
+        }
+        Some(left) => {
+            let (first, rest) = split_first(left);
+            node.left = rest;
+            (first, Tree::of(balance(node)))
+        }
+    }
+}
+
+// The ids of both.
+fn join(left: Tree, right: Tree) -> Tree
+    ensures { result ≡ left ++ right }
+{
+    match right.open() {
+        None => left,
+        Some(node) => {
+            let (mut first, rest) = split_first(node);
+            first.left = left;
+            first.right = rest;
+            Tree::of(balance(first))
+        }
+    }
+}
+
+// The sides of a node, and the node without them.
+fn apart(mut node: Box<Node>) -> (Tree, Box<Node>, Tree)
+    ensures left { result.0 ≡ node.value.left }
+    ensures id { result.1.value.id ≡ node.value.id }
+    ensures right { result.2 ≡ node.value.right }
+{
+    let left = mem::replace(&mut node.left, Tree::new());
+    let right = mem::replace(&mut node.right, Tree::new());
+    (left, node, right)
+}
+
+// The tree without the id, and its node.
+fn take(
+    tree: Tree,
+    types: &TombstoneArena<Type, TypeSpace>,
+    id: TypeId,
+) -> (Tree, Option<Box<Node>>)
+    requires { IsStrictlySortedBy (id_cmp (kinds_in types.now.slots)) tree }
+    ensures rest { result.0 ≡ filter (λ x. not (x == id)) tree }
+    ensures taken { option_map (λ node. node.value.id) result.1 ≡ find (λ x. x == id) tree }
+{
+    match tree.open() {
+        None => (Tree::new(), None),
+        Some(mut node) => match compare(types, id, node.id) {
+            Ordering::Less => {
+                let side = mem::replace(&mut node.left, Tree::new());
+                let (rest, taken) = take(side, types, id);
+                node.left = rest;
+                (Tree::of(balance(node)), taken)
+            }
+            Ordering::Greater => {
+                let side = mem::replace(&mut node.right, Tree::new());
+                let (rest, taken) = take(side, types, id);
+                node.right = rest;
+                (Tree::of(balance(node)), taken)
+            }
+            Ordering::Equal => {
+                let (left, bare, right) = apart(node);
+                (join(left, right), Some(bare))
+            }
+        },
+    }
+}
+
+// The last id that is no later than what is looked for.
+fn last(
+    tree: &Tree,
+    types: &TombstoneArena<Type, TypeSpace>,
+    target: Target<'_>,
+    own: bool,
+    found: Option<TypeId>,
+) -> Option<TypeId>
+    requires { IsStrictlySortedBy (id_cmp (kinds_in types.now.slots)) tree.now }
+    ensures { result ≡ last_in (is_upto (kinds_in types.now.slots) (target_kind target.entry) own) found tree.now }
+{
+    match &tree.top {
+        None => found,
+        Some(node) => {
+            if compare_key(types, node.id, target, own).is_gt() {
+                return last(&node.left, types, target, own, found);
+            }
+            last(&node.right, types, target, own, Some(node.id))
+        }
+    }
+}
