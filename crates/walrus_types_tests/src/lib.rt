@@ -6,11 +6,15 @@ mod adds;
 #[cfg(test)]
 mod copies;
 #[cfg(test)]
+mod edited;
+#[cfg(test)]
 mod edits;
 #[cfg(test)]
 mod emission;
 #[cfg(test)]
 mod groups;
+#[cfg(test)]
+mod ids;
 #[cfg(test)]
 mod records;
 #[cfg(test)]
