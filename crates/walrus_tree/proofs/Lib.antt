@@ -5,3 +5,4 @@ mod Lefts
 mod Goings
 mod Nests
 mod Texts
+mod Walked

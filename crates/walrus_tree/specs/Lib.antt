@@ -2,3 +2,4 @@ pub mod Trees
 pub mod Testing
 pub mod Text
 pub mod TextLaws
+pub mod Once

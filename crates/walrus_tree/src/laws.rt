@@ -1,10 +1,19 @@
 //! Laws of trees and of their texts. Each function is its contract alone.
+ghost use Rattle.walrus_tree.specs.Once.{TreesAreWalkedOnce};
 ghost use Rattle.walrus_tree.specs.TextLaws.{TreesAreNested, TextIsPlain, PlainTextIsOne, TreesAreSound, PartsAreWhole};
 
 /// The sequences that form a tree are nested, as walks ask for.
 pub fn trees_are_nested()
     ensures { TreesAreNested }
 {}
+
+/// The walk of a tree begins each sequence of the tree, and each once.
+pub fn trees_are_walked_once()
+    ensures { TreesAreWalkedOnce }
+{
+    walrus_walks::laws::held_are_nested();
+    walrus_walks::laws::walk_is_plain();
+}
 
 /// The text of a nested sequence is that of its instructions, each with what it holds behind it, and then what
 /// stands behind the sequence, at the place of its end; and nothing else is so.
