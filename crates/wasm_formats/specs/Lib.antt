@@ -1,0 +1,7 @@
+pub mod Bytes
+pub mod Chosen
+pub mod Formats
+pub mod Joined
+pub mod Lists
+pub mod Stops
+pub mod Wholes
