@@ -1,12 +1,12 @@
 -- Formats of single bytes, and the choice between two formats.
-use Rattle.std.specs.Prelude.{ℕ, ◌+◌, ◌<◌, ◌≤◌, ◌≡◌, ◌==◌, Bool, true, false, List, [], ◌∷◌, ◌++◌, length, Ok, Err, ◌⊎◌, if◌then◌else◌, refl}
+use Rattle.std.specs.Prelude.{ℕ, ◌+◌, ◌<◌, ◌≡◌, ◌==◌, Bool, true, false, List, [], ◌∷◌, ◌++◌, length, Ok, Err, ◌⊎◌, if◌then◌else◌, refl}
 use Rattle.std.proofs.Common.{ap, sym, ◌∙◌, subst, arith, inl, inr}
 use Rattle.std.proofs.lemmas.Bool.{cases_Bool, eqb-true, eq-eqb}
 use Rattle.std.proofs.lemmas.List.{length-append}
 use Rattle.wasm_reader.specs.declared.error.ErrorKind.TheVariants as kinds
 use Rattle.wasm_reader.specs.Reading.{byte_at}
 use Rattle.wasm_reader.specs.Finals.{byte_final}
-use Rattle.wasm_formats.specs.Stops.{Trouble, Read, SectionSize, Stop, stop, moved, can_end, Parsing, ◌>>=◌, value_at}
+use Rattle.wasm_formats.specs.Stops.{Trouble, Read, Stop, stop, moved, can_end, Parsing, ◌>>=◌, value_at}
 use Rattle.wasm_formats.specs.Formats.{Format, Small, Stands, Inside, done_is, refused, refused_is, reading_told, reading_final, StopsReading}
 
 -- ---- a byte
@@ -51,9 +51,9 @@ pub literal_found : (b : ℕ) (t : Trouble) (bytes later : List ℕ) (x : Unit {
 literal_found b t [] later x small e = absurd cc
 literal_found b t (c ∷ bytes) later x small e = elim (cases_Bool (c == b)) [
   | inl is ↦
-    let same = done_is (tt, bytes) (x, later) (rw is at e) in
-    let rest : bytes ≡ later = ap (λ (z : Unit {0} × List ℕ). z.1) same in
-    (b ∷ [], rw (eqb-true c b is, rest) refl, refl, tt)
+      let same = done_is (tt, bytes) (x, later) (rw is at e) in
+      let rest : bytes ≡ later = ap (λ (z : Unit {0} × List ℕ). z.1) same in
+      (b ∷ [], rw (eqb-true c b is, rest) refl, refl, tt)
   | inr apart ↦ let e = (rw apart at e) in absurd cc
 ]
 
@@ -83,9 +83,9 @@ literal_final b t [] more s e k =
 literal_final b t (c ∷ bytes) more s e k = elim (cases_Bool (c == b)) [
   | inl is ↦ let e = (rw is at e) in absurd cc
   | inr apart ↦
-    let same = refused_is {A = Unit {0} × List ℕ} (stop t (length (c ∷ bytes))) s (rw apart at e) in
-    let size : length (c ∷ (bytes ++ more)) ≡ length (c ∷ bytes) + length more = length-append (c ∷ bytes) more in
-    rw apart (ap (λ (n : ℕ). refused (stop t n)) size ∙ ap (λ (s : Stop). refused (moved (length more) s)) same)
+      let same = refused_is {A = Unit {0} × List ℕ} (stop t (length (c ∷ bytes))) s (rw apart at e) in
+      let size : length (c ∷ (bytes ++ more)) ≡ length (c ∷ bytes) + length more = length-append (c ∷ bytes) more in
+      rw apart (ap (λ (n : ℕ). refused (stop t n)) size ∙ ap (λ (s : Stop). refused (moved (length more) s)) same)
 ]
 
 abbrev pub literal : ℕ → Trouble → Format (Unit {0})

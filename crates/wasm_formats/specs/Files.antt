@@ -1,10 +1,9 @@
 -- Entries to the end of the bytes, and what is tested there.
 use Rattle.std.specs.Prelude.{ℕ, zero, suc, ◌+◌, ◌<◌, ◌≤◌, ◌≡◌, Bool, true, false, List, [], ◌∷◌, ◌++◌, length, fold, Result, Ok, Err, ◌⊎◌, if◌then◌else◌, refl}
 use Rattle.std.proofs.Common.{ap, sym, ◌∙◌, subst, arith, inl, inr}
-use Rattle.std.proofs.lemmas.Bool.{cases_Bool}
-use Rattle.std.proofs.lemmas.List.{append_assoc, append-nil, length-append}
-use Rattle.wasm_formats.specs.Stops.{Trouble, Count, Stop, stop, moved, can_end, Parsing, ◌>>=◌}
-use Rattle.wasm_formats.specs.Formats.{Format, Whole, Small, Stands, Inside, InsideAll, done, done_is, done_refused, refused, refused_is, step_ok, step_err, behind_small, parsed_final}
+use Rattle.std.proofs.lemmas.List.{append_assoc, length-append}
+use Rattle.wasm_formats.specs.Stops.{Count, Stop, stop, moved, can_end, Parsing, ◌>>=◌}
+use Rattle.wasm_formats.specs.Formats.{Format, Whole, Small, Stands, Inside, InsideAll, done_is, done_refused, refused_is, step_ok, step_err, behind_small, parsed_final}
 use Rattle.wasm_formats.specs.Wholes.{all_step}
 use Rattle.wasm_formats.specs.Lists.{SpellsEntries, EntryRules}
 
@@ -48,7 +47,7 @@ module _ {A S : Type 0} (next : S → A → S) (entry : S → Format A) (takes :
   all_again (x ∷ xs) (suc fuel) s bytes le h r =
       let some = takes s h.0 x h.3 in
       rw h.2 (all_next fuel s h.0 h.1 x (Ok xs) some ((entry s).again h.0 h.1 x h.3 r.0)
-        (all_again xs fuel (next s x) h.1 (omega (arith, le, some, ap length h.2, length-append h.0 h.1)) h.4 r.1))
+      (all_again xs fuel (next s x) h.1 (omega (arith, le, some, ap length h.2, length-append h.0 h.1)) h.4 r.1))
 
   all_told : (fuel : ℕ) (s : S) (bytes : List ℕ) (e : Stop) → length bytes ≤ fuel → Small bytes → parse_all fuel s bytes ≡ Err e → StopsAmong s bytes e
   all_told fuel s [] e le small h = done_refused [] e h
@@ -56,10 +55,10 @@ module _ {A S : Type 0} (next : S → A → S) (entry : S → Format A) (takes :
   all_told (suc fuel) s (b ∷ bytes) e le small h = step_err ((entry s).parse (b ∷ bytes)) _ e h
       (λ p. ([], [], b ∷ bytes, refl, refl, tt, omega arith, (entry s).told (b ∷ bytes) e small p))
       (λ x p q. step_err (parse_all fuel (next s x.0) x.1) (λ xs. Ok (x.0 ∷ xs)) e q
-        (λ r. let f = (entry s).found (b ∷ bytes) x.1 x.0 small p in
-          let t = all_told fuel (next s x.0) x.1 e (omega (arith, le, shorter s (b ∷ bytes) x.0 x.1 f)) (behind_small (entry s) (b ∷ bytes) x.1 x.0 small p) r in
-          (x.0 ∷ t.0, f.0 ++ t.1, t.2, f.1 ∙ ap (λ (l : List ℕ). f.0 ++ l) t.3 ∙ sym (append_assoc f.0 t.1 t.2), (f.0, t.1, refl, f.2, t.4), (f.3, t.5), t.6, t.7))
-        (λ xs _ n. done_refused (x.0 ∷ xs) e n))
+      (λ r. let f = (entry s).found (b ∷ bytes) x.1 x.0 small p in
+      let t = all_told fuel (next s x.0) x.1 e (omega (arith, le, shorter s (b ∷ bytes) x.0 x.1 f)) (behind_small (entry s) (b ∷ bytes) x.1 x.0 small p) r in
+      (x.0 ∷ t.0, f.0 ++ t.1, t.2, f.1 ∙ ap (λ (l : List ℕ). f.0 ++ l) t.3 ∙ sym (append_assoc f.0 t.1 t.2), (f.0, t.1, refl, f.2, t.4), (f.3, t.5), t.6, t.7))
+      (λ xs _ n. done_refused (x.0 ∷ xs) e n))
 
   all_first : (fuel : ℕ) (s : S) (later : List ℕ) (e : Stop) → 0 < length later → (entry s).parse later ≡ Err e → parse_all (suc fuel) s later ≡ Err e
   all_first fuel s [] e some h = absurd (omega (arith, some))
@@ -74,7 +73,7 @@ module _ {A S : Type 0} (next : S → A → S) (entry : S → Format A) (takes :
       let takes = takes s h.0 x h.3 in
       let whole : length (front ++ later) ≡ length h.0 + length (h.1 ++ later) = rw (h.2, append_assoc h.0 h.1 later) (length-append h.0 (h.1 ++ later)) in
       rw (h.2, append_assoc h.0 h.1 later) (all_next fuel s h.0 (h.1 ++ later) x (Err e) takes ((entry s).again h.0 (h.1 ++ later) x h.3 r.0)
-        (all_tells xs fuel (next s x) h.1 later e (omega (arith, le, takes, whole)) h.4 r.1 some t))
+      (all_tells xs fuel (next s x) h.1 later e (omega (arith, le, takes, whole)) h.4 r.1 some t))
 
   all_within : (fuel : ℕ) (s : S) (bytes : List ℕ) → InsideAll (length bytes) (parse_all fuel s bytes)
   all_within fuel s [] = tt
@@ -93,9 +92,9 @@ module _ {A S : Type 0} (next : S → A → S) (entry : S → Format A) (takes :
   all_final (suc fuel) (suc wide) s (b ∷ bytes) more e le small h k = step_err ((entry s).parse (b ∷ bytes)) _ e h
       (λ p. let first : (entry s).parse (b ∷ (bytes ++ more)) ≡ Err (moved (length more) e) = (entry s).final (b ∷ bytes) more e small p k in rw first refl)
       (λ x p q. step_err (parse_all fuel (next s x.0) x.1) (λ xs. Ok (x.0 ∷ xs)) e q
-        (λ r. let first : (entry s).parse (b ∷ (bytes ++ more)) ≡ Ok (x.0, x.1 ++ more) = parsed_final (entry s) (b ∷ bytes) x.1 more x.0 small p in
-          rw (first, all_final fuel wide (next s x.0) x.1 more e (omega (arith, le)) (behind_small (entry s) (b ∷ bytes) x.1 x.0 small p) r k) refl)
-        (λ xs _ n. done_refused (x.0 ∷ xs) e n))
+      (λ r. let first : (entry s).parse (b ∷ (bytes ++ more)) ≡ Ok (x.0, x.1 ++ more) = parsed_final (entry s) (b ∷ bytes) x.1 more x.0 small p in
+      rw (first, all_final fuel wide (next s x.0) x.1 more e (omega (arith, le)) (behind_small (entry s) (b ∷ bytes) x.1 x.0 small p) r k) refl)
+      (λ xs _ n. done_refused (x.0 ∷ xs) e n))
 
   pub entries : S → Whole (List A)
   entries s = record {

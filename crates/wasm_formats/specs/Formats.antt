@@ -1,14 +1,14 @@
 -- Formats: a grammar, the rules on its values, the parsing from left to right that tests each rule as soon as it is due, and where that stops;
 -- with the laws that tie them.
-use Rattle.std.specs.Prelude.{ℕ, ◌+◌, ◌<◌, ◌≤◌, ◌≡◌, Bool, true, false, List, [], ◌∷◌, ◌++◌, length, All, Result, Ok, Err, refl}
-use Rattle.std.proofs.Common.{ap, sym, ◌∙◌, subst, arith}
+use Rattle.std.specs.Prelude.{ℕ, ◌+◌, ◌<◌, ◌≤◌, ◌≡◌, false, List, ◌++◌, length, All, Result, Ok, Err, refl}
+use Rattle.std.proofs.Common.{ap, sym, subst, arith}
 use Rattle.std.proofs.lemmas.List.{append_assoc, length-append, get_or_append_left}
 use Rattle.wasm_reader.specs.declared.error.ErrorKind.{ErrorKind}
 use Rattle.wasm_reader.specs.declared.error.ErrorKind.TheVariants as kinds
 use Rattle.wasm_reader.specs.Reading.{Reading, Fault, fault}
 use Rattle.wasm_reader.specs.Laws.{TakesSpelled, StaysWithin, IsFinal, Grows, GrowsFault}
 use Rattle.wasm_reader.specs.Vecs.{later_bytes}
-use Rattle.wasm_formats.specs.Stops.{Trouble, Read, Stop, stop, moved, can_end, Parsing, ◌>>=◌, value_at}
+use Rattle.wasm_formats.specs.Stops.{Read, Stop, stop, moved, can_end, Parsing, ◌>>=◌, value_at}
 
 -- numbers that are bytes
 abbrev pub Small : List ℕ → Type 0
@@ -151,7 +151,7 @@ reading_final more (Ok x) after s h e k = absurd cc
 reading_final {A} more (Err d) after s h e k =
     let same = refused_is {A = A × List ℕ} (stop (Read d.kind) d.left) s e in
     subst (λ (s : Stop). value_at after ≡ Err (moved (length more) s)) same
-      (ap (λ (r : Reading A). value_at r) (fault_stays d.kind d.left more after h (subst (λ (s : Stop). can_end s.trouble ≡ false) (sym same) k)))
+    (ap (λ (r : Reading A). value_at r) (fault_stays d.kind d.left more after h (subst (λ (s : Stop). can_end s.trouble ≡ false) (sym same) k)))
 
 abbrev pub leaf : {A : Type 0} (reading : List ℕ → Reading A) (spells : List ℕ → A → Type 0) → TakesSpelled reading spells → IsFinal reading → Format A
 leaf reading spells taken final = record {

@@ -1,9 +1,9 @@
 -- Formats made of others: tests, one value behind another, values in constructors.
-use Rattle.std.specs.Prelude.{ℕ, ◌+◌, ◌-◌, ◌≤◌, ◌≡◌, Bool, true, false, List, ◌++◌, length, Option, Some, None, Result, Ok, Err, ◌⊎◌, refl}
+use Rattle.std.specs.Prelude.{ℕ, ◌+◌, ◌-◌, ◌≤◌, ◌≡◌, List, ◌++◌, length, Option, Some, None, Ok, Err, ◌⊎◌, refl}
 use Rattle.std.proofs.Common.{ap, sym, ◌∙◌, subst, arith, inl, inr}
 use Rattle.std.proofs.lemmas.List.{append_assoc, length-append}
-use Rattle.wasm_formats.specs.Stops.{Trouble, Stop, stop, moved, can_end, Parsing, ◌>>=◌}
-use Rattle.wasm_formats.specs.Formats.{Format, Small, Stands, Inside, refused, refused_is, done_is, done_refused, step_ok, step_err, inside_later, inside_step, inside_wide, behind_small, parsed_final}
+use Rattle.wasm_formats.specs.Stops.{Trouble, Stop, stop, moved, Parsing, ◌>>=◌}
+use Rattle.wasm_formats.specs.Formats.{Format, Stands, Inside, refused_is, done_is, done_refused, step_ok, step_err, inside_later, inside_step, inside_wide, behind_small, parsed_final}
 
 -- ---- a rule that is tested once the value was read whole; its fault stands at the value's first byte
 
@@ -57,7 +57,7 @@ checked {A} f test = record {
       (λ x le. tested_inside (test x.0) (length bytes) (length bytes) x (omega arith) le);
   final = λ bytes more s small e k. step_err (f.parse bytes) (λ x. tested (test x.0) (length bytes) x) s e (λ p. rw (f.final bytes more s small p k) refl)
       (λ x p q. rw (parsed_final f bytes x.1 more x.0 small p, length-append bytes more)
-        (fails_final (test x.0) (length bytes) (length more) (x.0, x.1 ++ more) s (tested_err (test x.0) (length bytes) x s q)));
+      (fails_final (test x.0) (length bytes) (length more) (x.0, x.1 ++ more) s (tested_err (test x.0) (length bytes) x s q)));
 }
 
 -- ---- one value, then another, whose rules may speak of the first
@@ -76,15 +76,21 @@ after {A} {B} f g = record {
       step_ok ((g x.0).parse x.1) (λ y. Ok ((x.0, y.0), y.1)) (p, later) q (λ y two r.
       let s = f.found bytes x.1 x.0 small one in
       let t = (g x.0).found x.1 y.1 y.0 (behind_small f bytes x.1 x.0 small one) two in
-      let same = done_is ((x.0, y.0), y.1) (p, later) r in
-      (s.0 ++ t.0,
+      let same = done_is ((x.0, y.0), y.1) (p, later) r in (
+        s.0 ++ t.0,
         s.1 ∙ ap (λ (l : List ℕ). s.0 ++ l) t.1 ∙ sym (append_assoc s.0 t.0 y.1) ∙ ap (λ (z : (A × B) × List ℕ). (s.0 ++ t.0) ++ z.1) same,
         subst (λ (z : (A × B) × List ℕ). SpellsAfter f g (s.0 ++ t.0) z.0) same (s.0, t.0, refl, s.2, t.2),
-        subst (λ (z : (A × B) × List ℕ). f.rules z.0.0 × (g z.0.0).rules z.0.1) same (s.3, t.3))));
+        subst (λ (z : (A × B) × List ℕ). f.rules z.0.0 × (g z.0.0).rules z.0.1) same (s.3, t.3),
+      )));
   again = λ bytes more p h r. rw (h.2, append_assoc h.0 h.1 more, f.again h.0 (h.1 ++ more) p.0 h.3 r.0, (g p.0).again h.1 more p.1 h.4 r.1) refl;
   told = λ bytes s small e. step_err (f.parse bytes) (λ x. (g x.0).parse x.1 >>= λ y. Ok ((x.0, y.0), y.1)) s e (λ p. inl (f.told bytes s small p))
-      (λ x p h. inr (x.0, x.1, f.found bytes x.1 x.0 small p, (g x.0).told x.1 s (behind_small f bytes x.1 x.0 small p)
-        (step_err ((g x.0).parse x.1) (λ y. Ok ((x.0, y.0), y.1)) s h (λ e. e) (λ y _ n. done_refused ((x.0, y.0), y.1) s n))));
+      (λ x p h. inr (
+        x.0,
+        x.1,
+        f.found bytes x.1 x.0 small p,
+        (g x.0).told x.1 s (behind_small f bytes x.1 x.0 small p)
+            (step_err ((g x.0).parse x.1) (λ y. Ok ((x.0, y.0), y.1)) s h (λ e. e) (λ y _ n. done_refused ((x.0, y.0), y.1) s n)),
+      ));
   tells = λ bytes s h. elim h [
     | inl p ↦ rw (f.tells bytes s p) refl
     | inr p ↦ let stands = p.2 in rw (stands.1, f.again stands.0 p.1 p.0 stands.2 stands.3, (g p.0).tells p.1 s p.3) refl
@@ -93,8 +99,8 @@ after {A} {B} f g = record {
       (λ x. inside_step (length x.1) ((g x.0).parse x.1) (λ y. Ok ((x.0, y.0), y.1)) ((g x.0).within x.1) (λ y. omega arith));
   final = λ bytes more s small e k. step_err (f.parse bytes) (λ x. (g x.0).parse x.1 >>= λ y. Ok ((x.0, y.0), y.1)) s e (λ p. rw (f.final bytes more s small p k) refl)
       (λ x p q. step_err ((g x.0).parse x.1) (λ y. Ok ((x.0, y.0), y.1)) s q
-        (λ r. rw (parsed_final f bytes x.1 more x.0 small p, (g x.0).final x.1 more s (behind_small f bytes x.1 x.0 small p) r k) refl)
-        (λ y _ n. done_refused ((x.0, y.0), y.1) s n));
+      (λ r. rw (parsed_final f bytes x.1 more x.0 small p, (g x.0).final x.1 more s (behind_small f bytes x.1 x.0 small p) r k) refl)
+      (λ y _ n. done_refused ((x.0, y.0), y.1) s n));
 }
 
 -- ---- two values, and then two tests that are due together: the first one's fault stands at the first value, the later one's at the second
@@ -152,31 +158,40 @@ module _ {A B : Type 0} (f : Format A) (g : A → Format B) (test late : A × B 
     again = λ bytes more p h r. rw (h.2, append_assoc h.0 h.1 more, f.again h.0 (h.1 ++ more) p.0 h.3 r.0.0, (g p.0).again h.1 more p.1 h.4 r.0.1, r.1, r.2) refl;
     told = λ bytes s small e. step_err (f.parse bytes) (second_tested (length bytes)) s e (λ p. inl (inl (f.told bytes s small p)))
         (λ x p h. let behind = behind_small f bytes x.1 x.0 small p in let stands = f.found bytes x.1 x.0 small p in
-          step_err ((g x.0).parse x.1) (pair_tested (length bytes) x) s h
-          (λ e. inl (inr (x.0, x.1, stands, (g x.0).told x.1 s behind e)))
-          (λ y q r. inr (x.0, x.1, stands, (y.0, y.1, (g x.0).found x.1 y.1 y.0 behind q,
-            both_err (test (x.0, y.0)) (late (x.0, y.0)) (length bytes) (length x.1) ((x.0, y.0), y.1) s r))));
+        step_err ((g x.0).parse x.1) (pair_tested (length bytes) x) s h
+        (λ e. inl (inr (x.0, x.1, stands, (g x.0).told x.1 s behind e)))
+        (λ y q r. inr (
+          x.0,
+          x.1,
+          stands,
+          (
+            y.0,
+            y.1,
+            (g x.0).found x.1 y.1 y.0 behind q,
+            both_err (test (x.0, y.0)) (late (x.0, y.0)) (length bytes) (length x.1) ((x.0, y.0), y.1) s r,
+          ),
+        )));
     tells = λ bytes s h. elim h [
       | inl p ↦ elim p [
         | inl p ↦ rw (f.tells bytes s p) refl
         | inr p ↦ let stands = p.2 in rw (stands.1, f.again stands.0 p.1 p.0 stands.2 stands.3, (g p.0).tells p.1 s p.3) refl
       ]
       | inr p ↦ let stands = p.2 in let q = p.3 in let last = q.2 in
-        let first : f.parse bytes ≡ Ok (p.0, p.1) = rw stands.1 (f.again stands.0 p.1 p.0 stands.2 stands.3) in
-        let second : (g p.0).parse p.1 ≡ Ok (q.0, q.1) = rw last.1 ((g p.0).again last.0 q.1 q.0 last.2 last.3) in
-        rw (first, second) (both_fail (test (p.0, q.0)) (late (p.0, q.0)) (length bytes) (length p.1) ((p.0, q.0), q.1) s q.3)
+          let first : f.parse bytes ≡ Ok (p.0, p.1) = rw stands.1 (f.again stands.0 p.1 p.0 stands.2 stands.3) in
+          let second : (g p.0).parse p.1 ≡ Ok (q.0, q.1) = rw last.1 ((g p.0).again last.0 q.1 q.0 last.2 last.3) in
+          rw (first, second) (both_fail (test (p.0, q.0)) (late (p.0, q.0)) (length bytes) (length p.1) ((p.0, q.0), q.1) s q.3)
     ];
     within = λ bytes. inside_wide (length bytes) (f.parse bytes) (second_tested (length bytes)) (f.within bytes)
         (λ x le. inside_wide (length bytes) ((g x.0).parse x.1) (pair_tested (length bytes) x)
-          (inside_later (length x.1) (length bytes) ((g x.0).parse x.1) le ((g x.0).within x.1))
-          (λ y more. both_inside (test (x.0, y.0)) (late (x.0, y.0)) (length bytes) (length x.1) (length bytes) ((x.0, y.0), y.1) (omega arith) le more));
+        (inside_later (length x.1) (length bytes) ((g x.0).parse x.1) le ((g x.0).within x.1))
+        (λ y more. both_inside (test (x.0, y.0)) (late (x.0, y.0)) (length bytes) (length x.1) (length bytes) ((x.0, y.0), y.1) (omega arith) le more));
     final = λ bytes more s small e k. step_err (f.parse bytes) (second_tested (length bytes)) s e (λ p. rw (f.final bytes more s small p k) refl)
         (λ x p q. let behind = behind_small f bytes x.1 x.0 small p in
-          step_err ((g x.0).parse x.1) (pair_tested (length bytes) x) s q
-          (λ r. rw (parsed_final f bytes x.1 more x.0 small p, (g x.0).final x.1 more s behind r k) refl)
-          (λ y r n. rw (parsed_final f bytes x.1 more x.0 small p, parsed_final (g x.0) x.1 y.1 more y.0 behind r, length-append bytes more, length-append x.1 more)
-            (both_final (test (x.0, y.0)) (late (x.0, y.0)) (length bytes) (length x.1) (length more) ((x.0, y.0), y.1 ++ more) s
-              (both_err (test (x.0, y.0)) (late (x.0, y.0)) (length bytes) (length x.1) ((x.0, y.0), y.1) s n))));
+        step_err ((g x.0).parse x.1) (pair_tested (length bytes) x) s q
+        (λ r. rw (parsed_final f bytes x.1 more x.0 small p, (g x.0).final x.1 more s behind r k) refl)
+        (λ y r n. rw (parsed_final f bytes x.1 more x.0 small p, parsed_final (g x.0) x.1 y.1 more y.0 behind r, length-append bytes more, length-append x.1 more)
+        (both_final (test (x.0, y.0)) (late (x.0, y.0)) (length bytes) (length x.1) (length more) ((x.0, y.0), y.1 ++ more) s
+        (both_err (test (x.0, y.0)) (late (x.0, y.0)) (length bytes) (length x.1) ((x.0, y.0), y.1) s n))));
   }
 
 -- ---- a value in a constructor or a record
@@ -192,9 +207,12 @@ built {A} {B} f into injective = record {
   parse = λ bytes. f.parse bytes >>= λ x. Ok (into x.0, x.1);
   found = λ bytes later y small e. step_ok (f.parse bytes) (λ x. Ok (into x.0, x.1)) (y, later) e (λ x p q.
       let s = f.found bytes x.1 x.0 small p in
-      let same = done_is (into x.0, x.1) (y, later) q in
-      (s.0, s.1 ∙ ap (λ (z : B × List ℕ). s.0 ++ z.1) same, (x.0, ap (λ (z : B × List ℕ). z.0) same, s.2),
-        (λ z i. subst f.rules (sym (injective z x.0 (i ∙ sym (ap (λ (z : B × List ℕ). z.0) same)))) s.3)));
+      let same = done_is (into x.0, x.1) (y, later) q in (
+        s.0,
+        s.1 ∙ ap (λ (z : B × List ℕ). s.0 ++ z.1) same,
+        (x.0, ap (λ (z : B × List ℕ). z.0) same, s.2),
+        (λ z i. subst f.rules (sym (injective z x.0 (i ∙ sym (ap (λ (z : B × List ℕ). z.0) same)))) s.3),
+      ));
   again = λ bytes more y h r. rw (f.again bytes more h.0 h.2 (r h.0 h.1), h.1) refl;
   told = λ bytes s small e. step_err (f.parse bytes) (λ x. Ok (into x.0, x.1)) s e (λ p. f.told bytes s small p) (λ x p n. done_refused (into x.0, x.1) s n);
   tells = λ bytes s h. rw (f.tells bytes s h) refl;
@@ -213,10 +231,12 @@ ends_at {A} start f = record {
   found = λ bytes later p small e. step_ok (f.parse bytes) (λ x. Ok ((start + (length bytes - length x.1), x.0), x.1)) (p, later) e (λ x q r.
       let s = f.found bytes x.1 x.0 small q in
       let same = done_is ((start + (length bytes - length x.1), x.0), x.1) (p, later) r in
-      let size : start + (length bytes - length x.1) ≡ start + length s.0 = omega (arith, ap length s.1, length-append s.0 x.1) in
-      (s.0, s.1 ∙ ap (λ (z : (ℕ × A) × List ℕ). s.0 ++ z.1) same,
+      let size : start + (length bytes - length x.1) ≡ start + length s.0 = omega (arith, ap length s.1, length-append s.0 x.1) in (
+        s.0,
+        s.1 ∙ ap (λ (z : (ℕ × A) × List ℕ). s.0 ++ z.1) same,
         subst (λ (z : (ℕ × A) × List ℕ). f.spells s.0 z.0.1 × (z.0.0 ≡ start + length s.0)) same (s.2, size),
-        subst (λ (z : (ℕ × A) × List ℕ). f.rules z.0.1) same s.3));
+        subst (λ (z : (ℕ × A) × List ℕ). f.rules z.0.1) same s.3,
+      ));
   again = λ bytes more p h r.
       let size : start + (length (bytes ++ more) - length more) ≡ p.0 = omega (arith, length-append bytes more, h.1) in
       rw (f.again bytes more p.1 h.0 r, size) refl;

@@ -1,12 +1,12 @@
 -- Lists of entries, each at the state that those before it left; and entries to the end of the bytes.
-use Rattle.std.specs.Prelude.{ℕ, zero, suc, ◌+◌, ◌<◌, ◌≤◌, ◌≡◌, ◌==◌, Bool, true, false, List, [], ◌∷◌, ◌++◌, length, fold, Result, Ok, Err, ◌⊎◌, refl}
+use Rattle.std.specs.Prelude.{ℕ, zero, suc, ◌≡◌, false, List, [], ◌∷◌, ◌++◌, length, Ok, Err, ◌⊎◌, refl}
 use Rattle.std.proofs.Common.{ap, sym, ◌∙◌, subst, arith, inl, inr}
-use Rattle.std.proofs.lemmas.List.{append_assoc, length-append}
+use Rattle.std.proofs.lemmas.List.{append_assoc}
 use Rattle.wasm_reader.specs.Numbers.{Spells, unsigned}
-use Rattle.wasm_formats.specs.Stops.{Trouble, Count, Stop, stop, moved, can_end, Parsing, ◌>>=◌}
-use Rattle.wasm_formats.specs.Formats.{Format, Whole, Small, Stands, Inside, InsideAll, done, done_is, done_refused, refused, refused_is, step_ok, step_err, inside_step, behind_small, parsed_final}
+use Rattle.wasm_formats.specs.Stops.{Stop, moved, can_end, Parsing, ◌>>=◌}
+use Rattle.wasm_formats.specs.Formats.{Format, Small, Inside, done_is, done_refused, step_ok, step_err, inside_step, behind_small, parsed_final}
 use Rattle.wasm_formats.specs.Joined.{Behind}
-use Rattle.wasm_formats.specs.Wholes.{u32, all_step}
+use Rattle.wasm_formats.specs.Wholes.{u32}
 
 module _ {A S : Type 0} (next : S → A → S) (entry : S → Format A) where
   abbrev pub SpellsEntries : S → List ℕ → List A → Type 0
@@ -49,8 +49,13 @@ module _ {A S : Type 0} (next : S → A → S) (entry : S → Format A) where
   pub entries_told : (count : ℕ) (s : S) (bytes : List ℕ) (e : Stop) → Small bytes → parse_entries count s bytes ≡ Err e → StopsEntries count s bytes e
   entries_told zero s bytes e small h = done_refused ([], bytes) e h
   entries_told (suc count) s bytes e small h = step_err ((entry s).parse bytes) _ e h (λ p. inl ((entry s).told bytes e small p))
-      (λ x p q. inr (x.0, x.1, (entry s).found bytes x.1 x.0 small p, entries_told count (next s x.0) x.1 e (behind_small (entry s) bytes x.1 x.0 small p)
-        (step_err (parse_entries count (next s x.0) x.1) (λ xs. Ok (x.0 ∷ xs.0, xs.1)) e q (λ r. r) (λ xs _ n. done_refused (x.0 ∷ xs.0, xs.1) e n))))
+      (λ x p q. inr (
+        x.0,
+        x.1,
+        (entry s).found bytes x.1 x.0 small p,
+        entries_told count (next s x.0) x.1 e (behind_small (entry s) bytes x.1 x.0 small p)
+            (step_err (parse_entries count (next s x.0) x.1) (λ xs. Ok (x.0 ∷ xs.0, xs.1)) e q (λ r. r) (λ xs _ n. done_refused (x.0 ∷ xs.0, xs.1) e n)),
+      ))
 
   pub entries_tells : (count : ℕ) (s : S) (bytes : List ℕ) (e : Stop) → StopsEntries count s bytes e → parse_entries count s bytes ≡ Err e
   entries_tells zero s bytes e h = absurd h
@@ -69,8 +74,8 @@ module _ {A S : Type 0} (next : S → A → S) (entry : S → Format A) where
   entries_final zero s bytes more e small h k = done_refused ([], bytes) e h
   entries_final (suc count) s bytes more e small h k = step_err ((entry s).parse bytes) _ e h (λ p. rw ((entry s).final bytes more e small p k) refl)
       (λ x p q. step_err (parse_entries count (next s x.0) x.1) (λ xs. Ok (x.0 ∷ xs.0, xs.1)) e q
-        (λ r. rw (parsed_final (entry s) bytes x.1 more x.0 small p, entries_final count (next s x.0) x.1 more e (behind_small (entry s) bytes x.1 x.0 small p) r k) refl)
-        (λ xs _ n. done_refused (x.0 ∷ xs.0, xs.1) e n))
+      (λ r. rw (parsed_final (entry s) bytes x.1 more x.0 small p, entries_final count (next s x.0) x.1 more e (behind_small (entry s) bytes x.1 x.0 small p) r k) refl)
+      (λ xs _ n. done_refused (x.0 ∷ xs.0, xs.1) e n))
 
   -- so many entries, the count of which was read before
   abbrev pub listed : ℕ → S → Format (List A)
@@ -107,8 +112,8 @@ module _ {A S : Type 0} (next : S → A → S) (entry : S → Format A) where
     tells = λ bytes e h. elim h [
       | inl p ↦ rw (u32.tells bytes e p) refl
       | inr p ↦ let stands = p.2 in
-        let there : u32.parse bytes ≡ Ok (p.0, p.1) = rw stands.1 (u32.again stands.0 p.1 p.0 stands.2 stands.3) in
-        rw there (entries_tells p.0 s p.1 e p.3)
+          let there : u32.parse bytes ≡ Ok (p.0, p.1) = rw stands.1 (u32.again stands.0 p.1 p.0 stands.2 stands.3) in
+          rw there (entries_tells p.0 s p.1 e p.3)
     ];
     within = λ bytes. inside_step (length bytes) (u32.parse bytes) (λ n. parse_entries n.0 s n.1) (u32.within bytes) (λ n. entries_within n.0 s n.1);
     final = λ bytes more e small h k. step_err (u32.parse bytes) (λ n. parse_entries n.0 s n.1) e h (λ p. rw (u32.final bytes more e small p k) refl)

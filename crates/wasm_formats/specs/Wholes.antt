@@ -1,15 +1,15 @@
 -- Values that fill their bytes, and sizes before them.
-use Rattle.std.specs.Prelude.{ℕ, ◌+◌, ◌-◌, ◌<◌, ◌≤◌, ◌≡◌, ◌==◌, nat_lt, Bool, true, false, List, [], ◌∷◌, ◌++◌, length, take, drop, Result, Ok, Err, ◌⊎◌, if◌then◌else◌, refl}
+use Rattle.std.specs.Prelude.{ℕ, ◌+◌, ◌-◌, ◌<◌, ◌≤◌, ◌≡◌, ◌==◌, nat_lt, true, false, List, [], ◌∷◌, ◌++◌, length, take, drop, Result, Ok, Err, ◌⊎◌, if◌then◌else◌, refl}
 use Rattle.std.proofs.Common.{ap, sym, ◌∙◌, subst, arith, inl, inr}
 use Rattle.std.proofs.lemmas.Bool.{cases_lt, cases_Bool, lt-ltb, le-ltb, eqb-true}
-use Rattle.std.proofs.lemmas.List.{append_assoc, append-nil, length-append, take-append-drop, length-take-le, take-append-le, drop-append-le}
+use Rattle.std.proofs.lemmas.List.{append_assoc, append-nil, length-append, take-append-drop, length-take-le, take-append-le}
 use Rattle.std.proofs.Math.Seq.{take-append_seam, drop-append_seam}
 use Rattle.wasm_reader.specs.declared.error.ErrorKind.TheVariants as kinds
 use Rattle.wasm_reader.specs.Numbers.{Spells, unsigned, unsigned_at}
 use Rattle.wasm_reader.specs.Spellings.{number_taken}
 use Rattle.wasm_reader.specs.Finals.{unsigned_final}
-use Rattle.wasm_formats.specs.Stops.{Trouble, SectionSize, Count, Stop, stop, moved, can_end, Parsing, ◌>>=◌, before}
-use Rattle.wasm_formats.specs.Formats.{Format, Whole, Small, Stands, Inside, InsideAll, done, done_is, done_refused, refused, refused_is, step_ok, step_err, inside_later, inside_wide, front_small, behind_small, parsed_final, leaf}
+use Rattle.wasm_formats.specs.Stops.{SectionSize, Stop, stop, moved, can_end, Parsing, ◌>>=◌, before}
+use Rattle.wasm_formats.specs.Formats.{Format, Whole, Small, Inside, InsideAll, done_is, done_refused, refused, refused_is, step_ok, step_err, inside_later, inside_wide, front_small, behind_small, parsed_final, leaf}
 use Rattle.wasm_formats.specs.Joined.{Behind}
 
 -- ---- a value that fills the bytes
@@ -109,13 +109,19 @@ followed {A} {B} f g = record {
       step_ok ((g x.0).parse x.1) (λ y. Ok (x.0, y)) p q (λ y two r.
       let s = f.found bytes x.1 x.0 small one in
       let t = (g x.0).found x.1 y (behind_small f bytes x.1 x.0 small one) two in
-      let same = done_is (x.0, y) p r in
-      (subst (λ (z : A × B). SpellsFollowed f g bytes z) same (s.0, x.1, s.1, s.2, t.0),
-        subst (λ (z : A × B). f.rules z.0 × (g z.0).rules z.1) same (s.3, t.1))));
+      let same = done_is (x.0, y) p r in (
+        subst (λ (z : A × B). SpellsFollowed f g bytes z) same (s.0, x.1, s.1, s.2, t.0),
+        subst (λ (z : A × B). f.rules z.0 × (g z.0).rules z.1) same (s.3, t.1),
+      )));
   again = λ bytes p h r. rw (h.2, f.again h.0 h.1 p.0 h.3 r.0, (g p.0).again h.1 p.1 h.4 r.1) refl;
   told = λ bytes s small e. step_err (f.parse bytes) (λ x. (g x.0).parse x.1 >>= λ y. Ok (x.0, y)) s e (λ p. inl (f.told bytes s small p))
-      (λ x p h. inr (x.0, x.1, f.found bytes x.1 x.0 small p, (g x.0).told x.1 s (behind_small f bytes x.1 x.0 small p)
-        (step_err ((g x.0).parse x.1) (λ y. Ok (x.0, y)) s h (λ e. e) (λ y _ n. done_refused (x.0, y) s n))));
+      (λ x p h. inr (
+        x.0,
+        x.1,
+        f.found bytes x.1 x.0 small p,
+        (g x.0).told x.1 s (behind_small f bytes x.1 x.0 small p)
+            (step_err ((g x.0).parse x.1) (λ y. Ok (x.0, y)) s h (λ e. e) (λ y _ n. done_refused (x.0, y) s n)),
+      ));
   tells = λ bytes s h. elim h [
     | inl p ↦ rw (f.tells bytes s p) refl
     | inr p ↦ let stands = p.2 in rw (stands.1, f.again stands.0 p.1 p.0 stands.2 stands.3, (g p.0).tells p.1 s p.3) refl
@@ -124,8 +130,8 @@ followed {A} {B} f g = record {
       (λ x le. all_step (length x.1) (length bytes) ((g x.0).parse x.1) (λ y. (x.0, y)) le ((g x.0).within x.1));
   final = λ bytes more s small e k. step_err (f.parse bytes) (λ x. (g x.0).parse x.1 >>= λ y. Ok (x.0, y)) s e (λ p. rw (f.final bytes more s small p k) refl)
       (λ x p q. step_err ((g x.0).parse x.1) (λ y. Ok (x.0, y)) s q
-        (λ r. rw (parsed_final f bytes x.1 more x.0 small p, (g x.0).final x.1 more s (behind_small f bytes x.1 x.0 small p) r k) refl)
-        (λ y _ n. done_refused (x.0, y) s n));
+      (λ r. rw (parsed_final f bytes x.1 more x.0 small p, (g x.0).final x.1 more s (behind_small f bytes x.1 x.0 small p) r k) refl)
+      (λ y _ n. done_refused (x.0, y) s n));
 }
 
 -- ---- a u32 size, and contents that are all of so many bytes
@@ -167,8 +173,8 @@ module _ {A : Type 0} (f : Whole A) where
   window_told left n s small e = elim (cases_lt (length n.1) n.0) [
     | inl lt ↦ inl (lt, sym (refused_is {A = A × List ℕ} (stop SectionSize left) s (rw (lt-ltb (length n.1) n.0 lt) at e)))
     | inr le ↦ step_err (before (length n.1 - n.0) (f.parse (take n.0 n.1))) (λ x. Ok (x, drop n.0 n.1)) s (rw (le-ltb (length n.1) n.0 le) at e)
-      (λ p. let t = before_err (length n.1 - n.0) (f.parse (take n.0 n.1)) s p in inr (le, (t.0, f.told (take n.0 n.1) t.0 small t.1, t.2)))
-      (λ x _ q. done_refused (x, drop n.0 n.1) s q)
+        (λ p. let t = before_err (length n.1 - n.0) (f.parse (take n.0 n.1)) s p in inr (le, (t.0, f.told (take n.0 n.1) t.0 small t.1, t.2)))
+        (λ x _ q. done_refused (x, drop n.0 n.1) s q)
   ]
 
   window_tells : (left : ℕ) (n : ℕ × List ℕ) (s : Stop) → StopsWindow left n.0 n.1 s → window left n ≡ Err s
@@ -187,7 +193,7 @@ module _ {A : Type 0} (f : Whole A) where
         let all = ap length (take-append-drop n.0 n.1) in
         let rest = length-append (take n.0 n.1) (drop n.0 n.1) in
         inside_later (n.0 + (length n.1 - n.0)) m (before (length n.1 - n.0) (f.parse (take n.0 n.1)) >>= λ x. Ok (x, drop n.0 n.1)) (omega (arith, le, k))
-          (window_step n.0 (length n.1 - n.0) (drop n.0 n.1) (f.parse (take n.0 n.1)) (omega (arith, size, rest, all)) (subst (λ (k : ℕ). InsideAll k (f.parse (take n.0 n.1))) size (f.within (take n.0 n.1)))))
+        (window_step n.0 (length n.1 - n.0) (drop n.0 n.1) (f.parse (take n.0 n.1)) (omega (arith, size, rest, all)) (subst (λ (k : ℕ). InsideAll k (f.parse (take n.0 n.1))) size (f.within (take n.0 n.1)))))
   ]
 
   window_moved : (k more : ℕ) (later : List ℕ) (r : Result A Stop) (t s : Stop) → r ≡ Err t → s ≡ moved k t
@@ -199,13 +205,13 @@ module _ {A : Type 0} (f : Whole A) where
   window_final left n m s small e k = elim (cases_lt (length n.1) n.0) [
     | inl lt ↦ size_ends left s (sym (refused_is {A = A × List ℕ} (stop SectionSize left) s (rw (lt-ltb (length n.1) n.0 lt) at e))) k
     | inr le ↦ step_err (before (length n.1 - n.0) (f.parse (take n.0 n.1))) (λ x. Ok (x, drop n.0 n.1)) s (rw (le-ltb (length n.1) n.0 le) at e)
-      (λ p. let t = before_err (length n.1 - n.0) (f.parse (take n.0 n.1)) s p in
+        (λ p. let t = before_err (length n.1 - n.0) (f.parse (take n.0 n.1)) s p in
         let size = length-append n.1 m in
         let there : n.0 ≤ length (n.1 ++ m) = omega (arith, size, le) in
         let far : length (n.1 ++ m) - n.0 ≡ (length n.1 - n.0) + length m = omega (arith, size, le) in
         rw (le-ltb (length (n.1 ++ m)) n.0 there, take-append-le n.0 n.1 m le, far)
-          (window_moved (length n.1 - n.0) (length m) (drop n.0 (n.1 ++ m)) (f.parse (take n.0 n.1)) t.0 s t.1 t.2))
-      (λ x _ q. done_refused (x, drop n.0 n.1) s q)
+        (window_moved (length n.1 - n.0) (length m) (drop n.0 (n.1 ++ m)) (f.parse (take n.0 n.1)) t.0 s t.1 t.2))
+        (λ x _ q. done_refused (x, drop n.0 n.1) s q)
   ]
 
   abbrev pub SpellsSized : List ℕ → A → Type 0
@@ -223,22 +229,23 @@ module _ {A : Type 0} (f : Whole A) where
         let w = window_ok (length bytes) n (x, later) q in
         let parts : take n.0 n.1 ++ later ≡ n.1 = ap (λ (l : List ℕ). take n.0 n.1 ++ l) (sym w.2) ∙ take-append-drop n.0 n.1 in
         let inner : Small (take n.0 n.1) = front_small (take n.0 n.1) later (subst Small (sym parts) (behind_small u32 bytes n.1 n.0 small one)) in
-        let t = f.found (take n.0 n.1) x inner w.1 in
-        (s.0 ++ take n.0 n.1,
+        let t = f.found (take n.0 n.1) x inner w.1 in (
+          s.0 ++ take n.0 n.1,
           s.1 ∙ ap (λ (l : List ℕ). s.0 ++ l) (sym parts) ∙ sym (append_assoc s.0 (take n.0 n.1) later),
           (s.0, take n.0 n.1, refl, subst (λ (k : ℕ). Spells unsigned 32 s.0 k) (sym (length-take-le n.0 n.1 w.0)) s.2, t.0),
-          t.1));
+          t.1,
+        ));
     again = λ bytes more x h r.
         let there : length h.1 ≤ length (h.1 ++ more) = omega (arith, length-append h.1 more) in
         rw (h.2, append_assoc h.0 h.1 more, u32.again h.0 (h.1 ++ more) (length h.1) h.3 tt, le-ltb (length (h.1 ++ more)) (length h.1) there, take-append_seam h.1 more, drop-append_seam h.1 more, f.again h.1 x h.4 r) refl;
     told = λ bytes s small e. step_err (u32.parse bytes) (window (length bytes)) s e (λ p. inl (u32.told bytes s small p))
         (λ n p q. let behind = subst Small (sym (take-append-drop n.0 n.1)) (behind_small u32 bytes n.1 n.0 small p) in
-          inr (n.0, n.1, u32.found bytes n.1 n.0 small p, window_told (length bytes) n s (front_small (take n.0 n.1) (drop n.0 n.1) behind) q));
+        inr (n.0, n.1, u32.found bytes n.1 n.0 small p, window_told (length bytes) n s (front_small (take n.0 n.1) (drop n.0 n.1) behind) q));
     tells = λ bytes s h. elim h [
       | inl p ↦ rw (u32.tells bytes s p) refl
       | inr p ↦ let stands = p.2 in
-        let there : u32.parse bytes ≡ Ok (p.0, p.1) = rw stands.1 (u32.again stands.0 p.1 p.0 stands.2 stands.3) in
-        rw there (window_tells (length bytes) (p.0, p.1) s p.3)
+          let there : u32.parse bytes ≡ Ok (p.0, p.1) = rw stands.1 (u32.again stands.0 p.1 p.0 stands.2 stands.3) in
+          rw there (window_tells (length bytes) (p.0, p.1) s p.3)
     ];
     within = λ bytes. inside_wide (length bytes) (u32.parse bytes) (window (length bytes)) (u32.within bytes) (λ n le. window_inside (length bytes) (length bytes) n (omega arith) le);
     final = λ bytes more s small e k. step_err (u32.parse bytes) (window (length bytes)) s e (λ p. rw (u32.final bytes more s small p k) refl)
