@@ -4,5 +4,6 @@ pub mod Files
 pub mod Formats
 pub mod Joined
 pub mod Lists
+pub mod Parts
 pub mod Stops
 pub mod Wholes
