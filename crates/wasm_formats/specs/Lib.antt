@@ -3,6 +3,7 @@ pub mod Chosen
 pub mod Files
 pub mod Formats
 pub mod Joined
+pub mod Led
 pub mod Lists
 pub mod Parts
 pub mod Stops
