@@ -24,10 +24,10 @@ module _ {A S : Type 0} (next : S → A → S) (entry : S → Format A) (takes :
       × (0 < length later) × (entry (fold next s xs)).stops later e
 
   -- what is behind an entry is shorter
-  shorter : (s : S) (bytes : List ℕ) (x : A) (later : List ℕ) → Stands (entry s).spells (entry s).rules bytes later x → length later < length bytes
+  pub shorter : (s : S) (bytes : List ℕ) (x : A) (later : List ℕ) → Stands (entry s).spells (entry s).rules bytes later x → length later < length bytes
   shorter s bytes x later h = omega (arith, takes s h.0 x h.2, ap length h.1, length-append h.0 later)
 
-  all_found : (fuel : ℕ) (s : S) (bytes : List ℕ) (xs : List A) → Small bytes → parse_all fuel s bytes ≡ Ok xs → SpellsEntries next entry s bytes xs × EntryRules next entry s xs
+  pub all_found : (fuel : ℕ) (s : S) (bytes : List ℕ) (xs : List A) → Small bytes → parse_all fuel s bytes ≡ Ok xs → SpellsEntries next entry s bytes xs × EntryRules next entry s xs
   all_found fuel s [] xs small e = rw (← done_is [] xs e) (refl, tt)
   all_found zero s (b ∷ bytes) xs small e = absurd cc
   all_found (suc fuel) s (b ∷ bytes) xs small e = step_ok ((entry s).parse (b ∷ bytes)) _ xs e (λ x one q.
@@ -36,12 +36,12 @@ module _ {A S : Type 0} (next : S → A → S) (entry : S → Format A) (takes :
       let t = all_found fuel (next s x.0) x.1 ys (behind_small (entry s) (b ∷ bytes) x.1 x.0 small one) two in
       subst (λ (z : List A). SpellsEntries next entry s (b ∷ bytes) z × EntryRules next entry s z) (done_is (x.0 ∷ ys) xs r) ((f.0, x.1, f.1, f.2, t.0), (f.3, t.1))))
 
-  all_next : (fuel : ℕ) (s : S) (front later : List ℕ) (x : A) (r : Result (List A) Stop) → 0 < length front → (entry s).parse (front ++ later) ≡ Ok (x, later)
+  pub all_next : (fuel : ℕ) (s : S) (front later : List ℕ) (x : A) (r : Result (List A) Stop) → 0 < length front → (entry s).parse (front ++ later) ≡ Ok (x, later)
       → parse_all fuel (next s x) later ≡ r → parse_all (suc fuel) s (front ++ later) ≡ (r >>= λ xs. Ok (x ∷ xs))
   all_next fuel s [] later x r some e f = absurd (omega (arith, some))
   all_next fuel s (b ∷ front) later x r some e f = rw (e, f) refl
 
-  all_again : (xs : List A) (fuel : ℕ) (s : S) (bytes : List ℕ) → length bytes ≤ fuel → SpellsEntries next entry s bytes xs → EntryRules next entry s xs → parse_all fuel s bytes ≡ Ok xs
+  pub all_again : (xs : List A) (fuel : ℕ) (s : S) (bytes : List ℕ) → length bytes ≤ fuel → SpellsEntries next entry s bytes xs → EntryRules next entry s xs → parse_all fuel s bytes ≡ Ok xs
   all_again [] fuel s bytes le h r = rw h refl
   all_again (x ∷ xs) zero s bytes le h r = absurd (omega (arith, le, takes s h.0 x h.3, ap length h.2, length-append h.0 h.1))
   all_again (x ∷ xs) (suc fuel) s bytes le h r =
@@ -49,7 +49,7 @@ module _ {A S : Type 0} (next : S → A → S) (entry : S → Format A) (takes :
       rw h.2 (all_next fuel s h.0 h.1 x (Ok xs) some ((entry s).again h.0 h.1 x h.3 r.0)
       (all_again xs fuel (next s x) h.1 (omega (arith, le, some, ap length h.2, length-append h.0 h.1)) h.4 r.1))
 
-  all_told : (fuel : ℕ) (s : S) (bytes : List ℕ) (e : Stop) → length bytes ≤ fuel → Small bytes → parse_all fuel s bytes ≡ Err e → StopsAmong s bytes e
+  pub all_told : (fuel : ℕ) (s : S) (bytes : List ℕ) (e : Stop) → length bytes ≤ fuel → Small bytes → parse_all fuel s bytes ≡ Err e → StopsAmong s bytes e
   all_told fuel s [] e le small h = done_refused [] e h
   all_told zero s (b ∷ bytes) e le small h = absurd (omega (arith, le))
   all_told (suc fuel) s (b ∷ bytes) e le small h = step_err ((entry s).parse (b ∷ bytes)) _ e h
@@ -60,11 +60,11 @@ module _ {A S : Type 0} (next : S → A → S) (entry : S → Format A) (takes :
       (x.0 ∷ t.0, f.0 ++ t.1, t.2, f.1 ∙ ap (λ (l : List ℕ). f.0 ++ l) t.3 ∙ sym (append_assoc f.0 t.1 t.2), (f.0, t.1, refl, f.2, t.4), (f.3, t.5), t.6, t.7))
       (λ xs _ n. done_refused (x.0 ∷ xs) e n))
 
-  all_first : (fuel : ℕ) (s : S) (later : List ℕ) (e : Stop) → 0 < length later → (entry s).parse later ≡ Err e → parse_all (suc fuel) s later ≡ Err e
+  pub all_first : (fuel : ℕ) (s : S) (later : List ℕ) (e : Stop) → 0 < length later → (entry s).parse later ≡ Err e → parse_all (suc fuel) s later ≡ Err e
   all_first fuel s [] e some h = absurd (omega (arith, some))
   all_first fuel s (b ∷ later) e some h = rw h refl
 
-  all_tells : (xs : List A) (fuel : ℕ) (s : S) (front later : List ℕ) (e : Stop) → length (front ++ later) ≤ fuel → SpellsEntries next entry s front xs → EntryRules next entry s xs
+  pub all_tells : (xs : List A) (fuel : ℕ) (s : S) (front later : List ℕ) (e : Stop) → length (front ++ later) ≤ fuel → SpellsEntries next entry s front xs → EntryRules next entry s xs
       → 0 < length later → (entry (fold next s xs)).stops later e → parse_all fuel s (front ++ later) ≡ Err e
   all_tells [] zero s front later e le h r some t = absurd (omega (arith, le, some, length-append front later))
   all_tells [] (suc fuel) s front later e le h r some t = rw h (all_first fuel s later e some ((entry s).tells later e t))
@@ -75,7 +75,7 @@ module _ {A S : Type 0} (next : S → A → S) (entry : S → Format A) (takes :
       rw (h.2, append_assoc h.0 h.1 later) (all_next fuel s h.0 (h.1 ++ later) x (Err e) takes ((entry s).again h.0 (h.1 ++ later) x h.3 r.0)
       (all_tells xs fuel (next s x) h.1 later e (omega (arith, le, takes, whole)) h.4 r.1 some t))
 
-  all_within : (fuel : ℕ) (s : S) (bytes : List ℕ) → InsideAll (length bytes) (parse_all fuel s bytes)
+  pub all_within : (fuel : ℕ) (s : S) (bytes : List ℕ) → InsideAll (length bytes) (parse_all fuel s bytes)
   all_within fuel s [] = tt
   all_within zero s (b ∷ bytes) = omega arith
   all_within (suc fuel) s (b ∷ bytes) = go (length (b ∷ bytes)) ((entry s).parse (b ∷ bytes)) ((entry s).within (b ∷ bytes)) (λ x. all_within fuel (next s x.0) x.1)
@@ -84,7 +84,7 @@ module _ {A S : Type 0} (next : S → A → S) (entry : S → Format A) (takes :
       go n (Ok x) h k = all_step (length x.1) n (parse_all fuel (next s x.0) x.1) (λ xs. x.0 ∷ xs) h (k x)
       go n (Err e) h k = h
 
-  all_final : (fuel wide : ℕ) (s : S) (bytes more : List ℕ) (e : Stop) → fuel ≤ wide → Small bytes → parse_all fuel s bytes ≡ Err e → can_end e.trouble ≡ false
+  pub all_final : (fuel wide : ℕ) (s : S) (bytes more : List ℕ) (e : Stop) → fuel ≤ wide → Small bytes → parse_all fuel s bytes ≡ Err e → can_end e.trouble ≡ false
       → parse_all wide s (bytes ++ more) ≡ Err (moved (length more) e)
   all_final fuel wide s [] more e le small h k = done_refused [] e h
   all_final zero wide s (b ∷ bytes) more e le small h k = count_ends 0 e (sym (refused_is {A = List A} (stop Count 0) e h)) k
@@ -96,7 +96,7 @@ module _ {A S : Type 0} (next : S → A → S) (entry : S → Format A) (takes :
       rw (first, all_final fuel wide (next s x.0) x.1 more e (omega (arith, le)) (behind_small (entry s) (b ∷ bytes) x.1 x.0 small p) r k) refl)
       (λ xs _ n. done_refused (x.0 ∷ xs) e n))
 
-  pub entries : S → Whole (List A)
+  abbrev pub entries : S → Whole (List A)
   entries s = record {
     spells = SpellsEntries next entry s;
     rules = EntryRules next entry s;

@@ -6,6 +6,10 @@ use Rattle.wasm_reader.specs.Vecs.{later_bytes}
 use Rattle.wasm_formats.specs.Stops.{Stop, moved, can_end, Parsing, ◌>>=◌}
 use Rattle.wasm_formats.specs.Formats.{Format, Small, Stands, Inside, done_is, done_refused, refused, step_ok, step_err, inside_step, inside_later}
 
+-- the bytes don't begin with it
+abbrev pub IsOther : ℕ → List ℕ → Type 0
+IsOther b bytes = (later : List ℕ) → bytes ≡ b ∷ later → ⊥
+
 module _ {A B : Type 0} (b : ℕ) (f : Format A) (g : Format B) (apart : (later : List ℕ) (y : B) → g.spells (b ∷ later) y → ⊥) (some : (y : B) → g.spells [] y → ⊥) where
   -- the byte and then the one form, or the other form
   abbrev pub SpellsLed : List ℕ → A ⊎ B → Type 0
@@ -26,29 +30,25 @@ module _ {A B : Type 0} (b : ℕ) (f : Format A) (g : Format B) (apart : (later 
   parse_led [] = g.parse [] >>= other_by
   parse_led (c ∷ bytes) = if c == b then (f.parse bytes >>= led_by) else (g.parse (c ∷ bytes) >>= other_by)
 
-  -- the bytes don't begin with it
-  abbrev pub IsOther : List ℕ → Type 0
-  IsOther bytes = (later : List ℕ) → bytes ≡ b ∷ later → ⊥
-
   abbrev pub StopsLed : List ℕ → Stop → Type 0
-  StopsLed bytes s = ((later : List ℕ) × (bytes ≡ b ∷ later) × f.stops later s) ⊎ (IsOther bytes × g.stops bytes s)
+  StopsLed bytes s = ((later : List ℕ) × (bytes ≡ b ∷ later) × f.stops later s) ⊎ (IsOther b bytes × g.stops bytes s)
 
-  other_none : IsOther []
+  pub other_none : IsOther b []
   other_none later e = absurd cc
 
-  head_is : (c d : ℕ) (bytes later : List ℕ) → c ∷ bytes ≡ d ∷ later → c ≡ d
+  pub head_is : (c d : ℕ) (bytes later : List ℕ) → c ∷ bytes ≡ d ∷ later → c ≡ d
   head_is c d bytes later e = cc
 
-  tail_is : (c d : ℕ) (bytes later : List ℕ) → c ∷ bytes ≡ d ∷ later → bytes ≡ later
+  pub tail_is : (c d : ℕ) (bytes later : List ℕ) → c ∷ bytes ≡ d ∷ later → bytes ≡ later
   tail_is c d bytes later e = cc
 
-  other_byte : (c : ℕ) (bytes : List ℕ) → (c == b) ≡ false → IsOther (c ∷ bytes)
+  pub other_byte : (c : ℕ) (bytes : List ℕ) → (c == b) ≡ false → IsOther b (c ∷ bytes)
   other_byte c bytes apart_is later e = let same_is = eq-eqb c b (head_is c b bytes later e) in let clash : true ≡ false = sym same_is ∙ apart_is in absurd cc
 
-  there : (c : ℕ) (bytes : List ℕ) → (c == b) ≡ true → parse_led (c ∷ bytes) ≡ (f.parse bytes >>= led_by)
+  pub there : (c : ℕ) (bytes : List ℕ) → (c == b) ≡ true → parse_led (c ∷ bytes) ≡ (f.parse bytes >>= led_by)
   there c bytes is = rw is refl
 
-  not_there : (bytes : List ℕ) → IsOther bytes → parse_led bytes ≡ (g.parse bytes >>= other_by)
+  pub not_there : (bytes : List ℕ) → IsOther b bytes → parse_led bytes ≡ (g.parse bytes >>= other_by)
   not_there [] other = refl
   not_there (c ∷ bytes) other = elim (cases_Bool (c == b)) [
     | inl is ↦ absurd (other bytes (ap (λ (n : ℕ). n ∷ bytes) (eqb-true c b is)))
@@ -56,10 +56,10 @@ module _ {A B : Type 0} (b : ℕ) (f : Format A) (g : Format B) (apart : (later 
   ]
 
   -- what a spelled value of the other form begins with
-  other_spelled : (bytes : List ℕ) (y : B) → g.spells bytes y → IsOther bytes
+  pub other_spelled : (bytes : List ℕ) (y : B) → g.spells bytes y → IsOther b bytes
   other_spelled bytes y h later e = apart later y (subst (λ (l : List ℕ). g.spells l y) e h)
 
-  led_found : (bytes later : List ℕ) (x : A ⊎ B) → Small bytes → parse_led bytes ≡ Ok (x, later) → Stands SpellsLed LedRules bytes later x
+  pub led_found : (bytes later : List ℕ) (x : A ⊎ B) → Small bytes → parse_led bytes ≡ Ok (x, later) → Stands SpellsLed LedRules bytes later x
   led_found bytes later x small e = go bytes small e
     where
       by_other : (bytes : List ℕ) → Small bytes → (g.parse bytes >>= other_by) ≡ Ok (x, later) → Stands SpellsLed LedRules bytes later x
@@ -77,14 +77,14 @@ module _ {A B : Type 0} (b : ℕ) (f : Format A) (g : Format B) (apart : (later 
         | inr apart_is ↦ by_other (c ∷ bytes) small (sym (not_there (c ∷ bytes) (other_byte c bytes apart_is)) ∙ e)
       ]
 
-  led_again : (bytes more : List ℕ) (x : A ⊎ B) → SpellsLed bytes x → LedRules x → parse_led (bytes ++ more) ≡ Ok (x, more)
+  pub led_again : (bytes more : List ℕ) (x : A ⊎ B) → SpellsLed bytes x → LedRules x → parse_led (bytes ++ more) ≡ Ok (x, more)
   led_again bytes more (inl x) h r = rw h.1 (there b (h.0 ++ more) (eq-eqb b b refl) ∙ rw (f.again h.0 more x h.2 r) refl)
   led_again [] more (inr y) h r = absurd (some y h)
   led_again (c ∷ bytes) more (inr y) h r =
       not_there (c ∷ (bytes ++ more)) (λ later e. other_spelled (c ∷ bytes) y h bytes (ap (λ (n : ℕ). n ∷ bytes) (head_is c b (bytes ++ more) later e)))
       ∙ (let read : g.parse (c ∷ (bytes ++ more)) ≡ Ok (y, more) = g.again (c ∷ bytes) more y h r in rw read refl)
 
-  led_told : (bytes : List ℕ) (s : Stop) → Small bytes → parse_led bytes ≡ Err s → StopsLed bytes s
+  pub led_told : (bytes : List ℕ) (s : Stop) → Small bytes → parse_led bytes ≡ Err s → StopsLed bytes s
   led_told [] s small e = step_err (g.parse []) other_by s e (λ p. inr (other_none, g.told [] s small p)) (λ y p q. done_refused (inr y.0, y.1) s q)
   led_told (c ∷ bytes) s small e = elim (cases_Bool (c == b)) [
     | inl is ↦ step_err (f.parse bytes) led_by s (sym (there c bytes is) ∙ e)
@@ -94,11 +94,11 @@ module _ {A B : Type 0} (b : ℕ) (f : Format A) (g : Format B) (apart : (later 
         step_err (g.parse (c ∷ bytes)) other_by s (sym (not_there (c ∷ bytes) other) ∙ e) (λ p. inr (other, g.told (c ∷ bytes) s small p)) (λ y p q. done_refused (inr y.0, y.1) s q)
   ]
 
-  led_tells : (bytes : List ℕ) (s : Stop) → StopsLed bytes s → parse_led bytes ≡ Err s
+  pub led_tells : (bytes : List ℕ) (s : Stop) → StopsLed bytes s → parse_led bytes ≡ Err s
   led_tells bytes s (inl h) = rw h.1 (there b h.0 (eq-eqb b b refl) ∙ rw (f.tells h.0 s h.2) refl)
   led_tells bytes s (inr h) = not_there bytes h.0 ∙ rw (g.tells bytes s h.1) refl
 
-  led_within : (bytes : List ℕ) → Inside (length bytes) (parse_led bytes)
+  pub led_within : (bytes : List ℕ) → Inside (length bytes) (parse_led bytes)
   led_within [] = inside_step 0 (g.parse []) other_by (g.within []) (λ y. omega arith)
   led_within (c ∷ bytes) = elim (cases_Bool (c == b)) [
     | inl is ↦ rw (there c bytes is) (inside_later (length bytes) (length (c ∷ bytes)) (f.parse bytes >>= led_by) (omega arith) (inside_step (length bytes) (f.parse bytes) led_by (f.within bytes) (λ x. omega arith)))
@@ -106,7 +106,7 @@ module _ {A B : Type 0} (b : ℕ) (f : Format A) (g : Format B) (apart : (later 
   ]
 
   -- where no byte is there the other form is refused for want of one
-  led_final : ((s : Stop) → g.parse [] ≡ Err s → can_end s.trouble ≡ true) → (bytes more : List ℕ) (s : Stop) → Small bytes → parse_led bytes ≡ Err s → can_end s.trouble ≡ false
+  pub led_final : ((s : Stop) → g.parse [] ≡ Err s → can_end s.trouble ≡ true) → (bytes more : List ℕ) (s : Stop) → Small bytes → parse_led bytes ≡ Err s → can_end s.trouble ≡ false
       → parse_led (bytes ++ more) ≡ Err (moved (length more) s)
   led_final wants [] more s small e k = step_err (g.parse []) other_by s e (λ p. let clash : true ≡ false = sym (wants s p) ∙ k in absurd cc) (λ y p q. done_refused (inr y.0, y.1) s q)
   led_final wants (c ∷ bytes) more s small e k = elim (cases_Bool (c == b)) [
@@ -118,7 +118,7 @@ module _ {A B : Type 0} (b : ℕ) (f : Format A) (g : Format B) (apart : (later 
         (λ y p q. done_refused (inr y.0, y.1) s q)
   ]
 
-  pub led : ((s : Stop) → g.parse [] ≡ Err s → can_end s.trouble ≡ true) → Format (A ⊎ B)
+  abbrev pub led : ((s : Stop) → g.parse [] ≡ Err s → can_end s.trouble ≡ true) → Format (A ⊎ B)
   led wants = record {
     spells = SpellsLed;
     rules = LedRules;

@@ -8,3 +8,4 @@ pub mod Lists
 pub mod Parts
 pub mod Stops
 pub mod Wholes
+pub mod Until

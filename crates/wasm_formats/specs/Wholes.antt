@@ -17,7 +17,7 @@ use Rattle.wasm_formats.specs.Joined.{Behind}
 abbrev pub filled : {A : Type 0} → A × List ℕ → Result A Stop
 filled x = if length x.1 == 0 then Ok x.0 else Err (stop SectionSize (length x.1))
 
-no_bytes : (l : List ℕ) → length l ≡ 0 → l ≡ []
+pub no_bytes : (l : List ℕ) → length l ≡ 0 → l ≡ []
 no_bytes [] e = refl
 no_bytes (b ∷ l) e = absurd (omega (arith, e))
 
@@ -146,16 +146,16 @@ module _ {A : Type 0} (f : Whole A) where
       if nat_lt (length n.1) n.0 then Err (stop SectionSize left)
       else (before (length n.1 - n.0) (f.parse (take n.0 n.1)) >>= λ x. Ok (x, drop n.0 n.1))
 
-  before_ok : (more : ℕ) (r : Result A Stop) (x : A) → before more r ≡ Ok x → r ≡ Ok x
+  pub before_ok : (more : ℕ) (r : Result A Stop) (x : A) → before more r ≡ Ok x → r ≡ Ok x
   before_ok more (Ok x) y e = cc
   before_ok more (Err d) y e = absurd cc
 
   -- what is refused in the contents
-  before_err : (more : ℕ) (r : Result A Stop) (s : Stop) → before more r ≡ Err s → (t : Stop) × (r ≡ Err t) × (s ≡ moved more t)
+  pub before_err : (more : ℕ) (r : Result A Stop) (s : Stop) → before more r ≡ Err s → (t : Stop) × (r ≡ Err t) × (s ≡ moved more t)
   before_err more (Ok x) s e = absurd cc
   before_err more (Err d) s e = (d, refl, sym (refused_is {A = A} (moved more d) s e))
 
-  window_ok : (left : ℕ) (n : ℕ × List ℕ) (y : A × List ℕ) → window left n ≡ Ok y → (n.0 ≤ length n.1) × (f.parse (take n.0 n.1) ≡ Ok y.0) × (drop n.0 n.1 ≡ y.1)
+  pub window_ok : (left : ℕ) (n : ℕ × List ℕ) (y : A × List ℕ) → window left n ≡ Ok y → (n.0 ≤ length n.1) × (f.parse (take n.0 n.1) ≡ Ok y.0) × (drop n.0 n.1 ≡ y.1)
   window_ok left n y e = elim (cases_lt (length n.1) n.0) [
     | inl lt ↦ let e = (rw (lt-ltb (length n.1) n.0 lt) at e) in absurd cc
     | inr le ↦ step_ok (before (length n.1 - n.0) (f.parse (take n.0 n.1))) (λ x. Ok (x, drop n.0 n.1)) y (rw (le-ltb (length n.1) n.0 le) at e) (λ x p q.
@@ -169,7 +169,7 @@ module _ {A : Type 0} (f : Whole A) where
       ((length bytes < n) × (s ≡ stop SectionSize left))
       ⊎ ((n ≤ length bytes) × ((t : Stop) × f.stops (take n bytes) t × (s ≡ moved (length bytes - n) t)))
 
-  window_told : (left : ℕ) (n : ℕ × List ℕ) (s : Stop) → Small (take n.0 n.1) → window left n ≡ Err s → StopsWindow left n.0 n.1 s
+  pub window_told : (left : ℕ) (n : ℕ × List ℕ) (s : Stop) → Small (take n.0 n.1) → window left n ≡ Err s → StopsWindow left n.0 n.1 s
   window_told left n s small e = elim (cases_lt (length n.1) n.0) [
     | inl lt ↦ inl (lt, sym (refused_is {A = A × List ℕ} (stop SectionSize left) s (rw (lt-ltb (length n.1) n.0 lt) at e)))
     | inr le ↦ step_err (before (length n.1 - n.0) (f.parse (take n.0 n.1))) (λ x. Ok (x, drop n.0 n.1)) s (rw (le-ltb (length n.1) n.0 le) at e)
@@ -177,15 +177,15 @@ module _ {A : Type 0} (f : Whole A) where
         (λ x _ q. done_refused (x, drop n.0 n.1) s q)
   ]
 
-  window_tells : (left : ℕ) (n : ℕ × List ℕ) (s : Stop) → StopsWindow left n.0 n.1 s → window left n ≡ Err s
+  pub window_tells : (left : ℕ) (n : ℕ × List ℕ) (s : Stop) → StopsWindow left n.0 n.1 s → window left n ≡ Err s
   window_tells left n s (inl h) = rw (lt-ltb (length n.1) n.0 h.0, h.1) refl
   window_tells left n s (inr h) = let t = h.1 in rw (le-ltb (length n.1) n.0 h.0, f.tells (take n.0 n.1) t.0 t.1, t.2) refl
 
-  window_step : (n k : ℕ) (later : List ℕ) (r : Result A Stop) → length later ≤ n + k → InsideAll n r → Inside (n + k) (before k r >>= λ x. Ok (x, later))
+  pub window_step : (n k : ℕ) (later : List ℕ) (r : Result A Stop) → length later ≤ n + k → InsideAll n r → Inside (n + k) (before k r >>= λ x. Ok (x, later))
   window_step n k later (Ok x) le h = le
   window_step n k later (Err s) le h = omega (arith, h)
 
-  window_inside : (left m : ℕ) (n : ℕ × List ℕ) → left ≤ m → length n.1 ≤ m → Inside m (window left n)
+  pub window_inside : (left m : ℕ) (n : ℕ × List ℕ) → left ≤ m → length n.1 ≤ m → Inside m (window left n)
   window_inside left m n h k = elim (cases_lt (length n.1) n.0) as (λ _. Inside m (window left n)) [
     | inl lt ↦ rw (lt-ltb (length n.1) n.0 lt) h
     | inr le ↦ rw (le-ltb (length n.1) n.0 le)
@@ -196,12 +196,12 @@ module _ {A : Type 0} (f : Whole A) where
         (window_step n.0 (length n.1 - n.0) (drop n.0 n.1) (f.parse (take n.0 n.1)) (omega (arith, size, rest, all)) (subst (λ (k : ℕ). InsideAll k (f.parse (take n.0 n.1))) size (f.within (take n.0 n.1)))))
   ]
 
-  window_moved : (k more : ℕ) (later : List ℕ) (r : Result A Stop) (t s : Stop) → r ≡ Err t → s ≡ moved k t
+  pub window_moved : (k more : ℕ) (later : List ℕ) (r : Result A Stop) (t s : Stop) → r ≡ Err t → s ≡ moved k t
       → (let put : A → Parsing A = λ x. Ok (x, later) in (before (k + more) r >>= put) ≡ Err (moved more s))
   window_moved k more later r t s e h = rw (e, h) (ap (λ (n : ℕ). refused (stop t.trouble n)) (omega arith))
 
   -- bytes behind the window don't change what is refused in it
-  window_final : (left : ℕ) (n : ℕ × List ℕ) (m : List ℕ) (s : Stop) → Small n.1 → window left n ≡ Err s → can_end s.trouble ≡ false → window (left + length m) (n.0, n.1 ++ m) ≡ Err (moved (length m) s)
+  pub window_final : (left : ℕ) (n : ℕ × List ℕ) (m : List ℕ) (s : Stop) → Small n.1 → window left n ≡ Err s → can_end s.trouble ≡ false → window (left + length m) (n.0, n.1 ++ m) ≡ Err (moved (length m) s)
   window_final left n m s small e k = elim (cases_lt (length n.1) n.0) [
     | inl lt ↦ size_ends left s (sym (refused_is {A = A × List ℕ} (stop SectionSize left) s (rw (lt-ltb (length n.1) n.0 lt) at e))) k
     | inr le ↦ step_err (before (length n.1 - n.0) (f.parse (take n.0 n.1))) (λ x. Ok (x, drop n.0 n.1)) s (rw (le-ltb (length n.1) n.0 le) at e)
@@ -217,7 +217,7 @@ module _ {A : Type 0} (f : Whole A) where
   abbrev pub SpellsSized : List ℕ → A → Type 0
   SpellsSized bytes x = (size contents : List ℕ) × (bytes ≡ size ++ contents) × Spells unsigned 32 size (length contents) × f.spells contents x
 
-  pub sized : Format A
+  abbrev pub sized : Format A
   sized = record {
     spells = SpellsSized;
     rules = f.rules;
