@@ -1,1 +1,3 @@
+pub mod Modules
 pub mod TypeWords
+pub mod Values
