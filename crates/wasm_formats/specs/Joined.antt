@@ -60,6 +60,21 @@ checked {A} f test = record {
       (fails_final (test x.0) (length bytes) (length more) (x.0, x.1 ++ more) s (tested_err (test x.0) (length bytes) x s q)));
 }
 
+-- the same where what fails the test isn't spelled at all
+abbrev pub only : {A : Type 0} → Format A → (A → Option Trouble) → Format A
+only {A} f test = record {
+  spells = λ bytes x. f.spells bytes x × (test x ≡ None);
+  rules = f.rules;
+  stops = (checked f test).stops;
+  parse = (checked f test).parse;
+  found = λ bytes later x small e. let s = (checked f test).found bytes later x small e in (s.0, s.1, (s.2, s.3.1), s.3.0);
+  again = λ bytes more x h r. (checked f test).again bytes more x h.0 (r, h.1);
+  told = (checked f test).told;
+  tells = (checked f test).tells;
+  within = (checked f test).within;
+  final = (checked f test).final;
+}
+
 -- ---- one value, then another, whose rules may speak of the first
 
 abbrev pub SpellsAfter : {A B : Type 0} (f : Format A) (g : A → Format B) → List ℕ → A × B → Type 0
