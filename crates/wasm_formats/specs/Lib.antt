@@ -1,0 +1,11 @@
+pub mod Bytes
+pub mod Chosen
+pub mod Files
+pub mod Formats
+pub mod Joined
+pub mod Led
+pub mod Lists
+pub mod Parts
+pub mod Stops
+pub mod Wholes
+pub mod Until

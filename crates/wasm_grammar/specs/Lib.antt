@@ -1,0 +1,4 @@
+pub mod Exprs
+pub mod Modules
+pub mod TypeWords
+pub mod Values

@@ -1,0 +1,13 @@
+//! What may follow an operator's code (Core Specification, binary format: instructions): immediates, item by item.
+#![tactic(auto)]
+
+mod block_type;
+mod clause;
+pub mod laws;
+mod memory_access;
+mod small;
+
+pub use block_type::BlockType;
+pub use clause::Clause;
+pub use memory_access::MemoryAccess;
+pub use small::{read_below, read_zero};
