@@ -1,4 +1,5 @@
 pub mod Exprs
 pub mod Modules
+pub mod States
 pub mod TypeWords
 pub mod Values
