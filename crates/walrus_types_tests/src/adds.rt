@@ -1,72 +1,84 @@
 // Adds answer an equal live type where there is one.
+use crate::steps::{Step, immutable, take};
+use std::alloc::{AllocError, Global};
 use std::test::Fail;
 use walrus_arena::LocalId;
 use walrus_types::{
-    AbstractHeapType, ArrayType, CompositeType, FieldType, HeapType, Local, ModuleLocals,
-    ModuleTypes, RefType, StorageType, ValType,
+    AbstractHeapType, FieldType, HeapType, IrError, Local, ModuleLocals, ModuleTypes, RefType,
+    StorageType, ValType,
 };
 
+// The ids that adding the types answers, in turn.
+fn answers(alloc: Global, steps: &[Step], wanted: &[usize]) -> Result<bool, IrError> {
+    let mut types = ModuleTypes::new(alloc);
+    let mut agree = steps.len() == wanted.len();
+    for (step, index) in steps.iter().zip(wanted) {
+        agree &= match take(alloc, &mut types, step)? {
+            Some(id) => id.index() == *index && types.contains(id),
+            None => false,
+        };
+    }
+    Ok(agree)
+}
+
+fn bytes() -> FieldType {
+    immutable(StorageType::I8)
+}
+
 #[test]
-fn functions(rt: HostRuntime) -> Result<(), Fail> {
+fn equal_types_are_merged(rt: HostRuntime) -> Result<(), Fail> {
+    let functions = [
+        Step::Param(ValType::I64),
+        Step::Gives(ValType::I64),
+        Step::Param(ValType::I64),
+    ];
+    assert!(rt; answers(rt.alloc(), &functions, &[0, 1, 0])?);
+    let other_forms = [
+        Step::Struct,
+        Step::Array(bytes()),
+        Step::Final(bytes()),
+        Step::Open(bytes()),
+    ];
+    assert!(rt; answers(rt.alloc(), &other_forms, &[0, 1, 1, 2])?);
+    let entries = [Step::Entry(None), Step::Function, Step::Entry(None)];
+    assert!(rt; answers(rt.alloc(), &entries, &[0, 1, 0])?);
+    Ok(())
+}
+
+#[test]
+fn finds(rt: HostRuntime) -> Result<(), Fail> {
     let mut types = ModuleTypes::new(rt.alloc());
-    let a = types.add(&[ValType::I64], &[])?;
-    let b = types.add(&[], &[ValType::I64])?;
-    let c = types.add(&[ValType::I64], &[])?;
-    assert_eq!(rt; (a.index(), b.index(), c.index()), (0, 1, 0));
-    assert_eq!(rt; types.find(&[], &[ValType::I64]), Some(b));
+    let id = types.add(&[], &[ValType::I64])?;
+    assert_eq!(rt; types.find(&[], &[ValType::I64]), Some(id));
     assert!(rt; types.find(&[], &[]).is_none());
     Ok(())
 }
 
-fn bytes() -> FieldType {
-    FieldType {
-        element_type: StorageType::I8,
-        mutable: false,
-    }
+// Adds the type and that of its body's own block, and says whether these are their ids.
+fn adds_both(
+    types: &mut ModuleTypes,
+    param: ValType,
+    given: ValType,
+    wanted: (usize, usize),
+) -> Result<bool, AllocError> {
+    let (ty, entry) = types.add_with_entry_ty(&[param], &[given])?;
+    Ok((ty.index(), entry.index()) == wanted)
 }
 
-fn array() -> CompositeType {
-    CompositeType::Array(ArrayType { field: bytes() })
-}
-
-#[test]
-fn other_forms(rt: HostRuntime) -> Result<(), Fail> {
-    let mut types = ModuleTypes::new(rt.alloc());
-    let a = types.add_struct(Vec::new(rt.alloc()))?;
-    let b = types.add_array(bytes())?;
-    let c = types.add_composite(array(), true, None)?;
-    let d = types.add_composite(array(), false, None)?;
-    assert_eq!(rt; (a.index(), b.index(), c.index(), d.index()), (0, 1, 1, 2));
-    for id in [a, b, c, d] {
-        assert!(rt; types.contains(id));
-    }
-    Ok(())
-}
-
-#[test]
-fn entry_types(rt: HostRuntime) -> Result<(), Fail> {
-    let mut types = ModuleTypes::new(rt.alloc());
-    let a = types.add_entry_ty(&[])?;
-    let b = types.add(&[], &[])?;
-    let c = types.add_entry_ty(&[])?;
-    assert_eq!(rt; (a.index(), b.index(), c.index()), (0, 1, 0));
-    Ok(())
-}
-
+// The first type is there before; then the entry type of the second is, and then both are.
 #[test]
 fn types_with_their_entry_types(rt: HostRuntime) -> Result<(), Fail> {
     let mut types = ModuleTypes::new(rt.alloc());
-    let (a, entry) = types.add_with_entry_ty(&[ValType::I32], &[ValType::I64])?;
-    assert_eq!(rt; (a.index(), entry.index()), (0, 1));
-    assert_eq!(rt; types.add(&[ValType::I32], &[ValType::I64])?, a);
-    assert_eq!(rt; types.add_entry_ty(&[ValType::I64])?, entry);
-    let (b, same) = types.add_with_entry_ty(&[], &[ValType::I64])?;
-    assert_eq!(rt; (b.index(), same.index()), (2, 1));
-    let (again, other) = types.add_with_entry_ty(&[], &[ValType::I64])?;
-    assert_eq!(rt; (again, other), (b, entry));
-    let c = types.add(&[ValType::F32], &[])?;
-    let (found, new) = types.add_with_entry_ty(&[ValType::F32], &[])?;
-    assert_eq!(rt; (found, new.index()), (c, 4));
+    let first = types.add(&[ValType::F64], &[ValType::F32])?;
+    assert_eq!(rt; first.index(), 0);
+    for (param, result, ids) in [
+        (ValType::F64, ValType::F32, (0, 1)),
+        (ValType::I32, ValType::F32, (2, 1)),
+        (ValType::I32, ValType::F32, (2, 1)),
+        (ValType::I32, ValType::I64, (3, 4)),
+    ] {
+        assert!(rt; adds_both(&mut types, param, result, ids)?);
+    }
     Ok(())
 }
 
@@ -80,14 +92,17 @@ fn locals(rt: HostRuntime) -> Result<(), Fail> {
     Ok(())
 }
 
+fn is_copy(copy: &Local) -> bool {
+    copy.id().index() == 3
+        && copy.ty() == ValType::F64
+        && matches!(&copy.name, Some(name) if name.as_str() == "x")
+}
+
 #[test]
 fn copies_of_locals(rt: HostRuntime) -> Result<(), Fail> {
     let mut local = Local::new(LocalId::from_index(3), ValType::F64);
     local.name = Some(String::from_str(rt.alloc(), "x")?);
-    let copy = local.clone()?;
-    assert_eq!(rt; copy.id().index(), 3);
-    assert!(rt; copy.ty() == ValType::F64);
-    assert!(rt; matches!(&copy.name, Some(name) if name.as_str() == "x"));
+    assert!(rt; is_copy(&local.clone()?));
     Ok(())
 }
 

@@ -4,7 +4,7 @@ use std::test::Fail;
 use walrus_arena::TypeId;
 use walrus_types::{
     ArrayType, CompositeRecord, CompositeType, FieldRecord, FieldType, FunctionType, ModuleTypes,
-    StorageRecord, StorageType, StructType, TypeRecord, ValRecord, ValType,
+    StorageRecord, StorageType, StructType, Type, TypeRecord, ValRecord, ValType,
 };
 
 // From two parameters to one result.
@@ -53,42 +53,61 @@ fn of_a_structure_type(rt: HostRuntime) -> Result<(), Fail> {
     Ok(())
 }
 
+fn is_function_form(form: &CompositeType) -> bool {
+    matches!(form, CompositeType::Function(ty) if is_function(ty))
+}
+
+fn is_structure_form(form: &CompositeType) -> bool {
+    matches!(form, CompositeType::Struct(ty) if is_structure(ty))
+}
+
+fn is_array_form(form: &CompositeType, field: FieldType) -> bool {
+    matches!(form, CompositeType::Array(ty) if ty.field == field)
+}
+
 #[test]
 fn of_the_form_of_a_function(rt: HostRuntime) -> Result<(), Fail> {
-    let copy = CompositeType::Function(function(rt.alloc())?).clone()?;
-    assert!(rt; matches!(&copy, CompositeType::Function(ty) if is_function(ty)));
+    let form = CompositeType::Function(function(rt.alloc())?);
+    assert!(rt; is_function_form(&form.clone()?));
     Ok(())
 }
 
 #[test]
 fn of_the_form_of_a_structure(rt: HostRuntime) -> Result<(), Fail> {
-    let copy = CompositeType::Struct(structure(rt.alloc())?).clone()?;
-    assert!(rt; matches!(&copy, CompositeType::Struct(ty) if is_structure(ty)));
+    let form = CompositeType::Struct(structure(rt.alloc())?);
+    assert!(rt; is_structure_form(&form.clone()?));
     Ok(())
 }
 
 #[test]
 fn of_the_form_of_an_array(rt: HostRuntime) -> Result<(), Fail> {
     let elements = field(StorageType::I16, true);
-    let copy = CompositeType::Array(ArrayType { field: elements }).clone()?;
-    assert!(rt; matches!(&copy, CompositeType::Array(ty) if ty.field == elements));
+    let form = CompositeType::Array(ArrayType { field: elements });
+    assert!(rt; is_array_form(&form.clone()?, elements));
     Ok(())
+}
+
+// From one parameter to two results.
+fn function_record(alloc: Global) -> Result<CompositeRecord, AllocError> {
+    let params = Vec::from_slice(alloc, &[ValRecord::F64])?;
+    let results = Vec::from_slice(alloc, &[ValRecord::I32, ValRecord::V128])?;
+    Ok(CompositeRecord::Function { params, results })
+}
+
+fn is_function_record(record: &CompositeRecord) -> bool {
+    match record {
+        CompositeRecord::Function { params, results } => {
+            params.as_slice() == [ValRecord::F64].as_slice()
+                && results.as_slice() == [ValRecord::I32, ValRecord::V128].as_slice()
+        }
+        _ => false,
+    }
 }
 
 #[test]
 fn of_the_record_of_a_function(rt: HostRuntime) -> Result<(), Fail> {
-    let params = Vec::from_slice(rt.alloc(), &[ValRecord::F64])?;
-    let results = Vec::from_slice(rt.alloc(), &[ValRecord::I32, ValRecord::V128])?;
-    let copy = CompositeRecord::Function { params, results }.clone()?;
-    assert!(rt;
-        match &copy {
-            CompositeRecord::Function { params, results } => {
-                params.as_slice() == [ValRecord::F64].as_slice()
-                    && results.as_slice() == [ValRecord::I32, ValRecord::V128].as_slice()
-            }
-            _ => false,
-        }
-    );
+    let record = function_record(rt.alloc())?;
+    assert!(rt; is_function_record(&record.clone()?));
     Ok(())
 }
 
@@ -100,14 +119,25 @@ fn bytes() -> FieldRecord {
     }
 }
 
+fn is_structure_record(record: &CompositeRecord) -> bool {
+    match record {
+        CompositeRecord::Struct { fields } => fields.as_slice() == [bytes()].as_slice(),
+        _ => false,
+    }
+}
+
 #[test]
 fn of_the_record_of_a_structure(rt: HostRuntime) -> Result<(), Fail> {
     let fields = Vec::from_slice(rt.alloc(), &[bytes()])?;
-    let copy = CompositeRecord::Struct { fields }.clone()?;
-    assert!(rt;
-        matches!(&copy, CompositeRecord::Struct { fields } if fields.as_slice() == [bytes()].as_slice())
-    );
+    let record = CompositeRecord::Struct { fields };
+    assert!(rt; is_structure_record(&record.clone()?));
     Ok(())
+}
+
+fn is_array_record(record: &TypeRecord) -> bool {
+    !record.is_final
+        && record.supertype == Some(5)
+        && matches!(&record.kind, CompositeRecord::Array { field } if *field == bytes())
 }
 
 #[test]
@@ -117,28 +147,51 @@ fn of_the_record_of_a_type(rt: HostRuntime) -> Result<(), Fail> {
         is_final: false,
         supertype: Some(5),
     };
-    let copy = record.clone()?;
-    assert!(rt; matches!(&copy.kind, CompositeRecord::Array { field } if *field == bytes()));
-    assert!(rt; !copy.is_final && copy.supertype == Some(5));
+    assert!(rt; is_array_record(&record.clone()?));
     Ok(())
+}
+
+// A table of two types, of which the second, an open one, has the name and the first as supertype.
+fn with_named(alloc: Global) -> Result<ModuleTypes, AllocError> {
+    let mut types = ModuleTypes::new(alloc);
+    let parent = types.add(&[], &[])?;
+    let form = CompositeType::Function(function(alloc)?);
+    let id = types.add_composite(form, false, Some(parent))?;
+    let name = String::from_str(alloc, "t")?;
+    if types.contains(id) {
+        types.get_mut(id).name = Some(name);
+    }
+    Ok(types)
+}
+
+fn is_named(ty: &Type) -> bool {
+    ty.id().index() == 1
+        && !ty.is_final
+        && matches!(ty.supertype, Some(parent) if parent.index() == 0)
+        && matches!(ty.as_function(), Some(ty) if is_function(ty))
+        && matches!(&ty.name, Some(name) if name.as_str() == "t")
 }
 
 #[test]
 fn of_a_type(rt: HostRuntime) -> Result<(), Fail> {
-    let mut types = ModuleTypes::new(rt.alloc());
-    let parent = types.add(&[], &[])?;
-    let form = CompositeType::Function(function(rt.alloc())?);
-    let id = types.add_composite(form, false, Some(parent))?;
+    let types = with_named(rt.alloc())?;
+    let id = TypeId::from_index(1);
     assert!(rt; types.contains(id));
-    types.get_mut(id).name = Some(String::from_str(rt.alloc(), "t")?);
     let copy = types.get(id).clone()?;
-    assert_eq!(rt;
-        (copy.id(), copy.is_final, copy.supertype),
-        (id, false, Some(parent))
-    );
-    assert!(rt; matches!(copy.as_function(), Some(ty) if is_function(ty)));
-    assert!(rt; matches!(&copy.name, Some(name) if name.as_str() == "t"));
+    assert!(rt; is_named(&copy));
+    let mut names = Vec::new(rt.alloc());
+    copy.referenced_types(&mut names)?;
+    assert!(rt; matches!(names.as_slice(), [parent] if parent.index() == 0));
     Ok(())
+}
+
+// Whether a copy of the type's group has no mark and that member alone.
+fn copies_group(types: &ModuleTypes, id: TypeId) -> Result<bool, AllocError> {
+    let Some(group) = types.rec_group_for_type(id) else {
+        return Ok(false);
+    };
+    let copy = group.clone()?;
+    Ok(copy.types.as_slice() == [id].as_slice() && !copy.is_explicit())
 }
 
 #[test]
@@ -146,13 +199,6 @@ fn of_a_group(rt: HostRuntime) -> Result<(), Fail> {
     let mut types = ModuleTypes::new(rt.alloc());
     types.add(&[], &[])?;
     let id = types.add(&[ValType::I32], &[])?;
-    let copy = match types.rec_group_for_type(id) {
-        Some(group) => Some(group.clone()?),
-        None => None,
-    };
-    let member = TypeId::from_index(1);
-    assert!(rt;
-        matches!(&copy, Some(group) if group.types.as_slice() == [member].as_slice() && !group.is_explicit())
-    );
+    assert!(rt; copies_group(&types, id)?);
     Ok(())
 }

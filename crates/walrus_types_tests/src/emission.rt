@@ -1,13 +1,14 @@
 // Writing a table: worked examples, the order of types, refusals.
 ghost use Rattle.std.specs.Prelude.{◌<◌, ◌^◌};
 
+use crate::steps::{Step, are_at, immutable, link, take, written};
 use std::alloc::Global;
 use std::test::Fail;
 use walrus_arena::TypeId;
 use walrus_types::{
-    AbstractHeapType, ArrayType, CompositeRecord, CompositeType, FieldRecord, FieldType,
-    GroupRecord, HeapRecord, HeapType, IrError, ModuleTypes, NewType, RefRecord, RefType,
-    StorageRecord, StorageType, StructType, ValRecord, ValType,
+    AbstractHeapType, CompositeRecord, EmittedTypes, FieldRecord, FieldType, GroupRecord,
+    HeapRecord, HeapType, IrError, ModuleTypes, RefRecord, RefType, StorageRecord, StorageType,
+    ValRecord, ValType,
 };
 
 fn id(index: usize) -> TypeId
@@ -16,26 +17,15 @@ fn id(index: usize) -> TypeId
     TypeId::from_index(index)
 }
 
-fn immutable(element_type: StorageType) -> FieldType {
-    FieldType {
-        element_type,
-        mutable: false,
-    }
+fn value(ty: ValType) -> FieldType {
+    immutable(StorageType::Val(ty))
 }
 
-fn reference(nullable: bool, heap_type: AbstractHeapType) -> StorageType {
-    StorageType::Val(ValType::Ref(RefType {
+fn reference(nullable: bool, heap_type: AbstractHeapType) -> FieldType {
+    value(ValType::Ref(RefType {
         nullable,
         heap_type: HeapType::Abstract(heap_type),
     }))
-}
-
-// An immutable field that refers to the type.
-fn link(to: TypeId) -> FieldType {
-    immutable(StorageType::Val(ValType::Ref(RefType {
-        nullable: true,
-        heap_type: HeapType::Concrete(to),
-    })))
 }
 
 // An immutable field that refers to the type of this index.
@@ -78,116 +68,73 @@ pub fn is_structure(group: Option<&GroupRecord>, expected: &[FieldRecord]) -> bo
     }
 }
 
+// Two function types, sorted, and a structure without fields.
+pub fn is_sorted(emitted: &EmittedTypes) -> bool {
+    emitted.groups.len() == 3
+        && is_consumer(emitted.groups.get(0), ValRecord::I32)
+        && is_consumer(emitted.groups.get(1), ValRecord::I64)
+        && is_structure(emitted.groups.get(2), &[])
+}
+
+// Two function types with a structure between them that refers to the first.
+pub fn is_linked(emitted: &EmittedTypes) -> bool {
+    emitted.groups.len() == 3
+        && is_consumer(emitted.groups.get(0), ValRecord::I64)
+        && is_structure(emitted.groups.get(1), &[link_to(0)])
+        && is_consumer(emitted.groups.get(2), ValRecord::I32)
+}
+
 #[test]
-fn single_types_are_sorted(rt: HostRuntime) -> Result<(), Fail> {
-    let alloc = rt.alloc();
-    let mut types = ModuleTypes::new(alloc);
-    let long = types.add(&[ValType::I64], &[])?;
-    let empty = types.add_struct(Vec::new(alloc))?;
-    let short = types.add(&[ValType::I32], &[])?;
-    assert_eq!(rt; types.add(&[ValType::I64], &[])?, long);
-    let emitted = types.emit()?;
-    assert!(rt; is_consumer(emitted.groups.get(0), ValRecord::I32));
-    assert!(rt; is_consumer(emitted.groups.get(1), ValRecord::I64));
-    assert!(rt; is_structure(emitted.groups.get(2), &[]));
-    assert_eq!(rt; emitted.indices.get(long), Some(1));
-    assert_eq!(rt; emitted.indices.get(empty), Some(2));
-    assert_eq!(rt; emitted.indices.get(short), Some(0));
+fn single_types_are_written(rt: HostRuntime) -> Result<(), Fail> {
+    let steps = [
+        Step::Param(ValType::I64),
+        Step::Struct,
+        Step::Param(ValType::I32),
+        Step::Param(ValType::I64),
+    ];
+    let emitted = written(rt.alloc(), &steps)?;
+    assert!(rt; is_sorted(&emitted));
+    assert!(rt; are_at(&emitted, &[Some(1), Some(2), Some(0)]));
     Ok(())
 }
 
 #[test]
 fn a_type_that_names_a_type_stays(rt: HostRuntime) -> Result<(), Fail> {
-    let alloc = rt.alloc();
-    let mut types = ModuleTypes::new(alloc);
-    let long = types.add(&[ValType::I64], &[])?;
-    types.add_struct(Vec::from_slice(alloc, &[link(long)])?)?;
-    types.add(&[ValType::I32], &[])?;
-    let emitted = types.emit()?;
-    assert!(rt; is_consumer(emitted.groups.get(0), ValRecord::I64));
-    assert!(rt; is_structure(emitted.groups.get(1), &[link_to(0)]));
-    assert!(rt; is_consumer(emitted.groups.get(2), ValRecord::I32));
+    let steps = [
+        Step::Param(ValType::I64),
+        Step::Field(link(id(0))),
+        Step::Param(ValType::I32),
+    ];
+    assert!(rt; is_linked(&written(rt.alloc(), &steps)?));
     Ok(())
 }
 
-// Two final structures that name each other.
-pub fn pair(alloc: Global, ids: &[TypeId]) -> Result<Vec<NewType>, IrError> {
-    let mut members = Vec::new(alloc);
-    for k in 0..ids.len() {
-        let other = ids[ids.len() - 1 - k];
-        members.push(NewType {
-            kind: CompositeType::Struct(StructType {
-                fields: Vec::from_slice(alloc, &[link(other)])?,
-            }),
-            is_final: true,
-            supertype: None,
-        })?;
+// The group has a mark and two types.
+fn is_marked_pair(group: Option<&GroupRecord>) -> bool {
+    match group {
+        Some(group) => group.marked && group.types.len() == 2,
+        None => false,
     }
-    Ok(members)
 }
 
 #[test]
 fn a_group_stays(rt: HostRuntime) -> Result<(), Fail> {
-    let alloc = rt.alloc();
-    let mut types = ModuleTypes::new(alloc);
-    types.add(&[ValType::I64], &[])?;
-    types.add(&[ValType::I32], &[])?;
-    types.add_rec_group(2, |ids| pair(alloc, ids))?;
-    types.add(&[ValType::F64], &[])?;
-    types.add(&[ValType::F32], &[])?;
-    let emitted = types.emit()?;
-    for (k, index) in [1, 0, 2, 3, 5, 4].iter().enumerate() {
-        assert_eq!(rt; emitted.indices.get(id(k)), Some(*index));
-    }
-    assert_eq!(rt; emitted.groups.len(), 5);
-    let marked = emitted
-        .groups
-        .get(2)
-        .map(|group| (group.marked, group.types.len()));
-    assert_eq!(rt; marked, Some((true, 2)));
+    let steps = [
+        Step::Param(ValType::I64),
+        Step::Param(ValType::I32),
+        Step::Ring(2),
+        Step::Param(ValType::F64),
+        Step::Param(ValType::F32),
+    ];
+    let emitted = written(rt.alloc(), &steps)?;
+    assert!(rt; is_marked_pair(emitted.groups.get(2)) && emitted.groups.len() == 5);
+    assert!(rt;
+        are_at(
+            &emitted,
+            &[Some(1), Some(0), Some(2), Some(3), Some(5), Some(4)]
+        )
+    );
     Ok(())
-}
-
-#[test]
-fn a_group_of_one_type_stays(rt: HostRuntime) -> Result<(), Fail> {
-    let alloc = rt.alloc();
-    let mut types = ModuleTypes::new(alloc);
-    types.add(&[ValType::I64], &[])?;
-    types.add_rec_group(1, |_| {
-        let mut members = Vec::new(alloc);
-        members.push(NewType {
-            kind: CompositeType::Struct(StructType {
-                fields: Vec::new(alloc),
-            }),
-            is_final: true,
-            supertype: None,
-        })?;
-        Ok(members)
-    })?;
-    types.add(&[ValType::I32], &[])?;
-    let emitted = types.emit()?;
-    for k in 0..3 {
-        assert_eq!(rt; emitted.indices.get(id(k)), Some(k as u32));
-    }
-    Ok(())
-}
-
-#[test]
-fn supertypes_are_written(rt: HostRuntime) -> Result<(), Fail> {
-    let mut types = ModuleTypes::new(rt.alloc());
-    types.add(&[ValType::I64], &[])?;
-    let base = types.add_composite(array(), false, None)?;
-    types.add_composite(array(), true, Some(base))?;
-    let emitted = types.emit()?;
-    assert_eq!(rt; head(emitted.groups.get(1)), Some((false, None)));
-    assert_eq!(rt; head(emitted.groups.get(2)), Some((true, Some(1))));
-    Ok(())
-}
-
-fn array() -> CompositeType {
-    CompositeType::Array(ArrayType {
-        field: immutable(StorageType::I8),
-    })
 }
 
 // Whether the first type of the group is final, and its supertype.
@@ -200,160 +147,184 @@ fn head(group: Option<&GroupRecord>) -> Option<(bool, Option<u32>)> {
     }
 }
 
+#[test]
+fn supertypes_are_written(rt: HostRuntime) -> Result<(), Fail> {
+    let steps = [
+        Step::Param(ValType::I64),
+        Step::Open(bytes()),
+        Step::Below(bytes(), id(1)),
+    ];
+    let emitted = written(rt.alloc(), &steps)?;
+    assert_eq!(rt; head(emitted.groups.get(1)), Some((false, None)));
+    assert_eq!(rt; head(emitted.groups.get(2)), Some((true, Some(1))));
+    Ok(())
+}
+
+fn bytes() -> FieldType {
+    immutable(StorageType::I8)
+}
+
 // Field types as they are ordered, one for each place.
 fn fields_in_order() -> [FieldType; 22] {
     [
-        immutable(StorageType::Val(ValType::I32)),
+        value(ValType::I32),
         FieldType {
             element_type: StorageType::Val(ValType::I32),
             mutable: true,
         },
-        immutable(StorageType::Val(ValType::I64)),
-        immutable(StorageType::Val(ValType::F32)),
-        immutable(StorageType::Val(ValType::F64)),
-        immutable(StorageType::Val(ValType::V128)),
-        immutable(reference(false, AbstractHeapType::Func)),
-        immutable(reference(false, AbstractHeapType::NoExn)),
-        immutable(reference(true, AbstractHeapType::Func)),
-        immutable(reference(true, AbstractHeapType::Extern)),
-        immutable(reference(true, AbstractHeapType::Any)),
-        immutable(reference(true, AbstractHeapType::None)),
-        immutable(reference(true, AbstractHeapType::NoExtern)),
-        immutable(reference(true, AbstractHeapType::NoFunc)),
-        immutable(reference(true, AbstractHeapType::Eq)),
-        immutable(reference(true, AbstractHeapType::Struct)),
-        immutable(reference(true, AbstractHeapType::Array)),
-        immutable(reference(true, AbstractHeapType::I31)),
-        immutable(reference(true, AbstractHeapType::Exn)),
-        immutable(reference(true, AbstractHeapType::NoExn)),
+        value(ValType::I64),
+        value(ValType::F32),
+        value(ValType::F64),
+        value(ValType::V128),
+        reference(false, AbstractHeapType::Func),
+        reference(false, AbstractHeapType::NoExn),
+        reference(true, AbstractHeapType::Func),
+        reference(true, AbstractHeapType::Extern),
+        reference(true, AbstractHeapType::Any),
+        reference(true, AbstractHeapType::None),
+        reference(true, AbstractHeapType::NoExtern),
+        reference(true, AbstractHeapType::NoFunc),
+        reference(true, AbstractHeapType::Eq),
+        reference(true, AbstractHeapType::Struct),
+        reference(true, AbstractHeapType::Array),
+        reference(true, AbstractHeapType::I31),
+        reference(true, AbstractHeapType::Exn),
+        reference(true, AbstractHeapType::NoExn),
         immutable(StorageType::I8),
         immutable(StorageType::I16),
     ]
 }
 
-#[test]
-fn fields_are_ordered(rt: HostRuntime) -> Result<(), Fail> {
-    let mut types = ModuleTypes::new(rt.alloc());
+// An array type for each of the field types, from the last to the first.
+fn arrays(alloc: Global) -> Result<EmittedTypes, IrError> {
+    let mut types = ModuleTypes::new(alloc);
     let fields = fields_in_order();
     for k in 0..22 {
         types.add_array(fields[21 - k])?;
     }
-    let emitted = types.emit()?;
+    types.emit()
+}
+
+#[test]
+fn fields_are_ordered(rt: HostRuntime) -> Result<(), Fail> {
+    let emitted = arrays(rt.alloc())?;
     for k in 0..22 {
         assert_eq!(rt; emitted.indices.get(id(k)), Some(21 - k as u32));
     }
     Ok(())
 }
 
+// The types are written in the opposite order.
+fn turns(alloc: Global, steps: &[Step]) -> Result<bool, IrError> {
+    let emitted = written(alloc, steps)?;
+    let mut agree = emitted.groups.len() == steps.len();
+    let mut left = steps.len();
+    for k in 0..u32::MAX {
+        if left == 0 {
+            break;
+        }
+        left -= 1;
+        let index = emitted.indices.get(id(k as usize));
+        agree &= matches!(index, Some(index) if index as usize == left);
+    }
+    Ok(agree)
+}
+
 #[test]
 fn functions_are_ordered(rt: HostRuntime) -> Result<(), Fail> {
-    let mut types = ModuleTypes::new(rt.alloc());
-    types.add(&[ValType::I64], &[])?;
-    types.add(&[ValType::I32, ValType::I64], &[])?;
-    types.add(&[ValType::I32, ValType::I32], &[])?;
-    types.add(&[ValType::I32], &[ValType::I64])?;
-    types.add(&[ValType::I32], &[])?;
-    types.add(&[], &[ValType::I64])?;
-    let emitted = types.emit()?;
-    for k in 0..6 {
-        assert_eq!(rt; emitted.indices.get(id(k)), Some(5 - k as u32));
-    }
+    let falling = [
+        Step::Param(ValType::I64),
+        Step::Params(ValType::I32, ValType::I64),
+        Step::Params(ValType::I32, ValType::I32),
+        Step::Maps(ValType::I32, ValType::I64),
+        Step::Param(ValType::I32),
+        Step::Gives(ValType::I64),
+    ];
+    assert!(rt; turns(rt.alloc(), &falling)?);
     Ok(())
+}
+
+fn short() -> FieldType {
+    value(ValType::I32)
+}
+
+fn long() -> FieldType {
+    value(ValType::I64)
 }
 
 #[test]
 fn structures_are_ordered(rt: HostRuntime) -> Result<(), Fail> {
-    let mut types = ModuleTypes::new(rt.alloc());
-    let short = immutable(StorageType::Val(ValType::I32));
-    let long = immutable(StorageType::Val(ValType::I64));
-    let falling: [&[FieldType]; 5] = [&[long], &[short, long], &[short, short], &[short], &[]];
-    for fields in falling {
-        types.add_struct(Vec::from_slice(rt.alloc(), fields)?)?;
-    }
-    let emitted = types.emit()?;
-    for k in 0..5 {
-        assert_eq!(rt; emitted.indices.get(id(k)), Some(4 - k as u32));
-    }
+    let falling = [
+        Step::Field(long()),
+        Step::Fields(short(), long()),
+        Step::Fields(short(), short()),
+        Step::Field(short()),
+        Step::Struct,
+    ];
+    assert!(rt; turns(rt.alloc(), &falling)?);
+    Ok(())
+}
+
+#[test]
+fn forms_are_ordered(rt: HostRuntime) -> Result<(), Fail> {
+    let falling = [
+        Step::Final(bytes()),
+        Step::Open(bytes()),
+        Step::Struct,
+        Step::Param(ValType::I64),
+    ];
+    assert!(rt; turns(rt.alloc(), &falling)?);
+    Ok(())
+}
+
+// Types of one rank, by a parameter past the twentieth and by what stands behind references, between others.
+#[test]
+fn parameters_are_ordered(rt: HostRuntime) -> Result<(), Fail> {
+    let falling = [
+        Step::Params(ValType::Ref(RefType::EXTERNREF), ValType::I32),
+        Step::Params(ValType::Ref(RefType::FUNCREF), ValType::I64),
+        Step::Param(ValType::V128),
+        Step::Param(ValType::F64),
+        Step::Params(ValType::F32, ValType::I32),
+        Step::Many(ValType::I64),
+        Step::Many(ValType::I32),
+    ];
+    assert!(rt; turns(rt.alloc(), &falling)?);
     Ok(())
 }
 
 // Adds merge equal types; a type that is written over may come to equal another.
 #[test]
 fn equal_types_stand_by_id(rt: HostRuntime) -> Result<(), Fail> {
-    let mut types = ModuleTypes::new(rt.alloc());
-    types.add_composite(array(), true, None)?;
-    let open = types.add_composite(array(), false, None)?;
-    types.add(&[], &[])?;
-    assert!(rt; types.contains(open));
-    types.get_mut(open).is_final = true;
-    let emitted = types.emit()?;
-    for (k, index) in [1, 2, 0].iter().enumerate() {
-        assert_eq!(rt; emitted.indices.get(id(k)), Some(*index));
-    }
-    Ok(())
-}
-
-// Twenty-one parameters, the last of this type.
-fn many(last: ValType) -> [ValType; 21] {
-    let mut params = [ValType::I32; 21];
-    params[20] = last;
-    params
-}
-
-// Types of one rank, by a parameter past the twentieth and by what stands behind references, between others.
-#[test]
-fn parameters_are_ordered(rt: HostRuntime) -> Result<(), Fail> {
-    let mut types = ModuleTypes::new(rt.alloc());
-    types.add(&[ValType::Ref(RefType::EXTERNREF), ValType::I32], &[])?;
-    types.add(&[ValType::Ref(RefType::FUNCREF), ValType::I64], &[])?;
-    types.add(&[ValType::V128], &[])?;
-    types.add(&[ValType::F64], &[])?;
-    types.add(&[ValType::F32, ValType::I32], &[])?;
-    let (later, sooner) = (many(ValType::I64), many(ValType::I32));
-    types.add(&later, &[])?;
-    types.add(&sooner, &[])?;
-    let emitted = types.emit()?;
-    for k in 0..7 {
-        assert_eq!(rt; emitted.indices.get(id(k)), Some(6 - k as u32));
-    }
+    let steps = [
+        Step::Final(bytes()),
+        Step::Open(bytes()),
+        Step::Function,
+        Step::Close(id(1)),
+    ];
+    let emitted = written(rt.alloc(), &steps)?;
+    assert!(rt; are_at(&emitted, &[Some(1), Some(2), Some(0)]));
     Ok(())
 }
 
 #[test]
-fn forms_are_ordered(rt: HostRuntime) -> Result<(), Fail> {
-    let mut types = ModuleTypes::new(rt.alloc());
-    types.add_composite(array(), true, None)?;
-    types.add_composite(array(), false, None)?;
-    types.add_struct(Vec::new(rt.alloc()))?;
-    types.add(&[ValType::I64], &[])?;
-    let emitted = types.emit()?;
-    for k in 0..4 {
-        assert_eq!(rt; emitted.indices.get(id(k)), Some(3 - k as u32));
-    }
+fn a_group_of_one_type_stays(rt: HostRuntime) -> Result<(), Fail> {
+    let steps = [
+        Step::Param(ValType::I64),
+        Step::Alone,
+        Step::Param(ValType::I32),
+    ];
+    let emitted = written(rt.alloc(), &steps)?;
+    assert!(rt; are_at(&emitted, &[Some(0), Some(1), Some(2)]));
     Ok(())
 }
 
 #[test]
 fn entry_types_are_not_written(rt: HostRuntime) -> Result<(), Fail> {
-    let mut types = ModuleTypes::new(rt.alloc());
-    let entry = types.add_entry_ty(&[ValType::I32])?;
-    let ty = types.add(&[], &[ValType::I32])?;
-    let emitted = types.emit()?;
+    let steps = [Step::Entry(Some(ValType::I32)), Step::Gives(ValType::I32)];
+    let emitted = written(rt.alloc(), &steps)?;
     assert_eq!(rt; emitted.groups.len(), 1);
-    assert!(rt; emitted.indices.get(entry).is_none());
-    assert_eq!(rt; emitted.indices.get(ty), Some(0));
-    Ok(())
-}
-
-#[test]
-fn a_deleted_type_is_named(rt: HostRuntime) -> Result<(), Fail> {
-    let alloc = rt.alloc();
-    let mut types = ModuleTypes::new(alloc);
-    let dead = types.add(&[ValType::I64], &[])?;
-    types.add_struct(Vec::from_slice(alloc, &[link(dead)])?)?;
-    assert!(rt; types.contains(dead));
-    types.delete(dead);
-    assert!(rt; matches!(types.emit(), Err(IrError::Dead)));
+    assert!(rt; are_at(&emitted, &[None, Some(0)]));
     Ok(())
 }
 
@@ -362,14 +333,18 @@ fn chain(alloc: Global) -> Result<ModuleTypes, IrError> {
     let mut types = ModuleTypes::new(alloc);
     types.add_struct(Vec::new(alloc))?;
     for k in 0..600 {
-        types.add_struct(Vec::from_slice(alloc, &[link(id(k))])?)?;
+        take(alloc, &mut types, &Step::Field(link(id(k))))?;
     }
     Ok(types)
 }
 
+fn written_chain(alloc: Global) -> Result<EmittedTypes, IrError> {
+    chain(alloc)?.emit()
+}
+
 #[test]
 fn blocks_are_written(rt: HostRuntime) -> Result<(), Fail> {
-    let emitted = chain(rt.alloc())?.emit()?;
+    let emitted = written_chain(rt.alloc())?;
     assert_eq!(rt; emitted.groups.len(), 601);
     for k in 0..601 {
         assert_eq!(rt; emitted.indices.get(id(k)), Some(k as u32));
@@ -377,43 +352,44 @@ fn blocks_are_written(rt: HostRuntime) -> Result<(), Fail> {
     Ok(())
 }
 
-#[test]
-fn a_fault_past_two_blocks_is_found(rt: HostRuntime) -> Result<(), Fail> {
-    let alloc = rt.alloc();
+fn broken_chain(alloc: Global) -> Result<EmittedTypes, IrError> {
     let mut types = chain(alloc)?;
-    types.add_struct(Vec::from_slice(alloc, &[link(id(1000))])?)?;
-    assert!(rt; matches!(types.emit(), Err(IrError::Dead)));
-    Ok(())
+    take(alloc, &mut types, &Step::Field(link(id(1000))))?;
+    types.emit()
+}
+
+fn is_refused(outcome: Result<EmittedTypes, IrError>, fault: IrError) -> bool {
+    match outcome {
+        Ok(_) => false,
+        Err(refused) => refused == fault,
+    }
 }
 
 #[test]
-fn an_entry_type_is_named(rt: HostRuntime) -> Result<(), Fail> {
+fn names_at_fault(rt: HostRuntime) -> Result<(), Fail> {
     let alloc = rt.alloc();
-    let mut types = ModuleTypes::new(alloc);
-    let entry = types.add_entry_ty(&[ValType::I64])?;
-    types.add_struct(Vec::from_slice(alloc, &[link(entry)])?)?;
-    assert!(rt; matches!(types.emit(), Err(IrError::EntryOnly)));
-    Ok(())
-}
-
-#[test]
-fn a_later_type_is_named(rt: HostRuntime) -> Result<(), Fail> {
-    let alloc = rt.alloc();
-    let mut types = ModuleTypes::new(alloc);
-    types.add_struct(Vec::from_slice(alloc, &[link(id(1))])?)?;
-    types.add(&[], &[])?;
-    assert!(rt; matches!(types.emit(), Err(IrError::Later)));
+    let deleted = [
+        Step::Param(ValType::I64),
+        Step::Field(link(id(0))),
+        Step::Delete(id(0)),
+    ];
+    assert!(rt; is_refused(written(alloc, &deleted), IrError::Dead));
+    let entry = [Step::Entry(Some(ValType::I64)), Step::Field(link(id(0)))];
+    assert!(rt; is_refused(written(alloc, &entry), IrError::EntryOnly));
+    let later = [Step::Field(link(id(1))), Step::Function];
+    assert!(rt; is_refused(written(alloc, &later), IrError::Later));
+    assert!(rt; is_refused(broken_chain(alloc), IrError::Dead));
     Ok(())
 }
 
 #[test]
 fn the_first_fault_is_answered(rt: HostRuntime) -> Result<(), Fail> {
-    let alloc = rt.alloc();
-    let mut types = ModuleTypes::new(alloc);
-    let entry = types.add_entry_ty(&[ValType::I64])?;
-    types.add_struct(Vec::from_slice(alloc, &[link(id(3)), link(entry)])?)?;
-    types.add_struct(Vec::from_slice(alloc, &[link(id(9))])?)?;
-    types.add(&[], &[])?;
-    assert!(rt; matches!(types.emit(), Err(IrError::Later)));
+    let steps = [
+        Step::Entry(Some(ValType::I64)),
+        Step::Fields(link(id(3)), link(id(0))),
+        Step::Field(link(id(9))),
+        Step::Function,
+    ];
+    assert!(rt; is_refused(written(rt.alloc(), &steps), IrError::Later));
     Ok(())
 }

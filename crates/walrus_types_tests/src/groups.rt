@@ -1,72 +1,70 @@
 // Groups that a closure makes of their ids.
+use crate::steps::{link, member, ring};
 use std::alloc::Global;
 use std::test::Fail;
 use walrus_arena::TypeId;
-use walrus_types::{
-    CompositeType, FieldType, HeapType, IrError, ModuleTypes, NewType, RefType, StorageType,
-    StructType, ValType,
-};
+use walrus_types::{CompositeType, FieldType, IrError, ModuleTypes, NewType};
 
-// A final structure with one field that refers to the type.
-fn link(alloc: Global, to: TypeId) -> Result<NewType, IrError> {
-    let mut fields = Vec::new(alloc);
-    fields.push(FieldType {
-        element_type: StorageType::Val(ValType::Ref(RefType {
-            nullable: true,
-            heap_type: HeapType::Concrete(to),
-        })),
-        mutable: false,
-    })?;
-    Ok(NewType {
-        kind: CompositeType::Struct(StructType { fields }),
-        is_final: true,
-        supertype: None,
-    })
+fn is_structure(kind: &CompositeType, field: FieldType) -> bool {
+    match kind {
+        CompositeType::Struct(ty) => ty.fields.as_slice() == [field].as_slice(),
+        _ => false,
+    }
 }
 
-// Structures that each refer to the next, and the last to the first.
-fn ring(alloc: Global, ids: &[TypeId]) -> Result<Vec<NewType>, IrError> {
-    let mut members = Vec::new(alloc);
-    for k in 0..ids.len() {
-        let next = if k + 1 < ids.len() { k + 1 } else { 0 };
-        members.push(link(alloc, ids[next])?)?;
-    }
-    Ok(members)
+// The live type is a structure whose one field refers to the other.
+fn refers(types: &ModuleTypes, id: TypeId, other: TypeId) -> bool {
+    types.contains(id) && is_structure(types.get(id).kind(), link(other))
+}
+
+// Whether the type goes, which is live.
+fn goes(types: &mut ModuleTypes, id: TypeId) -> bool {
+    types.contains(id) && types.try_delete(id)
+}
+
+fn is_pair(ids: &[TypeId]) -> bool {
+    matches!(ids, [first, second] if first.index() == 0 && second.index() == 1)
+}
+
+fn add_pair(types: &mut ModuleTypes, alloc: Global) -> Result<bool, IrError> {
+    let ids = types.add_rec_group(2, |ids| ring(alloc, ids))?;
+    Ok(is_pair(ids.as_slice()))
 }
 
 #[test]
 fn two_that_name_each_other(rt: HostRuntime) -> Result<(), Fail> {
-    let alloc = rt.alloc();
-    let mut types = ModuleTypes::new(alloc);
-    let ids = types.add_rec_group(2, |ids| ring(alloc, ids))?;
+    let mut types = ModuleTypes::new(rt.alloc());
+    assert!(rt; add_pair(&mut types, rt.alloc())?);
     let (first, second) = (TypeId::from_index(0), TypeId::from_index(1));
-    assert!(rt; ids.as_slice() == [first, second].as_slice());
-    assert!(rt; types.contains(first));
-    assert!(rt; types.contains(second));
-    let (to_second, to_first) = (link(alloc, second)?, link(alloc, first)?);
-    assert!(rt; *types.get(first).kind() == to_second.kind);
-    assert!(rt; *types.get(second).kind() == to_first.kind);
-    assert!(rt; !types.try_delete(first));
+    assert!(rt; refers(&types, first, second) && refers(&types, second, first));
+    assert!(rt; !goes(&mut types, first));
     assert!(rt; types.contains(first));
     Ok(())
+}
+
+fn is_refused_by_count(types: &mut ModuleTypes, alloc: Global) -> bool {
+    match types.add_rec_group(2, |ids| ring(alloc, &ids[..1])) {
+        Err(refused) => refused == IrError::WrongCount,
+        Ok(_) => false,
+    }
 }
 
 #[test]
 fn another_count(rt: HostRuntime) -> Result<(), Fail> {
-    let alloc = rt.alloc();
-    let mut types = ModuleTypes::new(alloc);
-    let refused = types.add_rec_group(2, |ids| ring(alloc, &ids[..1]));
-    assert!(rt; matches!(refused, Err(IrError::WrongCount)));
+    let mut types = ModuleTypes::new(rt.alloc());
+    assert!(rt; is_refused_by_count(&mut types, rt.alloc()));
     assert_eq!(rt; types.add(&[], &[])?.index(), 0);
     Ok(())
 }
 
+fn is_member(member: &NewType, to: TypeId) -> bool {
+    member.is_final && member.supertype.is_none() && is_structure(&member.kind, link(to))
+}
+
 #[test]
 fn copies_of_members(rt: HostRuntime) -> Result<(), Fail> {
-    let alloc = rt.alloc();
-    let member = link(alloc, TypeId::from_index(7))?;
-    let copy = member.clone()?;
-    assert!(rt; copy.is_final && copy.supertype.is_none());
-    assert!(rt; copy.kind == member.kind);
+    let to = TypeId::from_index(7);
+    let original = member(rt.alloc(), &[link(to)])?;
+    assert!(rt; is_member(&original.clone()?, to));
     Ok(())
 }

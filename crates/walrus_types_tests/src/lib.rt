@@ -20,4 +20,6 @@ mod records;
 #[cfg(test)]
 mod rounds;
 #[cfg(test)]
+mod steps;
+#[cfg(test)]
 mod texts;

@@ -5,7 +5,8 @@ ghost use Rattle.walrus_forms.specs.Records.{record_form, type_group, value_of};
 ghost use Rattle.walrus_forms.specs.Renaming.{ValueBelow};
 ghost use Rattle.walrus_types_tests.specs.Records.{NamesBelow};
 
-use crate::emission::{is_consumer, is_structure, link_to};
+use crate::emission::{is_linked, is_sorted};
+use crate::steps::are_at;
 use std::alloc::{AllocError, Global};
 use std::test::Fail;
 use walrus_arena::TypeId;
@@ -87,22 +88,6 @@ fn parse_singles(alloc: Global, types: &mut ModuleTypes) -> Result<Vec<TypeId>, 
     types.parse_types(&[long, empty, short, again])
 }
 
-#[test]
-fn singles(rt: HostRuntime) -> Result<(), Fail> {
-    let mut types = ModuleTypes::new(rt.alloc());
-    let ids = parse_singles(rt.alloc(), &mut types)?;
-    assert!(rt; ids.as_slice() == [id(0), id(1), id(2), id(0)].as_slice());
-    let emitted = types.emit()?;
-    assert_eq!(rt; emitted.groups.len(), 3);
-    assert!(rt; is_consumer(emitted.groups.get(0), ValRecord::I32));
-    assert!(rt; is_consumer(emitted.groups.get(1), ValRecord::I64));
-    assert!(rt; is_structure(emitted.groups.get(2), &[]));
-    for (k, index) in [1, 2, 0].iter().enumerate() {
-        assert_eq!(rt; emitted.indices.get(id(k)), Some(*index));
-    }
-    Ok(())
-}
-
 // A function type, a structure type that refers to it, and another function type.
 fn parse_linked(alloc: Global, types: &mut ModuleTypes) -> Result<Vec<TypeId>, AllocError> {
     let long = function(alloc, false, ValRecord::I64)?;
@@ -111,85 +96,114 @@ fn parse_linked(alloc: Global, types: &mut ModuleTypes) -> Result<Vec<TypeId>, A
     types.parse_types(&[long, second, short])
 }
 
-#[test]
-fn a_type_between_that_names_another(rt: HostRuntime) -> Result<(), Fail> {
-    let mut types = ModuleTypes::new(rt.alloc());
-    let ids = parse_linked(rt.alloc(), &mut types)?;
-    assert!(rt; ids.as_slice() == [id(0), id(1), id(2)].as_slice());
-    let emitted = types.emit()?;
-    assert_eq!(rt; emitted.groups.len(), 3);
-    assert!(rt; is_consumer(emitted.groups.get(0), ValRecord::I64));
-    assert!(rt; is_structure(emitted.groups.get(1), &[link_to(0)]));
-    assert!(rt; is_consumer(emitted.groups.get(2), ValRecord::I32));
-    for k in 0..3 {
-        assert_eq!(rt; emitted.indices.get(id(k)), Some(k as u32));
-    }
-    Ok(())
-}
-
-#[test]
-fn a_type_that_names_another(rt: HostRuntime) -> Result<(), Fail> {
-    let alloc = rt.alloc();
-    let mut types = ModuleTypes::new(alloc);
-    parse_linked(alloc, &mut types)?;
-    let named = id(1);
-    assert!(rt; types.contains(named));
-    let mut names = Vec::new(alloc);
-    types.get(named).referenced_types(&mut names)?;
-    assert!(rt; names.as_slice() == [id(0)].as_slice());
-    Ok(())
-}
-
-#[test]
-fn the_latest_equal_type(rt: HostRuntime) -> Result<(), Fail> {
-    let alloc = rt.alloc();
-    let mut types = ModuleTypes::new(alloc);
+// A function type, an equal one in a marked group, a group of no types, and the first again.
+fn parse_equal(alloc: Global, types: &mut ModuleTypes) -> Result<Vec<TypeId>, AllocError> {
     let first = function(alloc, false, ValRecord::I64)?;
     let member = function(alloc, true, ValRecord::I64)?;
     let nothing = no_types(alloc);
     let again = function(alloc, false, ValRecord::I64)?;
-    let ids = types.parse_types(&[first, member, nothing, again])?;
-    assert!(rt; ids.as_slice() == [id(0), id(1), id(1)].as_slice());
+    types.parse_types(&[first, member, nothing, again])
+}
+
+// Two structure types that refer to themselves, and twice one that refers to the second.
+fn parse_selves(alloc: Global, types: &mut ModuleTypes) -> Result<Vec<TypeId>, AllocError> {
+    let first = holder(alloc, 0)?;
+    let second = holder(alloc, 1)?;
+    let third = holder(alloc, 1)?;
+    let again = holder(alloc, 1)?;
+    types.parse_types(&[first, second, third, again])
+}
+
+fn are_ids(ids: &[TypeId], wanted: &[usize]) -> bool {
+    let mut agree = ids.len() == wanted.len();
+    for (id, index) in ids.iter().zip(wanted) {
+        agree &= id.index() == *index;
+    }
+    agree
+}
+
+#[test]
+fn singles(rt: HostRuntime) -> Result<(), Fail> {
+    let mut types = ModuleTypes::new(rt.alloc());
+    assert!(rt; are_ids(&parse_singles(rt.alloc(), &mut types)?, &[0, 1, 2, 0]));
+    let emitted = types.emit()?;
+    assert!(rt; is_sorted(&emitted));
+    assert!(rt; are_at(&emitted, &[Some(1), Some(2), Some(0)]));
+    Ok(())
+}
+
+// Whether the live type names the first alone.
+fn names_first(alloc: Global, types: &ModuleTypes, id: TypeId) -> Result<bool, AllocError> {
+    let mut names = Vec::new(alloc);
+    if types.contains(id) {
+        types.get(id).referenced_types(&mut names)?;
+    }
+    Ok(are_ids(&names, &[0]))
+}
+
+#[test]
+fn a_type_that_names_another(rt: HostRuntime) -> Result<(), Fail> {
+    let mut types = ModuleTypes::new(rt.alloc());
+    assert!(rt; are_ids(&parse_linked(rt.alloc(), &mut types)?, &[0, 1, 2]));
+    assert!(rt; names_first(rt.alloc(), &types, id(1))?);
+    let emitted = types.emit()?;
+    assert!(rt; is_linked(&emitted));
+    assert!(rt; are_at(&emitted, &[Some(0), Some(1), Some(2)]));
+    Ok(())
+}
+
+// One group of two has a mark.
+fn one_is_marked(types: &ModuleTypes) -> bool {
     let mut marks = 0;
     for group in types.rec_groups() {
         marks ^= if group.is_explicit() { 2 } else { 1 };
     }
-    assert_eq!(rt; marks, 3);
+    marks == 3
+}
+
+#[test]
+fn the_latest_equal_type(rt: HostRuntime) -> Result<(), Fail> {
+    let mut types = ModuleTypes::new(rt.alloc());
+    assert!(rt; are_ids(&parse_equal(rt.alloc(), &mut types)?, &[0, 1, 1]));
+    assert!(rt; one_is_marked(&types));
     Ok(())
 }
 
 #[test]
 fn a_type_that_names_itself(rt: HostRuntime) -> Result<(), Fail> {
-    let alloc = rt.alloc();
-    let mut types = ModuleTypes::new(alloc);
-    let first = holder(alloc, 0)?;
-    let second = holder(alloc, 1)?;
-    let third = holder(alloc, 1)?;
-    let again = holder(alloc, 1)?;
-    let ids = types.parse_types(&[first, second, third, again])?;
-    assert!(rt; ids.as_slice() == [id(0), id(1), id(2), id(2)].as_slice());
+    let mut types = ModuleTypes::new(rt.alloc());
+    assert!(rt; are_ids(&parse_selves(rt.alloc(), &mut types)?, &[0, 1, 2, 2]));
     Ok(())
 }
 
 #[test]
 fn copies_of_records(rt: HostRuntime) -> Result<(), Fail> {
     let group = function(rt.alloc(), true, ValRecord::I64)?;
-    let copy = group.clone(rt.alloc())?;
-    assert!(rt; copy == group);
+    assert!(rt; group.clone(rt.alloc())? == group);
     Ok(())
+}
+
+fn emission_of_linked(alloc: Global) -> Result<EmittedTypes, IrError> {
+    let mut types = ModuleTypes::new(alloc);
+    parse_linked(alloc, &mut types)?;
+    types.emit()
 }
 
 #[test]
 fn copies_of_what_is_written(rt: HostRuntime) -> Result<(), Fail> {
-    let mut types = ModuleTypes::new(rt.alloc());
-    parse_linked(rt.alloc(), &mut types)?;
-    let emitted = types.emit()?;
+    let emitted = emission_of_linked(rt.alloc())?;
     let copy = emitted.clone(rt.alloc())?;
-    assert!(rt; copy.groups.as_slice() == emitted.groups.as_slice());
+    assert!(rt; is_linked(&copy));
+    assert!(rt; are_at(&copy, &[Some(0), Some(1), Some(2), None]));
+    Ok(())
+}
+
+#[test]
+fn copies_of_indices(rt: HostRuntime) -> Result<(), Fail> {
+    let emitted = emission_of_linked(rt.alloc())?;
     let indices = emitted.indices.clone()?;
     for k in 0..4 {
-        assert_eq!(rt; copy.indices.get(id(k)), emitted.indices.get(id(k)));
-        assert_eq!(rt; indices.get(id(k)), emitted.indices.get(id(k)));
+        assert_eq!(rt; indices.get(id(k)), [Some(0), Some(1), Some(2), None][k]);
     }
     Ok(())
 }
@@ -219,9 +233,7 @@ fn neighbours_change_places(rt: HostRuntime) -> Result<(), Fail> {
     let one = long_first(rt.alloc())?;
     let other = short_first(rt.alloc())?;
     assert!(rt; one.groups.as_slice() == other.groups.as_slice());
-    for k in 0..3 {
-        assert_eq!(rt; one.indices.get(id(k)), Some([1, 0, 2][k]));
-        assert_eq!(rt; other.indices.get(id(k)), Some(k as u32));
-    }
+    assert!(rt; are_at(&one, &[Some(1), Some(0), Some(2)]));
+    assert!(rt; are_at(&other, &[Some(0), Some(1), Some(2)]));
     Ok(())
 }

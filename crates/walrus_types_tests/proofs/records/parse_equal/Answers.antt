@@ -1,8 +1,8 @@
 use Rattle.std.proofs.Common.{arith}
-use Rattle.walrus_types_tests.proofs.records.the_latest_equal_type.Goals as goal
+use Rattle.walrus_types_tests.proofs.records.parse_equal.Goals as goal
 
 pub parse_types-requires : goal.parse_types-requires
-parse_types-requires g c = (
+parse_types-requires c = (
   c.in_ok-first.ensures.1 _ (omega (arith, c.in_ok-first.ensures.0)),
   (
     c.in_ok-member.ensures.1 _ (omega (arith, c.in_ok-first.ensures.0, c.in_ok-member.ensures.0)),

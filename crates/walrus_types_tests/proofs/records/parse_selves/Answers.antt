@@ -1,8 +1,8 @@
 use Rattle.std.proofs.Common.{arith}
-use Rattle.walrus_types_tests.proofs.records.a_type_that_names_itself.Goals as goal
+use Rattle.walrus_types_tests.proofs.records.parse_selves.Goals as goal
 
 pub parse_types-requires : goal.parse_types-requires
-parse_types-requires g c = (
+parse_types-requires c = (
   c.in_ok-first.ensures.1 _ (omega (arith, c.in_ok-first.ensures.0)),
   (
     c.in_ok-second.ensures.1 _ (omega (arith, c.in_ok-first.ensures.0, c.in_ok-second.ensures.0)),
