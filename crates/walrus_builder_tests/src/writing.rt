@@ -1,23 +1,20 @@
 //! Sequences that are written: lent, filled, and added to with locations.
 use crate::common::{PLAIN, function};
-use std::alloc::{AllocError, Global};
-use std::process::Abort;
+use std::alloc::AllocError;
 use std::test::Fail;
 use walrus_arena::InstrSeqId;
 use walrus_builder::FunctionBuilder;
 use walrus_instr::{Instr, InstrLocId, InstrSeq, InstrSeqType};
 use walrus_types::ValType;
 
-// A function with two sequences more, of which the first is told.
-fn with_two(rt: &impl Abort, alloc: Global) -> Result<(FunctionBuilder, InstrSeqId), AllocError> {
-    let mut body = function(alloc)?;
+// Adds two sequences, and tells of the first.
+fn add_two(body: &mut FunctionBuilder) -> Result<InstrSeqId, AllocError> {
     let first = body.dangling_instr_seq(PLAIN)?;
     let _second = body.dangling_instr_seq(PLAIN)?;
-    assert!(rt; first.index() < body.seqs().len());
-    Ok((body, first))
+    Ok(first)
 }
 
-// Whether the sequence has these forms with these locations, and its `end` this one.
+// Whether the sequence has instructions with these locations, and its `end` this one.
 fn is_placed(seq: &InstrSeq, id: usize, places: &[u32], end: u32) -> bool {
     let mut left = places.iter();
     for (_instr, place) in seq.instrs.iter() {
@@ -47,7 +44,8 @@ fn is_second(seqs: &[InstrSeq], places: &[u32], end: u32) -> bool {
 
 #[test]
 fn lent_for_writing(rt: HostRuntime) -> Result<(), Fail> {
-    let (mut body, first) = with_two(&rt, rt.alloc())?;
+    let mut body = function(rt.alloc())?;
+    let first = add_two(&mut body)?;
     assert!(rt; first.index() < body.seqs().len());
     let seq = body.seq_mut(first);
     seq.ty = InstrSeqType::Simple(Some(ValType::I64));
@@ -62,7 +60,8 @@ fn lent_for_writing(rt: HostRuntime) -> Result<(), Fail> {
 
 #[test]
 fn filled(rt: HostRuntime) -> Result<(), Fail> {
-    let (mut body, first) = with_two(&rt, rt.alloc())?;
+    let mut body = function(rt.alloc())?;
+    let first = add_two(&mut body)?;
     let mut instrs = Vec::new(rt.alloc());
     instrs.push((Instr::Drop, InstrLocId::new(3)))?;
     instrs.push((Instr::Return, InstrLocId::new(4)))?;
@@ -74,7 +73,8 @@ fn filled(rt: HostRuntime) -> Result<(), Fail> {
 
 #[test]
 fn appended_with_locations(rt: HostRuntime) -> Result<(), Fail> {
-    let (mut body, first) = with_two(&rt, rt.alloc())?;
+    let mut body = function(rt.alloc())?;
+    let first = add_two(&mut body)?;
     assert!(rt; first.index() < body.seqs().len());
     let seq = body.instr_seq(first);
     seq.instr_with_location(Instr::Drop, InstrLocId::new(8))?;
