@@ -5,5 +5,4 @@ mod Kept
 mod Renamed
 mod Starts
 mod SwapLemmas
-mod Tied
 mod Turned

@@ -26,7 +26,7 @@ use Rattle.walrus_swap_law.proofs.Exchange.{goes, goes-back, goes-low, goes-high
 use Rattle.walrus_swap_law.proofs.Filled.{live, listed, HasType, Filled}
 use Rattle.walrus_swap_law.proofs.Follows.{Follows}
 use Rattle.walrus_swap_law.proofs.Renamed.{renamed_item}
-use Rattle.walrus_swap_law.proofs.Tied.{tied}
+use Rattle.walrus_type_index.proofs.Tied.{tied}
 
 -- numbers of lists
 pub in-left : (xs ys : List ℕ) (m : ℕ) → In m xs → In m (xs ++ ys)
