@@ -1,0 +1,95 @@
+//! Times the test of a tree: `walrus_tree_bench BLOCKS WITHIN SHAPE`.
+//!
+//! Makes a body of so many blocks with so many instructions in each and in the body, a third of which branch to the body:
+//! each in the one before where the shape is `nested`, else all in the body, and tests five times whether it
+//! is a tree. The count of instructions is printed on standard output; on standard error the microseconds of
+//! the shortest test.
+#![tactic(auto)]
+
+use anyhow::Result;
+use std::alloc::{AllocError, Global};
+use std::env;
+use std::time::Instant;
+use walrus_arena::{InstrSeqId, TypeId};
+use walrus_builder::FunctionBuilder;
+use walrus_instr::{Instr, InstrSeqType};
+use walrus_tree::check_tree;
+
+const PLAIN: InstrSeqType = InstrSeqType::Simple(None);
+
+fn main(rt: HostRuntime) -> Result<()> {
+    let words: Vec<String> = env::args(&rt)?.collect(rt.alloc())?;
+    let blocks = number(words.get(1));
+    let within = number(words.get(2));
+    let nested = words.get(3).is_some_and(|word| word.as_str() == "nested");
+    let body = body_of(rt.alloc(), blocks, within, nested)?;
+    let mut least = u128::MAX;
+    let mut trees = 0u32;
+    for _ in 0..5 {
+        let start = Instant::now(&rt)?;
+        if check_tree(rt.alloc(), &body, body.func_body_id())? {
+            trees = trees.saturating_add(1);
+        }
+        least = least.min(start.elapsed(&rt)?.as_micros());
+    }
+    println!(rt; "{} instructions, a tree {trees} times", count(&body))?;
+    eprintln!(rt; "{least}")?;
+    Ok(())
+}
+
+fn number(word: Option<&String>) -> usize {
+    match word {
+        Some(word) => word.parse::<usize>().unwrap_or(0),
+        None => 0,
+    }
+}
+
+fn count(body: &FunctionBuilder) -> usize {
+    let mut sum = 0usize;
+    for seq in body.seqs() {
+        sum = sum.saturating_add(seq.instrs.len());
+    }
+    sum
+}
+
+// Adds an instruction to a sequence that is there.
+fn add(body: &mut FunctionBuilder, seq: InstrSeqId, instr: Instr) -> Result<(), AllocError> {
+    if seq.index() < body.seqs().len() {
+        body.instr_seq(seq).instr(instr)?;
+    }
+    Ok(())
+}
+
+// Adds so many instructions to a sequence.
+fn fill(body: &mut FunctionBuilder, seq: InstrSeqId, within: usize) -> Result<(), AllocError> {
+    let start = body.func_body_id();
+    for k in 0..within {
+        match k % 3 {
+            0 => add(body, seq, Instr::Drop)?,
+            1 => add(body, seq, Instr::RefEq)?,
+            _ => add(body, seq, Instr::BrIf { block: start })?,
+        }
+    }
+    Ok(())
+}
+
+fn body_of(
+    alloc: Global,
+    blocks: usize,
+    within: usize,
+    nested: bool,
+) -> Result<FunctionBuilder, AllocError> {
+    let mut body = FunctionBuilder::with_types(alloc, TypeId::from_index(0), PLAIN)?;
+    let start = body.func_body_id();
+    let mut outer = start;
+    fill(&mut body, start, within)?;
+    for _ in 0..blocks {
+        let seq = body.dangling_instr_seq(PLAIN)?;
+        fill(&mut body, seq, within)?;
+        add(&mut body, outer, Instr::Block { seq })?;
+        if nested {
+            outer = seq;
+        }
+    }
+    Ok(body)
+}
