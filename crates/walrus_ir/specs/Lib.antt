@@ -15,6 +15,8 @@ pub use Rattle.walrus_forms.specs.Values
 pub use Rattle.walrus_types.specs.Items
 pub use Rattle.walrus_types.specs.Emission
 pub use Rattle.walrus_types.specs.Groups
+pub use Rattle.walrus_types.specs.Inverse
+pub use Rattle.walrus_types.specs.Merged
 pub use Rattle.walrus_types.specs.Mergers
 pub use Rattle.walrus_types.specs.Parsing
 pub use Rattle.walrus_types.specs.Table
@@ -37,5 +39,9 @@ pub use Rattle.walrus_walks.specs.Tree
 pub use Rattle.walrus_walks.specs.Walk
 -- Functions that are built.
 pub use Rattle.walrus_builder.specs.Built
+pub use Rattle.walrus_builder.specs.Edited
 pub use Rattle.walrus_builder.specs.Functions
 pub use Rattle.walrus_builder.specs.Lends as BuilderLends
+-- Sequences that form trees, and their text.
+pub use Rattle.walrus_tree.specs.Text
+pub use Rattle.walrus_tree.specs.Trees

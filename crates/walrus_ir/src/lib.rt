@@ -18,6 +18,7 @@ pub use walrus_instr::{
     InstrSeq, InstrSeqType, LegacyCatch, LoadKind, LoadSimdKind, MemArg, ShuffleIndices, StoreKind,
     TernaryOp, TryTableCatch, UnaryOp, Value,
 };
+pub use walrus_tree::check_tree;
 pub use walrus_types::{
     AbstractHeapType, ArrayType, CompositeRecord, CompositeType, EmittedTypes, FieldRecord,
     FieldType, FunctionType, GroupRecord, HeapRecord, HeapType, IrError, Local, ModuleLocals,
@@ -32,6 +33,7 @@ pub mod laws {
     pub use walrus_builder::laws as building;
     pub use walrus_forms::laws as forms;
     pub use walrus_instr::laws as constants;
+    pub use walrus_tree::laws as trees;
     pub use walrus_type_order::laws as sorting;
     pub use walrus_types::laws as types;
     pub use walrus_walks::{laws as walks, visit_laws as visits};

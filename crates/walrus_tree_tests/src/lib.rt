@@ -27,3 +27,5 @@ mod renamer;
 mod sizes;
 #[cfg(test)]
 mod tests;
+#[cfg(test)]
+mod trees;
