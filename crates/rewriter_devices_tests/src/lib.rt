@@ -3,3 +3,5 @@
 
 #[cfg(test)]
 mod devices;
+#[cfg(test)]
+mod standard;
