@@ -42,8 +42,8 @@ pub has_one_more : (names new : BTreeSet (Bor (List ℕ))) (exports : List Expor
 has_one_more names new exports key e same has updates = λ name.
     let r = λ (e : model.Export). same_name e.name name.now in
     let here : contains name_cmp new name ≡ cond (same_name key.now name.now) true (contains name_cmp names name) =
-        updates.0 name ∙ rw (is_eq-slice_cmp key.now name.now) refl in
+    updates.0 name ∙ rw (is_eq-slice_cmp key.now name.now) refl in
     let others : contains name_cmp names name ≡ list_any r (map export_of exports) = has name in
     let last : list_any r (map export_of (exports ++ e ∷ [])) ≡ (list_any r (map export_of exports) || (same_name e.name.now name.now || false)) =
-        rw (map_push export_of exports e) (list_any-append r (map export_of exports) (export_of e ∷ [])) in
+    rw (map_push export_of exports e) (list_any-append r (map export_of exports) (export_of e ∷ [])) in
     here ∙ rw (others, same) (or_last (same_name key.now name.now) (list_any r (map export_of exports))) ∙ sym last

@@ -73,7 +73,7 @@ module _ {A B : Type 0} (b : ℕ) (f : Format A) (g : Format B) (apart : (later 
         | inl is ↦ step_ok (f.parse bytes) led_by (x, later) (sym (there c bytes is) ∙ e) (λ y p q.
             let s = f.found bytes y.1 y.0 (later_bytes (c ∷ []) bytes small) p in
             subst (λ (z : (A ⊎ B) × List ℕ). Stands SpellsLed LedRules (c ∷ bytes) z.1 z.0) (done_is (inl y.0, y.1) (x, later) q)
-              (b ∷ s.0, ap (λ (n : ℕ). n ∷ bytes) (eqb-true c b is) ∙ ap (λ (l : List ℕ). b ∷ l) s.1, (s.0, refl, s.2), s.3))
+            (b ∷ s.0, ap (λ (n : ℕ). n ∷ bytes) (eqb-true c b is) ∙ ap (λ (l : List ℕ). b ∷ l) s.1, (s.0, refl, s.2), s.3))
         | inr apart_is ↦ by_other (c ∷ bytes) small (sym (not_there (c ∷ bytes) (other_byte c bytes apart_is)) ∙ e)
       ]
 

@@ -76,14 +76,14 @@ module _ {A B : Type 0} (f : Format A) (into : A → Option B) (trouble : Troubl
     tells = λ bytes s h. elim h [
       | inl p ↦ rw (f.tells bytes s p) refl
       | inr p ↦ let stands = p.2 in let none = p.3 in
-        let there : f.parse bytes ≡ Ok (p.0, p.1) = rw stands.1 (f.again stands.0 p.1 p.0 stands.2 stands.3) in
-        rw (there, none.0, none.1) refl
+          let there : f.parse bytes ≡ Ok (p.0, p.1) = rw stands.1 (f.again stands.0 p.1 p.0 stands.2 stands.3) in
+          rw (there, none.0, none.1) refl
     ];
     within = λ bytes. inside_wide (length bytes) (f.parse bytes) (told_next (length bytes)) (f.within bytes)
         (λ x le. told_inside into trouble (length bytes) (length bytes) x (into x.0) (omega arith) le);
     final = λ bytes more s small e k. step_err (f.parse bytes) (told_next (length bytes)) s e (λ p. rw (f.final bytes more s small p k) refl)
         (λ x p q. let t = told_err into trouble (length bytes) x (into x.0) s q in
-          rw (parsed_final f bytes x.1 more x.0 small p, t.0, length-append bytes more, t.1) refl);
+        rw (parsed_final f bytes x.1 more x.0 small p, t.0, length-append bytes more, t.1) refl);
   }
 
 -- ---- a test of a whole value whose fault stands inside it, so many bytes behind its first
@@ -129,14 +129,14 @@ module _ {A : Type 0} (f : Format A) (test : A → Option (ℕ × Trouble)) (inn
     tells = λ bytes s h. elim h [
       | inl p ↦ rw (f.tells bytes s p) refl
       | inr p ↦ let stands = p.2 in let t = p.3 in
-        let there : f.parse bytes ≡ Ok (p.0, p.1) = rw stands.1 (f.again stands.0 p.1 p.0 stands.2 stands.3) in
-        rw (there, t.1, t.2) refl
+          let there : f.parse bytes ≡ Ok (p.0, p.1) = rw stands.1 (f.again stands.0 p.1 p.0 stands.2 stands.3) in
+          rw (there, t.1, t.2) refl
     ];
     within = λ bytes. inside_wide (length bytes) (f.parse bytes) (λ x. inner_tested (test x.0) (length bytes) x) (f.within bytes)
         (λ x le. inner_inside (test x.0) (length bytes) x le);
     final = λ bytes more s small e k. step_err (f.parse bytes) (λ x. inner_tested (test x.0) (length bytes) x) s e (λ p. rw (f.final bytes more s small p k) refl)
         (λ x p q. let t = inner_err (test x.0) (length bytes) x s q in
-          let stands = f.found bytes x.1 x.0 small p in
-          let le : t.0.0 ≤ length bytes = omega (arith, inner stands.0 x.0 t.0 stands.2 t.1, ap length stands.1, length-append stands.0 x.1) in
-          rw (parsed_final f bytes x.1 more x.0 small p, length-append bytes more) (inner_final (test x.0) (length bytes) (length more) (x.0, x.1 ++ more) s t.0 t.1 le t.2));
+        let stands = f.found bytes x.1 x.0 small p in
+        let le : t.0.0 ≤ length bytes = omega (arith, inner stands.0 x.0 t.0 stands.2 t.1, ap length stands.1, length-append stands.0 x.1) in
+        rw (parsed_final f bytes x.1 more x.0 small p, length-append bytes more) (inner_final (test x.0) (length bytes) (length more) (x.0, x.1 ++ more) s t.0 t.1 le t.2));
   }

@@ -32,8 +32,8 @@ module _ {A : Type 0} (b : ℕ) (entry : Format A) (apart : (later : List ℕ) (
   turn = led b (nothing tt) entry apart some wants
 
   abbrev pub last_or : (List ℕ → Parsing (List A)) → (Unit {0} ⊎ A) × List ℕ → Parsing (List A)
-  last_or rest (inl x , later) = Ok ([], later)
-  last_or rest (inr x , later) = rest later >>= λ xs. Ok (x ∷ xs.0, xs.1)
+  last_or rest (inl x, later) = Ok ([], later)
+  last_or rest (inr x, later) = rest later >>= λ xs. Ok (x ∷ xs.0, xs.1)
 
   abbrev pub parse_until : ℕ → List ℕ → Parsing (List A)
   parse_until zero bytes = Err (stop Count 0)
@@ -55,7 +55,7 @@ module _ {A : Type 0} (b : ℕ) (entry : Format A) (apart : (later : List ℕ) (
           let rests = more rest ys.1 ys.0 (behind_small turn bytes rest (inr x) small p) r in
           let same = done_is (x ∷ ys.0, ys.1) (xs, later) t in
           subst (λ (z : List A × List ℕ). Stands SpellsUntil UntilRules bytes z.1 z.0) same
-            (s.0 ++ rests.0, s.1 ∙ ap (λ (l : List ℕ). s.0 ++ l) rests.1 ∙ sym (append_assoc s.0 rests.0 ys.1), (s.0, rests.0, refl, s.2, rests.2), (s.3, rests.3)))
+          (s.0 ++ rests.0, s.1 ∙ ap (λ (l : List ℕ). s.0 ++ l) rests.1 ∙ sym (append_assoc s.0 rests.0 ys.1), (s.0, rests.0, refl, s.2, rests.2), (s.3, rests.3)))
 
   -- an entry's bytes are some
   pub some_bytes : (bytes : List ℕ) (x : A) → entry.spells bytes x → 0 < length bytes
@@ -84,11 +84,11 @@ module _ {A : Type 0} (b : ℕ) (entry : Format A) (apart : (later : List ℕ) (
           → turn.parse bytes ≡ Ok (x, rest) → last_or (parse_until fuel) (x, rest) ≡ Err s → StopsUntil bytes s
       go (inl u) rest more p q = done_refused ([], rest) s q
       go (inr x) rest more p q = step_err (parse_until fuel rest) (λ xs. Ok (x ∷ xs.0, xs.1)) s q
-        (λ r. let f = turn.found bytes rest (inr x) small p in
+          (λ r. let f = turn.found bytes rest (inr x) small p in
           let less : length rest < fuel = omega (arith, le, some_bytes f.0 x f.2, ap length f.1, length-append f.0 rest) in
           let t = more rest less (behind_small turn bytes rest (inr x) small p) r in
           (x ∷ t.0, f.0 ++ t.1, t.2, f.1 ∙ ap (λ (l : List ℕ). f.0 ++ l) t.3 ∙ sym (append_assoc f.0 t.1 t.2), (f.0, t.1, refl, f.2, t.4), (f.3, t.5), t.6, t.7))
-        (λ ys _ t. done_refused (x ∷ ys.0, ys.1) s t)
+          (λ ys _ t. done_refused (x ∷ ys.0, ys.1) s t)
 
   pub until_tells : (xs : List A) (fuel : ℕ) (front later : List ℕ) (s : Stop) → length (front ++ later) < fuel → SpellsMany front xs → UntilRules xs → IsOther b later → entry.stops later s
       → parse_until fuel (front ++ later) ≡ Err s
@@ -120,8 +120,8 @@ module _ {A : Type 0} (b : ℕ) (entry : Format A) (apart : (later : List ℕ) (
           → turn.parse bytes ≡ Ok (x, rest) → last_or (parse_until fuel) (x, rest) ≡ Err s → parse_until (suc wide) (bytes ++ more) ≡ Err (moved (length more) s)
       go (inl u) rest later p q = done_refused ([], rest) s q
       go (inr x) rest later p q = step_err (parse_until fuel rest) (λ xs. Ok (x ∷ xs.0, xs.1)) s q
-        (λ r. rw (parsed_final turn bytes rest more (inr x) small p, later rest (behind_small turn bytes rest (inr x) small p) r) refl)
-        (λ ys _ t. done_refused (x ∷ ys.0, ys.1) s t)
+          (λ r. rw (parsed_final turn bytes rest more (inr x) small p, later rest (behind_small turn bytes rest (inr x) small p) r) refl)
+          (λ ys _ t. done_refused (x ∷ ys.0, ys.1) s t)
 
   abbrev pub until : Format (List A)
   until = record {

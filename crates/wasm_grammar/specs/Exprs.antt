@@ -53,7 +53,7 @@ forms_of (Some kind) = forms kind
 abbrev pub items : WasmFeatures → OpCode → Format (List Item)
 items features code =
     leaf (items_at features (forms_of (kind_of features code))) (SpellsForms features (forms_of (kind_of features code)))
-      (forms_taken features (forms_of (kind_of features code))) (items_final features (forms_of (kind_of features code)))
+    (forms_taken features (forms_of (kind_of features code))) (items_final features (forms_of (kind_of features code)))
 
 abbrev pub seen_of : OpCode × List Item → Seen
 seen_of p = record { code = p.0; items = p.1 }

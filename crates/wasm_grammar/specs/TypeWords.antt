@@ -130,7 +130,7 @@ abstract_told from.NoCont y e = none_some y e
 pub heap_told : (x : ReadHeap) (y : HeapType) → heap_of x ≡ Some y → x ≡ heap_from y
 heap_told (FromAbstract false ty) y e =
     mapped_told Abstract (λ a. FromAbstract false (abstract_from a)) heap_from (abstract_of ty) (FromAbstract false ty) y (λ a. refl)
-      (λ a h. ap (λ (t : ReadAbstract). FromAbstract false t) (abstract_told ty a h)) e
+    (λ a h. ap (λ (t : ReadAbstract). FromAbstract false t) (abstract_told ty a h)) e
 heap_told (FromAbstract true ty) y e = none_some y e
 heap_told (FromConcrete (Module index)) y e = ap heap_from (some_same (Concrete index) y e)
 heap_told (FromConcrete (RecGroup index)) y e = none_some y e
@@ -142,7 +142,7 @@ heap_told (FromExact (Id id)) y e = none_some y e
 pub ref_told : (x : Reference) (y : RefType) → ref_of x ≡ Some y → x ≡ ref_from y
 ref_told x y e =
     mapped_told (λ h. record { nullable = x.nullable; heap_type = h }) (λ h. reference x.nullable (heap_from h)) ref_from (heap_of x.heap_type) x y (λ h. refl)
-      (λ h k. ap (λ (t : ReadHeap). reference x.nullable t) (heap_told x.heap_type h k)) e
+    (λ h k. ap (λ (t : ReadHeap). reference x.nullable t) (heap_told x.heap_type h k)) e
 
 pub value_told : (x : ReadValue) (y : ValType) → value_of x ≡ Some y → x ≡ value_from y
 value_told values.I32 y e = ap value_from (some_same I32 y e)
@@ -152,7 +152,7 @@ value_told values.F64 y e = ap value_from (some_same F64 y e)
 value_told values.V128 y e = ap value_from (some_same V128 y e)
 value_told (values.Ref r) y e =
     mapped_told Ref (λ r. values.Ref (ref_from r)) value_from (ref_of r) (values.Ref r) y (λ r. refl)
-      (λ s k. ap (λ (t : Reference). values.Ref t) (ref_told r s k)) e
+    (λ s k. ap (λ (t : Reference). values.Ref t) (ref_told r s k)) e
 
 pub ref_once : (x y : Reference) (z : RefType) → ref_of x ≡ Some z → ref_of y ≡ Some z → x ≡ y
 ref_once x y z e f = ref_told x z e ∙ sym (ref_told y z f)
