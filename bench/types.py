@@ -1,12 +1,15 @@
 #!/usr/bin/env python3
-"""Times the table of types: adds, writes, parses, merges and writes again so many types, and prints the time of each.
+"""Times the table of types: adds, writes, parses, merges and writes again so many types, looks types up, edits a
+table, and adds types with one long front, and prints the time of each.
 
     bench/types.py [--rounds N]
 
-A time is the least of the rounds.
+A time is the processor's, of a whole run of walrus_types_bench, the least of the rounds; what a run of no look-ups
+takes is taken off that of the look-ups.
 """
 import argparse
 import os
+import resource
 import subprocess
 import sys
 
@@ -14,10 +17,16 @@ ROOT = os.path.dirname(os.path.dirname(os.path.abspath(__file__)))
 CRATE = f"{ROOT}/crates/walrus_types_bench"
 
 
-def measured(singles, groups):
-    words = [f"{CRATE}/out/walrus_types_bench", str(singles), str(groups)]
-    done = subprocess.run(words, capture_output=True, text=True, check=True)
-    return int(done.stderr.split()[1])
+def run(counts):
+    """The seconds of the processor that one run takes."""
+    before = resource.getrusage(resource.RUSAGE_CHILDREN)
+    subprocess.run([f"{CRATE}/out/walrus_types_bench", *map(str, counts)], stdout=subprocess.DEVNULL, check=True)
+    after = resource.getrusage(resource.RUSAGE_CHILDREN)
+    return after.ru_utime - before.ru_utime + after.ru_stime - before.ru_stime
+
+
+def least(rounds, counts):
+    return min(run(counts) for _ in range(rounds))
 
 
 def main():
@@ -26,12 +35,23 @@ def main():
     asked = words.parse_args()
     # proved and built anew where its sources are newer
     print("building walrus_types_bench", file=sys.stderr)
-    subprocess.run(["rt", "run", "--", "16", "16"], cwd=CRATE, check=True, stdout=subprocess.DEVNULL, stderr=subprocess.DEVNULL)
-    for what, sizes in ("single types", (10**4, 10**5, 10**6)), ("groups of two", (10**3, 10**4, 10**5)):
+    subprocess.run(["rt", "run", "--", "16", "16", "16", "16", "16"], cwd=CRATE, check=True, stdout=subprocess.DEVNULL, stderr=subprocess.DEVNULL)
+    # what is timed, and its sizes: the program's words for a size, those of what is taken off, how many it does
+    searches = 10**6
+    parts = (
+        ("single types", (10**4, 10**5, 10**6), lambda n: (n, 0, 0, 0, 0), None, lambda n: n),
+        ("groups of two", (10**3, 10**4, 10**5), lambda n: (0, n, 0, 0, 0), None, lambda n: n),
+        ("types, among which 1,000,000 are looked up", (10**4, 10**5, 10**6), lambda n: (n, 0, searches, 0, 0), lambda n: (n, 0, 0, 0, 0), lambda n: searches),
+        ("turns of add, rename and, every second, delete", (10**4, 10**5, 10**6), lambda n: (0, 0, 0, n, 0), None, lambda n: n),
+        ("types with one front of 1,000 parameters", (2000, 4000, 8000, 16000), lambda n: (0, 0, 0, 0, n), None, lambda n: n),
+    )
+    for what, sizes, counts, off, times in parts:
+        before = None
         for size in sizes:
-            counts = (size, 0) if what == "single types" else (0, size)
-            took = min(measured(*counts) for _ in range(asked.rounds))
-            print(f"{size:,} {what}: {took / 1e6:.3f} s, {took / size:.2f} microseconds each")
+            took = least(asked.rounds, counts(size)) - (least(asked.rounds, off(size)) if off else 0)
+            growth = f", {took / before[1]:.2f} times that of {before[0]:,}" if before else ""
+            print(f"{size:,} {what}: {took:.3f} s, {took * 1e6 / times(size):.2f} microseconds each{growth}")
+            before = (size, took)
 
 
 if __name__ == "__main__":

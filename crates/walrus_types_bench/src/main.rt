@@ -1,15 +1,16 @@
-//! Times a type table: `walrus_types_bench SINGLES GROUPS`.
+//! Works on type tables: `walrus_types_bench SINGLES GROUPS LOOKED_UP EDITS FRONTS`. `bench/types.py` times it.
 //!
 //! Makes so many single function types and groups of two structures that name each other, writes them,
 //! parses what was written into a new table, adds half of the single types again, and writes that table.
-//! The count of groups is printed on standard output; on standard error the microseconds that adding them
-//! took, and those that all took.
+//! Then looks single types of the first table up, so often. Makes so many edits of a new table: each adds a
+//! type and renames it, and every second one deletes it. Adds to a third table so many types whose first 1,000
+//! parameters are the same. The counts of groups, of types that were found, of types that are left and of
+//! types with one front are printed.
 #![tactic(auto)]
 
 use anyhow::Result;
 use std::alloc::Global;
 use std::env;
-use std::time::Instant;
 use walrus_arena::TypeId;
 use walrus_types::{
     CompositeType, FieldType, HeapType, IrError, ModuleTypes, NewType, RefType, StorageType,
@@ -18,18 +19,30 @@ use walrus_types::{
 
 fn main(rt: HostRuntime) -> Result<()> {
     let words: Vec<String> = env::args(&rt)?.collect(rt.alloc())?;
-    let singles = number(words.get(1));
-    let groups = number(words.get(2));
-    let mut types = ModuleTypes::new(rt.alloc());
-    let start = Instant::now(&rt)?;
-    add_singles(&mut types, singles)?;
-    add_groups(rt.alloc(), &mut types, groups)?;
-    let added = start.elapsed(&rt)?;
-    let written = write_again(rt.alloc(), &types, singles)?;
-    let took = start.elapsed(&rt)?;
-    println!(rt; "{written} groups")?;
-    eprintln!(rt; "{} {}", added.as_micros(), took.as_micros())?;
+    let (written, found) = singles_and_groups(
+        rt.alloc(),
+        number(words.get(1)),
+        number(words.get(2)),
+        number(words.get(3)),
+    )?;
+    let left = edit(rt.alloc(), number(words.get(4)))?;
+    let fronts = add_fronts(rt.alloc(), number(words.get(5)))?;
+    println!(rt; "{written} groups, {found} found, {left} left, {fronts} with one front")?;
     Ok(())
+}
+
+// Gives how many groups are written in the second round, and how many look-ups find a type.
+fn singles_and_groups(
+    alloc: Global,
+    singles: usize,
+    groups: usize,
+    looked_up: usize,
+) -> Result<(usize, usize)> {
+    let mut types = ModuleTypes::new(alloc);
+    add_singles(&mut types, singles)?;
+    add_groups(alloc, &mut types, groups)?;
+    let written = write_again(alloc, &types, singles)?;
+    Ok((written, find_singles(&types, singles, looked_up)))
 }
 
 fn number(word: Option<&String>) -> usize {
@@ -75,17 +88,84 @@ fn parameters(n: u64) -> [ValType; 10] {
     ]
 }
 
+// The next number by chance, and the one after it.
+fn next(state: u64) -> u64 {
+    state
+        .wrapping_mul(6364136223846793005)
+        .wrapping_add(1442695040888963407)
+}
+
 // Function types of ten parameters each, in an order by chance. The same calls add the same types.
 fn add_singles(types: &mut ModuleTypes, count: usize) -> Result<()> {
     let mut state = 12345u64;
     for _ in 0..count {
-        state = state
-            .wrapping_mul(6364136223846793005)
-            .wrapping_add(1442695040888963407);
-        let n = state >> 33;
-        types.add(&parameters(n), &[])?;
+        state = next(state);
+        types.add(&parameters(state >> 33), &[])?;
     }
     Ok(())
+}
+
+// Looks up the types of so many that were added, one after another and from the first again, so often. Gives
+// how often one was found.
+fn find_singles(types: &ModuleTypes, count: usize, looked_up: usize) -> usize {
+    let mut state = 12345u64;
+    let mut left = count;
+    let mut found = 0usize;
+    for _ in 0..looked_up {
+        if left == 0 {
+            state = 12345;
+            left = count;
+        }
+        state = next(state);
+        left = left.saturating_sub(1);
+        if types.find(&parameters(state >> 33), &[]).is_some() {
+            found = found.saturating_add(1);
+        }
+    }
+    found
+}
+
+// How many types live.
+fn live(types: &ModuleTypes) -> usize {
+    let mut count = 0usize;
+    for _ in types.iter() {
+        count = count.saturating_add(1);
+    }
+    count
+}
+
+// Adds so many types one by one, renames each, and deletes every second one. Gives how many live.
+fn edit(alloc: Global, count: usize) -> Result<usize> {
+    let mut types = ModuleTypes::new(alloc);
+    let mut state = 12345u64;
+    for turn in 0..count {
+        state = next(state);
+        let id = types.add(&parameters(state >> 33), &[])?;
+        if types.contains(id) {
+            types.get_mut(id).name = Some("a".to_string(alloc)?);
+        }
+        if turn % 2 == 1 && types.contains(id) {
+            types.delete(id);
+        }
+    }
+    Ok(live(&types))
+}
+
+// Adds so many types whose first 1,000 parameters are the same. Gives how many there are.
+fn add_fronts(alloc: Global, count: usize) -> Result<usize> {
+    let mut front = Vec::new(alloc);
+    for _ in 0..1000 {
+        front.push(ValType::I32)?;
+    }
+    let mut types = ModuleTypes::new(alloc);
+    let mut state = 12345u64;
+    for _ in 0..count {
+        state = next(state);
+        let mut params = Vec::from_slice(alloc, front.as_slice())?;
+        params.extend_from_slice(&parameters(state >> 33))?;
+        types.add(params.as_slice(), &[])?;
+    }
+    Ok(live(&types))
 }
 
 // An immutable field that refers to the type.
