@@ -1,0 +1,44 @@
+-- What a call of the reader of operators answers.
+use Rattle.std.specs.Prelude.{ℕ, ◌+◌, ◌-◌, ◌≤◌, ◌≡◌, ◌⊎◌, true, List, Option, Some, None, Result, Ok, Err, IfErr}
+use Rattle.wasm_features.specs.declared.WasmFeatures.{WasmFeatures}
+use Rattle.wasm_reader.specs.declared.error.Error.{Error}
+use Rattle.wasm_reader.specs.Cursor.{Cursor, rest, end_of, Forward}
+use Rattle.wasm_reader.specs.Reading.{Reading, fault}
+use Rattle.wasm_reader.specs.Items.{WantsMemory}
+use Rattle.wasm_operators.specs.declared.entry.Kind.{Kind}
+use Rattle.wasm_operators.specs.declared.op_code.OpCode.{OpCode}
+use Rattle.wasm_operators.specs.Kinds.{takes_memory}
+use Rattle.wasm_operators.specs.Operators.{kind_of, code_at, Seen, operator_at}
+use Rattle.walrus_operators.specs.declared.operator.Operator.{Operator}
+use Rattle.walrus_operators.specs.declared.reader.OperatorError.{OperatorError}
+use Rattle.walrus_operators.specs.declared.reader.OperatorError.TheVariants as errors
+use Rattle.walrus_operators.specs.Immediates.{items_of}
+
+-- an operator's code and items
+abbrev pub seen : Operator → Seen
+seen op = record { code = op.code; items = items_of op.immediates }
+
+abbrev pub offset_of : OperatorError → ℕ
+offset_of (errors.Read e) = e.offset
+offset_of (errors.Unknown offset) = offset
+
+-- the operator that stands here has a list among its immediates
+abbrev pub HoldsList : WasmFeatures → List ℕ → Type 0
+HoldsList features bytes = (code : OpCode) × (later : List ℕ) × (kind : Kind) × (code_at bytes ≡ Ok (code, later)) × (kind_of features code ≡ Some kind) × (takes_memory kind ≡ true)
+
+-- memory was refused, where the reader stands, to an operator that holds a list
+abbrev pub WantsMemoryOfList : WasmFeatures → Cursor → Cursor → Error → Type 0
+WantsMemoryOfList features old new e = HoldsList features (rest old) × WantsMemory new e
+
+-- a call's result is the reading's answer: the operator, or the fault, or that its code is no operator's, at the operator's first
+-- byte; or memory is wanted for a list
+abbrev pub Answers : WasmFeatures → Cursor → Cursor → Result Operator OperatorError → Reading (Option Seen) → Type 0
+Answers features old new (Ok op) read = read ≡ Ok (Some (seen op), rest new)
+Answers features old new (Err (errors.Read e)) read = (read ≡ Err (fault e.kind (end_of new - e.offset))) ⊎ WantsMemoryOfList features old new e
+Answers features old new (Err (errors.Unknown offset)) read = (read ≡ Ok (None, rest new)) × (offset ≡ old.window.start + old.position)
+
+-- the call read what the reading says
+pub record ReadsOperator (features : WasmFeatures) (old new : Cursor) (result : Result Operator OperatorError) : Type 0 where
+  pub value : Answers features old new result (operator_at features (rest old))
+  pub place : IfErr result (λ e. offset_of e ≤ end_of new)
+  pub moves : Forward old new

@@ -1,0 +1,11 @@
+//! Operators, read one by one (Core Specification, binary format: instructions).
+#![tactic(auto)]
+
+mod immediates;
+mod operator;
+mod read;
+mod reader;
+
+pub use immediates::Immediates;
+pub use operator::Operator;
+pub use reader::{OperatorError, OperatorReader};
