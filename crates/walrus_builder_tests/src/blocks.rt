@@ -3,6 +3,7 @@ use crate::common::{PLAIN, function};
 use crate::rows::assert_rows;
 use std::alloc::AllocError;
 use std::mem;
+use std::process::Abort;
 use std::test::Fail;
 use walrus_arena::InstrSeqId;
 use walrus_builder::{FunctionBuilder, InstrSeqBuilder};
@@ -55,78 +56,59 @@ fn constants(rt: HostRuntime) -> Result<(), Fail> {
     Ok(())
 }
 
-#[test]
-fn block(rt: HostRuntime) -> Result<(), Fail> {
-    let mut body = function(rt.alloc())?;
-    let seq = body.func_body();
+// The sequences 1 to 4 are held at the end.
+fn add_blocks(seq: &mut InstrSeqBuilder) -> Result<(), AllocError> {
     seq.drop()?;
-    seq.block(LONG, |inner| inner.i32_const(2))?;
-    assert_eq!(rt; seq.id().index(), 0);
-    assert_rows(&rt, seq.instrs(), &[("drop", 0, 0, 0), ("block", 1, 0, 0)]);
-    assert!(rt; holds(&body, 1, LONG, 2));
-    Ok(())
+    seq.block(LONG, |inner| inner.i32_const(1))?;
+    seq.loop_(PLAIN, |inner| inner.i32_const(2))?;
+    seq.if_else(LONG, |then| then.i32_const(3), |other| other.i32_const(4))
 }
 
-#[test]
-fn block_at(rt: HostRuntime) -> Result<(), Fail> {
-    let mut body = function(rt.alloc())?;
-    let seq = body.func_body();
-    seq.drop()?;
-    seq.return_()?;
+// The sequences 5 to 8 are held before.
+fn insert_blocks(rt: &impl Abort, seq: &mut InstrSeqBuilder) -> Result<(), AllocError> {
     assert!(rt; 1 <= seq.instrs().len());
-    seq.block_at(1, PLAIN, |inner| inner.i32_const(3))?;
-    assert_rows(
-        &rt,
-        seq.instrs(),
-        &[("drop", 0, 0, 0), ("block", 1, 0, 0), ("return", 0, 0, 0)],
-    );
-    assert!(rt; holds(&body, 1, PLAIN, 3));
-    Ok(())
-}
-
-#[test]
-fn loops(rt: HostRuntime) -> Result<(), Fail> {
-    let mut body = function(rt.alloc())?;
-    let seq = body.func_body();
-    seq.loop_(PLAIN, |inner| inner.i32_const(4))?;
-    assert!(rt; seq.instrs().len() == 1);
-    seq.loop_at(0, LONG, |inner| inner.i32_const(5))?;
-    assert_rows(&rt, seq.instrs(), &[("loop", 2, 0, 0), ("loop", 1, 0, 0)]);
-    assert!(rt; holds(&body, 1, PLAIN, 4));
-    assert!(rt; holds(&body, 2, LONG, 5));
-    Ok(())
-}
-
-#[test]
-fn if_else(rt: HostRuntime) -> Result<(), Fail> {
-    let mut body = function(rt.alloc())?;
-    let seq = body.func_body();
-    seq.if_else(LONG, |then| then.i32_const(6), |other| other.i32_const(7))?;
-    assert_rows(&rt, seq.instrs(), &[("if_else", 1, 2, 0)]);
-    assert!(rt; holds(&body, 1, LONG, 6));
-    assert!(rt; holds(&body, 2, LONG, 7));
-    Ok(())
-}
-
-#[test]
-fn if_else_at(rt: HostRuntime) -> Result<(), Fail> {
-    let mut body = function(rt.alloc())?;
-    let seq = body.func_body();
-    seq.drop()?;
-    assert!(rt; seq.instrs().len() == 1);
+    seq.block_at(1, PLAIN, |inner| inner.i32_const(5))?;
+    seq.loop_at(0, LONG, |inner| inner.i32_const(6))?;
     seq.if_else_at(
         0,
         PLAIN,
-        |then| then.i32_const(8),
-        |other| other.i32_const(9),
-    )?;
+        |then| then.i32_const(7),
+        |other| other.i32_const(8),
+    )
+}
+
+#[test]
+fn blocks(rt: HostRuntime) -> Result<(), Fail> {
+    let mut body = function(rt.alloc())?;
+    let seq = body.func_body();
+    add_blocks(seq)?;
+    insert_blocks(&rt, seq)?;
+    assert_eq!(rt; seq.id().index(), 0);
     assert_rows(
         &rt,
         seq.instrs(),
-        &[("if_else", 1, 2, 0), ("drop", 0, 0, 0)],
+        &[
+            ("if_else", 7, 8, 0),
+            ("loop", 6, 0, 0),
+            ("drop", 0, 0, 0),
+            ("block", 5, 0, 0),
+            ("block", 1, 0, 0),
+            ("loop", 2, 0, 0),
+            ("if_else", 3, 4, 0),
+        ],
     );
-    assert!(rt; holds(&body, 1, PLAIN, 8));
-    assert!(rt; holds(&body, 2, PLAIN, 9));
+    for (id, ty, value) in [
+        (1, LONG, 1),
+        (2, PLAIN, 2),
+        (3, LONG, 3),
+        (4, LONG, 4),
+        (5, PLAIN, 5),
+        (6, LONG, 6),
+        (7, PLAIN, 7),
+        (8, PLAIN, 8),
+    ] {
+        assert!(rt; holds(&body, id, ty, value));
+    }
     Ok(())
 }
 

@@ -1,8 +1,6 @@
 //! The calls for control, parametric, numeric and variable instructions.
-use crate::common::function;
-use crate::rows::assert_rows;
-use std::alloc::AllocError;
-use std::test::Fail;
+use crate::rows::Row;
+use std::alloc::{AllocError, Global};
 use walrus_arena::{FunctionId, GlobalId, InstrSeqId, LocalId, TableId, TagId, TypeId};
 use walrus_builder::InstrSeqBuilder;
 use walrus_instr::{BinaryOp, Bits128, TernaryOp, UnaryOp, Value};
@@ -15,29 +13,6 @@ fn add_branches(seq: &mut InstrSeqBuilder) -> Result<(), AllocError> {
     seq.br_on_null(InstrSeqId::from_index(3))?;
     seq.br_on_non_null(InstrSeqId::from_index(3))?;
     seq.return_()
-}
-
-#[test]
-fn branches(rt: HostRuntime) -> Result<(), Fail> {
-    let blocks = vec![in rt.alloc(); InstrSeqId::from_index(8)]?;
-    let mut body = function(rt.alloc())?;
-    let seq = body.func_body();
-    seq.br_table(blocks, InstrSeqId::from_index(5))?;
-    add_branches(seq)?;
-    assert_rows(
-        &rt,
-        seq.instrs(),
-        &[
-            ("br_table", 1, 5, 0),
-            ("unreachable", 0, 0, 0),
-            ("br", 3, 0, 0),
-            ("br_if", 3, 0, 0),
-            ("br_on_null", 3, 0, 0),
-            ("br_on_non_null", 3, 0, 0),
-            ("return", 0, 0, 0),
-        ],
-    );
-    Ok(())
 }
 
 fn add_exceptions(seq: &mut InstrSeqBuilder) -> Result<(), AllocError> {
@@ -65,32 +40,6 @@ fn add_calls(seq: &mut InstrSeqBuilder) -> Result<(), AllocError> {
     seq.return_call_ref(TypeId::from_index(3))
 }
 
-#[test]
-fn exceptions_and_calls(rt: HostRuntime) -> Result<(), Fail> {
-    let mut body = function(rt.alloc())?;
-    let seq = body.func_body();
-    add_exceptions(seq)?;
-    add_calls(seq)?;
-    assert_rows(
-        &rt,
-        seq.instrs(),
-        &[
-            ("throw", 3, 0, 0),
-            ("throw_ref", 0, 0, 0),
-            ("rethrow", 3, 0, 0),
-            ("br_on_cast", 3, 2, 3),
-            ("br_on_cast_fail", 3, 2, 3),
-            ("call", 3, 0, 0),
-            ("call_indirect", 3, 5, 0),
-            ("call_ref", 3, 0, 0),
-            ("return_call", 3, 0, 0),
-            ("return_call_indirect", 3, 5, 0),
-            ("return_call_ref", 3, 0, 0),
-        ],
-    );
-    Ok(())
-}
-
 fn add_operators(seq: &mut InstrSeqBuilder) -> Result<(), AllocError> {
     seq.drop()?;
     seq.select(Some(ValType::I64))?;
@@ -116,34 +65,52 @@ fn add_variables(seq: &mut InstrSeqBuilder) -> Result<(), AllocError> {
     seq.global_set(GlobalId::from_index(3))
 }
 
-#[test]
-fn operators_and_variables(rt: HostRuntime) -> Result<(), Fail> {
-    let mut body = function(rt.alloc())?;
-    let seq = body.func_body();
+/// Each call once.
+pub fn add_all(alloc: Global, seq: &mut InstrSeqBuilder) -> Result<(), AllocError> {
+    let blocks = vec![in alloc; InstrSeqId::from_index(8)]?;
+    seq.br_table(blocks, InstrSeqId::from_index(5))?;
+    add_branches(seq)?;
+    add_exceptions(seq)?;
+    add_calls(seq)?;
     add_operators(seq)?;
     add_wide(seq)?;
-    add_variables(seq)?;
-    assert_rows(
-        &rt,
-        seq.instrs(),
-        &[
-            ("drop", 0, 0, 0),
-            ("select", 1, 0, 0),
-            ("const", 1, 0, 0),
-            ("unop", 1, 0, 0),
-            ("binop", 1, 0, 0),
-            ("tern_op", 1, 0, 0),
-            ("i64_add128", 0, 0, 0),
-            ("i64_sub128", 0, 0, 0),
-            ("v128_bitselect", 0, 0, 0),
-            ("i8x16_swizzle", 0, 0, 0),
-            ("i8x16_shuffle", 7, 24, 0),
-            ("local_get", 3, 0, 0),
-            ("local_set", 3, 0, 0),
-            ("local_tee", 3, 0, 0),
-            ("global_get", 3, 0, 0),
-            ("global_set", 3, 0, 0),
-        ],
-    );
-    Ok(())
+    add_variables(seq)
 }
+
+/// What they add.
+pub const ROWS: [Row; 34] = [
+    ("br_table", 1, 5, 0),
+    ("unreachable", 0, 0, 0),
+    ("br", 3, 0, 0),
+    ("br_if", 3, 0, 0),
+    ("br_on_null", 3, 0, 0),
+    ("br_on_non_null", 3, 0, 0),
+    ("return", 0, 0, 0),
+    ("throw", 3, 0, 0),
+    ("throw_ref", 0, 0, 0),
+    ("rethrow", 3, 0, 0),
+    ("br_on_cast", 3, 2, 3),
+    ("br_on_cast_fail", 3, 2, 3),
+    ("call", 3, 0, 0),
+    ("call_indirect", 3, 5, 0),
+    ("call_ref", 3, 0, 0),
+    ("return_call", 3, 0, 0),
+    ("return_call_indirect", 3, 5, 0),
+    ("return_call_ref", 3, 0, 0),
+    ("drop", 0, 0, 0),
+    ("select", 1, 0, 0),
+    ("const", 1, 0, 0),
+    ("unop", 1, 0, 0),
+    ("binop", 1, 0, 0),
+    ("tern_op", 1, 0, 0),
+    ("i64_add128", 0, 0, 0),
+    ("i64_sub128", 0, 0, 0),
+    ("v128_bitselect", 0, 0, 0),
+    ("i8x16_swizzle", 0, 0, 0),
+    ("i8x16_shuffle", 7, 24, 0),
+    ("local_get", 3, 0, 0),
+    ("local_set", 3, 0, 0),
+    ("local_tee", 3, 0, 0),
+    ("global_get", 3, 0, 0),
+    ("global_set", 3, 0, 0),
+];

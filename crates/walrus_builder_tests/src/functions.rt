@@ -1,8 +1,10 @@
 //! Functions that are built, and their sequences.
 use crate::common::{PLAIN, function};
+use std::alloc::{AllocError, Global};
 use std::test::Fail;
-use walrus_builder::FunctionBuilder;
-use walrus_instr::{ConstExpr, ConstOp, Instr, InstrLocId, InstrSeqType, LegacyCatch};
+use walrus_arena::InstrSeqId;
+use walrus_builder::{FunctionBuilder, InstrSeqBuilder};
+use walrus_instr::{ConstExpr, ConstOp, Instr, InstrLocId, InstrSeq, InstrSeqType, LegacyCatch};
 use walrus_types::{ModuleTypes, ValType};
 
 #[test]
@@ -44,73 +46,104 @@ fn list_for_writing(rt: HostRuntime) -> Result<(), Fail> {
     Ok(())
 }
 
+// Makes a function of these types, and gives its body's own type where it begins as it is to.
+fn begun(
+    alloc: Global,
+    types: &mut ModuleTypes,
+    params: &[ValType],
+    results: &[ValType],
+) -> Result<Option<InstrSeqType>, AllocError> {
+    let f = FunctionBuilder::new(alloc, types, params, results)?;
+    let is_begun = f.name.is_none() && f.func_body_id().index() == 0;
+    Ok(match f.seqs() {
+        [own] if is_begun && types.find(params, results) == Some(f.ty()) => Some(own.ty),
+        _ => None,
+    })
+}
+
 #[test]
 fn new_functions(rt: HostRuntime) -> Result<(), Fail> {
     let mut types = ModuleTypes::new(rt.alloc());
-    let f = FunctionBuilder::new(rt.alloc(), &mut types, &[ValType::I32], &[ValType::I64])?;
-    let g = FunctionBuilder::new(rt.alloc(), &mut types, &[ValType::F32], &[ValType::I64])?;
-    assert_eq!(rt; types.find(&[ValType::I32], &[ValType::I64]), Some(f.ty()));
-    assert_eq!(rt; types.find(&[ValType::F32], &[ValType::I64]), Some(g.ty()));
-    assert!(rt; f.name.is_none());
-    assert_eq!(rt; (f.seqs().len(), f.func_body_id().index()), (1, 0));
-    assert!(rt; f.seqs()[0].ty == g.seqs()[0].ty);
-    assert_eq!(rt; types.iter().count(), 3);
+    let f = begun(rt.alloc(), &mut types, &[ValType::I32], &[ValType::I64])?;
+    let g = begun(rt.alloc(), &mut types, &[ValType::F32], &[ValType::I64])?;
+    assert!(rt; f.is_some() && f == g);
+    // The two have one type of their own blocks.
+    assert_eq!(rt; types.add(&[ValType::F64], &[])?.index(), 3);
     Ok(())
 }
 
 #[test]
-fn block_types(rt: HostRuntime) -> Result<(), Fail> {
+fn new_block_types(rt: HostRuntime) -> Result<(), Fail> {
     let mut types = ModuleTypes::new(rt.alloc());
     let one = InstrSeqType::new(&mut types, &[], &[ValType::I32])?;
     assert!(rt; one == InstrSeqType::Simple(Some(ValType::I32)));
     assert!(rt; InstrSeqType::new(&mut types, &[], &[])? == PLAIN);
     assert_eq!(rt; types.iter().count(), 0);
-    assert!(rt; InstrSeqType::existing(&types, &[ValType::I32], &[]).is_none());
-    let ty = types.add(&[ValType::I32], &[])?;
-    assert!(rt;
-        InstrSeqType::new(&mut types, &[ValType::I32], &[])? == InstrSeqType::MultiValue(ty)
-    );
-    assert!(rt;
-        InstrSeqType::existing(&types, &[ValType::I32], &[]) == Some(InstrSeqType::MultiValue(ty))
-    );
-    assert!(rt;
-        InstrSeqType::existing(&types, &[], &[ValType::F64])
-            == Some(InstrSeqType::Simple(Some(ValType::F64)))
-    );
     Ok(())
+}
+
+#[test]
+fn block_types_of_the_table(rt: HostRuntime) -> Result<(), Fail> {
+    let mut types = ModuleTypes::new(rt.alloc());
+    assert!(rt; InstrSeqType::existing(&types, &[ValType::I32], &[]).is_none());
+    let ty = InstrSeqType::MultiValue(types.add(&[ValType::I32], &[])?);
+    assert!(rt; InstrSeqType::new(&mut types, &[ValType::I32], &[])? == ty);
+    assert!(rt; InstrSeqType::existing(&types, &[ValType::I32], &[]) == Some(ty));
+    let one = InstrSeqType::Simple(Some(ValType::F64));
+    assert!(rt; InstrSeqType::existing(&types, &[], &[ValType::F64]) == Some(one));
+    Ok(())
+}
+
+// A `try` that holds this sequence, with a part that passes its exceptions on.
+fn add_try(alloc: Global, seq: &mut InstrSeqBuilder, tried: InstrSeqId) -> Result<(), AllocError> {
+    let catches = vec![in alloc; LegacyCatch::Delegate { relative_depth: 4 }]?;
+    seq.instr(Instr::Try {
+        seq: tried,
+        catches,
+    })
+}
+
+fn is_copy(copy: &InstrSeq) -> bool {
+    copy.id().index() == 0
+        && copy.ty == PLAIN
+        && copy.end.is_default()
+        && match copy.instrs.as_slice() {
+            [(Instr::Try { seq, catches }, _)] => {
+                seq.index() == 1
+                    && matches!(
+                        catches.as_slice(),
+                        [LegacyCatch::Delegate { relative_depth: 4 }]
+                    )
+            }
+            _ => false,
+        }
 }
 
 #[test]
 fn clones(rt: HostRuntime) -> Result<(), Fail> {
     let mut body = function(rt.alloc())?;
     let tried = body.dangling_instr_seq(PLAIN)?;
-    let mut catches = Vec::new(rt.alloc());
-    catches.push(LegacyCatch::Delegate { relative_depth: 4 })?;
-    let seq = body.func_body();
-    seq.instr(Instr::Try {
-        seq: tried,
-        catches,
-    })?;
-    seq.drop()?;
-    let copy = body.seqs()[0].clone()?;
-    assert!(rt; copy.id() == body.func_body_id() && copy.ty == PLAIN && copy.end.is_default());
-    assert!(rt;
-        matches!(copy.instrs.as_slice(), [(Instr::Try { seq, catches }, _), (Instr::Drop, _)]
-        if *seq == tried && matches!(catches.as_slice(), [LegacyCatch::Delegate { relative_depth: 4 }]))
-    );
+    add_try(rt.alloc(), body.func_body(), tried)?;
+    let seqs = body.seqs();
+    assert!(rt; seqs.len() == 2);
+    assert!(rt; is_copy(&seqs[0].clone()?));
     Ok(())
+}
+
+fn is_product(expr: &ConstExpr) -> bool {
+    match expr {
+        ConstExpr::Extended(ops) => matches!(
+            ops.as_slice(),
+            [ConstOp::I64Const(1), ConstOp::I64Const(2), ConstOp::I64Mul]
+        ),
+        _ => false,
+    }
 }
 
 #[test]
 fn constant_clones(rt: HostRuntime) -> Result<(), Fail> {
-    let mut ops = Vec::new(rt.alloc());
-    ops.push(ConstOp::I64Const(1))?;
-    ops.push(ConstOp::I64Const(2))?;
-    ops.push(ConstOp::I64Mul)?;
-    let copy = ConstExpr::from_ops(ops).clone()?;
-    assert!(rt;
-        matches!(&copy, ConstExpr::Extended(ops)
-        if matches!(ops.as_slice(), [ConstOp::I64Const(1), ConstOp::I64Const(2), ConstOp::I64Mul]))
-    );
+    let ops = vec![in rt.alloc(); ConstOp::I64Const(1), ConstOp::I64Const(2), ConstOp::I64Mul]?;
+    let expr = ConstExpr::from_ops(ops);
+    assert!(rt; is_product(&expr.clone()?));
     Ok(())
 }

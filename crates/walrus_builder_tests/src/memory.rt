@@ -1,8 +1,6 @@
 //! The calls for table and memory instructions.
-use crate::common::function;
-use crate::rows::{ARG, assert_rows};
+use crate::rows::{ARG, Row};
 use std::alloc::AllocError;
-use std::test::Fail;
 use walrus_arena::{DataId, ElementId, MemoryId, TableId};
 use walrus_builder::InstrSeqBuilder;
 use walrus_instr::{AtomicOp, AtomicWidth, LoadKind, LoadSimdKind, StoreKind};
@@ -16,28 +14,6 @@ fn add_tables(seq: &mut InstrSeqBuilder) -> Result<(), AllocError> {
     seq.table_init(TableId::from_index(3), ElementId::from_index(5))?;
     seq.elem_drop(ElementId::from_index(3))?;
     seq.table_copy(TableId::from_index(3), TableId::from_index(5))
-}
-
-#[test]
-fn tables(rt: HostRuntime) -> Result<(), Fail> {
-    let mut body = function(rt.alloc())?;
-    let seq = body.func_body();
-    add_tables(seq)?;
-    assert_rows(
-        &rt,
-        seq.instrs(),
-        &[
-            ("table_get", 3, 0, 0),
-            ("table_set", 3, 0, 0),
-            ("table_grow", 3, 0, 0),
-            ("table_size", 3, 0, 0),
-            ("table_fill", 3, 0, 0),
-            ("table_init", 3, 5, 0),
-            ("elem_drop", 3, 0, 0),
-            ("table_copy", 3, 5, 0),
-        ],
-    );
-    Ok(())
 }
 
 fn add_accesses(seq: &mut InstrSeqBuilder) -> Result<(), AllocError> {
@@ -64,32 +40,36 @@ fn add_atomics(seq: &mut InstrSeqBuilder) -> Result<(), AllocError> {
     seq.atomic_fence()
 }
 
-#[test]
-fn memories(rt: HostRuntime) -> Result<(), Fail> {
-    let mut body = function(rt.alloc())?;
-    let seq = body.func_body();
+/// Each call once.
+pub fn add_all(seq: &mut InstrSeqBuilder) -> Result<(), AllocError> {
+    add_tables(seq)?;
     add_accesses(seq)?;
     add_bulk(seq)?;
-    add_atomics(seq)?;
-    assert_rows(
-        &rt,
-        seq.instrs(),
-        &[
-            ("load", 3, 1, 1),
-            ("store", 3, 1, 1),
-            ("load_simd", 3, 1, 1),
-            ("memory_size", 3, 0, 0),
-            ("memory_grow", 3, 0, 0),
-            ("memory_init", 3, 5, 0),
-            ("data_drop", 3, 0, 0),
-            ("memory_copy", 3, 5, 0),
-            ("memory_fill", 3, 0, 0),
-            ("atomic_rmw", 3, 1, 1),
-            ("cmpxchg", 3, 1, 1),
-            ("atomic_notify", 3, 1, 0),
-            ("atomic_wait", 3, 1, 1),
-            ("atomic_fence", 0, 0, 0),
-        ],
-    );
-    Ok(())
+    add_atomics(seq)
 }
+
+/// What they add.
+pub const ROWS: [Row; 22] = [
+    ("table_get", 3, 0, 0),
+    ("table_set", 3, 0, 0),
+    ("table_grow", 3, 0, 0),
+    ("table_size", 3, 0, 0),
+    ("table_fill", 3, 0, 0),
+    ("table_init", 3, 5, 0),
+    ("elem_drop", 3, 0, 0),
+    ("table_copy", 3, 5, 0),
+    ("load", 3, 1, 1),
+    ("store", 3, 1, 1),
+    ("load_simd", 3, 1, 1),
+    ("memory_size", 3, 0, 0),
+    ("memory_grow", 3, 0, 0),
+    ("memory_init", 3, 5, 0),
+    ("data_drop", 3, 0, 0),
+    ("memory_copy", 3, 5, 0),
+    ("memory_fill", 3, 0, 0),
+    ("atomic_rmw", 3, 1, 1),
+    ("cmpxchg", 3, 1, 1),
+    ("atomic_notify", 3, 1, 0),
+    ("atomic_wait", 3, 1, 1),
+    ("atomic_fence", 0, 0, 0),
+];

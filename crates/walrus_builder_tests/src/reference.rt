@@ -1,8 +1,6 @@
 //! The calls for reference, structure and array instructions.
-use crate::common::function;
-use crate::rows::assert_rows;
+use crate::rows::Row;
 use std::alloc::AllocError;
-use std::test::Fail;
 use walrus_arena::{DataId, ElementId, FunctionId, TypeId};
 use walrus_builder::InstrSeqBuilder;
 use walrus_types::RefType;
@@ -25,33 +23,6 @@ fn add_conversions(seq: &mut InstrSeqBuilder) -> Result<(), AllocError> {
     seq.extern_convert_any()
 }
 
-#[test]
-fn references(rt: HostRuntime) -> Result<(), Fail> {
-    let mut body = function(rt.alloc())?;
-    let seq = body.func_body();
-    add_references(seq)?;
-    add_conversions(seq)?;
-    assert_rows(
-        &rt,
-        seq.instrs(),
-        &[
-            ("ref_null", 1, 0, 0),
-            ("ref_is_null", 0, 0, 0),
-            ("ref_func", 3, 0, 0),
-            ("ref_eq", 0, 0, 0),
-            ("ref_as_non_null", 0, 0, 0),
-            ("ref_test", 1, 0, 0),
-            ("ref_cast", 1, 0, 0),
-            ("ref_i31", 0, 0, 0),
-            ("i31_get_s", 0, 0, 0),
-            ("i31_get_u", 0, 0, 0),
-            ("any_convert_extern", 0, 0, 0),
-            ("extern_convert_any", 0, 0, 0),
-        ],
-    );
-    Ok(())
-}
-
 fn add_structures(seq: &mut InstrSeqBuilder) -> Result<(), AllocError> {
     seq.struct_new(TypeId::from_index(3))?;
     seq.struct_new_default(TypeId::from_index(3))?;
@@ -59,26 +30,6 @@ fn add_structures(seq: &mut InstrSeqBuilder) -> Result<(), AllocError> {
     seq.struct_get_s(TypeId::from_index(3), 5)?;
     seq.struct_get_u(TypeId::from_index(3), 5)?;
     seq.struct_set(TypeId::from_index(3), 5)
-}
-
-#[test]
-fn structures(rt: HostRuntime) -> Result<(), Fail> {
-    let mut body = function(rt.alloc())?;
-    let seq = body.func_body();
-    add_structures(seq)?;
-    assert_rows(
-        &rt,
-        seq.instrs(),
-        &[
-            ("struct_new", 3, 0, 0),
-            ("struct_new_default", 3, 0, 0),
-            ("struct_get", 3, 5, 0),
-            ("struct_get_s", 3, 5, 0),
-            ("struct_get_u", 3, 5, 0),
-            ("struct_set", 3, 5, 0),
-        ],
-    );
-    Ok(())
 }
 
 fn add_new_arrays(seq: &mut InstrSeqBuilder) -> Result<(), AllocError> {
@@ -101,31 +52,47 @@ fn add_array_accesses(seq: &mut InstrSeqBuilder) -> Result<(), AllocError> {
     seq.array_copy(TypeId::from_index(3), TypeId::from_index(5))
 }
 
-#[test]
-fn arrays(rt: HostRuntime) -> Result<(), Fail> {
-    let mut body = function(rt.alloc())?;
-    let seq = body.func_body();
+/// Each call once.
+pub fn add_all(seq: &mut InstrSeqBuilder) -> Result<(), AllocError> {
+    add_references(seq)?;
+    add_conversions(seq)?;
+    add_structures(seq)?;
     add_new_arrays(seq)?;
-    add_array_accesses(seq)?;
-    assert_rows(
-        &rt,
-        seq.instrs(),
-        &[
-            ("array_new", 3, 0, 0),
-            ("array_new_default", 3, 0, 0),
-            ("array_new_fixed", 3, 5, 0),
-            ("array_new_data", 3, 5, 0),
-            ("array_new_elem", 3, 5, 0),
-            ("array_init_data", 3, 5, 0),
-            ("array_init_elem", 3, 5, 0),
-            ("array_get", 3, 0, 0),
-            ("array_get_s", 3, 0, 0),
-            ("array_get_u", 3, 0, 0),
-            ("array_set", 3, 0, 0),
-            ("array_len", 0, 0, 0),
-            ("array_fill", 3, 0, 0),
-            ("array_copy", 3, 5, 0),
-        ],
-    );
-    Ok(())
+    add_array_accesses(seq)
 }
+
+/// What they add.
+pub const ROWS: [Row; 32] = [
+    ("ref_null", 1, 0, 0),
+    ("ref_is_null", 0, 0, 0),
+    ("ref_func", 3, 0, 0),
+    ("ref_eq", 0, 0, 0),
+    ("ref_as_non_null", 0, 0, 0),
+    ("ref_test", 1, 0, 0),
+    ("ref_cast", 1, 0, 0),
+    ("ref_i31", 0, 0, 0),
+    ("i31_get_s", 0, 0, 0),
+    ("i31_get_u", 0, 0, 0),
+    ("any_convert_extern", 0, 0, 0),
+    ("extern_convert_any", 0, 0, 0),
+    ("struct_new", 3, 0, 0),
+    ("struct_new_default", 3, 0, 0),
+    ("struct_get", 3, 5, 0),
+    ("struct_get_s", 3, 5, 0),
+    ("struct_get_u", 3, 5, 0),
+    ("struct_set", 3, 5, 0),
+    ("array_new", 3, 0, 0),
+    ("array_new_default", 3, 0, 0),
+    ("array_new_fixed", 3, 5, 0),
+    ("array_new_data", 3, 5, 0),
+    ("array_new_elem", 3, 5, 0),
+    ("array_init_data", 3, 5, 0),
+    ("array_init_elem", 3, 5, 0),
+    ("array_get", 3, 0, 0),
+    ("array_get_s", 3, 0, 0),
+    ("array_get_u", 3, 0, 0),
+    ("array_set", 3, 0, 0),
+    ("array_len", 0, 0, 0),
+    ("array_fill", 3, 0, 0),
+    ("array_copy", 3, 5, 0),
+];
