@@ -38,7 +38,7 @@ fn is_tree(rt: &impl Abort, alloc: Global, instrs: Vec<(u32, Instr)>) -> Result<
 }
 
 // Two blocks beside each other, and this instruction in a sequence.
-fn beside(rt: &impl Abort, alloc: Global, index: usize, instr: Instr) -> Result<bool, AllocError> {
+fn beside(rt: &impl Abort, alloc: Global, index: u32, instr: Instr) -> Result<bool, AllocError> {
     let instrs = vec![in alloc;
         (0, Instr::Block { seq: id(1) }),
         (0, Instr::Block { seq: id(2) }),
@@ -114,7 +114,7 @@ fn tables_of_labels(rt: HostRuntime) -> Result<(), Fail> {
 }
 
 // An `if`, and this instruction in an arm.
-fn in_arm(rt: &impl Abort, alloc: Global, arm: usize, instr: Instr) -> Result<bool, AllocError> {
+fn in_arm(rt: &impl Abort, alloc: Global, arm: u32, instr: Instr) -> Result<bool, AllocError> {
     let instrs = vec![in alloc;
         (
             0,
