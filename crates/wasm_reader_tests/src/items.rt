@@ -101,6 +101,8 @@ fn none_after_a_fault(rt: HostRuntime) -> std::result::Result<(), Fail> {
     let mut many = BinaryReader::new(b"\x03\x05\x06\x07", 4);
     let outcome = refused(many.read_iter::<u32>(rt.alloc(), 2));
     assert_eq!(rt; outcome, Some((ErrorKind::Limit, 4)));
+    assert_eq!(rt; many.range().end, 8);
+    assert!(rt; many.bytes_remaining() <= 4);
     Ok(())
 }
 
