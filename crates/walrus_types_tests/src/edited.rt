@@ -1,7 +1,7 @@
 // A table that is edited, written, read into a new one and written again.
 ghost use Rattle.walrus_edit_laws.specs.Edits.{IsSettled};
 
-use crate::emission::pair;
+use crate::steps::ring;
 use std::alloc::AllocError;
 use std::test::Fail;
 use walrus_arena::TypeId;
@@ -29,7 +29,7 @@ fn a_second_round_after_deletes_changes_nothing(rt: HostRuntime) -> Result<(), F
     let mut types = ModuleTypes::new(alloc);
     let long = types.add(&[ValType::I64], &[])?;
     types.add(&[ValType::I32], &[])?;
-    types.add_rec_group(2, |ids| pair(alloc, ids))?;
+    types.add_rec_group(2, |ids| ring(alloc, ids))?;
     assert!(rt; types.contains(long));
     types.delete(long);
     let added = types.add(&[ValType::I64], &[])?;
