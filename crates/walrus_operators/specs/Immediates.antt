@@ -2,6 +2,8 @@
 use Rattle.std.specs.Prelude.{List, [], ◌∷◌}
 use Rattle.wasm_reader.specs.Floats.{seen_bits32, seen_bits64}
 use Rattle.wasm_immediates.specs.Items.{Types, Functions, Tables, Memories, Tags, Globals, ElementSegments, DataSegments, Locals, Labels, Item, Names, Number, S32, S64, Bits, Byte, Bytes, Heap, Block, Access, ManyLabels, ManyValues, ManyClauses}
+use Rattle.wasm_operators.specs.declared.entry.Kind.{Kind}
+use Rattle.wasm_operators.specs.declared.entry.Kind.TheVariants as kinds
 use Rattle.walrus_operators.specs.declared.immediates.Immediates.{Immediates}
 use Rattle.walrus_operators.specs.declared.immediates.Immediates.TheVariants as imm
 
@@ -42,3 +44,17 @@ items_of (imm.Vector bytes) = Bytes bytes ∷ []
 items_of (imm.Lane b) = Byte b ∷ []
 items_of (imm.AccessLane a b) = Access a ∷ Byte b ∷ []
 items_of imm.Zero = Byte 0 ∷ []
+
+-- the kinds but for those that most operators have
+abbrev pub IsRare : Kind → Type 0
+IsRare kinds.Bare = ⊥
+IsRare kinds.Block = ⊥
+IsRare kinds.Label = ⊥
+IsRare kinds.Function = ⊥
+IsRare kinds.Local = ⊥
+IsRare kinds.Global = ⊥
+IsRare kinds.Access = ⊥
+IsRare kinds.I32 = ⊥
+IsRare kinds.I64 = ⊥
+IsRare kinds.F64 = ⊥
+IsRare kind = Unit {0}

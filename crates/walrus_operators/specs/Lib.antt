@@ -1,2 +1,4 @@
 pub mod Immediates
 pub mod Operators
+pub mod Copies
+pub mod Laws

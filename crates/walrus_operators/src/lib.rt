@@ -1,7 +1,9 @@
 //! Operators, read one by one (Core Specification, binary format: instructions).
 #![tactic(auto)]
 
+mod copies;
 mod immediates;
+pub mod laws;
 mod operator;
 mod read;
 mod reader;

@@ -1,9 +1,10 @@
 //! Immediates are read, by their kind.
 
-ghost use Rattle.wasm_reader.specs.Items.{ReadsBy};
+ghost use Rattle.wasm_reader.specs.Reading.{Reads};
+ghost use Rattle.wasm_reader.specs.Items.{ReadsBy, ReadsUnlessMemory};
 ghost use Rattle.wasm_immediates.specs.Readings.{items_at};
 ghost use Rattle.wasm_operators.specs.Kinds.{forms, takes_memory};
-ghost use Rattle.walrus_operators.specs.Immediates.{items_of};
+ghost use Rattle.walrus_operators.specs.Immediates.{IsRare, items_of};
 
 use crate::immediates::Immediates;
 use std::alloc::Global;
@@ -15,48 +16,83 @@ use wasm_ref_types::{HeapType, ValType};
 // No list is longer than a u32 counts.
 const MOST: usize = 4294967295;
 
-// The immediates of a kind.
-#[inline]
 #[tactic(auto, unfolding(wasm_immediates::specs::Readings::items_at, wasm_immediates::specs::Readings::item_at))]
-pub(crate) fn read_immediates(
-    kind: Kind,
-    alloc: Global,
-    reader: &mut BinaryReader<'_>,
-) -> Result<Immediates>
+fn read_try_table(alloc: Global, reader: &mut BinaryReader<'_>) -> Result<Immediates>
+    ensures { ReadsUnlessMemory (items_at reader.old.window.features (forms Kind.TryTable)) items_of reader.old reader.new result }
+{
+    let ty = BlockType::from_reader(alloc, reader)?;
+    let clauses = reader.read_vec::<Clause>(alloc, MOST)?;
+    Ok(Immediates::TryTable(ty, clauses))
+}
+
+#[tactic(auto, unfolding(wasm_immediates::specs::Readings::items_at, wasm_immediates::specs::Readings::item_at))]
+fn read_branch_table(alloc: Global, reader: &mut BinaryReader<'_>) -> Result<Immediates>
+    ensures { ReadsUnlessMemory (items_at reader.old.window.features (forms Kind.BrTable)) items_of reader.old reader.new result }
+{
+    let labels = reader.read_vec::<u32>(alloc, MOST)?;
+    let otherwise = reader.read_var_u32()?;
+    Ok(Immediates::BrTable(labels, otherwise))
+}
+
+#[tactic(auto, unfolding(wasm_immediates::specs::Readings::items_at, wasm_immediates::specs::Readings::item_at))]
+fn read_select(alloc: Global, reader: &mut BinaryReader<'_>) -> Result<Immediates>
+    ensures { ReadsUnlessMemory (items_at reader.old.window.features (forms Kind.Select)) items_of reader.old reader.new result }
+{
+    Ok(Immediates::Select(reader.read_vec::<ValType>(alloc, MOST)?))
+}
+
+#[tactic(auto, unfolding(wasm_immediates::specs::Readings::items_at, wasm_immediates::specs::Readings::item_at))]
+fn read_cast(alloc: Global, reader: &mut BinaryReader<'_>) -> Result<Immediates>
+    ensures { Reads (items_at reader.old.window.features (forms Kind.Cast)) items_of reader.old reader.new result }
+{
+    let flags = read_below(reader, 4)?;
+    let label = reader.read_var_u32()?;
+    let from = HeapType::from_reader(alloc, reader)?;
+    let to = HeapType::from_reader(alloc, reader)?;
+    Ok(Immediates::Cast(flags, label, from, to))
+}
+
+#[tactic(auto, unfolding(wasm_immediates::specs::Readings::items_at, wasm_immediates::specs::Readings::item_at))]
+fn read_vector(reader: &mut BinaryReader<'_>) -> Result<Immediates>
+    ensures { Reads (items_at reader.old.window.features (forms Kind.Vector)) items_of reader.old reader.new result }
+{
+    let bytes = reader.read_bytes(16)?;
+    Ok(Immediates::Vector([
+        bytes[0], bytes[1], bytes[2], bytes[3], bytes[4], bytes[5], bytes[6], bytes[7], bytes[8],
+        bytes[9], bytes[10], bytes[11], bytes[12], bytes[13], bytes[14], bytes[15],
+    ]))
+}
+
+#[tactic(auto, unfolding(wasm_immediates::specs::Readings::items_at, wasm_immediates::specs::Readings::item_at))]
+fn read_access_lane(alloc: Global, reader: &mut BinaryReader<'_>) -> Result<Immediates>
+    ensures { Reads (items_at reader.old.window.features (forms Kind.AccessLane)) items_of reader.old reader.new result }
+{
+    let access = MemoryAccess::from_reader(alloc, reader)?;
+    let lane = reader.read_u8()?;
+    Ok(Immediates::AccessLane(access, lane))
+}
+
+// The immediates of a rarer kind. It isn't inlined: what it keeps on the stack is then no part of each read.
+#[inline(never)]
+#[tactic(auto, unfolding(wasm_immediates::specs::Readings::items_at, wasm_immediates::specs::Readings::item_at))]
+fn read_rare(kind: Kind, alloc: Global, reader: &mut BinaryReader<'_>) -> Result<Immediates>
+    requires { IsRare kind }
     ensures { ReadsBy (takes_memory kind) (items_at reader.old.window.features (forms kind)) items_of reader.old reader.new result }
 {
     match kind {
-        Kind::Bare => Ok(Immediates::Bare),
-        Kind::Block => Ok(Immediates::Block(BlockType::from_reader(alloc, reader)?)),
-        Kind::TryTable => {
-            let ty = BlockType::from_reader(alloc, reader)?;
-            let clauses = reader.read_vec::<Clause>(alloc, MOST)?;
-            Ok(Immediates::TryTable(ty, clauses))
-        }
+        Kind::TryTable => read_try_table(alloc, reader),
         Kind::Tag => Ok(Immediates::Tag(reader.read_var_u32()?)),
-        Kind::Label => Ok(Immediates::Label(reader.read_var_u32()?)),
-        Kind::BrTable => {
-            let labels = reader.read_vec::<u32>(alloc, MOST)?;
-            let otherwise = reader.read_var_u32()?;
-            Ok(Immediates::BrTable(labels, otherwise))
-        }
-        Kind::Function => Ok(Immediates::Function(reader.read_var_u32()?)),
+        Kind::BrTable => read_branch_table(alloc, reader),
         Kind::TypeTable => {
             let first = reader.read_var_u32()?;
             let second = reader.read_var_u32()?;
             Ok(Immediates::TypeTable(first, second))
         }
         Kind::Type => Ok(Immediates::Type(reader.read_var_u32()?)),
-        Kind::Select => Ok(Immediates::Select(reader.read_vec::<ValType>(alloc, MOST)?)),
-        Kind::Local => Ok(Immediates::Local(reader.read_var_u32()?)),
-        Kind::Global => Ok(Immediates::Global(reader.read_var_u32()?)),
+        Kind::Select => read_select(alloc, reader),
         Kind::Table => Ok(Immediates::Table(reader.read_var_u32()?)),
-        Kind::Access => Ok(Immediates::Access(MemoryAccess::from_reader(alloc, reader)?)),
         Kind::Memory => Ok(Immediates::Memory(reader.read_var_u32()?)),
-        Kind::I32 => Ok(Immediates::I32(reader.read_var_i32()?)),
-        Kind::I64 => Ok(Immediates::I64(reader.read_var_i64()?)),
         Kind::F32 => Ok(Immediates::F32(reader.read_f32()?)),
-        Kind::F64 => Ok(Immediates::F64(reader.read_f64()?)),
         Kind::Heap => Ok(Immediates::Heap(HeapType::from_reader(alloc, reader)?)),
         Kind::DataMemory => {
             let first = reader.read_var_u32()?;
@@ -100,30 +136,72 @@ pub(crate) fn read_immediates(
             let second = reader.read_var_u32()?;
             Ok(Immediates::TypeType(first, second))
         }
-        Kind::Cast => {
-            let flags = read_below(reader, 4)?;
-            let label = reader.read_var_u32()?;
-            let from = HeapType::from_reader(alloc, reader)?;
-            let to = HeapType::from_reader(alloc, reader)?;
-            Ok(Immediates::Cast(flags, label, from, to))
-        }
-        Kind::Vector => {
-            let bytes = reader.read_bytes(16)?;
-            Ok(Immediates::Vector([
-                bytes[0], bytes[1], bytes[2], bytes[3], bytes[4], bytes[5], bytes[6], bytes[7],
-                bytes[8], bytes[9], bytes[10], bytes[11], bytes[12], bytes[13], bytes[14],
-                bytes[15],
-            ]))
-        }
+        Kind::Cast => read_cast(alloc, reader),
+        Kind::Vector => read_vector(reader),
         Kind::Lane => Ok(Immediates::Lane(reader.read_u8()?)),
-        Kind::AccessLane => {
-            let access = MemoryAccess::from_reader(alloc, reader)?;
-            let lane = reader.read_u8()?;
-            Ok(Immediates::AccessLane(access, lane))
-        }
+        Kind::AccessLane => read_access_lane(alloc, reader),
         Kind::Zero => {
             read_zero(reader)?;
             Ok(Immediates::Zero)
         }
+        Kind::Bare
+        | Kind::Block
+        | Kind::Label
+        | Kind::Function
+        | Kind::Local
+        | Kind::Global
+        | Kind::Access
+        | Kind::I32
+        | Kind::I64
+        | Kind::F64 => unreachable!(),
+    }
+}
+
+// The immediates of a kind.
+#[inline]
+#[tactic(auto, unfolding(wasm_immediates::specs::Readings::items_at, wasm_immediates::specs::Readings::item_at))]
+pub(crate) fn read_immediates(
+    kind: Kind,
+    alloc: Global,
+    reader: &mut BinaryReader<'_>,
+) -> Result<Immediates>
+    ensures { ReadsBy (takes_memory kind) (items_at reader.old.window.features (forms kind)) items_of reader.old reader.new result }
+{
+    match kind {
+        Kind::Bare => Ok(Immediates::Bare),
+        Kind::Block => Ok(Immediates::Block(BlockType::from_reader(alloc, reader)?)),
+        Kind::Label => Ok(Immediates::Label(reader.read_var_u32()?)),
+        Kind::Function => Ok(Immediates::Function(reader.read_var_u32()?)),
+        Kind::Local => Ok(Immediates::Local(reader.read_var_u32()?)),
+        Kind::Global => Ok(Immediates::Global(reader.read_var_u32()?)),
+        Kind::Access => Ok(Immediates::Access(MemoryAccess::from_reader(alloc, reader)?)),
+        Kind::I32 => Ok(Immediates::I32(reader.read_var_i32()?)),
+        Kind::I64 => Ok(Immediates::I64(reader.read_var_i64()?)),
+        Kind::F64 => Ok(Immediates::F64(reader.read_f64()?)),
+        Kind::TryTable
+        | Kind::Tag
+        | Kind::BrTable
+        | Kind::TypeTable
+        | Kind::Type
+        | Kind::Select
+        | Kind::Table
+        | Kind::Memory
+        | Kind::F32
+        | Kind::Heap
+        | Kind::DataMemory
+        | Kind::Data
+        | Kind::MemoryMemory
+        | Kind::ElementTable
+        | Kind::Element
+        | Kind::TableTable
+        | Kind::TypeNumber
+        | Kind::TypeData
+        | Kind::TypeElement
+        | Kind::TypeType
+        | Kind::Cast
+        | Kind::Vector
+        | Kind::Lane
+        | Kind::AccessLane
+        | Kind::Zero => read_rare(kind, alloc, reader),
     }
 }
