@@ -1,9 +1,8 @@
 -- Constant expressions (Core Specification, valid expressions: constant expressions; binary format: expressions).
-use Rattle.std.specs.Prelude.{ℕ, ◌≡◌, ◌==◌, ◌&&◌, ◌||◌, nat_le, nat_lt, Bool, true, false, List, [], ◌∷◌, ◌++◌, length, Option, Some, None, Ok, Err, ◌⊎◌, if◌then◌else◌, slice_index_or, refl}
+use Rattle.std.specs.Prelude.{ℕ, ◌≡◌, ◌==◌, ◌&&◌, ◌||◌, nat_le, nat_lt, Bool, true, false, List, [], ◌∷◌, ◌++◌, length, Option, Some, None, Err, ◌⊎◌, if◌then◌else◌, slice_index_or, refl}
 use Rattle.std.proofs.Common.{ap, sym, ◌∙◌, subst, inl, inr}
 use Rattle.wasm_features.specs.declared.WasmFeatures.{WasmFeatures}
 use Rattle.wasm_reader.specs.declared.error.ErrorKind.TheVariants as kinds
-use Rattle.wasm_ref_types.specs.declared.heap.HeapType.{HeapType as ReadHeap}
 use Rattle.walrus_forms.specs.declared.value.ValType.{ValType}
 use Rattle.walrus_forms.specs.declared.value.ValType.TheVariants.{I32, I64}
 use Rattle.walrus_forms.specs.declared.value.HeapType.{HeapType}
