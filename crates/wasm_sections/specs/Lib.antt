@@ -1,2 +1,5 @@
+pub mod Entities
+pub mod Exports
+pub mod Segments
 pub mod TypeNames
 pub mod TypeSection
