@@ -1,6 +1,6 @@
 -- What is imported, and the entries of the import, function, table, memory, tag and global sections (Core Specification, binary format: modules).
-use Rattle.std.specs.Prelude.{ℕ, ◌+◌, ◌≡◌, ◌==◌, nat_lt, Bool, true, false, List, [], ◌∷◌, ◌++◌, length, Option, Some, None, Err, ◌⊎◌, if◌then◌else◌, refl}
-use Rattle.std.proofs.Common.{ap, ◌∙◌, subst, inl, inr}
+use Rattle.std.specs.Prelude.{ℕ, ◌+◌, ◌≡◌, ◌==◌, nat_lt, true, List, [], ◌∷◌, ◌++◌, length, Option, Some, None, Err, ◌⊎◌, if◌then◌else◌, refl}
+use Rattle.std.proofs.Common.{subst, inl, inr}
 use Rattle.wasm_features.specs.declared.WasmFeatures.{WasmFeatures}
 use Rattle.wasm_reader.specs.declared.error.ErrorKind.TheVariants as kinds
 use Rattle.wasm_ref_types.specs.Reference.{Reference}
@@ -19,7 +19,7 @@ use Rattle.wasm_formats.specs.Bytes.{byte, literal, never, either}
 use Rattle.wasm_formats.specs.Joined.{checked, after, built}
 use Rattle.wasm_formats.specs.Led.{led}
 use Rattle.wasm_file_formats.specs.Rooms.{if_room}
-use Rattle.wasm_grammar.specs.Modules.{Item, Expr, Origin, Imported, Own, Body, Function, Table, Memory, Tag, Global, Import}
+use Rattle.wasm_grammar.specs.Modules.{Expr, Origin, Imported, Own, Body, Function, Table, Memory, Tag, Global, Import}
 use Rattle.wasm_grammar.specs.Values.{must, first_of, name, byte_below, ref_type, value_type, Limits, is_shared, is_wide, table_limits, memory_limits}
 use Rattle.wasm_grammar.specs.Exprs.{expr, front_is}
 use Rattle.wasm_grammar.specs.States.{State, type_count, known, function_type, has_room, room_test}

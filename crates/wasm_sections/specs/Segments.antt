@@ -1,6 +1,5 @@
 -- Element and data segments (Core Specification, binary format: element section, data section).
-use Rattle.std.specs.Prelude.{ℕ, ◌≡◌, ◌==◌, ◌||◌, nat_lt, Bool, true, false, List, [], ◌∷◌, ◌++◌, length, Option, Some, None, if◌then◌else◌, slice_index_or, refl}
-use Rattle.std.proofs.Common.{ap, ◌∙◌}
+use Rattle.std.specs.Prelude.{ℕ, ◌≡◌, ◌==◌, ◌||◌, nat_lt, Bool, true, false, List, [], ◌∷◌, ◌++◌, length, Option, Some, None, if◌then◌else◌, slice_index_or}
 use Rattle.wasm_features.specs.declared.WasmFeatures.{WasmFeatures}
 use Rattle.wasm_reader.specs.declared.error.ErrorKind.TheVariants as kinds
 use Rattle.wasm_reader.specs.Text.{sized_bytes_at, SpellsSized}
@@ -11,14 +10,14 @@ use Rattle.walrus_forms.specs.declared.value.RefType.{RefType}
 use Rattle.walrus_forms.specs.Values.{nullable}
 use Rattle.wasm_formats.specs.declared.fault.Space.TheVariants as spaces
 use Rattle.wasm_formats.specs.declared.fault.Limited.TheVariants as limits
-use Rattle.wasm_formats.specs.Stops.{Trouble, Read, Index}
+use Rattle.wasm_formats.specs.Stops.{Read, Index}
 use Rattle.wasm_formats.specs.Formats.{Format, leaf}
 use Rattle.wasm_formats.specs.Bytes.{literal, never, either}
 use Rattle.wasm_formats.specs.Joined.{checked, after, built}
 use Rattle.wasm_formats.specs.Wholes.{u32}
 use Rattle.wasm_formats.specs.Lists.{vec}
 use Rattle.wasm_file_formats.specs.Rooms.{if_room}
-use Rattle.wasm_grammar.specs.Modules.{Expr, Table, Memory, Mode, Passive, Declared, Active, Elements, Functions, Expressions, Element, Segment}
+use Rattle.wasm_grammar.specs.Modules.{Expr, Table, Memory, Passive, Declared, Active, Functions, Expressions, Element, Segment}
 use Rattle.wasm_grammar.specs.Values.{must, index, ref_type}
 use Rattle.wasm_grammar.specs.Exprs.{expr, offset}
 use Rattle.wasm_grammar.specs.States.{State, type_count, known, has_room}

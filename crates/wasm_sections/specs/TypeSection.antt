@@ -1,12 +1,12 @@
 -- Groups of types (Core Specification, binary format: recursive types; type section).
-use Rattle.std.specs.Prelude.{ℕ, suc, ◌+◌, ◌<◌, ◌≤◌, ◌≡◌, nat_lt, nat_le, Bool, true, false, List, [], ◌∷◌, ◌++◌, length, map, Option, Some, None, Ok, Err, ◌⊎◌, not, refl}
+use Rattle.std.specs.Prelude.{ℕ, suc, ◌+◌, ◌≤◌, ◌≡◌, nat_lt, nat_le, Bool, true, false, List, [], ◌∷◌, ◌++◌, length, Option, Some, None, Err, ◌⊎◌, not, refl}
 use Rattle.std.specs.List.{list_any, filter_map}
 use Rattle.std.proofs.Common.{ap, sym, subst, arith, inl, inr}
 use Rattle.std.proofs.lemmas.List.{length-append}
 use Rattle.wasm_features.specs.declared.WasmFeatures.{WasmFeatures}
 use Rattle.wasm_features.specs.Features.{GcTypes, enables, constant, features_of}
 use Rattle.wasm_reader.specs.declared.error.ErrorKind.TheVariants as kinds
-use Rattle.wasm_composite_types.specs.Readings.{composite_at, composite_after, form_after}
+use Rattle.wasm_composite_types.specs.Readings.{composite_after, form_after}
 use Rattle.wasm_types.specs.declared.subtype.SubType.{SubType}
 use Rattle.wasm_types.specs.Readings.{sub_at, sub_after}
 use Rattle.wasm_types.specs.Spellings.{SpellsSub}
