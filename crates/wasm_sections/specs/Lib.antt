@@ -1,6 +1,8 @@
 pub mod Entities
 pub mod Exports
+pub mod Laws
 pub mod Modules
+pub mod Read
 pub mod Sections
 pub mod Segments
 pub mod TypeNames
