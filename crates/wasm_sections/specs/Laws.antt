@@ -1,9 +1,8 @@
 -- Laws of the sections of a file: which bytes are a module up to what is in its bodies, and where reading stops before bodies are read.
-use Rattle.std.specs.Prelude.{ℕ, ◌-◌, ◌^◌, ◌≤◌, ◌<◌, ◌≡◌, ◌⊎◌, false, List, ◌++◌, length}
+use Rattle.std.specs.Prelude.{ℕ, ◌≤◌, ◌≡◌, ◌⊎◌, false, List, ◌++◌, length}
 use Rattle.wasm_features.specs.declared.WasmFeatures.{WasmFeatures}
-use Rattle.wasm_reader.specs.Laws.{IsPrefixFree}
-use Rattle.wasm_formats.specs.Stops.{Trouble, Stop, moved, can_end}
-use Rattle.wasm_formats.specs.Formats.{Format, Small}
+use Rattle.wasm_formats.specs.Stops.{Stop, moved, can_end}
+use Rattle.wasm_formats.specs.Formats.{Small}
 use Rattle.wasm_grammar.specs.States.{State}
 use Rattle.wasm_sections.specs.Modules.{FileEntry, file, state_of}
 

@@ -1,8 +1,8 @@
 -- Lemmas: laws of sections.
-use Rattle.std.specs.Prelude.{◌≡◌, ◌⊎◌, List, ◌++◌, length, Result, Ok, Err, refl}
+use Rattle.std.specs.Prelude.{◌≡◌, ◌⊎◌, ◌++◌, length, Result, Ok, Err, refl}
 use Rattle.std.proofs.Common.{ap, sym, ◌∙◌, subst, inl, inr}
 use Rattle.wasm_formats.specs.Stops.{Stop, moved}
-use Rattle.wasm_formats.specs.Formats.{Format, InsideAll, front_small, done_is, done_refused, refused_is}
+use Rattle.wasm_formats.specs.Formats.{InsideAll, front_small, done_is, done_refused, refused_is}
 use Rattle.wasm_grammar.specs.States.{State}
 use Rattle.wasm_sections.specs.Modules.{FileEntry, file, state_of}
 use Rattle.wasm_sections.specs.Laws.{ReadsSections, StopsSections, SectionsReadOnce, SectionsDontStop, SectionsReadOrStop, SectionsStopOnce, SectionsStopInside, SectionsStopForGood}
