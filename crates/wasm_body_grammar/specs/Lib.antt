@@ -1,0 +1,5 @@
+pub mod Frames
+pub mod Rules
+pub mod Bodies
+pub mod Laws
+pub mod Read
