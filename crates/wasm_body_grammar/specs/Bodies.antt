@@ -1,5 +1,5 @@
 -- Bodies of functions (Core Specification, binary format: code section; expressions).
-use Rattle.std.specs.Prelude.{ℕ, ◌+◌, ◌≤◌, ◌<◌, ◌≡◌, nat_le, Bool, true, false, List, [], ◌∷◌, length, fold, Option, Some, Ok, Err, refl}
+use Rattle.std.specs.Prelude.{ℕ, ◌+◌, ◌≤◌, ◌<◌, ◌≡◌, nat_le, Bool, true, false, List, [], ◌∷◌, length, fold, Option, Some, Result, Ok, Err, refl}
 use Rattle.std.specs.List.{flat_map, repeat}
 use Rattle.std.proofs.Common.{sym, ◌∙◌, arith}
 use Rattle.wasm_features.specs.declared.WasmFeatures.{WasmFeatures}
@@ -10,7 +10,7 @@ use Rattle.wasm_operators.specs.Spellings.{SpellsEither}
 use Rattle.wasm_operators.specs.Taken.{either_taken}
 use Rattle.wasm_operators.specs.Finals.{operator_final}
 use Rattle.wasm_formats.specs.declared.fault.Limited.TheVariants as limits
-use Rattle.wasm_formats.specs.Stops.{Read, Nesting, Operator, Limit}
+use Rattle.wasm_formats.specs.Stops.{Read, Nesting, Operator, Limit, Stop, ◌>>=◌}
 use Rattle.wasm_formats.specs.Formats.{Format, Whole, leaf}
 use Rattle.wasm_formats.specs.Bytes.{never, either, either_type}
 use Rattle.wasm_formats.specs.Joined.{checked, after, ends_at}
@@ -117,3 +117,7 @@ placed place (x ∷ ops) = record { place = place; op = x.1 } ∷ placed x.0 ops
 
 abbrev pub body_of : Parts → Body
 body_of parts = record { locals = declared parts.0.1; operators = placed parts.0.0 parts.1 }
+
+-- from left to right: the body, or where it stops
+abbrev pub body_at : Around → ℕ → ℕ → List ℕ → Result Body Stop
+body_at a params place bytes = (body a params place).parse bytes >>= λ parts. Ok (body_of parts)

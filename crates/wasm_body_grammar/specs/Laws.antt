@@ -1,11 +1,11 @@
 -- Laws of bodies.
-use Rattle.std.specs.Prelude.{ℕ, ◌<◌, ◌≤◌, ◌≡◌, ◌⊎◌, false, List, [], ◌++◌, length}
+use Rattle.std.specs.Prelude.{ℕ, ◌<◌, ◌≤◌, ◌≡◌, ◌⊎◌, false, List, [], ◌++◌, length, Ok, Err}
 use Rattle.wasm_reader.specs.Laws.{IsPrefixFree}
 use Rattle.wasm_formats.specs.Stops.{Nesting, Stop, stop, moved, can_end}
 use Rattle.wasm_formats.specs.Formats.{Small}
 use Rattle.wasm_grammar.specs.Modules.{Body}
 use Rattle.wasm_body_grammar.specs.Rules.{Around}
-use Rattle.wasm_body_grammar.specs.Bodies.{Parts, body, body_of}
+use Rattle.wasm_body_grammar.specs.Bodies.{Parts, body, body_of, body_at}
 
 -- the bytes read as this body: they spell its runs of locals and its operators, and these meet the rules
 abbrev pub ReadsBody : Around → ℕ → ℕ → List ℕ → Body → Type 0
@@ -50,3 +50,10 @@ BodiesEnd = (a : Around) (params place : ℕ) (bytes more : List ℕ) (x : Body)
 -- no body's bytes are a proper front of another's
 abbrev pub BodiesArePrefixFree : Type 0
 BodiesArePrefixFree = (a : Around) (params place : ℕ) → IsPrefixFree (ReadsBody a params place)
+
+-- what is parsed reads, and what reads is parsed; and so where it stops
+pub record ParsingReads : Type 0 where
+  pub found : (a : Around) (params place : ℕ) (bytes : List ℕ) (x : Body) → Small bytes → body_at a params place bytes ≡ Ok x → ReadsBody a params place bytes x
+  pub again : (a : Around) (params place : ℕ) (bytes : List ℕ) (x : Body) → ReadsBody a params place bytes x → body_at a params place bytes ≡ Ok x
+  pub told : (a : Around) (params place : ℕ) (bytes : List ℕ) (s : Stop) → Small bytes → body_at a params place bytes ≡ Err s → StopsBody a params place bytes s
+  pub tells : (a : Around) (params place : ℕ) (bytes : List ℕ) (s : Stop) → StopsBody a params place bytes s → body_at a params place bytes ≡ Err s

@@ -3,13 +3,13 @@ use Rattle.std.specs.Prelude.{ℕ, ◌<◌, ◌≤◌, ◌≡◌, ◌⊎◌, Boo
 use Rattle.std.proofs.Common.{ap, sym, ◌∙◌, subst, arith, inl, inr}
 use Rattle.std.proofs.lemmas.List.{append_assoc, append-nil}
 use Rattle.wasm_formats.specs.Stops.{Nesting, Stop, stop, moved, can_end}
-use Rattle.wasm_formats.specs.Formats.{Whole, Small, InsideAll, front_small, done_is, done_refused, refused_is}
+use Rattle.wasm_formats.specs.Formats.{Whole, Small, InsideAll, front_small, done_is, done_refused, refused_is, step_ok, step_err}
 use Rattle.wasm_formats.specs.Bytes.{either_type}
 use Rattle.wasm_formats.specs.Joined.{ends_at}
 use Rattle.wasm_grammar.specs.Modules.{Body}
 use Rattle.wasm_body_grammar.specs.Rules.{Around}
-use Rattle.wasm_body_grammar.specs.Bodies.{Parts, Point, runs, next_total, next_point, opened, ends_closed, is_closed, operator_in, operators, body, body_of}
-use Rattle.wasm_body_grammar.specs.Laws.{ReadsBody, StopsBody, BodiesReadOnce, ReadDontStop, BodiesReadOrStop, BodiesStopOnce, BodiesStopInside, BodiesStopForGood, BodiesEnd, BodiesArePrefixFree}
+use Rattle.wasm_body_grammar.specs.Bodies.{Parts, Point, runs, next_total, next_point, opened, ends_closed, is_closed, operator_in, operators, body, body_of, body_at}
+use Rattle.wasm_body_grammar.specs.Laws.{ReadsBody, StopsBody, BodiesReadOnce, ReadDontStop, BodiesReadOrStop, BodiesStopOnce, BodiesStopInside, BodiesStopForGood, BodiesEnd, BodiesArePrefixFree, ParsingReads}
 
 pub bodies_read_once : BodiesReadOnce
 bodies_read_once a params place bytes x y h k =
@@ -91,3 +91,15 @@ bodies_are_prefix_free a params place b c x y m n h k e = elim (fronts_agree b c
       let same : b ≡ c = f.1 ∙ ap (λ (l : List ℕ). c ++ l) none ∙ append-nil c in
       (same, bodies_read_once a params place b m n h (subst (λ (l : List ℕ). ReadsBody a params place l n) (sym same) k))
 ]
+
+-- ---- as it is parsed
+
+pub parsing_reads : ParsingReads
+parsing_reads = record {
+  found = λ a params place bytes x small e. step_ok ((body a params place).parse bytes) (λ parts. Ok (body_of parts)) x e (λ parts p q.
+      (parts, (body a params place).found bytes parts small p, done_is (body_of parts) x q));
+  again = λ a params place bytes x h. rw ((body a params place).again bytes h.0 h.1.0 h.1.1, h.2) refl;
+  told = λ a params place bytes s small e. step_err ((body a params place).parse bytes) (λ parts. Ok (body_of parts)) s e
+      (λ p. (body a params place).told bytes s small p) (λ parts p q. done_refused (body_of parts) s q);
+  tells = λ a params place bytes s h. rw ((body a params place).tells bytes s h) refl;
+}

@@ -1,6 +1,6 @@
 //! Laws: functions with nothing to do, whose contracts hold of all bodies and bytes.
 
-ghost use Rattle.wasm_body_grammar.specs.Laws.{BodiesReadOnce, ReadDontStop, BodiesReadOrStop, BodiesStopOnce, BodiesStopInside, BodiesStopForGood, BodiesEnd, BodiesArePrefixFree};
+ghost use Rattle.wasm_body_grammar.specs.Laws.{BodiesReadOnce, ReadDontStop, BodiesReadOrStop, BodiesStopOnce, BodiesStopInside, BodiesStopForGood, BodiesEnd, BodiesArePrefixFree, ParsingReads};
 
 /// Bytes read as one body at most.
 pub fn bodies_read_once()
@@ -40,4 +40,9 @@ pub fn bodies_end()
 /// No body's bytes are a proper front of another's.
 pub fn bodies_are_prefix_free()
     ensures { BodiesArePrefixFree }
+{}
+
+/// What is parsed from left to right reads, or stops; and what reads or stops is parsed so.
+pub fn parsing_reads()
+    ensures { ParsingReads }
 {}
