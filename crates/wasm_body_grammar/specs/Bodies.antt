@@ -1,5 +1,5 @@
 -- Bodies of functions (Core Specification, binary format: code section; expressions).
-use Rattle.std.specs.Prelude.{ℕ, ◌+◌, ◌≤◌, ◌<◌, ◌≡◌, nat_le, Bool, true, false, List, [], ◌∷◌, length, fold, Option, Some, Result, Ok, Err, refl}
+use Rattle.std.specs.Prelude.{ℕ, ◌+◌, ◌<◌, nat_le, Bool, true, false, List, [], ◌∷◌, length, fold, Option, Result, Ok, Err, refl}
 use Rattle.std.specs.List.{flat_map, repeat}
 use Rattle.std.proofs.Common.{sym, ◌∙◌, arith}
 use Rattle.wasm_features.specs.declared.WasmFeatures.{WasmFeatures}

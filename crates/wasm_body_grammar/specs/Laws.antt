@@ -1,5 +1,5 @@
 -- Laws of bodies.
-use Rattle.std.specs.Prelude.{ℕ, ◌<◌, ◌≤◌, ◌≡◌, ◌⊎◌, false, List, [], ◌++◌, length, Ok, Err}
+use Rattle.std.specs.Prelude.{ℕ, ◌<◌, ◌≤◌, ◌≡◌, ◌⊎◌, false, List, ◌++◌, length, Ok, Err}
 use Rattle.wasm_reader.specs.Laws.{IsPrefixFree}
 use Rattle.wasm_formats.specs.Stops.{Nesting, Stop, stop, moved, can_end}
 use Rattle.wasm_formats.specs.Formats.{Small}

@@ -1,14 +1,12 @@
 -- Lemmas: laws of bodies.
-use Rattle.std.specs.Prelude.{ℕ, ◌<◌, ◌≤◌, ◌≡◌, ◌⊎◌, Bool, true, false, List, [], ◌∷◌, ◌++◌, length, fold, Result, Ok, Err, refl}
+use Rattle.std.specs.Prelude.{ℕ, ◌≡◌, ◌⊎◌, true, List, [], ◌∷◌, ◌++◌, length, fold, Result, Ok, Err, refl}
 use Rattle.std.proofs.Common.{ap, sym, ◌∙◌, subst, arith, inl, inr}
 use Rattle.std.proofs.lemmas.List.{append_assoc, append-nil}
-use Rattle.wasm_formats.specs.Stops.{Nesting, Stop, stop, moved, can_end}
-use Rattle.wasm_formats.specs.Formats.{Whole, Small, InsideAll, front_small, done_is, done_refused, refused_is, step_ok, step_err}
-use Rattle.wasm_formats.specs.Bytes.{either_type}
-use Rattle.wasm_formats.specs.Joined.{ends_at}
+use Rattle.wasm_formats.specs.Stops.{Nesting, Stop, stop, moved}
+use Rattle.wasm_formats.specs.Formats.{InsideAll, front_small, done_is, done_refused, refused_is, step_ok, step_err}
 use Rattle.wasm_grammar.specs.Modules.{Body}
 use Rattle.wasm_body_grammar.specs.Rules.{Around}
-use Rattle.wasm_body_grammar.specs.Bodies.{Parts, Point, runs, next_total, next_point, opened, ends_closed, is_closed, operator_in, operators, body, body_of, body_at}
+use Rattle.wasm_body_grammar.specs.Bodies.{Parts, Point, next_total, next_point, opened, is_closed, operator_in, body, body_of}
 use Rattle.wasm_body_grammar.specs.Laws.{ReadsBody, StopsBody, BodiesReadOnce, ReadDontStop, BodiesReadOrStop, BodiesStopOnce, BodiesStopInside, BodiesStopForGood, BodiesEnd, BodiesArePrefixFree, ParsingReads}
 
 pub bodies_read_once : BodiesReadOnce
