@@ -3,3 +3,5 @@ pub mod Rules
 pub mod Bodies
 pub mod Laws
 pub mod Read
+pub mod Codes
+pub mod ReadCodes

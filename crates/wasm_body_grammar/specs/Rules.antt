@@ -1,6 +1,7 @@
 -- What is asked of an operator in a body (Core Specification, valid instructions), in words of its items.
 use Rattle.std.specs.Prelude.{ℕ, ◌^◌, ◌==◌, ◌&&◌, ◌||◌, nat_lt, Bool, true, false, not, List, [], ◌∷◌, length, Option, Some, None, Ok, Err, slice_get, slice_index_or}
-use Rattle.std.specs.List.{list_any}
+use Rattle.std.specs.List.{list_any, list_all}
+use Rattle.std.specs.Option.{is_some}
 use Rattle.wasm_features.specs.declared.WasmFeatures.{WasmFeatures}
 use Rattle.walrus_forms.specs.declared.value.ValType.{ValType}
 use Rattle.walrus_forms.specs.Forms.{Form, FunctionForm, StructForm, ArrayForm}
@@ -11,7 +12,7 @@ use Rattle.wasm_immediates.specs.declared.block_type.BlockType.{BlockType}
 use Rattle.wasm_immediates.specs.declared.block_type.BlockType.TheVariants as blocks
 use Rattle.wasm_immediates.specs.declared.memory_access.MemoryAccess.{MemoryAccess}
 use Rattle.wasm_immediates.specs.Items as immediates
-use Rattle.wasm_immediates.specs.Items.{Item, Block, Access, ManyValues}
+use Rattle.wasm_immediates.specs.Items.{Item, Heap, Block, Access, ManyValues}
 use Rattle.wasm_operators.specs.Operators.{Seen, flow_of}
 use Rattle.wasm_operator_names.specs.Names.{Name, operator_names}
 use Rattle.wasm_formats.specs.declared.fault.Space.{Space}
@@ -19,6 +20,7 @@ use Rattle.wasm_formats.specs.declared.fault.Space.TheVariants as spaces
 use Rattle.wasm_formats.specs.declared.fault.Form.TheVariants as unsupported
 use Rattle.wasm_formats.specs.Stops.{Trouble, Index, TypeForm, Position, Unsupported, Bounds}
 use Rattle.wasm_grammar.specs.Modules.{Memory, Module}
+use Rattle.wasm_grammar.specs.TypeWords.{heap_of, value_of}
 use Rattle.wasm_grammar.specs.Values.{must, first_of}
 use Rattle.wasm_grammar.specs.States.{types_of, count_of}
 use Rattle.wasm_body_grammar.specs.Frames.{Frame, Turned, turned, label_count}
@@ -112,6 +114,16 @@ abbrev pub select_rule : Item → Option Trouble
 select_rule (ManyValues tys) = must (length tys == 1) (Unsupported unsupported.Select)
 select_rule _ = None
 
+-- a type has words in the module
+abbrev pub has_words : Item → Bool
+has_words (Heap ty) = is_some (heap_of ty)
+has_words (Block (blocks.Value ty)) = is_some (value_of ty)
+has_words (ManyValues tys) = list_all (λ ty. is_some (value_of ty)) tys
+has_words _ = true
+
+abbrev pub words_rule : Item → Option Trouble
+words_rule item = must (has_words item) (Unsupported unsupported.SharedType)
+
 abbrev pub access_rule : Around → Item → Option Trouble
 access_rule a (Access access) = access_test a access
 access_rule a _ = None
@@ -133,4 +145,5 @@ operator_test a locals frames op =
     (first_of (turned_test (turned (flow_of op.code) frames))
     (first_of (data_test a (operator_names op))
     (first_of (first_in select_rule op.items)
-    (first_in (access_rule a) op.items)))))
+    (first_of (first_in words_rule op.items)
+    (first_in (access_rule a) op.items))))))

@@ -1,5 +1,6 @@
 //! Laws: functions with nothing to do, whose contracts hold of all bodies and bytes.
 
+ghost use Rattle.wasm_body_grammar.specs.Codes.{ParsingReadsAll};
 ghost use Rattle.wasm_body_grammar.specs.Laws.{BodiesReadOnce, ReadDontStop, BodiesReadOrStop, BodiesStopOnce, BodiesStopInside, BodiesStopForGood, BodiesEnd, BodiesArePrefixFree, ParsingReads};
 
 /// Bytes read as one body at most.
@@ -45,4 +46,9 @@ pub fn bodies_are_prefix_free()
 /// What is parsed from left to right reads, or stops; and what reads or stops is parsed so.
 pub fn parsing_reads()
     ensures { ParsingReads }
+{}
+
+/// The same of the bodies of a module, one after another; where one stops lies in the bytes of the file.
+pub fn parsing_reads_all()
+    ensures { ParsingReadsAll }
 {}

@@ -1,7 +1,7 @@
 -- Modules around the bodies of the examples.
 use Rattle.std.specs.Prelude.{ℕ, Bool, true, false, List, [], ◌∷◌, map, Option, Some, None}
 use Rattle.wasm_features.specs.declared.WasmFeatures.{WasmFeatures}
-use Rattle.wasm_features.specs.Features.{LegacyExceptions, WideArithmetic, features_of}
+use Rattle.wasm_features.specs.Features.{SharedEverythingThreads, LegacyExceptions, WideArithmetic, features_of}
 use Rattle.wasm_features.specs.Sets.{default_names}
 use Rattle.walrus_forms.specs.declared.value.AbstractHeapType.TheVariants as abstracts
 use Rattle.walrus_forms.specs.declared.value.HeapType.TheVariants.{Abstract}
@@ -81,6 +81,9 @@ counting a = record a { counted = true }
 
 abbrev pub without_legacy : Around → Around
 without_legacy a = record a { features = features_of (WideArithmetic ∷ default_names) }
+
+abbrev pub sharing : Around → Around
+sharing a = record a { features = features_of (SharedEverythingThreads ∷ default_names) }
 
 abbrev pub with_segment : Around
 with_segment = around (record (plain (without_body ∷ [])) { memories = memory false ∷ []; segments = Some (record { mode = Passive; bytes = 0x2a ∷ [] }) ∷ [] })

@@ -15,8 +15,9 @@ use Rattle.wasm_formats.specs.declared.fault.Form.TheVariants as unsupported
 use Rattle.wasm_formats.specs.declared.fault.Limited.TheVariants as limits
 use Rattle.wasm_formats.specs.Stops.{Trouble, Read, Index, TypeForm, Nesting, Position, Operator, Unsupported, Bounds, Limit, Stop, stop}
 use Rattle.wasm_grammar.specs.Modules.{Body, Placed}
+use Rattle.wasm_body_grammar.specs.Rules.{Around}
 use Rattle.wasm_body_grammar.specs.Bodies.{body_at}
-use Rattle.wasm_body_grammar_tests.specs.Examples.{shapes, op, prefixed, access, at, just}
+use Rattle.wasm_body_grammar_tests.specs.Examples.{shapes, sharing, op, prefixed, access, at, just}
 
 -- a body without declared locals, as it is parsed behind a size of one byte
 abbrev pub parsed : List ℕ → Result Body Stop
@@ -36,9 +37,12 @@ AreReadAs cases = map (λ c. parsed c.0) cases ≡ map (λ (c : List ℕ × List
 abbrev pub Refused : Type 0
 Refused = List ℕ × Trouble × ℕ
 
+abbrev pub AreRefusedIn : Around → List Refused → Type 0
+AreRefusedIn a cases =
+    map (λ c. body_at a 1 2 c.0) cases ≡ map (λ (c : Refused). (let no : Result Body Stop = Err (stop c.1 (length c.0 - c.2)) in no)) cases
+
 abbrev pub AreRefused : List Refused → Type 0
-AreRefused cases =
-    map (λ c. body_at shapes 1 2 c.0) cases ≡ map (λ (c : Refused). (let no : Result Body Stop = Err (stop c.1 (length c.0 - c.2)) in no)) cases
+AreRefused cases = AreRefusedIn shapes cases
 
 -- one operator of each kind of immediates
 abbrev pub plain_shapes : List (List ℕ × Seen)
@@ -256,6 +260,15 @@ wrong_locals =
     ∷ ((0x80 ∷ 0x80 ∷ 0x80 ∷ 0x80 ∷ 0x10 ∷ []), Read kinds.TooLarge, 4)
     ∷ []
 
+-- shared types, where they are read
+abbrev pub wrong_shared : List Refused
+wrong_shared =
+    (0x00 ∷ 0xd0 ∷ 0x65 ∷ 0x70 ∷ 0x0b ∷ [], Unsupported unsupported.SharedType, 1)
+    ∷ (0x00 ∷ 0x02 ∷ 0x65 ∷ 0x70 ∷ 0x0b ∷ 0x0b ∷ [], Unsupported unsupported.SharedType, 1)
+    ∷ (0x00 ∷ 0x1c ∷ 0x01 ∷ 0x65 ∷ 0x70 ∷ 0x0b ∷ [], Unsupported unsupported.SharedType, 1)
+    ∷ (0x01 ∷ 0x01 ∷ 0x65 ∷ 0x70 ∷ 0x0b ∷ [], Unsupported unsupported.SharedType, 2)
+    ∷ []
+
 pub record ShapesHold : Type 0 where
   pub plain : AreRead plain_shapes
   pub control : AreReadAs control_shapes
@@ -263,3 +276,4 @@ pub record ShapesHold : Type 0 where
   pub refused : AreRefused wrong
   pub control_refused : AreRefused wrong_control
   pub locals_refused : AreRefused wrong_locals
+  pub shared_refused : AreRefusedIn (sharing shapes) wrong_shared
