@@ -21,7 +21,8 @@ use Rattle.wasm_operators.specs.Spellings.{SpellsCode}
 use Rattle.wasm_operators.specs.Taken.{code_taken}
 use Rattle.wasm_operators.specs.Finals.{code_final}
 use Rattle.wasm_formats.specs.declared.fault.Space.TheVariants as spaces
-use Rattle.wasm_formats.specs.Stops.{Trouble, Read, Index, ConstExpr, OffsetType, Stop, stop, can_end}
+use Rattle.wasm_formats.specs.declared.fault.Form.TheVariants as unsupported
+use Rattle.wasm_formats.specs.Stops.{Trouble, Read, Index, Unsupported, ConstExpr, OffsetType, Stop, stop, can_end}
 use Rattle.wasm_formats.specs.Formats.{Format, leaf, refused_is}
 use Rattle.wasm_formats.specs.Joined.{checked, only, after, built}
 use Rattle.wasm_formats.specs.Until.{until}
@@ -122,7 +123,7 @@ pub record Known : Type 0 where
   pub globals : List (Option Global)
 
 abbrev pub heap_test : Known → Option HeapType → Option Trouble
-heap_test k None = None
+heap_test k None = Some (Unsupported unsupported.SharedType)
 heap_test k (Some ty) = named_below k.types (heap_name ty)
 
 abbrev pub space_test : Known → immediates.Space → ℕ → Option Trouble

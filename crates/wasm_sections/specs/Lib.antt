@@ -7,3 +7,4 @@ pub mod Sections
 pub mod Segments
 pub mod TypeNames
 pub mod TypeSection
+pub mod Within
