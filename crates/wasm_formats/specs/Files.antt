@@ -2,7 +2,7 @@
 use Rattle.std.specs.Prelude.{ℕ, zero, suc, ◌+◌, ◌<◌, ◌≤◌, ◌≡◌, Bool, true, false, List, [], ◌∷◌, ◌++◌, length, fold, Result, Ok, Err, ◌⊎◌, if◌then◌else◌, refl}
 use Rattle.std.proofs.Common.{ap, sym, ◌∙◌, subst, arith, inl, inr}
 use Rattle.std.proofs.lemmas.List.{append_assoc, length-append}
-use Rattle.wasm_formats.specs.Stops.{Count, Stop, stop, moved, can_end, Parsing, ◌>>=◌}
+use Rattle.wasm_formats.specs.Stops.{Trouble, Count, Stop, stop, moved, can_end, Parsing, ◌>>=◌}
 use Rattle.wasm_formats.specs.Formats.{Format, Whole, Small, Stands, Inside, InsideAll, done_is, done_refused, refused_is, step_ok, step_err, behind_small, parsed_final}
 use Rattle.wasm_formats.specs.Wholes.{all_step}
 use Rattle.wasm_formats.specs.Lists.{SpellsEntries, EntryRules}
@@ -110,45 +110,54 @@ module _ {A S : Type 0} (next : S → A → S) (entry : S → Format A) (takes :
     final = λ bytes more e small h k. all_final (length bytes) (length (bytes ++ more)) s bytes more e (omega (arith, length-append bytes more)) small h k;
   }
 
--- ---- counts that are compared at the end of all bytes, where their fault stands
+-- ---- what has to hold once all bytes were read, or else there is trouble at their end that more bytes may mend
 
-abbrev pub ended_at : {A : Type 0} → Bool → A → Result A Stop
-ended_at agrees x = if agrees then Ok x else Err (stop Count 0)
+abbrev pub ended_at : {A : Type 0} → Trouble → Bool → A → Result A Stop
+ended_at trouble holds x = if holds then Ok x else Err (stop trouble 0)
 
-pub ended_ok : {A : Type 0} (agrees : Bool) (x y : A) → ended_at agrees x ≡ Ok y → (agrees ≡ true) × (x ≡ y)
-ended_ok true x y e = (refl, done_is x y e)
-ended_ok false x y e = absurd cc
+pub ended_ok : {A : Type 0} (trouble : Trouble) (holds : Bool) (x y : A) → ended_at trouble holds x ≡ Ok y → (holds ≡ true) × (x ≡ y)
+ended_ok trouble true x y e = (refl, done_is x y e)
+ended_ok trouble false x y e = absurd cc
 
-pub ended_err : {A : Type 0} (agrees : Bool) (x : A) (s : Stop) → ended_at agrees x ≡ Err s → (agrees ≡ false) × (s ≡ stop Count 0)
-ended_err true x s e = absurd cc
-ended_err {A} false x s e = (refl, sym (refused_is {A = A} (stop Count 0) s e))
+pub ended_err : {A : Type 0} (trouble : Trouble) (holds : Bool) (x : A) (s : Stop) → ended_at trouble holds x ≡ Err s → (holds ≡ false) × (s ≡ stop trouble 0)
+ended_err trouble true x s e = absurd cc
+ended_err {A} trouble false x s e = (refl, sym (refused_is {A = A} (stop trouble 0) s e))
 
-pub ended_inside : {A : Type 0} (n : ℕ) (test : A → Bool) (r : Result A Stop) → InsideAll n r → InsideAll n (r >>= λ x. ended_at (test x) x)
-ended_inside {A} n test (Ok x) h = go (test x)
+pub ended_inside : {A : Type 0} (trouble : Trouble) (n : ℕ) (test : A → Bool) (r : Result A Stop) → InsideAll n r → InsideAll n (r >>= λ x. ended_at trouble (test x) x)
+ended_inside {A} trouble n test (Ok x) h = go (test x)
   where
-    go : (agrees : Bool) → InsideAll n (ended_at agrees x)
+    go : (holds : Bool) → InsideAll n (ended_at trouble holds x)
     go true = tt
     go false = omega arith
-ended_inside n test (Err s) h = h
+ended_inside trouble n test (Err s) h = h
 
-abbrev pub ended : {A : Type 0} → Whole A → (A → Bool) → Whole A
-ended {A} f test = record {
+-- trouble that more bytes may mend isn't final
+pub end_ends : {P : Type 0} (trouble : Trouble) (left : ℕ) (s : Stop) → can_end trouble ≡ true → s ≡ stop trouble left → can_end s.trouble ≡ false → P
+end_ends trouble left s ends e k = let k : true ≡ false = sym ends ∙ subst (λ (s : Stop). can_end s.trouble ≡ false) e k in absurd cc
+
+abbrev pub ended_by : {A : Type 0} → (trouble : Trouble) → can_end trouble ≡ true → Whole A → (A → Bool) → Whole A
+ended_by {A} trouble ends f test = record {
   spells = f.spells;
   rules = λ x. f.rules x × (test x ≡ true);
-  stops = λ bytes s. f.stops bytes s ⊎ ((x : A) × (f.spells bytes x × f.rules x) × (test x ≡ false) × (s ≡ stop Count 0));
-  parse = λ bytes. f.parse bytes >>= λ x. ended_at (test x) x;
-  found = λ bytes x small e. step_ok (f.parse bytes) (λ x. ended_at (test x) x) x e (λ y p q.
-      let t = ended_ok (test y) y x q in
+  -- the value is refused, or it stands there and the test fails at the end
+  stops = λ bytes s. f.stops bytes s ⊎ ((x : A) × (f.spells bytes x × f.rules x) × (test x ≡ false) × (s ≡ stop trouble 0));
+  parse = λ bytes. f.parse bytes >>= λ x. ended_at trouble (test x) x;
+  found = λ bytes x small e. step_ok (f.parse bytes) (λ x. ended_at trouble (test x) x) x e (λ y p q.
+      let t = ended_ok trouble (test y) y x q in
       let s = f.found bytes x small (p ∙ ap (λ z. Ok z) t.1) in
       (s.0, (s.1, subst (λ (z : A). test z ≡ true) t.1 t.0)));
   again = λ bytes x h r. rw (f.again bytes x h r.0, r.1) refl;
-  told = λ bytes s small e. step_err (f.parse bytes) (λ x. ended_at (test x) x) s e (λ p. inl (f.told bytes s small p))
-      (λ x p q. let t = ended_err (test x) x s q in inr (x, f.found bytes x small p, t.0, t.1));
+  told = λ bytes s small e. step_err (f.parse bytes) (λ x. ended_at trouble (test x) x) s e (λ p. inl (f.told bytes s small p))
+      (λ x p q. let t = ended_err trouble (test x) x s q in inr (x, f.found bytes x small p, t.0, t.1));
   tells = λ bytes s h. elim h [
     | inl p ↦ rw (f.tells bytes s p) refl
     | inr p ↦ rw (f.again bytes p.0 p.1.0 p.1.1, p.2, p.3) refl
   ];
-  within = λ bytes. ended_inside (length bytes) test (f.parse bytes) (f.within bytes);
-  final = λ bytes more s small e k. step_err (f.parse bytes) (λ x. ended_at (test x) x) s e (λ p. rw (f.final bytes more s small p k) refl)
-      (λ x p q. count_ends 0 s (ended_err (test x) x s q).1 k);
+  within = λ bytes. ended_inside trouble (length bytes) test (f.parse bytes) (f.within bytes);
+  final = λ bytes more s small e k. step_err (f.parse bytes) (λ x. ended_at trouble (test x) x) s e (λ p. rw (f.final bytes more s small p k) refl)
+      (λ x p q. end_ends trouble 0 s ends (ended_err trouble (test x) x s q).1 k);
 }
+
+-- counts that are compared at the end
+abbrev pub ended : {A : Type 0} → Whole A → (A → Bool) → Whole A
+ended f test = ended_by Count refl f test

@@ -1,10 +1,10 @@
 -- A byte that leads one form, where another form begins otherwise.
-use Rattle.std.specs.Prelude.{ℕ, ◌+◌, ◌≤◌, ◌≡◌, ◌==◌, Bool, true, false, List, [], ◌∷◌, ◌++◌, length, Ok, Err, ◌⊎◌, if◌then◌else◌, refl}
+use Rattle.std.specs.Prelude.{ℕ, ◌≡◌, ◌==◌, true, false, List, [], ◌∷◌, ◌++◌, length, Ok, Err, ◌⊎◌, if◌then◌else◌, refl}
 use Rattle.std.proofs.Common.{ap, sym, ◌∙◌, subst, arith, inl, inr}
 use Rattle.std.proofs.lemmas.Bool.{cases_Bool, eqb-true, eq-eqb}
 use Rattle.wasm_reader.specs.Vecs.{later_bytes}
 use Rattle.wasm_formats.specs.Stops.{Stop, moved, can_end, Parsing, ◌>>=◌}
-use Rattle.wasm_formats.specs.Formats.{Format, Small, Stands, Inside, done_is, done_refused, refused, step_ok, step_err, inside_step, inside_later}
+use Rattle.wasm_formats.specs.Formats.{Format, Small, Stands, Inside, done_is, done_refused, step_ok, step_err, inside_step, inside_later}
 
 -- the bytes don't begin with it
 abbrev pub IsOther : ℕ → List ℕ → Type 0

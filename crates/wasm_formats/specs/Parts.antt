@@ -1,11 +1,11 @@
 -- Formats of parts that may be missing, of values in other words, and tests whose fault stands inside a value.
-use Rattle.std.specs.Prelude.{ℕ, ◌+◌, ◌-◌, ◌≤◌, ◌≡◌, Bool, true, false, List, [], ◌++◌, length, Option, Some, None, Result, Ok, Err, ◌⊎◌, refl}
+use Rattle.std.specs.Prelude.{ℕ, ◌+◌, ◌-◌, ◌≤◌, ◌≡◌, Bool, List, [], ◌++◌, length, Option, Some, None, Ok, Err, ◌⊎◌, refl}
 use Rattle.std.proofs.Common.{ap, sym, ◌∙◌, subst, arith, inl, inr}
 use Rattle.std.proofs.lemmas.List.{length-append}
-use Rattle.wasm_formats.specs.Stops.{Trouble, Stop, stop, moved, can_end, Parsing, ◌>>=◌}
-use Rattle.wasm_formats.specs.Formats.{Format, Stands, Inside, done, done_is, done_refused, refused, refused_is, step_ok, step_err, inside_wide, parsed_final}
+use Rattle.wasm_formats.specs.Stops.{Trouble, Stop, stop, moved, Parsing, ◌>>=◌}
+use Rattle.wasm_formats.specs.Formats.{Format, Inside, done_is, done_refused, refused, refused_is, step_ok, step_err, inside_wide, parsed_final}
 use Rattle.wasm_formats.specs.Bytes.{either}
-use Rattle.wasm_formats.specs.Joined.{Behind, Fails, built}
+use Rattle.wasm_formats.specs.Joined.{Behind, built}
 
 -- ---- no bytes stand for this value
 

@@ -34,11 +34,14 @@ pub record Stop : Type 0 where
 abbrev pub stop : Trouble → ℕ → Stop
 stop trouble left = record { trouble = trouble; left = left }
 
--- trouble that can come of the end of the bytes, and that more bytes may mend
+-- trouble that can come of the end of the bytes, and that more bytes may mend; a limit stands before what is cut short behind it, and gives
+-- way to another fault of its own byte
 abbrev pub can_end : Trouble → Bool
 can_end (Read (kinds.EndOfFile missing)) = true
+can_end Header = true
 can_end SectionSize = true
 can_end Count = true
+can_end (Limit of) = true
 can_end _ = false
 
 -- what stands at the front of the bytes and the bytes behind it, or where reading stops

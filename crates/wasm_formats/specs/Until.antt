@@ -1,9 +1,9 @@
 -- Entries up to a byte that closes them.
-use Rattle.std.specs.Prelude.{ℕ, zero, suc, ◌+◌, ◌<◌, ◌≤◌, ◌≡◌, Bool, true, false, List, [], ◌∷◌, ◌++◌, length, fold, Ok, Err, ◌⊎◌, refl}
+use Rattle.std.specs.Prelude.{ℕ, zero, suc, ◌+◌, ◌<◌, ◌≤◌, ◌≡◌, true, false, List, [], ◌∷◌, ◌++◌, length, Ok, Err, ◌⊎◌, refl}
 use Rattle.std.proofs.Common.{ap, sym, ◌∙◌, subst, arith, inl, inr}
-use Rattle.std.proofs.lemmas.List.{append_assoc, append-nil, length-append}
-use Rattle.wasm_formats.specs.Stops.{Trouble, Count, Stop, stop, moved, can_end, Parsing, ◌>>=◌}
-use Rattle.wasm_formats.specs.Formats.{Format, Small, Stands, Inside, done_is, done_refused, refused, refused_is, step_ok, step_err, inside_wide, inside_later, behind_small, parsed_final}
+use Rattle.std.proofs.lemmas.List.{append_assoc, length-append}
+use Rattle.wasm_formats.specs.Stops.{Count, Stop, stop, moved, can_end, Parsing, ◌>>=◌}
+use Rattle.wasm_formats.specs.Formats.{Format, Small, Stands, Inside, done_is, done_refused, refused_is, step_ok, step_err, inside_wide, inside_later, behind_small, parsed_final}
 use Rattle.wasm_formats.specs.Parts.{nothing}
 use Rattle.wasm_formats.specs.Led.{led, IsOther}
 use Rattle.wasm_formats.specs.Files.{count_ends}

@@ -1,9 +1,8 @@
 -- Constant expressions (Core Specification, valid expressions: constant expressions; binary format: expressions).
-use Rattle.std.specs.Prelude.{ℕ, ◌≡◌, ◌==◌, ◌&&◌, ◌||◌, nat_le, nat_lt, Bool, true, false, List, [], ◌∷◌, ◌++◌, length, Option, Some, None, Ok, Err, ◌⊎◌, if◌then◌else◌, slice_index_or, refl}
+use Rattle.std.specs.Prelude.{ℕ, ◌≡◌, ◌==◌, ◌&&◌, ◌||◌, nat_le, nat_lt, Bool, true, false, List, [], ◌∷◌, ◌++◌, length, Option, Some, None, Err, ◌⊎◌, if◌then◌else◌, slice_index_or, refl}
 use Rattle.std.proofs.Common.{ap, sym, ◌∙◌, subst, inl, inr}
 use Rattle.wasm_features.specs.declared.WasmFeatures.{WasmFeatures}
 use Rattle.wasm_reader.specs.declared.error.ErrorKind.TheVariants as kinds
-use Rattle.wasm_ref_types.specs.declared.heap.HeapType.{HeapType as ReadHeap}
 use Rattle.walrus_forms.specs.declared.value.ValType.{ValType}
 use Rattle.walrus_forms.specs.declared.value.ValType.TheVariants.{I32, I64}
 use Rattle.walrus_forms.specs.declared.value.HeapType.{HeapType}
@@ -22,7 +21,8 @@ use Rattle.wasm_operators.specs.Spellings.{SpellsCode}
 use Rattle.wasm_operators.specs.Taken.{code_taken}
 use Rattle.wasm_operators.specs.Finals.{code_final}
 use Rattle.wasm_formats.specs.declared.fault.Space.TheVariants as spaces
-use Rattle.wasm_formats.specs.Stops.{Trouble, Read, Index, ConstExpr, OffsetType, Stop, stop, can_end}
+use Rattle.wasm_formats.specs.declared.fault.Form.TheVariants as unsupported
+use Rattle.wasm_formats.specs.Stops.{Trouble, Read, Index, Unsupported, ConstExpr, OffsetType, Stop, stop, can_end}
 use Rattle.wasm_formats.specs.Formats.{Format, leaf, refused_is}
 use Rattle.wasm_formats.specs.Joined.{checked, only, after, built}
 use Rattle.wasm_formats.specs.Until.{until}
@@ -123,7 +123,7 @@ pub record Known : Type 0 where
   pub globals : List (Option Global)
 
 abbrev pub heap_test : Known → Option HeapType → Option Trouble
-heap_test k None = None
+heap_test k None = Some (Unsupported unsupported.SharedType)
 heap_test k (Some ty) = named_below k.types (heap_name ty)
 
 abbrev pub space_test : Known → immediates.Space → ℕ → Option Trouble

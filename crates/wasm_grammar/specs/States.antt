@@ -1,11 +1,9 @@
 -- What is known at a point of the file: the module as far as it was read.
-use Rattle.std.specs.Prelude.{ℕ, ◌+◌, ◌-◌, ◌==◌, ◌||◌, nat_lt, nat_le, Bool, true, false, List, [], ◌∷◌, ◌++◌, length, map, Option, Some, None, if◌then◌else◌, slice_index_or, slice_get}
-use Rattle.std.specs.List.{flat_map, list_any}
+use Rattle.std.specs.Prelude.{ℕ, nat_lt, Bool, true, false, List, length, Option, Some, None, slice_get}
+use Rattle.std.specs.List.{flat_map}
 use Rattle.walrus_forms.specs.Kinds.{Kind}
 use Rattle.walrus_forms.specs.Forms.{Form, FunctionForm, StructForm, ArrayForm}
 use Rattle.walrus_forms.specs.Records.{TypeGroup}
-use Rattle.walrus_forms.specs.declared.value.RefType.{RefType}
-use Rattle.walrus_forms.specs.declared.value.ValType.{ValType}
 use Rattle.wasm_formats.specs.declared.fault.Space.{Space}
 use Rattle.wasm_formats.specs.declared.fault.Space.TheVariants as spaces
 use Rattle.wasm_formats.specs.declared.fault.Limited.{Limited}
@@ -14,8 +12,8 @@ use Rattle.wasm_formats.specs.Stops.{Trouble, Index, TypeForm, Limit}
 use Rattle.wasm_formats.specs.Formats.{Format}
 use Rattle.wasm_formats.specs.Joined.{checked}
 use Rattle.wasm_formats.specs.Wholes.{u32}
-use Rattle.wasm_grammar.specs.Modules.{Item, Expr, Function, Table, Memory, Tag, Global, Import, Export, Element, Segment, Custom, Module, empty}
-use Rattle.wasm_grammar.specs.Values.{must, first_of}
+use Rattle.wasm_grammar.specs.Modules.{Module, empty}
+use Rattle.wasm_grammar.specs.Values.{must}
 use Rattle.wasm_grammar.specs.Exprs.{Known}
 
 -- the bytes of a body, and the place at which they begin, from the function count of the code section
@@ -30,12 +28,14 @@ pub record State : Type 0 where
   -- the place of the last standard section in their order, 0 before the first
   pub last : ℕ
   pub data_count : Option ℕ
-  -- the bodies that were read, where there is a code section, and the place behind them
+  -- the bodies that were read, where there is a code section, and the offset of its function count in the file
   pub bodies : Option (List Chunk)
-  pub place : ℕ
+  pub code_start : ℕ
+  -- the offset at which the next section begins
+  pub offset : ℕ
 
 abbrev pub nothing_yet : State
-nothing_yet = record { filled = empty; imported = 0; last = 0; data_count = None; bodies = None; place = 0 }
+nothing_yet = record { filled = empty; imported = 0; last = 0; data_count = None; bodies = None; code_start = 0; offset = 8 }
 
 -- the types of the groups that were read, in their order
 abbrev pub types_of : Module → List Kind
@@ -79,8 +79,11 @@ limited spaces.Element = limits.Elements
 limited _ = limits.Data
 
 -- one more item of the space is within its limit
+abbrev pub has_room : State → Space → Bool
+has_room s space = nat_lt (count_of s.filled space) (most space)
+
 abbrev pub room_test : State → Space → Option Trouble
-room_test s space = must (nat_lt (count_of s.filled space) (most space)) (Limit (limited space))
+room_test s space = must (has_room s space) (Limit (limited space))
 
 -- ---- types that are functions'
 

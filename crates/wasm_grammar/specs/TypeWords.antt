@@ -1,12 +1,11 @@
 -- Types as they are read, in the words of types whose names are indices of a module.
-use Rattle.std.specs.Prelude.{ℕ, ◌≡◌, Bool, true, false, Option, Some, None, refl}
+use Rattle.std.specs.Prelude.{◌≡◌, true, false, Option, Some, None, refl}
 use Rattle.std.specs.Option.{option_map}
 use Rattle.std.proofs.Common.{ap, sym, ◌∙◌}
 use Rattle.wasm_ref_types.specs.declared.heap.AbstractHeapType.{AbstractHeapType as ReadAbstract}
 use Rattle.wasm_ref_types.specs.declared.heap.AbstractHeapType.TheVariants as from
 use Rattle.wasm_ref_types.specs.declared.heap.HeapType.{HeapType as ReadHeap}
 use Rattle.wasm_ref_types.specs.declared.heap.HeapType.TheVariants.{Abstract as FromAbstract, Concrete as FromConcrete, Exact as FromExact}
-use Rattle.wasm_ref_types.specs.declared.index.UnpackedIndex.{UnpackedIndex}
 use Rattle.wasm_ref_types.specs.declared.index.UnpackedIndex.TheVariants.{Module, RecGroup, Id}
 use Rattle.wasm_ref_types.specs.declared.value.ValType.{ValType as ReadValue}
 use Rattle.wasm_ref_types.specs.declared.value.ValType.TheVariants as values

@@ -1,5 +1,5 @@
 -- Values that sections are made of (Core Specification, binary format: values, types).
-use Rattle.std.specs.Prelude.{ℕ, ◌+◌, ◌<◌, ◌≤◌, ◌≡◌, ◌==◌, ◌&&◌, ◌||◌, ◌/◌, ◌%◌, nat_lt, nat_le, Bool, true, false, not, List, Option, Some, None, if◌then◌else◌}
+use Rattle.std.specs.Prelude.{ℕ, ◌==◌, ◌&&◌, ◌||◌, ◌/◌, ◌%◌, nat_lt, nat_le, Bool, true, false, not, List, Option, Some, None, if◌then◌else◌}
 use Rattle.wasm_features.specs.declared.WasmFeatures.{WasmFeatures}
 use Rattle.wasm_reader.specs.declared.error.ErrorKind.TheVariants as kinds
 use Rattle.wasm_reader.specs.Numbers.{unsigned, unsigned_at, Spells}
@@ -7,8 +7,6 @@ use Rattle.wasm_reader.specs.Reading.{bytes_at, SpellsRun}
 use Rattle.wasm_reader.specs.Text.{string_at, SpellsName}
 use Rattle.wasm_reader.specs.Spellings.{number_taken, run_taken, string_taken}
 use Rattle.wasm_reader.specs.Finals.{unsigned_final, bytes_final, string_final}
-use Rattle.wasm_ref_types.specs.declared.value.ValType.{ValType as ReadValue}
-use Rattle.wasm_ref_types.specs.Reference.{Reference}
 use Rattle.wasm_ref_types.specs.ReadTypes.{value_at, reference_at}
 use Rattle.wasm_ref_types.specs.TypeSpellings.{SpellsValue, SpellsReference}
 use Rattle.wasm_ref_types.specs.TypesTaken.{value_taken, reference_taken}
@@ -109,10 +107,10 @@ abbrev pub is_some : Option ℕ → Bool
 is_some None = false
 is_some (Some n) = true
 
--- a memory's limits, and the logarithm of its page size, 0 or 16: shared ones have a maximum
-abbrev pub memory_limits : Format (Limits × Option ℕ)
-memory_limits = pair_checked (limits 16) (λ l. optional (has_page_size l.0) u32)
-    (λ m. must (in_order m.0.1.0 m.0.1.1 && (not (is_shared m.0.0) || is_some m.0.1.1)) Bounds)
+-- a memory's limits, and the logarithm of its page size, 0 or 16: shared ones have a maximum; and whether there is room for it, tested at the same byte
+abbrev pub memory_limits : Option Trouble → Format (Limits × Option ℕ)
+memory_limits room = pair_checked (limits 16) (λ l. optional (has_page_size l.0) u32)
+    (λ m. first_of (must (in_order m.0.1.0 m.0.1.1 && (not (is_shared m.0.0) || is_some m.0.1.1)) Bounds) room)
     (λ m. page_test m.1)
   where
     page_test : Option ℕ → Option Trouble

@@ -1,0 +1,16 @@
+//! Bodies computed from the grammar of bodies: facts, as functions with nothing to do.
+#![tactic(auto)]
+
+ghost use Rattle.wasm_body_grammar_tests.specs.Rows.{RowsHold};
+ghost use Rattle.wasm_body_grammar_tests.specs.Shapes.{ShapesHold};
+
+/// The bodies of whole modules read as they are to, each operator at its place, or are refused at the place of the file that is to be
+/// told.
+pub fn bodies_of_modules()
+    ensures { RowsHold }
+{}
+
+/// An operator of each shape reads, is missed at the end where it is cut, and is refused for each of its faults at its place.
+pub fn operators_of_each_shape()
+    ensures { ShapesHold }
+{}

@@ -1,0 +1,4 @@
+pub mod Headers
+pub mod Rooms
+pub mod Barred
+pub mod Counted

@@ -1,0 +1,42 @@
+-- Laws of modules.
+use Rattle.std.specs.Prelude.{ℕ, ◌+◌, ◌^◌, ◌≤◌, ◌<◌, ◌≡◌, ◌⊎◌, false, List, ◌++◌, length, Ok, Err}
+use Rattle.wasm_features.specs.declared.WasmFeatures.{WasmFeatures}
+use Rattle.wasm_formats.specs.Stops.{Trouble, Stop, can_end}
+use Rattle.wasm_formats.specs.Formats.{Format, Small}
+use Rattle.wasm_grammar.specs.Modules.{Module}
+use Rattle.wasm_sections.specs.Laws.{StopsSections}
+use Rattle.wasm_modules.specs.Modules.{IsShort, Reads, StopsAt, Stops, module_at}
+
+-- bytes read as one module at most
+abbrev pub ReadsOnce : Type 0
+ReadsOnce = (features : WasmFeatures) (bytes : List ℕ) (m n : Module) → Reads features bytes m → Reads features bytes n → m ≡ n
+
+-- what reads doesn't stop
+abbrev pub ReadDontStop : Type 0
+ReadDontStop = (features : WasmFeatures) (bytes : List ℕ) (m : Module) (trouble : Trouble) (place : ℕ) → Reads features bytes m → Stops features bytes trouble place → ⊥
+
+-- what doesn't read stops, where the file isn't too long
+abbrev pub ReadOrStop : Type 0
+ReadOrStop = (features : WasmFeatures) (bytes : List ℕ) → Small bytes → IsShort bytes
+    → ((m : Module) × Reads features bytes m) ⊎ ((trouble : Trouble) × (place : ℕ) × Stops features bytes trouble place)
+
+-- with one fault, at one place
+abbrev pub StopsOnce : Type 0
+StopsOnce = (features : WasmFeatures) (bytes : List ℕ) (t u : Trouble) (p q : ℕ) → Stops features bytes t p → Stops features bytes u q → (t ≡ u) × (p ≡ q)
+
+-- which lies in the bytes, or at their end
+abbrev pub StopsInside : Type 0
+StopsInside = (features : WasmFeatures) (bytes : List ℕ) (trouble : Trouble) (place : ℕ) → Stops features bytes trouble place → place ≤ length bytes
+
+-- bytes behind a fault of the sections don't change it, but for faults that can come of the end of the bytes
+abbrev pub StopsForGood : Type 0
+StopsForGood = (features : WasmFeatures) (bytes more : List ℕ) (e : Stop) (place : ℕ) → Small (bytes ++ more) → IsShort (bytes ++ more) → StopsSections features bytes e
+    → place + e.left ≡ length bytes → can_end e.trouble ≡ false → Stops features (bytes ++ more) e.trouble place
+
+-- what is parsed from left to right reads, or stops; and what reads or stops is parsed so
+pub record ParsingReads : Type 0 where
+  pub found : (features : WasmFeatures) (bytes : List ℕ) (m : Module) → Small bytes → IsShort bytes → module_at features bytes ≡ Ok m → Reads features bytes m
+  pub again : (features : WasmFeatures) (bytes : List ℕ) (m : Module) → Reads features bytes m → module_at features bytes ≡ Ok m
+  pub told : (features : WasmFeatures) (bytes : List ℕ) (e : Stop) → Small bytes → IsShort bytes → module_at features bytes ≡ Err e → StopsAt features bytes e
+  pub tells : (features : WasmFeatures) (bytes : List ℕ) (e : Stop) → StopsAt features bytes e → module_at features bytes ≡ Err e
+  pub within : (features : WasmFeatures) (bytes : List ℕ) (e : Stop) → Small bytes → StopsAt features bytes e → e.left ≤ length bytes

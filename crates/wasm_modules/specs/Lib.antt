@@ -1,0 +1,3 @@
+pub mod Laws
+pub mod Modules
+pub mod Read

@@ -1,0 +1,38 @@
+//! Laws: functions with nothing to do, whose contracts hold of all bytes.
+
+ghost use Rattle.wasm_modules.specs.Laws.{ReadsOnce, ReadDontStop, ReadOrStop, StopsOnce, StopsInside, StopsForGood, ParsingReads};
+
+/// Bytes read as one module at most.
+pub fn reads_once()
+    ensures { ReadsOnce }
+{}
+
+/// Bytes that read as a module don't stop.
+pub fn read_dont_stop()
+    ensures { ReadDontStop }
+{}
+
+/// Bytes that don't read stop, where there are at most 2^30.
+pub fn read_or_stop()
+    ensures { ReadOrStop }
+{}
+
+/// No bytes stop with two faults, or at two places.
+pub fn stops_once()
+    ensures { StopsOnce }
+{}
+
+/// A fault stands in the bytes, or at their end.
+pub fn stops_inside()
+    ensures { StopsInside }
+{}
+
+/// Bytes behind a fault of the sections don't change it, but for faults that can come of the end of the bytes.
+pub fn stops_for_good()
+    ensures { StopsForGood }
+{}
+
+/// What is parsed from left to right reads, or stops; and what reads or stops is parsed so.
+pub fn parsing_reads()
+    ensures { ParsingReads }
+{}

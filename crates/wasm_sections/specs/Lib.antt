@@ -1,0 +1,10 @@
+pub mod Entities
+pub mod Exports
+pub mod Laws
+pub mod Modules
+pub mod Read
+pub mod Sections
+pub mod Segments
+pub mod TypeNames
+pub mod TypeSection
+pub mod Within

@@ -1,0 +1,34 @@
+-- Lemmas: laws of sections.
+use Rattle.std.specs.Prelude.{◌≡◌, ◌⊎◌, ◌++◌, length, Result, Ok, Err, refl}
+use Rattle.std.proofs.Common.{ap, sym, ◌∙◌, subst, inl, inr}
+use Rattle.wasm_formats.specs.Stops.{Stop, moved}
+use Rattle.wasm_formats.specs.Formats.{InsideAll, front_small, done_is, done_refused, refused_is}
+use Rattle.wasm_grammar.specs.States.{State}
+use Rattle.wasm_sections.specs.Modules.{FileEntry, file, state_of}
+use Rattle.wasm_sections.specs.Laws.{ReadsSections, StopsSections, SectionsReadOnce, SectionsDontStop, SectionsReadOrStop, SectionsStopOnce, SectionsStopInside, SectionsStopForGood}
+
+pub sections_read_once : SectionsReadOnce
+sections_read_once features bytes s t h k =
+    let f = file features in
+    let same = done_is h.0 k.0 (sym (f.again bytes h.0 h.1.0 h.1.1) ∙ f.again bytes k.0 k.1.0 k.1.1) in
+    sym h.2 ∙ ap state_of same ∙ k.2
+
+pub sections_dont_stop : SectionsDontStop
+sections_dont_stop features bytes s e h stops = let f = file features in done_refused h.0 e (sym (f.again bytes h.0 h.1.0 h.1.1) ∙ f.tells bytes e stops)
+
+pub sections_read_or_stop : SectionsReadOrStop
+sections_read_or_stop features bytes small = go ((file features).parse bytes) refl
+  where
+    go : (r : Result FileEntry Stop) → (file features).parse bytes ≡ r → ((s : State) × ReadsSections features bytes s) ⊎ ((e : Stop) × StopsSections features bytes e)
+    go (Ok x) e = inl (state_of x, (x, (file features).found bytes x small e, refl))
+    go (Err s) e = inr (s, (file features).told bytes s small e)
+
+pub sections_stop_once : SectionsStopOnce
+sections_stop_once features bytes e f h k = let g = file features in refused_is {A = FileEntry} e f (sym (g.tells bytes e h) ∙ g.tells bytes f k)
+
+pub sections_stop_inside : SectionsStopInside
+sections_stop_inside features bytes e h = let f = file features in subst (λ (r : Result FileEntry Stop). InsideAll (length bytes) r) (f.tells bytes e h) (f.within bytes)
+
+pub sections_stop_for_good : SectionsStopForGood
+sections_stop_for_good features bytes more e small h lasting =
+    let f = file features in f.told (bytes ++ more) (moved (length more) e) small (f.final bytes more e (front_small bytes more small) (f.tells bytes e h) lasting)
