@@ -1,0 +1,24 @@
+//! The collections of a module: items under ids, and what each kind adds to that.
+#![tactic(auto)]
+
+mod collection;
+mod exports;
+mod functions;
+mod globals;
+mod imports;
+mod iter;
+mod memories;
+mod segments;
+mod tables;
+mod tags;
+
+pub use collection::{Collection, Test};
+pub use exports::ModuleExports;
+pub use functions::{LocalFunctions, ModuleFunctions};
+pub use globals::ModuleGlobals;
+pub use imports::ModuleImports;
+pub use iter::Items;
+pub use memories::ModuleMemories;
+pub use segments::{ModuleData, ModuleElements};
+pub use tables::ModuleTables;
+pub use tags::ModuleTags;

@@ -1,0 +1,9 @@
+//! What a module is parsed and written with.
+#![tactic(auto)]
+
+mod config;
+
+pub use config::ModuleConfig;
+
+#[cfg(test)]
+mod tests;

@@ -1,0 +1,6 @@
+//! Functions with a body.
+#![tactic(auto)]
+
+mod local_function;
+
+pub use local_function::LocalFunction;
