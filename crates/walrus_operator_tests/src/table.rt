@@ -1,0 +1,564 @@
+//! The table of operators, row by row: each with its immediates at their edges, read, cut at each byte, and written again.
+
+use crate::view::{ends_early, is_written_again, seen};
+
+#[test]
+fn operators_without_immediates(rt: HostRuntime) {
+    let rows: [(&[u8], u8, u32, &str, u64, u64); 51] = [
+        (&[0x00], 0x00, 0x0, "none", 0, 0),
+        (&[0x01], 0x00, 0x1, "none", 0, 0),
+        (&[0x05], 0x00, 0x5, "none", 0, 0),
+        (&[0x0b], 0x00, 0xb, "none", 0, 0),
+        (&[0x0f], 0x00, 0xf, "none", 0, 0),
+        (&[0x1a], 0x00, 0x1a, "none", 0, 0),
+        (&[0x1b], 0x00, 0x1b, "none", 0, 0),
+        (&[0x45], 0x00, 0x45, "none", 0, 0),
+        (&[0xc4], 0x00, 0xc4, "none", 0, 0),
+        (&[0xd1], 0x00, 0xd1, "none", 0, 0),
+        (&[0xd3], 0x00, 0xd3, "none", 0, 0),
+        (&[0xd4], 0x00, 0xd4, "none", 0, 0),
+        (&[0x0a], 0x00, 0xa, "none", 0, 0),
+        (&[0x19], 0x00, 0x19, "none", 0, 0),
+        (&[0xfc, 0x00], 0xfc, 0, "none", 0, 0),
+        (&[0xfc, 0x07], 0xfc, 7, "none", 0, 0),
+        (&[0xfc, 0x13], 0xfc, 19, "none", 0, 0),
+        (&[0xfc, 0x16], 0xfc, 22, "none", 0, 0),
+        (&[0xfb, 0x0f], 0xfb, 15, "none", 0, 0),
+        (&[0xfb, 0x1a], 0xfb, 26, "none", 0, 0),
+        (&[0xfb, 0x1e], 0xfb, 30, "none", 0, 0),
+        (&[0xfd, 0x0e], 0xfd, 14, "none", 0, 0),
+        (&[0xfd, 0x14], 0xfd, 20, "none", 0, 0),
+        (&[0xfd, 0x23], 0xfd, 35, "none", 0, 0),
+        (&[0xfd, 0x53], 0xfd, 83, "none", 0, 0),
+        (&[0xfd, 0x5e], 0xfd, 94, "none", 0, 0),
+        (&[0xfd, 0x99, 0x01], 0xfd, 153, "none", 0, 0),
+        (&[0xfd, 0x9b, 0x01], 0xfd, 155, "none", 0, 0),
+        (&[0xfd, 0xa1, 0x01], 0xfd, 161, "none", 0, 0),
+        (&[0xfd, 0xa3, 0x01], 0xfd, 163, "none", 0, 0),
+        (&[0xfd, 0xa4, 0x01], 0xfd, 164, "none", 0, 0),
+        (&[0xfd, 0xa7, 0x01], 0xfd, 167, "none", 0, 0),
+        (&[0xfd, 0xae, 0x01], 0xfd, 174, "none", 0, 0),
+        (&[0xfd, 0xb1, 0x01], 0xfd, 177, "none", 0, 0),
+        (&[0xfd, 0xb5, 0x01], 0xfd, 181, "none", 0, 0),
+        (&[0xfd, 0xba, 0x01], 0xfd, 186, "none", 0, 0),
+        (&[0xfd, 0xbc, 0x01], 0xfd, 188, "none", 0, 0),
+        (&[0xfd, 0xc1, 0x01], 0xfd, 193, "none", 0, 0),
+        (&[0xfd, 0xc3, 0x01], 0xfd, 195, "none", 0, 0),
+        (&[0xfd, 0xc4, 0x01], 0xfd, 196, "none", 0, 0),
+        (&[0xfd, 0xc7, 0x01], 0xfd, 199, "none", 0, 0),
+        (&[0xfd, 0xce, 0x01], 0xfd, 206, "none", 0, 0),
+        (&[0xfd, 0xd1, 0x01], 0xfd, 209, "none", 0, 0),
+        (&[0xfd, 0xd5, 0x01], 0xfd, 213, "none", 0, 0),
+        (&[0xfd, 0xe1, 0x01], 0xfd, 225, "none", 0, 0),
+        (&[0xfd, 0xe3, 0x01], 0xfd, 227, "none", 0, 0),
+        (&[0xfd, 0xed, 0x01], 0xfd, 237, "none", 0, 0),
+        (&[0xfd, 0xef, 0x01], 0xfd, 239, "none", 0, 0),
+        (&[0xfd, 0xff, 0x01], 0xfd, 255, "none", 0, 0),
+        (&[0xfd, 0x80, 0x02], 0xfd, 256, "none", 0, 0),
+        (&[0xfd, 0x93, 0x02], 0xfd, 275, "none", 0, 0),
+    ];
+    for (bytes, prefix, number, form, first, second) in rows {
+        assert!(rt; seen(rt.alloc(), bytes) == Some((prefix, number, form, first, second)));
+        assert!(rt; ends_early(rt.alloc(), bytes));
+        assert!(rt; is_written_again(rt.alloc(), bytes, bytes));
+    }
+}
+
+#[test]
+fn operators_with_one_index(rt: HostRuntime) {
+    let rows: [(&[u8], u8, u32, &str, u64, u64); 38] = [
+        (
+            &[0x07, 0xff, 0xff, 0xff, 0xff, 0x0f],
+            0x00,
+            0x7,
+            "tag",
+            4294967295,
+            0,
+        ),
+        (&[0x08, 0x00], 0x00, 0x8, "tag", 0, 0),
+        (&[0x09, 0x7f], 0x00, 0x9, "label", 127, 0),
+        (&[0x0c, 0x80, 0x01], 0x00, 0xc, "label", 128, 0),
+        (
+            &[0x0d, 0xff, 0xff, 0xff, 0xff, 0x0f],
+            0x00,
+            0xd,
+            "label",
+            4294967295,
+            0,
+        ),
+        (&[0x18, 0x00], 0x00, 0x18, "label", 0, 0),
+        (&[0xd5, 0x7f], 0x00, 0xd5, "label", 127, 0),
+        (&[0xd6, 0x80, 0x01], 0x00, 0xd6, "label", 128, 0),
+        (&[0x10, 0x00], 0x00, 0x10, "function", 0, 0),
+        (&[0x12, 0x7f], 0x00, 0x12, "function", 127, 0),
+        (&[0xd2, 0x80, 0x01], 0x00, 0xd2, "function", 128, 0),
+        (&[0x14, 0x00], 0x00, 0x14, "type", 0, 0),
+        (&[0x15, 0x7f], 0x00, 0x15, "type", 127, 0),
+        (&[0x20, 0x7f], 0x00, 0x20, "local", 127, 0),
+        (&[0x21, 0x80, 0x01], 0x00, 0x21, "local", 128, 0),
+        (
+            &[0x22, 0xff, 0xff, 0xff, 0xff, 0x0f],
+            0x00,
+            0x22,
+            "local",
+            4294967295,
+            0,
+        ),
+        (&[0x23, 0x80, 0x01], 0x00, 0x23, "global", 128, 0),
+        (
+            &[0x24, 0xff, 0xff, 0xff, 0xff, 0x0f],
+            0x00,
+            0x24,
+            "global",
+            4294967295,
+            0,
+        ),
+        (&[0x25, 0x7f], 0x00, 0x25, "table", 127, 0),
+        (&[0x26, 0x80, 0x01], 0x00, 0x26, "table", 128, 0),
+        (&[0x3f, 0x80, 0x01], 0x00, 0x3f, "memory", 128, 0),
+        (
+            &[0x40, 0xff, 0xff, 0xff, 0xff, 0x0f],
+            0x00,
+            0x40,
+            "memory",
+            4294967295,
+            0,
+        ),
+        (&[0x10, 0x00], 0x00, 0x10, "function", 0, 0),
+        (&[0x10, 0x7f], 0x00, 0x10, "function", 127, 0),
+        (&[0x10, 0x80, 0x01], 0x00, 0x10, "function", 128, 0),
+        (
+            &[0x10, 0xff, 0xff, 0xff, 0xff, 0x0f],
+            0x00,
+            0x10,
+            "function",
+            4294967295,
+            0,
+        ),
+        (&[0xfc, 0x09, 0x80, 0x01], 0xfc, 9, "data", 128, 0),
+        (&[0xfc, 0x0b, 0x80, 0x01], 0xfc, 11, "memory", 128, 0),
+        (&[0xfc, 0x0d, 0x80, 0x01], 0xfc, 13, "element", 128, 0),
+        (&[0xfc, 0x0f, 0x80, 0x01], 0xfc, 15, "table", 128, 0),
+        (&[0xfc, 0x11, 0x80, 0x01], 0xfc, 17, "table", 128, 0),
+        (
+            &[0xfb, 0x00, 0xff, 0xff, 0xff, 0xff, 0x0f],
+            0xfb,
+            0,
+            "type",
+            4294967295,
+            0,
+        ),
+        (
+            &[0xfb, 0x01, 0xff, 0xff, 0xff, 0xff, 0x0f],
+            0xfb,
+            1,
+            "type",
+            4294967295,
+            0,
+        ),
+        (
+            &[0xfb, 0x06, 0xff, 0xff, 0xff, 0xff, 0x0f],
+            0xfb,
+            6,
+            "type",
+            4294967295,
+            0,
+        ),
+        (
+            &[0xfb, 0x07, 0xff, 0xff, 0xff, 0xff, 0x0f],
+            0xfb,
+            7,
+            "type",
+            4294967295,
+            0,
+        ),
+        (
+            &[0xfb, 0x0b, 0xff, 0xff, 0xff, 0xff, 0x0f],
+            0xfb,
+            11,
+            "type",
+            4294967295,
+            0,
+        ),
+        (
+            &[0xfb, 0x0e, 0xff, 0xff, 0xff, 0xff, 0x0f],
+            0xfb,
+            14,
+            "type",
+            4294967295,
+            0,
+        ),
+        (
+            &[0xfb, 0x10, 0xff, 0xff, 0xff, 0xff, 0x0f],
+            0xfb,
+            16,
+            "type",
+            4294967295,
+            0,
+        ),
+    ];
+    for (bytes, prefix, number, form, first, second) in rows {
+        assert!(rt; seen(rt.alloc(), bytes) == Some((prefix, number, form, first, second)));
+        assert!(rt; ends_early(rt.alloc(), bytes));
+        assert!(rt; is_written_again(rt.alloc(), bytes, bytes));
+    }
+}
+
+#[test]
+fn operators_with_two_numbers(rt: HostRuntime) {
+    let rows: [(&[u8], u8, u32, &str, u64, u64); 16] = [
+        (
+            &[0x11, 0x7f, 0xff, 0xff, 0xff, 0xff, 0x0f],
+            0x00,
+            0x11,
+            "type table",
+            127,
+            4294967295,
+        ),
+        (
+            &[0x13, 0x7f, 0xff, 0xff, 0xff, 0xff, 0x0f],
+            0x00,
+            0x13,
+            "type table",
+            127,
+            4294967295,
+        ),
+        (
+            &[0xfc, 0x08, 0x7f, 0xff, 0xff, 0xff, 0xff, 0x0f],
+            0xfc,
+            8,
+            "data memory",
+            127,
+            4294967295,
+        ),
+        (
+            &[0xfc, 0x0a, 0x7f, 0xff, 0xff, 0xff, 0xff, 0x0f],
+            0xfc,
+            10,
+            "memory memory",
+            127,
+            4294967295,
+        ),
+        (
+            &[0xfc, 0x0c, 0x7f, 0xff, 0xff, 0xff, 0xff, 0x0f],
+            0xfc,
+            12,
+            "element table",
+            127,
+            4294967295,
+        ),
+        (
+            &[0xfc, 0x0e, 0x7f, 0xff, 0xff, 0xff, 0xff, 0x0f],
+            0xfc,
+            14,
+            "table table",
+            127,
+            4294967295,
+        ),
+        (
+            &[0xfb, 0x02, 0x7f, 0xff, 0xff, 0xff, 0xff, 0x0f],
+            0xfb,
+            2,
+            "type number",
+            127,
+            4294967295,
+        ),
+        (
+            &[0xfb, 0x05, 0x7f, 0xff, 0xff, 0xff, 0xff, 0x0f],
+            0xfb,
+            5,
+            "type number",
+            127,
+            4294967295,
+        ),
+        (
+            &[0xfb, 0x08, 0x7f, 0xff, 0xff, 0xff, 0xff, 0x0f],
+            0xfb,
+            8,
+            "type number",
+            127,
+            4294967295,
+        ),
+        (
+            &[0xfb, 0x09, 0x7f, 0xff, 0xff, 0xff, 0xff, 0x0f],
+            0xfb,
+            9,
+            "type data",
+            127,
+            4294967295,
+        ),
+        (
+            &[0xfb, 0x12, 0x7f, 0xff, 0xff, 0xff, 0xff, 0x0f],
+            0xfb,
+            18,
+            "type data",
+            127,
+            4294967295,
+        ),
+        (
+            &[0xfb, 0x0a, 0x7f, 0xff, 0xff, 0xff, 0xff, 0x0f],
+            0xfb,
+            10,
+            "type element",
+            127,
+            4294967295,
+        ),
+        (
+            &[0xfb, 0x13, 0x7f, 0xff, 0xff, 0xff, 0xff, 0x0f],
+            0xfb,
+            19,
+            "type element",
+            127,
+            4294967295,
+        ),
+        (
+            &[0xfb, 0x11, 0x7f, 0xff, 0xff, 0xff, 0xff, 0x0f],
+            0xfb,
+            17,
+            "type type",
+            127,
+            4294967295,
+        ),
+        (
+            &[0x11, 0xff, 0xff, 0xff, 0xff, 0x0f, 0x00],
+            0x00,
+            0x11,
+            "type table",
+            4294967295,
+            0,
+        ),
+        (
+            &[0x13, 0x80, 0x01, 0x80, 0x01],
+            0x00,
+            0x13,
+            "type table",
+            128,
+            128,
+        ),
+    ];
+    for (bytes, prefix, number, form, first, second) in rows {
+        assert!(rt; seen(rt.alloc(), bytes) == Some((prefix, number, form, first, second)));
+        assert!(rt; ends_early(rt.alloc(), bytes));
+        assert!(rt; is_written_again(rt.alloc(), bytes, bytes));
+    }
+}
+
+#[test]
+fn accesses_to_memory(rt: HostRuntime) {
+    let rows: [(&[u8], u8, u32, &str, u64, u64); 17] = [
+        (
+            &[
+                0x28, 0x03, 0xff, 0xff, 0xff, 0xff, 0xff, 0xff, 0xff, 0xff, 0xff, 0x01,
+            ],
+            0x00,
+            0x28,
+            "access",
+            3,
+            18446744073709551615,
+        ),
+        (
+            &[
+                0x3e, 0x03, 0xff, 0xff, 0xff, 0xff, 0xff, 0xff, 0xff, 0xff, 0xff, 0x01,
+            ],
+            0x00,
+            0x3e,
+            "access",
+            3,
+            18446744073709551615,
+        ),
+        (
+            &[
+                0xfd, 0x00, 0x03, 0xff, 0xff, 0xff, 0xff, 0xff, 0xff, 0xff, 0xff, 0xff, 0x01,
+            ],
+            0xfd,
+            0,
+            "access",
+            3,
+            18446744073709551615,
+        ),
+        (
+            &[
+                0xfd, 0x0b, 0x03, 0xff, 0xff, 0xff, 0xff, 0xff, 0xff, 0xff, 0xff, 0xff, 0x01,
+            ],
+            0xfd,
+            11,
+            "access",
+            3,
+            18446744073709551615,
+        ),
+        (
+            &[
+                0xfd, 0x5c, 0x03, 0xff, 0xff, 0xff, 0xff, 0xff, 0xff, 0xff, 0xff, 0xff, 0x01,
+            ],
+            0xfd,
+            92,
+            "access",
+            3,
+            18446744073709551615,
+        ),
+        (
+            &[
+                0xfd, 0x5d, 0x03, 0xff, 0xff, 0xff, 0xff, 0xff, 0xff, 0xff, 0xff, 0xff, 0x01,
+            ],
+            0xfd,
+            93,
+            "access",
+            3,
+            18446744073709551615,
+        ),
+        (
+            &[
+                0xfe, 0x00, 0x03, 0xff, 0xff, 0xff, 0xff, 0xff, 0xff, 0xff, 0xff, 0xff, 0x01,
+            ],
+            0xfe,
+            0,
+            "access",
+            3,
+            18446744073709551615,
+        ),
+        (
+            &[
+                0xfe, 0x02, 0x03, 0xff, 0xff, 0xff, 0xff, 0xff, 0xff, 0xff, 0xff, 0xff, 0x01,
+            ],
+            0xfe,
+            2,
+            "access",
+            3,
+            18446744073709551615,
+        ),
+        (
+            &[
+                0xfe, 0x10, 0x03, 0xff, 0xff, 0xff, 0xff, 0xff, 0xff, 0xff, 0xff, 0xff, 0x01,
+            ],
+            0xfe,
+            16,
+            "access",
+            3,
+            18446744073709551615,
+        ),
+        (
+            &[
+                0xfe, 0x4e, 0x03, 0xff, 0xff, 0xff, 0xff, 0xff, 0xff, 0xff, 0xff, 0xff, 0x01,
+            ],
+            0xfe,
+            78,
+            "access",
+            3,
+            18446744073709551615,
+        ),
+        (&[0x28, 0x00, 0x00], 0x00, 0x28, "access", 0, 0),
+        (&[0x28, 0x1f, 0x7f], 0x00, 0x28, "access", 31, 127),
+        (&[0x28, 0x3f, 0x80, 0x01], 0x00, 0x28, "access", 63, 128),
+        (&[0x29, 0x40, 0x01, 0x05], 0x00, 0x29, "access", 1000, 5),
+        (&[0x29, 0x43, 0x02, 0x00], 0x00, 0x29, "access", 2003, 0),
+        (
+            &[0xfd, 0x54, 0x01, 0x07, 0x0f],
+            0xfd,
+            84,
+            "access lane",
+            1,
+            15,
+        ),
+        (
+            &[0xfd, 0x5b, 0x01, 0x07, 0x0f],
+            0xfd,
+            91,
+            "access lane",
+            1,
+            15,
+        ),
+    ];
+    for (bytes, prefix, number, form, first, second) in rows {
+        assert!(rt; seen(rt.alloc(), bytes) == Some((prefix, number, form, first, second)));
+        assert!(rt; ends_early(rt.alloc(), bytes));
+        assert!(rt; is_written_again(rt.alloc(), bytes, bytes));
+    }
+}
+
+#[test]
+fn other_immediates(rt: HostRuntime) {
+    let rows: [(&[u8], u8, u32, &str, u64, u64); 22] = [
+        (&[0x02, 0x40], 0x00, 0x2, "block", 0, 0),
+        (&[0x03, 0x7f], 0x00, 0x3, "block", 1, 0),
+        (&[0x04, 0x7b], 0x00, 0x4, "block", 1, 0),
+        (&[0x06, 0x63, 0x00], 0x00, 0x6, "block", 1, 0),
+        (&[0x02, 0x00], 0x00, 0x2, "block", 2, 0),
+        (&[0x02, 0x3f], 0x00, 0x2, "block", 2, 63),
+        (&[0x02, 0xc0, 0x00], 0x00, 0x2, "block", 2, 64),
+        (
+            &[0x02, 0xff, 0xff, 0xff, 0xff, 0x0f],
+            0x00,
+            0x2,
+            "block",
+            2,
+            4294967295,
+        ),
+        (
+            &[0x43, 0x01, 0x02, 0x03, 0x84],
+            0x00,
+            0x43,
+            "f32",
+            2214789633,
+            0,
+        ),
+        (
+            &[0x44, 0x01, 0x00, 0x00, 0x00, 0x00, 0x00, 0x00, 0x80],
+            0x00,
+            0x44,
+            "f64",
+            9223372036854775809,
+            0,
+        ),
+        (&[0xd0, 0x70], 0x00, 0xd0, "heap", 0, 0),
+        (&[0xd0, 0x6a], 0x00, 0xd0, "heap", 0, 0),
+        (&[0xd0, 0xff, 0xff, 0x3f], 0x00, 0xd0, "heap", 0, 0),
+        (&[0xfb, 0x14, 0x00], 0xfb, 20, "heap", 0, 0),
+        (&[0xfb, 0x17, 0x69], 0xfb, 23, "heap", 0, 0),
+        (
+            &[0xfb, 0x18, 0x00, 0x80, 0x01, 0x70, 0x05],
+            0xfb,
+            24,
+            "cast",
+            0,
+            128,
+        ),
+        (
+            &[0xfb, 0x19, 0x03, 0x00, 0x6e, 0x6d],
+            0xfb,
+            25,
+            "cast",
+            3,
+            0,
+        ),
+        (
+            &[
+                0xfd, 0x0c, 0x00, 0x01, 0x02, 0x03, 0x04, 0x05, 0x06, 0x07, 0x08, 0x09, 0x0a, 0x0b,
+                0x0c, 0x0d, 0x0e, 0x0f,
+            ],
+            0xfd,
+            12,
+            "vector",
+            0,
+            15,
+        ),
+        (
+            &[
+                0xfd, 0x0d, 0xff, 0xff, 0xff, 0xff, 0xff, 0xff, 0xff, 0xff, 0xff, 0xff, 0xff, 0xff,
+                0xff, 0xff, 0xff, 0xff,
+            ],
+            0xfd,
+            13,
+            "vector",
+            255,
+            255,
+        ),
+        (&[0xfd, 0x15, 0x00], 0xfd, 21, "lane", 0, 0),
+        (&[0xfd, 0x22, 0xff], 0xfd, 34, "lane", 255, 0),
+        (&[0xfe, 0x03, 0x00], 0xfe, 3, "zero", 0, 0),
+    ];
+    for (bytes, prefix, number, form, first, second) in rows {
+        assert!(rt; seen(rt.alloc(), bytes) == Some((prefix, number, form, first, second)));
+        assert!(rt; ends_early(rt.alloc(), bytes));
+        assert!(rt; is_written_again(rt.alloc(), bytes, bytes));
+    }
+}

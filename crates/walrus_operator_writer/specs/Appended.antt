@@ -1,0 +1,23 @@
+-- What a call puts behind the output.
+use Rattle.std.specs.Prelude.{ℕ, ◌≡◌, List, [], ◌∷◌, ◌++◌, Result, MatchResult}
+use Rattle.std.specs.declared.alloc.AllocError.{AllocError}
+use Rattle.wasm_immediates.specs.Items.{Item}
+use Rattle.wasm_operator_bytes.specs.Bytes.{item_bytes}
+
+-- what was there stands at the front
+pub record Keeps (old new : List ℕ) : Type 0 where
+  pub more : List ℕ
+  pub behind : new ≡ old ++ more
+
+-- these bytes were put behind what was there; or memory was refused part of the way
+abbrev pub Appends : List ℕ → List ℕ → List ℕ → Result (Unit {0}) AllocError → Type 0
+Appends bytes old new result = MatchResult result (λ _. new ≡ old ++ bytes) (λ _. Keeps old new)
+
+-- the items behind these bytes, one after another
+abbrev pub with_items : List ℕ → List Item → List ℕ
+with_items out [] = out
+with_items out (x ∷ items) = with_items (out ++ item_bytes x) items
+
+-- the same of items that the code writes one by one
+abbrev pub AppendsItems : List Item → List ℕ → List ℕ → Result (Unit {0}) AllocError → Type 0
+AppendsItems items old new result = MatchResult result (λ _. new ≡ with_items old items) (λ _. Keeps old new)

@@ -1,0 +1,159 @@
+//! Immediates are written.
+
+ghost use Rattle.std.specs.Prelude.{◌++◌};
+ghost use Rattle.walrus_operators.specs.Immediates.{items_of};
+ghost use Rattle.walrus_operator_writer.specs.Appended.{Appends, AppendsItems};
+ghost use Rattle.wasm_operator_bytes.specs.Bytes.{access_bytes, clause_bytes, unsigned_bytes, value_bytes, vec_bytes};
+
+use crate::number::{
+    write_bits32, write_bits64, write_byte, write_bytes, write_signed, write_unsigned,
+};
+use crate::types::{write_block_type, write_heap_type, write_value_type};
+use std::alloc::AllocError;
+use walrus_operators::Immediates;
+use wasm_immediates::{Clause, MemoryAccess};
+use wasm_ref_types::ValType;
+
+// An index, or another u32.
+fn write_index(out: &mut Vec<u8>, n: u32) -> Result<(), AllocError>
+    ensures { Appends (unsigned_bytes n) out.old.items out.new.items result }
+{
+    write_unsigned(out, u64::from(n))
+}
+
+// Two numbers.
+#[tactic(auto, using(crate::proofs::Appends::appends_on, crate::proofs::Keeps::keeps_on, std::proofs::lemmas::List::append_assoc))]
+fn write_two(out: &mut Vec<u8>, first: u32, second: u32) -> Result<(), AllocError>
+    ensures { Appends (unsigned_bytes first ++ unsigned_bytes second) out.old.items out.new.items result }
+{
+    write_index(out, first)?;
+    write_index(out, second)
+}
+
+// The memory's index stands only where it isn't 0.
+#[tactic(auto, using(crate::proofs::Appends::appends_on, crate::proofs::Keeps::keeps_on, std::proofs::lemmas::List::append_assoc))]
+fn write_access(out: &mut Vec<u8>, access: MemoryAccess) -> Result<(), AllocError>
+    ensures { Appends (access_bytes access) out.old.items out.new.items result }
+{
+    if access.memory == 0 {
+        write_index(out, access.align)?;
+        return write_unsigned(out, access.offset);
+    }
+    write_unsigned(out, u64::from(access.align) + 64)?;
+    write_index(out, access.memory)?;
+    write_unsigned(out, access.offset)
+}
+
+#[tactic(auto, using(crate::proofs::Appends::appends_on, crate::proofs::Keeps::keeps_on, std::proofs::lemmas::List::append_assoc))]
+fn write_clause(out: &mut Vec<u8>, clause: Clause) -> Result<(), AllocError>
+    ensures { Appends (clause_bytes clause) out.old.items out.new.items result }
+{
+    match clause {
+        Clause::Catch { tag, label } => {
+            write_byte(out, 0x00)?;
+            write_two(out, tag, label)
+        }
+        Clause::CatchRef { tag, label } => {
+            write_byte(out, 0x01)?;
+            write_two(out, tag, label)
+        }
+        Clause::CatchAll { label } => {
+            write_byte(out, 0x02)?;
+            write_index(out, label)
+        }
+        Clause::CatchAllRef { label } => {
+            write_byte(out, 0x03)?;
+            write_index(out, label)
+        }
+    }
+}
+
+#[tactic(auto, using(crate::proofs::Keeps::keeps_on, std::proofs::lemmas::List::append_assoc))]
+fn write_labels(out: &mut Vec<u8>, labels: &[u32]) -> Result<(), AllocError>
+    ensures { Appends (vec_bytes unsigned_bytes labels.now) out.old.items out.new.items result }
+{
+    write_unsigned(out, labels.len() as u64)?;
+    for &label in labels {
+        write_index(out, label)?;
+    }
+    Ok(())
+}
+
+#[tactic(auto, using(crate::proofs::Keeps::keeps_on, std::proofs::lemmas::List::append_assoc))]
+fn write_values(out: &mut Vec<u8>, types: &[ValType]) -> Result<(), AllocError>
+    ensures { Appends (vec_bytes value_bytes types.now) out.old.items out.new.items result }
+{
+    write_unsigned(out, types.len() as u64)?;
+    for &ty in types {
+        write_value_type(out, ty)?;
+    }
+    Ok(())
+}
+
+#[tactic(auto, using(crate::proofs::Keeps::keeps_on, std::proofs::lemmas::List::append_assoc))]
+fn write_clauses(out: &mut Vec<u8>, clauses: &[Clause]) -> Result<(), AllocError>
+    ensures { Appends (vec_bytes clause_bytes clauses.now) out.old.items out.new.items result }
+{
+    write_unsigned(out, clauses.len() as u64)?;
+    for &clause in clauses {
+        write_clause(out, clause)?;
+    }
+    Ok(())
+}
+
+#[tactic(auto, using(crate::proofs::Appends::appends_on, crate::proofs::Keeps::keeps_on, std::proofs::lemmas::List::append_assoc))]
+pub(crate) fn write_immediates(out: &mut Vec<u8>, immediates: &Immediates) -> Result<(), AllocError>
+    ensures { AppendsItems (items_of immediates.now) out.old.items out.new.items result }
+{
+    match immediates {
+        Immediates::Bare => Ok(()),
+        Immediates::Block(ty) => write_block_type(out, *ty),
+        Immediates::TryTable(ty, clauses) => {
+            write_block_type(out, *ty)?;
+            write_clauses(out, clauses)
+        }
+        Immediates::Tag(n) => write_index(out, *n),
+        Immediates::Label(n) => write_index(out, *n),
+        Immediates::BrTable(labels, otherwise) => {
+            write_labels(out, labels)?;
+            write_index(out, *otherwise)
+        }
+        Immediates::Function(n) => write_index(out, *n),
+        Immediates::TypeTable(m, n) => write_two(out, *m, *n),
+        Immediates::Type(n) => write_index(out, *n),
+        Immediates::Select(types) => write_values(out, types),
+        Immediates::Local(n) => write_index(out, *n),
+        Immediates::Global(n) => write_index(out, *n),
+        Immediates::Table(n) => write_index(out, *n),
+        Immediates::Access(access) => write_access(out, *access),
+        Immediates::Memory(n) => write_index(out, *n),
+        Immediates::I32(n) => write_signed(out, i64::from(*n)),
+        Immediates::I64(n) => write_signed(out, *n),
+        Immediates::F32(x) => write_bits32(out, x.bits()),
+        Immediates::F64(x) => write_bits64(out, x.bits()),
+        Immediates::Heap(ty) => write_heap_type(out, *ty),
+        Immediates::DataMemory(m, n) => write_two(out, *m, *n),
+        Immediates::Data(n) => write_index(out, *n),
+        Immediates::MemoryMemory(m, n) => write_two(out, *m, *n),
+        Immediates::ElementTable(m, n) => write_two(out, *m, *n),
+        Immediates::Element(n) => write_index(out, *n),
+        Immediates::TableTable(m, n) => write_two(out, *m, *n),
+        Immediates::TypeNumber(m, n) => write_two(out, *m, *n),
+        Immediates::TypeData(m, n) => write_two(out, *m, *n),
+        Immediates::TypeElement(m, n) => write_two(out, *m, *n),
+        Immediates::TypeType(m, n) => write_two(out, *m, *n),
+        Immediates::Cast(flags, label, from, to) => {
+            write_byte(out, *flags)?;
+            write_index(out, *label)?;
+            write_heap_type(out, *from)?;
+            write_heap_type(out, *to)
+        }
+        Immediates::Vector(bytes) => write_bytes(out, bytes),
+        Immediates::Lane(lane) => write_byte(out, *lane),
+        Immediates::AccessLane(access, lane) => {
+            write_access(out, *access)?;
+            write_byte(out, *lane)
+        }
+        Immediates::Zero => write_byte(out, 0),
+    }
+}
