@@ -11,10 +11,10 @@ use walrus_types::ValType;
 /// What a body needs to know of its module. Each answer is a function of the module.
 pub trait BodyEnv {
     /// The parameters of a function type.
-    ghost params: { Self → ℕ → Option (List Value) };
+    ghost type_params: { Self → ℕ → Option (List Value) };
 
     /// The results of a function type.
-    ghost results: { Self → ℕ → Option (List Value) };
+    ghost type_results: { Self → ℕ → Option (List Value) };
 
     /// The block type that a written one picks.
     ghost block_type: { Self → List Value → List Value → Option BlockTy };
@@ -39,11 +39,11 @@ pub trait BodyEnv {
 
     /// The parameters of a type; none where it is no function type.
     fn params(&self, ty: TypeId) -> Option<&[ValType]>
-        ensures { option_copied result ≡ params self.now ty };
+        ensures { option_copied result ≡ type_params self.now ty };
 
     /// The results of a type; none where it is no function type.
     fn results(&self, ty: TypeId) -> Option<&[ValType]>
-        ensures { option_copied result ≡ results self.now ty };
+        ensures { option_copied result ≡ type_results self.now ty };
 
     /// The block type that a written one of these parameters and results picks: the short one where there are no parameters and at
     /// most one result, or else that of the latest final function type without supertype of just these lists among those of the file;
