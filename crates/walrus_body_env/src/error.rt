@@ -1,0 +1,191 @@
+//! Why a body is refused, and where.
+
+ghost use Rattle.std.specs.Prelude.{◌≡◌};
+ghost use Rattle.walrus_body_env.specs.Faults.{number_of, offset_of};
+ghost use Rattle.walrus_body_env.specs.declared.error.BodyError.TheVariants.{Memory};
+
+use std::alloc::{AllocError, AllocFailed};
+use std::{error, fmt};
+use wasm_formats::{Form, Limited, Space};
+use wasm_reader::{Error, ErrorKind};
+
+/// Why a body is refused. Where the cause is in the bytes, `offset` is its place from the beginning of the file, in bytes; there is
+/// none for a fault of a call that no bytes were handed to.
+#[derive(Clone, Copy, Debug, PartialEq, Eq)]
+pub enum BodyError {
+    /// The bytes spell no value that may stand there.
+    Read(Error),
+    /// An index with no item.
+    Index { space: Space, offset: Option<u64> },
+    /// A function type is needed, or there is none that a block type may pick.
+    TypeForm { offset: Option<u64> },
+    /// Blocks that don't nest.
+    Nesting { offset: Option<u64> },
+    /// An operator that may not stand where it does.
+    Position { offset: Option<u64> },
+    /// No operator, or one that is switched off.
+    Operator { offset: Option<u64> },
+    /// A form of the standard that isn't supported.
+    Unsupported { form: Form, offset: Option<u64> },
+    /// A number out of bounds.
+    Bounds { offset: Option<u64> },
+    /// More than may be.
+    Limit { of: Limited, offset: Option<u64> },
+    /// Sequences that form no tree, or a label whose sequence isn't around it.
+    NoTree,
+    /// A growth was refused.
+    Memory,
+}
+
+impl BodyError {
+    /// The number of the fault: of two that are due at one place, the lower one is answered.
+    pub fn number(&self) -> u32
+        ensures { result ≡ number_of self.now }
+    {
+        match self {
+            BodyError::Read(_) => 1,
+            BodyError::Index { .. } => 6,
+            BodyError::TypeForm { .. } => 7,
+            BodyError::Nesting { .. } => 10,
+            BodyError::Position { .. } => 11,
+            BodyError::Operator { .. } => 12,
+            BodyError::Unsupported { .. } => 13,
+            BodyError::Bounds { .. } => 15,
+            BodyError::Limit { .. } => 16,
+            BodyError::NoTree => 19,
+            BodyError::Memory => 21,
+        }
+    }
+
+    /// The place of its cause from the beginning of the file, in bytes, where its cause is in the bytes.
+    pub fn offset(&self) -> Option<u64>
+        ensures { result ≡ offset_of self.now }
+    {
+        match *self {
+            BodyError::Read(error) => Some(error.offset()),
+            BodyError::Index { offset, .. }
+            | BodyError::TypeForm { offset }
+            | BodyError::Nesting { offset }
+            | BodyError::Position { offset }
+            | BodyError::Operator { offset }
+            | BodyError::Unsupported { offset, .. }
+            | BodyError::Bounds { offset }
+            | BodyError::Limit { offset, .. } => offset,
+            BodyError::NoTree | BodyError::Memory => None,
+        }
+    }
+}
+
+impl fmt::Display for BodyError {
+    fn fmt<W: fmt::Write>(&self, f: &mut fmt::Formatter<W>) -> fmt::Result {
+        match self {
+            BodyError::Read(error) => write!(f, "{}", error.message()),
+            BodyError::Index { space, .. } => write!(f, "index of a {space} is out of range"),
+            BodyError::TypeForm { .. } => write!(f, "a function type is needed"),
+            BodyError::Nesting { .. } => write!(f, "blocks do not nest"),
+            BodyError::Position { .. } => write!(f, "operator may not stand here"),
+            BodyError::Operator { .. } => write!(f, "unknown operator"),
+            BodyError::Unsupported { form, .. } => write!(f, "not supported: {form}"),
+            BodyError::Bounds { .. } => write!(f, "number out of bounds"),
+            BodyError::Limit { of, .. } => write!(f, "limit passed: {of}"),
+            BodyError::NoTree => write!(f, "instructions form no tree"),
+            BodyError::Memory => write!(f, "out of memory"),
+        }
+    }
+}
+
+impl error::Error for BodyError {}
+
+impl From<Error> for BodyError {
+    ghost use Rattle.std.specs.Prelude.{◌≡◌};
+    ghost use Rattle.walrus_body_env.specs.Faults.{read_fault};
+
+    ghost from_gives = { λ error fault. fault ≡ read_fault error };
+
+    fn from(error: Error) -> BodyError {
+        match error.kind() {
+            ErrorKind::Memory => BodyError::Memory,
+            _ => BodyError::Read(error),
+        }
+    }
+}
+
+impl<T: Drop> From<AllocFailed<T>> for BodyError {
+    ghost from_gives = { λ _ fault. fault ≡ Memory };
+
+    fn from(_refused: AllocFailed<T>) -> BodyError {
+        BodyError::Memory
+    }
+}
+
+impl From<AllocError> for BodyError {
+    ghost from_gives = { λ _ fault. fault ≡ Memory };
+
+    fn from(_refused: AllocError) -> BodyError {
+        BodyError::Memory
+    }
+}
+
+#[cfg(test)]
+mod tests {
+    use super::BodyError;
+    use std::alloc::Global;
+    use std::fmt::Display;
+    use wasm_formats::{Form, Limited, Space};
+
+    fn says(alloc: Global, fault: BodyError, number: u32, text: &str) -> bool {
+        let Ok(shown) = format!(in alloc; "{fault}") else {
+            return false;
+        };
+        fault.number() == number && shown.as_str() == text
+    }
+
+    #[test]
+    fn texts_and_numbers(rt: HostRuntime) {
+        let offset = Some(31);
+        let rows = [
+            (
+                BodyError::Index {
+                    space: Space::Element,
+                    offset,
+                },
+                6,
+                "index of a element is out of range",
+            ),
+            (
+                BodyError::TypeForm { offset },
+                7,
+                "a function type is needed",
+            ),
+            (BodyError::Nesting { offset }, 10, "blocks do not nest"),
+            (
+                BodyError::Position { offset },
+                11,
+                "operator may not stand here",
+            ),
+            (BodyError::Operator { offset }, 12, "unknown operator"),
+            (
+                BodyError::Unsupported {
+                    form: Form::Select,
+                    offset,
+                },
+                13,
+                "not supported: select",
+            ),
+            (BodyError::Bounds { offset }, 15, "number out of bounds"),
+            (
+                BodyError::Limit {
+                    of: Limited::Locals,
+                    offset,
+                },
+                16,
+                "limit passed: locals",
+            ),
+            (BodyError::NoTree, 19, "instructions form no tree"),
+            (BodyError::Memory, 21, "out of memory"),
+        ];
+        for (fault, number, text) in rows {
+            assert!(rt; says(rt.alloc(), fault, number, text));
+        }
+    }
+}

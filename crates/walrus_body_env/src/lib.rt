@@ -1,0 +1,10 @@
+//! What a body is read beside: why it is refused, what it needs to know of its module, and who validates it.
+#![tactic(auto)]
+
+mod env;
+mod error;
+mod validator;
+
+pub use env::BodyEnv;
+pub use error::BodyError;
+pub use validator::{AcceptAll, Validator};

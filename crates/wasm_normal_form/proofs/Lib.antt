@@ -1,0 +1,2 @@
+mod Nesting
+mod Worked

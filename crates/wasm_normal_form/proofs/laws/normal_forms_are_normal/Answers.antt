@@ -1,0 +1,8 @@
+use Rattle.wasm_normal_form.proofs.Nesting.{normal_nests, normal_again}
+use Rattle.wasm_normal_form.proofs.laws.normal_forms_are_normal.Goals as goal
+
+pub returns-clause-nests : goal.returns-clause-nests
+returns-clause-nests c = normal_nests
+
+pub returns-clause-again : goal.returns-clause-again
+returns-clause-again c = normal_again
