@@ -2,3 +2,4 @@ pub mod Shortens
 pub mod Appends
 pub mod Keeps
 pub mod Digits
+pub mod Again

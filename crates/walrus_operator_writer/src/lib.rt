@@ -2,6 +2,7 @@
 #![tactic(auto)]
 
 mod immediates;
+pub mod laws;
 mod number;
 mod operator;
 mod types;

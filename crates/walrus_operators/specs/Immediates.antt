@@ -45,6 +45,44 @@ items_of (imm.Lane b) = Byte b ∷ []
 items_of (imm.AccessLane a b) = Access a ∷ Byte b ∷ []
 items_of imm.Zero = Byte 0 ∷ []
 
+-- their kind
+abbrev pub kind_is : Immediates → Kind
+kind_is imm.Bare = kinds.Bare
+kind_is (imm.Block ty) = kinds.Block
+kind_is (imm.TryTable ty clauses) = kinds.TryTable
+kind_is (imm.Tag n) = kinds.Tag
+kind_is (imm.Label n) = kinds.Label
+kind_is (imm.BrTable ns n) = kinds.BrTable
+kind_is (imm.Function n) = kinds.Function
+kind_is (imm.TypeTable m n) = kinds.TypeTable
+kind_is (imm.Type n) = kinds.Type
+kind_is (imm.Select tys) = kinds.Select
+kind_is (imm.Local n) = kinds.Local
+kind_is (imm.Global n) = kinds.Global
+kind_is (imm.Table n) = kinds.Table
+kind_is (imm.Access a) = kinds.Access
+kind_is (imm.Memory n) = kinds.Memory
+kind_is (imm.I32 z) = kinds.I32
+kind_is (imm.I64 z) = kinds.I64
+kind_is (imm.F32 x) = kinds.F32
+kind_is (imm.F64 x) = kinds.F64
+kind_is (imm.Heap ty) = kinds.Heap
+kind_is (imm.DataMemory m n) = kinds.DataMemory
+kind_is (imm.Data n) = kinds.Data
+kind_is (imm.MemoryMemory m n) = kinds.MemoryMemory
+kind_is (imm.ElementTable m n) = kinds.ElementTable
+kind_is (imm.Element n) = kinds.Element
+kind_is (imm.TableTable m n) = kinds.TableTable
+kind_is (imm.TypeNumber m n) = kinds.TypeNumber
+kind_is (imm.TypeData m n) = kinds.TypeData
+kind_is (imm.TypeElement m n) = kinds.TypeElement
+kind_is (imm.TypeType m n) = kinds.TypeType
+kind_is (imm.Cast b n from to) = kinds.Cast
+kind_is (imm.Vector bytes) = kinds.Vector
+kind_is (imm.Lane b) = kinds.Lane
+kind_is (imm.AccessLane a b) = kinds.AccessLane
+kind_is imm.Zero = kinds.Zero
+
 -- the kinds but for those that most operators have
 abbrev pub IsRare : Kind → Type 0
 IsRare kinds.Bare = ⊥

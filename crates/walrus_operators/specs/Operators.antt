@@ -1,5 +1,5 @@
 -- What a call of the reader of operators answers.
-use Rattle.std.specs.Prelude.{ℕ, ◌+◌, ◌-◌, ◌≤◌, ◌≡◌, ◌⊎◌, true, List, Option, Some, None, Result, Ok, Err, IfErr}
+use Rattle.std.specs.Prelude.{ℕ, ◌+◌, ◌-◌, ◌≤◌, ◌≡◌, ◌⊎◌, true, List, Option, Some, None, Result, Ok, Err, IfOk, IfErr}
 use Rattle.wasm_features.specs.declared.WasmFeatures.{WasmFeatures}
 use Rattle.wasm_reader.specs.declared.error.Error.{Error}
 use Rattle.wasm_reader.specs.Cursor.{Cursor, rest, end_of, Forward}
@@ -12,7 +12,7 @@ use Rattle.wasm_operators.specs.Operators.{kind_of, code_at, Seen, operator_at}
 use Rattle.walrus_operators.specs.declared.operator.Operator.{Operator}
 use Rattle.walrus_operators.specs.declared.reader.OperatorError.{OperatorError}
 use Rattle.walrus_operators.specs.declared.reader.OperatorError.TheVariants as errors
-use Rattle.walrus_operators.specs.Immediates.{items_of}
+use Rattle.walrus_operators.specs.Immediates.{items_of, kind_is}
 
 -- an operator's code and items
 abbrev pub seen : Operator → Seen
@@ -37,8 +37,9 @@ Answers features old new (Ok op) read = read ≡ Ok (Some (seen op), rest new)
 Answers features old new (Err (errors.Read e)) read = (read ≡ Err (fault e.kind (end_of new - e.offset))) ⊎ WantsMemoryOfList features old new e
 Answers features old new (Err (errors.Unknown offset)) read = (read ≡ Ok (None, rest new)) × (offset ≡ old.window.start + old.position)
 
--- the call read what the reading says
+-- the call read what the reading says, and immediates of the code's kind
 pub record ReadsOperator (features : WasmFeatures) (old new : Cursor) (result : Result Operator OperatorError) : Type 0 where
   pub value : Answers features old new result (operator_at features (rest old))
+  pub kind : IfOk result (λ op. kind_of features op.code ≡ Some (kind_is op.immediates))
   pub place : IfErr result (λ e. offset_of e ≤ end_of new)
   pub moves : Forward old new

@@ -1,10 +1,11 @@
 //! Immediates are read, by their kind.
 
+ghost use Rattle.std.specs.Prelude.{◌≡◌, IfOk};
 ghost use Rattle.wasm_reader.specs.Reading.{Reads};
 ghost use Rattle.wasm_reader.specs.Items.{ReadsBy, ReadsUnlessMemory};
 ghost use Rattle.wasm_immediates.specs.Readings.{items_at};
 ghost use Rattle.wasm_operators.specs.Kinds.{forms, takes_memory};
-ghost use Rattle.walrus_operators.specs.Immediates.{IsRare, items_of};
+ghost use Rattle.walrus_operators.specs.Immediates.{IsRare, items_of, kind_is};
 
 use crate::immediates::Immediates;
 use std::alloc::Global;
@@ -18,7 +19,8 @@ const MOST: usize = 4294967295;
 
 #[tactic(auto, unfolding(wasm_immediates::specs::Readings::items_at, wasm_immediates::specs::Readings::item_at))]
 fn read_try_table(alloc: Global, reader: &mut BinaryReader<'_>) -> Result<Immediates>
-    ensures { ReadsUnlessMemory (items_at reader.old.window.features (forms Kind.TryTable)) items_of reader.old reader.new result }
+    ensures items { ReadsUnlessMemory (items_at reader.old.window.features (forms Kind.TryTable)) items_of reader.old reader.new result }
+    ensures kind { IfOk result (λ x. kind_is x ≡ Kind.TryTable) }
 {
     let ty = BlockType::from_reader(alloc, reader)?;
     let clauses = reader.read_vec::<Clause>(alloc, MOST)?;
@@ -27,7 +29,8 @@ fn read_try_table(alloc: Global, reader: &mut BinaryReader<'_>) -> Result<Immedi
 
 #[tactic(auto, unfolding(wasm_immediates::specs::Readings::items_at, wasm_immediates::specs::Readings::item_at))]
 fn read_branch_table(alloc: Global, reader: &mut BinaryReader<'_>) -> Result<Immediates>
-    ensures { ReadsUnlessMemory (items_at reader.old.window.features (forms Kind.BrTable)) items_of reader.old reader.new result }
+    ensures items { ReadsUnlessMemory (items_at reader.old.window.features (forms Kind.BrTable)) items_of reader.old reader.new result }
+    ensures kind { IfOk result (λ x. kind_is x ≡ Kind.BrTable) }
 {
     let labels = reader.read_vec::<u32>(alloc, MOST)?;
     let otherwise = reader.read_var_u32()?;
@@ -36,14 +39,16 @@ fn read_branch_table(alloc: Global, reader: &mut BinaryReader<'_>) -> Result<Imm
 
 #[tactic(auto, unfolding(wasm_immediates::specs::Readings::items_at, wasm_immediates::specs::Readings::item_at))]
 fn read_select(alloc: Global, reader: &mut BinaryReader<'_>) -> Result<Immediates>
-    ensures { ReadsUnlessMemory (items_at reader.old.window.features (forms Kind.Select)) items_of reader.old reader.new result }
+    ensures items { ReadsUnlessMemory (items_at reader.old.window.features (forms Kind.Select)) items_of reader.old reader.new result }
+    ensures kind { IfOk result (λ x. kind_is x ≡ Kind.Select) }
 {
     Ok(Immediates::Select(reader.read_vec::<ValType>(alloc, MOST)?))
 }
 
 #[tactic(auto, unfolding(wasm_immediates::specs::Readings::items_at, wasm_immediates::specs::Readings::item_at))]
 fn read_cast(alloc: Global, reader: &mut BinaryReader<'_>) -> Result<Immediates>
-    ensures { Reads (items_at reader.old.window.features (forms Kind.Cast)) items_of reader.old reader.new result }
+    ensures items { Reads (items_at reader.old.window.features (forms Kind.Cast)) items_of reader.old reader.new result }
+    ensures kind { IfOk result (λ x. kind_is x ≡ Kind.Cast) }
 {
     let flags = read_below(reader, 4)?;
     let label = reader.read_var_u32()?;
@@ -54,7 +59,8 @@ fn read_cast(alloc: Global, reader: &mut BinaryReader<'_>) -> Result<Immediates>
 
 #[tactic(auto, unfolding(wasm_immediates::specs::Readings::items_at, wasm_immediates::specs::Readings::item_at))]
 fn read_vector(reader: &mut BinaryReader<'_>) -> Result<Immediates>
-    ensures { Reads (items_at reader.old.window.features (forms Kind.Vector)) items_of reader.old reader.new result }
+    ensures items { Reads (items_at reader.old.window.features (forms Kind.Vector)) items_of reader.old reader.new result }
+    ensures kind { IfOk result (λ x. kind_is x ≡ Kind.Vector) }
 {
     let bytes = reader.read_bytes(16)?;
     Ok(Immediates::Vector([
@@ -65,7 +71,8 @@ fn read_vector(reader: &mut BinaryReader<'_>) -> Result<Immediates>
 
 #[tactic(auto, unfolding(wasm_immediates::specs::Readings::items_at, wasm_immediates::specs::Readings::item_at))]
 fn read_access_lane(alloc: Global, reader: &mut BinaryReader<'_>) -> Result<Immediates>
-    ensures { Reads (items_at reader.old.window.features (forms Kind.AccessLane)) items_of reader.old reader.new result }
+    ensures items { Reads (items_at reader.old.window.features (forms Kind.AccessLane)) items_of reader.old reader.new result }
+    ensures kind { IfOk result (λ x. kind_is x ≡ Kind.AccessLane) }
 {
     let access = MemoryAccess::from_reader(alloc, reader)?;
     let lane = reader.read_u8()?;
@@ -77,7 +84,8 @@ fn read_access_lane(alloc: Global, reader: &mut BinaryReader<'_>) -> Result<Imme
 #[tactic(auto, unfolding(wasm_immediates::specs::Readings::items_at, wasm_immediates::specs::Readings::item_at))]
 fn read_rare(kind: Kind, alloc: Global, reader: &mut BinaryReader<'_>) -> Result<Immediates>
     requires { IsRare kind }
-    ensures { ReadsBy (takes_memory kind) (items_at reader.old.window.features (forms kind)) items_of reader.old reader.new result }
+    ensures items { ReadsBy (takes_memory kind) (items_at reader.old.window.features (forms kind)) items_of reader.old reader.new result }
+    ensures kind { IfOk result (λ x. kind_is x ≡ kind) }
 {
     match kind {
         Kind::TryTable => read_try_table(alloc, reader),
@@ -165,7 +173,8 @@ pub(crate) fn read_immediates(
     alloc: Global,
     reader: &mut BinaryReader<'_>,
 ) -> Result<Immediates>
-    ensures { ReadsBy (takes_memory kind) (items_at reader.old.window.features (forms kind)) items_of reader.old reader.new result }
+    ensures items { ReadsBy (takes_memory kind) (items_at reader.old.window.features (forms kind)) items_of reader.old reader.new result }
+    ensures kind { IfOk result (λ x. kind_is x ≡ kind) }
 {
     match kind {
         Kind::Bare => Ok(Immediates::Bare),

@@ -17,7 +17,7 @@ use Rattle.wasm_operator_bytes.specs.Numbers.{u32_short, u64_short, shorter}
 use Rattle.wasm_operator_bytes.specs.Vecs.{Small, parts_small, parts_short}
 
 -- flags that no memory's index follows: where there was one, it was 0
-bare_flags : (flags : ℕ) → (has_memory (align_of flags) ≡ false) × (align_of (align_of flags) ≡ align_of flags) × (align_of flags ≤ flags)
+pub bare_flags : (flags : ℕ) → (has_memory (align_of flags) ≡ false) × (align_of (align_of flags) ≡ align_of flags) × (align_of flags ≤ flags)
 bare_flags flags = at (has_memory flags) refl
   where
     at : (b : Bool) → has_memory flags ≡ b → (has_memory (if b then flags - 64 else flags) ≡ false) × (align_of (if b then flags - 64 else flags) ≡ (if b then flags - 64 else flags)) × ((if b then flags - 64 else flags) ≤ flags)

@@ -59,7 +59,7 @@ module _ (features : WasmFeatures) where
       let later = forms_short forms h.3 h.1 parts.1 h.7 in
       rw h.4 ((h.0, h.1, item_bytes h.0, flat_map item_bytes h.1, refl, refl, first.0, later.0), parts_short bytes h.2 h.3 (item_bytes h.0) (flat_map item_bytes h.1) h.5 first.1 later.1)
 
-prefix_not_zero : (p : ℕ) → is_prefix p ≡ true → (p == 0) ≡ false
+pub prefix_not_zero : (p : ℕ) → is_prefix p ≡ true → (p == 0) ≡ false
 prefix_not_zero p h = elim (cases_Bool (p == 0)) [
   | inl is ↦ let z : p ≡ 0 = eqb-true p 0 is in let no : is_prefix 0 ≡ true = subst (λ (n : ℕ). is_prefix n ≡ true) z h in absurd cc
   | inr not ↦ not
