@@ -1,4 +1,5 @@
+pub mod Barred
+pub mod Closed
+pub mod Counted
 pub mod Headers
 pub mod Rooms
-pub mod Barred
-pub mod Counted

@@ -1,8 +1,9 @@
 -- Laws of the sections of a file: which bytes are a module up to what is in its bodies, and where reading stops before bodies are read.
 use Rattle.std.specs.Prelude.{ℕ, ◌≤◌, ◌≡◌, ◌⊎◌, false, List, ◌++◌, length}
 use Rattle.wasm_features.specs.declared.WasmFeatures.{WasmFeatures}
-use Rattle.wasm_formats.specs.Stops.{Stop, moved, can_end}
+use Rattle.wasm_formats.specs.Stops.{Stop, moved}
 use Rattle.wasm_formats.specs.Formats.{Small}
+use Rattle.wasm_file_formats.specs.Closed.{is_cut}
 use Rattle.wasm_grammar.specs.States.{State}
 use Rattle.wasm_sections.specs.Modules.{FileEntry, file, state_of}
 
@@ -34,7 +35,7 @@ SectionsStopOnce = (features : WasmFeatures) (bytes : List ℕ) (e f : Stop) →
 abbrev pub SectionsStopInside : Type 0
 SectionsStopInside = (features : WasmFeatures) (bytes : List ℕ) (e : Stop) → StopsSections features bytes e → e.left ≤ length bytes
 
--- bytes behind a fault don't change it, but for faults that can come of the end of the bytes
+-- bytes behind a fault don't change it, but where the bytes are cut
 abbrev pub SectionsStopForGood : Type 0
-SectionsStopForGood = (features : WasmFeatures) (bytes more : List ℕ) (e : Stop) → Small (bytes ++ more) → StopsSections features bytes e → can_end e.trouble ≡ false
+SectionsStopForGood = (features : WasmFeatures) (bytes more : List ℕ) (e : Stop) → Small (bytes ++ more) → StopsSections features bytes e → is_cut e.trouble ≡ false
     → StopsSections features (bytes ++ more) (moved (length more) e)

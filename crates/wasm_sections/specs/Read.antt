@@ -5,6 +5,7 @@ use Rattle.wasm_formats.specs.Stops.{Stop, moved}
 use Rattle.wasm_formats.specs.Formats.{InsideAll, front_small, done_is, done_refused, refused_is}
 use Rattle.wasm_grammar.specs.States.{State}
 use Rattle.wasm_sections.specs.Modules.{FileEntry, file, state_of}
+use Rattle.wasm_sections.specs.Closed.{closed_file}
 use Rattle.wasm_sections.specs.Laws.{ReadsSections, StopsSections, SectionsReadOnce, SectionsDontStop, SectionsReadOrStop, SectionsStopOnce, SectionsStopInside, SectionsStopForGood}
 
 pub sections_read_once : SectionsReadOnce
@@ -31,4 +32,4 @@ sections_stop_inside features bytes e h = let f = file features in subst (λ (r 
 
 pub sections_stop_for_good : SectionsStopForGood
 sections_stop_for_good features bytes more e small h lasting =
-    let f = file features in f.told (bytes ++ more) (moved (length more) e) small (f.final bytes more e (front_small bytes more small) (f.tells bytes e h) lasting)
+    let f = file features in f.told (bytes ++ more) (moved (length more) e) small (closed_file features bytes more e (front_small bytes more small) (f.tells bytes e h) lasting)

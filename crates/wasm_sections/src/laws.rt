@@ -27,7 +27,7 @@ pub fn sections_stop_inside()
     ensures { SectionsStopInside }
 {}
 
-/// Bytes behind a fault don't change it, but for faults that can come of the end of the bytes.
+/// Bytes behind a fault don't change it, but where the bytes are cut: in the header, in an id or a size, or where counts are missing.
 pub fn sections_stop_for_good()
     ensures { SectionsStopForGood }
 {}
