@@ -1,4 +1,6 @@
+pub mod Barred
+pub mod Closed
+pub mod Counted
+pub mod Free
 pub mod Headers
 pub mod Rooms
-pub mod Barred
-pub mod Counted

@@ -1,8 +1,9 @@
 -- Laws of modules.
 use Rattle.std.specs.Prelude.{ℕ, ◌+◌, ◌^◌, ◌≤◌, ◌<◌, ◌≡◌, ◌⊎◌, false, List, ◌++◌, length, Ok, Err}
 use Rattle.wasm_features.specs.declared.WasmFeatures.{WasmFeatures}
-use Rattle.wasm_formats.specs.Stops.{Trouble, Stop, can_end}
+use Rattle.wasm_formats.specs.Stops.{Trouble, Stop}
 use Rattle.wasm_formats.specs.Formats.{Format, Small}
+use Rattle.wasm_file_formats.specs.Closed.{is_cut}
 use Rattle.wasm_grammar.specs.Modules.{Module}
 use Rattle.wasm_sections.specs.Laws.{StopsSections}
 use Rattle.wasm_modules.specs.Modules.{IsShort, Reads, StopsAt, Stops, module_at}
@@ -28,10 +29,10 @@ StopsOnce = (features : WasmFeatures) (bytes : List ℕ) (t u : Trouble) (p q : 
 abbrev pub StopsInside : Type 0
 StopsInside = (features : WasmFeatures) (bytes : List ℕ) (trouble : Trouble) (place : ℕ) → Stops features bytes trouble place → place ≤ length bytes
 
--- bytes behind a fault of the sections don't change it, but for faults that can come of the end of the bytes
+-- bytes behind a fault of the sections don't change it, but where the bytes are cut
 abbrev pub StopsForGood : Type 0
 StopsForGood = (features : WasmFeatures) (bytes more : List ℕ) (e : Stop) (place : ℕ) → Small (bytes ++ more) → IsShort (bytes ++ more) → StopsSections features bytes e
-    → place + e.left ≡ length bytes → can_end e.trouble ≡ false → Stops features (bytes ++ more) e.trouble place
+    → place + e.left ≡ length bytes → is_cut e.trouble ≡ false → Stops features (bytes ++ more) e.trouble place
 
 -- what is parsed from left to right reads, or stops; and what reads or stops is parsed so
 pub record ParsingReads : Type 0 where

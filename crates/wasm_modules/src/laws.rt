@@ -27,7 +27,7 @@ pub fn stops_inside()
     ensures { StopsInside }
 {}
 
-/// Bytes behind a fault of the sections don't change it, but for faults that can come of the end of the bytes.
+/// Bytes behind a fault of the sections don't change it, but where the bytes are cut: in the header, in an id or a size, or where counts are missing.
 pub fn stops_for_good()
     ensures { StopsForGood }
 {}

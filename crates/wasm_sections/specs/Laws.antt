@@ -1,9 +1,18 @@
 -- Laws of the sections of a file: which bytes are a module up to what is in its bodies, and where reading stops before bodies are read.
 use Rattle.std.specs.Prelude.{ℕ, ◌≤◌, ◌≡◌, ◌⊎◌, false, List, ◌++◌, length}
 use Rattle.wasm_features.specs.declared.WasmFeatures.{WasmFeatures}
-use Rattle.wasm_formats.specs.Stops.{Stop, moved, can_end}
+use Rattle.wasm_reader.specs.Laws.{IsPrefixFree}
+use Rattle.wasm_formats.specs.Stops.{Stop, moved}
 use Rattle.wasm_formats.specs.Formats.{Small}
+use Rattle.wasm_file_formats.specs.Closed.{is_cut}
+use Rattle.wasm_file_formats.specs.Free.{Ruled}
+use Rattle.wasm_grammar.specs.Exprs.{Known, expr}
 use Rattle.wasm_grammar.specs.States.{State}
+use Rattle.wasm_sections.specs.TypeSection.{group}
+use Rattle.wasm_sections.specs.Entities.{import_entry, function_entry, table_entry, memory_entry, tag_entry, global_entry}
+use Rattle.wasm_sections.specs.Exports.{export_entry}
+use Rattle.wasm_sections.specs.Segments.{element_entry, data_entry}
+use Rattle.wasm_sections.specs.Sections.{section_entry}
 use Rattle.wasm_sections.specs.Modules.{FileEntry, file, state_of}
 
 -- the bytes spell a file whose sections meet the rules, and which leaves this state
@@ -34,7 +43,22 @@ SectionsStopOnce = (features : WasmFeatures) (bytes : List ℕ) (e f : Stop) →
 abbrev pub SectionsStopInside : Type 0
 SectionsStopInside = (features : WasmFeatures) (bytes : List ℕ) (e : Stop) → StopsSections features bytes e → e.left ≤ length bytes
 
--- bytes behind a fault don't change it, but for faults that can come of the end of the bytes
+-- bytes behind a fault don't change it, but where the bytes are cut
 abbrev pub SectionsStopForGood : Type 0
-SectionsStopForGood = (features : WasmFeatures) (bytes more : List ℕ) (e : Stop) → Small (bytes ++ more) → StopsSections features bytes e → can_end e.trouble ≡ false
+SectionsStopForGood = (features : WasmFeatures) (bytes more : List ℕ) (e : Stop) → Small (bytes ++ more) → StopsSections features bytes e → is_cut e.trouble ≡ false
     → StopsSections features (bytes ++ more) (moved (length more) e)
+
+-- no entry that meets the rules is a proper front of another's bytes, at any point of the file, nor is a section
+pub record EntriesArePrefixFree : Type 0 where
+  pub groups : (features : WasmFeatures) (s : State) → IsPrefixFree (Ruled (group features s))
+  pub imports : (features : WasmFeatures) (s : State) → IsPrefixFree (Ruled (import_entry features s))
+  pub functions : (s : State) → IsPrefixFree (Ruled (function_entry s))
+  pub tables : (features : WasmFeatures) (s : State) → IsPrefixFree (Ruled (table_entry features s))
+  pub memories : (s : State) → IsPrefixFree (Ruled (memory_entry s))
+  pub tags : (s : State) → IsPrefixFree (Ruled (tag_entry s))
+  pub globals : (features : WasmFeatures) (s : State) → IsPrefixFree (Ruled (global_entry features s))
+  pub exports : (s : State) → IsPrefixFree (Ruled (export_entry s))
+  pub elements : (features : WasmFeatures) (s : State) → IsPrefixFree (Ruled (element_entry features s))
+  pub data_segments : (features : WasmFeatures) (s : State) → IsPrefixFree (Ruled (data_entry features s))
+  pub constants : (features : WasmFeatures) (k : Known) → IsPrefixFree (Ruled (expr features k))
+  pub sections : (features : WasmFeatures) (s : State) → IsPrefixFree (Ruled (section_entry features s))

@@ -1,3 +1,4 @@
+pub mod Closed
 pub mod Entities
 pub mod Exports
 pub mod Laws

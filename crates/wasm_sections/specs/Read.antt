@@ -5,7 +5,15 @@ use Rattle.wasm_formats.specs.Stops.{Stop, moved}
 use Rattle.wasm_formats.specs.Formats.{InsideAll, front_small, done_is, done_refused, refused_is}
 use Rattle.wasm_grammar.specs.States.{State}
 use Rattle.wasm_sections.specs.Modules.{FileEntry, file, state_of}
-use Rattle.wasm_sections.specs.Laws.{ReadsSections, StopsSections, SectionsReadOnce, SectionsDontStop, SectionsReadOrStop, SectionsStopOnce, SectionsStopInside, SectionsStopForGood}
+use Rattle.wasm_file_formats.specs.Free.{format_free}
+use Rattle.wasm_grammar.specs.Exprs.{expr}
+use Rattle.wasm_sections.specs.TypeSection.{group}
+use Rattle.wasm_sections.specs.Entities.{import_entry, function_entry, table_entry, memory_entry, tag_entry, global_entry}
+use Rattle.wasm_sections.specs.Exports.{export_entry}
+use Rattle.wasm_sections.specs.Segments.{element_entry, data_entry}
+use Rattle.wasm_sections.specs.Sections.{section_entry}
+use Rattle.wasm_sections.specs.Closed.{closed_file}
+use Rattle.wasm_sections.specs.Laws.{ReadsSections, StopsSections, SectionsReadOnce, SectionsDontStop, SectionsReadOrStop, SectionsStopOnce, SectionsStopInside, SectionsStopForGood, EntriesArePrefixFree}
 
 pub sections_read_once : SectionsReadOnce
 sections_read_once features bytes s t h k =
@@ -31,4 +39,20 @@ sections_stop_inside features bytes e h = let f = file features in subst (λ (r 
 
 pub sections_stop_for_good : SectionsStopForGood
 sections_stop_for_good features bytes more e small h lasting =
-    let f = file features in f.told (bytes ++ more) (moved (length more) e) small (f.final bytes more e (front_small bytes more small) (f.tells bytes e h) lasting)
+    let f = file features in f.told (bytes ++ more) (moved (length more) e) small (closed_file features bytes more e (front_small bytes more small) (f.tells bytes e h) lasting)
+
+pub entries_are_prefix_free : EntriesArePrefixFree
+entries_are_prefix_free = record {
+  groups = λ features s. format_free (group features s);
+  imports = λ features s. format_free (import_entry features s);
+  functions = λ s. format_free (function_entry s);
+  tables = λ features s. format_free (table_entry features s);
+  memories = λ s. format_free (memory_entry s);
+  tags = λ s. format_free (tag_entry s);
+  globals = λ features s. format_free (global_entry features s);
+  exports = λ s. format_free (export_entry s);
+  elements = λ features s. format_free (element_entry features s);
+  data_segments = λ features s. format_free (data_entry features s);
+  constants = λ features k. format_free (expr features k);
+  sections = λ features s. format_free (section_entry features s);
+}

@@ -1,6 +1,6 @@
 //! Laws: functions with nothing to do, whose contracts hold of all files.
 
-ghost use Rattle.wasm_sections.specs.Laws.{SectionsReadOnce, SectionsDontStop, SectionsReadOrStop, SectionsStopOnce, SectionsStopInside, SectionsStopForGood};
+ghost use Rattle.wasm_sections.specs.Laws.{SectionsReadOnce, SectionsDontStop, SectionsReadOrStop, SectionsStopOnce, SectionsStopInside, SectionsStopForGood, EntriesArePrefixFree};
 
 /// The sections of a file say one thing at most.
 pub fn sections_read_once()
@@ -27,7 +27,12 @@ pub fn sections_stop_inside()
     ensures { SectionsStopInside }
 {}
 
-/// Bytes behind a fault don't change it, but for faults that can come of the end of the bytes.
+/// Bytes behind a fault don't change it, but where the bytes are cut: in the header, in an id or a size, or where counts are missing.
 pub fn sections_stop_for_good()
     ensures { SectionsStopForGood }
+{}
+
+/// Entries of sections, constant expressions and sections that meet the rules are prefix-free.
+pub fn entries_are_prefix_free()
+    ensures { EntriesArePrefixFree }
 {}

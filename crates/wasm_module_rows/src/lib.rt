@@ -1,0 +1,21 @@
+//! Files computed from the grammar of modules: facts, as functions with nothing to do.
+#![tactic(auto)]
+
+ghost use Rattle.wasm_module_rows.specs.Read.{FilesRead};
+ghost use Rattle.wasm_module_rows.specs.Stopped.{FilesStop};
+ghost use Rattle.wasm_module_rows.specs.Faults.{FaultsStop};
+
+/// Worked files read as the modules that they are to be.
+pub fn worked_files_read()
+    ensures { FilesRead }
+{}
+
+/// Worked files stop for the fault and at the place that are to be told; so does each front of the first one.
+pub fn worked_files_stop()
+    ensures { FilesStop }
+{}
+
+/// Files with one fault of each kind stop for it, at its place.
+pub fn faults_stop()
+    ensures { FaultsStop }
+{}
