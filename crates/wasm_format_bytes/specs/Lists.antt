@@ -1,18 +1,15 @@
 -- The shortest spellings of lists, and of values that fill their bytes.
-use Rattle.std.specs.Prelude.{ℕ, zero, suc, ◌+◌, ◌<◌, ◌≤◌, ◌≡◌, ◌^◌, Bool, true, false, List, [], ◌∷◌, ◌++◌, length, Err, ◌⊎◌, refl}
-use Rattle.std.proofs.Common.{ap, sym, ◌∙◌, subst, arith, inl, inr}
-use Rattle.std.proofs.lemmas.List.{length-append}
-use Rattle.wasm_reader.specs.Spelled.{spelled_unsigned}
+use Rattle.std.specs.Prelude.{ℕ, ◌<◌, ◌≤◌, ◌≡◌, ◌^◌, Bool, true, List, [], ◌∷◌, ◌++◌, length, Err, ◌⊎◌, refl}
+use Rattle.std.proofs.Common.{arith, inl, inr}
 use Rattle.wasm_formats.specs.Stops.{Trouble, Stop, can_end}
 use Rattle.wasm_formats.specs.Formats.{Format, Whole, Small}
-use Rattle.wasm_formats.specs.Joined.{ends_at}
-use Rattle.wasm_formats.specs.Wholes.{whole, followed, sized, u32}
+use Rattle.wasm_formats.specs.Wholes.{whole, followed, sized}
 use Rattle.wasm_formats.specs.Lists.{SpellsEntries, vec, listed}
 use Rattle.wasm_formats.specs.Files.{entries, ended_by}
 use Rattle.wasm_formats.specs.Led.{led}
 use Rattle.wasm_formats.specs.Until.{until, SpellsUntil}
 use Rattle.wasm_operator_bytes.specs.Bytes.{unsigned_bytes}
-use Rattle.wasm_operator_bytes.specs.Numbers.{u32_short, shorter}
+use Rattle.wasm_operator_bytes.specs.Numbers.{shorter}
 use Rattle.wasm_operator_bytes.specs.Vecs.{parts_small, parts_short}
 use Rattle.wasm_format_bytes.specs.Writers.{Writer, WholeWriter, u32_writer, same_length}
 

@@ -1,7 +1,6 @@
 -- What is written for a value of a format: its shortest spelling.
-use Rattle.std.specs.Prelude.{ℕ, ◌+◌, ◌<◌, ◌≤◌, ◌≡◌, ◌^◌, Bool, true, false, List, [], ◌∷◌, ◌++◌, length, Option, Some, None, ◌⊎◌, if◌then◌else◌, refl}
+use Rattle.std.specs.Prelude.{ℕ, ◌<◌, ◌≤◌, ◌≡◌, ◌^◌, Bool, true, false, List, [], ◌∷◌, ◌++◌, length, Option, Some, None, if◌then◌else◌, refl}
 use Rattle.std.proofs.Common.{ap, sym, ◌∙◌, subst, arith}
-use Rattle.std.proofs.lemmas.List.{length-append}
 use Rattle.wasm_reader.specs.Laws.{TakesSpelled, IsFinal}
 use Rattle.wasm_reader.specs.Reading.{Reading}
 use Rattle.wasm_reader.specs.Spelled.{IsShortest-unsigned, spelled_unsigned}
@@ -9,7 +8,7 @@ use Rattle.wasm_formats.specs.Stops.{Trouble}
 use Rattle.wasm_formats.specs.Formats.{Format, Whole, Small, leaf}
 use Rattle.wasm_formats.specs.Bytes.{byte, literal, never, either, either_type}
 use Rattle.wasm_formats.specs.Joined.{checked, only, after, pair_checked, built}
-use Rattle.wasm_formats.specs.Parts.{nothing, optional, some_once, seen, inner_checked}
+use Rattle.wasm_formats.specs.Parts.{nothing, seen, inner_checked}
 use Rattle.wasm_formats.specs.Wholes.{u32}
 use Rattle.wasm_operator_bytes.specs.Bytes.{unsigned_bytes}
 use Rattle.wasm_operator_bytes.specs.Laws.{WritesShortest}
