@@ -137,13 +137,22 @@ abbrev pub turned_test : Turned → Option Trouble
 turned_test (Ok frames) = None
 turned_test (Err trouble) = Some trouble
 
--- of an operator in a body of so many locals, inside these frames
+-- the first trouble of several tests
+abbrev pub first_trouble : List (Option Trouble) → Option Trouble
+first_trouble [] = None
+first_trouble (test ∷ tests) = first_of test (first_trouble tests)
+
+-- of an operator in a body of so many locals, inside these frames: by rising number of the fault, and then in the order of the bytes
+abbrev pub tests : Around → ℕ → List Frame → Seen → List (Option Trouble)
+tests a locals frames op =
+    names_test (room a locals (label_count (flow_of op.code) frames)) (operator_names op)
+    ∷ first_in (form_rule a) op.items
+    ∷ turned_test (turned (flow_of op.code) frames)
+    ∷ data_test a (operator_names op)
+    ∷ first_in select_rule op.items
+    ∷ first_in words_rule op.items
+    ∷ first_in (access_rule a) op.items
+    ∷ []
+
 abbrev pub operator_test : Around → ℕ → List Frame → Seen → Option Trouble
-operator_test a locals frames op =
-    first_of (names_test (room a locals (label_count (flow_of op.code) frames)) (operator_names op))
-    (first_of (first_in (form_rule a) op.items)
-    (first_of (turned_test (turned (flow_of op.code) frames))
-    (first_of (data_test a (operator_names op))
-    (first_of (first_in select_rule op.items)
-    (first_of (first_in words_rule op.items)
-    (first_in (access_rule a) op.items))))))
+operator_test a locals frames op = first_trouble (tests a locals frames op)
