@@ -1,0 +1,8 @@
+//! What a module holds beside the standard's sections: its producers and its custom sections.
+#![tactic(auto)]
+
+mod customs;
+mod producers;
+
+pub use customs::{ModuleCustomSections, RawCustomSection};
+pub use producers::{ModuleProducers, ProducerField, ProducerValue};
