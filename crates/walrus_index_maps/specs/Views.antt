@@ -1,0 +1,30 @@
+-- What contracts see of the maps.
+use Rattle.std.specs.Prelude.{ℕ, zero, suc, List, [], ◌∷◌, None, slice_index_or}
+use Rattle.std.specs.BTreeMap.{get}
+use Rattle.std.specs.declared.alloc.Global.{Global}
+use Rattle.std.specs.declared.vec.Vec.{Vec}
+use Rattle.std.specs.declared.cmp.Ordering.{Ordering}
+use Rattle.std.specs.Ordering.{on, nat_cmp, then_cmp}
+use Rattle.walrus_index_maps.specs.declared.numbers.Numbers.{Numbers}
+use Rattle.walrus_index_maps.specs.declared.indices_to_ids.IndicesToIds.{IndicesToIds}
+use Rattle.walrus_index_maps.specs.declared.ids_to_indices.IdsToIndices.{IdsToIndices}
+use Rattle.walrus_index_maps.specs.Maps.{Ids, Numbering, Indices}
+
+-- the list of a function, empty where there is none
+abbrev pub items_at : List (Vec ℕ Global) → ℕ → List ℕ
+items_at [] f = []
+items_at (v ∷ vs) zero = v.items
+items_at (v ∷ vs) (suc f) = items_at vs f
+
+abbrev pub ids : IndicesToIds → Ids
+ids m = record { types = m.types.items; functions = m.funcs.items; tables = m.tables.items; memories = m.memories.items; tags = m.tags.items; globals = m.globals.items; elements = m.elements.items; segments = m.segments.items; locals = items_at m.locals.items }
+
+abbrev pub numbering : {S : Type 0} → Numbers S → Numbering
+numbering m = record { number = λ id. slice_index_or m.numbers.items id None; given = m.given }
+
+-- keys by function, then by local
+abbrev pub key_cmp : ℕ × ℕ → ℕ × ℕ → Ordering
+key_cmp = then_cmp (on (λ k. k.0) nat_cmp) (on (λ k. k.1) nat_cmp)
+
+abbrev pub indices : IdsToIndices → Indices
+indices m = record { types = numbering m.types; functions = numbering m.funcs; tables = numbering m.tables; memories = numbering m.memories; tags = numbering m.tags; globals = numbering m.globals; elements = numbering m.elements; segments = numbering m.segments; locals = λ function local. get key_cmp m.locals (function, local) }

@@ -1,0 +1,300 @@
+//! What each index of a file names.
+ghost use Rattle.std.specs.Prelude.{◌≡◌, ◌<◌, ◌^◌, [], ◌∷◌, ◌++◌, length, slice_get, slice_set, IfOk, OnOk, OnErr, MatchResult};
+ghost use Rattle.std.specs.Option.{ok_or};
+ghost use Rattle.walrus_index_maps.specs.Maps.{no_ids, with_last};
+ghost use Rattle.walrus_index_maps.specs.Views.{ids};
+ghost use Rattle.walrus_index_maps.specs.declared.space.Space.TheVariants as spaces;
+
+use crate::space::Space;
+use std::alloc::{AllocError, Global};
+use thiserror::Error;
+use walrus_arena::{
+    DataId, ElementId, FunctionId, GlobalId, Id, LocalId, MemoryId, TableId, TagId, TypeId,
+};
+
+/// An index that names nothing.
+#[derive(Clone, Copy, Debug, PartialEq, Eq, Error)]
+#[error("index of a {0} is out of range")]
+pub struct UnknownIndex(pub Space);
+
+/// The ids that indices name, a list a space, and a list a function for its locals: the first index of each is 0.
+#[derive(Drop)]
+pub struct IndicesToIds {
+    alloc: Global,
+    types: Vec<TypeId>,
+    funcs: Vec<FunctionId>,
+    tables: Vec<TableId>,
+    memories: Vec<MemoryId>,
+    tags: Vec<TagId>,
+    globals: Vec<GlobalId>,
+    elements: Vec<ElementId>,
+    segments: Vec<DataId>,
+    // By the function's number.
+    locals: Vec<Vec<LocalId>>,
+}
+
+// Appends an id, and gives its index. A list of 2^32 ids can't hold another.
+fn push_id<S>(list: &mut Vec<Id<S>>, id: Id<S>) -> Result<u32, AllocError>
+    ensures { MatchResult result (λ index. (index ≡ length list.old.items) × (list.new.items ≡ list.old.items ++ id ∷ [])) (λ _. list.new.items ≡ list.old.items) }
+{
+    let index = list.len();
+    if index > u32::MAX as usize {
+        return Err(AllocError);
+    }
+    list.push(id)?;
+    Ok(index as u32)
+}
+
+// The id at an index of the space.
+fn id_at<S>(list: &[Id<S>], index: u32, space: Space) -> Result<Id<S>, UnknownIndex>
+    ensures { result ≡ ok_or (slice_get list.now index) (record { 0 = space }) }
+{
+    list.get(index as usize).copied().ok_or(UnknownIndex(space))
+}
+
+impl IndicesToIds {
+    /// No index names anything. Takes no memory.
+    pub fn new(alloc: Global) -> Self
+        ensures { ids result ≡ no_ids }
+    {
+        IndicesToIds {
+            alloc,
+            types: Vec::new(alloc),
+            funcs: Vec::new(alloc),
+            tables: Vec::new(alloc),
+            memories: Vec::new(alloc),
+            tags: Vec::new(alloc),
+            globals: Vec::new(alloc),
+            elements: Vec::new(alloc),
+            segments: Vec::new(alloc),
+            locals: Vec::new(alloc),
+        }
+    }
+
+    /// The next index of a type names this one. Gives the index.
+    ///
+    /// # Errors
+    ///
+    /// Want of memory. The map stays as it was.
+    pub fn push_type(&mut self, id: TypeId) -> Result<u32, AllocError>
+        ensures { MatchResult result (λ index. (index ≡ length (ids self.old).types) × (ids self.new ≡ record (ids self.old) { types = (ids self.old).types ++ id ∷ [] })) (λ _. ids self.new ≡ ids self.old) }
+    {
+        push_id(&mut self.types, id)
+    }
+
+    /// The type that an index names.
+    ///
+    /// # Errors
+    ///
+    /// It names none.
+    pub fn get_type(&self, index: u32) -> Result<TypeId, UnknownIndex>
+        ensures { result ≡ ok_or (slice_get (ids self.now).types index) (record { 0 = spaces.«Type» }) }
+    {
+        id_at(self.types.as_slice(), index, Space::Type)
+    }
+
+    /// The next index of a function names this one. Gives the index.
+    ///
+    /// # Errors
+    ///
+    /// Want of memory. The map stays as it was.
+    pub fn push_func(&mut self, id: FunctionId) -> Result<u32, AllocError>
+        ensures { MatchResult result (λ index. (index ≡ length (ids self.old).functions) × (ids self.new ≡ record (ids self.old) { functions = (ids self.old).functions ++ id ∷ [] })) (λ _. ids self.new ≡ ids self.old) }
+    {
+        push_id(&mut self.funcs, id)
+    }
+
+    /// The function that an index names.
+    ///
+    /// # Errors
+    ///
+    /// It names none.
+    pub fn get_func(&self, index: u32) -> Result<FunctionId, UnknownIndex>
+        ensures { result ≡ ok_or (slice_get (ids self.now).functions index) (record { 0 = spaces.Function }) }
+    {
+        id_at(self.funcs.as_slice(), index, Space::Function)
+    }
+
+    /// The next index of a table names this one. Gives the index.
+    ///
+    /// # Errors
+    ///
+    /// Want of memory. The map stays as it was.
+    pub fn push_table(&mut self, id: TableId) -> Result<u32, AllocError>
+        ensures { MatchResult result (λ index. (index ≡ length (ids self.old).tables) × (ids self.new ≡ record (ids self.old) { tables = (ids self.old).tables ++ id ∷ [] })) (λ _. ids self.new ≡ ids self.old) }
+    {
+        push_id(&mut self.tables, id)
+    }
+
+    /// The table that an index names.
+    ///
+    /// # Errors
+    ///
+    /// It names none.
+    pub fn get_table(&self, index: u32) -> Result<TableId, UnknownIndex>
+        ensures { result ≡ ok_or (slice_get (ids self.now).tables index) (record { 0 = spaces.Table }) }
+    {
+        id_at(self.tables.as_slice(), index, Space::Table)
+    }
+
+    /// The next index of a memory names this one. Gives the index.
+    ///
+    /// # Errors
+    ///
+    /// Want of memory. The map stays as it was.
+    pub fn push_memory(&mut self, id: MemoryId) -> Result<u32, AllocError>
+        ensures { MatchResult result (λ index. (index ≡ length (ids self.old).memories) × (ids self.new ≡ record (ids self.old) { memories = (ids self.old).memories ++ id ∷ [] })) (λ _. ids self.new ≡ ids self.old) }
+    {
+        push_id(&mut self.memories, id)
+    }
+
+    /// The memory that an index names.
+    ///
+    /// # Errors
+    ///
+    /// It names none.
+    pub fn get_memory(&self, index: u32) -> Result<MemoryId, UnknownIndex>
+        ensures { result ≡ ok_or (slice_get (ids self.now).memories index) (record { 0 = spaces.Memory }) }
+    {
+        id_at(self.memories.as_slice(), index, Space::Memory)
+    }
+
+    /// The next index of a tag names this one. Gives the index.
+    ///
+    /// # Errors
+    ///
+    /// Want of memory. The map stays as it was.
+    pub fn push_tag(&mut self, id: TagId) -> Result<u32, AllocError>
+        ensures { MatchResult result (λ index. (index ≡ length (ids self.old).tags) × (ids self.new ≡ record (ids self.old) { tags = (ids self.old).tags ++ id ∷ [] })) (λ _. ids self.new ≡ ids self.old) }
+    {
+        push_id(&mut self.tags, id)
+    }
+
+    /// The tag that an index names.
+    ///
+    /// # Errors
+    ///
+    /// It names none.
+    pub fn get_tag(&self, index: u32) -> Result<TagId, UnknownIndex>
+        ensures { result ≡ ok_or (slice_get (ids self.now).tags index) (record { 0 = spaces.Tag }) }
+    {
+        id_at(self.tags.as_slice(), index, Space::Tag)
+    }
+
+    /// The next index of a global names this one. Gives the index.
+    ///
+    /// # Errors
+    ///
+    /// Want of memory. The map stays as it was.
+    pub fn push_global(&mut self, id: GlobalId) -> Result<u32, AllocError>
+        ensures { MatchResult result (λ index. (index ≡ length (ids self.old).globals) × (ids self.new ≡ record (ids self.old) { globals = (ids self.old).globals ++ id ∷ [] })) (λ _. ids self.new ≡ ids self.old) }
+    {
+        push_id(&mut self.globals, id)
+    }
+
+    /// The global that an index names.
+    ///
+    /// # Errors
+    ///
+    /// It names none.
+    pub fn get_global(&self, index: u32) -> Result<GlobalId, UnknownIndex>
+        ensures { result ≡ ok_or (slice_get (ids self.now).globals index) (record { 0 = spaces.Global }) }
+    {
+        id_at(self.globals.as_slice(), index, Space::Global)
+    }
+
+    /// The next index of a element segment names this one. Gives the index.
+    ///
+    /// # Errors
+    ///
+    /// Want of memory. The map stays as it was.
+    pub fn push_element(&mut self, id: ElementId) -> Result<u32, AllocError>
+        ensures { MatchResult result (λ index. (index ≡ length (ids self.old).elements) × (ids self.new ≡ record (ids self.old) { elements = (ids self.old).elements ++ id ∷ [] })) (λ _. ids self.new ≡ ids self.old) }
+    {
+        push_id(&mut self.elements, id)
+    }
+
+    /// The element segment that an index names.
+    ///
+    /// # Errors
+    ///
+    /// It names none.
+    pub fn get_element(&self, index: u32) -> Result<ElementId, UnknownIndex>
+        ensures { result ≡ ok_or (slice_get (ids self.now).elements index) (record { 0 = spaces.Element }) }
+    {
+        id_at(self.elements.as_slice(), index, Space::Element)
+    }
+
+    /// The next index of a data segment names this one. Gives the index.
+    ///
+    /// # Errors
+    ///
+    /// Want of memory. The map stays as it was.
+    pub fn push_data(&mut self, id: DataId) -> Result<u32, AllocError>
+        ensures { MatchResult result (λ index. (index ≡ length (ids self.old).segments) × (ids self.new ≡ record (ids self.old) { segments = (ids self.old).segments ++ id ∷ [] })) (λ _. ids self.new ≡ ids self.old) }
+    {
+        push_id(&mut self.segments, id)
+    }
+
+    /// The data segment that an index names.
+    ///
+    /// # Errors
+    ///
+    /// It names none.
+    pub fn get_data(&self, index: u32) -> Result<DataId, UnknownIndex>
+        ensures { result ≡ ok_or (slice_get (ids self.now).segments index) (record { 0 = spaces.Data }) }
+    {
+        id_at(self.segments.as_slice(), index, Space::Data)
+    }
+
+    /// The index names this type from now on, if it named one.
+    pub fn remap_type(&mut self, index: u32, id: TypeId)
+        ensures { ids self.new ≡ record (ids self.old) { types = slice_set (ids self.old).types index id } }
+    {
+        let at = index as usize;
+        if at < self.types.len() {
+            self.types[at] = id;
+        }
+    }
+
+    /// The next index of a local of the function names this one. Gives the index.
+    ///
+    /// # Errors
+    ///
+    /// Want of memory. The map stays as it was.
+    pub fn push_local(&mut self, function: FunctionId, id: LocalId) -> Result<u32, AllocError>
+        ensures pushed { IfOk result (λ index. (index ≡ length ((ids self.old).locals function)) × (ids self.new ≡ record (ids self.old) { locals = with_last function id (ids self.old).locals })) }
+        ensures refused { OnErr result (ids self.new ≡ ids self.old) }
+    {
+        let at = function.number() as usize;
+        self.reach_function(at)?;
+        let index = push_id(&mut self.locals[at], id)?;
+        Ok(index)
+    }
+
+    // Has a list for the function of this number.
+    fn reach_function(&mut self, at: usize) -> Result<(), AllocError>
+        requires { at < 2 ^ 32 }
+        ensures place { OnOk result (at < length self.new.locals.items) }
+        ensures same { ids self.new ≡ ids self.old }
+    {
+        while self.locals.len() <= at {
+            self.locals.push(Vec::new(self.alloc))?;
+        }
+        Ok(())
+    }
+
+    /// The local that an index of the function names.
+    ///
+    /// # Errors
+    ///
+    /// It names none.
+    pub fn get_local(&self, function: FunctionId, index: u32) -> Result<LocalId, UnknownIndex>
+        ensures { result ≡ ok_or (slice_get ((ids self.now).locals function) index) (record { 0 = spaces.Local }) }
+    {
+        match self.locals.get(function.index()) {
+            Some(locals) => id_at(locals.as_slice(), index, Space::Local),
+            None => Err(UnknownIndex(Space::Local)),
+        }
+    }
+}

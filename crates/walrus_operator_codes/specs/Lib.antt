@@ -1,0 +1,4 @@
+pub mod Runs
+pub mod Unary
+pub mod Binary
+pub mod Ternary

@@ -1,0 +1,13 @@
+//! Codes of numeric and vector operators without immediates but a lane (Core Specification, binary format: numeric instructions,
+//! vector instructions; the proposal on wide arithmetic).
+#![tactic(auto)]
+
+mod binary;
+mod code;
+mod ternary;
+mod unary;
+
+pub use binary::{binary_of, code_of_binary, lane_of_binary};
+pub use code::{atomic, bulk, byte, object, pick, vector};
+pub use ternary::{code_of_ternary, ternary_of};
+pub use unary::{code_of_unary, lane_of_unary, unary_of};
