@@ -1,10 +1,9 @@
 // What becomes of the files.
 use crate::folder::Folder;
 use rewriter_program::{Failure, InputFile, OutputFile, locate, run_words};
-use std::fs::Permissions;
 use std::io::Read;
 use std::os::fd::AsRawFd;
-use std::os::unix::fs::{MetadataExt, PermissionsExt, symlink};
+use std::os::unix::fs::MetadataExt;
 use std::test::Fail;
 use std::{fs, io};
 use wasm_rewriter::{Fault, Sink, Source};
@@ -35,13 +34,25 @@ fn status_of(rt: &HostRuntime, places: &str, input: &str, output: &str) -> u8 {
     run_words(rt, &words)
 }
 
+// The status of a run over files of the folder.
+fn status_in(
+    rt: &HostRuntime,
+    folder: &Folder,
+    places: &str,
+    input: &str,
+    output: &str,
+) -> Result<u8, Fail> {
+    let places = folder.at(places)?;
+    let input = folder.at(input)?;
+    let output = folder.at(output)?;
+    Ok(status_of(rt, &places, &input, &output))
+}
+
 #[test]
 fn a_module_is_rewritten(rt: HostRuntime) -> Result<(), Fail> {
     let folder = Folder::new(&rt, "done")?;
-    let input = folder.with("input", &INPUT)?;
-    let output = folder.at("output")?;
-    let places = folder.at("places")?;
-    assert_eq!(rt; status_of(&rt, &places, &input, &output), 0);
+    folder.with("input", &INPUT)?;
+    assert_eq!(rt; status_in(&rt, &folder, "places", "input", "output")?, 0);
     assert!(rt; folder.holds("output", &OUTPUT)?);
     assert!(rt; folder.holds("places", b"4 3\n")?);
     assert_eq!(rt; folder.count()?, 3);
@@ -51,15 +62,13 @@ fn a_module_is_rewritten(rt: HostRuntime) -> Result<(), Fail> {
 #[test]
 fn an_input_may_be_its_output(rt: HostRuntime) -> Result<(), Fail> {
     let folder = Folder::new(&rt, "same")?;
-    let input = folder.with("input", &INPUT)?;
-    let link = folder.at("link")?;
-    let places = folder.at("places")?;
-    fs::set_permissions(&rt, input.as_str(), Permissions::from_mode(0o640))?;
-    symlink(&rt, "input", link.as_str())?;
-    assert_eq!(rt; status_of(&rt, &places, &input, &link), 0);
+    folder.with("input", &INPUT)?;
+    folder.set_mode("input", 0o640)?;
+    folder.with_link("input", "link")?;
+    assert_eq!(rt; status_in(&rt, &folder, "places", "input", "link")?, 0);
     assert!(rt; folder.holds("input", &OUTPUT)?);
-    assert!(rt; fs::symlink_metadata(&rt, link.as_str())?.is_symlink());
-    assert_eq!(rt; fs::metadata(&rt, input.as_str())?.mode() & 0o777, 0o640);
+    assert!(rt; folder.is_link("link")?);
+    assert_eq!(rt; folder.mode("input")?, 0o640);
     assert_eq!(rt; folder.count()?, 3);
     folder.remove()
 }
@@ -67,25 +76,29 @@ fn an_input_may_be_its_output(rt: HostRuntime) -> Result<(), Fail> {
 #[test]
 fn a_refused_module_leaves_the_files(rt: HostRuntime) -> Result<(), Fail> {
     let folder = Folder::new(&rt, "refused")?;
-    let input = folder.with("input", b"no module")?;
-    let output = folder.with("output", b"old")?;
-    let places = folder.at("places")?;
-    assert_eq!(rt; status_of(&rt, &places, &input, &output), 1);
+    folder.with("input", b"no module")?;
+    folder.with("output", b"old")?;
+    assert_eq!(rt; status_in(&rt, &folder, "places", "input", "output")?, 1);
     assert!(rt; folder.holds("output", b"old")?);
     assert_eq!(rt; folder.count()?, 2);
     folder.remove()
 }
 
+// Two files, each also by other names, a link to a file that isn't there, and a folder.
+fn add_names(folder: &Folder) -> Result<(), Fail> {
+    folder.with("in", &INPUT)?;
+    folder.with("out", b"old")?;
+    folder.with_other_name("out", "hard")?;
+    folder.with_link("in", "in-link")?;
+    folder.with_link("out", "out-link")?;
+    folder.with_link("none", "none-link")?;
+    folder.with_folder("sub")
+}
+
 #[test]
 fn one_file_for_two_things_is_refused(rt: HostRuntime) -> Result<(), Fail> {
     let folder = Folder::new(&rt, "twice")?;
-    folder.with("in", &INPUT)?;
-    let out = folder.with("out", b"old")?;
-    fs::hard_link(&rt, out.as_str(), folder.at("hard")?.as_str())?;
-    symlink(&rt, "in", folder.at("in-link")?.as_str())?;
-    symlink(&rt, "out", folder.at("out-link")?.as_str())?;
-    symlink(&rt, "none", folder.at("none-link")?.as_str())?;
-    fs::create_dir(&rt, folder.at("sub")?.as_str())?;
+    add_names(&folder)?;
     let rows = [
         ("out", "in", "out"),
         ("./out", "in", "out"),
@@ -102,15 +115,11 @@ fn one_file_for_two_things_is_refused(rt: HostRuntime) -> Result<(), Fail> {
         ("out", "none", "out"),
     ];
     for (places, input, output) in rows {
-        let status = status_of(
-            &rt,
-            &folder.at(places)?,
-            &folder.at(input)?,
-            &folder.at(output)?,
-        );
+        let status = status_in(&rt, &folder, places, input, output)?;
         assert_eq!(rt; status, 2, "{places} {input} {output}");
     }
-    assert!(rt; folder.holds("in", &INPUT)? && folder.holds("out", b"old")?);
+    assert!(rt; folder.holds("in", &INPUT)?);
+    assert!(rt; folder.holds("out", b"old")?);
     assert_eq!(rt; folder.count()?, 7);
     folder.remove()
 }
@@ -118,31 +127,42 @@ fn one_file_for_two_things_is_refused(rt: HostRuntime) -> Result<(), Fail> {
 #[test]
 fn a_file_that_cannot_be_opened_is_told(rt: HostRuntime) -> Result<(), Fail> {
     let folder = Folder::new(&rt, "closed")?;
-    let input = folder.with("input", &INPUT)?;
-    let output = folder.at("output")?;
-    let none = folder.at("none")?;
-    let nowhere = folder.at("none/output")?;
-    assert_eq!(rt; status_of(&rt, &none, &none, &output), 2);
-    assert_eq!(rt; status_of(&rt, &nowhere, &none, &output), 3);
-    assert_eq!(rt; status_of(&rt, &none, &input, &nowhere), 3);
+    folder.with("input", &INPUT)?;
+    let rows = [
+        ("none", "none", "output", 2),
+        ("none/output", "none", "output", 3),
+        ("none", "input", "none/output", 3),
+    ];
+    for (places, input, output, wanted) in rows {
+        let status = status_in(&rt, &folder, places, input, output)?;
+        assert_eq!(rt; status, wanted, "{places} {input} {output}");
+    }
     assert_eq!(rt; folder.count()?, 1);
     // The bytes are written before the places are.
-    assert_eq!(rt; status_of(&rt, &nowhere, &input, &output), 3);
+    assert_eq!(rt;
+        status_in(&rt, &folder, "none/output", "input", "output")?,
+        3
+    );
     assert!(rt; folder.holds("output", &OUTPUT)?);
     folder.remove()
 }
 
+// Whether this process has the file open by that number.
+fn is_open_by(rt: &HostRuntime, path: &str, number: u32) -> Result<bool, Fail> {
+    let handle = format!(in rt.alloc(); "/proc/self/fd/{number}")?;
+    Ok(match fs::read_link(rt, handle.as_str()) {
+        Ok(link) => link.as_str() == path,
+        Err(_) => false,
+    })
+}
+
 // Whether this process has the file open.
 fn is_open(rt: &HostRuntime, path: &str) -> Result<bool, Fail> {
+    let mut is_any = false;
     for number in 0..32u32 {
-        let handle = format!(in rt.alloc(); "/proc/self/fd/{number}")?;
-        if let Ok(link) = fs::read_link(rt, handle.as_str()) {
-            if link.as_str() == path {
-                return Ok(true);
-            }
-        }
+        is_any |= is_open_by(rt, path, number)?;
     }
-    Ok(false)
+    Ok(is_any)
 }
 
 #[test]
@@ -189,10 +209,14 @@ fn refusal(rt: &HostRuntime, path: &str) -> Result<String, Fail> {
     }
 }
 
+// What is said where the folder's file can't be written.
+fn refusal_in(rt: &HostRuntime, folder: &Folder, name: &str) -> Result<String, Fail> {
+    let path = folder.at(name)?;
+    refusal(rt, &path)
+}
+
 #[test]
 fn what_the_system_says_is_kept(rt: HostRuntime) -> Result<(), Fail> {
-    let folder = Folder::new(&rt, "causes")?;
-    let file = folder.with("file", b"old")?;
     let rows = [
         ("/dev/full", "No space left on device (os error 28)"),
         ("/dev", "Is a directory (os error 21)"),
@@ -200,16 +224,30 @@ fn what_the_system_says_is_kept(rt: HostRuntime) -> Result<(), Fail> {
     for (path, text) in rows {
         assert_eq!(rt; refusal(&rt, path)?.as_str(), text);
     }
-    let within = format!(in rt.alloc(); "{file}/new")?;
+    let folder = Folder::new(&rt, "causes")?;
+    folder.with("file", b"old")?;
     assert_eq!(rt;
-        refusal(&rt, &within)?.as_str(),
+        refusal_in(&rt, &folder, "file/new")?.as_str(),
         "Not a directory (os error 20)"
     );
-    // Who may not write a file may not replace it. The system's own user may write all.
-    fs::set_permissions(&rt, file.as_str(), Permissions::from_mode(0o444))?;
-    if fs::metadata(&rt, file.as_str())?.uid() != 0 {
+    folder.remove()
+}
+
+// Whether this is the system's own user, who may write all.
+fn may_write_all(rt: &HostRuntime, folder: &Folder) -> Result<bool, Fail> {
+    let path = folder.at("file")?;
+    Ok(fs::metadata(rt, path.as_str())?.uid() == 0)
+}
+
+// Who may not write a file may not replace it.
+#[test]
+fn a_file_that_may_not_be_written_stays(rt: HostRuntime) -> Result<(), Fail> {
+    let folder = Folder::new(&rt, "unwritable")?;
+    folder.with("file", b"old")?;
+    folder.set_mode("file", 0o444)?;
+    if !may_write_all(&rt, &folder)? {
         assert_eq!(rt;
-            refusal(&rt, &file)?.as_str(),
+            refusal_in(&rt, &folder, "file")?.as_str(),
             "Permission denied (os error 13)"
         );
         assert!(rt; folder.holds("file", b"old")?);

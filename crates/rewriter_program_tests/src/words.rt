@@ -7,6 +7,19 @@ use std::rt::Env;
 use std::test::Fail;
 use wasm_rewriter::Options;
 
+// Whether the flag chooses these options, beside which the files are named.
+fn is_chosen(alloc: Global, flag: &str, options: Options) -> bool {
+    let words = ["wasm_rewriter", flag, "in", "out"];
+    match job_of(alloc, &words) {
+        Ok(job) => {
+            job.options == options
+                && (job.input, job.output) == ("in", "out")
+                && job.places == options.places.then_some("FILE")
+        }
+        Err(_) => false,
+    }
+}
+
 #[test]
 fn each_flag_chooses_an_option(rt: HostRuntime) -> Result<(), Fail> {
     let plain = Options::new();
@@ -48,11 +61,7 @@ fn each_flag_chooses_an_option(rt: HostRuntime) -> Result<(), Fail> {
         ),
     ];
     for (flag, options) in rows {
-        let words = ["wasm_rewriter", flag, "in", "out"];
-        let job = job_of(rt.alloc(), &words).map_err(|_| "no job")?;
-        assert_eq!(rt; job.options, options, "{flag}");
-        assert_eq!(rt; (job.input, job.output), ("in", "out"), "{flag}");
-        assert_eq!(rt; job.places, options.places.then_some("FILE"), "{flag}");
+        assert!(rt; is_chosen(rt.alloc(), flag, options), "{flag}");
     }
     Ok(())
 }

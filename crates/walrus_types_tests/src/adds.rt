@@ -1,5 +1,5 @@
 // Adds answer an equal live type where there is one.
-use crate::steps::{Step, immutable, take};
+use crate::steps::{Step, immutable, table, take};
 use std::alloc::{AllocError, Global};
 use std::test::Fail;
 use walrus_arena::LocalId;
@@ -45,12 +45,16 @@ fn equal_types_are_merged(rt: HostRuntime) -> Result<(), Fail> {
     Ok(())
 }
 
+// One type is found, and another isn't there.
+fn is_found(types: &ModuleTypes) -> bool {
+    let found = types.find(&[], &[ValType::I64]);
+    matches!(found, Some(id) if id.index() == 0) && types.find(&[], &[]).is_none()
+}
+
 #[test]
 fn finds(rt: HostRuntime) -> Result<(), Fail> {
-    let mut types = ModuleTypes::new(rt.alloc());
-    let id = types.add(&[], &[ValType::I64])?;
-    assert_eq!(rt; types.find(&[], &[ValType::I64]), Some(id));
-    assert!(rt; types.find(&[], &[]).is_none());
+    let types = table(rt.alloc(), &[Step::Gives(ValType::I64)])?;
+    assert!(rt; is_found(&types));
     Ok(())
 }
 
@@ -66,19 +70,25 @@ fn adds_both(
 }
 
 // The first type is there before; then the entry type of the second is, and then both are.
+const PAIRS: [(ValType, ValType, (usize, usize)); 4] = [
+    (ValType::F64, ValType::F32, (0, 1)),
+    (ValType::I32, ValType::F32, (2, 1)),
+    (ValType::I32, ValType::F32, (2, 1)),
+    (ValType::I32, ValType::I64, (3, 4)),
+];
+
+fn adds_pairs(types: &mut ModuleTypes) -> Result<bool, AllocError> {
+    let mut agree = true;
+    for (param, given, ids) in PAIRS {
+        agree &= adds_both(types, param, given, ids)?;
+    }
+    Ok(agree)
+}
+
 #[test]
 fn types_with_their_entry_types(rt: HostRuntime) -> Result<(), Fail> {
-    let mut types = ModuleTypes::new(rt.alloc());
-    let first = types.add(&[ValType::F64], &[ValType::F32])?;
-    assert_eq!(rt; first.index(), 0);
-    for (param, result, ids) in [
-        (ValType::F64, ValType::F32, (0, 1)),
-        (ValType::I32, ValType::F32, (2, 1)),
-        (ValType::I32, ValType::F32, (2, 1)),
-        (ValType::I32, ValType::I64, (3, 4)),
-    ] {
-        assert!(rt; adds_both(&mut types, param, result, ids)?);
-    }
+    let mut types = table(rt.alloc(), &[Step::Maps(ValType::F64, ValType::F32)])?;
+    assert!(rt; adds_pairs(&mut types)?);
     Ok(())
 }
 

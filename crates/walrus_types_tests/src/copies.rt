@@ -1,4 +1,5 @@
 // A copy says what its original was made of.
+use crate::steps::{Step, are_ids, name, table};
 use std::alloc::{AllocError, Global};
 use std::test::Fail;
 use walrus_arena::TypeId;
@@ -151,17 +152,16 @@ fn of_the_record_of_a_type(rt: HostRuntime) -> Result<(), Fail> {
     Ok(())
 }
 
-// A table of two types, of which the second, an open one, has the name and the first as supertype.
-fn with_named(alloc: Global) -> Result<ModuleTypes, AllocError> {
-    let mut types = ModuleTypes::new(alloc);
-    let parent = types.add(&[], &[])?;
+// Adds an open type that has this name and the other as supertype.
+fn add_named(
+    alloc: Global,
+    types: &mut ModuleTypes,
+    parent: TypeId,
+    text: &str,
+) -> Result<(), AllocError> {
     let form = CompositeType::Function(function(alloc)?);
     let id = types.add_composite(form, false, Some(parent))?;
-    let name = String::from_str(alloc, "t")?;
-    if types.contains(id) {
-        types.get_mut(id).name = Some(name);
-    }
-    Ok(types)
+    name(alloc, types, id, text)
 }
 
 fn is_named(ty: &Type) -> bool {
@@ -172,16 +172,26 @@ fn is_named(ty: &Type) -> bool {
         && matches!(&ty.name, Some(name) if name.as_str() == "t")
 }
 
+fn names_first(alloc: Global, ty: &Type) -> Result<bool, AllocError> {
+    let mut names = Vec::new(alloc);
+    ty.referenced_types(&mut names)?;
+    Ok(are_ids(&names, &[0]))
+}
+
+// Whether a copy of the type says the same.
+fn copies_named(alloc: Global, types: &ModuleTypes, id: TypeId) -> Result<bool, AllocError> {
+    if !types.contains(id) {
+        return Ok(false);
+    }
+    let copy = types.get(id).clone()?;
+    Ok(is_named(&copy) && names_first(alloc, &copy)?)
+}
+
 #[test]
 fn of_a_type(rt: HostRuntime) -> Result<(), Fail> {
-    let types = with_named(rt.alloc())?;
-    let id = TypeId::from_index(1);
-    assert!(rt; types.contains(id));
-    let copy = types.get(id).clone()?;
-    assert!(rt; is_named(&copy));
-    let mut names = Vec::new(rt.alloc());
-    copy.referenced_types(&mut names)?;
-    assert!(rt; matches!(names.as_slice(), [parent] if parent.index() == 0));
+    let mut types = table(rt.alloc(), &[Step::Function])?;
+    add_named(rt.alloc(), &mut types, TypeId::from_index(0), "t")?;
+    assert!(rt; copies_named(rt.alloc(), &types, TypeId::from_index(1))?);
     Ok(())
 }
 
@@ -196,9 +206,7 @@ fn copies_group(types: &ModuleTypes, id: TypeId) -> Result<bool, AllocError> {
 
 #[test]
 fn of_a_group(rt: HostRuntime) -> Result<(), Fail> {
-    let mut types = ModuleTypes::new(rt.alloc());
-    types.add(&[], &[])?;
-    let id = types.add(&[ValType::I32], &[])?;
-    assert!(rt; copies_group(&types, id)?);
+    let types = table(rt.alloc(), &[Step::Function, Step::Param(ValType::I32)])?;
+    assert!(rt; copies_group(&types, TypeId::from_index(1))?);
     Ok(())
 }

@@ -1,7 +1,6 @@
-// A table that is edited, written, read into a new one and written again.
+// A settled table that is added to.
 ghost use Rattle.walrus_edit_laws.specs.Edits.{IsSettled};
 
-use crate::steps::ring;
 use std::alloc::AllocError;
 use std::test::Fail;
 use walrus_arena::TypeId;
@@ -21,27 +20,6 @@ fn add_to_settled(
     types_are_grouped(types);
     settled_is_kept();
     types.add(params, results)
-}
-
-#[test]
-fn a_second_round_after_deletes_changes_nothing(rt: HostRuntime) -> Result<(), Fail> {
-    let alloc = rt.alloc();
-    let mut types = ModuleTypes::new(alloc);
-    let long = types.add(&[ValType::I64], &[])?;
-    types.add(&[ValType::I32], &[])?;
-    types.add_rec_group(2, |ids| ring(alloc, ids))?;
-    assert!(rt; types.contains(long));
-    types.delete(long);
-    let added = types.add(&[ValType::I64], &[])?;
-    let first = types.emit()?;
-    assert_eq!(rt; first.indices.get(added), Some(3));
-    let mut again = ModuleTypes::new(alloc);
-    let ids = again.parse_types(first.groups.as_slice())?;
-    assert_eq!(rt; ids.len(), 4);
-    let second = again.emit()?;
-    assert!(rt; second.groups.as_slice() == first.groups.as_slice());
-    assert!(rt; second.ids.as_slice() == ids.as_slice());
-    Ok(())
 }
 
 #[test]

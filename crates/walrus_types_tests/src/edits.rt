@@ -1,4 +1,5 @@
 // Deleting, naming, copying.
+use crate::steps::{Step, name, table};
 use std::alloc::AllocError;
 use std::test::Fail;
 use walrus_arena::TypeId;
@@ -22,40 +23,47 @@ fn goes(types: &mut ModuleTypes, id: TypeId, tried: bool) -> bool {
     !types.contains(id)
 }
 
+// Adds the type and deletes it, once each way.
+fn adds_and_deletes(types: &mut ModuleTypes) -> Result<bool, AllocError> {
+    let alone = adds(types, 0)? && goes(types, TypeId::from_index(0), false);
+    let tried = adds(types, 1)? && goes(types, TypeId::from_index(1), true);
+    Ok(alone && tried)
+}
+
 #[test]
 fn deletes(rt: HostRuntime) -> Result<(), Fail> {
     let mut types = ModuleTypes::new(rt.alloc());
-    assert!(rt; adds(&mut types, 0)?);
-    assert!(rt; goes(&mut types, TypeId::from_index(0), false));
-    assert!(rt; adds(&mut types, 1)?);
-    assert!(rt; goes(&mut types, TypeId::from_index(1), true));
+    assert!(rt; adds_and_deletes(&mut types)?);
     Ok(())
+}
+
+// Whether the live type's whole group goes.
+fn group_goes(types: &mut ModuleTypes, id: TypeId) -> bool {
+    if !types.contains(id) {
+        return false;
+    }
+    types.delete_entire_group(id);
+    types.rec_group_for_type(id).is_none()
 }
 
 #[test]
 fn deletes_a_group(rt: HostRuntime) -> Result<(), Fail> {
-    let mut types = ModuleTypes::new(rt.alloc());
-    let a = types.add(&[ValType::I32], &[])?;
-    assert!(rt; types.contains(a));
-    types.delete_entire_group(a);
-    assert!(rt; types.rec_group_for_type(a).is_none());
+    let mut types = table(rt.alloc(), &[Step::Param(ValType::I32)])?;
+    assert!(rt; group_goes(&mut types, TypeId::from_index(0)));
     Ok(())
 }
 
-// Names the type, if it is live.
-fn name(types: &mut ModuleTypes, id: TypeId, name: String) {
-    if types.contains(id) {
-        types.get_mut(id).name = Some(name);
-    }
+// The first type has this name, and no type has the other.
+fn first_is_named(types: &ModuleTypes, name: &str, other: &str) -> bool {
+    let found = types.by_name(name);
+    matches!(found, Some(id) if id.index() == 0) && types.by_name(other).is_none()
 }
 
 #[test]
 fn names(rt: HostRuntime) -> Result<(), Fail> {
-    let mut types = ModuleTypes::new(rt.alloc());
-    let a = types.add(&[ValType::I32], &[ValType::F32])?;
-    name(&mut types, a, String::from_str(rt.alloc(), "a")?);
-    assert_eq!(rt; types.by_name("a"), Some(a));
-    assert!(rt; types.by_name("b").is_none());
+    let mut types = table(rt.alloc(), &[Step::Maps(ValType::I32, ValType::F32)])?;
+    name(rt.alloc(), &mut types, TypeId::from_index(0), "a")?;
+    assert!(rt; first_is_named(&types, "a", "b"));
     Ok(())
 }
 
@@ -78,9 +86,7 @@ fn has_odd_members(types: &ModuleTypes) -> bool {
 
 #[test]
 fn iterates(rt: HostRuntime) -> Result<(), Fail> {
-    let mut types = ModuleTypes::new(rt.alloc());
-    types.add(&[], &[])?;
-    types.add(&[ValType::F64], &[])?;
+    let types = table(rt.alloc(), &[Step::Function, Step::Param(ValType::F64)])?;
     assert_eq!(rt; told(&types), 3);
     assert!(rt; !has_odd_members(&types));
     Ok(())

@@ -1,31 +1,33 @@
 // The types in the order in which they are written.
+use crate::steps::{Step, are_at, are_ids, written};
 use std::test::Fail;
-use walrus_types::{ModuleTypes, ValType};
+use walrus_arena::TypeId;
+use walrus_types::ValType;
 
 #[test]
 fn ids_stand_in_the_order_of_indices(rt: HostRuntime) -> Result<(), Fail> {
-    let alloc = rt.alloc();
-    let mut types = ModuleTypes::new(alloc);
-    let long = types.add(&[ValType::I64], &[])?;
-    let empty = types.add_struct(Vec::new(alloc))?;
-    let short = types.add(&[ValType::I32], &[])?;
-    let emitted = types.emit()?;
-    assert!(rt; emitted.ids.as_slice() == [short, long, empty].as_slice());
-    assert_eq!(rt; emitted.indices.get(short), Some(0));
+    let steps = [
+        Step::Param(ValType::I64),
+        Step::Struct,
+        Step::Param(ValType::I32),
+    ];
+    let emitted = written(rt.alloc(), &steps)?;
+    assert!(rt; are_ids(&emitted.ids, &[2, 0, 1]));
+    assert!(rt; are_at(&emitted, &[Some(1), Some(2), Some(0)]));
     Ok(())
 }
 
 #[test]
 fn deleted_types_and_entry_types_have_no_place(rt: HostRuntime) -> Result<(), Fail> {
-    let mut types = ModuleTypes::new(rt.alloc());
-    let long = types.add(&[ValType::I64], &[])?;
-    types.add_entry_ty(&[ValType::I32])?;
-    let short = types.add(&[ValType::I32], &[])?;
-    let float = types.add(&[ValType::F32], &[])?;
-    assert!(rt; types.contains(long));
-    types.delete(long);
-    let emitted = types.emit()?;
-    assert!(rt; emitted.ids.as_slice() == [short, float].as_slice());
-    assert_eq!(rt; emitted.indices.get(float), Some(1));
+    let steps = [
+        Step::Param(ValType::I64),
+        Step::Entry(Some(ValType::I32)),
+        Step::Param(ValType::I32),
+        Step::Param(ValType::F32),
+        Step::Delete(TypeId::from_index(0)),
+    ];
+    let emitted = written(rt.alloc(), &steps)?;
+    assert!(rt; are_ids(&emitted.ids, &[2, 3]));
+    assert!(rt; are_at(&emitted, &[None, None, Some(0), Some(1)]));
     Ok(())
 }

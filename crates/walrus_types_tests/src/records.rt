@@ -1,12 +1,13 @@
 // Parsing the records of a type section.
-ghost use Rattle.std.specs.Prelude.{◌≡◌, ◌+◌, ◌<◌, ◌^◌, [], ◌∷◌, true, None, IfOk, length};
+ghost use Rattle.std.specs.Prelude.{◌≡◌, ◌<◌, ◌^◌, [], ◌∷◌, true, None, IfOk, map};
 ghost use Rattle.walrus_forms.specs.Kinds.{declared_kind};
 ghost use Rattle.walrus_forms.specs.Records.{record_form, type_group, value_of};
 ghost use Rattle.walrus_forms.specs.Renaming.{ValueBelow};
+ghost use Rattle.walrus_types.specs.Parsing.{AreBelow};
 ghost use Rattle.walrus_types_tests.specs.Records.{NamesBelow};
 
 use crate::emission::{is_linked, is_sorted};
-use crate::steps::are_at;
+use crate::steps::{are_at, are_ids};
 use std::alloc::{AllocError, Global};
 use std::test::Fail;
 use walrus_arena::TypeId;
@@ -49,7 +50,7 @@ fn structure(alloc: Global) -> Result<GroupRecord, AllocError>
 
 // A group of a structure type of one immutable field, which refers to the type of this index.
 fn holder(alloc: Global, index: u32) -> Result<GroupRecord, AllocError>
-    ensures { IfOk result (NamesBelow (index + 1)) }
+    ensures { IfOk result (NamesBelow index) }
 {
     let mut fields = Vec::new(alloc);
     fields.push(FieldRecord {
@@ -64,7 +65,7 @@ fn holder(alloc: Global, index: u32) -> Result<GroupRecord, AllocError>
 
 // A marked group of no types.
 fn no_types(alloc: Global) -> GroupRecord
-    ensures { length (type_group result).kinds ≡ 0 }
+    ensures { NamesBelow 0 result }
 {
     GroupRecord {
         marked: true,
@@ -79,53 +80,74 @@ fn id(index: usize) -> TypeId
     TypeId::from_index(index)
 }
 
-// A function type, an empty structure type, another function type, and the first again.
-fn parse_singles(alloc: Global, types: &mut ModuleTypes) -> Result<Vec<TypeId>, AllocError> {
-    let long = function(alloc, false, ValRecord::I64)?;
-    let empty = structure(alloc)?;
-    let short = function(alloc, false, ValRecord::I32)?;
-    let again = function(alloc, false, ValRecord::I64)?;
-    types.parse_types(&[long, empty, short, again])
+// A group of a section.
+#[derive(Clone, Copy)]
+enum Entry {
+    // a function type of this parameter
+    Long,
+    Short,
+    // the first, in a marked group
+    Marked,
+    // a structure type without fields
+    Empty,
+    // a structure type that refers to the type of this index, or to itself where that comes later
+    Holder(u32),
+    // a marked group of no types
+    Nothing,
 }
 
-// A function type, a structure type that refers to it, and another function type.
-fn parse_linked(alloc: Global, types: &mut ModuleTypes) -> Result<Vec<TypeId>, AllocError> {
-    let long = function(alloc, false, ValRecord::I64)?;
-    let second = holder(alloc, 0)?;
-    let short = function(alloc, false, ValRecord::I32)?;
-    types.parse_types(&[long, second, short])
-}
-
-// A function type, an equal one in a marked group, a group of no types, and the first again.
-fn parse_equal(alloc: Global, types: &mut ModuleTypes) -> Result<Vec<TypeId>, AllocError> {
-    let first = function(alloc, false, ValRecord::I64)?;
-    let member = function(alloc, true, ValRecord::I64)?;
-    let nothing = no_types(alloc);
-    let again = function(alloc, false, ValRecord::I64)?;
-    types.parse_types(&[first, member, nothing, again])
-}
-
-// Two structure types that refer to themselves, and twice one that refers to the second.
-fn parse_selves(alloc: Global, types: &mut ModuleTypes) -> Result<Vec<TypeId>, AllocError> {
-    let first = holder(alloc, 0)?;
-    let second = holder(alloc, 1)?;
-    let third = holder(alloc, 1)?;
-    let again = holder(alloc, 1)?;
-    types.parse_types(&[first, second, third, again])
-}
-
-fn are_ids(ids: &[TypeId], wanted: &[usize]) -> bool {
-    let mut agree = ids.len() == wanted.len();
-    for (id, index) in ids.iter().zip(wanted) {
-        agree &= id.index() == *index;
+fn group_of(alloc: Global, entry: Entry, before: u32) -> Result<GroupRecord, AllocError>
+    ensures { IfOk result (NamesBelow before) }
+{
+    match entry {
+        Entry::Long => function(alloc, false, ValRecord::I64),
+        Entry::Short => function(alloc, false, ValRecord::I32),
+        Entry::Marked => function(alloc, true, ValRecord::I64),
+        Entry::Empty => structure(alloc),
+        Entry::Holder(index) => holder(alloc, index.min(before)),
+        Entry::Nothing => Ok(no_types(alloc)),
     }
-    agree
+}
+
+fn section(alloc: Global, entries: &[Entry]) -> Result<Vec<GroupRecord>, AllocError>
+    ensures { IfOk result (λ groups. AreBelow 0 (map type_group groups.items)) }
+{
+    let mut groups = Vec::new(alloc);
+    let mut before = 0u32;
+    for entry in entries {
+        let group = group_of(alloc, *entry, before)?;
+        if !group.types.is_empty() {
+            before = before.saturating_add(1);
+        }
+        groups.push(group)?;
+    }
+    Ok(groups)
+}
+
+// The ids that the table gives the types of these groups.
+fn parse(
+    alloc: Global,
+    types: &mut ModuleTypes,
+    entries: &[Entry],
+) -> Result<Vec<TypeId>, AllocError> {
+    let groups = section(alloc, entries)?;
+    types.parse_types(groups.as_slice())
+}
+
+fn parses(
+    alloc: Global,
+    types: &mut ModuleTypes,
+    entries: &[Entry],
+    wanted: &[usize],
+) -> Result<bool, AllocError> {
+    Ok(are_ids(&parse(alloc, types, entries)?, wanted))
 }
 
 #[test]
 fn singles(rt: HostRuntime) -> Result<(), Fail> {
     let mut types = ModuleTypes::new(rt.alloc());
-    assert!(rt; are_ids(&parse_singles(rt.alloc(), &mut types)?, &[0, 1, 2, 0]));
+    let entries = [Entry::Long, Entry::Empty, Entry::Short, Entry::Long];
+    assert!(rt; parses(rt.alloc(), &mut types, &entries, &[0, 1, 2, 0])?);
     let emitted = types.emit()?;
     assert!(rt; is_sorted(&emitted));
     assert!(rt; are_at(&emitted, &[Some(1), Some(2), Some(0)]));
@@ -141,10 +163,13 @@ fn names_first(alloc: Global, types: &ModuleTypes, id: TypeId) -> Result<bool, A
     Ok(are_ids(&names, &[0]))
 }
 
+// A function type, a structure type that refers to it, and another function type.
+const LINKED: [Entry; 3] = [Entry::Long, Entry::Holder(0), Entry::Short];
+
 #[test]
 fn a_type_that_names_another(rt: HostRuntime) -> Result<(), Fail> {
     let mut types = ModuleTypes::new(rt.alloc());
-    assert!(rt; are_ids(&parse_linked(rt.alloc(), &mut types)?, &[0, 1, 2]));
+    assert!(rt; parses(rt.alloc(), &mut types, &LINKED, &[0, 1, 2])?);
     assert!(rt; names_first(rt.alloc(), &types, id(1))?);
     let emitted = types.emit()?;
     assert!(rt; is_linked(&emitted));
@@ -164,15 +189,23 @@ fn one_is_marked(types: &ModuleTypes) -> bool {
 #[test]
 fn the_latest_equal_type(rt: HostRuntime) -> Result<(), Fail> {
     let mut types = ModuleTypes::new(rt.alloc());
-    assert!(rt; are_ids(&parse_equal(rt.alloc(), &mut types)?, &[0, 1, 1]));
+    let entries = [Entry::Long, Entry::Marked, Entry::Nothing, Entry::Long];
+    assert!(rt; parses(rt.alloc(), &mut types, &entries, &[0, 1, 1])?);
     assert!(rt; one_is_marked(&types));
     Ok(())
 }
 
+// Two types that refer to themselves, and twice one that refers to the second.
 #[test]
 fn a_type_that_names_itself(rt: HostRuntime) -> Result<(), Fail> {
     let mut types = ModuleTypes::new(rt.alloc());
-    assert!(rt; are_ids(&parse_selves(rt.alloc(), &mut types)?, &[0, 1, 2, 2]));
+    let entries = [
+        Entry::Holder(0),
+        Entry::Holder(1),
+        Entry::Holder(1),
+        Entry::Holder(1),
+    ];
+    assert!(rt; parses(rt.alloc(), &mut types, &entries, &[0, 1, 2, 2])?);
     Ok(())
 }
 
@@ -183,16 +216,16 @@ fn copies_of_records(rt: HostRuntime) -> Result<(), Fail> {
     Ok(())
 }
 
-fn emission_of_linked(alloc: Global) -> Result<EmittedTypes, IrError> {
+// What a new table writes that has read these groups.
+fn rewritten(alloc: Global, entries: &[Entry]) -> Result<EmittedTypes, IrError> {
     let mut types = ModuleTypes::new(alloc);
-    parse_linked(alloc, &mut types)?;
+    parse(alloc, &mut types, entries)?;
     types.emit()
 }
 
 #[test]
 fn copies_of_what_is_written(rt: HostRuntime) -> Result<(), Fail> {
-    let emitted = emission_of_linked(rt.alloc())?;
-    let copy = emitted.clone(rt.alloc())?;
+    let copy = rewritten(rt.alloc(), &LINKED)?.clone(rt.alloc())?;
     assert!(rt; is_linked(&copy));
     assert!(rt; are_at(&copy, &[Some(0), Some(1), Some(2), None]));
     Ok(())
@@ -200,40 +233,26 @@ fn copies_of_what_is_written(rt: HostRuntime) -> Result<(), Fail> {
 
 #[test]
 fn copies_of_indices(rt: HostRuntime) -> Result<(), Fail> {
-    let emitted = emission_of_linked(rt.alloc())?;
-    let indices = emitted.indices.clone()?;
-    for k in 0..4 {
-        assert_eq!(rt; indices.get(id(k)), [Some(0), Some(1), Some(2), None][k]);
+    let indices = rewritten(rt.alloc(), &LINKED)?.indices.clone()?;
+    for (k, index) in [(0, Some(0)), (1, Some(1)), (2, Some(2)), (3, None)] {
+        assert_eq!(rt; indices.get(id(k)), index);
     }
     Ok(())
 }
 
-// What is emitted of two neighbours, and a structure that refers to the first.
-fn long_first(alloc: Global) -> Result<EmittedTypes, IrError> {
-    let mut types = ModuleTypes::new(alloc);
-    let long = function(alloc, false, ValRecord::I64)?;
-    let short = function(alloc, false, ValRecord::I32)?;
-    let to_long = holder(alloc, 0)?;
-    types.parse_types(&[long, short, to_long])?;
-    types.emit()
+fn is_same(one: &EmittedTypes, other: &EmittedTypes) -> bool {
+    one.groups.as_slice() == other.groups.as_slice()
 }
 
-// The same with the neighbours in each other's places.
-fn short_first(alloc: Global) -> Result<EmittedTypes, IrError> {
-    let mut types = ModuleTypes::new(alloc);
-    let short = function(alloc, false, ValRecord::I32)?;
-    let long = function(alloc, false, ValRecord::I64)?;
-    let to_long = holder(alloc, 1)?;
-    types.parse_types(&[short, long, to_long])?;
-    types.emit()
-}
-
+// Two neighbours, and a structure that refers to the first; and the same with the neighbours in each other's places.
 #[test]
 fn neighbours_change_places(rt: HostRuntime) -> Result<(), Fail> {
-    let one = long_first(rt.alloc())?;
-    let other = short_first(rt.alloc())?;
-    assert!(rt; one.groups.as_slice() == other.groups.as_slice());
+    let long_first = [Entry::Long, Entry::Short, Entry::Holder(0)];
+    let one = rewritten(rt.alloc(), &long_first)?;
     assert!(rt; are_at(&one, &[Some(1), Some(0), Some(2)]));
+    let short_first = [Entry::Short, Entry::Long, Entry::Holder(1)];
+    let other = rewritten(rt.alloc(), &short_first)?;
     assert!(rt; are_at(&other, &[Some(0), Some(1), Some(2)]));
+    assert!(rt; is_same(&one, &other));
     Ok(())
 }

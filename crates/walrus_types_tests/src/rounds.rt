@@ -3,10 +3,25 @@ ghost use Rattle.std.specs.Prelude.{map};
 ghost use Rattle.walrus_forms.specs.Records.{type_group};
 ghost use Rattle.walrus_types.specs.Parsing.{AreBelow};
 
-use crate::steps::{Step, table};
+use crate::steps::{Step, are_at, table};
 use std::alloc::Global;
 use std::test::Fail;
+use walrus_arena::TypeId;
 use walrus_types::{EmittedTypes, IrError, ModuleTypes, ValType};
+
+// Whether what a new table writes has the ids that it gave the groups when it read them, in this order.
+fn keeps_ids(types: &ModuleTypes, ids: &[TypeId]) -> Result<bool, IrError> {
+    Ok(types.emit()?.ids.as_slice() == ids)
+}
+
+// Whether a new table reads so many types in the groups, and writes them in this order.
+fn keeps_order(alloc: Global, first: &EmittedTypes, count: usize) -> Result<bool, IrError>
+    requires { AreBelow 0 (map type_group first.now.groups.items) }
+{
+    let mut again = ModuleTypes::new(alloc);
+    let ids = again.parse_types(first.groups.as_slice())?;
+    Ok(ids.len() == count && keeps_ids(&again, &ids)?)
+}
 
 fn read_and_written(alloc: Global, first: &EmittedTypes) -> Result<EmittedTypes, IrError>
     requires { AreBelow 0 (map type_group first.now.groups.items) }
@@ -14,6 +29,25 @@ fn read_and_written(alloc: Global, first: &EmittedTypes) -> Result<EmittedTypes,
     let mut again = ModuleTypes::new(alloc);
     again.parse_types(first.groups.as_slice())?;
     again.emit()
+}
+
+// Whether the groups are written again by a new table that reads them.
+fn writes_again(alloc: Global, first: &EmittedTypes) -> Result<bool, IrError>
+    requires { AreBelow 0 (map type_group first.now.groups.items) }
+{
+    let second = read_and_written(alloc, first)?;
+    Ok(second.groups.as_slice() == first.groups.as_slice())
+}
+
+// Whether the types of the table are written at these indices, and a second round changes nothing of so many.
+fn is_steady(
+    alloc: Global,
+    types: &ModuleTypes,
+    wanted: &[Option<u32>],
+    count: usize,
+) -> Result<bool, IrError> {
+    let first = types.emit()?;
+    Ok(are_at(&first, wanted) && keeps_order(alloc, &first, count)? && writes_again(alloc, &first)?)
 }
 
 #[test]
@@ -25,9 +59,27 @@ fn a_second_round_changes_nothing(rt: HostRuntime) -> Result<(), Fail> {
         Step::Maps(ValType::I32, ValType::I64),
     ];
     let types = table(rt.alloc(), &steps)?;
-    let first = types.emit()?;
-    assert_eq!(rt; first.groups.len(), 4);
-    let second = read_and_written(rt.alloc(), &first)?;
-    assert!(rt; second.groups.as_slice() == first.groups.as_slice());
+    assert!(rt; is_steady(rt.alloc(), &types, &[Some(1), Some(0)], 5)?);
+    Ok(())
+}
+
+#[test]
+fn a_second_round_after_deletes_changes_nothing(rt: HostRuntime) -> Result<(), Fail> {
+    let steps = [
+        Step::Param(ValType::I64),
+        Step::Param(ValType::I32),
+        Step::Ring(2),
+        Step::Delete(TypeId::from_index(0)),
+        Step::Param(ValType::I64),
+    ];
+    let types = table(rt.alloc(), &steps)?;
+    assert!(rt;
+        is_steady(
+            rt.alloc(),
+            &types,
+            &[None, Some(0), Some(1), Some(2), Some(3)],
+            4
+        )?
+    );
     Ok(())
 }

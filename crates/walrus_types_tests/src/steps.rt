@@ -204,3 +204,26 @@ pub fn are_at(emitted: &EmittedTypes, wanted: &[Option<u32>]) -> bool {
     }
     agree
 }
+
+/// These are the ids of these numbers.
+pub fn are_ids(ids: &[TypeId], wanted: &[usize]) -> bool {
+    let mut agree = ids.len() == wanted.len();
+    for (id, index) in ids.iter().zip(wanted) {
+        agree &= id.index() == *index;
+    }
+    agree
+}
+
+/// Names the type, if it is live.
+pub fn name(
+    alloc: Global,
+    types: &mut ModuleTypes,
+    id: TypeId,
+    text: &str,
+) -> Result<(), AllocError> {
+    let given = String::from_str(alloc, text)?;
+    if types.contains(id) {
+        types.get_mut(id).name = Some(given);
+    }
+    Ok(())
+}

@@ -1,47 +1,63 @@
 //! Texts of the Core Specification's text format, and of shared and exact types.
 
+use std::alloc::{AllocError, Global};
+use std::fmt::{Debug, Display};
 use std::test::Fail;
 use wasm_ref_types::{
     AbstractHeapType, CoreTypeId, HeapType, PackedIndex, RefType, UnpackedIndex, ValType,
 };
 
+fn is_written<T: Display>(alloc: Global, value: &T, text: &str) -> Result<bool, AllocError> {
+    let written = format!(in alloc; "{value}")?;
+    Ok(written.as_str() == text)
+}
+
+fn is_debug<T: Debug>(alloc: Global, value: &T, text: &str) -> Result<bool, AllocError> {
+    let written = format!(in alloc; "{value:?}")?;
+    Ok(written.as_str() == text)
+}
+
+fn is_wat(alloc: Global, ty: RefType, text: &str) -> Result<bool, AllocError> {
+    let wat = ty.wat(alloc)?;
+    Ok(wat.as_str() == text)
+}
+
+const REFERENCES: [(RefType, &str); 28] = [
+    (RefType::FUNCREF, "(ref null func)"),
+    (RefType::FUNC, "(ref func)"),
+    (RefType::EXTERNREF, "(ref null extern)"),
+    (RefType::EXTERN, "(ref extern)"),
+    (RefType::ANYREF, "(ref null any)"),
+    (RefType::ANY, "(ref any)"),
+    (RefType::NULLREF, "(ref null none)"),
+    (RefType::NONE, "(ref none)"),
+    (RefType::NULLEXTERNREF, "(ref null noextern)"),
+    (RefType::NOEXTERN, "(ref noextern)"),
+    (RefType::NULLFUNCREF, "(ref null nofunc)"),
+    (RefType::NOFUNC, "(ref nofunc)"),
+    (RefType::EQREF, "(ref null eq)"),
+    (RefType::EQ, "(ref eq)"),
+    (RefType::STRUCTREF, "(ref null struct)"),
+    (RefType::STRUCT, "(ref struct)"),
+    (RefType::ARRAYREF, "(ref null array)"),
+    (RefType::ARRAY, "(ref array)"),
+    (RefType::I31REF, "(ref null i31)"),
+    (RefType::I31, "(ref i31)"),
+    (RefType::EXNREF, "(ref null exn)"),
+    (RefType::EXN, "(ref exn)"),
+    (RefType::NULLEXNREF, "(ref null noexn)"),
+    (RefType::NOEXN, "(ref noexn)"),
+    (RefType::CONTREF, "(ref null cont)"),
+    (RefType::CONT, "(ref cont)"),
+    (RefType::NULLCONTREF, "(ref null nocont)"),
+    (RefType::NOCONT, "(ref nocont)"),
+];
+
 #[test]
 fn references(rt: HostRuntime) -> Result<(), Fail> {
-    let texts = [
-        (RefType::FUNCREF, "(ref null func)"),
-        (RefType::FUNC, "(ref func)"),
-        (RefType::EXTERNREF, "(ref null extern)"),
-        (RefType::EXTERN, "(ref extern)"),
-        (RefType::ANYREF, "(ref null any)"),
-        (RefType::ANY, "(ref any)"),
-        (RefType::NULLREF, "(ref null none)"),
-        (RefType::NONE, "(ref none)"),
-        (RefType::NULLEXTERNREF, "(ref null noextern)"),
-        (RefType::NOEXTERN, "(ref noextern)"),
-        (RefType::NULLFUNCREF, "(ref null nofunc)"),
-        (RefType::NOFUNC, "(ref nofunc)"),
-        (RefType::EQREF, "(ref null eq)"),
-        (RefType::EQ, "(ref eq)"),
-        (RefType::STRUCTREF, "(ref null struct)"),
-        (RefType::STRUCT, "(ref struct)"),
-        (RefType::ARRAYREF, "(ref null array)"),
-        (RefType::ARRAY, "(ref array)"),
-        (RefType::I31REF, "(ref null i31)"),
-        (RefType::I31, "(ref i31)"),
-        (RefType::EXNREF, "(ref null exn)"),
-        (RefType::EXN, "(ref exn)"),
-        (RefType::NULLEXNREF, "(ref null noexn)"),
-        (RefType::NOEXN, "(ref noexn)"),
-        (RefType::CONTREF, "(ref null cont)"),
-        (RefType::CONT, "(ref cont)"),
-        (RefType::NULLCONTREF, "(ref null nocont)"),
-        (RefType::NOCONT, "(ref nocont)"),
-    ];
-    for (ty, text) in texts {
-        let wat = ty.wat(rt.alloc())?;
-        assert_eq!(rt; wat.as_str(), text);
-        let written = format!(in rt.alloc(); "{ty}")?;
-        assert_eq!(rt; written.as_str(), text);
+    for (ty, text) in REFERENCES {
+        assert!(rt; is_wat(rt.alloc(), ty, text)?, "{text}");
+        assert!(rt; is_written(rt.alloc(), &ty, text)?, "{text}");
     }
     Ok(())
 }
@@ -59,8 +75,7 @@ fn heap_types(rt: HostRuntime) -> Result<(), Fail> {
         (HeapType::Concrete(id), "3"),
     ];
     for (ty, text) in texts {
-        let written = format!(in rt.alloc(); "{ty}")?;
-        assert_eq!(rt; written.as_str(), text);
+        assert!(rt; is_written(rt.alloc(), &ty, text)?, "{text}");
     }
     Ok(())
 }
@@ -68,10 +83,13 @@ fn heap_types(rt: HostRuntime) -> Result<(), Fail> {
 #[test]
 fn references_by_index(rt: HostRuntime) -> Result<(), Fail> {
     let index = PackedIndex::from_module_index(983_040).ok_or("no index")?;
-    let concrete = RefType::concrete(true, index).wat(rt.alloc())?;
-    assert_eq!(rt; concrete.as_str(), "(ref null 983040)");
-    let exact = RefType::exact(false, index).wat(rt.alloc())?;
-    assert_eq!(rt; exact.as_str(), "(ref (exact 983040))");
+    let texts = [
+        (RefType::concrete(true, index), "(ref null 983040)"),
+        (RefType::exact(false, index), "(ref (exact 983040))"),
+    ];
+    for (ty, text) in texts {
+        assert!(rt; is_wat(rt.alloc(), ty, text)?, "{text}");
+    }
     Ok(())
 }
 
@@ -86,10 +104,8 @@ fn values(rt: HostRuntime) -> Result<(), Fail> {
         (ValType::EXNREF, "(ref null exn)"),
     ];
     for (ty, text) in texts {
-        let written = format!(in rt.alloc(); "{ty}")?;
-        assert_eq!(rt; written.as_str(), text);
-        let debug = format!(in rt.alloc(); "{ty:?}")?;
-        assert_eq!(rt; debug.as_str(), text);
+        assert!(rt; is_written(rt.alloc(), &ty, text)?, "{text}");
+        assert!(rt; is_debug(rt.alloc(), &ty, text)?, "{text}");
     }
     Ok(())
 }

@@ -1,10 +1,11 @@
 // What is rewritten, to what, and with which places.
 use crate::pieces::{
-    CODE, EXPORT, FUNCTION, HEADER, NOP_CODE, TWO_FUNCTIONS, TYPE, check_rewritten, exported,
-    fault_of, smallest, with_places,
+    CODE, EXPORT, FUNCTION, HEADER, NOP_CODE, SMALLEST, TWO_FUNCTIONS, TYPE, check_rewritten,
+    exported, fault_in, is_module, with_places,
 };
+use std::alloc::Global;
 use std::test::Fail;
-use wasm_rewriter::{Fault, Options, Space, rewrite};
+use wasm_rewriter::{Fault, Options, Rewritten, Space, rewrite};
 
 #[test]
 fn bodies_are_written_in_normal_form(rt: HostRuntime) -> Result<(), Fail> {
@@ -28,8 +29,8 @@ fn bodies_are_written_in_normal_form(rt: HostRuntime) -> Result<(), Fail> {
         ),
     ];
     for (code, new_code, places) in examples {
-        let input = exported(rt.alloc(), code)?;
-        let output = exported(rt.alloc(), new_code)?;
+        let input = [HEADER, TYPE, FUNCTION, EXPORT, code];
+        let output = [HEADER, TYPE, FUNCTION, EXPORT, new_code];
         check_rewritten(&rt, rt.alloc(), &input, &output, places)?;
     }
     Ok(())
@@ -39,28 +40,28 @@ fn bodies_are_written_in_normal_form(rt: HostRuntime) -> Result<(), Fail> {
 fn what_nothing_reaches_goes(rt: HostRuntime) -> Result<(), Fail> {
     let second_exported: &[u8] = b"\x07\x05\x01\x01f\x00\x01";
     let code: &[u8] = b"\x0a\x08\x02\x03\x00\x0f\x0b\x02\x00\x0b";
-    let input = [HEADER, TYPE, TWO_FUNCTIONS, second_exported, code].concat(rt.alloc())?;
-    check_rewritten(&rt, rt.alloc(), &input, &smallest(rt.alloc())?, &[(7, 3)])
+    let input = [HEADER, TYPE, TWO_FUNCTIONS, second_exported, code];
+    check_rewritten(&rt, rt.alloc(), &input, &SMALLEST, &[(7, 3)])
 }
 
 #[test]
 fn equal_types_merge(rt: HostRuntime) -> Result<(), Fail> {
     let types: &[u8] = b"\x01\x07\x02\x60\x00\x00\x60\x00\x00";
     let function_of_the_second: &[u8] = b"\x03\x02\x01\x01";
-    let input = [HEADER, types, function_of_the_second, EXPORT, CODE].concat(rt.alloc())?;
-    check_rewritten(&rt, rt.alloc(), &input, &smallest(rt.alloc())?, &[(3, 3)])
+    let input = [HEADER, types, function_of_the_second, EXPORT, CODE];
+    check_rewritten(&rt, rt.alloc(), &input, &SMALLEST, &[(3, 3)])
 }
 
 #[test]
 fn padded_numbers_are_written_short(rt: HostRuntime) -> Result<(), Fail> {
     let padded: &[u8] = b"\x01\x84\x00\x01\x60\x00\x00";
-    let input = [HEADER, padded, FUNCTION, EXPORT, CODE].concat(rt.alloc())?;
-    check_rewritten(&rt, rt.alloc(), &input, &smallest(rt.alloc())?, &[(3, 3)])
+    let input = [HEADER, padded, FUNCTION, EXPORT, CODE];
+    check_rewritten(&rt, rt.alloc(), &input, &SMALLEST, &[(3, 3)])
 }
 
 #[test]
 fn a_header_stays_alone(rt: HostRuntime) -> Result<(), Fail> {
-    check_rewritten(&rt, rt.alloc(), HEADER, HEADER, &[])
+    check_rewritten(&rt, rt.alloc(), &[HEADER], &[HEADER], &[])
 }
 
 #[test]
@@ -68,33 +69,33 @@ fn producers_tell_who_processed_a_module(rt: HostRuntime) -> Result<(), Fail> {
     let mut options = with_places();
     options.producers = true;
     let producers: &[u8] = b"\x00\x27\x09producers\x01\x0cprocessed-by\x01\x06walrus\x060.28.0";
-    let output = [HEADER, producers].concat(rt.alloc())?;
     let rewritten = rewrite(rt.alloc(), HEADER, &options)?;
-    assert_eq!(rt; rewritten.bytes.as_slice(), output.as_slice());
+    assert!(rt; is_module(rt.alloc(), &rewritten.bytes, &[HEADER, producers])?);
     let pairs = rewritten.places.expect(&rt, "no places");
     assert!(rt; pairs.is_empty());
     Ok(())
+}
+
+// What a function of one `nop` is rewritten to.
+fn rewritten(alloc: Global, options: &Options) -> Result<Rewritten, Fail> {
+    let input = exported(alloc, NOP_CODE)?;
+    Ok(rewrite(alloc, &input, options)?)
 }
 
 #[test]
 fn places_are_given_where_asked_for(rt: HostRuntime) -> Result<(), Fail> {
     let mut options = with_places();
     options.places = false;
-    let input = exported(rt.alloc(), NOP_CODE)?;
-    let output = smallest(rt.alloc())?;
-    let rewritten = rewrite(rt.alloc(), &input, &options)?;
-    assert_eq!(rt; rewritten.bytes.as_slice(), output.as_slice());
+    let rewritten = rewritten(rt.alloc(), &options)?;
+    assert!(rt; is_module(rt.alloc(), &rewritten.bytes, &SMALLEST)?);
     assert!(rt; rewritten.places.is_none());
     Ok(())
 }
 
 #[test]
 fn a_copy_has_the_same_bytes_and_places(rt: HostRuntime) -> Result<(), Fail> {
-    let input = exported(rt.alloc(), NOP_CODE)?;
-    let output = smallest(rt.alloc())?;
-    let rewritten = rewrite(rt.alloc(), &input, &with_places())?;
-    let copy = rewritten.clone()?;
-    assert_eq!(rt; copy.bytes.as_slice(), output.as_slice());
+    let copy = rewritten(rt.alloc(), &with_places())?.clone()?;
+    assert!(rt; is_module(rt.alloc(), &copy.bytes, &SMALLEST)?);
     let pairs = copy.places.expect(&rt, "no places");
     assert_eq!(rt; pairs.as_slice(), [(4, 3)].as_slice());
     Ok(())
@@ -102,10 +103,10 @@ fn a_copy_has_the_same_bytes_and_places(rt: HostRuntime) -> Result<(), Fail> {
 
 #[test]
 fn an_export_of_a_missing_function_is_refused(rt: HostRuntime) -> Result<(), Fail> {
-    let input = [HEADER, EXPORT].concat(rt.alloc())?;
+    let input = [HEADER, EXPORT];
     let space = Space::Function;
     assert_eq!(rt;
-        fault_of(rt.alloc(), &input),
+        fault_in(rt.alloc(), &input)?,
         Some(Fault::Index { space, offset: 14 })
     );
     Ok(())

@@ -1,6 +1,7 @@
 // What faults say, and where they stand.
-use crate::pieces::{HEADER, fault_of};
+use crate::pieces::{HEADER, fault_in};
 use std::alloc::Global;
+use std::fmt::Display;
 use std::process::Abort;
 use std::test::Fail;
 use wasm_rewriter::{Fault, Form, Limited, Space};
@@ -57,8 +58,7 @@ fn faults_of_reading_tell_their_place(rt: HostRuntime) -> Result<(), Fail> {
         (b"\x01\x80\x80\x80\x80\x80", "number is too long", 13),
     ];
     for (section, text, offset) in inputs {
-        let input = [HEADER, section].concat(rt.alloc())?;
-        let fault = fault_of(rt.alloc(), &input).expect(&rt, "not refused");
+        let fault = fault_in(rt.alloc(), &[HEADER, section])?.expect(&rt, "not refused");
         assert!(rt; matches!(fault, Fault::Read(_)));
         check_text(&rt, rt.alloc(), fault, text, Some(offset))?;
     }
@@ -95,6 +95,17 @@ fn faults_outside_the_bytes_have_no_place(rt: HostRuntime) -> Result<(), Fail> {
     Ok(())
 }
 
+fn check_name<T: Display>(
+    rt: &impl Abort,
+    alloc: Global,
+    value: &T,
+    name: &str,
+) -> Result<(), Fail> {
+    let text = format!(in alloc; "{value}")?;
+    assert_eq!(rt; text.as_str(), name);
+    Ok(())
+}
+
 #[test]
 fn items_forms_and_limits_have_names(rt: HostRuntime) -> Result<(), Fail> {
     let spaces = [
@@ -110,7 +121,7 @@ fn items_forms_and_limits_have_names(rt: HostRuntime) -> Result<(), Fail> {
         (Space::Label, "label"),
     ];
     for (space, name) in spaces {
-        assert_eq!(rt; space.to_string(rt.alloc())?.as_str(), name);
+        check_name(&rt, rt.alloc(), &space, name)?;
     }
     let forms = [
         (Form::SharedTable, "shared table"),
@@ -122,7 +133,7 @@ fn items_forms_and_limits_have_names(rt: HostRuntime) -> Result<(), Fail> {
         (Form::Later, "later"),
     ];
     for (form, name) in forms {
-        assert_eq!(rt; form.to_string(rt.alloc())?.as_str(), name);
+        check_name(&rt, rt.alloc(), &form, name)?;
     }
     let limits = [
         (Limited::Types, "types"),
@@ -142,7 +153,7 @@ fn items_forms_and_limits_have_names(rt: HostRuntime) -> Result<(), Fail> {
         (Limited::String, "string"),
     ];
     for (of, name) in limits {
-        assert_eq!(rt; of.to_string(rt.alloc())?.as_str(), name);
+        check_name(&rt, rt.alloc(), &of, name)?;
     }
     Ok(())
 }

@@ -13,16 +13,21 @@ fn push_u32(out: &mut Vec<u8>, n: usize) -> Result<(), AllocError> {
     Ok(())
 }
 
-// The body of a function that calls the functions 1 to 127, and function 0 so many times.
-fn caller(alloc: Global, calls: usize) -> Result<Vec<u8>, AllocError> {
-    let mut body = Vec::new(alloc);
-    body.push(0x00)?;
+fn push_calls(body: &mut Vec<u8>, calls: usize) -> Result<(), AllocError> {
     for function in 1..128u8 {
         body.extend_from_slice(&[0x10, function])?;
     }
     for _ in 0..calls {
         body.extend_from_slice(b"\x10\x00")?;
     }
+    Ok(())
+}
+
+// The body of a function that calls the functions 1 to 127, and function 0 so many times.
+fn caller(alloc: Global, calls: usize) -> Result<Vec<u8>, AllocError> {
+    let mut body = Vec::new(alloc);
+    body.push(0x00)?;
+    push_calls(&mut body, calls)?;
     body.push(0x0b)?;
     Ok(body)
 }

@@ -20,6 +20,9 @@ pub const CODE: &[u8] = b"\x0a\x04\x01\x02\x00\x0b";
 /// One body, of a `nop`.
 pub const NOP_CODE: &[u8] = b"\x0a\x05\x01\x03\x00\x01\x0b";
 
+/// An exported function that does nothing.
+pub const SMALLEST: [&[u8]; 5] = [HEADER, TYPE, FUNCTION, EXPORT, CODE];
+
 /// An exported function of this code section.
 pub fn exported(alloc: Global, code: &[u8]) -> Result<Vec<u8>, AllocError> {
     [HEADER, TYPE, FUNCTION, EXPORT, code].concat(alloc)
@@ -27,7 +30,7 @@ pub fn exported(alloc: Global, code: &[u8]) -> Result<Vec<u8>, AllocError> {
 
 /// An exported function that does nothing.
 pub fn smallest(alloc: Global) -> Result<Vec<u8>, AllocError> {
-    exported(alloc, CODE)
+    SMALLEST.concat(alloc)
 }
 
 /// No names and no producers, but places.
@@ -39,8 +42,8 @@ pub fn with_places() -> Options {
     options
 }
 
-/// Asserts that `input` is rewritten to `output`, with these places, and `output` to itself.
-pub fn check_rewritten(
+// Asserts that the bytes are rewritten to the others, with these places.
+fn check_bytes(
     rt: &impl Abort,
     alloc: Global,
     input: &[u8],
@@ -51,9 +54,40 @@ pub fn check_rewritten(
     assert_eq!(rt; rewritten.bytes.as_slice(), output);
     let pairs = rewritten.places.expect(rt, "no places");
     assert_eq!(rt; pairs.as_slice(), places);
+    Ok(())
+}
+
+fn check_again(rt: &impl Abort, alloc: Global, output: &[u8]) -> Result<(), Fail> {
     let again = rewrite(alloc, output, &with_places())?;
     assert_eq!(rt; again.bytes.as_slice(), output);
     Ok(())
+}
+
+/// Asserts that the module of the pieces `input` is rewritten to that of `output`, with these places, and that to
+/// itself.
+pub fn check_rewritten(
+    rt: &impl Abort,
+    alloc: Global,
+    input: &[&[u8]],
+    output: &[&[u8]],
+    places: &[(u32, u32)],
+) -> Result<(), Fail> {
+    let input = input.concat(alloc)?;
+    let output = output.concat(alloc)?;
+    check_bytes(rt, alloc, &input, &output, places)?;
+    check_again(rt, alloc, &output)
+}
+
+/// Whether the bytes are the module of these pieces.
+pub fn is_module(alloc: Global, bytes: &[u8], pieces: &[&[u8]]) -> Result<bool, AllocError> {
+    let wanted = pieces.concat(alloc)?;
+    Ok(bytes == wanted.as_slice())
+}
+
+/// Why the module of these pieces is refused, if it is.
+pub fn fault_in(alloc: Global, pieces: &[&[u8]]) -> Result<Option<Fault>, AllocError> {
+    let bytes = pieces.concat(alloc)?;
+    Ok(fault_of(alloc, &bytes))
 }
 
 /// Why `bytes` are refused, if they are.

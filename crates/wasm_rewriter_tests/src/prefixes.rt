@@ -3,18 +3,29 @@ use crate::pieces::{HEADER, NOP_CODE, exported, with_places};
 use std::test::Fail;
 use wasm_rewriter::rewrite;
 
-// Why the first `len` bytes of a function of one `nop` are refused, and where; `None` for whole modules.
+// The lengths from one to another at which a function of one `nop` is refused, why, and where.
+const REFUSALS: [(usize, usize, &str, usize); 11] = [
+    (0, 7, "not a WebAssembly module", 0),
+    (9, 9, "unexpected end", 9),
+    (10, 13, "section size is wrong", 9),
+    (15, 15, "unexpected end", 15),
+    (16, 17, "section size is wrong", 15),
+    (18, 18, "counts do not agree", 18),
+    (19, 19, "unexpected end", 19),
+    (20, 24, "section size is wrong", 19),
+    (25, 25, "counts do not agree", 25),
+    (26, 26, "unexpected end", 26),
+    (27, 31, "section size is wrong", 26),
+];
+
+// Why the first `len` bytes are refused, and where; `None` for whole modules.
 fn refusal(len: usize) -> Option<(&'static str, usize)> {
-    match len {
-        0..8 => Some(("not a WebAssembly module", 0)),
-        9 | 15 | 19 | 26 => Some(("unexpected end", len)),
-        10..14 => Some(("section size is wrong", 9)),
-        16 | 17 => Some(("section size is wrong", 15)),
-        18 | 25 => Some(("counts do not agree", len)),
-        20..25 => Some(("section size is wrong", 19)),
-        27..32 => Some(("section size is wrong", 26)),
-        _ => None,
+    for (first, last, text, place) in REFUSALS {
+        if first <= len && len <= last {
+            return Some((text, place));
+        }
     }
+    None
 }
 
 #[test]

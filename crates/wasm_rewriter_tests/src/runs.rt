@@ -1,45 +1,53 @@
 // Where devices fail, and what stands then.
 use crate::pieces::{EXPORT, HEADER, NOP_CODE, exported, smallest, with_places};
 use std::alloc::Global;
+use std::process::Abort;
 use std::test::Fail;
 use wasm_rewriter::{Fault, MemorySink, MemorySource, SinkFail, Space, Summary, run};
 
-// What a run on these bytes answers, with what both sinks took.
-fn outcome(
+// Where the devices of a run fail: the reader before this read, and the two writers.
+type Failing = (Option<u64>, SinkFail, SinkFail);
+
+// Asserts that a run on these bytes answers this, and what both sinks took.
+fn check_run(
+    rt: &impl Abort,
     alloc: Global,
     bytes: &[u8],
-    failing_read: Option<u64>,
-    fail: SinkFail,
-    places_fail: SinkFail,
-) -> Result<(Result<Summary, Fault>, MemorySink, MemorySink), Fail> {
+    failing: Failing,
+    answer: Result<Summary, Fault>,
+    taken: (&[u8], &[u8]),
+) -> Result<(), Fail> {
+    let (failing_read, fail, places_fail) = failing;
     let mut source = MemorySource::new(bytes, failing_read);
     let mut sink = MemorySink::new(alloc, 40, fail)?;
     let mut places = MemorySink::new(alloc, 8, places_fail)?;
-    let answer = run(alloc, &mut source, &mut sink, &mut places, &with_places());
-    Ok((answer, sink, places))
+    let found = run(alloc, &mut source, &mut sink, &mut places, &with_places());
+    assert_eq!(rt; found, answer, "{fail:?} {places_fail:?}");
+    assert_eq!(rt;
+        (sink.bytes(), places.bytes()),
+        taken,
+        "{fail:?} {places_fail:?}"
+    );
+    Ok(())
 }
 
 #[test]
 fn what_is_written_is_counted(rt: HostRuntime) -> Result<(), Fail> {
     let input = exported(rt.alloc(), NOP_CODE)?;
     let output = smallest(rt.alloc())?;
-    let (answer, sink, places) = outcome(
+    let answer = Ok(Summary {
+        bytes: 31,
+        places: 1,
+    });
+    let failing = (None, SinkFail::Never, SinkFail::Never);
+    check_run(
+        &rt,
         rt.alloc(),
         &input,
-        None,
-        SinkFail::Never,
-        SinkFail::Never,
-    )?;
-    assert_eq!(rt;
+        failing,
         answer,
-        Ok(Summary {
-            bytes: 31,
-            places: 1
-        })
-    );
-    assert_eq!(rt; sink.bytes(), output.as_slice());
-    assert_eq!(rt; places.bytes(), b"4 3\n".as_slice());
-    Ok(())
+        (&output, b"4 3\n"),
+    )
 }
 
 #[test]
@@ -48,24 +56,16 @@ fn a_writer_that_fails_has_the_first_bytes(rt: HostRuntime) -> Result<(), Fail> 
     let output = smallest(rt.alloc())?;
     assert_eq!(rt; output.len(), 31);
     for written in 0..31u64 {
+        let answer = Err(Fault::WriterFault { written });
+        let front = &output[..written as usize];
         for fail in [SinkFail::After(written), SinkFail::Zero(written)] {
-            let (answer, sink, places) = outcome(rt.alloc(), &input, None, fail, SinkFail::Never)?;
-            assert_eq!(rt; answer, Err(Fault::WriterFault { written }), "{fail:?}");
-            assert_eq!(rt; sink.bytes(), &output[..written as usize], "{fail:?}");
-            assert!(rt; places.bytes().is_empty(), "{fail:?}");
+            let failing = (None, fail, SinkFail::Never);
+            check_run(&rt, rt.alloc(), &input, failing, answer, (front, b""))?;
         }
     }
-    let (answer, sink, places) = outcome(
-        rt.alloc(),
-        &input,
-        None,
-        SinkFail::Flush,
-        SinkFail::Never,
-    )?;
-    assert_eq!(rt; answer, Err(Fault::WriterFault { written: 31 }));
-    assert_eq!(rt; sink.bytes(), output.as_slice());
-    assert!(rt; places.bytes().is_empty());
-    Ok(())
+    let answer = Err(Fault::WriterFault { written: 31 });
+    let failing = (None, SinkFail::Flush, SinkFail::Never);
+    check_run(&rt, rt.alloc(), &input, failing, answer, (&output, b""))
 }
 
 #[test]
@@ -80,39 +80,33 @@ fn a_places_writer_that_fails_has_the_first_of_the_lines(rt: HostRuntime) -> Res
         (SinkFail::Flush, 4),
     ];
     for (fail, written) in fates {
-        let (answer, sink, places) = outcome(rt.alloc(), &input, None, SinkFail::Never, fail)?;
-        assert_eq!(rt; answer, Err(Fault::PlacesFault { written }), "{fail:?}");
-        assert_eq!(rt; sink.bytes(), output.as_slice(), "{fail:?}");
-        assert_eq!(rt; places.bytes(), &b"4 3\n"[..written as usize], "{fail:?}");
+        let answer = Err(Fault::PlacesFault { written });
+        let lines = &b"4 3\n"[..written as usize];
+        let failing = (None, SinkFail::Never, fail);
+        check_run(&rt, rt.alloc(), &input, failing, answer, (&output, lines))?;
     }
     Ok(())
 }
 
 #[test]
-fn nothing_is_written_of_what_is_not_read_or_refused(rt: HostRuntime) -> Result<(), Fail> {
+fn nothing_is_written_of_what_is_not_read(rt: HostRuntime) -> Result<(), Fail> {
     let input = exported(rt.alloc(), NOP_CODE)?;
-    // An export of a function that isn't there.
-    let refused = [HEADER, EXPORT].concat(rt.alloc())?;
-    let index = Fault::Index {
-        space: Space::Function,
-        offset: 14,
-    };
-    let inputs = [
-        (input.as_slice(), Some(0), Fault::ReaderFault),
-        (input.as_slice(), Some(1), Fault::ReaderFault),
-        (refused.as_slice(), None, index),
-    ];
-    for (bytes, failing_read, want) in inputs {
-        let (answer, sink, places) = outcome(
-            rt.alloc(),
-            bytes,
-            failing_read,
-            SinkFail::Never,
-            SinkFail::Never,
-        )?;
-        assert_eq!(rt; answer, Err(want));
-        assert!(rt; sink.bytes().is_empty());
-        assert!(rt; places.bytes().is_empty());
+    let answer = Err(Fault::ReaderFault);
+    for failing_read in [0, 1] {
+        let failing = (Some(failing_read), SinkFail::Never, SinkFail::Never);
+        check_run(&rt, rt.alloc(), &input, failing, answer, (b"", b""))?;
     }
     Ok(())
+}
+
+#[test]
+fn nothing_is_written_of_what_is_refused(rt: HostRuntime) -> Result<(), Fail> {
+    // An export of a function that isn't there.
+    let refused = [HEADER, EXPORT].concat(rt.alloc())?;
+    let answer = Err(Fault::Index {
+        space: Space::Function,
+        offset: 14,
+    });
+    let failing = (None, SinkFail::Never, SinkFail::Never);
+    check_run(&rt, rt.alloc(), &refused, failing, answer, (b"", b""))
 }
