@@ -5,7 +5,9 @@ use wasm_rewriter::Fault;
 /// A fault, and for one of a file the word that names it and what the system said.
 #[derive(Drop)]
 pub struct Failure<'a> {
+    /// The fault.
     pub fault: Fault,
+    /// The word of the file, and what the system said.
     pub cause: Option<(&'a str, io::Error)>,
 }
 

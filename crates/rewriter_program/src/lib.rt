@@ -14,6 +14,6 @@ mod words;
 pub use failure::Failure;
 pub use input::InputFile;
 pub use output::OutputFile;
-pub use program::{run_words, status};
+pub use program::{Targets, rewrite_files, run_words, status};
 pub use target::{FileId, Place, Target, locate};
 pub use words::{Job, Mistake, job_of, mistake_of, words_of};

@@ -51,14 +51,7 @@ fn run_job<R: Files + Input + Print + Eprint + AllocGlobal>(rt: &R, job: &Job<'_
         Err(_) => return fail(rt, &Failure::from(Fault::Memory)),
     };
     match targets.mistake {
-        Some(Mistake::PlacesIsOutput) => tell(
-            rt,
-            &wrong_words(rt.alloc(), "OUTPUT and FILE are one file"),
-        ),
-        Some(Mistake::PlacesIsInput) => tell(
-            rt,
-            &wrong_words(rt.alloc(), "INPUT and FILE are one file"),
-        ),
+        Some(mistake) => tell(rt, &wrong_words(rt.alloc(), mistake.text())),
         None => match rewrite_files(rt, job, &targets) {
             Ok(()) => 0,
             Err(failure) => fail(rt, &failure),
@@ -66,16 +59,24 @@ fn run_job<R: Files + Input + Print + Eprint + AllocGlobal>(rt: &R, job: &Job<'_
     }
 }
 
-// Where the job's bytes and places go, and what is wrong with that.
+/// Where the job's bytes and places go, and what is wrong with that.
 #[derive(Drop)]
-struct Targets {
-    output: Target,
-    places: Target,
-    mistake: Option<Mistake>,
+pub struct Targets {
+    /// Where the bytes go.
+    pub output: Target,
+    /// Where the places go.
+    pub places: Target,
+    /// Which files are one and may not be.
+    pub mistake: Option<Mistake>,
 }
 
 impl Targets {
-    fn of<R: Files + AllocGlobal>(rt: &R, job: &Job<'_>) -> io::Result<Targets> {
+    /// The targets of a job's words. Nothing is opened.
+    ///
+    /// # Errors
+    ///
+    /// Want of memory.
+    pub fn of<R: Files + AllocGlobal>(rt: &R, job: &Job<'_>) -> io::Result<Targets> {
         let (output_id, output) = locate(rt, job.output)?;
         let Some(file) = job.places else {
             return Ok(Targets {
@@ -99,8 +100,12 @@ impl Targets {
     }
 }
 
-// Rewrites the input's file to the output's, and the places to theirs.
-fn rewrite_files<'a, R: Files + Input + Print + AllocGlobal>(
+/// Rewrites the input's file to the output's, and the places to theirs.
+///
+/// # Errors
+///
+/// The fault of the run; for one of a file with the word that names it and what the system said.
+pub fn rewrite_files<'a, R: Files + Input + Print + AllocGlobal>(
     rt: &R,
     job: &Job<'a>,
     targets: &Targets,

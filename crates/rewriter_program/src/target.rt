@@ -97,7 +97,9 @@ pub fn locate<R: Files + AllocGlobal>(rt: &R, word: &str) -> io::Result<(FileId,
     match fs::metadata(rt, word) {
         Ok(there) => {
             let id = FileId::of(&there);
-            let path = follow(rt, word)?;
+            let Some(path) = follow(rt, word)? else {
+                return Ok((id, direct(rt, word)?));
+            };
             // The link of an open file that was deleted names none.
             let is_found = there.is_file() && id_of(rt, path.as_str()).is_same(&id);
             match folder_of(rt, &path)? {
@@ -109,11 +111,13 @@ pub fn locate<R: Files + AllocGlobal>(rt: &R, word: &str) -> io::Result<(FileId,
                         there: Some(there),
                     }),
                 )),
-                _ => Ok((id, Target::Direct(PathBuf::from_str(rt.alloc(), word)?))),
+                _ => Ok((id, direct(rt, word)?)),
             }
         }
         Err(e) if e.kind() == ErrorKind::NotFound => {
-            let path = follow(rt, word)?;
+            let Some(path) = follow(rt, word)? else {
+                return Ok((FileId::Unknown, direct(rt, word)?));
+            };
             match folder_of(rt, &path)? {
                 Some(folder) => {
                     let id = missing_in(rt, &folder, &path)?;
@@ -130,11 +134,12 @@ pub fn locate<R: Files + AllocGlobal>(rt: &R, word: &str) -> io::Result<(FileId,
             }
         }
         // Opening it will say the same.
-        Err(_) => Ok((
-            FileId::Unknown,
-            Target::Direct(PathBuf::from_str(rt.alloc(), word)?),
-        )),
+        Err(_) => Ok((FileId::Unknown, direct(rt, word)?)),
     }
+}
+
+fn direct<R: AllocGlobal>(rt: &R, word: &str) -> io::Result<Target> {
+    Ok(Target::Direct(PathBuf::from_str(rt.alloc(), word)?))
 }
 
 /// The file that is read under a word.
@@ -171,17 +176,31 @@ fn missing_in<R: Files + AllocGlobal>(
     })
 }
 
-// Where the link that stands at the path leads, and the next, to a path at which no link stands.
-fn follow<R: Files + AllocGlobal>(rt: &R, word: &str) -> io::Result<PathBuf> {
+// Where the link that stands at the path leads, and the next, to a path at which no link stands. None where a link
+// can't be told, as one that is no UTF-8 text.
+fn follow<R: Files + AllocGlobal>(rt: &R, word: &str) -> io::Result<Option<PathBuf>> {
     let mut path = PathBuf::from_str(rt.alloc(), word)?;
     for _ in 0..MAX_LINKS {
-        let Ok(link) = fs::read_link(rt, path.as_str()) else {
-            break;
-        };
-        path.pop();
-        path.push(link.as_path())?;
+        if !is_link(rt, &path) {
+            return Ok(Some(path));
+        }
+        match fs::read_link(rt, path.as_str()) {
+            Ok(link) => {
+                path.pop();
+                path.push(link.as_path())?;
+            }
+            Err(e) if e.kind() == ErrorKind::OutOfMemory => return Err(e),
+            Err(_) => return Ok(None),
+        }
     }
-    Ok(path)
+    Ok(None)
+}
+
+fn is_link<R: Files>(rt: &R, path: &PathBuf) -> bool {
+    match fs::symlink_metadata(rt, path.as_str()) {
+        Ok(there) => there.is_symlink(),
+        Err(_) => false,
+    }
 }
 
 // The folder of a path that ends in a name.

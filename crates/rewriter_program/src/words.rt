@@ -27,8 +27,20 @@ pub struct Job<'a> {
 /// Two files that are one, and may not be.
 #[derive(Clone, Copy, Debug, PartialEq, Eq)]
 pub enum Mistake {
+    /// OUTPUT and FILE.
     PlacesIsOutput,
+    /// INPUT and FILE.
     PlacesIsInput,
+}
+
+impl Mistake {
+    /// What is said of it.
+    pub fn text(self) -> &'static str {
+        match self {
+            Mistake::PlacesIsOutput => "OUTPUT and FILE are one file",
+            Mistake::PlacesIsInput => "INPUT and FILE are one file",
+        }
+    }
 }
 
 /// What is wrong where these files are named. OUTPUT may be INPUT.

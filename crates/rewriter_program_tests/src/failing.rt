@@ -195,3 +195,22 @@ fn a_failed_output_leaves_the_old_file_and_no_other(rt: HostRuntime) -> Result<(
     }
     folder.remove()
 }
+
+// This host can't say where a link leads, as one that is no UTF-8 text.
+#[test]
+fn a_link_that_cannot_be_told_is_written_through(rt: HostRuntime) -> Result<(), Fail> {
+    let folder = Folder::new(&rt, "untold")?;
+    folder.with("output", b"old")?;
+    folder.with_link("output", "link")?;
+    let host = Host {
+        rt: &rt,
+        failing: Failing::Rename,
+    };
+    let link = folder.at("link")?;
+    let (_, target) = locate(&host, &link)?;
+    let mut sink = OutputFile::new(&host, &target);
+    assert_eq!(rt; sink.write(b"ne"), Ok(2));
+    assert_eq!(rt; sink.flush(), Ok(()));
+    assert!(rt; folder.is_link("link")? && folder.holds("output", b"ne")?);
+    folder.remove()
+}
