@@ -237,8 +237,7 @@ fn tables(rt: HostRuntime) -> Result<(), Fail> {
 // The operators of the expression, of which two are added to the list.
 fn push_sum(expr: &ConstExpr, ops: &mut Vec<ConstOp>) -> Result<(), AllocError> {
     expr.push_ops(ops)?;
-    ops.push(ConstOp::I32Const(8))?;
-    ops.push(ConstOp::I32Add)?;
+    ops.extend_from_slice(&[ConstOp::I32Const(8), ConstOp::I32Add])?;
     Ok(())
 }
 
