@@ -3,8 +3,6 @@
 
 mod functions;
 mod numbers;
-#[cfg(test)]
-mod tests;
 mod types;
 
 ghost use Rattle.std.specs.Prelude.{◌≡◌, ℕ, ◌<◌, ◌≤◌, ◌^◌, IfOk, IfSome, All, Contains, map, slice_index, vec_len};

@@ -1,4 +1,5 @@
 // Each call once, with ample memory.
+use std::alloc::Global;
 use std::cell::Cell;
 use std::mem::size_of;
 use std::test::Fail;
@@ -12,6 +13,11 @@ struct Word(u32);
 
 impl Tombstone for Word {
     fn on_delete(&mut self) {}
+}
+
+// No words, of which a test's proof is to know nothing.
+fn words(alloc: Global) -> TombstoneArena<Word, TypeSpace> {
+    TombstoneArena::new(alloc)
 }
 
 // Counts how often it is told that it is deleted.
@@ -37,7 +43,7 @@ fn deleting_is_told_once(rt: HostRuntime) -> Result<(), Fail> {
 
 #[test]
 fn arena(rt: HostRuntime) -> Result<(), Fail> {
-    let mut arena: TombstoneArena<Word, TypeSpace> = TombstoneArena::new(rt.alloc());
+    let mut arena = words(rt.alloc());
     arena.reserve(3)?;
     let a = arena.alloc(Word(7))?;
     let b = arena.alloc_with_id(|id| Word(if id.index() == 1 { 1 } else { 0 }))?;
@@ -50,28 +56,45 @@ fn arena(rt: HostRuntime) -> Result<(), Fail> {
     assert_eq!(rt; arena.len(), 1);
     let c = arena.alloc(Word(9))?;
     assert_eq!(rt; c.index(), 2);
-    if let Some(item) = arena.get_mut(c) {
+    assert!(rt; is_written_over(&mut arena, c));
+    assert!(rt; are_told(&arena, &[1, 2]));
+    assert_eq!(rt; sum(&arena), 7);
+    Ok(())
+}
+
+// Whether the live word can be written over, by each of two ways.
+fn is_written_over(arena: &mut TombstoneArena<Word, TypeSpace>, id: TypeId) -> bool {
+    if let Some(item) = arena.get_mut(id) {
         *item = Word(4);
     }
-    assert!(rt; arena.contains(c));
-    assert_eq!(rt; arena[c].0, 4);
-    arena[c] = Word(6);
-    assert_eq!(rt; arena[c].0, 6);
+    if !arena.contains(id) || arena[id].0 != 4 {
+        return false;
+    }
+    arena[id] = Word(6);
+    arena.get(id).map_or(0, |word| word.0) == 6
+}
+
+// Whether these are the ids that are told, in this order.
+fn are_told(arena: &TombstoneArena<Word, TypeSpace>, wanted: &[usize]) -> bool {
     let mut ids = arena.ids();
-    assert_eq!(rt; ids.next().map_or(99, |id| id.index()), 1);
-    assert_eq!(rt; ids.next().map_or(99, |id| id.index()), 2);
-    assert!(rt; ids.next().is_none());
+    let mut agree = true;
+    for index in wanted {
+        agree &= ids.next().map_or(99, |id| id.index()) == *index;
+    }
+    agree && ids.next().is_none()
+}
+
+fn sum(arena: &TombstoneArena<Word, TypeSpace>) -> u32 {
     let mut sum = 0;
     for (_, word) in arena.iter() {
         sum ^= word.0;
     }
-    assert_eq!(rt; sum, 7);
-    Ok(())
+    sum
 }
 
 #[test]
 fn reserved(rt: HostRuntime) -> Result<(), Fail> {
-    let mut arena: TombstoneArena<Word, TypeSpace> = TombstoneArena::new(rt.alloc());
+    let mut arena = words(rt.alloc());
     arena.reserve(2)?;
     assert_eq!(rt; arena.alloc_reserved(Word(7)).index(), 0);
     let made = arena.alloc_with_id(|id| Word(if id.index() == 1 { 5 } else { 0 }))?;
@@ -110,7 +133,7 @@ fn maps(rt: HostRuntime) -> Result<(), Fail> {
 
 #[test]
 fn laws_can_be_cited(rt: HostRuntime) -> Result<(), Fail> {
-    let mut arena: TombstoneArena<Word, TypeSpace> = TombstoneArena::new(rt.alloc());
+    let mut arena = words(rt.alloc());
     arena.alloc(Word(7))?;
     laws::entries_are_live(&arena);
     laws::search_finds_lowest(&arena);

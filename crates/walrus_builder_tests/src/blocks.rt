@@ -7,7 +7,7 @@ use std::process::Abort;
 use std::test::Fail;
 use walrus_arena::InstrSeqId;
 use walrus_builder::{FunctionBuilder, InstrSeqBuilder};
-use walrus_instr::{Instr, InstrSeqType, Value};
+use walrus_instr::{Instr, InstrLocId, InstrSeqType, Value};
 use walrus_types::ValType;
 
 const LONG: InstrSeqType = InstrSeqType::Simple(Some(ValType::I64));
@@ -37,22 +37,26 @@ fn add_constants(seq: &mut InstrSeqBuilder) -> Result<(), AllocError> {
     seq.f64_const(9)
 }
 
+// Just these constants, without locations.
+fn are_constants(instrs: &[(Instr, InstrLocId)], values: &[Value]) -> bool {
+    let mut agree = instrs.len() == values.len();
+    for ((instr, place), wanted) in instrs.iter().zip(values) {
+        agree &= place.is_default() && is_constant(instr, *wanted);
+    }
+    agree
+}
+
 #[test]
 fn constants(rt: HostRuntime) -> Result<(), Fail> {
     let mut body = function(rt.alloc())?;
-    let seq = body.func_body();
-    add_constants(seq)?;
+    add_constants(body.func_body())?;
     let values = [
         Value::I32(-7),
         Value::I64(-8),
         Value::F32(0x7fc0_0001),
         Value::F64(9),
     ];
-    assert!(rt; seq.instrs().len() == values.len());
-    for ((instr, place), wanted) in seq.instrs().iter().zip(values) {
-        assert!(rt; place.is_default());
-        assert!(rt; is_constant(instr, wanted));
-    }
+    assert!(rt; are_constants(body.func_body().instrs(), &values));
     Ok(())
 }
 
@@ -77,16 +81,35 @@ fn insert_blocks(rt: &impl Abort, seq: &mut InstrSeqBuilder) -> Result<(), Alloc
     )
 }
 
+// The type and the constant of each of the sequences 1 to 8.
+const HELD: [(InstrSeqType, i32); 8] = [
+    (LONG, 1),
+    (PLAIN, 2),
+    (LONG, 3),
+    (LONG, 4),
+    (PLAIN, 5),
+    (LONG, 6),
+    (PLAIN, 7),
+    (PLAIN, 8),
+];
+
+fn holds_all(body: &FunctionBuilder) -> bool {
+    let mut agree = true;
+    for ((ty, value), id) in HELD.iter().zip(1..9) {
+        agree &= holds(body, id, *ty, *value);
+    }
+    agree
+}
+
 #[test]
 fn blocks(rt: HostRuntime) -> Result<(), Fail> {
     let mut body = function(rt.alloc())?;
-    let seq = body.func_body();
-    add_blocks(seq)?;
-    insert_blocks(&rt, seq)?;
-    assert_eq!(rt; seq.id().index(), 0);
+    add_blocks(body.func_body())?;
+    insert_blocks(&rt, body.func_body())?;
+    assert_eq!(rt; body.func_body().id().index(), 0);
     assert_rows(
         &rt,
-        seq.instrs(),
+        body.func_body().instrs(),
         &[
             ("if_else", 7, 8, 0),
             ("loop", 6, 0, 0),
@@ -97,34 +120,27 @@ fn blocks(rt: HostRuntime) -> Result<(), Fail> {
             ("if_else", 3, 4, 0),
         ],
     );
-    for (id, ty, value) in [
-        (1, LONG, 1),
-        (2, PLAIN, 2),
-        (3, LONG, 3),
-        (4, LONG, 4),
-        (5, PLAIN, 5),
-        (6, LONG, 6),
-        (7, PLAIN, 7),
-        (8, PLAIN, 8),
-    ] {
-        assert!(rt; holds(&body, id, ty, value));
-    }
+    assert!(rt; holds_all(&body));
     Ok(())
 }
 
-#[test]
-fn instr_at(rt: HostRuntime) -> Result<(), Fail> {
-    let mut body = function(rt.alloc())?;
-    let seq = body.func_body();
+// Two at the end, one between them, and one behind them.
+fn add_at(rt: &impl Abort, seq: &mut InstrSeqBuilder) -> Result<(), AllocError> {
     seq.instr(Instr::Drop)?;
     seq.instr(Instr::Return)?;
     assert!(rt; seq.instrs().len() == 2);
     seq.instr_at(1, Instr::ArrayLen)?;
     assert!(rt; seq.instrs().len() == 3);
-    seq.instr_at(3, Instr::RefEq)?;
+    seq.instr_at(3, Instr::RefEq)
+}
+
+#[test]
+fn instr_at(rt: HostRuntime) -> Result<(), Fail> {
+    let mut body = function(rt.alloc())?;
+    add_at(&rt, body.func_body())?;
     assert_rows(
         &rt,
-        seq.instrs(),
+        body.func_body().instrs(),
         &[
             ("drop", 0, 0, 0),
             ("array_len", 0, 0, 0),
@@ -135,22 +151,29 @@ fn instr_at(rt: HostRuntime) -> Result<(), Fail> {
     Ok(())
 }
 
-#[test]
-fn a_refused_block_leaves_its_sequence(rt: HostRuntime) -> Result<(), Fail> {
-    let mut body = function(rt.alloc())?;
-    let seq = body.func_body();
+// A block that is refused leaves the sequence with what is before it.
+fn check_left(rt: &impl Abort, seq: &mut InstrSeqBuilder) -> Result<(), AllocError> {
     seq.drop()?;
     let refused = seq.block(PLAIN, |_| Err(AllocError));
     assert!(rt; refused.is_err());
     assert_eq!(rt; seq.id(), InstrSeqId::from_index(0));
-    assert_rows(&rt, seq.instrs(), &[("drop", 0, 0, 0)]);
+    assert_rows(rt, seq.instrs(), &[("drop", 0, 0, 0)]);
     Ok(())
 }
 
 #[test]
-fn another_builder_without_that_sequence(rt: HostRuntime) -> Result<(), Fail> {
+fn a_refused_block_leaves_its_sequence(rt: HostRuntime) -> Result<(), Fail> {
     let mut body = function(rt.alloc())?;
-    let mut other = function(rt.alloc())?;
+    check_left(&rt, body.func_body())?;
+    Ok(())
+}
+
+// Puts another builder, which has the sequence 0 alone, in place of that which fills the sequence 1.
+fn put_smaller(
+    rt: &impl Abort,
+    body: &mut FunctionBuilder,
+    other: &mut FunctionBuilder,
+) -> Result<(), AllocError> {
     let begun = body.dangling_instr_seq(PLAIN)?;
     assert!(rt; begun.index() < body.seqs().len());
     let seq = body.instr_seq(begun);
@@ -160,11 +183,42 @@ fn another_builder_without_that_sequence(rt: HostRuntime) -> Result<(), Fail> {
         mem::swap(inner, put);
         Ok(())
     })?;
-    // It has the sequence 0 alone, and the block was for the sequence 1.
     assert_eq!(rt; seq.id().index(), 0);
-    assert_rows(&rt, seq.instrs(), &[("drop", 0, 0, 0)]);
+    assert_rows(rt, seq.instrs(), &[("drop", 0, 0, 0)]);
+    Ok(())
+}
+
+#[test]
+fn another_builder_without_that_sequence(rt: HostRuntime) -> Result<(), Fail> {
+    let mut body = function(rt.alloc())?;
+    let mut other = function(rt.alloc())?;
+    put_smaller(&rt, &mut body, &mut other)?;
     assert_eq!(rt; body.seqs().len(), 1);
     assert_eq!(rt; other.seqs().len(), 3);
+    Ok(())
+}
+
+// Puts another builder, whose sequence has one instruction, where a block is to go behind two.
+fn put_shorter(
+    rt: &impl Abort,
+    seq: &mut InstrSeqBuilder,
+    put: &mut InstrSeqBuilder,
+) -> Result<(), AllocError> {
+    seq.drop()?;
+    seq.return_()?;
+    assert!(rt; 2 <= seq.instrs().len());
+    put.unreachable()?;
+    seq.block_at(2, LONG, |inner| {
+        mem::swap(inner, put);
+        Ok(())
+    })?;
+    assert_eq!(rt; seq.id().index(), 0);
+    // The place is past its end.
+    assert_rows(
+        rt,
+        seq.instrs(),
+        &[("unreachable", 0, 0, 0), ("block", 1, 0, 0)],
+    );
     Ok(())
 }
 
@@ -172,22 +226,6 @@ fn another_builder_without_that_sequence(rt: HostRuntime) -> Result<(), Fail> {
 fn another_builder_with_that_sequence(rt: HostRuntime) -> Result<(), Fail> {
     let mut body = function(rt.alloc())?;
     let mut other = function(rt.alloc())?;
-    let seq = body.func_body();
-    seq.drop()?;
-    seq.return_()?;
-    assert!(rt; 2 <= seq.instrs().len());
-    let put = other.func_body();
-    put.unreachable()?;
-    seq.block_at(2, LONG, |inner| {
-        mem::swap(inner, put);
-        Ok(())
-    })?;
-    // Its sequence has one instruction, so that 2 is past the end.
-    assert_eq!(rt; seq.id().index(), 0);
-    assert_rows(
-        &rt,
-        seq.instrs(),
-        &[("unreachable", 0, 0, 0), ("block", 1, 0, 0)],
-    );
+    put_shorter(&rt, body.func_body(), other.func_body())?;
     Ok(())
 }

@@ -20,20 +20,24 @@ fn copies(
     Ok(all)
 }
 
-#[test]
-fn plain_instructions(rt: HostRuntime) -> Result<(), Fail> {
+fn plain(alloc: Global) -> Result<Vec<(Instr, InstrLocId)>, AllocError> {
     let none = InstrLocId::default();
     let func = FunctionId::from_index(3);
     let local = LocalId::from_index(3);
     let memory = MemoryId::from_index(3);
     let kind = LoadKind::F64;
     let arg = ARG;
-    let instrs = vec![in rt.alloc();
+    Ok(vec![in alloc;
         (Instr::Unreachable, none),
         (Instr::Call { func }, none),
         (Instr::LocalTee { local }, none),
         (Instr::Load { memory, kind, arg }, none),
-    ]?;
+    ]?)
+}
+
+#[test]
+fn plain_instructions(rt: HostRuntime) -> Result<(), Fail> {
+    let instrs = plain(rt.alloc())?;
     let all = copies(rt.alloc(), instrs.as_slice())?;
     assert_rows(
         &rt,
@@ -48,91 +52,118 @@ fn plain_instructions(rt: HostRuntime) -> Result<(), Fail> {
     Ok(())
 }
 
-#[test]
-fn labels(rt: HostRuntime) -> Result<(), Fail> {
-    let blocks = vec![in rt.alloc(); InstrSeqId::from_index(3), InstrSeqId::from_index(1)]?;
+fn choice(alloc: Global) -> Result<Instr, AllocError> {
+    let blocks = vec![in alloc; InstrSeqId::from_index(3), InstrSeqId::from_index(1)]?;
     let default = InstrSeqId::from_index(2);
-    let copy = Instr::BrTable { blocks, default }.clone()?;
-    assert!(rt;
-        matches!(&copy, Instr::BrTable { blocks, default }
-        if default.index() == 2
-            && matches!(blocks.as_slice(), [a, b] if a.index() == 3 && b.index() == 1))
-    );
-    Ok(())
+    Ok(Instr::BrTable { blocks, default })
+}
+
+fn is_choice(instr: &Instr) -> bool {
+    match instr {
+        Instr::BrTable { blocks, default } => {
+            default.index() == 2
+                && matches!(blocks.as_slice(), [a, b] if a.index() == 3 && b.index() == 1)
+        }
+        _ => false,
+    }
 }
 
 #[test]
-fn clauses(rt: HostRuntime) -> Result<(), Fail> {
+fn labels(rt: HostRuntime) -> Result<(), Fail> {
+    let copy = choice(rt.alloc())?.clone()?;
+    assert!(rt; is_choice(&copy));
+    Ok(())
+}
+
+fn each_clause() -> [TryTableCatch; 4] {
     let tag = TagId::from_index(6);
     let label = InstrSeqId::from_index(3);
-    let catches = vec![in rt.alloc();
+    [
         TryTableCatch::Catch { tag, label },
         TryTableCatch::CatchRef { tag, label },
         TryTableCatch::CatchAll { label },
         TryTableCatch::CatchAllRef { label },
-    ]?;
+    ]
+}
+
+fn with_clauses(alloc: Global) -> Result<Instr, AllocError> {
+    let catches = Vec::from_slice(alloc, &each_clause())?;
     let seq = InstrSeqId::from_index(8);
-    let copy = Instr::TryTable { seq, catches }.clone()?;
-    let Instr::TryTable { seq, catches } = &copy else {
-        assert!(rt; false);
-        return Ok(());
-    };
-    assert_eq!(rt; seq.index(), 8);
-    assert!(rt;
-        catches.as_slice()
-            == [
-                TryTableCatch::Catch { tag, label },
-                TryTableCatch::CatchRef { tag, label },
-                TryTableCatch::CatchAll { label },
-                TryTableCatch::CatchAllRef { label },
-            ]
-            .as_slice()
-    );
+    Ok(Instr::TryTable { seq, catches })
+}
+
+fn has_clauses(instr: &Instr) -> bool {
+    match instr {
+        Instr::TryTable { seq, catches } => {
+            seq.index() == 8 && catches.as_slice() == each_clause().as_slice()
+        }
+        _ => false,
+    }
+}
+
+#[test]
+fn clauses(rt: HostRuntime) -> Result<(), Fail> {
+    let copy = with_clauses(rt.alloc())?.clone()?;
+    assert!(rt; has_clauses(&copy));
     Ok(())
+}
+
+fn each_part() -> [LegacyCatch; 3] {
+    let tag = TagId::from_index(6);
+    let handler = InstrSeqId::from_index(3);
+    [
+        LegacyCatch::Catch { tag, handler },
+        LegacyCatch::CatchAll { handler },
+        LegacyCatch::Delegate { relative_depth: 4 },
+    ]
+}
+
+fn with_parts(alloc: Global) -> Result<Instr, AllocError> {
+    let catches = Vec::from_slice(alloc, &each_part())?;
+    let seq = InstrSeqId::from_index(8);
+    Ok(Instr::Try { seq, catches })
+}
+
+fn has_parts(instr: &Instr) -> bool {
+    match instr {
+        Instr::Try { seq, catches } => {
+            seq.index() == 8 && catches.as_slice() == each_part().as_slice()
+        }
+        _ => false,
+    }
 }
 
 #[test]
 fn parts(rt: HostRuntime) -> Result<(), Fail> {
-    let tag = TagId::from_index(6);
-    let handler = InstrSeqId::from_index(3);
-    let catches = vec![in rt.alloc();
-        LegacyCatch::Catch { tag, handler },
-        LegacyCatch::CatchAll { handler },
-        LegacyCatch::Delegate { relative_depth: 4 },
-    ]?;
-    let seq = InstrSeqId::from_index(8);
-    let copy = Instr::Try { seq, catches }.clone()?;
-    let Instr::Try { seq, catches } = &copy else {
-        assert!(rt; false);
-        return Ok(());
-    };
-    assert_eq!(rt; seq.index(), 8);
-    assert!(rt;
-        catches.as_slice()
-            == [
-                LegacyCatch::Catch { tag, handler },
-                LegacyCatch::CatchAll { handler },
-                LegacyCatch::Delegate { relative_depth: 4 },
-            ]
-            .as_slice()
-    );
+    let copy = with_parts(rt.alloc())?.clone()?;
+    assert!(rt; has_parts(&copy));
     Ok(())
+}
+
+const SINGLE: InstrSeqType = InstrSeqType::Simple(Some(ValType::F32));
+
+// A branch to itself and a `return`, with locations.
+fn sequence(alloc: Global) -> Result<InstrSeq, AllocError> {
+    let block = InstrSeqId::from_index(4);
+    let mut seq = InstrSeq::new(alloc, block, SINGLE);
+    seq.push((Instr::Br { block }, InstrLocId::new(7)))?;
+    seq.push((Instr::Return, InstrLocId::default()))?;
+    seq.end = InstrLocId::new(9);
+    Ok(seq)
+}
+
+fn is_sequence(seq: &InstrSeq) -> bool {
+    seq.id().index() == 4
+        && seq.ty == SINGLE
+        && seq.end.data() == 9
+        && matches!(seq.as_slice(), [(Instr::Br { block }, at), (Instr::Return, none)]
+        if block.index() == 4 && at.data() == 7 && none.is_default())
 }
 
 #[test]
 fn sequences(rt: HostRuntime) -> Result<(), Fail> {
-    let ty = InstrSeqType::Simple(Some(ValType::F32));
-    let block = InstrSeqId::from_index(4);
-    let mut seq = InstrSeq::new(rt.alloc(), block, ty);
-    seq.push((Instr::Br { block }, InstrLocId::new(7)))?;
-    seq.push((Instr::Return, InstrLocId::default()))?;
-    seq.end = InstrLocId::new(9);
-    let copy = seq.clone()?;
-    assert!(rt; copy.id() == block && copy.ty == ty && copy.end.data() == 9);
-    assert!(rt;
-        matches!(copy.as_slice(), [(Instr::Br { block }, at), (Instr::Return, none)]
-        if block.index() == 4 && at.data() == 7 && none.is_default())
-    );
+    let copy = sequence(rt.alloc())?.clone()?;
+    assert!(rt; is_sequence(&copy));
     Ok(())
 }
 

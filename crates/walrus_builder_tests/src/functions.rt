@@ -1,6 +1,7 @@
 //! Functions that are built, and their sequences.
 use crate::common::{PLAIN, function};
 use std::alloc::{AllocError, Global};
+use std::process::Abort;
 use std::test::Fail;
 use walrus_arena::InstrSeqId;
 use walrus_builder::{FunctionBuilder, InstrSeqBuilder};
@@ -17,13 +18,12 @@ fn names(rt: HostRuntime) -> Result<(), Fail> {
     Ok(())
 }
 
-#[test]
-fn dangling(rt: HostRuntime) -> Result<(), Fail> {
-    let mut body = function(rt.alloc())?;
-    let id = body.dangling_instr_seq(InstrSeqType::Simple(Some(ValType::F32)))?;
-    assert_eq!(rt; id.index(), 1);
-    assert_eq!(rt; body.seqs().len(), 2);
-    assert!(rt; body.func_body().instrs().is_empty());
+// What is added to a new sequence stands there alone.
+fn fills_new(
+    rt: &impl Abort,
+    body: &mut FunctionBuilder,
+    id: InstrSeqId,
+) -> Result<(), AllocError> {
     assert!(rt; id.index() < body.seqs().len());
     let seq = body.instr_seq(id);
     seq.return_()?;
@@ -33,16 +33,33 @@ fn dangling(rt: HostRuntime) -> Result<(), Fail> {
 }
 
 #[test]
-fn list_for_writing(rt: HostRuntime) -> Result<(), Fail> {
+fn dangling(rt: HostRuntime) -> Result<(), Fail> {
     let mut body = function(rt.alloc())?;
-    let seq = body.func_body();
+    let id = body.dangling_instr_seq(InstrSeqType::Simple(Some(ValType::F32)))?;
+    assert_eq!(rt; id.index(), 1);
+    assert_eq!(rt; body.seqs().len(), 2);
+    assert!(rt; body.func_body().instrs().is_empty());
+    fills_new(&rt, &mut body, id)?;
+    Ok(())
+}
+
+fn add_three(seq: &mut InstrSeqBuilder, place: InstrLocId) -> Result<(), AllocError> {
     seq.drop()?;
     seq.return_()?;
-    let place = InstrLocId::new(5);
     seq.instrs_mut().push((Instr::RefEq, place))?;
-    assert!(rt;
-        matches!(seq.instrs(), [(Instr::Drop, _), (Instr::Return, _), (Instr::RefEq, at)] if *at == place)
-    );
+    Ok(())
+}
+
+fn are_three(instrs: &[(Instr, InstrLocId)], place: InstrLocId) -> bool {
+    matches!(instrs, [(Instr::Drop, _), (Instr::Return, _), (Instr::RefEq, at)] if *at == place)
+}
+
+#[test]
+fn list_for_writing(rt: HostRuntime) -> Result<(), Fail> {
+    let mut body = function(rt.alloc())?;
+    let place = InstrLocId::new(5);
+    add_three(body.func_body(), place)?;
+    assert!(rt; are_three(body.func_body().instrs(), place));
     Ok(())
 }
 
@@ -61,6 +78,10 @@ fn begun(
     })
 }
 
+fn next_index(types: &mut ModuleTypes) -> Result<usize, AllocError> {
+    Ok(types.add(&[ValType::F64], &[])?.index())
+}
+
 #[test]
 fn new_functions(rt: HostRuntime) -> Result<(), Fail> {
     let mut types = ModuleTypes::new(rt.alloc());
@@ -68,29 +89,51 @@ fn new_functions(rt: HostRuntime) -> Result<(), Fail> {
     let g = begun(rt.alloc(), &mut types, &[ValType::F32], &[ValType::I64])?;
     assert!(rt; f.is_some() && f == g);
     // The two have one type of their own blocks.
-    assert_eq!(rt; types.add(&[ValType::F64], &[])?.index(), 3);
+    assert_eq!(rt; next_index(&mut types)?, 3);
     Ok(())
+}
+
+// Whether the block type is this.
+fn makes(
+    types: &mut ModuleTypes,
+    params: &[ValType],
+    results: &[ValType],
+    wanted: InstrSeqType,
+) -> Result<bool, AllocError> {
+    Ok(InstrSeqType::new(types, params, results)? == wanted)
 }
 
 #[test]
 fn new_block_types(rt: HostRuntime) -> Result<(), Fail> {
     let mut types = ModuleTypes::new(rt.alloc());
-    let one = InstrSeqType::new(&mut types, &[], &[ValType::I32])?;
-    assert!(rt; one == InstrSeqType::Simple(Some(ValType::I32)));
-    assert!(rt; InstrSeqType::new(&mut types, &[], &[])? == PLAIN);
-    assert_eq!(rt; types.iter().count(), 0);
+    let one = InstrSeqType::Simple(Some(ValType::I32));
+    assert!(rt; makes(&mut types, &[], &[ValType::I32], one)?);
+    assert!(rt; makes(&mut types, &[], &[], PLAIN)?);
+    assert!(rt; types.iter().next().is_none());
     Ok(())
+}
+
+fn has_none(types: &ModuleTypes) -> bool {
+    InstrSeqType::existing(types, &[ValType::I32], &[]).is_none()
+}
+
+fn add_type(types: &mut ModuleTypes) -> Result<InstrSeqType, AllocError> {
+    Ok(InstrSeqType::MultiValue(types.add(&[ValType::I32], &[])?))
+}
+
+fn has_both(types: &ModuleTypes, ty: InstrSeqType) -> bool {
+    let one = InstrSeqType::Simple(Some(ValType::F64));
+    InstrSeqType::existing(types, &[ValType::I32], &[]) == Some(ty)
+        && InstrSeqType::existing(types, &[], &[ValType::F64]) == Some(one)
 }
 
 #[test]
 fn block_types_of_the_table(rt: HostRuntime) -> Result<(), Fail> {
     let mut types = ModuleTypes::new(rt.alloc());
-    assert!(rt; InstrSeqType::existing(&types, &[ValType::I32], &[]).is_none());
-    let ty = InstrSeqType::MultiValue(types.add(&[ValType::I32], &[])?);
-    assert!(rt; InstrSeqType::new(&mut types, &[ValType::I32], &[])? == ty);
-    assert!(rt; InstrSeqType::existing(&types, &[ValType::I32], &[]) == Some(ty));
-    let one = InstrSeqType::Simple(Some(ValType::F64));
-    assert!(rt; InstrSeqType::existing(&types, &[], &[ValType::F64]) == Some(one));
+    assert!(rt; has_none(&types));
+    let ty = add_type(&mut types)?;
+    assert!(rt; makes(&mut types, &[ValType::I32], &[], ty)?);
+    assert!(rt; has_both(&types, ty));
     Ok(())
 }
 

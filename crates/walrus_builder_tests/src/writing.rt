@@ -1,6 +1,7 @@
 //! Sequences that are written: lent, filled, and added to with locations.
 use crate::common::{PLAIN, function};
-use std::alloc::AllocError;
+use std::alloc::{AllocError, Global};
+use std::process::Abort;
 use std::test::Fail;
 use walrus_arena::InstrSeqId;
 use walrus_builder::FunctionBuilder;
@@ -42,32 +43,57 @@ fn is_second(seqs: &[InstrSeq], places: &[u32], end: u32) -> bool {
     }
 }
 
+const LONG: InstrSeqType = InstrSeqType::Simple(Some(ValType::I64));
+
+fn write(rt: &impl Abort, body: &mut FunctionBuilder, id: InstrSeqId) -> Result<(), AllocError> {
+    assert!(rt; id.index() < body.seqs().len());
+    let seq = body.seq_mut(id);
+    seq.ty = LONG;
+    seq.end = InstrLocId::new(9);
+    seq.instrs.push((Instr::Drop, InstrLocId::new(7)))?;
+    Ok(())
+}
+
 #[test]
 fn lent_for_writing(rt: HostRuntime) -> Result<(), Fail> {
     let mut body = function(rt.alloc())?;
     let first = add_two(&mut body)?;
-    assert!(rt; first.index() < body.seqs().len());
-    let seq = body.seq_mut(first);
-    seq.ty = InstrSeqType::Simple(Some(ValType::I64));
-    seq.end = InstrLocId::new(9);
-    seq.instrs.push((Instr::Drop, InstrLocId::new(7)))?;
+    write(&rt, &mut body, first)?;
     assert!(rt; is_second(body.seqs(), &[7], 9));
-    assert!(rt;
-        matches!(body.seqs(), [_, seq, _] if seq.ty == InstrSeqType::Simple(Some(ValType::I64)))
-    );
+    assert!(rt; matches!(body.seqs(), [_, seq, _] if seq.ty == LONG));
     Ok(())
+}
+
+fn two(alloc: Global) -> Result<Vec<(Instr, InstrLocId)>, AllocError> {
+    Ok(vec![in alloc;
+        (Instr::Drop, InstrLocId::new(3)),
+        (Instr::Return, InstrLocId::new(4)),
+    ]?)
 }
 
 #[test]
 fn filled(rt: HostRuntime) -> Result<(), Fail> {
     let mut body = function(rt.alloc())?;
     let first = add_two(&mut body)?;
-    let mut instrs = Vec::new(rt.alloc());
-    instrs.push((Instr::Drop, InstrLocId::new(3)))?;
-    instrs.push((Instr::Return, InstrLocId::new(4)))?;
+    let instrs = two(rt.alloc())?;
     assert!(rt; first.index() < body.seqs().len());
     body.fill(first, instrs, InstrLocId::new(5));
     assert!(rt; is_second(body.seqs(), &[3, 4], 5));
+    Ok(())
+}
+
+fn append(rt: &impl Abort, body: &mut FunctionBuilder, id: InstrSeqId) -> Result<(), AllocError> {
+    assert!(rt; id.index() < body.seqs().len());
+    let seq = body.instr_seq(id);
+    seq.instr_with_location(Instr::Drop, InstrLocId::new(8))?;
+    seq.return_()?;
+    seq.instr_with_location(Instr::RefEq, InstrLocId::new(6))?;
+    assert!(rt;
+        matches!(
+            seq.instrs(),
+            [(Instr::Drop, _), (Instr::Return, _), (Instr::RefEq, _)]
+        )
+    );
     Ok(())
 }
 
@@ -75,18 +101,8 @@ fn filled(rt: HostRuntime) -> Result<(), Fail> {
 fn appended_with_locations(rt: HostRuntime) -> Result<(), Fail> {
     let mut body = function(rt.alloc())?;
     let first = add_two(&mut body)?;
-    assert!(rt; first.index() < body.seqs().len());
-    let seq = body.instr_seq(first);
-    seq.instr_with_location(Instr::Drop, InstrLocId::new(8))?;
-    seq.return_()?;
-    seq.instr_with_location(Instr::RefEq, InstrLocId::new(6))?;
+    append(&rt, &mut body, first)?;
     assert!(rt; is_second(body.seqs(), &[8, u32::MAX, 6], u32::MAX));
-    assert!(rt;
-        matches!(
-            body.instr_seq(first).instrs(),
-            [(Instr::Drop, _), (Instr::Return, _), (Instr::RefEq, _)]
-        )
-    );
     Ok(())
 }
 

@@ -12,16 +12,24 @@ use walrus_instr::{Instr, InstrLocId, InstrSeq, InstrSeqType};
 use walrus_types::{HeapType, RefType, ValType};
 use walrus_walks::{Visit, VisitMut, check_nesting, dfs_in_order, dfs_pre_order_mut};
 
+fn tells(rt: &impl Abort, alloc: Global, instr: &Instr, words: &str) {
+    let mut log = Log::new(alloc);
+    instr.visit(&mut log);
+    assert!(rt; !log.refused);
+    assert_eq!(rt; log.text.trim_end(), words);
+}
+
+fn tells_changing(rt: &impl Abort, alloc: Global, instr: &mut Instr, words: &str) {
+    let mut log = Log::new(alloc);
+    instr.visit_mut(&mut log);
+    assert!(rt; !log.refused);
+    assert_eq!(rt; log.text.trim_end(), words);
+}
+
 fn told(rt: &impl Abort, alloc: Global, rows: Rows) {
     for (mut instr, words) in rows {
-        let mut log = Log::new(alloc);
-        instr.visit(&mut log);
-        assert!(rt; !log.refused);
-        assert_eq!(rt; log.text.trim_end(), words);
-        let mut changing = Log::new(alloc);
-        instr.visit_mut(&mut changing);
-        assert!(rt; !changing.refused);
-        assert_eq!(rt; changing.text.trim_end(), words);
+        tells(rt, alloc, &instr, words);
+        tells_changing(rt, alloc, &mut instr, words);
     }
 }
 
@@ -44,6 +52,23 @@ fn add_all(instrs: &mut Vec<(Instr, InstrLocId)>, rows: Rows) -> Result<(), Allo
     Ok(())
 }
 
+// Each form once.
+fn add_forms(alloc: Global, instrs: &mut Vec<(Instr, InstrLocId)>) -> Result<(), AllocError> {
+    add_all(instrs, structured_rows(alloc)?)?;
+    add_all(instrs, control_rows(alloc)?)?;
+    add_all(instrs, operand_rows(alloc)?)?;
+    add_all(instrs, table_rows(alloc)?)?;
+    add_all(instrs, memory_rows(alloc)?)?;
+    add_all(instrs, aggregate_rows(alloc)?)
+}
+
+fn own(alloc: Global) -> Result<InstrSeq, AllocError> {
+    let plain = InstrSeqType::Simple(None);
+    let mut own = InstrSeq::new(alloc, InstrSeqId::from_index(0), plain);
+    add_forms(alloc, &mut own.instrs)?;
+    Ok(own)
+}
+
 // A body with each form once, of whose block types two name a type.
 fn body(alloc: Global) -> Result<Vec<InstrSeq>, AllocError> {
     let ty = TypeId::from_index(0);
@@ -52,15 +77,8 @@ fn body(alloc: Global) -> Result<Vec<InstrSeq>, AllocError> {
         nullable: false,
         heap_type: HeapType::Exact(ty),
     })));
-    let mut own = InstrSeq::new(alloc, InstrSeqId::from_index(0), plain);
-    add_all(&mut own.instrs, structured_rows(alloc)?)?;
-    add_all(&mut own.instrs, control_rows(alloc)?)?;
-    add_all(&mut own.instrs, operand_rows(alloc)?)?;
-    add_all(&mut own.instrs, table_rows(alloc)?)?;
-    add_all(&mut own.instrs, memory_rows(alloc)?)?;
-    add_all(&mut own.instrs, aggregate_rows(alloc)?)?;
     let mut seqs = Vec::new(alloc);
-    seqs.push(own)?;
+    seqs.push(own(alloc)?)?;
     for index in 1..9 {
         let block_type = match index {
             2 => InstrSeqType::MultiValue(ty),
@@ -101,16 +119,32 @@ fn counted(rt: &impl Abort, log: &Log) {
     }
 }
 
+fn counts(rt: &impl Abort, alloc: Global, seqs: &[InstrSeq]) -> Result<(), AllocError> {
+    let start = InstrSeqId::from_index(0);
+    assert!(rt; check_nesting(alloc, seqs, start)?);
+    let mut log = Log::new(alloc);
+    dfs_in_order(alloc, &mut log, seqs, start)?;
+    counted(rt, &log);
+    Ok(())
+}
+
+fn counts_changing(
+    rt: &impl Abort,
+    alloc: Global,
+    seqs: &mut [InstrSeq],
+) -> Result<(), AllocError> {
+    let start = InstrSeqId::from_index(0);
+    assert!(rt; check_nesting(alloc, seqs, start)?);
+    let mut log = Log::new(alloc);
+    dfs_pre_order_mut(alloc, &mut log, seqs, start)?;
+    counted(rt, &log);
+    Ok(())
+}
+
 #[test]
 fn each_hook_is_counted(rt: HostRuntime) -> Result<(), Fail> {
     let mut seqs = body(rt.alloc())?;
-    let start = InstrSeqId::from_index(0);
-    assert!(rt; check_nesting(rt.alloc(), seqs.as_slice(), start)?);
-    let mut log = Log::new(rt.alloc());
-    dfs_in_order(rt.alloc(), &mut log, seqs.as_slice(), start)?;
-    counted(&rt, &log);
-    let mut changing = Log::new(rt.alloc());
-    dfs_pre_order_mut(rt.alloc(), &mut changing, seqs.as_mut_slice(), start)?;
-    counted(&rt, &changing);
+    counts(&rt, rt.alloc(), seqs.as_slice())?;
+    counts_changing(&rt, rt.alloc(), seqs.as_mut_slice())?;
     Ok(())
 }

@@ -25,11 +25,8 @@ fn told(rt: &impl Abort, walked: Result<(), AllocError>, log: &Log, whole: &str)
 }
 
 // Four blocks, each in the one before, and five in the last of them.
-#[test]
-fn a_refused_walk_has_told_a_front(rt: HostRuntime) -> Result<(), Fail> {
-    let mut body = FunctionBuilder::with_types(rt.alloc(), TypeId::from_index(0), PLAIN)?;
-    let start = body.func_body_id();
-    let mut last = start;
+fn add_blocks(rt: &impl Abort, body: &mut FunctionBuilder) -> Result<(), AllocError> {
+    let mut last = body.func_body_id();
     for index in 0..9 {
         let seq = body.dangling_instr_seq(PLAIN)?;
         assert!(rt; last.index() < body.seqs().len());
@@ -38,22 +35,46 @@ fn a_refused_walk_has_told_a_front(rt: HostRuntime) -> Result<(), Fail> {
             last = seq;
         }
     }
-    assert!(rt; check_nesting(rt.alloc(), &body, start)?);
-    let mut log = roomy(rt.alloc())?;
-    let walked = dfs_in_order(rt.alloc(), &mut log, &body, start);
-    told(
-        &rt,
-        walked,
-        &log,
-        "start block start block start block start block start block start end block start end block start end block start end block start end end end end end end ",
-    );
-    let mut changing = roomy(rt.alloc())?;
-    let walked = dfs_pre_order_mut(rt.alloc(), &mut changing, &mut body, start);
-    told(
-        &rt,
-        walked,
-        &changing,
-        "start block end start block end start block end start block end start block block block block block end start end start end start end start end start end ",
-    );
+    Ok(())
+}
+
+fn told_in_order(
+    rt: &impl Abort,
+    alloc: Global,
+    body: &FunctionBuilder,
+    whole: &str,
+) -> Result<(), AllocError> {
+    let start = body.func_body_id();
+    assert!(rt; check_nesting(alloc, body, start)?);
+    let mut log = roomy(alloc)?;
+    let walked = dfs_in_order(alloc, &mut log, body, start);
+    told(rt, walked, &log, whole);
+    Ok(())
+}
+
+fn told_changing(
+    rt: &impl Abort,
+    alloc: Global,
+    body: &mut FunctionBuilder,
+    whole: &str,
+) -> Result<(), AllocError> {
+    let start = body.func_body_id();
+    assert!(rt; check_nesting(alloc, body, start)?);
+    let mut log = roomy(alloc)?;
+    let walked = dfs_pre_order_mut(alloc, &mut log, body, start);
+    told(rt, walked, &log, whole);
+    Ok(())
+}
+
+#[test]
+fn a_refused_walk_has_told_a_front(rt: HostRuntime) -> Result<(), Fail> {
+    let mut body = FunctionBuilder::with_types(rt.alloc(), TypeId::from_index(0), PLAIN)?;
+    add_blocks(&rt, &mut body)?;
+    let in_order =
+        "start block start block start block start block start block start end block start end block start end block start end block start end end end end end end ";
+    told_in_order(&rt, rt.alloc(), &body, in_order)?;
+    let pre_order =
+        "start block end start block end start block end start block end start block block block block block end start end start end start end start end start end ";
+    told_changing(&rt, rt.alloc(), &mut body, pre_order)?;
     Ok(())
 }

@@ -79,26 +79,55 @@ fn add_all(rt: &impl Abort, body: &mut FunctionBuilder, alloc: Global) -> Result
     add_try(outer, alloc)
 }
 
-// What the walk in order tells.
-fn told(rt: &impl Abort, body: &FunctionBuilder, alloc: Global) -> Result<Log, AllocError> {
+// How many bytes of text the walk in order tells, and whether it is this text.
+fn told(
+    rt: &impl Abort,
+    body: &FunctionBuilder,
+    alloc: Global,
+    wanted: &str,
+) -> Result<(usize, bool), AllocError> {
     let start = body.func_body_id();
     assert!(rt; check_nesting(alloc, body, start)?);
     let mut log = Log::new(alloc);
     dfs_in_order(alloc, &mut log, body, start)?;
     assert!(rt; !log.refused);
-    Ok(log)
+    Ok((log.text.len(), log.text.as_str() == wanted))
+}
+
+// The walk in order tells this text.
+fn tells(
+    rt: &impl Abort,
+    body: &FunctionBuilder,
+    alloc: Global,
+    wanted: &str,
+) -> Result<bool, AllocError> {
+    let (_, is_wanted) = told(rt, body, alloc, wanted)?;
+    Ok(is_wanted)
 }
 
 #[test]
 fn in_order(rt: HostRuntime) -> Result<(), Fail> {
     let mut body = function(rt.alloc())?;
     add_all(&rt, &mut body, rt.alloc())?;
-    let log = told(&rt, &body, rt.alloc())?;
-    assert_eq!(rt;
-        log.text.as_str(),
-        "start 1 drop block start 2 drop if-else start 3 drop end start 4 drop end 5 drop end 6 drop try tag start 7 drop end start 8 drop end start 9 drop end 10 drop end "
-    );
+    let wanted =
+        "start 1 drop block start 2 drop if-else start 3 drop end start 4 drop end 5 drop end 6 drop try tag start 7 drop end start 8 drop end start 9 drop end 10 drop end ";
+    assert!(rt; tells(&rt, &body, rt.alloc(), wanted)?);
     Ok(())
+}
+
+// The walk that changes tells this text.
+fn tells_changing(
+    rt: &impl Abort,
+    body: &mut FunctionBuilder,
+    alloc: Global,
+    wanted: &str,
+) -> Result<bool, AllocError> {
+    let start = body.func_body_id();
+    assert!(rt; check_nesting(alloc, body, start)?);
+    let mut log = Log::new(alloc);
+    dfs_pre_order_mut(alloc, &mut log, body, start)?;
+    assert!(rt; !log.refused);
+    Ok(log.text.as_str() == wanted)
 }
 
 // A sequence is done before what it holds; what its last instruction holds comes first.
@@ -106,15 +135,9 @@ fn in_order(rt: HostRuntime) -> Result<(), Fail> {
 fn pre_order(rt: HostRuntime) -> Result<(), Fail> {
     let mut body = function(rt.alloc())?;
     add_all(&rt, &mut body, rt.alloc())?;
-    let start = body.func_body_id();
-    assert!(rt; check_nesting(rt.alloc(), &body, start)?);
-    let mut log = Log::new(rt.alloc());
-    dfs_pre_order_mut(rt.alloc(), &mut log, &mut body, start)?;
-    assert!(rt; !log.refused);
-    assert_eq!(rt;
-        log.text.as_str(),
-        "start 1 drop block 6 drop try tag 10 drop end start 7 drop end start 8 drop end start 9 drop end start 2 drop if-else 5 drop end start 3 drop end start 4 drop end "
-    );
+    let wanted =
+        "start 1 drop block 6 drop try tag 10 drop end start 7 drop end start 8 drop end start 9 drop end start 2 drop if-else 5 drop end start 3 drop end start 4 drop end ";
+    assert!(rt; tells_changing(&rt, &mut body, rt.alloc(), wanted)?);
     Ok(())
 }
 
@@ -129,18 +152,18 @@ fn holds_itself(rt: HostRuntime) -> Result<(), Fail> {
     Ok(())
 }
 
+fn add_twice(seq: &mut InstrSeqBuilder, shared: InstrSeqId) -> Result<(), AllocError> {
+    seq.instr(Instr::Block { seq: shared })?;
+    seq.instr(Instr::Block { seq: shared })
+}
+
 #[test]
 fn shared_sequence(rt: HostRuntime) -> Result<(), Fail> {
     let mut body = function(rt.alloc())?;
     let shared = body.dangling_instr_seq(PLAIN)?;
-    let outer = body.func_body();
-    outer.instr(Instr::Block { seq: shared })?;
-    outer.instr(Instr::Block { seq: shared })?;
-    let log = told(&rt, &body, rt.alloc())?;
-    assert_eq!(rt;
-        log.text.as_str(),
-        "start block start end block start end end "
-    );
+    add_twice(body.func_body(), shared)?;
+    let wanted = "start block start end block start end end ";
+    assert!(rt; tells(&rt, &body, rt.alloc(), wanted)?);
     Ok(())
 }
 
@@ -159,9 +182,9 @@ fn add_nest(rt: &impl Abort, body: &mut FunctionBuilder) -> Result<(), AllocErro
 fn deep_nest(rt: HostRuntime) -> Result<(), Fail> {
     let mut body = function(rt.alloc())?;
     add_nest(&rt, &mut body)?;
-    let log = told(&rt, &body, rt.alloc())?;
+    let (count, _) = told(&rt, &body, rt.alloc(), "")?;
     // 100,001 times `start `, `end `, and 100,000 times `block `.
-    assert_eq!(rt; log.text.len(), 1_600_010);
+    assert_eq!(rt; count, 1_600_010);
     Ok(())
 }
 
@@ -178,11 +201,8 @@ fn blocks(rt: HostRuntime) -> Result<(), Fail> {
     let outer = body.func_body();
     add_blocks(outer)?;
     assert!(rt; outer.instrs().len() == 3);
-    let log = told(&rt, &body, rt.alloc())?;
-    assert_eq!(rt;
-        log.text.as_str(),
-        "start block start 2 end start 3 end if-else start 4 end start 5 end end "
-    );
+    let wanted = "start block start 2 end start 3 end if-else start 4 end start 5 end end ";
+    assert!(rt; tells(&rt, &body, rt.alloc(), wanted)?);
     Ok(())
 }
 
@@ -214,20 +234,32 @@ fn tables(rt: HostRuntime) -> Result<(), Fail> {
     Ok(())
 }
 
+// The operators of the expression, of which two are added to the list.
+fn push_sum(expr: &ConstExpr, ops: &mut Vec<ConstOp>) -> Result<(), AllocError> {
+    expr.push_ops(ops)?;
+    ops.extend_from_slice(&[ConstOp::I32Const(8), ConstOp::I32Add])?;
+    Ok(())
+}
+
+fn copied_ops(alloc: Global, ops: Vec<ConstOp>) -> Result<Vec<ConstOp>, AllocError> {
+    let copy = ConstExpr::from_ops(ops).clone()?;
+    let mut again = Vec::new(alloc);
+    copy.push_ops(&mut again)?;
+    Ok(again)
+}
+
 #[test]
 fn constants(rt: HostRuntime) -> Result<(), Fail> {
-    let mut ops = Vec::new(rt.alloc());
-    ops.push(ConstOp::I32Const(7))?;
-    let short = ConstExpr::from_ops(ops);
+    let short = ConstExpr::from_ops(vec![in rt.alloc(); ConstOp::I32Const(7)]?);
     assert!(rt; matches!(&short, ConstExpr::Value(Value::I32(7))));
-    let mut all = Vec::new(rt.alloc());
-    short.push_ops(&mut all)?;
-    all.push(ConstOp::I32Const(8))?;
-    all.push(ConstOp::I32Add)?;
-    let long = ConstExpr::from_ops(all).clone()?;
-    let mut again = Vec::new(rt.alloc());
-    long.push_ops(&mut again)?;
-    assert_eq!(rt; again.len(), 3);
-    assert!(rt; again[2] == ConstOp::I32Add);
+    let mut ops = Vec::new(rt.alloc());
+    push_sum(&short, &mut ops)?;
+    let again = copied_ops(rt.alloc(), ops)?;
+    assert!(rt;
+        matches!(
+            again.as_slice(),
+            [ConstOp::I32Const(7), ConstOp::I32Const(8), ConstOp::I32Add]
+        )
+    );
     Ok(())
 }

@@ -4,7 +4,5 @@
 
 pub mod laws;
 mod order;
-#[cfg(test)]
-mod tests;
 
 pub use order::emission_order;

@@ -16,6 +16,8 @@ mod groups;
 #[cfg(test)]
 mod ids;
 #[cfg(test)]
+mod orders;
+#[cfg(test)]
 mod records;
 #[cfg(test)]
 mod rounds;

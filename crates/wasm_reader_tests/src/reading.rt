@@ -14,9 +14,14 @@ where
     }
 }
 
+// A reader of bytes that stand at this offset, of which a test's proof is to know nothing.
+pub(crate) fn reader_at(bytes: &[u8], offset: u32) -> BinaryReader<'_> {
+    BinaryReader::new(bytes, u64::from(offset))
+}
+
 #[test]
 fn fixed_widths(rt: HostRuntime) -> std::result::Result<(), Fail> {
-    let mut reader = BinaryReader::new(b"\0asm\x01\0\0\0\x0b", 0);
+    let mut reader = reader_at(b"\0asm\x01\0\0\0\x0b", 0);
     assert_eq!(rt; reader.read_u32()?, 0x6d73_6100);
     assert_eq!(rt;
         refused(reader.read_u64()),
@@ -31,26 +36,26 @@ fn fixed_widths(rt: HostRuntime) -> std::result::Result<(), Fail> {
 
 #[test]
 fn a_byte_of_8_bits(rt: HostRuntime) {
-    let outcome = BinaryReader::new(&[0x80], 5).read_u7();
+    let outcome = reader_at(&[0x80], 5).read_u7();
     assert_eq!(rt; refused(outcome), Some((ErrorKind::BadByte, 5)));
 }
 
 #[test]
 fn floats(rt: HostRuntime) -> std::result::Result<(), Fail> {
-    let single = BinaryReader::new(&[0, 0, 0x80, 0x3f], 0).read_f32()?;
+    let single = reader_at(&[0, 0, 0x80, 0x3f], 0).read_f32()?;
     assert_eq!(rt; single.bits(), 0x3f80_0000);
-    let double = BinaryReader::new(&[0, 0, 0, 0, 0, 0, 0xf0, 0x3f], 0).read_f64()?;
+    let double = reader_at(&[0, 0, 0, 0, 0, 0, 0xf0, 0x3f], 0).read_f64()?;
     assert_eq!(rt; double.bits(), 1.0f64.to_bits());
     Ok(())
 }
 
 #[test]
 fn names(rt: HostRuntime) -> std::result::Result<(), Fail> {
-    let mut reader = BinaryReader::new(b"\x04name\x03\xe2\x82\xac", 100);
+    let mut reader = reader_at(b"\x04name\x03\xe2\x82\xac", 100);
     assert_eq!(rt; reader.read_string()?, "name");
     assert_eq!(rt; reader.read_unlimited_string()?, "\u{20ac}");
     assert_eq!(rt; reader.original_position(), 109);
-    BinaryReader::new(b"\x04name", 0).skip_string()?;
+    reader_at(b"\x04name", 0).skip_string()?;
     Ok(())
 }
 
@@ -62,24 +67,27 @@ fn bytes_of_no_name(rt: HostRuntime) {
         (&[0xa1, 0x8d, 0x06], ErrorKind::Limit, 100),
     ];
     for (bytes, kind, place) in rows {
-        let outcome = refused(BinaryReader::new(bytes, 100).read_string());
+        let outcome = refused(reader_at(bytes, 100).read_string());
         assert_eq!(rt; outcome, Some((kind, place)));
-        let outcome = refused(BinaryReader::new(bytes, 100).skip_string());
+        let outcome = refused(reader_at(bytes, 100).skip_string());
         assert_eq!(rt; outcome, Some((kind, place)));
     }
 }
 
 #[test]
 fn the_longest_name(rt: HostRuntime) -> std::result::Result<(), Fail> {
-    let mut reader = BinaryReader::new(&[0xa0, 0x8d, 0x06], 7);
+    let mut reader = reader_at(&[0xa0, 0x8d, 0x06], 7);
     assert_eq!(rt; reader.read_size(MAX_WASM_STRING_SIZE)?, 100_000);
     Ok(())
 }
 
+fn first_version(bytes: &[u8]) -> BinaryReader<'_> {
+    BinaryReader::new_features(bytes, 1000, WasmFeatures::MVP)
+}
+
 #[test]
 fn windows(rt: HostRuntime) -> std::result::Result<(), Fail> {
-    let bytes = [0x02, 0x80, 0x01, 0x7f];
-    let mut reader = BinaryReader::new_features(&bytes, 1000, WasmFeatures::MVP);
+    let mut reader = first_version(&[0x02, 0x80, 0x01, 0x7f]);
     let inner = reader.read_reader()?;
     assert_eq!(rt; inner.range().start, 1001);
     assert_eq!(rt; inner.range().end, 1003);
@@ -92,7 +100,7 @@ fn windows(rt: HostRuntime) -> std::result::Result<(), Fail> {
 
 #[test]
 fn places_in_a_window(rt: HostRuntime) -> std::result::Result<(), Fail> {
-    let mut reader = BinaryReader::new(&[0x02, 0x80, 0x01, 0x7f], 1000);
+    let mut reader = reader_at(&[0x02, 0x80, 0x01, 0x7f], 1000);
     let mut inner = reader.read_reader()?;
     assert_eq!(rt; inner.read_u8()?, 0x80);
     assert_eq!(rt; inner.remaining_range().start, 1002);
@@ -105,7 +113,7 @@ fn places_in_a_window(rt: HostRuntime) -> std::result::Result<(), Fail> {
 
 #[test]
 fn skipped_bytes(rt: HostRuntime) -> std::result::Result<(), Fail> {
-    let mut reader = BinaryReader::new(&[0x02, 0x80, 0x01, 0x7f], 0);
+    let mut reader = reader_at(&[0x02, 0x80, 0x01, 0x7f], 0);
     reader.set_features(WasmFeatures::MVP);
     let mut skipped = reader.skip(|r| {
         r.read_u8()?;

@@ -1,18 +1,18 @@
 //! Calls on types.
 
+use crate::reading::{consumer, read};
 use std::process::Abort;
 use std::test::Fail;
 use wasm_composite_types::{
     CompositeInnerType, CompositeType, FuncType, GlobalType, MemoryType, StorageType, StructType,
     TableType, TagKind, TagType, TypeList,
 };
-use wasm_reader::BinaryReader;
 use wasm_ref_types::{HeapType, PackedIndex, RefType, UnpackedIndex, ValType};
 use wasm_types::{RecGroup, SubType};
 
 #[test]
 fn function_types(rt: HostRuntime) -> Result<(), Fail> {
-    let ty = FuncType::new(rt.alloc(), [ValType::I32], [])?;
+    let ty = consumer(rt.alloc(), ValType::I32)?;
     assert!(rt; ty.params().len() == 1);
     assert!(rt; ty.params()[0] == ValType::I32);
     assert!(rt; ty.results().is_empty());
@@ -35,7 +35,7 @@ fn function_types_keep_their_order(rt: HostRuntime) -> Result<(), Fail> {
 
 #[test]
 fn subtypes_of_functions(rt: HostRuntime) -> Result<(), Fail> {
-    let ty = FuncType::new(rt.alloc(), [ValType::I32], [])?;
+    let ty = consumer(rt.alloc(), ValType::I32)?;
     let sub = SubType::func(ty.clone()?, true)?;
     assert!(rt; sub.is_final);
     assert!(rt; sub.supertype_idx.is_none());
@@ -46,7 +46,7 @@ fn subtypes_of_functions(rt: HostRuntime) -> Result<(), Fail> {
 
 #[test]
 fn subtypes_are_copied(rt: HostRuntime) -> Result<(), Fail> {
-    let sub = SubType::func(FuncType::new(rt.alloc(), [ValType::I32], [])?, true)?;
+    let sub = SubType::func(consumer(rt.alloc(), ValType::I32)?, true)?;
     assert!(rt; sub.clone()? == sub);
     let ty = &sub.composite_type;
     assert!(rt; ty.clone()? == *ty);
@@ -68,7 +68,7 @@ fn lists(rt: HostRuntime) -> Result<(), Fail> {
 
 #[test]
 fn structures_are_copied(rt: HostRuntime) -> Result<(), Fail> {
-    let fields: StructType = BinaryReader::new(&[0x01, 0x78, 0x01], 0).read(rt.alloc())?;
+    let fields: StructType = read(rt.alloc(), &[0x01, 0x78, 0x01])?;
     let copy = fields.clone()?;
     assert!(rt; copy == fields);
     let ty = CompositeType {
@@ -191,14 +191,14 @@ fn renumbered(group: &mut RecGroup, end: u32) -> Result<(), u32> {
 
 #[test]
 fn indices_are_changed_in_their_order(rt: HostRuntime) -> Result<(), Fail> {
-    let mut group: RecGroup = BinaryReader::new(&NAMING, 0).read(rt.alloc())?;
+    let mut group: RecGroup = read(rt.alloc(), &NAMING)?;
     assert!(rt; renumbered(&mut group, 20).is_ok());
     names(&rt, group, 10, 11, 12)
 }
 
 #[test]
 fn indices_behind_a_refusal_stay(rt: HostRuntime) -> Result<(), Fail> {
-    let mut group: RecGroup = BinaryReader::new(&NAMING, 0).read(rt.alloc())?;
+    let mut group: RecGroup = read(rt.alloc(), &NAMING)?;
     assert!(rt; renumbered(&mut group, 11) == Err(11));
     names(&rt, group, 10, 1, 1)
 }

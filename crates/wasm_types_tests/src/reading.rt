@@ -1,6 +1,6 @@
 //! Bytes of the Core Specification's binary format for each form of type, and of shared types.
 
-use std::alloc::Global;
+use std::alloc::{AllocError, Global};
 use std::test::Fail;
 use wasm_composite_types::{
     ArrayType, CompositeInnerType, CompositeType, FieldType, FuncType, StorageType, StructType,
@@ -10,8 +10,13 @@ use wasm_ref_types::{PackedIndex, RefType, ValType};
 use wasm_types::{RecGroup, SubType};
 
 // The first byte of each text stands at 11, as that of the first type of a module. All features are on.
-fn read<'a, T: FromReader<'a>>(alloc: Global, bytes: &'a [u8]) -> Result<T> {
+pub(crate) fn read<'a, T: FromReader<'a>>(alloc: Global, bytes: &'a [u8]) -> Result<T> {
     BinaryReader::new(bytes, 11).read(alloc)
+}
+
+// A function type from this type to nothing.
+pub(crate) fn consumer(alloc: Global, param: ValType) -> std::result::Result<FuncType, AllocError> {
+    FuncType::new(alloc, [param], [])
 }
 
 fn same(types: &[ValType], expected: &[ValType]) -> bool {
@@ -75,7 +80,7 @@ fn what_follows_the_byte_of_a_structure(rt: HostRuntime) -> std::result::Result<
 fn composite_functions(rt: HostRuntime) -> std::result::Result<(), Fail> {
     let function: CompositeType = read(rt.alloc(), &[0x60, 0x01, 0x7b, 0x00])?;
     assert!(rt; !function.shared);
-    let sub = SubType::func(FuncType::new(rt.alloc(), [ValType::V128], [])?, false)?;
+    let sub = SubType::func(consumer(rt.alloc(), ValType::V128)?, false)?;
     assert!(rt; sub.composite_type == function);
     Ok(())
 }

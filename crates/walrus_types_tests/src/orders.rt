@@ -1,7 +1,7 @@
 // Orders against lists worked out by hand.
-use crate::laws::order_is_determined;
-use crate::order::emission_order;
 use std::test::Fail;
+use walrus_type_order::emission_order;
+use walrus_type_order::laws::order_is_determined;
 
 #[test]
 fn runs_around_anchors(rt: HostRuntime) -> Result<(), Fail> {

@@ -4,8 +4,8 @@ ghost use Rattle.std.specs.Prelude.{◌≡◌, ◌<◌, IfOk, All, vec_len};
 ghost use Rattle.wasm_model.specs.Features.{Features};
 ghost use Rattle.rewriter_module.specs.Meaning.{IsSound};
 
-use crate::number;
 use rewriter_module::{Export, Function, FunctionType, Module};
+use rewriter_part::number;
 use std::alloc::{AllocError, Global};
 use wasm_model::types::ValType;
 
