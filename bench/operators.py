@@ -5,8 +5,8 @@ same, and prints the ratios.
     bench/operators.py [--size BYTES] [--rounds N] [--seed N]
 
 Both read the same file, and must see the same operators and write the same bytes. A time is the processor's, of a whole run but for
-the system's calls, the least of the rounds. Calls for memory are counted over the whole file and over a fiftieth of it: if they are
-as many, none is an operator's.
+the system's calls, the least of the rounds. Calls for memory are counted of these runs and of one that does no more than load the
+file: reading makes none, and writing the one for what is written.
 """
 import argparse
 import os
@@ -120,11 +120,9 @@ def main():
     asked = words.parse_args()
     with tempfile.TemporaryDirectory() as folder:
         code = make(asked.size, asked.seed)
-        files = {"whole": f"{folder}/code", "part": f"{folder}/part"}
-        with open(files["whole"], "wb") as it:
+        file = f"{folder}/code"
+        with open(file, "wb") as it:
             it.write(code)
-        with open(files["part"], "wb") as it:
-            it.write(code[: len(code) // 50])
         loop = f"{folder}/operators"
         subprocess.run(["gcc", "-O2", "-o", loop, f"{ROOT}/bench/operators.c"], check=True)
         with open(f"{folder}/counter.c", "w", encoding="utf-8") as it:
@@ -134,13 +132,14 @@ def main():
         print("building walrus_operator_bench", file=sys.stderr)
         subprocess.run(["rt", "run", "--", "data/code", "read"], cwd=CRATE, check=True, stdout=subprocess.DEVNULL, stderr=subprocess.DEVNULL)
         for way in ("read", "write"):
-            rounds = [(measured(f"{CRATE}/out/walrus_operator_bench", files["whole"], way), measured(loop, files["whole"], way)) for _ in range(asked.rounds)]
+            rounds = [(measured(f"{CRATE}/out/walrus_operator_bench", file, way), measured(loop, file, way)) for _ in range(asked.rounds)]
             if any(ours[1] != theirs[1] for ours, theirs in rounds):
                 sys.exit(f"the two don't see the same: {rounds[0]}")
             ours, theirs = min(r[0][0] for r in rounds), min(r[1][0] for r in rounds)
             count = int(rounds[0][0][1].split()[0])
             print(f"{way}, {len(code):,} bytes, {count:,} operators: ours {ours:.3f} s, {ours * 1e9 / count:.1f} ns each, C {theirs:.3f} s, ratio {ours / theirs:.2f}")
-            print(f"calls for memory: {calls(f'{folder}/counter.so', files['whole'], way)}, over a fiftieth of the file {calls(f'{folder}/counter.so', files['part'], way)}")
+        made = {way: calls(f"{folder}/counter.so", file, way) for way in ("load", "read", "write")}
+        print(f"calls for memory more than to load the file: reading {made['read'] - made['load']}, writing {made['write'] - made['load']}")
 
 
 if __name__ == "__main__":

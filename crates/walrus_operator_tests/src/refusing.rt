@@ -1,74 +1,71 @@
 //! Codes that are no operator's, features that are off, and faults at their places. The first byte of each text stands at 11.
 
-use crate::view::{is_written_again, outcome, seen};
-use wasm_operators::OpCode;
+use crate::view::{is_written_again, outcome, text};
+use std::alloc::Global;
 use wasm_reader::{ErrorKind, WasmFeatures};
 
+fn is_unknown(alloc: Global, prefix: u8, number: u32) -> bool {
+    let Ok(bytes) = text(alloc, prefix, number, &[], &[]) else {
+        return false;
+    };
+    outcome(alloc, WasmFeatures::all(), &bytes) == Some((None, 11))
+}
+
+// What is no operator of the 575, up to the number 400 behind a prefix.
 #[test]
 fn codes_of_no_operator(rt: HostRuntime) {
-    let all = WasmFeatures::all();
-    let rows: [&[u8]; 40] = [
-        &[0x16],
-        &[0x17],
-        &[0x1d],
-        &[0x1e],
-        &[0x27],
-        &[0xc5],
-        &[0xcf],
-        &[0xd7],
-        &[0xfa],
-        &[0xff],
-        &[0xfb, 0x1f],
-        &[0xfc, 0x12],
-        &[0xfc, 0x17],
-        &[0xfc, 0x80, 0x80, 0x04],
-        &[0xfb, 0x80, 0x80, 0x04],
-        &[0xfd, 0x9a, 0x01],
-        &[0xfd, 0xa2, 0x01],
-        &[0xfd, 0xa5, 0x01],
-        &[0xfd, 0xa6, 0x01],
-        &[0xfd, 0xaf, 0x01],
-        &[0xfd, 0xb0, 0x01],
-        &[0xfd, 0xb2, 0x01],
-        &[0xfd, 0xb3, 0x01],
-        &[0xfd, 0xb4, 0x01],
-        &[0xfd, 0xbb, 0x01],
-        &[0xfd, 0xc2, 0x01],
-        &[0xfd, 0xc5, 0x01],
-        &[0xfd, 0xc6, 0x01],
-        &[0xfd, 0xcf, 0x01],
-        &[0xfd, 0xd0, 0x01],
-        &[0xfd, 0xd2, 0x01],
-        &[0xfd, 0xd3, 0x01],
-        &[0xfd, 0xd4, 0x01],
-        &[0xfd, 0xe2, 0x01],
-        &[0xfd, 0xee, 0x01],
-        &[0xfd, 0x94, 0x02],
-        &[0xfd, 0x80, 0x80, 0x04],
-        &[0xfe, 0x04],
-        &[0xfe, 0x0f],
-        &[0xfe, 0x4f],
+    let rows: [(u8, u32, u32); 26] = [
+        (0, 0x16, 0x17),
+        (0, 0x1d, 0x1e),
+        (0, 0x27, 0x27),
+        (0, 0xc5, 0xcf),
+        (0, 0xd7, 0xfa),
+        (0, 0xff, 0xff),
+        (0xfb, 31, 400),
+        (0xfc, 18, 18),
+        (0xfc, 23, 400),
+        (0xfd, 154, 154),
+        (0xfd, 162, 162),
+        (0xfd, 165, 166),
+        (0xfd, 175, 176),
+        (0xfd, 178, 180),
+        (0xfd, 187, 187),
+        (0xfd, 194, 194),
+        (0xfd, 197, 198),
+        (0xfd, 207, 208),
+        (0xfd, 210, 212),
+        (0xfd, 226, 226),
+        (0xfd, 238, 238),
+        (0xfd, 276, 400),
+        (0xfe, 4, 15),
+        (0xfe, 79, 400),
+        (0xfc, 16383, 16383),
+        (0xfd, 16000, 16000),
     ];
-    for bytes in rows {
-        assert!(rt; outcome(rt.alloc(), all, bytes) == Some((None, 11)));
+    for (prefix, first, last) in rows {
+        for number in first..=last {
+            assert!(rt; is_unknown(rt.alloc(), prefix, number));
+        }
     }
 }
 
-// What follows such a code is not looked at, and what it would need to be an operator is on elsewhere.
+// Where what it needs is off, the rest being on, the code is no operator's, and what follows isn't looked at.
 #[test]
 fn gated_operators(rt: HostRuntime) {
-    let rows: [&[u8]; 7] = [
-        &[0x06, 0x40],
-        &[0x07, 0x00],
-        &[0x09, 0x00],
-        &[0x18, 0x00],
-        &[0x19],
-        &[0xfc, 0x13],
-        &[0xfc, 0x16],
+    let rows: [(&[u8], WasmFeatures); 9] = [
+        (&[0x06, 0x40], WasmFeatures::LEGACY_EXCEPTIONS),
+        (&[0x07, 0x00], WasmFeatures::LEGACY_EXCEPTIONS),
+        (&[0x09, 0x00], WasmFeatures::LEGACY_EXCEPTIONS),
+        (&[0x18, 0x00], WasmFeatures::LEGACY_EXCEPTIONS),
+        (&[0x19], WasmFeatures::LEGACY_EXCEPTIONS),
+        (&[0xfc, 0x13], WasmFeatures::WIDE_ARITHMETIC),
+        (&[0xfc, 0x14], WasmFeatures::WIDE_ARITHMETIC),
+        (&[0xfc, 0x15], WasmFeatures::WIDE_ARITHMETIC),
+        (&[0xfc, 0x16], WasmFeatures::WIDE_ARITHMETIC),
     ];
     let all = WasmFeatures::all();
-    for bytes in rows {
-        assert!(rt; outcome(rt.alloc(), WasmFeatures::WASM3, bytes) == Some((None, 11)));
+    for (bytes, gate) in rows {
+        assert!(rt; outcome(rt.alloc(), all.difference(gate), bytes) == Some((None, 11)));
         assert!(rt; outcome(rt.alloc(), all, bytes) == None);
     }
 }
@@ -143,23 +140,5 @@ fn padded_numbers(rt: HostRuntime) {
     ];
     for (bytes, shortest) in rows {
         assert!(rt; is_written_again(rt.alloc(), bytes, shortest));
-    }
-}
-
-// 199 bytes, 31, 22, 256 and 67 numbers behind the prefixes: 575 operators.
-#[test]
-fn operators_are_so_many(rt: HostRuntime) {
-    let rows: [(u8, u32); 5] = [(0, 199), (0xfb, 31), (0xfc, 22), (0xfd, 256), (0xfe, 67)];
-    for (prefix, expected) in rows {
-        let mut known = 0;
-        for number in 0..400 {
-            if (OpCode { prefix, number })
-                .kind(WasmFeatures::all())
-                .is_some()
-            {
-                known += 1;
-            }
-        }
-        assert_eq!(rt; known, expected);
     }
 }

@@ -1,9 +1,9 @@
 //! What the tests look at.
 
-use std::alloc::Global;
+use std::alloc::{AllocError, Global};
 use walrus_operator_writer::write_operator;
 use walrus_operators::{Immediates, Operator, OperatorError, OperatorReader};
-use wasm_immediates::{BlockType, MemoryAccess};
+use wasm_immediates::MemoryAccess;
 use wasm_reader::{BinaryReader, ErrorKind, WasmFeatures};
 
 // The operator that these bytes are, all of them. The first stands at 11. All features are on.
@@ -18,17 +18,68 @@ pub fn read(alloc: Global, bytes: &[u8]) -> Option<Operator> {
     Some(operator)
 }
 
-// Its code, the form of its immediates, and two numbers of them.
-pub fn seen(alloc: Global, bytes: &[u8]) -> Option<(u8, u32, &'static str, u64, u64)> {
-    let operator = read(alloc, bytes)?;
+// An operator's code, the form of its immediates, and two numbers of them.
+#[derive(Clone, Copy)]
+pub struct Seen {
+    prefix: u8,
+    number: u32,
+    form: &'static str,
+    first: u64,
+    second: u64,
+}
+
+impl Seen {
+    pub fn new(prefix: u8, number: u32, form: &'static str, first: u64, second: u64) -> Self {
+        Seen {
+            prefix,
+            number,
+            form,
+            first,
+            second,
+        }
+    }
+}
+
+fn is_seen(operator: &Operator, expected: Seen) -> bool {
     let (form, first, second) = numbers(&operator.immediates);
-    Some((
-        operator.code.prefix,
-        operator.code.number,
-        form,
-        first,
-        second,
-    ))
+    operator.code.prefix == expected.prefix
+        && operator.code.number == expected.number
+        && form == expected.form
+        && first == expected.first
+        && second == expected.second
+}
+
+// The bytes are this operator, no front of them is one, and it is written as they are.
+pub fn holds(alloc: Global, bytes: &[u8], expected: Seen) -> bool {
+    let Some(operator) = read(alloc, bytes) else {
+        return false;
+    };
+    is_seen(&operator, expected)
+        && ends_early(alloc, bytes)
+        && is_written_again(alloc, bytes, bytes)
+}
+
+// A code, of one byte where the prefix is 0, and two parts of immediates.
+pub fn text(
+    alloc: Global,
+    prefix: u8,
+    number: u32,
+    first: &[u8],
+    second: &[u8],
+) -> Result<Vec<u8>, AllocError> {
+    let mut bytes = Vec::new(alloc);
+    if prefix == 0 {
+        bytes.push((number % 0x100) as u8)?;
+    } else if number < 0x80 {
+        bytes.extend_from_slice(&[prefix, number as u8])?;
+    } else {
+        let low = (number % 0x80) as u8;
+        let high = (number / 0x80 % 0x80) as u8;
+        bytes.extend_from_slice(&[prefix, low + 0x80, high])?;
+    }
+    bytes.extend_from_slice(first)?;
+    bytes.extend_from_slice(second)?;
+    Ok(bytes)
 }
 
 // No fault, or its kind and place; no kind where the code is no operator's.
@@ -74,20 +125,12 @@ pub fn is_written_again(alloc: Global, bytes: &[u8], expected: &[u8]) -> bool {
     out.as_slice() == expected
 }
 
-// A memory other than 0 counts a thousand.
+// A memory counts 2^32.
 fn of_access(access: &MemoryAccess) -> (u64, u64) {
     (
-        u64::from(access.memory) * 1000 + u64::from(access.align),
+        u64::from(access.memory) * 4294967296 + u64::from(access.align),
         access.offset,
     )
-}
-
-fn of_block(ty: &BlockType) -> (u64, u64) {
-    match ty {
-        BlockType::Empty => (0, 0),
-        BlockType::Value(_) => (1, 0),
-        BlockType::Type(n) => (2, u64::from(*n)),
-    }
 }
 
 fn named(form: &'static str, first: u32, second: u32) -> (&'static str, u64, u64) {
@@ -97,10 +140,7 @@ fn named(form: &'static str, first: u32, second: u32) -> (&'static str, u64, u64
 fn numbers(immediates: &Immediates) -> (&'static str, u64, u64) {
     match immediates {
         Immediates::Bare => ("none", 0, 0),
-        Immediates::Block(ty) => {
-            let (first, second) = of_block(ty);
-            ("block", first, second)
-        }
+        Immediates::Block(_) => ("block", 0, 0),
         Immediates::TryTable(_, clauses) => ("try_table", clauses.len() as u64, 0),
         Immediates::Tag(n) => named("tag", *n, 0),
         Immediates::Label(n) => named("label", *n, 0),

@@ -1,0 +1,146 @@
+//! Operators without immediates, and those with one index or two numbers, each of which is 0, 127, 128 and the largest. The rows
+//! are ranges of codes: behind a prefix, or of one byte where the prefix is 0.
+
+use crate::view::{Seen, holds, text};
+use std::alloc::Global;
+
+// A u32 and its bytes.
+const NUMBERS: [(&[u8], u64); 4] = [
+    (&[0x00], 0),
+    (&[0x7f], 127),
+    (&[0x80, 0x01], 128),
+    (&[0xff, 0xff, 0xff, 0xff, 0x0f], 4294967295),
+];
+
+fn holds_bare(alloc: Global, prefix: u8, number: u32) -> bool {
+    let Ok(bytes) = text(alloc, prefix, number, &[], &[]) else {
+        return false;
+    };
+    holds(alloc, &bytes, Seen::new(prefix, number, "none", 0, 0))
+}
+
+fn holds_index(alloc: Global, prefix: u8, number: u32, form: &'static str) -> bool {
+    for (index, n) in NUMBERS {
+        let Ok(bytes) = text(alloc, prefix, number, index, &[]) else {
+            return false;
+        };
+        if !holds(alloc, &bytes, Seen::new(prefix, number, form, n, 0)) {
+            return false;
+        }
+    }
+    true
+}
+
+fn holds_two(alloc: Global, prefix: u8, number: u32, form: &'static str) -> bool {
+    for (second, n) in NUMBERS {
+        let Ok(bytes) = text(alloc, prefix, number, &[0x81, 0x01], second) else {
+            return false;
+        };
+        if !holds(alloc, &bytes, Seen::new(prefix, number, form, 129, n)) {
+            return false;
+        }
+    }
+    for (first, n) in NUMBERS {
+        let Ok(bytes) = text(alloc, prefix, number, first, &[0x05]) else {
+            return false;
+        };
+        if !holds(alloc, &bytes, Seen::new(prefix, number, form, n, 5)) {
+            return false;
+        }
+    }
+    true
+}
+
+#[test]
+fn operators_without_immediates(rt: HostRuntime) {
+    let rows: [(u8, u32, u32); 27] = [
+        (0, 0x00, 0x01),
+        (0, 0x05, 0x05),
+        (0, 0x0a, 0x0b),
+        (0, 0x0f, 0x0f),
+        (0, 0x19, 0x1b),
+        (0, 0x45, 0xc4),
+        (0, 0xd1, 0xd1),
+        (0, 0xd3, 0xd4),
+        (0xfb, 15, 15),
+        (0xfb, 26, 30),
+        (0xfc, 0, 7),
+        (0xfc, 19, 22),
+        (0xfd, 14, 20),
+        (0xfd, 35, 83),
+        (0xfd, 94, 153),
+        (0xfd, 155, 161),
+        (0xfd, 163, 164),
+        (0xfd, 167, 174),
+        (0xfd, 177, 177),
+        (0xfd, 181, 186),
+        (0xfd, 188, 193),
+        (0xfd, 195, 196),
+        (0xfd, 199, 206),
+        (0xfd, 209, 209),
+        (0xfd, 213, 225),
+        (0xfd, 227, 237),
+        (0xfd, 239, 275),
+    ];
+    for (prefix, first, last) in rows {
+        for number in first..=last {
+            assert!(rt; holds_bare(rt.alloc(), prefix, number));
+        }
+    }
+}
+
+#[test]
+fn operators_with_one_index(rt: HostRuntime) {
+    let rows: [(u8, u32, u32, &'static str); 21] = [
+        (0, 0x07, 0x08, "tag"),
+        (0, 0x09, 0x09, "label"),
+        (0, 0x0c, 0x0d, "label"),
+        (0, 0x18, 0x18, "label"),
+        (0, 0xd5, 0xd6, "label"),
+        (0, 0x10, 0x10, "function"),
+        (0, 0x12, 0x12, "function"),
+        (0, 0xd2, 0xd2, "function"),
+        (0, 0x14, 0x15, "type"),
+        (0, 0x20, 0x22, "local"),
+        (0, 0x23, 0x24, "global"),
+        (0, 0x25, 0x26, "table"),
+        (0, 0x3f, 0x40, "memory"),
+        (0xfb, 0, 1, "type"),
+        (0xfb, 6, 7, "type"),
+        (0xfb, 11, 14, "type"),
+        (0xfb, 16, 16, "type"),
+        (0xfc, 9, 9, "data"),
+        (0xfc, 11, 11, "memory"),
+        (0xfc, 13, 13, "element"),
+        (0xfc, 15, 17, "table"),
+    ];
+    for (prefix, first, last, form) in rows {
+        for number in first..=last {
+            assert!(rt; holds_index(rt.alloc(), prefix, number, form));
+        }
+    }
+}
+
+#[test]
+fn operators_with_two_numbers(rt: HostRuntime) {
+    let rows: [(u8, u32, u32, &'static str); 13] = [
+        (0, 0x11, 0x11, "type table"),
+        (0, 0x13, 0x13, "type table"),
+        (0xfb, 2, 5, "type number"),
+        (0xfb, 8, 8, "type number"),
+        (0xfb, 9, 9, "type data"),
+        (0xfb, 18, 18, "type data"),
+        (0xfb, 10, 10, "type element"),
+        (0xfb, 19, 19, "type element"),
+        (0xfb, 17, 17, "type type"),
+        (0xfc, 8, 8, "data memory"),
+        (0xfc, 10, 10, "memory memory"),
+        (0xfc, 12, 12, "element table"),
+        (0xfc, 14, 14, "table table"),
+    ];
+    for (prefix, first, last, form) in rows {
+        for number in first..=last {
+            assert!(rt; holds_two(rt.alloc(), prefix, number, form));
+        }
+    }
+}
