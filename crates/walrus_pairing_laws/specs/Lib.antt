@@ -1,0 +1,4 @@
+pub mod Laws
+pub mod Back
+pub mod Numeric
+pub mod Together
