@@ -21,7 +21,7 @@ use Rattle.walrus_pairing_laws.specs.Back.{some_is, ok_is, read_again, variable_
 use Rattle.walrus_pairing_laws.specs.Numeric.{numeric_back, bare_back}
 
 -- an answer is one of the two
-either_is : (a b : Or (Option Seen)) (s : Seen) → either a b ≡ Ok (Some s) → (a ≡ Ok (Some s)) ⊎ (b ≡ Ok (Some s))
+pub either_is : (a b : Or (Option Seen)) (s : Seen) → either a b ≡ Ok (Some s) → (a ≡ Ok (Some s)) ⊎ (b ≡ Ok (Some s))
 either_is (Ok None) b s e = inr e
 either_is (Ok (Some t)) b s e = inl e
 either_is (Err x) b s e = inl e
