@@ -43,15 +43,14 @@ low_unary_vectors =
     ∷ run 103 (F32x4Ceil ∷ F32x4Floor ∷ F32x4Trunc ∷ F32x4Nearest ∷ [])
     ∷ run 116 (F64x2Ceil ∷ F64x2Floor ∷ [])
     ∷ run 122 (F64x2Trunc ∷ [])
-    ∷ run 124 (
-    I16x8ExtaddPairwiseI8x16S ∷ I16x8ExtaddPairwiseI8x16U ∷ I32x4ExtaddPairwiseI16x8S ∷
-    I32x4ExtaddPairwiseI16x8U ∷ I16x8Abs ∷ I16x8Neg ∷ [])
+    ∷ run 124 (I16x8ExtaddPairwiseI8x16S ∷ I16x8ExtaddPairwiseI8x16U ∷ I32x4ExtaddPairwiseI16x8S ∷ I32x4ExtaddPairwiseI16x8U ∷ [])
     ∷ []
 
 -- those behind fd, from 128 on
 unfoldable pub high_unary_vectors : List (Run UnaryOp)
 high_unary_vectors =
-    run 131 (I16x8AllTrue ∷ I16x8Bitmask ∷ [])
+    run 128 (I16x8Abs ∷ I16x8Neg ∷ [])
+    ∷ run 131 (I16x8AllTrue ∷ I16x8Bitmask ∷ [])
     ∷ run 135 (
     I16x8ExtendLowI8x16S ∷ I16x8ExtendHighI8x16S ∷ I16x8ExtendLowI8x16U ∷ I16x8ExtendHighI8x16U ∷ [])
     ∷ run 148 (F64x2Nearest ∷ [])

@@ -148,14 +148,12 @@ fn low_unary_of_vector(number: u32) -> Option<UnaryOp>
         ),
         116..=117 => pick(&[UnaryOp::F64x2Ceil, UnaryOp::F64x2Floor], number - 116),
         122 => Some(UnaryOp::F64x2Trunc),
-        124..=129 => pick(
+        124..=127 => pick(
             &[
                 UnaryOp::I16x8ExtaddPairwiseI8x16S,
                 UnaryOp::I16x8ExtaddPairwiseI8x16U,
                 UnaryOp::I32x4ExtaddPairwiseI16x8S,
                 UnaryOp::I32x4ExtaddPairwiseI16x8U,
-                UnaryOp::I16x8Abs,
-                UnaryOp::I16x8Neg,
             ],
             number - 124,
         ),
@@ -168,6 +166,7 @@ fn high_unary_of_vector(number: u32) -> Option<UnaryOp>
     ensures { result ≡ in_runs high_unary_vectors number }
 {
     match number {
+        128..=129 => pick(&[UnaryOp::I16x8Abs, UnaryOp::I16x8Neg], number - 128),
         131..=132 => pick(
             &[UnaryOp::I16x8AllTrue, UnaryOp::I16x8Bitmask],
             number - 131,

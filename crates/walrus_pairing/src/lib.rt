@@ -1,0 +1,15 @@
+//! Plain operators of files paired with instructions, both ways, over maps of indices and ids.
+#![tactic(auto)]
+
+mod error;
+mod families;
+mod instructions;
+mod to_instr;
+mod to_operator;
+mod types;
+mod written;
+
+pub use error::PairError;
+pub use to_instr::instr_of;
+pub use to_operator::operator_of;
+pub use types::{read_heap, read_value, write_heap, write_value};

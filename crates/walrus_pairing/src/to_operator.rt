@@ -1,0 +1,78 @@
+//! The operator of an instruction.
+ghost use Rattle.std.specs.Prelude.{◌≡◌};
+ghost use Rattle.walrus_index_maps.specs.Views.{indices};
+ghost use Rattle.walrus_pairing.specs.Looks.{number_of};
+ghost use Rattle.walrus_pairing.specs.Seen.{as_seen};
+ghost use Rattle.walrus_pairing.specs.Answers.{selected, IsSelectAnswer, IsAnswer};
+ghost use Rattle.walrus_pairing.specs.Write.{plain_at};
+
+use crate::error::PairError;
+use crate::families::{bare_code_of, write_memory, write_numeric, write_object, write_variable};
+use crate::types::write_value;
+use crate::written::{Written, op};
+use std::alloc::Global;
+use walrus_arena::FunctionId;
+use walrus_forms::ValType;
+use walrus_index_maps::IdsToIndices;
+use walrus_instr::Instr;
+use walrus_operator_codes::byte;
+use walrus_operators::Immediates;
+
+// Of an instruction without a list.
+fn plain_operator(instr: &Instr, function: FunctionId, maps: &IdsToIndices) -> Written
+    ensures { as_seen result ≡ plain_at (number_of (indices maps.now) function) instr.now }
+{
+    if let Some(code) = bare_code_of(instr) {
+        return op(code, Immediates::Bare);
+    }
+    if let Some(op) = write_numeric(instr)? {
+        return Ok(Some(op));
+    }
+    if let Some(op) = write_variable(instr, function, maps)? {
+        return Ok(Some(op));
+    }
+    if let Some(op) = write_memory(instr, maps)? {
+        return Ok(Some(op));
+    }
+    write_object(instr, maps)
+}
+
+// The type that a `select` names.
+fn selected_type(instr: &Instr) -> Option<ValType>
+    ensures { result ≡ selected instr.now }
+{
+    match instr {
+        Instr::Select { ty } => *ty,
+        _ => None,
+    }
+}
+
+fn select_operator(alloc: Global, ty: ValType, maps: &IdsToIndices) -> Written
+    ensures { IsSelectAnswer (indices maps.now).types.number ty result }
+{
+    let ty = write_value(ty, maps)?;
+    let mut types = Vec::new(alloc);
+    types.extend_from_slice(&[ty])?;
+    op(byte(0x1c), Immediates::Select(types))
+}
+
+/// The plain operator of an instruction in the body of this function, its names by their numbers; none for an instruction that holds
+/// sequences or labels, which is not paired by itself.
+///
+/// # Errors
+///
+/// `Unknown` where a name has no number: the first in the order of the operator's immediates. `TypeIndex` and `Memory` of a
+/// `select` with a type alone: where a type's number there is 2^20 or more, and for want of memory.
+pub fn operator_of(
+    alloc: Global,
+    instr: &Instr,
+    function: FunctionId,
+    maps: &IdsToIndices,
+) -> Written
+    ensures { IsAnswer (number_of (indices maps.now) function) instr.now result }
+{
+    if let Some(ty) = selected_type(instr) {
+        return select_operator(alloc, ty, maps);
+    }
+    plain_operator(instr, function, maps)
+}

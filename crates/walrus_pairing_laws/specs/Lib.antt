@@ -1,0 +1,6 @@
+pub mod Laws
+pub mod Told
+pub mod Back
+pub mod Numeric
+pub mod Together
+pub mod NamesTold

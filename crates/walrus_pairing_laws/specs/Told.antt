@@ -1,0 +1,38 @@
+-- What a walk is told of an instruction, and what its operator names.
+use Rattle.std.specs.Prelude.{◌≡◌, ◌⊎◌, List, reverse, Option, Some, None, Ok}
+use Rattle.std.specs.List.{filter_map}
+use Rattle.wasm_immediates.specs.Items.{Types, Functions, Tables, Memories, Tags, Globals, ElementSegments, DataSegments, Locals, Labels}
+use Rattle.wasm_operators.specs.Operators.{Seen}
+use Rattle.wasm_operator_names.specs.Names.{Name, operator_names}
+use Rattle.walrus_instr.specs.declared.instr.Instr.{Instr}
+use Rattle.walrus_walks.specs.Events.{Event, NamesSeq, NamesLocal, NamesMemory, NamesTable, NamesGlobal, NamesFunction, NamesData, NamesType, NamesElement, NamesTag, names}
+use Rattle.walrus_pairing.specs.Looks.{Look}
+use Rattle.walrus_pairing.specs.Write.{operator_at}
+
+-- each id is its own number
+abbrev pub all : Look
+all space n = Some n
+
+-- the name that a visitor is told
+abbrev pub told : Event → Option Name
+told (NamesSeq id) = Some (Labels, id)
+told (NamesLocal id) = Some (Locals, id)
+told (NamesMemory id) = Some (Memories, id)
+told (NamesTable id) = Some (Tables, id)
+told (NamesGlobal id) = Some (Globals, id)
+told (NamesFunction id) = Some (Functions, id)
+told (NamesData id) = Some (DataSegments, id)
+told (NamesType id) = Some (Types, id)
+told (NamesElement id) = Some (ElementSegments, id)
+told (NamesTag id) = Some (Tags, id)
+told _ = None
+
+abbrev pub told_all : List Event → List Name
+told_all events = filter_map told events
+
+-- the names that a visitor of the instruction is told are those of the operator, in its order or in the reverse
+abbrev pub SameNames : Instr → Seen → Type 0
+SameNames i op = (told_all (names i) ≡ operator_names op) ⊎ (told_all (names i) ≡ reverse (operator_names op))
+
+abbrev pub NamesAreTold : Type 0
+NamesAreTold = (i : Instr) (op : Seen) → operator_at all i ≡ Ok (Some op) → SameNames i op

@@ -1,0 +1,20 @@
+//! Laws: functions with nothing to do, whose contracts hold of all instructions and operators.
+ghost use Rattle.walrus_pairing_laws.specs.Laws.{InstrComesBack, FormsAreTold};
+ghost use Rattle.walrus_pairing_laws.specs.Told.{NamesAreTold};
+
+/// An instruction that is paired with an operator, its names sent through one map, is the one that this operator is paired with
+/// through a map that undoes it.
+pub fn instructions_come_back()
+    ensures { InstrComesBack }
+{}
+
+/// Instructions that differ have different operators.
+pub fn forms_are_told()
+    ensures { FormsAreTold }
+{}
+
+/// What a visitor of an instruction is told that it names is what its operator names, in the order of its immediates or in the
+/// reverse.
+pub fn names_are_told()
+    ensures { NamesAreTold }
+{}
