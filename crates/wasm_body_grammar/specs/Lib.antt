@@ -5,3 +5,4 @@ pub mod Laws
 pub mod Read
 pub mod Codes
 pub mod ReadCodes
+pub mod Numbers

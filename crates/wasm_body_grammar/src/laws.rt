@@ -2,6 +2,7 @@
 
 ghost use Rattle.wasm_body_grammar.specs.Codes.{ParsingReadsAll};
 ghost use Rattle.wasm_body_grammar.specs.Laws.{BodiesReadOnce, ReadDontStop, BodiesReadOrStop, BodiesStopOnce, BodiesStopInside, BodiesStopForGood, BodiesEnd, BodiesArePrefixFree, ParsingReads};
+ghost use Rattle.wasm_body_grammar.specs.Numbers.{FaultsGoByNumber};
 
 /// Bytes read as one body at most.
 pub fn bodies_read_once()
@@ -51,4 +52,9 @@ pub fn parsing_reads()
 /// The same of the bodies of a module, one after another; where one stops lies in the bytes of the file.
 pub fn parsing_reads_all()
     ensures { ParsingReadsAll }
+{}
+
+/// Of the faults that are due at an operator the one of the smallest number is told.
+pub fn faults_go_by_number()
+    ensures { FaultsGoByNumber }
 {}

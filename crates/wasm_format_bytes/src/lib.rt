@@ -1,0 +1,2 @@
+//! The shortest spelling of each value of a format.
+#![tactic(auto)]

@@ -1,0 +1,5 @@
+use Rattle.wasm_name_payloads.specs.Kept.{names_are_read_back}
+use Rattle.wasm_name_payloads.proofs.laws.names_are_read_back.Goals as goal
+
+pub returns : goal.returns
+returns c = names_are_read_back

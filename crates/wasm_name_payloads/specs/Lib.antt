@@ -1,0 +1,10 @@
+pub mod Keepers
+pub mod Joined
+pub mod Windows
+pub mod Names
+pub mod Producers
+pub mod Written
+pub mod ReadBack
+pub mod Laws
+pub mod Kept
+pub mod Examples
