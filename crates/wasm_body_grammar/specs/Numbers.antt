@@ -1,6 +1,7 @@
 -- Faults by number: of those that are due at an operator, the one of the smallest number is told.
 use Rattle.std.specs.Prelude.{ℕ, ◌≤◌, ◌≡◌, ◌⊎◌, ◌^◌, ◌==◌, ◌&&◌, ◌||◌, nat_lt, Bool, true, false, not, List, [], ◌∷◌, length, slice_get, slice_index_or, Option, Some, None}
 use Rattle.std.specs.List.{list_any}
+use Rattle.std.specs.Option.{is_some}
 use Rattle.std.proofs.Common.{sym, ◌∙◌, subst, arith, inl, inr}
 use Rattle.walrus_forms.specs.Forms.{Form, FunctionForm, StructForm, ArrayForm}
 use Rattle.walrus_forms.specs.Kinds.{Kind}
@@ -17,7 +18,7 @@ use Rattle.wasm_formats.specs.declared.fault.Form.TheVariants as unsupported
 use Rattle.wasm_grammar.specs.States.{types_of}
 use Rattle.wasm_grammar.specs.Values.{must, first_of}
 use Rattle.wasm_body_grammar.specs.Frames.{Frame, Plain, Choice, Trying, Catching, Caught, frames_after, turned, label_count}
-use Rattle.wasm_body_grammar.specs.Rules.{Around, room, space_of, is_short, serves, is_segment, has_wide, has_words, names_test, form_test, kind_test, block_test, data_test, form_rule, select_rule, words_rule, access_rule, first_in, turned_test, first_trouble, tests, operator_test}
+use Rattle.wasm_body_grammar.specs.Rules.{Around, room, space_of, pick, is_segment, has_wide, has_words, names_test, form_test, kind_test, block_test, data_test, form_rule, select_rule, words_rule, access_rule, first_in, turned_test, first_trouble, tests, operator_test}
 
 -- the number of a fault, in the order in which faults of one place are told
 abbrev pub number_of : Trouble → ℕ
@@ -111,7 +112,7 @@ names_between rooms (n ∷ names) =
 
 form_between : (a : Around) (form : Form) → Between 7 7 (form_test a form)
 form_between a (FunctionForm params results) =
-    must_between 7 7 (is_short params results || list_any (serves a.same params results) (types_of a.filled)) TypeForm (omega arith) (omega arith)
+    must_between 7 7 (is_some (pick a params results)) TypeForm (omega arith) (omega arith)
 form_between a (StructForm fields) = some_between 7 7 TypeForm (omega arith) (omega arith)
 form_between a (ArrayForm field) = some_between 7 7 TypeForm (omega arith) (omega arith)
 

@@ -1,7 +1,7 @@
 -- What is asked of an operator in a body (Core Specification, valid instructions), in words of its items.
-use Rattle.std.specs.Prelude.{ℕ, ◌^◌, ◌==◌, ◌&&◌, ◌||◌, nat_lt, Bool, true, false, not, List, [], ◌∷◌, length, Option, Some, None, Ok, Err, slice_get, slice_index_or}
+use Rattle.std.specs.Prelude.{ℕ, ◌+◌, ◌^◌, ◌==◌, ◌&&◌, ◌||◌, nat_lt, Bool, true, false, not, List, [], ◌∷◌, length, Option, Some, None, Ok, Err, if◌then◌else◌, slice_get, slice_index_or}
 use Rattle.std.specs.List.{list_any, list_all}
-use Rattle.std.specs.Option.{is_some}
+use Rattle.std.specs.Option.{is_some, option_map}
 use Rattle.wasm_features.specs.declared.WasmFeatures.{WasmFeatures}
 use Rattle.walrus_forms.specs.declared.value.ValType.{ValType}
 use Rattle.walrus_forms.specs.Forms.{Form, FunctionForm, StructForm, ArrayForm}
@@ -20,7 +20,7 @@ use Rattle.wasm_formats.specs.declared.fault.Space.TheVariants as spaces
 use Rattle.wasm_formats.specs.declared.fault.Form.TheVariants as unsupported
 use Rattle.wasm_formats.specs.Stops.{Trouble, Index, TypeForm, Position, Unsupported, Bounds}
 use Rattle.wasm_grammar.specs.Modules.{Memory, Module}
-use Rattle.wasm_grammar.specs.TypeWords.{heap_of, value_of}
+use Rattle.wasm_grammar.specs.TypeWords.{heap_of, value_of, value_from}
 use Rattle.wasm_grammar.specs.Values.{must, first_of}
 use Rattle.wasm_grammar.specs.States.{types_of, count_of}
 use Rattle.wasm_body_grammar.specs.Frames.{Frame, Turned, turned, label_count}
@@ -61,18 +61,23 @@ names_test rooms (n ∷ names) = first_of (must (nat_lt n.1 (rooms n.0)) (Index 
 
 -- ---- a written block type is a function's, and has a pick
 
--- no parameters and at most one result: the empty or the one-result form serves
-abbrev pub is_short : List ValType → List ValType → Bool
-is_short [] [] = true
-is_short [] (result ∷ []) = true
-is_short _ _ = false
-
 -- a final function type without supertype, of just these parameters and results, types compared by what they stand for
 abbrev pub serves : (ℕ → ℕ) → List ValType → List ValType → Kind → Bool
 serves same params results kind = same_kind (renamed_kind same kind) (renamed_kind same (function_kind params results))
 
+-- the last of these types, numbered from here on, that passes the test, else what was found before
+abbrev pub latest_from : (Kind → Bool) → ℕ → Option ℕ → List Kind → Option ℕ
+latest_from test n found [] = found
+latest_from test n found (kind ∷ kinds) = latest_from test (n + 1) (if test kind then Some n else found) kinds
+
+-- the pick for parameters and results: the empty or the one-result form for no parameters and at most one result, else the latest type that serves
+abbrev pub pick : Around → List ValType → List ValType → Option BlockType
+pick a [] [] = Some blocks.Empty
+pick a [] (result ∷ []) = Some (blocks.Value (value_from result))
+pick a params results = option_map blocks.Type (latest_from (serves a.same params results) 0 None (types_of a.filled))
+
 abbrev pub form_test : Around → Form → Option Trouble
-form_test a (FunctionForm params results) = must (is_short params results || list_any (serves a.same params results) (types_of a.filled)) TypeForm
+form_test a (FunctionForm params results) = must (is_some (pick a params results)) TypeForm
 form_test a (StructForm fields) = Some TypeForm
 form_test a (ArrayForm field) = Some TypeForm
 

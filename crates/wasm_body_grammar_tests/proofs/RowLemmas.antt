@@ -1,7 +1,7 @@
 -- The bodies of modules, computed.
 use Rattle.std.specs.Prelude.{refl}
 use Rattle.wasm_body_grammar_tests.specs.Examples.{one, two, with_segment, with_tag, with_open, counting, without_legacy}
-use Rattle.wasm_body_grammar_tests.specs.Rows.{RowsRead, RowsStop, RowsHold, one_read, two_read, segment_read, tag_read, one_stop, segment_stop, legacy_stop, open_stop}
+use Rattle.wasm_body_grammar_tests.specs.Rows.{PicksHold, RowsRead, RowsStop, RowsHold, one_read, two_read, segment_read, tag_read, one_stop, segment_stop, legacy_stop, open_stop}
 
 one_is : RowsRead one one_read
 unfolding Rattle.wasm_reader.specs.Text.size_at Rattle.wasm_operators.specs.Operators.operator_at Rattle.wasm_operators.specs.Operators.code_at Rattle.wasm_operators.specs.Operators.kind_of Rattle.wasm_operators.specs.Table.structure_rows Rattle.wasm_operators.specs.Table.call_rows Rattle.wasm_operators.specs.Table.plain_rows Rattle.wasm_operators.specs.Table.fb_rows Rattle.wasm_operators.specs.Table.fc_rows Rattle.wasm_operators.specs.Table.fd_rows Rattle.wasm_operators.specs.Table.fe_rows Rattle.wasm_immediates.specs.Readings.below_at Rattle.wasm_immediates.specs.Readings.zero_at Rattle.wasm_immediates.specs.Readings.empty_at Rattle.wasm_immediates.specs.Readings.type_index_at Rattle.wasm_immediates.specs.Readings.block_at Rattle.wasm_immediates.specs.Readings.memory_at Rattle.wasm_immediates.specs.Readings.access_at Rattle.wasm_immediates.specs.Readings.clause_at Rattle.wasm_immediates.specs.Readings.item_at Rattle.wasm_immediates.specs.Readings.items_at Rattle.wasm_reader.specs.Items.items_at Rattle.wasm_reader.specs.Items.vec_at Rattle.wasm_reader.specs.Numbers.number_at Rattle.wasm_reader.specs.Reading.little_at Rattle.wasm_ref_types.specs.ReadTypes.abstract_at Rattle.wasm_ref_types.specs.ReadTypes.shared_at Rattle.wasm_ref_types.specs.ReadTypes.index_at Rattle.wasm_ref_types.specs.ReadTypes.heap_at Rattle.wasm_ref_types.specs.ReadTypes.long_at Rattle.wasm_ref_types.specs.ReadTypes.reference_at Rattle.wasm_ref_types.specs.ReadTypes.plain_at Rattle.wasm_ref_types.specs.ReadTypes.value_at
@@ -46,3 +46,6 @@ rows_hold = record {
   stops_legacy = legacy_refused_is;
   stops_open = open_refused_is;
 }
+
+pub picks_hold : PicksHold
+picks_hold = record { none = refl; single = refl; latest = refl; missing = refl; other = refl; same = refl }

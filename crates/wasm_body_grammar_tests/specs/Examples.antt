@@ -4,9 +4,10 @@ use Rattle.wasm_features.specs.declared.WasmFeatures.{WasmFeatures}
 use Rattle.wasm_features.specs.Features.{SharedEverythingThreads, LegacyExceptions, WideArithmetic, features_of}
 use Rattle.wasm_features.specs.Sets.{default_names}
 use Rattle.walrus_forms.specs.declared.value.AbstractHeapType.TheVariants as abstracts
-use Rattle.walrus_forms.specs.declared.value.HeapType.TheVariants.{Abstract}
+use Rattle.walrus_forms.specs.declared.value.HeapType.TheVariants.{Abstract, Concrete}
 use Rattle.walrus_forms.specs.declared.value.RefType.{RefType}
-use Rattle.walrus_forms.specs.declared.value.ValType.TheVariants.{I32, I64}
+use Rattle.walrus_forms.specs.declared.value.ValType.{ValType}
+use Rattle.walrus_forms.specs.declared.value.ValType.TheVariants.{I32, I64, Ref}
 use Rattle.walrus_forms.specs.Forms.{FunctionForm}
 use Rattle.walrus_forms.specs.Kinds.{Kind, function_kind, struct_kind, declared_kind}
 use Rattle.walrus_forms.specs.Records.{TypeGroup}
@@ -61,6 +62,10 @@ memory wide = Some (record { shared = false; wide = wide; initial = 1; maximum =
 
 abbrev pub funcref : RefType
 funcref = record { nullable = true; heap_type = Abstract abstracts.Func }
+
+-- a reference to the values of a type
+abbrev pub to : ℕ → ValType
+to t = Ref (record { nullable = true; heap_type = Concrete t })
 
 -- types: a plain function type, one from i32 to i32, a structure, and an open function type from i64 to nothing; and one item of each
 -- other space, but two memories, the second with 64 bits

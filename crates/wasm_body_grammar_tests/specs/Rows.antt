@@ -1,17 +1,18 @@
 -- Bodies of whole modules: which body each is, with the places of its operators, or why it is refused, at which place of the file.
-use Rattle.std.specs.Prelude.{ℕ, ◌+◌, ◌-◌, ◌≡◌, pos, List, [], ◌∷◌, length, map, Result, Ok, Err}
+use Rattle.std.specs.Prelude.{ℕ, ◌+◌, ◌-◌, ◌≡◌, pos, ◌==◌, List, [], ◌∷◌, length, map, Some, None, Result, Ok, Err, if◌then◌else◌}
 use Rattle.wasm_reader.specs.declared.error.ErrorKind.TheVariants as kinds
 use Rattle.wasm_ref_types.specs.declared.value.ValType.TheVariants as values
 use Rattle.walrus_forms.specs.declared.value.ValType.TheVariants.{I32, I64}
+use Rattle.walrus_forms.specs.Kinds.{function_kind, struct_kind}
 use Rattle.wasm_immediates.specs.declared.block_type.BlockType.TheVariants as blocks
 use Rattle.wasm_immediates.specs.Items.{Functions, Tags, DataSegments, Locals, Labels, Names, S32, Block}
 use Rattle.wasm_formats.specs.declared.fault.Space.TheVariants as spaces
 use Rattle.wasm_formats.specs.declared.fault.Limited.TheVariants as limits
 use Rattle.wasm_formats.specs.Stops.{Trouble, Read, Index, TypeForm, Nesting, Position, Operator, Limit, Stop, stop}
-use Rattle.wasm_grammar.specs.Modules.{Body}
-use Rattle.wasm_body_grammar.specs.Rules.{Around}
+use Rattle.wasm_grammar.specs.Modules.{Body, empty}
+use Rattle.wasm_body_grammar.specs.Rules.{Around, pick}
 use Rattle.wasm_body_grammar.specs.Bodies.{body_at}
-use Rattle.wasm_body_grammar_tests.specs.Examples.{one, two, with_segment, with_tag, with_open, counting, without_legacy, op, prefixed, at, just}
+use Rattle.wasm_body_grammar_tests.specs.Examples.{one, two, around, groups_of, to, with_segment, with_tag, with_open, counting, without_legacy, op, prefixed, at, just}
 
 -- the place at which a body's bytes begin in the code section's contents, and its bytes
 abbrev pub ReadRow : Type 0
@@ -103,3 +104,21 @@ pub record RowsHold : Type 0 where
   pub stops_segment : RowsStop with_segment segment_stop
   pub stops_legacy : RowsStop (without_legacy with_tag) legacy_stop
   pub stops_open : RowsStop with_open open_stop
+
+-- ---- picks
+
+-- two equal types with two results, and two structure types, one for each reference that a type takes
+abbrev pub twice : Around
+twice = around (record empty { groups = groups_of (function_kind [] (I32 ∷ I64 ∷ []) ∷ function_kind [] (I32 ∷ I64 ∷ []) ∷ struct_kind [] ∷ struct_kind [] ∷ function_kind (to 2 ∷ []) [] ∷ []) })
+
+-- where the second structure type stands for the first
+abbrev pub stands_for : ℕ → ℕ
+stands_for t = if t == 3 then 2 else t
+
+pub record PicksHold : Type 0 where
+  pub none : pick twice [] [] ≡ Some blocks.Empty
+  pub single : pick twice [] (I32 ∷ []) ≡ Some (blocks.Value values.I32)
+  pub latest : pick twice [] (I32 ∷ I64 ∷ []) ≡ Some (blocks.Type 1)
+  pub missing : pick twice (I32 ∷ []) [] ≡ None
+  pub other : pick twice (to 3 ∷ []) [] ≡ None
+  pub same : pick (record twice { same = stands_for }) (to 3 ∷ []) [] ≡ Some (blocks.Type 4)

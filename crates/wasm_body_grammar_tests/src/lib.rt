@@ -1,7 +1,7 @@
 //! Bodies computed from the grammar of bodies: facts, as functions with nothing to do.
 #![tactic(auto)]
 
-ghost use Rattle.wasm_body_grammar_tests.specs.Rows.{RowsHold};
+ghost use Rattle.wasm_body_grammar_tests.specs.Rows.{PicksHold, RowsHold};
 ghost use Rattle.wasm_body_grammar_tests.specs.Shapes.{ShapesHold};
 
 /// The bodies of whole modules read as they are to, each operator at its place, or are refused at the place of the file that is to be
@@ -13,4 +13,9 @@ pub fn bodies_of_modules()
 /// An operator of each shape reads, is missed at the end where it is cut, and is refused for each of its faults at its place.
 pub fn operators_of_each_shape()
     ensures { ShapesHold }
+{}
+
+/// The pick for parameters and results is the short form, or the latest type that serves.
+pub fn picks_of_types()
+    ensures { PicksHold }
 {}

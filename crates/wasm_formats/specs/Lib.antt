@@ -1,5 +1,4 @@
 pub mod Bytes
-pub mod Chosen
 pub mod Files
 pub mod Formats
 pub mod Joined

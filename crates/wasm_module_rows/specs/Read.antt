@@ -1,18 +1,26 @@
 -- Worked files that are modules.
-use Rattle.std.specs.Prelude.{ℕ, pos, true, false, List, [], ◌∷◌, ◌++◌, map, Option, Some, None}
+use Rattle.std.specs.Prelude.{Bool, ℕ, pos, true, false, List, [], ◌∷◌, ◌++◌, map, Option, Some, None}
+use Rattle.wasm_ref_types.specs.declared.heap.AbstractHeapType.TheVariants as read_heaps
+use Rattle.wasm_ref_types.specs.declared.heap.HeapType.TheVariants.{Abstract as ReadAbstract, Concrete as ReadConcrete}
+use Rattle.wasm_ref_types.specs.declared.index.UnpackedIndex.TheVariants.{Module as OfModule}
 use Rattle.wasm_ref_types.specs.declared.value.ValType.TheVariants as values
 use Rattle.walrus_forms.specs.declared.value.AbstractHeapType.TheVariants as heaps
+use Rattle.walrus_forms.specs.declared.value.FieldType.{FieldType}
+use Rattle.walrus_forms.specs.declared.value.HeapType.TheVariants.{Concrete}
 use Rattle.walrus_forms.specs.declared.value.RefType.{RefType}
+use Rattle.walrus_forms.specs.declared.value.StorageType.{StorageType}
+use Rattle.walrus_forms.specs.declared.value.StorageType.TheVariants.{Val, I8}
 use Rattle.walrus_forms.specs.declared.value.ValType.TheVariants.{I32, I64, Ref}
 use Rattle.walrus_forms.specs.Values.{nullable}
-use Rattle.walrus_forms.specs.Kinds.{Kind, function_kind}
+use Rattle.walrus_forms.specs.Forms.{StructForm}
+use Rattle.walrus_forms.specs.Kinds.{Kind, declared_kind, function_kind, array_kind}
 use Rattle.walrus_forms.specs.Records.{TypeGroup}
 use Rattle.wasm_immediates.specs.declared.block_type.BlockType.TheVariants as blocks
-use Rattle.wasm_immediates.specs.Items.{Item, Functions, Tags, Globals, DataSegments, Locals, Names, S32, Block}
+use Rattle.wasm_immediates.specs.Items.{Item, Functions, Tags, Globals, DataSegments, Locals, Names, S32, S64, Heap, Block}
 use Rattle.wasm_operators.specs.Operators.{Seen}
 use Rattle.wasm_formats.specs.declared.fault.Space.{Space}
 use Rattle.wasm_formats.specs.declared.fault.Space.TheVariants as spaces
-use Rattle.wasm_grammar.specs.Modules.{Imported, Own, Placed, Body, Function, Table, Memory, Passive, Active, Functions as Indices, Import, Export, Custom, Module, empty}
+use Rattle.wasm_grammar.specs.Modules.{Imported, Own, Placed, Body, Function, Table, Memory, Mode, Passive, Declared, Active, Elements, Functions as Indices, Expressions, Element, Segment, Import, Export, Custom, Module, empty}
 use Rattle.wasm_module_rows.specs.Files.{magic, plain_type, one_function, exported, base, shortest, usual, AreModules}
 
 -- ---- words for modules
@@ -111,6 +119,74 @@ all_items = record {
   customs = [];
 }
 
+-- ---- each form of each section
+
+abbrev pub forms : List ℕ
+forms = magic ++ 0x01 ∷ 0x19 ∷ 0x03 ∷ 0x60 ∷ 0x00 ∷ 0x00 ∷ 0x4e ∷ 0x02 ∷ 0x50 ∷ 0x00 ∷ 0x5f ∷ 0x01 ∷ 0x7f ∷ 0x01 ∷ 0x4f ∷ 0x01 ∷ 0x01 ∷ 0x5f ∷ 0x02 ∷ 0x7f ∷ 0x01 ∷ 0x78 ∷ 0x00 ∷ 0x5e ∷ 0x64 ∷ 0x01 ∷ 0x00 ∷ 0x03 ∷ 0x02 ∷ 0x01 ∷ 0x00 ∷ 0x04 ∷ 0x11 ∷ 0x03 ∷ 0x70 ∷ 0x00 ∷ 0x01 ∷ 0x40 ∷ 0x00 ∷ 0x70 ∷ 0x01 ∷ 0x02 ∷ 0x03 ∷ 0xd2 ∷ 0x00 ∷ 0x0b ∷ 0x6f ∷ 0x05 ∷ 0x04 ∷ 0x05 ∷ 0x05 ∷ 0x09 ∷ 0x03 ∷ 0x00 ∷ 0x01 ∷ 0x03 ∷ 0x01 ∷ 0x02 ∷ 0x0c ∷ 0x01 ∷ 0x00 ∷ 0x0d ∷ 0x03 ∷ 0x01 ∷ 0x00 ∷ 0x00 ∷ 0x06 ∷ 0x13 ∷ 0x03 ∷ 0x7e ∷ 0x01 ∷ 0x42 ∷ 0x05 ∷ 0x0b ∷ 0x7f ∷ 0x00 ∷ 0x41 ∷ 0x01 ∷ 0x41 ∷ 0x02 ∷ 0x6a ∷ 0x0b ∷ 0x7f ∷ 0x00 ∷ 0x23 ∷ 0x01 ∷ 0x0b ∷ 0x07 ∷ 0x15 ∷ 0x05 ∷ 0x01 ∷ 0x61 ∷ 0x00 ∷ 0x00 ∷ 0x01 ∷ 0x62 ∷ 0x01 ∷ 0x02 ∷ 0x01 ∷ 0x63 ∷ 0x02 ∷ 0x02 ∷ 0x01 ∷ 0x64 ∷ 0x03 ∷ 0x02 ∷ 0x01 ∷ 0x65 ∷ 0x04 ∷ 0x00 ∷ 0x08 ∷ 0x01 ∷ 0x00 ∷ 0x09 ∷ 0x36 ∷ 0x09 ∷ 0x00 ∷ 0x41 ∷ 0x00 ∷ 0x0b ∷ 0x01 ∷ 0x00 ∷ 0x01 ∷ 0x00 ∷ 0x01 ∷ 0x00 ∷ 0x02 ∷ 0x02 ∷ 0x42 ∷ 0x00 ∷ 0x0b ∷ 0x00 ∷ 0x01 ∷ 0x00 ∷ 0x03 ∷ 0x00 ∷ 0x00 ∷ 0x04 ∷ 0x23 ∷ 0x01 ∷ 0x0b ∷ 0x01 ∷ 0xd2 ∷ 0x00 ∷ 0x0b ∷ 0x05 ∷ 0x6f ∷ 0x01 ∷ 0xd0 ∷ 0x6f ∷ 0x0b ∷ 0x06 ∷ 0x02 ∷ 0x42 ∷ 0x00 ∷ 0x0b ∷ 0x70 ∷ 0x00 ∷ 0x07 ∷ 0x63 ∷ 0x00 ∷ 0x01 ∷ 0xd0 ∷ 0x00 ∷ 0x0b ∷ 0x81 ∷ 0x00 ∷ 0x00 ∷ 0x00 ∷ 0x0c ∷ 0x01 ∷ 0x03 ∷ 0x0a ∷ 0x04 ∷ 0x01 ∷ 0x02 ∷ 0x00 ∷ 0x0b ∷ 0x0b ∷ 0x11 ∷ 0x03 ∷ 0x00 ∷ 0x41 ∷ 0x00 ∷ 0x0b ∷ 0x01 ∷ 0xaa ∷ 0x01 ∷ 0x02 ∷ 0xbb ∷ 0xcc ∷ 0x02 ∷ 0x02 ∷ 0x42 ∷ 0x00 ∷ 0x0b ∷ 0x00 ∷ []
+
+-- the table and the memory of number 2 have 64 bits
+abbrev pub field : StorageType → Bool → FieldType
+field ty mutable = record { element_type = ty; mutable = mutable }
+
+abbrev pub reference : Bool → ℕ → RefType
+reference null n = record { nullable = null; heap_type = Concrete n }
+
+abbrev pub i32_const : ℕ → Seen
+i32_const n = op 0x41 (S32 (pos n) ∷ [])
+
+abbrev pub i64_const : ℕ → Seen
+i64_const n = op 0x42 (S64 (pos n) ∷ [])
+
+abbrev pub global_get : ℕ → Seen
+global_get n = op 0x23 (Names Globals n ∷ [])
+
+abbrev pub ref_func : ℕ → Seen
+ref_func n = op 0xd2 (Names Functions n ∷ [])
+
+abbrev pub element : Mode → Elements → Option Element
+element mode items = Some (record { mode = mode; items = items })
+
+abbrev pub data_segment : Mode → List ℕ → Option Segment
+data_segment mode bytes = Some (record { mode = mode; bytes = bytes })
+
+abbrev pub all_forms : Module
+all_forms = record {
+  groups = alone nullary
+      ∷ record { marked = true; kinds = declared_kind (StructForm (field (Val I32) true ∷ [])) false None ∷ declared_kind (StructForm (field (Val I32) true ∷ field I8 false ∷ [])) true (Some 1) ∷ [] }
+      ∷ alone (array_kind (field (Val (Ref (reference false 1))) false))
+      ∷ [];
+  imports = [];
+  functions = own 0 (just (at 3 (op 0x0b []) ∷ [])) ∷ [];
+  tables = table 1 None None
+      ∷ Some (record { wide = false; initial = 2; maximum = Some 3; element = funcref; init = Some (ref_func 0 ∷ []); imported = None })
+      ∷ Some (record { wide = true; initial = 4; maximum = Some 5; element = nullable heaps.Extern; init = None; imported = None })
+      ∷ [];
+  memories = memory 1 None None
+      ∷ Some (record { shared = true; wide = false; initial = 1; maximum = Some 2; page_size_log2 = None; imported = None })
+      ∷ Some (record { shared = false; wide = true; initial = 1; maximum = None; page_size_log2 = Some 0; imported = None })
+      ∷ [];
+  tags = Some (record { ty = 0; imported = None }) ∷ [];
+  globals = Some (record { ty = I64; mutable = true; origin = Own (i64_const 5 ∷ []) })
+      ∷ Some (record { ty = I32; mutable = false; origin = Own (i32_const 1 ∷ i32_const 2 ∷ op 0x6a [] ∷ []) })
+      ∷ Some (record { ty = I32; mutable = false; origin = Own (global_get 1 ∷ []) })
+      ∷ [];
+  exports = export (0x61 ∷ []) spaces.Function 0 ∷ export (0x62 ∷ []) spaces.Table 2 ∷ export (0x63 ∷ []) spaces.Memory 2 ∷ export (0x64 ∷ []) spaces.Global 2 ∷ export (0x65 ∷ []) spaces.Tag 0 ∷ [];
+  start = Some 0;
+  elements = element (Active 0 (i32_const 0 ∷ [])) (Indices (0 ∷ []))
+      ∷ element Passive (Indices (0 ∷ []))
+      ∷ element (Active 2 (i64_const 0 ∷ [])) (Indices (0 ∷ []))
+      ∷ element Declared (Indices [])
+      ∷ element (Active 0 (global_get 1 ∷ [])) (Expressions funcref ((ref_func 0 ∷ []) ∷ []))
+      ∷ element Passive (Expressions (nullable heaps.Extern) ((op 0xd0 (Heap (ReadAbstract false read_heaps.Extern) ∷ []) ∷ []) ∷ []))
+      ∷ element (Active 2 (i64_const 0 ∷ [])) (Expressions funcref [])
+      ∷ element Declared (Expressions (reference true 0) ((op 0xd0 (Heap (ReadConcrete (OfModule 0)) ∷ []) ∷ []) ∷ []))
+      ∷ element Passive (Indices [])
+      ∷ [];
+  segments = data_segment (Active 0 (i32_const 0 ∷ [])) (0xaa ∷ []) ∷ data_segment Passive (0xbb ∷ 0xcc ∷ []) ∷ data_segment (Active 2 (i64_const 0 ∷ [])) [] ∷ [];
+  customs = [];
+}
+
 pub record FilesRead : Type 0 where
   pub of_each : AreModules usual modules
   pub of_all : AreModules usual ((everything, all_items) ∷ [])
+  pub of_forms : AreModules usual ((forms, all_forms) ∷ [])

@@ -1,8 +1,8 @@
 -- Laws of modules.
-use Rattle.std.specs.Prelude.{ℕ, ◌+◌, ◌^◌, ◌≤◌, ◌<◌, ◌≡◌, ◌⊎◌, false, List, ◌++◌, length, Ok, Err}
+use Rattle.std.specs.Prelude.{ℕ, ◌+◌, ◌≤◌, ◌≡◌, ◌⊎◌, false, List, ◌++◌, length, Ok, Err}
 use Rattle.wasm_features.specs.declared.WasmFeatures.{WasmFeatures}
 use Rattle.wasm_formats.specs.Stops.{Trouble, Stop}
-use Rattle.wasm_formats.specs.Formats.{Format, Small}
+use Rattle.wasm_formats.specs.Formats.{Small}
 use Rattle.wasm_file_formats.specs.Closed.{is_cut}
 use Rattle.wasm_grammar.specs.Modules.{Module}
 use Rattle.wasm_sections.specs.Laws.{StopsSections}

@@ -1,5 +1,5 @@
 -- Modules (Core Specification, binary format: modules): which bytes read as which module, and where reading stops.
-use Rattle.std.specs.Prelude.{ℕ, ◌+◌, ◌-◌, ◌^◌, ◌≤◌, ◌≡◌, ◌⊎◌, List, [], length, Option, Some, None, Result, Ok, Err}
+use Rattle.std.specs.Prelude.{ℕ, ◌+◌, ◌-◌, ◌^◌, ◌≤◌, ◌≡◌, ◌⊎◌, List, [], length, Option, Some, None, Result, Ok}
 use Rattle.std.specs.Option.{is_some}
 use Rattle.wasm_features.specs.declared.WasmFeatures.{WasmFeatures}
 use Rattle.walrus_forms.specs.Renaming.{at}

@@ -1,13 +1,13 @@
 -- Lemmas: laws of modules.
-use Rattle.std.specs.Prelude.{ℕ, ◌+◌, ◌-◌, ◌≤◌, ◌≡◌, ◌⊎◌, List, [], ◌∷◌, ◌++◌, length, Option, Some, None, Result, Ok, Err, refl}
+use Rattle.std.specs.Prelude.{ℕ, ◌-◌, ◌≤◌, ◌≡◌, ◌⊎◌, List, [], ◌∷◌, length, Option, Some, None, Result, Ok, Err, refl}
 use Rattle.std.proofs.Common.{ap, sym, ◌∙◌, subst, arith, inl, inr}
 use Rattle.std.proofs.lemmas.List.{length-append}
 use Rattle.wasm_features.specs.declared.WasmFeatures.{WasmFeatures}
-use Rattle.wasm_formats.specs.Stops.{Trouble, Stop, stop, moved, ◌>>=◌}
-use Rattle.wasm_formats.specs.Formats.{Format, Small, done_is, done_refused, refused_is, step_ok, step_err}
+use Rattle.wasm_formats.specs.Stops.{Trouble, Stop, moved, ◌>>=◌}
+use Rattle.wasm_formats.specs.Formats.{Small, done_is, done_refused, refused_is, step_ok, step_err}
 use Rattle.wasm_grammar.specs.Modules.{Body, Module}
 use Rattle.wasm_grammar.specs.States.{Chunk, State}
-use Rattle.wasm_body_grammar.specs.Codes.{Code, coded, codes_at, AreBytes, AreInside}
+use Rattle.wasm_body_grammar.specs.Codes.{coded, codes_at, AreBytes, AreInside}
 use Rattle.wasm_body_grammar.specs.ReadCodes.{parsing_reads_all}
 use Rattle.wasm_sections.specs.Modules.{FileEntry, file, state_of}
 use Rattle.wasm_sections.specs.Laws.{ReadsSections}
@@ -71,10 +71,10 @@ told : (features : WasmFeatures) (bytes : List ℕ) (e : Stop) → Small bytes �
 told features bytes e small short p = step_err ((file features).parse bytes) (codes_next features bytes) e p
     (λ q. (short, inl ((file features).told bytes e small q)))
     (λ x q r.
-      let reads : ReadsSections features bytes (state_of x) = (x, (file features).found bytes x small q, refl) in
-      step_err (codes_at (around features (state_of x)) (code_left bytes (state_of x)) (codes (state_of x))) (λ xs. Ok (module_of (state_of x) xs)) e r
-      (λ t. (short, inr (state_of x, reads, parsing_reads_all.told (around features (state_of x)) (code_left bytes (state_of x)) (codes (state_of x)) e (codes_fit features bytes (state_of x) small reads).0 t)))
-      (λ xs _ t. done_refused (module_of (state_of x) xs) e t))
+    let reads : ReadsSections features bytes (state_of x) = (x, (file features).found bytes x small q, refl) in
+    step_err (codes_at (around features (state_of x)) (code_left bytes (state_of x)) (codes (state_of x))) (λ xs. Ok (module_of (state_of x) xs)) e r
+    (λ t. (short, inr (state_of x, reads, parsing_reads_all.told (around features (state_of x)) (code_left bytes (state_of x)) (codes (state_of x)) e (codes_fit features bytes (state_of x) small reads).0 t)))
+    (λ xs _ t. done_refused (module_of (state_of x) xs) e t))
 
 tells_go : (features : WasmFeatures) (bytes : List ℕ) (s : State) (e : Stop) → codes_at (around features s) (code_left bytes s) (codes s) ≡ Err e
     → (let put : List Body → Result Module Stop = λ xs. Ok (module_of s xs) in (codes_at (around features s) (code_left bytes s) (codes s) >>= put) ≡ Err e)

@@ -1,6 +1,7 @@
 pub mod Closed
 pub mod Entities
 pub mod Exports
+pub mod Ids
 pub mod Laws
 pub mod Modules
 pub mod Read

@@ -137,6 +137,23 @@ code_once x y e = cc
 pub data_once : (x y : List DataEntry) → DataSection x ≡ DataSection y → x ≡ y
 data_once x y e = cc
 
+-- the id of a section
+abbrev pub id_of : Section → ℕ
+id_of (CustomSection x) = 0
+id_of (TypeSection x) = 1
+id_of (ImportSection x) = 2
+id_of (FunctionSection x) = 3
+id_of (TableSection x) = 4
+id_of (MemorySection x) = 5
+id_of (TagSection x) = 13
+id_of (GlobalSection x) = 6
+id_of (ExportSection x) = 7
+id_of (StartSection x) = 8
+id_of (ElementSection x) = 9
+id_of (DataCountSection x) = 12
+id_of (CodeSection x) = 10
+id_of (DataSection x) = 11
+
 -- a size, and entries to the last of so many bytes
 abbrev pub list_of : {A : Type 0} → (State → A → State) → (State → Format A) → State → Format (List A)
 list_of add entry s = sized (whole (vec add entry s))

@@ -1,19 +1,19 @@
 -- Lemmas: the bodies that sections leave are bytes of the file.
-use Rattle.std.specs.Prelude.{ℕ, ◌+◌, ◌-◌, ◌≤◌, ◌≡◌, ◌==◌, Bool, true, false, List, [], ◌∷◌, ◌++◌, length, map, fold, Option, Some, None, refl}
+use Rattle.std.specs.Prelude.{ℕ, ◌+◌, ◌-◌, ◌≤◌, ◌≡◌, List, [], ◌∷◌, ◌++◌, length, map, fold, Option, Some, None, refl}
 use Rattle.std.proofs.Common.{ap, sym, ◌∙◌, subst, arith, inl, inr}
 use Rattle.std.proofs.lemmas.List.{length-append}
 use Rattle.wasm_features.specs.declared.WasmFeatures.{WasmFeatures}
 use Rattle.wasm_reader.specs.Vecs.{later_bytes}
 use Rattle.wasm_formats.specs.Formats.{Small, front_small}
-use Rattle.wasm_formats.specs.Bytes.{either_type}
 use Rattle.wasm_formats.specs.Lists.{SpellsEntries}
 use Rattle.wasm_formats.specs.Wholes.{whole, sized}
 use Rattle.wasm_grammar.specs.States.{Chunk, State, nothing_yet}
-use Rattle.wasm_sections.specs.TypeSection.{GroupEntry, add_group}
-use Rattle.wasm_sections.specs.Entities.{Entity, FunctionOf, TableOf, MemoryOf, GlobalOf, TagOf, ImportEntry, add_entity, add_import, add_function, TableEntry, add_table, MemoryType, add_memory, TagType, add_tag, GlobalEntry, add_global, with_import, import_of}
-use Rattle.wasm_sections.specs.Exports.{ExportEntry, add_export}
-use Rattle.wasm_sections.specs.Segments.{ElementEntry, add_element, DataEntry, add_data}
+use Rattle.wasm_sections.specs.TypeSection.{add_group}
+use Rattle.wasm_sections.specs.Entities.{Entity, FunctionOf, TableOf, MemoryOf, GlobalOf, TagOf, add_entity, add_import, add_function, TableEntry, add_table, add_memory, add_tag, add_global, with_import, import_of}
+use Rattle.wasm_sections.specs.Exports.{add_export}
+use Rattle.wasm_sections.specs.Segments.{add_element, add_data}
 use Rattle.wasm_sections.specs.Sections.{ChunkEntry, chunk_entry, behind_chunk, CodeEntry, code, chunk_of, code_size, Section, CustomSection, TypeSection, ImportSection, FunctionSection, TableSection, MemorySection, TagSection, GlobalSection, ExportSection, StartSection, ElementSection, DataCountSection, CodeSection, DataSection, code_once, section, SectionEntry, section_entry, put, next}
+use Rattle.wasm_sections.specs.Ids.{section_id}
 use Rattle.wasm_sections.specs.Modules.{state_of}
 use Rattle.wasm_sections.specs.Laws.{ReadsSections}
 
@@ -103,66 +103,11 @@ Fits s end = BodiesFit s.code_start end s.bodies
 fits_still : (s t : State) (end : ℕ) → looked t ≡ looked s → Fits s end → Fits t end
 fits_still s t end e h = subst (λ (p : Option (List Chunk) × ℕ). BodiesFit p.1 end p.0) (sym e) h
 
-either_case : {P Q R : Type 0} (c : Bool) → either_type c P Q → (P → R) → (Q → R) → R
-either_case true h p q = p h
-either_case false h p q = q h
-
--- only id 10 spells a code section
+-- what a code section spells
 section_code : (features : WasmFeatures) (s : State) (id : ℕ) (bytes : List ℕ) (c : CodeEntry) → (section features s id).spells bytes (CodeSection c) → (sized (whole (code s))).spells bytes c
 section_code features s id bytes c h =
-    either_case (id == 0) h (λ k. no_custom k.0 k.1)
-    (λ h. either_case (id == 1) h (λ k. no_types k.0 k.1)
-    (λ h. either_case (id == 2) h (λ k. no_imports k.0 k.1)
-    (λ h. either_case (id == 3) h (λ k. no_functions k.0 k.1)
-    (λ h. either_case (id == 4) h (λ k. no_tables k.0 k.1)
-    (λ h. either_case (id == 5) h (λ k. no_memories k.0 k.1)
-    (λ h. either_case (id == 13) h (λ k. no_tags k.0 k.1)
-    (λ h. either_case (id == 6) h (λ k. no_globals k.0 k.1)
-    (λ h. either_case (id == 7) h (λ k. no_exports k.0 k.1)
-    (λ h. either_case (id == 8) h (λ k. no_start k.0 k.1)
-    (λ h. either_case (id == 9) h (λ k. no_elements k.0 k.1)
-    (λ h. either_case (id == 12) h (λ k. no_count k.0 k.1)
-    (λ h. either_case (id == 10) h (λ k. subst (λ (c : CodeEntry). (sized (whole (code s))).spells bytes c) (code_once k.0 c k.1) k.2)
-    (λ h. either_case (id == 11) h (λ k. no_data k.0 k.1) (λ h. absurd h))))))))))))))
-  where
-    no_custom : {P : Type 0} (x : List ℕ × List ℕ) → CustomSection x ≡ CodeSection c → P
-    no_custom x e = absurd cc
-
-    no_types : {P : Type 0} (x : List GroupEntry) → TypeSection x ≡ CodeSection c → P
-    no_types x e = absurd cc
-
-    no_imports : {P : Type 0} (x : List ImportEntry) → ImportSection x ≡ CodeSection c → P
-    no_imports x e = absurd cc
-
-    no_functions : {P : Type 0} (x : List ℕ) → FunctionSection x ≡ CodeSection c → P
-    no_functions x e = absurd cc
-
-    no_tables : {P : Type 0} (x : List TableEntry) → TableSection x ≡ CodeSection c → P
-    no_tables x e = absurd cc
-
-    no_memories : {P : Type 0} (x : List MemoryType) → MemorySection x ≡ CodeSection c → P
-    no_memories x e = absurd cc
-
-    no_tags : {P : Type 0} (x : List TagType) → TagSection x ≡ CodeSection c → P
-    no_tags x e = absurd cc
-
-    no_globals : {P : Type 0} (x : List GlobalEntry) → GlobalSection x ≡ CodeSection c → P
-    no_globals x e = absurd cc
-
-    no_exports : {P : Type 0} (x : List ExportEntry) → ExportSection x ≡ CodeSection c → P
-    no_exports x e = absurd cc
-
-    no_start : {P : Type 0} (x : ℕ) → StartSection x ≡ CodeSection c → P
-    no_start x e = absurd cc
-
-    no_elements : {P : Type 0} (x : List ElementEntry) → ElementSection x ≡ CodeSection c → P
-    no_elements x e = absurd cc
-
-    no_count : {P : Type 0} (x : ℕ) → DataCountSection x ≡ CodeSection c → P
-    no_count x e = absurd cc
-
-    no_data : {P : Type 0} (x : List DataEntry) → DataSection x ≡ CodeSection c → P
-    no_data x e = absurd cc
+    let k = subst (λ (n : ℕ). (section features s n).spells bytes (CodeSection c)) (sym (section_id features s id bytes (CodeSection c) h)) h in
+    subst (λ (c : CodeEntry). (sized (whole (code s))).spells bytes c) (code_once k.0 c k.1) k.2
 
 -- the state behind a section whose bytes end at `end`
 put_fits : (features : WasmFeatures) (s : State) (id end : ℕ) (bytes : List ℕ) (x : Section) → (section features s id).spells bytes x → Small bytes → length bytes ≤ end → Fits s end → Fits (put s end x) end
