@@ -1,5 +1,5 @@
 //! Putting a function in the place of an exported or an imported one.
-ghost use Rattle.std.specs.Prelude.{◌≡◌, Err, None, IsSome, IfSome, IfOk, IfErr, OnErr};
+ghost use Rattle.std.specs.Prelude.{◌≡◌, ◌↔◌, IsTrue, Err, None, IsSome, IfSome, IfOk, IfErr, OnErr};
 ghost use Rattle.walrus_arena.specs.Arena.{IsLive, item_at, with_item};
 ghost use Rattle.walrus_module_items.specs.declared.function.FunctionKind.TheVariants as functions;
 ghost use Rattle.walrus_errors.specs.declared.error.ModuleError.TheVariants.{NotFound, WrongKind, Memory};
@@ -24,6 +24,17 @@ fn give_body(funcs: &mut ModuleFunctions, function: FunctionId, local: LocalFunc
 }
 
 impl Module {
+    /// Whether the function is live, and its type a live function type.
+    pub fn has_live_type(&self, function: FunctionId) -> bool
+        ensures { IsTrue result ↔ IsTyped self.now.funcs self.now.types function }
+    {
+        if !self.funcs.contains(function) {
+            return false;
+        }
+        let ty = self.funcs.get(function).ty();
+        self.types.contains(ty) && self.types.get(ty).is_function()
+    }
+
     /// Puts a new function in the place of an exported one: of the same type and with the same arguments, whose body
     /// the closure fills, which gets these arguments. The lowest export of the old function names the new one, and
     /// all else that names the old one still does. Asks that an exported function is live, and its type a live
