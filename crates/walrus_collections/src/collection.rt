@@ -2,7 +2,7 @@
 ghost use Rattle.std.specs.Prelude.{◌≡◌, ◌↔◌, ◌<◌, ◌≤◌, ◌+◌, [], ◌∷◌, ◌++◌, Bool, IsTrue, IsOk, OnOk, OnErr, IfSome, Some, None, slice_set};
 ghost use Rattle.std.specs.Option.{option_map};
 ghost use Rattle.std.specs.Borrow.{sem};
-ghost use Rattle.walrus_arena.specs.Arena.{item_at, IsLive, next_id, live_count, entries, ids, IsTold};
+ghost use Rattle.walrus_arena.specs.Arena.{item_at, IsLive, next_id, live_count, lowest_id, entries, ids, IsTold};
 ghost use Rattle.walrus_collections.specs.LookUps.{items, lowest};
 ghost use Rattle.walrus_collections.specs.Lends.{lends_item};
 
@@ -113,6 +113,17 @@ impl<T, S> Collection<T, S> {
             }
         }
         None
+    }
+
+    /// The lowest live id whose item passes the test. Goes through the items.
+    pub fn lowest_id<P: Test<T>>(&self, test: &P) -> Option<Id<S>>
+        ensures found { result ≡ lowest_id (P.passes test.now) self.now }
+        ensures live { IfSome result (IsLive self.now) }
+    {
+        match self.lowest(test) {
+            Some((id, _)) => Some(id),
+            None => None,
+        }
     }
 
     /// The id that the next add gives out: the count of ids given out before.

@@ -41,11 +41,11 @@ impl<'a> Test<Export> for FunctionNamed<'a> {
     }
 }
 
-// Exports that give out this.
+/// Exports that give this out.
 #[derive(Clone, Copy)]
-struct Of(ExportItem);
+pub struct ExportOf(pub ExportItem);
 
-impl Test<Export> for Of {
+impl Test<Export> for ExportOf {
     ghost passes = { λ t e. exports t.0 e };
 
     fn passes(&self, item: &Export) -> bool {
@@ -84,7 +84,7 @@ impl Collection<Export, ExportSpace> {
     fn exported(&self, item: ExportItem) -> Option<&Export>
         ensures { option_copied result ≡ option_map (λ e. e.1) (lowest (exports item) self.now) }
     {
-        match self.lowest(&Of(item)) {
+        match self.lowest(&ExportOf(item)) {
             Some((_, export)) => Some(export),
             None => None,
         }
@@ -143,11 +143,7 @@ impl Collection<Export, ExportSpace> {
     pub fn remove(&mut self, name: &str) -> ModuleResult<()>
         ensures { Removes (export_named name.now) self.old result self.new }
     {
-        let found = match self.lowest(&Named(name)) {
-            Some((id, _)) => Some(id),
-            None => None,
-        };
-        match found {
+        match self.lowest_id(&Named(name)) {
             Some(id) => {
                 self.delete(id);
                 Ok(())

@@ -69,10 +69,7 @@ impl Collection<Function, FunctionSpace> {
     pub fn by_name(&self, name: &str) -> Option<FunctionId>
         ensures { result ≡ lowest_id (function_named name.now) self.now }
     {
-        match self.lowest(&Named(name)) {
-            Some((id, _)) => Some(id),
-            None => None,
-        }
+        self.lowest_id(&Named(name))
     }
 
     /// The live functions with a body, with their ids, by rising id.

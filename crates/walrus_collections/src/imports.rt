@@ -49,11 +49,11 @@ impl<'m, 'n> Test<Import> for FunctionNamed<'m, 'n> {
     }
 }
 
-// Imports that bring this.
+/// Imports that bring this.
 #[derive(Clone, Copy)]
-struct Of(ImportKind);
+pub struct ImportOf(pub ImportKind);
 
-impl Test<Import> for Of {
+impl Test<Import> for ImportOf {
     ghost passes = { λ t i. imports t.0 i };
 
     fn passes(&self, item: &Import) -> bool {
@@ -110,10 +110,7 @@ impl Collection<Import, ImportSpace> {
     pub fn find(&self, module: &str, name: &str) -> Option<ImportId>
         ensures { result ≡ lowest_id (import_named «module».now name.now) self.now }
     {
-        match self.lowest(&Named { module, name }) {
-            Some((id, _)) => Some(id),
-            None => None,
-        }
+        self.lowest_id(&Named { module, name })
     }
 
     /// The function of the lowest import of a function of these names. Goes through the imports.
@@ -137,7 +134,7 @@ impl Collection<Import, ImportSpace> {
     pub fn get_imported_func(&self, function: FunctionId) -> Option<&Import>
         ensures { option_copied result ≡ option_map (λ e. e.1) (lowest (imports (kinds.Function function)) self.now) }
     {
-        match self.lowest(&Of(ImportKind::Function(function))) {
+        match self.lowest(&ImportOf(ImportKind::Function(function))) {
             Some((_, import)) => Some(import),
             None => None,
         }
@@ -151,11 +148,7 @@ impl Collection<Import, ImportSpace> {
     pub fn remove(&mut self, module: &str, name: &str) -> ModuleResult<()>
         ensures { Removes (import_named «module».now name.now) self.old result self.new }
     {
-        let found = match self.lowest(&Named { module, name }) {
-            Some((id, _)) => Some(id),
-            None => None,
-        };
-        match found {
+        match self.lowest_id(&Named { module, name }) {
             Some(id) => {
                 self.delete(id);
                 Ok(())

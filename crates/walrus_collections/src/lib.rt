@@ -13,10 +13,10 @@ mod tables;
 mod tags;
 
 pub use collection::{Collection, Test};
-pub use exports::ModuleExports;
+pub use exports::{ExportOf, ModuleExports};
 pub use functions::{LocalFunctions, ModuleFunctions};
 pub use globals::ModuleGlobals;
-pub use imports::ModuleImports;
+pub use imports::{ImportOf, ModuleImports};
 pub use iter::Items;
 pub use memories::ModuleMemories;
 pub use segments::{ModuleData, ModuleElements};

@@ -2,6 +2,8 @@
 #![tactic(auto)]
 
 mod add_imports;
+mod build;
 mod module;
+mod replace;
 
 pub use module::Module;

@@ -1,0 +1,10 @@
+pub mod EmptyLemmas
+pub mod ExtendLemmas
+pub mod ImportedFunction
+pub mod ImportedGlobal
+pub mod ImportedMemory
+pub mod ImportedTable
+pub mod ImportedTag
+pub mod KeptLemmas
+pub mod OwnIdLemmas
+pub mod SlotLemmas
