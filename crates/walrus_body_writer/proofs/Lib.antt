@@ -1,0 +1,3 @@
+mod Lefts
+mod Labels
+mod Steps

@@ -1,0 +1,4 @@
+pub mod Spelled
+pub mod Doing
+pub mod Outputs
+pub mod Emitting
