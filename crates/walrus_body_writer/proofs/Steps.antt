@@ -8,10 +8,13 @@ use Rattle.walrus_instr.specs.declared.seq.InstrLocId.{InstrLocId}
 use Rattle.walrus_instr.specs.declared.seq.InstrSeq.{InstrSeq}
 use Rattle.wasm_operators.specs.Operators.{Seen}
 use Rattle.wasm_operator_bytes.specs.Bytes.{operator_bytes}
-use Rattle.walrus_walks.specs.Tree.{children, children_in, Falls, IsRank}
+use Rattle.walrus_walks.specs.Tree.{children, children_in, Falls, IsRank, IsNested}
 use Rattle.walrus_tree.specs.Trees.{IsWithin}
-use Rattle.walrus_tree.specs.Text.{Piece, Operator, after, of_parts, of_instrs, text}
+use Rattle.walrus_tree.specs.Text.{Piece, Operator, after, of_parts, of_instrs, text, operators}
 use Rattle.walrus_tree.specs.TextLaws.{TextIsPlain, AreSound}
+use Rattle.walrus_body_writer.specs.declared.todo.Closer.TheVariants.{End}
+use Rattle.walrus_body_writer.specs.declared.todo.Met.{Met}
+use Rattle.walrus_body_writer.specs.declared.todo.Met.TheVariants.{AnInstr, AnEnd, Nothing}
 use Rattle.walrus_body_writer.specs.declared.todo.Todo.{Todo}
 use Rattle.walrus_body_writer.specs.declared.todo.Todo.TheVariants.{Enter, Inside}
 use Rattle.walrus_body_writer.specs.Spelled.{Numbers, Text, written_instr, written, piece_bytes, text_bytes, text_places}
@@ -19,7 +22,7 @@ use Rattle.walrus_body_writer.specs.Doing.{piece_of, entering, opened, rest_of, 
 use Rattle.walrus_body_writer.specs.declared.depths.Depths.{Depths}
 use Rattle.walrus_body_writer.specs.declared.output.Output.{Output}
 use Rattle.walrus_body_writer.specs.Outputs.{Puts}
-use Rattle.walrus_body_writer.specs.Emitting.{State, state, advanced, WroteInstr, WroteEnd, StepsIn, StepsAt, Steps, Goes}
+use Rattle.walrus_body_writer.specs.Emitting.{State, state, advanced, MetInstr, MetEnd, AdvancesIn, AdvancesAt, Advances, Good, Passed, Writes, Goes}
 use Rattle.walrus_body_writer.proofs.Lefts.{opened_append, left_append, left_last, ranked_append, ranked_front, ranked_back, not_around, held_text, falls_at, held_ranked, entering_opens}
 use Rattle.walrus_body_writer.proofs.Labels.{instr_same, deep_entered}
 
@@ -115,50 +118,32 @@ put_places n b p l rest true old new old_places new_places op is e q =
     ∙ ap (λ (m : ℕ). old_places ++ (l, length old) ∷ text_places n b m rest) size
 put_places n b p l rest false old new old_places new_places op is e q = q
 
--- one more piece was written, and this is left
-pub record Next (n : Numbers) (b : List InstrSeq) (bytes : List ℕ) (places : List (InstrLocId × ℕ)) (before : Text) (new : State) : Type 0 where
-  pub goes : Goes n b bytes places new
-  pub less : length before ≡ length (left b [] new.todo) + 1
-
 -- the pieces behind one another
 regroup : (x : Piece × InstrLocId) (p r e l : Text) → ((x ∷ (p ++ r)) ++ e) ++ l ≡ x ∷ (p ++ ((r ++ e) ++ l))
 regroup x p r e l =
     ap (λ (z : Text). x ∷ (z ++ l)) (append_assoc p r e) ∙ ap (λ (z : Text). x ∷ z) (append_assoc p (r ++ e) l)
 
 -- behind a list that ts and this make
-module _ (n : Numbers) (b : List InstrSeq) (plain : TextIsPlain) (bytes : List ℕ) (places : List (InstrLocId × ℕ)) (ts : List Todo) (top : Todo) (old : State)
-    (g : Goes n b bytes places (record { todo = ts ++ top ∷ []; depths = old.depths; height = old.height; out = old.out })) where
+module _ (b : List InstrSeq) (plain : TextIsPlain) (ts : List Todo) (top : Todo) (old : State) (g : Good b (record { todo = ts ++ top ∷ []; depths = old.depths; height = old.height })) where
   -- the text that was left begins with this piece
-  passes : (p : Piece) (l : InstrLocId) (rest : Text) (new : State) (op : Seen) → left b [] (ts ++ top ∷ []) ≡ (p, l) ∷ rest → left b [] new.todo ≡ rest → op ≡ written n b p → Puts op l old.out new.out
-      → AreRanked g.rank [] new.todo → AreDeep new.depths (opened [] new.todo) → new.height ≡ length (opened [] new.todo) → length new.depths ≡ length b → Next n b bytes places (left b [] (ts ++ top ∷ [])) new
-  passes p l rest new op was now is puts ranked deep high sized =
-      let sound = subst AreSound was g.sound in
-      record {
-        goes = record {
-          rank = g.rank;
-          is_rank = g.is_rank;
-          ranked = ranked;
-          deep = deep;
-          height = high;
-          sized = sized;
-          sound = subst AreSound (sym now) sound.1;
-          bytes_are = ap (λ (z : Text). new.out.bytes.items ++ text_bytes n b z) now ∙ put_bytes n b p l rest old.out.bytes.items new.out.bytes.items op is puts.bytes
-              ∙ ap (λ (z : Text). old.out.bytes.items ++ text_bytes n b z) (sym was) ∙ g.bytes_are;
-          places_are =
-              ap (λ (k : Bool). if k then new.out.places.items ++ text_places n b (length new.out.bytes.items) (left b [] new.todo) else new.out.places.items) puts.keeps
-              ∙ ap (λ (z : Text). if old.out.keeps_places then new.out.places.items ++ text_places n b (length new.out.bytes.items) z else new.out.places.items) now
-              ∙ put_places n b p l rest old.out.keeps_places old.out.bytes.items new.out.bytes.items old.out.places.items new.out.places.items op is puts.bytes puts.places
-              ∙ ap (λ (z : Text). if old.out.keeps_places then old.out.places.items ++ text_places n b (length old.out.bytes.items) z else old.out.places.items) (sym was) ∙ g.places_are;
-        };
-        less = ap length was ∙ (let e = ap length now in omega (arith, e));
-      }
+  goes_on : (p : Piece × InstrLocId) (rest : Text) (new : State) → left b [] (ts ++ top ∷ []) ≡ p ∷ rest → left b [] new.todo ≡ rest
+      → AreRanked g.rank [] new.todo → AreDeep new.depths (opened [] new.todo) → new.height ≡ length (opened [] new.todo) → length new.depths ≡ length b → Good b new
+  goes_on p rest new was now ranked deep high sized = record {
+    rank = g.rank;
+    is_rank = g.is_rank;
+    ranked = ranked;
+    deep = deep;
+    height = high;
+    sized = sized;
+    sound = subst AreSound (sym now) (subst AreSound was g.sound).1;
+  }
 
   top_of : Top b g.rank (opened [] ts) old.depths old.height top
   top_of = top_is b plain g.rank g.is_rank ts top old.depths old.height (ranked_back g.rank [] ts (top ∷ []) g.ranked) g.deep g.height g.sized
 
-  module _ (t : Top b g.rank (opened [] ts) old.depths old.height top) (new : State) where
-    instr_next : (i : Instr × InstrLocId) → slice_get t.seq.instrs.items (place_of top).next ≡ Some i → WroteInstr n b top i (record { todo = ts; depths = old.depths; height = old.height; out = old.out }) new → Next n b bytes places (left b [] (ts ++ top ∷ [])) new
-    instr_next i at w =
+  module _ (t : Top b g.rank (opened [] ts) old.depths old.height top) (met : Met) (new : State) where
+    instr_passed : (i : Instr × InstrLocId) → slice_get t.seq.instrs.items (place_of top).next ≡ Some i → MetInstr top i met (record { todo = ts; depths = old.depths; height = old.height }) new → Passed b (left b [] (ts ++ top ∷ [])) met new
+    instr_passed i at w =
         let k = (place_of top).seq in
         let around = opened [] ts in
         let env = k ∷ around in
@@ -167,66 +152,112 @@ module _ (n : Numbers) (b : List InstrSeq) (plain : TextIsPlain) (bytes : List �
         let held : Text = of_parts (text b env) (children i.0) (after i.0) in
         let rest : Text = of_instrs (text b env) env (drop (next + 1) t.seq.instrs.items) in
         let more : Text = held ++ ((rest ++ e) ++ left b [] ts) in
-        let goes_on = Inside (advanced (place_of top)) in
+        let behind = Inside (advanced (place_of top)) in
         let was : left b [] (ts ++ top ∷ []) ≡ (Operator env i.0, i.1) ∷ more =
         left_last b ts top ∙ ap (λ (z : Text). z ++ left b [] ts) (t.text_is ∙ ap (λ (is : List (Instr × InstrLocId)). of_instrs (text b env) env is ++ e) (drop_at t.seq.instrs.items next i at))
         ∙ regroup (Operator env i.0, i.1) held rest e (left b [] ts) in
-        let sound = subst AreSound was g.sound in
-        let within : IsWithin env i.0 = sound.0 in
-        let opens : opened [] (ts ++ goes_on ∷ []) ≡ env = opened_append [] ts (goes_on ∷ []) in
-        let all_opens : opened [] ((ts ++ goes_on ∷ []) ++ entering i.0) ≡ env = opened_append [] (ts ++ goes_on ∷ []) (entering i.0) ∙ ap (λ (z : List ℕ). opened z (entering i.0)) opens ∙ entering_opens env i.0 in
+        let within : IsWithin env i.0 = (subst AreSound was g.sound).0 in
+        let opens : opened [] (ts ++ behind ∷ []) ≡ env = opened_append [] ts (behind ∷ []) in
+        let all_opens : opened [] ((ts ++ behind ∷ []) ++ entering i.0) ≡ env = opened_append [] (ts ++ behind ∷ []) (entering i.0) ∙ ap (λ (z : List ℕ). opened z (entering i.0)) opens ∙ entering_opens env i.0 in
         let now : left b [] new.todo ≡ more =
-        ap (left b []) w.todo ∙ left_append b [] (ts ++ goes_on ∷ []) (entering i.0)
-        ∙ ap (λ (z : List ℕ). left b z (entering i.0) ++ left b [] (ts ++ goes_on ∷ [])) opens
-        ∙ ap (λ (z : Text). z ++ left b [] (ts ++ goes_on ∷ [])) (held_text b env i.0 (length env) within.counted)
-        ∙ ap (λ (z : Text). held ++ z) (left_last b ts goes_on ∙ ap (λ (s : Option InstrSeq). rest_of (text b env) env (piece_of (place_of top).closer) (next + 1) s ++ left b [] ts) t.found) in
-        passes (Operator env i.0) i.1 more new (written_instr n b (label_by (depths_after old.depths old.height top) (height_after old.height top)) i.0) was now
-        (instr_same n b (depths_after old.depths old.height top) env (height_after old.height top) t.deep t.high i.0 within)
-        w.puts
-        (subst (AreRanked g.rank []) (sym w.todo)
-        (ranked_append g.rank [] (ts ++ goes_on ∷ []) (entering i.0)
-        (ranked_append g.rank [] ts (goes_on ∷ []) (ranked_front g.rank [] ts (top ∷ []) g.ranked) (t.some, t.below, tt))
-        (subst (λ (z : List ℕ). AreRanked g.rank z (entering i.0)) (sym opens) (held_ranked g.rank k around t.below i.0 (falls_at g.rank (g.rank k) t.seq.instrs.items next i at t.falls)))))
-        (subst (λ (z : List Todo). AreDeep new.depths (opened [] z)) (sym w.todo) (subst (AreDeep new.depths) (sym all_opens) (subst (λ (z : List ℕ). AreDeep z env) (sym w.depths) t.deep)))
-        (w.height ∙ t.high ∙ ap length (sym all_opens) ∙ ap (λ (z : List Todo). length (opened [] z)) (sym w.todo))
-        (ap length w.depths ∙ t.sized)
+        ap (left b []) w.todo ∙ left_append b [] (ts ++ behind ∷ []) (entering i.0)
+        ∙ ap (λ (z : List ℕ). left b z (entering i.0) ++ left b [] (ts ++ behind ∷ [])) opens
+        ∙ ap (λ (z : Text). z ++ left b [] (ts ++ behind ∷ [])) (held_text b env i.0 (length env) within.counted)
+        ∙ ap (λ (z : Text). held ++ z) (left_last b ts behind ∙ ap (λ (s : Option InstrSeq). rest_of (text b env) env (piece_of (place_of top).closer) (next + 1) s ++ left b [] ts) t.found) in
+        let here_deep : AreDeep new.depths env = subst (λ (z : List ℕ). AreDeep z env) (sym w.depths) t.deep in
+        let here_high : new.height ≡ length env = w.height ∙ t.high in
+        subst (λ (m : Met). Passed b (left b [] (ts ++ top ∷ [])) m new) (sym w.is) (record {
+          seq = t.seq;
+          item = i;
+          around = env;
+          found = t.found;
+          stands = at;
+          deep = here_deep;
+          high = here_high;
+          within = within;
+          was = was ∙ ap (λ (z : Text). (Operator env i.0, i.1) ∷ z) (sym now);
+          good = goes_on (Operator env i.0, i.1) more new was now
+              (subst (AreRanked g.rank []) (sym w.todo)
+              (ranked_append g.rank [] (ts ++ behind ∷ []) (entering i.0)
+              (ranked_append g.rank [] ts (behind ∷ []) (ranked_front g.rank [] ts (top ∷ []) g.ranked) (t.some, t.below, tt))
+              (subst (λ (z : List ℕ). AreRanked g.rank z (entering i.0)) (sym opens) (held_ranked g.rank k around t.below i.0 (falls_at g.rank (g.rank k) t.seq.instrs.items next i at t.falls)))))
+              (subst (λ (z : List Todo). AreDeep new.depths (opened [] z)) (sym w.todo) (subst (AreDeep new.depths) (sym all_opens) here_deep))
+              (here_high ∙ ap length (sym all_opens) ∙ ap (λ (z : List Todo). length (opened [] z)) (sym w.todo))
+              (ap length w.depths ∙ t.sized);
+        })
 
-    end_next : slice_get t.seq.instrs.items (place_of top).next ≡ None → WroteEnd n b top t.seq.end (record { todo = ts; depths = old.depths; height = old.height; out = old.out }) new → Next n b bytes places (left b [] (ts ++ top ∷ [])) new
-    end_next at w =
+    end_passed : slice_get t.seq.instrs.items (place_of top).next ≡ None → MetEnd top t.seq.end met (record { todo = ts; depths = old.depths; height = old.height }) new → Passed b (left b [] (ts ++ top ∷ [])) met new
+    end_passed at w =
         let k = (place_of top).seq in
         let around = opened [] ts in
         let env = k ∷ around in
         let p = piece_of (place_of top).closer in
         let was : left b [] (ts ++ top ∷ []) ≡ (p, t.seq.end) ∷ left b [] ts =
         left_last b ts top ∙ ap (λ (z : Text). z ++ left b [] ts) (t.text_is ∙ ap (λ (is : List (Instr × InstrLocId)). of_instrs (text b env) env is ++ (p, t.seq.end) ∷ []) (drop_past t.seq.instrs.items (place_of top).next at)) in
-        let high = t.high in
+        let now = ap (left b []) w.todo in
         let down : length env - 1 ≡ length around = omega arith in
-        passes p t.seq.end (left b [] ts) new (written n b p) was (ap (left b []) w.todo) refl
-        w.puts
-        (subst (AreRanked g.rank []) (sym w.todo) (ranked_front g.rank [] ts (top ∷ []) g.ranked))
-        (subst (λ (z : List Todo). AreDeep new.depths (opened [] z)) (sym w.todo) (subst (λ (z : List ℕ). AreDeep z around) (sym w.depths) t.deep.1))
-        (w.height ∙ ap (λ (m : ℕ). m - 1) high ∙ down ∙ ap (λ (z : List Todo). length (opened [] z)) (sym w.todo))
-        (ap length w.depths ∙ t.sized)
+        subst (λ (m : Met). Passed b (left b [] (ts ++ top ∷ [])) m new) (sym w.is) (record {
+          was = was ∙ ap (λ (z : Text). (p, t.seq.end) ∷ z) (sym now);
+          good = goes_on (p, t.seq.end) (left b [] ts) new was now
+              (subst (AreRanked g.rank []) (sym w.todo) (ranked_front g.rank [] ts (top ∷ []) g.ranked))
+              (subst (λ (z : List Todo). AreDeep new.depths (opened [] z)) (sym w.todo) (subst (λ (z : List ℕ). AreDeep z around) (sym w.depths) t.deep.1))
+              (w.height ∙ ap (λ (m : ℕ). m - 1) t.high ∙ down ∙ ap (λ (z : List Todo). length (opened [] z)) (sym w.todo))
+              (ap length w.depths ∙ t.sized);
+        })
 
-    in_next : (o : Option (Instr × InstrLocId)) → slice_get t.seq.instrs.items (place_of top).next ≡ o → StepsIn n b top t.seq o (record { todo = ts; depths = old.depths; height = old.height; out = old.out }) new → Next n b bytes places (left b [] (ts ++ top ∷ [])) new
-    in_next (Some i) e h = instr_next i e h
-    in_next None e h = end_next e h
+    in_passed : (o : Option (Instr × InstrLocId)) → slice_get t.seq.instrs.items (place_of top).next ≡ o → AdvancesIn top met t.seq o (record { todo = ts; depths = old.depths; height = old.height }) new → Passed b (left b [] (ts ++ top ∷ [])) met new
+    in_passed (Some i) e h = instr_passed i e h
+    in_passed None e h = end_passed e h
 
-    at_next : StepsAt n b top (slice_get b (place_of top).seq) (record { todo = ts; depths = old.depths; height = old.height; out = old.out }) new → Next n b bytes places (left b [] (ts ++ top ∷ [])) new
-    at_next h =
-        let F : Option InstrSeq → Type 0 = λ o. StepsAt n b top o (record { todo = ts; depths = old.depths; height = old.height; out = old.out }) new in
-        in_next (slice_get t.seq.instrs.items (place_of top).next) refl (subst F t.found h)
+    at_passed : AdvancesAt top met (slice_get b (place_of top).seq) (record { todo = ts; depths = old.depths; height = old.height }) new → Passed b (left b [] (ts ++ top ∷ [])) met new
+    at_passed h =
+        let F : Option InstrSeq → Type 0 = λ o. AdvancesAt top met o (record { todo = ts; depths = old.depths; height = old.height }) new in
+        in_passed (slice_get t.seq.instrs.items (place_of top).next) refl (subst F t.found h)
 
-  pub step_next : (new : State) → Steps n b top (record { todo = ts; depths = old.depths; height = old.height; out = old.out }) new → Next n b bytes places (left b [] (ts ++ top ∷ [])) new
-  step_next new h = at_next top_of new h
+  pub passed_at : (met : Met) (new : State) → Advances b top met (record { todo = ts; depths = old.depths; height = old.height }) new → Passed b (left b [] (ts ++ top ∷ [])) met new
+  passed_at met new h = at_passed top_of met new h
 
--- a turn of the loop
-pub looped : (n : Numbers) (b : List InstrSeq) → TextIsPlain → (bytes : List ℕ) (places : List (InstrLocId × ℕ)) (items ts : List Todo) (top : Todo) (d : Depths) (out : Output) (new : State) → items ≡ ts ++ top ∷ []
-    → Goes n b bytes places (state items d out) → Steps n b top (state ts d out) new → Next n b bytes places (left b [] items) new
-looped n b plain bytes places items ts top d out new is g h =
-    let F : List Todo → Type 0 = λ z. Goes n b bytes places (state z d out) in
-    let G : List Todo → Type 0 = λ z. Next n b bytes places (left b [] z) new in
-    subst G (sym is) (step_next n b plain bytes places ts top (state ts d out) (subst F is g) new h)
+-- a turn of a loop over the list
+pub passed : (b : List InstrSeq) → TextIsPlain → (items ts : List Todo) (top : Todo) (d : Depths) (met : Met) (new : State) → items ≡ ts ++ top ∷ [] → Good b (state items d) → Advances b top met (state ts d) new → Passed b (left b [] items) met new
+passed b plain items ts top d met new is g h =
+    let F : List Todo → Type 0 = λ z. Good b (state z d) in
+    let G : List Todo → Type 0 = λ z. Passed b (left b [] z) met new in
+    subst G (sym is) (passed_at b plain ts top (state ts d) (subst F is g) met new h)
 
-pub falls : (n : Numbers) (b : List InstrSeq) (bytes : List ℕ) (places : List (InstrLocId × ℕ)) (before : Text) (new : State) → Next n b bytes places before new → length (left b [] new.todo) < length before
-falls n b bytes places before new h = let l = h.less in omega (arith, l)
+pub falls : (b : List InstrSeq) (before : Text) (met : Met) (new : State) → Passed b before met new → length (left b [] new.todo) < length before
+falls b before (AnInstr k at) new h = let e = ap length h.was in omega (arith, e)
+falls b before (AnEnd c place) new h = let e = ap length h.was in omega (arith, e)
+falls b before Nothing new h = absurd h
+
+pub stays_good : (b : List InstrSeq) (before : Text) (met : Met) (new : State) → Passed b before met new → Good b new
+stays_good b before (AnInstr k at) new h = h.good
+stays_good b before (AnEnd c place) new h = h.good
+stays_good b before Nothing new h = absurd h
+
+-- the beginning
+pub starts : (b : List InstrSeq) (entry : ℕ) (items : List Todo) (d : Depths) → IsNested b entry → AreSound (operators b entry) → items ≡ Enter entry End ∷ [] → d.height ≡ 0 → length d.depths.items ≡ length b → Good b (state items d)
+starts b entry items d nested sound is low sized =
+    let F : List Todo → Type 0 = λ z. Good b (state z d) in
+    subst F (sym is) (record { rank = nested.rank; is_rank = nested.is_rank; ranked = (nested.ranked, tt, tt); deep = tt; height = low; sized = sized; sound = sound })
+
+-- ---- emission
+
+module _ (n : Numbers) (b : List InstrSeq) (bytes : List ℕ) (places : List (InstrLocId × ℕ)) (before : Text) (new : State) (out next : Output)
+    (was_bytes : out.bytes.items ++ text_bytes n b before ≡ bytes)
+    (was_places : (if out.keeps_places then out.places.items ++ text_places n b (length out.bytes.items) before else out.places.items) ≡ places) where
+  puts_on : (p : Piece) (l : InstrLocId) (op : Seen) → before ≡ (p, l) ∷ left b [] new.todo → Good b new → op ≡ written n b p → Puts op l out next → Goes n b bytes places new next
+  puts_on p l op was good is puts = record {
+    good = good;
+    bytes_are = put_bytes n b p l (left b [] new.todo) out.bytes.items next.bytes.items op is puts.bytes ∙ ap (λ (z : Text). out.bytes.items ++ text_bytes n b z) (sym was) ∙ was_bytes;
+    places_are =
+        ap (λ (k : Bool). if k then next.places.items ++ text_places n b (length next.bytes.items) (left b [] new.todo) else next.places.items) puts.keeps
+        ∙ put_places n b p l (left b [] new.todo) out.keeps_places out.bytes.items next.bytes.items out.places.items next.places.items op is puts.bytes puts.places
+        ∙ ap (λ (z : Text). if out.keeps_places then out.places.items ++ text_places n b (length out.bytes.items) z else out.places.items) (sym was) ∙ was_places;
+  }
+
+  pub writes_on : (met : Met) → Passed b before met new → Writes n b met new out next → Goes n b bytes places new next
+  writes_on (AnInstr k at) h w =
+      puts_on (Operator h.around h.item.0) h.item.1 (written_instr n b (label_by new.depths new.height) h.item.0) h.was h.good
+      (instr_same n b new.depths h.around new.height h.deep h.high h.item.0 h.within) (w h.seq h.item h.found h.stands)
+  writes_on (AnEnd c place) h w = puts_on (piece_of c) place (written n b (piece_of c)) h.was h.good refl w
+  writes_on Nothing h w = absurd h

@@ -2,3 +2,4 @@ pub mod Spelled
 pub mod Doing
 pub mod Outputs
 pub mod Emitting
+pub mod Visiting

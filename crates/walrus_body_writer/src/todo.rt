@@ -5,11 +5,11 @@ ghost use Rattle.walrus_body_writer.specs.Doing.{closer_before, entering, handli
 
 use std::alloc::AllocError;
 use walrus_arena::{InstrSeqId, TagId};
-use walrus_instr::{Instr, LegacyCatch};
+use walrus_instr::{Instr, InstrLocId, LegacyCatch};
 
 /// What stands behind a sequence.
 #[derive(Clone, Copy)]
-pub(crate) enum Closer {
+pub enum Closer {
     Else,
     Catch(TagId),
     CatchAll,
@@ -32,6 +32,17 @@ pub(crate) enum Todo {
     Enter(InstrSeqId, Closer),
     /// What an open sequence has from a position on.
     Inside(Place),
+}
+
+/// What stands where the list has come to.
+#[derive(Clone, Copy)]
+pub(crate) enum Met {
+    /// The instruction at a position of a sequence.
+    AnInstr(InstrSeqId, usize),
+    /// The end of a sequence, and what stands behind that, at this location.
+    AnEnd(Closer, InstrLocId),
+    /// Nothing, as there is no such sequence.
+    Nothing,
 }
 
 fn push_enter(todo: &mut Vec<Todo>, seq: InstrSeqId, closer: Closer) -> Result<(), AllocError>

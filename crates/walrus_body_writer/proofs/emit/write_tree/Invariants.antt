@@ -10,7 +10,7 @@ invariant-loop-top g l =
     Goes (g.N.Numbering.numbers l.numbers) l.seqs
     (l.fn.out.bytes.items ++ text_bytes (g.N.Numbering.numbers l.numbers) l.seqs (operators l.seqs l.fn.entry))
     (if l.fn.out.keeps_places then l.fn.out.places.items ++ text_places (g.N.Numbering.numbers l.numbers) l.seqs (length l.fn.out.bytes.items) (operators l.seqs l.fn.entry) else l.fn.out.places.items)
-    (state l.todo.items l.depths l.out)
+    (state l.todo.items l.depths) l.out
 
 abbrev pub decreases-loop-top : goal.decreases-loop-top
 decreases-loop-top g l = length (left l.seqs [] l.todo.items)
