@@ -1,0 +1,65 @@
+-- The open frames of a body that is read.
+use Rattle.std.specs.Prelude.{◌≡◌, ℕ, ◌≤◌, Bool, false, true, List, [], ◌∷◌, ◌++◌, length, Option, None, if◌then◌else◌}
+use Rattle.walrus_builder.specs.Built.{Seq, empty_seq}
+use Rattle.walrus_instr.specs.declared.instr.Instr.{Instr}
+use Rattle.walrus_instr.specs.declared.instr.LegacyCatch.{LegacyCatch}
+use Rattle.walrus_instr.specs.declared.seq.InstrLocId.{InstrLocId}
+use Rattle.walrus_instr.specs.declared.seq.InstrSeqType.{InstrSeqType}
+use Rattle.walrus_body_env.specs.declared.error.BodyError.{BodyError}
+use Rattle.walrus_body_env.specs.declared.error.BodyError.TheVariants.{Nesting, TypeForm, Memory}
+use Rattle.walrus_body_frames.specs.declared.frame.BlockKind.{BlockKind}
+use Rattle.walrus_body_frames.specs.declared.frame.ControlFrame.{ControlFrame}
+
+-- a frame as contracts see it
+pub record Frame : Type 0 where
+  pub kind : BlockKind
+  pub ty : InstrSeqType
+  pub block : ℕ
+  pub unreachable : Bool
+  pub catches : List LegacyCatch
+  pub instrs : List (Instr × InstrLocId)
+
+abbrev pub frame : ControlFrame → Frame
+frame f = record { kind = f.kind; ty = f.ty; block = f.block; unreachable = f.unreachable; catches = f.catches.items; instrs = f.instrs.items }
+
+-- a frame of an empty sequence, which is reached
+abbrev pub fresh : BlockKind → InstrSeqType → ℕ → Frame
+fresh kind ty block = record { kind = kind; ty = ty; block = block; unreachable = false; catches = []; instrs = [] }
+
+abbrev pub IsFresh : BlockKind → InstrSeqType → ℕ → ControlFrame → Type 0
+IsFresh kind ty block f = frame f ≡ fresh kind ty block
+
+-- what is not reached is dropped
+abbrev pub with_instr : Instr → InstrLocId → Frame → Frame
+with_instr i place f = record f { instrs = if f.unreachable then f.instrs else f.instrs ++ (i, place) ∷ [] }
+
+abbrev pub with_catch : LegacyCatch → Frame → Frame
+with_catch part f = record f { catches = f.catches ++ part ∷ [] }
+
+abbrev pub cut_off : Frame → Frame
+cut_off f = record f { unreachable = true }
+
+abbrev pub frames : List ControlFrame → List Frame
+frames [] = []
+frames (f ∷ fs) = frame f ∷ frames fs
+
+-- a frame was opened inside the others, of a sequence that is new and empty
+pub record Opens (kind : BlockKind) (ty : InstrSeqType) (block : ℕ) (old new : List Frame) (seqs more : List Seq) : Type 0 where
+  pub frames : new ≡ old ++ fresh kind ty block ∷ []
+  pub id : block ≡ length seqs
+  pub added : more ≡ seqs ++ empty_seq block ty ∷ []
+
+-- why a frame isn't opened
+abbrev pub IsRefused : Option InstrSeqType → BodyError → Type 0
+IsRefused ty (TypeForm offset) = (ty ≡ None) × (offset ≡ None)
+IsRefused ty Memory = Unit {0}
+IsRefused ty _ = ⊥
+
+-- why a frame isn't found, of which so many are open and in which so many are to lie
+abbrev pub IsUnopened : ℕ → ℕ → BodyError → Type 0
+IsUnopened count n (Nesting offset) = (offset ≡ None) × (count ≤ n)
+IsUnopened count n Memory = Unit {0}
+IsUnopened count n _ = ⊥
+
+abbrev pub with_instrs : List (Instr × InstrLocId) → Frame → Frame
+with_instrs instrs f = record f { instrs = instrs }

@@ -1,0 +1,13 @@
+use Rattle.std.proofs.Common.{◌∙◌, ap, List, ℕ, ◌++◌}
+use Rattle.walrus_builder.specs.Functions.{seqs_of}
+use Rattle.walrus_tree.specs.Text.{operators}
+use Rattle.walrus_body_names.specs.declared.names.Segments.{Segments}
+use Rattle.walrus_body_names.specs.Names.{segment_in, text_names}
+use Rattle.walrus_body_names.proofs.Gathering.{gathers}
+use Rattle.walrus_body_names.proofs.names.named_segments.Goals as goal
+
+pub returns-clause-named : goal.returns-clause-named
+returns-clause-named c =
+    let ops = operators (seqs_of c.args.body.now) 0 in
+    gathers (λ (s : Segments). s.found.items) segment_in ops (record { found = c.new.result }) c.visit_text.new.visitor c.in_ok-visit_text.ensures.told
+    ∙ ap (λ (z : List ℕ). z ++ text_names segment_in ops) c.new.ensures.items

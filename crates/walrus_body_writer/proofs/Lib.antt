@@ -1,0 +1,4 @@
+mod Lefts
+mod Labels
+mod Steps
+mod Folds

@@ -1,0 +1,11 @@
+use Rattle.std.proofs.Common.{arith}
+use Rattle.walrus_builder.specs.Functions.{seqs_of}
+use Rattle.walrus_tree.specs.Text.{operators}
+use Rattle.walrus_body_writer.specs.declared.size.Size.{Size}
+use Rattle.walrus_body_writer.proofs.Folds.{adds_up}
+use Rattle.walrus_body_writer.proofs.size.body_size.Goals as goal
+
+pub returns-clause-counted : goal.returns-clause-counted
+returns-clause-counted c =
+    let sum = adds_up (λ (s : Size). s.count) (operators (seqs_of c.args.body.now) 0) (record { count = 0 }) c.visit_text.new.visitor c.in_ok-visit_text.ensures.told in
+    omega (arith, sum)

@@ -1,0 +1,5 @@
+pub mod Spelled
+pub mod Doing
+pub mod Outputs
+pub mod Emitting
+pub mod Visiting

@@ -1,0 +1,12 @@
+-- What is written behind what was written.
+use Rattle.std.specs.Prelude.{◌≡◌, [], ◌∷◌, ◌++◌, length, if◌then◌else◌}
+use Rattle.walrus_instr.specs.declared.seq.InstrLocId.{InstrLocId}
+use Rattle.wasm_operators.specs.Operators.{Seen}
+use Rattle.wasm_operator_bytes.specs.Bytes.{operator_bytes}
+use Rattle.walrus_body_writer.specs.declared.output.Output.{Output}
+
+-- the operator was put behind what was written, and where places are kept, its place
+pub record Puts (op : Seen) (place : InstrLocId) (old new : Output) : Type 0 where
+  pub bytes : new.bytes.items ≡ old.bytes.items ++ operator_bytes op
+  pub places : new.places.items ≡ (if old.keeps_places then old.places.items ++ (place, length old.bytes.items) ∷ [] else old.places.items)
+  pub keeps : new.keeps_places ≡ old.keeps_places

@@ -1,0 +1,19 @@
+//! Bodies are written: their instructions as operators, in the shortest spelling.
+#![tactic(auto)]
+
+mod depths;
+mod emit;
+mod numbering;
+mod operators;
+mod output;
+mod size;
+mod todo;
+mod visit;
+mod walk;
+
+pub use emit::emit_instructions;
+pub use numbering::Numbering;
+pub use output::Output;
+pub use size::body_size;
+pub use todo::Closer;
+pub use visit::{TextVisitor, visit_text};

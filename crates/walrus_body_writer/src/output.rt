@@ -1,0 +1,61 @@
+//! Where operators are written to.
+
+ghost use Rattle.std.specs.Prelude.{◌≡◌, ◌++◌, [], ◌∷◌, length, OnOk, if◌then◌else◌};
+ghost use Rattle.walrus_operators.specs.Operators.{seen};
+ghost use Rattle.walrus_body_writer.specs.Outputs.{Puts};
+
+use std::alloc::{AllocError, Global};
+use walrus_instr::InstrLocId;
+use walrus_operator_writer::write_operator;
+use walrus_operators::Operator;
+
+/// Bytes that are written, and the places of the operators among them.
+#[derive(Drop)]
+pub struct Output {
+    /// The bytes.
+    pub bytes: Vec<u8>,
+    /// For each written operator its location and the place of its first byte among the bytes.
+    pub places: Vec<(InstrLocId, usize)>,
+    /// Whether places are kept.
+    pub keeps_places: bool,
+}
+
+impl Output {
+    /// No bytes; places are kept if that is wanted. Takes no memory.
+    pub fn new(alloc: Global, keeps_places: bool) -> Self
+        ensures bytes { result.bytes.items ≡ [] }
+        ensures places { result.places.items ≡ [] }
+        ensures keeps { result.keeps_places ≡ keeps_places }
+    {
+        Output {
+            bytes: Vec::new(alloc),
+            places: Vec::new(alloc),
+            keeps_places,
+        }
+    }
+
+    // The next operator begins here.
+    fn note(&mut self, place: InstrLocId) -> Result<(), AllocError>
+        ensures places { OnOk result (self.new.places.items ≡ (if self.old.keeps_places then self.old.places.items ++ (place, length self.old.bytes.items) ∷ [] else self.old.places.items)) }
+        ensures bytes { self.new.bytes ≡ self.old.bytes }
+        ensures keeps { self.new.keeps_places ≡ self.old.keeps_places }
+    {
+        if self.keeps_places {
+            let at = self.bytes.len();
+            self.places.push((place, at))?;
+        }
+        Ok(())
+    }
+
+    /// Puts an operator behind what was written, in its shortest spelling.
+    ///
+    /// # Errors
+    ///
+    /// Want of memory. Its place may have been kept.
+    pub fn write(&mut self, operator: &Operator, place: InstrLocId) -> Result<(), AllocError>
+        ensures { OnOk result (Puts (seen operator.now) place self.old self.new) }
+    {
+        self.note(place)?;
+        write_operator(&mut self.bytes, operator)
+    }
+}

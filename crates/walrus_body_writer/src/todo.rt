@@ -1,0 +1,111 @@
+//! What is left to write.
+
+ghost use Rattle.std.specs.Prelude.{◌≡◌, List, [], ◌∷◌, ◌++◌, OnOk, IfOk};
+ghost use Rattle.walrus_body_writer.specs.Doing.{closer_before, entering, handling};
+
+use std::alloc::AllocError;
+use walrus_arena::{InstrSeqId, TagId};
+use walrus_instr::{Instr, InstrLocId, LegacyCatch};
+
+/// What stands behind a sequence.
+#[derive(Clone, Copy)]
+pub enum Closer {
+    Else,
+    Catch(TagId),
+    CatchAll,
+    Delegate(u32),
+    End,
+}
+
+/// A position in an open sequence, and what stands behind that.
+#[derive(Clone, Copy)]
+pub(crate) struct Place {
+    pub(crate) seq: InstrSeqId,
+    pub(crate) next: usize,
+    pub(crate) closer: Closer,
+}
+
+/// Something that is left to write.
+#[derive(Clone, Copy)]
+pub(crate) enum Todo {
+    /// A sequence, and what stands behind it.
+    Enter(InstrSeqId, Closer),
+    /// What an open sequence has from a position on.
+    Inside(Place),
+}
+
+/// What stands where the list has come to.
+#[derive(Clone, Copy)]
+pub(crate) enum Met {
+    /// The instruction at a position of a sequence.
+    AnInstr(InstrSeqId, usize),
+    /// The end of a sequence, and what stands behind that, at this location.
+    AnEnd(Closer, InstrLocId),
+    /// Nothing, as there is no such sequence.
+    Nothing,
+}
+
+fn push_enter(todo: &mut Vec<Todo>, seq: InstrSeqId, closer: Closer) -> Result<(), AllocError>
+    ensures { OnOk result (todo.new.items ≡ todo.old.items ++ Todo.Enter seq closer ∷ []) }
+{
+    todo.extend_from_slice(&[Todo::Enter(seq, closer)])
+}
+
+// Pushes a part of a legacy `try`, behind which this stands; gives what stands before it.
+fn push_part(todo: &mut Vec<Todo>, part: LegacyCatch, closer: Closer) -> Result<Closer, AllocError>
+    ensures { IfOk result (λ before. (parts : List LegacyCatch) → closer ≡ closer_before parts →
+        (before ≡ closer_before (part ∷ parts)) × ((ts : List Todo) → todo.old.items ≡ ts ++ handling parts → todo.new.items ≡ ts ++ handling (part ∷ parts))) }
+{
+    match part {
+        LegacyCatch::Catch { tag, handler } => {
+            push_enter(todo, handler, closer)?;
+            Ok(Closer::Catch(tag))
+        }
+        LegacyCatch::CatchAll { handler } => {
+            push_enter(todo, handler, closer)?;
+            Ok(Closer::CatchAll)
+        }
+        LegacyCatch::Delegate { relative_depth } => Ok(Closer::Delegate(relative_depth)),
+    }
+}
+
+// Pushes the handlers of the parts, the last first; gives what stands before the first part.
+fn push_parts(todo: &mut Vec<Todo>, parts: &[LegacyCatch]) -> Result<Closer, AllocError>
+    ensures pushed { IfOk result (λ _. todo.new.items ≡ todo.old.items ++ handling parts.now) }
+    ensures before { IfOk result (λ before. before ≡ closer_before parts.now) }
+{
+    let mut closer = Closer::End;
+    let mut at = parts.len();
+    while at > 0 {
+        at -= 1;
+        closer = push_part(todo, parts[at], closer)?;
+    }
+    Ok(closer)
+}
+
+/// Pushes the sequences that an instruction holds, the last first.
+///
+/// # Errors
+///
+/// Want of memory. Some may have been pushed.
+pub(crate) fn push_held(todo: &mut Vec<Todo>, instr: &Instr) -> Result<(), AllocError>
+    ensures { OnOk result (todo.new.items ≡ todo.old.items ++ entering instr.now) }
+{
+    match instr {
+        Instr::Block { seq } => push_enter(todo, *seq, Closer::End),
+        Instr::Loop { seq } => push_enter(todo, *seq, Closer::End),
+        Instr::TryTable { seq, .. } => push_enter(todo, *seq, Closer::End),
+        Instr::IfElse {
+            consequent,
+            alternative,
+        } => {
+            push_enter(todo, *alternative, Closer::End)?;
+            push_enter(todo, *consequent, Closer::Else)
+        }
+        Instr::Try { seq, catches } => {
+            let closer = push_parts(todo, catches.as_slice())?;
+            push_enter(todo, *seq, closer)
+        }
+        _ => Ok(()),
+    }
+}

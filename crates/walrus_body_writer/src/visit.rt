@@ -1,0 +1,118 @@
+//! The text of a body is told, piece by piece.
+
+ghost use Rattle.std.specs.Prelude.{◌≡◌, ℕ, List, OnOk, IfErr};
+ghost use Rattle.std.specs.List.{FoldsTo};
+ghost use Rattle.walrus_instr.specs.declared.seq.InstrLocId.{InstrLocId as Loc};
+ghost use Rattle.walrus_builder.specs.Functions.{seqs_of};
+ghost use Rattle.walrus_tree.specs.Trees.{IsTree};
+ghost use Rattle.walrus_tree.specs.Text.{Operator, Piece, operators};
+ghost use Rattle.walrus_body_writer.specs.Doing.{piece_of};
+ghost use Rattle.walrus_body_writer.specs.Emitting.{IsCause};
+ghost use Rattle.walrus_body_writer.specs.Visiting.{Visits};
+
+use crate::depths::Depths;
+use crate::todo::{Closer, Met, Todo};
+use crate::walk::{advance, item_at, seq_at};
+use std::alloc::{AllocError, Global};
+use walrus_arena::InstrSeqId;
+use walrus_body_env::BodyError;
+use walrus_builder::FunctionBuilder;
+use walrus_instr::{Instr, InstrLocId, InstrSeq};
+use walrus_tree::check_tree;
+
+/// Is told the text of a body: its operators in their order, each with its location.
+pub trait TextVisitor {
+    /// How a piece of the text may change the visitor.
+    ghost step: { Self → Piece × Loc → Self → Type 0 };
+
+    /// An instruction, or the beginning of a block.
+    ///
+    /// # Errors
+    ///
+    /// Want of memory.
+    fn instr(&mut self, instr: &Instr, place: InstrLocId) -> Result<(), AllocError>
+        ensures { OnOk result ((around : List ℕ) → step self.old (Operator around instr.now, place) self.new) };
+
+    /// What stands behind a sequence.
+    ///
+    /// # Errors
+    ///
+    /// Want of memory.
+    fn end(&mut self, closer: Closer, place: InstrLocId) -> Result<(), AllocError>
+        ensures { OnOk result (step self.old (piece_of closer, place) self.new) };
+}
+
+// Tells of the instruction at a position of a sequence.
+fn tell_instr<V: TextVisitor>(
+    visitor: &mut V,
+    seqs: &[InstrSeq],
+    id: InstrSeqId,
+    at: usize,
+) -> Result<(), AllocError>
+    ensures { OnOk result (Visits V.step seqs.now (Met.AnInstr id at) visitor.old visitor.new) }
+{
+    let Some(seq) = seq_at(seqs, id) else {
+        return Ok(());
+    };
+    let Some((instr, place)) = item_at(seq, at) else {
+        return Ok(());
+    };
+    visitor.instr(instr, *place)
+}
+
+// Tells of what stands where the list has come to.
+fn tell_met<V: TextVisitor>(visitor: &mut V, seqs: &[InstrSeq], met: Met) -> Result<(), AllocError>
+    ensures { OnOk result (Visits V.step seqs.now met visitor.old visitor.new) }
+{
+    match met {
+        Met::AnInstr(seq, at) => tell_instr(visitor, seqs, seq, at),
+        Met::AnEnd(closer, place) => visitor.end(closer, place),
+        Met::Nothing => Ok(()),
+    }
+}
+
+// Tells the text of a tree.
+fn visit_tree<V: TextVisitor>(
+    alloc: Global,
+    visitor: &mut V,
+    seqs: &[InstrSeq],
+    entry: InstrSeqId,
+) -> Result<(), AllocError>
+    requires { IsTree seqs.now entry }
+    ensures { OnOk result (FoldsTo V.step visitor.old (operators seqs.now entry) visitor.new) }
+{
+    walrus_tree::laws::trees_are_nested();
+    walrus_tree::laws::text_is_plain();
+    walrus_tree::laws::trees_are_sound();
+    let mut depths = Depths::new(alloc, seqs.len())?;
+    let mut todo = Vec::new(alloc);
+    todo.extend_from_slice(&[Todo::Enter(entry, Closer::End)])?;
+    while let Some(top) = todo.pop() {
+        let met = advance(seqs, top, &mut todo, &mut depths)?;
+        tell_met(visitor, seqs, met)?;
+    }
+    Ok(())
+}
+
+/// Tells the visitor the text of a body, through its last `end`.
+///
+/// # Errors
+///
+/// `NoTree` exactly where the sequences that the body's own reaches form no tree in which each label names a sequence around it; then
+/// nothing was told. Else want of memory alone, which may leave a first part told.
+pub fn visit_text<V: TextVisitor>(
+    alloc: Global,
+    visitor: &mut V,
+    body: &FunctionBuilder,
+) -> Result<(), BodyError>
+    ensures tree { OnOk result (IsTree (seqs_of body.now) 0) }
+    ensures told { OnOk result (FoldsTo V.step visitor.old (operators (seqs_of body.now) 0) visitor.new) }
+    ensures refused { IfErr result (IsCause (seqs_of body.now)) }
+{
+    let entry = body.func_body_id();
+    if !check_tree(alloc, body, entry)? {
+        return Err(BodyError::NoTree);
+    }
+    visit_tree(alloc, visitor, body.seqs(), entry)?;
+    Ok(())
+}
