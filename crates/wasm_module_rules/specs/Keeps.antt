@@ -11,14 +11,14 @@ use Rattle.wasm_formats.specs.declared.fault.Space.{Space}
 use Rattle.wasm_formats.specs.declared.fault.Space.TheVariants as spaces
 use Rattle.wasm_formats.specs.Stops.{Trouble}
 use Rattle.wasm_formats.specs.Bytes.{either_type}
-use Rattle.wasm_grammar.specs.Modules.{Item, Function, Table, Memory, Tag, Global, Import, Export, Element, Segment, Mode, Active, Passive, Declared, Module}
+use Rattle.wasm_grammar.specs.Modules.{Item, Function, Table, Memory, Tag, Global, Import, Export, Elements, Functions, Expressions, Element, Segment, Mode, Active, Passive, Declared, Module}
 use Rattle.wasm_grammar.specs.Values.{must, first_of, in_order}
 use Rattle.wasm_grammar.specs.States.{State, types_of, count_of, form_test}
 use Rattle.wasm_sections.specs.TypeSection.{GroupEntry, type_group, add_group}
 use Rattle.wasm_sections.specs.Entities.{with_import, with_function, with_table, with_memory, with_tag, with_global}
 use Rattle.wasm_sections.specs.Exports.{has_name, ExportEntry, add_export, set_start, kind_space}
 use Rattle.wasm_sections.specs.Segments.{ElementEntry, add_element, element_of, DataEntry, add_data, segment_of}
-use Rattle.wasm_module_rules.specs.Linked.{Each, IsFunctionType, IsThere, AreDistinct, GoesInto, IsBelow, IsLimited, IsLinked}
+use Rattle.wasm_module_rules.specs.Linked.{Each, IsFunctionType, IsThere, AreDistinct, GoesInto, AllBelow, AreListed, IsBelow, IsLimited, IsLinked}
 
 -- ---- slots
 
@@ -41,6 +41,14 @@ pub goes_later : (count more : ℕ) (mode : Mode) → count ≤ more → GoesInt
 goes_later count more (Active n offset) le h = omega (arith, le, h)
 goes_later count more Passive le h = tt
 goes_later count more Declared le h = tt
+
+pub all_later : (count more : ℕ) (ns : List ℕ) → count ≤ more → AllBelow count ns → AllBelow more ns
+all_later count more [] le h = tt
+all_later count more (n ∷ ns) le h = let lt = h.0 in (omega (arith, le, lt), all_later count more ns le h.1)
+
+pub listed_later : (count more : ℕ) (items : Elements) → count ≤ more → AreListed count items → AreListed more items
+listed_later count more (Functions ns) le h = all_later count more ns le h
+listed_later count more (Expressions ty es) le h = tt
 
 pub below_later : (count more : ℕ) (o : Option ℕ) → count ≤ more → IsBelow count o → IsBelow more o
 below_later count more None le h = tt
@@ -196,34 +204,34 @@ there_later m n i le h = omega (arith, le, h)
 -- ---- entries
 
 pub group_linked : (s : State) (x : GroupEntry) → IsLinked s.filled → IsLinked (add_group s x).filled
-group_linked s x h = record { functions_typed = each_later (λ (f : Function). IsFunctionType s.filled f.ty) (λ (f : Function). IsFunctionType (add_group s x).filled f.ty) (λ f p. typed_later s.filled (add_group s x).filled (flat_map (λ (g : TypeGroup). g.kinds) (type_group x ∷ [])) f.ty (types_more s x) p) s.filled.functions h.functions_typed; tags_typed = each_later (λ (t : Tag). IsFunctionType s.filled t.ty) (λ (t : Tag). IsFunctionType (add_group s x).filled t.ty) (λ t p. typed_later s.filled (add_group s x).filled (flat_map (λ (g : TypeGroup). g.kinds) (type_group x ∷ [])) t.ty (types_more s x) p) s.filled.tags h.tags_typed; tables_limited = h.tables_limited; memories_limited = h.memories_limited; imports_there = each_later (λ (i : Import). IsThere s.filled i.item) (λ (i : Import). IsThere (add_group s x).filled i.item) (λ i p. there_later s.filled (add_group s x).filled i.item (group_counts s x i.item.space) p) s.filled.imports h.imports_there; exports_there = each_later (λ (e : Export). IsThere s.filled e.item) (λ (e : Export). IsThere (add_group s x).filled e.item) (λ e p. there_later s.filled (add_group s x).filled e.item (group_counts s x e.item.space) p) s.filled.exports h.exports_there; exports_distinct = h.exports_distinct; start_there = h.start_there; elements_there = h.elements_there; segments_there = h.segments_there }
+group_linked s x h = record { functions_typed = each_later (λ (f : Function). IsFunctionType s.filled f.ty) (λ (f : Function). IsFunctionType (add_group s x).filled f.ty) (λ f p. typed_later s.filled (add_group s x).filled (flat_map (λ (g : TypeGroup). g.kinds) (type_group x ∷ [])) f.ty (types_more s x) p) s.filled.functions h.functions_typed; tags_typed = each_later (λ (t : Tag). IsFunctionType s.filled t.ty) (λ (t : Tag). IsFunctionType (add_group s x).filled t.ty) (λ t p. typed_later s.filled (add_group s x).filled (flat_map (λ (g : TypeGroup). g.kinds) (type_group x ∷ [])) t.ty (types_more s x) p) s.filled.tags h.tags_typed; tables_limited = h.tables_limited; memories_limited = h.memories_limited; imports_there = each_later (λ (i : Import). IsThere s.filled i.item) (λ (i : Import). IsThere (add_group s x).filled i.item) (λ i p. there_later s.filled (add_group s x).filled i.item (group_counts s x i.item.space) p) s.filled.imports h.imports_there; exports_there = each_later (λ (e : Export). IsThere s.filled e.item) (λ (e : Export). IsThere (add_group s x).filled e.item) (λ e p. there_later s.filled (add_group s x).filled e.item (group_counts s x e.item.space) p) s.filled.exports h.exports_there; exports_distinct = h.exports_distinct; start_there = h.start_there; elements_there = h.elements_there; elements_listed = h.elements_listed; segments_there = h.segments_there }
 
 pub function_linked : (s : State) (x : Function) → IsFunctionType s.filled x.ty → IsLinked s.filled → IsLinked (with_function s x).filled
-function_linked s x p h = record { functions_typed = each_push (λ (f : Function). IsFunctionType s.filled f.ty) s.filled.functions x h.functions_typed p; tags_typed = h.tags_typed; tables_limited = h.tables_limited; memories_limited = h.memories_limited; imports_there = each_later (λ (i : Import). IsThere s.filled i.item) (λ (i : Import). IsThere (with_function s x).filled i.item) (λ i p. there_later s.filled (with_function s x).filled i.item (function_counts s x i.item.space) p) s.filled.imports h.imports_there; exports_there = each_later (λ (e : Export). IsThere s.filled e.item) (λ (e : Export). IsThere (with_function s x).filled e.item) (λ e p. there_later s.filled (with_function s x).filled e.item (function_counts s x e.item.space) p) s.filled.exports h.exports_there; exports_distinct = h.exports_distinct; start_there = below_later (length s.filled.functions) (length (with_function s x).filled.functions) s.filled.start (one_more s.filled.functions (Some x)) h.start_there; elements_there = h.elements_there; segments_there = h.segments_there }
+function_linked s x p h = record { functions_typed = each_push (λ (f : Function). IsFunctionType s.filled f.ty) s.filled.functions x h.functions_typed p; tags_typed = h.tags_typed; tables_limited = h.tables_limited; memories_limited = h.memories_limited; imports_there = each_later (λ (i : Import). IsThere s.filled i.item) (λ (i : Import). IsThere (with_function s x).filled i.item) (λ i p. there_later s.filled (with_function s x).filled i.item (function_counts s x i.item.space) p) s.filled.imports h.imports_there; exports_there = each_later (λ (e : Export). IsThere s.filled e.item) (λ (e : Export). IsThere (with_function s x).filled e.item) (λ e p. there_later s.filled (with_function s x).filled e.item (function_counts s x e.item.space) p) s.filled.exports h.exports_there; exports_distinct = h.exports_distinct; start_there = below_later (length s.filled.functions) (length (with_function s x).filled.functions) s.filled.start (one_more s.filled.functions (Some x)) h.start_there; elements_there = h.elements_there; elements_listed = each_later (λ (e : Element). AreListed (length s.filled.functions) e.items) (λ (e : Element). AreListed (length (with_function s x).filled.functions) e.items) (λ e q. listed_later (length s.filled.functions) (length (with_function s x).filled.functions) e.items (one_more s.filled.functions (Some x)) q) s.filled.elements h.elements_listed; segments_there = h.segments_there }
 
 pub table_linked : (s : State) (x : Table) → in_order x.initial x.maximum ≡ true → IsLinked s.filled → IsLinked (with_table s x).filled
-table_linked s x p h = record { functions_typed = h.functions_typed; tags_typed = h.tags_typed; tables_limited = each_push (λ (t : Table). in_order t.initial t.maximum ≡ true) s.filled.tables x h.tables_limited p; memories_limited = h.memories_limited; imports_there = each_later (λ (i : Import). IsThere s.filled i.item) (λ (i : Import). IsThere (with_table s x).filled i.item) (λ i p. there_later s.filled (with_table s x).filled i.item (table_counts s x i.item.space) p) s.filled.imports h.imports_there; exports_there = each_later (λ (e : Export). IsThere s.filled e.item) (λ (e : Export). IsThere (with_table s x).filled e.item) (λ e p. there_later s.filled (with_table s x).filled e.item (table_counts s x e.item.space) p) s.filled.exports h.exports_there; exports_distinct = h.exports_distinct; start_there = h.start_there; elements_there = each_later (λ (e : Element). GoesInto (length s.filled.tables) e.mode) (λ (e : Element). GoesInto (length (with_table s x).filled.tables) e.mode) (λ e q. goes_later (length s.filled.tables) (length (with_table s x).filled.tables) e.mode (one_more s.filled.tables (Some x)) q) s.filled.elements h.elements_there; segments_there = h.segments_there }
+table_linked s x p h = record { functions_typed = h.functions_typed; tags_typed = h.tags_typed; tables_limited = each_push (λ (t : Table). in_order t.initial t.maximum ≡ true) s.filled.tables x h.tables_limited p; memories_limited = h.memories_limited; imports_there = each_later (λ (i : Import). IsThere s.filled i.item) (λ (i : Import). IsThere (with_table s x).filled i.item) (λ i p. there_later s.filled (with_table s x).filled i.item (table_counts s x i.item.space) p) s.filled.imports h.imports_there; exports_there = each_later (λ (e : Export). IsThere s.filled e.item) (λ (e : Export). IsThere (with_table s x).filled e.item) (λ e p. there_later s.filled (with_table s x).filled e.item (table_counts s x e.item.space) p) s.filled.exports h.exports_there; exports_distinct = h.exports_distinct; start_there = h.start_there; elements_there = each_later (λ (e : Element). GoesInto (length s.filled.tables) e.mode) (λ (e : Element). GoesInto (length (with_table s x).filled.tables) e.mode) (λ e q. goes_later (length s.filled.tables) (length (with_table s x).filled.tables) e.mode (one_more s.filled.tables (Some x)) q) s.filled.elements h.elements_there; elements_listed = h.elements_listed; segments_there = h.segments_there }
 
 pub memory_linked : (s : State) (x : Memory) → IsLimited x → IsLinked s.filled → IsLinked (with_memory s x).filled
-memory_linked s x p h = record { functions_typed = h.functions_typed; tags_typed = h.tags_typed; tables_limited = h.tables_limited; memories_limited = each_push IsLimited s.filled.memories x h.memories_limited p; imports_there = each_later (λ (i : Import). IsThere s.filled i.item) (λ (i : Import). IsThere (with_memory s x).filled i.item) (λ i p. there_later s.filled (with_memory s x).filled i.item (memory_counts s x i.item.space) p) s.filled.imports h.imports_there; exports_there = each_later (λ (e : Export). IsThere s.filled e.item) (λ (e : Export). IsThere (with_memory s x).filled e.item) (λ e p. there_later s.filled (with_memory s x).filled e.item (memory_counts s x e.item.space) p) s.filled.exports h.exports_there; exports_distinct = h.exports_distinct; start_there = h.start_there; elements_there = h.elements_there; segments_there = each_later (λ (e : Segment). GoesInto (length s.filled.memories) e.mode) (λ (e : Segment). GoesInto (length (with_memory s x).filled.memories) e.mode) (λ e q. goes_later (length s.filled.memories) (length (with_memory s x).filled.memories) e.mode (one_more s.filled.memories (Some x)) q) s.filled.segments h.segments_there }
+memory_linked s x p h = record { functions_typed = h.functions_typed; tags_typed = h.tags_typed; tables_limited = h.tables_limited; memories_limited = each_push IsLimited s.filled.memories x h.memories_limited p; imports_there = each_later (λ (i : Import). IsThere s.filled i.item) (λ (i : Import). IsThere (with_memory s x).filled i.item) (λ i p. there_later s.filled (with_memory s x).filled i.item (memory_counts s x i.item.space) p) s.filled.imports h.imports_there; exports_there = each_later (λ (e : Export). IsThere s.filled e.item) (λ (e : Export). IsThere (with_memory s x).filled e.item) (λ e p. there_later s.filled (with_memory s x).filled e.item (memory_counts s x e.item.space) p) s.filled.exports h.exports_there; exports_distinct = h.exports_distinct; start_there = h.start_there; elements_there = h.elements_there; elements_listed = h.elements_listed; segments_there = each_later (λ (e : Segment). GoesInto (length s.filled.memories) e.mode) (λ (e : Segment). GoesInto (length (with_memory s x).filled.memories) e.mode) (λ e q. goes_later (length s.filled.memories) (length (with_memory s x).filled.memories) e.mode (one_more s.filled.memories (Some x)) q) s.filled.segments h.segments_there }
 
 pub tag_linked : (s : State) (x : Tag) → IsFunctionType s.filled x.ty → IsLinked s.filled → IsLinked (with_tag s x).filled
-tag_linked s x p h = record { functions_typed = h.functions_typed; tags_typed = each_push (λ (t : Tag). IsFunctionType s.filled t.ty) s.filled.tags x h.tags_typed p; tables_limited = h.tables_limited; memories_limited = h.memories_limited; imports_there = each_later (λ (i : Import). IsThere s.filled i.item) (λ (i : Import). IsThere (with_tag s x).filled i.item) (λ i p. there_later s.filled (with_tag s x).filled i.item (tag_counts s x i.item.space) p) s.filled.imports h.imports_there; exports_there = each_later (λ (e : Export). IsThere s.filled e.item) (λ (e : Export). IsThere (with_tag s x).filled e.item) (λ e p. there_later s.filled (with_tag s x).filled e.item (tag_counts s x e.item.space) p) s.filled.exports h.exports_there; exports_distinct = h.exports_distinct; start_there = h.start_there; elements_there = h.elements_there; segments_there = h.segments_there }
+tag_linked s x p h = record { functions_typed = h.functions_typed; tags_typed = each_push (λ (t : Tag). IsFunctionType s.filled t.ty) s.filled.tags x h.tags_typed p; tables_limited = h.tables_limited; memories_limited = h.memories_limited; imports_there = each_later (λ (i : Import). IsThere s.filled i.item) (λ (i : Import). IsThere (with_tag s x).filled i.item) (λ i p. there_later s.filled (with_tag s x).filled i.item (tag_counts s x i.item.space) p) s.filled.imports h.imports_there; exports_there = each_later (λ (e : Export). IsThere s.filled e.item) (λ (e : Export). IsThere (with_tag s x).filled e.item) (λ e p. there_later s.filled (with_tag s x).filled e.item (tag_counts s x e.item.space) p) s.filled.exports h.exports_there; exports_distinct = h.exports_distinct; start_there = h.start_there; elements_there = h.elements_there; elements_listed = h.elements_listed; segments_there = h.segments_there }
 
 pub global_linked : (s : State) (x : Global) → IsLinked s.filled → IsLinked (with_global s x).filled
-global_linked s x h = record { functions_typed = h.functions_typed; tags_typed = h.tags_typed; tables_limited = h.tables_limited; memories_limited = h.memories_limited; imports_there = each_later (λ (i : Import). IsThere s.filled i.item) (λ (i : Import). IsThere (with_global s x).filled i.item) (λ i p. there_later s.filled (with_global s x).filled i.item (global_counts s x i.item.space) p) s.filled.imports h.imports_there; exports_there = each_later (λ (e : Export). IsThere s.filled e.item) (λ (e : Export). IsThere (with_global s x).filled e.item) (λ e p. there_later s.filled (with_global s x).filled e.item (global_counts s x e.item.space) p) s.filled.exports h.exports_there; exports_distinct = h.exports_distinct; start_there = h.start_there; elements_there = h.elements_there; segments_there = h.segments_there }
+global_linked s x h = record { functions_typed = h.functions_typed; tags_typed = h.tags_typed; tables_limited = h.tables_limited; memories_limited = h.memories_limited; imports_there = each_later (λ (i : Import). IsThere s.filled i.item) (λ (i : Import). IsThere (with_global s x).filled i.item) (λ i p. there_later s.filled (with_global s x).filled i.item (global_counts s x i.item.space) p) s.filled.imports h.imports_there; exports_there = each_later (λ (e : Export). IsThere s.filled e.item) (λ (e : Export). IsThere (with_global s x).filled e.item) (λ e p. there_later s.filled (with_global s x).filled e.item (global_counts s x e.item.space) p) s.filled.exports h.exports_there; exports_distinct = h.exports_distinct; start_there = h.start_there; elements_there = h.elements_there; elements_listed = h.elements_listed; segments_there = h.segments_there }
 
-pub element_linked : (s : State) (x : ElementEntry) → GoesInto (length s.filled.tables) (element_of x.1).mode → IsLinked s.filled → IsLinked (add_element s x).filled
-element_linked s x p h = record { functions_typed = h.functions_typed; tags_typed = h.tags_typed; tables_limited = h.tables_limited; memories_limited = h.memories_limited; imports_there = each_later (λ (i : Import). IsThere s.filled i.item) (λ (i : Import). IsThere (add_element s x).filled i.item) (λ i p. there_later s.filled (add_element s x).filled i.item (element_counts s x i.item.space) p) s.filled.imports h.imports_there; exports_there = each_later (λ (e : Export). IsThere s.filled e.item) (λ (e : Export). IsThere (add_element s x).filled e.item) (λ e p. there_later s.filled (add_element s x).filled e.item (element_counts s x e.item.space) p) s.filled.exports h.exports_there; exports_distinct = h.exports_distinct; start_there = h.start_there; elements_there = each_push (λ (e : Element). GoesInto (length s.filled.tables) e.mode) s.filled.elements (element_of x.1) h.elements_there p; segments_there = h.segments_there }
+pub element_linked : (s : State) (x : ElementEntry) → GoesInto (length s.filled.tables) (element_of x.1).mode → AreListed (length s.filled.functions) (element_of x.1).items → IsLinked s.filled → IsLinked (add_element s x).filled
+element_linked s x p q h = record { functions_typed = h.functions_typed; tags_typed = h.tags_typed; tables_limited = h.tables_limited; memories_limited = h.memories_limited; imports_there = each_later (λ (i : Import). IsThere s.filled i.item) (λ (i : Import). IsThere (add_element s x).filled i.item) (λ i p. there_later s.filled (add_element s x).filled i.item (element_counts s x i.item.space) p) s.filled.imports h.imports_there; exports_there = each_later (λ (e : Export). IsThere s.filled e.item) (λ (e : Export). IsThere (add_element s x).filled e.item) (λ e p. there_later s.filled (add_element s x).filled e.item (element_counts s x e.item.space) p) s.filled.exports h.exports_there; exports_distinct = h.exports_distinct; start_there = h.start_there; elements_there = each_push (λ (e : Element). GoesInto (length s.filled.tables) e.mode) s.filled.elements (element_of x.1) h.elements_there p; elements_listed = each_push (λ (e : Element). AreListed (length s.filled.functions) e.items) s.filled.elements (element_of x.1) h.elements_listed q; segments_there = h.segments_there }
 
 pub data_linked : (s : State) (x : DataEntry) → GoesInto (length s.filled.memories) (segment_of x.1).mode → IsLinked s.filled → IsLinked (add_data s x).filled
-data_linked s x p h = record { functions_typed = h.functions_typed; tags_typed = h.tags_typed; tables_limited = h.tables_limited; memories_limited = h.memories_limited; imports_there = each_later (λ (i : Import). IsThere s.filled i.item) (λ (i : Import). IsThere (add_data s x).filled i.item) (λ i p. there_later s.filled (add_data s x).filled i.item (data_counts s x i.item.space) p) s.filled.imports h.imports_there; exports_there = each_later (λ (e : Export). IsThere s.filled e.item) (λ (e : Export). IsThere (add_data s x).filled e.item) (λ e p. there_later s.filled (add_data s x).filled e.item (data_counts s x e.item.space) p) s.filled.exports h.exports_there; exports_distinct = h.exports_distinct; start_there = h.start_there; elements_there = h.elements_there; segments_there = each_push (λ (e : Segment). GoesInto (length s.filled.memories) e.mode) s.filled.segments (segment_of x.1) h.segments_there p }
+data_linked s x p h = record { functions_typed = h.functions_typed; tags_typed = h.tags_typed; tables_limited = h.tables_limited; memories_limited = h.memories_limited; imports_there = each_later (λ (i : Import). IsThere s.filled i.item) (λ (i : Import). IsThere (add_data s x).filled i.item) (λ i p. there_later s.filled (add_data s x).filled i.item (data_counts s x i.item.space) p) s.filled.imports h.imports_there; exports_there = each_later (λ (e : Export). IsThere s.filled e.item) (λ (e : Export). IsThere (add_data s x).filled e.item) (λ e p. there_later s.filled (add_data s x).filled e.item (data_counts s x e.item.space) p) s.filled.exports h.exports_there; exports_distinct = h.exports_distinct; start_there = h.start_there; elements_there = h.elements_there; elements_listed = h.elements_listed; segments_there = each_push (λ (e : Segment). GoesInto (length s.filled.memories) e.mode) s.filled.segments (segment_of x.1) h.segments_there p }
 
 pub export_linked : (s : State) (x : ExportEntry) → x.1 < count_of s.filled (kind_space x.0.1) → list_any (has_name x.0.0) s.filled.exports ≡ false → IsLinked s.filled → IsLinked (add_export s x).filled
-export_linked s x p q h = record { functions_typed = h.functions_typed; tags_typed = h.tags_typed; tables_limited = h.tables_limited; memories_limited = h.memories_limited; imports_there = h.imports_there; exports_there = each_push (λ (e : Export). IsThere s.filled e.item) s.filled.exports (record { name = x.0.0; item = record { space = kind_space x.0.1; number = x.1 } }) h.exports_there p; exports_distinct = distinct_push [] s.filled.exports (record { name = x.0.0; item = record { space = kind_space x.0.1; number = x.1 } }) h.exports_distinct q; start_there = h.start_there; elements_there = h.elements_there; segments_there = h.segments_there }
+export_linked s x p q h = record { functions_typed = h.functions_typed; tags_typed = h.tags_typed; tables_limited = h.tables_limited; memories_limited = h.memories_limited; imports_there = h.imports_there; exports_there = each_push (λ (e : Export). IsThere s.filled e.item) s.filled.exports (record { name = x.0.0; item = record { space = kind_space x.0.1; number = x.1 } }) h.exports_there p; exports_distinct = distinct_push [] s.filled.exports (record { name = x.0.0; item = record { space = kind_space x.0.1; number = x.1 } }) h.exports_distinct q; start_there = h.start_there; elements_there = h.elements_there; elements_listed = h.elements_listed; segments_there = h.segments_there }
 
 pub start_linked : (s : State) (n : ℕ) → n < length s.filled.functions → IsLinked s.filled → IsLinked (set_start s n).filled
-start_linked s n p h = record { functions_typed = h.functions_typed; tags_typed = h.tags_typed; tables_limited = h.tables_limited; memories_limited = h.memories_limited; imports_there = h.imports_there; exports_there = h.exports_there; exports_distinct = h.exports_distinct; start_there = p; elements_there = h.elements_there; segments_there = h.segments_there }
+start_linked s n p h = record { functions_typed = h.functions_typed; tags_typed = h.tags_typed; tables_limited = h.tables_limited; memories_limited = h.memories_limited; imports_there = h.imports_there; exports_there = h.exports_there; exports_distinct = h.exports_distinct; start_there = p; elements_there = h.elements_there; elements_listed = h.elements_listed; segments_there = h.segments_there }
 
 pub import_linked : (s : State) (x : Import) → IsThere s.filled x.item → IsLinked s.filled → IsLinked (with_import s x).filled
-import_linked s x p h = record { functions_typed = h.functions_typed; tags_typed = h.tags_typed; tables_limited = h.tables_limited; memories_limited = h.memories_limited; imports_there = each_push (λ (i : Import). IsThere s.filled i.item) s.filled.imports x h.imports_there p; exports_there = h.exports_there; exports_distinct = h.exports_distinct; start_there = h.start_there; elements_there = h.elements_there; segments_there = h.segments_there }
+import_linked s x p h = record { functions_typed = h.functions_typed; tags_typed = h.tags_typed; tables_limited = h.tables_limited; memories_limited = h.memories_limited; imports_there = each_push (λ (i : Import). IsThere s.filled i.item) s.filled.imports x h.imports_there p; exports_there = h.exports_there; exports_distinct = h.exports_distinct; start_there = h.start_there; elements_there = h.elements_there; elements_listed = h.elements_listed; segments_there = h.segments_there }

@@ -2,7 +2,7 @@
 use Rattle.std.specs.Prelude.{ℕ, ◌<◌, ◌≡◌, true, false, List, [], ◌∷◌, ◌++◌, length, Option, Some, None, slice_get}
 use Rattle.std.specs.List.{list_any}
 use Rattle.wasm_features.specs.declared.WasmFeatures.{WasmFeatures}
-use Rattle.wasm_grammar.specs.Modules.{Item, Function, Table, Memory, Tag, Mode, Passive, Declared, Active, Element, Segment, Import, Export, Module}
+use Rattle.wasm_grammar.specs.Modules.{Item, Function, Table, Memory, Tag, Mode, Passive, Declared, Active, Elements, Functions, Expressions, Element, Segment, Import, Export, Module}
 use Rattle.wasm_grammar.specs.Values.{in_order, is_some}
 use Rattle.wasm_grammar.specs.States.{types_of, count_of, form_test}
 use Rattle.wasm_sections.specs.Exports.{has_name}
@@ -37,6 +37,15 @@ GoesInto count (Active n offset) = n < count
 GoesInto count Passive = Unit {0}
 GoesInto count Declared = Unit {0}
 
+abbrev pub AllBelow : ℕ → List ℕ → Type 0
+AllBelow count [] = Unit {0}
+AllBelow count (n ∷ ns) = (n < count) × AllBelow count ns
+
+-- the functions of a segment are there
+abbrev pub AreListed : ℕ → Elements → Type 0
+AreListed count (Functions ns) = AllBelow count ns
+AreListed count (Expressions ty es) = Unit {0}
+
 abbrev pub IsBelow : ℕ → Option ℕ → Type 0
 IsBelow count None = Unit {0}
 IsBelow count (Some n) = n < count
@@ -56,8 +65,9 @@ pub record IsLinked (m : Module) : Type 0 where
   pub exports_there : Each (λ (e : Export). IsThere m e.item) m.exports
   pub exports_distinct : AreDistinct [] m.exports
   pub start_there : IsBelow (length m.functions) m.start
-  -- active segments go into tables and memories that are there
+  -- active segments go into tables and memories that are there, and functions that segments list are
   pub elements_there : Each (λ (e : Element). GoesInto (length m.tables) e.mode) m.elements
+  pub elements_listed : Each (λ (e : Element). AreListed (length m.functions) e.items) m.elements
   pub segments_there : Each (λ (x : Segment). GoesInto (length m.memories) x.mode) m.segments
 
 abbrev pub ReadModulesAreLinked : Type 0

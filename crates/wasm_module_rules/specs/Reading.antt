@@ -13,21 +13,21 @@ use Rattle.wasm_formats.specs.Joined.{after}
 use Rattle.wasm_formats.specs.Wholes.{whole, sized}
 use Rattle.wasm_file_formats.specs.Counted.{counted}
 use Rattle.wasm_formats.specs.Lists.{SpellsEntries, EntryRules}
-use Rattle.wasm_grammar.specs.Modules.{Body, Imported, Function, Import, Export}
+use Rattle.wasm_grammar.specs.Modules.{Body, Imported, Function, Element, Import, Export}
 use Rattle.wasm_grammar.specs.States.{State, count_of, nothing_yet}
 use Rattle.wasm_body_grammar.specs.Codes.{own_type, filled_with, with_bodies}
 use Rattle.wasm_sections.specs.TypeSection.{GroupEntry, group, add_group}
 use Rattle.wasm_sections.specs.Entities.{TableType, MemoryType, TagType, Entity, FunctionOf, TableOf, MemoryOf, GlobalOf, TagOf, ImportEntry, entity, import_entry, add_entity, add_import, import_of, with_import, table_of, memory_of, global_of, space_of, next_number, function_entry, add_function, no_body, TableEntry, initialised, table_type, table_entry, add_table, memory_entry, add_memory, tag_type, tag_entry, add_tag, GlobalEntry, global_entry, add_global}
 use Rattle.wasm_grammar.specs.Modules.{Own}
 use Rattle.wasm_sections.specs.Exports.{ExportEntry, export_entry, add_export, kind_space}
-use Rattle.wasm_sections.specs.Segments.{element_flags, data_flags, ElementForm, ActiveFunctions, PassiveFunctions, FunctionsInto, DeclaredFunctions, ActiveExpressions, PassiveExpressions, ExpressionsInto, DeclaredExpressions, ElementEntry, element_form, element_entry, add_element, element_of, DataForm, ActiveData, PassiveData, DataInto, DataEntry, data_form, data_entry, add_data, segment_of}
+use Rattle.wasm_sections.specs.Segments.{functions, element_flags, data_flags, ElementForm, ActiveFunctions, PassiveFunctions, FunctionsInto, DeclaredFunctions, ActiveExpressions, PassiveExpressions, ExpressionsInto, DeclaredExpressions, ElementEntry, element_form, element_entry, add_element, element_of, DataForm, ActiveData, PassiveData, DataInto, DataEntry, data_form, data_entry, add_data, segment_of}
 use Rattle.wasm_sections.specs.Sections.{list_of, data_test, Section, CustomSection, TypeSection, ImportSection, FunctionSection, TableSection, MemorySection, TagSection, GlobalSection, ExportSection, StartSection, ElementSection, DataCountSection, CodeSection, DataSection, types_once, imports_once, functions_once, tables_once, memories_once, tags_once, globals_once, exports_once, elements_once, data_once, id_of, section, SectionEntry, section_entry, put, next}
 use Rattle.wasm_sections.specs.Ids.{either_case, section_id}
 use Rattle.wasm_sections.specs.Modules.{FileEntry, file, state_of}
 use Rattle.wasm_modules.specs.Modules.{module_of}
 use Rattle.wasm_grammar.specs.Values.{in_order, is_shared}
-use Rattle.wasm_module_rules.specs.Linked.{Each, IsFunctionType, IsThere, IsLinked, IsLimited, GoesInto, ReadModulesAreLinked}
-use Rattle.wasm_module_rules.specs.Keeps.{each_later, below_later, must_holds, first_none, not_true, and_both, shared_has, room_rules, there_later, group_linked, function_linked, table_linked, memory_linked, tag_linked, global_linked, element_linked, data_linked, export_linked, start_linked, import_linked}
+use Rattle.wasm_module_rules.specs.Linked.{Each, IsFunctionType, IsThere, IsLinked, IsLimited, GoesInto, AllBelow, AreListed, ReadModulesAreLinked}
+use Rattle.wasm_module_rules.specs.Keeps.{each_later, below_later, must_holds, first_none, not_true, listed_later, and_both, shared_has, room_rules, there_later, group_linked, function_linked, table_linked, memory_linked, tag_linked, global_linked, element_linked, data_linked, export_linked, start_linked, import_linked}
 
 -- ---- which kind an entity has, and which flags a segment
 
@@ -156,12 +156,26 @@ element_go features s (PassiveExpressions x) f r = tt
 element_go features s (ExpressionsInto x) f r = let q = r x refl in let t = q.0 in let i = t.0 in ltb-true x.0.0 (length s.filled.tables) (must_holds _ _ i.1)
 element_go features s (DeclaredExpressions x) f r = tt
 
+listed_rule : (s : State) (xs : List ℕ) → (functions s).rules xs → AllBelow (length s.filled.functions) xs
+listed_rule s [] r = tt
+listed_rule s (x ∷ xs) r = let i = r.0 in (ltb-true x (length s.filled.functions) (must_holds _ _ i.1), listed_rule s xs r.1)
+
+element_lists : (features : WasmFeatures) (s : State) (e : ElementForm) → (element_form features s (element_number e)).rules e → AreListed (length s.filled.functions) (element_of e).items
+element_lists features s (ActiveFunctions x) r = let q = r x refl in listed_rule s x.1 q.1
+element_lists features s (PassiveFunctions x) r = let q = r x refl in listed_rule s x.1 q.1
+element_lists features s (FunctionsInto x) r = let q = r x refl in let k = q.1 in listed_rule s x.1.1 k.1
+element_lists features s (DeclaredFunctions x) r = let q = r x refl in listed_rule s x.1 q.1
+element_lists features s (ActiveExpressions x) r = tt
+element_lists features s (PassiveExpressions x) r = tt
+element_lists features s (ExpressionsInto x) r = tt
+element_lists features s (DeclaredExpressions x) r = tt
+
 element_step : (features : WasmFeatures) (s : State) (bytes : List ℕ) (x : ElementEntry) → (element_entry features s).spells bytes x → (element_entry features s).rules x → IsLinked s.filled → IsLinked (add_element s x).filled
 element_step features s bytes x h r linked =
     let spelled : (after (element_flags s) (λ flags. element_form features s flags)).spells bytes x = room_spells _ h in
     let q : (after (element_flags s) (λ flags. element_form features s flags)).rules x = room_rules _ r in
     let same = sym (element_flag features s x.0 spelled.1 x.1 spelled.4) in
-    element_linked s x (element_go features s x.1 (subst (λ (n : ℕ). (element_flags s).rules n) same q.0) (subst (λ (n : ℕ). (element_form features s n).rules x.1) same q.1)) linked
+    element_linked s x (element_go features s x.1 (subst (λ (n : ℕ). (element_flags s).rules n) same q.0) (subst (λ (n : ℕ). (element_form features s n).rules x.1) same q.1)) (element_lists features s x.1 (subst (λ (n : ℕ). (element_form features s n).rules x.1) same q.1)) linked
   where
     room_spells : {P : Type 0} (room : Bool) → either_type room P P → P
     room_spells true p = p
@@ -201,7 +215,7 @@ data_list : (features : WasmFeatures) (xs : List DataEntry) (s : State) (bytes :
 data_list features xs s bytes h r linked = let inner = h.4 in entries_linked add_data (data_entry features) (data_step features) xs s inner.1 inner.4 r.1 linked
 
 put_go : (features : WasmFeatures) (s : State) (end : ℕ) (bytes : List ℕ) (x : Section) → (section features s (id_of x)).spells bytes x → (section features s (id_of x)).rules x → IsLinked s.filled → IsLinked (put s end x).filled
-put_go features s end bytes (CustomSection x) h r linked = record { functions_typed = linked.functions_typed; tags_typed = linked.tags_typed; tables_limited = linked.tables_limited; memories_limited = linked.memories_limited; imports_there = linked.imports_there; exports_there = linked.exports_there; exports_distinct = linked.exports_distinct; start_there = linked.start_there; elements_there = linked.elements_there; segments_there = linked.segments_there }
+put_go features s end bytes (CustomSection x) h r linked = record { functions_typed = linked.functions_typed; tags_typed = linked.tags_typed; tables_limited = linked.tables_limited; memories_limited = linked.memories_limited; imports_there = linked.imports_there; exports_there = linked.exports_there; exports_distinct = linked.exports_distinct; start_there = linked.start_there; elements_there = linked.elements_there; elements_listed = linked.elements_listed; segments_there = linked.segments_there }
 put_go features s end bytes (TypeSection x) h r linked =
     list_linked add_group (group features) (λ s bytes x h r linked. group_linked s x linked) x s bytes (subst (λ (y : List GroupEntry). (list_of add_group (group features) s).spells bytes y) (types_once h.0 x h.1) h.2) (r x refl) linked
 put_go features s end bytes (ImportSection x) h r linked =
@@ -235,7 +249,7 @@ next_linked features s bytes x h r linked =
 -- ---- files, and their bodies
 
 nothing_linked : IsLinked nothing_yet.filled
-nothing_linked = record { functions_typed = tt; tags_typed = tt; tables_limited = tt; memories_limited = tt; imports_there = tt; exports_there = tt; exports_distinct = tt; start_there = tt; elements_there = tt; segments_there = tt }
+nothing_linked = record { functions_typed = tt; tags_typed = tt; tables_limited = tt; memories_limited = tt; imports_there = tt; exports_there = tt; exports_distinct = tt; start_there = tt; elements_there = tt; elements_listed = tt; segments_there = tt }
 
 file_linked : (features : WasmFeatures) (bytes : List ℕ) (x : FileEntry) → (file features).spells bytes x → (file features).rules x → IsLinked (state_of x).filled
 file_linked features bytes x h r =
@@ -282,7 +296,7 @@ module_counts s bodies spaces.Local = omega arith
 module_counts s bodies spaces.Label = omega arith
 
 module_linked : (s : State) (bodies : List Body) → IsLinked s.filled → IsLinked (module_of s bodies)
-module_linked s bodies h = record { functions_typed = bodies_each (λ (n : ℕ). IsFunctionType s.filled n) s.filled.functions bodies h.functions_typed; tags_typed = h.tags_typed; tables_limited = h.tables_limited; memories_limited = h.memories_limited; imports_there = each_later (λ (i : Import). IsThere s.filled i.item) (λ (i : Import). IsThere (module_of s bodies) i.item) (λ i p. there_later s.filled (module_of s bodies) i.item (module_counts s bodies i.item.space) p) s.filled.imports h.imports_there; exports_there = each_later (λ (e : Export). IsThere s.filled e.item) (λ (e : Export). IsThere (module_of s bodies) e.item) (λ e p. there_later s.filled (module_of s bodies) e.item (module_counts s bodies e.item.space) p) s.filled.exports h.exports_there; exports_distinct = h.exports_distinct; start_there = below_later (length s.filled.functions) (length (with_bodies s.filled.functions bodies)) s.filled.start (omega (arith, bodies_length s.filled.functions bodies)) h.start_there; elements_there = h.elements_there; segments_there = h.segments_there }
+module_linked s bodies h = record { functions_typed = bodies_each (λ (n : ℕ). IsFunctionType s.filled n) s.filled.functions bodies h.functions_typed; tags_typed = h.tags_typed; tables_limited = h.tables_limited; memories_limited = h.memories_limited; imports_there = each_later (λ (i : Import). IsThere s.filled i.item) (λ (i : Import). IsThere (module_of s bodies) i.item) (λ i p. there_later s.filled (module_of s bodies) i.item (module_counts s bodies i.item.space) p) s.filled.imports h.imports_there; exports_there = each_later (λ (e : Export). IsThere s.filled e.item) (λ (e : Export). IsThere (module_of s bodies) e.item) (λ e p. there_later s.filled (module_of s bodies) e.item (module_counts s bodies e.item.space) p) s.filled.exports h.exports_there; exports_distinct = h.exports_distinct; start_there = below_later (length s.filled.functions) (length (with_bodies s.filled.functions bodies)) s.filled.start (omega (arith, bodies_length s.filled.functions bodies)) h.start_there; elements_there = h.elements_there; elements_listed = each_later (λ (e : Element). AreListed (length s.filled.functions) e.items) (λ (e : Element). AreListed (length (with_bodies s.filled.functions bodies)) e.items) (λ e q. listed_later (length s.filled.functions) (length (with_bodies s.filled.functions bodies)) e.items (omega (arith, bodies_length s.filled.functions bodies)) q) s.filled.elements h.elements_listed; segments_there = h.segments_there }
 
 pub read_modules_are_linked : ReadModulesAreLinked
 read_modules_are_linked features bytes m h =
