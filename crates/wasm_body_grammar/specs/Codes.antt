@@ -96,3 +96,5 @@ pub record ParsingReadsAll : Type 0 where
   pub told : (a : Around) (left : ℕ) (codes : List Code) (s : Stop) → AreBytes codes → codes_at a left codes ≡ Err s → StopsCodes a left codes s
   pub tells : (a : Around) (left : ℕ) (codes : List Code) (s : Stop) → StopsCodes a left codes s → codes_at a left codes ≡ Err s
   pub within : (a : Around) (left : ℕ) (codes : List Code) (s : Stop) → AreInside left codes → StopsCodes a left codes s → s.left ≤ left
+  -- in a file that goes on the same stops there, so many bytes further from its end: a fault inside a body is final, whatever it is
+  pub moves : (a : Around) (left more : ℕ) (codes : List Code) (s : Stop) → AreInside left codes → StopsCodes a left codes s → StopsCodes a (left + more) codes (moved more s)

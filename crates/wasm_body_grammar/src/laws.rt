@@ -49,7 +49,8 @@ pub fn parsing_reads()
     ensures { ParsingReads }
 {}
 
-/// The same of the bodies of a module, one after another; where one stops lies in the bytes of the file.
+/// The same of the bodies of a module, one after another; where one stops lies in the bytes of the file, and stays there where the file
+/// goes on.
 pub fn parsing_reads_all()
     ensures { ParsingReadsAll }
 {}

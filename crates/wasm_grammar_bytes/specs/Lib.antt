@@ -1,3 +1,5 @@
 pub mod Values
 pub mod Bodies
+pub mod Runs
+pub mod Shortest
 pub mod Laws

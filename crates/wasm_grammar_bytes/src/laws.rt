@@ -1,14 +1,21 @@
 //! Laws: functions with nothing to do, whose contracts hold of all values.
 
-ghost use Rattle.wasm_grammar_bytes.specs.Bodies.{BodiesAreShortened};
 ghost use Rattle.wasm_grammar_bytes.specs.Laws.{ValuesAreShortest};
+ghost use Rattle.wasm_grammar_bytes.specs.Runs.{MaximalRunsAreShortest};
+ghost use Rattle.wasm_grammar_bytes.specs.Shortest.{BodiesHaveShortest};
 
 /// Each value within its limits has a spelling; its shortest one is spelled by nothing shorter.
 pub fn values_are_shortest()
     ensures { ValuesAreShortest }
 {}
 
-/// What reads as a body reads so in its shortest spelling, too, places aside.
-pub fn bodies_are_shortened()
-    ensures { BodiesAreShortened }
+/// No runs that declare the same locals have fewer bytes than maximal ones.
+pub fn maximal_runs_are_shortest()
+    ensures { MaximalRunsAreShortest }
+{}
+
+/// What reads as a body reads so in maximal runs and the shortest spelling of each operator, too, places aside, and nothing shorter
+/// reads so.
+pub fn bodies_have_shortest()
+    ensures { BodiesHaveShortest }
 {}
