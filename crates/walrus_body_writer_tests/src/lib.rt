@@ -1,0 +1,7 @@
+//! Tests of the writing of bodies, with ample memory.
+#![tactic(auto)]
+
+#[cfg(test)]
+mod plain;
+#[cfg(test)]
+mod written;

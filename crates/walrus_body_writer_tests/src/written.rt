@@ -1,0 +1,160 @@
+//! Bodies as bytes and places.
+
+use crate::plain::Plain;
+use std::alloc::{AllocError, Global};
+use std::process::Abort;
+use std::test::Fail;
+use walrus_arena::{InstrSeqId, TagId, TypeId};
+use walrus_body_env::BodyError;
+use walrus_body_writer::{Output, body_size, emit_instructions};
+use walrus_builder::FunctionBuilder;
+use walrus_instr::{Instr, InstrSeqType, LegacyCatch, TryTableCatch};
+
+const EMPTY: InstrSeqType = InstrSeqType::Simple(None);
+
+fn id(index: u32) -> InstrSeqId {
+    InstrSeqId::from_index(index as usize)
+}
+
+// A body of six sequences, its own and five more, of these instructions in these sequences.
+fn body_of(
+    rt: &impl Abort,
+    alloc: Global,
+    instrs: Vec<(u32, Instr)>,
+) -> Result<FunctionBuilder, AllocError> {
+    let mut body = FunctionBuilder::with_types(alloc, TypeId::from_index(0), EMPTY)?;
+    for _ in 0..5 {
+        body.dangling_instr_seq(EMPTY)?;
+    }
+    for (index, instr) in instrs {
+        let seq = id(index);
+        assert!(rt; seq.index() < body.seqs().len());
+        body.instr_seq(seq).instr(instr)?;
+    }
+    Ok(body)
+}
+
+// Whether the body is written behind a byte as these bytes, is of this size, and has so many places, of which the first is 1.
+fn gives(
+    alloc: Global,
+    body: &FunctionBuilder,
+    size: u64,
+    places: usize,
+    bytes: &[u8],
+) -> Result<bool, BodyError> {
+    let mut out = Output::new(alloc, true);
+    out.bytes.push(0xff)?;
+    emit_instructions(alloc, body, &Plain, &mut out)?;
+    let begins = match out.places.first() {
+        Some((_, at)) => *at == 1,
+        None => false,
+    };
+    Ok(
+        begins
+            && out.places.len() == places
+            && out.bytes.as_slice() == bytes
+            && body_size(alloc, body)? == size,
+    )
+}
+
+fn is_no_tree(alloc: Global, body: &FunctionBuilder) -> bool {
+    let mut out = Output::new(alloc, false);
+    match emit_instructions(alloc, body, &Plain, &mut out) {
+        Err(BodyError::NoTree) => out.bytes.is_empty(),
+        _ => false,
+    }
+}
+
+#[test]
+fn no_instructions(rt: HostRuntime) -> Result<(), Fail> {
+    let body = body_of(&rt, rt.alloc(), Vec::new(rt.alloc()))?;
+    assert!(rt; gives(rt.alloc(), &body, 0, 1, &[0xff, 0x0b]) == Ok(true));
+    Ok(())
+}
+
+// if (br 1) else (plain; br_if 0) end, plain, end
+#[test]
+fn branches_and_arms(rt: HostRuntime) -> Result<(), Fail> {
+    let instrs = vec![in rt.alloc();
+        (
+            0,
+            Instr::IfElse {
+                consequent: id(1),
+                alternative: id(2)
+            }
+        ),
+        (0, Instr::Drop),
+        (1, Instr::Br { block: id(0) }),
+        (2, Instr::Drop),
+        (2, Instr::BrIf { block: id(2) }),
+    ]?;
+    let body = body_of(&rt, rt.alloc(), instrs)?;
+    let bytes = [
+        0xff, 0x04, 0x40, 0x0c, 0x01, 0x05, 0x01, 0x0d, 0x00, 0x0b, 0x01, 0x0b,
+    ];
+    assert!(rt; gives(rt.alloc(), &body, 5, 8, &bytes) == Ok(true));
+    Ok(())
+}
+
+// try (try delegate 0) catch 3 (rethrow 0) catch_all end, try_table (catch 3 0, catch_all 0) (br 1) end, end
+#[test]
+fn handlers(rt: HostRuntime) -> Result<(), Fail> {
+    let alloc = rt.alloc();
+    let tag = TagId::from_index(3);
+    let parts = vec![in alloc;
+        LegacyCatch::Catch {
+            tag,
+            handler: id(2)
+        },
+        LegacyCatch::CatchAll { handler: id(3) },
+    ]?;
+    let hands = vec![in alloc; LegacyCatch::Delegate { relative_depth: 0 }]?;
+    let clauses = vec![in alloc;
+        TryTableCatch::Catch { tag, label: id(0) },
+        TryTableCatch::CatchAll { label: id(0) },
+    ]?;
+    let instrs = vec![in alloc;
+        (
+            0,
+            Instr::Try {
+                seq: id(1),
+                catches: parts
+            }
+        ),
+        (
+            0,
+            Instr::TryTable {
+                seq: id(5),
+                catches: clauses
+            }
+        ),
+        (
+            1,
+            Instr::Try {
+                seq: id(4),
+                catches: hands
+            }
+        ),
+        (2, Instr::Rethrow { relative_depth: 0 }),
+        (5, Instr::Br { block: id(0) }),
+    ]?;
+    let body = body_of(&rt, alloc, instrs)?;
+    let bytes = [
+        0xff, 0x06, 0x40, 0x06, 0x40, 0x18, 0x00, 0x07, 0x03, 0x09, 0x00, 0x19, 0x0b, 0x1f, 0x40,
+        0x02, 0x00, 0x03, 0x00, 0x02, 0x00, 0x0c, 0x01, 0x0b, 0x0b,
+    ];
+    assert!(rt; gives(alloc, &body, 5, 11, &bytes) == Ok(true));
+    Ok(())
+}
+
+// A sequence that holds itself, and a label whose sequence isn't around it.
+#[test]
+fn refused(rt: HostRuntime) -> Result<(), Fail> {
+    let held = vec![in rt.alloc(); (0, Instr::Block { seq: id(0) })]?;
+    let body = body_of(&rt, rt.alloc(), held)?;
+    assert!(rt; is_no_tree(rt.alloc(), &body));
+    let astray = vec![in rt.alloc(); (0, Instr::Br { block: id(1) })]?;
+    let other = body_of(&rt, rt.alloc(), astray)?;
+    assert!(rt; is_no_tree(rt.alloc(), &other));
+    Ok(())
+}
