@@ -10,10 +10,15 @@ use walrus_instr::{Instr, InstrLocId, LegacyCatch};
 /// What stands behind a sequence.
 #[derive(Clone, Copy)]
 pub enum Closer {
+    /// The other part of an `if` begins.
     Else,
+    /// The handler of a legacy `try` for this tag begins.
     Catch(TagId),
+    /// The handler of a legacy `try` for all exceptions begins.
     CatchAll,
+    /// A legacy `try` ends, and hands its exceptions on by this label.
     Delegate(u32),
+    /// A block ends, or the body.
     End,
 }
 
