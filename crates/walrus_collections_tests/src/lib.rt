@@ -1,0 +1,5 @@
+//! Tests of collections, each call with ample memory.
+#![tactic(auto)]
+
+#[cfg(test)]
+mod collections;
