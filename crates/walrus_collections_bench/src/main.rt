@@ -6,15 +6,15 @@
 #![tactic(auto)]
 
 use anyhow::Result;
-use std::alloc::{AllocError, Global};
 use std::env;
 use std::time::Instant;
 use walrus_arena::{FunctionId, Id, ImportId, MemoryId, TableId, Tombstone, TypeId};
-use walrus_collections::Collection;
-use walrus_config::ModuleConfig;
+use walrus_collections::{
+    Collection, ModuleData, ModuleElements, ModuleExports, ModuleFunctions, ModuleGlobals,
+    ModuleImports, ModuleMemories, ModuleTables, ModuleTags,
+};
 use walrus_forms::{RefType, ValType};
 use walrus_instr::{ConstExpr, Value};
-use walrus_module::Module;
 use walrus_module_items::{DataKind, ElementItems, ElementKind};
 
 fn main(rt: HostRuntime) -> Result<()> {
@@ -23,92 +23,131 @@ fn main(rt: HostRuntime) -> Result<()> {
         Some(word) => word.parse::<usize>().unwrap_or(0),
         None => 0,
     };
-    let mut module = Module::with_config(rt.alloc(), ModuleConfig::new());
-    let names = [
-        "imports",
-        "exports",
-        "functions",
-        "tables",
-        "memories",
-        "globals",
-        "tags",
-        "data",
-        "elements",
-    ];
-    for (kind, name) in names.iter().enumerate() {
-        let start = Instant::now(&rt)?;
-        for _ in 0..count {
-            add(rt.alloc(), &mut module, kind)?;
-        }
-        let added = start.elapsed(&rt)?.as_micros();
-        let start = Instant::now(&rt)?;
-        let found = find(&module, kind);
-        let finding = start.elapsed(&rt)?.as_micros();
-        let start = Instant::now(&rt)?;
-        delete(&mut module, kind);
-        let deleting = start.elapsed(&rt)?.as_micros();
-        let left = find(&module, kind);
-        println!(rt; "{name}: {found} found, {left} left")?;
-        eprintln!(rt; "{name} {added} {finding} {deleting}")?;
+    imports(&rt, count)?;
+    exports(&rt, count)?;
+    functions(&rt, count)?;
+    tables(&rt, count)?;
+    memories(&rt, count)?;
+    globals(&rt, count)?;
+    tags(&rt, count)?;
+    data(&rt, count)?;
+    elements(&rt, count)
+}
+
+fn imports(rt: &HostRuntime, count: usize) -> Result<()> {
+    let start = Instant::now(rt)?;
+    let mut items = ModuleImports::new(rt.alloc());
+    for _ in 0..count {
+        items.add("m", "n", FunctionId::from_index(0))?;
     }
-    Ok(())
+    tell(rt, "imports", start, &mut items)
+}
+
+fn exports(rt: &HostRuntime, count: usize) -> Result<()> {
+    let start = Instant::now(rt)?;
+    let mut items = ModuleExports::new(rt.alloc());
+    for _ in 0..count {
+        items.add("n", FunctionId::from_index(0))?;
+    }
+    tell(rt, "exports", start, &mut items)
+}
+
+fn functions(rt: &HostRuntime, count: usize) -> Result<()> {
+    let start = Instant::now(rt)?;
+    let mut items = ModuleFunctions::new(rt.alloc());
+    for _ in 0..count {
+        items.add_import(TypeId::from_index(0), ImportId::from_index(0))?;
+    }
+    tell(rt, "functions", start, &mut items)
+}
+
+fn tables(rt: &HostRuntime, count: usize) -> Result<()> {
+    let start = Instant::now(rt)?;
+    let mut items = ModuleTables::new(rt.alloc());
+    for _ in 0..count {
+        items.add_local(false, 1, None, RefType::FUNCREF)?;
+    }
+    tell(rt, "tables", start, &mut items)
+}
+
+fn memories(rt: &HostRuntime, count: usize) -> Result<()> {
+    let start = Instant::now(rt)?;
+    let mut items = ModuleMemories::new(rt.alloc());
+    for _ in 0..count {
+        items.add_local(false, false, 1, None, None)?;
+    }
+    tell(rt, "memories", start, &mut items)
+}
+
+fn globals(rt: &HostRuntime, count: usize) -> Result<()> {
+    let start = Instant::now(rt)?;
+    let mut items = ModuleGlobals::new(rt.alloc());
+    for _ in 0..count {
+        items.add_local(ValType::I32, false, false, zero())?;
+    }
+    tell(rt, "globals", start, &mut items)
+}
+
+fn tags(rt: &HostRuntime, count: usize) -> Result<()> {
+    let start = Instant::now(rt)?;
+    let mut items = ModuleTags::new(rt.alloc());
+    for _ in 0..count {
+        items.add(TypeId::from_index(0))?;
+    }
+    tell(rt, "tags", start, &mut items)
+}
+
+fn data(rt: &HostRuntime, count: usize) -> Result<()> {
+    let start = Instant::now(rt)?;
+    let mut items = ModuleData::new(rt.alloc());
+    for _ in 0..count {
+        let kind = DataKind::Active {
+            memory: MemoryId::from_index(0),
+            offset: zero(),
+        };
+        items.add(kind, Vec::new(rt.alloc()))?;
+    }
+    tell(rt, "data", start, &mut items)
+}
+
+fn elements(rt: &HostRuntime, count: usize) -> Result<()> {
+    let start = Instant::now(rt)?;
+    let mut items = ModuleElements::new(rt.alloc());
+    for _ in 0..count {
+        let kind = ElementKind::Active {
+            table: TableId::from_index(0),
+            offset: zero(),
+        };
+        items.add(kind, ElementItems::Functions(Vec::new(rt.alloc())))?;
+    }
+    tell(rt, "elements", start, &mut items)
 }
 
 fn zero() -> ConstExpr {
     ConstExpr::Value(Value::I32(0))
 }
 
-// Adds an item of a kind.
-fn add(alloc: Global, module: &mut Module, kind: usize) -> Result<(), AllocError> {
-    let ty = TypeId::from_index(0);
-    let import = ImportId::from_index(0);
-    match kind {
-        0 => {
-            module.imports.add("m", "n", FunctionId::from_index(0))?;
-        }
-        1 => {
-            module.exports.add("n", FunctionId::from_index(0))?;
-        }
-        2 => {
-            module.funcs.add_import(ty, import)?;
-        }
-        3 => {
-            module.tables.add_local(false, 1, None, RefType::FUNCREF)?;
-        }
-        4 => {
-            module.memories.add_local(false, false, 1, None, None)?;
-        }
-        5 => {
-            module
-                .globals
-                .add_local(ValType::I32, false, false, zero())?;
-        }
-        6 => {
-            module.tags.add(ty)?;
-        }
-        7 => {
-            let memory = MemoryId::from_index(0);
-            let kind = DataKind::Active {
-                memory,
-                offset: zero(),
-            };
-            module.data_segments.add(kind, Vec::new(alloc))?;
-        }
-        _ => {
-            let table = TableId::from_index(0);
-            let kind = ElementKind::Active {
-                table,
-                offset: zero(),
-            };
-            let items = ElementItems::Functions(Vec::new(alloc));
-            module.elements.add(kind, items)?;
-        }
-    }
+// Says how long adding took since the start, and finds and deletes what was added.
+fn tell<T: Tombstone + Drop, S>(
+    rt: &HostRuntime,
+    name: &str,
+    start: Instant,
+    items: &mut Collection<T, S>,
+) -> Result<()> {
+    let adding = start.elapsed(rt)?.as_micros();
+    let start = Instant::now(rt)?;
+    let found = count_of(items);
+    let finding = start.elapsed(rt)?.as_micros();
+    let start = Instant::now(rt)?;
+    thin(items);
+    let deleting = start.elapsed(rt)?.as_micros();
+    println!(rt; "{name}: {found} found, {} left", count_of(items))?;
+    eprintln!(rt; "{name} {adding} {finding} {deleting}")?;
     Ok(())
 }
 
 // How many ids are found.
-fn count<T, S>(items: &Collection<T, S>) -> usize {
+fn count_of<T, S>(items: &Collection<T, S>) -> usize {
     let mut found = 0usize;
     for index in 0..items.next_id().index() {
         if items.contains(Id::from_index(index)) {
@@ -124,35 +163,5 @@ fn thin<T: Tombstone + Drop, S>(items: &mut Collection<T, S>) {
         if index % 2 == 0 && items.contains(Id::from_index(index)) {
             items.delete(Id::from_index(index));
         }
-    }
-}
-
-// How many items of a kind are found.
-fn find(module: &Module, kind: usize) -> usize {
-    match kind {
-        0 => count(&module.imports),
-        1 => count(&module.exports),
-        2 => count(&module.funcs),
-        3 => count(&module.tables),
-        4 => count(&module.memories),
-        5 => count(&module.globals),
-        6 => count(&module.tags),
-        7 => count(&module.data_segments),
-        _ => count(&module.elements),
-    }
-}
-
-// Deletes every second item of a kind.
-fn delete(module: &mut Module, kind: usize) {
-    match kind {
-        0 => thin(&mut module.imports),
-        1 => thin(&mut module.exports),
-        2 => thin(&mut module.funcs),
-        3 => thin(&mut module.tables),
-        4 => thin(&mut module.memories),
-        5 => thin(&mut module.globals),
-        6 => thin(&mut module.tags),
-        7 => thin(&mut module.data_segments),
-        _ => thin(&mut module.elements),
     }
 }
