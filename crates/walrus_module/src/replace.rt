@@ -35,9 +35,10 @@ impl Module {
         self.types.contains(ty) && self.types.get(ty).is_function()
     }
 
-    /// Puts a new function in the place of an exported one: of the same type and with the same arguments, whose body
-    /// the closure fills, which gets these arguments. The lowest export of the old function names the new one, and
-    /// all else that names the old one still does. Asks that an exported function is live, and its type a live
+    /// Puts a new function in the place of an exported one: of the same parameters and results and with the same
+    /// arguments, whose body the closure fills, which gets these arguments. Its type is the one that a new function of
+    /// these gets, which may be another where the old one is open or has a supertype. The lowest export of the old
+    /// function names the new one, and all else that names the old one still does. Asks that an exported function is live, and its type a live
     /// function type. Goes through the exports.
     ///
     /// # Errors
