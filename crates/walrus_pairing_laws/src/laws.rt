@@ -3,12 +3,13 @@ ghost use Rattle.walrus_pairing_laws.specs.Laws.{InstrComesBack, FormsAreTold};
 ghost use Rattle.walrus_pairing_laws.specs.Told.{NamesAreTold};
 
 /// An instruction that is paired with an operator, its names sent through one map, is the one that this operator is paired with
-/// through a map that undoes it.
+/// through a map that undoes it, on the same terms.
 pub fn instructions_come_back()
     ensures { InstrComesBack }
 {}
 
-/// Instructions that differ have different operators.
+/// Instructions that differ have different operators, where their alignments are powers of two, a `ref.null` has a nullable type and a
+/// vector constant is one of 128 bits: other instructions lose that as they are written.
 pub fn forms_are_told()
     ensures { FormsAreTold }
 {}
