@@ -1,4 +1,5 @@
 pub mod Faults
 pub mod Files
+pub mod Orders
 pub mod Read
 pub mod Stopped
