@@ -1,2 +1,3 @@
 mod Computed
-pub mod OrderLemmas
+mod OrderLemmas
+mod NameLemmas

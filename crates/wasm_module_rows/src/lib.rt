@@ -5,6 +5,7 @@ ghost use Rattle.wasm_module_rows.specs.Read.{FilesRead};
 ghost use Rattle.wasm_module_rows.specs.Stopped.{FilesStop};
 ghost use Rattle.wasm_module_rows.specs.Faults.{FaultsStop};
 ghost use Rattle.wasm_module_rows.specs.Orders.{OrdersHold};
+ghost use Rattle.wasm_module_rows.specs.Named.{NamesKept};
 
 /// Worked files read as the modules that they are to be.
 pub fn worked_files_read()
@@ -26,4 +27,10 @@ pub fn faults_stop()
 /// aren't computed here.
 pub fn first_faults_stop()
     ensures { OrdersHold }
+{}
+
+/// Of files with sections `name` the names that stand whole before the first fault are kept, wherever the section stands; of two
+/// sections both are read, and the last name wins.
+pub fn names_are_kept()
+    ensures { NamesKept }
 {}
