@@ -2,7 +2,7 @@
 use Rattle.std.specs.Prelude.{refl}
 use Rattle.wasm_body_grammar_tests.specs.Examples.{shapes, without_legacy, without_wide}
 use Rattle.wasm_body_grammar_tests.specs.Shapes.{AreRead, AreReadAs, AreRefused, AreRefusedIn}
-use Rattle.wasm_body_grammar_tests.specs.Edges.{wide, wide_off, legacy_off, offsets, outside, far_types, missing, EdgesHold}
+use Rattle.wasm_body_grammar_tests.specs.Edges.{wide, wide_off, legacy_off, offsets, outside, far_types, missing, many_locals, EdgesHold}
 
 wide_hold : AreRead wide
 unfolding Rattle.wasm_reader.specs.Text.size_at Rattle.wasm_operators.specs.Operators.operator_at Rattle.wasm_operators.specs.Operators.code_at Rattle.wasm_operators.specs.Operators.kind_of Rattle.wasm_operators.specs.Table.structure_rows Rattle.wasm_operators.specs.Table.call_rows Rattle.wasm_operators.specs.Table.plain_rows Rattle.wasm_operators.specs.Table.fb_rows Rattle.wasm_operators.specs.Table.fc_rows Rattle.wasm_operators.specs.Table.fd_rows Rattle.wasm_operators.specs.Table.fe_rows Rattle.wasm_immediates.specs.Readings.below_at Rattle.wasm_immediates.specs.Readings.zero_at Rattle.wasm_immediates.specs.Readings.empty_at Rattle.wasm_immediates.specs.Readings.type_index_at Rattle.wasm_immediates.specs.Readings.block_at Rattle.wasm_immediates.specs.Readings.memory_at Rattle.wasm_immediates.specs.Readings.access_at Rattle.wasm_immediates.specs.Readings.clause_at Rattle.wasm_immediates.specs.Readings.item_at Rattle.wasm_immediates.specs.Readings.items_at Rattle.wasm_reader.specs.Items.items_at Rattle.wasm_reader.specs.Items.vec_at Rattle.wasm_reader.specs.Numbers.number_at Rattle.wasm_reader.specs.Reading.little_at Rattle.wasm_ref_types.specs.ReadTypes.abstract_at Rattle.wasm_ref_types.specs.ReadTypes.shared_at Rattle.wasm_ref_types.specs.ReadTypes.index_at Rattle.wasm_ref_types.specs.ReadTypes.heap_at Rattle.wasm_ref_types.specs.ReadTypes.long_at Rattle.wasm_ref_types.specs.ReadTypes.reference_at Rattle.wasm_ref_types.specs.ReadTypes.plain_at Rattle.wasm_ref_types.specs.ReadTypes.value_at
@@ -32,6 +32,10 @@ missing_hold : AreRefused missing
 unfolding Rattle.wasm_reader.specs.Text.size_at Rattle.wasm_operators.specs.Operators.operator_at Rattle.wasm_operators.specs.Operators.code_at Rattle.wasm_operators.specs.Operators.kind_of Rattle.wasm_operators.specs.Table.structure_rows Rattle.wasm_operators.specs.Table.call_rows Rattle.wasm_operators.specs.Table.plain_rows Rattle.wasm_operators.specs.Table.fb_rows Rattle.wasm_operators.specs.Table.fc_rows Rattle.wasm_operators.specs.Table.fd_rows Rattle.wasm_operators.specs.Table.fe_rows Rattle.wasm_immediates.specs.Readings.below_at Rattle.wasm_immediates.specs.Readings.zero_at Rattle.wasm_immediates.specs.Readings.empty_at Rattle.wasm_immediates.specs.Readings.type_index_at Rattle.wasm_immediates.specs.Readings.block_at Rattle.wasm_immediates.specs.Readings.memory_at Rattle.wasm_immediates.specs.Readings.access_at Rattle.wasm_immediates.specs.Readings.clause_at Rattle.wasm_immediates.specs.Readings.item_at Rattle.wasm_immediates.specs.Readings.items_at Rattle.wasm_reader.specs.Items.items_at Rattle.wasm_reader.specs.Items.vec_at Rattle.wasm_reader.specs.Numbers.number_at Rattle.wasm_reader.specs.Reading.little_at Rattle.wasm_ref_types.specs.ReadTypes.abstract_at Rattle.wasm_ref_types.specs.ReadTypes.shared_at Rattle.wasm_ref_types.specs.ReadTypes.index_at Rattle.wasm_ref_types.specs.ReadTypes.heap_at Rattle.wasm_ref_types.specs.ReadTypes.long_at Rattle.wasm_ref_types.specs.ReadTypes.reference_at Rattle.wasm_ref_types.specs.ReadTypes.plain_at Rattle.wasm_ref_types.specs.ReadTypes.value_at
 missing_hold = refl
 
+many_locals_hold : AreRefused many_locals
+unfolding Rattle.wasm_reader.specs.Text.size_at Rattle.wasm_operators.specs.Operators.operator_at Rattle.wasm_operators.specs.Operators.code_at Rattle.wasm_operators.specs.Operators.kind_of Rattle.wasm_operators.specs.Table.structure_rows Rattle.wasm_operators.specs.Table.call_rows Rattle.wasm_operators.specs.Table.plain_rows Rattle.wasm_operators.specs.Table.fb_rows Rattle.wasm_operators.specs.Table.fc_rows Rattle.wasm_operators.specs.Table.fd_rows Rattle.wasm_operators.specs.Table.fe_rows Rattle.wasm_immediates.specs.Readings.below_at Rattle.wasm_immediates.specs.Readings.zero_at Rattle.wasm_immediates.specs.Readings.empty_at Rattle.wasm_immediates.specs.Readings.type_index_at Rattle.wasm_immediates.specs.Readings.block_at Rattle.wasm_immediates.specs.Readings.memory_at Rattle.wasm_immediates.specs.Readings.access_at Rattle.wasm_immediates.specs.Readings.clause_at Rattle.wasm_immediates.specs.Readings.item_at Rattle.wasm_immediates.specs.Readings.items_at Rattle.wasm_reader.specs.Items.items_at Rattle.wasm_reader.specs.Items.vec_at Rattle.wasm_reader.specs.Numbers.number_at Rattle.wasm_reader.specs.Reading.little_at Rattle.wasm_ref_types.specs.ReadTypes.abstract_at Rattle.wasm_ref_types.specs.ReadTypes.shared_at Rattle.wasm_ref_types.specs.ReadTypes.index_at Rattle.wasm_ref_types.specs.ReadTypes.heap_at Rattle.wasm_ref_types.specs.ReadTypes.long_at Rattle.wasm_ref_types.specs.ReadTypes.reference_at Rattle.wasm_ref_types.specs.ReadTypes.plain_at Rattle.wasm_ref_types.specs.ReadTypes.value_at
+many_locals_hold = refl
+
 pub edges_hold : EdgesHold
 edges_hold = record {
   of_wide = wide_hold;
@@ -41,4 +45,5 @@ edges_hold = record {
   of_outside = outside_hold;
   of_far_types = far_types_hold;
   of_missing = missing_hold;
+  of_locals = many_locals_hold;
 }

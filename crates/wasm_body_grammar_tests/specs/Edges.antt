@@ -1,10 +1,12 @@
 -- Operators whose features are on and off, and operators at the edges of what they may name.
 use Rattle.std.specs.Prelude.{ℕ, List, [], ◌∷◌}
+use Rattle.wasm_reader.specs.declared.error.ErrorKind.TheVariants as kinds
 use Rattle.wasm_immediates.specs.declared.block_type.BlockType.TheVariants as blocks
 use Rattle.wasm_immediates.specs.Items.{Labels, Names, Block, Access}
 use Rattle.wasm_operators.specs.Operators.{Seen}
 use Rattle.wasm_formats.specs.declared.fault.Space.TheVariants as spaces
-use Rattle.wasm_formats.specs.Stops.{Index, Operator}
+use Rattle.wasm_formats.specs.declared.fault.Limited.TheVariants as limits
+use Rattle.wasm_formats.specs.Stops.{Read, Index, Operator, Limit}
 use Rattle.wasm_grammar.specs.Modules.{Placed}
 use Rattle.wasm_body_grammar_tests.specs.Examples.{shapes, without_legacy, without_wide, op, prefixed, access, at}
 use Rattle.wasm_body_grammar_tests.specs.Shapes.{Refused, AreRead, AreReadAs, AreRefused, AreRefusedIn}
@@ -73,6 +75,13 @@ missing =
     ∷ ((0x00 ∷ 0xfb ∷ 0x0a ∷ 0x05 ∷ 0x00 ∷ []), Index spaces.Type, 1)
     ∷ []
 
+-- 49,999 locals and a parameter pass: the value type is missed; 50,000 don't
+abbrev pub many_locals : List Refused
+many_locals =
+    ((0x01 ∷ 0xcf ∷ 0x86 ∷ 0x03 ∷ []), Read (kinds.EndOfFile 1), 4)
+    ∷ ((0x01 ∷ 0xd0 ∷ 0x86 ∷ 0x03 ∷ []), Limit limits.Locals, 1)
+    ∷ []
+
 pub record EdgesHold : Type 0 where
   pub of_wide : AreRead wide
   pub of_wide_off : AreRefusedIn (without_wide shapes) wide_off
@@ -81,3 +90,4 @@ pub record EdgesHold : Type 0 where
   pub of_outside : AreReadAs outside
   pub of_far_types : AreRefused far_types
   pub of_missing : AreRefused missing
+  pub of_locals : AreRefused many_locals

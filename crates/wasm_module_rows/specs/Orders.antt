@@ -7,6 +7,7 @@ use Rattle.wasm_formats.specs.declared.fault.Limited.TheVariants as limits
 use Rattle.wasm_formats.specs.Stops.{Read, SectionOrder, Count, Index, ConstExpr, Bounds, Limit}
 use Rattle.wasm_grammar.specs.Modules.{Passive, Active, Functions as Indices, Module, empty}
 use Rattle.wasm_module_rows.specs.Files.{magic, plain_type, one_function, usual, Refused, AreRefused, AreModules}
+use Rattle.wasm_module_rows.specs.Faults.{tables_past}
 use Rattle.wasm_module_rows.specs.Read.{i32_const, table, memory, element, data_segment}
 
 -- Flags of segments are numbers, which may be padded, and 03 and 08 are none of them; the kinds of exports, imports and tags are single bytes
@@ -78,11 +79,13 @@ memories_past size last = magic ++ 0x05 ∷ size ∷ 0x01 ∷ 0x65 ∷ [] ++ rep
 abbrev pub imports_past : ℕ → List ℕ → List ℕ
 imports_past size last = magic ++ 0x02 ∷ size ∷ 0x04 ∷ 0x65 ∷ [] ++ repeat 100 (0x00 ∷ 0x00 ∷ 0x01 ∷ 0x70 ∷ 0x00 ∷ 0x01 ∷ []) ++ last
 
--- The limit on memories stands behind what is wrong with the entry at its first byte; imported tables count, and that of an import is
+-- A hundred of them pass, and what is missing behind is missed. The limit on memories stands behind what is wrong with the entry at its first byte; imported tables count, and that of an import is
 -- tested when it was read, its limits before.
 abbrev pub past_limits : List Refused
 past_limits =
-    (memories_past 0xcb (0x00 ∷ 0x01 ∷ []), Limit limits.Memories, 212)
+    (memories_past 0xc9 [], Read (kinds.EndOfFile 1), 212)
+    ∷ (tables_past 0xad [], Read (kinds.EndOfFile 1), 312)
+    ∷ (memories_past 0xcb (0x00 ∷ 0x01 ∷ []), Limit limits.Memories, 212)
     ∷ (memories_past 0xcb (0x10 ∷ 0x01 ∷ []), Read kinds.BadByte, 212)
     ∷ (memories_past 0xcc (0x01 ∷ 0x02 ∷ 0x01 ∷ []), Bounds, 212)
     ∷ (imports_past 0xdf (0x00 ∷ 0x00 ∷ 0x01 ∷ 0x70 ∷ 0x00 ∷ 0x01 ∷ []), Limit limits.Tables, 612)
