@@ -87,6 +87,9 @@ counting a = record a { counted = true }
 abbrev pub without_legacy : Around → Around
 without_legacy a = record a { features = features_of (WideArithmetic ∷ default_names) }
 
+abbrev pub without_wide : Around → Around
+without_wide a = record a { features = features_of (LegacyExceptions ∷ default_names) }
+
 abbrev pub sharing : Around → Around
 sharing a = record a { features = features_of (SharedEverythingThreads ∷ default_names) }
 

@@ -1,3 +1,4 @@
+pub mod Edges
 pub mod Examples
 pub mod Rows
 pub mod Shapes

@@ -1,6 +1,7 @@
 //! Bodies computed from the grammar of bodies: facts, as functions with nothing to do.
 #![tactic(auto)]
 
+ghost use Rattle.wasm_body_grammar_tests.specs.Edges.{EdgesHold};
 ghost use Rattle.wasm_body_grammar_tests.specs.Rows.{PicksHold, RowsHold};
 ghost use Rattle.wasm_body_grammar_tests.specs.Shapes.{ShapesHold};
 
@@ -13,6 +14,12 @@ pub fn bodies_of_modules()
 /// An operator of each shape reads, is missed at the end where it is cut, and is refused for each of its faults at its place.
 pub fn operators_of_each_shape()
     ensures { ShapesHold }
+{}
+
+/// Operators whose features are on read, and are unknown where they are off; offsets, labels and indices at the edge of what is allowed
+/// read, and past it they are refused.
+pub fn operators_at_edges()
+    ensures { EdgesHold }
 {}
 
 /// The pick for parameters and results is the short form, or the latest type that serves.

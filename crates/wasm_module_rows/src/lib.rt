@@ -4,6 +4,8 @@
 ghost use Rattle.wasm_module_rows.specs.Read.{FilesRead};
 ghost use Rattle.wasm_module_rows.specs.Stopped.{FilesStop};
 ghost use Rattle.wasm_module_rows.specs.Faults.{FaultsStop};
+ghost use Rattle.wasm_module_rows.specs.Orders.{OrdersHold};
+ghost use Rattle.wasm_module_rows.specs.Named.{NamesKept};
 
 /// Worked files read as the modules that they are to be.
 pub fn worked_files_read()
@@ -18,4 +20,17 @@ pub fn worked_files_stop()
 /// Files with one fault of each kind stop for it, at its place.
 pub fn faults_stop()
     ensures { FaultsStop }
+{}
+
+/// Of two faults the one that is due first is told; counts and lengths are refused from one past their limit on, and not at it. That of
+/// types, imports, functions, globals, tags, exports and segments, and of the file, would take so many entries, or bytes, to pass: they
+/// aren't computed here.
+pub fn first_faults_stop()
+    ensures { OrdersHold }
+{}
+
+/// Of files with sections `name` the names that stand whole before the first fault are kept, wherever the section stands; of two
+/// sections both are read, and the last name wins.
+pub fn names_are_kept()
+    ensures { NamesKept }
 {}
