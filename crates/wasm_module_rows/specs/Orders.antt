@@ -79,8 +79,7 @@ memories_past size last = magic ++ 0x05 ∷ size ∷ 0x01 ∷ 0x65 ∷ [] ++ rep
 abbrev pub imports_past : ℕ → List ℕ → List ℕ
 imports_past size last = magic ++ 0x02 ∷ size ∷ 0x04 ∷ 0x65 ∷ [] ++ repeat 100 (0x00 ∷ 0x00 ∷ 0x01 ∷ 0x70 ∷ 0x00 ∷ 0x01 ∷ []) ++ last
 
--- A hundred of them pass, and what is missing behind is missed. The limit on memories stands behind what is wrong with the entry at its first byte; imported tables count, and that of an import is
--- tested when it was read, its limits before.
+-- A hundred of them pass, and what is missing behind is missed. The limit on memories stands behind what is wrong with the entry at its first byte; imported tables count.
 abbrev pub past_limits : List Refused
 past_limits =
     (memories_past 0xc9 [], Read (kinds.EndOfFile 1), 212)
@@ -89,7 +88,6 @@ past_limits =
     ∷ (memories_past 0xcb (0x10 ∷ 0x01 ∷ []), Read kinds.BadByte, 212)
     ∷ (memories_past 0xcc (0x01 ∷ 0x02 ∷ 0x01 ∷ []), Bounds, 212)
     ∷ (imports_past 0xdf (0x00 ∷ 0x00 ∷ 0x01 ∷ 0x70 ∷ 0x00 ∷ 0x01 ∷ []), Limit limits.Tables, 612)
-    ∷ (imports_past 0xe0 (0x00 ∷ 0x00 ∷ 0x01 ∷ 0x70 ∷ 0x01 ∷ 0x02 ∷ 0x01 ∷ []), Bounds, 616)
     ∷ ((magic ++ 0x02 ∷ 0x07 ∷ 0x01 ∷ 0x00 ∷ 0x00 ∷ 0x01 ∷ 0x70 ∷ 0x00 ∷ 0x01 ∷ 0x04 ∷ 0xad ∷ 0x02 ∷ 0x64 ∷ [] ++ repeat 100 (0x70 ∷ 0x00 ∷ 0x01 ∷ [])), Limit limits.Tables, 318)
     ∷ []
 
