@@ -64,8 +64,8 @@ impl ValidationContext {
     ///
     /// # Errors
     ///
-    /// `TypeForm`, without a place, where no block type has them: all stays as it was. Want of memory: the frames stay as they were; the function
-    /// may have got an empty sequence that none of them fills.
+    /// `TypeForm`, without a place, where no block type has them: the frames and the sequences stay as they were. Want of memory: the
+    /// frames stay as they were; the function may have got an empty sequence that none of them fills.
     pub fn push_control<E: BodyEnv>(
         &mut self,
         env: &E,
