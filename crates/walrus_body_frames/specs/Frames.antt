@@ -1,5 +1,5 @@
 -- The open frames of a body that is read.
-use Rattle.std.specs.Prelude.{◌≡◌, ℕ, ◌<◌, ◌≤◌, ◌⊎◌, Bool, false, true, List, [], ◌∷◌, ◌++◌, length, Option, Some, None, if◌then◌else◌}
+use Rattle.std.specs.Prelude.{◌≡◌, ℕ, ◌-◌, ◌<◌, ◌≤◌, ◌⊎◌, Bool, false, true, List, [], ◌∷◌, ◌++◌, length, slice_get, Option, Some, None, if◌then◌else◌}
 use Rattle.walrus_builder.specs.Built.{Seq, empty_seq}
 use Rattle.walrus_instr.specs.declared.instr.Instr.{Instr}
 use Rattle.walrus_instr.specs.declared.instr.LegacyCatch.{LegacyCatch}
@@ -63,6 +63,12 @@ abbrev pub IsUnopened : ℕ → ℕ → BodyError → Type 0
 IsUnopened count n (Nesting offset) = (offset ≡ None) × (count ≤ n)
 IsUnopened count n Memory = n < count
 IsUnopened count n _ = ⊥
+
+-- why no instruction is put into the frame that n lie inside: it isn't open, or memory is wanted and what comes next there is reached
+abbrev pub IsUnadded : List Frame → ℕ → BodyError → Type 0
+IsUnadded fs n (Nesting offset) = (offset ≡ None) × (length fs ≤ n)
+IsUnadded fs n Memory = (n < length fs) × (f : Frame) × (slice_get fs (length fs - 1 - n) ≡ Some f) × (f.unreachable ≡ false)
+IsUnadded fs n _ = ⊥
 
 abbrev pub with_instrs : List (Instr × InstrLocId) → Frame → Frame
 with_instrs instrs f = record f { instrs = instrs }

@@ -1,8 +1,8 @@
 //! The open frames of a body, and its sequences.
 
-ghost use Rattle.std.specs.Prelude.{◌≡◌, ◌-◌, ◌<◌, ◌≤◌, List, [], ◌∷◌, ◌++◌, length, OnOk, IfOk, IfErr, OnErr, MatchOption, MatchResult, slice_get, Some};
+ghost use Rattle.std.specs.Prelude.{◌≡◌, ◌-◌, ◌<◌, ◌≤◌, List, [], ◌∷◌, ◌++◌, length, OnOk, IfOk, IfErr, OnErr, MatchOption, MatchResult, slice_get, Some, false};
 ghost use Rattle.walrus_builder.specs.Built.{contents, edited, filled_with};
-ghost use Rattle.walrus_body_frames.specs.Frames.{IsRefused, IsUnopened, Leaves, Opens, cut_off, frame, frames, with_catch, with_instr, with_instrs};
+ghost use Rattle.walrus_body_frames.specs.Frames.{IsRefused, IsUnadded, IsUnopened, Leaves, Opens, cut_off, frame, frames, with_catch, with_instr, with_instrs};
 ghost use Rattle.walrus_body_env.specs.declared.error.BodyError.TheVariants.{Nesting};
 
 use crate::frame::{BlockKind, ControlFrame};
@@ -155,7 +155,7 @@ impl ValidationContext {
 impl ControlFrame {
     // What is not reached is dropped.
     fn add(&mut self, instr: Instr, place: InstrLocId) -> Result<(), AllocError>
-        ensures { MatchResult result (λ _. frame self.new ≡ with_instr instr place (frame self.old)) (λ _. frame self.new ≡ frame self.old) }
+        ensures { MatchResult result (λ _. frame self.new ≡ with_instr instr place (frame self.old)) (λ _. (frame self.new ≡ frame self.old) × (self.old.unreachable ≡ false)) }
     {
         if self.unreachable {
             return Ok(());
@@ -173,7 +173,7 @@ impl ControlFrame {
 }
 
 impl ValidationContext {
-    /// Puts an instruction at the end of the frame that so many lie inside; drops it where that is not reached.
+    /// Puts an instruction at the end of the frame that so many lie inside; drops it where that is not reached, which takes no memory.
     ///
     /// # Errors
     ///
@@ -187,7 +187,7 @@ impl ValidationContext {
         ensures within { OnOk result (n < length self.old.controls.items) }
         ensures added { OnOk result (frames self.new.controls.items ≡ edited (with_instr instr place) (frames self.old.controls.items) (length self.old.controls.items - 1 - n)) }
         ensures refused { OnErr result (frames self.new.controls.items ≡ frames self.old.controls.items) }
-        ensures cause { IfErr result (IsUnopened (length self.old.controls.items) n) }
+        ensures cause { IfErr result (IsUnadded (frames self.old.controls.items) n) }
         ensures function { self.new.function ≡ self.old.function }
     {
         let Some(index) = self.index_of(n) else {
@@ -197,7 +197,7 @@ impl ValidationContext {
         Ok(())
     }
 
-    /// Puts an instruction at the end of the innermost frame; drops it where that is not reached.
+    /// Puts an instruction at the end of the innermost frame; drops it where that is not reached, which takes no memory.
     ///
     /// # Errors
     ///
@@ -206,7 +206,7 @@ impl ValidationContext {
         ensures within { OnOk result (0 < length self.old.controls.items) }
         ensures added { OnOk result (frames self.new.controls.items ≡ edited (with_instr instr place) (frames self.old.controls.items) (length self.old.controls.items - 1)) }
         ensures refused { OnErr result (frames self.new.controls.items ≡ frames self.old.controls.items) }
-        ensures cause { IfErr result (IsUnopened (length self.old.controls.items) 0) }
+        ensures cause { IfErr result (IsUnadded (frames self.old.controls.items) 0) }
         ensures function { self.new.function ≡ self.old.function }
     {
         self.alloc_instr_in_control(0, instr, place)
