@@ -1,5 +1,5 @@
 -- The open frames of a body that is read.
-use Rattle.std.specs.Prelude.{◌≡◌, ℕ, ◌≤◌, Bool, false, true, List, [], ◌∷◌, ◌++◌, length, Option, None, if◌then◌else◌}
+use Rattle.std.specs.Prelude.{◌≡◌, ℕ, ◌-◌, ◌<◌, ◌≤◌, ◌⊎◌, Bool, false, true, List, [], ◌∷◌, ◌++◌, length, slice_get, Option, Some, None, if◌then◌else◌}
 use Rattle.walrus_builder.specs.Built.{Seq, empty_seq}
 use Rattle.walrus_instr.specs.declared.instr.Instr.{Instr}
 use Rattle.walrus_instr.specs.declared.instr.LegacyCatch.{LegacyCatch}
@@ -49,17 +49,26 @@ pub record Opens (kind : BlockKind) (ty : InstrSeqType) (block : ℕ) (old new :
   pub id : block ≡ length seqs
   pub added : more ≡ seqs ++ empty_seq block ty ∷ []
 
--- why a frame isn't opened
-abbrev pub IsRefused : Option InstrSeqType → BodyError → Type 0
-IsRefused ty (TypeForm offset) = (ty ≡ None) × (offset ≡ None)
-IsRefused ty Memory = Unit {0}
-IsRefused ty _ = ⊥
+-- what a frame that isn't opened leaves: the sequences as they were, or one more, which is empty
+abbrev pub Leaves : InstrSeqType → List Seq → List Seq → Type 0
+Leaves ty seqs more = (more ≡ seqs) ⊎ (more ≡ seqs ++ empty_seq (length seqs) ty ∷ [])
 
--- why a frame isn't found, of which so many are open and in which so many are to lie
+-- why a frame isn't opened, and what that leaves of the sequences: no block type has its parameters and results, or memory is wanted
+abbrev pub IsRefused : Option InstrSeqType → List Seq → List Seq → BodyError → Type 0
+IsRefused None seqs more e = (e ≡ TypeForm None) × (more ≡ seqs)
+IsRefused (Some ty) seqs more e = (e ≡ Memory) × Leaves ty seqs more
+
+-- why nothing is put into the frame that n lie inside, of so many: it isn't open, or it is and memory is wanted
 abbrev pub IsUnopened : ℕ → ℕ → BodyError → Type 0
 IsUnopened count n (Nesting offset) = (offset ≡ None) × (count ≤ n)
-IsUnopened count n Memory = Unit {0}
+IsUnopened count n Memory = n < count
 IsUnopened count n _ = ⊥
+
+-- why no instruction is put into the frame that n lie inside: it isn't open, or memory is wanted and what comes next there is reached
+abbrev pub IsUnadded : List Frame → ℕ → BodyError → Type 0
+IsUnadded fs n (Nesting offset) = (offset ≡ None) × (length fs ≤ n)
+IsUnadded fs n Memory = (n < length fs) × (f : Frame) × (slice_get fs (length fs - 1 - n) ≡ Some f) × (f.unreachable ≡ false)
+IsUnadded fs n _ = ⊥
 
 abbrev pub with_instrs : List (Instr × InstrLocId) → Frame → Frame
 with_instrs instrs f = record f { instrs = instrs }

@@ -1,8 +1,8 @@
 //! The open frames of a body, and its sequences.
 
-ghost use Rattle.std.specs.Prelude.{◌≡◌, ◌-◌, ◌<◌, ◌≤◌, List, [], ◌∷◌, ◌++◌, length, OnOk, IfOk, IfErr, OnErr, MatchOption, MatchResult, slice_get, Some};
+ghost use Rattle.std.specs.Prelude.{◌≡◌, ◌-◌, ◌<◌, ◌≤◌, List, [], ◌∷◌, ◌++◌, length, OnOk, IfOk, IfErr, OnErr, MatchOption, MatchResult, slice_get, Some, false};
 ghost use Rattle.walrus_builder.specs.Built.{contents, edited, filled_with};
-ghost use Rattle.walrus_body_frames.specs.Frames.{IsRefused, IsUnopened, Opens, cut_off, frame, frames, with_catch, with_instr, with_instrs};
+ghost use Rattle.walrus_body_frames.specs.Frames.{IsRefused, IsUnadded, IsUnopened, Leaves, Opens, cut_off, frame, frames, with_catch, with_instr, with_instrs};
 ghost use Rattle.walrus_body_env.specs.declared.error.BodyError.TheVariants.{Nesting};
 
 use crate::frame::{BlockKind, ControlFrame};
@@ -49,6 +49,9 @@ impl ValidationContext {
     fn push(&mut self, kind: BlockKind, ty: InstrSeqType) -> Result<InstrSeqId, AllocError>
         ensures opened { IfOk result (λ block. Opens kind ty block (frames self.old.controls.items) (frames self.new.controls.items) (contents self.old.function.builder) (contents self.new.function.builder)) }
         ensures refused { OnErr result (frames self.new.controls.items ≡ frames self.old.controls.items) }
+        ensures left { OnErr result (Leaves ty (contents self.old.function.builder) (contents self.new.function.builder)) }
+        ensures ty { self.new.function.ty ≡ self.old.function.ty }
+        ensures name { self.new.function.name ≡ self.old.function.name }
     {
         let own = ty;
         let block = self.function.dangling_instr_seq(ty)?;
@@ -61,7 +64,8 @@ impl ValidationContext {
     ///
     /// # Errors
     ///
-    /// `TypeForm`, without a place, where no block type has them; want of memory. The frames stay as they were.
+    /// `TypeForm`, without a place, where no block type has them: the frames and the sequences stay as they were. Want of memory: the
+    /// frames stay as they were; the function may have got an empty sequence that none of them fills.
     pub fn push_control<E: BodyEnv>(
         &mut self,
         env: &E,
@@ -69,10 +73,12 @@ impl ValidationContext {
         params: &[ValType],
         results: &[ValType],
     ) -> Result<InstrSeqId, BodyError>
-        ensures opened { IfOk result (λ block. (ty : InstrSeqType) → E.block_type env.now params.now results.now ≡ Some ty →
-            Opens kind ty block (frames self.old.controls.items) (frames self.new.controls.items) (contents self.old.function.builder) (contents self.new.function.builder)) }
+        ensures opened { IfOk result (λ block. (ty : InstrSeqType) × (E.block_type env.now params.now results.now ≡ Some ty)
+            × Opens kind ty block (frames self.old.controls.items) (frames self.new.controls.items) (contents self.old.function.builder) (contents self.new.function.builder)) }
         ensures refused { OnErr result (frames self.new.controls.items ≡ frames self.old.controls.items) }
-        ensures cause { IfErr result (IsRefused (E.block_type env.now params.now results.now)) }
+        ensures cause { IfErr result (IsRefused (E.block_type env.now params.now results.now) (contents self.old.function.builder) (contents self.new.function.builder)) }
+        ensures ty { self.new.function.ty ≡ self.old.function.ty }
+        ensures name { self.new.function.name ≡ self.old.function.name }
     {
         let Some(ty) = env.block_type(params, results) else {
             return Err(BodyError::TypeForm { offset: None });
@@ -85,7 +91,7 @@ impl ValidationContext {
     ///
     /// # Errors
     ///
-    /// Want of memory. The frames stay as they were.
+    /// Want of memory. The frames stay as they were; the function may have got an empty sequence that none of them fills.
     pub fn push_control_with_ty(
         &mut self,
         kind: BlockKind,
@@ -93,6 +99,9 @@ impl ValidationContext {
     ) -> Result<InstrSeqId, AllocError>
         ensures opened { IfOk result (λ block. Opens kind (InstrSeqType.MultiValue ty) block (frames self.old.controls.items) (frames self.new.controls.items) (contents self.old.function.builder) (contents self.new.function.builder)) }
         ensures refused { OnErr result (frames self.new.controls.items ≡ frames self.old.controls.items) }
+        ensures left { OnErr result (Leaves (InstrSeqType.MultiValue ty) (contents self.old.function.builder) (contents self.new.function.builder)) }
+        ensures ty { self.new.function.ty ≡ self.old.function.ty }
+        ensures name { self.new.function.name ≡ self.old.function.name }
     {
         self.push(kind, InstrSeqType::MultiValue(ty))
     }
@@ -114,6 +123,7 @@ impl ValidationContext {
     ///
     /// `Nesting`, without a place, where fewer are open.
     pub fn control(&self, n: usize) -> Result<&ControlFrame, BodyError>
+        ensures within { OnOk result (n < length self.now.controls.items) }
         ensures found { IfOk result (λ found. slice_get self.now.controls.items (length self.now.controls.items - 1 - n) ≡ Some found.now) }
         ensures refused { IfErr result (λ e. (e ≡ Nesting None) × (length self.now.controls.items ≤ n)) }
     {
@@ -129,6 +139,7 @@ impl ValidationContext {
     ///
     /// `Nesting`, without a place, where no frame is open.
     pub fn unreachable(&mut self) -> Result<(), BodyError>
+        ensures within { OnOk result (0 < length self.old.controls.items) }
         ensures marked { OnOk result (frames self.new.controls.items ≡ edited cut_off (frames self.old.controls.items) (length self.old.controls.items - 1)) }
         ensures refused { IfErr result (λ e. (e ≡ Nesting None) × (self.old.controls.items ≡ []) × (self.new.controls.items ≡ [])) }
         ensures function { self.new.function ≡ self.old.function }
@@ -144,7 +155,7 @@ impl ValidationContext {
 impl ControlFrame {
     // What is not reached is dropped.
     fn add(&mut self, instr: Instr, place: InstrLocId) -> Result<(), AllocError>
-        ensures { MatchResult result (λ _. frame self.new ≡ with_instr instr place (frame self.old)) (λ _. frame self.new ≡ frame self.old) }
+        ensures { MatchResult result (λ _. frame self.new ≡ with_instr instr place (frame self.old)) (λ _. (frame self.new ≡ frame self.old) × (self.old.unreachable ≡ false)) }
     {
         if self.unreachable {
             return Ok(());
@@ -162,7 +173,7 @@ impl ControlFrame {
 }
 
 impl ValidationContext {
-    /// Puts an instruction at the end of the frame that so many lie inside; drops it where that is not reached.
+    /// Puts an instruction at the end of the frame that so many lie inside; drops it where that is not reached, which takes no memory.
     ///
     /// # Errors
     ///
@@ -173,9 +184,10 @@ impl ValidationContext {
         instr: Instr,
         place: InstrLocId,
     ) -> Result<(), BodyError>
+        ensures within { OnOk result (n < length self.old.controls.items) }
         ensures added { OnOk result (frames self.new.controls.items ≡ edited (with_instr instr place) (frames self.old.controls.items) (length self.old.controls.items - 1 - n)) }
         ensures refused { OnErr result (frames self.new.controls.items ≡ frames self.old.controls.items) }
-        ensures cause { IfErr result (IsUnopened (length self.old.controls.items) n) }
+        ensures cause { IfErr result (IsUnadded (frames self.old.controls.items) n) }
         ensures function { self.new.function ≡ self.old.function }
     {
         let Some(index) = self.index_of(n) else {
@@ -185,15 +197,16 @@ impl ValidationContext {
         Ok(())
     }
 
-    /// Puts an instruction at the end of the innermost frame; drops it where that is not reached.
+    /// Puts an instruction at the end of the innermost frame; drops it where that is not reached, which takes no memory.
     ///
     /// # Errors
     ///
     /// `Nesting`, without a place, where no frame is open; want of memory. The frames stay as they were.
     pub fn alloc_instr(&mut self, instr: Instr, place: InstrLocId) -> Result<(), BodyError>
+        ensures within { OnOk result (0 < length self.old.controls.items) }
         ensures added { OnOk result (frames self.new.controls.items ≡ edited (with_instr instr place) (frames self.old.controls.items) (length self.old.controls.items - 1)) }
         ensures refused { OnErr result (frames self.new.controls.items ≡ frames self.old.controls.items) }
-        ensures cause { IfErr result (IsUnopened (length self.old.controls.items) 0) }
+        ensures cause { IfErr result (IsUnadded (frames self.old.controls.items) 0) }
         ensures function { self.new.function ≡ self.old.function }
     {
         self.alloc_instr_in_control(0, instr, place)
@@ -205,6 +218,7 @@ impl ValidationContext {
     ///
     /// `Nesting`, without a place, where no frame is open; want of memory. The frames stay as they were.
     pub fn add_legacy_catch(&mut self, part: LegacyCatch) -> Result<(), BodyError>
+        ensures within { OnOk result (0 < length self.old.controls.items) }
         ensures added { OnOk result (frames self.new.controls.items ≡ edited (with_catch part) (frames self.old.controls.items) (length self.old.controls.items - 1)) }
         ensures refused { OnErr result (frames self.new.controls.items ≡ frames self.old.controls.items) }
         ensures cause { IfErr result (IsUnopened (length self.old.controls.items) 0) }
@@ -222,11 +236,14 @@ impl ValidationContext {
     ///
     /// # Errors
     ///
-    /// `Nesting`, without a place, where no frame is open.
+    /// `Nesting`, without a place, where no frame is open. All stays as it was.
     pub fn pop_control(&mut self, end: InstrLocId) -> Result<(ControlFrame, InstrSeqId), BodyError>
         ensures closed { IfOk result (λ r. (instrs : List (Instr × InstrLocId)) × (frames self.old.controls.items ≡ frames self.new.controls.items ++ with_instrs instrs (frame r.0) ∷ [])
             × ((frame r.0).instrs ≡ []) × (r.1 ≡ r.0.block) × (contents self.new.function.builder ≡ edited (filled_with instrs end) (contents self.old.function.builder) r.1)) }
-        ensures refused { IfErr result (λ e. (e ≡ Nesting None) × (self.old.controls.items ≡ [])) }
+        ensures refused { IfErr result (λ e. (e ≡ Nesting None) × (self.old.controls.items ≡ []) × (self.new.controls.items ≡ [])) }
+        ensures unfilled { OnErr result (self.new.function ≡ self.old.function) }
+        ensures ty { self.new.function.ty ≡ self.old.function.ty }
+        ensures name { self.new.function.name ≡ self.old.function.name }
     {
         let Some(closed) = self.controls.pop() else {
             return Err(NESTING);
@@ -255,6 +272,8 @@ impl ValidationContext {
     fn fill(&mut self, block: InstrSeqId, instrs: Vec<(Instr, InstrLocId)>, end: InstrLocId)
         ensures filled { contents self.new.function.builder ≡ edited (filled_with instrs.items end) (contents self.old.function.builder) block }
         ensures frames { self.new.controls ≡ self.old.controls }
+        ensures ty { self.new.function.ty ≡ self.old.function.ty }
+        ensures name { self.new.function.name ≡ self.old.function.name }
     {
         if block.index() < self.function.seqs().len() {
             self.function.fill(block, instrs, end);
