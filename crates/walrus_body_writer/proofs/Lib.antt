@@ -2,3 +2,4 @@ mod Lefts
 mod Labels
 mod Steps
 mod Folds
+pub mod Outs

@@ -6,6 +6,7 @@ ghost use Rattle.walrus_tree.specs.Trees.{IsTree};
 ghost use Rattle.walrus_tree.specs.Text.{operators};
 ghost use Rattle.walrus_body_writer.specs.Spelled.{text_bytes, text_places};
 ghost use Rattle.walrus_body_writer.specs.Emitting.{IsCause, Writes, state};
+ghost use Rattle.walrus_body_writer.specs.Outputs.{Extends, IsLeft};
 
 use crate::depths::Depths;
 use crate::numbering::Numbering;
@@ -21,6 +22,7 @@ use walrus_instr::InstrSeq;
 use walrus_tree::check_tree;
 
 // Writes the instruction at a position of an open sequence.
+#[tactic(auto, using(crate::proofs::Outs::extends_itself))]
 fn write_instr<N: Numbering>(
     alloc: Global,
     numbers: &N,
@@ -30,7 +32,8 @@ fn write_instr<N: Numbering>(
     at: usize,
     out: &mut Output,
 ) -> Result<(), AllocError>
-    ensures { OnOk result ((ts : List Todo) → Writes (N.numbers numbers.now) seqs.now (Met.AnInstr id at) (state ts depths.now) out.old out.new) }
+    ensures written { OnOk result ((ts : List Todo) → Writes (N.numbers numbers.now) seqs.now (Met.AnInstr id at) (state ts depths.now) out.old out.new) }
+    ensures kept { Extends out.old out.new }
 {
     let Some(seq) = seq_at(seqs, id) else {
         return Ok(());
@@ -43,6 +46,7 @@ fn write_instr<N: Numbering>(
 }
 
 // Writes what stands where the list has come to.
+#[tactic(auto, using(crate::proofs::Outs::extends_itself))]
 fn write_met<N: Numbering>(
     alloc: Global,
     numbers: &N,
@@ -51,7 +55,8 @@ fn write_met<N: Numbering>(
     met: Met,
     out: &mut Output,
 ) -> Result<(), AllocError>
-    ensures { OnOk result ((ts : List Todo) → Writes (N.numbers numbers.now) seqs.now met (state ts depths.now) out.old out.new) }
+    ensures written { OnOk result ((ts : List Todo) → Writes (N.numbers numbers.now) seqs.now met (state ts depths.now) out.old out.new) }
+    ensures kept { Extends out.old out.new }
 {
     match met {
         Met::AnInstr(seq, at) => write_instr(alloc, numbers, seqs, depths, seq, at, out),
@@ -61,6 +66,7 @@ fn write_met<N: Numbering>(
 }
 
 // Writes the sequences of a tree.
+#[tactic(auto, using(crate::proofs::Outs::extends_itself, crate::proofs::Outs::extends_on))]
 fn write_tree<N: Numbering>(
     alloc: Global,
     numbers: &N,
@@ -71,6 +77,7 @@ fn write_tree<N: Numbering>(
     requires { IsTree seqs.now entry }
     ensures bytes { OnOk result (out.new.bytes.items ≡ out.old.bytes.items ++ text_bytes (N.numbers numbers.now) seqs.now (operators seqs.now entry)) }
     ensures places { OnOk result (out.new.places.items ≡ (if out.old.keeps_places then out.old.places.items ++ text_places (N.numbers numbers.now) seqs.now (length out.old.bytes.items) (operators seqs.now entry) else out.old.places.items)) }
+    ensures kept { Extends out.old out.new }
 {
     walrus_tree::laws::trees_are_nested();
     walrus_tree::laws::text_is_plain();
@@ -92,7 +99,8 @@ fn write_tree<N: Numbering>(
 /// # Errors
 ///
 /// `NoTree` exactly where the sequences that the body's own reaches form no tree in which each label names a sequence around it; then
-/// nothing was written. Else want of memory alone, which may leave a first part written.
+/// the output is as it was. Else want of memory alone, which may leave a first part written, behind what was there.
+#[tactic(auto, using(crate::proofs::Outs::extends_itself))]
 pub fn emit_instructions<N: Numbering>(
     alloc: Global,
     body: &FunctionBuilder,
@@ -102,7 +110,9 @@ pub fn emit_instructions<N: Numbering>(
     ensures tree { OnOk result (IsTree (seqs_of body.now) 0) }
     ensures bytes { OnOk result (out.new.bytes.items ≡ out.old.bytes.items ++ text_bytes (N.numbers numbers.now) (seqs_of body.now) (operators (seqs_of body.now) 0)) }
     ensures places { OnOk result (out.new.places.items ≡ (if out.old.keeps_places then out.old.places.items ++ text_places (N.numbers numbers.now) (seqs_of body.now) (length out.old.bytes.items) (operators (seqs_of body.now) 0) else out.old.places.items)) }
+    ensures kept { Extends out.old out.new }
     ensures refused { IfErr result (IsCause (seqs_of body.now)) }
+    ensures left { IfErr result (IsLeft out.old out.new) }
 {
     let entry = body.func_body_id();
     if !check_tree(alloc, body, entry)? {

@@ -1,8 +1,8 @@
 //! Where operators are written to.
 
-ghost use Rattle.std.specs.Prelude.{◌≡◌, ◌++◌, [], ◌∷◌, length, OnOk, if◌then◌else◌};
+ghost use Rattle.std.specs.Prelude.{◌≡◌, ◌++◌, [], ◌∷◌, length, OnErr, OnOk, if◌then◌else◌};
 ghost use Rattle.walrus_operators.specs.Operators.{seen};
-ghost use Rattle.walrus_body_writer.specs.Outputs.{Puts};
+ghost use Rattle.walrus_body_writer.specs.Outputs.{Extends, Puts};
 
 use std::alloc::{AllocError, Global};
 use walrus_instr::InstrLocId;
@@ -35,10 +35,12 @@ impl Output {
     }
 
     // The next operator begins here.
+    #[tactic(auto, using(crate::proofs::Outs::extends_nothing, crate::proofs::Outs::extends_places))]
     fn note(&mut self, place: InstrLocId) -> Result<(), AllocError>
         ensures places { OnOk result (self.new.places.items ≡ (if self.old.keeps_places then self.old.places.items ++ (place, length self.old.bytes.items) ∷ [] else self.old.places.items)) }
         ensures bytes { self.new.bytes ≡ self.old.bytes }
         ensures keeps { self.new.keeps_places ≡ self.old.keeps_places }
+        ensures kept { Extends self.old self.new }
     {
         if self.keeps_places {
             let at = self.bytes.len();
@@ -51,9 +53,12 @@ impl Output {
     ///
     /// # Errors
     ///
-    /// Want of memory. Its place may have been kept.
+    /// Want of memory. Its place may have been kept; no byte was written.
+    #[tactic(auto, using(crate::proofs::Outs::extends_on, crate::proofs::Outs::extends_bytes))]
     pub fn write(&mut self, operator: &Operator, place: InstrLocId) -> Result<(), AllocError>
-        ensures { OnOk result (Puts (seen operator.now) place self.old self.new) }
+        ensures put { OnOk result (Puts (seen operator.now) place self.old self.new) }
+        ensures kept { Extends self.old self.new }
+        ensures unwritten { OnErr result (self.new.bytes.items ≡ self.old.bytes.items) }
     {
         self.note(place)?;
         write_operator(&mut self.bytes, operator)

@@ -8,6 +8,7 @@ ghost use Rattle.walrus_tree.specs.Trees.{IsTree};
 ghost use Rattle.walrus_tree.specs.Text.{Operator, Piece, operators};
 ghost use Rattle.walrus_body_writer.specs.Doing.{piece_of};
 ghost use Rattle.walrus_body_writer.specs.Emitting.{IsCause};
+ghost use Rattle.walrus_body_writer.specs.Outputs.{IsLeft};
 ghost use Rattle.walrus_body_writer.specs.Visiting.{Visits};
 
 use crate::depths::Depths;
@@ -99,7 +100,7 @@ fn visit_tree<V: TextVisitor>(
 /// # Errors
 ///
 /// `NoTree` exactly where the sequences that the body's own reaches form no tree in which each label names a sequence around it; then
-/// nothing was told. Else want of memory alone, which may leave a first part told.
+/// nothing was told, and the visitor is as it was. Else want of memory alone, which may leave a first part told.
 pub fn visit_text<V: TextVisitor>(
     alloc: Global,
     visitor: &mut V,
@@ -108,6 +109,7 @@ pub fn visit_text<V: TextVisitor>(
     ensures tree { OnOk result (IsTree (seqs_of body.now) 0) }
     ensures told { OnOk result (FoldsTo V.step visitor.old (operators (seqs_of body.now) 0) visitor.new) }
     ensures refused { IfErr result (IsCause (seqs_of body.now)) }
+    ensures left { IfErr result (IsLeft visitor.old visitor.new) }
 {
     let entry = body.func_body_id();
     if !check_tree(alloc, body, entry)? {
