@@ -23,9 +23,14 @@ use Rattle.wasm_body_grammar.specs.Laws.{ReadsBody}
 use Rattle.wasm_grammar_bytes.specs.Values.{value_type_writer}
 use Rattle.wasm_grammar_bytes.specs.Bodies.{run_writer, runs_writer, runs_bytes, operators_bytes, replaced, op_of, operators_short, operators_ruled, frames_same, ops_same}
 use Rattle.wasm_grammar_bytes.specs.Runs.{AreMaximal, nil_cons, maximal_runs_are_shortest}
+use Rattle.wasm_grammar_bytes.specs.Maximal.{maximal_of, each_has_maximal_runs}
 
-abbrev pub body_bytes : Around → ℕ → List Run → Body → List ℕ
-body_bytes a params list x = runs_bytes a params list ++ flat_map (λ p. operator_bytes p.op) x.operators
+abbrev pub in_runs : Around → ℕ → List Run → Body → List ℕ
+in_runs a params list x = runs_bytes a params list ++ flat_map (λ p. operator_bytes p.op) x.operators
+
+-- maximal runs of the locals, and each operator in its shortest spelling
+abbrev pub body_bytes : Around → ℕ → Body → List ℕ
+body_bytes a params x = in_runs a params (maximal_of x.locals) x
 
 -- the body y is x in these bytes, of which no spelling of x has fewer
 pub record IsShortest (a : Around) (params place : ℕ) (others bytes : List ℕ) (x y : Body) : Type 0 where
@@ -34,11 +39,10 @@ pub record IsShortest (a : Around) (params place : ℕ) (others bytes : List ℕ
   pub operators : map op_of y.operators ≡ map op_of x.operators
   pub least : length bytes ≤ length others
 
--- what reads as a body reads so in maximal runs and the shortest spelling of each operator, too, places aside; and nothing shorter reads so
+-- what reads as a body reads so in its bytes, too, places aside; and nothing shorter reads so
 abbrev pub BodiesHaveShortest : Type 0
 BodiesHaveShortest =
-    (a : Around) (params place : ℕ) (others : List ℕ) (x : Body) (list : List Run) → Small others → ReadsBody a params place others x → AreMaximal list → declared list ≡ x.locals
-    → (y : Body) × IsShortest a params place others (body_bytes a params list x) x y
+    (a : Around) (params place : ℕ) (others : List ℕ) (x : Body) → Small others → ReadsBody a params place others x → (y : Body) × IsShortest a params place others (body_bytes a params x) x y
 
 -- ---- how many locals runs declare
 
@@ -130,8 +134,9 @@ few_locals : (a : Around) (params : ℕ) (list : List Run) → EntryRules next_t
 few_locals a params [] rules = omega arith
 few_locals a params (r ∷ list) rules = omega (arith, within_limit a params r list rules, total_is params (r ∷ list))
 
-pub bodies_have_shortest : BodiesHaveShortest
-bodies_have_shortest a params place others x list small h maximal same =
+shortest_in : (a : Around) (params place : ℕ) (others : List ℕ) (x : Body) (list : List Run) → Small others → ReadsBody a params place others x → AreMaximal list → declared list ≡ x.locals
+    → (y : Body) × IsShortest a params place others (in_runs a params list x) x y
+shortest_in a params place others x list small h maximal same =
     let parts = h.0 in
     let spelled = h.1.0 in
     let ruled = h.1.1 in
@@ -149,7 +154,7 @@ bodies_have_shortest a params place others x list small h maximal same =
     let meets = subst (λ (n : ℕ). EntryRules next_point (operator_in a n) (opened start) (replaced start parts.1)) count rules in
     let ends = ap is_closed (sym (frames_same parts.0.0 start (Plain ∷ []) parts.1)) ∙ ruled.1.1 in
     let new : Parts = ((start, list), replaced start parts.1) in
-    let written : body_bytes a params list x ≡ runs_bytes a params list ++ operators_bytes parts.1 =
+    let written : in_runs a params list x ≡ runs_bytes a params list ++ operators_bytes parts.1 =
     ap (λ (l : List ℕ). runs_bytes a params list ++ l) (sym (ap (λ (b : Body). flat_map (λ (p : Placed). operator_bytes p.op) b.operators) h.2) ∙ ops_bytes parts.0.0 parts.1) in
     let runs_less = maximal_runs_are_shortest a params list old maximal declares in
     let front_less : length (runs_bytes a params list) ≤ length spelled.0 = omega (arith, runs_less, first.1) in
@@ -175,3 +180,8 @@ bodies_have_shortest a params place others x list small h maximal same =
         least = subst (λ (l : List ℕ). length l ≤ length others) (sym written) all_less;
       },
     )
+
+pub bodies_have_shortest : BodiesHaveShortest
+bodies_have_shortest a params place others x small h =
+    let runs = each_has_maximal_runs x.locals in
+    shortest_in a params place others x (maximal_of x.locals) small h runs.0 runs.1

@@ -51,7 +51,7 @@ module _ (features : WasmFeatures) where
   item_short values = made_short ManyValues (SpellsVec most (SpellsValue features)) (vec_bytes value_bytes) (vec_short (SpellsValue features) value_bytes (value_short features) most) (λ x. refl)
   item_short clauses = made_short ManyClauses (SpellsVec most SpellsClause) (vec_bytes clause_bytes) (vec_short SpellsClause clause_bytes clause_short most) (λ x. refl)
 
-  forms_short : (forms : List Form) → WritesShortest (SpellsForms features forms) (flat_map item_bytes)
+  pub forms_short : (forms : List Form) → WritesShortest (SpellsForms features forms) (flat_map item_bytes)
   forms_short [] bytes items small h = rw h.1 ((refl, refl), omega arith)
   forms_short (form ∷ forms) bytes items small h =
       let parts = parts_small bytes h.2 h.3 h.5 small in
@@ -65,7 +65,7 @@ prefix_not_zero p h = elim (cases_Bool (p == 0)) [
   | inr not ↦ not
 ]
 
-code_short : WritesShortest SpellsCode code_bytes
+pub code_short : WritesShortest SpellsCode code_bytes
 code_short bytes code small (inl h) =
     let one : Small (code.number ∷ []) = subst Small h.2 small in
     let low : code.number < 256 = All-head (λ b. b < 256) code.number [] one in

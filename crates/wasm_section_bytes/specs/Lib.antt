@@ -1,0 +1,6 @@
+pub mod TypeBytes
+pub mod Exprs
+pub mod Entries
+pub mod Segments
+pub mod Sections
+pub mod Laws
