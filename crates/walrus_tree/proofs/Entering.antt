@@ -1,12 +1,13 @@
 -- Steps that enter sequences, and what is around the end of steps.
-use Rattle.std.proofs.Common.{ℕ, ◌+◌, ◌<◌, ◌≤◌, ◌≡◌, List, [], ◌∷◌, ◌++◌, length, drop, get_or, refl, sym, ap, arith, ◌∙◌, append_assoc}
+use Rattle.std.proofs.Common.{ℕ, Bool, true, ◌&&◌, ◌+◌, ◌<◌, ◌≤◌, ◌≡◌, List, [], ◌∷◌, ◌++◌, length, drop, get_or, refl, sym, ap, arith, ◌∙◌, append_assoc}
 use Rattle.std.proofs.lemmas.List.{drop_more}
 use Rattle.walrus_instr.specs.declared.instr.Instr.{Instr}
 use Rattle.walrus_instr.specs.declared.seq.InstrLocId.{InstrLocId}
 use Rattle.walrus_walks.specs.Tree.{children, children_in}
+use Rattle.walrus_tree.specs.declared.marks.Mark.{Mark}
 use Rattle.walrus_tree.specs.declared.steps.Step.{Step}
 use Rattle.walrus_tree.specs.declared.steps.Step.TheVariants.{Enter, Leave}
-use Rattle.walrus_tree.specs.Testing.{entering, opened}
+use Rattle.walrus_tree.specs.Testing.{entering, opened, within, all_within}
 
 pub entering_append : (js ks : List ℕ) → entering (js ++ ks) ≡ entering js ++ entering ks
 entering_append [] ks = refl
@@ -40,3 +41,11 @@ pushed_more front new back is n x l e push before =
     ∙ ap (λ (fs : List Step). front ++ fs) (sym (entering_append (children x.0) (children_in (drop (n + 1) is))))
     ∙ ap (λ (js : List (Instr × InstrLocId)). front ++ entering (children_in js)) (sym (drop_more is n x l ∙ ap (λ (y : Instr × InstrLocId). y ∷ drop (n + 1) is) (sym e)))
     ∙ before
+
+-- one instruction's labels are right
+pub within_more : (ms : List Mark) (depth : ℕ) (is : List (Instr × InstrLocId)) (n : ℕ) (x : Instr × InstrLocId) (all : Bool) → n < length is → x ≡ get_or is n x → within ms depth x.0 ≡ true
+    → all_within ms depth (drop n is) ≡ all → all_within ms depth (drop (n + 1) is) ≡ all
+within_more ms depth is n x all l e right before =
+    let rest = drop (n + 1) is in
+    let is_next : drop n is ≡ x ∷ rest = drop_more is n x l ∙ ap (λ (y : Instr × InstrLocId). y ∷ rest) (sym e) in
+    sym (ap (λ (b : Bool). b && all_within ms depth rest) right) ∙ sym (ap (all_within ms depth) is_next) ∙ before

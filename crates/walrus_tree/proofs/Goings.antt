@@ -1,6 +1,7 @@
 -- One step of the test: what it still enters is a part of a tree just where that was so before.
-use Rattle.std.proofs.Common.{ℕ, zero, suc, replicate, ◌+◌, ◌-◌, ◌<◌, ◌≤◌, ◌≡◌, ◌↔◌, true, false, List, [], ◌∷◌, ◌++◌, length, Some, refl, sym, ap, subst, arith, ◌∙◌, append_assoc, length-append, inl, true≢false}
+use Rattle.std.proofs.Common.{Bool, ℕ, zero, suc, replicate, ◌+◌, ◌-◌, ◌<◌, ◌≤◌, ◌≡◌, ◌↔◌, true, false, List, [], ◌∷◌, ◌++◌, length, Some, refl, sym, ap, subst, arith, ◌∙◌, append_assoc, length-append, inl, true≢false}
 use Rattle.std.specs.Prelude.{slice_get, slice_set}
+use Rattle.std.specs.Bool.{OnTrue}
 use Rattle.std.proofs.lemmas.List.{append-nil}
 use Rattle.std.proofs.lemmas.Option.{slice_get_within, same_Some}
 use Rattle.walrus_instr.specs.declared.instr.Instr.{Instr}
@@ -17,6 +18,11 @@ use Rattle.walrus_tree.proofs.Entering.{opened_append, opened_entering, opened_m
 use Rattle.walrus_tree.proofs.Labels.{all_within_right, right_all_within}
 use Rattle.walrus_tree.proofs.Marking.{has_middle, fresh_at, fresh_out, fresh_in, fresh_left, left_fresh, marked_enter, marked_leave, mark_known, work_enter}
 use Rattle.walrus_tree.proofs.Lefts.{left_split, left_join, left_stands, stands_left}
+
+-- what holds of a test that was passed
+pub on_true : (passed : Bool) (P : Type 0) → passed ≡ true → OnTrue passed P → P
+on_true true P e h = h
+on_true false P e h = absurd (true≢false (sym e))
 
 -- the steps enter this sequence last
 pub record Entry (b : List InstrSeq) (fs : List Step) (k : ℕ) (ks : List ℕ) : Type 0 where

@@ -2,15 +2,36 @@
 ghost use Rattle.std.specs.Prelude.{◌≡◌, ◌+◌, ◌-◌, ◌<◌, ◌++◌, ◌↔◌, [], ◌∷◌, IfOk, MatchBool, length, slice_set};
 ghost use Rattle.std.specs.Bool.{OnTrue};
 ghost use Rattle.walrus_tree.specs.Trees.{IsTree};
-ghost use Rattle.walrus_tree.specs.Testing.{Goes, Marked, opened, work};
+ghost use Rattle.walrus_tree.specs.Testing.{Goes, Marked, all_within, entering, opened, work};
+ghost use Rattle.walrus_walks.specs.Tree.{children_in};
 ghost use Rattle.walrus_tree.specs.declared.steps.Step.TheVariants.{Enter};
 ghost use Rattle.walrus_tree.specs.declared.marks.Mark.TheVariants.{Done};
 
-use crate::marks::{Mark, are_within};
-use crate::steps::{Step, push_all};
+use crate::marks::{Mark, is_within};
+use crate::steps::{Step, push_children};
 use std::alloc::{AllocError, Global};
 use walrus_arena::InstrSeqId;
-use walrus_instr::InstrSeq;
+use walrus_instr::{Instr, InstrLocId, InstrSeq};
+
+// Pushes the sequences that the instructions hold; false where a label names none that is open, of which there are so many.
+// Each instruction is looked at once, since most of the time goes into fetching it.
+fn look_through(
+    instrs: &[(Instr, InstrLocId)],
+    marks: &[Mark],
+    depth: usize,
+    steps: &mut Vec<Step>,
+) -> Result<bool, AllocError>
+    ensures within { IfOk result (λ fine. fine ≡ all_within marks.now depth instrs.now) }
+    ensures pushed { IfOk result (λ fine. OnTrue fine (steps.new.items ≡ steps.old.items ++ entering (children_in instrs.now))) }
+{
+    for (instr, _) in instrs {
+        if !is_within(instr, marks, depth) {
+            return Ok(false);
+        }
+        push_children(steps, instr)?;
+    }
+    Ok(true)
+}
 
 // Enters a sequence; false where it is unknown or was entered before, or where a label in it names none that is open.
 fn enter(
@@ -40,10 +61,9 @@ fn enter(
             steps.push(Step::Leave(id))?;
             *depth += 1;
             let instrs = seqs[index].instrs.as_slice();
-            if !are_within(instrs, marks, *depth) {
+            if !look_through(instrs, marks, *depth, steps)? {
                 return Ok(false);
             }
-            push_all(steps, instrs)?;
             Ok(true)
         }
     }

@@ -1,10 +1,10 @@
 //! Marks of sequences, and the labels that they allow.
 ghost use Rattle.std.specs.Prelude.{◌≡◌};
-ghost use Rattle.walrus_tree.specs.Testing.{open_at, all_open, clauses_open, delegates, within, all_within};
+ghost use Rattle.walrus_tree.specs.Testing.{open_at, all_open, clauses_open, delegates, within};
 ghost use Rattle.walrus_tree.specs.Trees.{clause_label};
 
 use walrus_arena::InstrSeqId;
-use walrus_instr::{Instr, InstrLocId, LegacyCatch, TryTableCatch};
+use walrus_instr::{Instr, LegacyCatch, TryTableCatch};
 
 /// How far a sequence is tested.
 #[derive(Clone, Copy)]
@@ -79,8 +79,8 @@ fn delegates_within(parts: &[LegacyCatch], depth: usize) -> bool
     true
 }
 
-// Whether each label of the instruction names a sequence that is open, of which there are so many.
-fn is_within(instr: &Instr, marks: &[Mark], depth: usize) -> bool
+/// Whether each label of the instruction names a sequence that is open, of which there are so many.
+pub(crate) fn is_within(instr: &Instr, marks: &[Mark], depth: usize) -> bool
     ensures { result ≡ within marks.now depth instr.now }
 {
     match instr {
@@ -98,16 +98,4 @@ fn is_within(instr: &Instr, marks: &[Mark], depth: usize) -> bool
         Instr::TryTable { catches, .. } => are_clauses_open(marks, catches.as_slice()),
         _ => true,
     }
-}
-
-/// Whether each label of the instructions names a sequence that is open, of which there are so many.
-pub(crate) fn are_within(instrs: &[(Instr, InstrLocId)], marks: &[Mark], depth: usize) -> bool
-    ensures { result ≡ all_within marks.now depth instrs.now }
-{
-    for (instr, _) in instrs {
-        if !is_within(instr, marks, depth) {
-            return false;
-        }
-    }
-    true
 }

@@ -1,11 +1,11 @@
 //! The list of what the test has still to do.
 ghost use Rattle.std.specs.Prelude.{◌≡◌, [], ◌∷◌, ◌++◌, IfOk};
-ghost use Rattle.walrus_walks.specs.Tree.{children, children_in, handler, handlers};
+ghost use Rattle.walrus_walks.specs.Tree.{children, handler, handlers};
 ghost use Rattle.walrus_tree.specs.Testing.{entering};
 
 use std::alloc::AllocError;
 use walrus_arena::InstrSeqId;
-use walrus_instr::{Instr, InstrLocId, LegacyCatch};
+use walrus_instr::{Instr, LegacyCatch};
 
 /// What the test has to do.
 #[derive(Clone, Copy)]
@@ -37,8 +37,12 @@ fn push_handlers(steps: &mut Vec<Step>, parts: &[LegacyCatch]) -> Result<(), All
     Ok(())
 }
 
-// Pushes the sequences that an instruction holds.
-fn push_children(steps: &mut Vec<Step>, instr: &Instr) -> Result<(), AllocError>
+/// Pushes the sequences that an instruction holds.
+///
+/// # Errors
+///
+/// Want of memory. Some may have been pushed.
+pub(crate) fn push_children(steps: &mut Vec<Step>, instr: &Instr) -> Result<(), AllocError>
     ensures { IfOk result (λ _. steps.new.items ≡ steps.old.items ++ entering (children instr.now)) }
 {
     match instr {
@@ -57,23 +61,6 @@ fn push_children(steps: &mut Vec<Step>, instr: &Instr) -> Result<(), AllocError>
             push_handlers(steps, catches.as_slice())?;
         }
         _ => {}
-    }
-    Ok(())
-}
-
-/// Pushes the sequences that the instructions hold.
-///
-/// # Errors
-///
-/// Want of memory. Some may have been pushed.
-pub(crate) fn push_all(
-    steps: &mut Vec<Step>,
-    instrs: &[(Instr, InstrLocId)],
-) -> Result<(), AllocError>
-    ensures { IfOk result (λ _. steps.new.items ≡ steps.old.items ++ entering (children_in instrs.now)) }
-{
-    for (instr, _) in instrs {
-        push_children(steps, instr)?;
     }
     Ok(())
 }

@@ -3,7 +3,7 @@ use Rattle.std.proofs.lemmas.Option.{slice_get_read}
 use Rattle.walrus_instr.specs.declared.seq.InstrSeq.{InstrSeq}
 use Rattle.walrus_tree.specs.declared.marks.Mark.TheVariants.{Fresh, Open, Done}
 use Rattle.walrus_tree.proofs.Marking.{mark_read}
-use Rattle.walrus_tree.proofs.Goings.{goes_unknown, goes_met, wrong_label, right_labels, marked_inside, enters_less, depth_most}
+use Rattle.walrus_tree.proofs.Goings.{on_true, goes_unknown, goes_met, wrong_label, right_labels, marked_inside, enters_less, depth_most}
 use Rattle.walrus_tree.proofs.check.enter.Goals as goal
 
 pub returns-then-index-seqs-clause-tested : goal.returns-then-index-seqs-clause-tested
@@ -28,8 +28,8 @@ returns-in-Done-clause-tested c =
     let at = mark_read ms c.args.id c.index-index.result _ Done c.index-index.ensures (omega arith) c.in-Done.is in
     goes_met c.args.seqs.now ms c.args.steps.now.items c.args.id (λ f. (let e : Fresh ≡ Done = sym f ∙ at in cc))
 
-pub returns-then-not-are_within-clause-tested : goal.returns-then-not-are_within-clause-tested
-returns-then-not-are_within-clause-tested c =
+pub returns-then-not-branch-clause-tested : goal.returns-then-not-branch-clause-tested
+returns-then-not-branch-clause-tested c =
     let b = c.args.seqs.now in
     let ms = c.args.marks.now in
     let k = c.args.id in
@@ -40,10 +40,10 @@ returns-then-not-are_within-clause-tested c =
     let found = slice_get_read b (length b) k s refl (omega arith) (subst G c.index-index.ensures c.index-seqs-index.is) in
     let is = c.as_slice-instrs.result.now in
     let items : is ≡ s.instrs.items = c.as_slice-instrs.ensures.value ∙ ap (λ (t : InstrSeq). t.instrs.items) (sym c.index-seqs-index.is) in
-    wrong_label b ms c.args.steps.now.items k s c.args.depth.now c.requires.marked found known fresh c.index-index.result c.index-index.ensures is items (c.if-not-are_within.ensures)
+    wrong_label b ms c.args.steps.now.items k s c.args.depth.now c.requires.marked found known fresh c.index-index.result c.index-index.ensures is items (sym c.if-not-branch.true ∙ c.in_ok-look_through-in-Fresh.ensures.within)
 
-pub returns-in_ok-push_all-in-Fresh-clause-marked : goal.returns-in_ok-push_all-in-Fresh-clause-marked
-returns-in_ok-push_all-in-Fresh-clause-marked c =
+pub returns-else-not-branch-clause-marked : goal.returns-else-not-branch-clause-marked
+returns-else-not-branch-clause-marked c =
     let b = c.args.seqs.now in
     let ms = c.args.marks.now in
     let k = c.args.id in
@@ -54,10 +54,10 @@ returns-in_ok-push_all-in-Fresh-clause-marked c =
     let found = slice_get_read b (length b) k s refl (omega arith) (subst G c.index-index.ensures c.index-seqs-index.is) in
     let is = c.as_slice-instrs.result.now in
     let items : is ≡ s.instrs.items = c.as_slice-instrs.ensures.value ∙ ap (λ (t : InstrSeq). t.instrs.items) (sym c.index-seqs-index.is) in
-    marked_inside b ms c.args.steps.now.items k s c.args.depth.now c.requires.marked found known fresh c.index-index.result c.index-index.ensures is items c.push.new.self.items c.push_all.new.steps.items c.in_ok-push-in-Fresh.ensures.items c.in_ok-push_all-in-Fresh.ensures
+    marked_inside b ms c.args.steps.now.items k s c.args.depth.now c.requires.marked found known fresh c.index-index.result c.index-index.ensures is items c.push.new.self.items c.look_through.new.steps.items c.in_ok-push-in-Fresh.ensures.items (on_true _ _ c.if-not-branch.false c.in_ok-look_through-in-Fresh.ensures.pushed)
 
-pub returns-in_ok-push_all-in-Fresh-clause-tested : goal.returns-in_ok-push_all-in-Fresh-clause-tested
-returns-in_ok-push_all-in-Fresh-clause-tested c =
+pub returns-else-not-branch-clause-tested : goal.returns-else-not-branch-clause-tested
+returns-else-not-branch-clause-tested c =
     let b = c.args.seqs.now in
     let ms = c.args.marks.now in
     let k = c.args.id in
@@ -68,10 +68,10 @@ returns-in_ok-push_all-in-Fresh-clause-tested c =
     let found = slice_get_read b (length b) k s refl (omega arith) (subst G c.index-index.ensures c.index-seqs-index.is) in
     let is = c.as_slice-instrs.result.now in
     let items : is ≡ s.instrs.items = c.as_slice-instrs.ensures.value ∙ ap (λ (t : InstrSeq). t.instrs.items) (sym c.index-seqs-index.is) in
-    right_labels b ms c.args.steps.now.items k s c.args.depth.now c.requires.marked found known fresh c.index-index.result c.index-index.ensures is items (c.if-not-are_within.ensures) c.push.new.self.items c.push_all.new.steps.items c.in_ok-push-in-Fresh.ensures.items c.in_ok-push_all-in-Fresh.ensures
+    right_labels b ms c.args.steps.now.items k s c.args.depth.now c.requires.marked found known fresh c.index-index.result c.index-index.ensures is items (sym c.if-not-branch.false ∙ c.in_ok-look_through-in-Fresh.ensures.within) c.push.new.self.items c.look_through.new.steps.items c.in_ok-push-in-Fresh.ensures.items (on_true _ _ c.if-not-branch.false c.in_ok-look_through-in-Fresh.ensures.pushed)
 
-pub returns-in_ok-push_all-in-Fresh-clause-less : goal.returns-in_ok-push_all-in-Fresh-clause-less
-returns-in_ok-push_all-in-Fresh-clause-less c =
+pub returns-else-not-branch-clause-less : goal.returns-else-not-branch-clause-less
+returns-else-not-branch-clause-less c =
     let b = c.args.seqs.now in
     let ms = c.args.marks.now in
     let k = c.args.id in
@@ -82,4 +82,4 @@ returns-in_ok-push_all-in-Fresh-clause-less c =
     let found = slice_get_read b (length b) k s refl (omega arith) (subst G c.index-index.ensures c.index-seqs-index.is) in
     let is = c.as_slice-instrs.result.now in
     let items : is ≡ s.instrs.items = c.as_slice-instrs.ensures.value ∙ ap (λ (t : InstrSeq). t.instrs.items) (sym c.index-seqs-index.is) in
-    enters_less b ms c.args.steps.now.items k s c.args.depth.now c.requires.marked found known fresh c.index-index.result c.index-index.ensures is items c.push.new.self.items c.push_all.new.steps.items c.in_ok-push-in-Fresh.ensures.items c.in_ok-push_all-in-Fresh.ensures
+    enters_less b ms c.args.steps.now.items k s c.args.depth.now c.requires.marked found known fresh c.index-index.result c.index-index.ensures is items c.push.new.self.items c.look_through.new.steps.items c.in_ok-push-in-Fresh.ensures.items (on_true _ _ c.if-not-branch.false c.in_ok-look_through-in-Fresh.ensures.pushed)
