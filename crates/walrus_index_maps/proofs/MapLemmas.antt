@@ -11,21 +11,18 @@ use Rattle.std.specs.Cmp.{nat_cmp_is}
 use Rattle.walrus_index_maps.specs.Maps.{Numbering, numbered, with_last, with_local}
 use Rattle.walrus_index_maps.specs.Views.{items_at, key_cmp}
 
-abbrev nothing : Option ℕ
-nothing = None
+no_numbers : {A : Type 0} (nothing : Option A) (n i : ℕ) → nothing ≡ None → get_or (replicate n nothing) i None ≡ None
+no_numbers nothing zero i e = refl
+no_numbers nothing (suc n) zero e = e
+no_numbers nothing (suc n) (suc i) e = no_numbers nothing n i e
 
-no_numbers : (n i : ℕ) → get_or (replicate n nothing) i nothing ≡ nothing
-no_numbers zero i = refl
-no_numbers (suc n) zero = refl
-no_numbers (suc n) (suc i) = no_numbers n i
-
-padded : (xs : List (Option ℕ)) (n i : ℕ) → get_or (xs ++ replicate n nothing) i None ≡ get_or xs i None
-padded [] n i = no_numbers n i
+padded : {A : Type 0} (xs : List (Option A)) (n i : ℕ) → get_or (xs ++ replicate n None) i None ≡ get_or xs i None
+padded [] n i = no_numbers None n i refl
 padded (x ∷ xs) n zero = refl
 padded (x ∷ xs) n (suc i) = padded xs n i
 
 -- places without numbers say nothing
-pub grown : (xs ys : List (Option ℕ)) (n m i : ℕ) → length xs ≤ n → ys ≡ take n xs ++ replicate m nothing → get_or ys i None ≡ get_or xs i None
+pub grown : {A : Type 0} (xs ys : List (Option A)) (n m i : ℕ) → length xs ≤ n → ys ≡ take n xs ++ replicate m None → get_or ys i None ≡ get_or xs i None
 grown xs ys n m i l e = rw (e, take_all n xs l) (padded xs m i)
 
 -- one id has another number

@@ -3,9 +3,9 @@ ghost use Rattle.std.specs.Prelude.{◌≡◌, ◌+◌, ◌<◌, ◌^◌, None, 
 ghost use Rattle.walrus_index_maps.specs.Maps.{no_indices, numbered, next_numbered, with_local};
 ghost use Rattle.walrus_index_maps.specs.Views.{indices};
 
+use crate::locals::LocalNumbers;
 use crate::numbers::Numbers;
 use std::alloc::{AllocError, Global};
-use std::collections::BTreeMap;
 use walrus_arena::{
     DataId, DataSpace, ElementId, ElementSpace, FunctionId, FunctionSpace, GlobalId, GlobalSpace,
     LocalId, MemoryId, MemorySpace, TableId, TableSpace, TagId, TagSpace, TypeId, TypeSpace,
@@ -22,8 +22,7 @@ pub struct IdsToIndices {
     globals: Numbers<GlobalSpace>,
     elements: Numbers<ElementSpace>,
     segments: Numbers<DataSpace>,
-    // By the numbers of function and local.
-    locals: BTreeMap<(u32, u32), u32>,
+    locals: LocalNumbers,
 }
 
 impl IdsToIndices {
@@ -40,7 +39,7 @@ impl IdsToIndices {
             globals: Numbers::new(alloc),
             elements: Numbers::new(alloc),
             segments: Numbers::new(alloc),
-            locals: BTreeMap::new(alloc),
+            locals: LocalNumbers::new(alloc),
         }
     }
 
@@ -231,14 +230,13 @@ impl IdsToIndices {
         ensures set { OnOk result (indices self.new ≡ record (indices self.old) { locals = with_local function id index (indices self.old).locals }) }
         ensures refused { OnErr result (indices self.new ≡ indices self.old) }
     {
-        self.locals.insert((function.number(), id.number()), index)?;
-        Ok(())
+        self.locals.set(function, id, index)
     }
 
     /// The number of a local in a function, if it has one there.
     pub fn get_local_index(&self, function: FunctionId, id: LocalId) -> Option<u32>
         ensures { result ≡ (indices self.now).locals function id }
     {
-        self.locals.get(&(function.number(), id.number())).copied()
+        self.locals.get(function, id)
     }
 }

@@ -4,6 +4,7 @@
 
 mod ids_to_indices;
 mod indices_to_ids;
+mod locals;
 mod numbers;
 mod space;
 

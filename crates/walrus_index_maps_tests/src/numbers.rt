@@ -1,0 +1,119 @@
+//! What number each id is written as, in each space.
+
+use std::alloc::{AllocError, Global};
+use std::process::Abort;
+use std::test::Fail;
+use walrus_arena::Id;
+use walrus_index_maps::{IdsToIndices, Space};
+
+const SPACES: [Space; 7] = [
+    Space::Type,
+    Space::Function,
+    Space::Table,
+    Space::Memory,
+    Space::Tag,
+    Space::Global,
+    Space::Element,
+];
+
+// Numbers of the space alone: id 7 has the first.
+fn numbers(alloc: Global, space: Space) -> Result<IdsToIndices, AllocError> {
+    let mut numbers = IdsToIndices::new(alloc);
+    match space {
+        Space::Type => numbers.push_type(Id::from_index(7))?,
+        Space::Function => numbers.push_func(Id::from_index(7))?,
+        Space::Table => numbers.push_table(Id::from_index(7))?,
+        Space::Memory => numbers.push_memory(Id::from_index(7))?,
+        Space::Tag => numbers.push_tag(Id::from_index(7))?,
+        Space::Global => numbers.push_global(Id::from_index(7))?,
+        _ => numbers.push_element(Id::from_index(7))?,
+    };
+    Ok(numbers)
+}
+
+fn number_of(numbers: &IdsToIndices, space: Space, id: u32) -> Option<u32> {
+    let id = id as usize;
+    match space {
+        Space::Type => numbers.get_type_index(Id::from_index(id)),
+        Space::Function => numbers.get_func_index(Id::from_index(id)),
+        Space::Table => numbers.get_table_index(Id::from_index(id)),
+        Space::Memory => numbers.get_memory_index(Id::from_index(id)),
+        Space::Tag => numbers.get_tag_index(Id::from_index(id)),
+        Space::Global => numbers.get_global_index(Id::from_index(id)),
+        _ => numbers.get_element_index(Id::from_index(id)),
+    }
+}
+
+// Whether id 7 has the number 0 in this space alone, and no other id has one.
+fn only_this(numbers: &IdsToIndices, space: Space) -> bool {
+    for other in SPACES {
+        let wanted = if other == space { Some(0) } else { None };
+        if number_of(numbers, other, 7) != wanted || number_of(numbers, other, 8).is_some() {
+            return false;
+        }
+    }
+    true
+}
+
+#[test]
+fn each_space_has_its_own_numbers(rt: HostRuntime) -> Result<(), Fail> {
+    for space in SPACES {
+        let numbers = numbers(rt.alloc(), space)?;
+        let fine = only_this(&numbers, space);
+        assert!(rt; fine);
+    }
+    Ok(())
+}
+
+fn two_types(alloc: Global) -> Result<IdsToIndices, AllocError> {
+    let mut numbers = IdsToIndices::new(alloc);
+    numbers.push_type(Id::from_index(7))?;
+    let next = Id::from_index(4);
+    if numbers.get_type_index(next).is_none() {
+        numbers.push_type(next)?;
+    }
+    Ok(numbers)
+}
+
+#[test]
+fn the_next_id_has_the_next_number(rt: HostRuntime) -> Result<(), Fail> {
+    let numbers = two_types(rt.alloc())?;
+    assert!(rt; numbers.get_type_index(Id::from_index(7)) == Some(0));
+    assert!(rt; numbers.get_type_index(Id::from_index(4)) == Some(1));
+    Ok(())
+}
+
+// Sets, one after the other, a function, a local and its number there.
+fn locals(alloc: Global, rows: &[(u32, u32, u32)]) -> Result<IdsToIndices, AllocError> {
+    let mut numbers = IdsToIndices::new(alloc);
+    for (function, local, number) in rows {
+        let function = Id::from_index(*function as usize);
+        numbers.set_local_index(function, Id::from_index(*local as usize), *number)?;
+    }
+    Ok(numbers)
+}
+
+fn local_of(numbers: &IdsToIndices, function: u32, local: u32) -> Option<u32> {
+    let function = Id::from_index(function as usize);
+    numbers.get_local_index(function, Id::from_index(local as usize))
+}
+
+#[test]
+fn functions_that_share_a_local_have_their_own_numbers(rt: HostRuntime) -> Result<(), Fail> {
+    let rows = [
+        (1, 5, 10),
+        (2, 5, 20),
+        (1, 6, 11),
+        (1, 5, 12),
+        (3, 5, 30),
+        (2, 5, 21),
+    ];
+    let numbers = locals(rt.alloc(), &rows)?;
+    for (function, local, number) in [(1, 5, 12), (2, 5, 21), (3, 5, 30), (1, 6, 11)] {
+        assert!(rt; local_of(&numbers, function, local) == Some(number));
+    }
+    for (function, local) in [(2, 6), (3, 6), (4, 5), (1, 7), (1, 4294967295)] {
+        assert!(rt; local_of(&numbers, function, local).is_none());
+    }
+    Ok(())
+}
