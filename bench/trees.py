@@ -4,7 +4,8 @@
     bench/trees.py [--rounds N]
 
 A time is the shortest of five tests in a run of walrus_tree_bench, the least of the rounds. An instruction's time is
-compared with that of 1,000,000 instructions in one sequence.
+compared with that of 1,000,000 instructions in one sequence. A list that pushes fill has room for four instructions of
+48 bytes at first; lists without room have memory for just what they hold.
 """
 import argparse
 import os
@@ -13,35 +14,39 @@ import sys
 
 ROOT = os.path.dirname(os.path.dirname(os.path.abspath(__file__)))
 CRATE = f"{ROOT}/crates/walrus_tree_bench"
-# what is timed, how many blocks, how many instructions in each and in the body, and where the blocks stand
+# what is timed, how many blocks, how many instructions in each and in the body, where the blocks stand, and the room of their lists
 SHAPES = (
-    ("1,000,000 instructions in one sequence", 0, 10**6, "flat"),
-    ("100,000 nested blocks of ten instructions", 10**5, 9, "nested"),
-    ("100,000 nested blocks of two instructions", 10**5, 1, "nested"),
-    ("100,000 nested blocks that hold the next alone", 10**5, 0, "nested"),
-    ("1,000,000 nested blocks of ten instructions", 10**6, 9, "nested"),
-    ("100,000 blocks of ten instructions beside each other", 10**5, 9, "flat"),
+    ("1,000,000 instructions in one sequence", 0, 10**6, "flat", "some"),
+    ("100,000 nested blocks of ten instructions", 10**5, 9, "nested", "some"),
+    ("100,000 nested blocks of ten instructions, lists without room", 10**5, 9, "nested", "none"),
+    ("1,000,000 nested blocks of ten instructions", 10**6, 9, "nested", "some"),
+    ("100,000 blocks of ten instructions beside each other", 10**5, 9, "flat", "some"),
+    ("100,000 nested blocks of two instructions", 10**5, 1, "nested", "some"),
+    ("100,000 nested blocks of two instructions, lists without room", 10**5, 1, "nested", "none"),
+    ("100,000 nested blocks that hold the next alone", 10**5, 0, "nested", "some"),
+    ("100,000 nested blocks that hold the next alone, lists without room", 10**5, 0, "nested", "none"),
+    ("1,000,000 nested blocks that hold the next alone, lists without room", 10**6, 0, "nested", "none"),
 )
 
 
-def least(rounds, blocks, within, shape):
+def least(rounds, *words):
     """The microseconds of the shortest test, and the count of instructions."""
     runs = []
     for _ in range(rounds):
-        said = subprocess.run([f"{CRATE}/out/walrus_tree_bench", str(blocks), str(within), shape], capture_output=True, text=True, check=True)
+        said = subprocess.run([f"{CRATE}/out/walrus_tree_bench", *map(str, words)], capture_output=True, text=True, check=True)
         runs.append((int(said.stderr), int(said.stdout.split()[0])))
     return min(runs)
 
 
 def main():
-    words = argparse.ArgumentParser(description="Times the test of trees.")
-    words.add_argument("--rounds", type=int, default=5)
-    asked = words.parse_args()
+    parser = argparse.ArgumentParser(description="Times the test of trees.")
+    parser.add_argument("--rounds", type=int, default=5)
+    asked = parser.parse_args()
     print("building walrus_tree_bench", file=sys.stderr)
-    subprocess.run(["rt", "run", "--", "1", "1", "flat"], cwd=CRATE, check=True, stdout=subprocess.DEVNULL, stderr=subprocess.DEVNULL)
+    subprocess.run(["rt", "run", "--", "1", "1", "flat", "some"], cwd=CRATE, check=True, stdout=subprocess.DEVNULL, stderr=subprocess.DEVNULL)
     first = None
-    for what, blocks, within, shape in SHAPES:
-        took, count = least(asked.rounds, blocks, within, shape)
+    for what, *words in SHAPES:
+        took, count = least(asked.rounds, *words)
         each = took * 1000 / count
         first = first or each
         print(f"{what}: {took / 1000:.1f} ms, {each:.1f} ns an instruction, {each / first:.2f} times the first")

@@ -1,8 +1,9 @@
-//! Times the test of a tree: `walrus_tree_bench BLOCKS WITHIN SHAPE`.
+//! Times the test of a tree: `walrus_tree_bench BLOCKS WITHIN SHAPE ROOM`.
 //!
 //! Makes a body of so many blocks with so many instructions in each and in the body, a third of which branch to the body:
 //! each in the one before where the shape is `nested`, else all in the body, and tests five times whether it
-//! is a tree. The count of instructions is printed on standard output; on standard error the microseconds of
+//! is a tree. Where the room is `none`, the list of each block takes just the memory that it needs, as a reader's can; else
+//! what growth by pushes takes. The count of instructions is printed on standard output; on standard error the microseconds of
 //! the shortest test.
 #![tactic(auto)]
 
@@ -22,7 +23,8 @@ fn main(rt: HostRuntime) -> Result<()> {
     let blocks = number(words.get(1));
     let within = number(words.get(2));
     let nested = words.get(3).is_some_and(|word| word.as_str() == "nested");
-    let body = body_of(rt.alloc(), blocks, within, nested)?;
+    let exact = words.get(4).is_some_and(|word| word.as_str() == "none");
+    let body = body_of(rt.alloc(), blocks, within, nested, exact)?;
     let mut least = u128::MAX;
     let mut trees = 0u32;
     for _ in 0..5 {
@@ -60,6 +62,14 @@ fn add(body: &mut FunctionBuilder, seq: InstrSeqId, instr: Instr) -> Result<(), 
     Ok(())
 }
 
+// Takes memory for just so many instructions.
+fn reserve(body: &mut FunctionBuilder, seq: InstrSeqId, count: usize) -> Result<(), AllocError> {
+    if seq.index() < body.seqs().len() {
+        body.seq_mut(seq).instrs.reserve_exact(count)?;
+    }
+    Ok(())
+}
+
 // Adds so many instructions to a sequence.
 fn fill(body: &mut FunctionBuilder, seq: InstrSeqId, within: usize) -> Result<(), AllocError> {
     let start = body.func_body_id();
@@ -78,6 +88,7 @@ fn body_of(
     blocks: usize,
     within: usize,
     nested: bool,
+    exact: bool,
 ) -> Result<FunctionBuilder, AllocError> {
     let mut body = FunctionBuilder::with_types(alloc, TypeId::from_index(0), PLAIN)?;
     let start = body.func_body_id();
@@ -85,6 +96,9 @@ fn body_of(
     fill(&mut body, start, within)?;
     for _ in 0..blocks {
         let seq = body.dangling_instr_seq(PLAIN)?;
+        if exact {
+            reserve(&mut body, seq, within.saturating_add(1))?;
+        }
         fill(&mut body, seq, within)?;
         add(&mut body, outer, Instr::Block { seq })?;
         if nested {
