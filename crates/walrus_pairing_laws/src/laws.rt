@@ -14,8 +14,8 @@ pub fn forms_are_told()
     ensures { FormsAreTold }
 {}
 
-/// What a visitor of an instruction is told that it names is what its operator names, in the order of its immediates or in the
-/// reverse.
+/// What a visitor of an instruction is told that it names, field by field, is what its operator names: in the order of its immediates,
+/// and for `memory.init`, `memory.copy`, `table.init`, `table.copy` and `array.copy` in the reverse of it.
 pub fn names_are_told()
     ensures { NamesAreTold }
 {}
