@@ -4,3 +4,5 @@ pub mod Back
 pub mod Numeric
 pub mod Together
 pub mod NamesTold
+pub mod Sends
+pub mod Sent
