@@ -4,5 +4,5 @@ pub mod Back
 pub mod Numeric
 pub mod Together
 pub mod NamesTold
-pub mod Found
-pub mod Forth
+pub mod Sends
+pub mod Sent

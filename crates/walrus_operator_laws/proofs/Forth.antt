@@ -1,39 +1,32 @@
 -- Lemmas: an operator that is read as an instruction is the one that is written for this.
-use Rattle.std.specs.Prelude.{ℕ, ◌≡◌, ◌==◌, List, [], ◌∷◌, true, Some, refl}
-use Rattle.std.proofs.Common.{ap, sym, subst, inl, inr}
-use Rattle.std.proofs.lemmas.Bool.{cases_Bool, eqb-true}
+use Rattle.std.specs.Prelude.{ℕ, ◌≡◌, ◌==◌, List, [], ◌∷◌, Some, refl}
+use Rattle.std.proofs.Common.{inl, inr}
+use Rattle.std.proofs.lemmas.Bool.{cases_Bool}
 use Rattle.wasm_immediates.specs.Items.{Space, Types, Functions, Tables, Memories, Tags, Globals, ElementSegments, DataSegments, Locals, Labels, Names, Number}
 use Rattle.wasm_operators.specs.declared.op_code.OpCode.{OpCode}
 use Rattle.wasm_operators.specs.Operators.{op_code}
 use Rattle.walrus_instr.specs.declared.instr.Instr.{Instr}
 use Rattle.walrus_instr.specs.declared.instr.Instr.TheVariants as instrs
-use Rattle.walrus_operator_codes.specs.Runs.{Run, in_runs}
+use Rattle.walrus_operator_codes.specs.Runs.{Run}
 use Rattle.walrus_pairing.specs.Looks.{Look}
 use Rattle.walrus_pairing.specs.Write.{op, operator_at}
 use Rattle.walrus_pairing.specs.Read.{at, of_bytes, of_objects, of_bulks, name_at, names_at, counted_at}
-use Rattle.walrus_pairing_laws.specs.Found.{AllFit, fits_found}
-
--- what the rows of a prefix have
-prefix_found : (P : OpCode → Instr → Type 0) (p : ℕ) (rows : List (Run Instr)) → AllFit (λ n i. P (op_code p n) i) rows
-    → (code : OpCode) (i : Instr) → (code.prefix == p) ≡ true → in_runs rows code.number ≡ Some i → P code i
-prefix_found P p rows fit code i is e =
-    let same : op_code p code.number ≡ code = ap (λ (q : ℕ). op_code q code.number) (sym (eqb-true code.prefix p is)) in
-    subst (λ c. P c i) same (fits_found (λ n j. P (op_code p n) j) rows fit code.number i e)
+use Rattle.walrus_operator_laws.proofs.Found.{AllFit, prefix_found}
 
 module _ (P : OpCode → Instr → Type 0) (code : OpCode) (i : Instr) where
-  bytes_found : (rows : List (Run Instr)) → AllFit (λ n j. P (op_code 0 n) j) rows → of_bytes rows code ≡ Some i → P code i
+  pub bytes_found : (rows : List (Run Instr)) → AllFit (λ n j. P (op_code 0 n) j) rows → of_bytes rows code ≡ Some i → P code i
   bytes_found rows fit e = elim (cases_Bool (code.prefix == 0)) [
     | inl is ↦ prefix_found P 0 rows fit code i is (rw is at e)
     | inr out ↦ absurd (let w = (rw out at e) in cc)
   ]
 
-  objects_found : (rows objects : List (Run Instr)) → AllFit (λ n j. P (op_code 0 n) j) rows → AllFit (λ n j. P (op_code 0xfb n) j) objects → of_objects rows objects code ≡ Some i → P code i
+  pub objects_found : (rows objects : List (Run Instr)) → AllFit (λ n j. P (op_code 0 n) j) rows → AllFit (λ n j. P (op_code 0xfb n) j) objects → of_objects rows objects code ≡ Some i → P code i
   objects_found rows objects fit others e = elim (cases_Bool (code.prefix == 0xfb)) [
     | inl is ↦ prefix_found P 0xfb objects others code i is (rw is at e)
     | inr out ↦ bytes_found rows fit (rw out at e)
   ]
 
-  bulks_found : (rows bulks : List (Run Instr)) → AllFit (λ n j. P (op_code 0 n) j) rows → AllFit (λ n j. P (op_code 0xfc n) j) bulks → of_bulks rows bulks code ≡ Some i → P code i
+  pub bulks_found : (rows bulks : List (Run Instr)) → AllFit (λ n j. P (op_code 0 n) j) rows → AllFit (λ n j. P (op_code 0xfc n) j) bulks → of_bulks rows bulks code ≡ Some i → P code i
   bulks_found rows bulks fit others e = elim (cases_Bool (code.prefix == 0xfc)) [
     | inl is ↦ prefix_found P 0xfc bulks others code i is (rw is at e)
     | inr out ↦ bytes_found rows fit (rw out at e)
