@@ -133,7 +133,8 @@ impl<T, S> Collection<T, S> {
         self.arena.next_id()
     }
 
-    /// Makes room for `additional` more items, so that as many adds can't be refused for want of it.
+    /// Makes room for `additional` more items, so that as many adds can't be refused for want of it. Adds that copy a text or a
+    /// name take memory for that too.
     ///
     /// # Errors
     ///

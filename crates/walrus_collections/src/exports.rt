@@ -1,5 +1,5 @@
 //! The exports of a module.
-ghost use Rattle.std.specs.Prelude.{◌≡◌, ◌≤◌, IfOk, OnOk, OnErr, None, slice_set, option_copied};
+ghost use Rattle.std.specs.Prelude.{◌≡◌, ◌+◌, ◌≤◌, IfOk, OnOk, OnErr, None, slice_set, option_copied};
 ghost use Rattle.std.specs.Option.{option_map, option_and_then};
 ghost use Rattle.walrus_arena.specs.Arena.{next_id, IsLive};
 ghost use Rattle.walrus_module_items.specs.declared.export.ExportItem.TheVariants as items;
@@ -62,6 +62,7 @@ impl Collection<Export, ExportSpace> {
     pub fn add<I: Into<ExportItem>>(&mut self, name: &str, item: I) -> Result<ExportId, AllocError>
         ensures id { IfOk result (λ id. id ≡ next_id self.old) }
         ensures added { OnOk result ((i : _) × I.converts item i × Adds (IsExport (next_id self.old) name.now i) self.old self.new) }
+        ensures room { self.old.room ≤ self.new.room + 1 }
         ensures refused { OnErr result (self.new ≡ self.old) }
     {
         let item = item.into();

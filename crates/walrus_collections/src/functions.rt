@@ -1,5 +1,5 @@
 //! The functions of a module.
-ghost use Rattle.std.specs.Prelude.{◌≡◌, [], ◌∷◌, ◌++◌, IfOk, OnOk, OnErr, None, Some};
+ghost use Rattle.std.specs.Prelude.{◌≡◌, ◌<◌, ◌+◌, ◌≤◌, [], ◌∷◌, ◌++◌, IfOk, OnOk, OnErr, None, Some, IsOk};
 ghost use Rattle.std.specs.Iterator.{YieldsFirstBy, item_count};
 ghost use Rattle.walrus_arena.specs.Arena.{next_id, lowest_id, entries};
 ghost use Rattle.walrus_module_items.specs.declared.function.FunctionKind.TheVariants as kinds;
@@ -41,6 +41,8 @@ impl Collection<Function, FunctionSpace> {
     pub fn add_import(&mut self, ty: TypeId, import: ImportId) -> Result<FunctionId, AllocError>
         ensures id { IfOk result (λ id. id ≡ next_id self.old) }
         ensures added { IfOk result (λ id. self.new.slots ≡ self.old.slots ++ Some (record { id = id; kind = kinds.Import (record { import = import; ty = ty }); name = None }) ∷ []) }
+        ensures room { self.old.room ≤ self.new.room + 1 }
+        ensures succeeds { 0 < self.old.room → IsOk result }
         ensures refused { OnErr result (self.new ≡ self.old) }
     {
         self.reserve(1)?;
@@ -57,6 +59,7 @@ impl Collection<Function, FunctionSpace> {
     pub fn add_local(&mut self, function: LocalFunction) -> Result<FunctionId, AllocError>
         ensures id { IfOk result (λ id. id ≡ next_id self.old) }
         ensures added { IfOk result (λ id. Adds (IsLocal id function) self.old self.new) }
+        ensures room { self.old.room ≤ self.new.room + 1 }
         ensures refused { OnErr result (self.new ≡ self.old) }
     {
         let name = function.builder().name.clone()?;

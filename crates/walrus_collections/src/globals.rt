@@ -1,5 +1,5 @@
 //! The globals of a module.
-ghost use Rattle.std.specs.Prelude.{◌≡◌, [], ◌∷◌, ◌++◌, IfOk, OnErr, None, Some};
+ghost use Rattle.std.specs.Prelude.{◌≡◌, ◌<◌, ◌+◌, ◌≤◌, [], ◌∷◌, ◌++◌, IfOk, OnErr, None, Some, IsOk};
 ghost use Rattle.walrus_arena.specs.Arena.{next_id};
 ghost use Rattle.walrus_module_items.specs.declared.global.GlobalKind.TheVariants as kinds;
 
@@ -24,6 +24,8 @@ impl Collection<Global, GlobalSpace> {
     ) -> Result<GlobalId, AllocError>
         ensures id { IfOk result (λ id. id ≡ next_id self.old) }
         ensures added { IfOk result (λ id. self.new.slots ≡ self.old.slots ++ Some (record { id = id; ty = ty; mutable = mutable; shared = shared; kind = kind; name = None }) ∷ []) }
+        ensures room { self.old.room ≤ self.new.room + 1 }
+        ensures succeeds { 0 < self.old.room → IsOk result }
         ensures refused { OnErr result (self.new ≡ self.old) }
     {
         self.reserve(1)?;
@@ -45,6 +47,8 @@ impl Collection<Global, GlobalSpace> {
     ) -> Result<GlobalId, AllocError>
         ensures id { IfOk result (λ id. id ≡ next_id self.old) }
         ensures added { IfOk result (λ id. self.new.slots ≡ self.old.slots ++ Some (record { id = id; ty = ty; mutable = mutable; shared = shared; kind = kinds.Import import; name = None }) ∷ []) }
+        ensures room { self.old.room ≤ self.new.room + 1 }
+        ensures succeeds { 0 < self.old.room → IsOk result }
         ensures refused { OnErr result (self.new ≡ self.old) }
     {
         self.add(ty, mutable, shared, GlobalKind::Import(import))
@@ -64,6 +68,8 @@ impl Collection<Global, GlobalSpace> {
     ) -> Result<GlobalId, AllocError>
         ensures id { IfOk result (λ id. id ≡ next_id self.old) }
         ensures added { IfOk result (λ id. self.new.slots ≡ self.old.slots ++ Some (record { id = id; ty = ty; mutable = mutable; shared = shared; kind = kinds.Local init; name = None }) ∷ []) }
+        ensures room { self.old.room ≤ self.new.room + 1 }
+        ensures succeeds { 0 < self.old.room → IsOk result }
         ensures refused { OnErr result (self.new ≡ self.old) }
     {
         self.add(ty, mutable, shared, GlobalKind::Local(init))

@@ -75,6 +75,7 @@ impl Collection<Import, ImportSpace> {
     ) -> Result<ImportId, AllocError>
         ensures id { IfOk result (λ id. id ≡ next_id self.old) }
         ensures added { OnOk result ((k : _) × K.converts kind k × Adds (IsImport (next_id self.old) «module».now name.now k) self.old self.new) }
+        ensures room { self.old.room ≤ self.new.room + 1 }
         ensures refused { OnErr result (self.new ≡ self.old) }
     {
         let kind = kind.into();

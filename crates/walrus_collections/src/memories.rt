@@ -1,5 +1,5 @@
 //! The memories of a module.
-ghost use Rattle.std.specs.Prelude.{◌≡◌, ◌==◌, IfOk, OnOk, OnErr, None, Some};
+ghost use Rattle.std.specs.Prelude.{◌≡◌, ◌<◌, ◌+◌, ◌≤◌, ◌==◌, IfOk, OnOk, OnErr, None, Some, IsOk};
 ghost use Rattle.walrus_arena.specs.Arena.{next_id, live_count};
 ghost use Rattle.walrus_collections.specs.Added.{Adds, IsMemory};
 
@@ -29,6 +29,8 @@ impl Collection<Memory, MemorySpace> {
     ) -> Result<MemoryId, AllocError>
         ensures id { IfOk result (λ id. id ≡ next_id self.old) }
         ensures added { IfOk result (λ id. Adds (IsMemory id shared memory64 initial maximum page_size_log2 (Some import)) self.old self.new) }
+        ensures room { self.old.room ≤ self.new.room + 1 }
+        ensures succeeds { 0 < self.old.room → IsOk result }
         ensures refused { OnErr result (self.new ≡ self.old) }
     {
         self.reserve(1)?;
@@ -61,6 +63,8 @@ impl Collection<Memory, MemorySpace> {
     ) -> Result<MemoryId, AllocError>
         ensures id { IfOk result (λ id. id ≡ next_id self.old) }
         ensures added { IfOk result (λ id. Adds (IsMemory id shared memory64 initial maximum page_size_log2 None) self.old self.new) }
+        ensures room { self.old.room ≤ self.new.room + 1 }
+        ensures succeeds { 0 < self.old.room → IsOk result }
         ensures refused { OnErr result (self.new ≡ self.old) }
     {
         self.reserve(1)?;

@@ -1,5 +1,5 @@
 //! The data and element segments of a module.
-ghost use Rattle.std.specs.Prelude.{◌≡◌, [], ◌∷◌, ◌++◌, IfOk, OnErr, None, Some};
+ghost use Rattle.std.specs.Prelude.{◌≡◌, ◌<◌, ◌+◌, ◌≤◌, [], ◌∷◌, ◌++◌, IfOk, OnErr, None, Some, IsOk};
 ghost use Rattle.walrus_arena.specs.Arena.{next_id};
 
 use crate::collection::Collection;
@@ -19,6 +19,8 @@ impl Collection<Data, DataSpace> {
     pub fn add(&mut self, kind: DataKind, value: Vec<u8>) -> Result<DataId, AllocError>
         ensures id { IfOk result (λ id. id ≡ next_id self.old) }
         ensures added { IfOk result (λ id. self.new.slots ≡ self.old.slots ++ Some (record { id = id; kind = kind; value = value; name = None }) ∷ []) }
+        ensures room { self.old.room ≤ self.new.room + 1 }
+        ensures succeeds { 0 < self.old.room → IsOk result }
         ensures refused { OnErr result (self.new ≡ self.old) }
     {
         self.reserve(1)?;
@@ -39,6 +41,8 @@ impl Collection<Element, ElementSpace> {
     pub fn add(&mut self, kind: ElementKind, items: ElementItems) -> Result<ElementId, AllocError>
         ensures id { IfOk result (λ id. id ≡ next_id self.old) }
         ensures added { IfOk result (λ id. self.new.slots ≡ self.old.slots ++ Some (record { id = id; kind = kind; items = items; name = None }) ∷ []) }
+        ensures room { self.old.room ≤ self.new.room + 1 }
+        ensures succeeds { 0 < self.old.room → IsOk result }
         ensures refused { OnErr result (self.new ≡ self.old) }
     {
         self.reserve(1)?;

@@ -1,5 +1,5 @@
 //! The tables of a module.
-ghost use Rattle.std.specs.Prelude.{◌≡◌, IfOk, OnErr, None, Some};
+ghost use Rattle.std.specs.Prelude.{◌≡◌, ◌<◌, ◌+◌, ◌≤◌, IfOk, OnErr, None, Some, IsOk};
 ghost use Rattle.walrus_arena.specs.Arena.{next_id};
 ghost use Rattle.walrus_collections.specs.Added.{Adds, IsTable};
 ghost use Rattle.walrus_collections.specs.Answers.{ids_of, at_most_one};
@@ -32,6 +32,8 @@ impl Collection<Table, TableSpace> {
     ) -> Result<TableId, AllocError>
         ensures id { IfOk result (λ id. id ≡ next_id self.old) }
         ensures added { IfOk result (λ id. Adds (IsTable id table64 initial maximum element_ty None (Some import)) self.old self.new) }
+        ensures room { self.old.room ≤ self.new.room + 1 }
+        ensures succeeds { 0 < self.old.room → IsOk result }
         ensures refused { OnErr result (self.new ≡ self.old) }
     {
         self.reserve(1)?;
@@ -55,6 +57,8 @@ impl Collection<Table, TableSpace> {
     ) -> Result<TableId, AllocError>
         ensures id { IfOk result (λ id. id ≡ next_id self.old) }
         ensures added { IfOk result (λ id. Adds (IsTable id table64 initial maximum element_ty None None) self.old self.new) }
+        ensures room { self.old.room ≤ self.new.room + 1 }
+        ensures succeeds { 0 < self.old.room → IsOk result }
         ensures refused { OnErr result (self.new ≡ self.old) }
     {
         self.add_local_with_init(table64, initial, maximum, element_ty, None)
@@ -75,6 +79,8 @@ impl Collection<Table, TableSpace> {
     ) -> Result<TableId, AllocError>
         ensures id { IfOk result (λ id. id ≡ next_id self.old) }
         ensures added { IfOk result (λ id. Adds (IsTable id table64 initial maximum element_ty init None) self.old self.new) }
+        ensures room { self.old.room ≤ self.new.room + 1 }
+        ensures succeeds { 0 < self.old.room → IsOk result }
         ensures refused { OnErr result (self.new ≡ self.old) }
     {
         self.reserve(1)?;

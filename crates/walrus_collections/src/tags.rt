@@ -1,5 +1,5 @@
 //! The tags of a module.
-ghost use Rattle.std.specs.Prelude.{◌≡◌, [], ◌∷◌, ◌++◌, IfOk, OnErr, None, Some};
+ghost use Rattle.std.specs.Prelude.{◌≡◌, ◌<◌, ◌+◌, ◌≤◌, [], ◌∷◌, ◌++◌, IfOk, OnErr, None, Some, IsOk};
 ghost use Rattle.walrus_arena.specs.Arena.{next_id};
 ghost use Rattle.walrus_module_items.specs.declared.tag.TagKind.TheVariants as kinds;
 
@@ -20,6 +20,8 @@ impl Collection<Tag, TagSpace> {
     pub fn add(&mut self, ty: TypeId) -> Result<TagId, AllocError>
         ensures id { IfOk result (λ id. id ≡ next_id self.old) }
         ensures added { IfOk result (λ id. self.new.slots ≡ self.old.slots ++ Some (record { id = id; ty = ty; kind = kinds.Local; name = None }) ∷ []) }
+        ensures room { self.old.room ≤ self.new.room + 1 }
+        ensures succeeds { 0 < self.old.room → IsOk result }
         ensures refused { OnErr result (self.new ≡ self.old) }
     {
         self.reserve(1)?;
@@ -35,6 +37,8 @@ impl Collection<Tag, TagSpace> {
     pub fn add_import(&mut self, ty: TypeId, import: ImportId) -> Result<TagId, AllocError>
         ensures id { IfOk result (λ id. id ≡ next_id self.old) }
         ensures added { IfOk result (λ id. self.new.slots ≡ self.old.slots ++ Some (record { id = id; ty = ty; kind = kinds.Import import; name = None }) ∷ []) }
+        ensures room { self.old.room ≤ self.new.room + 1 }
+        ensures succeeds { 0 < self.old.room → IsOk result }
         ensures refused { OnErr result (self.new ≡ self.old) }
     {
         self.reserve(1)?;

@@ -3,3 +3,7 @@
 
 #[cfg(test)]
 mod collections;
+#[cfg(test)]
+mod copies;
+#[cfg(test)]
+mod imported;

@@ -1,5 +1,6 @@
 //! Tests of the texts.
 use crate::{ErrorKind, Form, Limited, ModuleError, Space};
+use std::alloc::{AllocError, Global};
 use std::test::Fail;
 use wasm_reader::{Error as ReadError, ErrorKind as ReadErrorKind};
 
@@ -101,4 +102,74 @@ fn a_reader_without_memory_is_a_module_without_memory(rt: HostRuntime) {
     assert!(rt; ModuleError::from(cut).offset() == Some(7));
     assert!(rt; ModuleError::Bounds { offset: 3 }.offset() == Some(3));
     assert!(rt; ModuleError::Several.offset().is_none());
+}
+
+// Whether these refusals are shown as what stands before the word, and then the word, each its own.
+fn are_shown(
+    alloc: Global,
+    refusals: &[ModuleError],
+    before: &str,
+    words: &str,
+) -> Result<bool, AllocError> {
+    let mut words = words.split(',');
+    for refusal in refusals {
+        let shown = format!(in alloc; "{refusal}")?;
+        if shown.as_str().strip_prefix(before) != words.next() {
+            return Ok(false);
+        }
+    }
+    Ok(words.next().is_none())
+}
+
+#[test]
+fn each_space_form_and_limit_has_its_word(rt: HostRuntime) -> Result<(), Fail> {
+    let alloc = rt.alloc();
+    let spaces = [
+        Space::Type,
+        Space::Function,
+        Space::Table,
+        Space::Memory,
+        Space::Tag,
+        Space::Global,
+        Space::Element,
+        Space::Data,
+        Space::Local,
+        Space::Label,
+    ]
+    .map(|space| ModuleError::DeadReference { space });
+    let words = "type,function,table,memory,tag,global,element,data,local,label";
+    assert!(rt; are_shown(alloc, &spaces, "reference to a deleted ", words)?);
+    let forms = [
+        Form::SharedTable,
+        Form::SharedGlobal,
+        Form::SharedType,
+        Form::ExactType,
+        Form::ContinuationType,
+        Form::Select,
+    ]
+    .map(|form| ModuleError::Unsupported { form, offset: 9 });
+    let words = "shared table,shared global,shared type,exact type,continuation type,select";
+    assert!(rt; are_shown(alloc, &forms, "not supported: ", words)?);
+    let limits = [
+        Limited::Types,
+        Limited::Imports,
+        Limited::Functions,
+        Limited::Globals,
+        Limited::Tags,
+        Limited::Exports,
+        Limited::Tables,
+        Limited::Memories,
+        Limited::Elements,
+        Limited::Data,
+        Limited::Locals,
+        Limited::Body,
+        Limited::File,
+        Limited::List,
+        Limited::String,
+    ]
+    .map(|of| ModuleError::OutputLimit { of });
+    let words =
+        "types,imports,functions,globals,tags,exports,tables,memories,elements,data,locals,body,file,list,string";
+    assert!(rt; are_shown(alloc, &limits, "output limit passed: ", words)?);
+    Ok(())
 }

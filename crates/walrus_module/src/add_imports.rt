@@ -1,5 +1,5 @@
 //! Adding imports with their items. All memory is taken before anything is added, so that a refused call adds neither.
-ghost use Rattle.std.specs.Prelude.{◌≡◌, [], ◌∷◌, ◌++◌, IfOk, OnErr, None, Some};
+ghost use Rattle.std.specs.Prelude.{◌≡◌, ◌≤◌, ◌+◌, [], ◌∷◌, ◌++◌, IfOk, OnErr, None, Some};
 ghost use Rattle.walrus_arena.specs.Arena.{next_id};
 ghost use Rattle.walrus_module_items.specs.declared.import.ImportKind.TheVariants as kinds;
 ghost use Rattle.walrus_module_items.specs.declared.function.FunctionKind.TheVariants as functions;
@@ -29,7 +29,10 @@ impl Module {
         ensures item { IfOk result (λ ids. self.new.funcs.slots ≡ self.old.funcs.slots ++ Some (record { id = ids.0; kind = functions.Import (record { import = ids.1; ty = ty }); name = None }) ∷ []) }
         ensures import_ { IfOk result (λ ids. Adds (IsImport ids.1 «module».now name.now (kinds.Function ids.0)) self.old.imports self.new.imports) }
         ensures rest { self.new ≡ record self.old { imports = self.new.imports; funcs = self.new.funcs } }
+        ensures room_import { self.old.imports.room ≤ self.new.imports.room + 1 }
+        ensures room_item { self.old.funcs.room ≤ self.new.funcs.room + 1 }
         ensures refused_import { OnErr result (self.new.imports.slots ≡ self.old.imports.slots) }
+        ensures refused_room { OnErr result (self.old.imports.room ≤ self.new.imports.room) }
         ensures refused_item { OnErr result (self.new.funcs ≡ self.old.funcs) }
     {
         let module = self.imports.text(module)?;
@@ -61,7 +64,10 @@ impl Module {
         ensures item { IfOk result (λ ids. Adds (IsMemory ids.0 shared memory64 initial maximum page_size_log2 (Some ids.1)) self.old.memories self.new.memories) }
         ensures import_ { IfOk result (λ ids. Adds (IsImport ids.1 «module».now name.now (kinds.Memory ids.0)) self.old.imports self.new.imports) }
         ensures rest { self.new ≡ record self.old { imports = self.new.imports; memories = self.new.memories } }
+        ensures room_import { self.old.imports.room ≤ self.new.imports.room + 1 }
+        ensures room_item { self.old.memories.room ≤ self.new.memories.room + 1 }
         ensures refused_import { OnErr result (self.new.imports.slots ≡ self.old.imports.slots) }
+        ensures refused_room { OnErr result (self.old.imports.room ≤ self.new.imports.room) }
         ensures refused_item { OnErr result (self.new.memories ≡ self.old.memories) }
     {
         let module = self.imports.text(module)?;
@@ -94,7 +100,10 @@ impl Module {
         ensures item { IfOk result (λ ids. Adds (IsTable ids.0 table64 initial maximum element_ty None (Some ids.1)) self.old.tables self.new.tables) }
         ensures import_ { IfOk result (λ ids. Adds (IsImport ids.1 «module».now name.now (kinds.Table ids.0)) self.old.imports self.new.imports) }
         ensures rest { self.new ≡ record self.old { imports = self.new.imports; tables = self.new.tables } }
+        ensures room_import { self.old.imports.room ≤ self.new.imports.room + 1 }
+        ensures room_item { self.old.tables.room ≤ self.new.tables.room + 1 }
         ensures refused_import { OnErr result (self.new.imports.slots ≡ self.old.imports.slots) }
+        ensures refused_room { OnErr result (self.old.imports.room ≤ self.new.imports.room) }
         ensures refused_item { OnErr result (self.new.tables ≡ self.old.tables) }
     {
         let module = self.imports.text(module)?;
@@ -126,7 +135,10 @@ impl Module {
         ensures item { IfOk result (λ ids. self.new.globals.slots ≡ self.old.globals.slots ++ Some (record { id = ids.0; ty = ty; mutable = mutable; shared = shared; kind = globals.Import ids.1; name = None }) ∷ []) }
         ensures import_ { IfOk result (λ ids. Adds (IsImport ids.1 «module».now name.now (kinds.Global ids.0)) self.old.imports self.new.imports) }
         ensures rest { self.new ≡ record self.old { imports = self.new.imports; globals = self.new.globals } }
+        ensures room_import { self.old.imports.room ≤ self.new.imports.room + 1 }
+        ensures room_item { self.old.globals.room ≤ self.new.globals.room + 1 }
         ensures refused_import { OnErr result (self.new.imports.slots ≡ self.old.imports.slots) }
+        ensures refused_room { OnErr result (self.old.imports.room ≤ self.new.imports.room) }
         ensures refused_item { OnErr result (self.new.globals ≡ self.old.globals) }
     {
         let module = self.imports.text(module)?;
@@ -154,7 +166,10 @@ impl Module {
         ensures item { IfOk result (λ ids. self.new.tags.slots ≡ self.old.tags.slots ++ Some (record { id = ids.0; ty = ty; kind = tags.Import ids.1; name = None }) ∷ []) }
         ensures import_ { IfOk result (λ ids. Adds (IsImport ids.1 «module».now name.now (kinds.Tag ids.0)) self.old.imports self.new.imports) }
         ensures rest { self.new ≡ record self.old { imports = self.new.imports; tags = self.new.tags } }
+        ensures room_import { self.old.imports.room ≤ self.new.imports.room + 1 }
+        ensures room_item { self.old.tags.room ≤ self.new.tags.room + 1 }
         ensures refused_import { OnErr result (self.new.imports.slots ≡ self.old.imports.slots) }
+        ensures refused_room { OnErr result (self.old.imports.room ≤ self.new.imports.room) }
         ensures refused_item { OnErr result (self.new.tags ≡ self.old.tags) }
     {
         let module = self.imports.text(module)?;

@@ -1,0 +1,157 @@
+-- More types: what was linked stays so.
+use Rattle.std.proofs.Common.{◌≡◌, ◌∙◌, ◌⊎◌, ℕ, Bool, true, false, ◌&&◌, List, length, map, Option, Some, None, Contains, slice_index_or, if◌then◌else◌, refl, sym, ap, subst, inl, inr}
+use Rattle.std.specs.Option.{MatchOption, IfSome}
+use Rattle.std.proofs.lemmas.Option.{MatchOption-at_none, MatchOption-at_some}
+use Rattle.walrus_arena.specs.Arena.{item_at}
+use Rattle.walrus_walks.specs.Events.{NamesType}
+use Rattle.walrus_forms.specs.Kinds.{Kind, kind_names}
+use Rattle.walrus_forms.specs.Forms.{params_of}
+use Rattle.walrus_forms.specs.Same.{same_kind}
+use Rattle.walrus_forms.proofs.EqLemmas.{same-kind-law}
+use Rattle.walrus_types.specs.Items.{Item as TypeItem}
+use Rattle.walrus_types.specs.Table.{Table, type_at, next_id, names_itself, merges, latest_id, equal_type, Adds, Merges}
+use Rattle.walrus_types.specs.TypeLaws.{IsLatest}
+use Rattle.walrus_types.proofs.LawLemmas.{latest-law}
+use Rattle.walrus_local_function.specs.declared.local_function.LocalFunction.{LocalFunction}
+use Rattle.walrus_module_items.specs.declared.function.Function.{Function}
+use Rattle.walrus_module_items.specs.declared.function.FunctionKind.{FunctionKind}
+use Rattle.walrus_module_items.specs.declared.function.FunctionKind.TheVariants as functions
+use Rattle.walrus_module_items.specs.Functions.{type_of}
+use Rattle.wasm_formats.specs.declared.fault.Space.{Space}
+use Rattle.wasm_formats.specs.declared.fault.Space.TheVariants as spaces
+use Rattle.walrus_module.specs.declared.module.Module.{Module}
+use Rattle.walrus_linked.specs.Items.{item, items_of, Lives, LivesIn}
+use Rattle.walrus_linked.specs.Names.{names, named_by, function_names, body_names, type_names}
+use Rattle.walrus_linked.specs.Linked.{IsLinked, IsWhole, HasArguments}
+use Rattle.walrus_linked.proofs.SlotLemmas.{at_push, at_kept, at_new, is_some_at}
+use Rattle.walrus_linked_edits.proofs.NameLemmas.{here, type_at_names}
+use Rattle.walrus_linked_edits.proofs.ChangeLemmas.{InSpace, after_change}
+
+-- a type that is an item: live, and no entry type
+abbrev IsItem : Option TypeItem → Type 0
+IsItem o = MatchOption o ⊥ (λ ty. ty.kind.entry ≡ false)
+
+pub type_of_item : (o : Option TypeItem) → IsItem o → (ty : TypeItem) × (o ≡ Some ty) × (ty.kind.entry ≡ false)
+type_of_item None h = absurd h
+type_of_item (Some ty) h = (ty, refl, h)
+
+pub item_of_type : (o : Option TypeItem) (ty : TypeItem) → o ≡ Some ty → ty.kind.entry ≡ false → IsItem o
+item_of_type o ty e plain = let F : Option TypeItem → Type 0 = λ v. IsItem v in subst F (sym e) plain
+
+-- the old types are there, and each other one has this kind
+pub record Grows (kind : Kind) (old new : Table) : Type 0 where
+  pub kept : (id : ℕ) (ty : TypeItem) → type_at old id ≡ Some ty → type_at new id ≡ Some ty
+  pub at : (id : ℕ) (ty : TypeItem) → type_at new id ≡ Some ty → (type_at old id ≡ Some ty) ⊎ (ty.kind ≡ kind)
+
+-- the type of this kind is there, the old ones too
+pub record Finds (kind : Kind) (id : ℕ) (new : Table) : Type 0 where
+  pub ty : TypeItem
+  pub live : type_at new id ≡ Some ty
+  pub kind_is : ty.kind ≡ kind
+
+first_holds : (a b : Bool) → a && b ≡ true → a ≡ true
+first_holds true b e = refl
+first_holds false b e = absurd cc
+
+module _ (kind : Kind) (id : ℕ) (old new : Table) where
+  slots_at : (slots : List (Option TypeItem)) → new.types ≡ slots → (k : ℕ) → type_at new k ≡ slice_index_or slots k None
+  slots_at slots is k = ap (λ (ts : List (Option TypeItem)). slice_index_or ts k None) is
+
+  added_grows : Adds kind id old new → Grows kind old new
+  added_grows a = record {
+    kept = λ k ty h. slots_at _ a.types k ∙ at_kept old.types _ ty k h;
+    at = λ k ty h. elim (at_push old.types _ ty k (sym (slots_at _ a.types k) ∙ h)) as (λ _. (type_at old k ≡ Some ty) ⊎ (ty.kind ≡ kind)) [
+      | inl g ↦ inl g
+      | inr g ↦ inr (ap (λ (t : TypeItem). t.kind) g.1)
+    ];
+  }
+
+  added_finds : Adds kind id old new → Finds kind id new
+  added_finds a = record {
+    ty = record { id = id; kind = kind; name = None };
+    live = ap (type_at new) a.given ∙ slots_at _ a.types (length old.types) ∙ at_new old.types _;
+    kind_is = refl;
+  }
+
+  -- the type that a search found is of the kind
+  found_kind : (found : ℕ) → equal_type kind old ≡ Some found → Finds kind found old
+  found_kind found is = by_itself (names_itself (next_id old) kind) is
+    where
+      by_itself : (b : Bool) → (if b then None else latest_id (merges kind) old) ≡ Some found → Finds kind found old
+      by_itself true e = absurd cc
+      by_itself false e =
+          let latest = MatchOption-at_some ((k : ℕ) (x : TypeItem) → type_at old k ≡ Some x → merges kind (k, x) ≡ false) (IsLatest (merges kind) old) found e (latest-law old (merges kind)) in
+          record { ty = latest.item; live = latest.live; kind_is = (same-kind-law latest.item.kind kind).0 (first_holds (same_kind latest.item.kind kind) _ latest.passes) }
+
+  pub merged : Merges kind id old new → Grows kind old new × Finds kind id new
+  merged h = by_found (equal_type kind old) refl
+    where
+      by_found : (o : Option ℕ) → equal_type kind old ≡ o → Grows kind old new × Finds kind id new
+      by_found None e = let a = MatchOption-at_none (Adds kind id old new) (λ (found : ℕ). (id ≡ found) × (new ≡ old)) e h in (added_grows a, added_finds a)
+      by_found (Some found) e =
+          let s = MatchOption-at_some (Adds kind id old new) (λ (k : ℕ). (id ≡ k) × (new ≡ old)) found e h in
+          let G : Table → Type 0 = λ t. Grows kind old t in
+          let F : Table → Type 0 = λ t. Finds kind id t in
+          let I : ℕ → Type 0 = λ k. Finds kind k old in
+          (subst G (sym s.1) (record { kept = λ k ty at. at; at = λ k ty at. inl at }), subst F (sym s.1) (subst I (sym s.0) (found_kind found e)))
+
+module _ (m : Module) where
+  -- a live function's type is an item
+  pub type_lives : IsLinked m → (id : ℕ) (f : Function) → item_at m.funcs id ≡ Some f → LivesIn m spaces.Type (type_of f.kind)
+  type_lives l id f at =
+      let N : Option Function → Type 0 = λ o. Contains (items_of (named_by (function_names m.locals) o)) (item spaces.Type (type_of f.kind)) in
+      l.named (item spaces.Function id) (item spaces.Type (type_of f.kind)) (is_some_at (item_at m.funcs id) f at)
+      (subst N (sym at) (here (item spaces.Type (type_of f.kind)) (items_of (body_names m.locals f.kind))))
+
+module _ (m : Module) (t : Table) (kind : Kind) (grows : Grows kind m.types t) where
+  abbrev n : Module
+  n = record m { types = t }
+
+  type_kept : (id : ℕ) → LivesIn m spaces.Type id → LivesIn n spaces.Type id
+  type_kept id h = let a = type_of_item (type_at m.types id) h in item_of_type (type_at t id) a.0 (grows.kept id a.0 a.1) a.2
+
+  pub in_space : (kind.entry ≡ false → (name : ℕ) → Contains (kind_names kind) name → LivesIn n spaces.Type name) → (s : Space) → InSpace m n s
+  in_space new spaces.Type = record {
+    import_kept = λ id i h. h;
+    import_at = λ id i h. h;
+    lives_kept = type_kept;
+    named = λ id h y has.
+        let a = type_of_item (type_at t id) h in
+        let N : Option TypeItem → Type 0 = λ o. Contains (items_of (named_by type_names o)) y in
+        let K : Kind → Type 0 = λ k. Contains (items_of (map (λ (name : ℕ). NamesType name) (kind_names k))) y in
+        elim (grows.at id a.0 a.1) as (λ _. (LivesIn m spaces.Type id × Contains (names m (item spaces.Type id)) y) ⊎ Lives n y) [
+          | inl k ↦ inl (item_of_type (type_at m.types id) a.0 k a.2, subst N (a.1 ∙ sym k) has)
+          | inr k ↦
+              let name = type_at_names (kind_names kind) y (subst K k (subst N a.1 has)) in
+              inr (subst (Lives n) name.2 (new (ap (λ (x : Kind). x.entry) (sym k) ∙ a.2) name.0 name.1))
+        ];
+  }
+  in_space new spaces.Function = record { import_kept = λ id i h. h; import_at = λ id i h. h; lives_kept = λ id h. h; named = λ id h y has. inl (h, has) }
+  in_space new spaces.Table = record { import_kept = λ id i h. h; import_at = λ id i h. h; lives_kept = λ id h. h; named = λ id h y has. inl (h, has) }
+  in_space new spaces.Memory = record { import_kept = λ id i h. h; import_at = λ id i h. h; lives_kept = λ id h. h; named = λ id h y has. inl (h, has) }
+  in_space new spaces.Tag = record { import_kept = λ id i h. h; import_at = λ id i h. h; lives_kept = λ id h. h; named = λ id h y has. inl (h, has) }
+  in_space new spaces.Global = record { import_kept = λ id i h. h; import_at = λ id i h. h; lives_kept = λ id h. h; named = λ id h y has. inl (h, has) }
+  in_space new spaces.Element = record { import_kept = λ id i h. h; import_at = λ id i h. h; lives_kept = λ id h. h; named = λ id h y has. inl (h, has) }
+  in_space new spaces.Data = record { import_kept = λ id i h. h; import_at = λ id i h. h; lives_kept = λ id h. h; named = λ id h y has. inl (h, has) }
+  in_space new spaces.Local = record { import_kept = λ id i h. h; import_at = λ id i h. h; lives_kept = λ id h. h; named = λ id h y has. inl (h, has) }
+  in_space new spaces.Label = record { import_kept = λ id i h. h; import_at = λ id i h. h; lives_kept = λ id h. h; named = λ id h y has. inl (h, has) }
+
+  arguments_kept : (local : LocalFunction) → LivesIn m spaces.Type local.builder.ty → HasArguments m.types local → HasArguments t local
+  arguments_kept local lives h =
+      let a = type_of_item (type_at m.types local.builder.ty) lives in
+      let C : Option TypeItem → Type 0 = λ o. IfSome o (λ ty. length local.args.items ≡ length (params_of ty.kind.form)) in
+      record { distinct = h.distinct; counted = subst C (sym (grows.kept local.builder.ty a.0 a.1)) (subst C a.1 h.counted) }
+
+  whole_kept : (kind : FunctionKind) → LivesIn m spaces.Type (type_of kind) → IsWhole m.types kind → IsWhole t kind
+  whole_kept (functions.Import _) lives h = h
+  whole_kept (functions.Local local) lives h = (arguments_kept local lives h.0, h.1)
+  whole_kept (functions.Uninitialized _) lives h = h
+
+  pub types_grown : (kind.entry ≡ false → (name : ℕ) → Contains (kind_names kind) name → LivesIn n spaces.Type name) → IsLinked m → IsLinked n
+  types_grown new l = after_change m n (record {
+    imports_same = refl;
+    spaces = in_space new;
+    whole = λ f function at. whole_kept function.kind (type_lives m l f function at) (l.whole f function at);
+    exported = λ e export at. inl at;
+    start_same = refl;
+  }) l
