@@ -58,8 +58,12 @@ module _ {A : Type 0} (f : Whole A) where
   size_stays bytes s small p =
       let t = u32.told bytes s small p in
       elim (kind_ends t.0.kind) [
-        | inl ends ↦ inl (inl (ends.0, t.0.left, u32.told bytes (stop (Read (kinds.EndOfFile ends.0)) t.0.left) small
-            (p ∙ ap refused (t.2 ∙ ap (λ (k : ErrorKind). stop (Read k) t.0.left) ends.1))))
+        | inl ends ↦ inl (inl (
+          ends.0,
+          t.0.left,
+          u32.told bytes (stop (Read (kinds.EndOfFile ends.0)) t.0.left) small
+              (p ∙ ap refused (t.2 ∙ ap (λ (k : ErrorKind). stop (Read k) t.0.left) ends.1)),
+        ))
         | inr k ↦ inr (λ more. rw (u32.final bytes more s small p (subst (λ (s : Stop). can_end s.trouble ≡ false) (sym t.2) k)) refl)
       ]
 

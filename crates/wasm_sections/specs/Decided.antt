@@ -11,7 +11,7 @@ use Rattle.wasm_formats.specs.Joined.{checked, after, built, tested_err}
 use Rattle.wasm_formats.specs.Lists.{vec}
 use Rattle.wasm_formats.specs.Wholes.{u32, whole, sized}
 use Rattle.wasm_file_formats.specs.Counted.{counted}
-use Rattle.wasm_file_formats.specs.Decided.{IsDecided, Stays, StaysSized, sized_stays, built_stays, stays_if, never_stays, ends_stay, behind_stays, among_decided, word_decided}
+use Rattle.wasm_file_formats.specs.Decided.{IsDecided, Stays, StaysSized, sized_stays, built_stays, stays_if, never_stays, behind_stays, among_decided, word_decided}
 use Rattle.wasm_grammar.specs.Values.{must}
 use Rattle.wasm_grammar.specs.States.{State, nothing_yet}
 use Rattle.wasm_sections.specs.TypeSection.{group, add_group}
@@ -20,7 +20,7 @@ use Rattle.wasm_sections.specs.Exports.{export_entry, add_export, start_function
 use Rattle.wasm_sections.specs.Segments.{element_entry, add_element, data_entry, add_data}
 use Rattle.wasm_sections.specs.Sections.{code, data_test, custom, CustomSection, TypeSection, ImportSection, FunctionSection, TableSection, MemorySection, TagSection, GlobalSection, ExportSection, StartSection, ElementSection, DataCountSection, CodeSection, DataSection, Section, custom_once, types_once, imports_once, functions_once, tables_once, memories_once, tags_once, globals_once, exports_once, start_once, elements_once, count_once, code_once, data_once, section, rank, order_test, section_entry, section_takes, next}
 use Rattle.wasm_sections.specs.Modules.{magic}
-use Rattle.wasm_sections.specs.Laws.{StopsSections, SectionIsCut, FileIsCut, SectionsStopForGood}
+use Rattle.wasm_sections.specs.Laws.{SectionIsCut, SectionsStopForGood}
 
 -- contents behind their size
 part_stays : {A : Type 0} (f : Whole A) (into : A → Section) (once : (x y : A) → into x ≡ into y → x ≡ y) → StaysSized (built (sized f) into once).parse
