@@ -146,7 +146,7 @@ export_step : (s : State) (bytes : List ℕ) (x : ExportEntry) → (export_entry
 export_step s bytes x h r linked =
     export_linked s x (ltb-true x.1 (count_of s.filled (kind_space x.0.1)) (must_holds _ _ r.2)) (not_true _ (must_holds _ _ (first_none _ _ r.1).0)) linked
 
-element_go : (features : WasmFeatures) (s : State) (e : ElementForm) → (element_flags s).rules (element_number e) → (element_form features s (element_number e)).rules e → GoesInto (length s.filled.tables) (element_of e).mode
+pub element_go : (features : WasmFeatures) (s : State) (e : ElementForm) → (element_flags s).rules (element_number e) → (element_form features s (element_number e)).rules e → GoesInto (length s.filled.tables) (element_of e).mode
 element_go features s (ActiveFunctions x) f r = ltb-true 0 (length s.filled.tables) (must_holds _ _ f.1)
 element_go features s (PassiveFunctions x) f r = tt
 element_go features s (FunctionsInto x) f r = let q = r x refl in let t = q.0 in let i = t.0 in ltb-true x.0.0 (length s.filled.tables) (must_holds _ _ i.1)
@@ -181,7 +181,7 @@ element_step features s bytes x h r linked =
     room_spells true p = p
     room_spells false p = p
 
-data_go : (features : WasmFeatures) (s : State) (e : DataForm) → (data_flags s).rules (data_number e) → (data_form features s (data_number e)).rules e → GoesInto (length s.filled.memories) (segment_of e).mode
+pub data_go : (features : WasmFeatures) (s : State) (e : DataForm) → (data_flags s).rules (data_number e) → (data_form features s (data_number e)).rules e → GoesInto (length s.filled.memories) (segment_of e).mode
 data_go features s (ActiveData x) f r = ltb-true 0 (length s.filled.memories) (must_holds _ _ f.1)
 data_go features s (PassiveData x) f r = tt
 data_go features s (DataInto x) f r = let q = r x refl in let t = q.0 in let i = t.0 in ltb-true x.0.0 (length s.filled.memories) (must_holds _ _ i.1)
