@@ -3,7 +3,7 @@ use Rattle.std.specs.Prelude.{ℕ, ◌+◌, ◌-◌, ◌≤◌, ◌≡◌, ◌�
 use Rattle.std.specs.Option.{is_some}
 use Rattle.walrus_forms.specs.Forms.{params_of}
 use Rattle.walrus_forms.specs.Kinds.{Kind}
-use Rattle.wasm_formats.specs.Stops.{Stop, moved, before, ◌>>=◌}
+use Rattle.wasm_formats.specs.Stops.{Stop, stop, moved, before, ◌>>=◌}
 use Rattle.wasm_formats.specs.Formats.{Small}
 use Rattle.wasm_grammar.specs.Modules.{Function, Origin, Imported, Own, Module, Body}
 use Rattle.wasm_grammar.specs.States.{Chunk, types_of}
@@ -96,5 +96,6 @@ pub record ParsingReadsAll : Type 0 where
   pub told : (a : Around) (left : ℕ) (codes : List Code) (s : Stop) → AreBytes codes → codes_at a left codes ≡ Err s → StopsCodes a left codes s
   pub tells : (a : Around) (left : ℕ) (codes : List Code) (s : Stop) → StopsCodes a left codes s → codes_at a left codes ≡ Err s
   pub within : (a : Around) (left : ℕ) (codes : List Code) (s : Stop) → AreInside left codes → StopsCodes a left codes s → s.left ≤ left
-  -- in a file that goes on the same stops there, so many bytes further from its end: a fault inside a body is final, whatever it is
-  pub moves : (a : Around) (left more : ℕ) (codes : List Code) (s : Stop) → AreInside left codes → StopsCodes a left codes s → StopsCodes a (left + more) codes (moved more s)
+  -- in another file that holds them the same stops at the same place, counted from the function count: a fault inside a body is final, whatever it is
+  pub moves : (a : Around) (left other : ℕ) (codes : List Code) (s : Stop) (place : ℕ) → AreInside left codes → AreInside other codes → StopsCodes a left codes s → place + s.left ≡ left
+      → StopsCodes a other codes (stop s.trouble (other - place))

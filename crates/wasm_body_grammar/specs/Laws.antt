@@ -1,8 +1,9 @@
 -- Laws of bodies.
 use Rattle.std.specs.Prelude.{ℕ, ◌<◌, ◌≤◌, ◌≡◌, ◌⊎◌, false, List, ◌++◌, length, Ok, Err}
 use Rattle.wasm_reader.specs.Laws.{IsPrefixFree}
-use Rattle.wasm_formats.specs.Stops.{Nesting, Stop, stop, moved, can_end}
+use Rattle.wasm_formats.specs.Stops.{Nesting, Stop, stop, moved}
 use Rattle.wasm_formats.specs.Formats.{Small}
+use Rattle.wasm_file_formats.specs.Closed.{is_cut}
 use Rattle.wasm_grammar.specs.Modules.{Body}
 use Rattle.wasm_body_grammar.specs.Rules.{Around}
 use Rattle.wasm_body_grammar.specs.Bodies.{Parts, body, body_of, body_at}
@@ -37,9 +38,9 @@ BodiesStopOnce = (a : Around) (params place : ℕ) (bytes : List ℕ) (s t : Sto
 abbrev pub BodiesStopInside : Type 0
 BodiesStopInside = (a : Around) (params place : ℕ) (bytes : List ℕ) (s : Stop) → StopsBody a params place bytes s → s.left ≤ length bytes
 
--- bytes behind a fault don't change it, the end of the bytes aside
+-- bytes behind a fault don't change it, the end of the bytes aside: the limit on locals is final, too
 abbrev pub BodiesStopForGood : Type 0
-BodiesStopForGood = (a : Around) (params place : ℕ) (bytes more : List ℕ) (s : Stop) → Small (bytes ++ more) → StopsBody a params place bytes s → can_end s.trouble ≡ false
+BodiesStopForGood = (a : Around) (params place : ℕ) (bytes more : List ℕ) (s : Stop) → Small (bytes ++ more) → StopsBody a params place bytes s → is_cut s.trouble ≡ false
     → StopsBody a params place (bytes ++ more) (moved (length more) s)
 
 -- what follows a body is refused at its first byte

@@ -3,6 +3,7 @@ pub mod Rules
 pub mod Bodies
 pub mod Laws
 pub mod Read
+pub mod Closed
 pub mod Codes
 pub mod ReadCodes
 pub mod Numbers

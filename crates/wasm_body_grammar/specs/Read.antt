@@ -7,6 +7,7 @@ use Rattle.wasm_formats.specs.Formats.{InsideAll, front_small, done_is, done_ref
 use Rattle.wasm_grammar.specs.Modules.{Body}
 use Rattle.wasm_body_grammar.specs.Rules.{Around}
 use Rattle.wasm_body_grammar.specs.Bodies.{Parts, Point, next_total, next_point, opened, is_closed, operator_in, body, body_of}
+use Rattle.wasm_body_grammar.specs.Closed.{closed_body}
 use Rattle.wasm_body_grammar.specs.Laws.{ReadsBody, StopsBody, BodiesReadOnce, ReadDontStop, BodiesReadOrStop, BodiesStopOnce, BodiesStopInside, BodiesStopForGood, BodiesEnd, BodiesArePrefixFree, ParsingReads}
 
 pub bodies_read_once : BodiesReadOnce
@@ -37,7 +38,7 @@ bodies_stop_inside a params place bytes s h =
 pub bodies_stop_for_good : BodiesStopForGood
 bodies_stop_for_good a params place bytes more s small h lasting =
     let f = body a params place in
-    f.told (bytes ++ more) (moved (length more) s) small (f.final bytes more s (front_small bytes more small) (f.tells bytes s h) lasting)
+    f.told (bytes ++ more) (moved (length more) s) small (closed_body a params place bytes more s (front_small bytes more small) (f.tells bytes s h) lasting)
 
 -- ---- what follows a body
 

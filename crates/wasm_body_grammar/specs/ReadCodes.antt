@@ -1,10 +1,9 @@
 -- Lemmas: the bodies of a module are parsed as they read.
-use Rattle.std.specs.Prelude.{ℕ, ◌+◌, ◌≤◌, ◌≡◌, List, [], ◌∷◌, Result, Ok, Err, refl, length}
+use Rattle.std.specs.Prelude.{ℕ, ◌-◌, ◌+◌, ◌≤◌, ◌≡◌, List, [], ◌∷◌, Result, Ok, Err, refl}
 use Rattle.std.proofs.Common.{ap, sym, ◌∙◌, subst, arith, inl, inr}
 use Rattle.wasm_formats.specs.Stops.{Stop, stop, moved, before, ◌>>=◌}
 use Rattle.wasm_formats.specs.Formats.{done_is, done_refused, refused_is, step_ok, step_err}
 use Rattle.wasm_grammar.specs.Modules.{Body}
-use Rattle.wasm_grammar.specs.States.{Chunk}
 use Rattle.wasm_body_grammar.specs.Rules.{Around}
 use Rattle.wasm_body_grammar.specs.Bodies.{body_at}
 use Rattle.wasm_body_grammar.specs.Read.{parsing_reads, bodies_stop_inside}
@@ -61,15 +60,15 @@ codes_within a left (c ∷ codes) s inside (inl h) =
     omega (arith, near, is, inside.0)
 codes_within a left (c ∷ codes) s inside (inr h) = codes_within a left codes s inside.1 h.2
 
-further : (left more : ℕ) (chunk : Chunk) → chunk.place + length chunk.bytes ≤ left → left_behind (left + more) chunk ≡ left_behind left chunk + more
-further left more chunk inside = omega (arith, inside)
-
-codes_move : (a : Around) (left more : ℕ) (codes : List Code) (s : Stop) → AreInside left codes → StopsCodes a left codes s → StopsCodes a (left + more) codes (moved more s)
-codes_move a left more [] s inside h = absurd h
-codes_move a left more (c ∷ codes) s inside (inl h) =
-    let far : h.0.left + left_behind left c.chunk + more ≡ h.0.left + left_behind (left + more) c.chunk = omega (arith, further left more c.chunk inside.0) in
-    inl (h.0, h.1, ap (λ (s : Stop). moved more s) h.2 ∙ ap (λ (n : ℕ). stop h.0.trouble n) far)
-codes_move a left more (c ∷ codes) s inside (inr h) = inr (h.0, h.1, codes_move a left more codes s inside.1 h.2)
+codes_move : (a : Around) (left other : ℕ) (codes : List Code) (s : Stop) (place : ℕ) → AreInside left codes → AreInside other codes → StopsCodes a left codes s → place + s.left ≡ left
+    → StopsCodes a other codes (stop s.trouble (other - place))
+codes_move a left other [] s place inside there h sum = absurd h
+codes_move a left other (c ∷ codes) s place inside there (inl h) sum =
+    let near = bodies_stop_inside a c.params c.chunk.place c.chunk.bytes h.0 h.1 in
+    let is : s.left ≡ h.0.left + left_behind left c.chunk = ap (λ (s : Stop). s.left) h.2 in
+    let far : other - place ≡ h.0.left + left_behind other c.chunk = omega (arith, near, is, inside.0, there.0, sum) in
+    inl (h.0, h.1, ap (λ (s : Stop). stop s.trouble (other - place)) h.2 ∙ ap (λ (n : ℕ). stop h.0.trouble n) far)
+codes_move a left other (c ∷ codes) s place inside there (inr h) sum = inr (h.0, h.1, codes_move a left other codes s place inside.1 there.1 h.2 sum)
 
 pub parsing_reads_all : ParsingReadsAll
 parsing_reads_all = record { found = codes_found; again = codes_again; told = codes_told; tells = codes_tells; within = codes_within; moves = codes_move }

@@ -1,15 +1,18 @@
--- Formats whose parts have their sizes before them: what is refused in such a part stays refused there, limits too, whatever follows.
-use Rattle.std.specs.Prelude.{ℕ, zero, suc, ◌+◌, ◌-◌, ◌<◌, ◌≤◌, ◌≡◌, Bool, true, false, List, [], ◌∷◌, ◌++◌, length, take, drop, Ok, Err, if◌then◌else◌, refl}
-use Rattle.std.proofs.Common.{sym, ◌∙◌, subst, arith, inl, inr}
-use Rattle.std.proofs.lemmas.Bool.{cases_lt, lt-ltb, le-ltb}
-use Rattle.std.proofs.lemmas.List.{length-append, take-append-le}
+-- Formats whose limits are final: what is refused in them stays refused, whatever follows, but where the bytes are cut.
+use Rattle.std.specs.Prelude.{ℕ, zero, suc, ◌+◌, ◌-◌, ◌<◌, ◌≤◌, ◌≡◌, Bool, true, false, List, [], ◌∷◌, ◌++◌, length, Option, Some, Ok, Err, if◌then◌else◌, refl}
+use Rattle.std.proofs.Common.{sym, ◌∙◌, subst, arith}
+use Rattle.std.proofs.lemmas.List.{length-append}
 use Rattle.wasm_reader.specs.declared.error.ErrorKind.TheVariants as kinds
-use Rattle.wasm_formats.specs.Stops.{Trouble, Read, Header, SectionSize, Count, Limit, Stop, stop, moved, Parsing, can_end, ◌>>=◌, before}
-use Rattle.wasm_formats.specs.Formats.{Format, Whole, Small, done_refused, refused_is, step_err, behind_small, parsed_final}
+use Rattle.wasm_reader.specs.Laws.{TakesSpelled, IsFinal}
+use Rattle.wasm_reader.specs.Reading.{Reading}
+use Rattle.wasm_formats.specs.Stops.{Trouble, Read, Header, SectionSize, Count, Limit, Stop, stop, moved, Parsing, can_end, ◌>>=◌}
+use Rattle.wasm_formats.specs.Formats.{Format, Whole, Small, done_refused, refused_is, step_err, behind_small, parsed_final, leaf}
 use Rattle.wasm_formats.specs.Bytes.{never}
-use Rattle.wasm_formats.specs.Joined.{after, built, ends_at}
-use Rattle.wasm_formats.specs.Wholes.{u32, followed, sized, window, before_err, window_moved}
-use Rattle.wasm_formats.specs.Files.{parse_all, entries, ended, ended_at, ended_err}
+use Rattle.wasm_formats.specs.Joined.{tested, tested_err, fails_final, checked, after, ends_at}
+use Rattle.wasm_formats.specs.Parts.{told_as, told_err, seen}
+use Rattle.wasm_formats.specs.Wholes.{u32, followed}
+use Rattle.wasm_formats.specs.Lists.{parse_entries, vec}
+use Rattle.wasm_formats.specs.Files.{parse_all, entries, ended_by, ended_at, ended_err}
 
 -- trouble that comes of where the bytes end
 abbrev pub is_cut : Trouble → Bool
@@ -53,41 +56,34 @@ closed_unlimited f free bytes more s small e k = f.final bytes more s small e (n
 pub cut_is : {P : Type 0} (t : Trouble) (left : ℕ) (s : Stop) → is_cut t ≡ true → s ≡ stop t left → is_cut s.trouble ≡ false → P
 cut_is t left s cut e k = let k : is_cut t ≡ false = subst (λ (s : Stop). is_cut s.trouble ≡ false) e k in let clash : true ≡ false = sym cut ∙ k in absurd cc
 
--- ---- a size, and so many bytes
+-- ---- what the reader reads
 
-module _ {A : Type 0} (f : Whole A) where
-  window_closed : (left : ℕ) (n : ℕ × List ℕ) (m : List ℕ) (s : Stop) → window f left n ≡ Err s → is_cut s.trouble ≡ false → window f (left + length m) (n.0, n.1 ++ m) ≡ Err (moved (length m) s)
-  window_closed left n m s e k = elim (cases_lt (length n.1) n.0) [
-    | inl lt ↦ cut_is SectionSize left s refl (sym (refused_is {A = A × List ℕ} (stop SectionSize left) s (rw (lt-ltb (length n.1) n.0 lt) at e))) k
-    | inr le ↦ step_err (before (length n.1 - n.0) (f.parse (take n.0 n.1))) (λ x. Ok (x, drop n.0 n.1)) s (rw (le-ltb (length n.1) n.0 le) at e)
-        (λ p. let t = before_err f (length n.1 - n.0) (f.parse (take n.0 n.1)) s p in
-        let size = length-append n.1 m in
-        let there : n.0 ≤ length (n.1 ++ m) = omega (arith, size, le) in
-        let far : length (n.1 ++ m) - n.0 ≡ (length n.1 - n.0) + length m = omega (arith, size, le) in
-        rw (le-ltb (length (n.1 ++ m)) n.0 there, take-append-le n.0 n.1 m le, far)
-        (window_moved f (length n.1 - n.0) (length m) (drop n.0 (n.1 ++ m)) (f.parse (take n.0 n.1)) t.0 s t.1 t.2))
-        (λ x _ q. done_refused (x, drop n.0 n.1) s q)
-  ]
-
-  u32_unlimited : (bytes : List ℕ) (s : Stop) → Small bytes → u32.parse bytes ≡ Err s → is_limit s.trouble ≡ false
-  u32_unlimited bytes s small e = let t = u32.told bytes s small e in subst (λ (s : Stop). is_limit s.trouble ≡ false) (sym t.2) refl
-
-  pub closed_sized : IsClosed (sized f)
-  closed_sized bytes more s small e k = step_err (u32.parse bytes) (window f (length bytes)) s e
-      (λ p. rw (u32.final bytes more s small p (no_end s.trouble k (u32_unlimited bytes s small p))) refl)
-      (λ n p q. rw (parsed_final u32 bytes n.1 more n.0 small p, length-append bytes more) (window_closed (length bytes) n more s q k))
+pub closed_leaf : {A : Type 0} (reading : List ℕ → Reading A) (spells : List ℕ → A → Type 0) (taken : TakesSpelled reading spells) (final : IsFinal reading) → IsClosed (leaf reading spells taken final)
+closed_leaf reading spells taken final bytes more s small e k =
+    let f = leaf reading spells taken final in
+    let t = f.told bytes s small e in
+    f.final bytes more s small e (no_end s.trouble k (subst (λ (s : Stop). is_limit s.trouble ≡ false) (sym t.2) refl))
 
 -- ---- formats made of others
+
+pub closed_checked : {A : Type 0} (f : Format A) (test : A → Option Trouble) → IsClosed f → IsClosed (checked f test)
+closed_checked f test one bytes more s small e k = step_err (f.parse bytes) (λ x. tested (test x.0) (length bytes) x) s e (λ p. rw (one bytes more s small p k) refl)
+    (λ x p q. rw (parsed_final f bytes x.1 more x.0 small p, length-append bytes more)
+    (fails_final (test x.0) (length bytes) (length more) (x.0, x.1 ++ more) s (tested_err (test x.0) (length bytes) x s q)))
+
+-- a value in other words is refused for want of words at its first byte, whatever follows
+pub closed_seen : {A B : Type 0} (f : Format A) (into : A → Option B) (trouble : Trouble) (once : (x y : A) (z : B) → into x ≡ Some z → into y ≡ Some z → x ≡ y) → is_limit trouble ≡ false
+    → IsClosed f → IsClosed (seen f into trouble once)
+closed_seen f into trouble once free one bytes more s small e k =
+    step_err (f.parse bytes) (λ x. told_as into trouble (length bytes) x (into x.0)) s e (λ p. rw (one bytes more s small p k) refl)
+    (λ x p q. let t = told_err into trouble (length bytes) x (into x.0) s q in
+    (seen f into trouble once).final bytes more s small e (no_end s.trouble k (subst (λ (s : Stop). is_limit s.trouble ≡ false) (sym t.1) free)))
 
 pub closed_after : {A B : Type 0} (f : Format A) (g : A → Format B) → IsClosed f → ((x : A) → IsClosed (g x)) → IsClosed (after f g)
 closed_after f g one two bytes more s small e k = step_err (f.parse bytes) (λ x. (g x.0).parse x.1 >>= λ y. Ok ((x.0, y.0), y.1)) s e (λ p. rw (one bytes more s small p k) refl)
     (λ x p q. step_err ((g x.0).parse x.1) (λ y. Ok ((x.0, y.0), y.1)) s q
     (λ r. rw (parsed_final f bytes x.1 more x.0 small p, two x.0 x.1 more s (behind_small f bytes x.1 x.0 small p) r k) refl)
     (λ y _ n. done_refused ((x.0, y.0), y.1) s n))
-
-pub closed_built : {A B : Type 0} (f : Format A) (into : A → B) (once : (x y : A) → into x ≡ into y → x ≡ y) → IsClosed f → IsClosed (built f into once)
-closed_built f into once one bytes more s small e k =
-    step_err (f.parse bytes) (λ x. Ok (into x.0, x.1)) s e (λ p. rw (one bytes more s small p k) refl) (λ x p n. done_refused (into x.0, x.1) s n)
 
 -- of two ways to parse
 abbrev pub IsClosedBy : {A : Type 0} → (List ℕ → Parsing A) → Type 0
@@ -128,6 +124,21 @@ module _ {A S : Type 0} (next : S → A → S) (entry : S → Format A) (takes :
   pub closed_entries : (s : S) → IsClosedWhole (entries next entry takes s)
   closed_entries s bytes more e small h k = all_closed (length bytes) (length (bytes ++ more)) s bytes more e (omega (arith, length-append bytes more)) small h k
 
-pub closed_ended : {A : Type 0} (f : Whole A) (test : A → Bool) → IsClosedWhole f → IsClosedWhole (ended f test)
-closed_ended f test one bytes more s small e k = step_err (f.parse bytes) (λ x. ended_at Count (test x) x) s e (λ p. rw (one bytes more s small p k) refl)
-    (λ x p q. cut_is Count 0 s refl (ended_err Count (test x) x s q).1 k)
+-- so many entries
+module _ {A S : Type 0} (next : S → A → S) (entry : S → Format A) (one : (s : S) → IsClosed (entry s)) where
+  listed_closed : (count : ℕ) (s : S) (bytes more : List ℕ) (e : Stop) → Small bytes → parse_entries next entry count s bytes ≡ Err e → is_cut e.trouble ≡ false
+      → parse_entries next entry count s (bytes ++ more) ≡ Err (moved (length more) e)
+  listed_closed zero s bytes more e small h k = done_refused ([], bytes) e h
+  listed_closed (suc count) s bytes more e small h k = step_err ((entry s).parse bytes) _ e h (λ p. rw (one s bytes more e small p k) refl)
+      (λ x p q. step_err (parse_entries next entry count (next s x.0) x.1) (λ xs. Ok (x.0 ∷ xs.0, xs.1)) e q
+      (λ r. rw (parsed_final (entry s) bytes x.1 more x.0 small p, listed_closed count (next s x.0) x.1 more e (behind_small (entry s) bytes x.1 x.0 small p) r k) refl)
+      (λ xs _ n. done_refused (x.0 ∷ xs.0, xs.1) e n))
+
+  pub closed_vec : (s : S) → IsClosed u32 → IsClosed (vec next entry s)
+  closed_vec s number bytes more e small h k = step_err (u32.parse bytes) (λ n. parse_entries next entry n.0 s n.1) e h (λ p. rw (number bytes more e small p k) refl)
+      (λ n p q. rw (parsed_final u32 bytes n.1 more n.0 small p) (listed_closed n.0 s n.1 more e (behind_small u32 bytes n.1 n.0 small p) q k))
+
+-- what is wrong at the end of the bytes is a cut
+pub closed_ended : {A : Type 0} (trouble : Trouble) (ends : can_end trouble ≡ true) (f : Whole A) (test : A → Bool) → is_cut trouble ≡ true → IsClosedWhole f → IsClosedWhole (ended_by trouble ends f test)
+closed_ended trouble ends f test cut one bytes more s small e k = step_err (f.parse bytes) (λ x. ended_at trouble (test x) x) s e (λ p. rw (one bytes more s small p k) refl)
+    (λ x p q. cut_is trouble 0 s cut (ended_err trouble (test x) x s q).1 k)

@@ -3,8 +3,9 @@ use Rattle.std.specs.Prelude.{ℕ, List, [], ◌∷◌, ◌++◌, None}
 use Rattle.std.specs.List.{repeat}
 use Rattle.wasm_reader.specs.declared.error.ErrorKind.TheVariants as kinds
 use Rattle.wasm_formats.specs.declared.fault.Space.TheVariants as spaces
+use Rattle.wasm_formats.specs.declared.fault.Form.TheVariants as unsupported
 use Rattle.wasm_formats.specs.declared.fault.Limited.TheVariants as limits
-use Rattle.wasm_formats.specs.Stops.{Read, SectionOrder, Count, Index, ConstExpr, Bounds, Limit}
+use Rattle.wasm_formats.specs.Stops.{Read, SectionOrder, Count, Index, ConstExpr, Unsupported, Bounds, Limit}
 use Rattle.wasm_grammar.specs.Modules.{Passive, Active, Functions as Indices, Module, empty}
 use Rattle.wasm_module_rows.specs.Files.{magic, plain_type, one_function, usual, Refused, AreRefused, AreModules}
 use Rattle.wasm_module_rows.specs.Faults.{tables_past}
@@ -79,6 +80,24 @@ memories_past size last = magic ++ 0x05 ∷ size ∷ 0x01 ∷ 0x65 ∷ [] ++ rep
 abbrev pub imports_past : ℕ → List ℕ → List ℕ
 imports_past size last = magic ++ 0x02 ∷ size ∷ 0x04 ∷ 0x65 ∷ [] ++ repeat 100 (0x00 ∷ 0x00 ∷ 0x01 ∷ 0x70 ∷ 0x00 ∷ 0x01 ∷ []) ++ last
 
+-- and of 101 memories
+abbrev pub memory_imports_past : ℕ → List ℕ → List ℕ
+memory_imports_past size last = magic ++ 0x02 ∷ size ∷ 0x03 ∷ 0x65 ∷ [] ++ repeat 100 (0x00 ∷ 0x00 ∷ 0x02 ∷ 0x00 ∷ 0x01 ∷ []) ++ last
+
+-- An import past a limit: what ends it (limits, a shared table, a page size) stands behind the limit, at its entry; what can't be read, and a type that isn't there before its end, before it
+abbrev pub past_imports : List Refused
+past_imports =
+    (imports_past 0xe0 (0x00 ∷ 0x00 ∷ 0x01 ∷ 0x70 ∷ 0x01 ∷ 0x02 ∷ 0x01 ∷ []), Limit limits.Tables, 612)
+    ∷ (imports_past 0xdf (0x00 ∷ 0x00 ∷ 0x01 ∷ 0x70 ∷ 0x02 ∷ 0x01 ∷ []), Limit limits.Tables, 612)
+    ∷ (imports_past 0xdf (0x00 ∷ 0x00 ∷ 0x01 ∷ 0x70 ∷ 0x08 ∷ 0x01 ∷ []), Read kinds.BadByte, 616)
+    ∷ (imports_past 0xe0 (0x00 ∷ 0x00 ∷ 0x01 ∷ 0x63 ∷ 0x05 ∷ 0x00 ∷ 0x01 ∷ []), Index spaces.Type, 615)
+    ∷ (imports_past 0xdf (0x00 ∷ 0x00 ∷ 0x02 ∷ 0x01 ∷ 0x02 ∷ 0x01 ∷ []), Bounds, 615)
+    ∷ (memory_imports_past 0xfb (0x00 ∷ 0x00 ∷ 0x02 ∷ 0x08 ∷ 0x01 ∷ 0x03 ∷ []), Limit limits.Memories, 512)
+    ∷ (memory_imports_past 0xfa (0x00 ∷ 0x00 ∷ 0x02 ∷ 0x02 ∷ 0x01 ∷ []), Limit limits.Memories, 512)
+    ∷ (memory_imports_past 0xfa (0x00 ∷ 0x00 ∷ 0x03 ∷ 0x7f ∷ 0x02 ∷ []), Unsupported unsupported.SharedGlobal, 516)
+    ∷ (memory_imports_past 0xf9 (0x00 ∷ 0x00 ∷ 0x00 ∷ 0x07 ∷ []), Index spaces.Type, 515)
+    ∷ []
+
 -- A hundred of them pass, and what is missing behind is missed. The limit on memories stands behind what is wrong with the entry at its first byte; imported tables count.
 abbrev pub past_limits : List Refused
 past_limits =
@@ -98,3 +117,4 @@ pub record OrdersHold : Type 0 where
   pub of_bodies : AreRefused usual bodies_last
   pub of_counts : AreRefused usual counts
   pub of_limits : AreRefused usual past_limits
+  pub of_imports : AreRefused usual past_imports

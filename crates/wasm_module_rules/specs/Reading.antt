@@ -31,14 +31,14 @@ use Rattle.wasm_module_rules.specs.Keeps.{each_later, below_later, must_holds, f
 
 -- ---- which kind an entity has, and which flags a segment
 
-abbrev kind_number : Entity → ℕ
+abbrev pub kind_number : Entity → ℕ
 kind_number (FunctionOf ty) = 0
 kind_number (TableOf ty) = 1
 kind_number (MemoryOf ty) = 2
 kind_number (GlobalOf ty) = 3
 kind_number (TagOf ty) = 4
 
-abbrev element_number : ElementForm → ℕ
+abbrev pub element_number : ElementForm → ℕ
 element_number (ActiveFunctions x) = 0
 element_number (PassiveFunctions x) = 1
 element_number (FunctionsInto x) = 2
@@ -48,7 +48,7 @@ element_number (PassiveExpressions x) = 5
 element_number (ExpressionsInto x) = 6
 element_number (DeclaredExpressions x) = 7
 
-abbrev data_number : DataForm → ℕ
+abbrev pub data_number : DataForm → ℕ
 data_number (ActiveData x) = 0
 data_number (PassiveData x) = 1
 data_number (DataInto x) = 2
@@ -56,7 +56,7 @@ data_number (DataInto x) = 2
 numbered : {A : Type 0} (number : A → ℕ) (id n : ℕ) (y z : A) → (id == n) ≡ true → number y ≡ n → y ≡ z → number z ≡ id
 numbered number id n y z is own same = ap number (sym same) ∙ own ∙ sym (eqb-true id n is)
 
-entity_kind : (features : WasmFeatures) (s : State) (kind : ℕ) (bytes : List ℕ) (e : Entity) → (entity features s kind).spells bytes e → kind_number e ≡ kind
+pub entity_kind : (features : WasmFeatures) (s : State) (kind : ℕ) (bytes : List ℕ) (e : Entity) → (entity features s kind).spells bytes e → kind_number e ≡ kind
 entity_kind features s kind bytes e h =
     either_case (kind == 0) h (λ is k. numbered kind_number kind 0 (FunctionOf k.0) e is refl k.1)
     (λ _ h. either_case (kind == 1) h (λ is k. numbered kind_number kind 1 (TableOf k.0) e is refl k.1)
@@ -65,7 +65,7 @@ entity_kind features s kind bytes e h =
     (λ _ h. either_case (kind == 4) h (λ is k. numbered kind_number kind 4 (TagOf k.0) e is refl k.1)
     (λ _ h. absurd h)))))
 
-element_flag : (features : WasmFeatures) (s : State) (flags : ℕ) (bytes : List ℕ) (e : ElementForm) → (element_form features s flags).spells bytes e → element_number e ≡ flags
+pub element_flag : (features : WasmFeatures) (s : State) (flags : ℕ) (bytes : List ℕ) (e : ElementForm) → (element_form features s flags).spells bytes e → element_number e ≡ flags
 element_flag features s flags bytes e h =
     either_case (flags == 0) h (λ is k. numbered element_number flags 0 (ActiveFunctions k.0) e is refl k.1)
     (λ _ h. either_case (flags == 1) h (λ is k. numbered element_number flags 1 (PassiveFunctions k.0) e is refl k.1)
@@ -77,7 +77,7 @@ element_flag features s flags bytes e h =
     (λ _ h. either_case (flags == 7) h (λ is k. numbered element_number flags 7 (DeclaredExpressions k.0) e is refl k.1)
     (λ _ h. absurd h))))))))
 
-data_flag : (features : WasmFeatures) (s : State) (flags : ℕ) (bytes : List ℕ) (e : DataForm) → (data_form features s flags).spells bytes e → data_number e ≡ flags
+pub data_flag : (features : WasmFeatures) (s : State) (flags : ℕ) (bytes : List ℕ) (e : DataForm) → (data_form features s flags).spells bytes e → data_number e ≡ flags
 data_flag features s flags bytes e h =
     either_case (flags == 0) h (λ is k. numbered data_number flags 0 (ActiveData k.0) e is refl k.1)
     (λ _ h. either_case (flags == 1) h (λ is k. numbered data_number flags 1 (PassiveData k.0) e is refl k.1)
@@ -146,7 +146,7 @@ export_step : (s : State) (bytes : List ℕ) (x : ExportEntry) → (export_entry
 export_step s bytes x h r linked =
     export_linked s x (ltb-true x.1 (count_of s.filled (kind_space x.0.1)) (must_holds _ _ r.2)) (not_true _ (must_holds _ _ (first_none _ _ r.1).0)) linked
 
-element_go : (features : WasmFeatures) (s : State) (e : ElementForm) → (element_flags s).rules (element_number e) → (element_form features s (element_number e)).rules e → GoesInto (length s.filled.tables) (element_of e).mode
+pub element_go : (features : WasmFeatures) (s : State) (e : ElementForm) → (element_flags s).rules (element_number e) → (element_form features s (element_number e)).rules e → GoesInto (length s.filled.tables) (element_of e).mode
 element_go features s (ActiveFunctions x) f r = ltb-true 0 (length s.filled.tables) (must_holds _ _ f.1)
 element_go features s (PassiveFunctions x) f r = tt
 element_go features s (FunctionsInto x) f r = let q = r x refl in let t = q.0 in let i = t.0 in ltb-true x.0.0 (length s.filled.tables) (must_holds _ _ i.1)
@@ -181,7 +181,7 @@ element_step features s bytes x h r linked =
     room_spells true p = p
     room_spells false p = p
 
-data_go : (features : WasmFeatures) (s : State) (e : DataForm) → (data_flags s).rules (data_number e) → (data_form features s (data_number e)).rules e → GoesInto (length s.filled.memories) (segment_of e).mode
+pub data_go : (features : WasmFeatures) (s : State) (e : DataForm) → (data_flags s).rules (data_number e) → (data_form features s (data_number e)).rules e → GoesInto (length s.filled.memories) (segment_of e).mode
 data_go features s (ActiveData x) f r = ltb-true 0 (length s.filled.memories) (must_holds _ _ f.1)
 data_go features s (PassiveData x) f r = tt
 data_go features s (DataInto x) f r = let q = r x refl in let t = q.0 in let i = t.0 in ltb-true x.0.0 (length s.filled.memories) (must_holds _ _ i.1)
@@ -256,7 +256,7 @@ file_linked features bytes x h r =
     let sections = r.0 in
     entries_linked next (section_entry features) (next_linked features) x.1 nothing_yet h.1 h.4 sections.1 nothing_linked
 
-bodies_length : (fs : List (Option Function)) (bodies : List Body) → length (with_bodies fs bodies) ≡ length fs
+pub bodies_length : (fs : List (Option Function)) (bodies : List Body) → length (with_bodies fs bodies) ≡ length fs
 bodies_length [] bodies = refl
 bodies_length (f ∷ fs) bodies = elim (cases_Bool (is_some (own_type f))) as (λ _. length (with_bodies (f ∷ fs) bodies) ≡ length (f ∷ fs)) [
   | inl own ↦ rw own (omega (arith, bodies_length fs (drop 1 bodies)))

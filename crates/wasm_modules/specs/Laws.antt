@@ -1,12 +1,13 @@
 -- Laws of modules.
-use Rattle.std.specs.Prelude.{ℕ, ◌+◌, ◌≤◌, ◌≡◌, ◌⊎◌, false, List, ◌++◌, length, Ok, Err}
+use Rattle.std.specs.Prelude.{ℕ, ◌+◌, ◌-◌, ◌≤◌, ◌≡◌, ◌⊎◌, List, ◌++◌, length, Ok, Err}
 use Rattle.wasm_features.specs.declared.WasmFeatures.{WasmFeatures}
-use Rattle.wasm_formats.specs.Stops.{Trouble, Stop}
+use Rattle.wasm_formats.specs.Stops.{Trouble, Stop, stop}
 use Rattle.wasm_formats.specs.Formats.{Small}
-use Rattle.wasm_file_formats.specs.Closed.{is_cut}
 use Rattle.wasm_grammar.specs.Modules.{Module}
-use Rattle.wasm_sections.specs.Laws.{StopsSections}
-use Rattle.wasm_modules.specs.Modules.{IsShort, Reads, StopsAt, Stops, module_at}
+use Rattle.wasm_grammar.specs.States.{State}
+use Rattle.wasm_body_grammar.specs.Codes.{StopsCodes}
+use Rattle.wasm_sections.specs.Laws.{ReadsSections, StopsSections, FileIsCut}
+use Rattle.wasm_modules.specs.Modules.{around, codes, code_left, IsShort, Reads, StopsAt, Stops, module_at}
 
 -- bytes read as one module at most
 abbrev pub ReadsOnce : Type 0
@@ -29,10 +30,17 @@ StopsOnce = (features : WasmFeatures) (bytes : List ℕ) (t u : Trouble) (p q : 
 abbrev pub StopsInside : Type 0
 StopsInside = (features : WasmFeatures) (bytes : List ℕ) (trouble : Trouble) (place : ℕ) → Stops features bytes trouble place → place ≤ length bytes
 
--- bytes behind a fault of the sections don't change it, but where the bytes are cut
+-- bytes behind a fault of the sections don't change it, unless the file ends too early
 abbrev pub StopsForGood : Type 0
-StopsForGood = (features : WasmFeatures) (bytes more : List ℕ) (e : Stop) (place : ℕ) → Small (bytes ++ more) → IsShort (bytes ++ more) → StopsSections features bytes e
-    → place + e.left ≡ length bytes → is_cut e.trouble ≡ false → Stops features (bytes ++ more) e.trouble place
+StopsForGood = (features : WasmFeatures) (bytes : List ℕ) (e : Stop) (place : ℕ) → Small bytes → StopsSections features bytes e → place + e.left ≡ length bytes
+    → FileIsCut features bytes ⊎ ((more : List ℕ) → Small (bytes ++ more) → IsShort (bytes ++ more) → Stops features (bytes ++ more) e.trouble place)
+
+-- a fault of a body is decided by the bodies and what is around them: another file whose sections leave the same stops for it at the same place,
+-- counted from the function count, whatever else it holds
+abbrev pub BodiesStopForGood : Type 0
+BodiesStopForGood = (features : WasmFeatures) (bytes others : List ℕ) (s t : State) (e : Stop) (place : ℕ) → Small bytes → Small others → IsShort others
+    → ReadsSections features bytes s → ReadsSections features others t → around features s ≡ around features t → codes s ≡ codes t
+    → StopsCodes (around features s) (code_left bytes s) (codes s) e → place + e.left ≡ code_left bytes s → StopsAt features others (stop e.trouble (code_left others t - place))
 
 -- what is parsed from left to right reads, or stops; and what reads or stops is parsed so
 pub record ParsingReads : Type 0 where

@@ -3,18 +3,20 @@ use Rattle.std.specs.Prelude.{ℕ, ◌-◌, ◌≤◌, ◌≡◌, ◌⊎◌, Lis
 use Rattle.std.proofs.Common.{ap, sym, ◌∙◌, subst, arith, inl, inr}
 use Rattle.std.proofs.lemmas.List.{length-append}
 use Rattle.wasm_features.specs.declared.WasmFeatures.{WasmFeatures}
-use Rattle.wasm_formats.specs.Stops.{Trouble, Stop, moved, ◌>>=◌}
+use Rattle.wasm_formats.specs.Stops.{Trouble, Stop, stop, moved, ◌>>=◌}
 use Rattle.wasm_formats.specs.Formats.{Small, done_is, done_refused, refused_is, step_ok, step_err}
 use Rattle.wasm_grammar.specs.Modules.{Body, Module}
 use Rattle.wasm_grammar.specs.States.{Chunk, State}
-use Rattle.wasm_body_grammar.specs.Codes.{coded, codes_at, AreBytes, AreInside}
+use Rattle.wasm_body_grammar.specs.Rules.{Around}
+use Rattle.wasm_body_grammar.specs.Codes.{Code, coded, codes_at, StopsCodes, AreBytes, AreInside}
 use Rattle.wasm_body_grammar.specs.ReadCodes.{parsing_reads_all}
 use Rattle.wasm_sections.specs.Modules.{FileEntry, file, state_of}
 use Rattle.wasm_sections.specs.Laws.{ReadsSections}
-use Rattle.wasm_sections.specs.Read.{sections_stop_inside, sections_stop_for_good}
+use Rattle.wasm_sections.specs.Read.{sections_stop_inside}
+use Rattle.wasm_sections.specs.Decided.{sections_stop_for_good}
 use Rattle.wasm_sections.specs.Within.{ChunksFit, BodiesFit, bodies_inside}
 use Rattle.wasm_modules.specs.Modules.{around, codes, chunks_of, code_left, module_of, IsShort, Reads, StopsAt, Stops, module_at}
-use Rattle.wasm_modules.specs.Laws.{ReadsOnce, ReadDontStop, ReadOrStop, StopsOnce, StopsInside, StopsForGood, ParsingReads}
+use Rattle.wasm_modules.specs.Laws.{ReadsOnce, ReadDontStop, ReadOrStop, StopsOnce, StopsInside, StopsForGood, BodiesStopForGood, ParsingReads}
 
 -- ---- the bodies are bytes of the file
 
@@ -125,5 +127,19 @@ pub stops_inside : StopsInside
 stops_inside features bytes trouble place h = let sum = h.3 in omega (arith, sum)
 
 pub stops_for_good : StopsForGood
-stops_for_good features bytes more e place small short h sum lasting =
-    (moved (length more) e, (short, inl (sections_stop_for_good features bytes more e small h lasting)), refl, omega (arith, sum, length-append bytes more))
+stops_for_good features bytes e place small h sum = elim (sections_stop_for_good features bytes e small h) [
+  | inl cut ↦ inl cut
+  | inr decided ↦ inr (λ more all short. (moved (length more) e, (short, inl (decided more all)), refl, omega (arith, sum, length-append bytes more)))
+]
+
+pub bodies_stop_for_good : BodiesStopForGood
+bodies_stop_for_good features bytes others s t e place small all short h k a c stops sum =
+    let inside = (codes_fit features bytes s small h).1 in
+    let there = subst (AreInside (code_left others t)) (sym c) (codes_fit features others t all k).1 in
+    let e = parsing_reads_all.moves (around features s) (code_left bytes s) (code_left others t) (codes s) e place inside there stops sum in
+    (short, inr (t, k, moved_to (around features s) (around features t) (codes s) (codes t) a c e))
+  where
+    moved_to : (a b : Around) (cs ds : List Code) → a ≡ b → cs ≡ ds → StopsCodes a (code_left others t) cs (stop e.trouble (code_left others t - place))
+        → StopsCodes b (code_left others t) ds (stop e.trouble (code_left others t - place))
+    moved_to a b cs ds p q x = subst (λ (b : Around). StopsCodes b (code_left others t) ds (stop e.trouble (code_left others t - place))) p
+        (subst (λ (ds : List Code). StopsCodes a (code_left others t) ds (stop e.trouble (code_left others t - place))) q x)

@@ -1,6 +1,6 @@
 //! Laws: functions with nothing to do, whose contracts hold of all bytes.
 
-ghost use Rattle.wasm_modules.specs.Laws.{ReadsOnce, ReadDontStop, ReadOrStop, StopsOnce, StopsInside, StopsForGood, ParsingReads};
+ghost use Rattle.wasm_modules.specs.Laws.{ReadsOnce, ReadDontStop, ReadOrStop, StopsOnce, StopsInside, StopsForGood, BodiesStopForGood, ParsingReads};
 
 /// Bytes read as one module at most.
 pub fn reads_once()
@@ -27,9 +27,14 @@ pub fn stops_inside()
     ensures { StopsInside }
 {}
 
-/// Bytes behind a fault of the sections don't change it, but where the bytes are cut: in the header, in an id or a size, or where counts are missing.
+/// Bytes behind a fault of the sections don't change it, unless the file ends too early: in its header, in a section, or before counts that are missing.
 pub fn stops_for_good()
     ensures { StopsForGood }
+{}
+
+/// A fault of a body is decided by the bodies and what is around them, whatever else the file holds.
+pub fn bodies_stop_for_good()
+    ensures { BodiesStopForGood }
 {}
 
 /// What is parsed from left to right reads, or stops; and what reads or stops is parsed so.

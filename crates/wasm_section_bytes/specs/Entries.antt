@@ -21,7 +21,7 @@ use Rattle.wasm_format_bytes.specs.Lists.{led_writer}
 use Rattle.wasm_grammar.specs.Values.{must, index, Limits, has_page_size, table_limits, memory_limits}
 use Rattle.wasm_grammar.specs.States.{State, type_count, known, function_type, has_room, room_test}
 use Rattle.wasm_grammar_bytes.specs.Values.{name_writer, byte_below_writer, value_type_writer, ref_type_writer, limits_writer}
-use Rattle.wasm_sections.specs.Entities.{TableType, table_type, mutability, GlobalType, global_type, TagType, tag_type, MemoryType, Entity, FunctionOf, TableOf, MemoryOf, GlobalOf, TagOf, function_once, table_once, memory_once, global_once, tag_once, entity, import_test, import_entry, function_entry, initialised, table_apart, table_some, table_wants, table_entry, memory_entry, tag_entry, global_entry}
+use Rattle.wasm_sections.specs.Entities.{TableType, table_type, mutability, GlobalType, global_type, TagType, tag_type, MemoryType, Entity, FunctionOf, TableOf, MemoryOf, GlobalOf, TagOf, function_once, table_once, memory_once, global_once, tag_once, entity, import_entry, function_entry, initialised, table_apart, table_some, table_wants, table_entry, memory_entry, tag_entry, global_entry}
 use Rattle.wasm_sections.specs.Exports.{kind_space, name_test, item_test, export_entry, start_function}
 use Rattle.wasm_section_bytes.specs.Exprs.{expr_writer}
 
@@ -101,7 +101,8 @@ entity_writer features s kind =
 
 abbrev pub import_writer : (features : WasmFeatures) (s : State) → Writer (import_entry features s)
 import_writer features s =
-    checked_writer (after_writer name_writer (λ _. after_writer name_writer (λ _. after_writer (byte_below_writer 5) (λ kind. entity_writer features s kind)))) (import_test s)
+    let w = after_writer name_writer (λ _. after_writer name_writer (λ _. after_writer (byte_below_writer 5) (λ kind. entity_writer features s kind))) in
+    record { fits = w.fits; bytes = w.bytes; written = w.written; short = w.short }
 
 -- ---- exports, the start function
 

@@ -1,5 +1,5 @@
 -- What is imported, and the entries of the import, function, table, memory, tag and global sections (Core Specification, binary format: modules).
-use Rattle.std.specs.Prelude.{ℕ, ◌+◌, ◌≡◌, ◌==◌, nat_lt, true, List, [], ◌∷◌, ◌++◌, length, Option, Some, None, Err, ◌⊎◌, if◌then◌else◌, refl}
+use Rattle.std.specs.Prelude.{ℕ, ◌+◌, ◌≡◌, ◌==◌, nat_lt, Bool, true, false, List, [], ◌∷◌, ◌++◌, length, Option, Some, None, Err, ◌⊎◌, refl}
 use Rattle.std.proofs.Common.{subst, inl, inr}
 use Rattle.wasm_features.specs.declared.WasmFeatures.{WasmFeatures}
 use Rattle.wasm_reader.specs.declared.error.ErrorKind.TheVariants as kinds
@@ -15,12 +15,15 @@ use Rattle.wasm_formats.specs.declared.fault.Form.TheVariants as unsupported
 use Rattle.wasm_formats.specs.declared.fault.Limited.TheVariants as limits
 use Rattle.wasm_formats.specs.Stops.{Trouble, Read, Unsupported, Limit, Stop, stop, can_end}
 use Rattle.wasm_formats.specs.Formats.{Format, refused_is}
-use Rattle.wasm_formats.specs.Bytes.{byte, literal, never, either}
+use Rattle.wasm_formats.specs.Bytes.{literal, never, either, either_type}
 use Rattle.wasm_formats.specs.Joined.{checked, after, built}
+use Rattle.wasm_formats.specs.Parts.{optional}
+use Rattle.wasm_formats.specs.Wholes.{u32}
 use Rattle.wasm_formats.specs.Led.{led}
 use Rattle.wasm_file_formats.specs.Rooms.{if_room}
+use Rattle.wasm_file_formats.specs.Firsts.{Refines, first_checked}
 use Rattle.wasm_grammar.specs.Modules.{Expr, Origin, Imported, Own, Body, Function, Table, Memory, Tag, Global, Import}
-use Rattle.wasm_grammar.specs.Values.{must, first_of, name, byte_below, ref_type, value_type, Limits, is_shared, is_wide, table_limits, memory_limits}
+use Rattle.wasm_grammar.specs.Values.{must, first_of, name, byte_below, ref_type, value_type, Limits, is_shared, is_wide, has_page_size, limits, table_limits, memory_limits}
 use Rattle.wasm_grammar.specs.Exprs.{expr, front_is}
 use Rattle.wasm_grammar.specs.States.{State, type_count, known, function_type, has_room, room_test}
 
@@ -35,7 +38,7 @@ table_type features s = after (ref_type features (type_count s)) (λ _. table_li
 
 -- 00 or 01: whether a global can be written; 02 and 03 are shared ones, which aren't supported
 abbrev pub mutability : Format ℕ
-mutability = checked byte (λ b. if nat_lt b 2 then None else Some (if nat_lt b 4 then Unsupported unsupported.SharedGlobal else Read kinds.BadByte))
+mutability = checked (byte_below 4) (λ b. must (nat_lt b 2) (Unsupported unsupported.SharedGlobal))
 
 abbrev pub GlobalType : Type 0
 GlobalType = ValType × ℕ
@@ -78,14 +81,34 @@ global_once x y e = cc
 pub tag_once : (x y : TagType) → TagOf x ≡ TagOf y → x ≡ y
 tag_once x y e = cc
 
--- by its kind: 00 to 04
+-- by its kind, 00 to 04, in these formats
+abbrev pub entity_of : Format ℕ → Format TableType → Format MemoryType → Format GlobalType → Format TagType → ℕ → Format Entity
+entity_of function table memory global tag kind =
+    either (kind == 0) (built function FunctionOf function_once)
+    (either (kind == 1) (built table TableOf table_once)
+    (either (kind == 2) (built memory MemoryOf memory_once)
+    (either (kind == 3) (built global GlobalOf global_once)
+    (either (kind == 4) (built tag TagOf tag_once) (never (Read kinds.BadByte))))))
+
 abbrev pub entity : WasmFeatures → State → ℕ → Format Entity
-entity features s kind =
-    either (kind == 0) (built (function_type s) FunctionOf function_once)
-    (either (kind == 1) (built (table_type features s) TableOf table_once)
-    (either (kind == 2) (built (memory_limits None) MemoryOf memory_once)
-    (either (kind == 3) (built (global_type features s) GlobalOf global_once)
-    (either (kind == 4) (built (tag_type s) TagOf tag_once) (never (Read kinds.BadByte))))))
+entity features s = entity_of (function_type s) (table_type features s) (memory_limits None) (global_type features s) (tag_type s)
+
+-- the same before what ends it is tested: a type's index, limits and a page size, whether a global can be written
+abbrev pub entity_read : WasmFeatures → State → ℕ → Format Entity
+entity_read features s = entity_of u32 (after (ref_type features (type_count s)) (λ _. limits 8)) (after (limits 16) (λ l. optional (has_page_size l.0) u32))
+    (after (value_type features (type_count s)) (λ _. byte_below 4)) (after (literal 0 (Read kinds.BadByte)) (λ _. u32))
+
+pub either_later : {P Q R S : Type 0} (c : Bool) → (P → R) → (Q → S) → either_type c P Q → either_type c R S
+either_later true p q h = p h
+either_later false p q h = q h
+
+pub read_rules : (features : WasmFeatures) (s : State) (kind : ℕ) (x : Entity) → (entity features s kind).rules x → (entity_read features s kind).rules x
+read_rules features s kind x r =
+    either_later (kind == 0) (λ h y e. (h y e).0)
+    (either_later (kind == 1) (λ h y e. let q = h y e in let l = q.1 in (q.0, l.0))
+    (either_later (kind == 2) (λ h y e. let q = h y e in q.0)
+    (either_later (kind == 3) (λ h y e. let q = h y e in let m = q.1 in (q.0, m.0))
+    (either_later (kind == 4) (λ h y e. let q = h y e in let f = q.1 in (q.0, f.0)) (λ h. h))))) r
 
 abbrev pub space_of : Entity → Space
 space_of (FunctionOf ty) = spaces.Function
@@ -102,8 +125,18 @@ ImportEntry = List ℕ × (List ℕ × (ℕ × Entity))
 abbrev pub import_test : State → ImportEntry → Option Trouble
 import_test s e = first_of (must (nat_lt (length s.filled.imports) 1000000) (Limit limits.Imports)) (room_test s (space_of e.1.1.1))
 
+abbrev pub import_by : (ℕ → Format Entity) → Format ImportEntry
+import_by entity = after name (λ _. after name (λ _. after (byte_below 5) entity))
+
+pub import_refines : (features : WasmFeatures) (s : State) → Refines (import_by (entity features s)) (import_by (entity_read features s))
+import_refines features s = record {
+  spelled = λ bytes x h. h;
+  ruled = λ x r. let a = r.1 in let b = a.1 in (r.0, (a.0, (b.0, read_rules features s x.1.1.0 x.1.1.1 b.1)));
+}
+
+-- an import is read, then its limits are tested, at its first byte, and then what ends it
 abbrev pub import_entry : WasmFeatures → State → Format ImportEntry
-import_entry features s = checked (after name (λ _. after name (λ _. after (byte_below 5) (λ kind. entity features s kind)))) (import_test s)
+import_entry features s = first_checked (import_by (entity_read features s)) (import_by (entity features s)) (import_refines features s) (import_test s)
 
 -- ---- tables, of this type, imported or with an initialiser
 

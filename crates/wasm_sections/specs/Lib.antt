@@ -1,4 +1,4 @@
-pub mod Closed
+pub mod Decided
 pub mod Entities
 pub mod Exports
 pub mod Ids

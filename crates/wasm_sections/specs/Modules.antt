@@ -10,8 +10,11 @@ use Rattle.wasm_grammar.specs.States.{Chunk, State, nothing_yet}
 use Rattle.wasm_sections.specs.Sections.{own_functions, SectionEntry, section_entry, section_takes, next}
 
 -- magic and version
+abbrev pub magic : List ℕ
+magic = 0x00 ∷ 0x61 ∷ 0x73 ∷ 0x6d ∷ 0x01 ∷ 0x00 ∷ 0x00 ∷ 0x00 ∷ []
+
 abbrev pub header : Format (Unit {0})
-header = exactly (0x00 ∷ 0x61 ∷ 0x73 ∷ 0x6d ∷ 0x01 ∷ 0x00 ∷ 0x00 ∷ 0x00 ∷ []) Header refl
+header = exactly magic Header refl
 
 abbrev pub sections : WasmFeatures → Whole (List SectionEntry)
 sections features = entries next (section_entry features) (section_takes features) nothing_yet
@@ -38,6 +41,13 @@ FileEntry = Unit {0} × List SectionEntry
 abbrev pub state_of : FileEntry → State
 state_of x = fold next nothing_yet x.1
 
--- the header, sections to the end, and what is missing there
+abbrev pub has_all : FileEntry → Bool
+has_all x = has_bodies (state_of x) && has_data (state_of x)
+
+-- the header and sections to the end
+abbrev pub sections_behind : WasmFeatures → Whole FileEntry
+sections_behind features = followed header (λ _. sections features)
+
+-- and what is missing there
 abbrev pub file : WasmFeatures → Whole FileEntry
-file features = ended (followed header (λ _. sections features)) (λ x. has_bodies (state_of x) && has_data (state_of x))
+file features = ended (sections_behind features) has_all

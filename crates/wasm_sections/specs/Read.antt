@@ -2,18 +2,20 @@
 use Rattle.std.specs.Prelude.{◌≡◌, ◌⊎◌, ◌++◌, length, Result, Ok, Err, refl}
 use Rattle.std.proofs.Common.{ap, sym, ◌∙◌, subst, inl, inr}
 use Rattle.wasm_formats.specs.Stops.{Stop, moved}
-use Rattle.wasm_formats.specs.Formats.{InsideAll, front_small, done_is, done_refused, refused_is}
+use Rattle.wasm_formats.specs.Formats.{Whole, InsideAll, done_is, done_refused, refused_is}
+use Rattle.wasm_formats.specs.Lists.{vec}
+use Rattle.wasm_formats.specs.Wholes.{u32, whole}
+use Rattle.wasm_file_formats.specs.Counted.{counted}
 use Rattle.wasm_grammar.specs.States.{State}
 use Rattle.wasm_sections.specs.Modules.{FileEntry, file, state_of}
 use Rattle.wasm_file_formats.specs.Free.{format_free}
 use Rattle.wasm_grammar.specs.Exprs.{expr}
-use Rattle.wasm_sections.specs.TypeSection.{group}
-use Rattle.wasm_sections.specs.Entities.{import_entry, function_entry, table_entry, memory_entry, tag_entry, global_entry}
-use Rattle.wasm_sections.specs.Exports.{export_entry}
-use Rattle.wasm_sections.specs.Segments.{element_entry, data_entry}
-use Rattle.wasm_sections.specs.Sections.{section_entry}
-use Rattle.wasm_sections.specs.Closed.{closed_file}
-use Rattle.wasm_sections.specs.Laws.{ReadsSections, StopsSections, SectionsReadOnce, SectionsDontStop, SectionsReadOrStop, SectionsStopOnce, SectionsStopInside, SectionsStopForGood, EntriesArePrefixFree}
+use Rattle.wasm_sections.specs.TypeSection.{group, add_group}
+use Rattle.wasm_sections.specs.Entities.{import_entry, add_import, function_entry, add_function, table_entry, add_table, memory_entry, add_memory, tag_entry, add_tag, global_entry, add_global}
+use Rattle.wasm_sections.specs.Exports.{export_entry, add_export, start_function}
+use Rattle.wasm_sections.specs.Segments.{element_entry, add_element, data_entry, add_data}
+use Rattle.wasm_sections.specs.Sections.{custom, code, data_test, section_entry}
+use Rattle.wasm_sections.specs.Laws.{ReadsSections, StopsSections, SectionsReadOnce, SectionsDontStop, SectionsReadOrStop, SectionsStopOnce, SectionsStopInside, IsFinalIn, ContentsStopForGood, EntriesArePrefixFree}
 
 pub sections_read_once : SectionsReadOnce
 sections_read_once features bytes s t h k =
@@ -37,9 +39,26 @@ sections_stop_once features bytes e f h k = let g = file features in refused_is 
 pub sections_stop_inside : SectionsStopInside
 sections_stop_inside features bytes e h = let f = file features in subst (λ (r : Result FileEntry Stop). InsideAll (length bytes) r) (f.tells bytes e h) (f.within bytes)
 
-pub sections_stop_for_good : SectionsStopForGood
-sections_stop_for_good features bytes more e small h lasting =
-    let f = file features in f.told (bytes ++ more) (moved (length more) e) small (closed_file features bytes more e (front_small bytes more small) (f.tells bytes e h) lasting)
+final_in : {A : Type 0} (f : Whole A) → IsFinalIn f
+final_in f bytes e small h k more all = f.told (bytes ++ more) (moved (length more) e) all (f.final bytes more e small (f.tells bytes e h) k)
+
+pub contents_stop_for_good : ContentsStopForGood
+contents_stop_for_good = record {
+  custom = final_in custom;
+  types = λ features s. final_in (whole (vec add_group (group features) s));
+  imports = λ features s. final_in (whole (vec add_import (import_entry features) s));
+  functions = λ s. final_in (whole (vec add_function function_entry s));
+  tables = λ features s. final_in (whole (vec add_table (table_entry features) s));
+  memories = λ s. final_in (whole (vec add_memory memory_entry s));
+  tags = λ s. final_in (whole (vec add_tag tag_entry s));
+  globals = λ features s. final_in (whole (vec add_global (global_entry features) s));
+  exports = λ s. final_in (whole (vec add_export export_entry s));
+  start = λ s. final_in (whole (start_function s));
+  elements = λ features s. final_in (whole (vec add_element (element_entry features) s));
+  data_count = final_in (whole u32);
+  code = λ s. final_in (whole (code s));
+  segments = λ features s. final_in (whole (counted add_data (data_entry features) (data_test s.data_count) s));
+}
 
 pub entries_are_prefix_free : EntriesArePrefixFree
 entries_are_prefix_free = record {

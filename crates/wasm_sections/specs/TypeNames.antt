@@ -3,7 +3,7 @@ use Rattle.std.specs.Prelude.{ℕ, Bool, true, false, List, [], ◌∷◌, ◌++
 use Rattle.std.specs.Option.{option_map, option_to_list}
 use Rattle.std.specs.List.{filter_map}
 use Rattle.wasm_ref_types.specs.declared.heap.HeapType.{HeapType as ReadHeap}
-use Rattle.wasm_ref_types.specs.declared.heap.HeapType.TheVariants.{Concrete}
+use Rattle.wasm_ref_types.specs.declared.heap.HeapType.TheVariants.{Concrete, Exact}
 use Rattle.wasm_ref_types.specs.declared.index.UnpackedIndex.{UnpackedIndex}
 use Rattle.wasm_ref_types.specs.declared.index.UnpackedIndex.TheVariants.{Module}
 use Rattle.wasm_ref_types.specs.declared.value.ValType.{ValType as ReadValue}
@@ -31,6 +31,7 @@ index_number _ = None
 
 abbrev pub heap_index : ReadHeap → Option ℕ
 heap_index (Concrete index) = index_number index
+heap_index (Exact index) = index_number index
 heap_index _ = None
 
 abbrev pub value_index : ReadValue → Option ℕ

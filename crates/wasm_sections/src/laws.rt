@@ -1,6 +1,6 @@
 //! Laws: functions with nothing to do, whose contracts hold of all files.
 
-ghost use Rattle.wasm_sections.specs.Laws.{SectionsReadOnce, SectionsDontStop, SectionsReadOrStop, SectionsStopOnce, SectionsStopInside, SectionsStopForGood, EntriesArePrefixFree};
+ghost use Rattle.wasm_sections.specs.Laws.{SectionsReadOnce, SectionsDontStop, SectionsReadOrStop, SectionsStopOnce, SectionsStopInside, SectionsStopForGood, ContentsStopForGood, EntriesArePrefixFree};
 
 /// The sections of a file say one thing at most.
 pub fn sections_read_once()
@@ -27,9 +27,14 @@ pub fn sections_stop_inside()
     ensures { SectionsStopInside }
 {}
 
-/// Bytes behind a fault don't change it, but where the bytes are cut: in the header, in an id or a size, or where counts are missing.
+/// Bytes behind a fault don't change it, unless the file ends too early: in its header, in a section, or before counts that are missing.
 pub fn sections_stop_for_good()
     ensures { SectionsStopForGood }
+{}
+
+/// Bytes behind a fault in its section don't change it, the section's end and limits aside.
+pub fn contents_stop_for_good()
+    ensures { ContentsStopForGood }
 {}
 
 /// Entries of sections, constant expressions and sections that meet the rules are prefix-free.

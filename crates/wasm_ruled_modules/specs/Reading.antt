@@ -1,0 +1,88 @@
+-- Lemmas: modules that are read meet the rules.
+use Rattle.std.specs.Prelude.{ℕ, ◌≤◌, List, [], length, refl}
+use Rattle.std.proofs.Common.{sym, subst, arith, inl, inr}
+use Rattle.std.proofs.lemmas.List.{append-nil}
+use Rattle.wasm_features.specs.declared.WasmFeatures.{WasmFeatures}
+use Rattle.wasm_grammar.specs.Modules.{Body, Module}
+use Rattle.wasm_grammar.specs.States.{State, types_of}
+use Rattle.wasm_sections.specs.Entities.{Entity, FunctionOf, TableOf, MemoryOf, GlobalOf, TagOf, ImportEntry, add_entity, with_import, import_of, TableEntry, add_table}
+use Rattle.wasm_body_grammar.specs.Codes.{with_bodies}
+use Rattle.wasm_modules.specs.Modules.{module_of, Reads}
+use Rattle.wasm_module_rules.specs.Reading.{read_modules_are_linked, bodies_length}
+use Rattle.wasm_ruled_modules.specs.Rules.{IsCounted, GroupsBelow, AreNamed, knows, table_wide, memory_wide, AreExpressed, IsRuled, ReadModulesAreRuled}
+use Rattle.wasm_ruled_modules.specs.Keeping.{EntriesKeep, file_kept}
+use Rattle.wasm_ruled_modules.specs.Counted.{counts_kept, none_counted}
+use Rattle.wasm_ruled_modules.specs.Grouped.{group_below}
+use Rattle.wasm_ruled_modules.specs.Named.{names_kept, none_named}
+use Rattle.wasm_ruled_modules.specs.More.{Grows, tables_more, offsets_more, segments_more, lists_more, globals_more}
+use Rattle.wasm_ruled_modules.specs.Expressed.{Stands, expressions_kept, none_stands}
+
+import_keeps : (s : State) (e : Entity) (x : ImportEntry) → GroupsBelow 0 s.filled.groups → GroupsBelow 0 (add_entity (with_import s (import_of s x)) (length s.filled.imports) e).filled.groups
+import_keeps s (FunctionOf ty) x h = h
+import_keeps s (TableOf ty) x h = h
+import_keeps s (MemoryOf ty) x h = h
+import_keeps s (GlobalOf ty) x h = h
+import_keeps s (TagOf ty) x h = h
+
+table_keeps : (s : State) (x : TableEntry) → GroupsBelow 0 s.filled.groups → GroupsBelow 0 (add_table s x).filled.groups
+table_keeps s (inl x) h = h
+table_keeps s (inr ty) h = h
+
+groups_kept : (features : WasmFeatures) → EntriesKeep features (λ m. GroupsBelow 0 m.groups)
+groups_kept features = record {
+  customs = λ s x h. h;
+  groups = λ s bytes x _ r h. group_below s x r.1 h;
+  imports = λ s bytes x _ r h. import_keeps s x.1.1.1 x h;
+  functions = λ s bytes x _ r h. h;
+  tables = λ s bytes x _ r h. table_keeps s x h;
+  memories = λ s bytes x _ r h. h;
+  tags = λ s bytes x _ r h. h;
+  globals = λ s bytes x _ r h. h;
+  exports = λ s bytes x _ r h. h;
+  start = λ s n r h. h;
+  elements = λ s bytes x _ r h. h;
+  segments = λ s bytes x _ r h. h;
+}
+
+counted_with : (s : State) (bodies : List Body) → IsCounted s.filled → IsCounted (module_of s bodies)
+counted_with s bodies h = record {
+  types = h.types;
+  imports = h.imports;
+  functions = let le = h.functions in omega (arith, le, bodies_length s.filled.functions bodies);
+  tables = h.tables;
+  memories = h.memories;
+  tags = h.tags;
+  globals = h.globals;
+  exports = h.exports;
+  elements = h.elements;
+  segments = h.segments;
+}
+
+expressed_with : (s : State) (bodies : List Body) → AreExpressed s.filled → AreExpressed (module_of s bodies)
+expressed_with s bodies e =
+    let m = module_of s bodies in
+    let le : length s.filled.functions ≤ length (with_bodies s.filled.functions bodies) = omega (arith, bodies_length s.filled.functions bodies) in
+    let g : Grows (knows s.filled) (knows m) = record { types = omega arith; functions = le; more = []; globals = sym (append-nil s.filled.globals) } in record {
+      tables = tables_more (knows s.filled) (knows m) g s.filled.tables e.tables;
+      globals = globals_more (length (types_of s.filled)) (length s.filled.functions) (length (types_of s.filled)) (length (with_bodies s.filled.functions bodies)) (omega arith) le [] s.filled.globals e.globals;
+      offsets = offsets_more (table_wide s.filled.tables) (knows s.filled) (knows m) g s.filled.elements e.offsets;
+      items = lists_more (knows s.filled) (knows m) g s.filled.elements e.items;
+      segments = segments_more (memory_wide s.filled.memories) (knows s.filled) (knows m) g s.filled.segments e.segments;
+    }
+
+pub read_modules_are_ruled : ReadModulesAreRuled
+read_modules_are_ruled features bytes m h =
+    let s = h.1.0 in
+    let xs = h.1.1 in
+    let reads = h.1.2 in
+    let counted = file_kept features IsCounted (counts_kept features) none_counted bytes reads.0 reads.1.0 reads.1.1 in
+    let groups = file_kept features (λ m. GroupsBelow 0 m.groups) (groups_kept features) tt bytes reads.0 reads.1.0 reads.1.1 in
+    let named = file_kept features AreNamed (names_kept features) none_named bytes reads.0 reads.1.0 reads.1.1 in
+    let stands = file_kept features Stands (expressions_kept features) none_stands bytes reads.0 reads.1.0 reads.1.1 in
+    let named = subst (λ (s : State). AreNamed s.filled) reads.2 named in record {
+      linked = read_modules_are_linked features bytes m h;
+      counted = subst IsCounted h.1.4 (counted_with s xs (subst (λ (s : State). IsCounted s.filled) reads.2 counted));
+      groups = subst (λ (m : Module). GroupsBelow 0 m.groups) h.1.4 (subst (λ (s : State). GroupsBelow 0 s.filled.groups) reads.2 groups);
+      named = subst AreNamed h.1.4 (record { tables = named.tables; globals = named.globals; elements = named.elements; pages = named.pages });
+      expressed = subst AreExpressed h.1.4 (expressed_with s xs (subst (λ (s : State). AreExpressed s.filled) reads.2 stands.1));
+    }
