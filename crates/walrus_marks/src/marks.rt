@@ -1,10 +1,12 @@
 //! The items that were met.
 ghost use Rattle.std.specs.Prelude.{◌≡◌, ◌+◌, ◌<◌, ◌≤◌, ◌++◌, ◌∷◌, [], true, false, not, None, IfOk, length, map, MatchOption, replicate, slice_index_or, vec_capacity, vec_len};
+ghost use Rattle.walrus_roots.specs.Items.{item};
 ghost use Rattle.walrus_marks.specs.Marks.{flags_of, is_marked, left_out, meet, met_none};
 
 use std::alloc::{AllocError, Global};
 use std::marker::Model;
 use walrus_roots::Item;
+use wasm_formats::Space;
 
 /// Marks of the items that were met, and those of them that are still to be looked at.
 ///
@@ -107,6 +109,14 @@ impl Marks {
         ensures { result ≡ is_marked self.now.met.marks item }
     {
         is_set(&self.flags[item.space_number()], item.id as usize)
+    }
+
+    /// Whether the item of this number in the space was met and has a flag.
+    pub fn has(&self, space: Space, index: usize) -> bool
+        ensures { result ≡ is_marked self.now.met.marks (item space index) }
+    {
+        let first = Item { space, id: 0 };
+        is_set(&self.flags[first.space_number()], index)
     }
 
     /// An item that was met and has no flag.

@@ -1,5 +1,5 @@
 -- References: what each item of a module names, a line a kind of item in `Refers`.
-use Rattle.std.specs.Prelude.{◌≡◌, ◌⊎◌, ℕ, zero, suc, true, false, Bool, List, [], ◌∷◌, ◌++◌, map, Option, Some, None, MatchOption, Contains, slice_get, if◌then◌else◌}
+use Rattle.std.specs.Prelude.{◌≡◌, ◌⊎◌, ℕ, nat_eq, true, false, Bool, List, [], ◌∷◌, ◌++◌, map, Option, Some, None, MatchOption, Contains, slice_get, if◌then◌else◌}
 use Rattle.std.specs.HashSet.{keys}
 use Rattle.std.specs.List.{flat_map}
 use Rattle.wasm_formats.specs.declared.fault.Space.{Space}
@@ -13,7 +13,7 @@ use Rattle.walrus_instr.specs.declared.instr.Instr.{Instr}
 use Rattle.walrus_instr.specs.declared.const_expr.ConstExpr.{ConstExpr}
 use Rattle.walrus_instr.specs.declared.seq.InstrLocId.{InstrLocId}
 use Rattle.walrus_instr.specs.declared.seq.InstrSeq.{InstrSeq}
-use Rattle.walrus_walks.specs.Tree.{children_in}
+use Rattle.walrus_walks.specs.Tree.{children}
 use Rattle.walrus_walks.specs.Events.{names, block_names, val_names, ref_names}
 use Rattle.walrus_walks.specs.ConstEvents.{expr_names}
 use Rattle.walrus_builder.specs.Functions.{seqs_of}
@@ -44,7 +44,7 @@ use Rattle.walrus_marks.specs.Named.{items_of}
 -- ---- bodies
 -- the sequences that a known sequence holds
 abbrev pub held : Option InstrSeq → List Item
-held (Some s) = map (item spaces.Label) (children_in s.instrs.items)
+held (Some s) = flat_map (λ (i : Instr × InstrLocId). map (item spaces.Label) (children i.0)) s.instrs.items
 held None = []
 
 abbrev pub held_in : List InstrSeq → Space → ℕ → List Item
@@ -68,8 +68,7 @@ instr_items is = flat_map (λ (i : Instr × InstrLocId). items_of (names i.0)) i
 
 -- what a sequence names: what its instructions do, and its block type. The type of the body's own is no reference.
 abbrev pub seq_items : ℕ → InstrSeq → List Item
-seq_items zero s = instr_items s.instrs.items
-seq_items (suc _) s = items_of (block_names s.ty) ++ instr_items s.instrs.items
+seq_items k s = (if nat_eq k 0 then [] else items_of (block_names s.ty)) ++ instr_items s.instrs.items
 
 abbrev pub known_items : ℕ → Option InstrSeq → List Item
 known_items k (Some s) = seq_items k s
