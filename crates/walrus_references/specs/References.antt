@@ -138,20 +138,50 @@ abbrev pub IsInGroup : TypeTable → ℕ → Item → Type 0
 IsInGroup t id y = (group : Group) × HasMember t id group × (group.explicit ≡ true) × Contains (map (item spaces.Type) group.types) y
 
 -- ---- References
--- the live item of an id, if there is one, names the other
+-- what the item that is there names, if one is
+abbrev pub named_by : {A : Type 0} → (A → List Item) → Option A → List Item
+named_by items (Some x) = items x
+named_by items None = []
+
+-- the item that is there, if one is, names the other
 abbrev pub Named : {A : Type 0} → Option A → (A → Type 0) → Type 0
 Named o P = MatchOption o ⊥ P
 
+abbrev pub type_items : TypeItem → List Item
+type_items ty = map (item spaces.Type) (kind_names ty.kind)
+
+abbrev pub function_items : Function → List Item
+function_items f = item spaces.Type (type_of f.kind) ∷ []
+
+abbrev pub table_items : Table → List Item
+table_items t = items_of (ref_names t.element_ty) ++ init_items t.init
+
+abbrev pub global_items : Global → List Item
+global_items g = items_of (val_names g.ty) ++ value_items g.kind
+
+abbrev pub tag_items : Tag → List Item
+tag_items t = item spaces.Type t.ty ∷ []
+
+abbrev pub element_items : Element → List Item
+element_items e = place_items e.kind ++ held_items e.items
+
+abbrev pub local_items : Local → List Item
+local_items local = items_of (val_names local.ty)
+
+-- a type: its explicit group, the types of its form and its supertype; a function: its type, and what its body names; a table:
+-- its element type, its initialiser, its segments; a memory: its segments; a global: its type, its initialiser; a tag: its
+-- type; an element segment: its table and offset, its element type and items; a data segment: its memory and offset; a used
+-- local: its type
 abbrev pub RefersIn : Module → Space → ℕ → Item → Type 0
-RefersIn m spaces.Type id y = Named (written_type m.types id) (λ ty. IsInGroup m.types id y ⊎ Contains (map (item spaces.Type) (kind_names ty.kind)) y)
-RefersIn m spaces.Function id y = Named (item_at m.funcs id) (λ (f : Function). (y ≡ item spaces.Type (type_of f.kind)) ⊎ KindNames f.kind y)
-RefersIn m spaces.Table id y = Named (item_at m.tables id) (λ (t : Table). Contains (items_of (ref_names t.element_ty) ++ init_items t.init) y ⊎ HasElement m id t y)
-RefersIn m spaces.Memory id y = Named (item_at m.memories id) (λ (x : Memory). HasData m id x y)
-RefersIn m spaces.Global id y = Named (item_at m.globals id) (λ (g : Global). Contains (items_of (val_names g.ty) ++ value_items g.kind) y)
-RefersIn m spaces.Tag id y = Named (item_at m.tags id) (λ (t : Tag). y ≡ item spaces.Type t.ty)
-RefersIn m spaces.Element id y = Named (item_at m.elements id) (λ (e : Element). Contains (place_items e.kind ++ held_items e.items) y)
-RefersIn m spaces.Data id y = Named (item_at m.data_segments id) (λ (d : Data). Contains (data_items d.kind) y)
-RefersIn m spaces.Local id y = Named (slice_get m.locals id) (λ (local : Local). Contains (items_of (val_names local.ty)) y)
+RefersIn m spaces.Type id y = Contains (named_by type_items (written_type m.types id)) y ⊎ IsInGroup m.types id y
+RefersIn m spaces.Function id y = Contains (named_by function_items (item_at m.funcs id)) y ⊎ Named (item_at m.funcs id) (λ f. KindNames f.kind y)
+RefersIn m spaces.Table id y = Contains (named_by table_items (item_at m.tables id)) y ⊎ Named (item_at m.tables id) (λ t. HasElement m id t y)
+RefersIn m spaces.Memory id y = Named (item_at m.memories id) (λ x. HasData m id x y)
+RefersIn m spaces.Global id y = Contains (named_by global_items (item_at m.globals id)) y
+RefersIn m spaces.Tag id y = Contains (named_by tag_items (item_at m.tags id)) y
+RefersIn m spaces.Element id y = Contains (named_by element_items (item_at m.elements id)) y
+RefersIn m spaces.Data id y = Contains (named_by (λ d. data_items d.kind) (item_at m.data_segments id)) y
+RefersIn m spaces.Local id y = Contains (named_by local_items (slice_get m.locals id)) y
 RefersIn m spaces.Label id y = ⊥
 
 -- the one item names the other
