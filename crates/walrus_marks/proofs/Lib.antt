@@ -1,0 +1,5 @@
+pub mod FlagLemmas
+pub mod MarkLemmas
+pub mod MetLemmas
+pub mod ReachLemmas
+pub mod WalkLemmas

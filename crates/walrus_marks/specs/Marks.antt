@@ -1,0 +1,59 @@
+-- Sets of items, as flags by space and id.
+use Rattle.std.specs.Prelude.{ℕ, ◌<◌, nat_lt, Option, Some, None, Bool, true, false, not, List, [], ◌∷◌, ◌++◌, length, map, count_by, slice_index_or, slice_set, replicate, Vec, if◌then◌else◌}
+use Rattle.std.specs.Global.{Global}
+use Rattle.std.specs.List.{sum_by}
+use Rattle.walrus_roots.specs.declared.item.Item.{Item}
+use Rattle.walrus_roots.specs.Items.{space_number}
+
+-- the flags of an item's space
+abbrev pub flags_of : List (List Bool) → Item → List Bool
+flags_of marks i = slice_index_or marks (space_number i.space) []
+
+abbrev pub is_marked : List (List Bool) → Item → Bool
+is_marked marks i = slice_index_or (flags_of marks i) i.id false
+
+-- there is a flag for the item
+abbrev pub Fits : List (List Bool) → Item → Type 0
+Fits marks i = i.id < length (flags_of marks i)
+
+abbrev pub mark : List (List Bool) → Item → List (List Bool)
+mark marks i = slice_set marks (space_number i.space) (slice_set (flags_of marks i) i.id true)
+
+-- the marks of what was met, and of this what is still to be looked at
+pub record Met : Type 0 where
+  pub marks : List (List Bool)
+  pub work : List Item
+
+-- whether the item has a flag that isn't set
+abbrev pub is_new : List (List Bool) → Item → Bool
+is_new marks i = not (slice_index_or (flags_of marks i) i.id true)
+
+-- one more is met: a new one is marked, and is to be looked at
+abbrev pub meet_there : Met → Item → Met
+meet_there s i = if is_new s.marks i then record { marks = mark s.marks i; work = s.work ++ i ∷ [] } else s
+
+-- what was met, and the last item for which there was no flag
+pub record State : Type 0 where
+  pub met : Met
+  pub missing : Option Item
+
+abbrev pub has_flag : List (List Bool) → Item → Bool
+has_flag marks i = nat_lt i.id (length (flags_of marks i))
+
+abbrev pub meet : State → Item → State
+meet s i = record { met = meet_there s.met i; missing = if has_flag s.met.marks i then s.missing else Some i }
+
+-- so many are not marked
+abbrev pub left_in : List Bool → ℕ
+left_in flags = count_by not flags
+
+abbrev pub left_out : List (List Bool) → ℕ
+left_out marks = sum_by left_in marks
+
+-- vectors as lists
+abbrev pub lists_of : {A : Type 0} → List (Vec A Global) → List (List A)
+lists_of vs = map (λ v. v.items) vs
+
+-- nothing is met, and there are so many flags by space
+abbrev pub met_none : List ℕ → State
+met_none counts = record { met = record { marks = map (λ n. replicate n false) counts; work = [] }; missing = None }

@@ -1,0 +1,9 @@
+//! Marks of items, and what is reached from marked items.
+#![tactic(auto)]
+
+mod marks;
+mod sweep;
+mod visit;
+
+pub use marks::Marks;
+pub use sweep::{Names, reach};

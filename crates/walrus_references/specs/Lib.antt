@@ -1,0 +1,4 @@
+pub mod Kept
+pub mod References
+pub mod Refused
+pub mod Roots

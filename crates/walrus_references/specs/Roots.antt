@@ -1,0 +1,36 @@
+-- Roots: the items that are kept for themselves.
+use Rattle.std.specs.Prelude.{◌≡◌, ℕ, Some, IsSome, List, Contains}
+use Rattle.wasm_formats.specs.declared.fault.Space.TheVariants as spaces
+use Rattle.walrus_arena.specs.Arena.{item_at}
+use Rattle.walrus_instr.specs.declared.const_expr.ConstExpr.{ConstExpr}
+use Rattle.walrus_module_items.specs.declared.table.Table.{Table}
+use Rattle.walrus_module_items.specs.declared.data.Data.{Data}
+use Rattle.walrus_module_items.specs.declared.data.DataKind.TheVariants as datas
+use Rattle.walrus_module_items.specs.declared.element.Element.{Element}
+use Rattle.walrus_module_items.specs.declared.element.ElementKind.TheVariants as elements
+use Rattle.walrus_module_items.specs.declared.export.Export.{Export}
+use Rattle.walrus_module_items.specs.declared.export.ExportItem.{ExportItem}
+use Rattle.walrus_module_items.specs.declared.export.ExportItem.TheVariants as exported
+use Rattle.walrus_module.specs.declared.module.Module.{Module}
+use Rattle.walrus_roots.specs.declared.item.Item.{Item}
+use Rattle.walrus_roots.specs.Items.{item}
+
+-- the item that an export gives out
+abbrev pub given_out : ExportItem → Item
+given_out (exported.Function id) = item spaces.Function id
+given_out (exported.Table id) = item spaces.Table id
+given_out (exported.Memory id) = item spaces.Memory id
+given_out (exported.Global id) = item spaces.Global id
+given_out (exported.Tag id) = item spaces.Tag id
+
+-- what exports give out; the start function; active data segments; active element segments of imported tables; declared
+-- element segments; and what custom sections push
+pub data Root (m : Module) (pushed : List Item) : Item → Type 0 where
+  exports : (e : ℕ) (export : Export) → item_at m.exports e ≡ Some export → Root m pushed (given_out export.item)
+  starts : (f : ℕ) → m.start ≡ Some f → Root m pushed (item spaces.Function f)
+  is_active : (d memory : ℕ) (offset : ConstExpr) (segment : Data) → item_at m.data_segments d ≡ Some segment → segment.kind ≡ datas.Active memory offset
+      → Root m pushed (item spaces.Data d)
+  fills_import : (e t : ℕ) (offset : ConstExpr) (segment : Element) (table : Table) → item_at m.elements e ≡ Some segment → segment.kind ≡ elements.Active t offset
+      → item_at m.tables t ≡ Some table → IsSome table.import → Root m pushed (item spaces.Element e)
+  declares : (e : ℕ) (segment : Element) → item_at m.elements e ≡ Some segment → segment.kind ≡ elements.Declared → Root m pushed (item spaces.Element e)
+  is_pushed : (x : Item) → Contains pushed x → Root m pushed x

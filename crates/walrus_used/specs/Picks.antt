@@ -1,0 +1,38 @@
+-- What is met for each item of a collection.
+use Rattle.std.specs.Prelude.{ℕ, ◌<◌, Bool, false, List, [], ◌∷◌, Option, Some, None, is_some, MatchOption, if◌then◌else◌}
+use Rattle.wasm_formats.specs.declared.fault.Space.TheVariants as spaces
+use Rattle.walrus_arena.specs.Arena.{Arena, item_at}
+use Rattle.walrus_module_items.specs.declared.table.Table.{Table}
+use Rattle.walrus_module_items.specs.declared.data.DataKind.{DataKind}
+use Rattle.walrus_module_items.specs.declared.data.DataKind.TheVariants as datas
+use Rattle.walrus_module_items.specs.declared.element.ElementKind.{ElementKind}
+use Rattle.walrus_module_items.specs.declared.element.ElementKind.TheVariants as elements
+use Rattle.walrus_roots.specs.declared.item.Item.{Item}
+use Rattle.walrus_roots.specs.Items.{item}
+
+-- the item is one of a number below n
+abbrev pub Below : (ℕ → Item → Type 0) → ℕ → Item → Type 0
+Below P n x = (k : ℕ) × (k < n) × P k x
+
+-- the item is picked for the live item of the id
+abbrev pub IsPickedAt : {T : Type 0} → (ℕ → T → Item → Type 0) → Arena T → ℕ → Item → Type 0
+IsPickedAt picks a id x = MatchOption (item_at a id) ⊥ (λ t. picks id t x)
+
+-- the item is picked for some live item
+abbrev pub IsPicked : {T : Type 0} → (ℕ → T → Item → Type 0) → Arena T → Item → Type 0
+IsPicked picks a x = (id : ℕ) × IsPickedAt picks a id x
+
+-- an active data segment
+abbrev pub active_data : ℕ → DataKind → List Item
+active_data id (datas.Active _ _) = item spaces.Data id ∷ []
+active_data id datas.Passive = []
+
+abbrev pub is_imported : Option Table → Bool
+is_imported (Some table) = is_some table.import
+is_imported None = false
+
+-- a declared element segment, or an active one of an imported table
+abbrev pub rooted_element : Arena Table → ℕ → ElementKind → List Item
+rooted_element tables id elements.Passive = []
+rooted_element tables id elements.Declared = item spaces.Element id ∷ []
+rooted_element tables id (elements.Active t _) = if is_imported (item_at tables t) then item spaces.Element id ∷ [] else []

@@ -1,0 +1,7 @@
+//! What of a module is kept.
+#![tactic(auto)]
+
+
+mod bodies;
+mod names;
+
