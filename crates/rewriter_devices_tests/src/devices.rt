@@ -1,8 +1,11 @@
 // Values from outside: which bytes stand where a device fails at a given byte or call.
+ghost use Rattle.std.specs.Prelude.{◌≤◌, ◌^◌, length};
+
 use rewriter_devices::{
-    DeviceFailed, MemorySink, MemorySource, ReadFault, Sink, SinkFail, Source, StdSink, StdSource,
-    WriteFault, read_all, send, send_places,
+    MemorySink, MemorySource, ReadFault, Sink, SinkFail, Source, StdSink, StdSource, WriteFault,
+    read_all, send, send_places,
 };
+use std::alloc::Global;
 use std::io;
 use std::io::{ErrorKind, Read};
 use std::test::Fail;
@@ -13,15 +16,40 @@ const MODULE: [u8; 31] = [
     0x01, 0x00, 0x07, 0x05, 0x01, 0x01, 0x66, 0x00, 0x00, 0x0a, 0x04, 0x01, 0x02, 0x00, 0x0b,
 ];
 
+// What a source gives until it ends, none where it fails.
+fn given<S: Source>(alloc: Global, source: &mut S) -> Option<Vec<u8>> {
+    read_all(alloc, source).ok()
+}
+
+// How many bytes of four the next read gives, none where it fails.
+fn read_of<S: Source>(source: &mut S) -> Option<usize> {
+    let mut buffer = [0; 4];
+    source.read(&mut buffer).ok()
+}
+
+// How many bytes were written where the sending failed, none where it didn't.
+pub fn cut_at<S: Sink>(sink: &mut S, bytes: &[u8]) -> Option<u64> {
+    send(sink, bytes).err().map(|fault| fault.written)
+}
+
+pub fn stays_failed<S: Sink>(sink: &mut S) -> bool {
+    let is_refused = sink.write(b"").is_err();
+    let is_unflushed = sink.flush().is_err();
+    is_refused && is_unflushed
+}
+
+fn sink_of(alloc: Global, room: usize, fail: SinkFail) -> Result<MemorySink, Fail> {
+    Ok(MemorySink::new(alloc, room, fail)?)
+}
+
 #[test]
-fn reads_to_the_end(rt: HostRuntime) -> Result<(), Fail> {
-    let mut source = MemorySource::new(&MODULE, None);
-    let bytes = read_all(rt.alloc(), &mut source).map_err(|_| "not read")?;
-    assert_eq!(rt; bytes.as_slice(), MODULE.as_slice());
-    let mut empty = MemorySource::new(b"", None);
-    let none = read_all(rt.alloc(), &mut empty).map_err(|_| "not read")?;
-    assert!(rt; none.is_empty());
-    Ok(())
+fn reads_to_the_end(rt: HostRuntime) {
+    for len in [31, 0] {
+        let bytes = &MODULE[..len];
+        let mut source = MemorySource::new(bytes, None);
+        let read = given(rt.alloc(), &mut source);
+        assert!(rt; read.is_some_and(|read| read.as_slice() == bytes), "{len}");
+    }
 }
 
 #[test]
@@ -34,8 +62,7 @@ fn a_read_that_fails_is_told(rt: HostRuntime) {
             fails,
             "at {failing}"
         );
-        let mut buffer = [0; 4];
-        assert_eq!(rt; source.read(&mut buffer).is_err(), true, "after {failing}");
+        assert_eq!(rt; read_of(&mut source), None, "after {failing}");
     }
 }
 
@@ -43,12 +70,10 @@ fn a_read_that_fails_is_told(rt: HostRuntime) {
 fn a_write_that_fails_leaves_the_first_bytes(rt: HostRuntime) -> Result<(), Fail> {
     for count in 0..31u64 {
         for fail in [SinkFail::After(count), SinkFail::Zero(count)] {
-            let mut sink = MemorySink::new(rt.alloc(), 40, fail)?;
-            let answer = send(&mut sink, &MODULE);
-            assert_eq!(rt; answer, Err(WriteFault { written: count }), "{fail:?}");
-            assert_eq!(rt; sink.bytes(), &MODULE[..count as usize], "{fail:?}");
-            assert_eq!(rt; sink.write(b""), Err(DeviceFailed), "{fail:?}");
-            assert_eq!(rt; sink.flush(), Err(DeviceFailed), "{fail:?}");
+            let mut sink = sink_of(rt.alloc(), 40, fail)?;
+            assert_eq!(rt; cut_at(&mut sink, &MODULE), Some(count), "{count}");
+            assert!(rt; sink.bytes() == &MODULE[..count as usize], "{count}");
+            assert!(rt; stays_failed(&mut sink), "{count}");
         }
     }
     Ok(())
@@ -57,65 +82,83 @@ fn a_write_that_fails_leaves_the_first_bytes(rt: HostRuntime) -> Result<(), Fail
 #[test]
 fn a_flush_that_fails_comes_after_all_bytes(rt: HostRuntime) -> Result<(), Fail> {
     let fates = [
-        (SinkFail::Never, Ok(())),
-        (SinkFail::After(31), Ok(())),
-        (SinkFail::Flush, Err(WriteFault { written: 31 })),
+        (SinkFail::Never, None),
+        (SinkFail::After(31), None),
+        (SinkFail::Flush, Some(31)),
     ];
-    for (fail, want) in fates {
-        let mut sink = MemorySink::new(rt.alloc(), 31, fail)?;
-        assert_eq!(rt; send(&mut sink, &MODULE), want, "{fail:?}");
-        assert_eq!(rt; sink.bytes(), MODULE.as_slice(), "{fail:?}");
+    for (fail, cut) in fates {
+        let mut sink = sink_of(rt.alloc(), 31, fail)?;
+        assert_eq!(rt; cut_at(&mut sink, &MODULE), cut);
+        assert!(rt; sink.bytes() == MODULE.as_slice());
     }
     Ok(())
 }
 
+fn takes<S: Sink>(sink: &mut S, bytes: &[u8]) -> Option<usize> {
+    sink.write(bytes).ok()
+}
+
 #[test]
 fn a_write_past_the_room_fails(rt: HostRuntime) -> Result<(), Fail> {
-    let mut sink = MemorySink::new(rt.alloc(), 3, SinkFail::Never)?;
-    assert_eq!(rt; sink.write(b"ab"), Ok(2));
-    assert_eq!(rt; sink.write(b"cd"), Err(DeviceFailed));
-    assert_eq!(rt; sink.write(b"c"), Err(DeviceFailed));
-    assert_eq!(rt; sink.bytes(), b"ab".as_slice());
+    let mut sink = sink_of(rt.alloc(), 3, SinkFail::Never)?;
+    for (text, taken) in [("ab", Some(2)), ("cd", None), ("c", None)] {
+        assert_eq!(rt; takes(&mut sink, text.as_bytes()), taken, "{text}");
+    }
+    assert!(rt; sink.bytes() == b"ab".as_slice());
     Ok(())
 }
 
 #[test]
 fn places_are_lines(rt: HostRuntime) -> Result<(), Fail> {
     let fates = [
-        (SinkFail::Never, Ok(()), "4 3\n"),
-        (SinkFail::After(0), Err(WriteFault { written: 0 }), ""),
-        (SinkFail::After(1), Err(WriteFault { written: 1 }), "4"),
-        (SinkFail::After(2), Err(WriteFault { written: 2 }), "4 "),
-        (SinkFail::Zero(3), Err(WriteFault { written: 3 }), "4 3"),
-        (SinkFail::Flush, Err(WriteFault { written: 4 }), "4 3\n"),
+        (SinkFail::Never, None, "4 3\n"),
+        (SinkFail::After(0), Some(0), ""),
+        (SinkFail::After(1), Some(1), "4"),
+        (SinkFail::After(2), Some(2), "4 "),
+        (SinkFail::Zero(3), Some(3), "4 3"),
+        (SinkFail::Flush, Some(4), "4 3\n"),
     ];
-    for (fail, want, text) in fates {
-        let mut sink = MemorySink::new(rt.alloc(), 8, fail)?;
-        assert_eq!(rt; send_places(&mut sink, &[(4, 3)]), want, "{fail:?}");
-        assert_eq!(rt; sink.bytes(), text.as_bytes(), "{fail:?}");
+    let places = [(4, 3)];
+    for (fail, cut, text) in fates {
+        let mut sink = sink_of(rt.alloc(), 8, fail)?;
+        assert_eq!(rt; listing_cut_at(&mut sink, &places), cut, "{text}");
+        assert!(rt; sink.bytes() == text.as_bytes(), "{text}");
     }
     Ok(())
 }
 
-#[test]
-fn long_place_lists_are_written_in_parts(rt: HostRuntime) -> Result<(), Fail> {
-    let mut places = Vec::new(rt.alloc());
-    let mut text = String::new(rt.alloc());
+// As `cut_at`, of places.
+fn listing_cut_at<S: Sink>(sink: &mut S, places: &[(u32, u32)]) -> Option<u64>
+    requires { length places.now ≤ 2 ^ 32 }
+{
+    send_places(sink, places).err().map(|fault| fault.written)
+}
+
+// 3,000 places, and their lines.
+fn long_list(alloc: Global) -> Result<(Vec<(u32, u32)>, String), Fail> {
+    let mut places = Vec::new(alloc);
+    let mut text = String::new(alloc);
     for step in 0..3000u32 {
         let (old, new) = (step.wrapping_mul(1431655), u32::MAX - 2999 + step);
         places.push((old, new))?;
-        text.push_str(format!(in rt.alloc(); "{old} {new}\n")?.as_str())?;
+        text.push_str(format!(in alloc; "{old} {new}\n")?.as_str())?;
     }
+    Ok((places, text))
+}
+
+#[test]
+fn long_place_lists_are_written_in_parts(rt: HostRuntime) -> Result<(), Fail> {
+    let (places, text) = long_list(rt.alloc())?;
     assert_eq!(rt; places.len(), 3000);
-    let mut all = MemorySink::new(rt.alloc(), text.len(), SinkFail::Never)?;
-    assert!(rt; send_places(&mut all, &places).is_ok());
-    assert_eq!(rt; all.bytes(), text.as_bytes());
-    let mut cut = MemorySink::new(rt.alloc(), text.len(), SinkFail::Zero(40_000))?;
-    assert_eq!(rt;
-        send_places(&mut cut, &places),
-        Err(WriteFault { written: 40_000 })
-    );
-    assert!(rt; text.as_bytes().starts_with(cut.bytes()));
+    for (fail, cut) in [
+        (SinkFail::Never, None),
+        (SinkFail::Zero(40_000), Some(40_000)),
+    ] {
+        let mut sink = sink_of(rt.alloc(), text.len(), fail)?;
+        assert_eq!(rt; listing_cut_at(&mut sink, &places), cut);
+        assert!(rt; text.as_bytes().starts_with(sink.bytes()));
+        assert_eq!(rt; sink.bytes().len() == text.len(), cut.is_none());
+    }
     Ok(())
 }
 
@@ -138,20 +181,25 @@ impl Read for Stumbling {
 }
 
 #[test]
-fn devices_of_std(rt: HostRuntime) -> Result<(), Fail> {
+fn a_source_of_std_reads_all(rt: HostRuntime) {
     let mut source = StdSource::new(MODULE.as_slice());
-    let bytes = read_all(rt.alloc(), &mut source).map_err(|_| "not read")?;
-    assert_eq!(rt; bytes.as_slice(), MODULE.as_slice());
+    let read = given(rt.alloc(), &mut source);
+    assert!(rt; read.is_some_and(|read| read.as_slice() == MODULE.as_slice()));
+}
+
+#[test]
+fn a_sink_of_std_writes_all(rt: HostRuntime) {
     let mut out = Vec::new(rt.alloc());
     let mut sink = StdSink::new(&mut out);
-    assert!(rt; send(&mut sink, &MODULE).is_ok());
+    assert_eq!(rt; cut_at(&mut sink, &MODULE), None);
     drop(sink);
-    assert_eq!(rt; out.as_slice(), MODULE.as_slice());
+    assert!(rt; out.as_slice() == MODULE.as_slice());
+}
+
+#[test]
+fn a_source_of_std_stumbles(rt: HostRuntime) {
     let mut stumbling = StdSource::new(Stumbling(0));
-    let mut buffer = [0; 4];
-    assert_eq!(rt; stumbling.read(&mut buffer), Ok(1));
-    assert_eq!(rt; stumbling.read(&mut buffer), Ok(1));
-    assert_eq!(rt; stumbling.read(&mut buffer), Err(DeviceFailed));
-    assert_eq!(rt; stumbling.read(&mut buffer), Err(DeviceFailed));
-    Ok(())
+    for count in [Some(1), Some(1), None, None] {
+        assert_eq!(rt; read_of(&mut stumbling), count);
+    }
 }

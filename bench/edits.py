@@ -1,0 +1,59 @@
+#!/usr/bin/env python3
+"""Prints what each wrong body of a crate costs to be refused, in seconds of the processor, and what refuses it.
+
+    bench/edits.py CRATE [WORD..]
+
+Only edits whose names hold a WORD are tried, where words are given. The crate has to be proved (`rt check` in its folder): each edit is
+tried over a copy of what that check kept, so the seconds are those of an edit behind the first, without the whole proof that `rt ci`
+makes once. A line without an edit comes first: what a check costs of which nothing changed.
+"""
+import importlib.machinery
+import importlib.util
+import os
+import re
+import shutil
+import subprocess
+import sys
+import tempfile
+
+ROOT = os.path.dirname(os.path.dirname(os.path.abspath(__file__)))
+RT = os.path.realpath(shutil.which("rt"))
+sys.path.insert(0, os.path.dirname(RT))
+import rtlib  # noqa: E402
+
+loader = importlib.machinery.SourceFileLoader("rt", RT)
+rt = importlib.util.module_from_spec(importlib.util.spec_from_loader("rt", loader))
+loader.exec_module(rt)
+
+
+def used():
+    times = os.times()
+    return times.children_user + times.children_system
+
+
+def main():
+    if len(sys.argv) < 2:
+        sys.exit(__doc__)
+    os.chdir(ROOT)
+    crate = next((it for it in rtlib.crates_below(ROOT) if it.name == sys.argv[1]), None)
+    if not crate:
+        sys.exit(f"there is no crate {sys.argv[1]}")
+    edits = [it for it in rt.edits_of(crate)[0] if not sys.argv[2:] or any(word in os.path.basename(it) for word in sys.argv[2:])]
+    with tempfile.TemporaryDirectory(prefix="edits-", dir=f"{crate.folder}/out") as kept:
+        for edit in [None, *edits]:
+            texts, why = rt.read_edit(edit, crate.folder) if edit else ({}, None)
+            if why:
+                print(f"{os.path.basename(edit)}: {why}")
+                continue
+            shutil.rmtree(kept)
+            subprocess.run(["cp", "-al", f"{crate.folder}/out/incremental", kept], check=True)
+            began = used()
+            ran = rt.checked(crate, texts, ["--jobs", "1"], kept)
+            seconds = used() - began
+            lines = [it for it in ran.stdout.split("\n") if re.match(r"\S+:\d+:\d+:.*error", it)]
+            said = "proved" if not ran.returncode else lines[0][:150] if lines else ran.stdout.strip()[-150:]
+            print(f"{seconds:7.1f} {os.path.basename(edit) if edit else 'no edit'}: {said}", flush=True)
+
+
+if __name__ == "__main__":
+    main()
