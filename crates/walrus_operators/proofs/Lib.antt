@@ -1,1 +1,2 @@
+mod Handlers
 mod Moves

@@ -5,6 +5,7 @@ use std::alloc::Global;
 use std::process::Abort;
 use std::test::Fail;
 use walrus_arena::Id;
+use walrus_instr::Instr;
 use walrus_operators::{Immediates, Operator};
 use walrus_pairing::{PairError, instr_of, operator_of};
 use wasm_immediates::MemoryAccess;
@@ -13,7 +14,7 @@ use wasm_reader::{Ieee32, Ieee64};
 use wasm_ref_types::{HeapType, ValType};
 
 // The immediates of a row.
-#[derive(Clone, Copy)]
+#[derive(Clone, Copy, PartialEq)]
 enum Form {
     Function,
     Type,
@@ -86,23 +87,30 @@ fn immediates(form: Form) -> Immediates {
     }
 }
 
-fn has_them(form: Form, found: &Immediates) -> bool {
-    match (form, found) {
-        (Form::Local, Immediates::Local(1)) => true,
-        (Form::Memory, Immediates::Memory(0)) => true,
-        (Form::Data, Immediates::Data(1)) => true,
-        (Form::DataMemory, Immediates::DataMemory(1, 0)) => true,
-        (Form::Heap, Immediates::Heap(ty)) => *ty == HeapType::EXTERN,
-        (Form::Access, Immediates::Access(found)) => *found == access(),
-        (Form::AccessLane, Immediates::AccessLane(found, 255)) => *found == access(),
-        (Form::Lane, Immediates::Lane(255)) => true,
-        (Form::I32, Immediates::I32(-2147483648)) => true,
-        (Form::I64, Immediates::I64(-9223372036854775808)) => true,
-        (Form::F32, Immediates::F32(bits)) => bits.0 == 4294967295,
-        (Form::F64, Immediates::F64(bits)) => bits.0 == 18446744073709551615,
-        (Form::Vector, Immediates::Vector(bytes)) => bytes[1] == 1 && bytes[15] == 255,
-        (Form::Zero, Immediates::Zero) => true,
-        _ => false,
+fn given(is: bool, form: Form) -> Option<Form> {
+    if is { Some(form) } else { None }
+}
+
+// The row that has these immediates.
+fn form_of(found: &Immediates) -> Option<Form> {
+    match found {
+        Immediates::Local(n) => given(*n == 1, Form::Local),
+        Immediates::Memory(n) => given(*n == 0, Form::Memory),
+        Immediates::Data(n) => given(*n == 1, Form::Data),
+        Immediates::DataMemory(m, n) => given(*m == 1 && *n == 0, Form::DataMemory),
+        Immediates::Heap(ty) => given(*ty == HeapType::EXTERN, Form::Heap),
+        Immediates::Access(found) => given(*found == access(), Form::Access),
+        Immediates::AccessLane(found, lane) => {
+            given(*found == access() && *lane == 255, Form::AccessLane)
+        }
+        Immediates::Lane(lane) => given(*lane == 255, Form::Lane),
+        Immediates::I32(n) => given(*n == -2147483648, Form::I32),
+        Immediates::I64(n) => given(*n == -9223372036854775808, Form::I64),
+        Immediates::F32(bits) => given(bits.0 == 4294967295, Form::F32),
+        Immediates::F64(bits) => given(bits.0 == 18446744073709551615, Form::F64),
+        Immediates::Vector(bytes) => given(bytes[1] == 1 && bytes[15] == 255, Form::Vector),
+        Immediates::Zero => Some(Form::Zero),
+        _ => None,
     }
 }
 
@@ -130,7 +138,7 @@ fn comes_back(alloc: Global, code: OpCode, form: Form) -> Result<bool, PairError
     let Some(back) = operator_of(alloc, &instr, Id::from_index(7), &numbers)? else {
         return Ok(false);
     };
-    Ok(back.code == code && has_them(form, &back.immediates))
+    Ok(back.code == code && form_of(&back.immediates) == Some(form))
 }
 
 #[test]
@@ -166,13 +174,11 @@ fn operators_with_immediates(rt: HostRuntime) -> Result<(), Fail> {
 }
 
 #[test]
-fn operators_with_names(rt: HostRuntime) -> Result<(), Fail> {
+fn operators_with_a_name(rt: HostRuntime) -> Result<(), Fail> {
     for (prefix, first, last, form) in [
         (0, 0x08, 0x08, Form::Tag),
         (0, 0x10, 0x10, Form::Function),
-        (0, 0x11, 0x11, Form::TypeTable),
         (0, 0x12, 0x12, Form::Function),
-        (0, 0x13, 0x13, Form::TypeTable),
         (0, 0x14, 0x15, Form::Type),
         (0, 0x23, 0x24, Form::Global),
         (0, 0x25, 0x26, Form::Table),
@@ -181,23 +187,67 @@ fn operators_with_names(rt: HostRuntime) -> Result<(), Fail> {
         (0xfb, 2, 5, Form::TypeNumber),
         (0xfb, 6, 7, Form::Type),
         (0xfb, 8, 8, Form::TypeNumber),
-        (0xfb, 9, 9, Form::TypeData),
-        (0xfb, 10, 10, Form::TypeElement),
         (0xfb, 11, 14, Form::Type),
         (0xfb, 16, 16, Form::Type),
-        (0xfb, 17, 17, Form::TypeType),
-        (0xfb, 18, 18, Form::TypeData),
-        (0xfb, 19, 19, Form::TypeElement),
-        (0xfc, 10, 10, Form::MemoryMemory),
-        (0xfc, 12, 12, Form::ElementTable),
         (0xfc, 13, 13, Form::Element),
-        (0xfc, 14, 14, Form::TableTable),
         (0xfc, 15, 17, Form::Table),
     ] {
         for number in first..=last {
             let read = is_read(rt.alloc(), OpCode { prefix, number }, form);
             assert!(rt; read == Ok(true));
         }
+    }
+    Ok(())
+}
+
+// The ids of two fields, in the order in which the operator has their indices.
+fn fields(instr: &Instr) -> Option<(u32, u32)> {
+    match instr {
+        Instr::CallIndirect { ty, table } => Some((ty.number(), table.number())),
+        Instr::ReturnCallIndirect { ty, table } => Some((ty.number(), table.number())),
+        Instr::MemoryInit { memory, data } => Some((data.number(), memory.number())),
+        Instr::MemoryCopy { src, dst } => Some((dst.number(), src.number())),
+        Instr::TableInit { table, elem } => Some((elem.number(), table.number())),
+        Instr::TableCopy { src, dst } => Some((dst.number(), src.number())),
+        Instr::ArrayNewData { ty, data } => Some((ty.number(), data.number())),
+        Instr::ArrayNewElem { ty, elem } => Some((ty.number(), elem.number())),
+        Instr::ArrayCopy { src, dst } => Some((dst.number(), src.number())),
+        Instr::ArrayInitData { ty, data } => Some((ty.number(), data.number())),
+        Instr::ArrayInitElem { ty, elem } => Some((ty.number(), elem.number())),
+        _ => None,
+    }
+}
+
+fn fields_of(alloc: Global, code: OpCode, form: Form) -> Result<Option<(u32, u32)>, PairError> {
+    let op = Operator {
+        code,
+        immediates: immediates(form),
+    };
+    let instr = instr_of(&op, Id::from_index(7), &ids(alloc)?)?;
+    match &instr {
+        Some(instr) => Ok(fields(instr)),
+        None => Ok(None),
+    }
+}
+
+#[test]
+fn names_stand_in_their_fields(rt: HostRuntime) -> Result<(), Fail> {
+    // The first index is 1, which is the id 4, or 0, which is the id 7.
+    for (prefix, number, form, first, second) in [
+        (0, 0x11, Form::TypeTable, 4, 7),
+        (0, 0x13, Form::TypeTable, 4, 7),
+        (0xfb, 9, Form::TypeData, 4, 7),
+        (0xfb, 10, Form::TypeElement, 4, 7),
+        (0xfb, 17, Form::TypeType, 4, 7),
+        (0xfb, 18, Form::TypeData, 4, 7),
+        (0xfb, 19, Form::TypeElement, 4, 7),
+        (0xfc, 8, Form::DataMemory, 4, 7),
+        (0xfc, 10, Form::MemoryMemory, 7, 4),
+        (0xfc, 12, Form::ElementTable, 4, 7),
+        (0xfc, 14, Form::TableTable, 7, 4),
+    ] {
+        let found = fields_of(rt.alloc(), OpCode { prefix, number }, form);
+        assert!(rt; found == Ok(Some((first, second))));
     }
     Ok(())
 }

@@ -6,19 +6,34 @@ use std::test::Fail;
 use walrus_arena::Id;
 use walrus_index_maps::{IdsToIndices, IndicesToIds, Space, UnknownIndex};
 
+fn push_first(ids: &mut IndicesToIds, id: u32) -> Result<(), AllocError> {
+    ids.push_type(Id::from_index(id as usize))?;
+    ids.push_func(Id::from_index(id as usize))?;
+    ids.push_table(Id::from_index(id as usize))?;
+    Ok(())
+}
+
+fn push_second(ids: &mut IndicesToIds, id: u32) -> Result<(), AllocError> {
+    ids.push_memory(Id::from_index(id as usize))?;
+    ids.push_tag(Id::from_index(id as usize))?;
+    ids.push_global(Id::from_index(id as usize))?;
+    Ok(())
+}
+
+fn push_third(ids: &mut IndicesToIds, id: u32) -> Result<(), AllocError> {
+    ids.push_element(Id::from_index(id as usize))?;
+    ids.push_data(Id::from_index(id as usize))?;
+    ids.push_local(Id::from_index(7), Id::from_index(id as usize))?;
+    Ok(())
+}
+
 // Indices 0 and 1 of each space, and of the locals of function 7, name the ids 7 and 4.
 pub(crate) fn ids(alloc: Global) -> Result<IndicesToIds, AllocError> {
     let mut ids = IndicesToIds::new(alloc);
     for id in [7, 4] {
-        ids.push_type(Id::from_index(id))?;
-        ids.push_func(Id::from_index(id))?;
-        ids.push_table(Id::from_index(id))?;
-        ids.push_memory(Id::from_index(id))?;
-        ids.push_tag(Id::from_index(id))?;
-        ids.push_global(Id::from_index(id))?;
-        ids.push_element(Id::from_index(id))?;
-        ids.push_data(Id::from_index(id))?;
-        ids.push_local(Id::from_index(7), Id::from_index(id))?;
+        push_first(&mut ids, id)?;
+        push_second(&mut ids, id)?;
+        push_third(&mut ids, id)?;
     }
     Ok(ids)
 }
