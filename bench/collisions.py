@@ -1,14 +1,17 @@
 #!/usr/bin/env python3
 """Times the program on exports whose names are bad for a table of names, and prints the time of each doubling.
 
-    bench/collisions.py [--rounds N] [--most N]
+    bench/collisions.py [--rounds N] [--most N] [--instructions]
 
 The names of one row all collide under the hasher of the kit's hash tables, whose seed is fixed; those of the next
 differ in their last bytes alone, behind a long prefix that all have; those of the last are plain. A time is the
-least of the rounds, from the start of the program to its end. Wanted is a factor of at most 2.3 a doubling.
+least of the rounds, from the start of the program to its end. Wanted is a factor of at most 2.3 a doubling. The sizes
+take turns, so that what else the machine does meets all of them alike. With --instructions those of the processor are
+counted by valgrind, which no other work and no cache disturbs, in place of the time.
 """
 import argparse
 import os
+import re
 import resource
 import subprocess
 import sys
@@ -54,23 +57,41 @@ def seconds(words):
     return after.ru_utime + after.ru_stime - before.ru_utime - before.ru_stime
 
 
+def instructions(words):
+    """The instructions of the processor that a program took, in millions."""
+    with tempfile.NamedTemporaryFile(suffix=".count") as file:
+        tool = ["valgrind", "--tool=callgrind", f"--callgrind-out-file={file.name}", *words]
+        said = subprocess.run(tool, capture_output=True, text=True, check=True).stderr
+    return int(re.search(r"Collected : (\d+)", said)[1]) / 1e6
+
+
 def main():
     words = argparse.ArgumentParser(description="Times exports whose names are bad for a table of names.")
     words.add_argument("--rounds", type=int, default=5)
     words.add_argument("--most", type=int, default=640_000, help="the most names of a module")
+    words.add_argument("--least", type=int, default=20_000, help="the least names of a module, doubled up to the most")
+    words.add_argument("--instructions", action="store_true", help="count instructions in place of the time")
     asked = words.parse_args()
+    cost, unit, rounds = (instructions, "million instructions", 1) if asked.instructions else (seconds, "s", asked.rounds)
     subprocess.run([f"{ROOT}/bin/wasm_rewriter", "--help"], check=True, stdout=subprocess.DEVNULL)
+    sizes = [asked.least]
+    while 2 * sizes[-1] <= asked.most:
+        sizes.append(2 * sizes[-1])
     with tempfile.TemporaryDirectory() as folder:
-        source, target = f"{folder}/in.wasm", f"{folder}/out.wasm"
         for kind, name in KINDS.items():
-            count, last = 10_000, None
-            while count <= asked.most:
-                with open(source, "wb") as file:
+            for count in sizes:
+                with open(f"{folder}/{count}.wasm", "wb") as file:
                     file.write(module([name(number) for number in range(count)]))
-                took = min(seconds([PROGRAM, source, target]) for _ in range(asked.rounds))
-                factor = "" if last is None else f", {took / last:.2f} times"
-                print(f"{count:,} {kind}: {took:.3f} s{factor}", flush=True)
-                count, last = 2 * count, took
+            took = {count: [] for count in sizes}
+            for _ in range(rounds):
+                for count in sizes:
+                    took[count].append(cost([PROGRAM, f"{folder}/{count}.wasm", f"{folder}/out.wasm"]))
+            last = None
+            for count in sizes:
+                best = min(took[count])
+                factor = "" if last is None else f", {best / last:.2f} times"
+                print(f"{count:,} {kind}: {best:.3f} {unit}{factor}", flush=True)
+                last = best
 
 
 if __name__ == "__main__":
