@@ -1,0 +1,37 @@
+//! WebAssembly modules as a program edits them: a module's collections of items under ids, its flags and refusals.
+#![tactic(auto)]
+
+pub use walrus_collections::{
+    Collection, ExportOf, ImportOf, Items, LocalFunctions, ModuleData, ModuleElements,
+    ModuleExports, ModuleFunctions, ModuleGlobals, ModuleImports, ModuleMemories, ModuleTables,
+    ModuleTags, Test,
+};
+pub use walrus_config::ModuleConfig;
+pub use walrus_customs::{
+    ModuleCustomSections, ModuleProducers, ProducerField, ProducerValue, RawCustomSection,
+};
+pub use walrus_errors::{ErrorKind, Form, Limited, ModuleError, Result, Space};
+pub use walrus_local_function::LocalFunction;
+pub use walrus_module::Module;
+pub use walrus_module_items::{
+    Data, DataKind, Element, ElementItems, ElementKind, Export, ExportItem, FuncParams,
+    FuncResults, Function, FunctionKind, Global, GlobalKind, Import, ImportKind, ImportedFunction,
+    Memory, Table, Tag, TagKind,
+};
+
+/// Laws of the words that contracts cite.
+pub mod laws {
+    /// What the iterators of collections give, when imports are equal, and that calls keep the items' own ids.
+    pub use walrus_collection_laws as collections;
+
+    /// When a module is linked, and what edits keep of that.
+    pub mod linked {
+        pub use walrus_linked::{empty_is_linked, imports_keep_linked, own_ids_are_kept};
+        pub use walrus_linked_edits::{
+            adds_keep_linked, deleted_exports_keep_linked, replaces_keep_linked,
+        };
+    }
+
+    /// What a module means.
+    pub use walrus_meaning as meaning;
+}
