@@ -1,8 +1,7 @@
 -- Lemmas: constant expressions of a module that is read name what is known at their point of the file.
-use Rattle.std.specs.Prelude.{ℕ, ◌+◌, ◌<◌, ◌≤◌, ◌≡◌, Bool, true, List, [], ◌∷◌, ◌++◌, length, Option, Some, None, slice_index_or, refl}
-use Rattle.std.specs.List.{flat_map}
-use Rattle.std.proofs.Common.{ap, sym, ◌∙◌, subst, arith, inl, inr}
-use Rattle.std.proofs.lemmas.List.{append-nil, length-append, get_or_append_left}
+use Rattle.std.specs.Prelude.{ℕ, ◌+◌, ◌≤◌, ◌≡◌, Bool, true, List, [], ◌∷◌, ◌++◌, length, Option, Some, None, refl}
+use Rattle.std.proofs.Common.{ap, sym, subst, arith, inl, inr}
+use Rattle.std.proofs.lemmas.List.{append-nil, get_or_append_left}
 use Rattle.wasm_features.specs.declared.WasmFeatures.{WasmFeatures}
 use Rattle.walrus_forms.specs.declared.value.RefType.{RefType}
 use Rattle.wasm_operators.specs.declared.op_code.OpCode.{OpCode}
@@ -12,16 +11,16 @@ use Rattle.wasm_formats.specs.Joined.{after}
 use Rattle.wasm_formats.specs.Lists.{SpellsEntries, EntryRules}
 use Rattle.wasm_formats.specs.Until.{SpellsUntil, UntilRules}
 use Rattle.wasm_formats.specs.Led.{led}
-use Rattle.wasm_grammar.specs.Modules.{Expr, Own, Imported, Function, Table, Memory, Tag, Global, Mode, Passive, Declared, Active, Functions, Expressions, Element, Segment, Module, empty}
+use Rattle.wasm_grammar.specs.Modules.{Expr, Own, Imported, Function, Table, Memory, Global, Mode, Passive, Declared, Active, Element, Segment, Module, empty}
 use Rattle.wasm_grammar.specs.Exprs.{Known, is_constant, operator, end_apart, takes_some, read_wants, some_operators, expr, offset_test, offset}
-use Rattle.wasm_grammar.specs.States.{State, types_of, type_count, known}
+use Rattle.wasm_grammar.specs.States.{State, types_of, known}
 use Rattle.wasm_sections.specs.TypeSection.{GroupEntry, add_group}
-use Rattle.wasm_sections.specs.Entities.{GlobalType, global_type, Entity, FunctionOf, TableOf, MemoryOf, GlobalOf, TagOf, ImportEntry, add_entity, add_import, import_of, with_import, table_of, memory_of, global_of, with_function, with_table, with_memory, with_global, no_body, table_type, table_apart, table_some, table_wants, initialised, TableEntry, table_entry, add_table, GlobalEntry, global_entry, add_global}
+use Rattle.wasm_sections.specs.Entities.{global_type, Entity, FunctionOf, TableOf, MemoryOf, GlobalOf, TagOf, add_entity, import_of, with_import, table_of, memory_of, global_of, with_function, with_table, with_memory, with_global, no_body, table_type, table_apart, table_some, table_wants, initialised, TableEntry, table_entry, add_table, GlobalEntry, global_entry, add_global}
 use Rattle.wasm_sections.specs.Segments.{wide_table, wide_memory, into_table, into_memory, named_table, named_memory, pass, functions, expressions, kind_of_functions, typed, contents, ElementForm, ActiveFunctions, PassiveFunctions, FunctionsInto, DeclaredFunctions, ActiveExpressions, PassiveExpressions, ExpressionsInto, DeclaredExpressions, once_0, once_2, once_4, once_5, once_6, once_7, element_flags, element_form, ElementEntry, element_entry, add_element, element_of, DataForm, ActiveData, PassiveData, DataInto, data_once_0, data_once_2, data_flags, data_form, DataEntry, data_entry, add_data, segment_of}
 use Rattle.wasm_module_rules.specs.Linked.{Each, GoesInto}
 use Rattle.wasm_module_rules.specs.Keeps.{each_push, each_later, goes_later, one_more, must_holds, room_rules}
 use Rattle.wasm_module_rules.specs.Reading.{element_number, data_number, element_flag, data_flag, element_go, data_go}
-use Rattle.wasm_ruled_modules.specs.Rules.{AreKnown, IsExpr, AreExprs, IsInit, knows, GlobalsSee, IsPlaced, table_wide, memory_wide, ItemsKnown, AreExpressed, own_init}
+use Rattle.wasm_ruled_modules.specs.Rules.{AreKnown, IsExpr, AreExprs, IsInit, knows, IsPlaced, table_wide, memory_wide, ItemsKnown, AreExpressed, own_init}
 use Rattle.wasm_ruled_modules.specs.Keeping.{EntriesKeep}
 use Rattle.wasm_ruled_modules.specs.Counted.{types_more}
 use Rattle.wasm_ruled_modules.specs.Named.{room_spells}
@@ -36,8 +35,7 @@ known_is features k (op ∷ ops) bytes h r =
     let told = h.3 in
     let parts = told.2 in
     let first = parts.3 in
-    let tests = r.0 in
-    (
+    let tests = r.0 in (
       subst (λ (code : OpCode). is_constant code ≡ true) (ap (λ (s : Seen). s.code) told.1) (must_holds (is_constant told.0.0) ConstExpr first.1),
       tests.1,
       known_is features k ops h.1 h.4 r.1,
