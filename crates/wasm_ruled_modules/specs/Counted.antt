@@ -122,7 +122,7 @@ export_step s x e h =
 
 pub counts_kept : (features : WasmFeatures) → EntriesKeep features IsCounted
 counts_kept features = record {
-  customs = λ s x h. record { types = h.types; imports = h.imports; functions = h.functions; tables = h.tables; memories = h.memories; tags = h.tags; globals = h.globals; exports = h.exports; elements = h.elements; segments = h.segments };
+  customs = λ _ s x h. record { types = h.types; imports = h.imports; functions = h.functions; tables = h.tables; memories = h.memories; tags = h.tags; globals = h.globals; exports = h.exports; elements = h.elements; segments = h.segments };
   groups = λ s bytes x _ r h. group_counted s x r.1 h;
   imports = λ s bytes x _ r h. import_step s x r.1 h;
   functions = λ s bytes x _ r h. function_counted s (record { ty = x; origin = Own no_body }) (ltb-true _ _ (must_holds _ _ r.1)) h;

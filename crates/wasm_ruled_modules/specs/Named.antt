@@ -148,7 +148,7 @@ memory_named s x r p =
 
 pub names_kept : (features : WasmFeatures) → EntriesKeep features AreNamed
 names_kept features = record {
-  customs = λ s x h. record { tables = h.tables; globals = h.globals; elements = h.elements; pages = h.pages };
+  customs = λ _ s x h. record { tables = h.tables; globals = h.globals; elements = h.elements; pages = h.pages };
   groups = λ s bytes x _ r h. group_named s x h;
   imports = import_named features;
   functions = λ s bytes x _ r h. record { tables = h.tables; globals = h.globals; elements = h.elements; pages = h.pages };

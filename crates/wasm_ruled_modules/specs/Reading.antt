@@ -1,5 +1,5 @@
 -- Lemmas: modules that are read meet the rules.
-use Rattle.std.specs.Prelude.{ℕ, ◌≤◌, ◌≡◌, List, [], ◌∷◌, ◌++◌, length, map, Option, Some, refl}
+use Rattle.std.specs.Prelude.{ℕ, ◌≤◌, ◌≡◌, List, [], ◌∷◌, ◌++◌, length, map, filter, Option, Some, refl}
 use Rattle.std.specs.List.{filter_map}
 use Rattle.std.specs.Option.{is_some}
 use Rattle.std.proofs.Common.{ap, sym, ◌∙◌, subst, arith, inl, inr}
@@ -13,15 +13,15 @@ use Rattle.wasm_body_grammar.specs.Rules.{Around}
 use Rattle.wasm_modules.specs.Modules.{same_of, around, chunks_of, codes, module_of}
 use Rattle.wasm_module_rules.specs.Linked.{Each}
 use Rattle.wasm_module_rules.specs.Reading.{read_modules_are_linked, bodies_length}
-use Rattle.wasm_ruled_modules.specs.Rules.{IsCounted, GroupsBelow, AreNamed, knows, table_wide, memory_wide, AreExpressed, bare_slot, around_bodies, HasBody, ReadModulesAreRuled}
-use Rattle.wasm_ruled_modules.specs.Keeping.{EntriesKeep, file_kept}
+use Rattle.wasm_ruled_modules.specs.Rules.{IsCounted, GroupsBelow, AreNamed, knows, is_imported, knows_imported, table_wide, memory_wide, AreExpressed, bare_slot, around_bodies, HasBody, ReadModulesAreRuled}
+use Rattle.wasm_ruled_modules.specs.Keeping.{EntriesKeep, file_kept_at, file_kept}
 use Rattle.wasm_ruled_modules.specs.Counted.{counts_kept, none_counted}
 use Rattle.wasm_ruled_modules.specs.Grouped.{group_below}
 use Rattle.wasm_ruled_modules.specs.Named.{names_kept, none_named}
 use Rattle.wasm_ruled_modules.specs.More.{Grows, tables_more, offsets_more, segments_more, lists_more, globals_more}
 use Rattle.wasm_ruled_modules.specs.Bodied.{bodies_are, bare_same}
 use Rattle.wasm_ruled_modules.specs.Codes.{bodies_match}
-use Rattle.wasm_ruled_modules.specs.Expressed.{Stands, expressions_kept, none_stands}
+use Rattle.wasm_ruled_modules.specs.Expressed.{Stands, stands_later, expressions_kept, none_stands}
 
 import_keeps : (s : State) (e : Entity) (x : ImportEntry) → GroupsBelow 0 s.filled.groups → GroupsBelow 0 (add_entity (with_import s (import_of s x)) (length s.filled.imports) e).filled.groups
 import_keeps s (FunctionOf ty) x h = h
@@ -36,7 +36,7 @@ table_keeps s (inr ty) h = h
 
 groups_kept : (features : WasmFeatures) → EntriesKeep features (λ m. GroupsBelow 0 m.groups)
 groups_kept features = record {
-  customs = λ s x h. h;
+  customs = λ _ s x h. h;
   groups = λ s bytes x _ r h. group_below s x r.1 h;
   imports = λ s bytes x _ r h. import_keeps s x.1.1.1 x h;
   functions = λ s bytes x _ r h. h;
@@ -68,8 +68,9 @@ expressed_with : (s : State) (bodies : List Body) → AreExpressed s.filled → 
 expressed_with s bodies e =
     let m = module_of s bodies in
     let le : length s.filled.functions ≤ length (with_bodies s.filled.functions bodies) = omega (arith, bodies_length s.filled.functions bodies) in
+    let t : Grows (knows_imported s.filled) (knows_imported m) = record { types = omega arith; functions = le; more = []; globals = sym (append-nil (filter is_imported s.filled.globals)) } in
     let g : Grows (knows s.filled) (knows m) = record { types = omega arith; functions = le; more = []; globals = sym (append-nil s.filled.globals) } in record {
-      tables = tables_more (knows s.filled) (knows m) g s.filled.tables e.tables;
+      tables = tables_more (knows_imported s.filled) (knows_imported m) t s.filled.tables e.tables;
       globals = globals_more (length (types_of s.filled)) (length s.filled.functions) (length (types_of s.filled)) (length (with_bodies s.filled.functions bodies)) (omega arith) le [] s.filled.globals e.globals;
       offsets = offsets_more (table_wide s.filled.tables) (knows s.filled) (knows m) g s.filled.elements e.offsets;
       items = lists_more (knows s.filled) (knows m) g s.filled.elements e.items;
@@ -92,7 +93,7 @@ table_bare s (inr ty) h = h
 -- until the bodies are read no function has one
 bare_kept : (features : WasmFeatures) → EntriesKeep features (λ m. map bare_slot m.functions ≡ m.functions)
 bare_kept features = record {
-  customs = λ s x h. h;
+  customs = λ _ s x h. h;
   groups = λ s bytes x _ r h. h;
   imports = λ s bytes x _ r h. import_bare (with_import s (import_of s x)) (length s.filled.imports) x.1.1.1 h;
   functions = λ s bytes x _ r h.
@@ -129,7 +130,7 @@ read_modules_are_ruled features bytes m h =
     let counted = file_kept features IsCounted (counts_kept features) none_counted bytes reads.0 reads.1.0 reads.1.1 in
     let groups = file_kept features (λ m. GroupsBelow 0 m.groups) (groups_kept features) tt bytes reads.0 reads.1.0 reads.1.1 in
     let named = file_kept features AreNamed (names_kept features) none_named bytes reads.0 reads.1.0 reads.1.1 in
-    let stands = file_kept features Stands (expressions_kept features) none_stands bytes reads.0 reads.1.0 reads.1.1 in
+    let stands = file_kept_at features Stands stands_later (expressions_kept features) none_stands bytes reads.0 reads.1.0 reads.1.1 in
     let bare = file_kept features (λ m. map bare_slot m.functions ≡ m.functions) (bare_kept features) refl bytes reads.0 reads.1.0 reads.1.1 in
     let matched = bodies_match features bytes reads.0 reads.1.0 reads.1.1 in
     let bare_there = subst (λ (s : State). map bare_slot s.filled.functions ≡ s.filled.functions) reads.2 bare in
@@ -141,7 +142,7 @@ read_modules_are_ruled features bytes m h =
         lists = subst IsCounted h.1.4 (counted_with s xs (subst (λ (s : State). IsCounted s.filled) reads.2 counted));
         groups = subst (λ (m : Module). GroupsBelow 0 m.groups) h.1.4 (subst (λ (s : State). GroupsBelow 0 s.filled.groups) reads.2 groups);
         named = subst AreNamed h.1.4 (record { tables = named.tables; globals = named.globals; elements = named.elements; pages = named.pages });
-        expressed = subst AreExpressed h.1.4 (expressed_with s xs (subst (λ (s : State). AreExpressed s.filled) reads.2 stands.1));
+        expressed = subst AreExpressed h.1.4 (expressed_with s xs (subst (λ (s : State). AreExpressed s.filled) reads.2 stands.0.1));
         bodies = subst (λ (m : Module). Each (λ (f : Function). HasBody (around_bodies features (is_some s.data_count) m) f) m.functions) h.1.4 (bodied_with features s xs bare_there matched_there h.1.3);
       },
     )

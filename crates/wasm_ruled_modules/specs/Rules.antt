@@ -1,5 +1,6 @@
 -- What is asked of a module beyond its bytes, field by field (Core Specification, valid modules; implementation limitations).
-use Rattle.std.specs.Prelude.{ℕ, ◌+◌, ◌≤◌, ◌≡◌, ◌⊎◌, Bool, true, false, List, [], ◌∷◌, ◌++◌, length, map, Option, Some, None, slice_index_or}
+use Rattle.std.specs.Prelude.{ℕ, ◌+◌, ◌≤◌, ◌≡◌, ◌⊎◌, Bool, true, false, not, List, [], ◌∷◌, ◌++◌, length, map, filter, Option, Some, None, slice_index_or}
+use Rattle.std.specs.Option.{is_some}
 use Rattle.wasm_features.specs.declared.WasmFeatures.{WasmFeatures}
 use Rattle.walrus_forms.specs.declared.value.ValType.{ValType}
 use Rattle.walrus_forms.specs.Kinds.{Kind}
@@ -110,8 +111,16 @@ abbrev pub ItemsKnown : Known → Elements → Type 0
 ItemsKnown k (Functions ns) = Unit {0}
 ItemsKnown k (Expressions ty es) = AreExprs k es
 
+-- what is known where tables stand: of the globals those that are imported
+abbrev pub is_imported : Option Global → Bool
+is_imported None = false
+is_imported (Some g) = not (is_some (own_init g.origin))
+
+abbrev pub knows_imported : Module → Known
+knows_imported m = record { types = length (types_of m); functions = length m.functions; globals = filter is_imported m.globals }
+
 pub record AreExpressed (m : Module) : Type 0 where
-  pub tables : Each (λ (t : Table). IsInit (knows m) t.init) m.tables
+  pub tables : Each (λ (t : Table). IsInit (knows_imported m) t.init) m.tables
   pub globals : GlobalsSee (length (types_of m)) (length m.functions) [] m.globals
   pub offsets : Each (λ (e : Element). IsPlaced (table_wide m.tables) (knows m) e.mode) m.elements
   pub items : Each (λ (e : Element). ItemsKnown (knows m) e.items) m.elements
