@@ -3,7 +3,6 @@ pub mod Entities
 pub mod Exports
 pub mod Ids
 pub mod Laws
-pub mod Limits
 pub mod Modules
 pub mod Read
 pub mod Sections

@@ -1,7 +1,6 @@
 //! Laws: functions with nothing to do, whose contracts hold of all files.
 
 ghost use Rattle.wasm_sections.specs.Laws.{SectionsReadOnce, SectionsDontStop, SectionsReadOrStop, SectionsStopOnce, SectionsStopInside, SectionsStopForGood, ContentsStopForGood, EntriesArePrefixFree};
-ghost use Rattle.wasm_sections.specs.Limits.{LimitsHold};
 
 /// The sections of a file say one thing at most.
 pub fn sections_read_once()
@@ -41,9 +40,4 @@ pub fn contents_stop_for_good()
 /// Entries of sections, constant expressions and sections that meet the rules are prefix-free.
 pub fn entries_are_prefix_free()
     ensures { EntriesArePrefixFree }
-{}
-
-/// One more than a list may have is refused for its limit, and what there is room for isn't.
-pub fn limits_hold()
-    ensures { LimitsHold }
 {}

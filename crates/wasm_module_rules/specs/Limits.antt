@@ -1,5 +1,5 @@
 -- Limits of sections: one more than a list may have is refused, and what there is room for isn't.
-use Rattle.std.specs.Prelude.{ℕ, ◌<◌, ◌≤◌, ◌≡◌, nat_lt, nat_le, Bool, true, false, not, List, [], ◌∷◌, length, map, Option, Some, None, refl}
+use Rattle.std.specs.Prelude.{ℕ, ◌<◌, ◌≤◌, ◌≡◌, nat_le, Bool, true, false, List, [], ◌∷◌, length, map, Some, None, refl}
 use Rattle.std.specs.List.{list_any}
 use Rattle.std.proofs.Common.{inl, inr}
 use Rattle.std.proofs.lemmas.Bool.{lt-ltb, le-ltb}
@@ -9,7 +9,7 @@ use Rattle.wasm_formats.specs.declared.fault.Space.{Space}
 use Rattle.wasm_formats.specs.declared.fault.Space.TheVariants as spaces
 use Rattle.wasm_formats.specs.declared.fault.Limited.{Limited}
 use Rattle.wasm_formats.specs.declared.fault.Limited.TheVariants as limits
-use Rattle.wasm_formats.specs.Stops.{Trouble, Limit, stop}
+use Rattle.wasm_formats.specs.Stops.{Limit, stop}
 use Rattle.wasm_formats.specs.Formats.{Format, Stands}
 use Rattle.wasm_formats.specs.Joined.{after}
 use Rattle.wasm_file_formats.specs.Rooms.{if_room}
