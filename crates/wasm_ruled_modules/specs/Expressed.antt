@@ -157,7 +157,7 @@ global_stands s x p h =
     let i = h.0 in
     let e = h.1 in
     let t : Grows (knows_imported s.filled) (knows_imported (with_global s x).filled) =
-        record { types = omega arith; functions = omega arith; more = filter is_imported (Some x ∷ []); globals = filter-append is_imported s.filled.globals (Some x ∷ []) } in
+    record { types = omega arith; functions = omega arith; more = filter is_imported (Some x ∷ []); globals = filter-append is_imported s.filled.globals (Some x ∷ []) } in
     let g : Grows (knows s.filled) (knows (with_global s x).filled) = record { types = omega arith; functions = omega arith; more = Some x ∷ []; globals = refl } in
     (record { elements = i.elements; segments = i.segments }, record { tables = tables_more (knows_imported s.filled) (knows_imported (with_global s x).filled) t s.filled.tables e.tables; globals = globals_push (length (types_of s.filled)) (length s.filled.functions) [] s.filled.globals (Some x) e.globals p; offsets = offsets_more (table_wide s.filled.tables) (knows s.filled) (knows (with_global s x).filled) g s.filled.elements e.offsets; items = lists_more (knows s.filled) (knows (with_global s x).filled) g s.filled.elements e.items; segments = segments_more (memory_wide s.filled.memories) (knows s.filled) (knows (with_global s x).filled) g s.filled.segments e.segments })
 

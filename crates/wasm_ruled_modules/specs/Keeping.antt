@@ -94,7 +94,7 @@ module _ (features : WasmFeatures) (P : ℕ → Module → Type 0) (moves : (a b
       let same = sym is in
       let order = r.0 in
       let all = put_kept s x.0 parts.1 x.1.1 (subst (λ (n : ℕ). (section features s n).spells parts.1 x.1.1) same parts.4) (subst (λ (n : ℕ). (section features s n).rules x.1.1) same r.1)
-          (subst (λ (n : ℕ). order_test s.last n ≡ None) same order.1) p in
+      (subst (λ (n : ℕ). order_test s.last n ≡ None) same order.1) p in
       subst (λ (n : ℕ). P (ends_with n x.0 (put s x.0 x.1.1)).last (put s x.0 x.1.1).filled) is all
 
   sections_kept : (xs : List SectionEntry) (s : State) (bytes : List ℕ) → SpellsEntries next (section_entry features) s bytes xs → EntryRules next (section_entry features) s xs
