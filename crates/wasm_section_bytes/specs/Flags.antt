@@ -9,7 +9,7 @@ use Rattle.walrus_forms.specs.declared.value.HeapType.TheVariants.{Abstract, Con
 use Rattle.walrus_forms.specs.declared.value.RefType.{RefType}
 use Rattle.walrus_forms.specs.Values.{nullable}
 use Rattle.wasm_grammar.specs.Modules.{Expr, Mode, Passive, Declared, Active, Elements, Functions, Expressions, Element, Segment}
-use Rattle.wasm_sections.specs.Segments.{ElementForm, ActiveFunctions, PassiveFunctions, FunctionsInto, DeclaredFunctions, ActiveExpressions, PassiveExpressions, ExpressionsInto, DeclaredExpressions, ElementEntry, element_of, DataForm, ActiveData, PassiveData, DataInto, DataEntry, segment_of}
+use Rattle.wasm_sections.specs.Segments.{ActiveFunctions, PassiveFunctions, FunctionsInto, DeclaredFunctions, ActiveExpressions, PassiveExpressions, ExpressionsInto, DeclaredExpressions, ElementEntry, element_of, ActiveData, PassiveData, DataInto, DataEntry, segment_of}
 
 abbrev pub is_func : AbstractHeapType → Bool
 is_func heaps.Func = true
