@@ -1,3 +1,5 @@
+pub mod Entries
 pub mod Keeps
+pub mod Limits
 pub mod Linked
 pub mod Reading

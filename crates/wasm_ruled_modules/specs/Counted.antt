@@ -1,5 +1,5 @@
 -- Lemmas: no list of a module that is read is longer than it may be.
-use Rattle.std.specs.Prelude.{ℕ, suc, ◌+◌, ◌<◌, ◌≤◌, ◌≡◌, Bool, true, false, List, [], ◌∷◌, ◌++◌, length, Option, Some, None, refl}
+use Rattle.std.specs.Prelude.{ℕ, suc, ◌+◌, ◌<◌, ◌≤◌, ◌≡◌, Bool, true, false, List, [], ◌∷◌, length, Option, Some, None, refl}
 use Rattle.std.specs.List.{filter_map, flat_map, cons_option}
 use Rattle.std.proofs.Common.{ap, arith, inl, inr}
 use Rattle.std.proofs.lemmas.Bool.{ltb-true}
@@ -7,7 +7,6 @@ use Rattle.std.proofs.lemmas.List.{length-append}
 use Rattle.std.proofs.lemmas.List.Concat.{flat_map-append}
 use Rattle.wasm_features.specs.declared.WasmFeatures.{WasmFeatures}
 use Rattle.walrus_forms.specs.Records.{TypeGroup}
-use Rattle.wasm_formats.specs.declared.fault.Space.{Space}
 use Rattle.wasm_formats.specs.declared.fault.Space.TheVariants as spaces
 use Rattle.wasm_formats.specs.Stops.{Trouble}
 use Rattle.wasm_formats.specs.Bytes.{either_type}
@@ -123,7 +122,7 @@ export_step s x e h =
 
 pub counts_kept : (features : WasmFeatures) → EntriesKeep features IsCounted
 counts_kept features = record {
-  customs = λ s x h. record { types = h.types; imports = h.imports; functions = h.functions; tables = h.tables; memories = h.memories; tags = h.tags; globals = h.globals; exports = h.exports; elements = h.elements; segments = h.segments };
+  customs = λ _ s x h. record { types = h.types; imports = h.imports; functions = h.functions; tables = h.tables; memories = h.memories; tags = h.tags; globals = h.globals; exports = h.exports; elements = h.elements; segments = h.segments };
   groups = λ s bytes x _ r h. group_counted s x r.1 h;
   imports = λ s bytes x _ r h. import_step s x r.1 h;
   functions = λ s bytes x _ r h. function_counted s (record { ty = x; origin = Own no_body }) (ltb-true _ _ (must_holds _ _ r.1)) h;

@@ -1,8 +1,8 @@
 -- Lemmas: constant expressions of a module that is read name what is known at their point of the file.
-use Rattle.std.specs.Prelude.{ℕ, ◌+◌, ◌<◌, ◌≤◌, ◌≡◌, Bool, true, List, [], ◌∷◌, ◌++◌, length, Option, Some, None, slice_index_or, refl}
-use Rattle.std.specs.List.{flat_map}
+use Rattle.std.specs.Prelude.{ℕ, ◌+◌, ◌<◌, ◌≤◌, ◌≡◌, Bool, true, List, [], ◌∷◌, ◌++◌, length, filter, Option, Some, None, refl}
 use Rattle.std.proofs.Common.{ap, sym, ◌∙◌, subst, arith, inl, inr}
-use Rattle.std.proofs.lemmas.List.{append-nil, length-append, get_or_append_left}
+use Rattle.std.proofs.lemmas.List.{append-nil, get_or_append_left}
+use Rattle.std.proofs.lemmas.List.Elements.{filter-append}
 use Rattle.wasm_features.specs.declared.WasmFeatures.{WasmFeatures}
 use Rattle.walrus_forms.specs.declared.value.RefType.{RefType}
 use Rattle.wasm_operators.specs.declared.op_code.OpCode.{OpCode}
@@ -12,17 +12,17 @@ use Rattle.wasm_formats.specs.Joined.{after}
 use Rattle.wasm_formats.specs.Lists.{SpellsEntries, EntryRules}
 use Rattle.wasm_formats.specs.Until.{SpellsUntil, UntilRules}
 use Rattle.wasm_formats.specs.Led.{led}
-use Rattle.wasm_grammar.specs.Modules.{Expr, Own, Imported, Function, Table, Memory, Tag, Global, Mode, Passive, Declared, Active, Functions, Expressions, Element, Segment, Module, empty}
+use Rattle.wasm_grammar.specs.Modules.{Expr, Own, Imported, Function, Table, Memory, Global, Mode, Passive, Declared, Active, Element, Segment, Module, empty}
 use Rattle.wasm_grammar.specs.Exprs.{Known, is_constant, operator, end_apart, takes_some, read_wants, some_operators, expr, offset_test, offset}
-use Rattle.wasm_grammar.specs.States.{State, types_of, type_count, known}
+use Rattle.wasm_grammar.specs.States.{State, types_of, known, type_count}
 use Rattle.wasm_sections.specs.TypeSection.{GroupEntry, add_group}
-use Rattle.wasm_sections.specs.Entities.{GlobalType, global_type, Entity, FunctionOf, TableOf, MemoryOf, GlobalOf, TagOf, ImportEntry, add_entity, add_import, import_of, with_import, table_of, memory_of, global_of, with_function, with_table, with_memory, with_global, no_body, table_type, table_apart, table_some, table_wants, initialised, TableEntry, table_entry, add_table, GlobalEntry, global_entry, add_global}
+use Rattle.wasm_sections.specs.Entities.{global_type, Entity, FunctionOf, TableOf, MemoryOf, GlobalOf, TagOf, add_entity, import_of, with_import, table_of, memory_of, global_of, with_function, with_table, with_memory, with_global, no_body, table_type, table_apart, table_some, table_wants, initialised, TableEntry, table_entry, add_table, GlobalEntry, global_entry, add_global, ImportEntry, add_import}
 use Rattle.wasm_sections.specs.Segments.{wide_table, wide_memory, into_table, into_memory, named_table, named_memory, pass, functions, expressions, kind_of_functions, typed, contents, ElementForm, ActiveFunctions, PassiveFunctions, FunctionsInto, DeclaredFunctions, ActiveExpressions, PassiveExpressions, ExpressionsInto, DeclaredExpressions, once_0, once_2, once_4, once_5, once_6, once_7, element_flags, element_form, ElementEntry, element_entry, add_element, element_of, DataForm, ActiveData, PassiveData, DataInto, data_once_0, data_once_2, data_flags, data_form, DataEntry, data_entry, add_data, segment_of}
 use Rattle.wasm_module_rules.specs.Linked.{Each, GoesInto}
 use Rattle.wasm_module_rules.specs.Keeps.{each_push, each_later, goes_later, one_more, must_holds, room_rules}
 use Rattle.wasm_module_rules.specs.Reading.{element_number, data_number, element_flag, data_flag, element_go, data_go}
-use Rattle.wasm_ruled_modules.specs.Rules.{AreKnown, IsExpr, AreExprs, IsInit, knows, GlobalsSee, IsPlaced, table_wide, memory_wide, ItemsKnown, AreExpressed, own_init}
-use Rattle.wasm_ruled_modules.specs.Keeping.{EntriesKeep}
+use Rattle.wasm_ruled_modules.specs.Rules.{AreKnown, IsExpr, AreExprs, IsInit, knows, IsPlaced, table_wide, memory_wide, ItemsKnown, is_imported, knows_imported, AreExpressed, own_init}
+use Rattle.wasm_ruled_modules.specs.Keeping.{EntriesKeepAt}
 use Rattle.wasm_ruled_modules.specs.Counted.{types_more}
 use Rattle.wasm_ruled_modules.specs.Named.{room_spells}
 use Rattle.wasm_ruled_modules.specs.More.{Grows, tables_more, offsets_more, segments_more, lists_more, globals_more, globals_push}
@@ -36,8 +36,7 @@ known_is features k (op ∷ ops) bytes h r =
     let told = h.3 in
     let parts = told.2 in
     let first = parts.3 in
-    let tests = r.0 in
-    (
+    let tests = r.0 in (
       subst (λ (code : OpCode). is_constant code ≡ true) (ap (λ (s : Seen). s.code) told.1) (must_holds (is_constant told.0.0) ConstExpr first.1),
       tests.1,
       known_is features k ops h.1 h.4 r.1,
@@ -120,35 +119,49 @@ pub record Into (m : Module) : Type 0 where
   pub elements : Each (λ (e : Element). GoesInto (length m.tables) e.mode) m.elements
   pub segments : Each (λ (x : Segment). GoesInto (length m.memories) x.mode) m.segments
 
-abbrev pub Stands : Module → Type 0
-Stands m = Into m × AreExpressed m
+abbrev Standing : Module → Type 0
+Standing m = Into m × AreExpressed m
+
+-- at a place of the order before that of globals all globals are imported
+abbrev pub AllImported : ℕ → Module → Type 0
+AllImported place m = place < 7 → filter is_imported m.globals ≡ m.globals
+
+abbrev pub Stands : ℕ → Module → Type 0
+Stands place m = Standing m × AllImported place m
+
+pub stands_later : (a b : ℕ) (m : Module) → a ≤ b → Stands a m → Stands b m
+stands_later a b m le h = (h.0, λ lt. h.1 (omega (arith, le, lt)))
 
 -- ---- items
 
-group_stands : (s : State) (x : GroupEntry) → Stands s.filled → Stands (add_group s x).filled
+group_stands : (s : State) (x : GroupEntry) → Standing s.filled → Standing (add_group s x).filled
 group_stands s x h =
     let i = h.0 in
     let e = h.1 in
     let le : length (types_of s.filled) ≤ length (types_of (add_group s x).filled) = omega (arith, types_more s x) in
+    let t : Grows (knows_imported s.filled) (knows_imported (add_group s x).filled) = record { types = le; functions = omega arith; more = []; globals = sym (append-nil (filter is_imported s.filled.globals)) } in
     let g : Grows (knows s.filled) (knows (add_group s x).filled) = record { types = le; functions = omega arith; more = []; globals = sym (append-nil s.filled.globals) } in
-    (record { elements = i.elements; segments = i.segments }, record { tables = tables_more (knows s.filled) (knows (add_group s x).filled) g s.filled.tables e.tables; globals = globals_more (length (types_of s.filled)) (length s.filled.functions) (length (types_of (add_group s x).filled)) (length s.filled.functions) le (omega arith) [] s.filled.globals e.globals; offsets = offsets_more (table_wide s.filled.tables) (knows s.filled) (knows (add_group s x).filled) g s.filled.elements e.offsets; items = lists_more (knows s.filled) (knows (add_group s x).filled) g s.filled.elements e.items; segments = segments_more (memory_wide s.filled.memories) (knows s.filled) (knows (add_group s x).filled) g s.filled.segments e.segments })
+    (record { elements = i.elements; segments = i.segments }, record { tables = tables_more (knows_imported s.filled) (knows_imported (add_group s x).filled) t s.filled.tables e.tables; globals = globals_more (length (types_of s.filled)) (length s.filled.functions) (length (types_of (add_group s x).filled)) (length s.filled.functions) le (omega arith) [] s.filled.globals e.globals; offsets = offsets_more (table_wide s.filled.tables) (knows s.filled) (knows (add_group s x).filled) g s.filled.elements e.offsets; items = lists_more (knows s.filled) (knows (add_group s x).filled) g s.filled.elements e.items; segments = segments_more (memory_wide s.filled.memories) (knows s.filled) (knows (add_group s x).filled) g s.filled.segments e.segments })
 
-function_stands : (s : State) (x : Function) → Stands s.filled → Stands (with_function s x).filled
+function_stands : (s : State) (x : Function) → Standing s.filled → Standing (with_function s x).filled
 function_stands s x h =
     let i = h.0 in
     let e = h.1 in
     let le = one_more s.filled.functions (Some x) in
+    let t : Grows (knows_imported s.filled) (knows_imported (with_function s x).filled) = record { types = omega arith; functions = le; more = []; globals = sym (append-nil (filter is_imported s.filled.globals)) } in
     let g : Grows (knows s.filled) (knows (with_function s x).filled) = record { types = omega arith; functions = le; more = []; globals = sym (append-nil s.filled.globals) } in
-    (record { elements = i.elements; segments = i.segments }, record { tables = tables_more (knows s.filled) (knows (with_function s x).filled) g s.filled.tables e.tables; globals = globals_more (length (types_of s.filled)) (length s.filled.functions) (length (types_of s.filled)) (length (s.filled.functions ++ Some x ∷ [])) (omega arith) le [] s.filled.globals e.globals; offsets = offsets_more (table_wide s.filled.tables) (knows s.filled) (knows (with_function s x).filled) g s.filled.elements e.offsets; items = lists_more (knows s.filled) (knows (with_function s x).filled) g s.filled.elements e.items; segments = segments_more (memory_wide s.filled.memories) (knows s.filled) (knows (with_function s x).filled) g s.filled.segments e.segments })
+    (record { elements = i.elements; segments = i.segments }, record { tables = tables_more (knows_imported s.filled) (knows_imported (with_function s x).filled) t s.filled.tables e.tables; globals = globals_more (length (types_of s.filled)) (length s.filled.functions) (length (types_of s.filled)) (length (s.filled.functions ++ Some x ∷ [])) (omega arith) le [] s.filled.globals e.globals; offsets = offsets_more (table_wide s.filled.tables) (knows s.filled) (knows (with_function s x).filled) g s.filled.elements e.offsets; items = lists_more (knows s.filled) (knows (with_function s x).filled) g s.filled.elements e.items; segments = segments_more (memory_wide s.filled.memories) (knows s.filled) (knows (with_function s x).filled) g s.filled.segments e.segments })
 
-global_stands : (s : State) (x : Global) → IsInit (knows s.filled) (own_init x.origin) → Stands s.filled → Stands (with_global s x).filled
+global_stands : (s : State) (x : Global) → IsInit (knows s.filled) (own_init x.origin) → Standing s.filled → Standing (with_global s x).filled
 global_stands s x p h =
     let i = h.0 in
     let e = h.1 in
+    let t : Grows (knows_imported s.filled) (knows_imported (with_global s x).filled) =
+    record { types = omega arith; functions = omega arith; more = filter is_imported (Some x ∷ []); globals = filter-append is_imported s.filled.globals (Some x ∷ []) } in
     let g : Grows (knows s.filled) (knows (with_global s x).filled) = record { types = omega arith; functions = omega arith; more = Some x ∷ []; globals = refl } in
-    (record { elements = i.elements; segments = i.segments }, record { tables = tables_more (knows s.filled) (knows (with_global s x).filled) g s.filled.tables e.tables; globals = globals_push (length (types_of s.filled)) (length s.filled.functions) [] s.filled.globals (Some x) e.globals p; offsets = offsets_more (table_wide s.filled.tables) (knows s.filled) (knows (with_global s x).filled) g s.filled.elements e.offsets; items = lists_more (knows s.filled) (knows (with_global s x).filled) g s.filled.elements e.items; segments = segments_more (memory_wide s.filled.memories) (knows s.filled) (knows (with_global s x).filled) g s.filled.segments e.segments })
+    (record { elements = i.elements; segments = i.segments }, record { tables = tables_more (knows_imported s.filled) (knows_imported (with_global s x).filled) t s.filled.tables e.tables; globals = globals_push (length (types_of s.filled)) (length s.filled.functions) [] s.filled.globals (Some x) e.globals p; offsets = offsets_more (table_wide s.filled.tables) (knows s.filled) (knows (with_global s x).filled) g s.filled.elements e.offsets; items = lists_more (knows s.filled) (knows (with_global s x).filled) g s.filled.elements e.items; segments = segments_more (memory_wide s.filled.memories) (knows s.filled) (knows (with_global s x).filled) g s.filled.segments e.segments })
 
-table_stands : (s : State) (x : Table) → IsInit (knows s.filled) x.init → Stands s.filled → Stands (with_table s x).filled
+table_stands : (s : State) (x : Table) → IsInit (knows_imported s.filled) x.init → Standing s.filled → Standing (with_table s x).filled
 table_stands s x p h =
     let tables = s.filled.tables in
     let elements = s.filled.elements in
@@ -156,10 +169,10 @@ table_stands s x p h =
     let e = h.1 in
     let both = each_both (λ (e : Element). GoesInto (length tables) e.mode) (λ (e : Element). IsPlaced (table_wide tables) (knows s.filled) e.mode) elements i.elements e.offsets in (
       record { elements = each_later (λ (e : Element). GoesInto (length tables) e.mode) (λ (e : Element). GoesInto (length (tables ++ Some x ∷ [])) e.mode) (λ e q. goes_later (length tables) (length (tables ++ Some x ∷ [])) e.mode (one_more tables (Some x)) q) elements i.elements; segments = i.segments },
-      record { tables = each_push (λ (t : Table). IsInit (knows s.filled) t.init) tables x e.tables p; globals = e.globals; offsets = each_later (λ (e : Element). GoesInto (length tables) e.mode × IsPlaced (table_wide tables) (knows s.filled) e.mode) (λ (e : Element). IsPlaced (table_wide (tables ++ Some x ∷ [])) (knows s.filled) e.mode) (λ e q. placed_table tables x (knows s.filled) e.mode q.0 q.1) elements both; items = e.items; segments = e.segments },
+      record { tables = each_push (λ (t : Table). IsInit (knows_imported s.filled) t.init) tables x e.tables p; globals = e.globals; offsets = each_later (λ (e : Element). GoesInto (length tables) e.mode × IsPlaced (table_wide tables) (knows s.filled) e.mode) (λ (e : Element). IsPlaced (table_wide (tables ++ Some x ∷ [])) (knows s.filled) e.mode) (λ e q. placed_table tables x (knows s.filled) e.mode q.0 q.1) elements both; items = e.items; segments = e.segments },
     )
 
-memory_stands : (s : State) (x : Memory) → Stands s.filled → Stands (with_memory s x).filled
+memory_stands : (s : State) (x : Memory) → Standing s.filled → Standing (with_memory s x).filled
 memory_stands s x h =
     let memories = s.filled.memories in
     let segments = s.filled.segments in
@@ -172,28 +185,31 @@ memory_stands s x h =
 
 -- ---- entries
 
-entity_stands : (s : State) (n : ℕ) (e : Entity) → Stands s.filled → Stands (add_entity s n e).filled
+entity_stands : (s : State) (n : ℕ) (e : Entity) → Standing s.filled → Standing (add_entity s n e).filled
 entity_stands s n (FunctionOf ty) h = function_stands (record s { imported = s.imported + 1 }) (record { ty = ty; origin = Imported n }) h
 entity_stands s n (TableOf ty) h = table_stands s (table_of ty None (Some n)) tt h
 entity_stands s n (MemoryOf ty) h = memory_stands s (memory_of ty (Some n)) h
 entity_stands s n (GlobalOf ty) h = global_stands s (global_of ty (Imported n)) tt h
 entity_stands s n (TagOf ty) h = (let i = h.0 in let e = h.1 in (record { elements = i.elements; segments = i.segments }, record { tables = e.tables; globals = e.globals; offsets = e.offsets; items = e.items; segments = e.segments }))
 
-table_entry_stands : (features : WasmFeatures) (s : State) (bytes : List ℕ) (x : TableEntry) → (table_entry features s).spells bytes x → (table_entry features s).rules x → Stands s.filled → Stands (add_table s x).filled
-table_entry_stands features s bytes (inl x) h r p =
+table_entry_stands : (features : WasmFeatures) (s : State) (bytes : List ℕ) (x : TableEntry) → (table_entry features s).spells bytes x → (table_entry features s).rules x → Standing s.filled
+    → filter is_imported s.filled.globals ≡ s.filled.globals → Standing (add_table s x).filled
+table_entry_stands features s bytes (inl x) h r p is =
     let spelled : (led 0x40 (initialised features s) (table_type features s) (table_apart features s) (table_some features s) (table_wants features s)).spells bytes (inl x) = room_spells _ h in
     let one = spelled.2 in let two = one.4 in
     let q : (initialised features s).rules x = room_rules _ r in let t = q.1 in
-    table_stands s (table_of x.1.0 (Some x.1.1) None) (expr_is features (known s) two.1 x.1.1 two.4 t.1) p
-table_entry_stands features s bytes (inr ty) h r p = table_stands s (table_of ty None None) tt p
+    let e = expr_is features (known s) two.1 x.1.1 two.4 t.1 in
+    table_stands s (table_of x.1.0 (Some x.1.1) None)
+    (subst (λ (gs : List (Option Global)). IsExpr (record { types = type_count s; functions = length s.filled.functions; globals = gs }) x.1.1) (sym is) e) p
+table_entry_stands features s bytes (inr ty) h r p is = table_stands s (table_of ty None None) tt p
 
-global_entry_stands : (features : WasmFeatures) (s : State) (bytes : List ℕ) (x : GlobalEntry) → (global_entry features s).spells bytes x → (global_entry features s).rules x → Stands s.filled → Stands (add_global s x).filled
+global_entry_stands : (features : WasmFeatures) (s : State) (bytes : List ℕ) (x : GlobalEntry) → (global_entry features s).spells bytes x → (global_entry features s).rules x → Standing s.filled → Standing (add_global s x).filled
 global_entry_stands features s bytes x h r p =
     let spelled : (after (global_type features s) (λ _. expr features (known s))).spells bytes x = room_spells _ h in
     let q : (after (global_type features s) (λ _. expr features (known s))).rules x = room_rules _ r in
     global_stands s (global_of x.0 (Own x.1)) (expr_is features (known s) spelled.1 x.1 spelled.4 q.1) p
 
-element_entry_stands : (features : WasmFeatures) (s : State) (bytes : List ℕ) (x : ElementEntry) → (element_entry features s).spells bytes x → (element_entry features s).rules x → Stands s.filled → Stands (add_element s x).filled
+element_entry_stands : (features : WasmFeatures) (s : State) (bytes : List ℕ) (x : ElementEntry) → (element_entry features s).spells bytes x → (element_entry features s).rules x → Standing s.filled → Standing (add_element s x).filled
 element_entry_stands features s bytes x h r p =
     let spelled : (after (element_flags s) (λ flags. element_form features s flags)).spells bytes x = room_spells _ h in
     let q : (after (element_flags s) (λ flags. element_form features s flags)).rules x = room_rules _ r in
@@ -207,7 +223,7 @@ element_entry_stands features s bytes x h r p =
       record { tables = e.tables; globals = e.globals; offsets = each_push (λ (e : Element). IsPlaced (table_wide s.filled.tables) (knows s.filled) e.mode) s.filled.elements (element_of x.1) e.offsets is.0; items = each_push (λ (e : Element). ItemsKnown (knows s.filled) e.items) s.filled.elements (element_of x.1) e.items is.1; segments = e.segments },
     )
 
-data_entry_stands : (features : WasmFeatures) (s : State) (bytes : List ℕ) (x : DataEntry) → (data_entry features s).spells bytes x → (data_entry features s).rules x → Stands s.filled → Stands (add_data s x).filled
+data_entry_stands : (features : WasmFeatures) (s : State) (bytes : List ℕ) (x : DataEntry) → (data_entry features s).spells bytes x → (data_entry features s).rules x → Standing s.filled → Standing (add_data s x).filled
 data_entry_stands features s bytes x h r p =
     let spelled : (after (data_flags s) (λ flags. data_form features s flags)).spells bytes x = room_spells _ h in
     let q : (after (data_flags s) (λ flags. data_form features s flags)).rules x = room_rules _ r in
@@ -221,21 +237,38 @@ data_entry_stands features s bytes x h r p =
       record { tables = e.tables; globals = e.globals; offsets = e.offsets; items = e.items; segments = each_push (λ (e : Segment). IsPlaced (memory_wide s.filled.memories) (knows s.filled) e.mode) s.filled.segments (segment_of x.1) e.segments is },
     )
 
-pub expressions_kept : (features : WasmFeatures) → EntriesKeep features Stands
+-- ---- globals are imported before any is the module's own
+
+import_imported : (s : State) (n : ℕ) (e : Entity) → filter is_imported s.filled.globals ≡ s.filled.globals → filter is_imported (add_entity s n e).filled.globals ≡ (add_entity s n e).filled.globals
+import_imported s n (FunctionOf ty) h = h
+import_imported s n (TableOf ty) h = h
+import_imported s n (MemoryOf ty) h = h
+import_imported s n (GlobalOf ty) h =
+    filter-append is_imported s.filled.globals (Some (global_of ty (Imported n)) ∷ []) ∙ ap (λ (gs : List (Option Global)). gs ++ Some (global_of ty (Imported n)) ∷ []) h
+import_imported s n (TagOf ty) h = h
+
+table_imported : (s : State) (x : TableEntry) → AllImported 4 s.filled → AllImported 4 (add_table s x).filled
+table_imported s (inl x) h = h
+table_imported s (inr ty) h = h
+
+import_stands : (s : State) (x : ImportEntry) → Standing s.filled → Standing (add_import s x).filled
+import_stands s x h = entity_stands (with_import s (import_of s x)) (length s.filled.imports) x.1.1.1 (let i = h.0 in let e = h.1 in (record { elements = i.elements; segments = i.segments }, record { tables = e.tables; globals = e.globals; offsets = e.offsets; items = e.items; segments = e.segments }))
+
+pub expressions_kept : (features : WasmFeatures) → EntriesKeepAt features Stands
 expressions_kept features = record {
-  customs = λ s x h. (let i = h.0 in let e = h.1 in (record { elements = i.elements; segments = i.segments }, record { tables = e.tables; globals = e.globals; offsets = e.offsets; items = e.items; segments = e.segments }));
-  groups = λ s bytes x _ r h. group_stands s x h;
-  imports = λ s bytes x _ r h. entity_stands (with_import s (import_of s x)) (length s.filled.imports) x.1.1.1 (let i = h.0 in let e = h.1 in (record { elements = i.elements; segments = i.segments }, record { tables = e.tables; globals = e.globals; offsets = e.offsets; items = e.items; segments = e.segments }));
-  functions = λ s bytes x _ r h. function_stands s (record { ty = x; origin = Own no_body }) h;
-  tables = table_entry_stands features;
-  memories = λ s bytes x _ r h. memory_stands s (memory_of x None) h;
-  tags = λ s bytes x _ r h. (let i = h.0 in let e = h.1 in (record { elements = i.elements; segments = i.segments }, record { tables = e.tables; globals = e.globals; offsets = e.offsets; items = e.items; segments = e.segments }));
-  globals = global_entry_stands features;
-  exports = λ s bytes x _ r h. (let i = h.0 in let e = h.1 in (record { elements = i.elements; segments = i.segments }, record { tables = e.tables; globals = e.globals; offsets = e.offsets; items = e.items; segments = e.segments }));
-  start = λ s n r h. (let i = h.0 in let e = h.1 in (record { elements = i.elements; segments = i.segments }, record { tables = e.tables; globals = e.globals; offsets = e.offsets; items = e.items; segments = e.segments }));
-  elements = element_entry_stands features;
-  segments = data_entry_stands features;
+  customs = λ place s x h. ((let k = h.0 in (let i = k.0 in let e = k.1 in (record { elements = i.elements; segments = i.segments }, record { tables = e.tables; globals = e.globals; offsets = e.offsets; items = e.items; segments = e.segments }))), h.1);
+  groups = λ s bytes x _ r h. (group_stands s x h.0, h.1);
+  imports = λ s bytes x _ r h. (import_stands s x h.0, λ lt. import_imported (with_import s (import_of s x)) (length s.filled.imports) x.1.1.1 (h.1 lt));
+  functions = λ s bytes x _ r h. (function_stands s (record { ty = x; origin = Own no_body }) h.0, h.1);
+  tables = λ s bytes x w r h. (table_entry_stands features s bytes x w r h.0 (h.1 (omega arith)), table_imported s x h.1);
+  memories = λ s bytes x _ r h. (memory_stands s (memory_of x None) h.0, h.1);
+  tags = λ s bytes x _ r h. ((let k = h.0 in (let i = k.0 in let e = k.1 in (record { elements = i.elements; segments = i.segments }, record { tables = e.tables; globals = e.globals; offsets = e.offsets; items = e.items; segments = e.segments }))), h.1);
+  globals = λ s bytes x w r h. (global_entry_stands features s bytes x w r h.0, λ lt. absurd (omega (arith, lt)));
+  exports = λ s bytes x _ r h. ((let k = h.0 in (let i = k.0 in let e = k.1 in (record { elements = i.elements; segments = i.segments }, record { tables = e.tables; globals = e.globals; offsets = e.offsets; items = e.items; segments = e.segments }))), h.1);
+  start = λ s n r h. ((let k = h.0 in (let i = k.0 in let e = k.1 in (record { elements = i.elements; segments = i.segments }, record { tables = e.tables; globals = e.globals; offsets = e.offsets; items = e.items; segments = e.segments }))), h.1);
+  elements = λ s bytes x w r h. (element_entry_stands features s bytes x w r h.0, h.1);
+  segments = λ s bytes x w r h. (data_entry_stands features s bytes x w r h.0, h.1);
 }
 
-pub none_stands : Stands empty
-none_stands = (record { elements = tt; segments = tt }, record { tables = tt; globals = tt; offsets = tt; items = tt; segments = tt })
+pub none_stands : Stands 0 empty
+none_stands = ((record { elements = tt; segments = tt }, record { tables = tt; globals = tt; offsets = tt; items = tt; segments = tt }), λ lt. refl)

@@ -1,5 +1,5 @@
 -- Lemmas: the types of a group name types below its end.
-use Rattle.std.specs.Prelude.{ℕ, suc, ◌+◌, ◌<◌, ◌≤◌, ◌≡◌, nat_le, Bool, true, false, List, [], ◌∷◌, ◌++◌, length, All, Option, Some, None, IfSome, refl}
+use Rattle.std.specs.Prelude.{ℕ, suc, ◌+◌, ◌<◌, ◌≡◌, nat_le, Bool, true, false, List, [], ◌∷◌, ◌++◌, length, All, Option, Some, None, IfSome, refl}
 use Rattle.std.specs.List.{list_any, filter_map, flat_map, cons_option}
 use Rattle.std.specs.Option.{option_map, option_to_list}
 use Rattle.std.proofs.Common.{ap, sym, ◌∙◌, subst, arith}
@@ -7,7 +7,6 @@ use Rattle.std.proofs.lemmas.Bool.{leb-false, or_parts}
 use Rattle.std.proofs.lemmas.List.{length-append}
 use Rattle.std.proofs.lemmas.List.Elements.{All-nil, All-cons}
 use Rattle.std.proofs.lemmas.List.Folds.{list_any-append}
-use Rattle.wasm_features.specs.declared.WasmFeatures.{WasmFeatures}
 use Rattle.wasm_ref_types.specs.declared.index.UnpackedIndex.{UnpackedIndex}
 use Rattle.wasm_ref_types.specs.declared.value.ValType.{ValType as ReadValue}
 use Rattle.wasm_composite_types.specs.declared.field.StorageType.{StorageType as ReadStorage}
@@ -29,7 +28,6 @@ use Rattle.walrus_forms.specs.Kinds.{Kind, declared_kind}
 use Rattle.walrus_forms.specs.Records.{TypeGroup}
 use Rattle.walrus_forms.specs.Values.{heap_name}
 use Rattle.walrus_forms.specs.Renaming.{ValueBelow, StorageBelow, FieldBelow, FormBelow, KindBelow}
-use Rattle.wasm_grammar.specs.Modules.{empty}
 use Rattle.wasm_grammar.specs.States.{State, types_of}
 use Rattle.wasm_grammar.specs.TypeWords.{value_of, value_from, value_told, heap_from}
 use Rattle.wasm_sections.specs.TypeNames.{heap_index, value_index, field_index, inner_names, super_names, sub_names, index_number, both, told_all, storage_of, field_of, form_of, composite_form, super_of, kind_of}

@@ -1,3 +1,5 @@
+pub mod Bodied
+pub mod Codes
 pub mod Counted
 pub mod Expressed
 pub mod Grouped

@@ -1,6 +1,6 @@
 -- Lemmas: expressions that name what is known do so where more is known.
 use Rattle.std.specs.Prelude.{ℕ, ◌<◌, ◌≤◌, ◌≡◌, ◌==◌, ◌&&◌, ◌||◌, nat_lt, Bool, true, false, List, [], ◌∷◌, ◌++◌, length, Option, Some, None, slice_index_or, if◌then◌else◌, refl}
-use Rattle.std.proofs.Common.{ap, sym, ◌∙◌, subst, arith, inl, inr}
+use Rattle.std.proofs.Common.{ap, sym, subst, arith, inl, inr}
 use Rattle.std.proofs.Math.ListN.{get_or-eq_default}
 use Rattle.std.proofs.lemmas.Bool.{cases_lt, lt-ltb, ltb-true}
 use Rattle.std.proofs.lemmas.List.{append_assoc, append-nil, length-append, get_or_append_left}
@@ -8,10 +8,9 @@ use Rattle.walrus_forms.specs.declared.value.HeapType.{HeapType}
 use Rattle.walrus_forms.specs.Values.{heap_name}
 use Rattle.wasm_immediates.specs.Items as immediates
 use Rattle.wasm_immediates.specs.Items.{Item, Names, Number, S32, S64, Bits, Byte, Bytes, Heap, Block, Access, ManyLabels, ManyValues, ManyClauses}
-use Rattle.wasm_operators.specs.Operators.{Seen}
 use Rattle.wasm_formats.specs.Stops.{Trouble, OffsetType}
 use Rattle.wasm_grammar.specs.TypeWords.{heap_of}
-use Rattle.wasm_grammar.specs.Modules.{Expr, Imported, Own, Origin, Table, Global, Mode, Passive, Declared, Active, Elements, Functions, Expressions, Element, Segment}
+use Rattle.wasm_grammar.specs.Modules.{Expr, Table, Global, Mode, Passive, Declared, Active, Elements, Functions, Expressions, Element, Segment}
 use Rattle.wasm_grammar.specs.Values.{must, named_below}
 use Rattle.wasm_grammar.specs.Exprs.{Known, heap_test, space_test, item_test, items_test, global_is, names_address, gives_address, offset_test}
 use Rattle.wasm_module_rules.specs.Linked.{Each}
@@ -104,8 +103,8 @@ pub offset_more : (wide : Bool) (k j : Known) → Grows k j → (ops : Expr) →
 offset_more wide k j g [] e = refl
 offset_more wide k j g (op ∷ []) e =
     let more : gives_address wide j op ≡ true =
-        gives_more (op.code.prefix == 0 && op.code.number == (if wide then 0x42 else 0x41)) (op.code.prefix == 0) (op.code.number == 0x23) (names_address wide k op.items) (names_address wide j op.items)
-        (names_more wide k j g op.items) (must_holds (gives_address wide k op) OffsetType e) in
+    gives_more (op.code.prefix == 0 && op.code.number == (if wide then 0x42 else 0x41)) (op.code.prefix == 0) (op.code.number == 0x23) (names_address wide k op.items) (names_address wide j op.items)
+    (names_more wide k j g op.items) (must_holds (gives_address wide k op) OffsetType e) in
     rw more refl
 offset_more wide k j g (op ∷ next ∷ ops) e = refl
 

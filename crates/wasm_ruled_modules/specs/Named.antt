@@ -1,5 +1,5 @@
 -- Lemmas: items of a module that is read name types that are there, and page sizes are 1 or 65,536.
-use Rattle.std.specs.Prelude.{ℕ, ◌+◌, ◌<◌, ◌≤◌, ◌≡◌, ◌==◌, ◌||◌, ◌⊎◌, nat_lt, Bool, true, false, List, [], ◌∷◌, ◌++◌, length, Option, Some, None, IfSome, refl}
+use Rattle.std.specs.Prelude.{ℕ, ◌<◌, ◌≤◌, ◌≡◌, ◌==◌, ◌||◌, ◌⊎◌, Bool, true, false, List, [], ◌∷◌, ◌++◌, length, Option, Some, None, IfSome, refl}
 use Rattle.std.proofs.Common.{sym, subst, arith, inl, inr}
 use Rattle.std.proofs.lemmas.Bool.{cases_Bool, eqb-true, ltb-true}
 use Rattle.wasm_features.specs.declared.WasmFeatures.{WasmFeatures}
@@ -10,12 +10,12 @@ use Rattle.walrus_forms.specs.Renaming.{RefBelow, ValueBelow}
 use Rattle.wasm_formats.specs.Stops.{Trouble, Bounds}
 use Rattle.wasm_formats.specs.Bytes.{either_type}
 use Rattle.wasm_formats.specs.Joined.{after}
-use Rattle.wasm_grammar.specs.Modules.{Own, Imported, Table, Memory, Global, Elements, Functions, Expressions, Element, Module, empty}
-use Rattle.wasm_grammar.specs.Values.{must, named_below, ref_type, value_type, Limits, memory_limits}
+use Rattle.wasm_grammar.specs.Modules.{Own, Imported, Table, Memory, Global, Elements, Functions, Expressions, Element, empty}
+use Rattle.wasm_grammar.specs.Values.{named_below, ref_type, value_type, Limits, memory_limits}
 use Rattle.wasm_grammar.specs.States.{State, types_of, type_count, known}
 use Rattle.wasm_grammar.specs.Exprs.{expr}
-use Rattle.wasm_sections.specs.TypeSection.{GroupEntry, type_group, add_group}
-use Rattle.wasm_sections.specs.Entities.{TableType, MemoryType, GlobalType, Entity, FunctionOf, TableOf, MemoryOf, GlobalOf, TagOf, entity, ImportEntry, import_entry, add_entity, add_import, import_of, with_import, table_of, memory_of, global_of, table_type, global_type, initialised, TableEntry, table_entry, add_table, memory_entry, add_memory, GlobalEntry, global_entry, add_global}
+use Rattle.wasm_sections.specs.TypeSection.{GroupEntry, add_group}
+use Rattle.wasm_sections.specs.Entities.{MemoryType, Entity, FunctionOf, TableOf, MemoryOf, GlobalOf, TagOf, entity, ImportEntry, import_entry, add_entity, add_import, import_of, with_import, table_of, memory_of, global_of, table_type, global_type, initialised, TableEntry, table_entry, add_table, memory_entry, add_memory, GlobalEntry, global_entry, add_global}
 use Rattle.wasm_sections.specs.Segments.{typed, ElementForm, ActiveFunctions, PassiveFunctions, FunctionsInto, DeclaredFunctions, ActiveExpressions, PassiveExpressions, ExpressionsInto, DeclaredExpressions, element_flags, element_form, ElementEntry, element_entry, add_element, element_of}
 use Rattle.wasm_module_rules.specs.Linked.{Each}
 use Rattle.wasm_module_rules.specs.Keeps.{each_push, each_later, must_holds, room_rules}
@@ -33,7 +33,7 @@ named_is types (Some n) e = ltb-true n types (must_holds _ _ e)
 ref_named : (features : WasmFeatures) (types : ℕ) (ty : RefType) → (ref_type features types).rules ty → RefBelow types ty
 ref_named features types ty r = named_is types (heap_name ty.heap_type) r.1
 
-value_named : (features : WasmFeatures) (types : ℕ) (ty : ValType) → (value_type features types).rules ty → ValueBelow types ty
+pub value_named : (features : WasmFeatures) (types : ℕ) (ty : ValType) → (value_type features types).rules ty → ValueBelow types ty
 value_named features types ty r = named_is types (value_name ty) r.1
 
 page_either : (n : ℕ) → (n == 0 || n == 16) ≡ true → (n ≡ 0) ⊎ (n ≡ 16)
@@ -148,7 +148,7 @@ memory_named s x r p =
 
 pub names_kept : (features : WasmFeatures) → EntriesKeep features AreNamed
 names_kept features = record {
-  customs = λ s x h. record { tables = h.tables; globals = h.globals; elements = h.elements; pages = h.pages };
+  customs = λ _ s x h. record { tables = h.tables; globals = h.globals; elements = h.elements; pages = h.pages };
   groups = λ s bytes x _ r h. group_named s x h;
   imports = import_named features;
   functions = λ s bytes x _ r h. record { tables = h.tables; globals = h.globals; elements = h.elements; pages = h.pages };

@@ -1,14 +1,22 @@
 -- What is asked of a module beyond its bytes, field by field (Core Specification, valid modules; implementation limitations).
-use Rattle.std.specs.Prelude.{ℕ, ◌+◌, ◌≤◌, ◌≡◌, ◌⊎◌, Bool, true, List, [], ◌∷◌, ◌++◌, length, Option, Some, None, slice_index_or}
+use Rattle.std.specs.Prelude.{ℕ, ◌+◌, ◌≤◌, ◌≡◌, ◌⊎◌, Bool, true, false, not, List, [], ◌∷◌, ◌++◌, length, map, filter, Option, Some, None, slice_index_or}
+use Rattle.std.specs.Option.{is_some}
 use Rattle.wasm_features.specs.declared.WasmFeatures.{WasmFeatures}
+use Rattle.walrus_forms.specs.declared.value.ValType.{ValType}
 use Rattle.walrus_forms.specs.Kinds.{Kind}
+use Rattle.wasm_operators.specs.Operators.{flow_of}
 use Rattle.walrus_forms.specs.Records.{TypeGroup}
 use Rattle.walrus_forms.specs.Renaming.{RefBelow, ValueBelow, KindBelow}
-use Rattle.wasm_grammar.specs.Modules.{Expr, Origin, Imported, Own, Table, Memory, Global, Mode, Passive, Declared, Active, Elements, Functions, Expressions, Element, Segment, Module}
+use Rattle.wasm_grammar.specs.Modules.{Expr, Origin, Imported, Own, Placed, Body, Function, Table, Memory, Global, Mode, Passive, Declared, Active, Elements, Functions, Expressions, Element, Segment, Module}
 use Rattle.wasm_grammar.specs.Exprs.{Known, is_constant, items_test, some_operators, offset_test}
 use Rattle.wasm_grammar.specs.States.{types_of}
 use Rattle.wasm_sections.specs.Segments.{wide_table, wide_memory}
-use Rattle.wasm_modules.specs.Modules.{Reads}
+use Rattle.wasm_sections.specs.Entities.{no_body}
+use Rattle.wasm_body_grammar.specs.Frames.{Frame, Plain, turned}
+use Rattle.wasm_body_grammar.specs.Rules.{Around, operator_test}
+use Rattle.wasm_body_grammar.specs.Bodies.{most_locals, is_closed, frames_of}
+use Rattle.wasm_body_grammar.specs.Codes.{param_count}
+use Rattle.wasm_modules.specs.Modules.{same_of, Reads}
 use Rattle.wasm_module_rules.specs.Linked.{Each, IsLinked}
 
 -- ---- no list is longer than it may be
@@ -103,22 +111,72 @@ abbrev pub ItemsKnown : Known → Elements → Type 0
 ItemsKnown k (Functions ns) = Unit {0}
 ItemsKnown k (Expressions ty es) = AreExprs k es
 
+-- what is known where tables stand: of the globals those that are imported
+abbrev pub is_imported : Option Global → Bool
+is_imported None = false
+is_imported (Some g) = not (is_some (own_init g.origin))
+
+abbrev pub knows_imported : Module → Known
+knows_imported m = record { types = length (types_of m); functions = length m.functions; globals = filter is_imported m.globals }
+
 pub record AreExpressed (m : Module) : Type 0 where
-  pub tables : Each (λ (t : Table). IsInit (knows m) t.init) m.tables
+  pub tables : Each (λ (t : Table). IsInit (knows_imported m) t.init) m.tables
   pub globals : GlobalsSee (length (types_of m)) (length m.functions) [] m.globals
   pub offsets : Each (λ (e : Element). IsPlaced (table_wide m.tables) (knows m) e.mode) m.elements
   pub items : Each (λ (e : Element). ItemsKnown (knows m) e.items) m.elements
   pub segments : Each (λ (x : Segment). IsPlaced (memory_wide m.memories) (knows m) x.mode) m.segments
 
+-- ---- bodies
+
+-- operators inside these frames: each names what is there and stands where it may, and the last one closes the body
+abbrev pub AreOperators : Around → ℕ → List Frame → List Placed → Type 0
+AreOperators a locals frames [] = is_closed frames ≡ true
+AreOperators a locals frames (p ∷ ops) =
+    (is_closed frames ≡ false) × (operator_test a locals frames p.op ≡ None) × AreOperators a locals (frames_of (turned (flow_of p.op.code) frames) frames) ops
+
+abbrev pub LocalsBelow : ℕ → List ValType → Type 0
+LocalsBelow types [] = Unit {0}
+LocalsBelow types (ty ∷ tys) = ValueBelow types ty × LocalsBelow types tys
+
+-- the body of a function of so many parameters, which are tested where there are locals
+pub record IsBody (a : Around) (params : ℕ) (x : Body) : Type 0 where
+  pub counted : (length x.locals ≡ 0) ⊎ (params + length x.locals ≤ most_locals)
+  pub named : LocalsBelow (length (types_of a.filled)) x.locals
+  pub operators : AreOperators a (params + length x.locals) (Plain ∷ []) x.operators
+
+-- a module without its bodies: these are ruled by what is around them
+abbrev pub bare_origin : Origin Body → Origin Body
+bare_origin (Imported n) = Imported n
+bare_origin (Own body) = Own no_body
+
+abbrev pub bare_slot : Option Function → Option Function
+bare_slot None = None
+bare_slot (Some f) = Some (record f { origin = bare_origin f.origin })
+
+abbrev pub bare : Module → Module
+bare m = record m { functions = map bare_slot m.functions }
+
+-- counted: there is a data count section, which the bytes alone say
+abbrev pub around_bodies : WasmFeatures → Bool → Module → Around
+around_bodies features counted m = record { features = features; filled = bare m; same = same_of m; counted = counted }
+
+abbrev pub OriginRuled : Around → ℕ → Origin Body → Type 0
+OriginRuled a params (Imported n) = Unit {0}
+OriginRuled a params (Own body) = IsBody a params body
+
+abbrev pub HasBody : Around → Function → Type 0
+HasBody a f = OriginRuled a (param_count a.filled f.ty) f.origin
+
 -- ---- all of it
 
-pub record IsRuled (m : Module) : Type 0 where
+pub record IsRuled (features : WasmFeatures) (counted : Bool) (m : Module) : Type 0 where
   pub linked : IsLinked m
-  pub counted : IsCounted m
+  pub lists : IsCounted m
   pub groups : GroupsBelow 0 m.groups
   pub named : AreNamed m
   pub expressed : AreExpressed m
+  pub bodies : Each (λ (f : Function). HasBody (around_bodies features counted m) f) m.functions
 
 -- what reads meets them
 abbrev pub ReadModulesAreRuled : Type 0
-ReadModulesAreRuled = (features : WasmFeatures) (bytes : List ℕ) (m : Module) → Reads features bytes m → IsRuled m
+ReadModulesAreRuled = (features : WasmFeatures) (bytes : List ℕ) (m : Module) → Reads features bytes m → (counted : Bool) × IsRuled features counted m

@@ -3,4 +3,5 @@ pub mod Exprs
 pub mod Entries
 pub mod Segments
 pub mod Sections
+pub mod Flags
 pub mod Laws
