@@ -48,7 +48,7 @@ same_items : (is : List Item) → map (with_pick same) is ≡ is
 same_items [] = refl
 same_items (i ∷ is) = ap (λ (j : Item). j ∷ map (with_pick same) is) (same_item i) ∙ ap (λ (js : List Item). i ∷ js) (same_items is)
 
-same_op : (op : Seen) → picked same op ≡ op
+pub same_op : (op : Seen) → picked same op ≡ op
 same_op op = ap (λ (is : List Item). record { code = op.code; items = is }) (same_items op.items)
 
 begun_so : (s : Sight) (around : List ℕ) (op : Seen) (g : Opener) (ty : InstrSeqType) → IsOpener s around op g → OpensOf s op ty → IsBegun (meaning s) around g ty op
