@@ -1,0 +1,3 @@
+mod Handling
+mod Labels
+mod Closing

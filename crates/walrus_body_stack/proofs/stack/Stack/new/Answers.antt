@@ -1,0 +1,16 @@
+use Rattle.std.proofs.Common.{◌≡◌, List, Some, sym, subst}
+use Rattle.std.specs.Prelude.{slice_index_or}
+use Rattle.walrus_instr.specs.declared.seq.InstrSeq.{InstrSeq}
+use Rattle.walrus_builder.specs.Built.{contents}
+use Rattle.walrus_body_nesting.specs.Opens.{type_at}
+use Rattle.walrus_body_stack.proofs.Labels.{first_type, body_open}
+use Rattle.walrus_body_stack.proofs.stack.Stack.new.Goals as goal
+
+pub returns-clause-opens : goal.returns-clause-opens
+returns-clause-opens c =
+    let x = c.index-seqs-0.result in
+    let F : List InstrSeq → Type 0 = λ ss. type_at (contents c.args.builder.builder) 0 ≡ Some (slice_index_or ss 0 x).ty in (
+      (slice_index_or c.seqs.result.now 0 x).ty,
+      subst F (sym c.seqs.ensures) (first_type c.args.builder.builder.seqs x c.requires),
+      body_open c.default.result (slice_index_or c.seqs.result.now 0 x).ty c.func_body_id-first.result c.new-2.result.items c.new-3.result.items c.default.ensures c.func_body_id-first.ensures c.new-2.ensures.items c.new-3.ensures.items,
+    )

@@ -1,0 +1,2 @@
+pub mod Catches
+pub mod Frames
