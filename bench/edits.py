@@ -50,8 +50,8 @@ def main():
             began = used()
             ran = rt.checked(crate, texts, ["--jobs", "1"], kept)
             seconds = used() - began
-            lines = [it for it in ran.stdout.split("\n") if re.match(r"\S+:\d+:\d+:.*error", it)]
-            said = "proved" if not ran.returncode else lines[0][:150] if lines else ran.stdout.strip()[-150:]
+            lines = [it.strip() for it in ran.stdout.split("\n") if re.search(r"^(note: )?\S+:\d+:\d+:|^fn \S+: (not proved|no proof)", it)]
+            said = "proved" if not ran.returncode else "; ".join(it[:150] for it in lines[:2])
             print(f"{seconds:7.1f} {os.path.basename(edit) if edit else 'no edit'}: {said}", flush=True)
 
 

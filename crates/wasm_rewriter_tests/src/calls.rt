@@ -1,6 +1,6 @@
 // Calls and start functions.
 use crate::pieces::{
-    CODE, EXPORT, FUNCTION, HEADER, SMALLEST, TWO_FUNCTIONS, TYPE, check_rewritten, fault_in,
+    CODE, EXPORT, FUNCTION, HEADER, SMALLEST, TWO_FUNCTIONS, TYPE, fault_in, rewrites,
 };
 use std::test::Fail;
 use wasm_rewriter::{Fault, Space};
@@ -14,7 +14,8 @@ fn calls_have_new_numbers(rt: HostRuntime) -> Result<(), Fail> {
     let new_code: &[u8] = b"\x0a\x0c\x02\x05\x00\x41\x07\x1a\x0b\x04\x00\x10\x00\x0b";
     let output = [HEADER, TYPE, TWO_FUNCTIONS, second_exported, new_code];
     let places = [(8, 3), (10, 5), (11, 6), (3, 9), (5, 11)];
-    check_rewritten(&rt, rt.alloc(), &input, &output, &places)
+    assert!(rt; rewrites(rt.alloc(), &input, &output, &places)?);
+    Ok(())
 }
 
 #[test]
@@ -40,14 +41,16 @@ fn what_is_called_is_kept(rt: HostRuntime) -> Result<(), Fail> {
         (12, 12),
         (14, 14),
     ];
-    check_rewritten(&rt, rt.alloc(), &input, &output, &places)
+    assert!(rt; rewrites(rt.alloc(), &input, &output, &places)?);
+    Ok(())
 }
 
 #[test]
 fn a_start_function_stays(rt: HostRuntime) -> Result<(), Fail> {
     let start: &[u8] = b"\x08\x01\x00";
     let input = [HEADER, TYPE, FUNCTION, start, CODE];
-    check_rewritten(&rt, rt.alloc(), &input, &input, &[(3, 3)])
+    assert!(rt; rewrites(rt.alloc(), &input, &input, &[(3, 3)])?);
+    Ok(())
 }
 
 #[test]
@@ -55,7 +58,8 @@ fn a_cycle_that_nothing_reaches_goes(rt: HostRuntime) -> Result<(), Fail> {
     let three_functions: &[u8] = b"\x03\x04\x03\x00\x00\x00";
     let code: &[u8] = b"\x0a\x0e\x03\x02\x00\x0b\x04\x00\x10\x02\x0b\x04\x00\x10\x01\x0b";
     let input = [HEADER, TYPE, three_functions, EXPORT, code];
-    check_rewritten(&rt, rt.alloc(), &input, &SMALLEST, &[(3, 3)])
+    assert!(rt; rewrites(rt.alloc(), &input, &SMALLEST, &[(3, 3)])?);
+    Ok(())
 }
 
 #[test]
@@ -63,15 +67,9 @@ fn a_missing_function_is_refused(rt: HostRuntime) -> Result<(), Fail> {
     let space = Space::Function;
     let calls: &[u8] = b"\x0a\x06\x01\x04\x00\x10\x05\x0b";
     let input = [HEADER, TYPE, FUNCTION, EXPORT, calls];
-    assert_eq!(rt;
-        fault_in(rt.alloc(), &input)?,
-        Some(Fault::Index { space, offset: 30 })
-    );
+    assert!(rt; fault_in(rt.alloc(), &input)? == Some(Fault::Index { space, offset: 30 }));
     let start: &[u8] = b"\x08\x01\x01";
     let input = [HEADER, TYPE, FUNCTION, start];
-    assert_eq!(rt;
-        fault_in(rt.alloc(), &input)?,
-        Some(Fault::Index { space, offset: 20 })
-    );
+    assert!(rt; fault_in(rt.alloc(), &input)? == Some(Fault::Index { space, offset: 20 }));
     Ok(())
 }

@@ -1,7 +1,7 @@
 // What is rewritten, to what, and with which places.
 use crate::pieces::{
-    CODE, EXPORT, FUNCTION, HEADER, NOP_CODE, SMALLEST, TWO_FUNCTIONS, TYPE, check_rewritten,
-    exported, fault_in, is_module, with_places,
+    CODE, EXPORT, FUNCTION, HEADER, NOP_CODE, SMALLEST, TWO_FUNCTIONS, TYPE, exported, fault_in,
+    has_places, is_module, rewrites, with_places,
 };
 use std::alloc::Global;
 use std::test::Fail;
@@ -31,7 +31,7 @@ fn bodies_are_written_in_normal_form(rt: HostRuntime) -> Result<(), Fail> {
     for (code, new_code, places) in examples {
         let input = [HEADER, TYPE, FUNCTION, EXPORT, code];
         let output = [HEADER, TYPE, FUNCTION, EXPORT, new_code];
-        check_rewritten(&rt, rt.alloc(), &input, &output, places)?;
+        assert!(rt; rewrites(rt.alloc(), &input, &output, places)?);
     }
     Ok(())
 }
@@ -41,7 +41,8 @@ fn what_nothing_reaches_goes(rt: HostRuntime) -> Result<(), Fail> {
     let second_exported: &[u8] = b"\x07\x05\x01\x01f\x00\x01";
     let code: &[u8] = b"\x0a\x08\x02\x03\x00\x0f\x0b\x02\x00\x0b";
     let input = [HEADER, TYPE, TWO_FUNCTIONS, second_exported, code];
-    check_rewritten(&rt, rt.alloc(), &input, &SMALLEST, &[(7, 3)])
+    assert!(rt; rewrites(rt.alloc(), &input, &SMALLEST, &[(7, 3)])?);
+    Ok(())
 }
 
 #[test]
@@ -49,44 +50,51 @@ fn equal_types_merge(rt: HostRuntime) -> Result<(), Fail> {
     let types: &[u8] = b"\x01\x07\x02\x60\x00\x00\x60\x00\x00";
     let function_of_the_second: &[u8] = b"\x03\x02\x01\x01";
     let input = [HEADER, types, function_of_the_second, EXPORT, CODE];
-    check_rewritten(&rt, rt.alloc(), &input, &SMALLEST, &[(3, 3)])
+    assert!(rt; rewrites(rt.alloc(), &input, &SMALLEST, &[(3, 3)])?);
+    Ok(())
 }
 
 #[test]
 fn padded_numbers_are_written_short(rt: HostRuntime) -> Result<(), Fail> {
     let padded: &[u8] = b"\x01\x84\x00\x01\x60\x00\x00";
     let input = [HEADER, padded, FUNCTION, EXPORT, CODE];
-    check_rewritten(&rt, rt.alloc(), &input, &SMALLEST, &[(3, 3)])
+    assert!(rt; rewrites(rt.alloc(), &input, &SMALLEST, &[(3, 3)])?);
+    Ok(())
 }
 
 #[test]
 fn a_header_stays_alone(rt: HostRuntime) -> Result<(), Fail> {
-    check_rewritten(&rt, rt.alloc(), &[HEADER], &[HEADER], &[])
+    assert!(rt; rewrites(rt.alloc(), &[HEADER], &[HEADER], &[])?);
+    Ok(())
+}
+
+// What the header alone is rewritten to.
+fn rewritten_header(alloc: Global, producers: bool) -> Result<Rewritten, Fail> {
+    let mut options = with_places();
+    options.producers = producers;
+    Ok(rewrite(alloc, HEADER, &options)?)
 }
 
 #[test]
 fn producers_tell_who_processed_a_module(rt: HostRuntime) -> Result<(), Fail> {
-    let mut options = with_places();
-    options.producers = true;
     let producers: &[u8] = b"\x00\x27\x09producers\x01\x0cprocessed-by\x01\x06walrus\x060.28.0";
-    let rewritten = rewrite(rt.alloc(), HEADER, &options)?;
+    let rewritten = rewritten_header(rt.alloc(), true)?;
     assert!(rt; is_module(rt.alloc(), &rewritten.bytes, &[HEADER, producers])?);
-    let pairs = rewritten.places.expect(&rt, "no places");
-    assert!(rt; pairs.is_empty());
+    assert!(rt; has_places(&rewritten, &[]));
     Ok(())
 }
 
 // What a function of one `nop` is rewritten to.
-fn rewritten(alloc: Global, options: &Options) -> Result<Rewritten, Fail> {
+fn rewritten(alloc: Global, places: bool) -> Result<Rewritten, Fail> {
+    let mut options = with_places();
+    options.places = places;
     let input = exported(alloc, NOP_CODE)?;
-    Ok(rewrite(alloc, &input, options)?)
+    Ok(rewrite(alloc, &input, &options)?)
 }
 
 #[test]
 fn places_are_given_where_asked_for(rt: HostRuntime) -> Result<(), Fail> {
-    let mut options = with_places();
-    options.places = false;
-    let rewritten = rewritten(rt.alloc(), &options)?;
+    let rewritten = rewritten(rt.alloc(), false)?;
     assert!(rt; is_module(rt.alloc(), &rewritten.bytes, &SMALLEST)?);
     assert!(rt; rewritten.places.is_none());
     Ok(())
@@ -94,10 +102,9 @@ fn places_are_given_where_asked_for(rt: HostRuntime) -> Result<(), Fail> {
 
 #[test]
 fn a_copy_has_the_same_bytes_and_places(rt: HostRuntime) -> Result<(), Fail> {
-    let copy = rewritten(rt.alloc(), &with_places())?.clone()?;
+    let copy = rewritten(rt.alloc(), true)?.clone()?;
     assert!(rt; is_module(rt.alloc(), &copy.bytes, &SMALLEST)?);
-    let pairs = copy.places.expect(&rt, "no places");
-    assert_eq!(rt; pairs.as_slice(), [(4, 3)].as_slice());
+    assert!(rt; has_places(&copy, &[(4, 3)]));
     Ok(())
 }
 
@@ -105,10 +112,7 @@ fn a_copy_has_the_same_bytes_and_places(rt: HostRuntime) -> Result<(), Fail> {
 fn an_export_of_a_missing_function_is_refused(rt: HostRuntime) -> Result<(), Fail> {
     let input = [HEADER, EXPORT];
     let space = Space::Function;
-    assert_eq!(rt;
-        fault_in(rt.alloc(), &input)?,
-        Some(Fault::Index { space, offset: 14 })
-    );
+    assert!(rt; fault_in(rt.alloc(), &input)? == Some(Fault::Index { space, offset: 14 }));
     Ok(())
 }
 
@@ -121,5 +125,5 @@ fn a_call_asks_for_names_and_producers_alone(rt: HostRuntime) {
         producers: true,
         places: false,
     };
-    assert_eq!(rt; Options::new(), want);
+    assert!(rt; Options::new() == want);
 }

@@ -1,8 +1,12 @@
-//! Tests of `wasm_rewriter`, against examples that were worked by hand.
+//! Tests of `wasm_rewriter` and of the crates below it, against examples that were worked by hand.
 #![tactic(auto)]
 
 #[cfg(test)]
+mod bodies;
+#[cfg(test)]
 mod calls;
+#[cfg(test)]
+mod devices;
 #[cfg(test)]
 mod examples;
 #[cfg(test)]
@@ -10,8 +14,14 @@ mod faults;
 #[cfg(test)]
 mod limits;
 #[cfg(test)]
+mod numbering;
+#[cfg(test)]
 mod pieces;
 #[cfg(test)]
 mod prefixes;
 #[cfg(test)]
+mod reading;
+#[cfg(test)]
 mod runs;
+#[cfg(test)]
+mod standard;

@@ -1,5 +1,6 @@
 // A module that is cut off at each length.
 use crate::pieces::{HEADER, NOP_CODE, exported, with_places};
+use std::alloc::{AllocError, Global};
 use std::test::Fail;
 use wasm_rewriter::rewrite;
 
@@ -28,24 +29,25 @@ fn refusal(len: usize) -> Option<(&'static str, usize)> {
     None
 }
 
+// Whether the first `len` bytes are refused as the table says, and else rewritten to the header.
+fn is_answered(alloc: Global, bytes: &[u8], len: usize) -> Result<bool, AllocError> {
+    let answer = rewrite(alloc, bytes, &with_places());
+    Ok(match (answer, refusal(len)) {
+        (Ok(rewritten), None) => rewritten.bytes.as_slice() == HEADER,
+        (Err(fault), Some((text, offset))) => {
+            let told = fault.to_string(alloc)?;
+            told.as_str() == text && fault.offset() == Some(offset as u64)
+        }
+        _ => false,
+    })
+}
+
 #[test]
 fn prefixes_are_refused_by_their_length(rt: HostRuntime) -> Result<(), Fail> {
     let module = exported(rt.alloc(), NOP_CODE)?;
     assert_eq!(rt; module.len(), 32);
     for len in 0..module.len() {
-        match (
-            rewrite(rt.alloc(), &module[..len], &with_places()),
-            refusal(len),
-        ) {
-            (Ok(rewritten), None) => {
-                assert_eq!(rt; rewritten.bytes.as_slice(), HEADER, "at {len}");
-            }
-            (Err(fault), Some((text, offset))) => {
-                assert_eq!(rt; fault.to_string(rt.alloc())?.as_str(), text, "at {len}");
-                assert_eq!(rt; fault.offset(), Some(offset as u64), "at {len}");
-            }
-            (answer, _) => assert!(rt; false, "at {len}: {}", answer.is_ok()),
-        }
+        assert!(rt; is_answered(rt.alloc(), &module[..len], len)?, "at {len}");
     }
     Ok(())
 }

@@ -1,34 +1,27 @@
 // Where devices fail, and what stands then.
+use crate::devices::sink_of;
 use crate::pieces::{EXPORT, HEADER, NOP_CODE, exported, smallest, with_places};
-use std::alloc::Global;
-use std::process::Abort;
+use std::alloc::{AllocError, Global};
 use std::test::Fail;
-use wasm_rewriter::{Fault, MemorySink, MemorySource, SinkFail, Space, Summary, run};
+use wasm_rewriter::{Fault, MemorySource, SinkFail, Space, Summary, run};
 
 // Where the devices of a run fail: the reader before this read, and the two writers.
 type Failing = (Option<u64>, SinkFail, SinkFail);
 
-// Asserts that a run on these bytes answers this, and what both sinks took.
-fn check_run(
-    rt: &impl Abort,
+// Whether a run on these bytes answers this, and both sinks took these bytes.
+fn runs(
     alloc: Global,
     bytes: &[u8],
     failing: Failing,
     answer: Result<Summary, Fault>,
     taken: (&[u8], &[u8]),
-) -> Result<(), Fail> {
+) -> Result<bool, AllocError> {
     let (failing_read, fail, places_fail) = failing;
     let mut source = MemorySource::new(bytes, failing_read);
-    let mut sink = MemorySink::new(alloc, 40, fail)?;
-    let mut places = MemorySink::new(alloc, 8, places_fail)?;
+    let mut sink = sink_of(alloc, 40, fail)?;
+    let mut places = sink_of(alloc, 8, places_fail)?;
     let found = run(alloc, &mut source, &mut sink, &mut places, &with_places());
-    assert_eq!(rt; found, answer, "{fail:?} {places_fail:?}");
-    assert_eq!(rt;
-        (sink.bytes(), places.bytes()),
-        taken,
-        "{fail:?} {places_fail:?}"
-    );
-    Ok(())
+    Ok(found == answer && sink.bytes() == taken.0 && places.bytes() == taken.1)
 }
 
 #[test]
@@ -40,14 +33,8 @@ fn what_is_written_is_counted(rt: HostRuntime) -> Result<(), Fail> {
         places: 1,
     });
     let failing = (None, SinkFail::Never, SinkFail::Never);
-    check_run(
-        &rt,
-        rt.alloc(),
-        &input,
-        failing,
-        answer,
-        (&output, b"4 3\n"),
-    )
+    assert!(rt; runs(rt.alloc(), &input, failing, answer, (&output, b"4 3\n"))?);
+    Ok(())
 }
 
 #[test]
@@ -60,12 +47,13 @@ fn a_writer_that_fails_has_the_first_bytes(rt: HostRuntime) -> Result<(), Fail> 
         let front = &output[..written as usize];
         for fail in [SinkFail::After(written), SinkFail::Zero(written)] {
             let failing = (None, fail, SinkFail::Never);
-            check_run(&rt, rt.alloc(), &input, failing, answer, (front, b""))?;
+            assert!(rt; runs(rt.alloc(), &input, failing, answer, (front, b""))?);
         }
     }
     let answer = Err(Fault::WriterFault { written: 31 });
     let failing = (None, SinkFail::Flush, SinkFail::Never);
-    check_run(&rt, rt.alloc(), &input, failing, answer, (&output, b""))
+    assert!(rt; runs(rt.alloc(), &input, failing, answer, (&output, b""))?);
+    Ok(())
 }
 
 #[test]
@@ -83,7 +71,7 @@ fn a_places_writer_that_fails_has_the_first_of_the_lines(rt: HostRuntime) -> Res
         let answer = Err(Fault::PlacesFault { written });
         let lines = &b"4 3\n"[..written as usize];
         let failing = (None, SinkFail::Never, fail);
-        check_run(&rt, rt.alloc(), &input, failing, answer, (&output, lines))?;
+        assert!(rt; runs(rt.alloc(), &input, failing, answer, (&output, lines))?);
     }
     Ok(())
 }
@@ -94,7 +82,7 @@ fn nothing_is_written_of_what_is_not_read(rt: HostRuntime) -> Result<(), Fail> {
     let answer = Err(Fault::ReaderFault);
     for failing_read in [0, 1] {
         let failing = (Some(failing_read), SinkFail::Never, SinkFail::Never);
-        check_run(&rt, rt.alloc(), &input, failing, answer, (b"", b""))?;
+        assert!(rt; runs(rt.alloc(), &input, failing, answer, (b"", b""))?);
     }
     Ok(())
 }
@@ -108,5 +96,6 @@ fn nothing_is_written_of_what_is_refused(rt: HostRuntime) -> Result<(), Fail> {
         offset: 14,
     });
     let failing = (None, SinkFail::Never, SinkFail::Never);
-    check_run(&rt, rt.alloc(), &refused, failing, answer, (b"", b""))
+    assert!(rt; runs(rt.alloc(), &refused, failing, answer, (b"", b""))?);
+    Ok(())
 }

@@ -8,7 +8,7 @@ use Rattle.wasm_model.specs.Bodies.{operator_at, operators_at, code_at}
 use Rattle.rewriter_module.specs.declared.Function.{Function}
 use Rattle.rewriter_module.specs.Meaning.{code_or_none, code_in, IsSound}
 use Rattle.rewriter_part.proofs.SortLemmas.{some_Contains}
-use Rattle.rewriter_part_tests.proofs.numbering.functions.Goals as goal
+use Rattle.wasm_rewriter_tests.proofs.numbering.functions.Goals as goal
 
 -- a function's bytes spell its code, and its size is that of the normal form
 record Fits (known : Known) (f : Function) : Type 0 where

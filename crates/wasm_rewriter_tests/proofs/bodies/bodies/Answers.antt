@@ -1,5 +1,5 @@
 use Rattle.std.proofs.Common.{arith, rules, ◌≡◌, length}
-use Rattle.rewriter_bodies_tests.proofs.bodies.bodies.Goals as goal
+use Rattle.wasm_rewriter_tests.proofs.bodies.bodies.Goals as goal
 
 pub measure_body-bytes-requires-clause-reads : goal.measure_body-bytes-requires-clause-reads
 measure_body-bytes-requires-clause-reads g c =

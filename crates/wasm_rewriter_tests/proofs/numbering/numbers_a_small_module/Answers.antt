@@ -1,7 +1,7 @@
 use Rattle.std.proofs.Common.{◌≡◌, ℕ, false, length, sym, subst, arith}
 use Rattle.wasm_model.specs.Features.{Features}
 use Rattle.rewriter_module.specs.Meaning.{IsSound}
-use Rattle.rewriter_part_tests.proofs.numbering.numbers_a_small_module.Goals as goal
+use Rattle.wasm_rewriter_tests.proofs.numbering.numbers_a_small_module.Goals as goal
 
 pub number-requires-clause-sound : goal.number-requires-clause-sound
 number-requires-clause-sound g c =

@@ -5,7 +5,7 @@ use rewriter_devices::{
     MemorySink, MemorySource, ReadFault, Sink, SinkFail, Source, StdSink, StdSource, WriteFault,
     read_all, send, send_places,
 };
-use std::alloc::Global;
+use std::alloc::{AllocError, Global};
 use std::io;
 use std::io::{ErrorKind, Read};
 use std::test::Fail;
@@ -38,8 +38,8 @@ pub fn stays_failed<S: Sink>(sink: &mut S) -> bool {
     is_refused && is_unflushed
 }
 
-fn sink_of(alloc: Global, room: usize, fail: SinkFail) -> Result<MemorySink, Fail> {
-    Ok(MemorySink::new(alloc, room, fail)?)
+pub fn sink_of(alloc: Global, room: usize, fail: SinkFail) -> Result<MemorySink, AllocError> {
+    MemorySink::new(alloc, room, fail)
 }
 
 #[test]

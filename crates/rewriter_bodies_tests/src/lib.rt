@@ -1,5 +1,0 @@
-//! Tests of bodies: what is checked, measured and written.
-#![tactic(auto)]
-
-#[cfg(test)]
-mod bodies;
