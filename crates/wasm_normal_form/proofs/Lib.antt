@@ -1,2 +1,3 @@
 mod Nesting
+mod Renaming
 mod Worked

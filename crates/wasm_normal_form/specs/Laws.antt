@@ -1,9 +1,10 @@
 -- What holds of trees and of normal forms.
-use Rattle.std.specs.Prelude.{◌≡◌, List}
+use Rattle.std.specs.Prelude.{◌≡◌, ℕ, List, map}
 use Rattle.wasm_immediates.specs.declared.block_type.BlockType.{BlockType}
 use Rattle.wasm_normal_form.specs.Roles.{Placed}
 use Rattle.wasm_normal_form.specs.Trees.{Tree, NestAs, tree_of}
 use Rattle.wasm_normal_form.specs.Normal.{normal, normal_ops}
+use Rattle.wasm_normal_form.specs.Bodies.{with_locals}
 
 -- operators nest as one tree at most: the one that is told of them
 abbrev pub TreeIsOne : Type 0
@@ -20,3 +21,8 @@ IsPick pick = (ty : BlockType) → pick (pick ty) ≡ pick ty
 -- the normal form of a normal form is itself
 abbrev pub NormalAgain : Type 0
 NormalAgain = (pick : BlockType → BlockType) (ops : List Placed) (t : Tree) → IsPick pick → NestAs ops t → normal_ops pick (normal_ops pick ops) ≡ normal_ops pick ops
+
+-- the normal form of a normal form whose locals have new numbers is itself
+abbrev pub RenamedAgain : Type 0
+RenamedAgain = (number : ℕ → ℕ) (pick : BlockType → BlockType) (ops : List Placed) (t : Tree) → IsPick pick → NestAs ops t
+    → normal_ops pick (map (with_locals number) (normal_ops pick ops)) ≡ map (with_locals number) (normal_ops pick ops)
