@@ -58,8 +58,9 @@ get_is (y ∷ xs) (suc n) x below e = get_is xs n x (omega arith) e
 
 pub named_now : (b : List InstrSeq) (n : ℕ) (s : InstrSeq) (m c : State) → slice_get b n ≡ Some s → Reaches b n → Meets (λ y. Contains (known_items n (Some s)) y) m c → Meets (SeqNames b n) m c
 named_now b n s m c at reached now = meets_same (λ y. Contains (known_items n (Some s)) y) (SeqNames b n) m c (λ y. (
-    λ h. (reached, subst (λ (o : Option InstrSeq). Contains (known_items n o) y) (sym at) h),
-    λ h. subst (λ (o : Option InstrSeq). Contains (known_items n o) y) at h.1)) now
+  λ h. (reached, subst (λ (o : Option InstrSeq). Contains (known_items n o) y) (sym at) h),
+  λ h. subst (λ (o : Option InstrSeq). Contains (known_items n o) y) at h.1,
+)) now
 
 pub all_named : (b : List InstrSeq) (a m : State) → Meets (Below (SeqNames b) (length b)) a m → Meets (BodyNames b) a m
 all_named b a m before = meets_same (λ y. (k : ℕ) × SeqNames b k y) (BodyNames b) a m (λ y. (λ h. (h.0, h.1.0, h.1.1), λ h. (h.0, (h.1, h.2))))

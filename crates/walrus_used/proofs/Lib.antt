@@ -1,3 +1,7 @@
 pub mod BodyLemmas
+pub mod GroupLemmas
 pub mod LooksLemmas
 pub mod MeetsLemmas
+pub mod ModuleLemmas
+pub mod RootLemmas
+pub mod SegmentLemmas

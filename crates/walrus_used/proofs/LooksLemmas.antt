@@ -23,10 +23,10 @@ use Rattle.walrus_references.specs.References.{Refers, RefersIn, Named, named_by
 use Rattle.walrus_references.specs.Roots.{Root, is_active}
 use Rattle.walrus_used.specs.Looks.{Looks, LooksIn, AreActive, group_items, live_items, table_looks, memory_looks}
 
-none_in : {X : Type 0} (x : X) → Contains [] x → ⊥
+pub none_in : {X : Type 0} (x : X) → Contains [] x → ⊥
 none_in x c = omega (arith, c.1)
 
-first_in : {X : Type 0} (x : X) (xs : List X) → Contains (x ∷ xs) x
+pub first_in : {X : Type 0} (x : X) (xs : List X) → Contains (x ∷ xs) x
 first_in x xs = (0, omega arith, refl)
 
 later_in : {X : Type 0} (y : X) (xs : List X) (x : X) → Contains xs x → Contains (y ∷ xs) x
@@ -39,7 +39,7 @@ at_cases y xs x (suc k) below e = inr (k, omega arith, e)
 cases_in : {X : Type 0} (y : X) (xs : List X) (x : X) → Contains (y ∷ xs) x → (y ≡ x) ⊎ Contains xs x
 cases_in y xs x c = at_cases y xs x c.0 c.1 c.2
 
-only_in : {X : Type 0} (y x : X) → Contains (y ∷ []) x → y ≡ x
+pub only_in : {X : Type 0} (y x : X) → Contains (y ∷ []) x → y ≡ x
 only_in y x c = elim (cases_in y [] x c) as (λ _. y ≡ x) [ inl e ↦ e | inr d ↦ absurd (none_in x d) ]
 
 -- ---- groups
@@ -58,11 +58,11 @@ to_first : (id first : ℕ) (rest : List ℕ) → (id ≡ first → ⊥) → Con
 to_first id first rest other = rw (ne_eqb id first other) (first_in (item spaces.Type first) [])
 
 -- ---- segments that are listed
-one_live : (b : Bool) (i y : Item) → Contains (if b then i ∷ [] else []) y → (b ≡ true) × (i ≡ y)
+pub one_live : (b : Bool) (i y : Item) → Contains (if b then i ∷ [] else []) y → (b ≡ true) × (i ≡ y)
 one_live true i y c = (refl, only_in i y c)
 one_live false i y c = absurd (none_in y c)
 
-one_back : (b : Bool) (i y : Item) → b ≡ true → i ≡ y → Contains (if b then i ∷ [] else []) y
+pub one_back : (b : Bool) (i y : Item) → b ≡ true → i ≡ y → Contains (if b then i ∷ [] else []) y
 one_back true i y e same = subst (λ z. Contains (i ∷ []) z) same (first_in i [])
 one_back false i y e same = absurd cc
 
@@ -78,7 +78,7 @@ module _ {T : Type 0} (a : Arena T) (space : Space) where
   live_back [] y id is c live = absurd (none_in id c)
   live_back (i ∷ ids) y id is c live = elim (cases_in i ids id c) as (λ _. Contains (live_items a space (i ∷ ids)) y) [
     | inl e ↦ Contains-append_left (if is_some (item_at a i) then item space i ∷ [] else []) (live_items a space ids) y
-      (one_back (is_some (item_at a i)) (item space i) y (subst (λ k. IsLive a k) (sym e) live) (ap (item space) e ∙ sym is))
+        (one_back (is_some (item_at a i)) (item space i) y (subst (λ k. IsLive a k) (sym e) live) (ap (item space) e ∙ sym is))
     | inr d ↦ Contains-append_right (if is_some (item_at a i) then item space i ∷ [] else []) (live_items a space ids) y (live_back ids y id is d live)
   ]
 
@@ -129,9 +129,9 @@ module _ (m : Module) (active : List (List Item)) (ok : AreActive m active) wher
     group_on id group y k has ex (first ∷ rest) is c = elim (cases_eq id first) as (λ _. Looked y) [
       | inl e ↦ refers k (inr (group, has, ex, subst (λ (ms : List ℕ). Contains (group_items id ms) y) (sym is) (by_first id first rest y e c)))
       | inr other ↦
-        let one : Looked (item spaces.Type first) = refers k (inr (group, has, ex, subst (λ (ms : List ℕ). Contains (group_items id ms) (item spaces.Type first)) (sym is) (to_first id first rest other))) in
-        let has_first : HasMember m.types first group = record { place = has.place; live = has.live; listed = subst (λ (ms : List ℕ). Contains ms first) (sym is) (first_in first rest) } in
-        refers one (inr (group, has_first, ex, subst (λ (ms : List ℕ). Contains (group_items first ms) y) (sym is) (by_first first first rest y refl c)))
+          let one : Looked (item spaces.Type first) = refers k (inr (group, has, ex, subst (λ (ms : List ℕ). Contains (group_items id ms) (item spaces.Type first)) (sym is) (to_first id first rest other))) in
+          let has_first : HasMember m.types first group = record { place = has.place; live = has.live; listed = subst (λ (ms : List ℕ). Contains ms first) (sym is) (first_in first rest) } in
+          refers one (inr (group, has_first, ex, subst (λ (ms : List ℕ). Contains (group_items first ms) y) (sym is) (by_first first first rest y refl c)))
     ]
 
     table_back : (id : ℕ) (o : Option Table) (y : Item) → id < length m.tables.slots ⊎ (o ≡ None) → Contains (named_by table_items o) y ⊎ Named o (λ t. HasElement m id t y) → Contains (named_by (table_looks m active id) o) y

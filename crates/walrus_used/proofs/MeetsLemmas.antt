@@ -27,8 +27,9 @@ pub meets_then : (P Q : Item → Type 0) (a b c : State) → Meets P a b → Mee
 meets_then P Q a b c m n = record {
   items = m.items ++ n.items;
   are = λ x. (
-      λ h. elim (Contains-append_cases m.items n.items x h) as (λ _. P x ⊎ Q x) [ inl l ↦ inl ((m.are x).0 l) | inr r ↦ inr ((n.are x).0 r) ],
-      λ h. elim h as (λ _. Contains (m.items ++ n.items) x) [ inl p ↦ Contains-append_left m.items n.items x ((m.are x).1 p) | inr q ↦ Contains-append_right m.items n.items x ((n.are x).1 q) ]);
+    λ h. elim (Contains-append_cases m.items n.items x h) as (λ _. P x ⊎ Q x) [ inl l ↦ inl ((m.are x).0 l) | inr r ↦ inr ((n.are x).0 r) ],
+    λ h. elim h as (λ _. Contains (m.items ++ n.items) x) [ inl p ↦ Contains-append_left m.items n.items x ((m.are x).1 p) | inr q ↦ Contains-append_right m.items n.items x ((n.are x).1 q) ],
+  );
   met = n.met ∙ ap (λ (s : State). fold meet s n.items) m.met ∙ sym (fold-append meet a m.items n.items);
 }
 
@@ -39,14 +40,16 @@ module _ (P : ℕ → Item → Type 0) where
 
   pub below_more : (n : ℕ) (a m c : State) → Meets (Below P n) a m → Meets (P n) m c → Meets (Below P (n + 1)) a c
   below_more n a m c before now = meets_same (λ x. Below P n x ⊎ P n x) (Below P (n + 1)) a c (λ x. (
-      λ h. elim h as (λ _. Below P (n + 1) x) [ inl l ↦ (l.0, omega (arith, l.1), l.2) | inr r ↦ (n, omega arith, r) ],
-      λ h. elim (cases_eq h.0 n) as (λ _. Below P n x ⊎ P n x) [ inl e ↦ inr (subst (λ k. P k x) e h.2) | inr other ↦ inl (h.0, omega (arith, h.1, other), h.2) ]))
-    (meets_then (Below P n) (P n) a m c before now)
+    λ h. elim h as (λ _. Below P (n + 1) x) [ inl l ↦ (l.0, omega (arith, l.1), l.2) | inr r ↦ (n, omega arith, r) ],
+    λ h. elim (cases_eq h.0 n) as (λ _. Below P n x ⊎ P n x) [ inl e ↦ inr (subst (λ k. P k x) e h.2) | inr other ↦ inl (h.0, omega (arith, h.1, other), h.2) ],
+  ))
+      (meets_then (Below P n) (P n) a m c before now)
 
   pub below_skip : (n : ℕ) (a m : State) → ((x : Item) → P n x → ⊥) → Meets (Below P n) a m → Meets (Below P (n + 1)) a m
   below_skip n a m none before = meets_same (Below P n) (Below P (n + 1)) a m (λ x. (
-      λ l. (l.0, omega (arith, l.1), l.2),
-      λ h. elim (cases_eq h.0 n) as (λ _. Below P n x) [ inl e ↦ absurd (none x (subst (λ k. P k x) e h.2)) | inr other ↦ (h.0, omega (arith, h.1, other), h.2) ])) before
+    λ l. (l.0, omega (arith, l.1), l.2),
+    λ h. elim (cases_eq h.0 n) as (λ _. Below P n x) [ inl e ↦ absurd (none x (subst (λ k. P k x) e h.2)) | inr other ↦ (h.0, omega (arith, h.1, other), h.2) ],
+  )) before
 
   pub below_all : (n : ℕ) (a m : State) → ((k : ℕ) (x : Item) → P k x → k < n) → Meets (Below P n) a m → Meets (λ x. (k : ℕ) × P k x) a m
   below_all n a m bound before = meets_same (Below P n) (λ x. (k : ℕ) × P k x) a m (λ x. (λ h. (h.0, h.2), λ h. (h.0, bound h.0 x h.1, h.1))) before

@@ -36,3 +36,8 @@ abbrev pub rooted_element : Arena Table → ℕ → ElementKind → List Item
 rooted_element tables id elements.Passive = []
 rooted_element tables id elements.Declared = item spaces.Element id ∷ []
 rooted_element tables id (elements.Active t _) = if is_imported (item_at tables t) then item spaces.Element id ∷ [] else []
+
+-- the start function
+abbrev pub start_items : Option ℕ → List Item
+start_items (Some f) = item spaces.Function f ∷ []
+start_items None = []

@@ -18,14 +18,14 @@ loop-index-preserved c =
     let n = c.loop-index.index in
     elim c.if-has.branch [
       | then-has w ↦
-        let s = w.index-seqs-index.result in
-        subst (λ (z : State). Meets (Below (SeqNames b) (n + 1)) c.args.marks.now z) (sym w.marks-is)
-        (below_more (SeqNames b) n c.args.marks.now c.loop-index.marks w.meet_seq.new.marks c.loop-index.invariant
+          let s = w.index-seqs-index.result in
+          subst (λ (z : State). Meets (Below (SeqNames b) (n + 1)) c.args.marks.now z) (sym w.marks-is)
+          (below_more (SeqNames b) n c.args.marks.now c.loop-index.marks w.meet_seq.new.marks c.loop-index.invariant
           (named_now b n s c.loop-index.marks w.meet_seq.new.marks (get_is b n s c.loop-index-test.true w.index-seqs-index.is) (was_reached b c.args.reached.now n c.requires (sym c.has.ensures ∙ w.if-has.true))
-            (meets_list (seq_items n s) c.loop-index.marks w.meet_seq.new.marks w.meet_seq.ensures)))
+          (meets_list (seq_items n s) c.loop-index.marks w.meet_seq.new.marks w.meet_seq.ensures)))
       | else-has w ↦
-        subst (λ (z : State). Meets (Below (SeqNames b) (n + 1)) c.args.marks.now z) (sym w.marks-is)
-        (below_skip (SeqNames b) n c.args.marks.now c.loop-index.marks (λ x h. was_not b c.args.reached.now n c.loop-index-test.true c.requires (sym c.has.ensures ∙ w.if-has.false) h.0) c.loop-index.invariant)
+          subst (λ (z : State). Meets (Below (SeqNames b) (n + 1)) c.args.marks.now z) (sym w.marks-is)
+          (below_skip (SeqNames b) n c.args.marks.now c.loop-index.marks (λ x h. was_not b c.args.reached.now n c.loop-index-test.true c.requires (sym c.has.ensures ∙ w.if-has.false) h.0) c.loop-index.invariant)
     ]
 
 pub returns : goal.returns

@@ -1,0 +1,137 @@
+-- What is met for the roots.
+use Rattle.std.proofs.Common.{◌≡◌, ◌∙◌, ◌⊎◌, ◌<◌, ℕ, true, List, [], ◌∷◌, length, Option, Some, None, Contains, refl, sym, ap, subst, inl, inr}
+use Rattle.std.specs.Prelude.{IsSome, MatchOption}
+use Rattle.std.specs.List.{fold}
+use Rattle.std.proofs.lemmas.List.{get_or_past}
+use Rattle.std.proofs.lemmas.Bool.{cases_lt, false≢true}
+use Rattle.wasm_formats.specs.declared.fault.Space.TheVariants as spaces
+use Rattle.walrus_arena.specs.Arena.{Arena, item_at, IsLive}
+use Rattle.walrus_instr.specs.declared.const_expr.ConstExpr.{ConstExpr}
+use Rattle.walrus_module_items.specs.declared.table.Table.{Table}
+use Rattle.walrus_module_items.specs.declared.export.Export.{Export}
+use Rattle.walrus_module_items.specs.declared.data.Data.{Data}
+use Rattle.walrus_module_items.specs.declared.data.DataKind.{DataKind}
+use Rattle.walrus_module_items.specs.declared.data.DataKind.TheVariants as datas
+use Rattle.walrus_module_items.specs.declared.element.Element.{Element}
+use Rattle.walrus_module_items.specs.declared.element.ElementKind.{ElementKind}
+use Rattle.walrus_module_items.specs.declared.element.ElementKind.TheVariants as elements
+use Rattle.walrus_module.specs.declared.module.Module.{Module}
+use Rattle.walrus_roots.specs.declared.item.Item.{Item}
+use Rattle.walrus_roots.specs.Items.{item}
+use Rattle.walrus_marks.specs.Marks.{State, meet}
+use Rattle.walrus_marks.specs.Chains.{Meets}
+use Rattle.walrus_references.specs.Roots.{Root, exports, starts, is_active, fills_import, declares, is_pushed, given_out}
+use Rattle.walrus_used.specs.Picks.{Below, IsPickedAt, IsPicked, active_data, is_imported, rooted_element, start_items}
+use Rattle.walrus_used.proofs.MeetsLemmas.{meets_list, meets_same, meets_then, below_all}
+use Rattle.walrus_used.proofs.LooksLemmas.{none_in, first_in, only_in, one_live, one_back}
+
+-- ---- one collection
+module _ {T : Type 0} (picks : ℕ → T → Item → Type 0) (a : Arena T) where
+  pub picked_now : (n : ℕ) (t : T) (m c : State) → item_at a n ≡ Some t → Meets (picks n t) m c → Meets (IsPickedAt picks a n) m c
+  picked_now n t m c at met = meets_same (picks n t) (IsPickedAt picks a n) m c (λ x. (
+    λ h. subst (λ (o : Option T). MatchOption o ⊥ (λ y. picks n y x)) (sym at) h,
+    λ h. subst (λ (o : Option T). MatchOption o ⊥ (λ y. picks n y x)) at h,
+  )) met
+
+  none_picked : (n : ℕ) (o : Option T) (x : Item) → (IsSome o → ⊥) → MatchOption o ⊥ (λ y. picks n y x) → ⊥
+  none_picked n None x dead h = h
+  none_picked n (Some t) x dead h = dead refl
+
+  pub dead_picks : (n : ℕ) (x : Item) → (IsLive a n → ⊥) → IsPickedAt picks a n x → ⊥
+  dead_picks n x dead h = none_picked n (item_at a n) x dead h
+
+  picked_below : (k : ℕ) (x : Item) → IsPickedAt picks a k x → k < length a.slots
+  picked_below k x h = elim (cases_lt k (length a.slots)) as (λ _. k < length a.slots) [
+    | inl below ↦ below
+    | inr past ↦ absurd (subst (λ (o : Option T). MatchOption o ⊥ (λ y. picks k y x)) (get_or_past a.slots k None past) h)
+  ]
+
+  pub all_picked : (n : ℕ) (m c : State) → n ≡ length a.slots → Meets (Below (IsPickedAt picks a) n) m c → Meets (IsPicked picks a) m c
+  all_picked n m c all met = below_all (IsPickedAt picks a) n m c (λ k x h. subst (λ l. k < l) (sym all) (picked_below k x h)) met
+
+-- ---- the roots
+module _ (m : Module) (pushed : List Item) where
+  abbrev Exported : Item → Type 0
+  Exported x = IsPicked (λ _ (e : Export) y. Contains (given_out e.item ∷ []) y) m.exports x
+
+  abbrev Copied : Item → Type 0
+  Copied x = IsPicked (λ id (d : Data) y. Contains (active_data id d.kind) y) m.data_segments x
+
+  abbrev Rooted : Item → Type 0
+  Rooted x = IsPicked (λ id (e : Element) y. Contains (rooted_element m.tables id e.kind) y) m.elements x
+
+  export_root : (e : ℕ) (o : Option Export) (x : Item) → item_at m.exports e ≡ o → MatchOption o ⊥ (λ (e : Export). Contains (given_out e.item ∷ []) x) → Root m pushed x
+  export_root e None x at h = absurd h
+  export_root e (Some export) x at h = subst (Root m pushed) (only_in (given_out export.item) x h) (exports e export at)
+
+  kind_root : (d : ℕ) (segment : Data) (kind : DataKind) (x : Item) → item_at m.data_segments d ≡ Some segment → segment.kind ≡ kind → Contains (active_data d kind) x → Root m pushed x
+  kind_root d segment (datas.Active memory offset) x at is h = subst (Root m pushed) (only_in (item spaces.Data d) x h) (is_active d memory offset segment at is)
+  kind_root d segment datas.Passive x at is h = absurd (none_in x h)
+
+  data_root : (d : ℕ) (o : Option Data) (x : Item) → item_at m.data_segments d ≡ o → MatchOption o ⊥ (λ (s : Data). Contains (active_data d s.kind) x) → Root m pushed x
+  data_root d None x at h = absurd h
+  data_root d (Some segment) x at h = kind_root d segment segment.kind x at refl h
+
+  filled_root : (e t : ℕ) (offset : ConstExpr) (segment : Element) (o : Option Table) (x : Item) → item_at m.elements e ≡ Some segment → segment.kind ≡ elements.Active t offset → item_at m.tables t ≡ o → is_imported o ≡ true → item spaces.Element e ≡ x → Root m pushed x
+  filled_root e t offset segment None x at is there imported same = absurd (false≢true imported)
+  filled_root e t offset segment (Some table) x at is there imported same = subst (Root m pushed) same (fills_import e t offset segment table at is there imported)
+
+  place_root : (e : ℕ) (segment : Element) (kind : ElementKind) (x : Item) → item_at m.elements e ≡ Some segment → segment.kind ≡ kind → Contains (rooted_element m.tables e kind) x → Root m pushed x
+  place_root e segment elements.Passive x at is h = absurd (none_in x h)
+  place_root e segment elements.Declared x at is h = subst (Root m pushed) (only_in (item spaces.Element e) x h) (declares e segment at is)
+  place_root e segment (elements.Active t offset) x at is h =
+      let one = one_live (is_imported (item_at m.tables t)) (item spaces.Element e) x h in
+      filled_root e t offset segment (item_at m.tables t) x at is refl one.0 one.1
+
+  element_root : (e : ℕ) (o : Option Element) (x : Item) → item_at m.elements e ≡ o → MatchOption o ⊥ (λ (s : Element). Contains (rooted_element m.tables e s.kind) x) → Root m pushed x
+  element_root e None x at h = absurd h
+  element_root e (Some segment) x at h = place_root e segment segment.kind x at refl h
+
+  start_root : (o : Option ℕ) (x : Item) → m.start ≡ o → Contains (start_items o) x → Root m pushed x
+  start_root None x is h = absurd (none_in x h)
+  start_root (Some f) x is h = subst (Root m pushed) (only_in (item spaces.Function f) x h) (starts f is)
+
+  abbrev Met : Item → Type 0
+  Met x = (((Exported x ⊎ Copied x) ⊎ Rooted x) ⊎ Contains pushed x) ⊎ Contains (start_items m.start) x
+
+  met_root : (x : Item) → Met x → Root m pushed x
+  met_root x (inl (inl (inl (inl h)))) = export_root h.0 (item_at m.exports h.0) x refl h.1
+  met_root x (inl (inl (inl (inr h)))) = data_root h.0 (item_at m.data_segments h.0) x refl h.1
+  met_root x (inl (inl (inr h))) = element_root h.0 (item_at m.elements h.0) x refl h.1
+  met_root x (inl (inr h)) = is_pushed x h
+  met_root x (inr h) = start_root m.start x refl h
+
+  root_met : (x : Item) → Root m pushed x → Met x
+  root_met x (exports e export at) = inl (inl (inl (inl (e, subst (λ (o : Option Export). MatchOption o ⊥ (λ (e : Export). Contains (given_out e.item ∷ []) (given_out export.item))) (sym at) (first_in (given_out export.item) [])))))
+  root_met x (starts f is) = inr (subst (λ (o : Option ℕ). Contains (start_items o) (item spaces.Function f)) (sym is) (first_in (item spaces.Function f) []))
+  root_met x (is_active d memory offset segment at is) =
+      inl (inl (inl (inr (
+        d,
+        subst (λ (o : Option Data). MatchOption o ⊥ (λ (s : Data). Contains (active_data d s.kind) (item spaces.Data d))) (sym at)
+            (subst (λ kind. Contains (active_data d kind) (item spaces.Data d)) (sym is) (first_in (item spaces.Data d) [])),
+      ))))
+  root_met x (fills_import e t offset segment table at is there imported) =
+      inl (inl (inr (
+        e,
+        subst (λ (o : Option Element). MatchOption o ⊥ (λ (s : Element). Contains (rooted_element m.tables e s.kind) (item spaces.Element e))) (sym at)
+            (subst (λ kind. Contains (rooted_element m.tables e kind) (item spaces.Element e)) (sym is)
+            (one_back (is_imported (item_at m.tables t)) (item spaces.Element e) (item spaces.Element e) (ap is_imported there ∙ imported) refl)),
+      )))
+  root_met x (declares e segment at is) =
+      inl (inl (inr (
+        e,
+        subst (λ (o : Option Element). MatchOption o ⊥ (λ (s : Element). Contains (rooted_element m.tables e s.kind) (item spaces.Element e))) (sym at)
+            (subst (λ kind. Contains (rooted_element m.tables e kind) (item spaces.Element e)) (sym is) (first_in (item spaces.Element e) [])),
+      )))
+  root_met x (is_pushed y c) = inl (inr c)
+
+  pub roots_met : (a c : State) → Meets Met a c → Meets (Root m pushed) a c
+  roots_met a c met = meets_same Met (Root m pushed) a c (λ x. (met_root x, root_met x)) met
+
+  -- one after the other
+  pub roots_after : (a b c d e f : State) → Meets Exported a b → Meets Copied b c → Meets Rooted c d → e ≡ fold meet d pushed → f ≡ fold meet e (start_items m.start) → Meets (Root m pushed) a f
+  roots_after a b c d e f p q r s t =
+      let two = meets_then Exported Copied a b c p q in
+      let three = meets_then (λ x. Exported x ⊎ Copied x) Rooted a c d two r in
+      let four = meets_then (λ x. (Exported x ⊎ Copied x) ⊎ Rooted x) (λ x. Contains pushed x) a d e three (meets_list pushed d e s) in
+      roots_met a f (meets_then (λ x. ((Exported x ⊎ Copied x) ⊎ Rooted x) ⊎ Contains pushed x) (λ x. Contains (start_items m.start) x) a e f four (meets_list (start_items m.start) e f t))

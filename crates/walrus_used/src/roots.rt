@@ -1,0 +1,147 @@
+//! Meeting the roots of a module.
+ghost use Rattle.std.specs.Prelude.{◌≡◌, ℕ, List, [], ◌∷◌, Contains};
+ghost use Rattle.std.specs.List.{fold};
+ghost use Rattle.walrus_roots.specs.declared.item.Item.{Item as AnyItem};
+ghost use Rattle.walrus_marks.specs.Marks.{meet};
+ghost use Rattle.walrus_marks.specs.Chains.{Meets};
+ghost use Rattle.walrus_references.specs.Roots.{Root, given_out};
+ghost use Rattle.walrus_used.specs.Picks.{IsPicked, active_data, is_imported, rooted_element, start_items};
+ghost use Rattle.walrus_arena.specs.Arena.{item_at};
+
+use walrus_arena::{
+    DataId, DataSpace, ElementId, ElementSpace, ExportId, ExportSpace, FunctionId, Id, TableId,
+};
+use walrus_collections::{Collection, ModuleTables};
+use walrus_marks::Marks;
+use walrus_module::Module;
+use walrus_module_items::{Data, DataKind, Element, ElementKind, Export, ExportItem};
+use walrus_roots::Item;
+use wasm_formats::Space;
+
+/// Which items are met for an item of a collection.
+pub(crate) trait Picks<T, S> {
+    /// The items that are met for the one of this id.
+    ghost picks: { Self → ℕ → T → List AnyItem };
+
+    /// Meets them.
+    fn pick(&self, id: Id<S>, item: &T, marks: &mut Marks)
+        ensures { marks.new ≡ fold meet marks.old (picks self.now id item.now) };
+}
+
+// Meets what is picked for each live item.
+fn meet_each<T, S, P: Picks<T, S>>(items: &Collection<T, S>, picks: &P, marks: &mut Marks)
+    ensures { Meets (IsPicked (λ id t x. Contains (P.picks picks.now id t) x) items.now) marks.old marks.new }
+{
+    for index in 0..items.next_id().index() {
+        if items.contains(Id::from_index(index)) {
+            let item = items.get(Id::from_index(index));
+            picks.pick(Id::from_index(index), item, marks);
+        }
+    }
+}
+
+// The item that an export gives out.
+fn given_out(item: ExportItem) -> Item
+    ensures { result ≡ given_out item }
+{
+    match item {
+        ExportItem::Function(id) => Item::new(Space::Function, id),
+        ExportItem::Table(id) => Item::new(Space::Table, id),
+        ExportItem::Memory(id) => Item::new(Space::Memory, id),
+        ExportItem::Global(id) => Item::new(Space::Global, id),
+        ExportItem::Tag(id) => Item::new(Space::Tag, id),
+    }
+}
+
+// What exports give out.
+#[derive(Clone, Copy)]
+struct Exported;
+
+impl Picks<Export, ExportSpace> for Exported {
+    ghost picks = { λ _ _ e. given_out e.item ∷ [] };
+
+    fn pick(&self, _id: ExportId, item: &Export, marks: &mut Marks)
+        ensures { marks.new ≡ fold meet marks.old (given_out item.now.item ∷ []) }
+    {
+        marks.meet(given_out(item.item));
+    }
+}
+
+// Active data segments.
+#[derive(Clone, Copy)]
+struct ActiveData;
+
+impl Picks<Data, DataSpace> for ActiveData {
+    ghost picks = { λ _ id d. active_data id d.kind };
+
+    fn pick(&self, id: DataId, item: &Data, marks: &mut Marks)
+        ensures { marks.new ≡ fold meet marks.old (active_data id item.now.kind) }
+    {
+        match &item.kind {
+            DataKind::Active { .. } => marks.meet(Item::new(Space::Data, id)),
+            DataKind::Passive => {}
+        }
+    }
+}
+
+// Whether the table lives and is imported.
+fn is_imported(tables: &ModuleTables, table: TableId) -> bool
+    ensures { result ≡ is_imported (item_at tables.now table) }
+{
+    tables.contains(table) && tables.get(table).import.is_some()
+}
+
+// Declared element segments, and active ones of imported tables.
+#[derive(Clone, Copy)]
+struct RootedElements<'a> {
+    tables: &'a ModuleTables,
+}
+
+impl<'a> Picks<Element, ElementSpace> for RootedElements<'a> {
+    ghost picks = { λ s id e. rooted_element s.tables.now id e.kind };
+
+    fn pick(&self, id: ElementId, item: &Element, marks: &mut Marks)
+        ensures { marks.new ≡ fold meet marks.old (rooted_element self.now.tables.now id item.now.kind) }
+    {
+        match &item.kind {
+            ElementKind::Passive => {}
+            ElementKind::Declared => marks.meet(Item::new(Space::Element, id)),
+            ElementKind::Active { table, .. } => {
+                if is_imported(self.tables, *table) {
+                    marks.meet(Item::new(Space::Element, id));
+                }
+            }
+        }
+    }
+}
+
+/// Meets these items.
+pub(crate) fn meet_all(marks: &mut Marks, items: &[Item])
+    ensures { marks.new ≡ fold meet marks.old items.now }
+{
+    for item in items {
+        marks.meet(*item);
+    }
+}
+
+fn meet_start(marks: &mut Marks, start: Option<FunctionId>)
+    ensures { marks.new ≡ fold meet marks.old (start_items start) }
+{
+    if let Some(start) = start {
+        marks.meet(Item::new(Space::Function, start));
+    }
+}
+
+/// Meets the roots, where custom sections push these.
+pub(crate) fn meet_roots(marks: &mut Marks, input: &Module, pushed: &[Item])
+    ensures { Meets (Root input.now pushed.now) marks.old marks.new }
+{
+    meet_each(&input.exports, &Exported, marks);
+    meet_each(&input.data_segments, &ActiveData, marks);
+    let rooted = RootedElements {
+        tables: &input.tables,
+    };
+    meet_each(&input.elements, &rooted, marks);
+    meet_all(marks, pushed);
+    meet_start(marks, input.start);
+}
