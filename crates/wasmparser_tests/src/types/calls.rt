@@ -1,7 +1,7 @@
 //! Calls on types.
 
-use crate::reading::{consumer, read};
-use std::process::Abort;
+use super::reading::{function, read};
+use std::alloc::{AllocError, Global};
 use std::test::Fail;
 use wasm_composite_types::{
     CompositeInnerType, CompositeType, FuncType, GlobalType, MemoryType, StorageType, StructType,
@@ -10,72 +10,99 @@ use wasm_composite_types::{
 use wasm_ref_types::{HeapType, PackedIndex, RefType, UnpackedIndex, ValType};
 use wasm_types::{RecGroup, SubType};
 
+fn is_copied(ty: &FuncType) -> Result<bool, AllocError> {
+    Ok(ty.clone()? == *ty)
+}
+
 #[test]
 fn function_types(rt: HostRuntime) -> Result<(), Fail> {
-    let ty = consumer(rt.alloc(), ValType::I32)?;
-    assert!(rt; ty.params().len() == 1);
-    assert!(rt; ty.params()[0] == ValType::I32);
+    let ty = function(rt.alloc(), &[ValType::I32], &[])?;
+    assert!(rt; ty.params() == [ValType::I32].as_slice());
     assert!(rt; ty.results().is_empty());
-    let copy = ty.clone()?;
-    assert!(rt; copy == ty);
+    assert!(rt; is_copied(&ty)?);
     Ok(())
 }
 
 #[test]
 fn function_types_keep_their_order(rt: HostRuntime) -> Result<(), Fail> {
     let params = [ValType::I64, ValType::F32, ValType::I64];
-    let ty = FuncType::new(rt.alloc(), params, [ValType::F64, ValType::I32])?;
-    assert_eq!(rt;
-        ty.params(),
-        &[ValType::I64, ValType::F32, ValType::I64][..]
-    );
-    assert_eq!(rt; ty.results(), &[ValType::F64, ValType::I32][..]);
+    let results = [ValType::F64, ValType::I32];
+    let ty = function(rt.alloc(), &params, &results)?;
+    assert!(rt; ty.params() == params.as_slice());
+    assert!(rt; ty.results() == results.as_slice());
     Ok(())
+}
+
+fn shared_subtype(alloc: Global) -> Result<SubType, AllocError> {
+    SubType::func(function(alloc, &[ValType::I32], &[])?, true)
+}
+
+// Whether the subtype is of a function type that takes this value alone.
+fn is_of(alloc: Global, sub: &SubType, param: ValType) -> Result<bool, AllocError> {
+    let ty = function(alloc, &[param], &[])?;
+    Ok(match &sub.composite_type.inner {
+        CompositeInnerType::Func(_) => *sub.unwrap_func() == ty,
+        _ => false,
+    })
 }
 
 #[test]
 fn subtypes_of_functions(rt: HostRuntime) -> Result<(), Fail> {
-    let ty = consumer(rt.alloc(), ValType::I32)?;
-    let sub = SubType::func(ty.clone()?, true)?;
-    assert!(rt; sub.is_final);
+    let sub = shared_subtype(rt.alloc())?;
+    assert!(rt; sub.is_final && sub.composite_type.shared);
     assert!(rt; sub.supertype_idx.is_none());
-    assert!(rt; sub.composite_type.shared);
-    assert!(rt; *sub.unwrap_func() == ty);
+    assert!(rt; is_of(rt.alloc(), &sub, ValType::I32)?);
     Ok(())
+}
+
+fn is_subtype_copied(sub: &SubType) -> Result<bool, AllocError> {
+    Ok(sub.clone()? == *sub)
+}
+
+fn is_composite_copied(ty: &CompositeType) -> Result<bool, AllocError> {
+    Ok(ty.clone()? == *ty)
+}
+
+fn is_form_copied(form: &CompositeInnerType) -> Result<bool, AllocError> {
+    Ok(form.clone()? == *form)
 }
 
 #[test]
 fn subtypes_are_copied(rt: HostRuntime) -> Result<(), Fail> {
-    let sub = SubType::func(consumer(rt.alloc(), ValType::I32)?, true)?;
-    assert!(rt; sub.clone()? == sub);
-    let ty = &sub.composite_type;
-    assert!(rt; ty.clone()? == *ty);
-    assert!(rt; ty.inner.clone()? == ty.inner);
+    let sub = shared_subtype(rt.alloc())?;
+    assert!(rt; is_subtype_copied(&sub)?);
+    assert!(rt; is_composite_copied(&sub.composite_type)?);
+    assert!(rt; is_form_copied(&sub.composite_type.inner)?);
     Ok(())
+}
+
+fn is_list_copied(list: &TypeList<ValType>) -> Result<bool, AllocError> {
+    Ok(list.clone()? == *list)
 }
 
 #[test]
 fn lists(rt: HostRuntime) -> Result<(), Fail> {
-    let list = TypeList::from_vec(vec![in rt.alloc(); ValType::F32, ValType::F64]?);
-    assert!(rt; list.as_slice().len() == 2);
-    let copy = list.clone()?;
-    assert!(rt; copy == list);
-    let items = list.into_vec();
-    assert!(rt; items.len() == 2);
-    assert!(rt; items[1] == ValType::F64);
+    let types = [ValType::F32, ValType::F64];
+    let list = TypeList::from_vec(Vec::from_slice(rt.alloc(), &types)?);
+    assert!(rt; list.as_slice() == types.as_slice());
+    assert!(rt; is_list_copied(&list)?);
+    assert!(rt; list.into_vec().as_slice() == types.as_slice());
     Ok(())
+}
+
+// Whether a structure, in a composite type, is equal to a copy of itself.
+fn is_structure_copied(fields: StructType) -> Result<bool, AllocError> {
+    let ty = CompositeType {
+        inner: CompositeInnerType::Struct(fields.clone()?),
+        shared: false,
+    };
+    Ok(*ty.unwrap_struct() == fields)
 }
 
 #[test]
 fn structures_are_copied(rt: HostRuntime) -> Result<(), Fail> {
-    let fields: StructType = read(rt.alloc(), &[0x01, 0x78, 0x01])?;
-    let copy = fields.clone()?;
-    assert!(rt; copy == fields);
-    let ty = CompositeType {
-        inner: CompositeInnerType::Struct(copy),
-        shared: false,
-    };
-    assert!(rt; *ty.unwrap_struct() == fields);
+    let fields: StructType = read(rt.alloc(), &[0x01, 0x78, 0x01]).ok_or("not read")?;
+    assert!(rt; is_structure_copied(fields)?);
     Ok(())
 }
 
@@ -141,36 +168,46 @@ fn first_param(ty: &SubType) -> Option<ValType> {
 
 fn first_field(ty: &SubType) -> Option<StorageType> {
     match &ty.composite_type.inner {
-        CompositeInnerType::Struct(ty) => ty
-            .fields
-            .as_slice()
-            .first()
-            .map(|field| field.element_type),
+        CompositeInnerType::Struct(ty) => match ty.fields.as_slice().first() {
+            Some(field) => Some(field.element_type),
+            None => None,
+        },
         _ => None,
     }
 }
 
 // The value type that refers to the type of this index.
 fn reference_to(index: u32, nullable: bool) -> Option<ValType> {
-    RefType::new(nullable, HeapType::Concrete(UnpackedIndex::Module(index))).map(ValType::Ref)
+    match RefType::new(nullable, HeapType::Concrete(UnpackedIndex::Module(index))) {
+        Some(ty) => Some(ValType::Ref(ty)),
+        None => None,
+    }
+}
+
+fn is_function(ty: Option<SubType>, param: u32) -> bool {
+    match ty {
+        Some(ty) => first_param(&ty) == reference_to(param, true),
+        None => false,
+    }
+}
+
+fn is_structure(ty: Option<SubType>, supertype: u32, field: u32) -> bool {
+    let Some(ty) = ty else {
+        return false;
+    };
+    let Some(reference) = reference_to(field, false) else {
+        return false;
+    };
+    ty.supertype_idx == PackedIndex::from_module_index(supertype)
+        && first_field(&ty) == Some(StorageType::Val(reference))
 }
 
 // Whether the three indices that the group names are these.
-fn names(
-    rt: &impl Abort,
-    group: RecGroup,
-    param: u32,
-    supertype: u32,
-    field: u32,
-) -> Result<(), Fail> {
+fn names(group: RecGroup, param: u32, supertype: u32, field: u32) -> bool {
     let mut types = group.into_types();
-    let function = types.next().ok_or("no type")?;
-    assert!(rt; first_param(&function) == reference_to(param, true));
-    let structure = types.next().ok_or("no type")?;
-    assert!(rt; structure.supertype_idx == PackedIndex::from_module_index(supertype));
-    assert!(rt; first_field(&structure) == reference_to(field, false).map(StorageType::Val));
-    assert!(rt; types.next().is_none());
-    Ok(())
+    let function = is_function(types.next(), param);
+    let structure = is_structure(types.next(), supertype, field);
+    function && structure && types.next().is_none()
 }
 
 // Numbers indices from 10 on, below `end`.
@@ -191,16 +228,18 @@ fn renumbered(group: &mut RecGroup, end: u32) -> Result<(), u32> {
 
 #[test]
 fn indices_are_changed_in_their_order(rt: HostRuntime) -> Result<(), Fail> {
-    let mut group: RecGroup = read(rt.alloc(), &NAMING)?;
+    let mut group: RecGroup = read(rt.alloc(), &NAMING).ok_or("not read")?;
     assert!(rt; renumbered(&mut group, 20).is_ok());
-    names(&rt, group, 10, 11, 12)
+    assert!(rt; names(group, 10, 11, 12));
+    Ok(())
 }
 
 #[test]
 fn indices_behind_a_refusal_stay(rt: HostRuntime) -> Result<(), Fail> {
-    let mut group: RecGroup = read(rt.alloc(), &NAMING)?;
+    let mut group: RecGroup = read(rt.alloc(), &NAMING).ok_or("not read")?;
     assert!(rt; renumbered(&mut group, 11) == Err(11));
-    names(&rt, group, 10, 1, 1)
+    assert!(rt; names(group, 10, 1, 1));
+    Ok(())
 }
 
 #[test]

@@ -2,104 +2,91 @@
 //! (Core Specification, binary format, values: integers). Each is read at offset 9.
 
 use std::test::Fail;
-use wasm_reader::{BinaryReader, ErrorKind, Result};
+use wasm_reader::{BinaryReader, Error, ErrorKind};
 
 // What is read, or the fault and its place.
-type Outcome<T> = std::result::Result<T, (ErrorKind, u64)>;
+type Outcome = std::result::Result<i128, (ErrorKind, u64)>;
 
-fn outcome<T>(read: Result<T>) -> Outcome<T>
-where
-    T: Drop,
-{
-    match read {
-        Ok(value) => Ok(value),
-        Err(e) => Err((e.kind(), e.offset())),
+#[derive(Clone, Copy)]
+enum Number {
+    U32,
+    U64,
+    I32,
+    S33,
+    I64,
+}
+
+fn fault(e: Error) -> Outcome {
+    Err((e.kind(), e.offset()))
+}
+
+fn outcome(number: Number, bytes: &[u8]) -> Outcome {
+    let mut reader = BinaryReader::new(bytes, 9);
+    match number {
+        Number::U32 => match reader.read_var_u32() {
+            Ok(value) => Ok(i128::from(value)),
+            Err(e) => fault(e),
+        },
+        Number::U64 => match reader.read_var_u64() {
+            Ok(value) => Ok(i128::from(value)),
+            Err(e) => fault(e),
+        },
+        Number::I32 => match reader.read_var_i32() {
+            Ok(value) => Ok(i128::from(value)),
+            Err(e) => fault(e),
+        },
+        Number::S33 => match reader.read_var_s33() {
+            Ok(value) => Ok(i128::from(value)),
+            Err(e) => fault(e),
+        },
+        Number::I64 => match reader.read_var_i64() {
+            Ok(value) => Ok(i128::from(value)),
+            Err(e) => fault(e),
+        },
     }
 }
 
-fn reader(bytes: &[u8]) -> BinaryReader<'_> {
-    BinaryReader::new(bytes, 9)
-}
-
-fn u32_of(bytes: &[u8]) -> Result<u32> {
-    reader(bytes).read_var_u32()
-}
-
-fn u64_of(bytes: &[u8]) -> Result<u64> {
-    reader(bytes).read_var_u64()
-}
-
-fn i32_of(bytes: &[u8]) -> Result<i32> {
-    reader(bytes).read_var_i32()
-}
-
-fn s33_of(bytes: &[u8]) -> Result<i64> {
-    reader(bytes).read_var_s33()
-}
-
-fn i64_of(bytes: &[u8]) -> Result<i64> {
-    reader(bytes).read_var_i64()
-}
-
-#[test]
-fn small_u32(rt: HostRuntime) {
-    let rows: [(&[u8], u32); 3] = [(b"\x7f", 127), (b"\x80\x00", 0), (b"\xe5\x8e\x26", 624_485)];
+// How many rows are read so, and how many there are.
+fn counts(number: Number, rows: &[(&[u8], Outcome)]) -> (usize, usize) {
+    let mut agreeing = 0usize;
     for (bytes, expected) in rows {
-        assert_eq!(rt; outcome(u32_of(bytes)), Ok(expected));
+        if outcome(number, bytes) == *expected {
+            agreeing = agreeing.saturating_add(1);
+        }
     }
-}
-
-#[test]
-fn small_i32(rt: HostRuntime) {
-    let rows: [(&[u8], i32); 4] = [
-        (b"\x7f", -1),
-        (b"\x3f", 63),
-        (b"\x40", -64),
-        (b"\xc0\xbb\x78", -123_456),
-    ];
-    for (bytes, expected) in rows {
-        assert_eq!(rt; outcome(i32_of(bytes)), Ok(expected));
-    }
+    (agreeing, rows.len())
 }
 
 #[test]
 fn the_least_s33(rt: HostRuntime) -> std::result::Result<(), Fail> {
-    let mut reader = reader(b"\x80\x80\x80\x80\x70");
+    let mut reader = BinaryReader::new(b"\x80\x80\x80\x80\x70", 9);
     assert_eq!(rt; reader.read_var_s33()?, -4_294_967_296);
     assert!(rt; reader.eof());
     Ok(())
 }
 
 #[test]
-fn u32_bounds(rt: HostRuntime) {
-    let rows: [(&[u8], Outcome<u32>); 5] = [
+fn u32_numbers(rt: HostRuntime) {
+    let rows: [(&[u8], Outcome); 12] = [
+        (b"\x7f", Ok(127)),
+        (b"\x80\x00", Ok(0)),
+        (b"\xe5\x8e\x26", Ok(624_485)),
         (b"\x00", Ok(0)),
         (b"\x80\x80\x80\x80\x00", Ok(0)),
         (b"\xff\xff\xff\xff\x0f", Ok(4_294_967_295)),
         (b"\x80\x80\x80\x80\x10", Err((ErrorKind::TooLarge, 13))),
         (b"\xff\xff\xff\xff\x7f", Err((ErrorKind::TooLarge, 13))),
-    ];
-    for (bytes, expected) in rows {
-        assert_eq!(rt; outcome(u32_of(bytes)), expected);
-    }
-}
-
-#[test]
-fn u32_lengths(rt: HostRuntime) {
-    let rows: [(&[u8], Outcome<u32>); 4] = [
         (b"\x80\x80\x80\x80\x80\x00", Err((ErrorKind::TooLong, 13))),
         (b"\x80\x80\x80\x80\x80", Err((ErrorKind::TooLong, 13))),
         (b"\x80\x80\x80\x80", Err((ErrorKind::EndOfFile(1), 13))),
         (b"", Err((ErrorKind::EndOfFile(1), 9))),
     ];
-    for (bytes, expected) in rows {
-        assert_eq!(rt; outcome(u32_of(bytes)), expected);
-    }
+    assert_eq!(rt; counts(Number::U32, &rows), (12, 12));
 }
 
 #[test]
-fn u64_bounds(rt: HostRuntime) {
-    let rows: [(&[u8], Outcome<u64>); 5] = [
+fn u64_numbers(rt: HostRuntime) {
+    let rows: [(&[u8], Outcome); 8] = [
         (b"\x00", Ok(0)),
         (b"\x80\x80\x80\x80\x80\x80\x80\x80\x80\x00", Ok(0)),
         (
@@ -114,15 +101,6 @@ fn u64_bounds(rt: HostRuntime) {
             b"\xff\xff\xff\xff\xff\xff\xff\xff\xff\x7f",
             Err((ErrorKind::TooLarge, 18)),
         ),
-    ];
-    for (bytes, expected) in rows {
-        assert_eq!(rt; outcome(u64_of(bytes)), expected);
-    }
-}
-
-#[test]
-fn u64_lengths(rt: HostRuntime) {
-    let rows: [(&[u8], Outcome<u64>); 3] = [
         (
             b"\xff\xff\xff\xff\xff\xff\xff\xff\xff\x81\x00",
             Err((ErrorKind::TooLong, 18)),
@@ -133,14 +111,16 @@ fn u64_lengths(rt: HostRuntime) {
         ),
         (b"", Err((ErrorKind::EndOfFile(1), 9))),
     ];
-    for (bytes, expected) in rows {
-        assert_eq!(rt; outcome(u64_of(bytes)), expected);
-    }
+    assert_eq!(rt; counts(Number::U64, &rows), (8, 8));
 }
 
 #[test]
-fn i32_bounds(rt: HostRuntime) {
-    let rows: [(&[u8], Outcome<i32>); 7] = [
+fn i32_numbers(rt: HostRuntime) {
+    let rows: [(&[u8], Outcome); 14] = [
+        (b"\x7f", Ok(-1)),
+        (b"\x3f", Ok(63)),
+        (b"\x40", Ok(-64)),
+        (b"\xc0\xbb\x78", Ok(-123_456)),
         (b"\x80\x80\x80\x80\x78", Ok(-2_147_483_648)),
         (b"\xff\xff\xff\xff\x07", Ok(2_147_483_647)),
         (b"\x80\x80\x80\x80\x00", Ok(0)),
@@ -148,27 +128,16 @@ fn i32_bounds(rt: HostRuntime) {
         (b"\xff\xff\xff\xff\x77", Err((ErrorKind::TooLarge, 13))),
         (b"\x80\x80\x80\x80\x08", Err((ErrorKind::TooLarge, 13))),
         (b"\xff\xff\xff\xff\x4f", Err((ErrorKind::TooLarge, 13))),
-    ];
-    for (bytes, expected) in rows {
-        assert_eq!(rt; outcome(i32_of(bytes)), expected);
-    }
-}
-
-#[test]
-fn i32_lengths(rt: HostRuntime) {
-    let rows: [(&[u8], Outcome<i32>); 3] = [
         (b"\xff\xff\xff\xff\xff\x7f", Err((ErrorKind::TooLong, 13))),
         (b"\xff\xff\xff\xff", Err((ErrorKind::EndOfFile(1), 13))),
         (b"", Err((ErrorKind::EndOfFile(1), 9))),
     ];
-    for (bytes, expected) in rows {
-        assert_eq!(rt; outcome(i32_of(bytes)), expected);
-    }
+    assert_eq!(rt; counts(Number::I32, &rows), (14, 14));
 }
 
 #[test]
-fn s33_bounds(rt: HostRuntime) {
-    let rows: [(&[u8], Outcome<i64>); 7] = [
+fn s33_numbers(rt: HostRuntime) {
+    let rows: [(&[u8], Outcome); 10] = [
         (b"\x80\x80\x80\x80\x70", Ok(-4_294_967_296)),
         (b"\xff\xff\xff\xff\x0f", Ok(4_294_967_295)),
         (b"\x80\x80\x80\x80\x00", Ok(0)),
@@ -176,27 +145,16 @@ fn s33_bounds(rt: HostRuntime) {
         (b"\xff\xff\xff\xff\x6f", Err((ErrorKind::TooLong, 13))),
         (b"\x80\x80\x80\x80\x10", Err((ErrorKind::TooLong, 13))),
         (b"\xff\xff\xff\xff\x4f", Err((ErrorKind::TooLong, 13))),
-    ];
-    for (bytes, expected) in rows {
-        assert_eq!(rt; outcome(s33_of(bytes)), expected);
-    }
-}
-
-#[test]
-fn s33_lengths(rt: HostRuntime) {
-    let rows: [(&[u8], Outcome<i64>); 3] = [
         (b"\xff\xff\xff\xff\xff\x7f", Err((ErrorKind::TooLong, 13))),
         (b"\x80\x80\x80\x80", Err((ErrorKind::EndOfFile(1), 13))),
         (b"", Err((ErrorKind::EndOfFile(1), 9))),
     ];
-    for (bytes, expected) in rows {
-        assert_eq!(rt; outcome(s33_of(bytes)), expected);
-    }
+    assert_eq!(rt; counts(Number::S33, &rows), (10, 10));
 }
 
 #[test]
-fn i64_bounds(rt: HostRuntime) {
-    let rows: [(&[u8], Outcome<i64>); 7] = [
+fn i64_numbers(rt: HostRuntime) {
+    let rows: [(&[u8], Outcome); 10] = [
         (
             b"\x80\x80\x80\x80\x80\x80\x80\x80\x80\x7f",
             Ok(-9_223_372_036_854_775_808),
@@ -219,15 +177,6 @@ fn i64_bounds(rt: HostRuntime) {
             b"\xff\xff\xff\xff\xff\xff\xff\xff\xff\x3f",
             Err((ErrorKind::TooLarge, 18)),
         ),
-    ];
-    for (bytes, expected) in rows {
-        assert_eq!(rt; outcome(i64_of(bytes)), expected);
-    }
-}
-
-#[test]
-fn i64_lengths(rt: HostRuntime) {
-    let rows: [(&[u8], Outcome<i64>); 3] = [
         (
             b"\xff\xff\xff\xff\xff\xff\xff\xff\xff\xff\x7f",
             Err((ErrorKind::TooLong, 18)),
@@ -238,7 +187,5 @@ fn i64_lengths(rt: HostRuntime) {
         ),
         (b"", Err((ErrorKind::EndOfFile(1), 9))),
     ];
-    for (bytes, expected) in rows {
-        assert_eq!(rt; outcome(i64_of(bytes)), expected);
-    }
+    assert_eq!(rt; counts(Number::I64, &rows), (10, 10));
 }

@@ -1,5 +1,6 @@
 //! Bytes of the Core Specification's binary format, and of shared types.
 
+use crate::faults::refused;
 use std::alloc::Global;
 use std::test::Fail;
 use wasm_reader::{BinaryReader, ErrorKind, Result, WasmFeatures};
@@ -16,16 +17,6 @@ fn reference(alloc: Global, bytes: &[u8]) -> Option<RefType> {
 
 fn heap(alloc: Global, bytes: &[u8]) -> Result<HeapType> {
     BinaryReader::new(bytes, 11).read(alloc)
-}
-
-fn refused<T>(outcome: Result<T>) -> Option<(ErrorKind, u64)>
-where
-    T: Drop,
-{
-    match outcome {
-        Ok(_) => None,
-        Err(e) => Some((e.kind(), e.offset())),
-    }
 }
 
 fn module(index: u32) -> HeapType {

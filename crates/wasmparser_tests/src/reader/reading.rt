@@ -1,18 +1,9 @@
 //! Values from the Core Specification, and worked by hand.
 
+use crate::faults::refused;
 use std::test::Fail;
 use wasm_reader::limits::MAX_WASM_STRING_SIZE;
 use wasm_reader::{BinaryReader, Error, ErrorKind, Result, WasmFeatures, laws};
-
-pub(crate) fn refused<T>(outcome: Result<T>) -> Option<(ErrorKind, u64)>
-where
-    T: Drop,
-{
-    match outcome {
-        Ok(_) => None,
-        Err(e) => Some((e.kind(), e.offset())),
-    }
-}
 
 // A reader of bytes that stand at this offset, of which a test's proof is to know nothing.
 pub(crate) fn reader_at(bytes: &[u8], offset: u32) -> BinaryReader<'_> {

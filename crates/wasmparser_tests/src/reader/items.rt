@@ -1,6 +1,7 @@
 //! Values that are read by their type, and vecs of them.
 
-use crate::reading::{reader_at, refused};
+use super::reading::reader_at;
+use crate::faults::refused;
 use std::alloc::Global;
 use std::test::Fail;
 use wasm_reader::{BinaryReader, ErrorKind, FromReader, Result, laws};

@@ -1,19 +1,10 @@
 //! Bytes that no type has, and forms whose feature is off.
 
+use crate::faults::refused;
 use std::alloc::Global;
 use wasm_composite_types::{FieldType, StorageType};
-use wasm_reader::{BinaryReader, ErrorKind, FromReader, Result, WasmFeatures};
+use wasm_reader::{BinaryReader, ErrorKind, FromReader, WasmFeatures};
 use wasm_types::{RecGroup, SubType};
-
-fn refused<T>(outcome: Result<T>) -> Option<(ErrorKind, u64)>
-where
-    T: Drop,
-{
-    match outcome {
-        Ok(_) => None,
-        Err(e) => Some((e.kind(), e.offset())),
-    }
-}
 
 // The first byte of each text stands at 11, as that of the first type of a module.
 fn group(alloc: Global, features: WasmFeatures, bytes: &[u8]) -> Option<(ErrorKind, u64)> {
