@@ -1,6 +1,6 @@
 //! Operators with immediates: a row each.
 
-use crate::maps::{ids, indices};
+use crate::pairing::maps::{ids, indices};
 use std::alloc::Global;
 use std::process::Abort;
 use std::test::Fail;
