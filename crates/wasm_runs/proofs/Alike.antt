@@ -357,7 +357,7 @@ module _ (E : Type 0) (P : ℕ → Type 0) (i : Images E) (bodies : SameBodies P
   opened_like : (f : ℕ) (v : E) (u t : Tree) (bare : Bool) → IsGood P i f u false → IsGood P i f t bare → (ms : List (Marked P i f)) (b : ℕ) (os : List Outcome) → Fits P os
       → (hs : List Handler) → HandlersGood P i f hs → (passes : ℕ) (again : Option Tree) → AgainGood P i f again → (js : List Handler) (past : ℕ) → js ≡ map (handler_image f) hs → past ≡ passes
       → LikeStep f (did v (Goes u (record { handlers = hs; passes = passes; again = again; after = t } ∷ plains f ms) b os))
-        (did (i.entry v) (Goes (image i f u false) (record { handlers = js; passes = past; again = again_image f again; after = image i f t bare } ∷ images f ms) b (outs os)))
+      (did (i.entry v) (Goes (image i f u false) (record { handlers = js; passes = past; again = again_image f again; after = image i f t bare } ∷ images f ms) b (outs os)))
   opened_like f v u t bare d c ms b os q hs k passes again a js past e h =
       let F : Marked P i f = record { frame = record { handlers = hs; passes = passes; again = again; after = t }; bare = bare; after_good = c; again_good = a; handlers_good = k } in
       let X : Step E Move = did v (Goes u (record { handlers = hs; passes = passes; again = again; after = t } ∷ plains f ms) b os) in
@@ -373,8 +373,11 @@ module _ (E : Type 0) (P : ℕ → Type 0) (i : Images E) (bodies : SameBodies P
       let x : Bool → List Outcome → Move = λ yes rest. if yes then Goes u (plain t ∷ plains f ms) b rest else otherwise (parts u) t (plains f ms) b rest in
       let y : Bool → List Outcome → Move = λ yes rest. if yes then Goes w (plain (image i f t bare) ∷ images f ms) b rest else otherwise (parts w) (image i f t bare) (images f ms) b rest in
       taken_like (LikeStep f) holds holds_same stuck stuck (stuck_like f) (λ yes rest. did v (x yes rest)) (λ yes rest. did (i.entry v) (y yes rest))
-      (λ yes rest r. (if_like f (Goes u (plain t ∷ plains f ms) b rest) (otherwise (parts u) t (plains f ms) b rest) (Goes w (plain (image i f t bare) ∷ images f ms) b (outs rest)) (otherwise (parts w) (image i f t bare) (images f ms) b (outs rest))
-      (true, plain_of f t bare c ∷ ms, refl, refl, d, r) (otherwise_like f u t bare false d c ms b rest r) yes, refl)) os q
+      (λ yes rest r. (
+        if_like f (Goes u (plain t ∷ plains f ms) b rest) (otherwise (parts u) t (plains f ms) b rest) (Goes w (plain (image i f t bare) ∷ images f ms) b (outs rest)) (otherwise (parts w) (image i f t bare) (images f ms) b (outs rest))
+            (true, plain_of f t bare c ∷ ms, refl, refl, d, r) (otherwise_like f u t bare false d c ms b rest r) yes,
+        refl,
+      )) os q
   begins_like f (Some flows.OpensLoop) cs ds same v u t bare d c ms b os q = opened_like f v u t bare d c ms b os q [] tt 0 (Some u) d [] 0 refl refl
   begins_like f (Some flows.OpensTry) cs ds same v u t bare d c ms b os q =
       let w : Tree = renamed_tree (i.items f) (normal_from i.pick u false false) in
@@ -445,7 +448,7 @@ module _ (E : Type 0) (P : ℕ → Type 0) (i : Images E) (bodies : SameBodies P
 
   nest_like : (f : ℕ) (o : Seen) (u t : Tree) (bare : Bool) → Good P i f (picked i.pick o) → AllOf (Good P i f) (normal_from i.pick u (is_if o) false) → IsGood P i f t bare → (ms : List (Marked P i f)) (b : ℕ) (os : List Outcome) → Fits P os
       → LikeStep f (act i.here f (Nest o None u t) (plains f ms) b os)
-        (act i.there (i.function f) (Nest (renamed_operator (i.items f) (picked i.pick o)) None (renamed_tree (i.items f) (normal_from i.pick u (is_if o) false)) (image i f t bare)) (images f ms) b (outs os))
+      (act i.there (i.function f) (Nest (renamed_operator (i.items f) (picked i.pick o)) None (renamed_tree (i.items f) (normal_from i.pick u (is_if o) false)) (image i f t bare)) (images f ms) b (outs os))
   nest_like f o u t bare g d c ms b os q =
       let x : Seen = renamed_operator (i.items f) (picked i.pick o) in
       let w : Tree = renamed_tree (i.items f) (normal_from i.pick u (is_if o) false) in
@@ -479,21 +482,21 @@ module _ (E : Type 0) (P : ℕ → Type 0) (i : Images E) (bodies : SameBodies P
       let Z : Next → Type 0 = λ z. Traces i.there z (map i.entry vs) e in
       elim (step_alike ks s.bound s.outcomes q) as (λ _. Traces i.there y (map i.entry vs) e) [
         | inl a ↦
-          let one : n ≡ record { events = []; move = on (map was a.0) s.bound s.outcomes } = sym there ∙ a.1 in
-          let Q : Next → Type 0 = λ z. LikeNext z (on (map is a.0) s.bound (outs s.outcomes)) in
-          let like : LikeNext n.move (on (map is a.0) s.bound (outs s.outcomes)) = subst Q (sym (ap (λ (t : Step E Next). t.move) one)) (a.0, refl, refl, q) in
-          let run : Traces i.there (on (map is a.0) s.bound (outs s.outcomes)) (map i.entry us) e = same_run n.move us e rest (on (map is a.0) s.bound (outs s.outcomes)) like in
-          let R : List E → Type 0 = λ ws. Traces i.there (on (map is a.0) s.bound (outs s.outcomes)) (map i.entry ws) e in
-          let events : us ≡ vs = sym (ap (λ (t : Step E Next). t.events ++ us) one) ∙ shows in
-          subst Z (ap (λ (stack : List Activation). on stack s.bound (outs s.outcomes)) a.2 ∙ sym ys) (subst R events run)
+            let one : n ≡ record { events = []; move = on (map was a.0) s.bound s.outcomes } = sym there ∙ a.1 in
+            let Q : Next → Type 0 = λ z. LikeNext z (on (map is a.0) s.bound (outs s.outcomes)) in
+            let like : LikeNext n.move (on (map is a.0) s.bound (outs s.outcomes)) = subst Q (sym (ap (λ (t : Step E Next). t.move) one)) (a.0, refl, refl, q) in
+            let run : Traces i.there (on (map is a.0) s.bound (outs s.outcomes)) (map i.entry us) e = same_run n.move us e rest (on (map is a.0) s.bound (outs s.outcomes)) like in
+            let R : List E → Type 0 = λ ws. Traces i.there (on (map is a.0) s.bound (outs s.outcomes)) (map i.entry ws) e in
+            let events : us ≡ vs = sym (ap (λ (t : Step E Next). t.events ++ us) one) ∙ shows in
+            subst Z (ap (λ (stack : List Activation). on stack s.bound (outs s.outcomes)) a.2 ∙ sym ys) (subst R events run)
         | inr a ↦
-          let next : Step E Next = step i.there (map is ks) s.bound (outs s.outcomes) in
-          let Q : Step E Next → Type 0 = λ t. LikeNext t.move next.move in
-          let like : LikeNext n.move next.move = subst Q there a.0 in
-          let run : Traces i.there next.move (map i.entry us) e = same_run n.move us e rest next.move like in
-          let events : next.events ++ map i.entry us ≡ map i.entry vs =
-          ap (λ (ws : List E). ws ++ map i.entry us) (a.1 ∙ ap (λ (t : Step E Next). map i.entry t.events) there) ∙ sym (map-append i.entry n.events us) ∙ ap (λ (ws : List E). map i.entry ws) shows in
-          subst Z (sym ys) (goes refl run events)
+            let next : Step E Next = step i.there (map is ks) s.bound (outs s.outcomes) in
+            let Q : Step E Next → Type 0 = λ t. LikeNext t.move next.move in
+            let like : LikeNext n.move next.move = subst Q there a.0 in
+            let run : Traces i.there next.move (map i.entry us) e = same_run n.move us e rest next.move like in
+            let events : next.events ++ map i.entry us ≡ map i.entry vs =
+            ap (λ (ws : List E). ws ++ map i.entry us) (a.1 ∙ ap (λ (t : Step E Next). map i.entry t.events) there) ∙ sym (map-append i.entry n.events us) ∙ ap (λ (ws : List E). map i.entry ws) shows in
+            subst Z (sym ys) (goes refl run events)
       ]
 
   starts_like : (f : ℕ) (o p : Option (List Seen)) → SameBody P i f o p → (os : List Outcome) → Fits P os → (b : ℕ) → LikeNext (starts f o os b) (starts (i.function f) p (outs os) b)

@@ -58,10 +58,11 @@ module _ (one : TreeIsOne) (nests : NormalNests) where
         → SameBody kept images g o (option_map (λ ops. renamed_code (within r g) (normal_code pick ops)) o)
     body_same g None names types = tt
     body_same g (Some ops) names types =
-        let w = normal pick (nested ops) in
-        (nested_image (within r g) one nests pick ops,
-        both_of (λ (op : Seen). AllByRecursion kept (functions_of op)) (AreTypedSo (within r g) m.signature n.signature) (Good kept images g) (good g) w
-        (all_of (λ (op : Seen). AllByRecursion kept (functions_of op)) w (names ops refl)) (all_of (AreTypedSo (within r g) m.signature n.signature) w (types ops refl)))
+        let w = normal pick (nested ops) in (
+          nested_image (within r g) one nests pick ops,
+          both_of (λ (op : Seen). AllByRecursion kept (functions_of op)) (AreTypedSo (within r g) m.signature n.signature) (Good kept images g) (good g) w
+              (all_of (λ (op : Seen). AllByRecursion kept (functions_of op)) w (names ops refl)) (all_of (AreTypedSo (within r g) m.signature n.signature) w (types ops refl)),
+        )
 
     bodies_same : SameBodies kept images
     bodies_same g k =
@@ -166,7 +167,7 @@ module _ (one : TreeIsOne) (nests : NormalNests) (signature : BlockType → Sign
 
   renumbered_runs : (params : ℕ) (b : Body) (outcomes : List Outcome) (bound : ℕ) (events : List Executed) (ending : Ending) → BodyTrace signature (operators b.ops) outcomes bound events ending
       → BodyTrace signature (operators (normal_body pick params b).ops) outcomes bound
-        (map (renamed_executed (local_numbers (new_number params (used_keys params b.locals (normal_ops pick b.ops))))) events) ending
+      (map (renamed_executed (local_numbers (new_number params (used_keys params b.locals (normal_ops pick b.ops))))) events) ending
   renumbered_runs params b outcomes bound events ending run =
       let number : ℕ → ℕ = new_number params (used_keys params b.locals (normal_ops pick b.ops)) in
       let r : Renaming = local_numbers number in

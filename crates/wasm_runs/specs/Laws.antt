@@ -54,7 +54,7 @@ abbrev pub NormalBodyRunsTheSame : Type 0
 NormalBodyRunsTheSame = (signature : BlockType → Signature) (pick : BlockType → BlockType) → KeepsSignatures pick signature → (params : ℕ) (b : Body)
     → (outcomes : List Outcome) (bound : ℕ) (events : List Executed) (ending : Ending) → BodyTrace signature (operators b.ops) outcomes bound events ending
     → BodyTrace signature (operators (normal_body pick params b).ops) outcomes bound
-      (map (renamed_executed (local_numbers (new_number params (used_keys params b.locals (normal_ops pick b.ops))))) events) ending
+    (map (renamed_executed (local_numbers (new_number params (used_keys params b.locals (normal_ops pick b.ops))))) events) ending
 
 -- a body in normal form and renamed does the same, renamed
 abbrev pub BodyRunsRenamed : Type 0
