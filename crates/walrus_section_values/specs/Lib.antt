@@ -1,1 +1,4 @@
 pub mod Limits
+pub mod Constants
+pub mod Untils
+pub mod Globals

@@ -1,10 +1,14 @@
 //! Values that sections are made of, as they are read: indices, types, limits (Core Specification, binary format: values, types).
 #![tactic(auto)]
 
+mod exprs;
+mod globals;
 mod limits;
 mod types;
 mod values;
 
+pub use exprs::{Known, read_expr};
+pub use globals::{Global, GlobalOrigin};
 pub use limits::{Limits, read_limits, read_table_limits};
 pub use types::{
     heap_record, is_named_below, read_ref_type, read_value_type, ref_record, value_record,
