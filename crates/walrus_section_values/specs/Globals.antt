@@ -1,7 +1,11 @@
 -- Constant expressions and globals as they are read.
-use Rattle.std.specs.Prelude.{ℕ, ◌≡◌, ◌==◌, true, false, List, [], ◌∷◌, map, length, Option, Some, None, refl}
+use Rattle.std.specs.Prelude.{ℕ, ◌<◌, ◌≤◌, ◌≡◌, ◌==◌, true, false, Bool, slice_index_or, List, [], ◌∷◌, map, length, Option, Some, None, refl}
 use Rattle.std.proofs.Common.{arith}
 use Rattle.std.proofs.lemmas.Bool.{eqb-true}
+use Rattle.std.proofs.lemmas.List.{get_or-map, length-map}
+use Rattle.std.proofs.Math.ListN.{get_or-eq_default}
+use Rattle.wasm_formats.specs.Stops.{OffsetType}
+use Rattle.wasm_grammar.specs.Values.{must}
 use Rattle.std.specs.Global.{Vec}
 use Rattle.walrus_forms.specs.Records.{value_of}
 use Rattle.wasm_grammar.specs.Modules.{Expr, Origin, Imported, Own}
@@ -36,3 +40,25 @@ some_operators_are (op ∷ operators) some = refl
 pub no_operators_are : (operators : List Operator) → (length operators == 0) ≡ true → grammar.some_operators (map seen operators) ≡ false
 no_operators_are [] none = refl
 no_operators_are (op ∷ operators) some = absurd (omega (arith, eqb-true (length (op ∷ operators)) 0 some))
+
+abbrev slot_of : Global → Option module_grammar.Global
+slot_of g = Some (global_of g)
+
+-- Lemmas: the global of a number
+pub global_there : (gs : List Global) (n : ℕ) (d : Global) → n < length gs → slice_index_or (map (λ (g : Global). Some (global_of g)) gs) n None ≡ Some (global_of (slice_index_or gs n d))
+global_there gs n d lt = get_or-map slot_of gs n d None lt
+
+pub global_missing : (gs : List Global) (n : ℕ) → length gs ≤ n → slice_index_or (map (λ (g : Global). Some (global_of g)) gs) n None ≡ None
+global_missing gs n le = get_or-eq_default (map slot_of gs) None (omega (arith, le, length-map gs slot_of))
+
+-- Lemmas: the test of an offset
+pub one_offset : (wide : Bool) (k : grammar.Known) (operators : List Operator) (d : Operator) → length operators ≡ 1
+    → grammar.offset_test wide k (map seen operators) ≡ must (grammar.gives_address wide k (seen (slice_index_or operators 0 d))) OffsetType
+one_offset wide k [] d e = absurd (omega (arith, e))
+one_offset wide k (op ∷ []) d e = refl
+one_offset wide k (op ∷ other ∷ operators) d e = absurd (omega (arith, e))
+
+pub other_offset : (wide : Bool) (k : grammar.Known) (operators : List Operator) → (length operators == 1) ≡ false → grammar.offset_test wide k (map seen operators) ≡ None
+other_offset wide k [] e = refl
+other_offset wide k (op ∷ []) e = absurd cc
+other_offset wide k (op ∷ other ∷ operators) e = refl

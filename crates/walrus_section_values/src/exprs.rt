@@ -4,14 +4,15 @@ ghost use Rattle.std.specs.Prelude.{◌≡◌, ◌<◌, true, false, length, map
 ghost use Rattle.wasm_reader.specs.Cursor.{rest, TakesByte};
 ghost use Rattle.wasm_reader.specs.Reading.{plain};
 ghost use Rattle.wasm_formats.specs.Led.{IsOther};
-ghost use Rattle.wasm_formats.specs.Stops.{ConstExpr, Index};
+ghost use Rattle.wasm_formats.specs.Stops.{ConstExpr, Index, OffsetType};
 ghost use Rattle.wasm_formats.specs.Until.{until};
 ghost use Rattle.wasm_grammar.specs.TypeWords.{heap_of};
-ghost use Rattle.std.specs.Prelude.{nat_lt};
+ghost use Rattle.std.specs.Prelude.{nat_lt, slice_index_or, None};
+ghost use Rattle.walrus_forms.specs.Records.{value_of};
 ghost use Rattle.wasm_operators.specs.declared.entry.Kind.TheVariants as Kind;
 ghost use Rattle.wasm_formats.specs.Joined.{only};
 ghost use Rattle.wasm_grammar.specs.Values.{must};
-ghost use Rattle.wasm_grammar.specs.Exprs.{code, constant, constant_byte, constant_fb, expr, end_apart, gives_address, heap_test, is_address, is_constant, items, items_test, offset, operator, read_wants, takes_some};
+ghost use Rattle.wasm_grammar.specs.Exprs.{code, constant, constant_byte, constant_fb, expr, end_apart, gives_address, global_is, names_address, offset_test, heap_test, is_address, is_constant, items, items_test, offset, operator, read_wants, takes_some};
 ghost use Rattle.walrus_operators.specs.Immediates.{items_of};
 ghost use Rattle.walrus_operators.specs.Operators.{seen};
 ghost use Rattle.walrus_section_reader.specs.Faults.{trouble_of};
@@ -300,6 +301,112 @@ pub fn read_expr(
     let operators = read_operators(alloc, known, reader)?;
     if operators.is_empty() {
         return Err(Fault::new(FaultKind::ConstExpr, offset));
+    }
+    Ok(operators)
+}
+
+// Whether it is the type of addresses: i64 for wide ones, or else i32.
+fn is_address(wide: bool, ty: ValRecord) -> bool
+    ensures { result ≡ is_address wide (value_of ty) }
+{
+    if wide {
+        matches!(ty, ValRecord::I64)
+    } else {
+        matches!(ty, ValRecord::I32)
+    }
+}
+
+// Whether the global of this number holds addresses.
+#[tactic(auto, using(crate::specs::Globals::global_there, crate::specs::Globals::global_missing))]
+fn global_is(wide: bool, known: &Known<'_>, index: u32) -> bool
+    ensures { result ≡ global_is wide (slice_index_or (known_of known.now).globals index None) }
+{
+    let index = index as usize;
+    if index >= known.globals.len() {
+        return false;
+    }
+    is_address(wide, known.globals[index].ty)
+}
+
+// Whether the operator gives an address.
+fn gives_address(wide: bool, known: &Known<'_>, op: &Operator) -> bool
+    ensures { result ≡ gives_address wide (known_of known.now) (seen op.now) }
+{
+    let constant = if wide { 0x42 } else { 0x41 };
+    (op.code.prefix == 0 && op.code.number == constant)
+        || (op.code.prefix == 0
+            && op.code.number == 0x23
+            && names_address(wide, known, &op.immediates))
+}
+
+// Whether the immediates are a global that holds addresses.
+fn names_address(wide: bool, known: &Known<'_>, immediates: &Immediates) -> bool
+    ensures { result ≡ names_address wide (known_of known.now) (items_of immediates.now) }
+{
+    match immediates {
+        Immediates::Global(n) => global_is(wide, known, *n),
+        Immediates::Bare
+        | Immediates::Block(_)
+        | Immediates::TryTable(_, _)
+        | Immediates::Tag(_)
+        | Immediates::Label(_)
+        | Immediates::BrTable(_, _)
+        | Immediates::Function(_)
+        | Immediates::TypeTable(_, _)
+        | Immediates::Type(_)
+        | Immediates::Select(_)
+        | Immediates::Local(_)
+        | Immediates::Table(_)
+        | Immediates::Access(_)
+        | Immediates::Memory(_)
+        | Immediates::I32(_)
+        | Immediates::I64(_)
+        | Immediates::F32(_)
+        | Immediates::F64(_)
+        | Immediates::Heap(_)
+        | Immediates::DataMemory(_, _)
+        | Immediates::Data(_)
+        | Immediates::MemoryMemory(_, _)
+        | Immediates::ElementTable(_, _)
+        | Immediates::Element(_)
+        | Immediates::TableTable(_, _)
+        | Immediates::TypeNumber(_, _)
+        | Immediates::TypeData(_, _)
+        | Immediates::TypeElement(_, _)
+        | Immediates::TypeType(_, _)
+        | Immediates::Cast(_, _, _, _)
+        | Immediates::Vector(_)
+        | Immediates::Lane(_)
+        | Immediates::AccessLane(_, _)
+        | Immediates::Zero => false,
+    }
+}
+
+// Whether one operator alone gives an address; longer expressions pass.
+#[tactic(auto, using(crate::specs::Globals::one_offset, crate::specs::Globals::other_offset))]
+fn is_offset(wide: bool, known: &Known<'_>, operators: &[Operator]) -> bool
+    ensures { offset_test wide (known_of known.now) (map seen operators.now) ≡ must result OffsetType }
+{
+    if operators.len() != 1 {
+        return true;
+    }
+    gives_address(wide, known, &operators[0])
+}
+
+/// An offset in a table or memory, of 64-bit addresses where they are wide. One operator of another type is `OffsetType` at its
+/// first byte.
+pub fn read_offset(
+    alloc: Alloc,
+    wide: bool,
+    known: &Known<'_>,
+    reader: &mut BinaryReader<'_>,
+) -> Result<Vec<Operator>>
+    ensures { Parses (offset reader.old.window.features wide (known_of known.now)).parse expr_of reader.old reader.new result }
+{
+    let offset = reader.original_position();
+    let operators = read_expr(alloc, known, reader)?;
+    if !is_offset(wide, known, operators.as_slice()) {
+        return Err(Fault::new(FaultKind::OffsetType, offset));
     }
     Ok(operators)
 }

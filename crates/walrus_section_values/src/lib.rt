@@ -7,9 +7,11 @@ mod limits;
 mod types;
 mod values;
 
-pub use exprs::{Known, read_expr};
+pub use exprs::{Known, read_expr, read_offset};
 pub use globals::{Global, GlobalOrigin};
-pub use limits::{Limits, read_limits, read_table_limits};
+pub use limits::{
+    Limits, MemoryType, read_limits, read_memory_limits, read_memory_numbers, read_table_limits,
+};
 pub use types::{
     heap_record, is_named_below, read_ref_type, read_value_type, ref_record, value_record,
 };

@@ -5,10 +5,15 @@ ghost use Rattle.wasm_formats.specs.Parts.{optional};
 ghost use Rattle.wasm_grammar.specs.Values.{size, limits, table_limits, memory_limits, in_order, has_maximum, is_shared, is_wide, has_page_size};
 ghost use Rattle.wasm_reader.specs.Reading.{plain};
 ghost use Rattle.walrus_section_reader.specs.Parses.{ParsesExactly};
-ghost use Rattle.walrus_section_values.specs.Limits.{limits_of};
+ghost use Rattle.wasm_formats.specs.declared.fault.Limited.TheVariants as limited;
+ghost use Rattle.wasm_formats.specs.Stops.{Limit};
+ghost use Rattle.wasm_formats.specs.Joined.{after};
+ghost use Rattle.wasm_formats.specs.Wholes.{u32};
+ghost use Rattle.wasm_grammar.specs.Values.{must};
+ghost use Rattle.walrus_section_values.specs.Limits.{limits_of, memory_type_of};
 
 use crate::values::{read_below, read_u32};
-use walrus_section_reader::{Fault, FaultKind, Form, Result};
+use walrus_section_reader::{Fault, FaultKind, Form, Limited, Result};
 use wasm_reader::BinaryReader;
 
 /// Limits as they stand.
@@ -112,4 +117,63 @@ pub fn read_table_limits(reader: &mut BinaryReader<'_>) -> Result<Limits>
         return Err(Fault::new(FaultKind::Bounds, offset));
     }
     Ok(limits)
+}
+
+/// The type of a memory: its limits, and the logarithm of its page size where one is given.
+#[derive(Clone, Copy, Debug, PartialEq, Eq)]
+pub struct MemoryType {
+    /// The limits, in pages.
+    pub limits: Limits,
+    /// The logarithm of the page size, 0 or 16.
+    pub page_size_log2: Option<u32>,
+}
+
+// The logarithm of a page size, where the flags say that there is one.
+fn read_page_size(flags: u8, reader: &mut BinaryReader<'_>) -> Result<Option<u32>>
+    ensures { ParsesExactly (optional (has_page_size flags) u32).parse plain reader.old reader.new result }
+{
+    if flags / 8 % 2 == 1 {
+        Ok(Some(read_u32(reader)?))
+    } else {
+        Ok(None)
+    }
+}
+
+/// The limits of a memory, and its page size, as they stand: nothing is compared.
+pub fn read_memory_numbers(reader: &mut BinaryReader<'_>) -> Result<MemoryType>
+    ensures { ParsesExactly (after (limits 16) (λ l. optional (has_page_size l.0) u32)).parse memory_type_of reader.old reader.new result }
+{
+    let limits = read_limits(16, reader)?;
+    let page_size_log2 = read_page_size(limits.flags, reader)?;
+    Ok(MemoryType {
+        limits,
+        page_size_log2,
+    })
+}
+
+/// The type of a memory. A minimum past the maximum, and shared memories without one, are `Bounds` at the first byte; where there is no
+/// room for it, that is `Limit` there; another page size than 1 and 65,536 is `Bounds` at its own first byte.
+pub fn read_memory_limits(has_room: bool, reader: &mut BinaryReader<'_>) -> Result<MemoryType>
+    ensures { ParsesExactly (memory_limits (must has_room (Limit limited.Memories))).parse memory_type_of reader.old reader.new result }
+{
+    let offset = reader.original_position();
+    let limits = read_limits(16, reader)?;
+    let place = reader.original_position();
+    let page_size_log2 = read_page_size(limits.flags, reader)?;
+    if !limits.is_ordered() || limits.is_shared() && limits.maximum.is_none() {
+        return Err(Fault::new(FaultKind::Bounds, offset));
+    }
+    if !has_room {
+        let kind = FaultKind::Limit(Limited::Memories);
+        return Err(Fault::new(kind, offset));
+    }
+    if let Some(log) = page_size_log2 {
+        if log != 0 && log != 16 {
+            return Err(Fault::new(FaultKind::Bounds, place));
+        }
+    }
+    Ok(MemoryType {
+        limits,
+        page_size_log2,
+    })
 }
