@@ -12,15 +12,16 @@ use Rattle.wasm_immediates.specs.declared.block_type.BlockType.{BlockType}
 use Rattle.wasm_immediates.specs.declared.block_type.BlockType.TheVariants as blocks
 use Rattle.wasm_immediates.specs.declared.clause.Clause.{Clause}
 use Rattle.wasm_immediates.specs.declared.clause.Clause.TheVariants as handlers
-use Rattle.wasm_immediates.specs.Items.{Space, Types, Functions, Tables, Memories, Tags, Globals, ElementSegments, DataSegments, Locals, Labels, Item, Names, Number, S32, S64, Bits, Byte, Bytes, Heap, Block, Access, ManyLabels, ManyValues, ManyClauses}
+use Rattle.wasm_immediates.specs.Items.{Types, Functions, Tables, Memories, Tags, Globals, ElementSegments, DataSegments, Locals, Labels, Item, Names, Number, S32, S64, Bits, Byte, Bytes, Heap, Block, Access, ManyLabels, ManyValues, ManyClauses}
 use Rattle.wasm_operators.specs.Operators.{Seen}
 use Rattle.wasm_operator_names.specs.Names.{Renaming, renamed_index, renamed_heap, renamed_value, renamed_block, renamed_clause, renamed_item, renamed_operator}
 use Rattle.wasm_normal_form.specs.Roles.{Placed}
 use Rattle.wasm_normal_form.specs.Normal.{with_pick, picked}
 use Rattle.wasm_normal_form.specs.Bodies.{renamed_local, with_locals}
-use Rattle.wasm_runs.specs.Programs.{Signature, Shown, Plain, Typed, Executed, shown, executed, operators}
-use Rattle.wasm_runs.specs.Renamed.{renamed_signature, renamed_shown, renamed_executed, renamed_code, IsTypedSo, AreTypedSo, PicksKeep}
-use Rattle.wasm_runs.specs.Laws.{KeepsSignatures, local_numbers}
+use Rattle.wasm_runs.specs.Programs.{Signature, Shown, Typed, shown, executed, operators}
+use Rattle.wasm_runs.specs.Renamed.{renamed_signature, renamed_shown, renamed_executed}
+use Rattle.wasm_run_laws.specs.Stands.{renamed_code, KeepsSignatures, IsTypedSo, AreTypedSo, PicksKeep}
+use Rattle.wasm_run_laws.specs.Laws.{local_numbers}
 
 module _ (r : Renaming) (s : BlockType → Signature) where
   shown_renamed : (t : BlockType → Signature) (x : Item) → IsTypedSo r s t x → shown t (renamed_item r x) ≡ renamed_shown r (shown s x)

@@ -10,16 +10,16 @@ use Rattle.wasm_operators.specs.declared.entry.Flow.{Flow}
 use Rattle.wasm_operators.specs.declared.entry.Flow.TheVariants as flows
 use Rattle.wasm_operators.specs.Operators.{Seen, flow_of}
 use Rattle.wasm_operator_names.specs.Names.{renamed_operator}
-use Rattle.wasm_normal_form.specs.Roles.{cuts_in, cuts, is_if_in, is_if, end_op}
+use Rattle.wasm_normal_form.specs.Roles.{cuts_in, cuts, is_if_in, is_if}
 use Rattle.wasm_normal_form.specs.Trees.{Tree, Close, Arm, Skip, Run, Nest}
 use Rattle.wasm_normal_form.specs.Normal.{normal_from, picked}
-use Rattle.wasm_runs.specs.Outcomes.{Outcome, Go, Trap, Throws, Yes, No, Nth, Enter, Returns, Ending, Trapped, Waiting, Spent, Misfit, goes_on, holds, throws, number, Reply, Back, Fails, Thrown, reply, Found, Replies, Into, found, given, taken}
-use Rattle.wasm_runs.specs.Programs.{Code, nested, labels_of, callee_of, clauses_of}
-use Rattle.wasm_runs.specs.Frames.{Way, To, Along, Handler, Frame, plain, Part, parts, closing, passed, handler_of, clause_handler, opened}
+use Rattle.wasm_runs.specs.Outcomes.{Outcome, Go, Trap, Throws, Yes, No, Nth, Enter, Returns, Ending, Waiting, Misfit, goes_on, holds, throws, number, Reply, Back, Fails, Thrown, reply, found, given, taken}
+use Rattle.wasm_runs.specs.Programs.{nested, labels_of, callee_of, clauses_of}
+use Rattle.wasm_runs.specs.Frames.{Way, To, Along, Handler, Frame, plain, parts, closing, passed, handler_of, clause_handler}
 use Rattle.wasm_runs.specs.Machine.{Move, Goes, Leaves, Raises, Enters, Becomes, Ends, to_frame, branch, branch_to, caught, offered_one, offered, thrown, Step, nothing, did, did_unless_over, stuck, goes_or_traps, Call, from, instead, entered, replied, calls, finds, calls_any, acts, otherwise, begins, ends_part, act}
-use Rattle.wasm_runs.specs.Traces.{Activation, State, Next, On, Over, activation, on, back_to, moved, raised, step, Traces, over, goes, answered, starts}
+use Rattle.wasm_runs.specs.Traces.{Activation, Next, On, Over, activation, on, back_to, moved, raised, step, Traces, over, goes, answered, starts}
 use Rattle.wasm_runs.specs.Renamed.{renamed_outcome, FitsOne, Fits}
-use Rattle.wasm_runs.proofs.Images.{AllOf, Images, SameCallee, Good, image, IsGood, SameBody, SameBodies, renamed_tree, labels_same, passed_same, handlers_same}
+use Rattle.wasm_run_laws.proofs.Images.{AllOf, Images, SameCallee, Good, image, IsGood, SameBody, SameBodies, renamed_tree, labels_same, passed_same, handlers_same}
 
 abbrev AgainGood : {E : Type 0} → (ℕ → Type 0) → Images E → ℕ → Option Tree → Type 0
 AgainGood P i f None = Unit {0}

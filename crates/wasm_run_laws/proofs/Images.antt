@@ -1,25 +1,20 @@
 -- A module beside another that holds some of its functions in normal form and renamed: what stands for what.
-use Rattle.std.proofs.Common.{ℕ, ◌≡◌, Bool, true, false, List, [], ◌∷◌, ◌++◌, map, refl, sym, ap, ◌∙◌, ◌⊎◌}
-use Rattle.std.specs.Prelude.{Option, Some, None, slice_get}
-use Rattle.std.specs.List.{flat_map, AllByRecursion}
-use Rattle.std.specs.Option.{option_map}
+use Rattle.std.proofs.Common.{ℕ, ◌≡◌, Bool, false, List, [], ◌∷◌, ◌++◌, map, refl, sym, ap, ◌∙◌, ◌⊎◌}
+use Rattle.std.specs.Prelude.{Option, Some, None}
+use Rattle.std.specs.List.{flat_map}
 use Rattle.std.proofs.lemmas.List.{map-append}
 use Rattle.wasm_immediates.specs.declared.block_type.BlockType.{BlockType}
 use Rattle.wasm_immediates.specs.declared.clause.Clause.{Clause}
 use Rattle.wasm_immediates.specs.declared.clause.Clause.TheVariants as clauses
-use Rattle.wasm_immediates.specs.Items.{Space, Functions, Labels, Types, Tables, Memories, Tags, Globals, ElementSegments, DataSegments, Locals, Item, ManyClauses}
-use Rattle.wasm_operators.specs.declared.entry.Flow.{Flow}
-use Rattle.wasm_operators.specs.declared.entry.Flow.TheVariants as flows
+use Rattle.wasm_immediates.specs.Items.{Space, Functions, Labels, Item, ManyClauses}
 use Rattle.wasm_operators.specs.Operators.{Seen, flow_of}
 use Rattle.wasm_operator_names.specs.Names.{Name, Renaming, operator_names, renamed_operator, renamed_item, renamed_clause}
 use Rattle.wasm_operator_names.specs.Laws.{renamed_name}
 use Rattle.wasm_operator_names.specs.Renamed.{names_are_renamed}
 use Rattle.wasm_normal_form.specs.Trees.{Tree, Close, Arm, Skip, Run, Nest}
-use Rattle.wasm_normal_form.specs.Normal.{with_pick, picked, normal_from, normal}
-use Rattle.wasm_runs.specs.Outcomes.{Outcome}
+use Rattle.wasm_normal_form.specs.Normal.{with_pick, picked, normal_from}
 use Rattle.wasm_runs.specs.Programs.{Code, nested, label_in, labels_of, function_in, functions_of, callee_of, clauses_in, clauses_of}
 use Rattle.wasm_runs.specs.Frames.{Handler, clause_handler, passed_by, passed}
-use Rattle.wasm_runs.specs.Renamed.{renamed_outcome}
 
 -- ---- what renamed operators name
 
@@ -81,13 +76,17 @@ handlers_same r pick fixed o = items_clauses r pick fixed o.items
 
 -- ---- trees
 
--- with its operators renamed, and without places
+-- with other operators, and without places
+abbrev pub mapped_tree : (Seen → Seen) → Tree → Tree
+mapped_tree f (Close o p) = Close (f o) None
+mapped_tree f (Arm o p t) = Arm (f o) None (mapped_tree f t)
+mapped_tree f (Skip o p t) = Skip (f o) None (mapped_tree f t)
+mapped_tree f (Run o p t) = Run (f o) None (mapped_tree f t)
+mapped_tree f (Nest o p u t) = Nest (f o) None (mapped_tree f u) (mapped_tree f t)
+
+-- with its operators renamed
 abbrev pub renamed_tree : Renaming → Tree → Tree
-renamed_tree r (Close o p) = Close (renamed_operator r o) None
-renamed_tree r (Arm o p t) = Arm (renamed_operator r o) None (renamed_tree r t)
-renamed_tree r (Skip o p t) = Skip (renamed_operator r o) None (renamed_tree r t)
-renamed_tree r (Run o p t) = Run (renamed_operator r o) None (renamed_tree r t)
-renamed_tree r (Nest o p u t) = Nest (renamed_operator r o) None (renamed_tree r u) (renamed_tree r t)
+renamed_tree r t = mapped_tree (renamed_operator r) t
 
 -- each operator that may be executed is of Q
 abbrev pub AllOf : (Seen → Type 0) → Tree → Type 0
