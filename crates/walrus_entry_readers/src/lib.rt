@@ -1,0 +1,16 @@
+//! Entries of the sections of a file, one by one: each is read, and put into what was read before it (Core Specification, binary
+//! format: modules).
+#![tactic(auto)]
+
+mod entities;
+mod items;
+mod known_types;
+mod sections;
+
+pub use entities::{GlobalEntry, TableEntry};
+pub use items::{
+    Chunk, Custom, Data, Element, ElementItems, Export, Function, GlobalType, Import, Memory, Mode,
+    Table, TableType, Tag,
+};
+pub use known_types::KnownTypes;
+pub use sections::Sections;
