@@ -3,6 +3,7 @@ use Rattle.std.specs.Prelude.{ℕ, ◌⊎◌, Option, Some, None}
 use Rattle.std.proofs.Common.{inl, inr}
 use Rattle.std.specs.Global.{Vec}
 use Rattle.walrus_operators.specs.declared.operator.Operator.{Operator}
+use Rattle.wasm_grammar.specs.Modules.{Expr}
 use Rattle.wasm_sections.specs.Entities as grammar
 use Rattle.walrus_section_values.specs.Globals.{expr_of}
 use Rattle.walrus_entry_readers.specs.Items.{table_type_of, global_type_of}
@@ -22,3 +23,9 @@ table_entry_of t = table_entry_as t.ty t.init
 
 abbrev pub global_entry_of : GlobalEntry → grammar.GlobalEntry
 global_entry_of g = (global_type_of g.ty, expr_of g.init)
+
+abbrev pub init_table_of : TableType × Vec Operator → grammar.TableType × Expr
+init_table_of p = (table_type_of p.0, expr_of p.1)
+
+abbrev pub initialised_of : TableType × Vec Operator → grammar.Initialised
+initialised_of p = (tt, init_table_of p)

@@ -32,6 +32,11 @@ pub by_window : {S X : Type 0} (p : WasmFeatures → List ℕ → Parsing S) (vi
     → Parses (p mid.window.features) view mid new result → Parses (p old.window.features) view mid new result
 by_window p view old mid new result moves h = subst (λ (w : Window). Parses (p w.features) view mid new result) moves.window h
 
+-- a call of a reader that was left alone
+pub from_same : {S X : Type 0} (p : WasmFeatures → List ℕ → Parsing S) (view : X → S) (old mid new : Cursor) (result : Result X Fault) → mid ≡ old
+    → Parses (p mid.window.features) view mid new result → Parses (p old.window.features) view old new result
+from_same p view old mid new result same h = subst (λ (c : Cursor). Parses (p c.window.features) view c new result) same h
+
 module _ {A B X Y Z : Type 0} (f : Format A) (g : A → Format B) (v : Y → A) (w : Z → B) (view : X → A × B) (old mid new : Cursor) (y : Y) where
   pub after_ok : (z : Z) (x : X) → view x ≡ (v y, w z) → Parses f.parse v old mid (Ok y) → Parses (g (v y)).parse w mid new (Ok z) → Parses (after f g).parse view old new (Ok x)
   after_ok z x same p q = record { value = rw (p.value, q.value, same) refl; place = tt; moves = joined old mid new p.moves q.moves }
@@ -42,6 +47,12 @@ module _ {A B X Y Z : Type 0} (f : Format A) (g : A → Format B) (v : Y → A) 
     place = q.place;
     moves = joined old mid new p.moves q.moves;
   }
+
+-- a call, and a last one behind it whose answer is the whole's
+pub after_last : {A B X Y : Type 0} (f : Format A) (g : A → Format B) (v : Y → A) (w : X → B) (view : X → A × B) (old mid new : Cursor) (y : Y) (result : Result X Fault)
+    → ((z : X) → view z ≡ (v y, w z)) → Parses f.parse v old mid (Ok y) → Parses (g (v y)).parse w mid new result → Parses (after f g).parse view old new result
+after_last f g v w view old mid new y (Ok x) same p q = after_ok f g v w view old mid new y x x (same x) p q
+after_last f g v w view old mid new y (Err e) same p q = after_err f g v w view old mid new y e p q
 
 pub after_first : {A B X Y : Type 0} (f : Format A) (g : A → Format B) (v : Y → A) (view : X → A × B) (old new : Cursor) (e : Fault) → Parses f.parse v old new (Err e)
     → Parses (after f g).parse view old new (Err e)
@@ -157,3 +168,8 @@ module _ {A X : Type 0} (of : Limited) (f : Format A) (view : X → A) (old new 
       placed : (b : Bool) → e.offset ≤ end_of new → offset ≤ end_of new → Placed (if b then Err e else Err (fault_of (faults.Limit of) offset))
       placed true h k = h
       placed false h k = k
+
+pub room_read : {A X : Type 0} (of : Limited) (f : Format A) (view : X → A) (old new : Cursor) (offset : ℕ) (room held : Bool) (r result : Result X Fault) → offset + length (rest old) ≡ end_of old
+    → held ≡ room → result ≡ in_room held of offset r → Parses f.parse view old new r → Parses (if_room room of f).parse view old new result
+room_read {A} {X} of f view old new offset room held r result at same is p =
+    subst (λ (o : Result X Fault). Parses (if_room room of f).parse view old new o) (sym (is ∙ ap (λ (b : Bool). in_room b of offset r) same)) (room_parses of f view old new offset at room r p)

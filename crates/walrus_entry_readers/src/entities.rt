@@ -14,17 +14,17 @@ ghost use Rattle.walrus_section_values.specs.Globals.{expr_of, known_of};
 ghost use Rattle.walrus_section_values.specs.Limits.{memory_type_of};
 ghost use Rattle.walrus_entry_readers.specs.Rooms.{in_room, is_memory};
 ghost use Rattle.walrus_entry_readers.specs.Items.{global_type_of, table_type_of};
-ghost use Rattle.walrus_entry_readers.specs.Entries.{global_entry_of, table_entry_of, tag_type_of};
+ghost use Rattle.walrus_entry_readers.specs.Entries.{global_entry_of, init_table_of, initialised_of, table_entry_of, tag_type_of};
 ghost use Rattle.walrus_entry_readers.specs.State.{state_of};
 
 use crate::items::{Function, GlobalType, Memory, Table, TableType, Tag};
 use crate::sections::Sections;
 use std::alloc::{AllocError, Global as Alloc};
 use walrus_operators::Operator;
-use walrus_section_reader::{Entries, Fault, FaultKind, Form, Limited, Result, Space};
+use walrus_section_reader::{Fault, FaultKind, Form, Limited, Result, Space};
 use walrus_section_values::{
     Global, GlobalOrigin, Known, MemoryType, read_below, read_expr, read_memory_limits,
-    read_offset, read_ref_type, read_table_limits, read_value_type, read_zero,
+    read_offset, read_ref_type, read_table_limits, read_value_type, read_zero, take_byte,
 };
 use wasm_reader::limits::{
     MAX_WASM_FUNCTIONS, MAX_WASM_GLOBALS, MAX_WASM_MEMORIES, MAX_WASM_TABLES, MAX_WASM_TAGS,
@@ -78,14 +78,14 @@ impl<'a> Sections<'a> {
         self.globals.len() < MAX_WASM_GLOBALS
     }
 
-    fn add_function(&mut self, ty: u32) -> Result<(), AllocError>
+    pub(crate) fn add_function(&mut self, ty: u32) -> Result<(), AllocError>
         ensures { OnOk result (state_of self.new ≡ add_function (state_of self.old) ty) }
     {
         self.functions.push(Function { ty, import: None })?;
         Ok(())
     }
 
-    fn add_table(&mut self, entry: TableEntry) -> Result<(), AllocError>
+    pub(crate) fn add_table(&mut self, entry: TableEntry) -> Result<(), AllocError>
         ensures { OnOk result (state_of self.new ≡ add_table (state_of self.old) (table_entry_of entry)) }
     {
         let TableEntry { ty, init } = entry;
@@ -97,21 +97,21 @@ impl<'a> Sections<'a> {
         Ok(())
     }
 
-    fn add_memory(&mut self, ty: MemoryType) -> Result<(), AllocError>
+    pub(crate) fn add_memory(&mut self, ty: MemoryType) -> Result<(), AllocError>
         ensures { OnOk result (state_of self.new ≡ add_memory (state_of self.old) (memory_type_of ty)) }
     {
         self.memories.push(Memory { ty, import: None })?;
         Ok(())
     }
 
-    fn add_tag(&mut self, ty: u32) -> Result<(), AllocError>
+    pub(crate) fn add_tag(&mut self, ty: u32) -> Result<(), AllocError>
         ensures { OnOk result (state_of self.new ≡ add_tag (state_of self.old) (tag_type_of ty)) }
     {
         self.tags.push(Tag { ty, import: None })?;
         Ok(())
     }
 
-    fn add_global(&mut self, entry: GlobalEntry) -> Result<(), AllocError>
+    pub(crate) fn add_global(&mut self, entry: GlobalEntry) -> Result<(), AllocError>
         ensures { OnOk result (state_of self.new ≡ add_global (state_of self.old) (global_entry_of entry)) }
     {
         let GlobalEntry { ty, init } = entry;
@@ -211,7 +211,7 @@ pub(crate) fn read_tag_type(sections: &Sections<'_>, reader: &mut BinaryReader<'
 }
 
 // A function type, where there is room for one more function.
-fn read_function(sections: &Sections<'_>, reader: &mut BinaryReader<'_>) -> Result<u32>
+pub(crate) fn read_function(sections: &Sections<'_>, reader: &mut BinaryReader<'_>) -> Result<u32>
     ensures { ParsesExactly (function_entry (state_of sections.now)).parse plain reader.old reader.new result }
 {
     let offset = reader.original_position();
@@ -271,4 +271,96 @@ fn read_own_global(
     let ty = read_global_type(alloc, sections, reader)?;
     let init = read_init(alloc, sections, reader)?;
     Ok(GlobalEntry { ty, init })
+}
+
+// The type of a table, and what its elements are to begin with.
+fn read_init_table(
+    alloc: Alloc,
+    sections: &Sections<'_>,
+    reader: &mut BinaryReader<'_>,
+) -> Result<(TableType, Vec<Operator>)>
+    ensures { Parses (after (table_type reader.old.window.features (state_of sections.now)) (λ _. expr reader.old.window.features (known (state_of sections.now)))).parse init_table_of reader.old reader.new result }
+{
+    let ty = read_table_type(alloc, sections, reader)?;
+    let init = read_init(alloc, sections, reader)?;
+    Ok((ty, init))
+}
+
+// The same behind 00.
+fn read_initialised(
+    alloc: Alloc,
+    sections: &Sections<'_>,
+    reader: &mut BinaryReader<'_>,
+) -> Result<(TableType, Vec<Operator>)>
+    ensures { Parses (initialised reader.old.window.features (state_of sections.now)).parse initialised_of reader.old reader.new result }
+{
+    read_zero(reader)?;
+    read_init_table(alloc, sections, reader)
+}
+
+// A table's type, or 40 and a table with what its elements are to begin with.
+fn read_own_table(
+    alloc: Alloc,
+    sections: &Sections<'_>,
+    reader: &mut BinaryReader<'_>,
+) -> Result<TableEntry>
+    ensures { Parses (led 0x40 (initialised reader.old.window.features (state_of sections.now)) (table_type reader.old.window.features (state_of sections.now)) (table_apart reader.old.window.features (state_of sections.now)) (table_some reader.old.window.features (state_of sections.now)) (table_wants reader.old.window.features (state_of sections.now))).parse table_entry_of reader.old reader.new result }
+{
+    if take_byte(0x40, reader) {
+        let (ty, init) = read_initialised(alloc, sections, reader)?;
+        return Ok(TableEntry {
+            ty,
+            init: Some(init),
+        });
+    }
+    let ty = read_table_type(alloc, sections, reader)?;
+    Ok(TableEntry { ty, init: None })
+}
+
+// A table, where there is room for one more.
+pub(crate) fn read_table(
+    alloc: Alloc,
+    sections: &Sections<'_>,
+    reader: &mut BinaryReader<'_>,
+) -> Result<TableEntry>
+    ensures { Parses (table_entry reader.old.window.features (state_of sections.now)).parse table_entry_of reader.old reader.new result }
+{
+    let offset = reader.original_position();
+    let room = sections.has_table_room();
+    let read = read_own_table(alloc, sections, reader);
+    in_room(room, Limited::Tables, offset, read)
+}
+
+// A memory, where there is room for one more.
+pub(crate) fn read_memory(
+    sections: &Sections<'_>,
+    reader: &mut BinaryReader<'_>,
+) -> Result<MemoryType>
+    ensures { Parses (memory_entry (state_of sections.now)).parse memory_type_of reader.old reader.new result }
+{
+    read_memory_limits(sections.has_memory_room(), reader)
+}
+
+// A tag, where there is room for one more.
+pub(crate) fn read_tag(sections: &Sections<'_>, reader: &mut BinaryReader<'_>) -> Result<u32>
+    ensures { Parses (tag_entry (state_of sections.now)).parse tag_type_of reader.old reader.new result }
+{
+    let offset = reader.original_position();
+    let room = sections.has_tag_room();
+    let read = read_tag_type(sections, reader);
+    in_room(room, Limited::Tags, offset, read)
+}
+
+// A global, where there is room for one more.
+pub(crate) fn read_global(
+    alloc: Alloc,
+    sections: &Sections<'_>,
+    reader: &mut BinaryReader<'_>,
+) -> Result<GlobalEntry>
+    ensures { Parses (global_entry reader.old.window.features (state_of sections.now)).parse global_entry_of reader.old reader.new result }
+{
+    let offset = reader.original_position();
+    let room = sections.has_global_room();
+    let read = read_own_global(alloc, sections, reader);
+    in_room(room, Limited::Globals, offset, read)
 }

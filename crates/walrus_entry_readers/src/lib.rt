@@ -3,14 +3,18 @@
 #![tactic(auto)]
 
 mod entities;
+mod entry;
 mod items;
+mod kinds;
 mod known_types;
 mod sections;
 
 pub use entities::{GlobalEntry, TableEntry};
+pub use entry::{Each, Entry};
 pub use items::{
     Chunk, Custom, Data, Element, ElementItems, Export, Function, GlobalType, Import, Memory, Mode,
     Table, TableType, Tag,
 };
+pub use kinds::{Functions, Globals, Memories, Tables, Tags};
 pub use known_types::KnownTypes;
 pub use sections::Sections;
