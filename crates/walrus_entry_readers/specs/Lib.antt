@@ -5,3 +5,4 @@ pub mod Rooms
 pub mod Entries
 pub mod Leads
 pub mod Known
+pub mod Imports

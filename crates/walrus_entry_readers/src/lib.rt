@@ -4,6 +4,7 @@
 
 mod entities;
 mod entry;
+mod imports;
 mod items;
 mod kinds;
 mod known_types;
@@ -11,6 +12,7 @@ mod sections;
 
 pub use entities::{GlobalEntry, TableEntry};
 pub use entry::{Each, Entry};
+pub use imports::{Entity, ImportEntry};
 pub use items::{
     Chunk, Custom, Data, Element, ElementItems, Export, Function, GlobalType, Import, Memory, Mode,
     Table, TableType, Tag,

@@ -10,6 +10,5 @@ use Rattle.walrus_entry_readers.proofs.entities.read_tag.Goals as goal
 
 pub returns : goal.returns
 returns c =
-    
     let s = state_of c.args.sections.now in
     room_read limited.Tags (tag_type s) tag_type_of _ _ c.original_position-offset.result (has_room s spaces.Tag) _ _ _ c.original_position-offset.ensures.left c.has_tag_room-room.ensures c.in_room.ensures (unless_memory (tag_type s).parse tag_type_of _ _ _ c.read_tag_type-read.ensures)
