@@ -6,3 +6,4 @@ pub mod Entries
 pub mod Leads
 pub mod Known
 pub mod Imports
+pub mod ImportLemmas

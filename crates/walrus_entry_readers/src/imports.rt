@@ -1,6 +1,6 @@
 //! The import section (Core Specification, binary format: import section).
 
-ghost use Rattle.std.specs.Prelude.{◌≡◌, OnOk, option_map, Some, None};
+ghost use Rattle.std.specs.Prelude.{◌≡◌, length, OnOk, option_map, Some, None};
 ghost use Rattle.wasm_formats.specs.Joined.{after};
 ghost use Rattle.wasm_formats.specs.Bytes.{literal};
 ghost use Rattle.wasm_formats.specs.Stops.{Read};
@@ -8,7 +8,7 @@ ghost use Rattle.wasm_formats.specs.Wholes.{u32};
 ghost use Rattle.wasm_reader.specs.declared.error.ErrorKind.TheVariants as kinds;
 ghost use Rattle.wasm_grammar.specs.States.{has_room, limited, type_count};
 ghost use Rattle.wasm_grammar.specs.Values.{byte_below, limits, ref_type, value_type};
-ghost use Rattle.wasm_sections.specs.Entities.{add_entity, add_import, entity, entity_read, import_entry, space_of, with_import};
+ghost use Rattle.wasm_sections.specs.Entities.{add_entity, add_import, entity, entity_read, import_entry, import_of, next_number, space_of, with_import};
 ghost use Rattle.walrus_section_reader.specs.Faults.{trouble_of};
 ghost use Rattle.walrus_section_reader.specs.Parses.{ParsesExactly};
 ghost use Rattle.walrus_entry_readers.specs.Entries.{tag_type_of};
@@ -17,6 +17,7 @@ ghost use Rattle.walrus_entry_readers.specs.Items.{global_type_of, table_type_of
 ghost use Rattle.walrus_entry_readers.specs.State.{state_of};
 
 use crate::entities::{read_function_type, read_global_type, read_table_type, read_tag_type};
+use crate::entry::Entry;
 use crate::items::{Function, GlobalType, Import, Memory, Table, TableType, Tag};
 use crate::sections::Sections;
 use std::alloc::{AllocError, Global as Alloc};
@@ -172,5 +173,132 @@ impl<'a> Sections<'a> {
             Entity::Tag(_) if !self.has_tag_room() => Some(FaultKind::Limit(Limited::Tags)),
             _ => None,
         }
+    }
+}
+
+// An import: it is read ahead, then it is tested whether there is room for it, and then what ends it.
+fn read_import<'a>(
+    alloc: Alloc,
+    sections: &Sections<'a>,
+    reader: &mut BinaryReader<'a>,
+) -> Result<ImportEntry<'a>>
+    ensures { ParsesExactly (import_entry reader.old.window.features (state_of sections.now)).parse import_entry_of reader.old reader.new result }
+{
+    let offset = reader.original_position();
+    let (module, name, kind) = read_front(reader)?;
+    let mut ahead = reader.shrink();
+    let any = read_any_entity(alloc, kind, sections, &mut ahead)?;
+    match sections.import_fault(any) {
+        Some(fault) => return Err(Fault::new(fault, offset)),
+        None => {}
+    }
+    let entity = read_entity(alloc, kind, sections, reader)?;
+    Ok(ImportEntry {
+        module,
+        name,
+        kind,
+        entity,
+    })
+}
+
+impl<'a> Sections<'a> {
+    // The item that the import of this number brings.
+    fn add_entity(&mut self, number: usize, entity: Entity) -> Result<(), AllocError>
+        ensures { OnOk result (state_of self.new ≡ add_entity (state_of self.old) number (entity_of entity)) }
+    {
+        let import = Some(number);
+        match entity {
+            Entity::Function(ty) => {
+                let Some(imported) = self.imported.checked_add(1) else {
+                    return Err(AllocError);
+                };
+                self.functions.push(Function { ty, import })?;
+                self.imported = imported;
+            }
+            Entity::Table(ty) => self.tables.push(Table {
+                ty,
+                init: None,
+                import,
+            })?,
+            Entity::Memory(ty) => self.memories.push(Memory { ty, import })?,
+            Entity::Global(ty) => self.globals.push(Global {
+                ty: ty.ty,
+                mutable: ty.mutability == 1,
+                origin: GlobalOrigin::Import(number),
+            })?,
+            Entity::Tag(ty) => self.tags.push(Tag { ty, import })?,
+        }
+        Ok(())
+    }
+
+    // How many items there are of the space of what is imported.
+    fn next_number(&self, entity: Entity) -> usize
+        ensures { result ≡ next_number (state_of self.now) (entity_of entity) }
+    {
+        match entity {
+            Entity::Function(_) => self.functions.len(),
+            Entity::Table(_) => self.tables.len(),
+            Entity::Memory(_) => self.memories.len(),
+            Entity::Global(_) => self.globals.len(),
+            Entity::Tag(_) => self.tags.len(),
+        }
+    }
+
+    // The import, without its item.
+    fn push_import(&mut self, entry: ImportEntry<'a>) -> Result<(), AllocError>
+        ensures { OnOk result (state_of self.new ≡ with_import (state_of self.old) (import_of (state_of self.old) (import_entry_of entry.entry))) }
+    {
+        let index = self.next_number(entry.entity);
+        self.imports.push(Import {
+            module: entry.module,
+            name: entry.name,
+            space: space_of(entry.entity),
+            index,
+        })?;
+        Ok(())
+    }
+
+    fn import_count(&self) -> usize
+        ensures { result ≡ length (state_of self.now).filled.imports }
+    {
+        self.imports.len()
+    }
+
+    fn add_import(&mut self, entry: ImportEntry<'a>) -> Result<(), AllocError>
+        ensures { OnOk result (state_of self.new ≡ add_import (state_of self.old) (import_entry_of entry.entry)) }
+    {
+        let number = self.import_count();
+        self.push_import(entry)?;
+        self.add_entity(number, entry.entity)
+    }
+}
+
+/// Imports.
+pub struct Imports;
+
+impl<'a> Entry<'a> for Imports {
+    type Value = ImportEntry<'a>;
+
+    ghost use Rattle.wasm_sections.specs.Entities as grammar;
+    ghost use Rattle.walrus_entry_readers.specs.Imports.{import_entry_of};
+
+    ghost Seen = { grammar.ImportEntry };
+
+    ghost seen = { import_entry_of };
+
+    ghost parse = { λ features s. (grammar.import_entry features s).parse };
+
+    ghost put = { grammar.add_import };
+
+    fn read(
+        alloc: Alloc,
+        sections: &Sections<'a>,
+        reader: &mut BinaryReader<'a>,
+    ) -> Result<Self::Value> {
+        read_import(alloc, sections, reader)
+    }
+
+    fn add(sections: &mut Sections<'a>, value: Self::Value) -> Result<(), AllocError> {
+        sections.add_import(value)
     }
 }

@@ -12,7 +12,7 @@ mod sections;
 
 pub use entities::{GlobalEntry, TableEntry};
 pub use entry::{Each, Entry};
-pub use imports::{Entity, ImportEntry};
+pub use imports::{Entity, ImportEntry, Imports};
 pub use items::{
     Chunk, Custom, Data, Element, ElementItems, Export, Function, GlobalType, Import, Memory, Mode,
     Table, TableType, Tag,
