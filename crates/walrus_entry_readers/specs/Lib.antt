@@ -7,3 +7,4 @@ pub mod Leads
 pub mod Known
 pub mod Imports
 pub mod ImportLemmas
+pub mod Lists

@@ -8,6 +8,7 @@ mod imports;
 mod items;
 mod kinds;
 mod known_types;
+mod lists;
 mod sections;
 
 pub use entities::{GlobalEntry, TableEntry};
