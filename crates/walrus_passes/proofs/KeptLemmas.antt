@@ -10,7 +10,7 @@ use Rattle.walrus_roots.specs.declared.item.Item.{Item}
 use Rattle.walrus_roots.specs.Items.{item}
 use Rattle.walrus_marks.specs.Marks.{State}
 use Rattle.walrus_references.specs.Kept.{IsReached, IsFirstMemory, IsSpared, Kept}
-use Rattle.walrus_references.specs.Refused.{Lives}
+use Rattle.walrus_module.specs.Items.{Lives}
 use Rattle.walrus_refusals.specs.Checks.{IsMet}
 use Rattle.walrus_passes.specs.Keeping.{SparesMemory}
 

@@ -10,8 +10,8 @@ use Rattle.walrus_roots.specs.declared.item.Item.{Item}
 use Rattle.walrus_roots.specs.Items.{item, space_number}
 use Rattle.walrus_marks.specs.Chains.{FitsIn, refers}
 use Rattle.walrus_references.specs.Kept.{IsSpared, Kept}
-use Rattle.walrus_references.specs.Refused.{Lives}
-use Rattle.walrus_refusals.specs.Asked.{brought}
+use Rattle.walrus_module.specs.Items.{Lives}
+use Rattle.walrus_module.specs.Items.{brought}
 use Rattle.walrus_refusals.specs.Sound.{IsSound}
 use Rattle.walrus_used.specs.Counts.{counts_of}
 use Rattle.walrus_used.proofs.CountLemmas.{lives_fit}

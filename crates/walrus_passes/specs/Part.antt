@@ -8,9 +8,9 @@ use Rattle.walrus_module_items.specs.declared.import.Import.{Import}
 use Rattle.walrus_module.specs.declared.module.Module.{Module}
 use Rattle.walrus_roots.specs.declared.item.Item.{Item}
 use Rattle.walrus_roots.specs.Items.{item}
-use Rattle.walrus_references.specs.References.{written_type}
+use Rattle.walrus_module.specs.Items.{written_type}
 use Rattle.walrus_references.specs.Kept.{Kept}
-use Rattle.walrus_refusals.specs.Asked.{brought}
+use Rattle.walrus_module.specs.Items.{brought}
 
 -- the live items of the one collection are those of the other, under their ids, without those among these that don't stay
 pub record RestAmong {T : Type 0} (among : ℕ → Type 0) (stays : ℕ → T → Type 0) (old new : Arena T) : Type 0 where

@@ -1,6 +1,6 @@
 //! Deleting what isn't kept from a collection.
 ghost use Rattle.std.specs.Prelude.{◌≡◌};
-ghost use Rattle.walrus_refusals.specs.Asked.{brought};
+ghost use Rattle.walrus_module.specs.Items.{brought};
 ghost use Rattle.walrus_roots.specs.Items.{item};
 ghost use Rattle.walrus_passes.specs.Keeping.{IsHeld};
 ghost use Rattle.walrus_passes.specs.Part.{Rest, RestAmong};

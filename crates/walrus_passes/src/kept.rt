@@ -4,7 +4,7 @@ ghost use Rattle.walrus_roots.specs.declared.item.Item.{Item as AnyItem};
 ghost use Rattle.walrus_roots.specs.Items.{item};
 ghost use Rattle.walrus_arena.specs.Arena.{IsLive};
 ghost use Rattle.walrus_references.specs.Kept.{IsFirstMemory, Kept};
-ghost use Rattle.walrus_references.specs.Refused.{Lives};
+ghost use Rattle.walrus_module.specs.Items.{Lives};
 ghost use Rattle.wasm_formats.specs.declared.fault.Space.TheVariants as spaces;
 ghost use Rattle.walrus_refusals.specs.Checks.{IsMet};
 ghost use Rattle.walrus_refusals.specs.Sound.{IsRefused, IsSound};

@@ -22,10 +22,12 @@ use Rattle.walrus_marks.specs.Chains.{IsReached as IsReachedIn}
 use Rattle.walrus_references.specs.References.{Refers}
 use Rattle.walrus_references.specs.Roots.{Root}
 use Rattle.walrus_references.specs.Kept.{IsReached}
-use Rattle.walrus_references.specs.Refused.{Lives, LivesIn, FormsTree, HasTree, IsTreeIn}
+use Rattle.walrus_module.specs.Items.{Lives, LivesIn}
+use Rattle.walrus_references.specs.Refused.{FormsTree, HasTree, IsTreeIn}
 use Rattle.walrus_used.specs.Counts.{counts_of}
 use Rattle.walrus_used.proofs.CountLemmas.{lives_fit}
-use Rattle.walrus_refusals.specs.Asked.{Linked, IsOwnLinked, IsBrought, IsWholeIn, IsClaimed, brought, given}
+use Rattle.walrus_refusals.specs.Asked.{Linked, IsOwnLinked, IsBrought, IsWholeIn, IsClaimed, given}
+use Rattle.walrus_module.specs.Items.{brought}
 use Rattle.walrus_refusals.specs.Checks.{IsMet, HoldsMet, HoldsOrFails, AllClaimTruly}
 use Rattle.walrus_refusals.specs.Sound.{AllReached}
 

@@ -5,23 +5,14 @@ use Rattle.wasm_formats.specs.declared.fault.Space.TheVariants as spaces
 use Rattle.walrus_arena.specs.Arena.{Arena, item_at, next_id}
 use Rattle.walrus_types.specs.Table.{Table as TypeTable}
 use Rattle.walrus_module_items.specs.declared.import.Import.{Import}
-use Rattle.walrus_module_items.specs.declared.import.ImportKind.{ImportKind}
-use Rattle.walrus_module_items.specs.declared.import.ImportKind.TheVariants as kinds
 use Rattle.walrus_module_items.specs.declared.function.Function.{Function}
 use Rattle.walrus_module_items.specs.declared.function.FunctionKind.{FunctionKind}
 use Rattle.walrus_module_items.specs.declared.function.FunctionKind.TheVariants as functions
 use Rattle.walrus_module.specs.declared.module.Module.{Module}
+use Rattle.walrus_module.specs.Items.{brought}
 use Rattle.walrus_linked.specs.Linked.{HasArguments, import_in}
 use Rattle.walrus_roots.specs.declared.item.Item.{Item}
 use Rattle.walrus_roots.specs.Items.{item}
-
--- the item that an import brings
-abbrev pub brought : ImportKind → Item
-brought (kinds.Function id) = item spaces.Function id
-brought (kinds.Table id) = item spaces.Table id
-brought (kinds.Memory id) = item spaces.Memory id
-brought (kinds.Global id) = item spaces.Global id
-brought (kinds.Tag id) = item spaces.Tag id
 
 -- the import that is named, if one is, lives and brings the item
 abbrev pub IsBrought : Arena Import → Item → Option ℕ → Type 0

@@ -8,7 +8,7 @@ use Rattle.walrus_linked.specs.Linked.{import_in}
 use Rattle.walrus_roots.specs.declared.item.Item.{Item}
 use Rattle.walrus_roots.specs.Items.{item, space_number}
 use Rattle.walrus_marks.specs.Marks.{State, is_marked}
-use Rattle.walrus_refusals.specs.Asked.{brought}
+use Rattle.walrus_module.specs.Items.{brought}
 
 -- the item was met
 abbrev pub IsMet : State → Item → Type 0

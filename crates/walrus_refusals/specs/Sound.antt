@@ -5,7 +5,8 @@ use Rattle.walrus_errors.specs.declared.error.ModuleError.TheVariants as refusal
 use Rattle.walrus_module.specs.declared.module.Module.{Module}
 use Rattle.walrus_roots.specs.declared.item.Item.{Item}
 use Rattle.walrus_references.specs.Kept.{IsReached}
-use Rattle.walrus_references.specs.Refused.{Lives, FormsTree}
+use Rattle.walrus_module.specs.Items.{Lives}
+use Rattle.walrus_references.specs.Refused.{FormsTree}
 use Rattle.walrus_refusals.specs.Asked.{Linked}
 
 -- that is so of each reached item

@@ -8,7 +8,8 @@ ghost use Rattle.walrus_module_items.specs.declared.memory.Memory.{Memory as Any
 ghost use Rattle.walrus_module_items.specs.declared.global.Global.{Global as AnyGlobal};
 ghost use Rattle.walrus_module_items.specs.declared.tag.Tag.{Tag as AnyTag};
 ghost use Rattle.walrus_linked.specs.Linked.{function_import, global_import, import_in, tag_import};
-ghost use Rattle.walrus_refusals.specs.Asked.{HasBody, IsBrought, IsOwnLinked, IsWholeIn, brought};
+ghost use Rattle.walrus_refusals.specs.Asked.{HasBody, IsBrought, IsOwnLinked, IsWholeIn};
+ghost use Rattle.walrus_module.specs.Items.{brought};
 ghost use Rattle.walrus_refusals.specs.Checks.{AllClaimTruly, ClaimsTruly};
 
 use crate::arguments::has_arguments;

@@ -1,7 +1,7 @@
 //! Whether items live.
 ghost use Rattle.std.specs.Prelude.{Decides, IfOk, IsSome};
-ghost use Rattle.walrus_references.specs.References.{written_type};
-ghost use Rattle.walrus_references.specs.Refused.{Lives};
+ghost use Rattle.walrus_module.specs.Items.{written_type};
+ghost use Rattle.walrus_module.specs.Items.{Lives};
 
 use crate::checks::Check;
 use std::alloc::AllocError;

@@ -3,7 +3,8 @@ ghost use Rattle.std.specs.Prelude.{◌↔◌, Decides, IfErr, IfOk, MatchOption
 ghost use Rattle.walrus_roots.specs.declared.item.Item.{Item as AnyItem};
 ghost use Rattle.walrus_marks.specs.Chains.{FitsIn};
 ghost use Rattle.walrus_references.specs.Kept.{IsReached};
-ghost use Rattle.walrus_references.specs.Refused.{FormsTree, Lives};
+ghost use Rattle.walrus_module.specs.Items.{Lives};
+ghost use Rattle.walrus_references.specs.Refused.{FormsTree};
 ghost use Rattle.walrus_used.specs.Counts.{counts_of};
 ghost use Rattle.walrus_refusals.specs.Asked.{IsOwnLinked};
 ghost use Rattle.walrus_refusals.specs.Checks.{AllClaimTruly, HoldsMet, HoldsOrFails, IsMet};

@@ -17,10 +17,10 @@ use Rattle.walrus_roots.specs.Items.{item}
 use Rattle.walrus_marks.specs.Marks.{State}
 use Rattle.walrus_marks.specs.Chains.{Chain, FitsIn}
 use Rattle.walrus_marks.specs.Chains.{IsReached as IsReachedIn}
-use Rattle.walrus_references.specs.References.{Refers, named_by, type_items, local_items, written, KindNames}
+use Rattle.walrus_references.specs.References.{Refers, named_by, type_items, local_items, KindNames}
 use Rattle.walrus_references.specs.Roots.{Root}
 use Rattle.walrus_references.specs.Kept.{IsReached}
-use Rattle.walrus_references.specs.Refused.{Lives, LivesIn}
+use Rattle.walrus_module.specs.Items.{written, Lives, LivesIn}
 use Rattle.walrus_used.specs.Looks.{Looks, LooksIn, AreActive}
 use Rattle.walrus_used.specs.Counts.{counts_of, past_id, past_group, past_types}
 use Rattle.walrus_used.proofs.LooksLemmas.{none_in, cases_in, named_below, reached_looked, looked_reached}

@@ -1,0 +1,5 @@
+pub mod Answering
+mod NamedTypes
+mod Counts
+mod Adding
+mod Going
