@@ -18,7 +18,7 @@ use Rattle.wasm_runs.specs.Renamed.{renamed_signature, renamed_executed, renamed
 use Rattle.wasm_runs.proofs.Ends.{each_body_ends, one_body_trace}
 use Rattle.wasm_run_laws.specs.Stands.{normal_code, renamed_code, KeepsSignatures, AreTypedSo, PicksKeep}
 use Rattle.wasm_run_laws.specs.Laws.{RunsAs, RunsRenamed, NormalRunsTheSame, local_numbers, NormalBodyRunsTheSame, KeepsLabels, BodyRunsRenamed, NormalRunsRenamed}
-use Rattle.wasm_run_laws.proofs.Images.{AllOf, Images, SameCallee, Good, IsGood, functions_renamed}
+use Rattle.wasm_run_laws.proofs.Images.{each_is, AllOf, Images, SameCallee, Good, IsGood, functions_renamed}
 use Rattle.wasm_run_laws.proofs.Alike.{runs_alike}
 use Rattle.wasm_run_laws.proofs.Nested.{nested_image, all_of, both_of, each_of, nested_all, normal_all, normal_unplaced, as_written, written_picked, operators_of, normal_renamed}
 use Rattle.wasm_run_laws.proofs.Entries.{executed_renamed, executed_picked, executed_with_pick, locals_renamed, ops_typed_so}
@@ -37,10 +37,6 @@ any_fits (_ ∷ outcomes) = (tt, any_fits outcomes)
 pub outcome_is : (o : Outcome) → renamed_outcome (λ f. f) o ≡ o
 outcome_is (Enter f) = refl
 outcome_is _ = refl
-
-pub map_is : {A : Type 0} (f : A → A) → ((x : A) → f x ≡ x) → (xs : List A) → map f xs ≡ xs
-map_is f h [] = refl
-map_is {A} f h (x ∷ xs) = ap (λ (y : A). y ∷ map f xs) (h x) ∙ ap (λ (ys : List A). x ∷ ys) (map_is f h xs)
 
 -- ---- bodies
 
@@ -69,7 +65,7 @@ module _ (one : TreeIsOne) (nests : NormalNests) (here there : BlockType → Sig
       } in
       let goods : IsGood Any i 0 (nested ops) false = both_of (ShownSo entry) (λ o. Unit {0}) (Good Any i 0) good w shows (each_of (λ o. Unit {0}) (λ o. tt) w) in
       let P : List Outcome → Type 0 = λ os. Traces (cut there) (starts 0 (Some (renamed_code r (normal_code pick ops))) os bound) (map entry events) ending in
-      subst P (map_is (renamed_outcome (λ f. f)) outcome_is outcomes)
+      subst P (each_is (renamed_outcome (λ f. f)) outcome_is outcomes)
       (runs_alike Executed Any i (λ g k. tt) 0 (Some ops) (Some (renamed_code r (normal_code pick ops))) (nested_image r one nests pick ops, goods) outcomes (any_fits outcomes) bound events ending run)
 
   shown_of : (w : _) → AllOf (AreTypedSo r here there) w → AllOf (ShownSo (renamed_executed r)) w
@@ -95,7 +91,7 @@ module _ (one : TreeIsOne) (nests : NormalNests) (signature : BlockType → Sign
       (each_of (λ o. executed signature (renamed_operator same o) ≡ executed signature o) (λ o. ap (executed signature) (same_is_same o)) w) outcomes bound events ending run in
       let P : List Executed → Type 0 = λ vs. BodyTrace signature (renamed_code same code) outcomes bound vs ending in
       let Q : List Seen → Type 0 = λ os. BodyTrace signature os outcomes bound events ending in
-      subst Q (map_is (renamed_operator same) same_is_same code ∙ normal_unplaced pick ops) (subst P (map_is (λ (v : Executed). v) (λ v. refl) events) renamed)
+      subst Q (each_is (renamed_operator same) same_is_same code ∙ normal_unplaced pick ops) (subst P (each_is (λ (v : Executed). v) (λ v. refl) events) renamed)
 
   -- since each has one trace
   from_normal : (ops : List Placed) → RunsAs signature (operators (normal_ops pick ops)) (operators ops)
