@@ -1,0 +1,4 @@
+mod Orders
+mod Members
+mod Numbering
+mod Counting
