@@ -1,4 +1,0 @@
-mod Orders
-mod Members
-mod Numbering
-mod Counting
