@@ -4,7 +4,8 @@ ghost use Rattle.std.specs.List.{fold};
 ghost use Rattle.walrus_roots.specs.declared.item.Item.{Item as AnyItem};
 ghost use Rattle.walrus_marks.specs.Marks.{meet};
 ghost use Rattle.walrus_marks.specs.Chains.{Meets};
-ghost use Rattle.walrus_references.specs.Roots.{Root, given_out};
+ghost use Rattle.walrus_references.specs.Roots.{Root};
+ghost use Rattle.walrus_module.specs.Items.{given_out};
 ghost use Rattle.walrus_used.specs.Picks.{IsPicked, active_data, is_imported, rooted_element, start_items};
 ghost use Rattle.walrus_arena.specs.Arena.{item_at};
 

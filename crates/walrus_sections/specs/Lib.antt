@@ -1,0 +1,4 @@
+pub mod Answers
+pub mod Lends
+pub mod Refusals
+pub mod Sections

@@ -1,0 +1,87 @@
+//! What sections keep, and what they are told.
+use crate::own::{Keeper, Listener, Refuser};
+use std::alloc::Global;
+use std::test::Fail;
+use walrus_arena::{FunctionId, UntypedCustomSectionId};
+use walrus_index_maps::IdsToIndices;
+use walrus_roots::Item;
+use walrus_sections::{CodeTransform, CustomSection, ModuleCustomSections, SectionFault};
+use wasm_formats::Space;
+
+// The number of the first function that is kept, how many are, or why that isn't known.
+fn kept(sections: &ModuleCustomSections, alloc: Global) -> Result<(usize, u32), SectionFault> {
+    let roots = sections.gc_roots(alloc)?;
+    match roots.items().first() {
+        Some(item) => Ok((roots.items().len(), item.id)),
+        None => Ok((0, 0)),
+    }
+}
+
+fn data_is(
+    sections: &ModuleCustomSections,
+    id: UntypedCustomSectionId,
+    alloc: Global,
+    bytes: &[u8],
+) -> bool {
+    let numbers = IdsToIndices::new(alloc);
+    match sections.get(id) {
+        Some(section) => match section.data(alloc, &numbers) {
+            Ok(found) => found.as_slice() == bytes,
+            Err(_) => false,
+        },
+        None => false,
+    }
+}
+
+fn tell(sections: &mut ModuleCustomSections, id: UntypedCustomSectionId, alloc: Global) {
+    let transform = CodeTransform {
+        instruction_map: Vec::new(alloc),
+        code_section_start: 0,
+        function_ranges: Vec::new(alloc),
+    };
+    if let Some(section) = sections.get_mut(id) {
+        section.apply_code_transform(&transform);
+    }
+}
+
+#[test]
+fn items_are_kept_by_rising_id(rt: HostRuntime) -> Result<(), Fail> {
+    let alloc = rt.alloc();
+    let mut sections = ModuleCustomSections::new(alloc);
+    assert!(rt; kept(&sections, alloc) == Ok((0, 0)));
+    sections.add_raw("x", &[])?;
+    let function = FunctionId::from_index(3);
+    let first = sections.add(Box::new(alloc, Keeper { function })?)?;
+    let function = FunctionId::from_index(4);
+    sections.add(Box::new(alloc, Keeper { function })?)?;
+    assert!(rt; kept(&sections, alloc) == Ok((2, 3)));
+    sections.delete(first);
+    assert!(rt; kept(&sections, alloc) == Ok((1, 4)));
+    Ok(())
+}
+
+#[test]
+fn the_first_refusal_is_answered(rt: HostRuntime) -> Result<(), Fail> {
+    let alloc = rt.alloc();
+    let mut sections = ModuleCustomSections::new(alloc);
+    let fault = SectionFault::Refused;
+    let first = sections.add(Box::new(alloc, Refuser { fault })?)?;
+    let fault = SectionFault::Memory;
+    sections.add(Box::new(alloc, Refuser { fault })?)?;
+    assert!(rt; kept(&sections, alloc) == Err(SectionFault::Refused));
+    sections.delete(first);
+    assert!(rt; kept(&sections, alloc) == Err(SectionFault::Memory));
+    Ok(())
+}
+
+#[test]
+fn a_section_is_told_where_the_code_was_written(rt: HostRuntime) -> Result<(), Fail> {
+    let alloc = rt.alloc();
+    let mut sections = ModuleCustomSections::new(alloc);
+    let told = false;
+    let id = sections.add(Box::new(alloc, Listener { told })?)?;
+    assert!(rt; data_is(&sections, id, alloc, &[0]));
+    tell(&mut sections, id, alloc);
+    assert!(rt; data_is(&sections, id, alloc, &[1]));
+    Ok(())
+}
