@@ -1,6 +1,6 @@
 //! Laws: functions with nothing to do but to call the laws on normal forms, whose contracts hold of all runs.
 
-ghost use Rattle.wasm_run_laws.specs.Laws.{BodyRunsRenamed, NormalBodyRunsTheSame, NormalModuleRunsTheSame, NormalRunsRenamed, NormalRunsTheSame, RenamedRunsCorrespond, RunsCorrespond};
+ghost use Rattle.wasm_run_laws.specs.Laws.{BodyRunsRenamed, NormalBodiesStand, NormalBodyRunsTheSame, NormalModuleRunsTheSame, NormalRunsRenamed, NormalRunsTheSame, RenamedRunsCorrespond, RunsCorrespond};
 
 use wasm_normal_form::laws::{normal_forms_are_normal, trees_are_one};
 
@@ -40,3 +40,8 @@ pub fn runs_correspond()
     trees_are_one();
     normal_forms_are_normal();
 }
+
+/// A body in normal form and renamed is its normal form with the locals' new numbers, and then its items renamed.
+pub fn normal_bodies_stand_renamed()
+    ensures { NormalBodiesStand }
+{}
