@@ -4,10 +4,10 @@ use std::alloc::{AllocError, Global};
 use std::test::Fail;
 use walrus_arena::{FunctionId, LocalId};
 use walrus_body_env::BodyError;
-use walrus_local_numbers::emit_locals;
 use walrus_forms::ValType;
 use walrus_index_maps::IdsToIndices;
 use walrus_items::ModuleLocals;
+use walrus_local_numbers::emit_locals;
 use wasm_formats::Space;
 
 fn local(index: u32) -> LocalId {

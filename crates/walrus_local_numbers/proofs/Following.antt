@@ -1,18 +1,17 @@
 -- The numbers of arguments, and of those behind them.
-use Rattle.std.proofs.Common.{ℕ, zero, suc, ◌+◌, ◌≡◌, ◌⊎◌, inl, inr, Bool, true, false, List, [], ◌∷◌, ◌++◌, map, length, Option, Some, None, Less, refl, sym, ap, subst, ◌∙◌, arith}
-use Rattle.std.specs.Prelude.{◌==◌, ◌&&◌, ◌||◌, not, slice_get, if◌then◌else◌}
-use Rattle.std.specs.List.{filter}
-use Rattle.std.proofs.lemmas.Bool.{and_parts, eqb-true, eq-eqb, false≢true}
+use Rattle.std.proofs.Common.{ℕ, zero, suc, ◌+◌, ◌≡◌, inl, inr, Bool, true, false, List, [], ◌∷◌, ◌++◌, map, length, Some, None, Less, refl, sym, ap, subst, ◌∙◌, arith}
+use Rattle.std.specs.Prelude.{◌==◌, ◌||◌, slice_get, if◌then◌else◌}
+use Rattle.std.proofs.lemmas.Bool.{eqb-true, eq-eqb, false≢true}
 use Rattle.walrus_forms.specs.declared.value.ValType.{ValType}
 use Rattle.walrus_items.specs.declared.local.Local.{Local}
-use Rattle.wasm_normal_form.specs.Locals.{Key, key_cmp, numbered, position}
+use Rattle.wasm_normal_form.specs.Locals.{Key, key_cmp, position}
 use Rattle.walrus_index_maps.specs.Maps.{with_local}
-use Rattle.walrus_local_numbers.specs.Declared.{declared, has_number, local_ids, types_of, with_numbers}
+use Rattle.walrus_local_numbers.specs.Declared.{declared, has_number, types_of, with_numbers}
 use Rattle.walrus_local_numbers.specs.Laws.{ArgumentsFirst, IsOnce, OthersFollow}
-use Rattle.walrus_local_numbers.proofs.Members.{In, Rising, apart, declared_rises, in_declared, not_true}
-use Rattle.walrus_local_numbers.proofs.Numbering.{Given, Locals, given, in_front, no_number, numbers_append, or_false}
+use Rattle.walrus_local_numbers.proofs.Members.{In, Rising, apart, declared_rises, in_declared}
+use Rattle.walrus_local_numbers.proofs.Numbering.{Given, Locals, given, no_number, numbers_append}
 
-ids : List Key → List ℕ
+abbrev ids : List Key → List ℕ
 ids ks = map (λ (k : Key). k.1) ks
 
 -- ---- arguments
@@ -118,7 +117,7 @@ apart_declared locals args used id h =
     ap (has_number args) (sym k.2) ∙ (in_declared locals args used k.0 k.1).0
 
 pub arguments_first : ArgumentsFirst
-arguments_first locals args used f m i id once e = 
+arguments_first locals args used f m i id once e =
     let at : 0 + i ≡ i = omega arith in
     first_number f 0 i id args (ids (declared locals args used)) m (apart_declared locals args used) once e ∙ ap (λ (z : ℕ). Some z) at
 

@@ -1,5 +1,5 @@
 -- Which number each local of a function has.
-use Rattle.std.specs.Prelude.{◌≡◌, ℕ, ◌+◌, true, false, List, map, length, Option, Some, slice_get}
+use Rattle.std.specs.Prelude.{◌≡◌, ℕ, ◌+◌, true, List, map, length, Option, Some, slice_get}
 use Rattle.wasm_normal_form.specs.Locals.{Key, position}
 use Rattle.walrus_items.specs.declared.local.Local.{Local}
 use Rattle.walrus_local_numbers.specs.Declared.{declared, has_number, local_ids, with_numbers}
