@@ -4,10 +4,10 @@ use Rattle.wasm_grammar.specs.Exprs.{expr}
 use Rattle.wasm_grammar.specs.States.{known}
 use Rattle.walrus_section_reader.specs.Repeats.{collects_not, collected, listed_at}
 use Rattle.walrus_section_values.specs.Globals.{expr_of}
-use Rattle.walrus_entry_readers.specs.Lists.{exprs_of, expr_under, exprs_none, exprs_more}
+use Rattle.walrus_segment_readers.specs.Lists.{exprs_of, expr_under, exprs_none, exprs_more}
 use Rattle.walrus_entry_readers.specs.Leads.{handed_on}
 use Rattle.walrus_entry_readers.specs.State.{state_of}
-use Rattle.walrus_entry_readers.proofs.lists.read_exprs.Goals as goal
+use Rattle.walrus_segment_readers.proofs.lists.read_exprs.Goals as goal
 
 pub loop-init : goal.loop-init
 loop-init c = exprs_none (expr c.args.reader.now.window.features (known (state_of c.args.sections.now))) c.args.reader.now c.args.count _ c.new-list.ensures.items

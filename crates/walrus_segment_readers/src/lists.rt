@@ -8,12 +8,11 @@ ghost use Rattle.wasm_grammar.specs.Values.{index};
 ghost use Rattle.wasm_sections.specs.Segments.{expressions, functions};
 ghost use Rattle.walrus_section_reader.specs.Parses.{Parses};
 ghost use Rattle.walrus_section_reader.specs.Repeats.{listed_at};
-ghost use Rattle.walrus_entry_readers.specs.Lists.{exprs_of, many_at, numbers_of};
+ghost use Rattle.walrus_segment_readers.specs.Lists.{exprs_of, many_at, numbers_of};
 ghost use Rattle.walrus_entry_readers.specs.State.{state_of};
 
-use crate::entities::read_init;
-use crate::sections::Sections;
 use std::alloc::Global as Alloc;
+use walrus_entry_readers::{Sections, read_init};
 use walrus_operators::Operator;
 use walrus_section_reader::{Result, Space};
 use walrus_section_values::{read_index, read_u32};
@@ -48,13 +47,11 @@ fn read_some_functions(
     read_indices(alloc, count, functions, reader)
 }
 
-impl<'a> Sections<'a> {
-    /// How many functions there are.
-    pub(crate) fn function_count(&self) -> usize
-        ensures { result ≡ length (state_of self.now).filled.functions }
-    {
-        self.functions.len()
-    }
+// How many functions there are.
+fn function_count(sections: &Sections<'_>) -> usize
+    ensures { result ≡ length (state_of sections.now).filled.functions }
+{
+    sections.functions.len()
 }
 
 /// A vec of functions.
@@ -65,7 +62,7 @@ pub(crate) fn read_functions(
 ) -> Result<Vec<u32>>
     ensures { Parses (functions (state_of sections.now)).parse numbers_of reader.old reader.new result }
 {
-    read_some_functions(alloc, sections.function_count(), reader)
+    read_some_functions(alloc, function_count(sections), reader)
 }
 
 // So many constant expressions.

@@ -4,9 +4,9 @@ use Rattle.wasm_reader.specs.Reading.{plain}
 use Rattle.wasm_formats.specs.declared.fault.Space.TheVariants as spaces
 use Rattle.wasm_grammar.specs.Values.{index}
 use Rattle.walrus_section_reader.specs.Repeats.{collects_none, collects, collects_not, collected, unless_memory, listed_at}
-use Rattle.walrus_entry_readers.specs.Lists.{numbers_of}
+use Rattle.walrus_segment_readers.specs.Lists.{numbers_of}
 use Rattle.walrus_entry_readers.specs.Leads.{handed_on}
-use Rattle.walrus_entry_readers.proofs.lists.read_indices.Goals as goal
+use Rattle.walrus_segment_readers.proofs.lists.read_indices.Goals as goal
 
 pub loop-init : goal.loop-init
 loop-init c = rw c.new-list.ensures.items (collects_none (index spaces.Function c.args.functions) c.args.reader.now c.args.count)
