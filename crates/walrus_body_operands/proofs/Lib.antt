@@ -1,0 +1,7 @@
+mod Told
+mod Counts
+mod Gathering
+mod Tests
+mod Pairing
+mod Table
+mod Finish
