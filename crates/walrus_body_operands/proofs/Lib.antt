@@ -5,3 +5,4 @@ mod Tests
 mod Pairing
 mod Table
 mod Finish
+pub mod Last

@@ -4,6 +4,7 @@
 mod faults;
 mod handlers;
 mod labels;
+pub mod laws;
 mod opens;
 mod runs;
 mod scope;
