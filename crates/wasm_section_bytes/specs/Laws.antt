@@ -6,11 +6,13 @@ use Rattle.wasm_format_bytes.specs.Writers.{Writer}
 use Rattle.wasm_grammar.specs.Exprs.{Known}
 use Rattle.wasm_grammar.specs.States.{State}
 use Rattle.wasm_grammar_bytes.specs.Laws.{SpellsShortest}
+use Rattle.wasm_sections.specs.Modules.{FileEntry, state_of, file}
 use Rattle.wasm_section_bytes.specs.TypeBytes.{sub_writer}
 use Rattle.wasm_section_bytes.specs.Exprs.{expr_writer, offset_writer}
 use Rattle.wasm_section_bytes.specs.Entries.{import_writer, export_writer, function_writer, table_writer, memory_writer, tag_writer, global_writer}
 use Rattle.wasm_section_bytes.specs.Segments.{element_writer, data_writer}
 use Rattle.wasm_section_bytes.specs.Placed.{Placed, group_placed, types_placed, code_section_placed}
+use Rattle.wasm_section_bytes.specs.Files.{bodies_of, FileFits, file_bytes, file_placed, file_written, file_short, file_same, file_bodies}
 use Rattle.wasm_section_bytes.specs.Sections.{custom_writer, imports_writer, functions_writer, tables_writer, memories_writer, tags_writer, globals_writer, exports_writer, start_section_writer, elements_writer, data_count_writer, data_section_writer}
 
 -- what is written is a shortest spelling
@@ -103,3 +105,13 @@ placed_are_shortest = record {
   types = λ features. placed_least (types_placed features);
   code = placed_least code_section_placed;
 }
+
+-- the sections of a file within its limits have a spelling, the shortest one, and with its places they fill the same module and have the same bodies
+pub record FilesAreShortest : Type 0 where
+  pub written : (features : WasmFeatures) (x : FileEntry) → FileFits features x → (file features).spells (file_bytes features x) (file_placed features x)
+  pub short : (features : WasmFeatures) (others : List ℕ) (x : FileEntry) → Small others → (file features).spells others x → FileFits features x × (length (file_bytes features x) ≤ length others)
+  pub filled : (features : WasmFeatures) (x : FileEntry) → (state_of (file_placed features x)).filled ≡ (state_of x).filled
+  pub bodies : (features : WasmFeatures) (x : FileEntry) → bodies_of (state_of (file_placed features x)).bodies ≡ bodies_of (state_of x).bodies
+
+pub files_are_shortest : FilesAreShortest
+files_are_shortest = record { written = file_written; short = file_short; filled = file_same; bodies = file_bodies }

@@ -3,6 +3,8 @@ pub mod Exprs
 pub mod Entries
 pub mod Segments
 pub mod Placed
+pub mod Elsewhere
+pub mod Files
 pub mod Sections
 pub mod Flags
 pub mod Laws

@@ -1,5 +1,5 @@
 -- The shortest spellings of values that hold their own places: lists of subtypes, of groups of types, of bodies.
-use Rattle.std.specs.Prelude.{ℕ, ◌<◌, ◌≤◌, ◌≡◌, ◌+◌, ◌^◌, Bool, true, false, List, [], ◌∷◌, ◌++◌, length, map, ◌⊎◌, refl}
+use Rattle.std.specs.Prelude.{ℕ, ◌<◌, ◌≤◌, ◌≡◌, ◌+◌, ◌^◌, Bool, true, false, List, [], ◌∷◌, ◌++◌, length, map, refl}
 use Rattle.std.specs.List.{flat_map}
 use Rattle.std.proofs.Common.{ap, sym, ◌∙◌, subst, arith, inl, inr}
 use Rattle.wasm_features.specs.declared.WasmFeatures.{WasmFeatures}
@@ -15,7 +15,7 @@ use Rattle.wasm_operator_bytes.specs.Numbers.{shorter}
 use Rattle.wasm_operator_bytes.specs.Vecs.{parts_small, parts_short}
 use Rattle.wasm_format_bytes.specs.Writers.{u32_writer, same_length}
 use Rattle.wasm_grammar.specs.States.{State}
-use Rattle.wasm_sections.specs.TypeSection.{Measured, measured, behind, Explicit, explicit, GroupEntry, single, rectype, group, sub_apart, sub_some, sub_wants, add_group}
+use Rattle.wasm_sections.specs.TypeSection.{Measured, measured, behind, Explicit, explicit, GroupEntry, single, group, sub_apart, sub_some, sub_wants, add_group}
 use Rattle.wasm_sections.specs.Sections.{ChunkEntry, chunk_entry, behind_chunk, CodeEntry, code, list_of}
 use Rattle.wasm_section_bytes.specs.TypeBytes.{sub_bytes, sub_writer}
 

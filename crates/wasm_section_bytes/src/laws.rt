@@ -1,7 +1,7 @@
 //! Laws: functions with nothing to do, whose contracts hold of all values.
 
 ghost use Rattle.wasm_section_bytes.specs.Flags.{FlagsTell};
-ghost use Rattle.wasm_section_bytes.specs.Laws.{EntriesAreShortest, ContentsAreShortest, PlacedAreShortest};
+ghost use Rattle.wasm_section_bytes.specs.Laws.{EntriesAreShortest, ContentsAreShortest, FilesAreShortest, PlacedAreShortest};
 
 /// Each subtype, constant expression, import, export, own item and segment of given flags within its limits has a spelling; its shortest
 /// one is spelled by nothing shorter.
@@ -18,6 +18,11 @@ pub fn contents_are_shortest()
 /// the shortest spelling they are the same.
 pub fn placed_are_shortest()
     ensures { PlacedAreShortest }
+{}
+
+/// The sections of a file have a shortest spelling, which fills the same module and has the same bodies, byte for byte.
+pub fn files_are_shortest()
+    ensures { FilesAreShortest }
 {}
 
 /// A segment is what is read from the flags and the form with which it is written.
