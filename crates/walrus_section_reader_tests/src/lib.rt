@@ -1,0 +1,7 @@
+//! Tests of the readers of sections: each fault with its place, and sections that are read, each call with ample memory.
+#![tactic(auto)]
+
+#[cfg(test)]
+mod faults;
+#[cfg(test)]
+mod frames;
