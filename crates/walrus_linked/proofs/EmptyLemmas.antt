@@ -4,7 +4,7 @@ use Rattle.std.specs.Option.{option_and_then}
 use Rattle.walrus_types.specs.Items.{Item as TypeItem}
 use Rattle.wasm_formats.specs.declared.fault.Space.{Space}
 use Rattle.wasm_formats.specs.declared.fault.Space.TheVariants as spaces
-use Rattle.walrus_module.specs.declared.module.Module.{Module}
+use Rattle.walrus_module.specs.Parts.{Module}
 use Rattle.walrus_linked.specs.Items.{LivesIn}
 use Rattle.walrus_linked.specs.Linked.{import_in}
 use Rattle.walrus_linked.specs.Empty.{IsEmpty, EmptyIsLinked}

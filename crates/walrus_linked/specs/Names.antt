@@ -34,7 +34,7 @@ use Rattle.walrus_module_items.specs.declared.export.ExportItem.TheVariants as e
 use Rattle.walrus_module_items.specs.Functions.{type_of}
 use Rattle.wasm_formats.specs.declared.fault.Space.{Space}
 use Rattle.wasm_formats.specs.declared.fault.Space.TheVariants as spaces
-use Rattle.walrus_module.specs.declared.module.Module.{Module}
+use Rattle.walrus_module.specs.Parts.{Module}
 use Rattle.walrus_linked.specs.Items.{Item, item, items_of}
 
 -- the type of a known local

@@ -11,7 +11,7 @@ use Rattle.walrus_module_items.specs.declared.import.ImportKind.TheVariants as k
 use Rattle.walrus_module_items.specs.declared.function.Function.{Function}
 use Rattle.wasm_formats.specs.declared.fault.Space.{Space}
 use Rattle.wasm_formats.specs.declared.fault.Space.TheVariants as spaces
-use Rattle.walrus_module.specs.declared.module.Module.{Module}
+use Rattle.walrus_module.specs.Parts.{Module}
 use Rattle.walrus_linked.specs.Items.{Item, item, items_of, Lives, LivesIn}
 use Rattle.walrus_linked.specs.Names.{names, named_by, function_names, brought, given_out}
 use Rattle.walrus_linked.specs.Linked.{IsLinked, IsWhole, import_of, import_in, function_import}

@@ -9,7 +9,7 @@ use Rattle.walrus_module_items.specs.declared.function.FunctionKind.{FunctionKin
 use Rattle.walrus_module_items.specs.declared.function.FunctionKind.TheVariants as functions
 use Rattle.walrus_items.specs.declared.local.Local.{Local}
 use Rattle.wasm_formats.specs.declared.fault.Space.TheVariants as spaces
-use Rattle.walrus_module.specs.declared.module.Module.{Module}
+use Rattle.walrus_module.specs.Parts.{Module}
 use Rattle.walrus_linked.specs.Items.{Item, item, items_of, Lives}
 use Rattle.walrus_linked.specs.Names.{table_names, init_names, function_names, body_names, data_kind_names, element_names, given_out}
 use Rattle.walrus_linked.specs.Linked.{IsLinked, IsWhole, function_import}

@@ -11,7 +11,7 @@ use Rattle.walrus_module_items.specs.declared.function.FunctionKind.TheVariants 
 use Rattle.walrus_module_items.specs.Functions.{type_of}
 use Rattle.wasm_formats.specs.declared.fault.Space.{Space}
 use Rattle.wasm_formats.specs.declared.fault.Space.TheVariants as spaces
-use Rattle.walrus_module.specs.declared.module.Module.{Module}
+use Rattle.walrus_module.specs.Parts.{Module}
 use Rattle.walrus_linked.specs.Items.{Item, item, items_of, event_items, Lives}
 use Rattle.walrus_linked.specs.Names.{local_names, used_types, body_events, body_names, function_names, named_by}
 use Rattle.walrus_linked.specs.Linked.{IsLinked}

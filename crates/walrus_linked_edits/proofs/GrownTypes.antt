@@ -19,7 +19,7 @@ use Rattle.walrus_module_items.specs.declared.function.FunctionKind.TheVariants 
 use Rattle.walrus_module_items.specs.Functions.{type_of}
 use Rattle.wasm_formats.specs.declared.fault.Space.{Space}
 use Rattle.wasm_formats.specs.declared.fault.Space.TheVariants as spaces
-use Rattle.walrus_module.specs.declared.module.Module.{Module}
+use Rattle.walrus_module.specs.Parts.{Module}
 use Rattle.walrus_linked.specs.Items.{item, items_of, Lives, LivesIn}
 use Rattle.walrus_linked.specs.Names.{names, named_by, function_names, body_names, type_names}
 use Rattle.walrus_linked.specs.Linked.{IsLinked, IsWhole, HasArguments}

@@ -11,7 +11,7 @@ use Rattle.walrus_module_items.specs.declared.element.ElementKind.TheVariants as
 use Rattle.walrus_module_items.specs.declared.export.Export.{Export}
 use Rattle.walrus_module_items.specs.declared.export.ExportItem.{ExportItem}
 use Rattle.walrus_module_items.specs.declared.export.ExportItem.TheVariants as exported
-use Rattle.walrus_module.specs.declared.module.Module.{Module}
+use Rattle.walrus_module.specs.Parts.{Module}
 use Rattle.walrus_roots.specs.declared.item.Item.{Item}
 use Rattle.walrus_roots.specs.Items.{item}
 
