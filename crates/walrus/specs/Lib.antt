@@ -16,11 +16,13 @@ pub use Rattle.walrus_collections.specs.LookUps
 pub use Rattle.walrus_collections.specs.Tests
 pub use Rattle.walrus_collection_laws.specs.Given
 pub use Rattle.walrus_collection_laws.specs.Imports
--- Replacing functions.
+-- Items by space and id, and which live; replacing functions.
+pub use Rattle.walrus_roots.specs.Items
+pub use Rattle.walrus_marks.specs.Named
+pub use Rattle.walrus_module.specs.Items as ModuleItems
 pub use Rattle.walrus_module.specs.Replaced
 -- Linked modules.
 pub use Rattle.walrus_linked.specs.Empty
-pub use Rattle.walrus_linked.specs.Items
 pub use Rattle.walrus_linked.specs.Kept
 pub use Rattle.walrus_linked.specs.Linked
 pub use Rattle.walrus_linked.specs.Names

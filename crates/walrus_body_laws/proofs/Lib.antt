@@ -1,1 +1,4 @@
+mod Codes
+mod Telling
 mod Agreeing
+mod Nesting

@@ -1,9 +1,28 @@
 //! Laws: functions with nothing to do, whose contracts hold of all bodies.
 
-ghost use Rattle.walrus_body_laws.specs.Laws.{BytesAgree, SizesAgree};
+ghost use Rattle.walrus_body_laws.specs.Laws.{BytesAgree, PlacesAgree, SizesAgree};
+ghost use Rattle.walrus_body_laws.specs.Naming.{LocalsAgree, SegmentsAgree};
+ghost use Rattle.walrus_body_laws.specs.Nesting.{TreesNest};
 
-/// The bytes that are written for a text are those of its operators, and its size is theirs.
+/// The bytes that are written for a text are those of its operators, the places that are kept are their true pairs, and its size is
+/// theirs.
 pub fn text_is_operators()
     ensures bytes { BytesAgree }
+    ensures places { PlacesAgree }
     ensures sizes { SizesAgree }
 {}
+
+/// The locals and the data segments that a text names are, by their numbers, those that its operators name, in their order.
+pub fn names_are_operators()
+    ensures locals { LocalsAgree }
+    ensures segments { SegmentsAgree }
+{}
+
+/// The operators that are written for sequences that form a tree nest.
+pub fn trees_nest()
+    ensures { TreesNest }
+{
+    walrus_tree::laws::trees_are_nested();
+    walrus_tree::laws::text_is_plain();
+    walrus_tree::laws::trees_are_sound();
+}

@@ -1,12 +1,16 @@
 -- Loops over a text that gather what it names.
-use Rattle.std.proofs.Common.{ℕ, ◌≡◌, List, [], ◌∷◌, ◌++◌, sym, ap, ◌∙◌, append-nil}
+use Rattle.std.proofs.Common.{ℕ, ◌+◌, ◌≡◌, Bool, true, false, refl, arith, List, [], ◌∷◌, ◌++◌, sym, ap, ◌∙◌, append-nil}
 use Rattle.std.proofs.lemmas.List.{append_assoc}
 use Rattle.std.specs.List.{FoldsTo}
+use Rattle.std.specs.Prelude.{◌||◌}
 use Rattle.walrus_instr.specs.declared.instr.Instr.{Instr}
 use Rattle.walrus_instr.specs.declared.seq.InstrLocId.{InstrLocId}
 use Rattle.walrus_tree.specs.Text.{Piece}
+use Rattle.walrus_body_writer.specs.Visiting.{text_size}
+use Rattle.walrus_body_names.specs.declared.facts.Facts.{Facts}
+use Rattle.walrus_body_names.specs.Facts.{IsTold}
 use Rattle.walrus_body_writer.specs.Spelled.{Text}
-use Rattle.walrus_body_names.specs.Names.{piece_names, text_names}
+use Rattle.walrus_body_names.specs.Names.{has_any, local_in, piece_names, segment_in, text_names}
 
 -- a fold of steps that append is one list
 pub gathers : {S : Type 0} (list : S → List ℕ) (names : Instr → List ℕ) (ps : Text) (old last : S) → FoldsTo (λ (s : S) (p : Piece × InstrLocId) (t : S). list t ≡ list s ++ piece_names names p.0) old ps last
@@ -14,3 +18,36 @@ pub gathers : {S : Type 0} (list : S → List ℕ) (names : Instr → List ℕ) 
 gathers list names [] old last h = sym (ap list h) ∙ sym (append-nil (list old))
 gathers list names (p ∷ ps) old last h =
     gathers list names ps h.0 last h.2 ∙ ap (λ (z : List ℕ). z ++ text_names names ps) h.1 ∙ append_assoc (list old) (piece_names names p.0) (text_names names ps)
+
+or_false : (v : Bool) → v ≡ (v || false)
+or_false true = refl
+or_false false = refl
+
+any_append : (v : Bool) (xs ys : List ℕ) → ((v || has_any xs) || has_any ys) ≡ (v || has_any (xs ++ ys))
+any_append true xs ys = refl
+any_append false [] ys = refl
+any_append false (x ∷ xs) ys = refl
+
+-- what was counted, marked and gathered over a text
+pub record Known (ps : Text) (old last : Facts) : Type 0 where
+  pub size : last.size ≡ old.size + text_size ps
+  pub marked : last.names_segment ≡ (old.names_segment || has_any (text_names segment_in ps))
+  pub gathered : last.found.items ≡ old.found.items ++ text_names local_in ps
+
+pub knows : (ps : Text) (old last : Facts) → FoldsTo (λ (s : Facts) (p : Piece × InstrLocId) (t : Facts). IsTold s p.0 t) old ps last → Known ps old last
+knows [] old last h =
+    let size = ap (λ (s : Facts). s.size) h in
+    record {
+      size = omega (arith, size);
+      marked = ap (λ (s : Facts). s.names_segment) (sym h) ∙ or_false old.names_segment;
+      gathered = ap (λ (s : Facts). s.found.items) (sym h) ∙ sym (append-nil old.found.items);
+    }
+knows (p ∷ ps) old last h =
+    let first = h.1.counted in
+    let later = knows ps h.0 last h.2 in
+    let rest = later.size in
+    record {
+      size = omega (arith, first, rest);
+      marked = later.marked ∙ ap (λ (v : Bool). v || has_any (text_names segment_in ps)) h.1.marked ∙ any_append old.names_segment (piece_names segment_in p.0) (text_names segment_in ps);
+      gathered = later.gathered ∙ ap (λ (z : List ℕ). z ++ text_names local_in ps) h.1.gathered ∙ append_assoc old.found.items (piece_names local_in p.0) (text_names local_in ps);
+    }

@@ -1,7 +1,11 @@
 -- What the operators of a body name.
-use Rattle.std.specs.Prelude.{ℕ, List, [], ◌∷◌, ◌++◌}
+use Rattle.std.specs.Prelude.{◌↔◌, ℕ, Bool, true, false, List, [], ◌∷◌, ◌++◌, Contains, ◌&&◌, Option, Some, None}
+use Rattle.std.specs.List.Sorted.{IsStrictlySortedBy}
+use Rattle.std.specs.Ordering.{nat_cmp}
 use Rattle.walrus_instr.specs.declared.instr.Instr.{Instr}
-use Rattle.walrus_instr.specs.declared.instr.Instr.TheVariants.{MemoryInit, DataDrop, ArrayNewData, ArrayInitData, LocalGet, LocalSet, LocalTee}
+use Rattle.walrus_instr.specs.declared.instr.Instr.TheVariants.{Const, MemoryInit, DataDrop, ArrayNewData, ArrayInitData, LocalGet, LocalSet, LocalTee}
+use Rattle.walrus_instr.specs.declared.seq.InstrLocId.{InstrLocId}
+use Rattle.walrus_instr.specs.declared.seq.InstrSeq.{InstrSeq}
 use Rattle.walrus_tree.specs.Text.{Piece, Operator}
 use Rattle.walrus_body_writer.specs.Spelled.{Text}
 
@@ -28,3 +32,26 @@ piece_names names _ = []
 abbrev pub text_names : (Instr → List ℕ) → Text → List ℕ
 text_names names [] = []
 text_names names (p ∷ ps) = piece_names names p.0 ++ text_names names ps
+
+abbrev pub has_any : List ℕ → Bool
+has_any [] = false
+has_any (k ∷ ks) = true
+
+-- the list of these names as a set: each once, rising
+pub record AreSet (names set : List ℕ) : Type 0 where
+  pub rising : IsStrictlySortedBy nat_cmp set
+  pub members : (k : ℕ) → Contains set k ↔ Contains names k
+
+-- a constant
+abbrev pub is_constant : Instr → Bool
+is_constant (Const _) = true
+is_constant _ = false
+
+abbrev pub all_constant : List (Instr × InstrLocId) → Bool
+all_constant [] = true
+all_constant (i ∷ is) = is_constant i.0 && all_constant is
+
+-- each instruction of the sequence is one
+abbrev pub are_constants : Option InstrSeq → Bool
+are_constants None = true
+are_constants (Some s) = all_constant s.instrs.items

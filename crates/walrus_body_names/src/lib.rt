@@ -1,6 +1,9 @@
-//! What the operators of a body name.
+//! What the operators of a body name, and what is known of it before it is written.
 #![tactic(auto)]
 
+mod distinct;
+mod facts;
 mod names;
 
+pub use facts::{FunctionFacts, emit_facts, is_const, used_data_segments};
 pub use names::{named_locals, named_segments};

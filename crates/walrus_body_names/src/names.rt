@@ -14,7 +14,7 @@ use walrus_body_writer::{Closer, TextVisitor, visit_text};
 use walrus_builder::FunctionBuilder;
 use walrus_instr::{Instr, InstrLocId};
 
-fn segment_of(instr: &Instr) -> Option<DataId>
+pub(crate) fn segment_of(instr: &Instr) -> Option<DataId>
     ensures { option_to_list result ≡ segment_in instr.now }
 {
     match instr {
@@ -26,7 +26,7 @@ fn segment_of(instr: &Instr) -> Option<DataId>
     }
 }
 
-fn local_of(instr: &Instr) -> Option<LocalId>
+pub(crate) fn local_of(instr: &Instr) -> Option<LocalId>
     ensures { option_to_list result ≡ local_in instr.now }
 {
     match instr {
@@ -48,6 +48,8 @@ impl TextVisitor for Segments {
     ghost use Rattle.walrus_body_names.specs.Names.{piece_names, segment_in};
 
     ghost step = { λ old piece new. new.found.items ≡ old.found.items ++ piece_names segment_in piece.0 };
+
+    ghost same = { λ old new. new.found.items ≡ old.found.items };
 
     fn instr(&mut self, instr: &Instr, _place: InstrLocId) -> Result<(), AllocError> {
         if let Some(id) = segment_of(instr) {
@@ -72,6 +74,8 @@ impl TextVisitor for Locals {
     ghost use Rattle.walrus_body_names.specs.Names.{local_in, piece_names};
 
     ghost step = { λ old piece new. new.found.items ≡ old.found.items ++ piece_names local_in piece.0 };
+
+    ghost same = { λ old new. new.found.items ≡ old.found.items };
 
     fn instr(&mut self, instr: &Instr, _place: InstrLocId) -> Result<(), AllocError> {
         if let Some(id) = local_of(instr) {

@@ -93,6 +93,13 @@ impl Stack {
         None
     }
 
+    /// How many open sequences lie around the innermost.
+    pub fn outer_count(&self) -> usize
+        ensures { result ≡ length (around self.now) }
+    {
+        self.outer.len()
+    }
+
     /// Adds an instruction where it is reached; what follows it isn't, where it cuts.
     ///
     /// # Errors

@@ -1,22 +1,32 @@
 -- Loops over a text that tell a visitor.
-use Rattle.std.proofs.Common.{ℕ, ◌+◌, ◌≡◌, List, [], ◌∷◌, sym, ap, subst, arith}
+use Rattle.std.proofs.Common.{ℕ, ◌+◌, ◌≡◌, List, [], ◌∷◌, ◌++◌, sym, ap, arith, ◌∙◌}
+use Rattle.std.proofs.lemmas.Fn.{FoldsTo-push}
+use Rattle.std.proofs.lemmas.List.{append_assoc}
 use Rattle.std.specs.List.{FoldsTo}
 use Rattle.walrus_instr.specs.declared.seq.InstrLocId.{InstrLocId}
 use Rattle.walrus_instr.specs.declared.seq.InstrSeq.{InstrSeq}
-use Rattle.walrus_tree.specs.Text.{Piece}
+use Rattle.walrus_tree.specs.Text.{Piece, Operator}
 use Rattle.walrus_body_writer.specs.declared.todo.Met.{Met}
 use Rattle.walrus_body_writer.specs.declared.todo.Met.TheVariants.{AnInstr, AnEnd, Nothing}
 use Rattle.walrus_body_writer.specs.Spelled.{Text}
-use Rattle.walrus_body_writer.specs.Doing.{left}
-use Rattle.walrus_body_writer.specs.Emitting.{State, Passed}
-use Rattle.walrus_body_writer.specs.Visiting.{Visits, weight, text_size}
+use Rattle.walrus_body_writer.specs.Doing.{left, piece_of}
+use Rattle.walrus_body_writer.specs.Emitting.{State, Good, Passed}
+use Rattle.walrus_body_writer.specs.Visiting.{Visits, Tells, weight, text_size}
 
-pub folds_on : {V : Type 0} (step : V → Piece × InstrLocId → V → Type 0) (b : List InstrSeq) (before : Text) (met : Met) (new : State) (old next last : V) → Passed b before met new → Visits step b met old next
-    → FoldsTo step next (left b [] new.todo) last → FoldsTo step old before last
-folds_on step b before (AnInstr k at) new old next last h w f =
-    subst (λ (z : Text). FoldsTo step old z last) (sym h.was) (next, w h.seq h.item h.found h.stands h.around, f)
-folds_on step b before (AnEnd c place) new old next last h w f = subst (λ (z : Text). FoldsTo step old z last) (sym h.was) (next, w, f)
-folds_on step b before Nothing new old next last h w f = absurd h
+module _ {V : Type 0} (step : V → Piece × InstrLocId → V → Type 0) (b : List InstrSeq) (all : Text) (old : V) (front before : Text) (new : State) (visitor next : V)
+    (parts : all ≡ front ++ before) (told : FoldsTo step old front visitor) where
+  tells : (p : Piece × InstrLocId) → before ≡ p ∷ left b [] new.todo → Good b new → step visitor p next → Tells step b all old new next
+  tells p was good h = record {
+    good = good;
+    front = front ++ p ∷ [];
+    parts = parts ∙ ap (λ (z : Text). front ++ z) was ∙ sym (append_assoc front (p ∷ []) (left b [] new.todo));
+    told = FoldsTo-push step old front visitor p next told h;
+  }
+
+  pub tells_on : (met : Met) → Passed b before met new → Visits step b met visitor next → Tells step b all old new next
+  tells_on (AnInstr k at) h w = tells (Operator h.around h.item.0, h.item.1) h.was h.good (w h.seq h.item h.found h.stands h.around)
+  tells_on (AnEnd c place) h w = tells (piece_of c, place) h.was h.good w
+  tells_on Nothing h w = absurd h
 
 -- a fold of steps that add is a sum
 pub adds_up : {S : Type 0} (count : S → ℕ) (ps : Text) (old last : S) → FoldsTo (λ (s : S) (p : Piece × InstrLocId) (t : S). count t ≡ count s + weight p.0) old ps last → count last ≡ count old + text_size ps

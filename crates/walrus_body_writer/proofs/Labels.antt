@@ -1,5 +1,5 @@
 -- The numbers of labels, by how deep sequences lie.
-use Rattle.std.proofs.Common.{ℕ, zero, suc, ◌+◌, ◌-◌, ◌<◌, ◌≡◌, false, List, [], ◌∷◌, ◌++◌, length, map, Some, refl, sym, ap, subst, arith, inl, inr, ◌∙◌, true≢false}
+use Rattle.std.proofs.Common.{ℕ, zero, suc, ◌+◌, ◌-◌, ◌<◌, ◌≡◌, false, List, [], ◌∷◌, ◌++◌, length, map, Some, Ok, refl, sym, ap, subst, arith, inl, inr, ◌∙◌, true≢false}
 use Rattle.std.specs.Prelude.{slice_get, slice_set, slice_index_or, ◌==◌}
 use Rattle.std.proofs.lemmas.Bool.{cases_Bool, eqb-true, eq-eqb}
 use Rattle.std.proofs.lemmas.Option.{get_or_from_slice_get}
@@ -9,9 +9,12 @@ use Rattle.walrus_instr.specs.declared.instr.TryTableCatch.{TryTableCatch}
 use Rattle.walrus_instr.specs.declared.instr.TryTableCatch.TheVariants as parts
 use Rattle.walrus_instr.specs.declared.seq.InstrSeq.{InstrSeq}
 use Rattle.wasm_immediates.specs.declared.clause.Clause.{Clause}
+use Rattle.walrus_operator_codes.specs.Runs.{byte}
+use Rattle.walrus_pairing.specs.Looks.{Look, Or, ◌>>=◌}
+use Rattle.walrus_pairing.specs.Write.{op}
 use Rattle.wasm_immediates.specs.Items.{Labels, Names, Block, ManyLabels, ManyClauses}
 use Rattle.walrus_tree.specs.Trees.{Has, HasAll, clause_label, IsWithin}
-use Rattle.walrus_body_writer.specs.Spelled.{Numbers, operator, label, branch, clause, cast, type_in, written_instr}
+use Rattle.walrus_body_writer.specs.Spelled.{label, block, branch, clause, clauses, cast, type_in, written_instr}
 use Rattle.walrus_body_writer.specs.Doing.{AreDeep, label_by}
 
 -- by its depth: how many sequences lie between
@@ -40,7 +43,7 @@ label_same ds around height k deep o has =
     let sum = found.2 in
     ap (λ (d : ℕ). height - d - 1) at ∙ label_at found.0 (label around k) height (sum ∙ sym o)
 
-module _ (n : Numbers) (b : List InstrSeq) (ds around : List ℕ) (height : ℕ) (deep : AreDeep ds around) (o : height ≡ length around) where
+module _ (look : Look) (b : List InstrSeq) (ds around : List ℕ) (height : ℕ) (deep : AreDeep ds around) (o : height ≡ length around) where
   one : (k : ℕ) → Has around k → label_by ds height k ≡ label around k
   one k has = label_same ds around height k deep o has
 
@@ -52,30 +55,32 @@ module _ (n : Numbers) (b : List InstrSeq) (ds around : List ℕ) (height : ℕ)
   front [] js h = (tt, h)
   front (k ∷ ks) js h = let r = front ks js h.1 in ((h.0, r.0), r.1)
 
-  one_clause : (c : TryTableCatch) → Has around (clause_label c) → clause n (label_by ds height) c ≡ clause n (label around) c
-  one_clause (parts.Catch tag k) h = ap (λ (l : ℕ). clause n (λ _. l) (parts.Catch tag k)) (one k h)
-  one_clause (parts.CatchRef tag k) h = ap (λ (l : ℕ). clause n (λ _. l) (parts.CatchRef tag k)) (one k h)
-  one_clause (parts.CatchAll k) h = ap (λ (l : ℕ). clause n (λ _. l) (parts.CatchAll k)) (one k h)
-  one_clause (parts.CatchAllRef k) h = ap (λ (l : ℕ). clause n (λ _. l) (parts.CatchAllRef k)) (one k h)
+  one_clause : (c : TryTableCatch) → Has around (clause_label c) → clause look (label_by ds height) c ≡ clause look (label around) c
+  one_clause (parts.Catch tag k) h = ap (λ (l : ℕ). clause look (λ _. l) (parts.Catch tag k)) (one k h)
+  one_clause (parts.CatchRef tag k) h = ap (λ (l : ℕ). clause look (λ _. l) (parts.CatchRef tag k)) (one k h)
+  one_clause (parts.CatchAll k) h = ap (λ (l : ℕ). clause look (λ _. l) (parts.CatchAll k)) (one k h)
+  one_clause (parts.CatchAllRef k) h = ap (λ (l : ℕ). clause look (λ _. l) (parts.CatchAllRef k)) (one k h)
 
-  clauses : (cs : List TryTableCatch) → HasAll around (map clause_label cs) → map (clause n (label_by ds height)) cs ≡ map (clause n (label around)) cs
-  clauses [] h = refl
-  clauses (c ∷ cs) h = ap (λ (x : Clause). x ∷ map (clause n (label_by ds height)) cs) (one_clause c h.0) ∙ ap (λ (x : List Clause). clause n (label around) c ∷ x) (clauses cs h.1)
+  all_clauses : (cs : List TryTableCatch) → HasAll around (map clause_label cs) → clauses look (label_by ds height) cs ≡ clauses look (label around) cs
+  all_clauses [] h = refl
+  all_clauses (c ∷ cs) h =
+      ap (λ (x : Or Clause). x >>= λ first. clauses look (label_by ds height) cs >>= λ rest. Ok (first ∷ rest)) (one_clause c h.0)
+      ∙ ap (λ (x : Or (List Clause)). clause look (label around) c >>= λ first. x >>= λ rest. Ok (first ∷ rest)) (all_clauses cs h.1)
 
   -- what is written by depths is what is written by labels
-  pub instr_same : (i : Instr) → IsWithin around i → written_instr n b (label_by ds height) i ≡ written_instr n b (label around) i
+  pub instr_same : (i : Instr) → IsWithin around i → written_instr look b (label_by ds height) i ≡ written_instr look b (label around) i
   instr_same (TryTable k catches) h =
-      ap (λ (cs : List Clause). operator 0x1f (Block (n.block (type_in (slice_get b k))) ∷ ManyClauses cs ∷ [])) (clauses catches.items h.named)
+      ap (λ (x : Or (List Clause)). block look (type_in (slice_get b k)) >>= λ ty. x >>= λ cs. op (byte 0x1f) (Block ty ∷ ManyClauses cs ∷ [])) (all_clauses catches.items h.named)
   instr_same (Br k) h = ap (λ (l : ℕ). branch 0x0c (λ _. l) k) (one k h.named.0)
   instr_same (BrIf k) h = ap (λ (l : ℕ). branch 0x0d (λ _. l) k) (one k h.named.0)
   instr_same (BrTable ks other) h =
       let r = front ks.items (other ∷ []) h.named in
-      ap (λ (ls : List ℕ). operator 0x0e (ManyLabels ls ∷ Names Labels (label_by ds height other) ∷ [])) (many ks.items r.0)
-      ∙ ap (λ (l : ℕ). operator 0x0e (ManyLabels (map (label around) ks.items) ∷ Names Labels l ∷ [])) (one other r.1.0)
+      ap (λ (ls : List ℕ). op (byte 0x0e) (ManyLabels ls ∷ Names Labels (label_by ds height other) ∷ [])) (many ks.items r.0)
+      ∙ ap (λ (l : ℕ). op (byte 0x0e) (ManyLabels (map (label around) ks.items) ∷ Names Labels l ∷ [])) (one other r.1.0)
   instr_same (BrOnNull k) h = ap (λ (l : ℕ). branch 0xd5 (λ _. l) k) (one k h.named.0)
   instr_same (BrOnNonNull k) h = ap (λ (l : ℕ). branch 0xd6 (λ _. l) k) (one k h.named.0)
-  instr_same (BrOnCast k from to) h = ap (λ (l : ℕ). cast n 24 (λ _. l) k from to) (one k h.named.0)
-  instr_same (BrOnCastFail k from to) h = ap (λ (l : ℕ). cast n 25 (λ _. l) k from to) (one k h.named.0)
+  instr_same (BrOnCast k from to) h = ap (λ (l : ℕ). cast look 24 (λ _. l) k from to) (one k h.named.0)
+  instr_same (BrOnCastFail k from to) h = ap (λ (l : ℕ). cast look 25 (λ _. l) k from to) (one k h.named.0)
   instr_same _ h = refl
 
 -- ---- a sequence is entered

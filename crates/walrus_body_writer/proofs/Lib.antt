@@ -1,5 +1,6 @@
 mod Lefts
 mod Labels
+pub mod Outs
+mod Refused
 mod Steps
 mod Folds
-pub mod Outs

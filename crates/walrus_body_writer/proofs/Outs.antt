@@ -1,58 +1,95 @@
--- What is written stays at the front.
-use Rattle.std.proofs.Common.{◌≡◌, ℕ, List, [], ◌++◌, Result, Ok, Err, refl, sym, ap, ◌∙◌}
-use Rattle.std.specs.Prelude.{MatchResult}
+-- What is written behind what was written.
+use Rattle.std.proofs.Common.{ℕ, ◌+◌, ◌≡◌, Bool, true, false, List, [], ◌∷◌, ◌++◌, length, Option, Some, None, Ok, Err, refl, sym, ap, arith, ◌∙◌, length-append}
+use Rattle.std.specs.Prelude.{if◌then◌else◌}
 use Rattle.std.proofs.lemmas.List.{append-nil, append_assoc}
-use Rattle.std.specs.declared.alloc.AllocError.{AllocError}
 use Rattle.walrus_instr.specs.declared.seq.InstrLocId.{InstrLocId}
+use Rattle.walrus_instr.specs.declared.seq.InstrSeq.{InstrSeq}
+use Rattle.walrus_tree.specs.Text.{Piece}
+use Rattle.wasm_operators.specs.Operators.{Seen}
+use Rattle.walrus_pairing.specs.Looks.{Look, Or}
 use Rattle.walrus_body_writer.specs.declared.output.Output.{Output}
-use Rattle.walrus_body_writer.specs.Outputs.{Extends}
+use Rattle.walrus_body_writer.specs.Spelled.{Text, written, bytes_of, piece_bytes, text_bytes, pair_of, text_places, IsWritten, AreWritten}
+use Rattle.walrus_body_writer.specs.Outputs.{PutsIf, IsSame, Wrote}
 
-pub extends_itself : (out : Output) → Extends out out
-extends_itself out = record {
-  more_bytes = [];
-  bytes = sym (append-nil out.bytes.items);
-  more_places = [];
-  places = sym (append-nil out.places.items);
-  keeps = refl;
-}
+abbrev pub Pairs : Type 0
+Pairs = List (InstrLocId × ℕ)
 
-pub extends_on : (old mid new : Output) → Extends old mid → Extends mid new → Extends old new
-extends_on old mid new a b = record {
-  more_bytes = a.more_bytes ++ b.more_bytes;
-  bytes = b.bytes ∙ ap (λ (l : List ℕ). l ++ b.more_bytes) a.bytes ∙ append_assoc old.bytes.items a.more_bytes b.more_bytes;
-  more_places = a.more_places ++ b.more_places;
-  places = b.places ∙ ap (λ (l : List (InstrLocId × ℕ)). l ++ b.more_places) a.places ∙ append_assoc old.places.items a.more_places b.more_places;
-  keeps = b.keeps ∙ a.keeps;
-}
+-- ---- texts, part by part
 
--- one place more, or none where memory was refused
-pub extends_places : (old new : Output) (more : List (InstrLocId × ℕ)) → new.bytes ≡ old.bytes → new.places.items ≡ old.places.items ++ more → new.keeps_places ≡ old.keeps_places → Extends old new
-extends_places old new more bytes places keeps = record {
-  more_bytes = [];
-  bytes = ap (λ v. v.items) bytes ∙ sym (append-nil old.bytes.items);
-  more_places = more;
-  places = places;
-  keeps = keeps;
-}
+module _ (look : Look) (b : List InstrSeq) where
+  pub bytes_append : (xs ys : Text) → text_bytes look b (xs ++ ys) ≡ text_bytes look b xs ++ text_bytes look b ys
+  bytes_append [] ys = refl
+  bytes_append (x ∷ xs) ys =
+      ap (λ (z : List ℕ). piece_bytes look b x.0 ++ z) (bytes_append xs ys) ∙ sym (append_assoc (piece_bytes look b x.0) (text_bytes look b xs) (text_bytes look b ys))
 
-pub extends_nothing : (old new : Output) → new.bytes ≡ old.bytes → new.places.items ≡ old.places.items → new.keeps_places ≡ old.keeps_places → Extends old new
-extends_nothing old new bytes places keeps = extends_places old new [] bytes (places ∙ sym (append-nil old.places.items)) keeps
+  pub places_append : (at : ℕ) (xs ys : Text) → text_places look b at (xs ++ ys) ≡ text_places look b at xs ++ text_places look b (at + length (text_bytes look b xs)) ys
+  places_append at [] ys = ap (λ (n : ℕ). text_places look b n ys) (sum_nil at)
+    where
+      sum_nil : (n : ℕ) → n ≡ n + 0
+      sum_nil n = omega arith
+  places_append at (x ∷ xs) ys =
+      let here = piece_bytes look b x.0 in
+      let first : Pairs = pair_of (written look b x.0) x.1 at in
+      let rest = text_bytes look b xs in
+      let n : (at + length here) + length rest ≡ at + length (here ++ rest) = omega (arith, length-append here rest) in
+      ap (λ (z : Pairs). first ++ z) (places_append (at + length here) xs ys)
+      ∙ ap (λ (m : ℕ). first ++ (text_places look b (at + length here) xs ++ text_places look b m ys)) n
+      ∙ sym (append_assoc first (text_places look b (at + length here) xs) (text_places look b (at + length (here ++ rest)) ys))
 
--- bytes behind it, or none where memory was refused
-pub extends_bytes : (old new : Output) (more : List ℕ) (result : Result (Unit {0}) AllocError)
-    → MatchResult result (λ _. new.bytes.items ≡ old.bytes.items ++ more) (λ _. new.bytes.items ≡ old.bytes.items)
-    → new.places ≡ old.places → new.keeps_places ≡ old.keeps_places → Extends old new
-extends_bytes old new more (Ok x) bytes places keeps = record {
-  more_bytes = more;
-  bytes = bytes;
-  more_places = [];
-  places = ap (λ v. v.items) places ∙ sym (append-nil old.places.items);
-  keeps = keeps;
+  pub written_append : (xs ys : Text) → AreWritten look b xs → AreWritten look b ys → AreWritten look b (xs ++ ys)
+  written_append [] ys h g = g
+  written_append (x ∷ xs) ys h g = (h.0, written_append xs ys h.1 g)
+
+-- ---- one piece more
+
+record PutAs (a : Or (Option Seen)) (l : InstrLocId) (mid new : Output) : Type 0 where
+  pub bytes : new.bytes.items ≡ mid.bytes.items ++ bytes_of a
+  pub places : new.places.items ≡ (if mid.keeps_places then mid.places.items ++ pair_of a l (length mid.bytes.items) else mid.places.items)
+  pub keeps : new.keeps_places ≡ mid.keeps_places
+  pub written : IsWritten a
+
+none_more : (k : Bool) (ps : Pairs) → ps ≡ (if k then ps ++ [] else ps)
+none_more true ps = sym (append-nil ps)
+none_more false ps = refl
+
+put_as : (a : Or (Option Seen)) (l : InstrLocId) (mid new : Output) → PutsIf a l mid new → PutAs a l mid new
+put_as (Ok (Some op)) l mid new h = record { bytes = h.bytes; places = h.places; keeps = h.keeps; written = tt }
+put_as (Ok None) l mid new h = record {
+  bytes = ap (λ (o : Output). o.bytes.items) h ∙ sym (append-nil mid.bytes.items);
+  places = ap (λ (o : Output). o.places.items) h ∙ none_more mid.keeps_places mid.places.items;
+  keeps = ap (λ (o : Output). o.keeps_places) h;
+  written = tt;
 }
-extends_bytes old new more (Err x) bytes places keeps = record {
-  more_bytes = [];
-  bytes = bytes ∙ sym (append-nil old.bytes.items);
-  more_places = [];
-  places = ap (λ v. v.items) places ∙ sym (append-nil old.places.items);
-  keeps = keeps;
-}
+put_as (Err e) l mid new h = absurd h
+
+places_on : (k j : Bool) (olds mids news first more : Pairs) → j ≡ k → mids ≡ (if k then olds ++ first else olds) → news ≡ (if j then mids ++ more else mids) → news ≡ (if k then olds ++ (first ++ more) else olds)
+places_on true true olds mids news first more same e f = f ∙ ap (λ (z : Pairs). z ++ more) e ∙ append_assoc olds first more
+places_on false false olds mids news first more same e f = f ∙ e
+places_on true false olds mids news first more same e f = absurd cc
+places_on false true olds mids news first more same e f = absurd cc
+
+pub wrote_none : (look : Look) (b : List InstrSeq) (out : Output) → Wrote look b [] out out
+wrote_none look b out = record { bytes = sym (append-nil out.bytes.items); places = none_more out.keeps_places out.places.items; keeps = refl; written = tt }
+
+pub wrote_on : (look : Look) (b : List InstrSeq) (t : Text) (old mid new : Output) (p : Piece × InstrLocId) → Wrote look b t old mid → PutsIf (written look b p.0) p.1 mid new → Wrote look b (t ++ p ∷ []) old new
+wrote_on look b t old mid new p w h =
+    let a = written look b p.0 in
+    let puts = put_as a p.1 mid new h in
+    let size : length mid.bytes.items ≡ length old.bytes.items + length (text_bytes look b t) = ap length w.bytes ∙ length-append old.bytes.items (text_bytes look b t) in
+    let more : Pairs = pair_of a p.1 (length mid.bytes.items) in
+    let pairs : text_places look b (length old.bytes.items) t ++ more ≡ text_places look b (length old.bytes.items) (t ++ p ∷ []) =
+    ap (λ (z : Pairs). text_places look b (length old.bytes.items) t ++ z) (ap (λ (n : ℕ). pair_of a p.1 n) size ∙ sym (append-nil (pair_of a p.1 (length old.bytes.items + length (text_bytes look b t)))))
+    ∙ sym (places_append look b (length old.bytes.items) t (p ∷ [])) in
+    record {
+      bytes =
+          puts.bytes ∙ ap (λ (z : List ℕ). z ++ bytes_of a) w.bytes ∙ append_assoc old.bytes.items (text_bytes look b t) (bytes_of a)
+          ∙ ap (λ (z : List ℕ). old.bytes.items ++ z) (ap (λ (z : List ℕ). text_bytes look b t ++ z) (sym (append-nil (bytes_of a))) ∙ sym (bytes_append look b t (p ∷ [])));
+      places =
+          places_on old.keeps_places mid.keeps_places old.places.items mid.places.items new.places.items (text_places look b (length old.bytes.items) t) more w.keeps w.places puts.places
+          ∙ ap (λ (z : Pairs). if old.keeps_places then old.places.items ++ z else old.places.items) pairs;
+      keeps = puts.keeps ∙ w.keeps;
+      written = written_append look b t (p ∷ []) w.written (puts.written, tt);
+    }
+
+pub wrote_same : (look : Look) (b : List InstrSeq) (t : Text) (old mid new : Output) → Wrote look b t old mid → IsSame mid new → Wrote look b t old new
+wrote_same look b t old mid new w s = record { bytes = s.bytes ∙ w.bytes; places = s.places ∙ w.places; keeps = s.keeps ∙ w.keeps; written = w.written }

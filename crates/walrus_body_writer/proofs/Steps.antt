@@ -1,13 +1,12 @@
 -- One step of emission keeps what its loop keeps.
-use Rattle.std.proofs.Common.{ℕ, zero, suc, ◌+◌, ◌-◌, ◌<◌, ◌≡◌, Bool, true, false, List, [], ◌∷◌, ◌++◌, length, drop, Option, Some, None, refl, sym, ap, subst, arith, ◌∙◌, length-append}
-use Rattle.std.specs.Prelude.{slice_get, slice_set, if◌then◌else◌}
+use Rattle.std.proofs.Common.{ℕ, zero, suc, ◌+◌, ◌-◌, ◌<◌, ◌≡◌, List, [], ◌∷◌, ◌++◌, length, drop, Option, Some, None, refl, sym, ap, subst, arith, ◌∙◌}
+use Rattle.std.specs.Prelude.{slice_get, slice_set, Ok, Err}
 use Rattle.std.proofs.lemmas.List.{append_assoc, length-set}
 use Rattle.std.proofs.lemmas.Option.{slice_get_within}
 use Rattle.walrus_instr.specs.declared.instr.Instr.{Instr}
 use Rattle.walrus_instr.specs.declared.seq.InstrLocId.{InstrLocId}
 use Rattle.walrus_instr.specs.declared.seq.InstrSeq.{InstrSeq}
 use Rattle.wasm_operators.specs.Operators.{Seen}
-use Rattle.wasm_operator_bytes.specs.Bytes.{operator_bytes}
 use Rattle.walrus_walks.specs.Tree.{children, children_in, Falls, IsRank, IsNested}
 use Rattle.walrus_tree.specs.Trees.{IsWithin}
 use Rattle.walrus_tree.specs.Text.{Piece, Operator, after, of_parts, of_instrs, text, operators}
@@ -17,14 +16,19 @@ use Rattle.walrus_body_writer.specs.declared.todo.Met.{Met}
 use Rattle.walrus_body_writer.specs.declared.todo.Met.TheVariants.{AnInstr, AnEnd, Nothing}
 use Rattle.walrus_body_writer.specs.declared.todo.Todo.{Todo}
 use Rattle.walrus_body_writer.specs.declared.todo.Todo.TheVariants.{Enter, Inside}
-use Rattle.walrus_body_writer.specs.Spelled.{Numbers, Text, written_instr, written, piece_bytes, text_bytes, text_places}
-use Rattle.walrus_body_writer.specs.Doing.{piece_of, entering, opened, rest_of, here, left, AreDeep, label_by, IsBelow, AreRanked, place_of, depths_after, height_after}
+use Rattle.walrus_pairing.specs.Looks.{Look, Or}
+use Rattle.walrus_pairing.specs.declared.error.PairError.{PairError}
+use Rattle.walrus_body_writer.specs.Spelled.{Text, written}
+use Rattle.walrus_body_writer.specs.Doing.{piece_of, entering, opened, rest_of, here, left, AreDeep, IsBelow, AreRanked, place_of, depths_after, height_after}
 use Rattle.walrus_body_writer.specs.declared.depths.Depths.{Depths}
 use Rattle.walrus_body_writer.specs.declared.output.Output.{Output}
-use Rattle.walrus_body_writer.specs.Outputs.{Puts}
+use Rattle.walrus_body_writer.specs.Outputs.{PutsIf, IsSame, Wrote}
+use Rattle.walrus_body_writer.specs.Refusals.{Gives, IsDue, IsLarge, LeavesOff, value_at, value_in}
 use Rattle.walrus_body_writer.specs.Emitting.{State, state, advanced, MetInstr, MetEnd, AdvancesIn, AdvancesAt, Advances, Good, Passed, Writes, Goes}
 use Rattle.walrus_body_writer.proofs.Lefts.{opened_append, left_append, left_last, ranked_append, ranked_front, ranked_back, not_around, held_text, falls_at, held_ranked, entering_opens}
 use Rattle.walrus_body_writer.proofs.Labels.{instr_same, deep_entered}
+use Rattle.walrus_body_writer.proofs.Outs.{wrote_on, wrote_same}
+use Rattle.walrus_body_writer.proofs.Refused.{gives_more}
 
 -- ---- what is next
 
@@ -101,22 +105,6 @@ drop_past {A} (y ∷ xs) zero e = absurd (some_none A y e)
     some_none : (A : Type 0) (y : A) → ◌≡◌ {A = Option A} (Some y) None → ⊥
     some_none A y e = cc
 drop_past (y ∷ xs) (suc n) e = drop_past xs n e
-
--- ---- what is written
-
-put_bytes : (n : Numbers) (b : List InstrSeq) (p : Piece) (l : InstrLocId) (rest : Text) (old new : List ℕ) (op : Seen) → op ≡ written n b p → new ≡ old ++ operator_bytes op
-    → new ++ text_bytes n b rest ≡ old ++ text_bytes n b ((p, l) ∷ rest)
-put_bytes n b p l rest old new op is e =
-    ap (λ (z : List ℕ). z ++ text_bytes n b rest) (e ∙ ap (λ (o : Seen). old ++ operator_bytes o) is) ∙ append_assoc old (piece_bytes n b p) (text_bytes n b rest)
-
-put_places : (n : Numbers) (b : List InstrSeq) (p : Piece) (l : InstrLocId) (rest : Text) (k : Bool) (old new : List ℕ) (old_places new_places : List (InstrLocId × ℕ)) (op : Seen) → op ≡ written n b p
-    → new ≡ old ++ operator_bytes op → new_places ≡ (if k then old_places ++ (l, length old) ∷ [] else old_places)
-    → (if k then new_places ++ text_places n b (length new) rest else new_places) ≡ (if k then old_places ++ text_places n b (length old) ((p, l) ∷ rest) else old_places)
-put_places n b p l rest true old new old_places new_places op is e q =
-    let size : length new ≡ length old + length (piece_bytes n b p) = ap length e ∙ length-append old (operator_bytes op) ∙ ap (λ (o : Seen). length old + length (operator_bytes o)) is in
-    ap (λ (z : List (InstrLocId × ℕ)). z ++ text_places n b (length new) rest) q ∙ append_assoc old_places ((l, length old) ∷ []) (text_places n b (length new) rest)
-    ∙ ap (λ (m : ℕ). old_places ++ (l, length old) ∷ text_places n b m rest) size
-put_places n b p l rest false old new old_places new_places op is e q = q
 
 -- the pieces behind one another
 regroup : (x : Piece × InstrLocId) (p r e l : Text) → ((x ∷ (p ++ r)) ++ e) ++ l ≡ x ∷ (p ++ ((r ++ e) ++ l))
@@ -242,22 +230,36 @@ starts b entry items d nested sound is low sized =
 
 -- ---- emission
 
-module _ (n : Numbers) (b : List InstrSeq) (bytes : List ℕ) (places : List (InstrLocId × ℕ)) (before : Text) (new : State) (out next : Output)
-    (was_bytes : out.bytes.items ++ text_bytes n b before ≡ bytes)
-    (was_places : (if out.keeps_places then out.places.items ++ text_places n b (length out.bytes.items) before else out.places.items) ≡ places) where
-  puts_on : (p : Piece) (l : InstrLocId) (op : Seen) → before ≡ (p, l) ∷ left b [] new.todo → Good b new → op ≡ written n b p → Puts op l out next → Goes n b bytes places new next
-  puts_on p l op was good is puts = record {
+module _ (look : Look) (b : List InstrSeq) (all : Text) (old : Output) (front before : Text) (new : State) (out next : Output)
+    (parts : all ≡ front ++ before) (wrote : Wrote look b front old out) where
+  puts_on : (p : Piece × InstrLocId) → before ≡ p ∷ left b [] new.todo → Good b new → PutsIf (written look b p.0) p.1 out next → Goes look b all old new next
+  puts_on p was good puts = record {
     good = good;
-    bytes_are = put_bytes n b p l (left b [] new.todo) out.bytes.items next.bytes.items op is puts.bytes ∙ ap (λ (z : Text). out.bytes.items ++ text_bytes n b z) (sym was) ∙ was_bytes;
-    places_are =
-        ap (λ (k : Bool). if k then next.places.items ++ text_places n b (length next.bytes.items) (left b [] new.todo) else next.places.items) puts.keeps
-        ∙ put_places n b p l (left b [] new.todo) out.keeps_places out.bytes.items next.bytes.items out.places.items next.places.items op is puts.bytes puts.places
-        ∙ ap (λ (z : Text). if out.keeps_places then out.places.items ++ text_places n b (length out.bytes.items) z else out.places.items) (sym was) ∙ was_places;
+    front = front ++ p ∷ [];
+    parts = parts ∙ ap (λ (z : Text). front ++ z) was ∙ sym (append_assoc front (p ∷ []) (left b [] new.todo));
+    wrote = wrote_on look b front old out next p wrote puts;
   }
 
-  pub writes_on : (met : Met) → Passed b before met new → Writes n b met new out next → Goes n b bytes places new next
+  pub writes_on : (met : Met) → Passed b before met new → Writes look b met new out next (Ok tt) → Goes look b all old new next
   writes_on (AnInstr k at) h w =
-      puts_on (Operator h.around h.item.0) h.item.1 (written_instr n b (label_by new.depths new.height) h.item.0) h.was h.good
-      (instr_same n b new.depths h.around new.height h.deep h.high h.item.0 h.within) (w h.seq h.item h.found h.stands)
-  writes_on (AnEnd c place) h w = puts_on (piece_of c) place (written n b (piece_of c)) h.was h.good refl w
+      puts_on (Operator h.around h.item.0, h.item.1) h.was h.good
+      (subst (λ (a : Or (Option Seen)). PutsIf a h.item.1 out next) (instr_same look b new.depths h.around new.height h.deep h.high h.item.0 h.within) (w h.seq h.item h.found h.stands))
+  writes_on (AnEnd c place) h w = puts_on (piece_of c, place) h.was h.good w
   writes_on Nothing h w = absurd h
+
+  stops_at : (p : Piece × InstrLocId) (e : PairError) → before ≡ p ∷ left b [] new.todo → Gives (IsLarge look (value_at b p.0)) (written look b p.0) (Err e) → IsSame out next → LeavesOff look b all old e next
+  stops_at p e was due same = record {
+    front = front;
+    back = before;
+    parts = parts;
+    wrote = wrote_same look b front old out next wrote same;
+    due = subst (λ (z : Text). IsDue look b z e) (sym was) due;
+  }
+
+  pub refuses : (met : Met) (e : PairError) → Passed b before met new → Writes look b met new out next (Err e) → LeavesOff look b all old e next
+  refuses (AnInstr k at) e h w =
+      let r = w h.seq h.item h.found h.stands in
+      stops_at (Operator h.around h.item.0, h.item.1) e h.was
+      (subst (λ (a : Or (Option Seen)). Gives (IsLarge look (value_in b h.item.0)) a (Err e)) (instr_same look b new.depths h.around new.height h.deep h.high h.item.0 h.within) r.0) r.1
+  refuses (AnEnd c place) e h w = stops_at (piece_of c, place) e h.was (gives_more (IsLarge look (value_at b (piece_of c))) (written look b (piece_of c)) e w.0) w.1
+  refuses Nothing e h w = absurd h

@@ -1,5 +1,5 @@
 -- One step of emission, and what its loop keeps.
-use Rattle.std.specs.Prelude.{◌≡◌, ℕ, ◌+◌, ◌-◌, List, [], ◌∷◌, ◌++◌, length, Option, Some, None, slice_get, if◌then◌else◌}
+use Rattle.std.specs.Prelude.{◌≡◌, ℕ, ◌+◌, ◌-◌, List, [], ◌∷◌, ◌++◌, length, Option, Some, None, Result, Ok, Err, slice_get}
 use Rattle.walrus_instr.specs.declared.instr.Instr.{Instr}
 use Rattle.walrus_instr.specs.declared.seq.InstrLocId.{InstrLocId}
 use Rattle.walrus_instr.specs.declared.seq.InstrSeq.{InstrSeq}
@@ -17,8 +17,12 @@ use Rattle.walrus_body_writer.specs.declared.output.Output.{Output}
 use Rattle.walrus_body_env.specs.declared.error.BodyError.{BodyError}
 use Rattle.walrus_body_env.specs.declared.error.BodyError.TheVariants.{NoTree, Memory}
 use Rattle.walrus_tree.specs.Trees.{IsTree, IsWithin}
-use Rattle.walrus_body_writer.specs.Outputs.{Puts}
-use Rattle.walrus_body_writer.specs.Spelled.{Numbers, Text, written_instr, written, text_bytes, text_places}
+use Rattle.wasm_operators.specs.Operators.{Seen}
+use Rattle.walrus_pairing.specs.Looks.{Look, Or}
+use Rattle.walrus_pairing.specs.declared.error.PairError.{PairError}
+use Rattle.walrus_body_writer.specs.Outputs.{PutsIf, IsSame, Wrote}
+use Rattle.walrus_body_writer.specs.Refusals.{Gives, IsLarge, value_in}
+use Rattle.walrus_body_writer.specs.Spelled.{Text, written_instr, written}
 use Rattle.walrus_body_writer.specs.Doing.{piece_of, entering, opened, left, AreDeep, label_by, AreRanked, place_of, depths_after, height_after}
 
 -- the list of what is left, how deep sequences lie and how many are open
@@ -91,18 +95,24 @@ Passed b before (AnInstr k at) new = PassedInstr b before k at new
 Passed b before (AnEnd c place) new = PassedEnd b before c place new
 Passed b before Nothing new = ⊥
 
--- what was met was written
-abbrev pub Writes : Numbers → List InstrSeq → Met → State → Output → Output → Type 0
-Writes n b (AnInstr k at) s old new = (q : InstrSeq) (i : Instr × InstrLocId) → slice_get b k ≡ Some q → slice_get q.instrs.items at ≡ Some i
-    → Puts (written_instr n b (label_by s.depths s.height) i.0) i.1 old new
-Writes n b (AnEnd c place) s old new = Puts (written n b (piece_of c)) place old new
-Writes n b Nothing s old new = Unit {0}
+-- what is to be written was, or it is refused and nothing was put there
+abbrev pub IsDone : Type 0 → Or (Option Seen) → InstrLocId → Output → Output → Result (Unit {0}) PairError → Type 0
+IsDone large a place old new (Ok _) = PutsIf a place old new
+IsDone large a place old new (Err e) = Gives large a (Err e) × IsSame old new
 
--- what was written, and then the text of what is left, is what is to be written
-pub record Goes (n : Numbers) (b : List InstrSeq) (bytes : List ℕ) (places : List (InstrLocId × ℕ)) (s : State) (out : Output) : Type 0 where
+-- so for what was met
+abbrev pub Writes : Look → List InstrSeq → Met → State → Output → Output → Result (Unit {0}) PairError → Type 0
+Writes look b (AnInstr k at) s old new result = (q : InstrSeq) (i : Instr × InstrLocId) → slice_get b k ≡ Some q → slice_get q.instrs.items at ≡ Some i
+    → IsDone (IsLarge look (value_in b i.0)) (written_instr look b (label_by s.depths s.height) i.0) i.1 old new result
+Writes look b (AnEnd c place) s old new result = IsDone ⊥ (written look b (piece_of c)) place old new result
+Writes look b Nothing s old new result = Unit {0}
+
+-- a first part of the text was written, and the text of what is left is the rest
+pub record Goes (look : Look) (b : List InstrSeq) (t : Text) (old : Output) (s : State) (out : Output) : Type 0 where
   pub good : Good b s
-  pub bytes_are : out.bytes.items ++ text_bytes n b (left b [] s.todo) ≡ bytes
-  pub places_are : (if out.keeps_places then out.places.items ++ text_places n b (length out.bytes.items) (left b [] s.todo) else out.places.items) ≡ places
+  pub front : Text
+  pub parts : t ≡ front ++ left b [] s.todo
+  pub wrote : Wrote look b front old out
 
 -- a refusal has its cause; that a growth was refused says nothing
 abbrev pub IsCause : List InstrSeq → BodyError → Type 0

@@ -1,11 +1,14 @@
 -- What is written behind what was written.
-use Rattle.std.specs.Prelude.{◌≡◌, ℕ, List, [], ◌∷◌, ◌++◌, length, if◌then◌else◌}
+use Rattle.std.specs.Prelude.{◌≡◌, List, [], ◌∷◌, ◌++◌, length, Option, Some, None, Result, Ok, Err, ◌⊎◌, if◌then◌else◌}
 use Rattle.walrus_instr.specs.declared.seq.InstrLocId.{InstrLocId}
+use Rattle.walrus_instr.specs.declared.seq.InstrSeq.{InstrSeq}
 use Rattle.wasm_operators.specs.Operators.{Seen}
 use Rattle.wasm_operator_bytes.specs.Bytes.{operator_bytes}
-use Rattle.walrus_body_env.specs.declared.error.BodyError.{BodyError}
-use Rattle.walrus_body_env.specs.declared.error.BodyError.TheVariants.{NoTree}
+use Rattle.walrus_pairing.specs.Looks.{Look, Or}
+use Rattle.walrus_pairing.specs.declared.error.PairError.{PairError}
+use Rattle.walrus_pairing.specs.declared.error.PairError.TheVariants as errors
 use Rattle.walrus_body_writer.specs.declared.output.Output.{Output}
+use Rattle.walrus_body_writer.specs.Spelled.{Text, text_bytes, text_places, AreWritten}
 
 -- the operator was put behind what was written, and where places are kept, its place
 pub record Puts (op : Seen) (place : InstrLocId) (old new : Output) : Type 0 where
@@ -13,15 +16,26 @@ pub record Puts (op : Seen) (place : InstrLocId) (old new : Output) : Type 0 whe
   pub places : new.places.items ≡ (if old.keeps_places then old.places.items ++ (place, length old.bytes.items) ∷ [] else old.places.items)
   pub keeps : new.keeps_places ≡ old.keeps_places
 
--- what was there stands at the front, and places are kept as before
-pub record Extends (old new : Output) : Type 0 where
-  pub more_bytes : List ℕ
-  pub bytes : new.bytes.items ≡ old.bytes.items ++ more_bytes
-  pub more_places : List (InstrLocId × ℕ)
-  pub places : new.places.items ≡ old.places.items ++ more_places
+-- what is written was put there
+abbrev pub PutsIf : Or (Option Seen) → InstrLocId → Output → Output → Type 0
+PutsIf (Ok (Some op)) place old new = Puts op place old new
+PutsIf (Ok None) place old new = new ≡ old
+PutsIf (Err _) place old new = ⊥
+
+-- the same bytes and places
+pub record IsSame (old new : Output) : Type 0 where
+  pub bytes : new.bytes.items ≡ old.bytes.items
+  pub places : new.places.items ≡ old.places.items
   pub keeps : new.keeps_places ≡ old.keeps_places
 
--- a body that is no tree leaves it as it was
-abbrev pub IsLeft : {A : Type 0} → A → A → BodyError → Type 0
-IsLeft old new NoTree = new ≡ old
-IsLeft old new _ = Unit {0}
+-- what is written was put there; or it isn't written, or memory was wanted, and nothing was put there
+abbrev pub IsPut : Or (Option Seen) → InstrLocId → Output → Output → Result (Unit {0}) PairError → Type 0
+IsPut a place old new (Ok _) = PutsIf a place old new
+IsPut a place old new (Err e) = ((e ≡ errors.Memory) ⊎ (a ≡ Err e)) × IsSame old new
+
+-- the text was written, each piece of it: its bytes stand behind what was there, and where places are kept, so do its places
+pub record Wrote (look : Look) (b : List InstrSeq) (t : Text) (old new : Output) : Type 0 where
+  pub bytes : new.bytes.items ≡ old.bytes.items ++ text_bytes look b t
+  pub places : new.places.items ≡ (if old.keeps_places then old.places.items ++ text_places look b (length old.bytes.items) t else old.places.items)
+  pub keeps : new.keeps_places ≡ old.keeps_places
+  pub written : AreWritten look b t

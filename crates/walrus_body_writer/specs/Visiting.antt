@@ -1,5 +1,8 @@
 -- What a visitor is told of.
-use Rattle.std.specs.Prelude.{◌≡◌, ℕ, ◌+◌, List, [], ◌∷◌, Some, slice_get}
+use Rattle.std.specs.Prelude.{◌≡◌, ◌⊎◌, ℕ, ◌+◌, List, [], ◌∷◌, ◌++◌, Some, slice_get}
+use Rattle.std.specs.List.{FoldsTo}
+use Rattle.walrus_body_env.specs.declared.error.BodyError.{BodyError}
+use Rattle.walrus_body_env.specs.declared.error.BodyError.TheVariants.{NoTree}
 use Rattle.walrus_instr.specs.declared.instr.Instr.{Instr}
 use Rattle.walrus_instr.specs.declared.seq.InstrLocId.{InstrLocId}
 use Rattle.walrus_instr.specs.declared.seq.InstrSeq.{InstrSeq}
@@ -7,7 +10,8 @@ use Rattle.walrus_tree.specs.Text.{Piece, Operator}
 use Rattle.walrus_body_writer.specs.declared.todo.Met.{Met}
 use Rattle.walrus_body_writer.specs.declared.todo.Met.TheVariants.{AnInstr, AnEnd, Nothing}
 use Rattle.walrus_body_writer.specs.Spelled.{Text}
-use Rattle.walrus_body_writer.specs.Doing.{piece_of}
+use Rattle.walrus_body_writer.specs.Doing.{left, piece_of}
+use Rattle.walrus_body_writer.specs.Emitting.{Good, State}
 
 -- it was told of what was met
 abbrev pub Visits : {V : Type 0} → (V → Piece × InstrLocId → V → Type 0) → List InstrSeq → Met → V → V → Type 0
@@ -15,6 +19,27 @@ Visits step b (AnInstr k at) old new = (q : InstrSeq) (i : Instr × InstrLocId) 
     → (around : List ℕ) → step old (Operator around i.0, i.1) new
 Visits step b (AnEnd c place) old new = step old (piece_of c, place) new
 Visits step b Nothing old new = Unit {0}
+
+-- a first part of the text was told, and what the visitor held then it holds now
+pub record ToldPart {V : Type 0} (step : V → Piece × InstrLocId → V → Type 0) (same : V → V → Type 0) (t : Text) (old new : V) : Type 0 where
+  pub front : Text
+  pub back : Text
+  pub parts : t ≡ front ++ back
+  pub last : V
+  pub told : FoldsTo step old front last
+  pub kept : (new ≡ last) ⊎ same last new
+
+-- a first part of the text was told, and the text of what is left is the rest
+pub record Tells {V : Type 0} (step : V → Piece × InstrLocId → V → Type 0) (b : List InstrSeq) (t : Text) (old : V) (s : State) (new : V) : Type 0 where
+  pub good : Good b s
+  pub front : Text
+  pub parts : t ≡ front ++ left b [] s.todo
+  pub told : FoldsTo step old front new
+
+-- a body that is no tree leaves the visitor as it was; want of memory, with a first part told
+abbrev pub IsLeft : {V : Type 0} → (V → Piece × InstrLocId → V → Type 0) → (V → V → Type 0) → Text → V → V → BodyError → Type 0
+IsLeft step same t old new NoTree = new ≡ old
+IsLeft step same t old new _ = ToldPart step same t old new
 
 -- the size of a body: the count of its operators, but for those that only mark where sequences end
 abbrev pub weight : Piece → ℕ

@@ -1,39 +1,61 @@
 //! Bodies are written.
 
-ghost use Rattle.std.specs.Prelude.{◌≡◌, ◌++◌, List, length, OnOk, IfErr, if◌then◌else◌};
+ghost use Rattle.std.specs.Prelude.{List, IfErr, OnOk};
 ghost use Rattle.walrus_builder.specs.Functions.{seqs_of};
+ghost use Rattle.walrus_index_maps.specs.Views.{indices};
+ghost use Rattle.walrus_pairing.specs.Looks.{number_of};
+ghost use Rattle.walrus_pairing.specs.Seen.{as_seen};
 ghost use Rattle.walrus_tree.specs.Trees.{IsTree};
 ghost use Rattle.walrus_tree.specs.Text.{operators};
-ghost use Rattle.walrus_body_writer.specs.Spelled.{text_bytes, text_places};
-ghost use Rattle.walrus_body_writer.specs.Emitting.{IsCause, Writes, state};
-ghost use Rattle.walrus_body_writer.specs.Outputs.{Extends, IsLeft};
+ghost use Rattle.walrus_body_writer.specs.Doing.{piece_of};
+ghost use Rattle.walrus_body_writer.specs.Spelled.{written};
+ghost use Rattle.walrus_body_writer.specs.Emitting.{IsDone, Writes, state};
+ghost use Rattle.walrus_body_writer.specs.Numbers.{look_of};
+ghost use Rattle.walrus_body_writer.specs.Outputs.{IsPut, Wrote};
+ghost use Rattle.walrus_body_writer.specs.Refusals.{IsRefusal, LeavesOff};
 
 use crate::depths::Depths;
-use crate::numbering::Numbering;
-use crate::operators::{closer_of, operator_of};
+use crate::numbers::{Numbers, Written};
+use crate::operators::{closer_of, written_of};
 use crate::output::Output;
+use crate::refusal::fault_of;
 use crate::todo::{Closer, Met, Todo};
 use crate::walk::{advance, item_at, seq_at};
-use std::alloc::{AllocError, Global};
-use walrus_arena::InstrSeqId;
+use std::alloc::Global;
+use walrus_arena::{FunctionId, InstrSeqId};
 use walrus_body_env::BodyError;
 use walrus_builder::FunctionBuilder;
-use walrus_instr::InstrSeq;
+use walrus_index_maps::IdsToIndices;
+use walrus_instr::{InstrLocId, InstrSeq};
+use walrus_pairing::PairError;
 use walrus_tree::check_tree;
 
+// Puts what is written there.
+fn put(out: &mut Output, operator: Written, place: InstrLocId) -> Result<(), PairError>
+    ensures { IsPut (as_seen operator) place out.old out.new result }
+{
+    match operator {
+        Ok(Some(operator)) => {
+            out.write(&operator, place)?;
+            Ok(())
+        }
+        Ok(None) => Ok(()),
+        Err(error) => Err(error),
+    }
+}
+
 // Writes the instruction at a position of an open sequence.
-#[tactic(auto, using(crate::proofs::Outs::extends_itself))]
-fn write_instr<N: Numbering>(
+#[tactic(auto, using(crate::proofs::Refused::done))]
+fn write_instr(
     alloc: Global,
-    numbers: &N,
+    numbers: &Numbers<'_>,
     seqs: &[InstrSeq],
     depths: &Depths,
     id: InstrSeqId,
     at: usize,
     out: &mut Output,
-) -> Result<(), AllocError>
-    ensures written { OnOk result ((ts : List Todo) → Writes (N.numbers numbers.now) seqs.now (Met.AnInstr id at) (state ts depths.now) out.old out.new) }
-    ensures kept { Extends out.old out.new }
+) -> Result<(), PairError>
+    ensures { (ts : List Todo) → Writes (look_of numbers.now) seqs.now (Met.AnInstr id at) (state ts depths.now) out.old out.new result }
 {
     let Some(seq) = seq_at(seqs, id) else {
         return Ok(());
@@ -41,43 +63,52 @@ fn write_instr<N: Numbering>(
     let Some((instr, place)) = item_at(seq, at) else {
         return Ok(());
     };
-    let operator = operator_of(alloc, numbers, seqs, depths, instr)?;
-    out.write(&operator, *place)
+    let operator = written_of(alloc, numbers, seqs, depths, instr);
+    put(out, operator, *place)
+}
+
+// Writes what stands behind a sequence.
+fn write_end(
+    numbers: &Numbers<'_>,
+    closer: Closer,
+    place: InstrLocId,
+    out: &mut Output,
+) -> Result<(), PairError>
+    ensures { (b : List InstrSeq) → IsDone ⊥ (written (look_of numbers.now) b (piece_of closer)) place out.old out.new result }
+{
+    let operator = closer_of(numbers, closer);
+    put(out, operator, place)
 }
 
 // Writes what stands where the list has come to.
-#[tactic(auto, using(crate::proofs::Outs::extends_itself))]
-fn write_met<N: Numbering>(
+fn write_met(
     alloc: Global,
-    numbers: &N,
+    numbers: &Numbers<'_>,
     seqs: &[InstrSeq],
     depths: &Depths,
     met: Met,
     out: &mut Output,
-) -> Result<(), AllocError>
-    ensures written { OnOk result ((ts : List Todo) → Writes (N.numbers numbers.now) seqs.now met (state ts depths.now) out.old out.new) }
-    ensures kept { Extends out.old out.new }
+) -> Result<(), PairError>
+    ensures { (ts : List Todo) → Writes (look_of numbers.now) seqs.now met (state ts depths.now) out.old out.new result }
 {
     match met {
         Met::AnInstr(seq, at) => write_instr(alloc, numbers, seqs, depths, seq, at, out),
-        Met::AnEnd(closer, place) => out.write(&closer_of(numbers, closer), place),
+        Met::AnEnd(closer, place) => write_end(numbers, closer, place, out),
         Met::Nothing => Ok(()),
     }
 }
 
 // Writes the sequences of a tree.
-#[tactic(auto, using(crate::proofs::Outs::extends_itself, crate::proofs::Outs::extends_on))]
-fn write_tree<N: Numbering>(
+fn write_tree(
     alloc: Global,
-    numbers: &N,
+    numbers: &Numbers<'_>,
     seqs: &[InstrSeq],
     entry: InstrSeqId,
     out: &mut Output,
-) -> Result<(), AllocError>
+) -> Result<(), PairError>
     requires { IsTree seqs.now entry }
-    ensures bytes { OnOk result (out.new.bytes.items ≡ out.old.bytes.items ++ text_bytes (N.numbers numbers.now) seqs.now (operators seqs.now entry)) }
-    ensures places { OnOk result (out.new.places.items ≡ (if out.old.keeps_places then out.old.places.items ++ text_places (N.numbers numbers.now) seqs.now (length out.old.bytes.items) (operators seqs.now entry) else out.old.places.items)) }
-    ensures kept { Extends out.old out.new }
+    ensures written { OnOk result (Wrote (look_of numbers.now) seqs.now (operators seqs.now entry) out.old out.new) }
+    ensures left { IfErr result (λ e. LeavesOff (look_of numbers.now) seqs.now (operators seqs.now entry) out.old e out.new) }
 {
     walrus_tree::laws::trees_are_nested();
     walrus_tree::laws::text_is_plain();
@@ -87,37 +118,45 @@ fn write_tree<N: Numbering>(
     todo.extend_from_slice(&[Todo::Enter(entry, Closer::End)])?;
     while let Some(top) = todo.pop() {
         let met = advance(seqs, top, &mut todo, &mut depths)?;
-        write_met(alloc, numbers, seqs, &depths, met, out)?;
+        match write_met(alloc, numbers, seqs, &depths, met, out) {
+            Ok(()) => {}
+            Err(error) => return Err(error),
+        }
     }
     Ok(())
 }
 
-/// Puts the instructions of a body behind what was written, through its last `end`: each as an operator in its shortest spelling,
-/// the labels by how many sequences lie between, the blocks by the types of their sequences. Where places are kept, each
-/// written operator has one. Takes time in proportion to the sequences, to the instructions that are written and to their labels.
+/// Puts the instructions of a function's body behind what was written, through its last `end`: each as an operator in its shortest
+/// spelling, what it names by its numbers, the labels by how many sequences lie between, the blocks by the types of their sequences.
+/// Where places are kept, each written operator has one. Takes time in proportion to the sequences, to the instructions that are
+/// written and to their labels.
 ///
 /// # Errors
 ///
 /// `NoTree` exactly where the sequences that the body's own reaches form no tree in which each label names a sequence around it; then
-/// the output is as it was. Else want of memory alone, which may leave a first part written, behind what was there.
-#[tactic(auto, using(crate::proofs::Outs::extends_itself))]
-pub fn emit_instructions<N: Numbering>(
+/// the output is as it was. Else a first part of the operators is written behind what was there, and the next one is refused: `Index`
+/// where what it names has no number, `Limit` of types where its value type names one by a number of more than 20 bits; or memory was
+/// wanted.
+pub fn emit_instructions(
     alloc: Global,
     body: &FunctionBuilder,
-    numbers: &N,
+    function: FunctionId,
+    maps: &IdsToIndices,
     out: &mut Output,
 ) -> Result<(), BodyError>
     ensures tree { OnOk result (IsTree (seqs_of body.now) 0) }
-    ensures bytes { OnOk result (out.new.bytes.items ≡ out.old.bytes.items ++ text_bytes (N.numbers numbers.now) (seqs_of body.now) (operators (seqs_of body.now) 0)) }
-    ensures places { OnOk result (out.new.places.items ≡ (if out.old.keeps_places then out.old.places.items ++ text_places (N.numbers numbers.now) (seqs_of body.now) (length out.old.bytes.items) (operators (seqs_of body.now) 0) else out.old.places.items)) }
-    ensures kept { Extends out.old out.new }
-    ensures refused { IfErr result (IsCause (seqs_of body.now)) }
-    ensures left { IfErr result (IsLeft out.old out.new) }
+    ensures written { OnOk result (Wrote (number_of (indices maps.now) function) (seqs_of body.now) (operators (seqs_of body.now) 0) out.old out.new) }
+    ensures refused { IfErr result (λ fault. IsRefusal (number_of (indices maps.now) function) (seqs_of body.now) out.old fault out.new) }
 {
     let entry = body.func_body_id();
-    if !check_tree(alloc, body, entry)? {
-        return Err(BodyError::NoTree);
+    match check_tree(alloc, body, entry) {
+        Ok(true) => {}
+        Ok(false) => return Err(BodyError::NoTree),
+        Err(_) => return Err(BodyError::Memory),
     }
-    write_tree(alloc, numbers, body.seqs(), entry, out)?;
-    Ok(())
+    let numbers = Numbers { maps, function };
+    match write_tree(alloc, &numbers, body.seqs(), entry, out) {
+        Ok(()) => Ok(()),
+        Err(error) => Err(fault_of(error)),
+    }
 }

@@ -3,16 +3,16 @@
 
 mod depths;
 mod emit;
-mod numbering;
+mod numbers;
 mod operators;
 mod output;
+mod refusal;
 mod size;
 mod todo;
 mod visit;
 mod walk;
 
 pub use emit::emit_instructions;
-pub use numbering::Numbering;
 pub use output::Output;
 pub use size::body_size;
 pub use todo::Closer;

@@ -1,8 +1,8 @@
 //! Where operators are written to.
 
-ghost use Rattle.std.specs.Prelude.{◌≡◌, ◌++◌, [], ◌∷◌, length, OnErr, OnOk, if◌then◌else◌};
+ghost use Rattle.std.specs.Prelude.{◌≡◌, ◌++◌, [], ◌∷◌, OnErr, OnOk, if◌then◌else◌};
 ghost use Rattle.walrus_operators.specs.Operators.{seen};
-ghost use Rattle.walrus_body_writer.specs.Outputs.{Extends, Puts};
+ghost use Rattle.walrus_body_writer.specs.Outputs.{IsSame, Puts};
 
 use std::alloc::{AllocError, Global};
 use walrus_instr::InstrLocId;
@@ -34,16 +34,14 @@ impl Output {
         }
     }
 
-    // The next operator begins here.
-    #[tactic(auto, using(crate::proofs::Outs::extends_nothing, crate::proofs::Outs::extends_places))]
-    fn note(&mut self, place: InstrLocId) -> Result<(), AllocError>
-        ensures places { OnOk result (self.new.places.items ≡ (if self.old.keeps_places then self.old.places.items ++ (place, length self.old.bytes.items) ∷ [] else self.old.places.items)) }
+    // An operator that begins there was written.
+    fn note(&mut self, place: InstrLocId, at: usize) -> Result<(), AllocError>
+        ensures places { OnOk result (self.new.places.items ≡ (if self.old.keeps_places then self.old.places.items ++ (place, at) ∷ [] else self.old.places.items)) }
+        ensures unnoted { OnErr result (self.new.places.items ≡ self.old.places.items) }
         ensures bytes { self.new.bytes ≡ self.old.bytes }
         ensures keeps { self.new.keeps_places ≡ self.old.keeps_places }
-        ensures kept { Extends self.old self.new }
     {
         if self.keeps_places {
-            let at = self.bytes.len();
             self.places.push((place, at))?;
         }
         Ok(())
@@ -53,14 +51,17 @@ impl Output {
     ///
     /// # Errors
     ///
-    /// Want of memory. Its place may have been kept; no byte was written.
-    #[tactic(auto, using(crate::proofs::Outs::extends_on, crate::proofs::Outs::extends_bytes))]
+    /// Want of memory. The bytes and places are as they were.
     pub fn write(&mut self, operator: &Operator, place: InstrLocId) -> Result<(), AllocError>
         ensures put { OnOk result (Puts (seen operator.now) place self.old self.new) }
-        ensures kept { Extends self.old self.new }
-        ensures unwritten { OnErr result (self.new.bytes.items ≡ self.old.bytes.items) }
+        ensures unwritten { OnErr result (IsSame self.old self.new) }
     {
-        self.note(place)?;
-        write_operator(&mut self.bytes, operator)
+        let at = self.bytes.len();
+        write_operator(&mut self.bytes, operator)?;
+        if let Err(refused) = self.note(place, at) {
+            self.bytes.truncate(at);
+            return Err(refused);
+        }
+        Ok(())
     }
 }

@@ -25,6 +25,8 @@ impl TextVisitor for Size {
 
     ghost step = { λ old piece new. new.count ≡ old.count + weight piece.0 };
 
+    ghost same = { λ old new. new ≡ old };
+
     fn instr(&mut self, _instr: &Instr, _place: InstrLocId) -> Result<(), AllocError> {
         let Some(count) = self.count.checked_add(1) else {
             return Err(AllocError);

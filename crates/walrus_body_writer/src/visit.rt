@@ -1,6 +1,6 @@
 //! The text of a body is told, piece by piece.
 
-ghost use Rattle.std.specs.Prelude.{◌≡◌, ℕ, List, OnOk, IfErr};
+ghost use Rattle.std.specs.Prelude.{◌≡◌, ℕ, List, IfErr, OnErr, OnOk};
 ghost use Rattle.std.specs.List.{FoldsTo};
 ghost use Rattle.walrus_instr.specs.declared.seq.InstrLocId.{InstrLocId as Loc};
 ghost use Rattle.walrus_builder.specs.Functions.{seqs_of};
@@ -8,8 +8,7 @@ ghost use Rattle.walrus_tree.specs.Trees.{IsTree};
 ghost use Rattle.walrus_tree.specs.Text.{Operator, Piece, operators};
 ghost use Rattle.walrus_body_writer.specs.Doing.{piece_of};
 ghost use Rattle.walrus_body_writer.specs.Emitting.{IsCause};
-ghost use Rattle.walrus_body_writer.specs.Outputs.{IsLeft};
-ghost use Rattle.walrus_body_writer.specs.Visiting.{Visits};
+ghost use Rattle.walrus_body_writer.specs.Visiting.{IsLeft, ToldPart, Visits};
 
 use crate::depths::Depths;
 use crate::todo::{Closer, Met, Todo};
@@ -26,21 +25,26 @@ pub trait TextVisitor {
     /// How a piece of the text may change the visitor.
     ghost step: { Self → Piece × Loc → Self → Type 0 };
 
+    /// What stays where memory was wanted.
+    ghost same: { Self → Self → Type 0 };
+
     /// An instruction, or the beginning of a block.
     ///
     /// # Errors
     ///
-    /// Want of memory.
+    /// Want of memory. What the visitor holds is as it was.
     fn instr(&mut self, instr: &Instr, place: InstrLocId) -> Result<(), AllocError>
-        ensures { OnOk result ((around : List ℕ) → step self.old (Operator around instr.now, place) self.new) };
+        ensures told { OnOk result ((around : List ℕ) → step self.old (Operator around instr.now, place) self.new) }
+        ensures refused { OnErr result (same self.old self.new) };
 
     /// What stands behind a sequence.
     ///
     /// # Errors
     ///
-    /// Want of memory.
+    /// Want of memory. What the visitor holds is as it was.
     fn end(&mut self, closer: Closer, place: InstrLocId) -> Result<(), AllocError>
-        ensures { OnOk result (step self.old (piece_of closer, place) self.new) };
+        ensures told { OnOk result (step self.old (piece_of closer, place) self.new) }
+        ensures refused { OnErr result (same self.old self.new) };
 }
 
 // Tells of the instruction at a position of a sequence.
@@ -50,7 +54,8 @@ fn tell_instr<V: TextVisitor>(
     id: InstrSeqId,
     at: usize,
 ) -> Result<(), AllocError>
-    ensures { OnOk result (Visits V.step seqs.now (Met.AnInstr id at) visitor.old visitor.new) }
+    ensures told { OnOk result (Visits V.step seqs.now (Met.AnInstr id at) visitor.old visitor.new) }
+    ensures refused { OnErr result (V.same visitor.old visitor.new) }
 {
     let Some(seq) = seq_at(seqs, id) else {
         return Ok(());
@@ -63,7 +68,8 @@ fn tell_instr<V: TextVisitor>(
 
 // Tells of what stands where the list has come to.
 fn tell_met<V: TextVisitor>(visitor: &mut V, seqs: &[InstrSeq], met: Met) -> Result<(), AllocError>
-    ensures { OnOk result (Visits V.step seqs.now met visitor.old visitor.new) }
+    ensures told { OnOk result (Visits V.step seqs.now met visitor.old visitor.new) }
+    ensures refused { OnErr result (V.same visitor.old visitor.new) }
 {
     match met {
         Met::AnInstr(seq, at) => tell_instr(visitor, seqs, seq, at),
@@ -80,7 +86,8 @@ fn visit_tree<V: TextVisitor>(
     entry: InstrSeqId,
 ) -> Result<(), AllocError>
     requires { IsTree seqs.now entry }
-    ensures { OnOk result (FoldsTo V.step visitor.old (operators seqs.now entry) visitor.new) }
+    ensures told { OnOk result (FoldsTo V.step visitor.old (operators seqs.now entry) visitor.new) }
+    ensures left { OnErr result (ToldPart V.step V.same (operators seqs.now entry) visitor.old visitor.new) }
 {
     walrus_tree::laws::trees_are_nested();
     walrus_tree::laws::text_is_plain();
@@ -100,7 +107,7 @@ fn visit_tree<V: TextVisitor>(
 /// # Errors
 ///
 /// `NoTree` exactly where the sequences that the body's own reaches form no tree in which each label names a sequence around it; then
-/// nothing was told, and the visitor is as it was. Else want of memory alone, which may leave a first part told.
+/// nothing was told, and the visitor is as it was. Else want of memory alone; then a first part was told, and no more.
 pub fn visit_text<V: TextVisitor>(
     alloc: Global,
     visitor: &mut V,
@@ -109,7 +116,7 @@ pub fn visit_text<V: TextVisitor>(
     ensures tree { OnOk result (IsTree (seqs_of body.now) 0) }
     ensures told { OnOk result (FoldsTo V.step visitor.old (operators (seqs_of body.now) 0) visitor.new) }
     ensures refused { IfErr result (IsCause (seqs_of body.now)) }
-    ensures left { IfErr result (IsLeft visitor.old visitor.new) }
+    ensures left { IfErr result (IsLeft V.step V.same (operators (seqs_of body.now) 0) visitor.old visitor.new) }
 {
     let entry = body.func_body_id();
     if !check_tree(alloc, body, entry)? {

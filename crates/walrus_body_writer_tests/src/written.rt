@@ -1,14 +1,15 @@
 //! Bodies as bytes and places.
 
-use crate::plain::Plain;
 use std::alloc::{AllocError, Global};
 use std::process::Abort;
 use std::test::Fail;
-use walrus_arena::{InstrSeqId, TagId, TypeId};
+use walrus_arena::{FunctionId, InstrSeqId, TagId, TypeId};
 use walrus_body_env::BodyError;
 use walrus_body_writer::{Output, body_size, emit_instructions};
 use walrus_builder::FunctionBuilder;
+use walrus_index_maps::IdsToIndices;
 use walrus_instr::{Instr, InstrSeqType, LegacyCatch, TryTableCatch};
+use wasm_formats::Space;
 
 const EMPTY: InstrSeqType = InstrSeqType::Simple(None);
 
@@ -34,6 +35,18 @@ fn body_of(
     Ok(body)
 }
 
+// The first tag has a number, and nothing else has one.
+fn maps(alloc: Global) -> Result<IdsToIndices, AllocError> {
+    let mut maps = IdsToIndices::new(alloc);
+    maps.push_tag(TagId::from_index(0))?;
+    Ok(maps)
+}
+
+fn write(alloc: Global, body: &FunctionBuilder, out: &mut Output) -> Result<(), BodyError> {
+    let maps = maps(alloc)?;
+    emit_instructions(alloc, body, FunctionId::from_index(0), &maps, out)
+}
+
 // Whether the body is written behind a byte as these bytes, is of this size, and has so many places, of which the first is 1.
 fn gives(
     alloc: Global,
@@ -44,7 +57,7 @@ fn gives(
 ) -> Result<bool, BodyError> {
     let mut out = Output::new(alloc, true);
     out.bytes.push(0xff)?;
-    emit_instructions(alloc, body, &Plain, &mut out)?;
+    write(alloc, body, &mut out)?;
     let begins = match out.places.first() {
         Some((_, at)) => *at == 1,
         None => false,
@@ -59,9 +72,24 @@ fn gives(
 
 fn is_no_tree(alloc: Global, body: &FunctionBuilder) -> bool {
     let mut out = Output::new(alloc, false);
-    match emit_instructions(alloc, body, &Plain, &mut out) {
+    match write(alloc, body, &mut out) {
         Err(BodyError::NoTree) => out.bytes.is_empty(),
         _ => false,
+    }
+}
+
+// Whether a function has no number where these bytes were written.
+fn is_unnumbered(alloc: Global, body: &FunctionBuilder, bytes: &[u8]) -> bool {
+    let mut out = Output::new(alloc, false);
+    match write(alloc, body, &mut out) {
+        Err(fault) => {
+            let expected = BodyError::Index {
+                space: Space::Function,
+                offset: None,
+            };
+            fault == expected && out.bytes.as_slice() == bytes
+        }
+        Ok(()) => false,
     }
 }
 
@@ -72,7 +100,7 @@ fn no_instructions(rt: HostRuntime) -> Result<(), Fail> {
     Ok(())
 }
 
-// if (br 1) else (plain; br_if 0) end, plain, end
+// if (br 1) else (drop; br_if 0) end, drop, end
 #[test]
 fn branches_and_arms(rt: HostRuntime) -> Result<(), Fail> {
     let instrs = vec![in rt.alloc();
@@ -90,17 +118,17 @@ fn branches_and_arms(rt: HostRuntime) -> Result<(), Fail> {
     ]?;
     let body = body_of(&rt, rt.alloc(), instrs)?;
     let bytes = [
-        0xff, 0x04, 0x40, 0x0c, 0x01, 0x05, 0x01, 0x0d, 0x00, 0x0b, 0x01, 0x0b,
+        0xff, 0x04, 0x40, 0x0c, 0x01, 0x05, 0x1a, 0x0d, 0x00, 0x0b, 0x1a, 0x0b,
     ];
     assert!(rt; gives(rt.alloc(), &body, 5, 8, &bytes) == Ok(true));
     Ok(())
 }
 
-// try (try delegate 0) catch 3 (rethrow 0) catch_all end, try_table (catch 3 0, catch_all 0) (br 1) end, end
+// try (try delegate 0) catch 0 (rethrow 0) catch_all end, try_table (catch 0 0, catch_all 0) (br 1) end, end
 #[test]
 fn handlers(rt: HostRuntime) -> Result<(), Fail> {
     let alloc = rt.alloc();
-    let tag = TagId::from_index(3);
+    let tag = TagId::from_index(0);
     let parts = vec![in alloc;
         LegacyCatch::Catch {
             tag,
@@ -140,8 +168,8 @@ fn handlers(rt: HostRuntime) -> Result<(), Fail> {
     ]?;
     let body = body_of(&rt, alloc, instrs)?;
     let bytes = [
-        0xff, 0x06, 0x40, 0x06, 0x40, 0x18, 0x00, 0x07, 0x03, 0x09, 0x00, 0x19, 0x0b, 0x1f, 0x40,
-        0x02, 0x00, 0x03, 0x00, 0x02, 0x00, 0x0c, 0x01, 0x0b, 0x0b,
+        0xff, 0x06, 0x40, 0x06, 0x40, 0x18, 0x00, 0x07, 0x00, 0x09, 0x00, 0x19, 0x0b, 0x1f, 0x40,
+        0x02, 0x00, 0x00, 0x00, 0x02, 0x00, 0x0c, 0x01, 0x0b, 0x0b,
     ];
     assert!(rt; gives(alloc, &body, 5, 11, &bytes) == Ok(true));
     Ok(())
@@ -156,5 +184,15 @@ fn refused(rt: HostRuntime) -> Result<(), Fail> {
     let astray = vec![in rt.alloc(); (0, Instr::Br { block: id(1) })]?;
     let other = body_of(&rt, rt.alloc(), astray)?;
     assert!(rt; is_no_tree(rt.alloc(), &other));
+    Ok(())
+}
+
+// drop, a call of a function that has no number.
+#[test]
+fn unnumbered(rt: HostRuntime) -> Result<(), Fail> {
+    let func = FunctionId::from_index(0);
+    let instrs = vec![in rt.alloc(); (0, Instr::Drop), (0, Instr::Call { func })]?;
+    let body = body_of(&rt, rt.alloc(), instrs)?;
+    assert!(rt; is_unnumbered(rt.alloc(), &body, &[0x1a]));
     Ok(())
 }

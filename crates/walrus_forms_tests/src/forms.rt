@@ -55,18 +55,45 @@ fn structures(rt: HostRuntime) -> Result<(), Fail> {
     Ok(())
 }
 
+fn is_of_two_and_one(form: &CompositeType) -> bool {
+    match form.as_function() {
+        Some(ty) => ty.params().len() == 2 && ty.results().len() == 1,
+        None => false,
+    }
+}
+
+fn has_two_fields(form: &CompositeType) -> bool {
+    match form.as_struct() {
+        Some(ty) => ty.fields.len() == 2,
+        None => false,
+    }
+}
+
+fn is_of_bytes(form: &CompositeType) -> bool {
+    match form.as_array() {
+        Some(ty) => ty.field == BYTES,
+        None => false,
+    }
+}
+
 #[test]
-fn copies_keep_their_form(rt: HostRuntime) -> Result<(), Fail> {
-    let copy = CompositeType::Function(function(rt.alloc())?).clone()?;
-    assert_eq!(rt;
-        copy.as_function()
-            .map(|ty| (ty.params().len(), ty.results().len())),
-        Some((2, 1))
-    );
-    let copy = CompositeType::Struct(structure(rt.alloc())?).clone()?;
-    assert_eq!(rt; copy.as_struct().map(|ty| ty.fields.len()), Some(2));
-    let copy = CompositeType::Array(ArrayType { field: BYTES }).clone()?;
-    assert!(rt; copy.as_array().map_or(false, |ty| ty.field == BYTES));
+fn copies_of_functions_keep_their_form(rt: HostRuntime) -> Result<(), Fail> {
+    let form = CompositeType::Function(function(rt.alloc())?);
+    assert!(rt; is_of_two_and_one(&form.clone()?));
+    Ok(())
+}
+
+#[test]
+fn copies_of_structures_keep_their_form(rt: HostRuntime) -> Result<(), Fail> {
+    let form = CompositeType::Struct(structure(rt.alloc())?);
+    assert!(rt; has_two_fields(&form.clone()?));
+    Ok(())
+}
+
+#[test]
+fn copies_of_arrays_keep_their_form(rt: HostRuntime) -> Result<(), Fail> {
+    let form = CompositeType::Array(ArrayType { field: BYTES });
+    assert!(rt; is_of_bytes(&form.clone()?));
     Ok(())
 }
 

@@ -1,6 +1,8 @@
-//! Tests of the forms of types and of their records, each call with ample memory.
+//! Tests of arenas, of the forms of types and of their records, each call with ample memory.
 #![tactic(auto)]
 
+#[cfg(test)]
+mod arenas;
 #[cfg(test)]
 mod conversions;
 #[cfg(test)]

@@ -1,11 +1,10 @@
 -- Nothing lives in a module without items.
 use Rattle.std.proofs.Common.{◌≡◌, ℕ, List, [], length, Option, Some, None, IsSome, slice_index_or, ap, subst, arith}
 use Rattle.std.specs.Option.{option_and_then}
-use Rattle.walrus_types.specs.Items.{Item as TypeItem}
 use Rattle.wasm_formats.specs.declared.fault.Space.{Space}
 use Rattle.wasm_formats.specs.declared.fault.Space.TheVariants as spaces
 use Rattle.walrus_module.specs.Parts.{Module}
-use Rattle.walrus_linked.specs.Items.{LivesIn}
+use Rattle.walrus_module.specs.Items.{LivesIn, written}
 use Rattle.walrus_linked.specs.Linked.{import_in}
 use Rattle.walrus_linked.specs.Empty.{IsEmpty, EmptyIsLinked}
 
@@ -27,9 +26,7 @@ module _ (m : Module) (z : IsEmpty m) where
   none_lives_in spaces.Global id h = none_lives _ (none_at m.globals.slots id z.globals) h
   none_lives_in spaces.Element id h = none_lives _ (none_at m.elements.slots id z.elements) h
   none_lives_in spaces.Data id h = none_lives _ (none_at m.data_segments.slots id z.data_segments) h
-  none_lives_in spaces.Type id h =
-      let F : List (Option TypeItem) → Type 0 = λ ts. LivesIn (record m { types = record m.types { types = ts } }) spaces.Type id in
-      subst F z.types h
+  none_lives_in spaces.Type id h = none_lives _ (ap written (none_at m.types.types id z.types)) h
   none_lives_in spaces.Local id h = let none : length m.locals ≡ 0 = ap length z.locals in absurd (omega (arith, h, none))
   none_lives_in spaces.Label id h = h
 

@@ -7,8 +7,10 @@ use Rattle.walrus_module_items.specs.declared.function.Function.{Function}
 use Rattle.wasm_formats.specs.declared.fault.Space.{Space}
 use Rattle.wasm_formats.specs.declared.fault.Space.TheVariants as spaces
 use Rattle.walrus_module.specs.Parts.{Module}
-use Rattle.walrus_linked.specs.Items.{Item, item, Lives, LivesIn}
-use Rattle.walrus_linked.specs.Names.{names, brought}
+use Rattle.walrus_roots.specs.declared.item.Item.{Item}
+use Rattle.walrus_roots.specs.Items.{item}
+use Rattle.walrus_module.specs.Items.{Lives, LivesIn, brought}
+use Rattle.walrus_linked.specs.Names.{names}
 use Rattle.walrus_linked.specs.Linked.{IsLinked, IsWhole, import_of, import_in}
 
 -- n has this item and this import beside what m has

@@ -7,8 +7,11 @@ use Rattle.walrus_module_items.specs.declared.tag.Tag.{Tag}
 use Rattle.wasm_formats.specs.declared.fault.Space.{Space}
 use Rattle.wasm_formats.specs.declared.fault.Space.TheVariants as spaces
 use Rattle.walrus_module.specs.Parts.{Module}
-use Rattle.walrus_linked.specs.Items.{Item, item, items_of, Lives, LivesIn}
-use Rattle.walrus_linked.specs.Names.{names, brought, named_by, tag_names}
+use Rattle.walrus_roots.specs.declared.item.Item.{Item}
+use Rattle.walrus_roots.specs.Items.{item}
+use Rattle.walrus_marks.specs.Named.{items_of}
+use Rattle.walrus_module.specs.Items.{Lives, LivesIn, brought}
+use Rattle.walrus_linked.specs.Names.{names, named_by, tag_names}
 use Rattle.walrus_linked.specs.Linked.{IsLinked, import_in, tag_import}
 use Rattle.walrus_linked.proofs.SlotLemmas.{pushed_at, pushed_kept, pushed_new, and_then_some, some_of, is_some_at}
 use Rattle.walrus_linked.proofs.ExtendLemmas.{linked}

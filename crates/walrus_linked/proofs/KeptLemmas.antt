@@ -6,8 +6,11 @@ use Rattle.walrus_instr.specs.declared.const_expr.ConstExpr.{ConstExpr}
 use Rattle.walrus_walks.specs.Events.{Event, val_names, ref_names}
 use Rattle.wasm_formats.specs.declared.fault.Space.TheVariants as spaces
 use Rattle.walrus_module.specs.Parts.{Module}
-use Rattle.walrus_linked.specs.Items.{Item, item, items_of, Lives}
-use Rattle.walrus_linked.specs.Names.{brought, table_names, init_names}
+use Rattle.walrus_roots.specs.declared.item.Item.{Item}
+use Rattle.walrus_roots.specs.Items.{item}
+use Rattle.walrus_marks.specs.Named.{items_of}
+use Rattle.walrus_module.specs.Items.{Lives, brought}
+use Rattle.walrus_linked.specs.Names.{table_names, init_names}
 use Rattle.walrus_linked.specs.Linked.{IsLinked}
 use Rattle.walrus_linked.specs.Kept.{ImportsKeepLinked}
 use Rattle.walrus_linked.proofs.ImportedFunction as F

@@ -11,7 +11,10 @@ use Rattle.walrus_module_items.specs.declared.tag.TagKind.TheVariants as tags
 use Rattle.walrus_collections.specs.Added.{Adds, IsImport, IsTable, IsMemory}
 use Rattle.wasm_formats.specs.declared.fault.Space.TheVariants as spaces
 use Rattle.walrus_module.specs.Parts.{Module}
-use Rattle.walrus_linked.specs.Items.{Item, item, items_of, Lives}
+use Rattle.walrus_roots.specs.declared.item.Item.{Item}
+use Rattle.walrus_roots.specs.Items.{item}
+use Rattle.walrus_marks.specs.Named.{items_of}
+use Rattle.walrus_module.specs.Items.{Lives}
 use Rattle.walrus_linked.specs.Linked.{IsLinked}
 
 -- each says of a call what it ensures where it answers ids; the types that the item names live

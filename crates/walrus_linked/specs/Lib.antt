@@ -1,5 +1,4 @@
 pub mod Empty
-pub mod Items
 pub mod Kept
 pub mod Linked
 pub mod Names

@@ -23,8 +23,10 @@ use Rattle.walrus_module_items.specs.declared.tag.TagKind.TheVariants as tags
 use Rattle.wasm_formats.specs.declared.fault.Space.{Space}
 use Rattle.wasm_formats.specs.declared.fault.Space.TheVariants as spaces
 use Rattle.walrus_module.specs.Parts.{Module}
-use Rattle.walrus_linked.specs.Items.{Item, item, Lives}
-use Rattle.walrus_linked.specs.Names.{names, brought, given_out}
+use Rattle.walrus_roots.specs.declared.item.Item.{Item}
+use Rattle.walrus_roots.specs.Items.{item}
+use Rattle.walrus_module.specs.Items.{Lives, brought, given_out}
+use Rattle.walrus_linked.specs.Names.{names}
 
 -- the import that an item says brings it
 abbrev pub function_import : FunctionKind → Option ℕ

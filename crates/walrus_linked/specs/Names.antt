@@ -27,15 +27,12 @@ use Rattle.walrus_module_items.specs.declared.element.ElementKind.{ElementKind}
 use Rattle.walrus_module_items.specs.declared.element.ElementKind.TheVariants as elements
 use Rattle.walrus_module_items.specs.declared.element.ElementItems.{ElementItems}
 use Rattle.walrus_module_items.specs.declared.element.ElementItems.TheVariants as holds
-use Rattle.walrus_module_items.specs.declared.import.ImportKind.{ImportKind}
-use Rattle.walrus_module_items.specs.declared.import.ImportKind.TheVariants as kinds
-use Rattle.walrus_module_items.specs.declared.export.ExportItem.{ExportItem}
-use Rattle.walrus_module_items.specs.declared.export.ExportItem.TheVariants as exported
 use Rattle.walrus_module_items.specs.Functions.{type_of}
 use Rattle.wasm_formats.specs.declared.fault.Space.{Space}
 use Rattle.wasm_formats.specs.declared.fault.Space.TheVariants as spaces
 use Rattle.walrus_module.specs.Parts.{Module}
-use Rattle.walrus_linked.specs.Items.{Item, item, items_of}
+use Rattle.walrus_roots.specs.declared.item.Item.{Item}
+use Rattle.walrus_marks.specs.Named.{items_of}
 
 -- the type of a known local
 abbrev pub local_names : Option Local → List Event
@@ -117,18 +114,3 @@ names_in m spaces.Label id = []
 -- the items that an item names
 abbrev pub names : Module → Item → List Item
 names m x = items_of (names_in m x.space x.id)
-
--- the item that an import brings, and that an export gives out
-abbrev pub brought : ImportKind → Item
-brought (kinds.Function id) = item spaces.Function id
-brought (kinds.Table id) = item spaces.Table id
-brought (kinds.Memory id) = item spaces.Memory id
-brought (kinds.Global id) = item spaces.Global id
-brought (kinds.Tag id) = item spaces.Tag id
-
-abbrev pub given_out : ExportItem → Item
-given_out (exported.Function id) = item spaces.Function id
-given_out (exported.Table id) = item spaces.Table id
-given_out (exported.Memory id) = item spaces.Memory id
-given_out (exported.Global id) = item spaces.Global id
-given_out (exported.Tag id) = item spaces.Tag id

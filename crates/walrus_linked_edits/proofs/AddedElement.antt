@@ -5,7 +5,9 @@ use Rattle.walrus_module_items.specs.declared.element.Element.{Element}
 use Rattle.wasm_formats.specs.declared.fault.Space.{Space}
 use Rattle.wasm_formats.specs.declared.fault.Space.TheVariants as spaces
 use Rattle.walrus_module.specs.Parts.{Module}
-use Rattle.walrus_linked.specs.Items.{Item, items_of, Lives}
+use Rattle.walrus_roots.specs.declared.item.Item.{Item}
+use Rattle.walrus_marks.specs.Named.{items_of}
+use Rattle.walrus_module.specs.Items.{Lives}
 use Rattle.walrus_linked.specs.Names.{named_by, element_names}
 use Rattle.walrus_linked.specs.Linked.{IsLinked}
 use Rattle.walrus_linked_edits.proofs.PushLemmas.{live_kept, named_at, or_new}

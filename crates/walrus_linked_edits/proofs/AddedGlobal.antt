@@ -5,7 +5,9 @@ use Rattle.walrus_module_items.specs.declared.global.Global.{Global}
 use Rattle.wasm_formats.specs.declared.fault.Space.{Space}
 use Rattle.wasm_formats.specs.declared.fault.Space.TheVariants as spaces
 use Rattle.walrus_module.specs.Parts.{Module}
-use Rattle.walrus_linked.specs.Items.{Item, items_of, Lives}
+use Rattle.walrus_roots.specs.declared.item.Item.{Item}
+use Rattle.walrus_marks.specs.Named.{items_of}
+use Rattle.walrus_module.specs.Items.{Lives}
 use Rattle.walrus_linked.specs.Names.{named_by, global_names}
 use Rattle.walrus_linked.specs.Linked.{IsLinked, global_import}
 use Rattle.walrus_linked_edits.proofs.PushLemmas.{says_kept, says_at, live_kept, named_at, or_new}

@@ -7,8 +7,10 @@ use Rattle.walrus_module_items.specs.declared.function.Function.{Function}
 use Rattle.wasm_formats.specs.declared.fault.Space.{Space}
 use Rattle.wasm_formats.specs.declared.fault.Space.TheVariants as spaces
 use Rattle.walrus_module.specs.Parts.{Module}
-use Rattle.walrus_linked.specs.Items.{Item, item, Lives, LivesIn}
-use Rattle.walrus_linked.specs.Names.{names, brought, given_out}
+use Rattle.walrus_roots.specs.declared.item.Item.{Item}
+use Rattle.walrus_roots.specs.Items.{item}
+use Rattle.walrus_module.specs.Items.{Lives, LivesIn, brought, given_out}
+use Rattle.walrus_linked.specs.Names.{names}
 use Rattle.walrus_linked.specs.Linked.{IsLinked, IsWhole, import_in}
 
 -- in this space items live on and say the same of imports; what they name they named, or it lives

@@ -12,8 +12,11 @@ use Rattle.walrus_module_items.specs.declared.function.Function.{Function}
 use Rattle.wasm_formats.specs.declared.fault.Space.{Space}
 use Rattle.wasm_formats.specs.declared.fault.Space.TheVariants as spaces
 use Rattle.walrus_module.specs.Parts.{Module}
-use Rattle.walrus_linked.specs.Items.{Item, item, items_of, Lives, LivesIn}
-use Rattle.walrus_linked.specs.Names.{names, named_by, function_names, brought, given_out}
+use Rattle.walrus_roots.specs.declared.item.Item.{Item}
+use Rattle.walrus_roots.specs.Items.{item}
+use Rattle.walrus_marks.specs.Named.{items_of}
+use Rattle.walrus_module.specs.Items.{Lives, LivesIn, brought, given_out}
+use Rattle.walrus_linked.specs.Names.{names, named_by, function_names}
 use Rattle.walrus_linked.specs.Linked.{IsLinked, IsWhole, import_of, import_in, function_import}
 use Rattle.walrus_linked.proofs.SlotLemmas.{some_of, is_some_at}
 

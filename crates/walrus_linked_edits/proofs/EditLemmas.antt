@@ -10,8 +10,11 @@ use Rattle.walrus_module_items.specs.declared.function.FunctionKind.TheVariants 
 use Rattle.walrus_items.specs.declared.local.Local.{Local}
 use Rattle.wasm_formats.specs.declared.fault.Space.TheVariants as spaces
 use Rattle.walrus_module.specs.Parts.{Module}
-use Rattle.walrus_linked.specs.Items.{Item, item, items_of, Lives}
-use Rattle.walrus_linked.specs.Names.{table_names, init_names, function_names, body_names, data_kind_names, element_names, given_out}
+use Rattle.walrus_roots.specs.declared.item.Item.{Item}
+use Rattle.walrus_roots.specs.Items.{item}
+use Rattle.walrus_marks.specs.Named.{items_of}
+use Rattle.walrus_module.specs.Items.{Lives, given_out}
+use Rattle.walrus_linked.specs.Names.{table_names, init_names, function_names, body_names, data_kind_names, element_names}
 use Rattle.walrus_linked.specs.Linked.{IsLinked, IsWhole, function_import}
 use Rattle.walrus_linked_edits.specs.Edits.{AreLive, AddsKeepLinked, DeletedExportsKeepLinked}
 use Rattle.walrus_linked_edits.proofs.AddedFunction as F

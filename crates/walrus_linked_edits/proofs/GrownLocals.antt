@@ -12,7 +12,10 @@ use Rattle.walrus_module_items.specs.Functions.{type_of}
 use Rattle.wasm_formats.specs.declared.fault.Space.{Space}
 use Rattle.wasm_formats.specs.declared.fault.Space.TheVariants as spaces
 use Rattle.walrus_module.specs.Parts.{Module}
-use Rattle.walrus_linked.specs.Items.{Item, item, items_of, event_items, Lives}
+use Rattle.walrus_roots.specs.declared.item.Item.{Item}
+use Rattle.walrus_roots.specs.Items.{item}
+use Rattle.walrus_marks.specs.Named.{items_of, event_items}
+use Rattle.walrus_module.specs.Items.{Lives}
 use Rattle.walrus_linked.specs.Names.{local_names, used_types, body_events, body_names, function_names, named_by}
 use Rattle.walrus_linked.specs.Linked.{IsLinked}
 use Rattle.walrus_linked.proofs.SlotLemmas.{some_of, is_some_at}

@@ -1,6 +1,6 @@
 -- More types: what was linked stays so.
-use Rattle.std.proofs.Common.{◌≡◌, ◌∙◌, ◌⊎◌, ℕ, Bool, true, false, ◌&&◌, List, length, map, Option, Some, None, Contains, slice_index_or, if◌then◌else◌, refl, sym, ap, subst, inl, inr}
-use Rattle.std.specs.Option.{MatchOption, IfSome}
+use Rattle.std.proofs.Common.{◌≡◌, ◌∙◌, ◌⊎◌, ℕ, Bool, true, false, ◌&&◌, List, length, map, Option, Some, None, IsSome, Contains, slice_index_or, if◌then◌else◌, refl, sym, ap, subst, inl, inr}
+use Rattle.std.specs.Option.{IfSome}
 use Rattle.std.proofs.lemmas.Option.{MatchOption-at_none, MatchOption-at_some}
 use Rattle.walrus_arena.specs.Arena.{item_at}
 use Rattle.walrus_walks.specs.Events.{NamesType}
@@ -20,7 +20,9 @@ use Rattle.walrus_module_items.specs.Functions.{type_of}
 use Rattle.wasm_formats.specs.declared.fault.Space.{Space}
 use Rattle.wasm_formats.specs.declared.fault.Space.TheVariants as spaces
 use Rattle.walrus_module.specs.Parts.{Module}
-use Rattle.walrus_linked.specs.Items.{item, items_of, Lives, LivesIn}
+use Rattle.walrus_roots.specs.Items.{item}
+use Rattle.walrus_marks.specs.Named.{items_of}
+use Rattle.walrus_module.specs.Items.{Lives, LivesIn, written}
 use Rattle.walrus_linked.specs.Names.{names, named_by, function_names, body_names, type_names}
 use Rattle.walrus_linked.specs.Linked.{IsLinked, IsWhole, HasArguments}
 use Rattle.walrus_linked.proofs.SlotLemmas.{at_push, at_kept, at_new, is_some_at}
@@ -29,14 +31,21 @@ use Rattle.walrus_linked_edits.proofs.ChangeLemmas.{InSpace, after_change}
 
 -- a type that is an item: live, and no entry type
 abbrev IsItem : Option TypeItem → Type 0
-IsItem o = MatchOption o ⊥ (λ ty. ty.kind.entry ≡ false)
+IsItem o = IsSome (written o)
 
 pub type_of_item : (o : Option TypeItem) → IsItem o → (ty : TypeItem) × (o ≡ Some ty) × (ty.kind.entry ≡ false)
-type_of_item None h = absurd h
-type_of_item (Some ty) h = (ty, refl, h)
+type_of_item None h = absurd cc
+type_of_item (Some ty) h = (ty, refl, by_entry ty.kind.entry refl h)
+  where
+    by_entry : (b : Bool) → ty.kind.entry ≡ b → IsSome (if b then None else Some ty) → ty.kind.entry ≡ false
+    by_entry true e h = absurd cc
+    by_entry false e h = e
 
 pub item_of_type : (o : Option TypeItem) (ty : TypeItem) → o ≡ Some ty → ty.kind.entry ≡ false → IsItem o
-item_of_type o ty e plain = let F : Option TypeItem → Type 0 = λ v. IsItem v in subst F (sym e) plain
+item_of_type o ty e plain =
+    let F : Option TypeItem → Type 0 = λ v. IsItem v in
+    let G : Bool → Type 0 = λ b. IsSome (if b then None else Some ty) in
+    subst F (sym e) (subst G (sym plain) refl)
 
 -- the old types are there, and each other one has this kind
 pub record Grows (kind : Kind) (old new : Table) : Type 0 where

@@ -21,7 +21,10 @@ use Rattle.walrus_module_items.specs.Functions.{local_of, type_of}
 use Rattle.wasm_formats.specs.declared.fault.Space.TheVariants as spaces
 use Rattle.walrus_module.specs.Parts.{Module}
 use Rattle.walrus_module.specs.Replaced.{IsExportReplaced, params_at, results_at, type_params}
-use Rattle.walrus_linked.specs.Items.{Item, item, items_of, Lives, LivesIn}
+use Rattle.walrus_roots.specs.declared.item.Item.{Item}
+use Rattle.walrus_roots.specs.Items.{item}
+use Rattle.walrus_marks.specs.Named.{items_of}
+use Rattle.walrus_module.specs.Items.{Lives, LivesIn}
 use Rattle.walrus_linked.specs.Names.{body_names, function_names}
 use Rattle.walrus_linked.specs.Linked.{IsLinked, IsWhole, HasArguments, function_import}
 use Rattle.walrus_linked.proofs.SlotLemmas.{and_then_some, pushed_new, is_some_at}

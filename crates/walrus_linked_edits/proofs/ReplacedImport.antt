@@ -28,7 +28,7 @@ use Rattle.walrus_collections.specs.Tests.{imports, same_kind}
 use Rattle.wasm_formats.specs.declared.fault.Space.TheVariants as spaces
 use Rattle.walrus_module.specs.Parts.{Module}
 use Rattle.walrus_module.specs.Replaced.{IsImportReplaced, import_of, arguments, params_at, results_at}
-use Rattle.walrus_linked.specs.Items.{LivesIn}
+use Rattle.walrus_module.specs.Items.{LivesIn}
 use Rattle.walrus_linked.specs.Linked.{IsLinked, IsWhole}
 use Rattle.walrus_linked_edits.specs.Edits.{CanStand}
 use Rattle.walrus_linked_edits.proofs.GrownLocals as L

@@ -11,7 +11,10 @@ use Rattle.walrus_types.specs.Table.{Table, type_at}
 use Rattle.wasm_formats.specs.declared.fault.Space.TheVariants as spaces
 use Rattle.walrus_module.specs.Parts.{Module}
 use Rattle.walrus_module.specs.Replaced.{params_at, results_at, type_params, type_results}
-use Rattle.walrus_linked.specs.Items.{Item, item, items_of, Lives, LivesIn}
+use Rattle.walrus_roots.specs.declared.item.Item.{Item}
+use Rattle.walrus_roots.specs.Items.{item}
+use Rattle.walrus_marks.specs.Named.{items_of}
+use Rattle.walrus_module.specs.Items.{Lives, LivesIn}
 use Rattle.walrus_linked.specs.Names.{named_by, type_names}
 use Rattle.walrus_linked.specs.Linked.{IsLinked}
 use Rattle.walrus_linked_edits.proofs.NameLemmas.{named_type}

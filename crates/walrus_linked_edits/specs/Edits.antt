@@ -25,8 +25,11 @@ use Rattle.walrus_collections.specs.Added.{Adds, IsExport, IsLocal, IsTable, IsM
 use Rattle.wasm_formats.specs.declared.fault.Space.TheVariants as spaces
 use Rattle.walrus_module.specs.Parts.{Module}
 use Rattle.walrus_module.specs.Replaced.{IsExportReplaced, IsImportReplaced}
-use Rattle.walrus_linked.specs.Items.{Item, item, items_of, Lives}
-use Rattle.walrus_linked.specs.Names.{init_names, body_names, data_kind_names, element_names, given_out}
+use Rattle.walrus_roots.specs.declared.item.Item.{Item}
+use Rattle.walrus_roots.specs.Items.{item}
+use Rattle.walrus_marks.specs.Named.{items_of}
+use Rattle.walrus_module.specs.Items.{Lives, given_out}
+use Rattle.walrus_linked.specs.Names.{init_names, body_names, data_kind_names, element_names}
 use Rattle.walrus_linked.specs.Linked.{IsLinked, IsWhole}
 
 -- what these events name lives

@@ -1,6 +1,7 @@
 //! Putting a function in the place of an exported or an imported one.
-ghost use Rattle.std.specs.Prelude.{◌≡◌, ◌↔◌, IsTrue, Err, None, IsSome, IfSome, IfOk, IfErr, OnErr};
+ghost use Rattle.std.specs.Prelude.{◌≡◌, ◌↔◌, IsTrue, Err, None, Some, IsSome, IfSome, IfOk, IfErr, OnErr};
 ghost use Rattle.walrus_arena.specs.Arena.{IsLive, item_at, with_item};
+ghost use Rattle.walrus_module_items.specs.declared.export.Export.{Export};
 ghost use Rattle.walrus_module_items.specs.declared.function.FunctionKind.TheVariants as functions;
 ghost use Rattle.walrus_errors.specs.declared.error.ModuleError.TheVariants.{NotFound, WrongKind, Memory};
 ghost use Rattle.walrus_module.specs.Parts.{parts};
@@ -9,9 +10,9 @@ ghost use Rattle.walrus_module.specs.Replaced.{IsTyped, export_of, import_of, bo
 use crate::build::{add_arguments_of, build_like};
 use crate::module::Module;
 use std::alloc::AllocError;
-use walrus_arena::{FunctionId, LocalId};
+use walrus_arena::{ExportId, FunctionId, LocalId};
 use walrus_builder::InstrSeqBuilder;
-use walrus_collections::{ExportOf, ImportOf, ModuleFunctions};
+use walrus_collections::{ExportOf, ImportOf, ModuleExports, ModuleFunctions};
 use walrus_errors::{ModuleError, Result};
 use walrus_local_function::LocalFunction;
 use walrus_module_items::{ExportItem, FunctionKind, ImportKind};
@@ -22,6 +23,14 @@ fn give_body(funcs: &mut ModuleFunctions, function: FunctionId, local: LocalFunc
     ensures { IfSome (item_at funcs.old function) (λ item. funcs.new ≡ with_item funcs.old function (record item { kind = functions.Local local })) }
 {
     funcs.get_mut(function).kind = FunctionKind::Local(local);
+}
+
+// Lets a live export give out this.
+fn give_export(exports: &mut ModuleExports, export: ExportId, item: ExportItem)
+    requires { IsLive exports.old export }
+    ensures { (e : Export) × (item_at exports.old export ≡ Some e) × (exports.new ≡ with_item exports.old export (record e { item = item })) }
+{
+    exports.get_mut(export).item = item;
 }
 
 impl Module {
@@ -72,7 +81,7 @@ impl Module {
         let ty = old.ty();
         let local = build_like(self.alloc, &mut self.types, ty, args, build)?;
         let new = self.funcs.add_local(local)?;
-        self.exports.get_mut(export).item = ExportItem::Function(new);
+        give_export(&mut self.exports, export, ExportItem::Function(new));
         Ok(new)
     }
 

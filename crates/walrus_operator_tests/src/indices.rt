@@ -1,6 +1,7 @@
 //! Operators without immediates, and those with one index or two numbers, each of which is 0, 127, 128 and the largest. The rows
 //! are ranges of codes: behind a prefix, or of one byte where the prefix is 0.
 
+use crate::codes::PLAIN;
 use crate::view::{Seen, holds, text};
 use std::alloc::Global;
 
@@ -53,36 +54,10 @@ fn holds_two(alloc: Global, prefix: u8, number: u32, form: &'static str) -> bool
 
 #[test]
 fn operators_without_immediates(rt: HostRuntime) {
-    let rows: [(u8, u32, u32); 27] = [
-        (0, 0x00, 0x01),
-        (0, 0x05, 0x05),
-        (0, 0x0a, 0x0b),
-        (0, 0x0f, 0x0f),
-        (0, 0x19, 0x1b),
-        (0, 0x45, 0xc4),
-        (0, 0xd1, 0xd1),
-        (0, 0xd3, 0xd4),
-        (0xfb, 15, 15),
-        (0xfb, 26, 30),
-        (0xfc, 0, 7),
-        (0xfc, 19, 22),
-        (0xfd, 14, 20),
-        (0xfd, 35, 83),
-        (0xfd, 94, 153),
-        (0xfd, 155, 161),
-        (0xfd, 163, 164),
-        (0xfd, 167, 174),
-        (0xfd, 177, 177),
-        (0xfd, 181, 186),
-        (0xfd, 188, 193),
-        (0xfd, 195, 196),
-        (0xfd, 199, 206),
-        (0xfd, 209, 209),
-        (0xfd, 213, 225),
-        (0xfd, 227, 237),
-        (0xfd, 239, 275),
-    ];
-    for (prefix, first, last) in rows {
+    for number in [0x01, 0x05, 0x0b, 0x19] {
+        assert!(rt; holds_bare(rt.alloc(), 0, number));
+    }
+    for (prefix, first, last) in PLAIN {
         for number in first..=last {
             assert!(rt; holds_bare(rt.alloc(), prefix, number));
         }

@@ -7,4 +7,6 @@ mod number;
 mod operator;
 mod types;
 
+pub use number::write_unsigned;
 pub use operator::write_operator;
+pub use types::write_value_type;

@@ -25,9 +25,14 @@ pub(crate) fn write_bytes(out: &mut Vec<u8>, bytes: &[u8]) -> Result<(), AllocEr
     Ok(())
 }
 
+/// Puts an unsigned number behind the bytes, in its shortest spelling.
+///
+/// # Errors
+///
+/// Want of memory. What was there stands at the front.
 #[inline]
 #[tactic(auto, using(crate::proofs::Keeps::keeps_on))]
-pub(crate) fn write_unsigned(out: &mut Vec<u8>, n: u64) -> Result<(), AllocError>
+pub fn write_unsigned(out: &mut Vec<u8>, n: u64) -> Result<(), AllocError>
     ensures { Appends (unsigned_bytes n) out.old.items out.new.items result }
 {
     let mut rest = n;

@@ -69,7 +69,12 @@ fn write_long(out: &mut Vec<u8>, first: u8, heap_type: HeapType) -> Result<(), A
     write_heap_type(out, heap_type)
 }
 
-pub(crate) fn write_value_type(out: &mut Vec<u8>, ty: ValType) -> Result<(), AllocError>
+/// Puts a value type behind the bytes, in its shortest spelling.
+///
+/// # Errors
+///
+/// Want of memory. What was there stands at the front.
+pub fn write_value_type(out: &mut Vec<u8>, ty: ValType) -> Result<(), AllocError>
     ensures { Appends (value_bytes ty) out.old.items out.new.items result }
 {
     let code = match ty {

@@ -1,6 +1,5 @@
 -- Kept: what a finite chain of references reaches from a root; and the first memory, where data is kept and no memory is.
-use Rattle.std.specs.Prelude.{◌≡◌, ◌⊎◌, ℕ, ◌<◌, Bool, true, List, Some, IsSome}
-use Rattle.wasm_formats.specs.declared.fault.Space.{Space}
+use Rattle.std.specs.Prelude.{◌≡◌, ◌⊎◌, ℕ, ◌<◌, Bool, true, List}
 use Rattle.wasm_formats.specs.declared.fault.Space.TheVariants as spaces
 use Rattle.walrus_arena.specs.Arena.{IsLive}
 use Rattle.walrus_module.specs.Parts.{Module}

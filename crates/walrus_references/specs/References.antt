@@ -1,5 +1,5 @@
 -- References: what each item of a module names, a line a kind of item in `Refers`.
-use Rattle.std.specs.Prelude.{◌≡◌, ◌⊎◌, ℕ, nat_eq, true, false, Bool, List, [], ◌∷◌, ◌++◌, map, Option, Some, None, MatchOption, Contains, slice_get, if◌then◌else◌}
+use Rattle.std.specs.Prelude.{◌≡◌, ◌⊎◌, ℕ, nat_eq, true, List, [], ◌∷◌, ◌++◌, map, Option, Some, None, MatchOption, Contains, slice_get, if◌then◌else◌}
 use Rattle.std.specs.HashSet.{keys}
 use Rattle.std.specs.List.{flat_map}
 use Rattle.wasm_formats.specs.declared.fault.Space.{Space}
@@ -8,7 +8,7 @@ use Rattle.walrus_arena.specs.Arena.{item_at, IsLive}
 use Rattle.walrus_forms.specs.Kinds.{kind_names}
 use Rattle.walrus_items.specs.Items.{Item as TypeItem, Group}
 use Rattle.walrus_items.specs.declared.local.Local.{Local}
-use Rattle.walrus_types.specs.Table.{Table as TypeTable, type_at, HasMember}
+use Rattle.walrus_types.specs.Table.{Table as TypeTable, HasMember}
 use Rattle.walrus_instr.specs.declared.instr.Instr.{Instr}
 use Rattle.walrus_instr.specs.declared.const_expr.ConstExpr.{ConstExpr}
 use Rattle.walrus_instr.specs.declared.seq.InstrLocId.{InstrLocId}
@@ -26,7 +26,6 @@ use Rattle.walrus_module_items.specs.declared.global.Global.{Global}
 use Rattle.walrus_module_items.specs.declared.global.GlobalKind.{GlobalKind}
 use Rattle.walrus_module_items.specs.declared.global.GlobalKind.TheVariants as globals
 use Rattle.walrus_module_items.specs.declared.tag.Tag.{Tag}
-use Rattle.walrus_module_items.specs.declared.data.Data.{Data}
 use Rattle.walrus_module_items.specs.declared.data.DataKind.{DataKind}
 use Rattle.walrus_module_items.specs.declared.data.DataKind.TheVariants as datas
 use Rattle.walrus_module_items.specs.declared.element.Element.{Element}
@@ -36,6 +35,7 @@ use Rattle.walrus_module_items.specs.declared.element.ElementItems.{ElementItems
 use Rattle.walrus_module_items.specs.declared.element.ElementItems.TheVariants as holds
 use Rattle.walrus_module_items.specs.Functions.{type_of}
 use Rattle.walrus_module.specs.Parts.{Module}
+use Rattle.walrus_module.specs.Items.{written_type}
 use Rattle.walrus_roots.specs.declared.item.Item.{Item}
 use Rattle.walrus_roots.specs.Items.{item}
 use Rattle.walrus_marks.specs.Chains.{Chain}
@@ -125,14 +125,6 @@ HasData m x memory y = (d : ℕ) × (y ≡ item spaces.Data d)
     × (MatchOption (item_at m.data_segments d) ⊥ (λ segment. IsCopiedInto x segment.kind) ⊎ (Contains (keys memory.data_segments) d × IsLive m.data_segments d))
 
 -- ---- types
--- a type that is no entry type: entry types stand for bodies' own blocks and are no items
-abbrev pub written : Option TypeItem → Option TypeItem
-written (Some ty) = if ty.kind.entry then None else Some ty
-written None = None
-
-abbrev pub written_type : TypeTable → ℕ → Option TypeItem
-written_type t id = written (type_at t id)
-
 -- the other is a member of the type's explicit group
 abbrev pub IsInGroup : TypeTable → ℕ → Item → Type 0
 IsInGroup t id y = (group : Group) × HasMember t id group × (group.explicit ≡ true) × Contains (map (item spaces.Type) group.types) y

@@ -1,8 +1,8 @@
--- Why a module is refused for what is reached in it: the conditions, an item at a time.
-use Rattle.std.specs.Prelude.{◌≡◌, ◌⊎◌, ℕ, ◌<◌, false, length, List, Option, Some, None, IsSome, MatchOption}
+-- Why a module is refused for what is reached in it: the conditions, an item at a time, beside that the item lives.
+use Rattle.std.specs.Prelude.{ℕ, MatchOption}
 use Rattle.wasm_formats.specs.declared.fault.Space.{Space}
 use Rattle.wasm_formats.specs.declared.fault.Space.TheVariants as spaces
-use Rattle.walrus_arena.specs.Arena.{item_at, IsLive}
+use Rattle.walrus_arena.specs.Arena.{item_at}
 use Rattle.walrus_builder.specs.Functions.{seqs_of}
 use Rattle.walrus_tree.specs.Trees.{IsTree}
 use Rattle.walrus_module_items.specs.declared.function.Function.{Function}
@@ -10,24 +10,6 @@ use Rattle.walrus_module_items.specs.declared.function.FunctionKind.{FunctionKin
 use Rattle.walrus_module_items.specs.declared.function.FunctionKind.TheVariants as functions
 use Rattle.walrus_module.specs.Parts.{Module}
 use Rattle.walrus_roots.specs.declared.item.Item.{Item}
-use Rattle.walrus_references.specs.References.{written_type}
-
--- in each space, which ids have a live item: types but entry types, and every known local
-abbrev pub LivesIn : Module → Space → ℕ → Type 0
-LivesIn m spaces.Type id = IsSome (written_type m.types id)
-LivesIn m spaces.Function id = IsLive m.funcs id
-LivesIn m spaces.Table id = IsLive m.tables id
-LivesIn m spaces.Memory id = IsLive m.memories id
-LivesIn m spaces.Tag id = IsLive m.tags id
-LivesIn m spaces.Global id = IsLive m.globals id
-LivesIn m spaces.Element id = IsLive m.elements id
-LivesIn m spaces.Data id = IsLive m.data_segments id
-LivesIn m spaces.Local id = id < length m.locals
-LivesIn m spaces.Label id = ⊥
-
--- the item lives
-abbrev pub Lives : Module → Item → Type 0
-Lives m x = LivesIn m x.space x.id
 
 -- the sequences of a body form a tree, in which each label names a sequence around it
 abbrev pub HasTree : FunctionKind → Type 0

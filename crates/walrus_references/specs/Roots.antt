@@ -9,19 +9,10 @@ use Rattle.walrus_module_items.specs.declared.data.DataKind.TheVariants as datas
 use Rattle.walrus_module_items.specs.declared.element.Element.{Element}
 use Rattle.walrus_module_items.specs.declared.element.ElementKind.TheVariants as elements
 use Rattle.walrus_module_items.specs.declared.export.Export.{Export}
-use Rattle.walrus_module_items.specs.declared.export.ExportItem.{ExportItem}
-use Rattle.walrus_module_items.specs.declared.export.ExportItem.TheVariants as exported
 use Rattle.walrus_module.specs.Parts.{Module}
+use Rattle.walrus_module.specs.Items.{given_out}
 use Rattle.walrus_roots.specs.declared.item.Item.{Item}
 use Rattle.walrus_roots.specs.Items.{item}
-
--- the item that an export gives out
-abbrev pub given_out : ExportItem → Item
-given_out (exported.Function id) = item spaces.Function id
-given_out (exported.Table id) = item spaces.Table id
-given_out (exported.Memory id) = item spaces.Memory id
-given_out (exported.Global id) = item spaces.Global id
-given_out (exported.Tag id) = item spaces.Tag id
 
 -- what exports give out; the start function; active data segments; active element segments of imported tables; declared
 -- element segments; and what custom sections push

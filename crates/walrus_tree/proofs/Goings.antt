@@ -1,9 +1,9 @@
 -- One step of the test: what it still enters is a part of a tree just where that was so before.
-use Rattle.std.proofs.Common.{Bool, ℕ, zero, suc, replicate, ◌+◌, ◌-◌, ◌<◌, ◌≤◌, ◌≡◌, ◌↔◌, true, false, List, [], ◌∷◌, ◌++◌, length, Some, refl, sym, ap, subst, arith, ◌∙◌, append_assoc, length-append, inl, true≢false}
+use Rattle.std.proofs.Common.{Bool, ℕ, zero, suc, replicate, ◌+◌, ◌-◌, ◌<◌, ◌≤◌, ◌≡◌, ◌↔◌, true, false, List, [], ◌∷◌, ◌++◌, length, get_or, Some, refl, sym, ap, subst, arith, ◌∙◌, append_assoc, length-append, inl, true≢false}
 use Rattle.std.specs.Prelude.{slice_get, slice_set}
 use Rattle.std.specs.Bool.{OnTrue}
 use Rattle.std.proofs.lemmas.List.{append-nil}
-use Rattle.std.proofs.lemmas.Option.{slice_get_within, same_Some}
+use Rattle.std.proofs.lemmas.Option.{slice_get_read, slice_get_within, same_Some}
 use Rattle.walrus_instr.specs.declared.instr.Instr.{Instr}
 use Rattle.walrus_instr.specs.declared.seq.InstrLocId.{InstrLocId}
 use Rattle.walrus_instr.specs.declared.seq.InstrSeq.{InstrSeq}
@@ -16,7 +16,7 @@ use Rattle.walrus_tree.specs.Trees.{Has, AreDistinct, AreWithin, Trees, Nothing,
 use Rattle.walrus_tree.specs.Testing.{mark_at, all_within, entering, opened, Left, AllFresh, Goes, Marked, work}
 use Rattle.walrus_tree.proofs.Entering.{opened_append, opened_entering, opened_most, entering_length}
 use Rattle.walrus_tree.proofs.Labels.{all_within_right, right_all_within}
-use Rattle.walrus_tree.proofs.Marking.{has_middle, fresh_at, fresh_out, fresh_in, fresh_left, left_fresh, marked_enter, marked_leave, mark_known, work_enter}
+use Rattle.walrus_tree.proofs.Marking.{has_middle, fresh_at, fresh_out, fresh_in, fresh_left, left_fresh, marked_enter, marked_leave, mark_known, mark_read, work_enter}
 use Rattle.walrus_tree.proofs.Lefts.{left_split, left_join, left_stands, stands_left}
 
 -- what holds of a test that was passed
@@ -157,43 +157,63 @@ exit_deep ms depth fs k h =
     let n = h.counted in
     omega (arith, e, n)
 
--- ---- what the code has at hand: the sequence was marked at j, and `is` are its instructions
-module _ (b : List InstrSeq) (ms : List Mark) (fs : List Step) (k : ℕ) (s : InstrSeq) (depth : ℕ) (around : Marked ms depth (opened [] fs)) (found : slice_get b k ≡ Some s) (l : k < length ms) (fresh : mark_at ms k ≡ Fresh)
-    (j : ℕ) (at : j ≡ k) (is : List (Instr × InstrLocId)) (items : is ≡ s.instrs.items) where
+-- ---- what the code has at hand
+-- the sequence k was found, as the one that the code looked up at j: it is known, it was never entered, and `is` are its instructions
+pub record Met (b : List InstrSeq) (ms : List Mark) (k j : ℕ) (s : InstrSeq) (is : List (Instr × InstrLocId)) : Type 0 where
+  pub found : slice_get b k ≡ Some s
+  pub known : k < length ms
+  pub fresh : mark_at ms k ≡ Fresh
+  pub at : j ≡ k
+  pub items : is ≡ s.instrs.items
+
+pub met_of : (b : List InstrSeq) (ms : List Mark) (k j : ℕ) (d : Mark) (s : InstrSeq) (is : List (Instr × InstrLocId))
+    → length ms ≡ length b → k < length b → j ≡ k → get_or ms j d ≡ Fresh → s ≡ get_or b j s → is ≡ (get_or b j s).instrs.items → Met b ms k j s is
+met_of b ms k j d s is sized l at mark read items =
+    let G : ℕ → Type 0 = λ i. s ≡ get_or b i s in
+    let known : k < length ms = omega (arith, sized) in
+    record {
+      found = slice_get_read b (length b) k s refl l (subst G at read);
+      known = known;
+      fresh = mark_read ms k j d Fresh at known mark;
+      at = at;
+      items = items ∙ ap (λ (t : InstrSeq). t.instrs.items) (sym read);
+    }
+
+module _ (b : List InstrSeq) (ms : List Mark) (fs : List Step) (k : ℕ) (s : InstrSeq) (depth : ℕ) (around : Marked ms depth (opened [] fs)) (j : ℕ) (is : List (Instr × InstrLocId)) (met : Met b ms k j s is) where
   marked_now : Marked (slice_set ms k Open) (depth + 1) (k ∷ opened [] fs)
-  marked_now = marked_enter ms k l depth (opened [] fs) fresh around
+  marked_now = marked_enter ms k met.known depth (opened [] fs) met.fresh around
 
   labels_now : all_within (slice_set ms j Open) (depth + 1) is ≡ all_within (slice_set ms k Open) (depth + 1) s.instrs.items
-  labels_now = ap (λ (i : ℕ). all_within (slice_set ms i Open) (depth + 1) is) at ∙ ap (all_within (slice_set ms k Open) (depth + 1)) items
+  labels_now = ap (λ (i : ℕ). all_within (slice_set ms i Open) (depth + 1) is) met.at ∙ ap (all_within (slice_set ms k Open) (depth + 1)) met.items
 
   pushed_now : (g hs : List Step) → g ≡ fs ++ Leave k ∷ [] → hs ≡ g ++ entering (children_in is) → hs ≡ fs ++ Leave k ∷ entering (children_in s.instrs.items)
   pushed_now g hs p q = q ∙ ap (λ (z : List Step). z ++ entering (children_in is)) p ∙ append_assoc fs (Leave k ∷ []) (entering (children_in is))
-      ∙ ap (λ (ns : List (Instr × InstrLocId)). fs ++ Leave k ∷ entering (children_in ns)) items
+      ∙ ap (λ (ns : List (Instr × InstrLocId)). fs ++ Leave k ∷ entering (children_in ns)) met.items
 
   -- a label is wrong
   pub wrong_label : false ≡ all_within (slice_set ms j Open) (depth + 1) is → Goes b ms (fs ++ Enter k ∷ []) → ⊥
-  wrong_label h = goes_astray b ms fs k s found (λ w. true≢false (sym (right_all_within (slice_set ms k Open) (depth + 1) (k ∷ opened [] fs) marked_now s.instrs.items w) ∙ sym labels_now ∙ sym h))
+  wrong_label h = goes_astray b ms fs k s met.found (λ w. true≢false (sym (right_all_within (slice_set ms k Open) (depth + 1) (k ∷ opened [] fs) marked_now s.instrs.items w) ∙ sym labels_now ∙ sym h))
 
   -- they are right
   pub right_labels : true ≡ all_within (slice_set ms j Open) (depth + 1) is → (g hs : List Step) → g ≡ fs ++ Leave k ∷ [] → hs ≡ g ++ entering (children_in is) → Goes b ms (fs ++ Enter k ∷ []) ↔ Goes b (slice_set ms j Open) hs
   right_labels h g hs p q =
       let F : ℕ → Type 0 = λ i. Goes b ms (fs ++ Enter k ∷ []) ↔ Goes b (slice_set ms i Open) hs in
       let within = all_within_right (slice_set ms k Open) (depth + 1) (k ∷ opened [] fs) marked_now s.instrs.items (sym labels_now ∙ sym h) in
-      subst F (sym at) (goes_enter b ms fs k s found l fresh within hs (pushed_now g hs p q))
+      subst F (sym met.at) (goes_enter b ms fs k s met.found met.known met.fresh within hs (pushed_now g hs p q))
 
   pub marked_inside : (g hs : List Step) → g ≡ fs ++ Leave k ∷ [] → hs ≡ g ++ entering (children_in is) → Marked (slice_set ms j Open) (depth + 1) (opened [] hs)
   marked_inside g hs p q =
       let F : List ℕ → Type 0 = Marked (slice_set ms k Open) (depth + 1) in
       let G : ℕ → Type 0 = λ i. Marked (slice_set ms i Open) (depth + 1) (opened [] hs) in
-      subst G (sym at) (subst F (sym (ap (opened []) (pushed_now g hs p q) ∙ around_inside fs k (children_in s.instrs.items))) marked_now)
+      subst G (sym met.at) (subst F (sym (ap (opened []) (pushed_now g hs p q) ∙ around_inside fs k (children_in s.instrs.items))) marked_now)
 
   pub enters_less : (g hs : List Step) → g ≡ fs ++ Leave k ∷ [] → hs ≡ g ++ entering (children_in is) → work b (slice_set ms j Open) + length hs < work b ms + length fs + 1
   enters_less g hs p q =
-      let w = work_enter b ms k s found l fresh in
+      let w = work_enter b ms k s met.found met.known met.fresh in
       let n = ap length (pushed_now g hs p q) ∙ length-append fs (Leave k ∷ entering (children_in s.instrs.items)) in
       let m = entering_length (children_in s.instrs.items) in
       let G : ℕ → Type 0 = λ i. work b (slice_set ms i Open) + length hs < work b ms + length fs + 1 in
-      subst G (sym at) (omega (arith, w, n, m))
+      subst G (sym met.at) (omega (arith, w, n, m))
 
 -- the count of what is around fits where one more step was pushed
 pub depth_most : (depth : ℕ) (fs : List Step) → depth ≡ length (opened [] fs) → depth ≤ length fs

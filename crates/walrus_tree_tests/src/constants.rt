@@ -1,10 +1,28 @@
 //! What constant expressions tell a visitor.
 use crate::log::Log;
+use std::alloc::{AllocError, Global};
 use std::test::Fail;
 use walrus_arena::{FunctionId, GlobalId, TypeId};
 use walrus_forms::{HeapType, RefType};
 use walrus_instr::{Bits128, ConstExpr, ConstOp, Value};
 use walrus_walks::{Visit, visit_laws};
+
+// What an expression of these operators tells.
+fn told(alloc: Global, ops: &[ConstOp]) -> Result<Log, AllocError> {
+    let expr = ConstExpr::from_ops(Vec::from_slice(alloc, ops)?);
+    let mut log = Log::new(alloc);
+    expr.visit(&mut log);
+    Ok(log)
+}
+
+fn says(log: &Log, text: &str) -> bool {
+    !log.refused && log.text.as_str() == text
+}
+
+// Adds what the expression tells.
+fn tell(log: &mut Log, expr: &ConstExpr) {
+    expr.visit(log);
+}
 
 #[test]
 fn operators_tell_by_space(rt: HostRuntime) -> Result<(), Fail> {
@@ -23,22 +41,19 @@ fn operators_tell_by_space(rt: HostRuntime) -> Result<(), Fail> {
         ConstOp::RefNull(RefType::ANYREF),
         ConstOp::ArrayNewFixed(ty, 3),
     ];
-    let mut log = Log::new(rt.alloc());
-    let expr = ConstExpr::from_ops(Vec::from_slice(rt.alloc(), &ops)?);
-    expr.visit(&mut log);
-    assert!(rt; !log.refused);
-    assert_eq!(rt; log.text.as_str(), "7 value global type function type ");
+    let told = told(rt.alloc(), &ops)?;
+    assert!(rt; says(&told, "7 value global type function type "));
     Ok(())
 }
 
 #[test]
 fn short_forms_tell_the_same(rt: HostRuntime) {
     let mut log = Log::new(rt.alloc());
-    ConstExpr::Value(Value::I32(3)).visit(&mut log);
-    ConstExpr::Global(GlobalId::from_index(0)).visit(&mut log);
-    ConstExpr::RefNull(RefType::EQREF).visit(&mut log);
-    ConstExpr::RefFunc(FunctionId::from_index(0)).visit(&mut log);
-    assert_eq!(rt; log.text.as_str(), "3 global function ");
+    tell(&mut log, &ConstExpr::Value(Value::I32(3)));
+    tell(&mut log, &ConstExpr::Global(GlobalId::from_index(0)));
+    tell(&mut log, &ConstExpr::RefNull(RefType::EQREF));
+    tell(&mut log, &ConstExpr::RefFunc(FunctionId::from_index(0)));
+    assert!(rt; says(&log, "3 global function "));
 }
 
 #[test]

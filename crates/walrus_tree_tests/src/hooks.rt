@@ -5,48 +5,86 @@ use crate::forms::{
 };
 use crate::log::Log;
 use std::alloc::{AllocError, Global};
-use std::process::Abort;
 use std::test::Fail;
 use walrus_arena::{InstrSeqId, TypeId};
 use walrus_instr::{Instr, InstrLocId, InstrSeq, InstrSeqType};
 use walrus_types::{HeapType, RefType, ValType};
 use walrus_walks::{Visit, VisitMut, check_nesting, dfs_in_order, dfs_pre_order_mut};
 
-fn tells(rt: &impl Abort, alloc: Global, instr: &Instr, words: &str) {
+// The forms, by what they work on.
+#[derive(Clone, Copy)]
+enum Family {
+    Structured,
+    Control,
+    Operand,
+    Table,
+    Memory,
+    Aggregate,
+    Other,
+}
+
+const FORMS: [Family; 6] = [
+    Family::Structured,
+    Family::Control,
+    Family::Operand,
+    Family::Table,
+    Family::Memory,
+    Family::Aggregate,
+];
+
+fn rows_of(alloc: Global, family: Family) -> Result<Rows, AllocError> {
+    match family {
+        Family::Structured => structured_rows(alloc),
+        Family::Control => control_rows(alloc),
+        Family::Operand => operand_rows(alloc),
+        Family::Table => table_rows(alloc),
+        Family::Memory => memory_rows(alloc),
+        Family::Aggregate => aggregate_rows(alloc),
+        Family::Other => other_rows(alloc),
+    }
+}
+
+fn says(log: &Log, words: &str) -> bool {
+    !log.refused && log.text.trim_end() == words
+}
+
+fn tells(alloc: Global, instr: &Instr, words: &str) -> bool {
     let mut log = Log::new(alloc);
     instr.visit(&mut log);
-    assert!(rt; !log.refused);
-    assert_eq!(rt; log.text.trim_end(), words);
+    says(&log, words)
 }
 
-fn tells_changing(rt: &impl Abort, alloc: Global, instr: &mut Instr, words: &str) {
+fn tells_changing(alloc: Global, instr: &mut Instr, words: &str) -> bool {
     let mut log = Log::new(alloc);
     instr.visit_mut(&mut log);
-    assert!(rt; !log.refused);
-    assert_eq!(rt; log.text.trim_end(), words);
+    says(&log, words)
 }
 
-fn told(rt: &impl Abort, alloc: Global, rows: Rows) {
-    for (mut instr, words) in rows {
-        tells(rt, alloc, &instr, words);
-        tells_changing(rt, alloc, &mut instr, words);
+// Whether each form of the family tells of what it names, in both walks.
+fn are_told(alloc: Global, family: Family) -> Result<bool, AllocError> {
+    let mut agree = true;
+    for (mut instr, words) in rows_of(alloc, family)? {
+        agree &= tells(alloc, &instr, words);
+        agree &= tells_changing(alloc, &mut instr, words);
     }
+    Ok(agree)
 }
 
 #[test]
 fn each_form_tells_of_what_it_names(rt: HostRuntime) -> Result<(), Fail> {
-    told(&rt, rt.alloc(), control_rows(rt.alloc())?);
-    told(&rt, rt.alloc(), operand_rows(rt.alloc())?);
-    told(&rt, rt.alloc(), table_rows(rt.alloc())?);
-    told(&rt, rt.alloc(), memory_rows(rt.alloc())?);
-    told(&rt, rt.alloc(), aggregate_rows(rt.alloc())?);
-    told(&rt, rt.alloc(), structured_rows(rt.alloc())?);
-    told(&rt, rt.alloc(), other_rows(rt.alloc())?);
+    for family in FORMS {
+        assert!(rt; are_told(rt.alloc(), family)?);
+    }
+    assert!(rt; are_told(rt.alloc(), Family::Other)?);
     Ok(())
 }
 
-fn add_all(instrs: &mut Vec<(Instr, InstrLocId)>, rows: Rows) -> Result<(), AllocError> {
-    for (instr, _) in rows {
+fn add_family(
+    alloc: Global,
+    instrs: &mut Vec<(Instr, InstrLocId)>,
+    family: Family,
+) -> Result<(), AllocError> {
+    for (instr, _) in rows_of(alloc, family)? {
         instrs.push((instr, InstrLocId::default()))?;
     }
     Ok(())
@@ -54,12 +92,10 @@ fn add_all(instrs: &mut Vec<(Instr, InstrLocId)>, rows: Rows) -> Result<(), Allo
 
 // Each form once.
 fn add_forms(alloc: Global, instrs: &mut Vec<(Instr, InstrLocId)>) -> Result<(), AllocError> {
-    add_all(instrs, structured_rows(alloc)?)?;
-    add_all(instrs, control_rows(alloc)?)?;
-    add_all(instrs, operand_rows(alloc)?)?;
-    add_all(instrs, table_rows(alloc)?)?;
-    add_all(instrs, memory_rows(alloc)?)?;
-    add_all(instrs, aggregate_rows(alloc)?)
+    for family in FORMS {
+        add_family(alloc, instrs, family)?;
+    }
+    Ok(())
 }
 
 fn own(alloc: Global) -> Result<InstrSeq, AllocError> {
@@ -111,40 +147,38 @@ fn count(text: &str, word: &str) -> usize {
     text.split(' ').filter(|told| *told == word).count()
 }
 
-fn counted(rt: &impl Abort, log: &Log) {
-    assert!(rt; !log.refused);
-    assert_eq!(rt; log.instrs, 93);
+fn are_counted(log: &Log) -> bool {
+    let mut agree = !log.refused && log.instrs == 93;
     for (word, wanted) in EXPECTED {
-        assert_eq!(rt; count(&log.text, word), wanted);
+        agree &= count(&log.text, word) == wanted;
     }
+    agree
 }
 
-fn counts(rt: &impl Abort, alloc: Global, seqs: &[InstrSeq]) -> Result<(), AllocError> {
+fn counts(alloc: Global, seqs: &[InstrSeq]) -> Result<bool, AllocError> {
     let start = InstrSeqId::from_index(0);
-    assert!(rt; check_nesting(alloc, seqs, start)?);
+    if !check_nesting(alloc, seqs, start)? {
+        return Ok(false);
+    }
     let mut log = Log::new(alloc);
     dfs_in_order(alloc, &mut log, seqs, start)?;
-    counted(rt, &log);
-    Ok(())
+    Ok(are_counted(&log))
 }
 
-fn counts_changing(
-    rt: &impl Abort,
-    alloc: Global,
-    seqs: &mut [InstrSeq],
-) -> Result<(), AllocError> {
+fn counts_changing(alloc: Global, seqs: &mut [InstrSeq]) -> Result<bool, AllocError> {
     let start = InstrSeqId::from_index(0);
-    assert!(rt; check_nesting(alloc, seqs, start)?);
+    if !check_nesting(alloc, seqs, start)? {
+        return Ok(false);
+    }
     let mut log = Log::new(alloc);
     dfs_pre_order_mut(alloc, &mut log, seqs, start)?;
-    counted(rt, &log);
-    Ok(())
+    Ok(are_counted(&log))
 }
 
 #[test]
 fn each_hook_is_counted(rt: HostRuntime) -> Result<(), Fail> {
     let mut seqs = body(rt.alloc())?;
-    counts(&rt, rt.alloc(), seqs.as_slice())?;
-    counts_changing(&rt, rt.alloc(), seqs.as_mut_slice())?;
+    assert!(rt; counts(rt.alloc(), seqs.as_slice())?);
+    assert!(rt; counts_changing(rt.alloc(), seqs.as_mut_slice())?);
     Ok(())
 }

@@ -1,4 +1,5 @@
 pub mod BodyLemmas
+pub mod CountLemmas
 pub mod GroupLemmas
 pub mod LooksLemmas
 pub mod MeetsLemmas

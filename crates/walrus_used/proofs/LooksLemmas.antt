@@ -36,7 +36,7 @@ at_cases : {X : Type 0} (y : X) (xs : List X) (x : X) (k : ℕ) → k < length (
 at_cases y xs x zero below e = inl e
 at_cases y xs x (suc k) below e = inr (k, omega arith, e)
 
-cases_in : {X : Type 0} (y : X) (xs : List X) (x : X) → Contains (y ∷ xs) x → (y ≡ x) ⊎ Contains xs x
+pub cases_in : {X : Type 0} (y : X) (xs : List X) (x : X) → Contains (y ∷ xs) x → (y ≡ x) ⊎ Contains xs x
 cases_in y xs x c = at_cases y xs x c.0 c.1 c.2
 
 pub only_in : {X : Type 0} (y x : X) → Contains (y ∷ []) x → y ≡ x

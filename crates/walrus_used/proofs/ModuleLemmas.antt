@@ -13,7 +13,8 @@ use Rattle.walrus_roots.specs.declared.item.Item.{Item}
 use Rattle.walrus_roots.specs.Items.{item}
 use Rattle.walrus_marks.specs.Marks.{State, meet}
 use Rattle.walrus_marks.specs.Chains.{Meets}
-use Rattle.walrus_references.specs.References.{KindNames, Named, named_by, type_items, function_items, written_type}
+use Rattle.walrus_references.specs.References.{KindNames, Named, named_by, type_items, function_items}
+use Rattle.walrus_module.specs.Items.{written_type}
 use Rattle.walrus_used.specs.Looks.{Looks, LooksIn, LooksInGroup}
 use Rattle.walrus_used.proofs.MeetsLemmas.{meets_list, meets_none, meets_same, meets_then}
 

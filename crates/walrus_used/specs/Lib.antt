@@ -1,3 +1,4 @@
 pub mod Bodies
+pub mod Counts
 pub mod Looks
 pub mod Picks

@@ -14,7 +14,8 @@ use Rattle.walrus_module_items.specs.declared.memory.Memory.{Memory}
 use Rattle.walrus_module.specs.Parts.{Module}
 use Rattle.walrus_roots.specs.declared.item.Item.{Item}
 use Rattle.walrus_roots.specs.Items.{item}
-use Rattle.walrus_references.specs.References.{RefersIn, IsActiveIn, named_by, type_items, table_items, written_type}
+use Rattle.walrus_references.specs.References.{RefersIn, IsActiveIn, named_by, type_items, table_items}
+use Rattle.walrus_module.specs.Items.{written_type}
 
 -- of a group the first member stands for the others: it names them all, and each other names it alone
 abbrev pub group_items : ℕ → List ℕ → List Item

@@ -2,7 +2,10 @@
 #![tactic(auto)]
 
 mod bodies;
+mod counts;
 mod module_names;
 mod names;
 mod roots;
 mod segments;
+
+pub use counts::reach_items;

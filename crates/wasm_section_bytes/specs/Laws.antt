@@ -1,15 +1,18 @@
 -- Laws of the shortest spellings of what sections hold.
-use Rattle.std.specs.Prelude.{Bool}
+use Rattle.std.specs.Prelude.{ℕ, ◌≤◌, ◌≡◌, Bool, List, length}
 use Rattle.wasm_features.specs.declared.WasmFeatures.{WasmFeatures}
-use Rattle.wasm_formats.specs.Formats.{Format}
+use Rattle.wasm_formats.specs.Formats.{Format, Small}
 use Rattle.wasm_format_bytes.specs.Writers.{Writer}
 use Rattle.wasm_grammar.specs.Exprs.{Known}
 use Rattle.wasm_grammar.specs.States.{State}
 use Rattle.wasm_grammar_bytes.specs.Laws.{SpellsShortest}
+use Rattle.wasm_sections.specs.Modules.{FileEntry, state_of, file}
 use Rattle.wasm_section_bytes.specs.TypeBytes.{sub_writer}
 use Rattle.wasm_section_bytes.specs.Exprs.{expr_writer, offset_writer}
 use Rattle.wasm_section_bytes.specs.Entries.{import_writer, export_writer, function_writer, table_writer, memory_writer, tag_writer, global_writer}
 use Rattle.wasm_section_bytes.specs.Segments.{element_writer, data_writer}
+use Rattle.wasm_section_bytes.specs.Placed.{Placed, group_placed, types_placed, code_section_placed}
+use Rattle.wasm_section_bytes.specs.Files.{bodies_of, FileFits, file_bytes, file_placed, file_written, file_short, file_same, file_bodies}
 use Rattle.wasm_section_bytes.specs.Sections.{custom_writer, imports_writer, functions_writer, tables_writer, memories_writer, tags_writer, globals_writer, exports_writer, start_section_writer, elements_writer, data_count_writer, data_section_writer}
 
 -- what is written is a shortest spelling
@@ -80,3 +83,35 @@ contents_are_shortest = record {
   data_count = least data_count_writer;
   segments = λ features s. least (data_section_writer features s);
 }
+
+-- values that hold their own places: with the places of what is written, which is a shortest spelling, they are the same
+pub record PlacedIsShortest {A S : Type 0} {entry : S → Format A} (w : Placed entry) : Type 0 where
+  pub same : (s : S) (x : A) → w.bare (w.placed s x) ≡ w.bare x
+  pub written : (s : S) (x : A) → w.fits x → (entry s).spells (w.bytes x) (w.placed s x)
+  pub short : (s : S) (others : List ℕ) (x : A) → Small others → (entry s).spells others x → w.fits x × (length (w.bytes x) ≤ length others)
+
+pub placed_least : {A S : Type 0} {entry : S → Format A} (w : Placed entry) → PlacedIsShortest w
+placed_least w = record { same = w.same; written = w.written; short = w.short }
+
+-- groups of types, and the contents of the sections of types and code, with their size
+pub record PlacedAreShortest : Type 0 where
+  pub groups : (features : WasmFeatures) → PlacedIsShortest (group_placed features)
+  pub types : (features : WasmFeatures) → PlacedIsShortest (types_placed features)
+  pub code : PlacedIsShortest code_section_placed
+
+pub placed_are_shortest : PlacedAreShortest
+placed_are_shortest = record {
+  groups = λ features. placed_least (group_placed features);
+  types = λ features. placed_least (types_placed features);
+  code = placed_least code_section_placed;
+}
+
+-- the sections of a file within its limits have a spelling, the shortest one, and with its places they fill the same module and have the same bodies
+pub record FilesAreShortest : Type 0 where
+  pub written : (features : WasmFeatures) (x : FileEntry) → FileFits features x → (file features).spells (file_bytes features x) (file_placed features x)
+  pub short : (features : WasmFeatures) (others : List ℕ) (x : FileEntry) → Small others → (file features).spells others x → FileFits features x × (length (file_bytes features x) ≤ length others)
+  pub filled : (features : WasmFeatures) (x : FileEntry) → (state_of (file_placed features x)).filled ≡ (state_of x).filled
+  pub bodies : (features : WasmFeatures) (x : FileEntry) → bodies_of (state_of (file_placed features x)).bodies ≡ bodies_of (state_of x).bodies
+
+pub files_are_shortest : FilesAreShortest
+files_are_shortest = record { written = file_written; short = file_short; filled = file_same; bodies = file_bodies }

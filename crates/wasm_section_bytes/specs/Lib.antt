@@ -2,6 +2,9 @@ pub mod TypeBytes
 pub mod Exprs
 pub mod Entries
 pub mod Segments
+pub mod Placed
+pub mod Elsewhere
+pub mod Files
 pub mod Sections
 pub mod Flags
 pub mod Laws

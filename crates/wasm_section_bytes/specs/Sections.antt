@@ -1,4 +1,4 @@
--- The shortest spellings of the contents of sections, but for those whose values hold their own places (groups of types, code).
+-- The shortest spellings of the contents of sections whose values hold no places; the others are in `Placed`.
 use Rattle.std.specs.Prelude.{ℕ, ◌≡◌, List, true, Option, refl}
 use Rattle.std.proofs.Common.{sym}
 use Rattle.wasm_features.specs.declared.WasmFeatures.{WasmFeatures}

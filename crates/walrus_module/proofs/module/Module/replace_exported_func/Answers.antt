@@ -18,12 +18,12 @@ returns-clause-replaced g c =
       was_is = body_found c.args.self.now.funcs c.args.function c.get.result.now was c.get.ensures c.in-Local.is;
       export = c.in-Some.export;
       export_is = search rules;
-      exported = c.get_mut.result.now;
-      exported_is = c.get_mut.ensures.value;
+      exported = c.give_export.ensures.0;
+      exported_is = c.give_export.ensures.1;
       made = made;
       built = subst of_args same_args (subst of_type c.ty-ty.ensures c.in_ok-local.ensures.built);
       given = c.in_ok-new.ensures.id;
       added = c.in_ok-new.ensures.added;
-      exports_are = refl;
+      exports_are = c.give_export.ensures.2;
       rest = refl;
     }

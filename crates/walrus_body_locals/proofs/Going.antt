@@ -1,0 +1,166 @@
+-- Lemmas: runs, one after another.
+use Rattle.std.proofs.Common.{ℕ, zero, suc, ◌≡◌, ◌⊎◌, ◌+◌, ◌-◌, ◌<◌, ◌≤◌, List, [], ◌∷◌, ◌++◌, length, map, None, Ok, Err, refl, ap, sym, subst, inl, inr, ◌∙◌, arith, append-nil}
+use Rattle.std.specs.Prelude.{fold}
+use Rattle.std.specs.List.{repeat}
+use Rattle.std.proofs.lemmas.Grind.{flat_map-append}
+use Rattle.std.proofs.lemmas.List.{map-append, length-append}
+use Rattle.std.proofs.lemmas.List.Sums.{fold-append}
+use Rattle.wasm_features.specs.declared.WasmFeatures.{WasmFeatures}
+use Rattle.wasm_reader.specs.declared.error.Error.{Error}
+use Rattle.wasm_reader.specs.Reading.{fault}
+use Rattle.wasm_reader.specs.Numbers.{unsigned_at}
+use Rattle.wasm_reader.specs.Cursor.{Window, Cursor, rest, end_of, Forward}
+use Rattle.walrus_forms.specs.declared.value.ValType.{ValType}
+use Rattle.walrus_forms.specs.Renaming.{at, renamed_value}
+use Rattle.walrus_items.specs.declared.local.Local.{Local}
+use Rattle.walrus_index_maps.specs.Maps.{Ids}
+use Rattle.wasm_formats.specs.Stops.{Read, stop, Parsing}
+use Rattle.wasm_formats.specs.Wholes.{u32}
+use Rattle.wasm_body_grammar.specs.Rules.{Around}
+use Rattle.wasm_body_grammar.specs.Bodies as grammar
+use Rattle.wasm_body_grammar.specs.Bodies.{Run, next_total, declared}
+use Rattle.walrus_body_env.specs.declared.error.BodyError.{BodyError}
+use Rattle.walrus_body_env.specs.declared.error.BodyError.TheVariants as faults
+use Rattle.walrus_body_env.specs.Faults.{read_fault}
+use Rattle.walrus_body_locals.specs.Calls.{IsFaultOf}
+use Rattle.walrus_body_locals.specs.Told.{Telling, Fails, AnswersTold, Tells, Pass, pass_on, pass_entries}
+use Rattle.walrus_body_locals.specs.Locals.{IsRunOf, run_in, IsSeen, FailRuns, Adds, Declares}
+use Rattle.walrus_body_locals.proofs.Adding.{adds_none, adds_more}
+use Rattle.walrus_body_locals.proofs.Counts.{end_stays, reader_refuses}
+
+-- ---- the locals of one more run
+
+many_renamed : (r : ℕ → ℕ) (n : ℕ) (ty : ValType) → map (renamed_value r) (repeat n (ty ∷ [])) ≡ repeat n (renamed_value r ty ∷ [])
+many_renamed r zero ty = refl
+many_renamed r (suc n) ty = ap (λ (l : List ValType). renamed_value r ty ∷ l) (many_renamed r n ty)
+
+abbrev pub own_types : List ℕ → List Run → List ValType
+own_types types runs = map (renamed_value (at types)) (declared runs)
+
+own_more : (types : List ℕ) (runs : List Run) (run : Run) → own_types types (runs ++ run ∷ []) ≡ own_types types runs ++ repeat run.0 (renamed_value (at types) run.1 ∷ [])
+own_more types runs run =
+    let f : Run → List ValType = λ r. repeat r.0 (r.1 ∷ []) in
+    ap (λ (l : List ValType). map (renamed_value (at types)) l) (flat_map-append f runs (run ∷ []) ∙ ap (λ (l : List ValType). declared runs ++ l) (append-nil (f run)))
+    ∙ map-append (renamed_value (at types)) (declared runs) (f run) ∙ ap (λ (l : List ValType). own_types types runs ++ l) (many_renamed (at types) run.0 run.1)
+
+-- ---- some runs were read and declared
+
+abbrev pub reads_at : WasmFeatures → List ℕ → ℕ → List ℕ → Parsing Run
+reads_at features types total = (run_in features (length types) total).parse
+
+pub record Going {V : Type 0} (told : Telling Run V) (function params count : ℕ) (old new : Cursor) (ls ms : List Local) (i j : Ids) (v w : V) (total done : ℕ) : Type 0 where
+  pub mid : List ℕ
+  pub runs : List Run
+  pub counted : u32.parse (rest old) ≡ Ok (count, mid)
+  pub passed : Pass next_total (reads_at old.window.features i.types) told (end_of old) params v mid runs (rest new) w
+  pub many : length runs ≡ done
+  pub total_is : total ≡ fold next_total params runs
+  pub adds : Adds function (own_types i.types runs) ls ms i j
+  pub moves : Forward old new
+
+pub going_start : {V : Type 0} (told : Telling Run V) (function params count : ℕ) (old new : Cursor) (ls : List Local) (i : Ids) (v : V) → unsigned_at 32 (rest old) ≡ Ok (count, rest new) → Forward old new
+    → Going told function params count old new ls ls i i v v params 0
+going_start told function params count old new ls i v e moves = record {
+  mid = rest new;
+  runs = [];
+  counted = rw e refl;
+  passed = (refl, refl);
+  many = refl;
+  total_is = refl;
+  adds = adds_none function ls i;
+  moves = moves;
+}
+
+module _ {V : Type 0} (told : Telling Run V) (function params count : ℕ) (old new next : Cursor) (ls ms ns : List Local) (i j k : Ids) (v w x : V) (total done : ℕ) (g : Going told function params count old new ls ms i j v w total done) where
+  -- the next run is read so too
+  abbrev nexts : List ℕ → Parsing Run
+  nexts = reads_at new.window.features j.types total
+
+  abbrev wants : List ℕ → Parsing Run
+  wants = reads_at old.window.features i.types (fold next_total params g.runs)
+
+  same_reads : nexts ≡ wants
+  same_reads =
+      ap (λ (f : WasmFeatures). reads_at f j.types total) (ap (λ (w : Window). w.features) g.moves.window)
+      ∙ ap (λ (l : Ids). reads_at old.window.features l.types total) g.adds.named
+      ∙ ap (λ (t : ℕ). reads_at old.window.features i.types t) g.total_is
+
+  on_forward : Forward new next → Forward old next
+  on_forward moves = record {
+    window = moves.window ∙ g.moves.window;
+    forward = let a = g.moves.forward in let b = moves.forward in omega (arith, a, b);
+    within = λ h. moves.within (g.moves.within h);
+  }
+
+  pub going_on : (more : ℕ) (ty : ValType) → Tells nexts told (IsRunOf j.types) new next w x (Ok (more, ty)) → Adds function (repeat more (ty ∷ [])) ms ns j k
+      → Going told function params count old next ls ns i k v x (total + more) (done + 1)
+  going_on more ty t a =
+      let run = t.value.0 in
+      let named : ty ≡ renamed_value (at i.types) run.1 = t.value.3.1 ∙ ap (λ (l : Ids). renamed_value (at l.types) run.1) g.adds.named in
+      let own : repeat more (ty ∷ []) ≡ repeat run.0 (renamed_value (at i.types) run.1 ∷ []) =
+      ap (λ (n : ℕ). repeat n (ty ∷ [])) t.value.3.0 ∙ ap (λ (z : ValType). repeat run.0 (z ∷ [])) named in
+      let F : List ValType → Type 0 = λ tys. Adds function tys ms ns j k in
+      let G : List ValType → Type 0 = λ tys. Adds function tys ls ns i k in
+      let P : (List ℕ → Parsing Run) → Type 0 = λ p. p (rest new) ≡ Ok (run, rest next) in
+      let T : ℕ → Type 0 = λ end. told w (end - length (rest new)) run ≡ (None, x) in
+      record {
+        mid = g.mid;
+        runs = g.runs ++ run ∷ [];
+        counted = g.counted;
+        passed = pass_on next_total (reads_at old.window.features i.types) told (end_of old) g.runs params v g.mid (rest new) (rest next) w x run g.passed
+            (subst P same_reads t.value.1) (subst T (end_stays old new g.moves) t.value.2);
+        many = length-append g.runs (run ∷ []) ∙ ap (λ (n : ℕ). n + 1) g.many;
+        total_is = ap (λ (n : ℕ). n + more) g.total_is ∙ ap (λ (n : ℕ). fold next_total params g.runs + n) t.value.3.0 ∙ sym (fold-append next_total params g.runs (run ∷ []));
+        adds = subst G (sym (own_more i.types g.runs run)) (adds_more function (own_types i.types g.runs) (repeat run.0 (renamed_value (at i.types) run.1 ∷ [])) ls ms ns i j k g.adds (subst F own a));
+        moves = on_forward t.moves;
+      }
+
+  -- ---- in words of the grammar
+
+  passed_in : (a : Around) → IsSeen old.window.features i.types a → Pass next_total (λ t. (grammar.run a t).parse) told (end_of old) params v g.mid g.runs (rest new) w
+  passed_in a s =
+      let F : WasmFeatures → Type 0 = λ f. Pass next_total (λ t. (run_in f (length i.types) t).parse) told (end_of old) params v g.mid g.runs (rest new) w in
+      let G : ℕ → Type 0 = λ n. Pass next_total (λ t. (run_in a.features n t).parse) told (end_of old) params v g.mid g.runs (rest new) w in
+      subst G (sym s.types_are) (subst F (sym s.features_are) g.passed)
+
+  pub going_done : count ≡ done → Declares told function params old new i.types ls ms i j v w
+  going_done e = record {
+    runs = g.runs;
+    read = λ a s.
+        let F : ℕ → Type 0 = λ n. u32.parse (rest old) ≡ Ok (n, g.mid) in
+        let counted : u32.parse (rest old) ≡ Ok (length g.runs, g.mid) = subst F (e ∙ sym g.many) g.counted in
+        rw (counted, pass_entries next_total (grammar.run a) told (end_of old) g.runs params v w g.mid (rest new) (passed_in a s)) refl;
+    passed = λ a s.
+        let F : ℕ → Type 0 = λ n. u32.parse (rest old) ≡ Ok (n, g.mid) in
+        (g.mid, subst F (e ∙ sym g.many) g.counted, passed_in a s);
+    adds = g.adds;
+  }
+
+  pub going_fails : (e : BodyError) → done < count → Tells nexts told (IsRunOf j.types) new next w x (Err e)
+      → (e ≡ faults.Memory) ⊎ ((a : Around) → IsSeen old.window.features i.types a → FailRuns told (grammar.run a) params (end_of old) v (rest old) e)
+  going_fails e l t = go t.value
+    where
+      fails_in : (a : Around) → IsSeen old.window.features i.types a → Fails nexts told (end_of new) w (rest new) e → Fails (grammar.run a (fold next_total params g.runs)).parse told (end_of old) w (rest new) e
+      fails_in a s h =
+          let A : (List ℕ → Parsing Run) → Type 0 = λ p. Fails p told (end_of new) w (rest new) e in
+          let B : ℕ → Type 0 = λ end. Fails wants told end w (rest new) e in
+          let F : WasmFeatures → Type 0 = λ f. Fails (run_in f (length i.types) (fold next_total params g.runs)).parse told (end_of old) w (rest new) e in
+          let G : ℕ → Type 0 = λ n. Fails (run_in a.features n (fold next_total params g.runs)).parse told (end_of old) w (rest new) e in
+          subst G (sym s.types_are) (subst F (sym s.features_are) (subst B (end_stays old new g.moves) (subst A same_reads h)))
+
+      go : AnswersTold nexts told (IsRunOf j.types) new next w x (Err e) → (e ≡ faults.Memory) ⊎ ((a : Around) → IsSeen old.window.features i.types a → FailRuns told (grammar.run a) params (end_of old) v (rest old) e)
+      go (inl m) = inl m
+      go (inr h) = inr (λ a s. inr (count, g.mid, g.runs, rest new, w, g.counted, (let m = g.many in omega (arith, l, m)), passed_in a s, fails_in a s h))
+
+-- ---- the count itself is refused
+
+pub count_fails : {V : Type 0} (told : Telling Run V) (params : ℕ) (old new : Cursor) (types : List ℕ) (v : V) (e : Error) → unsigned_at 32 (rest old) ≡ Err (fault e.kind (end_of new - e.offset)) → e.offset ≤ end_of new → Forward old new
+    → (read_fault e ≡ faults.Memory) ⊎ ((a : Around) → IsSeen old.window.features types a → FailRuns told (grammar.run a) params (end_of old) v (rest old) (read_fault e))
+count_fails told params old new types v e read le moves = go (reader_refuses (end_of new) e le)
+  where
+    go : (read_fault e ≡ faults.Memory) ⊎ IsFaultOf (end_of new) (stop (Read e.kind) (end_of new - e.offset)) (read_fault e)
+        → (read_fault e ≡ faults.Memory) ⊎ ((a : Around) → IsSeen old.window.features types a → FailRuns told (grammar.run a) params (end_of old) v (rest old) (read_fault e))
+    go (inl m) = inl m
+    go (inr h) =
+        let F : ℕ → Type 0 = λ end. IsFaultOf end (stop (Read e.kind) (end_of new - e.offset)) (read_fault e) in
+        inr (λ a s. inl (stop (Read e.kind) (end_of new - e.offset), rw read refl, subst F (end_stays old new moves) h))

@@ -1,0 +1,4 @@
+mod NamedTypes
+mod Counts
+mod Adding
+mod Going

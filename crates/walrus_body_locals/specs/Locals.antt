@@ -1,0 +1,109 @@
+-- The locals that a body declares: what is read, and what is added.
+use Rattle.std.specs.Prelude.{◌≡◌, ◌⊎◌, ◌<◌, ℕ, suc, ◌+◌, ◌==◌, nat_le, List, [], ◌∷◌, ◌++◌, length, map, fold, Option, None, Ok, Err, if◌then◌else◌}
+use Rattle.wasm_features.specs.declared.WasmFeatures.{WasmFeatures}
+use Rattle.wasm_reader.specs.Cursor.{Cursor, rest, end_of}
+use Rattle.wasm_ref_types.specs.declared.value.ValType.{ValType as Written}
+use Rattle.walrus_forms.specs.declared.value.ValType.{ValType}
+use Rattle.walrus_forms.specs.Renaming.{at, renamed_value}
+use Rattle.walrus_pairing.specs.declared.error.PairError.{PairError}
+use Rattle.walrus_pairing.specs.declared.error.PairError.TheVariants as errors
+use Rattle.walrus_items.specs.declared.local.Local.{Local}
+use Rattle.walrus_index_maps.specs.Maps.{Ids}
+use Rattle.wasm_formats.specs.declared.fault.Limited.TheVariants as limits
+use Rattle.wasm_formats.specs.declared.fault.Form.TheVariants as unsupported
+use Rattle.wasm_formats.specs.declared.fault.Space.TheVariants as spaces
+use Rattle.wasm_formats.specs.Stops.{Trouble, Index, Unsupported, Stop, Limit}
+use Rattle.wasm_formats.specs.Formats.{Format}
+use Rattle.wasm_formats.specs.Joined.{checked, after}
+use Rattle.wasm_formats.specs.Wholes.{u32}
+use Rattle.wasm_grammar.specs.Values.{must, value_type}
+use Rattle.wasm_grammar.specs.TypeWords.{value_from}
+use Rattle.wasm_grammar.specs.States.{types_of}
+use Rattle.wasm_body_grammar.specs.Rules.{Around}
+use Rattle.wasm_body_grammar.specs.Bodies as grammar
+use Rattle.wasm_body_grammar.specs.Bodies.{Run, next_total, most_locals, declared}
+use Rattle.walrus_body_env.specs.declared.error.BodyError.{BodyError}
+use Rattle.walrus_body_locals.specs.Calls.{IsFaultOf}
+use Rattle.walrus_body_locals.specs.Told.{Telling, Pass, Fails}
+
+-- ---- what is read
+
+-- the trouble of a value type that has no ids in the place of its names
+abbrev pub trouble_of : PairError → Trouble
+trouble_of (errors.Unknown space) = Index spaces.Type
+trouble_of _ = Unsupported unsupported.SharedType
+
+-- a value type as it was read and with ids in the place of its names, of one that names types by their indices
+abbrev pub IsTypeOf : List ℕ → Written × ValType → ValType → Type 0
+IsTypeOf types x ty = (x.0 ≡ value_from ty) × (x.1 ≡ renamed_value (at types) ty)
+
+abbrev pub IsRunOf : List ℕ → ℕ × ValType → Run → Type 0
+IsRunOf types x run = (x.0 ≡ run.0) × (x.1 ≡ renamed_value (at types) run.1)
+
+-- behind so many locals a count is tested before its type is read
+abbrev pub count_in : ℕ → Format ℕ
+count_in total = checked u32 (λ n. must (nat_le (total + n) most_locals) (Limit limits.Locals))
+
+-- a run, under these features, where there are so many types
+abbrev pub run_in : WasmFeatures → ℕ → ℕ → Format Run
+run_in features types total = after (count_in total) (λ _. value_type features types)
+
+-- what a validator answers that is told of a run
+abbrev pub run_told : {V : Type 0} → (V → ℕ → ℕ → Written → Option BodyError × V) → Telling Run V
+run_told step v offset run = step v offset run.0 (value_from run.1)
+
+-- the file around the body has these features, and so many types
+pub record IsSeen (features : WasmFeatures) (types : List ℕ) (a : Around) : Type 0 where
+  pub features_are : a.features ≡ features
+  pub types_are : length (types_of a.filled) ≡ length types
+
+-- these runs stand at the front of the bytes, behind their count, and the validator accepts each
+abbrev pub PassRuns : {V : Type 0} → Telling Run V → (ℕ → Format Run) → ℕ → ℕ → V → List ℕ → List Run → List ℕ → V → Type 0
+PassRuns told run params end v bytes runs later w =
+    (mid : List ℕ) × (u32.parse bytes ≡ Ok (length runs, mid)) × Pass next_total (λ total. (run total).parse) told end params v mid runs later w
+
+-- the count is refused, or it stands there, some runs behind it pass, and the next one doesn't
+abbrev pub FailRuns : {V : Type 0} → Telling Run V → (ℕ → Format Run) → ℕ → ℕ → V → List ℕ → BodyError → Type 0
+FailRuns {V} told run params end v bytes e =
+    ((s : Stop) × (u32.parse bytes ≡ Err s) × IsFaultOf end s e)
+    ⊎ ((count : ℕ) × (mid : List ℕ) × (runs : List Run) × (later : List ℕ) × (w : V) × (u32.parse bytes ≡ Ok (count, mid)) × (length runs < count)
+    × Pass next_total (λ total. (run total).parse) told end params v mid runs later w
+    × Fails (run (fold next_total params runs)).parse told end w later e)
+
+-- ---- what is added
+
+abbrev pub locals_from : ℕ → List ValType → List Local
+locals_from id [] = []
+locals_from id (ty ∷ tys) = record { id = id; ty = ty; name = None } ∷ locals_from (suc id) tys
+
+abbrev pub ids_from : ℕ → List ValType → List ℕ
+ids_from id [] = []
+ids_from id (ty ∷ tys) = id ∷ ids_from (suc id) tys
+
+-- the function has these locals too
+abbrev pub with_more : ℕ → List ℕ → (ℕ → List ℕ) → ℕ → List ℕ
+with_more function ids locals f = if f == function then locals f ++ ids else locals f
+
+abbrev pub with_locals : ℕ → List ℕ → Ids → Ids
+with_locals function ids i = record i { locals = with_more function ids i.locals }
+
+-- locals of these types were added to the module, and the next indices of the function name them
+pub record Adds (function : ℕ) (tys : List ValType) (ls ms : List Local) (i j : Ids) : Type 0 where
+  pub added : ms ≡ ls ++ locals_from (length ls) tys
+  pub named : j ≡ with_locals function (ids_from (length ls) tys) i
+
+-- what a refusal leaves: at most, some locals were added to the module, and some indices of the function name some
+pub record Leaves (function : ℕ) (ls ms : List Local) (i j : Ids) : Type 0 where
+  pub tys : List ValType
+  pub ids : List ℕ
+  pub added : ms ≡ ls ++ locals_from (length ls) tys
+  pub named : j ≡ with_locals function ids i
+
+-- ---- the whole
+
+-- these runs were read, behind so many parameters, and declared
+pub record Declares {V : Type 0} (told : Telling Run V) (function params : ℕ) (old new : Cursor) (types : List ℕ) (ls ms : List Local) (i j : Ids) (v w : V) : Type 0 where
+  pub runs : List Run
+  pub read : (a : Around) → IsSeen old.window.features types a → (grammar.runs a params).parse (rest old) ≡ Ok (runs, rest new)
+  pub passed : (a : Around) → IsSeen old.window.features types a → PassRuns told (grammar.run a) params (end_of old) v (rest old) runs (rest new) w
+  pub adds : Adds function (map (renamed_value (at types)) (declared runs)) ls ms i j

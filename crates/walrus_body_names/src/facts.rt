@@ -1,0 +1,127 @@
+//! What is known of a body before it is written.
+
+ghost use Rattle.std.specs.Prelude.{◌≡◌, slice_get, IfErr, IfOk};
+ghost use Rattle.walrus_builder.specs.Functions.{seqs_of};
+ghost use Rattle.walrus_tree.specs.Text.{operators};
+ghost use Rattle.walrus_body_writer.specs.Emitting.{IsCause};
+ghost use Rattle.walrus_body_writer.specs.Visiting.{text_size};
+ghost use Rattle.walrus_body_names.specs.Names.{AreSet, are_constants, has_any, is_constant, local_in, segment_in, text_names};
+
+use crate::distinct::distinct;
+use crate::names::{local_of, named_segments, segment_of};
+use std::alloc::{AllocError, Global};
+use walrus_arena::{DataId, LocalId};
+use walrus_body_env::BodyError;
+use walrus_body_writer::{Closer, TextVisitor, visit_text};
+use walrus_builder::FunctionBuilder;
+use walrus_instr::{Instr, InstrLocId};
+
+/// What is known of a body before it is written.
+#[derive(Drop)]
+pub struct FunctionFacts {
+    /// Its size: the number of its operators other than `else`, `end`, `catch`, `catch_all` and `delegate`.
+    pub size: u64,
+    /// Whether it names a data segment.
+    pub uses_data_segments: bool,
+    /// The locals that it names, each once, by rising id.
+    pub used_locals: Vec<LocalId>,
+}
+
+// Counts operators and gathers what they name.
+#[derive(Drop)]
+struct Facts {
+    size: u64,
+    names_segment: bool,
+    found: Vec<LocalId>,
+}
+
+impl TextVisitor for Facts {
+    ghost use Rattle.walrus_body_names.specs.Facts.{IsAsBefore, IsTold};
+
+    ghost step = { λ old piece new. IsTold old piece.0 new };
+
+    ghost same = { λ old new. IsAsBefore old new };
+
+    fn instr(&mut self, instr: &Instr, _place: InstrLocId) -> Result<(), AllocError> {
+        let Some(size) = self.size.checked_add(1) else {
+            return Err(AllocError);
+        };
+        if let Some(id) = local_of(instr) {
+            self.found.push(id)?;
+        }
+        self.names_segment = self.names_segment || segment_of(instr).is_some();
+        self.size = size;
+        Ok(())
+    }
+
+    fn end(&mut self, _closer: Closer, _place: InstrLocId) -> Result<(), AllocError> {
+        Ok(())
+    }
+}
+
+/// The size of a body, whether it names a data segment, and the locals that it names.
+///
+/// # Errors
+///
+/// `NoTree` exactly where the sequences that the body's own reaches form no tree in which each label names a sequence around it; else
+/// want of memory alone.
+pub fn emit_facts(alloc: Global, body: &FunctionBuilder) -> Result<FunctionFacts, BodyError>
+    ensures size { IfOk result (λ facts. facts.size ≡ text_size (operators (seqs_of body.now) 0)) }
+    ensures segments { IfOk result (λ facts. facts.uses_data_segments ≡ has_any (text_names segment_in (operators (seqs_of body.now) 0))) }
+    ensures locals { IfOk result (λ facts. AreSet (text_names local_in (operators (seqs_of body.now) 0)) facts.used_locals.items) }
+    ensures refused { IfErr result (IsCause (seqs_of body.now)) }
+{
+    let mut facts = Facts {
+        size: 0,
+        names_segment: false,
+        found: Vec::new(alloc),
+    };
+    visit_text(alloc, &mut facts, body)?;
+    let Facts {
+        size,
+        names_segment: uses_data_segments,
+        found,
+    } = facts;
+    let used_locals = distinct(found)?;
+    Ok(FunctionFacts {
+        size,
+        uses_data_segments,
+        used_locals,
+    })
+}
+
+/// The data segments that a body names, each once, by rising id.
+///
+/// # Errors
+///
+/// `NoTree` exactly where the sequences that the body's own reaches form no tree in which each label names a sequence around it; else
+/// want of memory alone.
+pub fn used_data_segments(alloc: Global, body: &FunctionBuilder) -> Result<Vec<DataId>, BodyError>
+    ensures named { IfOk result (λ ids. AreSet (text_names segment_in (operators (seqs_of body.now) 0)) ids.items) }
+    ensures refused { IfErr result (IsCause (seqs_of body.now)) }
+{
+    let named = named_segments(alloc, body)?;
+    let used = distinct(named)?;
+    Ok(used)
+}
+
+fn is_constant(instr: &Instr) -> bool
+    ensures { result ≡ is_constant instr.now }
+{
+    matches!(instr, Instr::Const { .. })
+}
+
+/// Whether each instruction of the body's own sequence is a constant.
+pub fn is_const(body: &FunctionBuilder) -> bool
+    ensures { result ≡ are_constants (slice_get (seqs_of body.now) 0) }
+{
+    let Some(seq) = body.seqs().first() else {
+        return true;
+    };
+    for (instr, _) in seq.instrs.as_slice() {
+        if !is_constant(instr) {
+            return false;
+        }
+    }
+    true
+}

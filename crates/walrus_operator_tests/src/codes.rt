@@ -1,0 +1,31 @@
+//! Codes that several tests go through: ranges of numbers behind a prefix, or of one byte where the prefix is 0.
+
+/// Operators without immediates that open, end or branch to no block.
+pub(crate) const PLAIN: [(u8, u32, u32); 26] = [
+    (0, 0x00, 0x00),
+    (0, 0x0a, 0x0a),
+    (0, 0x0f, 0x0f),
+    (0, 0x1a, 0x1b),
+    (0, 0x45, 0xc4),
+    (0, 0xd1, 0xd1),
+    (0, 0xd3, 0xd4),
+    (0xfb, 15, 15),
+    (0xfb, 26, 30),
+    (0xfc, 0, 7),
+    (0xfc, 19, 22),
+    (0xfd, 14, 20),
+    (0xfd, 35, 83),
+    (0xfd, 94, 153),
+    (0xfd, 155, 161),
+    (0xfd, 163, 164),
+    (0xfd, 167, 174),
+    (0xfd, 177, 177),
+    (0xfd, 181, 186),
+    (0xfd, 188, 193),
+    (0xfd, 195, 196),
+    (0xfd, 199, 206),
+    (0xfd, 209, 209),
+    (0xfd, 213, 225),
+    (0xfd, 227, 237),
+    (0xfd, 239, 275),
+];

@@ -1,0 +1,4 @@
+pub mod Limits
+pub mod Constants
+pub mod Untils
+pub mod Globals

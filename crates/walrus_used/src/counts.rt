@@ -1,0 +1,88 @@
+//! What is reached in a module.
+ghost use Rattle.std.specs.Prelude.{◌≡◌, IfOk};
+ghost use Rattle.std.specs.List.{fold};
+ghost use Rattle.walrus_marks.specs.Chains.{IsReached};
+ghost use Rattle.walrus_references.specs.References.{Refers};
+ghost use Rattle.walrus_references.specs.Roots.{Root};
+ghost use Rattle.walrus_module.specs.Parts.{parts};
+ghost use Rattle.walrus_used.specs.Counts.{counts_of, past_id, past_types};
+
+use crate::module_names::ModuleNames;
+use crate::segments::active_segments;
+use std::alloc::{AllocError, Global};
+use walrus_arena::TypeId;
+use walrus_marks::{Marks, reach};
+use walrus_module::Module;
+use walrus_roots::Item;
+use walrus_types::ModuleTypes;
+
+// The count, or one more than the id.
+fn past(count: usize, id: TypeId) -> usize
+    ensures { result ≡ past_id count id }
+{
+    if id.index() < count {
+        count
+    } else {
+        id.index() + 1
+    }
+}
+
+// The count, or one more than the highest of these ids.
+fn past_all(count: usize, members: &[TypeId]) -> usize
+    ensures { result ≡ fold past_id count members.now }
+{
+    let mut above = count;
+    for member in members {
+        above = past(above, *member);
+    }
+    above
+}
+
+/// One more than the highest id of a live type.
+pub fn type_count(types: &ModuleTypes) -> usize
+    ensures { result ≡ past_types types.now }
+{
+    let mut count = 0;
+    for group in types.rec_groups() {
+        count = past_all(count, group.types.as_slice());
+    }
+    count
+}
+
+// How many ids were given out in each space; of types, one more than the highest live one.
+fn counts(input: &Module) -> [usize; 10]
+    ensures { result ≡ counts_of (parts input.now) }
+{
+    [
+        type_count(&input.types),
+        input.funcs.next_id().index(),
+        input.tables.next_id().index(),
+        input.memories.next_id().index(),
+        input.tags.next_id().index(),
+        input.globals.next_id().index(),
+        input.elements.next_id().index(),
+        input.data_segments.next_id().index(),
+        input.locals.iter().as_slice().len(),
+        0,
+    ]
+}
+
+/// Marks what is reached from the roots, where custom sections push these. Takes time and memory in proportion to
+/// the module.
+///
+/// # Errors
+///
+/// Want of memory.
+pub fn reach_items(alloc: Global, input: &Module, pushed: &[Item]) -> Result<Marks, AllocError>
+    ensures { IfOk result (λ marks. IsReached (counts_of (parts input.now)) (Root (parts input.now) pushed.now) (Refers (parts input.now)) marks) }
+{
+    walrus_types::laws::types_are_grouped(&input.types);
+    let active = active_segments(alloc, input)?;
+    let names = ModuleNames {
+        alloc,
+        input,
+        pushed,
+        active: active.as_slice(),
+    };
+    reach(alloc, &names, &counts(input))
+}

@@ -1,5 +1,0 @@
-//! Tests of the sets of features.
-#![tactic(auto)]
-
-#[cfg(test)]
-mod sets;

@@ -1,0 +1,5 @@
+// Tests of the reader.
+
+mod items;
+mod numbers;
+mod reading;

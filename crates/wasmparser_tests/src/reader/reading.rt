@@ -1,0 +1,168 @@
+//! Values from the Core Specification, and worked by hand.
+
+use crate::faults::refused;
+use std::test::Fail;
+use wasm_reader::limits::MAX_WASM_STRING_SIZE;
+use wasm_reader::{BinaryReader, Error, ErrorKind, Result, WasmFeatures, laws};
+
+// A reader of bytes that stand at this offset, of which a test's proof is to know nothing.
+pub(crate) fn reader_at(bytes: &[u8], offset: u32) -> BinaryReader<'_> {
+    BinaryReader::new(bytes, u64::from(offset))
+}
+
+#[test]
+fn fixed_widths(rt: HostRuntime) -> std::result::Result<(), Fail> {
+    let mut reader = reader_at(b"\0asm\x01\0\0\0\x0b", 0);
+    assert_eq!(rt; reader.read_u32()?, 0x6d73_6100);
+    assert_eq!(rt;
+        refused(reader.read_u64()),
+        Some((ErrorKind::EndOfFile(3), 4))
+    );
+    assert_eq!(rt; reader.read_bytes(4)?, [1, 0, 0, 0].as_slice());
+    assert!(rt; reader.is_end_then_eof());
+    assert_eq!(rt; reader.peek()?, 0x0b);
+    assert_eq!(rt; reader.read_u7()?, 0x0b);
+    Ok(())
+}
+
+#[test]
+fn a_byte_of_8_bits(rt: HostRuntime) {
+    let outcome = reader_at(&[0x80], 5).read_u7();
+    assert_eq!(rt; refused(outcome), Some((ErrorKind::BadByte, 5)));
+}
+
+#[test]
+fn floats(rt: HostRuntime) -> std::result::Result<(), Fail> {
+    let single = reader_at(&[0, 0, 0x80, 0x3f], 0).read_f32()?;
+    assert_eq!(rt; single.bits(), 0x3f80_0000);
+    let double = reader_at(&[0, 0, 0, 0, 0, 0, 0xf0, 0x3f], 0).read_f64()?;
+    assert_eq!(rt; double.bits(), 1.0f64.to_bits());
+    Ok(())
+}
+
+#[test]
+fn names(rt: HostRuntime) -> std::result::Result<(), Fail> {
+    let mut reader = reader_at(b"\x04name\x03\xe2\x82\xac", 100);
+    assert_eq!(rt; reader.read_string()?, "name");
+    assert_eq!(rt; reader.read_unlimited_string()?, "\u{20ac}");
+    assert_eq!(rt; reader.original_position(), 109);
+    reader_at(b"\x04name", 0).skip_string()?;
+    Ok(())
+}
+
+#[test]
+fn bytes_of_no_name(rt: HostRuntime) {
+    let rows: [(&[u8], ErrorKind, u64); 3] = [
+        (b"\x02\xe2\x82\xac", ErrorKind::Utf8, 101),
+        (b"\x05name", ErrorKind::EndOfFile(1), 101),
+        (&[0xa1, 0x8d, 0x06], ErrorKind::Limit, 100),
+    ];
+    for (bytes, kind, place) in rows {
+        let outcome = refused(reader_at(bytes, 100).read_string());
+        assert_eq!(rt; outcome, Some((kind, place)));
+        let outcome = refused(reader_at(bytes, 100).skip_string());
+        assert_eq!(rt; outcome, Some((kind, place)));
+    }
+}
+
+#[test]
+fn the_longest_name(rt: HostRuntime) -> std::result::Result<(), Fail> {
+    let mut reader = reader_at(&[0xa0, 0x8d, 0x06], 7);
+    assert_eq!(rt; reader.read_size(MAX_WASM_STRING_SIZE)?, 100_000);
+    Ok(())
+}
+
+fn first_version(bytes: &[u8]) -> BinaryReader<'_> {
+    BinaryReader::new_features(bytes, 1000, WasmFeatures::MVP)
+}
+
+#[test]
+fn windows(rt: HostRuntime) -> std::result::Result<(), Fail> {
+    let mut reader = first_version(&[0x02, 0x80, 0x01, 0x7f]);
+    let inner = reader.read_reader()?;
+    assert_eq!(rt; inner.range().start, 1001);
+    assert_eq!(rt; inner.range().end, 1003);
+    assert_eq!(rt; inner.features(), WasmFeatures::MVP);
+    assert_eq!(rt; reader.current_position(), 3);
+    assert_eq!(rt; reader.bytes_remaining(), 1);
+    assert_eq!(rt; reader.shrink().original_position(), 1003);
+    Ok(())
+}
+
+#[test]
+fn places_in_a_window(rt: HostRuntime) -> std::result::Result<(), Fail> {
+    let mut reader = reader_at(&[0x02, 0x80, 0x01, 0x7f], 1000);
+    let mut inner = reader.read_reader()?;
+    assert_eq!(rt; inner.read_u8()?, 0x80);
+    assert_eq!(rt; inner.remaining_range().start, 1002);
+    assert_eq!(rt;
+        refused(inner.read_bytes(3)),
+        Some((ErrorKind::EndOfFile(2), 1002))
+    );
+    Ok(())
+}
+
+#[test]
+fn skipped_bytes(rt: HostRuntime) -> std::result::Result<(), Fail> {
+    let mut reader = reader_at(&[0x02, 0x80, 0x01, 0x7f], 0);
+    reader.set_features(WasmFeatures::MVP);
+    let mut skipped = reader.skip(|r| {
+        r.read_u8()?;
+        r.read_var_u32()?;
+        Ok(())
+    })?;
+    assert_eq!(rt; skipped.read_bytes(3)?, [0x02, 0x80, 0x01].as_slice());
+    assert_eq!(rt; reader.current_position(), 3);
+    let back = reader.skip(|r| {
+        *r = BinaryReader::new(&[0x7f], 7);
+        Ok(())
+    })?;
+    assert!(rt; back.eof());
+    assert_eq!(rt; back.original_position(), 7);
+    Ok(())
+}
+
+#[test]
+fn places_far_on(rt: HostRuntime) -> std::result::Result<(), Fail> {
+    assert_eq!(rt; BinaryReader::new(&[0x10], 4_294_967_296).read_u8()?, 0x10);
+    assert_eq!(rt; BinaryReader::max_data_len(u64::MAX), 0);
+    Ok(())
+}
+
+#[test]
+fn faults(rt: HostRuntime) -> std::result::Result<(), Fail> {
+    let end = Error::new(ErrorKind::EndOfFile(3), 26);
+    assert_eq!(rt; end.needed_hint(), Some(3));
+    let text = format!(in rt.alloc(); "{end}")?;
+    assert_eq!(rt; text.as_str(), "unexpected end (at offset 0x1a)");
+    let off = Error::new(ErrorKind::Feature(WasmFeatures::GC), 0);
+    assert_eq!(rt; off.missing_wasm_feature(), Some(WasmFeatures::GC));
+    Ok(())
+}
+
+#[test]
+fn messages(rt: HostRuntime) {
+    let rows = [
+        (ErrorKind::EndOfFile(3), "unexpected end"),
+        (ErrorKind::Feature(WasmFeatures::GC), "feature is off"),
+        (ErrorKind::Trailing, "trailing bytes"),
+        (ErrorKind::Memory, "out of memory"),
+    ];
+    for (kind, message) in rows {
+        assert_eq!(rt; Error::new(kind, 0).message(), message);
+    }
+}
+
+#[test]
+fn laws_can_be_cited() {
+    laws::bytes_are_final();
+    laws::numbers_are_final();
+    laws::names_are_final();
+    laws::fronts_end_early();
+    laws::spellings_are_read();
+    laws::spellings_are_prefix_free();
+    laws::shortest_spellings_are_shortest();
+    laws::spellings_fit_their_width();
+    laws::numbers_are_refused_exactly();
+    laws::offsets_move();
+}

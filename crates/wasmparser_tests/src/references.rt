@@ -1,0 +1,5 @@
+// Tests of heap types, reference types and value types.
+
+mod calls;
+mod reading;
+mod texts;

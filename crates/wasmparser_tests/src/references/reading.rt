@@ -1,0 +1,197 @@
+//! Bytes of the Core Specification's binary format, and of shared types.
+
+use crate::faults::refused;
+use std::alloc::Global;
+use std::test::Fail;
+use wasm_reader::{BinaryReader, ErrorKind, Result, WasmFeatures};
+use wasm_ref_types::{AbstractHeapType, HeapType, PackedIndex, RefType, UnpackedIndex, ValType};
+
+// The first byte of each text stands at 11, as that of the first type of a module.
+fn value(alloc: Global, features: WasmFeatures, bytes: &[u8]) -> Result<ValType> {
+    BinaryReader::new_features(bytes, 11, features).read(alloc)
+}
+
+fn reference(alloc: Global, bytes: &[u8]) -> Option<RefType> {
+    BinaryReader::new(bytes, 11).read(alloc).ok()
+}
+
+fn heap(alloc: Global, bytes: &[u8]) -> Result<HeapType> {
+    BinaryReader::new(bytes, 11).read(alloc)
+}
+
+fn module(index: u32) -> HeapType {
+    HeapType::Concrete(UnpackedIndex::Module(index))
+}
+
+#[test]
+fn numbers_and_vectors(rt: HostRuntime) -> std::result::Result<(), Fail> {
+    let types = [
+        (0x7f, ValType::I32),
+        (0x7e, ValType::I64),
+        (0x7d, ValType::F32),
+        (0x7c, ValType::F64),
+        (0x7b, ValType::V128),
+    ];
+    for (byte, ty) in types {
+        assert_eq!(rt;
+            value(rt.alloc(), WasmFeatures::MVP, &[byte]).ok(),
+            Some(ty)
+        );
+    }
+    Ok(())
+}
+
+#[test]
+fn abstract_types(rt: HostRuntime) -> std::result::Result<(), Fail> {
+    let types = [
+        (
+            0x70,
+            AbstractHeapType::Func,
+            RefType::FUNCREF,
+            RefType::FUNC,
+        ),
+        (
+            0x6f,
+            AbstractHeapType::Extern,
+            RefType::EXTERNREF,
+            RefType::EXTERN,
+        ),
+        (0x6e, AbstractHeapType::Any, RefType::ANYREF, RefType::ANY),
+        (
+            0x71,
+            AbstractHeapType::None,
+            RefType::NULLREF,
+            RefType::NONE,
+        ),
+        (
+            0x72,
+            AbstractHeapType::NoExtern,
+            RefType::NULLEXTERNREF,
+            RefType::NOEXTERN,
+        ),
+        (
+            0x73,
+            AbstractHeapType::NoFunc,
+            RefType::NULLFUNCREF,
+            RefType::NOFUNC,
+        ),
+        (0x6d, AbstractHeapType::Eq, RefType::EQREF, RefType::EQ),
+        (
+            0x6b,
+            AbstractHeapType::Struct,
+            RefType::STRUCTREF,
+            RefType::STRUCT,
+        ),
+        (
+            0x6a,
+            AbstractHeapType::Array,
+            RefType::ARRAYREF,
+            RefType::ARRAY,
+        ),
+        (0x6c, AbstractHeapType::I31, RefType::I31REF, RefType::I31),
+        (0x69, AbstractHeapType::Exn, RefType::EXNREF, RefType::EXN),
+        (
+            0x74,
+            AbstractHeapType::NoExn,
+            RefType::NULLEXNREF,
+            RefType::NOEXN,
+        ),
+    ];
+    for (byte, ty, nullable, non_null) in types {
+        let bytes = [byte];
+        let mut reader = BinaryReader::new(&bytes, 0);
+        let read: Result<AbstractHeapType> = reader.read(rt.alloc());
+        assert_eq!(rt; read.ok(), Some(ty));
+        assert_eq!(rt; reference(rt.alloc(), &[byte]), Some(nullable));
+        assert_eq!(rt; reference(rt.alloc(), &[0x63, byte]), Some(nullable));
+        assert_eq!(rt; reference(rt.alloc(), &[0x64, byte]), Some(non_null));
+        let shared = HeapType::Abstract { shared: true, ty };
+        assert_eq!(rt;
+            reference(rt.alloc(), &[0x65, byte]),
+            RefType::new(true, shared)
+        );
+        assert_eq!(rt;
+            reference(rt.alloc(), &[0x64, 0x65, byte]),
+            RefType::new(false, shared)
+        );
+    }
+    Ok(())
+}
+
+#[test]
+fn indices(rt: HostRuntime) -> std::result::Result<(), Fail> {
+    let alloc = rt.alloc();
+    let zero = RefType::new(false, module(0));
+    assert_eq!(rt; reference(alloc, &[0x64, 0x00]), zero);
+    assert_eq!(rt; heap(alloc, &[0x80, 0x00])?, module(0));
+    assert_eq!(rt;
+        reference(alloc, &[0x63, 0xac, 0x02]),
+        RefType::new(true, module(300))
+    );
+    assert_eq!(rt; heap(alloc, &[0xff, 0xff, 0x3f])?, module(1_048_575));
+    let five = reference(alloc, &[0x64, 0x05]).and_then(|ty| ty.type_index());
+    assert_eq!(rt; five, PackedIndex::from_module_index(5));
+    Ok(())
+}
+
+#[test]
+fn features_that_are_off(rt: HostRuntime) -> std::result::Result<(), Fail> {
+    let shared = ErrorKind::Feature(WasmFeatures::SHARED_EVERYTHING_THREADS);
+    let forms: [(&[u8], u64); 2] = [(&[0x65, 0x70], 11), (&[0x63, 0x65, 0x00], 12)];
+    for (bytes, place) in forms {
+        let outcome = value(rt.alloc(), WasmFeatures::default(), bytes);
+        assert_eq!(rt; refused(outcome), Some((shared, place)));
+    }
+    let types = ErrorKind::Feature(WasmFeatures::GC_TYPES);
+    for byte in [
+        0x63, 0x64, 0x6e, 0x71, 0x72, 0x73, 0x6d, 0x6b, 0x6a, 0x6c, 0x74,
+    ] {
+        let outcome = value(rt.alloc(), WasmFeatures::FLOATS, &[byte]);
+        assert_eq!(rt; refused(outcome), Some((types, 11)));
+    }
+    for byte in [0x70, 0x6f, 0x69] {
+        assert_eq!(rt;
+            value(rt.alloc(), WasmFeatures::FLOATS, &[byte]).is_ok(),
+            true
+        );
+    }
+    Ok(())
+}
+
+#[test]
+fn faults_of_values(rt: HostRuntime) -> std::result::Result<(), Fail> {
+    let faults: [(&[u8], ErrorKind, u64); 9] = [
+        (&[], ErrorKind::EndOfFile(1), 11),
+        (&[0x63], ErrorKind::EndOfFile(1), 12),
+        (&[0x63, 0x80], ErrorKind::EndOfFile(1), 13),
+        (&[0x40], ErrorKind::BadByte, 11),
+        (&[0x00], ErrorKind::BadByte, 11),
+        (&[0x68], ErrorKind::BadByte, 11),
+        (&[0x63, 0x65, 0x00], ErrorKind::BadByte, 13),
+        (&[0x65, 0x60], ErrorKind::BadByte, 12),
+        (&[0x63, 0x80, 0x80, 0xc0, 0x00], ErrorKind::Limit, 12),
+    ];
+    for (bytes, kind, place) in faults {
+        let outcome = value(rt.alloc(), WasmFeatures::all(), bytes);
+        assert_eq!(rt; refused(outcome), Some((kind, place)));
+    }
+    Ok(())
+}
+
+// A padded `func` is no byte of an abstract type, and exact types have no bytes.
+#[test]
+fn faults_of_heap_types(rt: HostRuntime) -> std::result::Result<(), Fail> {
+    let faults: [(&[u8], ErrorKind, u64); 3] = [
+        (&[0xf0, 0x7f], ErrorKind::BadByte, 11),
+        (&[0x62, 0x00], ErrorKind::BadByte, 11),
+        (
+            &[0x80, 0x80, 0x80, 0x80, 0x80, 0x00],
+            ErrorKind::TooLong,
+            15,
+        ),
+    ];
+    for (bytes, kind, place) in faults {
+        assert_eq!(rt; refused(heap(rt.alloc(), bytes)), Some((kind, place)));
+    }
+    Ok(())
+}

@@ -1,0 +1,6 @@
+// Tests of composite types, subtypes, groups and their section.
+
+mod calls;
+mod reading;
+mod refusing;
+mod section;
