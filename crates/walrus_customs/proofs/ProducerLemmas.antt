@@ -1,7 +1,6 @@
 -- Entries of producers, as their texts.
 use Rattle.std.proofs.Common.{◌≡◌, ◌∙◌, ℕ, zero, suc, List, [], ◌∷◌, refl, sym, ap, get_or, slice_set, string_bytes, bytes_eq}
-use Rattle.wasm_producers.specs.Entries.{Value, Field, with_value, with_entry}
-use Rattle.walrus_customs.specs.declared.producers.ProducerValue.{ProducerValue}
+use Rattle.wasm_producers.specs.Entries.{with_value, with_entry}
 use Rattle.walrus_customs.specs.declared.producers.ProducerField.{ProducerField}
 use Rattle.walrus_customs.specs.Producers.{value_of, values_of, field_of, fields_of}
 use Rattle.walrus_customs.proofs.EditLemmas.{Edits}

@@ -115,11 +115,11 @@ impl ProducerField {
     /// # Errors
     ///
     /// Want of memory.
-    pub fn clone(&self, alloc: Global) -> Result<Self, AllocError>
+    pub fn clone(&self) -> Result<Self, AllocError>
         ensures { IfOk result (λ copy. field_of copy ≡ field_of self.now) }
     {
         let name = self.name.clone()?;
-        let mut values = Vec::new(alloc);
+        let mut values = Vec::new(*self.values.allocator());
         for value in self.values.iter() {
             values.push(value.clone()?)?;
         }

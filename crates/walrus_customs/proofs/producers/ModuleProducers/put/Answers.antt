@@ -1,5 +1,5 @@
-use Rattle.std.proofs.Common.{rules, ◌≡◌, [], ◌∷◌, ◌++◌, ◌∙◌, ap, sym, slice_set}
-use Rattle.walrus_customs.specs.Producers.{field_of, fields_of, values_of}
+use Rattle.std.proofs.Common.{rules, ◌≡◌, ◌∙◌, ap, sym, slice_set}
+use Rattle.walrus_customs.specs.Producers.{field_of, fields_of}
 use Rattle.walrus_customs.proofs.EditLemmas.{edited, added}
 use Rattle.walrus_customs.proofs.ProducerLemmas.{fields_edited, field_put, field_same, seen_alike}
 use Rattle.walrus_customs.proofs.producers.ModuleProducers.put.Goals as goal
@@ -16,9 +16,9 @@ pub returns-in_err-put-in-Some-clause-refused : goal.returns-in_err-put-in-Some-
 returns-in_err-put-in-Some-clause-refused c =
     let held = c.self.inside.fields.items in
     let same : fields_of (slice_set held c.in-Some.index c.put.new.self) ≡ fields_of c.args.self.now =
-        rw (← c.self.view_is)
-        (seen_alike held c.in-Some.index c.index_mut-field.result.now c.put.new.self (sym c.index_mut-field.ensures.value)
-        (field_same c.index_mut-field.result.now c.put.new.self c.put.ensures.name (search rules)))
+    rw (← c.self.view_is)
+    (seen_alike held c.in-Some.index c.index_mut-field.result.now c.put.new.self (sym c.index_mut-field.ensures.value)
+    (field_same c.index_mut-field.result.now c.put.new.self c.put.ensures.name (search rules)))
     in
     search rules
 
