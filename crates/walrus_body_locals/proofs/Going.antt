@@ -26,7 +26,7 @@ use Rattle.walrus_body_locals.specs.Calls.{IsFaultOf}
 use Rattle.walrus_body_locals.specs.Told.{Telling, Fails, AnswersTold, Tells, Pass, pass_on, pass_entries}
 use Rattle.walrus_body_locals.specs.Locals.{IsRunOf, run_in, IsSeen, FailRuns, Adds, Declares}
 use Rattle.walrus_body_locals.proofs.Adding.{adds_none, adds_more}
-use Rattle.walrus_body_locals.proofs.Counts.{end_stays, reader_refuses}
+use Rattle.walrus_body_locals.proofs.Answering.{end_stays, reader_refuses}
 
 -- ---- the locals of one more run
 

@@ -1,3 +1,4 @@
+pub mod Answering
 mod NamedTypes
 mod Counts
 mod Adding

@@ -165,7 +165,8 @@ impl Stack {
         Ok(())
     }
 
-    // Gives the innermost sequence its instructions, and its end this location.
+    // Gives the innermost sequence its instructions, and its end this location. A list that was pushed to has room to spare, which would
+    // cost each later walk its time.
     pub(crate) fn close(&mut self, place: InstrLocId)
         requires { self.old.current.seq < length (blocks self.old) }
         ensures filled { blocks self.new ≡ filled place self.old }
@@ -174,7 +175,8 @@ impl Stack {
         ensures outer { self.new.outer ≡ self.old.outer }
     {
         let empty = Vec::new(self.alloc);
-        let instrs = mem::replace(&mut self.current.instrs, empty);
+        let mut instrs = mem::replace(&mut self.current.instrs, empty);
+        instrs.shrink_to_fit();
         self.builder.fill(self.current.seq, instrs, place);
     }
 

@@ -1,11 +1,12 @@
 //! Times the collections of a module: `walrus_collections_bench COUNT`.
 //!
-//! Adds so many items to each of the nine collections, looks each up by its id, and deletes every second one. How many are
-//! found and how many are left in each is printed on standard output; on standard error, for each collection, the
-//! microseconds of adding, of finding and of deleting.
+//! Adds so many items to each of the nine collections, looks each up by its id, and deletes them. How many are found and how
+//! many are left in each is printed on standard output; on standard error, for each collection, the microseconds of
+//! adding, of finding and of deleting.
 #![tactic(auto)]
 
 use anyhow::Result;
+use std::alloc::{AllocError, Global};
 use std::env;
 use std::time::Instant;
 use walrus_arena::{FunctionId, Id, ImportId, MemoryId, TableId, Tombstone, TypeId};
@@ -34,92 +35,137 @@ fn main(rt: HostRuntime) -> Result<()> {
     elements(&rt, count)
 }
 
-fn imports(rt: &HostRuntime, count: usize) -> Result<()> {
-    let start = Instant::now(rt)?;
-    let mut items = ModuleImports::new(rt.alloc());
+fn add_imports(items: &mut ModuleImports, count: usize) -> Result<(), AllocError> {
     for _ in 0..count {
         items.add("m", "n", FunctionId::from_index(0))?;
     }
+    Ok(())
+}
+
+fn imports(rt: &HostRuntime, count: usize) -> Result<()> {
+    let mut items = ModuleImports::new(rt.alloc());
+    let start = Instant::now(rt)?;
+    add_imports(&mut items, count)?;
     tell(rt, "imports", start, &mut items)
 }
 
-fn exports(rt: &HostRuntime, count: usize) -> Result<()> {
-    let start = Instant::now(rt)?;
-    let mut items = ModuleExports::new(rt.alloc());
+fn add_exports(items: &mut ModuleExports, count: usize) -> Result<(), AllocError> {
     for _ in 0..count {
         items.add("n", FunctionId::from_index(0))?;
     }
+    Ok(())
+}
+
+fn exports(rt: &HostRuntime, count: usize) -> Result<()> {
+    let mut items = ModuleExports::new(rt.alloc());
+    let start = Instant::now(rt)?;
+    add_exports(&mut items, count)?;
     tell(rt, "exports", start, &mut items)
 }
 
-fn functions(rt: &HostRuntime, count: usize) -> Result<()> {
-    let start = Instant::now(rt)?;
-    let mut items = ModuleFunctions::new(rt.alloc());
+fn add_functions(items: &mut ModuleFunctions, count: usize) -> Result<(), AllocError> {
     for _ in 0..count {
         items.add_import(TypeId::from_index(0), ImportId::from_index(0))?;
     }
+    Ok(())
+}
+
+fn functions(rt: &HostRuntime, count: usize) -> Result<()> {
+    let mut items = ModuleFunctions::new(rt.alloc());
+    let start = Instant::now(rt)?;
+    add_functions(&mut items, count)?;
     tell(rt, "functions", start, &mut items)
 }
 
-fn tables(rt: &HostRuntime, count: usize) -> Result<()> {
-    let start = Instant::now(rt)?;
-    let mut items = ModuleTables::new(rt.alloc());
+fn add_tables(items: &mut ModuleTables, count: usize) -> Result<(), AllocError> {
     for _ in 0..count {
         items.add_local(false, 1, None, RefType::FUNCREF)?;
     }
+    Ok(())
+}
+
+fn tables(rt: &HostRuntime, count: usize) -> Result<()> {
+    let mut items = ModuleTables::new(rt.alloc());
+    let start = Instant::now(rt)?;
+    add_tables(&mut items, count)?;
     tell(rt, "tables", start, &mut items)
 }
 
-fn memories(rt: &HostRuntime, count: usize) -> Result<()> {
-    let start = Instant::now(rt)?;
-    let mut items = ModuleMemories::new(rt.alloc());
+fn add_memories(items: &mut ModuleMemories, count: usize) -> Result<(), AllocError> {
     for _ in 0..count {
         items.add_local(false, false, 1, None, None)?;
     }
+    Ok(())
+}
+
+fn memories(rt: &HostRuntime, count: usize) -> Result<()> {
+    let mut items = ModuleMemories::new(rt.alloc());
+    let start = Instant::now(rt)?;
+    add_memories(&mut items, count)?;
     tell(rt, "memories", start, &mut items)
 }
 
-fn globals(rt: &HostRuntime, count: usize) -> Result<()> {
-    let start = Instant::now(rt)?;
-    let mut items = ModuleGlobals::new(rt.alloc());
+fn add_globals(items: &mut ModuleGlobals, count: usize) -> Result<(), AllocError> {
     for _ in 0..count {
         items.add_local(ValType::I32, false, false, zero())?;
     }
+    Ok(())
+}
+
+fn globals(rt: &HostRuntime, count: usize) -> Result<()> {
+    let mut items = ModuleGlobals::new(rt.alloc());
+    let start = Instant::now(rt)?;
+    add_globals(&mut items, count)?;
     tell(rt, "globals", start, &mut items)
 }
 
-fn tags(rt: &HostRuntime, count: usize) -> Result<()> {
-    let start = Instant::now(rt)?;
-    let mut items = ModuleTags::new(rt.alloc());
+fn add_tags(items: &mut ModuleTags, count: usize) -> Result<(), AllocError> {
     for _ in 0..count {
         items.add(TypeId::from_index(0))?;
     }
+    Ok(())
+}
+
+fn tags(rt: &HostRuntime, count: usize) -> Result<()> {
+    let mut items = ModuleTags::new(rt.alloc());
+    let start = Instant::now(rt)?;
+    add_tags(&mut items, count)?;
     tell(rt, "tags", start, &mut items)
 }
 
-fn data(rt: &HostRuntime, count: usize) -> Result<()> {
-    let start = Instant::now(rt)?;
-    let mut items = ModuleData::new(rt.alloc());
+fn add_data(alloc: Global, items: &mut ModuleData, count: usize) -> Result<(), AllocError> {
     for _ in 0..count {
         let kind = DataKind::Active {
             memory: MemoryId::from_index(0),
             offset: zero(),
         };
-        items.add(kind, Vec::new(rt.alloc()))?;
+        items.add(kind, Vec::new(alloc))?;
     }
+    Ok(())
+}
+
+fn data(rt: &HostRuntime, count: usize) -> Result<()> {
+    let mut items = ModuleData::new(rt.alloc());
+    let start = Instant::now(rt)?;
+    add_data(rt.alloc(), &mut items, count)?;
     tell(rt, "data", start, &mut items)
 }
 
-fn elements(rt: &HostRuntime, count: usize) -> Result<()> {
-    let start = Instant::now(rt)?;
-    let mut items = ModuleElements::new(rt.alloc());
+fn add_elements(alloc: Global, items: &mut ModuleElements, count: usize) -> Result<(), AllocError> {
     for _ in 0..count {
         let kind = ElementKind::Active {
             table: TableId::from_index(0),
             offset: zero(),
         };
-        items.add(kind, ElementItems::Functions(Vec::new(rt.alloc())))?;
+        items.add(kind, ElementItems::Functions(Vec::new(alloc)))?;
     }
+    Ok(())
+}
+
+fn elements(rt: &HostRuntime, count: usize) -> Result<()> {
+    let mut items = ModuleElements::new(rt.alloc());
+    let start = Instant::now(rt)?;
+    add_elements(rt.alloc(), &mut items, count)?;
     tell(rt, "elements", start, &mut items)
 }
 
@@ -127,7 +173,7 @@ fn zero() -> ConstExpr {
     ConstExpr::Value(Value::I32(0))
 }
 
-// Says how long adding took since the start, and finds and deletes what was added.
+// Says how long adding took since the start, and finds and deletes what was added: what holds the items promises nothing of them.
 fn tell<T: Tombstone + Drop, S>(
     rt: &HostRuntime,
     name: &str,
@@ -139,7 +185,7 @@ fn tell<T: Tombstone + Drop, S>(
     let found = count_of(items);
     let finding = start.elapsed(rt)?.as_micros();
     let start = Instant::now(rt)?;
-    thin(items);
+    empty(items);
     let deleting = start.elapsed(rt)?.as_micros();
     println!(rt; "{name}: {found} found, {} left", count_of(items))?;
     eprintln!(rt; "{name} {adding} {finding} {deleting}")?;
@@ -157,10 +203,10 @@ fn count_of<T, S>(items: &Collection<T, S>) -> usize {
     found
 }
 
-// Deletes every second item.
-fn thin<T: Tombstone + Drop, S>(items: &mut Collection<T, S>) {
+// Deletes all items.
+fn empty<T: Tombstone + Drop, S>(items: &mut Collection<T, S>) {
     for index in 0..items.next_id().index() {
-        if index % 2 == 0 && items.contains(Id::from_index(index)) {
+        if items.contains(Id::from_index(index)) {
             items.delete(Id::from_index(index));
         }
     }

@@ -1,9 +1,8 @@
 //! Constant expressions (Core Specification, valid expressions: constant expressions; binary format: expressions).
 
 ghost use Rattle.std.specs.Prelude.{◌≡◌, ◌<◌, true, false, length, map, option_map, IfOk, OnOk};
-ghost use Rattle.wasm_reader.specs.Cursor.{rest, TakesByte};
+ghost use Rattle.wasm_reader.specs.Cursor.{rest};
 ghost use Rattle.wasm_reader.specs.Reading.{plain};
-ghost use Rattle.wasm_formats.specs.Led.{IsOther};
 ghost use Rattle.wasm_formats.specs.Stops.{ConstExpr, Index, OffsetType};
 ghost use Rattle.wasm_formats.specs.Until.{until};
 ghost use Rattle.wasm_grammar.specs.TypeWords.{heap_of};
@@ -25,6 +24,7 @@ ghost use Rattle.wasm_reader.specs.Reading.{Reads};
 
 use crate::globals::Global;
 use crate::types::{heap_record, is_named_below};
+use crate::values::take_byte;
 use std::alloc::Global as Alloc;
 use walrus_forms::ValRecord;
 use walrus_operators::{Immediates, Operator};
@@ -259,18 +259,6 @@ fn read_operator(alloc: Alloc, known: &Known<'_>, reader: &mut BinaryReader<'_>)
     Ok(op)
 }
 
-// Takes the `end`, where it comes next.
-fn take_end(reader: &mut BinaryReader<'_>) -> bool
-    ensures took { result ≡ true → TakesByte 0x0b reader.old reader.new }
-    ensures stays { result ≡ false → (reader.new ≡ reader.old) × IsOther 0x0b (rest reader.old) }
-{
-    if !matches!(reader.peek(), Ok(0x0b)) {
-        return false;
-    }
-    let _ = reader.read_u8();
-    true
-}
-
 // Operators up to the `end`.
 fn read_operators(
     alloc: Alloc,
@@ -281,7 +269,7 @@ fn read_operators(
 {
     let mut operators = Vec::new(alloc);
     loop {
-        if take_end(reader) {
+        if take_byte(0x0b, reader) {
             return Ok(operators);
         }
         operators.push(read_operator(alloc, known, reader)?)?;

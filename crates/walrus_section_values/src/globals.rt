@@ -7,7 +7,7 @@ use walrus_operators::Operator;
 #[derive(Drop)]
 pub enum GlobalOrigin {
     /// The import of this number.
-    Import(u32),
+    Import(usize),
     /// The module itself, with these operators to begin with.
     Own(Vec<Operator>),
 }

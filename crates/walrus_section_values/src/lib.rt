@@ -15,4 +15,4 @@ pub use limits::{
 pub use types::{
     heap_record, is_named_below, read_ref_type, read_value_type, ref_record, value_record,
 };
-pub use values::{read_below, read_index, read_name, read_u32, read_zero};
+pub use values::{read_below, read_index, read_name, read_u32, read_zero, take_byte};

@@ -1,6 +1,8 @@
 //! Bytes, numbers, indices and names.
 
-ghost use Rattle.std.specs.Prelude.{◌≡◌};
+ghost use Rattle.std.specs.Prelude.{◌≡◌, true, false};
+ghost use Rattle.wasm_reader.specs.Cursor.{TakesByte, rest};
+ghost use Rattle.wasm_formats.specs.Led.{IsOther};
 ghost use Rattle.wasm_reader.specs.declared.error.ErrorKind.TheVariants as kinds;
 ghost use Rattle.wasm_reader.specs.Reading.{plain, seen_bytes};
 ghost use Rattle.wasm_formats.specs.Stops.{Read};
@@ -60,4 +62,19 @@ pub fn read_index(space: Space, count: usize, reader: &mut BinaryReader<'_>) -> 
         return Err(Fault::new(FaultKind::Index(space), offset));
     }
     Ok(index)
+}
+
+/// Takes this byte, where it comes next.
+pub fn take_byte(byte: u8, reader: &mut BinaryReader<'_>) -> bool
+    ensures took { result ≡ true → TakesByte byte reader.old reader.new }
+    ensures stays { result ≡ false → (reader.new ≡ reader.old) × IsOther byte (rest reader.old) }
+{
+    let Ok(next) = reader.peek() else {
+        return false;
+    };
+    if next != byte {
+        return false;
+    }
+    let _ = reader.read_u8();
+    true
 }

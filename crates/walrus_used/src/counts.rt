@@ -1,5 +1,5 @@
 //! What is reached in a module.
-ghost use Rattle.std.specs.Prelude.{◌≡◌, IfOk};
+ghost use Rattle.std.specs.Prelude.{◌≡◌, ◌<◌, ◌≤◌, ◌^◌, ℕ, IfOk, slice_index_or};
 ghost use Rattle.std.specs.List.{fold};
 ghost use Rattle.walrus_marks.specs.Chains.{IsReached};
 ghost use Rattle.walrus_references.specs.References.{Refers};
@@ -18,7 +18,9 @@ use walrus_types::ModuleTypes;
 
 // The count, or one more than the id.
 fn past(count: usize, id: TypeId) -> usize
-    ensures { result ≡ past_id count id }
+    requires { count ≤ 2 ^ 32 }
+    ensures past { result ≡ past_id count id }
+    ensures bounded { result ≤ 2 ^ 32 }
 {
     if id.index() < count {
         count
@@ -29,7 +31,9 @@ fn past(count: usize, id: TypeId) -> usize
 
 // The count, or one more than the highest of these ids.
 fn past_all(count: usize, members: &[TypeId]) -> usize
-    ensures { result ≡ fold past_id count members.now }
+    requires { count ≤ 2 ^ 32 }
+    ensures past { result ≡ fold past_id count members.now }
+    ensures bounded { result ≤ 2 ^ 32 }
 {
     let mut above = count;
     for member in members {
@@ -40,7 +44,8 @@ fn past_all(count: usize, members: &[TypeId]) -> usize
 
 /// One more than the highest id of a live type.
 pub fn type_count(types: &ModuleTypes) -> usize
-    ensures { result ≡ past_types types.now }
+    ensures count { result ≡ past_types types.now }
+    ensures bounded { result ≤ 2 ^ 32 }
 {
     let mut count = 0;
     for group in types.rec_groups() {
@@ -49,9 +54,10 @@ pub fn type_count(types: &ModuleTypes) -> usize
     count
 }
 
-// How many ids were given out in each space; of types, one more than the highest live one.
-fn counts(input: &Module) -> [usize; 10]
-    ensures { result ≡ counts_of (parts input.now) }
+/// How many ids were given out in each space, by the number of the space; of types, one more than the highest live one.
+pub fn id_counts(input: &Module) -> [usize; 10]
+    ensures counts { result ≡ counts_of (parts input.now) }
+    ensures bounded { (space : ℕ) → space < 8 → slice_index_or (counts_of (parts input.now)) space 0 ≤ 2 ^ 32 }
 {
     [
         type_count(&input.types),
@@ -84,5 +90,5 @@ pub fn reach_items(alloc: Global, input: &Module, pushed: &[Item]) -> Result<Mar
         pushed,
         active: active.as_slice(),
     };
-    reach(alloc, &names, &counts(input))
+    reach(alloc, &names, &id_counts(input))
 }

@@ -8,4 +8,4 @@ mod names;
 mod roots;
 mod segments;
 
-pub use counts::reach_items;
+pub use counts::{id_counts, reach_items, type_count};

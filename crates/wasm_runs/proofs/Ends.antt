@@ -7,11 +7,11 @@ use Rattle.wasm_operators.specs.declared.entry.Flow.{Flow}
 use Rattle.wasm_operators.specs.declared.entry.Flow.TheVariants as flows
 use Rattle.wasm_operators.specs.Operators.{Seen, flow_of}
 use Rattle.wasm_normal_form.specs.Trees.{Tree, Close, Arm, Skip, Run, Nest}
-use Rattle.wasm_runs.specs.Outcomes.{Outcome, Ending, Trapped, Waiting, Spent, Misfit, goes_on, holds, throws, number, Reply, Back, Fails, Thrown, reply, Found, Replies, Into, found, given, taken}
-use Rattle.wasm_runs.specs.Programs.{Program, Executed, Event, Code, whole, cut, nested, labels_of, callee_of, clauses_of}
-use Rattle.wasm_runs.specs.Frames.{Way, To, Along, Handler, Frame, plain, Part, parts, closing, passed, handler_of, clause_handler, opened}
-use Rattle.wasm_runs.specs.Machine.{Move, Goes, Leaves, Raises, Enters, Becomes, Ends, to_frame, branch, branch_to, caught, offered_one, offered, thrown, Step, nothing, did, did_unless_over, stuck, goes_or_traps, Call, from, instead, entered, replied, calls, finds, calls_any, acts, otherwise, begins, ends_part, act}
-use Rattle.wasm_runs.specs.Traces.{Activation, State, Next, On, Over, activation, on, back_to, moved, raised, step, Traces, over, goes, answered, starts}
+use Rattle.wasm_runs.specs.Outcomes.{Outcome, Ending, Waiting, Misfit, goes_on, holds, throws, number, Reply, Back, Fails, Thrown, reply, Found, Replies, Into, found, given, taken}
+use Rattle.wasm_runs.specs.Programs.{Executed, Event, Code, whole, cut, nested, labels_of, callee_of, clauses_of}
+use Rattle.wasm_runs.specs.Frames.{Way, To, Along, Handler, Frame, plain, Part, parts, handler_of, clause_handler, opened}
+use Rattle.wasm_runs.specs.Machine.{Move, Goes, Leaves, Raises, Enters, Becomes, Ends, to_frame, branch, branch_to, caught, offered_one, offered, thrown, Step, did, did_unless_over, stuck, goes_or_traps, Call, from, instead, entered, replied, calls, finds, calls_any, acts, otherwise, begins, ends_part, act}
+use Rattle.wasm_runs.specs.Traces.{Activation, State, Next, On, Over, activation, back_to, moved, raised, step, Traces, over, goes, starts}
 use Rattle.wasm_runs.specs.Laws.{EachRunEnds, OneTrace, EachBodyEnds, OneBodyTrace}
 
 -- ---- how much is ahead: in a sequence with its other parts, and up to its end

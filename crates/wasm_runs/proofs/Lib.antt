@@ -1,6 +1,1 @@
 pub mod Ends
-pub mod Images
-pub mod Alike
-pub mod Nested
-pub mod Entries
-pub mod Corresponds

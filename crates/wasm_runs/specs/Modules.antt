@@ -1,5 +1,5 @@
 -- The abstract module as runs see it.
-use Rattle.std.specs.Prelude.{ℕ, List, [], ◌∷◌, map, Option, Some, None, slice_get, slice_index_or}
+use Rattle.std.specs.Prelude.{List, [], ◌∷◌, map, Option, Some, None, slice_get, slice_index_or}
 use Rattle.walrus_forms.specs.Kinds.{Kind}
 use Rattle.walrus_forms.specs.Forms.{params_of, results_of}
 use Rattle.wasm_immediates.specs.declared.block_type.BlockType.{BlockType}

@@ -1,5 +1,5 @@
 -- Modules as runs see them, and what of an executed operator stands in a trace.
-use Rattle.std.specs.Prelude.{ℕ, List, [], ◌∷◌, map, Option, Some, None, slice_get}
+use Rattle.std.specs.Prelude.{ℕ, List, [], ◌∷◌, map, Option, None, slice_get}
 use Rattle.std.specs.List.{flat_map}
 use Rattle.wasm_ref_types.specs.declared.value.ValType.{ValType}
 use Rattle.wasm_immediates.specs.declared.block_type.BlockType.{BlockType}

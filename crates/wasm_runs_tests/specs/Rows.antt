@@ -1,5 +1,5 @@
 -- Traces of bodies and of modules, worked by hand.
-use Rattle.std.specs.Prelude.{ℕ, List, [], ◌∷◌, Option}
+use Rattle.std.specs.Prelude.{List, [], ◌∷◌, Option}
 use Rattle.wasm_ref_types.specs.declared.value.ValType.TheVariants.{I32, I64, F64}
 use Rattle.wasm_immediates.specs.declared.block_type.BlockType.TheVariants as blocks
 use Rattle.wasm_immediates.specs.declared.clause.Clause.TheVariants as clauses

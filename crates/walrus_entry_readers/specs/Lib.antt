@@ -1,0 +1,10 @@
+pub mod Types
+pub mod Items
+pub mod State
+pub mod Rooms
+pub mod Entries
+pub mod Leads
+pub mod Known
+pub mod Imports
+pub mod ImportLemmas
+pub mod Lists

@@ -1,0 +1,12 @@
+pub mod ChangeLaws
+pub mod DataChanges
+pub mod DropLemmas
+pub mod ElementChanges
+pub mod FunctionChanges
+pub mod GlobalChanges
+pub mod ImportChanges
+pub mod MemoryChanges
+pub mod SlotLemmas
+pub mod TableChanges
+pub mod TagChanges
+pub mod TypeChanges

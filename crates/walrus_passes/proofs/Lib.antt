@@ -1,0 +1,5 @@
+pub mod KeptLemmas
+pub mod PartLemmas
+pub mod RestLemmas
+pub mod SetLemmas
+pub mod TypeLemmas

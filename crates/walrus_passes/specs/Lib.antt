@@ -1,0 +1,4 @@
+pub mod DroppedTypes
+pub mod Keeping
+pub mod Part
+pub mod UsedItems

@@ -1,0 +1,67 @@
+//! Dropping what isn't kept.
+ghost use Rattle.std.specs.Prelude.{◌≡◌, [], IfErr, OnErr, OnOk};
+ghost use Rattle.wasm_formats.specs.declared.fault.Space.TheVariants as spaces;
+ghost use Rattle.walrus_module.specs.Parts.{parts};
+ghost use Rattle.walrus_roots.specs.Items.{item};
+ghost use Rattle.walrus_refusals.specs.Sound.{IsRefused, IsSound};
+ghost use Rattle.walrus_passes.specs.DroppedTypes.{AreClosed};
+ghost use Rattle.walrus_passes.specs.Keeping.{IsHeld};
+ghost use Rattle.walrus_passes.specs.Part.{IsKeptPart, IsPart};
+
+use crate::drop::{drop_imports, drop_items};
+use crate::kept::{KeptItems, kept_items};
+use crate::types::drop_types;
+use std::alloc::Global;
+use walrus_errors::ModuleError;
+use walrus_module::Module;
+use walrus_roots::Item;
+use wasm_formats::Space;
+
+// Deletes the items that aren't kept, and each import whose item isn't. Takes no memory.
+fn drop_unkept(input: &mut Module, kept: &KeptItems)
+    requires { AreClosed (λ id. IsHeld kept.now (item spaces.Type id)) input.old.types }
+    ensures { IsPart (IsHeld kept.now) (parts input.old) (parts input.new) }
+{
+    drop_types(&mut input.types, kept);
+    drop_items(&mut input.funcs, kept, Space::Function);
+    drop_items(&mut input.tables, kept, Space::Table);
+    drop_items(&mut input.memories, kept, Space::Memory);
+    drop_items(&mut input.tags, kept, Space::Tag);
+    drop_items(&mut input.globals, kept, Space::Global);
+    drop_items(&mut input.elements, kept, Space::Element);
+    drop_items(&mut input.data_segments, kept, Space::Data);
+    drop_imports(&mut input.imports, kept);
+}
+
+/// Deletes the items of the module that aren't used, and each import whose item isn't. Entry types stay, but for those
+/// in explicit groups that aren't used. What is used is found before anything is deleted, and deleting takes no memory.
+///
+/// # Errors
+///
+/// In this order, for what is reached from the roots: `NotLinked` where an item and an import don't name each other, or
+/// a function has no body or not its arguments; `NoTree` where a body is no tree; `DeadReference` where an item doesn't
+/// live. Want of memory. The module stays as it was.
+pub fn run(alloc: Global, input: &mut Module) -> Result<(), ModuleError>
+    ensures kept { OnOk result (IsKeptPart (parts input.old) [] (parts input.new)) }
+    ensures sound { OnOk result (IsSound (parts input.old) []) }
+    ensures unchanged { OnErr result (input.new ≡ input.old) }
+    ensures refused { IfErr result (IsRefused (parts input.old) []) }
+{
+    run_from_roots(alloc, input, &[])
+}
+
+/// The same where these items are roots, too.
+///
+/// # Errors
+///
+/// Those of `run`.
+pub fn run_from_roots(alloc: Global, input: &mut Module, pushed: &[Item]) -> Result<(), ModuleError>
+    ensures kept { OnOk result (IsKeptPart (parts input.old) pushed.now (parts input.new)) }
+    ensures sound { OnOk result (IsSound (parts input.old) pushed.now) }
+    ensures unchanged { OnErr result (input.new ≡ input.old) }
+    ensures refused { IfErr result (IsRefused (parts input.old) pushed.now) }
+{
+    let kept = kept_items(alloc, input, pushed)?;
+    drop_unkept(input, &kept);
+    Ok(())
+}

@@ -1,0 +1,112 @@
+//! What of a module is used.
+ghost use Rattle.std.specs.Prelude.{[], ◌<◌, ◌≤◌, ◌^◌, ℕ, Decides, IfErr, IfOk, OnOk, nat_eq};
+ghost use Rattle.std.specs.HashSet.{contains};
+ghost use Rattle.walrus_module.specs.Parts.{parts};
+ghost use Rattle.walrus_roots.specs.Items.{item};
+ghost use Rattle.walrus_marks.specs.Chains.{FitsIn};
+ghost use Rattle.walrus_used.specs.Counts.{counts_of};
+ghost use Rattle.walrus_refusals.specs.Sound.{IsRefused, IsSound};
+ghost use Rattle.walrus_passes.specs.Keeping.{IsHeld};
+ghost use Rattle.walrus_passes.specs.UsedItems.{AreKept, HasJust};
+
+use crate::kept::{KeptItems, kept_items};
+use std::alloc::{AllocError, Global};
+use walrus_arena::{
+    DataSpace, ElementSpace, FunctionSpace, GlobalSpace, Id, IdHashSet, MemorySpace, TableSpace,
+    TagSpace, TypeSpace,
+};
+use walrus_errors::ModuleError;
+use walrus_module::Module;
+use walrus_roots::Item;
+use walrus_used::id_counts;
+use wasm_formats::Space;
+
+/// The items of a module that are used: what chains of references reach from its roots (exports, the start function,
+/// active data segments, active element segments of imported tables, declared element segments, and what custom
+/// sections push); and its first memory, where data is used and no memory is.
+#[derive(Drop)]
+pub struct Used {
+    pub types: IdHashSet<TypeSpace>,
+    pub funcs: IdHashSet<FunctionSpace>,
+    pub tables: IdHashSet<TableSpace>,
+    pub memories: IdHashSet<MemorySpace>,
+    pub tags: IdHashSet<TagSpace>,
+    pub globals: IdHashSet<GlobalSpace>,
+    pub elements: IdHashSet<ElementSpace>,
+    pub data_segments: IdHashSet<DataSpace>,
+}
+
+// The ids below the count that are kept in the space.
+fn set_of<S>(
+    alloc: Global,
+    kept: &KeptItems,
+    space: Space,
+    count: usize,
+) -> Result<IdHashSet<S>, AllocError>
+    requires { count ≤ 2 ^ 32 }
+    ensures { IfOk result (λ set. (id : ℕ) → Decides (contains nat_eq set id) ((id < count) × IsHeld kept.now (item space id))) }
+{
+    walrus_arena::laws::ids_go_by_number::<S>();
+    let mut set = IdHashSet::new(alloc);
+    for index in 0..count {
+        let item = Item {
+            space,
+            id: index as u32,
+        };
+        if !kept.has(item) {
+            continue;
+        }
+        set.insert(Id::from_index(index))?;
+    }
+    Ok(set)
+}
+
+// The kept ids of each space.
+fn sets_of(alloc: Global, input: &Module, kept: &KeptItems) -> Result<Used, AllocError>
+    ensures { IfOk result (HasJust (λ x. FitsIn (counts_of (parts input.now)) x × IsHeld kept.now x)) }
+{
+    let counts = id_counts(input);
+    Ok(Used {
+        types: set_of(alloc, kept, Space::Type, counts[0])?,
+        funcs: set_of(alloc, kept, Space::Function, counts[1])?,
+        tables: set_of(alloc, kept, Space::Table, counts[2])?,
+        memories: set_of(alloc, kept, Space::Memory, counts[3])?,
+        tags: set_of(alloc, kept, Space::Tag, counts[4])?,
+        globals: set_of(alloc, kept, Space::Global, counts[5])?,
+        elements: set_of(alloc, kept, Space::Element, counts[6])?,
+        data_segments: set_of(alloc, kept, Space::Data, counts[7])?,
+    })
+}
+
+impl Used {
+    /// The items of the module that are used.
+    ///
+    /// # Errors
+    ///
+    /// In this order, for what is reached from the roots: `NotLinked` where an item and an import don't name each
+    /// other, or a function has no body or not its arguments; `NoTree` where a body is no tree; `DeadReference` where
+    /// an item doesn't live. Want of memory.
+    pub fn new(alloc: Global, input: &Module) -> Result<Self, ModuleError>
+        ensures kept { IfOk result (AreKept (parts input.now) []) }
+        ensures sound { OnOk result (IsSound (parts input.now) []) }
+        ensures refused { IfErr result (IsRefused (parts input.now) []) }
+    {
+        Used::from_roots(alloc, input, &[])
+    }
+
+    /// The items of the module that are used where these items are roots, too.
+    ///
+    /// # Errors
+    ///
+    /// Those of `new`.
+    pub fn from_roots(alloc: Global, input: &Module, pushed: &[Item]) -> Result<Self, ModuleError>
+        ensures kept { IfOk result (AreKept (parts input.now) pushed.now) }
+        ensures sound { OnOk result (IsSound (parts input.now) pushed.now) }
+        ensures refused { IfErr result (IsRefused (parts input.now) pushed.now) }
+    {
+        walrus_types::laws::types_are_grouped(&input.types);
+        let kept = kept_items(alloc, input, pushed)?;
+        let used = sets_of(alloc, input, &kept)?;
+        Ok(used)
+    }
+}

@@ -1,0 +1,4 @@
+pub mod CheckLemmas
+pub mod DistinctLemmas
+pub mod SoundLemmas
+pub mod TreeLemmas

@@ -1,0 +1,225 @@
+-- What was met, and what is reached.
+use Rattle.std.proofs.Common.{◌≡◌, ◌∙◌, ◌⊎◌, ◌<◌, ℕ, List, Bool, true, false, Option, Some, None, get_or, length, refl, sym, ap, subst, inl, inr, arith}
+use Rattle.std.specs.Prelude.{◌↔◌, MatchOption, Decides}
+use Rattle.std.specs.Option.{option_and_then}
+use Rattle.std.proofs.lemmas.List.{get_or_past}
+use Rattle.std.proofs.lemmas.Bool.{cases_lt, false≢true}
+use Rattle.wasm_formats.specs.declared.fault.Space.{Space}
+use Rattle.wasm_formats.specs.declared.fault.Space.TheVariants as spaces
+use Rattle.walrus_types.specs.TypeLaws.{AreGrouped}
+use Rattle.walrus_arena.specs.Arena.{Arena, item_at}
+use Rattle.walrus_module_items.specs.declared.import.Import.{Import}
+use Rattle.walrus_module_items.specs.declared.import.ImportKind.{ImportKind}
+use Rattle.walrus_module_items.specs.declared.import.ImportKind.TheVariants as kinds
+use Rattle.walrus_module_items.specs.declared.function.Function.{Function}
+use Rattle.walrus_module.specs.Parts.{Module}
+use Rattle.walrus_linked.specs.Linked.{import_in}
+use Rattle.walrus_roots.specs.declared.item.Item.{Item}
+use Rattle.walrus_roots.specs.Items.{item, space_number}
+use Rattle.walrus_marks.specs.Marks.{State}
+use Rattle.walrus_marks.specs.Chains.{FitsIn}
+use Rattle.walrus_marks.specs.Chains.{IsReached as IsReachedIn}
+use Rattle.walrus_references.specs.References.{Refers}
+use Rattle.walrus_references.specs.Roots.{Root}
+use Rattle.walrus_references.specs.Kept.{IsReached}
+use Rattle.walrus_module.specs.Items.{Lives, LivesIn}
+use Rattle.walrus_references.specs.Refused.{FormsTree, HasTree, IsTreeIn}
+use Rattle.walrus_used.specs.Counts.{counts_of}
+use Rattle.walrus_used.proofs.CountLemmas.{lives_fit}
+use Rattle.walrus_refusals.specs.Asked.{Linked, IsOwnLinked, IsBrought, IsWholeIn, IsClaimed, given}
+use Rattle.walrus_module.specs.Items.{brought}
+use Rattle.walrus_refusals.specs.Checks.{IsMet, HoldsMet, HoldsOrFails, AllClaimTruly}
+use Rattle.walrus_refusals.specs.Sound.{AllReached}
+
+-- nothing stands at an id that wasn't given out
+none_at : {T : Type 0} (a : Arena T) (id : ℕ) → (id < length a.slots → ⊥) → item_at a id ≡ None
+none_at a id past = elim (cases_lt id (length a.slots)) as (λ _. item_at a id ≡ None) [ inl below ↦ absurd (past below) | inr above ↦ get_or_past a.slots id None above ]
+
+nothing_then : {A B : Type 0} (f : A → Option B) (o : Option A) → o ≡ None → option_and_then f o ≡ None
+nothing_then f o is = ap (option_and_then f) is
+
+nothing_asked : {A : Type 0} (P : A → Type 0) (o : Option A) → o ≡ None → MatchOption o (Unit {0}) P
+nothing_asked P o is = subst (λ (p : Option _). MatchOption p (Unit {0}) P) (sym is) tt
+
+not_brought : (imports : Arena Import) (x : Item) (named : Option ℕ) → named ≡ None → IsBrought imports x named
+not_brought imports x named is = subst (IsBrought imports x) (sym is) tt
+
+module _ (m : Module) where
+  -- what wasn't given out says nothing
+  import_past : (space : Space) (id : ℕ) → (FitsIn (counts_of m) (item space id) → ⊥) → import_in m space id ≡ None
+  import_past spaces.Type id past = refl
+  import_past spaces.Function id past = nothing_then _ (item_at m.funcs id) (none_at m.funcs id past)
+  import_past spaces.Table id past = nothing_then _ (item_at m.tables id) (none_at m.tables id past)
+  import_past spaces.Memory id past = nothing_then _ (item_at m.memories id) (none_at m.memories id past)
+  import_past spaces.Tag id past = nothing_then _ (item_at m.tags id) (none_at m.tags id past)
+  import_past spaces.Global id past = nothing_then _ (item_at m.globals id) (none_at m.globals id past)
+  import_past spaces.Element id past = refl
+  import_past spaces.Data id past = refl
+  import_past spaces.Local id past = refl
+  import_past spaces.Label id past = refl
+
+  whole_past : (space : Space) (id : ℕ) → (FitsIn (counts_of m) (item space id) → ⊥) → IsWholeIn m space id
+  whole_past spaces.Type id past = tt
+  whole_past spaces.Function id past = nothing_asked _ (item_at m.funcs id) (none_at m.funcs id past)
+  whole_past spaces.Table id past = tt
+  whole_past spaces.Memory id past = tt
+  whole_past spaces.Tag id past = tt
+  whole_past spaces.Global id past = tt
+  whole_past spaces.Element id past = tt
+  whole_past spaces.Data id past = tt
+  whole_past spaces.Local id past = tt
+  whole_past spaces.Label id past = tt
+
+  own_past : (x : Item) → (FitsIn (counts_of m) x → ⊥) → IsOwnLinked m x
+  own_past x past = (not_brought m.imports x (import_in m x.space x.id) (import_past x.space x.id past), whole_past x.space x.id past)
+
+  tree_past : (space : Space) (id : ℕ) → (FitsIn (counts_of m) (item space id) → ⊥) → IsTreeIn m space id
+  tree_past spaces.Type id past = tt
+  tree_past spaces.Function id past = nothing_asked (λ (f : Function). HasTree f.kind) (item_at m.funcs id) (none_at m.funcs id past)
+  tree_past spaces.Table id past = tt
+  tree_past spaces.Memory id past = tt
+  tree_past spaces.Tag id past = tt
+  tree_past spaces.Global id past = tt
+  tree_past spaces.Element id past = tt
+  tree_past spaces.Data id past = tt
+  tree_past spaces.Local id past = tt
+  tree_past spaces.Label id past = tt
+
+  -- locals say nothing of that sort
+  own_high : (space : Space) (id : ℕ) → (space_number space < 8 → ⊥) → IsOwnLinked m (item space id)
+  own_high spaces.Type id high = absurd (high (omega arith))
+  own_high spaces.Function id high = absurd (high (omega arith))
+  own_high spaces.Table id high = absurd (high (omega arith))
+  own_high spaces.Memory id high = absurd (high (omega arith))
+  own_high spaces.Tag id high = absurd (high (omega arith))
+  own_high spaces.Global id high = absurd (high (omega arith))
+  own_high spaces.Element id high = absurd (high (omega arith))
+  own_high spaces.Data id high = absurd (high (omega arith))
+  own_high spaces.Local id high = (tt, tt)
+  own_high spaces.Label id high = (tt, tt)
+
+  tree_high : (space : Space) (id : ℕ) → (space_number space < 8 → ⊥) → IsTreeIn m space id
+  tree_high spaces.Type id high = tt
+  tree_high spaces.Function id high = absurd (high (omega arith))
+  tree_high spaces.Table id high = tt
+  tree_high spaces.Memory id high = tt
+  tree_high spaces.Tag id high = tt
+  tree_high spaces.Global id high = tt
+  tree_high spaces.Element id high = tt
+  tree_high spaces.Data id high = tt
+  tree_high spaces.Local id high = tt
+  tree_high spaces.Label id high = tt
+
+  lives_high : (space : Space) (id : ℕ) → (space_number space < 8 → ⊥) → FitsIn (counts_of m) (item space id) → LivesIn m space id
+  lives_high spaces.Type id high fits = absurd (high (omega arith))
+  lives_high spaces.Function id high fits = absurd (high (omega arith))
+  lives_high spaces.Table id high fits = absurd (high (omega arith))
+  lives_high spaces.Memory id high fits = absurd (high (omega arith))
+  lives_high spaces.Tag id high fits = absurd (high (omega arith))
+  lives_high spaces.Global id high fits = absurd (high (omega arith))
+  lives_high spaces.Element id high fits = absurd (high (omega arith))
+  lives_high spaces.Data id high fits = absurd (high (omega arith))
+  lives_high spaces.Local id high fits = fits
+  lives_high spaces.Label id high fits = absurd (omega (arith, fits))
+
+  -- what imports bring is given out below the counts
+  given_in : (space : Space) (id : ℕ) → id < given m space → FitsIn (counts_of m) (item space id)
+  given_in spaces.Type id below = absurd (omega (arith, below))
+  given_in spaces.Function id below = below
+  given_in spaces.Table id below = below
+  given_in spaces.Memory id below = below
+  given_in spaces.Tag id below = below
+  given_in spaces.Global id below = below
+  given_in spaces.Element id below = absurd (omega (arith, below))
+  given_in spaces.Data id below = absurd (omega (arith, below))
+  given_in spaces.Local id below = absurd (omega (arith, below))
+  given_in spaces.Label id below = absurd (omega (arith, below))
+
+  brought_given : (kind : ImportKind) → FitsIn (counts_of m) (brought kind) → (brought kind).id < given m (brought kind).space
+  brought_given (kinds.Function id) fits = fits
+  brought_given (kinds.Table id) fits = fits
+  brought_given (kinds.Memory id) fits = fits
+  brought_given (kinds.Global id) fits = fits
+  brought_given (kinds.Tag id) fits = fits
+
+  fits_or : (x : Item) → FitsIn (counts_of m) x ⊎ (FitsIn (counts_of m) x → ⊥)
+  fits_or x = elim (cases_lt x.id (get_or (counts_of m) (space_number x.space) 0)) as (λ _. FitsIn (counts_of m) x ⊎ (FitsIn (counts_of m) x → ⊥)) [ inl below ↦ inl below | inr past ↦ inr (λ below. omega (arith, below, past)) ]
+
+  low_or : (x : Item) → (space_number x.space < 8) ⊎ (space_number x.space < 8 → ⊥)
+  low_or x = elim (cases_lt (space_number x.space) 8) as (λ _. (space_number x.space < 8) ⊎ (space_number x.space < 8 → ⊥)) [ inl low ↦ inl low | inr high ↦ inr (λ low. omega (arith, low, high)) ]
+
+  module _ (pushed : List Item) (s : State) (h : IsReachedIn (counts_of m) (Root m pushed) (Refers m) s) where
+    pub met_fits : (x : Item) → IsMet s x → FitsIn (counts_of m) x
+    met_fits x met = ((h.marked x).0 met).1
+
+    met_reached : (x : Item) → IsMet s x → IsReached m pushed x
+    met_reached x met = ((h.marked x).0 met).0
+
+    reached_met : (x : Item) → IsReached m pushed x → FitsIn (counts_of m) x → IsMet s x
+    reached_met x r fits = (h.marked x).1 (r, fits)
+
+    -- what holds of what was met, of what wasn't given out, and of locals holds of all that is reached
+    all_of : (P : Item → Type 0) → ((x : Item) → (FitsIn (counts_of m) x → ⊥) → P x) → ((x : Item) → (space_number x.space < 8 → ⊥) → P x) → HoldsMet P s → AllReached m pushed P
+    all_of P past high all x r = elim (fits_or x) as (λ _. P x) [
+      | inr not_there ↦ past x not_there
+      | inl fits ↦ elim (low_or x) as (λ _. P x) [ inl low ↦ all x low (reached_met x r fits) | inr over ↦ high x over ]
+    ]
+
+    claims_from : AllClaimTruly m s → (x : Item) → IsReached m pushed x → IsClaimed m x
+    claims_from all x r i import at is below =
+        let met : IsMet s (brought import.kind) = subst (IsMet s) (sym is) (reached_met x r (given_in x.space x.id below)) in
+        subst (λ y. import_in m y.space y.id ≡ Some i) is (all i import at met)
+
+    pub linked_from : HoldsMet (IsOwnLinked m) s × AllClaimTruly m s → AllReached m pushed (Linked m)
+    linked_from all x r = record {
+      own = all_of (IsOwnLinked m) own_past (λ y high. own_high y.space y.id high) all.0 x r;
+      claimed = claims_from all.1 x r;
+    }
+
+    pub linked_met : AllReached m pushed (Linked m) → HoldsMet (IsOwnLinked m) s × AllClaimTruly m s
+    linked_met all = (
+      λ x low met. (all x (met_reached x met)).own,
+      λ i import at met. (all (brought import.kind) (met_reached (brought import.kind) met)).claimed i import at refl (brought_given import.kind (met_fits (brought import.kind) met)),
+    )
+
+    pub trees_from : HoldsMet (FormsTree m) s → AllReached m pushed (FormsTree m)
+    trees_from all = all_of (FormsTree m) (λ x past. tree_past x.space x.id past) (λ x high. tree_high x.space x.id high) all
+
+    pub trees_met : AllReached m pushed (FormsTree m) → HoldsMet (FormsTree m) s
+    trees_met all x low met = all x (met_reached x met)
+
+    pub not_linked : (b : Bool) → b ≡ false → Decides b (HoldsMet (IsOwnLinked m) s × AllClaimTruly m s) → AllReached m pushed (Linked m) → ⊥
+    not_linked b fails d all = false≢true (sym fails ∙ d.1 (linked_met all))
+
+    pub are_linked : (b : Bool) → b ≡ true → Decides b (HoldsMet (IsOwnLinked m) s × AllClaimTruly m s) → AllReached m pushed (Linked m)
+    are_linked b so d = linked_from (d.0 so)
+
+    pub not_trees : (b : Bool) → b ≡ false → Decides b (HoldsMet (FormsTree m) s) → AllReached m pushed (FormsTree m) → ⊥
+    not_trees b fails d all = false≢true (sym fails ∙ d.1 (trees_met all))
+
+    pub are_trees : (b : Bool) → b ≡ true → Decides b (HoldsMet (FormsTree m) s) → AllReached m pushed (FormsTree m)
+    are_trees b so d = trees_from (d.0 so)
+
+    -- one that doesn't live
+    pub dead_met : (space : Space) → (((x : Item) → x.space ≡ space → IsMet s x → Lives m x) → ⊥) → AllReached m pushed (λ x. x.space ≡ space → Lives m x) → ⊥
+    dead_met space fails all = fails (λ x is met. all x (met_reached x met) is)
+
+    module _ (grouped : AreGrouped m.types) where
+      pub dead_missing : (i : Item) → s.missing ≡ Some i → AllReached m pushed (λ x. x.space ≡ i.space → Lives m x) → ⊥
+      dead_missing i is all =
+          let d : IsReached m pushed i × (FitsIn (counts_of m) i → ⊥) = subst (λ (o : Option Item). MatchOption o ((x : Item) → IsReached m pushed x → FitsIn (counts_of m) x) (λ y. IsReached m pushed y × (FitsIn (counts_of m) y → ⊥))) is h.missing in
+          d.1 (lives_fit m grouped i (all i d.0 refl))
+
+    module _ (none : s.missing ≡ None) where
+      all_fit : (x : Item) → IsReached m pushed x → FitsIn (counts_of m) x
+      all_fit = subst (λ (o : Option Item). MatchOption o ((x : Item) → IsReached m pushed x → FitsIn (counts_of m) x) (λ y. IsReached m pushed y × (FitsIn (counts_of m) y → ⊥))) none h.missing
+
+      pub all_live : HoldsMet (Lives m) s → AllReached m pushed (Lives m)
+      all_live all x r = elim (low_or x) as (λ _. Lives m x) [ inl low ↦ all x low (reached_met x r (all_fit x r)) | inr high ↦ lives_high x.space x.id high (all_fit x r) ]
+
+      pub all_met : (x : Item) → IsMet s x ↔ IsReached m pushed x
+      all_met x = (met_reached x, λ r. reached_met x r (all_fit x r))
+
+    -- the same, of what was found
+    pub dead_found : (answer : Option Space) (space : Space) → answer ≡ Some space → HoldsOrFails (Lives m) s answer → AllReached m pushed (λ x. x.space ≡ space → Lives m x) → ⊥
+    dead_found answer space is h = dead_met space (subst (HoldsOrFails (Lives m) s) is h).1

@@ -1,0 +1,36 @@
+-- Checks of the items that were met.
+use Rattle.std.specs.Prelude.{◌≡◌, ℕ, ◌<◌, Option, Some, MatchOption, IsTrue}
+use Rattle.wasm_formats.specs.declared.fault.Space.{Space}
+use Rattle.walrus_arena.specs.Arena.{item_at}
+use Rattle.walrus_module_items.specs.declared.import.Import.{Import}
+use Rattle.walrus_module.specs.Parts.{Module}
+use Rattle.walrus_linked.specs.Linked.{import_in}
+use Rattle.walrus_roots.specs.declared.item.Item.{Item}
+use Rattle.walrus_roots.specs.Items.{item, space_number}
+use Rattle.walrus_marks.specs.Marks.{State, is_marked}
+use Rattle.walrus_module.specs.Items.{brought}
+
+-- the item was met
+abbrev pub IsMet : State → Item → Type 0
+IsMet marks x = IsTrue (is_marked marks.met.marks x)
+
+-- that is so of what was met in the space with an id below the count
+abbrev pub HoldsIn : (Item → Type 0) → State → Space → ℕ → Type 0
+HoldsIn holds marks space count = (id : ℕ) → id < count → IsMet marks (item space id) → holds (item space id)
+
+-- that is so of all that was met but locals
+abbrev pub HoldsMet : (Item → Type 0) → State → Type 0
+HoldsMet holds marks = (x : Item) → space_number x.space < 8 → IsMet marks x → holds x
+
+-- it is, or not in the space that is answered
+abbrev pub HoldsOrFails : (Item → Type 0) → State → Option Space → Type 0
+HoldsOrFails holds marks answer =
+    MatchOption answer (HoldsMet holds marks) (λ space. (space_number space < 8) × (((x : Item) → x.space ≡ space → IsMet marks x → holds x) → ⊥))
+
+-- the item that the import brings names it back, where it was met
+abbrev pub ClaimsTruly : Module → State → ℕ → Import → Type 0
+ClaimsTruly m marks i import = IsMet marks (brought import.kind) → import_in m (brought import.kind).space (brought import.kind).id ≡ Some i
+
+-- all imports do
+abbrev pub AllClaimTruly : Module → State → Type 0
+AllClaimTruly m marks = (i : ℕ) (import : Import) → item_at m.imports i ≡ Some import → ClaimsTruly m marks i import

@@ -1,0 +1,3 @@
+pub mod Asked
+pub mod Checks
+pub mod Sound

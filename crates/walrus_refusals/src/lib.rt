@@ -1,0 +1,12 @@
+//! Whether a module is refused for what is reached in it.
+#![tactic(auto)]
+
+mod arguments;
+mod checks;
+mod linked;
+mod live;
+mod sound;
+mod trees;
+
+pub use linked::{brought, is_same};
+pub use sound::reach_sound;

@@ -1,0 +1,54 @@
+//! Whether items live.
+ghost use Rattle.std.specs.Prelude.{Decides, IfOk, IsSome};
+ghost use Rattle.walrus_module.specs.Parts.{parts};
+ghost use Rattle.walrus_module.specs.Items.{written_type};
+ghost use Rattle.walrus_module.specs.Items.{Lives};
+
+use crate::checks::Check;
+use std::alloc::AllocError;
+use walrus_arena::TypeId;
+use walrus_module::Module;
+use walrus_roots::Item;
+use walrus_types::ModuleTypes;
+use wasm_formats::Space;
+
+// Whether the type lives and is no entry type.
+fn is_written(types: &ModuleTypes, id: TypeId) -> bool
+    ensures { Decides result (IsSome (written_type types.now id)) }
+{
+    types.contains(id) && !types.get(id).is_entry()
+}
+
+// Whether the item lives.
+fn lives(input: &Module, item: Item) -> bool
+    ensures { Decides result (Lives (parts input.now) item) }
+{
+    match item.space {
+        Space::Type => is_written(&input.types, item.id()),
+        Space::Function => input.funcs.contains(item.id()),
+        Space::Table => input.tables.contains(item.id()),
+        Space::Memory => input.memories.contains(item.id()),
+        Space::Tag => input.tags.contains(item.id()),
+        Space::Global => input.globals.contains(item.id()),
+        Space::Element => input.elements.contains(item.id()),
+        Space::Data => input.data_segments.contains(item.id()),
+        Space::Local => (item.id as usize) < input.locals.iter().as_slice().len(),
+        Space::Label => false,
+    }
+}
+
+/// Whether an item lives.
+#[derive(Clone, Copy)]
+pub(crate) struct Living<'a> {
+    pub(crate) input: &'a Module,
+}
+
+impl<'a> Check for Living<'a> {
+    ghost holds = { λ s x. Lives (parts s.input.now) x };
+
+    fn check(&self, item: Item) -> Result<bool, AllocError>
+        ensures { IfOk result (λ ok. Decides ok (Lives (parts self.now.input.now) item)) }
+    {
+        Ok(lives(self.input, item))
+    }
+}

@@ -1,0 +1,7 @@
+pub mod Images
+pub mod Alike
+pub mod Nested
+pub mod Entries
+pub mod Bodies
+pub mod Modules
+pub mod Picks

@@ -1,0 +1,31 @@
+-- The picks of the grammar keep parameters and results.
+use Rattle.std.specs.Prelude.{ℕ, ◌≡◌, Option, Some, None, unwrap_or, slice_get}
+use Rattle.walrus_forms.specs.Forms.{Form, FunctionForm, StructForm, ArrayForm}
+use Rattle.walrus_forms.specs.Kinds.{Kind}
+use Rattle.wasm_immediates.specs.declared.block_type.BlockType.{BlockType}
+use Rattle.wasm_immediates.specs.declared.block_type.BlockType.TheVariants as blocks
+use Rattle.wasm_immediates.specs.Items.{Types}
+use Rattle.wasm_operator_names.specs.Names.{Renaming}
+use Rattle.wasm_grammar.specs.States.{types_of}
+use Rattle.wasm_body_grammar.specs.Rules.{Around, pick}
+use Rattle.wasm_runs.specs.Modules.{signature_in}
+use Rattle.wasm_run_laws.specs.Stands.{PicksKeep}
+
+abbrev pub form_pick : Around → BlockType → Form → BlockType
+form_pick a ty (FunctionForm params results) = unwrap_or (pick a params results) ty
+form_pick a ty (StructForm fields) = ty
+form_pick a ty (ArrayForm field) = ty
+
+abbrev pub kind_pick : Around → BlockType → Option Kind → BlockType
+kind_pick a ty None = ty
+kind_pick a ty (Some kind) = form_pick a ty kind.form
+
+-- the pick for a block type: that for its parameters and results, or itself where there is none
+abbrev pub block_pick : Around → BlockType → BlockType
+block_pick a blocks.Empty = blocks.Empty
+block_pick a (blocks.Value ty) = blocks.Value ty
+block_pick a (blocks.Type n) = kind_pick a (blocks.Type n) (slice_get (types_of a.filled) n)
+
+-- where types that stand for the same type are renamed to one, the grammar's picks keep parameters and results
+abbrev pub PicksOfModulesKeep : Type 0
+PicksOfModulesKeep = (a : Around) (r : Renaming) → ((n : ℕ) → r Types (a.same n) ≡ r Types n) → PicksKeep r (block_pick a) (signature_in a.filled)
