@@ -1,11 +1,14 @@
 //! What of a module is used.
-ghost use Rattle.std.specs.Prelude.{[], ◌<◌, ◌≤◌, ◌^◌, ℕ, Decides, IfErr, IfOk, OnOk, nat_eq};
+ghost use Rattle.std.specs.Prelude.{◌<◌, ◌≤◌, ◌^◌, ℕ, Decides, IfErr, IfOk, OnOk, nat_eq};
 ghost use Rattle.std.specs.HashSet.{contains};
 ghost use Rattle.walrus_module.specs.Parts.{parts};
 ghost use Rattle.walrus_roots.specs.Items.{item};
 ghost use Rattle.walrus_marks.specs.Chains.{FitsIn};
 ghost use Rattle.walrus_used.specs.Counts.{counts_of};
 ghost use Rattle.walrus_refusals.specs.Sound.{IsRefused, IsSound};
+ghost use Rattle.walrus_arena.specs.Arena.{entries};
+ghost use Rattle.walrus_sections.specs.Sections.{pushed};
+ghost use Rattle.walrus_passes.specs.Asked.{IsRefusedAsked, WithPushed};
 ghost use Rattle.walrus_passes.specs.Keeping.{IsHeld};
 ghost use Rattle.walrus_passes.specs.UsedItems.{AreKept, HasJust};
 
@@ -18,6 +21,7 @@ use walrus_arena::{
 use walrus_errors::ModuleError;
 use walrus_module::Module;
 use walrus_roots::Item;
+use walrus_sections::CustomSection;
 use walrus_used::id_counts;
 use wasm_formats::Space;
 
@@ -83,15 +87,17 @@ impl Used {
     ///
     /// # Errors
     ///
-    /// In this order, for what is reached from the roots: `NotLinked` where an item and an import don't name each
+    /// First `SectionRefused` where a custom section refuses to say what it pushes: each is asked once, by rising id, before
+    /// anything else. Then, in this order, for what is reached from the roots: `NotLinked` where an item and an import don't name each
     /// other, or a function has no body or not its arguments; `NoTree` where a body is no tree; `DeadReference` where
     /// an item doesn't live. Want of memory.
     pub fn new(alloc: Global, input: &Module) -> Result<Self, ModuleError>
-        ensures kept { IfOk result (AreKept (parts input.now) []) }
-        ensures sound { OnOk result (IsSound (parts input.now) []) }
-        ensures refused { IfErr result (IsRefused (parts input.now) []) }
+        ensures kept { IfOk result (λ used. WithPushed (pushed ⟦<Box<dyn CustomSection> as CustomSection>⟧.gc_roots (entries input.now.customs)) (λ items. AreKept (parts input.now) items used)) }
+        ensures sound { OnOk result (WithPushed (pushed ⟦<Box<dyn CustomSection> as CustomSection>⟧.gc_roots (entries input.now.customs)) (IsSound (parts input.now))) }
+        ensures refused { IfErr result (IsRefusedAsked (parts input.now) (pushed ⟦<Box<dyn CustomSection> as CustomSection>⟧.gc_roots (entries input.now.customs))) }
     {
-        Used::from_roots(alloc, input, &[])
+        let roots = input.customs.gc_roots(alloc)?;
+        Used::from_roots(alloc, input, roots.items())
     }
 
     /// The items of the module that are used where these items are roots, too.

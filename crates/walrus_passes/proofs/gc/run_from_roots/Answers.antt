@@ -8,4 +8,4 @@ pub drop_unkept-requires : goal.drop_unkept-requires
 drop_unkept-requires g c = held_closed (parts c.args.input.now) c.args.pushed.now (IsHeld c.in_ok-kept.kept) c.in_ok-kept.ensures.kept
 
 pub returns-clause-kept : goal.returns-clause-kept
-returns-clause-kept g c = part_as (IsHeld c.in_ok-kept.kept) (Kept (parts c.args.input.now) c.args.pushed.now) (parts c.args.input.now) (parts c.drop_unkept.new.input) c.in_ok-kept.ensures.kept c.drop_unkept.ensures
+returns-clause-kept g c = part_as (IsHeld c.in_ok-kept.kept) (Kept (parts c.args.input.now) c.args.pushed.now) (parts c.args.input.now) (parts c.drop_unkept.new.input) c.in_ok-kept.ensures.kept c.drop_unkept.ensures.part
