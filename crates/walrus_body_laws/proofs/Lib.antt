@@ -2,3 +2,4 @@ mod Codes
 mod Telling
 mod Agreeing
 mod Nesting
+mod Renamed

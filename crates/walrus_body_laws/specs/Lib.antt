@@ -1,3 +1,4 @@
 pub mod Laws
 pub mod Naming
 pub mod Nesting
+pub mod Renaming

@@ -3,6 +3,7 @@
 ghost use Rattle.walrus_body_laws.specs.Laws.{BytesAgree, PlacesAgree, SizesAgree};
 ghost use Rattle.walrus_body_laws.specs.Naming.{LocalsAgree, SegmentsAgree};
 ghost use Rattle.walrus_body_laws.specs.Nesting.{TreesNest};
+ghost use Rattle.walrus_body_laws.specs.Renaming.{TextsAreRenamed};
 
 /// The bytes that are written for a text are those of its operators, the places that are kept are their true pairs, and its size is
 /// theirs.
@@ -25,4 +26,11 @@ pub fn trees_nest()
     walrus_tree::laws::trees_are_nested();
     walrus_tree::laws::text_is_plain();
     walrus_tree::laws::trees_are_sound();
+}
+
+/// What is written under a map of ids is what is written where each id is its own number, renamed as the map renames.
+pub fn texts_are_renamed()
+    ensures { TextsAreRenamed }
+{
+    walrus_pairing_laws::laws::operators_are_sent();
 }

@@ -63,6 +63,10 @@ opens s = inner s ∷ around s
 abbrev pub blocks : Stack → List Seq
 blocks s = contents s.builder.builder
 
+-- the type of the function that is built
+abbrev pub type_of : Stack → ℕ
+type_of s = s.builder.ty
+
 -- the kind of a block's first part
 abbrev pub first_kind : Opener → grammar.Frame
 first_kind openers.Block = grammar.Plain

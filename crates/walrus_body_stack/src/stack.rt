@@ -7,7 +7,7 @@ ghost use Rattle.walrus_builder.specs.Functions.{seqs_of};
 ghost use Rattle.walrus_body_nesting.specs.declared.frames.Opener.TheVariants as openers;
 ghost use Rattle.walrus_body_nesting.specs.declared.frames.Reach.TheVariants.{Live};
 ghost use Rattle.walrus_body_nesting.specs.Opens.{Shaped, begun, ids_of, ran, type_at};
-ghost use Rattle.walrus_body_stack.specs.Frames.{IsEnded, IsFirst, IsHanded, IsMade, IsOpened, IsTrying, around, blocks, filled, first_kind, inner, kind_of, open_of, opener_of, opens};
+ghost use Rattle.walrus_body_stack.specs.Frames.{IsEnded, IsFirst, IsHanded, IsMade, IsOpened, IsTrying, around, blocks, filled, first_kind, inner, kind_of, open_of, opener_of, opens, type_of};
 ghost use Rattle.walrus_instr.specs.declared.seq.InstrSeqType.{InstrSeqType as BlockTy};
 
 use crate::frame::{Frame, Sort, inner_reach};
@@ -33,6 +33,7 @@ impl Stack {
     /// The body's own sequence is open. Takes no memory.
     pub fn new(alloc: Global, builder: FunctionBuilder) -> Self
         requires { 0 < length (seqs_of builder) }
+        ensures ty { type_of result ≡ builder.ty }
         ensures blocks { blocks result ≡ contents builder.builder }
         ensures opens { (ty : BlockTy) × (type_at (contents builder.builder) 0 ≡ Some ty) × (opens result ≡ begun openers.Block no_place ty Plain 0 Live ∷ []) }
     {
@@ -58,7 +59,8 @@ impl Stack {
 
     /// What was built.
     pub fn into_builder(self) -> FunctionBuilder
-        ensures { contents result.builder ≡ blocks self }
+        ensures blocks { contents result.builder ≡ blocks self }
+        ensures ty { result.ty ≡ type_of self }
     {
         let Stack { builder, .. } = self;
         builder
@@ -106,6 +108,7 @@ impl Stack {
     ///
     /// Want of memory.
     pub fn run(&mut self, instr: Instr, place: InstrLocId, cuts: bool) -> Result<(), AllocError>
+        ensures ty { type_of self.new ≡ type_of self.old }
         ensures opens { OnOk result (opens self.new ≡ ran (instr, place) cuts (inner self.old) ∷ around self.old) }
         ensures blocks { blocks self.new ≡ blocks self.old }
     {
@@ -114,6 +117,7 @@ impl Stack {
 
     // An empty sequence of this type.
     pub(crate) fn fresh(&mut self, ty: InstrSeqType) -> Result<InstrSeqId, AllocError>
+        ensures ty { OnOk result (type_of self.new ≡ type_of self.old) }
         ensures id { IfOk result (λ id. id ≡ length (blocks self.old)) }
         ensures added { OnOk result (blocks self.new ≡ blocks self.old ++ empty_seq (length (blocks self.old)) ty ∷ []) }
         ensures current { self.new.current ≡ self.old.current }
@@ -125,6 +129,7 @@ impl Stack {
 
     // Takes this sequence as the innermost.
     fn push(&mut self, frame: Frame) -> Result<(), AllocError>
+        ensures ty { type_of self.new ≡ type_of self.old }
         ensures opens { OnOk result (opens self.new ≡ open_of frame ∷ opens self.old) }
         ensures blocks { blocks self.new ≡ blocks self.old }
     {
@@ -144,7 +149,8 @@ impl Stack {
         place: InstrLocId,
         ty: InstrSeqType,
     ) -> Result<(), AllocError>
-        ensures { OnOk result (IsOpened opener place ty self.old self.new) }
+        ensures ty { OnOk result (type_of self.new ≡ type_of self.old) }
+        ensures opened { OnOk result (IsOpened opener place ty self.old self.new) }
     {
         let own = ty;
         let reach = inner_reach(self.current.reach);
@@ -169,6 +175,7 @@ impl Stack {
     // cost each later walk its time.
     pub(crate) fn close(&mut self, place: InstrLocId)
         requires { self.old.current.seq < length (blocks self.old) }
+        ensures ty { type_of self.new ≡ type_of self.old }
         ensures filled { blocks self.new ≡ filled place self.old }
         ensures empty { self.new.current.instrs.items ≡ [] }
         ensures current { self.new.current ≡ record self.old.current { instrs = self.new.current.instrs } }
@@ -189,6 +196,7 @@ impl Stack {
         seq: InstrSeqId,
         handlers: Handlers,
     ) -> Result<Instr, AllocError>
+        ensures ty { OnOk result (type_of self.new ≡ type_of self.old) }
         ensures made { IfOk result (λ instr. IsMade sort ty first seq handlers (blocks self.old) (blocks self.new) instr) }
         ensures current { self.new.current ≡ self.old.current }
         ensures outer { self.new.outer ≡ self.old.outer }
@@ -225,7 +233,8 @@ impl Stack {
     /// Want of memory.
     pub fn end(&mut self, place: InstrLocId) -> Result<bool, AllocError>
         requires { Shaped (blocks self.old) (opens self.old) }
-        ensures { IfOk result (λ done. IsEnded done place self.old self.new) }
+        ensures ty { OnOk result (type_of self.new ≡ type_of self.old) }
+        ensures ended { IfOk result (λ done. IsEnded done place self.old self.new) }
     {
         self.close(place);
         let Some(outer) = self.outer.pop() else {
@@ -256,7 +265,8 @@ impl Stack {
     pub fn delegate(&mut self, depth: u32) -> Result<bool, AllocError>
         requires shaped { Shaped (blocks self.old) (opens self.old) }
         requires trying { IsTrying (inner self.old).kind }
-        ensures { IfOk result (λ done. IsHanded done depth self.old self.new) }
+        ensures ty { OnOk result (type_of self.new ≡ type_of self.old) }
+        ensures handed { IfOk result (λ done. IsHanded done depth self.old self.new) }
     {
         self.close(InstrLocId::default());
         let Some(outer) = self.outer.pop() else {

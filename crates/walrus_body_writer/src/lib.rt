@@ -14,6 +14,7 @@ mod walk;
 
 pub use emit::emit_instructions;
 pub use output::Output;
+pub use refusal::fault_of;
 pub use size::body_size;
 pub use todo::Closer;
 pub use visit::{TextVisitor, visit_text};

@@ -26,7 +26,7 @@ fn space_of(space: Named) -> Space
 }
 
 /// The fault of a call that writes: no place in bytes is its cause.
-pub(crate) fn fault_of(error: PairError) -> BodyError
+pub fn fault_of(error: PairError) -> BodyError
     ensures { result ≡ fault_of error }
 {
     let offset = None;

@@ -2,4 +2,6 @@
 #![tactic(auto)]
 
 #[cfg(test)]
+mod locals;
+#[cfg(test)]
 mod written;

@@ -11,3 +11,4 @@ pub mod Nothing
 pub mod Accesses
 pub mod Renamed
 pub mod Read
+pub mod Answered

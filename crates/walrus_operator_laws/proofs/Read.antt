@@ -84,7 +84,7 @@ module _ (look : Look) where
 -- ---- what the table's rows are read as
 
 -- what the immediates are read as
-record Parts : Type 0 where
+pub record Parts : Type 0 where
   pub one : ℕ
   pub other : ℕ
   pub int : ℤ
@@ -92,8 +92,11 @@ record Parts : Type 0 where
   pub arg : MemArg
   pub ty : HeapType
 
+abbrev pub no_parts : Parts
+no_parts = record { one = 0; other = 0; int = pos 0; bytes = []; arg = record { align = 1; offset = 0 }; ty = Abstract types.Func }
+
 -- an operator of this kind and code has an instruction
-abbrev reads : Parts → Kind → OpCode → Bool
+abbrev pub reads : Parts → Kind → OpCode → Bool
 reads p kinds.Bare code = is_some (no_immediates_at code)
 reads p kinds.Tag code = is_some (name_at code Tags p.one)
 reads p kinds.Function code = is_some (name_at code Functions p.one)
@@ -125,10 +128,10 @@ reads p kinds.AccessLane code = is_some (option_map (simd_access p.one p.arg) (s
 reads p kinds.Zero code = is_some (byte_at code 0)
 reads p _ code = true
 
-abbrev plain_test : Parts → ℕ → Entry → ℕ → Bool
+abbrev pub plain_test : Parts → ℕ → Entry → ℕ → Bool
 plain_test p prefix e n = if is_plain e then reads p e.kind (op_code prefix n) else true
 
-plain_passes : (p : Parts) → TablePasses (plain_test p)
+pub plain_passes : (p : Parts) → TablePasses (plain_test p)
 unfolding structure_rows call_rows plain_rows fb_rows fc_rows fd_rows fe_rows unary_bytes unary_bulks low_unary_vectors high_unary_vectors unary_lanes binary_bytes binary_bulks low_binary_vectors high_binary_vectors binary_lanes ternary_vectors byte_loads atomic_loads byte_stores atomic_stores vector_accesses lane_accesses atomic_changes
 plain_passes p = record { structure = refl; call = refl; plain = refl; fb = refl; fc = refl; fd = refl; fe = refl }
 
@@ -222,9 +225,6 @@ module _ (look : Look) (code : OpCode) where
         → ((a b : ℕ) → is_some (names_at code s a t b) ≡ true) → IsRead items
     names_form s t is items fits held all = two_forms (index s) (index t) items fits held
         (λ x y fit fit_too hold too. both_made (Names s) (Names t) x y fit.0 fit_too.0 fit.1 fit_too.1 hold too (λ got more. named_twice s t is fit.0 fit_too.0 got more all))
-
-    abbrev no_parts : Parts
-    no_parts = record { one = 0; other = 0; int = pos 0; bytes = []; arg = record { align = 1; offset = 0 }; ty = Abstract types.Func }
 
     kind_read : (kind : Kind) (items : List Item) → ItemsFit features (forms kind) items → AreHeld look items → holds_labels kind ≡ false
         → ((p : Parts) → reads p kind code ≡ true) → IsRead items

@@ -1,15 +1,20 @@
 -- Operators as instructions: which have one, and what comes back of it.
-use Rattle.std.specs.Prelude.{ℕ, ◌≡◌, Some, Ok}
+use Rattle.std.specs.Prelude.{ℕ, ◌≡◌, ◌≢◌, true, Some, None, Ok}
 use Rattle.wasm_features.specs.declared.WasmFeatures.{WasmFeatures}
 use Rattle.wasm_immediates.specs.Items.{Space}
+use Rattle.wasm_operators.specs.declared.entry.Entry.{Entry}
+use Rattle.wasm_operators.specs.Table.{find_code}
 use Rattle.wasm_operators.specs.Operators.{Seen}
 use Rattle.wasm_operator_names.specs.Names.{Renaming, renamed_operator}
 use Rattle.wasm_operator_ranges.specs.Ranges.{OperatorFits}
 use Rattle.walrus_instr.specs.declared.instr.Instr.{Instr}
+use Rattle.walrus_operators.specs.declared.operator.Operator.{Operator}
+use Rattle.walrus_operators.specs.Immediates.{kind_is}
+use Rattle.walrus_operators.specs.Operators.{seen}
 use Rattle.walrus_pairing.specs.Looks.{Look}
 use Rattle.walrus_pairing.specs.Write.{operator_at}
 use Rattle.walrus_pairing.specs.Read.{instr_at}
-use Rattle.walrus_operator_laws.specs.Plain.{IsPlainOperator, AreHeld}
+use Rattle.walrus_operator_laws.specs.Plain.{is_plain, IsPlainOperator, AreHeld}
 
 -- the id of a number is written as that number renamed
 abbrev pub Renames : Renaming → Look → Look → Type 0
@@ -36,3 +41,9 @@ abbrev pub PlainIsRead : Type 0
 PlainIsRead =
     (look : Look) (features : WasmFeatures) (op : Seen) → OperatorFits features op → IsPlainOperator op → AreHeld look op.items
     → (i : Instr) × (instr_at look op ≡ Ok (Some i))
+
+-- a plain operator, with immediates of its code's kind, has an instruction or is refused
+abbrev pub PlainIsAnswered : Type 0
+PlainIsAnswered =
+    (look : Look) (op : Operator) (e : Entry) → find_code op.code.prefix op.code.number ≡ Some e → is_plain e ≡ true → e.kind ≡ kind_is op.immediates
+    → instr_at look (seen op) ≢ Ok None

@@ -35,7 +35,7 @@ use Rattle.wasm_ref_types.specs.declared.index.UnpackedIndex.TheVariants.{Module
 
 module _ (r : Renaming) (look : Look) (sends : Sends r look) where
   -- a name that was found, and what was made of it
-  found_as : {A : Type 0} (space : Space) (id : ℕ) (make : ℕ → Or A) (a : A) → (found look space id >>= make) ≡ Ok a → make (r space id) ≡ Ok a
+  pub found_as : {A : Type 0} (space : Space) (id : ℕ) (make : ℕ → Or A) (a : A) → (found look space id >>= make) ≡ Ok a → make (r space id) ≡ Ok a
   found_as space id make a e = at (look space id) refl
     where
       at : (o : Option ℕ) → look space id ≡ o → make (r space id) ≡ Ok a
@@ -81,7 +81,7 @@ module _ (r : Renaming) (look : Look) (sends : Sends r look) where
   abbrev HeapSent : HeapType → WrittenHeap → Type 0
   HeapSent ty w = (v : WrittenHeap) × (written_heap (all Types) ty ≡ Ok v) × (renamed_heap r v ≡ w)
 
-  heap_as : (ty : HeapType) (w : WrittenHeap) → written_heap (look Types) ty ≡ Ok w → HeapSent ty w
+  pub heap_as : (ty : HeapType) (w : WrittenHeap) → written_heap (look Types) ty ≡ Ok w → HeapSent ty w
   heap_as (Abstract kind) w e = (WAbstract false (written_abstract kind), refl, ok_is _ w e)
   heap_as (Concrete id) w e = (WConcrete (Module id), refl, ok_is (WConcrete (Module (r Types id))) w (found_as Types id (λ n. Ok (WConcrete (Module n))) w e))
   heap_as (Exact id) w e = (WExact (Module id), refl, ok_is (WExact (Module (r Types id))) w (found_as Types id (λ n. Ok (WExact (Module n))) w e))
@@ -96,7 +96,7 @@ module _ (r : Renaming) (look : Look) (sends : Sends r look) where
           sent i code (Heap v.0 ∷ []) (Heap w ∷ []) s (is v.0 v.1) (ap (λ (x : WrittenHeap). Heap x ∷ []) v.2) (rw h at e)
       at (Err x) h = absurd (let v = (rw h at e) in cc)
 
-  value_as : (ty : ValType) (w : WrittenValue) → written_value (look Types) ty ≡ Ok w → (v : WrittenValue) × (written_value (all Types) ty ≡ Ok v) × (renamed_value r v ≡ w)
+  pub value_as : (ty : ValType) (w : WrittenValue) → written_value (look Types) ty ≡ Ok w → (v : WrittenValue) × (written_value (all Types) ty ≡ Ok v) × (renamed_value r v ≡ w)
   value_as I32 w e = (WI32, refl, ok_is _ w e)
   value_as I64 w e = (WI64, refl, ok_is _ w e)
   value_as F32 w e = (WF32, refl, ok_is _ w e)

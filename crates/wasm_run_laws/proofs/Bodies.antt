@@ -2,11 +2,11 @@
 use Rattle.std.proofs.Common.{ℕ, ◌≡◌, false, List, [], ◌∷◌, map, refl, sym, ap, subst, ◌∙◌, inr}
 use Rattle.std.specs.Prelude.{Some, None, slice_get}
 use Rattle.wasm_immediates.specs.declared.block_type.BlockType.{BlockType}
-use Rattle.wasm_immediates.specs.Items.{Functions}
+use Rattle.wasm_immediates.specs.Items.{Space, Functions, Locals, Labels}
 use Rattle.wasm_operators.specs.Operators.{Seen}
 use Rattle.wasm_operator_names.specs.Names.{Renaming, renamed_operator}
-use Rattle.wasm_operator_names.specs.Laws.{same}
-use Rattle.wasm_operator_names.specs.Renamed.{same_is_same}
+use Rattle.wasm_operator_names.specs.Laws.{same, after}
+use Rattle.wasm_operator_names.specs.Renamed.{same_is_same, renames_twice}
 use Rattle.wasm_normal_form.specs.Roles.{Placed}
 use Rattle.wasm_normal_form.specs.Normal.{picked, normal, normal_ops}
 use Rattle.wasm_normal_form.specs.Bodies.{Body, used_keys, new_number, normal_body}
@@ -14,11 +14,11 @@ use Rattle.wasm_normal_form.specs.Laws.{TreeIsOne, NormalNests}
 use Rattle.wasm_runs.specs.Outcomes.{Outcome, Enter, Ending}
 use Rattle.wasm_runs.specs.Programs.{Signature, Executed, cut, executed, operators, unplaced, nested, functions_of, callee_of}
 use Rattle.wasm_runs.specs.Traces.{Traces, starts, BodyTrace}
-use Rattle.wasm_runs.specs.Renamed.{renamed_signature, renamed_executed, renamed_outcome, Fits}
+use Rattle.wasm_runs.specs.Renamed.{Maps, within, renamed_signature, renamed_executed, renamed_outcome, Fits}
 use Rattle.wasm_runs.proofs.Ends.{each_body_ends, one_body_trace}
-use Rattle.wasm_run_laws.specs.Stands.{normal_code, renamed_code, KeepsSignatures, AreTypedSo, PicksKeep}
-use Rattle.wasm_run_laws.specs.Laws.{RunsAs, RunsRenamed, NormalRunsTheSame, local_numbers, NormalBodyRunsTheSame, KeepsLabels, BodyRunsRenamed, NormalRunsRenamed}
-use Rattle.wasm_run_laws.proofs.Images.{AllOf, Images, SameCallee, Good, IsGood, functions_renamed}
+use Rattle.wasm_run_laws.specs.Stands.{normal_code, renamed_code, items_alone, KeepsSignatures, AreTypedSo, PicksKeep}
+use Rattle.wasm_run_laws.specs.Laws.{RunsAs, RunsRenamed, NormalRunsTheSame, local_numbers, NormalBodyRunsTheSame, KeepsLabels, BodyRunsRenamed, NormalRunsRenamed, NormalBodiesStand}
+use Rattle.wasm_run_laws.proofs.Images.{each_is, AllOf, Images, SameCallee, Good, IsGood, functions_renamed}
 use Rattle.wasm_run_laws.proofs.Alike.{runs_alike}
 use Rattle.wasm_run_laws.proofs.Nested.{nested_image, all_of, both_of, each_of, nested_all, normal_all, normal_unplaced, as_written, written_picked, operators_of, normal_renamed}
 use Rattle.wasm_run_laws.proofs.Entries.{executed_renamed, executed_picked, executed_with_pick, locals_renamed, ops_typed_so}
@@ -37,10 +37,6 @@ any_fits (_ ∷ outcomes) = (tt, any_fits outcomes)
 pub outcome_is : (o : Outcome) → renamed_outcome (λ f. f) o ≡ o
 outcome_is (Enter f) = refl
 outcome_is _ = refl
-
-pub map_is : {A : Type 0} (f : A → A) → ((x : A) → f x ≡ x) → (xs : List A) → map f xs ≡ xs
-map_is f h [] = refl
-map_is {A} f h (x ∷ xs) = ap (λ (y : A). y ∷ map f xs) (h x) ∙ ap (λ (ys : List A). x ∷ ys) (map_is f h xs)
 
 -- ---- bodies
 
@@ -69,7 +65,7 @@ module _ (one : TreeIsOne) (nests : NormalNests) (here there : BlockType → Sig
       } in
       let goods : IsGood Any i 0 (nested ops) false = both_of (ShownSo entry) (λ o. Unit {0}) (Good Any i 0) good w shows (each_of (λ o. Unit {0}) (λ o. tt) w) in
       let P : List Outcome → Type 0 = λ os. Traces (cut there) (starts 0 (Some (renamed_code r (normal_code pick ops))) os bound) (map entry events) ending in
-      subst P (map_is (renamed_outcome (λ f. f)) outcome_is outcomes)
+      subst P (each_is (renamed_outcome (λ f. f)) outcome_is outcomes)
       (runs_alike Executed Any i (λ g k. tt) 0 (Some ops) (Some (renamed_code r (normal_code pick ops))) (nested_image r one nests pick ops, goods) outcomes (any_fits outcomes) bound events ending run)
 
   shown_of : (w : _) → AllOf (AreTypedSo r here there) w → AllOf (ShownSo (renamed_executed r)) w
@@ -95,7 +91,7 @@ module _ (one : TreeIsOne) (nests : NormalNests) (signature : BlockType → Sign
       (each_of (λ o. executed signature (renamed_operator same o) ≡ executed signature o) (λ o. ap (executed signature) (same_is_same o)) w) outcomes bound events ending run in
       let P : List Executed → Type 0 = λ vs. BodyTrace signature (renamed_code same code) outcomes bound vs ending in
       let Q : List Seen → Type 0 = λ os. BodyTrace signature os outcomes bound events ending in
-      subst Q (map_is (renamed_operator same) same_is_same code ∙ normal_unplaced pick ops) (subst P (map_is (λ (v : Executed). v) (λ v. refl) events) renamed)
+      subst Q (each_is (renamed_operator same) same_is_same code ∙ normal_unplaced pick ops) (subst P (each_is (λ (v : Executed). v) (λ v. refl) events) renamed)
 
   -- since each has one trace
   from_normal : (ops : List Placed) → RunsAs signature (operators (normal_ops pick ops)) (operators ops)
@@ -134,3 +130,26 @@ body_runs_renamed one nests here there r labels ops types outcomes bound events 
     subst Q (operators_of others)
     (from_normal one nests there as_written (λ ty. refl) (map unplaced others) outcomes bound (map (renamed_executed r) events) ending
     (subst Q e (normal_body_renamed one nests here there r labels as_written (λ ty. refl) ops w outcomes bound events ending run)))
+
+-- ---- normal forms with new numbers of locals, and then renamed
+
+-- renamings that give the same numbers are one
+same_renamings : (p q : Renaming) → ((space : Space) (n : ℕ) → p space n ≡ q space n) → p ≡ q
+same_renamings p q h = λ i space n. h space n i
+
+twice : (r s : Renaming) (ops : List Seen) → renamed_code s (renamed_code r ops) ≡ renamed_code (after s r) ops
+twice r s [] = refl
+twice r s (o ∷ ops) =
+    ap (λ (x : Seen). x ∷ renamed_code s (renamed_code r ops)) (renames_twice r s o) ∙ ap (λ (xs : List Seen). renamed_operator (after s r) o ∷ xs) (twice r s ops)
+
+both_numbers : (r : Maps) (f : ℕ) (number : ℕ → ℕ) → ((n : ℕ) → r.locals f n ≡ number n) → (space : Space) (n : ℕ) → within r f space n ≡ after (items_alone r) (local_numbers number) space n
+both_numbers r f number h Locals n = h n
+both_numbers r f number h Labels n = refl
+both_numbers r f number h _ n = refl
+
+pub normal_bodies_stand : NormalBodiesStand
+normal_bodies_stand r f pick params b h =
+    let number : ℕ → ℕ = new_number params (used_keys params b.locals (normal_ops pick b.ops)) in
+    ap (λ (s : Renaming). renamed_code s (normal_code pick (operators b.ops))) (same_renamings (within r f) (after (items_alone r) (local_numbers number)) (both_numbers r f number h))
+    ∙ ap (renamed_code (after (items_alone r) (local_numbers number))) (normal_unplaced pick b.ops)
+    ∙ sym (twice (local_numbers number) (items_alone r) (operators (normal_ops pick b.ops))) ∙ ap (renamed_code (items_alone r)) (sym (locals_renamed number (normal_ops pick b.ops)))

@@ -22,6 +22,7 @@ use Rattle.wasm_runs.specs.Programs.{Signature, Shown, Typed, shown, executed, o
 use Rattle.wasm_runs.specs.Renamed.{renamed_signature, renamed_shown, renamed_executed}
 use Rattle.wasm_run_laws.specs.Stands.{renamed_code, KeepsSignatures, IsTypedSo, AreTypedSo, PicksKeep}
 use Rattle.wasm_run_laws.specs.Laws.{local_numbers}
+use Rattle.wasm_run_laws.proofs.Images.{each_is}
 
 module _ (r : Renaming) (s : BlockType → Signature) where
   shown_renamed : (t : BlockType → Signature) (x : Item) → IsTypedSo r s t x → shown t (renamed_item r x) ≡ renamed_shown r (shown s x)
@@ -65,10 +66,6 @@ module _ (s : BlockType → Signature) (pick : BlockType → BlockType) (keeps :
   executed_with_pick o = ap (λ (xs : List Shown). record { code = o.code; items = xs }) (items_with_pick o.items)
 
 -- ---- new numbers of locals alone
-
-each_is : {A : Type 0} (f : A → A) → ((x : A) → f x ≡ x) → (xs : List A) → map f xs ≡ xs
-each_is f h [] = refl
-each_is {A} f h (x ∷ xs) = ap (λ (y : A). y ∷ map f xs) (h x) ∙ ap (λ (ys : List A). x ∷ ys) (each_is f h xs)
 
 module _ (number : ℕ → ℕ) where
   abbrev r : Renaming

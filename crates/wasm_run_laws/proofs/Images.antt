@@ -16,6 +16,10 @@ use Rattle.wasm_normal_form.specs.Normal.{with_pick, picked, normal_from}
 use Rattle.wasm_runs.specs.Programs.{Code, nested, label_in, labels_of, function_in, functions_of, callee_of, clauses_in, clauses_of}
 use Rattle.wasm_runs.specs.Frames.{Handler, clause_handler, passed_by, passed}
 
+pub each_is : {A : Type 0} (f : A → A) → ((x : A) → f x ≡ x) → (xs : List A) → map f xs ≡ xs
+each_is f h [] = refl
+each_is {A} f h (x ∷ xs) = ap (λ (y : A). y ∷ map f xs) (h x) ∙ ap (λ (ys : List A). x ∷ ys) (each_is f h xs)
+
 -- ---- what renamed operators name
 
 label_same : (r : Renaming) → ((k : ℕ) → r Labels k ≡ k) → (space : Space) (k : ℕ) → label_in space (r space k) ≡ label_in space k

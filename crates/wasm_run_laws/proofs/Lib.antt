@@ -4,4 +4,3 @@ pub mod Nested
 pub mod Entries
 pub mod Bodies
 pub mod Modules
-pub mod Picks

@@ -18,11 +18,11 @@ use Rattle.wasm_runs.specs.Renamed.{Maps, within, renamed_event, renamed_outcome
 use Rattle.wasm_runs.proofs.Ends.{each_run_ends, one_trace}
 use Rattle.wasm_run_laws.specs.Stands.{normal_code, renamed_code, normal_program, KeepsSignatures, NamesKept, AreTypedSo, PicksKeep, StandsNormal, StandsRenamed}
 use Rattle.wasm_run_laws.specs.Laws.{ModuleRunsAs, NormalModuleRunsTheSame, SameRuns, RunsCorrespond, RenamedRunsCorrespond}
-use Rattle.wasm_run_laws.proofs.Images.{AllOf, Images, SameCallee, Good, SameBody, SameBodies, functions_renamed}
+use Rattle.wasm_run_laws.proofs.Images.{each_is, AllOf, Images, SameCallee, Good, SameBody, SameBodies, functions_renamed}
 use Rattle.wasm_run_laws.proofs.Alike.{runs_alike}
 use Rattle.wasm_run_laws.proofs.Nested.{nested_image, all_of, both_of, each_of, nested_all, normal_all, as_written, written_picked, normal_renamed}
 use Rattle.wasm_run_laws.proofs.Entries.{executed_renamed, executed_picked, executed_with_pick}
-use Rattle.wasm_run_laws.proofs.Bodies.{Any, any_fits, outcome_is, map_is}
+use Rattle.wasm_run_laws.proofs.Bodies.{Any, any_fits, outcome_is}
 
 abbrev in_function : ℕ → Executed → Event
 in_function f x = record { function = f; executed = x }
@@ -51,15 +51,15 @@ module _ (one : TreeIsOne) (nests : NormalNests) (pick : BlockType → BlockType
 
   own_body : (f : ℕ) (o : Option (List Seen)) → SameBody Any own f o (option_map (normal_code pick) o)
   own_body f None = tt
-  own_body f (Some ops) = (ap nested (sym (map_is (renamed_operator same) same_is_same (normal_code pick ops))) ∙ nested_image same one nests pick ops, each_of (Good Any own f) (own_good f) (normal pick (nested ops)))
+  own_body f (Some ops) = (ap nested (sym (each_is (renamed_operator same) same_is_same (normal_code pick ops))) ∙ nested_image same one nests pick ops, each_of (Good Any own f) (own_good f) (normal pick (nested ops)))
 
   to_normal_module : ModuleRunsAs p (normal_program pick p)
   to_normal_module f outcomes bound events ending run =
       let q : Program = normal_program pick p in
       let P : List Outcome → Type 0 = λ os. Traces (whole q) (starts f (q.body f) os bound) (map (λ (v : Event). v) events) ending in
       let Q : List Event → Type 0 = λ vs. Trace q f outcomes bound vs ending in
-      subst Q (map_is (λ (v : Event). v) (λ v. refl) events)
-      (subst P (map_is (renamed_outcome (λ f. f)) outcome_is outcomes)
+      subst Q (each_is (λ (v : Event). v) (λ v. refl) events)
+      (subst P (each_is (renamed_outcome (λ f. f)) outcome_is outcomes)
       (runs_alike Event Any own (λ g k. own_body g (p.body g)) f (p.body f) (q.body f) (own_body f (p.body f)) outcomes (any_fits outcomes) bound events ending run))
 
   -- since each has one trace

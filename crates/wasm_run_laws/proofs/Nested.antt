@@ -15,7 +15,7 @@ use Rattle.wasm_normal_form.specs.Normal.{with_pick, picked, normal_from, normal
 use Rattle.wasm_normal_form.specs.Laws.{TreeIsOne, NormalNests}
 use Rattle.wasm_runs.specs.Programs.{operators, unplaced, nested}
 use Rattle.wasm_run_laws.specs.Stands.{normal_code, renamed_code}
-use Rattle.wasm_run_laws.proofs.Images.{mapped_tree, renamed_tree, AllOf}
+use Rattle.wasm_run_laws.proofs.Images.{each_is, mapped_tree, renamed_tree, AllOf}
 
 -- ---- what operators nest as is shaped
 
@@ -216,15 +216,11 @@ module _ (f : Seen → Seen) (pick other : BlockType → BlockType) (c : Commute
   pub normal_changed : (ops : List Placed) → normal_code other (map f (operators ops)) ≡ map f (operators (normal_ops pick ops))
   normal_changed ops = ap (λ (t : Tree). operators (flat (normal other t))) (tree_mapped ops) ∙ normal_mapped (tree_of ops) false false
 
-itself_is : (ops : List Seen) → map (λ (o : Seen). o) ops ≡ ops
-itself_is [] = refl
-itself_is (o ∷ ops) = ap (λ (z : List Seen). o ∷ z) (itself_is ops)
-
 -- places alone
 pub normal_unplaced : (pick : BlockType → BlockType) (ops : List Placed) → normal_code pick (operators ops) ≡ operators (normal_ops pick ops)
 normal_unplaced pick ops =
-    ap (normal_code pick) (sym (itself_is (operators ops)))
-    ∙ normal_changed (λ o. o) pick pick (record { code = λ o. refl; picks = λ o. refl; else_is = refl; end_is = refl }) ops ∙ itself_is (operators (normal_ops pick ops))
+    ap (normal_code pick) (sym (each_is (λ o. o) (λ o. refl) (operators ops)))
+    ∙ normal_changed (λ o. o) pick pick (record { code = λ o. refl; picks = λ o. refl; else_is = refl; end_is = refl }) ops ∙ each_is (λ o. o) (λ o. refl) (operators (normal_ops pick ops))
 
 -- ---- block types as they are
 
@@ -235,12 +231,8 @@ written_item : (x : Item) → with_pick as_written x ≡ x
 written_item (Block ty) = refl
 written_item _ = refl
 
-written_items : (xs : List Item) → map (with_pick as_written) xs ≡ xs
-written_items [] = refl
-written_items (x ∷ xs) = ap (λ (y : Item). y ∷ map (with_pick as_written) xs) (written_item x) ∙ ap (λ (ys : List Item). x ∷ ys) (written_items xs)
-
 pub written_picked : (o : Seen) → picked as_written o ≡ o
-written_picked o = ap (λ (xs : List Item). record { code = o.code; items = xs }) (written_items o.items)
+written_picked o = ap (λ (xs : List Item). record { code = o.code; items = xs }) (each_is (with_pick as_written) written_item o.items)
 
 pub operators_of : (ops : List Seen) → operators (map unplaced ops) ≡ ops
 operators_of [] = refl

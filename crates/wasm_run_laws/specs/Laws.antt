@@ -11,8 +11,8 @@ use Rattle.wasm_normal_form.specs.Bodies.{Body, used_keys, new_number, normal_bo
 use Rattle.wasm_runs.specs.Outcomes.{Outcome, Ending}
 use Rattle.wasm_runs.specs.Programs.{Signature, Program, Executed, Event, operators}
 use Rattle.wasm_runs.specs.Traces.{Trace, BodyTrace}
-use Rattle.wasm_runs.specs.Renamed.{Maps, renamed_executed, renamed_event, renamed_outcome, Fits}
-use Rattle.wasm_run_laws.specs.Stands.{normal_code, renamed_code, normal_program, KeepsSignatures, PicksKeep, AreTypedSo, StandsNormal, StandsRenamed}
+use Rattle.wasm_runs.specs.Renamed.{Maps, within, renamed_executed, renamed_event, renamed_outcome, Fits}
+use Rattle.wasm_run_laws.specs.Stands.{normal_code, renamed_code, items_alone, normal_program, KeepsSignatures, PicksKeep, AreTypedSo, StandsNormal, StandsRenamed}
 
 -- ---- bodies
 
@@ -81,3 +81,9 @@ RunsCorrespond = (chosen : ℕ → Bool) (r : Maps) (pick : BlockType → BlockT
 
 abbrev pub RenamedRunsCorrespond : Type 0
 RenamedRunsCorrespond = (chosen : ℕ → Bool) (r : Maps) (m n : Program) → StandsRenamed (λ f. IsTrue (chosen f)) r m n → SameRuns (λ f. IsTrue (chosen f)) r m n
+
+-- a body in normal form and renamed is its normal form with the locals' new numbers, items renamed, if the renaming gives locals these numbers
+abbrev pub NormalBodiesStand : Type 0
+NormalBodiesStand = (r : Maps) (f : ℕ) (pick : BlockType → BlockType) (params : ℕ) (b : Body)
+    → ((n : ℕ) → r.locals f n ≡ new_number params (used_keys params b.locals (normal_ops pick b.ops)) n)
+    → renamed_code (within r f) (normal_code pick (operators b.ops)) ≡ renamed_code (items_alone r) (operators (normal_body pick params b).ops)

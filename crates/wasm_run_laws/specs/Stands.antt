@@ -3,7 +3,7 @@ use Rattle.std.specs.Prelude.{ℕ, ◌≡◌, List, map, Some}
 use Rattle.std.specs.List.{AllByRecursion}
 use Rattle.std.specs.Option.{option_map}
 use Rattle.wasm_immediates.specs.declared.block_type.BlockType.{BlockType}
-use Rattle.wasm_immediates.specs.Items.{Functions, Item, Block}
+use Rattle.wasm_immediates.specs.Items.{Functions, Locals, Labels, Item, Block}
 use Rattle.wasm_operators.specs.Operators.{Seen}
 use Rattle.wasm_operator_names.specs.Names.{Renaming, renamed_block, renamed_operator}
 use Rattle.wasm_normal_form.specs.Normal.{normal_ops}
@@ -57,3 +57,9 @@ pub record StandsRenamed (kept : ℕ → Type 0) (r : Maps) (m n : Program) : Ty
   pub there : (f : ℕ) → kept f → n.body (r.items Functions f) ≡ option_map (renamed_code (within r f)) (m.body f)
   pub names : (f : ℕ) (ops : List Seen) → kept f → m.body f ≡ Some ops → AllByRecursion (NamesKept kept) ops
   pub types : (f : ℕ) (ops : List Seen) → kept f → m.body f ≡ Some ops → AllByRecursion (AreTypedSo (within r f) m.signature n.signature) ops
+
+-- a renaming of items alone: locals and labels stay
+abbrev pub items_alone : Maps → Renaming
+items_alone r Locals n = n
+items_alone r Labels n = n
+items_alone r space n = r.items space n

@@ -1,9 +1,7 @@
 //! Laws: functions with nothing to do but to call the laws on normal forms, whose contracts hold of all runs.
 
-ghost use Rattle.wasm_run_laws.specs.Laws.{BodyRunsRenamed, NormalBodyRunsTheSame, NormalModuleRunsTheSame, NormalRunsRenamed, NormalRunsTheSame, RenamedRunsCorrespond, RunsCorrespond};
-ghost use Rattle.wasm_run_laws.specs.Picks.{PicksOfModulesKeep};
+ghost use Rattle.wasm_run_laws.specs.Laws.{BodyRunsRenamed, NormalBodiesStand, NormalBodyRunsTheSame, NormalModuleRunsTheSame, NormalRunsRenamed, NormalRunsTheSame, RenamedRunsCorrespond, RunsCorrespond};
 
-use walrus_forms::laws::same_kind_is_equality;
 use wasm_normal_form::laws::{normal_forms_are_normal, trees_are_one};
 
 /// A body and its normal form execute the same operators and end the same, for all outcomes and bounds; so does its normal form with the
@@ -43,9 +41,7 @@ pub fn runs_correspond()
     normal_forms_are_normal();
 }
 
-/// The picks of the grammar keep the parameters and results of block types, where types that stand for the same type are renamed to one.
-pub fn picks_keep_parameters_and_results()
-    ensures { PicksOfModulesKeep }
-{
-    same_kind_is_equality();
-}
+/// A body in normal form and renamed is its normal form with the locals' new numbers, and then its items renamed.
+pub fn normal_bodies_stand_renamed()
+    ensures { NormalBodiesStand }
+{}

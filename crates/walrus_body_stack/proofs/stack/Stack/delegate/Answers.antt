@@ -7,8 +7,8 @@ use Rattle.walrus_body_stack.specs.Frames.{open_of}
 use Rattle.walrus_body_stack.proofs.Closing.{handed}
 use Rattle.walrus_body_stack.proofs.stack.Stack.delegate.Goals as goal
 
-pub returns : goal.returns
-returns c =
+pub returns-clause-handed : goal.returns-clause-handed
+returns-clause-handed c =
     let p = c.args.self.now in
     let cur = c.replace-closed.result in
     let v = c.in-Some.outer in

@@ -7,8 +7,8 @@ use Rattle.walrus_body_stack.specs.Frames.{open_of, blocks}
 use Rattle.walrus_body_stack.proofs.Closing.{ended}
 use Rattle.walrus_body_stack.proofs.stack.Stack.end.Goals as goal
 
-pub returns : goal.returns
-returns c =
+pub returns-clause-ended : goal.returns-clause-ended
+returns-clause-ended c =
     let p = c.args.self.now in
     let cur = c.replace-closed.result in
     let v = c.in-Some.outer in

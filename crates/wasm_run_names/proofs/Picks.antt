@@ -1,4 +1,4 @@
--- The picks of the grammar keep parameters and results.
+-- Block types of modules: their picks, and renamed ones.
 use Rattle.std.proofs.Common.{ℕ, suc, ◌≡◌, ◌+◌, Bool, true, false, List, [], ◌∷◌, map, refl, sym, ap, ◌∙◌, arith, if◌then◌else◌}
 use Rattle.std.specs.Prelude.{Option, Some, None, unwrap_or, slice_get}
 use Rattle.std.specs.Option.{option_map}
@@ -26,7 +26,7 @@ use Rattle.wasm_body_grammar.specs.Rules.{Around, serves, latest_from, pick}
 use Rattle.wasm_runs.specs.Programs.{Signature}
 use Rattle.wasm_runs.specs.Renamed.{renamed_signature}
 use Rattle.wasm_runs.specs.Modules.{kind_signature, signature_in}
-use Rattle.wasm_run_laws.specs.Picks.{form_pick, kind_pick, PicksOfModulesKeep}
+use Rattle.wasm_run_names.specs.Picks.{form_pick, kind_pick, PicksOfModulesKeep, BlockTypesStand}
 
 -- ---- the latest type that passes a test passes it
 
@@ -40,6 +40,16 @@ latest_has test whole P h (kind ∷ rest) n found same p =
     either : (b : Bool) → test kind ≡ b → P (if b then Some n else found)
     either true e = h n kind (sym (same 0 ∙ ap (slice_get whole) (let e : 0 + n ≡ n = omega arith in e))) e
     either false e = p
+
+params_renamed : (r : ℕ → ℕ) (form : Form) → params_of (renamed_form r form) ≡ map (renamed_value r) (params_of form)
+params_renamed r (FunctionForm params results) = refl
+params_renamed r (StructForm fields) = refl
+params_renamed r (ArrayForm field) = refl
+
+results_renamed : (r : ℕ → ℕ) (form : Form) → results_of (renamed_form r form) ≡ map (renamed_value r) (results_of form)
+results_renamed r (FunctionForm params results) = refl
+results_renamed r (StructForm fields) = refl
+results_renamed r (ArrayForm field) = refl
 
 -- ---- renaming by what types stand for, first, changes nothing
 
@@ -67,23 +77,13 @@ module _ (same : ℕ → ℕ) (r : Renaming) (absorbs : (n : ℕ) → r Types (s
   values_same : (vs ws : List ValType) → map (renamed_value same) vs ≡ map (renamed_value same) ws → map (names.renamed_value r) (map value_from vs) ≡ map (names.renamed_value r) (map value_from ws)
   values_same vs ws e = values_absorb vs ∙ ap (map (λ v. names.renamed_value r (value_from v))) e ∙ sym (values_absorb ws)
 
-  params_renamed : (form : Form) → params_of (renamed_form same form) ≡ map (renamed_value same) (params_of form)
-  params_renamed (FunctionForm params results) = refl
-  params_renamed (StructForm fields) = refl
-  params_renamed (ArrayForm field) = refl
-
-  results_renamed : (form : Form) → results_of (renamed_form same form) ≡ map (renamed_value same) (results_of form)
-  results_renamed (FunctionForm params results) = refl
-  results_renamed (StructForm fields) = refl
-  results_renamed (ArrayForm field) = refl
-
   -- a type that serves has the parameters and results, renamed
   served : SameKindIsEquality → (kind : Kind) (params results : List ValType) → serves same params results kind ≡ true
       → renamed_signature r (kind_signature (Some kind)) ≡ renamed_signature r (record { params = map value_from params; results = map value_from results })
   served is kind params results h =
       let e : renamed_kind same kind ≡ renamed_kind same (function_kind params results) = (is (renamed_kind same kind) (renamed_kind same (function_kind params results))).0 h in
-      let ps : map (renamed_value same) (params_of kind.form) ≡ map (renamed_value same) params = sym (params_renamed kind.form) ∙ ap (λ (k : Kind). params_of k.form) e in
-      let rs : map (renamed_value same) (results_of kind.form) ≡ map (renamed_value same) results = sym (results_renamed kind.form) ∙ ap (λ (k : Kind). results_of k.form) e in
+      let ps : map (renamed_value same) (params_of kind.form) ≡ map (renamed_value same) params = sym (params_renamed same kind.form) ∙ ap (λ (k : Kind). params_of k.form) e in
+      let rs : map (renamed_value same) (results_of kind.form) ≡ map (renamed_value same) results = sym (results_renamed same kind.form) ∙ ap (λ (k : Kind). results_of k.form) e in
       ap (λ (xs : List ReadValue). (let s : Signature = record { params = xs; results = map (names.renamed_value r) (map value_from (results_of kind.form)) } in s)) (values_same (params_of kind.form) params ps)
       ∙ ap (λ (xs : List ReadValue). (let s : Signature = record { params = map (names.renamed_value r) (map value_from params); results = xs } in s)) (values_same (results_of kind.form) results rs)
 
@@ -121,3 +121,40 @@ pub picks_of_modules_keep : SameKindIsEquality → PicksOfModulesKeep
 picks_of_modules_keep is a r absorbs blocks.Empty = refl
 picks_of_modules_keep is a r absorbs (blocks.Value ty) = refl
 picks_of_modules_keep is a r absorbs (blocks.Type n) = kind_keeps is a r absorbs n (slice_get (types_of a.filled) n) refl
+
+-- ---- renamed types
+
+module _ (r : Renaming) where
+  value_renamed : (v : ValType) → value_from (renamed_value (r Types) v) ≡ names.renamed_value r (value_from v)
+  value_renamed I32 = refl
+  value_renamed I64 = refl
+  value_renamed F32 = refl
+  value_renamed F64 = refl
+  value_renamed V128 = refl
+  value_renamed (Ref ty) = go ty.nullable ty.heap_type
+    where
+      go : (nullable : Bool) (heap : HeapType) → value_from (renamed_value (r Types) (Ref (record { nullable = nullable; heap_type = heap })))
+          ≡ names.renamed_value r (value_from (Ref (record { nullable = nullable; heap_type = heap })))
+      go nullable (Abstract ty) = refl
+      go nullable (Concrete n) = refl
+      go nullable (Exact n) = refl
+
+  values_renamed : (vs : List ValType) → map value_from (map (renamed_value (r Types)) vs) ≡ map (names.renamed_value r) (map value_from vs)
+  values_renamed [] = refl
+  values_renamed (v ∷ vs) =
+      ap (λ (x : ReadValue). x ∷ map value_from (map (renamed_value (r Types)) vs)) (value_renamed v) ∙ ap (λ (xs : List ReadValue). names.renamed_value r (value_from v) ∷ xs) (values_renamed vs)
+
+  signature_renamed : (o : Option Kind) → kind_signature (option_map (renamed_kind (r Types)) o) ≡ renamed_signature r (kind_signature o)
+  signature_renamed None = refl
+  signature_renamed (Some kind) =
+      let ps : map value_from (params_of (renamed_form (r Types) kind.form)) ≡ map (names.renamed_value r) (map value_from (params_of kind.form)) =
+      ap (map value_from) (params_renamed (r Types) kind.form) ∙ values_renamed (params_of kind.form) in
+      let rs : map value_from (results_of (renamed_form (r Types) kind.form)) ≡ map (names.renamed_value r) (map value_from (results_of kind.form)) =
+      ap (map value_from) (results_renamed (r Types) kind.form) ∙ values_renamed (results_of kind.form) in
+      ap (λ (xs : List ReadValue). (let s : Signature = record { params = xs; results = map value_from (results_of (renamed_form (r Types) kind.form)) } in s)) ps
+      ∙ ap (λ (xs : List ReadValue). (let s : Signature = record { params = map (names.renamed_value r) (map value_from (params_of kind.form)); results = xs } in s)) rs
+
+pub block_types_stand : BlockTypesStand
+block_types_stand r m n blocks.Empty h = refl
+block_types_stand r m n (blocks.Value ty) h = refl
+block_types_stand r m n (blocks.Type k) h = ap kind_signature h ∙ signature_renamed r (slice_get (types_of m) k)

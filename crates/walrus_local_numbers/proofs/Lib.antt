@@ -1,0 +1,5 @@
+mod Orders
+mod Members
+mod Numbering
+mod Counting
+mod Following

@@ -1,0 +1,3 @@
+pub mod Declared
+pub mod Written
+pub mod Laws

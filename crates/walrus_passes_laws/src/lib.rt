@@ -1,0 +1,9 @@
+//! Laws of passes over modules.
+#![tactic(auto)]
+
+ghost use Rattle.walrus_passes_laws.specs.Twice.{GcTwice};
+
+/// A second `gc::run` deletes nothing, and is refused for want of memory alone.
+pub fn second_gc_deletes_nothing()
+    ensures { GcTwice }
+{}
