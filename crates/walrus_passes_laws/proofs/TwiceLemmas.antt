@@ -83,34 +83,34 @@ module _ (m n : Module) (pushed : List Item) (part : IsKeptPart m pushed n) wher
   abbrev Stays : Space → ℕ → Type 0
   Stays space id = Kept m pushed (item space id)
 
-  locals_same : n.locals ≡ m.locals
+  pub locals_same : n.locals ≡ m.locals
   locals_same = ap (λ (k : Module). k.locals) part.others
 
-  exports_same : n.exports ≡ m.exports
+  pub exports_same : n.exports ≡ m.exports
   exports_same = ap (λ (k : Module). k.exports) part.others
 
-  start_same : n.start ≡ m.start
+  pub start_same : n.start ≡ m.start
   start_same = ap (λ (k : Module). k.start) part.others
 
-  functions_same : (id : ℕ) → Stays spaces.Function id → item_at n.funcs id ≡ item_at m.funcs id
+  pub functions_same : (id : ℕ) → Stays spaces.Function id → item_at n.funcs id ≡ item_at m.funcs id
   functions_same id k = same_slot (Stays spaces.Function) m.funcs n.funcs part.funcs id k
 
-  tables_same : (id : ℕ) → Stays spaces.Table id → item_at n.tables id ≡ item_at m.tables id
+  pub tables_same : (id : ℕ) → Stays spaces.Table id → item_at n.tables id ≡ item_at m.tables id
   tables_same id k = same_slot (Stays spaces.Table) m.tables n.tables part.tables id k
 
-  memories_same : (id : ℕ) → Stays spaces.Memory id → item_at n.memories id ≡ item_at m.memories id
+  pub memories_same : (id : ℕ) → Stays spaces.Memory id → item_at n.memories id ≡ item_at m.memories id
   memories_same id k = same_slot (Stays spaces.Memory) m.memories n.memories part.memories id k
 
-  tags_same : (id : ℕ) → Stays spaces.Tag id → item_at n.tags id ≡ item_at m.tags id
+  pub tags_same : (id : ℕ) → Stays spaces.Tag id → item_at n.tags id ≡ item_at m.tags id
   tags_same id k = same_slot (Stays spaces.Tag) m.tags n.tags part.tags id k
 
-  globals_same : (id : ℕ) → Stays spaces.Global id → item_at n.globals id ≡ item_at m.globals id
+  pub globals_same : (id : ℕ) → Stays spaces.Global id → item_at n.globals id ≡ item_at m.globals id
   globals_same id k = same_slot (Stays spaces.Global) m.globals n.globals part.globals id k
 
-  elements_same : (id : ℕ) → Stays spaces.Element id → item_at n.elements id ≡ item_at m.elements id
+  pub elements_same : (id : ℕ) → Stays spaces.Element id → item_at n.elements id ≡ item_at m.elements id
   elements_same id k = same_slot (Stays spaces.Element) m.elements n.elements part.elements id k
 
-  data_same : (id : ℕ) → Stays spaces.Data id → item_at n.data_segments id ≡ item_at m.data_segments id
+  pub data_same : (id : ℕ) → Stays spaces.Data id → item_at n.data_segments id ≡ item_at m.data_segments id
   data_same id k = same_slot (Stays spaces.Data) m.data_segments n.data_segments part.data_segments id k
 
   -- ---- what stays names what it named
@@ -181,7 +181,7 @@ module _ (m n : Module) (pushed : List Item) (part : IsKeptPart m pushed n) wher
   names_back spaces.Label id y k h = h
 
   -- ---- roots
-  first_in : (x : Item) (xs : List Item) → Contains (x ∷ xs) x
+  pub first_in : (x : Item) (xs : List Item) → Contains (x ∷ xs) x
   first_in x xs = (0, omega arith, refl)
 
   fills_table : (e t : ℕ) (offset : ConstExpr) (segment : Element) → item_at m.elements e ≡ Some segment → segment.kind ≡ elements.Active t offset → Contains (named_by element_items (item_at m.elements e)) (item spaces.Table t)
@@ -238,7 +238,7 @@ module _ (m n : Module) (pushed : List Item) (part : IsKeptPart m pushed n) wher
   kept_back x k = elim k as (λ _. Kept m pushed x) [ inl r ↦ inl (reached_back x r) | inr p ↦ spared_back x p ]
 
   -- ---- what lives
-  was_kept : (space : Space) (id : ℕ) → space_number space < 8 → LivesIn n space id → Stays space id
+  pub was_kept : (space : Space) (id : ℕ) → space_number space < 8 → LivesIn n space id → Stays space id
   was_kept spaces.Type id low h = part.types.stay id tt h
   was_kept spaces.Function id low h = stayed (Stays spaces.Function) m.funcs n.funcs part.funcs id h
   was_kept spaces.Table id low h = stayed (Stays spaces.Table) m.tables n.tables part.tables id h
@@ -250,7 +250,7 @@ module _ (m n : Module) (pushed : List Item) (part : IsKeptPart m pushed n) wher
   was_kept spaces.Local id low h = absurd (omega (arith, low))
   was_kept spaces.Label id low h = absurd (omega (arith, low))
 
-  lives_on : (space : Space) (id : ℕ) → Stays space id → LivesIn m space id → LivesIn n space id
+  pub lives_on : (space : Space) (id : ℕ) → Stays space id → LivesIn m space id → LivesIn n space id
   lives_on spaces.Type id k h = subst (λ (o : Option TypeItem). IsSome (written o)) (sym (part.types.each id k)) h
   lives_on spaces.Function id k h = subst IsSome (sym (functions_same id k)) h
   lives_on spaces.Table id k h = subst IsSome (sym (tables_same id k)) h
@@ -263,7 +263,7 @@ module _ (m n : Module) (pushed : List Item) (part : IsKeptPart m pushed n) wher
   lives_on spaces.Label id k h = h
 
   -- ---- imports
-  import_same : (space : Space) (id : ℕ) → Stays space id → import_in n space id ≡ import_in m space id
+  pub import_same : (space : Space) (id : ℕ) → Stays space id → import_in n space id ≡ import_in m space id
   import_same spaces.Type id k = refl
   import_same spaces.Function id k = ap (option_and_then _) (functions_same id k)
   import_same spaces.Table id k = ap (option_and_then _) (tables_same id k)
@@ -302,7 +302,7 @@ module _ (m n : Module) (pushed : List Item) (part : IsKeptPart m pushed n) wher
     counted = subst (λ (o : Option TypeItem). IfSome o (λ ty. length local.args.items ≡ length (params_of ty.kind.form))) (sym (part.types.each local.builder.ty k)) h.counted;
   }
 
-  has_body : (kind : FunctionKind) → Stays spaces.Type (type_of kind) → HasBody m.types kind → HasBody n.types kind
+  pub has_body : (kind : FunctionKind) → Stays spaces.Type (type_of kind) → HasBody m.types kind → HasBody n.types kind
   has_body (functions.Import imported) k h = h
   has_body (functions.Local local) k h = has_arguments local k h
   has_body (functions.Uninitialized ty) k h = h

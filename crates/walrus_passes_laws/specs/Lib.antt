@@ -1,1 +1,2 @@
+pub mod LinkedKept
 pub mod Twice

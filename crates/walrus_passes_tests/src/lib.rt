@@ -1,0 +1,7 @@
+//! Tests of passes over modules, each call with ample memory.
+#![tactic(auto)]
+
+#[cfg(test)]
+mod modules;
+#[cfg(test)]
+mod rows;

@@ -1,0 +1,265 @@
+//! Small modules, made by steps, and how many items they have.
+use std::alloc::{AllocError, Global};
+use walrus_arena::{ExportId, FunctionId, Id, ImportId, InstrSeqId, TableId, TypeId};
+use walrus_builder::FunctionBuilder;
+use walrus_collections::Collection;
+use walrus_config::ModuleConfig;
+use walrus_errors::{ModuleError, Space};
+use walrus_forms::RefType;
+use walrus_instr::{ConstExpr, Instr, InstrSeqType, Value};
+use walrus_local_function::LocalFunction;
+use walrus_module::Module;
+use walrus_module_items::{ElementItems, ElementKind, FunctionKind};
+use walrus_passes::gc;
+
+/// A step by which a module is made or changed. Numbers are those of ids.
+#[derive(Clone, Copy)]
+pub(crate) enum Step {
+    /// A function with an empty body; the first one adds its type, 0.
+    Function,
+    /// An imported function of the type 0, with its import.
+    ImportedFunction,
+    /// An import that says that it brings the function.
+    ImportOf(usize),
+    ExportFunction(usize),
+    /// A table of 32 bits and the size 1, for function references.
+    Table,
+    ExportTable(usize),
+    /// An active segment of the table, with the function.
+    Segment { table: usize, function: usize },
+    /// A declared segment with the function.
+    Declared(usize),
+    /// The first function is called by the second.
+    Call { callee: usize, caller: usize },
+    Return(usize),
+    /// The body is put into itself.
+    Nest(usize),
+    /// A branch to a sequence that isn't around it.
+    Stray(usize),
+    Uninitialize(usize),
+    DeleteFunction(usize),
+    DeleteExport(usize),
+    DeleteImport(usize),
+    DeleteType(usize),
+    /// A gc, which answers this: 0 for `Ok`, 1 for `NotLinked`, 2 for `NoTree`, 3 for a dead function, 4 for a dead type.
+    Gc(usize),
+}
+
+fn add_function(alloc: Global, module: &mut Module) -> Result<(), AllocError> {
+    let builder = FunctionBuilder::new(alloc, &mut module.types, &[], &[])?;
+    module
+        .funcs
+        .add_local(LocalFunction::new(Vec::new(alloc), builder))?;
+    Ok(())
+}
+
+fn add_imported(module: &mut Module) -> Result<(), AllocError> {
+    let ty = module.types.add(&[], &[])?;
+    module.add_import_func("m", "f", ty)?;
+    Ok(())
+}
+
+fn add_segment(
+    alloc: Global,
+    module: &mut Module,
+    kind: ElementKind,
+    function: usize,
+) -> Result<(), AllocError> {
+    let mut functions: Vec<FunctionId> = Vec::new(alloc);
+    functions.push(Id::from_index(function & 0xff))?;
+    module
+        .elements
+        .add(kind, ElementItems::Functions(functions))?;
+    Ok(())
+}
+
+fn active(table: usize) -> ElementKind {
+    ElementKind::Active {
+        table: TableId::from_index(table & 0xff),
+        offset: ConstExpr::Value(Value::I32(0)),
+    }
+}
+
+// Puts an instruction at the end of a body.
+fn put(builder: &mut FunctionBuilder, step: Step) -> Result<(), AllocError> {
+    match step {
+        Step::Call { callee, .. } => builder
+            .func_body()
+            .call(FunctionId::from_index(callee & 0xff)),
+        Step::Return(_) => builder.func_body().return_(),
+        Step::Nest(_) => builder.func_body().instr(Instr::Block {
+            seq: InstrSeqId::from_index(0),
+        }),
+        Step::Stray(_) => {
+            let away = builder.dangling_instr_seq(InstrSeqType::Simple(None))?;
+            builder.func_body().br(away)
+        }
+        _ => Ok(()),
+    }
+}
+
+fn put_in(module: &mut Module, function: usize, step: Step) -> Result<(), AllocError> {
+    let id = FunctionId::from_index(function & 0xff);
+    if !module.funcs.contains(id) {
+        return Ok(());
+    }
+    match &mut module.funcs.get_mut(id).kind {
+        FunctionKind::Local(local) => put(local.builder_mut(), step),
+        FunctionKind::Import(_) | FunctionKind::Uninitialized(_) => Ok(()),
+    }
+}
+
+fn uninitialize(module: &mut Module, function: usize) {
+    let id = FunctionId::from_index(function & 0xff);
+    if module.funcs.contains(id) {
+        let ty = module.funcs.get(id).ty();
+        module.funcs.get_mut(id).kind = FunctionKind::Uninitialized(ty);
+    }
+}
+
+fn delete(module: &mut Module, step: Step) {
+    match step {
+        Step::DeleteFunction(index) => {
+            let id = FunctionId::from_index(index & 0xff);
+            if module.funcs.contains(id) {
+                module.funcs.delete(id);
+            }
+        }
+        Step::DeleteExport(index) => {
+            let id = ExportId::from_index(index & 0xff);
+            if module.exports.contains(id) {
+                module.exports.delete(id);
+            }
+        }
+        Step::DeleteImport(index) => {
+            let id = ImportId::from_index(index & 0xff);
+            if module.imports.contains(id) {
+                module.imports.delete(id);
+            }
+        }
+        Step::DeleteType(index) => {
+            let id = TypeId::from_index(index & 0xff);
+            if module.types.contains(id) {
+                module.types.delete(id);
+            }
+        }
+        _ => {}
+    }
+}
+
+// The number of what a gc answered.
+fn answer(refusal: Option<ModuleError>) -> usize {
+    match refusal {
+        None => 0,
+        Some(ModuleError::NotLinked) => 1,
+        Some(ModuleError::NoTree) => 2,
+        Some(
+            ModuleError::DeadReference {
+                space: Space::Function,
+            },
+        ) => 3,
+        Some(ModuleError::DeadReference { space: Space::Type }) => 4,
+        Some(_) => 5,
+    }
+}
+
+fn add(alloc: Global, module: &mut Module, step: Step) -> Result<(), AllocError> {
+    match step {
+        Step::Function => add_function(alloc, module),
+        Step::ImportedFunction => add_imported(module),
+        Step::Table => {
+            module.tables.add_local(false, 1, None, RefType::FUNCREF)?;
+            Ok(())
+        }
+        Step::Segment { table, function } => add_segment(alloc, module, active(table), function),
+        Step::Declared(function) => add_segment(alloc, module, ElementKind::Declared, function),
+        _ => Ok(()),
+    }
+}
+
+fn name(module: &mut Module, step: Step) -> Result<(), AllocError> {
+    match step {
+        Step::ImportOf(index) => {
+            let id = FunctionId::from_index(index & 0xff);
+            module.imports.add("mod", "dummy", id)?;
+        }
+        Step::ExportFunction(index) => {
+            let id = FunctionId::from_index(index & 0xff);
+            module.exports.add("f", id)?;
+        }
+        Step::ExportTable(index) => {
+            let id = TableId::from_index(index & 0xff);
+            module.exports.add("t", id)?;
+        }
+        _ => {}
+    }
+    Ok(())
+}
+
+// Takes a step; whether a gc answers what it is to answer.
+fn take(alloc: Global, module: &mut Module, step: Step) -> Result<bool, AllocError> {
+    match step {
+        Step::Gc(wanted) => return Ok(answer(gc::run(alloc, module).err()) == wanted),
+        Step::Uninitialize(function) => uninitialize(module, function),
+        Step::Call { caller, .. } => put_in(module, caller, step)?,
+        Step::Return(function) | Step::Nest(function) | Step::Stray(function) => {
+            put_in(module, function, step)?
+        }
+        Step::DeleteFunction(_)
+        | Step::DeleteExport(_)
+        | Step::DeleteImport(_)
+        | Step::DeleteType(_) => delete(module, step),
+        Step::ImportOf(_) | Step::ExportFunction(_) | Step::ExportTable(_) => name(module, step)?,
+        _ => add(alloc, module, step)?,
+    }
+    Ok(true)
+}
+
+// How many items live.
+fn live<T, S>(items: &Collection<T, S>) -> usize {
+    let mut count: usize = 0;
+    for index in 0..items.next_id().index() {
+        if items.contains(Id::from_index(index)) {
+            count = count.saturating_add(1);
+        }
+    }
+    count
+}
+
+// How many types live that are no entry types.
+fn live_types(module: &Module) -> usize {
+    let mut count: usize = 0;
+    for ty in module.types.iter() {
+        if !ty.is_entry() {
+            count = count.saturating_add(1);
+        }
+    }
+    count
+}
+
+fn empty(alloc: Global) -> Module {
+    Module::with_config(alloc, ModuleConfig::new())
+}
+
+// Whether so many types, functions, tables, elements and imports live.
+fn has(module: &Module, counts: [usize; 5]) -> bool {
+    [
+        live_types(module),
+        live(&module.funcs),
+        live(&module.tables),
+        live(&module.elements),
+        live(&module.imports),
+    ] == counts
+}
+
+/// Whether each gc among these steps answers what it is to, and they leave so many types, functions, tables, elements
+/// and imports.
+pub(crate) fn leave(alloc: Global, steps: &[Step], counts: [usize; 5]) -> Result<bool, AllocError> {
+    let mut module = empty(alloc);
+    for step in steps {
+        if !take(alloc, &mut module, *step)? {
+            return Ok(false);
+        }
+    }
+    Ok(has(&module, counts))
+}
