@@ -20,7 +20,15 @@ pub use Rattle.walrus_collection_laws.specs.Imports
 pub use Rattle.walrus_roots.specs.Items
 pub use Rattle.walrus_marks.specs.Named
 pub use Rattle.walrus_module.specs.Items as ModuleItems
+pub use Rattle.walrus_module.specs.Parts as ModuleParts
 pub use Rattle.walrus_module.specs.Replaced
+-- Custom sections and producers.
+pub use Rattle.walrus_customs.specs.Producers
+pub use Rattle.wasm_producers.specs.Entries as ProducerEntries
+pub use Rattle.walrus_sections.specs.Answers as SectionAnswers
+pub use Rattle.walrus_sections.specs.Lends as SectionLends
+pub use Rattle.walrus_sections.specs.Refusals as SectionRefusals
+pub use Rattle.walrus_sections.specs.Sections
 -- Linked modules.
 pub use Rattle.walrus_linked.specs.Empty
 pub use Rattle.walrus_linked.specs.Kept

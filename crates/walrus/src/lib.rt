@@ -7,9 +7,7 @@ pub use walrus_collections::{
     ModuleTags, Test,
 };
 pub use walrus_config::ModuleConfig;
-pub use walrus_customs::{
-    ModuleCustomSections, ModuleProducers, ProducerField, ProducerValue, RawCustomSection,
-};
+pub use walrus_customs::{ModuleProducers, ProducerField, ProducerValue, RawCustomSection};
 pub use walrus_errors::{ErrorKind, Form, Limited, ModuleError, Result, Space};
 pub use walrus_local_function::LocalFunction;
 pub use walrus_module::Module;
@@ -17,6 +15,9 @@ pub use walrus_module_items::{
     Data, DataKind, Element, ElementItems, ElementKind, Export, ExportItem, FuncParams,
     FuncResults, Function, FunctionKind, Global, GlobalKind, Import, ImportKind, ImportedFunction,
     Memory, Table, Tag, TagKind,
+};
+pub use walrus_sections::{
+    CodeTransform, CustomSection, ModuleCustomSections, Section, SectionFault, Sections,
 };
 
 /// Laws of the words that contracts cite.

@@ -1,10 +1,7 @@
-//! Custom sections.
-ghost use Rattle.std.specs.Prelude.{◌≡◌, ◌↔◌, [], IsTrue};
-ghost use Rattle.walrus_arena.specs.Arena.{IsLive, ids};
+//! Custom sections as they stand in a file.
+ghost use Rattle.std.specs.Prelude.{◌≡◌, IfOk, string_bytes};
 
-use std::alloc::Global;
-use std::marker::Model;
-use walrus_arena::{Ids, TombstoneArena, UntypedCustomSectionId, UntypedCustomSectionSpace};
+use std::alloc::AllocError;
 
 /// A custom section as it stands in a file (Core Specification, custom section).
 #[derive(PartialEq, Eq, Drop)]
@@ -15,43 +12,19 @@ pub struct RawCustomSection {
     pub bytes: Vec<u8>,
 }
 
-/// The custom sections of a module.
-#[derive(Drop)]
-pub struct ModuleCustomSections {
-    sections: TombstoneArena<RawCustomSection, UntypedCustomSectionSpace>,
-}
-
-impl Model for ModuleCustomSections {
-    ghost use Rattle.walrus_arena.specs.Arena.{Arena};
-    ghost use Rattle.walrus_customs.specs.declared.customs.RawCustomSection.{RawCustomSection};
-
-    ghost Value = { Arena RawCustomSection };
-
-    ghost view = { λ c. c.sections };
-}
-
-impl ModuleCustomSections {
-    /// No sections. Takes no memory.
-    pub fn new(alloc: Global) -> Self
-        ensures empty { result.slots ≡ [] }
-        ensures room { result.room ≡ 0 }
+impl RawCustomSection {
+    /// An equal section.
+    ///
+    /// # Errors
+    ///
+    /// Want of memory.
+    pub fn clone(&self) -> Result<Self, AllocError>
+        ensures name { IfOk result (λ copy. string_bytes copy.name ≡ string_bytes self.now.name) }
+        ensures bytes { IfOk result (λ copy. copy.bytes.items ≡ self.now.bytes.items) }
     {
-        ModuleCustomSections {
-            sections: TombstoneArena::new(alloc),
-        }
-    }
-
-    /// Whether the id's section lives.
-    pub fn contains(&self, id: UntypedCustomSectionId) -> bool
-        ensures { IsTrue result ↔ IsLive self.now id }
-    {
-        self.sections.contains(id)
-    }
-
-    /// The live ids, by rising id.
-    pub fn iter(&self) -> Ids<'_, RawCustomSection, UntypedCustomSectionSpace>
-        ensures { result ≡ ids self.now }
-    {
-        self.sections.ids()
+        Ok(RawCustomSection {
+            name: self.name.clone()?,
+            bytes: self.bytes.clone()?,
+        })
     }
 }

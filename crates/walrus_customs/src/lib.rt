@@ -4,5 +4,5 @@
 mod customs;
 mod producers;
 
-pub use customs::{ModuleCustomSections, RawCustomSection};
+pub use customs::RawCustomSection;
 pub use producers::{ModuleProducers, ProducerField, ProducerValue};

@@ -1,6 +1,6 @@
 -- A module without items.
 use Rattle.std.specs.Prelude.{◌≡◌, [], None}
-use Rattle.walrus_module.specs.declared.module.Module.{Module}
+use Rattle.walrus_module.specs.Parts.{Module}
 use Rattle.walrus_linked.specs.Linked.{IsLinked}
 
 pub record IsEmpty (m : Module) : Type 0 where

@@ -10,7 +10,7 @@ use Rattle.walrus_module_items.specs.declared.global.GlobalKind.TheVariants as g
 use Rattle.walrus_module_items.specs.declared.tag.TagKind.TheVariants as tags
 use Rattle.walrus_collections.specs.Added.{Adds, IsImport, IsTable, IsMemory}
 use Rattle.wasm_formats.specs.declared.fault.Space.TheVariants as spaces
-use Rattle.walrus_module.specs.declared.module.Module.{Module}
+use Rattle.walrus_module.specs.Parts.{Module}
 use Rattle.walrus_roots.specs.declared.item.Item.{Item}
 use Rattle.walrus_roots.specs.Items.{item}
 use Rattle.walrus_marks.specs.Named.{items_of}

@@ -11,7 +11,7 @@ use Rattle.walrus_module_items.specs.declared.tag.Tag.{Tag as TagItem}
 use Rattle.walrus_module_items.specs.declared.data.Data.{Data as DataItem}
 use Rattle.walrus_module_items.specs.declared.element.Element.{Element as ElementItem}
 use Rattle.walrus_walks.specs.Events.{Event}
-use Rattle.walrus_module.specs.declared.module.Module.{Module}
+use Rattle.walrus_module.specs.Parts.{Module}
 use Rattle.walrus_module.specs.Items.{Lives, given_out}
 use Rattle.walrus_linked.specs.Names.{function_names, table_names, global_names, tag_names, data_kind_names, element_names}
 use Rattle.walrus_linked.specs.Linked.{IsLinked}

@@ -5,7 +5,7 @@ use Rattle.walrus_walks.specs.Events.{Event}
 use Rattle.walrus_module_items.specs.declared.data.Data.{Data}
 use Rattle.wasm_formats.specs.declared.fault.Space.{Space}
 use Rattle.wasm_formats.specs.declared.fault.Space.TheVariants as spaces
-use Rattle.walrus_module.specs.declared.module.Module.{Module}
+use Rattle.walrus_module.specs.Parts.{Module}
 use Rattle.walrus_roots.specs.declared.item.Item.{Item}
 use Rattle.walrus_marks.specs.Named.{items_of}
 use Rattle.walrus_module.specs.Items.{Lives}

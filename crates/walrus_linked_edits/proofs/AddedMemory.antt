@@ -4,7 +4,7 @@ use Rattle.walrus_arena.specs.Arena.{Arena}
 use Rattle.walrus_module_items.specs.declared.memory.Memory.{Memory}
 use Rattle.wasm_formats.specs.declared.fault.Space.{Space}
 use Rattle.wasm_formats.specs.declared.fault.Space.TheVariants as spaces
-use Rattle.walrus_module.specs.declared.module.Module.{Module}
+use Rattle.walrus_module.specs.Parts.{Module}
 use Rattle.walrus_linked.specs.Linked.{IsLinked}
 use Rattle.walrus_linked_edits.proofs.PushLemmas.{says_kept, says_at, live_kept}
 use Rattle.walrus_linked_edits.proofs.ChangeLemmas.{InSpace, after_change, none_has}

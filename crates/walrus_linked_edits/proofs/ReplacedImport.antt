@@ -26,7 +26,7 @@ use Rattle.walrus_module_items.specs.declared.function.FunctionKind.TheVariants 
 use Rattle.walrus_module_items.specs.Functions.{type_of}
 use Rattle.walrus_collections.specs.Tests.{imports, same_kind}
 use Rattle.wasm_formats.specs.declared.fault.Space.TheVariants as spaces
-use Rattle.walrus_module.specs.declared.module.Module.{Module}
+use Rattle.walrus_module.specs.Parts.{Module}
 use Rattle.walrus_module.specs.Replaced.{IsImportReplaced, import_of, arguments, params_at, results_at}
 use Rattle.walrus_module.specs.Items.{LivesIn}
 use Rattle.walrus_linked.specs.Linked.{IsLinked, IsWhole}

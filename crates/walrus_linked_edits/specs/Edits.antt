@@ -23,7 +23,7 @@ use Rattle.walrus_module_items.specs.declared.element.Element.{Element}
 use Rattle.walrus_module_items.specs.declared.export.ExportItem.{ExportItem}
 use Rattle.walrus_collections.specs.Added.{Adds, IsExport, IsLocal, IsTable, IsMemory}
 use Rattle.wasm_formats.specs.declared.fault.Space.TheVariants as spaces
-use Rattle.walrus_module.specs.declared.module.Module.{Module}
+use Rattle.walrus_module.specs.Parts.{Module}
 use Rattle.walrus_module.specs.Replaced.{IsExportReplaced, IsImportReplaced}
 use Rattle.walrus_roots.specs.declared.item.Item.{Item}
 use Rattle.walrus_roots.specs.Items.{item}

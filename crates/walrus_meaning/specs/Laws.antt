@@ -11,7 +11,7 @@ use Rattle.walrus_module_items.specs.declared.global.Global.{Global}
 use Rattle.walrus_module_items.specs.declared.tag.Tag.{Tag}
 use Rattle.walrus_module_items.specs.declared.data.Data.{Data}
 use Rattle.walrus_module_items.specs.declared.element.Element.{Element}
-use Rattle.walrus_module.specs.declared.module.Module.{Module}
+use Rattle.walrus_module.specs.Parts.{Module}
 use Rattle.walrus_linked.specs.Empty.{IsEmpty}
 use Rattle.wasm_grammar.specs.Modules as grammar
 use Rattle.walrus_meaning.specs.Meaning.{slots_of, own_import, own_export, own_function, own_table, own_memory, own_global, own_tag, own_element, own_segment, means}

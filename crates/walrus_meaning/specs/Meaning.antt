@@ -35,7 +35,7 @@ use Rattle.walrus_module_items.specs.declared.element.ElementItems.TheVariants a
 use Rattle.walrus_module_items.specs.Functions.{type_of}
 use Rattle.wasm_formats.specs.declared.fault.Space.TheVariants as spaces
 use Rattle.wasm_grammar.specs.Modules as grammar
-use Rattle.walrus_module.specs.declared.module.Module.{Module}
+use Rattle.walrus_module.specs.Parts.{Module}
 use Rattle.walrus_linked.specs.Linked.{tag_import}
 use Rattle.walrus_meaning.specs.Words.{own_expr}
 use Rattle.walrus_meaning.specs.Bodies.{own_body}

@@ -9,7 +9,7 @@ use Rattle.walrus_module_items.specs.declared.data.Data.{Data}
 use Rattle.walrus_module_items.specs.declared.data.DataKind.TheVariants as datas
 use Rattle.walrus_module_items.specs.declared.element.Element.{Element}
 use Rattle.walrus_module_items.specs.declared.element.ElementKind.TheVariants as elements
-use Rattle.walrus_module.specs.declared.module.Module.{Module}
+use Rattle.walrus_module.specs.Parts.{Module}
 
 -- the live element segment is active in the table
 pub record IsActiveIn (m : Module) (table e : ℕ) : Type 0 where

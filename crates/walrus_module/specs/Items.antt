@@ -9,7 +9,7 @@ use Rattle.walrus_module_items.specs.declared.import.ImportKind.{ImportKind}
 use Rattle.walrus_module_items.specs.declared.import.ImportKind.TheVariants as kinds
 use Rattle.walrus_module_items.specs.declared.export.ExportItem.{ExportItem}
 use Rattle.walrus_module_items.specs.declared.export.ExportItem.TheVariants as exported
-use Rattle.walrus_module.specs.declared.module.Module.{Module}
+use Rattle.walrus_module.specs.Parts.{Module}
 use Rattle.walrus_roots.specs.declared.item.Item.{Item}
 use Rattle.walrus_roots.specs.Items.{item}
 

@@ -27,7 +27,7 @@ use Rattle.walrus_module_items.specs.declared.function.ImportedFunction.{Importe
 use Rattle.walrus_module_items.specs.Functions.{type_of, local_of, imported_of}
 use Rattle.walrus_collections.specs.Added.{Adds, IsLocal}
 use Rattle.walrus_collections.specs.Tests.{exports, imports}
-use Rattle.walrus_module.specs.declared.module.Module.{Module}
+use Rattle.walrus_module.specs.Parts.{Module}
 
 -- at a body that is begun, and these arguments, the closure may answer r and leave this
 pub record Fills {F : Type 0} (g : Once F (MutBor Building × (Bor (List ℕ) × Unit {0})) (Result (Unit {0}) AllocError × (MutBor Building × Unit {0}))) (build : F) (args : List ℕ) (begun : Building) (r : Result (Unit {0}) AllocError) (left : Building) : Type 0 where

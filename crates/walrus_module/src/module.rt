@@ -11,10 +11,11 @@ use walrus_collections::{
     ModuleImports, ModuleMemories, ModuleTables, ModuleTags,
 };
 use walrus_config::ModuleConfig;
-use walrus_customs::{ModuleCustomSections, ModuleProducers};
+use walrus_customs::ModuleProducers;
 use walrus_errors::{ModuleError, Result};
 use walrus_items::ModuleLocals;
 use walrus_module_items::Function;
+use walrus_sections::ModuleCustomSections;
 use walrus_types::ModuleTypes;
 
 /// A WebAssembly module (Core Specification, modules), whose items are named by ids.

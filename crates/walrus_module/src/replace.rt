@@ -4,6 +4,7 @@ ghost use Rattle.walrus_arena.specs.Arena.{IsLive, item_at, with_item};
 ghost use Rattle.walrus_module_items.specs.declared.export.Export.{Export};
 ghost use Rattle.walrus_module_items.specs.declared.function.FunctionKind.TheVariants as functions;
 ghost use Rattle.walrus_errors.specs.declared.error.ModuleError.TheVariants.{NotFound, WrongKind, Memory};
+ghost use Rattle.walrus_module.specs.Parts.{parts};
 ghost use Rattle.walrus_module.specs.Replaced.{IsTyped, export_of, import_of, body_at, imported_at, MayAddTypesOf, MayAddArguments, IsExportReplaced, IsImportReplaced};
 
 use crate::build::{add_arguments_of, build_like};
@@ -62,7 +63,8 @@ impl Module {
         ensures missing { export_of self.old.exports function ≡ None → (result ≡ Err NotFound) × (self.new ≡ self.old) }
         ensures wrong { IsSome (export_of self.old.exports function) → body_at self.old.funcs function ≡ None → (result ≡ Err WrongKind) × (self.new ≡ self.old) }
         ensures cause { IsSome (export_of self.old.exports function) → IsSome (body_at self.old.funcs function) → IfErr result (λ e. e ≡ Memory) }
-        ensures replaced { IfOk result (λ id. IsExportReplaced F.FnOnce build function id self.old self.new) }
+        ensures replaced { IfOk result (λ id. IsExportReplaced F.FnOnce build function id (parts self.old) (parts self.new)) }
+        ensures customs { self.new.customs ≡ self.old.customs }
         ensures left { OnErr result (self.new ≡ record self.old { types = self.new.types }) }
         ensures left_types { OnErr result (MayAddTypesOf self.old.funcs function self.old.types self.new.types) }
     {
@@ -101,7 +103,8 @@ impl Module {
         ensures wrong { IsSome (import_of self.old.imports function) → imported_at self.old.funcs function ≡ None → (result ≡ Err WrongKind) × (self.new ≡ self.old) }
         ensures cause { IsSome (import_of self.old.imports function) → IsSome (imported_at self.old.funcs function) → IfErr result (λ e. e ≡ Memory) }
         ensures same { IfOk result (λ id. id ≡ function) }
-        ensures replaced { IfOk result (λ _. IsImportReplaced F.FnOnce build function self.old self.new) }
+        ensures replaced { IfOk result (λ _. IsImportReplaced F.FnOnce build function (parts self.old) (parts self.new)) }
+        ensures customs { self.new.customs ≡ self.old.customs }
         ensures left { OnErr result (self.new ≡ record self.old { types = self.new.types; locals = self.new.locals }) }
         ensures left_types { OnErr result (MayAddTypesOf self.old.funcs function self.old.types self.new.types) }
         ensures left_locals { OnErr result (MayAddArguments self.old.funcs function self.old.types self.old.locals self.new.locals) }

@@ -1,3 +1,4 @@
+pub mod Asked
 pub mod DroppedTypes
 pub mod Keeping
 pub mod Part

@@ -5,7 +5,7 @@ use Rattle.walrus_arena.specs.Arena.{Arena, item_at}
 use Rattle.walrus_items.specs.Items.{Item as TypeItem, Group}
 use Rattle.walrus_types.specs.Table.{Table as TypeTable, type_at, group_at, HasMember}
 use Rattle.walrus_module_items.specs.declared.import.Import.{Import}
-use Rattle.walrus_module.specs.declared.module.Module.{Module}
+use Rattle.walrus_module.specs.Parts.{Module}
 use Rattle.walrus_roots.specs.declared.item.Item.{Item}
 use Rattle.walrus_roots.specs.Items.{item}
 use Rattle.walrus_module.specs.Items.{written_type}

@@ -2,7 +2,7 @@
 use Rattle.std.specs.Prelude.{ℕ, Decides, List, nat_eq}
 use Rattle.std.specs.HashSet.{contains}
 use Rattle.wasm_formats.specs.declared.fault.Space.TheVariants as spaces
-use Rattle.walrus_module.specs.declared.module.Module.{Module}
+use Rattle.walrus_module.specs.Parts.{Module}
 use Rattle.walrus_roots.specs.declared.item.Item.{Item}
 use Rattle.walrus_roots.specs.Items.{item}
 use Rattle.walrus_references.specs.Kept.{Kept}

@@ -1,8 +1,12 @@
 //! Dropping what isn't kept.
-ghost use Rattle.std.specs.Prelude.{◌≡◌, [], IfErr, OnErr, OnOk};
+ghost use Rattle.std.specs.Prelude.{◌≡◌, IfErr, OnErr, OnOk};
 ghost use Rattle.wasm_formats.specs.declared.fault.Space.TheVariants as spaces;
+ghost use Rattle.walrus_module.specs.Parts.{parts};
 ghost use Rattle.walrus_roots.specs.Items.{item};
 ghost use Rattle.walrus_refusals.specs.Sound.{IsRefused, IsSound};
+ghost use Rattle.walrus_arena.specs.Arena.{entries};
+ghost use Rattle.walrus_sections.specs.Sections.{pushed};
+ghost use Rattle.walrus_passes.specs.Asked.{IsRefusedAsked, WithPushed};
 ghost use Rattle.walrus_passes.specs.DroppedTypes.{AreClosed};
 ghost use Rattle.walrus_passes.specs.Keeping.{IsHeld};
 ghost use Rattle.walrus_passes.specs.Part.{IsKeptPart, IsPart};
@@ -14,12 +18,14 @@ use std::alloc::Global;
 use walrus_errors::ModuleError;
 use walrus_module::Module;
 use walrus_roots::Item;
+use walrus_sections::CustomSection;
 use wasm_formats::Space;
 
 // Deletes the items that aren't kept, and each import whose item isn't. Takes no memory.
 fn drop_unkept(input: &mut Module, kept: &KeptItems)
     requires { AreClosed (λ id. IsHeld kept.now (item spaces.Type id)) input.old.types }
-    ensures { IsPart (IsHeld kept.now) input.old input.new }
+    ensures part { IsPart (IsHeld kept.now) (parts input.old) (parts input.new) }
+    ensures customs { input.new.customs ≡ input.old.customs }
 {
     drop_types(&mut input.types, kept);
     drop_items(&mut input.funcs, kept, Space::Function);
@@ -37,16 +43,19 @@ fn drop_unkept(input: &mut Module, kept: &KeptItems)
 ///
 /// # Errors
 ///
-/// In this order, for what is reached from the roots: `NotLinked` where an item and an import don't name each other, or
+/// First `SectionRefused` where a custom section refuses to say what it pushes: each is asked once, by rising id, before anything
+/// else. Then, in this order, for what is reached from the roots: `NotLinked` where an item and an import don't name each other, or
 /// a function has no body or not its arguments; `NoTree` where a body is no tree; `DeadReference` where an item doesn't
 /// live. Want of memory. The module stays as it was.
 pub fn run(alloc: Global, input: &mut Module) -> Result<(), ModuleError>
-    ensures kept { OnOk result (IsKeptPart input.old [] input.new) }
-    ensures sound { OnOk result (IsSound input.old []) }
+    ensures kept { OnOk result (WithPushed (pushed ⟦<Box<dyn CustomSection> as CustomSection>⟧.gc_roots (entries input.old.customs)) (λ items. IsKeptPart (parts input.old) items (parts input.new))) }
+    ensures sound { OnOk result (WithPushed (pushed ⟦<Box<dyn CustomSection> as CustomSection>⟧.gc_roots (entries input.old.customs)) (IsSound (parts input.old))) }
+    ensures customs { input.new.customs ≡ input.old.customs }
     ensures unchanged { OnErr result (input.new ≡ input.old) }
-    ensures refused { IfErr result (IsRefused input.old []) }
+    ensures refused { IfErr result (IsRefusedAsked (parts input.old) (pushed ⟦<Box<dyn CustomSection> as CustomSection>⟧.gc_roots (entries input.old.customs))) }
 {
-    run_from_roots(alloc, input, &[])
+    let roots = input.customs.gc_roots(alloc)?;
+    run_from_roots(alloc, input, roots.items())
 }
 
 /// The same where these items are roots, too.
@@ -55,10 +64,11 @@ pub fn run(alloc: Global, input: &mut Module) -> Result<(), ModuleError>
 ///
 /// Those of `run`.
 pub fn run_from_roots(alloc: Global, input: &mut Module, pushed: &[Item]) -> Result<(), ModuleError>
-    ensures kept { OnOk result (IsKeptPart input.old pushed.now input.new) }
-    ensures sound { OnOk result (IsSound input.old pushed.now) }
+    ensures kept { OnOk result (IsKeptPart (parts input.old) pushed.now (parts input.new)) }
+    ensures sound { OnOk result (IsSound (parts input.old) pushed.now) }
+    ensures customs { input.new.customs ≡ input.old.customs }
     ensures unchanged { OnErr result (input.new ≡ input.old) }
-    ensures refused { IfErr result (IsRefused input.old pushed.now) }
+    ensures refused { IfErr result (IsRefused (parts input.old) pushed.now) }
 {
     let kept = kept_items(alloc, input, pushed)?;
     drop_unkept(input, &kept);

@@ -1,5 +1,6 @@
 //! What is kept of a module.
 ghost use Rattle.std.specs.Prelude.{◌≡◌, ◌↔◌, ◌<◌, ℕ, Decides, IfErr, IfOk, MatchOption, OnOk};
+ghost use Rattle.walrus_module.specs.Parts.{parts};
 ghost use Rattle.walrus_roots.specs.declared.item.Item.{Item as AnyItem};
 ghost use Rattle.walrus_roots.specs.Items.{item};
 ghost use Rattle.walrus_arena.specs.Arena.{IsLive};
@@ -61,7 +62,7 @@ fn has_any(marks: &Marks, space: Space, count: usize) -> bool
 
 // The live memory of the lowest id.
 fn first_memory(input: &Module) -> Option<MemoryId>
-    ensures { MatchOption result ((id : ℕ) → IsLive input.now.memories id → ⊥) (IsFirstMemory input.now) }
+    ensures { MatchOption result ((id : ℕ) → IsLive input.now.memories id → ⊥) (IsFirstMemory (parts input.now)) }
 {
     for index in 0..input.memories.next_id().index() {
         let id = MemoryId::from_index(index);
@@ -74,8 +75,8 @@ fn first_memory(input: &Module) -> Option<MemoryId>
 
 // The first memory, where data was met and no memory.
 fn spared_memory(input: &Module, marks: &Marks) -> Option<MemoryId>
-    requires { (x : AnyItem) → IsMet marks.now x → Lives input.now x }
-    ensures { MatchOption result ((memory : ℕ) → SparesMemory input.now marks.now memory → ⊥) (SparesMemory input.now marks.now) }
+    requires { (x : AnyItem) → IsMet marks.now x → Lives (parts input.now) x }
+    ensures { MatchOption result ((memory : ℕ) → SparesMemory (parts input.now) marks.now memory → ⊥) (SparesMemory (parts input.now) marks.now) }
 {
     let data = input.data_segments.next_id().index();
     let memories = input.memories.next_id().index();
@@ -98,9 +99,9 @@ pub(crate) fn kept_items(
     input: &Module,
     pushed: &[Item],
 ) -> Result<KeptItems, ModuleError>
-    ensures kept { IfOk result (λ kept. (x : AnyItem) → IsHeld kept x ↔ Kept input.now pushed.now x) }
-    ensures sound { OnOk result (IsSound input.now pushed.now) }
-    ensures refused { IfErr result (IsRefused input.now pushed.now) }
+    ensures kept { IfOk result (λ kept. (x : AnyItem) → IsHeld kept x ↔ Kept (parts input.now) pushed.now x) }
+    ensures sound { OnOk result (IsSound (parts input.now) pushed.now) }
+    ensures refused { IfErr result (IsRefused (parts input.now) pushed.now) }
 {
     let marks = reach_sound(alloc, input, pushed)?;
     let spared = spared_memory(input, &marks);

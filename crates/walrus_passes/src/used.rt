@@ -1,10 +1,14 @@
 //! What of a module is used.
-ghost use Rattle.std.specs.Prelude.{[], ◌<◌, ◌≤◌, ◌^◌, ℕ, Decides, IfErr, IfOk, OnOk, nat_eq};
+ghost use Rattle.std.specs.Prelude.{◌<◌, ◌≤◌, ◌^◌, ℕ, Decides, IfErr, IfOk, OnOk, nat_eq};
 ghost use Rattle.std.specs.HashSet.{contains};
+ghost use Rattle.walrus_module.specs.Parts.{parts};
 ghost use Rattle.walrus_roots.specs.Items.{item};
 ghost use Rattle.walrus_marks.specs.Chains.{FitsIn};
 ghost use Rattle.walrus_used.specs.Counts.{counts_of};
 ghost use Rattle.walrus_refusals.specs.Sound.{IsRefused, IsSound};
+ghost use Rattle.walrus_arena.specs.Arena.{entries};
+ghost use Rattle.walrus_sections.specs.Sections.{pushed};
+ghost use Rattle.walrus_passes.specs.Asked.{IsRefusedAsked, WithPushed};
 ghost use Rattle.walrus_passes.specs.Keeping.{IsHeld};
 ghost use Rattle.walrus_passes.specs.UsedItems.{AreKept, HasJust};
 
@@ -17,6 +21,7 @@ use walrus_arena::{
 use walrus_errors::ModuleError;
 use walrus_module::Module;
 use walrus_roots::Item;
+use walrus_sections::CustomSection;
 use walrus_used::id_counts;
 use wasm_formats::Space;
 
@@ -62,7 +67,7 @@ fn set_of<S>(
 
 // The kept ids of each space.
 fn sets_of(alloc: Global, input: &Module, kept: &KeptItems) -> Result<Used, AllocError>
-    ensures { IfOk result (HasJust (λ x. FitsIn (counts_of input.now) x × IsHeld kept.now x)) }
+    ensures { IfOk result (HasJust (λ x. FitsIn (counts_of (parts input.now)) x × IsHeld kept.now x)) }
 {
     let counts = id_counts(input);
     Ok(Used {
@@ -82,15 +87,17 @@ impl Used {
     ///
     /// # Errors
     ///
-    /// In this order, for what is reached from the roots: `NotLinked` where an item and an import don't name each
+    /// First `SectionRefused` where a custom section refuses to say what it pushes: each is asked once, by rising id, before
+    /// anything else. Then, in this order, for what is reached from the roots: `NotLinked` where an item and an import don't name each
     /// other, or a function has no body or not its arguments; `NoTree` where a body is no tree; `DeadReference` where
     /// an item doesn't live. Want of memory.
     pub fn new(alloc: Global, input: &Module) -> Result<Self, ModuleError>
-        ensures kept { IfOk result (AreKept input.now []) }
-        ensures sound { OnOk result (IsSound input.now []) }
-        ensures refused { IfErr result (IsRefused input.now []) }
+        ensures kept { IfOk result (λ used. WithPushed (pushed ⟦<Box<dyn CustomSection> as CustomSection>⟧.gc_roots (entries input.now.customs)) (λ items. AreKept (parts input.now) items used)) }
+        ensures sound { OnOk result (WithPushed (pushed ⟦<Box<dyn CustomSection> as CustomSection>⟧.gc_roots (entries input.now.customs)) (IsSound (parts input.now))) }
+        ensures refused { IfErr result (IsRefusedAsked (parts input.now) (pushed ⟦<Box<dyn CustomSection> as CustomSection>⟧.gc_roots (entries input.now.customs))) }
     {
-        Used::from_roots(alloc, input, &[])
+        let roots = input.customs.gc_roots(alloc)?;
+        Used::from_roots(alloc, input, roots.items())
     }
 
     /// The items of the module that are used where these items are roots, too.
@@ -99,9 +106,9 @@ impl Used {
     ///
     /// Those of `new`.
     pub fn from_roots(alloc: Global, input: &Module, pushed: &[Item]) -> Result<Self, ModuleError>
-        ensures kept { IfOk result (AreKept input.now pushed.now) }
-        ensures sound { OnOk result (IsSound input.now pushed.now) }
-        ensures refused { IfErr result (IsRefused input.now pushed.now) }
+        ensures kept { IfOk result (AreKept (parts input.now) pushed.now) }
+        ensures sound { OnOk result (IsSound (parts input.now) pushed.now) }
+        ensures refused { IfErr result (IsRefused (parts input.now) pushed.now) }
     {
         walrus_types::laws::types_are_grouped(&input.types);
         let kept = kept_items(alloc, input, pushed)?;

@@ -34,7 +34,7 @@ use Rattle.walrus_module_items.specs.declared.element.ElementKind.TheVariants as
 use Rattle.walrus_module_items.specs.declared.element.ElementItems.{ElementItems}
 use Rattle.walrus_module_items.specs.declared.element.ElementItems.TheVariants as holds
 use Rattle.walrus_module_items.specs.Functions.{type_of}
-use Rattle.walrus_module.specs.declared.module.Module.{Module}
+use Rattle.walrus_module.specs.Parts.{Module}
 use Rattle.walrus_module.specs.Items.{Lives, LivesIn, written, brought, given_out}
 use Rattle.walrus_linked.specs.Linked.{IsLinked, IsWhole, HasArguments, import_in}
 use Rattle.walrus_linked.specs.Names.{names, names_in, named_by, type_names, function_names, body_names, body_events, used_types, local_names, table_names, init_names, global_names, value_names, tag_names, element_names, element_kind_names, held_names, data_kind_names}

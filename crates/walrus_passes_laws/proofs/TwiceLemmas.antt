@@ -20,7 +20,7 @@ use Rattle.walrus_module_items.specs.declared.data.Data.{Data}
 use Rattle.walrus_module_items.specs.declared.element.Element.{Element}
 use Rattle.walrus_module_items.specs.declared.element.ElementKind.TheVariants as elements
 use Rattle.walrus_module_items.specs.Functions.{type_of}
-use Rattle.walrus_module.specs.declared.module.Module.{Module}
+use Rattle.walrus_module.specs.Parts.{Module}
 use Rattle.walrus_module.specs.Items.{LivesIn, written, brought}
 use Rattle.walrus_linked.specs.Linked.{HasArguments, import_in}
 use Rattle.walrus_roots.specs.declared.item.Item.{Item}

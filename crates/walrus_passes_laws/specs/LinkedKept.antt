@@ -1,6 +1,6 @@
 -- What dropping keeps of a linked module.
 use Rattle.std.specs.Prelude.{List}
-use Rattle.walrus_module.specs.declared.module.Module.{Module}
+use Rattle.walrus_module.specs.Parts.{Module}
 use Rattle.walrus_roots.specs.declared.item.Item.{Item}
 use Rattle.walrus_linked.specs.Linked.{IsLinked}
 use Rattle.walrus_passes.specs.Part.{IsKeptPart}

@@ -34,7 +34,7 @@ use Rattle.walrus_module_items.specs.declared.element.ElementKind.TheVariants as
 use Rattle.walrus_module_items.specs.declared.element.ElementItems.{ElementItems}
 use Rattle.walrus_module_items.specs.declared.element.ElementItems.TheVariants as holds
 use Rattle.walrus_module_items.specs.Functions.{type_of}
-use Rattle.walrus_module.specs.declared.module.Module.{Module}
+use Rattle.walrus_module.specs.Parts.{Module}
 use Rattle.walrus_module.specs.Items.{written_type}
 use Rattle.walrus_roots.specs.declared.item.Item.{Item}
 use Rattle.walrus_roots.specs.Items.{item}

@@ -9,7 +9,7 @@ use Rattle.walrus_module_items.specs.declared.data.DataKind.TheVariants as datas
 use Rattle.walrus_module_items.specs.declared.element.Element.{Element}
 use Rattle.walrus_module_items.specs.declared.element.ElementKind.TheVariants as elements
 use Rattle.walrus_module_items.specs.declared.export.Export.{Export}
-use Rattle.walrus_module.specs.declared.module.Module.{Module}
+use Rattle.walrus_module.specs.Parts.{Module}
 use Rattle.walrus_module.specs.Items.{given_out}
 use Rattle.walrus_roots.specs.declared.item.Item.{Item}
 use Rattle.walrus_roots.specs.Items.{item}

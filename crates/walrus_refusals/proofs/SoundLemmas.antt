@@ -12,7 +12,7 @@ use Rattle.walrus_module_items.specs.declared.import.Import.{Import}
 use Rattle.walrus_module_items.specs.declared.import.ImportKind.{ImportKind}
 use Rattle.walrus_module_items.specs.declared.import.ImportKind.TheVariants as kinds
 use Rattle.walrus_module_items.specs.declared.function.Function.{Function}
-use Rattle.walrus_module.specs.declared.module.Module.{Module}
+use Rattle.walrus_module.specs.Parts.{Module}
 use Rattle.walrus_linked.specs.Linked.{import_in}
 use Rattle.walrus_roots.specs.declared.item.Item.{Item}
 use Rattle.walrus_roots.specs.Items.{item, space_number}

@@ -8,7 +8,7 @@ use Rattle.walrus_module_items.specs.declared.import.Import.{Import}
 use Rattle.walrus_module_items.specs.declared.function.Function.{Function}
 use Rattle.walrus_module_items.specs.declared.function.FunctionKind.{FunctionKind}
 use Rattle.walrus_module_items.specs.declared.function.FunctionKind.TheVariants as functions
-use Rattle.walrus_module.specs.declared.module.Module.{Module}
+use Rattle.walrus_module.specs.Parts.{Module}
 use Rattle.walrus_module.specs.Items.{brought}
 use Rattle.walrus_linked.specs.Linked.{HasArguments, import_in}
 use Rattle.walrus_roots.specs.declared.item.Item.{Item}

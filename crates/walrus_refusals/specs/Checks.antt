@@ -3,7 +3,7 @@ use Rattle.std.specs.Prelude.{◌≡◌, ℕ, ◌<◌, Option, Some, MatchOption
 use Rattle.wasm_formats.specs.declared.fault.Space.{Space}
 use Rattle.walrus_arena.specs.Arena.{item_at}
 use Rattle.walrus_module_items.specs.declared.import.Import.{Import}
-use Rattle.walrus_module.specs.declared.module.Module.{Module}
+use Rattle.walrus_module.specs.Parts.{Module}
 use Rattle.walrus_linked.specs.Linked.{import_in}
 use Rattle.walrus_roots.specs.declared.item.Item.{Item}
 use Rattle.walrus_roots.specs.Items.{item, space_number}

@@ -1,5 +1,6 @@
 //! Checks of the items that were met.
 ghost use Rattle.std.specs.Prelude.{◌≡◌, ◌<◌, ◌≤◌, ◌^◌, Decides, IfOk};
+ghost use Rattle.walrus_module.specs.Parts.{parts};
 ghost use Rattle.walrus_roots.specs.declared.item.Item.{Item as AnyItem};
 ghost use Rattle.walrus_roots.specs.Items.{space_number};
 ghost use Rattle.walrus_marks.specs.Chains.{FitsIn};
@@ -86,7 +87,7 @@ pub(crate) fn failing_space<C: Check>(
     marks: &Marks,
     check: &C,
 ) -> Result<Option<Space>, AllocError>
-    requires { (x : AnyItem) → IsMet marks.now x → FitsIn (counts_of input.now) x }
+    requires { (x : AnyItem) → IsMet marks.now x → FitsIn (counts_of (parts input.now)) x }
     ensures { IfOk result (λ answer. HoldsOrFails (C.holds check.now) marks.now answer) }
 {
     let counts = id_counts(input);

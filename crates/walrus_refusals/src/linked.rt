@@ -1,6 +1,7 @@
 //! Whether items and imports name each other, and functions have bodies.
 ghost use Rattle.std.specs.Prelude.{◌≡◌, Decides, IfOk, MatchOption};
 ghost use Rattle.std.specs.Option.{option_and_then};
+ghost use Rattle.walrus_module.specs.Parts.{parts};
 ghost use Rattle.walrus_arena.specs.Arena.{item_at};
 ghost use Rattle.walrus_module_items.specs.declared.function.Function.{Function as AnyFunction};
 ghost use Rattle.walrus_module_items.specs.declared.table.Table.{Table as AnyTable};
@@ -112,7 +113,7 @@ fn tag_import(tags: &ModuleTags, id: TagId) -> Option<ImportId>
 
 // The import that brings an item, as it says, if it lives.
 fn import_of(input: &Module, x: Item) -> Option<ImportId>
-    ensures { result ≡ import_in input.now x.space x.id }
+    ensures { result ≡ import_in (parts input.now) x.space x.id }
 {
     match x.space {
         Space::Function => function_import(&input.funcs, x.id()),
@@ -146,10 +147,10 @@ pub(crate) struct OwnLinks<'a> {
 }
 
 impl<'a> Check for OwnLinks<'a> {
-    ghost holds = { λ s x. IsOwnLinked s.input.now x };
+    ghost holds = { λ s x. IsOwnLinked (parts s.input.now) x };
 
     fn check(&self, item: Item) -> Result<bool, AllocError>
-        ensures { IfOk result (λ ok. Decides ok (IsOwnLinked self.now.input.now item)) }
+        ensures { IfOk result (λ ok. Decides ok (IsOwnLinked (parts self.now.input.now) item)) }
     {
         let named = import_of(self.input, item);
         if !is_brought(&self.input.imports, item, named) {
@@ -164,7 +165,7 @@ impl<'a> Check for OwnLinks<'a> {
 
 // Whether the item that the import brings names it back, where it was met.
 fn claims_truly(input: &Module, marks: &Marks, id: ImportId, import: &Import) -> bool
-    ensures { Decides result (ClaimsTruly input.now marks.now id import.now) }
+    ensures { Decides result (ClaimsTruly (parts input.now) marks.now id import.now) }
 {
     let x = brought(import.kind);
     if !marks.contains(x) {
@@ -178,7 +179,7 @@ fn claims_truly(input: &Module, marks: &Marks, id: ImportId, import: &Import) ->
 
 /// Whether all imports of what was met are named back.
 pub(crate) fn all_claim_truly(input: &Module, marks: &Marks) -> bool
-    ensures { Decides result (AllClaimTruly input.now marks.now) }
+    ensures { Decides result (AllClaimTruly (parts input.now) marks.now) }
 {
     for index in 0..input.imports.next_id().index() {
         let id = ImportId::from_index(index);

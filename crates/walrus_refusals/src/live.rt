@@ -1,5 +1,6 @@
 //! Whether items live.
 ghost use Rattle.std.specs.Prelude.{Decides, IfOk, IsSome};
+ghost use Rattle.walrus_module.specs.Parts.{parts};
 ghost use Rattle.walrus_module.specs.Items.{written_type};
 ghost use Rattle.walrus_module.specs.Items.{Lives};
 
@@ -20,7 +21,7 @@ fn is_written(types: &ModuleTypes, id: TypeId) -> bool
 
 // Whether the item lives.
 fn lives(input: &Module, item: Item) -> bool
-    ensures { Decides result (Lives input.now item) }
+    ensures { Decides result (Lives (parts input.now) item) }
 {
     match item.space {
         Space::Type => is_written(&input.types, item.id()),
@@ -43,10 +44,10 @@ pub(crate) struct Living<'a> {
 }
 
 impl<'a> Check for Living<'a> {
-    ghost holds = { λ s x. Lives s.input.now x };
+    ghost holds = { λ s x. Lives (parts s.input.now) x };
 
     fn check(&self, item: Item) -> Result<bool, AllocError>
-        ensures { IfOk result (λ ok. Decides ok (Lives self.now.input.now item)) }
+        ensures { IfOk result (λ ok. Decides ok (Lives (parts self.now.input.now) item)) }
     {
         Ok(lives(self.input, item))
     }

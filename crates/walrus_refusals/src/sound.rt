@@ -1,5 +1,6 @@
 //! What is reached in a module, where nothing is wrong with it.
 ghost use Rattle.std.specs.Prelude.{◌↔◌, Decides, IfErr, IfOk, MatchOption, OnOk};
+ghost use Rattle.walrus_module.specs.Parts.{parts};
 ghost use Rattle.walrus_roots.specs.declared.item.Item.{Item as AnyItem};
 ghost use Rattle.walrus_marks.specs.Chains.{FitsIn};
 ghost use Rattle.walrus_references.specs.Kept.{IsReached};
@@ -24,8 +25,8 @@ use wasm_formats::Space;
 
 // Whether what was met and imports name each other, and functions have bodies.
 fn are_linked(alloc: Global, input: &Module, marks: &Marks) -> Result<bool, AllocError>
-    requires { (x : AnyItem) → IsMet marks.now x → FitsIn (counts_of input.now) x }
-    ensures { IfOk result (λ ok. Decides ok (HoldsMet (IsOwnLinked input.now) marks.now × AllClaimTruly input.now marks.now)) }
+    requires { (x : AnyItem) → IsMet marks.now x → FitsIn (counts_of (parts input.now)) x }
+    ensures { IfOk result (λ ok. Decides ok (HoldsMet (IsOwnLinked (parts input.now)) marks.now × AllClaimTruly (parts input.now) marks.now)) }
 {
     match failing_space(input, marks, &OwnLinks { alloc, input })? {
         Some(_) => Ok(false),
@@ -35,8 +36,8 @@ fn are_linked(alloc: Global, input: &Module, marks: &Marks) -> Result<bool, Allo
 
 // Whether the bodies that were met are trees.
 fn are_trees(alloc: Global, input: &Module, marks: &Marks) -> Result<bool, AllocError>
-    requires { (x : AnyItem) → IsMet marks.now x → FitsIn (counts_of input.now) x }
-    ensures { IfOk result (λ ok. Decides ok (HoldsMet (FormsTree input.now) marks.now)) }
+    requires { (x : AnyItem) → IsMet marks.now x → FitsIn (counts_of (parts input.now)) x }
+    ensures { IfOk result (λ ok. Decides ok (HoldsMet (FormsTree (parts input.now)) marks.now)) }
 {
     match failing_space(input, marks, &Trees { alloc, input })? {
         Some(_) => Ok(false),
@@ -53,9 +54,9 @@ fn are_trees(alloc: Global, input: &Module, marks: &Marks) -> Result<bool, Alloc
 /// has no body or not its arguments; `NoTree` where a body is no tree; `DeadReference` where an item doesn't live.
 /// Want of memory.
 pub fn reach_sound(alloc: Global, input: &Module, pushed: &[Item]) -> Result<Marks, ModuleError>
-    ensures reached { IfOk result (λ marks. (x : AnyItem) → IsMet marks x ↔ IsReached input.now pushed.now x) }
-    ensures sound { OnOk result (IsSound input.now pushed.now) }
-    ensures refused { IfErr result (IsRefused input.now pushed.now) }
+    ensures reached { IfOk result (λ marks. (x : AnyItem) → IsMet marks x ↔ IsReached (parts input.now) pushed.now x) }
+    ensures sound { OnOk result (IsSound (parts input.now) pushed.now) }
+    ensures refused { IfErr result (IsRefused (parts input.now) pushed.now) }
 {
     walrus_types::laws::types_are_grouped(&input.types);
     let marks = reach_items(alloc, input, pushed)?;

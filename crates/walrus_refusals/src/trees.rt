@@ -1,5 +1,6 @@
 //! Whether bodies are trees.
 ghost use Rattle.std.specs.Prelude.{Decides, IfOk, MatchOption};
+ghost use Rattle.walrus_module.specs.Parts.{parts};
 ghost use Rattle.walrus_arena.specs.Arena.{item_at};
 ghost use Rattle.walrus_module_items.specs.declared.function.Function.{Function as AnyFunction};
 ghost use Rattle.walrus_references.specs.Refused.{FormsTree, HasTree};
@@ -46,10 +47,10 @@ pub(crate) struct Trees<'a> {
 }
 
 impl<'a> Check for Trees<'a> {
-    ghost holds = { λ s x. FormsTree s.input.now x };
+    ghost holds = { λ s x. FormsTree (parts s.input.now) x };
 
     fn check(&self, item: Item) -> Result<bool, AllocError>
-        ensures { IfOk result (λ ok. Decides ok (FormsTree self.now.input.now item)) }
+        ensures { IfOk result (λ ok. Decides ok (FormsTree (parts self.now.input.now) item)) }
     {
         match item.space {
             Space::Function => has_tree_at(self.alloc, &self.input.funcs, item.id()),

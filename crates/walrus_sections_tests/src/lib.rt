@@ -4,6 +4,8 @@
 #[cfg(test)]
 mod own;
 #[cfg(test)]
+mod producers;
+#[cfg(test)]
 mod rooted;
 #[cfg(test)]
 mod sections;

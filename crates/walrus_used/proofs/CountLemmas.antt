@@ -11,7 +11,7 @@ use Rattle.walrus_items.specs.Items.{Item as TypeItem, Group}
 use Rattle.walrus_types.specs.Table.{Table as TypeTable, type_at, IsLive as IsLiveType}
 use Rattle.walrus_types.specs.TypeLaws.{AreGrouped}
 use Rattle.walrus_module_items.specs.declared.function.Function.{Function}
-use Rattle.walrus_module.specs.declared.module.Module.{Module}
+use Rattle.walrus_module.specs.Parts.{Module}
 use Rattle.walrus_roots.specs.declared.item.Item.{Item}
 use Rattle.walrus_roots.specs.Items.{item}
 use Rattle.walrus_marks.specs.Marks.{State}

@@ -15,7 +15,7 @@ use Rattle.walrus_module_items.specs.declared.memory.Memory.{Memory}
 use Rattle.walrus_module_items.specs.declared.data.Data.{Data}
 use Rattle.walrus_module_items.specs.declared.data.DataKind.{DataKind}
 use Rattle.walrus_module_items.specs.declared.data.DataKind.TheVariants as datas
-use Rattle.walrus_module.specs.declared.module.Module.{Module}
+use Rattle.walrus_module.specs.Parts.{Module}
 use Rattle.walrus_roots.specs.declared.item.Item.{Item}
 use Rattle.walrus_roots.specs.Items.{item}
 use Rattle.walrus_marks.specs.Chains.{Chain, root, refers}

@@ -11,7 +11,7 @@ use Rattle.walrus_module_items.specs.declared.table.Table.{Table}
 use Rattle.walrus_module_items.specs.declared.element.ElementKind.{ElementKind}
 use Rattle.walrus_module_items.specs.declared.element.ElementKind.TheVariants as elements
 use Rattle.walrus_module_items.specs.declared.memory.Memory.{Memory}
-use Rattle.walrus_module.specs.declared.module.Module.{Module}
+use Rattle.walrus_module.specs.Parts.{Module}
 use Rattle.walrus_roots.specs.declared.item.Item.{Item}
 use Rattle.walrus_roots.specs.Items.{item}
 use Rattle.walrus_references.specs.References.{RefersIn, IsActiveIn, named_by, type_items, table_items}

@@ -4,6 +4,7 @@ ghost use Rattle.std.specs.List.{fold};
 ghost use Rattle.walrus_marks.specs.Chains.{IsReached};
 ghost use Rattle.walrus_references.specs.References.{Refers};
 ghost use Rattle.walrus_references.specs.Roots.{Root};
+ghost use Rattle.walrus_module.specs.Parts.{parts};
 ghost use Rattle.walrus_used.specs.Counts.{counts_of, past_id, past_types};
 
 use crate::module_names::ModuleNames;
@@ -55,8 +56,8 @@ pub fn type_count(types: &ModuleTypes) -> usize
 
 /// How many ids were given out in each space, by the number of the space; of types, one more than the highest live one.
 pub fn id_counts(input: &Module) -> [usize; 10]
-    ensures counts { result ≡ counts_of input.now }
-    ensures bounded { (space : ℕ) → space < 8 → slice_index_or (counts_of input.now) space 0 ≤ 2 ^ 32 }
+    ensures counts { result ≡ counts_of (parts input.now) }
+    ensures bounded { (space : ℕ) → space < 8 → slice_index_or (counts_of (parts input.now)) space 0 ≤ 2 ^ 32 }
 {
     [
         type_count(&input.types),
@@ -79,7 +80,7 @@ pub fn id_counts(input: &Module) -> [usize; 10]
 ///
 /// Want of memory.
 pub fn reach_items(alloc: Global, input: &Module, pushed: &[Item]) -> Result<Marks, AllocError>
-    ensures { IfOk result (λ marks. IsReached (counts_of input.now) (Root input.now pushed.now) (Refers input.now) marks) }
+    ensures { IfOk result (λ marks. IsReached (counts_of (parts input.now)) (Root (parts input.now) pushed.now) (Refers (parts input.now)) marks) }
 {
     walrus_types::laws::types_are_grouped(&input.types);
     let active = active_segments(alloc, input)?;

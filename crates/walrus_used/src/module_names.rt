@@ -9,6 +9,7 @@ ghost use Rattle.walrus_marks.specs.Chains.{Meets};
 ghost use Rattle.walrus_references.specs.References.{KindNames, named_by, type_items, global_items, tag_items, element_items, data_items, local_items};
 ghost use Rattle.walrus_module.specs.Items.{written_type};
 ghost use Rattle.walrus_references.specs.Roots.{Root};
+ghost use Rattle.walrus_module.specs.Parts.{parts};
 ghost use Rattle.walrus_used.specs.Looks.{Looks, LooksIn, LooksInGroup, group_items, table_looks, memory_looks};
 ghost use Rattle.wasm_formats.specs.declared.fault.Space.TheVariants as spaces;
 
@@ -78,7 +79,7 @@ fn meet_type_at(
     input: &Module,
     id: TypeId,
 ) -> Result<(), AllocError>
-    ensures { OnOk result (Meets (LooksIn input.now [] spaces.Type id) marks.old marks.new) }
+    ensures { OnOk result (Meets (LooksIn (parts input.now) [] spaces.Type id) marks.old marks.new) }
 {
     meet_type(alloc, marks, &input.types, id)?;
     meet_group_of(marks, &input.types, id);
@@ -100,7 +101,7 @@ fn meet_function(
     input: &Module,
     id: FunctionId,
 ) -> Result<(), AllocError>
-    ensures { OnOk result (Meets (LooksIn input.now [] spaces.Function id) marks.old marks.new) }
+    ensures { OnOk result (Meets (LooksIn (parts input.now) [] spaces.Function id) marks.old marks.new) }
 {
     if input.funcs.contains(id) {
         let function = input.funcs.get(id);
@@ -119,7 +120,7 @@ fn meet_active(marks: &mut Marks, active: &[Vec<Item>], table: usize)
 }
 
 fn meet_table_at(marks: &mut Marks, input: &Module, active: &[Vec<Item>], id: TableId)
-    ensures { marks.new ≡ fold meet marks.old (named_by (table_looks input.now (lists_of active.now) id) (item_at input.now.tables id)) }
+    ensures { marks.new ≡ fold meet marks.old (named_by (table_looks (parts input.now) (lists_of active.now) id) (item_at input.now.tables id)) }
 {
     if input.tables.contains(id) {
         let table = input.tables.get(id);
@@ -130,7 +131,7 @@ fn meet_table_at(marks: &mut Marks, input: &Module, active: &[Vec<Item>], id: Ta
 }
 
 fn meet_memory_at(marks: &mut Marks, input: &Module, id: MemoryId)
-    ensures { marks.new ≡ fold meet marks.old (named_by (memory_looks input.now) (item_at input.now.memories id)) }
+    ensures { marks.new ≡ fold meet marks.old (named_by (memory_looks (parts input.now)) (item_at input.now.memories id)) }
 {
     if input.memories.contains(id) {
         let memory = input.memories.get(id);
@@ -190,9 +191,9 @@ pub(crate) struct ModuleNames<'a> {
 }
 
 impl<'a> Names for ModuleNames<'a> {
-    ghost is_root = { λ s x. Root s.input.now s.pushed.now x };
+    ghost is_root = { λ s x. Root (parts s.input.now) s.pushed.now x };
 
-    ghost refers = { λ s x y. Looks s.input.now (lists_of s.active.now) x y };
+    ghost refers = { λ s x y. Looks (parts s.input.now) (lists_of s.active.now) x y };
 
     fn meet_roots(&self, marks: &mut Marks) {
         meet_roots(marks, self.input, self.pushed);

@@ -6,6 +6,7 @@ ghost use Rattle.walrus_marks.specs.Marks.{meet};
 ghost use Rattle.walrus_marks.specs.Chains.{Meets};
 ghost use Rattle.walrus_references.specs.Roots.{Root};
 ghost use Rattle.walrus_module.specs.Items.{given_out};
+ghost use Rattle.walrus_module.specs.Parts.{parts};
 ghost use Rattle.walrus_used.specs.Picks.{IsPicked, active_data, is_imported, rooted_element, start_items};
 ghost use Rattle.walrus_arena.specs.Arena.{item_at};
 
@@ -135,7 +136,7 @@ fn meet_start(marks: &mut Marks, start: Option<FunctionId>)
 
 /// Meets the roots, where custom sections push these.
 pub(crate) fn meet_roots(marks: &mut Marks, input: &Module, pushed: &[Item])
-    ensures { Meets (Root input.now pushed.now) marks.old marks.new }
+    ensures { Meets (Root (parts input.now) pushed.now) marks.old marks.new }
 {
     meet_each(&input.exports, &Exported, marks);
     meet_each(&input.data_segments, &ActiveData, marks);

@@ -5,6 +5,7 @@ ghost use Rattle.std.specs.HashSet.{keys};
 ghost use Rattle.std.specs.List.{fold};
 ghost use Rattle.wasm_formats.specs.declared.fault.Space.TheVariants as spaces;
 ghost use Rattle.walrus_marks.specs.Marks.{meet};
+ghost use Rattle.walrus_module.specs.Parts.{parts};
 ghost use Rattle.walrus_used.specs.Looks.{AreActive, listed, listed_segment, live_items};
 
 use std::alloc::{AllocError, Global};
@@ -59,7 +60,7 @@ fn list_segment(
 ///
 /// Want of memory.
 pub(crate) fn active_segments(alloc: Global, input: &Module) -> Result<Vec<Vec<Item>>, AllocError>
-    ensures { IfOk result (λ lists. AreActive input.now (lists_of lists.items)) }
+    ensures { IfOk result (λ lists. AreActive (parts input.now) (lists_of lists.items)) }
 {
     let mut lists = empty_lists(alloc, input.tables.next_id().index())?;
     for index in 0..input.elements.next_id().index() {

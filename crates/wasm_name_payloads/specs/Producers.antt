@@ -2,20 +2,13 @@
 use Rattle.std.specs.Prelude.{ℕ, ◌≡◌, List, [], ◌∷◌, Option, Some, None, if◌then◌else◌}
 use Rattle.std.specs.List.{flat_map}
 use Rattle.std.proofs.Common.{ap}
+pub use Rattle.wasm_producers.specs.Entries.{Value, Field, with_value, with_entry}
 use Rattle.wasm_formats.specs.Formats.{Format}
 use Rattle.wasm_formats.specs.Joined.{after, built}
 use Rattle.wasm_formats.specs.Lists.{vec}
 use Rattle.wasm_grammar.specs.Modules.{Custom, Module}
 use Rattle.wasm_name_payloads.specs.Keepers.{Keeper, one}
 use Rattle.wasm_name_payloads.specs.Names.{text, counted, same_name}
-
-pub record Value : Type 0 where
-  pub name : List ℕ
-  pub version : List ℕ
-
-pub record Field : Type 0 where
-  pub name : List ℕ
-  pub values : List Value
 
 -- ---- reading: a vec of fields, of which whole ones before the first fault are kept
 
@@ -55,17 +48,7 @@ producers_if (Some c) = if same_name c.name section_name then producers_in c.byt
 abbrev pub producers_of : Module → List Field
 producers_of m = flat_map producers_if m.customs
 
--- ---- an entry: the version of a name in the first field of that name is replaced, or the entry added to it, or a new field
-
-abbrev pub with_value : List ℕ → List ℕ → List Value → List Value
-with_value name version [] = record { name = name; version = version } ∷ []
-with_value name version (v ∷ values) =
-    if same_name v.name name then (record { name = name; version = version } ∷ values) else (v ∷ with_value name version values)
-
-abbrev pub with_entry : List ℕ → List ℕ → List ℕ → List Field → List Field
-with_entry of name version [] = record { name = of; values = with_value name version [] } ∷ []
-with_entry of name version (f ∷ fields) =
-    if same_name f.name of then (record { name = f.name; values = with_value name version f.values } ∷ fields) else (f ∷ with_entry of name version fields)
+-- ---- the entry of this tool
 
 -- `processed-by`, `walrus`, `0.28.0`
 abbrev pub processed_by : List ℕ

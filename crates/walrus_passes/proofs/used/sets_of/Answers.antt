@@ -1,32 +1,33 @@
 use Rattle.std.proofs.Common.{◌^◌, arith}
+use Rattle.walrus_module.specs.Parts.{parts}
 use Rattle.walrus_used.specs.Counts.{counts_of}
 use Rattle.walrus_passes.specs.Keeping.{IsHeld}
 use Rattle.walrus_passes.proofs.SetLemmas.{all_sets, bounded_by}
 use Rattle.walrus_passes.proofs.used.sets_of.Goals as goal
 
 pub set_of-requires-2 : goal.set_of-requires-2
-set_of-requires-2 c = bounded_by c.id_counts-counts.result (counts_of c.args.input.now) (2 ^ 32) c.id_counts-counts.ensures.counts c.id_counts-counts.ensures.bounded 1 (omega arith)
+set_of-requires-2 g c = bounded_by c.id_counts-counts.result (counts_of (parts c.args.input.now)) (2 ^ 32) c.id_counts-counts.ensures.counts c.id_counts-counts.ensures.bounded 1 (omega arith)
 
 pub set_of-requires-3 : goal.set_of-requires-3
-set_of-requires-3 c = bounded_by c.id_counts-counts.result (counts_of c.args.input.now) (2 ^ 32) c.id_counts-counts.ensures.counts c.id_counts-counts.ensures.bounded 2 (omega arith)
+set_of-requires-3 g c = bounded_by c.id_counts-counts.result (counts_of (parts c.args.input.now)) (2 ^ 32) c.id_counts-counts.ensures.counts c.id_counts-counts.ensures.bounded 2 (omega arith)
 
 pub set_of-requires-4 : goal.set_of-requires-4
-set_of-requires-4 c = bounded_by c.id_counts-counts.result (counts_of c.args.input.now) (2 ^ 32) c.id_counts-counts.ensures.counts c.id_counts-counts.ensures.bounded 3 (omega arith)
+set_of-requires-4 g c = bounded_by c.id_counts-counts.result (counts_of (parts c.args.input.now)) (2 ^ 32) c.id_counts-counts.ensures.counts c.id_counts-counts.ensures.bounded 3 (omega arith)
 
 pub set_of-requires-5 : goal.set_of-requires-5
-set_of-requires-5 c = bounded_by c.id_counts-counts.result (counts_of c.args.input.now) (2 ^ 32) c.id_counts-counts.ensures.counts c.id_counts-counts.ensures.bounded 4 (omega arith)
+set_of-requires-5 g c = bounded_by c.id_counts-counts.result (counts_of (parts c.args.input.now)) (2 ^ 32) c.id_counts-counts.ensures.counts c.id_counts-counts.ensures.bounded 4 (omega arith)
 
 pub set_of-requires-6 : goal.set_of-requires-6
-set_of-requires-6 c = bounded_by c.id_counts-counts.result (counts_of c.args.input.now) (2 ^ 32) c.id_counts-counts.ensures.counts c.id_counts-counts.ensures.bounded 5 (omega arith)
+set_of-requires-6 g c = bounded_by c.id_counts-counts.result (counts_of (parts c.args.input.now)) (2 ^ 32) c.id_counts-counts.ensures.counts c.id_counts-counts.ensures.bounded 5 (omega arith)
 
 pub set_of-requires-7 : goal.set_of-requires-7
-set_of-requires-7 c = bounded_by c.id_counts-counts.result (counts_of c.args.input.now) (2 ^ 32) c.id_counts-counts.ensures.counts c.id_counts-counts.ensures.bounded 6 (omega arith)
+set_of-requires-7 g c = bounded_by c.id_counts-counts.result (counts_of (parts c.args.input.now)) (2 ^ 32) c.id_counts-counts.ensures.counts c.id_counts-counts.ensures.bounded 6 (omega arith)
 
 pub set_of-requires-8 : goal.set_of-requires-8
-set_of-requires-8 c = bounded_by c.id_counts-counts.result (counts_of c.args.input.now) (2 ^ 32) c.id_counts-counts.ensures.counts c.id_counts-counts.ensures.bounded 7 (omega arith)
+set_of-requires-8 g c = bounded_by c.id_counts-counts.result (counts_of (parts c.args.input.now)) (2 ^ 32) c.id_counts-counts.ensures.counts c.id_counts-counts.ensures.bounded 7 (omega arith)
 
 pub returns : goal.returns
-returns c = all_sets (IsHeld c.args.kept.now) c.id_counts-counts.result (counts_of c.args.input.now) _ c.id_counts-counts.ensures.counts record {
+returns g c = all_sets (IsHeld c.args.kept.now) c.id_counts-counts.result (counts_of (parts c.args.input.now)) _ c.id_counts-counts.ensures.counts record {
   of_types = c.in_ok-set_of.ensures;
   of_funcs = c.in_ok-set_of-2.ensures;
   of_tables = c.in_ok-set_of-3.ensures;

@@ -1,8 +1,9 @@
 use Rattle.std.proofs.Common.{◌≡◌, ◌<◌, ℕ, Some}
+use Rattle.walrus_module.specs.Parts.{parts}
 use Rattle.walrus_arena.specs.Arena.{item_at}
 use Rattle.walrus_module_items.specs.declared.import.Import.{Import}
 use Rattle.walrus_refusals.specs.Checks.{ClaimsTruly}
 use Rattle.walrus_refusals.proofs.linked.all_claim_truly.Given as goal
 
 abbrev pub invariant-loop-index : goal.invariant-loop-index
-invariant-loop-index l = (id : ℕ) (import : Import) → id < l.index → item_at l.input.imports id ≡ Some import → ClaimsTruly l.input l.marks id import
+invariant-loop-index g l = (id : ℕ) (import : Import) → id < l.index → item_at l.input.imports id ≡ Some import → ClaimsTruly (parts l.input) l.marks id import

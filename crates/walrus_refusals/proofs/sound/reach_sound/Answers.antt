@@ -1,18 +1,19 @@
 use Rattle.std.proofs.Common.{sym}
+use Rattle.walrus_module.specs.Parts.{parts}
 use Rattle.walrus_refusals.proofs.SoundLemmas.{are_linked, are_trees, dead_found, dead_missing, not_trees}
 use Rattle.walrus_refusals.proofs.sound.reach_sound.Goals as goal
 
 pub returns-then-not-branch-2-clause-refused : goal.returns-then-not-branch-2-clause-refused
-returns-then-not-branch-2-clause-refused c =
-    let m = c.args.input.now in
+returns-then-not-branch-2-clause-refused g c =
+    let m = parts c.args.input.now in
     let pushed = c.args.pushed.now in
     let s = c.in_ok-marks.marks in
     let h = c.in_ok-marks.ensures in
     (are_linked m pushed s h c.in_ok-are_linked.field-0 c.if-not-branch.false c.in_ok-are_linked.ensures, not_trees m pushed s h c.in_ok-are_trees.field-0 c.if-not-branch-2.true c.in_ok-are_trees.ensures)
 
 pub returns-in-Some-clause-refused : goal.returns-in-Some-clause-refused
-returns-in-Some-clause-refused c =
-    let m = c.args.input.now in
+returns-in-Some-clause-refused g c =
+    let m = parts c.args.input.now in
     let pushed = c.args.pushed.now in
     let s = c.in_ok-marks.marks in
     let h = c.in_ok-marks.ensures in (
@@ -22,8 +23,8 @@ returns-in-Some-clause-refused c =
     )
 
 pub returns-in-Some-missing-clause-refused : goal.returns-in-Some-missing-clause-refused
-returns-in-Some-missing-clause-refused c =
-    let m = c.args.input.now in
+returns-in-Some-missing-clause-refused g c =
+    let m = parts c.args.input.now in
     let pushed = c.args.pushed.now in
     let s = c.in_ok-marks.marks in
     let h = c.in_ok-marks.ensures in (

@@ -3,6 +3,7 @@ use Rattle.std.specs.Global.{Global}
 use Rattle.walrus_arena.specs.Arena.{item_at, IsLive}
 use Rattle.walrus_roots.specs.declared.item.Item.{Item}
 use Rattle.walrus_marks.specs.Marks.{lists_of}
+use Rattle.walrus_module.specs.Parts.{parts}
 use Rattle.walrus_used.specs.Looks.{listed_segment}
 use Rattle.walrus_used.proofs.ModuleLemmas.{not_live}
 use Rattle.walrus_used.proofs.SegmentLemmas.{ListedBelow, more_listed, dead_listed, all_listed}
@@ -10,8 +11,8 @@ use Rattle.walrus_used.proofs.segments.active_segments.Goals as goal
 use Rattle.walrus_used.proofs.segments.active_segments.Goals.{then-contains+in_ok-list_segment, else-contains}
 
 pub loop-index-preserved : goal.loop-index-preserved
-loop-index-preserved c =
-    let m = c.args.input.now in
+loop-index-preserved g c =
+    let m = parts c.args.input.now in
     let n = c.loop-index.index in
     elim c.if-contains.branch [
       | then-contains+in_ok-list_segment w ↦
@@ -27,4 +28,4 @@ loop-index-preserved c =
     ]
 
 pub returns : goal.returns
-returns c = all_listed c.args.input.now c.loop-index.index (lists_of c.loop-index.lists.items) (omega (arith, c.loop-index-test.false, c.loop-index.auto.index-end, c.index-index-end.ensures, c.next_id-2.ensures)) c.loop-index.invariant
+returns g c = all_listed (parts c.args.input.now) c.loop-index.index (lists_of c.loop-index.lists.items) (omega (arith, c.loop-index-test.false, c.loop-index.auto.index-end, c.index-index-end.ensures, c.next_id-2.ensures)) c.loop-index.invariant

@@ -1,0 +1,2 @@
+//! What the section `producers` says (WebAssembly tool conventions): definitions, and nothing to run.
+#![tactic(auto)]
