@@ -1,0 +1,4 @@
+mod Turning
+mod Takes
+mod Reading
+mod Looping

@@ -1,0 +1,115 @@
+-- Lemmas: an operator that is read.
+use Rattle.std.proofs.Common.{ℕ, ◌≡◌, ◌⊎◌, ◌<◌, ◌≤◌, ◌+◌, ◌-◌, Bool, true, false, List, [], ◌∷◌, length, Option, Some, None, Result, Ok, Err, if◌then◌else◌, refl, sym, ap, subst, inl, inr, ◌∙◌, arith}
+use Rattle.std.proofs.lemmas.List.{length-drop}
+use Rattle.wasm_features.specs.declared.WasmFeatures.{WasmFeatures}
+use Rattle.wasm_reader.specs.declared.error.Error.{Error}
+use Rattle.wasm_reader.specs.declared.error.ErrorKind.{ErrorKind}
+use Rattle.wasm_reader.specs.Cursor.{Window, Cursor, rest, end_of, Forward, IsWithin}
+use Rattle.wasm_reader.specs.Reading.{Reading, Fault, fault, ◌>>=◌, byte_at}
+use Rattle.wasm_reader.specs.Numbers.{unsigned_at}
+use Rattle.wasm_reader.specs.Laws.{StaysWithin}
+use Rattle.wasm_reader.specs.Final.{map_final}
+use Rattle.wasm_reader.specs.Finals.{unsigned_final}
+use Rattle.wasm_immediates.specs.Readings.{mapped, items_at}
+use Rattle.wasm_immediates.specs.Finals.{items_final}
+use Rattle.wasm_operators.specs.declared.entry.Kind.{Kind}
+use Rattle.wasm_operators.specs.declared.op_code.OpCode.{OpCode}
+use Rattle.wasm_operators.specs.Kinds.{forms}
+use Rattle.wasm_operators.specs.Operators.{Seen, is_prefix, op_code, code_at, kind_of, seen_as, after_code, operator_at}
+use Rattle.wasm_formats.specs.Stops.{Read, Operator, Stop, stop, Parsing, value_at}
+use Rattle.wasm_formats.specs.Parts.{told_as}
+use Rattle.wasm_body_grammar.specs.Bodies.{operator}
+use Rattle.walrus_operators.specs.declared.operator.Operator.{Operator as Op}
+use Rattle.walrus_operators.specs.declared.reader.OperatorError.{OperatorError}
+use Rattle.walrus_operators.specs.declared.reader.OperatorError.TheVariants as errors
+use Rattle.walrus_operators.specs.Operators.{seen, ReadsOperator, Answers}
+use Rattle.walrus_body_env.specs.declared.error.BodyError.{BodyError}
+use Rattle.walrus_body_env.specs.declared.error.BodyError.TheVariants as faults
+use Rattle.walrus_body_env.specs.Faults.{fault_of_kind, read_fault}
+use Rattle.walrus_body_locals.specs.Calls.{Parses, Refuses, IsFaultOf}
+use Rattle.walrus_body_locals.proofs.Answering.{end_stays, reader_refuses}
+
+-- ---- it takes a byte at least
+
+-- what is left behind what was read
+abbrev Leaves : {A : Type 0} → ℕ → Reading A → Type 0
+Leaves n (Ok x) = length x.1 ≤ n
+Leaves n (Err e) = Unit {0}
+
+within_leaves : {A : Type 0} (n : ℕ) (r : Reading A) → StaysWithin n r → Leaves n r
+within_leaves n (Ok x) h = h
+within_leaves n (Err e) h = tt
+
+leaves_next : {A B : Type 0} (n : ℕ) (r : Reading A) (f : A × List ℕ → Reading B) → Leaves n r → ((x : A × List ℕ) → Leaves (length x.1) (f x)) → Leaves n (r >>= f)
+leaves_next n (Ok x) f h k = go (f x) (k x)
+  where
+    go : {B : Type 0} (r : Reading B) → Leaves (length x.1) r → Leaves n r
+    go (Ok y) l = omega (arith, l, h)
+    go (Err e) l = tt
+leaves_next n (Err e) f h k = tt
+
+code_leaves : (b : ℕ) (bytes : List ℕ) → Leaves (length bytes) (code_at (b ∷ bytes))
+unfolding code_at
+code_leaves b bytes = go (is_prefix b)
+  where
+    go : (test : Bool) → Leaves (length bytes) (if test then mapped (op_code b) (unsigned_at 32 bytes) else Ok (op_code 0 b, bytes))
+    go true = within_leaves (length bytes) (mapped (op_code b) (unsigned_at 32 bytes)) ((map_final (unsigned_at 32) (op_code b) (unsigned_final 32)).within bytes)
+    go false = omega arith
+
+after_leaves : (features : WasmFeatures) (code : OpCode) (kind : Option Kind) (bytes : List ℕ) → Leaves (length bytes) (after_code features code kind bytes)
+after_leaves features code None bytes = omega arith
+after_leaves features code (Some kind) bytes =
+    within_leaves (length bytes) (mapped (seen_as code) (items_at features (forms kind) bytes)) ((map_final (items_at features (forms kind)) (seen_as code) (items_final features (forms kind))).within bytes)
+
+operator_leaves : (features : WasmFeatures) (b : ℕ) (bytes : List ℕ) → Leaves (length bytes) (operator_at features (b ∷ bytes))
+unfolding operator_at
+operator_leaves features b bytes = leaves_next (length bytes) (code_at (b ∷ bytes)) (λ code. after_code features code.0 (kind_of features code.0) code.1) (code_leaves b bytes) (λ code. after_leaves features code.0 (kind_of features code.0) code.1)
+
+pub operator_takes : (features : WasmFeatures) (bytes later : List ℕ) (x : Option Seen) → operator_at features bytes ≡ Ok (x, later) → length later < length bytes
+unfolding operator_at code_at
+operator_takes features [] later x e = absurd cc
+operator_takes features (b ∷ bytes) later x e = let F : Reading (Option Seen) → Type 0 = λ r. Leaves (length bytes) r in let l : length later ≤ length bytes = subst F e (operator_leaves features b bytes) in omega (arith, l)
+
+-- ---- what a call answers
+
+-- an offset inside the window
+pub offset_is : (c : Cursor) → IsWithin c → c.window.start + c.position ≡ end_of c - length (rest c)
+offset_is c h = omega (arith, h, length-drop c.position c.window.bytes)
+
+-- what parsing makes of what was read, where so many bytes were left
+abbrev refused_as : Reading (Option Seen) → ℕ → Parsing Seen
+refused_as r left = behind (value_at r) (λ x. told_as (λ op. op) Operator left x x.0)
+  where
+    behind : {A B : Type 0} → Result A Stop → (A → Result B Stop) → Result B Stop
+    behind (Ok x) f = f x
+    behind (Err e) f = Err e
+
+-- the parser of operators stands on the reader's
+abbrev Reads : Cursor → Cursor → Result Op BodyError → Type 0
+Reads old new = Parses (operator old.window.features).parse (λ (op : Op) x. seen op ≡ x) old new
+
+pub operator_refused : (old new : Cursor) (e : Error) → ReadsOperator old.window.features old new (Err (errors.Read e)) → Reads old new (Err (read_fault e))
+operator_refused old new e h = record { value = go h.value; moves = h.moves }
+  where
+    at : (r : Reading (Option Seen)) → operator_at old.window.features (rest old) ≡ r → Refuses (end_of new) (refused_as r (length (rest old))) (read_fault e) → Refuses (end_of new) ((operator old.window.features).parse (rest old)) (read_fault e)
+    at r q k = rw q k
+
+    stops : (f : Fault) → f ≡ fault e.kind (end_of new - e.offset) → Refuses (end_of new) (refused_as (Err f) (length (rest old))) (read_fault e)
+    stops f q = rw q (go2 (reader_refuses (end_of new) e h.place))
+      where
+        go2 : (read_fault e ≡ faults.Memory) ⊎ IsFaultOf (end_of new) (stop (Read e.kind) (end_of new - e.offset)) (read_fault e) → Refuses (end_of new) (refused_as (Err (fault e.kind (end_of new - e.offset))) (length (rest old))) (read_fault e)
+        go2 (inl m) = inl m
+        go2 (inr f) = inr (stop (Read e.kind) (end_of new - e.offset), refl, f)
+
+    go : Answers old.window.features old new (Err (errors.Read e)) (operator_at old.window.features (rest old)) → Refuses (end_of new) ((operator old.window.features).parse (rest old)) (read_fault e)
+    go (inl r) = at (Err (fault e.kind (end_of new - e.offset))) r (stops (fault e.kind (end_of new - e.offset)) refl)
+    go (inr m) = inl (ap (λ (k : ErrorKind). fault_of_kind k e) m.1.kind)
+
+pub operator_unknown : (old new : Cursor) (offset : ℕ) → IsWithin old → ReadsOperator old.window.features old new (Err (errors.Unknown offset)) → Reads old new (Err (faults.Operator (Some offset)))
+operator_unknown old new offset within h =
+    let left = length (rest old) in
+    let there : end_of new - left ≡ offset = ap (λ (n : ℕ). n - left) (end_stays old new h.moves) ∙ sym (offset_is old within) ∙ sym h.value.1 in
+    record { value = inr (stop Operator left, rw h.value.0 refl, ap (λ (k : ℕ). Some (faults.Operator (Some k))) there); moves = h.moves }
+
+pub operator_read : (old new : Cursor) (op : Op) → ReadsOperator old.window.features old new (Ok op) → Reads old new (Ok op)
+operator_read old new op h = record { value = (seen op, rw h.value refl, refl); moves = h.moves }

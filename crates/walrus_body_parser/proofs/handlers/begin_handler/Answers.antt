@@ -1,0 +1,6 @@
+use Rattle.walrus_body_parser.proofs.Turning.{handler_on}
+use Rattle.walrus_body_parser.proofs.handlers.begin_handler.Goals as goal
+
+pub returns-clause-turned : goal.returns-clause-turned
+returns-clause-turned g c = λ op h.
+    handler_on (g.S.Scope.sight c.args.scope.now) c.args.stack.now c.begin_handler.new.self op c.args.tag c.in_ok-ty.ty c.args.place h c.in_ok-check_handler.ensures.0 c.in_ok-ty.ensures.found c.requires c.in_ok-begin_handler.ensures.turned

@@ -1,0 +1,75 @@
+-- The operators of a body, up to its end, and the tree that they are read as.
+use Rattle.std.specs.Prelude.{◌≡◌, ◌⊎◌, ℕ, ◌-◌, true, List, [], ◌∷◌, length, fold, Option, Some, None, Ok}
+use Rattle.wasm_features.specs.declared.WasmFeatures.{WasmFeatures}
+use Rattle.wasm_reader.specs.Cursor.{Cursor, rest, end_of}
+use Rattle.wasm_formats.specs.Stops.{Parsing}
+use Rattle.walrus_instr.specs.declared.seq.InstrSeqType.{InstrSeqType}
+use Rattle.walrus_builder.specs.Built.{Seq}
+use Rattle.wasm_operators.specs.Operators.{Seen}
+use Rattle.wasm_body_grammar.specs.Bodies.{Point, next_point, opened, is_closed}
+use Rattle.wasm_normal_form.specs.Trees.{tree_of}
+use Rattle.wasm_normal_form.specs.Normal.{normal}
+use Rattle.walrus_body_env.specs.declared.error.BodyError.{BodyError}
+use Rattle.walrus_body_env.specs.declared.error.BodyError.TheVariants as faults
+use Rattle.walrus_body_nesting.specs.Stands.{StandsAs}
+use Rattle.walrus_body_nesting.specs.Opens.{same}
+use Rattle.walrus_body_rules.specs.Sights.{Sight}
+use Rattle.walrus_body_steps.specs.Meanings.{OpensOf, meaning}
+use Rattle.walrus_body_locals.specs.Told.{Pass, Fails}
+use Rattle.walrus_body_parser.specs.Points.{operator_seen, op_told, place_at, ops_from}
+use Rattle.walrus_body_parser.specs.Changes.{LacksType}
+
+-- a validator's two answers: told of an operator, and told of the end
+pub record Validating (V : Type 0) : Type 0 where
+  pub op : V → ℕ → Seen → Option BodyError × V
+  pub finish : V → ℕ → Option BodyError × V
+
+abbrev pub validating : {V : Type 0} → (V → ℕ → Seen → Option BodyError × V) → (V → ℕ → Option BodyError × V) → Validating V
+validating op finish = record { op = op; finish = finish }
+
+-- how operators are parsed at a point
+abbrev pub Parser : Type 0
+Parser = Point → List ℕ → Parsing (ℕ × Seen)
+
+abbrev pub parser_of : WasmFeatures → Sight → Parser
+parser_of features s p = (operator_seen features s p).parse
+
+module _ {V : Type 0} (parser : Parser) (told : Validating V) (end place : ℕ) where
+  -- these operators stand at the front of the bytes of a body, from this place on, and the validator accepts each
+  abbrev pub PassOps : V → List ℕ → List (ℕ × Seen) → List ℕ → V → Type 0
+  PassOps v bytes ops later w = Pass next_point parser (op_told told.op) end (opened place) v bytes ops later w
+
+  abbrev pub point_of : List (ℕ × Seen) → Point
+  point_of ops = fold next_point (opened place) ops
+
+  -- they are all, the last one closes the body, and the validator accepts the end
+  pub record EndOps (v : V) (bytes : List ℕ) (ops : List (ℕ × Seen)) (w : V) : Type 0 where
+    pub left : V
+    pub passed : PassOps v bytes ops [] left
+    pub closed : is_closed (point_of ops).frames ≡ true
+    pub finished : told.finish left end ≡ (None, w)
+
+  -- the next one stands there, and begins a handler of a reached block for which the environment has no type
+  abbrev pub Lacks : Sight → List ℕ → Point → BodyError → Type 0
+  Lacks s bytes p e = (x : ℕ × Seen) × (later : List ℕ) × (parser p bytes ≡ Ok (x, later))
+      × (by : Seen) × (ty : InstrSeqType) × OpensOf s by ty × LacksType s ty x.1 × (e ≡ faults.TypeForm (Some (end - length bytes)))
+
+  -- behind some that pass: the next one is refused, or lacks a type; or the validator refuses the end
+  pub record FailOps (s : Sight) (v : V) (bytes : List ℕ) (e : BodyError) : Type 0 where
+    pub ops : List (ℕ × Seen)
+    pub later : List ℕ
+    pub left : V
+    pub passed : PassOps v bytes ops later left
+    pub fails : Fails (parser (point_of ops)) (op_told told.op) end left later e ⊎ Lacks s later (point_of ops) e
+        ⊎ ((later ≡ []) × (is_closed (point_of ops).frames ≡ true) × ((told.finish left end).0 ≡ Some e))
+
+-- ---- what a call answers
+
+-- the operators that are left were read, and stand as the tree in normal form, block types as they are written
+pub record ReadsTree {V : Type 0} (s : Sight) (told : Validating V) (code : ℕ) (old : Cursor) (v w : V) (b : List Seq) : Type 0 where
+  pub ops : List (ℕ × Seen)
+  pub read : EndOps (parser_of old.window.features s) told (end_of old) (place_at code old) v (rest old) ops w
+  pub stands : StandsAs (meaning s) b (normal same (tree_of (ops_from (place_at code old) ops)))
+
+abbrev pub RefusesTree : {V : Type 0} → Sight → Validating V → ℕ → Cursor → V → BodyError → Type 0
+RefusesTree s told code old v e = (e ≡ faults.Memory) ⊎ FailOps (parser_of old.window.features s) told (end_of old) (place_at code old) s v (rest old) e

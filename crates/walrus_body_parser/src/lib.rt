@@ -1,0 +1,9 @@
+//! Bodies are read: from bytes to trees of instructions in normal form (Core Specification, binary format: code section).
+#![tactic(auto)]
+
+mod handlers;
+mod operators;
+mod steps;
+mod trees;
+
+pub use trees::read_tree;

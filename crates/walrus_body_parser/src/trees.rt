@@ -1,0 +1,54 @@
+//! All operators of a body are read.
+
+ghost use Rattle.std.specs.Prelude.{◌≡◌, ◌<◌, ◌≤◌, ◌+◌, length, IfOk, IfErr};
+ghost use Rattle.wasm_reader.specs.Cursor.{IsWithin, end_of};
+ghost use Rattle.walrus_builder.specs.Built.{contents};
+ghost use Rattle.walrus_builder.specs.Functions.{seqs_of};
+ghost use Rattle.walrus_body_parser.specs.Trees.{ReadsTree, RefusesTree, validating};
+
+use crate::operators::read_operator;
+use std::alloc::Global;
+use walrus_body_env::{BodyError, Validator};
+use walrus_body_operands::Scope;
+use walrus_body_stack::Stack;
+use walrus_builder::FunctionBuilder;
+use walrus_operators::OperatorReader;
+use wasm_reader::BinaryReader;
+
+/// Reads the operators that are left into a function whose body is empty, as a tree in normal form; each location is the operator's
+/// place from the beginning of the code section's contents. Asks for bytes that begin behind that, and end less than 4294967295 behind
+/// it.
+///
+/// # Errors
+///
+/// The first that is due, as each operator is refused; behind them `EndOfFile` where the body isn't closed, `Nesting` at what follows its
+/// end, and as the validator refuses the end; want of memory.
+pub fn read_tree<S: Scope, V: Validator>(
+    scope: &S,
+    alloc: Global,
+    body: BinaryReader<'_>,
+    builder: FunctionBuilder,
+    validator: &mut V,
+    code_start: u64,
+) -> Result<FunctionBuilder, BodyError>
+    requires empty { length (seqs_of builder) ≡ 1 }
+    requires within { IsWithin body }
+    requires begins { code_start ≤ body.window.start + body.position }
+    requires ends { end_of body < code_start + 4294967295 }
+    ensures ty { IfOk result (λ f. f.ty ≡ builder.ty) }
+    ensures read { IfOk result (λ f. ReadsTree (S.sight scope.now) (validating V.op_step V.finish_step) code_start body.entry validator.old validator.new (contents f.builder)) }
+    ensures refused { IfErr result (λ e. RefusesTree (S.sight scope.now) (validating V.op_step V.finish_step) code_start body.entry validator.old e) }
+{
+    let mut reader = OperatorReader::new(body);
+    let mut stack = Stack::new(alloc, builder);
+    let mut done = false;
+    while !done {
+        done = read_operator(scope, alloc, &mut reader, &mut stack, validator, code_start)?;
+    }
+    let end = reader.original_position();
+    if !reader.eof() {
+        return Err(BodyError::Nesting { offset: Some(end) });
+    }
+    validator.finish(end)?;
+    Ok(stack.into_builder())
+}
