@@ -35,6 +35,7 @@ pub use Rattle.walrus_linked.specs.Kept
 pub use Rattle.walrus_linked.specs.Linked
 pub use Rattle.walrus_linked.specs.Names
 pub use Rattle.walrus_linked.specs.OwnIds
+pub use Rattle.walrus_linked_changes.specs.Changes as LinkedChanges
 pub use Rattle.walrus_linked_edits.specs.Edits
 -- What a module means.
 pub use Rattle.walrus_meaning.specs.Bodies

@@ -28,6 +28,7 @@ pub mod laws {
     /// When a module is linked, and what edits keep of that.
     pub mod linked {
         pub use walrus_linked::{empty_is_linked, imports_keep_linked, own_ids_are_kept};
+        pub use walrus_linked_changes::{deletes_keep_linked, writes_keep_linked};
         pub use walrus_linked_edits::{
             adds_keep_linked, deleted_exports_keep_linked, replaces_keep_linked,
         };

@@ -1,5 +1,5 @@
 mod Codes
 mod Telling
-mod Agreeing
+pub mod Agreeing
 mod Nesting
 mod Renamed

@@ -1,3 +1,4 @@
+mod Pushes
 mod Lefts
 mod Labels
 pub mod Outs

@@ -7,4 +7,3 @@ pub mod Leads
 pub mod Known
 pub mod Imports
 pub mod ImportLemmas
-pub mod Lists

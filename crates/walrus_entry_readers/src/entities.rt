@@ -135,7 +135,7 @@ fn is_memory(kind: FaultKind) -> bool
 }
 
 /// What was read where there is room for it; where there is none that is `Limit` at this first byte, if no fault stands there.
-pub(crate) fn in_room<T: Drop>(room: bool, of: Limited, offset: u64, read: Result<T>) -> Result<T>
+pub fn in_room<T: Drop>(room: bool, of: Limited, offset: u64, read: Result<T>) -> Result<T>
     ensures { result ≡ in_room room of offset read }
 {
     if room {
@@ -238,7 +238,7 @@ pub struct GlobalEntry {
 }
 
 /// A constant expression over what is known here.
-pub(crate) fn read_init(
+pub fn read_init(
     alloc: Alloc,
     sections: &Sections<'_>,
     reader: &mut BinaryReader<'_>,
@@ -249,7 +249,7 @@ pub(crate) fn read_init(
 }
 
 /// The offset of a segment over what is known here.
-pub(crate) fn read_place(
+pub fn read_place(
     alloc: Alloc,
     wide: bool,
     sections: &Sections<'_>,

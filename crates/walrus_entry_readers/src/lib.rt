@@ -8,10 +8,9 @@ mod imports;
 mod items;
 mod kinds;
 mod known_types;
-mod lists;
 mod sections;
 
-pub use entities::{GlobalEntry, TableEntry};
+pub use entities::{GlobalEntry, TableEntry, in_room, read_init, read_place};
 pub use entry::{Each, Entry};
 pub use imports::{Entity, ImportEntry, Imports};
 pub use items::{

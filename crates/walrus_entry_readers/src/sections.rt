@@ -1,7 +1,12 @@
 //! What was read of a file so far.
 
+ghost use Rattle.std.specs.Prelude.{◌≡◌};
+ghost use Rattle.wasm_grammar.specs.States.{nothing_yet};
+ghost use Rattle.walrus_entry_readers.specs.State.{state_of};
+
 use crate::items::{Chunk, Custom, Data, Element, Export, Function, Import, Memory, Table, Tag};
 use crate::known_types::KnownTypes;
+use std::alloc::Global as Alloc;
 use walrus_section_values::Global;
 
 /// What was read of a file so far, by spaces; the imported items of a space come first.
@@ -43,4 +48,32 @@ pub struct Sections<'a> {
     pub last: u8,
     /// The offset at which the next section begins.
     pub offset: u64,
+}
+
+impl<'a> Sections<'a> {
+    /// Nothing was read but the header. Takes no memory.
+    pub fn new(alloc: Alloc) -> Self
+        ensures { state_of result ≡ nothing_yet }
+    {
+        Sections {
+            types: KnownTypes::new(alloc),
+            imports: Vec::new(alloc),
+            functions: Vec::new(alloc),
+            imported: 0,
+            tables: Vec::new(alloc),
+            memories: Vec::new(alloc),
+            tags: Vec::new(alloc),
+            globals: Vec::new(alloc),
+            exports: Vec::new(alloc),
+            start: None,
+            elements: Vec::new(alloc),
+            segments: Vec::new(alloc),
+            customs: Vec::new(alloc),
+            data_count: None,
+            bodies: None,
+            code_start: 0,
+            last: 0,
+            offset: 8,
+        }
+    }
 }

@@ -1,0 +1,16 @@
+use Rattle.std.proofs.Common.{◌≡◌, true, sym, ap, ◌∙◌}
+use Rattle.walrus_index_maps.specs.Maps.{Ids}
+use Rattle.walrus_pairing.specs.Types.{read_heap}
+use Rattle.std.specs.Prelude.{slice_get, Err}
+use Rattle.wasm_immediates.specs.Items.{Types}
+use Rattle.walrus_body_rules.specs.Sights.{look}
+use Rattle.walrus_body_operands.specs.Asked.{is_filed}
+use Rattle.walrus_body_operands.proofs.Told.{heap_refused}
+use Rattle.walrus_body_operands.proofs.types.heap_type.Goals as goal
+
+pub returns-in-Err : goal.returns-in-Err
+returns-in-Err g c =
+    let s = g.S.Scope.sight c.args.scope.now in
+    let filed : is_filed c.args.ty ≡ true = sym c.is_filed.ensures ∙ c.if-not-is_filed.false in
+    let same : read_heap (look s Types) c.args.ty ≡ Err c.in-Err.error = ap (λ (m : Ids). read_heap (slice_get m.types) c.args.ty) (sym c.indices.ensures) ∙ sym c.read_heap.ensures ∙ c.in-Err.is in
+    heap_refused s c.args.ty c.in-Err.error c.args.offset c.fault_of.result filed same c.fault_of.ensures

@@ -1,0 +1,4 @@
+pub mod Listed
+pub mod Asked
+pub mod Steps
+pub mod Counted

@@ -1,0 +1,17 @@
+//! What the operators of a body name, and what each does to its open sequences.
+#![tactic(auto)]
+
+mod faults;
+mod handlers;
+mod labels;
+pub mod laws;
+mod opens;
+mod runs;
+mod scope;
+mod steps;
+mod types;
+
+pub use handlers::{handler_type, last_handler_type};
+pub use labels::Labels;
+pub use scope::{Operands, Scope};
+pub use steps::{Step, step_of};

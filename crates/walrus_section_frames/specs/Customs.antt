@@ -1,0 +1,20 @@
+-- Custom sections as they are read.
+use Rattle.std.specs.Prelude.{ℕ, ◌≡◌, nat_le, true, List, length, take, drop, Ok, refl}
+use Rattle.std.proofs.Common.{ap, sym, ◌∙◌, arith}
+use Rattle.std.proofs.lemmas.Bool.{le-leb}
+use Rattle.std.proofs.lemmas.List.{take_all}
+use Rattle.wasm_reader.specs.Reading.{bytes_at}
+use Rattle.wasm_reader.specs.Spellings.{ok_is}
+use Rattle.wasm_sections.specs.Sections.{CustomEntry}
+use Rattle.walrus_entry_readers.specs.declared.items.Custom.{Custom}
+
+abbrev pub custom_entry_of : Custom → CustomEntry
+custom_entry_of c = (c.name.now, c.bytes.now)
+
+-- Lemma: as many bytes as there are
+pub all_are : (bytes run later : List ℕ) (n : ℕ) → n ≡ length bytes → bytes_at n bytes ≡ Ok (run, later) → run ≡ bytes
+all_are bytes run later n e h =
+    let le : nat_le n (length bytes) ≡ true = le-leb n (length bytes) (omega (arith, e)) in
+    let there = (rw le at h) in
+    let same : take n bytes ≡ run = ap (λ (p : List ℕ × List ℕ). p.0) (ok_is (take n bytes, drop n bytes) (run, later) there) in
+    sym same ∙ take_all n bytes (omega (arith, e))

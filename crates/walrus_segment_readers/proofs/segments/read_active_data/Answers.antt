@@ -1,0 +1,13 @@
+use Rattle.wasm_sections.specs.Segments.{contents, into_memory}
+use Rattle.wasm_reader.specs.Reading.{seen_bytes}
+use Rattle.walrus_section_reader.specs.Repeats.{unless_memory}
+use Rattle.walrus_section_values.specs.Globals.{expr_of}
+use Rattle.walrus_entry_readers.specs.State.{state_of}
+use Rattle.walrus_segment_readers.specs.Segments.{after_joined}
+use Rattle.walrus_segment_readers.proofs.segments.read_active_data.Goals as goal
+
+pub returns : goal.returns
+returns c =
+    let f = c.args.reader.now.window.features in
+    let s = state_of c.args.sections.now in
+    after_joined (into_memory f s 0) (λ _. contents) expr_of seen_bytes _ _ _ _ _ _ c.joined.ensures c.in_ok-first.ensures (unless_memory (contents).parse seen_bytes _ _ _ c.read_contents-second.ensures)

@@ -1,0 +1,13 @@
+use Rattle.wasm_sections.specs.Segments.{expressions, into_table}
+use Rattle.walrus_section_values.specs.Globals.{expr_of}
+use Rattle.walrus_entry_readers.specs.Leads.{by_window}
+use Rattle.walrus_entry_readers.specs.State.{state_of}
+use Rattle.walrus_segment_readers.specs.Lists.{exprs_of}
+use Rattle.walrus_segment_readers.specs.Segments.{after_joined}
+use Rattle.walrus_segment_readers.proofs.segments.read_active_expressions.Goals as goal
+
+pub returns : goal.returns
+returns c =
+    let f = c.args.reader.now.window.features in
+    let s = state_of c.args.sections.now in
+    after_joined (into_table f s 0) (λ _. expressions f s) expr_of exprs_of _ _ _ _ _ _ c.joined.ensures c.in_ok-first.ensures (by_window (λ f. (expressions f s).parse) exprs_of c.args.reader.now _ _ _ c.in_ok-first.ensures.moves c.read_expressions-second.ensures)

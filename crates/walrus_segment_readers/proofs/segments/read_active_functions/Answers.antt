@@ -1,0 +1,12 @@
+use Rattle.wasm_sections.specs.Segments.{functions, into_table}
+use Rattle.walrus_section_values.specs.Globals.{expr_of}
+use Rattle.walrus_entry_readers.specs.State.{state_of}
+use Rattle.walrus_segment_readers.specs.Lists.{numbers_of}
+use Rattle.walrus_segment_readers.specs.Segments.{after_joined}
+use Rattle.walrus_segment_readers.proofs.segments.read_active_functions.Goals as goal
+
+pub returns : goal.returns
+returns c =
+    let f = c.args.reader.now.window.features in
+    let s = state_of c.args.sections.now in
+    after_joined (into_table f s 0) (λ _. functions s) expr_of numbers_of _ _ _ _ _ _ c.joined.ensures c.in_ok-first.ensures c.read_functions-second.ensures

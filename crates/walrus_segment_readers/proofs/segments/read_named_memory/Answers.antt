@@ -1,0 +1,17 @@
+use Rattle.wasm_sections.specs.Segments.{into_memory}
+use Rattle.wasm_reader.specs.Reading.{plain}
+use Rattle.wasm_grammar.specs.Values.{index}
+use Rattle.walrus_section_reader.specs.Repeats.{unless_memory}
+use Rattle.walrus_section_values.specs.Globals.{expr_of}
+use Rattle.walrus_entry_readers.specs.Leads.{by_window}
+use Rattle.walrus_entry_readers.specs.State.{state_of}
+use Rattle.walrus_segment_readers.specs.Segments.{after_joined}
+use Rattle.std.proofs.Common.{ℕ, length}
+use Rattle.wasm_formats.specs.declared.fault.Space.TheVariants as spaces
+use Rattle.walrus_segment_readers.proofs.segments.read_named_memory.Goals as goal
+
+pub returns : goal.returns
+returns c =
+    let f = c.args.reader.now.window.features in
+    let s = state_of c.args.sections.now in
+    after_joined (index spaces.Memory (length s.filled.memories)) (λ n. into_memory f s n) (plain {X = ℕ}) expr_of _ _ _ _ _ _ c.joined.ensures (unless_memory (index spaces.Memory (length s.filled.memories)).parse (plain {X = ℕ}) _ _ _ c.in_ok-first.ensures) (by_window (λ f. (into_memory f s c.in_ok-first.first).parse) expr_of c.args.reader.now _ _ _ c.in_ok-first.ensures.moves c.read_into_memory-second.ensures)

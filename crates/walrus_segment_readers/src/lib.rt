@@ -1,0 +1,7 @@
+//! Element and data segments, read one by one (Core Specification, binary format: element section, data section).
+#![tactic(auto)]
+
+mod lists;
+mod segments;
+
+pub use segments::{DataForm, ElementForm, Elements, Segments};
