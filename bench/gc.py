@@ -4,8 +4,8 @@
     bench/gc.py [--rounds N] [--instructions]
 
 A time is the least of the rounds, and sizes take turns. The last column is the time an item at the last size against that at the first: 1 is
-linear, and at most 1.5 is wanted. With --instructions valgrind counts the instructions of the call at 10^3, 10^4 and 10^5 items, which no cache
-and no other work disturbs.
+linear, and at most 1.5 is wanted. With --instructions valgrind counts the instructions of the whole program at 10^3, 10^4 and 10^5 items, with
+those that make the module, which no cache and no other work disturbs.
 """
 import argparse
 import os
@@ -50,21 +50,12 @@ def least(rounds, shape, kept):
 
 
 def instructions(shape, kept):
-    """The instructions of the call at each size, with all that it calls."""
+    """The instructions of the whole program at each size."""
     found = []
     for count in COUNTED:
-        said = run(shape, count, kept, "valgrind", "--tool=callgrind", "--callgrind-out-file=/dev/null", f"--toggle-collect={call_name()}")
+        said = run(shape, count, kept, "valgrind", "--tool=callgrind", "--callgrind-out-file=/dev/null")
         found.append(int(re.search(r"Collected : (\d+)", said).group(1)))
     return found
-
-
-def call_name():
-    """The symbol of the call in the program."""
-    said = subprocess.run(["nm", PROGRAM], capture_output=True, text=True, check=True).stdout
-    names = [words[-1] for words in map(str.split, said.splitlines()) if "drop_unused" in words[-1]]
-    if len(names) != 1:
-        sys.exit(f"one symbol is wanted, and there are: {names}")
-    return names[0]
 
 
 def main():
