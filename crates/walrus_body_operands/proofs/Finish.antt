@@ -46,7 +46,7 @@ answers_of s labels ids code x y r t offset is test h =
 
 -- ---- steps
 
-bare_items : (x : Immediates) → is_bare (kind_is x) ≡ true → items_of x ≡ []
+pub bare_items : (x : Immediates) → is_bare (kind_is x) ≡ true → items_of x ≡ []
 bare_items imm.Bare h = refl
 bare_items (imm.Block ty) h = absurd cc
 bare_items (imm.TryTable ty cs) h = absurd cc

@@ -23,6 +23,7 @@ use Rattle.walrus_body_rules.specs.Rules.{form_rule, late_tests, items_test, ope
 use Rattle.walrus_body_operands.specs.Listed.{IsListed, is_bare, names_tag, names_label}
 use Rattle.walrus_body_operands.specs.Counted.{FramesAskLast}
 use Rattle.walrus_body_operands.proofs.Table.{flow_kind}
+use Rattle.walrus_body_operands.proofs.Finish.{bare_items}
 use Rattle.walrus_body_operands.proofs.Tests.{first_none, uncounted}
 
 -- nothing is asked behind the names
@@ -46,43 +47,6 @@ tag_late s op n = (refl, ap (λ (t : Option Trouble). first_of t None) (uncounte
 
 label_late : (s : Sight) (op : Operator) (n : ℕ) → Late s (Names Labels n ∷ []) op
 label_late s op n = (refl, ap (λ (t : Option Trouble). first_of t None) (uncounted s.has_data_count (false || false) refl))
-
-bare_items : (x : Immediates) → is_bare (kind_is x) ≡ true → items_of x ≡ []
-bare_items imm.Bare h = refl
-bare_items (imm.Block ty) h = absurd cc
-bare_items (imm.TryTable ty cs) h = absurd cc
-bare_items (imm.Tag n) h = absurd cc
-bare_items (imm.Label n) h = absurd cc
-bare_items (imm.BrTable ns n) h = absurd cc
-bare_items (imm.Function n) h = absurd cc
-bare_items (imm.TypeTable m n) h = absurd cc
-bare_items (imm.Type n) h = absurd cc
-bare_items (imm.Select tys) h = absurd cc
-bare_items (imm.Local n) h = absurd cc
-bare_items (imm.Global n) h = absurd cc
-bare_items (imm.Table n) h = absurd cc
-bare_items (imm.Access a) h = absurd cc
-bare_items (imm.Memory n) h = absurd cc
-bare_items (imm.I32 z) h = absurd cc
-bare_items (imm.I64 z) h = absurd cc
-bare_items (imm.F32 x) h = absurd cc
-bare_items (imm.F64 x) h = absurd cc
-bare_items (imm.Heap ty) h = absurd cc
-bare_items (imm.DataMemory m n) h = absurd cc
-bare_items (imm.Data n) h = absurd cc
-bare_items (imm.MemoryMemory m n) h = absurd cc
-bare_items (imm.ElementTable m n) h = absurd cc
-bare_items (imm.Element n) h = absurd cc
-bare_items (imm.TableTable m n) h = absurd cc
-bare_items (imm.TypeNumber m n) h = absurd cc
-bare_items (imm.TypeData m n) h = absurd cc
-bare_items (imm.TypeElement m n) h = absurd cc
-bare_items (imm.TypeType m n) h = absurd cc
-bare_items (imm.Cast b n from to) h = absurd cc
-bare_items (imm.Vector bytes) h = absurd cc
-bare_items (imm.Lane b) h = absurd cc
-bare_items (imm.AccessLane a b) h = absurd cc
-bare_items imm.Zero h = absurd cc
 
 tag_items : (x : Immediates) → names_tag (kind_is x) ≡ true → (n : ℕ) × (items_of x ≡ Names Tags n ∷ [])
 tag_items imm.Bare h = absurd cc
