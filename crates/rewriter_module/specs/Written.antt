@@ -4,7 +4,7 @@ use Rattle.wasm_model.specs.Module.{Module, Function, FunctionType, Operator, op
 use Rattle.wasm_model.specs.NormalForm.{normal_form}
 use Rattle.std.specs.Option.{option_map}
 use Rattle.wasm_model.specs.Part.{Renaming, renamed_export, renamed_operator}
-use Rattle.wasm_reader.specs.Shortest.{u32_bytes}
+use Rattle.wasm_model.specs.wasm_reader.Shortest.{u32_bytes}
 use Rattle.wasm_model.specs.Spelling.{operator_bytes, body_bytes, sized_bytes}
 use Rattle.rewriter_module.specs.declared.Numbering.{Numbering}
 

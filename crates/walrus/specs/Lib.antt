@@ -19,9 +19,9 @@ pub use Rattle.walrus_collection_laws.specs.Imports
 -- Items by space and id, and which live; replacing functions.
 pub use Rattle.walrus_roots.specs.Items
 pub use Rattle.walrus_marks.specs.Named
-pub use Rattle.walrus_module.specs.Items as ModuleItems
-pub use Rattle.walrus_module.specs.Parts as ModuleParts
-pub use Rattle.walrus_module.specs.Replaced
+pub use Rattle.walrus_meaning.specs.walrus_module.Items as ModuleItems
+pub use Rattle.walrus_meaning.specs.walrus_module.Parts as ModuleParts
+pub use Rattle.walrus_meaning.specs.walrus_module.Replaced
 -- Custom sections and producers.
 pub use Rattle.walrus_customs.specs.Producers
 pub use Rattle.wasm_producers.specs.Entries as ProducerEntries
@@ -30,16 +30,30 @@ pub use Rattle.walrus_sections.specs.Lends as SectionLends
 pub use Rattle.walrus_sections.specs.Refusals as SectionRefusals
 pub use Rattle.walrus_sections.specs.Sections
 -- Linked modules.
-pub use Rattle.walrus_linked.specs.Empty
-pub use Rattle.walrus_linked.specs.Kept
-pub use Rattle.walrus_linked.specs.Linked
-pub use Rattle.walrus_linked.specs.Names
-pub use Rattle.walrus_linked.specs.OwnIds
+pub use Rattle.walrus_meaning.specs.walrus_linked.Empty
+pub use Rattle.walrus_meaning.specs.walrus_linked.Kept
+pub use Rattle.walrus_meaning.specs.walrus_linked.Linked
+pub use Rattle.walrus_meaning.specs.walrus_linked.Names
+pub use Rattle.walrus_meaning.specs.walrus_linked.OwnIds
 pub use Rattle.walrus_linked_changes.specs.Changes as LinkedChanges
-pub use Rattle.walrus_linked_edits.specs.Edits
+pub use Rattle.walrus_linked_changes.specs.walrus_linked_edits.Edits
 -- What a module means.
 pub use Rattle.walrus_meaning.specs.Bodies
 pub use Rattle.walrus_meaning.specs.Laws as MeaningLaws
 pub use Rattle.walrus_meaning.specs.Meaning
 pub use Rattle.walrus_meaning.specs.Segments
 pub use Rattle.walrus_meaning.specs.Words
+-- What names what, what is kept, why a pass is refused, and what it leaves.
+pub use Rattle.walrus_passes_laws.specs.walrus_references.Kept as KeptItems
+pub use Rattle.walrus_passes_laws.specs.walrus_references.References
+pub use Rattle.walrus_passes_laws.specs.walrus_references.Roots as RootItems
+pub use Rattle.walrus_passes_laws.specs.walrus_exact.Exact
+pub use Rattle.walrus_passes_laws.specs.walrus_refusals.Sound
+pub use Rattle.walrus_passes_laws.specs.walrus_refusals.Written
+pub use Rattle.walrus_passes_laws.specs.walrus_passes.Asked
+pub use Rattle.walrus_passes_laws.specs.walrus_passes.Keeping
+pub use Rattle.walrus_passes_laws.specs.walrus_passes.Part
+pub use Rattle.walrus_passes_laws.specs.walrus_passes.UsedItems
+pub use Rattle.walrus_passes_laws.specs.LinkedKept
+pub use Rattle.walrus_passes_laws.specs.Served
+pub use Rattle.walrus_passes_laws.specs.Twice

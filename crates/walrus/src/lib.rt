@@ -10,7 +10,7 @@ pub use walrus_config::ModuleConfig;
 pub use walrus_customs::{ModuleProducers, ProducerField, ProducerValue, RawCustomSection};
 pub use walrus_errors::{ErrorKind, Form, Limited, ModuleError, Result, Space};
 pub use walrus_local_function::LocalFunction;
-pub use walrus_module::Module;
+pub use walrus_meaning::module::Module;
 pub use walrus_module_items::{
     Data, DataKind, Element, ElementItems, ElementKind, Export, ExportItem, FuncParams,
     FuncResults, Function, FunctionKind, Global, GlobalKind, Import, ImportKind, ImportedFunction,
@@ -20,6 +20,12 @@ pub use walrus_sections::{
     CodeTransform, CustomSection, ModuleCustomSections, Section, SectionFault, Sections,
 };
 
+/// What of a module is used, and dropping the rest.
+pub mod passes {
+    pub use walrus_passes_laws::passes::{Used, gc};
+    pub use walrus_roots::Roots;
+}
+
 /// Laws of the words that contracts cite.
 pub mod laws {
     /// What the iterators of collections give, when imports are equal, and that calls keep the items' own ids.
@@ -27,13 +33,16 @@ pub mod laws {
 
     /// When a module is linked, and what edits keep of that.
     pub mod linked {
-        pub use walrus_linked::{empty_is_linked, imports_keep_linked, own_ids_are_kept};
-        pub use walrus_linked_changes::{deletes_keep_linked, writes_keep_linked};
-        pub use walrus_linked_edits::{
+        pub use walrus_linked_changes::linked_edits::{
             adds_keep_linked, deleted_exports_keep_linked, replaces_keep_linked,
         };
+        pub use walrus_linked_changes::{deletes_keep_linked, writes_keep_linked};
+        pub use walrus_meaning::linked::{empty_is_linked, imports_keep_linked, own_ids_are_kept};
     }
 
     /// What a module means.
     pub use walrus_meaning as meaning;
+
+    /// What passes keep of a module.
+    pub use walrus_passes_laws as passes;
 }

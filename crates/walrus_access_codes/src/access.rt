@@ -4,9 +4,11 @@ ghost use Rattle.std.specs.Prelude.{◌≡◌, ◌<◌, slice_get};
 ghost use Rattle.walrus_operator_codes.specs.Runs.{in_runs};
 ghost use Rattle.walrus_access_codes.specs.Access.{byte_loads, atomic_loads, load_at, byte_stores, atomic_stores, store_at, vector_accesses, lane_accesses, simd_at, widths_in_order, at_widths, atomic_changes, rmw_at, cmpxchg_at, load_code, store_code, simd_code, simd_lane, width_place, first_code, rmw_code, cmpxchg_code};
 
-use walrus_instr::{AtomicOp, AtomicWidth, ExtendedLoad, LoadKind, LoadSimdKind, StoreKind};
+use walrus_operator_codes::instr::{
+    AtomicOp, AtomicWidth, ExtendedLoad, LoadKind, LoadSimdKind, StoreKind,
+};
+use walrus_operator_codes::operator_table::OpCode;
 use walrus_operator_codes::{atomic, byte, pick, vector};
-use wasm_operators::OpCode;
 
 #[tactic(auto, unfolding(crate::specs::Access::byte_loads))]
 fn load_of_byte(number: u32) -> Option<LoadKind>

@@ -1,12 +1,12 @@
 //! What a body needs to know of its module.
 
 ghost use Rattle.std.specs.Prelude.{◌≡◌, ℕ, Bool, List, Option, option_copied};
-ghost use Rattle.walrus_forms.specs.declared.value.ValType.{ValType as Value};
+ghost use Rattle.walrus_instr.specs.walrus_forms.declared.value.ValType.{ValType as Value};
 ghost use Rattle.walrus_instr.specs.declared.seq.InstrSeqType.{InstrSeqType as BlockTy};
 
 use walrus_arena::{LocalId, MemoryId, TagId, TypeId};
 use walrus_instr::InstrSeqType;
-use walrus_types::ValType;
+use walrus_instr::type_table::ValType;
 
 /// What a body needs to know of its module. Each answer is a function of the module.
 pub trait BodyEnv {

@@ -8,3 +8,6 @@ mod validator;
 pub use env::BodyEnv;
 pub use error::BodyError;
 pub use validator::{AcceptAll, Validator};
+
+// Passed on to crates above, which then list this one alone.
+pub use walrus_instr as instr;

@@ -1,7 +1,7 @@
 //! Who validates a body.
 
 ghost use Rattle.std.specs.Prelude.{◌≡◌, ℕ, Option};
-ghost use Rattle.wasm_operators.specs.Operators.{Seen};
+ghost use Rattle.walrus_operators.specs.wasm_operators.Operators.{Seen};
 ghost use Rattle.wasm_ref_types.specs.declared.value.ValType.{ValType as Value};
 ghost use Rattle.walrus_operators.specs.Operators.{seen};
 ghost use Rattle.walrus_body_env.specs.declared.error.BodyError.{BodyError as Fault};

@@ -19,7 +19,7 @@ use Rattle.walrus_pairing.specs.Looks.{Look, Or, ◌>>=◌, found}
 use Rattle.walrus_pairing.specs.Types.{written_heap, written_value}
 use Rattle.walrus_pairing.specs.Write.{op, either, one, two, counted, access, access_of, lane_items, heap, test_code, cast_code, operator_at}
 use Rattle.walrus_body_names.specs.Names.{local_in, segment_in}
-use Rattle.walrus_body_writer.specs.Spelled.{block, clauses, type_in, written_instr}
+use Rattle.walrus_body_names.specs.walrus_body_writer.Spelled.{block, clauses, type_in, written_instr}
 use Rattle.walrus_body_laws.proofs.Codes.{unary_runs, binary_runs, ternary_runs, simd_runs, load_runs, store_runs, rmw_runs, cmpxchg_runs, test_runs, cast_runs}
 use Rattle.walrus_body_laws.specs.Naming.{role_at, instr_role, locals_of, segments_of, Told}
 

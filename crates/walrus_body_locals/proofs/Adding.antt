@@ -3,7 +3,7 @@ use Rattle.std.proofs.Common.{ℕ, zero, suc, ◌≡◌, ◌+◌, ◌==◌, Bool
 use Rattle.std.specs.List.{repeat}
 use Rattle.std.proofs.lemmas.List.{append_assoc, length-append}
 use Rattle.walrus_forms.specs.declared.value.ValType.{ValType}
-use Rattle.walrus_items.specs.declared.local.Local.{Local}
+use Rattle.walrus_pairing.specs.walrus_items.declared.local.Local.{Local}
 use Rattle.walrus_index_maps.specs.Maps.{Ids, with_last}
 use Rattle.walrus_body_locals.specs.Locals.{locals_from, ids_from, with_more, with_locals, Adds, Leaves}
 

@@ -5,10 +5,10 @@ use Rattle.wasm_reader.specs.declared.error.ErrorKind.{ErrorKind}
 use Rattle.wasm_reader.specs.declared.error.ErrorKind.TheVariants as kinds
 use Rattle.wasm_reader.specs.Cursor.{Window, Cursor, end_of, Forward}
 use Rattle.wasm_formats.specs.Stops.{Read, stop}
-use Rattle.walrus_body_env.specs.declared.error.BodyError.{BodyError}
-use Rattle.walrus_body_env.specs.declared.error.BodyError.TheVariants as faults
-use Rattle.walrus_body_env.specs.Faults.{fault_of_kind, read_fault}
-use Rattle.walrus_body_env.specs.Faults as env
+use Rattle.walrus_body_nesting.specs.walrus_body_env.declared.error.BodyError.{BodyError}
+use Rattle.walrus_body_nesting.specs.walrus_body_env.declared.error.BodyError.TheVariants as faults
+use Rattle.walrus_body_nesting.specs.walrus_body_env.Faults.{fault_of_kind, read_fault}
+use Rattle.walrus_body_nesting.specs.walrus_body_env.Faults as env
 use Rattle.walrus_body_locals.specs.Calls.{IsFaultOf}
 
 pub end_stays : (old new : Cursor) → Forward old new → end_of new ≡ end_of old

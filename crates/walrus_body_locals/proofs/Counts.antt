@@ -9,13 +9,13 @@ use Rattle.walrus_forms.specs.declared.value.ValType.{ValType}
 use Rattle.walrus_forms.specs.Renaming.{at, renamed_value}
 use Rattle.wasm_formats.specs.declared.fault.Limited.TheVariants as limits
 use Rattle.wasm_formats.specs.Stops.{Limit, stop, Parsing}
-use Rattle.wasm_grammar.specs.TypeWords.{value_from}
-use Rattle.wasm_grammar.specs.Values.{value_type}
-use Rattle.wasm_body_grammar.specs.Bodies.{Run}
-use Rattle.walrus_body_env.specs.declared.error.BodyError.{BodyError}
-use Rattle.walrus_body_env.specs.declared.error.BodyError.TheVariants as faults
-use Rattle.walrus_body_env.specs.Faults.{fault_of_kind, read_fault}
-use Rattle.walrus_body_env.specs.Faults as env
+use Rattle.walrus_body_nesting.specs.wasm_grammar.TypeWords.{value_from}
+use Rattle.walrus_body_nesting.specs.wasm_grammar.Values.{value_type}
+use Rattle.walrus_body_nesting.specs.wasm_body_grammar.Bodies.{Run}
+use Rattle.walrus_body_nesting.specs.walrus_body_env.declared.error.BodyError.{BodyError}
+use Rattle.walrus_body_nesting.specs.walrus_body_env.declared.error.BodyError.TheVariants as faults
+use Rattle.walrus_body_nesting.specs.walrus_body_env.Faults.{fault_of_kind, read_fault}
+use Rattle.walrus_body_nesting.specs.walrus_body_env.Faults as env
 use Rattle.walrus_body_locals.specs.Calls.{Parses}
 use Rattle.walrus_body_locals.specs.Told.{Tells}
 use Rattle.walrus_body_locals.proofs.Answering.{end_stays, accepted, barred}

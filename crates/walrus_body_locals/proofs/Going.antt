@@ -12,16 +12,16 @@ use Rattle.wasm_reader.specs.Numbers.{unsigned_at}
 use Rattle.wasm_reader.specs.Cursor.{Window, Cursor, rest, end_of, Forward}
 use Rattle.walrus_forms.specs.declared.value.ValType.{ValType}
 use Rattle.walrus_forms.specs.Renaming.{at, renamed_value}
-use Rattle.walrus_items.specs.declared.local.Local.{Local}
+use Rattle.walrus_pairing.specs.walrus_items.declared.local.Local.{Local}
 use Rattle.walrus_index_maps.specs.Maps.{Ids}
 use Rattle.wasm_formats.specs.Stops.{Read, stop, Parsing}
 use Rattle.wasm_formats.specs.Wholes.{u32}
-use Rattle.wasm_body_grammar.specs.Rules.{Around}
-use Rattle.wasm_body_grammar.specs.Bodies as grammar
-use Rattle.wasm_body_grammar.specs.Bodies.{Run, next_total, declared}
-use Rattle.walrus_body_env.specs.declared.error.BodyError.{BodyError}
-use Rattle.walrus_body_env.specs.declared.error.BodyError.TheVariants as faults
-use Rattle.walrus_body_env.specs.Faults.{read_fault}
+use Rattle.walrus_body_nesting.specs.wasm_body_grammar.Rules.{Around}
+use Rattle.walrus_body_nesting.specs.wasm_body_grammar.Bodies as grammar
+use Rattle.walrus_body_nesting.specs.wasm_body_grammar.Bodies.{Run, next_total, declared}
+use Rattle.walrus_body_nesting.specs.walrus_body_env.declared.error.BodyError.{BodyError}
+use Rattle.walrus_body_nesting.specs.walrus_body_env.declared.error.BodyError.TheVariants as faults
+use Rattle.walrus_body_nesting.specs.walrus_body_env.Faults.{read_fault}
 use Rattle.walrus_body_locals.specs.Calls.{IsFaultOf}
 use Rattle.walrus_body_locals.specs.Told.{Telling, Fails, AnswersTold, Tells, Pass, pass_on, pass_entries}
 use Rattle.walrus_body_locals.specs.Locals.{IsRunOf, run_in, IsSeen, FailRuns, Adds, Declares}

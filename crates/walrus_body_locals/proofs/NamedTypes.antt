@@ -23,15 +23,15 @@ use Rattle.wasm_formats.specs.declared.fault.Form.TheVariants as unsupported
 use Rattle.wasm_formats.specs.Stops.{Unsupported, stop, Stop, Parsing}
 use Rattle.wasm_formats.specs.Parts.{told_as}
 use Rattle.wasm_formats.specs.Joined.{tested}
-use Rattle.wasm_grammar.specs.TypeWords.{value_of}
-use Rattle.wasm_grammar.specs.Values.{value_type, named_below}
+use Rattle.walrus_body_nesting.specs.wasm_grammar.TypeWords.{value_of}
+use Rattle.walrus_body_nesting.specs.wasm_grammar.Values.{value_type, named_below}
 use Rattle.walrus_forms.specs.declared.value.AbstractHeapType.TheVariants as words
 use Rattle.walrus_forms.specs.declared.value.HeapType.TheVariants as into
 use Rattle.walrus_forms.specs.declared.value.ValType.TheVariants.{I32, I64, F32, F64, V128, Ref}
 use Rattle.walrus_forms.specs.Values.{value_name}
 use Rattle.walrus_pairing.specs.declared.error.PairError.{PairError}
 use Rattle.walrus_pairing.specs.Types.{read_value}
-use Rattle.walrus_body_env.specs.declared.error.BodyError.{BodyError}
+use Rattle.walrus_body_nesting.specs.walrus_body_env.declared.error.BodyError.{BodyError}
 use Rattle.walrus_body_nesting.specs.Faults.{fault_at}
 use Rattle.walrus_body_locals.specs.Calls.{Answers, Parses}
 use Rattle.walrus_body_locals.specs.Locals.{IsTypeOf, trouble_of}

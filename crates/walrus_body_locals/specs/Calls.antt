@@ -2,8 +2,8 @@
 use Rattle.std.specs.Prelude.{◌≡◌, ◌⊎◌, ℕ, ◌-◌, List, Some, Result, Ok, Err}
 use Rattle.wasm_reader.specs.Cursor.{Cursor, rest, end_of, Forward}
 use Rattle.wasm_formats.specs.Stops.{Stop, Parsing}
-use Rattle.walrus_body_env.specs.declared.error.BodyError.{BodyError}
-use Rattle.walrus_body_env.specs.declared.error.BodyError.TheVariants.{Memory}
+use Rattle.walrus_body_nesting.specs.walrus_body_env.declared.error.BodyError.{BodyError}
+use Rattle.walrus_body_nesting.specs.walrus_body_env.declared.error.BodyError.TheVariants.{Memory}
 use Rattle.walrus_body_nesting.specs.Faults.{fault_at}
 
 -- the fault where reading stops so, in bytes that end at this offset

@@ -7,7 +7,7 @@ use Rattle.walrus_forms.specs.declared.value.ValType.{ValType}
 use Rattle.walrus_forms.specs.Renaming.{at, renamed_value}
 use Rattle.walrus_pairing.specs.declared.error.PairError.{PairError}
 use Rattle.walrus_pairing.specs.declared.error.PairError.TheVariants as errors
-use Rattle.walrus_items.specs.declared.local.Local.{Local}
+use Rattle.walrus_pairing.specs.walrus_items.declared.local.Local.{Local}
 use Rattle.walrus_index_maps.specs.Maps.{Ids}
 use Rattle.wasm_formats.specs.declared.fault.Limited.TheVariants as limits
 use Rattle.wasm_formats.specs.declared.fault.Form.TheVariants as unsupported
@@ -16,13 +16,13 @@ use Rattle.wasm_formats.specs.Stops.{Trouble, Index, Unsupported, Stop, Limit}
 use Rattle.wasm_formats.specs.Formats.{Format}
 use Rattle.wasm_formats.specs.Joined.{checked, after}
 use Rattle.wasm_formats.specs.Wholes.{u32}
-use Rattle.wasm_grammar.specs.Values.{must, value_type}
-use Rattle.wasm_grammar.specs.TypeWords.{value_from}
-use Rattle.wasm_grammar.specs.States.{types_of}
-use Rattle.wasm_body_grammar.specs.Rules.{Around}
-use Rattle.wasm_body_grammar.specs.Bodies as grammar
-use Rattle.wasm_body_grammar.specs.Bodies.{Run, next_total, most_locals, declared}
-use Rattle.walrus_body_env.specs.declared.error.BodyError.{BodyError}
+use Rattle.walrus_body_nesting.specs.wasm_grammar.Values.{must, value_type}
+use Rattle.walrus_body_nesting.specs.wasm_grammar.TypeWords.{value_from}
+use Rattle.walrus_body_nesting.specs.wasm_grammar.States.{types_of}
+use Rattle.walrus_body_nesting.specs.wasm_body_grammar.Rules.{Around}
+use Rattle.walrus_body_nesting.specs.wasm_body_grammar.Bodies as grammar
+use Rattle.walrus_body_nesting.specs.wasm_body_grammar.Bodies.{Run, next_total, most_locals, declared}
+use Rattle.walrus_body_nesting.specs.walrus_body_env.declared.error.BodyError.{BodyError}
 use Rattle.walrus_body_locals.specs.Calls.{IsFaultOf}
 use Rattle.walrus_body_locals.specs.Told.{Telling, Pass, Fails}
 

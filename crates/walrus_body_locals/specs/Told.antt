@@ -5,8 +5,8 @@ use Rattle.wasm_reader.specs.Cursor.{Cursor, rest, end_of, Forward}
 use Rattle.wasm_formats.specs.Stops.{Stop, Parsing}
 use Rattle.wasm_formats.specs.Formats.{Format}
 use Rattle.wasm_formats.specs.Lists.{parse_entries}
-use Rattle.walrus_body_env.specs.declared.error.BodyError.{BodyError}
-use Rattle.walrus_body_env.specs.declared.error.BodyError.TheVariants.{Memory}
+use Rattle.walrus_body_nesting.specs.walrus_body_env.declared.error.BodyError.{BodyError}
+use Rattle.walrus_body_nesting.specs.walrus_body_env.declared.error.BodyError.TheVariants.{Memory}
 use Rattle.walrus_body_locals.specs.Calls.{IsFaultOf}
 
 -- what a validator answers that is told of an entry at this offset: why it refuses it, and what it is left as

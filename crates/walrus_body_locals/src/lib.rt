@@ -5,3 +5,7 @@ mod runs;
 mod value_types;
 
 pub use runs::read_locals;
+
+// Passed on to crates above, which then list this one alone.
+pub use walrus_body_nesting as body_nesting;
+pub use walrus_body_nesting::body_env;

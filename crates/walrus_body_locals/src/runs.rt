@@ -5,9 +5,9 @@ ghost use Rattle.std.specs.List.{repeat};
 ghost use Rattle.wasm_reader.specs.Cursor.{Forward, rest, end_of};
 ghost use Rattle.wasm_reader.specs.Reading.{plain};
 ghost use Rattle.walrus_index_maps.specs.Views.{ids};
-ghost use Rattle.wasm_body_grammar.specs.Rules.{Around};
-ghost use Rattle.wasm_body_grammar.specs.Bodies.{run};
-ghost use Rattle.walrus_body_env.specs.declared.error.BodyError.TheVariants.{Memory as WantsMemory};
+ghost use Rattle.walrus_body_nesting.specs.wasm_body_grammar.Rules.{Around};
+ghost use Rattle.walrus_body_nesting.specs.wasm_body_grammar.Bodies.{run};
+ghost use Rattle.walrus_body_nesting.specs.walrus_body_env.declared.error.BodyError.TheVariants.{Memory as WantsMemory};
 ghost use Rattle.walrus_body_locals.specs.Calls.{Parses};
 ghost use Rattle.walrus_body_locals.specs.Told.{Tells};
 ghost use Rattle.walrus_body_locals.specs.Locals.{Adds, Declares, FailRuns, IsRunOf, IsSeen, Leaves, count_in, run_in, run_told};
@@ -15,9 +15,9 @@ ghost use Rattle.walrus_body_locals.specs.Locals.{Adds, Declares, FailRuns, IsRu
 use crate::value_types::read_type;
 use std::alloc::{AllocError, Global};
 use walrus_arena::FunctionId;
-use walrus_body_env::{BodyError, Validator};
+use walrus_body_nesting::body_env::{BodyError, Validator};
 use walrus_index_maps::IndicesToIds;
-use walrus_types::{ModuleLocals, ValType};
+use walrus_pairing::type_table::{ModuleLocals, ValType};
 use wasm_formats::Limited;
 use wasm_reader::BinaryReader;
 

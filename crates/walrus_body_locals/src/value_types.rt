@@ -2,16 +2,16 @@
 
 ghost use Rattle.std.specs.Prelude.{◌≡◌, length, Some};
 ghost use Rattle.walrus_index_maps.specs.Views.{ids};
-ghost use Rattle.wasm_grammar.specs.Values.{value_type};
+ghost use Rattle.walrus_body_nesting.specs.wasm_grammar.Values.{value_type};
 ghost use Rattle.walrus_body_locals.specs.Calls.{Parses};
 ghost use Rattle.walrus_body_locals.specs.Locals.{IsTypeOf, trouble_of};
 ghost use Rattle.walrus_body_nesting.specs.Faults.{fault_at};
 
 use std::alloc::Global;
-use walrus_body_env::BodyError;
+use walrus_body_nesting::body_env::BodyError;
 use walrus_index_maps::IndicesToIds;
+use walrus_pairing::type_table::ValType;
 use walrus_pairing::{PairError, read_value};
-use walrus_types::ValType;
 use wasm_formats::{Form, Space};
 use wasm_reader::{BinaryReader, FromReader};
 use wasm_ref_types as written;

@@ -6,7 +6,7 @@ use Rattle.walrus_instr.specs.declared.instr.Instr.{Instr}
 use Rattle.walrus_instr.specs.declared.instr.Instr.TheVariants.{Const, MemoryInit, DataDrop, ArrayNewData, ArrayInitData, LocalGet, LocalSet, LocalTee}
 use Rattle.walrus_instr.specs.declared.seq.InstrLocId.{InstrLocId}
 use Rattle.walrus_instr.specs.declared.seq.InstrSeq.{InstrSeq}
-use Rattle.walrus_tree.specs.Text.{Piece, Operator}
+use Rattle.walrus_body_writer.specs.walrus_tree.Text.{Piece, Operator}
 use Rattle.walrus_body_writer.specs.Spelled.{Text}
 
 -- the data segment that an instruction names, if it names one

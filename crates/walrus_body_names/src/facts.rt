@@ -2,7 +2,7 @@
 
 ghost use Rattle.std.specs.Prelude.{◌≡◌, slice_get, IfErr, IfOk};
 ghost use Rattle.walrus_builder.specs.Functions.{seqs_of};
-ghost use Rattle.walrus_tree.specs.Text.{operators};
+ghost use Rattle.walrus_body_writer.specs.walrus_tree.Text.{operators};
 ghost use Rattle.walrus_body_writer.specs.Emitting.{IsCause};
 ghost use Rattle.walrus_body_writer.specs.Visiting.{text_size};
 ghost use Rattle.walrus_body_names.specs.Names.{AreSet, are_constants, has_any, is_constant, local_in, segment_in, text_names};
@@ -11,7 +11,7 @@ use crate::distinct::distinct;
 use crate::names::{local_of, named_segments, segment_of};
 use std::alloc::{AllocError, Global};
 use walrus_arena::{DataId, LocalId};
-use walrus_body_env::BodyError;
+use walrus_body_writer::body_env::BodyError;
 use walrus_body_writer::{Closer, TextVisitor, visit_text};
 use walrus_builder::FunctionBuilder;
 use walrus_instr::{Instr, InstrLocId};

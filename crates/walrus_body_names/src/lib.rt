@@ -7,3 +7,7 @@ mod names;
 
 pub use facts::{FunctionFacts, emit_facts, is_const, used_data_segments};
 pub use names::{named_locals, named_segments};
+
+// Passed on to crates above, which then list this one alone.
+pub use walrus_body_writer as body_writer;
+pub use walrus_body_writer::body_env;

@@ -2,12 +2,12 @@
 use Rattle.std.proofs.Common.{ℕ, ◌<◌, ◌≤◌, ◌≡◌, Bool, true, false, List, [], ◌∷◌, ◌++◌, length, Option, Some, None, refl, sym, ap, subst, arith, ◌∙◌, append-nil}
 use Rattle.std.specs.Prelude.{slice_get}
 use Rattle.std.proofs.lemmas.List.{append_assoc}
-use Rattle.walrus_instr.specs.declared.instr.Instr.{Instr}
-use Rattle.walrus_instr.specs.declared.seq.InstrLocId.{InstrLocId}
-use Rattle.walrus_instr.specs.declared.seq.InstrSeqType.{InstrSeqType}
+use Rattle.walrus_body_env.specs.walrus_instr.declared.instr.Instr.{Instr}
+use Rattle.walrus_body_env.specs.walrus_instr.declared.seq.InstrLocId.{InstrLocId}
+use Rattle.walrus_body_env.specs.walrus_instr.declared.seq.InstrSeqType.{InstrSeqType}
 use Rattle.walrus_builder.specs.Built.{Seq, edited, filled_with, empty_seq}
-use Rattle.wasm_operators.specs.Operators.{Seen}
-use Rattle.wasm_operators.specs.Table.{structure_rows}
+use Rattle.wasm_body_grammar.specs.wasm_operators.Operators.{Seen}
+use Rattle.wasm_body_grammar.specs.wasm_operators.Table.{structure_rows}
 use Rattle.wasm_normal_form.specs.Roles.{Ends, else_op, end_op}
 use Rattle.wasm_normal_form.specs.Trees.{Tree, Close, Arm, Nest, prepend, innermost}
 use Rattle.wasm_normal_form.specs.Normal.{picked, end_place, closed, normal_from}

@@ -1,6 +1,6 @@
 -- Why a body is refused, in words of its grammar.
 use Rattle.std.specs.Prelude.{◌≡◌, ◌⊎◌, ℕ, Option, Some, None, Result, Ok, Err}
-use Rattle.wasm_formats.specs.Stops.{Trouble, Read, Index, TypeForm, Nesting, Position, Operator, Unsupported, Bounds, Limit}
+use Rattle.wasm_body_grammar.specs.wasm_formats.Stops.{Trouble, Read, Index, TypeForm, Nesting, Position, Operator, Unsupported, Bounds, Limit}
 use Rattle.walrus_body_env.specs.declared.error.BodyError.{BodyError}
 use Rattle.walrus_body_env.specs.declared.error.BodyError.TheVariants as faults
 

@@ -1,11 +1,11 @@
 -- Lemmas: a `nop`, an operator that runs, and one that opens a block, over what open sequences grow into.
 use Rattle.std.proofs.Common.{ℕ, ◌≤◌, ◌≡◌, Bool, true, false, List, [], ◌∷◌, ◌++◌, length, Option, refl, sym, ap, subst, arith, ◌∙◌}
 use Rattle.std.proofs.lemmas.List.{append_assoc}
-use Rattle.walrus_instr.specs.declared.instr.Instr.{Instr}
-use Rattle.walrus_instr.specs.declared.seq.InstrLocId.{InstrLocId}
-use Rattle.walrus_instr.specs.declared.seq.InstrSeqType.{InstrSeqType}
+use Rattle.walrus_body_env.specs.walrus_instr.declared.instr.Instr.{Instr}
+use Rattle.walrus_body_env.specs.walrus_instr.declared.seq.InstrLocId.{InstrLocId}
+use Rattle.walrus_body_env.specs.walrus_instr.declared.seq.InstrSeqType.{InstrSeqType}
 use Rattle.walrus_builder.specs.Built.{Seq, empty_seq}
-use Rattle.wasm_operators.specs.Operators.{Seen}
+use Rattle.wasm_body_grammar.specs.wasm_operators.Operators.{Seen}
 use Rattle.wasm_body_grammar.specs.Frames.{Frame}
 use Rattle.wasm_normal_form.specs.Roles.{Passes, Runs, Opens, cuts, is_if}
 use Rattle.wasm_normal_form.specs.Trees.{Tree, Skip, Run, Nest, prepend}

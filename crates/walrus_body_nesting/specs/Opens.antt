@@ -2,14 +2,14 @@
 use Rattle.std.specs.Prelude.{◌≡◌, ◌≢◌, ℕ, ◌<◌, ◌≤◌, Bool, true, false, List, [], ◌∷◌, ◌++◌, length, Option, Some, Ok, slice_get}
 use Rattle.std.specs.Option.{option_map}
 use Rattle.std.specs.Global.{Vec}
-use Rattle.walrus_instr.specs.declared.instr.Instr.{Instr}
-use Rattle.walrus_instr.specs.declared.instr.Instr.TheVariants as instr
-use Rattle.walrus_instr.specs.declared.instr.LegacyCatch.{LegacyCatch}
-use Rattle.walrus_instr.specs.declared.seq.InstrLocId.{InstrLocId}
-use Rattle.walrus_instr.specs.declared.seq.InstrSeqType.{InstrSeqType}
+use Rattle.walrus_body_env.specs.walrus_instr.declared.instr.Instr.{Instr}
+use Rattle.walrus_body_env.specs.walrus_instr.declared.instr.Instr.TheVariants as instr
+use Rattle.walrus_body_env.specs.walrus_instr.declared.instr.LegacyCatch.{LegacyCatch}
+use Rattle.walrus_body_env.specs.walrus_instr.declared.seq.InstrLocId.{InstrLocId}
+use Rattle.walrus_body_env.specs.walrus_instr.declared.seq.InstrSeqType.{InstrSeqType}
 use Rattle.walrus_builder.specs.Built.{Seq}
-use Rattle.wasm_immediates.specs.declared.block_type.BlockType.{BlockType}
-use Rattle.wasm_operators.specs.Operators.{Seen, flow_of}
+use Rattle.wasm_normal_form.specs.wasm_immediates.declared.block_type.BlockType.{BlockType}
+use Rattle.wasm_body_grammar.specs.wasm_operators.Operators.{Seen, flow_of}
 use Rattle.wasm_body_grammar.specs.Frames.{Frame, Plain, Choice, turned}
 use Rattle.wasm_normal_form.specs.Roles.{role}
 use Rattle.wasm_normal_form.specs.Trees.{Tree, Nest, prepend, innermost}
@@ -18,7 +18,7 @@ use Rattle.walrus_body_nesting.specs.declared.frames.Opener.{Opener}
 use Rattle.walrus_body_nesting.specs.declared.frames.Opener.TheVariants as openers
 use Rattle.walrus_body_nesting.specs.declared.frames.Reach.{Reach}
 use Rattle.walrus_body_nesting.specs.declared.frames.Reach.TheVariants.{Live, Cut, Dropped}
-use Rattle.walrus_body_nesting.specs.Stands.{Turn, Otherwise, Part, part, Finish, Ended, Block, parts_of, finish_of, Meaning, place_in, none, lies, Enters, StandsAs}
+use Rattle.walrus_body_nesting.specs.Stands.{Turn, Otherwise, Part, part, Finish, Ended, Block, parts_of, finish_of, EndsOnce, Meaning, place_in, none, lies, Enters, StandsAs}
 
 -- an open sequence: what opened its block, where, and the block's type and first sequence; itself, what kind of part it is and the parts
 -- begun behind the first one; whether what comes next is reached; its instructions
@@ -150,7 +150,7 @@ abbrev pub Makes : Opener → Instr → Block → Type 0
 Makes openers.Block i q = (i ≡ instr.Block q.first) × (q.more ≡ []) × (q.finish ≡ Ended)
 Makes openers.Loop i q = (i ≡ instr.Loop q.first) × (q.more ≡ []) × (q.finish ≡ Ended)
 Makes openers.If i q = (k : ℕ) × (i ≡ instr.IfElse q.first k) × (q.more ≡ part Otherwise k ∷ []) × (q.finish ≡ Ended)
-Makes openers.Try i q = (cs : Vec LegacyCatch) × (i ≡ instr.Try q.first cs) × (q.more ≡ parts_of cs.items) × (q.finish ≡ finish_of cs.items)
+Makes openers.Try i q = (cs : Vec LegacyCatch) × (i ≡ instr.Try q.first cs) × (q.more ≡ parts_of cs.items) × (q.finish ≡ finish_of cs.items) × EndsOnce cs.items
 Makes (openers.TryTable cs) i q = (i ≡ instr.TryTable q.first cs) × (q.more ≡ []) × (q.finish ≡ Ended)
 
 -- a block that was opened so, inside these sequences

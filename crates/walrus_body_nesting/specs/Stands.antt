@@ -1,12 +1,12 @@
 -- When sequences stand as a tree.
 use Rattle.std.specs.Prelude.{◌≡◌, ℕ, ◌==◌, Bool, true, false, List, [], ◌∷◌, Option, Some, None, if◌then◌else◌, slice_get}
-use Rattle.walrus_instr.specs.declared.instr.Instr.{Instr}
-use Rattle.walrus_instr.specs.declared.instr.LegacyCatch.{LegacyCatch}
-use Rattle.walrus_instr.specs.declared.instr.LegacyCatch.TheVariants as legacy
-use Rattle.walrus_instr.specs.declared.seq.InstrLocId.{InstrLocId}
-use Rattle.walrus_instr.specs.declared.seq.InstrSeqType.{InstrSeqType}
+use Rattle.walrus_body_env.specs.walrus_instr.declared.instr.Instr.{Instr}
+use Rattle.walrus_body_env.specs.walrus_instr.declared.instr.LegacyCatch.{LegacyCatch}
+use Rattle.walrus_body_env.specs.walrus_instr.declared.instr.LegacyCatch.TheVariants as legacy
+use Rattle.walrus_body_env.specs.walrus_instr.declared.seq.InstrLocId.{InstrLocId}
+use Rattle.walrus_body_env.specs.walrus_instr.declared.seq.InstrSeqType.{InstrSeqType}
 use Rattle.walrus_builder.specs.Built.{Seq}
-use Rattle.wasm_operators.specs.Operators.{Seen}
+use Rattle.wasm_body_grammar.specs.wasm_operators.Operators.{Seen}
 use Rattle.wasm_normal_form.specs.Trees.{Tree, Close, Arm, Run, Nest}
 
 -- what begins a further part of a block: an `else`, or the `catch` of a tag, or `catch_all`, of a legacy `try`
@@ -49,6 +49,13 @@ finish_of [] = Ended
 finish_of (legacy.Catch tag k ∷ cs) = finish_of cs
 finish_of (legacy.CatchAll k ∷ cs) = finish_of cs
 finish_of (legacy.Delegate n ∷ cs) = Delegated n
+
+-- no part stands behind a `delegate`
+abbrev pub EndsOnce : List LegacyCatch → Type 0
+EndsOnce [] = Unit {0}
+EndsOnce (legacy.Catch tag k ∷ cs) = EndsOnce cs
+EndsOnce (legacy.CatchAll k ∷ cs) = EndsOnce cs
+EndsOnce (legacy.Delegate n ∷ cs) = cs ≡ []
 
 -- what instructions stand for, by the operators and the module that they were read from
 pub record Meaning : Type 1 where

@@ -1,13 +1,13 @@
 -- Lemmas: each operator is a step.
 use Rattle.std.proofs.Common.{ℕ, ◌≤◌, ◌≡◌, Bool, true, false, List, [], ◌∷◌, ◌++◌, length, Option, Some, None, refl, sym, ap, subst, arith, ◌∙◌}
 use Rattle.std.specs.Prelude.{Ok}
-use Rattle.walrus_instr.specs.declared.instr.Instr.{Instr}
-use Rattle.walrus_instr.specs.declared.seq.InstrLocId.{InstrLocId}
-use Rattle.walrus_instr.specs.declared.seq.InstrSeqType.{InstrSeqType}
+use Rattle.walrus_body_env.specs.walrus_instr.declared.instr.Instr.{Instr}
+use Rattle.walrus_body_env.specs.walrus_instr.declared.seq.InstrLocId.{InstrLocId}
+use Rattle.walrus_body_env.specs.walrus_instr.declared.seq.InstrSeqType.{InstrSeqType}
 use Rattle.walrus_builder.specs.Built.{Seq, edited, filled_with, empty_seq}
-use Rattle.wasm_operators.specs.declared.entry.Flow.{Flow}
-use Rattle.wasm_operators.specs.declared.entry.Flow.TheVariants as flows
-use Rattle.wasm_operators.specs.Operators.{Seen, flow_of}
+use Rattle.wasm_body_grammar.specs.wasm_operators.declared.entry.Flow.{Flow}
+use Rattle.wasm_body_grammar.specs.wasm_operators.declared.entry.Flow.TheVariants as flows
+use Rattle.wasm_body_grammar.specs.wasm_operators.Operators.{Seen, flow_of}
 use Rattle.wasm_body_grammar.specs.Frames.{Frame, Plain, turned}
 use Rattle.wasm_normal_form.specs.Roles.{Role, Passes, Runs, Opens, Turns, Ends, role_in, role, cuts, is_if}
 use Rattle.wasm_normal_form.specs.Trees.{Tree, prepend}

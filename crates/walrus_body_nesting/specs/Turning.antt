@@ -1,11 +1,11 @@
 -- Lemmas: an operator that begins a further part of a block, over what open sequences grow into.
 use Rattle.std.proofs.Common.{ℕ, ◌<◌, ◌≤◌, ◌≡◌, Bool, false, List, [], ◌∷◌, ◌++◌, length, Option, refl, sym, ap, subst, arith, ◌∙◌, append-nil}
 use Rattle.std.proofs.lemmas.List.{append_assoc}
-use Rattle.walrus_instr.specs.declared.instr.Instr.{Instr}
-use Rattle.walrus_instr.specs.declared.seq.InstrLocId.{InstrLocId}
-use Rattle.walrus_instr.specs.declared.seq.InstrSeqType.{InstrSeqType}
+use Rattle.walrus_body_env.specs.walrus_instr.declared.instr.Instr.{Instr}
+use Rattle.walrus_body_env.specs.walrus_instr.declared.seq.InstrLocId.{InstrLocId}
+use Rattle.walrus_body_env.specs.walrus_instr.declared.seq.InstrSeqType.{InstrSeqType}
 use Rattle.walrus_builder.specs.Built.{Seq, edited, filled_with, empty_seq}
-use Rattle.wasm_operators.specs.Operators.{Seen}
+use Rattle.wasm_body_grammar.specs.wasm_operators.Operators.{Seen}
 use Rattle.wasm_body_grammar.specs.Frames.{Frame}
 use Rattle.wasm_normal_form.specs.Roles.{Turns}
 use Rattle.wasm_normal_form.specs.Trees.{Tree, Arm, prepend}

@@ -1,6 +1,6 @@
 //! What opens a sequence, and whether it is reached.
 
-use walrus_instr::TryTableCatch;
+use walrus_body_env::instr::TryTableCatch;
 
 /// What opened a block.
 #[derive(Drop)]

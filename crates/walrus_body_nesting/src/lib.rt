@@ -4,3 +4,6 @@
 mod frames;
 
 pub use frames::{Opener, Reach};
+
+// Passed on to crates above, which then list this one alone.
+pub use walrus_body_env as body_env;

@@ -1,6 +1,6 @@
 -- Lemmas: how many labels there are.
 use Rattle.std.proofs.Common.{ℕ, suc, ◌-◌, ◌≡◌, List, [], ◌∷◌, length, refl, ap, arith}
-use Rattle.walrus_body_nesting.specs.Opens.{Open, ids_of}
+use Rattle.walrus_body_steps.specs.walrus_body_nesting.Opens.{Open, ids_of}
 
 ids_count : (os : List Open) → length (ids_of os) ≡ length os
 ids_count [] = refl

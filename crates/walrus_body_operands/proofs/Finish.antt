@@ -1,6 +1,6 @@
 -- Lemmas: what is answered of the parts of an operator is answered of the operator.
 use Rattle.std.specs.Prelude.{ℕ, ◌≡◌, List, length, Option, None, Result, Ok, Err}
-use Rattle.std.specs.Prelude.{◌⊎◌, nat_lt, true, [], Some, refl}
+use Rattle.std.specs.Prelude.{◌⊎◌, nat_lt, Bool, true, [], Some, refl}
 use Rattle.std.proofs.Common.{ap, sym, subst, ◌∙◌, inl, inr}
 use Rattle.std.specs.Global.{Vec}
 use Rattle.wasm_immediates.specs.declared.block_type.BlockType.{BlockType}
@@ -11,38 +11,43 @@ use Rattle.wasm_operators.specs.declared.entry.Flow.TheVariants as flows
 use Rattle.wasm_operators.specs.declared.op_code.OpCode.{OpCode}
 use Rattle.wasm_formats.specs.declared.fault.Space.TheVariants as spaces
 use Rattle.wasm_formats.specs.Stops.{Trouble, Index}
-use Rattle.wasm_grammar.specs.Values.{must}
-use Rattle.wasm_normal_form.specs.Roles.{Runs, role_in}
+use Rattle.walrus_body_steps.specs.wasm_grammar.Values.{must}
+use Rattle.walrus_body_steps.specs.wasm_normal_form.Roles.{Runs, role_in}
 use Rattle.walrus_instr.specs.declared.instr.Instr.{Instr}
 use Rattle.walrus_operators.specs.declared.immediates.Immediates.{Immediates}
 use Rattle.walrus_operators.specs.declared.immediates.Immediates.TheVariants as imm
 use Rattle.walrus_operators.specs.declared.operator.Operator.{Operator}
 use Rattle.walrus_operators.specs.Immediates.{items_of, kind_is}
 use Rattle.walrus_operators.specs.Operators.{seen}
-use Rattle.walrus_body_env.specs.declared.error.BodyError.{BodyError}
-use Rattle.walrus_body_nesting.specs.Faults.{Answers}
-use Rattle.walrus_body_rules.specs.Sights.{Sight}
-use Rattle.walrus_body_rules.specs.Rules.{items_test}
+use Rattle.walrus_body_steps.specs.walrus_body_env.declared.error.BodyError.{BodyError}
+use Rattle.walrus_body_steps.specs.walrus_body_nesting.Faults.{Answers}
+use Rattle.walrus_body_steps.specs.walrus_body_rules.Sights.{Sight}
+use Rattle.walrus_body_steps.specs.walrus_body_rules.Rules.{items_test}
 use Rattle.walrus_body_steps.specs.Meanings.{RunsAs}
-use Rattle.walrus_body_operands.specs.Asked.{Meets, index_test, try_test, written_test}
+use Rattle.walrus_body_operands.specs.Asked.{AnswersIf, Meets, index_test, try_test, written_test}
 use Rattle.walrus_body_operands.specs.Listed.{is_bare, known_labels}
 use Rattle.walrus_body_operands.proofs.Tests.{items_are, block_tests, label_tests, try_tests}
 use Rattle.walrus_body_operands.proofs.Pairing.{one_test}
 
-pub answers : {A : Type 0} (r : Result A BodyError) (t : Option Trouble) (offset : ℕ) (P : A → Type 0) → Meets r t offset P → Answers r t offset P
-answers (Ok x) t offset P h = h
-answers (Err e) t offset P h = inr h
+pub answers : {A : Type 0} (wants : Bool) (r : Result A BodyError) (t : Option Trouble) (offset : ℕ) (P : A → Type 0) → Meets r t offset P → AnswersIf wants r t offset P
+answers wants (Ok x) t offset P h = h
+answers wants (Err e) t offset P h = inr h
 
-pub answers_same : {A : Type 0} (r : Result A BodyError) (t u : Option Trouble) (offset : ℕ) (P : A → Type 0) → u ≡ t → Answers r t offset P → Answers r u offset P
-answers_same r t u offset P same h = subst (λ (v : Option Trouble). Answers r v offset P) (sym same) h
+-- memory is wanted where that may be
+pub answers_with : {A : Type 0} (wants : Bool) (r : Result A BodyError) (t : Option Trouble) (offset : ℕ) (P : A → Type 0) → wants ≡ true → Answers r t offset P → AnswersIf wants r t offset P
+answers_with wants (Ok x) t offset P may h = h
+answers_with wants (Err e) t offset P may h = elim h [ inl memory ↦ inl (memory, may) | inr fails ↦ inr fails ]
+
+pub answers_same : {A : Type 0} (wants : Bool) (r : Result A BodyError) (t u : Option Trouble) (offset : ℕ) (P : A → Type 0) → u ≡ t → AnswersIf wants r t offset P → AnswersIf wants r u offset P
+answers_same wants r t u offset P same h = subst (λ (v : Option Trouble). AnswersIf wants r v offset P) (sym same) h
 
 -- of an operator with these immediates
-pub answers_of : (s : Sight) (labels : ℕ) (ids : List ℕ) (code : OpCode) (x y : Immediates) (r : Result Instr BodyError) (t : Option Trouble) (offset : ℕ) → x ≡ y
-    → items_test s labels (record { code = code; items = items_of y }) ≡ t → Answers r t offset (RunsAs s ids code (items_of y))
-    → Answers r (items_test s labels (record { code = code; items = items_of x })) offset (RunsAs s ids code (items_of x))
-answers_of s labels ids code x y r t offset is test h =
-    subst (λ (z : Immediates). Answers r (items_test s labels (record { code = code; items = items_of z })) offset (RunsAs s ids code (items_of z))) (sym is)
-    (answers_same r t (items_test s labels (record { code = code; items = items_of y })) offset (RunsAs s ids code (items_of y)) test h)
+pub answers_of : (wants : Bool) (s : Sight) (labels : ℕ) (ids : List ℕ) (code : OpCode) (x y : Immediates) (r : Result Instr BodyError) (t : Option Trouble) (offset : ℕ) → x ≡ y
+    → items_test s labels (record { code = code; items = items_of y }) ≡ t → AnswersIf wants r t offset (RunsAs s ids code (items_of y))
+    → AnswersIf wants r (items_test s labels (record { code = code; items = items_of x })) offset (RunsAs s ids code (items_of x))
+answers_of wants s labels ids code x y r t offset is test h =
+    subst (λ (z : Immediates). AnswersIf wants r (items_test s labels (record { code = code; items = items_of z })) offset (RunsAs s ids code (items_of z))) (sym is)
+    (answers_same wants r t (items_test s labels (record { code = code; items = items_of y })) offset (RunsAs s ids code (items_of y)) test h)
 
 -- ---- steps
 

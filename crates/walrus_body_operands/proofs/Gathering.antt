@@ -3,7 +3,7 @@ use Rattle.std.specs.Prelude.{◌≡◌, ℕ, ◌<◌, ◌≤◌, ◌+◌, List,
 use Rattle.std.proofs.Common.{ap, sym, subst, ◌∙◌, get_or, drop}
 use Rattle.std.proofs.lemmas.List.{append-nil, append_assoc, drop_all, drop_more}
 use Rattle.wasm_formats.specs.Stops.{Trouble}
-use Rattle.wasm_grammar.specs.Values.{first_of}
+use Rattle.walrus_body_steps.specs.wasm_grammar.Values.{first_of}
 use Rattle.walrus_body_operands.specs.Asked.{tests_of}
 
 -- of a list these items are left, and those before them have passed their tests and made these

@@ -5,11 +5,11 @@ use Rattle.wasm_immediates.specs.Items.{Tags, Labels, Item, Names}
 use Rattle.wasm_operators.specs.declared.entry.Flow.{Flow}
 use Rattle.wasm_operators.specs.declared.entry.Flow.TheVariants as flows
 use Rattle.wasm_operators.specs.Operators.{flow_of}
-use Rattle.wasm_operator_names.specs.Names.{operator_names}
+use Rattle.walrus_operator_laws.specs.wasm_operator_names.Names.{operator_names}
 use Rattle.wasm_formats.specs.Stops.{Trouble}
-use Rattle.wasm_grammar.specs.Values.{first_of}
-use Rattle.wasm_body_grammar.specs.Frames.{Frame, turned, label_count}
-use Rattle.wasm_body_grammar.specs.Rules.{names_test, turned_test, first_in, first_trouble}
+use Rattle.walrus_body_steps.specs.wasm_grammar.Values.{first_of}
+use Rattle.walrus_body_steps.specs.wasm_body_grammar.Frames.{Frame, turned, label_count}
+use Rattle.walrus_body_steps.specs.wasm_body_grammar.Rules.{names_test, turned_test, first_in, first_trouble}
 use Rattle.walrus_forms.specs.declared.value.AbstractHeapType.TheVariants as abstracts
 use Rattle.walrus_forms.specs.declared.value.HeapType.TheVariants as heaps
 use Rattle.walrus_forms.specs.declared.value.RefType.{RefType}
@@ -18,8 +18,8 @@ use Rattle.walrus_operators.specs.declared.immediates.Immediates.TheVariants as 
 use Rattle.walrus_operators.specs.declared.operator.Operator.{Operator}
 use Rattle.walrus_operators.specs.Immediates.{items_of, kind_is}
 use Rattle.walrus_operators.specs.Operators.{seen}
-use Rattle.walrus_body_rules.specs.Sights.{Sight, room}
-use Rattle.walrus_body_rules.specs.Rules.{form_rule, late_tests, items_test, operator_test}
+use Rattle.walrus_body_steps.specs.walrus_body_rules.Sights.{Sight, room}
+use Rattle.walrus_body_steps.specs.walrus_body_rules.Rules.{form_rule, late_tests, items_test, operator_test}
 use Rattle.walrus_body_operands.specs.Listed.{IsListed, is_bare, names_tag, names_label}
 use Rattle.walrus_body_operands.specs.Counted.{FramesAskLast}
 use Rattle.walrus_body_operands.proofs.Table.{flow_kind}

@@ -14,9 +14,9 @@ use Rattle.wasm_operators.specs.declared.entry.Flow.TheVariants as flows
 use Rattle.wasm_operators.specs.declared.op_code.OpCode.{OpCode}
 use Rattle.wasm_operators.specs.Operators.{flow_in}
 use Rattle.wasm_formats.specs.Stops.{Trouble, Index, Position, Bounds}
-use Rattle.wasm_grammar.specs.Values.{must, first_of}
-use Rattle.wasm_body_grammar.specs.Rules.{space_of, is_segment}
-use Rattle.wasm_normal_form.specs.Roles.{Runs, role_in}
+use Rattle.walrus_body_steps.specs.wasm_grammar.Values.{must, first_of}
+use Rattle.walrus_body_steps.specs.wasm_body_grammar.Rules.{space_of, is_segment}
+use Rattle.walrus_body_steps.specs.wasm_normal_form.Roles.{Runs, role_in}
 use Rattle.walrus_index_maps.specs.declared.space.Space.{Space as Mapped}
 use Rattle.walrus_index_maps.specs.declared.space.Space.TheVariants as mapped
 use Rattle.walrus_instr.specs.declared.instr.Instr.{Instr}
@@ -28,16 +28,16 @@ use Rattle.walrus_operators.specs.Immediates.{items_of, kind_is}
 use Rattle.walrus_operators.specs.Operators.{seen}
 use Rattle.walrus_operator_laws.specs.Plain.{holds_labels, is_no_step}
 use Rattle.walrus_operator_laws.proofs.Answered.{plain_is_answered}
-use Rattle.walrus_access_codes.specs.Access.{simd_at}
-use Rattle.walrus_pairing.specs.declared.error.PairError.{PairError}
-use Rattle.walrus_pairing.specs.declared.error.PairError.TheVariants as pairs
-use Rattle.walrus_pairing.specs.Looks.{Look, Or, ◌>>=◌, found}
-use Rattle.walrus_pairing.specs.Types.{read_heap}
-use Rattle.walrus_pairing.specs.Read.{name_at, names_at, counted_at, heap_at, arg_of, simd_access, access_at, of_items, instr_at}
-use Rattle.walrus_body_env.specs.declared.error.BodyError.{BodyError}
-use Rattle.walrus_body_nesting.specs.Faults.{Fails}
-use Rattle.walrus_body_rules.specs.Sights.{Sight, look, room}
-use Rattle.walrus_body_rules.specs.Rules.{has_wide, items_test}
+use Rattle.walrus_body_steps.specs.walrus_access_codes.Access.{simd_at}
+use Rattle.walrus_operator_laws.specs.walrus_pairing.declared.error.PairError.{PairError}
+use Rattle.walrus_operator_laws.specs.walrus_pairing.declared.error.PairError.TheVariants as pairs
+use Rattle.walrus_operator_laws.specs.walrus_pairing.Looks.{Look, Or, ◌>>=◌, found}
+use Rattle.walrus_operator_laws.specs.walrus_pairing.Types.{read_heap}
+use Rattle.walrus_operator_laws.specs.walrus_pairing.Read.{name_at, names_at, counted_at, heap_at, arg_of, simd_access, access_at, of_items, instr_at}
+use Rattle.walrus_body_steps.specs.walrus_body_env.declared.error.BodyError.{BodyError}
+use Rattle.walrus_body_steps.specs.walrus_body_nesting.Faults.{Fails}
+use Rattle.walrus_body_steps.specs.walrus_body_rules.Sights.{Sight, look, room}
+use Rattle.walrus_body_steps.specs.walrus_body_rules.Rules.{has_wide, items_test}
 use Rattle.walrus_body_steps.specs.Meanings.{RunsAs}
 use Rattle.walrus_body_operands.specs.Asked.{Meets, IsPaired, pair_fault, space_in, index_test, heap_test}
 use Rattle.walrus_body_operands.specs.Listed.{RunsListed, segment_named, accessed, names_alone}

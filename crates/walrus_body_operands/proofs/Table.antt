@@ -11,7 +11,7 @@ use Rattle.wasm_operators.specs.declared.entry.Kind.TheVariants as kinds
 use Rattle.wasm_operators.specs.declared.op_code.OpCode.{OpCode}
 use Rattle.wasm_operators.specs.Table.{structure_rows, call_rows, plain_rows, fb_rows, fc_rows, fd_rows, fe_rows}
 use Rattle.wasm_operators.specs.Operators.{op_code, flow_in, flow_of}
-use Rattle.wasm_normal_form.specs.Roles.{Runs, role_in}
+use Rattle.walrus_body_steps.specs.wasm_normal_form.Roles.{Runs, role_in}
 use Rattle.walrus_forms.specs.declared.value.RefType.{RefType}
 use Rattle.walrus_operators.specs.declared.operator.Operator.{Operator}
 use Rattle.walrus_operators.specs.Immediates.{kind_is}

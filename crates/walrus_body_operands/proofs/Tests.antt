@@ -17,15 +17,15 @@ use Rattle.wasm_immediates.specs.declared.clause.Clause.TheVariants as clauses
 use Rattle.wasm_immediates.specs.Items.{Space, Types, Labels, Names, Byte, Heap, Block, ManyLabels, ManyValues, ManyClauses}
 use Rattle.wasm_operators.specs.declared.op_code.OpCode.{OpCode}
 use Rattle.wasm_operators.specs.Operators.{Seen}
-use Rattle.wasm_operator_names.specs.Names.{Name, index_names, heap_names, value_names, block_names, clause_names, label_name, operator_names}
+use Rattle.walrus_operator_laws.specs.wasm_operator_names.Names.{Name, index_names, heap_names, value_names, block_names, clause_names, label_name, operator_names}
 use Rattle.wasm_formats.specs.declared.fault.Space.TheVariants as spaces
 use Rattle.wasm_formats.specs.declared.fault.Form.TheVariants as unsupported
 use Rattle.wasm_formats.specs.Stops.{Trouble, Index, Position, Unsupported}
-use Rattle.wasm_grammar.specs.TypeWords.{value_of}
-use Rattle.wasm_grammar.specs.Values.{must, first_of}
-use Rattle.wasm_body_grammar.specs.Rules.{names_test, space_of, is_segment, first_in, select_rule, words_rule}
-use Rattle.walrus_body_rules.specs.Sights.{Sight, room}
-use Rattle.walrus_body_rules.specs.Rules.{block_test, form_rule, data_test, access_rule, items_test}
+use Rattle.walrus_body_steps.specs.wasm_grammar.TypeWords.{value_of}
+use Rattle.walrus_body_steps.specs.wasm_grammar.Values.{must, first_of}
+use Rattle.walrus_body_steps.specs.wasm_body_grammar.Rules.{names_test, space_of, is_segment, first_in, select_rule, words_rule}
+use Rattle.walrus_body_steps.specs.walrus_body_rules.Sights.{Sight, room}
+use Rattle.walrus_body_steps.specs.walrus_body_rules.Rules.{block_test, form_rule, data_test, access_rule, items_test}
 use Rattle.walrus_body_operands.specs.Asked.{named, label_test, tests_of, clause_test, value_named, heap_test, written_test, select_test, cast_test, try_test}
 
 -- ---- the first of troubles

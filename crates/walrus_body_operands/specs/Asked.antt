@@ -1,5 +1,5 @@
 -- What is asked of what an operator names, part by part; what calls answer that take no memory.
-use Rattle.std.specs.Prelude.{◌≡◌, ℕ, ◌==◌, ◌&&◌, nat_lt, Bool, true, false, List, [], ◌∷◌, length, Option, Some, None, Result, Ok, Err, if◌then◌else◌}
+use Rattle.std.specs.Prelude.{◌≡◌, ◌⊎◌, ℕ, ◌==◌, ◌&&◌, nat_lt, Bool, true, false, List, [], ◌∷◌, length, Option, Some, None, Result, Ok, Err, if◌then◌else◌}
 use Rattle.std.specs.List.{list_all}
 use Rattle.std.specs.Option.{is_some}
 use Rattle.wasm_ref_types.specs.declared.heap.HeapType.{HeapType}
@@ -12,27 +12,27 @@ use Rattle.wasm_immediates.specs.declared.block_type.BlockType.{BlockType}
 use Rattle.wasm_immediates.specs.declared.clause.Clause.{Clause}
 use Rattle.wasm_immediates.specs.Items.{Space, Heap, Block}
 use Rattle.wasm_operators.specs.declared.op_code.OpCode.{OpCode}
-use Rattle.wasm_operator_names.specs.Names.{Name, heap_names, value_names, block_names, clause_names}
+use Rattle.walrus_operator_laws.specs.wasm_operator_names.Names.{Name, heap_names, value_names, block_names, clause_names}
 use Rattle.wasm_formats.specs.declared.fault.Space.{Space as Kind}
 use Rattle.wasm_formats.specs.declared.fault.Space.TheVariants as spaces
 use Rattle.wasm_formats.specs.declared.fault.Form.TheVariants as unsupported
 use Rattle.wasm_formats.specs.declared.fault.Limited.TheVariants as limits
 use Rattle.wasm_formats.specs.Stops.{Trouble, Index, Unsupported}
-use Rattle.wasm_grammar.specs.TypeWords.{value_of}
-use Rattle.wasm_grammar.specs.Values.{must, first_of}
-use Rattle.wasm_body_grammar.specs.Rules.{names_test, space_of, words_rule}
+use Rattle.walrus_body_steps.specs.wasm_grammar.TypeWords.{value_of}
+use Rattle.walrus_body_steps.specs.wasm_grammar.Values.{must, first_of}
+use Rattle.walrus_body_steps.specs.wasm_body_grammar.Rules.{names_test, space_of, words_rule}
 use Rattle.walrus_instr.specs.declared.instr.Instr.{Instr}
 use Rattle.walrus_instr.specs.declared.instr.Instr.TheVariants as instrs
 use Rattle.walrus_index_maps.specs.declared.space.Space.{Space as Mapped}
 use Rattle.walrus_index_maps.specs.declared.space.Space.TheVariants as mapped
-use Rattle.walrus_pairing.specs.declared.error.PairError.{PairError}
-use Rattle.walrus_pairing.specs.declared.error.PairError.TheVariants as pairs
-use Rattle.walrus_pairing.specs.Looks.{Or}
-use Rattle.walrus_body_env.specs.declared.error.BodyError.{BodyError}
-use Rattle.walrus_body_env.specs.declared.error.BodyError.TheVariants as faults
-use Rattle.walrus_body_nesting.specs.Faults.{Fails}
-use Rattle.walrus_body_rules.specs.Sights.{Sight, room}
-use Rattle.walrus_body_rules.specs.Rules.{block_test}
+use Rattle.walrus_operator_laws.specs.walrus_pairing.declared.error.PairError.{PairError}
+use Rattle.walrus_operator_laws.specs.walrus_pairing.declared.error.PairError.TheVariants as pairs
+use Rattle.walrus_operator_laws.specs.walrus_pairing.Looks.{Or}
+use Rattle.walrus_body_steps.specs.walrus_body_env.declared.error.BodyError.{BodyError}
+use Rattle.walrus_body_steps.specs.walrus_body_env.declared.error.BodyError.TheVariants as faults
+use Rattle.walrus_body_steps.specs.walrus_body_nesting.Faults.{Fails}
+use Rattle.walrus_body_steps.specs.walrus_body_rules.Sights.{Sight, room}
+use Rattle.walrus_body_steps.specs.walrus_body_rules.Rules.{block_test}
 use Rattle.walrus_body_steps.specs.Meanings.{branch_at}
 
 -- ---- answers
@@ -41,6 +41,11 @@ use Rattle.walrus_body_steps.specs.Meanings.{branch_at}
 abbrev pub Meets : {A : Type 0} → Result A BodyError → Option Trouble → ℕ → (A → Type 0) → Type 0
 Meets (Ok x) test offset P = (test ≡ None) × P x
 Meets (Err e) test offset P = Fails test offset e
+
+-- so a call does that may want memory, if that says so
+abbrev pub AnswersIf : {A : Type 0} → Bool → Result A BodyError → Option Trouble → ℕ → (A → Type 0) → Type 0
+AnswersIf wants (Ok x) test offset P = (test ≡ None) × P x
+AnswersIf wants (Err e) test offset P = ((e ≡ faults.Memory) × (wants ≡ true)) ⊎ Fails test offset e
 
 abbrev pub IsTested : Result (Unit {0}) BodyError → Option Trouble → ℕ → Type 0
 IsTested result test offset = Meets result test offset (λ _. Unit {0})

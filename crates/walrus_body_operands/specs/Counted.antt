@@ -4,15 +4,15 @@ use Rattle.wasm_features.specs.declared.WasmFeatures.{WasmFeatures}
 use Rattle.wasm_operators.specs.declared.entry.Flow.{Flow}
 use Rattle.wasm_operators.specs.declared.entry.Flow.TheVariants as flows
 use Rattle.wasm_operators.specs.Operators.{kind_of, flow_of}
-use Rattle.wasm_grammar.specs.Values.{first_of}
-use Rattle.wasm_body_grammar.specs.Frames.{Frame, turned, label_count}
-use Rattle.wasm_body_grammar.specs.Rules.{turned_test}
+use Rattle.walrus_body_steps.specs.wasm_grammar.Values.{first_of}
+use Rattle.walrus_body_steps.specs.wasm_body_grammar.Frames.{Frame, turned, label_count}
+use Rattle.walrus_body_steps.specs.wasm_body_grammar.Rules.{turned_test}
 use Rattle.walrus_operators.specs.declared.operator.Operator.{Operator}
 use Rattle.walrus_operators.specs.Immediates.{kind_is}
 use Rattle.walrus_operators.specs.Operators.{seen}
 use Rattle.walrus_operator_laws.proofs.Kept.{entry_of}
-use Rattle.walrus_body_rules.specs.Sights.{Sight}
-use Rattle.walrus_body_rules.specs.Rules.{items_test, operator_test}
+use Rattle.walrus_body_steps.specs.walrus_body_rules.Sights.{Sight}
+use Rattle.walrus_body_steps.specs.walrus_body_rules.Rules.{items_test, operator_test}
 use Rattle.walrus_body_operands.specs.Listed.{IsListed, known_labels}
 
 -- what is read has the kind of immediates that its code is listed with

@@ -7,7 +7,7 @@ use Rattle.wasm_operators.specs.declared.entry.Flow.TheVariants as flows
 use Rattle.wasm_operators.specs.declared.entry.Kind.{Kind}
 use Rattle.wasm_operators.specs.declared.entry.Kind.TheVariants as kinds
 use Rattle.wasm_operators.specs.Table.{find_code}
-use Rattle.wasm_normal_form.specs.Roles.{Runs, role}
+use Rattle.walrus_body_steps.specs.wasm_normal_form.Roles.{Runs, role}
 use Rattle.walrus_operators.specs.declared.immediates.Immediates.{Immediates}
 use Rattle.walrus_operators.specs.declared.immediates.Immediates.TheVariants as imm
 use Rattle.walrus_operators.specs.declared.operator.Operator.{Operator}
@@ -49,6 +49,12 @@ names_tag _ = false
 abbrev pub names_label : Kind → Bool
 names_label kinds.Label = true
 names_label _ = false
+
+-- labels or clauses in a list, for which one is made
+abbrev pub holds_list : Kind → Bool
+holds_list kinds.BrTable = true
+holds_list kinds.TryTable = true
+holds_list _ = false
 
 -- ---- families of immediates, by what is asked of them
 

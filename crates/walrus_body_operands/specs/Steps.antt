@@ -3,8 +3,8 @@ use Rattle.std.specs.Prelude.{◌≡◌, ℕ, List, [], ◌∷◌, Some}
 use Rattle.wasm_immediates.specs.Items.{Tags, Labels, Names}
 use Rattle.wasm_operators.specs.declared.entry.Flow.TheVariants as flows
 use Rattle.wasm_operators.specs.Operators.{Seen, flow_of}
-use Rattle.wasm_normal_form.specs.Roles.{Passes, Runs, role, cuts}
-use Rattle.walrus_body_rules.specs.Sights.{Sight, look}
+use Rattle.walrus_body_steps.specs.wasm_normal_form.Roles.{Passes, Runs, role, cuts}
+use Rattle.walrus_body_steps.specs.walrus_body_rules.Sights.{Sight, look}
 use Rattle.walrus_body_steps.specs.Meanings.{RunsAs, IsOpener, OpensOf}
 use Rattle.walrus_body_operands.specs.declared.steps.Step.{Step}
 use Rattle.walrus_body_operands.specs.declared.steps.Step.TheVariants as step

@@ -1,7 +1,7 @@
 //! The types of the handlers of a legacy `try`.
 
 ghost use Rattle.std.specs.Prelude.{◌≡◌, [], Some};
-ghost use Rattle.walrus_body_rules.specs.Sights.{handler_of, results_of, tag_params, value_list};
+ghost use Rattle.walrus_body_steps.specs.walrus_body_rules.Sights.{handler_of, results_of, tag_params, value_list};
 
 use crate::scope::Scope;
 use walrus_arena::{TagId, TypeId};

@@ -5,8 +5,8 @@ ghost use Rattle.walrus_body_operands.specs.Asked.{Meets, label_test};
 
 use crate::faults::no_item;
 use walrus_arena::InstrSeqId;
-use walrus_body_env::BodyError;
-use walrus_body_stack::Stack;
+use walrus_body_steps::body_env::BodyError;
+use walrus_body_steps::body_stack::Stack;
 use wasm_formats::Space;
 
 /// The open sequences of a body, the innermost first, each with its label: its place in that order.
@@ -34,8 +34,8 @@ pub(crate) fn label<L: Labels>(labels: &L, depth: u32, offset: u64) -> Result<In
 }
 
 impl Labels for Stack {
-    ghost use Rattle.walrus_body_nesting.specs.Opens.{ids_of};
-    ghost use Rattle.walrus_body_stack.specs.Frames.{opens};
+    ghost use Rattle.walrus_body_steps.specs.walrus_body_nesting.Opens.{ids_of};
+    ghost use Rattle.walrus_body_steps.specs.walrus_body_stack.Frames.{opens};
 
     ghost ids = { λ s. ids_of (opens s) };
 

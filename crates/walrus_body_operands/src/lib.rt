@@ -15,3 +15,6 @@ pub use handlers::{handler_type, last_handler_type};
 pub use labels::Labels;
 pub use scope::{Operands, Scope};
 pub use steps::{Step, step_of};
+
+// Passed on to crates above, which then list this one alone.
+pub use walrus_body_steps::body_stack;

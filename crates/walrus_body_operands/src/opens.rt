@@ -2,8 +2,8 @@
 
 ghost use Rattle.std.specs.Prelude.{◌≡◌, length, Some};
 ghost use Rattle.wasm_immediates.specs.Items.{Tags};
-ghost use Rattle.walrus_body_nesting.specs.Faults.{Answers};
-ghost use Rattle.walrus_body_rules.specs.Sights.{look, written_block};
+ghost use Rattle.walrus_body_steps.specs.walrus_body_nesting.Faults.{Answers};
+ghost use Rattle.walrus_body_steps.specs.walrus_body_rules.Sights.{look, written_block};
 ghost use Rattle.walrus_body_steps.specs.Meanings.{AreClauses, IsClause};
 ghost use Rattle.walrus_body_operands.specs.Asked.{Meets, clause_test, index_test, tests_of, try_test};
 
@@ -13,7 +13,7 @@ use crate::scope::Scope;
 use crate::types::{block_type, check_block};
 use std::alloc::Global;
 use walrus_arena::TagId;
-use walrus_body_env::BodyError;
+use walrus_body_steps::body_env::BodyError;
 use walrus_instr::{InstrSeqType, TryTableCatch};
 use wasm_formats::Space;
 use wasm_immediates::{BlockType, Clause};

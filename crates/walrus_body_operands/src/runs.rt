@@ -5,18 +5,18 @@ ghost use Rattle.std.specs.Option.{is_some};
 ghost use Rattle.wasm_immediates.specs.Items.{Byte, Heap, Labels as LabelSpace, ManyLabels, ManyValues, Memories, Names};
 ghost use Rattle.wasm_operators.specs.declared.op_code.OpCode.{OpCode as Code};
 ghost use Rattle.wasm_formats.specs.Stops.{Bounds, Position};
-ghost use Rattle.wasm_grammar.specs.Values.{first_of, must};
+ghost use Rattle.walrus_body_steps.specs.wasm_grammar.Values.{first_of, must};
 ghost use Rattle.walrus_forms.specs.declared.value.RefType.{RefType as Reference};
 ghost use Rattle.walrus_operators.specs.Immediates.{items_of, kind_is};
 ghost use Rattle.walrus_operators.specs.Operators.{seen};
 ghost use Rattle.walrus_operator_laws.specs.Plain.{holds_labels};
-ghost use Rattle.walrus_pairing.specs.Read.{instr_at};
-ghost use Rattle.walrus_body_nesting.specs.Faults.{Answers};
-ghost use Rattle.walrus_body_rules.specs.Rules.{has_wide, items_test};
-ghost use Rattle.walrus_body_rules.specs.Sights.{Sight, look};
+ghost use Rattle.walrus_operator_laws.specs.walrus_pairing.Read.{instr_at};
+ghost use Rattle.walrus_body_steps.specs.walrus_body_nesting.Faults.{Answers};
+ghost use Rattle.walrus_body_steps.specs.walrus_body_rules.Rules.{has_wide, items_test};
+ghost use Rattle.walrus_body_steps.specs.walrus_body_rules.Sights.{Sight, look};
 ghost use Rattle.walrus_body_steps.specs.Meanings.{AreLabels, RunsAs, cast_at};
-ghost use Rattle.walrus_body_operands.specs.Asked.{IsPaired, Meets, cast_test, label_test, labelled_at, select_test, tests_of};
-ghost use Rattle.walrus_body_operands.specs.Listed.{RunsListed, accessed, names_alone, segment_named};
+ghost use Rattle.walrus_body_operands.specs.Asked.{AnswersIf, IsPaired, Meets, cast_test, label_test, labelled_at, select_test, tests_of};
+ghost use Rattle.walrus_body_operands.specs.Listed.{RunsListed, accessed, holds_list, names_alone, segment_named};
 
 use crate::faults::{fault_of, unsupported};
 use crate::labels::{Labels, label};
@@ -24,11 +24,11 @@ use crate::scope::Scope;
 use crate::types::{check_heap, check_values, heap_type, value_type};
 use std::alloc::Global;
 use walrus_arena::InstrSeqId;
-use walrus_body_env::BodyError;
+use walrus_body_steps::body_env::BodyError;
 use walrus_forms::RefType;
 use walrus_instr::Instr;
+use walrus_operator_laws::pairing::instr_of;
 use walrus_operators::{Immediates, Operator};
-use walrus_pairing::instr_of;
 use wasm_formats::Form;
 use wasm_immediates::MemoryAccess;
 use wasm_operators::OpCode;
@@ -271,7 +271,7 @@ pub(crate) fn run<S: Scope, L: Labels>(
     offset: u64,
 ) -> Result<Instr, BodyError>
     requires { RunsListed op.now }
-    ensures { Answers result (items_test (S.sight scope.now) (length (L.ids labels.now)) (seen op.now)) offset (RunsAs (S.sight scope.now) (L.ids labels.now) op.now.code (items_of op.now.immediates)) }
+    ensures { AnswersIf (holds_list (kind_is op.now.immediates)) result (items_test (S.sight scope.now) (length (L.ids labels.now)) (seen op.now)) offset (RunsAs (S.sight scope.now) (L.ids labels.now) op.now.code (items_of op.now.immediates)) }
 {
     let code = op.code;
     match &op.immediates {

@@ -2,10 +2,10 @@
 
 ghost use Rattle.std.specs.Prelude.{◌≡◌, option_copied};
 ghost use Rattle.walrus_index_maps.specs.Views.{ids};
-ghost use Rattle.walrus_body_rules.specs.Sights.{Sight};
+ghost use Rattle.walrus_body_steps.specs.walrus_body_rules.Sights.{Sight};
 
 use walrus_arena::{FunctionId, MemoryId, TagId, TypeId};
-use walrus_body_env::BodyEnv;
+use walrus_body_steps::body_env::BodyEnv;
 use walrus_forms::ValType;
 use walrus_index_maps::IndicesToIds;
 use walrus_instr::InstrSeqType;
@@ -53,6 +53,7 @@ pub trait Scope {
 }
 
 /// The environment of a function's body, and what indices name in it.
+#[derive(Drop)]
 pub struct Operands<'a, E: BodyEnv> {
     env: &'a E,
     indices: &'a IndicesToIds,

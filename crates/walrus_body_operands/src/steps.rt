@@ -2,14 +2,14 @@
 
 ghost use Rattle.std.specs.Prelude.{◌≡◌, ◌-◌, ◌&&◌, ℕ, List, length, not, true, Some};
 ghost use Rattle.wasm_operators.specs.Operators.{flow_of};
-ghost use Rattle.wasm_normal_form.specs.Roles.{cuts_in};
+ghost use Rattle.walrus_body_steps.specs.wasm_normal_form.Roles.{cuts_in};
 ghost use Rattle.walrus_operators.specs.Immediates.{kind_is};
 ghost use Rattle.walrus_operators.specs.Operators.{seen};
-ghost use Rattle.walrus_body_nesting.specs.Faults.{Answers};
-ghost use Rattle.walrus_body_rules.specs.Rules.{items_test};
-ghost use Rattle.walrus_body_rules.specs.Sights.{Sight};
+ghost use Rattle.walrus_body_steps.specs.walrus_body_rules.Rules.{items_test};
+ghost use Rattle.walrus_body_steps.specs.walrus_body_rules.Sights.{Sight};
 ghost use Rattle.walrus_body_steps.specs.Meanings.{IsOpener};
-ghost use Rattle.walrus_body_operands.specs.Listed.{IsListed, RunsListed, begins_block, known_labels, names_label, names_tag, opened_by};
+ghost use Rattle.walrus_body_operands.specs.Asked.{AnswersIf, Meets};
+ghost use Rattle.walrus_body_operands.specs.Listed.{IsListed, RunsListed, begins_block, holds_list, known_labels, names_label, names_tag, opened_by};
 ghost use Rattle.walrus_body_operands.specs.Steps.{IsStep};
 
 use crate::faults::no_item;
@@ -20,8 +20,8 @@ use crate::scope::Scope;
 use crate::types::block_type;
 use std::alloc::Global;
 use walrus_arena::TagId;
-use walrus_body_env::BodyError;
-use walrus_body_nesting::Opener;
+use walrus_body_steps::body_env::BodyError;
+use walrus_body_steps::body_nesting::Opener;
 use walrus_instr::{Instr, InstrSeqType};
 use walrus_operators::{Immediates, Operator};
 use wasm_formats::Space;
@@ -102,7 +102,7 @@ fn cuts(flow: Option<Flow>) -> bool
 fn open<S: Scope>(scope: &S, op: &Operator, opener: Opener, offset: u64) -> Result<Step, BodyError>
     requires block { begins_block (kind_is op.now.immediates) ≡ true }
     requires opens { (s : Sight) (around : List ℕ) → IsOpener s around (seen op.now) opener }
-    ensures { (labels : ℕ) (around : List ℕ) → Answers result (items_test (S.sight scope.now) labels (seen op.now)) offset (IsStep (S.sight scope.now) around (seen op.now)) }
+    ensures { (labels : ℕ) (around : List ℕ) → Meets result (items_test (S.sight scope.now) labels (seen op.now)) offset (IsStep (S.sight scope.now) around (seen op.now)) }
 {
     match block_type(scope, block_of(&op.immediates), offset) {
         Ok(ty) => Ok(Step::Open { opener, ty }),
@@ -119,7 +119,7 @@ fn open_table<S: Scope, L: Labels>(
 ) -> Result<Step, BodyError>
     requires table { (opened_by (kind_is op.now.immediates) && not (begins_block (kind_is op.now.immediates))) ≡ true }
     requires opens { flow_of op.now.code ≡ Some Flow.OpensTryTable }
-    ensures { Answers result (items_test (S.sight scope.now) (length (L.ids labels.now)) (seen op.now)) offset (IsStep (S.sight scope.now) (L.ids labels.now) (seen op.now)) }
+    ensures { AnswersIf (holds_list (kind_is op.now.immediates)) result (items_test (S.sight scope.now) (length (L.ids labels.now)) (seen op.now)) offset (IsStep (S.sight scope.now) (L.ids labels.now) (seen op.now)) }
 {
     match &op.immediates {
         Immediates::TryTable(ty, clauses) => {
@@ -138,7 +138,7 @@ fn open_table<S: Scope, L: Labels>(
 fn catch<S: Scope>(scope: &S, op: &Operator, offset: u64) -> Result<Step, BodyError>
     requires tag { names_tag (kind_is op.now.immediates) ≡ true }
     requires catches { flow_of op.now.code ≡ Some Flow.Catch }
-    ensures { (labels : ℕ) (around : List ℕ) → Answers result (items_test (S.sight scope.now) labels (seen op.now)) offset (IsStep (S.sight scope.now) around (seen op.now)) }
+    ensures { (labels : ℕ) (around : List ℕ) → Meets result (items_test (S.sight scope.now) labels (seen op.now)) offset (IsStep (S.sight scope.now) around (seen op.now)) }
 {
     match tag_id(scope, tag_of(&op.immediates), offset) {
         Ok(tag) => Ok(Step::Catch { tag }),
@@ -149,7 +149,7 @@ fn catch<S: Scope>(scope: &S, op: &Operator, offset: u64) -> Result<Step, BodyEr
 fn delegate<L: Labels>(op: &Operator, labels: &L, offset: u64) -> Result<Step, BodyError>
     requires label { names_label (kind_is op.now.immediates) ≡ true }
     requires hands { flow_of op.now.code ≡ Some Flow.Delegate }
-    ensures { (s : Sight) → Answers result (items_test s (length (L.ids labels.now) - 1) (seen op.now)) offset (IsStep s (L.ids labels.now) (seen op.now)) }
+    ensures { (s : Sight) → Meets result (items_test s (length (L.ids labels.now) - 1) (seen op.now)) offset (IsStep s (L.ids labels.now) (seen op.now)) }
 {
     let depth = label_of(&op.immediates);
     if (depth as usize) < labels.outer_count() {
@@ -167,7 +167,7 @@ fn stand<S: Scope, L: Labels>(
     offset: u64,
 ) -> Result<Step, BodyError>
     requires { RunsListed op.now }
-    ensures { Answers result (items_test (S.sight scope.now) (length (L.ids labels.now)) (seen op.now)) offset (IsStep (S.sight scope.now) (L.ids labels.now) (seen op.now)) }
+    ensures { AnswersIf (holds_list (kind_is op.now.immediates)) result (items_test (S.sight scope.now) (length (L.ids labels.now)) (seen op.now)) offset (IsStep (S.sight scope.now) (L.ids labels.now) (seen op.now)) }
 {
     let cuts = cuts(op.code.flow());
     match run(scope, alloc, op, labels, offset) {
@@ -182,7 +182,7 @@ fn stand<S: Scope, L: Labels>(
 ///
 /// At this offset, where what the operator names isn't there or may not stand there: `Index`, `TypeForm` (of a block type), `Position`
 /// (a data segment with no data count), `Unsupported` and `Bounds`, of those that are due the one of the lowest number, and of `Index`
-/// the first in the order of the bytes. Want of memory, for labels and handlers in lists.
+/// the first in the order of the bytes. Want of memory, for the labels of a `br_table` and the clauses of a `try_table` alone.
 pub fn step_of<S: Scope, L: Labels>(
     scope: &S,
     alloc: Global,
@@ -191,7 +191,7 @@ pub fn step_of<S: Scope, L: Labels>(
     offset: u64,
 ) -> Result<Step, BodyError>
     requires { IsListed op.now }
-    ensures { Answers result (items_test (S.sight scope.now) (known_labels (flow_of op.now.code) (length (L.ids labels.now))) (seen op.now)) offset (IsStep (S.sight scope.now) (L.ids labels.now) (seen op.now)) }
+    ensures { AnswersIf (holds_list (kind_is op.now.immediates)) result (items_test (S.sight scope.now) (known_labels (flow_of op.now.code) (length (L.ids labels.now))) (seen op.now)) offset (IsStep (S.sight scope.now) (L.ids labels.now) (seen op.now)) }
 {
     let Some(flow) = op.code.flow() else {
         return stand(scope, alloc, op, labels, offset);

@@ -2,18 +2,18 @@
 
 ghost use Rattle.std.specs.Prelude.{◌≡◌, Ok, Some};
 ghost use Rattle.wasm_immediates.specs.Items.{Types};
-ghost use Rattle.wasm_operator_names.specs.Names.{block_names, heap_names, index_names, value_names};
-ghost use Rattle.walrus_pairing.specs.Types as pairing;
-ghost use Rattle.walrus_body_rules.specs.Sights.{function_block, look, written_block};
+ghost use Rattle.walrus_operator_laws.specs.wasm_operator_names.Names.{block_names, heap_names, index_names, value_names};
+ghost use Rattle.walrus_operator_laws.specs.walrus_pairing.Types as pairing;
+ghost use Rattle.walrus_body_steps.specs.walrus_body_rules.Sights.{function_block, look, written_block};
 ghost use Rattle.walrus_body_operands.specs.Asked.{IsTested, Meets, heap_test, index_test, is_filed, is_filed_value, named, of_module, tests_of, value_named, value_test, written_test};
 
 use crate::faults::{fault_of, no_item, unsupported};
 use crate::scope::Scope;
 use walrus_arena::TypeId;
-use walrus_body_env::BodyError;
+use walrus_body_steps::body_env::BodyError;
 use walrus_forms::{HeapType, ValType};
 use walrus_instr::InstrSeqType;
-use walrus_pairing::{read_heap, read_value};
+use walrus_operator_laws::pairing::{read_heap, read_value};
 use wasm_formats::{Form, Space};
 use wasm_immediates::BlockType;
 use wasm_ref_types as written;
@@ -134,7 +134,6 @@ pub(crate) fn check_block<S: Scope>(scope: &S, ty: BlockType, offset: u64) -> Re
 }
 
 /// The heap type that is written so.
-
 pub(crate) fn heap_type<S: Scope>(
     scope: &S,
     ty: written::HeapType,
@@ -152,7 +151,6 @@ pub(crate) fn heap_type<S: Scope>(
 }
 
 /// The value type that is written so.
-
 pub(crate) fn value_type<S: Scope>(
     scope: &S,
     ty: written::ValType,

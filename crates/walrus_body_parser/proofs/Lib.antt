@@ -1,4 +1,5 @@
 mod Turning
-mod Takes
+mod Typing
+pub mod Takes
 mod Reading
 mod Looping

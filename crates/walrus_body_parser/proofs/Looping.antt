@@ -1,5 +1,5 @@
 -- Lemmas: operators, one after another.
-use Rattle.std.proofs.Common.{ℕ, ◌≡◌, ◌⊎◌, ◌<◌, ◌≤◌, ◌+◌, ◌-◌, ◌==◌, Bool, true, false, List, [], ◌∷◌, ◌++◌, length, Option, Some, None, Result, Ok, Err, refl, sym, ap, subst, inl, inr, ◌∙◌, arith, append-nil}
+use Rattle.std.proofs.Common.{ℕ, ◌≡◌, ◌⊎◌, ◌<◌, ◌≤◌, ◌+◌, ◌-◌, ◌==◌, Bool, true, false, List, [], ◌∷◌, ◌++◌, length, Option, Some, None, Ok, Err, refl, sym, ap, subst, inl, inr, ◌∙◌, arith, append-nil}
 use Rattle.std.specs.Prelude.{fold}
 use Rattle.std.proofs.lemmas.List.{append_assoc, length-drop, length-map}
 use Rattle.std.proofs.lemmas.Bool.{eqb-true}
@@ -8,39 +8,38 @@ use Rattle.wasm_features.specs.declared.WasmFeatures.{WasmFeatures}
 use Rattle.wasm_reader.specs.Cursor.{Window, Cursor, rest, end_of, Forward, IsWithin}
 use Rattle.walrus_instr.specs.declared.seq.InstrSeqType.{InstrSeqType}
 use Rattle.walrus_builder.specs.Built.{Building, Seq, seq_of, contents, no_place}
-use Rattle.wasm_formats.specs.Stops.{Nesting, Stop, stop, Parsing, ◌>>=◌}
+use Rattle.wasm_formats.specs.Stops.{Nesting, stop, Parsing}
 use Rattle.wasm_formats.specs.Formats.{Format, done_is, step_ok}
 use Rattle.wasm_formats.specs.Bytes.{never, either}
 use Rattle.wasm_formats.specs.Joined.{checked, ends_at}
 use Rattle.wasm_operators.specs.declared.entry.Flow.{Flow}
 use Rattle.wasm_operators.specs.declared.entry.Flow.TheVariants as flows
 use Rattle.wasm_operators.specs.Operators.{Seen, flow_of}
-use Rattle.wasm_body_grammar.specs.Frames.{Frame, Plain, turned, Turned}
-use Rattle.wasm_body_grammar.specs.Rules.{turned_test}
-use Rattle.wasm_body_grammar.specs.Bodies.{Point, next_point, frames_of, opened, is_closed, operator}
-use Rattle.wasm_normal_form.specs.Roles.{Placed, role}
-use Rattle.wasm_normal_form.specs.Trees.{Tree, open_in, tree_of, prepend}
-use Rattle.wasm_normal_form.specs.Normal.{picked, normal}
-use Rattle.walrus_body_env.specs.declared.error.BodyError.{BodyError}
-use Rattle.walrus_body_env.specs.declared.error.BodyError.TheVariants as faults
-use Rattle.walrus_body_env.specs.Faults as env
-use Rattle.walrus_body_nesting.specs.declared.frames.Opener.TheVariants as openers
-use Rattle.walrus_body_nesting.specs.declared.frames.Reach.TheVariants.{Live}
-use Rattle.walrus_body_nesting.specs.Opens.{Open, Grower, begun, ids_of, kinds_of, left_kinds, same, type_at, IsReached, AreSound, Shaped, Good, Reads, Steps}
-use Rattle.walrus_body_nesting.specs.Ending.{unless_reached}
-use Rattle.walrus_body_nesting.specs.Stands.{StandsAs}
-use Rattle.walrus_body_stack.specs.declared.stack.Stack.{Stack}
-use Rattle.walrus_body_stack.specs.Frames.{inner, around, opens, blocks}
-use Rattle.walrus_body_rules.specs.Sights.{Sight}
-use Rattle.walrus_body_rules.specs.Rules.{operator_test}
-use Rattle.walrus_body_steps.specs.Meanings.{OpensOf, meaning}
-use Rattle.walrus_body_steps.specs.Stepping.{bodies_start}
+use Rattle.walrus_body_locals.specs.wasm_body_grammar.Frames.{Frame, Plain, turned, Turned}
+use Rattle.walrus_body_locals.specs.wasm_body_grammar.Rules.{turned_test}
+use Rattle.walrus_body_locals.specs.wasm_body_grammar.Bodies.{Point, next_point, frames_of, opened, is_closed, operator}
+use Rattle.walrus_body_locals.specs.wasm_normal_form.Trees.{open_in, tree_of}
+use Rattle.walrus_body_locals.specs.wasm_normal_form.Normal.{picked, normal}
+use Rattle.walrus_body_locals.specs.walrus_body_env.declared.error.BodyError.{BodyError}
+use Rattle.walrus_body_locals.specs.walrus_body_env.declared.error.BodyError.TheVariants as faults
+use Rattle.walrus_body_locals.specs.walrus_body_env.Faults as env
+use Rattle.walrus_body_locals.specs.walrus_body_nesting.declared.frames.Opener.TheVariants as openers
+use Rattle.walrus_body_locals.specs.walrus_body_nesting.declared.frames.Reach.TheVariants.{Live}
+use Rattle.walrus_body_locals.specs.walrus_body_nesting.Opens.{Open, Grower, begun, ids_of, kinds_of, left_kinds, same, type_at, IsReached, AreSound, Shaped, Good, Reads}
+use Rattle.walrus_body_locals.specs.walrus_body_nesting.Ending.{unless_reached}
+use Rattle.walrus_body_locals.specs.walrus_body_nesting.Stands.{StandsAs}
+use Rattle.walrus_body_operands.specs.walrus_body_stack.declared.stack.Stack.{Stack}
+use Rattle.walrus_body_operands.specs.walrus_body_stack.Frames.{inner, around, opens, blocks}
+use Rattle.walrus_body_operands.specs.walrus_body_rules.Sights.{Sight}
+use Rattle.walrus_body_operands.specs.walrus_body_rules.Rules.{operator_test}
+use Rattle.walrus_body_operands.specs.walrus_body_steps.Meanings.{OpensOf, meaning}
+use Rattle.walrus_body_operands.specs.walrus_body_steps.Stepping.{bodies_start}
 use Rattle.walrus_body_locals.specs.Told.{Fails, pass_on}
 use Rattle.walrus_body_locals.proofs.Answering.{end_stays, accepted, barred}
 use Rattle.walrus_body_parser.proofs.Takes.{offset_is}
 use Rattle.walrus_body_parser.specs.Points.{operator_seen, op_told, place_at, ops_from}
-use Rattle.walrus_body_parser.specs.Changes.{LacksType, point_at, reads_next, HindersNext, ReadsNext}
-use Rattle.walrus_body_parser.specs.Trees.{Validating, validating, parser_of, PassOps, point_of, EndOps, Lacks, FailOps, ReadsTree, RefusesTree}
+use Rattle.walrus_body_parser.specs.Changes.{LacksType, point_at, reads_next, ReadsNext}
+use Rattle.walrus_body_parser.specs.Trees.{Validating, parser_of, PassOps, point_of, Lacks, ReadsTree, RefusesTree}
 
 -- the place behind what was read
 behind_is : {A : Type 0} (start : ℕ) (f : Format A) (bytes later : List ℕ) (x : ℕ × A) → (ends_at start f).parse bytes ≡ Ok (x, later) → x.0 ≡ start + (length bytes - length later)
@@ -152,7 +151,8 @@ module _ {V : Type 0} (s : Sight) (told : Validating V) (code : ℕ) (old : Curs
 
     fails_here : (e : BodyError) → Fails (parser_of old.window.features s (point_of (parser_of old.window.features s) told (end_of old) first g.ops)) (op_told told.op) (end_of old) w (rest now) e
         ⊎ Lacks (parser_of old.window.features s) told (end_of old) first s (rest now) (point_of (parser_of old.window.features s) told (end_of old) first g.ops) e → RefusesTree s told code old v e
-    fails_here e (inl h) = inr (record { ops = g.ops; later = rest now; left = w; passed = g.passed; fails = inl h })
+    fails_here e (inl h) =
+        inr (record { ops = g.ops; later = rest now; left = w; passed = g.passed; fails = inl (inr (ap (λ (p : Point). is_closed p.frames) g.point), h) })
     fails_here e (inr h) = inr (record { ops = g.ops; later = rest now; left = w; passed = g.passed; fails = inr (inl h) })
 
     pub goes_fails : (next : Cursor) (after : Stack) (u : V) (e : BodyError) → ReadsNext s told.op code now stack w next after u (Err e) → RefusesTree s told code old v e
@@ -200,7 +200,7 @@ module _ {V : Type 0} (s : Sight) (told : Validating V) (code : ℕ) (old : Curs
           later = rest now;
           left = w;
           passed = g.passed;
-          fails = inl (inl (stop Nesting (length (rest now)), subst N (sym g.point) refl, ap (λ (k : ℕ). Some (faults.Nesting (Some k))) (sym at)));
+          fails = inl (inl some, inl (stop Nesting (length (rest now)), subst N (sym g.point) refl, ap (λ (k : ℕ). Some (faults.Nesting (Some k))) (sym at)));
         })
 
 -- ---- where the reader stands

@@ -1,36 +1,35 @@
 -- Lemmas: an operator that is read inside the open sequences.
-use Rattle.std.proofs.Common.{ℕ, suc, ◌≡◌, ◌⊎◌, ◌<◌, ◌≤◌, ◌+◌, ◌-◌, ◌==◌, Bool, true, false, List, [], ◌∷◌, length, Option, Some, None, Result, Ok, Err, if◌then◌else◌, refl, sym, ap, subst, inl, inr, ◌∙◌, arith}
-use Rattle.std.proofs.lemmas.Bool.{eqb-false, ne_eqb}
+use Rattle.std.proofs.Common.{ℕ, suc, ◌≡◌, ◌<◌, ◌+◌, ◌-◌, Bool, List, [], ◌∷◌, length, Option, Some, None, Result, Ok, Err, if◌then◌else◌, refl, sym, ap, subst, inl, inr, ◌∙◌, arith}
+use Rattle.std.proofs.lemmas.Bool.{ne_eqb}
 use Rattle.walrus_instr.specs.declared.seq.InstrLocId.{InstrLocId}
-use Rattle.wasm_reader.specs.Cursor.{Window, Cursor, rest, end_of, Forward, IsWithin}
-use Rattle.wasm_formats.specs.Stops.{Trouble, Stop, stop}
+use Rattle.wasm_reader.specs.Cursor.{Cursor, rest, end_of}
+use Rattle.wasm_formats.specs.Stops.{Trouble, stop}
 use Rattle.wasm_operators.specs.Operators.{Seen, flow_of}
-use Rattle.wasm_grammar.specs.Values.{first_of}
-use Rattle.wasm_body_grammar.specs.Frames.{Frame, turned}
-use Rattle.wasm_body_grammar.specs.Rules.{turned_test}
-use Rattle.wasm_body_grammar.specs.Bodies.{operator}
+use Rattle.walrus_body_locals.specs.wasm_grammar.Values.{first_of}
+use Rattle.walrus_body_locals.specs.wasm_body_grammar.Frames.{Frame, turned}
+use Rattle.walrus_body_locals.specs.wasm_body_grammar.Rules.{turned_test}
+use Rattle.walrus_body_locals.specs.wasm_body_grammar.Bodies.{operator}
 use Rattle.walrus_operators.specs.declared.operator.Operator.{Operator}
 use Rattle.walrus_operators.specs.Operators.{seen}
-use Rattle.walrus_body_env.specs.declared.error.BodyError.{BodyError}
-use Rattle.walrus_body_env.specs.declared.error.BodyError.TheVariants as faults
-use Rattle.walrus_body_env.specs.Faults as env
-use Rattle.walrus_body_nesting.specs.Faults.{fault_at, Fails, IsRefusal}
-use Rattle.walrus_body_nesting.specs.Stands.{place_in}
-use Rattle.walrus_body_nesting.specs.Opens.{Open, ids_of, kinds_of, left_kinds, Steps}
-use Rattle.walrus_body_stack.specs.declared.stack.Stack.{Stack}
-use Rattle.walrus_body_stack.specs.Frames.{inner, around, opens, blocks}
-use Rattle.walrus_body_rules.specs.Sights.{Sight}
-use Rattle.walrus_body_rules.specs.Rules.{operator_test, items_test}
-use Rattle.walrus_body_steps.specs.Meanings.{meaning}
-use Rattle.walrus_body_steps.specs.Laws.{StepOf}
+use Rattle.walrus_body_locals.specs.walrus_body_env.declared.error.BodyError.{BodyError}
+use Rattle.walrus_body_locals.specs.walrus_body_env.declared.error.BodyError.TheVariants as faults
+use Rattle.walrus_body_locals.specs.walrus_body_env.Faults as env
+use Rattle.walrus_body_locals.specs.walrus_body_nesting.Faults.{fault_at, Fails, IsRefusal}
+use Rattle.walrus_body_locals.specs.walrus_body_nesting.Stands.{place_in}
+use Rattle.walrus_body_locals.specs.walrus_body_nesting.Opens.{Open, ids_of, kinds_of, Steps}
+use Rattle.walrus_body_operands.specs.walrus_body_stack.declared.stack.Stack.{Stack}
+use Rattle.walrus_body_operands.specs.walrus_body_stack.Frames.{inner, around, opens, blocks}
+use Rattle.walrus_body_operands.specs.walrus_body_rules.Sights.{Sight}
+use Rattle.walrus_body_operands.specs.walrus_body_rules.Rules.{operator_test, items_test}
+use Rattle.walrus_body_operands.specs.walrus_body_steps.Meanings.{meaning}
+use Rattle.walrus_body_operands.specs.walrus_body_steps.Laws.{StepOf}
 use Rattle.walrus_body_locals.specs.Calls.{Parses}
 use Rattle.walrus_body_locals.proofs.Answering.{accepted, barred}
 use Rattle.walrus_body_operands.specs.Listed.{IsListed, known_labels}
 use Rattle.walrus_body_parser.specs.Points.{place_at}
-use Rattle.walrus_body_parser.specs.Changes.{Hinders, Refuses, reads_next, HindersNext, ReadsNext}
+use Rattle.walrus_body_parser.specs.Changes.{Refuses, reads_next, ReadsNext}
 use Rattle.walrus_body_operands.specs.Counted.{counted}
 use Rattle.walrus_body_operands.proofs.Last.{frames_ask_last}
-use Rattle.walrus_body_parser.proofs.Takes.{offset_is}
 
 kinds_count : (os : List Open) → length (kinds_of os) ≡ length (ids_of os)
 kinds_count [] = refl

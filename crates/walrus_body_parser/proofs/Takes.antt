@@ -4,28 +4,27 @@ use Rattle.std.proofs.lemmas.List.{length-drop}
 use Rattle.wasm_features.specs.declared.WasmFeatures.{WasmFeatures}
 use Rattle.wasm_reader.specs.declared.error.Error.{Error}
 use Rattle.wasm_reader.specs.declared.error.ErrorKind.{ErrorKind}
-use Rattle.wasm_reader.specs.Cursor.{Window, Cursor, rest, end_of, Forward, IsWithin}
-use Rattle.wasm_reader.specs.Reading.{Reading, Fault, fault, ◌>>=◌, byte_at}
+use Rattle.wasm_reader.specs.Cursor.{Cursor, rest, end_of, IsWithin}
+use Rattle.wasm_reader.specs.Reading.{Reading, Fault, fault, ◌>>=◌}
 use Rattle.wasm_reader.specs.Numbers.{unsigned_at}
 use Rattle.wasm_reader.specs.Laws.{StaysWithin}
 use Rattle.wasm_reader.specs.Final.{map_final}
 use Rattle.wasm_reader.specs.Finals.{unsigned_final}
-use Rattle.wasm_immediates.specs.Readings.{mapped, items_at}
-use Rattle.wasm_immediates.specs.Finals.{items_final}
+use Rattle.wasm_operators.specs.wasm_immediates.Readings.{mapped, items_at}
+use Rattle.wasm_operators.specs.wasm_immediates.Finals.{items_final}
 use Rattle.wasm_operators.specs.declared.entry.Kind.{Kind}
 use Rattle.wasm_operators.specs.declared.op_code.OpCode.{OpCode}
 use Rattle.wasm_operators.specs.Kinds.{forms}
 use Rattle.wasm_operators.specs.Operators.{Seen, is_prefix, op_code, code_at, kind_of, seen_as, after_code, operator_at}
 use Rattle.wasm_formats.specs.Stops.{Read, Operator, Stop, stop, Parsing, value_at}
 use Rattle.wasm_formats.specs.Parts.{told_as}
-use Rattle.wasm_body_grammar.specs.Bodies.{operator}
+use Rattle.walrus_body_locals.specs.wasm_body_grammar.Bodies.{operator}
 use Rattle.walrus_operators.specs.declared.operator.Operator.{Operator as Op}
-use Rattle.walrus_operators.specs.declared.reader.OperatorError.{OperatorError}
 use Rattle.walrus_operators.specs.declared.reader.OperatorError.TheVariants as errors
 use Rattle.walrus_operators.specs.Operators.{seen, ReadsOperator, Answers}
-use Rattle.walrus_body_env.specs.declared.error.BodyError.{BodyError}
-use Rattle.walrus_body_env.specs.declared.error.BodyError.TheVariants as faults
-use Rattle.walrus_body_env.specs.Faults.{fault_of_kind, read_fault}
+use Rattle.walrus_body_locals.specs.walrus_body_env.declared.error.BodyError.{BodyError}
+use Rattle.walrus_body_locals.specs.walrus_body_env.declared.error.BodyError.TheVariants as faults
+use Rattle.walrus_body_locals.specs.walrus_body_env.Faults.{fault_of_kind, read_fault}
 use Rattle.walrus_body_locals.specs.Calls.{Parses, Refuses, IsFaultOf}
 use Rattle.walrus_body_locals.proofs.Answering.{end_stays, reader_refuses}
 

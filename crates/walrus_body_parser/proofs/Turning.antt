@@ -1,23 +1,23 @@
 -- Lemmas: what each change of the open sequences is a step of.
-use Rattle.std.proofs.Common.{ℕ, ◌≡◌, Bool, true, false, List, [], ◌∷◌, Option, Some, None, refl, sym, ap, subst, ◌∙◌}
+use Rattle.std.proofs.Common.{ℕ, ◌≡◌, Bool, true, false, List, [], ◌∷◌, Some, None, subst}
 use Rattle.walrus_instr.specs.declared.instr.Instr.{Instr}
 use Rattle.walrus_instr.specs.declared.seq.InstrLocId.{InstrLocId}
 use Rattle.walrus_instr.specs.declared.seq.InstrSeqType.{InstrSeqType}
-use Rattle.wasm_immediates.specs.Items.{Tags, Labels, Names}
+use Rattle.wasm_operators.specs.wasm_immediates.Items.{Tags, Labels, Names}
 use Rattle.wasm_operators.specs.declared.entry.Flow.TheVariants as flows
 use Rattle.wasm_operators.specs.Operators.{Seen, flow_of}
-use Rattle.wasm_body_grammar.specs.Frames.{Frame, Plain, Choice, Trying, Catching, Caught}
+use Rattle.walrus_body_locals.specs.wasm_body_grammar.Frames.{Frame, Plain, Choice, Trying, Catching, Caught}
 use Rattle.walrus_builder.specs.Built.{Seq}
-use Rattle.wasm_normal_form.specs.Roles.{Runs, role, cuts}
-use Rattle.walrus_body_nesting.specs.Stands.{Handles, HandlesAll}
-use Rattle.walrus_body_nesting.specs.Opens.{Open, ids_of, ran, reach_on, Unless, IsBody, Shaped}
-use Rattle.walrus_body_nesting.specs.Grown.{unless_map}
-use Rattle.walrus_body_stack.specs.declared.stack.Stack.{Stack}
-use Rattle.walrus_body_stack.specs.Frames.{inner, around, opens, blocks, IsTurned, IsHanded, IsTrying, handler_test, delegate_test}
-use Rattle.walrus_body_rules.specs.Sights.{Sight, look, results_of, handler_of, tag_params}
-use Rattle.walrus_body_steps.specs.Meanings.{RunsAs, TurnsTo}
-use Rattle.walrus_body_steps.specs.Laws.{StepOf}
-use Rattle.walrus_body_steps.specs.Stepping.{runs_are_steps, turns_are_steps, hands_are_steps}
+use Rattle.walrus_body_locals.specs.wasm_normal_form.Roles.{Runs, role, cuts}
+use Rattle.walrus_body_locals.specs.walrus_body_nesting.Stands.{Handles, HandlesAll}
+use Rattle.walrus_body_locals.specs.walrus_body_nesting.Opens.{Open, ids_of, ran, reach_on, Unless, Shaped}
+use Rattle.walrus_body_locals.specs.walrus_body_nesting.Grown.{unless_map}
+use Rattle.walrus_body_operands.specs.walrus_body_stack.declared.stack.Stack.{Stack}
+use Rattle.walrus_body_operands.specs.walrus_body_stack.Frames.{inner, around, opens, blocks, IsTurned, IsHanded, IsTrying, handler_test, delegate_test}
+use Rattle.walrus_body_operands.specs.walrus_body_rules.Sights.{Sight, look, results_of, handler_of, tag_params}
+use Rattle.walrus_body_operands.specs.walrus_body_steps.Meanings.{RunsAs, TurnsTo}
+use Rattle.walrus_body_operands.specs.walrus_body_steps.Laws.{StepOf}
+use Rattle.walrus_body_operands.specs.walrus_body_steps.Stepping.{runs_are_steps, turns_are_steps, hands_are_steps}
 
 pub run_on : (s : Sight) (old new : Stack) (op : Seen) (i : Instr) (p : InstrLocId) (cut : Bool) → (role op ≡ Runs) × RunsAs s (ids_of (opens old)) op.code op.items i × (cut ≡ cuts op) → Shaped (blocks old) (opens old)
     → blocks new ≡ blocks old → opens new ≡ ran (i, p) cut (inner old) ∷ around old → StepOf s op p old false new
@@ -49,7 +49,7 @@ is_trying Catching e = absurd cc
 is_trying Caught e = absurd cc
 
 -- the body itself is no `try`
-not_body : (b : List Seq) (o : Open) (os : List Open) → Shaped b (o ∷ os) → IsTrying o.kind → os ≡ [] → ⊥
+pub not_body : (b : List Seq) (o : Open) (os : List Open) → Shaped b (o ∷ os) → IsTrying o.kind → os ≡ [] → ⊥
 not_body b o [] h t e = let F : Frame → Type 0 = λ k. IsTrying k in subst F h.1.kind t
 not_body b o (u ∷ os) h t e = absurd cc
 

@@ -4,23 +4,27 @@ use Rattle.wasm_reader.specs.Cursor.{Cursor, rest, end_of}
 use Rattle.walrus_instr.specs.declared.seq.InstrLocId.{InstrLocId}
 use Rattle.walrus_instr.specs.declared.seq.InstrSeqType.{InstrSeqType}
 use Rattle.wasm_formats.specs.Stops.{Parsing}
-use Rattle.wasm_immediates.specs.Items.{Tags, Names}
+use Rattle.wasm_operators.specs.wasm_immediates.Items.{Tags, Names}
 use Rattle.wasm_operators.specs.declared.entry.Flow.TheVariants as flows
 use Rattle.wasm_operators.specs.Operators.{Seen, flow_of}
-use Rattle.wasm_body_grammar.specs.Frames.{turned}
-use Rattle.wasm_body_grammar.specs.Rules.{turned_test}
-use Rattle.wasm_body_grammar.specs.Bodies.{Point}
-use Rattle.walrus_body_env.specs.declared.error.BodyError.{BodyError}
-use Rattle.walrus_body_env.specs.declared.error.BodyError.TheVariants as faults
-use Rattle.walrus_body_nesting.specs.Faults.{IsRefusal}
-use Rattle.walrus_body_nesting.specs.Opens.{kinds_of, IsReached, Steps}
-use Rattle.walrus_body_stack.specs.declared.stack.Stack.{Stack}
-use Rattle.walrus_body_stack.specs.Frames.{inner, opens, blocks}
-use Rattle.walrus_body_rules.specs.Sights.{Sight, look, results_of, handler_of, tag_params}
-use Rattle.walrus_body_steps.specs.Meanings.{meaning}
-use Rattle.walrus_body_steps.specs.Laws.{StepOf}
+use Rattle.walrus_body_locals.specs.wasm_body_grammar.Frames.{turned}
+use Rattle.walrus_body_locals.specs.wasm_body_grammar.Rules.{turned_test}
+use Rattle.walrus_body_locals.specs.wasm_body_grammar.Bodies.{Point}
+use Rattle.walrus_body_locals.specs.walrus_body_env.declared.error.BodyError.{BodyError}
+use Rattle.walrus_body_locals.specs.walrus_body_env.declared.error.BodyError.TheVariants as faults
+use Rattle.walrus_body_locals.specs.walrus_body_nesting.Faults.{IsRefusal}
+use Rattle.walrus_body_locals.specs.walrus_body_nesting.Opens.{kinds_of, type_at, IsReached, Steps}
+use Rattle.walrus_body_operands.specs.walrus_body_stack.declared.stack.Stack.{Stack}
+use Rattle.walrus_body_operands.specs.walrus_body_stack.Frames.{inner, opens, blocks}
+use Rattle.walrus_body_operands.specs.walrus_body_rules.Sights.{Sight, look, results_of, handler_of, tag_params}
+use Rattle.walrus_body_operands.specs.walrus_body_steps.Meanings.{meaning}
+use Rattle.walrus_body_operands.specs.walrus_body_steps.Laws.{StepOf}
 use Rattle.walrus_body_locals.specs.Told.{Fails}
 use Rattle.walrus_body_parser.specs.Points.{operator_seen, op_told, place_at}
+
+-- the type of the body's own sequence
+abbrev pub entry_of : Stack → Option InstrSeqType
+entry_of s = type_at (blocks s) 0
 
 -- in a block of this type the operator begins a handler for which the environment has no type
 abbrev pub LacksType : Sight → InstrSeqType → Seen → Type 0

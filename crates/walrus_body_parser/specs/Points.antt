@@ -1,5 +1,5 @@
 -- Operators at the points of a body, in words of what its parser sees of the module.
-use Rattle.std.specs.Prelude.{◌≡◌, ℕ, ◌-◌, List, [], ◌∷◌, length, map, Option, Some}
+use Rattle.std.specs.Prelude.{ℕ, ◌-◌, List, length, map, Option, Some}
 use Rattle.wasm_features.specs.declared.WasmFeatures.{WasmFeatures}
 use Rattle.wasm_reader.specs.Cursor.{Cursor, rest, end_of}
 use Rattle.wasm_formats.specs.Stops.{Nesting}
@@ -7,12 +7,12 @@ use Rattle.wasm_formats.specs.Formats.{Format}
 use Rattle.wasm_formats.specs.Bytes.{never, either}
 use Rattle.wasm_formats.specs.Joined.{checked, ends_at}
 use Rattle.wasm_operators.specs.Operators.{Seen}
-use Rattle.wasm_grammar.specs.Modules as grammar
-use Rattle.wasm_body_grammar.specs.Bodies.{Point, is_closed, operator, placed}
-use Rattle.wasm_normal_form.specs.Roles.{Placed}
-use Rattle.walrus_body_env.specs.declared.error.BodyError.{BodyError}
-use Rattle.walrus_body_rules.specs.Sights.{Sight}
-use Rattle.walrus_body_rules.specs.Rules.{operator_test}
+use Rattle.walrus_body_locals.specs.wasm_grammar.Modules as grammar
+use Rattle.walrus_body_locals.specs.wasm_body_grammar.Bodies.{Point, is_closed, operator, placed}
+use Rattle.walrus_body_locals.specs.wasm_normal_form.Roles.{Placed}
+use Rattle.walrus_body_locals.specs.walrus_body_env.declared.error.BodyError.{BodyError}
+use Rattle.walrus_body_operands.specs.walrus_body_rules.Sights.{Sight}
+use Rattle.walrus_body_operands.specs.walrus_body_rules.Rules.{operator_test}
 use Rattle.walrus_body_locals.specs.Told.{Telling}
 
 -- an operator, and the place behind it: once the body's frame is closed nothing may follow

@@ -1,20 +1,20 @@
 -- The operators of a body, up to its end, and the tree that they are read as.
-use Rattle.std.specs.Prelude.{◌≡◌, ◌⊎◌, ℕ, ◌-◌, true, List, [], ◌∷◌, length, fold, Option, Some, None, Ok}
+use Rattle.std.specs.Prelude.{◌≡◌, ◌⊎◌, ◌<◌, ℕ, ◌-◌, true, false, List, [], length, fold, Option, Some, None, Ok}
 use Rattle.wasm_features.specs.declared.WasmFeatures.{WasmFeatures}
 use Rattle.wasm_reader.specs.Cursor.{Cursor, rest, end_of}
 use Rattle.wasm_formats.specs.Stops.{Parsing}
 use Rattle.walrus_instr.specs.declared.seq.InstrSeqType.{InstrSeqType}
 use Rattle.walrus_builder.specs.Built.{Seq}
 use Rattle.wasm_operators.specs.Operators.{Seen}
-use Rattle.wasm_body_grammar.specs.Bodies.{Point, next_point, opened, is_closed}
-use Rattle.wasm_normal_form.specs.Trees.{tree_of}
-use Rattle.wasm_normal_form.specs.Normal.{normal}
-use Rattle.walrus_body_env.specs.declared.error.BodyError.{BodyError}
-use Rattle.walrus_body_env.specs.declared.error.BodyError.TheVariants as faults
-use Rattle.walrus_body_nesting.specs.Stands.{StandsAs}
-use Rattle.walrus_body_nesting.specs.Opens.{same}
-use Rattle.walrus_body_rules.specs.Sights.{Sight}
-use Rattle.walrus_body_steps.specs.Meanings.{OpensOf, meaning}
+use Rattle.walrus_body_locals.specs.wasm_body_grammar.Bodies.{Point, next_point, opened, is_closed}
+use Rattle.walrus_body_locals.specs.wasm_normal_form.Trees.{tree_of}
+use Rattle.walrus_body_locals.specs.wasm_normal_form.Normal.{normal}
+use Rattle.walrus_body_locals.specs.walrus_body_env.declared.error.BodyError.{BodyError}
+use Rattle.walrus_body_locals.specs.walrus_body_env.declared.error.BodyError.TheVariants as faults
+use Rattle.walrus_body_locals.specs.walrus_body_nesting.Stands.{StandsAs}
+use Rattle.walrus_body_locals.specs.walrus_body_nesting.Opens.{same}
+use Rattle.walrus_body_operands.specs.walrus_body_rules.Sights.{Sight}
+use Rattle.walrus_body_operands.specs.walrus_body_steps.Meanings.{OpensOf, meaning}
 use Rattle.walrus_body_locals.specs.Told.{Pass, Fails}
 use Rattle.walrus_body_parser.specs.Points.{operator_seen, op_told, place_at, ops_from}
 use Rattle.walrus_body_parser.specs.Changes.{LacksType}
@@ -54,13 +54,17 @@ module _ {V : Type 0} (parser : Parser) (told : Validating V) (end place : ℕ) 
   Lacks s bytes p e = (x : ℕ × Seen) × (later : List ℕ) × (parser p bytes ≡ Ok (x, later))
       × (by : Seen) × (ty : InstrSeqType) × OpensOf s by ty × LacksType s ty x.1 × (e ≡ faults.TypeForm (Some (end - length bytes)))
 
+  -- a next one is read: bytes are left, or the body isn't closed
+  abbrev pub IsDue : Point → List ℕ → Type 0
+  IsDue p bytes = (0 < length bytes) ⊎ (is_closed p.frames ≡ false)
+
   -- behind some that pass: the next one is refused, or lacks a type; or the validator refuses the end
   pub record FailOps (s : Sight) (v : V) (bytes : List ℕ) (e : BodyError) : Type 0 where
     pub ops : List (ℕ × Seen)
     pub later : List ℕ
     pub left : V
     pub passed : PassOps v bytes ops later left
-    pub fails : Fails (parser (point_of ops)) (op_told told.op) end left later e ⊎ Lacks s later (point_of ops) e
+    pub fails : (IsDue (point_of ops) later × Fails (parser (point_of ops)) (op_told told.op) end left later e) ⊎ Lacks s later (point_of ops) e
         ⊎ ((later ≡ []) × (is_closed (point_of ops).frames ≡ true) × ((told.finish left end).0 ≡ Some e))
 
 -- ---- what a call answers

@@ -2,19 +2,19 @@
 
 ghost use Rattle.std.specs.Prelude.{◌≡◌, [], Some, None, IfOk, IfErr, OnOk};
 ghost use Rattle.wasm_operators.specs.Operators.{Seen};
-ghost use Rattle.walrus_body_nesting.specs.Opens.{IsReached, Shaped, Unless, ids_of, reach_on};
-ghost use Rattle.walrus_body_stack.specs.Frames.{blocks, inner, opens, type_of};
-ghost use Rattle.walrus_body_rules.specs.Sights.{handler_of, results_of, tag_params};
-ghost use Rattle.walrus_body_env.specs.declared.error.BodyError.TheVariants as faults;
+ghost use Rattle.walrus_body_locals.specs.walrus_body_nesting.Opens.{IsReached, Shaped, Unless, ids_of, reach_on};
+ghost use Rattle.walrus_body_operands.specs.walrus_body_stack.Frames.{blocks, heading_of, inner, opens};
+ghost use Rattle.walrus_body_operands.specs.walrus_body_rules.Sights.{handler_of, results_of, tag_params};
+ghost use Rattle.walrus_body_locals.specs.walrus_body_env.declared.error.BodyError.TheVariants as faults;
 ghost use Rattle.walrus_body_operands.specs.declared.steps.Step.TheVariants as steps;
 ghost use Rattle.walrus_body_operands.specs.Steps.{IsStep};
-ghost use Rattle.walrus_body_parser.specs.Changes.{Turns};
+ghost use Rattle.walrus_body_parser.specs.Changes.{Turns, entry_of};
 
 use walrus_arena::TagId;
-use walrus_body_env::BodyError;
-use walrus_body_nesting::Reach;
+use walrus_body_locals::body_env::BodyError;
+use walrus_body_locals::body_nesting::Reach;
+use walrus_body_operands::body_stack::Stack;
 use walrus_body_operands::{Scope, handler_type, last_handler_type};
-use walrus_body_stack::Stack;
 use walrus_instr::{InstrLocId, InstrSeqType};
 
 // The type of the next handler's sequence, for the exceptions of a tag. Where the block isn't reached nobody is asked for one.
@@ -66,7 +66,8 @@ pub(crate) fn begin_handler<S: Scope>(
     offset: u64,
 ) -> Result<(), BodyError>
     requires { Shaped (blocks stack.old) (opens stack.old) }
-    ensures ty { OnOk result (type_of stack.new ≡ type_of stack.old) }
+    ensures ty { OnOk result (heading_of stack.new ≡ heading_of stack.old) }
+    ensures entry { OnOk result (entry_of stack.new ≡ entry_of stack.old) }
     ensures turned { (op : Seen) → IsStep (S.sight scope.now) (ids_of (opens stack.old)) op (steps.Catch tag) → Turns (S.sight scope.now) op offset place stack.old stack.new result }
 {
     stack.check_handler(offset)?;
@@ -83,7 +84,8 @@ pub(crate) fn begin_last_handler<S: Scope>(
     offset: u64,
 ) -> Result<(), BodyError>
     requires { Shaped (blocks stack.old) (opens stack.old) }
-    ensures ty { OnOk result (type_of stack.new ≡ type_of stack.old) }
+    ensures ty { OnOk result (heading_of stack.new ≡ heading_of stack.old) }
+    ensures entry { OnOk result (entry_of stack.new ≡ entry_of stack.old) }
     ensures turned { (op : Seen) → IsStep (S.sight scope.now) (ids_of (opens stack.old)) op steps.CatchAll → Turns (S.sight scope.now) op offset place stack.old stack.new result }
 {
     stack.check_handler(offset)?;

@@ -7,3 +7,6 @@ mod steps;
 mod trees;
 
 pub use trees::read_tree;
+
+// Passed on to crates above, which then list this one alone.
+pub use walrus_body_operands as body_operands;

@@ -2,19 +2,19 @@
 
 ghost use Rattle.std.specs.Prelude.{◌≡◌, ◌<◌, ◌≤◌, ◌+◌, length, IfOk, OnOk};
 ghost use Rattle.wasm_reader.specs.Cursor.{Forward, IsWithin, end_of, rest};
-ghost use Rattle.wasm_body_grammar.specs.Bodies.{operator};
+ghost use Rattle.walrus_body_locals.specs.wasm_body_grammar.Bodies.{operator};
 ghost use Rattle.walrus_operators.specs.Operators.{seen};
-ghost use Rattle.walrus_body_nesting.specs.Opens.{Shaped};
-ghost use Rattle.walrus_body_stack.specs.Frames.{blocks, opens, type_of};
+ghost use Rattle.walrus_body_locals.specs.walrus_body_nesting.Opens.{Shaped};
+ghost use Rattle.walrus_body_operands.specs.walrus_body_stack.Frames.{blocks, heading_of, opens};
 ghost use Rattle.walrus_body_locals.specs.Calls.{Parses};
 ghost use Rattle.walrus_body_operands.specs.Listed.{IsListed};
-ghost use Rattle.walrus_body_parser.specs.Changes.{ReadsNext};
+ghost use Rattle.walrus_body_parser.specs.Changes.{ReadsNext, entry_of};
 
 use crate::steps::change;
 use std::alloc::Global;
-use walrus_body_env::{BodyError, Validator};
+use walrus_body_locals::body_env::{BodyError, Validator};
+use walrus_body_operands::body_stack::Stack;
 use walrus_body_operands::{Scope, step_of};
-use walrus_body_stack::Stack;
 use walrus_instr::InstrLocId;
 use walrus_operators::{Operator, OperatorError, OperatorReader};
 
@@ -55,7 +55,8 @@ pub(crate) fn read_operator<S: Scope, V: Validator>(
     requires ends { end_of reader.old < code_start + 4294967295 }
     ensures read { ReadsNext (S.sight scope.now) V.op_step code_start reader.old stack.old validator.old reader.new stack.new validator.new result }
     ensures takes { OnOk result (length (rest reader.new) < length (rest reader.old)) }
-    ensures ty { OnOk result (type_of stack.new ≡ type_of stack.old) }
+    ensures ty { OnOk result (heading_of stack.new ≡ heading_of stack.old) }
+    ensures entry { OnOk result (entry_of stack.new ≡ entry_of stack.old) }
     ensures moves { Forward reader.old reader.new }
 {
     let offset = reader.original_position();

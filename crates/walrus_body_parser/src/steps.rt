@@ -2,16 +2,16 @@
 
 ghost use Rattle.std.specs.Prelude.{◌≡◌, OnOk};
 ghost use Rattle.wasm_operators.specs.Operators.{Seen};
-ghost use Rattle.walrus_body_nesting.specs.Opens.{Shaped, ids_of};
-ghost use Rattle.walrus_body_stack.specs.Frames.{blocks, opens, type_of};
+ghost use Rattle.walrus_body_locals.specs.walrus_body_nesting.Opens.{Shaped, ids_of};
+ghost use Rattle.walrus_body_operands.specs.walrus_body_stack.Frames.{blocks, heading_of, opens};
 ghost use Rattle.walrus_body_operands.specs.Steps.{IsStep};
 ghost use Rattle.walrus_body_operands.specs.declared.steps.Step.TheVariants as steps;
-ghost use Rattle.walrus_body_parser.specs.Changes.{Changes};
+ghost use Rattle.walrus_body_parser.specs.Changes.{Changes, entry_of};
 
 use crate::handlers::{begin_handler, begin_last_handler};
-use walrus_body_env::BodyError;
+use walrus_body_locals::body_env::BodyError;
+use walrus_body_operands::body_stack::Stack;
 use walrus_body_operands::{Scope, Step};
-use walrus_body_stack::Stack;
 use walrus_instr::InstrLocId;
 
 // Ends the innermost block by a `delegate` of this label.
@@ -23,7 +23,8 @@ fn hand_on<S: Scope>(
     offset: u64,
 ) -> Result<bool, BodyError>
     requires { Shaped (blocks stack.old) (opens stack.old) }
-    ensures ty { OnOk result (type_of stack.new ≡ type_of stack.old) }
+    ensures ty { OnOk result (heading_of stack.new ≡ heading_of stack.old) }
+    ensures entry { OnOk result (entry_of stack.new ≡ entry_of stack.old) }
     ensures changed { (op : Seen) → IsStep (S.sight scope.now) (ids_of (opens stack.old)) op (steps.Delegate depth) → Changes (S.sight scope.now) op offset place stack.old stack.new result }
 {
     stack.check_delegate(offset)?;
@@ -45,7 +46,8 @@ pub(crate) fn change<S: Scope>(
     offset: u64,
 ) -> Result<bool, BodyError>
     requires { Shaped (blocks stack.old) (opens stack.old) }
-    ensures ty { OnOk result (type_of stack.new ≡ type_of stack.old) }
+    ensures ty { OnOk result (heading_of stack.new ≡ heading_of stack.old) }
+    ensures entry { OnOk result (entry_of stack.new ≡ entry_of stack.old) }
     ensures changed { (op : Seen) → IsStep (S.sight scope.now) (ids_of (opens stack.old)) op step → Changes (S.sight scope.now) op offset place stack.old stack.new result }
 {
     match step {

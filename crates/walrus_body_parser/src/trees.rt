@@ -4,13 +4,15 @@ ghost use Rattle.std.specs.Prelude.{◌≡◌, ◌<◌, ◌≤◌, ◌+◌, leng
 ghost use Rattle.wasm_reader.specs.Cursor.{IsWithin, end_of};
 ghost use Rattle.walrus_builder.specs.Built.{contents};
 ghost use Rattle.walrus_builder.specs.Functions.{seqs_of};
+ghost use Rattle.walrus_body_locals.specs.walrus_body_nesting.Opens.{type_at};
+ghost use Rattle.walrus_body_operands.specs.walrus_body_stack.Frames.{heading};
 ghost use Rattle.walrus_body_parser.specs.Trees.{ReadsTree, RefusesTree, validating};
 
 use crate::operators::read_operator;
 use std::alloc::Global;
-use walrus_body_env::{BodyError, Validator};
+use walrus_body_locals::body_env::{BodyError, Validator};
 use walrus_body_operands::Scope;
-use walrus_body_stack::Stack;
+use walrus_body_operands::body_stack::Stack;
 use walrus_builder::FunctionBuilder;
 use walrus_operators::OperatorReader;
 use wasm_reader::BinaryReader;
@@ -35,7 +37,8 @@ pub fn read_tree<S: Scope, V: Validator>(
     requires within { IsWithin body }
     requires begins { code_start ≤ body.window.start + body.position }
     requires ends { end_of body < code_start + 4294967295 }
-    ensures ty { IfOk result (λ f. f.ty ≡ builder.ty) }
+    ensures ty { IfOk result (λ f. heading f ≡ heading builder) }
+    ensures entry { IfOk result (λ f. type_at (contents f.builder) 0 ≡ type_at (contents builder.builder) 0) }
     ensures read { IfOk result (λ f. ReadsTree (S.sight scope.now) (validating V.op_step V.finish_step) code_start body.entry validator.old validator.new (contents f.builder)) }
     ensures refused { IfErr result (λ e. RefusesTree (S.sight scope.now) (validating V.op_step V.finish_step) code_start body.entry validator.old e) }
 {

@@ -4,10 +4,10 @@ use Rattle.std.specs.List.{list_any}
 use Rattle.std.proofs.Common.{ap, ◌∙◌}
 use Rattle.wasm_immediates.specs.declared.block_type.BlockType.TheVariants as blocks
 use Rattle.wasm_immediates.specs.Items.{Space, Memories, Item, Names, Number, S32, S64, Bits, Byte, Bytes, Heap, Block, Access, ManyLabels, ManyValues, ManyClauses}
-use Rattle.wasm_operators.specs.Operators.{Seen, flow_of}
-use Rattle.wasm_operator_names.specs.Names.{Name, operator_names}
-use Rattle.wasm_formats.specs.Stops.{Trouble, Index, Position, Bounds}
-use Rattle.wasm_grammar.specs.Values.{must, first_of}
+use Rattle.wasm_body_grammar.specs.wasm_operators.Operators.{Seen, flow_of}
+use Rattle.wasm_body_grammar.specs.wasm_operator_names.Names.{Name, operator_names}
+use Rattle.wasm_body_grammar.specs.wasm_formats.Stops.{Trouble, Index, Position, Bounds}
+use Rattle.wasm_body_grammar.specs.wasm_grammar.Values.{must, first_of}
 use Rattle.wasm_body_grammar.specs.Frames.{Frame, turned, label_count}
 use Rattle.wasm_body_grammar.specs.Rules as grammar
 use Rattle.wasm_body_grammar.specs.Rules.{Around, space_of, names_test, is_segment, first_in, select_rule, words_rule, turned_test, first_trouble}

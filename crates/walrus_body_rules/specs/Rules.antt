@@ -5,10 +5,10 @@ use Rattle.std.specs.Option.{is_some}
 use Rattle.wasm_immediates.specs.declared.block_type.BlockType.{BlockType}
 use Rattle.wasm_immediates.specs.declared.block_type.BlockType.TheVariants as blocks
 use Rattle.wasm_immediates.specs.Items.{Types, Memories, Item, Block, Access}
-use Rattle.wasm_operators.specs.Operators.{Seen, flow_of}
-use Rattle.wasm_operator_names.specs.Names.{Name, operator_names}
-use Rattle.wasm_formats.specs.Stops.{Trouble, TypeForm, Position, Bounds}
-use Rattle.wasm_grammar.specs.Values.{must}
+use Rattle.wasm_body_grammar.specs.wasm_operators.Operators.{Seen, flow_of}
+use Rattle.wasm_body_grammar.specs.wasm_operator_names.Names.{Name, operator_names}
+use Rattle.wasm_body_grammar.specs.wasm_formats.Stops.{Trouble, TypeForm, Position, Bounds}
+use Rattle.wasm_body_grammar.specs.wasm_grammar.Values.{must}
 use Rattle.wasm_body_grammar.specs.Frames.{Frame, turned, label_count}
 use Rattle.wasm_body_grammar.specs.Rules.{names_test, is_segment, select_rule, words_rule, first_in, turned_test, first_trouble}
 use Rattle.walrus_body_rules.specs.Sights.{Sight, look, room, function_block}

@@ -1,9 +1,9 @@
 -- What the parser of a body sees of its module: what indices name, and what it is told of types, tags and memories.
 use Rattle.std.specs.Prelude.{ℕ, Bool, List, [], ◌∷◌, length, Option, Some, None, Result, Ok, Err}
-use Rattle.walrus_forms.specs.declared.value.ValType.{ValType}
-use Rattle.walrus_instr.specs.declared.seq.InstrSeqType.{InstrSeqType}
-use Rattle.walrus_instr.specs.declared.seq.InstrSeqType.TheVariants.{Simple, MultiValue}
-use Rattle.walrus_index_maps.specs.Maps.{Ids}
+use Rattle.walrus_pairing.specs.walrus_forms.declared.value.ValType.{ValType}
+use Rattle.walrus_pairing.specs.walrus_instr.declared.seq.InstrSeqType.{InstrSeqType}
+use Rattle.walrus_pairing.specs.walrus_instr.declared.seq.InstrSeqType.TheVariants.{Simple, MultiValue}
+use Rattle.walrus_pairing.specs.walrus_index_maps.Maps.{Ids}
 use Rattle.walrus_pairing.specs.declared.error.PairError.{PairError}
 use Rattle.walrus_pairing.specs.Looks.{Look, id_of}
 use Rattle.walrus_pairing.specs.Types.{read_value}

@@ -2,7 +2,7 @@
 use Rattle.std.proofs.Common.{ℕ, ◌≡◌, List, [], ◌∷◌, ◌++◌, refl, ap}
 use Rattle.walrus_instr.specs.declared.instr.LegacyCatch.{LegacyCatch}
 use Rattle.walrus_instr.specs.declared.instr.LegacyCatch.TheVariants as legacy
-use Rattle.walrus_body_nesting.specs.Stands.{Part, part, Handles, HandlesAll, Ended, Delegated, parts_of, finish_of}
+use Rattle.walrus_body_nesting.specs.Stands.{Part, part, Handles, HandlesAll, Ended, Delegated, parts_of, finish_of, EndsOnce}
 use Rattle.walrus_body_stack.specs.Catches.{AreHandlers}
 
 pub parts_tag : (cs : List LegacyCatch) (tag k : ℕ) → AreHandlers cs → parts_of (cs ++ legacy.Catch tag k ∷ []) ≡ parts_of cs ++ part (Handles tag) k ∷ []
@@ -46,3 +46,15 @@ finish_delegate [] n h = refl
 finish_delegate (legacy.Catch t j ∷ cs) n h = finish_delegate cs n h
 finish_delegate (legacy.CatchAll j ∷ cs) n h = finish_delegate cs n h
 finish_delegate (legacy.Delegate m ∷ cs) n h = absurd h
+
+pub once_end : (cs : List LegacyCatch) → AreHandlers cs → EndsOnce cs
+once_end [] h = tt
+once_end (legacy.Catch t j ∷ cs) h = once_end cs h
+once_end (legacy.CatchAll j ∷ cs) h = once_end cs h
+once_end (legacy.Delegate n ∷ cs) h = absurd h
+
+pub once_delegate : (cs : List LegacyCatch) (n : ℕ) → AreHandlers cs → EndsOnce (cs ++ legacy.Delegate n ∷ [])
+once_delegate [] n h = refl
+once_delegate (legacy.Catch t j ∷ cs) n h = once_delegate cs n h
+once_delegate (legacy.CatchAll j ∷ cs) n h = once_delegate cs n h
+once_delegate (legacy.Delegate m ∷ cs) n h = absurd h

@@ -7,7 +7,7 @@ use Rattle.walrus_instr.specs.declared.seq.InstrLocId.{InstrLocId}
 use Rattle.walrus_instr.specs.declared.seq.InstrSeq.{InstrSeq}
 use Rattle.walrus_instr.specs.declared.seq.InstrSeqType.{InstrSeqType}
 use Rattle.walrus_instr.specs.declared.instr.Instr.{Instr}
-use Rattle.wasm_body_grammar.specs.Frames.{Plain}
+use Rattle.walrus_body_nesting.specs.wasm_body_grammar.Frames.{Plain}
 use Rattle.walrus_builder.specs.Built.{seq_of, no_place}
 use Rattle.walrus_body_nesting.specs.declared.frames.Opener.TheVariants as openers
 use Rattle.walrus_body_nesting.specs.declared.frames.Reach.TheVariants.{Live}

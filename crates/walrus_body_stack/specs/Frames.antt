@@ -1,12 +1,15 @@
 -- The open sequences of a body that is read, as contracts see them, and how calls change them.
 use Rattle.std.specs.Prelude.{◌≡◌, ◌⊎◌, ℕ, Bool, true, false, List, [], ◌∷◌, ◌++◌, length, map, reverse, Option, Some, None}
+use Rattle.std.specs.declared.alloc.Global.{Global}
+use Rattle.std.specs.declared.string.String.{String}
 use Rattle.walrus_instr.specs.declared.instr.Instr.{Instr}
 use Rattle.walrus_instr.specs.declared.instr.Instr.TheVariants as instr
 use Rattle.walrus_instr.specs.declared.seq.InstrLocId.{InstrLocId}
 use Rattle.walrus_instr.specs.declared.seq.InstrSeqType.{InstrSeqType}
+use Rattle.walrus_builder.specs.declared.function.FunctionBuilder.{FunctionBuilder}
 use Rattle.walrus_builder.specs.Built.{Seq, contents, edited, filled_with, empty_seq, no_place}
-use Rattle.wasm_formats.specs.Stops.{Trouble, Nesting, Position}
-use Rattle.wasm_body_grammar.specs.Frames as grammar
+use Rattle.walrus_body_nesting.specs.wasm_formats.Stops.{Trouble, Nesting, Position}
+use Rattle.walrus_body_nesting.specs.wasm_body_grammar.Frames as grammar
 use Rattle.walrus_body_nesting.specs.declared.frames.Opener.{Opener}
 use Rattle.walrus_body_nesting.specs.declared.frames.Opener.TheVariants as openers
 use Rattle.walrus_body_nesting.specs.Stands.{Turn, Otherwise, Part, part, Finish, Ended, Delegated, block}
@@ -63,9 +66,13 @@ opens s = inner s ∷ around s
 abbrev pub blocks : Stack → List Seq
 blocks s = contents s.builder.builder
 
--- the type of the function that is built
-abbrev pub type_of : Stack → ℕ
-type_of s = s.builder.ty
+-- the type and the name of a function
+abbrev pub heading : FunctionBuilder → ℕ × Option (String Global)
+heading f = (f.ty, f.name)
+
+-- those of the function that is built
+abbrev pub heading_of : Stack → ℕ × Option (String Global)
+heading_of s = heading s.builder
 
 -- the kind of a block's first part
 abbrev pub first_kind : Opener → grammar.Frame

@@ -7,3 +7,7 @@ mod stack;
 mod turns;
 
 pub use stack::Stack;
+
+// Passed on to crates above, which then list this one alone.
+pub use walrus_body_nesting as body_nesting;
+pub use walrus_body_nesting::body_env;

@@ -1,13 +1,13 @@
 //! The open sequences of a body that is read.
 
 ghost use Rattle.std.specs.Prelude.{◌≡◌, ◌<◌, [], ◌∷◌, ◌++◌, length, slice_get, IfOk, OnOk, Some};
-ghost use Rattle.wasm_body_grammar.specs.Frames.{Plain};
+ghost use Rattle.walrus_body_nesting.specs.wasm_body_grammar.Frames.{Plain};
 ghost use Rattle.walrus_builder.specs.Built.{contents, empty_seq, no_place};
 ghost use Rattle.walrus_builder.specs.Functions.{seqs_of};
 ghost use Rattle.walrus_body_nesting.specs.declared.frames.Opener.TheVariants as openers;
 ghost use Rattle.walrus_body_nesting.specs.declared.frames.Reach.TheVariants.{Live};
 ghost use Rattle.walrus_body_nesting.specs.Opens.{Shaped, begun, ids_of, ran, type_at};
-ghost use Rattle.walrus_body_stack.specs.Frames.{IsEnded, IsFirst, IsHanded, IsMade, IsOpened, IsTrying, around, blocks, filled, first_kind, inner, kind_of, open_of, opener_of, opens, type_of};
+ghost use Rattle.walrus_body_stack.specs.Frames.{IsEnded, IsFirst, IsHanded, IsMade, IsOpened, IsTrying, around, blocks, filled, first_kind, heading, heading_of, inner, kind_of, open_of, opener_of, opens};
 ghost use Rattle.walrus_instr.specs.declared.seq.InstrSeqType.{InstrSeqType as BlockTy};
 
 use crate::frame::{Frame, Sort, inner_reach};
@@ -33,7 +33,7 @@ impl Stack {
     /// The body's own sequence is open. Takes no memory.
     pub fn new(alloc: Global, builder: FunctionBuilder) -> Self
         requires { 0 < length (seqs_of builder) }
-        ensures ty { type_of result ≡ builder.ty }
+        ensures ty { heading_of result ≡ heading builder }
         ensures blocks { blocks result ≡ contents builder.builder }
         ensures opens { (ty : BlockTy) × (type_at (contents builder.builder) 0 ≡ Some ty) × (opens result ≡ begun openers.Block no_place ty Plain 0 Live ∷ []) }
     {
@@ -60,7 +60,7 @@ impl Stack {
     /// What was built.
     pub fn into_builder(self) -> FunctionBuilder
         ensures blocks { contents result.builder ≡ blocks self }
-        ensures ty { result.ty ≡ type_of self }
+        ensures ty { heading result ≡ heading_of self }
     {
         let Stack { builder, .. } = self;
         builder
@@ -108,7 +108,7 @@ impl Stack {
     ///
     /// Want of memory.
     pub fn run(&mut self, instr: Instr, place: InstrLocId, cuts: bool) -> Result<(), AllocError>
-        ensures ty { type_of self.new ≡ type_of self.old }
+        ensures ty { heading_of self.new ≡ heading_of self.old }
         ensures opens { OnOk result (opens self.new ≡ ran (instr, place) cuts (inner self.old) ∷ around self.old) }
         ensures blocks { blocks self.new ≡ blocks self.old }
     {
@@ -117,7 +117,7 @@ impl Stack {
 
     // An empty sequence of this type.
     pub(crate) fn fresh(&mut self, ty: InstrSeqType) -> Result<InstrSeqId, AllocError>
-        ensures ty { OnOk result (type_of self.new ≡ type_of self.old) }
+        ensures ty { OnOk result (heading_of self.new ≡ heading_of self.old) }
         ensures id { IfOk result (λ id. id ≡ length (blocks self.old)) }
         ensures added { OnOk result (blocks self.new ≡ blocks self.old ++ empty_seq (length (blocks self.old)) ty ∷ []) }
         ensures current { self.new.current ≡ self.old.current }
@@ -129,7 +129,7 @@ impl Stack {
 
     // Takes this sequence as the innermost.
     fn push(&mut self, frame: Frame) -> Result<(), AllocError>
-        ensures ty { type_of self.new ≡ type_of self.old }
+        ensures ty { heading_of self.new ≡ heading_of self.old }
         ensures opens { OnOk result (opens self.new ≡ open_of frame ∷ opens self.old) }
         ensures blocks { blocks self.new ≡ blocks self.old }
     {
@@ -149,7 +149,7 @@ impl Stack {
         place: InstrLocId,
         ty: InstrSeqType,
     ) -> Result<(), AllocError>
-        ensures ty { OnOk result (type_of self.new ≡ type_of self.old) }
+        ensures ty { OnOk result (heading_of self.new ≡ heading_of self.old) }
         ensures opened { OnOk result (IsOpened opener place ty self.old self.new) }
     {
         let own = ty;
@@ -175,7 +175,7 @@ impl Stack {
     // cost each later walk its time.
     pub(crate) fn close(&mut self, place: InstrLocId)
         requires { self.old.current.seq < length (blocks self.old) }
-        ensures ty { type_of self.new ≡ type_of self.old }
+        ensures ty { heading_of self.new ≡ heading_of self.old }
         ensures filled { blocks self.new ≡ filled place self.old }
         ensures empty { self.new.current.instrs.items ≡ [] }
         ensures current { self.new.current ≡ record self.old.current { instrs = self.new.current.instrs } }
@@ -196,7 +196,7 @@ impl Stack {
         seq: InstrSeqId,
         handlers: Handlers,
     ) -> Result<Instr, AllocError>
-        ensures ty { OnOk result (type_of self.new ≡ type_of self.old) }
+        ensures ty { OnOk result (heading_of self.new ≡ heading_of self.old) }
         ensures made { IfOk result (λ instr. IsMade sort ty first seq handlers (blocks self.old) (blocks self.new) instr) }
         ensures current { self.new.current ≡ self.old.current }
         ensures outer { self.new.outer ≡ self.old.outer }
@@ -233,7 +233,7 @@ impl Stack {
     /// Want of memory.
     pub fn end(&mut self, place: InstrLocId) -> Result<bool, AllocError>
         requires { Shaped (blocks self.old) (opens self.old) }
-        ensures ty { OnOk result (type_of self.new ≡ type_of self.old) }
+        ensures ty { OnOk result (heading_of self.new ≡ heading_of self.old) }
         ensures ended { IfOk result (λ done. IsEnded done place self.old self.new) }
     {
         self.close(place);
@@ -265,7 +265,7 @@ impl Stack {
     pub fn delegate(&mut self, depth: u32) -> Result<bool, AllocError>
         requires shaped { Shaped (blocks self.old) (opens self.old) }
         requires trying { IsTrying (inner self.old).kind }
-        ensures ty { OnOk result (type_of self.new ≡ type_of self.old) }
+        ensures ty { OnOk result (heading_of self.new ≡ heading_of self.old) }
         ensures handed { IfOk result (λ done. IsHanded done depth self.old self.new) }
     {
         self.close(InstrLocId::default());

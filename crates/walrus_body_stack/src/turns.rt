@@ -1,18 +1,18 @@
 //! Further parts of a block that is read.
 
 ghost use Rattle.std.specs.Prelude.{◌≡◌, ◌<◌, [], ◌∷◌, ◌++◌, None, Bool, length, IfOk, IfErr, OnOk};
-ghost use Rattle.wasm_body_grammar.specs.Frames.{Plain, Catching, Caught};
+ghost use Rattle.walrus_body_nesting.specs.wasm_body_grammar.Frames.{Plain, Catching, Caught};
 ghost use Rattle.walrus_builder.specs.Built.{empty_seq};
 ghost use Rattle.walrus_body_nesting.specs.Faults.{Answers, IsRefusal};
 ghost use Rattle.walrus_body_nesting.specs.Stands.{Handles, HandlesAll, Otherwise};
 ghost use Rattle.walrus_body_nesting.specs.Opens.{Shaped, reach_on};
-ghost use Rattle.walrus_body_stack.specs.Frames.{IsTurned, blocks, delegate_test, filled, handler_test, inner, is_then, opens, other_test, type_of};
+ghost use Rattle.walrus_body_stack.specs.Frames.{IsTurned, blocks, delegate_test, filled, handler_test, heading_of, inner, is_then, opens, other_test};
 
 use crate::frame::{Sort, next_reach};
 use crate::stack::Stack;
 use std::alloc::AllocError;
 use walrus_arena::{InstrSeqId, TagId};
-use walrus_body_env::BodyError;
+use walrus_body_nesting::body_env::BodyError;
 use walrus_instr::{InstrLocId, InstrSeqType};
 
 impl Sort {
@@ -27,7 +27,7 @@ impl Stack {
     // Closes the innermost sequence, and goes on with an empty one of this type.
     fn next_part(&mut self, place: InstrLocId, ty: InstrSeqType) -> Result<InstrSeqId, AllocError>
         requires { self.old.current.seq < length (blocks self.old) }
-        ensures ty { OnOk result (type_of self.new ≡ type_of self.old) }
+        ensures ty { OnOk result (heading_of self.new ≡ heading_of self.old) }
         ensures id { IfOk result (λ id. id ≡ length (filled place self.old)) }
         ensures added { OnOk result (blocks self.new ≡ filled place self.old ++ empty_seq (length (filled place self.old)) ty ∷ []) }
         ensures empty { OnOk result (self.new.current.instrs.items ≡ []) }
@@ -55,7 +55,7 @@ impl Stack {
     /// `Nesting` at this offset, where the innermost sequence is no first part of an `if`; want of memory.
     pub fn begin_else(&mut self, place: InstrLocId, offset: u64) -> Result<(), BodyError>
         requires { Shaped (blocks self.old) (opens self.old) }
-        ensures ty { OnOk result (type_of self.new ≡ type_of self.old) }
+        ensures ty { OnOk result (heading_of self.new ≡ heading_of self.old) }
         ensures passed { OnOk result (other_test (inner self.old).kind ≡ None) }
         ensures refused { IfErr result (IsRefusal (other_test (inner self.old).kind) offset) }
         ensures turned { OnOk result (IsTurned Otherwise Plain (inner self.old).ty place self.old self.new) }
@@ -130,7 +130,7 @@ impl Stack {
     ) -> Result<(), AllocError>
         requires shaped { Shaped (blocks self.old) (opens self.old) }
         requires may { handler_test (inner self.old).kind ≡ None }
-        ensures ty { OnOk result (type_of self.new ≡ type_of self.old) }
+        ensures ty { OnOk result (heading_of self.new ≡ heading_of self.old) }
         ensures turned { OnOk result (IsTurned (Handles tag) Catching ty place self.old self.new) }
     {
         let seq = self.next_part(place, ty)?;
@@ -151,7 +151,7 @@ impl Stack {
     ) -> Result<(), AllocError>
         requires shaped { Shaped (blocks self.old) (opens self.old) }
         requires may { handler_test (inner self.old).kind ≡ None }
-        ensures ty { OnOk result (type_of self.new ≡ type_of self.old) }
+        ensures ty { OnOk result (heading_of self.new ≡ heading_of self.old) }
         ensures turned { OnOk result (IsTurned HandlesAll Caught ty place self.old self.new) }
     {
         let seq = self.next_part(place, ty)?;

@@ -1,21 +1,21 @@
 -- Each operator that is read is a step from a tree to come to a tree that stands.
 use Rattle.std.specs.Prelude.{◌≡◌, ℕ, Bool, false, List, [], ◌∷◌, length, Some, None}
-use Rattle.walrus_instr.specs.declared.instr.Instr.{Instr}
-use Rattle.walrus_instr.specs.declared.seq.InstrLocId.{InstrLocId}
-use Rattle.walrus_instr.specs.declared.seq.InstrSeqType.{InstrSeqType}
-use Rattle.walrus_builder.specs.Built.{no_place}
+use Rattle.walrus_body_stack.specs.walrus_instr.declared.instr.Instr.{Instr}
+use Rattle.walrus_body_stack.specs.walrus_instr.declared.seq.InstrLocId.{InstrLocId}
+use Rattle.walrus_body_stack.specs.walrus_instr.declared.seq.InstrSeqType.{InstrSeqType}
+use Rattle.walrus_body_stack.specs.walrus_builder.Built.{no_place}
 use Rattle.wasm_immediates.specs.Items.{Labels, Names}
 use Rattle.wasm_operators.specs.declared.entry.Flow.TheVariants as flows
 use Rattle.wasm_operators.specs.Operators.{Seen, flow_of}
-use Rattle.wasm_body_grammar.specs.Frames.{Plain, Catching, Caught}
-use Rattle.wasm_normal_form.specs.Roles.{Placed, Passes, Runs, role, cuts}
-use Rattle.wasm_normal_form.specs.Trees.{open_in, tree_of}
-use Rattle.wasm_normal_form.specs.Normal.{normal}
-use Rattle.walrus_body_nesting.specs.declared.frames.Opener.{Opener}
-use Rattle.walrus_body_nesting.specs.declared.frames.Opener.TheVariants as openers
-use Rattle.walrus_body_nesting.specs.declared.frames.Reach.TheVariants.{Live}
-use Rattle.walrus_body_nesting.specs.Stands.{Otherwise, Handles, HandlesAll, place_in}
-use Rattle.walrus_body_nesting.specs.Opens.{ids_of, ran, reach_on, begun, type_at, same, Unless, Shaped, Reads, Steps}
+use Rattle.walrus_body_rules.specs.wasm_body_grammar.Frames.{Plain, Catching, Caught}
+use Rattle.walrus_body_stack.specs.wasm_normal_form.Roles.{Placed, Passes, Runs, role, cuts}
+use Rattle.walrus_body_stack.specs.wasm_normal_form.Trees.{open_in, tree_of}
+use Rattle.walrus_body_stack.specs.wasm_normal_form.Normal.{normal}
+use Rattle.walrus_body_stack.specs.walrus_body_nesting.declared.frames.Opener.{Opener}
+use Rattle.walrus_body_stack.specs.walrus_body_nesting.declared.frames.Opener.TheVariants as openers
+use Rattle.walrus_body_stack.specs.walrus_body_nesting.declared.frames.Reach.TheVariants.{Live}
+use Rattle.walrus_body_stack.specs.walrus_body_nesting.Stands.{Otherwise, Handles, HandlesAll, place_in}
+use Rattle.walrus_body_stack.specs.walrus_body_nesting.Opens.{ids_of, ran, reach_on, begun, type_at, same, Unless, Shaped, Reads, Steps}
 use Rattle.walrus_body_stack.specs.declared.stack.Stack.{Stack}
 use Rattle.walrus_body_stack.specs.Frames.{inner, around, opens, blocks, IsOpened, IsTurned, IsEnded, IsHanded, IsTrying, other_test, handler_test}
 use Rattle.walrus_body_rules.specs.Sights.{Sight}

@@ -1,15 +1,15 @@
 -- What instructions stand for, in a body whose indices and types are seen so.
 use Rattle.std.specs.Prelude.{◌≡◌, ◌⊎◌, ℕ, ◌==◌, ◌/◌, ◌%◌, Bool, List, [], ◌∷◌, Option, Some, Ok, slice_get}
 use Rattle.std.specs.Global.{Vec}
-use Rattle.walrus_forms.specs.declared.value.HeapType.{HeapType}
-use Rattle.walrus_forms.specs.declared.value.RefType.{RefType}
-use Rattle.walrus_instr.specs.declared.instr.Instr.{Instr}
-use Rattle.walrus_instr.specs.declared.instr.Instr.TheVariants as instrs
-use Rattle.walrus_instr.specs.declared.instr.TryTableCatch.{TryTableCatch}
-use Rattle.walrus_instr.specs.declared.instr.TryTableCatch.TheVariants as parts
-use Rattle.walrus_instr.specs.declared.seq.InstrSeqType.{InstrSeqType}
-use Rattle.walrus_pairing.specs.Types.{read_heap}
-use Rattle.walrus_pairing.specs.Read.{at, of_bytes, of_objects, instr_at}
+use Rattle.walrus_body_rules.specs.walrus_forms.declared.value.HeapType.{HeapType}
+use Rattle.walrus_body_rules.specs.walrus_forms.declared.value.RefType.{RefType}
+use Rattle.walrus_body_stack.specs.walrus_instr.declared.instr.Instr.{Instr}
+use Rattle.walrus_body_stack.specs.walrus_instr.declared.instr.Instr.TheVariants as instrs
+use Rattle.walrus_body_stack.specs.walrus_instr.declared.instr.TryTableCatch.{TryTableCatch}
+use Rattle.walrus_body_stack.specs.walrus_instr.declared.instr.TryTableCatch.TheVariants as parts
+use Rattle.walrus_body_stack.specs.walrus_instr.declared.seq.InstrSeqType.{InstrSeqType}
+use Rattle.walrus_body_rules.specs.walrus_pairing.Types.{read_heap}
+use Rattle.walrus_body_rules.specs.walrus_pairing.Read.{at, of_bytes, of_objects, instr_at}
 use Rattle.wasm_immediates.specs.declared.block_type.BlockType.{BlockType}
 use Rattle.wasm_immediates.specs.declared.clause.Clause.{Clause}
 use Rattle.wasm_immediates.specs.declared.clause.Clause.TheVariants as handlers
@@ -17,11 +17,11 @@ use Rattle.wasm_immediates.specs.Items.{Types, Tags, Labels, Item, Names, Byte, 
 use Rattle.wasm_operators.specs.declared.entry.Flow.TheVariants as flows
 use Rattle.wasm_operators.specs.declared.op_code.OpCode.{OpCode}
 use Rattle.wasm_operators.specs.Operators.{Seen, op_code, flow_of}
-use Rattle.walrus_body_nesting.specs.declared.frames.Opener.{Opener}
-use Rattle.walrus_body_nesting.specs.declared.frames.Opener.TheVariants as openers
-use Rattle.walrus_body_nesting.specs.Stands as stands
-use Rattle.walrus_body_nesting.specs.Stands.{Turn, Otherwise, Handles, HandlesAll, Finish, Ended, Delegated, Meaning}
-use Rattle.walrus_body_nesting.specs.Opens.{Makes}
+use Rattle.walrus_body_stack.specs.walrus_body_nesting.declared.frames.Opener.{Opener}
+use Rattle.walrus_body_stack.specs.walrus_body_nesting.declared.frames.Opener.TheVariants as openers
+use Rattle.walrus_body_stack.specs.walrus_body_nesting.Stands as stands
+use Rattle.walrus_body_stack.specs.walrus_body_nesting.Stands.{Turn, Otherwise, Handles, HandlesAll, Finish, Ended, Delegated, Meaning}
+use Rattle.walrus_body_stack.specs.walrus_body_nesting.Opens.{Makes}
 use Rattle.walrus_body_rules.specs.Sights.{Sight, look, written_block, results_of, handler_of, tag_params}
 
 -- ---- operators that name labels: how many sequences lie between the one that they name and here

@@ -1,18 +1,18 @@
 -- What stands as a normal form with block types as they are written stands as it with their picks.
 use Rattle.std.proofs.Common.{ℕ, ◌≡◌, Bool, true, false, List, [], ◌∷◌, map, refl, ap, subst, ◌∙◌}
-use Rattle.walrus_instr.specs.declared.instr.Instr.{Instr}
-use Rattle.walrus_instr.specs.declared.seq.InstrLocId.{InstrLocId}
-use Rattle.walrus_instr.specs.declared.seq.InstrSeqType.{InstrSeqType}
-use Rattle.walrus_builder.specs.Built.{Seq}
+use Rattle.walrus_body_stack.specs.walrus_instr.declared.instr.Instr.{Instr}
+use Rattle.walrus_body_stack.specs.walrus_instr.declared.seq.InstrLocId.{InstrLocId}
+use Rattle.walrus_body_stack.specs.walrus_instr.declared.seq.InstrSeqType.{InstrSeqType}
+use Rattle.walrus_body_stack.specs.walrus_builder.Built.{Seq}
 use Rattle.wasm_immediates.specs.declared.block_type.BlockType.{BlockType}
 use Rattle.wasm_operators.specs.Operators.{Seen}
-use Rattle.wasm_normal_form.specs.Roles.{cuts, is_if}
-use Rattle.wasm_normal_form.specs.Trees.{Tree, Close, Arm, Skip, Run, Nest}
-use Rattle.wasm_normal_form.specs.Normal.{with_pick, picked, normal_from, normal}
-use Rattle.walrus_body_nesting.specs.declared.frames.Opener.{Opener}
-use Rattle.walrus_body_nesting.specs.declared.frames.Opener.TheVariants as openers
-use Rattle.walrus_body_nesting.specs.Stands.{Part, Finish, lies, StandsAs}
-use Rattle.walrus_body_nesting.specs.Opens.{same}
+use Rattle.walrus_body_stack.specs.wasm_normal_form.Roles.{cuts, is_if}
+use Rattle.walrus_body_stack.specs.wasm_normal_form.Trees.{Tree, Close, Arm, Skip, Run, Nest}
+use Rattle.walrus_body_stack.specs.wasm_normal_form.Normal.{with_pick, picked, normal_from, normal}
+use Rattle.walrus_body_stack.specs.walrus_body_nesting.declared.frames.Opener.{Opener}
+use Rattle.walrus_body_stack.specs.walrus_body_nesting.declared.frames.Opener.TheVariants as openers
+use Rattle.walrus_body_stack.specs.walrus_body_nesting.Stands.{Part, Finish, lies, StandsAs}
+use Rattle.walrus_body_stack.specs.walrus_body_nesting.Opens.{same}
 use Rattle.walrus_body_rules.specs.Sights.{Sight, written_block}
 use Rattle.walrus_body_steps.specs.Meanings.{IsOpener, OpensOf, meaning}
 use Rattle.walrus_body_steps.specs.Stepping.{same_op}
@@ -26,14 +26,14 @@ PicksStand = (s : Sight) (pick : BlockType → BlockType) (b : List Seq) (t : Tr
 
 -- ---- lemmas
 
-abbrev with_picks : (BlockType → BlockType) → Tree → Tree
+abbrev pub with_picks : (BlockType → BlockType) → Tree → Tree
 with_picks pick (Close o p) = Close o p
 with_picks pick (Arm o p t) = Arm o p (with_picks pick t)
 with_picks pick (Skip o p t) = Skip o p (with_picks pick t)
 with_picks pick (Run o p t) = Run o p (with_picks pick t)
 with_picks pick (Nest o p u t) = Nest (picked pick o) p (with_picks pick u) (with_picks pick t)
 
-normal_picked : (pick : BlockType → BlockType) (t : Tree) (bare dropped : Bool) → with_picks pick (normal_from same t bare dropped) ≡ normal_from pick t bare dropped
+pub normal_picked : (pick : BlockType → BlockType) (t : Tree) (bare dropped : Bool) → with_picks pick (normal_from same t bare dropped) ≡ normal_from pick t bare dropped
 normal_picked pick (Close o p) true dropped = refl
 normal_picked pick (Close o p) false dropped = refl
 normal_picked pick (Arm o p t) bare dropped = ap (λ (u : Tree). Arm o p u) (normal_picked pick t false false)

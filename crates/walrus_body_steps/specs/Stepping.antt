@@ -1,26 +1,26 @@
 -- Lemmas: each operator is a step.
 use Rattle.std.proofs.Common.{ℕ, ◌≡◌, Bool, true, false, List, [], ◌∷◌, ◌++◌, length, map, Option, Some, None, if◌then◌else◌, refl, sym, ap, subst, arith, ◌∙◌, inl, inr}
 use Rattle.std.specs.Prelude.{Ok}
-use Rattle.walrus_instr.specs.declared.seq.InstrLocId.{InstrLocId}
-use Rattle.walrus_instr.specs.declared.seq.InstrSeqType.{InstrSeqType}
-use Rattle.walrus_builder.specs.Built.{Seq, empty_seq, no_place}
+use Rattle.walrus_body_stack.specs.walrus_instr.declared.seq.InstrLocId.{InstrLocId}
+use Rattle.walrus_body_stack.specs.walrus_instr.declared.seq.InstrSeqType.{InstrSeqType}
+use Rattle.walrus_body_stack.specs.walrus_builder.Built.{Seq, empty_seq, no_place}
 use Rattle.wasm_immediates.specs.Items.{Item, Names, Number, S32, S64, Bits, Byte, Bytes, Heap, Block, Access, ManyLabels, ManyValues, ManyClauses}
 use Rattle.wasm_operators.specs.declared.entry.Flow.{Flow}
 use Rattle.wasm_operators.specs.declared.entry.Flow.TheVariants as flows
 use Rattle.wasm_operators.specs.Operators.{Seen, flow_of}
 use Rattle.wasm_operators.specs.Table.{structure_rows}
-use Rattle.wasm_body_grammar.specs.Frames.{Frame, Plain, Choice, Trying, Catching, Caught, turned}
-use Rattle.wasm_normal_form.specs.Roles.{Placed, Opens, Turns, Ends, role_in, role, is_if_in, is_delegate_in, else_op, end_op}
-use Rattle.wasm_normal_form.specs.Trees.{open_in, tree_of}
-use Rattle.wasm_normal_form.specs.Normal.{with_pick, picked, end_place, normal}
-use Rattle.walrus_body_nesting.specs.declared.frames.Opener.{Opener}
-use Rattle.walrus_body_nesting.specs.declared.frames.Opener.TheVariants as openers
-use Rattle.walrus_body_nesting.specs.declared.frames.Reach.{Reach}
-use Rattle.walrus_body_nesting.specs.declared.frames.Reach.TheVariants.{Live, Cut, Dropped}
-use Rattle.walrus_body_nesting.specs.Stands.{Turn, Otherwise, Handles, HandlesAll, Part, part, Finish, Ended, Delegated, block, place_in}
-use Rattle.walrus_body_nesting.specs.Opens.{Open, is_bare, ids_of, kinds_of, same, reach_in, reach_on, begun, Unless, IsBegun, Makes, IsBody, Shaped, Reads, Steps, type_at}
-use Rattle.walrus_body_nesting.specs.Ending.{IsEnd, IsBareEnd, Closing, plain_closing, bare_closing, starts}
-use Rattle.walrus_body_nesting.specs.Steps.{steps_as, nop_steps, run_steps, begin_steps, turn_steps, end_steps, body_steps}
+use Rattle.walrus_body_rules.specs.wasm_body_grammar.Frames.{Frame, Plain, Choice, Trying, Catching, Caught, turned}
+use Rattle.walrus_body_stack.specs.wasm_normal_form.Roles.{Placed, Opens, Turns, Ends, role_in, role, is_if_in, is_delegate_in, else_op, end_op}
+use Rattle.walrus_body_stack.specs.wasm_normal_form.Trees.{open_in, tree_of}
+use Rattle.walrus_body_stack.specs.wasm_normal_form.Normal.{with_pick, picked, end_place, normal}
+use Rattle.walrus_body_stack.specs.walrus_body_nesting.declared.frames.Opener.{Opener}
+use Rattle.walrus_body_stack.specs.walrus_body_nesting.declared.frames.Opener.TheVariants as openers
+use Rattle.walrus_body_stack.specs.walrus_body_nesting.declared.frames.Reach.{Reach}
+use Rattle.walrus_body_stack.specs.walrus_body_nesting.declared.frames.Reach.TheVariants.{Live, Cut, Dropped}
+use Rattle.walrus_body_stack.specs.walrus_body_nesting.Stands.{Turn, Otherwise, Handles, HandlesAll, Part, part, Finish, Ended, Delegated, block, place_in}
+use Rattle.walrus_body_stack.specs.walrus_body_nesting.Opens.{Open, is_bare, ids_of, kinds_of, same, reach_in, reach_on, begun, Unless, IsBegun, Makes, IsBody, Shaped, Reads, Steps, type_at}
+use Rattle.walrus_body_stack.specs.walrus_body_nesting.Ending.{IsEnd, IsBareEnd, Closing, plain_closing, bare_closing, starts}
+use Rattle.walrus_body_stack.specs.walrus_body_nesting.Steps.{steps_as, nop_steps, run_steps, begin_steps, turn_steps, end_steps, body_steps}
 use Rattle.walrus_body_stack.specs.declared.stack.Stack.{Stack}
 use Rattle.walrus_body_stack.specs.Frames.{first_kind, inner, around, opens, blocks, filled, IsOpened, IsTurned, IsNested, IsTrying, other_test, handler_test}
 use Rattle.walrus_body_rules.specs.Sights.{Sight}

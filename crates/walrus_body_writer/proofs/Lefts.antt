@@ -8,7 +8,7 @@ use Rattle.walrus_instr.specs.declared.instr.LegacyCatch.{LegacyCatch}
 use Rattle.walrus_instr.specs.declared.instr.LegacyCatch.TheVariants as Legacy
 use Rattle.walrus_instr.specs.declared.seq.InstrLocId.{InstrLocId}
 use Rattle.walrus_instr.specs.declared.seq.InstrSeq.{InstrSeq}
-use Rattle.walrus_walks.specs.Tree.{children, children_in, handlers, Falls}
+use Rattle.walrus_tree.specs.walrus_walks.Tree.{children, children_in, handlers, Falls}
 use Rattle.walrus_tree.specs.Trees.{Has, Counts, Delegates}
 use Rattle.walrus_tree.specs.Text.{after, after_parts, of_parts, text}
 use Rattle.walrus_body_writer.specs.declared.todo.Closer.{Closer}

@@ -3,12 +3,12 @@ use Rattle.std.proofs.Common.{ℕ, subst, ◌⊎◌, inl, inr, ◌≡◌, List, 
 use Rattle.std.specs.Prelude.{Result}
 use Rattle.walrus_instr.specs.declared.instr.Instr.{Instr}
 use Rattle.walrus_instr.specs.declared.instr.Instr.TheVariants as instrs
-use Rattle.walrus_forms.specs.declared.value.ValType.{ValType}
+use Rattle.walrus_instr.specs.walrus_forms.declared.value.ValType.{ValType}
 use Rattle.walrus_pairing.specs.Answers.{IsAnswer, IsSelectAnswer}
 use Rattle.walrus_pairing.specs.Seen.{as_seen}
 use Rattle.walrus_instr.specs.declared.seq.InstrSeq.{InstrSeq}
 use Rattle.wasm_operators.specs.Operators.{Seen}
-use Rattle.walrus_operators.specs.declared.operator.Operator.{Operator}
+use Rattle.walrus_pairing.specs.walrus_operators.declared.operator.Operator.{Operator}
 use Rattle.walrus_pairing.specs.declared.error.PairError.{PairError}
 use Rattle.walrus_pairing.specs.declared.error.PairError.TheVariants as errors
 use Rattle.walrus_pairing.specs.Looks.{Look, Or}

@@ -7,7 +7,7 @@ use Rattle.walrus_instr.specs.declared.instr.Instr.{Instr}
 use Rattle.walrus_instr.specs.declared.seq.InstrLocId.{InstrLocId}
 use Rattle.walrus_instr.specs.declared.seq.InstrSeq.{InstrSeq}
 use Rattle.wasm_operators.specs.Operators.{Seen}
-use Rattle.walrus_walks.specs.Tree.{children, children_in, Falls, IsRank, IsNested}
+use Rattle.walrus_tree.specs.walrus_walks.Tree.{children, children_in, Falls, IsRank, IsNested}
 use Rattle.walrus_tree.specs.Trees.{IsWithin}
 use Rattle.walrus_tree.specs.Text.{Piece, Operator, after, of_parts, of_instrs, text, operators}
 use Rattle.walrus_tree.specs.TextLaws.{TextIsPlain, AreSound}

@@ -3,7 +3,7 @@ use Rattle.std.specs.Prelude.{◌≡◌, ℕ, ◌+◌, ◌-◌, List, [], ◌∷
 use Rattle.walrus_instr.specs.declared.instr.Instr.{Instr}
 use Rattle.walrus_instr.specs.declared.seq.InstrLocId.{InstrLocId}
 use Rattle.walrus_instr.specs.declared.seq.InstrSeq.{InstrSeq}
-use Rattle.walrus_walks.specs.Tree.{IsRank}
+use Rattle.walrus_tree.specs.walrus_walks.Tree.{IsRank}
 use Rattle.walrus_tree.specs.TextLaws.{AreSound}
 use Rattle.walrus_body_writer.specs.declared.todo.Place.{Place}
 use Rattle.walrus_body_writer.specs.declared.todo.Todo.{Todo}

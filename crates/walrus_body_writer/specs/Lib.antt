@@ -5,3 +5,7 @@ pub mod Outputs
 pub mod Refusals
 pub mod Emitting
 pub mod Visiting
+-- Passed on to crates above, which then list this one alone.
+pub use Rattle.walrus_body_env.specs as walrus_body_env
+pub use Rattle.walrus_pairing.specs as walrus_pairing
+pub use Rattle.walrus_tree.specs as walrus_tree

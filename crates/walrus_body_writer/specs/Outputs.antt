@@ -3,7 +3,7 @@ use Rattle.std.specs.Prelude.{◌≡◌, List, [], ◌∷◌, ◌++◌, length, 
 use Rattle.walrus_instr.specs.declared.seq.InstrLocId.{InstrLocId}
 use Rattle.walrus_instr.specs.declared.seq.InstrSeq.{InstrSeq}
 use Rattle.wasm_operators.specs.Operators.{Seen}
-use Rattle.wasm_operator_bytes.specs.Bytes.{operator_bytes}
+use Rattle.walrus_operator_writer.specs.wasm_operator_bytes.Bytes.{operator_bytes}
 use Rattle.walrus_pairing.specs.Looks.{Look, Or}
 use Rattle.walrus_pairing.specs.declared.error.PairError.{PairError}
 use Rattle.walrus_pairing.specs.declared.error.PairError.TheVariants as errors

@@ -1,6 +1,6 @@
 -- Why a body isn't written, and what a refusal leaves.
 use Rattle.std.specs.Prelude.{◌≡◌, ◌⊎◌, List, [], ◌∷◌, ◌++◌, Option, Some, None, Err, slice_get}
-use Rattle.walrus_forms.specs.declared.value.ValType.{ValType}
+use Rattle.walrus_instr.specs.walrus_forms.declared.value.ValType.{ValType}
 use Rattle.walrus_instr.specs.declared.instr.Instr.{Instr}
 use Rattle.walrus_instr.specs.declared.instr.Instr.TheVariants.{Block, Loop, IfElse, Try, TryTable, Select}
 use Rattle.walrus_instr.specs.declared.seq.InstrSeq.{InstrSeq}

@@ -1,7 +1,7 @@
 -- What is written for a body: each piece of its text as an operator, in its shortest spelling, with numbers for what it names; or why
 -- it isn't written.
 use Rattle.std.specs.Prelude.{ℕ, suc, ◌+◌, ◌==◌, Bool, true, false, List, [], ◌∷◌, ◌++◌, map, length, Option, Some, None, Ok, Err, slice_get, if◌then◌else◌}
-use Rattle.walrus_forms.specs.declared.value.RefType.{RefType}
+use Rattle.walrus_instr.specs.walrus_forms.declared.value.RefType.{RefType}
 use Rattle.walrus_instr.specs.declared.instr.Instr.{Instr}
 use Rattle.walrus_instr.specs.declared.instr.Instr.TheVariants.{Block as BlockInstr, Loop, IfElse, Try, TryTable, Br, BrIf, BrTable, BrOnNull, BrOnNonNull, BrOnCast, BrOnCastFail, Rethrow}
 use Rattle.walrus_instr.specs.declared.instr.TryTableCatch.{TryTableCatch}
@@ -17,8 +17,8 @@ use Rattle.wasm_immediates.specs.declared.clause.Clause.{Clause}
 use Rattle.wasm_immediates.specs.declared.clause.Clause.TheVariants as handlers
 use Rattle.wasm_immediates.specs.Items.{Types, Tags, Labels, Names, Byte, Heap, Block, ManyLabels, ManyClauses}
 use Rattle.wasm_operators.specs.Operators.{Seen}
-use Rattle.wasm_operator_bytes.specs.Bytes.{operator_bytes}
-use Rattle.walrus_operator_codes.specs.Runs.{byte, object}
+use Rattle.walrus_operator_writer.specs.wasm_operator_bytes.Bytes.{operator_bytes}
+use Rattle.walrus_pairing.specs.walrus_operator_codes.Runs.{byte, object}
 use Rattle.walrus_pairing.specs.Looks.{Look, Or, ◌>>=◌, found}
 use Rattle.walrus_pairing.specs.Types.{type_of, written_heap, written_value}
 use Rattle.walrus_pairing.specs.Write.{op, operator_at}

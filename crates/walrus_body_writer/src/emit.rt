@@ -1,7 +1,7 @@
 //! Bodies are written.
 
 ghost use Rattle.std.specs.Prelude.{List, IfErr, OnOk};
-ghost use Rattle.walrus_builder.specs.Functions.{seqs_of};
+ghost use Rattle.walrus_tree.specs.walrus_builder.Functions.{seqs_of};
 ghost use Rattle.walrus_index_maps.specs.Views.{indices};
 ghost use Rattle.walrus_pairing.specs.Looks.{number_of};
 ghost use Rattle.walrus_pairing.specs.Seen.{as_seen};
@@ -24,10 +24,10 @@ use crate::walk::{advance, item_at, seq_at};
 use std::alloc::Global;
 use walrus_arena::{FunctionId, InstrSeqId};
 use walrus_body_env::BodyError;
-use walrus_builder::FunctionBuilder;
 use walrus_index_maps::IdsToIndices;
 use walrus_instr::{InstrLocId, InstrSeq};
 use walrus_pairing::PairError;
+use walrus_tree::builder::FunctionBuilder;
 use walrus_tree::check_tree;
 
 // Puts what is written there.

@@ -18,3 +18,7 @@ pub use refusal::fault_of;
 pub use size::body_size;
 pub use todo::Closer;
 pub use visit::{TextVisitor, visit_text};
+
+// Passed on to crates above, which then list this one alone.
+pub use walrus_body_env as body_env;
+pub use walrus_pairing as pairing;

@@ -8,8 +8,8 @@ ghost use Rattle.walrus_body_writer.specs.Numbers.{look_of};
 
 use walrus_arena::{FunctionId, TagId, TypeId};
 use walrus_index_maps::{IdsToIndices, Space};
-use walrus_operators::{Immediates, Operator};
 use walrus_pairing::PairError;
+use walrus_pairing::operators::{Immediates, Operator};
 use wasm_operators::OpCode;
 
 /// An operator, none, or why it isn't written.

@@ -1,13 +1,13 @@
 //! Where operators are written to.
 
 ghost use Rattle.std.specs.Prelude.{◌≡◌, ◌++◌, [], ◌∷◌, OnErr, OnOk, if◌then◌else◌};
-ghost use Rattle.walrus_operators.specs.Operators.{seen};
+ghost use Rattle.walrus_pairing.specs.walrus_operators.Operators.{seen};
 ghost use Rattle.walrus_body_writer.specs.Outputs.{IsSame, Puts};
 
 use std::alloc::{AllocError, Global};
 use walrus_instr::InstrLocId;
 use walrus_operator_writer::write_operator;
-use walrus_operators::Operator;
+use walrus_pairing::operators::Operator;
 
 /// Bytes that are written, and the places of the operators among them.
 #[derive(Drop)]

@@ -1,7 +1,7 @@
 //! The size of a body.
 
 ghost use Rattle.std.specs.Prelude.{◌≡◌, IfOk, IfErr};
-ghost use Rattle.walrus_builder.specs.Functions.{seqs_of};
+ghost use Rattle.walrus_tree.specs.walrus_builder.Functions.{seqs_of};
 ghost use Rattle.walrus_tree.specs.Text.{operators};
 ghost use Rattle.walrus_body_writer.specs.Emitting.{IsCause};
 ghost use Rattle.walrus_body_writer.specs.Visiting.{text_size};
@@ -10,8 +10,8 @@ use crate::todo::Closer;
 use crate::visit::{TextVisitor, visit_text};
 use std::alloc::{AllocError, Global};
 use walrus_body_env::BodyError;
-use walrus_builder::FunctionBuilder;
 use walrus_instr::{Instr, InstrLocId};
+use walrus_tree::builder::FunctionBuilder;
 
 // Counts operators.
 #[derive(Drop)]

@@ -3,7 +3,7 @@
 ghost use Rattle.std.specs.Prelude.{◌≡◌, ℕ, List, IfErr, OnErr, OnOk};
 ghost use Rattle.std.specs.List.{FoldsTo};
 ghost use Rattle.walrus_instr.specs.declared.seq.InstrLocId.{InstrLocId as Loc};
-ghost use Rattle.walrus_builder.specs.Functions.{seqs_of};
+ghost use Rattle.walrus_tree.specs.walrus_builder.Functions.{seqs_of};
 ghost use Rattle.walrus_tree.specs.Trees.{IsTree};
 ghost use Rattle.walrus_tree.specs.Text.{Operator, Piece, operators};
 ghost use Rattle.walrus_body_writer.specs.Doing.{piece_of};
@@ -16,8 +16,8 @@ use crate::walk::{advance, item_at, seq_at};
 use std::alloc::{AllocError, Global};
 use walrus_arena::InstrSeqId;
 use walrus_body_env::BodyError;
-use walrus_builder::FunctionBuilder;
 use walrus_instr::{Instr, InstrLocId, InstrSeq};
+use walrus_tree::builder::FunctionBuilder;
 use walrus_tree::check_tree;
 
 /// Is told the text of a body: its operators in their order, each with its location.

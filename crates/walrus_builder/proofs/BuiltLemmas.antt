@@ -6,10 +6,10 @@ use Rattle.std.specs.Prelude.{slice_get, slice_set, IsErr, IfErr}
 use Rattle.std.specs.Fn.{Once, FnOnceReturnsAtMut}
 use Rattle.std.specs.Borrow.{MutBor}
 use Rattle.std.specs.declared.alloc.AllocError.{AllocError}
-use Rattle.walrus_instr.specs.declared.seq.InstrSeqType.{InstrSeqType}
-use Rattle.walrus_instr.specs.declared.instr.Instr.{Instr}
-use Rattle.walrus_instr.specs.declared.seq.InstrLocId.{InstrLocId}
-use Rattle.walrus_instr.specs.declared.seq.InstrSeq.{InstrSeq}
+use Rattle.walrus_walks.specs.walrus_instr.declared.seq.InstrSeqType.{InstrSeqType}
+use Rattle.walrus_walks.specs.walrus_instr.declared.instr.Instr.{Instr}
+use Rattle.walrus_walks.specs.walrus_instr.declared.seq.InstrLocId.{InstrLocId}
+use Rattle.walrus_walks.specs.walrus_instr.declared.seq.InstrSeq.{InstrSeq}
 use Rattle.walrus_builder.specs.Built.{Building, Seq, seq_of, contents, no_place, with_instrs, edited, Edits, Keeps, Extends, ExtendsAlways, EditsAt, inserts, back_to, IsLeft, IsRefused, IsRefusedOfTwo}
 use Rattle.walrus_builder.specs.Edited.{edited_length, edited_others, edited_past}
 use Rattle.walrus_builder.specs.Built.IsRefused.{Unbegun, Failed, Ungrown}

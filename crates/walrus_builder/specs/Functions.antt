@@ -1,14 +1,14 @@
 -- What a contract sees of a function that is built.
 use Rattle.std.specs.Prelude.{◌≡◌, ℕ, List, [], ◌∷◌, None, slice_set}
 use Rattle.std.specs.Borrow.{Lends, Fml, MutBor}
-use Rattle.walrus_instr.specs.declared.seq.InstrSeq.{InstrSeq}
-use Rattle.walrus_instr.specs.contracts.seq.InstrSeq.{the_row as seq_row}
-use Rattle.walrus_forms.specs.declared.value.ValType.{ValType}
-use Rattle.walrus_forms.specs.Kinds.{function_kind, entry_kind}
-use Rattle.walrus_types.specs.Pairs.{MergesBoth}
-use Rattle.walrus_types.specs.Table.{Table}
-use Rattle.walrus_instr.specs.declared.seq.InstrSeqType.{InstrSeqType}
-use Rattle.walrus_instr.specs.declared.seq.InstrSeqType.TheVariants.{MultiValue}
+use Rattle.walrus_walks.specs.walrus_instr.declared.seq.InstrSeq.{InstrSeq}
+use Rattle.walrus_walks.specs.walrus_instr.contracts.seq.InstrSeq.{the_row as seq_row}
+use Rattle.walrus_walks.specs.walrus_forms.declared.value.ValType.{ValType}
+use Rattle.walrus_walks.specs.walrus_forms.Kinds.{function_kind, entry_kind}
+use Rattle.walrus_walks.specs.walrus_types.Pairs.{MergesBoth}
+use Rattle.walrus_walks.specs.walrus_types.Table.{Table}
+use Rattle.walrus_walks.specs.walrus_instr.declared.seq.InstrSeqType.{InstrSeqType}
+use Rattle.walrus_walks.specs.walrus_instr.declared.seq.InstrSeqType.TheVariants.{MultiValue}
 use Rattle.walrus_builder.specs.declared.function.FunctionBuilder.{FunctionBuilder}
 use Rattle.walrus_builder.specs.contracts.seq_builder.InstrSeqBuilder.{the_row as builder_row}
 use Rattle.walrus_builder.specs.contracts.function.FunctionBuilder.{the_row as function_row}

@@ -1,7 +1,7 @@
 -- What holds sequences, and where it is put.
 use Rattle.std.specs.Prelude.{ℕ, Option, Some, None}
-use Rattle.walrus_instr.specs.declared.instr.Instr.{Instr}
-use Rattle.walrus_instr.specs.declared.instr.Instr.TheVariants.{Block, Loop}
+use Rattle.walrus_walks.specs.walrus_instr.declared.instr.Instr.{Instr}
+use Rattle.walrus_walks.specs.walrus_instr.declared.instr.Instr.TheVariants.{Block, Loop}
 use Rattle.walrus_builder.specs.declared.blocks.Holder.{Holder}
 use Rattle.walrus_builder.specs.declared.blocks.Holder.TheVariants as A
 use Rattle.walrus_builder.specs.Built.{Seq, pushes, inserts}

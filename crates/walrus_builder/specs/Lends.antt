@@ -1,9 +1,9 @@
 -- What the sequences end as, where a `&mut` to one of them, or to the list of the one at hand, is returned.
 use Rattle.std.specs.Prelude.{ℕ, slice_set}
 use Rattle.std.specs.Borrow.{Lends, Fml, MutBor}
-use Rattle.walrus_instr.specs.Lends.{instrs_row}
-use Rattle.walrus_instr.specs.declared.seq.InstrSeq.{InstrSeq}
-use Rattle.walrus_instr.specs.contracts.seq.InstrSeq.{the_row as seq_row}
+use Rattle.walrus_walks.specs.walrus_instr.Lends.{instrs_row}
+use Rattle.walrus_walks.specs.walrus_instr.declared.seq.InstrSeq.{InstrSeq}
+use Rattle.walrus_walks.specs.walrus_instr.contracts.seq.InstrSeq.{the_row as seq_row}
 use Rattle.walrus_builder.specs.contracts.seq_builder.InstrSeqBuilder.{the_row}
 use Rattle.walrus_builder.specs.Built.{Building, edited}
 

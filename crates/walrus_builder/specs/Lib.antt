@@ -4,3 +4,5 @@ pub mod Functions
 pub mod Holders
 pub mod Lends
 pub mod OwnIds
+-- Passed on to crates above, which then list this one alone.
+pub use Rattle.walrus_walks.specs as walrus_walks

@@ -6,7 +6,7 @@ ghost use Rattle.walrus_builder.specs.Holders.{held, puts};
 use crate::seq_builder::InstrSeqBuilder;
 use std::alloc::AllocError;
 use walrus_arena::InstrSeqId;
-use walrus_instr::{Instr, InstrSeqType};
+use walrus_walks::instr::{Instr, InstrSeqType};
 
 // What holds one sequence.
 #[derive(Clone, Copy)]

@@ -8,8 +8,8 @@ ghost use Rattle.walrus_builder.specs.Functions.{lends_builder, lends_seq_of, se
 use crate::seq_builder::InstrSeqBuilder;
 use std::alloc::{AllocError, Global};
 use walrus_arena::{InstrSeqId, TypeId};
-use walrus_instr::{Instr, InstrLocId, InstrSeq, InstrSeqType};
-use walrus_types::{ModuleTypes, ValType};
+use walrus_walks::instr::{Instr, InstrLocId, InstrSeq, InstrSeqType};
+use walrus_walks::type_table::{ModuleTypes, ValType};
 
 /// A function that is built: its type, its name, and the sequences of its body, whose own is the first.
 #[derive(Drop)]

@@ -13,3 +13,6 @@ mod walks;
 pub use function::FunctionBuilder;
 pub use seq_builder::InstrSeqBuilder;
 pub use walks::{check_nesting, dfs_body_in_order, dfs_in_order, dfs_pre_order_mut};
+
+// Passed on to crates above, which then list this one alone.
+pub use walrus_walks as tree_walks;

@@ -1,12 +1,12 @@
 //! Plain control, parametric, numeric and variable instructions, one call each.
 ghost use Rattle.walrus_builder.specs.Built.{pushes, Edits};
-ghost use Rattle.walrus_instr.specs.declared.instr.Value.TheVariants as Constant;
+ghost use Rattle.walrus_walks.specs.walrus_instr.declared.instr.Value.TheVariants as Constant;
 
 use crate::seq_builder::InstrSeqBuilder;
 use std::alloc::AllocError;
 use walrus_arena::{FunctionId, GlobalId, InstrSeqId, LocalId, TableId, TagId, TypeId};
-use walrus_instr::{BinaryOp, Instr, ShuffleIndices, TernaryOp, UnaryOp, Value};
-use walrus_types::{RefType, ValType};
+use walrus_walks::instr::{BinaryOp, Instr, ShuffleIndices, TernaryOp, UnaryOp, Value};
+use walrus_walks::type_table::{RefType, ValType};
 
 impl InstrSeqBuilder {
     /// Appends `unreachable`.

@@ -4,7 +4,9 @@ ghost use Rattle.walrus_builder.specs.Built.{pushes, Edits};
 use crate::seq_builder::InstrSeqBuilder;
 use std::alloc::AllocError;
 use walrus_arena::{DataId, ElementId, MemoryId, TableId};
-use walrus_instr::{AtomicOp, AtomicWidth, Instr, LoadKind, LoadSimdKind, MemArg, StoreKind};
+use walrus_walks::instr::{
+    AtomicOp, AtomicWidth, Instr, LoadKind, LoadSimdKind, MemArg, StoreKind,
+};
 
 impl InstrSeqBuilder {
     /// Appends `table.get`.

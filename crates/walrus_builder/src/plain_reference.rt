@@ -4,8 +4,8 @@ ghost use Rattle.walrus_builder.specs.Built.{pushes, Edits};
 use crate::seq_builder::InstrSeqBuilder;
 use std::alloc::AllocError;
 use walrus_arena::{DataId, ElementId, FunctionId, TypeId};
-use walrus_instr::Instr;
-use walrus_types::RefType;
+use walrus_walks::instr::Instr;
+use walrus_walks::type_table::RefType;
 
 impl InstrSeqBuilder {
     /// Appends `ref.null`.

@@ -8,7 +8,7 @@ ghost use Rattle.walrus_builder.specs.Lends.{lends_instrs, lends_seq};
 use std::alloc::{AllocError, Global};
 use std::marker::Model;
 use walrus_arena::InstrSeqId;
-use walrus_instr::{Instr, InstrLocId, InstrSeq, InstrSeqType, Value};
+use walrus_walks::instr::{Instr, InstrLocId, InstrSeq, InstrSeqType, Value};
 
 /// The sequences of a body, one of which is at hand: what is called adds to that one.
 #[derive(Drop)]

@@ -1,11 +1,12 @@
 //! Blocks, positions and constants.
 use crate::common::{PLAIN, function};
-use crate::rows::assert_rows;
+use crate::rows::{
+    ARRAY_LEN, BLOCK, DROP, IF_ELSE, LOOP, REF_EQ, RETURN, UNREACHABLE, assert_rows,
+};
 use std::alloc::AllocError;
 use std::mem;
 use std::process::Abort;
 use std::test::Fail;
-use walrus_arena::InstrSeqId;
 use walrus_builder::{FunctionBuilder, InstrSeqBuilder};
 use walrus_instr::{Instr, InstrLocId, InstrSeqType, Value};
 use walrus_types::ValType;
@@ -60,19 +61,39 @@ fn constants(rt: HostRuntime) -> Result<(), Fail> {
     Ok(())
 }
 
+fn add_block(seq: &mut InstrSeqBuilder) -> Result<(), AllocError> {
+    seq.block(LONG, |inner| inner.i32_const(1))
+}
+
+fn add_loop(seq: &mut InstrSeqBuilder) -> Result<(), AllocError> {
+    seq.loop_(PLAIN, |inner| inner.i32_const(2))
+}
+
+fn add_choice(seq: &mut InstrSeqBuilder) -> Result<(), AllocError> {
+    seq.if_else(LONG, |then| then.i32_const(3), |other| other.i32_const(4))
+}
+
 // The sequences 1 to 4 are held at the end.
 fn add_blocks(seq: &mut InstrSeqBuilder) -> Result<(), AllocError> {
     seq.drop()?;
-    seq.block(LONG, |inner| inner.i32_const(1))?;
-    seq.loop_(PLAIN, |inner| inner.i32_const(2))?;
-    seq.if_else(LONG, |then| then.i32_const(3), |other| other.i32_const(4))
+    add_block(seq)?;
+    add_loop(seq)?;
+    add_choice(seq)
+}
+
+fn insert_block(rt: &impl Abort, seq: &mut InstrSeqBuilder) -> Result<(), AllocError> {
+    assert!(rt; 1 <= seq.instrs().len());
+    seq.block_at(1, PLAIN, |inner| inner.i32_const(5))
+}
+
+fn insert_loop(seq: &mut InstrSeqBuilder) -> Result<(), AllocError> {
+    seq.loop_at(0, LONG, |inner| inner.i32_const(6))
 }
 
 // The sequences 5 to 8 are held before.
 fn insert_blocks(rt: &impl Abort, seq: &mut InstrSeqBuilder) -> Result<(), AllocError> {
-    assert!(rt; 1 <= seq.instrs().len());
-    seq.block_at(1, PLAIN, |inner| inner.i32_const(5))?;
-    seq.loop_at(0, LONG, |inner| inner.i32_const(6))?;
+    insert_block(rt, seq)?;
+    insert_loop(seq)?;
     seq.if_else_at(
         0,
         PLAIN,
@@ -111,27 +132,40 @@ fn blocks(rt: HostRuntime) -> Result<(), Fail> {
         &rt,
         body.func_body().instrs(),
         &[
-            ("if_else", 7, 8, 0),
-            ("loop", 6, 0, 0),
-            ("drop", 0, 0, 0),
-            ("block", 5, 0, 0),
-            ("block", 1, 0, 0),
-            ("loop", 2, 0, 0),
-            ("if_else", 3, 4, 0),
+            (IF_ELSE, 7, 8, 0),
+            (LOOP, 6, 0, 0),
+            (DROP, 0, 0, 0),
+            (BLOCK, 5, 0, 0),
+            (BLOCK, 1, 0, 0),
+            (LOOP, 2, 0, 0),
+            (IF_ELSE, 3, 4, 0),
         ],
     );
     assert!(rt; holds_all(&body));
     Ok(())
 }
 
+// Puts the instruction there, behind so many at most.
+fn put_at(
+    rt: &impl Abort,
+    seq: &mut InstrSeqBuilder,
+    position: usize,
+    instr: Instr,
+) -> Result<(), AllocError> {
+    assert!(rt; position <= seq.instrs().len());
+    seq.instr_at(position, instr)
+}
+
+fn put(seq: &mut InstrSeqBuilder, instr: Instr) -> Result<(), AllocError> {
+    seq.instr(instr)
+}
+
 // Two at the end, one between them, and one behind them.
 fn add_at(rt: &impl Abort, seq: &mut InstrSeqBuilder) -> Result<(), AllocError> {
-    seq.instr(Instr::Drop)?;
-    seq.instr(Instr::Return)?;
-    assert!(rt; seq.instrs().len() == 2);
-    seq.instr_at(1, Instr::ArrayLen)?;
-    assert!(rt; seq.instrs().len() == 3);
-    seq.instr_at(3, Instr::RefEq)
+    put(seq, Instr::Drop)?;
+    put(seq, Instr::Return)?;
+    put_at(rt, seq, 1, Instr::ArrayLen)?;
+    put_at(rt, seq, 3, Instr::RefEq)
 }
 
 #[test]
@@ -142,22 +176,28 @@ fn instr_at(rt: HostRuntime) -> Result<(), Fail> {
         &rt,
         body.func_body().instrs(),
         &[
-            ("drop", 0, 0, 0),
-            ("array_len", 0, 0, 0),
-            ("return", 0, 0, 0),
-            ("ref_eq", 0, 0, 0),
+            (DROP, 0, 0, 0),
+            (ARRAY_LEN, 0, 0, 0),
+            (RETURN, 0, 0, 0),
+            (REF_EQ, 0, 0, 0),
         ],
     );
     Ok(())
 }
 
+fn is_refused(seq: &mut InstrSeqBuilder) -> bool {
+    seq.block(PLAIN, |_| Err(AllocError)).is_err()
+}
+
+fn has_drop_alone(seq: &InstrSeqBuilder) -> bool {
+    seq.id().index() == 0 && matches!(seq.instrs(), [(Instr::Drop, place)] if place.is_default())
+}
+
 // A block that is refused leaves the sequence with what is before it.
 fn check_left(rt: &impl Abort, seq: &mut InstrSeqBuilder) -> Result<(), AllocError> {
-    seq.drop()?;
-    let refused = seq.block(PLAIN, |_| Err(AllocError));
-    assert!(rt; refused.is_err());
-    assert_eq!(rt; seq.id(), InstrSeqId::from_index(0));
-    assert_rows(rt, seq.instrs(), &[("drop", 0, 0, 0)]);
+    put(seq, Instr::Drop)?;
+    assert!(rt; is_refused(seq));
+    assert!(rt; has_drop_alone(seq));
     Ok(())
 }
 
@@ -166,6 +206,14 @@ fn a_refused_block_leaves_its_sequence(rt: HostRuntime) -> Result<(), Fail> {
     let mut body = function(rt.alloc())?;
     check_left(&rt, body.func_body())?;
     Ok(())
+}
+
+// Adds a block that takes another builder's place.
+fn swap_in_block(seq: &mut InstrSeqBuilder, given: &mut InstrSeqBuilder) -> Result<(), AllocError> {
+    seq.block(LONG, |inner| {
+        mem::swap(inner, given);
+        Ok(())
+    })
 }
 
 // Puts another builder, which has the sequence 0 alone, in place of that which fills the sequence 1.
@@ -177,14 +225,10 @@ fn put_smaller(
     let begun = body.dangling_instr_seq(PLAIN)?;
     assert!(rt; begun.index() < body.seqs().len());
     let seq = body.instr_seq(begun);
-    let put = other.func_body();
-    put.drop()?;
-    seq.block(LONG, |inner| {
-        mem::swap(inner, put);
-        Ok(())
-    })?;
-    assert_eq!(rt; seq.id().index(), 0);
-    assert_rows(rt, seq.instrs(), &[("drop", 0, 0, 0)]);
+    let given = other.func_body();
+    put(given, Instr::Drop)?;
+    swap_in_block(seq, given)?;
+    assert!(rt; has_drop_alone(seq));
     Ok(())
 }
 
@@ -198,26 +242,34 @@ fn another_builder_without_that_sequence(rt: HostRuntime) -> Result<(), Fail> {
     Ok(())
 }
 
+fn swap_in_third(
+    rt: &impl Abort,
+    seq: &mut InstrSeqBuilder,
+    given: &mut InstrSeqBuilder,
+) -> Result<(), AllocError> {
+    assert!(rt; 2 <= seq.instrs().len());
+    seq.block_at(2, LONG, |inner| {
+        mem::swap(inner, given);
+        Ok(())
+    })
+}
+
 // Puts another builder, whose sequence has one instruction, where a block is to go behind two.
 fn put_shorter(
     rt: &impl Abort,
     seq: &mut InstrSeqBuilder,
-    put: &mut InstrSeqBuilder,
+    given: &mut InstrSeqBuilder,
 ) -> Result<(), AllocError> {
-    seq.drop()?;
-    seq.return_()?;
-    assert!(rt; 2 <= seq.instrs().len());
-    put.unreachable()?;
-    seq.block_at(2, LONG, |inner| {
-        mem::swap(inner, put);
-        Ok(())
-    })?;
+    put(seq, Instr::Drop)?;
+    put(seq, Instr::Return)?;
+    put(given, Instr::Unreachable)?;
+    swap_in_third(rt, seq, given)?;
     assert_eq!(rt; seq.id().index(), 0);
     // The place is past its end.
     assert_rows(
         rt,
         seq.instrs(),
-        &[("unreachable", 0, 0, 0), ("block", 1, 0, 0)],
+        &[(UNREACHABLE, 0, 0, 0), (BLOCK, 1, 0, 0)],
     );
     Ok(())
 }

@@ -79,38 +79,38 @@ pub fn add_all(alloc: Global, seq: &mut InstrSeqBuilder) -> Result<(), AllocErro
 
 /// What they add.
 pub const ROWS: [Row; 34] = [
-    ("br_table", 1, 5, 0),
-    ("unreachable", 0, 0, 0),
-    ("br", 3, 0, 0),
-    ("br_if", 3, 0, 0),
-    ("br_on_null", 3, 0, 0),
-    ("br_on_non_null", 3, 0, 0),
-    ("return", 0, 0, 0),
-    ("throw", 3, 0, 0),
-    ("throw_ref", 0, 0, 0),
-    ("rethrow", 3, 0, 0),
-    ("br_on_cast", 3, 2, 3),
-    ("br_on_cast_fail", 3, 2, 3),
-    ("call", 3, 0, 0),
-    ("call_indirect", 3, 5, 0),
-    ("call_ref", 3, 0, 0),
-    ("return_call", 3, 0, 0),
-    ("return_call_indirect", 3, 5, 0),
-    ("return_call_ref", 3, 0, 0),
-    ("drop", 0, 0, 0),
-    ("select", 1, 0, 0),
-    ("const", 1, 0, 0),
-    ("unop", 1, 0, 0),
-    ("binop", 1, 0, 0),
-    ("tern_op", 1, 0, 0),
-    ("i64_add128", 0, 0, 0),
-    ("i64_sub128", 0, 0, 0),
-    ("v128_bitselect", 0, 0, 0),
-    ("i8x16_swizzle", 0, 0, 0),
-    ("i8x16_shuffle", 7, 24, 0),
-    ("local_get", 3, 0, 0),
-    ("local_set", 3, 0, 0),
-    ("local_tee", 3, 0, 0),
-    ("global_get", 3, 0, 0),
-    ("global_set", 3, 0, 0),
+    (0, 1, 5, 0), // br_table
+    (1, 0, 0, 0), // unreachable
+    (2, 3, 0, 0), // br
+    (3, 3, 0, 0), // br_if
+    (4, 3, 0, 0), // br_on_null
+    (5, 3, 0, 0), // br_on_non_null
+    (6, 0, 0, 0), // return
+    (7, 3, 0, 0), // throw
+    (8, 0, 0, 0), // throw_ref
+    (9, 3, 0, 0), // rethrow
+    (10, 3, 2, 3), // br_on_cast
+    (11, 3, 2, 3), // br_on_cast_fail
+    (12, 3, 0, 0), // call
+    (13, 3, 5, 0), // call_indirect
+    (14, 3, 0, 0), // call_ref
+    (15, 3, 0, 0), // return_call
+    (16, 3, 5, 0), // return_call_indirect
+    (17, 3, 0, 0), // return_call_ref
+    (18, 0, 0, 0), // drop
+    (19, 1, 0, 0), // select
+    (20, 1, 0, 0), // const
+    (21, 1, 0, 0), // unop
+    (22, 1, 0, 0), // binop
+    (23, 1, 0, 0), // tern_op
+    (24, 0, 0, 0), // i64_add128
+    (25, 0, 0, 0), // i64_sub128
+    (26, 0, 0, 0), // v128_bitselect
+    (27, 0, 0, 0), // i8x16_swizzle
+    (28, 7, 24, 0), // i8x16_shuffle
+    (29, 3, 0, 0), // local_get
+    (30, 3, 0, 0), // local_set
+    (31, 3, 0, 0), // local_tee
+    (32, 3, 0, 0), // global_get
+    (33, 3, 0, 0), // global_set
 ];

@@ -1,5 +1,5 @@
 //! Copies of instructions, sequences and constant expressions, and the text of a location.
-use crate::rows::{ARG, assert_rows};
+use crate::rows::{ARG, CALL, LOAD, LOCAL_TEE, UNREACHABLE, assert_rows};
 use std::alloc::{AllocError, Global};
 use std::test::Fail;
 use walrus_arena::{FunctionId, GlobalId, InstrSeqId, LocalId, MemoryId, TagId};
@@ -43,10 +43,10 @@ fn plain_instructions(rt: HostRuntime) -> Result<(), Fail> {
         &rt,
         all.as_slice(),
         &[
-            ("unreachable", 0, 0, 0),
-            ("call", 3, 0, 0),
-            ("local_tee", 3, 0, 0),
-            ("load", 3, 1, 1),
+            (UNREACHABLE, 0, 0, 0),
+            (CALL, 3, 0, 0),
+            (LOCAL_TEE, 3, 0, 0),
+            (LOAD, 3, 1, 1),
         ],
     );
     Ok(())
@@ -160,10 +160,14 @@ fn is_sequence(seq: &InstrSeq) -> bool {
         if block.index() == 4 && at.data() == 7 && none.is_default())
 }
 
+fn copies_sequence(seq: &InstrSeq) -> Result<bool, AllocError> {
+    Ok(is_sequence(&seq.clone()?))
+}
+
 #[test]
 fn sequences(rt: HostRuntime) -> Result<(), Fail> {
-    let copy = sequence(rt.alloc())?.clone()?;
-    assert!(rt; is_sequence(&copy));
+    let seq = sequence(rt.alloc())?;
+    assert!(rt; copies_sequence(&seq)?);
     Ok(())
 }
 
@@ -176,9 +180,13 @@ fn ops_of_copy(alloc: Global, op: ConstOp) -> Result<Vec<ConstOp>, AllocError> {
     Ok(all)
 }
 
-#[test]
-fn single_constants(rt: HostRuntime) -> Result<(), Fail> {
-    for op in [
+fn is_copied(alloc: Global, op: ConstOp) -> Result<bool, AllocError> {
+    let ops = ops_of_copy(alloc, op)?;
+    Ok(matches!(ops.as_slice(), [only] if *only == op))
+}
+
+fn singles() -> [ConstOp; 9] {
+    [
         ConstOp::I32Const(-7),
         ConstOp::I64Const(-8),
         ConstOp::F32Const(9),
@@ -188,9 +196,13 @@ fn single_constants(rt: HostRuntime) -> Result<(), Fail> {
         ConstOp::RefNull(RefType::I31REF),
         ConstOp::RefFunc(FunctionId::from_index(3)),
         ConstOp::RefI31,
-    ] {
-        let ops = ops_of_copy(rt.alloc(), op)?;
-        assert!(rt; matches!(ops.as_slice(), [only] if *only == op));
+    ]
+}
+
+#[test]
+fn single_constants(rt: HostRuntime) -> Result<(), Fail> {
+    for op in singles() {
+        assert!(rt; is_copied(rt.alloc(), op)?);
     }
     Ok(())
 }

@@ -8,13 +8,18 @@ use walrus_builder::{FunctionBuilder, InstrSeqBuilder};
 use walrus_instr::{ConstExpr, ConstOp, Instr, InstrLocId, InstrSeq, InstrSeqType, LegacyCatch};
 use walrus_types::{ModuleTypes, ValType};
 
+// Names the function, and says whether it has that name then.
+fn takes_name(body: &mut FunctionBuilder, text: &str) -> Result<bool, AllocError> {
+    body.name(text)?;
+    Ok(matches!(&body.name, Some(name) if name.as_str() == text))
+}
+
 #[test]
 fn names(rt: HostRuntime) -> Result<(), Fail> {
     let mut body = function(rt.alloc())?;
     assert!(rt; body.name.is_none());
-    body.name("first")?;
-    body.name("n")?;
-    assert_eq!(rt; body.name.as_deref(), Some("n"));
+    assert!(rt; takes_name(&mut body, "first")?);
+    assert!(rt; takes_name(&mut body, "n")?);
     Ok(())
 }
 
@@ -25,20 +30,34 @@ fn fills_new(
     id: InstrSeqId,
 ) -> Result<(), AllocError> {
     assert!(rt; id.index() < body.seqs().len());
-    let seq = body.instr_seq(id);
-    seq.return_()?;
-    assert!(rt; matches!(seq.instrs(), [(Instr::Return, _)]));
-    assert!(rt; body.func_body().instrs().is_empty());
+    assert!(rt; has_return_alone(body.instr_seq(id))?);
+    assert!(rt; is_empty(body.func_body()));
     Ok(())
+}
+
+fn has_return_alone(seq: &mut InstrSeqBuilder) -> Result<bool, AllocError> {
+    seq.return_()?;
+    Ok(matches!(seq.instrs(), [(Instr::Return, _)]))
+}
+
+fn is_empty(seq: &InstrSeqBuilder) -> bool {
+    seq.instrs().is_empty()
+}
+
+// Adds a sequence, which is the second of two then.
+fn adds_second(body: &mut FunctionBuilder) -> Result<InstrSeqId, AllocError> {
+    body.dangling_instr_seq(InstrSeqType::Simple(Some(ValType::F32)))
+}
+
+fn has_two(body: &FunctionBuilder, second: InstrSeqId) -> bool {
+    second.index() == 1 && body.seqs().len() == 2
 }
 
 #[test]
 fn dangling(rt: HostRuntime) -> Result<(), Fail> {
     let mut body = function(rt.alloc())?;
-    let id = body.dangling_instr_seq(InstrSeqType::Simple(Some(ValType::F32)))?;
-    assert_eq!(rt; id.index(), 1);
-    assert_eq!(rt; body.seqs().len(), 2);
-    assert!(rt; body.func_body().instrs().is_empty());
+    let id = adds_second(&mut body)?;
+    assert!(rt; has_two(&body, id) && is_empty(body.func_body()));
     fills_new(&rt, &mut body, id)?;
     Ok(())
 }
@@ -78,6 +97,13 @@ fn begun(
     })
 }
 
+// The two have one type of their own blocks.
+fn begin_alike(alloc: Global, types: &mut ModuleTypes) -> Result<bool, AllocError> {
+    let f = begun(alloc, types, &[ValType::I32], &[ValType::I64])?;
+    let g = begun(alloc, types, &[ValType::F32], &[ValType::I64])?;
+    Ok(f.is_some() && f == g)
+}
+
 fn next_index(types: &mut ModuleTypes) -> Result<usize, AllocError> {
     Ok(types.add(&[ValType::F64], &[])?.index())
 }
@@ -85,11 +111,8 @@ fn next_index(types: &mut ModuleTypes) -> Result<usize, AllocError> {
 #[test]
 fn new_functions(rt: HostRuntime) -> Result<(), Fail> {
     let mut types = ModuleTypes::new(rt.alloc());
-    let f = begun(rt.alloc(), &mut types, &[ValType::I32], &[ValType::I64])?;
-    let g = begun(rt.alloc(), &mut types, &[ValType::F32], &[ValType::I64])?;
-    assert!(rt; f.is_some() && f == g);
-    // The two have one type of their own blocks.
-    assert_eq!(rt; next_index(&mut types)?, 3);
+    assert!(rt; begin_alike(rt.alloc(), &mut types)?);
+    assert!(rt; next_index(&mut types)? == 3);
     Ok(())
 }
 
@@ -106,11 +129,18 @@ fn makes(
 #[test]
 fn new_block_types(rt: HostRuntime) -> Result<(), Fail> {
     let mut types = ModuleTypes::new(rt.alloc());
-    let one = InstrSeqType::Simple(Some(ValType::I32));
-    assert!(rt; makes(&mut types, &[], &[ValType::I32], one)?);
-    assert!(rt; makes(&mut types, &[], &[], PLAIN)?);
-    assert!(rt; types.iter().next().is_none());
+    assert!(rt; makes_simple(&mut types)? && has_no_type(&types));
     Ok(())
+}
+
+// Types without parameters and of at most one result need no type of the table.
+fn makes_simple(types: &mut ModuleTypes) -> Result<bool, AllocError> {
+    let one = InstrSeqType::Simple(Some(ValType::I32));
+    Ok(makes(types, &[], &[ValType::I32], one)? && makes(types, &[], &[], PLAIN)?)
+}
+
+fn has_no_type(types: &ModuleTypes) -> bool {
+    types.iter().next().is_none()
 }
 
 fn has_none(types: &ModuleTypes) -> bool {
@@ -119,6 +149,12 @@ fn has_none(types: &ModuleTypes) -> bool {
 
 fn add_type(types: &mut ModuleTypes) -> Result<InstrSeqType, AllocError> {
     Ok(InstrSeqType::MultiValue(types.add(&[ValType::I32], &[])?))
+}
+
+// A type that is added is taken and found as a block type.
+fn takes_added(types: &mut ModuleTypes) -> Result<bool, AllocError> {
+    let ty = add_type(types)?;
+    Ok(makes(types, &[ValType::I32], &[], ty)? && has_both(types, ty))
 }
 
 fn has_both(types: &ModuleTypes, ty: InstrSeqType) -> bool {
@@ -131,9 +167,7 @@ fn has_both(types: &ModuleTypes, ty: InstrSeqType) -> bool {
 fn block_types_of_the_table(rt: HostRuntime) -> Result<(), Fail> {
     let mut types = ModuleTypes::new(rt.alloc());
     assert!(rt; has_none(&types));
-    let ty = add_type(&mut types)?;
-    assert!(rt; makes(&mut types, &[ValType::I32], &[], ty)?);
-    assert!(rt; has_both(&types, ty));
+    assert!(rt; takes_added(&mut types)?);
     Ok(())
 }
 
@@ -162,14 +196,25 @@ fn is_copy(copy: &InstrSeq) -> bool {
         }
 }
 
+fn with_try(alloc: Global) -> Result<FunctionBuilder, AllocError> {
+    let mut body = function(alloc)?;
+    let tried = body.dangling_instr_seq(PLAIN)?;
+    add_try(alloc, body.func_body(), tried)?;
+    Ok(body)
+}
+
+// Whether there are two sequences, of which the first is copied.
+fn copies_first(seqs: &[InstrSeq]) -> Result<bool, AllocError> {
+    match seqs {
+        [first, _] => Ok(is_copy(&first.clone()?)),
+        _ => Ok(false),
+    }
+}
+
 #[test]
 fn clones(rt: HostRuntime) -> Result<(), Fail> {
-    let mut body = function(rt.alloc())?;
-    let tried = body.dangling_instr_seq(PLAIN)?;
-    add_try(rt.alloc(), body.func_body(), tried)?;
-    let seqs = body.seqs();
-    assert!(rt; seqs.len() == 2);
-    assert!(rt; is_copy(&seqs[0].clone()?));
+    let body = with_try(rt.alloc())?;
+    assert!(rt; copies_first(body.seqs())?);
     Ok(())
 }
 

@@ -50,26 +50,26 @@ pub fn add_all(seq: &mut InstrSeqBuilder) -> Result<(), AllocError> {
 
 /// What they add.
 pub const ROWS: [Row; 22] = [
-    ("table_get", 3, 0, 0),
-    ("table_set", 3, 0, 0),
-    ("table_grow", 3, 0, 0),
-    ("table_size", 3, 0, 0),
-    ("table_fill", 3, 0, 0),
-    ("table_init", 3, 5, 0),
-    ("elem_drop", 3, 0, 0),
-    ("table_copy", 3, 5, 0),
-    ("load", 3, 1, 1),
-    ("store", 3, 1, 1),
-    ("load_simd", 3, 1, 1),
-    ("memory_size", 3, 0, 0),
-    ("memory_grow", 3, 0, 0),
-    ("memory_init", 3, 5, 0),
-    ("data_drop", 3, 0, 0),
-    ("memory_copy", 3, 5, 0),
-    ("memory_fill", 3, 0, 0),
-    ("atomic_rmw", 3, 1, 1),
-    ("cmpxchg", 3, 1, 1),
-    ("atomic_notify", 3, 1, 0),
-    ("atomic_wait", 3, 1, 1),
-    ("atomic_fence", 0, 0, 0),
+    (40, 3, 0, 0), // table_get
+    (41, 3, 0, 0), // table_set
+    (42, 3, 0, 0), // table_grow
+    (43, 3, 0, 0), // table_size
+    (44, 3, 0, 0), // table_fill
+    (45, 3, 5, 0), // table_init
+    (46, 3, 0, 0), // elem_drop
+    (47, 3, 5, 0), // table_copy
+    (48, 3, 1, 1), // load
+    (49, 3, 1, 1), // store
+    (50, 3, 1, 1), // load_simd
+    (51, 3, 0, 0), // memory_size
+    (52, 3, 0, 0), // memory_grow
+    (53, 3, 5, 0), // memory_init
+    (54, 3, 0, 0), // data_drop
+    (55, 3, 5, 0), // memory_copy
+    (56, 3, 0, 0), // memory_fill
+    (57, 3, 1, 1), // atomic_rmw
+    (58, 3, 1, 1), // cmpxchg
+    (59, 3, 1, 0), // atomic_notify
+    (60, 3, 1, 1), // atomic_wait
+    (61, 0, 0, 0), // atomic_fence
 ];

@@ -63,36 +63,36 @@ pub fn add_all(seq: &mut InstrSeqBuilder) -> Result<(), AllocError> {
 
 /// What they add.
 pub const ROWS: [Row; 32] = [
-    ("ref_null", 1, 0, 0),
-    ("ref_is_null", 0, 0, 0),
-    ("ref_func", 3, 0, 0),
-    ("ref_eq", 0, 0, 0),
-    ("ref_as_non_null", 0, 0, 0),
-    ("ref_test", 1, 0, 0),
-    ("ref_cast", 1, 0, 0),
-    ("ref_i31", 0, 0, 0),
-    ("i31_get_s", 0, 0, 0),
-    ("i31_get_u", 0, 0, 0),
-    ("any_convert_extern", 0, 0, 0),
-    ("extern_convert_any", 0, 0, 0),
-    ("struct_new", 3, 0, 0),
-    ("struct_new_default", 3, 0, 0),
-    ("struct_get", 3, 5, 0),
-    ("struct_get_s", 3, 5, 0),
-    ("struct_get_u", 3, 5, 0),
-    ("struct_set", 3, 5, 0),
-    ("array_new", 3, 0, 0),
-    ("array_new_default", 3, 0, 0),
-    ("array_new_fixed", 3, 5, 0),
-    ("array_new_data", 3, 5, 0),
-    ("array_new_elem", 3, 5, 0),
-    ("array_init_data", 3, 5, 0),
-    ("array_init_elem", 3, 5, 0),
-    ("array_get", 3, 0, 0),
-    ("array_get_s", 3, 0, 0),
-    ("array_get_u", 3, 0, 0),
-    ("array_set", 3, 0, 0),
-    ("array_len", 0, 0, 0),
-    ("array_fill", 3, 0, 0),
-    ("array_copy", 3, 5, 0),
+    (70, 1, 0, 0), // ref_null
+    (71, 0, 0, 0), // ref_is_null
+    (72, 3, 0, 0), // ref_func
+    (73, 0, 0, 0), // ref_eq
+    (74, 0, 0, 0), // ref_as_non_null
+    (75, 1, 0, 0), // ref_test
+    (76, 1, 0, 0), // ref_cast
+    (77, 0, 0, 0), // ref_i31
+    (78, 0, 0, 0), // i31_get_s
+    (79, 0, 0, 0), // i31_get_u
+    (80, 0, 0, 0), // any_convert_extern
+    (81, 0, 0, 0), // extern_convert_any
+    (82, 3, 0, 0), // struct_new
+    (83, 3, 0, 0), // struct_new_default
+    (84, 3, 5, 0), // struct_get
+    (85, 3, 5, 0), // struct_get_s
+    (86, 3, 5, 0), // struct_get_u
+    (87, 3, 5, 0), // struct_set
+    (88, 3, 0, 0), // array_new
+    (89, 3, 0, 0), // array_new_default
+    (90, 3, 5, 0), // array_new_fixed
+    (91, 3, 5, 0), // array_new_data
+    (92, 3, 5, 0), // array_new_elem
+    (93, 3, 5, 0), // array_init_data
+    (94, 3, 5, 0), // array_init_elem
+    (95, 3, 0, 0), // array_get
+    (96, 3, 0, 0), // array_get_s
+    (97, 3, 0, 0), // array_get_u
+    (98, 3, 0, 0), // array_set
+    (99, 0, 0, 0), // array_len
+    (100, 3, 0, 0), // array_fill
+    (101, 3, 5, 0), // array_copy
 ];

@@ -6,9 +6,32 @@ use walrus_instr::{
 };
 use walrus_types::{RefType, ValType};
 
-/// The form of an instruction, and three numbers of its fields in their order. Of an operator, a type, a constant
-/// or a place in memory the number says whether it is the one of the tests; of a list it is the length.
-pub type Row = (&'static str, usize, usize, usize);
+/// The number of an instruction's form, as the tables of calls count them, and three numbers of its fields in their order.
+/// Of an operator, a type, a constant or a place in memory the number says whether it is the one of the tests; of a list it
+/// is the length. (Texts in place of numbers take twice as long to prove.)
+pub type Row = (u32, usize, usize, usize);
+
+pub const UNREACHABLE: u32 = 1;
+
+pub const RETURN: u32 = 6;
+
+pub const CALL: u32 = 12;
+
+pub const DROP: u32 = 18;
+
+pub const LOCAL_TEE: u32 = 31;
+
+pub const LOAD: u32 = 48;
+
+pub const REF_EQ: u32 = 73;
+
+pub const ARRAY_LEN: u32 = 99;
+
+pub const BLOCK: u32 = 110;
+
+pub const LOOP: u32 = 111;
+
+pub const IF_ELSE: u32 = 112;
 
 pub const ARG: MemArg = MemArg {
     align: 8,
@@ -41,14 +64,14 @@ fn is_sum(op: &TernaryOp) -> bool {
 
 fn block_row(instr: &Instr) -> Option<Row> {
     let row = match instr {
-        Instr::Block { seq } => ("block", seq.index(), 0, 0),
-        Instr::Loop { seq } => ("loop", seq.index(), 0, 0),
+        Instr::Block { seq } => (110, seq.index(), 0, 0),
+        Instr::Loop { seq } => (111, seq.index(), 0, 0),
         Instr::IfElse {
             consequent,
             alternative,
-        } => ("if_else", consequent.index(), alternative.index(), 0),
-        Instr::Try { seq, catches } => ("try", seq.index(), catches.len(), 0),
-        Instr::TryTable { seq, catches } => ("try_table", seq.index(), catches.len(), 0),
+        } => (112, consequent.index(), alternative.index(), 0),
+        Instr::Try { seq, catches } => (113, seq.index(), catches.len(), 0),
+        Instr::TryTable { seq, catches } => (114, seq.index(), catches.len(), 0),
         _ => return None,
     };
     Some(row)
@@ -56,31 +79,26 @@ fn block_row(instr: &Instr) -> Option<Row> {
 
 fn branch_row(instr: &Instr) -> Option<Row> {
     let row = match instr {
-        Instr::Unreachable => ("unreachable", 0, 0, 0),
-        Instr::Br { block } => ("br", block.index(), 0, 0),
-        Instr::BrIf { block } => ("br_if", block.index(), 0, 0),
-        Instr::BrTable { blocks, default } => ("br_table", blocks.len(), default.index(), 0),
-        Instr::BrOnNull { block } => ("br_on_null", block.index(), 0, 0),
-        Instr::BrOnNonNull { block } => ("br_on_non_null", block.index(), 0, 0),
+        Instr::Unreachable => (1, 0, 0, 0),
+        Instr::Br { block } => (2, block.index(), 0, 0),
+        Instr::BrIf { block } => (3, block.index(), 0, 0),
+        Instr::BrTable { blocks, default } => (0, blocks.len(), default.index(), 0),
+        Instr::BrOnNull { block } => (4, block.index(), 0, 0),
+        Instr::BrOnNonNull { block } => (5, block.index(), 0, 0),
         Instr::BrOnCast {
             block,
             from_ty,
             to_ty,
-        } => ("br_on_cast", block.index(), number(from_ty), number(to_ty)),
+        } => (10, block.index(), number(from_ty), number(to_ty)),
         Instr::BrOnCastFail {
             block,
             from_ty,
             to_ty,
-        } => (
-            "br_on_cast_fail",
-            block.index(),
-            number(from_ty),
-            number(to_ty),
-        ),
-        Instr::Return => ("return", 0, 0, 0),
-        Instr::Throw { tag } => ("throw", tag.index(), 0, 0),
-        Instr::ThrowRef => ("throw_ref", 0, 0, 0),
-        Instr::Rethrow { relative_depth } => ("rethrow", *relative_depth as usize, 0, 0),
+        } => (11, block.index(), number(from_ty), number(to_ty)),
+        Instr::Return => (6, 0, 0, 0),
+        Instr::Throw { tag } => (7, tag.index(), 0, 0),
+        Instr::ThrowRef => (8, 0, 0, 0),
+        Instr::Rethrow { relative_depth } => (9, *relative_depth as usize, 0, 0),
         _ => return None,
     };
     Some(row)
@@ -88,17 +106,12 @@ fn branch_row(instr: &Instr) -> Option<Row> {
 
 fn call_row(instr: &Instr) -> Option<Row> {
     let row = match instr {
-        Instr::Call { func } => ("call", func.index(), 0, 0),
-        Instr::CallIndirect { ty, table } => ("call_indirect", ty.index(), table.index(), 0),
-        Instr::CallRef { ty } => ("call_ref", ty.index(), 0, 0),
-        Instr::ReturnCall { func } => ("return_call", func.index(), 0, 0),
-        Instr::ReturnCallIndirect { ty, table } => (
-            "return_call_indirect",
-            ty.index(),
-            table.index(),
-            0,
-        ),
-        Instr::ReturnCallRef { ty } => ("return_call_ref", ty.index(), 0, 0),
+        Instr::Call { func } => (12, func.index(), 0, 0),
+        Instr::CallIndirect { ty, table } => (13, ty.index(), table.index(), 0),
+        Instr::CallRef { ty } => (14, ty.index(), 0, 0),
+        Instr::ReturnCall { func } => (15, func.index(), 0, 0),
+        Instr::ReturnCallIndirect { ty, table } => (16, ty.index(), table.index(), 0),
+        Instr::ReturnCallRef { ty } => (17, ty.index(), 0, 0),
         _ => return None,
     };
     Some(row)
@@ -106,27 +119,22 @@ fn call_row(instr: &Instr) -> Option<Row> {
 
 fn operator_row(instr: &Instr) -> Option<Row> {
     let row = match instr {
-        Instr::Drop => ("drop", 0, 0, 0),
-        Instr::Select { ty } => ("select", usize::from(*ty == Some(ValType::I64)), 0, 0),
+        Instr::Drop => (18, 0, 0, 0),
+        Instr::Select { ty } => (19, usize::from(*ty == Some(ValType::I64)), 0, 0),
         Instr::Const { value } => (
-            "const",
+            20,
             usize::from(*value == Value::V128(Bits128::new(17))),
             0,
             0,
         ),
-        Instr::Unop { op } => ("unop", usize::from(is_count(op)), 0, 0),
-        Instr::Binop { op } => ("binop", usize::from(is_rotation(op)), 0, 0),
-        Instr::TernOp { op } => ("tern_op", usize::from(is_sum(op)), 0, 0),
-        Instr::I64Add128 => ("i64_add128", 0, 0, 0),
-        Instr::I64Sub128 => ("i64_sub128", 0, 0, 0),
-        Instr::V128Bitselect => ("v128_bitselect", 0, 0, 0),
-        Instr::I8x16Swizzle => ("i8x16_swizzle", 0, 0, 0),
-        Instr::I8x16Shuffle { indices } => (
-            "i8x16_shuffle",
-            indices[7] as usize,
-            indices[8] as usize,
-            0,
-        ),
+        Instr::Unop { op } => (21, usize::from(is_count(op)), 0, 0),
+        Instr::Binop { op } => (22, usize::from(is_rotation(op)), 0, 0),
+        Instr::TernOp { op } => (23, usize::from(is_sum(op)), 0, 0),
+        Instr::I64Add128 => (24, 0, 0, 0),
+        Instr::I64Sub128 => (25, 0, 0, 0),
+        Instr::V128Bitselect => (26, 0, 0, 0),
+        Instr::I8x16Swizzle => (27, 0, 0, 0),
+        Instr::I8x16Shuffle { indices } => (28, indices[7] as usize, indices[8] as usize, 0),
         _ => return None,
     };
     Some(row)
@@ -134,11 +142,11 @@ fn operator_row(instr: &Instr) -> Option<Row> {
 
 fn variable_row(instr: &Instr) -> Option<Row> {
     let row = match instr {
-        Instr::LocalGet { local } => ("local_get", local.index(), 0, 0),
-        Instr::LocalSet { local } => ("local_set", local.index(), 0, 0),
-        Instr::LocalTee { local } => ("local_tee", local.index(), 0, 0),
-        Instr::GlobalGet { global } => ("global_get", global.index(), 0, 0),
-        Instr::GlobalSet { global } => ("global_set", global.index(), 0, 0),
+        Instr::LocalGet { local } => (29, local.index(), 0, 0),
+        Instr::LocalSet { local } => (30, local.index(), 0, 0),
+        Instr::LocalTee { local } => (31, local.index(), 0, 0),
+        Instr::GlobalGet { global } => (32, global.index(), 0, 0),
+        Instr::GlobalSet { global } => (33, global.index(), 0, 0),
         _ => return None,
     };
     Some(row)
@@ -146,14 +154,14 @@ fn variable_row(instr: &Instr) -> Option<Row> {
 
 fn table_row(instr: &Instr) -> Option<Row> {
     let row = match instr {
-        Instr::TableGet { table } => ("table_get", table.index(), 0, 0),
-        Instr::TableSet { table } => ("table_set", table.index(), 0, 0),
-        Instr::TableGrow { table } => ("table_grow", table.index(), 0, 0),
-        Instr::TableSize { table } => ("table_size", table.index(), 0, 0),
-        Instr::TableFill { table } => ("table_fill", table.index(), 0, 0),
-        Instr::TableInit { table, elem } => ("table_init", table.index(), elem.index(), 0),
-        Instr::ElemDrop { elem } => ("elem_drop", elem.index(), 0, 0),
-        Instr::TableCopy { src, dst } => ("table_copy", src.index(), dst.index(), 0),
+        Instr::TableGet { table } => (40, table.index(), 0, 0),
+        Instr::TableSet { table } => (41, table.index(), 0, 0),
+        Instr::TableGrow { table } => (42, table.index(), 0, 0),
+        Instr::TableSize { table } => (43, table.index(), 0, 0),
+        Instr::TableFill { table } => (44, table.index(), 0, 0),
+        Instr::TableInit { table, elem } => (45, table.index(), elem.index(), 0),
+        Instr::ElemDrop { elem } => (46, elem.index(), 0, 0),
+        Instr::TableCopy { src, dst } => (47, src.index(), dst.index(), 0),
         _ => return None,
     };
     Some(row)
@@ -162,29 +170,29 @@ fn table_row(instr: &Instr) -> Option<Row> {
 fn memory_row(instr: &Instr) -> Option<Row> {
     let row = match instr {
         Instr::Load { memory, kind, arg } => (
-            "load",
+            48,
             memory.index(),
             usize::from(*kind == LoadKind::F64),
             usize::from(*arg == ARG),
         ),
         Instr::Store { memory, kind, arg } => (
-            "store",
+            49,
             memory.index(),
             usize::from(*kind == StoreKind::V128),
             usize::from(*arg == ARG),
         ),
         Instr::LoadSimd { memory, kind, arg } => (
-            "load_simd",
+            50,
             memory.index(),
             usize::from(*kind == LoadSimdKind::V128Load8Lane(2)),
             usize::from(*arg == ARG),
         ),
-        Instr::MemorySize { memory } => ("memory_size", memory.index(), 0, 0),
-        Instr::MemoryGrow { memory } => ("memory_grow", memory.index(), 0, 0),
-        Instr::MemoryInit { memory, data } => ("memory_init", memory.index(), data.index(), 0),
-        Instr::DataDrop { data } => ("data_drop", data.index(), 0, 0),
-        Instr::MemoryCopy { src, dst } => ("memory_copy", src.index(), dst.index(), 0),
-        Instr::MemoryFill { memory } => ("memory_fill", memory.index(), 0, 0),
+        Instr::MemorySize { memory } => (51, memory.index(), 0, 0),
+        Instr::MemoryGrow { memory } => (52, memory.index(), 0, 0),
+        Instr::MemoryInit { memory, data } => (53, memory.index(), data.index(), 0),
+        Instr::DataDrop { data } => (54, data.index(), 0, 0),
+        Instr::MemoryCopy { src, dst } => (55, src.index(), dst.index(), 0),
+        Instr::MemoryFill { memory } => (56, memory.index(), 0, 0),
         _ => return None,
     };
     Some(row)
@@ -198,34 +206,29 @@ fn atomic_row(instr: &Instr) -> Option<Row> {
             width,
             arg,
         } => (
-            "atomic_rmw",
+            57,
             memory.index(),
             usize::from(*op == AtomicOp::Xchg && *width == AtomicWidth::I64_16),
             usize::from(*arg == ARG),
         ),
         Instr::Cmpxchg { memory, width, arg } => (
-            "cmpxchg",
+            58,
             memory.index(),
             usize::from(*width == AtomicWidth::I64_16),
             usize::from(*arg == ARG),
         ),
-        Instr::AtomicNotify { memory, arg } => (
-            "atomic_notify",
-            memory.index(),
-            usize::from(*arg == ARG),
-            0,
-        ),
+        Instr::AtomicNotify { memory, arg } => (59, memory.index(), usize::from(*arg == ARG), 0),
         Instr::AtomicWait {
             memory,
             arg,
             sixty_four,
         } => (
-            "atomic_wait",
+            60,
             memory.index(),
             usize::from(*arg == ARG),
             usize::from(*sixty_four),
         ),
-        Instr::AtomicFence => ("atomic_fence", 0, 0, 0),
+        Instr::AtomicFence => (61, 0, 0, 0),
         _ => return None,
     };
     Some(row)
@@ -233,18 +236,18 @@ fn atomic_row(instr: &Instr) -> Option<Row> {
 
 fn reference_row(instr: &Instr) -> Option<Row> {
     let row = match instr {
-        Instr::RefNull { ty } => ("ref_null", number(ty), 0, 0),
-        Instr::RefIsNull => ("ref_is_null", 0, 0, 0),
-        Instr::RefFunc { func } => ("ref_func", func.index(), 0, 0),
-        Instr::RefEq => ("ref_eq", 0, 0, 0),
-        Instr::RefAsNonNull => ("ref_as_non_null", 0, 0, 0),
-        Instr::RefTest { ty } => ("ref_test", number(ty), 0, 0),
-        Instr::RefCast { ty } => ("ref_cast", number(ty), 0, 0),
-        Instr::RefI31 => ("ref_i31", 0, 0, 0),
-        Instr::I31GetS => ("i31_get_s", 0, 0, 0),
-        Instr::I31GetU => ("i31_get_u", 0, 0, 0),
-        Instr::AnyConvertExtern => ("any_convert_extern", 0, 0, 0),
-        Instr::ExternConvertAny => ("extern_convert_any", 0, 0, 0),
+        Instr::RefNull { ty } => (70, number(ty), 0, 0),
+        Instr::RefIsNull => (71, 0, 0, 0),
+        Instr::RefFunc { func } => (72, func.index(), 0, 0),
+        Instr::RefEq => (73, 0, 0, 0),
+        Instr::RefAsNonNull => (74, 0, 0, 0),
+        Instr::RefTest { ty } => (75, number(ty), 0, 0),
+        Instr::RefCast { ty } => (76, number(ty), 0, 0),
+        Instr::RefI31 => (77, 0, 0, 0),
+        Instr::I31GetS => (78, 0, 0, 0),
+        Instr::I31GetU => (79, 0, 0, 0),
+        Instr::AnyConvertExtern => (80, 0, 0, 0),
+        Instr::ExternConvertAny => (81, 0, 0, 0),
         _ => return None,
     };
     Some(row)
@@ -252,12 +255,12 @@ fn reference_row(instr: &Instr) -> Option<Row> {
 
 fn structure_row(instr: &Instr) -> Option<Row> {
     let row = match instr {
-        Instr::StructNew { ty } => ("struct_new", ty.index(), 0, 0),
-        Instr::StructNewDefault { ty } => ("struct_new_default", ty.index(), 0, 0),
-        Instr::StructGet { ty, field } => ("struct_get", ty.index(), *field as usize, 0),
-        Instr::StructGetS { ty, field } => ("struct_get_s", ty.index(), *field as usize, 0),
-        Instr::StructGetU { ty, field } => ("struct_get_u", ty.index(), *field as usize, 0),
-        Instr::StructSet { ty, field } => ("struct_set", ty.index(), *field as usize, 0),
+        Instr::StructNew { ty } => (82, ty.index(), 0, 0),
+        Instr::StructNewDefault { ty } => (83, ty.index(), 0, 0),
+        Instr::StructGet { ty, field } => (84, ty.index(), *field as usize, 0),
+        Instr::StructGetS { ty, field } => (85, ty.index(), *field as usize, 0),
+        Instr::StructGetU { ty, field } => (86, ty.index(), *field as usize, 0),
+        Instr::StructSet { ty, field } => (87, ty.index(), *field as usize, 0),
         _ => return None,
     };
     Some(row)
@@ -265,20 +268,20 @@ fn structure_row(instr: &Instr) -> Option<Row> {
 
 fn array_row(instr: &Instr) -> Option<Row> {
     let row = match instr {
-        Instr::ArrayNew { ty } => ("array_new", ty.index(), 0, 0),
-        Instr::ArrayNewDefault { ty } => ("array_new_default", ty.index(), 0, 0),
-        Instr::ArrayNewFixed { ty, size } => ("array_new_fixed", ty.index(), *size as usize, 0),
-        Instr::ArrayNewData { ty, data } => ("array_new_data", ty.index(), data.index(), 0),
-        Instr::ArrayNewElem { ty, elem } => ("array_new_elem", ty.index(), elem.index(), 0),
-        Instr::ArrayGet { ty } => ("array_get", ty.index(), 0, 0),
-        Instr::ArrayGetS { ty } => ("array_get_s", ty.index(), 0, 0),
-        Instr::ArrayGetU { ty } => ("array_get_u", ty.index(), 0, 0),
-        Instr::ArraySet { ty } => ("array_set", ty.index(), 0, 0),
-        Instr::ArrayLen => ("array_len", 0, 0, 0),
-        Instr::ArrayFill { ty } => ("array_fill", ty.index(), 0, 0),
-        Instr::ArrayCopy { src, dst } => ("array_copy", src.index(), dst.index(), 0),
-        Instr::ArrayInitData { ty, data } => ("array_init_data", ty.index(), data.index(), 0),
-        Instr::ArrayInitElem { ty, elem } => ("array_init_elem", ty.index(), elem.index(), 0),
+        Instr::ArrayNew { ty } => (88, ty.index(), 0, 0),
+        Instr::ArrayNewDefault { ty } => (89, ty.index(), 0, 0),
+        Instr::ArrayNewFixed { ty, size } => (90, ty.index(), *size as usize, 0),
+        Instr::ArrayNewData { ty, data } => (91, ty.index(), data.index(), 0),
+        Instr::ArrayNewElem { ty, elem } => (92, ty.index(), elem.index(), 0),
+        Instr::ArrayGet { ty } => (95, ty.index(), 0, 0),
+        Instr::ArrayGetS { ty } => (96, ty.index(), 0, 0),
+        Instr::ArrayGetU { ty } => (97, ty.index(), 0, 0),
+        Instr::ArraySet { ty } => (98, ty.index(), 0, 0),
+        Instr::ArrayLen => (99, 0, 0, 0),
+        Instr::ArrayFill { ty } => (100, ty.index(), 0, 0),
+        Instr::ArrayCopy { src, dst } => (101, src.index(), dst.index(), 0),
+        Instr::ArrayInitData { ty, data } => (93, ty.index(), data.index(), 0),
+        Instr::ArrayInitElem { ty, elem } => (94, ty.index(), elem.index(), 0),
         _ => return None,
     };
     Some(row)

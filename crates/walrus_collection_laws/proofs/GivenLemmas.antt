@@ -4,12 +4,12 @@ use Rattle.std.specs.List.{slice_get}
 use Rattle.std.proofs.lemmas.List.{length-map}
 use Rattle.walrus_arena.specs.Arena.{Arena, entries}
 use Rattle.walrus_arena.proofs.LawLemmas.{EntriesAreLive-any}
-use Rattle.walrus_local_function.specs.declared.local_function.LocalFunction.{LocalFunction}
+use Rattle.walrus_module_items.specs.walrus_local_function.declared.local_function.LocalFunction.{LocalFunction}
 use Rattle.walrus_module_items.specs.declared.function.Function.{Function}
 use Rattle.walrus_module_items.specs.declared.function.FunctionKind.{FunctionKind}
 use Rattle.walrus_module_items.specs.declared.function.FunctionKind.TheVariants as kinds
 use Rattle.walrus_module_items.specs.Functions.{local_of}
-use Rattle.walrus_collections.specs.LookUps.{local_entries}
+use Rattle.walrus_linked.specs.walrus_collections.LookUps.{local_entries}
 use Rattle.walrus_collection_laws.specs.Given.{ItemsAreLive, LocalsAreLive}
 
 here : {X : Type 0} (x : X) (xs : List X) → Contains (x ∷ xs) x

@@ -2,10 +2,10 @@
 use Rattle.std.specs.Prelude.{◌≡◌, ℕ, length, Some, Contains, slice_get}
 use Rattle.std.specs.List.Sorted.{IsStrictlyIncreasing}
 use Rattle.walrus_arena.specs.Arena.{Arena, item_at, live_count, entries, ids}
-use Rattle.walrus_local_function.specs.declared.local_function.LocalFunction.{LocalFunction}
+use Rattle.walrus_module_items.specs.walrus_local_function.declared.local_function.LocalFunction.{LocalFunction}
 use Rattle.walrus_module_items.specs.declared.function.Function.{Function}
 use Rattle.walrus_module_items.specs.Functions.{local_of}
-use Rattle.walrus_collections.specs.LookUps.{items, local_entries}
+use Rattle.walrus_linked.specs.walrus_collections.LookUps.{items, local_entries}
 
 -- the items are the live ones, each once, by rising id: those of the ids at the same places
 pub record ItemsAreLive {T : Type 0} (a : Arena T) : Type 0 where

@@ -2,7 +2,7 @@
 use Rattle.std.specs.Prelude.{◌==◌, ◌&&◌, Bool, string_bytes}
 use Rattle.std.specs.Str.{bytes_eq}
 use Rattle.walrus_module_items.specs.declared.import.Import.{Import}
-use Rattle.walrus_collections.specs.Tests.{same_kind}
+use Rattle.walrus_linked.specs.walrus_collections.Tests.{same_kind}
 
 -- by all their fields, texts by their bytes
 abbrev pub same_import : Import → Import → Bool

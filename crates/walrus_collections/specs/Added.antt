@@ -5,7 +5,7 @@ use Rattle.std.specs.HashSet.{keys}
 use Rattle.walrus_arena.specs.Arena.{Arena}
 use Rattle.walrus_forms.specs.declared.value.RefType.{RefType}
 use Rattle.walrus_instr.specs.declared.const_expr.ConstExpr.{ConstExpr}
-use Rattle.walrus_local_function.specs.declared.local_function.LocalFunction.{LocalFunction}
+use Rattle.walrus_module_items.specs.walrus_local_function.declared.local_function.LocalFunction.{LocalFunction}
 use Rattle.walrus_module_items.specs.declared.import.Import.{Import}
 use Rattle.walrus_module_items.specs.declared.import.ImportKind.{ImportKind}
 use Rattle.walrus_module_items.specs.declared.export.Export.{Export}

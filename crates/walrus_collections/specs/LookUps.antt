@@ -1,7 +1,7 @@
 -- Collections as finite maps from live ids to items: their items, and look-ups.
 use Rattle.std.specs.Prelude.{ℕ, Bool, List, [], ◌∷◌, map, find, Option, Some, None}
 use Rattle.walrus_arena.specs.Arena.{Arena, entries}
-use Rattle.walrus_local_function.specs.declared.local_function.LocalFunction.{LocalFunction}
+use Rattle.walrus_module_items.specs.walrus_local_function.declared.local_function.LocalFunction.{LocalFunction}
 use Rattle.walrus_module_items.specs.declared.function.Function.{Function}
 use Rattle.walrus_module_items.specs.Functions.{local_of}
 

@@ -11,7 +11,7 @@ use crate::collection::{Collection, Test};
 use std::alloc::AllocError;
 use std::marker::Model;
 use walrus_arena::{FunctionId, FunctionSpace, ImportId, Iter, TypeId};
-use walrus_local_function::LocalFunction;
+use walrus_module_items::local_function::LocalFunction;
 use walrus_module_items::{Function, FunctionKind, ImportedFunction};
 
 /// The functions of a module.
@@ -91,7 +91,7 @@ pub struct LocalFunctions<'a> {
 
 impl<'a> Model for LocalFunctions<'a> {
     ghost use Rattle.std.specs.Prelude.{ℕ, List};
-    ghost use Rattle.walrus_local_function.specs.declared.local_function.LocalFunction.{LocalFunction};
+    ghost use Rattle.walrus_module_items.specs.walrus_local_function.declared.local_function.LocalFunction.{LocalFunction};
     ghost use Rattle.walrus_collections.specs.LookUps.{local_entries};
 
     ghost Value = { List (ℕ × LocalFunction) };

@@ -22,3 +22,7 @@ pub use memories::ModuleMemories;
 pub use segments::{ModuleData, ModuleElements};
 pub use tables::ModuleTables;
 pub use tags::ModuleTags;
+
+// Passed on to crates above, which then list this one alone.
+pub use walrus_module_items as module_items;
+pub use walrus_module_items::local_function;

@@ -10,13 +10,13 @@ use std::alloc::{AllocError, Global};
 use std::env;
 use std::time::Instant;
 use walrus_arena::{FunctionId, Id, ImportId, MemoryId, TableId, Tombstone, TypeId};
+use walrus_collections::module_items::{DataKind, ElementItems, ElementKind};
 use walrus_collections::{
     Collection, ModuleData, ModuleElements, ModuleExports, ModuleFunctions, ModuleGlobals,
     ModuleImports, ModuleMemories, ModuleTables, ModuleTags,
 };
 use walrus_forms::{RefType, ValType};
 use walrus_instr::{ConstExpr, Value};
-use walrus_module_items::{DataKind, ElementItems, ElementKind};
 
 fn main(rt: HostRuntime) -> Result<()> {
     let words: Vec<String> = env::args(&rt)?.collect(rt.alloc())?;

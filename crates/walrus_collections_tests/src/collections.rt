@@ -1,9 +1,10 @@
 //! Adds, look-ups and deletes.
 use std::test::Fail;
-use walrus_arena::FunctionId;
+use walrus_arena::{FunctionId, TableId};
 use walrus_collections::{ModuleExports, ModuleImports, ModuleTables};
 use walrus_errors::ModuleError;
 use walrus_forms::RefType;
+use walrus_instr::ConstExpr;
 
 #[test]
 fn an_export_is_found_until_it_is_deleted(rt: HostRuntime) -> Result<(), Fail> {
@@ -42,5 +43,27 @@ fn the_only_function_table_is_given(rt: HostRuntime) -> Result<(), Fail> {
     assert!(rt; tables.main_function_table() == Ok(Some(table)));
     tables.add_local(false, 1, None, RefType::FUNCREF)?;
     assert!(rt; tables.main_function_table() == Err(ModuleError::Several));
+    Ok(())
+}
+
+fn begins_with(tables: &ModuleTables, id: TableId, function: FunctionId) -> bool {
+    match tables.get(id) {
+        Some(table) => match table.init {
+            Some(ConstExpr::RefFunc(first)) => first == function
+                && table.table64
+                && table.initial == 1,
+            _ => false,
+        },
+        None => false,
+    }
+}
+
+#[test]
+fn a_table_is_added_with_its_first_element(rt: HostRuntime) -> Result<(), Fail> {
+    let mut tables = ModuleTables::new(rt.alloc());
+    let function = FunctionId::from_index(2);
+    let init = Some(ConstExpr::RefFunc(function));
+    let id = tables.add_local_with_init(true, 1, Some(2), RefType::FUNCREF, init)?;
+    assert!(rt; begins_with(&tables, id, function));
     Ok(())
 }

@@ -1,5 +1,6 @@
 //! A module with an import of each kind and an item in each collection.
-use crate::modules::{add_caller, empty, unit_type};
+use crate::held::are_held;
+use crate::modules::{add_caller, unit_type};
 use std::alloc::{AllocError, Global};
 use walrus_arena::{FunctionId, GlobalId, MemoryId, TableId};
 use walrus_collections::Collection;
@@ -138,24 +139,25 @@ fn import_number(module: &Module, name: &str) -> Option<usize> {
     }
 }
 
-#[test]
-fn each_collection_holds_its_items(rt: HostRuntime) {
-    let alloc = rt.alloc();
-    let mut module = empty(alloc);
-    assert!(rt; is_filled(alloc, &mut module));
-    assert!(rt; counts(&module) == [2, 2, 2, 2, 2, 1]);
-    assert!(rt; other_counts(&module) == [5, 1, 1, 1]);
+// Whether each collection has as many items as it was given.
+pub fn are_counted(alloc: Global, module: &mut Module) -> bool {
+    is_filled(alloc, module)
+        && counts(module) == [2, 2, 2, 2, 2, 1]
+        && other_counts(module) == [5, 1, 1, 1]
 }
 
-#[test]
-fn imports_and_exports_are_found_by_name(rt: HostRuntime) {
-    let alloc = rt.alloc();
-    let mut module = empty(alloc);
-    assert!(rt; is_filled(alloc, &mut module));
-    assert!(rt; exported(&module, "x") == Some(1));
-    assert!(rt; imported(&module, "f") == Some(0));
-    assert!(rt; imported(&module, "t").is_none());
-    assert!(rt; import_number(&module, "e") == Some(4));
+// Whether each collection holds the items as they were given.
+pub fn are_as_given(alloc: Global, module: &mut Module) -> bool {
+    is_filled(alloc, module) && are_held(module)
+}
+
+// Whether imports and exports are found by their names.
+pub fn are_found(alloc: Global, module: &mut Module) -> bool {
+    is_filled(alloc, module)
+        && exported(module, "x") == Some(1)
+        && imported(module, "f") == Some(0)
+        && imported(module, "t").is_none()
+        && import_number(module, "e") == Some(4)
 }
 
 // The only memory: its number, or whether there are several.
@@ -174,14 +176,13 @@ fn memory_is_added(module: &mut Module) -> bool {
         .is_ok()
 }
 
-#[test]
-fn the_only_memory_is_given(rt: HostRuntime) {
-    let mut module = empty(rt.alloc());
-    assert!(rt; module.memories.is_empty());
-    assert!(rt; only_memory(&module) == Err(false));
-    assert!(rt; memory_is_added(&mut module));
-    assert!(rt; only_memory(&module) == Ok(0));
-    assert!(rt; memory_is_added(&mut module));
-    assert!(rt; module.memories.len() == 2);
-    assert!(rt; only_memory(&module) == Err(true));
+// Whether the only memory is given, of none, one and two.
+pub fn gives_only_memory(module: &mut Module) -> bool {
+    module.memories.is_empty()
+        && only_memory(module) == Err(false)
+        && memory_is_added(module)
+        && only_memory(module) == Ok(0)
+        && memory_is_added(module)
+        && module.memories.len() == 2
+        && only_memory(module) == Err(true)
 }

@@ -9,8 +9,12 @@ mod copies;
 #[cfg(test)]
 mod example;
 #[cfg(test)]
+mod held;
+#[cfg(test)]
 mod imported;
 #[cfg(test)]
 mod modules;
 #[cfg(test)]
 mod replaced;
+#[cfg(test)]
+mod rows;

@@ -1,8 +1,10 @@
 //! Functions that are put in the place of others.
-use crate::modules::{add_caller, empty, unit_type};
+use crate::modules::{add_caller, unit_type};
 use std::alloc::{AllocError, Global};
 use walrus_arena::FunctionId;
+use walrus_collections::ModuleFunctions;
 use walrus_errors::ModuleError;
+use walrus_instr::{Instr, Value};
 use walrus_module::Module;
 use walrus_module_items::FunctionKind;
 
@@ -76,6 +78,32 @@ fn length_of(module: &Module, function: FunctionId) -> Option<usize> {
     }
 }
 
+// Whether the function drops the constant that `replace_exported` puts there.
+fn drops_constant(functions: &ModuleFunctions, function: FunctionId) -> bool {
+    if !functions.contains(function) {
+        return false;
+    }
+    let FunctionKind::Local(local) = &functions.get(function).kind else {
+        return false;
+    };
+    let entry = local.entry_block();
+    if !local.contains_block(entry) {
+        return false;
+    }
+    matches!(
+        local.block(entry).instrs.as_slice(),
+        [
+            (
+                Instr::Const {
+                    value: Value::I32(4321)
+                },
+                _
+            ),
+            (Instr::Drop, _)
+        ]
+    )
+}
+
 // Adds a function that is exported twice.
 fn add_exports(alloc: Global, module: &mut Module) -> Result<(), AllocError> {
     let function = add_caller(alloc, module, old())?;
@@ -104,39 +132,34 @@ fn has_import(module: &Module) -> bool {
     module.imports.find("mod", "dummy").is_some()
 }
 
-#[test]
-fn the_first_export_of_a_function_names_another(rt: HostRuntime) {
-    let alloc = rt.alloc();
-    let mut module = empty(alloc);
-    assert!(rt; is_exporting(alloc, &mut module));
-    assert!(rt; replace_exported(&mut module, old()) == Answer::Replaced(1));
-    assert!(rt; export_of(&module, new()) == Some(0));
-    assert!(rt; export_of(&module, old()) == Some(1));
-    assert!(rt; length_of(&module, new()) == Some(2));
-    assert!(rt; length_of(&module, old()) == Some(1));
+// Whether the first of two exports of a function names the new one.
+pub fn first_export_is_replaced(alloc: Global, module: &mut Module) -> bool {
+    is_exporting(alloc, module)
+        && replace_exported(module, old()) == Answer::Replaced(1)
+        && export_of(module, new()) == Some(0)
+        && export_of(module, old()) == Some(1)
+        && drops_constant(&module.funcs, new())
+        && length_of(module, old()) == Some(1)
 }
 
-#[test]
-fn each_export_is_replaced_in_turn(rt: HostRuntime) {
-    let alloc = rt.alloc();
-    let mut module = empty(alloc);
-    assert!(rt; is_exporting(alloc, &mut module));
-    assert!(rt; replace_exported(&mut module, old()) == Answer::Replaced(1));
-    assert!(rt; replace_exported(&mut module, old()) == Answer::Replaced(2));
-    assert!(rt; export_of(&module, old()).is_none());
-    assert!(rt; replace_exported(&mut module, old()) == Answer::NotFound);
-    assert!(rt; replace_imported(&mut module, old()) == Answer::NotFound);
+// Whether both exports are replaced in turn, and then none is found.
+pub fn each_export_is_replaced(alloc: Global, module: &mut Module) -> bool {
+    is_exporting(alloc, module)
+        && replace_exported(module, old()) == Answer::Replaced(1)
+        && replace_exported(module, old()) == Answer::Replaced(2)
+        && export_of(module, old()).is_none()
+        && replace_exported(module, old()) == Answer::NotFound
+        && replace_imported(module, old()) == Answer::NotFound
 }
 
-#[test]
-fn an_imported_function_gets_a_body(rt: HostRuntime) {
-    let mut module = empty(rt.alloc());
-    assert!(rt; is_importing(&mut module));
-    assert!(rt; length_of(&module, old()).is_none());
-    assert!(rt; replace_exported(&mut module, old()) == Answer::WrongKind);
-    assert!(rt; has_import(&module));
-    assert!(rt; replace_imported(&mut module, old()) == Answer::Replaced(0));
-    assert!(rt; !has_import(&module));
-    assert!(rt; length_of(&module, old()) == Some(1));
-    assert!(rt; replace_imported(&mut module, old()) == Answer::NotFound);
+// Whether an imported function gets a body, and its import goes.
+pub fn import_is_replaced(module: &mut Module) -> bool {
+    is_importing(module)
+        && length_of(module, old()).is_none()
+        && replace_exported(module, old()) == Answer::WrongKind
+        && has_import(module)
+        && replace_imported(module, old()) == Answer::Replaced(0)
+        && !has_import(module)
+        && length_of(module, old()) == Some(1)
+        && replace_imported(module, old()) == Answer::NotFound
 }

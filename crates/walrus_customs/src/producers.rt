@@ -152,6 +152,13 @@ impl ModuleProducers {
         }
     }
 
+    /// These fields, as a module that was read has them. Takes no memory.
+    pub fn from_fields(alloc: Global, fields: Vec<ProducerField>) -> Self
+        ensures { result ≡ fields.items }
+    {
+        ModuleProducers { alloc, fields }
+    }
+
     /// The fields, in their order.
     pub fn fields(&self) -> &[ProducerField]
         ensures { result.now ≡ self.now }

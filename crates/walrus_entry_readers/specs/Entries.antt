@@ -1,13 +1,13 @@
 -- Entries as they are read, in words of the grammar.
-use Rattle.std.specs.Prelude.{ℕ, ◌⊎◌, Option, Some, None}
+use Rattle.std.specs.Prelude.{ℕ, Option, Some, None}
 use Rattle.std.proofs.Common.{inl, inr}
 use Rattle.std.specs.Global.{Vec}
 use Rattle.walrus_operators.specs.declared.operator.Operator.{Operator}
 use Rattle.wasm_grammar.specs.Modules.{Expr}
 use Rattle.wasm_sections.specs.Entities as grammar
 use Rattle.walrus_section_values.specs.Globals.{expr_of}
-use Rattle.walrus_entry_readers.specs.Items.{table_type_of, global_type_of}
-use Rattle.walrus_entry_readers.specs.declared.items.TableType.{TableType}
+use Rattle.walrus_known_sections.specs.Items.{table_type_of, global_type_of}
+use Rattle.walrus_known_sections.specs.declared.items.TableType.{TableType}
 use Rattle.walrus_entry_readers.specs.declared.entities.TableEntry.{TableEntry}
 use Rattle.walrus_entry_readers.specs.declared.entities.GlobalEntry.{GlobalEntry}
 

@@ -1,11 +1,11 @@
 -- Lemmas: an import is read ahead, tested at its first byte, and then read.
-use Rattle.std.specs.Prelude.{ℕ, ◌+◌, ◌-◌, ◌≤◌, ◌≡◌, List, length, drop, Option, Some, None, Result, Ok, Err, refl}
+use Rattle.std.specs.Prelude.{ℕ, ◌+◌, ◌-◌, ◌≡◌, List, length, Option, Some, None, Result, Ok, Err, refl}
 use Rattle.std.specs.Option.{option_map}
 use Rattle.std.specs.Borrow.{Bor}
 use Rattle.std.proofs.Common.{ap, sym, ◌∙◌, subst, arith, length-drop}
 use Rattle.wasm_features.specs.declared.WasmFeatures.{WasmFeatures}
-use Rattle.wasm_reader.specs.Cursor.{Window, Cursor, rest, end_of, Forward, IsWithin, shrunk}
-use Rattle.wasm_formats.specs.Stops.{Trouble, Stop, stop, Parsing, ◌>>=◌}
+use Rattle.wasm_reader.specs.Cursor.{Window, Cursor, rest, end_of, IsWithin, shrunk}
+use Rattle.wasm_formats.specs.Stops.{Stop, stop, Parsing, ◌>>=◌}
 use Rattle.wasm_formats.specs.Formats.{Format, refused}
 use Rattle.wasm_formats.specs.Joined.{after, tested}
 use Rattle.wasm_grammar.specs.Values.{name, byte_below}

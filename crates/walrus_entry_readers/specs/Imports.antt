@@ -1,7 +1,7 @@
 -- Imports as they are read, in words of the grammar.
-use Rattle.std.specs.Prelude.{ℕ, ◌≡◌, nat_lt, List, length, Option, Result, Ok, Err, refl}
+use Rattle.std.specs.Prelude.{ℕ, nat_lt, List, length, Option}
 use Rattle.wasm_formats.specs.declared.fault.Limited.TheVariants as limits
-use Rattle.wasm_formats.specs.Stops.{Trouble, Limit, Stop, Parsing, ◌>>=◌}
+use Rattle.wasm_formats.specs.Stops.{Trouble, Limit}
 use Rattle.wasm_formats.specs.Formats.{Format}
 use Rattle.wasm_formats.specs.Joined.{after}
 use Rattle.wasm_grammar.specs.Values.{must, first_of, name, byte_below}
@@ -10,7 +10,7 @@ use Rattle.std.specs.Borrow.{Bor}
 use Rattle.wasm_sections.specs.Entities as grammar
 use Rattle.wasm_sections.specs.Entities.{import_by}
 use Rattle.walrus_section_values.specs.Limits.{memory_type_of}
-use Rattle.walrus_entry_readers.specs.Items.{table_type_of, global_type_of}
+use Rattle.walrus_known_sections.specs.Items.{table_type_of, global_type_of}
 use Rattle.walrus_entry_readers.specs.Entries.{tag_type_of}
 use Rattle.walrus_entry_readers.specs.declared.imports.Entity.{Entity}
 use Rattle.walrus_entry_readers.specs.declared.imports.Entity.TheVariants as entities

@@ -1,5 +1,5 @@
 -- Lemmas: constant expressions over what is known here.
-use Rattle.std.specs.Prelude.{◌≡◌, Bool, List, Result}
+use Rattle.std.specs.Prelude.{◌≡◌, Bool, Result}
 use Rattle.std.proofs.Common.{subst}
 use Rattle.wasm_features.specs.declared.WasmFeatures.{WasmFeatures}
 use Rattle.wasm_reader.specs.Cursor.{Cursor}

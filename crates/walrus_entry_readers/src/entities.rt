@@ -1,151 +1,30 @@
 //! Functions, tables, memories, tags and globals.
 
-ghost use Rattle.std.specs.Prelude.{◌≡◌, length, OnOk, IfErr, Some, None};
-ghost use Rattle.wasm_formats.specs.declared.fault.Space.TheVariants as spaces;
-ghost use Rattle.wasm_formats.specs.declared.fault.Limited.TheVariants as limited;
+ghost use Rattle.std.specs.Prelude.{◌≡◌, OnOk};
 ghost use Rattle.wasm_formats.specs.Led.{led};
 ghost use Rattle.wasm_formats.specs.Joined.{after};
 ghost use Rattle.wasm_reader.specs.Reading.{plain};
-ghost use Rattle.wasm_grammar.specs.States.{function_type, has_room, known, type_count};
+ghost use Rattle.wasm_grammar.specs.States.{function_type, known};
 ghost use Rattle.wasm_grammar.specs.Exprs.{expr, offset};
 ghost use Rattle.wasm_sections.specs.Entities.{add_function, function_entry, add_global, add_memory, add_table, add_tag, global_entry, global_type, initialised, memory_entry, mutability, table_apart, table_entry, table_some, table_type, table_wants, tag_entry, tag_type};
 ghost use Rattle.walrus_section_reader.specs.Parses.{Parses, ParsesExactly};
-ghost use Rattle.walrus_section_values.specs.Globals.{expr_of, known_of};
+ghost use Rattle.walrus_section_values.specs.Globals.{expr_of};
 ghost use Rattle.walrus_section_values.specs.Limits.{memory_type_of};
-ghost use Rattle.walrus_entry_readers.specs.Rooms.{in_room, is_memory};
-ghost use Rattle.walrus_entry_readers.specs.Items.{global_type_of, table_type_of};
+ghost use Rattle.walrus_known_sections.specs.Items.{global_type_of, table_type_of};
 ghost use Rattle.walrus_entry_readers.specs.Entries.{global_entry_of, init_table_of, initialised_of, table_entry_of, tag_type_of};
-ghost use Rattle.walrus_entry_readers.specs.State.{state_of};
+ghost use Rattle.walrus_known_sections.specs.State.{state_of};
 
-use crate::items::{Function, GlobalType, Memory, Table, TableType, Tag};
-use crate::sections::Sections;
 use std::alloc::{AllocError, Global as Alloc};
+use walrus_known_sections::{
+    Function, GlobalType, Memory, Sections, Table, TableType, Tag, in_room,
+};
 use walrus_operators::Operator;
 use walrus_section_reader::{Fault, FaultKind, Form, Limited, Result, Space};
 use walrus_section_values::{
-    Global, GlobalOrigin, Known, MemoryType, read_below, read_expr, read_memory_limits,
-    read_offset, read_ref_type, read_table_limits, read_value_type, read_zero, take_byte,
+    Global, GlobalOrigin, MemoryType, read_below, read_expr, read_memory_limits, read_offset,
+    read_ref_type, read_table_limits, read_value_type, read_zero, take_byte,
 };
-use wasm_reader::limits::{
-    MAX_WASM_FUNCTIONS, MAX_WASM_GLOBALS, MAX_WASM_MEMORIES, MAX_WASM_TABLES, MAX_WASM_TAGS,
-};
-use wasm_reader::{BinaryReader, ErrorKind};
-
-impl<'a> Sections<'a> {
-    /// What a constant expression may name here.
-    pub(crate) fn known(&self) -> Known<'_>
-        ensures { known_of result ≡ known (state_of self.now) }
-    {
-        Known {
-            types: self.types.len(),
-            functions: self.functions.len(),
-            globals: self.globals.as_slice(),
-        }
-    }
-
-    /// Whether there is room for one more function.
-    pub(crate) fn has_function_room(&self) -> bool
-        ensures { result ≡ has_room (state_of self.now) spaces.Function }
-    {
-        self.functions.len() < MAX_WASM_FUNCTIONS
-    }
-
-    /// Whether there is room for one more table.
-    pub(crate) fn has_table_room(&self) -> bool
-        ensures { result ≡ has_room (state_of self.now) spaces.Table }
-    {
-        self.tables.len() < MAX_WASM_TABLES
-    }
-
-    /// Whether there is room for one more memory.
-    pub(crate) fn has_memory_room(&self) -> bool
-        ensures { result ≡ has_room (state_of self.now) spaces.Memory }
-    {
-        self.memories.len() < MAX_WASM_MEMORIES
-    }
-
-    /// Whether there is room for one more tag.
-    pub(crate) fn has_tag_room(&self) -> bool
-        ensures { result ≡ has_room (state_of self.now) spaces.Tag }
-    {
-        self.tags.len() < MAX_WASM_TAGS
-    }
-
-    /// Whether there is room for one more global.
-    pub(crate) fn has_global_room(&self) -> bool
-        ensures { result ≡ has_room (state_of self.now) spaces.Global }
-    {
-        self.globals.len() < MAX_WASM_GLOBALS
-    }
-
-    pub(crate) fn add_function(&mut self, ty: u32) -> Result<(), AllocError>
-        ensures { OnOk result (state_of self.new ≡ add_function (state_of self.old) ty) }
-    {
-        self.functions.push(Function { ty, import: None })?;
-        Ok(())
-    }
-
-    pub(crate) fn add_table(&mut self, entry: TableEntry) -> Result<(), AllocError>
-        ensures { OnOk result (state_of self.new ≡ add_table (state_of self.old) (table_entry_of entry)) }
-    {
-        let TableEntry { ty, init } = entry;
-        self.tables.push(Table {
-            ty,
-            init,
-            import: None,
-        })?;
-        Ok(())
-    }
-
-    pub(crate) fn add_memory(&mut self, ty: MemoryType) -> Result<(), AllocError>
-        ensures { OnOk result (state_of self.new ≡ add_memory (state_of self.old) (memory_type_of ty)) }
-    {
-        self.memories.push(Memory { ty, import: None })?;
-        Ok(())
-    }
-
-    pub(crate) fn add_tag(&mut self, ty: u32) -> Result<(), AllocError>
-        ensures { OnOk result (state_of self.new ≡ add_tag (state_of self.old) (tag_type_of ty)) }
-    {
-        self.tags.push(Tag { ty, import: None })?;
-        Ok(())
-    }
-
-    pub(crate) fn add_global(&mut self, entry: GlobalEntry) -> Result<(), AllocError>
-        ensures { OnOk result (state_of self.new ≡ add_global (state_of self.old) (global_entry_of entry)) }
-    {
-        let GlobalEntry { ty, init } = entry;
-        self.globals.push(Global {
-            ty: ty.ty,
-            mutable: ty.mutability == 1,
-            origin: GlobalOrigin::Own(init),
-        })?;
-        Ok(())
-    }
-}
-
-// Whether it is want of memory.
-fn is_memory(kind: FaultKind) -> bool
-    ensures { result ≡ is_memory kind }
-{
-    match kind {
-        FaultKind::Read(kind) => matches!(kind, ErrorKind::Memory),
-        _ => false,
-    }
-}
-
-/// What was read where there is room for it; where there is none that is `Limit` at this first byte, if no fault stands there.
-pub fn in_room<T: Drop>(room: bool, of: Limited, offset: u64, read: Result<T>) -> Result<T>
-    ensures { result ≡ in_room room of offset read }
-{
-    if room {
-        return read;
-    }
-    match read {
-        Err(fault) if is_memory(fault.kind) || fault.offset <= offset => Err(fault),
-        _ => Err(Fault::new(FaultKind::Limit(of), offset)),
-    }
-}
+use wasm_reader::BinaryReader;
 
 /// The number of a function type. Others are `TypeForm`, where there is none `Index`, at the first byte.
 pub(crate) fn read_function_type(
@@ -363,4 +242,49 @@ pub(crate) fn read_global(
     let room = sections.has_global_room();
     let read = read_own_global(alloc, sections, reader);
     in_room(room, Limited::Globals, offset, read)
+}
+
+pub(crate) fn add_function(sections: &mut Sections<'_>, ty: u32) -> Result<(), AllocError>
+    ensures { OnOk result (state_of sections.new ≡ add_function (state_of sections.old) ty) }
+{
+    sections.functions.push(Function { ty, import: None })?;
+    Ok(())
+}
+
+pub(crate) fn add_table(sections: &mut Sections<'_>, entry: TableEntry) -> Result<(), AllocError>
+    ensures { OnOk result (state_of sections.new ≡ add_table (state_of sections.old) (table_entry_of entry)) }
+{
+    let TableEntry { ty, init } = entry;
+    sections.tables.push(Table {
+        ty,
+        init,
+        import: None,
+    })?;
+    Ok(())
+}
+
+pub(crate) fn add_memory(sections: &mut Sections<'_>, ty: MemoryType) -> Result<(), AllocError>
+    ensures { OnOk result (state_of sections.new ≡ add_memory (state_of sections.old) (memory_type_of ty)) }
+{
+    sections.memories.push(Memory { ty, import: None })?;
+    Ok(())
+}
+
+pub(crate) fn add_tag(sections: &mut Sections<'_>, ty: u32) -> Result<(), AllocError>
+    ensures { OnOk result (state_of sections.new ≡ add_tag (state_of sections.old) (tag_type_of ty)) }
+{
+    sections.tags.push(Tag { ty, import: None })?;
+    Ok(())
+}
+
+pub(crate) fn add_global(sections: &mut Sections<'_>, entry: GlobalEntry) -> Result<(), AllocError>
+    ensures { OnOk result (state_of sections.new ≡ add_global (state_of sections.old) (global_entry_of entry)) }
+{
+    let GlobalEntry { ty, init } = entry;
+    sections.globals.push(Global {
+        ty: ty.ty,
+        mutable: ty.mutability == 1,
+        origin: GlobalOrigin::Own(init),
+    })?;
+    Ok(())
 }

@@ -13,14 +13,14 @@ ghost use Rattle.walrus_section_reader.specs.Faults.{trouble_of};
 ghost use Rattle.walrus_section_reader.specs.Parses.{ParsesExactly};
 ghost use Rattle.walrus_entry_readers.specs.Entries.{tag_type_of};
 ghost use Rattle.walrus_entry_readers.specs.Imports.{entity_of, entity_test, front, front_of, import_entry_of};
-ghost use Rattle.walrus_entry_readers.specs.Items.{global_type_of, table_type_of};
-ghost use Rattle.walrus_entry_readers.specs.State.{state_of};
+ghost use Rattle.walrus_known_sections.specs.Items.{global_type_of, table_type_of};
+ghost use Rattle.walrus_known_sections.specs.State.{state_of};
 
 use crate::entities::{read_function_type, read_global_type, read_table_type, read_tag_type};
-use crate::entry::Entry;
-use crate::items::{Function, GlobalType, Import, Memory, Table, TableType, Tag};
-use crate::sections::Sections;
 use std::alloc::{AllocError, Global as Alloc};
+use walrus_known_sections::{
+    Entry, Function, GlobalType, Import, Memory, Sections, Table, TableType, Tag,
+};
 use walrus_section_reader::{Fault, FaultKind, Limited, Result, Space};
 use walrus_section_values::{
     Global, GlobalOrigin, MemoryType, read_below, read_limits, read_memory_limits,
@@ -151,28 +151,26 @@ fn space_of(entity: Entity) -> Space
     }
 }
 
-impl<'a> Sections<'a> {
-    // What an import of this is refused for: one more import, or one more item of its space, that there is no room for.
-    fn import_fault(&self, entity: Entity) -> Option<FaultKind>
-        ensures { option_map trouble_of result ≡ entity_test (state_of self.now) (entity_of entity) }
-    {
-        if self.imports.len() >= MAX_WASM_IMPORTS {
-            return Some(FaultKind::Limit(Limited::Imports));
+// What an import of this is refused for: one more import, or one more item of its space, that there is no room for.
+fn import_fault(sections: &Sections<'_>, entity: Entity) -> Option<FaultKind>
+    ensures { option_map trouble_of result ≡ entity_test (state_of sections.now) (entity_of entity) }
+{
+    if sections.imports.len() >= MAX_WASM_IMPORTS {
+        return Some(FaultKind::Limit(Limited::Imports));
+    }
+    match entity {
+        Entity::Function(_) if !sections.has_function_room() => {
+            Some(FaultKind::Limit(Limited::Functions))
         }
-        match entity {
-            Entity::Function(_) if !self.has_function_room() => {
-                Some(FaultKind::Limit(Limited::Functions))
-            }
-            Entity::Table(_) if !self.has_table_room() => Some(FaultKind::Limit(Limited::Tables)),
-            Entity::Memory(_) if !self.has_memory_room() => {
-                Some(FaultKind::Limit(Limited::Memories))
-            }
-            Entity::Global(_) if !self.has_global_room() => {
-                Some(FaultKind::Limit(Limited::Globals))
-            }
-            Entity::Tag(_) if !self.has_tag_room() => Some(FaultKind::Limit(Limited::Tags)),
-            _ => None,
+        Entity::Table(_) if !sections.has_table_room() => Some(FaultKind::Limit(Limited::Tables)),
+        Entity::Memory(_) if !sections.has_memory_room() => {
+            Some(FaultKind::Limit(Limited::Memories))
         }
+        Entity::Global(_) if !sections.has_global_room() => {
+            Some(FaultKind::Limit(Limited::Globals))
+        }
+        Entity::Tag(_) if !sections.has_tag_room() => Some(FaultKind::Limit(Limited::Tags)),
+        _ => None,
     }
 }
 
@@ -188,7 +186,7 @@ fn read_import<'a>(
     let (module, name, kind) = read_front(reader)?;
     let mut ahead = reader.shrink();
     let any = read_any_entity(alloc, kind, sections, &mut ahead)?;
-    match sections.import_fault(any) {
+    match import_fault(sections, any) {
         Some(fault) => return Err(Fault::new(fault, offset)),
         None => {}
     }
@@ -201,76 +199,74 @@ fn read_import<'a>(
     })
 }
 
-impl<'a> Sections<'a> {
-    // The item that the import of this number brings.
-    fn add_entity(&mut self, number: usize, entity: Entity) -> Result<(), AllocError>
-        ensures { OnOk result (state_of self.new ≡ add_entity (state_of self.old) number (entity_of entity)) }
-    {
-        let import = Some(number);
-        match entity {
-            Entity::Function(ty) => {
-                let Some(imported) = self.imported.checked_add(1) else {
-                    return Err(AllocError);
-                };
-                self.functions.push(Function { ty, import })?;
-                self.imported = imported;
-            }
-            Entity::Table(ty) => self.tables.push(Table {
-                ty,
-                init: None,
-                import,
-            })?,
-            Entity::Memory(ty) => self.memories.push(Memory { ty, import })?,
-            Entity::Global(ty) => self.globals.push(Global {
-                ty: ty.ty,
-                mutable: ty.mutability == 1,
-                origin: GlobalOrigin::Import(number),
-            })?,
-            Entity::Tag(ty) => self.tags.push(Tag { ty, import })?,
+// The item that the import of this number brings.
+fn add_entity(sections: &mut Sections<'_>, number: usize, entity: Entity) -> Result<(), AllocError>
+    ensures { OnOk result (state_of sections.new ≡ add_entity (state_of sections.old) number (entity_of entity)) }
+{
+    let import = Some(number);
+    match entity {
+        Entity::Function(ty) => {
+            let Some(imported) = sections.imported.checked_add(1) else {
+                return Err(AllocError);
+            };
+            sections.functions.push(Function { ty, import })?;
+            sections.imported = imported;
         }
-        Ok(())
+        Entity::Table(ty) => sections.tables.push(Table {
+            ty,
+            init: None,
+            import,
+        })?,
+        Entity::Memory(ty) => sections.memories.push(Memory { ty, import })?,
+        Entity::Global(ty) => sections.globals.push(Global {
+            ty: ty.ty,
+            mutable: ty.mutability == 1,
+            origin: GlobalOrigin::Import(number),
+        })?,
+        Entity::Tag(ty) => sections.tags.push(Tag { ty, import })?,
     }
+    Ok(())
+}
 
-    // How many items there are of the space of what is imported.
-    fn next_number(&self, entity: Entity) -> usize
-        ensures { result ≡ next_number (state_of self.now) (entity_of entity) }
-    {
-        match entity {
-            Entity::Function(_) => self.functions.len(),
-            Entity::Table(_) => self.tables.len(),
-            Entity::Memory(_) => self.memories.len(),
-            Entity::Global(_) => self.globals.len(),
-            Entity::Tag(_) => self.tags.len(),
-        }
+// How many items there are of the space of what is imported.
+fn next_number(sections: &Sections<'_>, entity: Entity) -> usize
+    ensures { result ≡ next_number (state_of sections.now) (entity_of entity) }
+{
+    match entity {
+        Entity::Function(_) => sections.functions.len(),
+        Entity::Table(_) => sections.tables.len(),
+        Entity::Memory(_) => sections.memories.len(),
+        Entity::Global(_) => sections.globals.len(),
+        Entity::Tag(_) => sections.tags.len(),
     }
+}
 
-    // The import, without its item.
-    fn push_import(&mut self, entry: ImportEntry<'a>) -> Result<(), AllocError>
-        ensures { OnOk result (state_of self.new ≡ with_import (state_of self.old) (import_of (state_of self.old) (import_entry_of entry.entry))) }
-    {
-        let index = self.next_number(entry.entity);
-        self.imports.push(Import {
-            module: entry.module,
-            name: entry.name,
-            space: space_of(entry.entity),
-            index,
-        })?;
-        Ok(())
-    }
+// The import, without its item.
+fn push_import<'a>(sections: &mut Sections<'a>, entry: ImportEntry<'a>) -> Result<(), AllocError>
+    ensures { OnOk result (state_of sections.new ≡ with_import (state_of sections.old) (import_of (state_of sections.old) (import_entry_of entry.entry))) }
+{
+    let index = next_number(sections, entry.entity);
+    sections.imports.push(Import {
+        module: entry.module,
+        name: entry.name,
+        space: space_of(entry.entity),
+        index,
+    })?;
+    Ok(())
+}
 
-    fn import_count(&self) -> usize
-        ensures { result ≡ length (state_of self.now).filled.imports }
-    {
-        self.imports.len()
-    }
+fn import_count(sections: &Sections<'_>) -> usize
+    ensures { result ≡ length (state_of sections.now).filled.imports }
+{
+    sections.imports.len()
+}
 
-    fn add_import(&mut self, entry: ImportEntry<'a>) -> Result<(), AllocError>
-        ensures { OnOk result (state_of self.new ≡ add_import (state_of self.old) (import_entry_of entry.entry)) }
-    {
-        let number = self.import_count();
-        self.push_import(entry)?;
-        self.add_entity(number, entry.entity)
-    }
+fn add_import<'a>(sections: &mut Sections<'a>, entry: ImportEntry<'a>) -> Result<(), AllocError>
+    ensures { OnOk result (state_of sections.new ≡ add_import (state_of sections.old) (import_entry_of entry.entry)) }
+{
+    let number = import_count(sections);
+    push_import(sections, entry)?;
+    add_entity(sections, number, entry.entity)
 }
 
 /// Imports.
@@ -299,6 +295,6 @@ impl<'a> Entry<'a> for Imports {
     }
 
     fn add(sections: &mut Sections<'a>, value: Self::Value) -> Result<(), AllocError> {
-        sections.add_import(value)
+        add_import(sections, value)
     }
 }

@@ -3,11 +3,11 @@
 ghost use Rattle.std.specs.Prelude.{◌≡◌};
 
 use crate::entities::{
-    GlobalEntry, TableEntry, read_function, read_global, read_memory, read_table, read_tag,
+    GlobalEntry, TableEntry, add_function, add_global, add_memory, add_table, add_tag,
+    read_function, read_global, read_memory, read_table, read_tag,
 };
-use crate::entry::Entry;
-use crate::sections::Sections;
 use std::alloc::{AllocError, Global as Alloc};
+use walrus_known_sections::{Entry, Sections};
 use walrus_section_reader::Result;
 use walrus_section_values::MemoryType;
 use wasm_reader::BinaryReader;
@@ -38,7 +38,7 @@ impl<'a> Entry<'a> for Functions {
     }
 
     fn add(sections: &mut Sections<'a>, value: Self::Value) -> Result<(), AllocError> {
-        sections.add_function(value)
+        add_function(sections, value)
     }
 }
 
@@ -69,7 +69,7 @@ impl<'a> Entry<'a> for Tables {
     }
 
     fn add(sections: &mut Sections<'a>, value: Self::Value) -> Result<(), AllocError> {
-        sections.add_table(value)
+        add_table(sections, value)
     }
 }
 
@@ -100,7 +100,7 @@ impl<'a> Entry<'a> for Memories {
     }
 
     fn add(sections: &mut Sections<'a>, value: Self::Value) -> Result<(), AllocError> {
-        sections.add_memory(value)
+        add_memory(sections, value)
     }
 }
 
@@ -131,7 +131,7 @@ impl<'a> Entry<'a> for Tags {
     }
 
     fn add(sections: &mut Sections<'a>, value: Self::Value) -> Result<(), AllocError> {
-        sections.add_tag(value)
+        add_tag(sections, value)
     }
 }
 
@@ -162,6 +162,6 @@ impl<'a> Entry<'a> for Globals {
     }
 
     fn add(sections: &mut Sections<'a>, value: Self::Value) -> Result<(), AllocError> {
-        sections.add_global(value)
+        add_global(sections, value)
     }
 }

@@ -3,20 +3,13 @@
 #![tactic(auto)]
 
 mod entities;
-mod entry;
 mod imports;
-mod items;
 mod kinds;
-mod known_types;
-mod sections;
 
-pub use entities::{GlobalEntry, TableEntry, in_room, read_init, read_place};
-pub use entry::{Each, Entry};
+pub use entities::{GlobalEntry, TableEntry, read_init, read_place};
 pub use imports::{Entity, ImportEntry, Imports};
-pub use items::{
-    Chunk, Custom, Data, Element, ElementItems, Export, Function, GlobalType, Import, Memory, Mode,
-    Table, TableType, Tag,
-};
 pub use kinds::{Functions, Globals, Memories, Tables, Tags};
-pub use known_types::KnownTypes;
-pub use sections::Sections;
+pub use walrus_known_sections::{
+    Chunk, Custom, Data, Each, Element, ElementItems, Entry, Export, Function, GlobalType, Import,
+    KnownTypes, Memory, Mode, Sections, Table, TableType, Tag, in_room,
+};

@@ -17,3 +17,6 @@ pub use record::{
     ValRecord,
 };
 pub use value::{AbstractHeapType, FieldType, HeapType, RefType, StorageType, ValType};
+
+// Passed on to crates above, which then list this one alone.
+pub use walrus_arena as arena;

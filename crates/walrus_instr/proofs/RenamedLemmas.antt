@@ -2,10 +2,10 @@
 use Rattle.std.proofs.Common.{◌≡◌, ◌∙◌, ℕ, All, List, [], ◌∷◌, map, IfSome, refl, ap, sym}
 use Rattle.std.proofs.lemmas.List.{length-map, with_items_is}
 use Rattle.std.proofs.lemmas.List.Elements.{All-head, All-tail}
-use Rattle.walrus_forms.specs.declared.value.HeapType.{HeapType}
-use Rattle.walrus_forms.specs.declared.value.HeapType.TheVariants.{Abstract, Concrete, Exact}
-use Rattle.walrus_forms.specs.Values.{heap_name}
-use Rattle.walrus_forms.specs.Renaming.{renamed_heap}
+use Rattle.walrus_types.specs.walrus_forms.declared.value.HeapType.{HeapType}
+use Rattle.walrus_types.specs.walrus_forms.declared.value.HeapType.TheVariants.{Abstract, Concrete, Exact}
+use Rattle.walrus_types.specs.walrus_forms.Values.{heap_name}
+use Rattle.walrus_types.specs.walrus_forms.Renaming.{renamed_heap}
 use Rattle.walrus_instr.specs.declared.instr.Value.{Value as Constant}
 use Rattle.walrus_instr.specs.declared.instr.Value.TheVariants.{I32, I64, F32, F64, V128}
 use Rattle.walrus_instr.specs.declared.const_expr.ConstOp.{ConstOp}

@@ -1,8 +1,8 @@
 -- The block type of parameters and results.
 use Rattle.std.specs.Prelude.{◌≡◌, ℕ, List, [], ◌∷◌, Option, Some, None, MatchOption}
 use Rattle.std.specs.Option.{option_map, option_or}
-use Rattle.walrus_forms.specs.declared.value.ValType.{ValType}
-use Rattle.walrus_forms.specs.Kinds.{function_kind}
+use Rattle.walrus_types.specs.walrus_forms.declared.value.ValType.{ValType}
+use Rattle.walrus_types.specs.walrus_forms.Kinds.{function_kind}
 use Rattle.walrus_types.specs.Table.{Table, Merges, found_type}
 use Rattle.walrus_instr.specs.declared.seq.InstrSeqType.{InstrSeqType}
 use Rattle.walrus_instr.specs.declared.seq.InstrSeqType.TheVariants.{Simple, MultiValue}

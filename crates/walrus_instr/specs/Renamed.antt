@@ -1,8 +1,8 @@
 -- A constant expression with the indices that it names sent through maps, a map for each space.
 use Rattle.std.specs.Prelude.{◌≡◌, ℕ, List, map, All, IfSome}
 use Rattle.std.specs.Vec.{with_items}
-use Rattle.walrus_forms.specs.Values.{heap_name}
-use Rattle.walrus_forms.specs.Renaming.{renamed_ref}
+use Rattle.walrus_types.specs.walrus_forms.Values.{heap_name}
+use Rattle.walrus_types.specs.walrus_forms.Renaming.{renamed_ref}
 use Rattle.walrus_instr.specs.declared.const_expr.ConstOp.{ConstOp}
 use Rattle.walrus_instr.specs.declared.const_expr.ConstOp.TheVariants.{GlobalGet, RefNull as RefNullOp, RefFunc as RefFuncOp, StructNew, StructNewDefault, ArrayNew, ArrayNewDefault, ArrayNewFixed}
 use Rattle.walrus_instr.specs.declared.const_expr.ConstExpr.{ConstExpr}

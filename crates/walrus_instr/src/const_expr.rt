@@ -8,8 +8,8 @@ ghost use Rattle.walrus_instr.specs.Copies.{IsExprCopy};
 use crate::bits::Bits128;
 use crate::instr::Value;
 use std::alloc::AllocError;
-use walrus_arena::{FunctionId, GlobalId, TypeId};
 use walrus_types::RefType;
+use walrus_types::arena::{FunctionId, GlobalId, TypeId};
 
 /// An operator of a constant expression. Floats are their bits.
 #[derive(Clone, Copy, PartialEq, Eq)]

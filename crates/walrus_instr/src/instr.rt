@@ -5,7 +5,7 @@ ghost use Rattle.walrus_instr.specs.Cuts.{cuts};
 use crate::bits::Bits128;
 use crate::memory::{AtomicOp, AtomicWidth, LoadKind, LoadSimdKind, MemArg, StoreKind};
 use crate::operators::{BinaryOp, TernaryOp, UnaryOp};
-use walrus_arena::{
+use walrus_types::arena::{
     DataId, ElementId, FunctionId, GlobalId, InstrSeqId, LocalId, MemoryId, TableId, TagId, TypeId,
 };
 use walrus_types::{RefType, ValType};

@@ -16,3 +16,6 @@ pub use instr::{Instr, LegacyCatch, ShuffleIndices, TryTableCatch, Value};
 pub use memory::{AtomicOp, AtomicWidth, ExtendedLoad, LoadKind, LoadSimdKind, MemArg, StoreKind};
 pub use operators::{BinaryOp, TernaryOp, UnaryOp};
 pub use seq::{InstrLocId, InstrSeq, InstrSeqType};
+
+// Passed on to crates above, which then list this one alone.
+pub use walrus_types as type_table;

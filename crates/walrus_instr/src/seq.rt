@@ -9,7 +9,7 @@ ghost use Rattle.walrus_instr.specs.declared.seq.InstrSeqType.TheVariants.{Simpl
 use crate::instr::Instr;
 use std::alloc::{AllocError, Global};
 use std::ops::{Deref, DerefMut};
-use walrus_arena::{InstrSeqId, TypeId};
+use walrus_types::arena::{InstrSeqId, TypeId};
 use walrus_types::{ModuleTypes, ValType};
 
 /// Where an instruction stood in the file that it was read from, as the reader of that file numbers places.

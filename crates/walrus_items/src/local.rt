@@ -8,8 +8,8 @@ ghost use Rattle.walrus_items.specs.LocalLends.{lends_local};
 use std::alloc::{AllocError, Global};
 use std::marker::Model;
 use std::slice;
-use walrus_arena::LocalId;
 use walrus_forms::ValType;
+use walrus_forms::arena::LocalId;
 
 /// A local of a function (Core Specification, functions: locals).
 #[derive(Drop)]

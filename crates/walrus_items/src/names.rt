@@ -6,7 +6,7 @@ ghost use Rattle.walrus_items.specs.Items.{kind_of};
 
 use crate::subtype::Type;
 use std::alloc::AllocError;
-use walrus_arena::TypeId;
+use walrus_forms::arena::TypeId;
 
 impl Type {
     /// Adds to `refs` the types that it names: those of its form in their order, then its supertype.

@@ -8,7 +8,7 @@ ghost use Rattle.walrus_forms.specs.Same.{same_kind};
 ghost use Rattle.walrus_items.specs.Lends.{lends_kind};
 
 use std::alloc::AllocError;
-use walrus_arena::{Tombstone, TypeId};
+use walrus_forms::arena::{Tombstone, TypeId};
 use walrus_forms::{ArrayType, CompositeType, FunctionType, StructType, ValType};
 
 /// A type of a table.

@@ -1,20 +1,21 @@
 -- A function and the import that brings it: what was linked stays so.
-use Rattle.std.proofs.Common.{◌≡◌, ◌∙◌, ◌⊎◌, ℕ, [], ◌∷◌, ◌++◌, length, Option, Some, Contains, refl, sym, ap, subst, inl, inr}
+use Rattle.std.proofs.Common.{◌≡◌, ◌∙◌, ℕ, [], ◌∷◌, ◌++◌, length, Option, Some, Contains, refl, sym, ap, subst, inl, inr}
 use Rattle.std.specs.Option.{option_and_then}
 use Rattle.walrus_arena.specs.Arena.{Arena, item_at}
-use Rattle.walrus_module_items.specs.declared.import.Import.{Import}
-use Rattle.walrus_module_items.specs.declared.function.Function.{Function}
+use Rattle.walrus_module.specs.walrus_module_items.declared.import.Import.{Import}
+use Rattle.walrus_module.specs.walrus_module_items.declared.function.Function.{Function}
 use Rattle.wasm_formats.specs.declared.fault.Space.{Space}
 use Rattle.wasm_formats.specs.declared.fault.Space.TheVariants as spaces
 use Rattle.walrus_module.specs.Parts.{Module}
 use Rattle.walrus_roots.specs.declared.item.Item.{Item}
 use Rattle.walrus_roots.specs.Items.{item}
 use Rattle.walrus_marks.specs.Named.{items_of}
-use Rattle.walrus_module.specs.Items.{Lives, LivesIn, brought}
-use Rattle.walrus_linked.specs.Names.{names, named_by, function_names}
-use Rattle.walrus_linked.specs.Linked.{IsLinked, IsWhole, import_in, function_import}
-use Rattle.walrus_linked.proofs.SlotLemmas.{pushed_at, pushed_kept, pushed_new, and_then_some, some_of, is_some_at}
-use Rattle.walrus_linked.proofs.ExtendLemmas.{linked}
+use Rattle.walrus_module.specs.Items.{Lives, brought}
+use Rattle.walrus_linked.specs.Names.{named_by, function_names}
+use Rattle.walrus_linked.specs.Linked.{IsLinked, IsWhole, function_import}
+use Rattle.walrus_linked.proofs.SlotLemmas.{pushed_at, pushed_new}
+use Rattle.walrus_linked.proofs.PushLemmas.{says_kept, says_or_new, live_kept, live_or_new, names_kept, new_names}
+use Rattle.walrus_linked.proofs.ExtendLemmas.{InSpace, imports_extend, linked}
 
 abbrev says : Function → Option ℕ
 says x = function_import x.kind
@@ -24,75 +25,23 @@ module _ (m : Module) (is : Arena Import) (xs : Arena Function) (x0 : Function) 
   abbrev n : Module
   n = record m { imports = is; funcs = xs }
 
-  import_kept : (s : Space) (id i : ℕ) → import_in m s id ≡ Some i → import_in n s id ≡ Some i
-  import_kept spaces.Type id i h = h
-  import_kept spaces.Function id i h = let a = and_then_some says (item_at m.funcs id) i h in ap (option_and_then says) (pushed_kept m.funcs xs x0 adds a.0 id a.1) ∙ a.2
-  import_kept spaces.Table id i h = h
-  import_kept spaces.Memory id i h = h
-  import_kept spaces.Tag id i h = h
-  import_kept spaces.Global id i h = h
-  import_kept spaces.Element id i h = h
-  import_kept spaces.Data id i h = h
-  import_kept spaces.Local id i h = h
-  import_kept spaces.Label id i h = h
-
-  import_at : (s : Space) (id i : ℕ) → import_in n s id ≡ Some i → (import_in m s id ≡ Some i) ⊎ ((item s id ≡ item spaces.Function (length m.funcs.slots)) × (i ≡ length m.imports.slots))
-  import_at spaces.Type id i h = inl h
-  import_at spaces.Function id i h =
-      let a = and_then_some says (item_at xs id) i h in
-      elim (pushed_at m.funcs xs x0 adds a.0 id a.1) as (λ _. (import_in m spaces.Function id ≡ Some i) ⊎ ((item spaces.Function id ≡ item spaces.Function (length m.funcs.slots)) × (i ≡ length m.imports.slots))) [
-        | inl k ↦ inl (ap (option_and_then says) k ∙ a.2)
-        | inr k ↦ let e : Some i ≡ Some (length m.imports.slots) = sym a.2 ∙ ap says k.1 ∙ back in inr (ap (item spaces.Function) k.0, cc)
-      ]
-  import_at spaces.Table id i h = inl h
-  import_at spaces.Memory id i h = inl h
-  import_at spaces.Tag id i h = inl h
-  import_at spaces.Global id i h = inl h
-  import_at spaces.Element id i h = inl h
-  import_at spaces.Data id i h = inl h
-  import_at spaces.Local id i h = inl h
-  import_at spaces.Label id i h = inl h
-
-  pub lives_kept : (s : Space) (id : ℕ) → LivesIn m s id → LivesIn n s id
-  lives_kept spaces.Type id h = h
-  lives_kept spaces.Function id h = let a = some_of (item_at m.funcs id) h in is_some_at (item_at xs id) a.0 (pushed_kept m.funcs xs x0 adds a.0 id a.1)
-  lives_kept spaces.Table id h = h
-  lives_kept spaces.Memory id h = h
-  lives_kept spaces.Tag id h = h
-  lives_kept spaces.Global id h = h
-  lives_kept spaces.Element id h = h
-  lives_kept spaces.Data id h = h
-  lives_kept spaces.Local id h = h
-  lives_kept spaces.Label id h = h
-
-  lives_at : (s : Space) (id : ℕ) → LivesIn n s id → LivesIn m s id ⊎ (item s id ≡ item spaces.Function (length m.funcs.slots))
-  lives_at spaces.Type id h = inl h
-  lives_at spaces.Function id h =
-      let a = some_of (item_at xs id) h in
-      elim (pushed_at m.funcs xs x0 adds a.0 id a.1) as (λ _. LivesIn m spaces.Function id ⊎ (item spaces.Function id ≡ item spaces.Function (length m.funcs.slots))) [
-        | inl k ↦ inl (is_some_at (item_at m.funcs id) a.0 k)
-        | inr k ↦ inr (ap (item spaces.Function) k.0)
-      ]
-  lives_at spaces.Table id h = inl h
-  lives_at spaces.Memory id h = inl h
-  lives_at spaces.Tag id h = inl h
-  lives_at spaces.Global id h = inl h
-  lives_at spaces.Element id h = inl h
-  lives_at spaces.Data id h = inl h
-  lives_at spaces.Local id h = inl h
-  lives_at spaces.Label id h = inl h
-
-  names_kept : (s : Space) (id : ℕ) → LivesIn m s id → names n (item s id) ≡ names m (item s id)
-  names_kept spaces.Type id h = refl
-  names_kept spaces.Function id h = let a = some_of (item_at m.funcs id) h in ap (λ (o : Option Function). items_of (named_by (function_names m.locals) o)) (pushed_kept m.funcs xs x0 adds a.0 id a.1 ∙ sym a.1)
-  names_kept spaces.Table id h = refl
-  names_kept spaces.Memory id h = refl
-  names_kept spaces.Tag id h = refl
-  names_kept spaces.Global id h = refl
-  names_kept spaces.Element id h = refl
-  names_kept spaces.Data id h = refl
-  names_kept spaces.Local id h = refl
-  names_kept spaces.Label id h = refl
+  pub in_space : (s : Space) → InSpace m n (item spaces.Function (length m.funcs.slots)) (length m.imports.slots) s
+  in_space spaces.Type = record { import_kept = λ id i h. h; import_at = λ id i h. inl h; lives_kept = λ id h. h; lives_at = λ id h. inl h; names_kept = λ id h. refl }
+  in_space spaces.Function = record {
+    import_kept = says_kept m.funcs xs x0 adds says;
+    import_at = says_or_new m.funcs xs x0 adds spaces.Function says (length m.imports.slots) back;
+    lives_kept = live_kept m.funcs xs x0 adds;
+    lives_at = live_or_new m.funcs xs x0 adds spaces.Function;
+    names_kept = names_kept m.funcs xs x0 adds (λ o. items_of (named_by (function_names m.locals) o));
+  }
+  in_space spaces.Table = record { import_kept = λ id i h. h; import_at = λ id i h. inl h; lives_kept = λ id h. h; lives_at = λ id h. inl h; names_kept = λ id h. refl }
+  in_space spaces.Memory = record { import_kept = λ id i h. h; import_at = λ id i h. inl h; lives_kept = λ id h. h; lives_at = λ id h. inl h; names_kept = λ id h. refl }
+  in_space spaces.Tag = record { import_kept = λ id i h. h; import_at = λ id i h. inl h; lives_kept = λ id h. h; lives_at = λ id h. inl h; names_kept = λ id h. refl }
+  in_space spaces.Global = record { import_kept = λ id i h. h; import_at = λ id i h. inl h; lives_kept = λ id h. h; lives_at = λ id h. inl h; names_kept = λ id h. refl }
+  in_space spaces.Element = record { import_kept = λ id i h. h; import_at = λ id i h. inl h; lives_kept = λ id h. h; lives_at = λ id h. inl h; names_kept = λ id h. refl }
+  in_space spaces.Data = record { import_kept = λ id i h. h; import_at = λ id i h. inl h; lives_kept = λ id h. h; lives_at = λ id h. inl h; names_kept = λ id h. refl }
+  in_space spaces.Local = record { import_kept = λ id i h. h; import_at = λ id i h. inl h; lives_kept = λ id h. h; lives_at = λ id h. inl h; names_kept = λ id h. refl }
+  in_space spaces.Label = record { import_kept = λ id i h. h; import_at = λ id i h. inl h; lives_kept = λ id h. h; lives_at = λ id h. inl h; names_kept = λ id h. refl }
 
   whole : ((f : ℕ) (function : Function) → item_at m.funcs f ≡ Some function → IsWhole m.types function.kind) → IsWhole m.types x0.kind
       → (f : ℕ) (function : Function) → item_at xs f ≡ Some function → IsWhole m.types function.kind
@@ -104,18 +53,12 @@ module _ (m : Module) (is : Arena Import) (xs : Arena Function) (x0 : Function) 
   pub function_linked : IsWhole m.types x0.kind → ((y : Item) → Contains (items_of (function_names m.locals x0)) y → Lives n y) → IsLinked m → IsLinked n
   function_linked own new l = linked m n (item spaces.Function (length m.funcs.slots)) (length m.imports.slots) imp0
       (record {
-        imports_at = λ i imp at. pushed_at m.imports is imp0 brings imp i at;
-        imports_kept = λ i imp at. pushed_kept m.imports is imp0 brings imp i at;
-        imports_new = pushed_new m.imports is imp0 brings;
+        imports = imports_extend m is imp0 brings;
         brings = forth;
-        import_kept = import_kept;
+        spaces = in_space;
         import_new = ap (option_and_then says) (pushed_new m.funcs xs x0 adds) ∙ back;
-        import_at = import_at;
         whole = whole l.whole own;
-        lives_kept = lives_kept;
-        lives_at = lives_at;
-        names_kept = names_kept;
-        names_new = λ y has. let E : Option Function → Type 0 = λ o. Contains (items_of (named_by (function_names m.locals) o)) y in new y (subst E (pushed_new m.funcs xs x0 adds) has);
+        names_new = new_names m.funcs xs x0 adds (λ o. items_of (named_by (function_names m.locals) o)) (Lives n) new;
         exports_same = refl;
         start_same = refl;
       }) l

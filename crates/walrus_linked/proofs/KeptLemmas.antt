@@ -2,8 +2,8 @@
 use Rattle.std.proofs.Common.{◌≡◌, ◌∙◌, zero, suc, List, [], ◌∷◌, ◌++◌, Option, Some, Contains, sym, ap, subst, arith}
 use Rattle.std.proofs.lemmas.List.{append-nil}
 use Rattle.walrus_forms.specs.declared.value.RefType.{RefType}
-use Rattle.walrus_instr.specs.declared.const_expr.ConstExpr.{ConstExpr}
-use Rattle.walrus_walks.specs.Events.{Event, val_names, ref_names}
+use Rattle.walrus_marks.specs.walrus_instr.declared.const_expr.ConstExpr.{ConstExpr}
+use Rattle.walrus_marks.specs.walrus_walks.Events.{Event, val_names, ref_names}
 use Rattle.wasm_formats.specs.declared.fault.Space.TheVariants as spaces
 use Rattle.walrus_module.specs.Parts.{Module}
 use Rattle.walrus_roots.specs.declared.item.Item.{Item}
@@ -46,7 +46,7 @@ imports_keep_linked = record {
       let same : table_names x0 ≡ ref_names element ++ [] = ap (λ (e : RefType). ref_names e ++ init_names x0.init) adds.1.element_is ∙ ap (λ (o : Option ConstExpr). ref_names element ++ init_names o) adds.1.init_is in
       subst IsLinked (sym rest) (T.table_linked m n.imports n.tables x0 brings.0 brings.2 adds.2 back forth
       (λ y has. let C : List Event → Type 0 = λ xs. Contains (items_of xs) y in
-      T.lives_kept m n.imports n.tables x0 brings.0 brings.2 adds.2 back forth y.space y.id (lives y (without_end (ref_names element) y (subst C same has)))) l);
+      (T.in_space m n.imports n.tables x0 brings.0 brings.2 adds.2 back forth y.space).lives_kept y.id (lives y (without_end (ref_names element) y (subst C same has)))) l);
   memories = λ m n x i «module» name shared memory64 initial maximum page xs is adds brings rest l.
       subst IsLinked (sym rest) (M.memory_linked m n.imports n.memories adds.0 brings.0 brings.2 adds.2 (adds.1.import_is ∙ ap Some is) (ap brought brings.1.kind_is ∙ ap (item spaces.Memory) xs)
       (λ y has. contains_none y has) l);
@@ -54,7 +54,7 @@ imports_keep_linked = record {
       let back = ap Some is in
       let forth = ap brought brings.1.kind_is ∙ ap (item spaces.Global) gs in
       subst IsLinked (sym rest) (G.global_linked m n.imports n.globals _ brings.0 brings.2 adds back forth
-      (λ y has. G.lives_kept m n.imports n.globals _ brings.0 brings.2 adds back forth y.space y.id (lives y (without_end (val_names ty) y has))) l);
+      (λ y has. (G.in_space m n.imports n.globals _ brings.0 brings.2 adds back forth y.space).lives_kept y.id (lives y (without_end (val_names ty) y has))) l);
   tags = λ m n t i ty «module» name ts is adds brings rest lives l.
       subst IsLinked (sym rest) (E.tag_linked m n.imports n.tags _ brings.0 brings.2 adds (ap Some is) (ap brought brings.1.kind_is ∙ ap (item spaces.Tag) ts)
       (λ y has. one_lives (record m { imports = n.imports; tags = n.tags }) (item spaces.Type ty) y lives has) l);

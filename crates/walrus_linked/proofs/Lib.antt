@@ -7,4 +7,5 @@ pub mod ImportedTable
 pub mod ImportedTag
 pub mod KeptLemmas
 pub mod OwnIdLemmas
+pub mod PushLemmas
 pub mod SlotLemmas

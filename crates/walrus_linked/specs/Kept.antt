@@ -3,12 +3,12 @@ use Rattle.std.specs.Prelude.{◌≡◌, ℕ, Bool, List, [], ◌∷◌, ◌++�
 use Rattle.walrus_arena.specs.Arena.{next_id}
 use Rattle.walrus_forms.specs.declared.value.ValType.{ValType}
 use Rattle.walrus_forms.specs.declared.value.RefType.{RefType}
-use Rattle.walrus_walks.specs.Events.{val_names, ref_names}
-use Rattle.walrus_module_items.specs.declared.import.ImportKind.TheVariants as kinds
-use Rattle.walrus_module_items.specs.declared.function.FunctionKind.TheVariants as functions
-use Rattle.walrus_module_items.specs.declared.global.GlobalKind.TheVariants as globals
-use Rattle.walrus_module_items.specs.declared.tag.TagKind.TheVariants as tags
-use Rattle.walrus_collections.specs.Added.{Adds, IsImport, IsTable, IsMemory}
+use Rattle.walrus_marks.specs.walrus_walks.Events.{val_names, ref_names}
+use Rattle.walrus_module.specs.walrus_module_items.declared.import.ImportKind.TheVariants as kinds
+use Rattle.walrus_module.specs.walrus_module_items.declared.function.FunctionKind.TheVariants as functions
+use Rattle.walrus_module.specs.walrus_module_items.declared.global.GlobalKind.TheVariants as globals
+use Rattle.walrus_module.specs.walrus_module_items.declared.tag.TagKind.TheVariants as tags
+use Rattle.walrus_module.specs.walrus_collections.Added.{Adds, IsImport, IsTable, IsMemory}
 use Rattle.wasm_formats.specs.declared.fault.Space.TheVariants as spaces
 use Rattle.walrus_module.specs.Parts.{Module}
 use Rattle.walrus_roots.specs.declared.item.Item.{Item}

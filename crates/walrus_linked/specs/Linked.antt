@@ -3,23 +3,23 @@ use Rattle.std.specs.Prelude.{◌≡◌, ℕ, Option, Some, None, Contains, IfSo
 use Rattle.std.specs.Option.{option_and_then}
 use Rattle.walrus_arena.specs.Arena.{item_at}
 use Rattle.walrus_forms.specs.Forms.{params_of}
-use Rattle.walrus_types.specs.Table.{Table as TypeTable, type_at}
-use Rattle.walrus_builder.specs.Functions.{seqs_of}
-use Rattle.walrus_tree.specs.Trees.{IsTree, AreDistinct}
-use Rattle.walrus_local_function.specs.declared.local_function.LocalFunction.{LocalFunction}
-use Rattle.walrus_module_items.specs.declared.import.Import.{Import}
-use Rattle.walrus_module_items.specs.declared.export.Export.{Export}
-use Rattle.walrus_module_items.specs.declared.function.Function.{Function}
-use Rattle.walrus_module_items.specs.declared.function.FunctionKind.{FunctionKind}
-use Rattle.walrus_module_items.specs.declared.function.FunctionKind.TheVariants as functions
-use Rattle.walrus_module_items.specs.declared.table.Table.{Table}
-use Rattle.walrus_module_items.specs.declared.memory.Memory.{Memory}
-use Rattle.walrus_module_items.specs.declared.global.Global.{Global}
-use Rattle.walrus_module_items.specs.declared.global.GlobalKind.{GlobalKind}
-use Rattle.walrus_module_items.specs.declared.global.GlobalKind.TheVariants as globals
-use Rattle.walrus_module_items.specs.declared.tag.Tag.{Tag}
-use Rattle.walrus_module_items.specs.declared.tag.TagKind.{TagKind}
-use Rattle.walrus_module_items.specs.declared.tag.TagKind.TheVariants as tags
+use Rattle.walrus_module.specs.walrus_types.Table.{Table as TypeTable, type_at}
+use Rattle.walrus_module.specs.walrus_builder.Functions.{seqs_of}
+use Rattle.walrus_module.specs.walrus_tree.Trees.{IsTree, AreDistinct}
+use Rattle.walrus_module.specs.walrus_local_function.declared.local_function.LocalFunction.{LocalFunction}
+use Rattle.walrus_module.specs.walrus_module_items.declared.import.Import.{Import}
+use Rattle.walrus_module.specs.walrus_module_items.declared.export.Export.{Export}
+use Rattle.walrus_module.specs.walrus_module_items.declared.function.Function.{Function}
+use Rattle.walrus_module.specs.walrus_module_items.declared.function.FunctionKind.{FunctionKind}
+use Rattle.walrus_module.specs.walrus_module_items.declared.function.FunctionKind.TheVariants as functions
+use Rattle.walrus_module.specs.walrus_module_items.declared.table.Table.{Table}
+use Rattle.walrus_module.specs.walrus_module_items.declared.memory.Memory.{Memory}
+use Rattle.walrus_module.specs.walrus_module_items.declared.global.Global.{Global}
+use Rattle.walrus_module.specs.walrus_module_items.declared.global.GlobalKind.{GlobalKind}
+use Rattle.walrus_module.specs.walrus_module_items.declared.global.GlobalKind.TheVariants as globals
+use Rattle.walrus_module.specs.walrus_module_items.declared.tag.Tag.{Tag}
+use Rattle.walrus_module.specs.walrus_module_items.declared.tag.TagKind.{TagKind}
+use Rattle.walrus_module.specs.walrus_module_items.declared.tag.TagKind.TheVariants as tags
 use Rattle.wasm_formats.specs.declared.fault.Space.{Space}
 use Rattle.wasm_formats.specs.declared.fault.Space.TheVariants as spaces
 use Rattle.walrus_module.specs.Parts.{Module}

@@ -4,30 +4,30 @@ use Rattle.std.specs.Prelude.{ℕ, List, [], ◌∷◌, ◌++◌, map, Option, S
 use Rattle.walrus_arena.specs.Arena.{item_at}
 use Rattle.walrus_forms.specs.Kinds.{kind_names}
 use Rattle.walrus_items.specs.declared.local.Local.{Local}
-use Rattle.walrus_types.specs.Items.{Item as TypeItem}
-use Rattle.walrus_types.specs.Table.{type_at}
-use Rattle.walrus_instr.specs.declared.const_expr.ConstExpr.{ConstExpr}
-use Rattle.walrus_walks.specs.Events.{Event, NamesLocal, NamesType, NamesFunction, NamesTable, NamesMemory, val_names, ref_names, events_of}
-use Rattle.walrus_walks.specs.ConstEvents.{expr_names}
-use Rattle.walrus_walks.specs.Walk.{body_walk}
-use Rattle.walrus_builder.specs.Functions.{seqs_of}
-use Rattle.walrus_local_function.specs.declared.local_function.LocalFunction.{LocalFunction}
-use Rattle.walrus_module_items.specs.declared.function.Function.{Function}
-use Rattle.walrus_module_items.specs.declared.function.FunctionKind.{FunctionKind}
-use Rattle.walrus_module_items.specs.declared.function.FunctionKind.TheVariants as functions
-use Rattle.walrus_module_items.specs.declared.table.Table.{Table}
-use Rattle.walrus_module_items.specs.declared.global.Global.{Global}
-use Rattle.walrus_module_items.specs.declared.global.GlobalKind.{GlobalKind}
-use Rattle.walrus_module_items.specs.declared.global.GlobalKind.TheVariants as globals
-use Rattle.walrus_module_items.specs.declared.tag.Tag.{Tag}
-use Rattle.walrus_module_items.specs.declared.data.DataKind.{DataKind}
-use Rattle.walrus_module_items.specs.declared.data.DataKind.TheVariants as datas
-use Rattle.walrus_module_items.specs.declared.element.Element.{Element}
-use Rattle.walrus_module_items.specs.declared.element.ElementKind.{ElementKind}
-use Rattle.walrus_module_items.specs.declared.element.ElementKind.TheVariants as elements
-use Rattle.walrus_module_items.specs.declared.element.ElementItems.{ElementItems}
-use Rattle.walrus_module_items.specs.declared.element.ElementItems.TheVariants as holds
-use Rattle.walrus_module_items.specs.Functions.{type_of}
+use Rattle.walrus_module.specs.walrus_types.Items.{Item as TypeItem}
+use Rattle.walrus_module.specs.walrus_types.Table.{type_at}
+use Rattle.walrus_marks.specs.walrus_instr.declared.const_expr.ConstExpr.{ConstExpr}
+use Rattle.walrus_marks.specs.walrus_walks.Events.{Event, NamesLocal, NamesType, NamesFunction, NamesTable, NamesMemory, val_names, ref_names, events_of}
+use Rattle.walrus_marks.specs.walrus_walks.ConstEvents.{expr_names}
+use Rattle.walrus_marks.specs.walrus_walks.Walk.{body_walk}
+use Rattle.walrus_module.specs.walrus_builder.Functions.{seqs_of}
+use Rattle.walrus_module.specs.walrus_local_function.declared.local_function.LocalFunction.{LocalFunction}
+use Rattle.walrus_module.specs.walrus_module_items.declared.function.Function.{Function}
+use Rattle.walrus_module.specs.walrus_module_items.declared.function.FunctionKind.{FunctionKind}
+use Rattle.walrus_module.specs.walrus_module_items.declared.function.FunctionKind.TheVariants as functions
+use Rattle.walrus_module.specs.walrus_module_items.declared.table.Table.{Table}
+use Rattle.walrus_module.specs.walrus_module_items.declared.global.Global.{Global}
+use Rattle.walrus_module.specs.walrus_module_items.declared.global.GlobalKind.{GlobalKind}
+use Rattle.walrus_module.specs.walrus_module_items.declared.global.GlobalKind.TheVariants as globals
+use Rattle.walrus_module.specs.walrus_module_items.declared.tag.Tag.{Tag}
+use Rattle.walrus_module.specs.walrus_module_items.declared.data.DataKind.{DataKind}
+use Rattle.walrus_module.specs.walrus_module_items.declared.data.DataKind.TheVariants as datas
+use Rattle.walrus_module.specs.walrus_module_items.declared.element.Element.{Element}
+use Rattle.walrus_module.specs.walrus_module_items.declared.element.ElementKind.{ElementKind}
+use Rattle.walrus_module.specs.walrus_module_items.declared.element.ElementKind.TheVariants as elements
+use Rattle.walrus_module.specs.walrus_module_items.declared.element.ElementItems.{ElementItems}
+use Rattle.walrus_module.specs.walrus_module_items.declared.element.ElementItems.TheVariants as holds
+use Rattle.walrus_module.specs.walrus_module_items.Functions.{type_of}
 use Rattle.wasm_formats.specs.declared.fault.Space.{Space}
 use Rattle.wasm_formats.specs.declared.fault.Space.TheVariants as spaces
 use Rattle.walrus_module.specs.Parts.{Module}

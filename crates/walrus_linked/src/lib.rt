@@ -1,10 +1,14 @@
 //! When a module is linked, and what calls keep of it and of its collections.
 #![tactic(auto)]
 
+// Passed on to crates above, which then list this one alone.
 ghost use Rattle.std.specs.Prelude.{ℕ};
 ghost use Rattle.walrus_linked.specs.Empty.{EmptyIsLinked};
 ghost use Rattle.walrus_linked.specs.Kept.{ImportsKeepLinked};
 ghost use Rattle.walrus_linked.specs.OwnIds.{OwnIdsAreKept};
+
+pub use walrus_module as module;
+pub use walrus_module::collections;
 
 /// A module without items is linked.
 pub fn empty_is_linked()

@@ -1,18 +1,19 @@
 -- Deletes and writes, as the calls say what they do.
 use Rattle.std.proofs.Common.{◌≡◌, List, ap, subst, sym}
 use Rattle.walrus_arena.specs.Arena.{Arena}
-use Rattle.walrus_module_items.specs.declared.import.Import.{Import}
-use Rattle.walrus_module_items.specs.declared.export.Export.{Export}
-use Rattle.walrus_module_items.specs.declared.function.Function.{Function as FunctionItem}
-use Rattle.walrus_module_items.specs.declared.table.Table.{Table as TableItem}
-use Rattle.walrus_module_items.specs.declared.memory.Memory.{Memory as MemoryItem}
-use Rattle.walrus_module_items.specs.declared.global.Global.{Global as GlobalItem}
-use Rattle.walrus_module_items.specs.declared.tag.Tag.{Tag as TagItem}
-use Rattle.walrus_module_items.specs.declared.data.Data.{Data as DataItem}
-use Rattle.walrus_module_items.specs.declared.element.Element.{Element as ElementItem}
+use Rattle.walrus_linked.specs.walrus_module_items.declared.import.Import.{Import}
+use Rattle.walrus_linked.specs.walrus_module_items.declared.export.Export.{Export}
+use Rattle.walrus_linked.specs.walrus_module_items.declared.function.Function.{Function as FunctionItem}
+use Rattle.walrus_linked.specs.walrus_module_items.declared.table.Table.{Table as TableItem}
+use Rattle.walrus_linked.specs.walrus_module_items.declared.memory.Memory.{Memory as MemoryItem}
+use Rattle.walrus_linked.specs.walrus_module_items.declared.global.Global.{Global as GlobalItem}
+use Rattle.walrus_linked.specs.walrus_module_items.declared.tag.Tag.{Tag as TagItem}
+use Rattle.walrus_linked.specs.walrus_module_items.declared.data.Data.{Data as DataItem}
+use Rattle.walrus_linked.specs.walrus_module_items.declared.element.Element.{Element as ElementItem}
+use Rattle.walrus_types.specs.Table.{Table}
 use Rattle.walrus_walks.specs.Events.{Event}
-use Rattle.walrus_module.specs.Parts.{Module}
-use Rattle.walrus_module.specs.Items.{Lives, given_out}
+use Rattle.walrus_linked.specs.walrus_module.Parts.{Module}
+use Rattle.walrus_linked.specs.walrus_module.Items.{Lives, given_out}
 use Rattle.walrus_linked.specs.Names.{function_names, table_names, global_names, tag_names, data_kind_names, element_names}
 use Rattle.walrus_linked.specs.Linked.{IsLinked}
 use Rattle.walrus_linked_edits.specs.Edits.{AreLive}
@@ -30,7 +31,9 @@ use Rattle.walrus_linked_changes.proofs.ImportChanges as I
 
 pub deletes_keep_linked : DeletesKeepLinked
 deletes_keep_linked = record {
-  types = λ m n id is rest none l. subst IsLinked (sym rest) (Y.deleted m n.types id is.types none l);
+  types = λ m n id is rest none l. subst IsLinked (sym rest) (Y.deleted m n.types _ (Y.one_gone m n.types id is.types) none l);
+  groups = λ m n id place group at has is rest none l.
+      let gone = ap (λ (t : Table). t.types) (is place group at has) in subst IsLinked (sym rest) (Y.deleted m n.types _ (Y.group_gone m n.types group gone) none l);
   functions = λ m n id is rest none l. subst IsLinked (sym rest) (F.deleted m n.funcs id is none l);
   tables = λ m n id is rest none l. subst IsLinked (sym rest) (T.deleted m n.tables id is none l);
   memories = λ m n id is rest none l. subst IsLinked (sym rest) (M.deleted m n.memories id is none l);

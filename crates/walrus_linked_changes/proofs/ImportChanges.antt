@@ -2,11 +2,11 @@
 use Rattle.std.proofs.Common.{◌≡◌, ◌∙◌, ℕ, Some, slice_set, sym, ap, inl, inr}
 use Rattle.std.proofs.lemmas.Bool.{cases_eq}
 use Rattle.walrus_arena.specs.Arena.{Arena, item_at}
-use Rattle.walrus_module_items.specs.declared.import.Import.{Import}
-use Rattle.walrus_module_items.specs.declared.import.ImportKind.{ImportKind}
-use Rattle.walrus_module.specs.Parts.{Module}
+use Rattle.walrus_linked.specs.walrus_module_items.declared.import.Import.{Import}
+use Rattle.walrus_linked.specs.walrus_module_items.declared.import.ImportKind.{ImportKind}
+use Rattle.walrus_linked.specs.walrus_module.Parts.{Module}
 use Rattle.walrus_roots.specs.declared.item.Item.{Item}
-use Rattle.walrus_module.specs.Items.{brought}
+use Rattle.walrus_linked.specs.walrus_module.Items.{brought}
 use Rattle.walrus_linked.specs.Linked.{IsLinked, import_of}
 use Rattle.walrus_linked_changes.proofs.SlotLemmas.{besides, this}
 

@@ -1,10 +1,10 @@
 -- A memory that is deleted or written: what was linked stays so.
 use Rattle.std.proofs.Common.{◌≡◌, ◌∙◌, ℕ, Option, Some, None, slice_set, refl, sym, ap, inl, arith}
 use Rattle.walrus_arena.specs.Arena.{Arena, item_at}
-use Rattle.walrus_module_items.specs.declared.memory.Memory.{Memory}
+use Rattle.walrus_linked.specs.walrus_module_items.declared.memory.Memory.{Memory}
 use Rattle.wasm_formats.specs.declared.fault.Space.{Space}
 use Rattle.wasm_formats.specs.declared.fault.Space.TheVariants as spaces
-use Rattle.walrus_module.specs.Parts.{Module}
+use Rattle.walrus_linked.specs.walrus_module.Parts.{Module}
 use Rattle.walrus_roots.specs.declared.item.Item.{Item}
 use Rattle.walrus_roots.specs.Items.{item}
 use Rattle.walrus_linked.specs.Linked.{IsLinked}
@@ -20,7 +20,7 @@ module _ (m : Module) (xs : Arena Memory) (k : ℕ) (is : xs.slots ≡ slice_set
   abbrev left : Module
   left = record m { memories = xs }
 
-  left_in : (s : Space) → InDrop m left (item spaces.Memory k) s
+  left_in : (s : Space) → InDrop m left (λ x. x ≡ item spaces.Memory k) s
   left_in spaces.Type = record { import_at = λ id i h. h; import_kept = λ id i other h. h; lives_at = λ id h. (h, apart spaces.Type spaces.Memory (λ e. absurd (omega (arith, e))) id k); lives_kept = λ id other h. h; named = λ id h y has. has }
   left_in spaces.Function = record { import_at = λ id i h. h; import_kept = λ id i other h. h; lives_at = λ id h. (h, apart spaces.Function spaces.Memory (λ e. absurd (omega (arith, e))) id k); lives_kept = λ id other h. h; named = λ id h y has. has }
   left_in spaces.Table = record { import_at = λ id i h. h; import_kept = λ id i other h. h; lives_at = λ id h. (h, apart spaces.Table spaces.Memory (λ e. absurd (omega (arith, e))) id k); lives_kept = λ id other h. h; named = λ id h y has. has }
@@ -39,7 +39,7 @@ module _ (m : Module) (xs : Arena Memory) (k : ℕ) (is : xs.slots ≡ slice_set
   left_in spaces.Label = record { import_at = λ id i h. h; import_kept = λ id i other h. h; lives_at = λ id h. (h, apart spaces.Label spaces.Memory (λ e. absurd (omega (arith, e))) id k); lives_kept = λ id other h. h; named = λ id h y has. has }
 
   pub deleted : IsUnnamed m (item spaces.Memory k) → IsLinked m → IsLinked left
-  deleted none l = after_drop m left (item spaces.Memory k) (record { imports_same = refl; exports_same = refl; start_same = refl; spaces = left_in; whole = l.whole }) none l
+  deleted none l = after_drop m left (λ x. x ≡ item spaces.Memory k) (record { imports_same = refl; exports_same = refl; start_same = refl; spaces = left_in; whole = l.whole }) none l
 
 module _ (m : Module) (xs : Arena Memory) (k : ℕ) (old new : Memory) (at : item_at m.memories k ≡ Some old) (is : xs.slots ≡ slice_set m.memories.slots k (Some new)) (same : says new ≡ says old) where
   abbrev n : Module

@@ -1,9 +1,12 @@
 -- What is found in slots of which one is emptied, or has another item.
-use Rattle.std.proofs.Common.{◌≡◌, ◌∙◌, ◌⊎◌, ℕ, List, Option, Some, None, IsSome, slice_index_or, slice_set, sym, ap, subst, inl, inr}
+use Rattle.std.proofs.Common.{◌≡◌, ◌∙◌, ◌⊎◌, ℕ, zero, suc, List, [], ◌∷◌, Contains, Option, Some, None, IsSome, slice_index_or, slice_set, refl, sym, ap, subst, inl, inr, arith}
 use Rattle.std.specs.Option.{option_and_then}
 use Rattle.std.proofs.lemmas.Bool.{cases_eq}
 use Rattle.std.proofs.lemmas.List.{get_or-set_same}
+use Rattle.std.proofs.lemmas.List.Elements.{Contains-append_right}
 use Rattle.walrus_arena.proofs.ArenaLemmas.{live-within, at-other, at-deleted}
+use Rattle.walrus_types.specs.Items.{Item as TypeItem}
+use Rattle.walrus_types.specs.Table.{clear_all}
 use Rattle.walrus_linked.proofs.SlotLemmas.{and_then_some, some_of, is_some_at}
 
 abbrev at_id : {T : Type 0} → List (Option T) → ℕ → Option T
@@ -66,3 +69,24 @@ module _ {T : Type 0} (a b : List (Option T)) (k : ℕ) (old new : T) (at : at_i
     | inl e ↦ let both : Some new ≡ Some x = sym (this id e) ∙ h in let same : new ≡ x = cc in subst P same holds
     | inr e ↦ before (sym (besides id e) ∙ h)
   ]
+
+none_at : (id : ℕ) → Contains [] id → ⊥
+none_at id (k, less, at) = omega (arith, less)
+
+-- an item of types of which several were deleted was there before, and is none of them
+pub still_all : (ids : List ℕ) (types : List (Option TypeItem)) (id : ℕ) (x : TypeItem) → at_id (clear_all ids types) id ≡ Some x → (at_id types id ≡ Some x) × (Contains ids id → ⊥)
+still_all [] types id x h = (h, λ has. none_at id has)
+still_all (k ∷ ids) types id x h =
+    let rest = still_all ids (slice_set types k None) id x h in
+    let first = still types (slice_set types k None) k refl id x rest.0 in
+    (first.0, λ has. by_place first.1 rest.1 has)
+  where
+    by_place : (id ≡ k → ⊥) → (Contains ids id → ⊥) → Contains (k ∷ ids) id → ⊥
+    by_place apart behind (zero, less, at) = apart (sym at)
+    by_place apart behind (suc j, less, at) = behind (j, omega (arith, less), at)
+
+-- another one is where it was
+pub other_all : (ids : List ℕ) (types : List (Option TypeItem)) (id : ℕ) → (Contains ids id → ⊥) → at_id (clear_all ids types) id ≡ at_id types id
+other_all [] types id besides = refl
+other_all (k ∷ ids) types id besides =
+    other_all ids (slice_set types k None) id (λ has. besides (Contains-append_right (k ∷ []) ids id has)) ∙ other types (slice_set types k None) k refl id (λ e. besides (0, omega arith, sym e))

@@ -1,14 +1,14 @@
 -- A table that is deleted or written: what was linked stays so.
 use Rattle.std.proofs.Common.{◌≡◌, ◌∙◌, ℕ, Option, Some, None, Contains, slice_set, refl, sym, ap, inl, arith}
 use Rattle.walrus_arena.specs.Arena.{Arena, item_at}
-use Rattle.walrus_module_items.specs.declared.table.Table.{Table}
+use Rattle.walrus_linked.specs.walrus_module_items.declared.table.Table.{Table}
 use Rattle.wasm_formats.specs.declared.fault.Space.{Space}
 use Rattle.wasm_formats.specs.declared.fault.Space.TheVariants as spaces
-use Rattle.walrus_module.specs.Parts.{Module}
+use Rattle.walrus_linked.specs.walrus_module.Parts.{Module}
 use Rattle.walrus_roots.specs.declared.item.Item.{Item}
 use Rattle.walrus_roots.specs.Items.{item}
 use Rattle.walrus_marks.specs.Named.{items_of}
-use Rattle.walrus_module.specs.Items.{Lives}
+use Rattle.walrus_linked.specs.walrus_module.Items.{Lives}
 use Rattle.walrus_linked.specs.Names.{named_by, table_names}
 use Rattle.walrus_linked.specs.Linked.{IsLinked}
 use Rattle.walrus_linked_edits.proofs.PushLemmas.{or_new}
@@ -24,7 +24,7 @@ module _ (m : Module) (xs : Arena Table) (k : ℕ) (is : xs.slots ≡ slice_set 
   abbrev left : Module
   left = record m { tables = xs }
 
-  left_in : (s : Space) → InDrop m left (item spaces.Table k) s
+  left_in : (s : Space) → InDrop m left (λ x. x ≡ item spaces.Table k) s
   left_in spaces.Type = record { import_at = λ id i h. h; import_kept = λ id i other h. h; lives_at = λ id h. (h, apart spaces.Type spaces.Table (λ e. absurd (omega (arith, e))) id k); lives_kept = λ id other h. h; named = λ id h y has. has }
   left_in spaces.Function = record { import_at = λ id i h. h; import_kept = λ id i other h. h; lives_at = λ id h. (h, apart spaces.Function spaces.Table (λ e. absurd (omega (arith, e))) id k); lives_kept = λ id other h. h; named = λ id h y has. has }
   left_in spaces.Table = record {
@@ -43,7 +43,7 @@ module _ (m : Module) (xs : Arena Table) (k : ℕ) (is : xs.slots ≡ slice_set 
   left_in spaces.Label = record { import_at = λ id i h. h; import_kept = λ id i other h. h; lives_at = λ id h. (h, apart spaces.Label spaces.Table (λ e. absurd (omega (arith, e))) id k); lives_kept = λ id other h. h; named = λ id h y has. has }
 
   pub deleted : IsUnnamed m (item spaces.Table k) → IsLinked m → IsLinked left
-  deleted none l = after_drop m left (item spaces.Table k) (record { imports_same = refl; exports_same = refl; start_same = refl; spaces = left_in; whole = l.whole }) none l
+  deleted none l = after_drop m left (λ x. x ≡ item spaces.Table k) (record { imports_same = refl; exports_same = refl; start_same = refl; spaces = left_in; whole = l.whole }) none l
 
 module _ (m : Module) (xs : Arena Table) (k : ℕ) (old new : Table) (at : item_at m.tables k ≡ Some old) (is : xs.slots ≡ slice_set m.tables.slots k (Some new)) (same : says new ≡ says old) where
   abbrev n : Module

@@ -1,14 +1,14 @@
 -- A tag that is deleted or written: what was linked stays so.
 use Rattle.std.proofs.Common.{◌≡◌, ◌∙◌, ℕ, Option, Some, None, Contains, slice_set, refl, sym, ap, inl, arith}
 use Rattle.walrus_arena.specs.Arena.{Arena, item_at}
-use Rattle.walrus_module_items.specs.declared.tag.Tag.{Tag}
+use Rattle.walrus_linked.specs.walrus_module_items.declared.tag.Tag.{Tag}
 use Rattle.wasm_formats.specs.declared.fault.Space.{Space}
 use Rattle.wasm_formats.specs.declared.fault.Space.TheVariants as spaces
-use Rattle.walrus_module.specs.Parts.{Module}
+use Rattle.walrus_linked.specs.walrus_module.Parts.{Module}
 use Rattle.walrus_roots.specs.declared.item.Item.{Item}
 use Rattle.walrus_roots.specs.Items.{item}
 use Rattle.walrus_marks.specs.Named.{items_of}
-use Rattle.walrus_module.specs.Items.{Lives}
+use Rattle.walrus_linked.specs.walrus_module.Items.{Lives}
 use Rattle.walrus_linked.specs.Names.{named_by, tag_names}
 use Rattle.walrus_linked.specs.Linked.{IsLinked, tag_import}
 use Rattle.walrus_linked_edits.proofs.PushLemmas.{or_new}
@@ -24,7 +24,7 @@ module _ (m : Module) (xs : Arena Tag) (k : ℕ) (is : xs.slots ≡ slice_set m.
   abbrev left : Module
   left = record m { tags = xs }
 
-  left_in : (s : Space) → InDrop m left (item spaces.Tag k) s
+  left_in : (s : Space) → InDrop m left (λ x. x ≡ item spaces.Tag k) s
   left_in spaces.Type = record { import_at = λ id i h. h; import_kept = λ id i other h. h; lives_at = λ id h. (h, apart spaces.Type spaces.Tag (λ e. absurd (omega (arith, e))) id k); lives_kept = λ id other h. h; named = λ id h y has. has }
   left_in spaces.Function = record { import_at = λ id i h. h; import_kept = λ id i other h. h; lives_at = λ id h. (h, apart spaces.Function spaces.Tag (λ e. absurd (omega (arith, e))) id k); lives_kept = λ id other h. h; named = λ id h y has. has }
   left_in spaces.Table = record { import_at = λ id i h. h; import_kept = λ id i other h. h; lives_at = λ id h. (h, apart spaces.Table spaces.Tag (λ e. absurd (omega (arith, e))) id k); lives_kept = λ id other h. h; named = λ id h y has. has }
@@ -43,7 +43,7 @@ module _ (m : Module) (xs : Arena Tag) (k : ℕ) (is : xs.slots ≡ slice_set m.
   left_in spaces.Label = record { import_at = λ id i h. h; import_kept = λ id i other h. h; lives_at = λ id h. (h, apart spaces.Label spaces.Tag (λ e. absurd (omega (arith, e))) id k); lives_kept = λ id other h. h; named = λ id h y has. has }
 
   pub deleted : IsUnnamed m (item spaces.Tag k) → IsLinked m → IsLinked left
-  deleted none l = after_drop m left (item spaces.Tag k) (record { imports_same = refl; exports_same = refl; start_same = refl; spaces = left_in; whole = l.whole }) none l
+  deleted none l = after_drop m left (λ x. x ≡ item spaces.Tag k) (record { imports_same = refl; exports_same = refl; start_same = refl; spaces = left_in; whole = l.whole }) none l
 
 module _ (m : Module) (xs : Arena Tag) (k : ℕ) (old new : Tag) (at : item_at m.tags k ≡ Some old) (is : xs.slots ≡ slice_set m.tags.slots k (Some new)) (same : says new ≡ says old) where
   abbrev n : Module

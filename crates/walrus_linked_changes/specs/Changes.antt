@@ -1,35 +1,46 @@
 -- What deletes, and writes through a `&mut` to an item, keep of a linked module.
 use Rattle.std.specs.Prelude.{◌≡◌, ℕ, Some, None, Contains, slice_set}
 use Rattle.walrus_arena.specs.Arena.{item_at, with_item}
-use Rattle.walrus_types.specs.Table.{Deletes}
-use Rattle.walrus_module_items.specs.declared.import.Import.{Import}
-use Rattle.walrus_module_items.specs.declared.export.Export.{Export}
-use Rattle.walrus_module_items.specs.declared.function.Function.{Function}
-use Rattle.walrus_module_items.specs.declared.table.Table.{Table}
-use Rattle.walrus_module_items.specs.declared.memory.Memory.{Memory}
-use Rattle.walrus_module_items.specs.declared.global.Global.{Global}
-use Rattle.walrus_module_items.specs.declared.tag.Tag.{Tag}
-use Rattle.walrus_module_items.specs.declared.data.Data.{Data}
-use Rattle.walrus_module_items.specs.declared.element.Element.{Element}
+use Rattle.walrus_items.specs.Items.{Group}
+use Rattle.walrus_types.specs.Table.{Deletes, DeletesGroup, group_at}
+use Rattle.walrus_linked.specs.walrus_module_items.declared.import.Import.{Import}
+use Rattle.walrus_linked.specs.walrus_module_items.declared.export.Export.{Export}
+use Rattle.walrus_linked.specs.walrus_module_items.declared.function.Function.{Function}
+use Rattle.walrus_linked.specs.walrus_module_items.declared.table.Table.{Table}
+use Rattle.walrus_linked.specs.walrus_module_items.declared.memory.Memory.{Memory}
+use Rattle.walrus_linked.specs.walrus_module_items.declared.global.Global.{Global}
+use Rattle.walrus_linked.specs.walrus_module_items.declared.tag.Tag.{Tag}
+use Rattle.walrus_linked.specs.walrus_module_items.declared.data.Data.{Data}
+use Rattle.walrus_linked.specs.walrus_module_items.declared.element.Element.{Element}
 use Rattle.wasm_formats.specs.declared.fault.Space.TheVariants as spaces
-use Rattle.walrus_module.specs.Parts.{Module}
+use Rattle.walrus_linked.specs.walrus_module.Parts.{Module}
 use Rattle.walrus_roots.specs.declared.item.Item.{Item}
 use Rattle.walrus_roots.specs.Items.{item}
-use Rattle.walrus_module.specs.Items.{Lives, brought, given_out}
+use Rattle.walrus_linked.specs.walrus_module.Items.{Lives, brought, given_out}
 use Rattle.walrus_linked.specs.Names.{names, function_names, table_names, global_names, tag_names, data_kind_names, element_names}
 use Rattle.walrus_linked.specs.Linked.{IsLinked, IsWhole, function_import, global_import, tag_import}
 use Rattle.walrus_linked_edits.specs.Edits.{AreLive}
 
--- nothing else names the item: no other live item, no import, no export, and it isn't the start function
-pub record IsUnnamed (m : Module) (x : Item) : Type 0 where
-  pub by_items : (y : Item) → Lives m y → Contains (names m y) x → y ≡ x
-  pub by_imports : (i : ℕ) (import : Import) → item_at m.imports i ≡ Some import → brought import.kind ≡ x → ⊥
-  pub by_exports : (e : ℕ) (export : Export) → item_at m.exports e ≡ Some export → given_out export.item ≡ x → ⊥
-  pub by_start : (f : ℕ) → m.start ≡ Some f → item spaces.Function f ≡ x → ⊥
+-- only these items name one of them: no other live item, no import, no export, and the start function is none of them
+pub record AreUnnamed (m : Module) (these : Item → Type 0) : Type 0 where
+  pub by_items : (x : Item) → these x → (y : Item) → Lives m y → Contains (names m y) x → these y
+  pub by_imports : (x : Item) → these x → (i : ℕ) (import : Import) → item_at m.imports i ≡ Some import → brought import.kind ≡ x → ⊥
+  pub by_exports : (x : Item) → these x → (e : ℕ) (export : Export) → item_at m.exports e ≡ Some export → given_out export.item ≡ x → ⊥
+  pub by_start : (x : Item) → these x → (f : ℕ) → m.start ≡ Some f → item spaces.Function f ≡ x → ⊥
+
+-- nothing else names the item
+abbrev pub IsUnnamed : Module → Item → Type 0
+IsUnnamed m x = AreUnnamed m (λ y. y ≡ x)
+
+-- the members of a group, as items
+abbrev pub IsMember : Group → Item → Type 0
+IsMember group x = (id : ℕ) × Contains group.types id × (x ≡ item spaces.Type id)
 
 -- each says of a delete what it ensures; nothing else names what is deleted
 pub record DeletesKeepLinked : Type 0 where
   pub types : (m n : Module) (id : ℕ) → Deletes id m.types n.types → n ≡ record m { types = n.types } → IsUnnamed m (item spaces.Type id) → IsLinked m → IsLinked n
+  pub groups : (m n : Module) (id place : ℕ) (group : Group) → group_at m.types place ≡ Some group → Contains group.types id → DeletesGroup id m.types n.types
+      → n ≡ record m { types = n.types } → AreUnnamed m (IsMember group) → IsLinked m → IsLinked n
   pub functions : (m n : Module) (id : ℕ) → n.funcs.slots ≡ slice_set m.funcs.slots id None → n ≡ record m { funcs = n.funcs }
       → IsUnnamed m (item spaces.Function id) → IsLinked m → IsLinked n
   pub tables : (m n : Module) (id : ℕ) → n.tables.slots ≡ slice_set m.tables.slots id None → n ≡ record m { tables = n.tables }

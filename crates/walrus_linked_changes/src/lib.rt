@@ -1,10 +1,13 @@
 //! What deletes and writes keep of a linked module.
 #![tactic(auto)]
 
+// Passed on to crates above, which then list this one alone.
 ghost use Rattle.walrus_linked_changes.specs.Changes.{DeletesKeepLinked, WritesKeepLinked};
 
+pub use walrus_linked_edits as linked_edits;
+
 /// A linked module stays linked where an item is deleted that nothing else names: a type, a function, a table, a memory, a global,
-/// a tag or a segment.
+/// a tag or a segment; and where a whole group of types is, whose members nothing else names.
 pub fn deletes_keep_linked()
     ensures { DeletesKeepLinked }
 {}

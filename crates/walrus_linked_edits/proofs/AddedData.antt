@@ -2,16 +2,17 @@
 use Rattle.std.proofs.Common.{◌≡◌, List, [], ◌∷◌, ◌++◌, Option, Some, Contains, refl, inl}
 use Rattle.walrus_arena.specs.Arena.{Arena}
 use Rattle.walrus_walks.specs.Events.{Event}
-use Rattle.walrus_module_items.specs.declared.data.Data.{Data}
+use Rattle.walrus_linked.specs.walrus_module_items.declared.data.Data.{Data}
 use Rattle.wasm_formats.specs.declared.fault.Space.{Space}
 use Rattle.wasm_formats.specs.declared.fault.Space.TheVariants as spaces
-use Rattle.walrus_module.specs.Parts.{Module}
+use Rattle.walrus_linked.specs.walrus_module.Parts.{Module}
 use Rattle.walrus_roots.specs.declared.item.Item.{Item}
 use Rattle.walrus_marks.specs.Named.{items_of}
-use Rattle.walrus_module.specs.Items.{Lives}
+use Rattle.walrus_linked.specs.walrus_module.Items.{Lives}
 use Rattle.walrus_linked.specs.Names.{named_by, data_kind_names}
 use Rattle.walrus_linked.specs.Linked.{IsLinked}
-use Rattle.walrus_linked_edits.proofs.PushLemmas.{live_kept, named_at, or_new}
+use Rattle.walrus_linked.proofs.PushLemmas.{live_kept}
+use Rattle.walrus_linked_edits.proofs.PushLemmas.{named_at, or_new}
 use Rattle.walrus_linked_edits.proofs.ChangeLemmas.{InSpace, after_change}
 
 abbrev data_names : Data → List Event

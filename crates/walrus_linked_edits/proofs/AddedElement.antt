@@ -1,16 +1,17 @@
 -- An element segment of the module's own: what was linked stays so.
 use Rattle.std.proofs.Common.{◌≡◌, [], ◌∷◌, ◌++◌, Option, Some, Contains, refl, inl}
 use Rattle.walrus_arena.specs.Arena.{Arena}
-use Rattle.walrus_module_items.specs.declared.element.Element.{Element}
+use Rattle.walrus_linked.specs.walrus_module_items.declared.element.Element.{Element}
 use Rattle.wasm_formats.specs.declared.fault.Space.{Space}
 use Rattle.wasm_formats.specs.declared.fault.Space.TheVariants as spaces
-use Rattle.walrus_module.specs.Parts.{Module}
+use Rattle.walrus_linked.specs.walrus_module.Parts.{Module}
 use Rattle.walrus_roots.specs.declared.item.Item.{Item}
 use Rattle.walrus_marks.specs.Named.{items_of}
-use Rattle.walrus_module.specs.Items.{Lives}
+use Rattle.walrus_linked.specs.walrus_module.Items.{Lives}
 use Rattle.walrus_linked.specs.Names.{named_by, element_names}
 use Rattle.walrus_linked.specs.Linked.{IsLinked}
-use Rattle.walrus_linked_edits.proofs.PushLemmas.{live_kept, named_at, or_new}
+use Rattle.walrus_linked.proofs.PushLemmas.{live_kept}
+use Rattle.walrus_linked_edits.proofs.PushLemmas.{named_at, or_new}
 use Rattle.walrus_linked_edits.proofs.ChangeLemmas.{InSpace, after_change}
 
 module _ (m : Module) (xs : Arena Element) (x0 : Element) (adds : xs.slots ≡ m.elements.slots ++ Some x0 ∷ []) where

@@ -1,17 +1,18 @@
 -- A function of the module's own: what was linked stays so.
 use Rattle.std.proofs.Common.{◌≡◌, ℕ, [], ◌∷◌, ◌++◌, Option, Some, None, Contains, refl, sym, subst, inl, inr}
 use Rattle.walrus_arena.specs.Arena.{Arena, item_at}
-use Rattle.walrus_module_items.specs.declared.function.Function.{Function}
+use Rattle.walrus_linked.specs.walrus_module_items.declared.function.Function.{Function}
 use Rattle.wasm_formats.specs.declared.fault.Space.{Space}
 use Rattle.wasm_formats.specs.declared.fault.Space.TheVariants as spaces
-use Rattle.walrus_module.specs.Parts.{Module}
+use Rattle.walrus_linked.specs.walrus_module.Parts.{Module}
 use Rattle.walrus_roots.specs.declared.item.Item.{Item}
 use Rattle.walrus_marks.specs.Named.{items_of}
-use Rattle.walrus_module.specs.Items.{Lives}
+use Rattle.walrus_linked.specs.walrus_module.Items.{Lives}
 use Rattle.walrus_linked.specs.Names.{named_by, function_names}
 use Rattle.walrus_linked.specs.Linked.{IsLinked, IsWhole, function_import}
 use Rattle.walrus_linked.proofs.SlotLemmas.{pushed_at}
-use Rattle.walrus_linked_edits.proofs.PushLemmas.{says_kept, says_at, live_kept, named_at, or_new}
+use Rattle.walrus_linked.proofs.PushLemmas.{says_kept, live_kept}
+use Rattle.walrus_linked_edits.proofs.PushLemmas.{says_at, named_at, or_new}
 use Rattle.walrus_linked_edits.proofs.ChangeLemmas.{InSpace, after_change}
 
 abbrev says : Function → Option ℕ

@@ -1,16 +1,17 @@
 -- A global of the module's own: what was linked stays so.
 use Rattle.std.proofs.Common.{◌≡◌, ℕ, [], ◌∷◌, ◌++◌, Option, Some, None, Contains, refl, inl}
 use Rattle.walrus_arena.specs.Arena.{Arena}
-use Rattle.walrus_module_items.specs.declared.global.Global.{Global}
+use Rattle.walrus_linked.specs.walrus_module_items.declared.global.Global.{Global}
 use Rattle.wasm_formats.specs.declared.fault.Space.{Space}
 use Rattle.wasm_formats.specs.declared.fault.Space.TheVariants as spaces
-use Rattle.walrus_module.specs.Parts.{Module}
+use Rattle.walrus_linked.specs.walrus_module.Parts.{Module}
 use Rattle.walrus_roots.specs.declared.item.Item.{Item}
 use Rattle.walrus_marks.specs.Named.{items_of}
-use Rattle.walrus_module.specs.Items.{Lives}
+use Rattle.walrus_linked.specs.walrus_module.Items.{Lives}
 use Rattle.walrus_linked.specs.Names.{named_by, global_names}
 use Rattle.walrus_linked.specs.Linked.{IsLinked, global_import}
-use Rattle.walrus_linked_edits.proofs.PushLemmas.{says_kept, says_at, live_kept, named_at, or_new}
+use Rattle.walrus_linked.proofs.PushLemmas.{says_kept, live_kept}
+use Rattle.walrus_linked_edits.proofs.PushLemmas.{says_at, named_at, or_new}
 use Rattle.walrus_linked_edits.proofs.ChangeLemmas.{InSpace, after_change}
 
 abbrev says : Global → Option ℕ

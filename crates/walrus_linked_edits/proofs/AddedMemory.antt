@@ -1,12 +1,13 @@
 -- A memory of the module's own: what was linked stays so.
 use Rattle.std.proofs.Common.{◌≡◌, ℕ, [], ◌∷◌, ◌++◌, Option, Some, None, refl, inl}
 use Rattle.walrus_arena.specs.Arena.{Arena}
-use Rattle.walrus_module_items.specs.declared.memory.Memory.{Memory}
+use Rattle.walrus_linked.specs.walrus_module_items.declared.memory.Memory.{Memory}
 use Rattle.wasm_formats.specs.declared.fault.Space.{Space}
 use Rattle.wasm_formats.specs.declared.fault.Space.TheVariants as spaces
-use Rattle.walrus_module.specs.Parts.{Module}
+use Rattle.walrus_linked.specs.walrus_module.Parts.{Module}
 use Rattle.walrus_linked.specs.Linked.{IsLinked}
-use Rattle.walrus_linked_edits.proofs.PushLemmas.{says_kept, says_at, live_kept}
+use Rattle.walrus_linked.proofs.PushLemmas.{says_kept, live_kept}
+use Rattle.walrus_linked_edits.proofs.PushLemmas.{says_at}
 use Rattle.walrus_linked_edits.proofs.ChangeLemmas.{InSpace, after_change, none_has}
 
 abbrev says : Memory → Option ℕ

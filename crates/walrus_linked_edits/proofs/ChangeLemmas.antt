@@ -1,15 +1,15 @@
 -- Changes of a module that leave its imports: what was linked stays so.
 use Rattle.std.proofs.Common.{◌≡◌, ◌∙◌, ◌⊎◌, ℕ, [], Some, Contains, sym, ap, inl, inr, arith}
 use Rattle.walrus_arena.specs.Arena.{Arena, item_at}
-use Rattle.walrus_module_items.specs.declared.import.Import.{Import}
-use Rattle.walrus_module_items.specs.declared.export.Export.{Export}
-use Rattle.walrus_module_items.specs.declared.function.Function.{Function}
+use Rattle.walrus_linked.specs.walrus_module_items.declared.import.Import.{Import}
+use Rattle.walrus_linked.specs.walrus_module_items.declared.export.Export.{Export}
+use Rattle.walrus_linked.specs.walrus_module_items.declared.function.Function.{Function}
 use Rattle.wasm_formats.specs.declared.fault.Space.{Space}
 use Rattle.wasm_formats.specs.declared.fault.Space.TheVariants as spaces
-use Rattle.walrus_module.specs.Parts.{Module}
+use Rattle.walrus_linked.specs.walrus_module.Parts.{Module}
 use Rattle.walrus_roots.specs.declared.item.Item.{Item}
 use Rattle.walrus_roots.specs.Items.{item}
-use Rattle.walrus_module.specs.Items.{Lives, LivesIn, brought, given_out}
+use Rattle.walrus_linked.specs.walrus_module.Items.{Lives, LivesIn, brought, given_out}
 use Rattle.walrus_linked.specs.Names.{names}
 use Rattle.walrus_linked.specs.Linked.{IsLinked, IsWhole, import_in}
 

@@ -1,11 +1,11 @@
 -- Exports that are added, deleted or changed: what was linked stays so.
 use Rattle.std.proofs.Common.{◌≡◌, ◌∙◌, ◌⊎◌, ℕ, List, [], ◌∷◌, ◌++◌, Option, Some, None, slice_index_or, slice_set, refl, sym, ap, subst, inl, inr}
 use Rattle.walrus_arena.specs.Arena.{Arena, item_at}
-use Rattle.walrus_module_items.specs.declared.export.Export.{Export}
+use Rattle.walrus_linked.specs.walrus_module_items.declared.export.Export.{Export}
 use Rattle.wasm_formats.specs.declared.fault.Space.{Space}
 use Rattle.wasm_formats.specs.declared.fault.Space.TheVariants as spaces
-use Rattle.walrus_module.specs.Parts.{Module}
-use Rattle.walrus_module.specs.Items.{Lives, given_out}
+use Rattle.walrus_linked.specs.walrus_module.Parts.{Module}
+use Rattle.walrus_linked.specs.walrus_module.Items.{Lives, given_out}
 use Rattle.walrus_linked.specs.Linked.{IsLinked}
 use Rattle.walrus_linked.proofs.SlotLemmas.{pushed_at, at_set}
 use Rattle.walrus_linked_edits.proofs.ChangeLemmas.{InSpace, after_change}

@@ -5,17 +5,17 @@ use Rattle.std.proofs.lemmas.Bool.{cases_eq}
 use Rattle.std.proofs.lemmas.List.{get_or-set_same}
 use Rattle.walrus_arena.specs.Arena.{Arena, item_at}
 use Rattle.walrus_arena.proofs.ArenaLemmas.{live-within, at-other, at-deleted}
-use Rattle.walrus_module_items.specs.declared.import.Import.{Import}
-use Rattle.walrus_module_items.specs.declared.import.ImportKind.{ImportKind}
-use Rattle.walrus_module_items.specs.declared.import.ImportKind.TheVariants as kinds
-use Rattle.walrus_module_items.specs.declared.function.Function.{Function}
+use Rattle.walrus_linked.specs.walrus_module_items.declared.import.Import.{Import}
+use Rattle.walrus_linked.specs.walrus_module_items.declared.import.ImportKind.{ImportKind}
+use Rattle.walrus_linked.specs.walrus_module_items.declared.import.ImportKind.TheVariants as kinds
+use Rattle.walrus_linked.specs.walrus_module_items.declared.function.Function.{Function}
 use Rattle.wasm_formats.specs.declared.fault.Space.{Space}
 use Rattle.wasm_formats.specs.declared.fault.Space.TheVariants as spaces
-use Rattle.walrus_module.specs.Parts.{Module}
+use Rattle.walrus_linked.specs.walrus_module.Parts.{Module}
 use Rattle.walrus_roots.specs.declared.item.Item.{Item}
 use Rattle.walrus_roots.specs.Items.{item}
 use Rattle.walrus_marks.specs.Named.{items_of}
-use Rattle.walrus_module.specs.Items.{Lives, LivesIn, brought, given_out}
+use Rattle.walrus_linked.specs.walrus_module.Items.{Lives, LivesIn, brought, given_out}
 use Rattle.walrus_linked.specs.Names.{names, named_by, function_names}
 use Rattle.walrus_linked.specs.Linked.{IsLinked, IsWhole, import_of, import_in, function_import}
 use Rattle.walrus_linked.proofs.SlotLemmas.{some_of, is_some_at}

@@ -1,22 +1,20 @@
 -- Adds, as the calls say what they do.
-use Rattle.std.proofs.Common.{◌≡◌, ◌∙◌, ℕ, List, [], ◌∷◌, ◌++◌, Option, Contains, refl, sym, ap, subst}
+use Rattle.std.proofs.Common.{◌≡◌, ◌∙◌, List, [], ◌∷◌, ◌++◌, Option, Contains, refl, sym, ap, subst}
 use Rattle.walrus_forms.specs.declared.value.RefType.{RefType}
 use Rattle.walrus_instr.specs.declared.const_expr.ConstExpr.{ConstExpr}
 use Rattle.walrus_walks.specs.Events.{Event, NamesType, val_names, ref_names}
 use Rattle.walrus_walks.specs.ConstEvents.{expr_names}
-use Rattle.walrus_module_items.specs.declared.export.ExportItem.{ExportItem}
-use Rattle.walrus_module_items.specs.declared.function.FunctionKind.{FunctionKind}
-use Rattle.walrus_module_items.specs.declared.function.FunctionKind.TheVariants as functions
+use Rattle.walrus_linked.specs.walrus_module_items.declared.export.ExportItem.{ExportItem}
+use Rattle.walrus_linked.specs.walrus_module_items.declared.function.FunctionKind.{FunctionKind}
+use Rattle.walrus_linked.specs.walrus_module_items.declared.function.FunctionKind.TheVariants as functions
 use Rattle.walrus_items.specs.declared.local.Local.{Local}
-use Rattle.wasm_formats.specs.declared.fault.Space.TheVariants as spaces
-use Rattle.walrus_module.specs.Parts.{Module}
+use Rattle.walrus_linked.specs.walrus_module.Parts.{Module}
 use Rattle.walrus_roots.specs.declared.item.Item.{Item}
-use Rattle.walrus_roots.specs.Items.{item}
 use Rattle.walrus_marks.specs.Named.{items_of}
-use Rattle.walrus_module.specs.Items.{Lives, given_out}
+use Rattle.walrus_linked.specs.walrus_module.Items.{Lives, given_out}
 use Rattle.walrus_linked.specs.Names.{table_names, init_names, function_names, body_names, data_kind_names, element_names}
 use Rattle.walrus_linked.specs.Linked.{IsLinked, IsWhole, function_import}
-use Rattle.walrus_linked_edits.specs.Edits.{AreLive, AddsKeepLinked, DeletedExportsKeepLinked}
+use Rattle.walrus_linked_edits.specs.Edits.{AreLive, KindsNameLive, AddsKeepLinked, DeletedExportsKeepLinked}
 use Rattle.walrus_linked_edits.proofs.AddedFunction as F
 use Rattle.walrus_linked_edits.proofs.AddedTable as T
 use Rattle.walrus_linked_edits.proofs.AddedMemory as M
@@ -63,8 +61,9 @@ adds_keep_linked = record {
       let same : n ≡ record m { locals = m.locals ++ local ∷ [] } = rest ∙ ap (λ (ls : List Local). let w : Module = record m { locals = ls } in w) adds in
       subst IsLinked (sym same) (L.locals_added m (local ∷ []) l);
   types = λ m n kind id merges rest lives l.
-      let T : ℕ → Module → Type 0 = λ name v. Lives v (item spaces.Type name) in
-      subst IsLinked (sym rest) (Y.types_grown m n.types kind (Y.merged kind id m.types n.types merges).0 (λ plain name has. subst (T name) rest (lives plain name has)) l);
+      let L : Module → Type 0 = λ v. KindsNameLive v (kind ∷ []) in subst IsLinked (sym rest) (Y.types_grown m n.types (kind ∷ []) (Y.merged kind id m.types n.types merges).0 (subst L rest lives) l);
+  groups = λ m n explicit kinds adds rest lives l.
+      let L : Module → Type 0 = λ v. KindsNameLive v kinds in subst IsLinked (sym rest) (Y.types_grown m n.types kinds (Y.group_grows kinds m.types n.types explicit adds) (subst L rest lives) l);
 }
 
 pub deleted_exports_keep_linked : DeletedExportsKeepLinked

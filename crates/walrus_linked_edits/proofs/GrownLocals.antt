@@ -5,17 +5,17 @@ use Rattle.std.proofs.lemmas.List.Elements.{Contains-append_left, Contains-appen
 use Rattle.walrus_arena.specs.Arena.{item_at}
 use Rattle.walrus_items.specs.declared.local.Local.{Local}
 use Rattle.walrus_walks.specs.Events.{Event, NamesLocal, NamesType, events_of}
-use Rattle.walrus_module_items.specs.declared.function.Function.{Function}
-use Rattle.walrus_module_items.specs.declared.function.FunctionKind.{FunctionKind}
-use Rattle.walrus_module_items.specs.declared.function.FunctionKind.TheVariants as functions
-use Rattle.walrus_module_items.specs.Functions.{type_of}
+use Rattle.walrus_linked.specs.walrus_module_items.declared.function.Function.{Function}
+use Rattle.walrus_linked.specs.walrus_module_items.declared.function.FunctionKind.{FunctionKind}
+use Rattle.walrus_linked.specs.walrus_module_items.declared.function.FunctionKind.TheVariants as functions
+use Rattle.walrus_linked.specs.walrus_module_items.Functions.{type_of}
 use Rattle.wasm_formats.specs.declared.fault.Space.{Space}
 use Rattle.wasm_formats.specs.declared.fault.Space.TheVariants as spaces
-use Rattle.walrus_module.specs.Parts.{Module}
+use Rattle.walrus_linked.specs.walrus_module.Parts.{Module}
 use Rattle.walrus_roots.specs.declared.item.Item.{Item}
 use Rattle.walrus_roots.specs.Items.{item}
 use Rattle.walrus_marks.specs.Named.{items_of, event_items}
-use Rattle.walrus_module.specs.Items.{Lives}
+use Rattle.walrus_linked.specs.walrus_module.Items.{Lives}
 use Rattle.walrus_linked.specs.Names.{local_names, used_types, body_events, body_names, function_names, named_by}
 use Rattle.walrus_linked.specs.Linked.{IsLinked}
 use Rattle.walrus_linked.proofs.SlotLemmas.{some_of, is_some_at}

@@ -1,31 +1,33 @@
 -- More types: what was linked stays so.
-use Rattle.std.proofs.Common.{◌≡◌, ◌∙◌, ◌⊎◌, ℕ, Bool, true, false, ◌&&◌, List, length, map, Option, Some, None, IsSome, Contains, slice_index_or, if◌then◌else◌, refl, sym, ap, subst, inl, inr}
+use Rattle.std.proofs.Common.{◌≡◌, ◌∙◌, ◌⊎◌, ℕ, zero, suc, ◌+◌, Bool, true, false, ◌&&◌, List, [], ◌∷◌, ◌++◌, length, Option, Some, None, IsSome, Contains, slice_index_or, if◌then◌else◌, refl, sym, ap, subst, inl, inr}
 use Rattle.std.specs.Option.{IfSome}
 use Rattle.std.proofs.lemmas.Option.{MatchOption-at_none, MatchOption-at_some}
+use Rattle.std.proofs.lemmas.List.Elements.{Contains-append_right}
 use Rattle.walrus_arena.specs.Arena.{item_at}
-use Rattle.walrus_walks.specs.Events.{NamesType}
 use Rattle.walrus_forms.specs.Kinds.{Kind, kind_names}
 use Rattle.walrus_forms.specs.Forms.{params_of}
 use Rattle.walrus_forms.specs.Same.{same_kind}
 use Rattle.walrus_forms.proofs.EqLemmas.{same-kind-law}
 use Rattle.walrus_types.specs.Items.{Item as TypeItem}
+use Rattle.walrus_types.specs.Groups.{AddsGroup, new_items}
 use Rattle.walrus_types.specs.Table.{Table, type_at, next_id, names_itself, merges, latest_id, equal_type, Adds, Merges}
 use Rattle.walrus_types.specs.TypeLaws.{IsLatest}
 use Rattle.walrus_types.proofs.LawLemmas.{latest-law}
-use Rattle.walrus_local_function.specs.declared.local_function.LocalFunction.{LocalFunction}
-use Rattle.walrus_module_items.specs.declared.function.Function.{Function}
-use Rattle.walrus_module_items.specs.declared.function.FunctionKind.{FunctionKind}
-use Rattle.walrus_module_items.specs.declared.function.FunctionKind.TheVariants as functions
-use Rattle.walrus_module_items.specs.Functions.{type_of}
+use Rattle.walrus_linked.specs.walrus_local_function.declared.local_function.LocalFunction.{LocalFunction}
+use Rattle.walrus_linked.specs.walrus_module_items.declared.function.Function.{Function}
+use Rattle.walrus_linked.specs.walrus_module_items.declared.function.FunctionKind.{FunctionKind}
+use Rattle.walrus_linked.specs.walrus_module_items.declared.function.FunctionKind.TheVariants as functions
+use Rattle.walrus_linked.specs.walrus_module_items.Functions.{type_of}
 use Rattle.wasm_formats.specs.declared.fault.Space.{Space}
 use Rattle.wasm_formats.specs.declared.fault.Space.TheVariants as spaces
-use Rattle.walrus_module.specs.Parts.{Module}
+use Rattle.walrus_linked.specs.walrus_module.Parts.{Module}
 use Rattle.walrus_roots.specs.Items.{item}
 use Rattle.walrus_marks.specs.Named.{items_of}
-use Rattle.walrus_module.specs.Items.{Lives, LivesIn, written}
+use Rattle.walrus_linked.specs.walrus_module.Items.{Lives, LivesIn, written}
 use Rattle.walrus_linked.specs.Names.{names, named_by, function_names, body_names, type_names}
 use Rattle.walrus_linked.specs.Linked.{IsLinked, IsWhole, HasArguments}
 use Rattle.walrus_linked.proofs.SlotLemmas.{at_push, at_kept, at_new, is_some_at}
+use Rattle.walrus_linked_edits.specs.Edits.{KindsNameLive}
 use Rattle.walrus_linked_edits.proofs.NameLemmas.{here, type_at_names}
 use Rattle.walrus_linked_edits.proofs.ChangeLemmas.{InSpace, after_change}
 
@@ -47,12 +49,12 @@ item_of_type o ty e plain =
     let G : Bool → Type 0 = λ b. IsSome (if b then None else Some ty) in
     subst F (sym e) (subst G (sym plain) refl)
 
--- the old types are there, and each other one has this kind
-pub record Grows (kind : Kind) (old new : Table) : Type 0 where
+-- the old types are there, and each other one has one of these kinds
+pub record Grows (kinds : List Kind) (old new : Table) : Type 0 where
   pub kept : (id : ℕ) (ty : TypeItem) → type_at old id ≡ Some ty → type_at new id ≡ Some ty
-  pub at : (id : ℕ) (ty : TypeItem) → type_at new id ≡ Some ty → (type_at old id ≡ Some ty) ⊎ (ty.kind ≡ kind)
+  pub at : (id : ℕ) (ty : TypeItem) → type_at new id ≡ Some ty → (type_at old id ≡ Some ty) ⊎ Contains kinds ty.kind
 
--- the type of this kind is there, the old ones too
+-- the type of this kind is there
 pub record Finds (kind : Kind) (id : ℕ) (new : Table) : Type 0 where
   pub ty : TypeItem
   pub live : type_at new id ≡ Some ty
@@ -66,12 +68,12 @@ module _ (kind : Kind) (id : ℕ) (old new : Table) where
   slots_at : (slots : List (Option TypeItem)) → new.types ≡ slots → (k : ℕ) → type_at new k ≡ slice_index_or slots k None
   slots_at slots is k = ap (λ (ts : List (Option TypeItem)). slice_index_or ts k None) is
 
-  added_grows : Adds kind id old new → Grows kind old new
+  added_grows : Adds kind id old new → Grows (kind ∷ []) old new
   added_grows a = record {
     kept = λ k ty h. slots_at _ a.types k ∙ at_kept old.types _ ty k h;
-    at = λ k ty h. elim (at_push old.types _ ty k (sym (slots_at _ a.types k) ∙ h)) as (λ _. (type_at old k ≡ Some ty) ⊎ (ty.kind ≡ kind)) [
+    at = λ k ty h. elim (at_push old.types _ ty k (sym (slots_at _ a.types k) ∙ h)) as (λ _. (type_at old k ≡ Some ty) ⊎ Contains (kind ∷ []) ty.kind) [
       | inl g ↦ inl g
-      | inr g ↦ inr (ap (λ (t : TypeItem). t.kind) g.1)
+      | inr g ↦ let H : Kind → Type 0 = λ x. Contains (kind ∷ []) x in inr (subst H (sym (ap (λ (t : TypeItem). t.kind) g.1)) (here kind []))
     ];
   }
 
@@ -92,14 +94,14 @@ module _ (kind : Kind) (id : ℕ) (old new : Table) where
           let latest = MatchOption-at_some ((k : ℕ) (x : TypeItem) → type_at old k ≡ Some x → merges kind (k, x) ≡ false) (IsLatest (merges kind) old) found e (latest-law old (merges kind)) in
           record { ty = latest.item; live = latest.live; kind_is = (same-kind-law latest.item.kind kind).0 (first_holds (same_kind latest.item.kind kind) _ latest.passes) }
 
-  pub merged : Merges kind id old new → Grows kind old new × Finds kind id new
+  pub merged : Merges kind id old new → Grows (kind ∷ []) old new × Finds kind id new
   merged h = by_found (equal_type kind old) refl
     where
-      by_found : (o : Option ℕ) → equal_type kind old ≡ o → Grows kind old new × Finds kind id new
+      by_found : (o : Option ℕ) → equal_type kind old ≡ o → Grows (kind ∷ []) old new × Finds kind id new
       by_found None e = let a = MatchOption-at_none (Adds kind id old new) (λ (found : ℕ). (id ≡ found) × (new ≡ old)) e h in (added_grows a, added_finds a)
       by_found (Some found) e =
           let s = MatchOption-at_some (Adds kind id old new) (λ (k : ℕ). (id ≡ k) × (new ≡ old)) found e h in
-          let G : Table → Type 0 = λ t. Grows kind old t in
+          let G : Table → Type 0 = λ t. Grows (kind ∷ []) old t in
           let F : Table → Type 0 = λ t. Finds kind id t in
           let I : ℕ → Type 0 = λ k. Finds kind k old in
           (subst G (sym s.1) (record { kept = λ k ty at. at; at = λ k ty at. inl at }), subst F (sym s.1) (subst I (sym s.0) (found_kind found e)))
@@ -112,14 +114,43 @@ module _ (m : Module) where
       l.named (item spaces.Function id) (item spaces.Type (type_of f.kind)) (is_some_at (item_at m.funcs id) f at)
       (subst N (sym at) (here (item spaces.Type (type_of f.kind)) (items_of (body_names m.locals f.kind))))
 
-module _ (m : Module) (t : Table) (kind : Kind) (grows : Grows kind m.types t) where
+module _ (kinds : List Kind) (old new : Table) where
+  -- an item among new ones is of one of their kinds
+  new_at : (first : ℕ) (ks : List Kind) (id : ℕ) (ty : TypeItem) → slice_index_or (new_items first ks) id None ≡ Some ty → Contains ks ty.kind
+  new_at first [] id ty e = absurd cc
+  new_at first (k ∷ ks) zero ty e =
+      let one : TypeItem = record { id = first; kind = k; name = None } in
+      let same : one ≡ ty = cc in
+      let H : Kind → Type 0 = λ x. Contains (k ∷ ks) x in subst H (ap (λ (t : TypeItem). t.kind) same) (here k ks)
+  new_at first (k ∷ ks) (suc id) ty e = Contains-append_right (k ∷ []) ks ty.kind (new_at (first + 1) ks id ty e)
+
+  behind_at : (slots : List (Option TypeItem)) (first id : ℕ) (ty : TypeItem) → slice_index_or (slots ++ new_items first kinds) id None ≡ Some ty
+      → (slice_index_or slots id None ≡ Some ty) ⊎ Contains kinds ty.kind
+  behind_at [] first id ty e = inr (new_at first kinds id ty e)
+  behind_at (s ∷ slots) first zero ty e = inl e
+  behind_at (s ∷ slots) first (suc id) ty e = behind_at slots first id ty e
+
+  before_at : (slots : List (Option TypeItem)) (first id : ℕ) (ty : TypeItem) → slice_index_or slots id None ≡ Some ty → slice_index_or (slots ++ new_items first kinds) id None ≡ Some ty
+  before_at [] first id ty e = absurd cc
+  before_at (s ∷ slots) first zero ty e = e
+  before_at (s ∷ slots) first (suc id) ty e = before_at slots first id ty e
+
+  pub group_grows : (explicit : Bool) → AddsGroup explicit kinds old new → Grows kinds old new
+  group_grows explicit a =
+      let slots_are : (id : ℕ) → type_at new id ≡ slice_index_or (old.types ++ new_items (next_id old) kinds) id None = λ id. ap (λ (ts : List (Option TypeItem)). slice_index_or ts id None) a.types in
+      record {
+        kept = λ id ty e. slots_are id ∙ before_at old.types (next_id old) id ty e;
+        at = λ id ty e. behind_at old.types (next_id old) id ty (sym (slots_are id) ∙ e);
+      }
+
+module _ (m : Module) (t : Table) (kinds : List Kind) (grows : Grows kinds m.types t) where
   abbrev n : Module
   n = record m { types = t }
 
   type_kept : (id : ℕ) → LivesIn m spaces.Type id → LivesIn n spaces.Type id
   type_kept id h = let a = type_of_item (type_at m.types id) h in item_of_type (type_at t id) a.0 (grows.kept id a.0 a.1) a.2
 
-  pub in_space : (kind.entry ≡ false → (name : ℕ) → Contains (kind_names kind) name → LivesIn n spaces.Type name) → (s : Space) → InSpace m n s
+  pub in_space : KindsNameLive n kinds → (s : Space) → InSpace m n s
   in_space new spaces.Type = record {
     import_kept = λ id i h. h;
     import_at = λ id i h. h;
@@ -127,12 +158,11 @@ module _ (m : Module) (t : Table) (kind : Kind) (grows : Grows kind m.types t) w
     named = λ id h y has.
         let a = type_of_item (type_at t id) h in
         let N : Option TypeItem → Type 0 = λ o. Contains (items_of (named_by type_names o)) y in
-        let K : Kind → Type 0 = λ k. Contains (items_of (map (λ (name : ℕ). NamesType name) (kind_names k))) y in
         elim (grows.at id a.0 a.1) as (λ _. (LivesIn m spaces.Type id × Contains (names m (item spaces.Type id)) y) ⊎ Lives n y) [
           | inl k ↦ inl (item_of_type (type_at m.types id) a.0 k a.2, subst N (a.1 ∙ sym k) has)
           | inr k ↦
-              let name = type_at_names (kind_names kind) y (subst K k (subst N a.1 has)) in
-              inr (subst (Lives n) name.2 (new (ap (λ (x : Kind). x.entry) (sym k) ∙ a.2) name.0 name.1))
+              let name = type_at_names (kind_names a.0.kind) y (subst N a.1 has) in
+              inr (subst (Lives n) name.2 (new a.0.kind k a.2 name.0 name.1))
         ];
   }
   in_space new spaces.Function = record { import_kept = λ id i h. h; import_at = λ id i h. h; lives_kept = λ id h. h; named = λ id h y has. inl (h, has) }
@@ -156,7 +186,7 @@ module _ (m : Module) (t : Table) (kind : Kind) (grows : Grows kind m.types t) w
   whole_kept (functions.Local local) lives h = (arguments_kept local lives h.0, h.1)
   whole_kept (functions.Uninitialized _) lives h = h
 
-  pub types_grown : (kind.entry ≡ false → (name : ℕ) → Contains (kind_names kind) name → LivesIn n spaces.Type name) → IsLinked m → IsLinked n
+  pub types_grown : KindsNameLive n kinds → IsLinked m → IsLinked n
   types_grown new l = after_change m n (record {
     imports_same = refl;
     spaces = in_space new;

@@ -11,6 +11,11 @@ use Rattle.walrus_marks.specs.Named.{items_of, event_items}
 pub here : {X : Type 0} (x : X) (xs : List X) → Contains (x ∷ xs) x
 here x xs = (0, omega arith, refl)
 
+-- what a list of one has is that one
+pub the_one : {X : Type 0} (x y : X) → Contains (x ∷ []) y → x ≡ y
+the_one x y (zero, less, at) = at
+the_one x y (suc k, less, at) = absurd (omega (arith, less))
+
 items_append : (xs ys : List Event) → items_of (xs ++ ys) ≡ items_of xs ++ items_of ys
 items_append [] ys = refl
 items_append (x ∷ xs) ys = ap (λ (is : List Item). event_items x ++ is) (items_append xs ys) ∙ sym (append_assoc (event_items x) (items_of xs) (items_of ys))

@@ -2,13 +2,9 @@
 use Rattle.std.proofs.Common.{◌≡◌, ◌∙◌, ◌⊎◌, ℕ, [], ◌∷◌, ◌++◌, Option, Some, None, IsSome, sym, ap, subst, inl, inr}
 use Rattle.std.specs.Option.{option_and_then}
 use Rattle.walrus_arena.specs.Arena.{Arena, item_at}
-use Rattle.walrus_linked.proofs.SlotLemmas.{pushed_at, pushed_kept, and_then_some, some_of, is_some_at}
+use Rattle.walrus_linked.proofs.SlotLemmas.{pushed_at, and_then_some, some_of, is_some_at}
 
 module _ {T : Type 0} (a b : Arena T) (x : T) (adds : b.slots ≡ a.slots ++ Some x ∷ []) where
-  -- what an item that was there says, it says still
-  pub says_kept : (says : T → Option ℕ) (id i : ℕ) → option_and_then says (item_at a id) ≡ Some i → option_and_then says (item_at b id) ≡ Some i
-  says_kept says id i h = let o = and_then_some says (item_at a id) i h in ap (option_and_then says) (pushed_kept a b x adds o.0 id o.1) ∙ o.2
-
   -- where the new one says nothing, what is said was said before
   pub says_at : (says : T → Option ℕ) → says x ≡ None → (id i : ℕ) → option_and_then says (item_at b id) ≡ Some i → option_and_then says (item_at a id) ≡ Some i
   says_at says none id i h =
@@ -17,9 +13,6 @@ module _ {T : Type 0} (a b : Arena T) (x : T) (adds : b.slots ≡ a.slots ++ Som
         | inl k ↦ ap (option_and_then says) k ∙ o.2
         | inr k ↦ let bad : None ≡ Some i = sym none ∙ sym (ap says k.1) ∙ o.2 in absurd cc
       ]
-
-  pub live_kept : (id : ℕ) → IsSome (item_at a id) → IsSome (item_at b id)
-  live_kept id h = let o = some_of (item_at a id) h in is_some_at (item_at b id) o.0 (pushed_kept a b x adds o.0 id o.1)
 
   -- what holds of a live item held of it before, or holds of the new one
   pub named_at : (N : Option T → Type 0) (id : ℕ) → IsSome (item_at b id) → N (item_at b id) → (IsSome (item_at a id) × N (item_at a id)) ⊎ N (Some x)

@@ -13,18 +13,18 @@ use Rattle.walrus_types.specs.Table.{Table, type_at}
 use Rattle.walrus_builder.specs.declared.function.FunctionBuilder.{FunctionBuilder}
 use Rattle.walrus_builder.specs.Built.{Building}
 use Rattle.walrus_tree.specs.Trees.{AreDistinct}
-use Rattle.walrus_local_function.specs.declared.local_function.LocalFunction.{LocalFunction}
-use Rattle.walrus_module_items.specs.declared.function.Function.{Function}
-use Rattle.walrus_module_items.specs.declared.function.FunctionKind.{FunctionKind}
-use Rattle.walrus_module_items.specs.declared.function.FunctionKind.TheVariants as functions
-use Rattle.walrus_module_items.specs.Functions.{local_of, type_of}
+use Rattle.walrus_linked.specs.walrus_local_function.declared.local_function.LocalFunction.{LocalFunction}
+use Rattle.walrus_linked.specs.walrus_module_items.declared.function.Function.{Function}
+use Rattle.walrus_linked.specs.walrus_module_items.declared.function.FunctionKind.{FunctionKind}
+use Rattle.walrus_linked.specs.walrus_module_items.declared.function.FunctionKind.TheVariants as functions
+use Rattle.walrus_linked.specs.walrus_module_items.Functions.{local_of, type_of}
 use Rattle.wasm_formats.specs.declared.fault.Space.TheVariants as spaces
-use Rattle.walrus_module.specs.Parts.{Module}
-use Rattle.walrus_module.specs.Replaced.{IsExportReplaced, params_at, results_at, type_params}
+use Rattle.walrus_linked.specs.walrus_module.Parts.{Module}
+use Rattle.walrus_linked.specs.walrus_module.Replaced.{IsExportReplaced, params_at, results_at, type_params}
 use Rattle.walrus_roots.specs.declared.item.Item.{Item}
 use Rattle.walrus_roots.specs.Items.{item}
 use Rattle.walrus_marks.specs.Named.{items_of}
-use Rattle.walrus_module.specs.Items.{Lives, LivesIn}
+use Rattle.walrus_linked.specs.walrus_module.Items.{Lives, LivesIn}
 use Rattle.walrus_linked.specs.Names.{body_names, function_names}
 use Rattle.walrus_linked.specs.Linked.{IsLinked, IsWhole, HasArguments, function_import}
 use Rattle.walrus_linked.proofs.SlotLemmas.{and_then_some, pushed_new, is_some_at}

@@ -17,18 +17,18 @@ use Rattle.walrus_items.specs.declared.local.Local.{Local}
 use Rattle.walrus_builder.specs.declared.function.FunctionBuilder.{FunctionBuilder}
 use Rattle.walrus_builder.specs.Built.{Building}
 use Rattle.walrus_tree.specs.Trees.{Has, AreDistinct}
-use Rattle.walrus_module_items.specs.declared.import.Import.{Import}
-use Rattle.walrus_module_items.specs.declared.import.ImportKind.{ImportKind}
-use Rattle.walrus_module_items.specs.declared.import.ImportKind.TheVariants as kinds
-use Rattle.walrus_module_items.specs.declared.function.Function.{Function}
-use Rattle.walrus_module_items.specs.declared.function.FunctionKind.{FunctionKind}
-use Rattle.walrus_module_items.specs.declared.function.FunctionKind.TheVariants as functions
-use Rattle.walrus_module_items.specs.Functions.{type_of}
-use Rattle.walrus_collections.specs.Tests.{imports, same_kind}
+use Rattle.walrus_linked.specs.walrus_module_items.declared.import.Import.{Import}
+use Rattle.walrus_linked.specs.walrus_module_items.declared.import.ImportKind.{ImportKind}
+use Rattle.walrus_linked.specs.walrus_module_items.declared.import.ImportKind.TheVariants as kinds
+use Rattle.walrus_linked.specs.walrus_module_items.declared.function.Function.{Function}
+use Rattle.walrus_linked.specs.walrus_module_items.declared.function.FunctionKind.{FunctionKind}
+use Rattle.walrus_linked.specs.walrus_module_items.declared.function.FunctionKind.TheVariants as functions
+use Rattle.walrus_linked.specs.walrus_module_items.Functions.{type_of}
+use Rattle.walrus_linked.specs.walrus_collections.Tests.{imports, same_kind}
 use Rattle.wasm_formats.specs.declared.fault.Space.TheVariants as spaces
-use Rattle.walrus_module.specs.Parts.{Module}
-use Rattle.walrus_module.specs.Replaced.{IsImportReplaced, import_of, arguments, params_at, results_at}
-use Rattle.walrus_module.specs.Items.{LivesIn}
+use Rattle.walrus_linked.specs.walrus_module.Parts.{Module}
+use Rattle.walrus_linked.specs.walrus_module.Replaced.{IsImportReplaced, import_of, arguments, params_at, results_at}
+use Rattle.walrus_linked.specs.walrus_module.Items.{LivesIn}
 use Rattle.walrus_linked.specs.Linked.{IsLinked, IsWhole}
 use Rattle.walrus_linked_edits.specs.Edits.{CanStand}
 use Rattle.walrus_linked_edits.proofs.GrownLocals as L

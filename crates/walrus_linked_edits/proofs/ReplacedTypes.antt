@@ -1,5 +1,5 @@
 -- The types of a function that is built in the place of another: what was linked stays so.
-use Rattle.std.proofs.Common.{◌≡◌, ℕ, false, List, [], Option, Some, Contains, sym, subst, arith}
+use Rattle.std.proofs.Common.{◌≡◌, ◌∙◌, ℕ, true, false, List, [], ◌∷◌, Option, Some, Contains, sym, ap, subst, arith}
 use Rattle.std.specs.Option.{option_to_list}
 use Rattle.std.proofs.lemmas.List.{append-nil}
 use Rattle.std.proofs.lemmas.List.Elements.{Contains-append_left}
@@ -9,15 +9,16 @@ use Rattle.walrus_types.specs.Items.{Item as TypeItem}
 use Rattle.walrus_types.specs.Pairs.{MergesBoth}
 use Rattle.walrus_types.specs.Table.{Table, type_at}
 use Rattle.wasm_formats.specs.declared.fault.Space.TheVariants as spaces
-use Rattle.walrus_module.specs.Parts.{Module}
-use Rattle.walrus_module.specs.Replaced.{params_at, results_at, type_params, type_results}
+use Rattle.walrus_linked.specs.walrus_module.Parts.{Module}
+use Rattle.walrus_linked.specs.walrus_module.Replaced.{params_at, results_at, type_params, type_results}
 use Rattle.walrus_roots.specs.declared.item.Item.{Item}
 use Rattle.walrus_roots.specs.Items.{item}
 use Rattle.walrus_marks.specs.Named.{items_of}
-use Rattle.walrus_module.specs.Items.{Lives, LivesIn}
+use Rattle.walrus_linked.specs.walrus_module.Items.{Lives, LivesIn}
 use Rattle.walrus_linked.specs.Names.{named_by, type_names}
 use Rattle.walrus_linked.specs.Linked.{IsLinked}
-use Rattle.walrus_linked_edits.proofs.NameLemmas.{named_type}
+use Rattle.walrus_linked_edits.specs.Edits.{KindsNameLive}
+use Rattle.walrus_linked_edits.proofs.NameLemmas.{named_type, the_one}
 use Rattle.walrus_linked_edits.proofs.GrownTypes.{merged, in_space, types_grown, type_of_item, item_of_type}
 
 no_name : {P : Type 0} (name : ℕ) → Contains [] name → P
@@ -59,11 +60,11 @@ module _ (m : Module) (l : IsLinked m) (ty : ℕ) (lives : LivesIn m spaces.Type
       let second = merged block entry b t h.second_merges in
       let m1 : Module = record m { types = b } in
       let kept : (k : ℕ) → LivesIn m spaces.Type k → LivesIn m1 spaces.Type k = λ k x. let a = type_of_item (type_at m.types k) x in item_of_type (type_at b k) a.0 (first.0.kept k a.0 a.1) a.2 in
-      let new : kind.entry ≡ false → (name : ℕ) → Contains (kind_names kind) name → LivesIn m1 spaces.Type name = λ _ name has. kept name (names_live name has) in
-      let none : block.entry ≡ false → (name : ℕ) → Contains (kind_names block) name → LivesIn (record m { types = t }) spaces.Type name = λ e name has. absurd cc in
+      let new : KindsNameLive m1 (kind ∷ []) = λ k is plain name has. let N : Kind → Type 0 = λ x. Contains (kind_names x) name in kept name (names_live name (subst N (sym (the_one kind k is)) has)) in
+      let none : KindsNameLive (record m { types = t }) (block ∷ []) = λ k is plain name has. let entry : true ≡ false = ap (λ (x : Kind). x.entry) (the_one block k is) ∙ plain in absurd cc in
       record {
-        linked = types_grown m1 t block second.0 none (types_grown m b kind first.0 new l);
-        lives = λ y x. (in_space m1 t block second.0 none y.space).lives_kept y.id ((in_space m b kind first.0 new y.space).lives_kept y.id x);
+        linked = types_grown m1 t (block ∷ []) second.0 none (types_grown m b (kind ∷ []) first.0 new l);
+        lives = λ y x. (in_space m1 t (block ∷ []) second.0 none y.space).lives_kept y.id ((in_space m b (kind ∷ []) first.0 new y.space).lives_kept y.id x);
         ty = first.1.ty;
         live = second.0.kept id first.1.ty first.1.live;
         kind_is = first.1.kind_is;

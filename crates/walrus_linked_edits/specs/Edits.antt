@@ -7,6 +7,7 @@ use Rattle.walrus_forms.specs.declared.value.ValType.{ValType}
 use Rattle.walrus_forms.specs.declared.value.RefType.{RefType}
 use Rattle.walrus_forms.specs.Kinds.{Kind, kind_names}
 use Rattle.walrus_items.specs.declared.local.Local.{Local}
+use Rattle.walrus_types.specs.Groups.{AddsGroup}
 use Rattle.walrus_types.specs.Table.{Merges}
 use Rattle.walrus_instr.specs.declared.const_expr.ConstExpr.{ConstExpr}
 use Rattle.walrus_walks.specs.Events.{Event, NamesType, val_names, ref_names}
@@ -14,27 +15,31 @@ use Rattle.walrus_walks.specs.ConstEvents.{expr_names}
 use Rattle.walrus_builder.specs.Built.{Building}
 use Rattle.walrus_builder.specs.Functions.{seqs_of}
 use Rattle.walrus_tree.specs.Trees.{IsTree}
-use Rattle.walrus_local_function.specs.declared.local_function.LocalFunction.{LocalFunction}
-use Rattle.walrus_module_items.specs.declared.function.FunctionKind.TheVariants as functions
-use Rattle.walrus_module_items.specs.declared.global.GlobalKind.TheVariants as globals
-use Rattle.walrus_module_items.specs.declared.tag.TagKind.TheVariants as tags
-use Rattle.walrus_module_items.specs.declared.data.Data.{Data}
-use Rattle.walrus_module_items.specs.declared.element.Element.{Element}
-use Rattle.walrus_module_items.specs.declared.export.ExportItem.{ExportItem}
-use Rattle.walrus_collections.specs.Added.{Adds, IsExport, IsLocal, IsTable, IsMemory}
+use Rattle.walrus_linked.specs.walrus_local_function.declared.local_function.LocalFunction.{LocalFunction}
+use Rattle.walrus_linked.specs.walrus_module_items.declared.function.FunctionKind.TheVariants as functions
+use Rattle.walrus_linked.specs.walrus_module_items.declared.global.GlobalKind.TheVariants as globals
+use Rattle.walrus_linked.specs.walrus_module_items.declared.tag.TagKind.TheVariants as tags
+use Rattle.walrus_linked.specs.walrus_module_items.declared.data.Data.{Data}
+use Rattle.walrus_linked.specs.walrus_module_items.declared.element.Element.{Element}
+use Rattle.walrus_linked.specs.walrus_module_items.declared.export.ExportItem.{ExportItem}
+use Rattle.walrus_linked.specs.walrus_collections.Added.{Adds, IsExport, IsLocal, IsTable, IsMemory}
 use Rattle.wasm_formats.specs.declared.fault.Space.TheVariants as spaces
-use Rattle.walrus_module.specs.Parts.{Module}
-use Rattle.walrus_module.specs.Replaced.{IsExportReplaced, IsImportReplaced}
+use Rattle.walrus_linked.specs.walrus_module.Parts.{Module}
+use Rattle.walrus_linked.specs.walrus_module.Replaced.{IsExportReplaced, IsImportReplaced}
 use Rattle.walrus_roots.specs.declared.item.Item.{Item}
 use Rattle.walrus_roots.specs.Items.{item}
 use Rattle.walrus_marks.specs.Named.{items_of}
-use Rattle.walrus_module.specs.Items.{Lives, given_out}
+use Rattle.walrus_linked.specs.walrus_module.Items.{Lives, given_out}
 use Rattle.walrus_linked.specs.Names.{init_names, body_names, data_kind_names, element_names}
 use Rattle.walrus_linked.specs.Linked.{IsLinked, IsWhole}
 
 -- what these events name lives
 abbrev pub AreLive : Module → List Event → Type 0
 AreLive m events = (y : Item) → Contains (items_of events) y → Lives m y
+
+-- what types of these kinds name lives; an entry type is no item
+abbrev pub KindsNameLive : Module → List Kind → Type 0
+KindsNameLive m kinds = (kind : Kind) → Contains kinds kind → kind.entry ≡ false → (name : ℕ) → Contains (kind_names kind) name → Lives m (item spaces.Type name)
 
 -- each says of a call what it ensures where it answers an id; what the item names lives once it is added
 pub record AddsKeepLinked : Type 0 where
@@ -58,7 +63,9 @@ pub record AddsKeepLinked : Type 0 where
       → Lives m (given_out i) → IsLinked m → IsLinked n
   pub locals : (m n : Module) (local : Local) → n.locals ≡ m.locals ++ local ∷ [] → n ≡ record m { locals = n.locals } → IsLinked m → IsLinked n
   pub types : (m n : Module) (kind : Kind) (id : ℕ) → Merges kind id m.types n.types → n ≡ record m { types = n.types }
-      → (kind.entry ≡ false → (name : ℕ) → Contains (kind_names kind) name → Lives n (item spaces.Type name)) → IsLinked m → IsLinked n
+      → KindsNameLive n (kind ∷ []) → IsLinked m → IsLinked n
+  pub groups : (m n : Module) (explicit : Bool) (kinds : List Kind) → AddsGroup explicit kinds m.types n.types → n ≡ record m { types = n.types }
+      → KindsNameLive n kinds → IsLinked m → IsLinked n
 
 -- nothing names an export
 abbrev pub DeletedExportsKeepLinked : Type 0

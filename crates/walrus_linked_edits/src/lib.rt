@@ -7,8 +7,8 @@ use std::alloc::AllocError;
 use walrus_arena::LocalId;
 use walrus_builder::InstrSeqBuilder;
 
-/// A linked module to which an item, an export, a local or a type is added stays linked, where what is added names what
-/// lives; a function also has to be whole.
+/// A linked module to which an item, an export, a local, a type or a group of types is added stays linked, where what is added
+/// names what lives; a function also has to be whole.
 pub fn adds_keep_linked()
     ensures { AddsKeepLinked }
 {}

@@ -11,7 +11,7 @@ use walrus_instr::InstrSeq;
 /// A function with a body (Core Specification, functions): what was built, and the locals that are its arguments.
 #[derive(Drop)]
 pub struct LocalFunction {
-    builder: FunctionBuilder,
+    pub(crate) builder: FunctionBuilder,
     /// The locals that the parameters are, one each, in their order.
     pub args: Vec<LocalId>,
 }

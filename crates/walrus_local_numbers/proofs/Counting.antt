@@ -6,9 +6,9 @@ use Rattle.walrus_forms.specs.ValueOrder.{value_cmp}
 use Rattle.wasm_normal_form.specs.Locals.{Key, is_equal, runs_of, with_first}
 use Rattle.std.proofs.lemmas.List.{append_assoc, drop_more, map-append, take_more}
 use Rattle.wasm_ref_types.specs.declared.value.ValType.{ValType as WrittenValue}
-use Rattle.walrus_pairing.specs.Looks.{Or, ◌>>=◌}
-use Rattle.walrus_pairing.specs.Types.{written_value}
-use Rattle.walrus_pairing.specs.declared.error.PairError.{PairError}
+use Rattle.walrus_body_writer.specs.walrus_pairing.Looks.{Or, ◌>>=◌}
+use Rattle.walrus_body_writer.specs.walrus_pairing.Types.{written_value}
+use Rattle.walrus_body_writer.specs.walrus_pairing.declared.error.PairError.{PairError}
 use Rattle.walrus_local_numbers.specs.Declared.{add_last}
 use Rattle.walrus_local_numbers.specs.Written.{RefusesRun, WrittenRun, written_runs}
 use Rattle.walrus_local_numbers.proofs.Orders.{equal_from, equal_is, types_tie}

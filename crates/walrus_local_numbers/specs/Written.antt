@@ -5,15 +5,15 @@ use Rattle.std.specs.declared.vec.Vec.{Vec}
 use Rattle.wasm_ref_types.specs.declared.value.ValType.{ValType as WrittenValue}
 use Rattle.walrus_forms.specs.declared.value.ValType.{ValType}
 use Rattle.wasm_formats.specs.declared.fault.Space.TheVariants as spaces
-use Rattle.walrus_body_env.specs.declared.error.BodyError.{BodyError}
-use Rattle.walrus_body_env.specs.declared.error.BodyError.TheVariants as faults
+use Rattle.walrus_body_writer.specs.walrus_body_env.declared.error.BodyError.{BodyError}
+use Rattle.walrus_body_writer.specs.walrus_body_env.declared.error.BodyError.TheVariants as faults
 use Rattle.walrus_items.specs.declared.local.Local.{Local}
-use Rattle.walrus_pairing.specs.Answers.{IsValueAnswer}
-use Rattle.walrus_pairing.specs.Looks.{Or, ◌>>=◌}
-use Rattle.walrus_pairing.specs.Types.{written_value}
-use Rattle.walrus_pairing.specs.declared.error.PairError.{PairError}
-use Rattle.walrus_pairing.specs.declared.error.PairError.TheVariants as errors
-use Rattle.wasm_operator_bytes.specs.Bytes.{unsigned_bytes, value_bytes, vec_bytes}
+use Rattle.walrus_body_writer.specs.walrus_pairing.Answers.{IsValueAnswer}
+use Rattle.walrus_body_writer.specs.walrus_pairing.Looks.{Or, ◌>>=◌}
+use Rattle.walrus_body_writer.specs.walrus_pairing.Types.{written_value}
+use Rattle.walrus_body_writer.specs.walrus_pairing.declared.error.PairError.{PairError}
+use Rattle.walrus_body_writer.specs.walrus_pairing.declared.error.PairError.TheVariants as errors
+use Rattle.walrus_operator_writer.specs.wasm_operator_bytes.Bytes.{unsigned_bytes, value_bytes, vec_bytes}
 use Rattle.walrus_body_writer.specs.Refusals.{fault_of}
 use Rattle.wasm_normal_form.specs.Locals.{Key}
 use Rattle.walrus_local_numbers.specs.Declared.{declared, has_lost, has_number, is_lost, key_at}

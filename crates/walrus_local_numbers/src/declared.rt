@@ -8,7 +8,7 @@ ghost use Rattle.walrus_local_numbers.specs.Written.{Finds, IsUnknown};
 use crate::numbers::is_argument;
 use std::alloc::{AllocError, Global};
 use walrus_arena::{FunctionId, LocalId, LocalSpace};
-use walrus_body_env::BodyError;
+use walrus_body_writer::body_env::BodyError;
 use walrus_forms::ValType;
 use walrus_index_maps::IdsToIndices;
 use walrus_items::Local;

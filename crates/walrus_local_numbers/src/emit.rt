@@ -12,7 +12,7 @@ use crate::numbers::number;
 use crate::runs::{runs, write, written};
 use std::alloc::Global;
 use walrus_arena::{FunctionId, LocalId};
-use walrus_body_env::BodyError;
+use walrus_body_writer::body_env::BodyError;
 use walrus_body_writer::fault_of;
 use walrus_index_maps::IdsToIndices;
 use walrus_items::ModuleLocals;

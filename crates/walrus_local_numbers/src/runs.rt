@@ -9,10 +9,10 @@ ghost use Rattle.walrus_local_numbers.specs.Written.{IsWrittenRuns, run_bytes, r
 
 use crate::declared::Key;
 use std::alloc::{AllocError, Global};
+use walrus_body_writer::pairing::{PairError, write_value};
 use walrus_forms::ValType;
 use walrus_index_maps::IdsToIndices;
 use walrus_operator_writer::{write_unsigned, write_value_type};
-use walrus_pairing::{PairError, write_value};
 use wasm_ref_types::ValType as WrittenType;
 
 // So many locals of a type.

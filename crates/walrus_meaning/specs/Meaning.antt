@@ -9,33 +9,33 @@ use Rattle.walrus_forms.specs.Records.{TypeGroup}
 use Rattle.walrus_items.specs.declared.local.Local.{Local}
 use Rattle.walrus_types.specs.Items.{Item as TypeItem, Group}
 use Rattle.walrus_types.specs.Table.{Table as TypeTable, type_at}
-use Rattle.walrus_module_items.specs.declared.import.Import.{Import}
-use Rattle.walrus_module_items.specs.declared.import.ImportKind.{ImportKind}
-use Rattle.walrus_module_items.specs.declared.import.ImportKind.TheVariants as kinds
-use Rattle.walrus_module_items.specs.declared.export.Export.{Export}
-use Rattle.walrus_module_items.specs.declared.export.ExportItem.{ExportItem}
-use Rattle.walrus_module_items.specs.declared.export.ExportItem.TheVariants as exported
-use Rattle.walrus_module_items.specs.declared.function.Function.{Function}
-use Rattle.walrus_module_items.specs.declared.function.FunctionKind.{FunctionKind}
-use Rattle.walrus_module_items.specs.declared.function.FunctionKind.TheVariants as functions
-use Rattle.walrus_module_items.specs.declared.table.Table.{Table}
-use Rattle.walrus_module_items.specs.declared.memory.Memory.{Memory}
-use Rattle.walrus_module_items.specs.declared.global.Global.{Global}
-use Rattle.walrus_module_items.specs.declared.global.GlobalKind.{GlobalKind}
-use Rattle.walrus_module_items.specs.declared.global.GlobalKind.TheVariants as globals
-use Rattle.walrus_module_items.specs.declared.tag.Tag.{Tag}
-use Rattle.walrus_module_items.specs.declared.data.Data.{Data}
-use Rattle.walrus_module_items.specs.declared.data.DataKind.{DataKind}
-use Rattle.walrus_module_items.specs.declared.data.DataKind.TheVariants as datas
-use Rattle.walrus_module_items.specs.declared.element.Element.{Element}
-use Rattle.walrus_module_items.specs.declared.element.ElementKind.{ElementKind}
-use Rattle.walrus_module_items.specs.declared.element.ElementKind.TheVariants as elements
-use Rattle.walrus_module_items.specs.declared.element.ElementItems.{ElementItems}
-use Rattle.walrus_module_items.specs.declared.element.ElementItems.TheVariants as holds
-use Rattle.walrus_module_items.specs.Functions.{type_of}
+use Rattle.walrus_linked.specs.walrus_module_items.declared.import.Import.{Import}
+use Rattle.walrus_linked.specs.walrus_module_items.declared.import.ImportKind.{ImportKind}
+use Rattle.walrus_linked.specs.walrus_module_items.declared.import.ImportKind.TheVariants as kinds
+use Rattle.walrus_linked.specs.walrus_module_items.declared.export.Export.{Export}
+use Rattle.walrus_linked.specs.walrus_module_items.declared.export.ExportItem.{ExportItem}
+use Rattle.walrus_linked.specs.walrus_module_items.declared.export.ExportItem.TheVariants as exported
+use Rattle.walrus_linked.specs.walrus_module_items.declared.function.Function.{Function}
+use Rattle.walrus_linked.specs.walrus_module_items.declared.function.FunctionKind.{FunctionKind}
+use Rattle.walrus_linked.specs.walrus_module_items.declared.function.FunctionKind.TheVariants as functions
+use Rattle.walrus_linked.specs.walrus_module_items.declared.table.Table.{Table}
+use Rattle.walrus_linked.specs.walrus_module_items.declared.memory.Memory.{Memory}
+use Rattle.walrus_linked.specs.walrus_module_items.declared.global.Global.{Global}
+use Rattle.walrus_linked.specs.walrus_module_items.declared.global.GlobalKind.{GlobalKind}
+use Rattle.walrus_linked.specs.walrus_module_items.declared.global.GlobalKind.TheVariants as globals
+use Rattle.walrus_linked.specs.walrus_module_items.declared.tag.Tag.{Tag}
+use Rattle.walrus_linked.specs.walrus_module_items.declared.data.Data.{Data}
+use Rattle.walrus_linked.specs.walrus_module_items.declared.data.DataKind.{DataKind}
+use Rattle.walrus_linked.specs.walrus_module_items.declared.data.DataKind.TheVariants as datas
+use Rattle.walrus_linked.specs.walrus_module_items.declared.element.Element.{Element}
+use Rattle.walrus_linked.specs.walrus_module_items.declared.element.ElementKind.{ElementKind}
+use Rattle.walrus_linked.specs.walrus_module_items.declared.element.ElementKind.TheVariants as elements
+use Rattle.walrus_linked.specs.walrus_module_items.declared.element.ElementItems.{ElementItems}
+use Rattle.walrus_linked.specs.walrus_module_items.declared.element.ElementItems.TheVariants as holds
+use Rattle.walrus_linked.specs.walrus_module_items.Functions.{type_of}
 use Rattle.wasm_formats.specs.declared.fault.Space.TheVariants as spaces
 use Rattle.wasm_grammar.specs.Modules as grammar
-use Rattle.walrus_module.specs.Parts.{Module}
+use Rattle.walrus_linked.specs.walrus_module.Parts.{Module}
 use Rattle.walrus_linked.specs.Linked.{tag_import}
 use Rattle.walrus_meaning.specs.Words.{own_expr}
 use Rattle.walrus_meaning.specs.Bodies.{own_body}

@@ -3,13 +3,13 @@ use Rattle.std.specs.Prelude.{◌≡◌, ◌⊎◌, ℕ, Some, Contains}
 use Rattle.std.specs.HashSet.{keys}
 use Rattle.walrus_arena.specs.Arena.{IsLive, item_at}
 use Rattle.walrus_instr.specs.declared.const_expr.ConstExpr.{ConstExpr}
-use Rattle.walrus_module_items.specs.declared.table.Table.{Table}
-use Rattle.walrus_module_items.specs.declared.memory.Memory.{Memory}
-use Rattle.walrus_module_items.specs.declared.data.Data.{Data}
-use Rattle.walrus_module_items.specs.declared.data.DataKind.TheVariants as datas
-use Rattle.walrus_module_items.specs.declared.element.Element.{Element}
-use Rattle.walrus_module_items.specs.declared.element.ElementKind.TheVariants as elements
-use Rattle.walrus_module.specs.Parts.{Module}
+use Rattle.walrus_linked.specs.walrus_module_items.declared.table.Table.{Table}
+use Rattle.walrus_linked.specs.walrus_module_items.declared.memory.Memory.{Memory}
+use Rattle.walrus_linked.specs.walrus_module_items.declared.data.Data.{Data}
+use Rattle.walrus_linked.specs.walrus_module_items.declared.data.DataKind.TheVariants as datas
+use Rattle.walrus_linked.specs.walrus_module_items.declared.element.Element.{Element}
+use Rattle.walrus_linked.specs.walrus_module_items.declared.element.ElementKind.TheVariants as elements
+use Rattle.walrus_linked.specs.walrus_module.Parts.{Module}
 
 -- the live element segment is active in the table
 pub record IsActiveIn (m : Module) (table e : ℕ) : Type 0 where

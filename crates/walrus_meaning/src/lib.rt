@@ -1,8 +1,12 @@
 //! What a module means: the abstract module of the standard's grammar, whose numbers are ids.
 #![tactic(auto)]
 
+// Passed on to crates above, which then list this one alone.
 ghost use Rattle.walrus_meaning.specs.Laws.{EmptyMeansEmpty, ItemsAreSeen, DeletesAreSeen, AddsAreSeen};
 ghost use Rattle.walrus_arena.specs.Arena.{Arena};
+
+pub use walrus_linked as linked;
+pub use walrus_linked::module;
 
 /// A module without items and groups means the empty module.
 pub fn empty_means_empty()

@@ -2,10 +2,10 @@
 use Rattle.std.proofs.Common.{◌≡◌, ◌∙◌, ℕ, Option, Some, IfSome, ap, subst}
 use Rattle.std.specs.Option.{option_and_then}
 use Rattle.walrus_arena.specs.Arena.{Arena, item_at}
-use Rattle.walrus_local_function.specs.declared.local_function.LocalFunction.{LocalFunction}
-use Rattle.walrus_module_items.specs.declared.function.Function.{Function}
-use Rattle.walrus_module_items.specs.declared.function.FunctionKind.TheVariants.{Local}
-use Rattle.walrus_module_items.specs.Functions.{local_of}
+use Rattle.walrus_collections.specs.walrus_local_function.declared.local_function.LocalFunction.{LocalFunction}
+use Rattle.walrus_collections.specs.walrus_module_items.declared.function.Function.{Function}
+use Rattle.walrus_collections.specs.walrus_module_items.declared.function.FunctionKind.TheVariants.{Local}
+use Rattle.walrus_collections.specs.walrus_module_items.Functions.{local_of}
 use Rattle.walrus_module.specs.Replaced.{body_at}
 
 -- a live function's body is the one that is found

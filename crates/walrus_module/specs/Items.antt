@@ -5,13 +5,13 @@ use Rattle.wasm_formats.specs.declared.fault.Space.TheVariants as spaces
 use Rattle.walrus_arena.specs.Arena.{IsLive}
 use Rattle.walrus_items.specs.Items.{Item as TypeItem}
 use Rattle.walrus_types.specs.Table.{Table as TypeTable, type_at}
-use Rattle.walrus_module_items.specs.declared.import.ImportKind.{ImportKind}
-use Rattle.walrus_module_items.specs.declared.import.ImportKind.TheVariants as kinds
-use Rattle.walrus_module_items.specs.declared.export.ExportItem.{ExportItem}
-use Rattle.walrus_module_items.specs.declared.export.ExportItem.TheVariants as exported
+use Rattle.walrus_collections.specs.walrus_module_items.declared.import.ImportKind.{ImportKind}
+use Rattle.walrus_collections.specs.walrus_module_items.declared.import.ImportKind.TheVariants as kinds
+use Rattle.walrus_collections.specs.walrus_module_items.declared.export.ExportItem.{ExportItem}
+use Rattle.walrus_collections.specs.walrus_module_items.declared.export.ExportItem.TheVariants as exported
 use Rattle.walrus_module.specs.Parts.{Module}
-use Rattle.walrus_roots.specs.declared.item.Item.{Item}
-use Rattle.walrus_roots.specs.Items.{item}
+use Rattle.walrus_sections.specs.walrus_roots.declared.item.Item.{Item}
+use Rattle.walrus_sections.specs.walrus_roots.Items.{item}
 
 -- a type that is no entry type: entry types stand for bodies' own blocks and are no items
 abbrev pub written : Option TypeItem → Option TypeItem

@@ -8,15 +8,15 @@ use Rattle.walrus_types.specs.Table.{Table as Types}
 use Rattle.walrus_items.specs.declared.local.Local.{Local}
 use Rattle.walrus_config.specs.declared.config.ModuleConfig.{ModuleConfig}
 use Rattle.walrus_customs.specs.declared.producers.ProducerField.{ProducerField}
-use Rattle.walrus_module_items.specs.declared.import.Import.{Import}
-use Rattle.walrus_module_items.specs.declared.table.Table.{Table}
-use Rattle.walrus_module_items.specs.declared.function.Function.{Function}
-use Rattle.walrus_module_items.specs.declared.global.Global.{Global as GlobalItem}
-use Rattle.walrus_module_items.specs.declared.export.Export.{Export}
-use Rattle.walrus_module_items.specs.declared.memory.Memory.{Memory}
-use Rattle.walrus_module_items.specs.declared.tag.Tag.{Tag}
-use Rattle.walrus_module_items.specs.declared.data.Data.{Data}
-use Rattle.walrus_module_items.specs.declared.element.Element.{Element}
+use Rattle.walrus_collections.specs.walrus_module_items.declared.import.Import.{Import}
+use Rattle.walrus_collections.specs.walrus_module_items.declared.table.Table.{Table}
+use Rattle.walrus_collections.specs.walrus_module_items.declared.function.Function.{Function}
+use Rattle.walrus_collections.specs.walrus_module_items.declared.global.Global.{Global as GlobalItem}
+use Rattle.walrus_collections.specs.walrus_module_items.declared.export.Export.{Export}
+use Rattle.walrus_collections.specs.walrus_module_items.declared.memory.Memory.{Memory}
+use Rattle.walrus_collections.specs.walrus_module_items.declared.tag.Tag.{Tag}
+use Rattle.walrus_collections.specs.walrus_module_items.declared.data.Data.{Data}
+use Rattle.walrus_collections.specs.walrus_module_items.declared.element.Element.{Element}
 use Rattle.walrus_module.specs.declared.module.Module.{Module as Whole}
 
 pub record Module : Type 0 where

@@ -16,15 +16,15 @@ use Rattle.walrus_types.specs.Pairs.{MergesBoth}
 use Rattle.walrus_builder.specs.declared.function.FunctionBuilder.{FunctionBuilder}
 use Rattle.walrus_builder.specs.Built.{Building}
 use Rattle.walrus_builder.specs.Functions.{seqs_of, IsNew}
-use Rattle.walrus_local_function.specs.declared.local_function.LocalFunction.{LocalFunction}
-use Rattle.walrus_module_items.specs.declared.export.Export.{Export}
-use Rattle.walrus_module_items.specs.declared.export.ExportItem.TheVariants as items
-use Rattle.walrus_module_items.specs.declared.import.Import.{Import}
-use Rattle.walrus_module_items.specs.declared.import.ImportKind.TheVariants as kinds
-use Rattle.walrus_module_items.specs.declared.function.Function.{Function}
-use Rattle.walrus_module_items.specs.declared.function.FunctionKind.TheVariants as functions
-use Rattle.walrus_module_items.specs.declared.function.ImportedFunction.{ImportedFunction}
-use Rattle.walrus_module_items.specs.Functions.{type_of, local_of, imported_of}
+use Rattle.walrus_collections.specs.walrus_local_function.declared.local_function.LocalFunction.{LocalFunction}
+use Rattle.walrus_collections.specs.walrus_module_items.declared.export.Export.{Export}
+use Rattle.walrus_collections.specs.walrus_module_items.declared.export.ExportItem.TheVariants as items
+use Rattle.walrus_collections.specs.walrus_module_items.declared.import.Import.{Import}
+use Rattle.walrus_collections.specs.walrus_module_items.declared.import.ImportKind.TheVariants as kinds
+use Rattle.walrus_collections.specs.walrus_module_items.declared.function.Function.{Function}
+use Rattle.walrus_collections.specs.walrus_module_items.declared.function.FunctionKind.TheVariants as functions
+use Rattle.walrus_collections.specs.walrus_module_items.declared.function.ImportedFunction.{ImportedFunction}
+use Rattle.walrus_collections.specs.walrus_module_items.Functions.{type_of, local_of, imported_of}
 use Rattle.walrus_collections.specs.Added.{Adds, IsLocal}
 use Rattle.walrus_collections.specs.Tests.{exports, imports}
 use Rattle.walrus_module.specs.Parts.{Module}

@@ -1,17 +1,17 @@
 //! Adding imports with their items. All memory is taken before anything is added, so that a refused call adds neither.
 ghost use Rattle.std.specs.Prelude.{◌≡◌, ◌≤◌, ◌+◌, [], ◌∷◌, ◌++◌, IfOk, OnErr, None, Some};
 ghost use Rattle.walrus_arena.specs.Arena.{next_id};
-ghost use Rattle.walrus_module_items.specs.declared.import.ImportKind.TheVariants as kinds;
-ghost use Rattle.walrus_module_items.specs.declared.function.FunctionKind.TheVariants as functions;
-ghost use Rattle.walrus_module_items.specs.declared.global.GlobalKind.TheVariants as globals;
-ghost use Rattle.walrus_module_items.specs.declared.tag.TagKind.TheVariants as tags;
+ghost use Rattle.walrus_collections.specs.walrus_module_items.declared.import.ImportKind.TheVariants as kinds;
+ghost use Rattle.walrus_collections.specs.walrus_module_items.declared.function.FunctionKind.TheVariants as functions;
+ghost use Rattle.walrus_collections.specs.walrus_module_items.declared.global.GlobalKind.TheVariants as globals;
+ghost use Rattle.walrus_collections.specs.walrus_module_items.declared.tag.TagKind.TheVariants as tags;
 ghost use Rattle.walrus_collections.specs.Added.{Adds, IsImport, IsTable, IsMemory};
 
 use crate::module::Module;
 use std::alloc::AllocError;
 use walrus_arena::{FunctionId, GlobalId, ImportId, MemoryId, TableId, TagId, TypeId};
+use walrus_collections::module_items::ImportKind;
 use walrus_forms::{RefType, ValType};
-use walrus_module_items::ImportKind;
 
 impl Module {
     /// Adds a function of this type and the import that brings it, and gives the ids of both.

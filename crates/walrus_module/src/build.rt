@@ -7,9 +7,9 @@ ghost use Rattle.walrus_module.specs.Replaced.{IsBuilt, MayAddTypes, arguments, 
 use std::alloc::{AllocError, Global};
 use walrus_arena::{LocalId, TypeId};
 use walrus_builder::{FunctionBuilder, InstrSeqBuilder};
+use walrus_collections::local_function::LocalFunction;
 use walrus_forms::ValType;
 use walrus_items::ModuleLocals;
-use walrus_local_function::LocalFunction;
 use walrus_types::ModuleTypes;
 
 // A function of these parameters and results with these arguments, whose body the closure fills.

@@ -7,3 +7,7 @@ mod module;
 mod replace;
 
 pub use module::Module;
+
+// Passed on to crates above, which then list this one alone.
+pub use walrus_collections as collections;
+pub use walrus_collections::{local_function, module_items};

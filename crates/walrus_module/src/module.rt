@@ -6,6 +6,7 @@ ghost use Rattle.walrus_collections.specs.LookUps.{items};
 
 use std::alloc::Global;
 use walrus_arena::{FunctionId, FunctionSpace, MemoryId};
+use walrus_collections::module_items::Function;
 use walrus_collections::{
     Items, ModuleData, ModuleElements, ModuleExports, ModuleFunctions, ModuleGlobals,
     ModuleImports, ModuleMemories, ModuleTables, ModuleTags,
@@ -14,7 +15,6 @@ use walrus_config::ModuleConfig;
 use walrus_customs::ModuleProducers;
 use walrus_errors::{ModuleError, Result};
 use walrus_items::ModuleLocals;
-use walrus_module_items::Function;
 use walrus_sections::ModuleCustomSections;
 use walrus_types::ModuleTypes;
 

@@ -1,8 +1,8 @@
 //! Putting a function in the place of an exported or an imported one.
 ghost use Rattle.std.specs.Prelude.{◌≡◌, ◌↔◌, IsTrue, Err, None, Some, IsSome, IfSome, IfOk, IfErr, OnErr};
 ghost use Rattle.walrus_arena.specs.Arena.{IsLive, item_at, with_item};
-ghost use Rattle.walrus_module_items.specs.declared.export.Export.{Export};
-ghost use Rattle.walrus_module_items.specs.declared.function.FunctionKind.TheVariants as functions;
+ghost use Rattle.walrus_collections.specs.walrus_module_items.declared.export.Export.{Export};
+ghost use Rattle.walrus_collections.specs.walrus_module_items.declared.function.FunctionKind.TheVariants as functions;
 ghost use Rattle.walrus_errors.specs.declared.error.ModuleError.TheVariants.{NotFound, WrongKind, Memory};
 ghost use Rattle.walrus_module.specs.Parts.{parts};
 ghost use Rattle.walrus_module.specs.Replaced.{IsTyped, export_of, import_of, body_at, imported_at, MayAddTypesOf, MayAddArguments, IsExportReplaced, IsImportReplaced};
@@ -12,10 +12,10 @@ use crate::module::Module;
 use std::alloc::AllocError;
 use walrus_arena::{ExportId, FunctionId, LocalId};
 use walrus_builder::InstrSeqBuilder;
+use walrus_collections::local_function::LocalFunction;
+use walrus_collections::module_items::{ExportItem, FunctionKind, ImportKind};
 use walrus_collections::{ExportOf, ImportOf, ModuleExports, ModuleFunctions};
 use walrus_errors::{ModuleError, Result};
-use walrus_local_function::LocalFunction;
-use walrus_module_items::{ExportItem, FunctionKind, ImportKind};
 
 // Gives a live function this body.
 fn give_body(funcs: &mut ModuleFunctions, function: FunctionId, local: LocalFunction)

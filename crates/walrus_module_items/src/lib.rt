@@ -20,3 +20,6 @@ pub use import::{Import, ImportKind};
 pub use memory::Memory;
 pub use table::Table;
 pub use tag::{Tag, TagKind};
+
+// Passed on to crates above, which then list this one alone.
+pub use walrus_local_function as local_function;

@@ -11,3 +11,8 @@ pub use binary::{binary_of, code_of_binary, lane_of_binary};
 pub use code::{atomic, bulk, byte, object, pick, vector};
 pub use ternary::{code_of_ternary, ternary_of};
 pub use unary::{code_of_unary, lane_of_unary, unary_of};
+
+// Passed on to crates above, which then list this one alone.
+pub use walrus_instr as instr;
+pub use walrus_instr::type_table;
+pub use wasm_operators as operator_table;

@@ -2,7 +2,7 @@
 use Rattle.std.specs.Prelude.{◌≡◌, ◌≢◌, ◌||◌, not, Bool, true, false, List, [], ◌∷◌, Option, Some, None, Ok, Err, refl}
 use Rattle.std.specs.Option.{is_some, option_map}
 use Rattle.std.proofs.Common.{subst}
-use Rattle.wasm_reader.specs.Floats.{seen_bits32, seen_bits64}
+use Rattle.wasm_ref_types.specs.wasm_reader.Floats.{seen_bits32, seen_bits64}
 use Rattle.wasm_ref_types.specs.declared.value.ValType.{ValType as WrittenValue}
 use Rattle.wasm_immediates.specs.Items.{Types, Functions, Tables, Memories, Tags, Globals, ElementSegments, DataSegments, Locals}
 use Rattle.wasm_operators.specs.declared.entry.Kind.{Kind}
@@ -10,10 +10,10 @@ use Rattle.wasm_operators.specs.declared.op_code.OpCode.{OpCode}
 use Rattle.walrus_instr.specs.declared.instr.Value.TheVariants as constants
 use Rattle.walrus_instr.specs.declared.instr.Instr.{Instr}
 use Rattle.walrus_instr.specs.declared.instr.Instr.TheVariants as instrs
-use Rattle.walrus_operators.specs.declared.immediates.Immediates.{Immediates}
-use Rattle.walrus_operators.specs.declared.immediates.Immediates.TheVariants as imm
-use Rattle.walrus_operators.specs.Immediates.{items_of, kind_is}
-use Rattle.walrus_access_codes.specs.Access.{simd_at}
+use Rattle.walrus_pairing.specs.walrus_operators.declared.immediates.Immediates.{Immediates}
+use Rattle.walrus_pairing.specs.walrus_operators.declared.immediates.Immediates.TheVariants as imm
+use Rattle.walrus_pairing.specs.walrus_operators.Immediates.{items_of, kind_is}
+use Rattle.walrus_pairing.specs.walrus_access_codes.Access.{simd_at}
 use Rattle.walrus_pairing.specs.declared.error.PairError.TheVariants as errors
 use Rattle.walrus_pairing.specs.Looks.{Look, Or, ◌>>=◌, found}
 use Rattle.walrus_pairing.specs.Types.{read_heap, read_value, named}

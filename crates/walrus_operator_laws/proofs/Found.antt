@@ -4,7 +4,7 @@ use Rattle.std.proofs.Common.{ap, sym, subst, arith, inl, inr}
 use Rattle.std.proofs.lemmas.Bool.{cases_Bool, and_parts, leb-true, eqb-true}
 use Rattle.wasm_operators.specs.declared.op_code.OpCode.{OpCode}
 use Rattle.wasm_operators.specs.Operators.{op_code}
-use Rattle.walrus_operator_codes.specs.Runs.{Run, in_runs}
+use Rattle.walrus_pairing.specs.walrus_operator_codes.Runs.{Run, in_runs}
 
 -- ---- what runs have
 

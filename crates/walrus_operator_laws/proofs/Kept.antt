@@ -12,7 +12,7 @@ use Rattle.wasm_operators.specs.Table.{find_code, structure_rows, call_rows, pla
 use Rattle.wasm_operators.specs.Kinds.{forms}
 use Rattle.wasm_operators.specs.Operators.{is_on, kind_of, Seen}
 use Rattle.wasm_operator_ranges.specs.Ranges.{ItemFits, ItemsFit, OperatorFits}
-use Rattle.walrus_operator_codes.specs.Runs.{byte}
+use Rattle.walrus_pairing.specs.walrus_operator_codes.Runs.{byte}
 use Rattle.walrus_operator_laws.proofs.Rows.{TablePasses, table_holds}
 
 -- the code of `select` with types

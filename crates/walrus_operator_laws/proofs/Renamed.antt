@@ -18,8 +18,8 @@ use Rattle.walrus_instr.specs.declared.instr.Value.TheVariants as constants
 use Rattle.walrus_instr.specs.declared.instr.Instr.{Instr}
 use Rattle.walrus_instr.specs.declared.instr.Instr.TheVariants as instrs
 use Rattle.walrus_instr.specs.declared.memory.MemArg.{MemArg}
-use Rattle.walrus_operator_codes.specs.Runs.{byte}
-use Rattle.walrus_access_codes.specs.Access.{simd_at}
+use Rattle.walrus_pairing.specs.walrus_operator_codes.Runs.{byte}
+use Rattle.walrus_pairing.specs.walrus_access_codes.Access.{simd_at}
 use Rattle.walrus_pairing.specs.Looks.{Look, ◌>>=◌, found}
 use Rattle.walrus_pairing.specs.Types.{read_heap, read_value, named}
 use Rattle.walrus_pairing.specs.Write.{op, operator_at, lane_items}
@@ -29,7 +29,7 @@ use Rattle.walrus_operator_laws.proofs.Forth.{bytes_found, objects_found, name_f
 use Rattle.walrus_operator_laws.proofs.Codes.{by_rows}
 use Rattle.walrus_operator_laws.proofs.Bytes.{bytes_again}
 use Rattle.walrus_operator_laws.proofs.Kept.{IsKept, operator_kept}
-use Rattle.walrus_operator_codes.specs.Runs.{vector, atomic}
+use Rattle.walrus_pairing.specs.walrus_operator_codes.Runs.{vector, atomic}
 use Rattle.walrus_pairing.specs.declared.error.PairError.TheVariants as errors
 use Rattle.walrus_operator_laws.proofs.Types.{heap_again, value_again}
 use Rattle.walrus_operator_laws.proofs.Nothing.{Back, numeric_back, nothing_back}

@@ -3,7 +3,7 @@ use Rattle.std.specs.Prelude.{ℕ, zero, suc, ◌+◌, ◌≡◌, ◌==◌, ◌�
 use Rattle.std.proofs.Common.{ap, sym, subst, ◌∙◌, arith, inl, inr}
 use Rattle.std.proofs.lemmas.Bool.{cases_Bool, eqb-true, eq-eqb}
 use Rattle.std.proofs.lemmas.List.{append_assoc}
-use Rattle.walrus_index_maps.specs.Maps.{Numbering, unnumbered, next_numbered}
+use Rattle.walrus_pairing.specs.walrus_index_maps.Maps.{Numbering, unnumbered, next_numbered}
 use Rattle.walrus_operator_laws.specs.Turns.{numbered_in_turn, AreNew, IsInTurn, TurnsNumber}
 
 -- what stands at a place of a list with one more

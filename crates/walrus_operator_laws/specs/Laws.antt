@@ -8,9 +8,9 @@ use Rattle.wasm_operators.specs.Operators.{Seen}
 use Rattle.wasm_operator_names.specs.Names.{Renaming, renamed_operator}
 use Rattle.wasm_operator_ranges.specs.Ranges.{OperatorFits}
 use Rattle.walrus_instr.specs.declared.instr.Instr.{Instr}
-use Rattle.walrus_operators.specs.declared.operator.Operator.{Operator}
-use Rattle.walrus_operators.specs.Immediates.{kind_is}
-use Rattle.walrus_operators.specs.Operators.{seen}
+use Rattle.walrus_pairing.specs.walrus_operators.declared.operator.Operator.{Operator}
+use Rattle.walrus_pairing.specs.walrus_operators.Immediates.{kind_is}
+use Rattle.walrus_pairing.specs.walrus_operators.Operators.{seen}
 use Rattle.walrus_pairing.specs.Looks.{Look}
 use Rattle.walrus_pairing.specs.Write.{operator_at}
 use Rattle.walrus_pairing.specs.Read.{instr_at}

@@ -1,6 +1,6 @@
 -- Ids that are numbered in turn.
 use Rattle.std.specs.Prelude.{ℕ, ◌≡◌, ◌↔◌, List, [], ◌∷◌, length, slice_get, Some, None}
-use Rattle.walrus_index_maps.specs.Maps.{Numbering, unnumbered, next_numbered}
+use Rattle.walrus_pairing.specs.walrus_index_maps.Maps.{Numbering, unnumbered, next_numbered}
 
 -- each has the next number
 abbrev pub numbered_in_turn : List ℕ → Numbering → Numbering

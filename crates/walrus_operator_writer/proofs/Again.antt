@@ -1,14 +1,14 @@
 -- Operators that are written are read again, and those that were read can be written.
 use Rattle.std.proofs.Common.{◌≡◌, ℕ, inl, inr, List, Option, Some, None, Result, Ok, Err, sym, ap, ◌∙◌, subst}
-use Rattle.wasm_features.specs.declared.WasmFeatures.{WasmFeatures}
-use Rattle.wasm_reader.specs.Cursor.{Cursor, rest}
-use Rattle.wasm_reader.specs.Reading.{Reading}
+use Rattle.wasm_ref_types.specs.wasm_features.declared.WasmFeatures.{WasmFeatures}
+use Rattle.wasm_ref_types.specs.wasm_reader.Cursor.{Cursor, rest}
+use Rattle.wasm_ref_types.specs.wasm_reader.Reading.{Reading}
 use Rattle.wasm_operators.specs.declared.entry.Kind.{Kind}
 use Rattle.wasm_operators.specs.declared.op_code.OpCode.{OpCode}
 use Rattle.wasm_operators.specs.Kinds.{forms}
 use Rattle.wasm_operators.specs.Operators.{kind_of, Seen, operator_at}
 use Rattle.wasm_operators.specs.Taken.{either_taken}
-use Rattle.wasm_operator_bytes.specs.Vecs.{parts_small}
+use Rattle.wasm_operator_ranges.specs.wasm_operator_bytes.Vecs.{parts_small}
 use Rattle.wasm_operator_ranges.specs.Ranges.{OperatorFits, ItemsFit}
 use Rattle.wasm_operator_ranges.proofs.Operators.{operator_fits, operator_written}
 use Rattle.walrus_operators.specs.declared.operator.Operator.{Operator}

@@ -1,11 +1,11 @@
 -- What is written for an operator, and read again.
 use Rattle.std.specs.Prelude.{ℕ, ◌<◌, ◌≤◌, ◌≡◌, List, ◌++◌, length, All, Some, Result, Ok, Err}
-use Rattle.wasm_features.specs.declared.WasmFeatures.{WasmFeatures}
-use Rattle.wasm_reader.specs.Cursor.{Cursor, rest}
+use Rattle.wasm_ref_types.specs.wasm_features.declared.WasmFeatures.{WasmFeatures}
+use Rattle.wasm_ref_types.specs.wasm_reader.Cursor.{Cursor, rest}
 use Rattle.wasm_operators.specs.Kinds.{forms}
 use Rattle.wasm_operators.specs.Operators.{kind_of}
 use Rattle.wasm_operators.specs.Spellings.{SpellsOperator}
-use Rattle.wasm_operator_bytes.specs.Bytes.{operator_bytes}
+use Rattle.wasm_operator_ranges.specs.wasm_operator_bytes.Bytes.{operator_bytes}
 use Rattle.wasm_operator_ranges.specs.Ranges.{ItemsFit}
 use Rattle.walrus_operators.specs.declared.operator.Operator.{Operator}
 use Rattle.walrus_operators.specs.declared.reader.OperatorError.{OperatorError}

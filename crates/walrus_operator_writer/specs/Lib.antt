@@ -1,3 +1,5 @@
 pub mod Signs
 pub mod Appended
 pub mod Laws
+-- Passed on to crates above, which then list this one alone.
+pub use Rattle.wasm_operator_ranges.specs.wasm_operator_bytes as wasm_operator_bytes

@@ -3,7 +3,7 @@
 ghost use Rattle.std.specs.Prelude.{◌++◌};
 ghost use Rattle.walrus_operators.specs.Immediates.{items_of};
 ghost use Rattle.walrus_operator_writer.specs.Appended.{Appends, AppendsItems};
-ghost use Rattle.wasm_operator_bytes.specs.Bytes.{access_bytes, clause_bytes, unsigned_bytes, value_bytes, vec_bytes};
+ghost use Rattle.wasm_operator_ranges.specs.wasm_operator_bytes.Bytes.{access_bytes, clause_bytes, unsigned_bytes, value_bytes, vec_bytes};
 
 use crate::number::{
     write_bits32, write_bits64, write_byte, write_bytes, write_signed, write_unsigned,

@@ -1,6 +1,6 @@
 //! Laws: functions with nothing to do, whose contracts hold of all operators.
 
-ghost use Rattle.wasm_features.specs.declared.WasmFeatures.{WasmFeatures};
+ghost use Rattle.wasm_ref_types.specs.wasm_features.declared.WasmFeatures.{WasmFeatures};
 ghost use Rattle.walrus_operator_writer.specs.Laws.{IsShortest, IsReadAgain, ReadIsWritable};
 
 /// What is written for an operator whose immediates are of its code's kind, in their ranges, spells it, and no spelling is shorter.

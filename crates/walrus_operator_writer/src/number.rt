@@ -1,7 +1,7 @@
 //! Numbers are written (Core Specification, binary format, values: integers).
 
 ghost use Rattle.std.specs.Prelude.{◌≡◌, ◌<◌, ◌^◌, ◌-◌, [], ◌∷◌, if◌then◌else◌};
-ghost use Rattle.wasm_operator_bytes.specs.Bytes.{little_bytes, signed_bytes, unsigned_bytes};
+ghost use Rattle.wasm_operator_ranges.specs.wasm_operator_bytes.Bytes.{little_bytes, signed_bytes, unsigned_bytes};
 ghost use Rattle.walrus_operator_writer.specs.Appended.{Appends};
 ghost use Rattle.walrus_operator_writer.specs.Signs.{signed_of};
 

@@ -1,7 +1,7 @@
 -- Lemmas: handlers behind a block's type.
 use Rattle.std.specs.Prelude.{◌≡◌, [], ◌∷◌, Ok, refl}
 use Rattle.std.proofs.Common.{inl, inr}
-use Rattle.wasm_features.specs.declared.WasmFeatures.{WasmFeatures}
+use Rattle.wasm_reader.specs.wasm_features.declared.WasmFeatures.{WasmFeatures}
 use Rattle.wasm_reader.specs.declared.error.Error.{Error}
 use Rattle.wasm_reader.specs.Cursor.{Cursor, rest}
 use Rattle.wasm_reader.specs.Items.{FailsAs, vec_at}

@@ -1,6 +1,6 @@
 -- The same bytes at another offset give the same operator, moved.
 use Rattle.std.proofs.Common.{◌≡◌, ℕ, inl, inr, Option, Some, None, Result, Ok, Err, arith}
-use Rattle.wasm_features.specs.declared.WasmFeatures.{WasmFeatures}
+use Rattle.wasm_reader.specs.wasm_features.declared.WasmFeatures.{WasmFeatures}
 use Rattle.wasm_reader.specs.declared.error.Error.{Error}
 use Rattle.wasm_reader.specs.Cursor.{Cursor}
 use Rattle.wasm_reader.specs.Reading.{Reads, plain}

@@ -1,6 +1,6 @@
 -- What the offset of the bytes changes of a call of the reader of operators.
 use Rattle.std.specs.Prelude.{ℕ, ◌+◌, ◌≡◌, Result, Ok, Err}
-use Rattle.wasm_features.specs.declared.WasmFeatures.{WasmFeatures}
+use Rattle.wasm_reader.specs.wasm_features.declared.WasmFeatures.{WasmFeatures}
 use Rattle.wasm_reader.specs.Cursor.{Cursor, IsWithin}
 use Rattle.wasm_reader.specs.Items.{WantsMemory}
 use Rattle.wasm_reader.specs.Laws.{IsMoved}

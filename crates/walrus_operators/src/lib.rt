@@ -11,3 +11,7 @@ mod reader;
 pub use immediates::Immediates;
 pub use operator::Operator;
 pub use reader::{OperatorError, OperatorReader};
+
+// Passed on to crates above, which then list this one alone.
+pub use wasm_immediates as immediate_forms;
+pub use wasm_operators as operator_table;

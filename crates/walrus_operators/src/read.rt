@@ -9,10 +9,10 @@ ghost use Rattle.walrus_operators.specs.Immediates.{IsRare, items_of, kind_is};
 
 use crate::immediates::Immediates;
 use std::alloc::Global;
+use wasm_immediates::ref_types::{HeapType, ValType};
 use wasm_immediates::{BlockType, Clause, MemoryAccess, read_below, read_zero};
 use wasm_operators::Kind;
 use wasm_reader::{BinaryReader, FromReader, Result};
-use wasm_ref_types::{HeapType, ValType};
 
 // No list is longer than a u32 counts.
 const MOST: usize = 4294967295;

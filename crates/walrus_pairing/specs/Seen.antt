@@ -1,6 +1,6 @@
 -- What is answered, as contracts see it.
 use Rattle.std.specs.Prelude.{Option, Some, None, Result, Ok, Err}
-use Rattle.wasm_operators.specs.Operators.{Seen}
+use Rattle.walrus_operators.specs.wasm_operators.Operators.{Seen}
 use Rattle.walrus_operators.specs.declared.operator.Operator.{Operator}
 use Rattle.walrus_operators.specs.Operators.{seen}
 use Rattle.walrus_pairing.specs.declared.error.PairError.{PairError}

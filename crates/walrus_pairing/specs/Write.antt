@@ -2,20 +2,20 @@
 -- format: instructions; the proposals on threads and wide arithmetic). Instructions that hold sequences or labels have none here.
 use Rattle.std.specs.Prelude.{ℕ, nat_le, Bool, List, [], ◌∷◌, Option, Some, None, Ok, Err, if◌then◌else◌}
 use Rattle.std.specs.Int.{w32, w128, trailing_zeros, to_le_bytes}
-use Rattle.wasm_immediates.specs.declared.memory_access.MemoryAccess.{MemoryAccess}
-use Rattle.wasm_immediates.specs.Items.{Space, Types, Functions, Tables, Memories, Tags, Globals, ElementSegments, DataSegments, Locals, Item, Names, Number, S32, S64, Bits, Byte, Bytes, Heap, Access, ManyValues}
-use Rattle.wasm_operators.specs.declared.op_code.OpCode.{OpCode}
-use Rattle.wasm_operators.specs.Operators.{Seen}
+use Rattle.walrus_operators.specs.wasm_immediates.declared.memory_access.MemoryAccess.{MemoryAccess}
+use Rattle.walrus_operators.specs.wasm_immediates.Items.{Space, Types, Functions, Tables, Memories, Tags, Globals, ElementSegments, DataSegments, Locals, Item, Names, Number, S32, S64, Bits, Byte, Bytes, Heap, Access, ManyValues}
+use Rattle.walrus_operators.specs.wasm_operators.declared.op_code.OpCode.{OpCode}
+use Rattle.walrus_operators.specs.wasm_operators.Operators.{Seen}
 use Rattle.walrus_forms.specs.declared.value.HeapType.{HeapType}
-use Rattle.walrus_instr.specs.declared.instr.Value.{Value as Constant}
-use Rattle.walrus_instr.specs.declared.instr.Value.TheVariants as constants
-use Rattle.walrus_instr.specs.declared.instr.Instr.{Instr}
-use Rattle.walrus_instr.specs.declared.instr.Instr.TheVariants as instrs
-use Rattle.walrus_instr.specs.declared.memory.MemArg.{MemArg}
-use Rattle.walrus_operator_codes.specs.Runs.{byte, object, bulk, vector, atomic}
-use Rattle.walrus_operator_codes.specs.Unary.{unary_code, unary_lane}
-use Rattle.walrus_operator_codes.specs.Binary.{binary_code, binary_lane}
-use Rattle.walrus_operator_codes.specs.Ternary.{ternary_code}
+use Rattle.walrus_access_codes.specs.walrus_instr.declared.instr.Value.{Value as Constant}
+use Rattle.walrus_access_codes.specs.walrus_instr.declared.instr.Value.TheVariants as constants
+use Rattle.walrus_access_codes.specs.walrus_instr.declared.instr.Instr.{Instr}
+use Rattle.walrus_access_codes.specs.walrus_instr.declared.instr.Instr.TheVariants as instrs
+use Rattle.walrus_access_codes.specs.walrus_instr.declared.memory.MemArg.{MemArg}
+use Rattle.walrus_access_codes.specs.walrus_operator_codes.Runs.{byte, object, bulk, vector, atomic}
+use Rattle.walrus_access_codes.specs.walrus_operator_codes.Unary.{unary_code, unary_lane}
+use Rattle.walrus_access_codes.specs.walrus_operator_codes.Binary.{binary_code, binary_lane}
+use Rattle.walrus_access_codes.specs.walrus_operator_codes.Ternary.{ternary_code}
 use Rattle.walrus_access_codes.specs.Access.{load_code, store_code, simd_code, simd_lane, rmw_code, cmpxchg_code}
 use Rattle.walrus_pairing.specs.Looks.{Look, Or, ◌>>=◌, found}
 use Rattle.walrus_pairing.specs.Types.{written_heap, written_value}

@@ -1,21 +1,21 @@
 //! Instructions of a code and of immediates, whose names are ids.
 ghost use Rattle.std.specs.Prelude.{◌≡◌, [], ◌∷◌, Some, option_map};
 ghost use Rattle.walrus_access_codes.specs.Access.{simd_at};
-ghost use Rattle.walrus_instr.specs.declared.instr.Instr.TheVariants as instrs;
-ghost use Rattle.walrus_instr.specs.declared.instr.Value.TheVariants as constants;
-ghost use Rattle.wasm_immediates.specs.Items as items;
+ghost use Rattle.walrus_access_codes.specs.walrus_instr.declared.instr.Instr.TheVariants as instrs;
+ghost use Rattle.walrus_access_codes.specs.walrus_instr.declared.instr.Value.TheVariants as constants;
+ghost use Rattle.walrus_operators.specs.wasm_immediates.Items as items;
 ghost use Rattle.walrus_pairing.specs.Read as read;
 
 use crate::error::PairError;
+use walrus_access_codes::instr::{Bits128, Instr, MemArg, Value};
+use walrus_access_codes::operator_codes::{binary_of, ternary_of, unary_of};
 use walrus_access_codes::{cmpxchg_of, load_of, rmw_of, simd_of, store_of};
 use walrus_arena::{
     DataId, ElementId, FunctionId, GlobalId, LocalId, MemoryId, TableId, TagId, TypeId,
 };
 use walrus_forms::{HeapType, RefType};
-use walrus_instr::{Bits128, Instr, MemArg, Value};
-use walrus_operator_codes::{binary_of, ternary_of, unary_of};
-use wasm_immediates::MemoryAccess;
-use wasm_operators::OpCode;
+use walrus_operators::immediate_forms::MemoryAccess;
+use walrus_operators::operator_table::OpCode;
 use wasm_reader::{Ieee32, Ieee64};
 
 fn bare_instr(code: OpCode) -> Option<Instr>

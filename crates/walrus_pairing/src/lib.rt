@@ -13,3 +13,7 @@ pub use error::PairError;
 pub use to_instr::instr_of;
 pub use to_operator::operator_of;
 pub use types::{read_heap, read_value, write_heap, write_value};
+
+// Passed on to crates above, which then list this one alone.
+pub use walrus_access_codes::{operator_codes, type_table};
+pub use walrus_operators as operators;

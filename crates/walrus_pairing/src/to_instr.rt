@@ -15,9 +15,9 @@ use crate::instructions::{
     type_element_instr, type_instr, type_number_instr, type_table_instr, type_type_instr,
 };
 use crate::types::{named_type, read_heap, read_value};
+use walrus_access_codes::instr::Instr;
 use walrus_arena::FunctionId;
 use walrus_index_maps::IndicesToIds;
-use walrus_instr::Instr;
 use walrus_operators::{Immediates, Operator};
 use wasm_ref_types::ValType;
 

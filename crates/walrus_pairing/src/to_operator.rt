@@ -11,11 +11,11 @@ use crate::families::{bare_code_of, write_memory, write_numeric, write_object, w
 use crate::types::write_value;
 use crate::written::{Written, op};
 use std::alloc::Global;
+use walrus_access_codes::instr::Instr;
+use walrus_access_codes::operator_codes::byte;
 use walrus_arena::FunctionId;
 use walrus_forms::ValType;
 use walrus_index_maps::IdsToIndices;
-use walrus_instr::Instr;
-use walrus_operator_codes::byte;
 use walrus_operators::Immediates;
 
 // Of an instruction without a list.

@@ -1,7 +1,7 @@
 //! Operators of a code and of immediates that name ids.
 ghost use Rattle.std.specs.Prelude.{◌≡◌, None, Ok, Some};
 ghost use Rattle.std.specs.Option.{ok_or};
-ghost use Rattle.wasm_immediates.specs.Items.{Types, Functions, Tables, Memories, Tags, Globals, ElementSegments, DataSegments, Locals};
+ghost use Rattle.walrus_operators.specs.wasm_immediates.Items.{Types, Functions, Tables, Memories, Tags, Globals, ElementSegments, DataSegments, Locals};
 ghost use Rattle.walrus_index_maps.specs.Views.{indices};
 ghost use Rattle.walrus_pairing.specs.declared.error.PairError.TheVariants.{Unknown};
 ghost use Rattle.walrus_pairing.specs.Looks.{number_of};
@@ -10,15 +10,15 @@ ghost use Rattle.walrus_pairing.specs.Write.{one, two, counted, access, heap, lo
 
 use crate::error::PairError;
 use crate::types::write_heap;
+use walrus_access_codes::instr::MemArg;
 use walrus_arena::{
     DataId, ElementId, FunctionId, GlobalId, LocalId, MemoryId, TableId, TagId, TypeId,
 };
 use walrus_forms::HeapType;
 use walrus_index_maps::{IdsToIndices, Space};
-use walrus_instr::MemArg;
+use walrus_operators::immediate_forms::MemoryAccess;
+use walrus_operators::operator_table::OpCode;
 use walrus_operators::{Immediates, Operator};
-use wasm_immediates::MemoryAccess;
-use wasm_operators::OpCode;
 
 /// An operator, none, or why it isn't written.
 pub(crate) type Written = Result<Option<Operator>, PairError>;

@@ -5,14 +5,15 @@ use Rattle.wasm_formats.specs.declared.fault.Space.{Space}
 use Rattle.wasm_formats.specs.declared.fault.Space.TheVariants as spaces
 use Rattle.walrus_arena.specs.Arena.{Arena}
 use Rattle.walrus_types.specs.TypeLaws.{AreGrouped}
-use Rattle.walrus_module.specs.Parts.{Module}
+use Rattle.walrus_used.specs.walrus_module.Parts.{Module}
 use Rattle.walrus_roots.specs.declared.item.Item.{Item}
 use Rattle.walrus_roots.specs.Items.{item, space_number}
 use Rattle.walrus_marks.specs.Chains.{FitsIn, refers}
-use Rattle.walrus_references.specs.Kept.{IsSpared, Kept}
-use Rattle.walrus_module.specs.Items.{Lives}
-use Rattle.walrus_module.specs.Items.{brought}
+use Rattle.walrus_used.specs.walrus_references.Kept.{IsSpared, Kept}
+use Rattle.walrus_used.specs.walrus_module.Items.{Lives}
+use Rattle.walrus_used.specs.walrus_module.Items.{brought}
 use Rattle.walrus_refusals.specs.Sound.{IsSound}
+use Rattle.walrus_refusals.proofs.GroupedLemmas.{in_mapped}
 use Rattle.walrus_used.specs.Counts.{counts_of}
 use Rattle.walrus_used.proofs.CountLemmas.{lives_fit}
 use Rattle.walrus_passes.specs.DroppedTypes.{AreClosed}
@@ -21,19 +22,6 @@ use Rattle.walrus_passes.specs.UsedItems.{HasJust}
 use Rattle.walrus_passes.specs.declared.used.Used.{Used}
 use Rattle.walrus_passes.proofs.RestLemmas.{rest_as}
 use Rattle.walrus_passes.proofs.TypeLemmas.{types_as}
-
-at_mapped : {A B : Type 0} (f : A → B) (xs : List A) (k : ℕ) (d : A) → get_or (map f xs) k (f d) ≡ f (get_or xs k d)
-at_mapped f [] k d = refl
-at_mapped f (x ∷ xs) zero d = refl
-at_mapped f (x ∷ xs) (suc k) d = at_mapped f xs k d
-
-below_mapped : {A B : Type 0} (f : A → B) (xs : List A) (k : ℕ) → k < length xs → k < length (map f xs)
-below_mapped f [] k below = absurd (omega (arith, below))
-below_mapped f (x ∷ xs) zero below = omega arith
-below_mapped f (x ∷ xs) (suc k) below = (let h = below_mapped f xs k (omega (arith, below)) in omega (arith, h))
-
-in_mapped : {A B : Type 0} (f : A → B) (xs : List A) (x : A) → Contains xs x → Contains (map f xs) (f x)
-in_mapped f xs x c = (c.0, below_mapped f xs c.0 c.1, at_mapped f xs c.0 x ∙ ap f c.2)
 
 module _ (m : Module) (pushed : List Item) where
   no_type : (id : ℕ) → IsSpared m pushed (item spaces.Type id) → ⊥

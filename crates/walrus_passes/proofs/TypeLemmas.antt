@@ -7,7 +7,7 @@ use Rattle.std.proofs.lemmas.Bool.{cases_eq, cases_lt, false≢true}
 use Rattle.walrus_items.specs.Items.{Item as TypeItem, Group}
 use Rattle.walrus_types.specs.Table.{Table, type_at, group_at, HasMember, Deletes, DeletesGroup, clear_all, without_member, nonempty_group, IsLive}
 use Rattle.walrus_types.specs.TypeLaws.{AreGrouped}
-use Rattle.walrus_module.specs.Items.{written, written_type}
+use Rattle.walrus_used.specs.walrus_module.Items.{written, written_type}
 use Rattle.walrus_used.specs.Counts.{past_types}
 use Rattle.walrus_used.proofs.CountLemmas.{types_below}
 use Rattle.walrus_passes.specs.DroppedTypes.{AreClosed, IsInExplicit}

@@ -4,7 +4,7 @@ use Rattle.wasm_formats.specs.declared.fault.Space.TheVariants as spaces
 use Rattle.walrus_items.specs.Items.{Group}
 use Rattle.walrus_types.specs.Table.{Table, group_at, HasMember}
 use Rattle.walrus_roots.specs.Items.{item}
-use Rattle.walrus_module.specs.Items.{written_type}
+use Rattle.walrus_used.specs.walrus_module.Items.{written_type}
 use Rattle.walrus_passes.specs.declared.kept.KeptItems.{KeptItems}
 use Rattle.walrus_passes.specs.Keeping.{IsHeld}
 

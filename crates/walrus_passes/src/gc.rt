@@ -1,7 +1,7 @@
 //! Dropping what isn't kept.
 ghost use Rattle.std.specs.Prelude.{◌≡◌, IfErr, OnErr, OnOk};
 ghost use Rattle.wasm_formats.specs.declared.fault.Space.TheVariants as spaces;
-ghost use Rattle.walrus_module.specs.Parts.{parts};
+ghost use Rattle.walrus_used.specs.walrus_module.Parts.{parts};
 ghost use Rattle.walrus_roots.specs.Items.{item};
 ghost use Rattle.walrus_refusals.specs.Sound.{IsRefused, IsSound};
 ghost use Rattle.walrus_arena.specs.Arena.{entries};
@@ -16,9 +16,9 @@ use crate::kept::{KeptItems, kept_items};
 use crate::types::drop_types;
 use std::alloc::Global;
 use walrus_errors::ModuleError;
-use walrus_module::Module;
 use walrus_roots::Item;
 use walrus_sections::CustomSection;
+use walrus_used::module::Module;
 use wasm_formats::Space;
 
 // Deletes the items that aren't kept, and each import whose item isn't. Takes no memory.
@@ -46,7 +46,8 @@ fn drop_unkept(input: &mut Module, kept: &KeptItems)
 /// First `SectionRefused` where a custom section refuses to say what it pushes: each is asked once, by rising id, before anything
 /// else. Then, in this order, for what is reached from the roots: `NotLinked` where an item and an import don't name each other, or
 /// a function has no body or not its arguments; `NoTree` where a body is no tree; `DeadReference` where an item doesn't
-/// live. Want of memory. The module stays as it was.
+/// live, or a type names one past its own group; `Unsupported`, at the place 0, where a global is shared or a heap type is exact.
+/// Want of memory. The module stays as it was.
 pub fn run(alloc: Global, input: &mut Module) -> Result<(), ModuleError>
     ensures kept { OnOk result (WithPushed (pushed ⟦<Box<dyn CustomSection> as CustomSection>⟧.gc_roots (entries input.old.customs)) (λ items. IsKeptPart (parts input.old) items (parts input.new))) }
     ensures sound { OnOk result (WithPushed (pushed ⟦<Box<dyn CustomSection> as CustomSection>⟧.gc_roots (entries input.old.customs)) (IsSound (parts input.old))) }

@@ -8,3 +8,6 @@ mod types;
 mod used;
 
 pub use used::Used;
+
+// Passed on to crates above, which then list this one alone.
+pub use walrus_used::{collections, local_function, module, module_items};

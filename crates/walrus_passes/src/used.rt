@@ -1,7 +1,7 @@
 //! What of a module is used.
 ghost use Rattle.std.specs.Prelude.{◌<◌, ◌≤◌, ◌^◌, ℕ, Decides, IfErr, IfOk, OnOk, nat_eq};
 ghost use Rattle.std.specs.HashSet.{contains};
-ghost use Rattle.walrus_module.specs.Parts.{parts};
+ghost use Rattle.walrus_used.specs.walrus_module.Parts.{parts};
 ghost use Rattle.walrus_roots.specs.Items.{item};
 ghost use Rattle.walrus_marks.specs.Chains.{FitsIn};
 ghost use Rattle.walrus_used.specs.Counts.{counts_of};
@@ -19,10 +19,10 @@ use walrus_arena::{
     TagSpace, TypeSpace,
 };
 use walrus_errors::ModuleError;
-use walrus_module::Module;
 use walrus_roots::Item;
 use walrus_sections::CustomSection;
 use walrus_used::id_counts;
+use walrus_used::module::Module;
 use wasm_formats::Space;
 
 /// The items of a module that are used: what chains of references reach from its roots (exports, the start function,
@@ -90,7 +90,8 @@ impl Used {
     /// First `SectionRefused` where a custom section refuses to say what it pushes: each is asked once, by rising id, before
     /// anything else. Then, in this order, for what is reached from the roots: `NotLinked` where an item and an import don't name each
     /// other, or a function has no body or not its arguments; `NoTree` where a body is no tree; `DeadReference` where
-    /// an item doesn't live. Want of memory.
+    /// an item doesn't live, or a type names one past its own group; `Unsupported`, at the place 0, where a global is shared or
+    /// a heap type is exact. Want of memory.
     pub fn new(alloc: Global, input: &Module) -> Result<Self, ModuleError>
         ensures kept { IfOk result (λ used. WithPushed (pushed ⟦<Box<dyn CustomSection> as CustomSection>⟧.gc_roots (entries input.now.customs)) (λ items. AreKept (parts input.now) items used)) }
         ensures sound { OnOk result (WithPushed (pushed ⟦<Box<dyn CustomSection> as CustomSection>⟧.gc_roots (entries input.now.customs)) (IsSound (parts input.now))) }

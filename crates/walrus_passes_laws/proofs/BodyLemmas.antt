@@ -18,7 +18,7 @@ use Rattle.walrus_roots.specs.declared.item.Item.{Item}
 use Rattle.walrus_roots.specs.Items.{item}
 use Rattle.walrus_marks.specs.Chains.{Chain, root, refers}
 use Rattle.walrus_marks.specs.Named.{event_items, items_of}
-use Rattle.walrus_references.specs.References.{BodyNames, Reaches, Holds, IsEntry, held, held_in, instr_items, seq_items, known_items}
+use Rattle.walrus_used.specs.walrus_references.References.{BodyNames, Reaches, Holds, IsEntry, held, held_in, instr_items, seq_items, known_items}
 use Rattle.walrus_used.proofs.LooksLemmas.{none_in, first_in, cases_in, only_in}
 
 -- ---- lists of ids
@@ -31,7 +31,7 @@ has_right : (a b : List ℕ) (c : ℕ) → Has b c → Has (a ++ b) c
 has_right [] b c h = h
 has_right (k ∷ a) b c h = inr (has_right a b c h)
 
-has_cases : (a b : List ℕ) (c : ℕ) → Has (a ++ b) c → Has a c ⊎ Has b c
+pub has_cases : (a b : List ℕ) (c : ℕ) → Has (a ++ b) c → Has a c ⊎ Has b c
 has_cases [] b c h = inr h
 has_cases (k ∷ a) b c (inl e) = inl (inl e)
 has_cases (k ∷ a) b c (inr h) = elim (has_cases a b c h) as (λ _. Has (k ∷ a) c ⊎ Has b c) [ inl l ↦ inl (inr l) | inr r ↦ inr r ]
@@ -51,7 +51,7 @@ to_labels (j ∷ js) c (inr h) = Contains-append_right (item spaces.Label j ∷ 
 abbrev all_held : List (Instr × InstrLocId) → List Item
 all_held is = flat_map (λ (i : Instr × InstrLocId). map (item spaces.Label) (children i.0)) is
 
-of_held : (is : List (Instr × InstrLocId)) (y : Item) → Contains (all_held is) y → (c : ℕ) × Has (children_in is) c × (y ≡ item spaces.Label c)
+pub of_held : (is : List (Instr × InstrLocId)) (y : Item) → Contains (all_held is) y → (c : ℕ) × Has (children_in is) c × (y ≡ item spaces.Label c)
 of_held [] y c = absurd (none_in y c)
 of_held (i ∷ is) y c = elim (Contains-append_cases (map (item spaces.Label) (children i.0)) (all_held is) y c) as (λ _. (d : ℕ) × Has (children_in (i ∷ is)) d × (y ≡ item spaces.Label d)) [
   | inl l ↦ (let h = of_labels (children i.0) y l in (h.0, has_left (children i.0) (children_in is) h.0 h.1, h.2))

@@ -1,5 +1,5 @@
 -- A second gc.
-use Rattle.std.proofs.Common.{◌≡◌, ◌∙◌, ◌⊎◌, ◌<◌, ℕ, List, [], ◌∷◌, Option, Some, None, Contains, length, refl, sym, ap, subst, inl, inr, arith}
+use Rattle.std.proofs.Common.{◌≡◌, ◌∙◌, ◌⊎◌, ◌<◌, ℕ, false, List, [], ◌∷◌, Option, Some, None, Contains, length, refl, sym, ap, subst, inl, inr, arith}
 use Rattle.std.specs.Prelude.{◌++◌, IsSome, MatchOption, IfSome, slice_get}
 use Rattle.std.specs.Option.{option_and_then}
 use Rattle.std.proofs.lemmas.Bool.{false≢true}
@@ -7,31 +7,37 @@ use Rattle.wasm_formats.specs.declared.fault.Space.{Space}
 use Rattle.wasm_formats.specs.declared.fault.Space.TheVariants as spaces
 use Rattle.walrus_arena.specs.Arena.{Arena, item_at, IsLive}
 use Rattle.walrus_items.specs.Items.{Item as TypeItem}
+use Rattle.walrus_items.specs.declared.local.Local.{Local}
+use Rattle.walrus_types.specs.Table.{Table as TypeTable, type_at}
+use Rattle.walrus_forms.specs.Kinds.{kind_names}
+use Rattle.walrus_passes.specs.walrus_exact.Exact.{form_exact, table_exact, global_exact, element_exact, data_exact, val_exact}
+use Rattle.walrus_used.specs.walrus_module_items.declared.global.Global.{Global}
 use Rattle.walrus_forms.specs.Forms.{params_of}
 use Rattle.walrus_instr.specs.declared.const_expr.ConstExpr.{ConstExpr}
-use Rattle.walrus_local_function.specs.declared.local_function.LocalFunction.{LocalFunction}
-use Rattle.walrus_module_items.specs.declared.import.Import.{Import}
-use Rattle.walrus_module_items.specs.declared.function.Function.{Function}
-use Rattle.walrus_module_items.specs.declared.function.FunctionKind.{FunctionKind}
-use Rattle.walrus_module_items.specs.declared.function.FunctionKind.TheVariants as functions
-use Rattle.walrus_module_items.specs.declared.table.Table.{Table}
-use Rattle.walrus_module_items.specs.declared.memory.Memory.{Memory}
-use Rattle.walrus_module_items.specs.declared.data.Data.{Data}
-use Rattle.walrus_module_items.specs.declared.element.Element.{Element}
-use Rattle.walrus_module_items.specs.declared.element.ElementKind.TheVariants as elements
-use Rattle.walrus_module_items.specs.Functions.{type_of}
-use Rattle.walrus_module.specs.Parts.{Module}
-use Rattle.walrus_module.specs.Items.{LivesIn, written, brought}
-use Rattle.walrus_linked.specs.Linked.{HasArguments, import_in}
+use Rattle.walrus_used.specs.walrus_local_function.declared.local_function.LocalFunction.{LocalFunction}
+use Rattle.walrus_used.specs.walrus_module_items.declared.import.Import.{Import}
+use Rattle.walrus_used.specs.walrus_module_items.declared.function.Function.{Function}
+use Rattle.walrus_used.specs.walrus_module_items.declared.function.FunctionKind.{FunctionKind}
+use Rattle.walrus_used.specs.walrus_module_items.declared.function.FunctionKind.TheVariants as functions
+use Rattle.walrus_used.specs.walrus_module_items.declared.table.Table.{Table}
+use Rattle.walrus_used.specs.walrus_module_items.declared.memory.Memory.{Memory}
+use Rattle.walrus_used.specs.walrus_module_items.declared.data.Data.{Data}
+use Rattle.walrus_used.specs.walrus_module_items.declared.element.Element.{Element}
+use Rattle.walrus_used.specs.walrus_module_items.declared.element.ElementKind.TheVariants as elements
+use Rattle.walrus_used.specs.walrus_module_items.Functions.{type_of}
+use Rattle.walrus_used.specs.walrus_module.Parts.{Module}
+use Rattle.walrus_used.specs.walrus_module.Items.{LivesIn, written, brought}
+use Rattle.walrus_passes.specs.walrus_linked.Linked.{HasArguments, import_in}
 use Rattle.walrus_roots.specs.declared.item.Item.{Item}
 use Rattle.walrus_roots.specs.Items.{item, space_number}
 use Rattle.walrus_marks.specs.Chains.{root, refers}
-use Rattle.walrus_references.specs.References.{RefersIn, Named, named_by, type_items, function_items, table_items, global_items, tag_items, element_items, data_items, place_items, held_items, local_items, IsInGroup, HasElement, HasData, IsActiveIn, IsCopiedInto, KindNames}
-use Rattle.walrus_references.specs.Roots.{Root, exports, starts, is_active, fills_import, declares, is_pushed}
-use Rattle.walrus_references.specs.Kept.{IsReached, IsSpared, Kept}
-use Rattle.walrus_references.specs.Refused.{IsTreeIn, HasTree}
-use Rattle.walrus_refusals.specs.Asked.{Linked, IsBrought, IsWholeIn, HasBody, given}
-use Rattle.walrus_refusals.specs.Sound.{IsSound}
+use Rattle.walrus_used.specs.walrus_references.References.{RefersIn, Named, named_by, type_items, function_items, table_items, global_items, tag_items, element_items, data_items, place_items, held_items, local_items, IsInGroup, HasElement, HasData, IsActiveIn, IsCopiedInto, KindNames}
+use Rattle.walrus_used.specs.walrus_references.Roots.{Root, exports, starts, is_active, fills_import, declares, is_pushed}
+use Rattle.walrus_used.specs.walrus_references.Kept.{IsReached, IsSpared, Kept}
+use Rattle.walrus_used.specs.walrus_references.Refused.{IsTreeIn, HasTree}
+use Rattle.walrus_passes.specs.walrus_refusals.Asked.{Linked, IsBrought, IsWholeIn, HasBody, given}
+use Rattle.walrus_passes.specs.walrus_refusals.Sound.{IsSound}
+use Rattle.walrus_passes.specs.walrus_refusals.Written.{MayName, StaysIn, IsUnsharedIn, HasNone, KindHasNone, HasNoExactIn}
 use Rattle.walrus_passes.specs.Part.{IsKeptPart, Rest}
 use Rattle.walrus_passes_laws.specs.Twice.{NothingToDrop, GcTwice}
 
@@ -337,6 +343,54 @@ module _ (m n : Module) (pushed : List Item) (part : IsKeptPart m pushed n) wher
   tree_on spaces.Local id k h = h
   tree_on spaces.Label id k h = h
 
+  -- ---- types in their order, and forms that stand in no file
+  may_name_on : (id name : ℕ) → Stays spaces.Type id → MayName m.types id name → MayName n.types id name
+  may_name_on id name k (inl e) = inl e
+  may_name_on id name k (inr h) = inr (group_forth id (item spaces.Type name) k h)
+
+  abbrev NamesWithin : TypeTable → ℕ → Option TypeItem → Type 0
+  NamesWithin t id o = MatchOption o (Unit {0}) (λ ty. (name : ℕ) → Contains (kind_names ty.kind) name → MayName t id name)
+
+  within_on : (id : ℕ) → Stays spaces.Type id → (o : Option TypeItem) → NamesWithin m.types id o → NamesWithin n.types id o
+  within_on id k None h = h
+  within_on id k (Some ty) h = λ name c. may_name_on id name k (h name c)
+
+  stays_on : (space : Space) (id : ℕ) → Stays space id → StaysIn m space id → StaysIn n space id
+  stays_on spaces.Type id k h = subst (NamesWithin n.types id) (sym (part.types.each id k)) (within_on id k (type_at m.types id) h)
+  stays_on spaces.Function id k h = h
+  stays_on spaces.Table id k h = h
+  stays_on spaces.Memory id k h = h
+  stays_on spaces.Tag id k h = h
+  stays_on spaces.Global id k h = h
+  stays_on spaces.Element id k h = h
+  stays_on spaces.Data id k h = h
+  stays_on spaces.Local id k h = h
+  stays_on spaces.Label id k h = h
+
+  unshared_on : (space : Space) (id : ℕ) → Stays space id → IsUnsharedIn m space id → IsUnsharedIn n space id
+  unshared_on spaces.Type id k h = h
+  unshared_on spaces.Function id k h = h
+  unshared_on spaces.Table id k h = h
+  unshared_on spaces.Memory id k h = h
+  unshared_on spaces.Tag id k h = h
+  unshared_on spaces.Global id k h = subst (λ (o : Option Global). MatchOption o (Unit {0}) (λ g. g.shared ≡ false)) (sym (globals_same id k)) h
+  unshared_on spaces.Element id k h = h
+  unshared_on spaces.Data id k h = h
+  unshared_on spaces.Local id k h = h
+  unshared_on spaces.Label id k h = h
+
+  inexact_on : (space : Space) (id : ℕ) → Stays space id → HasNoExactIn m space id → HasNoExactIn n space id
+  inexact_on spaces.Type id k h = subst (HasNone (λ (ty : TypeItem). form_exact ty.kind.form)) (sym (part.types.each id k)) h
+  inexact_on spaces.Function id k h = subst (λ (o : Option Function). MatchOption o (Unit {0}) (λ f. KindHasNone f.kind)) (sym (functions_same id k)) h
+  inexact_on spaces.Table id k h = subst (HasNone table_exact) (sym (tables_same id k)) h
+  inexact_on spaces.Memory id k h = h
+  inexact_on spaces.Tag id k h = h
+  inexact_on spaces.Global id k h = subst (HasNone global_exact) (sym (globals_same id k)) h
+  inexact_on spaces.Element id k h = subst (HasNone element_exact) (sym (elements_same id k)) h
+  inexact_on spaces.Data id k h = subst (HasNone (λ (d : Data). data_exact d.kind)) (sym (data_same id k)) h
+  inexact_on spaces.Local id k h = subst (λ (ls : List Local). HasNone (λ (l : Local). val_exact l.ty) (slice_get ls id)) (sym locals_same) h
+  inexact_on spaces.Label id k h = h
+
   linked_on : (x : Item) → IsReached m pushed x → Linked m x → Linked n x
   linked_on x r h = record {
     own = (subst (IsBrought n.imports x) (sym (import_same x.space x.id (inl r))) (brought_on x (inl r) (import_in m x.space x.id) h.own.0), whole_on x.space x.id r h.own.1);
@@ -349,6 +403,9 @@ module _ (m n : Module) (pushed : List Item) (part : IsKeptPart m pushed n) wher
       linked = λ x r. (let before = reached_back x r in linked_on x before (sound.linked x before));
       trees = λ x r. (let before = reached_back x r in tree_on x.space x.id (inl before) (sound.trees x before));
       live = λ x r. (let before = reached_back x r in lives_on x.space x.id (inl before) (sound.live x before));
+      grouped = λ x r. (let before = reached_back x r in stays_on x.space x.id (inl before) (sound.grouped x before));
+      unshared = λ x r. (let before = reached_back x r in unshared_on x.space x.id (inl before) (sound.unshared x before));
+      inexact = λ x r. (let before = reached_back x r in inexact_on x.space x.id (inl before) (sound.inexact x before));
     };
     same = λ x. (kept_forth x, kept_back x);
     all_kept = λ x low h. kept_forth x (was_kept x.space x.id low h);

@@ -1,13 +1,13 @@
 -- A second gc.
 use Rattle.std.specs.Prelude.{◌≡◌, ◌↔◌, ℕ, ◌<◌, Some, List}
 use Rattle.walrus_arena.specs.Arena.{item_at}
-use Rattle.walrus_module_items.specs.declared.import.Import.{Import}
-use Rattle.walrus_module.specs.Parts.{Module}
-use Rattle.walrus_module.specs.Items.{Lives, brought}
+use Rattle.walrus_used.specs.walrus_module_items.declared.import.Import.{Import}
+use Rattle.walrus_used.specs.walrus_module.Parts.{Module}
+use Rattle.walrus_used.specs.walrus_module.Items.{Lives, brought}
 use Rattle.walrus_roots.specs.declared.item.Item.{Item}
 use Rattle.walrus_roots.specs.Items.{space_number}
-use Rattle.walrus_references.specs.Kept.{Kept}
-use Rattle.walrus_refusals.specs.Sound.{IsSound}
+use Rattle.walrus_used.specs.walrus_references.Kept.{Kept}
+use Rattle.walrus_passes.specs.walrus_refusals.Sound.{IsSound}
 use Rattle.walrus_passes.specs.Part.{IsKeptPart}
 
 -- nothing is wrong with what is left; what was kept is kept of it, and all that lives but locals, and all imports, are kept

@@ -1,8 +1,12 @@
 //! Laws of passes over modules.
 #![tactic(auto)]
 
+// Passed on to crates above, which then list this one alone.
 ghost use Rattle.walrus_passes_laws.specs.LinkedKept.{GcKeepsLinked};
+ghost use Rattle.walrus_passes_laws.specs.Served.{LinkedAreServed};
 ghost use Rattle.walrus_passes_laws.specs.Twice.{GcTwice};
+
+pub use walrus_passes as passes;
 
 /// A second `gc::run` deletes nothing, and is refused for want of memory alone.
 pub fn second_gc_deletes_nothing()
@@ -13,3 +17,13 @@ pub fn second_gc_deletes_nothing()
 pub fn gc_keeps_linked()
     ensures { GcKeepsLinked }
 {}
+
+/// On a linked module whose types name none past their own groups, without shared globals and exact heap types, `gc::run`
+/// and `Used::new` are refused for want of memory alone, where custom sections push live items.
+pub fn linked_are_served()
+    ensures { LinkedAreServed }
+{
+    walrus_walks::laws::walk_is_plain();
+    walrus_walks::laws::held_are_nested();
+    walrus_tree::laws::trees_are_nested();
+}

@@ -2,6 +2,10 @@
 #![tactic(auto)]
 
 #[cfg(test)]
+mod asked;
+#[cfg(test)]
+mod imports;
+#[cfg(test)]
 mod modules;
 #[cfg(test)]
 mod rows;

@@ -1,14 +1,18 @@
 //! Small modules, made by steps, and how many items they have.
+use crate::asked::{keep, uses};
 use std::alloc::{AllocError, Global};
-use walrus_arena::{ExportId, FunctionId, Id, ImportId, InstrSeqId, TableId, TypeId};
+use walrus_arena::{
+    ExportId, FunctionId, GlobalId, Id, ImportId, InstrSeqId, TableId, TypeId,
+    UntypedCustomSectionId,
+};
 use walrus_builder::FunctionBuilder;
-use walrus_collections::Collection;
 use walrus_config::ModuleConfig;
-use walrus_errors::{ModuleError, Space};
-use walrus_forms::RefType;
+use walrus_errors::{Form, ModuleError, Space};
+use walrus_forms::{FieldType, HeapType, RefType, StorageType, ValType};
 use walrus_instr::{ConstExpr, Instr, InstrSeqType, Value};
 use walrus_local_function::LocalFunction;
 use walrus_module::Module;
+use walrus_module::collections::Collection;
 use walrus_module_items::{ElementItems, ElementKind, FunctionKind};
 use walrus_passes::gc;
 
@@ -25,6 +29,13 @@ pub(crate) enum Step {
     /// A table of 32 bits and the size 1, for function references.
     Table,
     ExportTable(usize),
+    /// A type of structures of one reference to the type of this number, whether that is there or not.
+    Struct(usize),
+    /// A table of references to the type, or to values of just this type.
+    TypedTable { ty: usize, exact: bool },
+    /// A global that several threads may use.
+    SharedGlobal,
+    ExportGlobal(usize),
     /// An active segment of the table, with the function.
     Segment { table: usize, function: usize },
     /// A declared segment with the function.
@@ -41,7 +52,15 @@ pub(crate) enum Step {
     DeleteExport(usize),
     DeleteImport(usize),
     DeleteType(usize),
-    /// A gc, which answers this: 0 for `Ok`, 1 for `NotLinked`, 2 for `NoTree`, 3 for a dead function, 4 for a dead type.
+    /// A section that keeps the function, and one that refuses.
+    Keep(usize),
+    Refuse,
+    DeleteSection(usize),
+    /// The function is to be used, or not.
+    Used(usize),
+    Unused(usize),
+    /// A gc, which answers this: 0 for `Ok`, 1 for `NotLinked`, 2 for `NoTree`, 3 for a dead function, 4 for a dead type,
+    /// 5 for a shared global, 6 for an exact type, 7 for a section that refuses.
     Gc(usize),
 }
 
@@ -137,6 +156,11 @@ fn delete(module: &mut Module, step: Step) {
                 module.imports.delete(id);
             }
         }
+        Step::DeleteSection(index) => {
+            let _ = module
+                .customs
+                .delete(UntypedCustomSectionId::from_index(index & 0xff));
+        }
         Step::DeleteType(index) => {
             let id = TypeId::from_index(index & 0xff);
             if module.types.contains(id) {
@@ -159,8 +183,62 @@ fn answer(refusal: Option<ModuleError>) -> usize {
             },
         ) => 3,
         Some(ModuleError::DeadReference { space: Space::Type }) => 4,
-        Some(_) => 5,
+        Some(
+            ModuleError::Unsupported {
+                form: Form::SharedGlobal,
+                ..
+            },
+        ) => 5,
+        Some(
+            ModuleError::Unsupported {
+                form: Form::ExactType,
+                ..
+            },
+        ) => 6,
+        Some(ModuleError::SectionRefused) => 7,
+        Some(_) => 8,
     }
+}
+
+/// Whether a gc answers what this number says.
+pub(crate) fn answers(alloc: Global, module: &mut Module, wanted: usize) -> bool {
+    answer(gc::run(alloc, module).err()) == wanted
+}
+
+fn function(index: usize) -> FunctionId {
+    FunctionId::from_index(index & 0xff)
+}
+
+fn heap_type(ty: usize, exact: bool) -> HeapType {
+    let id = TypeId::from_index(ty & 0xff);
+    if exact {
+        HeapType::Exact(id)
+    } else {
+        HeapType::Concrete(id)
+    }
+}
+
+fn nullable(ty: usize, exact: bool) -> RefType {
+    RefType {
+        nullable: true,
+        heap_type: heap_type(ty, exact),
+    }
+}
+
+fn add_struct(alloc: Global, module: &mut Module, ty: usize) -> Result<(), AllocError> {
+    let field = FieldType {
+        element_type: StorageType::Val(ValType::Ref(nullable(ty, false))),
+        mutable: false,
+    };
+    module.types.add_struct(Vec::from_slice(alloc, &[field])?)?;
+    Ok(())
+}
+
+fn add_shared(module: &mut Module) -> Result<(), AllocError> {
+    module
+        .globals
+        .add_local(ValType::I32, false, true, ConstExpr::Value(Value::I32(0)))?;
+    Ok(())
 }
 
 fn add(alloc: Global, module: &mut Module, step: Step) -> Result<(), AllocError> {
@@ -171,6 +249,16 @@ fn add(alloc: Global, module: &mut Module, step: Step) -> Result<(), AllocError>
             module.tables.add_local(false, 1, None, RefType::FUNCREF)?;
             Ok(())
         }
+        Step::TypedTable { ty, exact } => {
+            module
+                .tables
+                .add_local(false, 1, None, nullable(ty, exact))?;
+            Ok(())
+        }
+        Step::Struct(ty) => add_struct(alloc, module, ty),
+        Step::SharedGlobal => add_shared(module),
+        Step::Keep(index) => keep(alloc, module, function(index), false),
+        Step::Refuse => keep(alloc, module, function(0), true),
         Step::Segment { table, function } => add_segment(alloc, module, active(table), function),
         Step::Declared(function) => add_segment(alloc, module, ElementKind::Declared, function),
         _ => Ok(()),
@@ -191,6 +279,10 @@ fn name(module: &mut Module, step: Step) -> Result<(), AllocError> {
             let id = TableId::from_index(index & 0xff);
             module.exports.add("t", id)?;
         }
+        Step::ExportGlobal(index) => {
+            let id = GlobalId::from_index(index & 0xff);
+            module.exports.add("g", id)?;
+        }
         _ => {}
     }
     Ok(())
@@ -199,7 +291,9 @@ fn name(module: &mut Module, step: Step) -> Result<(), AllocError> {
 // Takes a step; whether a gc answers what it is to answer.
 fn take(alloc: Global, module: &mut Module, step: Step) -> Result<bool, AllocError> {
     match step {
-        Step::Gc(wanted) => return Ok(answer(gc::run(alloc, module).err()) == wanted),
+        Step::Gc(wanted) => return Ok(answers(alloc, module, wanted)),
+        Step::Used(index) => return Ok(uses(alloc, module, function(index))),
+        Step::Unused(index) => return Ok(!uses(alloc, module, function(index))),
         Step::Uninitialize(function) => uninitialize(module, function),
         Step::Call { caller, .. } => put_in(module, caller, step)?,
         Step::Return(function) | Step::Nest(function) | Step::Stray(function) => {
@@ -208,15 +302,19 @@ fn take(alloc: Global, module: &mut Module, step: Step) -> Result<bool, AllocErr
         Step::DeleteFunction(_)
         | Step::DeleteExport(_)
         | Step::DeleteImport(_)
+        | Step::DeleteSection(_)
         | Step::DeleteType(_) => delete(module, step),
-        Step::ImportOf(_) | Step::ExportFunction(_) | Step::ExportTable(_) => name(module, step)?,
+        Step::ImportOf(_)
+        | Step::ExportFunction(_)
+        | Step::ExportTable(_)
+        | Step::ExportGlobal(_) => name(module, step)?,
         _ => add(alloc, module, step)?,
     }
     Ok(true)
 }
 
-// How many items live.
-fn live<T, S>(items: &Collection<T, S>) -> usize {
+/// How many items live.
+pub(crate) fn live<T, S>(items: &Collection<T, S>) -> usize {
     let mut count: usize = 0;
     for index in 0..items.next_id().index() {
         if items.contains(Id::from_index(index)) {
@@ -226,8 +324,8 @@ fn live<T, S>(items: &Collection<T, S>) -> usize {
     count
 }
 
-// How many types live that are no entry types.
-fn live_types(module: &Module) -> usize {
+/// How many types live that are no entry types.
+pub(crate) fn live_types(module: &Module) -> usize {
     let mut count: usize = 0;
     for ty in module.types.iter() {
         if !ty.is_entry() {
@@ -237,7 +335,7 @@ fn live_types(module: &Module) -> usize {
     count
 }
 
-fn empty(alloc: Global) -> Module {
+pub(crate) fn empty(alloc: Global) -> Module {
     Module::with_config(alloc, ModuleConfig::new())
 }
 

@@ -210,3 +210,55 @@ fn refusals_come_in_order(rt: HostRuntime) -> Result<(), Fail> {
     assert!(rt; leave(rt.alloc(), &steps, [1, 2, 0, 0, 0])?);
     Ok(())
 }
+
+// What stands in no file is refused where it is reached.
+#[test]
+fn a_shared_global(rt: HostRuntime) -> Result<(), Fail> {
+    let steps = [
+        Step::SharedGlobal,
+        Step::ExportGlobal(0),
+        Step::Gc(5),
+        Step::DeleteExport(0),
+        Step::Gc(0),
+    ];
+    assert!(rt; leave(rt.alloc(), &steps, [0, 0, 0, 0, 0])?);
+    Ok(())
+}
+
+#[test]
+fn a_table_of_an_exact_type(rt: HostRuntime) -> Result<(), Fail> {
+    let steps = [
+        Step::Function,
+        Step::TypedTable { ty: 0, exact: true },
+        Step::ExportTable(0),
+        Step::Gc(6),
+        Step::DeleteExport(0),
+        Step::Gc(0),
+    ];
+    assert!(rt; leave(rt.alloc(), &steps, [0, 0, 0, 0, 0])?);
+    Ok(())
+}
+
+// A type may name itself and those before it, and none past its own group.
+#[test]
+fn a_type_that_names_a_later_one(rt: HostRuntime) -> Result<(), Fail> {
+    let steps = [
+        Step::Struct(0),
+        Step::TypedTable {
+            ty: 0,
+            exact: false,
+        },
+        Step::ExportTable(0),
+        Step::Gc(0),
+        Step::Struct(2),
+        Step::Struct(0),
+        Step::TypedTable {
+            ty: 1,
+            exact: false,
+        },
+        Step::ExportTable(1),
+        Step::Gc(4),
+    ];
+    assert!(rt; leave(rt.alloc(), &steps, [3, 0, 2, 0, 0])?);
+    Ok(())
+}

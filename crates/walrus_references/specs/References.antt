@@ -8,32 +8,32 @@ use Rattle.walrus_arena.specs.Arena.{item_at, IsLive}
 use Rattle.walrus_forms.specs.Kinds.{kind_names}
 use Rattle.walrus_items.specs.Items.{Item as TypeItem, Group}
 use Rattle.walrus_items.specs.declared.local.Local.{Local}
-use Rattle.walrus_types.specs.Table.{Table as TypeTable, HasMember}
+use Rattle.walrus_instr.specs.walrus_types.Table.{Table as TypeTable, HasMember}
 use Rattle.walrus_instr.specs.declared.instr.Instr.{Instr}
 use Rattle.walrus_instr.specs.declared.const_expr.ConstExpr.{ConstExpr}
 use Rattle.walrus_instr.specs.declared.seq.InstrLocId.{InstrLocId}
 use Rattle.walrus_instr.specs.declared.seq.InstrSeq.{InstrSeq}
-use Rattle.walrus_walks.specs.Tree.{children}
-use Rattle.walrus_walks.specs.Events.{names, block_names, val_names, ref_names}
-use Rattle.walrus_walks.specs.ConstEvents.{expr_names}
-use Rattle.walrus_builder.specs.Functions.{seqs_of}
-use Rattle.walrus_module_items.specs.declared.function.Function.{Function}
-use Rattle.walrus_module_items.specs.declared.function.FunctionKind.{FunctionKind}
-use Rattle.walrus_module_items.specs.declared.function.FunctionKind.TheVariants as functions
-use Rattle.walrus_module_items.specs.declared.table.Table.{Table}
-use Rattle.walrus_module_items.specs.declared.memory.Memory.{Memory}
-use Rattle.walrus_module_items.specs.declared.global.Global.{Global}
-use Rattle.walrus_module_items.specs.declared.global.GlobalKind.{GlobalKind}
-use Rattle.walrus_module_items.specs.declared.global.GlobalKind.TheVariants as globals
-use Rattle.walrus_module_items.specs.declared.tag.Tag.{Tag}
-use Rattle.walrus_module_items.specs.declared.data.DataKind.{DataKind}
-use Rattle.walrus_module_items.specs.declared.data.DataKind.TheVariants as datas
-use Rattle.walrus_module_items.specs.declared.element.Element.{Element}
-use Rattle.walrus_module_items.specs.declared.element.ElementKind.{ElementKind}
-use Rattle.walrus_module_items.specs.declared.element.ElementKind.TheVariants as elements
-use Rattle.walrus_module_items.specs.declared.element.ElementItems.{ElementItems}
-use Rattle.walrus_module_items.specs.declared.element.ElementItems.TheVariants as holds
-use Rattle.walrus_module_items.specs.Functions.{type_of}
+use Rattle.walrus_marks.specs.walrus_walks.Tree.{children}
+use Rattle.walrus_marks.specs.walrus_walks.Events.{names, block_names, val_names, ref_names}
+use Rattle.walrus_marks.specs.walrus_walks.ConstEvents.{expr_names}
+use Rattle.walrus_module.specs.walrus_builder.Functions.{seqs_of}
+use Rattle.walrus_module.specs.walrus_module_items.declared.function.Function.{Function}
+use Rattle.walrus_module.specs.walrus_module_items.declared.function.FunctionKind.{FunctionKind}
+use Rattle.walrus_module.specs.walrus_module_items.declared.function.FunctionKind.TheVariants as functions
+use Rattle.walrus_module.specs.walrus_module_items.declared.table.Table.{Table}
+use Rattle.walrus_module.specs.walrus_module_items.declared.memory.Memory.{Memory}
+use Rattle.walrus_module.specs.walrus_module_items.declared.global.Global.{Global}
+use Rattle.walrus_module.specs.walrus_module_items.declared.global.GlobalKind.{GlobalKind}
+use Rattle.walrus_module.specs.walrus_module_items.declared.global.GlobalKind.TheVariants as globals
+use Rattle.walrus_module.specs.walrus_module_items.declared.tag.Tag.{Tag}
+use Rattle.walrus_module.specs.walrus_module_items.declared.data.DataKind.{DataKind}
+use Rattle.walrus_module.specs.walrus_module_items.declared.data.DataKind.TheVariants as datas
+use Rattle.walrus_module.specs.walrus_module_items.declared.element.Element.{Element}
+use Rattle.walrus_module.specs.walrus_module_items.declared.element.ElementKind.{ElementKind}
+use Rattle.walrus_module.specs.walrus_module_items.declared.element.ElementKind.TheVariants as elements
+use Rattle.walrus_module.specs.walrus_module_items.declared.element.ElementItems.{ElementItems}
+use Rattle.walrus_module.specs.walrus_module_items.declared.element.ElementItems.TheVariants as holds
+use Rattle.walrus_module.specs.walrus_module_items.Functions.{type_of}
 use Rattle.walrus_module.specs.Parts.{Module}
 use Rattle.walrus_module.specs.Items.{written_type}
 use Rattle.walrus_roots.specs.declared.item.Item.{Item}

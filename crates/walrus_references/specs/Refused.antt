@@ -3,11 +3,11 @@ use Rattle.std.specs.Prelude.{ℕ, MatchOption}
 use Rattle.wasm_formats.specs.declared.fault.Space.{Space}
 use Rattle.wasm_formats.specs.declared.fault.Space.TheVariants as spaces
 use Rattle.walrus_arena.specs.Arena.{item_at}
-use Rattle.walrus_builder.specs.Functions.{seqs_of}
-use Rattle.walrus_tree.specs.Trees.{IsTree}
-use Rattle.walrus_module_items.specs.declared.function.Function.{Function}
-use Rattle.walrus_module_items.specs.declared.function.FunctionKind.{FunctionKind}
-use Rattle.walrus_module_items.specs.declared.function.FunctionKind.TheVariants as functions
+use Rattle.walrus_module.specs.walrus_builder.Functions.{seqs_of}
+use Rattle.walrus_module.specs.walrus_tree.Trees.{IsTree}
+use Rattle.walrus_module.specs.walrus_module_items.declared.function.Function.{Function}
+use Rattle.walrus_module.specs.walrus_module_items.declared.function.FunctionKind.{FunctionKind}
+use Rattle.walrus_module.specs.walrus_module_items.declared.function.FunctionKind.TheVariants as functions
 use Rattle.walrus_module.specs.Parts.{Module}
 use Rattle.walrus_roots.specs.declared.item.Item.{Item}
 

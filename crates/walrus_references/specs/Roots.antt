@@ -3,12 +3,12 @@ use Rattle.std.specs.Prelude.{◌≡◌, ℕ, Some, IsSome, List, Contains}
 use Rattle.wasm_formats.specs.declared.fault.Space.TheVariants as spaces
 use Rattle.walrus_arena.specs.Arena.{item_at}
 use Rattle.walrus_instr.specs.declared.const_expr.ConstExpr.{ConstExpr}
-use Rattle.walrus_module_items.specs.declared.table.Table.{Table}
-use Rattle.walrus_module_items.specs.declared.data.Data.{Data}
-use Rattle.walrus_module_items.specs.declared.data.DataKind.TheVariants as datas
-use Rattle.walrus_module_items.specs.declared.element.Element.{Element}
-use Rattle.walrus_module_items.specs.declared.element.ElementKind.TheVariants as elements
-use Rattle.walrus_module_items.specs.declared.export.Export.{Export}
+use Rattle.walrus_module.specs.walrus_module_items.declared.table.Table.{Table}
+use Rattle.walrus_module.specs.walrus_module_items.declared.data.Data.{Data}
+use Rattle.walrus_module.specs.walrus_module_items.declared.data.DataKind.TheVariants as datas
+use Rattle.walrus_module.specs.walrus_module_items.declared.element.Element.{Element}
+use Rattle.walrus_module.specs.walrus_module_items.declared.element.ElementKind.TheVariants as elements
+use Rattle.walrus_module.specs.walrus_module_items.declared.export.Export.{Export}
 use Rattle.walrus_module.specs.Parts.{Module}
 use Rattle.walrus_module.specs.Items.{given_out}
 use Rattle.walrus_roots.specs.declared.item.Item.{Item}

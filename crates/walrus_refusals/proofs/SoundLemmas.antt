@@ -4,32 +4,35 @@ use Rattle.std.specs.Prelude.{◌↔◌, MatchOption, Decides}
 use Rattle.std.specs.Option.{option_and_then}
 use Rattle.std.proofs.lemmas.List.{get_or_past}
 use Rattle.std.proofs.lemmas.Bool.{cases_lt, false≢true}
+use Rattle.wasm_formats.specs.declared.fault.Form.{Form}
+use Rattle.wasm_formats.specs.declared.fault.Form.TheVariants as forms
 use Rattle.wasm_formats.specs.declared.fault.Space.{Space}
 use Rattle.wasm_formats.specs.declared.fault.Space.TheVariants as spaces
 use Rattle.walrus_types.specs.TypeLaws.{AreGrouped}
 use Rattle.walrus_arena.specs.Arena.{Arena, item_at}
-use Rattle.walrus_module_items.specs.declared.import.Import.{Import}
-use Rattle.walrus_module_items.specs.declared.import.ImportKind.{ImportKind}
-use Rattle.walrus_module_items.specs.declared.import.ImportKind.TheVariants as kinds
-use Rattle.walrus_module_items.specs.declared.function.Function.{Function}
-use Rattle.walrus_module.specs.Parts.{Module}
+use Rattle.walrus_linked.specs.walrus_module_items.declared.import.Import.{Import}
+use Rattle.walrus_linked.specs.walrus_module_items.declared.import.ImportKind.{ImportKind}
+use Rattle.walrus_linked.specs.walrus_module_items.declared.import.ImportKind.TheVariants as kinds
+use Rattle.walrus_linked.specs.walrus_module_items.declared.function.Function.{Function}
+use Rattle.walrus_linked.specs.walrus_module.Parts.{Module}
 use Rattle.walrus_linked.specs.Linked.{import_in}
 use Rattle.walrus_roots.specs.declared.item.Item.{Item}
 use Rattle.walrus_roots.specs.Items.{item, space_number}
 use Rattle.walrus_marks.specs.Marks.{State}
 use Rattle.walrus_marks.specs.Chains.{FitsIn}
 use Rattle.walrus_marks.specs.Chains.{IsReached as IsReachedIn}
-use Rattle.walrus_references.specs.References.{Refers}
-use Rattle.walrus_references.specs.Roots.{Root}
-use Rattle.walrus_references.specs.Kept.{IsReached}
-use Rattle.walrus_module.specs.Items.{Lives, LivesIn}
-use Rattle.walrus_references.specs.Refused.{FormsTree, HasTree, IsTreeIn}
+use Rattle.walrus_used.specs.walrus_references.References.{Refers}
+use Rattle.walrus_used.specs.walrus_references.Roots.{Root}
+use Rattle.walrus_used.specs.walrus_references.Kept.{IsReached}
+use Rattle.walrus_linked.specs.walrus_module.Items.{Lives, LivesIn}
+use Rattle.walrus_used.specs.walrus_references.Refused.{FormsTree, HasTree, IsTreeIn}
 use Rattle.walrus_used.specs.Counts.{counts_of}
 use Rattle.walrus_used.proofs.CountLemmas.{lives_fit}
 use Rattle.walrus_refusals.specs.Asked.{Linked, IsOwnLinked, IsBrought, IsWholeIn, IsClaimed, given}
-use Rattle.walrus_module.specs.Items.{brought}
-use Rattle.walrus_refusals.specs.Checks.{IsMet, HoldsMet, HoldsOrFails, AllClaimTruly}
-use Rattle.walrus_refusals.specs.Sound.{AllReached}
+use Rattle.walrus_linked.specs.walrus_module.Items.{brought}
+use Rattle.walrus_refusals.specs.Checks.{IsMet, HoldsMet, HoldsOrFails, AllClaimTruly, AreInexact, FailsIn, HasMetForm}
+use Rattle.walrus_refusals.specs.Sound.{AllReached, HasForm, Stands}
+use Rattle.walrus_refusals.specs.Written.{HasNoExact, HasNoExactIn, IsUnshared, IsUnsharedIn, StaysIn, StaysInGroup}
 
 -- nothing stands at an id that wasn't given out
 none_at : {T : Type 0} (a : Arena T) (id : ℕ) → (id < length a.slots → ⊥) → item_at a id ≡ None
@@ -85,42 +88,25 @@ module _ (m : Module) where
   tree_past spaces.Local id past = tt
   tree_past spaces.Label id past = tt
 
+  -- of a space that isn't looked at in turn
+  high_cases : (P : Space → Type 0) → P spaces.Local → P spaces.Label → (space : Space) → (space_number space < 8 → ⊥) → P space
+  high_cases P local label spaces.Type high = absurd (high (omega arith))
+  high_cases P local label spaces.Function high = absurd (high (omega arith))
+  high_cases P local label spaces.Table high = absurd (high (omega arith))
+  high_cases P local label spaces.Memory high = absurd (high (omega arith))
+  high_cases P local label spaces.Tag high = absurd (high (omega arith))
+  high_cases P local label spaces.Global high = absurd (high (omega arith))
+  high_cases P local label spaces.Element high = absurd (high (omega arith))
+  high_cases P local label spaces.Data high = absurd (high (omega arith))
+  high_cases P local label spaces.Local high = local
+  high_cases P local label spaces.Label high = label
+
   -- locals say nothing of that sort
   own_high : (space : Space) (id : ℕ) → (space_number space < 8 → ⊥) → IsOwnLinked m (item space id)
-  own_high spaces.Type id high = absurd (high (omega arith))
-  own_high spaces.Function id high = absurd (high (omega arith))
-  own_high spaces.Table id high = absurd (high (omega arith))
-  own_high spaces.Memory id high = absurd (high (omega arith))
-  own_high spaces.Tag id high = absurd (high (omega arith))
-  own_high spaces.Global id high = absurd (high (omega arith))
-  own_high spaces.Element id high = absurd (high (omega arith))
-  own_high spaces.Data id high = absurd (high (omega arith))
-  own_high spaces.Local id high = (tt, tt)
-  own_high spaces.Label id high = (tt, tt)
+  own_high space id = high_cases (λ space. IsOwnLinked m (item space id)) (tt, tt) (tt, tt) space
 
   tree_high : (space : Space) (id : ℕ) → (space_number space < 8 → ⊥) → IsTreeIn m space id
-  tree_high spaces.Type id high = tt
-  tree_high spaces.Function id high = absurd (high (omega arith))
-  tree_high spaces.Table id high = tt
-  tree_high spaces.Memory id high = tt
-  tree_high spaces.Tag id high = tt
-  tree_high spaces.Global id high = tt
-  tree_high spaces.Element id high = tt
-  tree_high spaces.Data id high = tt
-  tree_high spaces.Local id high = tt
-  tree_high spaces.Label id high = tt
-
-  lives_high : (space : Space) (id : ℕ) → (space_number space < 8 → ⊥) → FitsIn (counts_of m) (item space id) → LivesIn m space id
-  lives_high spaces.Type id high fits = absurd (high (omega arith))
-  lives_high spaces.Function id high fits = absurd (high (omega arith))
-  lives_high spaces.Table id high fits = absurd (high (omega arith))
-  lives_high spaces.Memory id high fits = absurd (high (omega arith))
-  lives_high spaces.Tag id high fits = absurd (high (omega arith))
-  lives_high spaces.Global id high fits = absurd (high (omega arith))
-  lives_high spaces.Element id high fits = absurd (high (omega arith))
-  lives_high spaces.Data id high fits = absurd (high (omega arith))
-  lives_high spaces.Local id high fits = fits
-  lives_high spaces.Label id high fits = absurd (omega (arith, fits))
+  tree_high space id = high_cases (λ space. IsTreeIn m space id) tt tt space
 
   -- what imports bring is given out below the counts
   given_in : (space : Space) (id : ℕ) → id < given m space → FitsIn (counts_of m) (item space id)
@@ -200,26 +186,64 @@ module _ (m : Module) where
     pub are_trees : (b : Bool) → b ≡ true → Decides b (HoldsMet (FormsTree m) s) → AllReached m pushed (FormsTree m)
     are_trees b so d = trees_from (d.0 so)
 
-    -- one that doesn't live
-    pub dead_met : (space : Space) → (((x : Item) → x.space ≡ space → IsMet s x → Lives m x) → ⊥) → AllReached m pushed (λ x. x.space ≡ space → Lives m x) → ⊥
-    dead_met space fails all = fails (λ x is met. all x (met_reached x met) is)
-
+    -- one that doesn't live, or that names another past its group
     module _ (grouped : AreGrouped m.types) where
-      pub dead_missing : (i : Item) → s.missing ≡ Some i → AllReached m pushed (λ x. x.space ≡ i.space → Lives m x) → ⊥
-      dead_missing i is all =
-          let d : IsReached m pushed i × (FitsIn (counts_of m) i → ⊥) = subst (λ (o : Option Item). MatchOption o ((x : Item) → IsReached m pushed x → FitsIn (counts_of m) x) (λ y. IsReached m pushed y × (FitsIn (counts_of m) y → ⊥))) is h.missing in
-          d.1 (lives_fit m grouped i (all i d.0 refl))
+      missing_reached : (i : Item) → s.missing ≡ Some i → IsReached m pushed i × (FitsIn (counts_of m) i → ⊥)
+      missing_reached i is = subst (λ (o : Option Item). MatchOption o ((x : Item) → IsReached m pushed x → FitsIn (counts_of m) x) (λ y. IsReached m pushed y × (FitsIn (counts_of m) y → ⊥))) is h.missing
+
+      dead_found : (space : Space) → FailsIn (Stands m) s space → AllReached m pushed (λ x. x.space ≡ space → Stands m x) → ⊥
+      dead_found space (inl fails) all = fails (λ x is met. all x (met_reached x met) is)
+      dead_found space (inr (i, missing, is)) all = (let d = missing_reached i missing in d.1 (lives_fit m grouped i (all i d.0 is).0))
+
+      pub dead_answered : (answer : Option Space) (space : Space) → answer ≡ Some space → MatchOption answer (HoldsMet (Stands m) s × (s.missing ≡ None)) (FailsIn (Stands m) s) → AllReached m pushed (λ x. x.space ≡ space → Stands m x) → ⊥
+      dead_answered answer space is said = dead_found space (subst (λ (o : Option Space). MatchOption o (HoldsMet (Stands m) s × (s.missing ≡ None)) (FailsIn (Stands m) s)) is said)
+
+    pub has_form : (form : Form) → HasMetForm m s form → HasForm m pushed form
+    has_form forms.SharedGlobal fails = λ all. fails (λ x low met. all x (met_reached x met))
+    has_form forms.ExactType fails = λ all. fails (λ x low met. all x (met_reached x met), λ id met. all (item spaces.Local id) (met_reached (item spaces.Local id) met))
+    has_form forms.SharedTable fails = fails
+    has_form forms.SharedType fails = fails
+    has_form forms.ContinuationType fails = fails
+    has_form forms.Select fails = fails
 
     module _ (none : s.missing ≡ None) where
       all_fit : (x : Item) → IsReached m pushed x → FitsIn (counts_of m) x
       all_fit = subst (λ (o : Option Item). MatchOption o ((x : Item) → IsReached m pushed x → FitsIn (counts_of m) x) (λ y. IsReached m pushed y × (FitsIn (counts_of m) y → ⊥))) none h.missing
 
-      pub all_live : HoldsMet (Lives m) s → AllReached m pushed (Lives m)
-      all_live all x r = elim (low_or x) as (λ _. Lives m x) [ inl low ↦ all x low (reached_met x r (all_fit x r)) | inr high ↦ lives_high x.space x.id high (all_fit x r) ]
+      all_reached : (P : Space → ℕ → Type 0) → HoldsMet (λ x. P x.space x.id) s → ((id : ℕ) → IsMet s (item spaces.Local id) → P spaces.Local id) → ((id : ℕ) → FitsIn (counts_of m) (item spaces.Label id) → P spaces.Label id)
+          → AllReached m pushed (λ x. P x.space x.id)
+      all_reached P all local label x r = elim (low_or x) as (λ _. P x.space x.id) [
+        | inl low ↦ all x low (reached_met x r (all_fit x r))
+        | inr high ↦ high_cases (λ space. IsMet s (item space x.id) → FitsIn (counts_of m) (item space x.id) → P space x.id) (λ met _. local x.id met) (λ _ fits. label x.id fits) x.space high (reached_met x r (all_fit x r)) (all_fit x r)
+      ]
+
+      no_label : {P : Type 0} (id : ℕ) → FitsIn (counts_of m) (item spaces.Label id) → P
+      no_label id fits = absurd (omega (arith, fits))
+
+      pub all_stand : HoldsMet (Stands m) s → AllReached m pushed (Stands m)
+      all_stand all = all_reached (λ space id. LivesIn m space id × StaysIn m space id) all (λ id met. (met_fits (item spaces.Local id) met, tt)) (λ id fits. no_label id fits)
+
+      pub all_unshared : HoldsMet (IsUnshared m) s → AllReached m pushed (IsUnshared m)
+      all_unshared all = all_reached (IsUnsharedIn m) all (λ id met. tt) (λ id fits. tt)
+
+      pub all_inexact : AreInexact m s → AllReached m pushed (HasNoExact m)
+      all_inexact all = all_reached (HasNoExactIn m) all.0 all.1 (λ id fits. tt)
 
       pub all_met : (x : Item) → IsMet s x ↔ IsReached m pushed x
       all_met x = (met_reached x, λ r. reached_met x r (all_fit x r))
 
-    -- the same, of what was found
-    pub dead_found : (answer : Option Space) (space : Space) → answer ≡ Some space → HoldsOrFails (Lives m) s answer → AllReached m pushed (λ x. x.space ≡ space → Lives m x) → ⊥
-    dead_found answer space is h = dead_met space (subst (HoldsOrFails (Lives m) s) is h).1
+-- what an answer says
+pub holds_not : (holds : Item → Type 0) (s : State) (answer : Option Space) (space : Space) → answer ≡ Some space → HoldsOrFails holds s answer → ((x : Item) → x.space ≡ space → IsMet s x → holds x) → ⊥
+holds_not holds s answer space is h = (subst (HoldsOrFails holds s) is h).1
+
+pub holds_all : (holds : Item → Type 0) (s : State) (answer : Option Space) → answer ≡ None → HoldsOrFails holds s answer → HoldsMet holds s
+holds_all holds s answer is h = subst (HoldsOrFails holds s) is h
+
+-- what fails of two that are asked
+module _ (m : Module) (s : State) where
+  pub dead_first : (space : Space) → (((x : Item) → x.space ≡ space → IsMet s x → Lives m x) → ⊥) → FailsIn (Stands m) s space
+  dead_first space fails = inl (λ all. fails (λ x is met. (all x is met).0))
+
+  pub dead_last : HoldsMet (Lives m) s → s.missing ≡ None → (answer : Option Space) → HoldsOrFails (StaysInGroup m) s answer → MatchOption answer (HoldsMet (Stands m) s × (s.missing ≡ None)) (FailsIn (Stands m) s)
+  dead_last live none None all = (λ x low met. (live x low met, all x low met), none)
+  dead_last live none (Some space) fails = inl (λ all. fails.1 (λ x is met. (all x is met).1))

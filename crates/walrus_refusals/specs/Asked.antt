@@ -4,12 +4,12 @@ use Rattle.wasm_formats.specs.declared.fault.Space.{Space}
 use Rattle.wasm_formats.specs.declared.fault.Space.TheVariants as spaces
 use Rattle.walrus_arena.specs.Arena.{Arena, item_at, next_id}
 use Rattle.walrus_types.specs.Table.{Table as TypeTable}
-use Rattle.walrus_module_items.specs.declared.import.Import.{Import}
-use Rattle.walrus_module_items.specs.declared.function.Function.{Function}
-use Rattle.walrus_module_items.specs.declared.function.FunctionKind.{FunctionKind}
-use Rattle.walrus_module_items.specs.declared.function.FunctionKind.TheVariants as functions
-use Rattle.walrus_module.specs.Parts.{Module}
-use Rattle.walrus_module.specs.Items.{brought}
+use Rattle.walrus_linked.specs.walrus_module_items.declared.import.Import.{Import}
+use Rattle.walrus_linked.specs.walrus_module_items.declared.function.Function.{Function}
+use Rattle.walrus_linked.specs.walrus_module_items.declared.function.FunctionKind.{FunctionKind}
+use Rattle.walrus_linked.specs.walrus_module_items.declared.function.FunctionKind.TheVariants as functions
+use Rattle.walrus_linked.specs.walrus_module.Parts.{Module}
+use Rattle.walrus_linked.specs.walrus_module.Items.{brought}
 use Rattle.walrus_linked.specs.Linked.{HasArguments, import_in}
 use Rattle.walrus_roots.specs.declared.item.Item.{Item}
 use Rattle.walrus_roots.specs.Items.{item}

@@ -1,14 +1,18 @@
 -- Checks of the items that were met.
-use Rattle.std.specs.Prelude.{◌≡◌, ℕ, ◌<◌, Option, Some, MatchOption, IsTrue}
+use Rattle.std.specs.Prelude.{◌≡◌, ◌⊎◌, ℕ, ◌<◌, Option, Some, MatchOption, IsTrue}
+use Rattle.wasm_formats.specs.declared.fault.Form.{Form}
+use Rattle.wasm_formats.specs.declared.fault.Form.TheVariants as forms
 use Rattle.wasm_formats.specs.declared.fault.Space.{Space}
+use Rattle.wasm_formats.specs.declared.fault.Space.TheVariants as spaces
 use Rattle.walrus_arena.specs.Arena.{item_at}
-use Rattle.walrus_module_items.specs.declared.import.Import.{Import}
-use Rattle.walrus_module.specs.Parts.{Module}
+use Rattle.walrus_linked.specs.walrus_module_items.declared.import.Import.{Import}
+use Rattle.walrus_linked.specs.walrus_module.Parts.{Module}
 use Rattle.walrus_linked.specs.Linked.{import_in}
 use Rattle.walrus_roots.specs.declared.item.Item.{Item}
 use Rattle.walrus_roots.specs.Items.{item, space_number}
 use Rattle.walrus_marks.specs.Marks.{State, is_marked}
-use Rattle.walrus_module.specs.Items.{brought}
+use Rattle.walrus_linked.specs.walrus_module.Items.{brought}
+use Rattle.walrus_refusals.specs.Written.{HasNoExact, IsUnshared}
 
 -- the item was met
 abbrev pub IsMet : State → Item → Type 0
@@ -26,6 +30,20 @@ HoldsMet holds marks = (x : Item) → space_number x.space < 8 → IsMet marks x
 abbrev pub HoldsOrFails : (Item → Type 0) → State → Option Space → Type 0
 HoldsOrFails holds marks answer =
     MatchOption answer (HoldsMet holds marks) (λ space. (space_number space < 8) × (((x : Item) → x.space ≡ space → IsMet marks x → holds x) → ⊥))
+
+-- it isn't so of what was met in the space, or an item of the space was met that has no flag
+abbrev pub FailsIn : (Item → Type 0) → State → Space → Type 0
+FailsIn holds marks space = (((x : Item) → x.space ≡ space → IsMet marks x → holds x) → ⊥) ⊎ ((i : Item) × (marks.missing ≡ Some i) × (i.space ≡ space))
+
+-- no heap type in what was met, locals among it, is exact
+abbrev pub AreInexact : Module → State → Type 0
+AreInexact m marks = HoldsMet (HasNoExact m) marks × ((id : ℕ) → IsMet marks (item spaces.Local id) → HasNoExact m (item spaces.Local id))
+
+-- something that was met has the form
+abbrev pub HasMetForm : Module → State → Form → Type 0
+HasMetForm m marks forms.SharedGlobal = HoldsMet (IsUnshared m) marks → ⊥
+HasMetForm m marks forms.ExactType = AreInexact m marks → ⊥
+HasMetForm m marks _ = ⊥
 
 -- the item that the import brings names it back, where it was met
 abbrev pub ClaimsTruly : Module → State → ℕ → Import → Type 0

@@ -1,3 +1,8 @@
 pub mod Asked
 pub mod Checks
+pub mod Grouped
 pub mod Sound
+pub mod Written
+-- Passed on to crates above, which then list this one alone.
+pub use Rattle.walrus_exact.specs as walrus_exact
+pub use Rattle.walrus_linked.specs as walrus_linked

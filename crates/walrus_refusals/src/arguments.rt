@@ -7,9 +7,9 @@ ghost use Rattle.walrus_linked.specs.Linked.{HasArguments};
 
 use std::alloc::{AllocError, Global};
 use walrus_arena::{IdHashSet, LocalId, LocalSpace, TypeId};
+use walrus_exact::local_function::LocalFunction;
 use walrus_forms::CompositeType;
 use walrus_items::Type;
-use walrus_local_function::LocalFunction;
 use walrus_types::ModuleTypes;
 
 // Whether no id stands twice.

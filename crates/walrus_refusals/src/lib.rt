@@ -3,10 +3,12 @@
 
 mod arguments;
 mod checks;
+mod grouped;
 mod linked;
 mod live;
 mod sound;
 mod trees;
+mod written;
 
 pub use linked::{brought, is_same};
 pub use sound::reach_sound;

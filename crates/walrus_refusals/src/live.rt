@@ -1,13 +1,13 @@
 //! Whether items live.
 ghost use Rattle.std.specs.Prelude.{Decides, IfOk, IsSome};
-ghost use Rattle.walrus_module.specs.Parts.{parts};
-ghost use Rattle.walrus_module.specs.Items.{written_type};
-ghost use Rattle.walrus_module.specs.Items.{Lives};
+ghost use Rattle.walrus_linked.specs.walrus_module.Parts.{parts};
+ghost use Rattle.walrus_linked.specs.walrus_module.Items.{written_type};
+ghost use Rattle.walrus_linked.specs.walrus_module.Items.{Lives};
 
 use crate::checks::Check;
 use std::alloc::AllocError;
 use walrus_arena::TypeId;
-use walrus_module::Module;
+use walrus_linked::module::Module;
 use walrus_roots::Item;
 use walrus_types::ModuleTypes;
 use wasm_formats::Space;

@@ -1,48 +1,89 @@
 //! What is reached in a module, where nothing is wrong with it.
-ghost use Rattle.std.specs.Prelude.{◌↔◌, Decides, IfErr, IfOk, MatchOption, OnOk};
-ghost use Rattle.walrus_module.specs.Parts.{parts};
+ghost use Rattle.std.specs.Prelude.{◌≡◌, ◌↔◌, Decides, IfErr, IfOk, MatchOption, None, OnOk};
+ghost use Rattle.walrus_linked.specs.walrus_module.Parts.{parts};
 ghost use Rattle.walrus_roots.specs.declared.item.Item.{Item as AnyItem};
 ghost use Rattle.walrus_marks.specs.Chains.{FitsIn};
-ghost use Rattle.walrus_references.specs.Kept.{IsReached};
-ghost use Rattle.walrus_module.specs.Items.{Lives};
-ghost use Rattle.walrus_references.specs.Refused.{FormsTree};
+ghost use Rattle.walrus_used.specs.walrus_references.Kept.{IsReached};
+ghost use Rattle.walrus_linked.specs.walrus_module.Items.{Lives};
 ghost use Rattle.walrus_used.specs.Counts.{counts_of};
 ghost use Rattle.walrus_refusals.specs.Asked.{IsOwnLinked};
-ghost use Rattle.walrus_refusals.specs.Checks.{AllClaimTruly, HoldsMet, HoldsOrFails, IsMet};
-ghost use Rattle.walrus_refusals.specs.Sound.{IsRefused, IsSound};
+ghost use Rattle.walrus_refusals.specs.Checks.{AllClaimTruly, AreInexact, FailsIn, HasMetForm, HoldsMet, IsMet};
+ghost use Rattle.walrus_refusals.specs.Sound.{IsRefused, IsSound, Stands};
+ghost use Rattle.walrus_refusals.specs.Written.{IsUnshared, StaysInGroup};
 
-use crate::checks::failing_space;
+use crate::checks::{Check, failing_space};
+use crate::grouped::Grouped;
 use crate::linked::{OwnLinks, all_claim_truly};
 use crate::live::Living;
 use crate::trees::Trees;
+use crate::written::{Inexact, Unshared, locals_have_none};
 use std::alloc::{AllocError, Global};
-use walrus_errors::ModuleError;
+use walrus_errors::{Form, ModuleError};
+use walrus_linked::module::Module;
 use walrus_marks::Marks;
-use walrus_module::Module;
 use walrus_roots::Item;
 use walrus_used::reach_items;
 use wasm_formats::Space;
+
+// Whether it holds of all that was met but locals.
+fn holds_of_all<C: Check>(input: &Module, marks: &Marks, check: &C) -> Result<bool, AllocError>
+    requires { (x : AnyItem) → IsMet marks.now x → FitsIn (counts_of (parts input.now)) x }
+    ensures { IfOk result (λ ok. Decides ok (HoldsMet (C.holds check.now) marks.now)) }
+{
+    match failing_space(input, marks, check)? {
+        Some(_) => Ok(false),
+        None => Ok(true),
+    }
+}
 
 // Whether what was met and imports name each other, and functions have bodies.
 fn are_linked(alloc: Global, input: &Module, marks: &Marks) -> Result<bool, AllocError>
     requires { (x : AnyItem) → IsMet marks.now x → FitsIn (counts_of (parts input.now)) x }
     ensures { IfOk result (λ ok. Decides ok (HoldsMet (IsOwnLinked (parts input.now)) marks.now × AllClaimTruly (parts input.now) marks.now)) }
 {
-    match failing_space(input, marks, &OwnLinks { alloc, input })? {
-        Some(_) => Ok(false),
-        None => Ok(all_claim_truly(input, marks)),
+    if !holds_of_all(input, marks, &OwnLinks { alloc, input })? {
+        return Ok(false);
     }
+    Ok(all_claim_truly(input, marks))
 }
 
-// Whether the bodies that were met are trees.
-fn are_trees(alloc: Global, input: &Module, marks: &Marks) -> Result<bool, AllocError>
+// The space of an item that was met and doesn't live, or of types where one names another past its own group.
+fn dead_space(alloc: Global, input: &Module, marks: &Marks) -> Result<Option<Space>, AllocError>
     requires { (x : AnyItem) → IsMet marks.now x → FitsIn (counts_of (parts input.now)) x }
-    ensures { IfOk result (λ ok. Decides ok (HoldsMet (FormsTree (parts input.now)) marks.now)) }
+    ensures { IfOk result (λ answer. MatchOption answer ((HoldsMet (Stands (parts input.now)) marks.now) × (marks.now.missing ≡ None)) (FailsIn (Stands (parts input.now)) marks.now)) }
 {
-    match failing_space(input, marks, &Trees { alloc, input })? {
-        Some(_) => Ok(false),
-        None => Ok(true),
+    if let Some(space) = failing_space(input, marks, &Living { input })? {
+        return Ok(Some(space));
     }
+    if let Some(item) = marks.missing() {
+        return Ok(Some(item.space));
+    }
+    failing_space(input, marks, &Grouped { alloc, input })
+}
+
+// Whether no heap type in what was met is exact.
+fn are_inexact(alloc: Global, input: &Module, marks: &Marks) -> Result<bool, AllocError>
+    requires { (x : AnyItem) → IsMet marks.now x → FitsIn (counts_of (parts input.now)) x }
+    ensures { IfOk result (λ ok. Decides ok (AreInexact (parts input.now) marks.now)) }
+{
+    if !holds_of_all(input, marks, &Inexact { alloc, input })? {
+        return Ok(false);
+    }
+    Ok(locals_have_none(input.locals.iter().as_slice(), marks))
+}
+
+// A form in what was met that stands in no file.
+fn form_of(alloc: Global, input: &Module, marks: &Marks) -> Result<Option<Form>, AllocError>
+    requires { (x : AnyItem) → IsMet marks.now x → FitsIn (counts_of (parts input.now)) x }
+    ensures { IfOk result (λ answer. MatchOption answer ((HoldsMet (IsUnshared (parts input.now)) marks.now) × AreInexact (parts input.now) marks.now) (HasMetForm (parts input.now) marks.now)) }
+{
+    if !holds_of_all(input, marks, &Unshared { input })? {
+        return Ok(Some(Form::SharedGlobal));
+    }
+    if !are_inexact(alloc, input, marks)? {
+        return Ok(Some(Form::ExactType));
+    }
+    Ok(None)
 }
 
 /// Marks what is reached from the roots, where custom sections push these. Takes time and memory in proportion to
@@ -51,7 +92,8 @@ fn are_trees(alloc: Global, input: &Module, marks: &Marks) -> Result<bool, Alloc
 /// # Errors
 ///
 /// In this order, for what is reached: `NotLinked` where an item and an import don't name each other, or a function
-/// has no body or not its arguments; `NoTree` where a body is no tree; `DeadReference` where an item doesn't live.
+/// has no body or not its arguments; `NoTree` where a body is no tree; `DeadReference` where an item doesn't live, or
+/// a type names one past its own group; `Unsupported` where a global is shared or a heap type is exact, at the place 0.
 /// Want of memory.
 pub fn reach_sound(alloc: Global, input: &Module, pushed: &[Item]) -> Result<Marks, ModuleError>
     ensures reached { IfOk result (λ marks. (x : AnyItem) → IsMet marks x ↔ IsReached (parts input.now) pushed.now x) }
@@ -63,14 +105,14 @@ pub fn reach_sound(alloc: Global, input: &Module, pushed: &[Item]) -> Result<Mar
     if !are_linked(alloc, input, &marks)? {
         return Err(ModuleError::NotLinked);
     }
-    if !are_trees(alloc, input, &marks)? {
+    if !holds_of_all(input, &marks, &Trees { alloc, input })? {
         return Err(ModuleError::NoTree);
     }
-    if let Some(space) = failing_space(input, &marks, &Living { input })? {
+    if let Some(space) = dead_space(alloc, input, &marks)? {
         return Err(ModuleError::DeadReference { space });
     }
-    if let Some(item) = marks.missing() {
-        return Err(ModuleError::DeadReference { space: item.space });
+    if let Some(form) = form_of(alloc, input, &marks)? {
+        return Err(ModuleError::Unsupported { form, offset: 0 });
     }
     Ok(marks)
 }

@@ -1,16 +1,16 @@
 //! Whether bodies are trees.
 ghost use Rattle.std.specs.Prelude.{Decides, IfOk, MatchOption};
-ghost use Rattle.walrus_module.specs.Parts.{parts};
+ghost use Rattle.walrus_linked.specs.walrus_module.Parts.{parts};
 ghost use Rattle.walrus_arena.specs.Arena.{item_at};
-ghost use Rattle.walrus_module_items.specs.declared.function.Function.{Function as AnyFunction};
-ghost use Rattle.walrus_references.specs.Refused.{FormsTree, HasTree};
+ghost use Rattle.walrus_linked.specs.walrus_module_items.declared.function.Function.{Function as AnyFunction};
+ghost use Rattle.walrus_used.specs.walrus_references.Refused.{FormsTree, HasTree};
 
 use crate::checks::Check;
 use std::alloc::{AllocError, Global};
 use walrus_arena::FunctionId;
-use walrus_collections::ModuleFunctions;
-use walrus_module::Module;
-use walrus_module_items::FunctionKind;
+use walrus_exact::module_items::FunctionKind;
+use walrus_linked::collections::ModuleFunctions;
+use walrus_linked::module::Module;
 use walrus_roots::Item;
 use walrus_tree::check_tree;
 use wasm_formats::Space;

@@ -1,12 +1,12 @@
 -- Custom sections as they are read.
-use Rattle.std.specs.Prelude.{ℕ, ◌≡◌, nat_le, true, List, length, take, drop, Ok, refl}
+use Rattle.std.specs.Prelude.{ℕ, ◌≡◌, nat_le, true, List, length, take, drop, Ok}
 use Rattle.std.proofs.Common.{ap, sym, ◌∙◌, arith}
 use Rattle.std.proofs.lemmas.Bool.{le-leb}
 use Rattle.std.proofs.lemmas.List.{take_all}
 use Rattle.wasm_reader.specs.Reading.{bytes_at}
 use Rattle.wasm_reader.specs.Spellings.{ok_is}
 use Rattle.wasm_sections.specs.Sections.{CustomEntry}
-use Rattle.walrus_entry_readers.specs.declared.items.Custom.{Custom}
+use Rattle.walrus_entry_readers.specs.walrus_known_sections.declared.items.Custom.{Custom}
 
 abbrev pub custom_entry_of : Custom → CustomEntry
 custom_entry_of c = (c.name.now, c.bytes.now)

@@ -2,7 +2,7 @@
 
 ghost use Rattle.std.specs.Prelude.{◌≡◌, ◌&&◌};
 ghost use Rattle.wasm_sections.specs.Modules.{has_bodies, has_data};
-ghost use Rattle.walrus_entry_readers.specs.State.{state_of};
+ghost use Rattle.walrus_entry_readers.specs.walrus_known_sections.State.{state_of};
 
 use walrus_entry_readers::Sections;
 

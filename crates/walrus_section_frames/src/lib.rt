@@ -9,5 +9,5 @@ mod singles;
 
 pub use custom::{read_custom, read_custom_section};
 pub use ends::has_all;
-pub use order::read_section_id;
+pub use order::{rank, read_section_id};
 pub use singles::{DataCount, Start};

@@ -6,7 +6,7 @@ ghost use Rattle.wasm_reader.specs.Reading.{plain};
 ghost use Rattle.wasm_sections.specs.Exports.{set_start, start_function};
 ghost use Rattle.wasm_sections.specs.Sections.{set_count};
 ghost use Rattle.walrus_section_reader.specs.Parses.{Parses};
-ghost use Rattle.walrus_entry_readers.specs.State.{state_of};
+ghost use Rattle.walrus_entry_readers.specs.walrus_known_sections.State.{state_of};
 
 use std::alloc::{AllocError, Global as Alloc};
 use walrus_entry_readers::{Entry, Sections};

@@ -5,6 +5,7 @@ use walrus_entry_readers::{Each, Functions, Globals, Imports, Memories, Sections
 use walrus_section_frames::{DataCount, Start};
 use walrus_section_reader::{FaultKind, Form, Many, Space, read_section};
 use walrus_segment_readers::{Elements, Segments};
+use walrus_type_readers::Types;
 use wasm_reader::{BinaryReader, ErrorKind};
 
 // A kind of entries.
@@ -20,6 +21,7 @@ enum Kind {
     Start,
     Elements,
     Segments,
+    Types,
 }
 
 // A vec of entries of a kind.
@@ -40,6 +42,7 @@ fn read<'a>(
         Kind::Start => read_section::<Many<Each<'a, Start>>>(alloc, sections, reader),
         Kind::Elements => read_section::<Many<Each<'a, Elements>>>(alloc, sections, reader),
         Kind::Segments => read_section::<Many<Each<'a, Segments>>>(alloc, sections, reader),
+        Kind::Types => read_section::<Many<Each<'a, Types>>>(alloc, sections, reader),
     }
 }
 
@@ -304,5 +307,38 @@ fn segments(rt: HostRuntime) -> Result<(), Fail> {
         )
     );
     assert!(rt; reads(alloc, Kind::Segments, b"\x05\x01\x01\x02hi"));
+    Ok(())
+}
+
+// What a types section is refused for, or none.
+fn type_fault(alloc: Alloc, bytes: &[u8]) -> Option<(FaultKind, u64)> {
+    let mut sections = Sections::new(alloc);
+    let mut reader = BinaryReader::new(bytes, 9);
+    match read(alloc, Kind::Types, &mut sections, &mut reader) {
+        Ok(()) => None,
+        Err(fault) => Some((fault.kind, fault.offset)),
+    }
+}
+
+#[test]
+fn type_counts(rt: HostRuntime) -> Result<(), Fail> {
+    let alloc = rt.alloc();
+    let limit = Some((FaultKind::Read(ErrorKind::Limit), 12));
+    let cut = Some((FaultKind::Read(ErrorKind::EndOfFile(1)), 15));
+    assert!(rt; type_fault(alloc, b"\x05\xff\xff\xff\xff\x0f") == cut);
+    assert!(rt; type_fault(alloc, b"\x07\x01\x4e\xff\xff\xff\xff\x0f") == limit);
+    assert!(rt; type_fault(alloc, b"\x07\x01\x60\xff\xff\xff\xff\x0f") == limit);
+    Ok(())
+}
+
+#[test]
+fn groups(rt: HostRuntime) -> Result<(), Fail> {
+    let alloc = rt.alloc();
+    let plain = b"\x0f\x03\x60\x00\x00\x60\x01\x7f\x00\x50\x00\x60\x01\x7f\x01\x7f";
+    let missing = Some((FaultKind::Index(Space::Type), 15));
+    assert!(rt; type_fault(alloc, plain) == None);
+    assert!(rt; type_fault(alloc, b"\x0a\x01\x4e\x02\x5f\x01\x64\x01\x00\x5f\x00") == None);
+    assert!(rt; type_fault(alloc, b"\x0b\x02\x60\x00\x00\x4e\x01\x5f\x01\x64\x01\x00") == None);
+    assert!(rt; type_fault(alloc, b"\x0a\x01\x4e\x02\x5f\x00\x5f\x01\x64\x02\x00") == missing);
     Ok(())
 }

@@ -45,7 +45,7 @@ pub trait CustomSection: Drop {
     ///
     /// # Errors
     ///
-    /// Want of memory, or the section's own refusal. It may have added some items.
+    /// Want of memory, or the section's own refusal. What the roots hold then is not said.
     fn add_gc_roots(&self, roots: &mut Roots) -> Result<(), SectionFault>
         ensures { Pushes (gc_roots self.now) roots.old roots.new result };
 

@@ -208,7 +208,7 @@ impl<B: CustomSection> Sections<B> {
     ///
     /// # Errors
     ///
-    /// The first refusal. The sections before it may have added items.
+    /// The first refusal. What the roots hold then is not said.
     pub fn add_gc_roots(&self, roots: &mut Roots) -> Result<(), SectionFault>
         ensures { Pushes (pushed B.gc_roots (entries self.now)) roots.old roots.new result }
     {

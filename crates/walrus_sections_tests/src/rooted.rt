@@ -2,9 +2,9 @@
 use crate::own::{Keeper, Listener, Refuser};
 use std::alloc::Global;
 use std::test::Fail;
-use walrus_arena::{FunctionId, UntypedCustomSectionId};
+use walrus_arena::{FunctionId, GlobalId, MemoryId, TableId, TagId, UntypedCustomSectionId};
 use walrus_index_maps::IdsToIndices;
-use walrus_roots::Item;
+use walrus_roots::{Item, Roots};
 use walrus_sections::{CodeTransform, CustomSection, ModuleCustomSections, SectionFault};
 use wasm_formats::Space;
 
@@ -15,6 +15,18 @@ fn kept(sections: &ModuleCustomSections, alloc: Global) -> Result<(usize, u32), 
         Some(item) => Ok((roots.items().len(), item.id)),
         None => Ok((0, 0)),
     }
+}
+
+fn are(items: &[Item], expected: &[(Space, u32)]) -> bool {
+    if items.len() != expected.len() {
+        return false;
+    }
+    for (item, &(space, id)) in items.iter().zip(expected) {
+        if item.space != space || item.id != id {
+            return false;
+        }
+    }
+    true
 }
 
 fn data_is(
@@ -83,5 +95,24 @@ fn a_section_is_told_where_the_code_was_written(rt: HostRuntime) -> Result<(), F
     assert!(rt; data_is(&sections, id, alloc, &[0]));
     tell(&mut sections, id, alloc);
     assert!(rt; data_is(&sections, id, alloc, &[1]));
+    Ok(())
+}
+
+#[test]
+fn roots_are_what_was_added(rt: HostRuntime) -> Result<(), Fail> {
+    let mut roots = Roots::new(rt.alloc());
+    roots.push_func(FunctionId::from_index(5))?;
+    roots.push_table(TableId::from_index(4))?;
+    roots.push_memory(MemoryId::from_index(3))?;
+    roots.push_global(GlobalId::from_index(2))?;
+    roots.push_tag(TagId::from_index(1))?;
+    let added = [
+        (Space::Function, 5),
+        (Space::Table, 4),
+        (Space::Memory, 3),
+        (Space::Global, 2),
+        (Space::Tag, 1),
+    ];
+    assert!(rt; are(roots.items(), &added));
     Ok(())
 }

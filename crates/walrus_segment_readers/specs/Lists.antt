@@ -1,10 +1,9 @@
 -- What element segments list.
-use Rattle.std.specs.Prelude.{ℕ, ◌+◌, ◌<◌, ◌≡◌, List, [], ◌∷◌, ◌++◌, map, Option, Some, None, Result, Ok, Err, refl}
+use Rattle.std.specs.Prelude.{ℕ, ◌+◌, ◌<◌, ◌≡◌, List, [], ◌∷◌, ◌++◌, map, Result, Ok}
 use Rattle.std.specs.Global.{Vec}
-use Rattle.std.proofs.Common.{sym, ap, subst}
+use Rattle.std.proofs.Common.{subst}
 use Rattle.std.proofs.lemmas.List.{map_push}
-use Rattle.wasm_features.specs.declared.WasmFeatures.{WasmFeatures}
-use Rattle.wasm_reader.specs.Cursor.{Window, Cursor, rest}
+use Rattle.wasm_reader.specs.Cursor.{Window, Cursor}
 use Rattle.wasm_reader.specs.Reading.{plain}
 use Rattle.wasm_formats.specs.declared.fault.Space.TheVariants as spaces
 use Rattle.wasm_formats.specs.Stops.{Parsing, ◌>>=◌}

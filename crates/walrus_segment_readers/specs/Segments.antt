@@ -1,8 +1,7 @@
 -- Segments as they are read, in words of the grammar.
 use Rattle.std.specs.Prelude.{ℕ, ◌<◌, ◌≤◌, ◌≡◌, Bool, List, length, map, Option, Some, None, Result, Ok, Err, slice_index_or, refl}
-use Rattle.std.specs.Borrow.{Bor}
 use Rattle.std.specs.Global.{Vec}
-use Rattle.std.proofs.Common.{ap, sym, ◌∙◌, subst, arith}
+use Rattle.std.proofs.Common.{subst, arith}
 use Rattle.std.proofs.lemmas.List.{get_or-map, length-map}
 use Rattle.std.proofs.Math.ListN.{get_or-eq_default}
 use Rattle.wasm_reader.specs.Cursor.{Cursor}
@@ -16,10 +15,10 @@ use Rattle.wasm_sections.specs.Segments as grammar
 use Rattle.walrus_section_reader.specs.declared.fault.Fault.{Fault}
 use Rattle.walrus_section_reader.specs.Parses.{Parses}
 use Rattle.walrus_section_values.specs.Globals.{expr_of}
-use Rattle.walrus_entry_readers.specs.Items.{table_of, memory_of}
-use Rattle.walrus_entry_readers.specs.Leads.{after_ok, after_err}
-use Rattle.walrus_entry_readers.specs.declared.items.Table.{Table}
-use Rattle.walrus_entry_readers.specs.declared.items.Memory.{Memory}
+use Rattle.walrus_known_sections.specs.Items.{table_of, memory_of}
+use Rattle.walrus_known_sections.specs.Leads.{after_ok, after_err}
+use Rattle.walrus_known_sections.specs.declared.items.Table.{Table}
+use Rattle.walrus_known_sections.specs.declared.items.Memory.{Memory}
 use Rattle.walrus_segment_readers.specs.Lists.{exprs_of, numbers_of}
 use Rattle.walrus_segment_readers.specs.declared.segments.ElementForm.{ElementForm}
 use Rattle.walrus_segment_readers.specs.declared.segments.ElementForm.TheVariants as forms

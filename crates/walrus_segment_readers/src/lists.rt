@@ -9,7 +9,7 @@ ghost use Rattle.wasm_sections.specs.Segments.{expressions, functions};
 ghost use Rattle.walrus_section_reader.specs.Parses.{Parses};
 ghost use Rattle.walrus_section_reader.specs.Repeats.{listed_at};
 ghost use Rattle.walrus_segment_readers.specs.Lists.{exprs_of, many_at, numbers_of};
-ghost use Rattle.walrus_entry_readers.specs.State.{state_of};
+ghost use Rattle.walrus_known_sections.specs.State.{state_of};
 
 use std::alloc::Global as Alloc;
 use walrus_entry_readers::{Sections, read_init};

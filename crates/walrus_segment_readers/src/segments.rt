@@ -12,9 +12,9 @@ ghost use Rattle.walrus_forms.specs.Records.{ref_of};
 ghost use Rattle.walrus_section_reader.specs.Parses.{Parses, ParsesExactly};
 ghost use Rattle.walrus_section_values.specs.Globals.{expr_of};
 ghost use Rattle.walrus_segment_readers.specs.Lists.{exprs_of, numbers_of};
-ghost use Rattle.walrus_entry_readers.specs.Items.{data_of, element_of};
+ghost use Rattle.walrus_known_sections.specs.Items.{data_of, element_of};
 ghost use Rattle.walrus_segment_readers.specs.Segments.{both_of, data_form_of, element_form_of, joined, kind_of_functions_of};
-ghost use Rattle.walrus_entry_readers.specs.State.{state_of};
+ghost use Rattle.walrus_known_sections.specs.State.{state_of};
 
 use crate::lists::{read_expressions, read_functions};
 use std::alloc::{AllocError, Global as Alloc};

@@ -3,7 +3,7 @@ use Rattle.std.proofs.Common.{ℕ, Bool, true, ◌&&◌, ◌+◌, ◌<◌, ◌�
 use Rattle.std.proofs.lemmas.List.{drop_more}
 use Rattle.walrus_instr.specs.declared.instr.Instr.{Instr}
 use Rattle.walrus_instr.specs.declared.seq.InstrLocId.{InstrLocId}
-use Rattle.walrus_walks.specs.Tree.{children, children_in}
+use Rattle.walrus_builder.specs.walrus_walks.Tree.{children, children_in}
 use Rattle.walrus_tree.specs.declared.marks.Mark.{Mark}
 use Rattle.walrus_tree.specs.declared.steps.Step.{Step}
 use Rattle.walrus_tree.specs.declared.steps.Step.TheVariants.{Enter, Leave}

@@ -7,8 +7,8 @@ use Rattle.walrus_instr.specs.declared.instr.LegacyCatch.{LegacyCatch}
 use Rattle.walrus_instr.specs.declared.instr.LegacyCatch.TheVariants as Legacy
 use Rattle.walrus_instr.specs.declared.seq.InstrLocId.{InstrLocId}
 use Rattle.walrus_instr.specs.declared.seq.InstrSeq.{InstrSeq}
-use Rattle.walrus_walks.specs.Tree.{children, children_in, handlers, Falls, IsRank}
-use Rattle.walrus_walks.specs.Plain.{RanksFit}
+use Rattle.walrus_builder.specs.walrus_walks.Tree.{children, children_in, handlers, Falls, IsRank}
+use Rattle.walrus_builder.specs.walrus_walks.Plain.{RanksFit}
 use Rattle.walrus_tree.specs.Trees.{AreWithin, Delegates, Trees, Nothing, Tree, Stand}
 use Rattle.walrus_tree.specs.Text.{Piece, End, after_parts, after, of_parts, of_instrs, of_seq, text_within}
 use Rattle.walrus_tree.specs.TextLaws.{IsPlainText, TextIsPlain, PlainTextIsOne, IsSound, AreSound, TreesAreSound, PartsAreWhole}

@@ -3,11 +3,11 @@ use Rattle.std.proofs.Common.{ℕ, ◌≡◌, Bool, List, [], ◌∷◌, ◌++�
 use Rattle.std.specs.Prelude.{slice_get, All}
 use Rattle.std.proofs.lemmas.List.{map-append, append-nil}
 use Rattle.std.proofs.lemmas.List.Elements.{All-head, All-tail, All-cons, All-nil}
-use Rattle.walrus_forms.specs.declared.value.HeapType.{HeapType}
-use Rattle.walrus_forms.specs.declared.value.HeapType.TheVariants.{Abstract, Concrete, Exact}
-use Rattle.walrus_forms.specs.declared.value.RefType.{RefType}
-use Rattle.walrus_forms.specs.declared.value.ValType.{ValType}
-use Rattle.walrus_forms.specs.declared.value.ValType.TheVariants.{Ref}
+use Rattle.walrus_instr.specs.walrus_forms.declared.value.HeapType.{HeapType}
+use Rattle.walrus_instr.specs.walrus_forms.declared.value.HeapType.TheVariants.{Abstract, Concrete, Exact}
+use Rattle.walrus_instr.specs.walrus_forms.declared.value.RefType.{RefType}
+use Rattle.walrus_instr.specs.walrus_forms.declared.value.ValType.{ValType}
+use Rattle.walrus_instr.specs.walrus_forms.declared.value.ValType.TheVariants.{Ref}
 use Rattle.walrus_instr.specs.declared.instr.Instr.{Instr}
 use Rattle.walrus_instr.specs.declared.instr.Instr.TheVariants.{Try, TryTable, BrTable, BrOnCast, BrOnCastFail, Select, RefNull, RefTest, RefCast}
 use Rattle.walrus_instr.specs.declared.instr.LegacyCatch.{LegacyCatch}
@@ -18,10 +18,10 @@ use Rattle.walrus_instr.specs.declared.seq.InstrLocId.{InstrLocId}
 use Rattle.walrus_instr.specs.declared.seq.InstrSeq.{InstrSeq}
 use Rattle.walrus_instr.specs.declared.seq.InstrSeqType.{InstrSeqType}
 use Rattle.walrus_instr.specs.declared.seq.InstrSeqType.TheVariants.{Simple, MultiValue}
-use Rattle.walrus_walks.specs.Tree.{children, children_in, IsNested}
-use Rattle.walrus_walks.specs.Events.{Event, StartOf, EndOf, NamesSeq, ref_names, val_names, written_names, block_names, legacy_names, clause_names, events_of, names}
-use Rattle.walrus_walks.specs.Plain.{HeldAreNested, WalkIsPlain}
-use Rattle.walrus_walks.specs.Walk.{of_items, walk}
+use Rattle.walrus_builder.specs.walrus_walks.Tree.{children, children_in, IsNested}
+use Rattle.walrus_builder.specs.walrus_walks.Events.{Event, StartOf, EndOf, NamesSeq, ref_names, val_names, written_names, block_names, legacy_names, clause_names, events_of, names}
+use Rattle.walrus_builder.specs.walrus_walks.Plain.{HeldAreNested, WalkIsPlain}
+use Rattle.walrus_builder.specs.walrus_walks.Walk.{of_items, walk}
 use Rattle.walrus_tree.specs.Trees.{Trees, Nothing, Tree, ids, Stand}
 use Rattle.walrus_tree.specs.Once.{begun, TreesAreWalkedOnce}
 use Rattle.walrus_tree.proofs.Nests.{trees_are_nested}

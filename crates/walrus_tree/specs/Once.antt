@@ -1,8 +1,8 @@
 -- The walk of a tree meets each sequence of it once.
 use Rattle.std.specs.Prelude.{◌≡◌, ℕ, List, [], ◌∷◌, map, Some, slice_get}
 use Rattle.walrus_instr.specs.declared.seq.InstrSeq.{InstrSeq}
-use Rattle.walrus_walks.specs.Events.{Event, StartOf}
-use Rattle.walrus_walks.specs.Walk.{walk}
+use Rattle.walrus_builder.specs.walrus_walks.Events.{Event, StartOf}
+use Rattle.walrus_builder.specs.walrus_walks.Walk.{walk}
 use Rattle.walrus_tree.specs.Trees.{Nothing, Tree, ids, IsTree}
 
 -- the sequences that begin in a walk, in their order

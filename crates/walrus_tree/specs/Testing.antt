@@ -7,7 +7,7 @@ use Rattle.walrus_instr.specs.declared.instr.LegacyCatch.TheVariants as Legacy
 use Rattle.walrus_instr.specs.declared.instr.TryTableCatch.{TryTableCatch}
 use Rattle.walrus_instr.specs.declared.seq.InstrLocId.{InstrLocId}
 use Rattle.walrus_instr.specs.declared.seq.InstrSeq.{InstrSeq}
-use Rattle.walrus_walks.specs.Tree.{children_in}
+use Rattle.walrus_builder.specs.walrus_walks.Tree.{children_in}
 use Rattle.walrus_tree.specs.declared.marks.Mark.{Mark}
 use Rattle.walrus_tree.specs.declared.marks.Mark.TheVariants.{Fresh, Open, Done}
 use Rattle.walrus_tree.specs.declared.steps.Step.{Step}

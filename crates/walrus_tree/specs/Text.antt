@@ -6,7 +6,7 @@ use Rattle.walrus_instr.specs.declared.instr.LegacyCatch.{LegacyCatch}
 use Rattle.walrus_instr.specs.declared.instr.LegacyCatch.TheVariants as Legacy
 use Rattle.walrus_instr.specs.declared.seq.InstrLocId.{InstrLocId}
 use Rattle.walrus_instr.specs.declared.seq.InstrSeq.{InstrSeq}
-use Rattle.walrus_walks.specs.Tree.{children}
+use Rattle.walrus_builder.specs.walrus_walks.Tree.{children}
 
 -- what stands in a text: an instruction, or the beginning of a block, with the sequences around it, innermost first;
 -- what ends one part of a block and begins the next; what ends a block, or the body

@@ -3,7 +3,7 @@ use Rattle.std.specs.Prelude.{◌≡◌, ℕ, List, [], ◌∷◌, ◌++◌, len
 use Rattle.walrus_instr.specs.declared.instr.Instr.{Instr}
 use Rattle.walrus_instr.specs.declared.seq.InstrLocId.{InstrLocId}
 use Rattle.walrus_instr.specs.declared.seq.InstrSeq.{InstrSeq}
-use Rattle.walrus_walks.specs.Tree.{children, IsNested}
+use Rattle.walrus_builder.specs.walrus_walks.Tree.{children, IsNested}
 use Rattle.walrus_tree.specs.Trees.{IsWithin, IsTree}
 use Rattle.walrus_tree.specs.Text.{Piece, Operator, after, of_instrs, text, operators}
 

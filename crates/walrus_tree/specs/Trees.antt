@@ -8,7 +8,7 @@ use Rattle.walrus_instr.specs.declared.instr.TryTableCatch.{TryTableCatch}
 use Rattle.walrus_instr.specs.declared.instr.TryTableCatch.TheVariants as Clause
 use Rattle.walrus_instr.specs.declared.seq.InstrLocId.{InstrLocId}
 use Rattle.walrus_instr.specs.declared.seq.InstrSeq.{InstrSeq}
-use Rattle.walrus_walks.specs.Tree.{children_in}
+use Rattle.walrus_builder.specs.walrus_walks.Tree.{children_in}
 
 -- the id stands in the list
 abbrev pub Has : List ℕ → ℕ → Type 0

@@ -3,7 +3,7 @@ ghost use Rattle.std.specs.Prelude.{◌≡◌, ◌+◌, ◌-◌, ◌<◌, ◌++�
 ghost use Rattle.std.specs.Bool.{OnTrue};
 ghost use Rattle.walrus_tree.specs.Trees.{IsTree};
 ghost use Rattle.walrus_tree.specs.Testing.{Goes, Marked, all_within, entering, opened, work};
-ghost use Rattle.walrus_walks.specs.Tree.{children_in};
+ghost use Rattle.walrus_builder.specs.walrus_walks.Tree.{children_in};
 ghost use Rattle.walrus_tree.specs.declared.steps.Step.TheVariants.{Enter};
 ghost use Rattle.walrus_tree.specs.declared.marks.Mark.TheVariants.{Done};
 

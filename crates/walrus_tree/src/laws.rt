@@ -11,8 +11,8 @@ pub fn trees_are_nested()
 pub fn trees_are_walked_once()
     ensures { TreesAreWalkedOnce }
 {
-    walrus_walks::laws::held_are_nested();
-    walrus_walks::laws::walk_is_plain();
+    walrus_builder::tree_walks::laws::held_are_nested();
+    walrus_builder::tree_walks::laws::walk_is_plain();
 }
 
 /// The text of a nested sequence is that of its instructions, each with what it holds behind it, and then what
@@ -21,7 +21,7 @@ pub fn text_is_plain()
     ensures plain { TextIsPlain }
     ensures one { PlainTextIsOne }
 {
-    walrus_walks::laws::ranks_fit();
+    walrus_builder::tree_walks::laws::ranks_fit();
 }
 
 /// In the text of a tree each label names a sequence around it, and behind each sequence that an instruction

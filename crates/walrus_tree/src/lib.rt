@@ -8,3 +8,6 @@ mod steps;
 mod tree;
 
 pub use tree::check_tree;
+
+// Passed on to crates above, which then list this one alone.
+pub use walrus_builder as builder;

@@ -1,6 +1,6 @@
 //! The list of what the test has still to do.
 ghost use Rattle.std.specs.Prelude.{◌≡◌, [], ◌∷◌, ◌++◌, IfOk};
-ghost use Rattle.walrus_walks.specs.Tree.{children, handler, handlers};
+ghost use Rattle.walrus_builder.specs.walrus_walks.Tree.{children, handler, handlers};
 ghost use Rattle.walrus_tree.specs.Testing.{entering};
 
 use std::alloc::AllocError;

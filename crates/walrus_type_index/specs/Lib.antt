@@ -3,3 +3,5 @@ pub mod OrderedLaws
 pub mod Places
 pub mod Targets
 pub mod Tree
+-- Passed on to crates above, which then list this one alone.
+pub use Rattle.walrus_items.specs as walrus_items

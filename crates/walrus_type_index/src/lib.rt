@@ -10,3 +10,6 @@ mod tree;
 pub use lent::{enter, lend, settle};
 pub use node::{Spare, Tree};
 pub use order::Target;
+
+// Passed on to crates above, which then list this one alone.
+pub use walrus_items as items;

@@ -20,7 +20,7 @@ use Rattle.walrus_forms.specs.Kinds.{Kind, kind_names}
 use Rattle.walrus_forms.specs.Renaming.{HeapBelow, ValueBelow, FieldBelow, FormBelow, KindBelow, renamed_heap, renamed_value, renamed_field, renamed_storage, renamed_form, renamed_kind}
 use Rattle.walrus_types.specs.declared.error.IrError.{IrError}
 use Rattle.walrus_types.specs.declared.error.IrError.TheVariants.{Dead, EntryOnly, Later}
-use Rattle.walrus_items.specs.Items.{Item, Group}
+use Rattle.walrus_type_index.specs.walrus_items.Items.{Item, Group}
 use Rattle.walrus_types.specs.Table.{Table, type_at}
 use Rattle.walrus_types.specs.Emission.{written_kind, is_written, written_in, fault_at, first_fault, group_names, groups_fault, described_group}
 use Rattle.walrus_types.specs.Parsing.{AreBelow}

@@ -4,8 +4,8 @@ use Rattle.std.specs.Option.{option_or}
 use Rattle.std.proofs.lemmas.Grind.{flat_map-append}
 use Rattle.std.proofs.lemmas.List.{length-append, map-append, take-append-drop, drop-drop}
 use Rattle.walrus_forms.specs.Records.{TypeGroup}
-use Rattle.walrus_items.specs.Items.{Group}
-use Rattle.walrus_items.specs.declared.subtype.RecGroup.{RecGroup}
+use Rattle.walrus_type_index.specs.walrus_items.Items.{Group}
+use Rattle.walrus_type_index.specs.walrus_items.declared.subtype.RecGroup.{RecGroup}
 use Rattle.walrus_types.specs.declared.error.IrError.{IrError}
 use Rattle.walrus_types.specs.Table.{Table}
 use Rattle.walrus_types.specs.Emission.{written_in, written_types, first_fault, fault_at, group_names, groups_fault, described_group}

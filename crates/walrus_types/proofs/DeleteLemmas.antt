@@ -6,9 +6,9 @@ use Rattle.std.proofs.lemmas.List.{get_or-set_same, length-set, map-set}
 use Rattle.std.proofs.Math.Seq.{take-suc}
 use Rattle.std.proofs.lemmas.List.Kept.{AllPairs-filter}
 use Rattle.walrus_arena.proofs.ArenaLemmas.{live-within, at-other, at-deleted}
-use Rattle.walrus_items.specs.declared.subtype.RecGroup.{RecGroup}
-use Rattle.walrus_items.specs.Items.{Item, Group, item_of, group_of}
-use Rattle.walrus_items.specs.declared.subtype.Type.{«Type» as TypeItem}
+use Rattle.walrus_type_index.specs.walrus_items.declared.subtype.RecGroup.{RecGroup}
+use Rattle.walrus_type_index.specs.walrus_items.Items.{Item, Group, item_of, group_of}
+use Rattle.walrus_type_index.specs.walrus_items.declared.subtype.Type.{«Type» as TypeItem}
 use Rattle.walrus_types.specs.Table.{Table, RiseBelow, IsGrouped, HasMember, Deletes, DeletesGroup, table_of, group_at, type_at, nonempty_group, without_member, clear_all}
 use Rattle.walrus_types.proofs.TableLemmas.{at-map, held}
 

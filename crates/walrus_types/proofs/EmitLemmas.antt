@@ -22,11 +22,11 @@ use Rattle.walrus_forms.specs.Records.{TypeGroup}
 use Rattle.walrus_forms.specs.Renaming.{renamed_kind}
 use Rattle.walrus_type_order.specs.Order.{IsEmissionOrder}
 use Rattle.walrus_type_order.specs.Views.{ordered_by, ordered_under}
-use Rattle.walrus_items.specs.declared.subtype.Type.{«Type» as TypeItem}
-use Rattle.walrus_items.specs.contracts.subtype.TypeOrd.TheImpl.{ghosts as type_ord}
-use Rattle.walrus_items.specs.declared.subtype.RecGroup.{RecGroup}
+use Rattle.walrus_type_index.specs.walrus_items.declared.subtype.Type.{«Type» as TypeItem}
+use Rattle.walrus_type_index.specs.walrus_items.contracts.subtype.TypeOrd.TheImpl.{ghosts as type_ord}
+use Rattle.walrus_type_index.specs.walrus_items.declared.subtype.RecGroup.{RecGroup}
 use Rattle.walrus_types.specs.declared.error.IrError.{IrError}
-use Rattle.walrus_items.specs.Items.{Item, Group, kind_of, item_of, group_of}
+use Rattle.walrus_type_index.specs.walrus_items.Items.{Item, Group, kind_of, item_of, group_of}
 use Rattle.walrus_types.specs.Table.{Table, table_of, type_at}
 use Rattle.walrus_types.specs.Emission.{key_of, written_groups, no_group, AreInOrder, AreIndices, shown_kind, written_kind, written_in, written_types, is_written, first_fault, fault_at, group_names, groups_fault, index_at, described_group, AreArranged, HasFault, IsRefusal}
 use Rattle.walrus_types.specs.Ranks.{ranked}

@@ -8,10 +8,10 @@ use Rattle.std.proofs.lemmas.List.FromFn.{length-range_with_len, get_or-range_wi
 use Rattle.std.proofs.Math.Seq.{get_or-append_right}
 use Rattle.walrus_arena.specs.Arena.{entries_from}
 use Rattle.walrus_arena.proofs.ArenaLemmas.{live-within, at-kept, at-last, at-push}
-use Rattle.walrus_items.specs.declared.subtype.Type.{«Type» as TypeItem}
-use Rattle.walrus_items.specs.Items.{Item, Group, item_of, group_of}
+use Rattle.walrus_type_index.specs.walrus_items.declared.subtype.Type.{«Type» as TypeItem}
+use Rattle.walrus_type_index.specs.walrus_items.Items.{Item, Group, item_of, group_of}
 use Rattle.walrus_forms.specs.Kinds.{Kind}
-use Rattle.walrus_items.specs.declared.subtype.RecGroup.{RecGroup}
+use Rattle.walrus_type_index.specs.walrus_items.declared.subtype.RecGroup.{RecGroup}
 use Rattle.walrus_types.specs.Groups.{new_items, group_slot, AddsGroup}
 use Rattle.walrus_types.specs.Table.{Table, next_id, latest_in, table_of, IsGrouped}
 use Rattle.walrus_types.proofs.TableLemmas.{rise-more}

@@ -11,8 +11,8 @@ use Rattle.walrus_forms.specs.Kinds.{Kind}
 use Rattle.walrus_forms.specs.Order.{kind_cmp}
 use Rattle.walrus_forms.specs.Same.{same_kind}
 use Rattle.walrus_forms.proofs.EqLemmas.{same-kind-law}
-use Rattle.walrus_items.specs.declared.subtype.Type.{«Type» as TypeItem}
-use Rattle.walrus_items.specs.Items.{Item, item_of, kind_of}
+use Rattle.walrus_type_index.specs.walrus_items.declared.subtype.Type.{«Type» as TypeItem}
+use Rattle.walrus_type_index.specs.walrus_items.Items.{Item, item_of, kind_of}
 use Rattle.walrus_type_index.specs.Places.{kinds_in, place_of, place_cmp, id_cmp, is_exactly, last_in, names_itself}
 use Rattle.walrus_type_index.specs.Ordered.{IsOrdered, IsLast, has, is_at, lives_at}
 use Rattle.walrus_type_index.proofs.KindTotal.{kinds}

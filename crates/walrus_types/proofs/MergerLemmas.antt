@@ -13,7 +13,7 @@ use Rattle.walrus_forms.specs.Renaming.{KindBelow, at, renamed_kind}
 use Rattle.walrus_forms.specs.Same.{same_kind}
 use Rattle.walrus_forms.proofs.EqLemmas.{same-kind-law}
 use Rattle.walrus_forms.proofs.RenamingLemmas.{In, in-mapped, of-mapped, in-any, any-in, kinds-agree, kinds-twice, kinds-names, kinds-below}
-use Rattle.walrus_items.specs.Items.{Item}
+use Rattle.walrus_type_index.specs.walrus_items.Items.{Item}
 use Rattle.walrus_types.specs.Groups.{new_items}
 use Rattle.walrus_types.specs.Table.{next_id, type_at, names_itself, merges, latest_id}
 use Rattle.walrus_types.specs.TypeLaws.{IsLatest}

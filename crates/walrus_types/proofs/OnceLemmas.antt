@@ -10,7 +10,7 @@ use Rattle.walrus_arena.specs.Arena.{entries_from}
 use Rattle.walrus_forms.specs.Kinds.{Kind}
 use Rattle.walrus_forms.specs.Records.{TypeGroup}
 use Rattle.walrus_forms.specs.Renaming.{renamed_kind}
-use Rattle.walrus_items.specs.Items.{Group}
+use Rattle.walrus_type_index.specs.walrus_items.Items.{Group}
 use Rattle.walrus_types.specs.Table.{Table, group_at}
 use Rattle.walrus_types.specs.TypeLaws.{AreGrouped}
 use Rattle.walrus_types.specs.Mergers.{Entry, is_single, entries_of}

@@ -3,9 +3,9 @@ use Rattle.std.proofs.Common.{◌≡◌, ◌∙◌, ℕ, false, List, [], ◌∷
 use Rattle.std.specs.Option.{option_map}
 use Rattle.std.proofs.lemmas.List.{length-map, map-append}
 use Rattle.walrus_forms.specs.Kinds.{Kind}
-use Rattle.walrus_items.specs.declared.subtype.Type.{«Type» as TypeItem}
-use Rattle.walrus_items.specs.declared.subtype.RecGroup.{RecGroup}
-use Rattle.walrus_items.specs.Items.{Item, Group, item_of, group_of, kind_of}
+use Rattle.walrus_type_index.specs.walrus_items.declared.subtype.Type.{«Type» as TypeItem}
+use Rattle.walrus_type_index.specs.walrus_items.declared.subtype.RecGroup.{RecGroup}
+use Rattle.walrus_type_index.specs.walrus_items.Items.{Item, Group, item_of, group_of, kind_of}
 use Rattle.walrus_types.specs.Table.{Table, IsGrouped, Merges, equal_type, table_of}
 use Rattle.walrus_types.proofs.TableLemmas.{grouped-added}
 

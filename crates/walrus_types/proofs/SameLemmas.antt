@@ -3,13 +3,13 @@ use Rattle.std.proofs.Common.{◌≡◌, ℕ, Bool, refl, ap, ◌∙◌, Option,
 use Rattle.std.specs.Bool.{beq}
 use Rattle.std.specs.Option.{option_eq}
 use Rattle.std.proofs.Math.Bool.{and-true}
-use Rattle.walrus_items.specs.declared.subtype.Type.{«Type» as TypeItem}
-use Rattle.walrus_items.specs.contracts.subtype.TypePartialEq.TheImpl.{ghosts as type_eq}
+use Rattle.walrus_type_index.specs.walrus_items.declared.subtype.Type.{«Type» as TypeItem}
+use Rattle.walrus_type_index.specs.walrus_items.contracts.subtype.TypePartialEq.TheImpl.{ghosts as type_eq}
 use Rattle.walrus_forms.proofs.FormLemmas.{composite_eq-forms}
 use Rattle.walrus_arena.specs.contracts.id.IdPartialEq.TheImpl as id_impl
 use Rattle.walrus_arena.specs.contracts.id.TypeSpace.{the_row as type_space}
 use Rattle.walrus_forms.specs.Forms.{form_of}
-use Rattle.walrus_items.specs.Items.{kind_of}
+use Rattle.walrus_type_index.specs.walrus_items.Items.{kind_of}
 use Rattle.walrus_forms.specs.Same.{same_form, same_kind}
 
 id_eq-nat : (x y : ℕ) → (id_impl.eq-value type_space).it x y ≡ nat_eq x y

@@ -11,7 +11,7 @@ use Rattle.walrus_forms.specs.Order.{kind_cmp}
 use Rattle.walrus_forms.specs.Records.{TypeGroup}
 use Rattle.walrus_forms.specs.Renaming.{renamed_kind}
 pub use Rattle.walrus_forms.specs.Renaming.{index_at}
-use Rattle.walrus_items.specs.Items.{Item, Group}
+use Rattle.walrus_type_index.specs.walrus_items.Items.{Item, Group}
 use Rattle.walrus_types.specs.Table.{Table, type_at}
 
 -- the kind of a type that is written: one that lives and isn't an entry type

@@ -1,4 +1,4 @@
-pub use Rattle.walrus_items.specs.Items
+pub use Rattle.walrus_type_index.specs.walrus_items.Items
 pub mod Emission
 pub mod Groups
 pub mod Highest
@@ -11,3 +11,6 @@ pub mod Ranks
 pub mod Table
 pub mod TableLends
 pub mod TypeLaws
+-- Passed on to crates above, which then list this one alone.
+pub use Rattle.walrus_forms.specs as walrus_forms
+pub use Rattle.walrus_type_index.specs.walrus_items as walrus_items

@@ -1,6 +1,6 @@
 -- What adds and deletes keep of a table, so that what it emits is read back as it was.
 use Rattle.std.specs.Prelude.{◌≡◌, ℕ, ◌<◌, true, false, [], ◌∷◌, length, Contains, Some}
-use Rattle.walrus_items.specs.Items.{Item, Group}
+use Rattle.walrus_type_index.specs.walrus_items.Items.{Item, Group}
 use Rattle.walrus_types.specs.Table.{Table, type_at, group_at, names_itself, merges}
 
 -- the group of a type that stands alone and isn't written as a group

@@ -1,6 +1,6 @@
 -- What the words on types and tables mean to a reader.
 use Rattle.std.specs.Prelude.{◌≡◌, ◌≢◌, ℕ, ◌<◌, Bool, true, false, Some, Contains, AllPairs, MatchOption}
-use Rattle.walrus_items.specs.Items.{Item, Group}
+use Rattle.walrus_type_index.specs.walrus_items.Items.{Item, Group}
 use Rattle.walrus_types.specs.Table.{Table, type_at, group_at, HasMember, latest_id}
 
 -- each live type stands in exactly one group, once, and groups have live members alone

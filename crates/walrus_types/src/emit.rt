@@ -4,7 +4,7 @@ ghost use Rattle.std.specs.List.{list_any};
 ghost use Rattle.std.specs.Option.{option_map};
 ghost use Rattle.walrus_forms.specs.Order.{kind_cmp};
 ghost use Rattle.walrus_type_order.specs.Order.{IsEmissionOrder};
-ghost use Rattle.walrus_items.specs.Items.{kind_of, group_of};
+ghost use Rattle.walrus_type_index.specs.walrus_items.Items.{kind_of, group_of};
 ghost use Rattle.walrus_types.specs.Table.{table_of};
 ghost use Rattle.walrus_types.specs.Emission.{written_kind, is_written, written_groups, key_of, no_group, AreInOrder, written_in, written_types, AreIndices, index_at, fault_at, first_fault, group_names, groups_fault, described_group, IsEmission, IsRefusal};
 ghost use Rattle.walrus_types.specs.Inverse.{AreInverse};
@@ -22,7 +22,7 @@ use std::alloc::{AllocError, Global};
 use std::marker::Model;
 use walrus_arena::{RecGroupSpace, TombstoneArena, TypeId, TypeSpace};
 use walrus_forms::{GroupRecord, TypeRecord, index_of};
-use walrus_items::{RecGroup, Type};
+use walrus_type_index::items::{RecGroup, Type};
 use walrus_type_order::emission_order;
 
 // The type of this id, if it is written: entry types never are.

@@ -1,7 +1,7 @@
 //! Adding recursion groups to a table.
 ghost use Rattle.std.specs.Prelude.{◌≡◌, ◌+◌, ◌<◌, ◌≤◌, ◌^◌, ℕ, List, [], ◌∷◌, ◌++◌, length, map, Some, None, false, IfOk, vec_len, vec_capacity};
 ghost use Rattle.std.specs.List.{range_with_len};
-ghost use Rattle.walrus_items.specs.Items.{item_of};
+ghost use Rattle.walrus_type_index.specs.walrus_items.Items.{item_of};
 ghost use Rattle.walrus_type_index.specs.Places.{kinds_in};
 ghost use Rattle.walrus_type_index.specs.Ordered.{IsOrdered};
 ghost use Rattle.walrus_types.specs.Groups.{new_items, member_kind};
@@ -9,7 +9,7 @@ ghost use Rattle.walrus_types.specs.Groups.{new_items, member_kind};
 use std::alloc::{AllocError, Global};
 use walrus_arena::{RecGroupId, RecGroupSpace, TombstoneArena, TypeId, TypeSpace};
 use walrus_forms::CompositeType;
-use walrus_items::{RecGroup, Type};
+use walrus_type_index::items::{RecGroup, Type};
 use walrus_type_index::{Spare, Tree, enter};
 
 /// What a new member of a recursion group is to be.

@@ -1,7 +1,7 @@
 //! What is asked of the index of a table.
 ghost use Rattle.std.specs.Prelude.{◌≡◌, [], length, None};
 ghost use Rattle.walrus_forms.specs.Kinds.{function_kind};
-ghost use Rattle.walrus_items.specs.Items.{kind_of};
+ghost use Rattle.walrus_type_index.specs.walrus_items.Items.{kind_of};
 ghost use Rattle.walrus_type_index.specs.Places.{kinds_in};
 ghost use Rattle.walrus_type_index.specs.Ordered.{IsOrdered};
 ghost use Rattle.walrus_types.specs.Table.{table_of, equal_type};
@@ -9,7 +9,7 @@ ghost use Rattle.walrus_types.specs.Highest.{later_of, if_of_kind};
 
 use walrus_arena::{TombstoneArena, TypeId, TypeSpace};
 use walrus_forms::ValType;
-use walrus_items::Type;
+use walrus_type_index::items::Type;
 use walrus_type_index::{Spare, Target, Tree};
 
 // The type that stands for this one, which is to have the id `next`. No type is lent.

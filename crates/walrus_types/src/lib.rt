@@ -24,4 +24,7 @@ pub use walrus_forms::{
     FunctionType, GroupRecord, HeapRecord, HeapType, RefRecord, RefType, StorageRecord,
     StorageType, StructType, TypeRecord, ValRecord, ValType,
 };
-pub use walrus_items::{Local, ModuleLocals, RecGroup, Type};
+pub use walrus_type_index::items::{Local, ModuleLocals, RecGroup, Type};
+
+// Passed on to crates above, which then list this one alone.
+pub use walrus_arena as arena;

@@ -2,7 +2,7 @@
 ghost use Rattle.std.specs.Prelude.{◌≡◌, true, false, IfOk, OnErr, None};
 ghost use Rattle.walrus_forms.specs.Forms.{form_of};
 ghost use Rattle.walrus_forms.specs.Kinds.{function_kind, entry_kind, declared_kind};
-ghost use Rattle.walrus_items.specs.Items.{kind_of};
+ghost use Rattle.walrus_type_index.specs.walrus_items.Items.{kind_of};
 ghost use Rattle.walrus_types.specs.Table.{next_id, equal_type};
 ghost use Rattle.walrus_types.specs.Pairs.{MergesBoth};
 
@@ -12,7 +12,7 @@ use crate::table::ModuleTypes;
 use std::alloc::AllocError;
 use walrus_arena::TypeId;
 use walrus_forms::{CompositeType, FunctionType, ValType};
-use walrus_items::Type;
+use walrus_type_index::items::Type;
 use walrus_type_index::{Spare, settle};
 
 impl ModuleTypes {

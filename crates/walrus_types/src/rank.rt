@@ -1,11 +1,11 @@
 //! Numbers by which most types are told apart in a sort, with no look at the types.
 ghost use Rattle.std.specs.Prelude.{◌≡◌, ◌^◌};
 ghost use Rattle.std.specs.Option.{option_map};
-ghost use Rattle.walrus_items.specs.Items.{kind_of};
+ghost use Rattle.walrus_type_index.specs.walrus_items.Items.{kind_of};
 ghost use Rattle.walrus_types.specs.Ranks.{digit, digits, form_rank, ranked};
 
 use walrus_forms::{CompositeType, ValType};
-use walrus_items::Type;
+use walrus_type_index::items::Type;
 
 // The digit of a value type: its place among them, from 1.
 fn digit(value: ValType) -> u64

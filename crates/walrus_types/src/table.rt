@@ -4,7 +4,7 @@ ghost use Rattle.std.specs.Bool.{OnTrue, OnFalse};
 ghost use Rattle.std.specs.Borrow.{sem};
 ghost use Rattle.walrus_forms.specs.Forms.{form_of, params_of, results_of};
 ghost use Rattle.walrus_forms.specs.Kinds.{function_kind, entry_kind, struct_kind, array_kind, declared_kind};
-ghost use Rattle.walrus_items.specs.Items.{Group, item_of, group_of};
+ghost use Rattle.walrus_type_index.specs.walrus_items.Items.{Group, item_of, group_of};
 ghost use Rattle.walrus_types.specs.Table.{next_id, type_at, IsLive, IsFunctionType, found_type, named_type, entries, Merges, HasMember, Deletes, DeletesGroup, group_at, is_named_in};
 ghost use Rattle.walrus_arena.specs.Arena.{entries_from};
 ghost use Rattle.std.specs.Fn.{FnOnceTakesAt, FnOnceReturnsAt};
@@ -23,7 +23,7 @@ use std::marker::Model;
 use std::mem;
 use walrus_arena::{RecGroupId, RecGroupSpace, TombstoneArena, TypeId, TypeSpace};
 use walrus_forms::{ArrayType, CompositeType, FieldType, FunctionType, StructType, ValType};
-use walrus_items::{RecGroup, Type};
+use walrus_type_index::items::{RecGroup, Type};
 use walrus_type_index::{Spare, Target, Tree, lend, settle};
 
 /// The types of a module by id, each in one recursion group.

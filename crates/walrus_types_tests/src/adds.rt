@@ -66,7 +66,7 @@ fn adds_both(
     wanted: (usize, usize),
 ) -> Result<bool, AllocError> {
     let (ty, entry) = types.add_with_entry_ty(&[param], &[given])?;
-    Ok((ty.index(), entry.index()) == wanted)
+    Ok(ty.index() == wanted.0 && entry.index() == wanted.1)
 }
 
 // The first type is there before; then the entry type of the second is, and then both are.

@@ -2,6 +2,7 @@
 // long, the adds wouldn't end within a test's time.
 ghost use Rattle.std.specs.Prelude.{◌<◌, ◌^◌};
 
+use crate::steps::remove;
 use std::alloc::AllocError;
 use std::test::Fail;
 use walrus_arena::TypeId;
@@ -38,10 +39,7 @@ fn is_found(types: &ModuleTypes, index: usize) -> bool
 // Deletes each tenth type.
 fn thin_out(types: &mut ModuleTypes) {
     for tenth in 0..LENGTH / 10 {
-        let id = TypeId::from_index(10 * tenth);
-        if types.contains(id) {
-            types.delete(id);
-        }
+        remove(types, TypeId::from_index(10 * tenth));
     }
 }
 

@@ -187,11 +187,16 @@ fn copies_named(alloc: Global, types: &ModuleTypes, id: TypeId) -> Result<bool, 
     Ok(is_named(&copy) && names_first(alloc, &copy)?)
 }
 
+// Adds a type with a name, and says whether a copy of it says the same.
+fn copies_added(alloc: Global, types: &mut ModuleTypes) -> Result<bool, AllocError> {
+    add_named(alloc, types, TypeId::from_index(0), "t")?;
+    copies_named(alloc, types, TypeId::from_index(1))
+}
+
 #[test]
 fn of_a_type(rt: HostRuntime) -> Result<(), Fail> {
     let mut types = table(rt.alloc(), &[Step::Function])?;
-    add_named(rt.alloc(), &mut types, TypeId::from_index(0), "t")?;
-    assert!(rt; copies_named(rt.alloc(), &types, TypeId::from_index(1))?);
+    assert!(rt; copies_added(rt.alloc(), &mut types)?);
     Ok(())
 }
 

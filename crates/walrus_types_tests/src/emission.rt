@@ -328,13 +328,19 @@ fn entry_types_are_not_written(rt: HostRuntime) -> Result<(), Fail> {
     Ok(())
 }
 
-// A table of 601 types, more than stand in two blocks, each of which names the one before it.
+// Adds types each of which names the one before it.
+fn add_chain(alloc: Global, types: &mut ModuleTypes) -> Result<(), IrError> {
+    take(alloc, types, &Step::Struct)?;
+    for k in 0..600 {
+        take(alloc, types, &Step::Field(link(id(k))))?;
+    }
+    Ok(())
+}
+
+// A table of 601 types, more than stand in two blocks.
 fn chain(alloc: Global) -> Result<ModuleTypes, IrError> {
     let mut types = ModuleTypes::new(alloc);
-    types.add_struct(Vec::new(alloc))?;
-    for k in 0..600 {
-        take(alloc, &mut types, &Step::Field(link(id(k))))?;
-    }
+    add_chain(alloc, &mut types)?;
     Ok(types)
 }
 

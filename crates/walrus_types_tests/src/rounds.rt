@@ -9,9 +9,19 @@ use std::test::Fail;
 use walrus_arena::TypeId;
 use walrus_types::{EmittedTypes, IrError, ModuleTypes, ValType};
 
+// By number: the test of std for lists takes ten times as long to prove.
+fn are_same(ids: &[TypeId], wanted: &[TypeId]) -> bool {
+    let mut agree = ids.len() == wanted.len();
+    for (id, other) in ids.iter().zip(wanted) {
+        agree &= id.index() == other.index();
+    }
+    agree
+}
+
 // Whether what a new table writes has the ids that it gave the groups when it read them, in this order.
 fn keeps_ids(types: &ModuleTypes, ids: &[TypeId]) -> Result<bool, IrError> {
-    Ok(types.emit()?.ids.as_slice() == ids)
+    let emitted = types.emit()?;
+    Ok(are_same(&emitted.ids, ids))
 }
 
 // Whether a new table reads so many types in the groups, and writes them in this order.

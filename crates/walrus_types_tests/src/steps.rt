@@ -152,18 +152,23 @@ fn add_group(alloc: Global, types: &mut ModuleTypes, step: &Step) -> Result<(), 
     Ok(())
 }
 
+/// Deletes the type, if it is live.
+pub fn remove(types: &mut ModuleTypes, id: TypeId) {
+    if types.contains(id) {
+        types.delete(id);
+    }
+}
+
+fn close(types: &mut ModuleTypes, id: TypeId) {
+    if types.contains(id) {
+        types.get_mut(id).is_final = true;
+    }
+}
+
 fn edit(types: &mut ModuleTypes, step: &Step) {
     match step {
-        Step::Close(id) => {
-            if types.contains(*id) {
-                types.get_mut(*id).is_final = true;
-            }
-        }
-        Step::Delete(id) => {
-            if types.contains(*id) {
-                types.delete(*id);
-            }
-        }
+        Step::Close(id) => close(types, *id),
+        Step::Delete(id) => remove(types, *id),
         _ => {}
     }
 }

@@ -1,59 +1,57 @@
 //! The texts of types (Core Specification, text format: types).
 
+use std::alloc::{AllocError, Global};
+use std::fmt::Display;
 use std::test::Fail;
 use walrus_arena::TypeId;
+use walrus_forms::laws::reference_constants;
 use walrus_types::{AbstractHeapType, HeapType, RefType, ValType};
+
+// Whether these are shown as the words, each its own.
+fn are_shown<T: Display>(alloc: Global, values: &[T], words: &str) -> Result<bool, AllocError> {
+    let mut words = words.split(',');
+    for value in values {
+        let shown = format!(in alloc; "{value}")?;
+        if words.next() != Some(shown.as_str()) {
+            return Ok(false);
+        }
+    }
+    Ok(words.next().is_none())
+}
 
 #[test]
 fn references(rt: HostRuntime) -> Result<(), Fail> {
-    let texts = [
-        (RefType::FUNCREF, "(ref null func)"),
-        (RefType::EXTERNREF, "(ref null extern)"),
-        (RefType::ANYREF, "(ref null any)"),
-        (RefType::NULLREF, "(ref null none)"),
-        (RefType::NULLEXTERNREF, "(ref null noextern)"),
-        (RefType::NULLFUNCREF, "(ref null nofunc)"),
-        (RefType::EQREF, "(ref null eq)"),
-        (RefType::STRUCTREF, "(ref null struct)"),
-        (RefType::ARRAYREF, "(ref null array)"),
-        (RefType::I31REF, "(ref null i31)"),
-        (RefType::EXNREF, "(ref null exn)"),
-    ];
-    for (ty, text) in texts {
-        let written = format!(in rt.alloc(); "{ty}")?;
-        assert_eq!(rt; written.as_str(), text);
-    }
+    let words =
+        "(ref null func),(ref null extern),(ref null any),(ref null none),(ref null noextern),(ref null nofunc),\
+                 (ref null eq),(ref null struct),(ref null array),(ref null i31),(ref null exn)";
+    assert!(rt; are_shown(rt.alloc(), &reference_constants(), words)?);
     Ok(())
+}
+
+fn reference(nullable: bool, heap_type: HeapType) -> ValType {
+    ValType::Ref(RefType {
+        nullable,
+        heap_type,
+    })
+}
+
+fn values_of_each_form() -> [ValType; 8] {
+    let id = TypeId::from_index(12);
+    [
+        ValType::I32,
+        ValType::I64,
+        ValType::F32,
+        ValType::F64,
+        ValType::V128,
+        reference(false, HeapType::Exact(id)),
+        reference(true, HeapType::Concrete(id)),
+        reference(false, HeapType::Abstract(AbstractHeapType::NoExn)),
+    ]
 }
 
 #[test]
 fn values(rt: HostRuntime) -> Result<(), Fail> {
-    let id = TypeId::from_index(12);
-    let exact = RefType {
-        nullable: false,
-        heap_type: HeapType::Exact(id),
-    };
-    let concrete = RefType {
-        nullable: true,
-        heap_type: HeapType::Concrete(id),
-    };
-    let abstract_type = RefType {
-        nullable: false,
-        heap_type: HeapType::Abstract(AbstractHeapType::NoExn),
-    };
-    let texts = [
-        (ValType::I32, "i32"),
-        (ValType::I64, "i64"),
-        (ValType::F32, "f32"),
-        (ValType::F64, "f64"),
-        (ValType::V128, "v128"),
-        (ValType::Ref(exact), "(ref (exact 12))"),
-        (ValType::Ref(concrete), "(ref null 12)"),
-        (ValType::Ref(abstract_type), "(ref noexn)"),
-    ];
-    for (ty, text) in texts {
-        let written = format!(in rt.alloc(); "{ty}")?;
-        assert_eq!(rt; written.as_str(), text);
-    }
+    let words = "i32,i64,f32,f64,v128,(ref (exact 12)),(ref null 12),(ref noexn)";
+    assert!(rt; are_shown(rt.alloc(), &values_of_each_form(), words)?);
     Ok(())
 }

@@ -10,8 +10,8 @@ use Rattle.walrus_arena.specs.Arena.{entries_from}
 use Rattle.walrus_items.specs.Items.{Item as TypeItem, Group}
 use Rattle.walrus_types.specs.Table.{Table as TypeTable, type_at, IsLive as IsLiveType}
 use Rattle.walrus_types.specs.TypeLaws.{AreGrouped}
-use Rattle.walrus_module_items.specs.declared.function.Function.{Function}
-use Rattle.walrus_module.specs.Parts.{Module}
+use Rattle.walrus_references.specs.walrus_module_items.declared.function.Function.{Function}
+use Rattle.walrus_references.specs.walrus_module.Parts.{Module}
 use Rattle.walrus_roots.specs.declared.item.Item.{Item}
 use Rattle.walrus_roots.specs.Items.{item}
 use Rattle.walrus_marks.specs.Marks.{State}
@@ -20,7 +20,7 @@ use Rattle.walrus_marks.specs.Chains.{IsReached as IsReachedIn}
 use Rattle.walrus_references.specs.References.{Refers, named_by, type_items, local_items, KindNames}
 use Rattle.walrus_references.specs.Roots.{Root}
 use Rattle.walrus_references.specs.Kept.{IsReached}
-use Rattle.walrus_module.specs.Items.{written, Lives, LivesIn}
+use Rattle.walrus_references.specs.walrus_module.Items.{written, Lives, LivesIn}
 use Rattle.walrus_used.specs.Looks.{Looks, LooksIn, AreActive}
 use Rattle.walrus_used.specs.Counts.{counts_of, past_id, past_group, past_types}
 use Rattle.walrus_used.proofs.LooksLemmas.{none_in, cases_in, named_below, reached_looked, looked_reached}

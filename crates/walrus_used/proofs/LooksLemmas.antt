@@ -10,12 +10,12 @@ use Rattle.wasm_formats.specs.declared.fault.Space.TheVariants as spaces
 use Rattle.walrus_arena.specs.Arena.{Arena, item_at, IsLive}
 use Rattle.walrus_items.specs.Items.{Group}
 use Rattle.walrus_types.specs.Table.{HasMember}
-use Rattle.walrus_module_items.specs.declared.table.Table.{Table}
-use Rattle.walrus_module_items.specs.declared.memory.Memory.{Memory}
-use Rattle.walrus_module_items.specs.declared.data.Data.{Data}
-use Rattle.walrus_module_items.specs.declared.data.DataKind.{DataKind}
-use Rattle.walrus_module_items.specs.declared.data.DataKind.TheVariants as datas
-use Rattle.walrus_module.specs.Parts.{Module}
+use Rattle.walrus_references.specs.walrus_module_items.declared.table.Table.{Table}
+use Rattle.walrus_references.specs.walrus_module_items.declared.memory.Memory.{Memory}
+use Rattle.walrus_references.specs.walrus_module_items.declared.data.Data.{Data}
+use Rattle.walrus_references.specs.walrus_module_items.declared.data.DataKind.{DataKind}
+use Rattle.walrus_references.specs.walrus_module_items.declared.data.DataKind.TheVariants as datas
+use Rattle.walrus_references.specs.walrus_module.Parts.{Module}
 use Rattle.walrus_roots.specs.declared.item.Item.{Item}
 use Rattle.walrus_roots.specs.Items.{item}
 use Rattle.walrus_marks.specs.Chains.{Chain, root, refers}

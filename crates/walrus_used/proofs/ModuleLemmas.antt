@@ -6,15 +6,15 @@ use Rattle.std.proofs.lemmas.Bool.{false≢true}
 use Rattle.wasm_formats.specs.declared.fault.Space.{Space}
 use Rattle.wasm_formats.specs.declared.fault.Space.TheVariants as spaces
 use Rattle.walrus_arena.specs.Arena.{item_at, IsLive}
-use Rattle.walrus_module_items.specs.declared.function.Function.{Function}
-use Rattle.walrus_module_items.specs.Functions.{type_of}
-use Rattle.walrus_module.specs.Parts.{Module}
+use Rattle.walrus_references.specs.walrus_module_items.declared.function.Function.{Function}
+use Rattle.walrus_references.specs.walrus_module_items.Functions.{type_of}
+use Rattle.walrus_references.specs.walrus_module.Parts.{Module}
 use Rattle.walrus_roots.specs.declared.item.Item.{Item}
 use Rattle.walrus_roots.specs.Items.{item}
 use Rattle.walrus_marks.specs.Marks.{State, meet}
 use Rattle.walrus_marks.specs.Chains.{Meets}
 use Rattle.walrus_references.specs.References.{KindNames, Named, named_by, type_items, function_items}
-use Rattle.walrus_module.specs.Items.{written_type}
+use Rattle.walrus_references.specs.walrus_module.Items.{written_type}
 use Rattle.walrus_used.specs.Looks.{Looks, LooksIn, LooksInGroup}
 use Rattle.walrus_used.proofs.MeetsLemmas.{meets_list, meets_none, meets_same, meets_then}
 

@@ -7,21 +7,21 @@ use Rattle.std.proofs.lemmas.Bool.{cases_lt, false≢true}
 use Rattle.wasm_formats.specs.declared.fault.Space.TheVariants as spaces
 use Rattle.walrus_arena.specs.Arena.{Arena, item_at, IsLive}
 use Rattle.walrus_instr.specs.declared.const_expr.ConstExpr.{ConstExpr}
-use Rattle.walrus_module_items.specs.declared.table.Table.{Table}
-use Rattle.walrus_module_items.specs.declared.export.Export.{Export}
-use Rattle.walrus_module_items.specs.declared.data.Data.{Data}
-use Rattle.walrus_module_items.specs.declared.data.DataKind.{DataKind}
-use Rattle.walrus_module_items.specs.declared.data.DataKind.TheVariants as datas
-use Rattle.walrus_module_items.specs.declared.element.Element.{Element}
-use Rattle.walrus_module_items.specs.declared.element.ElementKind.{ElementKind}
-use Rattle.walrus_module_items.specs.declared.element.ElementKind.TheVariants as elements
-use Rattle.walrus_module.specs.Parts.{Module}
+use Rattle.walrus_references.specs.walrus_module_items.declared.table.Table.{Table}
+use Rattle.walrus_references.specs.walrus_module_items.declared.export.Export.{Export}
+use Rattle.walrus_references.specs.walrus_module_items.declared.data.Data.{Data}
+use Rattle.walrus_references.specs.walrus_module_items.declared.data.DataKind.{DataKind}
+use Rattle.walrus_references.specs.walrus_module_items.declared.data.DataKind.TheVariants as datas
+use Rattle.walrus_references.specs.walrus_module_items.declared.element.Element.{Element}
+use Rattle.walrus_references.specs.walrus_module_items.declared.element.ElementKind.{ElementKind}
+use Rattle.walrus_references.specs.walrus_module_items.declared.element.ElementKind.TheVariants as elements
+use Rattle.walrus_references.specs.walrus_module.Parts.{Module}
 use Rattle.walrus_roots.specs.declared.item.Item.{Item}
 use Rattle.walrus_roots.specs.Items.{item}
 use Rattle.walrus_marks.specs.Marks.{State, meet}
 use Rattle.walrus_marks.specs.Chains.{Meets}
 use Rattle.walrus_references.specs.Roots.{Root, exports, starts, is_active, fills_import, declares, is_pushed}
-use Rattle.walrus_module.specs.Items.{given_out}
+use Rattle.walrus_references.specs.walrus_module.Items.{given_out}
 use Rattle.walrus_used.specs.Picks.{Below, IsPickedAt, IsPicked, active_data, is_imported, rooted_element, start_items}
 use Rattle.walrus_used.proofs.MeetsLemmas.{meets_list, meets_same, meets_then, below_all}
 use Rattle.walrus_used.proofs.LooksLemmas.{none_in, first_in, only_in, one_live, one_back}

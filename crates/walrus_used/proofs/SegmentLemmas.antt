@@ -7,10 +7,10 @@ use Rattle.std.proofs.lemmas.List.Elements.{Contains-append_left, Contains-appen
 use Rattle.std.proofs.lemmas.Bool.{cases_eq, cases_lt}
 use Rattle.wasm_formats.specs.declared.fault.Space.TheVariants as spaces
 use Rattle.walrus_arena.specs.Arena.{item_at, IsLive}
-use Rattle.walrus_module_items.specs.declared.element.Element.{Element}
-use Rattle.walrus_module_items.specs.declared.element.ElementKind.{ElementKind}
-use Rattle.walrus_module_items.specs.declared.element.ElementKind.TheVariants as elements
-use Rattle.walrus_module.specs.Parts.{Module}
+use Rattle.walrus_references.specs.walrus_module_items.declared.element.Element.{Element}
+use Rattle.walrus_references.specs.walrus_module_items.declared.element.ElementKind.{ElementKind}
+use Rattle.walrus_references.specs.walrus_module_items.declared.element.ElementKind.TheVariants as elements
+use Rattle.walrus_references.specs.walrus_module.Parts.{Module}
 use Rattle.walrus_roots.specs.declared.item.Item.{Item}
 use Rattle.walrus_roots.specs.Items.{item}
 use Rattle.walrus_references.specs.References.{IsActiveIn}

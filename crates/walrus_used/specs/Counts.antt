@@ -4,7 +4,7 @@ use Rattle.std.specs.List.{fold}
 use Rattle.walrus_arena.specs.Arena.{entries_from}
 use Rattle.walrus_items.specs.Items.{Group}
 use Rattle.walrus_types.specs.Table.{Table}
-use Rattle.walrus_module.specs.Parts.{Module}
+use Rattle.walrus_references.specs.walrus_module.Parts.{Module}
 
 -- the count, or one more than the id
 abbrev pub past_id : ℕ → ℕ → ℕ

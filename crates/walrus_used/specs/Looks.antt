@@ -7,15 +7,15 @@ use Rattle.std.specs.List.{flat_map}
 use Rattle.walrus_arena.specs.Arena.{Arena, item_at}
 use Rattle.walrus_items.specs.Items.{Group}
 use Rattle.walrus_types.specs.Table.{Table as TypeTable, HasMember}
-use Rattle.walrus_module_items.specs.declared.table.Table.{Table}
-use Rattle.walrus_module_items.specs.declared.element.ElementKind.{ElementKind}
-use Rattle.walrus_module_items.specs.declared.element.ElementKind.TheVariants as elements
-use Rattle.walrus_module_items.specs.declared.memory.Memory.{Memory}
-use Rattle.walrus_module.specs.Parts.{Module}
+use Rattle.walrus_references.specs.walrus_module_items.declared.table.Table.{Table}
+use Rattle.walrus_references.specs.walrus_module_items.declared.element.ElementKind.{ElementKind}
+use Rattle.walrus_references.specs.walrus_module_items.declared.element.ElementKind.TheVariants as elements
+use Rattle.walrus_references.specs.walrus_module_items.declared.memory.Memory.{Memory}
+use Rattle.walrus_references.specs.walrus_module.Parts.{Module}
 use Rattle.walrus_roots.specs.declared.item.Item.{Item}
 use Rattle.walrus_roots.specs.Items.{item}
 use Rattle.walrus_references.specs.References.{RefersIn, IsActiveIn, named_by, type_items, table_items}
-use Rattle.walrus_module.specs.Items.{written_type}
+use Rattle.walrus_references.specs.walrus_module.Items.{written_type}
 
 -- of a group the first member stands for the others: it names them all, and each other names it alone
 abbrev pub group_items : ℕ → List ℕ → List Item

@@ -127,8 +127,12 @@ impl<'a> Names for Body<'a> {
     }
 }
 
-// The sequences that are reached from a body's own.
-fn reached_seqs(alloc: Global, seqs: &[InstrSeq]) -> Result<Marks, AllocError>
+/// The sequences that are reached from a body's own.
+///
+/// # Errors
+///
+/// Want of memory.
+pub fn reached_seqs(alloc: Global, seqs: &[InstrSeq]) -> Result<Marks, AllocError>
     ensures { IfOk result (λ reached. IsReached (seq_counts seqs.now) IsEntry (Holds seqs.now) reached) }
 {
     let counts = [0, 0, 0, 0, 0, 0, 0, 0, 0, seqs.len()];

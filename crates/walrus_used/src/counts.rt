@@ -4,7 +4,7 @@ ghost use Rattle.std.specs.List.{fold};
 ghost use Rattle.walrus_marks.specs.Chains.{IsReached};
 ghost use Rattle.walrus_references.specs.References.{Refers};
 ghost use Rattle.walrus_references.specs.Roots.{Root};
-ghost use Rattle.walrus_module.specs.Parts.{parts};
+ghost use Rattle.walrus_references.specs.walrus_module.Parts.{parts};
 ghost use Rattle.walrus_used.specs.Counts.{counts_of, past_id, past_types};
 
 use crate::module_names::ModuleNames;
@@ -12,7 +12,7 @@ use crate::segments::active_segments;
 use std::alloc::{AllocError, Global};
 use walrus_arena::TypeId;
 use walrus_marks::{Marks, reach};
-use walrus_module::Module;
+use walrus_references::module::Module;
 use walrus_roots::Item;
 use walrus_types::ModuleTypes;
 

@@ -8,4 +8,8 @@ mod names;
 mod roots;
 mod segments;
 
+pub use bodies::reached_seqs;
 pub use counts::{id_counts, reach_items, type_count};
+
+// Passed on to crates above, which then list this one alone.
+pub use walrus_references::{collections, local_function, module, module_items};

@@ -7,9 +7,9 @@ ghost use Rattle.walrus_items.specs.Items.{Group};
 ghost use Rattle.walrus_marks.specs.Marks.{lists_of, meet};
 ghost use Rattle.walrus_marks.specs.Chains.{Meets};
 ghost use Rattle.walrus_references.specs.References.{KindNames, named_by, type_items, global_items, tag_items, element_items, data_items, local_items};
-ghost use Rattle.walrus_module.specs.Items.{written_type};
+ghost use Rattle.walrus_references.specs.walrus_module.Items.{written_type};
 ghost use Rattle.walrus_references.specs.Roots.{Root};
-ghost use Rattle.walrus_module.specs.Parts.{parts};
+ghost use Rattle.walrus_references.specs.walrus_module.Parts.{parts};
 ghost use Rattle.walrus_used.specs.Looks.{Looks, LooksIn, LooksInGroup, group_items, table_looks, memory_looks};
 ghost use Rattle.wasm_formats.specs.declared.fault.Space.TheVariants as spaces;
 
@@ -21,11 +21,11 @@ use std::alloc::{AllocError, Global};
 use walrus_arena::{
     DataId, ElementId, FunctionId, GlobalId, LocalId, MemoryId, TableId, TagId, TypeId,
 };
-use walrus_collections::{ModuleData, ModuleElements, ModuleGlobals, ModuleTags};
 use walrus_items::ModuleLocals;
 use walrus_marks::{Marks, Names};
-use walrus_module::Module;
-use walrus_module_items::FunctionKind;
+use walrus_references::collections::{ModuleData, ModuleElements, ModuleGlobals, ModuleTags};
+use walrus_references::module::Module;
+use walrus_references::module_items::FunctionKind;
 use walrus_roots::Item;
 use walrus_types::ModuleTypes;
 use wasm_formats::Space;

@@ -5,18 +5,18 @@ ghost use Rattle.walrus_roots.specs.declared.item.Item.{Item as AnyItem};
 ghost use Rattle.walrus_marks.specs.Marks.{meet};
 ghost use Rattle.walrus_marks.specs.Chains.{Meets};
 ghost use Rattle.walrus_references.specs.Roots.{Root};
-ghost use Rattle.walrus_module.specs.Items.{given_out};
-ghost use Rattle.walrus_module.specs.Parts.{parts};
+ghost use Rattle.walrus_references.specs.walrus_module.Items.{given_out};
+ghost use Rattle.walrus_references.specs.walrus_module.Parts.{parts};
 ghost use Rattle.walrus_used.specs.Picks.{IsPicked, active_data, is_imported, rooted_element, start_items};
 ghost use Rattle.walrus_arena.specs.Arena.{item_at};
 
 use walrus_arena::{
     DataId, DataSpace, ElementId, ElementSpace, ExportId, ExportSpace, FunctionId, Id, TableId,
 };
-use walrus_collections::{Collection, ModuleTables};
 use walrus_marks::Marks;
-use walrus_module::Module;
-use walrus_module_items::{Data, DataKind, Element, ElementKind, Export, ExportItem};
+use walrus_references::collections::{Collection, ModuleTables};
+use walrus_references::module::Module;
+use walrus_references::module_items::{Data, DataKind, Element, ElementKind, Export, ExportItem};
 use walrus_roots::Item;
 use wasm_formats::Space;
 

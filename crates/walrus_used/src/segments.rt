@@ -5,15 +5,15 @@ ghost use Rattle.std.specs.HashSet.{keys};
 ghost use Rattle.std.specs.List.{fold};
 ghost use Rattle.wasm_formats.specs.declared.fault.Space.TheVariants as spaces;
 ghost use Rattle.walrus_marks.specs.Marks.{meet};
-ghost use Rattle.walrus_module.specs.Parts.{parts};
+ghost use Rattle.walrus_references.specs.walrus_module.Parts.{parts};
 ghost use Rattle.walrus_used.specs.Looks.{AreActive, listed, listed_segment, live_items};
 
 use std::alloc::{AllocError, Global};
 use walrus_arena::{DataSpace, ElementId, ElementSpace, IdHashSet};
-use walrus_collections::{ModuleData, ModuleElements};
 use walrus_marks::Marks;
-use walrus_module::Module;
-use walrus_module_items::ElementKind;
+use walrus_references::collections::{ModuleData, ModuleElements};
+use walrus_references::module::Module;
+use walrus_references::module_items::ElementKind;
 use walrus_roots::Item;
 use wasm_formats::Space;
 

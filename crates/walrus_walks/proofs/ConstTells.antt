@@ -1,13 +1,13 @@
 -- What constant expressions and types tell a visitor.
 use Rattle.std.proofs.Common.{◌≡◌, ℕ, Bool, List, [], ◌∷◌, ◌++◌, map, refl, ap}
 use Rattle.std.specs.Option.{option_to_list}
-use Rattle.walrus_forms.specs.declared.value.HeapType.{HeapType}
-use Rattle.walrus_forms.specs.declared.value.HeapType.TheVariants.{Abstract, Concrete, Exact}
-use Rattle.walrus_forms.specs.declared.value.RefType.{RefType}
-use Rattle.walrus_forms.specs.declared.value.ValType.{ValType}
-use Rattle.walrus_forms.specs.declared.value.ValType.TheVariants as Val
-use Rattle.walrus_forms.specs.Values.{ref_name}
-use Rattle.walrus_forms.specs.Renaming.{renamed_ref}
+use Rattle.walrus_instr.specs.walrus_forms.declared.value.HeapType.{HeapType}
+use Rattle.walrus_instr.specs.walrus_forms.declared.value.HeapType.TheVariants.{Abstract, Concrete, Exact}
+use Rattle.walrus_instr.specs.walrus_forms.declared.value.RefType.{RefType}
+use Rattle.walrus_instr.specs.walrus_forms.declared.value.ValType.{ValType}
+use Rattle.walrus_instr.specs.walrus_forms.declared.value.ValType.TheVariants as Val
+use Rattle.walrus_instr.specs.walrus_forms.Values.{ref_name}
+use Rattle.walrus_instr.specs.walrus_forms.Renaming.{renamed_ref}
 use Rattle.walrus_instr.specs.declared.instr.Value.{Value as Constant}
 use Rattle.walrus_instr.specs.declared.instr.Value.TheVariants.{I32, I64, F32, F64, V128}
 use Rattle.walrus_instr.specs.declared.const_expr.ConstOp.{ConstOp}

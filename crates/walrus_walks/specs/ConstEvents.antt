@@ -1,9 +1,9 @@
 -- What constant expressions tell a visitor: their constants, and the items that they name.
 use Rattle.std.specs.Prelude.{◌≡◌, List, [], ◌∷◌, map}
 use Rattle.std.specs.Option.{option_to_list}
-use Rattle.walrus_forms.specs.declared.value.RefType.{RefType}
-use Rattle.walrus_forms.specs.declared.value.ValType.{ValType}
-use Rattle.walrus_forms.specs.Values.{ref_name, value_name}
+use Rattle.walrus_instr.specs.walrus_forms.declared.value.RefType.{RefType}
+use Rattle.walrus_instr.specs.walrus_forms.declared.value.ValType.{ValType}
+use Rattle.walrus_instr.specs.walrus_forms.Values.{ref_name, value_name}
 use Rattle.walrus_instr.specs.declared.instr.Value.TheVariants.{I32, I64, F32, F64, V128}
 use Rattle.walrus_instr.specs.declared.const_expr.ConstOp.{ConstOp}
 use Rattle.walrus_instr.specs.declared.const_expr.ConstOp.TheVariants.{I32Const, I64Const, F32Const, F64Const, V128Const, GlobalGet, RefNull as RefNullOp, RefFunc as RefFuncOp, StructNew, StructNewDefault, ArrayNew, ArrayNewDefault, ArrayNewFixed}

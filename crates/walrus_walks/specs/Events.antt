@@ -1,10 +1,10 @@
 -- What a walk tells its visitor: one event a hook.
 use Rattle.std.specs.Prelude.{ℕ, List, [], ◌∷◌, ◌++◌, Option, Some, None}
-use Rattle.walrus_forms.specs.declared.value.HeapType.{HeapType}
-use Rattle.walrus_forms.specs.declared.value.HeapType.TheVariants.{Abstract, Concrete, Exact}
-use Rattle.walrus_forms.specs.declared.value.RefType.{RefType}
-use Rattle.walrus_forms.specs.declared.value.ValType.{ValType}
-use Rattle.walrus_forms.specs.declared.value.ValType.TheVariants.{Ref}
+use Rattle.walrus_instr.specs.walrus_forms.declared.value.HeapType.{HeapType}
+use Rattle.walrus_instr.specs.walrus_forms.declared.value.HeapType.TheVariants.{Abstract, Concrete, Exact}
+use Rattle.walrus_instr.specs.walrus_forms.declared.value.RefType.{RefType}
+use Rattle.walrus_instr.specs.walrus_forms.declared.value.ValType.{ValType}
+use Rattle.walrus_instr.specs.walrus_forms.declared.value.ValType.TheVariants.{Ref}
 use Rattle.walrus_instr.specs.declared.instr.Value.{Value as Constant}
 use Rattle.walrus_instr.specs.declared.instr.Instr.{Instr}
 use Rattle.walrus_instr.specs.declared.instr.Instr.TheVariants.{Try, TryTable, Br, BrIf, BrTable, BrOnNull, BrOnNonNull, BrOnCast, BrOnCastFail, Throw, Call, CallIndirect, CallRef, ReturnCall, ReturnCallIndirect, ReturnCallRef, Select, Const, LocalGet, LocalSet, LocalTee, GlobalGet, GlobalSet, TableGet, TableSet, TableGrow, TableSize, TableFill, TableInit, ElemDrop, TableCopy, Load, Store, LoadSimd, MemorySize, MemoryGrow, MemoryInit, DataDrop, MemoryCopy, MemoryFill, AtomicRmw, Cmpxchg, AtomicNotify, AtomicWait, RefNull, RefFunc, RefTest, RefCast, StructNew, StructNewDefault, StructGet, StructGetS, StructGetU, StructSet, ArrayNew, ArrayNewDefault, ArrayNewFixed, ArrayNewData, ArrayNewElem, ArrayGet, ArrayGetS, ArrayGetU, ArraySet, ArrayFill, ArrayCopy, ArrayInitData, ArrayInitElem}

@@ -9,3 +9,7 @@ pub mod Changing
 pub mod Order
 pub mod Plain
 pub mod Fronts
+-- Passed on to crates above, which then list this one alone.
+pub use Rattle.walrus_instr.specs.walrus_forms as walrus_forms
+pub use Rattle.walrus_instr.specs as walrus_instr
+pub use Rattle.walrus_instr.specs.walrus_types as walrus_types

@@ -20,3 +20,7 @@ pub use visit::Visit;
 pub use visit_mut::VisitMut;
 pub use visitor::Visitor;
 pub use visitor_mut::VisitorMut;
+
+// Passed on to crates above, which then list this one alone.
+pub use walrus_instr as instr;
+pub use walrus_instr::type_table;

@@ -5,8 +5,8 @@ ghost use Rattle.walrus_walks.specs.Events.{ref_names, val_names, written_names,
 
 use crate::visitor::Visitor;
 use walrus_arena::InstrSeqId;
+use walrus_instr::type_table::{HeapType, RefType, ValType};
 use walrus_instr::{Instr, InstrSeq, InstrSeqType, LegacyCatch, TryTableCatch};
-use walrus_types::{HeapType, RefType, ValType};
 
 /// What tells a visitor of the ids and constants in it, in the order of its fields.
 pub trait Visit {

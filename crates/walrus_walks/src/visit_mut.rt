@@ -6,8 +6,8 @@ ghost use Rattle.walrus_walks.specs.Changing.{TypeChanged};
 
 use crate::visitor_mut::VisitorMut;
 use walrus_arena::InstrSeqId;
+use walrus_instr::type_table::{HeapType, RefType, ValType};
 use walrus_instr::{Instr, InstrSeq, InstrSeqType, LegacyCatch, TryTableCatch};
-use walrus_types::{HeapType, RefType, ValType};
 
 /// What hands a visitor the ids and constants in it, in the order of its fields.
 pub trait VisitMut {

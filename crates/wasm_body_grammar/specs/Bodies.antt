@@ -2,13 +2,13 @@
 use Rattle.std.specs.Prelude.{ℕ, ◌+◌, ◌<◌, nat_le, Bool, true, false, List, [], ◌∷◌, length, fold, Option, Result, Ok, Err, refl}
 use Rattle.std.specs.List.{flat_map, repeat}
 use Rattle.std.proofs.Common.{sym, ◌∙◌, arith}
-use Rattle.wasm_features.specs.declared.WasmFeatures.{WasmFeatures}
-use Rattle.wasm_reader.specs.declared.error.ErrorKind.TheVariants as kinds
-use Rattle.walrus_forms.specs.declared.value.ValType.{ValType}
-use Rattle.wasm_operators.specs.Operators.{Seen, flow_of, code_at, operator_at}
-use Rattle.wasm_operators.specs.Spellings.{SpellsEither}
-use Rattle.wasm_operators.specs.Taken.{either_taken}
-use Rattle.wasm_operators.specs.Finals.{operator_final}
+use Rattle.wasm_formats.specs.wasm_features.declared.WasmFeatures.{WasmFeatures}
+use Rattle.wasm_formats.specs.wasm_reader.declared.error.ErrorKind.TheVariants as kinds
+use Rattle.wasm_grammar.specs.walrus_forms.declared.value.ValType.{ValType}
+use Rattle.wasm_grammar.specs.wasm_operators.Operators.{Seen, flow_of, code_at, operator_at}
+use Rattle.wasm_grammar.specs.wasm_operators.Spellings.{SpellsEither}
+use Rattle.wasm_grammar.specs.wasm_operators.Taken.{either_taken}
+use Rattle.wasm_grammar.specs.wasm_operators.Finals.{operator_final}
 use Rattle.wasm_formats.specs.declared.fault.Limited.TheVariants as limits
 use Rattle.wasm_formats.specs.Stops.{Read, Nesting, Operator, Limit, Stop, ◌>>=◌}
 use Rattle.wasm_formats.specs.Formats.{Format, Whole, leaf}

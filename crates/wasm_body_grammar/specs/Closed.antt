@@ -1,20 +1,20 @@
 -- Lemmas: what is refused in a body is so whatever follows, but where its bytes end.
 use Rattle.std.specs.Prelude.{ℕ, ◌+◌, nat_le, length, fold, refl}
 use Rattle.std.proofs.Common.{sym, ◌∙◌}
-use Rattle.wasm_features.specs.declared.WasmFeatures.{WasmFeatures}
-use Rattle.wasm_reader.specs.declared.error.ErrorKind.TheVariants as kinds
-use Rattle.wasm_reader.specs.Numbers.{Spells, unsigned, unsigned_at}
-use Rattle.wasm_reader.specs.Spellings.{number_taken}
-use Rattle.wasm_reader.specs.Finals.{unsigned_final}
-use Rattle.wasm_ref_types.specs.ReadTypes.{value_at}
-use Rattle.wasm_ref_types.specs.TypeSpellings.{SpellsValue}
-use Rattle.wasm_ref_types.specs.TypesTaken.{value_taken}
-use Rattle.wasm_ref_types.specs.TypesFinal.{value_begins}
-use Rattle.walrus_forms.specs.Values.{value_name}
-use Rattle.wasm_operators.specs.Operators.{Seen, operator_at}
-use Rattle.wasm_operators.specs.Spellings.{SpellsEither}
-use Rattle.wasm_operators.specs.Taken.{either_taken}
-use Rattle.wasm_operators.specs.Finals.{operator_final}
+use Rattle.wasm_formats.specs.wasm_features.declared.WasmFeatures.{WasmFeatures}
+use Rattle.wasm_formats.specs.wasm_reader.declared.error.ErrorKind.TheVariants as kinds
+use Rattle.wasm_formats.specs.wasm_reader.Numbers.{Spells, unsigned, unsigned_at}
+use Rattle.wasm_formats.specs.wasm_reader.Spellings.{number_taken}
+use Rattle.wasm_formats.specs.wasm_reader.Finals.{unsigned_final}
+use Rattle.wasm_operator_names.specs.wasm_ref_types.ReadTypes.{value_at}
+use Rattle.wasm_operator_names.specs.wasm_ref_types.TypeSpellings.{SpellsValue}
+use Rattle.wasm_operator_names.specs.wasm_ref_types.TypesTaken.{value_taken}
+use Rattle.wasm_operator_names.specs.wasm_ref_types.TypesFinal.{value_begins}
+use Rattle.wasm_grammar.specs.walrus_forms.Values.{value_name}
+use Rattle.wasm_grammar.specs.wasm_operators.Operators.{Seen, operator_at}
+use Rattle.wasm_grammar.specs.wasm_operators.Spellings.{SpellsEither}
+use Rattle.wasm_grammar.specs.wasm_operators.Taken.{either_taken}
+use Rattle.wasm_grammar.specs.wasm_operators.Finals.{operator_final}
 use Rattle.wasm_formats.specs.declared.fault.Form.TheVariants as unsupported
 use Rattle.wasm_formats.specs.declared.fault.Limited.TheVariants as limits
 use Rattle.wasm_formats.specs.Stops.{Read, Nesting, Operator, Unsupported, Limit}

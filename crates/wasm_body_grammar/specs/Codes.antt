@@ -1,8 +1,8 @@
 -- The bodies of a module, one after another, once its sections were read (Core Specification, binary format: code section).
 use Rattle.std.specs.Prelude.{ℕ, ◌+◌, ◌-◌, ◌≤◌, ◌≡◌, ◌⊎◌, List, [], ◌∷◌, length, drop, filter_map, Option, Some, None, Result, Ok, Err, if◌then◌else◌, slice_get}
 use Rattle.std.specs.Option.{is_some}
-use Rattle.walrus_forms.specs.Forms.{params_of}
-use Rattle.walrus_forms.specs.Kinds.{Kind}
+use Rattle.wasm_grammar.specs.walrus_forms.Forms.{params_of}
+use Rattle.wasm_grammar.specs.walrus_forms.Kinds.{Kind}
 use Rattle.wasm_formats.specs.Stops.{Stop, stop, moved, before, ◌>>=◌}
 use Rattle.wasm_formats.specs.Formats.{Small}
 use Rattle.wasm_grammar.specs.Modules.{Function, Origin, Imported, Own, Module, Body}

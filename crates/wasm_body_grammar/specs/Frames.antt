@@ -1,8 +1,8 @@
 -- The open frames of a body, and what each operator makes of them (Core Specification, instructions: control instructions; the
 -- proposal on legacy exceptions).
 use Rattle.std.specs.Prelude.{ℕ, ◌-◌, List, [], ◌∷◌, length, Option, Some, None, Result, Ok, Err}
-use Rattle.wasm_operators.specs.declared.entry.Flow.{Flow}
-use Rattle.wasm_operators.specs.declared.entry.Flow.TheVariants as flows
+use Rattle.wasm_grammar.specs.wasm_operators.declared.entry.Flow.{Flow}
+use Rattle.wasm_grammar.specs.wasm_operators.declared.entry.Flow.TheVariants as flows
 use Rattle.wasm_formats.specs.Stops.{Trouble, Nesting, Position}
 
 pub data Frame : Type 0 where

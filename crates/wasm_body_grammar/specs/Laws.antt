@@ -1,6 +1,6 @@
 -- Laws of bodies.
 use Rattle.std.specs.Prelude.{ℕ, ◌<◌, ◌≤◌, ◌≡◌, ◌⊎◌, false, List, ◌++◌, length, Ok, Err}
-use Rattle.wasm_reader.specs.Laws.{IsPrefixFree}
+use Rattle.wasm_formats.specs.wasm_reader.Laws.{IsPrefixFree}
 use Rattle.wasm_formats.specs.Stops.{Nesting, Stop, stop, moved}
 use Rattle.wasm_formats.specs.Formats.{Small}
 use Rattle.wasm_file_formats.specs.Closed.{is_cut}

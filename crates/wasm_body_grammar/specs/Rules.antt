@@ -2,18 +2,18 @@
 use Rattle.std.specs.Prelude.{ℕ, ◌+◌, ◌^◌, ◌==◌, ◌&&◌, ◌||◌, nat_lt, Bool, true, false, not, List, [], ◌∷◌, length, Option, Some, None, Ok, Err, if◌then◌else◌, slice_get, slice_index_or}
 use Rattle.std.specs.List.{list_any, list_all}
 use Rattle.std.specs.Option.{is_some, option_map}
-use Rattle.wasm_features.specs.declared.WasmFeatures.{WasmFeatures}
-use Rattle.walrus_forms.specs.declared.value.ValType.{ValType}
-use Rattle.walrus_forms.specs.Forms.{Form, FunctionForm, StructForm, ArrayForm}
-use Rattle.walrus_forms.specs.Kinds.{Kind, function_kind}
-use Rattle.walrus_forms.specs.Renaming.{renamed_kind}
-use Rattle.walrus_forms.specs.Same.{same_kind}
-use Rattle.wasm_immediates.specs.declared.block_type.BlockType.{BlockType}
-use Rattle.wasm_immediates.specs.declared.block_type.BlockType.TheVariants as blocks
-use Rattle.wasm_immediates.specs.declared.memory_access.MemoryAccess.{MemoryAccess}
-use Rattle.wasm_immediates.specs.Items as immediates
-use Rattle.wasm_immediates.specs.Items.{Item, Heap, Block, Access, ManyValues}
-use Rattle.wasm_operators.specs.Operators.{Seen, flow_of}
+use Rattle.wasm_formats.specs.wasm_features.declared.WasmFeatures.{WasmFeatures}
+use Rattle.wasm_grammar.specs.walrus_forms.declared.value.ValType.{ValType}
+use Rattle.wasm_grammar.specs.walrus_forms.Forms.{Form, FunctionForm, StructForm, ArrayForm}
+use Rattle.wasm_grammar.specs.walrus_forms.Kinds.{Kind, function_kind}
+use Rattle.wasm_grammar.specs.walrus_forms.Renaming.{renamed_kind}
+use Rattle.wasm_grammar.specs.walrus_forms.Same.{same_kind}
+use Rattle.wasm_operator_names.specs.wasm_immediates.declared.block_type.BlockType.{BlockType}
+use Rattle.wasm_operator_names.specs.wasm_immediates.declared.block_type.BlockType.TheVariants as blocks
+use Rattle.wasm_operator_names.specs.wasm_immediates.declared.memory_access.MemoryAccess.{MemoryAccess}
+use Rattle.wasm_operator_names.specs.wasm_immediates.Items as immediates
+use Rattle.wasm_operator_names.specs.wasm_immediates.Items.{Item, Heap, Block, Access, ManyValues}
+use Rattle.wasm_grammar.specs.wasm_operators.Operators.{Seen, flow_of}
 use Rattle.wasm_operator_names.specs.Names.{Name, operator_names}
 use Rattle.wasm_formats.specs.declared.fault.Space.{Space}
 use Rattle.wasm_formats.specs.declared.fault.Space.TheVariants as spaces

@@ -1,13 +1,13 @@
 -- Lemmas: each reading of a type is final.
 use Rattle.std.specs.Prelude.{ℕ, ◌+◌, ◌==◌, true, false, List, ◌++◌, length, Ok, Err, refl}
-use Rattle.wasm_features.specs.declared.WasmFeatures.{WasmFeatures}
-use Rattle.wasm_features.specs.Features.{Feature, GcTypes, SharedEverythingThreads, enables, constant, features_of}
-use Rattle.wasm_reader.specs.declared.error.ErrorKind.TheVariants as kinds
-use Rattle.wasm_reader.specs.Reading.{Reading, fault, ◌>>=◌, byte_at}
-use Rattle.wasm_reader.specs.Laws.{Passes, Grows, IsFinal}
-use Rattle.wasm_reader.specs.Final.{IsFinalFrom, StaysFrom, fault_then, then_final, map_final, from_start, then_from, if_from, done_from, fault_from, final_from}
-use Rattle.wasm_reader.specs.Finals.{byte_final, Takes-byte, vec_final}
-use Rattle.wasm_reader.specs.Items.{vec_at}
+use Rattle.wasm_ref_types.specs.wasm_features.declared.WasmFeatures.{WasmFeatures}
+use Rattle.wasm_ref_types.specs.wasm_features.Features.{Feature, GcTypes, SharedEverythingThreads, enables, constant, features_of}
+use Rattle.wasm_ref_types.specs.wasm_reader.declared.error.ErrorKind.TheVariants as kinds
+use Rattle.wasm_ref_types.specs.wasm_reader.Reading.{Reading, fault, ◌>>=◌, byte_at}
+use Rattle.wasm_ref_types.specs.wasm_reader.Laws.{Passes, Grows, IsFinal}
+use Rattle.wasm_ref_types.specs.wasm_reader.Final.{IsFinalFrom, StaysFrom, fault_then, then_final, map_final, from_start, then_from, if_from, done_from, fault_from, final_from}
+use Rattle.wasm_ref_types.specs.wasm_reader.Finals.{byte_final, Takes-byte, vec_final}
+use Rattle.wasm_ref_types.specs.wasm_reader.Items.{vec_at}
 use Rattle.wasm_ref_types.specs.ReadTypes.{value_at}
 use Rattle.wasm_ref_types.specs.Begins.{Begins, peeked_begins, if_begins, map_begins}
 use Rattle.wasm_ref_types.specs.TypesFinal.{value_begins}

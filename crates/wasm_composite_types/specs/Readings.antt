@@ -1,11 +1,11 @@
 -- What bytes are read as which type, or where they are refused (Core Specification, binary format, types). A byte that is given
 -- to a reading was read before, and stands where `start` bytes were left.
 use Rattle.std.specs.Prelude.{ℕ, ◌==◌, Bool, true, false, List, length, Ok, Err, if◌then◌else◌}
-use Rattle.wasm_features.specs.declared.WasmFeatures.{WasmFeatures}
-use Rattle.wasm_features.specs.Features.{Feature, GcTypes, SharedEverythingThreads, enables, constant, features_of}
-use Rattle.wasm_reader.specs.declared.error.ErrorKind.TheVariants as kinds
-use Rattle.wasm_reader.specs.Reading.{Reading, fault, ◌>>=◌, byte_at, next_at}
-use Rattle.wasm_reader.specs.Items.{vec_at}
+use Rattle.wasm_ref_types.specs.wasm_features.declared.WasmFeatures.{WasmFeatures}
+use Rattle.wasm_ref_types.specs.wasm_features.Features.{Feature, GcTypes, SharedEverythingThreads, enables, constant, features_of}
+use Rattle.wasm_ref_types.specs.wasm_reader.declared.error.ErrorKind.TheVariants as kinds
+use Rattle.wasm_ref_types.specs.wasm_reader.Reading.{Reading, fault, ◌>>=◌, byte_at, next_at}
+use Rattle.wasm_ref_types.specs.wasm_reader.Items.{vec_at}
 use Rattle.wasm_ref_types.specs.ReadTypes.{value_at}
 use Rattle.wasm_composite_types.specs.declared.field.StorageType.{StorageType}
 use Rattle.wasm_composite_types.specs.declared.field.StorageType.TheVariants.{I8, I16, Val}

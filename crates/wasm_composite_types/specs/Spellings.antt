@@ -1,7 +1,7 @@
 -- Which bytes spell a type (Core Specification, binary format, types), under which features.
 use Rattle.std.specs.Prelude.{ℕ, ◌≤◌, ◌≡◌, Bool, true, false, List, [], ◌∷◌, ◌++◌, length, All}
-use Rattle.wasm_features.specs.declared.WasmFeatures.{WasmFeatures}
-use Rattle.wasm_reader.specs.Items.{SpellsVec}
+use Rattle.wasm_ref_types.specs.wasm_features.declared.WasmFeatures.{WasmFeatures}
+use Rattle.wasm_ref_types.specs.wasm_reader.Items.{SpellsVec}
 use Rattle.wasm_ref_types.specs.TypeSpellings.{HasGcTypes, HasSharedTypes, SpellsBehind, SpellsValue, MayBeShared, IsWrittenValue}
 use Rattle.wasm_composite_types.specs.declared.field.StorageType.{StorageType}
 use Rattle.wasm_composite_types.specs.declared.field.StorageType.TheVariants.{I8, I16, Val}

@@ -3,13 +3,13 @@ use Rattle.std.specs.Prelude.{ℕ, ◌<◌, ◌≡◌, Bool, true, false, List, 
 use Rattle.std.proofs.Common.{ap, sym, ◌∙◌, subst}
 use Rattle.std.proofs.lemmas.List.{append_assoc}
 use Rattle.std.proofs.lemmas.List.Elements.{All-tail}
-use Rattle.wasm_features.specs.declared.WasmFeatures.{WasmFeatures}
-use Rattle.wasm_features.specs.Features.{Feature, enables, constant, features_of}
-use Rattle.wasm_reader.specs.declared.error.ErrorKind.TheVariants as kinds
-use Rattle.wasm_reader.specs.Reading.{Reading, Fault, fault, ◌>>=◌, byte_at}
-use Rattle.wasm_reader.specs.Laws.{TakesSpelled}
-use Rattle.wasm_reader.specs.Spellings.{ok_is, then_was}
-use Rattle.wasm_reader.specs.Vecs.{later_bytes}
+use Rattle.wasm_ref_types.specs.wasm_features.declared.WasmFeatures.{WasmFeatures}
+use Rattle.wasm_ref_types.specs.wasm_features.Features.{Feature, enables, constant, features_of}
+use Rattle.wasm_ref_types.specs.wasm_reader.declared.error.ErrorKind.TheVariants as kinds
+use Rattle.wasm_ref_types.specs.wasm_reader.Reading.{Reading, Fault, fault, ◌>>=◌, byte_at}
+use Rattle.wasm_ref_types.specs.wasm_reader.Laws.{TakesSpelled}
+use Rattle.wasm_ref_types.specs.wasm_reader.Spellings.{ok_is, then_was}
+use Rattle.wasm_ref_types.specs.wasm_reader.Vecs.{later_bytes}
 use Rattle.wasm_composite_types.specs.Readings.{gated}
 use Rattle.wasm_composite_types.specs.Spellings.{SpellsBoth}
 

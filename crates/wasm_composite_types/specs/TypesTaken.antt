@@ -2,13 +2,13 @@
 use Rattle.std.specs.Prelude.{ℕ, ◌≤◌, ◌≡◌, ◌==◌, Bool, true, false, List, [], ◌∷◌, ◌++◌, Ok, if◌then◌else◌, refl}
 use Rattle.std.proofs.Common.{ap, sym, ◌∙◌, subst, arith, inl, inr}
 use Rattle.std.proofs.lemmas.Bool.{cases_lt, cases_Bool, eqb-true, eqb-false, ne_eqb}
-use Rattle.wasm_features.specs.declared.WasmFeatures.{WasmFeatures}
-use Rattle.wasm_features.specs.Features.{GcTypes, SharedEverythingThreads, enables}
-use Rattle.wasm_reader.specs.Reading.{◌>>=◌, byte_at, next_at}
-use Rattle.wasm_reader.specs.Items.{SpellsVec, vec_at}
-use Rattle.wasm_reader.specs.Laws.{TakesSpelled}
-use Rattle.wasm_reader.specs.Spellings.{ok_is, then_was}
-use Rattle.wasm_reader.specs.Vecs.{vec_taken}
+use Rattle.wasm_ref_types.specs.wasm_features.declared.WasmFeatures.{WasmFeatures}
+use Rattle.wasm_ref_types.specs.wasm_features.Features.{GcTypes, SharedEverythingThreads, enables}
+use Rattle.wasm_ref_types.specs.wasm_reader.Reading.{◌>>=◌, byte_at, next_at}
+use Rattle.wasm_ref_types.specs.wasm_reader.Items.{SpellsVec, vec_at}
+use Rattle.wasm_ref_types.specs.wasm_reader.Laws.{TakesSpelled}
+use Rattle.wasm_ref_types.specs.wasm_reader.Spellings.{ok_is, then_was}
+use Rattle.wasm_ref_types.specs.wasm_reader.Vecs.{vec_taken}
 use Rattle.wasm_ref_types.specs.declared.value.ValType.{ValType}
 use Rattle.wasm_ref_types.specs.ReadTypes.{abstract_at, reference_at, value_at}
 use Rattle.wasm_ref_types.specs.TypeSpellings.{SpellsBehind, SpellsValue}

@@ -2,11 +2,11 @@
 use Rattle.std.specs.Prelude.{ℕ, ◌<◌, ◌^◌, ◌≡◌, Bool, true, false, List, [], ◌∷◌, ◌++◌, Ok, refl}
 use Rattle.std.proofs.Common.{ap, sym, ◌∙◌, arith}
 use Rattle.std.proofs.lemmas.List.{append-nil}
-use Rattle.wasm_features.specs.declared.WasmFeatures.{WasmFeatures}
-use Rattle.wasm_reader.specs.Reading.{Reading}
-use Rattle.wasm_reader.specs.Items.{SpellsVec}
-use Rattle.wasm_reader.specs.Laws.{TakesSpelled}
-use Rattle.wasm_reader.specs.Vecs.{vec_spelled}
+use Rattle.wasm_ref_types.specs.wasm_features.declared.WasmFeatures.{WasmFeatures}
+use Rattle.wasm_ref_types.specs.wasm_reader.Reading.{Reading}
+use Rattle.wasm_ref_types.specs.wasm_reader.Items.{SpellsVec}
+use Rattle.wasm_ref_types.specs.wasm_reader.Laws.{TakesSpelled}
+use Rattle.wasm_ref_types.specs.wasm_reader.Vecs.{vec_spelled}
 use Rattle.wasm_ref_types.specs.TypeSpellings.{HasGcTypes, SpellsValue, MayBeShared, IsWrittenValue, ReadsWritten}
 use Rattle.wasm_ref_types.specs.TypesTaken.{value_spelled, spelled_read}
 use Rattle.wasm_ref_types.specs.declared.value.ValType.{ValType}

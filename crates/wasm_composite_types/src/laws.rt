@@ -1,7 +1,7 @@
 //! Laws: functions with nothing to do, whose contracts hold of all composite types and bytes.
 
-ghost use Rattle.wasm_features.specs.declared.WasmFeatures.{WasmFeatures};
-ghost use Rattle.wasm_reader.specs.Laws.{IsFinal, EndsEarly, TakesSpelled, IsPrefixFree};
+ghost use Rattle.wasm_ref_types.specs.wasm_features.declared.WasmFeatures.{WasmFeatures};
+ghost use Rattle.wasm_ref_types.specs.wasm_reader.Laws.{IsFinal, EndsEarly, TakesSpelled, IsPrefixFree};
 ghost use Rattle.wasm_ref_types.specs.TypeSpellings.{ReadsWritten};
 ghost use Rattle.wasm_composite_types.specs.Readings.{storage_at, field_at, func_at, array_at, struct_at, composite_at};
 ghost use Rattle.wasm_composite_types.specs.Spellings.{SpellsStorage, SpellsField, SpellsFunc, SpellsArray, SpellsStruct, SpellsComposite, IsWrittenStorage, IsWrittenField, IsWrittenFunc, IsWrittenArray, IsWrittenStruct, IsWrittenComposite};

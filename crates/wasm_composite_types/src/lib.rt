@@ -14,3 +14,7 @@ pub use entity::{GlobalType, MemoryType, TableType, TagKind, TagType};
 pub use field::{FieldType, StorageType};
 pub use form::{ArrayType, CompositeInnerType, CompositeType, ContType, FuncType, StructType};
 pub use list::TypeList;
+
+// Passed on to crates above, which then list this one alone.
+pub use wasm_ref_types as ref_types;
+pub use wasm_ref_types::reader;

@@ -1,22 +1,22 @@
 //! Composite types, read from the binary format (Core Specification, binary format, types).
 
 ghost use Rattle.std.specs.Prelude.{◌≡◌, ◌-◌, ◌≤◌, true, false, IfOk, IfErr, map};
-ghost use Rattle.wasm_features.specs.Features.{GcTypes, enables, constant, features_of};
-ghost use Rattle.wasm_reader.specs.declared.error.ErrorKind.TheVariants.{Feature};
-ghost use Rattle.wasm_reader.specs.Cursor.{end_of};
-ghost use Rattle.wasm_reader.specs.Reading.{Reads, plain};
-ghost use Rattle.wasm_reader.specs.Items.{ReadsUnlessMemory, vec_at};
+ghost use Rattle.wasm_ref_types.specs.wasm_features.Features.{GcTypes, enables, constant, features_of};
+ghost use Rattle.wasm_ref_types.specs.wasm_reader.declared.error.ErrorKind.TheVariants.{Feature};
+ghost use Rattle.wasm_ref_types.specs.wasm_reader.Cursor.{end_of};
+ghost use Rattle.wasm_ref_types.specs.wasm_reader.Reading.{Reads, plain};
+ghost use Rattle.wasm_ref_types.specs.wasm_reader.Items.{ReadsUnlessMemory, vec_at};
 ghost use Rattle.wasm_composite_types.specs.Readings.{mutable_at, form_after, form_at, composite_after};
 
 use crate::field::{FieldType, StorageType};
 use crate::form::{ArrayType, CompositeInnerType, CompositeType, FuncType, StructType};
 use crate::list::TypeList;
 use std::alloc::Global;
-use wasm_features::WasmFeatures;
-use wasm_reader::limits::{
+use wasm_ref_types::features::WasmFeatures;
+use wasm_ref_types::reader::limits::{
     MAX_WASM_FUNCTION_PARAMS, MAX_WASM_FUNCTION_RETURNS, MAX_WASM_STRUCT_FIELDS,
 };
-use wasm_reader::{BinaryReader, Error, ErrorKind, FromReader, Result};
+use wasm_ref_types::reader::{BinaryReader, Error, ErrorKind, FromReader, Result};
 
 impl<'a> FromReader<'a> for StorageType {
     ghost use Rattle.wasm_composite_types.specs.declared.field.StorageType.{StorageType};

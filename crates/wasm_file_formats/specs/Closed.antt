@@ -2,9 +2,9 @@
 use Rattle.std.specs.Prelude.{ℕ, zero, suc, ◌+◌, ◌-◌, ◌<◌, ◌≤◌, ◌≡◌, Bool, true, false, List, [], ◌∷◌, ◌++◌, length, Option, Some, Ok, Err, if◌then◌else◌, refl}
 use Rattle.std.proofs.Common.{sym, ◌∙◌, subst, arith}
 use Rattle.std.proofs.lemmas.List.{length-append}
-use Rattle.wasm_reader.specs.declared.error.ErrorKind.TheVariants as kinds
-use Rattle.wasm_reader.specs.Laws.{TakesSpelled, IsFinal}
-use Rattle.wasm_reader.specs.Reading.{Reading}
+use Rattle.wasm_formats.specs.wasm_reader.declared.error.ErrorKind.TheVariants as kinds
+use Rattle.wasm_formats.specs.wasm_reader.Laws.{TakesSpelled, IsFinal}
+use Rattle.wasm_formats.specs.wasm_reader.Reading.{Reading}
 use Rattle.wasm_formats.specs.Stops.{Trouble, Read, Header, SectionSize, Count, Limit, Stop, stop, moved, Parsing, can_end, ◌>>=◌}
 use Rattle.wasm_formats.specs.Formats.{Format, Whole, Small, done_refused, refused_is, step_err, behind_small, parsed_final, leaf}
 use Rattle.wasm_formats.specs.Bytes.{never}

@@ -2,7 +2,7 @@
 use Rattle.std.specs.Prelude.{ℕ, ◌≡◌, List, ◌++◌, length, Option, None, Ok, ◌⊎◌, refl}
 use Rattle.std.proofs.Common.{ap, sym, ◌∙◌, subst, inl, inr}
 use Rattle.std.proofs.lemmas.List.{append_assoc}
-use Rattle.wasm_reader.specs.Numbers.{Spells, unsigned}
+use Rattle.wasm_formats.specs.wasm_reader.Numbers.{Spells, unsigned}
 use Rattle.wasm_formats.specs.Stops.{Trouble, ◌>>=◌}
 use Rattle.wasm_formats.specs.Formats.{Format, step_ok, step_err, inside_step, behind_small, parsed_final}
 use Rattle.wasm_formats.specs.Joined.{Behind, checked}

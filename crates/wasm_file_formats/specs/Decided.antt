@@ -3,9 +3,9 @@ use Rattle.std.specs.Prelude.{ℕ, ◌+◌, ◌-◌, ◌<◌, ◌≤◌, ◌≡�
 use Rattle.std.proofs.Common.{ap, sym, ◌∙◌, subst, arith, inl, inr}
 use Rattle.std.proofs.lemmas.Bool.{cases_lt, cases_Bool, le-ltb, eqb-true, eq-eqb}
 use Rattle.std.proofs.lemmas.List.{append_assoc, length-append, take-append-le}
-use Rattle.wasm_reader.specs.declared.error.ErrorKind.{ErrorKind}
-use Rattle.wasm_reader.specs.declared.error.ErrorKind.TheVariants as kinds
-use Rattle.wasm_reader.specs.Vecs.{later_bytes}
+use Rattle.wasm_formats.specs.wasm_reader.declared.error.ErrorKind.{ErrorKind}
+use Rattle.wasm_formats.specs.wasm_reader.declared.error.ErrorKind.TheVariants as kinds
+use Rattle.wasm_formats.specs.wasm_reader.Vecs.{later_bytes}
 use Rattle.wasm_formats.specs.Stops.{Trouble, Read, Stop, stop, moved, can_end, Parsing, ◌>>=◌, before}
 use Rattle.wasm_formats.specs.Formats.{Format, Whole, Small, done_refused, refused, refused_is, step_err, behind_small, parsed_final}
 use Rattle.wasm_formats.specs.Bytes.{never}

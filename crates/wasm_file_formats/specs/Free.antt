@@ -2,7 +2,7 @@
 use Rattle.std.specs.Prelude.{ℕ, ◌≡◌, List, ◌++◌, Ok}
 use Rattle.std.proofs.Common.{ap, sym, ◌∙◌, subst}
 use Rattle.std.proofs.lemmas.List.{append_cancel_right}
-use Rattle.wasm_reader.specs.Laws.{IsPrefixFree}
+use Rattle.wasm_formats.specs.wasm_reader.Laws.{IsPrefixFree}
 use Rattle.wasm_formats.specs.Formats.{Format, done_is}
 
 -- the bytes spell this value, and it meets the rules

@@ -8,3 +8,6 @@ pub mod Parts
 pub mod Stops
 pub mod Wholes
 pub mod Until
+-- Passed on to crates above, which then list this one alone.
+pub use Rattle.wasm_reader.specs.wasm_features as wasm_features
+pub use Rattle.wasm_reader.specs as wasm_reader

@@ -1,18 +1,18 @@
 -- Constant expressions (Core Specification, valid expressions: constant expressions; binary format: expressions).
 use Rattle.std.specs.Prelude.{ℕ, ◌≡◌, ◌==◌, ◌&&◌, ◌||◌, nat_le, nat_lt, Bool, true, false, List, [], ◌∷◌, ◌++◌, length, Option, Some, None, Err, ◌⊎◌, if◌then◌else◌, slice_index_or, refl}
 use Rattle.std.proofs.Common.{ap, sym, ◌∙◌, subst, inl, inr}
-use Rattle.wasm_features.specs.declared.WasmFeatures.{WasmFeatures}
-use Rattle.wasm_reader.specs.declared.error.ErrorKind.TheVariants as kinds
+use Rattle.wasm_operators.specs.wasm_features.declared.WasmFeatures.{WasmFeatures}
+use Rattle.wasm_formats.specs.wasm_reader.declared.error.ErrorKind.TheVariants as kinds
 use Rattle.walrus_forms.specs.declared.value.ValType.{ValType}
 use Rattle.walrus_forms.specs.declared.value.ValType.TheVariants.{I32, I64}
 use Rattle.walrus_forms.specs.declared.value.HeapType.{HeapType}
 use Rattle.walrus_forms.specs.Values.{heap_name}
-use Rattle.wasm_immediates.specs.Items as immediates
-use Rattle.wasm_immediates.specs.Items.{Item, Names, Heap}
-use Rattle.wasm_immediates.specs.Readings.{items_at}
-use Rattle.wasm_immediates.specs.Spellings.{SpellsForms}
-use Rattle.wasm_immediates.specs.Taken.{forms_taken}
-use Rattle.wasm_immediates.specs.Finals.{items_final}
+use Rattle.wasm_operators.specs.wasm_immediates.Items as immediates
+use Rattle.wasm_operators.specs.wasm_immediates.Items.{Item, Names, Heap}
+use Rattle.wasm_operators.specs.wasm_immediates.Readings.{items_at}
+use Rattle.wasm_operators.specs.wasm_immediates.Spellings.{SpellsForms}
+use Rattle.wasm_operators.specs.wasm_immediates.Taken.{forms_taken}
+use Rattle.wasm_operators.specs.wasm_immediates.Finals.{items_final}
 use Rattle.wasm_operators.specs.declared.entry.Kind.{Kind}
 use Rattle.wasm_operators.specs.declared.op_code.OpCode.{OpCode}
 use Rattle.wasm_operators.specs.Kinds.{forms}

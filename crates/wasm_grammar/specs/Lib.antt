@@ -3,3 +3,6 @@ pub mod Modules
 pub mod States
 pub mod TypeWords
 pub mod Values
+-- Passed on to crates above, which then list this one alone.
+pub use Rattle.walrus_forms.specs as walrus_forms
+pub use Rattle.wasm_operators.specs as wasm_operators

@@ -2,14 +2,14 @@
 use Rattle.std.specs.Prelude.{◌≡◌, true, false, Option, Some, None, refl}
 use Rattle.std.specs.Option.{option_map}
 use Rattle.std.proofs.Common.{ap, sym, ◌∙◌}
-use Rattle.wasm_ref_types.specs.declared.heap.AbstractHeapType.{AbstractHeapType as ReadAbstract}
-use Rattle.wasm_ref_types.specs.declared.heap.AbstractHeapType.TheVariants as from
-use Rattle.wasm_ref_types.specs.declared.heap.HeapType.{HeapType as ReadHeap}
-use Rattle.wasm_ref_types.specs.declared.heap.HeapType.TheVariants.{Abstract as FromAbstract, Concrete as FromConcrete, Exact as FromExact}
-use Rattle.wasm_ref_types.specs.declared.index.UnpackedIndex.TheVariants.{Module, RecGroup, Id}
-use Rattle.wasm_ref_types.specs.declared.value.ValType.{ValType as ReadValue}
-use Rattle.wasm_ref_types.specs.declared.value.ValType.TheVariants as values
-use Rattle.wasm_ref_types.specs.Reference.{Reference, reference}
+use Rattle.wasm_operators.specs.wasm_ref_types.declared.heap.AbstractHeapType.{AbstractHeapType as ReadAbstract}
+use Rattle.wasm_operators.specs.wasm_ref_types.declared.heap.AbstractHeapType.TheVariants as from
+use Rattle.wasm_operators.specs.wasm_ref_types.declared.heap.HeapType.{HeapType as ReadHeap}
+use Rattle.wasm_operators.specs.wasm_ref_types.declared.heap.HeapType.TheVariants.{Abstract as FromAbstract, Concrete as FromConcrete, Exact as FromExact}
+use Rattle.wasm_operators.specs.wasm_ref_types.declared.index.UnpackedIndex.TheVariants.{Module, RecGroup, Id}
+use Rattle.wasm_operators.specs.wasm_ref_types.declared.value.ValType.{ValType as ReadValue}
+use Rattle.wasm_operators.specs.wasm_ref_types.declared.value.ValType.TheVariants as values
+use Rattle.wasm_operators.specs.wasm_ref_types.Reference.{Reference, reference}
 use Rattle.walrus_forms.specs.declared.value.AbstractHeapType.{AbstractHeapType}
 use Rattle.walrus_forms.specs.declared.value.AbstractHeapType.TheVariants as into
 use Rattle.walrus_forms.specs.declared.value.HeapType.{HeapType}

@@ -1,16 +1,16 @@
 -- Values that sections are made of (Core Specification, binary format: values, types).
 use Rattle.std.specs.Prelude.{ℕ, ◌==◌, ◌&&◌, ◌||◌, ◌/◌, ◌%◌, nat_lt, nat_le, Bool, true, false, not, List, Option, Some, None, if◌then◌else◌}
-use Rattle.wasm_features.specs.declared.WasmFeatures.{WasmFeatures}
-use Rattle.wasm_reader.specs.declared.error.ErrorKind.TheVariants as kinds
-use Rattle.wasm_reader.specs.Numbers.{unsigned, unsigned_at, Spells}
-use Rattle.wasm_reader.specs.Reading.{bytes_at, SpellsRun}
-use Rattle.wasm_reader.specs.Text.{string_at, SpellsName}
-use Rattle.wasm_reader.specs.Spellings.{number_taken, run_taken, string_taken}
-use Rattle.wasm_reader.specs.Finals.{unsigned_final, bytes_final, string_final}
-use Rattle.wasm_ref_types.specs.ReadTypes.{value_at, reference_at}
-use Rattle.wasm_ref_types.specs.TypeSpellings.{SpellsValue, SpellsReference}
-use Rattle.wasm_ref_types.specs.TypesTaken.{value_taken, reference_taken}
-use Rattle.wasm_ref_types.specs.TypesFinal.{value_begins, reference_begins}
+use Rattle.wasm_operators.specs.wasm_features.declared.WasmFeatures.{WasmFeatures}
+use Rattle.wasm_formats.specs.wasm_reader.declared.error.ErrorKind.TheVariants as kinds
+use Rattle.wasm_formats.specs.wasm_reader.Numbers.{unsigned, unsigned_at, Spells}
+use Rattle.wasm_formats.specs.wasm_reader.Reading.{bytes_at, SpellsRun}
+use Rattle.wasm_formats.specs.wasm_reader.Text.{string_at, SpellsName}
+use Rattle.wasm_formats.specs.wasm_reader.Spellings.{number_taken, run_taken, string_taken}
+use Rattle.wasm_formats.specs.wasm_reader.Finals.{unsigned_final, bytes_final, string_final}
+use Rattle.wasm_operators.specs.wasm_ref_types.ReadTypes.{value_at, reference_at}
+use Rattle.wasm_operators.specs.wasm_ref_types.TypeSpellings.{SpellsValue, SpellsReference}
+use Rattle.wasm_operators.specs.wasm_ref_types.TypesTaken.{value_taken, reference_taken}
+use Rattle.wasm_operators.specs.wasm_ref_types.TypesFinal.{value_begins, reference_begins}
 use Rattle.walrus_forms.specs.declared.value.RefType.{RefType}
 use Rattle.walrus_forms.specs.declared.value.ValType.{ValType}
 use Rattle.walrus_forms.specs.Values.{heap_name, value_name}

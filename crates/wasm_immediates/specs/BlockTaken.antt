@@ -4,18 +4,18 @@ use Rattle.std.proofs.Common.{ap, sym, ◌∙◌, subst, arith, inl, inr}
 use Rattle.std.proofs.lemmas.Int.{ints}
 use Rattle.std.proofs.lemmas.Bool.{cases_Bool, cases_lt, eqb-true, ltb-true, lt-ltb, le-ltb, ne_eqb, le-leb, lt-leb}
 use Rattle.std.proofs.lemmas.List.Elements.{All-tail}
-use Rattle.wasm_features.specs.declared.WasmFeatures.{WasmFeatures}
-use Rattle.wasm_reader.specs.declared.error.ErrorKind.TheVariants as faults
-use Rattle.wasm_reader.specs.Reading.{Reading, Fault, fault, ◌>>=◌, byte_at, next_at}
-use Rattle.wasm_reader.specs.Numbers.{Style, signed, Spells, s33_at}
-use Rattle.wasm_reader.specs.Laws.{TakesSpelled}
-use Rattle.wasm_reader.specs.Spellings.{ok_is, then_was, if_was, number_taken}
-use Rattle.wasm_reader.specs.Vecs.{later_bytes}
-use Rattle.wasm_ref_types.specs.declared.value.ValType.{ValType}
-use Rattle.wasm_ref_types.specs.ReadTypes.{value_at, reference_at, abstract_at}
-use Rattle.wasm_ref_types.specs.TypeSpellings.{SpellsValue}
-use Rattle.wasm_ref_types.specs.TypesTaken.{value_taken}
-use Rattle.wasm_ref_types.specs.TypesFinal.{value_begins}
+use Rattle.wasm_composite_types.specs.wasm_features.declared.WasmFeatures.{WasmFeatures}
+use Rattle.wasm_composite_types.specs.wasm_reader.declared.error.ErrorKind.TheVariants as faults
+use Rattle.wasm_composite_types.specs.wasm_reader.Reading.{Reading, Fault, fault, ◌>>=◌, byte_at, next_at}
+use Rattle.wasm_composite_types.specs.wasm_reader.Numbers.{Style, signed, Spells, s33_at}
+use Rattle.wasm_composite_types.specs.wasm_reader.Laws.{TakesSpelled}
+use Rattle.wasm_composite_types.specs.wasm_reader.Spellings.{ok_is, then_was, if_was, number_taken}
+use Rattle.wasm_composite_types.specs.wasm_reader.Vecs.{later_bytes}
+use Rattle.wasm_composite_types.specs.wasm_ref_types.declared.value.ValType.{ValType}
+use Rattle.wasm_composite_types.specs.wasm_ref_types.ReadTypes.{value_at, reference_at, abstract_at}
+use Rattle.wasm_composite_types.specs.wasm_ref_types.TypeSpellings.{SpellsValue}
+use Rattle.wasm_composite_types.specs.wasm_ref_types.TypesTaken.{value_taken}
+use Rattle.wasm_composite_types.specs.wasm_ref_types.TypesFinal.{value_begins}
 use Rattle.wasm_immediates.specs.declared.block_type.BlockType.{BlockType}
 use Rattle.wasm_immediates.specs.declared.block_type.BlockType.TheVariants as blocks
 use Rattle.wasm_composite_types.specs.Taken.{Small, Fronts}

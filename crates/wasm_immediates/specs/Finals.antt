@@ -1,16 +1,16 @@
 -- Lemmas: the readings of immediates are final.
 use Rattle.std.specs.Prelude.{ℕ, ◌==◌, ◌&&◌, ◌^◌, nat_lt, Bool, true, false, ℤ, pos, negsuc, List, [], ◌∷◌, length, Ok, Err, if◌then◌else◌, refl}
-use Rattle.wasm_features.specs.declared.WasmFeatures.{WasmFeatures}
-use Rattle.wasm_reader.specs.declared.error.ErrorKind.TheVariants as faults
-use Rattle.wasm_reader.specs.Reading.{Reading, fault, ◌>>=◌, byte_at, little_at, bytes_at}
-use Rattle.wasm_reader.specs.Numbers.{signed, unsigned_at, signed_at, s33_at}
-use Rattle.wasm_reader.specs.Spelled.{number_at-none}
-use Rattle.wasm_reader.specs.Laws.{IsFinal}
-use Rattle.wasm_reader.specs.Final.{IsFinalFrom, then_from, if_from, done_from, fault_from, from_start, final_from, map_final, Takes-none, then_final, done_final, tested_final}
-use Rattle.wasm_reader.specs.Finals.{byte_final, bytes_final, little_final, Takes-byte, s33_final, unsigned_final, signed_final, vec_final}
-use Rattle.wasm_ref_types.specs.ReadTypes.{heap_at, value_at}
-use Rattle.wasm_ref_types.specs.Begins.{Begins, peeked_begins, if_begins, map_begins}
-use Rattle.wasm_ref_types.specs.TypesFinal.{heap_begins, value_begins}
+use Rattle.wasm_composite_types.specs.wasm_features.declared.WasmFeatures.{WasmFeatures}
+use Rattle.wasm_composite_types.specs.wasm_reader.declared.error.ErrorKind.TheVariants as faults
+use Rattle.wasm_composite_types.specs.wasm_reader.Reading.{Reading, fault, ◌>>=◌, byte_at, little_at, bytes_at}
+use Rattle.wasm_composite_types.specs.wasm_reader.Numbers.{signed, unsigned_at, signed_at, s33_at}
+use Rattle.wasm_composite_types.specs.wasm_reader.Spelled.{number_at-none}
+use Rattle.wasm_composite_types.specs.wasm_reader.Laws.{IsFinal}
+use Rattle.wasm_composite_types.specs.wasm_reader.Final.{IsFinalFrom, then_from, if_from, done_from, fault_from, from_start, final_from, map_final, Takes-none, then_final, done_final, tested_final}
+use Rattle.wasm_composite_types.specs.wasm_reader.Finals.{byte_final, bytes_final, little_final, Takes-byte, s33_final, unsigned_final, signed_final, vec_final}
+use Rattle.wasm_composite_types.specs.wasm_ref_types.ReadTypes.{heap_at, value_at}
+use Rattle.wasm_composite_types.specs.wasm_ref_types.Begins.{Begins, peeked_begins, if_begins, map_begins}
+use Rattle.wasm_composite_types.specs.wasm_ref_types.TypesFinal.{heap_begins, value_begins}
 use Rattle.wasm_composite_types.specs.Finals.{begun_final}
 use Rattle.wasm_immediates.specs.declared.block_type.BlockType.TheVariants as blocks
 use Rattle.wasm_immediates.specs.declared.clause.Clause.{Clause}

@@ -1,7 +1,7 @@
 -- Immediates as contracts see them, and their forms (Core Specification, binary format: instructions).
 use Rattle.std.specs.Prelude.{ℕ, ℤ, List}
-use Rattle.wasm_ref_types.specs.declared.heap.HeapType.{HeapType}
-use Rattle.wasm_ref_types.specs.declared.value.ValType.{ValType}
+use Rattle.wasm_composite_types.specs.wasm_ref_types.declared.heap.HeapType.{HeapType}
+use Rattle.wasm_composite_types.specs.wasm_ref_types.declared.value.ValType.{ValType}
 use Rattle.wasm_immediates.specs.declared.block_type.BlockType.{BlockType}
 use Rattle.wasm_immediates.specs.declared.memory_access.MemoryAccess.{MemoryAccess}
 use Rattle.wasm_immediates.specs.declared.clause.Clause.{Clause}

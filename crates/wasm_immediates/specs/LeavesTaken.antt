@@ -4,13 +4,13 @@ use Rattle.std.proofs.Common.{ap, sym, ◌∙◌, subst, arith, inl, inr}
 use Rattle.std.proofs.lemmas.Bool.{cases_Bool, eqb-true, ltb-true, lt-ltb}
 use Rattle.std.proofs.lemmas.List.{append_assoc}
 use Rattle.std.proofs.lemmas.List.Elements.{All-tail}
-use Rattle.wasm_reader.specs.declared.error.ErrorKind.TheVariants as faults
-use Rattle.wasm_reader.specs.Reading.{Reading, Fault, fault, ◌>>=◌, byte_at}
-use Rattle.wasm_reader.specs.Numbers.{unsigned, Spells, unsigned_at}
-use Rattle.wasm_reader.specs.SmallSpellings.{SpellsByte}
-use Rattle.wasm_reader.specs.Laws.{TakesSpelled}
-use Rattle.wasm_reader.specs.Spellings.{ok_is, then_was, if_was, number_taken}
-use Rattle.wasm_reader.specs.Vecs.{later_bytes}
+use Rattle.wasm_composite_types.specs.wasm_reader.declared.error.ErrorKind.TheVariants as faults
+use Rattle.wasm_composite_types.specs.wasm_reader.Reading.{Reading, Fault, fault, ◌>>=◌, byte_at}
+use Rattle.wasm_composite_types.specs.wasm_reader.Numbers.{unsigned, Spells, unsigned_at}
+use Rattle.wasm_composite_types.specs.wasm_reader.SmallSpellings.{SpellsByte}
+use Rattle.wasm_composite_types.specs.wasm_reader.Laws.{TakesSpelled}
+use Rattle.wasm_composite_types.specs.wasm_reader.Spellings.{ok_is, then_was, if_was, number_taken}
+use Rattle.wasm_composite_types.specs.wasm_reader.Vecs.{later_bytes}
 use Rattle.wasm_composite_types.specs.Taken.{Small, Fronts}
 use Rattle.wasm_immediates.specs.declared.memory_access.MemoryAccess.{MemoryAccess}
 use Rattle.wasm_immediates.specs.declared.clause.Clause.{Clause}

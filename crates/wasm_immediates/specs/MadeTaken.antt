@@ -1,9 +1,9 @@
 -- Lemmas: values made of those that are read.
 use Rattle.std.specs.Prelude.{ℕ, ◌≡◌, List, ◌++◌, Ok, refl}
 use Rattle.std.proofs.Common.{ap, sym, ◌∙◌}
-use Rattle.wasm_reader.specs.Reading.{Reading, ◌>>=◌}
-use Rattle.wasm_reader.specs.Laws.{TakesSpelled}
-use Rattle.wasm_reader.specs.Spellings.{ok_is, then_was}
+use Rattle.wasm_composite_types.specs.wasm_reader.Reading.{Reading, ◌>>=◌}
+use Rattle.wasm_composite_types.specs.wasm_reader.Laws.{TakesSpelled}
+use Rattle.wasm_composite_types.specs.wasm_reader.Spellings.{ok_is, then_was}
 use Rattle.wasm_composite_types.specs.Taken.{Small, Fronts}
 use Rattle.wasm_immediates.specs.Readings.{mapped}
 use Rattle.wasm_immediates.specs.Spellings.{Made}

@@ -1,11 +1,11 @@
 -- How immediates are read (Core Specification, binary format: instructions).
 use Rattle.std.specs.Prelude.{ℕ, ◌-◌, ◌^◌, ◌==◌, ◌&&◌, ◌/◌, ◌%◌, nat_lt, Bool, ℤ, pos, negsuc, List, [], ◌∷◌, length, Ok, Err, if◌then◌else◌}
-use Rattle.wasm_features.specs.declared.WasmFeatures.{WasmFeatures}
-use Rattle.wasm_reader.specs.declared.error.ErrorKind.TheVariants as faults
-use Rattle.wasm_reader.specs.Reading.{Reading, fault, ◌>>=◌, byte_at, next_at, bytes_at, little_at}
-use Rattle.wasm_reader.specs.Numbers.{unsigned_at, signed_at, s33_at}
-use Rattle.wasm_reader.specs.Items.{vec_at}
-use Rattle.wasm_ref_types.specs.ReadTypes.{heap_at, value_at}
+use Rattle.wasm_composite_types.specs.wasm_features.declared.WasmFeatures.{WasmFeatures}
+use Rattle.wasm_composite_types.specs.wasm_reader.declared.error.ErrorKind.TheVariants as faults
+use Rattle.wasm_composite_types.specs.wasm_reader.Reading.{Reading, fault, ◌>>=◌, byte_at, next_at, bytes_at, little_at}
+use Rattle.wasm_composite_types.specs.wasm_reader.Numbers.{unsigned_at, signed_at, s33_at}
+use Rattle.wasm_composite_types.specs.wasm_reader.Items.{vec_at}
+use Rattle.wasm_composite_types.specs.wasm_ref_types.ReadTypes.{heap_at, value_at}
 use Rattle.wasm_immediates.specs.declared.block_type.BlockType.{BlockType}
 use Rattle.wasm_immediates.specs.declared.block_type.BlockType.TheVariants as blocks
 use Rattle.wasm_immediates.specs.declared.memory_access.MemoryAccess.{MemoryAccess}

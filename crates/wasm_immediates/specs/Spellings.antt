@@ -1,11 +1,11 @@
 -- Which bytes spell an immediate (Core Specification, binary format: instructions).
 use Rattle.std.specs.Prelude.{ℕ, ◌<◌, ◌^◌, ◌≡◌, Bool, true, false, pos, List, [], ◌∷◌, ◌++◌}
-use Rattle.wasm_features.specs.declared.WasmFeatures.{WasmFeatures}
-use Rattle.wasm_reader.specs.Reading.{SpellsRun, SpellsLittle}
-use Rattle.wasm_reader.specs.Numbers.{unsigned, signed, Spells}
-use Rattle.wasm_reader.specs.SmallSpellings.{SpellsByte}
-use Rattle.wasm_reader.specs.Items.{SpellsVec}
-use Rattle.wasm_ref_types.specs.TypeSpellings.{SpellsHeap, SpellsValue}
+use Rattle.wasm_composite_types.specs.wasm_features.declared.WasmFeatures.{WasmFeatures}
+use Rattle.wasm_composite_types.specs.wasm_reader.Reading.{SpellsRun, SpellsLittle}
+use Rattle.wasm_composite_types.specs.wasm_reader.Numbers.{unsigned, signed, Spells}
+use Rattle.wasm_composite_types.specs.wasm_reader.SmallSpellings.{SpellsByte}
+use Rattle.wasm_composite_types.specs.wasm_reader.Items.{SpellsVec}
+use Rattle.wasm_composite_types.specs.wasm_ref_types.TypeSpellings.{SpellsHeap, SpellsValue}
 use Rattle.wasm_immediates.specs.declared.block_type.BlockType.{BlockType}
 use Rattle.wasm_immediates.specs.declared.block_type.BlockType.TheVariants as blocks
 use Rattle.wasm_immediates.specs.declared.memory_access.MemoryAccess.{MemoryAccess}

@@ -2,16 +2,16 @@
 use Rattle.std.specs.Prelude.{ℕ, ◌≡◌, List, [], ◌∷◌, ◌++◌, Ok, refl}
 use Rattle.std.proofs.Common.{ap, sym, ◌∙◌, subst}
 use Rattle.std.proofs.lemmas.List.{append_assoc}
-use Rattle.wasm_features.specs.declared.WasmFeatures.{WasmFeatures}
-use Rattle.wasm_reader.specs.declared.error.ErrorKind.TheVariants as faults
-use Rattle.wasm_reader.specs.Reading.{◌>>=◌}
-use Rattle.wasm_reader.specs.Numbers.{unsigned, signed, Spells, unsigned_at}
-use Rattle.wasm_reader.specs.Laws.{TakesSpelled}
-use Rattle.wasm_reader.specs.Spellings.{ok_is, then_was, number_taken, run_taken, little_taken}
-use Rattle.wasm_reader.specs.Vecs.{later_bytes, vec_taken}
-use Rattle.wasm_ref_types.specs.ReadTypes.{heap_at, value_at}
-use Rattle.wasm_ref_types.specs.TypeSpellings.{SpellsHeap, SpellsValue}
-use Rattle.wasm_ref_types.specs.TypesTaken.{heap_taken, value_taken}
+use Rattle.wasm_composite_types.specs.wasm_features.declared.WasmFeatures.{WasmFeatures}
+use Rattle.wasm_composite_types.specs.wasm_reader.declared.error.ErrorKind.TheVariants as faults
+use Rattle.wasm_composite_types.specs.wasm_reader.Reading.{◌>>=◌}
+use Rattle.wasm_composite_types.specs.wasm_reader.Numbers.{unsigned, signed, Spells, unsigned_at}
+use Rattle.wasm_composite_types.specs.wasm_reader.Laws.{TakesSpelled}
+use Rattle.wasm_composite_types.specs.wasm_reader.Spellings.{ok_is, then_was, number_taken, run_taken, little_taken}
+use Rattle.wasm_composite_types.specs.wasm_reader.Vecs.{later_bytes, vec_taken}
+use Rattle.wasm_composite_types.specs.wasm_ref_types.ReadTypes.{heap_at, value_at}
+use Rattle.wasm_composite_types.specs.wasm_ref_types.TypeSpellings.{SpellsHeap, SpellsValue}
+use Rattle.wasm_composite_types.specs.wasm_ref_types.TypesTaken.{heap_taken, value_taken}
 use Rattle.wasm_composite_types.specs.Taken.{Small, Fronts}
 use Rattle.wasm_immediates.specs.Items.{Item, Names, Number, S32, S64, Bits, Byte, Bytes, Heap, Block, Access, ManyLabels, ManyValues, ManyClauses, Form, index, number, s32, s64, bits, run, any_byte, below, zero_byte, heap, block, access, labels, values, clauses}
 use Rattle.wasm_immediates.specs.Readings.{clause_at, most, item_at, items_at}

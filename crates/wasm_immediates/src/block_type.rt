@@ -1,11 +1,11 @@
 //! Block types (Core Specification, binary format: control instructions).
 
-ghost use Rattle.wasm_reader.specs.Reading.{Reads, plain};
+ghost use Rattle.wasm_composite_types.specs.wasm_reader.Reading.{Reads, plain};
 ghost use Rattle.wasm_immediates.specs.Readings.{block_at, empty_at, type_index_at};
 
 use std::alloc::Global;
-use wasm_reader::{BinaryReader, Error, ErrorKind, FromReader, Result};
-use wasm_ref_types::ValType;
+use wasm_composite_types::reader::{BinaryReader, Error, ErrorKind, FromReader, Result};
+use wasm_composite_types::ref_types::ValType;
 
 /// What a block takes and leaves.
 #[derive(Clone, Copy, PartialEq, Eq)]

@@ -1,10 +1,10 @@
 //! The handlers of `try_table` (Core Specification, binary format: control instructions).
 
-ghost use Rattle.wasm_reader.specs.Reading.{Reads, plain};
+ghost use Rattle.wasm_composite_types.specs.wasm_reader.Reading.{Reads, plain};
 ghost use Rattle.wasm_immediates.specs.Readings.{clause_at};
 
 use std::alloc::Global;
-use wasm_reader::{BinaryReader, Error, ErrorKind, FromReader, Result};
+use wasm_composite_types::reader::{BinaryReader, Error, ErrorKind, FromReader, Result};
 
 /// Which exceptions a handler of `try_table` catches, and the label that it branches to.
 #[derive(Clone, Copy, PartialEq, Eq)]

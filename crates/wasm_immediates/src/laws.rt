@@ -1,8 +1,8 @@
 //! Laws: functions with nothing to do, whose contracts hold of all immediates and bytes.
 
 ghost use Rattle.std.specs.Prelude.{List};
-ghost use Rattle.wasm_features.specs.declared.WasmFeatures.{WasmFeatures};
-ghost use Rattle.wasm_reader.specs.Laws.{IsFinal, EndsEarly, TakesSpelled, IsPrefixFree};
+ghost use Rattle.wasm_composite_types.specs.wasm_features.declared.WasmFeatures.{WasmFeatures};
+ghost use Rattle.wasm_composite_types.specs.wasm_reader.Laws.{IsFinal, EndsEarly, TakesSpelled, IsPrefixFree};
 ghost use Rattle.wasm_immediates.specs.Items.{Form};
 ghost use Rattle.wasm_immediates.specs.Readings.{items_at};
 ghost use Rattle.wasm_immediates.specs.Spellings.{SpellsForms};

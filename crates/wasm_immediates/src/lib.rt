@@ -11,3 +11,6 @@ pub use block_type::BlockType;
 pub use clause::Clause;
 pub use memory_access::MemoryAccess;
 pub use small::{read_below, read_zero};
+
+// Passed on to crates above, which then list this one alone.
+pub use wasm_composite_types::{reader, ref_types};

@@ -1,10 +1,10 @@
 //! Accesses to memory (Core Specification, binary format: memory instructions).
 
-ghost use Rattle.wasm_reader.specs.Reading.{Reads, plain};
+ghost use Rattle.wasm_composite_types.specs.wasm_reader.Reading.{Reads, plain};
 ghost use Rattle.wasm_immediates.specs.Readings.{access_at, memory_at};
 
 use std::alloc::Global;
-use wasm_reader::{BinaryReader, FromReader, Result};
+use wasm_composite_types::reader::{BinaryReader, FromReader, Result};
 
 /// Where an operator accesses memory, as it is written: nothing is tested of the alignment, of the offset and of the memory.
 #[derive(Clone, Copy, PartialEq, Eq)]

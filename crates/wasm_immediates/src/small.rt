@@ -1,9 +1,9 @@
 //! Single bytes among the immediates.
 
-ghost use Rattle.wasm_reader.specs.Reading.{Reads, plain};
+ghost use Rattle.wasm_composite_types.specs.wasm_reader.Reading.{Reads, plain};
 ghost use Rattle.wasm_immediates.specs.Readings.{below_at, zero_at};
 
-use wasm_reader::{BinaryReader, Error, ErrorKind, Result};
+use wasm_composite_types::reader::{BinaryReader, Error, ErrorKind, Result};
 
 /// A byte below a bound. Another one is `BadByte` at its place.
 #[inline]

@@ -18,3 +18,5 @@ pub use Rattle.wasm_reader.specs.Cursor
 pub use Rattle.wasm_reader.specs.Reading
 pub use Rattle.wasm_reader.specs.Numbers
 pub use Rattle.wasm_reader.specs.Text
+-- Passed on to crates above, which then list this one alone.
+pub use Rattle.wasm_reader.specs as wasm_reader

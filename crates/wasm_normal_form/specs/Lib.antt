@@ -6,3 +6,5 @@ pub mod Bodies
 pub mod Places
 pub mod Laws
 pub mod Rows
+-- Passed on to crates above, which then list this one alone.
+pub use Rattle.wasm_operator_bytes.specs.wasm_immediates as wasm_immediates

@@ -1,22 +1,22 @@
 -- What is written for an operator: the shortest spelling (Core Specification, binary format: instructions).
 use Rattle.std.specs.Prelude.{ℕ, zero, suc, ◌+◌, ◌/◌, ◌%◌, ◌==◌, Bool, true, false, ℤ, pos, List, [], ◌∷◌, ◌++◌, length, if◌then◌else◌}
 use Rattle.std.specs.List.{flat_map}
-use Rattle.wasm_reader.specs.Shortest.{shortest_unsigned, shortest_signed}
-use Rattle.wasm_ref_types.specs.declared.heap.AbstractHeapType.{AbstractHeapType}
-use Rattle.wasm_ref_types.specs.declared.heap.AbstractHeapType.TheVariants as kinds
-use Rattle.wasm_ref_types.specs.declared.heap.HeapType.{HeapType}
-use Rattle.wasm_ref_types.specs.declared.heap.HeapType.TheVariants.{Abstract, Concrete, Exact}
-use Rattle.wasm_ref_types.specs.declared.value.ValType.{ValType}
-use Rattle.wasm_ref_types.specs.declared.value.ValType.TheVariants.{I32, I64, F32, F64, V128, Ref}
-use Rattle.wasm_ref_types.specs.declared.index.UnpackedIndex.TheVariants.{Module, RecGroup, Id}
-use Rattle.wasm_ref_types.specs.Reference.{Reference}
-use Rattle.wasm_ref_types.specs.TypeSpellings.{long_byte}
-use Rattle.wasm_immediates.specs.declared.block_type.BlockType.{BlockType}
-use Rattle.wasm_immediates.specs.declared.block_type.BlockType.TheVariants as blocks
-use Rattle.wasm_immediates.specs.declared.memory_access.MemoryAccess.{MemoryAccess}
-use Rattle.wasm_immediates.specs.declared.clause.Clause.{Clause}
-use Rattle.wasm_immediates.specs.declared.clause.Clause.TheVariants as handlers
-use Rattle.wasm_immediates.specs.Items.{Item, Names, Number, S32, S64, Bits, Byte, Bytes, Heap, Block, Access, ManyLabels, ManyValues, ManyClauses}
+use Rattle.wasm_operators.specs.wasm_reader.Shortest.{shortest_unsigned, shortest_signed}
+use Rattle.wasm_operators.specs.wasm_ref_types.declared.heap.AbstractHeapType.{AbstractHeapType}
+use Rattle.wasm_operators.specs.wasm_ref_types.declared.heap.AbstractHeapType.TheVariants as kinds
+use Rattle.wasm_operators.specs.wasm_ref_types.declared.heap.HeapType.{HeapType}
+use Rattle.wasm_operators.specs.wasm_ref_types.declared.heap.HeapType.TheVariants.{Abstract, Concrete, Exact}
+use Rattle.wasm_operators.specs.wasm_ref_types.declared.value.ValType.{ValType}
+use Rattle.wasm_operators.specs.wasm_ref_types.declared.value.ValType.TheVariants.{I32, I64, F32, F64, V128, Ref}
+use Rattle.wasm_operators.specs.wasm_ref_types.declared.index.UnpackedIndex.TheVariants.{Module, RecGroup, Id}
+use Rattle.wasm_operators.specs.wasm_ref_types.Reference.{Reference}
+use Rattle.wasm_operators.specs.wasm_ref_types.TypeSpellings.{long_byte}
+use Rattle.wasm_operators.specs.wasm_immediates.declared.block_type.BlockType.{BlockType}
+use Rattle.wasm_operators.specs.wasm_immediates.declared.block_type.BlockType.TheVariants as blocks
+use Rattle.wasm_operators.specs.wasm_immediates.declared.memory_access.MemoryAccess.{MemoryAccess}
+use Rattle.wasm_operators.specs.wasm_immediates.declared.clause.Clause.{Clause}
+use Rattle.wasm_operators.specs.wasm_immediates.declared.clause.Clause.TheVariants as handlers
+use Rattle.wasm_operators.specs.wasm_immediates.Items.{Item, Names, Number, S32, S64, Bits, Byte, Bytes, Heap, Block, Access, ManyLabels, ManyValues, ManyClauses}
 use Rattle.wasm_operators.specs.declared.op_code.OpCode.{OpCode}
 use Rattle.wasm_operators.specs.Operators.{Seen}
 

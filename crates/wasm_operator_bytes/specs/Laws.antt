@@ -1,6 +1,6 @@
 -- What it is to write the shortest spelling.
 use Rattle.std.specs.Prelude.{ℕ, ◌<◌, ◌≤◌, ◌≡◌, List, ◌++◌, length, All, Some, Ok}
-use Rattle.wasm_features.specs.declared.WasmFeatures.{WasmFeatures}
+use Rattle.wasm_operators.specs.wasm_features.declared.WasmFeatures.{WasmFeatures}
 use Rattle.wasm_operators.specs.Operators.{Seen, operator_at}
 use Rattle.wasm_operators.specs.Spellings.{SpellsOperator}
 use Rattle.wasm_operator_bytes.specs.Bytes.{operator_bytes}

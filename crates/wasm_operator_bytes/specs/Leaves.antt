@@ -4,13 +4,13 @@ use Rattle.std.proofs.Common.{ap, sym, ◌∙◌, subst, arith, inl, inr}
 use Rattle.std.proofs.lemmas.Bool.{cases_Bool, eqb-true, ne_eqb}
 use Rattle.std.proofs.lemmas.List.{length-append}
 use Rattle.std.proofs.lemmas.List.Elements.{All-tail}
-use Rattle.wasm_reader.specs.Numbers.{unsigned, Spells}
-use Rattle.wasm_immediates.specs.declared.memory_access.MemoryAccess.{MemoryAccess}
-use Rattle.wasm_immediates.specs.declared.clause.Clause.{Clause}
-use Rattle.wasm_immediates.specs.declared.clause.Clause.TheVariants as handlers
-use Rattle.wasm_immediates.specs.Readings.{has_memory, align_of}
-use Rattle.wasm_immediates.specs.Spellings.{SpellsU32, SpellsMemory, SpellsAccess, SpellsTagged, SpellsUntagged, SpellsClause}
-use Rattle.wasm_reader.specs.Spelled.{spelled_unsigned, IsShortest-unsigned}
+use Rattle.wasm_operators.specs.wasm_reader.Numbers.{unsigned, Spells}
+use Rattle.wasm_operators.specs.wasm_immediates.declared.memory_access.MemoryAccess.{MemoryAccess}
+use Rattle.wasm_operators.specs.wasm_immediates.declared.clause.Clause.{Clause}
+use Rattle.wasm_operators.specs.wasm_immediates.declared.clause.Clause.TheVariants as handlers
+use Rattle.wasm_operators.specs.wasm_immediates.Readings.{has_memory, align_of}
+use Rattle.wasm_operators.specs.wasm_immediates.Spellings.{SpellsU32, SpellsMemory, SpellsAccess, SpellsTagged, SpellsUntagged, SpellsClause}
+use Rattle.wasm_operators.specs.wasm_reader.Spelled.{spelled_unsigned, IsShortest-unsigned}
 use Rattle.wasm_operator_bytes.specs.Bytes.{unsigned_bytes, access_bytes, clause_bytes}
 use Rattle.wasm_operator_bytes.specs.Laws.{WritesShortest}
 use Rattle.wasm_operator_bytes.specs.Numbers.{u32_short, u64_short, shorter}

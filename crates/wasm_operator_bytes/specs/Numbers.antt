@@ -3,10 +3,10 @@ use Rattle.std.specs.Prelude.{ℕ, zero, suc, ◌+◌, ◌*◌, ◌/◌, ◌%◌
 use Rattle.std.proofs.Common.{ap, sym, ◌∙◌, subst, arith, inl, inr}
 use Rattle.std.proofs.lemmas.Bool.{cases_lt, lt-ltb, le-ltb}
 use Rattle.std.proofs.lemmas.List.Elements.{All-head, All-tail}
-use Rattle.wasm_reader.specs.Numbers.{unsigned, signed, Spells}
-use Rattle.wasm_reader.specs.Reading.{little, SpellsLittle, SpellsRun}
-use Rattle.wasm_reader.specs.Shortest.{shortest_unsigned}
-use Rattle.wasm_reader.specs.Spelled.{IsShortest-unsigned, IsShortest-signed, spelled_unsigned, spelled_signed}
+use Rattle.wasm_operators.specs.wasm_reader.Numbers.{unsigned, signed, Spells}
+use Rattle.wasm_operators.specs.wasm_reader.Reading.{little, SpellsLittle, SpellsRun}
+use Rattle.wasm_operators.specs.wasm_reader.Shortest.{shortest_unsigned}
+use Rattle.wasm_operators.specs.wasm_reader.Spelled.{IsShortest-unsigned, IsShortest-signed, spelled_unsigned, spelled_signed}
 use Rattle.wasm_operator_bytes.specs.Bytes.{unsigned_bytes, signed_bytes, little_bytes}
 use Rattle.wasm_operator_bytes.specs.Laws.{WritesShortest}
 

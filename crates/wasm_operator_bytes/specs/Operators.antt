@@ -4,15 +4,15 @@ use Rattle.std.proofs.Common.{ap, sym, ◌∙◌, subst, arith, inl, inr}
 use Rattle.std.proofs.lemmas.Bool.{cases_Bool, eqb-true}
 use Rattle.std.proofs.lemmas.List.Elements.{All-head, All-tail}
 use Rattle.std.specs.List.{flat_map}
-use Rattle.wasm_features.specs.declared.WasmFeatures.{WasmFeatures}
-use Rattle.wasm_ref_types.specs.TypeSpellings.{SpellsHeap, SpellsValue}
-use Rattle.wasm_reader.specs.Reading.{SpellsLittle, SpellsRun}
-use Rattle.wasm_reader.specs.Numbers.{signed, Spells}
-use Rattle.wasm_reader.specs.SmallSpellings.{SpellsByte}
-use Rattle.wasm_reader.specs.Items.{SpellsVec}
-use Rattle.wasm_immediates.specs.Items.{Item, Names, Number, S32, S64, Bits, Byte, Bytes, Heap, Block, Access, ManyLabels, ManyValues, ManyClauses, Form, index, number, s32, s64, bits, run, any_byte, below, zero_byte, heap, block, access, labels, values, clauses}
-use Rattle.wasm_immediates.specs.Readings.{most}
-use Rattle.wasm_immediates.specs.Spellings.{SpellsU32, SpellsBelow, SpellsZero, SpellsBlock, SpellsAccess, SpellsClause, Made, SpellsItem, SpellsForms}
+use Rattle.wasm_operators.specs.wasm_features.declared.WasmFeatures.{WasmFeatures}
+use Rattle.wasm_operators.specs.wasm_ref_types.TypeSpellings.{SpellsHeap, SpellsValue}
+use Rattle.wasm_operators.specs.wasm_reader.Reading.{SpellsLittle, SpellsRun}
+use Rattle.wasm_operators.specs.wasm_reader.Numbers.{signed, Spells}
+use Rattle.wasm_operators.specs.wasm_reader.SmallSpellings.{SpellsByte}
+use Rattle.wasm_operators.specs.wasm_reader.Items.{SpellsVec}
+use Rattle.wasm_operators.specs.wasm_immediates.Items.{Item, Names, Number, S32, S64, Bits, Byte, Bytes, Heap, Block, Access, ManyLabels, ManyValues, ManyClauses, Form, index, number, s32, s64, bits, run, any_byte, below, zero_byte, heap, block, access, labels, values, clauses}
+use Rattle.wasm_operators.specs.wasm_immediates.Readings.{most}
+use Rattle.wasm_operators.specs.wasm_immediates.Spellings.{SpellsU32, SpellsBelow, SpellsZero, SpellsBlock, SpellsAccess, SpellsClause, Made, SpellsItem, SpellsForms}
 use Rattle.wasm_operators.specs.declared.op_code.OpCode.{OpCode}
 use Rattle.wasm_operators.specs.Kinds.{forms}
 use Rattle.wasm_operators.specs.Operators.{is_prefix, Seen, operator_at}

@@ -2,19 +2,19 @@
 use Rattle.std.specs.Prelude.{ℕ, ◌<◌, ◌≤◌, ◌≡◌, ◌⊎◌, Bool, true, false, pos, List, [], ◌∷◌, length, All, refl}
 use Rattle.std.proofs.Common.{ap, sym, ◌∙◌, subst, arith, inl, inr}
 use Rattle.std.proofs.lemmas.List.Elements.{All-tail}
-use Rattle.wasm_features.specs.declared.WasmFeatures.{WasmFeatures}
-use Rattle.wasm_ref_types.specs.declared.heap.AbstractHeapType.{AbstractHeapType}
-use Rattle.wasm_ref_types.specs.declared.heap.AbstractHeapType.TheVariants as kinds
-use Rattle.wasm_ref_types.specs.declared.heap.HeapType.{HeapType}
-use Rattle.wasm_ref_types.specs.declared.heap.HeapType.TheVariants.{Abstract, Concrete, Exact}
-use Rattle.wasm_ref_types.specs.declared.index.UnpackedIndex.TheVariants.{Module, RecGroup, Id}
-use Rattle.wasm_ref_types.specs.declared.value.ValType.{ValType}
-use Rattle.wasm_ref_types.specs.declared.value.ValType.TheVariants.{I32, I64, F32, F64, V128, Ref}
-use Rattle.wasm_ref_types.specs.Reference.{Reference, reference}
-use Rattle.wasm_ref_types.specs.TypeSpellings.{SpellsAbstract, SpellsHeap, SpellsReference, SpellsValue, long_byte}
-use Rattle.wasm_immediates.specs.declared.block_type.BlockType.{BlockType}
-use Rattle.wasm_immediates.specs.declared.block_type.BlockType.TheVariants as blocks
-use Rattle.wasm_immediates.specs.Spellings.{SpellsBlock}
+use Rattle.wasm_operators.specs.wasm_features.declared.WasmFeatures.{WasmFeatures}
+use Rattle.wasm_operators.specs.wasm_ref_types.declared.heap.AbstractHeapType.{AbstractHeapType}
+use Rattle.wasm_operators.specs.wasm_ref_types.declared.heap.AbstractHeapType.TheVariants as kinds
+use Rattle.wasm_operators.specs.wasm_ref_types.declared.heap.HeapType.{HeapType}
+use Rattle.wasm_operators.specs.wasm_ref_types.declared.heap.HeapType.TheVariants.{Abstract, Concrete, Exact}
+use Rattle.wasm_operators.specs.wasm_ref_types.declared.index.UnpackedIndex.TheVariants.{Module, RecGroup, Id}
+use Rattle.wasm_operators.specs.wasm_ref_types.declared.value.ValType.{ValType}
+use Rattle.wasm_operators.specs.wasm_ref_types.declared.value.ValType.TheVariants.{I32, I64, F32, F64, V128, Ref}
+use Rattle.wasm_operators.specs.wasm_ref_types.Reference.{Reference, reference}
+use Rattle.wasm_operators.specs.wasm_ref_types.TypeSpellings.{SpellsAbstract, SpellsHeap, SpellsReference, SpellsValue, long_byte}
+use Rattle.wasm_operators.specs.wasm_immediates.declared.block_type.BlockType.{BlockType}
+use Rattle.wasm_operators.specs.wasm_immediates.declared.block_type.BlockType.TheVariants as blocks
+use Rattle.wasm_operators.specs.wasm_immediates.Spellings.{SpellsBlock}
 use Rattle.wasm_operator_bytes.specs.Bytes.{abstract_code, heap_bytes, reference_parts, reference_bytes, value_bytes, block_bytes}
 use Rattle.wasm_operator_bytes.specs.Laws.{WritesShortest}
 use Rattle.wasm_operator_bytes.specs.Numbers.{same_short, s33_short}

@@ -4,8 +4,8 @@ use Rattle.std.proofs.Common.{ap, sym, ◌∙◌, subst, arith}
 use Rattle.std.proofs.lemmas.List.{length-append}
 use Rattle.std.proofs.lemmas.List.Elements.{All-nil, All-cons, All-head, All-tail}
 use Rattle.std.specs.List.{flat_map}
-use Rattle.wasm_reader.specs.Items.{SpellsItems, SpellsVec}
-use Rattle.wasm_reader.specs.Vecs.{later_bytes}
+use Rattle.wasm_operators.specs.wasm_reader.Items.{SpellsItems, SpellsVec}
+use Rattle.wasm_operators.specs.wasm_reader.Vecs.{later_bytes}
 use Rattle.wasm_operator_bytes.specs.Bytes.{unsigned_bytes, vec_bytes}
 use Rattle.wasm_operator_bytes.specs.Laws.{WritesShortest}
 use Rattle.wasm_operator_bytes.specs.Numbers.{u32_short}

@@ -1,6 +1,6 @@
 //! Laws: functions with nothing to do, whose contracts hold of all operators.
 
-ghost use Rattle.wasm_features.specs.declared.WasmFeatures.{WasmFeatures};
+ghost use Rattle.wasm_operators.specs.wasm_features.declared.WasmFeatures.{WasmFeatures};
 ghost use Rattle.wasm_operators.specs.Spellings.{SpellsOperator};
 ghost use Rattle.wasm_operator_bytes.specs.Bytes.{operator_bytes};
 ghost use Rattle.wasm_operator_bytes.specs.Laws.{ReadsBack, WritesShortest};

@@ -1,6 +1,6 @@
 -- What names and renamings have to do with one another.
 use Rattle.std.specs.Prelude.{ℕ, ◌≡◌, List, map}
-use Rattle.wasm_immediates.specs.Items.{Space}
+use Rattle.wasm_operators.specs.wasm_immediates.Items.{Space}
 use Rattle.wasm_operators.specs.Operators.{Seen}
 use Rattle.wasm_operator_names.specs.Names.{Name, Renaming, operator_names, renamed_operator}
 

@@ -1,18 +1,18 @@
 -- What operators name, and operators renamed: indices, also those inside types, accesses, lists and handlers.
 use Rattle.std.specs.Prelude.{ℕ, Bool, List, [], ◌∷◌, map}
 use Rattle.std.specs.List.{flat_map}
-use Rattle.wasm_ref_types.specs.declared.heap.HeapType.{HeapType}
-use Rattle.wasm_ref_types.specs.declared.heap.HeapType.TheVariants.{Abstract, Concrete, Exact}
-use Rattle.wasm_ref_types.specs.declared.index.UnpackedIndex.{UnpackedIndex}
-use Rattle.wasm_ref_types.specs.declared.index.UnpackedIndex.TheVariants.{Module, RecGroup, Id}
-use Rattle.wasm_ref_types.specs.declared.value.ValType.{ValType}
-use Rattle.wasm_ref_types.specs.declared.value.ValType.TheVariants.{I32, I64, F32, F64, V128, Ref}
-use Rattle.wasm_ref_types.specs.Reference.{reference}
-use Rattle.wasm_immediates.specs.declared.block_type.BlockType.{BlockType}
-use Rattle.wasm_immediates.specs.declared.block_type.BlockType.TheVariants as blocks
-use Rattle.wasm_immediates.specs.declared.clause.Clause.{Clause}
-use Rattle.wasm_immediates.specs.declared.clause.Clause.TheVariants as handlers
-use Rattle.wasm_immediates.specs.Items.{Space, Types, Memories, Tags, Labels, Item, Names, Number, S32, S64, Bits, Byte, Bytes, Heap, Block, Access, ManyLabels, ManyValues, ManyClauses}
+use Rattle.wasm_operators.specs.wasm_ref_types.declared.heap.HeapType.{HeapType}
+use Rattle.wasm_operators.specs.wasm_ref_types.declared.heap.HeapType.TheVariants.{Abstract, Concrete, Exact}
+use Rattle.wasm_operators.specs.wasm_ref_types.declared.index.UnpackedIndex.{UnpackedIndex}
+use Rattle.wasm_operators.specs.wasm_ref_types.declared.index.UnpackedIndex.TheVariants.{Module, RecGroup, Id}
+use Rattle.wasm_operators.specs.wasm_ref_types.declared.value.ValType.{ValType}
+use Rattle.wasm_operators.specs.wasm_ref_types.declared.value.ValType.TheVariants.{I32, I64, F32, F64, V128, Ref}
+use Rattle.wasm_operators.specs.wasm_ref_types.Reference.{reference}
+use Rattle.wasm_operators.specs.wasm_immediates.declared.block_type.BlockType.{BlockType}
+use Rattle.wasm_operators.specs.wasm_immediates.declared.block_type.BlockType.TheVariants as blocks
+use Rattle.wasm_operators.specs.wasm_immediates.declared.clause.Clause.{Clause}
+use Rattle.wasm_operators.specs.wasm_immediates.declared.clause.Clause.TheVariants as handlers
+use Rattle.wasm_operators.specs.wasm_immediates.Items.{Space, Types, Memories, Tags, Labels, Item, Names, Number, S32, S64, Bits, Byte, Bytes, Heap, Block, Access, ManyLabels, ManyValues, ManyClauses}
 use Rattle.wasm_operators.specs.Operators.{Seen}
 
 -- a number in a space

@@ -2,18 +2,18 @@
 use Rattle.std.specs.Prelude.{ℕ, ◌≡◌, List, [], ◌∷◌, ◌++◌, map, refl}
 use Rattle.std.proofs.Common.{ap, sym, ◌∙◌}
 use Rattle.std.specs.List.{flat_map}
-use Rattle.wasm_ref_types.specs.declared.heap.HeapType.{HeapType}
-use Rattle.wasm_ref_types.specs.declared.heap.HeapType.TheVariants.{Abstract, Concrete, Exact}
-use Rattle.wasm_ref_types.specs.declared.index.UnpackedIndex.{UnpackedIndex}
-use Rattle.wasm_ref_types.specs.declared.index.UnpackedIndex.TheVariants.{Module, RecGroup, Id}
-use Rattle.wasm_ref_types.specs.declared.value.ValType.{ValType}
-use Rattle.wasm_ref_types.specs.declared.value.ValType.TheVariants.{I32, I64, F32, F64, V128, Ref}
-use Rattle.wasm_ref_types.specs.Reference.{reference}
-use Rattle.wasm_immediates.specs.declared.block_type.BlockType.{BlockType}
-use Rattle.wasm_immediates.specs.declared.block_type.BlockType.TheVariants as blocks
-use Rattle.wasm_immediates.specs.declared.clause.Clause.{Clause}
-use Rattle.wasm_immediates.specs.declared.clause.Clause.TheVariants as handlers
-use Rattle.wasm_immediates.specs.Items.{Space, Labels, Item, Names, Number, S32, S64, Bits, Byte, Bytes, Heap, Block, Access, ManyLabels, ManyValues, ManyClauses}
+use Rattle.wasm_operators.specs.wasm_ref_types.declared.heap.HeapType.{HeapType}
+use Rattle.wasm_operators.specs.wasm_ref_types.declared.heap.HeapType.TheVariants.{Abstract, Concrete, Exact}
+use Rattle.wasm_operators.specs.wasm_ref_types.declared.index.UnpackedIndex.{UnpackedIndex}
+use Rattle.wasm_operators.specs.wasm_ref_types.declared.index.UnpackedIndex.TheVariants.{Module, RecGroup, Id}
+use Rattle.wasm_operators.specs.wasm_ref_types.declared.value.ValType.{ValType}
+use Rattle.wasm_operators.specs.wasm_ref_types.declared.value.ValType.TheVariants.{I32, I64, F32, F64, V128, Ref}
+use Rattle.wasm_operators.specs.wasm_ref_types.Reference.{reference}
+use Rattle.wasm_operators.specs.wasm_immediates.declared.block_type.BlockType.{BlockType}
+use Rattle.wasm_operators.specs.wasm_immediates.declared.block_type.BlockType.TheVariants as blocks
+use Rattle.wasm_operators.specs.wasm_immediates.declared.clause.Clause.{Clause}
+use Rattle.wasm_operators.specs.wasm_immediates.declared.clause.Clause.TheVariants as handlers
+use Rattle.wasm_operators.specs.wasm_immediates.Items.{Space, Labels, Item, Names, Number, S32, S64, Bits, Byte, Bytes, Heap, Block, Access, ManyLabels, ManyValues, ManyClauses}
 use Rattle.wasm_operators.specs.Operators.{Seen}
 use Rattle.wasm_operator_names.specs.Names.{Name, Renaming, index_names, renamed_index, heap_names, renamed_heap, value_names, renamed_value, block_names, renamed_block, clause_names, renamed_clause, label_name, item_names, renamed_item, operator_names, renamed_operator}
 use Rattle.wasm_operator_names.specs.Laws.{renamed_name, same, after, NamesAreRenamed, SameIsSame, RenamesTwice}

@@ -4,11 +4,11 @@ use Rattle.std.specs.List.{All}
 use Rattle.std.proofs.lemmas.List.Elements.{All-head, All-tail}
 use Rattle.std.proofs.Math.Nat.{pow-suc}
 use Rattle.std.specs.Int.Signed.{mag}
-use Rattle.wasm_reader.specs.Numbers.{signed, Spells}
-use Rattle.wasm_reader.specs.Reading.{little, SpellsLittle, SpellsRun}
-use Rattle.wasm_reader.specs.SmallSpellings.{SpellsByte}
-use Rattle.wasm_reader.specs.Spelled.{IsShortest-unsigned, IsShortest-signed, spelled_unsigned, spelled_signed}
-use Rattle.wasm_immediates.specs.Spellings.{SpellsU32, SpellsBelow}
+use Rattle.wasm_operator_bytes.specs.wasm_reader.Numbers.{signed, Spells}
+use Rattle.wasm_operator_bytes.specs.wasm_reader.Reading.{little, SpellsLittle, SpellsRun}
+use Rattle.wasm_operator_bytes.specs.wasm_reader.SmallSpellings.{SpellsByte}
+use Rattle.wasm_operator_bytes.specs.wasm_reader.Spelled.{IsShortest-unsigned, IsShortest-signed, spelled_unsigned, spelled_signed}
+use Rattle.wasm_operator_bytes.specs.wasm_immediates.Spellings.{SpellsU32, SpellsBelow}
 use Rattle.wasm_operator_bytes.specs.Bytes.{unsigned_bytes, signed_bytes, little_bytes}
 use Rattle.wasm_operator_ranges.specs.Ranges.{IsU32}
 use Rattle.wasm_operator_ranges.specs.Laws.{SpelledIfFits}

@@ -1,8 +1,8 @@
 //! Laws: functions with nothing to do, whose contracts hold of all operators.
 
 ghost use Rattle.wasm_features.specs.declared.WasmFeatures.{WasmFeatures};
-ghost use Rattle.wasm_operators.specs.Operators.{Seen};
-ghost use Rattle.wasm_operators.specs.Spellings.{SpellsOperator};
+ghost use Rattle.wasm_operator_bytes.specs.wasm_operators.Operators.{Seen};
+ghost use Rattle.wasm_operator_bytes.specs.wasm_operators.Spellings.{SpellsOperator};
 ghost use Rattle.wasm_operator_bytes.specs.Bytes.{operator_bytes};
 ghost use Rattle.wasm_operator_ranges.specs.Ranges.{OperatorFits};
 ghost use Rattle.wasm_operator_ranges.specs.Laws.{SpelledIfFits, WritesIt};

@@ -1,9 +1,9 @@
 -- Operators, and how they are read (Core Specification, binary format: instructions).
 use Rattle.std.specs.Prelude.{ℕ, ◌&&◌, nat_le, Bool, true, List, Option, Some, None, Ok, if◌then◌else◌}
-use Rattle.wasm_features.specs.declared.WasmFeatures.{WasmFeatures}
-use Rattle.wasm_features.specs.Features.{has, LegacyExceptions, WideArithmetic}
-use Rattle.wasm_reader.specs.Reading.{Reading, ◌>>=◌, byte_at}
-use Rattle.wasm_reader.specs.Numbers.{unsigned_at}
+use Rattle.wasm_immediates.specs.wasm_features.declared.WasmFeatures.{WasmFeatures}
+use Rattle.wasm_immediates.specs.wasm_features.Features.{has, LegacyExceptions, WideArithmetic}
+use Rattle.wasm_immediates.specs.wasm_reader.Reading.{Reading, ◌>>=◌, byte_at}
+use Rattle.wasm_immediates.specs.wasm_reader.Numbers.{unsigned_at}
 use Rattle.wasm_immediates.specs.Items.{Item}
 use Rattle.wasm_immediates.specs.Readings.{mapped, items_at}
 use Rattle.wasm_operators.specs.declared.entry.Gate.{Gate}

@@ -1,6 +1,6 @@
 -- Which bytes spell an operator (Core Specification, binary format: instructions), under which features.
 use Rattle.std.specs.Prelude.{ℕ, ◌≡◌, ◌⊎◌, true, false, List, [], ◌∷◌, ◌++◌, Option, Some, None}
-use Rattle.wasm_features.specs.declared.WasmFeatures.{WasmFeatures}
+use Rattle.wasm_immediates.specs.wasm_features.declared.WasmFeatures.{WasmFeatures}
 use Rattle.wasm_immediates.specs.Spellings.{SpellsU32, SpellsForms}
 use Rattle.wasm_operators.specs.declared.entry.Kind.{Kind}
 use Rattle.wasm_operators.specs.declared.op_code.OpCode.{OpCode}

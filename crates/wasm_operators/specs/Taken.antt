@@ -4,14 +4,14 @@ use Rattle.std.proofs.Common.{ap, sym, ◌∙◌, subst, inl, inr}
 use Rattle.std.proofs.lemmas.Bool.{cases_Bool}
 use Rattle.std.proofs.lemmas.List.{append_assoc}
 use Rattle.std.proofs.lemmas.List.Elements.{All-tail}
-use Rattle.wasm_features.specs.declared.WasmFeatures.{WasmFeatures}
-use Rattle.wasm_reader.specs.declared.error.ErrorKind.TheVariants as faults
-use Rattle.wasm_reader.specs.Reading.{Reading, ◌>>=◌}
-use Rattle.wasm_reader.specs.Numbers.{unsigned_at}
-use Rattle.wasm_reader.specs.Laws.{TakesSpelled}
-use Rattle.wasm_reader.specs.Spellings.{ok_is, then_was}
-use Rattle.wasm_reader.specs.Vecs.{later_bytes}
-use Rattle.wasm_composite_types.specs.Taken.{Small, Fronts}
+use Rattle.wasm_immediates.specs.wasm_features.declared.WasmFeatures.{WasmFeatures}
+use Rattle.wasm_immediates.specs.wasm_reader.declared.error.ErrorKind.TheVariants as faults
+use Rattle.wasm_immediates.specs.wasm_reader.Reading.{Reading, ◌>>=◌}
+use Rattle.wasm_immediates.specs.wasm_reader.Numbers.{unsigned_at}
+use Rattle.wasm_immediates.specs.wasm_reader.Laws.{TakesSpelled}
+use Rattle.wasm_immediates.specs.wasm_reader.Spellings.{ok_is, then_was}
+use Rattle.wasm_immediates.specs.wasm_reader.Vecs.{later_bytes}
+use Rattle.wasm_immediates.specs.wasm_composite_types.Taken.{Small, Fronts}
 use Rattle.wasm_immediates.specs.Readings.{items_at}
 use Rattle.wasm_immediates.specs.LeavesTaken.{u32_taken}
 use Rattle.wasm_immediates.specs.Taken.{forms_taken}

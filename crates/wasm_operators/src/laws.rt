@@ -1,7 +1,7 @@
 //! Laws: functions with nothing to do, whose contracts hold of all operators and bytes.
 
-ghost use Rattle.wasm_features.specs.declared.WasmFeatures.{WasmFeatures};
-ghost use Rattle.wasm_reader.specs.Laws.{IsFinal, EndsEarly, TakesSpelled, IsPrefixFree};
+ghost use Rattle.wasm_immediates.specs.wasm_features.declared.WasmFeatures.{WasmFeatures};
+ghost use Rattle.wasm_immediates.specs.wasm_reader.Laws.{IsFinal, EndsEarly, TakesSpelled, IsPrefixFree};
 ghost use Rattle.wasm_operators.specs.Operators.{code_at, operator_at};
 ghost use Rattle.wasm_operators.specs.Spellings.{SpellsCode, SpellsEither};
 

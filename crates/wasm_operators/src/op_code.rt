@@ -7,7 +7,7 @@ ghost use Rattle.wasm_operators.specs.Operators.{code_at, flow_of, kind_of};
 use crate::entry::{Entry, Flow, Kind};
 use crate::table::code_entry;
 use std::alloc::Global;
-use wasm_reader::{BinaryReader, FromReader, Result, WasmFeatures};
+use wasm_immediates::reader::{BinaryReader, FromReader, Result, WasmFeatures};
 
 /// An operator's code: a byte, or a number behind a prefix.
 #[derive(Clone, Copy, Debug, PartialEq, Eq)]

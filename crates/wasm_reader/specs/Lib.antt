@@ -19,3 +19,5 @@ pub mod Faults
 pub use Rattle.wasm_features.specs.Features
 pub use Rattle.wasm_features.specs.Inflated
 pub use Rattle.wasm_features.specs.Sets
+-- Passed on to crates above, which then list this one alone.
+pub use Rattle.wasm_features.specs as wasm_features

@@ -17,3 +17,6 @@ pub use from_reader::FromReader;
 pub use items::BinaryReaderIter;
 pub use reader::BinaryReader;
 pub use wasm_features::{WasmFeatures, WasmFeaturesInflated};
+
+// Passed on to crates above, which then list this one alone.
+pub use wasm_features as features;

@@ -13,3 +13,6 @@ pub mod Begins
 pub mod TypesFinal
 pub mod TypeSpellings
 pub mod TypesTaken
+-- Passed on to crates above, which then list this one alone.
+pub use Rattle.wasm_reader.specs.wasm_features as wasm_features
+pub use Rattle.wasm_reader.specs as wasm_reader

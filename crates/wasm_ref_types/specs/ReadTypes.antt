@@ -2,8 +2,8 @@
 -- A form that is off is a fault where it begins, an index of 2^20 or more one where the index begins.
 use Rattle.std.specs.Prelude.{ℕ, ◌==◌, ◌||◌, nat_lt, Bool, true, false, ℤ, pos, negsuc, List, length, Option, Some, None, Ok, Err, if◌then◌else◌}
 use Rattle.std.specs.Option.{is_some}
-use Rattle.wasm_features.specs.declared.WasmFeatures.{WasmFeatures}
-use Rattle.wasm_features.specs.Features.{has, features_of, constant, GcTypes, SharedEverythingThreads}
+use Rattle.wasm_reader.specs.wasm_features.declared.WasmFeatures.{WasmFeatures}
+use Rattle.wasm_reader.specs.wasm_features.Features.{has, features_of, constant, GcTypes, SharedEverythingThreads}
 use Rattle.wasm_reader.specs.declared.error.ErrorKind.TheVariants as faults
 use Rattle.wasm_reader.specs.Numbers.{s33_at}
 use Rattle.wasm_reader.specs.Reading.{Reading, fault, ◌>>=◌, byte_at, next_at}

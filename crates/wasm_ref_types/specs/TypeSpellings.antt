@@ -1,7 +1,7 @@
 -- Which bytes spell a type (Core Specification, binary format: types), under which features.
 use Rattle.std.specs.Prelude.{ℕ, ◌<◌, ◌^◌, ◌≡◌, ◌⊎◌, Bool, true, false, pos, List, [], ◌∷◌, Ok}
-use Rattle.wasm_features.specs.declared.WasmFeatures.{WasmFeatures}
-use Rattle.wasm_features.specs.Features.{has, GcTypes, SharedEverythingThreads}
+use Rattle.wasm_reader.specs.wasm_features.declared.WasmFeatures.{WasmFeatures}
+use Rattle.wasm_reader.specs.wasm_features.Features.{has, GcTypes, SharedEverythingThreads}
 use Rattle.wasm_reader.specs.Numbers.{signed, Spells}
 use Rattle.wasm_reader.specs.Reading.{Reading}
 use Rattle.wasm_ref_types.specs.declared.heap.AbstractHeapType.{AbstractHeapType}

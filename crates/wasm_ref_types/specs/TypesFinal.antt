@@ -1,8 +1,8 @@
 -- Lemmas: the readings of types are final.
 use Rattle.std.specs.Prelude.{◌==◌, ◌||◌, Bool, true, false, ℤ, pos, negsuc, nat_lt, Option, Some, None, Ok, refl}
 use Rattle.std.specs.Option.{is_some}
-use Rattle.wasm_features.specs.declared.WasmFeatures.{WasmFeatures}
-use Rattle.wasm_features.specs.Features.{has, GcTypes, SharedEverythingThreads}
+use Rattle.wasm_reader.specs.wasm_features.declared.WasmFeatures.{WasmFeatures}
+use Rattle.wasm_reader.specs.wasm_features.Features.{has, GcTypes, SharedEverythingThreads}
 use Rattle.wasm_reader.specs.declared.error.ErrorKind.TheVariants as faults
 use Rattle.wasm_reader.specs.Numbers.{signed, s33_at}
 use Rattle.wasm_reader.specs.Spelled.{number_at-none}

@@ -5,8 +5,8 @@ use Rattle.std.proofs.Common.{ap, sym, ◌∙◌, subst, arith, inl, inr}
 use Rattle.std.proofs.lemmas.Int.{ints}
 use Rattle.std.proofs.lemmas.List.Elements.{All-tail}
 use Rattle.std.proofs.lemmas.Bool.{cases_lt, cases_Bool, eqb-true, ltb-true, lt-ltb, le-ltb, ne_eqb}
-use Rattle.wasm_features.specs.declared.WasmFeatures.{WasmFeatures}
-use Rattle.wasm_features.specs.Features.{has, GcTypes, SharedEverythingThreads}
+use Rattle.wasm_reader.specs.wasm_features.declared.WasmFeatures.{WasmFeatures}
+use Rattle.wasm_reader.specs.wasm_features.Features.{has, GcTypes, SharedEverythingThreads}
 use Rattle.wasm_reader.specs.declared.error.ErrorKind.TheVariants as faults
 use Rattle.wasm_reader.specs.Numbers.{signed, Spells, s33_at}
 use Rattle.wasm_reader.specs.Reading.{Reading, ◌>>=◌}

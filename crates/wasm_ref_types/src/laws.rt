@@ -12,7 +12,7 @@ ghost use Rattle.wasm_ref_types.specs.Heaps.{rank};
 ghost use Rattle.wasm_ref_types.specs.Indices.{index_cmp, index_eq};
 ghost use Rattle.wasm_ref_types.specs.Reference.{Reference, reference_cmp, reference_eq};
 ghost use Rattle.wasm_ref_types.specs.declared.heap.HeapType.TheVariants.{Abstract};
-ghost use Rattle.wasm_features.specs.declared.WasmFeatures.{WasmFeatures};
+ghost use Rattle.wasm_reader.specs.wasm_features.declared.WasmFeatures.{WasmFeatures};
 ghost use Rattle.wasm_reader.specs.Laws.{IsFinal, EndsEarly, TakesSpelled, IsPrefixFree};
 ghost use Rattle.wasm_ref_types.specs.ReadTypes.{abstract_at, heap_at, reference_at, value_at};
 ghost use Rattle.wasm_ref_types.specs.TypeSpellings.{SpellsAbstract, SpellsHeap, SpellsReference, SpellsValue, IsWrittenAbstract, IsWritten, IsWrittenValue, ReadsWritten};

@@ -14,3 +14,7 @@ pub use heap::{AbstractHeapType, HeapType};
 pub use index::{CoreTypeId, PackedIndex, UnpackedIndex};
 pub use reference::RefType;
 pub use value::ValType;
+
+// Passed on to crates above, which then list this one alone.
+pub use wasm_reader as reader;
+pub use wasm_reader::features;

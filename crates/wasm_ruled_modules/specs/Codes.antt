@@ -20,7 +20,7 @@ use Rattle.wasm_sections.specs.Segments.{add_element, add_data}
 use Rattle.wasm_sections.specs.Sections.{own_functions, CodeEntry, code, chunk_of, Section, CustomSection, TypeSection, ImportSection, FunctionSection, TableSection, MemorySection, TagSection, GlobalSection, ExportSection, StartSection, ElementSection, DataCountSection, CodeSection, DataSection, code_once, id_of, section, order_test, SectionEntry, section_entry, put, ends_with, next}
 use Rattle.wasm_sections.specs.Ids.{section_id}
 use Rattle.wasm_sections.specs.Modules.{FileEntry, file, state_of, has_bodies, has_data}
-use Rattle.wasm_modules.specs.Modules.{chunks_of}
+use Rattle.wasm_module_rules.specs.wasm_modules.Modules.{chunks_of}
 use Rattle.wasm_module_rules.specs.Keeps.{must_holds, and_both}
 
 -- how many functions are the module's own

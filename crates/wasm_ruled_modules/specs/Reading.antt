@@ -10,7 +10,7 @@ use Rattle.wasm_grammar.specs.States.{State, types_of}
 use Rattle.wasm_sections.specs.Entities.{Entity, FunctionOf, TableOf, MemoryOf, GlobalOf, TagOf, ImportEntry, add_entity, with_import, import_of, no_body, TableEntry, add_table}
 use Rattle.wasm_body_grammar.specs.Codes.{own_type, ReadsCodes, with_bodies}
 use Rattle.wasm_body_grammar.specs.Rules.{Around}
-use Rattle.wasm_modules.specs.Modules.{same_of, around, chunks_of, codes, module_of}
+use Rattle.wasm_module_rules.specs.wasm_modules.Modules.{same_of, around, chunks_of, codes, module_of}
 use Rattle.wasm_module_rules.specs.Linked.{Each}
 use Rattle.wasm_module_rules.specs.Reading.{read_modules_are_linked, bodies_length}
 use Rattle.wasm_ruled_modules.specs.Rules.{IsCounted, GroupsBelow, AreNamed, knows, is_imported, knows_imported, table_wide, memory_wide, AreExpressed, bare_slot, around_bodies, HasBody, ReadModulesAreRuled}
@@ -34,7 +34,7 @@ table_keeps : (s : State) (x : TableEntry) → GroupsBelow 0 s.filled.groups →
 table_keeps s (inl x) h = h
 table_keeps s (inr ty) h = h
 
-groups_kept : (features : WasmFeatures) → EntriesKeep features (λ m. GroupsBelow 0 m.groups)
+pub groups_kept : (features : WasmFeatures) → EntriesKeep features (λ m. GroupsBelow 0 m.groups)
 groups_kept features = record {
   customs = λ _ s x h. h;
   groups = λ s bytes x _ r h. group_below s x r.1 h;

@@ -16,7 +16,7 @@ use Rattle.wasm_body_grammar.specs.Frames.{Frame, Plain, turned}
 use Rattle.wasm_body_grammar.specs.Rules.{Around, operator_test}
 use Rattle.wasm_body_grammar.specs.Bodies.{most_locals, is_closed, frames_of}
 use Rattle.wasm_body_grammar.specs.Codes.{param_count}
-use Rattle.wasm_modules.specs.Modules.{same_of, Reads}
+use Rattle.wasm_module_rules.specs.wasm_modules.Modules.{same_of, Reads}
 use Rattle.wasm_module_rules.specs.Linked.{Each, IsLinked}
 
 -- ---- no list is longer than it may be

@@ -10,3 +10,5 @@ pub mod Segments
 pub mod TypeNames
 pub mod TypeSection
 pub mod Within
+-- Passed on to crates above, which then list this one alone.
+pub use Rattle.wasm_file_formats.specs as wasm_file_formats

@@ -1,6 +1,6 @@
 use Rattle.std.proofs.Common.{◌∙◌, ap, arith, subst, false, List, ℕ, ◌++◌}
 use Rattle.walrus_builder.specs.Functions.{seqs_of}
-use Rattle.walrus_tree.specs.Text.{operators}
+use Rattle.walrus_body_writer.specs.walrus_tree.Text.{operators}
 use Rattle.walrus_body_names.specs.Names.{AreSet, local_in, text_names}
 use Rattle.walrus_body_names.proofs.Gathering.{knows}
 use Rattle.walrus_body_names.proofs.facts.emit_facts.Goals as goal

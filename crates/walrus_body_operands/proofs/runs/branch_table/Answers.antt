@@ -1,6 +1,6 @@
 use Rattle.std.proofs.Common.{Option, ap, refl, ◌∙◌}
 use Rattle.wasm_formats.specs.Stops.{Trouble}
-use Rattle.wasm_grammar.specs.Values.{first_of}
+use Rattle.walrus_body_steps.specs.wasm_grammar.Values.{first_of}
 use Rattle.walrus_body_operands.specs.Asked.{label_test}
 use Rattle.walrus_body_operands.proofs.runs.branch_table.Goals as goal
 

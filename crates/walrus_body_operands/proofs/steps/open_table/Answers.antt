@@ -1,11 +1,13 @@
-use Rattle.std.proofs.Common.{List, [], ◌∷◌, Option, None, sym, ap, subst, ◌≡◌, ◌∙◌}
+use Rattle.std.proofs.Common.{List, [], ◌∷◌, Option, None, sym, ap, subst, inl, inr, ◌≡◌, ◌∙◌}
 use Rattle.wasm_immediates.specs.declared.clause.Clause.{Clause}
 use Rattle.wasm_immediates.specs.Items.{ManyClauses}
 use Rattle.wasm_formats.specs.Stops.{Trouble}
-use Rattle.walrus_operators.specs.Immediates.{items_of}
-use Rattle.walrus_body_nesting.specs.Faults.{IsRefusal}
+use Rattle.walrus_operators.specs.declared.immediates.Immediates.{Immediates}
+use Rattle.walrus_operators.specs.Immediates.{items_of, kind_is}
+use Rattle.walrus_body_steps.specs.walrus_body_nesting.Faults.{IsRefusal}
 use Rattle.walrus_body_steps.specs.Meanings.{AreClauses}
 use Rattle.walrus_body_operands.specs.Asked.{try_test}
+use Rattle.walrus_body_operands.specs.Listed.{holds_list}
 use Rattle.walrus_body_operands.proofs.Finish.{try_test_is}
 use Rattle.walrus_body_operands.proofs.steps.open_table.Goals as goal
 
@@ -29,4 +31,5 @@ returns-in-Err g c =
     let op = c.args.op.now in
     let w = c.in-TryTable in
     let refused = subst (λ (cs : List Clause). IsRefusal (try_test s ids w.ty cs) c.args.offset c.in-Err.fault) c.as_slice.ensures.value c.in-Err.ensures in
-    subst (λ (t : Option Trouble). IsRefusal t c.args.offset c.in-Err.fault) (sym (try_test_is s ids op w.ty w.clauses w.is)) refused
+    let may = ap (λ (x : Immediates). holds_list (kind_is x)) w.is in
+    elim (subst (λ (t : Option Trouble). IsRefusal t c.args.offset c.in-Err.fault) (sym (try_test_is s ids op w.ty w.clauses w.is)) refused) [ inl memory ↦ inl (memory, may) | inr fails ↦ inr fails ]

@@ -1,21 +1,32 @@
-use Rattle.std.proofs.Common.{◌≡◌, ◌-◌, ◌∙◌, ℕ, Option, Some, length, true, sym, ap}
+use Rattle.std.proofs.Common.{◌≡◌, ◌-◌, ◌∙◌, ℕ, List, Option, Some, Result, length, true, sym, ap}
 use Rattle.walrus_forms.specs.declared.value.AbstractHeapType.TheVariants as abstracts
 use Rattle.walrus_forms.specs.declared.value.HeapType.TheVariants as heaps
 use Rattle.walrus_forms.specs.declared.value.RefType.{RefType}
 use Rattle.wasm_operators.specs.declared.entry.Flow.{Flow}
 use Rattle.wasm_operators.specs.declared.entry.Flow.TheVariants as flows
 use Rattle.wasm_operators.specs.Operators.{flow_of}
-use Rattle.wasm_normal_form.specs.Roles.{Runs, role, role_in}
+use Rattle.walrus_body_steps.specs.wasm_normal_form.Roles.{Runs, role, role_in}
+use Rattle.walrus_operators.specs.Immediates.{kind_is}
 use Rattle.walrus_operators.specs.Operators.{seen}
-use Rattle.walrus_body_rules.specs.Rules.{items_test}
-use Rattle.walrus_body_operands.specs.Listed.{known_labels}
+use Rattle.walrus_operators.specs.declared.operator.Operator.{Operator}
+use Rattle.walrus_body_steps.specs.walrus_body_env.declared.error.BodyError.{BodyError}
+use Rattle.walrus_body_steps.specs.walrus_body_rules.Sights.{Sight}
+use Rattle.walrus_body_steps.specs.walrus_body_rules.Rules.{items_test}
+use Rattle.walrus_body_operands.specs.declared.steps.Step.{Step}
+use Rattle.walrus_body_operands.specs.Asked.{AnswersIf, Meets}
+use Rattle.walrus_body_operands.specs.Listed.{holds_list, known_labels}
 use Rattle.walrus_body_operands.specs.Steps.{IsStep}
-use Rattle.walrus_body_operands.proofs.Finish.{answers_same, bare_tests, labels_known, stands}
+use Rattle.walrus_body_operands.proofs.Finish.{answers, answers_same, bare_tests, labels_known, stands}
 use Rattle.walrus_body_operands.proofs.Table.{flow_kind}
 use Rattle.walrus_body_operands.proofs.steps.step_of.Goals as goal
 
 abbrev some_type : RefType
 some_type = record { nullable = true; heap_type = heaps.Abstract abstracts.Func }
+
+-- what takes no memory
+may_answer : (s : Sight) (ids : List ℕ) (op : Operator) (offset : ℕ) (r : Result Step BodyError) → Meets r (items_test s (known_labels (flow_of op.code) (length ids)) (seen op)) offset (IsStep s ids (seen op))
+    → AnswersIf (holds_list (kind_is op.immediates)) r (items_test s (known_labels (flow_of op.code) (length ids)) (seen op)) offset (IsStep s ids (seen op))
+may_answer s ids op offset r h = answers (holds_list (kind_is op.immediates)) r (items_test s (known_labels (flow_of op.code) (length ids)) (seen op)) offset (IsStep s ids (seen op)) h
 
 abbrev flow_some : Flow → Option Flow
 flow_some f = Some f
@@ -29,7 +40,7 @@ returns-in_default g c =
     let ids = g.L.Labels.ids c.args.labels.now in
     let op = c.args.op.now in
     let runs : role (seen op) ≡ Runs = ap role_in (sym c.flow.ensures ∙ c.in_default.is) in
-    answers_same c.stand.result (items_test s (length ids) (seen op)) (items_test s (known_labels (flow_of op.code) (length ids)) (seen op)) c.args.offset (IsStep s ids (seen op))
+    answers_same (holds_list (kind_is op.immediates)) c.stand.result (items_test s (length ids) (seen op)) (items_test s (known_labels (flow_of op.code) (length ids)) (seen op)) c.args.offset (IsStep s ids (seen op))
     (ap (λ (n : ℕ). items_test s n (seen op)) (labels_known (flow_of op.code) (length ids) runs)) c.stand.ensures
 
 pub open-requires-clause-block : goal.open-requires-clause-block
@@ -41,7 +52,7 @@ open-requires-clause-opens g c = λ s around. sym c.flow.ensures ∙ c.in-Some.i
 pub returns-in-OpensBlock : goal.returns-in-OpensBlock
 returns-in-OpensBlock g c =
     let ids = g.L.Labels.ids c.args.labels.now in
-    c.open.ensures (known_labels (flow_of c.args.op.now.code) (length ids)) ids
+    may_answer (g.S.Scope.sight c.args.scope.now) ids c.args.op.now c.args.offset c.open.result (c.open.ensures (known_labels (flow_of c.args.op.now.code) (length ids)) ids)
 
 pub open-requires-in-OpensLoop-clause-block : goal.open-requires-in-OpensLoop-clause-block
 open-requires-in-OpensLoop-clause-block g c = flow_kind c.args.op.now c.requires flows.OpensLoop (sym c.flow.ensures ∙ c.in-Some.is ∙ ap flow_some c.in-OpensLoop.is) some_type some_type
@@ -52,7 +63,7 @@ open-requires-in-OpensLoop-clause-opens g c = λ s around. sym c.flow.ensures �
 pub returns-in-OpensLoop : goal.returns-in-OpensLoop
 returns-in-OpensLoop g c =
     let ids = g.L.Labels.ids c.args.labels.now in
-    c.open-in-OpensLoop.ensures (known_labels (flow_of c.args.op.now.code) (length ids)) ids
+    may_answer (g.S.Scope.sight c.args.scope.now) ids c.args.op.now c.args.offset c.open-in-OpensLoop.result (c.open-in-OpensLoop.ensures (known_labels (flow_of c.args.op.now.code) (length ids)) ids)
 
 pub open-requires-in-OpensIf-clause-block : goal.open-requires-in-OpensIf-clause-block
 open-requires-in-OpensIf-clause-block g c = flow_kind c.args.op.now c.requires flows.OpensIf (sym c.flow.ensures ∙ c.in-Some.is ∙ ap flow_some c.in-OpensIf.is) some_type some_type
@@ -63,7 +74,7 @@ open-requires-in-OpensIf-clause-opens g c = λ s around. sym c.flow.ensures ∙ 
 pub returns-in-OpensIf : goal.returns-in-OpensIf
 returns-in-OpensIf g c =
     let ids = g.L.Labels.ids c.args.labels.now in
-    c.open-in-OpensIf.ensures (known_labels (flow_of c.args.op.now.code) (length ids)) ids
+    may_answer (g.S.Scope.sight c.args.scope.now) ids c.args.op.now c.args.offset c.open-in-OpensIf.result (c.open-in-OpensIf.ensures (known_labels (flow_of c.args.op.now.code) (length ids)) ids)
 
 pub open-requires-in-OpensTry-clause-block : goal.open-requires-in-OpensTry-clause-block
 open-requires-in-OpensTry-clause-block g c = flow_kind c.args.op.now c.requires flows.OpensTry (sym c.flow.ensures ∙ c.in-Some.is ∙ ap flow_some c.in-OpensTry.is) some_type some_type
@@ -74,7 +85,7 @@ open-requires-in-OpensTry-clause-opens g c = λ s around. sym c.flow.ensures ∙
 pub returns-in-OpensTry : goal.returns-in-OpensTry
 returns-in-OpensTry g c =
     let ids = g.L.Labels.ids c.args.labels.now in
-    c.open-in-OpensTry.ensures (known_labels (flow_of c.args.op.now.code) (length ids)) ids
+    may_answer (g.S.Scope.sight c.args.scope.now) ids c.args.op.now c.args.offset c.open-in-OpensTry.result (c.open-in-OpensTry.ensures (known_labels (flow_of c.args.op.now.code) (length ids)) ids)
 
 pub open_table-requires-clause-table : goal.open_table-requires-clause-table
 open_table-requires-clause-table g c = flow_kind c.args.op.now c.requires flows.OpensTryTable (sym c.flow.ensures ∙ c.in-Some.is ∙ ap flow_some c.in-OpensTryTable.is) some_type some_type
@@ -100,7 +111,7 @@ stand-requires-in-Goes g c = (c.requires, ap role_in (sym c.flow.ensures ∙ c.i
 pub returns-in-Catch : goal.returns-in-Catch
 returns-in-Catch g c =
     let ids = g.L.Labels.ids c.args.labels.now in
-    c.catch.ensures (known_labels (flow_of c.args.op.now.code) (length ids)) ids
+    may_answer (g.S.Scope.sight c.args.scope.now) ids c.args.op.now c.args.offset c.catch.result (c.catch.ensures (known_labels (flow_of c.args.op.now.code) (length ids)) ids)
 
 pub returns-in-Passes : goal.returns-in-Passes
 returns-in-Passes g c =
@@ -135,7 +146,7 @@ returns-in-OpensTryTable g c =
     let s = g.S.Scope.sight c.args.scope.now in
     let ids = g.L.Labels.ids c.args.labels.now in
     let op = c.args.op.now in
-    answers_same c.open_table.result (items_test s (length ids) (seen op)) (items_test s (known_labels (flow_of op.code) (length ids)) (seen op)) c.args.offset (IsStep s ids (seen op))
+    answers_same (holds_list (kind_is op.immediates)) c.open_table.result (items_test s (length ids) (seen op)) (items_test s (known_labels (flow_of op.code) (length ids)) (seen op)) c.args.offset (IsStep s ids (seen op))
     (ap (λ (n : ℕ). items_test s n (seen op)) (ap (λ (f : Option Flow). known_labels f (length ids)) (sym c.flow.ensures ∙ c.in-Some.is ∙ ap flow_some c.in-OpensTryTable.is))) (c.open_table.ensures)
 
 pub returns-in-Delegate : goal.returns-in-Delegate
@@ -143,13 +154,14 @@ returns-in-Delegate g c =
     let s = g.S.Scope.sight c.args.scope.now in
     let ids = g.L.Labels.ids c.args.labels.now in
     let op = c.args.op.now in
-    answers_same c.delegate.result (items_test s (length ids - 1) (seen op)) (items_test s (known_labels (flow_of op.code) (length ids)) (seen op)) c.args.offset (IsStep s ids (seen op))
-    (ap (λ (n : ℕ). items_test s n (seen op)) (ap (λ (f : Option Flow). known_labels f (length ids)) (sym c.flow.ensures ∙ c.in-Some.is ∙ ap flow_some c.in-Delegate.is))) (c.delegate.ensures s)
+    answers_same (holds_list (kind_is op.immediates)) c.delegate.result (items_test s (length ids - 1) (seen op)) (items_test s (known_labels (flow_of op.code) (length ids)) (seen op)) c.args.offset (IsStep s ids (seen op))
+    (ap (λ (n : ℕ). items_test s n (seen op)) (ap (λ (f : Option Flow). known_labels f (length ids)) (sym c.flow.ensures ∙ c.in-Some.is ∙ ap flow_some c.in-Delegate.is)))
+    (answers (holds_list (kind_is op.immediates)) c.delegate.result (items_test s (length ids - 1) (seen op)) c.args.offset (IsStep s ids (seen op)) (c.delegate.ensures s))
 
 pub returns-in-Goes : goal.returns-in-Goes
 returns-in-Goes g c =
     let s = g.S.Scope.sight c.args.scope.now in
     let ids = g.L.Labels.ids c.args.labels.now in
     let op = c.args.op.now in
-    answers_same c.stand-in-Goes.result (items_test s (length ids) (seen op)) (items_test s (known_labels (flow_of op.code) (length ids)) (seen op)) c.args.offset (IsStep s ids (seen op))
+    answers_same (holds_list (kind_is op.immediates)) c.stand-in-Goes.result (items_test s (length ids) (seen op)) (items_test s (known_labels (flow_of op.code) (length ids)) (seen op)) c.args.offset (IsStep s ids (seen op))
     (ap (λ (n : ℕ). items_test s n (seen op)) (labels_known (flow_of op.code) (length ids) (ap role_in (sym c.flow.ensures ∙ c.in-Some.is) ∙ stands c.in-Some.flow c.in-Goes.is))) (c.stand-in-Goes.ensures)

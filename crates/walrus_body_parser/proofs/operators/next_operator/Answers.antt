@@ -1,10 +1,9 @@
-use Rattle.std.proofs.Common.{◌≡◌, ◌∙◌, Result, Ok, Err, subst, sym, ap}
+use Rattle.std.proofs.Common.{◌∙◌, Result, Err, subst, ap}
 use Rattle.wasm_reader.specs.Cursor.{rest}
 use Rattle.walrus_operators.specs.declared.operator.Operator.{Operator}
 use Rattle.walrus_operators.specs.declared.reader.OperatorError.{OperatorError}
 use Rattle.walrus_operators.specs.Operators.{seen, ReadsOperator}
 use Rattle.std.proofs.Common.{Some}
-use Rattle.walrus_body_env.specs.declared.error.BodyError.{BodyError}
 use Rattle.walrus_body_operands.specs.Counted.{is_listed}
 use Rattle.walrus_body_parser.proofs.Takes.{operator_takes, operator_refused, operator_unknown}
 use Rattle.walrus_body_parser.proofs.operators.next_operator.Goals as goal

@@ -1,8 +1,7 @@
-use Rattle.std.proofs.Common.{ℕ, ◌≡◌, ◌<◌, ◌≤◌, ◌-◌, ◌+◌, ◌∙◌, Option, Some, ap, arith}
+use Rattle.std.proofs.Common.{ℕ, ◌≡◌, ◌<◌, ◌-◌, ◌∙◌, Some, ap, inl, inr, arith}
 use Rattle.std.proofs.lemmas.Result.{err_from_is_err_and}
-use Rattle.walrus_instr.specs.declared.seq.InstrLocId.{InstrLocId}
 use Rattle.walrus_operators.specs.Operators.{seen}
-use Rattle.walrus_body_nesting.specs.Stands.{place_in}
+use Rattle.walrus_body_locals.specs.walrus_body_nesting.Stands.{place_in}
 use Rattle.walrus_body_parser.specs.Points.{place_at}
 use Rattle.walrus_body_parser.proofs.Takes.{offset_is}
 use Rattle.walrus_body_parser.proofs.Reading.{items_refused, change_refused, told_refused, next_read, place_is}
@@ -18,7 +17,7 @@ pub returns-in_err-step-clause-read : goal.returns-in_err-step-clause-read
 returns-in_err-step-clause-read g c =
     let p = err_from_is_err_and c.from_residual-in_err-step.result c.from_residual-in_err-step.ensures.1 in
     rw (p.1, p.2) (items_refused (g.S.Scope.sight c.args.scope.now) g.V.Validator.op_step c.args.code_start c.args.reader.now c.next_operator.new.reader c.args.stack.now c.args.validator.now c.in_ok-op.op c.original_position-offset.result
-    (c.original_position-offset.ensures ∙ offset_is c.args.reader.now c.requires.within) c.in_ok-op.ensures.read c.in_ok-op.ensures.listed c.args.stack.now c.args.validator.now c.in_err-step.field-0.0 c.in_err-step.ensures)
+    (c.original_position-offset.ensures ∙ offset_is c.args.reader.now c.requires.within) c.in_ok-op.ensures.read c.in_ok-op.ensures.listed c.args.stack.now c.args.validator.now c.in_err-step.field-0.0 (elim c.in_err-step.ensures [ inl m ↦ inl m.0 | inr f ↦ inr f ]))
 
 pub returns-in_err-done-clause-read : goal.returns-in_err-done-clause-read
 returns-in_err-done-clause-read g c =

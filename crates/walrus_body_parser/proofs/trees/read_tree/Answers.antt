@@ -1,10 +1,9 @@
-use Rattle.std.proofs.Common.{◌≡◌, [], List, Some, Bool, true, false, subst, sym, ap, ◌∙◌}
-use Rattle.std.specs.Prelude.{length}
+use Rattle.std.proofs.Common.{◌≡◌, List, Some, Bool, false, subst, sym, ap, ◌∙◌}
 use Rattle.std.proofs.lemmas.Result.{err_from_is_err_and}
 use Rattle.wasm_reader.specs.Cursor.{Cursor, rest}
-use Rattle.walrus_builder.specs.Built.{Seq, contents}
-use Rattle.walrus_body_nesting.specs.Opens.{type_at}
-use Rattle.walrus_body_stack.specs.Frames.{blocks, opens}
+use Rattle.walrus_builder.specs.Built.{Seq}
+use Rattle.walrus_body_locals.specs.walrus_body_nesting.Opens.{type_at}
+use Rattle.walrus_body_operands.specs.walrus_body_stack.Frames.{blocks, opens}
 use Rattle.walrus_body_parser.specs.Trees.{validating, ReadsTree}
 use Rattle.walrus_body_parser.proofs.Looping.{Goes, one, goes_start, goes_on, goes_fails, goes_done, goes_barred, goes_left, none_left, some_left, offset_in, offset_end}
 use Rattle.walrus_body_parser.proofs.trees.read_tree.Goals as goal
@@ -18,6 +17,7 @@ loop-done-init g c =
       subst G (sym c.new-reader.ensures)
           (goes_start (g.S.Scope.sight c.args.scope.now) (validating g.V.Validator.op_step g.V.Validator.finish_step) c.args.code_start c.args.body c.args.validator.now c.new-stack.result o.0 (one c.args.builder.builder (blocks c.new-stack.result) b c.requires.empty) (subst F (sym b) o.1) o.2 c.requires.within c.requires.begins),
       c.new-stack.ensures.ty,
+      ap (λ (l : List Seq). type_at l 0) b,
     )
 
 pub returns-in_err-done-clause-refused : goal.returns-in_err-done-clause-refused
@@ -33,6 +33,7 @@ loop-done-preserved g c =
       goes_on (g.S.Scope.sight c.args.scope.now) (validating g.V.Validator.op_step g.V.Validator.finish_step) c.args.code_start c.args.body c.args.validator.now c.loop-done.stack c.loop-done.reader c.loop-done.validator (subst F c.loop-done-test.true c.loop-done.invariant.0)
           c.read_operator.new.reader c.read_operator.new.stack c.read_operator.new.validator c.in_ok-done.done c.in_ok-done.ensures.read c.in_ok-done.ensures.takes c.read_operator.ensures.moves,
       c.in_ok-done.ensures.ty ∙ c.loop-done.invariant.1,
+      c.in_ok-done.ensures.entry ∙ c.loop-done.invariant.2,
     )
 
 pub returns-then-not-eof-clause-refused : goal.returns-then-not-eof-clause-refused

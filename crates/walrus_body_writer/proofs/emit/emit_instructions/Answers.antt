@@ -1,6 +1,6 @@
 use Rattle.std.proofs.Common.{ℕ, List, [], refl, sym, subst}
 use Rattle.walrus_body_env.specs.declared.error.BodyError.{BodyError}
-use Rattle.walrus_builder.specs.Functions.{seqs_of}
+use Rattle.walrus_tree.specs.walrus_builder.Functions.{seqs_of}
 use Rattle.walrus_index_maps.specs.Views.{indices}
 use Rattle.walrus_instr.specs.declared.seq.InstrSeq.{InstrSeq}
 use Rattle.walrus_pairing.specs.Looks.{number_of}

@@ -1,5 +1,5 @@
 use Rattle.std.proofs.Common.{arith}
-use Rattle.walrus_builder.specs.Functions.{seqs_of}
+use Rattle.walrus_tree.specs.walrus_builder.Functions.{seqs_of}
 use Rattle.walrus_tree.specs.Text.{operators}
 use Rattle.walrus_body_writer.specs.declared.size.Size.{Size}
 use Rattle.walrus_body_writer.proofs.Folds.{adds_up}

@@ -6,8 +6,8 @@ use Rattle.wasm_grammar.specs.Exprs.{expr}
 use Rattle.wasm_grammar.specs.States.{known}
 use Rattle.wasm_sections.specs.Entities.{global_type}
 use Rattle.walrus_entry_readers.specs.Entries.{global_entry_of}
-use Rattle.walrus_entry_readers.specs.State.{state_of}
-use Rattle.walrus_entry_readers.specs.Leads.{room_read}
+use Rattle.walrus_known_sections.specs.State.{state_of}
+use Rattle.walrus_known_sections.specs.Leads.{room_read}
 use Rattle.walrus_entry_readers.proofs.entities.read_global.Goals as goal
 
 pub returns : goal.returns

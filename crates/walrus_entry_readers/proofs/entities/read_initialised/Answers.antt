@@ -9,8 +9,8 @@ use Rattle.wasm_grammar.specs.States.{known}
 use Rattle.wasm_sections.specs.Entities.{table_type}
 use Rattle.walrus_section_reader.specs.Repeats.{unless_memory}
 use Rattle.walrus_entry_readers.specs.Entries.{init_table_of, initialised_of}
-use Rattle.walrus_entry_readers.specs.State.{state_of}
-use Rattle.walrus_entry_readers.specs.Leads.{by_window, after_last}
+use Rattle.walrus_known_sections.specs.State.{state_of}
+use Rattle.walrus_known_sections.specs.Leads.{by_window, after_last}
 use Rattle.walrus_entry_readers.proofs.entities.read_initialised.Goals as goal
 
 pub returns : goal.returns

@@ -7,9 +7,9 @@ use Rattle.wasm_sections.specs.Entities.{global_type}
 use Rattle.walrus_section_values.specs.Globals.{expr_of}
 use Rattle.walrus_section_reader.specs.Repeats.{unless_memory}
 use Rattle.walrus_entry_readers.specs.Entries.{global_entry_of}
-use Rattle.walrus_entry_readers.specs.Items.{global_type_of}
-use Rattle.walrus_entry_readers.specs.State.{state_of}
-use Rattle.walrus_entry_readers.specs.Leads.{by_window, after_ok, after_err, handed_on}
+use Rattle.walrus_known_sections.specs.Items.{global_type_of}
+use Rattle.walrus_known_sections.specs.State.{state_of}
+use Rattle.walrus_known_sections.specs.Leads.{by_window, after_ok, after_err, handed_on}
 use Rattle.walrus_entry_readers.proofs.entities.read_own_global.Goals as goal
 
 pub returns-in_err-init : goal.returns-in_err-init

@@ -3,10 +3,10 @@ use Rattle.std.proofs.lemmas.Result.{err_from_is_err_and}
 use Rattle.wasm_formats.specs.Led.{led}
 use Rattle.wasm_sections.specs.Entities.{initialised, table_type, table_apart, table_some, table_wants}
 use Rattle.walrus_section_reader.specs.Repeats.{unless_memory}
-use Rattle.walrus_entry_readers.specs.Entries.{initialised_of, table_entry_of}
-use Rattle.walrus_entry_readers.specs.Items.{table_type_of}
-use Rattle.walrus_entry_readers.specs.State.{state_of}
-use Rattle.walrus_entry_readers.specs.Leads.{by_window, from_same, lead_ok, lead_err, other_ok, other_err, handed_on}
+use Rattle.walrus_entry_readers.specs.Entries.{table_entry_of}
+use Rattle.walrus_known_sections.specs.Items.{table_type_of}
+use Rattle.walrus_known_sections.specs.State.{state_of}
+use Rattle.walrus_known_sections.specs.Leads.{from_same, other_ok, other_err, handed_on}
 use Rattle.walrus_entry_readers.proofs.entities.read_own_table.Goals as goal
 
 pub returns-in_err-ty-2 : goal.returns-in_err-ty-2

@@ -4,8 +4,8 @@ use Rattle.wasm_grammar.specs.States.{has_room}
 use Rattle.wasm_formats.specs.Led.{led}
 use Rattle.wasm_sections.specs.Entities.{initialised, table_type, table_apart, table_some, table_wants}
 use Rattle.walrus_entry_readers.specs.Entries.{table_entry_of}
-use Rattle.walrus_entry_readers.specs.State.{state_of}
-use Rattle.walrus_entry_readers.specs.Leads.{room_read}
+use Rattle.walrus_known_sections.specs.State.{state_of}
+use Rattle.walrus_known_sections.specs.Leads.{room_read}
 use Rattle.walrus_entry_readers.proofs.entities.read_table.Goals as goal
 
 pub returns : goal.returns

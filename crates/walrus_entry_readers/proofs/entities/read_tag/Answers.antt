@@ -4,8 +4,8 @@ use Rattle.wasm_grammar.specs.States.{has_room}
 use Rattle.wasm_sections.specs.Entities.{tag_type}
 use Rattle.walrus_section_reader.specs.Repeats.{unless_memory}
 use Rattle.walrus_entry_readers.specs.Entries.{tag_type_of}
-use Rattle.walrus_entry_readers.specs.State.{state_of}
-use Rattle.walrus_entry_readers.specs.Leads.{room_read}
+use Rattle.walrus_known_sections.specs.State.{state_of}
+use Rattle.walrus_known_sections.specs.Leads.{room_read}
 use Rattle.walrus_entry_readers.proofs.entities.read_tag.Goals as goal
 
 pub returns : goal.returns

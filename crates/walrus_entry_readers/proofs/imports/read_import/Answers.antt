@@ -1,11 +1,11 @@
-use Rattle.std.proofs.Common.{refl, ap, sym, ◌∙◌, subst, Err, ℕ}
+use Rattle.std.proofs.Common.{sym, subst, Err}
 use Rattle.std.proofs.lemmas.Result.{err_from_is_err_and}
 use Rattle.wasm_sections.specs.Entities.{import_entry}
 use Rattle.walrus_section_reader.specs.declared.fault.Fault.{Fault}
 use Rattle.walrus_section_reader.specs.Parses.{ParsesExactly}
 use Rattle.walrus_entry_readers.specs.Imports.{import_entry_of}
 use Rattle.walrus_entry_readers.specs.ImportLemmas.{any_at, entity_at, exactly_on, ahead_err, limit_err, entity_err, entity_ok}
-use Rattle.walrus_entry_readers.specs.State.{state_of}
+use Rattle.walrus_known_sections.specs.State.{state_of}
 use Rattle.walrus_entry_readers.proofs.imports.read_import.Goals as goal
 
 pub returns-in_err-any : goal.returns-in_err-any

@@ -1,6 +1,6 @@
 use Rattle.std.proofs.Common.{◌+◌, ℕ, ◌≡◌, rules, ap, to_z, of_z, w64}
 use Rattle.std.proofs.lemmas.Int.{to_z-of_z}
-use Rattle.wasm_operator_bytes.specs.Bytes.{signed_bytes}
+use Rattle.wasm_operator_ranges.specs.wasm_operator_bytes.Bytes.{signed_bytes}
 use Rattle.walrus_operator_writer.proofs.Shortens.{begins_signed, signed_spelling, shortens_on, shortened}
 use Rattle.walrus_operator_writer.proofs.number.write_signed.Goals as goal
 

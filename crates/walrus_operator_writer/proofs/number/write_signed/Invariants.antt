@@ -1,4 +1,4 @@
-use Rattle.wasm_operator_bytes.specs.Bytes.{signed_bytes}
+use Rattle.wasm_operator_ranges.specs.wasm_operator_bytes.Bytes.{signed_bytes}
 use Rattle.walrus_operator_writer.proofs.Shortens.{Shortens, spell_signed}
 use Rattle.walrus_operator_writer.proofs.number.write_signed.Given as goal
 

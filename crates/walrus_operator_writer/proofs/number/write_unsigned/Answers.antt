@@ -1,5 +1,5 @@
 use Rattle.std.proofs.Common.{refl}
-use Rattle.wasm_operator_bytes.specs.Bytes.{unsigned_bytes}
+use Rattle.wasm_operator_ranges.specs.wasm_operator_bytes.Bytes.{unsigned_bytes}
 use Rattle.walrus_operator_writer.proofs.Shortens.{begins_unsigned, unsigned_spelling, shortens_on, shortened}
 use Rattle.walrus_operator_writer.proofs.number.write_unsigned.Goals as goal
 

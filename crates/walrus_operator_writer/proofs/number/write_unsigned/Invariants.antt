@@ -1,5 +1,5 @@
-use Rattle.wasm_reader.specs.Shortest.{shortest_unsigned}
-use Rattle.wasm_operator_bytes.specs.Bytes.{unsigned_bytes}
+use Rattle.wasm_ref_types.specs.wasm_reader.Shortest.{shortest_unsigned}
+use Rattle.wasm_operator_ranges.specs.wasm_operator_bytes.Bytes.{unsigned_bytes}
 use Rattle.walrus_operator_writer.proofs.Shortens.{Shortens}
 use Rattle.walrus_operator_writer.proofs.number.write_unsigned.Given as goal
 

@@ -1,5 +1,5 @@
 use Rattle.std.proofs.Common.{◌^◌, arith}
-use Rattle.walrus_module.specs.Parts.{parts}
+use Rattle.walrus_used.specs.walrus_module.Parts.{parts}
 use Rattle.walrus_used.specs.Counts.{counts_of}
 use Rattle.walrus_passes.specs.Keeping.{IsHeld}
 use Rattle.walrus_passes.proofs.SetLemmas.{all_sets, bounded_by}

@@ -1,6 +1,5 @@
-use Rattle.std.proofs.Common.{sym}
-use Rattle.walrus_module.specs.Parts.{parts}
-use Rattle.walrus_refusals.proofs.SoundLemmas.{are_linked, are_trees, dead_found, dead_missing, not_trees}
+use Rattle.walrus_linked.specs.walrus_module.Parts.{parts}
+use Rattle.walrus_refusals.proofs.SoundLemmas.{are_linked, are_trees, dead_answered, not_trees}
 use Rattle.walrus_refusals.proofs.sound.reach_sound.Goals as goal
 
 pub returns-then-not-branch-2-clause-refused : goal.returns-then-not-branch-2-clause-refused
@@ -9,7 +8,7 @@ returns-then-not-branch-2-clause-refused g c =
     let pushed = c.args.pushed.now in
     let s = c.in_ok-marks.marks in
     let h = c.in_ok-marks.ensures in
-    (are_linked m pushed s h c.in_ok-are_linked.field-0 c.if-not-branch.false c.in_ok-are_linked.ensures, not_trees m pushed s h c.in_ok-are_trees.field-0 c.if-not-branch-2.true c.in_ok-are_trees.ensures)
+    (are_linked m pushed s h c.in_ok-are_linked.field-0 c.if-not-branch.false c.in_ok-are_linked.ensures, not_trees m pushed s h c.in_ok-holds_of_all.field-0 c.if-not-branch-2.true c.in_ok-holds_of_all.ensures)
 
 pub returns-in-Some-clause-refused : goal.returns-in-Some-clause-refused
 returns-in-Some-clause-refused g c =
@@ -18,17 +17,6 @@ returns-in-Some-clause-refused g c =
     let s = c.in_ok-marks.marks in
     let h = c.in_ok-marks.ensures in (
       are_linked m pushed s h c.in_ok-are_linked.field-0 c.if-not-branch.false c.in_ok-are_linked.ensures,
-      are_trees m pushed s h c.in_ok-are_trees.field-0 c.if-not-branch-2.false c.in_ok-are_trees.ensures,
-      dead_found m pushed s h c.in_ok-space.field-0 c.in-Some.space c.in-Some.is c.in_ok-space.ensures,
-    )
-
-pub returns-in-Some-missing-clause-refused : goal.returns-in-Some-missing-clause-refused
-returns-in-Some-missing-clause-refused g c =
-    let m = parts c.args.input.now in
-    let pushed = c.args.pushed.now in
-    let s = c.in_ok-marks.marks in
-    let h = c.in_ok-marks.ensures in (
-      are_linked m pushed s h c.in_ok-are_linked.field-0 c.if-not-branch.false c.in_ok-are_linked.ensures,
-      are_trees m pushed s h c.in_ok-are_trees.field-0 c.if-not-branch-2.false c.in_ok-are_trees.ensures,
-      dead_missing m pushed s h c.types_are_grouped.ensures c.in-Some-missing.item (sym c.in-Some-missing.ensures),
+      are_trees m pushed s h c.in_ok-holds_of_all.field-0 c.if-not-branch-2.false c.in_ok-holds_of_all.ensures,
+      dead_answered m pushed s h c.types_are_grouped.ensures c.in_ok-space.field-0 c.in-Some.space c.in-Some.is c.in_ok-space.ensures,
     )

@@ -2,7 +2,7 @@ use Rattle.wasm_grammar.specs.Exprs.{expr}
 use Rattle.wasm_grammar.specs.States.{known}
 use Rattle.walrus_section_reader.specs.Repeats.{Collects}
 use Rattle.walrus_segment_readers.specs.Lists.{exprs_of}
-use Rattle.walrus_entry_readers.specs.State.{state_of}
+use Rattle.walrus_known_sections.specs.State.{state_of}
 use Rattle.walrus_segment_readers.proofs.lists.read_exprs.Given as goal
 
 abbrev pub invariant-loop : goal.invariant-loop

@@ -5,7 +5,7 @@ use Rattle.wasm_formats.specs.declared.fault.Space.TheVariants as spaces
 use Rattle.wasm_grammar.specs.Values.{index}
 use Rattle.walrus_section_reader.specs.Repeats.{collects_none, collects, collects_not, collected, unless_memory, listed_at}
 use Rattle.walrus_segment_readers.specs.Lists.{numbers_of}
-use Rattle.walrus_entry_readers.specs.Leads.{handed_on}
+use Rattle.walrus_known_sections.specs.Leads.{handed_on}
 use Rattle.walrus_segment_readers.proofs.lists.read_indices.Goals as goal
 
 pub loop-init : goal.loop-init

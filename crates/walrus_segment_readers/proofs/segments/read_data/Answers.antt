@@ -5,8 +5,8 @@ use Rattle.wasm_formats.specs.declared.fault.Space.TheVariants as spaces
 use Rattle.wasm_formats.specs.Joined.{after}
 use Rattle.wasm_grammar.specs.States.{has_room}
 use Rattle.wasm_sections.specs.Segments.{data_flags, data_form}
-use Rattle.walrus_entry_readers.specs.Leads.{room_read}
-use Rattle.walrus_entry_readers.specs.State.{state_of}
+use Rattle.walrus_known_sections.specs.Leads.{room_read}
+use Rattle.walrus_known_sections.specs.State.{state_of}
 use Rattle.walrus_segment_readers.specs.Segments.{both_of, data_form_of}
 use Rattle.walrus_segment_readers.proofs.segments.read_data.Goals as goal
 

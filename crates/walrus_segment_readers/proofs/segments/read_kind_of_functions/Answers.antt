@@ -4,8 +4,8 @@ use Rattle.wasm_reader.specs.Reading.{plain}
 use Rattle.wasm_formats.specs.Stops.{Read}
 use Rattle.wasm_formats.specs.Bytes.{literal}
 use Rattle.walrus_section_reader.specs.Repeats.{unless_memory}
-use Rattle.walrus_entry_readers.specs.State.{state_of}
-use Rattle.walrus_entry_readers.specs.Leads.{after_last}
+use Rattle.walrus_known_sections.specs.State.{state_of}
+use Rattle.walrus_known_sections.specs.Leads.{after_last}
 use Rattle.wasm_sections.specs.Segments.{functions}
 use Rattle.walrus_segment_readers.specs.Lists.{numbers_of}
 use Rattle.walrus_segment_readers.specs.Segments.{kind_of_functions_of}

@@ -3,8 +3,8 @@ use Rattle.wasm_reader.specs.Reading.{plain}
 use Rattle.wasm_grammar.specs.Values.{index}
 use Rattle.walrus_section_reader.specs.Repeats.{unless_memory}
 use Rattle.walrus_section_values.specs.Globals.{expr_of}
-use Rattle.walrus_entry_readers.specs.Leads.{by_window}
-use Rattle.walrus_entry_readers.specs.State.{state_of}
+use Rattle.walrus_known_sections.specs.Leads.{by_window}
+use Rattle.walrus_known_sections.specs.State.{state_of}
 use Rattle.walrus_segment_readers.specs.Segments.{after_joined}
 use Rattle.std.proofs.Common.{ℕ, length}
 use Rattle.wasm_formats.specs.declared.fault.Space.TheVariants as spaces

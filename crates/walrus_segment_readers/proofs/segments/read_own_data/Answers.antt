@@ -2,8 +2,8 @@ use Rattle.std.proofs.Common.{ℕ}
 use Rattle.wasm_reader.specs.Reading.{plain}
 use Rattle.wasm_sections.specs.Segments.{data_flags, data_form}
 use Rattle.walrus_section_reader.specs.Repeats.{unless_memory}
-use Rattle.walrus_entry_readers.specs.Leads.{by_window}
-use Rattle.walrus_entry_readers.specs.State.{state_of}
+use Rattle.walrus_known_sections.specs.Leads.{by_window}
+use Rattle.walrus_known_sections.specs.State.{state_of}
 use Rattle.walrus_segment_readers.specs.Segments.{after_joined, data_form_of}
 use Rattle.walrus_segment_readers.proofs.segments.read_own_data.Goals as goal
 

@@ -3,8 +3,8 @@ use Rattle.wasm_grammar.specs.Values.{ref_type}
 use Rattle.wasm_grammar.specs.States.{type_count}
 use Rattle.walrus_forms.specs.Records.{ref_of}
 use Rattle.walrus_section_reader.specs.Repeats.{unless_memory}
-use Rattle.walrus_entry_readers.specs.Leads.{by_window}
-use Rattle.walrus_entry_readers.specs.State.{state_of}
+use Rattle.walrus_known_sections.specs.Leads.{by_window}
+use Rattle.walrus_known_sections.specs.State.{state_of}
 use Rattle.walrus_segment_readers.specs.Lists.{exprs_of}
 use Rattle.walrus_segment_readers.specs.Segments.{after_joined}
 use Rattle.walrus_segment_readers.proofs.segments.read_typed.Goals as goal

@@ -1,5 +1,5 @@
 use Rattle.std.proofs.Common.{◌≡◌, ◌++◌, drop}
-use Rattle.walrus_walks.specs.Tree.{children_in}
+use Rattle.walrus_builder.specs.walrus_walks.Tree.{children_in}
 use Rattle.walrus_tree.specs.Testing.{all_within, entering}
 use Rattle.walrus_tree.proofs.check.look_through.Given as goal
 

@@ -1,5 +1,5 @@
 use Rattle.std.proofs.Common.{◌≡◌, ◌++◌, drop}
-use Rattle.walrus_walks.specs.Tree.{handlers}
+use Rattle.walrus_builder.specs.walrus_walks.Tree.{handlers}
 use Rattle.walrus_tree.specs.Testing.{entering}
 use Rattle.walrus_tree.proofs.steps.push_handlers.Given as goal
 

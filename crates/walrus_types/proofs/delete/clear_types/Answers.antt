@@ -1,7 +1,7 @@
 use Rattle.std.proofs.Common.{◌∙◌, None, map, ap}
 use Rattle.std.specs.Option.{option_map}
 use Rattle.std.proofs.lemmas.List.{map-set}
-use Rattle.walrus_items.specs.Items.{item_of}
+use Rattle.walrus_type_index.specs.walrus_items.Items.{item_of}
 use Rattle.walrus_types.proofs.DeleteLemmas.{clear_all-more}
 use Rattle.walrus_types.proofs.delete.clear_types.Goals as goal
 

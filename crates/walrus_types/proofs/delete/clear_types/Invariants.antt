@@ -1,6 +1,6 @@
 use Rattle.std.proofs.Common.{◌≡◌, map, take, None}
 use Rattle.std.specs.Option.{option_map}
-use Rattle.walrus_items.specs.Items.{item_of}
+use Rattle.walrus_type_index.specs.walrus_items.Items.{item_of}
 use Rattle.walrus_type_index.specs.Places.{kinds_in}
 use Rattle.walrus_type_index.specs.Ordered.{IsOrdered}
 use Rattle.walrus_types.specs.Table.{clear_all}

@@ -3,7 +3,7 @@ use Rattle.std.specs.List.{filter_map}
 use Rattle.std.specs.Option.{option_or}
 use Rattle.walrus_forms.specs.Kinds.{kind_names}
 use Rattle.walrus_types.specs.declared.error.IrError.{IrError}
-use Rattle.walrus_items.specs.Items.{kind_of}
+use Rattle.walrus_type_index.specs.walrus_items.Items.{kind_of}
 use Rattle.walrus_types.specs.Table.{table_of}
 use Rattle.walrus_types.specs.Emission.{fault_at, first_fault, index_at, written_kind}
 use Rattle.walrus_types.proofs.EmitLemmas.{names-step}

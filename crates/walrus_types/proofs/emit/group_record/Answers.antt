@@ -2,7 +2,7 @@ use Rattle.std.proofs.Common.{◌∙◌, ◌≡◌, ◌<◌, ◌++◌, ◌∷◌
 use Rattle.std.proofs.lemmas.List.{map-append}
 use Rattle.walrus_forms.specs.Kinds.{Kind}
 use Rattle.walrus_forms.specs.Records.{record_kind}
-use Rattle.walrus_items.specs.Items.{kind_of}
+use Rattle.walrus_type_index.specs.walrus_items.Items.{kind_of}
 use Rattle.walrus_types.specs.Table.{table_of}
 use Rattle.walrus_types.specs.Emission.{index_at, written_kind}
 use Rattle.walrus_types.proofs.EmitLemmas.{records-skip, records-step, written-entry}

@@ -1,5 +1,5 @@
 use Rattle.std.proofs.Common.{◌≡◌, map, take, slice_index_or}
-use Rattle.walrus_items.specs.Items.{group_of}
+use Rattle.walrus_type_index.specs.walrus_items.Items.{group_of}
 use Rattle.walrus_types.specs.Emission.{no_group}
 use Rattle.walrus_types.proofs.emit.groups_at.Given as goal
 

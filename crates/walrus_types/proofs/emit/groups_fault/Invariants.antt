@@ -1,5 +1,5 @@
 use Rattle.std.proofs.Common.{◌≡◌, ◌+◌, [], map, length, take, drop}
-use Rattle.walrus_items.specs.Items.{group_of}
+use Rattle.walrus_type_index.specs.walrus_items.Items.{group_of}
 use Rattle.walrus_types.specs.Table.{table_of}
 use Rattle.walrus_types.specs.Emission.{groups_fault, index_at, written_types}
 use Rattle.walrus_types.proofs.emit.groups_fault.Given as goal

@@ -3,8 +3,8 @@ use Rattle.std.proofs.Math.ListN.{length-map}
 use Rattle.std.proofs.lemmas.Result.{IfOk-weaker}
 use Rattle.walrus_forms.specs.Order.{kind_cmp}
 use Rattle.walrus_type_order.specs.Order.{IsEmissionOrder}
-use Rattle.walrus_items.specs.declared.subtype.RecGroup.{RecGroup}
-use Rattle.walrus_items.specs.Items.{Group, group_of}
+use Rattle.walrus_type_index.specs.walrus_items.declared.subtype.RecGroup.{RecGroup}
+use Rattle.walrus_type_index.specs.walrus_items.Items.{Group, group_of}
 use Rattle.walrus_types.specs.Table.{table_of}
 use Rattle.walrus_types.specs.Emission.{key_of, no_group}
 use Rattle.walrus_types.proofs.EmitLemmas.{order-below, in-order}

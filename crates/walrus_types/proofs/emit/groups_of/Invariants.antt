@@ -1,7 +1,7 @@
 use Rattle.std.proofs.Common.{◌≡◌, ◌++◌, ℕ, map, filter}
 use Rattle.std.specs.List.{list_any}
-use Rattle.walrus_items.specs.declared.subtype.RecGroup.{RecGroup}
-use Rattle.walrus_items.specs.Items.{group_of}
+use Rattle.walrus_type_index.specs.walrus_items.declared.subtype.RecGroup.{RecGroup}
+use Rattle.walrus_type_index.specs.walrus_items.Items.{group_of}
 use Rattle.walrus_types.specs.Table.{table_of}
 use Rattle.walrus_types.specs.Emission.{is_written, written_groups}
 use Rattle.walrus_types.proofs.emit.groups_of.Given as goal

@@ -1,6 +1,6 @@
 use Rattle.std.proofs.Common.{◌≡◌, [], map, take}
 use Rattle.std.specs.Option.{option_map}
-use Rattle.walrus_items.specs.Items.{kind_of, group_of}
+use Rattle.walrus_type_index.specs.walrus_items.Items.{kind_of, group_of}
 use Rattle.walrus_types.specs.Table.{table_of}
 use Rattle.walrus_types.specs.Emission.{key_of}
 use Rattle.walrus_types.specs.Ranks.{ranked}

@@ -1,7 +1,7 @@
 use Rattle.std.proofs.Common.{subst, ℕ, List, Option, Bor}
 use Rattle.std.proofs.lemmas.Result.{IfOk-weaker}
 use Rattle.walrus_type_order.specs.Order.{IsEmissionOrder}
-use Rattle.walrus_items.specs.declared.subtype.Type.{«Type» as TypeItem}
+use Rattle.walrus_type_index.specs.walrus_items.declared.subtype.Type.{«Type» as TypeItem}
 use Rattle.walrus_types.proofs.EmitLemmas.{key-cmp, order-seen}
 use Rattle.walrus_types.proofs.emit.order_of.Goals as goal
 

@@ -1,6 +1,6 @@
 use Rattle.std.proofs.Common.{◌≡◌, [], ◌++◌, map, take}
 use Rattle.walrus_forms.specs.Records.{type_group}
-use Rattle.walrus_items.specs.Items.{group_of}
+use Rattle.walrus_type_index.specs.walrus_items.Items.{group_of}
 use Rattle.walrus_types.specs.Table.{table_of}
 use Rattle.walrus_types.specs.Emission.{index_at, described_group}
 use Rattle.walrus_types.proofs.emit.push_records.Given as goal

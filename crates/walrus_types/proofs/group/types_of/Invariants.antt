@@ -1,7 +1,7 @@
 use Rattle.std.proofs.Common.{◌≡◌, ◌+◌, ◌++◌, map, length, Some}
 use Rattle.std.specs.Vec.Iter.{into_iter_items}
 use Rattle.walrus_types.specs.Groups.{new_items, member_kind}
-use Rattle.walrus_items.specs.Items.{item_of}
+use Rattle.walrus_type_index.specs.walrus_items.Items.{item_of}
 use Rattle.walrus_types.proofs.group.types_of.Given as goal
 
 abbrev pub invariant-loop-member : goal.invariant-loop-member

@@ -1,5 +1,5 @@
 use Rattle.std.proofs.Common.{◌∙◌, sym}
-use Rattle.walrus_items.specs.Items.{kind_of}
+use Rattle.walrus_type_index.specs.walrus_items.Items.{kind_of}
 use Rattle.walrus_types.proofs.HighestLemmas.{looked-up}
 use Rattle.walrus_types.proofs.index.look_up.Goals as goal
 

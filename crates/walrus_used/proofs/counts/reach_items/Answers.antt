@@ -2,7 +2,7 @@ use Rattle.std.proofs.Common.{ℕ, List, sym, subst}
 use Rattle.std.proofs.lemmas.Result.{IfOk-weaker}
 use Rattle.walrus_marks.specs.Chains.{FitsIn, IsReached}
 use Rattle.walrus_marks.specs.Marks.{lists_of}
-use Rattle.walrus_module.specs.Parts.{parts}
+use Rattle.walrus_references.specs.walrus_module.Parts.{parts}
 use Rattle.walrus_references.specs.References.{Refers}
 use Rattle.walrus_references.specs.Roots.{Root}
 use Rattle.walrus_used.specs.Counts.{counts_of}

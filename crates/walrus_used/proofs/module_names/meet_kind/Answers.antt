@@ -1,8 +1,8 @@
 use Rattle.std.proofs.Common.{◌∙◌, List, sym, ap, subst}
 use Rattle.std.specs.Prelude.{OnOk}
 use Rattle.walrus_instr.specs.declared.seq.InstrSeq.{InstrSeq}
-use Rattle.walrus_builder.specs.Functions.{seqs_of}
-use Rattle.walrus_module_items.specs.declared.function.FunctionKind.{FunctionKind}
+use Rattle.walrus_references.specs.walrus_builder.Functions.{seqs_of}
+use Rattle.walrus_references.specs.walrus_module_items.declared.function.FunctionKind.{FunctionKind}
 use Rattle.walrus_marks.specs.Chains.{Meets}
 use Rattle.walrus_references.specs.References.{BodyNames, KindNames}
 use Rattle.walrus_used.proofs.module_names.meet_kind.Goals as goal

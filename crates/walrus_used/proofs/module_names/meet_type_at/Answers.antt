@@ -1,4 +1,4 @@
-use Rattle.walrus_module.specs.Parts.{parts}
+use Rattle.walrus_references.specs.walrus_module.Parts.{parts}
 use Rattle.walrus_used.proofs.ModuleLemmas.{type_meets}
 use Rattle.walrus_used.proofs.module_names.meet_type_at.Goals as goal
 

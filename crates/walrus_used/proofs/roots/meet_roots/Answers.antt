@@ -1,4 +1,4 @@
-use Rattle.walrus_module.specs.Parts.{parts}
+use Rattle.walrus_references.specs.walrus_module.Parts.{parts}
 use Rattle.walrus_used.proofs.RootLemmas.{roots_after}
 use Rattle.walrus_used.proofs.roots.meet_roots.Goals as goal
 

@@ -3,7 +3,7 @@ use Rattle.std.specs.Global.{Global}
 use Rattle.walrus_arena.specs.Arena.{item_at, IsLive}
 use Rattle.walrus_roots.specs.declared.item.Item.{Item}
 use Rattle.walrus_marks.specs.Marks.{lists_of}
-use Rattle.walrus_module.specs.Parts.{parts}
+use Rattle.walrus_references.specs.walrus_module.Parts.{parts}
 use Rattle.walrus_used.specs.Looks.{listed_segment}
 use Rattle.walrus_used.proofs.ModuleLemmas.{not_live}
 use Rattle.walrus_used.proofs.SegmentLemmas.{ListedBelow, more_listed, dead_listed, all_listed}

@@ -1,4 +1,4 @@
-use Rattle.wasm_reader.specs.Spellings.{final_early}
+use Rattle.wasm_ref_types.specs.wasm_reader.Spellings.{final_early}
 use Rattle.wasm_composite_types.specs.Readings.{storage_at, field_at, func_at, array_at, struct_at, composite_at}
 use Rattle.wasm_composite_types.specs.Finals.{storage_final, field_final, func_final, array_final, struct_final, composite_final}
 use Rattle.wasm_composite_types.proofs.laws.fronts_of_types_end_early.Goals as goal

@@ -1,4 +1,4 @@
-use Rattle.wasm_reader.specs.Spellings.{taken_free}
+use Rattle.wasm_ref_types.specs.wasm_reader.Spellings.{taken_free}
 use Rattle.wasm_composite_types.specs.Readings.{storage_at, field_at, func_at, array_at, struct_at, composite_at}
 use Rattle.wasm_composite_types.specs.Spellings.{SpellsStorage, SpellsField, SpellsFunc, SpellsArray, SpellsStruct, SpellsComposite}
 use Rattle.wasm_composite_types.specs.TypesTaken.{storage_taken, field_taken, func_taken, array_taken, struct_taken, composite_taken}

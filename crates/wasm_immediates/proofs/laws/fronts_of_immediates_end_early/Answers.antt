@@ -1,4 +1,4 @@
-use Rattle.wasm_reader.specs.Spellings.{final_early}
+use Rattle.wasm_composite_types.specs.wasm_reader.Spellings.{final_early}
 use Rattle.wasm_immediates.specs.Readings.{items_at}
 use Rattle.wasm_immediates.specs.Finals.{items_final}
 use Rattle.wasm_immediates.proofs.laws.fronts_of_immediates_end_early.Goals as goal

@@ -1,4 +1,4 @@
-use Rattle.wasm_reader.specs.Spellings.{taken_free}
+use Rattle.wasm_composite_types.specs.wasm_reader.Spellings.{taken_free}
 use Rattle.wasm_immediates.specs.Readings.{items_at}
 use Rattle.wasm_immediates.specs.Spellings.{SpellsForms}
 use Rattle.wasm_immediates.specs.Taken.{forms_taken}

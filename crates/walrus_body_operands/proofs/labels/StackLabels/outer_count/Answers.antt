@@ -1,5 +1,5 @@
 use Rattle.std.proofs.Common.{◌∙◌}
-use Rattle.walrus_body_stack.specs.Frames.{inner, around}
+use Rattle.walrus_body_steps.specs.walrus_body_stack.Frames.{inner, around}
 use Rattle.walrus_body_operands.proofs.Counts.{outer_ids}
 use Rattle.walrus_body_operands.proofs.labels.StackLabels.outer_count.Goals as goal
 

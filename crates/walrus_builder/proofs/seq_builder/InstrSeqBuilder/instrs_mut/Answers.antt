@@ -1,6 +1,6 @@
 use Rattle.std.proofs.Common.{ℕ, List, ◌≡◌, get_or, subst, ap, refl}
 use Rattle.std.specs.Option.{option_map}
-use Rattle.walrus_instr.specs.declared.seq.InstrSeq.{InstrSeq}
+use Rattle.walrus_walks.specs.walrus_instr.declared.seq.InstrSeq.{InstrSeq}
 use Rattle.walrus_builder.specs.Built.{Building, Seq}
 use Rattle.walrus_builder.proofs.BuiltLemmas.{edited_seqs, seq_seen}
 use Rattle.walrus_builder.proofs.seq_builder.InstrSeqBuilder.instrs_mut.Goals as goal

@@ -1,6 +1,6 @@
 use Rattle.std.proofs.Common.{rules}
-use Rattle.walrus_module_items.specs.declared.import.Import.{Import}
-use Rattle.walrus_module_items.specs.declared.import.ImportKind.TheVariants as kinds
+use Rattle.walrus_collections.specs.walrus_module_items.declared.import.Import.{Import}
+use Rattle.walrus_collections.specs.walrus_module_items.declared.import.ImportKind.TheVariants as kinds
 use Rattle.walrus_module.proofs.module.Module.add_import_func.Goals as goal
 
 pub returns-clause-import_ : goal.returns-clause-import_

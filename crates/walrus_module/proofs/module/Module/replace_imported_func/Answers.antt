@@ -1,7 +1,7 @@
 use Rattle.std.proofs.Common.{rules, refl, subst, ◌≡◌, ℕ, List}
 use Rattle.walrus_arena.specs.Arena.{with_item}
-use Rattle.walrus_module_items.specs.declared.function.Function.{Function}
-use Rattle.walrus_module_items.specs.declared.function.FunctionKind.TheVariants.{Local}
+use Rattle.walrus_collections.specs.walrus_module_items.declared.function.Function.{Function}
+use Rattle.walrus_collections.specs.walrus_module_items.declared.function.FunctionKind.TheVariants.{Local}
 use Rattle.walrus_module.specs.Replaced.{IsBuilt, params_at, results_at}
 use Rattle.walrus_module.proofs.ReplacedLemmas.{if_some}
 use Rattle.walrus_module.proofs.module.Module.replace_imported_func.Goals as goal

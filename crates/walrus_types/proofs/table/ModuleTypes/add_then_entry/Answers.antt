@@ -2,9 +2,9 @@ use Rattle.std.proofs.Common.{◌≡◌, ◌∙◌, ℕ, ◌+◌, false, List, [
 use Rattle.std.specs.Option.{option_map}
 use Rattle.std.proofs.lemmas.List.{length-map}
 use Rattle.walrus_forms.specs.Kinds.{Kind}
-use Rattle.walrus_items.specs.Items.{Group, group_of, item_of, kind_of}
-use Rattle.walrus_items.specs.declared.subtype.RecGroup.{RecGroup}
-use Rattle.walrus_items.specs.declared.subtype.Type.{«Type» as TypeItem}
+use Rattle.walrus_type_index.specs.walrus_items.Items.{Group, group_of, item_of, kind_of}
+use Rattle.walrus_type_index.specs.walrus_items.declared.subtype.RecGroup.{RecGroup}
+use Rattle.walrus_type_index.specs.walrus_items.declared.subtype.Type.{«Type» as TypeItem}
 use Rattle.walrus_type_index.specs.Places.{kinds_in}
 use Rattle.walrus_type_index.specs.Ordered.{IsOrdered}
 use Rattle.walrus_types.specs.Table.{Merges, next_id, table_of}

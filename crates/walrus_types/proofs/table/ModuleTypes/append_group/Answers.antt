@@ -1,8 +1,8 @@
 use Rattle.std.proofs.Common.{◌∙◌, ℕ, List, Option, map, arith, ap, sym, subst, length}
 use Rattle.std.specs.List.{range_with_len}
 use Rattle.std.proofs.lemmas.List.{length-map}
-use Rattle.walrus_items.specs.declared.subtype.Type.{«Type» as TypeItem}
-use Rattle.walrus_items.specs.Items.{Group, group_of}
+use Rattle.walrus_type_index.specs.walrus_items.declared.subtype.Type.{«Type» as TypeItem}
+use Rattle.walrus_type_index.specs.walrus_items.Items.{Group, group_of}
 use Rattle.walrus_type_index.specs.Places.{kinds_in}
 use Rattle.walrus_type_index.specs.Ordered.{IsOrdered}
 use Rattle.walrus_types.specs.Groups.{member_kind}

@@ -1,5 +1,5 @@
 use Rattle.std.proofs.Common.{◌∙◌, ℕ, List, find, ap}
-use Rattle.walrus_items.specs.Items.{Item, has_name}
+use Rattle.walrus_type_index.specs.walrus_items.Items.{Item, has_name}
 use Rattle.walrus_types.proofs.TableLemmas.{entries-seen}
 use Rattle.walrus_types.proofs.table.ModuleTypes.by_name.Goals as goal
 

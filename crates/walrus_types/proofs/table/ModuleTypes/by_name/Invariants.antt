@@ -1,6 +1,6 @@
 use Rattle.std.proofs.Common.{◌≡◌, ℕ, map, find}
-use Rattle.walrus_items.specs.declared.subtype.Type.{«Type» as TypeItem}
-use Rattle.walrus_items.specs.Items.{Item, item_of, has_name}
+use Rattle.walrus_type_index.specs.walrus_items.declared.subtype.Type.{«Type» as TypeItem}
+use Rattle.walrus_type_index.specs.walrus_items.Items.{Item, item_of, has_name}
 use Rattle.walrus_types.specs.Table.{entries}
 use Rattle.walrus_types.proofs.table.ModuleTypes.by_name.Given as goal
 

@@ -3,7 +3,7 @@ use Rattle.walrus_type_index.specs.Ordered.{IsOrdered}
 use Rattle.std.proofs.Common.{Option, subst, ℕ, List, map, ◌∙◌, ap, sym, slice_index}
 use Rattle.std.specs.Option.{option_map}
 use Rattle.std.proofs.lemmas.List.{set-set}
-use Rattle.walrus_items.specs.Items.{item_of}
+use Rattle.walrus_type_index.specs.walrus_items.Items.{item_of}
 use Rattle.walrus_types.specs.Table.{clear_all}
 use Rattle.walrus_types.proofs.DeleteLemmas.{live-inside, home-live, deletes-group, deletes-group-grouped}
 use Rattle.walrus_types.proofs.table.ModuleTypes.delete_entire_group.Goals as goal

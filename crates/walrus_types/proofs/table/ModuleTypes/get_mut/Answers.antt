@@ -1,7 +1,7 @@
 use Rattle.std.proofs.Common.{◌∙◌, ℕ, Option, Some, List, map, slice_set, ap, sym, subst, refl}
 use Rattle.std.specs.Option.{option_map}
 use Rattle.std.proofs.lemmas.List.{map-set}
-use Rattle.walrus_items.specs.Items.{Item, item_of, group_of}
+use Rattle.walrus_type_index.specs.walrus_items.Items.{Item, item_of, group_of}
 use Rattle.walrus_type_index.specs.Ordered.{IsOrdered}
 use Rattle.walrus_type_index.specs.Places.{kinds_in}
 use Rattle.walrus_types.specs.Table.{Table}

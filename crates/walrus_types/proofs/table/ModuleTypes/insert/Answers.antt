@@ -1,7 +1,7 @@
 use Rattle.std.proofs.Common.{◌≡◌, ◌∙◌, ℕ, List, [], ◌∷◌, ◌++◌, Some, Option, length, ap, sym, subst, false}
-use Rattle.walrus_items.specs.Items.{Group}
-use Rattle.walrus_items.specs.declared.subtype.RecGroup.{RecGroup}
-use Rattle.walrus_items.specs.declared.subtype.Type.{«Type» as TypeItem}
+use Rattle.walrus_type_index.specs.walrus_items.Items.{Group}
+use Rattle.walrus_type_index.specs.walrus_items.declared.subtype.RecGroup.{RecGroup}
+use Rattle.walrus_type_index.specs.walrus_items.declared.subtype.Type.{«Type» as TypeItem}
 use Rattle.walrus_type_index.specs.Places.{kinds_in}
 use Rattle.walrus_type_index.specs.Ordered.{IsOrdered}
 use Rattle.walrus_types.proofs.PairLemmas.{type-pushed}

@@ -1,7 +1,7 @@
 use Rattle.std.proofs.Common.{◌∙◌, ℕ, List, map, ap}
 use Rattle.walrus_arena.specs.Arena.{entries_from}
-use Rattle.walrus_items.specs.declared.subtype.RecGroup.{RecGroup}
-use Rattle.walrus_items.specs.Items.{Group, group_of}
+use Rattle.walrus_type_index.specs.walrus_items.declared.subtype.RecGroup.{RecGroup}
+use Rattle.walrus_type_index.specs.walrus_items.Items.{Group, group_of}
 use Rattle.walrus_types.specs.Table.{Table}
 use Rattle.walrus_types.proofs.LawLemmas.{grouped-law}
 use Rattle.walrus_types.proofs.TableLemmas.{items-seen}

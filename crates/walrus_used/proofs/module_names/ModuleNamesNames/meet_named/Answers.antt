@@ -1,5 +1,5 @@
 use Rattle.walrus_marks.specs.Marks.{lists_of}
-use Rattle.walrus_module.specs.Parts.{parts}
+use Rattle.walrus_references.specs.walrus_module.Parts.{parts}
 use Rattle.walrus_used.proofs.ModuleLemmas.{at_type}
 use Rattle.walrus_used.proofs.module_names.ModuleNamesNames.meet_named.Goals as goal
 

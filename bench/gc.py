@@ -1,0 +1,80 @@
+#!/usr/bin/env python3
+"""Times the dropping of what a module doesn't use, and prints the time an item at 10^4, 10^5 and 10^6 items.
+
+    bench/gc.py [--rounds N] [--instructions]
+
+A time is the least of the rounds, and sizes take turns. The last column is the time an item at the last size against that at the first: 1 is
+linear, and at most 1.5 is wanted. With --instructions valgrind counts the instructions of the whole program at 10^3, 10^4 and 10^5 items, with
+those that make the module, which no cache and no other work disturbs.
+"""
+import argparse
+import os
+import re
+import subprocess
+import sys
+
+ROOT = os.path.dirname(os.path.dirname(os.path.abspath(__file__)))
+CRATE = f"{ROOT}/crates/walrus_gc_bench"
+PROGRAM = f"{CRATE}/out/walrus_gc_bench"
+SIZES = (10**4, 10**5, 10**6)
+COUNTED = (10**3, 10**4, 10**5)
+SHAPES = ("chain", "cycle", "segments", "groups")
+KEPT = ("all", "half")
+
+
+def counts(shape, count, kept):
+    """What is to live: functions, types, data segments and element segments."""
+    share = 1 if kept == "all" else 2
+    if shape == "segments":
+        return 1, 1, -(-count // 2 // share), -(-count // 2 // share)
+    if shape == "groups":
+        return count // 2 // share, count // share, 0, 0
+    return count // share, 1, 0, 0
+
+
+def line(when, numbers):
+    return "{}: {} functions, {} types, {} data segments, {} element segments".format(when, *numbers)
+
+
+def run(shape, count, kept, *front):
+    said = subprocess.run([*front, PROGRAM, shape, str(count), kept], capture_output=True, text=True, check=True)
+    wanted = [line("before", counts(shape, count, "all")), line("after", counts(shape, count, kept))]
+    if said.stdout.splitlines() != wanted:
+        sys.exit(f"wrong counts: {said.stdout}")
+    return said.stderr
+
+
+def least(rounds, shape, kept):
+    """The least microseconds of the call at each size."""
+    return [min(times) for times in zip(*([int(run(shape, count, kept)) for count in SIZES] for _ in range(rounds)))]
+
+
+def instructions(shape, kept):
+    """The instructions of the whole program at each size."""
+    found = []
+    for count in COUNTED:
+        said = run(shape, count, kept, "valgrind", "--tool=callgrind", "--callgrind-out-file=/dev/null")
+        found.append(int(re.search(r"Collected : (\d+)", said).group(1)))
+    return found
+
+
+def main():
+    parser = argparse.ArgumentParser(description="Times the dropping of what a module doesn't use.")
+    parser.add_argument("--rounds", type=int, default=5)
+    parser.add_argument("--instructions", action="store_true")
+    asked = parser.parse_args()
+    print("building walrus_gc_bench", file=sys.stderr)
+    subprocess.run(["rt", "run", "--", "chain", "1", "all"], cwd=CRATE, check=True, stdout=subprocess.DEVNULL, stderr=subprocess.DEVNULL)
+    sizes = COUNTED if asked.instructions else SIZES
+    what = "Instructions" if asked.instructions else "Nanoseconds"
+    print(f"| {what} an item | Kept | " + " | ".join(f"{count:,}" for count in sizes) + " | Factor |")
+    print("|---" * (3 + len(sizes)) + "|")
+    for shape in SHAPES:
+        for kept in KEPT:
+            found = instructions(shape, kept) if asked.instructions else [took * 1000 for took in least(asked.rounds, shape, kept)]
+            each = [sum_ / count for sum_, count in zip(found, sizes)]
+            print(f"| {shape} | {kept} | " + " | ".join(f"{one:.1f}" for one in each) + f" | {each[-1] / each[0]:.2f} |", flush=True)
+
+
+if __name__ == "__main__":
+    main()

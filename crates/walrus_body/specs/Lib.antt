@@ -1,0 +1,55 @@
+-- The words of contracts, passed on under one name: a crate above lists the face alone, and names them here.
+-- Index maps.
+pub use Rattle.walrus_index_maps.specs.Maps
+pub use Rattle.walrus_index_maps.specs.Views
+-- Operators, their immediates and their bytes.
+pub use Rattle.wasm_operators.specs.Kinds as OperatorKinds
+pub use Rattle.wasm_operators.specs.Operators as OperatorTable
+pub use Rattle.wasm_operators.specs.Table
+pub use Rattle.wasm_immediates.specs.Items
+pub use Rattle.wasm_operator_bytes.specs.Bytes as OperatorBytes
+pub use Rattle.wasm_operator_names.specs.Names as OperatorNames
+pub use Rattle.walrus_operators.specs.Copies as OperatorCopies
+pub use Rattle.walrus_operators.specs.Immediates
+pub use Rattle.walrus_operators.specs.Operators
+pub use Rattle.walrus_operator_writer.specs.Appended
+-- Operators and instructions.
+pub use Rattle.walrus_pairing.specs.Looks
+pub use Rattle.walrus_pairing.specs.Read as PairedInstructions
+pub use Rattle.walrus_pairing.specs.Write as PairedOperators
+-- What a body is read beside, its grammar and its normal form.
+pub use Rattle.walrus_body_env.specs.Faults
+pub use Rattle.wasm_body_grammar.specs.Bodies
+pub use Rattle.wasm_body_grammar.specs.Frames as GrammarFrames
+pub use Rattle.wasm_body_grammar.specs.Rules
+pub use Rattle.wasm_normal_form.specs.Bodies as NormalBodies
+pub use Rattle.wasm_normal_form.specs.Locals as NormalLocals
+pub use Rattle.wasm_normal_form.specs.Normal
+pub use Rattle.wasm_normal_form.specs.Places
+pub use Rattle.wasm_normal_form.specs.Roles
+pub use Rattle.wasm_normal_form.specs.Trees as OperatorTrees
+-- Functions with a body that are read.
+pub use Rattle.walrus_local_function.specs.walrus_body_locals.Locals as DeclaredLocals
+pub use Rattle.walrus_local_function.specs.walrus_body_locals.Told
+pub use Rattle.walrus_body_steps.specs.walrus_body_nesting.Stands
+pub use Rattle.walrus_body_rules.specs.Sights
+pub use Rattle.walrus_body_steps.specs.Meanings
+pub use Rattle.walrus_local_function.specs.walrus_function_parser.Parsed
+-- Open frames.
+pub use Rattle.walrus_body_frames.specs.Frames
+-- Functions with a body: what they name, and what is written of them.
+pub use Rattle.walrus_local_function.specs.Locals as FunctionLends
+pub use Rattle.walrus_body_names.specs.Names
+pub use Rattle.walrus_body_writer.specs.Emitting
+pub use Rattle.walrus_body_writer.specs.Outputs
+pub use Rattle.walrus_body_writer.specs.Refusals
+pub use Rattle.walrus_body_writer.specs.Spelled
+pub use Rattle.walrus_body_writer.specs.Visiting
+pub use Rattle.walrus_local_numbers.specs.Declared
+pub use Rattle.walrus_local_numbers.specs.Written
+-- Runs.
+pub use Rattle.wasm_runs.specs.Machine
+pub use Rattle.wasm_runs.specs.Modules as RunModules
+pub use Rattle.wasm_runs.specs.Outcomes
+pub use Rattle.wasm_runs.specs.Programs
+pub use Rattle.wasm_runs.specs.Traces

@@ -1,0 +1,48 @@
+//! Bodies of WebAssembly functions: index maps, operators, the open frames of a body that is read, functions with a body and what is
+//! written of them, and why a body is refused.
+#![tactic(auto)]
+
+pub use walrus_body_env::{AcceptAll, BodyEnv, BodyError, Validator};
+pub use walrus_body_frames::{BlockKind, ControlFrame, IfElseState, ValidationContext};
+pub use walrus_body_names::FunctionFacts;
+pub use walrus_body_writer::Output;
+pub use walrus_index_maps::{IdsToIndices, IndicesToIds, UnknownIndex};
+pub use walrus_local_function::LocalFunction;
+pub use walrus_operator_writer::write_operator;
+pub use walrus_operators::{Immediates, Operator, OperatorError, OperatorReader};
+pub use wasm_formats::{Form, Limited, Space};
+pub use wasm_immediates::{BlockType, Clause, MemoryAccess};
+pub use wasm_operators::{Flow, OpCode};
+
+/// Laws of the words that contracts cite.
+pub mod laws {
+    /// Operators: their table, what they spell, what each names, and the instruction that each is paired with.
+    pub mod operators {
+        pub use walrus_operator_laws::laws as instructions;
+        pub use walrus_operator_writer::laws as writing;
+        pub use walrus_operators::laws as reading;
+        pub use walrus_pairing_laws::laws as pairing;
+        pub use wasm_immediates::laws as immediates;
+        pub use wasm_operator_bytes::laws as bytes;
+        pub use wasm_operator_names::laws as names;
+        pub use wasm_operators::laws as table;
+    }
+
+    /// Bodies: their grammar, their normal form, what each operator of a body that is read asks and does, and what is written.
+    pub mod bodies {
+        pub use walrus_body_laws::laws as writing;
+        pub use walrus_body_operands::laws as operands;
+        pub use walrus_body_rules::laws as rules;
+        pub use walrus_body_steps::laws as steps;
+        pub use walrus_local_numbers::laws as locals;
+        pub use wasm_body_grammar::laws as grammar;
+        pub use wasm_normal_form::laws as normal_form;
+    }
+
+    /// Runs: that a body and its normal form have equal traces.
+    pub mod runs {
+        pub use wasm_run_laws::laws as normal_forms;
+        pub use wasm_run_names::laws as names;
+        pub use wasm_runs::laws as machine;
+    }
+}

@@ -1,0 +1,7 @@
+mod Counted
+mod Instrs
+mod Standing
+mod Shapes
+mod Words
+mod Texts
+mod Bodies

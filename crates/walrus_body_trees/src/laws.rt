@@ -1,0 +1,21 @@
+//! Laws: functions with nothing to do, whose contracts hold of all bodies that are read.
+ghost use Rattle.walrus_body_trees.specs.Laws.{BodiesAreTrees, BodiesMeanTheirs};
+
+/// The sequences that stand for the normal form of a body that meets the grammar form a tree, in which each label names a sequence around it.
+pub fn bodies_are_trees()
+    ensures { BodiesAreTrees }
+{
+    walrus_operator_laws::laws::operators_come_back();
+    wasm_operator_ranges::laws::operators_in_range_are_spelled();
+}
+
+/// Such a body means that normal form: each operator of its text is the normal form's, with each index renamed to the id that it names, at
+/// the place that it carries.
+pub fn bodies_mean_their_normal_form()
+    ensures { BodiesMeanTheirs }
+{
+    walrus_operator_laws::laws::operators_come_back();
+    wasm_operator_ranges::laws::operators_in_range_are_spelled();
+    walrus_tree::laws::trees_are_nested();
+    walrus_tree::laws::text_is_plain();
+}

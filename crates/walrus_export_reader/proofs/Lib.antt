@@ -1,0 +1,3 @@
+mod Listed
+mod Sorted
+mod Judged

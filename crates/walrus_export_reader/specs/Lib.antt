@@ -1,0 +1,4 @@
+pub mod Repeats
+pub mod Keys
+pub mod Candidates
+pub mod Verdicts

@@ -1,0 +1,4 @@
+mod DataLemmas
+mod PutLemmas
+mod EntryLemmas
+mod FileLemmas

@@ -1,0 +1,30 @@
+-- Sections that are put into the state as they are read.
+use Rattle.std.specs.Prelude.{ℕ, ◌-◌, List, length, Ok}
+use Rattle.wasm_features.specs.declared.WasmFeatures.{WasmFeatures}
+use Rattle.wasm_formats.specs.Stops.{Parsing, ◌>>=◌}
+use Rattle.wasm_formats.specs.Joined.{checked}
+use Rattle.wasm_formats.specs.Wholes.{u32, whole, sized}
+use Rattle.wasm_grammar.specs.States.{State}
+use Rattle.wasm_sections.specs.Sections.{code, custom, add_custom, section, section_entry, data_test, put, next, set_bodies}
+use Rattle.wasm_sections.specs.Segments.{data_entry, add_data}
+use Rattle.walrus_section_reader.specs.Steps.{stepped, step_of, entries_by}
+
+-- the code section, whose contents end so many bytes before this offset as are left
+abbrev pub code_put : ℕ → State → List ℕ → Parsing State
+code_put end s bytes = (sized (whole (code s))).parse bytes >>= λ x. Ok (set_bodies s (end - length x.1) x.0, x.1)
+
+-- a custom section
+abbrev pub custom_put : State → List ℕ → Parsing State
+custom_put s bytes = stepped (sized custom) (add_custom s) bytes
+
+-- a count that agrees with the data count, and that many data segments
+abbrev pub data_put : WasmFeatures → State → List ℕ → Parsing State
+data_put features s bytes = (checked u32 (data_test s.data_count)).parse bytes >>= λ n. entries_by (step_of add_data (data_entry features)) n.0 s n.1
+
+-- a section behind its id
+abbrev pub section_put : WasmFeatures → ℕ → State → ℕ → List ℕ → Parsing State
+section_put features end s id bytes = (section features s id).parse bytes >>= λ x. Ok (put s (end - length x.1) x.0, x.1)
+
+-- a section with its id
+abbrev pub section_step : WasmFeatures → State → List ℕ → Parsing State
+section_step features s bytes = step_of next (section_entry features) s bytes

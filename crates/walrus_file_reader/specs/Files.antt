@@ -1,0 +1,36 @@
+-- A file from its first byte to its last, in words of the grammar.
+use Rattle.std.specs.Prelude.{ℕ, ◌+◌, ◌≡◌, ◌⊎◌, ◌&&◌, List, length, Result}
+use Rattle.wasm_features.specs.declared.WasmFeatures.{WasmFeatures}
+use Rattle.wasm_formats.specs.Stops.{Count, Stop, ◌>>=◌}
+use Rattle.wasm_formats.specs.Files.{ended_at}
+use Rattle.wasm_grammar.specs.States.{State}
+use Rattle.wasm_sections.specs.Laws.{StopsSections}
+use Rattle.wasm_sections.specs.Modules.{header, has_bodies, has_data}
+use Rattle.walrus_errors.specs.declared.error.ModuleError.{ModuleError}
+use Rattle.walrus_section_reader.specs.declared.fault.Fault.{Fault}
+use Rattle.walrus_section_reader.specs.Faults.{trouble_of, error_of, IsMemory}
+use Rattle.walrus_section_reader.specs.Steps.{all_by}
+use Rattle.walrus_file_reader.specs.Contents.{section_step}
+
+-- sections to the last byte
+abbrev pub rounds : WasmFeatures → State → List ℕ → Result State Stop
+rounds features s bytes = all_by (section_step features) (length bytes) s bytes
+
+-- and what is missing there
+abbrev pub with_all : State → Result State Stop
+with_all s = ended_at Count (has_bodies s && has_data s) s
+
+abbrev pub sections_to_end : WasmFeatures → State → List ℕ → Result State Stop
+sections_to_end features s bytes = rounds features s bytes >>= with_all
+
+-- behind the header
+abbrev pub file_steps : WasmFeatures → State → List ℕ → Result State Stop
+file_steps features s bytes = header.parse bytes >>= λ h. sections_to_end features s h.1
+
+-- the file stops there with this fault
+abbrev pub FaultOf : WasmFeatures → List ℕ → Fault → Type 0
+FaultOf features bytes fault = (e : Stop) × StopsSections features bytes e × (trouble_of fault.kind ≡ e.trouble) × (fault.offset + e.left ≡ length bytes)
+
+-- the first fault of the file at its place, or want of memory
+abbrev pub IsRefused : WasmFeatures → List ℕ → ModuleError → Type 0
+IsRefused features bytes error = (fault : Fault) × (error_of fault ≡ error) × (FaultOf features bytes fault ⊎ IsMemory fault)

@@ -1,0 +1,65 @@
+//! Whole bodies.
+
+ghost use Rattle.std.specs.Prelude.{◌≡◌, ◌⊎◌, ◌<◌, ◌≤◌, ◌+◌, None, IfOk, IfErr};
+ghost use Rattle.wasm_reader.specs.Cursor.{end_of};
+ghost use Rattle.walrus_builder.specs.Built.{contents};
+ghost use Rattle.walrus_index_maps.specs.Views.{ids};
+ghost use Rattle.walrus_body_locals.specs.walrus_body_env.declared.error.BodyError.TheVariants.{Memory as WantsMemory};
+ghost use Rattle.walrus_body_locals.specs.Locals.{Leaves};
+ghost use Rattle.walrus_function_parser.specs.Parsed.{IsCause, Parses, Refuses, sight_of, telling};
+
+use std::alloc::Global;
+use walrus_arena::{FunctionId, TypeId};
+use walrus_body_locals::body_env::{BodyEnv, BodyError, Validator};
+use walrus_body_locals::read_locals;
+use walrus_body_parser::body_operands::Operands;
+use walrus_body_parser::read_tree;
+use walrus_builder::FunctionBuilder;
+use walrus_index_maps::IndicesToIds;
+use walrus_instr::InstrSeqType;
+use walrus_types::ModuleLocals;
+use wasm_reader::BinaryReader;
+
+/// Reads the body of a function of this type and of so many parameters, which its first indices of locals name; its own block has the
+/// type `entry`. The locals that it declares are added to the module, and the next indices of the function name them. Its tree is in
+/// normal form, each location is the operator's place from the beginning of the code section's contents, in bytes. The validator is told
+/// of each run of locals and of each operator that was read, and of the end.
+///
+/// Asks for bytes that begin behind the beginning of the code section's contents, and end less than 4294967295 behind it.
+///
+/// # Errors
+///
+/// The first that is due, from left to right: where the bytes spell no body (Core Specification, binary format: code section), where a
+/// rule for bodies is broken, also in code that is dropped, or as the validator refuses; `TypeForm` where the environment has no type
+/// for a handler that is reached; want of memory. Locals that were added stay.
+pub fn parse_function<E: BodyEnv, V: Validator>(
+    alloc: Global,
+    env: &E,
+    indices: &mut IndicesToIds,
+    locals: &mut ModuleLocals,
+    function: FunctionId,
+    ty: TypeId,
+    entry: InstrSeqType,
+    params: usize,
+    mut body: BinaryReader<'_>,
+    validator: &mut V,
+) -> Result<FunctionBuilder, BodyError>
+    requires begins { E.code_start env.now ≤ body.window.start + body.position }
+    requires ends { end_of body < E.code_start env.now + 4294967295 }
+    ensures parsed { IfOk result (λ f. Parses (sight_of E.type_params E.type_results E.block_type E.handler_type E.tag_type E.is_wide E.has_data_count env.now function (ids indices.old)) (telling V.locals_step V.op_step V.finish_step) params (E.code_start env.now) body.entry entry locals.old locals.new (ids indices.new) validator.old validator.new (contents f.builder)) }
+    ensures ty { IfOk result (λ f. f.ty ≡ ty) }
+    ensures name { IfOk result (λ f. f.name ≡ None) }
+    ensures refused { IfErr result (λ e. (e ≡ WantsMemory) ⊎ Refuses (sight_of E.type_params E.type_results E.block_type E.handler_type E.tag_type E.is_wide E.has_data_count env.now function (ids indices.old)) (telling V.locals_step V.op_step V.finish_step) params (E.code_start env.now) body.entry locals.old locals.new (ids indices.new) validator.old e) }
+    ensures stops { IfErr result (λ e. (e ≡ WantsMemory) ⊎ IsCause (sight_of E.type_params E.type_results E.block_type E.handler_type E.tag_type E.is_wide E.has_data_count env.now function (ids indices.old)) (telling V.locals_step V.op_step V.finish_step) params (E.code_start env.now) body.entry (ids indices.new) e) }
+    ensures kept { Leaves function locals.old locals.new (ids indices.old) (ids indices.new) }
+{
+    let code_start = env.code_start();
+    let start = body.original_position();
+    prove!(code_start <= start);
+    read_locals(
+        alloc, &mut body, indices, locals, function, params, validator,
+    )?;
+    let builder = FunctionBuilder::with_types(alloc, ty, entry)?;
+    let scope = Operands::new(env, &*indices, function);
+    read_tree(&scope, alloc, body, builder, validator, code_start)
+}

@@ -1,0 +1,3 @@
+pub mod Numbered
+pub mod Counted
+pub mod Same

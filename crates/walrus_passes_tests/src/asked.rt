@@ -1,0 +1,130 @@
+//! Custom sections are asked for what they keep.
+ghost use Rattle.std.specs.Prelude.{[], ◌∷◌, Some, None, if◌then◌else◌};
+ghost use Rattle.wasm_formats.specs.declared.fault.Space.TheVariants as spaces;
+ghost use Rattle.walrus_roots.specs.Items.{item};
+
+use crate::modules::{Step, leave};
+use std::alloc::{AllocError, Global};
+use std::test::Fail;
+use walrus_arena::FunctionId;
+use walrus_index_maps::IdsToIndices;
+use walrus_module::Module;
+use walrus_passes::Used;
+use walrus_roots::Roots;
+use walrus_sections::{CodeTransform, CustomSection, SectionFault};
+
+// A section that keeps a function, or refuses.
+#[derive(Drop)]
+struct Keeper {
+    function: FunctionId,
+    refuses: bool,
+}
+
+impl CustomSection for Keeper {
+    ghost own_name = { λ _. 0x6b ∷ [] };
+
+    ghost contents = { λ _ _. None };
+
+    ghost gc_roots = { λ s. if s.refuses then None else Some (item spaces.Function s.function ∷ []) };
+
+    fn name(&self) -> &str {
+        "k"
+    }
+
+    fn data(
+        &self,
+        _alloc: Global,
+        _ids_to_indices: &IdsToIndices,
+    ) -> Result<Vec<u8>, SectionFault> {
+        Err(SectionFault::Refused)
+    }
+
+    fn add_gc_roots(&self, roots: &mut Roots) -> Result<(), SectionFault> {
+        if self.refuses {
+            return Err(SectionFault::Refused);
+        }
+        roots.push_func(self.function)?;
+        Ok(())
+    }
+
+    fn apply_code_transform(&mut self, _transform: &CodeTransform) {}
+}
+
+/// Adds a section that keeps this function.
+pub(crate) fn keep(
+    alloc: Global,
+    module: &mut Module,
+    function: FunctionId,
+    refuses: bool,
+) -> Result<(), AllocError> {
+    module
+        .customs
+        .add(Box::new(alloc, Keeper { function, refuses })?)?;
+    Ok(())
+}
+
+/// Whether the function is used.
+pub(crate) fn uses(alloc: Global, module: &Module, function: FunctionId) -> bool {
+    match Used::new(alloc, module) {
+        Ok(used) => used.funcs.contains(&function),
+        Err(_) => false,
+    }
+}
+
+// Of two functions the second is exported; with a section that keeps the first both are used.
+#[test]
+fn what_a_section_keeps_is_used(rt: HostRuntime) -> Result<(), Fail> {
+    let steps = [
+        Step::Function,
+        Step::Function,
+        Step::ExportFunction(1),
+        Step::Used(1),
+        Step::Unused(0),
+        Step::Keep(0),
+        Step::Used(1),
+        Step::Used(0),
+    ];
+    assert!(rt; leave(rt.alloc(), &steps, [1, 2, 0, 0, 0])?);
+    Ok(())
+}
+
+#[test]
+fn what_a_section_keeps_stays(rt: HostRuntime) -> Result<(), Fail> {
+    let steps = [
+        Step::Function,
+        Step::Function,
+        Step::Keep(0),
+        Step::Gc(0),
+        Step::Keep(0),
+        Step::Gc(0),
+    ];
+    assert!(rt; leave(rt.alloc(), &steps, [1, 1, 0, 0, 0])?);
+    Ok(())
+}
+
+#[test]
+fn what_no_section_keeps_goes(rt: HostRuntime) -> Result<(), Fail> {
+    let steps = [
+        Step::Function,
+        Step::Keep(0),
+        Step::Gc(0),
+        Step::DeleteSection(0),
+        Step::Gc(0),
+    ];
+    assert!(rt; leave(rt.alloc(), &steps, [0, 0, 0, 0, 0])?);
+    Ok(())
+}
+
+// A section that refuses is told before an item that isn't linked.
+#[test]
+fn a_section_refuses_first(rt: HostRuntime) -> Result<(), Fail> {
+    let steps = [
+        Step::Function,
+        Step::ExportFunction(0),
+        Step::Uninitialize(0),
+        Step::Refuse,
+        Step::Gc(7),
+    ];
+    assert!(rt; leave(rt.alloc(), &steps, [1, 1, 0, 0, 0])?);
+    Ok(())
+}

@@ -1,0 +1,7 @@
+//! Tests of names and producers that are read of a file: payloads, whole and with faults, and each call with ample memory.
+#![tactic(auto)]
+
+#[cfg(test)]
+mod names;
+#[cfg(test)]
+mod producers;

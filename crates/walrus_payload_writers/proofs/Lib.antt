@@ -1,0 +1,4 @@
+pub mod Numbers
+pub mod Lemmas
+pub mod Lists
+pub mod Sections

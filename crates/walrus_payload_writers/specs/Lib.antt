@@ -1,0 +1,4 @@
+pub mod Writes
+pub mod Names
+pub mod Producers
+pub mod Sections

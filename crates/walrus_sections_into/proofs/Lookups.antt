@@ -1,0 +1,7 @@
+-- What a look-up answers.
+use Rattle.std.specs.Prelude.{◌≡◌, Option, Some, None, Ok}
+use Rattle.std.specs.Option.{ok_or}
+
+pub found : {A E : Type 0} (o : Option A) (e : E) (x : A) → ok_or o e ≡ Ok x → o ≡ Some x
+found (Some y) e x same = cc
+found None e x same = absurd cc

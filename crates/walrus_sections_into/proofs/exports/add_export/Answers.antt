@@ -1,0 +1,14 @@
+use Rattle.std.proofs.Common.{sym, ◌∙◌, subst}
+use Rattle.walrus_index_maps.specs.Views.{ids}
+use Rattle.walrus_sections_into.specs.Becomes.{look_of}
+use Rattle.walrus_sections_into.specs.Exports.{ItemBecomes}
+use Rattle.walrus_sections_into.proofs.exports.add_export.Goals as goal
+
+pub returns : goal.returns
+returns c =
+    let all = c.in_ok-add.ensures.added in
+    let it = all.2 in (
+      it.0,
+      record { name = it.1.name_is; item = subst (ItemBecomes (look_of (ids c.args.maps.now)) c.args.export.now.space c.args.export.now.index) (sym (it.1.item_is ∙ all.1)) c.in_ok-item.ensures },
+      it.2,
+    )

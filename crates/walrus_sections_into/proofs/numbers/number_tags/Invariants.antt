@@ -1,0 +1,7 @@
+use Rattle.std.proofs.Common.{◌≡◌, ◌++◌}
+use Rattle.walrus_index_maps.specs.Views.{ids}
+use Rattle.walrus_sections_into.specs.Numbers.{upto}
+use Rattle.walrus_sections_into.proofs.numbers.number_tags.Given as goal
+
+abbrev pub invariant-loop-number : goal.invariant-loop-number
+invariant-loop-number l = ids l.maps ≡ record (ids l.fn.maps) { tags = (ids l.fn.maps).tags ++ upto l.number }

@@ -1,0 +1,11 @@
+use Rattle.walrus_index_maps.specs.Views.{ids}
+use Rattle.walrus_sections_into.specs.Becomes.{look_of}
+use Rattle.walrus_sections_into.specs.Slots.{filled_on}
+use Rattle.walrus_sections_into.specs.Segments.{IsSegmentOf}
+use Rattle.walrus_sections_into.proofs.segments.add_segments.Goals as goal
+
+pub loop-segment-preserved : goal.loop-segment-preserved
+loop-segment-preserved c =
+    let it = c.in_ok-add_segment.ensures in
+    filled_on (IsSegmentOf (look_of (ids c.args.maps.now))) c.args.segments.now c.loop-segment.segment-index _ c.segment-item.result c.args.into.now.slots c.loop-segment.into.slots c.add_segment.new.into.slots it.0
+    c.segment-item.is c.loop-segment-test.true c.loop-segment.invariant it.1 it.2

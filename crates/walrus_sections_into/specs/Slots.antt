@@ -1,0 +1,60 @@
+-- Slots of a module that are filled with what was read of a file.
+use Rattle.std.specs.Prelude.{ℕ, zero, suc, ◌+◌, ◌≡◌, ◌<◌, List, [], ◌∷◌, ◌++◌, length, take, map, Option, Some, None, slice_index_or, refl}
+use Rattle.std.specs.Option.{option_map}
+use Rattle.std.proofs.Common.{ap, sym, ◌∙◌, subst, arith}
+use Rattle.std.proofs.lemmas.List.{append_assoc, append-nil}
+use Rattle.walrus_module_items.specs.declared.memory.Memory.{Memory}
+use Rattle.walrus_known_sections.specs.declared.items.Memory.{Memory as ReadMemory}
+use Rattle.walrus_known_sections.specs.Items.{memory_of}
+use Rattle.walrus_meaning.specs.Meaning.{own_memory}
+
+module _ {X Y : Type 0} (R : X → Y → Type 0) where
+  -- as many filled slots, each with what an item became
+  abbrev pub Become : List X → List (Option Y) → Type 0
+  Become [] [] = Unit {0}
+  Become (x ∷ xs) (Some y ∷ ys) = R x y × Become xs ys
+  Become _ _ = ⊥
+
+  -- they stand behind the slots that were there
+  pub record Filled (xs : List X) (old new : List (Option Y)) : Type 0 where
+    pub more : List (Option Y)
+    pub behind : new ≡ old ++ more
+    pub become : Become xs more
+
+  -- Lemmas
+  pub filled_none : (old : List (Option Y)) → Filled [] old old
+  filled_none old = record { more = []; behind = sym (append-nil old); become = tt }
+
+  become_on : (xs : List X) (i : ℕ) (other : X) (ys : List (Option Y)) (y : Y) → i < length xs → Become (take i xs) ys → R (slice_index_or xs i other) y → Become (take (suc i) xs) (ys ++ Some y ∷ [])
+  become_on [] i other ys y lt so h = absurd (omega (arith, lt))
+  become_on (x ∷ xs) zero other [] y lt so h = (h, tt)
+  become_on (x ∷ xs) zero other (Some z ∷ ys) y lt so h = absurd so
+  become_on (x ∷ xs) zero other (None ∷ ys) y lt so h = absurd so
+  become_on (x ∷ xs) (suc i) other [] y lt so h = absurd so
+  become_on (x ∷ xs) (suc i) other (None ∷ ys) y lt so h = absurd so
+  become_on (x ∷ xs) (suc i) other (Some z ∷ ys) y lt so h = (so.0, become_on xs i other ys y (omega (arith, lt)) so.1 h)
+
+  pub filled_on : (xs : List X) (i : ℕ) (other now : X) (old mid new : List (Option Y)) (y : Y) → now ≡ slice_index_or xs i other → i < length xs → Filled (take i xs) old mid
+      → R now y → new ≡ mid ++ Some y ∷ [] → Filled (take (i + 1) xs) old new
+  filled_on xs i other now old mid new y is lt so h same =
+      let one : i + 1 ≡ suc i = omega arith in record {
+        more = so.more ++ Some y ∷ [];
+        behind = same ∙ ap (λ (l : List (Option Y)). l ++ Some y ∷ []) so.behind ∙ append_assoc old so.more (Some y ∷ []);
+        become = rw one (become_on xs i other so.more y lt so.become (subst (λ (x : X). R x y) is h));
+      }
+
+  -- what fills the slots is seen as what was read is
+  pub filled_seen : {Z : Type 0} (read : X → Z) (see : Y → Z) → ((x : X) (y : Y) → R x y → see y ≡ read x) → (xs : List X) (ys : List (Option Y)) → Become xs ys
+      → map (option_map see) ys ≡ map (λ x. Some (read x)) xs
+  filled_seen read see same [] [] h = refl
+  filled_seen read see same [] (y ∷ ys) h = absurd h
+  filled_seen read see same (x ∷ xs) [] h = absurd h
+  filled_seen read see same (x ∷ xs) (None ∷ ys) h = absurd h
+  filled_seen {Z} read see same (x ∷ xs) (Some y ∷ ys) h =
+      ap (λ (z : Z). Some z ∷ map (option_map see) ys) (same x y h.0) ∙ ap (λ (l : List (Option Z)). Some (read x) ∷ l) (filled_seen read see same xs ys h.1)
+
+-- ---- the spaces
+
+-- the memory means what was read of it
+abbrev pub IsMemoryOf : ReadMemory → Memory → Type 0
+IsMemoryOf m y = own_memory y ≡ memory_of m

@@ -1,0 +1,96 @@
+//! Ids of what is named by number: a collection that is filled in the order of a file gives each item its number as its id.
+
+ghost use Rattle.std.specs.Prelude.{◌≡◌, IfOk, Some};
+ghost use Rattle.wasm_immediates.specs.Items.{Functions, Globals, Memories, Tables, Tags, Types};
+ghost use Rattle.walrus_index_maps.specs.Views.{ids};
+ghost use Rattle.walrus_sections_into.specs.Becomes.{look_of};
+
+use crate::error::IntoError;
+use walrus_arena::{FunctionId, GlobalId, ImportId, MemoryId, TableId, TagId, TypeId};
+use walrus_index_maps::IndicesToIds;
+
+/// The import of this number. 2^32 of them can't be held.
+pub fn import_id(number: usize) -> Result<ImportId, IntoError>
+    ensures { IfOk result (λ id. id ≡ number) }
+{
+    if number > u32::MAX as usize {
+        return Err(IntoError::Memory);
+    }
+    Ok(ImportId::from_index(number))
+}
+
+/// The memory of this number.
+#[tactic(auto, using(crate::proofs::Lookups::found))]
+pub fn memory_id(number: u32, maps: &IndicesToIds) -> Result<MemoryId, IntoError>
+    ensures { IfOk result (λ id. look_of (ids maps.now) Memories number ≡ Some id) }
+{
+    match maps.get_memory(number) {
+        Ok(id) => Ok(id),
+        Err(_) => Err(IntoError::Unknown),
+    }
+}
+
+/// The function of this number.
+#[tactic(auto, using(crate::proofs::Lookups::found))]
+pub fn function_id(number: u32, maps: &IndicesToIds) -> Result<FunctionId, IntoError>
+    ensures { IfOk result (λ id. look_of (ids maps.now) Functions number ≡ Some id) }
+{
+    match maps.get_func(number) {
+        Ok(id) => Ok(id),
+        Err(_) => Err(IntoError::Unknown),
+    }
+}
+
+/// The table of this number.
+#[tactic(auto, using(crate::proofs::Lookups::found))]
+pub fn table_id(number: u32, maps: &IndicesToIds) -> Result<TableId, IntoError>
+    ensures { IfOk result (λ id. look_of (ids maps.now) Tables number ≡ Some id) }
+{
+    match maps.get_table(number) {
+        Ok(id) => Ok(id),
+        Err(_) => Err(IntoError::Unknown),
+    }
+}
+
+/// The global of this number.
+#[tactic(auto, using(crate::proofs::Lookups::found))]
+pub fn global_id(number: u32, maps: &IndicesToIds) -> Result<GlobalId, IntoError>
+    ensures { IfOk result (λ id. look_of (ids maps.now) Globals number ≡ Some id) }
+{
+    match maps.get_global(number) {
+        Ok(id) => Ok(id),
+        Err(_) => Err(IntoError::Unknown),
+    }
+}
+
+/// The tag of this number.
+#[tactic(auto, using(crate::proofs::Lookups::found))]
+pub fn tag_id(number: u32, maps: &IndicesToIds) -> Result<TagId, IntoError>
+    ensures { IfOk result (λ id. look_of (ids maps.now) Tags number ≡ Some id) }
+{
+    match maps.get_tag(number) {
+        Ok(id) => Ok(id),
+        Err(_) => Err(IntoError::Unknown),
+    }
+}
+
+/// The type of this number.
+#[tactic(auto, using(crate::proofs::Lookups::found))]
+pub fn type_id(number: u32, maps: &IndicesToIds) -> Result<TypeId, IntoError>
+    ensures { IfOk result (λ id. look_of (ids maps.now) Types number ≡ Some id) }
+{
+    match maps.get_type(number) {
+        Ok(id) => Ok(id),
+        Err(_) => Err(IntoError::Unknown),
+    }
+}
+
+/// A number of 32 bits. No greater one names anything.
+pub fn small(number: usize) -> Result<u32, IntoError>
+    ensures { IfOk result (λ n. n ≡ number) }
+{
+    if number > u32::MAX as usize {
+        return Err(IntoError::Unknown);
+    }
+    Ok(number as u32)
+}

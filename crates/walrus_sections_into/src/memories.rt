@@ -1,0 +1,53 @@
+//! Memories.
+
+ghost use Rattle.std.specs.Prelude.{◌≡◌, OnOk};
+ghost use Rattle.walrus_known_sections.specs.Items.{memory_of};
+ghost use Rattle.walrus_collections.specs.Added.{Adds};
+ghost use Rattle.walrus_meaning.specs.Meaning.{own_memory};
+ghost use Rattle.walrus_sections_into.specs.Slots.{Filled, IsMemoryOf};
+
+use crate::error::IntoError;
+use crate::ids::import_id;
+use walrus_collections::ModuleMemories;
+use walrus_known_sections::Memory;
+
+fn add_memory(memory: &Memory, into: &mut ModuleMemories) -> Result<(), IntoError>
+    ensures { OnOk result (Adds (IsMemoryOf memory.now) into.old into.new) }
+{
+    let limits = memory.ty.limits;
+    let shared = limits.is_shared();
+    let wide = limits.is_wide();
+    let page_size = memory.ty.page_size_log2;
+    match memory.import {
+        Some(import) => {
+            let import = import_id(import)?;
+            into.add_import(
+                shared,
+                wide,
+                limits.minimum,
+                limits.maximum,
+                page_size,
+                import,
+            )?;
+            Ok(())
+        }
+        None => {
+            into.add_local(shared, wide, limits.minimum, limits.maximum, page_size)?;
+            Ok(())
+        }
+    }
+}
+
+/// Adds the memories, imported ones too, in their order.
+///
+/// # Errors
+///
+/// Want of memory.
+pub fn add_memories(memories: &[Memory], into: &mut ModuleMemories) -> Result<(), IntoError>
+    ensures { OnOk result (Filled IsMemoryOf memories.now into.old.slots into.new.slots) }
+{
+    for memory in memories {
+        add_memory(memory, into)?;
+    }
+    Ok(())
+}

@@ -1,0 +1,73 @@
+//! Data segments.
+
+ghost use Rattle.std.specs.Prelude.{◌≡◌, IfOk, OnOk};
+ghost use Rattle.walrus_collections.specs.Added.{Adds};
+ghost use Rattle.walrus_index_maps.specs.Views.{ids};
+ghost use Rattle.walrus_sections_into.specs.Becomes.{look_of};
+ghost use Rattle.walrus_sections_into.specs.Slots.{Filled};
+ghost use Rattle.walrus_sections_into.specs.Segments.{IsSegmentOf, ModeBecomes};
+
+use crate::error::IntoError;
+use crate::exprs::read_expr;
+use crate::ids::memory_id;
+use std::alloc::Global;
+use walrus_collections::ModuleData;
+use walrus_index_maps::IndicesToIds;
+use walrus_known_sections::{Data, Mode};
+use walrus_module_items::DataKind;
+
+// When it is copied.
+fn read_mode(alloc: Global, mode: &Mode, maps: &IndicesToIds) -> Result<DataKind, IntoError>
+    ensures { IfOk result (ModeBecomes (look_of (ids maps.now)) mode.now) }
+{
+    match mode {
+        Mode::Passive => Ok(DataKind::Passive),
+        Mode::Declared => Err(IntoError::Unknown),
+        Mode::Active(memory, offset) => {
+            let memory = memory_id(*memory, maps)?;
+            let offset = read_expr(alloc, offset.as_slice(), maps)?;
+            Ok(DataKind::Active { memory, offset })
+        }
+    }
+}
+
+fn copied(alloc: Global, bytes: &[u8]) -> Result<Vec<u8>, IntoError>
+    ensures { IfOk result (λ copy. copy.items ≡ bytes.now) }
+{
+    let mut copy = Vec::new(alloc);
+    copy.extend_from_slice(bytes)?;
+    Ok(copy)
+}
+
+fn add_segment(
+    alloc: Global,
+    segment: &Data<'_>,
+    maps: &IndicesToIds,
+    into: &mut ModuleData,
+) -> Result<(), IntoError>
+    ensures { OnOk result (Adds (IsSegmentOf (look_of (ids maps.now)) segment.now) into.old into.new) }
+{
+    let kind = read_mode(alloc, &segment.mode, maps)?;
+    let value = copied(alloc, segment.bytes)?;
+    into.add(kind, value)?;
+    Ok(())
+}
+
+/// Adds the data segments, in their order.
+///
+/// # Errors
+///
+/// Want of memory; `Unknown` where one names nothing.
+pub fn add_segments(
+    alloc: Global,
+    segments: &[Data<'_>],
+    maps: &IndicesToIds,
+    into: &mut ModuleData,
+) -> Result<(), IntoError>
+    ensures { OnOk result (Filled (IsSegmentOf (look_of (ids maps.now))) segments.now into.old.slots into.new.slots) }
+{
+    for segment in segments {
+        add_segment(alloc, segment, maps, into)?;
+    }
+    Ok(())
+}

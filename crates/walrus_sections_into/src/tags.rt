@@ -1,0 +1,45 @@
+//! Tags of exceptions.
+
+ghost use Rattle.std.specs.Prelude.{◌≡◌, OnOk};
+ghost use Rattle.walrus_collections.specs.Added.{Adds};
+ghost use Rattle.walrus_index_maps.specs.Views.{ids};
+ghost use Rattle.walrus_sections_into.specs.Becomes.{look_of};
+ghost use Rattle.walrus_sections_into.specs.Slots.{Filled};
+ghost use Rattle.walrus_sections_into.specs.Tags.{IsTagOf};
+
+use crate::error::IntoError;
+use crate::ids::{import_id, type_id};
+use walrus_collections::ModuleTags;
+use walrus_index_maps::IndicesToIds;
+use walrus_known_sections::Tag;
+
+fn add_tag(tag: &Tag, maps: &IndicesToIds, into: &mut ModuleTags) -> Result<(), IntoError>
+    ensures { OnOk result (Adds (IsTagOf (look_of (ids maps.now)) tag.now) into.old into.new) }
+{
+    let ty = type_id(tag.ty, maps)?;
+    match tag.import {
+        Some(import) => {
+            let import = import_id(import)?;
+            into.add_import(ty, import)?;
+            Ok(())
+        }
+        None => {
+            into.add(ty)?;
+            Ok(())
+        }
+    }
+}
+
+/// Adds the tags, imported ones too, in their order.
+///
+/// # Errors
+///
+/// Want of memory; `Unknown` where one names no type.
+pub fn add_tags(tags: &[Tag], maps: &IndicesToIds, into: &mut ModuleTags) -> Result<(), IntoError>
+    ensures { OnOk result (Filled (IsTagOf (look_of (ids maps.now))) tags.now into.old.slots into.new.slots) }
+{
+    for tag in tags {
+        add_tag(tag, maps, into)?;
+    }
+    Ok(())
+}

@@ -1,0 +1,3 @@
+mod ToldLemmas
+mod MemberLemmas
+mod PlacedLemmas

@@ -1,0 +1,3 @@
+mod BelowLemmas
+mod IntoLemmas
+mod StandLemmas
