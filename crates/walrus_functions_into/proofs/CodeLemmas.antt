@@ -10,16 +10,14 @@ use Rattle.wasm_body_grammar.specs.wasm_grammar.States.{State}
 use Rattle.wasm_body_grammar.specs.Codes.{Code, coded, own_type, param_count, type_if_own}
 use Rattle.wasm_module_rules.specs.wasm_modules.Modules.{chunks_of}
 use Rattle.wasm_ruled_modules.specs.Codes.{bodies_match}
-use Rattle.walrus_collections.specs.walrus_module_items.declared.function.Function.{Function}
 use Rattle.walrus_known_sections.specs.declared.items.Chunk.{Chunk}
 use Rattle.walrus_known_sections.specs.declared.items.Function.{Function as ReadFunction}
-use Rattle.walrus_known_sections.specs.declared.sections.Sections.{Sections}
 use Rattle.walrus_known_sections.specs.Items.{function_of, function_origin, chunk_of}
 use Rattle.walrus_known_sections.specs.State.{state_of}
 use Rattle.walrus_functions_into.specs.declared.bodies.FunctionBody.{FunctionBody}
 use Rattle.walrus_functions_into.specs.Functions.{functions_from, kind_of}
 use Rattle.walrus_functions_into.specs.Bodies.{bodiless_from, is_bodiless, paired}
-use Rattle.walrus_functions_into.specs.Laws.{ArePaired, ReadBodiesArePaired, code_of, read_bodies}
+use Rattle.walrus_functions_into.specs.Laws.{ReadBodiesArePaired, read_bodies}
 
 -- ---- ids and bodies, as many of both
 

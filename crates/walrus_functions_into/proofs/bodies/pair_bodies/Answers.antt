@@ -1,4 +1,4 @@
-use Rattle.std.proofs.Common.{◌≡◌, ◌∙◌, ◌<◌, ap, arith, length}
+use Rattle.std.proofs.Common.{◌∙◌, ◌<◌, ap, arith, length}
 use Rattle.walrus_functions_into.proofs.PairLemmas.{goes_on, goes_past}
 use Rattle.walrus_functions_into.proofs.bodies.pair_bodies.Goals as goal
 use Rattle.walrus_functions_into.proofs.bodies.pair_bodies.Goals.{in-Some+in_ok-push, in_default}
