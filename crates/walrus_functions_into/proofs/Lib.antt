@@ -1,0 +1,4 @@
+mod AddLemmas
+mod PairLemmas
+mod TypedLemmas
+mod CodeLemmas

@@ -1,0 +1,3 @@
+pub mod Functions
+pub mod Bodies
+pub mod Laws
