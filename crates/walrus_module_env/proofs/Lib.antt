@@ -1,0 +1,4 @@
+mod AroundLemmas
+mod FiledLemmas
+mod ParseLemmas
+mod PickLemmas

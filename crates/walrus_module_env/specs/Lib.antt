@@ -1,0 +1,4 @@
+pub mod Env
+pub mod Filled
+pub mod Around
+pub mod Parsed

@@ -1,0 +1,64 @@
+//! Bodies are read into their module.
+
+ghost use Rattle.std.specs.Prelude.{◌≡◌, ◌⊎◌, ◌<◌, ◌≤◌, ◌+◌, length, None, IfOk, IfErr};
+ghost use Rattle.wasm_reader.specs.Cursor.{end_of};
+ghost use Rattle.walrus_builder.specs.Built.{contents};
+ghost use Rattle.walrus_index_maps.specs.Views.{ids};
+ghost use Rattle.walrus_collections.specs.walrus_local_function.walrus_body_locals.walrus_body_env.declared.error.BodyError.TheVariants.{Memory as WantsMemory};
+ghost use Rattle.walrus_collections.specs.walrus_local_function.walrus_body_locals.Locals.{Leaves};
+ghost use Rattle.walrus_collections.specs.walrus_local_function.walrus_function_parser.Parsed.{Parses, Refuses, telling};
+ghost use Rattle.walrus_module_env.specs.Around.{sight_in};
+ghost use Rattle.walrus_module_env.specs.Parsed.{IsBodyOfFile, IsFaultInFile};
+
+use crate::env::ModuleEnv;
+use std::alloc::Global;
+use walrus_arena::{FunctionId, LocalId, TypeId};
+use walrus_body_env::{BodyError, Validator};
+use walrus_collections::local_function::LocalFunction;
+use walrus_index_maps::IndicesToIds;
+use walrus_instr::InstrSeqType;
+use walrus_types::ModuleLocals;
+use wasm_reader::BinaryReader;
+
+impl<'a> ModuleEnv<'a> {
+    /// Reads the body of a function of this type and these arguments (Core Specification, binary format: code section), which its first
+    /// indices of locals name; its own block has the type `entry`. The locals that it declares are added to the module, and the next
+    /// indices of the function name them. Its tree is in normal form, and block types are the file's picks; each location is the operator's
+    /// place from the beginning of the code section's contents, in bytes. The validator is told of each run of locals and of each operator
+    /// that was read, and of the end.
+    ///
+    /// Asks for bytes that begin behind the beginning of the code section's contents, and end less than 4294967295 behind it.
+    ///
+    /// # Errors
+    ///
+    /// The first that is due, from left to right: where the bytes spell no body, where a rule for bodies is broken, also in code that is
+    /// dropped, or as the validator refuses; `TypeForm` where the module has no type for a handler that is reached; want of memory. Locals
+    /// that were added stay.
+    pub fn parse_body<V: Validator>(
+        &self,
+        alloc: Global,
+        indices: &mut IndicesToIds,
+        locals: &mut ModuleLocals,
+        function: FunctionId,
+        ty: TypeId,
+        entry: InstrSeqType,
+        args: Vec<LocalId>,
+        body: BinaryReader<'_>,
+        validator: &mut V,
+    ) -> Result<LocalFunction, BodyError>
+        requires begins { self.now.code_start ≤ body.window.start + body.position }
+        requires ends { end_of body < self.now.code_start + 4294967295 }
+        ensures parsed { IfOk result (λ f. Parses (sight_in self.now function (ids indices.old)) (telling V.locals_step V.op_step V.finish_step) (length args.items) self.now.code_start body.entry entry locals.old locals.new (ids indices.new) validator.old validator.new (contents f.builder.builder)) }
+        ensures file { IfOk result (λ f. IsBodyOfFile self.now function (ids indices.old) (telling V.locals_step V.op_step V.finish_step) (length args.items) body.entry (ids indices.new) (contents f.builder.builder)) }
+        ensures ty { IfOk result (λ f. f.builder.ty ≡ ty) }
+        ensures name { IfOk result (λ f. f.builder.name ≡ None) }
+        ensures args { IfOk result (λ f. f.args ≡ args) }
+        ensures refused { IfErr result (λ e. (e ≡ WantsMemory) ⊎ Refuses (sight_in self.now function (ids indices.old)) (telling V.locals_step V.op_step V.finish_step) (length args.items) self.now.code_start body.entry locals.old locals.new (ids indices.new) validator.old e) }
+        ensures stops { IfErr result (λ e. (e ≡ WantsMemory) ⊎ IsFaultInFile self.now function (ids indices.old) (telling V.locals_step V.op_step V.finish_step) (length args.items) body.entry (ids indices.new) e) }
+        ensures kept { Leaves function locals.old locals.new (ids indices.old) (ids indices.new) }
+    {
+        LocalFunction::parse(
+            alloc, self, indices, locals, function, ty, entry, args, body, validator,
+        )
+    }
+}
