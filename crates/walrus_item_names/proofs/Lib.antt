@@ -1,0 +1,4 @@
+mod Given
+mod Lookups
+mod Numbers
+mod Slots
