@@ -3,7 +3,7 @@ use Rattle.std.specs.Prelude.{ℕ, zero, suc, ◌+◌, ◌≡◌, ◌<◌, List,
 use Rattle.std.specs.Option.{option_map}
 use Rattle.std.proofs.Common.{ap, sym, ◌∙◌, subst, arith}
 use Rattle.std.proofs.lemmas.List.{append_assoc, append-nil}
-use Rattle.walrus_module_items.specs.declared.memory.Memory.{Memory}
+use Rattle.walrus_meaning.specs.walrus_linked.walrus_module_items.declared.memory.Memory.{Memory}
 use Rattle.walrus_known_sections.specs.declared.items.Memory.{Memory as ReadMemory}
 use Rattle.walrus_known_sections.specs.Items.{memory_of}
 use Rattle.walrus_meaning.specs.Meaning.{own_memory}

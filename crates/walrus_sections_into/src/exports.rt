@@ -1,7 +1,7 @@
 //! Exports, and the start function.
 
 ghost use Rattle.std.specs.Prelude.{◌≡◌, IfOk, OnOk};
-ghost use Rattle.walrus_collections.specs.Added.{Adds};
+ghost use Rattle.walrus_meaning.specs.walrus_linked.walrus_collections.Added.{Adds};
 ghost use Rattle.walrus_index_maps.specs.Views.{ids};
 ghost use Rattle.walrus_sections_into.specs.Becomes.{look_of};
 ghost use Rattle.walrus_sections_into.specs.Slots.{Filled};
@@ -10,10 +10,10 @@ ghost use Rattle.walrus_sections_into.specs.Exports.{IsExportOf, ItemBecomes, St
 use crate::error::IntoError;
 use crate::ids::{function_id, global_id, memory_id, table_id, tag_id};
 use walrus_arena::FunctionId;
-use walrus_collections::ModuleExports;
 use walrus_index_maps::IndicesToIds;
 use walrus_known_sections::Export;
-use walrus_module_items::ExportItem;
+use walrus_meaning::linked::collections::ModuleExports;
+use walrus_meaning::module::module_items::ExportItem;
 use wasm_formats::Space;
 
 // What is given out.

@@ -2,14 +2,14 @@
 
 ghost use Rattle.std.specs.Prelude.{◌≡◌, OnOk};
 ghost use Rattle.walrus_known_sections.specs.Items.{memory_of};
-ghost use Rattle.walrus_collections.specs.Added.{Adds};
+ghost use Rattle.walrus_meaning.specs.walrus_linked.walrus_collections.Added.{Adds};
 ghost use Rattle.walrus_meaning.specs.Meaning.{own_memory};
 ghost use Rattle.walrus_sections_into.specs.Slots.{Filled, IsMemoryOf};
 
 use crate::error::IntoError;
 use crate::ids::import_id;
-use walrus_collections::ModuleMemories;
 use walrus_known_sections::Memory;
+use walrus_meaning::linked::collections::ModuleMemories;
 
 fn add_memory(memory: &Memory, into: &mut ModuleMemories) -> Result<(), IntoError>
     ensures { OnOk result (Adds (IsMemoryOf memory.now) into.old into.new) }

@@ -1,7 +1,7 @@
 //! Tags of exceptions.
 
 ghost use Rattle.std.specs.Prelude.{◌≡◌, OnOk};
-ghost use Rattle.walrus_collections.specs.Added.{Adds};
+ghost use Rattle.walrus_meaning.specs.walrus_linked.walrus_collections.Added.{Adds};
 ghost use Rattle.walrus_index_maps.specs.Views.{ids};
 ghost use Rattle.walrus_sections_into.specs.Becomes.{look_of};
 ghost use Rattle.walrus_sections_into.specs.Slots.{Filled};
@@ -9,9 +9,9 @@ ghost use Rattle.walrus_sections_into.specs.Tags.{IsTagOf};
 
 use crate::error::IntoError;
 use crate::ids::{import_id, type_id};
-use walrus_collections::ModuleTags;
 use walrus_index_maps::IndicesToIds;
 use walrus_known_sections::Tag;
+use walrus_meaning::linked::collections::ModuleTags;
 
 fn add_tag(tag: &Tag, maps: &IndicesToIds, into: &mut ModuleTags) -> Result<(), IntoError>
     ensures { OnOk result (Adds (IsTagOf (look_of (ids maps.now)) tag.now) into.old into.new) }

@@ -1,0 +1,17 @@
+use Rattle.std.proofs.lemmas.Result.{err_from_is_err_and}
+use Rattle.walrus_sections_into.specs.walrus_index_maps.Views.{ids}
+use Rattle.walrus_sections_into.specs.Becomes.{look_of}
+use Rattle.walrus_sections_into.specs.Ones.{one_lacks}
+use Rattle.walrus_tables_into.specs.Elements.{ExprBecomes, ExprLacks}
+use Rattle.walrus_tables_into.proofs.Loops.{zip_next}
+use Rattle.walrus_tables_into.proofs.elements.read_exprs.Goals as goal
+
+pub loop-operators-preserved : goal.loop-operators-preserved
+loop-operators-preserved c =
+    zip_next (ExprBecomes (look_of (ids c.args.maps.now))) c.args.exprs.now c.loop-operators.operators-index _ c.operators-item.result c.loop-operators.list.items c.push.new.self.items c.in_ok-expr.expr
+    c.operators-item.is c.loop-operators-test.true c.loop-operators.invariant c.in_ok-expr.ensures.becomes c.in_ok-push.ensures.items
+
+pub returns-in_err-expr-clause-unknown : goal.returns-in_err-expr-clause-unknown
+returns-in_err-expr-clause-unknown c =
+    let p = err_from_is_err_and c.from_residual.result c.from_residual.ensures.1 in
+    one_lacks (ExprLacks (look_of (ids c.args.maps.now))) c.args.exprs.now c.loop-operators.operators-index _ c.operators-item.result c.from_residual.result _ _ c.operators-item.is c.loop-operators-test.true p.1 p.2 c.in_err-expr.ensures.unknown
