@@ -6,7 +6,7 @@ pub mod Exports
 pub mod Tags
 pub mod Imports
 pub mod Numbers
-pub mod Ones
+pub mod Loops
 -- Passed on to crates above, which then list this one alone.
 pub use Rattle.walrus_meaning.specs.walrus_linked.walrus_collections as walrus_collections
 pub use Rattle.walrus_forms.specs as walrus_forms

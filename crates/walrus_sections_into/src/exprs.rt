@@ -1,13 +1,13 @@
 //! Constant expressions (Core Specification, valid expressions: constant expressions).
 
 ghost use Rattle.std.specs.Prelude.{◌≡◌, IfOk, IfErr};
+ghost use Rattle.std.specs.List.{Any};
 ghost use Rattle.walrus_operators.specs.Operators.{seen};
 ghost use Rattle.walrus_pairing.specs.Read.{instr_at};
 ghost use Rattle.walrus_index_maps.specs.Views.{ids};
 ghost use Rattle.walrus_instr.specs.Constants.{ops_of};
 ghost use Rattle.walrus_sections_into.specs.Becomes.{look_of, OpBecomes, OpsBecome};
 ghost use Rattle.walrus_sections_into.specs.Consts.{plain_of, OpLacks};
-ghost use Rattle.walrus_sections_into.specs.Ones.{HasOne};
 ghost use Rattle.walrus_sections_into.specs.declared.error.IntoError.TheVariants.{Unknown};
 
 use crate::consts::const_of;
@@ -55,7 +55,7 @@ pub fn read_expr(
     maps: &IndicesToIds,
 ) -> Result<ConstExpr, IntoError>
     ensures becomes { IfOk result (λ expr. OpsBecome (look_of (ids maps.now)) operators.now (ops_of expr)) }
-    ensures unknown { IfErr result (λ e. e ≡ Unknown → HasOne (OpLacks (look_of (ids maps.now))) operators.now) }
+    ensures unknown { IfErr result (λ e. e ≡ Unknown → Any (OpLacks (look_of (ids maps.now))) operators.now) }
 {
     let mut ops = Vec::new(alloc);
     for operator in operators {

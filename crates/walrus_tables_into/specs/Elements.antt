@@ -1,7 +1,7 @@
 -- Element segments, as they were read and in a module.
 use Rattle.std.specs.Prelude.{ℕ, ◌≡◌, ◌⊎◌, Some, None, Ok, Err}
 use Rattle.std.specs.Global.{Vec}
-use Rattle.std.specs.List.{AllZip}
+use Rattle.std.specs.List.{AllZip, Any}
 use Rattle.walrus_sections_into.specs.wasm_immediates.Items.{Functions, Tables}
 use Rattle.walrus_sections_into.specs.walrus_forms.Records.{ref_of}
 use Rattle.walrus_sections_into.specs.walrus_instr.Constants.{ops_of}
@@ -18,8 +18,8 @@ use Rattle.walrus_sections_into.specs.walrus_known_sections.declared.items.Eleme
 use Rattle.walrus_sections_into.specs.walrus_known_sections.declared.items.ElementItems.TheVariants as listed
 use Rattle.walrus_sections_into.specs.walrus_known_sections.declared.items.Mode.{Mode}
 use Rattle.walrus_sections_into.specs.walrus_known_sections.declared.items.Mode.TheVariants as modes
-use Rattle.walrus_sections_into.specs.Becomes.{OpsBecome, OpLacks}
-use Rattle.walrus_sections_into.specs.Ones.{HasOne}
+use Rattle.walrus_sections_into.specs.Becomes.{OpsBecome}
+use Rattle.walrus_sections_into.specs.Consts.{OpLacks}
 use Rattle.walrus_sections_into.specs.declared.error.IntoError.TheVariants.{Unknown}
 use Rattle.walrus_tables_into.specs.Types.{ref_in}
 
@@ -51,7 +51,7 @@ pub record IsElementOf (look : Look) (read : ReadElement) (e : Element) : Type 0
 
 -- an operator names nothing, or isn't constant
 abbrev pub ExprLacks : Look → Vec Operator → Type 0
-ExprLacks look ops = HasOne (OpLacks look) ops.items
+ExprLacks look ops = Any (OpLacks look) ops.items
 
 -- it names no table, or its offset is none
 abbrev pub ModeLacks : Look → Mode → Type 0
@@ -64,8 +64,8 @@ NoFunction look n = look Functions n ≡ None
 
 -- one of the numbers names no function, the type names none, or an expression is none
 abbrev pub ItemsLack : Look → ReadItems → Type 0
-ItemsLack look (listed.Functions numbers) = HasOne (NoFunction look) numbers.items
-ItemsLack look (listed.Expressions read exprs) = (ref_in look (ref_of read) ≡ Err Unknown) ⊎ HasOne (ExprLacks look) exprs.items
+ItemsLack look (listed.Functions numbers) = Any (NoFunction look) numbers.items
+ItemsLack look (listed.Expressions read exprs) = (ref_in look (ref_of read) ≡ Err Unknown) ⊎ Any (ExprLacks look) exprs.items
 
 abbrev pub ElementLacks : Look → ReadElement → Type 0
 ElementLacks look read = ModeLacks look read.mode ⊎ ItemsLack look read.items

@@ -1,5 +1,6 @@
 -- Globals, as they were read and in a module.
 use Rattle.std.specs.Prelude.{◌≡◌, ◌⊎◌, false, None, Ok, Err}
+use Rattle.std.specs.List.{Any}
 use Rattle.walrus_sections_into.specs.walrus_forms.Records.{value_of}
 use Rattle.walrus_sections_into.specs.walrus_instr.Constants.{ops_of}
 use Rattle.walrus_sections_into.specs.walrus_pairing.Looks.{Look}
@@ -9,8 +10,8 @@ use Rattle.walrus_sections_into.specs.walrus_module_items.declared.global.Global
 use Rattle.walrus_section_values.specs.declared.globals.Global.{Global as ReadGlobal}
 use Rattle.walrus_section_values.specs.declared.globals.GlobalOrigin.{GlobalOrigin}
 use Rattle.walrus_section_values.specs.declared.globals.GlobalOrigin.TheVariants as origins
-use Rattle.walrus_sections_into.specs.Becomes.{OpsBecome, OpLacks}
-use Rattle.walrus_sections_into.specs.Ones.{HasOne}
+use Rattle.walrus_sections_into.specs.Becomes.{OpsBecome}
+use Rattle.walrus_sections_into.specs.Consts.{OpLacks}
 use Rattle.walrus_sections_into.specs.declared.error.IntoError.TheVariants.{Unknown}
 use Rattle.walrus_tables_into.specs.Types.{value_in}
 
@@ -31,7 +32,7 @@ pub record IsGlobalOf (look : Look) (read : ReadGlobal) (g : Global) : Type 0 wh
 -- an operator of its first value names nothing, or isn't constant
 abbrev pub OriginLacks : Look → GlobalOrigin → Type 0
 OriginLacks look (origins.Import n) = ⊥
-OriginLacks look (origins.Own init) = HasOne (OpLacks look) init.items
+OriginLacks look (origins.Own init) = Any (OpLacks look) init.items
 
 -- its type names none, or its first value is none
 abbrev pub GlobalLacks : Look → ReadGlobal → Type 0

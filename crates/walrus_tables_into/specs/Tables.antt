@@ -1,5 +1,6 @@
 -- Tables, as they were read and in a module.
 use Rattle.std.specs.Prelude.{ℕ, ◌≡◌, ◌⊎◌, [], Option, Some, None, IsSome, Ok, Err}
+use Rattle.std.specs.List.{Any}
 use Rattle.std.specs.Global.{Vec}
 use Rattle.std.specs.HashSet.{keys}
 use Rattle.wasm_grammar.specs.Values.{is_wide}
@@ -10,8 +11,8 @@ use Rattle.walrus_sections_into.specs.walrus_operators.declared.operator.Operato
 use Rattle.walrus_sections_into.specs.walrus_pairing.Looks.{Look}
 use Rattle.walrus_sections_into.specs.walrus_module_items.declared.table.Table.{Table}
 use Rattle.walrus_sections_into.specs.walrus_known_sections.declared.items.Table.{Table as ReadTable}
-use Rattle.walrus_sections_into.specs.Becomes.{OpsBecome, OpLacks}
-use Rattle.walrus_sections_into.specs.Ones.{HasOne}
+use Rattle.walrus_sections_into.specs.Becomes.{OpsBecome}
+use Rattle.walrus_sections_into.specs.Consts.{OpLacks}
 use Rattle.walrus_sections_into.specs.declared.error.IntoError.TheVariants.{Unknown}
 use Rattle.walrus_tables_into.specs.Types.{ref_in}
 
@@ -35,7 +36,7 @@ pub record IsTableOf (look : Look) (read : ReadTable) (t : Table) : Type 0 where
 -- an operator of its initialiser names nothing, or isn't constant
 abbrev pub InitLacks : Look → Option (Vec Operator) → Type 0
 InitLacks look None = ⊥
-InitLacks look (Some init) = HasOne (OpLacks look) init.items
+InitLacks look (Some init) = Any (OpLacks look) init.items
 
 -- the type of its elements names none, or its initialiser is none; one that an import brings has no initialiser
 abbrev pub TableLacks : Look → ReadTable → Type 0

@@ -1,7 +1,7 @@
 //! Custom sections (Core Specification, custom section).
 
-ghost use Rattle.std.specs.Prelude.{OnOk};
-ghost use Rattle.walrus_sections_into.specs.Slots.{Filled};
+ghost use Rattle.std.specs.Prelude.{OnOk, OnErr};
+ghost use Rattle.walrus_sections_into.specs.Slots.{Filled, FilledInPart};
 ghost use Rattle.walrus_tables_into.specs.Customs.{IsCustomOf};
 
 use std::alloc::AllocError;
@@ -12,12 +12,13 @@ use walrus_sections_into::known_sections::Custom;
 ///
 /// # Errors
 ///
-/// Want of memory. Some of the sections may be added.
+/// Want of memory. The first of the sections may be there.
 pub fn add_customs<B: Drop>(
     customs: &[Custom<'_>],
     into: &mut Sections<B>,
 ) -> Result<(), AllocError>
-    ensures { OnOk result (Filled IsCustomOf customs.now into.old.slots into.new.slots) }
+    ensures added { OnOk result (Filled IsCustomOf customs.now into.old.slots into.new.slots) }
+    ensures in_part { OnErr result (FilledInPart IsCustomOf customs.now into.old.slots into.new.slots) }
 {
     for custom in customs {
         into.add_raw(custom.name, custom.bytes)?;

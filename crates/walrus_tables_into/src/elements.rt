@@ -1,12 +1,11 @@
 //! Element segments (Core Specification, element segments).
 
-ghost use Rattle.std.specs.Prelude.{◌≡◌, IfOk, IfErr, OnOk};
-ghost use Rattle.std.specs.List.{AllZip};
+ghost use Rattle.std.specs.Prelude.{◌≡◌, IfOk, IfErr, OnOk, OnErr};
+ghost use Rattle.std.specs.List.{AllZip, Any};
 ghost use Rattle.walrus_sections_into.specs.walrus_collections.Added.{Adds};
 ghost use Rattle.walrus_sections_into.specs.walrus_index_maps.Views.{ids};
 ghost use Rattle.walrus_sections_into.specs.Becomes.{look_of};
-ghost use Rattle.walrus_sections_into.specs.Ones.{HasOne};
-ghost use Rattle.walrus_sections_into.specs.Slots.{Filled};
+ghost use Rattle.walrus_sections_into.specs.Slots.{Filled, FilledInPart};
 ghost use Rattle.walrus_sections_into.specs.declared.error.IntoError.TheVariants.{Unknown};
 ghost use Rattle.walrus_tables_into.specs.Elements.{IsElementOf, ModeBecomes, ItemsBecome, IsFunctionOf, ExprBecomes, ElementLacks, ModeLacks, ItemsLack, NoFunction, ExprLacks};
 
@@ -44,7 +43,7 @@ fn read_functions(
     maps: &IndicesToIds,
 ) -> Result<Vec<FunctionId>, IntoError>
     ensures becomes { IfOk result (λ functions. AllZip (IsFunctionOf (look_of (ids maps.now))) numbers.now functions.items) }
-    ensures unknown { IfErr result (λ e. e ≡ Unknown → HasOne (NoFunction (look_of (ids maps.now))) numbers.now) }
+    ensures unknown { IfErr result (λ e. e ≡ Unknown → Any (NoFunction (look_of (ids maps.now))) numbers.now) }
 {
     let mut functions = Vec::new(alloc);
     for number in numbers {
@@ -61,7 +60,7 @@ fn read_exprs(
     maps: &IndicesToIds,
 ) -> Result<Vec<ConstExpr>, IntoError>
     ensures becomes { IfOk result (λ list. AllZip (ExprBecomes (look_of (ids maps.now))) exprs.now list.items) }
-    ensures unknown { IfErr result (λ e. e ≡ Unknown → HasOne (ExprLacks (look_of (ids maps.now))) exprs.now) }
+    ensures unknown { IfErr result (λ e. e ≡ Unknown → Any (ExprLacks (look_of (ids maps.now))) exprs.now) }
 {
     let mut list = Vec::new(alloc);
     for operators in exprs {
@@ -100,6 +99,7 @@ fn add_element(
     into: &mut ModuleElements,
 ) -> Result<(), IntoError>
     ensures added { OnOk result (Adds (IsElementOf (look_of (ids maps.now)) element.now) into.old into.new) }
+    ensures refused { OnErr result (into.new ≡ into.old) }
     ensures unknown { IfErr result (λ e. e ≡ Unknown → ElementLacks (look_of (ids maps.now)) element.now) }
 {
     let kind = read_mode(alloc, &element.mode, maps)?;
@@ -113,7 +113,7 @@ fn add_element(
 /// # Errors
 ///
 /// Want of memory; `Unknown` only where one names no table, no function or no type, or an operator of an expression names nothing
-/// or isn't constant. Some of the segments may be added.
+/// or isn't constant. The first of the segments may be there.
 pub fn add_elements(
     alloc: Global,
     elements: &[Element],
@@ -121,7 +121,8 @@ pub fn add_elements(
     into: &mut ModuleElements,
 ) -> Result<(), IntoError>
     ensures added { OnOk result (Filled (IsElementOf (look_of (ids maps.now))) elements.now into.old.slots into.new.slots) }
-    ensures unknown { IfErr result (λ e. e ≡ Unknown → HasOne (ElementLacks (look_of (ids maps.now))) elements.now) }
+    ensures in_part { OnErr result (FilledInPart (IsElementOf (look_of (ids maps.now))) elements.now into.old.slots into.new.slots) }
+    ensures unknown { IfErr result (λ e. e ≡ Unknown → Any (ElementLacks (look_of (ids maps.now))) elements.now) }
 {
     for element in elements {
         add_element(alloc, element, maps, into)?;

@@ -1,11 +1,11 @@
 //! Globals (Core Specification, globals).
 
-ghost use Rattle.std.specs.Prelude.{◌≡◌, ◌∷◌, ◌++◌, [], false, Some, None, IfOk, IfErr, OnOk};
+ghost use Rattle.std.specs.Prelude.{◌≡◌, ◌∷◌, ◌++◌, [], false, Some, None, IfOk, IfErr, OnOk, OnErr};
+ghost use Rattle.std.specs.List.{Any};
 ghost use Rattle.walrus_sections_into.specs.walrus_collections.Added.{Adds};
 ghost use Rattle.walrus_sections_into.specs.walrus_index_maps.Views.{ids};
 ghost use Rattle.walrus_sections_into.specs.Becomes.{look_of};
-ghost use Rattle.walrus_sections_into.specs.Ones.{HasOne};
-ghost use Rattle.walrus_sections_into.specs.Slots.{Filled};
+ghost use Rattle.walrus_sections_into.specs.Slots.{Filled, FilledInPart};
 ghost use Rattle.walrus_sections_into.specs.declared.error.IntoError.TheVariants.{Unknown};
 ghost use Rattle.walrus_tables_into.specs.Globals.{IsGlobalOf, OriginBecomes, GlobalLacks, OriginLacks};
 
@@ -46,7 +46,8 @@ fn add_kind(
     kind: GlobalKind,
     into: &mut ModuleGlobals,
 ) -> Result<GlobalId, AllocError>
-    ensures { IfOk result (λ id. into.new.slots ≡ into.old.slots ++ Some (record { id = id; ty = ty; mutable = mutable; shared = false; kind = kind; name = None }) ∷ []) }
+    ensures added { IfOk result (λ id. into.new.slots ≡ into.old.slots ++ Some (record { id = id; ty = ty; mutable = mutable; shared = false; kind = kind; name = None }) ∷ []) }
+    ensures refused { OnErr result (into.new ≡ into.old) }
 {
     match kind {
         GlobalKind::Import(import) => into.add_import(ty, mutable, false, import),
@@ -61,6 +62,7 @@ fn add_global(
     into: &mut ModuleGlobals,
 ) -> Result<(), IntoError>
     ensures added { OnOk result (Adds (IsGlobalOf (look_of (ids maps.now)) global.now) into.old into.new) }
+    ensures refused { OnErr result (into.new ≡ into.old) }
     ensures unknown { IfErr result (λ e. e ≡ Unknown → GlobalLacks (look_of (ids maps.now)) global.now) }
 {
     let ty = read_value(global.ty, maps)?;
@@ -73,8 +75,8 @@ fn add_global(
 ///
 /// # Errors
 ///
-/// Want of memory; `Unknown` only where a type or a first value of one names nothing, or a first value isn't constant. Some of the
-/// globals may be added.
+/// Want of memory; `Unknown` only where a type or a first value of one names nothing, or a first value isn't constant. The first of
+/// the globals may be there.
 pub fn add_globals(
     alloc: Alloc,
     globals: &[Global],
@@ -82,7 +84,8 @@ pub fn add_globals(
     into: &mut ModuleGlobals,
 ) -> Result<(), IntoError>
     ensures added { OnOk result (Filled (IsGlobalOf (look_of (ids maps.now))) globals.now into.old.slots into.new.slots) }
-    ensures unknown { IfErr result (λ e. e ≡ Unknown → HasOne (GlobalLacks (look_of (ids maps.now))) globals.now) }
+    ensures in_part { OnErr result (FilledInPart (IsGlobalOf (look_of (ids maps.now))) globals.now into.old.slots into.new.slots) }
+    ensures unknown { IfErr result (λ e. e ≡ Unknown → Any (GlobalLacks (look_of (ids maps.now))) globals.now) }
 {
     for global in globals {
         add_global(alloc, global, maps, into)?;

@@ -1,11 +1,11 @@
 //! Tables (Core Specification, tables).
 
-ghost use Rattle.std.specs.Prelude.{◌≡◌, IfOk, IfErr, OnOk};
+ghost use Rattle.std.specs.Prelude.{◌≡◌, IfOk, IfErr, OnOk, OnErr};
+ghost use Rattle.std.specs.List.{Any};
 ghost use Rattle.walrus_sections_into.specs.walrus_collections.Added.{Adds};
 ghost use Rattle.walrus_sections_into.specs.walrus_index_maps.Views.{ids};
 ghost use Rattle.walrus_sections_into.specs.Becomes.{look_of};
-ghost use Rattle.walrus_sections_into.specs.Ones.{HasOne};
-ghost use Rattle.walrus_sections_into.specs.Slots.{Filled};
+ghost use Rattle.walrus_sections_into.specs.Slots.{Filled, FilledInPart};
 ghost use Rattle.walrus_sections_into.specs.declared.error.IntoError.TheVariants.{Unknown};
 ghost use Rattle.walrus_tables_into.specs.Tables.{IsTableOf, InitBecomes, InitLacks, TableLacks};
 
@@ -44,6 +44,7 @@ fn add_table(
     into: &mut ModuleTables,
 ) -> Result<(), IntoError>
     ensures added { OnOk result (Adds (IsTableOf (look_of (ids maps.now)) table.now) into.old into.new) }
+    ensures refused { OnErr result (into.new ≡ into.old) }
     ensures unknown { IfErr result (λ e. e ≡ Unknown → TableLacks (look_of (ids maps.now)) table.now) }
 {
     let limits = table.ty.limits;
@@ -71,7 +72,7 @@ fn add_table(
 /// # Errors
 ///
 /// Want of memory; `Unknown` only where the type or the initialiser of one names nothing, an initialiser isn't constant, or an
-/// imported one has an initialiser. Some of the tables may be added.
+/// imported one has an initialiser. The first of the tables may be there.
 pub fn add_tables(
     alloc: Global,
     tables: &[Table],
@@ -79,7 +80,8 @@ pub fn add_tables(
     into: &mut ModuleTables,
 ) -> Result<(), IntoError>
     ensures added { OnOk result (Filled (IsTableOf (look_of (ids maps.now))) tables.now into.old.slots into.new.slots) }
-    ensures unknown { IfErr result (λ e. e ≡ Unknown → HasOne (TableLacks (look_of (ids maps.now))) tables.now) }
+    ensures in_part { OnErr result (FilledInPart (IsTableOf (look_of (ids maps.now))) tables.now into.old.slots into.new.slots) }
+    ensures unknown { IfErr result (λ e. e ≡ Unknown → Any (TableLacks (look_of (ids maps.now))) tables.now) }
 {
     for table in tables {
         add_table(alloc, table, maps, into)?;

@@ -2,9 +2,8 @@ use Rattle.std.proofs.Common.{refl}
 use Rattle.std.proofs.lemmas.Result.{err_from_is_err_and}
 use Rattle.walrus_sections_into.specs.walrus_index_maps.Views.{ids}
 use Rattle.walrus_sections_into.specs.Becomes.{look_of}
-use Rattle.walrus_sections_into.specs.Ones.{one_lacks}
+use Rattle.walrus_sections_into.specs.Loops.{one_lacks, zip_next}
 use Rattle.walrus_tables_into.specs.Elements.{IsFunctionOf, NoFunction}
-use Rattle.walrus_tables_into.proofs.Loops.{zip_next}
 use Rattle.walrus_tables_into.proofs.elements.read_functions.Goals as goal
 
 pub loop-number-preserved : goal.loop-number-preserved
