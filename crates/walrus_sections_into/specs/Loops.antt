@@ -3,15 +3,20 @@ use Rattle.std.specs.Prelude.{ℕ, zero, suc, ◌+◌, ◌≡◌, ◌<◌, List,
 use Rattle.std.specs.List.{AllZip, Any}
 use Rattle.std.proofs.Common.{sym, ◌∙◌, arith, subst}
 use Rattle.std.proofs.lemmas.List.{take_more}
-use Rattle.std.proofs.lemmas.List.Elements.{AllZip-push}
 use Rattle.walrus_sections_into.specs.declared.error.IntoError.{IntoError}
 use Rattle.walrus_sections_into.specs.declared.error.IntoError.TheVariants.{Unknown}
+
+zip_push : {X Y : Type 0} (R : X → Y → Type 0) (xs : List X) (ys : List Y) (x : X) (y : Y) → AllZip R xs ys → R x y → AllZip R (xs ++ x ∷ []) (ys ++ y ∷ [])
+zip_push R [] [] x y so h = (h, tt)
+zip_push R [] (z ∷ ys) x y so h = absurd so
+zip_push R (w ∷ xs) [] x y so h = absurd so
+zip_push R (w ∷ xs) (z ∷ ys) x y so h = (so.0, zip_push R xs ys x y so.1 h)
 
 -- one more item becomes another
 pub zip_next : {X Y : Type 0} (R : X → Y → Type 0) (xs : List X) (i : ℕ) (other now : X) (ys new : List Y) (y : Y) → now ≡ slice_index_or xs i other → i < length xs → AllZip R (take i xs) ys → R now y → new ≡ ys ++ y ∷ []
     → AllZip R (take (i + 1) xs) new
 zip_next {X} R xs i other now ys new y is lt so h same =
-    rw (take_more xs i other lt, same) (AllZip-push R (take i xs) ys (slice_index_or xs i other) y so (subst (λ (x : X). R x y) is h))
+    rw (take_more xs i other lt, same) (zip_push R (take i xs) ys (slice_index_or xs i other) y so (subst (λ (x : X). R x y) is h))
 
 any_default : {X : Type 0} (xs : List X) (i : ℕ) (a b : X) → i < length xs → slice_index_or xs i a ≡ slice_index_or xs i b
 any_default [] i a b lt = absurd (omega (arith, lt))

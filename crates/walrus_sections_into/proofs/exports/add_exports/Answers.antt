@@ -15,4 +15,4 @@ loop-export-preserved c =
 pub returns-in_err-add_export-clause-in_part : goal.returns-in_err-add_export-clause-in_part
 returns-in_err-add_export-clause-in_part c =
     let p = err_from_is_err_and c.from_residual.result c.from_residual.ensures.1 in
-    filled_so_far (IsExportOf (look_of (ids c.args.maps.now))) c.args.exports.now c.loop-export.export-index c.args.into.now.slots c.loop-export.into c.add_export.new.into c.from_residual.result p.0 p.1 c.in_err-add_export.ensures.refused c.loop-export.invariant
+    filled_so_far (IsExportOf (look_of (ids c.args.maps.now))) c.args.exports.now c.loop-export.export-index c.args.into.now c.loop-export.into c.add_export.new.into c.from_residual.result p.0 p.1 c.in_err-add_export.ensures.refused c.loop-export.invariant

@@ -15,4 +15,4 @@ loop-import-preserved c =
 pub returns-in_err-add_import-clause-in_part : goal.returns-in_err-add_import-clause-in_part
 returns-in_err-add_import-clause-in_part c =
     let p = err_from_is_err_and c.from_residual.result c.from_residual.ensures.1 in
-    filled_so_far (IsImportOf (look_of (ids c.args.maps.now))) c.args.imports.now c.loop-import.import-index c.args.into.now.slots c.loop-import.into c.add_import.new.into c.from_residual.result p.0 p.1 c.in_err-add_import.ensures.refused c.loop-import.invariant
+    filled_so_far (IsImportOf (look_of (ids c.args.maps.now))) c.args.imports.now c.loop-import.import-index c.args.into.now c.loop-import.into c.add_import.new.into c.from_residual.result p.0 p.1 c.in_err-add_import.ensures.refused c.loop-import.invariant

@@ -11,4 +11,4 @@ loop-memory-preserved c =
 pub returns-in_err-add_memory-clause-in_part : goal.returns-in_err-add_memory-clause-in_part
 returns-in_err-add_memory-clause-in_part c =
     let p = err_from_is_err_and c.from_residual.result c.from_residual.ensures.1 in
-    filled_so_far IsMemoryOf c.args.memories.now c.loop-memory.memory-index c.args.into.now.slots c.loop-memory.into c.add_memory.new.into c.from_residual.result p.0 p.1 c.in_err-add_memory.ensures.refused c.loop-memory.invariant
+    filled_so_far IsMemoryOf c.args.memories.now c.loop-memory.memory-index c.args.into.now c.loop-memory.into c.add_memory.new.into c.from_residual.result p.0 p.1 c.in_err-add_memory.ensures.refused c.loop-memory.invariant

@@ -14,4 +14,4 @@ loop-segment-preserved c =
 pub returns-in_err-add_segment-clause-in_part : goal.returns-in_err-add_segment-clause-in_part
 returns-in_err-add_segment-clause-in_part c =
     let p = err_from_is_err_and c.from_residual.result c.from_residual.ensures.1 in
-    filled_so_far (IsSegmentOf (look_of (ids c.args.maps.now))) c.args.segments.now c.loop-segment.segment-index c.args.into.now.slots c.loop-segment.into c.add_segment.new.into c.from_residual.result p.0 p.1 c.in_err-add_segment.ensures.refused c.loop-segment.invariant
+    filled_so_far (IsSegmentOf (look_of (ids c.args.maps.now))) c.args.segments.now c.loop-segment.segment-index c.args.into.now c.loop-segment.into c.add_segment.new.into c.from_residual.result p.0 p.1 c.in_err-add_segment.ensures.refused c.loop-segment.invariant

@@ -15,4 +15,4 @@ loop-tag-preserved c =
 pub returns-in_err-add_tag-clause-in_part : goal.returns-in_err-add_tag-clause-in_part
 returns-in_err-add_tag-clause-in_part c =
     let p = err_from_is_err_and c.from_residual.result c.from_residual.ensures.1 in
-    filled_so_far (IsTagOf (look_of (ids c.args.maps.now))) c.args.tags.now c.loop-tag.tag-index c.args.into.now.slots c.loop-tag.into c.add_tag.new.into c.from_residual.result p.0 p.1 c.in_err-add_tag.ensures.refused c.loop-tag.invariant
+    filled_so_far (IsTagOf (look_of (ids c.args.maps.now))) c.args.tags.now c.loop-tag.tag-index c.args.into.now c.loop-tag.into c.add_tag.new.into c.from_residual.result p.0 p.1 c.in_err-add_tag.ensures.refused c.loop-tag.invariant

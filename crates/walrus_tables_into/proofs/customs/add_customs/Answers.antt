@@ -13,4 +13,4 @@ loop-custom-preserved g c =
 pub returns-in_err-add_raw-clause-in_part : goal.returns-in_err-add_raw-clause-in_part
 returns-in_err-add_raw-clause-in_part g c =
     let p = err_from_is_err_and c.from_residual.result c.from_residual.ensures.1 in
-    filled_so_far IsCustomOf c.args.customs.now c.loop-custom.custom-index c.args.into.now.slots c.loop-custom.into c.add_raw.new.self c.from_residual.result p.0 p.1 c.in_err-add_raw.ensures.refused c.loop-custom.invariant
+    filled_so_far IsCustomOf c.args.customs.now c.loop-custom.custom-index c.args.into.now c.loop-custom.into c.add_raw.new.self c.from_residual.result p.0 p.1 c.in_err-add_raw.ensures.refused c.loop-custom.invariant

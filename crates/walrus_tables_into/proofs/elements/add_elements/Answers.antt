@@ -20,4 +20,4 @@ returns-in_err-add_element-clause-unknown c =
 pub returns-in_err-add_element-clause-in_part : goal.returns-in_err-add_element-clause-in_part
 returns-in_err-add_element-clause-in_part c =
     let p = err_from_is_err_and c.from_residual.result c.from_residual.ensures.1 in
-    filled_so_far (IsElementOf (look_of (ids c.args.maps.now))) c.args.elements.now c.loop-element.element-index c.args.into.now.slots c.loop-element.into c.add_element.new.into c.from_residual.result p.0 p.1 c.in_err-add_element.ensures.refused c.loop-element.invariant
+    filled_so_far (IsElementOf (look_of (ids c.args.maps.now))) c.args.elements.now c.loop-element.element-index c.args.into.now c.loop-element.into c.add_element.new.into c.from_residual.result p.0 p.1 c.in_err-add_element.ensures.refused c.loop-element.invariant

@@ -20,4 +20,4 @@ returns-in_err-add_global-clause-unknown c =
 pub returns-in_err-add_global-clause-in_part : goal.returns-in_err-add_global-clause-in_part
 returns-in_err-add_global-clause-in_part c =
     let p = err_from_is_err_and c.from_residual.result c.from_residual.ensures.1 in
-    filled_so_far (IsGlobalOf (look_of (ids c.args.maps.now))) c.args.globals.now c.loop-global.global-index c.args.into.now.slots c.loop-global.into c.add_global.new.into c.from_residual.result p.0 p.1 c.in_err-add_global.ensures.refused c.loop-global.invariant
+    filled_so_far (IsGlobalOf (look_of (ids c.args.maps.now))) c.args.globals.now c.loop-global.global-index c.args.into.now c.loop-global.into c.add_global.new.into c.from_residual.result p.0 p.1 c.in_err-add_global.ensures.refused c.loop-global.invariant

@@ -20,4 +20,4 @@ returns-in_err-add_table-clause-unknown c =
 pub returns-in_err-add_table-clause-in_part : goal.returns-in_err-add_table-clause-in_part
 returns-in_err-add_table-clause-in_part c =
     let p = err_from_is_err_and c.from_residual.result c.from_residual.ensures.1 in
-    filled_so_far (IsTableOf (look_of (ids c.args.maps.now))) c.args.tables.now c.loop-table.table-index c.args.into.now.slots c.loop-table.into c.add_table.new.into c.from_residual.result p.0 p.1 c.in_err-add_table.ensures.refused c.loop-table.invariant
+    filled_so_far (IsTableOf (look_of (ids c.args.maps.now))) c.args.tables.now c.loop-table.table-index c.args.into.now c.loop-table.into c.add_table.new.into c.from_residual.result p.0 p.1 c.in_err-add_table.ensures.refused c.loop-table.invariant
