@@ -2,7 +2,7 @@
 use Rattle.walrus_sections.specs.declared.section.Section.{Section}
 use Rattle.walrus_sections.specs.declared.section.Section.TheVariants.{Raw, Boxed}
 use Rattle.walrus_sections.specs.Sections.{IsRaw}
-use Rattle.walrus_known_sections.specs.declared.items.Custom.{Custom}
+use Rattle.walrus_sections_into.specs.walrus_known_sections.declared.items.Custom.{Custom}
 
 -- a raw one of the same name, with the same bytes
 abbrev pub IsCustomOf : {B : Type 0} → Custom → Section B → Type 0

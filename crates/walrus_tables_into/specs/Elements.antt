@@ -13,11 +13,11 @@ use Rattle.walrus_sections_into.specs.walrus_module_items.declared.element.Eleme
 use Rattle.walrus_sections_into.specs.walrus_module_items.declared.element.ElementKind.TheVariants as kinds
 use Rattle.walrus_sections_into.specs.walrus_module_items.declared.element.ElementItems.{ElementItems}
 use Rattle.walrus_sections_into.specs.walrus_module_items.declared.element.ElementItems.TheVariants as holds
-use Rattle.walrus_known_sections.specs.declared.items.Element.{Element as ReadElement}
-use Rattle.walrus_known_sections.specs.declared.items.ElementItems.{ElementItems as ReadItems}
-use Rattle.walrus_known_sections.specs.declared.items.ElementItems.TheVariants as listed
-use Rattle.walrus_known_sections.specs.declared.items.Mode.{Mode}
-use Rattle.walrus_known_sections.specs.declared.items.Mode.TheVariants as modes
+use Rattle.walrus_sections_into.specs.walrus_known_sections.declared.items.Element.{Element as ReadElement}
+use Rattle.walrus_sections_into.specs.walrus_known_sections.declared.items.ElementItems.{ElementItems as ReadItems}
+use Rattle.walrus_sections_into.specs.walrus_known_sections.declared.items.ElementItems.TheVariants as listed
+use Rattle.walrus_sections_into.specs.walrus_known_sections.declared.items.Mode.{Mode}
+use Rattle.walrus_sections_into.specs.walrus_known_sections.declared.items.Mode.TheVariants as modes
 use Rattle.walrus_sections_into.specs.Becomes.{OpsBecome}
 use Rattle.walrus_sections_into.specs.Consts.{OpLacks}
 use Rattle.walrus_sections_into.specs.declared.error.IntoError.TheVariants.{Unknown}

@@ -10,7 +10,7 @@ use Rattle.walrus_sections_into.specs.walrus_instr.declared.const_expr.ConstExpr
 use Rattle.walrus_sections_into.specs.walrus_operators.declared.operator.Operator.{Operator}
 use Rattle.walrus_sections_into.specs.walrus_pairing.Looks.{Look}
 use Rattle.walrus_sections_into.specs.walrus_module_items.declared.table.Table.{Table}
-use Rattle.walrus_known_sections.specs.declared.items.Table.{Table as ReadTable}
+use Rattle.walrus_sections_into.specs.walrus_known_sections.declared.items.Table.{Table as ReadTable}
 use Rattle.walrus_sections_into.specs.Becomes.{OpsBecome}
 use Rattle.walrus_sections_into.specs.Consts.{OpLacks}
 use Rattle.walrus_sections_into.specs.declared.error.IntoError.TheVariants.{Unknown}
