@@ -1,5 +1,5 @@
 -- Tables, as they were read and in a module.
-use Rattle.std.specs.Prelude.{ℕ, ◌≡◌, ◌⊎◌, [], Option, Some, None, IsSome, Ok, Err}
+use Rattle.std.specs.Prelude.{◌≡◌, ◌⊎◌, [], Option, Some, None, IsSome, Ok, Err}
 use Rattle.std.specs.List.{Any}
 use Rattle.std.specs.Global.{Vec}
 use Rattle.std.specs.HashSet.{keys}

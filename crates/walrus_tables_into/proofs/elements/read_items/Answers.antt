@@ -15,4 +15,4 @@ returns-in_err-exprs-in-Expressions-clause-unknown c =
     let look = look_of (ids c.args.maps.now) in
     let p = err_from_is_err_and c.from_residual-in_err-exprs-in-Expressions.result c.from_residual-in_err-exprs-in-Expressions.ensures.1 in
     lacks (ItemsLack look c.args.items.now) c.from_residual-in_err-exprs-in-Expressions.result _ _ p.1 p.2
-        (λ unknown. rw c.in-Expressions.is (inr (subst (λ (l : List (Vec Operator)). Any (ExprLacks look) l) c.as_slice-in-Expressions.ensures.value (c.in_err-exprs-in-Expressions.ensures.unknown unknown))))
+    (λ unknown. rw c.in-Expressions.is (inr (subst (λ (l : List (Vec Operator)). Any (ExprLacks look) l) c.as_slice-in-Expressions.ensures.value (c.in_err-exprs-in-Expressions.ensures.unknown unknown))))
