@@ -1,6 +1,7 @@
 -- Instructions that are operators of constant expressions.
 use Rattle.std.specs.Prelude.{◌≡◌, Option, Some, Ok, refl}
-use Rattle.std.proofs.Common.{sym, ◌∙◌}
+use Rattle.std.specs.Option.{option_and_then}
+use Rattle.std.proofs.Common.{ap, sym, ◌∙◌}
 use Rattle.wasm_operators.specs.Operators.{Seen}
 use Rattle.wasm_operator_names.specs.Names.{renamed_operator}
 use Rattle.walrus_operators.specs.declared.operator.Operator.{Operator}
@@ -10,6 +11,7 @@ use Rattle.walrus_instr.specs.declared.const_expr.ConstOp.{ConstOp}
 use Rattle.walrus_pairing.specs.Looks.{Look, Or}
 use Rattle.walrus_pairing.specs.Read.{instr_at}
 use Rattle.walrus_operator_laws.proofs.Renamed.{operator_comes_back}
+use Rattle.walrus_sections_into.specs.Consts.{instr_const, plain_of, plain_is}
 use Rattle.walrus_sections_into.specs.Becomes.{renames_by, OpBecomes}
 use Rattle.walrus_forms.specs.declared.value.RefType.{RefType}
 use Rattle.walrus_forms.specs.declared.value.HeapType.{HeapType}
@@ -46,7 +48,10 @@ some_is : (a b : Seen) → done a ≡ done b → a ≡ b
 some_is a b e = cc
 
 -- what an operator is read as is the same, renamed
-pub op_becomes : (look : Look) (op : Operator) (i : Instr) (c : ConstOp) → instr_at look (seen op) ≡ Ok (Some i) → operator_at itself i ≡ Ok (Some (const_seen c)) → OpBecomes look op c
-op_becomes look op i c read written features fits =
-    let back = operator_comes_back (renames_by look) look itself (λ space n id there. rw there refl) features (seen op) i fits read in
-    some_is (const_seen c) (renamed_operator (renames_by look) (seen op)) (sym written ∙ back)
+pub op_becomes : (look : Look) (op : Operator) (i : Instr) (c : ConstOp) → Some i ≡ plain_of (instr_at look (seen op)) → Some c ≡ instr_const i → operator_at itself i ≡ Ok (Some (const_seen c)) → OpBecomes look op c
+op_becomes look op i c read form written = (
+  ap (λ (o : Option Instr). option_and_then instr_const o) (sym read) ∙ sym form,
+  λ features fits.
+      let back = operator_comes_back (renames_by look) look itself (λ space n id there. rw there refl) features (seen op) i fits (plain_is (instr_at look (seen op)) i read) in
+      some_is (const_seen c) (renamed_operator (renames_by look) (seen op)) (sym written ∙ back),
+)

@@ -1,8 +1,8 @@
 -- What was read of a file, and what it becomes in a module: the same, but that a name is the id of what its number names.
-use Rattle.std.specs.Prelude.{ℕ, suc, zero, ◌+◌, ◌≡◌, ◌<◌, List, [], ◌∷◌, ◌++◌, length, take, map, slice_index_or, refl}
+use Rattle.std.specs.Prelude.{◌≡◌, List, [], ◌∷◌, map, Some, refl}
 use Rattle.std.specs.Option.{unwrap_or}
-use Rattle.std.specs.List.{AllByRecursion}
-use Rattle.std.proofs.Common.{ap, ◌∙◌, subst, arith}
+use Rattle.std.specs.List.{AllByRecursion, AllZip}
+use Rattle.std.proofs.Common.{ap, ◌∙◌}
 use Rattle.wasm_features.specs.declared.WasmFeatures.{WasmFeatures}
 use Rattle.wasm_operators.specs.Operators.{Seen}
 use Rattle.wasm_operator_names.specs.Names.{Renaming, renamed_operator}
@@ -13,6 +13,7 @@ use Rattle.walrus_instr.specs.declared.const_expr.ConstOp.{ConstOp}
 use Rattle.walrus_index_maps.specs.Maps.{Ids}
 use Rattle.walrus_pairing.specs.Looks.{Look, id_of}
 use Rattle.walrus_meaning.specs.Words.{const_seen}
+use Rattle.walrus_sections_into.specs.Consts.{const_at}
 
 -- the id that a number names
 abbrev pub look_of : Ids → Look
@@ -22,25 +23,15 @@ look_of ids = id_of ids 0
 abbrev pub renames_by : Look → Renaming
 renames_by look space n = unwrap_or (look space n) n
 
--- an operator that has a spelling is the same, renamed
+-- what it is in a constant expression; if it has a spelling it is the same, renamed
 abbrev pub OpBecomes : Look → Operator → ConstOp → Type 0
-OpBecomes look op c = (features : WasmFeatures) → OperatorFits features (seen op) → const_seen c ≡ renamed_operator (renames_by look) (seen op)
+OpBecomes look op c = (const_at look op ≡ Some c) × ((features : WasmFeatures) → OperatorFits features (seen op) → const_seen c ≡ renamed_operator (renames_by look) (seen op))
 
 -- as many operators, each the same, renamed
 abbrev pub OpsBecome : Look → List Operator → List ConstOp → Type 0
-OpsBecome look [] [] = Unit {0}
-OpsBecome look (op ∷ ops) (c ∷ cs) = OpBecomes look op c × OpsBecome look ops cs
-OpsBecome look _ _ = ⊥
+OpsBecome look = AllZip (OpBecomes look)
 
 -- ---- Lemmas
-
-pub ops_on : (look : Look) (ops : List Operator) (i : ℕ) (other : Operator) (cs : List ConstOp) (c : ConstOp) → i < length ops → OpsBecome look (take i ops) cs
-    → OpBecomes look (slice_index_or ops i other) c → OpsBecome look (take (suc i) ops) (cs ++ c ∷ [])
-ops_on look [] i other cs c lt so h = absurd (omega (arith, lt))
-ops_on look (op ∷ ops) zero other [] c lt so h = (h, tt)
-ops_on look (op ∷ ops) zero other (d ∷ cs) c lt so h = absurd so
-ops_on look (op ∷ ops) (suc i) other [] c lt so h = absurd so
-ops_on look (op ∷ ops) (suc i) other (d ∷ cs) c lt so h = (so.0, ops_on look ops i other cs c (omega (arith, lt)) so.1 h)
 
 -- an expression whose operators have spellings means what was read, renamed
 pub ops_mean : (look : Look) (features : WasmFeatures) (ops : List Operator) (cs : List ConstOp) → AllByRecursion (OperatorFits features) (map seen ops) → OpsBecome look ops cs
@@ -49,11 +40,5 @@ ops_mean look features [] [] fits h = refl
 ops_mean look features [] (c ∷ cs) fits h = absurd h
 ops_mean look features (op ∷ ops) [] fits h = absurd h
 ops_mean look features (op ∷ ops) (c ∷ cs) fits h =
-    ap (λ (s : Seen). s ∷ map const_seen cs) (h.0 features fits.0)
+    ap (λ (s : Seen). s ∷ map const_seen cs) (h.0.1 features fits.0)
     ∙ ap (λ (l : List Seen). renamed_operator (renames_by look) (seen op) ∷ l) (ops_mean look features ops cs fits.1 h.1)
-
-pub ops_next : (look : Look) (ops : List Operator) (i : ℕ) (other now : Operator) (cs new : List ConstOp) (c : ConstOp) → now ≡ slice_index_or ops i other → i < length ops → OpsBecome look (take i ops) cs
-    → OpBecomes look now c → new ≡ cs ++ c ∷ [] → OpsBecome look (take (i + 1) ops) new
-ops_next look ops i other now cs new c is lt so h same =
-    let one : i + 1 ≡ suc i = omega arith in
-    rw (one, same) (ops_on look ops i other cs c lt so (subst (λ (op : Operator). OpBecomes look op c) is h))

@@ -1,9 +1,10 @@
 -- Slots of a module that are filled with what was read of a file.
-use Rattle.std.specs.Prelude.{ℕ, zero, suc, ◌+◌, ◌≡◌, ◌<◌, List, [], ◌∷◌, ◌++◌, length, take, map, Option, Some, None, slice_index_or, refl}
+use Rattle.std.specs.Prelude.{ℕ, zero, suc, ◌+◌, ◌≡◌, ◌<◌, List, [], ◌∷◌, ◌++◌, length, take, map, Option, Some, None, Result, Err, OnErr, slice_index_or, refl}
 use Rattle.std.specs.Option.{option_map}
 use Rattle.std.proofs.Common.{ap, sym, ◌∙◌, subst, arith}
 use Rattle.std.proofs.lemmas.List.{append_assoc, append-nil}
-use Rattle.walrus_module_items.specs.declared.memory.Memory.{Memory}
+use Rattle.walrus_arena.specs.Arena.{Arena}
+use Rattle.walrus_meaning.specs.walrus_linked.walrus_module_items.declared.memory.Memory.{Memory}
 use Rattle.walrus_known_sections.specs.declared.items.Memory.{Memory as ReadMemory}
 use Rattle.walrus_known_sections.specs.Items.{memory_of}
 use Rattle.walrus_meaning.specs.Meaning.{own_memory}
@@ -20,6 +21,10 @@ module _ {X Y : Type 0} (R : X → Y → Type 0) where
     pub more : List (Option Y)
     pub behind : new ≡ old ++ more
     pub become : Become xs more
+
+  -- only the first ones do
+  abbrev pub FilledInPart : List X → List (Option Y) → List (Option Y) → Type 0
+  FilledInPart xs old new = (n : ℕ) × Filled (take n xs) old new
 
   -- Lemmas
   pub filled_none : (old : List (Option Y)) → Filled [] old old
@@ -42,6 +47,10 @@ module _ {X Y : Type 0} (R : X → Y → Type 0) where
         behind = same ∙ ap (λ (l : List (Option Y)). l ++ Some y ∷ []) so.behind ∙ append_assoc old so.more (Some y ∷ []);
         become = rw one (become_on xs i other so.more y lt so.become (subst (λ (x : X). R x y) is h));
       }
+
+  -- a loop ends at an item that is refused
+  pub filled_so_far : {T E : Type 0} (xs : List X) (i : ℕ) (old mid new : Arena Y) (result : Result T E) (d : E) → result ≡ Err d → new ≡ mid → Filled (take i xs) old.slots mid.slots → OnErr result (FilledInPart xs old.slots new.slots)
+  filled_so_far xs i old mid new result d refused same so = rw (refused, same) (i, so)
 
   -- what fills the slots is seen as what was read is
   pub filled_seen : {Z : Type 0} (read : X → Z) (see : Y → Z) → ((x : X) (y : Y) → R x y → see y ≡ read x) → (xs : List X) (ys : List (Option Y)) → Become xs ys

@@ -3,7 +3,7 @@ use Rattle.std.specs.Prelude.{◌≡◌, Some}
 use Rattle.wasm_immediates.specs.Items.{Types}
 use Rattle.walrus_pairing.specs.Looks.{Look}
 use Rattle.walrus_meaning.specs.walrus_linked.Linked.{tag_import}
-use Rattle.walrus_module_items.specs.declared.tag.Tag.{Tag}
+use Rattle.walrus_meaning.specs.walrus_linked.walrus_module_items.declared.tag.Tag.{Tag}
 use Rattle.walrus_known_sections.specs.declared.items.Tag.{Tag as ReadTag}
 
 -- of the type that is named, brought by the same import

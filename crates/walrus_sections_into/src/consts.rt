@@ -4,13 +4,15 @@ ghost use Rattle.std.specs.Prelude.{◌≡◌, IfSome, Some, Ok};
 ghost use Rattle.walrus_instr.specs.declared.instr.Instr.TheVariants as instrs;
 ghost use Rattle.walrus_pairing.specs.Write.{operator_at};
 ghost use Rattle.walrus_meaning.specs.Words.{const_seen, itself};
+ghost use Rattle.walrus_sections_into.specs.Consts.{binary_const, instr_const};
 
 use walrus_instr::{BinaryOp, ConstOp, Instr, Value};
 
 // The operator of a sum, a difference or a product.
 #[tactic(auto, unfolding(walrus_pairing::specs::Write::operator_at))]
 fn const_of_binop(op: BinaryOp) -> Option<ConstOp>
-    ensures { IfSome result (λ c. operator_at itself (instrs.Binop op) ≡ Ok (Some (const_seen c))) }
+    ensures means { IfSome result (λ c. operator_at itself (instrs.Binop op) ≡ Ok (Some (const_seen c))) }
+    ensures form { result ≡ binary_const op }
 {
     match op {
         BinaryOp::I32Add => Some(ConstOp::I32Add),
@@ -26,7 +28,8 @@ fn const_of_binop(op: BinaryOp) -> Option<ConstOp>
 /// The operator of a constant expression that is this instruction; none of another.
 #[tactic(auto, unfolding(walrus_pairing::specs::Write::operator_at), using(crate::proofs::OperatorLemmas::value_is, crate::proofs::OperatorLemmas::null_is))]
 pub fn const_of(instr: &Instr) -> Option<ConstOp>
-    ensures { IfSome result (λ c. operator_at itself instr.now ≡ Ok (Some (const_seen c))) }
+    ensures means { IfSome result (λ c. operator_at itself instr.now ≡ Ok (Some (const_seen c))) }
+    ensures form { result ≡ instr_const instr.now }
 {
     match instr {
         Instr::Const { value } => Some(ConstOp::from(*value)),

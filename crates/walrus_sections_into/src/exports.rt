@@ -1,19 +1,19 @@
 //! Exports, and the start function.
 
-ghost use Rattle.std.specs.Prelude.{◌≡◌, IfOk, OnOk};
-ghost use Rattle.walrus_collections.specs.Added.{Adds};
+ghost use Rattle.std.specs.Prelude.{◌≡◌, IfOk, OnOk, OnErr};
+ghost use Rattle.walrus_meaning.specs.walrus_linked.walrus_collections.Added.{Adds};
 ghost use Rattle.walrus_index_maps.specs.Views.{ids};
 ghost use Rattle.walrus_sections_into.specs.Becomes.{look_of};
-ghost use Rattle.walrus_sections_into.specs.Slots.{Filled};
+ghost use Rattle.walrus_sections_into.specs.Slots.{Filled, FilledInPart};
 ghost use Rattle.walrus_sections_into.specs.Exports.{IsExportOf, ItemBecomes, StartBecomes};
 
 use crate::error::IntoError;
 use crate::ids::{function_id, global_id, memory_id, table_id, tag_id};
 use walrus_arena::FunctionId;
-use walrus_collections::ModuleExports;
 use walrus_index_maps::IndicesToIds;
 use walrus_known_sections::Export;
-use walrus_module_items::ExportItem;
+use walrus_meaning::linked::collections::ModuleExports;
+use walrus_meaning::module::module_items::ExportItem;
 use wasm_formats::Space;
 
 // What is given out.
@@ -50,7 +50,8 @@ fn add_export(
     maps: &IndicesToIds,
     into: &mut ModuleExports,
 ) -> Result<(), IntoError>
-    ensures { OnOk result (Adds (IsExportOf (look_of (ids maps.now)) export.now) into.old into.new) }
+    ensures added { OnOk result (Adds (IsExportOf (look_of (ids maps.now)) export.now) into.old into.new) }
+    ensures refused { OnErr result (into.new ≡ into.old) }
 {
     let item = read_item(export.space, export.index, maps)?;
     into.add(export.name, item)?;
@@ -61,13 +62,14 @@ fn add_export(
 ///
 /// # Errors
 ///
-/// Want of memory; `Unknown` where one names nothing.
+/// Want of memory; `Unknown` where one names nothing. The first of the exports may be there.
 pub fn add_exports(
     exports: &[Export<'_>],
     maps: &IndicesToIds,
     into: &mut ModuleExports,
 ) -> Result<(), IntoError>
-    ensures { OnOk result (Filled (IsExportOf (look_of (ids maps.now))) exports.now into.old.slots into.new.slots) }
+    ensures added { OnOk result (Filled (IsExportOf (look_of (ids maps.now))) exports.now into.old.slots into.new.slots) }
+    ensures in_part { OnErr result (FilledInPart (IsExportOf (look_of (ids maps.now))) exports.now into.old.slots into.new.slots) }
 {
     for export in exports {
         add_export(export, maps, into)?;

@@ -1,9 +1,11 @@
 //! Ids of what is named by number: a collection that is filled in the order of a file gives each item its number as its id.
 
-ghost use Rattle.std.specs.Prelude.{◌≡◌, IfOk, Some};
+ghost use Rattle.std.specs.Prelude.{◌≡◌, IfOk, IfErr, Some, None};
+ghost use Rattle.std.specs.Option.{ok_or};
 ghost use Rattle.wasm_immediates.specs.Items.{Functions, Globals, Memories, Tables, Tags, Types};
 ghost use Rattle.walrus_index_maps.specs.Views.{ids};
 ghost use Rattle.walrus_sections_into.specs.Becomes.{look_of};
+ghost use Rattle.walrus_sections_into.specs.declared.error.IntoError.TheVariants.{Memory, Unknown};
 
 use crate::error::IntoError;
 use walrus_arena::{FunctionId, GlobalId, ImportId, MemoryId, TableId, TagId, TypeId};
@@ -11,7 +13,8 @@ use walrus_index_maps::IndicesToIds;
 
 /// The import of this number. 2^32 of them can't be held.
 pub fn import_id(number: usize) -> Result<ImportId, IntoError>
-    ensures { IfOk result (λ id. id ≡ number) }
+    ensures found { IfOk result (λ id. id ≡ number) }
+    ensures refused { IfErr result (λ e. e ≡ Memory) }
 {
     if number > u32::MAX as usize {
         return Err(IntoError::Memory);
@@ -20,9 +23,10 @@ pub fn import_id(number: usize) -> Result<ImportId, IntoError>
 }
 
 /// The memory of this number.
-#[tactic(auto, using(crate::proofs::Lookups::found))]
+#[tactic(auto, using(crate::proofs::Lookups::found, crate::proofs::Lookups::missing))]
 pub fn memory_id(number: u32, maps: &IndicesToIds) -> Result<MemoryId, IntoError>
-    ensures { IfOk result (λ id. look_of (ids maps.now) Memories number ≡ Some id) }
+    ensures found { IfOk result (λ id. look_of (ids maps.now) Memories number ≡ Some id) }
+    ensures unknown { IfErr result (λ e. (e ≡ Unknown) × (look_of (ids maps.now) Memories number ≡ None)) }
 {
     match maps.get_memory(number) {
         Ok(id) => Ok(id),
@@ -31,9 +35,10 @@ pub fn memory_id(number: u32, maps: &IndicesToIds) -> Result<MemoryId, IntoError
 }
 
 /// The function of this number.
-#[tactic(auto, using(crate::proofs::Lookups::found))]
+#[tactic(auto, using(crate::proofs::Lookups::found, crate::proofs::Lookups::missing))]
 pub fn function_id(number: u32, maps: &IndicesToIds) -> Result<FunctionId, IntoError>
-    ensures { IfOk result (λ id. look_of (ids maps.now) Functions number ≡ Some id) }
+    ensures found { IfOk result (λ id. look_of (ids maps.now) Functions number ≡ Some id) }
+    ensures unknown { IfErr result (λ e. (e ≡ Unknown) × (look_of (ids maps.now) Functions number ≡ None)) }
 {
     match maps.get_func(number) {
         Ok(id) => Ok(id),
@@ -42,9 +47,10 @@ pub fn function_id(number: u32, maps: &IndicesToIds) -> Result<FunctionId, IntoE
 }
 
 /// The table of this number.
-#[tactic(auto, using(crate::proofs::Lookups::found))]
+#[tactic(auto, using(crate::proofs::Lookups::found, crate::proofs::Lookups::missing))]
 pub fn table_id(number: u32, maps: &IndicesToIds) -> Result<TableId, IntoError>
-    ensures { IfOk result (λ id. look_of (ids maps.now) Tables number ≡ Some id) }
+    ensures found { IfOk result (λ id. look_of (ids maps.now) Tables number ≡ Some id) }
+    ensures unknown { IfErr result (λ e. (e ≡ Unknown) × (look_of (ids maps.now) Tables number ≡ None)) }
 {
     match maps.get_table(number) {
         Ok(id) => Ok(id),
@@ -53,9 +59,10 @@ pub fn table_id(number: u32, maps: &IndicesToIds) -> Result<TableId, IntoError>
 }
 
 /// The global of this number.
-#[tactic(auto, using(crate::proofs::Lookups::found))]
+#[tactic(auto, using(crate::proofs::Lookups::found, crate::proofs::Lookups::missing))]
 pub fn global_id(number: u32, maps: &IndicesToIds) -> Result<GlobalId, IntoError>
-    ensures { IfOk result (λ id. look_of (ids maps.now) Globals number ≡ Some id) }
+    ensures found { IfOk result (λ id. look_of (ids maps.now) Globals number ≡ Some id) }
+    ensures unknown { IfErr result (λ e. (e ≡ Unknown) × (look_of (ids maps.now) Globals number ≡ None)) }
 {
     match maps.get_global(number) {
         Ok(id) => Ok(id),
@@ -64,9 +71,10 @@ pub fn global_id(number: u32, maps: &IndicesToIds) -> Result<GlobalId, IntoError
 }
 
 /// The tag of this number.
-#[tactic(auto, using(crate::proofs::Lookups::found))]
+#[tactic(auto, using(crate::proofs::Lookups::found, crate::proofs::Lookups::missing))]
 pub fn tag_id(number: u32, maps: &IndicesToIds) -> Result<TagId, IntoError>
-    ensures { IfOk result (λ id. look_of (ids maps.now) Tags number ≡ Some id) }
+    ensures found { IfOk result (λ id. look_of (ids maps.now) Tags number ≡ Some id) }
+    ensures unknown { IfErr result (λ e. (e ≡ Unknown) × (look_of (ids maps.now) Tags number ≡ None)) }
 {
     match maps.get_tag(number) {
         Ok(id) => Ok(id),
@@ -75,9 +83,10 @@ pub fn tag_id(number: u32, maps: &IndicesToIds) -> Result<TagId, IntoError>
 }
 
 /// The type of this number.
-#[tactic(auto, using(crate::proofs::Lookups::found))]
+#[tactic(auto, using(crate::proofs::Lookups::found, crate::proofs::Lookups::found_as, crate::proofs::Lookups::missing_as))]
 pub fn type_id(number: u32, maps: &IndicesToIds) -> Result<TypeId, IntoError>
-    ensures { IfOk result (λ id. look_of (ids maps.now) Types number ≡ Some id) }
+    ensures found { IfOk result (λ id. look_of (ids maps.now) Types number ≡ Some id) }
+    ensures exact { result ≡ ok_or (look_of (ids maps.now) Types number) Unknown }
 {
     match maps.get_type(number) {
         Ok(id) => Ok(id),

@@ -1,18 +1,18 @@
 //! Imports.
 
-ghost use Rattle.std.specs.Prelude.{◌≡◌, IfOk, OnOk};
-ghost use Rattle.walrus_collections.specs.Added.{Adds};
+ghost use Rattle.std.specs.Prelude.{◌≡◌, IfOk, OnOk, OnErr};
+ghost use Rattle.walrus_meaning.specs.walrus_linked.walrus_collections.Added.{Adds};
 ghost use Rattle.walrus_index_maps.specs.Views.{ids};
 ghost use Rattle.walrus_sections_into.specs.Becomes.{look_of};
-ghost use Rattle.walrus_sections_into.specs.Slots.{Filled};
+ghost use Rattle.walrus_sections_into.specs.Slots.{Filled, FilledInPart};
 ghost use Rattle.walrus_sections_into.specs.Imports.{IsImportOf, KindBecomes};
 
 use crate::error::IntoError;
 use crate::ids::{function_id, global_id, memory_id, small, table_id, tag_id};
-use walrus_collections::ModuleImports;
 use walrus_index_maps::IndicesToIds;
 use walrus_known_sections::Import;
-use walrus_module_items::ImportKind;
+use walrus_meaning::linked::collections::ModuleImports;
+use walrus_meaning::module::module_items::ImportKind;
 use wasm_formats::Space;
 
 // What is brought.
@@ -49,7 +49,8 @@ fn add_import(
     maps: &IndicesToIds,
     into: &mut ModuleImports,
 ) -> Result<(), IntoError>
-    ensures { OnOk result (Adds (IsImportOf (look_of (ids maps.now)) import.now) into.old into.new) }
+    ensures added { OnOk result (Adds (IsImportOf (look_of (ids maps.now)) import.now) into.old into.new) }
+    ensures refused { OnErr result (into.new ≡ into.old) }
 {
     let number = small(import.index)?;
     let kind = read_kind(import.space, number, maps)?;
@@ -61,13 +62,14 @@ fn add_import(
 ///
 /// # Errors
 ///
-/// Want of memory; `Unknown` where one names nothing.
+/// Want of memory; `Unknown` where one names nothing. The first of the imports may be there.
 pub fn add_imports(
     imports: &[Import<'_>],
     maps: &IndicesToIds,
     into: &mut ModuleImports,
 ) -> Result<(), IntoError>
-    ensures { OnOk result (Filled (IsImportOf (look_of (ids maps.now))) imports.now into.old.slots into.new.slots) }
+    ensures added { OnOk result (Filled (IsImportOf (look_of (ids maps.now))) imports.now into.old.slots into.new.slots) }
+    ensures in_part { OnErr result (FilledInPart (IsImportOf (look_of (ids maps.now))) imports.now into.old.slots into.new.slots) }
 {
     for import in imports {
         add_import(import, maps, into)?;

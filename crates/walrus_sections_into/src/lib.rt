@@ -15,6 +15,7 @@ mod tags;
 pub use error::IntoError;
 pub use exports::{add_exports, read_start};
 pub use exprs::read_expr;
+pub use ids::{function_id, import_id, table_id, type_id};
 pub use imports::add_imports;
 pub use memories::add_memories;
 pub use numbers::{
@@ -23,3 +24,13 @@ pub use numbers::{
 };
 pub use segments::add_segments;
 pub use tags::add_tags;
+
+// Passed on to crates above, which then list this one alone.
+pub use walrus_arena as arena;
+pub use walrus_forms as forms;
+pub use walrus_index_maps as index_maps;
+pub use walrus_instr as instr;
+pub use walrus_known_sections as known_sections;
+pub use walrus_meaning::linked::collections;
+pub use walrus_meaning::module::module_items;
+pub use walrus_operators as operators;

@@ -1,18 +1,19 @@
 //! Memories.
 
-ghost use Rattle.std.specs.Prelude.{◌≡◌, OnOk};
+ghost use Rattle.std.specs.Prelude.{◌≡◌, OnOk, OnErr};
 ghost use Rattle.walrus_known_sections.specs.Items.{memory_of};
-ghost use Rattle.walrus_collections.specs.Added.{Adds};
+ghost use Rattle.walrus_meaning.specs.walrus_linked.walrus_collections.Added.{Adds};
 ghost use Rattle.walrus_meaning.specs.Meaning.{own_memory};
-ghost use Rattle.walrus_sections_into.specs.Slots.{Filled, IsMemoryOf};
+ghost use Rattle.walrus_sections_into.specs.Slots.{Filled, FilledInPart, IsMemoryOf};
 
 use crate::error::IntoError;
 use crate::ids::import_id;
-use walrus_collections::ModuleMemories;
 use walrus_known_sections::Memory;
+use walrus_meaning::linked::collections::ModuleMemories;
 
 fn add_memory(memory: &Memory, into: &mut ModuleMemories) -> Result<(), IntoError>
-    ensures { OnOk result (Adds (IsMemoryOf memory.now) into.old into.new) }
+    ensures added { OnOk result (Adds (IsMemoryOf memory.now) into.old into.new) }
+    ensures refused { OnErr result (into.new ≡ into.old) }
 {
     let limits = memory.ty.limits;
     let shared = limits.is_shared();
@@ -42,9 +43,10 @@ fn add_memory(memory: &Memory, into: &mut ModuleMemories) -> Result<(), IntoErro
 ///
 /// # Errors
 ///
-/// Want of memory.
+/// Want of memory. The first of the memories may be there.
 pub fn add_memories(memories: &[Memory], into: &mut ModuleMemories) -> Result<(), IntoError>
-    ensures { OnOk result (Filled IsMemoryOf memories.now into.old.slots into.new.slots) }
+    ensures added { OnOk result (Filled IsMemoryOf memories.now into.old.slots into.new.slots) }
+    ensures in_part { OnErr result (FilledInPart IsMemoryOf memories.now into.old.slots into.new.slots) }
 {
     for memory in memories {
         add_memory(memory, into)?;

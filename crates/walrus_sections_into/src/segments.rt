@@ -1,20 +1,20 @@
 //! Data segments.
 
-ghost use Rattle.std.specs.Prelude.{◌≡◌, IfOk, OnOk};
-ghost use Rattle.walrus_collections.specs.Added.{Adds};
+ghost use Rattle.std.specs.Prelude.{◌≡◌, IfOk, OnOk, OnErr};
+ghost use Rattle.walrus_meaning.specs.walrus_linked.walrus_collections.Added.{Adds};
 ghost use Rattle.walrus_index_maps.specs.Views.{ids};
 ghost use Rattle.walrus_sections_into.specs.Becomes.{look_of};
-ghost use Rattle.walrus_sections_into.specs.Slots.{Filled};
+ghost use Rattle.walrus_sections_into.specs.Slots.{Filled, FilledInPart};
 ghost use Rattle.walrus_sections_into.specs.Segments.{IsSegmentOf, ModeBecomes};
 
 use crate::error::IntoError;
 use crate::exprs::read_expr;
 use crate::ids::memory_id;
 use std::alloc::Global;
-use walrus_collections::ModuleData;
 use walrus_index_maps::IndicesToIds;
 use walrus_known_sections::{Data, Mode};
-use walrus_module_items::DataKind;
+use walrus_meaning::linked::collections::ModuleData;
+use walrus_meaning::module::module_items::DataKind;
 
 // When it is copied.
 fn read_mode(alloc: Global, mode: &Mode, maps: &IndicesToIds) -> Result<DataKind, IntoError>
@@ -45,7 +45,8 @@ fn add_segment(
     maps: &IndicesToIds,
     into: &mut ModuleData,
 ) -> Result<(), IntoError>
-    ensures { OnOk result (Adds (IsSegmentOf (look_of (ids maps.now)) segment.now) into.old into.new) }
+    ensures added { OnOk result (Adds (IsSegmentOf (look_of (ids maps.now)) segment.now) into.old into.new) }
+    ensures refused { OnErr result (into.new ≡ into.old) }
 {
     let kind = read_mode(alloc, &segment.mode, maps)?;
     let value = copied(alloc, segment.bytes)?;
@@ -57,14 +58,15 @@ fn add_segment(
 ///
 /// # Errors
 ///
-/// Want of memory; `Unknown` where one names nothing.
+/// Want of memory; `Unknown` where one names nothing. The first of the segments may be there.
 pub fn add_segments(
     alloc: Global,
     segments: &[Data<'_>],
     maps: &IndicesToIds,
     into: &mut ModuleData,
 ) -> Result<(), IntoError>
-    ensures { OnOk result (Filled (IsSegmentOf (look_of (ids maps.now))) segments.now into.old.slots into.new.slots) }
+    ensures added { OnOk result (Filled (IsSegmentOf (look_of (ids maps.now))) segments.now into.old.slots into.new.slots) }
+    ensures in_part { OnErr result (FilledInPart (IsSegmentOf (look_of (ids maps.now))) segments.now into.old.slots into.new.slots) }
 {
     for segment in segments {
         add_segment(alloc, segment, maps, into)?;

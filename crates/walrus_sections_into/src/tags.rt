@@ -1,20 +1,21 @@
 //! Tags of exceptions.
 
-ghost use Rattle.std.specs.Prelude.{◌≡◌, OnOk};
-ghost use Rattle.walrus_collections.specs.Added.{Adds};
+ghost use Rattle.std.specs.Prelude.{◌≡◌, OnOk, OnErr};
+ghost use Rattle.walrus_meaning.specs.walrus_linked.walrus_collections.Added.{Adds};
 ghost use Rattle.walrus_index_maps.specs.Views.{ids};
 ghost use Rattle.walrus_sections_into.specs.Becomes.{look_of};
-ghost use Rattle.walrus_sections_into.specs.Slots.{Filled};
+ghost use Rattle.walrus_sections_into.specs.Slots.{Filled, FilledInPart};
 ghost use Rattle.walrus_sections_into.specs.Tags.{IsTagOf};
 
 use crate::error::IntoError;
 use crate::ids::{import_id, type_id};
-use walrus_collections::ModuleTags;
 use walrus_index_maps::IndicesToIds;
 use walrus_known_sections::Tag;
+use walrus_meaning::linked::collections::ModuleTags;
 
 fn add_tag(tag: &Tag, maps: &IndicesToIds, into: &mut ModuleTags) -> Result<(), IntoError>
-    ensures { OnOk result (Adds (IsTagOf (look_of (ids maps.now)) tag.now) into.old into.new) }
+    ensures added { OnOk result (Adds (IsTagOf (look_of (ids maps.now)) tag.now) into.old into.new) }
+    ensures refused { OnErr result (into.new ≡ into.old) }
 {
     let ty = type_id(tag.ty, maps)?;
     match tag.import {
@@ -34,9 +35,10 @@ fn add_tag(tag: &Tag, maps: &IndicesToIds, into: &mut ModuleTags) -> Result<(), 
 ///
 /// # Errors
 ///
-/// Want of memory; `Unknown` where one names no type.
+/// Want of memory; `Unknown` where one names no type. The first of the tags may be there.
 pub fn add_tags(tags: &[Tag], maps: &IndicesToIds, into: &mut ModuleTags) -> Result<(), IntoError>
-    ensures { OnOk result (Filled (IsTagOf (look_of (ids maps.now))) tags.now into.old.slots into.new.slots) }
+    ensures added { OnOk result (Filled (IsTagOf (look_of (ids maps.now))) tags.now into.old.slots into.new.slots) }
+    ensures in_part { OnErr result (FilledInPart (IsTagOf (look_of (ids maps.now))) tags.now into.old.slots into.new.slots) }
 {
     for tag in tags {
         add_tag(tag, maps, into)?;

@@ -4,8 +4,8 @@ use Rattle.walrus_sections_into.specs.Becomes.{look_of}
 use Rattle.walrus_sections_into.specs.Exports.{ItemBecomes}
 use Rattle.walrus_sections_into.proofs.exports.add_export.Goals as goal
 
-pub returns : goal.returns
-returns c =
+pub returns-clause-added : goal.returns-clause-added
+returns-clause-added c =
     let all = c.in_ok-add.ensures.added in
     let it = all.2 in (
       it.0,

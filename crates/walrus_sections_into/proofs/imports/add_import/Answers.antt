@@ -4,8 +4,8 @@ use Rattle.walrus_sections_into.specs.Becomes.{look_of}
 use Rattle.walrus_sections_into.specs.Imports.{KindBecomes}
 use Rattle.walrus_sections_into.proofs.imports.add_import.Goals as goal
 
-pub returns : goal.returns
-returns c =
+pub returns-clause-added : goal.returns-clause-added
+returns-clause-added c =
     let all = c.in_ok-add.ensures.added in
     let it = all.2 in
     let look = look_of (ids c.args.maps.now) in
