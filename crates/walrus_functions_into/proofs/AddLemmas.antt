@@ -2,7 +2,7 @@
 use Rattle.std.proofs.Common.{◌≡◌, ◌∙◌, ◌<◌, ℕ, zero, suc, ◌+◌, List, [], ◌∷◌, ◌++◌, length, take, drop, slice_index_or, Option, Some, None, IfSome, Result, Err, OnErr, refl, sym, ap, subst, arith, add-one}
 use Rattle.std.specs.Prelude.{slice_set}
 use Rattle.std.specs.List.{range_with_len}
-use Rattle.std.proofs.lemmas.List.{append-nil, append_assoc, length-append, take-append-drop}
+use Rattle.std.proofs.lemmas.List.{append-nil, append_assoc, length-append, length-take-le, take-append-drop}
 use Rattle.walrus_arena.specs.Arena.{Arena, item_at, next_id, with_item}
 use Rattle.walrus_index_maps.specs.Maps.{Ids}
 use Rattle.walrus_collections.specs.walrus_module_items.declared.function.Function.{Function}
@@ -31,11 +31,6 @@ replaced {T} f old mid new id x own added h =
 range_more : (a n j : ℕ) → a + n ≡ j → range_with_len a (suc n) ≡ range_with_len a n ++ j ∷ []
 range_more a zero j e = let same : a ≡ j = omega (arith, e) in ap (λ (k : ℕ). k ∷ []) same
 range_more a (suc n) j e = ap (λ (ks : List ℕ). a ∷ ks) (range_more (a + 1) n j (omega (arith, e)))
-
-taken : {A : Type 0} (xs : List A) (i : ℕ) → i < length xs → length (take i xs) ≡ i
-taken [] i lt = absurd (omega (arith, lt))
-taken (x ∷ xs) zero lt = refl
-taken (x ∷ xs) (suc i) lt = ap suc (taken xs i (omega (arith, lt)))
 
 pub length_from : (types : List ℕ) (id : ℕ) (reads : List ReadFunction) → length (functions_from types id reads) ≡ length reads
 length_from types id [] = refl
@@ -67,7 +62,7 @@ pub one_added : (reads : List ReadFunction) (i : ℕ) (d now : ReadFunction) (ol
     → (next_id mid ≡ next_id old + i) × (new.slots ≡ old.slots ++ functions_from m.types (next_id old) (take (i + 1) reads))
 one_added reads i d now old mid new m n is lt h more =
     let first = functions_from m.types (next_id old) (take i reads) in
-    let size : length first ≡ i = length_from m.types (next_id old) (take i reads) ∙ taken reads i lt in
+    let size : length first ≡ i = length_from m.types (next_id old) (take i reads) ∙ length-take-le i reads (omega (arith, lt)) in
     let behind : next_id mid ≡ next_id old + i = ap length h.added ∙ length-append old.slots first ∙ ap (λ (k : ℕ). next_id old + k) size in
     let types : n.types ≡ m.types = ap (λ (x : Ids). x.types) h.numbered in
     let same : Some (function_as n.types (next_id mid) now) ≡ Some (function_as m.types (next_id old + i) (slice_index_or reads i d)) = rw (types, behind, is) refl in (

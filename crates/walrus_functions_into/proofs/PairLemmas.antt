@@ -1,6 +1,6 @@
 -- Lemmas: bodies given in turn to the functions that have none.
 use Rattle.std.proofs.Common.{◌≡◌, ◌∙◌, ◌<◌, ◌⊎◌, ℕ, zero, suc, ◌+◌, Bool, true, false, List, [], ◌∷◌, ◌++◌, length, drop, slice_get, slice_index_or, Option, Some, None, if◌then◌else◌, refl, sym, ap, subst, arith, add-one, inl, inr}
-use Rattle.std.proofs.lemmas.List.{append-nil, append_assoc, length-append}
+use Rattle.std.proofs.lemmas.List.{append-nil, append_assoc, drop_all, length-append}
 use Rattle.walrus_collections.specs.walrus_module_items.declared.function.Function.{Function}
 use Rattle.walrus_known_sections.specs.declared.items.Chunk.{Chunk}
 use Rattle.walrus_functions_into.specs.declared.bodies.FunctionBody.{FunctionBody}
@@ -86,12 +86,8 @@ pub goes_past : (slots : List (Option Function)) (chunks : List Chunk) (n id i :
 goes_past slots chunks n id i pairs new o is none same lt own at h =
     subst (λ (ps : List FunctionBody). Goes slots chunks (n + 1) ps) (sym same) (gives_none slots chunks n pairs o lt (looked_up slots chunks id n i (length pairs) o is own at) none h)
 
-no_slots : (slots : List (Option Function)) → drop (length slots) slots ≡ []
-no_slots [] = refl
-no_slots (s ∷ slots) = no_slots slots
-
 -- behind the last slot
 pub gone : (slots : List (Option Function)) (chunks : List Chunk) (n : ℕ) (pairs : List FunctionBody) → n ≡ length slots → Goes slots chunks n pairs → pairs ≡ paired (bodiless_from 0 slots) chunks
 gone slots chunks n pairs is h =
-    let none : drop n slots ≡ [] = ap (λ (k : ℕ). drop k slots) is ∙ no_slots slots in
+    let none : drop n slots ≡ [] = drop_all n slots (omega (arith, is)) in
     sym (ap (λ (l : List (Option Function)). pairs ++ paired (bodiless_from n l) (drop (length pairs) chunks)) none ∙ append-nil pairs) ∙ h

@@ -45,8 +45,12 @@ fn add_three(maps: &mut IndicesToIds, functions: &mut ModuleFunctions) -> Result
 }
 
 // Whether there is such a function, of this type, and brought by this import or without a body.
-fn is_as(functions: &ModuleFunctions, id: usize, ty: usize, import: Option<usize>) -> bool {
-    let function = FunctionId::from_index(id);
+fn is_as(
+    functions: &ModuleFunctions,
+    function: FunctionId,
+    ty: usize,
+    import: Option<usize>,
+) -> bool {
     if !functions.contains(function) {
         return false;
     }
@@ -69,13 +73,15 @@ fn adds_as_read(alloc: Global) -> Result<bool, AllocError> {
     let mut maps = two_types(alloc)?;
     let mut functions = ModuleFunctions::new(alloc);
     add_three(&mut maps, &mut functions)?;
-    Ok(is_as(&functions, 0, 3, Some(0))
-        && is_as(&functions, 1, 5, None)
-        && is_as(&functions, 2, 3, None)
-        && !functions.contains(FunctionId::from_index(3))
-        && names(&maps, 0, 0)
-        && names(&maps, 1, 1)
-        && names(&maps, 2, 2))
+    Ok(
+        is_as(&functions, FunctionId::from_index(0), 3, Some(0))
+            && is_as(&functions, FunctionId::from_index(1), 5, None)
+            && is_as(&functions, FunctionId::from_index(2), 3, None)
+            && !functions.contains(FunctionId::from_index(3))
+            && names(&maps, 0, 0)
+            && names(&maps, 1, 1)
+            && names(&maps, 2, 2),
+    )
 }
 
 // Whether this function has the body at this place.
@@ -92,9 +98,7 @@ fn gives(alloc: Global, bodies: &[Chunk], count: usize) -> Result<bool, AllocErr
     let mut functions = ModuleFunctions::new(alloc);
     add_three(&mut maps, &mut functions)?;
     let pairs = pair_bodies(alloc, &functions, bodies)?;
-    Ok(pairs.len() == count
-        && is_pair(&pairs, 0, 1, 1)
-        && (count < 2 || is_pair(&pairs, 1, 2, 4)))
+    Ok(pairs.len() == count && is_pair(&pairs, 0, 1, 1) && (count < 2 || is_pair(&pairs, 1, 2, 4)))
 }
 
 // As many bodies as there are here, and one more.
@@ -116,7 +120,7 @@ const BODIES: [Chunk<'static>; 3] = [
 fn adds_one(alloc: Global) -> Result<bool, AllocError> {
     let mut functions = ModuleFunctions::new(alloc);
     let id = add_bodiless(TypeId::from_index(7), &mut functions)?;
-    Ok(id.index() == 0 && is_as(&functions, 0, 7, None))
+    Ok(id.index() == 0 && is_as(&functions, id, 7, None))
 }
 
 #[test]

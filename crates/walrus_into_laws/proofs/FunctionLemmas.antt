@@ -47,7 +47,7 @@ origin_is : (locals : List Local) (ty : ℕ) (import : Option ℕ) → own_origi
 origin_is locals ty None = refl
 origin_is locals ty (Some n) = refl
 
-both : (a b : ℕ) (o p : Origin Body) → a ≡ b → o ≡ p → (record { ty = a; origin = o } : GrammarFunction) ≡ record { ty = b; origin = p }
+both : (a b : ℕ) (o p : Origin Body) → a ≡ b → o ≡ p → ◌≡◌ {A = GrammarFunction} (record { ty = a; origin = o }) (record { ty = b; origin = p })
 both a b o p same other = rw (same, other) refl
 
 means : (look : Look) (locals : List Local) (r : ReadFunction) (f : Function) → IsFunctionOf look r f → own_function locals f ≡ retyped look (function_of r)

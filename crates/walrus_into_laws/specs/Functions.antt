@@ -1,5 +1,5 @@
 -- Functions, as they were read and in a module.
-use Rattle.std.specs.Prelude.{◌≡◌, ◌++◌, List, [], map, Option, Some}
+use Rattle.std.specs.Prelude.{◌≡◌, ◌++◌, List, [], map, Some}
 use Rattle.std.specs.Option.{option_map}
 use Rattle.walrus_arena.specs.Arena.{Arena, next_id}
 use Rattle.wasm_grammar.specs.Modules.{Function as GrammarFunction}
