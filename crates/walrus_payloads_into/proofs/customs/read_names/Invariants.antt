@@ -1,0 +1,12 @@
+use Rattle.std.proofs.Common.{◌≡◌, map, take}
+use Rattle.std.specs.List.{flat_map}
+use Rattle.wasm_grammar.specs.Modules.{Module}
+use Rattle.wasm_name_payloads.specs.Names.{names_if}
+use Rattle.walrus_index_maps.specs.Views.{ids}
+use Rattle.walrus_payload_readers.specs.Bearers.{given_of}
+use Rattle.walrus_names_into.specs.Numbered.{IsNumbered}
+use Rattle.walrus_payloads_into.specs.Customs.{customs_of}
+use Rattle.walrus_payloads_into.proofs.customs.read_names.Given as goal
+
+abbrev pub invariant-loop-custom : goal.invariant-loop-custom
+invariant-loop-custom l = (m : Module) → IsNumbered m (ids l.maps) → map given_of l.names.items ≡ flat_map (names_if m) (customs_of (take l.custom-index l.customs))
