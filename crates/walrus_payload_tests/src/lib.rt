@@ -1,7 +1,10 @@
-//! Tests of names and producers that are read of a file: payloads, whole and with faults, and each call with ample memory.
+//! Tests of names and producers that are read of a file (payloads, whole and with faults), and of tables, globals and segments that
+//! become those of a module; each call with ample memory.
 #![tactic(auto)]
 
 #[cfg(test)]
 mod names;
 #[cfg(test)]
 mod producers;
+#[cfg(test)]
+mod tables;
