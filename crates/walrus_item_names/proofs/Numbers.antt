@@ -9,7 +9,7 @@ use Rattle.wasm_name_payloads.specs.Names.{Bearer, Given, given, item_in}
 use Rattle.walrus_arena.specs.Arena.{item_at}
 use Rattle.walrus_names_into.specs.Numbered.{locals_in}
 use Rattle.walrus_index_maps.specs.Maps.{Ids}
-use Rattle.walrus_module.specs.Parts.{Module}
+use Rattle.walrus_item_names.specs.Holder.{Holder}
 use Rattle.walrus_module.specs.walrus_module_items.declared.function.Function.{Function}
 use Rattle.walrus_item_names.specs.Names.{unnamed, bare_function}
 use Rattle.walrus_item_names.specs.Sent.{sent, given_if, sent_name, sent_names}
@@ -28,7 +28,7 @@ one_below f (suc n) a =
 
 module _ (maps : Ids) where
   -- of one more number
-  pub gives_next : (f : ℕ → List Given) (n : ℕ) (a b c : Module) → GivesNames (sent_names false maps (each_below n f)) a b → GivesNames (sent_names false maps (f n)) b c
+  pub gives_next : (f : ℕ → List Given) (n : ℕ) (a b c : Holder) → GivesNames (sent_names false maps (each_below n f)) a b → GivesNames (sent_names false maps (f n)) b c
       → GivesNames (sent_names false maps (each_below (n + 1) f)) a c
   gives_next f n a b c first second =
       let one : n + 1 ≡ suc n = omega arith in
@@ -43,25 +43,25 @@ module _ (maps : Ids) where
       (gives_both (sent_names false maps (each_below n f)) (sent_names false maps (f n)) a b c first second)
 
   -- what is there gets its name
-  pub gives_this : (bearer : Bearer) (to : Target) (name text : List ℕ) (a b : Module) → option_map target_bearer (Some to) ≡ sent maps bearer → name ≡ text
+  pub gives_this : (bearer : Bearer) (to : Target) (name text : List ℕ) (a b : Holder) → option_map target_bearer (Some to) ≡ sent maps bearer → name ≡ text
       → GivesNames (given (target_bearer to) name ∷ []) a b → GivesNames (sent_names false maps (given bearer text ∷ [])) a b
   gives_this bearer to name text a b there is gives =
       subst (λ (names : List Given). GivesNames names a b) (ap (λ (l : List ℕ). given (target_bearer to) l ∷ []) is ∙ ap (λ (o : Option Bearer). given_if o text ++ []) there) gives
 
   -- then what stands behind it
-  pub gives_then : (g : Given) (more : List Given) (a b c : Module) → GivesNames (sent_names false maps (g ∷ [])) a b → GivesNames (sent_names false maps more) b c → GivesNames (sent_names false maps (g ∷ more)) a c
+  pub gives_then : (g : Given) (more : List Given) (a b c : Holder) → GivesNames (sent_names false maps (g ∷ [])) a b → GivesNames (sent_names false maps more) b c → GivesNames (sent_names false maps (g ∷ more)) a c
   gives_then g more a b c first second =
       subst (λ (names : List Given). GivesNames names a c) (ap (λ (l : List Given). l ++ sent_names false maps more) (append-nil (sent_name false maps g)))
       (gives_both (sent_names false maps (g ∷ [])) (sent_names false maps more) a b c first second)
 
 -- a function of so many arguments, and its locals
-module _ (maps : Ids) (m : Module) (number id : ℕ) (named : slice_get maps.functions number ≡ Some id) where
+module _ (maps : Ids) (m : Holder) (number id : ℕ) (named : slice_get maps.functions number ≡ Some id) where
   at_body : (o : Option ℕ) → o ≡ args_of (item_at m.funcs id) → synthetic_at maps m number ≡ function_names number (length (locals_in maps number)) o
   at_body o counted =
       ap (λ (s : Option ℕ). function_names number (length (locals_in maps number)) (option_and_then (body_args m) s)) named
       ∙ ap (function_names number (length (locals_in maps number))) (sym counted)
 
-  pub function_gives : (k n : Module) (args : ℕ) (name : List ℕ) → Some args ≡ args_of (item_at m.funcs id) → name ≡ function_text number → GivesNames (given (item_in spaces.Function id) name ∷ []) m k
+  pub function_gives : (k n : Holder) (args : ℕ) (name : List ℕ) → Some args ≡ args_of (item_at m.funcs id) → name ≡ function_text number → GivesNames (given (item_in spaces.Function id) name ∷ []) m k
       → GivesNames (sent_names false maps (each_below (length (locals_in maps number)) (local_names number args))) k n → GivesNames (sent_names false maps (synthetic_at maps m number)) m n
   function_gives k n args name counted is first second =
       let this = gives_this maps (item_in spaces.Function number) (targets.Function id) name (function_text number) m k (sym (ap (option_map (item_in spaces.Function)) named)) is first in
@@ -79,8 +79,8 @@ args_bare (None ∷ slots) zero = refl
 args_bare (Some f ∷ slots) zero = refl
 args_bare (x ∷ slots) (suc id) = args_bare slots id
 
-pub same_args : (m n : Module) (id : ℕ) → unnamed n ≡ unnamed m → body_args n id ≡ body_args m id
-same_args m n id same = sym (args_bare n.funcs.slots id) ∙ ap (λ (k : Module). body_args k id) same ∙ args_bare m.funcs.slots id
+pub same_args : (m n : Holder) (id : ℕ) → unnamed n ≡ unnamed m → body_args n id ≡ body_args m id
+same_args m n id same = sym (args_bare n.funcs.slots id) ∙ ap (λ (k : Holder). body_args k id) same ∙ args_bare m.funcs.slots id
 
 -- a look-up answers below the count alone
 pub below : {X Y : Type 0} (h : X → Y) (xs : List X) (n : ℕ) (y : Y) → Some y ≡ option_map h (slice_get xs n) → n < length xs
@@ -94,10 +94,10 @@ past h [] n e = omega arith
 past h (x ∷ xs) zero e = absurd cc
 past h (x ∷ xs) (suc n) e = let less = past h xs n e in omega (arith, less)
 
-pub gives_all : (maps : Ids) (f : ℕ → List Given) (n count : ℕ) (a b : Module) → n ≤ count → count ≤ n → GivesNames (sent_names false maps (each_below n f)) a b → GivesNames (sent_names false maps (each_below count f)) a b
+pub gives_all : (maps : Ids) (f : ℕ → List Given) (n count : ℕ) (a b : Holder) → n ≤ count → count ≤ n → GivesNames (sent_names false maps (each_below n f)) a b → GivesNames (sent_names false maps (each_below count f)) a b
 gives_all maps f n count a b h k gives = let e : n ≡ count = omega (arith, h, k) in subst (λ (m : ℕ). GivesNames (sent_names false maps (each_below m f)) a b) e gives
 
-pub same_synthetic : (maps : Ids) (m n : Module) (number : ℕ) → unnamed n ≡ unnamed m → synthetic_at maps n number ≡ synthetic_at maps m number
+pub same_synthetic : (maps : Ids) (m n : Holder) (number : ℕ) → unnamed n ≡ unnamed m → synthetic_at maps n number ≡ synthetic_at maps m number
 same_synthetic maps m n number same = at_number (slice_get maps.functions number)
   where
     at_number : (o : Option ℕ) → function_names number (length (locals_in maps number)) (option_and_then (body_args n) o) ≡ function_names number (length (locals_in maps number)) (option_and_then (body_args m) o)

@@ -9,7 +9,7 @@ use Rattle.wasm_formats.specs.declared.fault.Space.{Space}
 use Rattle.wasm_formats.specs.declared.fault.Space.TheVariants as spaces
 use Rattle.wasm_name_payloads.specs.Names.{Bearer, TheModule, AnItem, ALocal, Given, given, item_in, same_bearer, last_name}
 use Rattle.walrus_arena.specs.Arena.{Arena}
-use Rattle.walrus_module.specs.Parts.{Module}
+use Rattle.walrus_item_names.specs.Holder.{Holder}
 use Rattle.walrus_module.specs.walrus_types.walrus_items.declared.local.Local.{Local}
 use Rattle.walrus_module.specs.walrus_types.Table.{Table as TypeTable, type_at}
 use Rattle.walrus_module.specs.walrus_module_items.declared.function.Function.{Function}
@@ -23,7 +23,7 @@ use Rattle.walrus_item_names.specs.Called.{renamed, IsCalled}
 use Rattle.walrus_item_names.specs.Names.{item_name, name_at, unnamed, bare_types, type_called, bare_local, local_called, function_called, bare_function, table_called, bare_table, memory_called, bare_memory, tag_called, bare_tag, global_called, bare_global, element_called, bare_element, data_called, bare_data}
 
 -- of each that is there, the last name that it was given, or else the one that it had; names aside all is as it was
-pub record GivesNames (names : List Given) (old new : Module) : Type 0 where
+pub record GivesNames (names : List Given) (old new : Holder) : Type 0 where
   pub named : (bearer : Bearer) → name_at new bearer ≡ option_map (λ found. last_name bearer found names) (name_at old bearer)
   pub same : unnamed new ≡ unnamed old
 
@@ -41,7 +41,7 @@ pub record IsLocalCalled (id : ℕ) (name : List ℕ) (old new : List Local) : T
 same_name : (o : Option (Option (List ℕ))) → o ≡ option_map (λ found. found) o
 same_name o = sym (option_map_id o)
 
-pub gives_none : (m : Module) → GivesNames [] m m
+pub gives_none : (m : Holder) → GivesNames [] m m
 gives_none m = record { named = λ bearer. same_name (name_at m bearer); same = refl }
 
 last_of_both : (bearer : Bearer) (found : Option (List ℕ)) (xs ys : List Given) → last_name bearer (last_name bearer found xs) ys ≡ last_name bearer found (xs ++ ys)
@@ -54,7 +54,7 @@ both_named bearer xs ys None p q first second = second ∙ ap (option_map (λ fo
 both_named bearer xs ys (Some found) p q first second =
     second ∙ ap (option_map (λ found. last_name bearer found ys)) first ∙ ap (λ (f : Option (List ℕ)). Some f) (last_of_both bearer found xs ys)
 
-pub gives_both : (xs ys : List Given) (a b c : Module) → GivesNames xs a b → GivesNames ys b c → GivesNames (xs ++ ys) a c
+pub gives_both : (xs ys : List Given) (a b c : Holder) → GivesNames xs a b → GivesNames ys b c → GivesNames (xs ++ ys) a c
 gives_both xs ys a b c first second = record {
   named = λ bearer. both_named bearer xs ys (name_at a bearer) (name_at b bearer) (name_at c bearer) (first.named bearer) (second.named bearer);
   same = second.same ∙ first.same;
@@ -62,7 +62,7 @@ gives_both xs ys a b c first second = record {
 
 -- ---- Lemmas: one item of each kind, or the module
 
-pub module_given : (m : Module) (own : Option (String Alloc)) (name : List ℕ) → option_map string_bytes own ≡ Some name
+pub module_given : (m : Holder) (own : Option (String Alloc)) (name : List ℕ) → option_map string_bytes own ≡ Some name
     → GivesNames (given TheModule name ∷ []) m (record m { name = own })
 module_given m own name h = record { named = named; same = refl }
   where
@@ -71,7 +71,7 @@ module_given m own name h = record { named = named; same = refl }
     named (AnItem x) = same_name (item_name m x.space x.number)
     named (ALocal function local) = refl
 
-pub type_given : (m : Module) (id : ℕ) (name : List ℕ) (types : TypeTable) → IsTypeCalled id name m.types types
+pub type_given : (m : Holder) (id : ℕ) (name : List ℕ) (types : TypeTable) → IsTypeCalled id name m.types types
     → GivesNames (given (item_in spaces.«Type» id) name ∷ []) m (record m { types = types })
 type_given m id name types h = record { named = named; same = ap (λ (t : TypeTable). record (unnamed m) { types = t }) h.same }
   where
@@ -93,7 +93,7 @@ type_given m id name types h = record { named = named; same = ap (λ (t : TypeTa
     named (AnItem x) = at x.space x.number
     named (ALocal function local) = refl
 
-pub function_given : (m : Module) (id : ℕ) (name : List ℕ) (items : Arena Function) → IsCalled function_called bare_function id name m.funcs items
+pub function_given : (m : Holder) (id : ℕ) (name : List ℕ) (items : Arena Function) → IsCalled function_called bare_function id name m.funcs items
     → GivesNames (given (item_in spaces.Function id) name ∷ []) m (record m { funcs = items })
 function_given m id name items h = record { named = named; same = ap (λ (a : Arena Function). record (unnamed m) { funcs = a }) h.same }
   where
@@ -115,7 +115,7 @@ function_given m id name items h = record { named = named; same = ap (λ (a : Ar
     named (AnItem x) = at x.space x.number
     named (ALocal function local) = refl
 
-pub table_given : (m : Module) (id : ℕ) (name : List ℕ) (items : Arena Table) → IsCalled table_called bare_table id name m.tables items
+pub table_given : (m : Holder) (id : ℕ) (name : List ℕ) (items : Arena Table) → IsCalled table_called bare_table id name m.tables items
     → GivesNames (given (item_in spaces.Table id) name ∷ []) m (record m { tables = items })
 table_given m id name items h = record { named = named; same = ap (λ (a : Arena Table). record (unnamed m) { tables = a }) h.same }
   where
@@ -137,7 +137,7 @@ table_given m id name items h = record { named = named; same = ap (λ (a : Arena
     named (AnItem x) = at x.space x.number
     named (ALocal function local) = refl
 
-pub memory_given : (m : Module) (id : ℕ) (name : List ℕ) (items : Arena Memory) → IsCalled memory_called bare_memory id name m.memories items
+pub memory_given : (m : Holder) (id : ℕ) (name : List ℕ) (items : Arena Memory) → IsCalled memory_called bare_memory id name m.memories items
     → GivesNames (given (item_in spaces.Memory id) name ∷ []) m (record m { memories = items })
 memory_given m id name items h = record { named = named; same = ap (λ (a : Arena Memory). record (unnamed m) { memories = a }) h.same }
   where
@@ -159,7 +159,7 @@ memory_given m id name items h = record { named = named; same = ap (λ (a : Aren
     named (AnItem x) = at x.space x.number
     named (ALocal function local) = refl
 
-pub tag_given : (m : Module) (id : ℕ) (name : List ℕ) (items : Arena Tag) → IsCalled tag_called bare_tag id name m.tags items
+pub tag_given : (m : Holder) (id : ℕ) (name : List ℕ) (items : Arena Tag) → IsCalled tag_called bare_tag id name m.tags items
     → GivesNames (given (item_in spaces.Tag id) name ∷ []) m (record m { tags = items })
 tag_given m id name items h = record { named = named; same = ap (λ (a : Arena Tag). record (unnamed m) { tags = a }) h.same }
   where
@@ -181,7 +181,7 @@ tag_given m id name items h = record { named = named; same = ap (λ (a : Arena T
     named (AnItem x) = at x.space x.number
     named (ALocal function local) = refl
 
-pub global_given : (m : Module) (id : ℕ) (name : List ℕ) (items : Arena Global) → IsCalled global_called bare_global id name m.globals items
+pub global_given : (m : Holder) (id : ℕ) (name : List ℕ) (items : Arena Global) → IsCalled global_called bare_global id name m.globals items
     → GivesNames (given (item_in spaces.Global id) name ∷ []) m (record m { globals = items })
 global_given m id name items h = record { named = named; same = ap (λ (a : Arena Global). record (unnamed m) { globals = a }) h.same }
   where
@@ -203,7 +203,7 @@ global_given m id name items h = record { named = named; same = ap (λ (a : Aren
     named (AnItem x) = at x.space x.number
     named (ALocal function local) = refl
 
-pub element_given : (m : Module) (id : ℕ) (name : List ℕ) (items : Arena Element) → IsCalled element_called bare_element id name m.elements items
+pub element_given : (m : Holder) (id : ℕ) (name : List ℕ) (items : Arena Element) → IsCalled element_called bare_element id name m.elements items
     → GivesNames (given (item_in spaces.Element id) name ∷ []) m (record m { elements = items })
 element_given m id name items h = record { named = named; same = ap (λ (a : Arena Element). record (unnamed m) { elements = a }) h.same }
   where
@@ -225,7 +225,7 @@ element_given m id name items h = record { named = named; same = ap (λ (a : Are
     named (AnItem x) = at x.space x.number
     named (ALocal function local) = refl
 
-pub data_given : (m : Module) (id : ℕ) (name : List ℕ) (items : Arena Data) → IsCalled data_called bare_data id name m.data_segments items
+pub data_given : (m : Holder) (id : ℕ) (name : List ℕ) (items : Arena Data) → IsCalled data_called bare_data id name m.data_segments items
     → GivesNames (given (item_in spaces.Data id) name ∷ []) m (record m { data_segments = items })
 data_given m id name items h = record { named = named; same = ap (λ (a : Arena Data). record (unnamed m) { data_segments = a }) h.same }
   where
@@ -247,7 +247,7 @@ data_given m id name items h = record { named = named; same = ap (λ (a : Arena 
     named (AnItem x) = at x.space x.number
     named (ALocal function local) = refl
 
-pub local_given : (m : Module) (id : ℕ) (name : List ℕ) (locals : List Local) → IsLocalCalled id name m.locals locals
+pub local_given : (m : Holder) (id : ℕ) (name : List ℕ) (locals : List Local) → IsLocalCalled id name m.locals locals
     → GivesNames (given (item_in spaces.Local id) name ∷ []) m (record m { locals = locals })
 local_given m id name locals h = record { named = named; same = ap (λ (l : List Local). record (unnamed m) { locals = l }) h.same }
   where

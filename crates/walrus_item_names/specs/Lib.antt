@@ -1,3 +1,4 @@
+pub mod Holder
 pub mod Sent
 pub mod Called
 pub mod Names

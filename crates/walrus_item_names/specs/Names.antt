@@ -5,7 +5,7 @@ use Rattle.wasm_formats.specs.declared.fault.Space.{Space}
 use Rattle.wasm_formats.specs.declared.fault.Space.TheVariants as spaces
 use Rattle.wasm_name_payloads.specs.Names.{Bearer, TheModule, AnItem, ALocal}
 use Rattle.walrus_arena.specs.Arena.{item_at}
-use Rattle.walrus_module.specs.Parts.{Module}
+use Rattle.walrus_item_names.specs.Holder.{Holder}
 use Rattle.walrus_module.specs.walrus_types.walrus_items.declared.local.Local.{Local}
 use Rattle.walrus_module.specs.walrus_types.walrus_items.Items.{Item as TypeItem}
 use Rattle.walrus_module.specs.walrus_types.Table.{Table as TypeTable, type_at}
@@ -82,7 +82,7 @@ local_called l = option_map string_bytes l.name
 -- ---- the module
 
 -- the name of an item, if there is the item
-abbrev pub item_name : Module → Space → ℕ → Option (Option (List ℕ))
+abbrev pub item_name : Holder → Space → ℕ → Option (Option (List ℕ))
 item_name m spaces.«Type» id = option_map type_called (type_at m.types id)
 item_name m spaces.Function id = option_map function_called (item_at m.funcs id)
 item_name m spaces.Table id = option_map table_called (item_at m.tables id)
@@ -95,12 +95,12 @@ item_name m spaces.Local id = option_map local_called (slice_get m.locals id)
 item_name m spaces.Label id = None
 
 -- the name of what bears one, if it is there: items and locals by their ids
-abbrev pub name_at : Module → Bearer → Option (Option (List ℕ))
+abbrev pub name_at : Holder → Bearer → Option (Option (List ℕ))
 name_at m TheModule = Some (option_map string_bytes m.name)
 name_at m (AnItem x) = item_name m x.space x.number
 name_at m (ALocal function local) = None
 
-abbrev pub unnamed : Module → Module
+abbrev pub unnamed : Holder → Holder
 unnamed m = record m {
   types = bare_types m.types;
   funcs = bare_items bare_function m.funcs;

@@ -6,7 +6,7 @@ use Rattle.wasm_formats.specs.declared.fault.Space.TheVariants as spaces
 use Rattle.wasm_name_payloads.specs.Names.{ALocal, Given, given, item_in}
 use Rattle.walrus_arena.specs.Arena.{item_at}
 use Rattle.walrus_index_maps.specs.Maps.{Ids}
-use Rattle.walrus_module.specs.Parts.{Module}
+use Rattle.walrus_item_names.specs.Holder.{Holder}
 use Rattle.walrus_module.specs.walrus_module_items.declared.function.Function.{Function}
 use Rattle.walrus_module.specs.walrus_module_items.Functions.{local_of}
 use Rattle.walrus_names_into.specs.Numbered.{locals_in}
@@ -36,13 +36,13 @@ function_names number locals (Some args) = given (item_in spaces.Function number
 abbrev pub args_of : Option Function → Option ℕ
 args_of o = option_map (λ body. length body.args.items) (option_and_then (λ (f : Function). local_of f.kind) o)
 
-abbrev pub body_args : Module → ℕ → Option ℕ
+abbrev pub body_args : Holder → ℕ → Option ℕ
 body_args m id = args_of (item_at m.funcs id)
 
 -- of the function of a number
-abbrev pub synthetic_at : Ids → Module → ℕ → List Given
+abbrev pub synthetic_at : Ids → Holder → ℕ → List Given
 synthetic_at ids m number = function_names number (length (locals_in ids number)) (option_and_then (body_args m) (slice_get ids.functions number))
 
 -- of all functions with a body
-abbrev pub synthetic : Ids → Module → List Given
+abbrev pub synthetic : Ids → Holder → List Given
 synthetic ids m = each_below (length ids.functions) (synthetic_at ids m)

@@ -1,4 +1,5 @@
-//! The names of a file, given to the items of a module (Core Specification, appendix Custom Sections: name section).
+//! The names of a file, given to the items of a module (Core Specification, appendix Custom Sections: name section). Calls take
+//! its collections alone: a call that lends a module with its boxes is one of which `rt verdict` says that it hides something.
 #![tactic(auto)]
 
 mod call;

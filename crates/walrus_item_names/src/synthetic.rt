@@ -2,10 +2,10 @@
 
 ghost use Rattle.std.specs.Prelude.{◌≡◌, ◌<◌, ◌^◌, ◌++◌, ℕ, false, length, OnOk, IfOk, Some, slice_get, decimal, string_bytes};
 ghost use Rattle.walrus_index_maps.specs.Views.{ids};
-ghost use Rattle.walrus_module.specs.Parts.{parts};
 ghost use Rattle.walrus_names_into.specs.Numbered.{locals_in};
 ghost use Rattle.walrus_arena.specs.Arena.{item_at};
 ghost use Rattle.walrus_item_names.specs.Sent.{sent_names};
+ghost use Rattle.walrus_item_names.specs.Holder.{holder};
 ghost use Rattle.walrus_item_names.specs.Names.{unnamed};
 ghost use Rattle.walrus_item_names.specs.Gives.{GivesNames};
 ghost use Rattle.walrus_item_names.specs.Synthetic.{local_text, each_below, local_names, args_of, synthetic_at, synthetic};
@@ -15,10 +15,13 @@ use crate::target::{Target, find};
 use std::alloc::{AllocError, Global};
 use walrus_arena::FunctionId;
 use walrus_index_maps::IndicesToIds;
-use walrus_module::Module;
-use walrus_module::collections::ModuleFunctions;
+use walrus_module::collections::{
+    ModuleData, ModuleElements, ModuleFunctions, ModuleGlobals, ModuleMemories, ModuleTables,
+    ModuleTags,
+};
 use walrus_module::module_items::FunctionKind;
 use walrus_payload_readers::Bearer;
+use walrus_types::{ModuleLocals, ModuleTypes};
 
 // A word and a number.
 fn word_and_number(alloc: Global, word: &str, number: u32) -> Result<String, AllocError>
@@ -55,17 +58,38 @@ fn name_locals(
     function: u32,
     args: usize,
     maps: &IndicesToIds,
-    into: &mut Module,
+    types: &mut ModuleTypes,
+    funcs: &mut ModuleFunctions,
+    tables: &mut ModuleTables,
+    memories: &mut ModuleMemories,
+    tags: &mut ModuleTags,
+    globals: &mut ModuleGlobals,
+    elements: &mut ModuleElements,
+    data_segments: &mut ModuleData,
+    locals: &mut ModuleLocals,
+    own: &mut Option<String>,
 ) -> Result<(), AllocError>
     requires { length (locals_in (ids maps.now) function) < 2 ^ 32 }
-    ensures gives { OnOk result (GivesNames (sent_names false (ids maps.now) (each_below (length (locals_in (ids maps.now) function)) (local_names function args))) (parts into.old) (parts into.new)) }
-    ensures same { unnamed (parts into.new) ≡ unnamed (parts into.old) }
-    ensures customs { into.new.customs ≡ into.old.customs }
+    ensures gives { OnOk result (GivesNames (sent_names false (ids maps.now) (each_below (length (locals_in (ids maps.now) function)) (local_names function args))) (holder types.old funcs.old tables.old memories.old tags.old globals.old elements.old data_segments.old locals.old own.old) (holder types.new funcs.new tables.new memories.new tags.new globals.new elements.new data_segments.new locals.new own.new)) }
+    ensures same { unnamed (holder types.new funcs.new tables.new memories.new tags.new globals.new elements.new data_segments.new locals.new own.new) ≡ unnamed (holder types.old funcs.old tables.old memories.old tags.old globals.old elements.old data_segments.old locals.old own.old) }
 {
     let mut number: u32 = 0;
     while let Some(target) = find(Bearer::Local(function, number), maps) {
         let name = local_text(alloc, args, number)?;
-        give(target, name, into);
+        give(
+            target,
+            name,
+            types,
+            funcs,
+            tables,
+            memories,
+            tags,
+            globals,
+            elements,
+            data_segments,
+            locals,
+            own,
+        );
         number += 1;
     }
     Ok(())
@@ -78,20 +102,56 @@ fn name_function(
     number: u32,
     id: FunctionId,
     maps: &IndicesToIds,
-    into: &mut Module,
+    types: &mut ModuleTypes,
+    funcs: &mut ModuleFunctions,
+    tables: &mut ModuleTables,
+    memories: &mut ModuleMemories,
+    tags: &mut ModuleTags,
+    globals: &mut ModuleGlobals,
+    elements: &mut ModuleElements,
+    data_segments: &mut ModuleData,
+    locals: &mut ModuleLocals,
+    own: &mut Option<String>,
 ) -> Result<(), AllocError>
     requires named { slice_get (ids maps.now).functions number ≡ Some id }
     requires locals { length (locals_in (ids maps.now) number) < 2 ^ 32 }
-    ensures gives { OnOk result (GivesNames (sent_names false (ids maps.now) (synthetic_at (ids maps.now) (parts into.old) number)) (parts into.old) (parts into.new)) }
-    ensures same { unnamed (parts into.new) ≡ unnamed (parts into.old) }
-    ensures customs { into.new.customs ≡ into.old.customs }
+    ensures gives { OnOk result (GivesNames (sent_names false (ids maps.now) (synthetic_at (ids maps.now) (holder types.old funcs.old tables.old memories.old tags.old globals.old elements.old data_segments.old locals.old own.old) number)) (holder types.old funcs.old tables.old memories.old tags.old globals.old elements.old data_segments.old locals.old own.old) (holder types.new funcs.new tables.new memories.new tags.new globals.new elements.new data_segments.new locals.new own.new)) }
+    ensures same { unnamed (holder types.new funcs.new tables.new memories.new tags.new globals.new elements.new data_segments.new locals.new own.new) ≡ unnamed (holder types.old funcs.old tables.old memories.old tags.old globals.old elements.old data_segments.old locals.old own.old) }
 {
-    let Some(args) = count_args(&into.funcs, id) else {
+    let Some(args) = count_args(funcs, id) else {
         return Ok(());
     };
     let name = word_and_number(alloc, "f", number)?;
-    give(Target::Function(id), name, into);
-    name_locals(alloc, number, args, maps, into)
+    give(
+        Target::Function(id),
+        name,
+        types,
+        funcs,
+        tables,
+        memories,
+        tags,
+        globals,
+        elements,
+        data_segments,
+        locals,
+        own,
+    );
+    name_locals(
+        alloc,
+        number,
+        args,
+        maps,
+        types,
+        funcs,
+        tables,
+        memories,
+        tags,
+        globals,
+        elements,
+        data_segments,
+        locals,
+        own,
+    )
 }
 
 /// Gives each function with a body the name `f` and its number, and each of its locals `arg`, or `l` where it is no argument, and the
@@ -103,17 +163,40 @@ fn name_function(
 pub fn give_synthetic_names(
     alloc: Global,
     maps: &IndicesToIds,
-    into: &mut Module,
+    types: &mut ModuleTypes,
+    funcs: &mut ModuleFunctions,
+    tables: &mut ModuleTables,
+    memories: &mut ModuleMemories,
+    tags: &mut ModuleTags,
+    globals: &mut ModuleGlobals,
+    elements: &mut ModuleElements,
+    data_segments: &mut ModuleData,
+    locals: &mut ModuleLocals,
+    own: &mut Option<String>,
 ) -> Result<(), AllocError>
     requires functions { length (ids maps.now).functions < 2 ^ 32 }
     requires locals { (function : ℕ) → length (locals_in (ids maps.now) function) < 2 ^ 32 }
-    ensures gives { OnOk result (GivesNames (sent_names false (ids maps.now) (synthetic (ids maps.now) (parts into.old))) (parts into.old) (parts into.new)) }
-    ensures same { unnamed (parts into.new) ≡ unnamed (parts into.old) }
-    ensures customs { into.new.customs ≡ into.old.customs }
+    ensures gives { OnOk result (GivesNames (sent_names false (ids maps.now) (synthetic (ids maps.now) (holder types.old funcs.old tables.old memories.old tags.old globals.old elements.old data_segments.old locals.old own.old))) (holder types.old funcs.old tables.old memories.old tags.old globals.old elements.old data_segments.old locals.old own.old) (holder types.new funcs.new tables.new memories.new tags.new globals.new elements.new data_segments.new locals.new own.new)) }
+    ensures same { unnamed (holder types.new funcs.new tables.new memories.new tags.new globals.new elements.new data_segments.new locals.new own.new) ≡ unnamed (holder types.old funcs.old tables.old memories.old tags.old globals.old elements.old data_segments.old locals.old own.old) }
 {
     let mut number: u32 = 0;
     while let Ok(id) = maps.get_func(number) {
-        name_function(alloc, number, id, maps, into)?;
+        name_function(
+            alloc,
+            number,
+            id,
+            maps,
+            types,
+            funcs,
+            tables,
+            memories,
+            tags,
+            globals,
+            elements,
+            data_segments,
+            locals,
+            own,
+        )?;
         number += 1;
     }
     Ok(())
