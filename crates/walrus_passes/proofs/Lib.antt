@@ -1,3 +1,4 @@
+mod AskedLemmas
 pub mod KeptLemmas
 pub mod PartLemmas
 pub mod RestLemmas

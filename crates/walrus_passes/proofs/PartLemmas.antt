@@ -1,5 +1,5 @@
 -- What is left of a module.
-use Rattle.std.proofs.Common.{◌≡◌, ◌∙◌, ◌<◌, ℕ, Bool, zero, suc, List, [], ◌∷◌, Contains, map, length, get_or, refl, sym, ap, subst, inl, inr, arith}
+use Rattle.std.proofs.Common.{◌≡◌, ℕ, Bool, List, sym, ap, subst, inl, inr, arith}
 use Rattle.std.specs.Prelude.{◌↔◌, Decides}
 use Rattle.wasm_formats.specs.declared.fault.Space.{Space}
 use Rattle.wasm_formats.specs.declared.fault.Space.TheVariants as spaces
