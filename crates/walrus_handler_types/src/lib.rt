@@ -1,0 +1,7 @@
+//! The types of handlers of a legacy `try`, in a body that was read beside types to which those of its handlers are still to be added.
+#![tactic(auto)]
+
+pub mod laws;
+mod handler;
+
+pub use handler::Handler;
