@@ -1,15 +1,16 @@
 -- Which sequences are handlers of a legacy `try`, and of what.
-use Rattle.std.specs.Prelude.{◌≡◌, ℕ, ◌==◌, List, [], ◌∷◌, ◌++◌, Option, Some, None, slice_get, if◌then◌else◌}
+use Rattle.std.specs.Prelude.{◌≡◌, ℕ, ◌==◌, List, [], ◌∷◌, ◌++◌, map, Option, Some, None, slice_get, if◌then◌else◌}
 use Rattle.walrus_body_steps.specs.walrus_body_nesting.Opens.{type_at}
 use Rattle.walrus_body_steps.specs.walrus_body_nesting.Stands.{Turn, Otherwise, Handles, HandlesAll}
-use Rattle.walrus_tree.specs.walrus_builder.Built.{Seq}
+use Rattle.walrus_tree.specs.walrus_builder.Built.{Seq, seq_of}
 use Rattle.walrus_tree.specs.walrus_walks.walrus_instr.declared.instr.Instr.{Instr}
 use Rattle.walrus_tree.specs.walrus_walks.walrus_instr.declared.instr.Instr.TheVariants as instrs
 use Rattle.walrus_tree.specs.walrus_walks.walrus_instr.declared.instr.LegacyCatch.{LegacyCatch}
 use Rattle.walrus_tree.specs.walrus_walks.walrus_instr.declared.instr.LegacyCatch.TheVariants as legacy
 use Rattle.walrus_tree.specs.walrus_walks.walrus_instr.declared.seq.InstrLocId.{InstrLocId}
+use Rattle.walrus_tree.specs.walrus_walks.walrus_instr.declared.seq.InstrSeq.{InstrSeq}
 use Rattle.walrus_tree.specs.walrus_walks.walrus_instr.declared.seq.InstrSeqType.{InstrSeqType}
-use Rattle.walrus_tree.specs.Trees.{Has}
+use Rattle.walrus_tree.specs.Trees.{Has, Nothing, Tree, ids, IsTree}
 use Rattle.walrus_handler_types.specs.declared.handler.Handler.{Handler}
 
 -- a handler of a tag of this type, or of all tags, in a block of this type
@@ -86,3 +87,15 @@ pub record TellsHandlers (tags : ℕ → Option ℕ) (b : List Seq) (js : List �
   pub body : Has js 0
   pub plain : told 0 ≡ None
   pub held : (k : ℕ) → Has js k → AreTold js told (seq_slots tags b (slice_get b k))
+
+-- the sequences of a tree, in the order of the text
+abbrev pub tree_ids : {b : List InstrSeq} {k : ℕ} → IsTree b k → List ℕ
+tree_ids {k = k} t = ids (Tree k t.inside Nothing)
+
+-- the handler that a sequence of a tree is, if it is one
+abbrev pub told_by : (ℕ → Option ℕ) → (b : List InstrSeq) → List ℕ → ℕ → Option Handler
+told_by tags b js = handler_in (all_slots tags (map seq_of b) js)
+
+-- in a tree each sequence is held once, so that it is told as what it is
+abbrev pub TreesTell : Type 0
+TreesTell = (tags : ℕ → Option ℕ) (b : List InstrSeq) (t : IsTree b 0) → TellsHandlers tags (map seq_of b) (tree_ids t) (told_by tags b (tree_ids t))

@@ -1,7 +1,9 @@
 //! The types of handlers of a legacy `try`, in a body that was read beside types to which those of its handlers are still to be added.
 #![tactic(auto)]
 
+mod any;
 pub mod laws;
 mod handler;
 
+pub use any::AnyHandler;
 pub use handler::Handler;
