@@ -1,2 +1,3 @@
 pub mod Handlers
 pub mod Retyping
+pub mod Giving

@@ -3,7 +3,10 @@
 
 mod any;
 pub mod laws;
+mod lists;
+mod give;
 mod handler;
 
 pub use any::AnyHandler;
+pub use give::give_types;
 pub use handler::Handler;
