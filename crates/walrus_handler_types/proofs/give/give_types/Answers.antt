@@ -51,13 +51,13 @@ pub loop-index-preserved : goal.loop-index-preserved
 loop-index-preserved c =
     let i = c.loop-index.index in
     let hs = c.args.handlers.now in
-    let h = slice_index_or hs i c.index-handlers-index.result in
+    let h : Option Handler = c.index-handlers-index.result in
     let e = c.in_ok-give_type.ensures in
     let next : suc i ≡ i + 1 = omega arith in
     let at = subst (λ (k : ℕ). GivesAt k h (contents c.loop-index.body.builder) c.loop-index.types (contents c.give_type.new.body.builder) c.give_type.new.types) c.from_index-id.ensures e.given in
     record {
       given = subst (λ (n : ℕ). Gives hs n (contents c.args.body.now.builder) c.args.types.now (contents c.give_type.new.body.builder) c.give_type.new.types) next
-          (contents c.loop-index.body.builder, c.loop-index.types, c.loop-index.invariant.given, h, there hs i c.index-handlers-index.result c.loop-index-test.true, at);
+          (contents c.loop-index.body.builder, c.loop-index.types, c.loop-index.invariant.given, h, there hs i h c.loop-index-test.true ∙ ap (λ (x : Option Handler). Some x) (sym c.index-handlers-index.is), at);
       ty = e.ty ∙ c.loop-index.invariant.ty;
       name = e.name ∙ c.loop-index.invariant.name;
       many = e.many ∙ c.loop-index.invariant.many;
