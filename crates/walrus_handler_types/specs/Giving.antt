@@ -1,7 +1,7 @@
 -- The types that handlers are given by a table of types, which has those that it lacked added.
-use Rattle.std.specs.Prelude.{◌≡◌, ℕ, zero, suc, List, [], ◌∷◌, Option, Some, None, MatchOption, slice_get}
+use Rattle.std.specs.Prelude.{◌≡◌, ℕ, zero, suc, List, [], ◌∷◌, length, Option, Some, None, MatchOption, slice_get, slice_index_or}
 use Rattle.std.specs.Option.{option_and_then}
-use Rattle.walrus_body_steps.specs.walrus_body_rules.Sights.{value_list}
+use Rattle.walrus_body_steps.specs.walrus_body_rules.Sights.{Sight, value_list}
 use Rattle.walrus_tree.specs.walrus_builder.Built.{Seq, edited}
 use Rattle.walrus_tree.specs.walrus_walks.walrus_forms.declared.value.ValType.{ValType}
 use Rattle.walrus_tree.specs.walrus_walks.walrus_forms.Forms.{Form, FunctionForm, StructForm, ArrayForm}
@@ -11,7 +11,7 @@ use Rattle.walrus_tree.specs.walrus_walks.walrus_instr.declared.seq.InstrSeqType
 use Rattle.walrus_tree.specs.walrus_walks.walrus_types.Items.{Item}
 use Rattle.walrus_tree.specs.walrus_walks.walrus_types.Table.{Table, type_at}
 use Rattle.walrus_handler_types.specs.declared.handler.Handler.{Handler}
-use Rattle.walrus_handler_types.specs.Retyping.{with_type}
+use Rattle.walrus_handler_types.specs.Retyping.{AreTyped, with_type}
 
 -- the parameters and results of a form, if it is a function's
 abbrev pub form_params : Form → Option (List ValType)
@@ -63,3 +63,25 @@ GivesAt k h b old c new = (x : Seq) × (slice_get b k ≡ Some x) × (ty : Instr
 abbrev pub Gives : List (Option Handler) → ℕ → List Seq → Table → List Seq → Table → Type 0
 Gives hs zero b old c new = (c ≡ b) × (new ≡ old)
 Gives hs (suc n) b old c new = (mid : List Seq) × (t : Table) × Gives hs n b old mid t × (h : Option Handler) × (slice_get hs n ≡ Some h) × GivesAt n h mid t c new
+
+-- ---- what is told by the new table
+
+-- the handler that a sequence is, if it is one, by a list of them
+abbrev pub listed : List (Option Handler) → ℕ → Option Handler
+listed hs j = slice_index_or hs j None
+
+-- each handler has parameters and results among these types
+abbrev pub HaveLists : List (Option Handler) → Table → Type 0
+HaveLists hs t = (j : ℕ) (h : Handler) → slice_get hs j ≡ Some (Some h)
+    → (params : List ValType) × (results : List ValType) × (caught t h.tag_type ≡ Some params) × (block_results t h.block ≡ Some results)
+
+-- a sight has the types of a table, and a handler's type where it is there
+pub record SeesTable (u : Sight) (t : Table) : Type 0 where
+  pub params : (id : ℕ) → u.params id ≡ params_at t id
+  pub results : (id : ℕ) → u.results id ≡ results_at t id
+  pub handlers : (params results : List ValType) → u.handler_type params results ≡ picked params results t
+
+-- who sees the new table has the types that handlers were given
+abbrev pub GivenAreTyped : Type 0
+GivenAreTyped = (hs : List (Option Handler)) (b c : List Seq) (old new : Table) (u : Sight) → length hs ≡ length b → HaveLists hs old → Gives hs (length hs) b old c new → SeesTable u new
+    → AreTyped u (listed hs) b c

@@ -1,5 +1,6 @@
 //! Laws: functions with nothing to do, whose contracts hold of all bodies.
 
+ghost use Rattle.walrus_handler_types.specs.Giving.{GivenAreTyped};
 ghost use Rattle.walrus_handler_types.specs.Handlers.{TreesTell};
 ghost use Rattle.walrus_handler_types.specs.Retyping.{HandlersStand};
 
@@ -12,3 +13,11 @@ pub fn handlers_stand()
 pub fn trees_tell()
     ensures { TreesTell }
 {}
+
+/// Where handlers were given types, by rising sequence, and their tags and blocks had parameters and results, each has the type that the
+/// table behind them all has for it: what was added for one serves the others of its parameters and results, and no other's type changes.
+pub fn given_are_typed()
+    ensures { GivenAreTyped }
+{
+    walrus_forms::laws::same_kind_is_equality();
+}
