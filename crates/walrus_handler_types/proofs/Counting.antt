@@ -16,10 +16,10 @@ use Rattle.walrus_handler_types.specs.Handlers.{AreTold, Slot, TreesTell, all_sl
 
 -- ---- how often an id stands in a list
 
-abbrev once_if : Bool → ℕ
+abbrev pub once_if : Bool → ℕ
 once_if b = if b then 1 else 0
 
-abbrev count : ℕ → List ℕ → ℕ
+abbrev pub count : ℕ → List ℕ → ℕ
 count j [] = 0
 count j (k ∷ ks) = once_if (k == j) + count j ks
 
@@ -90,7 +90,7 @@ stand_count b j (Tree id inside beside) around (k ∷ ks) (same, s, found, withi
 
 -- ---- slots
 
-abbrev seqs_of : List Slot → List ℕ
+abbrev pub seqs_of : List Slot → List ℕ
 seqs_of [] = []
 seqs_of (x ∷ xs) = x.seq ∷ seqs_of xs
 
@@ -179,6 +179,13 @@ found_none (y ∷ ys) j none = go (y.seq == j) refl (found_none ys j)
 all_told : (js : List ℕ) (told : ℕ → Option Handler) (ys : List Slot) → ((x : Slot) → HasSlot ys x → Has js x.seq × (told x.seq ≡ x.handles)) → AreTold js told ys
 all_told js told [] h = tt
 all_told js told (y ∷ ys) h = let r = h y (inl refl) in (r.0, r.1, all_told js told ys (λ x has. h x (inr has)))
+
+-- each sequence of a tree is held at most once
+pub held_once : (tags : ℕ → Option ℕ) (b : List InstrSeq) (t : IsTree b 0) (j : ℕ) → count j (seqs_of (all_slots tags (map seq_of b) (tree_ids t))) ≤ 1
+held_once tags b t j =
+    let e = stand_count b j (Tree 0 t.inside Nothing) [] (0 ∷ []) t.stands ∙ ap (λ (l : List ℕ). count j (0 ∷ []) + count j l) (sym (tree_slots tags b (tree_ids t))) in
+    let le = distinct_counts (tree_ids t) j t.once in
+    omega (arith, e, le)
 
 pub trees_tell : TreesTell
 trees_tell tags b t = record {

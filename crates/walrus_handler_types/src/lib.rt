@@ -4,9 +4,11 @@
 mod any;
 pub mod laws;
 mod lists;
+mod gather;
 mod give;
 mod handler;
 
 pub use any::AnyHandler;
+pub use gather::handlers;
 pub use give::give_types;
 pub use handler::Handler;
