@@ -2,16 +2,19 @@
 use Rattle.std.proofs.Common.{◌≡◌, ◌∙◌, ℕ, zero, suc, ◌+◌, ◌<◌, ◌≤◌, Bool, true, false, List, [], ◌∷◌, ◌++◌, length, map, drop, refl, sym, ap, subst, arith, eqb-true, eq-eqb}
 use Rattle.std.proofs.lemmas.List.{append_assoc, drop_more}
 use Rattle.std.specs.Prelude.{◌≢◌, ◌==◌, Option, Some, None, replicate, slice_get, slice_index_or, slice_set, if◌then◌else◌}
-use Rattle.walrus_tree.specs.Once.{begun}
+use Rattle.std.specs.List.{FoldsTo}
+use Rattle.walrus_tree.specs.Once.{TreesAreWalkedOnce, begun}
+use Rattle.walrus_tree.specs.Trees.{IsTree}
 use Rattle.walrus_tree.specs.walrus_builder.Built.{Seq, seq_of}
 use Rattle.walrus_tree.specs.walrus_walks.Events.{Event, StartOf}
+use Rattle.walrus_tree.specs.walrus_walks.Walk.{walk}
 use Rattle.walrus_tree.specs.walrus_walks.walrus_instr.declared.instr.Instr.{Instr}
 use Rattle.walrus_tree.specs.walrus_walks.walrus_instr.declared.seq.InstrLocId.{InstrLocId}
 use Rattle.walrus_tree.specs.walrus_walks.walrus_instr.declared.seq.InstrSeq.{InstrSeq}
 use Rattle.walrus_handler_types.specs.declared.handler.Handler.{Handler}
-use Rattle.walrus_handler_types.specs.Gathering.{put, put_all, put_event}
-use Rattle.walrus_handler_types.specs.Handlers.{Slot, all_slots, handler_in, seq_slots, slots, slots_in}
-use Rattle.walrus_handler_types.proofs.Counting.{count, once_if, seqs_of}
+use Rattle.walrus_handler_types.specs.Gathering.{AreHandlers, put, put_all, put_event}
+use Rattle.walrus_handler_types.specs.Handlers.{Slot, all_slots, handler_in, seq_slots, slots, slots_in, tree_ids}
+use Rattle.walrus_handler_types.proofs.Counting.{count, held_once, once_if, seqs_of}
 
 put_append : (xs ys : List Slot) (told : List (Option Handler)) → put_all (xs ++ ys) told ≡ put_all ys (put_all xs told)
 put_append [] ys told = refl
@@ -124,3 +127,30 @@ pub untold_at : (n j : ℕ) → j < n → slice_get (replicate n (let o : Option
 untold_at zero j lt = absurd (omega (arith, lt))
 untold_at (suc n) zero lt = refl
 untold_at (suc n) (suc j) lt = untold_at n j (omega (arith, lt))
+
+-- ---- a walk of a tree
+
+pub folds_told : {P : Type 0} (R : P → Event → P → Type 0) (tags : ℕ → Option ℕ) (b : List Seq) (told : P → List (Option Handler)) (same : P → Type 0)
+    → ((p : P) (e : Event) (q : P) → R p e q → same p → same q × (told q ≡ put_event tags b e (told p)))
+    → (es : List Event) (p q : P) → FoldsTo R p es q → same p → told q ≡ put_events tags b es (told p)
+folds_told R tags b told same step [] p q is ok = ap told (sym is)
+folds_told R tags b told same step (e ∷ es) p q (j, r, rest) ok =
+    let s = step p e j r ok in
+    folds_told R tags b told same step es j q rest s.0 ∙ ap (put_events tags b es) s.1
+
+untold_length : (n : ℕ) → length (replicate n (let o : Option Handler = None in o)) ≡ n
+untold_length zero = refl
+untold_length (suc n) = ap suc (untold_length n)
+
+pub gathered : (tags : ℕ → Option ℕ) (b : List InstrSeq) (t : IsTree b 0) → TreesAreWalkedOnce → (told hs : List (Option Handler)) → told ≡ replicate (length b) None
+    → hs ≡ put_events tags (map seq_of b) (walk b 0) told → AreHandlers tags b (tree_ids t) hs
+gathered tags b t once told hs none e = record {
+  many = ap length is ∙ put_length xs told ∙ ap length none ∙ untold_length (length b);
+  told = λ j lt. ap (λ (l : List (Option Handler)). slice_get l j) is ∙ put_found xs told j (held_once tags b t j) (ap (λ (l : List (Option Handler)). slice_get l j) none ∙ untold_at (length b) j lt);
+}
+  where
+    xs : List Slot
+    xs = all_slots tags (map seq_of b) (tree_ids t)
+
+    is : hs ≡ put_all xs told
+    is = e ∙ events_put tags (map seq_of b) (walk b 0) told ∙ ap (λ (l : List Slot). put_all l told) (begun_all tags b (begun (walk b 0)) (tree_ids t) (once b 0 t))

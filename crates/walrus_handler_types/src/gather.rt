@@ -206,6 +206,8 @@ pub fn handlers<E: BodyEnv>(
     ensures told { IfOk result (λ hs. (t : IsTree (seqs_of body.now) 0) → AreHandlers (E.tag_type env.now) (seqs_of body.now) (tree_ids t) hs.items) }
     ensures ids { IfOk result (λ hs. length hs.items ≤ 2 ^ 32) }
 {
+    walrus_tree::laws::trees_are_nested();
+    walrus_tree::laws::trees_are_walked_once();
     let count = body.seqs().len();
     if count > u32::MAX as usize {
         return Err(AllocError);
@@ -215,6 +217,7 @@ pub fn handlers<E: BodyEnv>(
         seqs: body.seqs(),
         told: untold(alloc, count)?,
     };
-    dfs_in_order(alloc, &mut gatherer, body, body.func_body_id())?;
+    let start = body.func_body_id();
+    dfs_in_order(alloc, &mut gatherer, body, start)?;
     Ok(gatherer.told)
 }
