@@ -1,7 +1,7 @@
 -- Lemmas: what a walk gathers is by sequence the handler that it is.
 use Rattle.std.proofs.Common.{◌≡◌, ◌∙◌, ℕ, zero, suc, ◌+◌, ◌<◌, ◌≤◌, Bool, true, false, List, [], ◌∷◌, ◌++◌, length, map, drop, refl, sym, ap, subst, arith, eqb-true, eq-eqb}
-use Rattle.std.proofs.lemmas.List.{append_assoc, drop_more}
-use Rattle.std.specs.Prelude.{◌≢◌, ◌==◌, Option, Some, None, replicate, slice_get, slice_index_or, slice_set, if◌then◌else◌}
+use Rattle.std.proofs.lemmas.List.{drop_more}
+use Rattle.std.specs.Prelude.{◌==◌, Option, Some, None, replicate, slice_get, slice_index_or, slice_set, if◌then◌else◌}
 use Rattle.std.specs.List.{FoldsTo}
 use Rattle.walrus_tree.specs.Once.{TreesAreWalkedOnce, begun}
 use Rattle.walrus_tree.specs.Trees.{IsTree}

@@ -17,8 +17,8 @@ use Rattle.walrus_tree.specs.walrus_walks.walrus_instr.declared.seq.InstrSeqType
 use Rattle.walrus_tree.specs.walrus_walks.walrus_types.Items.{Item}
 use Rattle.walrus_tree.specs.walrus_walks.walrus_types.Table.{Adds, Merges, Table, entries, equal_type, found_type, latest_id, latest_in, merges, names_itself, next_id, type_at}
 use Rattle.walrus_handler_types.specs.declared.handler.Handler.{Handler}
-use Rattle.walrus_handler_types.specs.Giving.{Finds, FindsIf, Gives, GivesType, GivenAreTyped, HaveLists, SeesTable, block_results, caught, form_params, form_results, listed, params_at, results_at}
-use Rattle.walrus_handler_types.specs.Retyping.{AreTyped, IsTyped, handler_params, with_type}
+use Rattle.walrus_handler_types.specs.Giving.{Finds, FindsIf, Gives, GivesType, GivenAreTyped, HaveLists, SeesTable, block_results, caught, form_params, form_results, listed}
+use Rattle.walrus_handler_types.specs.Retyping.{IsTyped, handler_params, with_type}
 
 -- ---- searches
 

@@ -1,12 +1,12 @@
 -- Lemmas: what stands beside some types of handlers stands beside others.
-use Rattle.std.proofs.Common.{◌≡◌, ◌∙◌, ◌⊎◌, inl, inr, ℕ, Bool, List, [], ◌∷◌, ◌++◌, refl, sym, ap, subst}
-use Rattle.std.specs.Prelude.{Option, Some, None, Ok, slice_get}
+use Rattle.std.proofs.Common.{◌≡◌, ◌∙◌, ℕ, Bool, List, [], ◌∷◌, ◌++◌, refl, sym, ap, subst}
+use Rattle.std.specs.Prelude.{Option, Some, None, slice_get}
 use Rattle.std.specs.Option.{option_map}
 use Rattle.walrus_body_steps.specs.walrus_body_nesting.wasm_normal_form.wasm_immediates.declared.block_type.BlockType.{BlockType}
 use Rattle.walrus_body_steps.specs.walrus_body_nesting.wasm_normal_form.wasm_immediates.declared.block_type.BlockType.TheVariants as blocks
 use Rattle.walrus_body_steps.specs.walrus_body_nesting.wasm_normal_form.wasm_immediates.declared.clause.Clause.{Clause}
 use Rattle.walrus_body_steps.specs.walrus_body_nesting.wasm_normal_form.wasm_immediates.declared.clause.Clause.TheVariants as clauses
-use Rattle.walrus_body_steps.specs.walrus_body_nesting.wasm_normal_form.wasm_immediates.Items.{Space, Types, Labels, Item, Names, Byte, Heap, Block, ManyLabels}
+use Rattle.walrus_body_steps.specs.walrus_body_nesting.wasm_normal_form.wasm_immediates.Items.{Types, Labels, Item, Names, Byte, Heap, ManyLabels}
 use Rattle.walrus_body_steps.specs.walrus_body_nesting.wasm_body_grammar.wasm_operators.declared.op_code.OpCode.{OpCode}
 use Rattle.walrus_body_steps.specs.walrus_body_nesting.wasm_body_grammar.wasm_operators.Operators.{Seen}
 use Rattle.walrus_body_steps.specs.walrus_body_nesting.wasm_normal_form.Trees.{Tree, Close, Arm, Skip, Run, Nest}
@@ -25,11 +25,10 @@ use Rattle.walrus_tree.specs.walrus_walks.walrus_instr.declared.instr.LegacyCatc
 use Rattle.walrus_tree.specs.walrus_walks.walrus_instr.declared.instr.TryTableCatch.{TryTableCatch}
 use Rattle.walrus_tree.specs.walrus_walks.walrus_instr.declared.seq.InstrLocId.{InstrLocId}
 use Rattle.walrus_tree.specs.walrus_walks.walrus_instr.declared.seq.InstrSeqType.{InstrSeqType}
-use Rattle.walrus_tree.specs.walrus_walks.walrus_instr.declared.seq.InstrSeqType.TheVariants.{Simple, MultiValue}
 use Rattle.walrus_tree.specs.Trees.{Has}
 use Rattle.walrus_handler_types.specs.declared.handler.Handler.{Handler}
-use Rattle.walrus_handler_types.specs.Handlers.{AreTold, Slot, TellsHandlers, handler, part_slots, seq_slots, slots, slots_in, tag_handler, turn_handler}
-use Rattle.walrus_handler_types.specs.Retyping.{AreTyped, HandlersStand, IsTyped, Widens, handler_params, with_type}
+use Rattle.walrus_handler_types.specs.Handlers.{AreTold, Slot, TellsHandlers, part_slots, seq_slots, slots, slots_in, tag_handler, turn_handler}
+use Rattle.walrus_handler_types.specs.Retyping.{AreTyped, HandlersStand, IsTyped, Widens, with_type}
 
 -- ---- what is held by what
 

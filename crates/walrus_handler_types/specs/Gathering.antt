@@ -1,6 +1,6 @@
 -- Handlers in a list by sequence.
-use Rattle.std.specs.Prelude.{◌≡◌, ℕ, ◌<◌, List, [], ◌∷◌, length, map, Option, Some, None, slice_get, slice_set}
-use Rattle.walrus_tree.specs.walrus_builder.Built.{Seq, seq_of}
+use Rattle.std.specs.Prelude.{◌≡◌, ℕ, ◌<◌, List, [], ◌∷◌, length, Option, Some, None, slice_get, slice_set}
+use Rattle.walrus_tree.specs.walrus_builder.Built.{Seq}
 use Rattle.walrus_tree.specs.walrus_walks.Events.{Event, StartOf}
 use Rattle.walrus_tree.specs.walrus_walks.walrus_instr.declared.seq.InstrSeq.{InstrSeq}
 use Rattle.walrus_handler_types.specs.declared.handler.Handler.{Handler}

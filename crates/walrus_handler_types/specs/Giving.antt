@@ -1,5 +1,5 @@
 -- The types that handlers are given by a table of types, which has those that it lacked added.
-use Rattle.std.specs.Prelude.{◌≡◌, ℕ, zero, suc, List, [], ◌∷◌, length, Option, Some, None, MatchOption, slice_get, slice_index_or}
+use Rattle.std.specs.Prelude.{◌≡◌, ℕ, zero, suc, List, [], length, Option, Some, None, MatchOption, slice_get, slice_index_or}
 use Rattle.std.specs.Option.{option_and_then}
 use Rattle.walrus_body_steps.specs.walrus_body_rules.Sights.{Sight, value_list}
 use Rattle.walrus_tree.specs.walrus_builder.Built.{Seq, edited}

@@ -16,7 +16,9 @@ use walrus_arena::{
 };
 use walrus_body_steps::body_env::BodyEnv;
 use walrus_tree::builder::tree_walks::Visitor;
-use walrus_tree::builder::tree_walks::instr::{Instr, InstrLocId, InstrSeq, InstrSeqType, LegacyCatch, Value};
+use walrus_tree::builder::tree_walks::instr::{
+    Instr, InstrLocId, InstrSeq, InstrSeqType, LegacyCatch, Value,
+};
 use walrus_tree::builder::{FunctionBuilder, dfs_in_order};
 
 // The type of a sequence, if there is one of that id.
@@ -102,12 +104,7 @@ fn put_parts<E: BodyEnv>(
 }
 
 // Puts what the sequences that an instruction holds are.
-fn put_instr<E: BodyEnv>(
-    env: &E,
-    seqs: &[InstrSeq],
-    told: &mut [Option<Handler>],
-    instr: &Instr,
-)
+fn put_instr<E: BodyEnv>(env: &E, seqs: &[InstrSeq], told: &mut [Option<Handler>], instr: &Instr)
     ensures { told.new ≡ put_all (slots (E.tag_type env.now) (map seq_of seqs.now) instr.now) told.old }
 {
     if let Instr::Try { seq, catches } = instr {

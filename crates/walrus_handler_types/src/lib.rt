@@ -2,11 +2,11 @@
 #![tactic(auto)]
 
 mod any;
-pub mod laws;
-mod lists;
 mod gather;
 mod give;
 mod handler;
+pub mod laws;
+mod lists;
 
 pub use any::AnyHandler;
 pub use gather::handlers;

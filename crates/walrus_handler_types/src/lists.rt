@@ -10,7 +10,9 @@ ghost use Rattle.walrus_tree.specs.walrus_walks.walrus_types.Table.{type_at};
 use std::alloc::{AllocError, Global};
 use walrus_arena::TypeId;
 use walrus_tree::builder::tree_walks::instr::InstrSeqType;
-use walrus_tree::builder::tree_walks::instr::type_table::{FunctionType, ModuleTypes, Type, ValType};
+use walrus_tree::builder::tree_walks::instr::type_table::{
+    FunctionType, ModuleTypes, Type, ValType,
+};
 
 // The live type of an id.
 fn type_at(types: &ModuleTypes, id: TypeId) -> Option<&Type>

@@ -1,9 +1,9 @@
-use Rattle.std.proofs.Common.{◌≡◌, ◌∙◌, ℕ, zero, suc, List, [], ◌∷◌, ap, sym, refl, Some, subst}
+use Rattle.std.proofs.Common.{◌≡◌, ◌∙◌, ℕ, zero, suc, List, [], ◌∷◌, ap, refl, Some, subst}
 use Rattle.std.specs.Prelude.{slice_get, slice_index_or}
 use Rattle.std.specs.Option.{option_map}
-use Rattle.walrus_handler_types.specs.Giving.{GivesAt, GivesType}
+use Rattle.walrus_handler_types.specs.Giving.{GivesType}
 use Rattle.walrus_handler_types.specs.Retyping.{with_type}
-use Rattle.walrus_tree.specs.walrus_builder.Built.{contents, seq_of}
+use Rattle.walrus_tree.specs.walrus_builder.Built.{seq_of}
 use Rattle.walrus_tree.specs.walrus_builder.Edited.{contents_at, written_edits}
 use Rattle.walrus_tree.specs.walrus_builder.Functions.{seqs_of}
 use Rattle.walrus_tree.specs.walrus_walks.walrus_instr.declared.seq.InstrSeq.{InstrSeq}
