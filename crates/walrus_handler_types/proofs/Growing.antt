@@ -1,12 +1,14 @@
 -- Lemmas: a table that grows by what handlers lacked keeps the types that others were given.
-use Rattle.std.proofs.Common.{◌≡◌, ◌∙◌, ◌⊎◌, inl, inr, ℕ, zero, suc, ◌+◌, ◌<◌, ◌≤◌, Bool, true, false, ◌&&◌, List, [], ◌∷◌, ◌++◌, length, refl, sym, ap, subst, arith}
+use Rattle.std.proofs.Common.{◌≡◌, ◌∙◌, ◌⊎◌, inl, inr, ℕ, zero, suc, ◌+◌, ◌<◌, ◌≤◌, Bool, true, false, ◌&&◌, List, [], ◌∷◌, ◌++◌, length, map, refl, sym, ap, subst, arith}
 use Rattle.std.proofs.lemmas.Bool.{cases_lt, cases_eq}
 use Rattle.std.proofs.lemmas.Option.{slice_get_within}
 use Rattle.std.specs.Prelude.{◌≢◌, Option, Some, None, MatchOption, not, slice_get, slice_index_or, if◌then◌else◌}
 use Rattle.std.specs.Option.{option_and_then, option_map, option_or}
 use Rattle.walrus_arena.specs.Arena.{entries_from}
 use Rattle.walrus_body_steps.specs.walrus_body_rules.Sights.{Sight, handler_of, results_of}
-use Rattle.walrus_tree.specs.walrus_builder.Built.{Seq, edited}
+use Rattle.walrus_tree.specs.walrus_builder.Built.{Seq, edited, seq_of}
+use Rattle.std.proofs.lemmas.List.{length-map}
+use Rattle.walrus_handler_types.specs.Handlers.{told_by}
 use Rattle.walrus_tree.specs.walrus_builder.Edited.{edited_here, edited_others}
 use Rattle.walrus_tree.specs.walrus_walks.walrus_forms.declared.value.ValType.{ValType}
 use Rattle.walrus_tree.specs.walrus_walks.walrus_forms.Kinds.{Kind, function_kind}
@@ -17,7 +19,7 @@ use Rattle.walrus_tree.specs.walrus_walks.walrus_instr.declared.seq.InstrSeqType
 use Rattle.walrus_tree.specs.walrus_walks.walrus_types.Items.{Item}
 use Rattle.walrus_tree.specs.walrus_walks.walrus_types.Table.{Adds, Merges, Table, entries, equal_type, found_type, latest_id, latest_in, merges, names_itself, next_id, type_at}
 use Rattle.walrus_handler_types.specs.declared.handler.Handler.{Handler}
-use Rattle.walrus_handler_types.specs.Giving.{Finds, FindsIf, Gives, GivesType, GivenAreTyped, HaveLists, SeesTable, block_results, caught, form_params, form_results, listed}
+use Rattle.walrus_handler_types.specs.Giving.{ListsTell, Finds, FindsIf, Gives, GivesType, GivenAreTyped, HaveLists, SeesTable, block_results, caught, form_params, form_results, listed}
 use Rattle.walrus_handler_types.specs.Retyping.{IsTyped, handler_params, with_type}
 
 -- ---- searches
@@ -253,3 +255,16 @@ module _ (same : SameKindIsEquality) where
       let lt = slice_get_within b j x there in
       let r = all.given j x (omega (arith, lt, many)) there in
       (r.0, r.1, typed_by u new sees (listed hs j) x.ty r.0 r.2)
+
+listed_at : (hs : List (Option Handler)) (n : ℕ) (h : Option Handler) → slice_get hs n ≡ Some h → listed hs n ≡ h
+listed_at [] n h e = absurd cc
+listed_at (x ∷ hs) zero h e = cc
+listed_at (x ∷ hs) (suc n) h e = listed_at hs n h e
+
+pub lists_tell : ListsTell
+lists_tell tags b js hs c u handlers are j x found =
+    let r = are j x found in
+    let lt = slice_get_within (map seq_of b) j x found in
+    let many = length-map b seq_of in
+    let same = listed_at hs j (told_by tags b js j) (handlers.told j (omega (arith, lt, many))) in
+    (r.0, r.1, subst (λ (h : Option Handler). IsTyped u h x.ty r.0) same r.2)

@@ -1,16 +1,19 @@
 -- The types that handlers are given by a table of types, which has those that it lacked added.
-use Rattle.std.specs.Prelude.{◌≡◌, ℕ, zero, suc, List, [], length, Option, Some, None, MatchOption, slice_get, slice_index_or}
+use Rattle.std.specs.Prelude.{◌≡◌, ℕ, zero, suc, List, [], length, map, Option, Some, None, MatchOption, slice_get, slice_index_or}
 use Rattle.std.specs.Option.{option_and_then}
 use Rattle.walrus_body_steps.specs.walrus_body_rules.Sights.{Sight, value_list}
-use Rattle.walrus_tree.specs.walrus_builder.Built.{Seq, edited}
+use Rattle.walrus_tree.specs.walrus_builder.Built.{Seq, edited, seq_of}
 use Rattle.walrus_tree.specs.walrus_walks.walrus_forms.declared.value.ValType.{ValType}
 use Rattle.walrus_tree.specs.walrus_walks.walrus_forms.Forms.{Form, FunctionForm, StructForm, ArrayForm}
 use Rattle.walrus_tree.specs.walrus_walks.walrus_instr.BlockTypes.{Makes, picked}
+use Rattle.walrus_tree.specs.walrus_walks.walrus_instr.declared.seq.InstrSeq.{InstrSeq}
 use Rattle.walrus_tree.specs.walrus_walks.walrus_instr.declared.seq.InstrSeqType.{InstrSeqType}
 use Rattle.walrus_tree.specs.walrus_walks.walrus_instr.declared.seq.InstrSeqType.TheVariants.{Simple, MultiValue}
 use Rattle.walrus_tree.specs.walrus_walks.walrus_types.Items.{Item}
 use Rattle.walrus_tree.specs.walrus_walks.walrus_types.Table.{Table, type_at}
 use Rattle.walrus_handler_types.specs.declared.handler.Handler.{Handler}
+use Rattle.walrus_handler_types.specs.Gathering.{AreHandlers}
+use Rattle.walrus_handler_types.specs.Handlers.{told_by}
 use Rattle.walrus_handler_types.specs.Retyping.{AreTyped, with_type}
 
 -- the parameters and results of a form, if it is a function's
@@ -85,3 +88,8 @@ pub record SeesTable (u : Sight) (t : Table) : Type 0 where
 abbrev pub GivenAreTyped : Type 0
 GivenAreTyped = (hs : List (Option Handler)) (b c : List Seq) (old new : Table) (u : Sight) → length hs ≡ length b → HaveLists hs old → Gives hs (length hs) b old c new → SeesTable u new
     → AreTyped u (listed hs) b c
+
+-- a list of handlers by sequence tells of the sequences what they are
+abbrev pub ListsTell : Type 0
+ListsTell = (tags : ℕ → Option ℕ) (b : List InstrSeq) (js : List ℕ) (hs : List (Option Handler)) (c : List Seq) (u : Sight) → AreHandlers tags b js hs
+    → AreTyped u (listed hs) (map seq_of b) c → AreTyped u (told_by tags b js) (map seq_of b) c

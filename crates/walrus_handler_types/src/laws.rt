@@ -1,6 +1,6 @@
 //! Laws: functions with nothing to do, whose contracts hold of all bodies.
 
-ghost use Rattle.walrus_handler_types.specs.Giving.{GivenAreTyped};
+ghost use Rattle.walrus_handler_types.specs.Giving.{GivenAreTyped, ListsTell};
 ghost use Rattle.walrus_handler_types.specs.Handlers.{TreesTell};
 ghost use Rattle.walrus_handler_types.specs.Retyping.{HandlersStand};
 
@@ -21,3 +21,8 @@ pub fn given_are_typed()
 {
     walrus_forms::laws::same_kind_is_equality();
 }
+
+/// What has types by a list of handlers by sequence has them by what the sequences are told as.
+pub fn lists_tell()
+    ensures { ListsTell }
+{}
