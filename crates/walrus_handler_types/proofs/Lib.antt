@@ -1,0 +1,4 @@
+mod Counting
+mod Gathers
+mod Growing
+mod Standing

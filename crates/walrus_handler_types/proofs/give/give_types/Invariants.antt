@@ -1,0 +1,13 @@
+use Rattle.std.proofs.Common.{◌≡◌, length}
+use Rattle.walrus_handler_types.specs.Giving.{Gives}
+use Rattle.walrus_tree.specs.walrus_builder.Built.{contents}
+use Rattle.walrus_tree.specs.walrus_builder.Functions.{seqs_of}
+use Rattle.walrus_handler_types.proofs.give.give_types.Given as goal
+
+abbrev pub invariant-loop-index : goal.invariant-loop-index
+invariant-loop-index l = record {
+  given : Gives l.handlers l.index (contents l.fn.body.builder) l.fn.types (contents l.body.builder) l.types;
+  ty : l.body.ty ≡ l.fn.body.ty;
+  name : l.body.name ≡ l.fn.body.name;
+  many : length (seqs_of l.body) ≡ length (seqs_of l.fn.body);
+}

@@ -1,0 +1,4 @@
+pub mod Handlers
+pub mod Retyping
+pub mod Giving
+pub mod Gathering
