@@ -4,6 +4,3 @@
 mod config;
 
 pub use config::ModuleConfig;
-
-#[cfg(test)]
-mod tests;

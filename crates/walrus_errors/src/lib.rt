@@ -5,6 +5,3 @@ mod error;
 
 pub use error::{ErrorKind, ModuleError, Result};
 pub use wasm_formats::{Form, Limited, Space};
-
-#[cfg(test)]
-mod tests;

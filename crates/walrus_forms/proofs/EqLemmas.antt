@@ -4,7 +4,7 @@ use Rattle.std.specs.Bool.{beq}
 use Rattle.std.specs.Option.{option_eq}
 use Rattle.std.specs.Cmp.Lexicographic.{pointwise}
 use Rattle.std.proofs.Math.Bool.{and-true}
-use Rattle.std.proofs.lemmas.Bool.{and_parts, and_from, eqb-true, eq-eqb}
+use Rattle.std.proofs.lemmas.Bool.{and_parts, and_from, eqb-true, eq-eqb, false≢true}
 use Rattle.walrus_forms.proofs.AbstractLemmas.{abstract-same, abstract-itself}
 use Rattle.walrus_forms.specs.declared.value.HeapType.{HeapType}
 use Rattle.walrus_forms.specs.declared.value.HeapType.TheVariants.{Abstract, Concrete, Exact}
@@ -42,8 +42,8 @@ numbers = record { same = λ x y e. eqb-true x y e; itself = λ x. eq-eqb x x re
 
 options-same : {X : Type 0} {E : X → X → Bool} → Tells E → (x y : Option X) → option_eq E x y ≡ true → x ≡ y
 options-same t None None e = refl
-options-same t None (Some y) e = absurd cc
-options-same t (Some x) None e = absurd cc
+options-same t None (Some y) e = absurd (false≢true e)
+options-same t (Some x) None e = absurd (false≢true e)
 options-same t (Some x) (Some y) e = ap Some (t.same x y e)
 
 options-itself : {X : Type 0} {E : X → X → Bool} → Tells E → (x : Option X) → option_eq E x x ≡ true
@@ -52,8 +52,8 @@ options-itself t (Some x) = t.itself x
 
 lists-same : {X : Type 0} {E : X → X → Bool} → Tells E → (xs ys : List X) → pointwise E xs ys ≡ true → xs ≡ ys
 lists-same t [] [] e = refl
-lists-same t [] (y ∷ ys) e = absurd cc
-lists-same t (x ∷ xs) [] e = absurd cc
+lists-same t [] (y ∷ ys) e = absurd (false≢true e)
+lists-same t (x ∷ xs) [] e = absurd (false≢true e)
 lists-same {X} {E} t (x ∷ xs) (y ∷ ys) e =
     let parts = and_parts (E x y) (pointwise E xs ys) e in
     ap (λ (z : X). z ∷ xs) (t.same x y parts.0) ∙ ap (λ (zs : List X). y ∷ zs) (lists-same t xs ys parts.1)
@@ -66,12 +66,12 @@ heaps-same : (x y : HeapType) → heap_eq.eq x y ≡ true → x ≡ y
 heaps-same (Abstract x) (Abstract y) e = ap Abstract (abstract-same x y e)
 heaps-same (Concrete x) (Concrete y) e = ap Concrete (eqb-true x y (sym (and-true (nat_eq x y)) ∙ e))
 heaps-same (Exact x) (Exact y) e = ap Exact (eqb-true x y (sym (and-true (nat_eq x y)) ∙ e))
-heaps-same (Abstract x) (Concrete y) e = absurd cc
-heaps-same (Abstract x) (Exact y) e = absurd cc
-heaps-same (Concrete x) (Abstract y) e = absurd cc
-heaps-same (Concrete x) (Exact y) e = absurd cc
-heaps-same (Exact x) (Abstract y) e = absurd cc
-heaps-same (Exact x) (Concrete y) e = absurd cc
+heaps-same (Abstract x) (Concrete y) e = absurd (false≢true e)
+heaps-same (Abstract x) (Exact y) e = absurd (false≢true e)
+heaps-same (Concrete x) (Abstract y) e = absurd (false≢true e)
+heaps-same (Concrete x) (Exact y) e = absurd (false≢true e)
+heaps-same (Exact x) (Abstract y) e = absurd (false≢true e)
+heaps-same (Exact x) (Concrete y) e = absurd (false≢true e)
 
 heaps-itself : (x : HeapType) → heap_eq.eq x x ≡ true
 heaps-itself (Abstract x) = abstract-itself x
@@ -106,40 +106,40 @@ values-itself (Ref r) = refs.itself r
 
 values-same : (x y : ValType) → value_eq.eq x y ≡ true → x ≡ y
 values-same I32 I32 e = refl
-values-same I32 I64 e = absurd cc
-values-same I32 F32 e = absurd cc
-values-same I32 F64 e = absurd cc
-values-same I32 V128 e = absurd cc
-values-same I32 (Ref s) e = absurd cc
-values-same I64 I32 e = absurd cc
+values-same I32 I64 e = absurd (false≢true e)
+values-same I32 F32 e = absurd (false≢true e)
+values-same I32 F64 e = absurd (false≢true e)
+values-same I32 V128 e = absurd (false≢true e)
+values-same I32 (Ref s) e = absurd (false≢true e)
+values-same I64 I32 e = absurd (false≢true e)
 values-same I64 I64 e = refl
-values-same I64 F32 e = absurd cc
-values-same I64 F64 e = absurd cc
-values-same I64 V128 e = absurd cc
-values-same I64 (Ref s) e = absurd cc
-values-same F32 I32 e = absurd cc
-values-same F32 I64 e = absurd cc
+values-same I64 F32 e = absurd (false≢true e)
+values-same I64 F64 e = absurd (false≢true e)
+values-same I64 V128 e = absurd (false≢true e)
+values-same I64 (Ref s) e = absurd (false≢true e)
+values-same F32 I32 e = absurd (false≢true e)
+values-same F32 I64 e = absurd (false≢true e)
 values-same F32 F32 e = refl
-values-same F32 F64 e = absurd cc
-values-same F32 V128 e = absurd cc
-values-same F32 (Ref s) e = absurd cc
-values-same F64 I32 e = absurd cc
-values-same F64 I64 e = absurd cc
-values-same F64 F32 e = absurd cc
+values-same F32 F64 e = absurd (false≢true e)
+values-same F32 V128 e = absurd (false≢true e)
+values-same F32 (Ref s) e = absurd (false≢true e)
+values-same F64 I32 e = absurd (false≢true e)
+values-same F64 I64 e = absurd (false≢true e)
+values-same F64 F32 e = absurd (false≢true e)
 values-same F64 F64 e = refl
-values-same F64 V128 e = absurd cc
-values-same F64 (Ref s) e = absurd cc
-values-same V128 I32 e = absurd cc
-values-same V128 I64 e = absurd cc
-values-same V128 F32 e = absurd cc
-values-same V128 F64 e = absurd cc
+values-same F64 V128 e = absurd (false≢true e)
+values-same F64 (Ref s) e = absurd (false≢true e)
+values-same V128 I32 e = absurd (false≢true e)
+values-same V128 I64 e = absurd (false≢true e)
+values-same V128 F32 e = absurd (false≢true e)
+values-same V128 F64 e = absurd (false≢true e)
 values-same V128 V128 e = refl
-values-same V128 (Ref s) e = absurd cc
-values-same (Ref r) I32 e = absurd cc
-values-same (Ref r) I64 e = absurd cc
-values-same (Ref r) F32 e = absurd cc
-values-same (Ref r) F64 e = absurd cc
-values-same (Ref r) V128 e = absurd cc
+values-same V128 (Ref s) e = absurd (false≢true e)
+values-same (Ref r) I32 e = absurd (false≢true e)
+values-same (Ref r) I64 e = absurd (false≢true e)
+values-same (Ref r) F32 e = absurd (false≢true e)
+values-same (Ref r) F64 e = absurd (false≢true e)
+values-same (Ref r) V128 e = absurd (false≢true e)
 values-same (Ref r) (Ref s) e = ap Ref (refs.same r s e)
 
 values : Tells value_eq.eq
@@ -149,12 +149,12 @@ storages-same : (x y : StorageType) → storage_eq.eq x y ≡ true → x ≡ y
 storages-same (Val x) (Val y) e = ap Val (values.same x y e)
 storages-same I8 I8 e = refl
 storages-same I16 I16 e = refl
-storages-same (Val x) I8 e = absurd cc
-storages-same (Val x) I16 e = absurd cc
-storages-same I8 (Val y) e = absurd cc
-storages-same I8 I16 e = absurd cc
-storages-same I16 (Val y) e = absurd cc
-storages-same I16 I8 e = absurd cc
+storages-same (Val x) I8 e = absurd (false≢true e)
+storages-same (Val x) I16 e = absurd (false≢true e)
+storages-same I8 (Val y) e = absurd (false≢true e)
+storages-same I8 I16 e = absurd (false≢true e)
+storages-same I16 (Val y) e = absurd (false≢true e)
+storages-same I16 I8 e = absurd (false≢true e)
 
 storages-itself : (x : StorageType) → storage_eq.eq x x ≡ true
 storages-itself (Val x) = values.itself x
@@ -179,12 +179,12 @@ forms-same (FunctionForm ps rs) (FunctionForm qs ss) e =
     ap (λ (xs : List ValType). FunctionForm xs rs) ((lists values).same ps qs parts.0) ∙ ap (λ (xs : List ValType). FunctionForm qs xs) ((lists values).same rs ss parts.1)
 forms-same (StructForm fs) (StructForm gs) e = ap StructForm ((lists fields).same fs gs e)
 forms-same (ArrayForm f) (ArrayForm g) e = ap ArrayForm (fields.same f g e)
-forms-same (FunctionForm ps rs) (StructForm gs) e = absurd cc
-forms-same (FunctionForm ps rs) (ArrayForm g) e = absurd cc
-forms-same (StructForm fs) (FunctionForm qs ss) e = absurd cc
-forms-same (StructForm fs) (ArrayForm g) e = absurd cc
-forms-same (ArrayForm f) (FunctionForm qs ss) e = absurd cc
-forms-same (ArrayForm f) (StructForm gs) e = absurd cc
+forms-same (FunctionForm ps rs) (StructForm gs) e = absurd (false≢true e)
+forms-same (FunctionForm ps rs) (ArrayForm g) e = absurd (false≢true e)
+forms-same (StructForm fs) (FunctionForm qs ss) e = absurd (false≢true e)
+forms-same (StructForm fs) (ArrayForm g) e = absurd (false≢true e)
+forms-same (ArrayForm f) (FunctionForm qs ss) e = absurd (false≢true e)
+forms-same (ArrayForm f) (StructForm gs) e = absurd (false≢true e)
 
 forms-itself : (a : Form) → same_form a a ≡ true
 forms-itself (FunctionForm ps rs) = and_from (pointwise value_eq.eq ps ps) (pointwise value_eq.eq rs rs) ((lists values).itself ps) ((lists values).itself rs)

@@ -1,5 +1,5 @@
 //! Adding recursion groups to a table.
-ghost use Rattle.std.specs.Prelude.{◌≡◌, ◌+◌, ◌<◌, ◌≤◌, ◌^◌, ℕ, List, [], ◌∷◌, ◌++◌, length, map, Some, None, false, IfOk, vec_len, vec_capacity};
+ghost use Rattle.std.specs.Prelude.{◌≡◌, ◌+◌, ◌<◌, ◌≤◌, ◌^◌, ℕ, List, [], ◌∷◌, ◌++◌, length, map, Some, None, false, IfOk, OnOk, vec_len, vec_capacity};
 ghost use Rattle.std.specs.List.{range_with_len};
 ghost use Rattle.walrus_type_index.specs.walrus_items.Items.{item_of};
 ghost use Rattle.walrus_type_index.specs.Places.{kinds_in};
@@ -93,15 +93,51 @@ fn push_type(types: &mut TombstoneArena<Type, TypeSpace>, index: &mut Tree, ty: 
     enter(index, types, spare.with_id(id));
 }
 
-// Adds the type, in a group of these members, and enters it into the index. Asks for room.
+// What a type that is alone in its group needs beside itself: the list of the group's members, and memory to enter it into the index.
+#[derive(Drop)]
+pub(crate) struct Single {
+    members: Vec<TypeId>,
+    spare: Spare,
+}
+
+impl Single {
+    pub(crate) fn new(alloc: Global, id: TypeId) -> Result<Single, AllocError>
+        ensures { IfOk result (λ single. single.members.items ≡ id ∷ []) }
+    {
+        let mut members = Vec::new(alloc);
+        members.push(id)?;
+        let spare = Spare::new(alloc, id)?;
+        Ok(Single { members, spare })
+    }
+}
+
+// Makes room for so many types, each alone in its group.
+pub(crate) fn reserve_singles(
+    types: &mut TombstoneArena<Type, TypeSpace>,
+    groups: &mut TombstoneArena<RecGroup, RecGroupSpace>,
+    homes: &mut Vec<RecGroupId>,
+    count: usize,
+) -> Result<(), AllocError>
+    ensures types { types.new.slots ≡ types.old.slots }
+    ensures groups { groups.new.slots ≡ groups.old.slots }
+    ensures homes { homes.new.items ≡ homes.old.items }
+    ensures types_room { OnOk result (count ≤ types.new.room) }
+    ensures groups_room { OnOk result (count ≤ groups.new.room) }
+    ensures homes_room { OnOk result (vec_len homes.new + count ≤ vec_capacity homes.new) }
+{
+    types.reserve(count)?;
+    groups.reserve(count)?;
+    homes.reserve(count)
+}
+
+// Adds the type, alone in its group, and enters it into the index. Asks for room.
 pub(crate) fn push_single(
     types: &mut TombstoneArena<Type, TypeSpace>,
     groups: &mut TombstoneArena<RecGroup, RecGroupSpace>,
     homes: &mut Vec<RecGroupId>,
     index: &mut Tree,
     ty: Type,
-    members: Vec<TypeId>,
-    spare: Spare,
+    single: Single,
 )
     requires types { 0 < types.old.room }
     requires groups { 0 < groups.old.room }
@@ -109,16 +145,16 @@ pub(crate) fn push_single(
     requires ordered { IsOrdered None index.old (kinds_in types.old.slots) }
     ensures types { types.new.slots ≡ types.old.slots ++ Some ty ∷ [] }
     ensures types_room { types.new.room + 1 ≡ types.old.room }
-    ensures groups { groups.new.slots ≡ groups.old.slots ++ Some (record { types = members; explicit = false }) ∷ [] }
+    ensures groups { groups.new.slots ≡ groups.old.slots ++ Some (record { types = single.members; explicit = false }) ∷ [] }
     ensures groups_room { groups.new.room + 1 ≡ groups.old.room }
     ensures homes { homes.new.items ≡ homes.old.items ++ length groups.old.slots ∷ [] }
     ensures homes_len { vec_len homes.new ≡ vec_len homes.old + 1 }
     ensures homes_room { vec_capacity homes.new ≡ vec_capacity homes.old }
     ensures ordered { IsOrdered None index.new (kinds_in types.new.slots) }
 {
-    let home = groups.alloc_reserved(RecGroup::new(false, members));
+    let home = groups.alloc_reserved(RecGroup::new(false, single.members));
     homes.push_reserved(home);
-    push_type(types, index, ty, spare);
+    push_type(types, index, ty, single.spare);
 }
 
 // Adds these types, all of one group, and enters them into the index. Asks for room.

@@ -6,14 +6,14 @@ ghost use Rattle.walrus_type_index.specs.walrus_items.Items.{kind_of};
 ghost use Rattle.walrus_types.specs.Table.{next_id, equal_type};
 ghost use Rattle.walrus_types.specs.Pairs.{MergesBoth};
 
-use crate::group::push_single;
+use crate::group::{Single, push_single, reserve_singles};
 use crate::index::look_up;
 use crate::table::ModuleTypes;
 use std::alloc::AllocError;
 use walrus_arena::TypeId;
 use walrus_forms::{CompositeType, FunctionType, ValType};
 use walrus_type_index::items::Type;
-use walrus_type_index::{Spare, settle};
+use walrus_type_index::settle;
 
 impl ModuleTypes {
     /// The ids of the final function type without supertype of these parameters and results, and of the
@@ -77,16 +77,10 @@ impl ModuleTypes {
             return Err(AllocError);
         };
         let entry_id = TypeId::from_index(next as usize);
+        let single = Single::new(self.alloc, id)?;
+        let entry_single = Single::new(self.alloc, entry_id)?;
+        reserve_singles(&mut self.types, &mut self.groups, &mut self.homes, 2)?;
         let entry = Type::new(entry_id, entry, true, None, true);
-        let mut members = Vec::new(self.alloc);
-        members.push(id)?;
-        let mut entry_members = Vec::new(self.alloc);
-        entry_members.push(entry_id)?;
-        self.types.reserve(2)?;
-        self.groups.reserve(2)?;
-        self.homes.reserve(2)?;
-        let spare = Spare::new(self.alloc, id)?;
-        let entry_spare = Spare::new(self.alloc, entry_id)?;
         settle(&mut self.index, &mut self.lent, &self.types);
         push_single(
             &mut self.types,
@@ -94,8 +88,7 @@ impl ModuleTypes {
             &mut self.homes,
             &mut self.index,
             ty,
-            members,
-            spare,
+            single,
         );
         if let Some(found) = look_up(&self.index, &self.types, &entry, entry_id) {
             return Ok((id, found));
@@ -106,8 +99,7 @@ impl ModuleTypes {
             &mut self.homes,
             &mut self.index,
             entry,
-            entry_members,
-            entry_spare,
+            entry_single,
         );
         Ok((id, entry_id))
     }

@@ -15,7 +15,7 @@ ghost use Rattle.walrus_types.specs.TableLends.{lends_type};
 
 use crate::delete::{clear_types, home_of, leave_group, members_name};
 use crate::error::IrError;
-use crate::group::{NewType, ids_from, push_single, push_types, types_of};
+use crate::group::{NewType, Single, ids_from, push_single, push_types, reserve_singles, types_of};
 use crate::index::{later, lent_function, look_up};
 use crate::iter::{RecGroups, Types};
 use std::alloc::{AllocError, Global};
@@ -175,20 +175,15 @@ impl ModuleTypes {
         if let Some(found) = look_up(&self.index, &self.types, &ty, id) {
             return Ok(found);
         }
-        let mut members = Vec::new(self.alloc);
-        members.push(id)?;
-        self.types.reserve(1)?;
-        self.groups.reserve(1)?;
-        self.homes.reserve(1)?;
-        let spare = Spare::new(self.alloc, id)?;
+        let single = Single::new(self.alloc, id)?;
+        reserve_singles(&mut self.types, &mut self.groups, &mut self.homes, 1)?;
         push_single(
             &mut self.types,
             &mut self.groups,
             &mut self.homes,
             &mut self.index,
             ty,
-            members,
-            spare,
+            single,
         );
         Ok(id)
     }

@@ -2,7 +2,7 @@
 use Rattle.std.proofs.Common.{◌≡◌, ◌&&◌, Bool, true, false, List, [], ◌∷◌, refl, ap, ◌∙◌}
 use Rattle.std.specs.Bool.{beq}
 use Rattle.std.specs.Cmp.Lexicographic.{pointwise}
-use Rattle.std.proofs.lemmas.Bool.{and_parts}
+use Rattle.std.proofs.lemmas.Bool.{and_parts, false≢true}
 use Rattle.wasm_ref_types.specs.declared.index.UnpackedIndex.{UnpackedIndex}
 use Rattle.wasm_ref_types.specs.declared.value.ValType.{ValType}
 use Rattle.wasm_ref_types.specs.declared.value.ValType.TheVariants.{I32, I64, F32, F64, V128, Ref}
@@ -21,65 +21,65 @@ use Rattle.wasm_composite_types.specs.contracts.form.CompositeInnerTypePartialEq
 
 pub bool_same : (a b : Bool) → beq a b ≡ true → a ≡ b
 bool_same false false e = refl
-bool_same false true e = absurd cc
-bool_same true false e = absurd cc
+bool_same false true e = absurd (false≢true e)
+bool_same true false e = absurd (false≢true e)
 bool_same true true e = refl
 
 pub items_same : {A : Type 0} (eq : A → A → Bool) → ((a b : A) → eq a b ≡ true → a ≡ b) → (xs ys : List A) → pointwise eq xs ys ≡ true → xs ≡ ys
 items_same eq same [] [] e = refl
-items_same eq same [] (y ∷ ys) e = absurd cc
-items_same eq same (x ∷ xs) [] e = absurd cc
+items_same eq same [] (y ∷ ys) e = absurd (false≢true e)
+items_same eq same (x ∷ xs) [] e = absurd (false≢true e)
 items_same {A} eq same (x ∷ xs) (y ∷ ys) e =
     let parts = and_parts (eq x y) (pointwise eq xs ys) e in
     ap (λ (a : A). a ∷ xs) (same x y parts.0) ∙ ap (λ (l : List A). y ∷ l) (items_same eq same xs ys parts.1)
 
 value_same : (a b : ValType) → value_eq.eq a b ≡ true → a ≡ b
 value_same I32 I32 e = refl
-value_same I32 I64 e = absurd cc
-value_same I32 F32 e = absurd cc
-value_same I32 F64 e = absurd cc
-value_same I32 V128 e = absurd cc
-value_same I32 (Ref b) e = absurd cc
-value_same I64 I32 e = absurd cc
+value_same I32 I64 e = absurd (false≢true e)
+value_same I32 F32 e = absurd (false≢true e)
+value_same I32 F64 e = absurd (false≢true e)
+value_same I32 V128 e = absurd (false≢true e)
+value_same I32 (Ref b) e = absurd (false≢true e)
+value_same I64 I32 e = absurd (false≢true e)
 value_same I64 I64 e = refl
-value_same I64 F32 e = absurd cc
-value_same I64 F64 e = absurd cc
-value_same I64 V128 e = absurd cc
-value_same I64 (Ref b) e = absurd cc
-value_same F32 I32 e = absurd cc
-value_same F32 I64 e = absurd cc
+value_same I64 F32 e = absurd (false≢true e)
+value_same I64 F64 e = absurd (false≢true e)
+value_same I64 V128 e = absurd (false≢true e)
+value_same I64 (Ref b) e = absurd (false≢true e)
+value_same F32 I32 e = absurd (false≢true e)
+value_same F32 I64 e = absurd (false≢true e)
 value_same F32 F32 e = refl
-value_same F32 F64 e = absurd cc
-value_same F32 V128 e = absurd cc
-value_same F32 (Ref b) e = absurd cc
-value_same F64 I32 e = absurd cc
-value_same F64 I64 e = absurd cc
-value_same F64 F32 e = absurd cc
+value_same F32 F64 e = absurd (false≢true e)
+value_same F32 V128 e = absurd (false≢true e)
+value_same F32 (Ref b) e = absurd (false≢true e)
+value_same F64 I32 e = absurd (false≢true e)
+value_same F64 I64 e = absurd (false≢true e)
+value_same F64 F32 e = absurd (false≢true e)
 value_same F64 F64 e = refl
-value_same F64 V128 e = absurd cc
-value_same F64 (Ref b) e = absurd cc
-value_same V128 I32 e = absurd cc
-value_same V128 I64 e = absurd cc
-value_same V128 F32 e = absurd cc
-value_same V128 F64 e = absurd cc
+value_same F64 V128 e = absurd (false≢true e)
+value_same F64 (Ref b) e = absurd (false≢true e)
+value_same V128 I32 e = absurd (false≢true e)
+value_same V128 I64 e = absurd (false≢true e)
+value_same V128 F32 e = absurd (false≢true e)
+value_same V128 F64 e = absurd (false≢true e)
 value_same V128 V128 e = refl
-value_same V128 (Ref b) e = absurd cc
-value_same (Ref a) I32 e = absurd cc
-value_same (Ref a) I64 e = absurd cc
-value_same (Ref a) F32 e = absurd cc
-value_same (Ref a) F64 e = absurd cc
-value_same (Ref a) V128 e = absurd cc
+value_same V128 (Ref b) e = absurd (false≢true e)
+value_same (Ref a) I32 e = absurd (false≢true e)
+value_same (Ref a) I64 e = absurd (false≢true e)
+value_same (Ref a) F32 e = absurd (false≢true e)
+value_same (Ref a) F64 e = absurd (false≢true e)
+value_same (Ref a) V128 e = absurd (false≢true e)
 value_same (Ref a) (Ref b) e = ap Ref (reference-same a b e)
 
 storage_same : (a b : StorageType) → storage_eq.eq a b ≡ true → a ≡ b
 storage_same I8 I8 e = refl
-storage_same I8 I16 e = absurd cc
-storage_same I8 (Val b) e = absurd cc
-storage_same I16 I8 e = absurd cc
+storage_same I8 I16 e = absurd (false≢true e)
+storage_same I8 (Val b) e = absurd (false≢true e)
+storage_same I16 I8 e = absurd (false≢true e)
 storage_same I16 I16 e = refl
-storage_same I16 (Val b) e = absurd cc
-storage_same (Val a) I8 e = absurd cc
-storage_same (Val a) I16 e = absurd cc
+storage_same I16 (Val b) e = absurd (false≢true e)
+storage_same (Val a) I8 e = absurd (false≢true e)
+storage_same (Val a) I16 e = absurd (false≢true e)
 storage_same (Val a) (Val b) e = ap Val (value_same a b e)
 
 field_same : (a b : FieldType) → field_eq.eq a b ≡ true → a ≡ b
@@ -97,20 +97,20 @@ func_same a b e =
 
 form_same : (a b : CompositeInnerType) → form_eq.eq a b ≡ true → a ≡ b
 form_same (Func a) (Func b) e = ap Func (func_same a b e)
-form_same (Func a) (Array b) e = absurd cc
-form_same (Func a) (Struct b) e = absurd cc
-form_same (Func a) (Cont b) e = absurd cc
-form_same (Array a) (Func b) e = absurd cc
+form_same (Func a) (Array b) e = absurd (false≢true e)
+form_same (Func a) (Struct b) e = absurd (false≢true e)
+form_same (Func a) (Cont b) e = absurd (false≢true e)
+form_same (Array a) (Func b) e = absurd (false≢true e)
 form_same (Array a) (Array b) e = ap (λ (f : FieldType). Array (record { 0 = f })) (field_same a.0 b.0 e)
-form_same (Array a) (Struct b) e = absurd cc
-form_same (Array a) (Cont b) e = absurd cc
-form_same (Struct a) (Func b) e = absurd cc
-form_same (Struct a) (Array b) e = absurd cc
+form_same (Array a) (Struct b) e = absurd (false≢true e)
+form_same (Array a) (Cont b) e = absurd (false≢true e)
+form_same (Struct a) (Func b) e = absurd (false≢true e)
+form_same (Struct a) (Array b) e = absurd (false≢true e)
 form_same (Struct a) (Struct b) e = ap (λ (l : List FieldType). Struct (record { fields = l })) (items_same field_eq.eq field_same a.fields b.fields e)
-form_same (Struct a) (Cont b) e = absurd cc
-form_same (Cont a) (Func b) e = absurd cc
-form_same (Cont a) (Array b) e = absurd cc
-form_same (Cont a) (Struct b) e = absurd cc
+form_same (Struct a) (Cont b) e = absurd (false≢true e)
+form_same (Cont a) (Func b) e = absurd (false≢true e)
+form_same (Cont a) (Array b) e = absurd (false≢true e)
+form_same (Cont a) (Struct b) e = absurd (false≢true e)
 form_same (Cont a) (Cont b) e = ap (λ (i : UnpackedIndex). Cont (record { 0 = i })) (index-same a.0 b.0 e)
 
 pub composite_same : (a b : CompositeType) → (form_eq.eq a.inner b.inner && beq a.shared b.shared) ≡ true → a ≡ b

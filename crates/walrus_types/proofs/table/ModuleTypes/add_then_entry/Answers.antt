@@ -14,7 +14,7 @@ use Rattle.walrus_types.proofs.table.ModuleTypes.add_then_entry.Goals as goal
 pub look_up-requires-clause-next : goal.look_up-requires-clause-next
 look_up-requires-clause-next c =
     let slots = c.self.inside.types.slots in
-    let types_is : c.push_single.new.types.slots ≡ slots ++ Some c.args.ty ∷ [] = c.push_single.ensures.types ∙ ap (λ (xs : List (Option TypeItem)). xs ++ Some c.args.ty ∷ []) c.reserve.ensures.items in
+    let types_is : c.push_single.new.types.slots ≡ slots ++ Some c.args.ty ∷ [] = c.push_single.ensures.types ∙ ap (λ (xs : List (Option TypeItem)). xs ++ Some c.args.ty ∷ []) c.reserve_singles.ensures.types in
     let next : c.from_index-entry_id.result ≡ c.next_id-id.result + 1 = c.from_index-entry_id.ensures ∙ c.in-Some.ensures.1 ∙ ap (λ (i : ℕ). i + 1) c.index.ensures in
     omega (arith, next, c.next_id-id.ensures, ap (λ (xs : List (Option TypeItem)). length xs) types_is, length-append slots (Some c.args.ty ∷ []))
 
@@ -24,13 +24,13 @@ invariant_of-self-in-Some-look_up c =
     let groups = c.self.inside.groups.slots in
     let homes = c.self.inside.homes.items in
     let id = c.next_id-id.result in
-    let group : RecGroup = record { types = c.push.new.self; explicit = false } in
-    let members : c.push.new.self.items ≡ id ∷ [] = c.in_ok-push.ensures.items ∙ ap (λ (xs : List ℕ). xs ++ id ∷ []) c.new-members.ensures.items in
+    let group : RecGroup = record { types = c.in_ok-single.single.members; explicit = false } in
+    let members : c.in_ok-single.single.members.items ≡ id ∷ [] = c.in_ok-single.ensures in
     let alone : group_of group ≡ record { explicit = false; types = id ∷ [] } = ap (λ (xs : List ℕ). let g : Group = record { explicit = false; types = xs } in g) members in
-    let types_is : c.push_single.new.types.slots ≡ slots ++ Some c.args.ty ∷ [] = c.push_single.ensures.types ∙ ap (λ (xs : List (Option TypeItem)). xs ++ Some c.args.ty ∷ []) c.reserve.ensures.items in
-    let groups_is : c.push_single.new.groups.slots ≡ groups ++ Some group ∷ [] = c.push_single.ensures.groups ∙ ap (λ (xs : List (Option RecGroup)). xs ++ Some group ∷ []) c.reserve-2.ensures.items in
+    let types_is : c.push_single.new.types.slots ≡ slots ++ Some c.args.ty ∷ [] = c.push_single.ensures.types ∙ ap (λ (xs : List (Option TypeItem)). xs ++ Some c.args.ty ∷ []) c.reserve_singles.ensures.types in
+    let groups_is : c.push_single.new.groups.slots ≡ groups ++ Some group ∷ [] = c.push_single.ensures.groups ∙ ap (λ (xs : List (Option RecGroup)). xs ++ Some group ∷ []) c.reserve_singles.ensures.groups in
     let homes_is : c.push_single.new.homes.items ≡ homes ++ length groups ∷ [] =
-    c.push_single.ensures.homes ∙ ap (λ (xs : List ℕ). xs ++ length c.reserve-2.new.self.slots ∷ []) c.reserve-3.ensures.items ∙ ap (λ (gs : List (Option RecGroup)). homes ++ length gs ∷ []) c.reserve-2.ensures.items in
+    c.push_single.ensures.homes ∙ ap (λ (xs : List ℕ). xs ++ length c.reserve_singles.new.groups.slots ∷ []) c.reserve_singles.ensures.homes ∙ ap (λ (gs : List (Option RecGroup)). homes ++ length gs ∷ []) c.reserve_singles.ensures.groups in
     let grouped = type-pushed slots c.push_single.new.types.slots groups c.push_single.new.groups.slots homes c.push_single.new.homes.items c.args.ty group id c.self.invariant.grouped (sym c.next_id-id.ensures) alone types_is groups_is homes_is in
     record {
       ordered = subst (λ (l : Option ℕ). IsOrdered l c.push_single.new.index (kinds_in c.push_single.new.types.slots)) (sym c.settle.ensures.lent) c.push_single.ensures.ordered;
@@ -43,11 +43,11 @@ returns-in-Some-look_up-clause-inserted c =
     let groups = c.self.inside.groups.slots in
     let homes = c.self.inside.homes.items in
     let id = c.next_id-id.result in
-    let group : RecGroup = record { types = c.push.new.self; explicit = false } in
-    let members : c.push.new.self.items ≡ id ∷ [] = c.in_ok-push.ensures.items ∙ ap (λ (xs : List ℕ). xs ++ id ∷ []) c.new-members.ensures.items in
+    let group : RecGroup = record { types = c.in_ok-single.single.members; explicit = false } in
+    let members : c.in_ok-single.single.members.items ≡ id ∷ [] = c.in_ok-single.ensures in
     let alone : group_of group ≡ record { explicit = false; types = id ∷ [] } = ap (λ (xs : List ℕ). let g : Group = record { explicit = false; types = xs } in g) members in
-    let types_is : c.push_single.new.types.slots ≡ slots ++ Some c.args.ty ∷ [] = c.push_single.ensures.types ∙ ap (λ (xs : List (Option TypeItem)). xs ++ Some c.args.ty ∷ []) c.reserve.ensures.items in
-    let groups_is : c.push_single.new.groups.slots ≡ groups ++ Some group ∷ [] = c.push_single.ensures.groups ∙ ap (λ (xs : List (Option RecGroup)). xs ++ Some group ∷ []) c.reserve-2.ensures.items in
+    let types_is : c.push_single.new.types.slots ≡ slots ++ Some c.args.ty ∷ [] = c.push_single.ensures.types ∙ ap (λ (xs : List (Option TypeItem)). xs ++ Some c.args.ty ∷ []) c.reserve_singles.ensures.types in
+    let groups_is : c.push_single.new.groups.slots ≡ groups ++ Some group ∷ [] = c.push_single.ensures.groups ∙ ap (λ (xs : List (Option RecGroup)). xs ++ Some group ∷ []) c.reserve_singles.ensures.groups in
     let first = new-merges slots c.push_single.new.types.slots groups c.push_single.new.groups.slots c.args.self.now c.args.ty group id c.self.view_is c.requires.new (sym c.next_id-id.ensures)
     (c.requires.id ∙ ap next_id (sym c.self.view_is) ∙ length-map slots (option_map item_of) ∙ sym c.next_id-id.ensures) c.requires.unnamed alone types_is groups_is in
     let between = table_of c.push_single.new.types.slots c.push_single.new.groups.slots in
@@ -64,17 +64,17 @@ invariant_of-self-2 c =
     let groups = c.self.inside.groups.slots in
     let homes = c.self.inside.homes.items in
     let id = c.next_id-id.result in
-    let group : RecGroup = record { types = c.push.new.self; explicit = false } in
-    let members : c.push.new.self.items ≡ id ∷ [] = c.in_ok-push.ensures.items ∙ ap (λ (xs : List ℕ). xs ++ id ∷ []) c.new-members.ensures.items in
+    let group : RecGroup = record { types = c.in_ok-single.single.members; explicit = false } in
+    let members : c.in_ok-single.single.members.items ≡ id ∷ [] = c.in_ok-single.ensures in
     let alone : group_of group ≡ record { explicit = false; types = id ∷ [] } = ap (λ (xs : List ℕ). let g : Group = record { explicit = false; types = xs } in g) members in
-    let types_is : c.push_single.new.types.slots ≡ slots ++ Some c.args.ty ∷ [] = c.push_single.ensures.types ∙ ap (λ (xs : List (Option TypeItem)). xs ++ Some c.args.ty ∷ []) c.reserve.ensures.items in
-    let groups_is : c.push_single.new.groups.slots ≡ groups ++ Some group ∷ [] = c.push_single.ensures.groups ∙ ap (λ (xs : List (Option RecGroup)). xs ++ Some group ∷ []) c.reserve-2.ensures.items in
+    let types_is : c.push_single.new.types.slots ≡ slots ++ Some c.args.ty ∷ [] = c.push_single.ensures.types ∙ ap (λ (xs : List (Option TypeItem)). xs ++ Some c.args.ty ∷ []) c.reserve_singles.ensures.types in
+    let groups_is : c.push_single.new.groups.slots ≡ groups ++ Some group ∷ [] = c.push_single.ensures.groups ∙ ap (λ (xs : List (Option RecGroup)). xs ++ Some group ∷ []) c.reserve_singles.ensures.groups in
     let homes_is : c.push_single.new.homes.items ≡ homes ++ length groups ∷ [] =
-    c.push_single.ensures.homes ∙ ap (λ (xs : List ℕ). xs ++ length c.reserve-2.new.self.slots ∷ []) c.reserve-3.ensures.items ∙ ap (λ (gs : List (Option RecGroup)). homes ++ length gs ∷ []) c.reserve-2.ensures.items in
+    c.push_single.ensures.homes ∙ ap (λ (xs : List ℕ). xs ++ length c.reserve_singles.new.groups.slots ∷ []) c.reserve_singles.ensures.homes ∙ ap (λ (gs : List (Option RecGroup)). homes ++ length gs ∷ []) c.reserve_singles.ensures.groups in
     let grouped = type-pushed slots c.push_single.new.types.slots groups c.push_single.new.groups.slots homes c.push_single.new.homes.items c.args.ty group id c.self.invariant.grouped (sym c.next_id-id.ensures) alone types_is groups_is homes_is in
     let entry_id = c.from_index-entry_id.result in
-    let entry_group : RecGroup = record { types = c.push-2.new.self; explicit = false } in
-    let entry_members : c.push-2.new.self.items ≡ entry_id ∷ [] = c.in_ok-push-2.ensures.items ∙ ap (λ (xs : List ℕ). xs ++ entry_id ∷ []) c.new-entry_members.ensures.items in
+    let entry_group : RecGroup = record { types = c.in_ok-entry_single.entry_single.members; explicit = false } in
+    let entry_members : c.in_ok-entry_single.entry_single.members.items ≡ entry_id ∷ [] = c.in_ok-entry_single.ensures in
     let entry_alone : group_of entry_group ≡ record { explicit = false; types = entry_id ∷ [] } = ap (λ (xs : List ℕ). let g : Group = record { explicit = false; types = xs } in g) entry_members in
     let next : entry_id ≡ id + 1 = c.from_index-entry_id.ensures ∙ c.in-Some.ensures.1 ∙ ap (λ (i : ℕ). i + 1) c.index.ensures in
     record {
@@ -91,16 +91,16 @@ returns-clause-inserted c =
     let groups = c.self.inside.groups.slots in
     let homes = c.self.inside.homes.items in
     let id = c.next_id-id.result in
-    let group : RecGroup = record { types = c.push.new.self; explicit = false } in
-    let members : c.push.new.self.items ≡ id ∷ [] = c.in_ok-push.ensures.items ∙ ap (λ (xs : List ℕ). xs ++ id ∷ []) c.new-members.ensures.items in
+    let group : RecGroup = record { types = c.in_ok-single.single.members; explicit = false } in
+    let members : c.in_ok-single.single.members.items ≡ id ∷ [] = c.in_ok-single.ensures in
     let alone : group_of group ≡ record { explicit = false; types = id ∷ [] } = ap (λ (xs : List ℕ). let g : Group = record { explicit = false; types = xs } in g) members in
-    let types_is : c.push_single.new.types.slots ≡ slots ++ Some c.args.ty ∷ [] = c.push_single.ensures.types ∙ ap (λ (xs : List (Option TypeItem)). xs ++ Some c.args.ty ∷ []) c.reserve.ensures.items in
-    let groups_is : c.push_single.new.groups.slots ≡ groups ++ Some group ∷ [] = c.push_single.ensures.groups ∙ ap (λ (xs : List (Option RecGroup)). xs ++ Some group ∷ []) c.reserve-2.ensures.items in
+    let types_is : c.push_single.new.types.slots ≡ slots ++ Some c.args.ty ∷ [] = c.push_single.ensures.types ∙ ap (λ (xs : List (Option TypeItem)). xs ++ Some c.args.ty ∷ []) c.reserve_singles.ensures.types in
+    let groups_is : c.push_single.new.groups.slots ≡ groups ++ Some group ∷ [] = c.push_single.ensures.groups ∙ ap (λ (xs : List (Option RecGroup)). xs ++ Some group ∷ []) c.reserve_singles.ensures.groups in
     let first = new-merges slots c.push_single.new.types.slots groups c.push_single.new.groups.slots c.args.self.now c.args.ty group id c.self.view_is c.requires.new (sym c.next_id-id.ensures)
     (c.requires.id ∙ ap next_id (sym c.self.view_is) ∙ length-map slots (option_map item_of) ∙ sym c.next_id-id.ensures) c.requires.unnamed alone types_is groups_is in
     let entry_id = c.from_index-entry_id.result in
-    let entry_group : RecGroup = record { types = c.push-2.new.self; explicit = false } in
-    let entry_members : c.push-2.new.self.items ≡ entry_id ∷ [] = c.in_ok-push-2.ensures.items ∙ ap (λ (xs : List ℕ). xs ++ entry_id ∷ []) c.new-entry_members.ensures.items in
+    let entry_group : RecGroup = record { types = c.in_ok-entry_single.entry_single.members; explicit = false } in
+    let entry_members : c.in_ok-entry_single.entry_single.members.items ≡ entry_id ∷ [] = c.in_ok-entry_single.ensures in
     let entry_alone : group_of entry_group ≡ record { explicit = false; types = entry_id ∷ [] } = ap (λ (xs : List ℕ). let g : Group = record { explicit = false; types = xs } in g) entry_members in
     let next : entry_id ≡ id + 1 = c.from_index-entry_id.ensures ∙ c.in-Some.ensures.1 ∙ ap (λ (i : ℕ). i + 1) c.index.ensures in
     let between = table_of c.push_single.new.types.slots c.push_single.new.groups.slots in

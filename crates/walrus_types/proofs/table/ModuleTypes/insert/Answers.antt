@@ -12,15 +12,14 @@ invariant_of-self-2 c =
     let slots = c.self.inside.types.slots in
     let groups = c.self.inside.groups.slots in
     let homes = c.self.inside.homes.items in
-    let group : RecGroup = record { types = c.push.new.self; explicit = false } in
-    let members : c.push.new.self.items ≡ c.next_id-id.result ∷ [] =
-    c.in_ok-push.ensures.items ∙ ap (λ (xs : List ℕ). xs ++ c.next_id-id.result ∷ []) c.new-members.ensures.items in
+    let group : RecGroup = record { types = c.in_ok-single.single.members; explicit = false } in
+    let members : c.in_ok-single.single.members.items ≡ c.next_id-id.result ∷ [] = c.in_ok-single.ensures in
     record {
       ordered = subst (λ (l : Option ℕ). IsOrdered l c.push_single.new.index (kinds_in c.push_single.new.types.slots)) (sym c.settle.ensures.lent) c.push_single.ensures.ordered;
       grouped = type-pushed slots c.push_single.new.types.slots groups c.push_single.new.groups.slots homes c.push_single.new.homes.items c.new-ty.result group c.next_id-id.result
           c.self.invariant.grouped (sym c.next_id-id.ensures) (ap (λ (xs : List ℕ). let g : Group = record { explicit = false; types = xs } in g) members)
-          (c.push_single.ensures.types ∙ ap (λ (xs : List (Option TypeItem)). xs ++ Some c.new-ty.result ∷ []) c.reserve.ensures.items)
-          (c.push_single.ensures.groups ∙ ap (λ (xs : List (Option RecGroup)). xs ++ Some group ∷ []) c.reserve-2.ensures.items)
-          (c.push_single.ensures.homes ∙ ap (λ (xs : List ℕ). xs ++ length c.reserve-2.new.self.slots ∷ []) c.reserve-3.ensures.items
-          ∙ ap (λ (gs : List (Option RecGroup)). homes ++ length gs ∷ []) c.reserve-2.ensures.items);
+          (c.push_single.ensures.types ∙ ap (λ (xs : List (Option TypeItem)). xs ++ Some c.new-ty.result ∷ []) c.reserve_singles.ensures.types)
+          (c.push_single.ensures.groups ∙ ap (λ (xs : List (Option RecGroup)). xs ++ Some group ∷ []) c.reserve_singles.ensures.groups)
+          (c.push_single.ensures.homes ∙ ap (λ (xs : List ℕ). xs ++ length c.reserve_singles.new.groups.slots ∷ []) c.reserve_singles.ensures.homes
+          ∙ ap (λ (gs : List (Option RecGroup)). homes ++ length gs ∷ []) c.reserve_singles.ensures.groups);
     }

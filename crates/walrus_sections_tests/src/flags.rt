@@ -1,5 +1,5 @@
-//! Tests of the flags.
-use crate::ModuleConfig;
+// The flags of a configuration.
+use walrus_config::ModuleConfig;
 use wasm_features::WasmFeatures;
 
 #[test]
