@@ -1,6 +1,6 @@
 -- What is asked of an operator in a body (Core Specification, valid instructions), in words of its items.
 use Rattle.std.specs.Prelude.{ℕ, ◌+◌, ◌^◌, ◌==◌, ◌&&◌, ◌||◌, nat_lt, Bool, true, false, not, List, [], ◌∷◌, length, Option, Some, None, Ok, Err, if◌then◌else◌, slice_get, slice_index_or}
-use Rattle.std.specs.List.{list_any, list_all}
+use Rattle.std.specs.List.{list_any, list_all, range_with_len}
 use Rattle.std.specs.Option.{is_some, option_map}
 use Rattle.wasm_formats.specs.wasm_features.declared.WasmFeatures.{WasmFeatures}
 use Rattle.wasm_grammar.specs.walrus_forms.declared.value.ValType.{ValType}
@@ -65,16 +65,24 @@ names_test rooms (n ∷ names) = first_of (must (nat_lt n.1 (rooms n.0)) (Index 
 abbrev pub serves : (ℕ → ℕ) → List ValType → List ValType → Kind → Bool
 serves same params results kind = same_kind (renamed_kind same kind) (renamed_kind same (function_kind params results))
 
--- the last of these types, numbered from here on, that passes the test, else what was found before
-abbrev pub latest_from : (Kind → Bool) → ℕ → Option ℕ → List Kind → Option ℕ
-latest_from test n found [] = found
-latest_from test n found (kind ∷ kinds) = latest_from test (n + 1) (if test kind then Some n else found) kinds
+-- no earlier type stands for the same one
+abbrev pub leads : (ℕ → ℕ) → ℕ → Bool
+leads same n = not (list_any (λ m. same m == same n) (range_with_len 0 n))
 
--- the pick for parameters and results: the empty or the one-result form for no parameters and at most one result, else the latest type that serves
+-- the last of these types, numbered from here on, that passes the test, else what was found before
+abbrev pub latest_from : (ℕ → Kind → Bool) → ℕ → Option ℕ → List Kind → Option ℕ
+latest_from test n found [] = found
+latest_from test n found (kind ∷ kinds) = latest_from test (n + 1) (if test n kind then Some n else found) kinds
+
+-- the latest type that serves, of those that stand for themselves
+abbrev pub found_in : (ℕ → ℕ) → List ValType → List ValType → List Kind → Option ℕ
+found_in same params results kinds = latest_from (λ n kind. leads same n && serves same params results kind) 0 None kinds
+
+-- the pick for parameters and results: the empty or the one-result form for no parameters and at most one result, else the type that is found
 abbrev pub pick : Around → List ValType → List ValType → Option BlockType
 pick a [] [] = Some blocks.Empty
 pick a [] (result ∷ []) = Some (blocks.Value (value_from result))
-pick a params results = option_map blocks.Type (latest_from (serves a.same params results) 0 None (types_of a.filled))
+pick a params results = option_map blocks.Type (found_in a.same params results (types_of a.filled))
 
 abbrev pub form_test : Around → Form → Option Trouble
 form_test a (FunctionForm params results) = must (is_some (pick a params results)) TypeForm

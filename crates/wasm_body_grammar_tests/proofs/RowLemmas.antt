@@ -48,4 +48,4 @@ rows_hold = record {
 }
 
 pub picks_hold : PicksHold
-picks_hold = record { none = refl; single = refl; latest = refl; missing = refl; other = refl; same = refl }
+picks_hold = record { none = refl; single = refl; latest = refl; missing = refl; other = refl; same = refl; leading = refl }

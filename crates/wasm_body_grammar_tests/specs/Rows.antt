@@ -111,9 +111,9 @@ pub record RowsHold : Type 0 where
 abbrev pub twice : Around
 twice = around (record empty { groups = groups_of (function_kind [] (I32 ∷ I64 ∷ []) ∷ function_kind [] (I32 ∷ I64 ∷ []) ∷ struct_kind [] ∷ struct_kind [] ∷ function_kind (to 2 ∷ []) [] ∷ []) })
 
--- where the second structure type stands for the first
+-- where the second of each two stands for the first
 abbrev pub stands_for : ℕ → ℕ
-stands_for t = if t == 3 then 2 else t
+stands_for t = if t == 1 then 0 else if t == 3 then 2 else t
 
 pub record PicksHold : Type 0 where
   pub none : pick twice [] [] ≡ Some blocks.Empty
@@ -122,3 +122,4 @@ pub record PicksHold : Type 0 where
   pub missing : pick twice (I32 ∷ []) [] ≡ None
   pub other : pick twice (to 3 ∷ []) [] ≡ None
   pub same : pick (record twice { same = stands_for }) (to 3 ∷ []) [] ≡ Some (blocks.Type 4)
+  pub leading : pick (record twice { same = stands_for }) [] (I32 ∷ I64 ∷ []) ≡ Some (blocks.Type 0)

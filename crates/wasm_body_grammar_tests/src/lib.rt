@@ -22,7 +22,7 @@ pub fn operators_at_edges()
     ensures { EdgesHold }
 {}
 
-/// The pick for parameters and results is the short form, or the latest type that serves.
+/// The pick for parameters and results is the short form, or the latest type that serves, of those that stand for themselves.
 pub fn picks_of_types()
     ensures { PicksHold }
 {}

@@ -2,5 +2,6 @@ pub mod Faults
 pub mod Files
 pub mod Named
 pub mod Orders
+pub mod Picks
 pub mod Read
 pub mod Stopped

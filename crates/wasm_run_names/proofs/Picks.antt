@@ -1,5 +1,6 @@
 -- Block types of modules: their picks, and renamed ones.
-use Rattle.std.proofs.Common.{ℕ, suc, ◌≡◌, ◌+◌, Bool, true, false, List, [], ◌∷◌, map, refl, sym, ap, ◌∙◌, arith, if◌then◌else◌}
+use Rattle.std.proofs.Common.{ℕ, suc, ◌≡◌, ◌+◌, Bool, true, false, List, [], ◌∷◌, map, refl, sym, ap, ◌∙◌, arith, if◌then◌else◌, ◌&&◌}
+use Rattle.std.proofs.lemmas.Bool.{and_parts}
 use Rattle.std.specs.Prelude.{Option, Some, None, unwrap_or, slice_get}
 use Rattle.std.specs.Option.{option_map}
 use Rattle.walrus_forms.specs.declared.value.HeapType.{HeapType}
@@ -22,7 +23,7 @@ use Rattle.wasm_operator_names.specs.Names as names
 use Rattle.wasm_operator_names.specs.Names.{Renaming}
 use Rattle.wasm_grammar.specs.States.{types_of}
 use Rattle.wasm_grammar.specs.TypeWords.{value_from}
-use Rattle.wasm_body_grammar.specs.Rules.{Around, serves, latest_from, pick}
+use Rattle.wasm_body_grammar.specs.Rules.{Around, serves, leads, latest_from, found_in, pick}
 use Rattle.wasm_runs.specs.Programs.{Signature}
 use Rattle.wasm_runs.specs.Renamed.{renamed_signature}
 use Rattle.wasm_runs.specs.Modules.{kind_signature, signature_in}
@@ -30,14 +31,14 @@ use Rattle.wasm_run_names.specs.Picks.{form_pick, kind_pick, PicksOfModulesKeep,
 
 -- ---- the latest type that passes a test passes it
 
-latest_has : (test : Kind → Bool) (whole : List Kind) (P : Option ℕ → Type 0) → ((j : ℕ) (kind : Kind) → slice_get whole j ≡ Some kind → test kind ≡ true → P (Some j))
+latest_has : (test : ℕ → Kind → Bool) (whole : List Kind) (P : Option ℕ → Type 0) → ((j : ℕ) (kind : Kind) → slice_get whole j ≡ Some kind → test j kind ≡ true → P (Some j))
     → (rest : List Kind) (n : ℕ) (found : Option ℕ) → ((k : ℕ) → slice_get rest k ≡ slice_get whole (k + n)) → P found → P (latest_from test n found rest)
 latest_has test whole P h [] n found same p = p
 latest_has test whole P h (kind ∷ rest) n found same p =
-    latest_has test whole P h rest (n + 1) (if test kind then Some n else found)
-    (λ k. same (suc k) ∙ ap (slice_get whole) (let e : suc k + n ≡ k + (n + 1) = omega arith in e)) (either (test kind) refl)
+    latest_has test whole P h rest (n + 1) (if test n kind then Some n else found)
+    (λ k. same (suc k) ∙ ap (slice_get whole) (let e : suc k + n ≡ k + (n + 1) = omega arith in e)) (either (test n kind) refl)
   where
-    either : (b : Bool) → test kind ≡ b → P (if b then Some n else found)
+    either : (b : Bool) → test n kind ≡ b → P (if b then Some n else found)
     either true e = h n kind (sym (same 0 ∙ ap (slice_get whole) (let e : 0 + n ≡ n = omega arith in e))) e
     either false e = p
 
@@ -92,10 +93,10 @@ module _ (is : SameKindIsEquality) (a : Around) (r : Renaming) (absorbs : (n : �
   abbrev Keeps : BlockType → List ValType → List ValType → Option BlockType → Type 0
   Keeps ty params results found = renamed_signature r (signature_in a.filled (unwrap_or found ty)) ≡ renamed_signature r (record { params = map value_from params; results = map value_from results })
 
-  found_keeps : (ty : BlockType) (params results : List ValType) → Keeps ty params results None → Keeps ty params results (option_map blocks.Type (latest_from (serves a.same params results) 0 None (types_of a.filled)))
+  found_keeps : (ty : BlockType) (params results : List ValType) → Keeps ty params results None → Keeps ty params results (option_map blocks.Type (found_in a.same params results (types_of a.filled)))
   found_keeps ty params results h =
-      latest_has (serves a.same params results) (types_of a.filled) (λ o. Keeps ty params results (option_map blocks.Type o))
-      (λ j kind at passes. ap (λ (o : Option Kind). renamed_signature r (kind_signature o)) at ∙ served a.same r absorbs is kind params results passes) (types_of a.filled) 0 None
+      latest_has (λ n kind. leads a.same n && serves a.same params results kind) (types_of a.filled) (λ o. Keeps ty params results (option_map blocks.Type o))
+      (λ j kind at passes. ap (λ (o : Option Kind). renamed_signature r (kind_signature o)) at ∙ served a.same r absorbs is kind params results (and_parts (leads a.same j) (serves a.same params results kind) passes).1) (types_of a.filled) 0 None
       (λ k. ap (slice_get (types_of a.filled)) (let e : k ≡ k + 0 = omega arith in e)) h
 
   pick_keeps : (ty : BlockType) (params results : List ValType) → Keeps ty params results None → Keeps ty params results (pick a params results)
