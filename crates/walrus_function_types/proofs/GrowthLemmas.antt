@@ -24,7 +24,7 @@ within [] i x e = absurd cc
 within (y ∷ ys) zero x e = omega arith
 within (y ∷ ys) (suc i) x e = let lt = within ys i x e in omega (arith, lt)
 
-front : (xs ys : List (Option Item)) (i : ℕ) → i < length xs → slice_index_or (xs ++ ys) i None ≡ slice_index_or xs i None
+pub front : (xs ys : List (Option Item)) (i : ℕ) → i < length xs → slice_index_or (xs ++ ys) i None ≡ slice_index_or xs i None
 front [] ys i lt = absurd (omega (arith, lt))
 front (x ∷ xs) ys zero lt = refl
 front (x ∷ xs) ys (suc i) lt = front xs ys i (omega (arith, lt))

@@ -2,6 +2,8 @@
 
 ghost use Rattle.walrus_handler_types.specs.Giving.{GivenAreTyped, GivenTypesGrow, ListsTell};
 
+pub use walrus_handlers::laws::{handlers_stand, trees_tell};
+
 /// Where handlers were given types, by rising sequence, each whose tag and block had parameters and results has the type that each later
 /// table has for them: what was added for one serves the others of its parameters and results, and no other's type changes.
 pub fn given_are_typed()

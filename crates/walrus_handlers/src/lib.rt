@@ -9,4 +9,4 @@ pub use gather::handlers;
 pub use walrus_handler_laws::Handler;
 
 // Passed on to crates above, which then list this one alone.
-pub use walrus_handler_laws::{body_steps, tree};
+pub use walrus_handler_laws::{body_steps, laws, tree};
