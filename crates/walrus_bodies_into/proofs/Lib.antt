@@ -1,2 +1,4 @@
 mod FirstLemmas
 mod HandledLemmas
+mod AsideLemmas
+mod ReadingLemmas

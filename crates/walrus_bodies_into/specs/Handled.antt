@@ -20,7 +20,7 @@ use Rattle.walrus_module_env.specs.Env.{tag_type_at}
 
 -- the one sight is the other, types of handlers aside
 abbrev pub SeesAside : Sight → Sight → Type 0
-SeesAside s u = record s { handler_type = u.handler_type } ≡ u
+SeesAside s u = s ≡ record u { handler_type = s.handler_type }
 
 -- a module that had this table, now or later: its table may have grown, it has the same tags, and as many types of the file
 pub record IsLater (e : ModuleEnv) (t : Table) (f : ModuleEnv) : Type 0 where

@@ -1,2 +1,4 @@
 pub mod First
 pub mod Handled
+pub mod Envs
+pub mod Reading

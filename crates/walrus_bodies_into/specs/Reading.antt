@@ -1,42 +1,71 @@
 -- The body of a function that is read into its module, with the types of its handlers.
-use Rattle.std.specs.Prelude.{◌≡◌, ◌⊎◌, ℕ, Bool, List, map, Option, None, Ok, Err}
-use Rattle.wasm_reader.specs.Cursor.{Cursor, rest, end_of}
-use Rattle.walrus_arena.specs.Arena.{Arena}
-use Rattle.walrus_index_maps.specs.Maps.{Ids}
+use Rattle.std.specs.Prelude.{◌≡◌, ◌⊎◌, ℕ, List, Some, None, Ok, Err}
+use Rattle.wasm_reader.specs.Cursor.{Cursor, end_of, rest}
+use Rattle.walrus_forms.specs.declared.value.ValType.{ValType}
 use Rattle.walrus_function_types.specs.Growth.{Grows}
+use Rattle.walrus_index_maps.specs.Maps.{Ids}
 use Rattle.walrus_handler_types.specs.walrus_body_steps.Meanings.{meaning}
-use Rattle.walrus_handler_types.specs.walrus_body_steps.walrus_body_nesting.wasm_normal_form.Trees.{tree_of}
-use Rattle.walrus_handler_types.specs.walrus_body_steps.walrus_body_nesting.wasm_normal_form.Normal.{normal}
+use Rattle.walrus_handler_types.specs.walrus_body_steps.Picks.{ArePicks}
 use Rattle.walrus_handler_types.specs.walrus_body_steps.walrus_body_nesting.Stands.{StandsAs}
+use Rattle.walrus_handler_types.specs.walrus_body_steps.walrus_body_nesting.walrus_body_env.declared.error.BodyError.{BodyError}
+use Rattle.walrus_handler_types.specs.walrus_body_steps.walrus_body_nesting.walrus_body_env.declared.error.BodyError.TheVariants.{TypeForm}
 use Rattle.walrus_handler_types.specs.walrus_body_steps.walrus_body_rules.Sights.{Sight}
+use Rattle.walrus_handler_types.specs.walrus_body_steps.walrus_body_nesting.wasm_formats.Stops.{Stop}
+use Rattle.walrus_handler_types.specs.walrus_body_steps.wasm_body_grammar.Rules.{Around}
+use Rattle.walrus_handler_types.specs.walrus_body_steps.wasm_body_grammar.Bodies.{Run, body}
+use Rattle.walrus_handler_types.specs.walrus_body_steps.wasm_body_grammar.wasm_operators.Operators.{Seen}
+use Rattle.walrus_handler_types.specs.walrus_body_steps.wasm_normal_form.Trees.{tree_of}
+use Rattle.walrus_handler_types.specs.walrus_body_steps.wasm_normal_form.Normal.{normal}
+use Rattle.walrus_handler_types.specs.walrus_body_steps.wasm_normal_form.wasm_immediates.declared.block_type.BlockType.{BlockType}
 use Rattle.walrus_handler_types.specs.walrus_tree.walrus_builder.Built.{Seq}
+use Rattle.walrus_handler_types.specs.walrus_tree.walrus_walks.walrus_instr.declared.seq.InstrSeqType.{InstrSeqType}
+use Rattle.walrus_handler_types.specs.walrus_tree.walrus_walks.walrus_instr.declared.seq.InstrSeqType.TheVariants.{Simple}
 use Rattle.walrus_handler_types.specs.walrus_tree.walrus_walks.walrus_types.Table.{Table}
-use Rattle.walrus_collections.specs.walrus_module_items.declared.memory.Memory.{Memory}
-use Rattle.walrus_collections.specs.walrus_module_items.declared.tag.Tag.{Tag}
-use Rattle.walrus_collections.specs.walrus_local_function.walrus_body_locals.wasm_body_grammar.Rules.{Around}
-use Rattle.walrus_collections.specs.walrus_local_function.walrus_body_locals.walrus_body_env.declared.error.BodyError.{BodyError}
-use Rattle.walrus_collections.specs.walrus_local_function.walrus_function_parser.Parsed.{Lacks, StopsFor, Telling}
+use Rattle.walrus_module_env.specs.walrus_body_parser.Points.{place_at, ops_from}
+use Rattle.walrus_module_env.specs.walrus_body_parser.Changes.{LacksType}
+use Rattle.walrus_module_env.specs.walrus_collections.walrus_local_function.walrus_body_locals.Calls.{IsFaultOf}
 use Rattle.walrus_module_env.specs.declared.env.ModuleEnv.{ModuleEnv}
 use Rattle.walrus_module_env.specs.Around.{IsFiled, sight_in}
 use Rattle.walrus_module_env.specs.Parsed.{IsRead}
+use Rattle.walrus_bodies_into.specs.declared.file.FileEnv.{FileEnv}
+use Rattle.walrus_bodies_into.specs.Envs.{IsEnv}
 use Rattle.walrus_bodies_into.specs.Handled.{SeesAside}
 
--- what bodies ask of a module with this table of types, these tags and memories
-pub record IsEnv (t : Table) (tags : Arena Tag) (memories : Arena Memory) (own : ℕ) (counted : Bool) (code : ℕ) (e : ModuleEnv) : Type 0 where
-  pub types_are : e.types.now ≡ t
-  pub tags_are : e.tags.now ≡ tags
-  pub memories_are : e.memories.now ≡ memories
-  pub own_are : e.own_types ≡ own
-  pub counted_is : e.has_data_count ≡ counted
-  pub begins : e.code_start ≡ code
+-- the bytes are parsed as a body of this file, and its sequences stand as its normal form in the eyes of one who sees the module, types of
+-- handlers aside
+pub record IsReadAside (e : ModuleEnv) (function params : ℕ) (old : Cursor) (j : Ids) (b : List Seq) (a : Around) : Type 0 where
+  pub sight : Sight
+  pub aside : SeesAside sight (sight_in e function j)
+  pub place : ℕ
+  pub runs : List Run
+  pub ops : List (ℕ × Seen)
+  pub read : (body a params (place_at e.code_start old)).parse (rest old) ≡ Ok ((place, runs), ops)
+  pub stands : (pick : BlockType → BlockType) → ArePicks (sight_in e function j) pick → StandsAs (meaning sight) b (normal pick (tree_of (ops_from place ops)))
 
-module _ (old new : Table) (tags : Arena Tag) (memories : Arena Memory) (own : ℕ) (counted : Bool) (code : ℕ) (function : ℕ) (i j : Ids) (params : ℕ) (from : Cursor) where
-  -- of each file whose sections were read into the module this is a body, beside each later table of the module's types
-  abbrev pub IsHandledBody : List Seq → Type 0
-  IsHandledBody b = (e f : ModuleEnv) (later : Table) (a : Around) → IsEnv old tags memories own counted code e → Grows new later → IsEnv later tags memories own counted code f
-      → IsFiled e i function params from.window.features a → IsRead f function params from j b a
+-- of each file whose sections were read into the module
+abbrev pub IsBodyAside : ModuleEnv → ℕ → ℕ → Cursor → Ids → Ids → List Seq → Type 0
+IsBodyAside e function params old i j b = (a : Around) → IsFiled e i function params old.window.features a → IsReadAside e function params old j b a
 
-  -- in none of them it is one, for this fault, where no handler is to blame that has neither parameters nor results
-  abbrev pub IsHandledFault : BodyError → Type 0
-  IsHandledFault fault = (e : ModuleEnv) (a : Around) → IsEnv old tags memories own counted code e → IsFiled e i function params from.window.features a
-      → ((t : BodyError) × (t ≡ fault)) 
+-- there is some type for each handler
+abbrev pub HasAll : Sight → Type 0
+HasAll s = (params results : List ValType) → s.handler_type params results ≡ Some (Simple None)
+
+-- there is no handler of what the operator names: it names a tag that has no live function type, or the block has none
+pub record IsNoHandler (s : Sight) (fault : BodyError) : Type 0 where
+  pub some : HasAll s
+  pub offset : ℕ
+  pub ty : InstrSeqType
+  pub op : Seen
+  pub lacks : LacksType s ty op
+  pub fault_is : fault ≡ TypeForm (Some offset)
+
+-- of no such file they are a body, for this fault, where no handler is to blame
+abbrev pub IsFaultAside : ModuleEnv → ℕ → ℕ → Cursor → Ids → Ids → BodyError → Type 0
+IsFaultAside e function params old i j fault = (a : Around) → IsFiled e i function params old.window.features a
+    → ((t : Stop) × ((body a params (place_at e.code_start old)).parse (rest old) ≡ Err t) × IsFaultOf (end_of old) t fault)
+    ⊎ ((s : Sight) × SeesAside s (sight_in e function j) × IsNoHandler s fault)
+
+-- of each such file this is a body, beside each later table of the module's types
+abbrev pub IsHandledBody : FileEnv → Table → Table → ℕ → ℕ → Cursor → Ids → Ids → List Seq → Type 0
+IsHandledBody file old new function params from i j b = (e f : ModuleEnv) (later : Table) → IsEnv file old e → Grows new later → IsEnv file later f
+    → (a : Around) → IsFiled e i function params from.window.features a → IsRead f function params from j b a

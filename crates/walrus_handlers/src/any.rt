@@ -1,6 +1,8 @@
 //! An environment in which each handler has some type.
 
-ghost use Rattle.std.specs.Prelude.{◌≡◌};
+ghost use Rattle.std.specs.Prelude.{◌≡◌, List, None, Some};
+ghost use Rattle.walrus_handler_laws.specs.walrus_tree.walrus_walks.walrus_forms.declared.value.ValType.{ValType as Value};
+ghost use Rattle.walrus_handler_laws.specs.walrus_tree.walrus_walks.walrus_instr.declared.seq.InstrSeqType.TheVariants.{Simple};
 
 use walrus_arena::{LocalId, MemoryId, TagId, TypeId};
 use walrus_handler_laws::body_steps::body_env::BodyEnv;
@@ -19,6 +21,7 @@ impl<'a, E: BodyEnv> AnyHandler<'a, E> {
     pub fn new(env: &'a E) -> Self
         ensures params { ⟦<AnyHandler<'a, E> as BodyEnv>⟧.type_params result ≡ E.type_params env.now }
         ensures results { ⟦<AnyHandler<'a, E> as BodyEnv>⟧.type_results result ≡ E.type_results env.now }
+        ensures handlers { (params results : List Value) → ⟦<AnyHandler<'a, E> as BodyEnv>⟧.handler_type result params results ≡ Some (Simple None) }
         ensures blocks { ⟦<AnyHandler<'a, E> as BodyEnv>⟧.block_type result ≡ E.block_type env.now }
         ensures locals { ⟦<AnyHandler<'a, E> as BodyEnv>⟧.local_type result ≡ E.local_type env.now }
         ensures tags { ⟦<AnyHandler<'a, E> as BodyEnv>⟧.tag_type result ≡ E.tag_type env.now }

@@ -1,0 +1,108 @@
+-- Lemmas: types of handlers aside, a sight tells the same.
+use Rattle.std.proofs.Common.{◌≡◌, ◌∙◌, ◌⊎◌, inl, inr, ℕ, List, Option, Some, None, Ok, Err, refl, sym, ap, subst}
+use Rattle.std.specs.Option.{is_some}
+use Rattle.wasm_reader.specs.Cursor.{Cursor, end_of, rest}
+use Rattle.walrus_forms.specs.declared.value.ValType.{ValType}
+use Rattle.walrus_index_maps.specs.Maps.{Ids}
+use Rattle.walrus_handler_types.specs.walrus_body_steps.Picks.{ArePicks}
+use Rattle.walrus_handler_types.specs.walrus_body_steps.walrus_body_nesting.wasm_formats.Stops.{Stop, TypeForm}
+use Rattle.walrus_handler_types.specs.walrus_body_steps.walrus_body_nesting.walrus_body_env.declared.error.BodyError.{BodyError}
+use Rattle.walrus_handler_types.specs.walrus_body_steps.walrus_body_rules.Agreeing.{Sees}
+use Rattle.walrus_handler_types.specs.walrus_body_steps.walrus_body_rules.Rules.{has_wide, type_test}
+use Rattle.walrus_handler_types.specs.walrus_body_steps.walrus_body_rules.Sights.{Sight, block_of, function_block, look, room, written_block}
+use Rattle.walrus_handler_types.specs.walrus_body_steps.wasm_body_grammar.Bodies.{body}
+use Rattle.walrus_handler_types.specs.walrus_body_steps.wasm_body_grammar.Rules as grammar
+use Rattle.walrus_handler_types.specs.walrus_body_steps.wasm_body_grammar.Rules.{Around}
+use Rattle.walrus_handler_types.specs.walrus_body_steps.wasm_grammar.Values.{must}
+use Rattle.walrus_handler_types.specs.walrus_body_steps.wasm_normal_form.wasm_immediates.Items.{Space, Types, Functions, Tables, Memories, Tags, Globals, ElementSegments, DataSegments, Locals, Labels}
+use Rattle.walrus_handler_types.specs.walrus_body_steps.wasm_normal_form.wasm_immediates.declared.block_type.BlockType.{BlockType}
+use Rattle.walrus_handler_types.specs.walrus_body_steps.wasm_normal_form.wasm_immediates.declared.block_type.BlockType.TheVariants as blocks
+use Rattle.walrus_handler_types.specs.walrus_tree.walrus_builder.Built.{Seq}
+use Rattle.walrus_handler_types.specs.walrus_tree.walrus_walks.walrus_instr.declared.seq.InstrSeqType.{InstrSeqType}
+use Rattle.walrus_handler_types.specs.walrus_tree.walrus_walks.walrus_items.declared.local.Local.{Local}
+use Rattle.walrus_module_env.specs.declared.env.ModuleEnv.{ModuleEnv}
+use Rattle.walrus_module_env.specs.Around.{IsFiled, sight_in}
+use Rattle.walrus_module_env.specs.Parsed.{FilesAreSeen}
+use Rattle.walrus_module_env.specs.walrus_body_parser.Points.{place_at}
+use Rattle.walrus_module_env.specs.walrus_collections.walrus_local_function.walrus_body_locals.Calls.{IsFaultOf}
+use Rattle.walrus_module_env.specs.walrus_collections.walrus_local_function.walrus_function_parser.Parsed.{Bars, IsAround, IsCause, Lacks, Parses, StopsFor, Telling, seen_by}
+use Rattle.walrus_bodies_into.specs.Handled.{SeesAside}
+use Rattle.walrus_bodies_into.specs.Reading.{HasAll, IsBodyAside, IsFaultAside, IsNoHandler}
+
+module _ (u : Sight) (h : List ValType → List ValType → Option InstrSeqType) where
+  abbrev v : Sight
+  v = record u { handler_type = h }
+
+  same_block : (ps rs : Option (List ValType)) → block_of v ps rs ≡ block_of u ps rs
+  same_block None rs = refl
+  same_block (Some ps) None = refl
+  same_block (Some ps) (Some rs) = refl
+
+  same_function : (o : Option ℕ) → function_block v o ≡ function_block u o
+  same_function None = refl
+  same_function (Some id) = same_block (u.params id) (u.results id)
+
+  same_written : (w : BlockType) → written_block v w ≡ written_block u w
+  same_written blocks.Empty = refl
+  same_written (blocks.Value ty) = refl
+  same_written (blocks.Type n) = same_function (look u Types n)
+
+  same_test : (o : Option ℕ) → type_test v o ≡ type_test u o
+  same_test None = refl
+  same_test (Some id) = ap (λ (b : Option InstrSeqType). must (is_some b) TypeForm) (same_function (Some id))
+
+  same_wide : (o : Option ℕ) → has_wide v o ≡ has_wide u o
+  same_wide None = refl
+  same_wide (Some id) = refl
+
+  pub sees_aside : (a : Around) (locals : ℕ) → Sees u a locals → Sees v a locals
+  sees_aside a locals x = record {
+    rooms = rooms;
+    blocks = λ n. same_test (look u Types n) ∙ x.blocks n;
+    wide = λ n. same_wide (look u Memories n) ∙ x.wide n;
+    counted = x.counted;
+  }
+    where
+      rooms : (labels : ℕ) (space : Space) → room v labels space ≡ grammar.room a locals labels space
+      rooms labels Types = x.rooms labels Types
+      rooms labels Functions = x.rooms labels Functions
+      rooms labels Tables = x.rooms labels Tables
+      rooms labels Memories = x.rooms labels Memories
+      rooms labels Tags = x.rooms labels Tags
+      rooms labels Globals = x.rooms labels Globals
+      rooms labels ElementSegments = x.rooms labels ElementSegments
+      rooms labels DataSegments = x.rooms labels DataSegments
+      rooms labels Locals = x.rooms labels Locals
+      rooms labels Labels = x.rooms labels Labels
+
+  pub picks_aside : (pick : BlockType → BlockType) → ArePicks u pick → ArePicks v pick
+  picks_aside pick alike ty = same_written (pick ty) ∙ alike ty ∙ sym (same_written ty)
+
+module _ {V : Type 0} (seen : FilesAreSeen) (e : ModuleEnv) (function : ℕ) (i : Ids) (s : Sight) (aside : SeesAside s (sight_in e function i)) (told : Telling V) (params code : ℕ) (codes : code ≡ e.code_start) (old : Cursor) where
+  around : (a : Around) → IsFiled e i function params old.window.features a → IsAround s old.window.features params a
+  around a filed =
+      let all = seen e i function params old.window.features a filed in
+      subst (λ (x : Sight). IsAround x old.window.features params a) (sym aside) (record { features_are = all.features_are; sees = sees_aside (sight_in e function i) s.handler_type a params all.sees })
+
+  later : (j : Ids) → SeesAside (seen_by s j) (sight_in e function j)
+  later j = ap (λ (x : Sight). seen_by x j) aside
+
+  pub aside_read : (entry : InstrSeqType) (ls ms : List Local) (j : Ids) (v w : V) (b : List Seq) → Parses s told params code old entry ls ms j v w b → IsBodyAside e function params old i j b
+  aside_read entry ls ms j v w b p a filed = record {
+    sight = seen_by s j;
+    aside = later j;
+    place = place_at code p.mid;
+    runs = p.begins.declares.runs;
+    ops = p.ops;
+    read = subst (λ (n : ℕ). (body a params (place_at n old)).parse (rest old) ≡ Ok ((place_at code p.mid, p.begins.declares.runs), p.ops)) codes (p.read a (around a filed));
+    stands = λ pick picks. p.stands pick (subst (λ (x : Sight). ArePicks x pick) (sym (later j)) (picks_aside (sight_in e function j) s.handler_type pick picks));
+  }
+
+  pub aside_fault : HasAll s → (j : Ids) (fault : BodyError) → (Bars s told params code old fault → ⊥) → IsCause s told params code old j fault → IsFaultAside e function params old i j fault
+  aside_fault all j fault quiet cause a filed = go (cause a (around a filed))
+    where
+      go : StopsFor s told params code old a fault ⊎ Bars s told params code old fault ⊎ Lacks s told params code old j fault
+          → ((t : Stop) × ((body a params (place_at e.code_start old)).parse (rest old) ≡ Err t) × IsFaultOf (end_of old) t fault) ⊎ ((x : Sight) × SeesAside x (sight_in e function j) × IsNoHandler x fault)
+      go (inl (t, stops, is)) = inl (t, subst (λ (n : ℕ). (body a params (place_at n old)).parse (rest old) ≡ Err t) codes stops, is)
+      go (inr (inl bars)) = absurd (quiet bars)
+      go (inr (inr (offset, ty, op, lacks, is))) = inr (seen_by s j, later j, record { some = all; offset = offset; ty = ty; op = op; lacks = lacks; fault_is = is })
