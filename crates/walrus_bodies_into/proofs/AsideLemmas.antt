@@ -1,5 +1,5 @@
 -- Lemmas: types of handlers aside, a sight tells the same.
-use Rattle.std.proofs.Common.{◌≡◌, ◌∙◌, ◌⊎◌, inl, inr, ℕ, List, Option, Some, None, Ok, Err, refl, sym, ap, subst}
+use Rattle.std.proofs.Common.{◌≡◌, ◌∙◌, ◌⊎◌, inl, inr, ℕ, Bool, List, Option, Some, None, Result, Ok, Err, IfOk, IfErr, refl, sym, ap, subst}
 use Rattle.std.specs.Option.{is_some}
 use Rattle.wasm_reader.specs.Cursor.{Cursor, end_of, rest}
 use Rattle.walrus_forms.specs.declared.value.ValType.{ValType}
@@ -10,7 +10,8 @@ use Rattle.walrus_handler_types.specs.walrus_body_steps.walrus_body_nesting.walr
 use Rattle.walrus_handler_types.specs.walrus_body_steps.walrus_body_rules.Agreeing.{Sees}
 use Rattle.walrus_handler_types.specs.walrus_body_steps.walrus_body_rules.Rules.{has_wide, type_test}
 use Rattle.walrus_handler_types.specs.walrus_body_steps.walrus_body_rules.Sights.{Sight, block_of, function_block, look, room, written_block}
-use Rattle.walrus_handler_types.specs.walrus_body_steps.wasm_body_grammar.Bodies.{body}
+use Rattle.walrus_handler_types.specs.walrus_body_steps.wasm_body_grammar.Bodies.{Run, body}
+use Rattle.walrus_handler_types.specs.walrus_body_steps.wasm_body_grammar.wasm_operators.Operators.{Seen}
 use Rattle.walrus_handler_types.specs.walrus_body_steps.wasm_body_grammar.Rules as grammar
 use Rattle.walrus_handler_types.specs.walrus_body_steps.wasm_body_grammar.Rules.{Around}
 use Rattle.walrus_handler_types.specs.walrus_body_steps.wasm_grammar.Values.{must}
@@ -22,9 +23,11 @@ use Rattle.walrus_handler_types.specs.walrus_tree.walrus_walks.walrus_instr.decl
 use Rattle.walrus_handler_types.specs.walrus_tree.walrus_walks.walrus_items.declared.local.Local.{Local}
 use Rattle.walrus_module_env.specs.declared.env.ModuleEnv.{ModuleEnv}
 use Rattle.walrus_module_env.specs.Around.{IsFiled, sight_in}
+use Rattle.walrus_module_env.specs.Env.{is_wide_at, own_pick, params_at, results_at, tag_type_at}
 use Rattle.walrus_module_env.specs.Parsed.{FilesAreSeen}
 use Rattle.walrus_module_env.specs.walrus_body_parser.Points.{place_at}
 use Rattle.walrus_module_env.specs.walrus_collections.walrus_local_function.walrus_body_locals.Calls.{IsFaultOf}
+use Rattle.walrus_module_env.specs.walrus_collections.walrus_local_function.walrus_body_locals.Locals.{run_told}
 use Rattle.walrus_module_env.specs.walrus_collections.walrus_local_function.walrus_function_parser.Parsed.{Bars, IsAround, IsCause, Lacks, Parses, StopsFor, Telling, seen_by}
 use Rattle.walrus_bodies_into.specs.Handled.{SeesAside}
 use Rattle.walrus_bodies_into.specs.Reading.{HasAll, IsBodyAside, IsFaultAside, IsNoHandler}
@@ -78,7 +81,21 @@ module _ (u : Sight) (h : List ValType → List ValType → Option InstrSeqType)
   pub picks_aside : (pick : BlockType → BlockType) → ArePicks u pick → ArePicks v pick
   picks_aside pick alike ty = same_written (pick ty) ∙ alike ty ∙ sym (same_written ty)
 
-module _ {V : Type 0} (seen : FilesAreSeen) (e : ModuleEnv) (function : ℕ) (i : Ids) (s : Sight) (aside : SeesAside s (sight_in e function i)) (told : Telling V) (params code : ℕ) (codes : code ≡ e.code_start) (old : Cursor) where
+-- a sight that answers as the module's does
+pub one_aside : (e : ModuleEnv) (function : ℕ) (i : Ids) (params results : ℕ → Option (List ValType)) (block handler : List ValType → List ValType → Option InstrSeqType) (tag : ℕ → Option ℕ) (wide : ℕ → Bool) (counted : Bool)
+    → params ≡ params_at e.types.now → results ≡ results_at e.types.now → block ≡ own_pick e.own_types e.types.now → tag ≡ tag_type_at e.tags.now → wide ≡ is_wide_at e.memories.now → counted ≡ e.has_data_count
+    → SeesAside (record { ids = i; function = function; params = params; results = results; block_type = block; handler_type = handler; tag_type = tag; is_wide = wide; has_data_count = counted }) (sight_in e function i)
+one_aside e function i params results block handler tag wide counted a b c d f g =
+    λ k. record { ids = i; function = function; params = a k; results = b k; block_type = c k; handler_type = handler; tag_type = d k; is_wide = f k; has_data_count = g k }
+
+-- who accepts each run, each operator and the end gives no fault
+quiet : {V : Type 0} (s : Sight) (told : Telling V) (params code : ℕ) (old : Cursor) (fault : BodyError) → ((v : V) (offset : ℕ) (r : Run) → (run_told told.run v offset r).0 ≡ None)
+    → ((v : V) (offset : ℕ) (op : Seen) → (told.rest.op v offset op).0 ≡ None) → ((v : V) (offset : ℕ) → (told.rest.finish v offset).0 ≡ None) → Bars s told params code old fault → ⊥
+quiet s told params code old fault run op finish (inl (v, offset, r, is)) = absurd (let x = sym (run v offset r) ∙ is in cc)
+quiet s told params code old fault run op finish (inr (inl (v, offset, o, is))) = absurd (let x = sym (op v offset o) ∙ is in cc)
+quiet s told params code old fault run op finish (inr (inr (v, offset, is))) = absurd (let x = sym (finish v offset) ∙ is in cc)
+
+module _ (seen : FilesAreSeen) (e : ModuleEnv) (function : ℕ) (i : Ids) (s : Sight) (aside : SeesAside s (sight_in e function i)) (params code : ℕ) (codes : code ≡ e.code_start) (old : Cursor) where
   around : (a : Around) → IsFiled e i function params old.window.features a → IsAround s old.window.features params a
   around a filed =
       let all = seen e i function params old.window.features a filed in
@@ -87,8 +104,8 @@ module _ {V : Type 0} (seen : FilesAreSeen) (e : ModuleEnv) (function : ℕ) (i 
   later : (j : Ids) → SeesAside (seen_by s j) (sight_in e function j)
   later j = ap (λ (x : Sight). seen_by x j) aside
 
-  pub aside_read : (entry : InstrSeqType) (ls ms : List Local) (j : Ids) (v w : V) (b : List Seq) → Parses s told params code old entry ls ms j v w b → IsBodyAside e function params old i j b
-  aside_read entry ls ms j v w b p a filed = record {
+  pub aside_read : {V : Type 0} {told : Telling V} {entry : InstrSeqType} {ls ms : List Local} {v w : V} (j : Ids) (b : List Seq) → Parses s told params code old entry ls ms j v w b → IsBodyAside e function params old i j b
+  aside_read j b p a filed = record {
     sight = seen_by s j;
     aside = later j;
     place = place_at code p.mid;
@@ -98,11 +115,20 @@ module _ {V : Type 0} (seen : FilesAreSeen) (e : ModuleEnv) (function : ℕ) (i 
     stands = λ pick picks. p.stands pick (subst (λ (x : Sight). ArePicks x pick) (sym (later j)) (picks_aside (sight_in e function j) s.handler_type pick picks));
   }
 
-  pub aside_fault : HasAll s → (j : Ids) (fault : BodyError) → (Bars s told params code old fault → ⊥) → IsCause s told params code old j fault → IsFaultAside e function params old i j fault
-  aside_fault all j fault quiet cause a filed = go (cause a (around a filed))
+  pub aside_fault : {V : Type 0} {told : Telling V} → HasAll s → (j : Ids) (fault : BodyError) → ((v : V) (offset : ℕ) (r : Run) → (run_told told.run v offset r).0 ≡ None)
+      → ((v : V) (offset : ℕ) (op : Seen) → (told.rest.op v offset op).0 ≡ None) → ((v : V) (offset : ℕ) → (told.rest.finish v offset).0 ≡ None) → IsCause s told params code old j fault → IsFaultAside e function params old i j fault
+  aside_fault {V} {told} all j fault run op finish cause a filed = go (cause a (around a filed))
     where
       go : StopsFor s told params code old a fault ⊎ Bars s told params code old fault ⊎ Lacks s told params code old j fault
           → ((t : Stop) × ((body a params (place_at e.code_start old)).parse (rest old) ≡ Err t) × IsFaultOf (end_of old) t fault) ⊎ ((x : Sight) × SeesAside x (sight_in e function j) × IsNoHandler x fault)
       go (inl (t, stops, is)) = inl (t, subst (λ (n : ℕ). (body a params (place_at n old)).parse (rest old) ≡ Err t) codes stops, is)
-      go (inr (inl bars)) = absurd (quiet bars)
+      go (inr (inl bars)) = absurd (quiet s told params code old fault run op finish bars)
       go (inr (inr (offset, ty, op, lacks, is))) = inr (seen_by s j, later j, record { some = all; offset = offset; ty = ty; op = op; lacks = lacks; fault_is = is })
+
+pub of_ok : {T E : Type 0} {P Q : T → Type 0} (r : Result T E) → ((x : T) → P x → Q x) → IfOk r P → IfOk r Q
+of_ok (Ok x) f p = f x p
+of_ok (Err e) f p = p
+
+pub of_err : {T E : Type 0} {P Q : E → Type 0} (r : Result T E) → ((e : E) → P e → Q e) → IfErr r P → IfErr r Q
+of_err (Ok x) f p = p
+of_err (Err e) f p = f e p

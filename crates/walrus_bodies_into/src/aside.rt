@@ -22,6 +22,7 @@ use walrus_index_maps::IndicesToIds;
 use walrus_module_env::ModuleEnv;
 use walrus_module_env::body_env::{AcceptAll, BodyError};
 use walrus_module_env::collections::local_function::LocalFunction;
+use walrus_module_env::laws::files_are_seen;
 use wasm_reader::BinaryReader;
 
 // Reads the body of a function of this type and these arguments, beside some type for each handler.
@@ -45,6 +46,7 @@ pub(crate) fn read_aside(
     ensures stops { IfErr result (λ e. (e ≡ WantsMemory) ⊎ IsFaultAside env.now function (length args.items) body.entry (ids indices.old) (ids indices.new) e) }
     ensures kept { Leaves function locals.old locals.new (ids indices.old) (ids indices.new) }
 {
+    files_are_seen();
     let any = AnyHandler::new(env);
     LocalFunction::parse(
         alloc,

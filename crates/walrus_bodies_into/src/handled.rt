@@ -23,6 +23,7 @@ use walrus_handler_types::{give_types, handlers};
 use walrus_index_maps::IndicesToIds;
 use walrus_module_env::body_env::BodyError;
 use walrus_module_env::collections::local_function::LocalFunction;
+use walrus_module_env::laws::picks_are_seen;
 use wasm_reader::BinaryReader;
 
 /// Reads the body of a function of this type and these arguments (Core Specification, binary format: code section), which its first
@@ -60,6 +61,7 @@ pub fn read_handled(
     ensures args { IfOk result (λ f. f.args ≡ args) }
     ensures kept { Leaves function locals.old locals.new (ids indices.old) (ids indices.new) }
 {
+    picks_are_seen();
     handled_bodies_stand();
     let env = file.beside(&*types);
     let mut read = read_tree(
