@@ -1,4 +1,2 @@
 mod FirstLemmas
 mod HandledLemmas
-mod AsideLemmas
-mod ReadingLemmas

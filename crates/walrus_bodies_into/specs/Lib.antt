@@ -1,4 +1,2 @@
 pub mod First
 pub mod Handled
-pub mod Envs
-pub mod Reading

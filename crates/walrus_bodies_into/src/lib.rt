@@ -1,10 +1,4 @@
-//! The bodies of a file's functions, read into its module with the types of their handlers.
+//! The bodies of a file's functions with the types of their handlers, in a module whose types grow by these.
 #![tactic(auto)]
 
-mod aside;
-mod file;
-mod handled;
 pub mod laws;
-
-pub use file::FileEnv;
-pub use handled::read_handled;

@@ -1,1 +1,1 @@
-mod GrowthLemmas
+pub mod GrowthLemmas

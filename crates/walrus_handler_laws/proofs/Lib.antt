@@ -1,2 +1,2 @@
-mod Counting
+pub mod Counting
 mod Standing
