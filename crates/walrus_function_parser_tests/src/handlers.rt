@@ -25,11 +25,7 @@ fn two_types(alloc: Global) -> Result<ModuleTypes, AllocError> {
 }
 
 // Reads a body beside some type for each handler, and gives these theirs.
-fn handled(
-    alloc: Global,
-    bytes: &[u8],
-    types: &mut ModuleTypes,
-) -> Result<LocalFunction, BodyError>
+fn handled(alloc: Global, bytes: &[u8], types: &mut ModuleTypes) -> Result<LocalFunction, BodyError>
     requires { length bytes.now < 1000000 }
 {
     let one = [ValType::I32];

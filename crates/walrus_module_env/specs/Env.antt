@@ -9,7 +9,6 @@ use Rattle.walrus_instr.specs.declared.seq.InstrSeqType.{InstrSeqType}
 use Rattle.walrus_instr.specs.declared.seq.InstrSeqType.TheVariants.{Simple, MultiValue}
 use Rattle.walrus_collections.specs.walrus_module_items.declared.memory.Memory.{Memory}
 use Rattle.walrus_collections.specs.walrus_module_items.declared.tag.Tag.{Tag}
-
 -- the parameters and results of a form, and of a live function type
 pub use Rattle.walrus_function_types.specs.FunctionTypes.{form_params, form_results, params_at, results_at}
 
