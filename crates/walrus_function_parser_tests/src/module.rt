@@ -93,8 +93,8 @@ impl<'a> BodyEnv for TestModule<'a> {
     }
 }
 
-// Three types, three functions, a tag and a data segment.
-fn indices(alloc: Global) -> Result<IndicesToIds, AllocError> {
+/// Three types, three functions, a tag and a data segment.
+pub(crate) fn indices(alloc: Global) -> Result<IndicesToIds, AllocError> {
     let mut indices = IndicesToIds::new(alloc);
     for number in 0..3usize {
         indices.push_type(TypeId::from_index(number))?;

@@ -1,4 +1,1 @@
-mod Counting
-mod Gathers
-mod Growing
-mod Standing
+pub mod Growing

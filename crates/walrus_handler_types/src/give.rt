@@ -2,16 +2,16 @@
 
 ghost use Rattle.std.specs.Prelude.{◌≡◌, ◌<◌, ◌≤◌, ◌^◌, ℕ, IfOk, OnErr, OnOk, Some, length};
 ghost use Rattle.walrus_handler_types.specs.Giving.{Finds, FindsIf, Gives, GivesAt, GivesType};
-ghost use Rattle.walrus_tree.specs.walrus_builder.Built.{contents};
-ghost use Rattle.walrus_tree.specs.walrus_builder.Functions.{seqs_of};
+ghost use Rattle.walrus_handlers.specs.walrus_tree.walrus_builder.Built.{contents};
+ghost use Rattle.walrus_handlers.specs.walrus_tree.walrus_builder.Functions.{seqs_of};
 
-use crate::handler::Handler;
 use crate::lists::{block_results, caught};
 use std::alloc::{AllocError, Global};
 use walrus_arena::InstrSeqId;
-use walrus_tree::builder::FunctionBuilder;
-use walrus_tree::builder::tree_walks::instr::InstrSeqType;
-use walrus_tree::builder::tree_walks::instr::type_table::{ModuleTypes, ValType};
+use walrus_handlers::Handler;
+use walrus_handlers::tree::builder::FunctionBuilder;
+use walrus_handlers::tree::builder::tree_walks::instr::InstrSeqType;
+use walrus_handlers::tree::builder::tree_walks::instr::type_table::{ModuleTypes, ValType};
 
 // The block type of these parameters and results that is there, or else one that is added.
 fn found_or_added(

@@ -2,39 +2,15 @@
 
 ghost use Rattle.std.specs.Prelude.{◌≡◌, IfOk, map, option_copied};
 ghost use Rattle.std.specs.Option.{option_map};
-ghost use Rattle.walrus_body_steps.specs.walrus_body_rules.Sights.{value_list};
-ghost use Rattle.walrus_handler_types.specs.Giving.{block_results, caught, params_at, results_at};
-ghost use Rattle.walrus_tree.specs.walrus_walks.walrus_types.Items.{item_of};
-ghost use Rattle.walrus_tree.specs.walrus_walks.walrus_types.Table.{type_at};
+ghost use Rattle.walrus_function_types.specs.FunctionTypes.{results_at};
+ghost use Rattle.walrus_handlers.specs.walrus_body_steps.walrus_body_rules.Sights.{value_list};
+ghost use Rattle.walrus_handler_types.specs.Giving.{block_results, caught};
 
 use std::alloc::{AllocError, Global};
 use walrus_arena::TypeId;
-use walrus_tree::builder::tree_walks::instr::InstrSeqType;
-use walrus_tree::builder::tree_walks::instr::type_table::{
-    FunctionType, ModuleTypes, Type, ValType,
-};
-
-// The live type of an id.
-fn type_at(types: &ModuleTypes, id: TypeId) -> Option<&Type>
-    ensures { option_map item_of (option_copied result) ≡ type_at types.now id }
-{
-    if types.contains(id) {
-        Some(types.get(id))
-    } else {
-        None
-    }
-}
-
-// The live function type of an id.
-fn function_at(types: &ModuleTypes, id: TypeId) -> Option<&FunctionType>
-    ensures params { option_map (λ ty. ty.params.items) (option_copied result) ≡ params_at types.now id }
-    ensures results { option_map (λ ty. ty.results.items) (option_copied result) ≡ results_at types.now id }
-{
-    match type_at(types, id) {
-        Some(ty) => ty.as_function(),
-        None => None,
-    }
-}
+use walrus_function_types::function_at;
+use walrus_handlers::tree::builder::tree_walks::instr::InstrSeqType;
+use walrus_handlers::tree::builder::tree_walks::instr::type_table::{ModuleTypes, ValType};
 
 // The parameters of a handler of a tag of this type, or of all tags.
 pub(crate) fn caught(

@@ -2,3 +2,7 @@ pub mod Env
 pub mod Filled
 pub mod Around
 pub mod Parsed
+-- Passed on to crates above, which then list this one alone.
+pub use Rattle.walrus_body_parser.specs as walrus_body_parser
+pub use Rattle.walrus_collections.specs as walrus_collections
+pub use Rattle.wasm_run_names.specs as wasm_run_names

@@ -1,16 +1,14 @@
 //! What a body asks of the module that its file is read into.
 
-ghost use Rattle.std.specs.Prelude.{◌≡◌, map, option_copied};
-ghost use Rattle.std.specs.Option.{option_map};
-ghost use Rattle.walrus_types.specs.Items.{item_of};
-ghost use Rattle.walrus_types.specs.Table.{type_at};
-ghost use Rattle.walrus_module_env.specs.Env.{if_own, is_own, params_at, results_at};
+ghost use Rattle.std.specs.Prelude.{◌≡◌};
+ghost use Rattle.walrus_module_env.specs.Env.{if_own, is_own};
 
 use walrus_arena::{LocalId, MemoryId, TagId, TypeId};
 use walrus_body_env::BodyEnv;
 use walrus_collections::{ModuleMemories, ModuleTags};
+use walrus_function_types::function_at;
 use walrus_instr::InstrSeqType;
-use walrus_types::{FunctionType, ModuleTypes, Type, ValType};
+use walrus_types::{ModuleTypes, ValType};
 
 /// What bodies ask of the module that their file is read into (Core Specification, validation: contexts): its types, tags and memories,
 /// which stand while bodies are read. Its locals aren't lent, as bodies add theirs.
@@ -26,28 +24,6 @@ pub struct ModuleEnv<'a> {
     pub has_data_count: bool,
     /// Where the contents of the code section begin.
     pub code_start: u64,
-}
-
-// The live type of an id.
-fn type_at(types: &ModuleTypes, id: TypeId) -> Option<&Type>
-    ensures { option_map item_of (option_copied result) ≡ type_at types.now id }
-{
-    if types.contains(id) {
-        Some(types.get(id))
-    } else {
-        None
-    }
-}
-
-// The live function type of an id.
-fn function_at(types: &ModuleTypes, id: TypeId) -> Option<&FunctionType>
-    ensures params { option_map (λ ty. ty.params.items) (option_copied result) ≡ params_at types.now id }
-    ensures results { option_map (λ ty. ty.results.items) (option_copied result) ≡ results_at types.now id }
-{
-    match type_at(types, id) {
-        Some(ty) => ty.as_function(),
-        None => None,
-    }
 }
 
 // Whether it names none of the types behind the file's own.

@@ -6,3 +6,7 @@ pub mod laws;
 mod parse;
 
 pub use env::ModuleEnv;
+
+// Passed on to crates above, which then list this one alone.
+pub use walrus_body_env as body_env;
+pub use walrus_collections as collections;

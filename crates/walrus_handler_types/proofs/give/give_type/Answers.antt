@@ -2,11 +2,11 @@ use Rattle.std.proofs.Common.{◌≡◌, ◌∙◌, ℕ, zero, suc, List, [], �
 use Rattle.std.specs.Prelude.{slice_get, slice_index_or}
 use Rattle.std.specs.Option.{option_map}
 use Rattle.walrus_handler_types.specs.Giving.{GivesType}
-use Rattle.walrus_handler_types.specs.Retyping.{with_type}
-use Rattle.walrus_tree.specs.walrus_builder.Built.{seq_of}
-use Rattle.walrus_tree.specs.walrus_builder.Edited.{contents_at, written_edits}
-use Rattle.walrus_tree.specs.walrus_builder.Functions.{seqs_of}
-use Rattle.walrus_tree.specs.walrus_walks.walrus_instr.declared.seq.InstrSeq.{InstrSeq}
+use Rattle.walrus_handlers.specs.walrus_handler_laws.Retyping.{with_type}
+use Rattle.walrus_handlers.specs.walrus_tree.walrus_builder.Built.{seq_of}
+use Rattle.walrus_handlers.specs.walrus_tree.walrus_builder.Edited.{contents_at, written_edits}
+use Rattle.walrus_handlers.specs.walrus_tree.walrus_builder.Functions.{seqs_of}
+use Rattle.walrus_handlers.specs.walrus_tree.walrus_walks.walrus_instr.declared.seq.InstrSeq.{InstrSeq}
 use Rattle.walrus_handler_types.proofs.give.give_type.Goals as goal
 
 there : (xs : List InstrSeq) (k : ℕ) (d y : InstrSeq) → slice_get xs k ≡ Some y → slice_index_or xs k d ≡ y

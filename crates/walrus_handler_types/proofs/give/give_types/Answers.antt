@@ -1,8 +1,8 @@
 use Rattle.std.proofs.Common.{◌≡◌, ◌∙◌, ◌<◌, ◌+◌, ℕ, zero, suc, List, [], ◌∷◌, length, OnErr, Result, Ok, Err, Option, Some, refl, sym, ap, subst, arith}
 use Rattle.std.specs.Prelude.{slice_get, slice_index_or}
-use Rattle.walrus_handler_types.specs.declared.handler.Handler.{Handler}
+use Rattle.walrus_handlers.specs.walrus_handler_laws.declared.handler.Handler.{Handler}
 use Rattle.walrus_handler_types.specs.Giving.{Gives, GivesAt}
-use Rattle.walrus_tree.specs.walrus_builder.Built.{contents}
+use Rattle.walrus_handlers.specs.walrus_tree.walrus_builder.Built.{contents}
 use Rattle.walrus_handler_types.proofs.give.give_types.Goals as goal
 
 there : {X : Type 0} (xs : List X) (k : ℕ) (d : X) → k < length xs → slice_get xs k ≡ Some (slice_index_or xs k d)

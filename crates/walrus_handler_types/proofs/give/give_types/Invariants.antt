@@ -1,7 +1,7 @@
 use Rattle.std.proofs.Common.{◌≡◌, length}
 use Rattle.walrus_handler_types.specs.Giving.{Gives}
-use Rattle.walrus_tree.specs.walrus_builder.Built.{contents}
-use Rattle.walrus_tree.specs.walrus_builder.Functions.{seqs_of}
+use Rattle.walrus_handlers.specs.walrus_tree.walrus_builder.Built.{contents}
+use Rattle.walrus_handlers.specs.walrus_tree.walrus_builder.Functions.{seqs_of}
 use Rattle.walrus_handler_types.proofs.give.give_types.Given as goal
 
 abbrev pub invariant-loop-index : goal.invariant-loop-index

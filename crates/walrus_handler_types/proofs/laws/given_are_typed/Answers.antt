@@ -2,4 +2,4 @@ use Rattle.walrus_handler_types.proofs.Growing as growing
 use Rattle.walrus_handler_types.proofs.laws.given_are_typed.Goals as goal
 
 pub returns : goal.returns
-returns c = growing.given_are_typed c.same_kind_is_equality.ensures
+returns c = growing.given_are_typed

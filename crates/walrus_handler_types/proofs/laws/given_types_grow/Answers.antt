@@ -1,0 +1,5 @@
+use Rattle.walrus_handler_types.proofs.Growing as growing
+use Rattle.walrus_handler_types.proofs.laws.given_types_grow.Goals as goal
+
+pub returns : goal.returns
+returns c = growing.given_types_grow

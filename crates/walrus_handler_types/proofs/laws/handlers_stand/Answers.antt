@@ -1,5 +1,0 @@
-use Rattle.walrus_handler_types.proofs.Standing.{handlers_stand}
-use Rattle.walrus_handler_types.proofs.laws.handlers_stand.Goals as goal
-
-pub returns : goal.returns
-returns c = handlers_stand

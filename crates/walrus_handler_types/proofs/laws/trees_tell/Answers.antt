@@ -1,5 +1,0 @@
-use Rattle.walrus_handler_types.proofs.Counting.{trees_tell}
-use Rattle.walrus_handler_types.proofs.laws.trees_tell.Goals as goal
-
-pub returns : goal.returns
-returns c = trees_tell

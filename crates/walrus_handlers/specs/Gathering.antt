@@ -1,0 +1,26 @@
+-- Handlers in a list by sequence.
+use Rattle.std.specs.Prelude.{◌≡◌, ℕ, ◌<◌, List, [], ◌∷◌, length, Option, Some, None, slice_get, slice_set}
+use Rattle.walrus_handler_laws.specs.walrus_tree.walrus_builder.Built.{Seq}
+use Rattle.walrus_handler_laws.specs.walrus_tree.walrus_walks.Events.{Event, StartOf}
+use Rattle.walrus_handler_laws.specs.walrus_tree.walrus_walks.walrus_instr.declared.seq.InstrSeq.{InstrSeq}
+use Rattle.walrus_handler_laws.specs.declared.handler.Handler.{Handler}
+use Rattle.walrus_handler_laws.specs.Handlers.{Slot, slots_in, told_by}
+
+-- by sequence, each is told as the handler that it is, if it is one
+pub record AreHandlers (tags : ℕ → Option ℕ) (b : List InstrSeq) (js : List ℕ) (hs : List (Option Handler)) : Type 0 where
+  pub many : length hs ≡ length b
+  pub told : (j : ℕ) → j < length b → slice_get hs j ≡ Some (told_by tags b js j)
+
+-- what a sequence is, put in the list, as far as that reaches
+abbrev pub put : ℕ → Option Handler → List (Option Handler) → List (Option Handler)
+put k None told = told
+put k (Some h) told = slice_set told k (Some h)
+
+abbrev pub put_all : List Slot → List (Option Handler) → List (Option Handler)
+put_all [] told = told
+put_all (x ∷ xs) told = put_all xs (put x.seq x.handles told)
+
+-- what an event of a walk tells: a sequence begins
+abbrev pub put_event : (ℕ → Option ℕ) → List Seq → Event → List (Option Handler) → List (Option Handler)
+put_event tags b (StartOf s) told = put_all (slots_in tags b s.instrs.items) told
+put_event tags b _ told = told
