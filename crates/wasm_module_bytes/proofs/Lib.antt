@@ -1,0 +1,5 @@
+pub mod Bodies
+pub mod Chunks
+pub mod Modules
+pub mod Rules
+pub mod Sections
