@@ -1,3 +1,4 @@
+pub mod CodeLemmas
 pub mod RowLemmas
 pub mod Computed
 pub mod EdgeLemmas

@@ -1,3 +1,4 @@
+pub mod Codes
 pub mod Edges
 pub mod Examples
 pub mod Rows

@@ -1,6 +1,7 @@
 //! Bodies computed from the grammar of bodies: facts, as functions with nothing to do.
 #![tactic(auto)]
 
+ghost use Rattle.wasm_body_grammar_tests.specs.Codes.{CodesHold};
 ghost use Rattle.wasm_body_grammar_tests.specs.Edges.{EdgesHold};
 ghost use Rattle.wasm_body_grammar_tests.specs.Rows.{PicksHold, RowsHold};
 ghost use Rattle.wasm_body_grammar_tests.specs.Shapes.{ShapesHold};
@@ -25,4 +26,9 @@ pub fn operators_at_edges()
 /// The pick for parameters and results is the short form, or the latest type that serves, of those that stand for themselves.
 pub fn picks_of_types()
     ensures { PicksHold }
+{}
+
+/// The numbers of the table are those of the standard and no others, none behind the last row, and two lists of them are gated.
+pub fn codes_of_operators()
+    ensures { CodesHold }
 {}

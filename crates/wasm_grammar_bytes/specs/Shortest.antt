@@ -39,10 +39,10 @@ pub record IsShortest (a : Around) (params place : ℕ) (others bytes : List ℕ
   pub operators : map op_of y.operators ≡ map op_of x.operators
   pub least : length bytes ≤ length others
 
--- what reads as a body reads so in its bytes, too, places aside; and nothing shorter reads so
+-- what reads as a body reads so in its bytes, too, at any other place, places aside; and nothing shorter reads so
 abbrev pub BodiesHaveShortest : Type 0
 BodiesHaveShortest =
-    (a : Around) (params place : ℕ) (others : List ℕ) (x : Body) → Small others → ReadsBody a params place others x → (y : Body) × IsShortest a params place others (body_bytes a params x) x y
+    (a : Around) (params place other : ℕ) (others : List ℕ) (x : Body) → Small others → ReadsBody a params place others x → (y : Body) × IsShortest a params other others (body_bytes a params x) x y
 
 -- ---- how many locals runs declare
 
@@ -134,9 +134,9 @@ few_locals : (a : Around) (params : ℕ) (list : List Run) → EntryRules next_t
 few_locals a params [] rules = omega arith
 few_locals a params (r ∷ list) rules = omega (arith, within_limit a params r list rules, total_is params (r ∷ list))
 
-shortest_in : (a : Around) (params place : ℕ) (others : List ℕ) (x : Body) (list : List Run) → Small others → ReadsBody a params place others x → AreMaximal list → declared list ≡ x.locals
-    → (y : Body) × IsShortest a params place others (in_runs a params list x) x y
-shortest_in a params place others x list small h maximal same =
+shortest_in : (a : Around) (params place other : ℕ) (others : List ℕ) (x : Body) (list : List Run) → Small others → ReadsBody a params place others x → AreMaximal list → declared list ≡ x.locals
+    → (y : Body) × IsShortest a params other others (in_runs a params list x) x y
+shortest_in a params place other others x list small h maximal same =
     let parts = h.0 in
     let spelled = h.1.0 in
     let ruled = h.1.1 in
@@ -146,7 +146,7 @@ shortest_in a params place others x list small h maximal same =
     let first = (runs_writer a params).short spelled.0 old sides.0 spelled.3.0 in
     let few : length (declared old) < 2 ^ 32 = omega (arith, few_locals a params old ruled.0) in
     let right = maximal_right a params old list maximal declares first.0.1 ruled.0 few in
-    let start = place + length (runs_bytes a params list) in
+    let start = other + length (runs_bytes a params list) in
     let count : fold next_total params old ≡ fold next_total params list = omega (arith, total_is params old, total_is params list, ap length declares) in
     let later = operators_short a (fold next_total params old) parts.0.0 start (Plain ∷ []) spelled.1 parts.1 sides.1 spelled.4 in
     let rules = operators_ruled a (fold next_total params old) parts.0.0 start (Plain ∷ []) parts.1 ruled.1.0 in
@@ -182,6 +182,6 @@ shortest_in a params place others x list small h maximal same =
     )
 
 pub bodies_have_shortest : BodiesHaveShortest
-bodies_have_shortest a params place others x small h =
+bodies_have_shortest a params place other others x small h =
     let runs = each_has_maximal_runs x.locals in
-    shortest_in a params place others x (maximal_of x.locals) small h runs.0 runs.1
+    shortest_in a params place other others x (maximal_of x.locals) small h runs.0 runs.1

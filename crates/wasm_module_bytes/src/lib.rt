@@ -1,0 +1,4 @@
+//! The shortest bytes of a module's sections and bodies together.
+#![tactic(auto)]
+
+pub mod laws;

@@ -1,0 +1,9 @@
+pub mod Bodies
+pub mod Fronts
+pub mod Groups
+pub mod Imports
+pub mod Items
+pub mod Reading
+pub mod Sections
+pub mod Segments
+pub mod Values
