@@ -5,6 +5,7 @@ pub mod Segments
 pub mod Exports
 pub mod Tags
 pub mod Imports
+pub mod Lacks
 pub mod Numbers
 pub mod Loops
 -- Passed on to crates above, which then list this one alone.

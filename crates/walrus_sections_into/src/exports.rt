@@ -1,11 +1,14 @@
 //! Exports, and the start function.
 
-ghost use Rattle.std.specs.Prelude.{◌≡◌, IfOk, OnOk, OnErr};
+ghost use Rattle.std.specs.Prelude.{◌≡◌, IfOk, IfErr, OnOk, OnErr};
+ghost use Rattle.std.specs.List.{Any};
 ghost use Rattle.walrus_meaning.specs.walrus_linked.walrus_collections.Added.{Adds};
 ghost use Rattle.walrus_index_maps.specs.Views.{ids};
 ghost use Rattle.walrus_sections_into.specs.Becomes.{look_of};
 ghost use Rattle.walrus_sections_into.specs.Slots.{Filled, FilledInPart};
 ghost use Rattle.walrus_sections_into.specs.Exports.{IsExportOf, ItemBecomes, StartBecomes};
+ghost use Rattle.walrus_sections_into.specs.Lacks.{ExportLacks, ItemLacks, StartLacks};
+ghost use Rattle.walrus_sections_into.specs.declared.error.IntoError.TheVariants.{Unknown};
 
 use crate::error::IntoError;
 use crate::ids::{function_id, global_id, memory_id, table_id, tag_id};
@@ -18,7 +21,8 @@ use wasm_formats::Space;
 
 // What is given out.
 fn read_item(space: Space, number: u32, maps: &IndicesToIds) -> Result<ExportItem, IntoError>
-    ensures { IfOk result (ItemBecomes (look_of (ids maps.now)) space number) }
+    ensures becomes { IfOk result (ItemBecomes (look_of (ids maps.now)) space number) }
+    ensures unknown { IfErr result (λ e. e ≡ Unknown → ItemLacks (look_of (ids maps.now)) space number) }
 {
     match space {
         Space::Function => {
@@ -52,6 +56,7 @@ fn add_export(
 ) -> Result<(), IntoError>
     ensures added { OnOk result (Adds (IsExportOf (look_of (ids maps.now)) export.now) into.old into.new) }
     ensures refused { OnErr result (into.new ≡ into.old) }
+    ensures unknown { IfErr result (λ e. e ≡ Unknown → ExportLacks (look_of (ids maps.now)) export.now) }
 {
     let item = read_item(export.space, export.index, maps)?;
     into.add(export.name, item)?;
@@ -62,7 +67,7 @@ fn add_export(
 ///
 /// # Errors
 ///
-/// Want of memory; `Unknown` where one names nothing. The first of the exports may be there.
+/// Want of memory; `Unknown` only where one names nothing. The first of the exports may be there.
 pub fn add_exports(
     exports: &[Export<'_>],
     maps: &IndicesToIds,
@@ -70,6 +75,7 @@ pub fn add_exports(
 ) -> Result<(), IntoError>
     ensures added { OnOk result (Filled (IsExportOf (look_of (ids maps.now))) exports.now into.old.slots into.new.slots) }
     ensures in_part { OnErr result (FilledInPart (IsExportOf (look_of (ids maps.now))) exports.now into.old.slots into.new.slots) }
+    ensures unknown { IfErr result (λ e. e ≡ Unknown → Any (ExportLacks (look_of (ids maps.now))) exports.now) }
 {
     for export in exports {
         add_export(export, maps, into)?;
@@ -81,9 +87,10 @@ pub fn add_exports(
 ///
 /// # Errors
 ///
-/// `Unknown` where the number names nothing.
+/// `Unknown`, where the number names nothing.
 pub fn read_start(start: Option<u32>, maps: &IndicesToIds) -> Result<Option<FunctionId>, IntoError>
-    ensures { IfOk result (StartBecomes (look_of (ids maps.now)) start) }
+    ensures becomes { IfOk result (StartBecomes (look_of (ids maps.now)) start) }
+    ensures unknown { IfErr result (λ e. (e ≡ Unknown) × StartLacks (look_of (ids maps.now)) start) }
 {
     match start {
         Some(number) => {

@@ -1,6 +1,6 @@
 //! Ids of what is named by number: a collection that is filled in the order of a file gives each item its number as its id.
 
-ghost use Rattle.std.specs.Prelude.{◌≡◌, IfOk, IfErr, Some, None};
+ghost use Rattle.std.specs.Prelude.{◌≡◌, ◌≤◌, ◌^◌, IfOk, IfErr, Some, None};
 ghost use Rattle.std.specs.Option.{ok_or};
 ghost use Rattle.wasm_immediates.specs.Items.{Functions, Globals, Memories, Tables, Tags, Types};
 ghost use Rattle.walrus_index_maps.specs.Views.{ids};
@@ -83,9 +83,10 @@ pub fn tag_id(number: u32, maps: &IndicesToIds) -> Result<TagId, IntoError>
 }
 
 /// The type of this number.
-#[tactic(auto, using(crate::proofs::Lookups::found, crate::proofs::Lookups::found_as, crate::proofs::Lookups::missing_as))]
+#[tactic(auto, using(crate::proofs::Lookups::found, crate::proofs::Lookups::missing, crate::proofs::Lookups::found_as, crate::proofs::Lookups::missing_as))]
 pub fn type_id(number: u32, maps: &IndicesToIds) -> Result<TypeId, IntoError>
     ensures found { IfOk result (λ id. look_of (ids maps.now) Types number ≡ Some id) }
+    ensures unknown { IfErr result (λ e. (e ≡ Unknown) × (look_of (ids maps.now) Types number ≡ None)) }
     ensures exact { result ≡ ok_or (look_of (ids maps.now) Types number) Unknown }
 {
     match maps.get_type(number) {
@@ -96,7 +97,8 @@ pub fn type_id(number: u32, maps: &IndicesToIds) -> Result<TypeId, IntoError>
 
 /// A number of 32 bits. No greater one names anything.
 pub fn small(number: usize) -> Result<u32, IntoError>
-    ensures { IfOk result (λ n. n ≡ number) }
+    ensures found { IfOk result (λ n. n ≡ number) }
+    ensures past { IfErr result (λ e. 2 ^ 32 ≤ number) }
 {
     if number > u32::MAX as usize {
         return Err(IntoError::Unknown);

@@ -1,11 +1,14 @@
 //! Imports.
 
-ghost use Rattle.std.specs.Prelude.{◌≡◌, IfOk, OnOk, OnErr};
+ghost use Rattle.std.specs.Prelude.{◌≡◌, IfOk, IfErr, OnOk, OnErr};
+ghost use Rattle.std.specs.List.{Any};
 ghost use Rattle.walrus_meaning.specs.walrus_linked.walrus_collections.Added.{Adds};
 ghost use Rattle.walrus_index_maps.specs.Views.{ids};
 ghost use Rattle.walrus_sections_into.specs.Becomes.{look_of};
 ghost use Rattle.walrus_sections_into.specs.Slots.{Filled, FilledInPart};
 ghost use Rattle.walrus_sections_into.specs.Imports.{IsImportOf, KindBecomes};
+ghost use Rattle.walrus_sections_into.specs.Lacks.{ImportLacks, ItemLacks};
+ghost use Rattle.walrus_sections_into.specs.declared.error.IntoError.TheVariants.{Unknown};
 
 use crate::error::IntoError;
 use crate::ids::{function_id, global_id, memory_id, small, table_id, tag_id};
@@ -17,7 +20,8 @@ use wasm_formats::Space;
 
 // What is brought.
 fn read_kind(space: Space, number: u32, maps: &IndicesToIds) -> Result<ImportKind, IntoError>
-    ensures { IfOk result (KindBecomes (look_of (ids maps.now)) space number) }
+    ensures becomes { IfOk result (KindBecomes (look_of (ids maps.now)) space number) }
+    ensures unknown { IfErr result (λ e. e ≡ Unknown → ItemLacks (look_of (ids maps.now)) space number) }
 {
     match space {
         Space::Function => {
@@ -51,6 +55,7 @@ fn add_import(
 ) -> Result<(), IntoError>
     ensures added { OnOk result (Adds (IsImportOf (look_of (ids maps.now)) import.now) into.old into.new) }
     ensures refused { OnErr result (into.new ≡ into.old) }
+    ensures unknown { IfErr result (λ e. e ≡ Unknown → ImportLacks (look_of (ids maps.now)) import.now) }
 {
     let number = small(import.index)?;
     let kind = read_kind(import.space, number, maps)?;
@@ -62,7 +67,7 @@ fn add_import(
 ///
 /// # Errors
 ///
-/// Want of memory; `Unknown` where one names nothing. The first of the imports may be there.
+/// Want of memory; `Unknown` only where one names nothing. The first of the imports may be there.
 pub fn add_imports(
     imports: &[Import<'_>],
     maps: &IndicesToIds,
@@ -70,6 +75,7 @@ pub fn add_imports(
 ) -> Result<(), IntoError>
     ensures added { OnOk result (Filled (IsImportOf (look_of (ids maps.now))) imports.now into.old.slots into.new.slots) }
     ensures in_part { OnErr result (FilledInPart (IsImportOf (look_of (ids maps.now))) imports.now into.old.slots into.new.slots) }
+    ensures unknown { IfErr result (λ e. e ≡ Unknown → Any (ImportLacks (look_of (ids maps.now))) imports.now) }
 {
     for import in imports {
         add_import(import, maps, into)?;

@@ -1,10 +1,11 @@
 //! Memories.
 
-ghost use Rattle.std.specs.Prelude.{◌≡◌, OnOk, OnErr};
+ghost use Rattle.std.specs.Prelude.{◌≡◌, IfErr, OnOk, OnErr};
 ghost use Rattle.walrus_known_sections.specs.Items.{memory_of};
 ghost use Rattle.walrus_meaning.specs.walrus_linked.walrus_collections.Added.{Adds};
 ghost use Rattle.walrus_meaning.specs.Meaning.{own_memory};
 ghost use Rattle.walrus_sections_into.specs.Slots.{Filled, FilledInPart, IsMemoryOf};
+ghost use Rattle.walrus_sections_into.specs.declared.error.IntoError.TheVariants.{Memory as NoMemory};
 
 use crate::error::IntoError;
 use crate::ids::import_id;
@@ -14,6 +15,7 @@ use walrus_meaning::linked::collections::ModuleMemories;
 fn add_memory(memory: &Memory, into: &mut ModuleMemories) -> Result<(), IntoError>
     ensures added { OnOk result (Adds (IsMemoryOf memory.now) into.old into.new) }
     ensures refused { OnErr result (into.new ≡ into.old) }
+    ensures memory { IfErr result (λ e. e ≡ NoMemory) }
 {
     let limits = memory.ty.limits;
     let shared = limits.is_shared();
@@ -47,6 +49,7 @@ fn add_memory(memory: &Memory, into: &mut ModuleMemories) -> Result<(), IntoErro
 pub fn add_memories(memories: &[Memory], into: &mut ModuleMemories) -> Result<(), IntoError>
     ensures added { OnOk result (Filled IsMemoryOf memories.now into.old.slots into.new.slots) }
     ensures in_part { OnErr result (FilledInPart IsMemoryOf memories.now into.old.slots into.new.slots) }
+    ensures memory { IfErr result (λ e. e ≡ NoMemory) }
 {
     for memory in memories {
         add_memory(memory, into)?;

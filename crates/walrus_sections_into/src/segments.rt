@@ -1,11 +1,14 @@
 //! Data segments.
 
-ghost use Rattle.std.specs.Prelude.{◌≡◌, IfOk, OnOk, OnErr};
+ghost use Rattle.std.specs.Prelude.{◌≡◌, IfOk, IfErr, OnOk, OnErr};
+ghost use Rattle.std.specs.List.{Any};
 ghost use Rattle.walrus_meaning.specs.walrus_linked.walrus_collections.Added.{Adds};
 ghost use Rattle.walrus_index_maps.specs.Views.{ids};
 ghost use Rattle.walrus_sections_into.specs.Becomes.{look_of};
+ghost use Rattle.walrus_sections_into.specs.Lacks.{DataLacks, PlaceLacks};
 ghost use Rattle.walrus_sections_into.specs.Slots.{Filled, FilledInPart};
 ghost use Rattle.walrus_sections_into.specs.Segments.{IsSegmentOf, ModeBecomes};
+ghost use Rattle.walrus_sections_into.specs.declared.error.IntoError.TheVariants.{Memory, Unknown};
 
 use crate::error::IntoError;
 use crate::exprs::read_expr;
@@ -18,7 +21,8 @@ use walrus_meaning::module::module_items::DataKind;
 
 // When it is copied.
 fn read_mode(alloc: Global, mode: &Mode, maps: &IndicesToIds) -> Result<DataKind, IntoError>
-    ensures { IfOk result (ModeBecomes (look_of (ids maps.now)) mode.now) }
+    ensures becomes { IfOk result (ModeBecomes (look_of (ids maps.now)) mode.now) }
+    ensures unknown { IfErr result (λ e. e ≡ Unknown → PlaceLacks (look_of (ids maps.now)) mode.now) }
 {
     match mode {
         Mode::Passive => Ok(DataKind::Passive),
@@ -32,7 +36,8 @@ fn read_mode(alloc: Global, mode: &Mode, maps: &IndicesToIds) -> Result<DataKind
 }
 
 fn copied(alloc: Global, bytes: &[u8]) -> Result<Vec<u8>, IntoError>
-    ensures { IfOk result (λ copy. copy.items ≡ bytes.now) }
+    ensures copied { IfOk result (λ copy. copy.items ≡ bytes.now) }
+    ensures refused { IfErr result (λ e. e ≡ Memory) }
 {
     let mut copy = Vec::new(alloc);
     copy.extend_from_slice(bytes)?;
@@ -47,6 +52,7 @@ fn add_segment(
 ) -> Result<(), IntoError>
     ensures added { OnOk result (Adds (IsSegmentOf (look_of (ids maps.now)) segment.now) into.old into.new) }
     ensures refused { OnErr result (into.new ≡ into.old) }
+    ensures unknown { IfErr result (λ e. e ≡ Unknown → DataLacks (look_of (ids maps.now)) segment.now) }
 {
     let kind = read_mode(alloc, &segment.mode, maps)?;
     let value = copied(alloc, segment.bytes)?;
@@ -58,7 +64,8 @@ fn add_segment(
 ///
 /// # Errors
 ///
-/// Want of memory; `Unknown` where one names nothing. The first of the segments may be there.
+/// Want of memory; `Unknown` only where one names no memory or is declared, or an operator of an offset names nothing or isn't
+/// constant. The first of the segments may be there.
 pub fn add_segments(
     alloc: Global,
     segments: &[Data<'_>],
@@ -67,6 +74,7 @@ pub fn add_segments(
 ) -> Result<(), IntoError>
     ensures added { OnOk result (Filled (IsSegmentOf (look_of (ids maps.now))) segments.now into.old.slots into.new.slots) }
     ensures in_part { OnErr result (FilledInPart (IsSegmentOf (look_of (ids maps.now))) segments.now into.old.slots into.new.slots) }
+    ensures unknown { IfErr result (λ e. e ≡ Unknown → Any (DataLacks (look_of (ids maps.now))) segments.now) }
 {
     for segment in segments {
         add_segment(alloc, segment, maps, into)?;

@@ -1,0 +1,4 @@
+pub mod Constants
+pub mod Lists
+pub mod Items
+pub mod Nothing
