@@ -1,0 +1,3 @@
+mod FillLemmas
+mod FiledLemmas
+mod FunctionLemmas
