@@ -1,7 +1,6 @@
 -- Lemmas: what the parts say of a new module, put together.
 use Rattle.std.proofs.Common.{◌≡◌, ◌∙◌, ℕ, zero, suc, ◌+◌, List, [], ◌∷◌, ◌++◌, length, Option, Some, Result, Ok, Err, IfOk, refl, sym, ap, subst, arith}
 use Rattle.std.specs.List.{range_with_len}
-use Rattle.std.proofs.lemmas.List.FromFn.{counting_more}
 use Rattle.walrus_types.specs.Table.{Table}
 use Rattle.walrus_types.specs.Parsing.{AreBelow, parsed, unparsed}
 use Rattle.walrus_types_into.specs.Into.{no_types, with_types, TypesNameBelow, NewTypesStand}
@@ -39,17 +38,21 @@ typed s names stand functions read =
     (functions read.0 read.1 s (types_in s).ids (types_in s).table 0 read.2 (stand s.types (below s names read))).0
 
 -- and so it does of the map
-pub typed_there : (s : Sections) (i j : Ids) (t : Table) → i ≡ no_ids → t ≡ no_types → j ≡ with_types (parsed s.types (unparsed t)).ids i
-    → AreTyped (types_in s).ids s.functions.items → AreTyped j.types s.functions.items
-typed_there s i j t none empty same h = rw (same, none, empty) h
+pub typed_there : (s : Sections) (i j : Ids) (t : Table) (reads : List ReadFunction) → i ≡ no_ids → t ≡ no_types → j ≡ with_types (parsed s.types (unparsed t)).ids i → reads ≡ s.functions.items
+    → AreTyped (types_in s).ids s.functions.items → AreTyped j.types reads
+typed_there s i j t reads none empty same whole h = rw (same, none, empty, whole) h
 
 -- ---- numbers
 
+one_more : (a n : ℕ) → range_with_len a (suc n) ≡ range_with_len a n ++ (a + n) ∷ []
+one_more a zero = let e : a ≡ a + 0 = omega arith in ap (λ (m : ℕ). m ∷ []) e
+one_more a (suc n) =
+    let e : a + 1 + n ≡ a + suc n = omega arith in
+    ap (λ (l : List ℕ). a ∷ l) (one_more (a + 1) n ∙ ap (λ (m : ℕ). range_with_len (a + 1) n ++ m ∷ []) e)
+
 counted : (n : ℕ) → range_with_len 0 n ≡ upto n
 counted zero = refl
-counted (suc n) =
-    let one : suc n ≡ n + 1 = omega arith in
-    ap (range_with_len 0) one ∙ counting_more 0 n n (omega arith) ∙ ap (λ (l : List ℕ). l ++ n ∷ []) (counted n)
+counted (suc n) = let e : 0 + n ≡ n = omega arith in one_more 0 n ∙ ap (λ (m : ℕ). range_with_len 0 n ++ m ∷ []) e ∙ ap (λ (l : List ℕ). l ++ n ∷ []) (counted n)
 
 -- the map behind types, functions and the other items
 pub numbered : {A : Type 0} (s : Sections) (i j k l : Ids) (t : Table) (first : List A) → i ≡ no_ids → t ≡ no_types → first ≡ [] → j ≡ with_types (parsed s.types (unparsed t)).ids i
@@ -59,18 +62,23 @@ numbered s i j k l t first none empty no_function types functions items =
 
 -- ---- all of it
 
+-- what was added is what was read
+pub over : {X Y : Type 0} {R : X → Y → Type 0} {xs ys : List X} {old new : List (Option Y)} → ys ≡ xs → Filled R ys old new → Filled R xs old new
+over {X} {Y} {R} {xs} {ys} {old} {new} e h = subst (λ (xs : List X). Filled R xs old new) e h
+
 emptied : {X Y : Type 0} (R : X → Y → Type 0) (xs : List X) (old new : List (Option Y)) → old ≡ [] → Filled R xs old new → Filled R xs [] new
 emptied {X} {Y} R xs old new e h = subst (λ (slots : List (Option Y)). Filled R xs slots new) e h
 
-functions_are : (reads : List ReadFunction) (types others : List ℕ) (old new : List (Option Function)) → old ≡ [] → types ≡ others → new ≡ old ++ functions_from types (length old) reads
-    → new ≡ functions_from others 0 reads
-functions_are reads types others old new e same h = h ∙ rw (e, same) refl
+functions_are : (reads all : List ReadFunction) (types others : List ℕ) (old new : List (Option Function)) → old ≡ [] → reads ≡ all → types ≡ others
+    → new ≡ old ++ functions_from types (length old) reads → new ≡ functions_from others 0 all
+functions_are reads all types others old new e whole same h = h ∙ rw (e, whole, same) refl
 
 module _ {B : Type 0} (s : Sections) (i j k l : Ids) (old new : Spaces B) (fresh : IsNew i old) where
-  pub filled : j ≡ with_types (parsed s.types (unparsed old.types)).ids i
+  pub filled : (reads : List ReadFunction) → reads ≡ s.functions.items
+      → j ≡ with_types (parsed s.types (unparsed old.types)).ids i
       → new.types ≡ (parsed s.types (unparsed old.types)).table
-      → new.functions.slots ≡ old.functions.slots ++ functions_from j.types (length old.functions.slots) s.functions.items
-      → k ≡ with_functions (length old.functions.slots) (length s.functions.items) j
+      → new.functions.slots ≡ old.functions.slots ++ functions_from j.types (length old.functions.slots) reads
+      → k ≡ with_functions (length old.functions.slots) (length reads) j
       → l ≡ with_items s k
       → Filled (IsImportOf (look_of l)) s.imports.items old.imports.slots new.imports.slots
       → Filled (IsTableOf (look_of l)) s.tables.items old.tables.slots new.tables.slots
@@ -82,10 +90,11 @@ module _ {B : Type 0} (s : Sections) (i j k l : Ids) (old new : Spaces B) (fresh
       → Filled (IsSegmentOf (look_of l)) s.segments.items old.segments.slots new.segments.slots
       → Filled IsCustomOf s.customs.items old.customs.slots new.customs.slots
       → (begin : Option ℕ) → StartBecomes (look_of l) s.start begin → IsFilledFrom s begin l new
-  filled types table functions numbers items imports tables memories tags globals exports elements segments customs begin start = record {
-    numbers = numbered s i j k l old.types old.functions.slots fresh.numbers fresh.types fresh.functions types numbers items;
+  filled reads whole types table functions numbers items imports tables memories tags globals exports elements segments customs begin start = record {
+    numbers = numbered s i j k l old.types old.functions.slots fresh.numbers fresh.types fresh.functions types
+        (numbers ∙ ap (λ (reads : List ReadFunction). with_functions (length old.functions.slots) (length reads) j) whole) items;
     types = table ∙ ap (λ (t : Table). (parsed s.types (unparsed t)).table) fresh.types;
-    functions = functions_are s.functions.items j.types l.types old.functions.slots new.functions.slots fresh.functions
+    functions = functions_are reads s.functions.items j.types l.types old.functions.slots new.functions.slots fresh.functions whole
         (sym (ap (λ (m : Ids). m.types) items ∙ ap (λ (m : Ids). m.types) numbers)) functions;
     imports = emptied (IsImportOf (look_of l)) s.imports.items old.imports.slots new.imports.slots fresh.imports imports;
     tables = emptied (IsTableOf (look_of l)) s.tables.items old.tables.slots new.tables.slots fresh.tables tables;
@@ -99,6 +108,6 @@ module _ {B : Type 0} (s : Sections) (i j k l : Ids) (old new : Spaces B) (fresh
     start = start;
   }
 
-pub on_start : {P Q : Option ℕ → Type 0} (result : Result (Option ℕ) IntoError) → ((start : Option ℕ) → P start → Q start) → IfOk result P → IfOk result Q
-on_start (Ok start) h p = h start p
-on_start (Err e) h p = p
+pub on_start : (P Q : Option ℕ → Type 0) (result : Result (Option ℕ) IntoError) → ((start : Option ℕ) → P start → Q start) → IfOk result P → IfOk result Q
+on_start P Q (Ok start) h p = h start p
+on_start P Q (Err e) h p = p
