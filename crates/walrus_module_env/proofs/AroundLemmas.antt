@@ -1,6 +1,7 @@
 -- Lemmas: a body sees the file that its module was read from.
 use Rattle.std.proofs.Common.{◌≡◌, ◌∙◌, ℕ, zero, suc, Bool, false, List, [], ◌∷◌, length, map, All, refl, sym, ap, subst, arith}
 use Rattle.std.proofs.lemmas.List.Elements.{All-head}
+use Rattle.std.proofs.lemmas.Option.{slice_get_within}
 use Rattle.std.specs.Prelude.{Option, Some, None, Ok, unwrap_or, slice_get, slice_index_or}
 use Rattle.std.specs.Option.{option_map, option_map_or, option_and_then, is_some}
 use Rattle.walrus_collections.specs.walrus_local_function.walrus_body_locals.walrus_body_nesting.wasm_formats.wasm_features.declared.WasmFeatures.{WasmFeatures}
@@ -18,6 +19,7 @@ use Rattle.walrus_index_maps.specs.Maps.{Ids}
 use Rattle.walrus_types.specs.Items.{Item}
 use Rattle.walrus_types.proofs.LawLemmas.{latest-law}
 use Rattle.walrus_instr.specs.declared.seq.InstrSeqType.{InstrSeqType}
+use Rattle.walrus_instr.specs.declared.seq.InstrSeqType.TheVariants.{MultiValue}
 use Rattle.walrus_collections.specs.walrus_module_items.declared.memory.Memory.{Memory}
 use Rattle.walrus_collections.specs.walrus_local_function.walrus_body_locals.wasm_immediates.declared.block_type.BlockType.{BlockType}
 use Rattle.walrus_collections.specs.walrus_local_function.walrus_body_locals.wasm_immediates.declared.block_type.BlockType.TheVariants as blocks
@@ -27,18 +29,18 @@ use Rattle.walrus_collections.specs.walrus_local_function.walrus_body_locals.was
 use Rattle.walrus_collections.specs.walrus_local_function.walrus_body_locals.wasm_grammar.TypeWords.{abstract_from, value_from}
 use Rattle.walrus_collections.specs.walrus_local_function.walrus_body_locals.wasm_grammar.Values.{must}
 use Rattle.walrus_collections.specs.walrus_local_function.walrus_body_locals.wasm_body_grammar.Rules as grammar
-use Rattle.walrus_collections.specs.walrus_local_function.walrus_body_locals.wasm_body_grammar.Rules.{Around, latest_from, serves, pick, form_test, kind_test}
+use Rattle.walrus_collections.specs.walrus_local_function.walrus_body_locals.wasm_body_grammar.Rules.{Around, found_in, pick, form_test, kind_test}
 use Rattle.walrus_collections.specs.walrus_local_function.walrus_function_parser.walrus_body_rules.walrus_pairing.Types.{read_abstract, read_value}
-use Rattle.walrus_collections.specs.walrus_local_function.walrus_function_parser.walrus_body_rules.Sights.{Sight, block_of, room, written_block}
+use Rattle.walrus_collections.specs.walrus_local_function.walrus_function_parser.walrus_body_rules.Sights.{Sight, block_of, function_block, room, written_block}
 use Rattle.walrus_collections.specs.walrus_local_function.walrus_function_parser.walrus_body_rules.Rules.{block_test, has_wide}
 use Rattle.walrus_collections.specs.walrus_local_function.walrus_function_parser.Parsed.{IsAround}
 use Rattle.walrus_collections.specs.walrus_local_function.walrus_body_locals.walrus_body_nesting.wasm_formats.Stops.{TypeForm}
 use Rattle.wasm_run_names.specs.Picks.{form_pick, kind_pick, block_pick}
 use Rattle.walrus_module_env.specs.declared.env.ModuleEnv.{ModuleEnv}
-use Rattle.walrus_module_env.specs.Env.{form_params, form_results, own_pick}
+use Rattle.walrus_module_env.specs.Env.{form_params, form_results, own_found, own_pick}
 use Rattle.walrus_module_env.specs.Filled.{AreFiled}
-use Rattle.walrus_module_env.specs.Around.{sight_in, memory_named, IsFiled}
-use Rattle.walrus_module_env.proofs.PickLemmas.{some_is, at_index, picks_agree, latest_serves}
+use Rattle.walrus_module_env.specs.Around.{sight_in, block_named, memory_named, IsFiled}
+use Rattle.walrus_module_env.proofs.PickLemmas.{some_is, none_some, at_index, finds_own, found_serves}
 
 -- what is no item of the one isn't of the other
 none_in : {X Y : Type 0} (xs : List X) (ys : List Y) (n : ℕ) → length xs ≡ length ys → slice_get ys n ≡ None → slice_get xs n ≡ None
@@ -94,16 +96,26 @@ module _ (e : ModuleEnv) (function : ℕ) (i : Ids) (a : Around) (same : a.same 
   abbrev form_block : Form → Option InstrSeqType
   form_block form = block_of sees (form_params (renamed_form (at i.types) form)) (form_results (renamed_form (at i.types) form))
 
-  found : (params results : List ValType) → is_some (option_map blocks.Type (latest_from (serves a.same params results) 0 None (types_of a.filled))) ≡ is_some (latest_from (serves (at i.types) params results) 0 None (types_of a.filled))
-  found params results =
-      some_mapped blocks.Type (latest_from (serves a.same params results) 0 None (types_of a.filled))
-      ∙ ap (λ (f : ℕ → ℕ). is_some (latest_from (serves f params results) 0 None (types_of a.filled))) same
+  -- what the grammar finds in the file
+  abbrev found : List ValType → List ValType → Option ℕ
+  found params results = found_in a.same params results (types_of a.filled)
+
+  pub finds : (params results : List ValType)
+      → own_found e.own_types e.types.now (map (renamed_value (at i.types)) params) (map (renamed_value (at i.types)) results) ≡ option_map (λ n. MultiValue (at i.types n)) (found params results)
+  finds params results =
+      finds_own (types_of a.filled) i.types e.own_types e.types.now h params results (latest-law e.types.now _)
+      ∙ ap (λ (f : ℕ → ℕ). option_map (λ n. MultiValue (at i.types n)) (found_in f params results (types_of a.filled))) (sym same)
+
+  found_there : (params results : List ValType)
+      → is_some (own_found e.own_types e.types.now (map (renamed_value (at i.types)) params) (map (renamed_value (at i.types)) results)) ≡ is_some (option_map blocks.Type (found params results))
+  found_there params results =
+      ap (λ (o : Option InstrSeqType). is_some o) (finds params results) ∙ some_mapped (λ n. MultiValue (at i.types n)) (found params results) ∙ sym (some_mapped blocks.Type (found params results))
 
   picks_there : (params results : List ValType) → is_some (own params results) ≡ is_some (pick a params results)
   picks_there [] [] = refl
   picks_there [] (x ∷ []) = refl
-  picks_there [] (x ∷ (y ∷ ys)) = picks_agree (types_of a.filled) i.types e.own_types e.types.now h [] (x ∷ (y ∷ ys)) (latest-law e.types.now _) ∙ sym (found [] (x ∷ (y ∷ ys)))
-  picks_there (x ∷ xs) results = picks_agree (types_of a.filled) i.types e.own_types e.types.now h (x ∷ xs) results (latest-law e.types.now _) ∙ sym (found (x ∷ xs) results)
+  picks_there [] (x ∷ (y ∷ ys)) = found_there [] (x ∷ (y ∷ ys))
+  picks_there (x ∷ xs) results = found_there (x ∷ xs) results
 
   form_there : (form : Form) → must (is_some (form_block form)) TypeForm ≡ form_test a form
   form_there (FunctionForm params results) = ap (λ (b : Bool). must b TypeForm) (picks_there params results)
@@ -138,10 +150,10 @@ module _ (e : ModuleEnv) (function : ℕ) (i : Ids) (a : Around) (same : a.same 
   Picks n o = written_block sees (unwrap_or o (blocks.Type n)) ≡ written_block sees (blocks.Type n)
 
   found_picks : (n : ℕ) (params results : List ValType) → written_block sees (blocks.Type n) ≡ own params results
-      → Picks n (option_map blocks.Type (latest_from (serves a.same params results) 0 None (types_of a.filled)))
+      → Picks n (option_map blocks.Type (found params results))
   found_picks n params results own_is =
-      subst (λ (f : ℕ → ℕ). Picks n (option_map blocks.Type (latest_from (serves f params results) 0 None (types_of a.filled)))) (sym same)
-      (latest_serves (types_of a.filled) i.types e.own_types e.types.now h params results (λ (o : Option ℕ). Picks n (option_map blocks.Type o)) refl
+      subst (λ (f : ℕ → ℕ). Picks n (option_map blocks.Type (found_in f params results (types_of a.filled)))) (sym same)
+      (found_serves (types_of a.filled) i.types e.own_types e.types.now h params results (λ (o : Option ℕ). Picks n (option_map blocks.Type o)) refl
       (λ index kind there is. written_at index kind there ∙ ap (λ (k : Kind). block_of sees (form_params k.form) (form_results k.form)) is ∙ sym own_is))
 
   form_picks : (n : ℕ) (params results : List ValType) → All (ValueBelow (length i.types)) results → written_block sees (blocks.Type n) ≡ own params results → Picks n (pick a params results)
@@ -164,6 +176,46 @@ module _ (e : ModuleEnv) (function : ℕ) (i : Ids) (a : Around) (same : a.same 
   picks_are blocks.Empty = refl
   picks_are (blocks.Value ty) = refl
   picks_are (blocks.Type n) = type_picks n (slice_get (types_of a.filled) n) refl
+
+  -- ---- and names its id
+
+  abbrev Named : ℕ → InstrSeqType → Option BlockType → Type 0
+  Named n ty o = block_named sees (unwrap_or o (blocks.Type n)) ≡ Some ty
+
+  abbrev OfFound : ℕ → InstrSeqType → Option ℕ → Type 0
+  OfFound n ty o = option_map (λ n. MultiValue (at i.types n)) o ≡ Some ty → Named n ty (option_map blocks.Type o)
+
+  found_named : (n : ℕ) (params results : List ValType) (ty : InstrSeqType)
+      → own_found e.own_types e.types.now (map (renamed_value (at i.types)) params) (map (renamed_value (at i.types)) results) ≡ Some ty → Named n ty (option_map blocks.Type (found params results))
+  found_named n params results ty is =
+      subst (λ (f : ℕ → ℕ). OfFound n ty (found_in f params results (types_of a.filled))) (sym same)
+      (found_serves (types_of a.filled) i.types e.own_types e.types.now h params results (OfFound n ty) (λ e. none_some ty e) (λ index kind there serves e. named index kind there e)) (sym (finds params results) ∙ is)
+    where
+      named : (index : ℕ) (kind : Kind) → slice_get (types_of a.filled) index ≡ Some kind → Some (MultiValue (at i.types index)) ≡ Some ty → option_map MultiValue (slice_get i.types index) ≡ Some ty
+      named index kind there e =
+          let within = slice_get_within (types_of a.filled) index kind there in
+          let size = h.sized in
+          ap (λ (o : Option ℕ). option_map MultiValue o) (at_index i.types index (omega (arith, within, size))) ∙ e
+
+  form_named : (n : ℕ) (params results : List ValType) (ty : InstrSeqType) → All (ValueBelow (length i.types)) results → own params results ≡ Some ty → Named n ty (pick a params results)
+  form_named n [] [] ty below is = is
+  form_named n [] (x ∷ []) ty below is = rw (value_read i.types x (All-head (ValueBelow (length i.types)) x [] below)) is
+  form_named n [] (x ∷ (y ∷ ys)) ty below is = found_named n [] (x ∷ (y ∷ ys)) ty is
+  form_named n (x ∷ xs) results ty below is = found_named n (x ∷ xs) results ty is
+
+  kind_named : (n : ℕ) (form : Form) (ty : InstrSeqType) → FormBelow (length i.types) form → form_block form ≡ Some ty → block_named sees (form_pick a (blocks.Type n) form) ≡ Some ty
+  kind_named n (FunctionForm params results) ty below is = form_named n params results ty below.1 is
+  kind_named n (StructForm fields) ty below is = none_some ty is
+  kind_named n (ArrayForm field) ty below is = none_some ty is
+
+  type_named : (n : ℕ) (ty : InstrSeqType) (o : Option Kind) → slice_get (types_of a.filled) n ≡ o → written_block sees (blocks.Type n) ≡ Some ty → block_named sees (kind_pick a (blocks.Type n) o) ≡ Some ty
+  type_named n ty None none is = none_some ty (sym (ap (λ (o : Option ℕ). function_block sees o) (none_in i.types (types_of a.filled) n h.sized none)) ∙ is)
+  type_named n ty (Some kind) there is = kind_named n kind.form ty (h.names n kind there).0 (sym (written_at n kind there) ∙ is)
+
+  pub blocks_are_named : (w : BlockType) (ty : InstrSeqType) → written_block sees w ≡ Some ty → block_named sees (block_pick a w) ≡ Some ty
+  blocks_are_named blocks.Empty ty is = is
+  blocks_are_named (blocks.Value v) ty is = is
+  blocks_are_named (blocks.Type n) ty is = type_named n ty (slice_get (types_of a.filled) n) refl is
 
 -- ---- memories
 

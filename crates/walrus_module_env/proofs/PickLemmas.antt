@@ -1,20 +1,23 @@
--- Lemmas: a pick among the types of a table is there exactly where the grammar has one.
+-- Lemmas: among the types of a file, a table finds the one that the grammar picks.
 use Rattle.std.proofs.Common.{◌≡◌, ◌∙◌, ◌<◌, ◌≤◌, ℕ, zero, suc, ◌+◌, Bool, true, false, ◌⊎◌, inl, inr, List, [], ◌∷◌, length, map, refl, sym, ap, subst, arith, if◌then◌else◌}
-use Rattle.std.proofs.lemmas.Bool.{cases_lt, lt-ltb, le-ltb}
+use Rattle.std.proofs.lemmas.Bool.{cases_lt, lt-ltb, le-ltb, eqb-true, eq-eqb, and_parts, and_from}
+use Rattle.std.proofs.lemmas.List.Folds.{Any-from_list_any, list_any_at}
+use Rattle.std.proofs.lemmas.List.FromFn.{length-range_with_len, get_or-range_with_len}
 use Rattle.std.proofs.lemmas.Option.{slice_get_within}
-use Rattle.std.specs.Prelude.{Option, Some, None, MatchOption, slice_get}
-use Rattle.std.specs.Option.{option_map, is_some}
+use Rattle.std.specs.Prelude.{Option, Some, None, MatchOption, slice_get, slice_index_or, not, ◌&&◌, ◌==◌}
+use Rattle.std.specs.List.{Any, list_any, range_with_len}
+use Rattle.std.specs.Option.{option_map}
 use Rattle.walrus_forms.specs.declared.value.ValType.{ValType}
 use Rattle.walrus_forms.specs.Kinds.{Kind, function_kind}
 use Rattle.walrus_forms.specs.Renaming.{at, renamed_value, renamed_kind}
 use Rattle.walrus_forms.specs.Same.{same_kind}
 use Rattle.walrus_forms.proofs.EqLemmas.{same-kind-law}
 use Rattle.walrus_types.specs.Items.{Item}
-use Rattle.walrus_types.specs.Table.{Table, type_at, latest_id, found_type}
+use Rattle.walrus_types.specs.Table.{Table, type_at, latest_id}
 use Rattle.walrus_types.specs.TypeLaws.{IsLatest, FindsLatest}
 use Rattle.walrus_instr.specs.declared.seq.InstrSeqType.TheVariants.{MultiValue}
-use Rattle.walrus_collections.specs.walrus_local_function.walrus_body_locals.wasm_body_grammar.Rules.{serves, latest_from}
-use Rattle.walrus_module_env.specs.Env.{if_own}
+use Rattle.walrus_collections.specs.walrus_local_function.walrus_body_locals.wasm_body_grammar.Rules.{serves, leads, latest_from, found_in}
+use Rattle.walrus_module_env.specs.Env.{if_own, own_found}
 use Rattle.walrus_module_env.specs.Filled.{IsTypeAt, AreFiled}
 
 pub some_is : {X : Type 0} (x y : X) → Some x ≡ Some y → x ≡ y
@@ -36,41 +39,85 @@ at_index [] i lt = absurd (omega (arith, lt))
 at_index (id ∷ ids) zero lt = refl
 at_index (id ∷ ids) (suc i) lt = at_index ids i (omega (arith, lt))
 
+-- ---- the first type of those that stand for one leads
+
+module _ (same : ℕ → ℕ) where
+  abbrev earlier : ℕ → ℕ → Bool
+  earlier n m = same m == same n
+
+  leads_alone : (n m : ℕ) → leads same n ≡ true → m < n → same m ≡ same n → ⊥
+  leads_alone n m leading lt alike = go (list_any (earlier n) (range_with_len 0 n)) (list_any_at (earlier n) (range_with_len 0 n) m m size (ap (earlier n) is ∙ eq-eqb (same m) (same n) alike)) leading
+    where
+      size : m < length (range_with_len 0 n)
+      size = let l = length-range_with_len 0 n in omega (arith, lt, l)
+
+      is : slice_index_or (range_with_len 0 n) m m ≡ m
+      is = let e = get_or-range_with_len 0 n m m lt in omega (arith, e)
+
+      go : (b : Bool) → b ≡ true → not b ≡ true → ⊥
+      go true e f = absurd cc
+      go false e f = absurd cc
+
+  -- one that leads stands for what this one stands for
+  record Leader (m : ℕ) : Type 0 where
+    first : ℕ
+    before : first ≤ m
+    alike : same first ≡ same m
+    leading : leads same first ≡ true
+
+  leader : (b m : ℕ) → m < b → Leader m
+  leader zero m lt = absurd (omega (arith, lt))
+  leader (suc b) m lt = go (λ x less. leader b x less) (list_any (earlier m) (range_with_len 0 m)) refl
+    where
+      go : ((x : ℕ) → x < b → Leader x) → (any : Bool) → list_any (earlier m) (range_with_len 0 m) ≡ any → Leader m
+      go below false e = record { first = m; before = omega arith; alike = refl; leading = ap not e }
+      go below true e =
+          let (k, x, within, is, passes) : Any (λ x. earlier m x ≡ true) (range_with_len 0 m) = Any-from_list_any (earlier m) (range_with_len 0 m) e in
+          let size = length-range_with_len 0 m in
+          let value = get_or-range_with_len 0 m k x (omega (arith, within, size)) in
+          let less : x < m = omega (arith, within, size, is, value) in
+          let l = below x (omega (arith, less, lt)) in
+          let low = l.before in
+          record { first = l.first; before = omega (arith, low, less); alike = l.alike ∙ eqb-true (same x) (same m) passes; leading = l.leading }
+
 -- ---- the latest type that passes a test
 
-kept : (test : Kind → Bool) (kinds : List Kind) (n x : ℕ) → is_some (latest_from test n (Some x) kinds) ≡ true
-kept test [] n x = refl
-kept test (kind ∷ kinds) n x = go (test kind) (λ y. kept test kinds (n + 1) y)
-  where
-    go : (b : Bool) → ((y : ℕ) → is_some (latest_from test (n + 1) (Some y) kinds) ≡ true) → is_some (latest_from test (n + 1) (if b then Some n else Some x) kinds) ≡ true
-    go true h = h n
-    go false h = h x
+module _ (test : ℕ → Kind → Bool) (whole : List Kind) where
+  abbrev Passes : ℕ → Type 0
+  Passes index = (kind : Kind) × (slice_get whole index ≡ Some kind) × (test index kind ≡ true)
 
--- where one passes there is one
-found_some : (test : Kind → Bool) (kinds : List Kind) (i n : ℕ) (found : Option ℕ) (kind : Kind) → slice_get kinds i ≡ Some kind → test kind ≡ true → is_some (latest_from test n found kinds) ≡ true
-found_some test [] i n found kind there passes = none_some kind there
-found_some test (x ∷ kinds) zero n found kind there passes =
-    subst (λ (b : Bool). is_some (latest_from test (n + 1) (if b then Some n else found) kinds) ≡ true) (sym (ap test (some_is x kind there) ∙ passes)) (kept test kinds (n + 1) n)
-found_some test (x ∷ kinds) (suc i) n found kind there passes = found_some test kinds i (n + 1) (if test x then Some n else found) kind there passes
+  -- none of these passes
+  abbrev Fail : ℕ → ℕ → Type 0
+  Fail low high = (i : ℕ) (kind : Kind) → low ≤ i → i < high → slice_get whole i ≡ Some kind → test i kind ≡ false
 
--- the one that is found passes
-abbrev pub Passes : (Kind → Bool) → List Kind → Option ℕ → Type 0
-Passes test kinds None = Unit {0}
-Passes test kinds (Some index) = (kind : Kind) × (slice_get kinds index ≡ Some kind) × (test kind ≡ true)
+  -- the last of so many that passes
+  abbrev IsLast : ℕ → Option ℕ → Type 0
+  IsLast n None = Fail 0 n
+  IsLast n (Some index) = Passes index × Fail (index + 1) n
 
-latest_has : (test : Kind → Bool) (whole rest : List Kind) (n : ℕ) (found : Option ℕ) → ((k : ℕ) → slice_get rest k ≡ slice_get whole (k + n)) → Passes test whole found
-    → Passes test whole (latest_from test n found rest)
-latest_has test whole [] n found same p = p
-latest_has test whole (kind ∷ rest) n found same p =
-    latest_has test whole rest (n + 1) (if test kind then Some n else found)
-    (λ k. same (suc k) ∙ ap (slice_get whole) (let e : suc k + n ≡ k + (n + 1) = omega arith in e)) (either (test kind) refl)
-  where
-    either : (b : Bool) → test kind ≡ b → Passes test whole (if b then Some n else found)
-    either true e = (kind, sym (same 0 ∙ ap (slice_get whole) (let e : 0 + n ≡ n = omega arith in e)), e)
-    either false e = p
+  fail_more : (low n : ℕ) (kind : Kind) → slice_get whole n ≡ Some kind → test n kind ≡ false → Fail low n → Fail low (n + 1)
+  fail_more low n kind there fails h i other le lt at = go (cases_lt i n)
+    where
+      go : (i < n) ⊎ (n ≤ i) → test i other ≡ false
+      go (inl less) = h i other le less at
+      go (inr more) =
+          let e : n ≡ i = omega (arith, more, lt) in
+          subst (λ (k : ℕ). slice_get whole k ≡ Some other → test k other ≡ false) e (λ f. ap (test n) (some_is other kind (sym f ∙ there)) ∙ fails) at
 
-pub latest_passes : (test : Kind → Bool) (kinds : List Kind) → Passes test kinds (latest_from test 0 None kinds)
-latest_passes test kinds = latest_has test kinds kinds 0 None (λ k. ap (slice_get kinds) (let e : k ≡ k + 0 = omega arith in e)) tt
+  last_more : (n : ℕ) (kind : Kind) (found : Option ℕ) → slice_get whole n ≡ Some kind → IsLast n found → (b : Bool) → test n kind ≡ b → IsLast (n + 1) (if b then Some n else found)
+  last_more n kind found there h true e = ((kind, there, e), λ i other le lt at. absurd (omega (arith, le, lt)))
+  last_more n kind None there h false e = fail_more 0 n kind there e h
+  last_more n kind (Some index) there h false e = (h.0, fail_more (index + 1) n kind there e h.1)
+
+  last_from : (rest : List Kind) (n : ℕ) (found : Option ℕ) → ((k : ℕ) → slice_get rest k ≡ slice_get whole (k + n)) → IsLast n found → IsLast (n + length rest) (latest_from test n found rest)
+  last_from [] n found same h = subst (λ (m : ℕ). IsLast m found) (let e : n ≡ n + 0 = omega arith in e) h
+  last_from (kind ∷ rest) n found same h =
+      subst (λ (m : ℕ). IsLast m (latest_from test n found (kind ∷ rest))) (let e : n + 1 + length rest ≡ n + suc (length rest) = omega arith in e)
+      (last_from rest (n + 1) (if test n kind then Some n else found) (λ k. same (suc k) ∙ ap (slice_get whole) (let e : suc k + n ≡ k + (n + 1) = omega arith in e))
+      (last_more n kind found (sym (same 0 ∙ ap (slice_get whole) (let e : 0 + n ≡ n = omega arith in e))) h (test n kind) refl))
+
+  is_last : IsLast (0 + length whole) (latest_from test 0 None whole)
+  is_last = last_from whole 0 None (λ k. ap (slice_get whole) (let e : k ≡ k + 0 = omega arith in e)) (λ i kind le lt at. absurd (omega (arith, lt)))
 
 -- ---- among the types of a file, and in the table
 
@@ -84,55 +131,121 @@ module _ (kinds : List Kind) (ids : List ℕ) (own : ℕ) (t : Table) (h : AreFi
   abbrev serving : Kind → Bool
   serving kind = serves (at ids) params results kind
 
+  abbrev leading : ℕ → Kind → Bool
+  leading n kind = leads (at ids) n && serving kind
+
   -- a type that serves
   serves_so : (index : ℕ) (kind : Kind) → slice_get kinds index ≡ Some kind → serving kind ≡ true → (s : IsTypeAt ids own t index kind) × (s.item.kind ≡ wanted)
   serves_so index kind there passes = let s = h.stand index kind there in (s, s.kind_is ∙ (same-kind-law (renamed_kind (at ids) kind) wanted).0 passes)
 
-  -- a type of the file of this kind serves
-  served : (id : ℕ) (item : Item) → id < own → type_at t id ≡ Some item → item.kind ≡ wanted → is_some (latest_from serving 0 None kinds) ≡ true
-  served id item lt live is =
+  id_is : (index id : ℕ) → slice_get ids index ≡ Some id → at ids index ≡ id
+  id_is index id named = some_is (at ids index) id (sym (at_index ids index (slice_get_within ids index id named)) ∙ named)
+
+  -- a type of the file of this kind serves, by the first of its indices
+  record First (id : ℕ) : Type 0 where
+    index : ℕ
+    kind : Kind
+    there : slice_get kinds index ≡ Some kind
+    named : slice_get ids index ≡ Some id
+    passes : leading index kind ≡ true
+
+  first_of : (id : ℕ) (item : Item) → id < own → type_at t id ≡ Some item → item.kind ≡ wanted → First id
+  first_of id item lt live is =
       let named = h.only id item lt live in
       let size = h.sized in
       let within = slice_get_within ids named.0 id named.1 in
-      let k = item_in kinds named.0 (omega (arith, within, size)) in
-      let s = h.stand named.0 k.0 k.1 in
-      let one : s.id ≡ id = some_is s.id id (sym s.named ∙ named.1) in
+      let l = leader (at ids) (named.0 + 1) named.0 (omega arith) in
+      let low = l.before in
+      let k = item_in kinds l.first (omega (arith, within, size, low)) in
+      let s = h.stand l.first k.0 k.1 in
+      let one : s.id ≡ id = sym (id_is l.first s.id s.named) ∙ l.alike ∙ id_is named.0 id named.1 in
       let same : s.item ≡ item = some_is s.item item (sym s.live ∙ ap (type_at t) one ∙ live) in
-      let passes : serving k.0 ≡ true = (same-kind-law (renamed_kind (at ids) k.0) wanted).1 (sym s.kind_is ∙ ap (λ (x : Item). x.kind) same ∙ is) in
-      found_some serving kinds named.0 0 None k.0 k.1 passes
+      record {
+        index = l.first;
+        kind = k.0;
+        there = k.1;
+        named = s.named ∙ ap (λ (n : ℕ). Some n) one;
+        passes = and_from (leads (at ids) l.first) (serving k.0) l.leading ((same-kind-law (renamed_kind (at ids) k.0) wanted).1 (sym s.kind_is ∙ ap (λ (x : Item). x.kind) same ∙ is));
+      }
 
   abbrev Found : Option ℕ → Type 0
   Found o = MatchOption o ((id : ℕ) (item : Item) → type_at t id ≡ Some item → test (id, item) ≡ false) (IsLatest test t)
 
-  agree : (o : Option ℕ) → Found o → (l : Option ℕ) → latest_from serving 0 None kinds ≡ l → is_some (if_own own (option_map MultiValue o)) ≡ is_some l
+  -- what leads and serves has an id of the file's own that passes
+  served : (index : ℕ) → Passes leading kinds index → (kind : Kind) × (s : IsTypeAt ids own t index kind) × (s.item.kind ≡ wanted) × (leads (at ids) index ≡ true)
+  served index (kind, there, passes) =
+      let parts = and_parts (leads (at ids) index) (serving kind) passes in
+      let s = serves_so index kind there parts.1 in
+      (kind, s.0, s.1, parts.0)
+
+  abbrev Agree : Option ℕ → Option ℕ → Type 0
+  Agree o l = if_own own (option_map MultiValue o) ≡ option_map (λ n. MultiValue (at ids n)) l
+
+  -- of two types that serve and lead the one of the later id has the later index
+  latest_is : (id : ℕ) (last : IsLatest test t id) → First id → (index : ℕ) → IsLast leading kinds (0 + length kinds) (Some index) → at ids index ≡ id
+  latest_is id last f index (passes, fail) = go (cases_lt x id) (cases_lt index f.index)
+    where
+      v : (kind : Kind) × (s : IsTypeAt ids own t index kind) × (s.item.kind ≡ wanted) × (leads (at ids) index ≡ true)
+      v = served index passes
+
+      x : ℕ
+      x = v.1.id
+
+      here : at ids index ≡ x
+      here = id_is index x v.1.named
+
+      no_later : id < x → ⊥
+      no_later lt = true_false (test (x, v.1.item)) ((same-kind-law v.1.item.kind wanted).1 v.2) (last.latest x v.1.item lt v.1.live)
+
+      apart : f.index < index → (id < x) ⊎ ((k : ℕ) × (k < index) × (slice_get ids k ≡ Some x)) → at ids index ≡ id
+      apart less (inl later) = absurd (no_later later)
+      apart less (inr (k, before, named)) = absurd (leads_alone (at ids) index k v.3 before (id_is k x named ∙ sym here))
+
+      lower : f.index ≤ index → (f.index < index) ⊎ (index ≤ f.index) → at ids index ≡ id
+      lower low (inl less) = apart less (h.rising f.index index id x less f.named v.1.named)
+      lower low (inr le) = let e : index ≡ f.index = omega (arith, le, low) in ap (at ids) e ∙ id_is f.index id f.named
+
+      go : (x < id) ⊎ (id ≤ x) → (index < f.index) ⊎ (f.index ≤ index) → at ids index ≡ id
+      go (inr le) later = here ∙ eq (cases_lt id x)
+        where
+          eq : (id < x) ⊎ (x ≤ id) → x ≡ id
+          eq (inl lt) = absurd (no_later lt)
+          eq (inr more) = omega (arith, le, more)
+      go (inl lt) (inl later) = let within = slice_get_within kinds f.index f.kind f.there in true_false (leading f.index f.kind) f.passes (fail f.index f.kind (omega (arith, later)) (omega (arith, within)) f.there)
+      go (inl lt) (inr le) = lower le (cases_lt f.index index)
+
+  agree : (o : Option ℕ) → Found o → (l : Option ℕ) → IsLast leading kinds (0 + length kinds) l → Agree o l
   agree None none None e = refl
   agree None none (Some index) e =
-      let p : Passes serving kinds (Some index) = subst (Passes serving kinds) e (latest_passes serving kinds) in
-      let s = serves_so index p.0 p.1 p.2 in
-      true_false (test (s.0.id, s.0.item)) ((same-kind-law s.0.item.kind wanted).1 s.1) (none s.0.id s.0.item s.0.live)
+      let v = served index e.0 in
+      true_false (test (v.1.id, v.1.item)) ((same-kind-law v.1.item.kind wanted).1 v.2) (none v.1.id v.1.item v.1.live)
   agree (Some id) last l e = go (cases_lt id own)
     where
       is : last.item.kind ≡ wanted
       is = (same-kind-law last.item.kind wanted).0 last.passes
 
-      behind : own ≤ id → (l : Option ℕ) → latest_from serving 0 None kinds ≡ l → false ≡ is_some l
+      among : First id → (l : Option ℕ) → IsLast leading kinds (0 + length kinds) l → Some (MultiValue id) ≡ option_map (λ n. MultiValue (at ids n)) l
+      among f None e = let within = slice_get_within kinds f.index f.kind f.there in true_false (leading f.index f.kind) f.passes (e f.index f.kind (omega arith) (omega (arith, within)) f.there)
+      among f (Some index) e = ap (λ (n : ℕ). Some (MultiValue n)) (sym (latest_is id last f index e))
+
+      behind : own ≤ id → (l : Option ℕ) → IsLast leading kinds (0 + length kinds) l → None ≡ option_map (λ n. MultiValue (at ids n)) l
       behind le None e = refl
       behind le (Some index) e =
-          let p : Passes serving kinds (Some index) = subst (Passes serving kinds) e (latest_passes serving kinds) in
-          let s = serves_so index p.0 p.1 p.2 in
-          absurd (h.apart s.0.id id s.0.item last.item s.0.owned le s.0.live last.live (s.1 ∙ sym is))
+          let v = served index e.0 in
+          absurd (h.apart v.1.id id v.1.item last.item v.1.owned le v.1.live last.live (v.2 ∙ sym is))
 
-      go : (id < own) ⊎ (own ≤ id) → is_some (if_own own (Some (MultiValue id))) ≡ is_some l
-      go (inl lt) = rw (lt-ltb id own lt) (sym (served id last.item lt last.live is) ∙ ap (λ (o : Option ℕ). is_some o) e)
+      go : (id < own) ⊎ (own ≤ id) → Agree (Some id) l
+      go (inl lt) = rw (lt-ltb id own lt) (among (first_of id last.item lt last.live is) l e)
       go (inr le) = rw (le-ltb id own le) (behind le l e)
 
-  pub picks_agree : FindsLatest test t → is_some (if_own own (option_map MultiValue (found_type (map (renamed_value (at ids)) params) (map (renamed_value (at ids)) results) t))) ≡ is_some (latest_from serving 0 None kinds)
-  picks_agree finds = agree (latest_id test t) finds (latest_from serving 0 None kinds) refl
+  -- what the table finds among the file's own types is the id of the type that is found in the file
+  pub finds_own : FindsLatest test t → own_found own t (map (renamed_value (at ids)) params) (map (renamed_value (at ids)) results) ≡ option_map (λ n. MultiValue (at ids n)) (found_in (at ids) params results kinds)
+  finds_own finds = agree (latest_id test t) finds (found_in (at ids) params results kinds) (is_last leading kinds)
 
   -- what is found has the parameters and results that were looked for
-  pub latest_serves : (P : Option ℕ → Type 0) → P None → ((index : ℕ) (kind : Kind) → slice_get kinds index ≡ Some kind → renamed_kind (at ids) kind ≡ wanted → P (Some index)) → P (latest_from serving 0 None kinds)
-  latest_serves P none some = go (latest_from serving 0 None kinds) (latest_passes serving kinds)
+  pub found_serves : (P : Option ℕ → Type 0) → P None → ((index : ℕ) (kind : Kind) → slice_get kinds index ≡ Some kind → renamed_kind (at ids) kind ≡ wanted → P (Some index)) → P (found_in (at ids) params results kinds)
+  found_serves P none some = go (found_in (at ids) params results kinds) (is_last leading kinds)
     where
-      go : (l : Option ℕ) → Passes serving kinds l → P l
+      go : (l : Option ℕ) → IsLast leading kinds (0 + length kinds) l → P l
       go None p = none
-      go (Some index) p = some index p.0 p.1 ((same-kind-law (renamed_kind (at ids) p.0) wanted).0 p.2)
+      go (Some index) ((kind, there, passes), fail) = some index kind there ((same-kind-law (renamed_kind (at ids) kind) wanted).0 (and_parts (leads (at ids) index) (serving kind) passes).1)

@@ -5,7 +5,7 @@ use Rattle.walrus_arena.specs.Arena.{Arena, item_at}
 use Rattle.walrus_forms.specs.declared.value.ValType.{ValType}
 use Rattle.walrus_forms.specs.Forms.{Form, FunctionForm, StructForm, ArrayForm}
 use Rattle.walrus_types.specs.Items.{Item}
-use Rattle.walrus_types.specs.Table.{Table, type_at}
+use Rattle.walrus_types.specs.Table.{Table, type_at, found_type}
 use Rattle.walrus_instr.specs.BlockTypes.{picked}
 use Rattle.walrus_instr.specs.declared.seq.InstrSeqType.{InstrSeqType}
 use Rattle.walrus_instr.specs.declared.seq.InstrSeqType.TheVariants.{Simple, MultiValue}
@@ -38,6 +38,10 @@ is_own own (MultiValue id) = nat_lt id own
 abbrev pub if_own : ℕ → Option InstrSeqType → Option InstrSeqType
 if_own own None = None
 if_own own (Some ty) = if is_own own ty then Some ty else None
+
+-- the type that is found for parameters and results, if it is one of the file's own
+abbrev pub own_found : ℕ → Table → List ValType → List ValType → Option InstrSeqType
+own_found own t params results = if_own own (option_map MultiValue (found_type params results t))
 
 -- the block type that a written one picks, among the file's own types
 abbrev pub own_pick : ℕ → Table → List ValType → List ValType → Option InstrSeqType

@@ -1,5 +1,13 @@
 -- Bodies that are read into a module, in words of the grammar of bodies.
-use Rattle.std.specs.Prelude.{◌≡◌, ◌⊎◌, ℕ, List, Ok}
+use Rattle.std.specs.Prelude.{◌≡◌, ◌⊎◌, ℕ, List, map, Some, Ok}
+use Rattle.std.specs.Option.{option_map}
+use Rattle.walrus_forms.specs.declared.value.ValType.{ValType}
+use Rattle.walrus_forms.specs.Renaming.{at, renamed_value}
+use Rattle.walrus_instr.specs.declared.seq.InstrSeqType.{InstrSeqType}
+use Rattle.walrus_instr.specs.declared.seq.InstrSeqType.TheVariants.{MultiValue}
+use Rattle.walrus_collections.specs.walrus_local_function.walrus_body_locals.wasm_immediates.declared.block_type.BlockType.{BlockType}
+use Rattle.walrus_collections.specs.walrus_local_function.walrus_body_locals.wasm_grammar.States.{types_of}
+use Rattle.walrus_collections.specs.walrus_local_function.walrus_function_parser.walrus_body_rules.Sights.{written_block}
 use Rattle.wasm_reader.specs.Cursor.{Cursor, rest}
 use Rattle.walrus_builder.specs.Built.{Seq}
 use Rattle.walrus_index_maps.specs.Maps.{Ids}
@@ -7,7 +15,7 @@ use Rattle.walrus_body_parser.specs.wasm_operators.Operators.{Seen}
 use Rattle.walrus_body_parser.specs.walrus_body_steps.Meanings.{meaning}
 use Rattle.walrus_body_parser.specs.walrus_body_steps.Picks.{ArePicks}
 use Rattle.walrus_body_parser.specs.Points.{place_at, ops_from}
-use Rattle.walrus_collections.specs.walrus_local_function.walrus_body_locals.wasm_body_grammar.Rules.{Around}
+use Rattle.walrus_collections.specs.walrus_local_function.walrus_body_locals.wasm_body_grammar.Rules.{Around, found_in}
 use Rattle.walrus_collections.specs.walrus_local_function.walrus_body_locals.wasm_body_grammar.Bodies.{Run, body}
 use Rattle.walrus_collections.specs.walrus_local_function.walrus_body_locals.wasm_normal_form.Trees.{tree_of}
 use Rattle.walrus_collections.specs.walrus_local_function.walrus_body_locals.wasm_normal_form.Normal.{normal}
@@ -17,7 +25,8 @@ use Rattle.walrus_collections.specs.walrus_local_function.walrus_function_parser
 use Rattle.walrus_collections.specs.walrus_local_function.walrus_body_locals.walrus_body_nesting.wasm_formats.wasm_features.declared.WasmFeatures.{WasmFeatures}
 use Rattle.wasm_run_names.specs.Picks.{block_pick}
 use Rattle.walrus_module_env.specs.declared.env.ModuleEnv.{ModuleEnv}
-use Rattle.walrus_module_env.specs.Around.{sight_in, IsFiled}
+use Rattle.walrus_module_env.specs.Env.{own_found}
+use Rattle.walrus_module_env.specs.Around.{sight_in, block_named, IsFiled}
 
 -- the bytes are parsed as a body's runs of locals and its operators, and its sequences stand as the normal form of the operators' tree, in
 -- which block types are the grammar's picks
@@ -45,6 +54,16 @@ module _ {V : Type 0} (e : ModuleEnv) (function : ℕ) (i : Ids) (told : Telling
 abbrev pub FilesAreSeen : Type 0
 FilesAreSeen = (e : ModuleEnv) (i : Ids) (function locals : ℕ) (features : WasmFeatures) (a : Around) → IsFiled e i function locals features a → IsAround (sight_in e function i) features locals a
 
--- and the grammar's picks are its picks
+-- and the grammar's picks have its picks' types
 abbrev pub PicksAreSeen : Type 0
 PicksAreSeen = (e : ModuleEnv) (i : Ids) (function locals : ℕ) (features : WasmFeatures) (a : Around) → IsFiled e i function locals features a → ArePicks (sight_in e function i) (block_pick a)
+
+-- what its table finds for parameters and results, among the file's own types, is the type that is found in the file, by its id
+abbrev pub PicksAreNamed : Type 0
+PicksAreNamed = (e : ModuleEnv) (i : Ids) (function locals : ℕ) (features : WasmFeatures) (a : Around) → IsFiled e i function locals features a → (params results : List ValType)
+    → own_found e.own_types e.types.now (map (renamed_value (at i.types)) params) (map (renamed_value (at i.types)) results) ≡ option_map (λ n. MultiValue (at i.types n)) (found_in a.same params results (types_of a.filled))
+
+-- so the type of a block that is written so is the grammar's pick for it, by its id
+abbrev pub BlocksAreNamed : Type 0
+BlocksAreNamed = (e : ModuleEnv) (i : Ids) (function locals : ℕ) (features : WasmFeatures) (a : Around) → IsFiled e i function locals features a → (w : BlockType) (ty : InstrSeqType)
+    → written_block (sight_in e function i) w ≡ Some ty → block_named (sight_in e function i) (block_pick a w) ≡ Some ty
