@@ -6,17 +6,14 @@ use Rattle.wasm_body_grammar.specs.wasm_formats.declared.fault.Space.TheVariants
 use Rattle.wasm_body_grammar.specs.wasm_grammar.Modules.{Function, Origin, Imported, Own, Body, Module}
 use Rattle.wasm_body_grammar.specs.wasm_grammar.States.{State, types_of}
 use Rattle.wasm_sections.specs.Entities.{Entity, FunctionOf, TableOf, MemoryOf, GlobalOf, TagOf, ImportEntry, add_entity, with_import, import_of, TableEntry, add_table}
-use Rattle.wasm_sections.specs.TypeSection.{group}
 use Rattle.wasm_body_grammar.specs.Bodies.{most_locals}
 use Rattle.wasm_body_grammar.specs.Codes.{kind_params, param_count}
 use Rattle.wasm_body_grammar.specs.Rules.{Around}
 use Rattle.wasm_module_rules.specs.Linked.{Each}
-use Rattle.wasm_name_payloads.specs.Names.{body_locals, function_locals, first_slot, local_count}
+use Rattle.wasm_name_payloads.specs.Names.{body_locals, function_locals, first_slot}
 use Rattle.wasm_ruled_modules.specs.Keeping.{EntriesKeep, file_kept}
 use Rattle.wasm_ruled_modules.specs.Rules.{around_bodies, HasBody, OriginRuled}
 use Rattle.wasm_ruled_modules.specs.Reading.{read_modules_are_ruled}
-use Rattle.walrus_index_maps.specs.Maps.{Ids}
-use Rattle.walrus_names_into.specs.Numbered.{IsNumbered}
 use Rattle.walrus_local_counts.specs.Locals.{FewLocals, FewAreNumbered}
 use Rattle.walrus_local_counts.proofs.ParamLemmas.{AreFew, group_keeps, most_params}
 

@@ -1,6 +1,6 @@
 -- Lemmas: no function type that is spelled has more than 1,000 parameters.
-use Rattle.std.proofs.Common.{◌≡◌, ◌∙◌, ◌≤◌, ◌⊎◌, inl, inr, Bool, true, false, ℕ, suc, List, [], ◌∷◌, ◌++◌, length, Option, Some, None, IfSome, refl, sym, ap, subst, arith}
-use Rattle.std.specs.List.{filter_map, flat_map, cons_option}
+use Rattle.std.proofs.Common.{◌≡◌, ◌≤◌, inl, inr, Bool, true, false, ℕ, suc, List, [], ◌∷◌, ◌++◌, length, Option, Some, None, IfSome, refl, sym, ap, subst, arith}
+use Rattle.std.specs.List.{filter_map, cons_option}
 use Rattle.std.specs.Option.{option_map}
 use Rattle.std.proofs.lemmas.List.Concat.{flat_map-append}
 use Rattle.wasm_body_grammar.specs.wasm_formats.wasm_features.declared.WasmFeatures.{WasmFeatures}
@@ -19,11 +19,10 @@ use Rattle.wasm_body_grammar.specs.wasm_grammar.walrus_forms.Records.{TypeGroup}
 use Rattle.wasm_body_grammar.specs.wasm_formats.Bytes.{either_type}
 use Rattle.wasm_body_grammar.specs.wasm_formats.Led.{led}
 use Rattle.wasm_body_grammar.specs.wasm_formats.Lists.{SpellsEntries}
-use Rattle.wasm_body_grammar.specs.wasm_grammar.Modules.{Module}
 use Rattle.wasm_body_grammar.specs.wasm_grammar.States.{State, types_of}
 use Rattle.wasm_body_grammar.specs.wasm_grammar.TypeWords.{value_of}
 use Rattle.wasm_sections.specs.TypeNames.{both, told_all, field_of, form_of, composite_form, super_of, kind_of}
-use Rattle.wasm_sections.specs.TypeSection.{Measured, behind, measured, Explicit, explicit, GroupEntry, single, sub_apart, sub_some, sub_wants, rectype, placed, members, group, type_group, add_group}
+use Rattle.wasm_sections.specs.TypeSection.{Measured, behind, measured, explicit, GroupEntry, single, sub_apart, sub_some, sub_wants, rectype, placed, members, group, type_group, add_group}
 
 -- ---- types with few parameters
 
