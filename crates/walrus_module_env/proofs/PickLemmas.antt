@@ -149,24 +149,34 @@ module _ (kinds : List Kind) (ids : List ℕ) (own : ℕ) (t : Table) (h : AreFi
     named : slice_get ids index ≡ Some id
     passes : leading index kind ≡ true
 
-  first_of : (id : ℕ) (item : Item) → id < own → type_at t id ≡ Some item → item.kind ≡ wanted → First id
-  first_of id item lt live is =
-      let named = h.only id item lt live in
-      let size = h.sized in
-      let within = slice_get_within ids named.0 id named.1 in
-      let l = leader (at ids) (named.0 + 1) named.0 (omega arith) in
-      let low = l.before in
-      let k = item_in kinds l.first (omega (arith, within, size, low)) in
-      let s = h.stand l.first k.0 k.1 in
-      let one : s.id ≡ id = sym (id_is l.first s.id s.named) ∙ l.alike ∙ id_is named.0 id named.1 in
+  first_so : (id : ℕ) (item : Item) → type_at t id ≡ Some item → item.kind ≡ wanted → (index : ℕ) (kind : Kind) → slice_get kinds index ≡ Some kind → IsTypeAt ids own t index kind
+      → at ids index ≡ id → leads (at ids) index ≡ true → First id
+  first_so id item live is index kind there s alike leads =
+      let one : s.id ≡ id = sym (id_is index s.id s.named) ∙ alike in
       let same : s.item ≡ item = some_is s.item item (sym s.live ∙ ap (type_at t) one ∙ live) in
       record {
-        index = l.first;
-        kind = k.0;
-        there = k.1;
+        index = index;
+        kind = kind;
+        there = there;
         named = s.named ∙ ap (λ (n : ℕ). Some n) one;
-        passes = and_from (leads (at ids) l.first) (serving k.0) l.leading ((same-kind-law (renamed_kind (at ids) k.0) wanted).1 (sym s.kind_is ∙ ap (λ (x : Item). x.kind) same ∙ is));
+        passes = and_from _ (serving kind) leads ((same-kind-law (renamed_kind (at ids) kind) wanted).1 (sym s.kind_is ∙ ap (λ (x : Item). x.kind) same ∙ is));
       }
+
+  first_of : (id : ℕ) (item : Item) → id < own → type_at t id ≡ Some item → item.kind ≡ wanted → First id
+  first_of id item lt live is = go (h.only id item lt live)
+    where
+      of_kind : (index : ℕ) → at ids index ≡ id → leads (at ids) index ≡ true → (x : Kind) × (slice_get kinds index ≡ Some x) → First id
+      of_kind index alike leads (kind, there) = first_so id item live is index kind there (h.stand index kind there) alike leads
+
+      led : (n : ℕ) → slice_get ids n ≡ Some id → Leader (at ids) n → First id
+      led n named l =
+          let within = slice_get_within ids n id named in
+          let size = h.sized in
+          let low = l.before in
+          of_kind l.first (l.alike ∙ id_is n id named) l.leading (item_in kinds l.first (omega (arith, within, size, low)))
+
+      go : (n : ℕ) × (slice_get ids n ≡ Some id) → First id
+      go (n, named) = led n named (leader (at ids) (n + 1) n (omega arith))
 
   abbrev Found : Option ℕ → Type 0
   Found o = MatchOption o ((id : ℕ) (item : Item) → type_at t id ≡ Some item → test (id, item) ≡ false) (IsLatest test t)
