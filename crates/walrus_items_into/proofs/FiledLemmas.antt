@@ -1,5 +1,5 @@
 -- Lemmas: a module that a file filled, seen from bodies, and by its numbers.
-use Rattle.std.proofs.Common.{◌≡◌, ◌∙◌, ◌<◌, ◌≤◌, ℕ, zero, suc, ◌+◌, List, [], ◌∷◌, ◌++◌, length, map, slice_get, slice_index_or, Option, Some, None, refl, sym, ap, subst, inl, inr, arith}
+use Rattle.std.proofs.Common.{◌≡◌, ◌∙◌, ◌<◌, ◌≤◌, ℕ, zero, suc, List, [], ◌∷◌, ◌++◌, length, map, slice_get, slice_index_or, Option, Some, None, refl, sym, ap, subst, inl, inr, arith}
 use Rattle.std.proofs.lemmas.Bool.{cases_lt}
 use Rattle.std.specs.Option.{option_map, option_and_then}
 use Rattle.std.specs.List.{flat_map}
@@ -30,7 +30,7 @@ use Rattle.walrus_tables_into.specs.walrus_section_values.Globals.{global_of}
 use Rattle.walrus_tables_into.specs.walrus_sections_into.walrus_known_sections.State.{state_of}
 use Rattle.walrus_tables_into.specs.walrus_sections_into.walrus_module_items.declared.memory.Memory.{Memory}
 use Rattle.walrus_tables_into.specs.walrus_sections_into.Numbers.{upto}
-use Rattle.walrus_tables_into.specs.walrus_sections_into.Slots.{Become, Filled, IsMemoryOf}
+use Rattle.walrus_tables_into.specs.walrus_sections_into.Slots.{Become, IsMemoryOf}
 use Rattle.walrus_items_into.specs.Filled.{IsFilledFrom}
 use Rattle.walrus_items_into.specs.Numbers.{types_in}
 use Rattle.walrus_items_into.specs.Spaces.{Spaces}

@@ -1,5 +1,5 @@
 -- Lemmas: what the parts say of a new module, put together.
-use Rattle.std.proofs.Common.{◌≡◌, ◌∙◌, ℕ, zero, suc, ◌+◌, List, [], ◌∷◌, ◌++◌, length, Option, Some, Result, Ok, Err, IfOk, refl, sym, ap, subst, arith}
+use Rattle.std.proofs.Common.{◌≡◌, ◌∙◌, ℕ, zero, suc, ◌+◌, List, [], ◌∷◌, ◌++◌, length, Option, Result, Ok, Err, IfOk, refl, sym, ap, subst, arith}
 use Rattle.std.specs.List.{range_with_len}
 use Rattle.walrus_types.specs.Table.{Table}
 use Rattle.walrus_types.specs.Parsing.{AreBelow, parsed, unparsed}
@@ -25,7 +25,7 @@ use Rattle.walrus_tables_into.specs.Elements.{IsElementOf}
 use Rattle.walrus_tables_into.specs.Customs.{IsCustomOf}
 use Rattle.walrus_items_into.specs.Filled.{AreRead, IsFilledFrom, IsNew}
 use Rattle.walrus_items_into.specs.Numbers.{numbers_of, types_in, with_items}
-use Rattle.walrus_items_into.specs.Spaces.{Spaces, spaces}
+use Rattle.walrus_items_into.specs.Spaces.{Spaces}
 
 -- ---- what is asked
 

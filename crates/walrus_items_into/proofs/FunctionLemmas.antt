@@ -1,6 +1,5 @@
 -- Lemmas: the functions of a module that a file filled.
-use Rattle.std.proofs.Common.{◌≡◌, ◌∙◌, ℕ, List, Option, sym, ap, subst}
-use Rattle.wasm_sections.specs.Laws.{ReadsSections}
+use Rattle.std.proofs.Common.{◌≡◌, ◌∙◌, List, Option, sym, ap, subst}
 use Rattle.wasm_module_rules.specs.Linked.{Each}
 use Rattle.walrus_types.specs.Table.{Table, IsFunctionType}
 use Rattle.walrus_types_into.specs.Into.{TypesNameBelow, NewTypesStand}
@@ -17,7 +16,7 @@ use Rattle.walrus_items_into.specs.Numbers.{types_in}
 pub functions_stand : {B : Type 0} → TypesNameBelow → NewTypesStand → ReadFunctionsStand → ReadBodiesArePaired → FilledFunctionsStand B
 functions_stand names stand functions bodies features bytes s begin i m reads f =
     let named : functions_from (types_in s).ids 0 s.functions.items ≡ m.functions.slots =
-        sym (f.functions ∙ ap (λ (j : Ids). functions_from j.types 0 s.functions.items) f.numbers) in
+    sym (f.functions ∙ ap (λ (j : Ids). functions_from j.types 0 s.functions.items) f.numbers) in
     let typed = (functions features bytes s (types_in s).ids (types_in s).table 0 reads (stand s.types (names features bytes (state_of s) reads))).1 in
     let live = subst (λ (t : Table). Each (λ (f : Function). IsFunctionType t (type_of f.kind)) (functions_from (types_in s).ids 0 s.functions.items)) (sym f.types) typed in record {
       typed = subst (λ (slots : List (Option Function)). Each (λ (f : Function). IsFunctionType m.types (type_of f.kind)) slots) named live;

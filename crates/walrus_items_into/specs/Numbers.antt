@@ -1,6 +1,6 @@
 -- What the numbers of a file name in a module that began empty: each type has the id of what stands for it, and the other items have the
 -- ids 0, 1 and on, in the file's order.
-use Rattle.std.specs.Prelude.{ℕ, List, ◌++◌, length}
+use Rattle.std.specs.Prelude.{◌++◌, length}
 use Rattle.walrus_tables_into.specs.walrus_sections_into.walrus_index_maps.Maps.{Ids, no_ids}
 use Rattle.walrus_types.specs.Parsing.{Parsed, parsed, unparsed}
 use Rattle.walrus_types_into.specs.Into.{no_types}

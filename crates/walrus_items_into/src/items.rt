@@ -7,16 +7,16 @@ ghost use Rattle.walrus_items_into.specs.Spaces.{spaces};
 
 use crate::numbers::number_items;
 use std::alloc::Global;
+use walrus_functions_into::add_functions;
+use walrus_functions_into::laws::read_functions_stand;
+use walrus_tables_into::sections::Sections as CustomSections;
 use walrus_tables_into::sections_into::arena::FunctionId;
 use walrus_tables_into::sections_into::collections::{
     ModuleData, ModuleElements, ModuleExports, ModuleFunctions, ModuleGlobals, ModuleImports,
     ModuleMemories, ModuleTables, ModuleTags,
 };
-use walrus_functions_into::add_functions;
-use walrus_functions_into::laws::read_functions_stand;
 use walrus_tables_into::sections_into::index_maps::IndicesToIds;
 use walrus_tables_into::sections_into::known_sections::Sections;
-use walrus_tables_into::sections::Sections as CustomSections;
 use walrus_tables_into::sections_into::{
     IntoError, add_exports, add_imports, add_memories, add_segments, add_tags, read_start,
 };
