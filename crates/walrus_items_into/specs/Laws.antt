@@ -1,5 +1,6 @@
 -- Laws of modules that the sections of a file have filled.
-use Rattle.std.specs.Prelude.{ℕ, ◌<◌, ◌≡◌, List, length, Option}
+use Rattle.std.specs.Prelude.{ℕ, ◌+◌, ◌<◌, ◌≡◌, List, [], length, slice_get, Option, Some}
+use Rattle.std.specs.List.{AllZip}
 use Rattle.std.specs.Option.{is_some}
 use Rattle.walrus_tables_into.specs.walrus_sections_into.walrus_collections.walrus_local_function.walrus_body_locals.walrus_body_nesting.wasm_formats.wasm_features.declared.WasmFeatures.{WasmFeatures}
 use Rattle.wasm_sections.specs.Laws.{ReadsSections}
@@ -15,8 +16,10 @@ use Rattle.walrus_tables_into.specs.walrus_sections_into.walrus_index_maps.Maps.
 use Rattle.walrus_tables_into.specs.walrus_sections_into.walrus_known_sections.declared.sections.Sections.{Sections}
 use Rattle.walrus_tables_into.specs.walrus_sections_into.walrus_known_sections.State.{state_of}
 use Rattle.wasm_module_rules.specs.Linked.{Each}
-use Rattle.walrus_functions_into.specs.Bodies.{bodiless}
-use Rattle.walrus_functions_into.specs.Laws.{ArePaired}
+use Rattle.walrus_functions_into.specs.Bodies.{bodiless, paired}
+use Rattle.walrus_functions_into.specs.declared.bodies.FunctionBody.{FunctionBody}
+use Rattle.walrus_functions_into.specs.Laws.{ArePaired, code_of, read_bodies}
+use Rattle.walrus_tables_into.specs.walrus_sections_into.walrus_known_sections.declared.items.Function.{Function as ReadFunction}
 use Rattle.walrus_tables_into.specs.walrus_sections_into.walrus_module_items.declared.function.Function.{Function}
 use Rattle.walrus_tables_into.specs.walrus_sections_into.walrus_module_items.Functions.{type_of}
 use Rattle.walrus_items_into.specs.Filled.{IsFilledFrom}
@@ -55,3 +58,14 @@ pub record FunctionsStand {B : Type 0} (s : Sections) (m : Spaces B) : Type 0 wh
 abbrev pub FilledFunctionsStand : Type 0 → Type 0
 FilledFunctionsStand B = (features : WasmFeatures) (bytes : List ℕ) (s : Sections) (begin : Option ℕ) (i : Ids) (m : Spaces B)
     → ReadsSections features bytes (state_of s) → IsFilledFrom s begin i m → FunctionsStand s m
+
+-- each function with a body names its parameters and as many locals more as the body declares; an imported one names none
+pub record NamesLocals {B : Type 0} (s : Sections) (m : Spaces B) (bodies : List Body) (j : Ids) : Type 0 where
+  pub own : AllZip (λ (b : FunctionBody) (x : Body). length (j.locals b.number) ≡ (code_of s b).params + length x.locals) (paired (bodiless m.functions) (read_bodies s.bodies)) bodies
+  pub imported : (function n : ℕ) (f : ReadFunction) → slice_get s.functions.items function ≡ Some f → f.import ≡ Some n → j.locals function ≡ []
+
+-- these are as many as the function has in the file's module
+abbrev pub NamedLocalsCount : Type 0 → Type 0
+NamedLocalsCount B = (features : WasmFeatures) (bytes : List ℕ) (s : Sections) (begin : Option ℕ) (i j : Ids) (m : Spaces B) (bodies : List Body)
+    → ReadsSections features bytes (state_of s) → IsFilledFrom s begin i m → NamesLocals s m bodies j
+    → (function : ℕ) → function < length s.functions.items → length (j.locals function) ≡ local_count (module_of (state_of s) bodies) function

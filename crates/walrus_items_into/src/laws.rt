@@ -1,6 +1,6 @@
 //! Laws: functions with nothing to do, whose contracts hold of all modules that files have filled.
 
-ghost use Rattle.walrus_items_into.specs.Laws.{FilledFunctionsStand, FilledModulesAreFiled, FilledModulesAreNumbered};
+ghost use Rattle.walrus_items_into.specs.Laws.{FilledFunctionsStand, FilledModulesAreFiled, FilledModulesAreNumbered, NamedLocalsCount};
 
 use walrus_functions_into::laws::{read_bodies_are_paired, read_functions_stand};
 use walrus_module_env::laws::read_types_are_filed;
@@ -29,5 +29,12 @@ pub fn filled_functions_stand<B>()
     types_name_below();
     new_types_stand();
     read_functions_stand();
+    read_bodies_are_paired();
+}
+
+/// Functions of which bodies and parameters name the locals name as many as they have in the file's module.
+pub fn named_locals_count<B>()
+    ensures { NamedLocalsCount B }
+{
     read_bodies_are_paired();
 }
