@@ -1,0 +1,113 @@
+-- Lemmas: what the parts say of a new module, put together.
+use Rattle.std.proofs.Common.{◌≡◌, ◌∙◌, ℕ, zero, suc, ◌+◌, List, [], ◌∷◌, ◌++◌, length, Option, Result, Ok, Err, IfOk, refl, sym, ap, subst, arith}
+use Rattle.std.specs.List.{range_with_len}
+use Rattle.walrus_types.specs.Table.{Table}
+use Rattle.walrus_types.specs.Parsing.{AreBelow, parsed, unparsed}
+use Rattle.walrus_types_into.specs.Into.{no_types, with_types, TypesNameBelow, NewTypesStand}
+use Rattle.walrus_functions_into.specs.Functions.{AreTyped, functions_from, with_functions}
+use Rattle.walrus_functions_into.specs.Laws.{ReadFunctionsStand}
+use Rattle.walrus_tables_into.specs.walrus_sections_into.walrus_index_maps.Maps.{Ids, no_ids}
+use Rattle.walrus_tables_into.specs.walrus_sections_into.walrus_known_sections.declared.items.Function.{Function as ReadFunction}
+use Rattle.walrus_tables_into.specs.walrus_sections_into.walrus_known_sections.declared.sections.Sections.{Sections}
+use Rattle.walrus_tables_into.specs.walrus_sections_into.walrus_known_sections.State.{state_of}
+use Rattle.walrus_tables_into.specs.walrus_sections_into.Numbers.{upto}
+use Rattle.walrus_tables_into.specs.walrus_sections_into.walrus_module_items.declared.function.Function.{Function}
+use Rattle.walrus_tables_into.specs.walrus_sections_into.declared.error.IntoError.{IntoError}
+use Rattle.walrus_tables_into.specs.walrus_sections_into.Becomes.{look_of}
+use Rattle.walrus_tables_into.specs.walrus_sections_into.Slots.{Filled, IsMemoryOf}
+use Rattle.walrus_tables_into.specs.walrus_sections_into.Imports.{IsImportOf}
+use Rattle.walrus_tables_into.specs.walrus_sections_into.Tags.{IsTagOf}
+use Rattle.walrus_tables_into.specs.walrus_sections_into.Exports.{IsExportOf, StartBecomes}
+use Rattle.walrus_tables_into.specs.walrus_sections_into.Segments.{IsSegmentOf}
+use Rattle.walrus_tables_into.specs.Tables.{IsTableOf}
+use Rattle.walrus_tables_into.specs.Globals.{IsGlobalOf}
+use Rattle.walrus_tables_into.specs.Elements.{IsElementOf}
+use Rattle.walrus_tables_into.specs.Customs.{IsCustomOf}
+use Rattle.walrus_items_into.specs.Filled.{AreRead, IsFilledFrom, IsNew}
+use Rattle.walrus_items_into.specs.Numbers.{numbers_of, types_in, with_items}
+use Rattle.walrus_items_into.specs.Spaces.{Spaces}
+
+-- ---- what is asked
+
+pub below : (s : Sections) → TypesNameBelow → AreRead s → AreBelow 0 s.types
+below s law read = law read.0 read.1 (state_of s) read.2
+
+-- each function names a type of the file
+pub typed : (s : Sections) → TypesNameBelow → NewTypesStand → ReadFunctionsStand → AreRead s → AreTyped (types_in s).ids s.functions.items
+typed s names stand functions read =
+    (functions read.0 read.1 s (types_in s).ids (types_in s).table 0 read.2 (stand s.types (below s names read))).0
+
+-- and so it does of the map
+pub typed_there : (s : Sections) (i j : Ids) (t : Table) (reads : List ReadFunction) → i ≡ no_ids → t ≡ no_types → j ≡ with_types (parsed s.types (unparsed t)).ids i → reads ≡ s.functions.items
+    → AreTyped (types_in s).ids s.functions.items → AreTyped j.types reads
+typed_there s i j t reads none empty same whole h = rw (same, none, empty, whole) h
+
+-- ---- numbers
+
+one_more : (a n : ℕ) → range_with_len a (suc n) ≡ range_with_len a n ++ (a + n) ∷ []
+one_more a zero = let e : a ≡ a + 0 = omega arith in ap (λ (m : ℕ). m ∷ []) e
+one_more a (suc n) =
+    let e : a + 1 + n ≡ a + suc n = omega arith in
+    ap (λ (l : List ℕ). a ∷ l) (one_more (a + 1) n ∙ ap (λ (m : ℕ). range_with_len (a + 1) n ++ m ∷ []) e)
+
+counted : (n : ℕ) → range_with_len 0 n ≡ upto n
+counted zero = refl
+counted (suc n) = let e : 0 + n ≡ n = omega arith in one_more 0 n ∙ ap (λ (m : ℕ). range_with_len 0 n ++ m ∷ []) e ∙ ap (λ (l : List ℕ). l ++ n ∷ []) (counted n)
+
+-- the map behind types, functions and the other items
+pub numbered : {A : Type 0} (s : Sections) (i j k l : Ids) (t : Table) (first : List A) → i ≡ no_ids → t ≡ no_types → first ≡ [] → j ≡ with_types (parsed s.types (unparsed t)).ids i
+    → k ≡ with_functions (length first) (length s.functions.items) j → l ≡ with_items s k → l ≡ numbers_of s
+numbered s i j k l t first none empty no_function types functions items =
+    rw (items, functions, types, no_function, empty, none) (ap (λ (numbers : List ℕ). record (numbers_of s) { functions = numbers }) (counted (length s.functions.items)))
+
+-- ---- all of it
+
+-- what was added is what was read
+pub over : {X Y : Type 0} {R : X → Y → Type 0} {xs ys : List X} {old new : List (Option Y)} → ys ≡ xs → Filled R ys old new → Filled R xs old new
+over {X} {Y} {R} {xs} {ys} {old} {new} e h = subst (λ (xs : List X). Filled R xs old new) e h
+
+emptied : {X Y : Type 0} (R : X → Y → Type 0) (xs : List X) (old new : List (Option Y)) → old ≡ [] → Filled R xs old new → Filled R xs [] new
+emptied {X} {Y} R xs old new e h = subst (λ (slots : List (Option Y)). Filled R xs slots new) e h
+
+functions_are : (reads all : List ReadFunction) (types others : List ℕ) (old new : List (Option Function)) → old ≡ [] → reads ≡ all → types ≡ others
+    → new ≡ old ++ functions_from types (length old) reads → new ≡ functions_from others 0 all
+functions_are reads all types others old new e whole same h = h ∙ rw (e, whole, same) refl
+
+module _ {B : Type 0} (s : Sections) (i j k l : Ids) (old new : Spaces B) (fresh : IsNew i old) where
+  pub filled : (reads : List ReadFunction) → reads ≡ s.functions.items
+      → j ≡ with_types (parsed s.types (unparsed old.types)).ids i
+      → new.types ≡ (parsed s.types (unparsed old.types)).table
+      → new.functions.slots ≡ old.functions.slots ++ functions_from j.types (length old.functions.slots) reads
+      → k ≡ with_functions (length old.functions.slots) (length reads) j
+      → l ≡ with_items s k
+      → Filled (IsImportOf (look_of l)) s.imports.items old.imports.slots new.imports.slots
+      → Filled (IsTableOf (look_of l)) s.tables.items old.tables.slots new.tables.slots
+      → Filled IsMemoryOf s.memories.items old.memories.slots new.memories.slots
+      → Filled (IsTagOf (look_of l)) s.tags.items old.tags.slots new.tags.slots
+      → Filled (IsGlobalOf (look_of l)) s.globals.items old.globals.slots new.globals.slots
+      → Filled (IsExportOf (look_of l)) s.exports.items old.exports.slots new.exports.slots
+      → Filled (IsElementOf (look_of l)) s.elements.items old.elements.slots new.elements.slots
+      → Filled (IsSegmentOf (look_of l)) s.segments.items old.segments.slots new.segments.slots
+      → Filled IsCustomOf s.customs.items old.customs.slots new.customs.slots
+      → (begin : Option ℕ) → StartBecomes (look_of l) s.start begin → IsFilledFrom s begin l new
+  filled reads whole types table functions numbers items imports tables memories tags globals exports elements segments customs begin start = record {
+    numbers = numbered s i j k l old.types old.functions.slots fresh.numbers fresh.types fresh.functions types
+        (numbers ∙ ap (λ (reads : List ReadFunction). with_functions (length old.functions.slots) (length reads) j) whole) items;
+    types = table ∙ ap (λ (t : Table). (parsed s.types (unparsed t)).table) fresh.types;
+    functions = functions_are reads s.functions.items j.types l.types old.functions.slots new.functions.slots fresh.functions whole
+        (sym (ap (λ (m : Ids). m.types) items ∙ ap (λ (m : Ids). m.types) numbers)) functions;
+    imports = emptied (IsImportOf (look_of l)) s.imports.items old.imports.slots new.imports.slots fresh.imports imports;
+    tables = emptied (IsTableOf (look_of l)) s.tables.items old.tables.slots new.tables.slots fresh.tables tables;
+    memories = emptied IsMemoryOf s.memories.items old.memories.slots new.memories.slots fresh.memories memories;
+    tags = emptied (IsTagOf (look_of l)) s.tags.items old.tags.slots new.tags.slots fresh.tags tags;
+    globals = emptied (IsGlobalOf (look_of l)) s.globals.items old.globals.slots new.globals.slots fresh.globals globals;
+    exports = emptied (IsExportOf (look_of l)) s.exports.items old.exports.slots new.exports.slots fresh.exports exports;
+    elements = emptied (IsElementOf (look_of l)) s.elements.items old.elements.slots new.elements.slots fresh.elements elements;
+    segments = emptied (IsSegmentOf (look_of l)) s.segments.items old.segments.slots new.segments.slots fresh.segments segments;
+    customs = emptied IsCustomOf s.customs.items old.customs.slots new.customs.slots fresh.customs customs;
+    start = start;
+  }
+
+pub on_start : (P Q : Option ℕ → Type 0) (result : Result (Option ℕ) IntoError) → ((start : Option ℕ) → P start → Q start) → IfOk result P → IfOk result Q
+on_start P Q (Ok start) h p = h start p
+on_start P Q (Err e) h p = p

@@ -1,0 +1,4 @@
+mod CountLemmas
+mod FillLemmas
+mod FiledLemmas
+mod FunctionLemmas

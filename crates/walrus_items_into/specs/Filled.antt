@@ -1,0 +1,58 @@
+-- Collections of a module, and index maps, that the sections of a file have filled.
+use Rattle.std.specs.Prelude.{ℕ, ◌≡◌, List, [], Option}
+use Rattle.walrus_tables_into.specs.walrus_sections_into.walrus_collections.walrus_local_function.walrus_body_locals.walrus_body_nesting.wasm_formats.wasm_features.declared.WasmFeatures.{WasmFeatures}
+use Rattle.wasm_sections.specs.Laws.{ReadsSections}
+use Rattle.walrus_tables_into.specs.walrus_sections_into.walrus_index_maps.Maps.{Ids, no_ids}
+use Rattle.walrus_types_into.specs.Into.{no_types}
+use Rattle.walrus_tables_into.specs.walrus_sections_into.walrus_known_sections.declared.sections.Sections.{Sections}
+use Rattle.walrus_tables_into.specs.walrus_sections_into.walrus_known_sections.State.{state_of}
+use Rattle.walrus_functions_into.specs.Functions.{functions_from}
+use Rattle.walrus_tables_into.specs.walrus_sections_into.Becomes.{look_of}
+use Rattle.walrus_tables_into.specs.walrus_sections_into.Slots.{Filled, IsMemoryOf}
+use Rattle.walrus_tables_into.specs.walrus_sections_into.Imports.{IsImportOf}
+use Rattle.walrus_tables_into.specs.walrus_sections_into.Tags.{IsTagOf}
+use Rattle.walrus_tables_into.specs.walrus_sections_into.Exports.{IsExportOf, StartBecomes}
+use Rattle.walrus_tables_into.specs.walrus_sections_into.Segments.{IsSegmentOf}
+use Rattle.walrus_tables_into.specs.Tables.{IsTableOf}
+use Rattle.walrus_tables_into.specs.Globals.{IsGlobalOf}
+use Rattle.walrus_tables_into.specs.Elements.{IsElementOf}
+use Rattle.walrus_tables_into.specs.Customs.{IsCustomOf}
+use Rattle.walrus_items_into.specs.Spaces.{Spaces}
+use Rattle.walrus_items_into.specs.Numbers.{numbers_of, types_in}
+
+-- they are those of a file
+abbrev pub AreRead : Sections → Type 0
+AreRead s = (features : WasmFeatures) × (bytes : List ℕ) × ReadsSections features bytes (state_of s)
+
+module _ {B : Type 0} where
+  -- nothing was there, and no number names anything
+  pub record IsNew (i : Ids) (m : Spaces B) : Type 0 where
+    pub numbers : i ≡ no_ids
+    pub types : m.types ≡ no_types
+    pub imports : m.imports.slots ≡ []
+    pub functions : m.functions.slots ≡ []
+    pub tables : m.tables.slots ≡ []
+    pub memories : m.memories.slots ≡ []
+    pub tags : m.tags.slots ≡ []
+    pub globals : m.globals.slots ≡ []
+    pub exports : m.exports.slots ≡ []
+    pub elements : m.elements.slots ≡ []
+    pub segments : m.segments.slots ≡ []
+    pub customs : m.customs.slots ≡ []
+
+  -- each number of the file names the item that it became: the types are those of the file in a new table, the functions have their types
+  -- and no bodies, and the items of each other space fill its slots in the file's order, each the same, but that a name is an id
+  pub record IsFilledFrom (s : Sections) (begin : Option ℕ) (i : Ids) (m : Spaces B) : Type 0 where
+    pub numbers : i ≡ numbers_of s
+    pub types : m.types ≡ (types_in s).table
+    pub functions : m.functions.slots ≡ functions_from i.types 0 s.functions.items
+    pub imports : Filled (IsImportOf (look_of i)) s.imports.items [] m.imports.slots
+    pub tables : Filled (IsTableOf (look_of i)) s.tables.items [] m.tables.slots
+    pub memories : Filled IsMemoryOf s.memories.items [] m.memories.slots
+    pub tags : Filled (IsTagOf (look_of i)) s.tags.items [] m.tags.slots
+    pub globals : Filled (IsGlobalOf (look_of i)) s.globals.items [] m.globals.slots
+    pub exports : Filled (IsExportOf (look_of i)) s.exports.items [] m.exports.slots
+    pub elements : Filled (IsElementOf (look_of i)) s.elements.items [] m.elements.slots
+    pub segments : Filled (IsSegmentOf (look_of i)) s.segments.items [] m.segments.slots
+    pub customs : Filled IsCustomOf s.customs.items [] m.customs.slots
+    pub start : StartBecomes (look_of i) s.start begin

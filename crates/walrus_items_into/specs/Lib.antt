@@ -1,0 +1,4 @@
+pub mod Spaces
+pub mod Numbers
+pub mod Filled
+pub mod Laws

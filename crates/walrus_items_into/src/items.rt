@@ -1,0 +1,71 @@
+//! The items of a file.
+
+ghost use Rattle.std.specs.Prelude.{IfOk};
+ghost use Rattle.walrus_tables_into.specs.walrus_sections_into.walrus_index_maps.Views.{ids};
+ghost use Rattle.walrus_items_into.specs.Filled.{AreRead, IsFilledFrom, IsNew};
+ghost use Rattle.walrus_items_into.specs.Spaces.{spaces};
+
+use crate::numbers::number_items;
+use std::alloc::Global;
+use walrus_functions_into::add_functions;
+use walrus_functions_into::laws::read_functions_stand;
+use walrus_tables_into::sections::Sections as CustomSections;
+use walrus_tables_into::sections_into::arena::FunctionId;
+use walrus_tables_into::sections_into::collections::{
+    ModuleData, ModuleElements, ModuleExports, ModuleFunctions, ModuleGlobals, ModuleImports,
+    ModuleMemories, ModuleTables, ModuleTags,
+};
+use walrus_tables_into::sections_into::index_maps::IndicesToIds;
+use walrus_tables_into::sections_into::known_sections::Sections;
+use walrus_tables_into::sections_into::{
+    IntoError, add_exports, add_imports, add_memories, add_segments, add_tags, read_start,
+};
+use walrus_tables_into::{add_customs, add_elements, add_globals, add_tables};
+use walrus_types::ModuleTypes;
+use walrus_types_into::laws::{new_types_stand, types_name_below};
+use walrus_types_into::read_types_into;
+
+/// Fills the collections of a new module with what was read of a file, and gives its start function, if it has one: types first, then
+/// functions, which have no bodies yet, and when each number names its item all that names items. Asks for the sections of a file that
+/// was read, and for collections and a map in which nothing was yet.
+///
+/// # Errors
+///
+/// Want of memory; `Unknown` where a number names nothing, or an operator isn't constant. Some of the items may be there.
+pub fn read_items<B: Drop>(
+    alloc: Global,
+    sections: &Sections<'_>,
+    maps: &mut IndicesToIds,
+    types: &mut ModuleTypes,
+    imports: &mut ModuleImports,
+    functions: &mut ModuleFunctions,
+    tables: &mut ModuleTables,
+    memories: &mut ModuleMemories,
+    tags: &mut ModuleTags,
+    globals: &mut ModuleGlobals,
+    exports: &mut ModuleExports,
+    elements: &mut ModuleElements,
+    segments: &mut ModuleData,
+    customs: &mut CustomSections<B>,
+) -> Result<Option<FunctionId>, IntoError>
+    requires read { AreRead sections.now }
+    requires new { IsNew (ids maps.old) (spaces types.old imports.old functions.old tables.old memories.old tags.old globals.old exports.old elements.old segments.old customs.old) }
+    ensures { IfOk result (λ start. IsFilledFrom sections.now start (ids maps.new) (spaces types.new imports.new functions.new tables.new memories.new tags.new globals.new exports.new elements.new segments.new customs.new)) }
+{
+    types_name_below();
+    new_types_stand();
+    read_functions_stand();
+    read_types_into(&sections.types, types, maps)?;
+    add_functions(sections.functions.as_slice(), maps, functions)?;
+    number_items(sections, maps)?;
+    add_imports(sections.imports.as_slice(), maps, imports)?;
+    add_tables(alloc, sections.tables.as_slice(), maps, tables)?;
+    add_memories(sections.memories.as_slice(), memories)?;
+    add_tags(sections.tags.as_slice(), maps, tags)?;
+    add_globals(alloc, sections.globals.as_slice(), maps, globals)?;
+    add_exports(sections.exports.as_slice(), maps, exports)?;
+    add_elements(alloc, sections.elements.as_slice(), maps, elements)?;
+    add_segments(alloc, sections.segments.as_slice(), maps, segments)?;
+    add_customs(sections.customs.as_slice(), customs)?;
+    read_start(sections.start, maps)
+}

@@ -1,0 +1,2 @@
+mod LocalLemmas
+mod ParamLemmas
