@@ -1,1 +1,5 @@
 pub mod FunctionLemmas
+pub mod ItemLemmas
+pub mod ExpressionLemmas
+pub mod ModuleLemmas
+pub mod Seeing
