@@ -17,15 +17,15 @@ all_same : (g : List TypeGroup) (i i' : List (Option grammar.Import)) (f f' : Li
 all_same g i i' f f' t t' m m' a a' b b' x x' s s' e e' d d' p1 p2 p3 p4 p5 p6 p7 p8 p9 p10 = rw (p1, p2, p3, p4, p5, p6, p7, p8, p9, p10) refl
 
 pub module_means : ModuleMeans
-module_means features s look m fit stay h =
+module_means features s look m spelled stay h =
     all_same (own_groups m.types) _ _ _ _ _ _ _ _ _ _ _ _ _ _ _ _ _ _ _ _
     (imports_mean s look m.imports stay h.imports)
     (functions_mean s look m.locals m.funcs h.functions)
-    (tables_mean features s look m.tables fit stay h.tables)
+    (tables_mean features s look m.tables spelled stay h.tables)
     (memories_mean s m.memories h.memories)
     (tags_mean s look m.tags h.tags)
-    (globals_mean features s look m.globals fit stay h.globals)
+    (globals_mean features s look m.globals spelled stay h.globals)
     (exports_mean s look m.exports stay h.exports)
     (start_means s look m.start stay h.start)
-    (elements_mean features s look m.elements fit stay h.elements)
-    (segments_mean features s look m.data_segments fit stay h.segments)
+    (elements_mean features s look m.elements spelled stay h.elements)
+    (segments_mean features s look m.data_segments spelled stay h.segments)

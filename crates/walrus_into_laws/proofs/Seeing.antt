@@ -8,7 +8,7 @@ use Rattle.walrus_tables_into.specs.walrus_sections_into.walrus_pairing.Looks.{L
 use Rattle.walrus_tables_into.specs.walrus_sections_into.wasm_immediates.Items.{Space, Types, Functions, Tables, Memories, Tags, Globals, ElementSegments, DataSegments, Locals, Labels}
 use Rattle.walrus_tables_into.specs.walrus_sections_into.Becomes.{renames_by}
 use Rattle.walrus_tables_into.specs.walrus_sections_into.Slots.{Become, Filled, filled_seen}
-use Rattle.wasm_expr_ranges.specs.wasm_module_rules.Linked.{Each}
+use Rattle.wasm_module_rules.specs.Linked.{Each}
 use Rattle.walrus_into_laws.specs.Renamed.{by_types, each}
 use Rattle.walrus_into_laws.specs.Meaning.{type_id, OthersStay}
 

@@ -3,7 +3,7 @@
 use Rattle.std.specs.Prelude.{ℕ, ◌≡◌, ◌≢◌, List, [], Option, Some, string_bytes}
 use Rattle.walrus_arena.specs.Arena.{Arena}
 use Rattle.wasm_grammar.specs.Modules.{Custom}
-use Rattle.wasm_expr_ranges.specs.Exprs.{ExprsFit}
+use Rattle.wasm_spelled_modules.specs.Spelled.{AreSpelled}
 use Rattle.wasm_grammar.specs.wasm_operators.wasm_features.declared.WasmFeatures.{WasmFeatures}
 use Rattle.walrus_meaning.specs.walrus_linked.walrus_module_items.declared.import.Import.{Import}
 use Rattle.walrus_meaning.specs.walrus_linked.walrus_module_items.declared.export.Export.{Export}
@@ -54,7 +54,7 @@ FunctionsMean = (s : Sections) (look : Look) (locals : List Local) (new : Arena 
     → slots_of (own_function locals) new ≡ each (retyped_function (type_id look)) (state_of s).filled.functions
 
 abbrev pub TablesMean : Type 0
-TablesMean = (features : WasmFeatures) (s : Sections) (look : Look) (new : Arena Table) → ExprsFit features (state_of s).filled → OthersStay look
+TablesMean = (features : WasmFeatures) (s : Sections) (look : Look) (new : Arena Table) → AreSpelled features (state_of s).filled → OthersStay look
     → Filled (IsTableOf look) s.tables.items [] new.slots → slots_of own_table new ≡ each (retyped_table (type_id look)) (state_of s).filled.tables
 
 abbrev pub MemoriesMean : Type 0
@@ -64,7 +64,7 @@ abbrev pub TagsMean : Type 0
 TagsMean = (s : Sections) (look : Look) (new : Arena Tag) → Filled (IsTagOf look) s.tags.items [] new.slots → slots_of own_tag new ≡ each (retyped_tag (type_id look)) (state_of s).filled.tags
 
 abbrev pub GlobalsMean : Type 0
-GlobalsMean = (features : WasmFeatures) (s : Sections) (look : Look) (new : Arena Global) → ExprsFit features (state_of s).filled → OthersStay look
+GlobalsMean = (features : WasmFeatures) (s : Sections) (look : Look) (new : Arena Global) → AreSpelled features (state_of s).filled → OthersStay look
     → Filled (IsGlobalOf look) s.globals.items [] new.slots → slots_of own_global new ≡ each (retyped_global (type_id look)) (state_of s).filled.globals
 
 abbrev pub ExportsMean : Type 0
@@ -74,11 +74,11 @@ abbrev pub StartMeans : Type 0
 StartMeans = (s : Sections) (look : Look) (start : Option ℕ) → OthersStay look → StartBecomes look s.start start → start ≡ (state_of s).filled.start
 
 abbrev pub ElementsMean : Type 0
-ElementsMean = (features : WasmFeatures) (s : Sections) (look : Look) (new : Arena Element) → ExprsFit features (state_of s).filled → OthersStay look
+ElementsMean = (features : WasmFeatures) (s : Sections) (look : Look) (new : Arena Element) → AreSpelled features (state_of s).filled → OthersStay look
     → Filled (IsElementOf look) s.elements.items [] new.slots → slots_of own_element new ≡ each (retyped_element (type_id look)) (state_of s).filled.elements
 
 abbrev pub SegmentsMean : Type 0
-SegmentsMean = (features : WasmFeatures) (s : Sections) (look : Look) (new : Arena Data) → ExprsFit features (state_of s).filled → OthersStay look
+SegmentsMean = (features : WasmFeatures) (s : Sections) (look : Look) (new : Arena Data) → AreSpelled features (state_of s).filled → OthersStay look
     → Filled (IsSegmentOf look) s.segments.items [] new.slots → slots_of own_segment new ≡ each (retyped_segment (type_id look)) (state_of s).filled.segments
 
 -- a raw section as it stands, a boxed one as it is given
@@ -106,5 +106,5 @@ pub record AreFilled (s : Sections) (look : Look) (m : Module) : Type 0 where
 
 -- the module means what was read, renamed, beside the groups of its own table; bodies come later, and custom sections aren't in what a module means
 abbrev pub ModuleMeans : Type 0
-ModuleMeans = (features : WasmFeatures) (s : Sections) (look : Look) (m : Module) → ExprsFit features (state_of s).filled → OthersStay look → AreFilled s look m
+ModuleMeans = (features : WasmFeatures) (s : Sections) (look : Look) (m : Module) → AreSpelled features (state_of s).filled → OthersStay look → AreFilled s look m
     → means m ≡ record (retyped (type_id look) (state_of s).filled) { groups = own_groups m.types; customs = [] }

@@ -251,7 +251,7 @@ next_linked features s bytes x h r linked =
 nothing_linked : IsLinked nothing_yet.filled
 nothing_linked = record { functions_typed = tt; tags_typed = tt; tables_limited = tt; memories_limited = tt; imports_there = tt; exports_there = tt; exports_distinct = tt; start_there = tt; elements_there = tt; elements_listed = tt; segments_there = tt }
 
-file_linked : (features : WasmFeatures) (bytes : List ℕ) (x : FileEntry) → (file features).spells bytes x → (file features).rules x → IsLinked (state_of x).filled
+pub file_linked : (features : WasmFeatures) (bytes : List ℕ) (x : FileEntry) → (file features).spells bytes x → (file features).rules x → IsLinked (state_of x).filled
 file_linked features bytes x h r =
     let sections = r.0 in
     entries_linked next (section_entry features) (next_linked features) x.1 nothing_yet h.1 h.4 sections.1 nothing_linked
