@@ -2,4 +2,5 @@ pub mod FunctionLemmas
 pub mod ItemLemmas
 pub mod ExpressionLemmas
 pub mod ModuleLemmas
+pub mod OrderLemmas
 pub mod Seeing

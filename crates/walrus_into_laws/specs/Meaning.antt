@@ -18,12 +18,14 @@ use Rattle.walrus_meaning.specs.walrus_module.Parts.{Module}
 use Rattle.walrus_meaning.specs.Meaning.{slots_of, own_groups, own_import, own_export, own_function, own_table, own_memory, own_global, own_tag, own_element, own_segment, means}
 use Rattle.walrus_tables_into.specs.walrus_sections.declared.section.Section.{Section}
 use Rattle.walrus_tables_into.specs.walrus_sections.declared.section.Section.TheVariants.{Raw, Boxed}
+use Rattle.walrus_tables_into.specs.walrus_sections_into.Numbers.{upto}
+use Rattle.walrus_tables_into.specs.walrus_sections_into.walrus_index_maps.Maps.{Ids}
 use Rattle.walrus_tables_into.specs.walrus_sections_into.walrus_known_sections.declared.sections.Sections.{Sections}
 use Rattle.walrus_tables_into.specs.walrus_sections_into.walrus_known_sections.State.{state_of}
 use Rattle.walrus_tables_into.specs.walrus_sections_into.walrus_pairing.Looks.{Look}
 use Rattle.walrus_tables_into.specs.walrus_sections_into.walrus_pairing.walrus_items.declared.local.Local.{Local}
 use Rattle.walrus_tables_into.specs.walrus_sections_into.wasm_immediates.Items.{Space, Types}
-use Rattle.walrus_tables_into.specs.walrus_sections_into.Becomes.{renames_by}
+use Rattle.walrus_tables_into.specs.walrus_sections_into.Becomes.{look_of, renames_by}
 use Rattle.walrus_tables_into.specs.walrus_sections_into.Slots.{Filled, IsMemoryOf}
 use Rattle.walrus_tables_into.specs.walrus_sections_into.Imports.{IsImportOf}
 use Rattle.walrus_tables_into.specs.walrus_sections_into.Exports.{IsExportOf, StartBecomes}
@@ -43,6 +45,24 @@ type_id look = renames_by look Types
 -- in all spaces but that of types each number is its own id
 abbrev pub OthersStay : Look → Type 0
 OthersStay look = (space : Space) (n id : ℕ) → space ≢ Types → look space n ≡ Some id → id ≡ n
+
+-- 0, 1 and on
+abbrev pub IsInOrder : List ℕ → Type 0
+IsInOrder ids = (count : ℕ) × (ids ≡ upto count)
+
+-- so it is where the map of each such space has its items in their order, and no local is named yet
+pub record AreInOrder (m : Ids) : Type 0 where
+  pub functions : IsInOrder m.functions
+  pub tables : IsInOrder m.tables
+  pub memories : IsInOrder m.memories
+  pub tags : IsInOrder m.tags
+  pub globals : IsInOrder m.globals
+  pub elements : IsInOrder m.elements
+  pub segments : IsInOrder m.segments
+  pub locals : m.locals 0 ≡ []
+
+abbrev pub OrderedStay : Type 0
+OrderedStay = (m : Ids) → AreInOrder m → OthersStay (look_of m)
 
 -- ---- space by space
 

@@ -3,12 +3,17 @@
 
 ghost use Rattle.wasm_grammar.specs.Modules.{Custom};
 ghost use Rattle.walrus_into_laws.specs.Functions.{FunctionsFill};
-ghost use Rattle.walrus_into_laws.specs.Meaning.{ImportsMean, FunctionsMean, TablesMean, MemoriesMean, TagsMean, GlobalsMean, ExportsMean, StartMeans, ElementsMean, SegmentsMean, CustomsMean, ModuleMeans};
+ghost use Rattle.walrus_into_laws.specs.Meaning.{ImportsMean, FunctionsMean, TablesMean, MemoriesMean, TagsMean, GlobalsMean, ExportsMean, StartMeans, ElementsMean, SegmentsMean, CustomsMean, ModuleMeans, OrderedStay};
 
 /// Functions that are added fill the slots behind those that were there with what was read: each of the type that is named, brought by
 /// the same import, or without a body yet (Core Specification, binary format: function section).
 pub fn functions_fill()
     ensures { FunctionsFill }
+{}
+
+/// In a map that has the items of each space in their order each number is its own id; of types nothing is asked.
+pub fn ordered_stay()
+    ensures { OrderedStay }
 {}
 
 /// Functions that fill a collection that began empty mean those of the file, each with the id of what its type's number names; bodies
