@@ -1,3 +1,4 @@
 pub mod Functions
+pub mod Groups
 pub mod Meaning
 pub mod Renamed

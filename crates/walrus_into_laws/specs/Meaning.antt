@@ -1,6 +1,6 @@
 -- What a module means whose collections began empty and were filled with what was read of a file: the file's module, each number of
 -- a type sent to its id.
-use Rattle.std.specs.Prelude.{ℕ, ◌≡◌, ◌≢◌, List, [], Option, Some, string_bytes}
+use Rattle.std.specs.Prelude.{ℕ, ◌≡◌, ◌≢◌, ◌<◌, List, [], All, Option, Some, slice_get, string_bytes}
 use Rattle.walrus_arena.specs.Arena.{Arena}
 use Rattle.wasm_grammar.specs.Modules.{Custom}
 use Rattle.wasm_spelled_modules.specs.Spelled.{AreSpelled}
@@ -15,7 +15,10 @@ use Rattle.walrus_meaning.specs.walrus_linked.walrus_module_items.declared.tag.T
 use Rattle.walrus_meaning.specs.walrus_linked.walrus_module_items.declared.data.Data.{Data}
 use Rattle.walrus_meaning.specs.walrus_linked.walrus_module_items.declared.element.Element.{Element}
 use Rattle.walrus_meaning.specs.walrus_module.Parts.{Module}
-use Rattle.walrus_meaning.specs.Meaning.{slots_of, own_groups, own_import, own_export, own_function, own_table, own_memory, own_global, own_tag, own_element, own_segment, means}
+use Rattle.walrus_meaning.specs.walrus_module.walrus_types.Parsing.{Parsed, parsed, unparsed}
+use Rattle.walrus_types_into.specs.Into.{no_types}
+use Rattle.wasm_sections.specs.Laws.{ReadsSections}
+use Rattle.walrus_meaning.specs.Meaning.{slots_of, own_import, own_export, own_function, own_table, own_memory, own_global, own_tag, own_element, own_segment, means}
 use Rattle.walrus_tables_into.specs.walrus_sections.declared.section.Section.{Section}
 use Rattle.walrus_tables_into.specs.walrus_sections.declared.section.Section.TheVariants.{Raw, Boxed}
 use Rattle.walrus_tables_into.specs.walrus_sections_into.Numbers.{upto}
@@ -36,6 +39,7 @@ use Rattle.walrus_tables_into.specs.Elements.{IsElementOf}
 use Rattle.walrus_tables_into.specs.Globals.{IsGlobalOf}
 use Rattle.walrus_tables_into.specs.Tables.{IsTableOf}
 use Rattle.walrus_into_laws.specs.Functions.{IsFunctionOf}
+use Rattle.walrus_into_laws.specs.Groups.{kept}
 use Rattle.walrus_into_laws.specs.Renamed.{each, retyped_function, retyped_table, retyped_tag, retyped_global, retyped_element, retyped_segment, retyped}
 
 -- the id of a type's number; one that names none stays
@@ -111,8 +115,14 @@ CustomsMean {B} given = (s : Sections) (new : Arena (Section B)) → Filled IsCu
 
 -- ---- all of it
 
--- collections that began empty, filled with what was read
+-- the types that were read, in a table that began empty
+abbrev pub types_in : Sections → Parsed
+types_in s = parsed s.types (unparsed no_types)
+
+-- a table and collections that began empty, filled with what was read, and what the numbers of types name
 pub record AreFilled (s : Sections) (look : Look) (m : Module) : Type 0 where
+  pub numbers : (n : ℕ) → look Types n ≡ slice_get (types_in s).ids n
+  pub types : m.types ≡ (types_in s).table
   pub imports : Filled (IsImportOf look) s.imports.items [] m.imports.slots
   pub functions : Filled (IsFunctionOf look) s.functions.items [] m.funcs.slots
   pub tables : Filled (IsTableOf look) s.tables.items [] m.tables.slots
@@ -124,7 +134,8 @@ pub record AreFilled (s : Sections) (look : Look) (m : Module) : Type 0 where
   pub elements : Filled (IsElementOf look) s.elements.items [] m.elements.slots
   pub segments : Filled (IsSegmentOf look) s.segments.items [] m.data_segments.slots
 
--- the module means what was read, renamed, beside the groups of its own table; bodies come later, and custom sections aren't in what a module means
+-- the module means the file's, where types alone have other ids, and merged ones are left out; bodies come later, and custom sections
+-- aren't in what a module means
 abbrev pub ModuleMeans : Type 0
-ModuleMeans = (features : WasmFeatures) (s : Sections) (look : Look) (m : Module) → AreSpelled features (state_of s).filled → OthersStay look → AreFilled s look m
-    → means m ≡ record (retyped (type_id look) (state_of s).filled) { groups = own_groups m.types; customs = [] }
+ModuleMeans = (features : WasmFeatures) (bytes : List ℕ) (s : Sections) (look : Look) (m : Module) → All (λ b. b < 256) bytes → ReadsSections features bytes (state_of s) → OthersStay look → AreFilled s look m
+    → means m ≡ record (retyped (type_id look) (state_of s).filled) { groups = kept (types_in s).ids 0 s.types; customs = [] }

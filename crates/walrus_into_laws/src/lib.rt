@@ -3,6 +3,7 @@
 
 ghost use Rattle.wasm_grammar.specs.Modules.{Custom};
 ghost use Rattle.walrus_into_laws.specs.Functions.{FunctionsFill};
+ghost use Rattle.walrus_into_laws.specs.Groups.{GroupsMean, ReadTypesAreDeclared};
 ghost use Rattle.walrus_into_laws.specs.Meaning.{ImportsMean, FunctionsMean, TablesMean, MemoriesMean, TagsMean, GlobalsMean, ExportsMean, StartMeans, ElementsMean, SegmentsMean, CustomsMean, ModuleMeans, OrderedStay};
 
 /// Functions that are added fill the slots behind those that were there with what was read: each of the type that is named, brought by
@@ -21,6 +22,19 @@ pub fn ordered_stay()
 pub fn functions_mean()
     ensures { FunctionsMean }
 {}
+
+/// No type that was read is an entry type, which stands for a body's own block.
+pub fn read_types_are_declared()
+    ensures { ReadTypesAreDeclared }
+{}
+
+/// The groups of a table that began empty mean those of the file, each with the ids that its numbers name, but for single types that are
+/// merged with earlier ones.
+pub fn groups_mean()
+    ensures { GroupsMean }
+{
+    walrus_types_into::laws::new_types_stand();
+}
 
 /// Imports mean those of the file.
 pub fn imports_mean()
@@ -72,8 +86,12 @@ pub fn customs_mean<B>()
     ensures { (given : B → Custom) → CustomsMean given }
 {}
 
-/// A module whose collections began empty and were filled with what was read means the file's module, where types alone have other ids;
-/// beside the groups of its own table, without bodies, and without custom sections, which `means` doesn't have.
+/// A module whose types and collections began empty and were filled with what was read means the file's module, where types alone have
+/// other ids and merged ones are left out; without bodies, and without custom sections, which `means` doesn't have.
 pub fn module_means()
     ensures { ModuleMeans }
-{}
+{
+    wasm_spelled_modules::laws::read_sections_are_spelled();
+    walrus_types_into::laws::types_name_below();
+    walrus_types_into::laws::new_types_stand();
+}
