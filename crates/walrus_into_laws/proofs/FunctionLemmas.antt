@@ -10,9 +10,9 @@ use Rattle.walrus_tables_into.specs.walrus_sections_into.walrus_pairing.Looks.{L
 use Rattle.walrus_tables_into.specs.walrus_sections_into.walrus_pairing.walrus_items.declared.local.Local.{Local}
 use Rattle.walrus_tables_into.specs.walrus_sections_into.wasm_immediates.Items.{Types}
 use Rattle.walrus_tables_into.specs.walrus_sections_into.Slots.{Become}
-use Rattle.walrus_meaning.specs.walrus_linked.walrus_module_items.declared.function.Function.{Function}
-use Rattle.walrus_meaning.specs.walrus_linked.walrus_module_items.Functions.{type_of}
-use Rattle.walrus_meaning.specs.Meaning.{own_function, own_origin}
+use Rattle.walrus_group_laws.specs.walrus_meaning.walrus_linked.walrus_module_items.declared.function.Function.{Function}
+use Rattle.walrus_group_laws.specs.walrus_meaning.walrus_linked.walrus_module_items.Functions.{type_of}
+use Rattle.walrus_group_laws.specs.walrus_meaning.Meaning.{own_function, own_origin}
 use Rattle.walrus_functions_into.specs.Functions.{AreTyped, functions_from, kind_of}
 use Rattle.walrus_into_laws.specs.Functions.{IsFunctionOf, FunctionsFill}
 use Rattle.walrus_into_laws.specs.Renamed.{retyped_function}

@@ -3,15 +3,15 @@ use Rattle.std.proofs.Common.{◌≡◌, ◌∙◌, ℕ, List, Option, Some, Non
 use Rattle.std.specs.Prelude.{string_bytes}
 use Rattle.walrus_arena.specs.Arena.{Arena}
 use Rattle.wasm_grammar.specs.Modules as grammar
-use Rattle.walrus_meaning.specs.Meaning.{own_brought, own_given, own_import, own_export, own_memory, own_tag}
-use Rattle.walrus_meaning.specs.walrus_linked.Linked.{tag_import}
-use Rattle.walrus_meaning.specs.walrus_linked.walrus_module_items.declared.import.Import.{Import}
-use Rattle.walrus_meaning.specs.walrus_linked.walrus_module_items.declared.import.ImportKind.{ImportKind}
-use Rattle.walrus_meaning.specs.walrus_linked.walrus_module_items.declared.import.ImportKind.TheVariants as kinds
-use Rattle.walrus_meaning.specs.walrus_linked.walrus_module_items.declared.export.Export.{Export}
-use Rattle.walrus_meaning.specs.walrus_linked.walrus_module_items.declared.export.ExportItem.{ExportItem}
-use Rattle.walrus_meaning.specs.walrus_linked.walrus_module_items.declared.export.ExportItem.TheVariants as given
-use Rattle.walrus_meaning.specs.walrus_linked.walrus_module_items.declared.tag.Tag.{Tag}
+use Rattle.walrus_group_laws.specs.walrus_meaning.Meaning.{own_brought, own_given, own_import, own_export, own_memory, own_tag}
+use Rattle.walrus_group_laws.specs.walrus_meaning.walrus_linked.Linked.{tag_import}
+use Rattle.walrus_group_laws.specs.walrus_meaning.walrus_linked.walrus_module_items.declared.import.Import.{Import}
+use Rattle.walrus_group_laws.specs.walrus_meaning.walrus_linked.walrus_module_items.declared.import.ImportKind.{ImportKind}
+use Rattle.walrus_group_laws.specs.walrus_meaning.walrus_linked.walrus_module_items.declared.import.ImportKind.TheVariants as kinds
+use Rattle.walrus_group_laws.specs.walrus_meaning.walrus_linked.walrus_module_items.declared.export.Export.{Export}
+use Rattle.walrus_group_laws.specs.walrus_meaning.walrus_linked.walrus_module_items.declared.export.ExportItem.{ExportItem}
+use Rattle.walrus_group_laws.specs.walrus_meaning.walrus_linked.walrus_module_items.declared.export.ExportItem.TheVariants as given
+use Rattle.walrus_group_laws.specs.walrus_meaning.walrus_linked.walrus_module_items.declared.tag.Tag.{Tag}
 use Rattle.wasm_formats.specs.declared.fault.Space.{Space}
 use Rattle.wasm_formats.specs.declared.fault.Space.TheVariants as spaces
 use Rattle.walrus_tables_into.specs.walrus_sections.declared.section.Section.{Section}

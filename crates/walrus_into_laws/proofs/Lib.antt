@@ -1,9 +1,6 @@
-pub mod DeclaredLemmas
 pub mod FunctionLemmas
-pub mod GroupLemmas
 pub mod ItemLemmas
 pub mod ExpressionLemmas
 pub mod ModuleLemmas
 pub mod OrderLemmas
-pub mod ParsedLemmas
 pub mod Seeing

@@ -3,12 +3,11 @@ use Rattle.std.proofs.Common.{◌≡◌, ◌∙◌, ℕ, List, [], Option, refl,
 use Rattle.wasm_grammar.specs.Modules as grammar
 use Rattle.wasm_grammar.specs.walrus_forms.Records.{TypeGroup}
 use Rattle.wasm_spelled_modules.specs.Spelled.{ReadSectionsAreSpelled}
-use Rattle.walrus_meaning.specs.Meaning.{own_groups}
-use Rattle.walrus_types_into.specs.Into.{TypesNameBelow, NewTypesStand}
+use Rattle.walrus_group_laws.specs.walrus_meaning.Meaning.{own_groups}
+use Rattle.walrus_group_laws.specs.walrus_types_into.Into.{TypesNameBelow}
+use Rattle.walrus_group_laws.specs.Groups.{GroupsMean, ReadTypesAreDeclared}
 use Rattle.walrus_tables_into.specs.walrus_sections_into.walrus_known_sections.State.{state_of}
 use Rattle.walrus_into_laws.specs.Meaning.{ModuleMeans}
-use Rattle.walrus_into_laws.proofs.DeclaredLemmas.{read_types_are_declared}
-use Rattle.walrus_into_laws.proofs.GroupLemmas.{groups_mean}
 use Rattle.walrus_into_laws.proofs.FunctionLemmas.{functions_mean}
 use Rattle.walrus_into_laws.proofs.ItemLemmas.{imports_mean, exports_mean, memories_mean, tags_mean, start_means}
 use Rattle.walrus_into_laws.proofs.ExpressionLemmas.{tables_mean, globals_mean, elements_mean, segments_mean}
@@ -21,11 +20,11 @@ all_same : (g g' : List TypeGroup) (i i' : List (Option grammar.Import)) (f f' :
     (record { groups = g'; imports = i'; functions = f'; tables = t'; memories = m'; tags = a'; globals = b'; exports = x'; start = s'; elements = e'; segments = d'; customs = [] })
 all_same g g' i i' f f' t t' m m' a a' b b' x x' s s' e e' d d' p0 p1 p2 p3 p4 p5 p6 p7 p8 p9 p10 = rw (p0, p1, p2, p3, p4, p5, p6, p7, p8, p9, p10) refl
 
-pub module_means : ReadSectionsAreSpelled → TypesNameBelow → NewTypesStand → ModuleMeans
-module_means all_spelled below stand features bytes s look m small reads stay h =
+pub module_means : ReadSectionsAreSpelled → TypesNameBelow → ReadTypesAreDeclared → GroupsMean → ModuleMeans
+module_means all_spelled below declared groups_mean features bytes s look m small reads stay h =
     let spelled = all_spelled features bytes (state_of s) small reads in
     all_same _ _ _ _ _ _ _ _ _ _ _ _ _ _ _ _ _ _ _ _ _ _
-    (ap own_groups h.types ∙ groups_mean stand s.types (below features bytes (state_of s) reads) (read_types_are_declared features bytes (state_of s) reads))
+    (ap own_groups h.types ∙ groups_mean s.types (below features bytes (state_of s) reads) (declared features bytes (state_of s) reads))
     (imports_mean s look m.imports stay h.imports)
     (functions_mean s look m.locals m.funcs h.functions)
     (tables_mean features s look m.tables spelled stay h.tables)

@@ -3,7 +3,7 @@ use Rattle.std.proofs.Common.{◌≡◌, ◌∙◌, ℕ, List, [], ◌∷◌, ma
 use Rattle.std.specs.Option.{option_map, unwrap_or}
 use Rattle.walrus_arena.specs.Arena.{Arena}
 use Rattle.wasm_operator_names.specs.Names.{Renaming}
-use Rattle.walrus_meaning.specs.Meaning.{slots_of}
+use Rattle.walrus_group_laws.specs.walrus_meaning.Meaning.{slots_of}
 use Rattle.walrus_tables_into.specs.walrus_sections_into.walrus_pairing.Looks.{Look}
 use Rattle.walrus_tables_into.specs.walrus_sections_into.wasm_immediates.Items.{Space, Types, Functions, Tables, Memories, Tags, Globals, ElementSegments, DataSegments, Locals, Labels}
 use Rattle.walrus_tables_into.specs.walrus_sections_into.Becomes.{renames_by}

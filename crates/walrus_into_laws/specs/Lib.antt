@@ -1,4 +1,3 @@
 pub mod Functions
-pub mod Groups
 pub mod Meaning
 pub mod Renamed

@@ -3,7 +3,6 @@
 
 ghost use Rattle.wasm_grammar.specs.Modules.{Custom};
 ghost use Rattle.walrus_into_laws.specs.Functions.{FunctionsFill};
-ghost use Rattle.walrus_into_laws.specs.Groups.{GroupsMean, ReadTypesAreDeclared};
 ghost use Rattle.walrus_into_laws.specs.Meaning.{ImportsMean, FunctionsMean, TablesMean, MemoriesMean, TagsMean, GlobalsMean, ExportsMean, StartMeans, ElementsMean, SegmentsMean, CustomsMean, ModuleMeans, OrderedStay};
 
 /// Functions that are added fill the slots behind those that were there with what was read: each of the type that is named, brought by
@@ -22,19 +21,6 @@ pub fn ordered_stay()
 pub fn functions_mean()
     ensures { FunctionsMean }
 {}
-
-/// No type that was read is an entry type, which stands for a body's own block.
-pub fn read_types_are_declared()
-    ensures { ReadTypesAreDeclared }
-{}
-
-/// The groups of a table that began empty mean those of the file, each with the ids that its numbers name, but for single types that are
-/// merged with earlier ones.
-pub fn groups_mean()
-    ensures { GroupsMean }
-{
-    walrus_types_into::laws::new_types_stand();
-}
 
 /// Imports mean those of the file.
 pub fn imports_mean()
@@ -92,6 +78,7 @@ pub fn module_means()
     ensures { ModuleMeans }
 {
     wasm_spelled_modules::laws::read_sections_are_spelled();
-    walrus_types_into::laws::types_name_below();
-    walrus_types_into::laws::new_types_stand();
+    walrus_group_laws::types_into::laws::types_name_below();
+    walrus_group_laws::read_types_are_declared();
+    walrus_group_laws::groups_mean();
 }

@@ -8,10 +8,10 @@ use Rattle.wasm_grammar.specs.walrus_forms.Forms.{Form}
 use Rattle.wasm_grammar.specs.walrus_forms.Kinds.{Kind, declared_kind}
 use Rattle.wasm_grammar.specs.walrus_forms.Records.{TypeGroup}
 use Rattle.wasm_sections.specs.TypeNames.{kind_of}
-use Rattle.wasm_sections.specs.TypeSection.{GroupEntry, Measured, members, type_group, add_group}
+use Rattle.wasm_sections.specs.TypeSection.{Measured, members, type_group}
 use Rattle.wasm_sections.specs.Entities.{Entity, FunctionOf, TableOf, MemoryOf, GlobalOf, TagOf, ImportEntry, add_entity, with_import, import_of, TableEntry, add_table}
 use Rattle.wasm_ruled_modules.specs.Keeping.{EntriesKeep, file_kept}
-use Rattle.walrus_into_laws.specs.Groups.{AreDeclared, ReadTypesAreDeclared}
+use Rattle.walrus_group_laws.specs.Groups.{AreDeclared, ReadTypesAreDeclared}
 
 abbrev Plain : List Kind → Type 0
 Plain = AllByRecursion (λ (k : Kind). k.entry ≡ false)

@@ -1,5 +1,5 @@
 -- Lemmas: the groups of a table mean those of the file that it was made of.
-use Rattle.std.proofs.Common.{◌≡◌, ◌∙◌, ◌+◌, ◌&&◌, ◌⊎◌, ℕ, zero, suc, Bool, true, false, not, List, [], ◌∷◌, ◌++◌, length, map, filter, take, Option, Some, None, slice_get, refl, sym, ap, subst, arith, inl, inr}
+use Rattle.std.proofs.Common.{◌≡◌, ◌∙◌, ◌+◌, ◌⊎◌, ℕ, zero, suc, Bool, true, false, not, List, [], ◌∷◌, ◌++◌, length, map, filter, take, Option, Some, None, slice_get, refl, sym, ap, subst, arith, inl, inr}
 use Rattle.std.specs.Prelude.{if◌then◌else◌}
 use Rattle.std.specs.List.{AllByRecursion, AllZip, flat_map}
 use Rattle.std.proofs.lemmas.List.{length-append, append_assoc, append-nil, map-append}
@@ -8,16 +8,16 @@ use Rattle.walrus_arena.specs.Arena.{entries_from}
 use Rattle.wasm_grammar.specs.walrus_forms.Kinds.{Kind}
 use Rattle.wasm_grammar.specs.walrus_forms.Records.{TypeGroup}
 use Rattle.wasm_grammar.specs.walrus_forms.Renaming.{at, renamed_kind}
-use Rattle.walrus_tables_into.specs.walrus_sections_into.walrus_known_sections.Types.{kinds_in}
+use Rattle.walrus_known_sections.specs.Types.{kinds_in}
 use Rattle.walrus_meaning.specs.Bodies.{has_number}
 use Rattle.walrus_meaning.specs.Meaning.{plain_kind, group_kinds, has_kinds, own_groups}
 use Rattle.walrus_meaning.specs.walrus_module.walrus_types.Items.{Item, Group}
 use Rattle.walrus_meaning.specs.walrus_module.walrus_types.Groups.{group_slot}
 use Rattle.walrus_meaning.specs.walrus_module.walrus_types.Table.{Table, type_at}
 use Rattle.walrus_meaning.specs.walrus_module.walrus_types.Parsing.{Parsed, parsed_group, parsed, unparsed}
-use Rattle.walrus_types_into.specs.Into.{no_types, TypesStand, NewTypesStand}
-use Rattle.walrus_into_laws.specs.Groups.{is_new, renamed_group, kept, AreDeclared, GroupsMean}
-use Rattle.walrus_into_laws.proofs.ParsedLemmas.{AllGiven, IsMerged, IsAdded, Step, step, later_ids, ids_are}
+use Rattle.walrus_types_into.specs.Into.{no_types, NewTypesStand}
+use Rattle.walrus_group_laws.specs.Groups.{is_new, renamed_group, kept, AreDeclared, GroupsMean}
+use Rattle.walrus_group_laws.proofs.ParsedLemmas.{AllGiven, IsMerged, IsAdded, step, later_ids, ids_are}
 
 -- ---- lists
 
@@ -165,5 +165,5 @@ groups_mean stand groups below plain =
     let types = stand groups below in
     let is = ids_are groups s none_given in
     let typed = zip_from (IsOf p.table (at p.ids)) p.ids (kinds_in groups) types.sized
-        (λ i kind e. let there = types.stand i kind e in subst (λ (id : ℕ). IsOf p.table (at p.ids) id kind) (sym (at_is p.ids i there.0 there.1)) there.2) in
+    (λ i kind e. let there = types.stand i kind e in subst (λ (id : ℕ). IsOf p.table (at p.ids) id kind) (sym (at_is p.ids i there.0 there.1)) there.2) in
     own_is p.table ∙ all_groups p.table p.ids groups s none_given is (subst (λ (l : List ℕ). AllZip (IsOf p.table (at p.ids)) l (kinds_in groups)) is typed) plain
