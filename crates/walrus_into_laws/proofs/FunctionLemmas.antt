@@ -2,7 +2,6 @@
 use Rattle.std.proofs.Common.{◌≡◌, ◌∙◌, ◌<◌, ℕ, zero, suc, List, [], ◌∷◌, length, Option, Some, None, slice_get, refl, sym, ap, arith}
 use Rattle.std.proofs.lemmas.List.Elements.{All-head, All-tail}
 use Rattle.wasm_grammar.specs.Modules.{Origin, Body, Function as GrammarFunction}
-use Rattle.walrus_arena.specs.Arena.{Arena}
 use Rattle.walrus_tables_into.specs.walrus_sections_into.walrus_forms.Renaming.{at}
 use Rattle.walrus_tables_into.specs.walrus_sections_into.walrus_known_sections.declared.items.Function.{Function as ReadFunction}
 use Rattle.walrus_tables_into.specs.walrus_sections_into.walrus_known_sections.Items.{function_of, function_origin}

@@ -1,10 +1,7 @@
 -- Lemmas: items without expressions mean what was read.
-use Rattle.std.proofs.Common.{◌≡◌, ◌∙◌, ℕ, List, Option, Some, None, refl, sym, ap}
-use Rattle.std.specs.Prelude.{string_bytes}
-use Rattle.walrus_arena.specs.Arena.{Arena}
+use Rattle.std.proofs.Common.{◌≡◌, ℕ, List, Option, Some, None, refl, ap}
 use Rattle.wasm_grammar.specs.Modules as grammar
 use Rattle.walrus_group_laws.specs.walrus_meaning.Meaning.{own_brought, own_given, own_import, own_export, own_memory, own_tag}
-use Rattle.walrus_group_laws.specs.walrus_meaning.walrus_linked.Linked.{tag_import}
 use Rattle.walrus_group_laws.specs.walrus_meaning.walrus_linked.walrus_module_items.declared.import.Import.{Import}
 use Rattle.walrus_group_laws.specs.walrus_meaning.walrus_linked.walrus_module_items.declared.import.ImportKind.{ImportKind}
 use Rattle.walrus_group_laws.specs.walrus_meaning.walrus_linked.walrus_module_items.declared.import.ImportKind.TheVariants as kinds

@@ -1,5 +1,5 @@
 -- Lemmas: where items are in their order each number is its own id.
-use Rattle.std.proofs.Common.{◌≡◌, ◌∙◌, ◌+◌, ℕ, zero, suc, List, [], ◌∷◌, ◌++◌, length, Option, Some, None, slice_get, refl, sym, ap, arith, subst}
+use Rattle.std.proofs.Common.{◌≡◌, ◌∙◌, ℕ, zero, suc, List, [], ◌∷◌, ◌++◌, length, Some, slice_get, refl, sym, arith, subst}
 use Rattle.std.proofs.lemmas.List.{length-append}
 use Rattle.walrus_tables_into.specs.walrus_sections_into.Numbers.{upto}
 use Rattle.walrus_tables_into.specs.walrus_sections_into.wasm_immediates.Items.{Types, Functions, Tables, Memories, Tags, Globals, ElementSegments, DataSegments, Locals, Labels}
