@@ -1,6 +1,6 @@
 -- What a module means whose collections began empty and were filled with what was read of a file: the file's module, each number of
 -- a type sent to its id.
-use Rattle.std.specs.Prelude.{ℕ, ◌≡◌, ◌≢◌, ◌<◌, List, [], All, Option, Some, slice_get, string_bytes}
+use Rattle.std.specs.Prelude.{ℕ, ◌≡◌, ◌≢◌, ◌<◌, List, [], All, Option, Some, string_bytes}
 use Rattle.walrus_arena.specs.Arena.{Arena}
 use Rattle.wasm_grammar.specs.Modules.{Custom}
 use Rattle.wasm_spelled_modules.specs.Spelled.{AreSpelled}
@@ -119,9 +119,8 @@ CustomsMean {B} given = (s : Sections) (new : Arena (Section B)) → Filled IsCu
 abbrev pub types_in : Sections → Parsed
 types_in s = parsed s.types (unparsed no_types)
 
--- a table and collections that began empty, filled with what was read, and what the numbers of types name
+-- a table and collections that began empty, filled with what was read
 pub record AreFilled (s : Sections) (look : Look) (m : Module) : Type 0 where
-  pub numbers : (n : ℕ) → look Types n ≡ slice_get (types_in s).ids n
   pub types : m.types ≡ (types_in s).table
   pub imports : Filled (IsImportOf look) s.imports.items [] m.imports.slots
   pub functions : Filled (IsFunctionOf look) s.functions.items [] m.funcs.slots
