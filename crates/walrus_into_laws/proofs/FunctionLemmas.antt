@@ -1,45 +1,48 @@
 -- Lemmas: functions that were added are what was read, and mean it.
-use Rattle.std.proofs.Common.{◌≡◌, ◌∙◌, ◌<◌, ℕ, zero, suc, List, [], ◌∷◌, length, map, Option, Some, None, slice_get, refl, sym, ap, arith}
-use Rattle.std.specs.Option.{option_map, unwrap_or}
+use Rattle.std.proofs.Common.{◌≡◌, ◌∙◌, ◌<◌, ℕ, zero, suc, List, [], ◌∷◌, length, Option, Some, None, slice_get, refl, sym, ap, arith}
 use Rattle.std.proofs.lemmas.List.Elements.{All-head, All-tail}
 use Rattle.wasm_grammar.specs.Modules.{Origin, Body, Function as GrammarFunction}
-use Rattle.walrus_known_sections.specs.declared.items.Function.{Function as ReadFunction}
-use Rattle.walrus_known_sections.specs.Items.{function_of, function_origin}
-use Rattle.walrus_pairing.specs.Looks.{Look}
-use Rattle.walrus_pairing.specs.walrus_forms.Renaming.{at}
-use Rattle.walrus_pairing.specs.walrus_index_maps.Maps.{Ids}
-use Rattle.walrus_pairing.specs.walrus_items.declared.local.Local.{Local}
-use Rattle.walrus_meaning.specs.walrus_linked.walrus_module_items.declared.function.Function.{Function}
-use Rattle.walrus_meaning.specs.walrus_linked.walrus_module_items.Functions.{type_of}
-use Rattle.walrus_meaning.specs.Meaning.{own_function, own_origin}
-use Rattle.walrus_sections_into.specs.Becomes.{look_of}
-use Rattle.walrus_sections_into.specs.Slots.{Become, filled_seen}
+use Rattle.walrus_tables_into.specs.walrus_sections_into.walrus_forms.Renaming.{at}
+use Rattle.walrus_tables_into.specs.walrus_sections_into.walrus_known_sections.declared.items.Function.{Function as ReadFunction}
+use Rattle.walrus_tables_into.specs.walrus_sections_into.walrus_known_sections.Items.{function_of, function_origin}
+use Rattle.walrus_tables_into.specs.walrus_sections_into.walrus_pairing.Looks.{Look}
+use Rattle.walrus_tables_into.specs.walrus_sections_into.walrus_pairing.walrus_items.declared.local.Local.{Local}
+use Rattle.walrus_tables_into.specs.walrus_sections_into.wasm_immediates.Items.{Types}
+use Rattle.walrus_tables_into.specs.walrus_sections_into.Slots.{Become}
+use Rattle.walrus_group_laws.specs.walrus_meaning.walrus_linked.walrus_module_items.declared.function.Function.{Function}
+use Rattle.walrus_group_laws.specs.walrus_meaning.walrus_linked.walrus_module_items.Functions.{type_of}
+use Rattle.walrus_group_laws.specs.walrus_meaning.Meaning.{own_function, own_origin}
 use Rattle.walrus_functions_into.specs.Functions.{AreTyped, functions_from, kind_of}
-use Rattle.walrus_into_laws.specs.Functions.{IsFunctionOf, FunctionsFill, FunctionsMean, retyped}
+use Rattle.walrus_into_laws.specs.Functions.{IsFunctionOf, FunctionsFill}
+use Rattle.walrus_into_laws.specs.Renamed.{retyped_function}
+use Rattle.walrus_into_laws.specs.Meaning.{type_id, FunctionsMean}
+use Rattle.walrus_into_laws.proofs.Seeing.{as_changed, nothing_asked, type_is}
 
 there : (ids : List ℕ) (i : ℕ) → i < length ids → slice_get ids i ≡ Some (at ids i)
 there [] i lt = absurd (omega (arith, lt))
 there (id ∷ ids) zero lt = refl
 there (id ∷ ids) (suc i) lt = there ids i (omega (arith, lt))
 
-type_is : (ty : ℕ) (import : Option ℕ) → type_of (kind_of ty import) ≡ ty
-type_is ty None = refl
-type_is ty (Some n) = refl
+kind_type : (ty : ℕ) (import : Option ℕ) → type_of (kind_of ty import) ≡ ty
+kind_type ty None = refl
+kind_type ty (Some n) = refl
 
-all_become : (m : Ids) (id : ℕ) (reads : List ReadFunction) → AreTyped m.types reads → Become (IsFunctionOf (look_of m)) reads (functions_from m.types id reads)
-all_become m id [] typed = tt
-all_become m id (r ∷ reads) typed =
-    let ty = at m.types r.ty in
-    let is = type_is ty r.import in (
+all_become : (look : Look) (types : List ℕ) (id : ℕ) (reads : List ReadFunction) → ((n : ℕ) → look Types n ≡ slice_get types n) → AreTyped types reads
+    → Become (IsFunctionOf look) reads (functions_from types id reads)
+all_become look types id [] same typed = tt
+all_become look types id (r ∷ reads) same typed =
+    let ty = at types r.ty in
+    let is = kind_type ty r.import in (
       record {
-        ty = there m.types r.ty (All-head (λ (f : ReadFunction). f.ty < length m.types) r reads typed) ∙ sym (ap (λ (n : ℕ). Some n) is);
+        ty = same r.ty ∙ there types r.ty (All-head (λ (f : ReadFunction). f.ty < length types) r reads typed) ∙ sym (ap (λ (n : ℕ). Some n) is);
         kind = sym (ap (λ (n : ℕ). kind_of n r.import) is);
       },
-      all_become m (suc id) reads (All-tail (λ (f : ReadFunction). f.ty < length m.types) r reads typed),
+      all_become look types (suc id) reads same (All-tail (λ (f : ReadFunction). f.ty < length types) r reads typed),
     )
 
 pub functions_fill : FunctionsFill
-functions_fill m reads old new typed added = record { more = functions_from m.types (length old.slots) reads; behind = added; become = all_become m (length old.slots) reads typed }
+functions_fill look types reads old new same typed added =
+    record { more = functions_from types (length old.slots) reads; behind = added; become = all_become look types (length old.slots) reads same typed }
 
 -- ---- what they mean
 
@@ -50,18 +53,11 @@ origin_is locals ty (Some n) = refl
 both : (a b : ℕ) (o p : Origin Body) → a ≡ b → o ≡ p → ◌≡◌ {A = GrammarFunction} (record { ty = a; origin = o }) (record { ty = b; origin = p })
 both a b o p same other = rw (same, other) refl
 
-means : (look : Look) (locals : List Local) (r : ReadFunction) (f : Function) → IsFunctionOf look r f → own_function locals f ≡ retyped look (function_of r)
-means look locals r f h =
-    both _ _ _ _ (sym (ap (λ (o : Option ℕ). unwrap_or o r.ty) h.ty)) (ap (own_origin locals) h.kind ∙ origin_is locals (type_of f.kind) r.import)
-
-in_turn : {A B C : Type 0} (f : A → B) (g : B → C) (xs : List A) → map (option_map g) (map (λ x. Some (f x)) xs) ≡ map (λ x. Some (g (f x))) xs
-in_turn f g [] = refl
-in_turn {A} {B} {C} f g (x ∷ xs) = ap (λ (l : List (Option C)). Some (g (f x)) ∷ l) (in_turn f g xs)
+function_means : (look : Look) (locals : List Local) (r : ReadFunction) (f : Function) → IsFunctionOf look r f → own_function locals f ≡ retyped_function (type_id look) (function_of r)
+function_means look locals r f h =
+    both _ _ _ _ (type_is look r.ty (type_of f.kind) h.ty) (ap (own_origin locals) h.kind ∙ origin_is locals (type_of f.kind) r.import)
 
 pub functions_mean : FunctionsMean
-functions_mean s m locals new h =
-    let look = look_of m in
-    let reads = s.functions.items in
-    ap (λ (l : List (Option Function)). map (option_map (own_function locals)) l) h.behind
-    ∙ filled_seen (IsFunctionOf look) (λ (r : ReadFunction). retyped look (function_of r)) (own_function locals) (means look locals) reads h.more h.become
-    ∙ sym (in_turn function_of (retyped look) reads)
+functions_mean s look locals new h =
+    as_changed (IsFunctionOf look) function_of (own_function locals) (λ f. Unit {0}) (retyped_function (type_id look)) (λ r f _ is. function_means look locals r f is)
+    s.functions.items new (nothing_asked function_of s.functions.items) h

@@ -1,1 +1,3 @@
 pub mod Functions
+pub mod Meaning
+pub mod Renamed

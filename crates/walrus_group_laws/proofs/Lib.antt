@@ -1,0 +1,3 @@
+pub mod DeclaredLemmas
+pub mod GroupLemmas
+pub mod ParsedLemmas
