@@ -1,5 +1,5 @@
 -- Lemmas: an operator of constant expressions that has a spelling, and whose names are found, is one of a constant expression in a module.
-use Rattle.std.specs.Prelude.{ℕ, ◌<◌, ◌≡◌, nat_lt, true, false, List, [], ◌∷◌, length, Option, Some, None, Ok, refl}
+use Rattle.std.specs.Prelude.{ℕ, ◌≡◌, nat_lt, true, false, List, [], ◌∷◌, length, Some, None, Ok, refl}
 use Rattle.std.specs.Option.{option_and_then}
 use Rattle.std.proofs.Common.{ap, sym, ◌∙◌, subst}
 use Rattle.std.proofs.lemmas.Bool.{ltb-true}
@@ -14,7 +14,7 @@ use Rattle.wasm_grammar.specs.wasm_operators.declared.op_code.OpCode.{OpCode}
 use Rattle.wasm_grammar.specs.wasm_operators.Kinds.{forms}
 use Rattle.wasm_grammar.specs.wasm_operators.Operators.{Seen, kind_of, op_code}
 use Rattle.wasm_grammar.specs.wasm_operators.Table.{call_rows, plain_rows, fb_rows, fd_rows}
-use Rattle.wasm_grammar.specs.wasm_operators.wasm_immediates.Items.{Space, Types, Functions, Globals, Item, Names, Number, S32, S64, Bits, Bytes, Heap, Form}
+use Rattle.wasm_grammar.specs.wasm_operators.wasm_immediates.Items.{Space, Types, Functions, Globals, Item, Names, Number, S32, S64, Bits, Bytes, Heap}
 use Rattle.wasm_grammar.specs.wasm_operators.wasm_ref_types.declared.heap.AbstractHeapType.{AbstractHeapType}
 use Rattle.wasm_grammar.specs.wasm_operators.wasm_ref_types.declared.heap.AbstractHeapType.TheVariants as abstracts
 use Rattle.wasm_grammar.specs.wasm_operators.wasm_ref_types.declared.heap.HeapType.{HeapType as WrittenHeap}
@@ -22,20 +22,18 @@ use Rattle.wasm_grammar.specs.wasm_operators.wasm_ref_types.declared.heap.HeapTy
 use Rattle.wasm_grammar.specs.wasm_operators.wasm_ref_types.declared.index.UnpackedIndex.TheVariants.{Module, RecGroup, Id}
 use Rattle.wasm_spelled_modules.specs.wasm_module_rules.Keeps.{must_holds, first_none}
 use Rattle.wasm_spelled_modules.specs.wasm_operator_ranges.Ranges.{Of, ItemsFit, OperatorFits}
-use Rattle.walrus_tables_into.specs.walrus_sections_into.walrus_forms.declared.value.AbstractHeapType.{AbstractHeapType as FormAbstract}
 use Rattle.walrus_tables_into.specs.walrus_sections_into.walrus_forms.declared.value.AbstractHeapType.TheVariants as heaps
 use Rattle.walrus_tables_into.specs.walrus_sections_into.walrus_forms.declared.value.HeapType.{HeapType}
 use Rattle.walrus_tables_into.specs.walrus_sections_into.walrus_forms.declared.value.HeapType.TheVariants.{Abstract, Concrete, Exact}
 use Rattle.walrus_tables_into.specs.walrus_sections_into.walrus_instr.declared.const_expr.ConstOp.{ConstOp}
 use Rattle.walrus_tables_into.specs.walrus_sections_into.walrus_instr.declared.const_expr.ConstOp.TheVariants as consts
-use Rattle.walrus_tables_into.specs.walrus_sections_into.walrus_instr.declared.instr.Instr.{Instr}
 use Rattle.walrus_tables_into.specs.walrus_sections_into.walrus_instr.declared.instr.Value.TheVariants as values
 use Rattle.walrus_tables_into.specs.walrus_sections_into.walrus_instr.Constants.{const_of}
 use Rattle.walrus_tables_into.specs.walrus_sections_into.walrus_pairing.walrus_operator_codes.Unary.{unary_bytes}
 use Rattle.walrus_tables_into.specs.walrus_sections_into.walrus_pairing.walrus_operator_codes.Binary.{binary_bytes}
-use Rattle.walrus_tables_into.specs.walrus_sections_into.walrus_pairing.Looks.{Look, Or}
-use Rattle.walrus_tables_into.specs.walrus_sections_into.walrus_pairing.Types.{read_abstract, read_heap}
-use Rattle.walrus_tables_into.specs.walrus_sections_into.walrus_pairing.Read.{name_at, heap_at, counted_at, single_at, of_items}
+use Rattle.walrus_tables_into.specs.walrus_sections_into.walrus_pairing.Looks.{Look}
+use Rattle.walrus_tables_into.specs.walrus_sections_into.walrus_pairing.Types.{read_heap}
+use Rattle.walrus_tables_into.specs.walrus_sections_into.walrus_pairing.Read.{name_at, counted_at, of_items}
 use Rattle.wasm_spelled_modules.specs.Constants.{OfConstants}
 use Rattle.wasm_spelled_modules.proofs.Codes.{constants_are_listed}
 use Rattle.walrus_tables_into.specs.walrus_sections_into.Consts.{instr_const, plain_of}

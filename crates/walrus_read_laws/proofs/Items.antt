@@ -1,16 +1,16 @@
 -- Lemmas: no item lacks anything, where what it names is found.
-use Rattle.std.specs.Prelude.{ℕ, ◌+◌, ◌≤◌, ◌<◌, ◌≡◌, ◌⊎◌, ◌^◌, Bool, true, false, List, [], ◌∷◌, ◌++◌, length, map, filter, Option, Some, None, IfSome, IsSome, Ok, Err, slice_get, refl}
-use Rattle.std.specs.List.{AllByRecursion, Any}
+use Rattle.std.specs.Prelude.{ℕ, ◌+◌, ◌≤◌, ◌<◌, ◌≡◌, ◌⊎◌, ◌^◌, Bool, true, List, [], ◌∷◌, ◌++◌, length, map, Option, Some, None, IsSome, Ok, Err, slice_get, refl}
+use Rattle.std.specs.List.{AllByRecursion}
 use Rattle.std.specs.Option.{option_map}
 use Rattle.std.specs.Global.{Vec}
-use Rattle.std.proofs.Common.{ap, sym, ◌∙◌, subst, arith, inl, inr}
+use Rattle.std.proofs.Common.{arith, inl, inr}
 use Rattle.std.proofs.lemmas.List.{length-append}
 use Rattle.std.proofs.lemmas.Option.{slice_get_within}
 use Rattle.wasm_formats.specs.wasm_features.declared.WasmFeatures.{WasmFeatures}
 use Rattle.wasm_formats.specs.declared.fault.Space.{Space}
 use Rattle.wasm_formats.specs.declared.fault.Space.TheVariants as spaces
-use Rattle.wasm_grammar.specs.Exprs.{Known, some_operators}
-use Rattle.wasm_grammar.specs.Modules.{Expr, Module, Global as GrammarGlobal}
+use Rattle.wasm_grammar.specs.Exprs.{Known}
+use Rattle.wasm_grammar.specs.Modules.{Module, Global as GrammarGlobal}
 use Rattle.wasm_grammar.specs.States.{types_of, count_of, form_test}
 use Rattle.wasm_spelled_modules.specs.wasm_module_rules.Linked.{Each, IsFunctionType, GoesInto, AllBelow, AreListed, IsBelow}
 use Rattle.wasm_ruled_modules.specs.Rules.{IsCounted, ItemsBelow, AreKnown, IsExpr, AreExprs, IsInit, own_init, GlobalsSee, IsPlaced, ItemsKnown, knows}
@@ -23,15 +23,13 @@ use Rattle.walrus_tables_into.specs.walrus_sections_into.walrus_forms.declared.v
 use Rattle.walrus_tables_into.specs.walrus_sections_into.walrus_forms.declared.value.RefType.{RefType}
 use Rattle.walrus_tables_into.specs.walrus_sections_into.walrus_forms.declared.value.ValType.{ValType}
 use Rattle.walrus_tables_into.specs.walrus_sections_into.walrus_forms.declared.value.ValType.TheVariants.{I32, I64, F32, F64, V128, Ref}
-use Rattle.walrus_tables_into.specs.walrus_sections_into.walrus_instr.declared.const_expr.ConstOp.{ConstOp}
 use Rattle.walrus_tables_into.specs.walrus_sections_into.walrus_operators.Operators.{seen}
 use Rattle.walrus_tables_into.specs.walrus_sections_into.walrus_operators.declared.operator.Operator.{Operator}
 use Rattle.walrus_tables_into.specs.walrus_sections_into.walrus_pairing.Looks.{Look}
 use Rattle.walrus_tables_into.specs.walrus_sections_into.wasm_immediates.Items as immediates
-use Rattle.walrus_tables_into.specs.walrus_sections_into.declared.error.IntoError.{IntoError}
 use Rattle.walrus_tables_into.specs.walrus_sections_into.declared.error.IntoError.TheVariants.{Unknown}
 use Rattle.walrus_tables_into.specs.walrus_sections_into.Consts.{OpLacks}
-use Rattle.walrus_tables_into.specs.walrus_sections_into.Lacks.{ItemLacks, ImportLacks, StartLacks, PlaceLacks}
+use Rattle.walrus_tables_into.specs.walrus_sections_into.Lacks.{ItemLacks, StartLacks, PlaceLacks}
 use Rattle.walrus_tables_into.specs.walrus_sections_into.walrus_known_sections.Items.{mode_of, items_of}
 use Rattle.walrus_tables_into.specs.walrus_sections_into.walrus_known_sections.declared.items.Mode.{Mode}
 use Rattle.walrus_tables_into.specs.walrus_sections_into.walrus_known_sections.declared.items.Mode.TheVariants as modes

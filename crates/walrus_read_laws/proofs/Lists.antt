@@ -1,5 +1,5 @@
 -- Lemmas: what is so of each item of a list, and so of none that it isn't.
-use Rattle.std.specs.Prelude.{ℕ, zero, suc, ◌+◌, ◌≤◌, ◌<◌, ◌≡◌, Bool, not, List, [], ◌∷◌, length, map, filter, Option, Some, None, slice_index_or}
+use Rattle.std.specs.Prelude.{zero, suc, ◌≤◌, Bool, not, List, [], ◌∷◌, length, map, filter, Option, Some, None}
 use Rattle.std.specs.List.{AllByRecursion, Any}
 use Rattle.std.proofs.Common.{sym, subst, arith, refl}
 use Rattle.std.proofs.lemmas.List.Filters.{length-filter_both}

@@ -1,5 +1,5 @@
 -- Lemmas: nothing of what was read lacks anything.
-use Rattle.std.specs.Prelude.{ℕ, ◌≤◌, ◌<◌, ◌≡◌, ◌⊎◌, true, List, [], length, All, Option, Some, None, slice_get, refl}
+use Rattle.std.specs.Prelude.{ℕ, ◌≤◌, ◌<◌, ◌≡◌, ◌⊎◌, true, List, [], length, All, Some, None, slice_get, refl}
 use Rattle.std.specs.List.{Any}
 use Rattle.std.proofs.Common.{subst, arith, inl, inr}
 use Rattle.std.proofs.lemmas.List.{length-map}
@@ -7,9 +7,9 @@ use Rattle.std.proofs.lemmas.Option.{slice_get-get_or}
 use Rattle.wasm_formats.specs.wasm_features.declared.WasmFeatures.{WasmFeatures}
 use Rattle.wasm_grammar.specs.Modules as grammar
 use Rattle.wasm_grammar.specs.Modules.{Module}
-use Rattle.wasm_grammar.specs.States.{State, types_of, count_of}
+use Rattle.wasm_grammar.specs.States.{State, types_of}
 use Rattle.wasm_sections.specs.Laws.{ReadsSections}
-use Rattle.wasm_spelled_modules.specs.wasm_module_rules.Linked.{Each, IsLinked, IsFunctionType, IsThere, GoesInto, AreListed}
+use Rattle.wasm_spelled_modules.specs.wasm_module_rules.Linked.{IsLinked, IsFunctionType, IsThere, GoesInto, AreListed}
 use Rattle.wasm_spelled_modules.specs.wasm_module_rules.Reading.{file_linked}
 use Rattle.wasm_ruled_modules.specs.Rules.{IsCounted, AreNamed, ItemsBelow, AreExpressed, IsInit, IsPlaced, ItemsKnown, knows, knows_imported, table_wide, memory_wide, is_imported}
 use Rattle.wasm_ruled_modules.specs.Keeping.{file_kept, file_kept_at}
@@ -25,21 +25,17 @@ use Rattle.walrus_tables_into.specs.walrus_sections_into.Becomes.{look_of}
 use Rattle.walrus_tables_into.specs.walrus_sections_into.Lacks.{DataLacks, ExportLacks, ImportLacks, TagLacks}
 use Rattle.walrus_tables_into.specs.walrus_sections_into.walrus_index_maps.Maps.{Ids}
 use Rattle.walrus_tables_into.specs.walrus_sections_into.walrus_pairing.Looks.{Look}
-use Rattle.walrus_tables_into.specs.walrus_sections_into.wasm_immediates.Items as immediates
 use Rattle.walrus_tables_into.specs.walrus_sections_into.walrus_known_sections.Items.{import_of, table_of, tag_of, export_of, element_of, data_of}
 use Rattle.walrus_tables_into.specs.walrus_sections_into.walrus_known_sections.State.{state_of}
-use Rattle.walrus_tables_into.specs.walrus_sections_into.walrus_known_sections.declared.items.Data.{Data}
 use Rattle.walrus_tables_into.specs.walrus_sections_into.walrus_known_sections.declared.items.Element.{Element}
-use Rattle.walrus_tables_into.specs.walrus_sections_into.walrus_known_sections.declared.items.Export.{Export}
 use Rattle.walrus_tables_into.specs.walrus_sections_into.walrus_known_sections.declared.items.Import.{Import}
 use Rattle.walrus_tables_into.specs.walrus_sections_into.walrus_known_sections.declared.items.Table.{Table}
-use Rattle.walrus_tables_into.specs.walrus_sections_into.walrus_known_sections.declared.items.Tag.{Tag}
 use Rattle.walrus_tables_into.specs.walrus_sections_into.walrus_known_sections.declared.sections.Sections.{Sections}
 use Rattle.walrus_tables_into.specs.walrus_section_values.Globals.{global_of}
 use Rattle.walrus_tables_into.specs.Elements.{ElementLacks}
 use Rattle.walrus_tables_into.specs.Globals.{GlobalLacks}
 use Rattle.walrus_tables_into.specs.Tables.{TableLacks}
-use Rattle.walrus_read_laws.specs.Numbered.{AllFound, Finds}
+use Rattle.walrus_read_laws.specs.Numbered.{Finds}
 use Rattle.walrus_read_laws.specs.Whole.{AreNumbered, LackNothing, ReadSectionsLackNothing}
 use Rattle.walrus_read_laws.proofs.Items.{FindsAll, finds, tag_there, start_there, item_there, ref_there, init_there, not_both, globals_there, mode_there, place_there, items_there, number_small}
 use Rattle.walrus_read_laws.proofs.Lists.{both, each_none, filter_shorter, not_any}
