@@ -21,10 +21,10 @@ fn drop_at<T: Tombstone + Drop, S>(
 )
     ensures { RestAmong (λ k. k ≡ index) (λ k _. IsHeld kept.now (item space k)) items.old items.new }
 {
-    if !items.contains(Id::from_index(index as usize)) {
+    if kept.has(Item { space, id: index }) {
         return;
     }
-    if kept.has(Item { space, id: index }) {
+    if !items.contains(Id::from_index(index as usize)) {
         return;
     }
     items.delete(Id::from_index(index as usize));

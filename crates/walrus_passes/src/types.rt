@@ -17,7 +17,7 @@ use wasm_formats::Space;
 fn is_needless(types: &ModuleTypes, kept: &KeptItems, id: TypeId) -> bool
     ensures { Decides result (IsNeedless types.now kept.now id) }
 {
-    types.contains(id) && !types.get(id).is_entry() && !kept.has(Item::new(Space::Type, id))
+    !kept.has(Item::new(Space::Type, id)) && types.contains(id) && !types.get(id).is_entry()
 }
 
 // Whether the type is in an explicit group.

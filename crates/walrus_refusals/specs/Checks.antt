@@ -1,5 +1,5 @@
 -- Checks of the items that were met.
-use Rattle.std.specs.Prelude.{◌≡◌, ◌⊎◌, ℕ, ◌<◌, Option, Some, MatchOption, IsTrue}
+use Rattle.std.specs.Prelude.{◌≡◌, ◌⊎◌, ℕ, ◌<◌, Option, Some, None, MatchOption, IsTrue}
 use Rattle.wasm_formats.specs.declared.fault.Form.{Form}
 use Rattle.wasm_formats.specs.declared.fault.Form.TheVariants as forms
 use Rattle.wasm_formats.specs.declared.fault.Space.{Space}
@@ -12,6 +12,9 @@ use Rattle.walrus_roots.specs.declared.item.Item.{Item}
 use Rattle.walrus_roots.specs.Items.{item, space_number}
 use Rattle.walrus_marks.specs.Marks.{State, is_marked}
 use Rattle.walrus_linked.specs.walrus_module.Items.{brought}
+use Rattle.walrus_used.specs.walrus_references.Refused.{FormsTree}
+use Rattle.walrus_refusals.specs.Asked.{IsOwnLinked}
+use Rattle.walrus_refusals.specs.Sound.{Stands}
 use Rattle.walrus_refusals.specs.Written.{HasNoExact, IsUnshared}
 
 -- the item was met
@@ -39,6 +42,10 @@ FailsIn holds marks space = (((x : Item) → x.space ≡ space → IsMet marks x
 abbrev pub AreInexact : Module → State → Type 0
 AreInexact m marks = HoldsMet (HasNoExact m) marks × ((id : ℕ) → IsMet marks (item spaces.Local id) → HasNoExact m (item spaces.Local id))
 
+-- nothing is wrong with the item, of all that an item says of itself
+abbrev pub IsWell : Module → Item → Type 0
+IsWell m x = (IsOwnLinked m x × FormsTree m x) × (Stands m x × (IsUnshared m x × HasNoExact m x))
+
 -- something that was met has the form
 abbrev pub HasMetForm : Module → State → Form → Type 0
 HasMetForm m marks forms.SharedGlobal = HoldsMet (IsUnshared m) marks → ⊥
@@ -52,3 +59,10 @@ ClaimsTruly m marks i import = IsMet marks (brought import.kind) → import_in m
 -- all imports do
 abbrev pub AllClaimTruly : Module → State → Type 0
 AllClaimTruly m marks = (i : ℕ) (import : Import) → item_at m.imports i ≡ Some import → ClaimsTruly m marks i import
+
+-- nothing is wrong with what was met
+pub record AreWell (m : Module) (marks : State) : Type 0 where
+  pub flagged : marks.missing ≡ None
+  pub items : HoldsMet (IsWell m) marks
+  pub claims : AllClaimTruly m marks
+  pub locals : (id : ℕ) → IsMet marks (item spaces.Local id) → HasNoExact m (item spaces.Local id)

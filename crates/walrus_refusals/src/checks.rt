@@ -28,6 +28,26 @@ pub(crate) trait Check {
         ensures { IfOk result (λ ok. Decides ok (holds self.now item)) };
 }
 
+/// Two of them, of which an item is asked both while it is at hand.
+#[derive(Clone, Copy)]
+pub(crate) struct Both<A, B> {
+    pub(crate) first: A,
+    pub(crate) second: B,
+}
+
+impl<A: Check, B: Check> Check for Both<A, B> {
+    ghost holds = { λ s x. A.holds s.first x × B.holds s.second x };
+
+    fn check(&self, item: Item) -> Result<bool, AllocError>
+        ensures { IfOk result (λ ok. Decides ok (A.holds self.now.first item × B.holds self.now.second item)) }
+    {
+        if !self.first.check(item)? {
+            return Ok(false);
+        }
+        self.second.check(item)
+    }
+}
+
 // Whether it holds of the item, if that was met.
 fn holds_if_met<C: Check>(marks: &Marks, check: &C, item: Item) -> Result<bool, AllocError>
     ensures { IfOk result (λ ok. Decides ok (IsMet marks.now item → C.holds check.now item)) }

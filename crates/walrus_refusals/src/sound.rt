@@ -1,5 +1,6 @@
 //! What is reached in a module, where nothing is wrong with it.
 ghost use Rattle.std.specs.Prelude.{◌≡◌, ◌↔◌, Decides, IfErr, IfOk, MatchOption, None, OnOk};
+ghost use Rattle.std.specs.Bool.{OnTrue};
 ghost use Rattle.walrus_linked.specs.walrus_module.Parts.{parts};
 ghost use Rattle.walrus_roots.specs.declared.item.Item.{Item as AnyItem};
 ghost use Rattle.walrus_marks.specs.Chains.{FitsIn};
@@ -7,11 +8,11 @@ ghost use Rattle.walrus_used.specs.walrus_references.Kept.{IsReached};
 ghost use Rattle.walrus_linked.specs.walrus_module.Items.{Lives};
 ghost use Rattle.walrus_used.specs.Counts.{counts_of};
 ghost use Rattle.walrus_refusals.specs.Asked.{IsOwnLinked};
-ghost use Rattle.walrus_refusals.specs.Checks.{AllClaimTruly, AreInexact, FailsIn, HasMetForm, HoldsMet, IsMet};
+ghost use Rattle.walrus_refusals.specs.Checks.{AllClaimTruly, AreWell, AreInexact, FailsIn, HasMetForm, HoldsMet, IsMet};
 ghost use Rattle.walrus_refusals.specs.Sound.{IsRefused, IsSound, Stands};
 ghost use Rattle.walrus_refusals.specs.Written.{IsUnshared, StaysInGroup};
 
-use crate::checks::{Check, failing_space};
+use crate::checks::{Both, Check, failing_space};
 use crate::grouped::Grouped;
 use crate::linked::{OwnLinks, all_claim_truly};
 use crate::live::Living;
@@ -86,6 +87,42 @@ fn form_of(alloc: Global, input: &Module, marks: &Marks) -> Result<Option<Form>,
     Ok(None)
 }
 
+// Whether nothing is wrong with what was met, told in one pass: an item is asked all while it is at hand.
+fn are_well(alloc: Global, input: &Module, marks: &Marks) -> Result<bool, AllocError>
+    requires { (x : AnyItem) → IsMet marks.now x → FitsIn (counts_of (parts input.now)) x }
+    ensures { IfOk result (λ ok. OnTrue ok (AreWell (parts input.now) marks.now)) }
+{
+    let linked = Both {
+        first: OwnLinks { alloc, input },
+        second: Trees { alloc, input },
+    };
+    let standing = Both {
+        first: Living { input },
+        second: Grouped { alloc, input },
+    };
+    let written = Both {
+        first: Unshared { input },
+        second: Inexact { alloc, input },
+    };
+    let all = Both {
+        first: linked,
+        second: Both {
+            first: standing,
+            second: written,
+        },
+    };
+    if marks.missing().is_some() {
+        return Ok(false);
+    }
+    if !holds_of_all(input, marks, &all)? {
+        return Ok(false);
+    }
+    if !all_claim_truly(input, marks) {
+        return Ok(false);
+    }
+    Ok(locals_have_none(input.locals.iter().as_slice(), marks))
+}
+
 /// Marks what is reached from the roots, where custom sections push these. Takes time and memory in proportion to
 /// the module.
 ///
@@ -102,6 +139,9 @@ pub fn reach_sound(alloc: Global, input: &Module, pushed: &[Item]) -> Result<Mar
 {
     walrus_types::laws::types_are_grouped(&input.types);
     let marks = reach_items(alloc, input, pushed)?;
+    if are_well(alloc, input, &marks)? {
+        return Ok(marks);
+    }
     if !are_linked(alloc, input, &marks)? {
         return Err(ModuleError::NotLinked);
     }
