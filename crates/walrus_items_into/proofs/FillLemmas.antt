@@ -22,7 +22,7 @@ use Rattle.walrus_tables_into.specs.walrus_sections_into.Segments.{IsSegmentOf}
 use Rattle.walrus_tables_into.specs.Tables.{IsTableOf}
 use Rattle.walrus_tables_into.specs.Globals.{IsGlobalOf}
 use Rattle.walrus_tables_into.specs.Elements.{IsElementOf}
-use Rattle.walrus_tables_into.specs.Customs.{IsCustomOf}
+use Rattle.walrus_tables_into.specs.Customs.{IsCustomOf, plain}
 use Rattle.walrus_items_into.specs.Filled.{AreRead, IsFilledFrom, IsNew}
 use Rattle.walrus_items_into.specs.Numbers.{numbers_of, types_in, with_items}
 use Rattle.walrus_items_into.specs.Spaces.{Spaces}
@@ -88,7 +88,7 @@ module _ {B : Type 0} (s : Sections) (i j k l : Ids) (old new : Spaces B) (fresh
       → Filled (IsExportOf (look_of l)) s.exports.items old.exports.slots new.exports.slots
       → Filled (IsElementOf (look_of l)) s.elements.items old.elements.slots new.elements.slots
       → Filled (IsSegmentOf (look_of l)) s.segments.items old.segments.slots new.segments.slots
-      → Filled IsCustomOf s.customs.items old.customs.slots new.customs.slots
+      → Filled IsCustomOf (plain s.customs.items) old.customs.slots new.customs.slots
       → (begin : Option ℕ) → StartBecomes (look_of l) s.start begin → IsFilledFrom s begin l new
   filled reads whole types table functions numbers items imports tables memories tags globals exports elements segments customs begin start = record {
     numbers = numbered s i j k l old.types old.functions.slots fresh.numbers fresh.types fresh.functions types
@@ -104,7 +104,7 @@ module _ {B : Type 0} (s : Sections) (i j k l : Ids) (old new : Spaces B) (fresh
     exports = emptied (IsExportOf (look_of l)) s.exports.items old.exports.slots new.exports.slots fresh.exports exports;
     elements = emptied (IsElementOf (look_of l)) s.elements.items old.elements.slots new.elements.slots fresh.elements elements;
     segments = emptied (IsSegmentOf (look_of l)) s.segments.items old.segments.slots new.segments.slots fresh.segments segments;
-    customs = emptied IsCustomOf s.customs.items old.customs.slots new.customs.slots fresh.customs customs;
+    customs = emptied IsCustomOf (plain s.customs.items) old.customs.slots new.customs.slots fresh.customs customs;
     start = start;
   }
 

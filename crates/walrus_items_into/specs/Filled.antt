@@ -16,7 +16,7 @@ use Rattle.walrus_tables_into.specs.walrus_sections_into.Segments.{IsSegmentOf}
 use Rattle.walrus_tables_into.specs.Tables.{IsTableOf}
 use Rattle.walrus_tables_into.specs.Globals.{IsGlobalOf}
 use Rattle.walrus_tables_into.specs.Elements.{IsElementOf}
-use Rattle.walrus_tables_into.specs.Customs.{IsCustomOf}
+use Rattle.walrus_tables_into.specs.Customs.{IsCustomOf, plain}
 use Rattle.walrus_items_into.specs.Spaces.{Spaces}
 use Rattle.walrus_items_into.specs.Numbers.{numbers_of, types_in}
 
@@ -41,7 +41,8 @@ module _ {B : Type 0} where
     pub customs : m.customs.slots ≡ []
 
   -- each number of the file names the item that it became: the types are those of the file in a new table, the functions have their types
-  -- and no bodies, and the items of each other space fill its slots in the file's order, each the same, but that a name is an id
+  -- and no bodies, and the items of each other space fill its slots in the file's order, each the same, but that a name is an id; of the
+  -- custom sections those that stay sections
   pub record IsFilledFrom (s : Sections) (begin : Option ℕ) (i : Ids) (m : Spaces B) : Type 0 where
     pub numbers : i ≡ numbers_of s
     pub types : m.types ≡ (types_in s).table
@@ -54,5 +55,5 @@ module _ {B : Type 0} where
     pub exports : Filled (IsExportOf (look_of i)) s.exports.items [] m.exports.slots
     pub elements : Filled (IsElementOf (look_of i)) s.elements.items [] m.elements.slots
     pub segments : Filled (IsSegmentOf (look_of i)) s.segments.items [] m.segments.slots
-    pub customs : Filled IsCustomOf s.customs.items [] m.customs.slots
+    pub customs : Filled IsCustomOf (plain s.customs.items) [] m.customs.slots
     pub start : StartBecomes (look_of i) s.start begin
