@@ -77,7 +77,7 @@ upto_past : (n i : ℕ) → n ≤ i → slice_get (upto n) i ≡ None
 upto_past n i le = get_past (upto n) i (omega (arith, le, upto_length n))
 
 -- as many numbers as items
-many : {X Y : Type 0} (ids : List ℕ) (xs : List X) (f : X → Y) → ids ≡ upto (length xs) → length ids ≡ length (map f xs)
+pub many : {X Y : Type 0} (ids : List ℕ) (xs : List X) (f : X → Y) → ids ≡ upto (length xs) → length ids ≡ length (map f xs)
 many ids xs f e = ap length e ∙ upto_length (length xs) ∙ sym (length-map xs f)
 
 -- what numbers in turn name is there by its place

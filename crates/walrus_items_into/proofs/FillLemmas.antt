@@ -30,12 +30,12 @@ use Rattle.walrus_items_into.specs.Spaces.{Spaces}
 -- ---- what is asked
 
 pub below : (s : Sections) → TypesNameBelow → AreRead s → AreBelow 0 s.types
-below s law read = law read.0 read.1 (state_of s) read.2
+below s law read = law read.0 read.1 (state_of s) read.3
 
 -- each function names a type of the file
 pub typed : (s : Sections) → TypesNameBelow → NewTypesStand → ReadFunctionsStand → AreRead s → AreTyped (types_in s).ids s.functions.items
 typed s names stand functions read =
-    (functions read.0 read.1 s (types_in s).ids (types_in s).table 0 read.2 (stand s.types (below s names read))).0
+    (functions read.0 read.1 s (types_in s).ids (types_in s).table 0 read.3 (stand s.types (below s names read))).0
 
 -- and so it does of the map
 pub typed_there : (s : Sections) (i j : Ids) (t : Table) (reads : List ReadFunction) → i ≡ no_ids → t ≡ no_types → j ≡ with_types (parsed s.types (unparsed t)).ids i → reads ≡ s.functions.items

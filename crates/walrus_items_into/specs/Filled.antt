@@ -1,5 +1,5 @@
 -- Collections of a module, and index maps, that the sections of a file have filled.
-use Rattle.std.specs.Prelude.{ℕ, ◌≡◌, List, [], Option}
+use Rattle.std.specs.Prelude.{ℕ, ◌<◌, ◌≡◌, List, [], All, Option}
 use Rattle.walrus_tables_into.specs.walrus_sections_into.walrus_collections.walrus_local_function.walrus_body_locals.walrus_body_nesting.wasm_formats.wasm_features.declared.WasmFeatures.{WasmFeatures}
 use Rattle.wasm_sections.specs.Laws.{ReadsSections}
 use Rattle.walrus_tables_into.specs.walrus_sections_into.walrus_index_maps.Maps.{Ids, no_ids}
@@ -20,9 +20,9 @@ use Rattle.walrus_tables_into.specs.Customs.{IsCustomOf, plain}
 use Rattle.walrus_items_into.specs.Spaces.{Spaces}
 use Rattle.walrus_items_into.specs.Numbers.{numbers_of, types_in}
 
--- they are those of a file
+-- they are those of a file, which is so many bytes
 abbrev pub AreRead : Sections → Type 0
-AreRead s = (features : WasmFeatures) × (bytes : List ℕ) × ReadsSections features bytes (state_of s)
+AreRead s = (features : WasmFeatures) × (bytes : List ℕ) × All (λ b. b < 256) bytes × ReadsSections features bytes (state_of s)
 
 module _ {B : Type 0} where
   -- nothing was there, and no number names anything
