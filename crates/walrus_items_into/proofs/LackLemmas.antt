@@ -2,15 +2,15 @@
 use Rattle.std.proofs.Common.{◌≡◌, ◌∙◌, List, Some, Result, Ok, Err, IfErr, IsErr, refl, sym, subst}
 use Rattle.std.specs.Prelude.{IsErrAnd}
 use Rattle.std.specs.List.{Any}
-use Rattle.walrus_tables_into.specs.walrus_sections_into.walrus_index_maps.Maps.{Ids}
-use Rattle.walrus_tables_into.specs.walrus_sections_into.walrus_known_sections.Items.{function_of, table_of, memory_of, tag_of}
-use Rattle.walrus_tables_into.specs.walrus_section_values.Globals.{global_of}
-use Rattle.walrus_tables_into.specs.walrus_sections_into.walrus_known_sections.State.{state_of}
-use Rattle.walrus_tables_into.specs.walrus_sections_into.walrus_known_sections.declared.sections.Sections.{Sections}
-use Rattle.walrus_tables_into.specs.walrus_sections_into.declared.error.IntoError.{IntoError}
-use Rattle.walrus_tables_into.specs.walrus_sections_into.declared.error.IntoError.TheVariants as errors
-use Rattle.walrus_tables_into.specs.walrus_sections_into.Becomes.{look_of}
-use Rattle.walrus_types_into.specs.Into.{TypesNameBelow, NewTypesStand}
+use Rattle.walrus_read_laws.specs.walrus_tables_into.walrus_sections_into.walrus_index_maps.Maps.{Ids}
+use Rattle.walrus_read_laws.specs.walrus_tables_into.walrus_sections_into.walrus_known_sections.Items.{function_of, table_of, memory_of, tag_of}
+use Rattle.walrus_read_laws.specs.walrus_tables_into.walrus_section_values.Globals.{global_of}
+use Rattle.walrus_read_laws.specs.walrus_tables_into.walrus_sections_into.walrus_known_sections.State.{state_of}
+use Rattle.walrus_read_laws.specs.walrus_tables_into.walrus_sections_into.walrus_known_sections.declared.sections.Sections.{Sections}
+use Rattle.walrus_read_laws.specs.walrus_tables_into.walrus_sections_into.declared.error.IntoError.{IntoError}
+use Rattle.walrus_read_laws.specs.walrus_tables_into.walrus_sections_into.declared.error.IntoError.TheVariants as errors
+use Rattle.walrus_read_laws.specs.walrus_tables_into.walrus_sections_into.Becomes.{look_of}
+use Rattle.walrus_functions_into.specs.walrus_types_into.Into.{TypesNameBelow, NewTypesStand}
 use Rattle.walrus_read_laws.specs.Whole.{AreNumbered, LackNothing, ReadSectionsLackNothing}
 use Rattle.walrus_items_into.specs.Filled.{AreRead}
 use Rattle.walrus_items_into.specs.Numbers.{numbers_of}

@@ -1,22 +1,22 @@
 -- Collections of a module, and index maps, that the sections of a file have filled.
 use Rattle.std.specs.Prelude.{ℕ, ◌<◌, ◌≡◌, List, [], All, Option}
-use Rattle.walrus_tables_into.specs.walrus_sections_into.walrus_collections.walrus_local_function.walrus_body_locals.walrus_body_nesting.wasm_formats.wasm_features.declared.WasmFeatures.{WasmFeatures}
-use Rattle.wasm_sections.specs.Laws.{ReadsSections}
-use Rattle.walrus_tables_into.specs.walrus_sections_into.walrus_index_maps.Maps.{Ids, no_ids}
-use Rattle.walrus_types_into.specs.Into.{no_types}
-use Rattle.walrus_tables_into.specs.walrus_sections_into.walrus_known_sections.declared.sections.Sections.{Sections}
-use Rattle.walrus_tables_into.specs.walrus_sections_into.walrus_known_sections.State.{state_of}
+use Rattle.walrus_module_env.specs.walrus_body_parser.wasm_operators.wasm_features.declared.WasmFeatures.{WasmFeatures}
+use Rattle.walrus_functions_into.specs.wasm_sections.Laws.{ReadsSections}
+use Rattle.walrus_read_laws.specs.walrus_tables_into.walrus_sections_into.walrus_index_maps.Maps.{Ids, no_ids}
+use Rattle.walrus_functions_into.specs.walrus_types_into.Into.{no_types}
+use Rattle.walrus_read_laws.specs.walrus_tables_into.walrus_sections_into.walrus_known_sections.declared.sections.Sections.{Sections}
+use Rattle.walrus_read_laws.specs.walrus_tables_into.walrus_sections_into.walrus_known_sections.State.{state_of}
 use Rattle.walrus_functions_into.specs.Functions.{functions_from}
-use Rattle.walrus_tables_into.specs.walrus_sections_into.Becomes.{look_of}
-use Rattle.walrus_tables_into.specs.walrus_sections_into.Slots.{Filled, IsMemoryOf}
-use Rattle.walrus_tables_into.specs.walrus_sections_into.Imports.{IsImportOf}
-use Rattle.walrus_tables_into.specs.walrus_sections_into.Tags.{IsTagOf}
-use Rattle.walrus_tables_into.specs.walrus_sections_into.Exports.{IsExportOf, StartBecomes}
-use Rattle.walrus_tables_into.specs.walrus_sections_into.Segments.{IsSegmentOf}
-use Rattle.walrus_tables_into.specs.Tables.{IsTableOf}
-use Rattle.walrus_tables_into.specs.Globals.{IsGlobalOf}
-use Rattle.walrus_tables_into.specs.Elements.{IsElementOf}
-use Rattle.walrus_tables_into.specs.Customs.{IsCustomOf, plain}
+use Rattle.walrus_read_laws.specs.walrus_tables_into.walrus_sections_into.Becomes.{look_of}
+use Rattle.walrus_read_laws.specs.walrus_tables_into.walrus_sections_into.Slots.{Filled, IsMemoryOf}
+use Rattle.walrus_read_laws.specs.walrus_tables_into.walrus_sections_into.Imports.{IsImportOf}
+use Rattle.walrus_read_laws.specs.walrus_tables_into.walrus_sections_into.Tags.{IsTagOf}
+use Rattle.walrus_read_laws.specs.walrus_tables_into.walrus_sections_into.Exports.{IsExportOf, StartBecomes}
+use Rattle.walrus_read_laws.specs.walrus_tables_into.walrus_sections_into.Segments.{IsSegmentOf}
+use Rattle.walrus_read_laws.specs.walrus_tables_into.Tables.{IsTableOf}
+use Rattle.walrus_read_laws.specs.walrus_tables_into.Globals.{IsGlobalOf}
+use Rattle.walrus_read_laws.specs.walrus_tables_into.Elements.{IsElementOf}
+use Rattle.walrus_read_laws.specs.walrus_tables_into.Customs.{IsCustomOf, plain}
 use Rattle.walrus_items_into.specs.Spaces.{Spaces}
 use Rattle.walrus_items_into.specs.Numbers.{numbers_of, types_in}
 

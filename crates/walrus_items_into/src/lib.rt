@@ -9,5 +9,5 @@ pub use items::read_items;
 
 // Passed on to crates above, which then list this one alone.
 pub use walrus_functions_into as functions_into;
-pub use walrus_tables_into as tables_into;
-pub use walrus_types as types;
+pub use walrus_module_env as module_env;
+pub use walrus_read_laws::tables_into;

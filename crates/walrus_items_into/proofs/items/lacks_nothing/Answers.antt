@@ -1,4 +1,4 @@
-use Rattle.walrus_tables_into.specs.walrus_sections_into.walrus_index_maps.Views.{ids}
+use Rattle.walrus_read_laws.specs.walrus_tables_into.walrus_sections_into.walrus_index_maps.Views.{ids}
 use Rattle.walrus_items_into.proofs.LackLemmas.{nothing_lacks}
 use Rattle.walrus_items_into.proofs.items.lacks_nothing.Goals as goal
 

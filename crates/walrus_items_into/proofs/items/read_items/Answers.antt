@@ -1,13 +1,13 @@
 use Rattle.std.proofs.Common.{◌∙◌, List, length, ap}
 use Rattle.walrus_functions_into.specs.Functions.{with_functions}
-use Rattle.walrus_tables_into.specs.Tables.{TableLacks}
-use Rattle.walrus_tables_into.specs.Globals.{GlobalLacks}
-use Rattle.walrus_tables_into.specs.Elements.{ElementLacks}
-use Rattle.walrus_tables_into.specs.walrus_sections_into.Becomes.{look_of}
-use Rattle.walrus_tables_into.specs.walrus_sections_into.Lacks.{DataLacks, ExportLacks, ImportLacks, StartLacks, TagLacks}
-use Rattle.walrus_tables_into.specs.walrus_sections_into.walrus_known_sections.declared.items.Function.{Function as ReadFunction}
-use Rattle.walrus_tables_into.specs.walrus_sections_into.Exports.{StartBecomes}
-use Rattle.walrus_tables_into.specs.walrus_sections_into.walrus_index_maps.Views.{ids}
+use Rattle.walrus_read_laws.specs.walrus_tables_into.Tables.{TableLacks}
+use Rattle.walrus_read_laws.specs.walrus_tables_into.Globals.{GlobalLacks}
+use Rattle.walrus_read_laws.specs.walrus_tables_into.Elements.{ElementLacks}
+use Rattle.walrus_read_laws.specs.walrus_tables_into.walrus_sections_into.Becomes.{look_of}
+use Rattle.walrus_read_laws.specs.walrus_tables_into.walrus_sections_into.Lacks.{DataLacks, ExportLacks, ImportLacks, StartLacks, TagLacks}
+use Rattle.walrus_read_laws.specs.walrus_tables_into.walrus_sections_into.walrus_known_sections.declared.items.Function.{Function as ReadFunction}
+use Rattle.walrus_read_laws.specs.walrus_tables_into.walrus_sections_into.Exports.{StartBecomes}
+use Rattle.walrus_read_laws.specs.walrus_tables_into.walrus_sections_into.walrus_index_maps.Views.{ids}
 use Rattle.walrus_items_into.specs.Filled.{IsFilledFrom}
 use Rattle.walrus_items_into.specs.Spaces.{spaces}
 use Rattle.walrus_items_into.proofs.FillLemmas.{below, typed, typed_there, numbered, over, filled, on_start}
