@@ -11,24 +11,24 @@ ghost use Rattle.walrus_items_into.specs.Spaces.{spaces};
 
 use crate::numbers::number_items;
 use std::alloc::Global;
+use walrus_arena::FunctionId;
 use walrus_functions_into::add_functions;
 use walrus_functions_into::laws::read_functions_stand;
-use walrus_read_laws::read_sections_lack_nothing;
-use walrus_read_laws::tables_into::sections::Sections as CustomSections;
-use walrus_arena::FunctionId;
+use walrus_functions_into::types_into::laws::{new_types_stand, types_name_below};
+use walrus_functions_into::types_into::read_types_into;
+use walrus_module_env::body_env::instr::type_table::ModuleTypes;
 use walrus_module_env::collections::{
     ModuleData, ModuleElements, ModuleExports, ModuleFunctions, ModuleGlobals, ModuleImports,
     ModuleMemories, ModuleTables, ModuleTags,
 };
+use walrus_read_laws::read_sections_lack_nothing;
+use walrus_read_laws::tables_into::sections::Sections as CustomSections;
 use walrus_read_laws::tables_into::sections_into::index_maps::IndicesToIds;
 use walrus_read_laws::tables_into::sections_into::known_sections::Sections;
 use walrus_read_laws::tables_into::sections_into::{
     IntoError, add_exports, add_imports, add_memories, add_segments, add_tags, read_start,
 };
 use walrus_tables_into::{add_customs, add_elements, add_globals, add_tables};
-use walrus_module_env::body_env::instr::type_table::ModuleTypes;
-use walrus_functions_into::types_into::laws::{new_types_stand, types_name_below};
-use walrus_functions_into::types_into::read_types_into;
 
 // What was read lacks nothing that its own map names: a law, which runs nothing.
 fn lacks_nothing(_sections: &Sections<'_>, _maps: &IndicesToIds)
