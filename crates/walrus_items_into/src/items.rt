@@ -28,7 +28,7 @@ use walrus_read_laws::tables_into::sections_into::known_sections::Sections;
 use walrus_read_laws::tables_into::sections_into::{
     IntoError, add_exports, add_imports, add_memories, add_segments, add_tags, read_start,
 };
-use walrus_tables_into::{add_customs, add_elements, add_globals, add_tables};
+use walrus_read_laws::tables_into::{add_customs, add_elements, add_globals, add_tables};
 
 // What was read lacks nothing that its own map names: a law, which runs nothing.
 fn lacks_nothing(_sections: &Sections<'_>, _maps: &IndicesToIds)
