@@ -1,0 +1,15 @@
+-- What is asked of the bodies of a file, over the list that holds them.
+use Rattle.std.specs.Prelude.{◌≡◌, List}
+use Rattle.std.proofs.Common.{sym, subst}
+use Rattle.walrus_arena.specs.Arena.{Arena}
+use Rattle.walrus_items_into.specs.walrus_functions_into.declared.bodies.FunctionBody.{FunctionBody}
+use Rattle.walrus_items_into.specs.walrus_tables_into.walrus_sections_into.walrus_known_sections.declared.sections.Sections.{Sections}
+use Rattle.walrus_module.specs.walrus_module_items.declared.function.Function.{Function}
+use Rattle.walrus_module_bodies.specs.Steps.{State}
+use Rattle.walrus_module_bodies.specs.declared.file.FileEnv.{FileEnv}
+use Rattle.walrus_items_into.specs.walrus_module_env.walrus_body_parser.wasm_operators.wasm_features.declared.WasmFeatures.{WasmFeatures}
+use Rattle.walrus_parse.specs.Code.{AreReady, bodies_in}
+
+pub ready_over : (s : Sections) (functions : Arena Function) (file : FileEnv) (features : WasmFeatures) (bodies : List FunctionBody) (old : State) → bodies ≡ bodies_in s functions
+    → AreReady file features (bodies_in s functions) old → AreReady file features bodies old
+ready_over s functions file features bodies old same ready = subst (λ (xs : List FunctionBody). AreReady file features xs old) (sym same) ready

@@ -1,0 +1,79 @@
+-- What a module has of the file that it is read from.
+use Rattle.std.specs.Prelude.{ℕ, ◌≡◌, List, [], Option, None}
+use Rattle.std.specs.declared.alloc.Global.{Global as Alloc}
+use Rattle.std.specs.declared.string.String.{String}
+use Rattle.walrus_items_into.specs.walrus_module_env.walrus_body_parser.wasm_operators.wasm_features.Features.{features_of}
+use Rattle.walrus_items_into.specs.walrus_module_env.walrus_body_parser.wasm_operators.wasm_features.declared.WasmFeatures.{WasmFeatures}
+use Rattle.walrus_module.specs.walrus_local_function.walrus_body_locals.wasm_grammar.Modules as grammar
+use Rattle.walrus_items_into.specs.wasm_module_rules.wasm_modules.Modules.{around, codes, module_of, IsShort}
+use Rattle.walrus_module.specs.walrus_local_function.walrus_body_locals.wasm_body_grammar.Codes.{ReadsCodes}
+use Rattle.walrus_items_into.specs.wasm_sections.Laws.{ReadsSections}
+use Rattle.wasm_name_payloads.specs.Names.{names_of}
+use Rattle.wasm_name_payloads.specs.Producers.{processed, producers_of}
+use Rattle.walrus_config.specs.Config.{feature_names}
+use Rattle.walrus_config.specs.declared.config.ModuleConfig.{ModuleConfig}
+use Rattle.walrus_customs.specs.Producers.{fields_of}
+use Rattle.walrus_customs.specs.declared.producers.ProducerField.{ProducerField}
+use Rattle.walrus_items_into.specs.walrus_tables_into.walrus_sections_into.walrus_index_maps.Maps.{Ids}
+use Rattle.walrus_item_names.specs.Gives.{GivesNames}
+use Rattle.walrus_item_names.specs.Holder.{Holder, holder}
+use Rattle.walrus_module.specs.walrus_types.walrus_items.declared.local.Local.{Local}
+use Rattle.walrus_items_into.specs.Filled.{IsFilledFrom}
+use Rattle.walrus_items_into.specs.Spaces.{Spaces}
+use Rattle.walrus_items_into.specs.walrus_tables_into.walrus_sections_into.walrus_known_sections.State.{state_of}
+use Rattle.walrus_items_into.specs.walrus_tables_into.walrus_sections_into.walrus_known_sections.declared.sections.Sections.{Sections}
+use Rattle.walrus_module_bodies.specs.Steps.{State, Steps, state}
+use Rattle.walrus_module_bodies.specs.declared.file.FileEnv.{FileEnv}
+use Rattle.walrus_parse.specs.Code.{IsFileIn, bodies_in}
+use Rattle.walrus_parse.specs.Named.{all_names}
+
+-- the features that are read under these flags
+abbrev pub read_features : ModuleConfig → WasmFeatures
+read_features config = features_of (feature_names config)
+
+-- the bytes read as a module of these sections and bodies
+pub record ReadsAs (features : WasmFeatures) (bytes : List ℕ) (s : Sections) (bodies : List grammar.Body) : Type 0 where
+  pub short : IsShort bytes
+  pub sections : ReadsSections features bytes (state_of s)
+  pub codes_are : ReadsCodes (around features (state_of s)) (codes (state_of s)) bodies
+
+module _ {B : Type 0} where
+  -- the collections with these types, functions and locals: what has names in a module
+  abbrev pub named_in : Spaces B → State → Option (String Alloc) → Holder
+  named_in m s own = holder s.types s.functions m.tables m.memories m.tags m.globals m.elements m.segments s.locals own
+
+  -- its sections fill the collections of a module; then its bodies are read into it, in the file's order; then items are named, and the
+  -- producers told
+  pub record IsModuleOf (config : ModuleConfig) (bytes : List ℕ) (start : Option ℕ) (producers : List ProducerField) (m : Spaces B) (locals : List Local) (own : Option (String Alloc)) : Type 0 where
+    pub sections : Sections
+    pub bodies : List grammar.Body
+    pub reads : ReadsAs (read_features config) bytes sections bodies
+    pub numbers : Ids
+    pub filled : Spaces B
+    pub are_filled : IsFilledFrom sections start numbers filled
+    pub file : FileEnv
+    pub is_file : IsFileIn sections filled.types filled.tags filled.memories file
+    pub bodied : State
+    pub bodies_are : Steps file (read_features config) (bodies_in sections filled.functions) (state filled.types [] numbers filled.functions) bodied
+    pub names : GivesNames (all_names config.generate_synthetic_names_for_anonymous_items bodied.ids (named_in filled bodied None) (names_of (module_of (state_of sections) bodies)))
+        (named_in filled bodied None) (holder m.types m.functions m.tables m.memories m.tags m.globals m.elements m.segments locals own)
+    pub imports : m.imports ≡ filled.imports
+    pub exports : m.exports ≡ filled.exports
+    pub customs : m.customs ≡ filled.customs
+    pub producers_are : fields_of producers ≡ processed (producers_of (module_of (state_of sections) bodies))
+
+  -- nothing is in it
+  pub record IsEmpty (m : Spaces B) (locals : List Local) (own : Option (String Alloc)) : Type 0 where
+    pub types : m.types ≡ record { types = []; groups = [] }
+    pub imports : m.imports.slots ≡ []
+    pub functions : m.functions.slots ≡ []
+    pub tables : m.tables.slots ≡ []
+    pub memories : m.memories.slots ≡ []
+    pub tags : m.tags.slots ≡ []
+    pub globals : m.globals.slots ≡ []
+    pub exports : m.exports.slots ≡ []
+    pub elements : m.elements.slots ≡ []
+    pub segments : m.segments.slots ≡ []
+    pub customs : m.customs.slots ≡ []
+    pub locals : locals ≡ []
+    pub own : own ≡ None

@@ -1,0 +1,60 @@
+-- Why a file is refused, and where (Core Specification, binary format: modules).
+use Rattle.std.specs.Prelude.{ℕ, ◌^◌, ◌<◌, ◌≡◌, ◌⊎◌, List, length, Option, Some, None}
+use Rattle.walrus_items_into.specs.walrus_module_env.walrus_body_parser.wasm_operators.wasm_features.declared.WasmFeatures.{WasmFeatures}
+use Rattle.walrus_module.specs.walrus_local_function.walrus_body_locals.walrus_body_nesting.wasm_formats.Stops.{Trouble, Read, Header, SectionOrder, SectionSize, Count, Index, TypeForm, ConstExpr, OffsetType, Nesting, Position, Operator, Unsupported, DuplicateExport, Bounds, Limit}
+use Rattle.walrus_errors.specs.declared.error.ModuleError.{ModuleError}
+use Rattle.walrus_errors.specs.declared.error.ModuleError.TheVariants as errors
+use Rattle.walrus_errors.specs.Refusals.{refusal_of}
+use Rattle.walrus_items_into.specs.wasm_module_rules.wasm_modules.Modules.{Stops}
+use Rattle.walrus_module.specs.walrus_body_writer.walrus_body_env.declared.error.BodyError.{BodyError}
+use Rattle.walrus_module.specs.walrus_body_writer.walrus_body_env.declared.error.BodyError.TheVariants as bodies
+
+-- a trouble at its place in the file, as the refusal of a module
+abbrev pub refusal : Trouble → ℕ → ModuleError
+refusal (Read kind) place = refusal_of (record { kind = kind; offset = place })
+refusal Header place = errors.Header place
+refusal SectionOrder place = errors.SectionOrder place
+refusal SectionSize place = errors.SectionSize place
+refusal Count place = errors.Count place
+refusal (Index space) place = errors.Index space place
+refusal TypeForm place = errors.TypeForm place
+refusal ConstExpr place = errors.ConstExpr place
+refusal OffsetType place = errors.OffsetType place
+refusal Nesting place = errors.Nesting place
+refusal Position place = errors.Position place
+refusal Operator place = errors.Operator place
+refusal (Unsupported form) place = errors.Unsupported form place
+refusal DuplicateExport place = errors.DuplicateExport place
+refusal Bounds place = errors.Bounds place
+refusal (Limit of) place = errors.Limit of place
+
+-- the file stops there with this trouble
+pub record IsFault (features : WasmFeatures) (bytes : List ℕ) (error : ModuleError) : Type 0 where
+  pub trouble : Trouble
+  pub place : ℕ
+  pub stops : Stops features bytes trouble place
+  pub error_is : error ≡ refusal trouble place
+
+-- the file is longer than 2^30 bytes, or it stops so; want of memory may stand in place of what comes later
+abbrev pub IsRefusal : WasmFeatures → List ℕ → ModuleError → Type 0
+IsRefusal features bytes error = (error ≡ errors.Memory) ⊎ (((error ≡ errors.InputTooLong) × (2 ^ 30 < length bytes)) ⊎ IsFault features bytes error)
+
+-- ---- the refusal of a body
+
+abbrev pub place_of : Option ℕ → ℕ
+place_of None = 0
+place_of (Some place) = place
+
+-- as that of its module; a body that is read is refused at a place
+abbrev pub module_error : BodyError → ModuleError
+module_error (bodies.Read error) = refusal_of error
+module_error (bodies.Index space place) = errors.Index space (place_of place)
+module_error (bodies.TypeForm place) = errors.TypeForm (place_of place)
+module_error (bodies.Nesting place) = errors.Nesting (place_of place)
+module_error (bodies.Position place) = errors.Position (place_of place)
+module_error (bodies.Operator place) = errors.Operator (place_of place)
+module_error (bodies.Unsupported form place) = errors.Unsupported form (place_of place)
+module_error (bodies.Bounds place) = errors.Bounds (place_of place)
+module_error (bodies.Limit of place) = errors.Limit of (place_of place)
+module_error bodies.NoTree = errors.NoTree
+module_error bodies.Memory = errors.Memory

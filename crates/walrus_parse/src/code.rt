@@ -1,0 +1,89 @@
+//! The bodies of a file.
+
+ghost use Rattle.std.specs.Prelude.{◌≡◌, length, IfErr, IfOk, OnOk};
+ghost use Rattle.walrus_items_into.specs.walrus_tables_into.walrus_sections_into.walrus_index_maps.Views.{ids};
+ghost use Rattle.walrus_module.specs.walrus_types.Table.{entries, next_id};
+ghost use Rattle.walrus_items_into.specs.walrus_functions_into.Laws.{read_bodies};
+ghost use Rattle.walrus_module_bodies.specs.Steps.{Steps, state};
+ghost use Rattle.walrus_module_bodies.specs.declared.file.FileEnv.{FileEnv};
+ghost use Rattle.walrus_parse.specs.Code.{AreReady, IsCodeRefusal, IsFileIn, bodies_in};
+
+use crate::refusal::module_error;
+use std::alloc::{AllocError, Global};
+use walrus_errors::Result;
+use walrus_items_into::functions_into::pair_bodies;
+use walrus_items_into::module_env::body_env::instr::type_table::{ModuleLocals, ModuleTypes};
+use walrus_items_into::tables_into::sections_into::index_maps::IndicesToIds;
+use walrus_items_into::tables_into::sections_into::known_sections::{Chunk, Sections};
+use walrus_items_into::tables_into::sections_into::operators::immediate_forms::reader::features::WasmFeatures;
+use walrus_module::collections::{ModuleFunctions, ModuleMemories, ModuleTags};
+use walrus_module_bodies::{FileEnv, read_bodies};
+
+// How many types live. They are held in memory, so there are never 2^64.
+fn count_types(types: &ModuleTypes) -> Result<usize, AllocError>
+    ensures { IfOk result (λ count. count ≡ length (entries types.now)) }
+{
+    let mut count: usize = 0;
+    for _ty in types.iter() {
+        match count.checked_add(1) {
+            Some(more) => count = more,
+            None => return Err(AllocError),
+        }
+    }
+    Ok(count)
+}
+
+// The bodies that were read, none where there is no code section.
+fn chunks_of<'s, 'a>(sections: &'s Sections<'a>) -> &'s [Chunk<'a>]
+    ensures { result.now ≡ read_bodies sections.now.bodies }
+{
+    match &sections.bodies {
+        Some(bodies) => bodies.as_slice(),
+        None => &[],
+    }
+}
+
+/// Reads the bodies of a file whose items are in these collections.
+///
+/// # Errors
+///
+/// The first fault of the first body that has one, want of memory.
+pub(crate) fn read_code(
+    alloc: Global,
+    features: WasmFeatures,
+    sections: &Sections<'_>,
+    tags: &ModuleTags,
+    memories: &ModuleMemories,
+    types: &mut ModuleTypes,
+    maps: &mut IndicesToIds,
+    locals: &mut ModuleLocals,
+    functions: &mut ModuleFunctions,
+) -> Result<()>
+    requires full { length (entries types.old) ≡ next_id types.old }
+    requires ready { (file : FileEnv) → IsFileIn sections.now types.old tags.now memories.now file → AreReady file features (bodies_in sections.now functions.old) (state types.old locals.old (ids maps.old) functions.old) }
+    ensures read { OnOk result ((file : FileEnv) × IsFileIn sections.now types.old tags.now memories.now file × Steps file features (bodies_in sections.now functions.old) (state types.old locals.old (ids maps.old) functions.old) (state types.new locals.new (ids maps.new) functions.new)) }
+    ensures stops { IfErr result (λ error. IsCodeRefusal features sections.now tags.now memories.now (bodies_in sections.now functions.old) (state types.old locals.old (ids maps.old) functions.old) error) }
+{
+    let own_types = count_types(types)?;
+    let bodies = pair_bodies(alloc, functions, chunks_of(sections))?;
+    let file = FileEnv {
+        tags,
+        memories,
+        own_types,
+        has_data_count: sections.data_count.is_some(),
+        code_start: sections.code_start,
+    };
+    match read_bodies(
+        alloc,
+        file,
+        features,
+        types,
+        maps,
+        locals,
+        functions,
+        bodies.as_slice(),
+    ) {
+        Ok(()) => Ok(()),
+        Err(fault) => Err(module_error(fault)),
+    }
+}

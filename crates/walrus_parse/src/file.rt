@@ -1,0 +1,31 @@
+//! The sections of a file.
+
+ghost use Rattle.std.specs.Prelude.{◌^◌, ◌≤◌, length, IfErr, IfOk, OnOk};
+ghost use Rattle.walrus_items_into.specs.wasm_sections.Laws.{ReadsSections};
+ghost use Rattle.walrus_items_into.specs.walrus_tables_into.walrus_sections_into.walrus_known_sections.State.{state_of};
+ghost use Rattle.walrus_parse.specs.Refusals.{IsRefusal};
+
+use std::alloc::Global;
+use walrus_errors::{ModuleError, Result};
+use walrus_file_reader::read_sections;
+use walrus_items_into::tables_into::sections_into::known_sections::Sections;
+use walrus_items_into::tables_into::sections_into::operators::immediate_forms::reader::features::WasmFeatures;
+
+// A file has at most so many bytes.
+const MAX_FILE: usize = 1 << 30;
+
+// The sections of a file, with its bodies as so many bytes.
+pub(crate) fn read_file<'a>(
+    alloc: Global,
+    features: WasmFeatures,
+    wasm: &'a [u8],
+) -> Result<Sections<'a>>
+    ensures short { OnOk result (length wasm.now ≤ 2 ^ 30) }
+    ensures read { IfOk result (λ sections. ReadsSections features wasm.now (state_of sections)) }
+    ensures refused { IfErr result (λ error. IsRefusal features wasm.now error) }
+{
+    if wasm.len() > MAX_FILE {
+        return Err(ModuleError::InputTooLong);
+    }
+    read_sections(alloc, features, wasm)
+}

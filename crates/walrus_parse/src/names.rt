@@ -1,0 +1,115 @@
+//! The names of a module that was read.
+
+ghost use Rattle.std.specs.Prelude.{OnOk};
+ghost use Rattle.walrus_module.specs.walrus_local_function.walrus_body_locals.wasm_grammar.Modules.{Module};
+ghost use Rattle.wasm_name_payloads.specs.Names.{names_of};
+ghost use Rattle.walrus_items_into.specs.walrus_tables_into.walrus_sections_into.walrus_index_maps.Views.{ids};
+ghost use Rattle.walrus_item_names.specs.Gives.{GivesNames};
+ghost use Rattle.walrus_item_names.specs.Holder.{holder};
+ghost use Rattle.walrus_local_counts.specs.Locals.{HasFew};
+ghost use Rattle.walrus_items_into.specs.walrus_names_into.Numbered.{IsNumbered};
+ghost use Rattle.walrus_payloads_into.specs.Customs.{AreCustoms};
+ghost use Rattle.walrus_parse.specs.Named.{all_names, made_names};
+
+use std::alloc::{AllocError, Global};
+use walrus_item_names::{give_names, give_synthetic_names};
+use walrus_items_into::module_env::body_env::instr::type_table::{ModuleLocals, ModuleTypes};
+use walrus_items_into::tables_into::sections_into::index_maps::IndicesToIds;
+use walrus_items_into::tables_into::sections_into::known_sections::Custom;
+use walrus_module::collections::{
+    ModuleData, ModuleElements, ModuleFunctions, ModuleGlobals, ModuleMemories, ModuleTables,
+    ModuleTags,
+};
+use walrus_payloads_into::names_in;
+
+// Synthetic names, if they are wanted.
+fn make_names(
+    alloc: Global,
+    synthetic: bool,
+    maps: &IndicesToIds,
+    types: &mut ModuleTypes,
+    funcs: &mut ModuleFunctions,
+    tables: &mut ModuleTables,
+    memories: &mut ModuleMemories,
+    tags: &mut ModuleTags,
+    globals: &mut ModuleGlobals,
+    elements: &mut ModuleElements,
+    data_segments: &mut ModuleData,
+    locals: &mut ModuleLocals,
+    own: &mut Option<String>,
+) -> Result<(), AllocError>
+    requires { HasFew (ids maps.now) }
+    ensures { OnOk result (GivesNames (made_names synthetic (ids maps.now) (holder types.old funcs.old tables.old memories.old tags.old globals.old elements.old data_segments.old locals.old own.old)) (holder types.old funcs.old tables.old memories.old tags.old globals.old elements.old data_segments.old locals.old own.old) (holder types.new funcs.new tables.new memories.new tags.new globals.new elements.new data_segments.new locals.new own.new)) }
+{
+    if synthetic {
+        return give_synthetic_names(
+            alloc,
+            maps,
+            types,
+            funcs,
+            tables,
+            memories,
+            tags,
+            globals,
+            elements,
+            data_segments,
+            locals,
+            own,
+        );
+    }
+    Ok(())
+}
+
+/// Names what has a number: synthetic names first, if they are wanted, then those of the file's sections `name`.
+pub(crate) fn name_items(
+    alloc: Global,
+    synthetic: bool,
+    customs: &[Custom<'_>],
+    maps: &IndicesToIds,
+    types: &mut ModuleTypes,
+    funcs: &mut ModuleFunctions,
+    tables: &mut ModuleTables,
+    memories: &mut ModuleMemories,
+    tags: &mut ModuleTags,
+    globals: &mut ModuleGlobals,
+    elements: &mut ModuleElements,
+    data_segments: &mut ModuleData,
+    locals: &mut ModuleLocals,
+    own: &mut Option<String>,
+) -> Result<(), AllocError>
+    requires { HasFew (ids maps.now) }
+    ensures { OnOk result ((m : Module) → IsNumbered m (ids maps.now) → AreCustoms m customs.now → GivesNames (all_names synthetic (ids maps.now) (holder types.old funcs.old tables.old memories.old tags.old globals.old elements.old data_segments.old locals.old own.old) (names_of m)) (holder types.old funcs.old tables.old memories.old tags.old globals.old elements.old data_segments.old locals.old own.old) (holder types.new funcs.new tables.new memories.new tags.new globals.new elements.new data_segments.new locals.new own.new)) }
+{
+    make_names(
+        alloc,
+        synthetic,
+        maps,
+        types,
+        funcs,
+        tables,
+        memories,
+        tags,
+        globals,
+        elements,
+        data_segments,
+        locals,
+        own,
+    )?;
+    let names = names_in(alloc, customs, maps)?;
+    give_names(
+        alloc,
+        names.as_slice(),
+        synthetic,
+        maps,
+        types,
+        funcs,
+        tables,
+        memories,
+        tags,
+        globals,
+        elements,
+        data_segments,
+        locals,
+        own,
+    )
+}

@@ -1,0 +1,119 @@
+//! A whole module.
+
+ghost use Rattle.std.specs.Prelude.{IfErr, IfOk, OnOk};
+ghost use Rattle.walrus_items_into.specs.Spaces.{spaces};
+ghost use Rattle.walrus_parse.specs.Parsed.{IsEmpty, IsModuleOf, read_features};
+ghost use Rattle.walrus_parse.specs.Refusals.{IsRefusal};
+
+use crate::code::read_code;
+use crate::file::read_file;
+use crate::names::name_items;
+use std::alloc::Global;
+use walrus_arena::FunctionId;
+use walrus_config::ModuleConfig;
+use walrus_customs::ModuleProducers;
+use walrus_errors::{ModuleError, Result};
+use walrus_items_into::module_env::body_env::instr::type_table::{ModuleLocals, ModuleTypes};
+use walrus_items_into::read_items;
+use walrus_items_into::tables_into::sections::Sections as CustomSections;
+use walrus_items_into::tables_into::sections_into::index_maps::IndicesToIds;
+use walrus_module::Module;
+use walrus_module::collections::{
+    ModuleData, ModuleElements, ModuleExports, ModuleFunctions, ModuleGlobals, ModuleImports,
+    ModuleMemories, ModuleTables, ModuleTags,
+};
+use walrus_payloads_into::producers_in;
+
+// Reads a file into the collections of an empty module; the start function and the producers are answered.
+fn read_module<B: Drop>(
+    alloc: Global,
+    config: &ModuleConfig,
+    wasm: &[u8],
+    types: &mut ModuleTypes,
+    imports: &mut ModuleImports,
+    functions: &mut ModuleFunctions,
+    tables: &mut ModuleTables,
+    memories: &mut ModuleMemories,
+    tags: &mut ModuleTags,
+    globals: &mut ModuleGlobals,
+    exports: &mut ModuleExports,
+    elements: &mut ModuleElements,
+    segments: &mut ModuleData,
+    customs: &mut CustomSections<B>,
+    locals: &mut ModuleLocals,
+    own: &mut Option<String>,
+) -> Result<(Option<FunctionId>, ModuleProducers)>
+    requires { IsEmpty (spaces types.old imports.old functions.old tables.old memories.old tags.old globals.old exports.old elements.old segments.old customs.old) locals.old own.old }
+    ensures read { IfOk result (λ told. IsModuleOf config.now wasm.now told.0 told.1 (spaces types.new imports.new functions.new tables.new memories.new tags.new globals.new exports.new elements.new segments.new customs.new) locals.new own.new) }
+    ensures refused { IfErr result (λ error. IsRefusal (read_features config.now) wasm.now error) }
+{
+    let features = config.features();
+    let sections = read_file(alloc, features, wasm)?;
+    let mut maps = IndicesToIds::new(alloc);
+    let start = match read_items(
+        alloc, &sections, &mut maps, types, imports, functions, tables, memories, tags, globals,
+        exports, elements, segments, customs,
+    ) {
+        Ok(start) => start,
+        Err(_) => return Err(ModuleError::Memory),
+    };
+    read_code(
+        alloc, features, &sections, tags, memories, types, &mut maps, locals, functions,
+    )?;
+    name_items(
+        alloc,
+        config.generate_synthetic_names_for_anonymous_items,
+        sections.customs.as_slice(),
+        &maps,
+        types,
+        functions,
+        tables,
+        memories,
+        tags,
+        globals,
+        elements,
+        segments,
+        locals,
+        own,
+    )?;
+    let producers = producers_in(alloc, sections.customs.as_slice())?;
+    Ok((start, producers))
+}
+
+/// Reads the bytes of a module (Core Specification, binary format: modules) into an empty one, with the features that its flags ask for,
+/// or refuses them. All items of the file are in it, under ids that are their numbers, but for types, of which equal ones merge; each
+/// body is in normal form, with the types that handlers of a legacy `try` need; names and producers are those of the file, with the
+/// entry of this tool. A call that takes an empty module and fills it hides nothing of what boxes of custom sections do.
+///
+/// # Errors
+///
+/// `InputTooLong` past 2^30 bytes; else the first fault of the file, at its place; want of memory, in place of what would come later.
+/// The module is then of no use.
+pub fn parse(alloc: Global, wasm: &[u8], module: &mut Module) -> Result<()>
+    requires { IsEmpty (spaces module.old.types module.old.imports module.old.funcs module.old.tables module.old.memories module.old.tags module.old.globals module.old.exports module.old.elements module.old.data_segments module.old.customs) module.old.locals module.old.name }
+    ensures read { OnOk result (IsModuleOf module.old.config wasm.now module.new.start module.new.producers (spaces module.new.types module.new.imports module.new.funcs module.new.tables module.new.memories module.new.tags module.new.globals module.new.exports module.new.elements module.new.data_segments module.new.customs) module.new.locals module.new.name) }
+    ensures refused { IfErr result (λ error. IsRefusal (read_features module.old.config) wasm.now error) }
+{
+    let config = *module.config();
+    let (start, producers) = read_module(
+        alloc,
+        &config,
+        wasm,
+        &mut module.types,
+        &mut module.imports,
+        &mut module.funcs,
+        &mut module.tables,
+        &mut module.memories,
+        &mut module.tags,
+        &mut module.globals,
+        &mut module.exports,
+        &mut module.elements,
+        &mut module.data_segments,
+        &mut module.customs,
+        &mut module.locals,
+        &mut module.name,
+    )?;
+    module.start = start;
+    module.producers = producers;
+    Ok(())
+}
