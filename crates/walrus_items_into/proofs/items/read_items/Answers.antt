@@ -1,5 +1,6 @@
 use Rattle.std.proofs.Common.{◌∙◌, List, length, ap}
 use Rattle.walrus_functions_into.specs.Functions.{with_functions}
+use Rattle.walrus_read_laws.specs.walrus_tables_into.Customs.{plain}
 use Rattle.walrus_read_laws.specs.walrus_tables_into.Tables.{TableLacks}
 use Rattle.walrus_read_laws.specs.walrus_tables_into.Globals.{GlobalLacks}
 use Rattle.walrus_read_laws.specs.walrus_tables_into.Elements.{ElementLacks}
@@ -40,7 +41,7 @@ returns-clause-filled g c =
     (over c.as_slice-7.ensures.value c.in_ok-add_exports.ensures.added)
     (over c.as_slice-8.ensures.value c.in_ok-add_elements.ensures.added)
     (over c.as_slice-9.ensures.value c.in_ok-add_segments.ensures.added)
-    (over c.as_slice-10.ensures.value c.in_ok-add_customs.ensures.added))
+    (over (ap plain c.as_slice-10.ensures.value) c.in_ok-add_customs.ensures.added))
     c.read_start.ensures.becomes
 
 pub lacks_nothing-requires-clause-numbered : goal.lacks_nothing-requires-clause-numbered
