@@ -90,7 +90,7 @@ none_behind t = record {
 -- ---- the module
 
 module _ {B : Type 0} (features : WasmFeatures) (bytes : List ℕ) (s : Sections) (begin : Option ℕ) (i : Ids) (m : Spaces B) (file : FileEnv) (law : FilledModulesAreFiled B)
-    (reads : ReadsSections features bytes (state_of s)) (f : IsFilledFrom s begin i m) (o : IsFileOf s m file) where
+    (reads : ReadsSections features bytes (state_of s)) (f : IsFilledFrom s begin i m) (o : IsFileOf s m.types m.tags m.memories file) where
   filed_as : (e : ModuleEnv) (v : Table) (locals : ℕ → List ℕ) (function : ℕ) → IsEnv file v e → HasBehind m.types v
       → IsFiled e (record i { locals = locals }) function (length (locals function)) features (around features (state_of s))
   filed_as e v locals function env behind = law features bytes s begin i (record i { locals = locals }) m e function reads f is refl
@@ -98,7 +98,7 @@ module _ {B : Type 0} (features : WasmFeatures) (bytes : List ℕ) (s : Sections
       is : IsEnvOf s m e
       is = record {
         types = subst (λ (t : Table). HasBehind m.types t) (sym env.types_are) behind;
-        memories = env.memories_are ∙ o.memories;
+        memories = env.memories_are ∙ o.memories_are;
         own_types = env.own_are ∙ o.own_types;
         has_data_count = env.counted_is ∙ o.has_data_count;
       }
@@ -121,7 +121,7 @@ module _ {B : Type 0} (features : WasmFeatures) (bytes : List ℕ) (s : Sections
   tags_stand n tag named =
       let linked = subst (λ (t : State). IsLinked t.filled) reads.2 (file_linked features bytes reads.0 reads.1.0 reads.1.1) in
       let at = upto_is (length s.tags.items) n tag (ap (λ (x : Ids). slice_get x.tags n) (sym f.numbers) ∙ named) in
-      let slots : file.tags.now.slots ≡ f.tags.more = ap (λ (a : Arena Tag). a.slots) o.tags ∙ f.tags.behind in
+      let slots : file.tags.now.slots ≡ f.tags.more = ap (λ (a : Arena Tag). a.slots) o.tags_are ∙ f.tags.behind in
       let read = tag_at (look_of i) (λ n. IsTyped (state_of s).filled n) (λ n. IsFunctionType m.types n)
       (λ n id typed look. typed_at (types_of (state_of s).filled) i.types file.own_types m.types types_filed n id typed look) s.tags.items f.tags.more n at.1 f.tags.become linked.tags_typed in
       (read.0, ap (λ (l : List (Option Tag)). slice_index_or l tag None) slots ∙ ap (λ (k : ℕ). slice_index_or f.tags.more k None) at.0 ∙ read.1, read.2)
@@ -131,11 +131,15 @@ modules_are_ready functions law features bytes s begin i m file short small read
     let stand = functions features bytes s begin i m reads f in
     let fit = chunks_fit s.code_start (length bytes) s.bodies (bodies_inside features bytes (state_of s) small reads) in
     let look : ℕ → Option Function = λ n. slice_index_or m.functions.slots n None in
-    let all = all_have (λ (f : Function). IsFunctionType m.types (type_of f.kind)) look m.functions.slots 0 (read_bodies s.bodies) stand.typed (λ k. let n : k ≡ 0 + k = omega arith in ap look n) in record {
-      placed = are_placed file s.code_start (length bytes) (bodiless m.functions) (read_bodies s.bodies) o.code_start (omega (arith, short)) fit;
-      ready = λ locals k d lt. let h = all k d lt in record { item = h.0; live = h.1; typed = h.2; no_locals = ap (λ (x : Ids). x.locals (slice_index_or (bodies_in s m) k d).number) f.numbers };
-      apart = are_apart m.functions.slots 0 (read_bodies s.bodies);
-      filed = (around features (state_of s), filed_later features bytes s begin i m file law reads f o);
-      tags = tags_stand features bytes s begin i m file law reads f o;
+    let all = all_have (λ (f : Function). IsFunctionType m.types (type_of f.kind)) look m.functions.slots 0 (read_bodies s.bodies) stand.typed (λ k. let n : k ≡ 0 + k = omega arith in ap look n) in
+    let later = filed_later features bytes s begin i m file law reads f o in record {
+      ready = λ locals. record {
+        placed = are_placed file s.code_start (length bytes) (bodiless m.functions) (read_bodies s.bodies) o.code_start (omega (arith, short)) fit;
+        ready = λ k d lt. let h = all k d lt in record { item = h.0; live = h.1; typed = h.2; no_locals = ap (λ (x : Ids). x.locals (slice_index_or (bodies_in s m.functions) k d).number) f.numbers };
+        apart = are_apart m.functions.slots 0 (read_bodies s.bodies);
+        filed = (around features (state_of s), later);
+        tags = tags_stand features bytes s begin i m file law reads f o;
+      };
+      is_module = later;
       codes_are = stand.paired.codes_are;
     }

@@ -1,0 +1,8 @@
+mod ArgumentLemmas
+mod AsideLemmas
+mod BodyLemmas
+mod CauseLemmas
+mod ParsingLemmas
+mod ReadingLemmas
+mod StepLemmas
+mod StopLemmas

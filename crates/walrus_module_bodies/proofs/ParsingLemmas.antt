@@ -1,0 +1,146 @@
+-- Lemmas: how a body is parsed (as in `walrus_function_parser`, whose lemmas aren't passed on).
+use Rattle.std.proofs.Common.{ℕ, zero, suc, ◌≡◌, ◌⊎◌, ◌<◌, ◌≤◌, ◌+◌, ◌-◌, Bool, true, false, List, [], ◌∷◌, ◌++◌, length, map, Option, Ok, if◌then◌else◌, refl, sym, ap, subst, ◌∙◌, arith}
+use Rattle.std.specs.Prelude.{fold}
+use Rattle.std.specs.List.{repeat}
+use Rattle.std.proofs.lemmas.Bool.{eq-eqb}
+use Rattle.std.proofs.lemmas.List.{length-append, length-drop, length-map}
+use Rattle.wasm_features.specs.declared.WasmFeatures.{WasmFeatures}
+use Rattle.wasm_reader.specs.Cursor.{Window, Cursor, rest, end_of, Forward, IsWithin}
+use Rattle.walrus_bodies_into.specs.walrus_handler_types.walrus_body_steps.walrus_body_nesting.wasm_formats.Stops.{Trouble, Nesting, Parsing, ◌>>=◌, value_at}
+use Rattle.walrus_bodies_into.specs.walrus_handler_types.walrus_body_steps.walrus_body_nesting.wasm_formats.Formats.{step_ok, done_is, value_ok}
+use Rattle.walrus_bodies_into.specs.walrus_handler_types.walrus_body_steps.walrus_body_nesting.wasm_formats.Parts.{told_as, told_ok}
+use Rattle.walrus_bodies_into.specs.walrus_handler_types.walrus_body_steps.walrus_body_nesting.wasm_formats.Bytes.{never, either}
+use Rattle.walrus_bodies_into.specs.walrus_handler_types.walrus_body_steps.walrus_body_nesting.wasm_formats.Joined.{tested, tested_ok, checked, ends_at}
+use Rattle.walrus_bodies_into.specs.walrus_handler_types.walrus_body_steps.walrus_body_nesting.wasm_formats.Files.{parse_all}
+use Rattle.walrus_bodies_into.specs.walrus_handler_types.walrus_body_steps.wasm_normal_form.wasm_immediates.Items.{Space, Types, Functions, Tables, Memories, Tags, Globals, ElementSegments, DataSegments, Locals, Labels}
+use Rattle.walrus_bodies_into.specs.walrus_module_env.walrus_body_parser.wasm_operators.Operators.{Seen, operator_at}
+use Rattle.walrus_bodies_into.specs.walrus_handler_types.walrus_body_steps.walrus_body_rules.walrus_forms.declared.value.ValType.{ValType}
+use Rattle.walrus_bodies_into.specs.walrus_handler_types.walrus_body_steps.walrus_body_rules.walrus_forms.Renaming.{at, renamed_value}
+use Rattle.walrus_bodies_into.specs.walrus_handler_types.walrus_body_steps.walrus_access_codes.walrus_items.declared.local.Local.{Local}
+use Rattle.walrus_index_maps.specs.Maps.{Ids}
+use Rattle.walrus_bodies_into.specs.walrus_handler_types.walrus_body_steps.wasm_body_grammar.Rules as grammar
+use Rattle.walrus_bodies_into.specs.walrus_handler_types.walrus_body_steps.wasm_body_grammar.Rules.{Around}
+use Rattle.walrus_bodies_into.specs.walrus_handler_types.walrus_body_steps.wasm_body_grammar.Bodies.{Run, Point, next_total, next_point, declared, is_closed, operator, operator_in, takes_some, body}
+use Rattle.walrus_bodies_into.specs.walrus_handler_types.walrus_body_steps.walrus_body_rules.Sights.{Sight, room}
+use Rattle.walrus_bodies_into.specs.walrus_handler_types.walrus_body_steps.walrus_body_rules.Rules.{operator_test}
+use Rattle.walrus_bodies_into.specs.walrus_handler_types.walrus_body_steps.walrus_body_rules.Agreeing.{Sees, tests_agree}
+use Rattle.walrus_bodies_into.specs.walrus_module_env.walrus_collections.walrus_local_function.walrus_body_locals.Told.{Telling, Pass}
+use Rattle.walrus_bodies_into.specs.walrus_module_env.walrus_collections.walrus_local_function.walrus_body_locals.Locals.{IsSeen, Adds, ids_from, with_locals}
+use Rattle.walrus_bodies_into.specs.walrus_module_env.walrus_body_parser.Points.{place_at}
+use Rattle.walrus_bodies_into.specs.walrus_module_env.walrus_body_parser.Trees.{Parser, parser_of}
+use Rattle.walrus_body_parser.proofs.Takes.{operator_takes}
+use Rattle.walrus_bodies_into.specs.walrus_module_env.walrus_collections.walrus_local_function.walrus_function_parser.Parsed.{IsAround, seen_by}
+
+-- how the operators of a body of so many locals are parsed in a file
+abbrev pub parser_in : Around → ℕ → Parser
+parser_in a locals p = (operator_in a locals p).parse
+
+-- ---- operators take a byte at least
+
+operator_shorter : (features : WasmFeatures) (bytes later : List ℕ) (op : Seen) → (operator features).parse bytes ≡ Ok (op, later) → length later < length bytes
+operator_shorter features bytes later op e =
+    step_ok (value_at (operator_at features bytes)) (λ x. told_as (λ o. o) _ (length bytes) x x.0) (op, later) e
+    (λ x p q. let t = told_ok (λ o. o) _ (length bytes) x x.0 (op, later) q in
+    let l = operator_takes features bytes x.1 x.0 (value_ok (operator_at features bytes) x p) in omega (arith, l, ap length t.1))
+
+pub entry_shorter : (a : Around) (locals : ℕ) (p : Point) (bytes later : List ℕ) (x : ℕ × Seen) → parser_in a locals p bytes ≡ Ok (x, later) → length later < length bytes
+entry_shorter a locals p bytes later x e = go (is_closed p.frames) e
+  where
+    test : Seen → Option Trouble
+    test op = grammar.operator_test a locals p.frames op
+
+    go : (closed : Bool) → (ends_at p.place (either closed (never Nesting) (checked (operator a.features) test))).parse bytes ≡ Ok (x, later) → length later < length bytes
+    go true h = absurd cc
+    go false h =
+        step_ok ((operator a.features).parse bytes >>= λ y. tested (test y.0) (length bytes) y) (λ y. Ok ((p.place + (length bytes - length y.1), y.0), y.1)) (x, later) h (λ y r q.
+        step_ok ((operator a.features).parse bytes) (λ z. tested (test z.0) (length bytes) z) y r (λ z u t.
+        let same = (tested_ok (test z.0) (length bytes) z y t).1 in
+        let l = operator_shorter a.features bytes z.1 z.0 u in
+        let k : length z.1 ≡ length y.1 = ap (λ (w : Seen × List ℕ). length w.1) same in
+        let n : length y.1 ≡ length later = ap (λ (w : (ℕ × Seen) × List ℕ). length w.1) (done_is ((p.place + (length bytes - length y.1), y.0), y.1) (x, later) q) in
+        omega (arith, l, k, n)))
+
+-- ---- what passes is what is parsed
+
+module _ {V : Type 0} (a : Around) (locals : ℕ) (told : Telling (ℕ × Seen) V) (end : ℕ) where
+  pub pass_all : (ops : List (ℕ × Seen)) (fuel : ℕ) (p : Point) (v w : V) (bytes : List ℕ) → length bytes ≤ fuel → Pass next_point (parser_in a locals) told end p v bytes ops [] w
+      → parse_all next_point (operator_in a locals) (takes_some a locals) fuel p bytes ≡ Ok ops
+  pass_all [] fuel p v w bytes le h = rw (← h.0) refl
+  pass_all (x ∷ ops) zero p v w bytes le h = absurd (let l = entry_shorter a locals p bytes h.0 x h.2 in omega (arith, l, le))
+  pass_all (x ∷ ops) (suc fuel) p v w [] le h = absurd (let l = entry_shorter a locals p [] h.0 x h.2 in omega (arith, l))
+  pass_all (x ∷ ops) (suc fuel) p v w (b ∷ bytes) le h =
+      let l = entry_shorter a locals p (b ∷ bytes) h.0 x h.2 in
+      rw (h.2, pass_all ops fuel (next_point p x) h.1 w h.0 (omega (arith, l, le)) h.4) refl
+
+-- ---- the file that is seen
+
+agree : {A B : Type 0} (f g : A → B) → ((x : A) → f x ≡ g x) → f ≡ g
+agree f g h = λ i x. h x i
+
+pub parsers_agree : (s : Sight) (features : WasmFeatures) (a : Around) (locals : ℕ) → a.features ≡ features → Sees s a locals → parser_of features s ≡ parser_in a locals
+parsers_agree s features a locals e sees = agree (parser_of features s) (parser_in a locals) (λ p.
+    let F : (Seen → Option Trouble) → List ℕ → Parsing (ℕ × Seen) = λ test. (ends_at p.place (either (is_closed p.frames) (never Nesting) (checked (operator a.features) test))).parse in
+    let tests = agree (λ op. operator_test s p.frames op) (λ op. grammar.operator_test a locals p.frames op) (λ op. tests_agree s a locals p.frames op sees) in
+    ap (λ (f : WasmFeatures). parser_of f s p) (sym e) ∙ ap F tests)
+
+-- ---- the function has more locals
+
+repeat_count : (n : ℕ) (ty : ValType) → length (repeat n (ty ∷ [])) ≡ n
+repeat_count zero ty = refl
+repeat_count (suc n) ty = ap suc (repeat_count n ty)
+
+declared_count : (rs : List Run) (n : ℕ) → n + length (declared rs) ≡ fold next_total n rs
+declared_count [] n = omega arith
+declared_count (r ∷ rs) n =
+    let many = length-append (repeat r.0 (r.1 ∷ [])) (declared rs) in
+    let one = repeat_count r.0 r.1 in
+    let more = declared_count rs (n + r.0) in
+    omega (arith, many, one) ∙ more
+
+ids_count : (tys : List ValType) (n : ℕ) → length (ids_from n tys) ≡ length tys
+ids_count [] n = refl
+ids_count (ty ∷ tys) n = ap suc (ids_count tys (suc n))
+
+locals_with : (s : Sight) (ids : List ℕ) → (seen_by s (with_locals s.function ids s.ids)).ids.locals s.function ≡ s.ids.locals s.function ++ ids
+locals_with s ids = ap (λ (b : Bool). if b then s.ids.locals s.function ++ ids else s.ids.locals s.function) (eq-eqb s.function s.function refl)
+
+sees_with : (s : Sight) (a : Around) (locals : ℕ) (ids : List ℕ) → Sees s a locals → Sees (seen_by s (with_locals s.function ids s.ids)) a (locals + length ids)
+sees_with s a locals ids h = record { rooms = rooms; blocks = h.blocks; wide = h.wide; counted = h.counted }
+  where
+    rooms : (labels : ℕ) (space : Space) → room (seen_by s (with_locals s.function ids s.ids)) labels space ≡ grammar.room a (locals + length ids) labels space
+    rooms labels Types = h.rooms labels Types
+    rooms labels Functions = h.rooms labels Functions
+    rooms labels Tables = h.rooms labels Tables
+    rooms labels Memories = h.rooms labels Memories
+    rooms labels Tags = h.rooms labels Tags
+    rooms labels Globals = h.rooms labels Globals
+    rooms labels ElementSegments = h.rooms labels ElementSegments
+    rooms labels DataSegments = h.rooms labels DataSegments
+    rooms labels Locals =
+        ap (λ (l : List ℕ). length l) (locals_with s ids) ∙ length-append (s.ids.locals s.function) ids ∙ ap (λ (n : ℕ). n + length ids) (h.rooms labels Locals)
+    rooms labels Labels = refl
+
+pub sees_more : (s : Sight) (a : Around) (params : ℕ) (rs : List Run) (ls ms : List Local) (j : Ids) → Sees s a params → Adds s.function (map (renamed_value (at s.ids.types)) (declared rs)) ls ms s.ids j
+    → Sees (seen_by s j) a (fold next_total params rs)
+sees_more s a params rs ls ms j h adds =
+    let tys = map (renamed_value (at s.ids.types)) (declared rs) in
+    let ids = ids_from (length ls) tys in
+    let S : Ids → Type 0 = λ k. Sees (seen_by s k) a (fold next_total params rs) in
+    let N : ℕ → Type 0 = λ n. Sees (seen_by s (with_locals s.function ids s.ids)) a n in
+    let count : params + length ids ≡ fold next_total params rs =
+    ap (λ (n : ℕ). params + n) (ids_count tys (length ls) ∙ length-map (declared rs) (renamed_value (at s.ids.types))) ∙ declared_count rs params in
+    subst S (sym adds.named) (subst N count (sees_with s a params ids h))
+
+pub is_seen : (s : Sight) (features : WasmFeatures) (locals : ℕ) (a : Around) → IsAround s features locals a → IsSeen features s.ids.types a
+is_seen s features locals a h = record { features_are = h.features_are; types_are = sym (h.sees.rooms 0 Types) }
+
+-- ---- the whole body
+
+-- the place behind what was read
+pub place_behind : (code : ℕ) (old mid : Cursor) → Forward old mid → IsWithin old → code ≤ old.window.start + old.position → place_at code old + (length (rest old) - length (rest mid)) ≡ place_at code mid
+place_behind code old mid moves within begins =
+    let a = length-drop old.position old.window.bytes in
+    let b : length (rest mid) ≡ length old.window.bytes - mid.position = length-drop mid.position mid.window.bytes ∙ ap (λ (w : Window). length w.bytes - mid.position) moves.window in
+    let e : end_of mid ≡ end_of old = ap (λ (w : Window). w.start + length w.bytes) moves.window in
+    let f = moves.forward in
+    omega (arith, a, b, e, f, within, begins)

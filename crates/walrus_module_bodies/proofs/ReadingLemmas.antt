@@ -1,0 +1,125 @@
+-- Lemmas: a body that was read beside some type for each handler, and whose handlers were given theirs, is read.
+use Rattle.std.proofs.Common.{◌≡◌, ◌∙◌, ℕ, ◌<◌, List, length, map, All, Ok, Option, refl, sym, ap, subst}
+use Rattle.std.specs.Option.{option_and_then, option_map}
+use Rattle.std.specs.Prelude.{slice_get}
+use Rattle.walrus_arena.specs.Arena.{Arena, item_at}
+use Rattle.wasm_reader.specs.Cursor.{Cursor, rest}
+use Rattle.walrus_function_types.specs.Growth.{Grows}
+use Rattle.walrus_index_maps.specs.Maps.{Ids}
+use Rattle.walrus_body_trees.specs.Laws.{BodiesAreTrees}
+use Rattle.walrus_bodies_into.specs.walrus_handler_types.Giving.{Gives}
+use Rattle.walrus_bodies_into.specs.walrus_handler_types.walrus_handlers.Gathering.{AreHandlers}
+use Rattle.walrus_bodies_into.specs.walrus_handler_types.walrus_handler_laws.Handlers.{tree_ids}
+use Rattle.walrus_bodies_into.specs.walrus_handler_types.walrus_handler_laws.declared.handler.Handler.{Handler}
+use Rattle.walrus_bodies_into.specs.walrus_handler_types.walrus_body_steps.Picks.{ArePicks}
+use Rattle.walrus_bodies_into.specs.walrus_handler_types.walrus_body_steps.walrus_body_nesting.Opens.{same}
+use Rattle.wasm_features.specs.declared.WasmFeatures.{WasmFeatures}
+use Rattle.walrus_bodies_into.specs.walrus_handler_types.walrus_body_steps.wasm_body_grammar.Bodies.{body}
+use Rattle.walrus_bodies_into.specs.walrus_handler_types.walrus_body_steps.wasm_body_grammar.Rules.{Around}
+use Rattle.walrus_bodies_into.specs.walrus_handler_types.walrus_body_steps.wasm_grammar.States.{types_of}
+use Rattle.walrus_bodies_into.specs.walrus_handler_types.walrus_body_steps.wasm_normal_form.Normal.{normal}
+use Rattle.walrus_bodies_into.specs.walrus_handler_types.walrus_body_steps.wasm_normal_form.Trees.{tree_of}
+use Rattle.walrus_bodies_into.specs.walrus_handler_types.walrus_tree.Trees.{IsTree}
+use Rattle.walrus_bodies_into.specs.walrus_handler_types.walrus_tree.walrus_builder.Built.{Seq, contents, seq_of}
+use Rattle.walrus_bodies_into.specs.walrus_handler_types.walrus_tree.walrus_builder.Functions.{seqs_of}
+use Rattle.walrus_bodies_into.specs.walrus_handler_types.walrus_tree.walrus_builder.declared.function.FunctionBuilder.{FunctionBuilder}
+use Rattle.walrus_bodies_into.specs.walrus_handler_types.walrus_body_steps.walrus_access_codes.walrus_instr.declared.seq.InstrSeq.{InstrSeq}
+use Rattle.walrus_bodies_into.specs.walrus_handler_types.walrus_body_steps.walrus_access_codes.walrus_items.declared.local.Local.{Local}
+use Rattle.walrus_bodies_into.specs.walrus_handler_types.walrus_tree.walrus_walks.walrus_types.Table.{Table}
+use Rattle.walrus_bodies_into.specs.walrus_module_env.declared.env.ModuleEnv.{ModuleEnv}
+use Rattle.walrus_bodies_into.specs.walrus_module_env.Around.{IsFiled, sight_in}
+use Rattle.walrus_bodies_into.specs.walrus_module_env.Env.{tag_type_at}
+use Rattle.walrus_bodies_into.specs.walrus_module_env.Filled.{AreFiled}
+use Rattle.walrus_bodies_into.specs.walrus_module_env.Parsed.{PicksAreSeen}
+use Rattle.walrus_bodies_into.specs.walrus_module_env.walrus_body_parser.Points.{place_at, ops_from}
+use Rattle.walrus_bodies_into.specs.walrus_module_env.walrus_collections.walrus_local_function.walrus_body_locals.Locals.{Leaves, with_locals}
+use Rattle.walrus_bodies_into.specs.walrus_module_env.walrus_collections.walrus_module_items.declared.memory.Memory.{Memory}
+use Rattle.walrus_bodies_into.specs.walrus_module_env.wasm_run_names.Picks.{block_pick}
+use Rattle.walrus_module_bodies.specs.declared.file.FileEnv.{FileEnv}
+use Rattle.walrus_module_bodies.specs.Envs.{IsEnv}
+use Rattle.walrus_bodies_into.specs.Handled.{HandledBodiesStand}
+use Rattle.walrus_module_bodies.specs.Reading.{IsBodyAside, IsHandledBody}
+
+-- ---- the file is another environment's too
+
+filed_in : (e f : ModuleEnv) (i : Ids) (function locals : ℕ) (features : WasmFeatures) (a : Around) → e.types.now ≡ f.types.now → e.memories.now ≡ f.memories.now → e.own_types ≡ f.own_types
+    → e.has_data_count ≡ f.has_data_count → IsFiled e i function locals features a → IsFiled f i function locals features a
+filed_in e f i function locals features a types memories own counted h = record {
+  features_are = h.features_are;
+  same_is = h.same_is;
+  types_are = subst (λ (n : ℕ). AreFiled (types_of a.filled) i.types n f.types.now) own (subst (λ (t : Table). AreFiled (types_of a.filled) i.types e.own_types t) types h.types_are);
+  functions_are = h.functions_are;
+  tables_are = h.tables_are;
+  memories_are = h.memories_are;
+  tags_are = h.tags_are;
+  globals_are = h.globals_are;
+  elements_are = h.elements_are;
+  segments_are = h.segments_are;
+  locals_are = h.locals_are;
+  wide_are = λ n. ap (λ (m : Arena Memory). option_map (λ (x : Memory). x.memory64) (option_and_then (item_at m) (slice_get i.memories n))) (sym memories) ∙ h.wide_are n;
+  counted_is = sym counted ∙ h.counted_is;
+}
+
+-- with more locals of the function
+more_locals : (e : ModuleEnv) (i : Ids) (function locals : ℕ) (features : WasmFeatures) (a : Around) (ids : List ℕ) → IsFiled e i function locals features a
+    → IsFiled e (with_locals function ids i) function (length ((with_locals function ids i).locals function)) features a
+more_locals e i function locals features a ids h = record {
+  features_are = h.features_are;
+  same_is = h.same_is;
+  types_are = h.types_are;
+  functions_are = h.functions_are;
+  tables_are = h.tables_are;
+  memories_are = h.memories_are;
+  tags_are = h.tags_are;
+  globals_are = h.globals_are;
+  elements_are = h.elements_are;
+  segments_are = h.segments_are;
+  locals_are = refl;
+  wide_are = h.wide_are;
+  counted_is = h.counted_is;
+}
+
+-- ---- what was read
+
+pub aside_tree : BodiesAreTrees → (e : ModuleEnv) (function params : ℕ) (old : Cursor) (i j : Ids) (b : List InstrSeq) → IsBodyAside e function params old i j (map seq_of b) → (a : Around)
+    → IsFiled e i function params old.window.features a → All (λ x. x < 256) (rest old) → IsTree b 0
+aside_tree trees e function params old i j b aside a filed small =
+    let r = aside a filed in
+    let found = (body a params (place_at e.code_start old)).found (rest old) ((r.place, r.runs), r.ops) small r.read in
+    trees a params (place_at e.code_start old) (rest old) ((r.place, r.runs), r.ops) (small, found.0, found.1) r.sight b (r.stands same (λ ty. refl))
+
+pub handled_read : HandledBodiesStand → PicksAreSeen → (file : FileEnv) (g : ModuleEnv) (old new : Table) (function params : ℕ) (from : Cursor) (i j : Ids) (ls ms : List Local) → Leaves function ls ms i j
+    → (b : List InstrSeq) (t : IsTree b 0) (hs : List (Option Handler)) (c : List Seq) → IsEnv file old g → IsBodyAside g function params from i j (map seq_of b)
+    → AreHandlers (tag_type_at g.tags.now) b (tree_ids t) hs → Gives hs (length hs) (map seq_of b) old c new → IsHandledBody file old new function params from i j c
+handled_read stand seen file g old new function params from i j ls ms leaves b t hs c is aside handlers gives e f later at_e grows at_f a filed =
+    let mine = filed_in e g i function params from.window.features a (at_e.types_are ∙ sym is.types_are) (at_e.memories_are ∙ sym is.memories_are) (at_e.own_are ∙ sym is.own_are) (at_e.counted_is ∙ sym is.counted_is) filed in
+    let r = aside a mine in
+    let more = more_locals g i function params from.window.features a leaves.ids mine in
+    let named = seen g (with_locals function leaves.ids i) function (length ((with_locals function leaves.ids i).locals function)) from.window.features a more in
+    let picks = subst (λ (k : Ids). ArePicks (sight_in g function k) (block_pick a)) (sym leaves.named) named in
+    record {
+      place = r.place;
+      runs = r.runs;
+      ops = r.ops;
+      read = subst (λ (n : ℕ). (body a params (place_at n from)).parse (rest from) ≡ Ok ((r.place, r.runs), r.ops)) (is.begins ∙ sym at_f.begins) r.read;
+      stands = stand g f function j r.sight b t hs c new (normal (block_pick a) (tree_of (ops_from r.place r.ops))) r.aside (r.stands (block_pick a) picks) handlers
+          (subst (λ (v : Table). Gives hs (length hs) (map seq_of b) v c new) (sym is.types_are) gives)
+          (record { types = subst (Grows new) (sym at_f.types_are) grows; own = at_f.own_are ∙ sym is.own_are; tags = at_f.tags_are ∙ sym is.tags_are });
+    }
+
+-- handlers were told of a builder that was lent for reading, and were given their types in one that was lent for writing
+module _ (tags : ℕ → Option ℕ) (x y z : FunctionBuilder) (to_y : y ≡ x) (to_z : z ≡ x) (t : IsTree (seqs_of x) 0) (told hs : List (Option Handler)) (same_are : hs ≡ told)
+    (handlers : (t : IsTree (seqs_of y) 0) → AreHandlers tags (seqs_of y) (tree_ids t) told) where
+  are_handlers : AreHandlers tags (seqs_of x) (tree_ids t) hs
+  are_handlers = subst (AreHandlers tags (seqs_of x) (tree_ids t)) (sym same_are)
+      (subst (λ (f : FunctionBuilder). (u : IsTree (seqs_of f) 0) → AreHandlers tags (seqs_of f) (tree_ids u) told) to_y handlers t)
+
+  pub many_handlers : length hs ≡ length (seqs_of z)
+  many_handlers = are_handlers.many ∙ ap (λ (f : FunctionBuilder). length (seqs_of f)) (sym to_z)
+
+  pub handled_done : HandledBodiesStand → PicksAreSeen → (file : FileEnv) (g : ModuleEnv) (old new : Table) (function params : ℕ) (from : Cursor) (i j : Ids) (ls ms : List Local) → Leaves function ls ms i j
+      → (c : List Seq) → IsEnv file old g → tags ≡ tag_type_at g.tags.now → IsBodyAside g function params from i j (contents x.builder) → Gives hs (length hs) (contents z.builder) old c new → IsHandledBody file old new function params from i j c
+  handled_done stand seen file g old new function params from i j ls ms leaves c is tags_are aside gives =
+      handled_read stand seen file g old new function params from i j ls ms leaves (seqs_of x) t hs c is aside
+      (subst (λ (ts : ℕ → Option ℕ). AreHandlers ts (seqs_of x) (tree_ids t) hs) tags_are are_handlers)
+      (subst (λ (f : FunctionBuilder). Gives hs (length hs) (contents f.builder) old c new) to_z gives)

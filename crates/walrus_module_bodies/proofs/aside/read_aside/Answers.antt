@@ -1,0 +1,32 @@
+use Rattle.std.proofs.Common.{◌+◌, ◌≤◌, ℕ, ⊎_elim, inl, length, refl, subst, sym}
+use Rattle.walrus_index_maps.specs.Views.{ids}
+use Rattle.walrus_bodies_into.specs.walrus_handler_types.walrus_tree.walrus_builder.Built.{contents}
+use Rattle.walrus_bodies_into.specs.walrus_handler_types.walrus_body_steps.walrus_body_env.contracts.validator.AcceptAllValidator.TheImpl.{ghosts}
+use Rattle.walrus_bodies_into.specs.walrus_module_env.walrus_collections.walrus_local_function.walrus_function_parser.Parsed.{telling}
+use Rattle.walrus_module_bodies.proofs.AsideLemmas.{aside_read, of_err, of_ok, one_aside}
+use Rattle.walrus_module_bodies.proofs.StopLemmas.{body_fault}
+use Rattle.walrus_module_bodies.proofs.aside.read_aside.Goals as goal
+
+pub returns-clause-read : goal.returns-clause-read
+returns-clause-read c =
+    let e = c.args.env.now in
+    let i = ids c.args.indices.now in
+    let j = ids c.parse.new.indices in
+    let any = c.new-any.ensures in
+    of_ok c.parse.result
+    (λ f p. aside_read c.files_are_seen.ensures e c.args.function i _ (one_aside e c.args.function i _ _ _ _ _ _ _ any.params any.results any.blocks any.tags any.memories any.counted) (length c.args.args.items) _ any.start c.args.body j (contents f.builder.builder) p)
+    c.parse.ensures.parsed
+
+pub returns-clause-stops : goal.returns-clause-stops
+returns-clause-stops c =
+    let e = c.args.env.now in
+    let i = ids c.args.indices.now in
+    let any = c.new-any.ensures in
+    of_err c.parse.result
+    (λ fault h. ⊎_elim
+    (λ m. inl m)
+    (λ refused. body_fault c.files_are_seen.ensures e c.args.function i (ids c.parse.new.indices) _ (one_aside e c.args.function i _ _ _ _ _ _ _ any.params any.results any.blocks any.tags any.memories any.counted) any.handlers
+    (telling ghosts.locals_step ghosts.op_step ghosts.finish_step) (length c.args.args.items) _ any.start c.args.body _ _ _ fault c.requires.tags c.parse.ensures.kept
+    c.requires.within (subst (λ (n : ℕ). n ≤ c.args.body.window.start + c.args.body.position) (sym any.start) c.requires.begins) (λ v offset r. refl) (λ v offset op. refl) (λ v offset. refl) refused)
+    h)
+    c.parse.ensures.refused

@@ -1,0 +1,3 @@
+pub mod Envs
+pub mod Reading
+pub mod Steps

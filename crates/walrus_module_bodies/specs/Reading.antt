@@ -1,0 +1,58 @@
+-- The body of a function that is read into its module, with the types of its handlers.
+use Rattle.std.specs.Prelude.{◌≡◌, ℕ, List, Some, Ok, Err, slice_get}
+use Rattle.wasm_reader.specs.Cursor.{Cursor, end_of, rest}
+use Rattle.walrus_arena.specs.Arena.{Arena, item_at}
+use Rattle.walrus_function_types.specs.Growth.{Grows}
+use Rattle.walrus_index_maps.specs.Maps.{Ids}
+use Rattle.walrus_bodies_into.specs.walrus_handler_types.walrus_body_steps.Meanings.{meaning}
+use Rattle.walrus_bodies_into.specs.walrus_handler_types.walrus_body_steps.Picks.{ArePicks}
+use Rattle.walrus_bodies_into.specs.walrus_handler_types.walrus_body_steps.walrus_body_nesting.Stands.{StandsAs}
+use Rattle.walrus_bodies_into.specs.walrus_handler_types.walrus_body_steps.walrus_body_env.declared.error.BodyError.{BodyError}
+use Rattle.walrus_bodies_into.specs.walrus_handler_types.walrus_body_steps.walrus_body_rules.Sights.{Sight}
+use Rattle.walrus_bodies_into.specs.walrus_handler_types.walrus_body_steps.walrus_body_nesting.wasm_formats.Stops.{Stop}
+use Rattle.walrus_bodies_into.specs.walrus_handler_types.walrus_body_steps.wasm_body_grammar.Rules.{Around}
+use Rattle.walrus_bodies_into.specs.walrus_handler_types.walrus_body_steps.wasm_body_grammar.Bodies.{Run, body}
+use Rattle.walrus_bodies_into.specs.walrus_module_env.walrus_body_parser.wasm_operators.Operators.{Seen}
+use Rattle.walrus_bodies_into.specs.walrus_handler_types.walrus_body_steps.wasm_normal_form.Trees.{tree_of}
+use Rattle.walrus_bodies_into.specs.walrus_handler_types.walrus_body_steps.wasm_normal_form.Normal.{normal}
+use Rattle.walrus_bodies_into.specs.walrus_handler_types.walrus_body_steps.wasm_normal_form.wasm_immediates.declared.block_type.BlockType.{BlockType}
+use Rattle.walrus_bodies_into.specs.walrus_handler_types.walrus_tree.walrus_builder.Built.{Seq}
+use Rattle.walrus_bodies_into.specs.walrus_handler_types.walrus_tree.walrus_walks.walrus_types.Table.{IsFunctionType, Table}
+use Rattle.walrus_bodies_into.specs.walrus_module_env.walrus_body_parser.Points.{place_at, ops_from}
+use Rattle.walrus_bodies_into.specs.walrus_module_env.walrus_collections.walrus_local_function.walrus_body_locals.Calls.{IsFaultOf}
+use Rattle.walrus_bodies_into.specs.walrus_module_env.walrus_collections.walrus_module_items.declared.tag.Tag.{Tag}
+use Rattle.walrus_bodies_into.specs.walrus_module_env.declared.env.ModuleEnv.{ModuleEnv}
+use Rattle.walrus_bodies_into.specs.walrus_module_env.Around.{IsFiled, sight_in}
+use Rattle.walrus_bodies_into.specs.walrus_module_env.Parsed.{IsRead}
+use Rattle.walrus_module_bodies.specs.declared.file.FileEnv.{FileEnv}
+use Rattle.walrus_module_bodies.specs.Envs.{IsEnv}
+use Rattle.walrus_bodies_into.specs.Handled.{SeesAside}
+
+-- the bytes are parsed as a body of this file, and its sequences stand as its normal form in the eyes of one who sees the module, types of
+-- handlers aside
+pub record IsReadAside (e : ModuleEnv) (function params : ℕ) (old : Cursor) (j : Ids) (b : List Seq) (a : Around) : Type 0 where
+  pub sight : Sight
+  pub aside : SeesAside sight (sight_in e function j)
+  pub place : ℕ
+  pub runs : List Run
+  pub ops : List (ℕ × Seen)
+  pub read : (body a params (place_at e.code_start old)).parse (rest old) ≡ Ok ((place, runs), ops)
+  pub stands : (pick : BlockType → BlockType) → ArePicks (sight_in e function j) pick → StandsAs (meaning sight) b (normal pick (tree_of (ops_from place ops)))
+
+-- of each file whose sections were read into the module
+abbrev pub IsBodyAside : ModuleEnv → ℕ → ℕ → Cursor → Ids → Ids → List Seq → Type 0
+IsBodyAside e function params old i j b = (a : Around) → IsFiled e i function params old.window.features a → IsReadAside e function params old j b a
+
+-- of no such file they are a body: reading stops, for this fault
+abbrev pub IsBodyFault : ModuleEnv → ℕ → ℕ → Cursor → Ids → BodyError → Type 0
+IsBodyFault e function params old i fault = (a : Around) → IsFiled e i function params old.window.features a
+    → (t : Stop) × ((body a params (place_at e.code_start old)).parse (rest old) ≡ Err t) × IsFaultOf (end_of old) t fault
+
+-- each tag that the map numbers is live, and has a live function type
+abbrev pub TagsStand : Arena Tag → Table → Ids → Type 0
+TagsStand tags t i = (n tag : ℕ) → slice_get i.tags n ≡ Some tag → (item : Tag) × (item_at tags tag ≡ Some item) × IsFunctionType t item.ty
+
+-- of each such file this is a body, beside each later table of the module's types
+abbrev pub IsHandledBody : FileEnv → Table → Table → ℕ → ℕ → Cursor → Ids → Ids → List Seq → Type 0
+IsHandledBody file old new function params from i j b = (e f : ModuleEnv) (later : Table) → IsEnv file old e → Grows new later → IsEnv file later f
+    → (a : Around) → IsFiled e i function params from.window.features a → IsRead f function params from j b a

@@ -1,0 +1,80 @@
+//! One body, read for its function.
+
+ghost use Rattle.std.specs.Prelude.{◌≡◌, ◌⊎◌, ◌<◌, ◌+◌, All, IfErr, OnOk, length};
+ghost use Rattle.wasm_reader.specs.Cursor.{IsWithin, rest};
+ghost use Rattle.walrus_index_maps.specs.Views.{ids};
+ghost use Rattle.walrus_bodies_into.specs.walrus_handler_types.walrus_body_steps.walrus_body_env.declared.error.BodyError.TheVariants.{Memory as WantsMemory};
+ghost use Rattle.walrus_module_bodies.specs.Reading.{TagsStand};
+ghost use Rattle.walrus_module_bodies.specs.Steps.{Fails, IsFiledLater, IsPlaced, IsReady, IsStep, state};
+
+use crate::arguments::{add_arguments, entry_type, params_of};
+use crate::file::FileEnv;
+use crate::handled::read_handled;
+use std::alloc::Global;
+use walrus_bodies_into::module_env::body_env::BodyError;
+use walrus_bodies_into::module_env::body_env::instr::InstrSeqType;
+use walrus_bodies_into::module_env::body_env::instr::type_table::{ModuleLocals, ModuleTypes};
+use walrus_bodies_into::module_env::collections::ModuleFunctions;
+use walrus_function_types::laws::{entry_types_grow, found_types_stay, tables_grow_on};
+use walrus_functions_into::{FunctionBody, give_body};
+use walrus_index_maps::IndicesToIds;
+use wasm_features::WasmFeatures;
+use wasm_reader::BinaryReader;
+
+// A body's bytes, whose first one has this place behind the beginning of the code section's contents.
+fn reader_of<'a>(
+    file: &FileEnv<'_>,
+    features: WasmFeatures,
+    place: u64,
+    bytes: &'a [u8],
+) -> BinaryReader<'a>
+    requires { file.now.code_start + place + length bytes.now < 4294967295 }
+    ensures begins { result ≡ record { window = record { bytes = bytes.now; start = file.now.code_start + place; features = features }; position = 0 } }
+    ensures within { IsWithin result }
+    ensures bytes { All (λ b. b < 256) (rest result) }
+{
+    BinaryReader::new_features(bytes, file.code_start + place, features)
+}
+
+/// Reads the body of a function that has none yet, and gives it to it.
+pub(crate) fn read_body(
+    alloc: Global,
+    file: &FileEnv<'_>,
+    features: WasmFeatures,
+    types: &mut ModuleTypes,
+    indices: &mut IndicesToIds,
+    locals: &mut ModuleLocals,
+    functions: &mut ModuleFunctions,
+    body: &FunctionBody<'_>,
+) -> Result<(), BodyError>
+    requires placed { IsPlaced file.now body.now }
+    requires ready { IsReady (state types.old locals.old (ids indices.old) functions.old) body.now }
+    requires filed { IsFiledLater file.now features types.old (ids indices.old) }
+    requires tags { TagsStand file.now.tags.now types.old (ids indices.old) }
+    ensures stops { IfErr result (λ e. (e ≡ WantsMemory) ⊎ Fails file.now features body.now (state types.old locals.old (ids indices.old) functions.old) e) }
+    ensures read { OnOk result (IsStep file.now features body.now (state types.old locals.old (ids indices.old) functions.old) (state types.new locals.new (ids indices.new) functions.new)) }
+{
+    entry_types_grow();
+    found_types_stay();
+    tables_grow_on();
+    let function = body.function();
+    let ty = functions.get(function).ty();
+    let entry = entry_type(alloc, types, ty)?;
+    let env = file.beside(&*types);
+    let args = add_arguments(alloc, params_of(&env, ty), function, indices, locals)?;
+    let reader = reader_of(file, features, body.chunk.place, body.chunk.bytes);
+    let read = read_handled(
+        alloc,
+        *file,
+        types,
+        indices,
+        locals,
+        function,
+        ty,
+        InstrSeqType::MultiValue(entry),
+        args,
+        reader,
+    )?;
+    give_body(functions, function, read);
+    Ok(())
+}
