@@ -1,3 +1,4 @@
 mod RefusalLemmas
 mod TypeLemmas
 mod CodeLemmas
+mod WholeLemmas

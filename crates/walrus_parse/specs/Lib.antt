@@ -1,4 +1,5 @@
 pub mod Refusals
 pub mod Named
 pub mod Code
+pub mod Owed
 pub mod Parsed

@@ -2,29 +2,29 @@
 use Rattle.std.specs.Prelude.{ℕ, ◌≡◌, List, [], Option, None}
 use Rattle.std.specs.declared.alloc.Global.{Global as Alloc}
 use Rattle.std.specs.declared.string.String.{String}
-use Rattle.walrus_items_into.specs.walrus_module_env.walrus_body_parser.wasm_operators.wasm_features.Features.{features_of}
-use Rattle.walrus_items_into.specs.walrus_module_env.walrus_body_parser.wasm_operators.wasm_features.declared.WasmFeatures.{WasmFeatures}
+use Rattle.walrus_module.specs.walrus_body_writer.walrus_pairing.wasm_immediates.wasm_features.Features.{features_of}
+use Rattle.walrus_module.specs.walrus_body_writer.walrus_pairing.wasm_immediates.wasm_features.declared.WasmFeatures.{WasmFeatures}
 use Rattle.walrus_module.specs.walrus_local_function.walrus_body_locals.wasm_grammar.Modules as grammar
-use Rattle.walrus_items_into.specs.wasm_module_rules.wasm_modules.Modules.{around, codes, module_of, IsShort}
+use Rattle.walrus_ready_bodies.specs.walrus_items_into.wasm_module_rules.wasm_modules.Modules.{around, codes, module_of, IsShort}
 use Rattle.walrus_module.specs.walrus_local_function.walrus_body_locals.wasm_body_grammar.Codes.{ReadsCodes}
-use Rattle.walrus_items_into.specs.wasm_sections.Laws.{ReadsSections}
+use Rattle.walrus_ready_bodies.specs.walrus_items_into.wasm_sections.Laws.{ReadsSections}
 use Rattle.wasm_name_payloads.specs.Names.{names_of}
 use Rattle.wasm_name_payloads.specs.Producers.{processed, producers_of}
 use Rattle.walrus_config.specs.Config.{feature_names}
 use Rattle.walrus_config.specs.declared.config.ModuleConfig.{ModuleConfig}
 use Rattle.walrus_customs.specs.Producers.{fields_of}
 use Rattle.walrus_customs.specs.declared.producers.ProducerField.{ProducerField}
-use Rattle.walrus_items_into.specs.walrus_tables_into.walrus_sections_into.walrus_index_maps.Maps.{Ids}
+use Rattle.walrus_module.specs.walrus_body_writer.walrus_pairing.walrus_index_maps.Maps.{Ids}
 use Rattle.walrus_item_names.specs.Gives.{GivesNames}
 use Rattle.walrus_item_names.specs.Holder.{Holder, holder}
 use Rattle.walrus_module.specs.walrus_types.walrus_items.declared.local.Local.{Local}
-use Rattle.walrus_items_into.specs.Filled.{IsFilledFrom}
-use Rattle.walrus_items_into.specs.Spaces.{Spaces}
-use Rattle.walrus_items_into.specs.walrus_tables_into.walrus_sections_into.walrus_known_sections.State.{state_of}
-use Rattle.walrus_items_into.specs.walrus_tables_into.walrus_sections_into.walrus_known_sections.declared.sections.Sections.{Sections}
-use Rattle.walrus_module_bodies.specs.Steps.{State, Steps, state}
-use Rattle.walrus_module_bodies.specs.declared.file.FileEnv.{FileEnv}
-use Rattle.walrus_parse.specs.Code.{IsFileIn, bodies_in}
+use Rattle.walrus_ready_bodies.specs.walrus_items_into.Filled.{IsFilledFrom}
+use Rattle.walrus_ready_bodies.specs.walrus_items_into.Spaces.{Spaces}
+use Rattle.walrus_ready_bodies.specs.walrus_items_into.walrus_tables_into.walrus_sections_into.walrus_known_sections.State.{state_of}
+use Rattle.walrus_ready_bodies.specs.walrus_items_into.walrus_tables_into.walrus_sections_into.walrus_known_sections.declared.sections.Sections.{Sections}
+use Rattle.walrus_ready_bodies.specs.walrus_module_bodies.Steps.{State, Steps, state}
+use Rattle.walrus_ready_bodies.specs.walrus_module_bodies.declared.file.FileEnv.{FileEnv}
+use Rattle.walrus_ready_bodies.specs.Ready.{IsFileOf, bodies_in}
 use Rattle.walrus_parse.specs.Named.{all_names}
 
 -- the features that are read under these flags
@@ -52,7 +52,7 @@ module _ {B : Type 0} where
     pub filled : Spaces B
     pub are_filled : IsFilledFrom sections start numbers filled
     pub file : FileEnv
-    pub is_file : IsFileIn sections filled.types filled.tags filled.memories file
+    pub is_file : IsFileOf sections filled.types filled.tags filled.memories file
     pub bodied : State
     pub bodies_are : Steps file (read_features config) (bodies_in sections filled.functions) (state filled.types [] numbers filled.functions) bodied
     pub names : GivesNames (all_names config.generate_synthetic_names_for_anonymous_items bodied.ids (named_in filled bodied None) (names_of (module_of (state_of sections) bodies)))

@@ -1,11 +1,11 @@
 -- Why a file is refused, and where (Core Specification, binary format: modules).
 use Rattle.std.specs.Prelude.{ℕ, ◌^◌, ◌<◌, ◌≡◌, ◌⊎◌, List, length, Option, Some, None}
-use Rattle.walrus_items_into.specs.walrus_module_env.walrus_body_parser.wasm_operators.wasm_features.declared.WasmFeatures.{WasmFeatures}
+use Rattle.walrus_module.specs.walrus_body_writer.walrus_pairing.wasm_immediates.wasm_features.declared.WasmFeatures.{WasmFeatures}
 use Rattle.walrus_module.specs.walrus_local_function.walrus_body_locals.walrus_body_nesting.wasm_formats.Stops.{Trouble, Read, Header, SectionOrder, SectionSize, Count, Index, TypeForm, ConstExpr, OffsetType, Nesting, Position, Operator, Unsupported, DuplicateExport, Bounds, Limit}
 use Rattle.walrus_errors.specs.declared.error.ModuleError.{ModuleError}
 use Rattle.walrus_errors.specs.declared.error.ModuleError.TheVariants as errors
 use Rattle.walrus_errors.specs.Refusals.{refusal_of}
-use Rattle.walrus_items_into.specs.wasm_module_rules.wasm_modules.Modules.{Stops}
+use Rattle.walrus_ready_bodies.specs.walrus_items_into.wasm_module_rules.wasm_modules.Modules.{Stops}
 use Rattle.walrus_module.specs.walrus_body_writer.walrus_body_env.declared.error.BodyError.{BodyError}
 use Rattle.walrus_module.specs.walrus_body_writer.walrus_body_env.declared.error.BodyError.TheVariants as bodies
 

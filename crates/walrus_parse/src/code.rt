@@ -1,23 +1,28 @@
 //! The bodies of a file.
 
 ghost use Rattle.std.specs.Prelude.{◌≡◌, length, IfErr, IfOk, OnOk};
-ghost use Rattle.walrus_items_into.specs.walrus_tables_into.walrus_sections_into.walrus_index_maps.Views.{ids};
+ghost use Rattle.walrus_module.specs.walrus_body_writer.walrus_pairing.walrus_index_maps.Views.{ids};
 ghost use Rattle.walrus_module.specs.walrus_types.Table.{entries, next_id};
-ghost use Rattle.walrus_items_into.specs.walrus_functions_into.Laws.{read_bodies};
-ghost use Rattle.walrus_module_bodies.specs.Steps.{Steps, state};
-ghost use Rattle.walrus_module_bodies.specs.declared.file.FileEnv.{FileEnv};
-ghost use Rattle.walrus_parse.specs.Code.{AreReady, IsCodeRefusal, IsFileIn, bodies_in};
+ghost use Rattle.walrus_ready_bodies.specs.walrus_items_into.walrus_functions_into.Laws.{read_bodies};
+ghost use Rattle.walrus_ready_bodies.specs.walrus_module_bodies.Steps.{Steps, state};
+ghost use Rattle.walrus_ready_bodies.specs.walrus_module_bodies.declared.file.FileEnv.{FileEnv};
+ghost use Rattle.walrus_ready_bodies.specs.Ready.{AreReady, IsFileOf, bodies_in};
+ghost use Rattle.walrus_parse.specs.Code.{IsCodeRefusal};
 
 use crate::refusal::module_error;
 use std::alloc::{AllocError, Global};
 use walrus_errors::Result;
-use walrus_items_into::functions_into::pair_bodies;
-use walrus_items_into::module_env::body_env::instr::type_table::{ModuleLocals, ModuleTypes};
-use walrus_items_into::tables_into::sections_into::index_maps::IndicesToIds;
-use walrus_items_into::tables_into::sections_into::known_sections::{Chunk, Sections};
-use walrus_items_into::tables_into::sections_into::operators::immediate_forms::reader::features::WasmFeatures;
 use walrus_module::collections::{ModuleFunctions, ModuleMemories, ModuleTags};
-use walrus_module_bodies::{FileEnv, read_bodies};
+use walrus_ready_bodies::items_into::functions_into::pair_bodies;
+use walrus_ready_bodies::items_into::module_env::body_env::instr::type_table::{
+    ModuleLocals, ModuleTypes,
+};
+use walrus_ready_bodies::items_into::tables_into::sections_into::index_maps::IndicesToIds;
+use walrus_ready_bodies::items_into::tables_into::sections_into::known_sections::{
+    Chunk, Sections,
+};
+use walrus_ready_bodies::items_into::tables_into::sections_into::operators::immediate_forms::reader::features::WasmFeatures;
+use walrus_ready_bodies::module_bodies::{FileEnv, read_bodies};
 
 // How many types live. They are held in memory, so there are never 2^64.
 fn count_types(types: &ModuleTypes) -> Result<usize, AllocError>
@@ -60,8 +65,8 @@ pub(crate) fn read_code(
     functions: &mut ModuleFunctions,
 ) -> Result<()>
     requires full { length (entries types.old) ≡ next_id types.old }
-    requires ready { (file : FileEnv) → IsFileIn sections.now types.old tags.now memories.now file → AreReady file features (bodies_in sections.now functions.old) (state types.old locals.old (ids maps.old) functions.old) }
-    ensures read { OnOk result ((file : FileEnv) × IsFileIn sections.now types.old tags.now memories.now file × Steps file features (bodies_in sections.now functions.old) (state types.old locals.old (ids maps.old) functions.old) (state types.new locals.new (ids maps.new) functions.new)) }
+    requires ready { (file : FileEnv) → IsFileOf sections.now types.old tags.now memories.now file → AreReady file features (bodies_in sections.now functions.old) (state types.old locals.old (ids maps.old) functions.old) }
+    ensures read { OnOk result ((file : FileEnv) × IsFileOf sections.now types.old tags.now memories.now file × Steps file features (bodies_in sections.now functions.old) (state types.old locals.old (ids maps.old) functions.old) (state types.new locals.new (ids maps.new) functions.new)) }
     ensures stops { IfErr result (λ error. IsCodeRefusal features sections.now tags.now memories.now (bodies_in sections.now functions.old) (state types.old locals.old (ids maps.old) functions.old) error) }
 {
     let own_types = count_types(types)?;

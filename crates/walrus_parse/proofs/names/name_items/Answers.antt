@@ -1,7 +1,7 @@
 use Rattle.std.proofs.Common.{List, map, ap, ◌∙◌, subst}
 use Rattle.std.proofs.lemmas.Result.{on_ok_weaker}
 use Rattle.wasm_name_payloads.specs.Names.{Given, names_of}
-use Rattle.walrus_items_into.specs.walrus_tables_into.walrus_sections_into.walrus_index_maps.Views.{ids}
+use Rattle.walrus_module.specs.walrus_body_writer.walrus_pairing.walrus_index_maps.Views.{ids}
 use Rattle.walrus_item_names.specs.Gives.{GivesNames, gives_both}
 use Rattle.walrus_item_names.specs.Holder.{Holder, holder}
 use Rattle.walrus_item_names.specs.Sent.{sent_names}
@@ -17,6 +17,6 @@ returns c =
     let new : Holder = holder c.give_names.new.types c.give_names.new.funcs c.give_names.new.tables c.give_names.new.memories c.give_names.new.tags c.give_names.new.globals c.give_names.new.elements c.give_names.new.data_segments c.give_names.new.locals c.give_names.new.own in
     on_ok_weaker c.give_names.result
     (λ gives m numbered customs.
-      gives_both (made_names c.args.synthetic i old) (sent_names c.args.synthetic i (names_of m)) old mid new c.in_ok-make_names.ensures
-      (subst (λ (names : List Given). GivesNames (sent_names c.args.synthetic i names) mid new) (ap (map given_of) c.as_slice.ensures.value ∙ c.in_ok-names.ensures m numbered customs) gives))
+    gives_both (made_names c.args.synthetic i old) (sent_names c.args.synthetic i (names_of m)) old mid new c.in_ok-make_names.ensures
+    (subst (λ (names : List Given). GivesNames (sent_names c.args.synthetic i names) mid new) (ap (map given_of) c.as_slice.ensures.value ∙ c.in_ok-names.ensures m numbered customs) gives))
     c.give_names.ensures.gives

@@ -1,0 +1,67 @@
+-- The bodies of a file were read, or one of them stops: so does the file.
+use Rattle.std.specs.Prelude.{ℕ, ◌+◌, ◌<◌, ◌≡◌, ◌⊎◌, All, List, [], length, Option, Some, refl}
+use Rattle.std.proofs.Common.{sym, ◌∙◌, inl, inr}
+use Rattle.wasm_name_payloads.specs.Names.{names_of}
+use Rattle.wasm_name_payloads.specs.Producers.{processed, producers_of}
+use Rattle.walrus_config.specs.Config.{feature_names}
+use Rattle.walrus_errors.specs.declared.error.ModuleError.{ModuleError}
+use Rattle.walrus_local_counts.specs.Locals.{FewAreNumbered, HasFew}
+use Rattle.walrus_module.specs.walrus_body_writer.walrus_body_env.declared.error.BodyError.{BodyError}
+use Rattle.walrus_module.specs.walrus_body_writer.walrus_pairing.walrus_index_maps.Maps.{Ids}
+use Rattle.walrus_module.specs.walrus_body_writer.walrus_pairing.wasm_immediates.wasm_features.declared.WasmFeatures.{WasmFeatures}
+use Rattle.walrus_module.specs.walrus_local_function.walrus_body_locals.walrus_body_nesting.Faults.{fault_at}
+use Rattle.walrus_module.specs.walrus_local_function.walrus_body_locals.walrus_body_nesting.wasm_formats.Stops.{Stop}
+use Rattle.walrus_module.specs.walrus_local_function.walrus_body_locals.wasm_body_grammar.Codes.{ReadsCodes, StopsCodes}
+use Rattle.walrus_module.specs.walrus_local_function.walrus_body_locals.wasm_grammar.Modules as grammar
+use Rattle.walrus_module.specs.walrus_types.walrus_items.declared.local.Local.{Local}
+use Rattle.walrus_ready_bodies.specs.Ready.{IsFileOf, bodies_in}
+use Rattle.walrus_ready_bodies.specs.walrus_items_into.Filled.{IsFilledFrom}
+use Rattle.walrus_ready_bodies.specs.walrus_items_into.Laws.{FilledModulesAreNumbered, HasLocals, NamedLocalsCount, NamesLocals}
+use Rattle.walrus_ready_bodies.specs.walrus_items_into.Spaces.{Spaces}
+use Rattle.walrus_ready_bodies.specs.walrus_items_into.walrus_names_into.Numbered.{IsNumbered}
+use Rattle.walrus_ready_bodies.specs.walrus_items_into.walrus_tables_into.walrus_sections_into.walrus_known_sections.State.{state_of}
+use Rattle.walrus_ready_bodies.specs.walrus_items_into.walrus_tables_into.walrus_sections_into.walrus_known_sections.declared.sections.Sections.{Sections}
+use Rattle.walrus_ready_bodies.specs.walrus_items_into.wasm_module_rules.wasm_modules.Modules.{IsShort, Reads, around, code_left, codes, module_of}
+use Rattle.walrus_ready_bodies.specs.walrus_items_into.wasm_sections.Laws.{ReadsSections}
+use Rattle.walrus_ready_bodies.specs.walrus_module_bodies.Steps.{State, Steps, StopsIn, state}
+use Rattle.walrus_ready_bodies.specs.walrus_module_bodies.declared.file.FileEnv.{FileEnv}
+use Rattle.walrus_parse.specs.Owed.{BodiesRead, BodiesStop}
+use Rattle.walrus_parse.specs.Code.{IsCodeRefusal}
+use Rattle.walrus_parse.specs.Parsed.{ReadsAs}
+use Rattle.walrus_parse.specs.Refusals.{IsRefusal}
+use Rattle.walrus_parse.proofs.RefusalLemmas.{fault_is}
+
+-- the module of a file whose bodies were read
+pub record IsWhole (features : WasmFeatures) (bytes : List ℕ) (s : Sections) (j : Ids) : Type 0 where
+  pub bodies : List grammar.Body
+  pub reads : ReadsAs features bytes s bodies
+  pub numbered : IsNumbered (module_of (state_of s) bodies) j
+  pub few : HasFew j
+
+pub is_whole : {B : Type 0} → BodiesRead B → NamedLocalsCount B → FilledModulesAreNumbered B → FewAreNumbered
+    → (features : WasmFeatures) (bytes : List ℕ) (s : Sections) (begin : Option ℕ) (i : Ids) (m : Spaces B) (file : FileEnv) (locals : List Local) (new : State)
+    → IsShort bytes → All (λ b. b < 256) bytes → ReadsSections features bytes (state_of s) → IsFilledFrom s begin i m → IsFileOf s m.types m.tags m.memories file
+    → Steps file features (bodies_in s m.functions) (state m.types locals i m.functions) new → IsWhole features bytes s new.ids
+is_whole read counted numbers few features bytes s begin i m file locals new short small reads filled is steps =
+    let all = read features bytes s begin i m file locals new short small reads filled is steps in
+    let numbered = numbers features bytes s begin i new.ids m all.0 reads filled all.3 (counted features bytes s begin i new.ids m all.0 reads filled all.2) in
+    let whole : Reads features bytes (module_of (state_of s) all.0) = (short, (state_of s, all.0, reads, all.1, refl)) in record {
+      bodies = all.0;
+      reads = record { short = short; sections = reads; codes_are = all.1 };
+      numbered = numbered;
+      few = few features bytes (module_of (state_of s) all.0) new.ids whole numbered;
+    }
+
+-- a refusal of the bodies is one of the file
+pub code_refused : {B : Type 0} → BodiesStop B → (features : WasmFeatures) (bytes : List ℕ) (s : Sections) (begin : Option ℕ) (i : Ids) (m : Spaces B) (locals : List Local) (error : ModuleError)
+    → IsShort bytes → All (λ b. b < 256) bytes → ReadsSections features bytes (state_of s) → IsFilledFrom s begin i m
+    → IsCodeRefusal features s m.tags m.memories (bodies_in s m.functions) (state m.types locals i m.functions) error → IsRefusal features bytes error
+code_refused stop features bytes s begin i m locals error short small reads filled (inl memory) = inl memory
+code_refused stop features bytes s begin i m locals error short small reads filled (inr h) =
+    let t = stop features bytes s begin i m h.file locals h.fault short small reads filled h.is_file h.stops in
+    inr (inr (record {
+      trouble = t.0.trouble;
+      place = t.1;
+      stops = (t.0, (short, inr (state_of s, reads, t.2)), refl, t.3);
+      error_is = h.error_is ∙ fault_is t.0.trouble t.1 h.fault t.4;
+    }))
