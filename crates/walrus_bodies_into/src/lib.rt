@@ -2,3 +2,7 @@
 #![tactic(auto)]
 
 pub mod laws;
+
+// Passed on to crates above, which then list this one alone.
+pub use walrus_handler_types as handler_types;
+pub use walrus_module_env as module_env;

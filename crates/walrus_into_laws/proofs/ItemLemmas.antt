@@ -24,7 +24,7 @@ use Rattle.walrus_tables_into.specs.walrus_sections_into.Slots.{IsMemoryOf}
 use Rattle.walrus_tables_into.specs.walrus_sections_into.Imports.{IsImportOf, KindBecomes}
 use Rattle.walrus_tables_into.specs.walrus_sections_into.Exports.{IsExportOf, ItemBecomes, StartBecomes}
 use Rattle.walrus_tables_into.specs.walrus_sections_into.Tags.{IsTagOf}
-use Rattle.walrus_tables_into.specs.Customs.{IsCustomOf}
+use Rattle.walrus_tables_into.specs.Customs.{IsCustomOf, plain}
 use Rattle.walrus_into_laws.specs.Renamed.{retyped_tag}
 use Rattle.walrus_into_laws.specs.Meaning.{type_id, OthersStay, ImportsMean, MemoriesMean, TagsMean, ExportsMean, StartMeans, own_custom, CustomsMean}
 use Rattle.walrus_into_laws.proofs.Seeing.{as_read, as_changed, nothing_asked, type_is}
@@ -97,4 +97,4 @@ pub start_means : StartMeans
 start_means s look start stay h = start_is look stay s.start start h
 
 pub customs_mean : {B : Type 0} (boxed : B → grammar.Custom) → CustomsMean boxed
-customs_mean boxed s new h = as_read IsCustomOf custom_of (own_custom boxed) s.customs.items new (custom_means boxed) h
+customs_mean boxed s new h = as_read IsCustomOf custom_of (own_custom boxed) (plain s.customs.items) new (custom_means boxed) h

@@ -1,6 +1,6 @@
 -- What a module means whose collections began empty and were filled with what was read of a file: the file's module, each number of
 -- a type sent to its id.
-use Rattle.std.specs.Prelude.{ℕ, ◌≡◌, ◌≢◌, ◌<◌, List, [], All, Option, Some, string_bytes}
+use Rattle.std.specs.Prelude.{ℕ, ◌≡◌, ◌≢◌, ◌<◌, List, [], All, map, Option, Some, string_bytes}
 use Rattle.walrus_arena.specs.Arena.{Arena}
 use Rattle.wasm_grammar.specs.Modules.{Custom}
 use Rattle.wasm_spelled_modules.specs.Spelled.{AreSpelled}
@@ -24,6 +24,7 @@ use Rattle.walrus_tables_into.specs.walrus_sections.declared.section.Section.The
 use Rattle.walrus_tables_into.specs.walrus_sections_into.Numbers.{upto}
 use Rattle.walrus_tables_into.specs.walrus_sections_into.walrus_index_maps.Maps.{Ids}
 use Rattle.walrus_tables_into.specs.walrus_sections_into.walrus_known_sections.declared.sections.Sections.{Sections}
+use Rattle.walrus_tables_into.specs.walrus_sections_into.walrus_known_sections.Items.{custom_of}
 use Rattle.walrus_tables_into.specs.walrus_sections_into.walrus_known_sections.State.{state_of}
 use Rattle.walrus_tables_into.specs.walrus_sections_into.walrus_pairing.Looks.{Look}
 use Rattle.walrus_tables_into.specs.walrus_sections_into.walrus_pairing.walrus_items.declared.local.Local.{Local}
@@ -34,7 +35,7 @@ use Rattle.walrus_tables_into.specs.walrus_sections_into.Imports.{IsImportOf}
 use Rattle.walrus_tables_into.specs.walrus_sections_into.Exports.{IsExportOf, StartBecomes}
 use Rattle.walrus_tables_into.specs.walrus_sections_into.Segments.{IsSegmentOf}
 use Rattle.walrus_tables_into.specs.walrus_sections_into.Tags.{IsTagOf}
-use Rattle.walrus_tables_into.specs.Customs.{IsCustomOf}
+use Rattle.walrus_tables_into.specs.Customs.{IsCustomOf, plain}
 use Rattle.walrus_tables_into.specs.Elements.{IsElementOf}
 use Rattle.walrus_tables_into.specs.Globals.{IsGlobalOf}
 use Rattle.walrus_tables_into.specs.Tables.{IsTableOf}
@@ -111,7 +112,7 @@ own_custom given (Raw section) = record { name = string_bytes section.name; byte
 own_custom given (Boxed section) = given section
 
 abbrev pub CustomsMean : {B : Type 0} → (B → Custom) → Type 0
-CustomsMean {B} given = (s : Sections) (new : Arena (Section B)) → Filled IsCustomOf s.customs.items [] new.slots → slots_of (own_custom given) new ≡ (state_of s).filled.customs
+CustomsMean {B} given = (s : Sections) (new : Arena (Section B)) → Filled IsCustomOf (plain s.customs.items) [] new.slots → slots_of (own_custom given) new ≡ map (λ c. Some (custom_of c)) (plain s.customs.items)
 
 -- ---- all of it
 

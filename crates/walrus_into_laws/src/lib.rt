@@ -67,7 +67,7 @@ pub fn segments_mean()
     ensures { SegmentsMean }
 {}
 
-/// Custom sections are those of the file.
+/// Custom sections are those of the file, but for those that name items or tell producers.
 pub fn customs_mean<B>()
     ensures { (given : B → Custom) → CustomsMean given }
 {}

@@ -4,33 +4,33 @@ use Rattle.std.proofs.lemmas.Bool.{cases_lt}
 use Rattle.std.specs.Option.{option_map, option_and_then}
 use Rattle.std.specs.List.{flat_map}
 use Rattle.std.proofs.lemmas.List.{length-map, length-append}
-use Rattle.walrus_tables_into.specs.walrus_sections_into.walrus_collections.walrus_local_function.walrus_body_locals.walrus_body_nesting.wasm_formats.wasm_features.declared.WasmFeatures.{WasmFeatures}
-use Rattle.wasm_sections.specs.Laws.{ReadsSections}
-use Rattle.wasm_module_rules.specs.wasm_modules.Modules.{around, module_of}
-use Rattle.wasm_module_rules.specs.Reading.{bodies_length}
+use Rattle.walrus_module_env.specs.walrus_body_parser.wasm_operators.wasm_features.declared.WasmFeatures.{WasmFeatures}
+use Rattle.walrus_functions_into.specs.wasm_sections.Laws.{ReadsSections}
+use Rattle.walrus_functions_into.specs.wasm_module_rules.wasm_modules.Modules.{around, module_of}
+use Rattle.walrus_functions_into.specs.wasm_module_rules.Reading.{bodies_length}
 use Rattle.wasm_name_payloads.specs.Names.{local_count, function_locals, first_slot}
-use Rattle.walrus_types.specs.walrus_forms.Records.{TypeGroup}
-use Rattle.walrus_types.specs.walrus_forms.Renaming.{at}
-use Rattle.walrus_types.specs.Table.{Table, next_id}
-use Rattle.walrus_types_into.specs.Into.{TypesNameBelow, NewTypesStand}
+use Rattle.walrus_read_laws.specs.walrus_tables_into.walrus_sections_into.walrus_forms.Records.{TypeGroup}
+use Rattle.walrus_read_laws.specs.walrus_tables_into.walrus_sections_into.walrus_forms.Renaming.{at}
+use Rattle.walrus_read_laws.specs.walrus_tables_into.walrus_sections_into.walrus_instr.walrus_types.Table.{Table, next_id}
+use Rattle.walrus_functions_into.specs.walrus_types_into.Into.{TypesNameBelow, NewTypesStand}
 use Rattle.walrus_module_env.specs.declared.env.ModuleEnv.{ModuleEnv}
 use Rattle.walrus_module_env.specs.Around.{IsFiled}
 use Rattle.walrus_module_env.specs.Filled.{AreFiled, HasBehind, ReadTypesAreFiled}
 use Rattle.walrus_names_into.specs.Numbered.{ids_in, locals_of, locals_in, IsNumbered}
-use Rattle.walrus_tables_into.specs.walrus_sections_into.walrus_collections.walrus_local_function.walrus_body_locals.walrus_body_nesting.wasm_formats.declared.fault.Space.{Space}
-use Rattle.walrus_tables_into.specs.walrus_sections_into.walrus_collections.walrus_local_function.walrus_body_locals.walrus_body_nesting.wasm_formats.declared.fault.Space.TheVariants as spaces
-use Rattle.walrus_tables_into.specs.walrus_sections_into.walrus_collections.walrus_local_function.walrus_body_locals.wasm_grammar.Modules.{Body, Function as GrammarFunction, Memory as GrammarMemory}
-use Rattle.walrus_tables_into.specs.walrus_sections_into.walrus_collections.walrus_local_function.walrus_body_locals.wasm_grammar.States.{count_of}
+use Rattle.walrus_module_env.specs.walrus_body_parser.walrus_body_rules.wasm_body_grammar.wasm_formats.declared.fault.Space.{Space}
+use Rattle.walrus_module_env.specs.walrus_body_parser.walrus_body_rules.wasm_body_grammar.wasm_formats.declared.fault.Space.TheVariants as spaces
+use Rattle.walrus_module_env.specs.walrus_body_parser.walrus_body_rules.wasm_grammar.Modules.{Body, Function as GrammarFunction, Memory as GrammarMemory}
+use Rattle.walrus_module_env.specs.walrus_body_parser.walrus_body_rules.wasm_grammar.States.{count_of}
 use Rattle.walrus_arena.specs.Arena.{Arena}
-use Rattle.walrus_tables_into.specs.walrus_sections_into.walrus_index_maps.Maps.{Ids}
-use Rattle.walrus_tables_into.specs.walrus_sections_into.walrus_known_sections.declared.items.Memory.{Memory as ReadMemory}
-use Rattle.walrus_tables_into.specs.walrus_sections_into.walrus_known_sections.declared.sections.Sections.{Sections}
-use Rattle.walrus_tables_into.specs.walrus_sections_into.walrus_known_sections.Items.{function_of, table_of, memory_of, tag_of, element_of, data_of}
-use Rattle.walrus_tables_into.specs.walrus_section_values.Globals.{global_of}
-use Rattle.walrus_tables_into.specs.walrus_sections_into.walrus_known_sections.State.{state_of}
-use Rattle.walrus_tables_into.specs.walrus_sections_into.walrus_module_items.declared.memory.Memory.{Memory}
-use Rattle.walrus_tables_into.specs.walrus_sections_into.Numbers.{upto}
-use Rattle.walrus_tables_into.specs.walrus_sections_into.Slots.{Become, IsMemoryOf}
+use Rattle.walrus_read_laws.specs.walrus_tables_into.walrus_sections_into.walrus_index_maps.Maps.{Ids}
+use Rattle.walrus_read_laws.specs.walrus_tables_into.walrus_sections_into.walrus_known_sections.declared.items.Memory.{Memory as ReadMemory}
+use Rattle.walrus_read_laws.specs.walrus_tables_into.walrus_sections_into.walrus_known_sections.declared.sections.Sections.{Sections}
+use Rattle.walrus_read_laws.specs.walrus_tables_into.walrus_sections_into.walrus_known_sections.Items.{function_of, table_of, memory_of, tag_of, element_of, data_of}
+use Rattle.walrus_read_laws.specs.walrus_tables_into.walrus_section_values.Globals.{global_of}
+use Rattle.walrus_read_laws.specs.walrus_tables_into.walrus_sections_into.walrus_known_sections.State.{state_of}
+use Rattle.walrus_module_env.specs.walrus_collections.walrus_module_items.declared.memory.Memory.{Memory}
+use Rattle.walrus_read_laws.specs.walrus_tables_into.walrus_sections_into.Numbers.{upto}
+use Rattle.walrus_read_laws.specs.walrus_tables_into.walrus_sections_into.Slots.{Become, IsMemoryOf}
 use Rattle.walrus_items_into.specs.Filled.{IsFilledFrom}
 use Rattle.walrus_items_into.specs.Numbers.{types_in}
 use Rattle.walrus_items_into.specs.Spaces.{Spaces}
@@ -77,7 +77,7 @@ upto_past : (n i : ℕ) → n ≤ i → slice_get (upto n) i ≡ None
 upto_past n i le = get_past (upto n) i (omega (arith, le, upto_length n))
 
 -- as many numbers as items
-many : {X Y : Type 0} (ids : List ℕ) (xs : List X) (f : X → Y) → ids ≡ upto (length xs) → length ids ≡ length (map f xs)
+pub many : {X Y : Type 0} (ids : List ℕ) (xs : List X) (f : X → Y) → ids ≡ upto (length xs) → length ids ≡ length (map f xs)
 many ids xs f e = ap length e ∙ upto_length (length xs) ∙ sym (length-map xs f)
 
 -- what numbers in turn name is there by its place

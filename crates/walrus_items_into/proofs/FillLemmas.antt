@@ -1,28 +1,28 @@
 -- Lemmas: what the parts say of a new module, put together.
 use Rattle.std.proofs.Common.{◌≡◌, ◌∙◌, ℕ, zero, suc, ◌+◌, List, [], ◌∷◌, ◌++◌, length, Option, Result, Ok, Err, IfOk, refl, sym, ap, subst, arith}
 use Rattle.std.specs.List.{range_with_len}
-use Rattle.walrus_types.specs.Table.{Table}
-use Rattle.walrus_types.specs.Parsing.{AreBelow, parsed, unparsed}
-use Rattle.walrus_types_into.specs.Into.{no_types, with_types, TypesNameBelow, NewTypesStand}
+use Rattle.walrus_read_laws.specs.walrus_tables_into.walrus_sections_into.walrus_instr.walrus_types.Table.{Table}
+use Rattle.walrus_read_laws.specs.walrus_tables_into.walrus_sections_into.walrus_instr.walrus_types.Parsing.{AreBelow, parsed, unparsed}
+use Rattle.walrus_functions_into.specs.walrus_types_into.Into.{no_types, with_types, TypesNameBelow, NewTypesStand}
 use Rattle.walrus_functions_into.specs.Functions.{AreTyped, functions_from, with_functions}
 use Rattle.walrus_functions_into.specs.Laws.{ReadFunctionsStand}
-use Rattle.walrus_tables_into.specs.walrus_sections_into.walrus_index_maps.Maps.{Ids, no_ids}
-use Rattle.walrus_tables_into.specs.walrus_sections_into.walrus_known_sections.declared.items.Function.{Function as ReadFunction}
-use Rattle.walrus_tables_into.specs.walrus_sections_into.walrus_known_sections.declared.sections.Sections.{Sections}
-use Rattle.walrus_tables_into.specs.walrus_sections_into.walrus_known_sections.State.{state_of}
-use Rattle.walrus_tables_into.specs.walrus_sections_into.Numbers.{upto}
-use Rattle.walrus_tables_into.specs.walrus_sections_into.walrus_module_items.declared.function.Function.{Function}
-use Rattle.walrus_tables_into.specs.walrus_sections_into.declared.error.IntoError.{IntoError}
-use Rattle.walrus_tables_into.specs.walrus_sections_into.Becomes.{look_of}
-use Rattle.walrus_tables_into.specs.walrus_sections_into.Slots.{Filled, IsMemoryOf}
-use Rattle.walrus_tables_into.specs.walrus_sections_into.Imports.{IsImportOf}
-use Rattle.walrus_tables_into.specs.walrus_sections_into.Tags.{IsTagOf}
-use Rattle.walrus_tables_into.specs.walrus_sections_into.Exports.{IsExportOf, StartBecomes}
-use Rattle.walrus_tables_into.specs.walrus_sections_into.Segments.{IsSegmentOf}
-use Rattle.walrus_tables_into.specs.Tables.{IsTableOf}
-use Rattle.walrus_tables_into.specs.Globals.{IsGlobalOf}
-use Rattle.walrus_tables_into.specs.Elements.{IsElementOf}
-use Rattle.walrus_tables_into.specs.Customs.{IsCustomOf}
+use Rattle.walrus_read_laws.specs.walrus_tables_into.walrus_sections_into.walrus_index_maps.Maps.{Ids, no_ids}
+use Rattle.walrus_read_laws.specs.walrus_tables_into.walrus_sections_into.walrus_known_sections.declared.items.Function.{Function as ReadFunction}
+use Rattle.walrus_read_laws.specs.walrus_tables_into.walrus_sections_into.walrus_known_sections.declared.sections.Sections.{Sections}
+use Rattle.walrus_read_laws.specs.walrus_tables_into.walrus_sections_into.walrus_known_sections.State.{state_of}
+use Rattle.walrus_read_laws.specs.walrus_tables_into.walrus_sections_into.Numbers.{upto}
+use Rattle.walrus_module_env.specs.walrus_collections.walrus_module_items.declared.function.Function.{Function}
+use Rattle.walrus_read_laws.specs.walrus_tables_into.walrus_sections_into.declared.error.IntoError.{IntoError}
+use Rattle.walrus_read_laws.specs.walrus_tables_into.walrus_sections_into.Becomes.{look_of}
+use Rattle.walrus_read_laws.specs.walrus_tables_into.walrus_sections_into.Slots.{Filled, IsMemoryOf}
+use Rattle.walrus_read_laws.specs.walrus_tables_into.walrus_sections_into.Imports.{IsImportOf}
+use Rattle.walrus_read_laws.specs.walrus_tables_into.walrus_sections_into.Tags.{IsTagOf}
+use Rattle.walrus_read_laws.specs.walrus_tables_into.walrus_sections_into.Exports.{IsExportOf, StartBecomes}
+use Rattle.walrus_read_laws.specs.walrus_tables_into.walrus_sections_into.Segments.{IsSegmentOf}
+use Rattle.walrus_read_laws.specs.walrus_tables_into.Tables.{IsTableOf}
+use Rattle.walrus_read_laws.specs.walrus_tables_into.Globals.{IsGlobalOf}
+use Rattle.walrus_read_laws.specs.walrus_tables_into.Elements.{IsElementOf}
+use Rattle.walrus_read_laws.specs.walrus_tables_into.Customs.{IsCustomOf, plain}
 use Rattle.walrus_items_into.specs.Filled.{AreRead, IsFilledFrom, IsNew}
 use Rattle.walrus_items_into.specs.Numbers.{numbers_of, types_in, with_items}
 use Rattle.walrus_items_into.specs.Spaces.{Spaces}
@@ -30,12 +30,12 @@ use Rattle.walrus_items_into.specs.Spaces.{Spaces}
 -- ---- what is asked
 
 pub below : (s : Sections) → TypesNameBelow → AreRead s → AreBelow 0 s.types
-below s law read = law read.0 read.1 (state_of s) read.2
+below s law read = law read.0 read.1 (state_of s) read.3
 
 -- each function names a type of the file
 pub typed : (s : Sections) → TypesNameBelow → NewTypesStand → ReadFunctionsStand → AreRead s → AreTyped (types_in s).ids s.functions.items
 typed s names stand functions read =
-    (functions read.0 read.1 s (types_in s).ids (types_in s).table 0 read.2 (stand s.types (below s names read))).0
+    (functions read.0 read.1 s (types_in s).ids (types_in s).table 0 read.3 (stand s.types (below s names read))).0
 
 -- and so it does of the map
 pub typed_there : (s : Sections) (i j : Ids) (t : Table) (reads : List ReadFunction) → i ≡ no_ids → t ≡ no_types → j ≡ with_types (parsed s.types (unparsed t)).ids i → reads ≡ s.functions.items
@@ -88,7 +88,7 @@ module _ {B : Type 0} (s : Sections) (i j k l : Ids) (old new : Spaces B) (fresh
       → Filled (IsExportOf (look_of l)) s.exports.items old.exports.slots new.exports.slots
       → Filled (IsElementOf (look_of l)) s.elements.items old.elements.slots new.elements.slots
       → Filled (IsSegmentOf (look_of l)) s.segments.items old.segments.slots new.segments.slots
-      → Filled IsCustomOf s.customs.items old.customs.slots new.customs.slots
+      → Filled IsCustomOf (plain s.customs.items) old.customs.slots new.customs.slots
       → (begin : Option ℕ) → StartBecomes (look_of l) s.start begin → IsFilledFrom s begin l new
   filled reads whole types table functions numbers items imports tables memories tags globals exports elements segments customs begin start = record {
     numbers = numbered s i j k l old.types old.functions.slots fresh.numbers fresh.types fresh.functions types
@@ -104,7 +104,7 @@ module _ {B : Type 0} (s : Sections) (i j k l : Ids) (old new : Spaces B) (fresh
     exports = emptied (IsExportOf (look_of l)) s.exports.items old.exports.slots new.exports.slots fresh.exports exports;
     elements = emptied (IsElementOf (look_of l)) s.elements.items old.elements.slots new.elements.slots fresh.elements elements;
     segments = emptied (IsSegmentOf (look_of l)) s.segments.items old.segments.slots new.segments.slots fresh.segments segments;
-    customs = emptied IsCustomOf s.customs.items old.customs.slots new.customs.slots fresh.customs customs;
+    customs = emptied IsCustomOf (plain s.customs.items) old.customs.slots new.customs.slots fresh.customs customs;
     start = start;
   }
 

@@ -2,3 +2,4 @@ mod CountLemmas
 mod FillLemmas
 mod FiledLemmas
 mod FunctionLemmas
+mod LackLemmas

@@ -1,28 +1,28 @@
 -- Collections of a module, and index maps, that the sections of a file have filled.
-use Rattle.std.specs.Prelude.{ℕ, ◌≡◌, List, [], Option}
-use Rattle.walrus_tables_into.specs.walrus_sections_into.walrus_collections.walrus_local_function.walrus_body_locals.walrus_body_nesting.wasm_formats.wasm_features.declared.WasmFeatures.{WasmFeatures}
-use Rattle.wasm_sections.specs.Laws.{ReadsSections}
-use Rattle.walrus_tables_into.specs.walrus_sections_into.walrus_index_maps.Maps.{Ids, no_ids}
-use Rattle.walrus_types_into.specs.Into.{no_types}
-use Rattle.walrus_tables_into.specs.walrus_sections_into.walrus_known_sections.declared.sections.Sections.{Sections}
-use Rattle.walrus_tables_into.specs.walrus_sections_into.walrus_known_sections.State.{state_of}
+use Rattle.std.specs.Prelude.{ℕ, ◌<◌, ◌≡◌, List, [], All, Option}
+use Rattle.walrus_module_env.specs.walrus_body_parser.wasm_operators.wasm_features.declared.WasmFeatures.{WasmFeatures}
+use Rattle.walrus_functions_into.specs.wasm_sections.Laws.{ReadsSections}
+use Rattle.walrus_read_laws.specs.walrus_tables_into.walrus_sections_into.walrus_index_maps.Maps.{Ids, no_ids}
+use Rattle.walrus_functions_into.specs.walrus_types_into.Into.{no_types}
+use Rattle.walrus_read_laws.specs.walrus_tables_into.walrus_sections_into.walrus_known_sections.declared.sections.Sections.{Sections}
+use Rattle.walrus_read_laws.specs.walrus_tables_into.walrus_sections_into.walrus_known_sections.State.{state_of}
 use Rattle.walrus_functions_into.specs.Functions.{functions_from}
-use Rattle.walrus_tables_into.specs.walrus_sections_into.Becomes.{look_of}
-use Rattle.walrus_tables_into.specs.walrus_sections_into.Slots.{Filled, IsMemoryOf}
-use Rattle.walrus_tables_into.specs.walrus_sections_into.Imports.{IsImportOf}
-use Rattle.walrus_tables_into.specs.walrus_sections_into.Tags.{IsTagOf}
-use Rattle.walrus_tables_into.specs.walrus_sections_into.Exports.{IsExportOf, StartBecomes}
-use Rattle.walrus_tables_into.specs.walrus_sections_into.Segments.{IsSegmentOf}
-use Rattle.walrus_tables_into.specs.Tables.{IsTableOf}
-use Rattle.walrus_tables_into.specs.Globals.{IsGlobalOf}
-use Rattle.walrus_tables_into.specs.Elements.{IsElementOf}
-use Rattle.walrus_tables_into.specs.Customs.{IsCustomOf}
+use Rattle.walrus_read_laws.specs.walrus_tables_into.walrus_sections_into.Becomes.{look_of}
+use Rattle.walrus_read_laws.specs.walrus_tables_into.walrus_sections_into.Slots.{Filled, IsMemoryOf}
+use Rattle.walrus_read_laws.specs.walrus_tables_into.walrus_sections_into.Imports.{IsImportOf}
+use Rattle.walrus_read_laws.specs.walrus_tables_into.walrus_sections_into.Tags.{IsTagOf}
+use Rattle.walrus_read_laws.specs.walrus_tables_into.walrus_sections_into.Exports.{IsExportOf, StartBecomes}
+use Rattle.walrus_read_laws.specs.walrus_tables_into.walrus_sections_into.Segments.{IsSegmentOf}
+use Rattle.walrus_read_laws.specs.walrus_tables_into.Tables.{IsTableOf}
+use Rattle.walrus_read_laws.specs.walrus_tables_into.Globals.{IsGlobalOf}
+use Rattle.walrus_read_laws.specs.walrus_tables_into.Elements.{IsElementOf}
+use Rattle.walrus_read_laws.specs.walrus_tables_into.Customs.{IsCustomOf, plain}
 use Rattle.walrus_items_into.specs.Spaces.{Spaces}
 use Rattle.walrus_items_into.specs.Numbers.{numbers_of, types_in}
 
--- they are those of a file
+-- they are those of a file, which is so many bytes
 abbrev pub AreRead : Sections → Type 0
-AreRead s = (features : WasmFeatures) × (bytes : List ℕ) × ReadsSections features bytes (state_of s)
+AreRead s = (features : WasmFeatures) × (bytes : List ℕ) × All (λ b. b < 256) bytes × ReadsSections features bytes (state_of s)
 
 module _ {B : Type 0} where
   -- nothing was there, and no number names anything
@@ -41,7 +41,8 @@ module _ {B : Type 0} where
     pub customs : m.customs.slots ≡ []
 
   -- each number of the file names the item that it became: the types are those of the file in a new table, the functions have their types
-  -- and no bodies, and the items of each other space fill its slots in the file's order, each the same, but that a name is an id
+  -- and no bodies, and the items of each other space fill its slots in the file's order, each the same, but that a name is an id; of the
+  -- custom sections those that stay sections
   pub record IsFilledFrom (s : Sections) (begin : Option ℕ) (i : Ids) (m : Spaces B) : Type 0 where
     pub numbers : i ≡ numbers_of s
     pub types : m.types ≡ (types_in s).table
@@ -54,5 +55,5 @@ module _ {B : Type 0} where
     pub exports : Filled (IsExportOf (look_of i)) s.exports.items [] m.exports.slots
     pub elements : Filled (IsElementOf (look_of i)) s.elements.items [] m.elements.slots
     pub segments : Filled (IsSegmentOf (look_of i)) s.segments.items [] m.segments.slots
-    pub customs : Filled IsCustomOf s.customs.items [] m.customs.slots
+    pub customs : Filled IsCustomOf (plain s.customs.items) [] m.customs.slots
     pub start : StartBecomes (look_of i) s.start begin

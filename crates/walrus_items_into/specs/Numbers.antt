@@ -1,11 +1,11 @@
 -- What the numbers of a file name in a module that began empty: each type has the id of what stands for it, and the other items have the
 -- ids 0, 1 and on, in the file's order.
 use Rattle.std.specs.Prelude.{◌++◌, length}
-use Rattle.walrus_tables_into.specs.walrus_sections_into.walrus_index_maps.Maps.{Ids, no_ids}
-use Rattle.walrus_types.specs.Parsing.{Parsed, parsed, unparsed}
-use Rattle.walrus_types_into.specs.Into.{no_types}
-use Rattle.walrus_tables_into.specs.walrus_sections_into.Numbers.{upto}
-use Rattle.walrus_tables_into.specs.walrus_sections_into.walrus_known_sections.declared.sections.Sections.{Sections}
+use Rattle.walrus_read_laws.specs.walrus_tables_into.walrus_sections_into.walrus_index_maps.Maps.{Ids, no_ids}
+use Rattle.walrus_read_laws.specs.walrus_tables_into.walrus_sections_into.walrus_instr.walrus_types.Parsing.{Parsed, parsed, unparsed}
+use Rattle.walrus_functions_into.specs.walrus_types_into.Into.{no_types}
+use Rattle.walrus_read_laws.specs.walrus_tables_into.walrus_sections_into.Numbers.{upto}
+use Rattle.walrus_read_laws.specs.walrus_tables_into.walrus_sections_into.walrus_known_sections.declared.sections.Sections.{Sections}
 
 -- the types of the file, in a table that began empty
 abbrev pub types_in : Sections → Parsed

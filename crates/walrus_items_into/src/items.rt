@@ -1,29 +1,45 @@
 //! The items of a file.
 
-ghost use Rattle.std.specs.Prelude.{IfOk};
-ghost use Rattle.walrus_tables_into.specs.walrus_sections_into.walrus_index_maps.Views.{ids};
+ghost use Rattle.std.specs.Prelude.{◌≡◌, IfOk, IfErr};
+ghost use Rattle.walrus_read_laws.specs.walrus_tables_into.walrus_sections_into.walrus_index_maps.Views.{ids};
+ghost use Rattle.walrus_read_laws.specs.walrus_tables_into.walrus_sections_into.declared.error.IntoError.TheVariants.{Memory};
+ghost use Rattle.walrus_read_laws.specs.walrus_tables_into.walrus_sections_into.Becomes.{look_of};
+ghost use Rattle.walrus_read_laws.specs.Whole.{LackNothing};
 ghost use Rattle.walrus_items_into.specs.Filled.{AreRead, IsFilledFrom, IsNew};
+ghost use Rattle.walrus_items_into.specs.Numbers.{numbers_of};
 ghost use Rattle.walrus_items_into.specs.Spaces.{spaces};
 
 use crate::numbers::number_items;
 use std::alloc::Global;
+use walrus_arena::FunctionId;
 use walrus_functions_into::add_functions;
 use walrus_functions_into::laws::read_functions_stand;
-use walrus_tables_into::sections::Sections as CustomSections;
-use walrus_tables_into::sections_into::arena::FunctionId;
-use walrus_tables_into::sections_into::collections::{
+use walrus_functions_into::types_into::laws::{new_types_stand, types_name_below};
+use walrus_functions_into::types_into::read_types_into;
+use walrus_module_env::body_env::instr::type_table::ModuleTypes;
+use walrus_module_env::collections::{
     ModuleData, ModuleElements, ModuleExports, ModuleFunctions, ModuleGlobals, ModuleImports,
     ModuleMemories, ModuleTables, ModuleTags,
 };
-use walrus_tables_into::sections_into::index_maps::IndicesToIds;
-use walrus_tables_into::sections_into::known_sections::Sections;
-use walrus_tables_into::sections_into::{
+use walrus_read_laws::read_sections_lack_nothing;
+use walrus_read_laws::tables_into::sections::Sections as CustomSections;
+use walrus_read_laws::tables_into::sections_into::index_maps::IndicesToIds;
+use walrus_read_laws::tables_into::sections_into::known_sections::Sections;
+use walrus_read_laws::tables_into::sections_into::{
     IntoError, add_exports, add_imports, add_memories, add_segments, add_tags, read_start,
 };
-use walrus_tables_into::{add_customs, add_elements, add_globals, add_tables};
-use walrus_types::ModuleTypes;
-use walrus_types_into::laws::{new_types_stand, types_name_below};
-use walrus_types_into::read_types_into;
+use walrus_read_laws::tables_into::{add_customs, add_elements, add_globals, add_tables};
+
+// What was read lacks nothing that its own map names: a law, which runs nothing.
+fn lacks_nothing(_sections: &Sections<'_>, _maps: &IndicesToIds)
+    requires read { AreRead _sections.now }
+    requires numbered { ids _maps.now ≡ numbers_of _sections.now }
+    ensures { LackNothing (look_of (ids _maps.now)) _sections.now }
+{
+    read_sections_lack_nothing();
+    types_name_below();
+    new_types_stand();
+}
 
 /// Fills the collections of a new module with what was read of a file, and gives its start function, if it has one: types first, then
 /// functions, which have no bodies yet, and when each number names its item all that names items. Asks for the sections of a file that
@@ -31,7 +47,7 @@ use walrus_types_into::read_types_into;
 ///
 /// # Errors
 ///
-/// Want of memory; `Unknown` where a number names nothing, or an operator isn't constant. Some of the items may be there.
+/// Want of memory alone: nothing that was read names what isn't there. Some of the items may be there.
 pub fn read_items<B: Drop>(
     alloc: Global,
     sections: &Sections<'_>,
@@ -50,7 +66,8 @@ pub fn read_items<B: Drop>(
 ) -> Result<Option<FunctionId>, IntoError>
     requires read { AreRead sections.now }
     requires new { IsNew (ids maps.old) (spaces types.old imports.old functions.old tables.old memories.old tags.old globals.old exports.old elements.old segments.old customs.old) }
-    ensures { IfOk result (λ start. IsFilledFrom sections.now start (ids maps.new) (spaces types.new imports.new functions.new tables.new memories.new tags.new globals.new exports.new elements.new segments.new customs.new)) }
+    ensures filled { IfOk result (λ start. IsFilledFrom sections.now start (ids maps.new) (spaces types.new imports.new functions.new tables.new memories.new tags.new globals.new exports.new elements.new segments.new customs.new)) }
+    ensures refused { IfErr result (λ e. e ≡ Memory) }
 {
     types_name_below();
     new_types_stand();
@@ -58,6 +75,7 @@ pub fn read_items<B: Drop>(
     read_types_into(&sections.types, types, maps)?;
     add_functions(sections.functions.as_slice(), maps, functions)?;
     number_items(sections, maps)?;
+    lacks_nothing(sections, maps);
     add_imports(sections.imports.as_slice(), maps, imports)?;
     add_tables(alloc, sections.tables.as_slice(), maps, tables)?;
     add_memories(sections.memories.as_slice(), memories)?;

@@ -6,3 +6,8 @@ pub mod laws;
 mod numbers;
 
 pub use items::read_items;
+
+// Passed on to crates above, which then list this one alone.
+pub use walrus_functions_into as functions_into;
+pub use walrus_module_env as module_env;
+pub use walrus_read_laws::tables_into;

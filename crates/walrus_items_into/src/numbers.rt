@@ -1,13 +1,13 @@
 //! What the numbers of a file name, in all spaces at once.
 
 ghost use Rattle.std.specs.Prelude.{◌≡◌, IfOk, OnOk};
-ghost use Rattle.walrus_tables_into.specs.walrus_sections_into.walrus_index_maps.Views.{ids};
+ghost use Rattle.walrus_read_laws.specs.walrus_tables_into.walrus_sections_into.walrus_index_maps.Views.{ids};
 ghost use Rattle.walrus_items_into.specs.Numbers.{with_items};
 
 use std::alloc::AllocError;
-use walrus_tables_into::sections_into::index_maps::IndicesToIds;
-use walrus_tables_into::sections_into::known_sections::Sections;
-use walrus_tables_into::sections_into::{
+use walrus_read_laws::tables_into::sections_into::index_maps::IndicesToIds;
+use walrus_read_laws::tables_into::sections_into::known_sections::Sections;
+use walrus_read_laws::tables_into::sections_into::{
     number_elements, number_globals, number_memories, number_segments, number_tables, number_tags,
 };
 

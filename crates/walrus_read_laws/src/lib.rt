@@ -8,3 +8,6 @@ ghost use Rattle.walrus_read_laws.specs.Whole.{ReadSectionsLackNothing};
 pub fn read_sections_lack_nothing()
     ensures { ReadSectionsLackNothing }
 {}
+
+// Passed on to crates above, which then list this one alone.
+pub use walrus_tables_into as tables_into;

@@ -1,9 +1,18 @@
-use Rattle.walrus_tables_into.specs.walrus_sections_into.Becomes.{look_of}
-use Rattle.walrus_tables_into.specs.walrus_sections_into.Exports.{StartBecomes}
-use Rattle.walrus_tables_into.specs.walrus_sections_into.walrus_index_maps.Views.{ids}
+use Rattle.std.proofs.Common.{◌∙◌, List, length, ap}
+use Rattle.walrus_functions_into.specs.Functions.{with_functions}
+use Rattle.walrus_read_laws.specs.walrus_tables_into.Customs.{plain}
+use Rattle.walrus_read_laws.specs.walrus_tables_into.Tables.{TableLacks}
+use Rattle.walrus_read_laws.specs.walrus_tables_into.Globals.{GlobalLacks}
+use Rattle.walrus_read_laws.specs.walrus_tables_into.Elements.{ElementLacks}
+use Rattle.walrus_read_laws.specs.walrus_tables_into.walrus_sections_into.Becomes.{look_of}
+use Rattle.walrus_read_laws.specs.walrus_tables_into.walrus_sections_into.Lacks.{DataLacks, ExportLacks, ImportLacks, StartLacks, TagLacks}
+use Rattle.walrus_read_laws.specs.walrus_tables_into.walrus_sections_into.walrus_known_sections.declared.items.Function.{Function as ReadFunction}
+use Rattle.walrus_read_laws.specs.walrus_tables_into.walrus_sections_into.Exports.{StartBecomes}
+use Rattle.walrus_read_laws.specs.walrus_tables_into.walrus_sections_into.walrus_index_maps.Views.{ids}
 use Rattle.walrus_items_into.specs.Filled.{IsFilledFrom}
 use Rattle.walrus_items_into.specs.Spaces.{spaces}
-use Rattle.walrus_items_into.proofs.FillLemmas.{below, typed, typed_there, over, filled, on_start}
+use Rattle.walrus_items_into.proofs.FillLemmas.{below, typed, typed_there, numbered, over, filled, on_start}
+use Rattle.walrus_items_into.proofs.LackLemmas.{refused_by, never_refused}
 use Rattle.walrus_items_into.proofs.items.read_items.Goals as goal
 
 pub read_types_into-requires : goal.read_types_into-requires
@@ -14,8 +23,8 @@ add_functions-requires g c =
     typed_there c.args.sections.now (ids c.args.maps.now) (ids c.read_types_into.new.maps) c.args.types.now c.as_slice.result.now c.requires.new.numbers c.requires.new.types c.in_ok-read_types_into.ensures.ids c.as_slice.ensures.value
     (typed c.args.sections.now c.types_name_below.ensures c.new_types_stand.ensures c.read_functions_stand.ensures c.requires.read)
 
-pub returns : goal.returns
-returns g c =
+pub returns-clause-filled : goal.returns-clause-filled
+returns-clause-filled g c =
     let s = c.args.sections.now in
     let i = ids c.args.maps.now in
     let l = ids c.number_items.new.maps in
@@ -32,5 +41,50 @@ returns g c =
     (over c.as_slice-7.ensures.value c.in_ok-add_exports.ensures.added)
     (over c.as_slice-8.ensures.value c.in_ok-add_elements.ensures.added)
     (over c.as_slice-9.ensures.value c.in_ok-add_segments.ensures.added)
-    (over c.as_slice-10.ensures.value c.in_ok-add_customs.ensures.added))
+    (over (ap plain c.as_slice-10.ensures.value) c.in_ok-add_customs.ensures.added))
     c.read_start.ensures.becomes
+
+pub lacks_nothing-requires-clause-numbered : goal.lacks_nothing-requires-clause-numbered
+lacks_nothing-requires-clause-numbered g c =
+    let reads = ap (λ (reads : List ReadFunction). with_functions (length c.args.functions.now.slots) (length reads) (ids c.read_types_into.new.maps)) c.as_slice.ensures.value in
+    numbered c.args.sections.now (ids c.args.maps.now) (ids c.read_types_into.new.maps) (ids c.add_functions.new.maps) (ids c.number_items.new.maps) c.args.types.now c.args.functions.now.slots
+    c.requires.new.numbers c.requires.new.types c.requires.new.functions c.in_ok-read_types_into.ensures.ids (c.in_ok-add_functions.ensures.numbered ∙ reads) c.in_ok-number_items.ensures
+
+pub returns-in_err-add_imports-clause-refused : goal.returns-in_err-add_imports-clause-refused
+returns-in_err-add_imports-clause-refused g c =
+    refused_by (ImportLacks (look_of (ids c.number_items.new.maps))) c.args.sections.now.imports.items c.as_slice-2.result.now _ c.from_residual-in_err-add_imports.result
+    c.as_slice-2.ensures.value c.lacks_nothing.ensures.imports c.in_err-add_imports.ensures.unknown c.from_residual-in_err-add_imports.ensures
+
+pub returns-in_err-add_tables-clause-refused : goal.returns-in_err-add_tables-clause-refused
+returns-in_err-add_tables-clause-refused g c =
+    refused_by (TableLacks (look_of (ids c.number_items.new.maps))) c.args.sections.now.tables.items c.as_slice-3.result.now _ c.from_residual-in_err-add_tables.result
+    c.as_slice-3.ensures.value c.lacks_nothing.ensures.tables c.in_err-add_tables.ensures.unknown c.from_residual-in_err-add_tables.ensures
+
+pub returns-in_err-add_tags-clause-refused : goal.returns-in_err-add_tags-clause-refused
+returns-in_err-add_tags-clause-refused g c =
+    refused_by (TagLacks (look_of (ids c.number_items.new.maps))) c.args.sections.now.tags.items c.as_slice-5.result.now _ c.from_residual-in_err-add_tags.result
+    c.as_slice-5.ensures.value c.lacks_nothing.ensures.tags c.in_err-add_tags.ensures.unknown c.from_residual-in_err-add_tags.ensures
+
+pub returns-in_err-add_globals-clause-refused : goal.returns-in_err-add_globals-clause-refused
+returns-in_err-add_globals-clause-refused g c =
+    refused_by (GlobalLacks (look_of (ids c.number_items.new.maps))) c.args.sections.now.globals.items c.as_slice-6.result.now _ c.from_residual-in_err-add_globals.result
+    c.as_slice-6.ensures.value c.lacks_nothing.ensures.globals c.in_err-add_globals.ensures.unknown c.from_residual-in_err-add_globals.ensures
+
+pub returns-in_err-add_exports-clause-refused : goal.returns-in_err-add_exports-clause-refused
+returns-in_err-add_exports-clause-refused g c =
+    refused_by (ExportLacks (look_of (ids c.number_items.new.maps))) c.args.sections.now.exports.items c.as_slice-7.result.now _ c.from_residual-in_err-add_exports.result
+    c.as_slice-7.ensures.value c.lacks_nothing.ensures.exports c.in_err-add_exports.ensures.unknown c.from_residual-in_err-add_exports.ensures
+
+pub returns-in_err-add_elements-clause-refused : goal.returns-in_err-add_elements-clause-refused
+returns-in_err-add_elements-clause-refused g c =
+    refused_by (ElementLacks (look_of (ids c.number_items.new.maps))) c.args.sections.now.elements.items c.as_slice-8.result.now _ c.from_residual-in_err-add_elements.result
+    c.as_slice-8.ensures.value c.lacks_nothing.ensures.elements c.in_err-add_elements.ensures.unknown c.from_residual-in_err-add_elements.ensures
+
+pub returns-in_err-add_segments-clause-refused : goal.returns-in_err-add_segments-clause-refused
+returns-in_err-add_segments-clause-refused g c =
+    refused_by (DataLacks (look_of (ids c.number_items.new.maps))) c.args.sections.now.segments.items c.as_slice-9.result.now _ c.from_residual-in_err-add_segments.result
+    c.as_slice-9.ensures.value c.lacks_nothing.ensures.segments c.in_err-add_segments.ensures.unknown c.from_residual-in_err-add_segments.ensures
+
+pub returns-clause-refused : goal.returns-clause-refused
+returns-clause-refused g c =
+    never_refused (StartLacks (look_of (ids c.number_items.new.maps)) c.args.sections.now.start) c.read_start.result c.lacks_nothing.ensures.start c.read_start.ensures.unknown

@@ -1,0 +1,4 @@
+mod DeclaredLemmas
+mod PairLemmas
+mod ReadyLemmas
+mod TagLemmas
