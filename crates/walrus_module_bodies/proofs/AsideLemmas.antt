@@ -1,5 +1,5 @@
 -- Lemmas: types of handlers aside, a sight tells the same.
-use Rattle.std.proofs.Common.{◌≡◌, ◌∙◌, ℕ, Bool, List, Option, Some, None, Result, Ok, Err, IfOk, IfErr, refl, sym, ap, subst}
+use Rattle.std.proofs.Common.{◌≡◌, ◌∙◌, ℕ, Bool, List, length, Option, Some, None, Result, Ok, Err, IfOk, IfErr, refl, sym, ap, subst}
 use Rattle.std.specs.Option.{is_some}
 use Rattle.wasm_reader.specs.Cursor.{Cursor, rest}
 use Rattle.walrus_bodies_into.specs.walrus_handler_types.walrus_body_steps.walrus_body_rules.walrus_forms.declared.value.ValType.{ValType}
@@ -26,6 +26,7 @@ use Rattle.walrus_bodies_into.specs.walrus_module_env.Parsed.{FilesAreSeen}
 use Rattle.walrus_bodies_into.specs.walrus_module_env.walrus_body_parser.Points.{place_at}
 use Rattle.walrus_bodies_into.specs.walrus_module_env.walrus_collections.walrus_local_function.walrus_function_parser.Parsed.{IsAround, Parses, Telling, seen_by}
 use Rattle.walrus_bodies_into.specs.Handled.{SeesAside}
+use Rattle.walrus_module_bodies.proofs.ParsingLemmas.{declared_count, sees_more}
 use Rattle.walrus_module_bodies.specs.Reading.{IsBodyAside}
 
 -- the results of some ids aside too, where these change no block type
@@ -102,6 +103,10 @@ module _ (seen : FilesAreSeen) (e : ModuleEnv) (function : ℕ) (i : Ids) (s : S
     runs = p.begins.declares.runs;
     ops = p.ops;
     read = subst (λ (n : ℕ). (body a params (place_at n old)).parse (rest old) ≡ Ok ((place_at code p.mid, p.begins.declares.runs), p.ops)) codes (p.read a (around a filed));
+    counted =
+        ap (λ (x : Sight). length (j.locals x.function)) (sym aside)
+        ∙ (sees_more s a params p.begins.declares.runs _ _ j (around a filed).sees p.begins.declares.adds).rooms 0 Locals
+        ∙ sym (declared_count p.begins.declares.runs params);
     stands = λ pick picks. p.stands pick (subst (λ (x : Sight). ArePicks x pick) (sym (later j)) (picks_aside (sight_in e function j) (results_at e.types.now) s.handler_type (λ id. refl) pick picks));
   }
 

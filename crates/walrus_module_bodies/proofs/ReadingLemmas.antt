@@ -96,16 +96,18 @@ handled_read stand seen file g old new function params from i j ls ms leaves b t
     let r = aside a mine in
     let more = more_locals g i function params from.window.features a leaves.ids mine in
     let named = seen g (with_locals function leaves.ids i) function (length ((with_locals function leaves.ids i).locals function)) from.window.features a more in
-    let picks = subst (λ (k : Ids). ArePicks (sight_in g function k) (block_pick a)) (sym leaves.named) named in
-    record {
-      place = r.place;
-      runs = r.runs;
-      ops = r.ops;
-      read = subst (λ (n : ℕ). (body a params (place_at n from)).parse (rest from) ≡ Ok ((r.place, r.runs), r.ops)) (is.begins ∙ sym at_f.begins) r.read;
-      stands = stand g f function j r.sight b t hs c new (normal (block_pick a) (tree_of (ops_from r.place r.ops))) r.aside (r.stands (block_pick a) picks) handlers
-          (subst (λ (v : Table). Gives hs (length hs) (map seq_of b) v c new) (sym is.types_are) gives)
-          (record { types = subst (Grows new) (sym at_f.types_are) grows; own = at_f.own_are ∙ sym is.own_are; tags = at_f.tags_are ∙ sym is.tags_are });
-    }
+    let picks = subst (λ (k : Ids). ArePicks (sight_in g function k) (block_pick a)) (sym leaves.named) named in (
+      record {
+        place = r.place;
+        runs = r.runs;
+        ops = r.ops;
+        read = subst (λ (n : ℕ). (body a params (place_at n from)).parse (rest from) ≡ Ok ((r.place, r.runs), r.ops)) (is.begins ∙ sym at_f.begins) r.read;
+        stands = stand g f function j r.sight b t hs c new (normal (block_pick a) (tree_of (ops_from r.place r.ops))) r.aside (r.stands (block_pick a) picks) handlers
+            (subst (λ (v : Table). Gives hs (length hs) (map seq_of b) v c new) (sym is.types_are) gives)
+            (record { types = subst (Grows new) (sym at_f.types_are) grows; own = at_f.own_are ∙ sym is.own_are; tags = at_f.tags_are ∙ sym is.tags_are });
+      },
+      r.counted,
+    )
 
 -- handlers were told of a builder that was lent for reading, and were given their types in one that was lent for writing
 module _ (tags : ℕ → Option ℕ) (x y z : FunctionBuilder) (to_y : y ≡ x) (to_z : z ≡ x) (t : IsTree (seqs_of x) 0) (told hs : List (Option Handler)) (same_are : hs ≡ told)

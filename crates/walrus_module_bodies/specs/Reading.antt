@@ -1,5 +1,5 @@
 -- The body of a function that is read into its module, with the types of its handlers.
-use Rattle.std.specs.Prelude.{◌≡◌, ℕ, List, Some, Ok, Err, slice_get}
+use Rattle.std.specs.Prelude.{◌≡◌, ◌+◌, ℕ, List, length, Some, Ok, Err, slice_get}
 use Rattle.wasm_reader.specs.Cursor.{Cursor, end_of, rest}
 use Rattle.walrus_arena.specs.Arena.{Arena, item_at}
 use Rattle.walrus_function_types.specs.Growth.{Grows}
@@ -11,7 +11,7 @@ use Rattle.walrus_bodies_into.specs.walrus_handler_types.walrus_body_steps.walru
 use Rattle.walrus_bodies_into.specs.walrus_handler_types.walrus_body_steps.walrus_body_rules.Sights.{Sight}
 use Rattle.walrus_bodies_into.specs.walrus_handler_types.walrus_body_steps.walrus_body_nesting.wasm_formats.Stops.{Stop}
 use Rattle.walrus_bodies_into.specs.walrus_handler_types.walrus_body_steps.wasm_body_grammar.Rules.{Around}
-use Rattle.walrus_bodies_into.specs.walrus_handler_types.walrus_body_steps.wasm_body_grammar.Bodies.{Run, body}
+use Rattle.walrus_bodies_into.specs.walrus_handler_types.walrus_body_steps.wasm_body_grammar.Bodies.{Run, body, declared}
 use Rattle.walrus_bodies_into.specs.walrus_module_env.walrus_body_parser.wasm_operators.Operators.{Seen}
 use Rattle.walrus_bodies_into.specs.walrus_handler_types.walrus_body_steps.wasm_normal_form.Trees.{tree_of}
 use Rattle.walrus_bodies_into.specs.walrus_handler_types.walrus_body_steps.wasm_normal_form.Normal.{normal}
@@ -29,7 +29,7 @@ use Rattle.walrus_module_bodies.specs.Envs.{IsEnv}
 use Rattle.walrus_bodies_into.specs.Handled.{SeesAside}
 
 -- the bytes are parsed as a body of this file, and its sequences stand as its normal form in the eyes of one who sees the module, types of
--- handlers aside
+-- handlers aside; the function's indices name its parameters and the locals that the body declares
 pub record IsReadAside (e : ModuleEnv) (function params : ℕ) (old : Cursor) (j : Ids) (b : List Seq) (a : Around) : Type 0 where
   pub sight : Sight
   pub aside : SeesAside sight (sight_in e function j)
@@ -37,6 +37,7 @@ pub record IsReadAside (e : ModuleEnv) (function params : ℕ) (old : Cursor) (j
   pub runs : List Run
   pub ops : List (ℕ × Seen)
   pub read : (body a params (place_at e.code_start old)).parse (rest old) ≡ Ok ((place, runs), ops)
+  pub counted : length (j.locals function) ≡ params + length (declared runs)
   pub stands : (pick : BlockType → BlockType) → ArePicks (sight_in e function j) pick → StandsAs (meaning sight) b (normal pick (tree_of (ops_from place ops)))
 
 -- of each file whose sections were read into the module
@@ -52,7 +53,8 @@ IsBodyFault e function params old i fault = (a : Around) → IsFiled e i functio
 abbrev pub TagsStand : Arena Tag → Table → Ids → Type 0
 TagsStand tags t i = (n tag : ℕ) → slice_get i.tags n ≡ Some tag → (item : Tag) × (item_at tags tag ≡ Some item) × IsFunctionType t item.ty
 
--- of each such file this is a body, beside each later table of the module's types
+-- of each such file this is a body, beside each later table of the module's types; the function's indices name its parameters and the locals
+-- that the body declares
 abbrev pub IsHandledBody : FileEnv → Table → Table → ℕ → ℕ → Cursor → Ids → Ids → List Seq → Type 0
 IsHandledBody file old new function params from i j b = (e f : ModuleEnv) (later : Table) → IsEnv file old e → Grows new later → IsEnv file later f
-    → (a : Around) → IsFiled e i function params from.window.features a → IsRead f function params from j b a
+    → (a : Around) → IsFiled e i function params from.window.features a → (r : IsRead f function params from j b a) × (length (j.locals function) ≡ params + length (declared r.runs))

@@ -3,6 +3,7 @@ use Rattle.std.proofs.Common.{◌≡◌, ◌∙◌, ◌<◌, ℕ, zero, suc, tru
 use Rattle.std.specs.Prelude.{slice_get}
 use Rattle.std.specs.List.{fold, flat_map}
 use Rattle.std.proofs.lemmas.List.{map-append}
+use Rattle.std.proofs.lemmas.List.Sums.{fold-append}
 use Rattle.std.proofs.lemmas.Bool.{false≢true}
 use Rattle.wasm_formats.specs.declared.fault.Space.{Space}
 use Rattle.wasm_formats.specs.declared.fault.Space.TheVariants as spaces
@@ -21,6 +22,10 @@ use Rattle.walrus_used.proofs.MeetsLemmas.{meets_same, below_all}
 pub handlers_flat : (cs : List LegacyCatch) → map (item spaces.Label) (handlers cs) ≡ flat_map (λ c. map (item spaces.Label) (handler c)) cs
 handlers_flat [] = refl
 handlers_flat (c ∷ cs) = map-append (item spaces.Label) (handler c) (handlers cs) ∙ ap (λ (xs : List Item). map (item spaces.Label) (handler c) ++ xs) (handlers_flat cs)
+
+-- these, and then those
+pub both_met : (xs ys : List Item) (a b c : State) → b ≡ fold meet a xs → c ≡ fold meet b ys → c ≡ fold meet a (xs ++ ys)
+both_met xs ys a b c first then = then ∙ ap (λ (s : State). fold meet s ys) first ∙ sym (fold-append meet a xs ys)
 
 none_in : (x : Item) → Contains [] x → ⊥
 none_in x c = omega (arith, c.1)

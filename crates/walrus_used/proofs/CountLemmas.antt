@@ -1,6 +1,6 @@
 -- What is looked at, and what lives, has an id below the counts.
 use Rattle.std.proofs.Common.{◌≡◌, ◌+◌, ◌<◌, ◌≤◌, ℕ, zero, suc, List, [], ◌∷◌, length, map, get_or, Option, Some, None, Contains, refl, sym, subst, inl, inr, arith}
-use Rattle.std.specs.Prelude.{IsSome, MatchOption, slice_get}
+use Rattle.std.specs.Prelude.{◌↔◌, IsSome, MatchOption, slice_get}
 use Rattle.std.proofs.lemmas.List.{get_or_past}
 use Rattle.std.specs.List.{fold}
 use Rattle.std.proofs.lemmas.Bool.{cases_lt, lt-ltb, le-ltb, false≢true}
@@ -15,7 +15,7 @@ use Rattle.walrus_references.specs.walrus_module.Parts.{Module}
 use Rattle.walrus_roots.specs.declared.item.Item.{Item}
 use Rattle.walrus_roots.specs.Items.{item}
 use Rattle.walrus_marks.specs.Marks.{State}
-use Rattle.walrus_marks.specs.Chains.{Chain, FitsIn}
+use Rattle.walrus_marks.specs.Chains.{Chain, FitsIn, root, refers}
 use Rattle.walrus_marks.specs.Chains.{IsReached as IsReachedIn}
 use Rattle.walrus_references.specs.References.{Refers, named_by, type_items, local_items, KindNames}
 use Rattle.walrus_references.specs.Roots.{Root}
@@ -138,6 +138,30 @@ module _ (m : Module) (grouped : AreGrouped m.types) where
   -- what lives has an id below the counts
   pub lives_fit : (x : Item) → Lives m x → FitsIn (counts_of m) x
   lives_fit x h = lives_fit_in x.space x.id h
+
+-- the same roots in other words
+module _ (P Q : Item → Type 0) (R : Item → Item → Type 0) (f : (x : Item) → P x → Q x) where
+  chain_from : (x : Item) → Chain P R x → Chain Q R x
+  chain_from x (root r) = root (f x r)
+  chain_from y (refers {x} k r) = refers (chain_from x k) r
+
+module _ (counts : List ℕ) (P Q : Item → Type 0) (R : Item → Item → Type 0) (same : (x : Item) → P x ↔ Q x) (s : State) (h : IsReachedIn counts P R s) where
+  there : (x : Item) → Chain P R x → Chain Q R x
+  there x k = chain_from P Q R (λ y p. (same y).0 p) x k
+
+  back : (x : Item) → Chain Q R x → Chain P R x
+  back x k = chain_from Q P R (λ y q. (same y).1 q) x k
+
+  missing_same : (o : Option Item) → MatchOption o ((x : Item) → Chain P R x → FitsIn counts x) (λ i. Chain P R i × (FitsIn counts i → ⊥))
+      → MatchOption o ((x : Item) → Chain Q R x → FitsIn counts x) (λ i. Chain Q R i × (FitsIn counts i → ⊥))
+  missing_same None fits = λ x r. fits x (back x r)
+  missing_same (Some i) d = (there i d.0, d.1)
+
+  pub from_same : IsReachedIn counts Q R s
+  from_same = record {
+    marked = λ x. (λ set. (let both = (h.marked x).0 set in (there x both.0, both.1)), λ both. (h.marked x).1 (back x both.0, both.1));
+    missing = missing_same s.missing h.missing;
+  }
 
 -- what is looked at reaches what references reach
 module _ (m : Module) (active : List (List Item)) (ok : AreActive m active) (pushed : List Item) (s : State) (h : IsReachedIn (counts_of m) (Root m pushed) (Looks m active) s) where

@@ -53,3 +53,32 @@ module _ (P : ℕ → Item → Type 0) where
 
   pub below_all : (n : ℕ) (a m : State) → ((k : ℕ) (x : Item) → P k x → k < n) → Meets (Below P n) a m → Meets (λ x. (k : ℕ) × P k x) a m
   below_all n a m bound before = meets_same (Below P n) (λ x. (k : ℕ) × P k x) a m (λ x. (λ h. (h.0, h.2), λ h. (h.0, bound h.0 x h.1, h.1))) before
+
+-- ---- lists of just these items
+abbrev pub AreJust : List Item → (Item → Type 0) → Type 0
+AreJust xs P = (x : Item) → Contains xs x ↔ P x
+
+module _ (P : ℕ → Item → Type 0) where
+  pub just_none : (xs : List Item) → xs ≡ [] → AreJust xs (Below P 0)
+  just_none xs is = λ x. (λ c. absurd (let none = subst (λ (l : List Item). Contains l x) is c in omega (arith, none.1)), λ h. absurd (omega (arith, h.1)))
+
+  pub just_more : (n : ℕ) (xs ys zs : List Item) → zs ≡ xs ++ ys → AreJust xs (Below P n) → AreJust ys (P n) → AreJust zs (Below P (n + 1))
+  just_more n xs ys zs is before now = λ x. (
+    λ c. elim (Contains-append_cases xs ys x (subst (λ (l : List Item). Contains l x) is c)) as (λ _. Below P (n + 1) x) [
+      | inl l ↦ (let h = (before x).0 l in (h.0, omega (arith, h.1), h.2))
+      | inr r ↦ (n, omega arith, (now x).0 r)
+    ],
+    λ h. subst (λ (l : List Item). Contains l x) (sym is) (elim (cases_eq h.0 n) as (λ _. Contains (xs ++ ys) x) [
+      | inl e ↦ Contains-append_right xs ys x ((now x).1 (subst (λ k. P k x) e h.2))
+      | inr other ↦ Contains-append_left xs ys x ((before x).1 (h.0, omega (arith, h.1, other), h.2))
+    ]),
+  )
+
+  pub just_skip : (n : ℕ) (xs : List Item) → ((x : Item) → P n x → ⊥) → AreJust xs (Below P n) → AreJust xs (Below P (n + 1))
+  just_skip n xs none before = λ x. (
+    λ c. (let h = (before x).0 c in (h.0, omega (arith, h.1), h.2)),
+    λ h. elim (cases_eq h.0 n) as (λ _. Contains xs x) [ inl e ↦ absurd (none x (subst (λ k. P k x) e h.2)) | inr other ↦ (before x).1 (h.0, omega (arith, h.1, other), h.2) ],
+  )
+
+  pub just_all : (n : ℕ) (xs : List Item) → ((k : ℕ) (x : Item) → P k x → k < n) → AreJust xs (Below P n) → AreJust xs (λ x. (k : ℕ) × P k x)
+  just_all n xs bound before = λ x. (λ c. (let h = (before x).0 c in (h.0, h.2)), λ h. (before x).1 (h.0, bound h.0 x h.1, h.1))

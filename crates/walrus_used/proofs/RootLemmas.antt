@@ -1,6 +1,6 @@
 -- What is met for the roots.
 use Rattle.std.proofs.Common.{◌≡◌, ◌∙◌, ◌⊎◌, ◌<◌, ℕ, true, List, [], ◌∷◌, length, Option, Some, None, Contains, refl, sym, ap, subst, inl, inr}
-use Rattle.std.specs.Prelude.{IsSome, MatchOption}
+use Rattle.std.specs.Prelude.{◌↔◌, IsSome, MatchOption}
 use Rattle.std.specs.List.{fold}
 use Rattle.std.proofs.lemmas.List.{get_or_past}
 use Rattle.std.proofs.lemmas.Bool.{cases_lt, false≢true}
@@ -22,8 +22,8 @@ use Rattle.walrus_marks.specs.Marks.{State, meet}
 use Rattle.walrus_marks.specs.Chains.{Meets}
 use Rattle.walrus_references.specs.Roots.{Root, exports, starts, is_active, fills_import, declares, is_pushed}
 use Rattle.walrus_references.specs.walrus_module.Items.{given_out}
-use Rattle.walrus_used.specs.Picks.{Below, IsPickedAt, IsPicked, active_data, is_imported, rooted_element, start_items}
-use Rattle.walrus_used.proofs.MeetsLemmas.{meets_list, meets_same, meets_then, below_all}
+use Rattle.walrus_used.specs.Picks.{AreRooted, Below, IsPickedAt, IsPicked, RootWith, active_data, is_imported, rooted_element, start_items}
+use Rattle.walrus_used.proofs.MeetsLemmas.{AreJust, just_all, meets_list, meets_same, meets_then, below_all}
 use Rattle.walrus_used.proofs.LooksLemmas.{none_in, first_in, only_in, one_live, one_back}
 
 -- ---- one collection
@@ -46,6 +46,15 @@ module _ {T : Type 0} (picks : ℕ → T → Item → Type 0) (a : Arena T) wher
     | inl below ↦ below
     | inr past ↦ absurd (subst (λ (o : Option T). MatchOption o ⊥ (λ y. picks k y x)) (get_or_past a.slots k None past) h)
   ]
+
+  pub picked_just : (n : ℕ) (t : T) (xs : List Item) → item_at a n ≡ Some t → AreJust xs (picks n t) → AreJust xs (IsPickedAt picks a n)
+  picked_just n t xs at are = λ x. (
+    λ c. subst (λ (o : Option T). MatchOption o ⊥ (λ y. picks n y x)) (sym at) ((are x).0 c),
+    λ h. (are x).1 (subst (λ (o : Option T). MatchOption o ⊥ (λ y. picks n y x)) at h),
+  )
+
+  pub all_just : (n : ℕ) (xs : List Item) → n ≡ length a.slots → AreJust xs (Below (IsPickedAt picks a) n) → AreJust xs (IsPicked picks a)
+  all_just n xs all are = just_all (IsPickedAt picks a) n xs (λ k x h. subst (λ l. k < l) (sym all) (picked_below k x h)) are
 
   pub all_picked : (n : ℕ) (m c : State) → n ≡ length a.slots → Meets (Below (IsPickedAt picks a) n) m c → Meets (IsPicked picks a) m c
   all_picked n m c all met = below_all (IsPickedAt picks a) n m c (λ k x h. subst (λ l. k < l) (sym all) (picked_below k x h)) met
@@ -126,13 +135,27 @@ module _ (m : Module) (pushed : List Item) where
       )))
   root_met x (is_pushed y c) = inl (inr c)
 
-  pub roots_met : (a c : State) → Meets Met a c → Meets (Root m pushed) a c
-  roots_met a c met = meets_same Met (Root m pushed) a c (λ x. (met_root x, root_met x)) met
+  -- element segments from a list
+  module _ (rooted : List Item) (are : AreRooted m rooted) where
+    with_met : (x : Item) → RootWith m rooted pushed x → Met x
+    with_met x (inl (inl (inl h))) = inl (inl (inl h))
+    with_met x (inl (inl (inr c))) = inl (inl (inr ((are x).0 c)))
+    with_met x (inl (inr h)) = inl (inr h)
+    with_met x (inr h) = inr h
+
+    met_with : (x : Item) → Met x → RootWith m rooted pushed x
+    met_with x (inl (inl (inl h))) = inl (inl (inl h))
+    met_with x (inl (inl (inr h))) = inl (inl (inr ((are x).1 h)))
+    met_with x (inl (inr h)) = inl (inr h)
+    met_with x (inr h) = inr h
+
+    pub roots_with : (x : Item) → RootWith m rooted pushed x ↔ Root m pushed x
+    roots_with x = (λ h. met_root x (with_met x h), λ r. met_with x (root_met x r))
 
   -- one after the other
-  pub roots_after : (a b c d e f : State) → Meets Exported a b → Meets Copied b c → Meets Rooted c d → e ≡ fold meet d pushed → f ≡ fold meet e (start_items m.start) → Meets (Root m pushed) a f
-  roots_after a b c d e f p q r s t =
+  pub roots_after : (rooted : List Item) (a b c d e f : State) → Meets Exported a b → Meets Copied b c → d ≡ fold meet c rooted → e ≡ fold meet d pushed → f ≡ fold meet e (start_items m.start) → Meets (RootWith m rooted pushed) a f
+  roots_after rooted a b c d e f p q r s t =
       let two = meets_then Exported Copied a b c p q in
-      let three = meets_then (λ x. Exported x ⊎ Copied x) Rooted a c d two r in
-      let four = meets_then (λ x. (Exported x ⊎ Copied x) ⊎ Rooted x) (λ x. Contains pushed x) a d e three (meets_list pushed d e s) in
-      roots_met a f (meets_then (λ x. ((Exported x ⊎ Copied x) ⊎ Rooted x) ⊎ Contains pushed x) (λ x. Contains (start_items m.start) x) a e f four (meets_list (start_items m.start) e f t))
+      let three = meets_then (λ x. Exported x ⊎ Copied x) (λ x. Contains rooted x) a c d two (meets_list rooted c d r) in
+      let four = meets_then (λ x. (Exported x ⊎ Copied x) ⊎ Contains rooted x) (λ x. Contains pushed x) a d e three (meets_list pushed d e s) in
+      meets_then (λ x. ((Exported x ⊎ Copied x) ⊎ Contains rooted x) ⊎ Contains pushed x) (λ x. Contains (start_items m.start) x) a e f four (meets_list (start_items m.start) e f t)

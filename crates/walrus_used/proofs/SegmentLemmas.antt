@@ -15,8 +15,10 @@ use Rattle.walrus_roots.specs.declared.item.Item.{Item}
 use Rattle.walrus_roots.specs.Items.{item}
 use Rattle.walrus_references.specs.References.{IsActiveIn}
 use Rattle.walrus_used.specs.Looks.{AreActive, IsAt, listed, listed_segment}
-use Rattle.walrus_used.specs.Picks.{Below}
+use Rattle.walrus_used.specs.Picks.{AreRooted, Below, IsPickedAt, rooted_element}
 use Rattle.walrus_used.proofs.LooksLemmas.{none_in, first_in, only_in}
+use Rattle.walrus_used.proofs.MeetsLemmas.{AreJust, just_none, just_more, just_skip}
+use Rattle.walrus_used.proofs.RootLemmas.{picked_just, dead_picks, all_just}
 
 -- one more in a list of vectors
 pub listed_is : {V : Type 0} (items : V → List Item) (vs : List V) (k : ℕ) (v w : V) (i : Item) → k < length vs → v ≡ get_or vs k v → items w ≡ items v ++ i ∷ [] → map items (set vs k w) ≡ listed (map items vs) k i
@@ -134,3 +136,26 @@ module _ (m : Module) where
     all = λ t y below b. h.all t y below (b.0, (let inside = in_below t b.0 (item_at m.elements b.0) refl b.2 in omega (arith, inside, is)), (b.1, b.2));
     only = λ t y c. (let b = h.only t y c in (b.0, b.2.0, b.2.1));
   }
+
+-- ---- those that are roots
+abbrev pub rooted_at : Module → ℕ → Element → Item → Type 0
+rooted_at m id e y = Contains (rooted_element m.tables id e.kind) y
+
+-- just those below this number
+abbrev pub RootedBelow : Module → ℕ → List Item → Type 0
+RootedBelow m n rooted = AreJust rooted (Below (IsPickedAt (rooted_at m) m.elements) n)
+
+module _ (m : Module) where
+  pub none_rooted : (rooted : List Item) → rooted ≡ [] → RootedBelow m 0 rooted
+  none_rooted rooted is = just_none (IsPickedAt (rooted_at m) m.elements) rooted is
+
+  pub more_rooted : (n : ℕ) (rooted others : List Item) (element : Element) → item_at m.elements n ≡ Some element → others ≡ rooted ++ rooted_element m.tables n element.kind → RootedBelow m n rooted → RootedBelow m (n + 1) others
+  more_rooted n rooted others element at to h =
+      just_more (IsPickedAt (rooted_at m) m.elements) n rooted (rooted_element m.tables n element.kind) others to h
+      (picked_just (rooted_at m) m.elements n element (rooted_element m.tables n element.kind) at (λ x. (λ c. c, λ c. c)))
+
+  pub dead_rooted : (n : ℕ) (rooted : List Item) → (IsLive m.elements n → ⊥) → RootedBelow m n rooted → RootedBelow m (n + 1) rooted
+  dead_rooted n rooted dead h = just_skip (IsPickedAt (rooted_at m) m.elements) n rooted (λ x p. dead_picks (rooted_at m) m.elements n x dead p) h
+
+  pub all_rooted : (n : ℕ) (rooted : List Item) → n ≡ length m.elements.slots → RootedBelow m n rooted → AreRooted m rooted
+  all_rooted n rooted is h = all_just (rooted_at m) m.elements n rooted is h

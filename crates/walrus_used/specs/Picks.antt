@@ -1,12 +1,17 @@
 -- What is met for each item of a collection.
-use Rattle.std.specs.Prelude.{ℕ, ◌<◌, Bool, false, List, [], ◌∷◌, Option, Some, None, is_some, MatchOption, if◌then◌else◌}
+use Rattle.std.specs.Prelude.{ℕ, ◌<◌, ◌⊎◌, ◌↔◌, Bool, false, List, [], ◌∷◌, Option, Some, None, is_some, Contains, MatchOption, if◌then◌else◌}
 use Rattle.wasm_formats.specs.declared.fault.Space.TheVariants as spaces
 use Rattle.walrus_arena.specs.Arena.{Arena, item_at}
 use Rattle.walrus_references.specs.walrus_module_items.declared.table.Table.{Table}
+use Rattle.walrus_references.specs.walrus_module_items.declared.export.Export.{Export}
+use Rattle.walrus_references.specs.walrus_module_items.declared.data.Data.{Data}
 use Rattle.walrus_references.specs.walrus_module_items.declared.data.DataKind.{DataKind}
 use Rattle.walrus_references.specs.walrus_module_items.declared.data.DataKind.TheVariants as datas
+use Rattle.walrus_references.specs.walrus_module_items.declared.element.Element.{Element}
 use Rattle.walrus_references.specs.walrus_module_items.declared.element.ElementKind.{ElementKind}
 use Rattle.walrus_references.specs.walrus_module_items.declared.element.ElementKind.TheVariants as elements
+use Rattle.walrus_references.specs.walrus_module.Items.{given_out}
+use Rattle.walrus_references.specs.walrus_module.Parts.{Module}
 use Rattle.walrus_roots.specs.declared.item.Item.{Item}
 use Rattle.walrus_roots.specs.Items.{item}
 
@@ -41,3 +46,13 @@ rooted_element tables id (elements.Active t _) = if is_imported (item_at tables 
 abbrev pub start_items : Option ℕ → List Item
 start_items (Some f) = item spaces.Function f ∷ []
 start_items None = []
+
+-- just these element segments are roots
+abbrev pub AreRooted : Module → List Item → Type 0
+AreRooted m rooted = (x : Item) → Contains rooted x ↔ IsPicked (λ id (e : Element) y. Contains (rooted_element m.tables id e.kind) y) m.elements x
+
+-- the item is given out, a segment that is copied, one of these segments, pushed, or the start function
+abbrev pub RootWith : Module → List Item → List Item → Item → Type 0
+RootWith m rooted pushed x =
+    (((IsPicked (λ _ (e : Export) y. Contains (given_out e.item ∷ []) y) m.exports x ⊎ IsPicked (λ id (d : Data) y. Contains (active_data id d.kind) y) m.data_segments x) ⊎ Contains rooted x) ⊎ Contains pushed x)
+    ⊎ Contains (start_items m.start) x

@@ -2,6 +2,7 @@
 ghost use Rattle.std.specs.Prelude.{◌≡◌, ◌<◌, [], ◌∷◌, ◌++◌, map, length, IfOk, OnOk, Contains, slice_get, nat_eq, if◌then◌else◌};
 ghost use Rattle.std.specs.List.{fold, flat_map};
 ghost use Rattle.wasm_formats.specs.declared.fault.Space.TheVariants as spaces;
+ghost use Rattle.walrus_marks.specs.walrus_walks.Events.{block_names};
 ghost use Rattle.walrus_walks.specs.Tree.{children, handler, handlers};
 ghost use Rattle.walrus_roots.specs.Items.{item};
 ghost use Rattle.walrus_marks.specs.Marks.{meet};
@@ -91,14 +92,22 @@ fn meet_instrs(marks: &mut Marks, instrs: &[(Instr, InstrLocId)])
     }
 }
 
-// Meets what the sequence of this number names.
-fn meet_seq(marks: &mut Marks, index: usize, seq: &InstrSeq)
-    ensures { marks.new ≡ fold meet marks.old (seq_items index seq.now) }
+// Meets what the type of a sequence names, but for that of the body itself.
+fn meet_block_type(marks: &mut Marks, index: usize, seq: &InstrSeq)
+    ensures { marks.new ≡ fold meet marks.old (if nat_eq index 0 then [] else items_of (block_names seq.now.ty)) }
 {
     if index != 0 {
         marks.meet_told(seq);
     }
-    meet_instrs(marks, seq.instrs.as_slice());
+}
+
+// Meets what the sequence of this number names.
+fn meet_seq(marks: &mut Marks, index: usize, seq: &InstrSeq)
+    ensures { marks.new ≡ fold meet marks.old (seq_items index seq.now) }
+{
+    meet_block_type(marks, index, seq);
+    let instrs = seq.instrs.as_slice();
+    meet_instrs(marks, instrs);
 }
 
 // The sequences of a body, which name those that they hold.

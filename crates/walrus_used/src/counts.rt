@@ -8,7 +8,7 @@ ghost use Rattle.walrus_references.specs.walrus_module.Parts.{parts};
 ghost use Rattle.walrus_used.specs.Counts.{counts_of, past_id, past_types};
 
 use crate::module_names::ModuleNames;
-use crate::segments::active_segments;
+use crate::segments::element_segments;
 use std::alloc::{AllocError, Global};
 use walrus_arena::TypeId;
 use walrus_marks::{Marks, reach};
@@ -83,12 +83,13 @@ pub fn reach_items(alloc: Global, input: &Module, pushed: &[Item]) -> Result<Mar
     ensures { IfOk result (λ marks. IsReached (counts_of (parts input.now)) (Root (parts input.now) pushed.now) (Refers (parts input.now)) marks) }
 {
     walrus_types::laws::types_are_grouped(&input.types);
-    let active = active_segments(alloc, input)?;
+    let segments = element_segments(alloc, input)?;
     let names = ModuleNames {
         alloc,
         input,
+        rooted: segments.rooted.as_slice(),
         pushed,
-        active: active.as_slice(),
+        active: segments.active.as_slice(),
     };
     reach(alloc, &names, &id_counts(input))
 }

@@ -8,7 +8,7 @@ ghost use Rattle.walrus_marks.specs.Marks.{lists_of, meet};
 ghost use Rattle.walrus_marks.specs.Chains.{Meets};
 ghost use Rattle.walrus_references.specs.References.{KindNames, named_by, type_items, global_items, tag_items, element_items, data_items, local_items};
 ghost use Rattle.walrus_references.specs.walrus_module.Items.{written_type};
-ghost use Rattle.walrus_references.specs.Roots.{Root};
+ghost use Rattle.walrus_used.specs.Picks.{RootWith};
 ghost use Rattle.walrus_references.specs.walrus_module.Parts.{parts};
 ghost use Rattle.walrus_used.specs.Looks.{Looks, LooksIn, LooksInGroup, group_items, table_looks, memory_looks};
 ghost use Rattle.wasm_formats.specs.declared.fault.Space.TheVariants as spaces;
@@ -184,6 +184,8 @@ fn meet_local_at(marks: &mut Marks, locals: &ModuleLocals, id: LocalId)
 pub(crate) struct ModuleNames<'a> {
     pub(crate) alloc: Global,
     pub(crate) input: &'a Module,
+    // The element segments that are roots.
+    pub(crate) rooted: &'a [Item],
     // What custom sections push.
     pub(crate) pushed: &'a [Item],
     // For each table the segments that are active in it.
@@ -191,12 +193,12 @@ pub(crate) struct ModuleNames<'a> {
 }
 
 impl<'a> Names for ModuleNames<'a> {
-    ghost is_root = { λ s x. Root (parts s.input.now) s.pushed.now x };
+    ghost is_root = { λ s x. RootWith (parts s.input.now) s.rooted.now s.pushed.now x };
 
     ghost refers = { λ s x y. Looks (parts s.input.now) (lists_of s.active.now) x y };
 
     fn meet_roots(&self, marks: &mut Marks) {
-        meet_roots(marks, self.input, self.pushed);
+        meet_roots(marks, self.input, self.rooted, self.pushed);
     }
 
     fn meet_named(&self, item: Item, marks: &mut Marks) -> Result<(), AllocError> {

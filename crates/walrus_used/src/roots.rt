@@ -1,22 +1,20 @@
 //! Meeting the roots of a module.
-ghost use Rattle.std.specs.Prelude.{◌≡◌, ℕ, List, [], ◌∷◌, Contains};
+ghost use Rattle.std.specs.Prelude.{◌≡◌, ◌++◌, ℕ, List, [], ◌∷◌, Contains, OnOk};
 ghost use Rattle.std.specs.List.{fold};
 ghost use Rattle.walrus_roots.specs.declared.item.Item.{Item as AnyItem};
 ghost use Rattle.walrus_marks.specs.Marks.{meet};
 ghost use Rattle.walrus_marks.specs.Chains.{Meets};
-ghost use Rattle.walrus_references.specs.Roots.{Root};
 ghost use Rattle.walrus_references.specs.walrus_module.Items.{given_out};
 ghost use Rattle.walrus_references.specs.walrus_module.Parts.{parts};
-ghost use Rattle.walrus_used.specs.Picks.{IsPicked, active_data, is_imported, rooted_element, start_items};
+ghost use Rattle.walrus_used.specs.Picks.{IsPicked, RootWith, active_data, is_imported, rooted_element, start_items};
 ghost use Rattle.walrus_arena.specs.Arena.{item_at};
 
-use walrus_arena::{
-    DataId, DataSpace, ElementId, ElementSpace, ExportId, ExportSpace, FunctionId, Id, TableId,
-};
+use std::alloc::AllocError;
+use walrus_arena::{DataId, DataSpace, ElementId, ExportId, ExportSpace, FunctionId, Id, TableId};
 use walrus_marks::Marks;
 use walrus_references::collections::{Collection, ModuleTables};
 use walrus_references::module::Module;
-use walrus_references::module_items::{Data, DataKind, Element, ElementKind, Export, ExportItem};
+use walrus_references::module_items::{Data, DataKind, ElementKind, Export, ExportItem};
 use walrus_roots::Item;
 use wasm_formats::Space;
 
@@ -93,28 +91,29 @@ fn is_imported(tables: &ModuleTables, table: TableId) -> bool
     tables.contains(table) && tables.get(table).import.is_some()
 }
 
-// Declared element segments, and active ones of imported tables.
-#[derive(Clone, Copy)]
-struct RootedElements<'a> {
-    tables: &'a ModuleTables,
-}
-
-impl<'a> Picks<Element, ElementSpace> for RootedElements<'a> {
-    ghost picks = { λ s id e. rooted_element s.tables.now id e.kind };
-
-    fn pick(&self, id: ElementId, item: &Element, marks: &mut Marks)
-        ensures { marks.new ≡ fold meet marks.old (rooted_element self.now.tables.now id item.now.kind) }
-    {
-        match &item.kind {
-            ElementKind::Passive => {}
-            ElementKind::Declared => marks.meet(Item::new(Space::Element, id)),
-            ElementKind::Active { table, .. } => {
-                if is_imported(self.tables, *table) {
-                    marks.meet(Item::new(Space::Element, id));
-                }
+/// Puts an element segment into the list, if it is declared, or active in an imported table.
+///
+/// # Errors
+///
+/// Want of memory.
+pub(crate) fn list_rooted(
+    rooted: &mut Vec<Item>,
+    tables: &ModuleTables,
+    id: ElementId,
+    kind: &ElementKind,
+) -> Result<(), AllocError>
+    ensures { OnOk result (rooted.new.items ≡ rooted.old.items ++ rooted_element tables.now id kind.now) }
+{
+    match kind {
+        ElementKind::Passive => {}
+        ElementKind::Declared => rooted.push(Item::new(Space::Element, id))?,
+        ElementKind::Active { table, .. } => {
+            if is_imported(tables, *table) {
+                rooted.push(Item::new(Space::Element, id))?;
             }
         }
     }
+    Ok(())
 }
 
 /// Meets these items.
@@ -134,16 +133,13 @@ fn meet_start(marks: &mut Marks, start: Option<FunctionId>)
     }
 }
 
-/// Meets the roots, where custom sections push these.
-pub(crate) fn meet_roots(marks: &mut Marks, input: &Module, pushed: &[Item])
-    ensures { Meets (Root (parts input.now) pushed.now) marks.old marks.new }
+/// Meets the roots, where custom sections push these and these element segments are roots.
+pub(crate) fn meet_roots(marks: &mut Marks, input: &Module, rooted: &[Item], pushed: &[Item])
+    ensures { Meets (RootWith (parts input.now) rooted.now pushed.now) marks.old marks.new }
 {
     meet_each(&input.exports, &Exported, marks);
     meet_each(&input.data_segments, &ActiveData, marks);
-    let rooted = RootedElements {
-        tables: &input.tables,
-    };
-    meet_each(&input.elements, &rooted, marks);
+    meet_all(marks, rooted);
     meet_all(marks, pushed);
     meet_start(marks, input.start);
 }

@@ -6,8 +6,10 @@ ghost use Rattle.std.specs.List.{fold};
 ghost use Rattle.wasm_formats.specs.declared.fault.Space.TheVariants as spaces;
 ghost use Rattle.walrus_marks.specs.Marks.{meet};
 ghost use Rattle.walrus_references.specs.walrus_module.Parts.{parts};
+ghost use Rattle.walrus_used.specs.Picks.{AreRooted};
 ghost use Rattle.walrus_used.specs.Looks.{AreActive, listed, listed_segment, live_items};
 
+use crate::roots::list_rooted;
 use std::alloc::{AllocError, Global};
 use walrus_arena::{DataSpace, ElementId, ElementSpace, IdHashSet};
 use walrus_marks::Marks;
@@ -54,22 +56,35 @@ fn list_segment(
     }
 }
 
-/// For each table, the segments that are active in it.
+/// Element segments by what meets them.
+#[derive(Drop)]
+pub(crate) struct Segments {
+    // For each table, those that are active in it.
+    pub(crate) active: Vec<Vec<Item>>,
+    // Those that are roots.
+    pub(crate) rooted: Vec<Item>,
+}
+
+/// The element segments by what meets them, found in one pass.
 ///
 /// # Errors
 ///
 /// Want of memory.
-pub(crate) fn active_segments(alloc: Global, input: &Module) -> Result<Vec<Vec<Item>>, AllocError>
-    ensures { IfOk result (λ lists. AreActive (parts input.now) (lists_of lists.items)) }
+pub(crate) fn element_segments(alloc: Global, input: &Module) -> Result<Segments, AllocError>
+    ensures active { IfOk result (λ s. AreActive (parts input.now) (lists_of s.active.items)) }
+    ensures rooted { IfOk result (λ s. AreRooted (parts input.now) s.rooted.items) }
 {
-    let mut lists = empty_lists(alloc, input.tables.next_id().index())?;
+    let mut active = empty_lists(alloc, input.tables.next_id().index())?;
+    let mut rooted: Vec<Item> = Vec::new(alloc);
     for index in 0..input.elements.next_id().index() {
         let id = ElementId::from_index(index);
         if input.elements.contains(id) {
-            list_segment(&mut lists, id, &input.elements.get(id).kind)?;
+            let kind = &input.elements.get(id).kind;
+            list_segment(&mut active, id, kind)?;
+            list_rooted(&mut rooted, &input.tables, id, kind)?;
         }
     }
-    Ok(lists)
+    Ok(Segments { active, rooted })
 }
 
 /// Meets the live ones of these element segments.

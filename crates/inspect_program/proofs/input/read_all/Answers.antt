@@ -1,0 +1,7 @@
+use Rattle.inspect_program.proofs.TakeLemmas.{all_taken}
+use Rattle.inspect_program.proofs.input.read_all.Goals as goal
+
+pub returns : goal.returns
+returns g c =
+    all_taken g.R.Read.remaining c.take-limited.result c.args.reader _ c.new-bytes.result.items c.read_to_end.new.buf.items c.take-limited.ensures.limit c.take-limited.ensures.inner c.new-bytes.ensures.items
+    c.in_ok-read_to_end.ensures.bytes
