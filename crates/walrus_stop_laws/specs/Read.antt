@@ -77,11 +77,11 @@ set_or (y ∷ ys) zero (suc k) x f e = inl e
 set_or (y ∷ ys) (suc n) zero x f e = inl e
 set_or (y ∷ ys) (suc n) (suc k) x f e = elim (set_or ys n k x f e) as (λ _. (slice_index_or ys k None ≡ Some f) ⊎ ((suc k ≡ suc n) × (x ≡ f))) [ inl h ↦ inl h | inr h ↦ inr (ap suc h.0, h.1) ]
 
-ids_length : (id : ℕ) (tys : List ValType) → length (ids_from id tys) ≡ length tys
+pub ids_length : (id : ℕ) (tys : List ValType) → length (ids_from id tys) ≡ length tys
 ids_length id [] = refl
 ids_length id (ty ∷ tys) = ap suc (ids_length (suc id) tys)
 
-others_keep : (function : ℕ) (ids : List ℕ) (locals : ℕ → List ℕ) (c : ℕ) → c ≢ function → with_more function ids locals c ≡ locals c
+pub others_keep : (function : ℕ) (ids : List ℕ) (locals : ℕ → List ℕ) (c : ℕ) → c ≢ function → with_more function ids locals c ≡ locals c
 others_keep function ids locals c apart = go (c == function) refl
   where
     go : (b : Bool) → (c == function) ≡ b → (if b then locals c ++ ids else locals c) ≡ locals c
