@@ -118,7 +118,7 @@ module _ (enter : EntryTypesGrow) (stay : FoundTypesStay) (on : TablesGrowOn) (f
 
   pub all_read : (bs : List FunctionBody) (codes : List Code) (old new : State) → IsModuleOf file features old.types old.ids a → All (IsReady old) bs → AreApart bs → AreCodesOf old bs codes → Steps file features bs old new
       → AreRead a codes bs old.ids new.ids
-  all_read [] [] old new of ready apart codes is = record { bodies = []; reads = tt; named = tt; names = subst (λ (s : State). HasLocals old.ids s.ids) (sym is) refl }
+  all_read [] [] old new of ready apart codes is = record { bodies = []; reads = tt; named = tt; names = subst (λ (s : State). HasLocals old.ids s.ids) (sym is) refl; others = λ n h. kept [] old new n h is }
   all_read [] (c ∷ cs) old new of ready apart codes is = absurd codes
   all_read (b ∷ bs) [] old new of ready apart codes is = absurd codes
   all_read (b ∷ bs) (c ∷ cs) old new of ready apart codes (mid, s, more) =
@@ -129,6 +129,7 @@ module _ (enter : EntryTypesGrow) (stay : FoundTypesStay) (on : TablesGrowOn) (f
         reads = (x.1, rest.reads);
         named = (ap (λ (l : List ℕ). length l) (kept bs mid new b.number apart.0 more) ∙ x.2, rest.named);
         names = names_on stay on file features old.ids mid.ids new.ids (step_names stay on file features b old mid s) rest.names;
+        others = λ n h. kept (b ∷ bs) old new n h (mid, s, more);
       }
 
 pub steps_read : EntryTypesGrow → FoundTypesStay → TablesGrowOn → StepsReadCodes

@@ -1,5 +1,5 @@
 -- Laws of bodies that were read into their module: they are those of the file, as the grammar reads them.
-use Rattle.std.specs.Prelude.{ℕ, ◌≡◌, ◌+◌, ◌<◌, List, [], ◌∷◌, length, All, Some}
+use Rattle.std.specs.Prelude.{ℕ, ◌≡◌, ◌≢◌, ◌+◌, ◌<◌, List, [], ◌∷◌, length, All, Some}
 use Rattle.wasm_features.specs.declared.WasmFeatures.{WasmFeatures}
 use Rattle.walrus_arena.specs.Arena.{item_at}
 use Rattle.walrus_bodies_into.specs.walrus_handler_types.walrus_body_steps.walrus_body_rules.walrus_forms.declared.value.ValType.{ValType}
@@ -32,12 +32,13 @@ NamesAll names [] [] [] = Unit {0}
 NamesAll names (b ∷ bs) (c ∷ cs) (x ∷ xs) = (length (names b.number) ≡ c.params + length x.locals) × NamesAll names bs cs xs
 NamesAll names _ _ _ = ⊥
 
--- bodies that were read are those of the file; of the map locals alone have changed
+-- bodies that were read are those of the file; of the map locals alone have changed, and those of their functions alone
 pub record AreRead (a : Around) (codes : List Code) (bs : List FunctionBody) (old new : Ids) : Type 0 where
   pub bodies : List Body
   pub reads : ReadsCodes a codes bodies
   pub named : NamesAll new.locals bs codes bodies
   pub names : new ≡ record old { locals = new.locals }
+  pub others : (n : ℕ) → All (λ (b : FunctionBody). b.number ≢ n) bs → new.locals n ≡ old.locals n
 
 abbrev pub StepsReadCodes : Type 0
 StepsReadCodes = (file : FileEnv) (features : WasmFeatures) (a : Around) (bs : List FunctionBody) (codes : List Code) (old new : State) → IsModuleOf file features old.types old.ids a → All (IsReady old) bs → AreApart bs
