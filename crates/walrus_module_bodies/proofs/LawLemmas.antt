@@ -72,8 +72,7 @@ module _ (enter : EntryTypesGrow) (stay : FoundTypesStay) (on : TablesGrowOn) (f
       let k = code.counted s.item s.was in
       let many : length s.params ≡ c.params = ap (λ (l : List ValType). length l) (some_is s.params k.0 (sym s.params_are ∙ k.1)) ∙ k.2 in
       let read = subst (λ (n : ℕ). (body a (length s.params) n).parse b.chunk.bytes.now ≡ Ok parts) (placed_there file features b (env_of file new.types).code_start (begins_at file new.types)) r.read in
-      let own : ReadsBody a (length s.params) b.chunk.place b.chunk.bytes.now (body_of parts) = (parts, (body a (length s.params) b.chunk.place).found b.chunk.bytes.now parts code.small read, refl) in
-      (
+      let own : ReadsBody a (length s.params) b.chunk.place b.chunk.bytes.now (body_of parts) = (parts, (body a (length s.params) b.chunk.place).found b.chunk.bytes.now parts code.small read, refl) in (
         body_of parts,
         subst (λ (l : List ℕ). ReadsBody a c.params c.chunk.place l (body_of parts)) (sym code.bytes_are)
             (subst (λ (n : ℕ). ReadsBody a c.params n b.chunk.bytes.now (body_of parts)) (sym code.place_is)
