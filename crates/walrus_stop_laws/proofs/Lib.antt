@@ -1,2 +1,3 @@
 mod CountLemmas
 pub mod StopLemmas
+mod ReadLemmas
