@@ -24,9 +24,9 @@ use Rattle.walrus_ready_bodies.specs.walrus_items_into.wasm_module_rules.wasm_mo
 use Rattle.walrus_ready_bodies.specs.walrus_items_into.wasm_module_rules.wasm_modules.Read.{codes_fit}
 use Rattle.walrus_ready_bodies.specs.walrus_module_bodies.Laws.{AreCodesOf, NamesAll, StepsReadCodes}
 use Rattle.walrus_ready_bodies.specs.walrus_module_bodies.Steps.{State, state}
-use Rattle.walrus_stop_laws.specs.Laws.{BodiesReadFiles}
-use Rattle.walrus_stop_laws.specs.Read.{AreCounted}
-use Rattle.walrus_stop_laws.proofs.StopLemmas.{count_in, functions_counted}
+use Rattle.walrus_file_bodies.specs.Laws.{BodiesReadFiles}
+use Rattle.walrus_file_bodies.specs.Read.{AreCounted}
+use Rattle.walrus_file_bodies.proofs.StopLemmas.{count_in, functions_counted}
 
 -- ---- a function that an import brings wants no body
 

@@ -1,6 +1,6 @@
 //! Laws: functions with nothing to do, whose contracts hold of all modules that files have filled.
 
-ghost use Rattle.walrus_stop_laws.specs.Laws.{BodiesReadFiles, BodiesStopFiles};
+ghost use Rattle.walrus_file_bodies.specs.Laws.{BodiesReadFiles, BodiesStopFiles};
 
 use walrus_function_types::laws::{entry_types_grow, found_types_stay, tables_grow_on};
 use walrus_ready_bodies::items_into::laws::{filled_functions_stand, filled_modules_are_filed};

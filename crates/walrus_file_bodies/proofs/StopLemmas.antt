@@ -32,9 +32,9 @@ use Rattle.walrus_ready_bodies.specs.walrus_items_into.wasm_sections.Laws.{Reads
 use Rattle.walrus_ready_bodies.specs.walrus_items_into.wasm_sections.Within.{ChunksFit, bodies_inside}
 use Rattle.walrus_ready_bodies.specs.walrus_module_bodies.declared.file.FileEnv.{FileEnv}
 use Rattle.walrus_ready_bodies.specs.walrus_module_bodies.Steps.{AreApart, state}
-use Rattle.walrus_stop_laws.specs.Laws.{BodiesStopFiles}
-use Rattle.walrus_stop_laws.specs.Read.{AreCounted, Waits, coded_by, env_is, env_of, grows_none, stops_stop}
-use Rattle.walrus_stop_laws.proofs.CountLemmas.{count_at, read_at}
+use Rattle.walrus_file_bodies.specs.Laws.{BodiesStopFiles}
+use Rattle.walrus_file_bodies.specs.Read.{AreCounted, Waits, coded_by, env_is, env_of, grows_none, stops_stop}
+use Rattle.walrus_file_bodies.proofs.CountLemmas.{count_at, read_at}
 
 -- how many parameters a function of the file has
 abbrev pub count_in : Sections → ℕ → ℕ

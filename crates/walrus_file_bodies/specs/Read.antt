@@ -36,7 +36,7 @@ use Rattle.walrus_ready_bodies.specs.walrus_items_into.walrus_tables_into.walrus
 use Rattle.walrus_ready_bodies.specs.walrus_module_bodies.declared.file.FileEnv.{FileEnv}
 use Rattle.walrus_ready_bodies.specs.walrus_module_bodies.Envs.{IsEnv}
 use Rattle.walrus_ready_bodies.specs.walrus_module_bodies.Steps.{AreApart, Fails, IsModuleOf, IsStep, State, Steps, StopsIn, cursor_of}
-use Rattle.walrus_stop_laws.specs.Laws.{IsTold}
+use Rattle.walrus_file_bodies.specs.Laws.{IsTold}
 
 -- ---- bodies that are to be read
 
