@@ -1,6 +1,6 @@
-//! Times the dropping of what a module doesn't use: `walrus_gc_bench SHAPE COUNT KEPT`.
+//! Times the dropping of what a module doesn't use: `walrus_gc_bench SHAPE COUNT KEPT MODULES`.
 //!
-//! Makes a module of so many items in one of four shapes, and lets `gc::run` drop what isn't used:
+//! Makes so many modules of so many items in one of four shapes, and then lets `gc::run` drop what isn't used from each in turn:
 //!
 //! - `chain`: functions of which each calls the next; the first is exported;
 //! - `cycle`: the same, where the last calls the first;
@@ -8,7 +8,7 @@
 //! - `groups`: types in groups of two that name each other, and a function for each group, in a chain of calls.
 //!
 //! Where `half` is kept, each function calls the next but one, and every second segment is passive; else all is kept. What
-//! lives before and after is printed on standard output; on standard error the microseconds of `gc::run`.
+//! lives in a module before and after is printed on standard output; on standard error the microseconds of all `gc::run`.
 #![tactic(auto)]
 
 use anyhow::Result;
@@ -51,7 +51,7 @@ struct Lived {
     elements: usize,
 }
 
-/// What lives before and after, and the microseconds of the call.
+/// What lives in a module before and after, and the microseconds of all calls.
 #[derive(Clone, Copy)]
 struct Measured {
     before: Lived,
@@ -70,18 +70,24 @@ fn is(word: Option<&String>, text: &str) -> bool {
     word.is_some_and(|word| word.as_str() == text)
 }
 
-// Makes a module as the words say and drops what isn't used. None where something was refused. The module is owned here, and
-// borrowed by what makes no error in a box alone, as its sections may be boxes.
+// Makes modules as the words say and drops what isn't used. None where something was refused. The modules are owned here, and
+// each is borrowed by what makes no error in a box alone, as their sections may be boxes: hence both loops.
 fn measure(rt: &HostRuntime, words: &[String]) -> Option<Measured> {
     let count = number(words.get(2));
     let step = if is(words.get(3), "half") { 2 } else { 1 };
-    let mut input = Module::with_config(rt.alloc(), ModuleConfig::new());
-    make(rt.alloc(), &mut input, words.get(1), count, step)?;
-    let before = count_lived(&input);
+    let mut inputs: Vec<Module> = Vec::new(rt.alloc());
+    for _ in 0..number(words.get(4)) {
+        let mut input = Module::with_config(rt.alloc(), ModuleConfig::new());
+        make(rt.alloc(), &mut input, words.get(1), count, step)?;
+        inputs.push(input).ok()?;
+    }
+    let before = count_lived(inputs.first()?);
     let start = Instant::now(rt).ok()?;
-    gc::run(rt.alloc(), &mut input).ok()?;
+    for input in inputs.as_mut_slice() {
+        gc::run(rt.alloc(), input).ok()?;
+    }
     let took = start.elapsed(rt).ok()?.as_micros();
-    let after = count_lived(&input);
+    let after = count_lived(inputs.last()?);
     Some(Measured {
         before,
         after,

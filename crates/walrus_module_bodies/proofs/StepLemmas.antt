@@ -85,7 +85,7 @@ stays_function stay t v g id h = go (type_at t id) refl h
 pub tags_grow : FoundTypesStay → (tags : Arena Tag) (t v : Table) (i : Ids) → Grows t v → TagsStand tags t i → TagsStand tags v i
 tags_grow stay tags t v i grows h n tag is = let it = h n tag is in (it.0, it.1, stays_function stay t v grows it.0.ty it.2)
 
-others_keep : (function : ℕ) (ids : List ℕ) (locals : ℕ → List ℕ) (c : ℕ) → c ≢ function → with_more function ids locals c ≡ locals c
+pub others_keep : (function : ℕ) (ids : List ℕ) (locals : ℕ → List ℕ) (c : ℕ) → c ≢ function → with_more function ids locals c ≡ locals c
 others_keep function ids locals c apart = go (c == function) refl
   where
     go : (b : Bool) → (c == function) ≡ b → (if b then locals c ++ ids else locals c) ≡ locals c
@@ -102,13 +102,13 @@ module _ (stay : FoundTypesStay) (on : TablesGrowOn) (file : FileEnv) (features 
         ∙ ap (λ (i : Ids). i.locals c.number) s.arguments.named ∙ others_keep b.number (ids_from (length old.locals) s.params) old.ids.locals c.number apart ∙ r.no_locals;
   }
 
-  all_ready_on : (b : FunctionBody) (bs : List FunctionBody) (old new : State) → IsStep file features b old new → All (λ (c : FunctionBody). c.number ≢ b.number) bs → All (IsReady old) bs → All (IsReady new) bs
+  pub all_ready_on : (b : FunctionBody) (bs : List FunctionBody) (old new : State) → IsStep file features b old new → All (λ (c : FunctionBody). c.number ≢ b.number) bs → All (IsReady old) bs → All (IsReady new) bs
   all_ready_on b bs old new s apart h = λ k d lt. ready_on b (slice_index_or bs k d) old new s (apart k d lt) (h k d lt)
 
-  step_names : (b : FunctionBody) (old new : State) → IsStep file features b old new → HasLocals old.ids new.ids
+  pub step_names : (b : FunctionBody) (old new : State) → IsStep file features b old new → HasLocals old.ids new.ids
   step_names b old new s = s.left.named ∙ ap (λ (i : Ids). record i { locals = with_more b.number s.left.ids i.locals }) s.arguments.named ∙ ap (λ (l : ℕ → List ℕ). record old.ids { locals = l }) (sym (ap (λ (i : Ids). i.locals) (s.left.named ∙ ap (λ (i : Ids). record i { locals = with_more b.number s.left.ids i.locals }) s.arguments.named)))
 
-  names_on : (i j k : Ids) → HasLocals i j → HasLocals j k → HasLocals i k
+  pub names_on : (i j k : Ids) → HasLocals i j → HasLocals j k → HasLocals i k
   names_on i j k a b = b ∙ ap (λ (m : Ids). record m { locals = k.locals }) a
 
   pub going_on : (all left : List FunctionBody) (b : FunctionBody) (bs : List FunctionBody) (old now new : State) → left ≡ b ∷ bs → Going file features all left old now → IsStep file features b now new → Going file features all bs old new

@@ -1,3 +1,4 @@
 pub mod Envs
+pub mod Laws
 pub mod Reading
 pub mod Steps

@@ -7,6 +7,7 @@ mod bodies;
 mod body;
 mod file;
 mod handled;
+pub mod laws;
 
 pub use bodies::read_bodies;
 pub use file::FileEnv;

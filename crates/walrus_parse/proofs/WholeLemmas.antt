@@ -14,18 +14,18 @@ use Rattle.walrus_module.specs.walrus_local_function.walrus_body_locals.walrus_b
 use Rattle.walrus_module.specs.walrus_local_function.walrus_body_locals.wasm_body_grammar.Codes.{ReadsCodes, StopsCodes}
 use Rattle.walrus_module.specs.walrus_local_function.walrus_body_locals.wasm_grammar.Modules as grammar
 use Rattle.walrus_module.specs.walrus_types.walrus_items.declared.local.Local.{Local}
-use Rattle.walrus_ready_bodies.specs.Ready.{IsFileOf, bodies_in}
-use Rattle.walrus_ready_bodies.specs.walrus_items_into.Filled.{IsFilledFrom}
-use Rattle.walrus_ready_bodies.specs.walrus_items_into.Laws.{FilledModulesAreNumbered, HasLocals, NamedLocalsCount, NamesLocals}
-use Rattle.walrus_ready_bodies.specs.walrus_items_into.Spaces.{Spaces}
-use Rattle.walrus_ready_bodies.specs.walrus_items_into.walrus_names_into.Numbered.{IsNumbered}
-use Rattle.walrus_ready_bodies.specs.walrus_items_into.walrus_tables_into.walrus_sections_into.walrus_known_sections.State.{state_of}
-use Rattle.walrus_ready_bodies.specs.walrus_items_into.walrus_tables_into.walrus_sections_into.walrus_known_sections.declared.sections.Sections.{Sections}
-use Rattle.walrus_ready_bodies.specs.walrus_items_into.wasm_module_rules.wasm_modules.Modules.{IsShort, Reads, around, code_left, codes, module_of}
-use Rattle.walrus_ready_bodies.specs.walrus_items_into.wasm_sections.Laws.{ReadsSections}
-use Rattle.walrus_ready_bodies.specs.walrus_module_bodies.Steps.{State, Steps, StopsIn, state}
-use Rattle.walrus_ready_bodies.specs.walrus_module_bodies.declared.file.FileEnv.{FileEnv}
-use Rattle.walrus_parse.specs.Owed.{BodiesRead, BodiesStop}
+use Rattle.walrus_file_bodies.specs.walrus_ready_bodies.Ready.{IsFileOf, bodies_in}
+use Rattle.walrus_file_bodies.specs.walrus_ready_bodies.walrus_items_into.Filled.{IsFilledFrom}
+use Rattle.walrus_file_bodies.specs.walrus_ready_bodies.walrus_items_into.Laws.{FilledModulesAreNumbered, HasLocals, NamedLocalsCount, NamesLocals}
+use Rattle.walrus_file_bodies.specs.walrus_ready_bodies.walrus_items_into.Spaces.{Spaces}
+use Rattle.walrus_file_bodies.specs.walrus_ready_bodies.walrus_items_into.walrus_names_into.Numbered.{IsNumbered}
+use Rattle.walrus_file_bodies.specs.walrus_ready_bodies.walrus_items_into.walrus_tables_into.walrus_sections_into.walrus_known_sections.State.{state_of}
+use Rattle.walrus_file_bodies.specs.walrus_ready_bodies.walrus_items_into.walrus_tables_into.walrus_sections_into.walrus_known_sections.declared.sections.Sections.{Sections}
+use Rattle.walrus_file_bodies.specs.walrus_ready_bodies.walrus_items_into.wasm_module_rules.wasm_modules.Modules.{IsShort, Reads, around, code_left, codes, module_of}
+use Rattle.walrus_file_bodies.specs.walrus_ready_bodies.walrus_items_into.wasm_sections.Laws.{ReadsSections}
+use Rattle.walrus_file_bodies.specs.walrus_ready_bodies.walrus_module_bodies.Steps.{State, Steps, StopsIn, state}
+use Rattle.walrus_file_bodies.specs.walrus_ready_bodies.walrus_module_bodies.declared.file.FileEnv.{FileEnv}
+use Rattle.walrus_file_bodies.specs.Laws.{BodiesReadFiles, BodiesStopFiles}
 use Rattle.walrus_parse.specs.Code.{IsCodeRefusal}
 use Rattle.walrus_parse.specs.Parsed.{ReadsAs}
 use Rattle.walrus_parse.specs.Refusals.{IsRefusal}
@@ -38,7 +38,7 @@ pub record IsWhole (features : WasmFeatures) (bytes : List ℕ) (s : Sections) (
   pub numbered : IsNumbered (module_of (state_of s) bodies) j
   pub few : HasFew j
 
-pub is_whole : {B : Type 0} → BodiesRead B → NamedLocalsCount B → FilledModulesAreNumbered B → FewAreNumbered
+pub is_whole : {B : Type 0} → BodiesReadFiles B → NamedLocalsCount B → FilledModulesAreNumbered B → FewAreNumbered
     → (features : WasmFeatures) (bytes : List ℕ) (s : Sections) (begin : Option ℕ) (i : Ids) (m : Spaces B) (file : FileEnv) (locals : List Local) (new : State)
     → IsShort bytes → All (λ b. b < 256) bytes → ReadsSections features bytes (state_of s) → IsFilledFrom s begin i m → IsFileOf s m.types m.tags m.memories file
     → Steps file features (bodies_in s m.functions) (state m.types locals i m.functions) new → IsWhole features bytes s new.ids
@@ -53,15 +53,15 @@ is_whole read counted numbers few features bytes s begin i m file locals new sho
     }
 
 -- a refusal of the bodies is one of the file
-pub code_refused : {B : Type 0} → BodiesStop B → (features : WasmFeatures) (bytes : List ℕ) (s : Sections) (begin : Option ℕ) (i : Ids) (m : Spaces B) (locals : List Local) (error : ModuleError)
+pub code_refused : {B : Type 0} → BodiesStopFiles B → (features : WasmFeatures) (bytes : List ℕ) (s : Sections) (begin : Option ℕ) (i : Ids) (m : Spaces B) (locals : List Local) (error : ModuleError)
     → IsShort bytes → All (λ b. b < 256) bytes → ReadsSections features bytes (state_of s) → IsFilledFrom s begin i m
     → IsCodeRefusal features s m.tags m.memories (bodies_in s m.functions) (state m.types locals i m.functions) error → IsRefusal features bytes error
 code_refused stop features bytes s begin i m locals error short small reads filled (inl memory) = inl memory
 code_refused stop features bytes s begin i m locals error short small reads filled (inr h) =
-    let t = stop features bytes s begin i m h.file locals h.fault short small reads filled h.is_file h.stops in
+    let t = stop features bytes s begin i m h.file locals h.fault small reads filled h.is_file h.stops in
     inr (inr (record {
       trouble = t.0.trouble;
-      place = t.1;
-      stops = (t.0, (short, inr (state_of s, reads, t.2)), refl, t.3);
-      error_is = h.error_is ∙ fault_is t.0.trouble t.1 h.fault t.4;
+      place = t.2.0;
+      stops = (t.0, (short, inr (state_of s, reads, t.1)), refl, t.2.1);
+      error_is = h.error_is ∙ fault_is t.0.trouble t.2.0 h.fault t.2.2;
     }))

@@ -1,5 +1,4 @@
 pub mod Refusals
 pub mod Named
 pub mod Code
-pub mod Owed
 pub mod Parsed

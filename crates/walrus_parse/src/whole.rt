@@ -1,10 +1,9 @@
 //! A whole module.
 
 ghost use Rattle.std.specs.Prelude.{IfErr, IfOk, OnOk};
-ghost use Rattle.walrus_ready_bodies.specs.walrus_items_into.Spaces.{spaces};
+ghost use Rattle.walrus_file_bodies.specs.walrus_ready_bodies.walrus_items_into.Spaces.{spaces};
 ghost use Rattle.walrus_parse.specs.Parsed.{IsEmpty, IsModuleOf, read_features};
 ghost use Rattle.walrus_parse.specs.Refusals.{IsRefusal};
-ghost use Rattle.walrus_parse.specs.Owed.{BodiesRead, BodiesStop};
 
 use crate::code::read_code;
 use crate::file::read_file;
@@ -14,6 +13,17 @@ use walrus_arena::FunctionId;
 use walrus_config::ModuleConfig;
 use walrus_customs::ModuleProducers;
 use walrus_errors::{ModuleError, Result};
+use walrus_file_bodies::laws::{bodies_read_files, bodies_stop_files};
+use walrus_file_bodies::ready_bodies::items_into::laws::{
+    filled_modules_are_numbered, named_locals_count,
+};
+use walrus_file_bodies::ready_bodies::items_into::module_env::body_env::instr::type_table::{
+    ModuleLocals, ModuleTypes,
+};
+use walrus_file_bodies::ready_bodies::items_into::read_items;
+use walrus_file_bodies::ready_bodies::items_into::tables_into::sections::Sections as CustomSections;
+use walrus_file_bodies::ready_bodies::items_into::tables_into::sections_into::index_maps::IndicesToIds;
+use walrus_file_bodies::ready_bodies::laws::filled_modules_are_ready;
 use walrus_local_counts::few_are_numbered;
 use walrus_module::Module;
 use walrus_module::collections::{
@@ -21,14 +31,6 @@ use walrus_module::collections::{
     ModuleMemories, ModuleTables, ModuleTags,
 };
 use walrus_payloads_into::producers_in;
-use walrus_ready_bodies::items_into::laws::{filled_modules_are_numbered, named_locals_count};
-use walrus_ready_bodies::items_into::module_env::body_env::instr::type_table::{
-    ModuleLocals, ModuleTypes,
-};
-use walrus_ready_bodies::items_into::read_items;
-use walrus_ready_bodies::items_into::tables_into::sections::Sections as CustomSections;
-use walrus_ready_bodies::items_into::tables_into::sections_into::index_maps::IndicesToIds;
-use walrus_ready_bodies::laws::filled_modules_are_ready;
 
 // Reads a file into the collections of an empty module; the start function and the producers are answered.
 fn read_module<B: Drop>(
@@ -49,9 +51,7 @@ fn read_module<B: Drop>(
     locals: &mut ModuleLocals,
     own: &mut Option<String>,
 ) -> Result<(Option<FunctionId>, ModuleProducers)>
-    requires bodies_read { BodiesRead B }
-    requires bodies_stop { BodiesStop B }
-    requires empty { IsEmpty (spaces types.old imports.old functions.old tables.old memories.old tags.old globals.old exports.old elements.old segments.old customs.old) locals.old own.old }
+    requires { IsEmpty (spaces types.old imports.old functions.old tables.old memories.old tags.old globals.old exports.old elements.old segments.old customs.old) locals.old own.old }
     ensures read { IfOk result (λ told. IsModuleOf config.now wasm.now told.0 told.1 (spaces types.new imports.new functions.new tables.new memories.new tags.new globals.new exports.new elements.new segments.new customs.new) locals.new own.new) }
     ensures refused { IfErr result (λ error. IsRefusal (read_features config.now) wasm.now error) }
 {
@@ -59,6 +59,8 @@ fn read_module<B: Drop>(
     filled_modules_are_numbered::<B>();
     named_locals_count::<B>();
     few_are_numbered();
+    bodies_read_files::<B>();
+    bodies_stop_files::<B>();
     let features = config.features();
     let sections = read_file(alloc, features, wasm)?;
     let mut maps = IndicesToIds::new(alloc);

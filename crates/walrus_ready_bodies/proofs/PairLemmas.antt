@@ -16,12 +16,12 @@ use Rattle.walrus_module_bodies.specs.Steps.{AreApart, IsPlaced}
 
 -- ---- what holds of each of them
 
-none : (P : FunctionBody → Type 0) (chunks : List Chunk) → All P (paired [] chunks)
+pub none : (P : FunctionBody → Type 0) (chunks : List Chunk) → All P (paired [] chunks)
 none P [] = All-nil P
 none P (c ∷ chunks) = All-nil P
 
 -- one more function, which may want a body
-one : (P : FunctionBody → Type 0) (b : Bool) (id : ℕ) (ids : List ℕ) (chunks : List Chunk) → ((c : Chunk) → P (record { number = id; chunk = c }))
+pub one : (P : FunctionBody → Type 0) (b : Bool) (id : ℕ) (ids : List ℕ) (chunks : List Chunk) → ((c : Chunk) → P (record { number = id; chunk = c }))
     → ((chunks : List Chunk) → All P (paired ids chunks)) → All P (paired (if b then id ∷ ids else ids) chunks)
 one P false id ids chunks p h = h chunks
 one P true id ids [] p h = All-nil P
@@ -45,10 +45,10 @@ all_have P look (Some f ∷ slots) id chunks e at =
 
 -- ---- they are apart
 
-abbrev From : ℕ → FunctionBody → Type 0
+abbrev pub From : ℕ → FunctionBody → Type 0
 From n b = n ≤ b.number
 
-behind : (slots : List (Option Function)) (n id : ℕ) (chunks : List Chunk) → n ≤ id → All (From n) (paired (bodiless_from id slots) chunks)
+pub behind : (slots : List (Option Function)) (n id : ℕ) (chunks : List Chunk) → n ≤ id → All (From n) (paired (bodiless_from id slots) chunks)
 behind [] n id chunks le = none (From n) chunks
 behind (None ∷ slots) n id chunks le = behind slots n (suc id) chunks (omega (arith, le))
 behind (Some f ∷ slots) n id chunks le = one (From n) (is_bodiless f.kind) id (bodiless_from (suc id) slots) chunks (λ c. le) (λ chunks. behind slots n (suc id) chunks (omega (arith, le)))

@@ -1,0 +1,12 @@
+//! The program `walrus_inspect`: tells how many items of each kind live in a WebAssembly module.
+#![tactic(auto)]
+
+mod read;
+
+use inspect_program::status;
+use read::Modules;
+use std::process::ExitCode;
+
+fn main(rt: HostRuntime) -> ExitCode {
+    ExitCode::from(status(&rt, &Modules))
+}

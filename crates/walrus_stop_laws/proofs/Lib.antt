@@ -1,0 +1,2 @@
+mod CountLemmas
+pub mod StopLemmas
