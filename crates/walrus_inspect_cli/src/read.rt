@@ -4,16 +4,18 @@ ghost use Rattle.std.specs.Prelude.{◌≡◌, IfOk, false, true};
 ghost use Rattle.walrus_arena.specs.Arena.{entries};
 ghost use Rattle.walrus_counts.specs.Counts.{AreCounts};
 ghost use Rattle.walrus_counts.specs.walrus_module.Parts.{parts};
+ghost use Rattle.walrus_parse.specs.Parsed.{DoesRead};
 ghost use Rattle.walrus_passes.specs.Asked.{WithPushed};
 ghost use Rattle.walrus_sections.specs.Sections.{pushed};
 ghost use Rattle.walrus_inspect_cli.specs.KeptCounts.{AreKeptCounts};
 
 use inspect_program::Inspector;
 use inspect_program::config::ModuleConfig;
-use inspect_program::errors::{ModuleError, Result};
+use inspect_program::errors::Result;
 use inspect_program::lines::Counts;
 use std::alloc::Global;
 use walrus_counts::count;
+use walrus_parse::parse;
 use walrus_passes::gc;
 use walrus_passes::module::Module;
 use walrus_sections::CustomSection;
@@ -23,7 +25,7 @@ use walrus_sections::CustomSection;
 pub struct Modules;
 
 impl Inspector for Modules {
-    ghost answers = { λ _ _ _ _ _. Unit };
+    ghost answers = { λ _ bytes config _ result. IfOk result (λ _. DoesRead config bytes) };
 
     fn inspect(
         &self,
@@ -33,14 +35,9 @@ impl Inspector for Modules {
         kept: bool,
     ) -> Result<Counts> {
         let mut module = Module::with_config(alloc, config);
-        parse_into(&mut module, bytes)?;
+        parse(alloc, bytes, &mut module)?;
         count_in(alloc, module, kept)
     }
-}
-
-// A stand-in for the parser: refuses every file.
-fn parse_into(_module: &mut Module, _bytes: &[u8]) -> Result<()> {
-    Err(ModuleError::Header { offset: 0 })
 }
 
 // Counts the items of the module, or just what is kept of it.

@@ -5,7 +5,7 @@ use Rattle.std.specs.declared.string.String.{String}
 use Rattle.walrus_module.specs.walrus_body_writer.walrus_pairing.wasm_immediates.wasm_features.Features.{features_of}
 use Rattle.walrus_module.specs.walrus_body_writer.walrus_pairing.wasm_immediates.wasm_features.declared.WasmFeatures.{WasmFeatures}
 use Rattle.walrus_module.specs.walrus_local_function.walrus_body_locals.wasm_grammar.Modules as grammar
-use Rattle.walrus_file_bodies.specs.walrus_ready_bodies.walrus_items_into.wasm_module_rules.wasm_modules.Modules.{around, codes, module_of, IsShort}
+use Rattle.walrus_file_bodies.specs.walrus_ready_bodies.walrus_items_into.wasm_module_rules.wasm_modules.Modules.{around, codes, module_of, IsShort, Reads}
 use Rattle.walrus_module.specs.walrus_local_function.walrus_body_locals.wasm_body_grammar.Codes.{ReadsCodes}
 use Rattle.walrus_file_bodies.specs.walrus_ready_bodies.walrus_items_into.wasm_sections.Laws.{ReadsSections}
 use Rattle.wasm_name_payloads.specs.Names.{names_of}
@@ -36,6 +36,10 @@ pub record ReadsAs (features : WasmFeatures) (bytes : List ℕ) (s : Sections) (
   pub short : IsShort bytes
   pub sections : ReadsSections features bytes (state_of s)
   pub codes_are : ReadsCodes (around features (state_of s)) (codes (state_of s)) bodies
+
+-- they read as some module under these flags
+abbrev pub DoesRead : ModuleConfig → List ℕ → Type 0
+DoesRead config bytes = (m : grammar.Module) × Reads (read_features config) bytes m
 
 module _ {B : Type 0} where
   -- the collections with these types, functions and locals: what has names in a module
