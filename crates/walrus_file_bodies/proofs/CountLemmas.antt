@@ -3,22 +3,22 @@ use Rattle.std.proofs.Common.{◌≡◌, ◌∙◌, ℕ, zero, suc, List, [], �
 use Rattle.std.proofs.lemmas.List.{length-map}
 use Rattle.std.specs.Option.{option_and_then}
 use Rattle.walrus_function_types.specs.FunctionTypes.{form_params, params_at}
-use Rattle.walrus_ready_bodies.specs.walrus_items_into.walrus_functions_into.Functions.{function_as, functions_from, kind_of}
-use Rattle.walrus_ready_bodies.specs.walrus_items_into.walrus_module_env.Filled.{AreFiled}
-use Rattle.walrus_ready_bodies.specs.walrus_items_into.walrus_tables_into.walrus_sections_into.walrus_collections.walrus_local_function.walrus_body_locals.wasm_body_grammar.Codes.{kind_params}
-use Rattle.walrus_ready_bodies.specs.walrus_items_into.walrus_tables_into.walrus_sections_into.walrus_collections.walrus_local_function.walrus_body_locals.wasm_grammar.Modules.{Function as GrammarFunction}
-use Rattle.walrus_ready_bodies.specs.walrus_items_into.walrus_tables_into.walrus_sections_into.walrus_collections.walrus_local_function.walrus_body_locals.wasm_grammar.States.{form_test}
-use Rattle.walrus_ready_bodies.specs.walrus_items_into.walrus_tables_into.walrus_sections_into.walrus_forms.declared.value.ValType.{ValType}
-use Rattle.walrus_ready_bodies.specs.walrus_items_into.walrus_tables_into.walrus_sections_into.walrus_forms.Forms.{Form, FunctionForm, StructForm, ArrayForm, params_of}
-use Rattle.walrus_ready_bodies.specs.walrus_items_into.walrus_tables_into.walrus_sections_into.walrus_forms.Kinds.{Kind}
-use Rattle.walrus_ready_bodies.specs.walrus_items_into.walrus_tables_into.walrus_sections_into.walrus_forms.Renaming.{at, renamed_form, renamed_value}
-use Rattle.walrus_ready_bodies.specs.walrus_items_into.walrus_tables_into.walrus_sections_into.walrus_instr.walrus_types.Items.{Item}
-use Rattle.walrus_ready_bodies.specs.walrus_items_into.walrus_tables_into.walrus_sections_into.walrus_instr.walrus_types.Table.{Table}
-use Rattle.walrus_ready_bodies.specs.walrus_items_into.walrus_tables_into.walrus_sections_into.walrus_known_sections.Items.{function_of}
-use Rattle.walrus_ready_bodies.specs.walrus_items_into.walrus_tables_into.walrus_sections_into.walrus_known_sections.declared.items.Function.{Function as ReadFunction}
-use Rattle.walrus_ready_bodies.specs.walrus_items_into.walrus_tables_into.walrus_sections_into.walrus_module_items.declared.function.Function.{Function}
-use Rattle.walrus_ready_bodies.specs.walrus_items_into.walrus_tables_into.walrus_sections_into.walrus_module_items.Functions.{type_of}
-use Rattle.walrus_ready_bodies.specs.walrus_items_into.wasm_module_rules.Linked.{Each}
+use Rattle.walrus_items_into.specs.walrus_functions_into.Functions.{function_as, functions_from, kind_of}
+use Rattle.walrus_items_into.specs.walrus_module_env.Filled.{AreFiled}
+use Rattle.walrus_items_into.specs.walrus_tables_into.walrus_sections_into.walrus_collections.walrus_local_function.walrus_body_locals.wasm_body_grammar.Codes.{kind_params}
+use Rattle.walrus_items_into.specs.walrus_tables_into.walrus_sections_into.walrus_collections.walrus_local_function.walrus_body_locals.wasm_grammar.Modules.{Function as GrammarFunction}
+use Rattle.walrus_items_into.specs.walrus_tables_into.walrus_sections_into.walrus_collections.walrus_local_function.walrus_body_locals.wasm_grammar.States.{form_test}
+use Rattle.walrus_items_into.specs.walrus_tables_into.walrus_sections_into.walrus_forms.declared.value.ValType.{ValType}
+use Rattle.walrus_items_into.specs.walrus_tables_into.walrus_sections_into.walrus_forms.Forms.{Form, FunctionForm, StructForm, ArrayForm, params_of}
+use Rattle.walrus_items_into.specs.walrus_tables_into.walrus_sections_into.walrus_forms.Kinds.{Kind}
+use Rattle.walrus_items_into.specs.walrus_tables_into.walrus_sections_into.walrus_forms.Renaming.{at, renamed_form, renamed_value}
+use Rattle.walrus_items_into.specs.walrus_tables_into.walrus_sections_into.walrus_instr.walrus_types.Items.{Item}
+use Rattle.walrus_items_into.specs.walrus_tables_into.walrus_sections_into.walrus_instr.walrus_types.Table.{Table}
+use Rattle.walrus_items_into.specs.walrus_tables_into.walrus_sections_into.walrus_known_sections.Items.{function_of}
+use Rattle.walrus_items_into.specs.walrus_tables_into.walrus_sections_into.walrus_known_sections.declared.items.Function.{Function as ReadFunction}
+use Rattle.walrus_items_into.specs.walrus_tables_into.walrus_sections_into.walrus_module_items.declared.function.Function.{Function}
+use Rattle.walrus_items_into.specs.walrus_tables_into.walrus_sections_into.walrus_module_items.Functions.{type_of}
+use Rattle.walrus_items_into.specs.wasm_module_rules.Linked.{Each}
 
 some_is : {X : Type 0} (x y : X) → Some x ≡ Some y → x ≡ y
 some_is x y e = cc

@@ -1,3 +1,7 @@
+mod DeclaredLemmas
+mod PairLemmas
+mod TagLemmas
+mod ReadyLemmas
 mod CountLemmas
-pub mod StopLemmas
+mod StopLemmas
 mod ReadLemmas

@@ -3,27 +3,27 @@ use Rattle.std.proofs.Common.{ℕ, zero, suc, ◌≡◌, ◌≢◌, ◌+◌, ◌
 use Rattle.std.specs.Prelude.{All, Option, None, Some, slice_get}
 use Rattle.std.specs.List.{AllZip}
 use Rattle.walrus_arena.specs.Arena.{item_at}
-use Rattle.walrus_ready_bodies.proofs.PairLemmas.{From, behind, one}
-use Rattle.walrus_ready_bodies.specs.Ready.{FilledModulesAreReady, bodies_in}
-use Rattle.walrus_ready_bodies.specs.walrus_items_into.Laws.{FilledModulesAreFiled}
-use Rattle.walrus_ready_bodies.specs.walrus_items_into.walrus_functions_into.Bodies.{bodiless_from, is_bodiless, paired}
-use Rattle.walrus_ready_bodies.specs.walrus_items_into.walrus_functions_into.Functions.{function_as, functions_from, kind_of}
-use Rattle.walrus_ready_bodies.specs.walrus_items_into.walrus_functions_into.Laws.{code_of, read_bodies}
-use Rattle.walrus_ready_bodies.specs.walrus_items_into.walrus_functions_into.declared.bodies.FunctionBody.{FunctionBody}
-use Rattle.walrus_ready_bodies.specs.walrus_items_into.walrus_tables_into.walrus_sections_into.walrus_collections.walrus_local_function.walrus_body_locals.wasm_body_grammar.Codes.{AreBytes, Code, ReadsCodes}
-use Rattle.walrus_ready_bodies.specs.walrus_items_into.walrus_tables_into.walrus_sections_into.walrus_collections.walrus_local_function.walrus_body_locals.wasm_body_grammar.Rules.{Around}
-use Rattle.walrus_ready_bodies.specs.walrus_items_into.walrus_tables_into.walrus_sections_into.walrus_collections.walrus_local_function.walrus_body_locals.wasm_grammar.Modules.{Body}
-use Rattle.walrus_ready_bodies.specs.walrus_items_into.walrus_tables_into.walrus_sections_into.walrus_forms.Renaming.{at}
-use Rattle.walrus_ready_bodies.specs.walrus_items_into.walrus_tables_into.walrus_sections_into.walrus_index_maps.Maps.{Ids}
-use Rattle.walrus_ready_bodies.specs.walrus_items_into.walrus_tables_into.walrus_sections_into.walrus_known_sections.State.{state_of}
-use Rattle.walrus_ready_bodies.specs.walrus_items_into.walrus_tables_into.walrus_sections_into.walrus_known_sections.declared.items.Chunk.{Chunk}
-use Rattle.walrus_ready_bodies.specs.walrus_items_into.walrus_tables_into.walrus_sections_into.walrus_known_sections.declared.items.Function.{Function as ReadFunction}
-use Rattle.walrus_ready_bodies.specs.walrus_items_into.walrus_tables_into.walrus_sections_into.walrus_known_sections.declared.sections.Sections.{Sections}
-use Rattle.walrus_ready_bodies.specs.walrus_items_into.walrus_tables_into.walrus_sections_into.walrus_module_items.declared.function.Function.{Function}
-use Rattle.walrus_ready_bodies.specs.walrus_items_into.wasm_module_rules.wasm_modules.Modules.{around, codes}
-use Rattle.walrus_ready_bodies.specs.walrus_items_into.wasm_module_rules.wasm_modules.Read.{codes_fit}
-use Rattle.walrus_ready_bodies.specs.walrus_module_bodies.Laws.{AreCodesOf, NamesAll, StepsReadCodes}
-use Rattle.walrus_ready_bodies.specs.walrus_module_bodies.Steps.{State, state}
+use Rattle.walrus_file_bodies.proofs.PairLemmas.{From, behind, one}
+use Rattle.walrus_file_bodies.specs.Ready.{FilledModulesAreReady, bodies_in}
+use Rattle.walrus_items_into.specs.Laws.{FilledModulesAreFiled}
+use Rattle.walrus_items_into.specs.walrus_functions_into.Bodies.{bodiless_from, is_bodiless, paired}
+use Rattle.walrus_items_into.specs.walrus_functions_into.Functions.{function_as, functions_from, kind_of}
+use Rattle.walrus_items_into.specs.walrus_functions_into.Laws.{code_of, read_bodies}
+use Rattle.walrus_items_into.specs.walrus_functions_into.declared.bodies.FunctionBody.{FunctionBody}
+use Rattle.walrus_items_into.specs.walrus_tables_into.walrus_sections_into.walrus_collections.walrus_local_function.walrus_body_locals.wasm_body_grammar.Codes.{AreBytes, Code, ReadsCodes}
+use Rattle.walrus_items_into.specs.walrus_tables_into.walrus_sections_into.walrus_collections.walrus_local_function.walrus_body_locals.wasm_body_grammar.Rules.{Around}
+use Rattle.walrus_items_into.specs.walrus_tables_into.walrus_sections_into.walrus_collections.walrus_local_function.walrus_body_locals.wasm_grammar.Modules.{Body}
+use Rattle.walrus_items_into.specs.walrus_tables_into.walrus_sections_into.walrus_forms.Renaming.{at}
+use Rattle.walrus_items_into.specs.walrus_tables_into.walrus_sections_into.walrus_index_maps.Maps.{Ids}
+use Rattle.walrus_items_into.specs.walrus_tables_into.walrus_sections_into.walrus_known_sections.State.{state_of}
+use Rattle.walrus_items_into.specs.walrus_tables_into.walrus_sections_into.walrus_known_sections.declared.items.Chunk.{Chunk}
+use Rattle.walrus_items_into.specs.walrus_tables_into.walrus_sections_into.walrus_known_sections.declared.items.Function.{Function as ReadFunction}
+use Rattle.walrus_items_into.specs.walrus_tables_into.walrus_sections_into.walrus_known_sections.declared.sections.Sections.{Sections}
+use Rattle.walrus_items_into.specs.walrus_tables_into.walrus_sections_into.walrus_module_items.declared.function.Function.{Function}
+use Rattle.walrus_items_into.specs.wasm_module_rules.wasm_modules.Modules.{around, codes}
+use Rattle.walrus_items_into.specs.wasm_module_rules.wasm_modules.Read.{codes_fit}
+use Rattle.walrus_module_bodies.specs.Laws.{AreCodesOf, NamesAll, StepsReadCodes}
+use Rattle.walrus_module_bodies.specs.Steps.{State, state}
 use Rattle.walrus_file_bodies.specs.Laws.{BodiesReadFiles}
 use Rattle.walrus_file_bodies.specs.Read.{AreCounted}
 use Rattle.walrus_file_bodies.proofs.StopLemmas.{count_in, functions_counted}

@@ -3,35 +3,35 @@ use Rattle.std.proofs.Common.{◌≡◌, ◌∙◌, ◌-◌, ℕ, List, [], ◌�
 use Rattle.walrus_arena.specs.Arena.{item_at}
 use Rattle.walrus_function_types.specs.FunctionTypes.{params_at}
 use Rattle.walrus_function_types.specs.Growth.{EntryTypesGrow, FoundTypesStay, TablesGrowOn}
-use Rattle.walrus_ready_bodies.proofs.PairLemmas.{are_apart, chunks_fit}
-use Rattle.walrus_ready_bodies.proofs.ReadyLemmas.{filed_later}
-use Rattle.walrus_ready_bodies.specs.Ready.{IsFileOf, bodies_in}
-use Rattle.walrus_ready_bodies.specs.walrus_items_into.Filled.{IsFilledFrom}
-use Rattle.walrus_ready_bodies.specs.walrus_items_into.Laws.{FilledFunctionsStand, FilledModulesAreFiled}
-use Rattle.walrus_ready_bodies.specs.walrus_items_into.Spaces.{Spaces}
-use Rattle.walrus_ready_bodies.specs.walrus_items_into.walrus_functions_into.declared.bodies.FunctionBody.{FunctionBody}
-use Rattle.walrus_ready_bodies.specs.walrus_items_into.walrus_functions_into.Laws.{read_bodies}
-use Rattle.walrus_ready_bodies.specs.walrus_items_into.walrus_module_env.Filled.{AreFiled}
-use Rattle.walrus_ready_bodies.specs.walrus_items_into.walrus_tables_into.walrus_sections_into.walrus_collections.walrus_local_function.walrus_body_locals.walrus_body_nesting.wasm_formats.wasm_features.declared.WasmFeatures.{WasmFeatures}
-use Rattle.walrus_ready_bodies.specs.walrus_items_into.walrus_tables_into.walrus_sections_into.walrus_collections.walrus_local_function.walrus_body_locals.wasm_body_grammar.Codes.{Code, StopsCodes, param_count}
-use Rattle.walrus_ready_bodies.specs.walrus_items_into.walrus_tables_into.walrus_sections_into.walrus_collections.walrus_local_function.walrus_body_locals.wasm_body_grammar.Rules.{Around}
-use Rattle.walrus_ready_bodies.specs.walrus_items_into.walrus_tables_into.walrus_sections_into.walrus_collections.walrus_local_function.walrus_body_locals.wasm_grammar.States.{State, types_of}
-use Rattle.walrus_ready_bodies.specs.walrus_items_into.walrus_tables_into.walrus_sections_into.walrus_forms.Renaming.{at}
-use Rattle.walrus_ready_bodies.specs.walrus_items_into.walrus_tables_into.walrus_sections_into.walrus_index_maps.Maps.{Ids}
-use Rattle.walrus_ready_bodies.specs.walrus_items_into.walrus_tables_into.walrus_sections_into.walrus_instr.walrus_types.walrus_items.declared.local.Local.{Local}
-use Rattle.walrus_ready_bodies.specs.walrus_items_into.walrus_tables_into.walrus_sections_into.walrus_known_sections.Items.{chunk_of}
-use Rattle.walrus_ready_bodies.specs.walrus_items_into.walrus_tables_into.walrus_sections_into.walrus_known_sections.State.{state_of}
-use Rattle.walrus_ready_bodies.specs.walrus_items_into.walrus_tables_into.walrus_sections_into.walrus_known_sections.declared.items.Chunk.{Chunk}
-use Rattle.walrus_ready_bodies.specs.walrus_items_into.walrus_tables_into.walrus_sections_into.walrus_known_sections.declared.items.Function.{Function as ReadFunction}
-use Rattle.walrus_ready_bodies.specs.walrus_items_into.walrus_tables_into.walrus_sections_into.walrus_known_sections.declared.sections.Sections.{Sections}
-use Rattle.walrus_ready_bodies.specs.walrus_items_into.walrus_tables_into.walrus_sections_into.walrus_module_items.declared.function.Function.{Function}
-use Rattle.walrus_ready_bodies.specs.walrus_items_into.wasm_module_rules.Linked.{IsFunctionType as IsTyped, IsLinked}
-use Rattle.walrus_ready_bodies.specs.walrus_items_into.wasm_module_rules.Reading.{file_linked}
-use Rattle.walrus_ready_bodies.specs.walrus_items_into.wasm_module_rules.wasm_modules.Modules.{around}
-use Rattle.walrus_ready_bodies.specs.walrus_items_into.wasm_sections.Laws.{ReadsSections}
-use Rattle.walrus_ready_bodies.specs.walrus_items_into.wasm_sections.Within.{ChunksFit, bodies_inside}
-use Rattle.walrus_ready_bodies.specs.walrus_module_bodies.declared.file.FileEnv.{FileEnv}
-use Rattle.walrus_ready_bodies.specs.walrus_module_bodies.Steps.{AreApart, state}
+use Rattle.walrus_file_bodies.proofs.PairLemmas.{are_apart, chunks_fit}
+use Rattle.walrus_file_bodies.proofs.ReadyLemmas.{filed_later}
+use Rattle.walrus_file_bodies.specs.Ready.{IsFileOf, bodies_in}
+use Rattle.walrus_items_into.specs.Filled.{IsFilledFrom}
+use Rattle.walrus_items_into.specs.Laws.{FilledFunctionsStand, FilledModulesAreFiled}
+use Rattle.walrus_items_into.specs.Spaces.{Spaces}
+use Rattle.walrus_items_into.specs.walrus_functions_into.declared.bodies.FunctionBody.{FunctionBody}
+use Rattle.walrus_items_into.specs.walrus_functions_into.Laws.{read_bodies}
+use Rattle.walrus_items_into.specs.walrus_module_env.Filled.{AreFiled}
+use Rattle.walrus_items_into.specs.walrus_tables_into.walrus_sections_into.walrus_collections.walrus_local_function.walrus_body_locals.walrus_body_nesting.wasm_formats.wasm_features.declared.WasmFeatures.{WasmFeatures}
+use Rattle.walrus_items_into.specs.walrus_tables_into.walrus_sections_into.walrus_collections.walrus_local_function.walrus_body_locals.wasm_body_grammar.Codes.{Code, StopsCodes, param_count}
+use Rattle.walrus_items_into.specs.walrus_tables_into.walrus_sections_into.walrus_collections.walrus_local_function.walrus_body_locals.wasm_body_grammar.Rules.{Around}
+use Rattle.walrus_items_into.specs.walrus_tables_into.walrus_sections_into.walrus_collections.walrus_local_function.walrus_body_locals.wasm_grammar.States.{State, types_of}
+use Rattle.walrus_items_into.specs.walrus_tables_into.walrus_sections_into.walrus_forms.Renaming.{at}
+use Rattle.walrus_items_into.specs.walrus_tables_into.walrus_sections_into.walrus_index_maps.Maps.{Ids}
+use Rattle.walrus_items_into.specs.walrus_tables_into.walrus_sections_into.walrus_instr.walrus_types.walrus_items.declared.local.Local.{Local}
+use Rattle.walrus_items_into.specs.walrus_tables_into.walrus_sections_into.walrus_known_sections.Items.{chunk_of}
+use Rattle.walrus_items_into.specs.walrus_tables_into.walrus_sections_into.walrus_known_sections.State.{state_of}
+use Rattle.walrus_items_into.specs.walrus_tables_into.walrus_sections_into.walrus_known_sections.declared.items.Chunk.{Chunk}
+use Rattle.walrus_items_into.specs.walrus_tables_into.walrus_sections_into.walrus_known_sections.declared.items.Function.{Function as ReadFunction}
+use Rattle.walrus_items_into.specs.walrus_tables_into.walrus_sections_into.walrus_known_sections.declared.sections.Sections.{Sections}
+use Rattle.walrus_items_into.specs.walrus_tables_into.walrus_sections_into.walrus_module_items.declared.function.Function.{Function}
+use Rattle.walrus_items_into.specs.wasm_module_rules.Linked.{IsFunctionType as IsTyped, IsLinked}
+use Rattle.walrus_items_into.specs.wasm_module_rules.Reading.{file_linked}
+use Rattle.walrus_items_into.specs.wasm_module_rules.wasm_modules.Modules.{around}
+use Rattle.walrus_items_into.specs.wasm_sections.Laws.{ReadsSections}
+use Rattle.walrus_items_into.specs.wasm_sections.Within.{ChunksFit, bodies_inside}
+use Rattle.walrus_module_bodies.specs.declared.file.FileEnv.{FileEnv}
+use Rattle.walrus_module_bodies.specs.Steps.{AreApart, state}
 use Rattle.walrus_file_bodies.specs.Laws.{BodiesStopFiles}
 use Rattle.walrus_file_bodies.specs.Read.{AreCounted, Waits, coded_by, env_is, env_of, grows_none, stops_stop}
 use Rattle.walrus_file_bodies.proofs.CountLemmas.{count_at, read_at}

@@ -1,11 +1,20 @@
 //! Laws: functions with nothing to do, whose contracts hold of all modules that files have filled.
 
 ghost use Rattle.walrus_file_bodies.specs.Laws.{BodiesReadFiles, BodiesStopFiles};
+ghost use Rattle.walrus_file_bodies.specs.Ready.{FilledModulesAreReady};
 
 use walrus_function_types::laws::{entry_types_grow, found_types_stay, tables_grow_on};
-use walrus_ready_bodies::items_into::laws::{filled_functions_stand, filled_modules_are_filed};
-use walrus_ready_bodies::laws::filled_modules_are_ready;
-use walrus_ready_bodies::module_bodies::laws::steps_read_codes;
+use walrus_items_into::laws::{filled_functions_stand, filled_modules_are_filed};
+use walrus_module_bodies::laws::steps_read_codes;
+
+/// What reading bodies asks for holds where the sections of a file have filled a new module: the bodies lie in the file, each is of a
+/// function of its own that has a live function type and no locals, and the module stays that of the file while types are added.
+pub fn filled_modules_are_ready<B>()
+    ensures { FilledModulesAreReady B }
+{
+    filled_functions_stand::<B>();
+    filled_modules_are_filed::<B>();
+}
 
 /// Where reading the bodies of a file into its module stops, the file's bodies stop in the grammar: those in front read, and the next one
 /// stops, for the fault that is told, at its place (Core Specification, binary format: code section).

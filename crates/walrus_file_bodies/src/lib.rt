@@ -1,7 +1,8 @@
-//! Laws of bodies that are read into a module, and of the file that they stand in.
+//! Laws of a module that a file has filled, and of the file's bodies, which are read into it.
 #![tactic(auto)]
 
 pub mod laws;
 
 // Passed on to crates above, which then list this one alone.
-pub use walrus_ready_bodies as ready_bodies;
+pub use walrus_items_into as items_into;
+pub use walrus_module_bodies as module_bodies;

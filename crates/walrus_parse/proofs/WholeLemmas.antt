@@ -14,17 +14,17 @@ use Rattle.walrus_module.specs.walrus_local_function.walrus_body_locals.walrus_b
 use Rattle.walrus_module.specs.walrus_local_function.walrus_body_locals.wasm_body_grammar.Codes.{ReadsCodes, StopsCodes}
 use Rattle.walrus_module.specs.walrus_local_function.walrus_body_locals.wasm_grammar.Modules as grammar
 use Rattle.walrus_module.specs.walrus_types.walrus_items.declared.local.Local.{Local}
-use Rattle.walrus_file_bodies.specs.walrus_ready_bodies.Ready.{IsFileOf, bodies_in}
-use Rattle.walrus_file_bodies.specs.walrus_ready_bodies.walrus_items_into.Filled.{IsFilledFrom}
-use Rattle.walrus_file_bodies.specs.walrus_ready_bodies.walrus_items_into.Laws.{FilledModulesAreNumbered, HasLocals, NamedLocalsCount, NamesLocals}
-use Rattle.walrus_file_bodies.specs.walrus_ready_bodies.walrus_items_into.Spaces.{Spaces}
-use Rattle.walrus_file_bodies.specs.walrus_ready_bodies.walrus_items_into.walrus_names_into.Numbered.{IsNumbered}
-use Rattle.walrus_file_bodies.specs.walrus_ready_bodies.walrus_items_into.walrus_tables_into.walrus_sections_into.walrus_known_sections.State.{state_of}
-use Rattle.walrus_file_bodies.specs.walrus_ready_bodies.walrus_items_into.walrus_tables_into.walrus_sections_into.walrus_known_sections.declared.sections.Sections.{Sections}
-use Rattle.walrus_file_bodies.specs.walrus_ready_bodies.walrus_items_into.wasm_module_rules.wasm_modules.Modules.{IsShort, Reads, around, code_left, codes, module_of}
-use Rattle.walrus_file_bodies.specs.walrus_ready_bodies.walrus_items_into.wasm_sections.Laws.{ReadsSections}
-use Rattle.walrus_file_bodies.specs.walrus_ready_bodies.walrus_module_bodies.Steps.{State, Steps, StopsIn, state}
-use Rattle.walrus_file_bodies.specs.walrus_ready_bodies.walrus_module_bodies.declared.file.FileEnv.{FileEnv}
+use Rattle.walrus_file_bodies.specs.Ready.{IsFileOf, bodies_in}
+use Rattle.walrus_file_bodies.specs.walrus_items_into.Filled.{IsFilledFrom}
+use Rattle.walrus_file_bodies.specs.walrus_items_into.Laws.{FilledModulesAreNumbered, HasLocals, NamedLocalsCount, NamesLocals}
+use Rattle.walrus_file_bodies.specs.walrus_items_into.Spaces.{Spaces}
+use Rattle.walrus_file_bodies.specs.walrus_items_into.walrus_names_into.Numbered.{IsNumbered}
+use Rattle.walrus_file_bodies.specs.walrus_items_into.walrus_tables_into.walrus_sections_into.walrus_known_sections.State.{state_of}
+use Rattle.walrus_file_bodies.specs.walrus_items_into.walrus_tables_into.walrus_sections_into.walrus_known_sections.declared.sections.Sections.{Sections}
+use Rattle.walrus_file_bodies.specs.walrus_items_into.wasm_module_rules.wasm_modules.Modules.{IsShort, Reads, around, code_left, codes, module_of}
+use Rattle.walrus_file_bodies.specs.walrus_items_into.wasm_sections.Laws.{ReadsSections}
+use Rattle.walrus_file_bodies.specs.walrus_module_bodies.Steps.{State, Steps, StopsIn, state}
+use Rattle.walrus_file_bodies.specs.walrus_module_bodies.declared.file.FileEnv.{FileEnv}
 use Rattle.walrus_file_bodies.specs.Laws.{BodiesReadFiles, BodiesStopFiles}
 use Rattle.walrus_parse.specs.Code.{IsCodeRefusal}
 use Rattle.walrus_parse.specs.Parsed.{ReadsAs}

@@ -5,9 +5,9 @@ use Rattle.std.specs.declared.string.String.{String}
 use Rattle.walrus_module.specs.walrus_body_writer.walrus_pairing.wasm_immediates.wasm_features.Features.{features_of}
 use Rattle.walrus_module.specs.walrus_body_writer.walrus_pairing.wasm_immediates.wasm_features.declared.WasmFeatures.{WasmFeatures}
 use Rattle.walrus_module.specs.walrus_local_function.walrus_body_locals.wasm_grammar.Modules as grammar
-use Rattle.walrus_file_bodies.specs.walrus_ready_bodies.walrus_items_into.wasm_module_rules.wasm_modules.Modules.{around, codes, module_of, IsShort, Reads}
+use Rattle.walrus_file_bodies.specs.walrus_items_into.wasm_module_rules.wasm_modules.Modules.{around, codes, module_of, IsShort, Reads}
 use Rattle.walrus_module.specs.walrus_local_function.walrus_body_locals.wasm_body_grammar.Codes.{ReadsCodes}
-use Rattle.walrus_file_bodies.specs.walrus_ready_bodies.walrus_items_into.wasm_sections.Laws.{ReadsSections}
+use Rattle.walrus_file_bodies.specs.walrus_items_into.wasm_sections.Laws.{ReadsSections}
 use Rattle.wasm_name_payloads.specs.Names.{names_of}
 use Rattle.wasm_name_payloads.specs.Producers.{processed, producers_of}
 use Rattle.walrus_config.specs.Config.{feature_names}
@@ -18,13 +18,13 @@ use Rattle.walrus_module.specs.walrus_body_writer.walrus_pairing.walrus_index_ma
 use Rattle.walrus_item_names.specs.Gives.{GivesNames}
 use Rattle.walrus_item_names.specs.Holder.{Holder, holder}
 use Rattle.walrus_module.specs.walrus_types.walrus_items.declared.local.Local.{Local}
-use Rattle.walrus_file_bodies.specs.walrus_ready_bodies.walrus_items_into.Filled.{IsFilledFrom}
-use Rattle.walrus_file_bodies.specs.walrus_ready_bodies.walrus_items_into.Spaces.{Spaces}
-use Rattle.walrus_file_bodies.specs.walrus_ready_bodies.walrus_items_into.walrus_tables_into.walrus_sections_into.walrus_known_sections.State.{state_of}
-use Rattle.walrus_file_bodies.specs.walrus_ready_bodies.walrus_items_into.walrus_tables_into.walrus_sections_into.walrus_known_sections.declared.sections.Sections.{Sections}
-use Rattle.walrus_file_bodies.specs.walrus_ready_bodies.walrus_module_bodies.Steps.{State, Steps, state}
-use Rattle.walrus_file_bodies.specs.walrus_ready_bodies.walrus_module_bodies.declared.file.FileEnv.{FileEnv}
-use Rattle.walrus_file_bodies.specs.walrus_ready_bodies.Ready.{IsFileOf, bodies_in}
+use Rattle.walrus_file_bodies.specs.walrus_items_into.Filled.{IsFilledFrom}
+use Rattle.walrus_file_bodies.specs.walrus_items_into.Spaces.{Spaces}
+use Rattle.walrus_file_bodies.specs.walrus_items_into.walrus_tables_into.walrus_sections_into.walrus_known_sections.State.{state_of}
+use Rattle.walrus_file_bodies.specs.walrus_items_into.walrus_tables_into.walrus_sections_into.walrus_known_sections.declared.sections.Sections.{Sections}
+use Rattle.walrus_file_bodies.specs.walrus_module_bodies.Steps.{State, Steps, state}
+use Rattle.walrus_file_bodies.specs.walrus_module_bodies.declared.file.FileEnv.{FileEnv}
+use Rattle.walrus_file_bodies.specs.Ready.{IsFileOf, bodies_in}
 use Rattle.walrus_parse.specs.Named.{all_names}
 
 -- the features that are read under these flags

@@ -5,7 +5,7 @@ use Rattle.walrus_module.specs.walrus_local_function.walrus_body_locals.walrus_b
 use Rattle.walrus_errors.specs.declared.error.ModuleError.{ModuleError}
 use Rattle.walrus_errors.specs.declared.error.ModuleError.TheVariants as errors
 use Rattle.walrus_errors.specs.Refusals.{refusal_of}
-use Rattle.walrus_file_bodies.specs.walrus_ready_bodies.walrus_items_into.wasm_module_rules.wasm_modules.Modules.{Stops}
+use Rattle.walrus_file_bodies.specs.walrus_items_into.wasm_module_rules.wasm_modules.Modules.{Stops}
 use Rattle.walrus_module.specs.walrus_body_writer.walrus_body_env.declared.error.BodyError.{BodyError}
 use Rattle.walrus_module.specs.walrus_body_writer.walrus_body_env.declared.error.BodyError.TheVariants as bodies
 

@@ -3,25 +3,23 @@
 ghost use Rattle.std.specs.Prelude.{◌≡◌, length, IfErr, IfOk, OnOk};
 ghost use Rattle.walrus_module.specs.walrus_body_writer.walrus_pairing.walrus_index_maps.Views.{ids};
 ghost use Rattle.walrus_module.specs.walrus_types.Table.{entries, next_id};
-ghost use Rattle.walrus_file_bodies.specs.walrus_ready_bodies.walrus_items_into.walrus_functions_into.Laws.{read_bodies};
-ghost use Rattle.walrus_file_bodies.specs.walrus_ready_bodies.walrus_module_bodies.Steps.{Steps, state};
-ghost use Rattle.walrus_file_bodies.specs.walrus_ready_bodies.walrus_module_bodies.declared.file.FileEnv.{FileEnv};
-ghost use Rattle.walrus_file_bodies.specs.walrus_ready_bodies.Ready.{AreReady, IsFileOf, bodies_in};
+ghost use Rattle.walrus_file_bodies.specs.walrus_items_into.walrus_functions_into.Laws.{read_bodies};
+ghost use Rattle.walrus_file_bodies.specs.walrus_module_bodies.Steps.{Steps, state};
+ghost use Rattle.walrus_file_bodies.specs.walrus_module_bodies.declared.file.FileEnv.{FileEnv};
+ghost use Rattle.walrus_file_bodies.specs.Ready.{AreReady, IsFileOf, bodies_in};
 ghost use Rattle.walrus_parse.specs.Code.{IsCodeRefusal};
 
 use crate::refusal::module_error;
 use std::alloc::{AllocError, Global};
 use walrus_errors::Result;
-use walrus_file_bodies::ready_bodies::items_into::functions_into::pair_bodies;
-use walrus_file_bodies::ready_bodies::items_into::module_env::body_env::instr::type_table::{
+use walrus_file_bodies::items_into::functions_into::pair_bodies;
+use walrus_file_bodies::items_into::module_env::body_env::instr::type_table::{
     ModuleLocals, ModuleTypes,
 };
-use walrus_file_bodies::ready_bodies::items_into::tables_into::sections_into::index_maps::IndicesToIds;
-use walrus_file_bodies::ready_bodies::items_into::tables_into::sections_into::known_sections::{
-    Chunk, Sections,
-};
-use walrus_file_bodies::ready_bodies::items_into::tables_into::sections_into::operators::immediate_forms::reader::features::WasmFeatures;
-use walrus_file_bodies::ready_bodies::module_bodies::{FileEnv, read_bodies};
+use walrus_file_bodies::items_into::tables_into::sections_into::index_maps::IndicesToIds;
+use walrus_file_bodies::items_into::tables_into::sections_into::known_sections::{Chunk, Sections};
+use walrus_file_bodies::items_into::tables_into::sections_into::operators::immediate_forms::reader::features::WasmFeatures;
+use walrus_file_bodies::module_bodies::{FileEnv, read_bodies};
 use walrus_module::collections::{ModuleFunctions, ModuleMemories, ModuleTags};
 
 // How many types live. They are held in memory, so there are never 2^64.

@@ -7,16 +7,16 @@ ghost use Rattle.walrus_module.specs.walrus_body_writer.walrus_pairing.walrus_in
 ghost use Rattle.walrus_item_names.specs.Gives.{GivesNames};
 ghost use Rattle.walrus_item_names.specs.Holder.{holder};
 ghost use Rattle.walrus_local_counts.specs.Locals.{HasFew};
-ghost use Rattle.walrus_file_bodies.specs.walrus_ready_bodies.walrus_items_into.walrus_names_into.Numbered.{IsNumbered};
+ghost use Rattle.walrus_file_bodies.specs.walrus_items_into.walrus_names_into.Numbered.{IsNumbered};
 ghost use Rattle.walrus_payloads_into.specs.Customs.{AreCustoms};
 ghost use Rattle.walrus_parse.specs.Named.{all_names, made_names};
 
 use std::alloc::{AllocError, Global};
-use walrus_file_bodies::ready_bodies::items_into::module_env::body_env::instr::type_table::{
+use walrus_file_bodies::items_into::module_env::body_env::instr::type_table::{
     ModuleLocals, ModuleTypes,
 };
-use walrus_file_bodies::ready_bodies::items_into::tables_into::sections_into::index_maps::IndicesToIds;
-use walrus_file_bodies::ready_bodies::items_into::tables_into::sections_into::known_sections::Custom;
+use walrus_file_bodies::items_into::tables_into::sections_into::index_maps::IndicesToIds;
+use walrus_file_bodies::items_into::tables_into::sections_into::known_sections::Custom;
 use walrus_item_names::{give_names, give_synthetic_names};
 use walrus_module::collections::{
     ModuleData, ModuleElements, ModuleFunctions, ModuleGlobals, ModuleMemories, ModuleTables,

@@ -1,7 +1,7 @@
 //! A whole module.
 
 ghost use Rattle.std.specs.Prelude.{IfErr, IfOk, OnOk};
-ghost use Rattle.walrus_file_bodies.specs.walrus_ready_bodies.walrus_items_into.Spaces.{spaces};
+ghost use Rattle.walrus_file_bodies.specs.walrus_items_into.Spaces.{spaces};
 ghost use Rattle.walrus_parse.specs.Parsed.{IsEmpty, IsModuleOf, read_features};
 ghost use Rattle.walrus_parse.specs.Refusals.{IsRefusal};
 
@@ -13,17 +13,14 @@ use walrus_arena::FunctionId;
 use walrus_config::ModuleConfig;
 use walrus_customs::ModuleProducers;
 use walrus_errors::{ModuleError, Result};
-use walrus_file_bodies::laws::{bodies_read_files, bodies_stop_files};
-use walrus_file_bodies::ready_bodies::items_into::laws::{
-    filled_modules_are_numbered, named_locals_count,
-};
-use walrus_file_bodies::ready_bodies::items_into::module_env::body_env::instr::type_table::{
+use walrus_file_bodies::items_into::laws::{filled_modules_are_numbered, named_locals_count};
+use walrus_file_bodies::items_into::module_env::body_env::instr::type_table::{
     ModuleLocals, ModuleTypes,
 };
-use walrus_file_bodies::ready_bodies::items_into::read_items;
-use walrus_file_bodies::ready_bodies::items_into::tables_into::sections::Sections as CustomSections;
-use walrus_file_bodies::ready_bodies::items_into::tables_into::sections_into::index_maps::IndicesToIds;
-use walrus_file_bodies::ready_bodies::laws::filled_modules_are_ready;
+use walrus_file_bodies::items_into::read_items;
+use walrus_file_bodies::items_into::tables_into::sections::Sections as CustomSections;
+use walrus_file_bodies::items_into::tables_into::sections_into::index_maps::IndicesToIds;
+use walrus_file_bodies::laws::{bodies_read_files, bodies_stop_files, filled_modules_are_ready};
 use walrus_local_counts::few_are_numbered;
 use walrus_module::Module;
 use walrus_module::collections::{

@@ -31,10 +31,10 @@ use Rattle.walrus_items_into.specs.Laws.{FilledFunctionsStand, FilledModulesAreF
 use Rattle.walrus_items_into.specs.Spaces.{Spaces}
 use Rattle.walrus_module_bodies.specs.declared.file.FileEnv.{FileEnv}
 use Rattle.walrus_module_bodies.specs.Envs.{IsEnv}
-use Rattle.walrus_ready_bodies.specs.Ready.{FilledModulesAreReady, IsFileOf, bodies_in}
-use Rattle.walrus_ready_bodies.proofs.DeclaredLemmas.{read_types_are_plain}
-use Rattle.walrus_ready_bodies.proofs.PairLemmas.{all_have, are_apart, are_placed, chunks_fit}
-use Rattle.walrus_ready_bodies.proofs.TagLemmas.{tag_at, typed_at, upto_is}
+use Rattle.walrus_file_bodies.specs.Ready.{FilledModulesAreReady, IsFileOf, bodies_in}
+use Rattle.walrus_file_bodies.proofs.DeclaredLemmas.{read_types_are_plain}
+use Rattle.walrus_file_bodies.proofs.PairLemmas.{all_have, are_apart, are_placed, chunks_fit}
+use Rattle.walrus_file_bodies.proofs.TagLemmas.{tag_at, typed_at, upto_is}
 
 -- ---- a file's types have no entry types behind their kinds
 

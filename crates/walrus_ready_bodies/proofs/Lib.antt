@@ -1,4 +1,0 @@
-mod DeclaredLemmas
-mod PairLemmas
-mod ReadyLemmas
-mod TagLemmas

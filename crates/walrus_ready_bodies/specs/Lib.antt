@@ -1,4 +1,0 @@
-pub mod Ready
--- Passed on to crates above, which then list this one alone.
-pub use Rattle.walrus_items_into.specs as walrus_items_into
-pub use Rattle.walrus_module_bodies.specs as walrus_module_bodies
