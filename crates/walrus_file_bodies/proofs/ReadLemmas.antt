@@ -3,30 +3,31 @@ use Rattle.std.proofs.Common.{ℕ, zero, suc, ◌≡◌, ◌≢◌, ◌+◌, ◌
 use Rattle.std.specs.Prelude.{All, Option, None, Some, slice_get}
 use Rattle.std.specs.List.{AllZip}
 use Rattle.walrus_arena.specs.Arena.{item_at}
-use Rattle.walrus_file_bodies.proofs.PairLemmas.{From, behind, one}
+use Rattle.walrus_file_bodies.proofs.PairLemmas.{From, behind, chunks_fit, one}
 use Rattle.walrus_file_bodies.specs.Ready.{FilledModulesAreReady, bodies_in}
-use Rattle.walrus_items_into.specs.Laws.{FilledModulesAreFiled}
+use Rattle.walrus_items_into.specs.Laws.{FilledFunctionsStand, FilledModulesAreFiled}
 use Rattle.walrus_items_into.specs.walrus_functions_into.Bodies.{bodiless_from, is_bodiless, paired}
 use Rattle.walrus_items_into.specs.walrus_functions_into.Functions.{function_as, functions_from, kind_of}
 use Rattle.walrus_items_into.specs.walrus_functions_into.Laws.{code_of, read_bodies}
 use Rattle.walrus_items_into.specs.walrus_functions_into.declared.bodies.FunctionBody.{FunctionBody}
-use Rattle.walrus_items_into.specs.walrus_tables_into.walrus_sections_into.walrus_collections.walrus_local_function.walrus_body_locals.wasm_body_grammar.Codes.{AreBytes, Code, ReadsCodes}
+use Rattle.walrus_items_into.specs.walrus_tables_into.walrus_sections_into.walrus_collections.walrus_local_function.walrus_body_locals.wasm_body_grammar.Codes.{Code, ReadsCodes}
 use Rattle.walrus_items_into.specs.walrus_tables_into.walrus_sections_into.walrus_collections.walrus_local_function.walrus_body_locals.wasm_body_grammar.Rules.{Around}
 use Rattle.walrus_items_into.specs.walrus_tables_into.walrus_sections_into.walrus_collections.walrus_local_function.walrus_body_locals.wasm_grammar.Modules.{Body}
 use Rattle.walrus_items_into.specs.walrus_tables_into.walrus_sections_into.walrus_forms.Renaming.{at}
 use Rattle.walrus_items_into.specs.walrus_tables_into.walrus_sections_into.walrus_index_maps.Maps.{Ids}
+use Rattle.walrus_items_into.specs.walrus_tables_into.walrus_sections_into.walrus_known_sections.Items.{chunk_of}
 use Rattle.walrus_items_into.specs.walrus_tables_into.walrus_sections_into.walrus_known_sections.State.{state_of}
 use Rattle.walrus_items_into.specs.walrus_tables_into.walrus_sections_into.walrus_known_sections.declared.items.Chunk.{Chunk}
 use Rattle.walrus_items_into.specs.walrus_tables_into.walrus_sections_into.walrus_known_sections.declared.items.Function.{Function as ReadFunction}
 use Rattle.walrus_items_into.specs.walrus_tables_into.walrus_sections_into.walrus_known_sections.declared.sections.Sections.{Sections}
 use Rattle.walrus_items_into.specs.walrus_tables_into.walrus_sections_into.walrus_module_items.declared.function.Function.{Function}
 use Rattle.walrus_items_into.specs.wasm_module_rules.wasm_modules.Modules.{around, codes}
-use Rattle.walrus_items_into.specs.wasm_module_rules.wasm_modules.Read.{codes_fit}
+use Rattle.walrus_items_into.specs.wasm_sections.Within.{ChunksFit, bodies_inside}
 use Rattle.walrus_module_bodies.specs.Laws.{AreCodesOf, NamesAll, StepsReadCodes}
 use Rattle.walrus_module_bodies.specs.Steps.{State, state}
 use Rattle.walrus_file_bodies.specs.Laws.{BodiesReadFiles}
 use Rattle.walrus_file_bodies.specs.Read.{AreCounted}
-use Rattle.walrus_file_bodies.proofs.StopLemmas.{count_in, functions_counted}
+use Rattle.walrus_file_bodies.proofs.StopLemmas.{chunks_fit_in, count_in, functions_counted}
 
 -- ---- a function that an import brings wants no body
 
@@ -57,9 +58,9 @@ imported_is_none types id (r ∷ reads) chunks (suc k) n by f there brings is =
 -- ---- the bodies as the grammar has them
 
 module _ (s : Sections) (old : State) (counted : AreCounted (count_in s) old.types (item_at old.functions)) where
-  are_codes : (bs : List FunctionBody) → AreBytes (map (code_of s) bs) → AreCodesOf old bs (map (code_of s) bs)
-  are_codes [] small = tt
-  are_codes (b ∷ bs) small = (record { place_is = refl; bytes_are = refl; small = small.0; counted = λ item there. counted b.number item there }, are_codes bs small.1)
+  are_codes : (start end : ℕ) (bs : List FunctionBody) → ChunksFit start end (map (λ (b : FunctionBody). chunk_of b.chunk) bs) → AreCodesOf old bs (map (code_of s) bs)
+  are_codes start end [] fit = tt
+  are_codes start end (b ∷ bs) fit = (record { place_is = refl; bytes_are = refl; small = fit.0.0; counted = λ item there. counted b.number item there }, are_codes start end bs fit.1)
 
 names_zip : (s : Sections) (names : ℕ → List ℕ) (bs : List FunctionBody) (xs : List Body) → NamesAll names bs (map (code_of s) bs) xs
     → AllZip (λ (b : FunctionBody) (x : Body). length (names b.number) ≡ (code_of s b).params + length x.locals) bs xs
@@ -68,15 +69,16 @@ names_zip s names [] (x ∷ xs) h = absurd h
 names_zip s names (b ∷ bs) [] h = absurd h
 names_zip s names (b ∷ bs) (x ∷ xs) h = (h.0, names_zip s names bs xs h.1)
 
-pub bodies_read : {B : Type 0} → FilledModulesAreFiled B → FilledModulesAreReady B → StepsReadCodes → BodiesReadFiles B
-bodies_read law ready read features bytes s begin i m file locals new short small reads f o steps =
+pub bodies_read : {B : Type 0} → FilledFunctionsStand B → FilledModulesAreFiled B → FilledModulesAreReady B → StepsReadCodes → BodiesReadFiles B
+bodies_read functions law ready read features bytes s begin i m file locals new short small reads f o steps =
     let r = ready features bytes s begin i m file short small reads f o in
     let a : Around = around features (state_of s) in
     let bs : List FunctionBody = bodies_in s m.functions in
     let st = state m.types locals i m.functions in
     let asked = r.ready locals in
-    let fit : AreBytes (map (code_of s) bs) = subst AreBytes (sym r.codes_are) (codes_fit features bytes (state_of s) small reads).0 in
-    let all = read file features a bs (map (code_of s) bs) st new r.is_module asked.ready asked.apart (are_codes s st (functions_counted features bytes s begin i m file law reads f o) bs fit) steps in (
+    let stand = functions features bytes s begin i m reads f in
+    let fit = chunks_fit_in s.code_start (length bytes) bs (read_bodies s.bodies) stand.paired.chunks_are (chunks_fit s.code_start (length bytes) s.bodies (bodies_inside features bytes (state_of s) small reads)) in
+    let all = read file features a bs (map (code_of s) bs) st new r.is_module asked.ready asked.apart (are_codes s st (functions_counted features bytes s begin i m file law reads f o) s.code_start (length bytes) bs fit) steps in (
       all.bodies,
       subst (λ (cs : List Code). ReadsCodes a cs all.bodies) r.codes_are all.reads,
       record {

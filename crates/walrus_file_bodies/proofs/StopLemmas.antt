@@ -41,7 +41,7 @@ abbrev pub count_in : Sections → ℕ → ℕ
 count_in s n = param_count (state_of s).filled (at (map (λ (f : ReadFunction). f.ty) s.functions.items) n)
 
 -- bodies, and their bytes
-chunks_fit_in : (start end : ℕ) (bs : List FunctionBody) (chunks : List Chunk) → map (λ (b : FunctionBody). b.chunk) bs ≡ chunks → ChunksFit start end (map chunk_of chunks) → ChunksFit start end (map (λ (b : FunctionBody). chunk_of b.chunk) bs)
+pub chunks_fit_in : (start end : ℕ) (bs : List FunctionBody) (chunks : List Chunk) → map (λ (b : FunctionBody). b.chunk) bs ≡ chunks → ChunksFit start end (map chunk_of chunks) → ChunksFit start end (map (λ (b : FunctionBody). chunk_of b.chunk) bs)
 chunks_fit_in start end bs chunks is h = subst (ChunksFit start end) (ap (map chunk_of) (sym is) ∙ map_map bs) h
   where
     map_map : (bs : List FunctionBody) → map chunk_of (map (λ (b : FunctionBody). b.chunk) bs) ≡ map (λ (b : FunctionBody). chunk_of b.chunk) bs

@@ -33,6 +33,7 @@ pub fn bodies_stop_files<B>()
 pub fn bodies_read_files<B>()
     ensures { BodiesReadFiles B }
 {
+    filled_functions_stand::<B>();
     filled_modules_are_filed::<B>();
     filled_modules_are_ready::<B>();
     steps_read_codes();
