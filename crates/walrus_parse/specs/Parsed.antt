@@ -79,5 +79,5 @@ module _ {B : Type 0} where
     pub elements : m.elements.slots ≡ []
     pub segments : m.segments.slots ≡ []
     pub customs : m.customs.slots ≡ []
-    pub locals : locals ≡ []
-    pub own : own ≡ None
+    pub no_locals : locals ≡ []
+    pub unnamed : own ≡ None
