@@ -10,7 +10,7 @@ use Rattle.walrus_module.specs.walrus_types.Parsing.{Parsed, added, known_ids, m
 use Rattle.walrus_module.specs.walrus_types.Table.{Table, entries, equal_type, next_id}
 use Rattle.walrus_module.specs.walrus_types.walrus_items.Items.{Item}
 
-AreAll : List (Option Item) → Type 0
+abbrev AreAll : List (Option Item) → Type 0
 AreAll [] = Unit {0}
 AreAll (None ∷ slots) = ⊥
 AreAll (Some item ∷ slots) = AreAll slots

@@ -1,6 +1,7 @@
 -- The bodies of a file were read, or one of them stops: so does the file.
-use Rattle.std.specs.Prelude.{ℕ, ◌+◌, ◌<◌, ◌≡◌, ◌⊎◌, All, List, [], length, Option, Some, refl}
-use Rattle.std.proofs.Common.{sym, ◌∙◌, inl, inr}
+use Rattle.std.specs.Prelude.{ℕ, ◌+◌, ◌<◌, ◌≡◌, ◌⊎◌, All, List, [], length, slice_index_or, Option, Some, Result, Ok, Err, IfErr, IsErr, IsErrAnd, refl}
+use Rattle.std.proofs.lemmas.List.{get_or_default}
+use Rattle.std.proofs.Common.{sym, ◌∙◌, inl, inr, subst, arith, Fits, w8}
 use Rattle.wasm_name_payloads.specs.Names.{names_of}
 use Rattle.wasm_name_payloads.specs.Producers.{processed, producers_of}
 use Rattle.walrus_config.specs.Config.{feature_names}
@@ -65,3 +66,12 @@ code_refused stop features bytes s begin i m locals error short small reads fill
       stops = (t.0, (short, inr (state_of s, reads, t.1)), refl, t.2.1);
       error_is = h.error_is ∙ fault_is t.0.trouble t.2.0 h.fault t.2.2;
     }))
+
+-- a refusal that `?` hands on
+pub handed : {A : Type 0} (P : ModuleError → Type 0) (e : ModuleError) (result : Result A ModuleError) → IsErr result × IsErrAnd result (λ x. x ≡ e) → P e → IfErr result P
+handed P e (Ok x) h p = tt
+handed P e (Err x) h p = subst P (sym h.1) p
+
+-- bytes are below 256
+pub small : (xs : List ℕ) → ((i : ℕ) → Fits w8 (slice_index_or xs i 0)) → All (λ b. b < 256) xs
+small xs fits k d lt = let same = get_or_default xs k d 0 lt in let fit = fits k in omega (arith, same, fit)
