@@ -1,30 +1,23 @@
 -- The bodies of a file were read, or one of them stops: so does the file.
-use Rattle.std.specs.Prelude.{ℕ, ◌+◌, ◌<◌, ◌≡◌, ◌⊎◌, All, List, [], length, slice_index_or, Option, Some, Result, Ok, Err, IfErr, IsErr, IsErrAnd, refl}
+use Rattle.std.specs.Prelude.{ℕ, ◌<◌, ◌≡◌, All, List, slice_index_or, Option, Result, Ok, Err, IfErr, IsErr, IsErrAnd, refl}
 use Rattle.std.proofs.lemmas.List.{get_or_default}
 use Rattle.std.proofs.Common.{sym, ◌∙◌, inl, inr, subst, arith, Fits, w8}
-use Rattle.wasm_name_payloads.specs.Names.{names_of}
-use Rattle.wasm_name_payloads.specs.Producers.{processed, producers_of}
-use Rattle.walrus_config.specs.Config.{feature_names}
 use Rattle.walrus_errors.specs.declared.error.ModuleError.{ModuleError}
 use Rattle.walrus_local_counts.specs.Locals.{FewAreNumbered, HasFew}
-use Rattle.walrus_module.specs.walrus_body_writer.walrus_body_env.declared.error.BodyError.{BodyError}
 use Rattle.walrus_module.specs.walrus_body_writer.walrus_pairing.walrus_index_maps.Maps.{Ids}
 use Rattle.walrus_module.specs.walrus_body_writer.walrus_pairing.wasm_immediates.wasm_features.declared.WasmFeatures.{WasmFeatures}
-use Rattle.walrus_module.specs.walrus_local_function.walrus_body_locals.walrus_body_nesting.Faults.{fault_at}
-use Rattle.walrus_module.specs.walrus_local_function.walrus_body_locals.walrus_body_nesting.wasm_formats.Stops.{Stop}
-use Rattle.walrus_module.specs.walrus_local_function.walrus_body_locals.wasm_body_grammar.Codes.{ReadsCodes, StopsCodes}
 use Rattle.walrus_module.specs.walrus_local_function.walrus_body_locals.wasm_grammar.Modules as grammar
 use Rattle.walrus_module.specs.walrus_types.walrus_items.declared.local.Local.{Local}
 use Rattle.walrus_file_bodies.specs.Ready.{IsFileOf, bodies_in}
 use Rattle.walrus_file_bodies.specs.walrus_items_into.Filled.{IsFilledFrom}
-use Rattle.walrus_file_bodies.specs.walrus_items_into.Laws.{FilledModulesAreNumbered, HasLocals, NamedLocalsCount, NamesLocals}
+use Rattle.walrus_file_bodies.specs.walrus_items_into.Laws.{FilledModulesAreNumbered, NamedLocalsCount}
 use Rattle.walrus_file_bodies.specs.walrus_items_into.Spaces.{Spaces}
 use Rattle.walrus_file_bodies.specs.walrus_items_into.walrus_names_into.Numbered.{IsNumbered}
 use Rattle.walrus_file_bodies.specs.walrus_items_into.walrus_tables_into.walrus_sections_into.walrus_known_sections.State.{state_of}
 use Rattle.walrus_file_bodies.specs.walrus_items_into.walrus_tables_into.walrus_sections_into.walrus_known_sections.declared.sections.Sections.{Sections}
-use Rattle.walrus_file_bodies.specs.walrus_items_into.wasm_module_rules.wasm_modules.Modules.{IsShort, Reads, around, code_left, codes, module_of}
+use Rattle.walrus_file_bodies.specs.walrus_items_into.wasm_module_rules.wasm_modules.Modules.{IsShort, Reads, module_of}
 use Rattle.walrus_file_bodies.specs.walrus_items_into.wasm_sections.Laws.{ReadsSections}
-use Rattle.walrus_file_bodies.specs.walrus_module_bodies.Steps.{State, Steps, StopsIn, state}
+use Rattle.walrus_file_bodies.specs.walrus_module_bodies.Steps.{State, Steps, state}
 use Rattle.walrus_file_bodies.specs.walrus_module_bodies.declared.file.FileEnv.{FileEnv}
 use Rattle.walrus_file_bodies.specs.Laws.{BodiesReadFiles, BodiesStopFiles}
 use Rattle.walrus_parse.specs.Code.{IsCodeRefusal}

@@ -9,7 +9,6 @@ use Rattle.walrus_file_bodies.specs.walrus_items_into.walrus_functions_into.decl
 use Rattle.walrus_file_bodies.specs.walrus_items_into.walrus_tables_into.walrus_sections_into.walrus_known_sections.declared.sections.Sections.{Sections}
 use Rattle.walrus_file_bodies.specs.walrus_module_bodies.Steps.{State, StopsIn}
 use Rattle.walrus_file_bodies.specs.walrus_module_bodies.declared.file.FileEnv.{FileEnv}
-use Rattle.walrus_module.specs.walrus_module_items.declared.function.Function.{Function}
 use Rattle.walrus_module.specs.walrus_module_items.declared.memory.Memory.{Memory as Mem}
 use Rattle.walrus_module.specs.walrus_module_items.declared.tag.Tag.{Tag}
 use Rattle.walrus_file_bodies.specs.Ready.{IsFileOf}

@@ -1,4 +1,4 @@
-use Rattle.std.specs.Prelude.{List, refl}
+use Rattle.std.specs.Prelude.{refl}
 use Rattle.std.proofs.Common.{ap, ◌∙◌}
 use Rattle.walrus_file_bodies.specs.walrus_items_into.walrus_functions_into.Bodies.{bodiless, paired}
 use Rattle.walrus_module.specs.walrus_body_writer.walrus_pairing.walrus_index_maps.Views.{ids}

@@ -1,5 +1,4 @@
-use Rattle.std.proofs.Common.{◌≡◌, ◌∙◌, ap, sym, subst, length, refl, List, [], Option}
-use Rattle.std.specs.Prelude.{None}
+use Rattle.std.proofs.Common.{◌≡◌, ap, sym, subst, length, refl, List, [], Option}
 use Rattle.std.specs.declared.alloc.Global.{Global as Alloc}
 use Rattle.std.specs.declared.string.String.{String}
 use Rattle.wasm_name_payloads.specs.Names.{names_of}
