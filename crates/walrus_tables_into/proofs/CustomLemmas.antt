@@ -26,12 +26,13 @@ module _ {X Y : Type 0} (R : X → Y → Type 0) where
       → Filled R (flat_map f (take i xs)) old mid → Filled R (f now) mid new → Filled R (flat_map f (take (i + 1) xs)) old new
   left_on f xs i other now old mid new is lt so more =
       let joined : flat_map f (take (i + 1) xs) ≡ flat_map f (take i xs) ++ f now =
-            ap (flat_map f) (take_more xs i other lt) ∙ flat_map-append f (take i xs) (slice_index_or xs i other ∷ []) ∙ ap (λ (l : List X). flat_map f (take i xs) ++ l) (one (slice_index_or xs i other)) ∙ ap (λ (x : X). flat_map f (take i xs) ++ f x) (sym is) in
+      ap (flat_map f) (take_more xs i other lt) ∙ flat_map-append f (take i xs) (slice_index_or xs i other ∷ []) ∙ ap (λ (l : List X). flat_map f (take i xs) ++ l) (one (slice_index_or xs i other)) ∙ ap (λ (x : X). flat_map f (take i xs) ++ f x) (sym is) in
       subst (λ (l : List X). Filled R l old new) (sym joined) (filled_both (flat_map f (take i xs)) (f now) old mid new so more)
     where
       nothing : (l : List X) → l ++ [] ≡ l
       nothing [] = refl
       nothing (x ∷ l) = ap (λ (r : List X). x ∷ r) (nothing l)
+
       one : (x : X) → flat_map f (x ∷ []) ≡ f x
       one x = nothing (f x)
 
