@@ -88,7 +88,7 @@ fn operator_count(alloc: Global, functions: &ModuleFunctions) -> Result<u64>
 ///
 /// `NoTree` only where the sequences of a body form no tree; else want of memory alone.
 #[tactic(auto, using(crate::proofs::CauseLemmas::wanted))]
-pub fn count(alloc: Global, module: &Module) -> Result<Counts>
+pub fn count<B>(alloc: Global, module: &Module<B>) -> Result<Counts>
     ensures counted { IfOk result (AreCounts (parts module.now)) }
     ensures refused { IfErr result (IsCause (HaveNoTree (items module.now.funcs))) }
 {

@@ -138,7 +138,7 @@ folds_told R tags b told same step (e ∷ es) p q (j, r, rest) ok =
     let s = step p e j r ok in
     folds_told R tags b told same step es j q rest s.0 ∙ ap (put_events tags b es) s.1
 
-untold_length : (n : ℕ) → length (replicate n (let o : Option Handler = None in o)) ≡ n
+pub untold_length : (n : ℕ) → length (replicate n (let o : Option Handler = None in o)) ≡ n
 untold_length zero = refl
 untold_length (suc n) = ap suc (untold_length n)
 

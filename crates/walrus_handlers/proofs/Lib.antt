@@ -1,1 +1,2 @@
 mod Gathers
+mod NoTries

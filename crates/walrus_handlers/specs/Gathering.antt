@@ -1,7 +1,11 @@
 -- Handlers in a list by sequence.
-use Rattle.std.specs.Prelude.{◌≡◌, ℕ, ◌<◌, List, [], ◌∷◌, length, Option, Some, None, slice_get, slice_set}
+use Rattle.std.specs.Prelude.{◌≡◌, ℕ, ◌<◌, Bool, true, false, List, [], ◌∷◌, length, Option, Some, None, slice_get, slice_set}
+use Rattle.std.specs.List.{list_any}
 use Rattle.walrus_handler_laws.specs.walrus_tree.walrus_builder.Built.{Seq}
 use Rattle.walrus_handler_laws.specs.walrus_tree.walrus_walks.Events.{Event, StartOf}
+use Rattle.walrus_handler_laws.specs.walrus_tree.walrus_walks.walrus_instr.declared.instr.Instr.{Instr}
+use Rattle.walrus_handler_laws.specs.walrus_tree.walrus_walks.walrus_instr.declared.instr.Instr.TheVariants as instrs
+use Rattle.walrus_handler_laws.specs.walrus_tree.walrus_walks.walrus_instr.declared.seq.InstrLocId.{InstrLocId}
 use Rattle.walrus_handler_laws.specs.walrus_tree.walrus_walks.walrus_instr.declared.seq.InstrSeq.{InstrSeq}
 use Rattle.walrus_handler_laws.specs.declared.handler.Handler.{Handler}
 use Rattle.walrus_handler_laws.specs.Handlers.{Slot, slots_in, told_by}
@@ -24,3 +28,14 @@ put_all (x ∷ xs) told = put_all xs (put x.seq x.handles told)
 abbrev pub put_event : (ℕ → Option ℕ) → List Seq → Event → List (Option Handler) → List (Option Handler)
 put_event tags b (StartOf s) told = put_all (slots_in tags b s.instrs.items) told
 put_event tags b _ told = told
+
+-- a legacy `try`; whether instructions, or those of any of these sequences, have one
+abbrev pub is_try : Instr → Bool
+is_try (instrs.Try k cs) = true
+is_try _ = false
+
+abbrev pub has_try : List (Instr × InstrLocId) → Bool
+has_try is = list_any (λ (i : Instr × InstrLocId). is_try i.0) is
+
+abbrev pub have_try : List InstrSeq → Bool
+have_try b = list_any (λ (s : InstrSeq). has_try s.instrs.items) b

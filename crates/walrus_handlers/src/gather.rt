@@ -1,7 +1,7 @@
 //! Which sequences of a body are handlers, and of what.
 
 ghost use Rattle.std.specs.Prelude.{◌≡◌, ◌≤◌, ◌^◌, ℕ, [], ◌∷◌, IfOk, None, Option, length, map, replicate};
-ghost use Rattle.walrus_handlers.specs.Gathering.{AreHandlers, put, put_all};
+ghost use Rattle.walrus_handlers.specs.Gathering.{AreHandlers, has_try, have_try, is_try, put, put_all};
 ghost use Rattle.walrus_handler_laws.specs.Handlers.{known_handler, part_slots, slots, slots_in, tree_ids};
 ghost use Rattle.walrus_handler_laws.specs.walrus_body_steps.walrus_body_nesting.Opens.{type_at};
 ghost use Rattle.walrus_handler_laws.specs.walrus_body_steps.walrus_body_nesting.Stands.{Handles, HandlesAll};
@@ -188,6 +188,30 @@ fn untold(alloc: Global, count: usize) -> Result<Vec<Option<Handler>>, AllocErro
     Ok(told)
 }
 
+// Whether an instruction is a legacy `try`.
+fn is_try(instr: &Instr) -> bool
+    ensures { result ≡ is_try instr.now }
+{
+    match instr {
+        Instr::Try { .. } => true,
+        _ => false,
+    }
+}
+
+// Whether one of these is.
+fn has_try(instrs: &[(Instr, InstrLocId)]) -> bool
+    ensures { result ≡ has_try instrs.now }
+{
+    instrs.iter().any(|entry| is_try(&entry.0))
+}
+
+// Whether one of these sequences has one.
+fn have_try(seqs: &[InstrSeq]) -> bool
+    ensures { result ≡ have_try seqs.now }
+{
+    seqs.iter().any(|seq| has_try(seq.instrs.as_slice()))
+}
+
 /// By sequence of a body that forms a tree, the handler that it is, if it is one. Takes time in proportion to the sequences and to the
 /// instructions of the tree.
 ///
@@ -209,10 +233,14 @@ pub fn handlers<E: BodyEnv>(
     if count > u32::MAX as usize {
         return Err(AllocError);
     }
+    let told = untold(alloc, count)?;
+    if !have_try(body.seqs()) {
+        return Ok(told);
+    }
     let mut gatherer = Gatherer {
         env,
         seqs: body.seqs(),
-        told: untold(alloc, count)?,
+        told,
     };
     let start = body.func_body_id();
     dfs_in_order(alloc, &mut gatherer, body, start)?;

@@ -38,7 +38,7 @@ pub record Module : Type 0 where
   pub name : Option (String Global)
 
 -- what words see of this module
-abbrev pub parts : {X : Type 0} {F : X → Type 0} → Whole X F → Module
+abbrev pub parts : {B : Type 0} → Whole B → Module
 parts m = record {
   alloc = m.alloc;
   config = m.config;

@@ -13,7 +13,7 @@ use walrus_arena::{FunctionId, GlobalId, ImportId, MemoryId, TableId, TagId, Typ
 use walrus_collections::module_items::ImportKind;
 use walrus_forms::{RefType, ValType};
 
-impl Module {
+impl<B> Module<B> {
     /// Adds a function of this type and the import that brings it, and gives the ids of both.
     ///
     /// # Errors

@@ -15,12 +15,12 @@ use walrus_config::ModuleConfig;
 use walrus_customs::ModuleProducers;
 use walrus_errors::{ModuleError, Result};
 use walrus_items::ModuleLocals;
-use walrus_sections::ModuleCustomSections;
+use walrus_sections::{CustomSection, Sections};
 use walrus_types::ModuleTypes;
 
-/// A WebAssembly module (Core Specification, modules), whose items are named by ids.
+/// A WebAssembly module (Core Specification, modules), whose items are named by ids. Its custom sections are raw ones and boxes of `B`.
 #[derive(Drop)]
-pub struct Module {
+pub struct Module<B = Box<dyn CustomSection>> {
     pub(crate) alloc: Global,
     config: ModuleConfig,
     pub imports: ModuleImports,
@@ -37,12 +37,12 @@ pub struct Module {
     /// The function that is called at instantiation, if one is.
     pub start: Option<FunctionId>,
     pub producers: ModuleProducers,
-    pub customs: ModuleCustomSections,
+    pub customs: Sections<B>,
     /// The module's name.
     pub name: Option<String>,
 }
 
-impl Module {
+impl<B> Module<B> {
     /// A module without items, which is written as the flags say. Takes no memory.
     pub fn with_config(alloc: Global, config: ModuleConfig) -> Self
         ensures config { result.config ≡ config }
@@ -78,7 +78,7 @@ impl Module {
             elements: ModuleElements::new(alloc),
             start: None,
             producers: ModuleProducers::new(alloc),
-            customs: ModuleCustomSections::new(alloc),
+            customs: Sections::new(alloc),
             name: None,
         }
     }

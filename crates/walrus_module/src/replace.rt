@@ -33,7 +33,7 @@ fn give_export(exports: &mut ModuleExports, export: ExportId, item: ExportItem)
     exports.get_mut(export).item = item;
 }
 
-impl Module {
+impl<B> Module<B> {
     /// Whether the function is live, and its type a live function type.
     pub fn has_live_type(&self, function: FunctionId) -> bool
         ensures { IsTrue result ↔ IsTyped self.now.funcs self.now.types function }

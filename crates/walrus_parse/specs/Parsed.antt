@@ -19,7 +19,8 @@ use Rattle.walrus_item_names.specs.Gives.{GivesNames}
 use Rattle.walrus_item_names.specs.Holder.{Holder, holder}
 use Rattle.walrus_module.specs.walrus_types.walrus_items.declared.local.Local.{Local}
 use Rattle.walrus_file_bodies.specs.walrus_items_into.Filled.{IsFilledFrom}
-use Rattle.walrus_file_bodies.specs.walrus_items_into.Spaces.{Spaces}
+use Rattle.walrus_file_bodies.specs.walrus_items_into.Spaces.{Spaces, spaces}
+use Rattle.walrus_module.specs.declared.module.Module.{Module as Whole}
 use Rattle.walrus_file_bodies.specs.walrus_items_into.walrus_tables_into.walrus_sections_into.walrus_known_sections.State.{state_of}
 use Rattle.walrus_file_bodies.specs.walrus_items_into.walrus_tables_into.walrus_sections_into.walrus_known_sections.declared.sections.Sections.{Sections}
 use Rattle.walrus_file_bodies.specs.walrus_module_bodies.Steps.{State, Steps, state}
@@ -81,3 +82,8 @@ module _ {B : Type 0} where
     pub customs : m.customs.slots ≡ []
     pub no_locals : locals ≡ []
     pub unnamed : own ≡ None
+
+  -- this module has it of the file, and these flags
+  abbrev pub IsRead : ModuleConfig → List ℕ → Whole B → Type 0
+  IsRead config bytes m = (m.config ≡ config)
+      × IsModuleOf config bytes m.start m.producers (spaces m.types m.imports m.funcs m.tables m.memories m.tags m.globals m.exports m.elements m.data_segments m.customs) m.locals m.name

@@ -4,7 +4,9 @@
 mod code;
 mod file;
 mod names;
+mod parse;
 mod refusal;
 mod whole;
 
-pub use whole::parse;
+pub use parse::{FromBuffer, Parse};
+pub use whole::parse_into;

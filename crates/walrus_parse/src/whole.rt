@@ -94,13 +94,13 @@ fn read_module<B: Drop>(
 /// Reads the bytes of a module (Core Specification, binary format: modules) into an empty one, with the features that its flags ask for,
 /// or refuses them. All items of the file are in it, under ids that are their numbers, but for types, of which equal ones merge; each
 /// body is in normal form, with the types that handlers of a legacy `try` need; names and producers are those of the file, with the
-/// entry of this tool. A call that takes an empty module and fills it hides nothing of what boxes of custom sections do.
+/// entry of this tool. The flags are those of the module.
 ///
 /// # Errors
 ///
 /// `InputTooLong` past 2^30 bytes; else the first fault of the file, at its place; want of memory, in place of what would come later.
 /// The module is then of no use.
-pub fn parse(alloc: Global, wasm: &[u8], module: &mut Module) -> Result<()>
+pub fn parse_into<B: Drop>(alloc: Global, wasm: &[u8], module: &mut Module<B>) -> Result<()>
     requires { IsEmpty (spaces module.old.types module.old.imports module.old.funcs module.old.tables module.old.memories module.old.tags module.old.globals module.old.exports module.old.elements module.old.data_segments module.old.customs) module.old.locals module.old.name }
     ensures read { OnOk result (IsModuleOf module.old.config wasm.now module.new.start module.new.producers (spaces module.new.types module.new.imports module.new.funcs module.new.tables module.new.memories module.new.tags module.new.globals module.new.exports module.new.elements module.new.data_segments module.new.customs) module.new.locals module.new.name) }
     ensures refused { IfErr result (λ error. IsRefusal (read_features module.old.config) wasm.now error) }

@@ -22,7 +22,7 @@ use walrus_used::module::Module;
 use wasm_formats::Space;
 
 // Deletes the items that aren't kept, and each import whose item isn't. Takes no memory.
-fn drop_unkept(input: &mut Module, kept: &KeptItems)
+fn drop_unkept<B>(input: &mut Module<B>, kept: &KeptItems)
     requires { AreClosed (λ id. IsHeld kept.now (item spaces.Type id)) input.old.types }
     ensures part { IsPart (IsHeld kept.now) (parts input.old) (parts input.new) }
     ensures customs { input.new.customs ≡ input.old.customs }
@@ -48,12 +48,12 @@ fn drop_unkept(input: &mut Module, kept: &KeptItems)
 /// a function has no body or not its arguments; `NoTree` where a body is no tree; `DeadReference` where an item doesn't
 /// live, or a type names one past its own group; `Unsupported`, at the place 0, where a global is shared or a heap type is exact.
 /// Want of memory. The module stays as it was.
-pub fn run(alloc: Global, input: &mut Module) -> Result<(), ModuleError>
-    ensures kept { OnOk result (WithPushed (pushed ⟦<Box<dyn CustomSection> as CustomSection>⟧.gc_roots (entries input.old.customs)) (λ items. IsKeptPart (parts input.old) items (parts input.new))) }
-    ensures sound { OnOk result (WithPushed (pushed ⟦<Box<dyn CustomSection> as CustomSection>⟧.gc_roots (entries input.old.customs)) (IsSound (parts input.old))) }
+pub fn run<B: CustomSection>(alloc: Global, input: &mut Module<B>) -> Result<(), ModuleError>
+    ensures kept { OnOk result (WithPushed (pushed B.gc_roots (entries input.old.customs)) (λ items. IsKeptPart (parts input.old) items (parts input.new))) }
+    ensures sound { OnOk result (WithPushed (pushed B.gc_roots (entries input.old.customs)) (IsSound (parts input.old))) }
     ensures customs { input.new.customs ≡ input.old.customs }
     ensures unchanged { OnErr result (input.new ≡ input.old) }
-    ensures refused { IfErr result (IsRefusedAsked (parts input.old) (pushed ⟦<Box<dyn CustomSection> as CustomSection>⟧.gc_roots (entries input.old.customs))) }
+    ensures refused { IfErr result (IsRefusedAsked (parts input.old) (pushed B.gc_roots (entries input.old.customs))) }
 {
     let roots = input.customs.gc_roots(alloc)?;
     run_from_roots(alloc, input, roots.items())
@@ -64,7 +64,11 @@ pub fn run(alloc: Global, input: &mut Module) -> Result<(), ModuleError>
 /// # Errors
 ///
 /// Those of `run`.
-pub fn run_from_roots(alloc: Global, input: &mut Module, pushed: &[Item]) -> Result<(), ModuleError>
+pub fn run_from_roots<B>(
+    alloc: Global,
+    input: &mut Module<B>,
+    pushed: &[Item],
+) -> Result<(), ModuleError>
     ensures kept { OnOk result (IsKeptPart (parts input.old) pushed.now (parts input.new)) }
     ensures sound { OnOk result (IsSound (parts input.old) pushed.now) }
     ensures customs { input.new.customs ≡ input.old.customs }

@@ -61,7 +61,7 @@ fn has_any(marks: &Marks, space: Space, count: usize) -> bool
 }
 
 // The live memory of the lowest id.
-fn first_memory(input: &Module) -> Option<MemoryId>
+fn first_memory<B>(input: &Module<B>) -> Option<MemoryId>
     ensures { MatchOption result ((id : ℕ) → IsLive input.now.memories id → ⊥) (IsFirstMemory (parts input.now)) }
 {
     for index in 0..input.memories.next_id().index() {
@@ -74,7 +74,7 @@ fn first_memory(input: &Module) -> Option<MemoryId>
 }
 
 // The first memory, where data was met and no memory.
-fn spared_memory(input: &Module, marks: &Marks) -> Option<MemoryId>
+fn spared_memory<B>(input: &Module<B>, marks: &Marks) -> Option<MemoryId>
     requires { (x : AnyItem) → IsMet marks.now x → Lives (parts input.now) x }
     ensures { MatchOption result ((memory : ℕ) → SparesMemory (parts input.now) marks.now memory → ⊥) (SparesMemory (parts input.now) marks.now) }
 {
@@ -94,9 +94,9 @@ fn spared_memory(input: &Module, marks: &Marks) -> Option<MemoryId>
 /// # Errors
 ///
 /// What is wrong with what is reached. Want of memory.
-pub(crate) fn kept_items(
+pub(crate) fn kept_items<B>(
     alloc: Global,
-    input: &Module,
+    input: &Module<B>,
     pushed: &[Item],
 ) -> Result<KeptItems, ModuleError>
     ensures kept { IfOk result (λ kept. (x : AnyItem) → IsHeld kept x ↔ Kept (parts input.now) pushed.now x) }

@@ -66,7 +66,7 @@ fn set_of<S>(
 }
 
 // The kept ids of each space.
-fn sets_of(alloc: Global, input: &Module, kept: &KeptItems) -> Result<Used, AllocError>
+fn sets_of<B>(alloc: Global, input: &Module<B>, kept: &KeptItems) -> Result<Used, AllocError>
     ensures { IfOk result (HasJust (λ x. FitsIn (counts_of (parts input.now)) x × IsHeld kept.now x)) }
 {
     let counts = id_counts(input);
@@ -92,10 +92,10 @@ impl Used {
     /// other, or a function has no body or not its arguments; `NoTree` where a body is no tree; `DeadReference` where
     /// an item doesn't live, or a type names one past its own group; `Unsupported`, at the place 0, where a global is shared or
     /// a heap type is exact. Want of memory.
-    pub fn new(alloc: Global, input: &Module) -> Result<Self, ModuleError>
-        ensures kept { IfOk result (λ used. WithPushed (pushed ⟦<Box<dyn CustomSection> as CustomSection>⟧.gc_roots (entries input.now.customs)) (λ items. AreKept (parts input.now) items used)) }
-        ensures sound { OnOk result (WithPushed (pushed ⟦<Box<dyn CustomSection> as CustomSection>⟧.gc_roots (entries input.now.customs)) (IsSound (parts input.now))) }
-        ensures refused { IfErr result (IsRefusedAsked (parts input.now) (pushed ⟦<Box<dyn CustomSection> as CustomSection>⟧.gc_roots (entries input.now.customs))) }
+    pub fn new<B: CustomSection>(alloc: Global, input: &Module<B>) -> Result<Self, ModuleError>
+        ensures kept { IfOk result (λ used. WithPushed (pushed B.gc_roots (entries input.now.customs)) (λ items. AreKept (parts input.now) items used)) }
+        ensures sound { OnOk result (WithPushed (pushed B.gc_roots (entries input.now.customs)) (IsSound (parts input.now))) }
+        ensures refused { IfErr result (IsRefusedAsked (parts input.now) (pushed B.gc_roots (entries input.now.customs))) }
     {
         let roots = input.customs.gc_roots(alloc)?;
         Used::from_roots(alloc, input, roots.items())
@@ -106,7 +106,11 @@ impl Used {
     /// # Errors
     ///
     /// Those of `new`.
-    pub fn from_roots(alloc: Global, input: &Module, pushed: &[Item]) -> Result<Self, ModuleError>
+    pub fn from_roots<B>(
+        alloc: Global,
+        input: &Module<B>,
+        pushed: &[Item],
+    ) -> Result<Self, ModuleError>
         ensures kept { IfOk result (AreKept (parts input.now) pushed.now) }
         ensures sound { OnOk result (IsSound (parts input.now) pushed.now) }
         ensures refused { IfErr result (IsRefused (parts input.now) pushed.now) }

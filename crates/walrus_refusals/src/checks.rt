@@ -29,7 +29,7 @@ pub(crate) trait Check {
 }
 
 /// Two of them, of which an item is asked both while it is at hand.
-#[derive(Clone, Copy)]
+#[derive(Drop)]
 pub(crate) struct Both<A, B> {
     pub(crate) first: A,
     pub(crate) second: B,
@@ -102,8 +102,8 @@ fn space_of(number: usize) -> Space
 /// # Errors
 ///
 /// Want of memory.
-pub(crate) fn failing_space<C: Check>(
-    input: &Module,
+pub(crate) fn failing_space<B, C: Check>(
+    input: &Module<B>,
     marks: &Marks,
     check: &C,
 ) -> Result<Option<Space>, AllocError>

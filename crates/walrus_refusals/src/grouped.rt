@@ -80,13 +80,13 @@ fn names_no_later(alloc: Global, types: &ModuleTypes, id: TypeId) -> Result<bool
 }
 
 /// Whether a type names none past its own group.
-#[derive(Clone, Copy)]
-pub(crate) struct Grouped<'a> {
+#[derive(Drop)]
+pub(crate) struct Grouped<'a, B> {
     pub(crate) alloc: Global,
-    pub(crate) input: &'a Module,
+    pub(crate) input: &'a Module<B>,
 }
 
-impl<'a> Check for Grouped<'a> {
+impl<'a, B> Check for Grouped<'a, B> {
     ghost holds = { λ s x. StaysInGroup (parts s.input.now) x };
 
     fn check(&self, item: Item) -> Result<bool, AllocError>

@@ -112,7 +112,7 @@ fn tag_import(tags: &ModuleTags, id: TagId) -> Option<ImportId>
 }
 
 // The import that brings an item, as it says, if it lives.
-fn import_of(input: &Module, x: Item) -> Option<ImportId>
+fn import_of<B>(input: &Module<B>, x: Item) -> Option<ImportId>
     ensures { result ≡ import_in (parts input.now) x.space x.id }
 {
     match x.space {
@@ -126,7 +126,7 @@ fn import_of(input: &Module, x: Item) -> Option<ImportId>
 }
 
 // Whether a function, if it lives, is imported or has a body of its arguments.
-fn is_whole(alloc: Global, input: &Module, id: FunctionId) -> Result<bool, AllocError>
+fn is_whole<B>(alloc: Global, input: &Module<B>, id: FunctionId) -> Result<bool, AllocError>
     ensures { IfOk result (λ ok. Decides ok (MatchOption (item_at input.now.funcs id) (Unit {0}) (λ (f : AnyFunction). HasBody input.now.types f.kind))) }
 {
     if !input.funcs.contains(id) {
@@ -140,13 +140,13 @@ fn is_whole(alloc: Global, input: &Module, id: FunctionId) -> Result<bool, Alloc
 }
 
 /// Whether the import that an item names brings it, and a function is imported or has a body.
-#[derive(Clone, Copy)]
-pub(crate) struct OwnLinks<'a> {
+#[derive(Drop)]
+pub(crate) struct OwnLinks<'a, B> {
     pub(crate) alloc: Global,
-    pub(crate) input: &'a Module,
+    pub(crate) input: &'a Module<B>,
 }
 
-impl<'a> Check for OwnLinks<'a> {
+impl<'a, B> Check for OwnLinks<'a, B> {
     ghost holds = { λ s x. IsOwnLinked (parts s.input.now) x };
 
     fn check(&self, item: Item) -> Result<bool, AllocError>
@@ -164,7 +164,7 @@ impl<'a> Check for OwnLinks<'a> {
 }
 
 // Whether the item that the import brings names it back, where it was met.
-fn claims_truly(input: &Module, marks: &Marks, id: ImportId, import: &Import) -> bool
+fn claims_truly<B>(input: &Module<B>, marks: &Marks, id: ImportId, import: &Import) -> bool
     ensures { Decides result (ClaimsTruly (parts input.now) marks.now id import.now) }
 {
     let x = brought(import.kind);
@@ -178,7 +178,7 @@ fn claims_truly(input: &Module, marks: &Marks, id: ImportId, import: &Import) ->
 }
 
 /// Whether all imports of what was met are named back.
-pub(crate) fn all_claim_truly(input: &Module, marks: &Marks) -> bool
+pub(crate) fn all_claim_truly<B>(input: &Module<B>, marks: &Marks) -> bool
     ensures { Decides result (AllClaimTruly (parts input.now) marks.now) }
 {
     for index in 0..input.imports.next_id().index() {

@@ -20,7 +20,7 @@ fn is_written(types: &ModuleTypes, id: TypeId) -> bool
 }
 
 // Whether the item lives.
-fn lives(input: &Module, item: Item) -> bool
+fn lives<B>(input: &Module<B>, item: Item) -> bool
     ensures { Decides result (Lives (parts input.now) item) }
 {
     match item.space {
@@ -38,12 +38,12 @@ fn lives(input: &Module, item: Item) -> bool
 }
 
 /// Whether an item lives.
-#[derive(Clone, Copy)]
-pub(crate) struct Living<'a> {
-    pub(crate) input: &'a Module,
+#[derive(Drop)]
+pub(crate) struct Living<'a, B> {
+    pub(crate) input: &'a Module<B>,
 }
 
-impl<'a> Check for Living<'a> {
+impl<'a, B> Check for Living<'a, B> {
     ghost holds = { λ s x. Lives (parts s.input.now) x };
 
     fn check(&self, item: Item) -> Result<bool, AllocError>

@@ -27,7 +27,11 @@ use walrus_used::reach_items;
 use wasm_formats::Space;
 
 // Whether it holds of all that was met but locals.
-fn holds_of_all<C: Check>(input: &Module, marks: &Marks, check: &C) -> Result<bool, AllocError>
+fn holds_of_all<B, C: Check>(
+    input: &Module<B>,
+    marks: &Marks,
+    check: &C,
+) -> Result<bool, AllocError>
     requires { (x : AnyItem) → IsMet marks.now x → FitsIn (counts_of (parts input.now)) x }
     ensures { IfOk result (λ ok. Decides ok (HoldsMet (C.holds check.now) marks.now)) }
 {
@@ -38,7 +42,7 @@ fn holds_of_all<C: Check>(input: &Module, marks: &Marks, check: &C) -> Result<bo
 }
 
 // Whether what was met and imports name each other, and functions have bodies.
-fn are_linked(alloc: Global, input: &Module, marks: &Marks) -> Result<bool, AllocError>
+fn are_linked<B>(alloc: Global, input: &Module<B>, marks: &Marks) -> Result<bool, AllocError>
     requires { (x : AnyItem) → IsMet marks.now x → FitsIn (counts_of (parts input.now)) x }
     ensures { IfOk result (λ ok. Decides ok (HoldsMet (IsOwnLinked (parts input.now)) marks.now × AllClaimTruly (parts input.now) marks.now)) }
 {
@@ -49,7 +53,11 @@ fn are_linked(alloc: Global, input: &Module, marks: &Marks) -> Result<bool, Allo
 }
 
 // The space of an item that was met and doesn't live, or of types where one names another past its own group.
-fn dead_space(alloc: Global, input: &Module, marks: &Marks) -> Result<Option<Space>, AllocError>
+fn dead_space<B>(
+    alloc: Global,
+    input: &Module<B>,
+    marks: &Marks,
+) -> Result<Option<Space>, AllocError>
     requires { (x : AnyItem) → IsMet marks.now x → FitsIn (counts_of (parts input.now)) x }
     ensures { IfOk result (λ answer. MatchOption answer ((HoldsMet (Stands (parts input.now)) marks.now) × (marks.now.missing ≡ None)) (FailsIn (Stands (parts input.now)) marks.now)) }
 {
@@ -63,7 +71,7 @@ fn dead_space(alloc: Global, input: &Module, marks: &Marks) -> Result<Option<Spa
 }
 
 // Whether no heap type in what was met is exact.
-fn are_inexact(alloc: Global, input: &Module, marks: &Marks) -> Result<bool, AllocError>
+fn are_inexact<B>(alloc: Global, input: &Module<B>, marks: &Marks) -> Result<bool, AllocError>
     requires { (x : AnyItem) → IsMet marks.now x → FitsIn (counts_of (parts input.now)) x }
     ensures { IfOk result (λ ok. Decides ok (AreInexact (parts input.now) marks.now)) }
 {
@@ -74,7 +82,7 @@ fn are_inexact(alloc: Global, input: &Module, marks: &Marks) -> Result<bool, All
 }
 
 // A form in what was met that stands in no file.
-fn form_of(alloc: Global, input: &Module, marks: &Marks) -> Result<Option<Form>, AllocError>
+fn form_of<B>(alloc: Global, input: &Module<B>, marks: &Marks) -> Result<Option<Form>, AllocError>
     requires { (x : AnyItem) → IsMet marks.now x → FitsIn (counts_of (parts input.now)) x }
     ensures { IfOk result (λ answer. MatchOption answer ((HoldsMet (IsUnshared (parts input.now)) marks.now) × AreInexact (parts input.now) marks.now) (HasMetForm (parts input.now) marks.now)) }
 {
@@ -88,7 +96,7 @@ fn form_of(alloc: Global, input: &Module, marks: &Marks) -> Result<Option<Form>,
 }
 
 // Whether nothing is wrong with what was met, told in one pass: an item is asked all while it is at hand.
-fn are_well(alloc: Global, input: &Module, marks: &Marks) -> Result<bool, AllocError>
+fn are_well<B>(alloc: Global, input: &Module<B>, marks: &Marks) -> Result<bool, AllocError>
     requires { (x : AnyItem) → IsMet marks.now x → FitsIn (counts_of (parts input.now)) x }
     ensures { IfOk result (λ ok. OnTrue ok (AreWell (parts input.now) marks.now)) }
 {
@@ -132,7 +140,11 @@ fn are_well(alloc: Global, input: &Module, marks: &Marks) -> Result<bool, AllocE
 /// has no body or not its arguments; `NoTree` where a body is no tree; `DeadReference` where an item doesn't live, or
 /// a type names one past its own group; `Unsupported` where a global is shared or a heap type is exact, at the place 0.
 /// Want of memory.
-pub fn reach_sound(alloc: Global, input: &Module, pushed: &[Item]) -> Result<Marks, ModuleError>
+pub fn reach_sound<B>(
+    alloc: Global,
+    input: &Module<B>,
+    pushed: &[Item],
+) -> Result<Marks, ModuleError>
     ensures reached { IfOk result (λ marks. (x : AnyItem) → IsMet marks x ↔ IsReached (parts input.now) pushed.now x) }
     ensures sound { OnOk result (IsSound (parts input.now) pushed.now) }
     ensures refused { IfErr result (IsRefused (parts input.now) pushed.now) }

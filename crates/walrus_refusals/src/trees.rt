@@ -40,13 +40,13 @@ fn has_tree_at(
 }
 
 /// Whether the body of a function is a tree.
-#[derive(Clone, Copy)]
-pub(crate) struct Trees<'a> {
+#[derive(Drop)]
+pub(crate) struct Trees<'a, B> {
     pub(crate) alloc: Global,
-    pub(crate) input: &'a Module,
+    pub(crate) input: &'a Module<B>,
 }
 
-impl<'a> Check for Trees<'a> {
+impl<'a, B> Check for Trees<'a, B> {
     ghost holds = { λ s x. FormsTree (parts s.input.now) x };
 
     fn check(&self, item: Item) -> Result<bool, AllocError>

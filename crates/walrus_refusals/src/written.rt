@@ -45,12 +45,12 @@ fn is_unshared(globals: &ModuleGlobals, id: GlobalId) -> bool
 }
 
 /// Whether a global isn't shared.
-#[derive(Clone, Copy)]
-pub(crate) struct Unshared<'a> {
-    pub(crate) input: &'a Module,
+#[derive(Drop)]
+pub(crate) struct Unshared<'a, B> {
+    pub(crate) input: &'a Module<B>,
 }
 
-impl<'a> Check for Unshared<'a> {
+impl<'a, B> Check for Unshared<'a, B> {
     ghost holds = { λ s x. IsUnshared (parts s.input.now) x };
 
     fn check(&self, item: Item) -> Result<bool, AllocError>
@@ -162,13 +162,13 @@ fn local_has_none(locals: &[Local], index: usize) -> bool
 }
 
 /// Whether no heap type in an item is exact.
-#[derive(Clone, Copy)]
-pub(crate) struct Inexact<'a> {
+#[derive(Drop)]
+pub(crate) struct Inexact<'a, B> {
     pub(crate) alloc: Global,
-    pub(crate) input: &'a Module,
+    pub(crate) input: &'a Module<B>,
 }
 
-impl<'a> Check for Inexact<'a> {
+impl<'a, B> Check for Inexact<'a, B> {
     ghost holds = { λ s x. HasNoExact (parts s.input.now) x };
 
     fn check(&self, item: Item) -> Result<bool, AllocError>

@@ -1,5 +1,5 @@
 //! The items that custom sections keep.
-ghost use Rattle.std.specs.Prelude.{◌≡◌, [], ◌∷◌, ◌++◌, OnOk, OnErr};
+ghost use Rattle.std.specs.Prelude.{◌≡◌, [], ◌∷◌, ◌++◌, IfOk, OnOk, OnErr};
 ghost use Rattle.wasm_formats.specs.declared.fault.Space.TheVariants as spaces;
 ghost use Rattle.walrus_roots.specs.Items.{item};
 
@@ -32,6 +32,19 @@ impl Roots {
         Roots {
             items: Vec::new(alloc),
         }
+    }
+
+    /// Equal ones.
+    ///
+    /// # Errors
+    ///
+    /// Want of memory.
+    pub fn clone(&self) -> Result<Self, AllocError>
+        ensures { IfOk result (λ copy. copy ≡ self.now) }
+    {
+        Ok(Roots {
+            items: Vec::from_slice(*self.items.allocator(), self.items.as_slice())?,
+        })
     }
 
     /// The items, in the order in which they were added.

@@ -1,4 +1,7 @@
 //! Where a module's code was written.
+ghost use Rattle.std.specs.Prelude.{◌≡◌, IfOk};
+
+use std::alloc::AllocError;
 use std::ops::Range;
 use walrus_arena::FunctionId;
 use walrus_instr::InstrLocId;
@@ -12,4 +15,23 @@ pub struct CodeTransform {
     pub code_section_start: usize,
     /// Of each local function, by rising id, the offsets of its body, behind the body's size.
     pub function_ranges: Vec<(FunctionId, Range<usize>)>,
+}
+
+impl CodeTransform {
+    /// An equal one.
+    ///
+    /// # Errors
+    ///
+    /// Want of memory.
+    pub fn clone(&self) -> Result<Self, AllocError>
+        ensures map { IfOk result (λ copy. copy.instruction_map.items ≡ self.now.instruction_map.items) }
+        ensures start { IfOk result (λ copy. copy.code_section_start ≡ self.now.code_section_start) }
+        ensures ranges { IfOk result (λ copy. copy.function_ranges.items ≡ self.now.function_ranges.items) }
+    {
+        Ok(CodeTransform {
+            instruction_map: self.instruction_map.clone()?,
+            code_section_start: self.code_section_start,
+            function_ranges: self.function_ranges.clone()?,
+        })
+    }
 }

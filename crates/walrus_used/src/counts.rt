@@ -55,7 +55,7 @@ pub fn type_count(types: &ModuleTypes) -> usize
 }
 
 /// How many ids were given out in each space, by the number of the space; of types, one more than the highest live one.
-pub fn id_counts(input: &Module) -> [usize; 10]
+pub fn id_counts<B>(input: &Module<B>) -> [usize; 10]
     ensures counts { result ≡ counts_of (parts input.now) }
     ensures bounded { (space : ℕ) → space < 8 → slice_index_or (counts_of (parts input.now)) space 0 ≤ 2 ^ 32 }
 {
@@ -79,7 +79,11 @@ pub fn id_counts(input: &Module) -> [usize; 10]
 /// # Errors
 ///
 /// Want of memory.
-pub fn reach_items(alloc: Global, input: &Module, pushed: &[Item]) -> Result<Marks, AllocError>
+pub fn reach_items<B>(
+    alloc: Global,
+    input: &Module<B>,
+    pushed: &[Item],
+) -> Result<Marks, AllocError>
     ensures { IfOk result (λ marks. IsReached (counts_of (parts input.now)) (Root (parts input.now) pushed.now) (Refers (parts input.now)) marks) }
 {
     walrus_types::laws::types_are_grouped(&input.types);

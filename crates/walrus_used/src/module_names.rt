@@ -73,10 +73,10 @@ fn meet_type(
 }
 
 // Meets the types that a type names, and its explicit group.
-fn meet_type_at(
+fn meet_type_at<B>(
     alloc: Global,
     marks: &mut Marks,
-    input: &Module,
+    input: &Module<B>,
     id: TypeId,
 ) -> Result<(), AllocError>
     ensures { OnOk result (Meets (LooksIn (parts input.now) [] spaces.Type id) marks.old marks.new) }
@@ -95,10 +95,10 @@ fn meet_kind(alloc: Global, marks: &mut Marks, kind: &FunctionKind) -> Result<()
     }
 }
 
-fn meet_function(
+fn meet_function<B>(
     alloc: Global,
     marks: &mut Marks,
-    input: &Module,
+    input: &Module<B>,
     id: FunctionId,
 ) -> Result<(), AllocError>
     ensures { OnOk result (Meets (LooksIn (parts input.now) [] spaces.Function id) marks.old marks.new) }
@@ -119,7 +119,7 @@ fn meet_active(marks: &mut Marks, active: &[Vec<Item>], table: usize)
     }
 }
 
-fn meet_table_at(marks: &mut Marks, input: &Module, active: &[Vec<Item>], id: TableId)
+fn meet_table_at<B>(marks: &mut Marks, input: &Module<B>, active: &[Vec<Item>], id: TableId)
     ensures { marks.new ≡ fold meet marks.old (named_by (table_looks (parts input.now) (lists_of active.now) id) (item_at input.now.tables id)) }
 {
     if input.tables.contains(id) {
@@ -130,7 +130,7 @@ fn meet_table_at(marks: &mut Marks, input: &Module, active: &[Vec<Item>], id: Ta
     }
 }
 
-fn meet_memory_at(marks: &mut Marks, input: &Module, id: MemoryId)
+fn meet_memory_at<B>(marks: &mut Marks, input: &Module<B>, id: MemoryId)
     ensures { marks.new ≡ fold meet marks.old (named_by (memory_looks (parts input.now)) (item_at input.now.memories id)) }
 {
     if input.memories.contains(id) {
@@ -180,10 +180,10 @@ fn meet_local_at(marks: &mut Marks, locals: &ModuleLocals, id: LocalId)
 }
 
 /// A module, its roots and references.
-#[derive(Clone, Copy)]
-pub(crate) struct ModuleNames<'a> {
+#[derive(Drop)]
+pub(crate) struct ModuleNames<'a, B> {
     pub(crate) alloc: Global,
-    pub(crate) input: &'a Module,
+    pub(crate) input: &'a Module<B>,
     // The element segments that are roots.
     pub(crate) rooted: &'a [Item],
     // What custom sections push.
@@ -192,7 +192,7 @@ pub(crate) struct ModuleNames<'a> {
     pub(crate) active: &'a [Vec<Item>],
 }
 
-impl<'a> Names for ModuleNames<'a> {
+impl<'a, B> Names for ModuleNames<'a, B> {
     ghost is_root = { λ s x. RootWith (parts s.input.now) s.rooted.now s.pushed.now x };
 
     ghost refers = { λ s x y. Looks (parts s.input.now) (lists_of s.active.now) x y };

@@ -134,7 +134,7 @@ fn meet_start(marks: &mut Marks, start: Option<FunctionId>)
 }
 
 /// Meets the roots, where custom sections push these and these element segments are roots.
-pub(crate) fn meet_roots(marks: &mut Marks, input: &Module, rooted: &[Item], pushed: &[Item])
+pub(crate) fn meet_roots<B>(marks: &mut Marks, input: &Module<B>, rooted: &[Item], pushed: &[Item])
     ensures { Meets (RootWith (parts input.now) rooted.now pushed.now) marks.old marks.new }
 {
     meet_each(&input.exports, &Exported, marks);

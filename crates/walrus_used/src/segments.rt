@@ -70,7 +70,7 @@ pub(crate) struct Segments {
 /// # Errors
 ///
 /// Want of memory.
-pub(crate) fn element_segments(alloc: Global, input: &Module) -> Result<Segments, AllocError>
+pub(crate) fn element_segments<B>(alloc: Global, input: &Module<B>) -> Result<Segments, AllocError>
     ensures active { IfOk result (λ s. AreActive (parts input.now) (lists_of s.active.items)) }
     ensures rooted { IfOk result (λ s. AreRooted (parts input.now) s.rooted.items) }
 {

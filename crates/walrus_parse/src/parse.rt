@@ -1,0 +1,76 @@
+//! Reading a module by its flags, or by its type.
+
+ghost use Rattle.std.specs.Prelude.{ℕ, List, IfErr, IfOk};
+ghost use Rattle.walrus_config.specs.Config.{default_config};
+ghost use Rattle.walrus_config.specs.declared.config.ModuleConfig.{ModuleConfig as Flags};
+ghost use Rattle.walrus_parse.specs.Parsed.{IsRead, read_features};
+ghost use Rattle.walrus_parse.specs.Refusals.{IsRefusal};
+
+use crate::whole::parse_into;
+use std::alloc::Global;
+use walrus_config::ModuleConfig;
+use walrus_errors::Result;
+use walrus_module::Module;
+
+/// Reading with flags.
+pub trait Parse {
+    // the flags
+    ghost flags: { Self → Flags };
+
+    /// The module that these bytes spell (Core Specification, binary format: modules), with the features that the flags ask for. All
+    /// items of the file are in it, under ids that are their numbers, but for types, of which equal ones merge; each body is in normal
+    /// form, with the types that handlers of a legacy `try` need; names and producers are those of the file, with the entry of this tool.
+    ///
+    /// # Errors
+    ///
+    /// `InputTooLong` past 2^30 bytes; else the first fault of the file, at its place; want of memory, in place of what would come later.
+    fn parse<B: Drop>(&self, alloc: Global, wasm: &[u8]) -> Result<Module<B>>
+        ensures read { IfOk result (λ m. IsRead (flags self.now) wasm.now m) }
+        ensures refused { IfErr result (λ error. IsRefusal (read_features (flags self.now)) wasm.now error) };
+}
+
+impl Parse for ModuleConfig {
+    ghost flags = { λ config. config };
+
+    fn parse<B: Drop>(&self, alloc: Global, wasm: &[u8]) -> Result<Module<B>> {
+        let mut module = Module::with_config(alloc, *self);
+        parse_into(alloc, wasm, &mut module)?;
+        Ok(module)
+    }
+}
+
+/// Modules that are read from bytes.
+pub trait FromBuffer: Sized {
+    // the module has this of the file, read under these flags
+    ghost is_read: { Flags → List ℕ → Self → Type 0 };
+
+    /// The module that these bytes spell, read under the default flags, as [`Parse::parse`] reads it.
+    ///
+    /// # Errors
+    ///
+    /// Those of [`Parse::parse`].
+    fn from_buffer(alloc: Global, wasm: &[u8]) -> Result<Self>
+        ensures read { IfOk result (λ m. is_read default_config wasm.now m) }
+        ensures refused { IfErr result (λ error. IsRefusal (read_features default_config) wasm.now error) };
+
+    /// The same under these flags.
+    ///
+    /// # Errors
+    ///
+    /// Those of [`Parse::parse`].
+    fn from_buffer_with_config(alloc: Global, wasm: &[u8], config: &ModuleConfig) -> Result<Self>
+        ensures read { IfOk result (λ m. is_read config.now wasm.now m) }
+        ensures refused { IfErr result (λ error. IsRefusal (read_features config.now) wasm.now error) };
+}
+
+impl<B: Drop> FromBuffer for Module<B> {
+    ghost is_read = { IsRead };
+
+    fn from_buffer(alloc: Global, wasm: &[u8]) -> Result<Self> {
+        ModuleConfig::new().parse(alloc, wasm)
+    }
+
+    fn from_buffer_with_config(alloc: Global, wasm: &[u8], config: &ModuleConfig) -> Result<Self> {
+        config.parse(alloc, wasm)
+    }
+}

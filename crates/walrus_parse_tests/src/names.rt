@@ -1,0 +1,123 @@
+//! Names of a file, given to its items.
+use crate::read::{CUSTOMS, LOCALS, NOP};
+use std::alloc::Global;
+use std::test::Fail;
+use walrus_arena::UntypedCustomSectionId;
+use walrus_config::ModuleConfig;
+use walrus_errors::Result;
+use walrus_module::Module;
+use walrus_parse::{FromBuffer, Parse};
+
+// The local 0 of the function 0 is x.
+const LOCAL: &[u8] =
+    b"\0asm\x01\0\0\0\x01\x04\x01\x60\0\0\x03\x02\x01\0\x07\x05\x01\x01f\0\0\x0a\x09\x01\x07\x01\x01\x7f\x20\0\x1a\x0b\0\x0d\x04name\x02\x06\x01\0\x01\0\x01x";
+
+// The function 0 is a, and the entry behind that breaks off.
+const FUNCTION: &[u8] =
+    b"\0asm\x01\0\0\0\x01\x04\x01\x60\0\0\x03\x02\x01\0\x07\x05\x01\x01f\0\0\x0a\x04\x01\x02\0\x0b\0\x0e\x04name\x01\x07\x02\0\x01a\x01\x05b";
+
+// The same section before all others.
+const FIRST: &[u8] =
+    b"\0asm\x01\0\0\0\0\x0e\x04name\x01\x07\x02\0\x01a\x01\x05b\x01\x04\x01\x60\0\0\x03\x02\x01\0\x07\x05\x01\x01f\0\0\x0a\x04\x01\x02\0\x0b";
+
+// A section `name` without subsections.
+const NO_NAMES: &[u8] =
+    b"\0asm\x01\0\0\0\x01\x04\x01\x60\0\0\x03\x02\x01\0\x07\x05\x01\x01f\0\0\x0a\x04\x01\x02\0\x0b\0\x05\x04name";
+
+// An unknown subsection.
+const UNKNOWN: &[u8] =
+    b"\0asm\x01\0\0\0\x01\x04\x01\x60\0\0\x03\x02\x01\0\x07\x05\x01\x01f\0\0\x0a\x04\x01\x02\0\x0b\0\x08\x04name\x01\x7f\0";
+
+// A name, empty where there is none.
+fn text(name: &Option<String>) -> &str {
+    match name {
+        Some(name) => name.as_str(),
+        None => "",
+    }
+}
+
+// The name of the local of this number among all of a module.
+fn local_name(module: &Module, number: usize) -> &str {
+    match module.locals.iter().as_slice().get(number) {
+        Some(local) => text(&local.name),
+        None => "",
+    }
+}
+
+// Whether the first function, and the first two locals, are called so.
+fn are_called(module: &Module, function: &str, first: &str, second: &str) -> bool {
+    match module.funcs.iter().next() {
+        Some(own) => {
+            text(&own.name) == function
+                && local_name(module, 0) == first
+                && local_name(module, 1) == second
+        }
+        None => false,
+    }
+}
+
+// Whether they are, once the file is read, with synthetic names or without.
+fn gives(alloc: Global, bytes: &[u8], synthetic: bool, function: &str, locals: [&str; 2]) -> bool {
+    let mut config = ModuleConfig::new();
+    config.generate_synthetic_names_for_anonymous_items(synthetic);
+    let read: Result<Module> = Module::from_buffer_with_config(alloc, bytes, &config);
+    match read {
+        Ok(module) => are_called(&module, function, locals[0], locals[1]),
+        Err(_) => false,
+    }
+}
+
+#[test]
+fn items_have_the_names_of_the_file(rt: HostRuntime) -> Result<(), Fail> {
+    let alloc = rt.alloc();
+    assert!(rt; gives(alloc, LOCAL, false, "", ["x", ""]));
+    assert!(rt; gives(alloc, FUNCTION, false, "a", ["", ""]));
+    assert!(rt; gives(alloc, FIRST, false, "a", ["", ""]));
+    assert!(rt; gives(alloc, NO_NAMES, false, "", ["", ""]));
+    assert!(rt; gives(alloc, UNKNOWN, false, "", ["", ""]));
+    Ok(())
+}
+
+#[test]
+fn items_without_names_are_given_some(rt: HostRuntime) -> Result<(), Fail> {
+    let alloc = rt.alloc();
+    assert!(rt; gives(alloc, LOCALS, true, "f0", ["l0", "l1"]));
+    assert!(rt; gives(alloc, LOCALS, false, "", ["", ""]));
+    assert!(rt; gives(alloc, LOCAL, true, "f0", ["x", ""]));
+    assert!(rt; gives(alloc, FUNCTION, true, "a", ["", ""]));
+    Ok(())
+}
+
+// The name of the custom section of this number.
+fn section_name(module: &Module, number: usize) -> &str {
+    match module
+        .customs
+        .get_raw(UntypedCustomSectionId::from_index(number))
+    {
+        Some(section) => section.name.as_str(),
+        None => "",
+    }
+}
+
+// Whether the first three custom sections of the file are called so.
+fn has_sections(alloc: Global, bytes: &[u8], names: [&str; 3]) -> bool {
+    let read: Result<Module> = ModuleConfig::new().parse(alloc, bytes);
+    match read {
+        Ok(module) => {
+            section_name(&module, 0) == names[0]
+                && section_name(&module, 1) == names[1]
+                && section_name(&module, 2) == names[2]
+        }
+        Err(_) => false,
+    }
+}
+
+// Sections of names are none of the module's own.
+#[test]
+fn other_custom_sections_stay(rt: HostRuntime) -> Result<(), Fail> {
+    let alloc = rt.alloc();
+    assert!(rt; has_sections(alloc, CUSTOMS, [".debug_info", "x", "dylink.0"]));
+    assert!(rt; has_sections(alloc, FUNCTION, ["", "", ""]));
+    assert!(rt; has_sections(alloc, NOP, ["", "", ""]));
+    Ok(())
+}

@@ -1,0 +1,4 @@
+mod Orders
+mod Numbers
+mod Names
+mod Bodies
