@@ -70,7 +70,8 @@ pub(crate) fn misreads(alloc: Global, bytes: &[u8], text: &str, offset: u64) -> 
 fn push_padded(bytes: &mut Vec<u8>, number: usize) -> std::result::Result<(), AllocError> {
     bytes.push((number % 128 + 128) as u8)?;
     bytes.push((number / 128 % 128 + 128) as u8)?;
-    bytes.push((number / 16384 % 128) as u8)
+    bytes.push((number / 16384 % 128) as u8)?;
+    Ok(())
 }
 
 /// A file of one function, whose body has blocks inside one another, so many.
