@@ -1,5 +1,7 @@
 -- What a module has of the file that it is read from.
-use Rattle.std.specs.Prelude.{ℕ, ◌≡◌, List, [], Option, None}
+use Rattle.std.specs.Prelude.{ℕ, ◌≡◌, List, [], Option, None, Result}
+use Rattle.std.specs.Fn.{Once}
+use Rattle.std.specs.Borrow.{Bor, MutBor}
 use Rattle.std.specs.declared.alloc.Global.{Global as Alloc}
 use Rattle.std.specs.declared.string.String.{String}
 use Rattle.walrus_module.specs.walrus_body_writer.walrus_pairing.wasm_immediates.wasm_features.Features.{features_of}
@@ -14,7 +16,10 @@ use Rattle.walrus_config.specs.Config.{feature_names}
 use Rattle.walrus_config.specs.declared.config.ModuleConfig.{ModuleConfig}
 use Rattle.walrus_customs.specs.Producers.{fields_of}
 use Rattle.walrus_customs.specs.declared.producers.ProducerField.{ProducerField}
+use Rattle.walrus_errors.specs.declared.error.ModuleError.{ModuleError}
 use Rattle.walrus_module.specs.walrus_body_writer.walrus_pairing.walrus_index_maps.Maps.{Ids}
+use Rattle.walrus_module.specs.walrus_body_writer.walrus_pairing.walrus_index_maps.Views.{ids}
+use Rattle.walrus_module.specs.walrus_body_writer.walrus_pairing.walrus_index_maps.declared.indices_to_ids.IndicesToIds.{IndicesToIds}
 use Rattle.walrus_item_names.specs.Gives.{GivesNames}
 use Rattle.walrus_item_names.specs.Holder.{Holder, holder}
 use Rattle.walrus_module.specs.walrus_types.walrus_items.declared.local.Local.{Local}
@@ -48,8 +53,8 @@ module _ {B : Type 0} where
   named_in m s own = holder s.types s.functions m.tables m.memories m.tags m.globals m.elements m.segments s.locals own
 
   -- its sections fill the collections of a module; then its bodies are read into it, in the file's order; then items are named, and the
-  -- producers told
-  pub record IsModuleOf (config : ModuleConfig) (bytes : List ℕ) (start : Option ℕ) (producers : List ProducerField) (m : Spaces B) (locals : List Local) (own : Option (String Alloc)) : Type 0 where
+  -- producers told; what has an index has this id
+  pub record IsModuleOf (config : ModuleConfig) (bytes : List ℕ) (start : Option ℕ) (producers : List ProducerField) (m : Spaces B) (locals : List Local) (own : Option (String Alloc)) (found : Ids) : Type 0 where
     pub sections : Sections
     pub bodies : List grammar.Body
     pub reads : ReadsAs (read_features config) bytes sections bodies
@@ -60,6 +65,7 @@ module _ {B : Type 0} where
     pub is_file : IsFileOf sections filled.types filled.tags filled.memories file
     pub bodied : State
     pub bodies_are : Steps file (read_features config) (bodies_in sections filled.functions) (state filled.types [] numbers filled.functions) bodied
+    pub found_are : found ≡ bodied.ids
     pub names : GivesNames (all_names config.generate_synthetic_names_for_anonymous_items bodied.ids (named_in filled bodied None) (names_of (module_of (state_of sections) bodies)))
         (named_in filled bodied None) (holder m.types m.functions m.tables m.memories m.tags m.globals m.elements m.segments locals own)
     pub imports : m.imports ≡ filled.imports
@@ -83,7 +89,20 @@ module _ {B : Type 0} where
     pub no_locals : locals ≡ []
     pub unnamed : own ≡ None
 
-  -- this module has it of the file, and these flags
+  -- this module has it of the file, and these flags; what has an index has this id
+  abbrev pub IsReadAs : ModuleConfig → List ℕ → Whole B → Ids → Type 0
+  IsReadAs config bytes m found = (m.config ≡ config)
+      × IsModuleOf config bytes m.start m.producers (spaces m.types m.imports m.funcs m.tables m.memories m.tags m.globals m.exports m.elements m.data_segments m.customs) m.locals m.name found
+
   abbrev pub IsRead : ModuleConfig → List ℕ → Whole B → Type 0
-  IsRead config bytes m = (m.config ≡ config)
-      × IsModuleOf config bytes m.start m.producers (spaces m.types m.imports m.funcs m.tables m.memories m.tags m.globals m.exports m.elements m.data_segments m.customs) m.locals m.name
+  IsRead config bytes m = (found : Ids) × IsReadAs config bytes m found
+
+  module _ {F : Type 0} (g : Once F (MutBor (Whole B) × (Bor IndicesToIds × Unit {0})) (Result (Unit {0}) ModuleError × (MutBor (Whole B) × Unit {0}))) (f : F) where
+    -- handed the module that is read, and what its indices name, f may answer this and leave that module
+    pub record HandsOn (config : ModuleConfig) (bytes : List ℕ) (answer : Result (Unit {0}) ModuleError) (m : Whole B) : Type 0 where
+      pub shown : MutBor (Whole B)
+      pub maps : Bor IndicesToIds
+      pub is_read : IsReadAs config bytes shown.now (ids maps.now)
+      pub left : MutBor (Whole B)
+      pub met : g.post f (shown, (maps, tt)) (answer, (left, tt))
+      pub leaves : left.now ≡ m

@@ -1,6 +1,7 @@
 //! A whole module.
 
-ghost use Rattle.std.specs.Prelude.{IfErr, IfOk, OnOk};
+ghost use Rattle.std.specs.Prelude.{IfErr, IfOk};
+ghost use Rattle.walrus_module.specs.walrus_body_writer.walrus_pairing.walrus_index_maps.Views.{ids};
 ghost use Rattle.walrus_file_bodies.specs.walrus_items_into.Spaces.{spaces};
 ghost use Rattle.walrus_parse.specs.Parsed.{IsEmpty, IsModuleOf, read_features};
 ghost use Rattle.walrus_parse.specs.Refusals.{IsRefusal};
@@ -47,9 +48,9 @@ fn read_module<B: Drop>(
     customs: &mut CustomSections<B>,
     locals: &mut ModuleLocals,
     own: &mut Option<String>,
-) -> Result<(Option<FunctionId>, ModuleProducers)>
+) -> Result<(Option<FunctionId>, ModuleProducers, IndicesToIds)>
     requires { IsEmpty (spaces types.old imports.old functions.old tables.old memories.old tags.old globals.old exports.old elements.old segments.old customs.old) locals.old own.old }
-    ensures read { IfOk result (λ told. IsModuleOf config.now wasm.now told.0 told.1 (spaces types.new imports.new functions.new tables.new memories.new tags.new globals.new exports.new elements.new segments.new customs.new) locals.new own.new) }
+    ensures read { IfOk result (λ told. IsModuleOf config.now wasm.now told.0 told.1 (spaces types.new imports.new functions.new tables.new memories.new tags.new globals.new exports.new elements.new segments.new customs.new) locals.new own.new (ids told.2)) }
     ensures refused { IfErr result (λ error. IsRefusal (read_features config.now) wasm.now error) }
 {
     filled_modules_are_ready::<B>();
@@ -88,25 +89,29 @@ fn read_module<B: Drop>(
         own,
     )?;
     let producers = producers_in(alloc, sections.customs.as_slice())?;
-    Ok((start, producers))
+    Ok((start, producers, maps))
 }
 
 /// Reads the bytes of a module (Core Specification, binary format: modules) into an empty one, with the features that its flags ask for,
 /// or refuses them. All items of the file are in it, under ids that are their numbers, but for types, of which equal ones merge; each
 /// body is in normal form, with the types that handlers of a legacy `try` need; names and producers are those of the file, with the
-/// entry of this tool. The flags are those of the module.
+/// entry of this tool. The flags are those of the module. Answers which id each index of the file has.
 ///
 /// # Errors
 ///
 /// `InputTooLong` past 2^30 bytes; else the first fault of the file, at its place; want of memory, in place of what would come later.
 /// The module is then of no use.
-pub fn parse_into<B: Drop>(alloc: Global, wasm: &[u8], module: &mut Module<B>) -> Result<()>
+pub fn parse_into<B: Drop>(
+    alloc: Global,
+    wasm: &[u8],
+    module: &mut Module<B>,
+) -> Result<IndicesToIds>
     requires { IsEmpty (spaces module.old.types module.old.imports module.old.funcs module.old.tables module.old.memories module.old.tags module.old.globals module.old.exports module.old.elements module.old.data_segments module.old.customs) module.old.locals module.old.name }
-    ensures read { OnOk result (IsModuleOf module.old.config wasm.now module.new.start module.new.producers (spaces module.new.types module.new.imports module.new.funcs module.new.tables module.new.memories module.new.tags module.new.globals module.new.exports module.new.elements module.new.data_segments module.new.customs) module.new.locals module.new.name) }
+    ensures read { IfOk result (λ found. IsModuleOf module.old.config wasm.now module.new.start module.new.producers (spaces module.new.types module.new.imports module.new.funcs module.new.tables module.new.memories module.new.tags module.new.globals module.new.exports module.new.elements module.new.data_segments module.new.customs) module.new.locals module.new.name (ids found)) }
     ensures refused { IfErr result (λ error. IsRefusal (read_features module.old.config) wasm.now error) }
 {
     let config = *module.config();
-    let (start, producers) = read_module(
+    let (start, producers, found) = read_module(
         alloc,
         &config,
         wasm,
@@ -126,5 +131,5 @@ pub fn parse_into<B: Drop>(alloc: Global, wasm: &[u8], module: &mut Module<B>) -
     )?;
     module.start = start;
     module.producers = producers;
-    Ok(())
+    Ok(found)
 }

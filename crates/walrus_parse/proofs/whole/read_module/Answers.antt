@@ -79,6 +79,7 @@ returns-clause-read g c =
       is_file = read.1;
       bodied = new;
       bodies_are = subst (λ (features : WasmFeatures). Steps read.0 features bs (state m.types [] i m.functions) new) c.features-features.ensures steps;
+      found_are = refl;
       names = subst (λ (own : Option (String Alloc)). GivesNames (all_names c.args.config.now.generate_synthetic_names_for_anonymous_items new.ids (holder new.types new.functions m.tables m.memories m.tags m.globals m.elements m.segments new.locals own) (names_of whole))
           (holder new.types new.functions m.tables m.memories m.tags m.globals m.elements m.segments new.locals own)
           (holder c.name_items.new.types c.name_items.new.funcs c.name_items.new.tables c.name_items.new.memories c.name_items.new.tags c.name_items.new.globals c.name_items.new.elements c.name_items.new.data_segments c.name_items.new.locals c.name_items.new.own))
