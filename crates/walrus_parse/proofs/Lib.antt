@@ -1,3 +1,4 @@
+mod ReadLemmas
 mod RefusalLemmas
 mod TypeLemmas
 mod CodeLemmas

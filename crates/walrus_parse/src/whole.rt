@@ -1,6 +1,6 @@
 //! A whole module.
 
-ghost use Rattle.std.specs.Prelude.{IfErr, IfOk};
+ghost use Rattle.std.specs.Prelude.{◌≡◌, IfErr, IfOk};
 ghost use Rattle.walrus_module.specs.walrus_body_writer.walrus_pairing.walrus_index_maps.Views.{ids};
 ghost use Rattle.walrus_file_bodies.specs.walrus_items_into.Spaces.{spaces};
 ghost use Rattle.walrus_parse.specs.Parsed.{IsEmpty, IsModuleOf, read_features};
@@ -108,6 +108,7 @@ pub fn parse_into<B: Drop>(
 ) -> Result<IndicesToIds>
     requires { IsEmpty (spaces module.old.types module.old.imports module.old.funcs module.old.tables module.old.memories module.old.tags module.old.globals module.old.exports module.old.elements module.old.data_segments module.old.customs) module.old.locals module.old.name }
     ensures read { IfOk result (λ found. IsModuleOf module.old.config wasm.now module.new.start module.new.producers (spaces module.new.types module.new.imports module.new.funcs module.new.tables module.new.memories module.new.tags module.new.globals module.new.exports module.new.elements module.new.data_segments module.new.customs) module.new.locals module.new.name (ids found)) }
+    ensures flags { module.new.config ≡ module.old.config }
     ensures refused { IfErr result (λ error. IsRefusal (read_features module.old.config) wasm.now error) }
 {
     let config = *module.config();
