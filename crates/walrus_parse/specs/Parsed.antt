@@ -1,7 +1,5 @@
 -- What a module has of the file that it is read from.
-use Rattle.std.specs.Prelude.{ℕ, ◌≡◌, List, [], Option, None, Result}
-use Rattle.std.specs.Fn.{Once}
-use Rattle.std.specs.Borrow.{Bor, MutBor}
+use Rattle.std.specs.Prelude.{ℕ, ◌≡◌, List, [], Option, None}
 use Rattle.std.specs.declared.alloc.Global.{Global as Alloc}
 use Rattle.std.specs.declared.string.String.{String}
 use Rattle.walrus_module.specs.walrus_body_writer.walrus_pairing.wasm_immediates.wasm_features.Features.{features_of}
@@ -16,10 +14,7 @@ use Rattle.walrus_config.specs.Config.{feature_names}
 use Rattle.walrus_config.specs.declared.config.ModuleConfig.{ModuleConfig}
 use Rattle.walrus_customs.specs.Producers.{fields_of}
 use Rattle.walrus_customs.specs.declared.producers.ProducerField.{ProducerField}
-use Rattle.walrus_errors.specs.declared.error.ModuleError.{ModuleError}
 use Rattle.walrus_module.specs.walrus_body_writer.walrus_pairing.walrus_index_maps.Maps.{Ids}
-use Rattle.walrus_module.specs.walrus_body_writer.walrus_pairing.walrus_index_maps.Views.{ids}
-use Rattle.walrus_module.specs.walrus_body_writer.walrus_pairing.walrus_index_maps.declared.indices_to_ids.IndicesToIds.{IndicesToIds}
 use Rattle.walrus_item_names.specs.Gives.{GivesNames}
 use Rattle.walrus_item_names.specs.Holder.{Holder, holder}
 use Rattle.walrus_module.specs.walrus_types.walrus_items.declared.local.Local.{Local}
@@ -96,13 +91,3 @@ module _ {B : Type 0} where
 
   abbrev pub IsRead : ModuleConfig → List ℕ → Whole B → Type 0
   IsRead config bytes m = (found : Ids) × IsReadAs config bytes m found
-
-  module _ {F : Type 0} (g : Once F (MutBor (Whole B) × (Bor IndicesToIds × Unit {0})) (Result (Unit {0}) ModuleError × (MutBor (Whole B) × Unit {0}))) (f : F) where
-    -- handed the module that is read, and what its indices name, f may answer this and leave that module
-    pub record HandsOn (config : ModuleConfig) (bytes : List ℕ) (answer : Result (Unit {0}) ModuleError) (m : Whole B) : Type 0 where
-      pub shown : MutBor (Whole B)
-      pub maps : Bor IndicesToIds
-      pub is_read : IsReadAs config bytes shown.now (ids maps.now)
-      pub left : MutBor (Whole B)
-      pub met : g.post f (shown, (maps, tt)) (answer, (left, tt))
-      pub leaves : left.now ≡ m

@@ -1,4 +1,4 @@
-use Rattle.std.proofs.Common.{◌∙◌, subst}
+use Rattle.std.proofs.Common.{subst}
 use Rattle.walrus_config.specs.declared.config.ModuleConfig.{ModuleConfig as Flags}
 use Rattle.walrus_errors.specs.declared.error.ModuleError.{ModuleError}
 use Rattle.walrus_module.specs.walrus_body_writer.walrus_pairing.walrus_index_maps.Views.{ids}
@@ -15,4 +15,4 @@ returns-in_err-parse_into-clause-refused g c =
 
 pub returns-clause-read : goal.returns-clause-read
 returns-clause-read g c =
-    (ids c.in_ok-parse_into.field-0.0, is_read c.parse_into.new.module c.args.self.now c.args.wasm.now c.with_config-module.result.config (ids c.in_ok-parse_into.field-0.0) (c.in_ok-parse_into.ensures.flags) c.with_config-module.ensures.config c.in_ok-parse_into.ensures.read)
+    (ids c.in_ok-parse_into.field-0, is_read c.parse_into.new.module c.args.self.now c.args.wasm.now c.with_config-module.result.config (ids c.in_ok-parse_into.field-0) (c.in_ok-parse_into.ensures.flags) c.with_config-module.ensures.config c.in_ok-parse_into.ensures.read)
