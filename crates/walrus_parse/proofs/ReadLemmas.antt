@@ -10,6 +10,7 @@ use Rattle.walrus_parse.specs.Parsed.{IsModuleOf, IsReadAs}
 pub is_read : {B : Type 0} (m : Whole B) (config : ModuleConfig) (bytes : List ℕ) (own : ModuleConfig) (found : Ids) → m.config ≡ own → own ≡ config
     → IsModuleOf own bytes m.start m.producers (spaces m.types m.imports m.funcs m.tables m.memories m.tags m.globals m.exports m.elements m.data_segments m.customs) m.locals m.name found
     → IsReadAs config bytes m found
-is_read m config bytes own found is same read =
-    (is ∙ same,
-    subst (λ (flags : ModuleConfig). IsModuleOf flags bytes m.start m.producers (spaces m.types m.imports m.funcs m.tables m.memories m.tags m.globals m.exports m.elements m.data_segments m.customs) m.locals m.name found) same read)
+is_read m config bytes own found is same read = (
+  is ∙ same,
+  subst (λ (flags : ModuleConfig). IsModuleOf flags bytes m.start m.producers (spaces m.types m.imports m.funcs m.tables m.memories m.tags m.globals m.exports m.elements m.data_segments m.customs) m.locals m.name found) same read,
+)
