@@ -15,7 +15,7 @@ use inspect_program::errors::Result;
 use inspect_program::lines::Counts;
 use std::alloc::Global;
 use walrus_counts::count;
-use walrus_parse::Parse;
+use walrus_parse::parse_into;
 use walrus_passes::gc;
 use walrus_passes::module::Module;
 use walrus_sections::CustomSection;
@@ -34,7 +34,8 @@ impl Inspector for Modules {
         config: ModuleConfig,
         kept: bool,
     ) -> Result<Counts> {
-        let module = config.parse(alloc, bytes)?;
+        let mut module = Module::with_config(alloc, config);
+        parse_into(alloc, bytes, &mut module)?;
         count_in(alloc, module, kept)
     }
 }

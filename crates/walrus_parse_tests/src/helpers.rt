@@ -1,4 +1,6 @@
 //! What is looked at of a file that is read.
+ghost use Rattle.std.specs.Prelude.{◌≤◌};
+
 use inspect_lines::Counts;
 use std::alloc::{AllocError, Global};
 use walrus_config::ModuleConfig;
@@ -9,7 +11,7 @@ use walrus_parse::{FromBuffer, Parse};
 
 // The counts of the module that the bytes are, under the default flags.
 fn counts(alloc: Global, bytes: &[u8]) -> Result<Counts> {
-    let module: Module = Module::from_buffer(alloc, bytes)?;
+    let module: Module<()> = Module::from_buffer(alloc, bytes)?;
     count(alloc, &module)
 }
 
@@ -44,7 +46,7 @@ pub(crate) fn fault_under(
     config: &ModuleConfig,
     bytes: &[u8],
 ) -> Option<ModuleError> {
-    let read: Result<Module> = config.parse(alloc, bytes);
+    let read: Result<Module<()>> = config.parse(alloc, bytes);
     match read {
         Ok(_) => None,
         Err(error) => Some(error),

@@ -37,7 +37,7 @@ fn text(name: &Option<String>) -> &str {
 }
 
 // The name of the local of this number among all of a module.
-fn local_name(module: &Module, number: usize) -> &str {
+fn local_name(module: &Module<()>, number: usize) -> &str {
     match module.locals.iter().as_slice().get(number) {
         Some(local) => text(&local.name),
         None => "",
@@ -45,7 +45,7 @@ fn local_name(module: &Module, number: usize) -> &str {
 }
 
 // Whether the first function, and the first two locals, are called so.
-fn are_called(module: &Module, function: &str, first: &str, second: &str) -> bool {
+fn are_called(module: &Module<()>, function: &str, first: &str, second: &str) -> bool {
     match module.funcs.iter().next() {
         Some(own) => {
             text(&own.name) == function
@@ -60,7 +60,7 @@ fn are_called(module: &Module, function: &str, first: &str, second: &str) -> boo
 fn gives(alloc: Global, bytes: &[u8], synthetic: bool, function: &str, locals: [&str; 2]) -> bool {
     let mut config = ModuleConfig::new();
     config.generate_synthetic_names_for_anonymous_items(synthetic);
-    let read: Result<Module> = Module::from_buffer_with_config(alloc, bytes, &config);
+    let read: Result<Module<()>> = Module::from_buffer_with_config(alloc, bytes, &config);
     match read {
         Ok(module) => are_called(&module, function, locals[0], locals[1]),
         Err(_) => false,
@@ -89,7 +89,7 @@ fn items_without_names_are_given_some(rt: HostRuntime) -> Result<(), Fail> {
 }
 
 // The name of the custom section of this number.
-fn section_name(module: &Module, number: usize) -> &str {
+fn section_name(module: &Module<()>, number: usize) -> &str {
     match module
         .customs
         .get_raw(UntypedCustomSectionId::from_index(number))
@@ -101,7 +101,7 @@ fn section_name(module: &Module, number: usize) -> &str {
 
 // Whether the first three custom sections of the file are called so.
 fn has_sections(alloc: Global, bytes: &[u8], names: [&str; 3]) -> bool {
-    let read: Result<Module> = ModuleConfig::new().parse(alloc, bytes);
+    let read: Result<Module<()>> = ModuleConfig::new().parse(alloc, bytes);
     match read {
         Ok(module) => {
             section_name(&module, 0) == names[0]

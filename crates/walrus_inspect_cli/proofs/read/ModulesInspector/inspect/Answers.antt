@@ -1,5 +1,7 @@
-use Rattle.std.proofs.Common.{refl}
+use Rattle.std.proofs.Common.{refl, subst}
 use Rattle.std.specs.Prelude.{IfOk, Result, Ok, Err}
+use Rattle.inspect_program.specs.walrus_config.declared.config.ModuleConfig.{ModuleConfig}
+use Rattle.walrus_parse.specs.Parsed.{DoesRead}
 use Rattle.walrus_inspect_cli.proofs.read.ModulesInspector.inspect.Goals as goal
 
 -- what holds anyway holds of an answer
@@ -9,5 +11,7 @@ of_all (Err e) p = tt
 
 pub returns : goal.returns
 returns c =
-    let read = c.in_ok-module.ensures.read.1 in
-    of_all c.count_in.result (_, (read.reads.short, (_, _, read.reads.sections, read.reads.codes_are, refl)))
+    let read = c.in_ok-parse_into.ensures.read in
+    of_all c.count_in.result
+    (subst (λ (config : ModuleConfig). DoesRead config c.args.bytes.now) c.with_config-module.ensures.config
+    (_, (read.reads.short, (_, _, read.reads.sections, read.reads.codes_are, refl))))
