@@ -1,4 +1,6 @@
 //! Names of a file, given to its items.
+ghost use Rattle.std.specs.Prelude.{◌<◌};
+
 use crate::read::{CUSTOMS, LOCALS, NOP};
 use std::alloc::Global;
 use std::test::Fail;
@@ -89,7 +91,9 @@ fn items_without_names_are_given_some(rt: HostRuntime) -> Result<(), Fail> {
 }
 
 // The name of the custom section of this number.
-fn section_name(module: &Module<()>, number: usize) -> &str {
+fn section_name(module: &Module<()>, number: usize) -> &str
+    requires { number < 3 }
+{
     match module
         .customs
         .get_raw(UntypedCustomSectionId::from_index(number))
