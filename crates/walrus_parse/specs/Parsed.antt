@@ -1,5 +1,7 @@
 -- What a module has of the file that it is read from.
-use Rattle.std.specs.Prelude.{ℕ, ◌≡◌, List, [], Option, None}
+use Rattle.std.specs.Prelude.{ℕ, ◌≡◌, List, [], Option, None, Result}
+use Rattle.std.specs.Fn.{Once}
+use Rattle.std.specs.Borrow.{Bor, MutBor}
 use Rattle.std.specs.declared.alloc.Global.{Global as Alloc}
 use Rattle.std.specs.declared.string.String.{String}
 use Rattle.walrus_module.specs.walrus_body_writer.walrus_pairing.wasm_immediates.wasm_features.Features.{features_of}
@@ -14,7 +16,10 @@ use Rattle.walrus_config.specs.Config.{feature_names}
 use Rattle.walrus_config.specs.declared.config.ModuleConfig.{ModuleConfig}
 use Rattle.walrus_customs.specs.Producers.{fields_of}
 use Rattle.walrus_customs.specs.declared.producers.ProducerField.{ProducerField}
+use Rattle.walrus_errors.specs.declared.error.ModuleError.{ModuleError}
 use Rattle.walrus_module.specs.walrus_body_writer.walrus_pairing.walrus_index_maps.Maps.{Ids}
+use Rattle.walrus_module.specs.walrus_body_writer.walrus_pairing.walrus_index_maps.Views.{ids}
+use Rattle.walrus_module.specs.walrus_body_writer.walrus_pairing.walrus_index_maps.declared.indices_to_ids.IndicesToIds.{IndicesToIds}
 use Rattle.walrus_item_names.specs.Gives.{GivesNames}
 use Rattle.walrus_item_names.specs.Holder.{Holder, holder}
 use Rattle.walrus_module.specs.walrus_types.walrus_items.declared.local.Local.{Local}
@@ -91,3 +96,21 @@ module _ {B : Type 0} where
 
   abbrev pub IsRead : ModuleConfig → List ℕ → Whole B → Type 0
   IsRead config bytes m = (found : Ids) × IsReadAs config bytes m found
+
+  module _ {F : Type 0} (g : Once F (MutBor (Whole B) × (Bor IndicesToIds × Unit {0})) (Result (Unit {0}) ModuleError × (MutBor (Whole B) × Unit {0}))) (f : F) where
+    -- handed a module, and what indices name, f may answer this and leave that module
+    pub record Leaves (read : Whole B) (found : IndicesToIds) (answer : Result (Unit {0}) ModuleError) (m : Whole B) : Type 0 where
+      pub shown : MutBor (Whole B)
+      pub shows : shown.now ≡ read
+      pub given : Bor IndicesToIds
+      pub gives : given.now ≡ found
+      pub after : MutBor (Whole B)
+      pub met : g.post f (shown, (given, tt)) (answer, (after, tt))
+      pub leaves : after.now ≡ m
+
+    -- so it may for the module that is read from these bytes
+    pub record HandsOn (config : ModuleConfig) (bytes : List ℕ) (answer : Result (Unit {0}) ModuleError) (m : Whole B) : Type 0 where
+      pub read : Whole B
+      pub found : IndicesToIds
+      pub is_read : IsReadAs config bytes read (ids found)
+      pub left : Leaves read found answer m

@@ -1,15 +1,17 @@
 //! Reading a module by its flags, or by its type.
 
-ghost use Rattle.std.specs.Prelude.{ℕ, List, IfErr, IfOk};
+ghost use Rattle.std.specs.Prelude.{ℕ, ◌⊎◌, List, Err, IfErr, IfOk, Ok};
 ghost use Rattle.walrus_config.specs.Config.{default_config};
 ghost use Rattle.walrus_config.specs.declared.config.ModuleConfig.{ModuleConfig as Flags};
-ghost use Rattle.walrus_parse.specs.Parsed.{IsRead, read_features};
+ghost use Rattle.walrus_module.specs.declared.module.Module.{Module as Whole};
+ghost use Rattle.walrus_parse.specs.Parsed.{HandsOn, IsRead, read_features};
 ghost use Rattle.walrus_parse.specs.Refusals.{IsRefusal};
 
 use crate::whole::parse_into;
 use std::alloc::Global;
 use walrus_config::ModuleConfig;
 use walrus_errors::Result;
+use walrus_file_bodies::items_into::tables_into::sections_into::index_maps::IndicesToIds;
 use walrus_module::Module;
 
 /// Reading with flags.
@@ -27,6 +29,21 @@ pub trait Parse {
     fn parse<B: Drop>(&self, alloc: Global, wasm: &[u8]) -> Result<Module<B>>
         ensures read { IfOk result (λ m. IsRead (flags self.now) wasm.now m) }
         ensures refused { IfErr result (λ error. IsRefusal (read_features (flags self.now)) wasm.now error) };
+
+    /// The same module, once `on_parse` has had it, with the ids that its indices have in the file.
+    ///
+    /// # Errors
+    ///
+    /// Those of [`Parse::parse`], or else what `on_parse` refuses.
+    fn parse_with<B: Drop, F: FnOnce(&mut Module<B>, &IndicesToIds) -> Result<()> + Drop>(
+        &self,
+        alloc: Global,
+        wasm: &[u8],
+        on_parse: F,
+    ) -> Result<Module<B>>
+        requires callable { F.IsAlwaysCallable on_parse }
+        ensures read { IfOk result (λ m. HandsOn F.FnOnce on_parse (flags self.now) wasm.now (Ok tt) m) }
+        ensures refused { IfErr result (λ error. IsRefusal (read_features (flags self.now)) wasm.now error ⊎ ((m : Whole B) × HandsOn F.FnOnce on_parse (flags self.now) wasm.now (Err error) m)) };
 }
 
 impl Parse for ModuleConfig {
@@ -36,6 +53,20 @@ impl Parse for ModuleConfig {
         let mut module = Module::with_config(alloc, *self);
         parse_into(alloc, wasm, &mut module)?;
         Ok(module)
+    }
+
+    fn parse_with<B: Drop, F: FnOnce(&mut Module<B>, &IndicesToIds) -> Result<()> + Drop>(
+        &self,
+        alloc: Global,
+        wasm: &[u8],
+        on_parse: F,
+    ) -> Result<Module<B>> {
+        let mut module = Module::with_config(alloc, *self);
+        let found = parse_into(alloc, wasm, &mut module)?;
+        match on_parse(&mut module, &found) {
+            Ok(()) => Ok(module),
+            Err(error) => Err(error),
+        }
     }
 }
 

@@ -1,0 +1,37 @@
+use Rattle.std.specs.Prelude.{◌⊎◌, Err}
+use Rattle.std.proofs.Common.{inl, inr, subst}
+use Rattle.walrus_config.specs.declared.config.ModuleConfig.{ModuleConfig as Flags}
+use Rattle.walrus_errors.specs.declared.error.ModuleError.{ModuleError}
+use Rattle.walrus_module.specs.declared.module.Module.{Module as Whole}
+use Rattle.walrus_module.specs.walrus_body_writer.walrus_pairing.walrus_index_maps.Views.{ids}
+use Rattle.walrus_parse.specs.Parsed.{HandsOn, read_features}
+use Rattle.walrus_parse.specs.Refusals.{IsRefusal}
+use Rattle.walrus_parse.proofs.ReadLemmas.{is_read, leaves_so}
+use Rattle.walrus_parse.proofs.WholeLemmas.{handed}
+use Rattle.walrus_parse.proofs.parse.ModuleConfigParse.parse_with.Goals as goal
+
+pub returns-in_err-found-clause-refused : goal.returns-in_err-found-clause-refused
+returns-in_err-found-clause-refused g c =
+    handed (λ (error : ModuleError). IsRefusal (read_features c.args.self.now) c.args.wasm.now error ⊎ ((m : Whole g.row.B.Denot) × HandsOn {B = g.row.B.Denot} {F = g.row.F.Denot} g.F.FnOnce c.args.on_parse c.args.self.now c.args.wasm.now (Err error) m))
+    c.in_err-found.field-0.0 c.from_residual.result c.from_residual.ensures
+    (inl (subst (λ (config : Flags). IsRefusal (read_features config) c.args.wasm.now c.in_err-found.field-0.0) c.with_config-module.ensures.config c.in_err-found.ensures.refused))
+
+pub returns-in-Err-clause-refused : goal.returns-in-Err-clause-refused
+returns-in-Err-clause-refused g c =
+    inr (
+      c.on_parse.new.arg2,
+      record {
+        read = c.parse_into.new.module;
+        found = c.in_ok-found.found;
+        is_read = is_read c.parse_into.new.module c.args.self.now c.args.wasm.now c.with_config-module.result.config (ids c.in_ok-found.found) c.in_ok-found.ensures.flags c.with_config-module.ensures.config c.in_ok-found.ensures.read;
+        left = leaves_so g.F.FnOnce c.args.on_parse _ _ _ _ _ c.in-Err.is c.on_parse.ensures;
+      },
+    )
+
+pub returns-in-Ok-clause-read : goal.returns-in-Ok-clause-read
+returns-in-Ok-clause-read g c = record {
+  read = c.parse_into.new.module;
+  found = c.in_ok-found.found;
+  is_read = is_read c.parse_into.new.module c.args.self.now c.args.wasm.now c.with_config-module.result.config (ids c.in_ok-found.found) c.in_ok-found.ensures.flags c.with_config-module.ensures.config c.in_ok-found.ensures.read;
+  left = leaves_so g.F.FnOnce c.args.on_parse _ _ _ _ _ c.in-Ok.is c.on_parse.ensures;
+}
