@@ -1,0 +1,3 @@
+mod SlotLemmas
+mod FunctionLemmas
+mod ItemLemmas

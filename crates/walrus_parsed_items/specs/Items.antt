@@ -1,0 +1,49 @@
+-- The items of a module that was read: those of the file's module.
+use Rattle.std.specs.Prelude.{ℕ, ◌≡◌, ◌<◌, List, All, map, Option, Some, None}
+use Rattle.std.specs.Option.{option_map}
+use Rattle.wasm_grammar.specs.Modules as grammar
+use Rattle.wasm_modules.specs.Modules.{Reads}
+use Rattle.walrus_config.specs.declared.config.ModuleConfig.{ModuleConfig}
+use Rattle.walrus_index_maps.specs.Maps.{Ids}
+use Rattle.walrus_into_laws.specs.Meaning.{type_id}
+use Rattle.walrus_into_laws.specs.Renamed.{each, retyped_table, retyped_tag, retyped_global, retyped_element, retyped_segment}
+use Rattle.walrus_meaning.specs.Meaning.{means}
+use Rattle.walrus_module.specs.Parts.{parts}
+use Rattle.walrus_module.specs.declared.module.Module.{Module as Whole}
+use Rattle.walrus_parse.specs.Parsed.{IsReadAs, read_features}
+use Rattle.walrus_sections_into.specs.Becomes.{look_of}
+
+-- the import that brings a function, if one does
+abbrev pub brought_by : grammar.Origin grammar.Body → Option ℕ
+brought_by (grammar.Imported n) = Some n
+brought_by (grammar.Own body) = None
+
+-- what a function is without its body: its type, and that import
+abbrev pub head_of : (ℕ → ℕ) → grammar.Function → ℕ × Option ℕ
+head_of r f = (r f.ty, brought_by f.origin)
+
+abbrev pub heads : (ℕ → ℕ) → List (Option grammar.Function) → List (Option (ℕ × Option ℕ))
+heads r = map (option_map (head_of r))
+
+-- each number is its own
+abbrev pub same : ℕ → ℕ
+same n = n
+
+-- the items of a module are those of a file, at the same places, with other numbers of types; bodies, groups of types and custom sections
+-- aside
+pub record HasItems (r : ℕ → ℕ) (file m : grammar.Module) : Type 0 where
+  pub imports : m.imports ≡ file.imports
+  pub functions : heads same m.functions ≡ heads r file.functions
+  pub tables : m.tables ≡ each (retyped_table r) file.tables
+  pub memories : m.memories ≡ file.memories
+  pub tags : m.tags ≡ each (retyped_tag r) file.tags
+  pub globals : m.globals ≡ each (retyped_global r) file.globals
+  pub exports : m.exports ≡ file.exports
+  pub start : m.start ≡ file.start
+  pub elements : m.elements ≡ each (retyped_element r) file.elements
+  pub segments : m.segments ≡ each (retyped_segment r) file.segments
+
+-- so it is where a module was read from bytes: each number of a type has the id that its index is found to have
+abbrev pub ReadModulesHaveItems : Type 0 → Type 0
+ReadModulesHaveItems B = (config : ModuleConfig) (bytes : List ℕ) (m : Whole B) (found : Ids) → All (λ b. b < 256) bytes → IsReadAs config bytes m found
+    → (file : grammar.Module) × Reads (read_features config) bytes file × HasItems (type_id (look_of found)) file (means (parts m))

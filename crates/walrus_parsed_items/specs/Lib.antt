@@ -1,0 +1,4 @@
+pub mod Items
+-- Passed on to crates above, which then list this one alone.
+pub use Rattle.walrus_into_laws.specs as walrus_into_laws
+pub use Rattle.walrus_parse.specs as walrus_parse
