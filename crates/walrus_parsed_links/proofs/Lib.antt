@@ -1,0 +1,3 @@
+mod SlotLemmas
+mod BroughtLemmas
+mod LinkLemmas

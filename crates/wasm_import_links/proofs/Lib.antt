@@ -1,0 +1,3 @@
+pub mod SlotLemmas
+mod LinkLemmas
+mod FullLemmas

@@ -1,0 +1,4 @@
+//! Imports of modules, and the items that they bring (Core Specification, valid modules: imports).
+#![tactic(auto)]
+
+pub mod laws;
