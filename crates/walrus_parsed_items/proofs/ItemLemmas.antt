@@ -114,4 +114,4 @@ module _ {B : Type 0} where
         elements = same_seen own_element bare_element (λ x. refl) m.elements f.elements (ap (λ (a : Holder). a.elements) named) ∙ ap (λ (g : grammar.Module). g.elements) mm;
         segments = same_seen own_segment bare_data (λ x. refl) m.data_segments f.segments (ap (λ (a : Holder). a.data_segments) named) ∙ ap (λ (g : grammar.Module). g.segments) mm;
       } in
-      (file, (h.reads.short, (state_of s, h.bodies, h.reads.sections, h.reads.codes_are, refl)), subst (λ (q : ℕ → ℕ). HasItems q file (means (parts m))) (sym same_ids) items)
+      ((h.reads.short, (state_of s, h.bodies, h.reads.sections, h.reads.codes_are, refl)), subst (λ (q : ℕ → ℕ). HasItems q file (means (parts m))) (sym same_ids) items)

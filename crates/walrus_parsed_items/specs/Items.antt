@@ -2,11 +2,12 @@
 use Rattle.std.specs.Prelude.{ℕ, ◌≡◌, ◌<◌, List, All, map, Option, Some, None}
 use Rattle.std.specs.Option.{option_map}
 use Rattle.wasm_grammar.specs.Modules as grammar
-use Rattle.wasm_modules.specs.Modules.{Reads}
+use Rattle.wasm_modules.specs.Modules.{Reads, module_of}
 use Rattle.walrus_config.specs.declared.config.ModuleConfig.{ModuleConfig}
 use Rattle.walrus_index_maps.specs.Maps.{Ids}
 use Rattle.walrus_into_laws.specs.Meaning.{type_id}
 use Rattle.walrus_into_laws.specs.Renamed.{each, retyped_table, retyped_tag, retyped_global, retyped_element, retyped_segment}
+use Rattle.walrus_known_sections.specs.State.{state_of}
 use Rattle.walrus_meaning.specs.Meaning.{means}
 use Rattle.walrus_module.specs.Parts.{parts}
 use Rattle.walrus_module.specs.declared.module.Module.{Module as Whole}
@@ -43,7 +44,12 @@ pub record HasItems (r : ℕ → ℕ) (file m : grammar.Module) : Type 0 where
   pub elements : m.elements ≡ each (retyped_element r) file.elements
   pub segments : m.segments ≡ each (retyped_segment r) file.segments
 
--- so it is where a module was read from bytes: each number of a type has the id that its index is found to have
+-- the module of the bytes, as it was read
+abbrev pub file_of : {B : Type 0} (config : ModuleConfig) (bytes : List ℕ) (m : Whole B) (found : Ids) → IsReadAs config bytes m found → grammar.Module
+file_of config bytes m found is = module_of (state_of is.1.sections) is.1.bodies
+
+-- so it is where a module was read from bytes, which read as that of the file: each number of a type has the id that its index is found to
+-- have
 abbrev pub ReadModulesHaveItems : Type 0 → Type 0
-ReadModulesHaveItems B = (config : ModuleConfig) (bytes : List ℕ) (m : Whole B) (found : Ids) → All (λ b. b < 256) bytes → IsReadAs config bytes m found
-    → (file : grammar.Module) × Reads (read_features config) bytes file × HasItems (type_id (look_of found)) file (means (parts m))
+ReadModulesHaveItems B = (config : ModuleConfig) (bytes : List ℕ) (m : Whole B) (found : Ids) → All (λ b. b < 256) bytes → (is : IsReadAs config bytes m found)
+    → Reads (read_features config) bytes (file_of config bytes m found is) × HasItems (type_id (look_of found)) (file_of config bytes m found is) (means (parts m))

@@ -1,3 +1,3 @@
-mod SlotLemmas
+pub mod SlotLemmas
 mod BroughtLemmas
-mod LinkLemmas
+pub mod LinkLemmas

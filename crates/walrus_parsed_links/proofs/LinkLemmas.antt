@@ -22,18 +22,18 @@ use Rattle.walrus_module_items.specs.declared.import.Import.{Import}
 use Rattle.walrus_parse.specs.Parsed.{read_features}
 use Rattle.walrus_roots.specs.Items.{item}
 use Rattle.walrus_roots.specs.declared.item.Item.{Item}
-use Rattle.walrus_parsed_items.specs.Items.{HasItems, ReadModulesHaveItems, head_of, heads, same}
+use Rattle.walrus_parsed_items.specs.Items.{HasItems, ReadModulesHaveItems, file_of, head_of, heads, same}
 use Rattle.walrus_parsed_links.specs.Links.{HasLinks, ReadModulesHaveLinks}
 use Rattle.walrus_parsed_links.proofs.BroughtLemmas.{brought_is, file_brings, import_of_meant, item_of}
 use Rattle.walrus_parsed_links.proofs.SlotLemmas.{each_at, flags, flags_seen, live_at, seen_at, seen_there}
 
 -- ---- items live
 
-function_flags : (r : ℕ → ℕ) (f : grammar.Module) (m : Module) → HasItems r f (means m) → flags m.funcs.slots ≡ flags f.functions
+pub function_flags : (r : ℕ → ℕ) (f : grammar.Module) (m : Module) → HasItems r f (means m) → flags m.funcs.slots ≡ flags f.functions
 function_flags r f m h =
     sym (flags_seen (own_function m.locals) m.funcs.slots) ∙ sym (flags_seen (head_of same) (means m).functions) ∙ ap flags h.functions ∙ flags_seen (head_of r) f.functions
 
-given_live : (r : ℕ → ℕ) (f : grammar.Module) (m : Module) → HasItems r f (means m) → AreFull f → (x : ExportItem) → IsThere f (own_given x) → Lives m (given_out x)
+pub given_live : (r : ℕ → ℕ) (f : grammar.Module) (m : Module) → HasItems r f (means m) → AreFull f → (x : ExportItem) → IsThere f (own_given x) → Lives m (given_out x)
 given_live r f m h full (exported.Function id) lt = live_at m.funcs.slots f.functions id (function_flags r f m h) full.functions lt
 given_live r f m h full (exported.Table id) lt =
     live_at m.tables.slots f.tables id (sym (flags_seen own_table m.tables.slots) ∙ ap flags h.tables ∙ flags_seen (retyped_table r) f.tables) full.tables lt
@@ -52,9 +52,9 @@ pub have_links : {B : Type 0} → ReadModulesHaveItems B → file.ReadModulesLin
 have_links items links fulls ruled config bytes whole found small is =
     let m = parts whole in
     let all = items config bytes whole found small is in
-    let f = all.0 in
-    let reads = all.1 in
-    let h = all.2 in
+    let f = file_of config bytes whole found is in
+    let reads = all.0 in
+    let h = all.1 in
     let features = read_features config in
     let full = fulls features bytes f reads in
     let there = ruled features bytes f reads in

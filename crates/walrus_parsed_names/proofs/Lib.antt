@@ -1,0 +1,5 @@
+mod ListLemmas
+mod ConstLemmas
+mod ValueLemmas
+mod TypeLemmas
+mod ItemLemmas

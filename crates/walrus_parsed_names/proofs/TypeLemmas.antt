@@ -1,0 +1,86 @@
+-- Lemmas: types of the file live in a module that was read.
+use Rattle.std.specs.Prelude.{ℕ, ◌≡◌, ◌<◌, Bool, true, false, List, [], ◌∷◌, All, length, map, Option, Some, None, IsSome, slice_get, slice_index_or, refl, if◌then◌else◌}
+use Rattle.std.specs.List.{AllByRecursion}
+use Rattle.std.specs.Option.{is_some, option_map, unwrap_or}
+use Rattle.std.proofs.Common.{ap, sym, ◌∙◌, subst}
+use Rattle.wasm_features.specs.declared.WasmFeatures.{WasmFeatures}
+use Rattle.wasm_formats.specs.declared.fault.Space.TheVariants as spaces
+use Rattle.walrus_config.specs.declared.config.ModuleConfig.{ModuleConfig}
+use Rattle.walrus_file_bodies.specs.Read.{grows_none}
+use Rattle.walrus_forms.specs.Kinds.{Kind}
+use Rattle.walrus_forms.specs.Records.{TypeGroup}
+use Rattle.walrus_forms.specs.Renaming.{at, renamed_kind}
+use Rattle.walrus_function_types.specs.Growth.{FoundTypesStay, Grows, TablesGrowOn}
+use Rattle.walrus_functions_into.specs.declared.bodies.FunctionBody.{FunctionBody}
+use Rattle.walrus_group_laws.specs.Groups.{AreDeclared, ReadTypesAreDeclared}
+use Rattle.walrus_index_maps.specs.Maps.{Ids}
+use Rattle.walrus_item_names.specs.Holder.{Holder}
+use Rattle.walrus_item_names.specs.Names.{bare_type, bare_types}
+use Rattle.walrus_items_into.specs.Numbers.{types_in}
+use Rattle.walrus_known_sections.specs.State.{state_of}
+use Rattle.walrus_known_sections.specs.Types.{kinds_in}
+use Rattle.walrus_module.specs.Items.{written, written_type}
+use Rattle.walrus_module.specs.declared.module.Module.{Module as Whole}
+use Rattle.walrus_module_bodies.specs.Steps.{IsStep, State, Steps}
+use Rattle.walrus_module_bodies.specs.declared.file.FileEnv.{FileEnv}
+use Rattle.walrus_parse.specs.Parsed.{IsReadAs, read_features}
+use Rattle.walrus_types.specs.Items.{Item}
+use Rattle.walrus_types.specs.Table.{Table, type_at}
+use Rattle.walrus_types_into.specs.Into.{NewTypesStand, TypesNameBelow}
+use Rattle.walrus_parsed_links.proofs.SlotLemmas.{seen_at}
+use Rattle.walrus_parsed_names.proofs.ListLemmas.{AllOf, all_at, all_join, get_some, some_is}
+
+steps_grow : TablesGrowOn → (file : FileEnv) (features : WasmFeatures) (bs : List FunctionBody) (old new : State) → Steps file features bs old new → Grows old.types new.types
+steps_grow on file features [] old new e = subst (λ (s : State). Grows old.types s.types) (sym e) (grows_none old.types)
+steps_grow on file features (b ∷ bs) old new (mid, step, rest) = on old.types mid.types new.types step.grown (steps_grow on file features bs mid new rest)
+
+-- ---- no type of the file is an entry type
+
+all_rec : {A : Type 0} (P : A → Type 0) (xs : List A) → AllByRecursion P xs → AllOf P xs
+all_rec P [] h = tt
+all_rec P (x ∷ xs) h = (h.0, all_rec P xs h.1)
+
+abbrev IsOpen : Kind → Type 0
+IsOpen k = k.entry ≡ false
+
+declared : (groups : List TypeGroup) → AreDeclared groups → AllOf IsOpen (kinds_in groups)
+declared [] h = tt
+declared (g ∷ groups) h = all_join IsOpen g.kinds (kinds_in groups) (all_rec IsOpen g.kinds h.0) (declared groups h.1)
+
+-- ---- a type under another name lives
+
+bare_slot : (ts : List (Option Item)) (id : ℕ) → slice_index_or (map (option_map bare_type) ts) id None ≡ option_map bare_type (slice_index_or ts id None)
+bare_slot ts id = seen_at bare_type ts id
+
+open_some : (y : Item) → y.kind.entry ≡ false → is_some (written (Some y)) ≡ true
+open_some y e = rw e refl
+
+written_some : (o : Option Item) (x : Item) → option_map bare_type o ≡ Some (bare_type x) → x.kind.entry ≡ false → is_some (written o) ≡ true
+written_some None x e plain = absurd cc
+written_some (Some y) x e plain = open_some y (ap (λ (z : Item). z.kind.entry) (some_is (bare_type y) (bare_type x) e) ∙ plain)
+
+there_too : (ts us : List (Option Item)) (id : ℕ) (x : Item) → map (option_map bare_type) ts ≡ map (option_map bare_type) us → slice_index_or us id None ≡ Some x → x.kind.entry ≡ false
+    → is_some (written (slice_index_or ts id None)) ≡ true
+there_too ts us id x same at plain =
+    written_some (slice_index_or ts id None) x
+    (sym (bare_slot ts id) ∙ ap (λ (l : List (Option Item)). slice_index_or l id None) same ∙ bare_slot us id ∙ ap (option_map bare_type) at) plain
+
+-- ---- the types of the file
+
+pub types_live : {B : Type 0} → NewTypesStand → TypesNameBelow → ReadTypesAreDeclared → FoundTypesStay → TablesGrowOn
+    → (config : ModuleConfig) (bytes : List ℕ) (m : Whole B) (found : Ids) → (is : IsReadAs config bytes m found) → (n : ℕ) → n < length (kinds_in is.1.sections.types)
+    → (found.types ≡ (types_in is.1.sections).ids) → IsSome (written_type m.types (unwrap_or (slice_get found.types n) n))
+types_live stand below declares stay on config bytes m found is n lt same =
+    let h = is.1 in
+    let s = h.sections in
+    let features = read_features config in
+    let kind = get_some (kinds_in s.types) n lt in
+    let stood = (stand s.types (below features bytes (state_of s) h.reads.sections)).stand n kind.0 kind.1 in
+    let x : Item = record { id = stood.0; kind = renamed_kind (at (types_in s).ids) kind.0; name = None } in
+    let plain : kind.0.entry ≡ false = all_at IsOpen (kinds_in s.types) n kind.0 (declared s.types (declares features bytes (state_of s) h.reads.sections)) kind.1 in
+    let grown = steps_grow on h.file features _ _ h.bodied h.bodies_are in
+    let filled : type_at h.filled.types stood.0 ≡ Some x = ap (λ (t : Table). type_at t stood.0) h.are_filled.types ∙ stood.2 in
+    let bodied : type_at h.bodied.types stood.0 ≡ Some x = (stay h.filled.types h.bodied.types grown).live stood.0 x filled in
+    let bare : map (option_map bare_type) m.types.types ≡ map (option_map bare_type) h.bodied.types.types = ap (λ (a : Holder). a.types.types) h.names.same in
+    let id : unwrap_or (slice_get found.types n) n ≡ stood.0 = ap (λ (l : List ℕ). unwrap_or (slice_get l n) n) same ∙ ap (λ (o : Option ℕ). unwrap_or o n) stood.1 in
+    subst (λ (k : ℕ). is_some (written (type_at m.types k)) ≡ true) (sym id) (there_too m.types.types h.bodied.types.types stood.0 x bare bodied plain)

@@ -1,0 +1,3 @@
+pub mod Named
+-- Passed on to crates above, which then list this one alone.
+pub use Rattle.walrus_parsed_items.specs as walrus_parsed_items

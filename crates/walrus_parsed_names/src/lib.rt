@@ -1,0 +1,4 @@
+//! What items name in a module that was read.
+#![tactic(auto)]
+
+pub mod laws;
