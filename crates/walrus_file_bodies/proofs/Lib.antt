@@ -1,7 +1,7 @@
 mod DeclaredLemmas
-mod PairLemmas
+pub mod PairLemmas
 mod TagLemmas
 mod ReadyLemmas
 mod CountLemmas
-mod StopLemmas
+pub mod StopLemmas
 mod ReadLemmas

@@ -1,0 +1,4 @@
+mod PickLemmas
+mod SlotLemmas
+mod StepLemmas
+mod WholeLemmas

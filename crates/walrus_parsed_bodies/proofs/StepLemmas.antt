@@ -1,0 +1,97 @@
+-- Lemmas: bodies that were read are whole.
+use Rattle.std.specs.Prelude.{ℕ, ◌≡◌, ◌⊎◌, ◌<◌, ◌≤◌, ◌+◌, List, [], ◌∷◌, All, length, map, Option, Some, None, slice_index_or, slice_set, refl}
+use Rattle.std.specs.Option.{option_and_then}
+use Rattle.std.proofs.Common.{ap, sym, ◌∙◌, subst, inl, inr}
+use Rattle.wasm_body_grammar.specs.Bodies.{Parts, body, body_of}
+use Rattle.wasm_body_grammar.specs.Rules.{Around}
+use Rattle.wasm_run_names.specs.Picks.{block_pick}
+use Rattle.wasm_features.specs.declared.WasmFeatures.{WasmFeatures}
+use Rattle.wasm_formats.specs.Formats.{Small}
+use Rattle.wasm_normal_form.specs.Trees.{tree_of}
+use Rattle.wasm_sections.specs.Within.{ChunksFit}
+use Rattle.walrus_arena.specs.Arena.{Arena, item_at}
+use Rattle.walrus_body_locals.specs.Locals.{ids_from}
+use Rattle.walrus_body_trees.specs.Laws.{BodiesAreTrees, ops_of}
+use Rattle.walrus_builder.specs.Functions.{seqs_of}
+use Rattle.walrus_file_bodies.specs.Read.{AreCounted, Waits, env_is, env_of, grows_none, ids_length, step_is_read, step_on}
+use Rattle.walrus_forms.specs.declared.value.ValType.{ValType}
+use Rattle.walrus_function_types.specs.FunctionTypes.{form_params, params_at}
+use Rattle.walrus_function_types.specs.Growth.{EntryTypesGrow, FoundTypesStay, Grows, TablesGrowOn}
+use Rattle.walrus_functions_into.specs.declared.bodies.FunctionBody.{FunctionBody}
+use Rattle.walrus_known_sections.specs.Items.{chunk_of}
+use Rattle.walrus_local_function.specs.declared.local_function.LocalFunction.{LocalFunction}
+use Rattle.walrus_module_bodies.specs.Steps.{IsStep, State, Steps}
+use Rattle.walrus_module_bodies.specs.declared.file.FileEnv.{FileEnv}
+use Rattle.walrus_module_env.specs.Around.{IsFiled, sight_in}
+use Rattle.walrus_module_env.specs.Parsed.{PicksAreSeen}
+use Rattle.walrus_module_items.specs.declared.function.Function.{Function}
+use Rattle.walrus_module_items.specs.declared.function.FunctionKind.TheVariants as kinds
+use Rattle.walrus_tree.specs.Trees.{AreDistinct, IsTree}
+use Rattle.walrus_types.specs.Items.{Item}
+use Rattle.walrus_types.specs.Table.{Table, type_at}
+use Rattle.walrus_parsed_bodies.proofs.PickLemmas.{stands_as_written}
+use Rattle.walrus_parsed_bodies.proofs.SlotLemmas.{NoneOf, ids_distinct, set_cases}
+
+-- a body, beside this table of types
+pub record IsGood (t : Table) (local : LocalFunction) : Type 0 where
+  pub distinct : AreDistinct local.args.items
+  pub params : List ValType
+  pub params_are : params_at t local.builder.ty ≡ Some params
+  pub many : length local.args.items ≡ length params
+  pub tree : IsTree (seqs_of local.builder) 0
+
+-- the function of the slot has such a body
+pub record HasGood (t : Table) (slot : Option Function) : Type 0 where
+  pub function : Function
+  pub there : slot ≡ Some function
+  pub local : LocalFunction
+  pub kind : function.kind ≡ kinds.Local local
+  pub good : IsGood t local
+
+params_stay : FoundTypesStay → (old new : Table) (ty : ℕ) (ps : List ValType) → Grows old new → params_at old ty ≡ Some ps → params_at new ty ≡ Some ps
+params_stay stay old new ty ps grows e = go (type_at old ty) refl e
+  where
+    go : (o : Option Item) → type_at old ty ≡ o → option_and_then (λ (item : Item). form_params item.kind.form) o ≡ Some ps → params_at new ty ≡ Some ps
+    go None live e = absurd cc
+    go (Some item) live e = ap (option_and_then (λ (item : Item). form_params item.kind.form)) ((stay old new grows).live ty item live) ∙ e
+
+module _ (stay : FoundTypesStay) (on : TablesGrowOn) (enter : EntryTypesGrow) (trees : BodiesAreTrees) (seen : PicksAreSeen) (file : FileEnv) (features : WasmFeatures) (a : Around) (count : ℕ → ℕ) where
+  step_good : (b : FunctionBody) (bs : List FunctionBody) (old new : State) (t : Table) → Small b.chunk.bytes.now → Waits file features a count old (b ∷ bs) → (s : IsStep file features b old new) → Grows new.types t → IsGood t s.body
+  step_good b bs old new t small w s grows =
+      let e = env_of file t in
+      let read = step_is_read stay on enter file features a count b bs old new w s e t grows (env_is file t) in
+      let parts : Parts = ((read.place, read.runs), read.ops) in
+      let sight = sight_in e b.number new.ids in
+      let filed = (step_on stay on enter file features a count b bs old new w s).filed t e new.ids.locals b.number grows (env_is file t) in
+      let rules = (body a (length s.params) _).found b.chunk.bytes.now parts small read.read in
+      record {
+        distinct = subst AreDistinct (sym s.args_are) (ids_distinct (length old.locals) s.params);
+        params = s.params;
+        params_are = ap (params_at t) s.ty_is ∙ params_stay stay old.types t _ s.params (on old.types new.types t s.grown grows) s.params_are;
+        many = ap length s.args_are ∙ ids_length (length old.locals) s.params;
+        tree = trees a (length s.params) _ b.chunk.bytes.now parts (small, rules.0, rules.1) sight (seqs_of s.body.builder) (stands_as_written sight (block_pick a) _ (tree_of (ops_of parts)) (seen e new.ids b.number _ features a filed) read.stands);
+      }
+
+  steps_grow : (bs : List FunctionBody) (old new : State) → Steps file features bs old new → Grows old.types new.types
+  steps_grow [] old new e = subst (λ (s : State). Grows old.types s.types) (sym e) (grows_none old.types)
+  steps_grow (b ∷ bs) old new (mid, step, rest) = on old.types mid.types new.types step.grown (steps_grow bs mid new rest)
+
+  -- the slot is as it was, and none of the bodies is of its function; or its function has a good body
+  abbrev pub Ends : Table → List FunctionBody → State → State → ℕ → Type 0
+  Ends t bs old new n = ((slice_index_or new.functions.slots n None ≡ slice_index_or old.functions.slots n None) × NoneOf n bs) ⊎ HasGood t (slice_index_or new.functions.slots n None)
+
+  pub steps_good : (start end : ℕ) (bs : List FunctionBody) (old new : State) (t : Table) → ChunksFit start end (map (λ (b : FunctionBody). chunk_of b.chunk) bs) → Waits file features a count old bs
+      → Steps file features bs old new → Grows new.types t → (n : ℕ) → Ends t bs old new n
+  steps_good start end [] old new t fit w e grows n = inl (ap (λ (s : State). slice_index_or s.functions.slots n None) e, tt)
+  steps_good start end (b ∷ bs) old new t fit w (mid, step, rest) grows n =
+      let y = record step.item { kind = kinds.Local step.body } in
+      let given : mid.functions.slots ≡ slice_set old.functions.slots b.number (Some y) = ap (λ (x : Arena Function). x.slots) step.given in
+      let there : slice_index_or mid.functions.slots n None ≡ slice_index_or (slice_set old.functions.slots b.number (Some y)) n None = ap (λ (l : List (Option Function)). slice_index_or l n None) given in
+      let good : IsGood t step.body = step_good b bs old mid t fit.0.0 w step (on mid.types new.types t (steps_grow bs mid new rest) grows) in
+      elim (steps_good start end bs mid new t fit.1 (step_on stay on enter file features a count b bs old mid w step) rest grows n) as (λ _. Ends t (b ∷ bs) old new n) [
+        | inl h ↦ elim (set_cases old.functions.slots b.number n step.item y step.was) as (λ _. Ends t (b ∷ bs) old new n) [
+          | inl set ↦ inr (record { function = y; there = h.0 ∙ there ∙ set.1; local = step.body; kind = refl; good = good })
+          | inr other ↦ inl (h.0 ∙ there ∙ other.1, (other.0, h.1))
+        ]
+        | inr g ↦ inr g
+      ]

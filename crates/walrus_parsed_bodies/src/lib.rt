@@ -1,0 +1,4 @@
+//! Bodies of a module that was read.
+#![tactic(auto)]
+
+pub mod laws;
