@@ -1,4 +1,4 @@
-mod PickLemmas
-mod SlotLemmas
-mod StepLemmas
-mod WholeLemmas
+pub mod PickLemmas
+pub mod SlotLemmas
+pub mod StepLemmas
+pub mod WholeLemmas

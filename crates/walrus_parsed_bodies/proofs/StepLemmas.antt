@@ -72,7 +72,7 @@ module _ (stay : FoundTypesStay) (on : TablesGrowOn) (enter : EntryTypesGrow) (t
         tree = trees a (length s.params) _ b.chunk.bytes.now parts (small, rules.0, rules.1) sight (seqs_of s.body.builder) (stands_as_written sight (block_pick a) _ (tree_of (ops_of parts)) (seen e new.ids b.number _ features a filed) read.stands);
       }
 
-  steps_grow : (bs : List FunctionBody) (old new : State) → Steps file features bs old new → Grows old.types new.types
+  pub steps_grow : (bs : List FunctionBody) (old new : State) → Steps file features bs old new → Grows old.types new.types
   steps_grow [] old new e = subst (λ (s : State). Grows old.types s.types) (sym e) (grows_none old.types)
   steps_grow (b ∷ bs) old new (mid, step, rest) = on old.types mid.types new.types step.grown (steps_grow bs mid new rest)
 

@@ -53,16 +53,16 @@ some_is : {A : Type 0} (x y : A) → Some x ≡ Some y → x ≡ y
 some_is x y e = cc
 
 -- what stands at a number, where only names differ
-bare_same : {A : Type 0} (bare : A → A) (xs ys : List (Option A)) (n : ℕ) → map (option_map bare) xs ≡ map (option_map bare) ys → option_map bare (slice_index_or xs n None) ≡ option_map bare (slice_index_or ys n None)
+pub bare_same : {A : Type 0} (bare : A → A) (xs ys : List (Option A)) (n : ℕ) → map (option_map bare) xs ≡ map (option_map bare) ys → option_map bare (slice_index_or xs n None) ≡ option_map bare (slice_index_or ys n None)
 bare_same {A} bare xs ys n e = sym (bare_at bare xs n) ∙ ap (λ (l : List (Option A)). slice_index_or l n None) e ∙ bare_at bare ys n
 
 -- so of a function its kind is the same
-record KindAt (slot : Option Function) (kind : FunctionKind) : Type 0 where
+pub record KindAt (slot : Option Function) (kind : FunctionKind) : Type 0 where
   pub function : Function
   pub there : slot ≡ Some function
   pub kind_is : function.kind ≡ kind
 
-kind_at : (x : Function) (slot : Option Function) → Some (bare_function x) ≡ option_map bare_function slot → KindAt slot x.kind
+pub kind_at : (x : Function) (slot : Option Function) → Some (bare_function x) ≡ option_map bare_function slot → KindAt slot x.kind
 kind_at x None e = absurd cc
 kind_at x (Some y) e = record { function = y; there = refl; kind_is = sym (ap (λ (f : Function). f.kind) (some_is (bare_function x) (bare_function y) e)) }
 

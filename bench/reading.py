@@ -1,0 +1,69 @@
+#!/usr/bin/env python3
+"""Times walrus_inspect against wasm-opt --all-features without passes on files of five shapes, each of three sizes, and prints a table.
+
+    bench/reading.py [--rounds N] [--scale N] [FILE..]
+
+A time is the least of the rounds, in seconds by the clock; memory is the most that was resident. wasm-opt reads the file and writes it again.
+Wanted are 15 times less time and half of the memory, and at most 2.2 times the time for twice the count. --scale divides the counts. Files
+that are named are measured instead. binaryen is installed where it is missing.
+"""
+import argparse
+import os
+import subprocess
+import sys
+import tempfile
+
+from compare import install, measured
+
+ROOT = os.path.dirname(os.path.dirname(os.path.abspath(__file__)))
+CRATE = f"{ROOT}/crates/walrus_inspect_cli"
+PROGRAM = f"{CRATE}/out/walrus_inspect_cli"
+# The largest count of each shape: code of some 50 MB, a million of each other thing but of segments, of which there may be fewer.
+COUNTS = {"code": 200_000, "names": 1_000_000, "exports": 1_000_000, "segments": 100_000, "types": 1_000_000}
+
+
+def build():
+    if not os.path.exists(PROGRAM):
+        print("building walrus_inspect", file=sys.stderr)
+        subprocess.run(["rt", "run", "--", "--version"], cwd=CRATE, check=True, stdout=subprocess.DEVNULL)
+
+
+def least(command, rounds):
+    clocks, _, memories = zip(*(measured(command) for _ in range(rounds)))
+    return min(clocks), max(memories)
+
+
+def row(what, file, rounds, before):
+    """Prints the figures of a file, beside those of the one before it, and returns our time."""
+    ours, memory = least([PROGRAM, file], rounds)
+    theirs, much = least(["wasm-opt", "--all-features", file, "-o", os.devnull], rounds)
+    size = os.path.getsize(file)
+    doubled = f"{ours / before:.2f}" if before else ""
+    print(f"| {what} | {size / 1e6:.1f} | {ours:.3f} | {doubled} | {theirs:.3f} | {theirs / ours:.1f} | {memory / 2**20:.0f} | {memory / much:.2f} |", flush=True)
+    return ours
+
+
+def main():
+    words = argparse.ArgumentParser(description="Times walrus_inspect against wasm-opt.")
+    words.add_argument("--rounds", type=int, default=3)
+    words.add_argument("--scale", type=int, default=1)
+    words.add_argument("files", nargs="*")
+    asked = words.parse_args()
+    install()
+    build()
+    print("| What | MB | `walrus_inspect`, s | Times the half | `wasm-opt`, s | Times ours | MiB | Of `wasm-opt`'s |\n|---|---|---|---|---|---|---|---|")
+    for file in asked.files:
+        row(os.path.basename(file), file, asked.rounds, None)
+    with tempfile.TemporaryDirectory() as folder:
+        for shape, most in COUNTS.items() if not asked.files else ():
+            before = None
+            for part in (4, 2, 1):
+                count = most // part // asked.scale
+                file = f"{folder}/{shape}.wasm"
+                # In a process of its own: what this one has resident counts as its children's too.
+                subprocess.run([sys.executable, f"{ROOT}/bench/make_file.py", "--count", str(count), shape, file], check=True)
+                before = row(f"{shape}, {count:,}", file, asked.rounds, before)
+
+
+if __name__ == "__main__":
+    main()

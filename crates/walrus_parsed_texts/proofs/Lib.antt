@@ -1,0 +1,3 @@
+mod NamingLemmas
+mod StepLemmas
+mod TextLemmas

@@ -1,0 +1,74 @@
+-- Lemmas: the bodies of a module that was read.
+use Rattle.std.specs.Prelude.{ℕ, zero, suc, ◌≡◌, ◌<◌, List, [], ◌∷◌, All, length, map, Option, Some, None, slice_index_or, refl}
+use Rattle.std.specs.List.{AllZip}
+use Rattle.std.specs.Option.{option_map}
+use Rattle.std.proofs.Common.{ap, sym, ◌∙◌, subst}
+use Rattle.wasm_body_grammar.specs.Codes.{Code, ReadsCodes}
+use Rattle.wasm_body_grammar.specs.Laws.{BodiesReadOnce}
+use Rattle.wasm_body_grammar.specs.Rules.{Around}
+use Rattle.wasm_grammar.specs.Modules as grammar
+use Rattle.wasm_modules.specs.Modules.{around}
+use Rattle.wasm_normal_form.specs.Normal.{normal_ops}
+use Rattle.wasm_run_names.specs.Picks.{block_pick}
+use Rattle.wasm_sections.specs.Within.{bodies_inside}
+use Rattle.walrus_arena.specs.Arena.{item_at}
+use Rattle.walrus_body_trees.specs.Laws.{BodiesMeanTheirs, meant, renamed}
+use Rattle.walrus_config.specs.declared.config.ModuleConfig.{ModuleConfig}
+use Rattle.walrus_file_bodies.proofs.PairLemmas.{are_apart, chunks_fit}
+use Rattle.walrus_file_bodies.proofs.StopLemmas.{bodies_wait, chunks_fit_in, count_in}
+use Rattle.walrus_file_bodies.specs.Ready.{bodies_in}
+use Rattle.walrus_function_types.specs.Growth.{EntryTypesGrow, FoundTypesStay, TablesGrowOn}
+use Rattle.walrus_functions_into.specs.Laws.{read_bodies}
+use Rattle.walrus_functions_into.specs.declared.bodies.FunctionBody.{FunctionBody}
+use Rattle.walrus_index_maps.specs.Maps.{Ids}
+use Rattle.walrus_item_names.specs.Holder.{Holder}
+use Rattle.walrus_item_names.specs.Names.{bare_function}
+use Rattle.walrus_items_into.specs.Laws.{FilledFunctionsStand, FilledModulesAreFiled}
+use Rattle.walrus_known_sections.specs.State.{state_of}
+use Rattle.walrus_meaning.specs.Bodies.{own_operators}
+use Rattle.walrus_module.specs.Parts.{Module, parts}
+use Rattle.walrus_module_bodies.specs.Steps.{State, state}
+use Rattle.walrus_module_env.specs.Parsed.{BlocksAreNamed, PicksAreSeen}
+use Rattle.walrus_module_items.specs.declared.function.Function.{Function}
+use Rattle.walrus_module_items.specs.declared.function.FunctionKind.{FunctionKind}
+use Rattle.walrus_parse.specs.Parsed.{IsReadAs, read_features}
+use Rattle.walrus_parsed_bodies.proofs.WholeLemmas.{KindAt, bare_same, kind_at}
+use Rattle.walrus_parsed_texts.specs.Texts.{MeansBody, ReadBodiesMeanTheirs, naming, text_of}
+use Rattle.walrus_parsed_texts.proofs.StepLemmas.{MeansIn, all_mean}
+
+zip_later : {A B : Type 0} (P Q : A → B → Type 0) → ((x : A) (y : B) → P x y → Q x y) → (xs : List A) (ys : List B) → AllZip P xs ys → AllZip Q xs ys
+zip_later P Q f [] [] h = h
+zip_later P Q f [] (y ∷ ys) h = absurd h
+zip_later P Q f (x ∷ xs) [] h = absurd h
+zip_later P Q f (x ∷ xs) (y ∷ ys) h = (f x y h.0, zip_later P Q f xs ys h.1)
+
+-- once names are given
+named_means : (m : Module) (found : Ids) (final : State) (a : Around) → found ≡ final.ids → map (option_map bare_function) m.funcs.slots ≡ map (option_map bare_function) final.functions.slots
+    → (b : FunctionBody) (x : grammar.Body) → MeansIn final a b x → MeansBody m found a b x
+named_means m found final a ids funcs b x h =
+    let same = kind_at h.function (slice_index_or m.funcs.slots b.number None)
+    (sym (ap (option_map bare_function) h.there) ∙ bare_same bare_function final.functions.slots m.funcs.slots b.number (sym funcs)) in record {
+      function = same.function;
+      there = same.there;
+      local = h.local;
+      kind = same.kind_is ∙ h.kind;
+      operators = h.operators ∙ ap (λ (i : Ids). map (renamed (naming i b.number)) (normal_ops (block_pick a) (text_of x))) (sym ids);
+    }
+
+pub bodies_mean : {B : Type 0} → FilledFunctionsStand B → FilledModulesAreFiled B → FoundTypesStay → TablesGrowOn → EntryTypesGrow → BodiesMeanTheirs → BodiesReadOnce → PicksAreSeen → BlocksAreNamed
+    → ReadBodiesMeanTheirs B
+bodies_mean {B} stands filed stay on enter mean once seen named config bytes m found small is =
+    let h = is.1 in
+    let s = h.sections in
+    let features = read_features config in
+    let f = h.filled in
+    let a = around features (state_of s) in
+    let bs : List FunctionBody = bodies_in s f.functions in
+    let old = state f.types [] h.numbers f.functions in
+    let stand = stands features bytes s m.start h.numbers f h.reads.sections h.are_filled in
+    let fit = chunks_fit_in s.code_start (length bytes) bs (read_bodies s.bodies) stand.paired.chunks_are (chunks_fit s.code_start (length bytes) s.bodies (bodies_inside features bytes (state_of s) small h.reads.sections)) in
+    let waits = bodies_wait features bytes s m.start h.numbers f h.file filed h.reads.sections h.are_filled h.is_file bs [] (are_apart f.functions.slots 0 (read_bodies s.bodies)) in
+    let reads = subst (λ (cs : List Code). ReadsCodes a cs h.bodies) (sym stand.paired.codes_are) h.reads.codes_are in
+    let all = all_mean stay on enter mean once seen named h.file features a (count_in s) s.code_start (length bytes) bs h.bodies old h.bodied fit waits reads h.bodies_are in
+    let funcs : map (option_map bare_function) m.funcs.slots ≡ map (option_map bare_function) h.bodied.functions.slots = ap (λ (x : Holder). x.funcs.slots) h.names.same in
+    zip_later (MeansIn h.bodied a) (MeansBody (parts m) found a) (named_means (parts m) found h.bodied a h.found_are funcs) bs h.bodies all
