@@ -1,5 +1,5 @@
-mod ListLemmas
+pub mod ListLemmas
 mod ConstLemmas
 mod ValueLemmas
-mod TypeLemmas
+pub mod TypeLemmas
 mod ItemLemmas

@@ -1,0 +1,3 @@
+mod NormalLemmas
+mod RuleLemmas
+mod UseLemmas

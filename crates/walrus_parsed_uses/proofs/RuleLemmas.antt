@@ -1,0 +1,169 @@
+-- Lemmas: a body's operators name what is there, and so do the picks for its block types.
+use Rattle.std.specs.Prelude.{ℕ, ◌≡◌, ◌<◌, ◌≤◌, ◌+◌, ◌&&◌, Bool, true, false, nat_lt, List, [], ◌∷◌, All, length, Option, Some, None, IfSome, slice_get, refl, if◌then◌else◌}
+use Rattle.std.specs.List.{flat_map}
+use Rattle.std.specs.Option.{option_map, unwrap_or}
+use Rattle.std.proofs.Common.{arith}
+use Rattle.std.proofs.lemmas.Bool.{ltb-true}
+use Rattle.std.proofs.lemmas.List.{length-append}
+use Rattle.std.proofs.lemmas.List.Elements.{All-nil, All-cons, All-head, All-tail}
+use Rattle.wasm_body_grammar.specs.Frames.{Frame, turned}
+use Rattle.wasm_body_grammar.specs.Bodies.{frames_of}
+use Rattle.wasm_body_grammar.specs.Rules.{Around, found_in, latest_from, leads, names_test, pick, room, serves, space_of}
+use Rattle.wasm_formats.specs.Stops.{Index}
+use Rattle.wasm_formats.specs.declared.fault.Space.TheVariants as spaces
+use Rattle.wasm_grammar.specs.Modules as grammar
+use Rattle.wasm_grammar.specs.States.{count_of, types_of}
+use Rattle.wasm_grammar.specs.TypeWords.{value_from}
+use Rattle.wasm_grammar.specs.Values.{must}
+use Rattle.wasm_immediates.specs.Items.{Space, Types, Functions, Tables, Memories, Tags, Globals, ElementSegments, DataSegments, Locals, Labels}
+use Rattle.wasm_immediates.specs.declared.block_type.BlockType.{BlockType}
+use Rattle.wasm_immediates.specs.declared.block_type.BlockType.TheVariants as blocks
+use Rattle.wasm_module_rules.specs.Keeps.{first_none, must_holds}
+use Rattle.wasm_operator_names.specs.Names.{Name, block_names, operator_names, value_names}
+use Rattle.wasm_operators.specs.Operators.{flow_of}
+use Rattle.wasm_ruled_modules.specs.Rules.{AreBelow, AreOperators, GroupsBelow}
+use Rattle.wasm_run_names.specs.Picks.{block_pick, form_pick, kind_pick}
+use Rattle.walrus_forms.specs.Forms.{Form, FunctionForm, StructForm, ArrayForm}
+use Rattle.walrus_forms.specs.Kinds.{Kind}
+use Rattle.walrus_forms.specs.Records.{TypeGroup}
+use Rattle.walrus_forms.specs.Renaming.{FieldBelow, FormBelow, ValueBelow}
+use Rattle.walrus_forms.specs.Values.{field_name, heap_name, value_name}
+use Rattle.walrus_forms.specs.declared.value.FieldType.{FieldType}
+use Rattle.walrus_forms.specs.declared.value.HeapType.{HeapType}
+use Rattle.walrus_forms.specs.declared.value.HeapType.TheVariants.{Abstract, Concrete, Exact}
+use Rattle.walrus_forms.specs.declared.value.ValType.{ValType}
+use Rattle.walrus_forms.specs.declared.value.ValType.TheVariants.{I32, I64, F32, F64, V128, Ref}
+use Rattle.walrus_parsed_names.proofs.ListLemmas.{AllOf, all_at, all_join}
+
+-- a number of the space is one of the module's; labels and locals aside
+abbrev pub InRange : grammar.Module → Space → ℕ → Type 0
+InRange m Locals n = Unit {0}
+InRange m Labels n = Unit {0}
+InRange m space n = n < count_of m (space_of space)
+
+abbrev pub NameInRange : grammar.Module → Name → Type 0
+NameInRange m name = InRange m name.0 name.1
+
+-- ---- what rules ask
+
+in_room : (a : Around) (locals labels : ℕ) (space : Space) (n : ℕ) → nat_lt n (room a locals labels space) ≡ true → InRange a.filled space n
+in_room a locals labels Types n e = ltb-true n (count_of a.filled spaces.«Type») e
+in_room a locals labels Functions n e = ltb-true n (count_of a.filled spaces.Function) e
+in_room a locals labels Tables n e = ltb-true n (count_of a.filled spaces.Table) e
+in_room a locals labels Memories n e = ltb-true n (count_of a.filled spaces.Memory) e
+in_room a locals labels Tags n e = ltb-true n (count_of a.filled spaces.Tag) e
+in_room a locals labels Globals n e = ltb-true n (count_of a.filled spaces.Global) e
+in_room a locals labels ElementSegments n e = ltb-true n (count_of a.filled spaces.Element) e
+in_room a locals labels DataSegments n e = ltb-true n (count_of a.filled spaces.Data) e
+in_room a locals labels Locals n e = tt
+in_room a locals labels Labels n e = tt
+
+names_in_range : (a : Around) (locals labels : ℕ) (names : List Name) → names_test (room a locals labels) names ≡ None → AllOf (NameInRange a.filled) names
+names_in_range a locals labels [] e = tt
+names_in_range a locals labels (n ∷ names) e =
+    let both = first_none (must (nat_lt n.1 (room a locals labels n.0)) (Index (space_of n.0))) (names_test (room a locals labels) names) e in
+    (in_room a locals labels n.0 n.1 (must_holds (nat_lt n.1 (room a locals labels n.0)) (Index (space_of n.0)) both.0), names_in_range a locals labels names both.1)
+
+pub operators_in_range : (a : Around) (locals : ℕ) (frames : List Frame) (ops : List grammar.Placed) → AreOperators a locals frames ops
+    → AllOf (λ (o : grammar.Placed). AllOf (NameInRange a.filled) (operator_names o.op)) ops
+operators_in_range a locals frames [] h = tt
+operators_in_range a locals frames (o ∷ ops) h =
+    (names_in_range a locals _ (operator_names o.op) (first_none _ _ h.1).0, operators_in_range a locals (frames_of (turned (flow_of o.op.code) frames) frames) ops h.2)
+
+-- ---- types name types that are there
+
+all_more : {X : Type 0} (P Q : X → Type 0) → ((x : X) → P x → Q x) → (xs : List X) → All P xs → All Q xs
+all_more P Q f [] h = All-nil Q
+all_more P Q f (x ∷ xs) h = All-cons Q x xs (f x (All-head P x xs h)) (all_more P Q f xs (All-tail P x xs h))
+
+name_more : (m n : ℕ) → m ≤ n → (o : Option ℕ) → IfSome o (λ name. name < m) → IfSome o (λ name. name < n)
+name_more m n le None h = h
+name_more m n le (Some name) h = omega (arith, le, h)
+
+form_more : (m n : ℕ) → m ≤ n → (form : Form) → FormBelow m form → FormBelow n form
+form_more m n le (FunctionForm params results) h =
+    let value : (ty : ValType) → ValueBelow m ty → ValueBelow n ty = λ ty h. name_more m n le (value_name ty) h in
+    (all_more (ValueBelow m) (ValueBelow n) value params h.0, all_more (ValueBelow m) (ValueBelow n) value results h.1)
+form_more m n le (StructForm fields) h = all_more (FieldBelow m) (FieldBelow n) (λ (field : FieldType) h. name_more m n le (field_name field) h) fields h
+form_more m n le (ArrayForm field) h = name_more m n le (field_name field) h
+
+abbrev kinds_of : List TypeGroup → List Kind
+kinds_of groups = flat_map (λ (g : TypeGroup). g.kinds) groups
+
+-- each kind's form names types below this number
+abbrev FormsBelow : ℕ → List Kind → Type 0
+FormsBelow n = AllOf (λ (k : Kind). FormBelow n k.form)
+
+kinds_more : (m n : ℕ) → m ≤ n → (ks : List Kind) → AreBelow m ks → FormsBelow n ks
+kinds_more m n le [] h = tt
+kinds_more m n le (k ∷ ks) h = (form_more m n le k.form h.0.0, kinds_more m n le ks h.1)
+
+groups_below : (groups : List TypeGroup) (n end : ℕ) → n + length (kinds_of groups) ≤ end → GroupsBelow n groups → FormsBelow end (kinds_of groups)
+groups_below [] n end le h = tt
+groups_below (g ∷ groups) n end le h =
+    let size : length (kinds_of (g ∷ groups)) ≡ length g.kinds + length (kinds_of groups) = length-append g.kinds (kinds_of groups) in
+    all_join (λ (k : Kind). FormBelow end k.form) g.kinds (kinds_of groups)
+    (kinds_more (n + length g.kinds) end (omega (arith, le, size)) g.kinds h.0)
+    (groups_below groups (n + length g.kinds) end (omega (arith, le, size)) h.1)
+
+-- ---- picks
+
+heap_in : (m : grammar.Module) (nullable : Bool) (heap : HeapType) → IfSome (heap_name heap) (λ n. n < length (types_of m))
+    → AllOf (NameInRange m) (value_names (value_from (Ref (record { nullable = nullable; heap_type = heap }))))
+heap_in m nullable (Abstract ty) h = tt
+heap_in m nullable (Concrete n) h = (h, tt)
+heap_in m nullable (Exact n) h = (h, tt)
+
+value_in : (m : grammar.Module) (ty : ValType) → ValueBelow (length (types_of m)) ty → AllOf (NameInRange m) (value_names (value_from ty))
+value_in m I32 h = tt
+value_in m I64 h = tt
+value_in m F32 h = tt
+value_in m F64 h = tt
+value_in m V128 h = tt
+value_in m (Ref ty) h = heap_in m ty.nullable ty.heap_type h
+
+latest_within : (test : ℕ → Kind → Bool) (rest : List Kind) (n end : ℕ) (found : Option ℕ) → n + length rest ≤ end → IfSome found (λ k. k < end) → IfSome (latest_from test n found rest) (λ k. k < end)
+latest_within test [] n end found le h = h
+latest_within test (kind ∷ rest) n end found le h =
+    latest_within test rest (n + 1) end (if test n kind then Some n else found) (omega (arith, le)) (either (test n kind))
+  where
+    either : (b : Bool) → IfSome (if b then Some n else found) (λ k. k < end)
+    either true = omega (arith, le)
+    either false = h
+
+module _ (a : Around) (below : FormsBelow (length (types_of a.filled)) (types_of a.filled)) where
+  abbrev Fits : BlockType → Type 0
+  Fits ty = AllOf (NameInRange a.filled) (block_names ty)
+
+  of_found : (ty : BlockType) (o : Option ℕ) → Fits ty → IfSome o (λ k. k < length (types_of a.filled)) → Fits (unwrap_or (option_map blocks.Type o) ty)
+  of_found ty None h k = h
+  of_found ty (Some n) h k = (k, tt)
+
+  found_fits : (ty : BlockType) (params results : List ValType) → Fits ty → Fits (unwrap_or (option_map blocks.Type (found_in a.same params results (types_of a.filled))) ty)
+  found_fits ty params results h =
+      of_found ty (found_in a.same params results (types_of a.filled)) h
+      (latest_within (λ n kind. leads a.same n && serves a.same params results kind) (types_of a.filled) 0 (length (types_of a.filled)) None (omega arith) tt)
+
+  pick_fits : (ty : BlockType) (params results : List ValType) → Fits ty → All (ValueBelow (length (types_of a.filled))) results → Fits (unwrap_or (pick a params results) ty)
+  pick_fits ty [] [] h k = tt
+  pick_fits ty [] (x ∷ []) h k = value_in a.filled x (All-head (ValueBelow (length (types_of a.filled))) x [] k)
+  pick_fits ty [] (x ∷ (y ∷ zs)) h k = found_fits ty [] (x ∷ (y ∷ zs)) h
+  pick_fits ty (x ∷ xs) results h k = found_fits ty (x ∷ xs) results h
+
+  form_fits : (ty : BlockType) (form : Form) → Fits ty → FormBelow (length (types_of a.filled)) form → Fits (form_pick a ty form)
+  form_fits ty (FunctionForm params results) h k = pick_fits ty params results h k.1
+  form_fits ty (StructForm fields) h k = h
+  form_fits ty (ArrayForm field) h k = h
+
+  kind_fits : (n : ℕ) (o : Option Kind) → slice_get (types_of a.filled) n ≡ o → Fits (blocks.Type n) → Fits (kind_pick a (blocks.Type n) o)
+  kind_fits n None e h = h
+  kind_fits n (Some kind) e h = form_fits (blocks.Type n) kind.form h (all_at (λ (k : Kind). FormBelow (length (types_of a.filled)) k.form) (types_of a.filled) n kind below e)
+
+  fits : (ty : BlockType) → Fits ty → Fits (block_pick a ty)
+  fits blocks.Empty h = h
+  fits (blocks.Value ty) h = h
+  fits (blocks.Type n) h = kind_fits n (slice_get (types_of a.filled) n) refl h
+
+-- the pick for a block type names what is there, as that does
+pub picks_in_range : (a : Around) → GroupsBelow 0 a.filled.groups → (ty : BlockType) → AllOf (NameInRange a.filled) (block_names ty) → AllOf (NameInRange a.filled) (block_names (block_pick a ty))
+picks_in_range a below ty h = fits a (groups_below a.filled.groups 0 (length (types_of a.filled)) (omega arith) below) ty h

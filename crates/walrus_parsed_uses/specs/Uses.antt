@@ -1,0 +1,43 @@
+-- What the bodies of a module that was read name: items that live.
+use Rattle.std.specs.Prelude.{ℕ, ◌≡◌, ◌<◌, List, All, Some}
+use Rattle.std.specs.List.{AllByRecursion}
+use Rattle.wasm_body_grammar.specs.Rules.{space_of}
+use Rattle.wasm_grammar.specs.Modules.{Placed}
+use Rattle.wasm_immediates.specs.Items.{Space, Locals, Labels}
+use Rattle.wasm_operator_names.specs.Names.{Name, operator_names}
+use Rattle.walrus_arena.specs.Arena.{item_at}
+use Rattle.walrus_config.specs.declared.config.ModuleConfig.{ModuleConfig}
+use Rattle.walrus_file_bodies.specs.Ready.{bodies_in}
+use Rattle.walrus_functions_into.specs.declared.bodies.FunctionBody.{FunctionBody}
+use Rattle.walrus_index_maps.specs.Maps.{Ids}
+use Rattle.walrus_local_function.specs.declared.local_function.LocalFunction.{LocalFunction}
+use Rattle.walrus_meaning.specs.Bodies.{own_operators}
+use Rattle.walrus_module.specs.Items.{LivesIn}
+use Rattle.walrus_module.specs.Parts.{Module, parts}
+use Rattle.walrus_module.specs.declared.module.Module.{Module as Whole}
+use Rattle.walrus_module_items.specs.declared.function.Function.{Function}
+use Rattle.walrus_module_items.specs.declared.function.FunctionKind.TheVariants as kinds
+use Rattle.walrus_parse.specs.Parsed.{IsReadAs}
+
+-- the item of the module lives; a label or local is the body's own
+abbrev pub IsThere : Module → Space → ℕ → Type 0
+IsThere m Locals n = Unit {0}
+IsThere m Labels n = Unit {0}
+IsThere m space n = LivesIn m (space_of space) n
+
+-- so does each that an operator names
+abbrev pub NamesThere : Module → Placed → Type 0
+NamesThere m o = AllByRecursion (λ (n : Name). IsThere m n.0 n.1) (operator_names o.op)
+
+-- the function of this body names such items alone
+pub record NamesLiving (m : Module) (b : FunctionBody) : Type 0 where
+  pub function : Function
+  pub there : item_at m.funcs b.number ≡ Some function
+  pub local : LocalFunction
+  pub kind : function.kind ≡ kinds.Local local
+  pub named : AllByRecursion (NamesThere m) (own_operators local)
+
+-- so it is of each body of the file
+abbrev pub NamesOfReadBodiesLive : Type 0 → Type 0
+NamesOfReadBodiesLive B = (config : ModuleConfig) (bytes : List ℕ) (m : Whole B) (found : Ids) → All (λ b. b < 256) bytes → (is : IsReadAs config bytes m found)
+    → AllByRecursion (NamesLiving (parts m)) (bodies_in is.1.sections is.1.filled.functions)
