@@ -172,17 +172,17 @@ names_of_bodies {B} mean bodies items fulls ruled ordered again stand below decl
     }) in
     let typed = λ (n : ℕ) (lt : n < length (types_of f)). types_live stand below declares stay on config bytes m found is n lt same in
     let one : (b : FunctionBody) (x : grammar.Body) → MeansBody (parts m) found a b x → RuledBody a x → NamesLiving (parts m) b = λ b x k rule.
-        let normal = weaker (λ (o : Placed). AllOf (NameInRange a.filled) (operator_names o.op)) (λ (o : Placed). AllOf (NameInRange f) (operator_names o.op))
-            (λ o names. weaker (NameInRange a.filled) (NameInRange f) (λ (n : Name) (lt : NameInRange a.filled n). in_file (state_of s) h.bodies n.0 n.1 lt) (operator_names o.op) names)
-            (normal_ops (block_pick a) (text_of x)) (normal_in_range a rules.1.groups x rule) in
-        let ids = ops_there (parts m) f _ all.1 (fulls features bytes f all.0) i found h.bodied.ids.locals numbered others typed again b.number (normal_ops (block_pick a) (text_of x)) normal in
-        record {
-          function = k.function;
-          there = k.there;
-          local = k.local;
-          kind = k.kind;
-          named = unmeant (parts m) (own_operators k.local) (subst (AllOf (λ (o : Placed). AllByRecursion (There (parts m)) (operator_names o.op))) (sym k.operators) ids);
-        } in
+    let normal = weaker (λ (o : Placed). AllOf (NameInRange a.filled) (operator_names o.op)) (λ (o : Placed). AllOf (NameInRange f) (operator_names o.op))
+    (λ o names. weaker (NameInRange a.filled) (NameInRange f) (λ (n : Name) (lt : NameInRange a.filled n). in_file (state_of s) h.bodies n.0 n.1 lt) (operator_names o.op) names)
+    (normal_ops (block_pick a) (text_of x)) (normal_in_range a rules.1.groups x rule) in
+    let ids = ops_there (parts m) f _ all.1 (fulls features bytes f all.0) i found h.bodied.ids.locals numbered others typed again b.number (normal_ops (block_pick a) (text_of x)) normal in
+    record {
+      function = k.function;
+      there = k.there;
+      local = k.local;
+      kind = k.kind;
+      named = unmeant (parts m) (own_operators k.local) (subst (AllOf (λ (o : Placed). AllByRecursion (There (parts m)) (operator_names o.op))) (sym k.operators) ids);
+    } in
     zipped (MeansBody (parts m) found a) (RuledBody a) (NamesLiving (parts m)) one (bodies_in s h.filled.functions) h.bodies (mean config bytes m found small is) (ruled_bodies a (codes (state_of s)) h.bodies h.reads.codes_are)
   where
     zipped : {A C : Type 0} (P : A → C → Type 0) (Q : C → Type 0) (R : A → Type 0) → ((x : A) (y : C) → P x y → Q y → R x) → (xs : List A) (ys : List C) → AllZip P xs ys → AllOf Q ys → AllByRecursion R xs
