@@ -30,7 +30,7 @@ use Rattle.walrus_types_into.specs.Into.{NewTypesStand, TypesNameBelow}
 use Rattle.walrus_parsed_links.proofs.SlotLemmas.{seen_at}
 use Rattle.walrus_parsed_names.proofs.ListLemmas.{AllOf, all_at, all_join, get_some, some_is}
 
-steps_grow : TablesGrowOn → (file : FileEnv) (features : WasmFeatures) (bs : List FunctionBody) (old new : State) → Steps file features bs old new → Grows old.types new.types
+pub steps_grow : TablesGrowOn → (file : FileEnv) (features : WasmFeatures) (bs : List FunctionBody) (old new : State) → Steps file features bs old new → Grows old.types new.types
 steps_grow on file features [] old new e = subst (λ (s : State). Grows old.types s.types) (sym e) (grows_none old.types)
 steps_grow on file features (b ∷ bs) old new (mid, step, rest) = on old.types mid.types new.types step.grown (steps_grow on file features bs mid new rest)
 

@@ -1,3 +1,4 @@
 mod NormalLemmas
 mod RuleLemmas
 mod UseLemmas
+mod KindLemmas

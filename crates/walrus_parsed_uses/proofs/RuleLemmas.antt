@@ -26,7 +26,7 @@ use Rattle.wasm_run_names.specs.Picks.{block_pick, form_pick, kind_pick}
 use Rattle.walrus_forms.specs.Forms.{Form, FunctionForm, StructForm, ArrayForm}
 use Rattle.walrus_forms.specs.Kinds.{Kind}
 use Rattle.walrus_forms.specs.Records.{TypeGroup}
-use Rattle.walrus_forms.specs.Renaming.{FieldBelow, FormBelow, ValueBelow}
+use Rattle.walrus_forms.specs.Renaming.{FieldBelow, FormBelow, KindBelow, ValueBelow}
 use Rattle.walrus_forms.specs.Values.{field_name, heap_name, value_name}
 use Rattle.walrus_forms.specs.declared.value.FieldType.{FieldType}
 use Rattle.walrus_forms.specs.declared.value.HeapType.{HeapType}
@@ -90,19 +90,19 @@ form_more m n le (ArrayForm field) h = name_more m n le (field_name field) h
 abbrev kinds_of : List TypeGroup → List Kind
 kinds_of groups = flat_map (λ (g : TypeGroup). g.kinds) groups
 
--- each kind's form names types below this number
-abbrev FormsBelow : ℕ → List Kind → Type 0
-FormsBelow n = AllOf (λ (k : Kind). FormBelow n k.form)
+-- each kind names types below this number
+abbrev pub KindsBelow : ℕ → List Kind → Type 0
+KindsBelow n = AllOf (KindBelow n)
 
-kinds_more : (m n : ℕ) → m ≤ n → (ks : List Kind) → AreBelow m ks → FormsBelow n ks
+kinds_more : (m n : ℕ) → m ≤ n → (ks : List Kind) → AreBelow m ks → KindsBelow n ks
 kinds_more m n le [] h = tt
-kinds_more m n le (k ∷ ks) h = (form_more m n le k.form h.0.0, kinds_more m n le ks h.1)
+kinds_more m n le (k ∷ ks) h = ((form_more m n le k.form h.0.0, name_more m n le k.supertype h.0.1), kinds_more m n le ks h.1)
 
-groups_below : (groups : List TypeGroup) (n end : ℕ) → n + length (kinds_of groups) ≤ end → GroupsBelow n groups → FormsBelow end (kinds_of groups)
+pub groups_below : (groups : List TypeGroup) (n end : ℕ) → n + length (kinds_of groups) ≤ end → GroupsBelow n groups → KindsBelow end (kinds_of groups)
 groups_below [] n end le h = tt
 groups_below (g ∷ groups) n end le h =
     let size : length (kinds_of (g ∷ groups)) ≡ length g.kinds + length (kinds_of groups) = length-append g.kinds (kinds_of groups) in
-    all_join (λ (k : Kind). FormBelow end k.form) g.kinds (kinds_of groups)
+    all_join (KindBelow end) g.kinds (kinds_of groups)
     (kinds_more (n + length g.kinds) end (omega (arith, le, size)) g.kinds h.0)
     (groups_below groups (n + length g.kinds) end (omega (arith, le, size)) h.1)
 
@@ -131,7 +131,7 @@ latest_within test (kind ∷ rest) n end found le h =
     either true = omega (arith, le)
     either false = h
 
-module _ (a : Around) (below : FormsBelow (length (types_of a.filled)) (types_of a.filled)) where
+module _ (a : Around) (below : KindsBelow (length (types_of a.filled)) (types_of a.filled)) where
   abbrev Fits : BlockType → Type 0
   Fits ty = AllOf (NameInRange a.filled) (block_names ty)
 
@@ -157,7 +157,7 @@ module _ (a : Around) (below : FormsBelow (length (types_of a.filled)) (types_of
 
   kind_fits : (n : ℕ) (o : Option Kind) → slice_get (types_of a.filled) n ≡ o → Fits (blocks.Type n) → Fits (kind_pick a (blocks.Type n) o)
   kind_fits n None e h = h
-  kind_fits n (Some kind) e h = form_fits (blocks.Type n) kind.form h (all_at (λ (k : Kind). FormBelow (length (types_of a.filled)) k.form) (types_of a.filled) n kind below e)
+  kind_fits n (Some kind) e h = form_fits (blocks.Type n) kind.form h (all_at (KindBelow (length (types_of a.filled))) (types_of a.filled) n kind below e).0
 
   fits : (ty : BlockType) → Fits ty → Fits (block_pick a ty)
   fits blocks.Empty h = h

@@ -1,5 +1,6 @@
 //! Laws: functions with nothing to do, whose contracts hold of all modules that are read.
 
+ghost use Rattle.walrus_parsed_uses.specs.Types.{NamesOfReadTypesLive};
 ghost use Rattle.walrus_parsed_uses.specs.Uses.{NamesOfReadBodiesLive};
 
 use walrus_file_bodies::laws::bodies_read_files;
@@ -25,6 +26,20 @@ pub fn names_of_read_bodies_live<B>()
     read_modules_are_ruled();
     ordered_stay();
     names_are_renamed();
+    new_types_stand();
+    types_name_below();
+    read_types_are_declared();
+    found_types_stay();
+    tables_grow_on();
+}
+
+/// In a module that was read, what the type of each index of the file names lives: the types of its form, and its supertype.
+pub fn names_of_read_types_live<B>()
+    ensures { NamesOfReadTypesLive B }
+{
+    read_modules_have_items::<B>();
+    bodies_read_files::<B>();
+    read_modules_are_ruled();
     new_types_stand();
     types_name_below();
     read_types_are_declared();
