@@ -100,7 +100,7 @@ HasLocals old new = new ≡ record old { locals = new.locals }
 more_has : (function : ℕ) (ids : List ℕ) (old new : Ids) → new ≡ record old { locals = with_more function ids old.locals } → HasLocals old new
 more_has function ids old new e = e ∙ ap (λ (l : ℕ → List ℕ). record old { locals = l }) (sym (ap (λ (i : Ids). i.locals) e))
 
-names_on : (i j k : Ids) → HasLocals i j → HasLocals j k → HasLocals i k
+pub names_on : (i j k : Ids) → HasLocals i j → HasLocals j k → HasLocals i k
 names_on i j k a b = b ∙ ap (λ (m : Ids). record m { locals = k.locals }) a
 
 -- ---- what bodies ask of the file's module
@@ -111,6 +111,10 @@ env_of file t = record { types = record { now = t; ref_ptr = file.tags.ref_ptr }
 pub env_is : (file : FileEnv) (t : Table) → IsEnv file t (env_of file t)
 env_is file t = record { types_are = refl; tags_are = refl; memories_are = refl; own_are = refl; counted_is = refl; begins = refl }
 
+pub steps_grow : TablesGrowOn → (file : FileEnv) (features : WasmFeatures) (bs : List FunctionBody) (old new : State) → Steps file features bs old new → Grows old.types new.types
+steps_grow on file features [] old new e = subst (λ (s : State). Grows old.types s.types) (sym e) (grows_none old.types)
+steps_grow on file features (b ∷ bs) old new (mid, step, rest) = on old.types mid.types new.types step.grown (steps_grow on file features bs mid new rest)
+
 module _ (stay : FoundTypesStay) (on : TablesGrowOn) (enter : EntryTypesGrow) (file : FileEnv) (features : WasmFeatures) (a : Around) (count : ℕ → ℕ) where
   -- ---- one body
 
@@ -118,23 +122,23 @@ module _ (stay : FoundTypesStay) (on : TablesGrowOn) (enter : EntryTypesGrow) (f
   same_count s bs n f ps w was is = let c = w.counted n f was in ap (λ (l : List ValType). length l) (some_is ps c.0 (sym is ∙ c.1)) ∙ c.2
 
   -- the file's module is there for a step's body, beside its function's parameters
-  step_filed : (b : FunctionBody) (bs : List FunctionBody) (old new : State) → Waits file features a count old (b ∷ bs) → (s : IsStep file features b old new)
-      → IsFiled (env_of file s.mid) s.numbered b.number (length s.params) features a
-  step_filed b bs old new w s =
+  pub step_filed : (b : FunctionBody) (bs : List FunctionBody) (old new : State) → Waits file features a count old (b ∷ bs) → (s : IsStep file features b old new) (g : ModuleEnv) → IsEnv file s.mid g
+      → IsFiled g s.numbered b.number (length s.params) features a
+  step_filed b bs old new w s g is =
       let named : s.numbered ≡ record old.ids { locals = with_more b.number (ids_from (length old.locals) s.params) old.ids.locals } = s.arguments.named in
       let has : HasLocals old.ids s.numbered = more_has b.number (ids_from (length old.locals) s.params) old.ids s.numbered named in
       let none = All-head (λ (c : FunctionBody). old.ids.locals c.number ≡ []) b bs w.no_locals in
       let own : s.numbered.locals b.number ≡ ids_from (length old.locals) s.params =
       ap (λ (i : Ids). i.locals b.number) named ∙ own_first b.number (ids_from (length old.locals) s.params) old.ids.locals none in
       let size : length (s.numbered.locals b.number) ≡ length s.params = ap (λ (l : List ℕ). length l) own ∙ ids_length (length old.locals) s.params in
-      let filed = w.filed s.mid (env_of file s.mid) s.numbered.locals b.number (enter s.results s.entry old.types s.mid s.entered) (env_is file s.mid) in
-      subst (λ (n : ℕ). IsFiled (env_of file s.mid) s.numbered b.number n features a) size
-      (subst (λ (i : Ids). IsFiled (env_of file s.mid) i b.number (length (s.numbered.locals b.number)) features a) (sym has) filed)
+      let filed = w.filed s.mid g s.numbered.locals b.number (enter s.results s.entry old.types s.mid s.entered) is in
+      subst (λ (n : ℕ). IsFiled g s.numbered b.number n features a) size
+      (subst (λ (i : Ids). IsFiled g i b.number (length (s.numbered.locals b.number)) features a) (sym has) filed)
 
   -- it is read in the file, beside each later table of the module's types
   pub step_is_read : (b : FunctionBody) (bs : List FunctionBody) (old new : State) → Waits file features a count old (b ∷ bs) → (s : IsStep file features b old new) (f : ModuleEnv) (later : Table) → Grows new.types later → IsEnv file later f
       → IsRead f b.number (length s.params) (cursor_of file features b) new.ids (contents s.body.builder.builder) a
-  step_is_read b bs old new w s f later grows is = (s.read (env_of file s.mid) f later (env_is file s.mid) grows is a (step_filed b bs old new w s)).0
+  step_is_read b bs old new w s f later grows is = (s.read (env_of file s.mid) f later (env_is file s.mid) grows is a (step_filed b bs old new w s (env_of file s.mid) (env_is file s.mid))).0
 
   place_is : (start place size : ℕ) → start + place + size - size - start ≡ place
   place_is start place size = omega arith
@@ -160,7 +164,7 @@ module _ (stay : FoundTypesStay) (on : TablesGrowOn) (enter : EntryTypesGrow) (f
 
   -- ---- the bodies behind it
 
-  step_names : (b : FunctionBody) (old new : State) → IsStep file features b old new → HasLocals old.ids new.ids
+  pub step_names : (b : FunctionBody) (old new : State) → IsStep file features b old new → HasLocals old.ids new.ids
   step_names b old new s = names_on old.ids s.numbered new.ids (more_has b.number (ids_from (length old.locals) s.params) old.ids s.numbered s.arguments.named) (more_has b.number s.left.ids s.numbered new.ids s.left.named)
 
   -- functions have as many parameters still

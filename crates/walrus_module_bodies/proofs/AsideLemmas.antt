@@ -27,7 +27,7 @@ use Rattle.walrus_bodies_into.specs.walrus_module_env.walrus_body_parser.Points.
 use Rattle.walrus_bodies_into.specs.walrus_module_env.walrus_collections.walrus_local_function.walrus_function_parser.Parsed.{IsAround, Parses, Telling, seen_by}
 use Rattle.walrus_bodies_into.specs.Handled.{SeesAside}
 use Rattle.walrus_module_bodies.proofs.ParsingLemmas.{declared_count, sees_more}
-use Rattle.walrus_module_bodies.specs.Reading.{IsBodyAside}
+use Rattle.walrus_module_bodies.specs.Reading.{AddsRuns, IsBodyAside}
 
 -- the results of some ids aside too, where these change no block type
 module _ (u : Sight) (r : ℕ → Option (List ValType)) (h : List ValType → List ValType → Option InstrSeqType) (alike : (id : ℕ) → block_of u (u.params id) (r id) ≡ block_of u (u.params id) (u.results id)) where
@@ -95,7 +95,7 @@ module _ (seen : FilesAreSeen) (e : ModuleEnv) (function : ℕ) (i : Ids) (s : S
   later : (j : Ids) → SeesAside (seen_by s j) (sight_in e function j)
   later j = ap (λ (x : Sight). seen_by x j) aside
 
-  pub aside_read : {V : Type 0} {told : Telling V} {entry : InstrSeqType} {ls ms : List Local} {v w : V} (j : Ids) (b : List Seq) → Parses s told params code old entry ls ms j v w b → IsBodyAside e function params old i j b
+  pub aside_read : {V : Type 0} {told : Telling V} {entry : InstrSeqType} {ls ms : List Local} {v w : V} (j : Ids) (b : List Seq) → Parses s told params code old entry ls ms j v w b → IsBodyAside e function params old i j ls ms b
   aside_read j b p a filed = record {
     sight = seen_by s j;
     aside = later j;
@@ -107,6 +107,7 @@ module _ (seen : FilesAreSeen) (e : ModuleEnv) (function : ℕ) (i : Ids) (s : S
         ap (λ (x : Sight). length (j.locals x.function)) (sym aside)
         ∙ (sees_more s a params p.begins.declares.runs _ _ j (around a filed).sees p.begins.declares.adds).rooms 0 Locals
         ∙ sym (declared_count p.begins.declares.runs params);
+    adds = subst (λ (x : Sight). AddsRuns x.function p.begins.declares.runs ls ms x.ids j) aside p.begins.declares.adds;
     stands = λ pick picks. p.stands pick (subst (λ (x : Sight). ArePicks x pick) (sym (later j)) (picks_aside (sight_in e function j) (results_at e.types.now) s.handler_type (λ id. refl) pick picks));
   }
 

@@ -30,7 +30,7 @@ use Rattle.walrus_bodies_into.specs.walrus_module_env.walrus_collections.walrus_
 use Rattle.walrus_functions_into.specs.declared.bodies.FunctionBody.{FunctionBody}
 use Rattle.walrus_module_bodies.specs.declared.file.FileEnv.{FileEnv}
 use Rattle.walrus_module_bodies.specs.Envs.{IsEnv}
-use Rattle.walrus_module_bodies.specs.Reading.{IsBodyFault, IsHandledBody, TagsStand}
+use Rattle.walrus_module_bodies.specs.Reading.{GivesHandlers, IsBodyFault, IsHandledBody, TagsStand}
 use Rattle.walrus_module_bodies.specs.Steps.{Fails, HasArguments, IsFiledLater, IsModuleOf, IsReady, IsStep, State, cursor_of}
 use Rattle.walrus_module_bodies.proofs.ArgumentLemmas.{many_ids}
 use Rattle.walrus_module_bodies.proofs.StepLemmas.{IsFormed, formed, tags_grow}
@@ -112,11 +112,12 @@ module _ (grow : EntryTypesGrow) (file : FileEnv) (features : WasmFeatures) (b :
   }
 
   pub stepped : TablesGrowOn → IfSome (params_at mid ty) (λ (ps : List ValType). params ≡ ps) → (new : State) (f : LocalFunction)
-      → IsHandledBody file mid new.types function (length args) from numbered new.ids (contents f.builder.builder) → Grows mid new.types
+      → IsHandledBody file mid new.types function (length args) from numbered new.ids named new.locals (contents f.builder.builder)
+      → GivesHandlers file mid new.types function (length args) from numbered new.ids named new.locals (contents f.builder.builder) → Grows mid new.types
       → f.builder.ty ≡ ty → f.builder.name ≡ None → f.args.items ≡ args → Leaves function named new.locals numbered new.ids
       → IfSome (item_at old.functions function) (λ (item : Function). new.functions ≡ with_item old.functions function (record item { kind = kinds.Local f }))
       → IsStep file features b old new
-  stepped on listed new f read grown f_ty f_name f_args left given = record {
+  stepped on listed new f read handled grown f_ty f_name f_args left given = record {
     item = ready.item;
     was = ready.live;
     params = params;
@@ -130,9 +131,12 @@ module _ (grow : EntryTypesGrow) (file : FileEnv) (features : WasmFeatures) (b :
     mid = mid;
     entered = merged;
     body = f;
-    read = subst (λ (n : ℕ). IsHandledBody file mid new.types n (length params) (cursor_of file features b) numbered new.ids (contents f.builder.builder)) is
-        (subst (λ (c : Cursor). IsHandledBody file mid new.types function (length params) c numbered new.ids (contents f.builder.builder)) from_is
-        (subst (λ (k : ℕ). IsHandledBody file mid new.types function k from numbered new.ids (contents f.builder.builder)) many read));
+    read = subst (λ (n : ℕ). IsHandledBody file mid new.types n (length params) (cursor_of file features b) numbered new.ids named new.locals (contents f.builder.builder)) is
+        (subst (λ (c : Cursor). IsHandledBody file mid new.types function (length params) c numbered new.ids named new.locals (contents f.builder.builder)) from_is
+        (subst (λ (k : ℕ). IsHandledBody file mid new.types function k from numbered new.ids named new.locals (contents f.builder.builder)) many read));
+    handled = subst (λ (n : ℕ). GivesHandlers file mid new.types n (length params) (cursor_of file features b) numbered new.ids named new.locals (contents f.builder.builder)) is
+        (subst (λ (c : Cursor). GivesHandlers file mid new.types function (length params) c numbered new.ids named new.locals (contents f.builder.builder)) from_is
+        (subst (λ (k : ℕ). GivesHandlers file mid new.types function k from numbered new.ids named new.locals (contents f.builder.builder)) many handled));
     grown = on old.types mid new.types early grown;
     ty_is = f_ty ∙ ty_is;
     no_name = f_name;

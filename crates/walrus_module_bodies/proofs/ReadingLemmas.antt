@@ -14,8 +14,9 @@ use Rattle.walrus_bodies_into.specs.walrus_handler_types.walrus_handler_laws.dec
 use Rattle.walrus_bodies_into.specs.walrus_handler_types.walrus_body_steps.Picks.{ArePicks}
 use Rattle.walrus_bodies_into.specs.walrus_handler_types.walrus_body_steps.walrus_body_nesting.Opens.{same}
 use Rattle.wasm_features.specs.declared.WasmFeatures.{WasmFeatures}
-use Rattle.walrus_bodies_into.specs.walrus_handler_types.walrus_body_steps.wasm_body_grammar.Bodies.{body}
+use Rattle.walrus_bodies_into.specs.walrus_handler_types.walrus_body_steps.wasm_body_grammar.Bodies.{body, declared}
 use Rattle.walrus_bodies_into.specs.walrus_handler_types.walrus_body_steps.wasm_body_grammar.Rules.{Around}
+use Rattle.walrus_bodies_into.specs.walrus_handler_types.walrus_body_steps.walrus_body_rules.walrus_forms.Renaming.{at, renamed_value}
 use Rattle.walrus_bodies_into.specs.walrus_handler_types.walrus_body_steps.wasm_grammar.States.{types_of}
 use Rattle.walrus_bodies_into.specs.walrus_handler_types.walrus_body_steps.wasm_normal_form.Normal.{normal}
 use Rattle.walrus_bodies_into.specs.walrus_handler_types.walrus_body_steps.wasm_normal_form.Trees.{tree_of}
@@ -32,13 +33,13 @@ use Rattle.walrus_bodies_into.specs.walrus_module_env.Env.{tag_type_at}
 use Rattle.walrus_bodies_into.specs.walrus_module_env.Filled.{AreFiled}
 use Rattle.walrus_bodies_into.specs.walrus_module_env.Parsed.{PicksAreSeen}
 use Rattle.walrus_bodies_into.specs.walrus_module_env.walrus_body_parser.Points.{place_at, ops_from}
-use Rattle.walrus_bodies_into.specs.walrus_module_env.walrus_collections.walrus_local_function.walrus_body_locals.Locals.{Leaves, with_locals}
+use Rattle.walrus_bodies_into.specs.walrus_module_env.walrus_collections.walrus_local_function.walrus_body_locals.Locals.{ids_from, with_locals}
 use Rattle.walrus_bodies_into.specs.walrus_module_env.walrus_collections.walrus_module_items.declared.memory.Memory.{Memory}
 use Rattle.walrus_bodies_into.specs.walrus_module_env.wasm_run_names.Picks.{block_pick}
 use Rattle.walrus_module_bodies.specs.declared.file.FileEnv.{FileEnv}
 use Rattle.walrus_module_bodies.specs.Envs.{IsEnv}
 use Rattle.walrus_bodies_into.specs.Handled.{HandledBodiesStand}
-use Rattle.walrus_module_bodies.specs.Reading.{IsBodyAside, IsHandledBody}
+use Rattle.walrus_module_bodies.specs.Reading.{GivesHandlers, IsBodyAside, IsHandledBody}
 
 -- ---- the file is another environment's too
 
@@ -81,32 +82,35 @@ more_locals e i function locals features a ids h = record {
 
 -- ---- what was read
 
-pub aside_tree : BodiesAreTrees → (e : ModuleEnv) (function params : ℕ) (old : Cursor) (i j : Ids) (b : List InstrSeq) → IsBodyAside e function params old i j (map seq_of b) → (a : Around)
+pub aside_tree : BodiesAreTrees → (e : ModuleEnv) (function params : ℕ) (old : Cursor) (i j : Ids) (ls ms : List Local) (b : List InstrSeq) → IsBodyAside e function params old i j ls ms (map seq_of b) → (a : Around)
     → IsFiled e i function params old.window.features a → All (λ x. x < 256) (rest old) → IsTree b 0
-aside_tree trees e function params old i j b aside a filed small =
+aside_tree trees e function params old i j ls ms b aside a filed small =
     let r = aside a filed in
     let found = (body a params (place_at e.code_start old)).found (rest old) ((r.place, r.runs), r.ops) small r.read in
     trees a params (place_at e.code_start old) (rest old) ((r.place, r.runs), r.ops) (small, found.0, found.1) r.sight b (r.stands same (λ ty. refl))
 
-pub handled_read : HandledBodiesStand → PicksAreSeen → (file : FileEnv) (g : ModuleEnv) (old new : Table) (function params : ℕ) (from : Cursor) (i j : Ids) (ls ms : List Local) → Leaves function ls ms i j
-    → (b : List InstrSeq) (t : IsTree b 0) (hs : List (Option Handler)) (c : List Seq) → IsEnv file old g → IsBodyAside g function params from i j (map seq_of b)
-    → AreHandlers (tag_type_at g.tags.now) b (tree_ids t) hs → Gives hs (length hs) (map seq_of b) old c new → IsHandledBody file old new function params from i j c
-handled_read stand seen file g old new function params from i j ls ms leaves b t hs c is aside handlers gives e f later at_e grows at_f a filed =
+pub handled_read : HandledBodiesStand → PicksAreSeen → (file : FileEnv) (old new : Table) (function params : ℕ) (from : Cursor) (i j : Ids) (ls ms : List Local) (c : List Seq)
+    → GivesHandlers file old new function params from i j ls ms c → IsHandledBody file old new function params from i j ls ms c
+handled_read stand seen file old new function params from i j ls ms c h e f later at_e grows at_f a filed =
+    let g = h.env in
+    let is = h.env_is in
     let mine = filed_in e g i function params from.window.features a (at_e.types_are ∙ sym is.types_are) (at_e.memories_are ∙ sym is.memories_are) (at_e.own_are ∙ sym is.own_are) (at_e.counted_is ∙ sym is.counted_is) filed in
-    let r = aside a mine in
-    let more = more_locals g i function params from.window.features a leaves.ids mine in
-    let named = seen g (with_locals function leaves.ids i) function (length ((with_locals function leaves.ids i).locals function)) from.window.features a more in
-    let picks = subst (λ (k : Ids). ArePicks (sight_in g function k) (block_pick a)) (sym leaves.named) named in (
+    let r = h.aside a mine in
+    let ids : List ℕ = ids_from (length ls) (map (renamed_value (at i.types)) (declared r.runs)) in
+    let more = more_locals g i function params from.window.features a ids mine in
+    let named = seen g (with_locals function ids i) function (length ((with_locals function ids i).locals function)) from.window.features a more in
+    let picks = subst (λ (k : Ids). ArePicks (sight_in g function k) (block_pick a)) (sym r.adds.named) named in (
       record {
         place = r.place;
         runs = r.runs;
         ops = r.ops;
         read = subst (λ (n : ℕ). (body a params (place_at n from)).parse (rest from) ≡ Ok ((r.place, r.runs), r.ops)) (is.begins ∙ sym at_f.begins) r.read;
-        stands = stand g f function j r.sight b t hs c new (normal (block_pick a) (tree_of (ops_from r.place r.ops))) r.aside (r.stands (block_pick a) picks) handlers
-            (subst (λ (v : Table). Gives hs (length hs) (map seq_of b) v c new) (sym is.types_are) gives)
+        stands = stand g f function j r.sight h.own h.tree h.handlers c new (normal (block_pick a) (tree_of (ops_from r.place r.ops))) r.aside (r.stands (block_pick a) picks) h.gathered
+            (subst (λ (v : Table). Gives h.handlers (length h.handlers) (map seq_of h.own) v c new) (sym is.types_are) h.given)
             (record { types = subst (Grows new) (sym at_f.types_are) grows; own = at_f.own_are ∙ sym is.own_are; tags = at_f.tags_are ∙ sym is.tags_are });
       },
       r.counted,
+      r.adds,
     )
 
 -- handlers were told of a builder that was lent for reading, and were given their types in one that was lent for writing
@@ -119,9 +123,15 @@ module _ (tags : ℕ → Option ℕ) (x y z : FunctionBuilder) (to_y : y ≡ x) 
   pub many_handlers : length hs ≡ length (seqs_of z)
   many_handlers = are_handlers.many ∙ ap (λ (f : FunctionBuilder). length (seqs_of f)) (sym to_z)
 
-  pub handled_done : HandledBodiesStand → PicksAreSeen → (file : FileEnv) (g : ModuleEnv) (old new : Table) (function params : ℕ) (from : Cursor) (i j : Ids) (ls ms : List Local) → Leaves function ls ms i j
-      → (c : List Seq) → IsEnv file old g → tags ≡ tag_type_at g.tags.now → IsBodyAside g function params from i j (contents x.builder) → Gives hs (length hs) (contents z.builder) old c new → IsHandledBody file old new function params from i j c
-  handled_done stand seen file g old new function params from i j ls ms leaves c is tags_are aside gives =
-      handled_read stand seen file g old new function params from i j ls ms leaves (seqs_of x) t hs c is aside
-      (subst (λ (ts : ℕ → Option ℕ). AreHandlers ts (seqs_of x) (tree_ids t) hs) tags_are are_handlers)
-      (subst (λ (f : FunctionBuilder). Gives hs (length hs) (contents f.builder) old c new) to_z gives)
+  pub gives_handlers : (file : FileEnv) (g : ModuleEnv) (old new : Table) (function params : ℕ) (from : Cursor) (i j : Ids) (ls ms : List Local) (c : List Seq) → IsEnv file old g → tags ≡ tag_type_at g.tags.now
+      → IsBodyAside g function params from i j ls ms (contents x.builder) → Gives hs (length hs) (contents z.builder) old c new → GivesHandlers file old new function params from i j ls ms c
+  gives_handlers file g old new function params from i j ls ms c is tags_are aside gives = record {
+    env = g;
+    env_is = is;
+    own = seqs_of x;
+    tree = t;
+    aside = aside;
+    handlers = hs;
+    gathered = subst (λ (ts : ℕ → Option ℕ). AreHandlers ts (seqs_of x) (tree_ids t) hs) tags_are are_handlers;
+    given = subst (λ (f : FunctionBuilder). Gives hs (length hs) (contents f.builder) old c new) to_z gives;
+  }

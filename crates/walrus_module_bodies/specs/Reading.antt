@@ -1,9 +1,19 @@
 -- The body of a function that is read into its module, with the types of its handlers.
-use Rattle.std.specs.Prelude.{◌≡◌, ◌+◌, ℕ, List, length, Some, Ok, Err, slice_get}
+use Rattle.std.specs.Prelude.{◌≡◌, ◌+◌, ℕ, List, length, map, Option, Some, Ok, Err, slice_get}
 use Rattle.wasm_reader.specs.Cursor.{Cursor, end_of, rest}
 use Rattle.walrus_arena.specs.Arena.{Arena, item_at}
 use Rattle.walrus_function_types.specs.Growth.{Grows}
 use Rattle.walrus_index_maps.specs.Maps.{Ids}
+use Rattle.walrus_bodies_into.specs.walrus_handler_types.Giving.{Gives}
+use Rattle.walrus_bodies_into.specs.walrus_handler_types.walrus_handlers.Gathering.{AreHandlers}
+use Rattle.walrus_bodies_into.specs.walrus_handler_types.walrus_handler_laws.Handlers.{tree_ids}
+use Rattle.walrus_bodies_into.specs.walrus_handler_types.walrus_handler_laws.declared.handler.Handler.{Handler}
+use Rattle.walrus_bodies_into.specs.walrus_handler_types.walrus_body_steps.walrus_access_codes.walrus_instr.declared.seq.InstrSeq.{InstrSeq}
+use Rattle.walrus_bodies_into.specs.walrus_handler_types.walrus_body_steps.walrus_access_codes.walrus_items.declared.local.Local.{Local}
+use Rattle.walrus_bodies_into.specs.walrus_handler_types.walrus_body_steps.walrus_body_rules.walrus_forms.Renaming.{at, renamed_value}
+use Rattle.walrus_bodies_into.specs.walrus_handler_types.walrus_tree.Trees.{IsTree}
+use Rattle.walrus_bodies_into.specs.walrus_module_env.Env.{tag_type_at}
+use Rattle.walrus_bodies_into.specs.walrus_module_env.walrus_collections.walrus_local_function.walrus_body_locals.Locals.{Adds}
 use Rattle.walrus_bodies_into.specs.walrus_handler_types.walrus_body_steps.Meanings.{meaning}
 use Rattle.walrus_bodies_into.specs.walrus_handler_types.walrus_body_steps.Picks.{ArePicks}
 use Rattle.walrus_bodies_into.specs.walrus_handler_types.walrus_body_steps.walrus_body_nesting.Stands.{StandsAs}
@@ -16,7 +26,7 @@ use Rattle.walrus_bodies_into.specs.walrus_module_env.walrus_body_parser.wasm_op
 use Rattle.walrus_bodies_into.specs.walrus_handler_types.walrus_body_steps.wasm_normal_form.Trees.{tree_of}
 use Rattle.walrus_bodies_into.specs.walrus_handler_types.walrus_body_steps.wasm_normal_form.Normal.{normal}
 use Rattle.walrus_bodies_into.specs.walrus_handler_types.walrus_body_steps.wasm_normal_form.wasm_immediates.declared.block_type.BlockType.{BlockType}
-use Rattle.walrus_bodies_into.specs.walrus_handler_types.walrus_tree.walrus_builder.Built.{Seq}
+use Rattle.walrus_bodies_into.specs.walrus_handler_types.walrus_tree.walrus_builder.Built.{Seq, seq_of}
 use Rattle.walrus_bodies_into.specs.walrus_handler_types.walrus_tree.walrus_walks.walrus_types.Table.{IsFunctionType, Table}
 use Rattle.walrus_bodies_into.specs.walrus_module_env.walrus_body_parser.Points.{place_at, ops_from}
 use Rattle.walrus_bodies_into.specs.walrus_module_env.walrus_collections.walrus_local_function.walrus_body_locals.Calls.{IsFaultOf}
@@ -28,9 +38,13 @@ use Rattle.walrus_module_bodies.specs.declared.file.FileEnv.{FileEnv}
 use Rattle.walrus_module_bodies.specs.Envs.{IsEnv}
 use Rattle.walrus_bodies_into.specs.Handled.{SeesAside}
 
+-- the locals that these runs declare were added to the module, and the next indices of the function name them
+abbrev pub AddsRuns : ℕ → List Run → List Local → List Local → Ids → Ids → Type 0
+AddsRuns function runs ls ms i j = Adds function (map (renamed_value (at i.types)) (declared runs)) ls ms i j
+
 -- the bytes are parsed as a body of this file, and its sequences stand as its normal form in the eyes of one who sees the module, types of
 -- handlers aside; the function's indices name its parameters and the locals that the body declares
-pub record IsReadAside (e : ModuleEnv) (function params : ℕ) (old : Cursor) (j : Ids) (b : List Seq) (a : Around) : Type 0 where
+pub record IsReadAside (e : ModuleEnv) (function params : ℕ) (old : Cursor) (i j : Ids) (ls ms : List Local) (b : List Seq) (a : Around) : Type 0 where
   pub sight : Sight
   pub aside : SeesAside sight (sight_in e function j)
   pub place : ℕ
@@ -38,11 +52,12 @@ pub record IsReadAside (e : ModuleEnv) (function params : ℕ) (old : Cursor) (j
   pub ops : List (ℕ × Seen)
   pub read : (body a params (place_at e.code_start old)).parse (rest old) ≡ Ok ((place, runs), ops)
   pub counted : length (j.locals function) ≡ params + length (declared runs)
+  pub adds : AddsRuns function runs ls ms i j
   pub stands : (pick : BlockType → BlockType) → ArePicks (sight_in e function j) pick → StandsAs (meaning sight) b (normal pick (tree_of (ops_from place ops)))
 
 -- of each file whose sections were read into the module
-abbrev pub IsBodyAside : ModuleEnv → ℕ → ℕ → Cursor → Ids → Ids → List Seq → Type 0
-IsBodyAside e function params old i j b = (a : Around) → IsFiled e i function params old.window.features a → IsReadAside e function params old j b a
+abbrev pub IsBodyAside : ModuleEnv → ℕ → ℕ → Cursor → Ids → Ids → List Local → List Local → List Seq → Type 0
+IsBodyAside e function params old i j ls ms b = (a : Around) → IsFiled e i function params old.window.features a → IsReadAside e function params old i j ls ms b a
 
 -- of no such file they are a body: reading stops, for this fault
 abbrev pub IsBodyFault : ModuleEnv → ℕ → ℕ → Cursor → Ids → BodyError → Type 0
@@ -55,6 +70,19 @@ TagsStand tags t i = (n tag : ℕ) → slice_get i.tags n ≡ Some tag → (item
 
 -- of each such file this is a body, beside each later table of the module's types; the function's indices name its parameters and the locals
 -- that the body declares
-abbrev pub IsHandledBody : FileEnv → Table → Table → ℕ → ℕ → Cursor → Ids → Ids → List Seq → Type 0
-IsHandledBody file old new function params from i j b = (e f : ModuleEnv) (later : Table) → IsEnv file old e → Grows new later → IsEnv file later f
-    → (a : Around) → IsFiled e i function params from.window.features a → (r : IsRead f function params from j b a) × (length (j.locals function) ≡ params + length (declared r.runs))
+abbrev pub IsHandledBody : FileEnv → Table → Table → ℕ → ℕ → Cursor → Ids → Ids → List Local → List Local → List Seq → Type 0
+IsHandledBody file old new function params from i j ls ms b = (e f : ModuleEnv) (later : Table) → IsEnv file old e → Grows new later → IsEnv file later f
+    → (a : Around) → IsFiled e i function params from.window.features a
+    → (r : IsRead f function params from j b a) × (length (j.locals function) ≡ params + length (declared r.runs)) × AddsRuns function r.runs ls ms i j
+
+-- it was read beside some type for each handler, and its sequences formed a tree; then its handlers were given their types by the table, which
+-- had those added that it lacked
+pub record GivesHandlers (file : FileEnv) (old new : Table) (function params : ℕ) (from : Cursor) (i j : Ids) (ls ms : List Local) (b : List Seq) : Type 0 where
+  pub env : ModuleEnv
+  pub env_is : IsEnv file old env
+  pub own : List InstrSeq
+  pub tree : IsTree own 0
+  pub aside : IsBodyAside env function params from i j ls ms (map seq_of own)
+  pub handlers : List (Option Handler)
+  pub gathered : AreHandlers (tag_type_at env.tags.now) own (tree_ids tree) handlers
+  pub given : Gives handlers (length handlers) (map seq_of own) old b new

@@ -26,7 +26,7 @@ use Rattle.walrus_bodies_into.specs.walrus_module_env.walrus_collections.walrus_
 use Rattle.walrus_functions_into.specs.declared.bodies.FunctionBody.{FunctionBody}
 use Rattle.walrus_module_bodies.specs.declared.file.FileEnv.{FileEnv}
 use Rattle.walrus_module_bodies.specs.Envs.{IsEnv}
-use Rattle.walrus_module_bodies.specs.Reading.{IsHandledBody}
+use Rattle.walrus_module_bodies.specs.Reading.{GivesHandlers, IsHandledBody}
 
 -- what of a module changes while its bodies are read
 pub record State : Type 0 where
@@ -86,7 +86,8 @@ pub record IsStep (file : FileEnv) (features : WasmFeatures) (b : FunctionBody) 
   pub mid : Table
   pub entered : Merges (entry_kind results) entry old.types mid
   pub body : LocalFunction
-  pub read : IsHandledBody file mid new.types b.number (length params) (cursor_of file features b) numbered new.ids (contents body.builder.builder)
+  pub read : IsHandledBody file mid new.types b.number (length params) (cursor_of file features b) numbered new.ids named new.locals (contents body.builder.builder)
+  pub handled : GivesHandlers file mid new.types b.number (length params) (cursor_of file features b) numbered new.ids named new.locals (contents body.builder.builder)
   pub grown : Grows old.types new.types
   pub ty_is : body.builder.ty ≡ type_of item.kind
   pub no_name : body.builder.name ≡ None

@@ -41,7 +41,7 @@ pub(crate) fn read_aside(
     requires ends { end_of body < env.now.code_start + 4294967295 }
     requires within { IsWithin body }
     requires tags { TagsStand env.now.tags.now env.now.types.now (ids indices.old) }
-    ensures read { IfOk result (λ f. IsBodyAside env.now function (length args.items) body.entry (ids indices.old) (ids indices.new) (contents f.builder.builder)) }
+    ensures read { IfOk result (λ f. IsBodyAside env.now function (length args.items) body.entry (ids indices.old) (ids indices.new) locals.old locals.new (contents f.builder.builder)) }
     ensures ty { IfOk result (λ f. f.builder.ty ≡ ty) }
     ensures name { IfOk result (λ f. f.builder.name ≡ None) }
     ensures args { IfOk result (λ f. f.args ≡ args) }
@@ -82,7 +82,7 @@ pub(crate) fn read_tree(
     requires tags { TagsStand env.now.tags.now env.now.types.now (ids indices.old) }
     requires filed { (a : Around) × IsFiled env.now (ids indices.old) function (length args.items) body.window.features a }
     requires bytes { All (λ b. b < 256) (rest body) }
-    ensures read { IfOk result (λ f. IsBodyAside env.now function (length args.items) body.entry (ids indices.old) (ids indices.new) (contents f.builder.builder)) }
+    ensures read { IfOk result (λ f. IsBodyAside env.now function (length args.items) body.entry (ids indices.old) (ids indices.new) locals.old locals.new (contents f.builder.builder)) }
     ensures tree { IfOk result (λ f. IsTree (seqs_of f.builder) 0) }
     ensures ty { IfOk result (λ f. f.builder.ty ≡ ty) }
     ensures name { IfOk result (λ f. f.builder.name ≡ None) }

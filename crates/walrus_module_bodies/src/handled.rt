@@ -11,7 +11,7 @@ ghost use Rattle.walrus_bodies_into.specs.walrus_module_env.declared.env.ModuleE
 ghost use Rattle.walrus_bodies_into.specs.walrus_module_env.Around.{IsFiled};
 ghost use Rattle.walrus_bodies_into.specs.walrus_module_env.walrus_collections.walrus_local_function.walrus_body_locals.Locals.{Leaves};
 ghost use Rattle.walrus_module_bodies.specs.Envs.{IsEnv};
-ghost use Rattle.walrus_module_bodies.specs.Reading.{IsBodyFault, IsHandledBody, TagsStand};
+ghost use Rattle.walrus_module_bodies.specs.Reading.{GivesHandlers, IsBodyFault, IsHandledBody, TagsStand};
 
 use crate::aside::read_tree;
 use crate::file::FileEnv;
@@ -58,7 +58,8 @@ pub(crate) fn read_handled(
     requires within { IsWithin body }
     requires tags { TagsStand file.tags.now types.old (ids indices.old) }
     requires bytes { All (λ b. b < 256) (rest body) }
-    ensures read { IfOk result (λ f. IsHandledBody file.entry types.old types.new function (length args.items) body.entry (ids indices.old) (ids indices.new) (contents f.builder.builder)) }
+    ensures read { IfOk result (λ f. IsHandledBody file.entry types.old types.new function (length args.items) body.entry (ids indices.old) (ids indices.new) locals.old locals.new (contents f.builder.builder)) }
+    ensures handled { IfOk result (λ f. GivesHandlers file.entry types.old types.new function (length args.items) body.entry (ids indices.old) (ids indices.new) locals.old locals.new (contents f.builder.builder)) }
     ensures stops { IfErr result (λ e. (e ≡ WantsMemory) ⊎ ((g : ModuleEnv) × IsEnv file.entry types.old g × IsBodyFault g function (length args.items) body.entry (ids indices.old) e)) }
     ensures grown { Grows types.old types.new }
     ensures ty { IfOk result (λ f. f.builder.ty ≡ ty) }

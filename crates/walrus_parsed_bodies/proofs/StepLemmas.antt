@@ -13,7 +13,7 @@ use Rattle.walrus_arena.specs.Arena.{Arena, item_at}
 use Rattle.walrus_body_locals.specs.Locals.{ids_from}
 use Rattle.walrus_body_trees.specs.Laws.{BodiesAreTrees, ops_of}
 use Rattle.walrus_builder.specs.Functions.{seqs_of}
-use Rattle.walrus_file_bodies.specs.Read.{AreCounted, Waits, env_is, env_of, grows_none, ids_length, step_is_read, step_on}
+use Rattle.walrus_file_bodies.specs.Read.{AreCounted, Waits, env_is, env_of, ids_length, step_is_read, step_on}
 use Rattle.walrus_forms.specs.declared.value.ValType.{ValType}
 use Rattle.walrus_function_types.specs.FunctionTypes.{form_params, params_at}
 use Rattle.walrus_function_types.specs.Growth.{EntryTypesGrow, FoundTypesStay, Grows, TablesGrowOn}
@@ -40,13 +40,13 @@ pub record IsGood (t : Table) (local : LocalFunction) : Type 0 where
   pub many : length local.args.items ≡ length params
   pub tree : IsTree (seqs_of local.builder) 0
 
--- the function of the slot has such a body
-pub record HasGood (t : Table) (slot : Option Function) : Type 0 where
+-- the function of the slot has a body of which this holds
+pub record HasBody (P : LocalFunction → Type 0) (slot : Option Function) : Type 0 where
   pub function : Function
   pub there : slot ≡ Some function
   pub local : LocalFunction
   pub kind : function.kind ≡ kinds.Local local
-  pub good : IsGood t local
+  pub good : P local
 
 params_stay : FoundTypesStay → (old new : Table) (ty : ℕ) (ps : List ValType) → Grows old new → params_at old ty ≡ Some ps → params_at new ty ≡ Some ps
 params_stay stay old new ty ps grows e = go (type_at old ty) refl e
@@ -56,7 +56,7 @@ params_stay stay old new ty ps grows e = go (type_at old ty) refl e
     go (Some item) live e = ap (option_and_then (λ (item : Item). form_params item.kind.form)) ((stay old new grows).live ty item live) ∙ e
 
 module _ (stay : FoundTypesStay) (on : TablesGrowOn) (enter : EntryTypesGrow) (trees : BodiesAreTrees) (seen : PicksAreSeen) (file : FileEnv) (features : WasmFeatures) (a : Around) (count : ℕ → ℕ) where
-  step_good : (b : FunctionBody) (bs : List FunctionBody) (old new : State) (t : Table) → Small b.chunk.bytes.now → Waits file features a count old (b ∷ bs) → (s : IsStep file features b old new) → Grows new.types t → IsGood t s.body
+  pub step_good : (b : FunctionBody) (bs : List FunctionBody) (old new : State) (t : Table) → Small b.chunk.bytes.now → Waits file features a count old (b ∷ bs) → (s : IsStep file features b old new) → Grows new.types t → IsGood t s.body
   step_good b bs old new t small w s grows =
       let e = env_of file t in
       let read = step_is_read stay on enter file features a count b bs old new w s e t grows (env_is file t) in
@@ -72,25 +72,25 @@ module _ (stay : FoundTypesStay) (on : TablesGrowOn) (enter : EntryTypesGrow) (t
         tree = trees a (length s.params) _ b.chunk.bytes.now parts (small, rules.0, rules.1) sight (seqs_of s.body.builder) (stands_as_written sight (block_pick a) _ (tree_of (ops_of parts)) (seen e new.ids b.number _ features a filed) read.stands);
       }
 
-  pub steps_grow : (bs : List FunctionBody) (old new : State) → Steps file features bs old new → Grows old.types new.types
-  steps_grow [] old new e = subst (λ (s : State). Grows old.types s.types) (sym e) (grows_none old.types)
-  steps_grow (b ∷ bs) old new (mid, step, rest) = on old.types mid.types new.types step.grown (steps_grow bs mid new rest)
+-- what holds of each body as it is read, where this holds before the bodies and after each, up to a last state
+module _ (stay : FoundTypesStay) (on : TablesGrowOn) (enter : EntryTypesGrow) (file : FileEnv) (features : WasmFeatures) (a : Around) (count : ℕ → ℕ) (last : State) (I : State → Type 0) (P : LocalFunction → Type 0)
+    (each : (b : FunctionBody) (bs : List FunctionBody) (old new : State) → Small b.chunk.bytes.now → Waits file features a count old (b ∷ bs) → (s : IsStep file features b old new) → Steps file features bs new last
+        → I old → P s.body × I new) where
+  -- the slot is as it was, and none of the bodies is of its function; or its function has such a body
+  abbrev pub Ends : List FunctionBody → State → ℕ → Type 0
+  Ends bs old n = ((slice_index_or last.functions.slots n None ≡ slice_index_or old.functions.slots n None) × NoneOf n bs) ⊎ HasBody P (slice_index_or last.functions.slots n None)
 
-  -- the slot is as it was, and none of the bodies is of its function; or its function has a good body
-  abbrev pub Ends : Table → List FunctionBody → State → State → ℕ → Type 0
-  Ends t bs old new n = ((slice_index_or new.functions.slots n None ≡ slice_index_or old.functions.slots n None) × NoneOf n bs) ⊎ HasGood t (slice_index_or new.functions.slots n None)
-
-  pub steps_good : (start end : ℕ) (bs : List FunctionBody) (old new : State) (t : Table) → ChunksFit start end (map (λ (b : FunctionBody). chunk_of b.chunk) bs) → Waits file features a count old bs
-      → Steps file features bs old new → Grows new.types t → (n : ℕ) → Ends t bs old new n
-  steps_good start end [] old new t fit w e grows n = inl (ap (λ (s : State). slice_index_or s.functions.slots n None) e, tt)
-  steps_good start end (b ∷ bs) old new t fit w (mid, step, rest) grows n =
+  pub steps_have : (start end : ℕ) (bs : List FunctionBody) (old : State) → ChunksFit start end (map (λ (b : FunctionBody). chunk_of b.chunk) bs) → Waits file features a count old bs → Steps file features bs old last → I old
+      → (n : ℕ) → Ends bs old n
+  steps_have start end [] old fit w e i n = inl (ap (λ (s : State). slice_index_or s.functions.slots n None) e, tt)
+  steps_have start end (b ∷ bs) old fit w (mid, step, rest) i n =
       let y = record step.item { kind = kinds.Local step.body } in
       let given : mid.functions.slots ≡ slice_set old.functions.slots b.number (Some y) = ap (λ (x : Arena Function). x.slots) step.given in
       let there : slice_index_or mid.functions.slots n None ≡ slice_index_or (slice_set old.functions.slots b.number (Some y)) n None = ap (λ (l : List (Option Function)). slice_index_or l n None) given in
-      let good : IsGood t step.body = step_good b bs old mid t fit.0.0 w step (on mid.types new.types t (steps_grow bs mid new rest) grows) in
-      elim (steps_good start end bs mid new t fit.1 (step_on stay on enter file features a count b bs old mid w step) rest grows n) as (λ _. Ends t (b ∷ bs) old new n) [
-        | inl h ↦ elim (set_cases old.functions.slots b.number n step.item y step.was) as (λ _. Ends t (b ∷ bs) old new n) [
-          | inl set ↦ inr (record { function = y; there = h.0 ∙ there ∙ set.1; local = step.body; kind = refl; good = good })
+      let good = each b bs old mid fit.0.0 w step rest i in
+      elim (steps_have start end bs mid fit.1 (step_on stay on enter file features a count b bs old mid w step) rest good.1 n) as (λ _. Ends (b ∷ bs) old n) [
+        | inl h ↦ elim (set_cases old.functions.slots b.number n step.item y step.was) as (λ _. Ends (b ∷ bs) old n) [
+          | inl set ↦ inr (record { function = y; there = h.0 ∙ there ∙ set.1; local = step.body; kind = refl; good = good.0 })
           | inr other ↦ inl (h.0 ∙ there ∙ other.1, (other.0, h.1))
         ]
         | inr g ↦ inr g

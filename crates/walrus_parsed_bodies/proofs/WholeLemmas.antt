@@ -10,7 +10,7 @@ use Rattle.walrus_body_trees.specs.Laws.{BodiesAreTrees}
 use Rattle.walrus_config.specs.declared.config.ModuleConfig.{ModuleConfig}
 use Rattle.walrus_file_bodies.proofs.PairLemmas.{are_apart, chunks_fit}
 use Rattle.walrus_file_bodies.proofs.StopLemmas.{bodies_wait, chunks_fit_in, count_in}
-use Rattle.walrus_file_bodies.specs.Read.{grows_none}
+use Rattle.walrus_file_bodies.specs.Read.{steps_grow}
 use Rattle.walrus_file_bodies.specs.Ready.{bodies_in}
 use Rattle.walrus_forms.specs.Forms.{Form, FunctionForm, StructForm, ArrayForm, params_of}
 use Rattle.walrus_forms.specs.declared.value.ValType.{ValType}
@@ -40,7 +40,7 @@ use Rattle.walrus_types.specs.Items.{Item}
 use Rattle.walrus_types.specs.Table.{Table, type_at}
 use Rattle.walrus_parsed_bodies.specs.Whole.{ReadFunctionsAreWhole}
 use Rattle.walrus_parsed_bodies.proofs.SlotLemmas.{NoneOf, none_has, read_kind, wanted}
-use Rattle.walrus_parsed_bodies.proofs.StepLemmas.{HasGood, IsGood, steps_good}
+use Rattle.walrus_parsed_bodies.proofs.StepLemmas.{IsGood, step_good, steps_have}
 
 -- ---- without names
 
@@ -113,7 +113,10 @@ functions_whole {B} stands filed stay on enter trees seen config bytes m found s
     let stand = stands features bytes s m.start h.numbers f h.reads.sections h.are_filled in
     let fit = chunks_fit_in s.code_start (length bytes) bs (read_bodies s.bodies) stand.paired.chunks_are (chunks_fit s.code_start (length bytes) s.bodies (bodies_inside features bytes (state_of s) small h.reads.sections)) in
     let waits = bodies_wait features bytes s m.start h.numbers f h.file filed h.reads.sections h.are_filled h.is_file bs [] (are_apart f.functions.slots 0 (read_bodies s.bodies)) in
-    let ends = steps_good stay on enter trees seen h.file features a (count_in s) s.code_start (length bytes) bs old h.bodied h.bodied.types fit waits h.bodies_are (grows_none h.bodied.types) n in
+    let t = h.bodied.types in
+    let ends = steps_have stay on enter h.file features a (count_in s) h.bodied (λ _. Unit {0}) (IsGood t)
+    (λ b bs old new small w step rest i. (step_good stay on enter trees seen h.file features a (count_in s) b bs old new t small w step (steps_grow on h.file features bs new h.bodied rest), tt))
+    s.code_start (length bytes) bs old fit waits h.bodies_are tt n in
     let funcs : map (option_map bare_function) m.funcs.slots ≡ map (option_map bare_function) h.bodied.functions.slots = ap (λ (x : Holder). x.funcs.slots) h.names.same in
     let types : map (option_map bare_type) m.types.types ≡ map (option_map bare_type) h.bodied.types.types = ap (λ (x : Holder). x.types.types) h.names.same in
     let slot = slice_index_or h.bodied.functions.slots n None in

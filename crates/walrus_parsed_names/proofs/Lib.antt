@@ -1,5 +1,5 @@
 pub mod ListLemmas
 mod ConstLemmas
-mod ValueLemmas
+pub mod ValueLemmas
 pub mod TypeLemmas
 mod ItemLemmas

@@ -6,7 +6,7 @@ use Rattle.std.proofs.Common.{ap, sym, ◌∙◌, subst}
 use Rattle.wasm_features.specs.declared.WasmFeatures.{WasmFeatures}
 use Rattle.wasm_formats.specs.declared.fault.Space.TheVariants as spaces
 use Rattle.walrus_config.specs.declared.config.ModuleConfig.{ModuleConfig}
-use Rattle.walrus_file_bodies.specs.Read.{grows_none}
+use Rattle.walrus_file_bodies.specs.Read.{grows_none, steps_grow}
 use Rattle.walrus_forms.specs.Kinds.{Kind}
 use Rattle.walrus_forms.specs.Records.{TypeGroup}
 use Rattle.walrus_forms.specs.Renaming.{at, renamed_kind}
@@ -29,10 +29,6 @@ use Rattle.walrus_types.specs.Table.{Table, type_at}
 use Rattle.walrus_types_into.specs.Into.{NewTypesStand, TypesNameBelow}
 use Rattle.walrus_parsed_links.proofs.SlotLemmas.{seen_at}
 use Rattle.walrus_parsed_names.proofs.ListLemmas.{AllOf, all_at, all_join, get_some, some_is}
-
-pub steps_grow : TablesGrowOn → (file : FileEnv) (features : WasmFeatures) (bs : List FunctionBody) (old new : State) → Steps file features bs old new → Grows old.types new.types
-steps_grow on file features [] old new e = subst (λ (s : State). Grows old.types s.types) (sym e) (grows_none old.types)
-steps_grow on file features (b ∷ bs) old new (mid, step, rest) = on old.types mid.types new.types step.grown (steps_grow on file features bs mid new rest)
 
 -- ---- no type of the file is an entry type
 
@@ -59,7 +55,7 @@ written_some : (o : Option Item) (x : Item) → option_map bare_type o ≡ Some 
 written_some None x e plain = absurd cc
 written_some (Some y) x e plain = open_some y (ap (λ (z : Item). z.kind.entry) (some_is (bare_type y) (bare_type x) e) ∙ plain)
 
-there_too : (ts us : List (Option Item)) (id : ℕ) (x : Item) → map (option_map bare_type) ts ≡ map (option_map bare_type) us → slice_index_or us id None ≡ Some x → x.kind.entry ≡ false
+pub there_too : (ts us : List (Option Item)) (id : ℕ) (x : Item) → map (option_map bare_type) ts ≡ map (option_map bare_type) us → slice_index_or us id None ≡ Some x → x.kind.entry ≡ false
     → is_some (written (slice_index_or ts id None)) ≡ true
 there_too ts us id x same at plain =
     written_some (slice_index_or ts id None) x

@@ -21,7 +21,7 @@ use Rattle.walrus_arena.specs.Arena.{Arena, item_at}
 use Rattle.walrus_body_locals.specs.Locals.{ids_from, with_more}
 use Rattle.walrus_body_trees.specs.Laws.{AreOwn, BodiesMeanTheirs, IsNaming, meant, ops_of, renamed}
 use Rattle.walrus_builder.specs.Functions.{seqs_of}
-use Rattle.walrus_file_bodies.specs.Read.{Waits, coded_by, env_is, env_of, grows_none, others_keep, read_body_reads, step_is_read, step_on}
+use Rattle.walrus_file_bodies.specs.Read.{Waits, coded_by, env_is, env_of, grows_none, others_keep, read_body_reads, step_is_read, step_on, steps_grow}
 use Rattle.walrus_forms.specs.declared.value.ValType.{ValType}
 use Rattle.walrus_function_types.specs.Growth.{EntryTypesGrow, FoundTypesStay, Grows, TablesGrowOn}
 use Rattle.walrus_functions_into.specs.declared.bodies.FunctionBody.{FunctionBody}
@@ -75,10 +75,6 @@ more_names : (n function : ℕ) (ids : List ℕ) (old new : Ids) → n ≢ funct
 more_names n function ids old new apart e =
     same_names n old new (e ∙ ap (λ (l : ℕ → List ℕ). record old { locals = l }) (sym (ap (λ (i : Ids). i.locals) e)))
     (ap (λ (i : Ids). i.locals n) e ∙ others_keep function ids old.locals n apart)
-
-steps_grow : TablesGrowOn → (file : FileEnv) (features : WasmFeatures) (bs : List FunctionBody) (old new : State) → Steps file features bs old new → Grows old.types new.types
-steps_grow on file features [] old new e = subst (λ (s : State). Grows old.types s.types) (sym e) (grows_none old.types)
-steps_grow on file features (b ∷ bs) old new (mid, step, rest) = on old.types mid.types new.types step.grown (steps_grow on file features bs mid new rest)
 
 module _ (file : FileEnv) (features : WasmFeatures) where
   other_slot : (slots : List (Option Function)) (k n : ℕ) (x y : Function) → slice_index_or slots k None ≡ Some x → k ≢ n → slice_index_or (slice_set slots k (Some y)) n None ≡ slice_index_or slots n None

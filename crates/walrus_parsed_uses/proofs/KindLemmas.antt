@@ -31,7 +31,8 @@ use Rattle.walrus_module.specs.Parts.{Module, parts}
 use Rattle.walrus_parse.specs.Parsed.{read_features}
 use Rattle.walrus_parsed_items.specs.Items.{ReadModulesHaveItems, file_of}
 use Rattle.walrus_parsed_names.proofs.ListLemmas.{AllOf, all_at, all_contains, all_join, get_some, some_is}
-use Rattle.walrus_parsed_names.proofs.TypeLemmas.{steps_grow, types_live}
+use Rattle.walrus_file_bodies.specs.Read.{steps_grow}
+use Rattle.walrus_parsed_names.proofs.TypeLemmas.{types_live}
 use Rattle.walrus_parsed_links.proofs.SlotLemmas.{seen_at}
 use Rattle.walrus_roots.specs.Items.{item}
 use Rattle.walrus_types.specs.Items.{Item as TypeItem}

@@ -1,4 +1,5 @@
 mod NormalLemmas
 mod RuleLemmas
-mod UseLemmas
+pub mod UseLemmas
 mod KindLemmas
+mod IndexLemmas

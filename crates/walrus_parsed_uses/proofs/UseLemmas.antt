@@ -28,8 +28,9 @@ use Rattle.walrus_group_laws.specs.Groups.{ReadTypesAreDeclared}
 use Rattle.walrus_index_maps.specs.Maps.{Ids}
 use Rattle.walrus_into_laws.specs.Meaning.{OrderedStay, OthersStay}
 use Rattle.walrus_into_laws.specs.Renamed.{retyped_element, retyped_global, retyped_segment, retyped_table, retyped_tag}
-use Rattle.walrus_items_into.specs.Numbers.{types_in}
+use Rattle.walrus_items_into.specs.Numbers.{numbers_of, types_in}
 use Rattle.walrus_known_sections.specs.State.{state_of}
+use Rattle.walrus_known_sections.specs.declared.sections.Sections.{Sections}
 use Rattle.walrus_meaning.specs.Bodies.{own_operators}
 use Rattle.walrus_meaning.specs.Meaning.{means, own_element, own_global, own_segment, own_table, own_tag}
 use Rattle.walrus_module.specs.Items.{LivesIn}
@@ -61,7 +62,7 @@ ruled_bodies a (c ∷ cs) [] h = absurd h
 ruled_bodies a (c ∷ cs) (x ∷ xs) h = ((c.params, body_is a c.params c.chunk.place c.chunk.bytes x h.0), ruled_bodies a cs xs h.1)
 
 -- the module has as many functions with its bodies as without
-in_file : (s : State) (bodies : List grammar.Body) (space : Space) (n : ℕ) → InRange s.filled space n → InRange (module_of s bodies) space n
+pub in_file : (s : State) (bodies : List grammar.Body) (space : Space) (n : ℕ) → InRange s.filled space n → InRange (module_of s bodies) space n
 in_file s bodies Types n h = h
 in_file s bodies Functions n h = subst (λ (k : ℕ). n < k) (sym (bodies_length s.filled.functions bodies)) h
 in_file s bodies Tables n h = h
@@ -99,7 +100,7 @@ module _ (m : Module) (f : grammar.Module) (r : ℕ → ℕ) (h : HasItems r f (
   own : (number : ℕ) (space : Space) (n : ℕ) → space ≢ Types → id_of found number space n ≡ id_of i 0 space n → naming found number space n ≡ n
   own number space n other same = unwrapped (id_of found number space n) n (λ id at. stay space n id other (sym same ∙ at))
 
-  there : (number : ℕ) (space : Space) (n : ℕ) → InRange f space n → IsThere m space (naming found number space n)
+  pub there : (number : ℕ) (space : Space) (n : ℕ) → InRange f space n → IsThere m space (naming found number space n)
   there number Types n lt = typed n lt
   there number Functions n lt =
       subst (LivesIn m spaces.Function) (sym (own number Functions n (λ e. absurd cc) (ap (λ (j : Ids). slice_get j.functions n) numbered)))
@@ -141,6 +142,19 @@ unmeant : (m : Module) (ops : List grammar.Placed) → AllOf (λ (o : Placed). A
 unmeant m [] h = tt
 unmeant m (o ∷ ops) h = (h.0, unmeant m ops h.1)
 
+-- of indices of a file types alone have other ids
+pub others_stay : OrderedStay → (s : Sections) (i : Ids) → i ≡ numbers_of s → OthersStay (look_of i)
+others_stay ordered s i numbers = ordered i (record {
+  functions = (length s.functions.items, ap (λ (j : Ids). j.functions) numbers);
+  tables = (length s.tables.items, ap (λ (j : Ids). j.tables) numbers);
+  memories = (length s.memories.items, ap (λ (j : Ids). j.memories) numbers);
+  tags = (length s.tags.items, ap (λ (j : Ids). j.tags) numbers);
+  globals = (length s.globals.items, ap (λ (j : Ids). j.globals) numbers);
+  elements = (length s.elements.items, ap (λ (j : Ids). j.elements) numbers);
+  segments = (length s.segments.items, ap (λ (j : Ids). j.segments) numbers);
+  locals = ap (λ (j : Ids). j.locals 0) numbers;
+})
+
 -- what holds of all of a list, by a weaker word
 weaker : {A : Type 0} (P Q : A → Type 0) → ((x : A) → P x → Q x) → (xs : List A) → AllOf P xs → AllOf Q xs
 weaker P Q f [] h = tt
@@ -160,16 +174,7 @@ names_of_bodies {B} mean bodies items fulls ruled ordered again stand below decl
     let read = bodies features bytes s m.start i h.filled h.file [] h.bodied h.reads.short small h.reads.sections h.are_filled h.is_file h.bodies_are in
     let numbered : found ≡ record i { locals = h.bodied.ids.locals } = h.found_are ∙ read.3 in
     let same : found.types ≡ (types_in s).ids = ap (λ (j : Ids). j.types) numbered ∙ ap (λ (j : Ids). j.types) h.are_filled.numbers in
-    let others : OthersStay (look_of i) = ordered i (record {
-      functions = (length s.functions.items, ap (λ (j : Ids). j.functions) h.are_filled.numbers);
-      tables = (length s.tables.items, ap (λ (j : Ids). j.tables) h.are_filled.numbers);
-      memories = (length s.memories.items, ap (λ (j : Ids). j.memories) h.are_filled.numbers);
-      tags = (length s.tags.items, ap (λ (j : Ids). j.tags) h.are_filled.numbers);
-      globals = (length s.globals.items, ap (λ (j : Ids). j.globals) h.are_filled.numbers);
-      elements = (length s.elements.items, ap (λ (j : Ids). j.elements) h.are_filled.numbers);
-      segments = (length s.segments.items, ap (λ (j : Ids). j.segments) h.are_filled.numbers);
-      locals = ap (λ (j : Ids). j.locals 0) h.are_filled.numbers;
-    }) in
+    let others = others_stay ordered s i h.are_filled.numbers in
     let typed = λ (n : ℕ) (lt : n < length (types_of f)). types_live stand below declares stay on config bytes m found is n lt same in
     let one : (b : FunctionBody) (x : grammar.Body) → MeansBody (parts m) found a b x → RuledBody a x → NamesLiving (parts m) b = λ b x k rule.
     let normal = weaker (λ (o : Placed). AllOf (NameInRange a.filled) (operator_names o.op)) (λ (o : Placed). AllOf (NameInRange f) (operator_names o.op))

@@ -1,2 +1,3 @@
+pub mod Indices
 pub mod Types
 pub mod Uses

@@ -1,5 +1,6 @@
 //! Laws: functions with nothing to do, whose contracts hold of all modules that are read.
 
+ghost use Rattle.walrus_parsed_uses.specs.Indices.{IndicesOfReadModulesLive};
 ghost use Rattle.walrus_parsed_uses.specs.Types.{NamesOfReadTypesLive};
 ghost use Rattle.walrus_parsed_uses.specs.Uses.{NamesOfReadBodiesLive};
 
@@ -7,6 +8,7 @@ use walrus_file_bodies::laws::bodies_read_files;
 use walrus_function_types::laws::{found_types_stay, tables_grow_on};
 use walrus_group_laws::read_types_are_declared;
 use walrus_into_laws::ordered_stay;
+use walrus_items_into::laws::filled_modules_are_filed;
 use walrus_parsed_items::laws::read_modules_have_items;
 use walrus_parsed_texts::laws::bodies_of_read_modules_mean_theirs;
 use walrus_types_into::laws::{new_types_stand, types_name_below};
@@ -40,6 +42,23 @@ pub fn names_of_read_types_live<B>()
     read_modules_have_items::<B>();
     bodies_read_files::<B>();
     read_modules_are_ruled();
+    new_types_stand();
+    types_name_below();
+    read_types_are_declared();
+    found_types_stay();
+    tables_grow_on();
+}
+
+/// In a module that was read, the id that an index of the file has is that of an item that lives, in each space but those of locals and
+/// labels, which are a body's own.
+pub fn indices_of_read_modules_live<B>()
+    ensures { IndicesOfReadModulesLive B }
+{
+    filled_modules_are_filed::<B>();
+    bodies_read_files::<B>();
+    read_modules_have_items::<B>();
+    read_modules_are_full();
+    ordered_stay();
     new_types_stand();
     types_name_below();
     read_types_are_declared();

@@ -22,7 +22,7 @@ returns-clause-read c =
     c.params_of.result.now c.add_arguments.new.locals (ids c.add_arguments.new.indices) c.in_ok-args.args.items c.in_ok-args.ensures c.reader_of-reader.result c.reader_of-reader.ensures.begins
     c.tables_grow_on.ensures (subst (λ (t : Table). IfSome (params_at t c.ty-ty.result) (λ (ps : List ValType). c.params_of.result.now ≡ ps)) c.beside-env.ensures.types_are c.params_of.ensures)
     (state c.read_handled.new.types c.read_handled.new.locals (ids c.read_handled.new.indices) c.give_body.new.functions) c.in_ok-read.read
-    c.in_ok-read.ensures.read c.in_ok-read.ensures.grown c.in_ok-read.ensures.ty c.in_ok-read.ensures.name (ap (λ (v : Vec ℕ Global). v.items) c.in_ok-read.ensures.args) c.in_ok-read.ensures.kept c.give_body.ensures
+    c.in_ok-read.ensures.read c.in_ok-read.ensures.handled c.in_ok-read.ensures.grown c.in_ok-read.ensures.ty c.in_ok-read.ensures.name (ap (λ (v : Vec ℕ Global). v.items) c.in_ok-read.ensures.args) c.in_ok-read.ensures.kept c.give_body.ensures
 
 pub read_handled-requires-clause-tags : goal.read_handled-requires-clause-tags
 read_handled-requires-clause-tags c =

@@ -4,7 +4,7 @@ use Rattle.walrus_index_maps.specs.Views.{ids}
 use Rattle.walrus_handler_types.proofs.Growing.{given_types_grow}
 use Rattle.walrus_bodies_into.specs.walrus_handler_types.walrus_tree.walrus_builder.Built.{contents}
 use Rattle.walrus_bodies_into.specs.walrus_module_env.Env.{tag_type_at}
-use Rattle.walrus_module_bodies.proofs.ReadingLemmas.{handled_done, many_handlers}
+use Rattle.walrus_module_bodies.proofs.ReadingLemmas.{gives_handlers, handled_read, many_handlers}
 use Rattle.walrus_module_bodies.proofs.handled.read_handled.Goals as goal
 
 pub give_types-requires-clause-many : goal.give_types-requires-clause-many
@@ -21,13 +21,23 @@ pub returns-clause-grown : goal.returns-clause-grown
 returns-clause-grown c =
     given_types_grow c.as_slice.result.now (length c.as_slice.result.now) (contents c.builder_mut.result.now.builder) (contents c.give_types.new.body.builder) c.args.types.now c.give_types.new.types c.in_ok-give_types.ensures.given
 
+pub returns-clause-handled : goal.returns-clause-handled
+returns-clause-handled c =
+    gives_handlers (tag_type_at c.beside-env.result.tags.now) c.in_ok-read.read.builder c.builder.result.now c.builder_mut.result.now c.builder.ensures c.builder_mut.ensures.value c.in_ok-read.ensures.tree
+    c.in_ok-told.told.items c.as_slice.result.now c.as_slice.ensures.value c.in_ok-told.ensures.told
+    c.args.file c.beside-env.result c.args.types.now c.give_types.new.types c.args.function (length c.args.args.items) c.args.body
+    (ids c.args.indices.now) (ids c.read_tree.new.indices) c.args.locals.now c.read_tree.new.locals (contents c.give_types.new.body.builder) c.beside-env.ensures refl
+    c.in_ok-read.ensures.read c.in_ok-give_types.ensures.given
+
 pub returns-clause-read : goal.returns-clause-read
 returns-clause-read c =
-    handled_done (tag_type_at c.beside-env.result.tags.now) c.in_ok-read.read.builder c.builder.result.now c.builder_mut.result.now c.builder.ensures c.builder_mut.ensures.value c.in_ok-read.ensures.tree
+    handled_read c.handled_bodies_stand.ensures c.picks_are_seen.ensures c.args.file c.args.types.now c.give_types.new.types c.args.function (length c.args.args.items) c.args.body
+    (ids c.args.indices.now) (ids c.read_tree.new.indices) c.args.locals.now c.read_tree.new.locals (contents c.give_types.new.body.builder)
+    (gives_handlers (tag_type_at c.beside-env.result.tags.now) c.in_ok-read.read.builder c.builder.result.now c.builder_mut.result.now c.builder.ensures c.builder_mut.ensures.value c.in_ok-read.ensures.tree
     c.in_ok-told.told.items c.as_slice.result.now c.as_slice.ensures.value c.in_ok-told.ensures.told
-    c.handled_bodies_stand.ensures c.picks_are_seen.ensures c.args.file c.beside-env.result c.args.types.now c.give_types.new.types c.args.function (length c.args.args.items) c.args.body
-    (ids c.args.indices.now) (ids c.read_tree.new.indices) c.args.locals.now c.read_tree.new.locals c.read_tree.ensures.kept (contents c.give_types.new.body.builder) c.beside-env.ensures refl
-    c.in_ok-read.ensures.read c.in_ok-give_types.ensures.given
+    c.args.file c.beside-env.result c.args.types.now c.give_types.new.types c.args.function (length c.args.args.items) c.args.body
+    (ids c.args.indices.now) (ids c.read_tree.new.indices) c.args.locals.now c.read_tree.new.locals (contents c.give_types.new.body.builder) c.beside-env.ensures refl
+    c.in_ok-read.ensures.read c.in_ok-give_types.ensures.given)
 
 pub returns-in_err-read-clause-stops : goal.returns-in_err-read-clause-stops
 returns-in_err-read-clause-stops c =

@@ -1,0 +1,6 @@
+mod ValueLemmas
+mod TableLemmas
+mod LocalLemmas
+mod HandlerLemmas
+mod StepLemmas
+mod LinkedLemmas

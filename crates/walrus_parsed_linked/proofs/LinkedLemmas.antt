@@ -1,0 +1,277 @@
+-- Lemmas: a module that was read is linked.
+use Rattle.std.specs.Prelude.{ℕ, zero, suc, ◌≡◌, ◌⊎◌, ◌<◌, ◌≤◌, List, [], ◌∷◌, ◌++◌, All, Contains, length, map, Option, Some, None, slice_get, slice_index_or, refl}
+use Rattle.std.specs.Option.{option_map}
+use Rattle.std.proofs.Common.{ap, sym, ◌∙◌, subst, arith, inl, inr}
+use Rattle.std.proofs.lemmas.List.{length-map}
+use Rattle.std.proofs.lemmas.List.Concat.{flat_map-append}
+use Rattle.std.proofs.lemmas.Option.{get_or_from_slice_get, slice_get_within}
+use Rattle.wasm_body_grammar.specs.Rules.{Around, space_of}
+use Rattle.wasm_formats.specs.declared.fault.Space.{Space}
+use Rattle.wasm_formats.specs.declared.fault.Space.TheVariants as spaces
+use Rattle.wasm_grammar.specs.States.{types_of}
+use Rattle.wasm_immediates.specs.Items.{Space as Numbered, Types, Functions, Tables, Memories, Tags, Globals, ElementSegments, DataSegments, Locals, Labels}
+use Rattle.wasm_modules.specs.Modules.{around}
+use Rattle.wasm_sections.specs.Within.{bodies_inside}
+use Rattle.walrus_arena.specs.Arena.{item_at}
+use Rattle.walrus_body_walks.specs.Answers.{AllAre}
+use Rattle.walrus_body_walks.specs.Laws.{TriesHaveAnswers, WalksNameAnswers}
+use Rattle.walrus_builder.specs.Functions.{seqs_of}
+use Rattle.walrus_file_bodies.proofs.PairLemmas.{are_apart, chunks_fit}
+use Rattle.walrus_file_bodies.proofs.StopLemmas.{bodies_wait, chunks_fit_in, count_in}
+use Rattle.walrus_file_bodies.specs.Laws.{BodiesReadFiles}
+use Rattle.walrus_file_bodies.specs.Read.{env_is, env_of, grows_none, steps_grow}
+use Rattle.walrus_file_bodies.specs.Ready.{bodies_in}
+use Rattle.walrus_forms.specs.Kinds.{Kind, kind_names}
+use Rattle.walrus_forms.specs.Renaming.{KindBelow, at, renamed_kind}
+use Rattle.walrus_forms.proofs.RenamingLemmas.{In, kinds-below, kinds-names}
+use Rattle.walrus_function_types.specs.Growth.{EntryTypesGrow, FoundTypesStay, TablesGrowOn}
+use Rattle.walrus_functions_into.specs.Functions.{functions_from, kind_of}
+use Rattle.walrus_functions_into.specs.Laws.{read_bodies}
+use Rattle.walrus_functions_into.specs.declared.bodies.FunctionBody.{FunctionBody}
+use Rattle.walrus_index_maps.specs.Maps.{Ids}
+use Rattle.walrus_item_names.specs.Holder.{Holder}
+use Rattle.walrus_item_names.specs.Names.{bare_function, bare_local, bare_type}
+use Rattle.walrus_items.specs.declared.local.Local.{Local}
+use Rattle.walrus_items_into.specs.Laws.{FilledFunctionsStand, FilledModulesAreFiled}
+use Rattle.walrus_known_sections.specs.State.{state_of}
+use Rattle.walrus_linked.specs.Names.{body_events, body_names, function_names, local_names, named_by, names, names_in, type_names, used_types}
+use Rattle.walrus_local_function.specs.declared.local_function.LocalFunction.{LocalFunction}
+use Rattle.walrus_marks.specs.Named.{event_items, items_of}
+use Rattle.walrus_marks.specs.walrus_walks.Events.{Event, NamesLocal, StartOf, EndOf, Visits, NamesSeq, NamesMemory, NamesTable, NamesGlobal, NamesFunction, NamesData, NamesType, NamesElement, NamesTag, Holds, events_of}
+use Rattle.walrus_marks.specs.walrus_walks.Walk.{body_walk}
+use Rattle.walrus_module.specs.Items.{Lives, LivesIn}
+use Rattle.walrus_module.specs.Parts.{Module, parts}
+use Rattle.walrus_module_bodies.specs.Steps.{State, state}
+use Rattle.walrus_module_env.specs.Filled.{AreFiled}
+use Rattle.walrus_module_items.specs.declared.function.Function.{Function}
+use Rattle.walrus_module_items.specs.declared.function.FunctionKind.{FunctionKind}
+use Rattle.walrus_module_items.specs.declared.function.FunctionKind.TheVariants as kinds
+use Rattle.walrus_pairing.specs.Looks.{id_of}
+use Rattle.walrus_parse.specs.Parsed.{read_features}
+use Rattle.walrus_roots.specs.Items.{item}
+use Rattle.walrus_roots.specs.declared.item.Item.{Item}
+use Rattle.walrus_types.specs.Items.{Item as TypeItem}
+use Rattle.walrus_types.specs.Table.{Table, next_id, type_at}
+use Rattle.walrus_parsed_bodies.proofs.SlotLemmas.{read_kind}
+use Rattle.walrus_parsed_bodies.proofs.StepLemmas.{HasBody, steps_have}
+use Rattle.walrus_parsed_bodies.proofs.WholeLemmas.{bare_same, kind_at}
+use Rattle.walrus_parsed_bodies.specs.Whole.{ReadFunctionsAreWhole}
+use Rattle.walrus_parsed_links.specs.Links.{ReadModulesHaveLinks}
+use Rattle.walrus_parsed_names.proofs.ListLemmas.{AllOf, all_contains, get_some, items_join, some_is}
+use Rattle.walrus_parsed_names.proofs.TypeLemmas.{there_too}
+use Rattle.walrus_parsed_names.specs.Named.{HasNoBodies, NamesOfReadItemsLive}
+use Rattle.walrus_parsed_uses.specs.Indices.{IndicesOfReadModulesLive}
+use Rattle.walrus_parsed_linked.specs.Linked.{ReadModulesAreLinked}
+use Rattle.walrus_parsed_linked.proofs.LocalLemmas.{GoodLocal}
+use Rattle.walrus_parsed_linked.proofs.StepLemmas.{Sound, all_of, step_sound, step_walk, steps_more, steps_sound}
+use Rattle.walrus_parsed_linked.proofs.ValueLemmas.{Closed, GoodKind, GoodTypes}
+
+-- ---- the types of a file
+
+within : (xs : List (Option TypeItem)) (n : ℕ) (x : TypeItem) → slice_index_or xs n None ≡ Some x → n < length xs
+within [] n x e = absurd cc
+within (y ∷ ys) zero x e = omega arith
+within (y ∷ ys) (suc n) x e = let lt = within ys n x e in omega (arith, lt)
+
+module _ (Good : Item → Type 0) where
+  named_good : (r : ℕ → ℕ) (ns : List ℕ) → ((n : ℕ) → In n ns → Good (item spaces.«Type» (r n))) → GoodTypes Good (map r ns)
+  named_good r [] f = tt
+  named_good r (n ∷ ns) f = (f n (inl refl), named_good r ns (λ k h. f k (inr h)))
+
+  filed_closed : (of : List Kind) (ids : List ℕ) (own : ℕ) (t : Table) → AreFiled of ids own t → own ≡ next_id t → ((n id : ℕ) → slice_get ids n ≡ Some id → Good (item spaces.«Type» id)) → Closed Good t
+  filed_closed of ids own t h is good id x there =
+      let lt : id < own = subst (λ (n : ℕ). id < n) (sym is) (within t.types id x there) in
+      let only = h.only id x lt there in
+      let kind = get_some of only.0 (subst (λ (n : ℕ). only.0 < n) h.sized (slice_get_within ids only.0 id only.1)) in
+      let stands = h.stand only.0 kind.0 kind.1 in
+      let same : stands.id ≡ id = some_is stands.id id (sym stands.named ∙ only.1) in
+      let alike : stands.item ≡ x = some_is stands.item x (sym stands.live ∙ ap (type_at t) same ∙ there) in
+      let kind_is : renamed_kind (at ids) kind.0 ≡ x.kind = sym stands.kind_is ∙ ap (λ (z : TypeItem). z.kind) alike in
+      let below = h.names only.0 kind.0 kind.1 in
+      let each = λ (n : ℕ) (has : In n (kind_names kind.0)).
+      let got = get_some ids n (kinds-below kind.0 (length ids) below n has) in
+      subst (λ (k : ℕ). Good (item spaces.«Type» k)) (sym (get_or_from_slice_get ids n got.0 0 got.1)) (good n got.0 got.1) in
+      subst (λ (k : Kind). GoodKind Good k) kind_is (subst (GoodTypes Good) (sym (kinds-names (at ids) kind.0)) (named_good (at ids) (kind_names kind.0) each))
+
+  -- ---- without names
+
+  locals_good : (ls ms : List Local) → map bare_local ls ≡ map bare_local ms → AllOf (GoodLocal Good) ms → AllOf (GoodLocal Good) ls
+  locals_good [] [] e h = tt
+  locals_good [] (m ∷ ms) e h = absurd cc
+  locals_good (l ∷ ls) [] e h = absurd cc
+  locals_good (l ∷ ls) (m ∷ ms) e h =
+      let head : bare_local l ≡ bare_local m = cc in
+      let tail : map bare_local ls ≡ map bare_local ms = cc in
+      (subst (λ (ty : _). AllOf Good (items_of (local_names (Some (record l { ty = ty }))))) (sym (ap (λ (x : Local). x.ty) head)) h.0, locals_good ls ms tail h.1)
+
+  local_at : (ls : List Local) (id : ℕ) → AllOf (GoodLocal Good) ls → AllOf Good (items_of (local_names (slice_get ls id)))
+  local_at [] id h = tt
+  local_at (l ∷ ls) zero h = h.0
+  local_at (l ∷ ls) (suc id) h = local_at ls id h.1
+
+  used_good : (ls : List Local) → AllOf (GoodLocal Good) ls → (es : List Event) → AllOf Good (items_of (events_of (used_types ls) es))
+  used_good ls h [] = tt
+  used_good ls h (e ∷ es) = items_join Good (used_types ls e) (events_of (used_types ls) es) (one e) (used_good ls h es)
+    where
+      one : (e : Event) → AllOf Good (items_of (used_types ls e))
+      one (NamesLocal id) = local_at ls id h
+      one _ = tt
+
+  type_good : (o p : Option TypeItem) → option_map bare_type o ≡ option_map bare_type p → ((x : TypeItem) → p ≡ Some x → GoodKind Good x.kind) → AllOf Good (items_of (named_by type_names o))
+  type_good None p e h = tt
+  type_good (Some x) None e h = absurd cc
+  type_good (Some x) (Some y) e h = subst (λ (k : Kind). GoodKind Good k) (sym (ap (λ (z : TypeItem). z.kind) (some_is (bare_type x) (bare_type y) e))) (h y refl)
+
+-- a function of the file has no body by itself
+no_body : (locals : List Local) (ty : ℕ) (import : Option ℕ) (kind : FunctionKind) → kind ≡ kind_of ty import → body_names locals kind ≡ []
+no_body locals ty None kind e = ap (body_names locals) e
+no_body locals ty (Some n) kind e = ap (body_names locals) e
+
+pub linked : {B : Type 0} → ReadFunctionsAreWhole B → ReadModulesHaveLinks B → NamesOfReadItemsLive B → IndicesOfReadModulesLive B → FilledFunctionsStand B → FilledModulesAreFiled B → BodiesReadFiles B
+    → EntryTypesGrow → FoundTypesStay → TablesGrowOn → WalksNameAnswers → TriesHaveAnswers → ReadModulesAreLinked B
+linked {B} whole links live indices stands filed bodies enter stay on walks tries config bytes m found small is = record {
+  imports = has.imports;
+  imported = has.imported;
+  whole = whole config bytes m found small is;
+  named = λ x y lives c. all_contains Good (names n x) y (all_good x.space x.id) c;
+  exported = has.exported;
+  started = has.started;
+}
+  where
+    n : Module
+    n = parts m
+
+    Good : Item → Type 0
+    Good = Lives n
+
+    has = links config bytes m found small is
+    kept = live config bytes m found small is
+    h = is.1
+    s = h.sections
+    features = read_features config
+    a : Around
+    a = around features (state_of s)
+
+    bs : List FunctionBody
+    bs = bodies_in s h.filled.functions
+
+    i : Ids
+    i = h.numbers
+
+    old : State
+    old = state h.filled.types [] i h.filled.functions
+
+    final : Table
+    final = h.bodied.types
+
+    read = bodies features bytes s m.start i h.filled h.file [] h.bodied h.reads.short small h.reads.sections h.are_filled h.is_file h.bodies_are
+
+    numbered : found ≡ record i { locals = h.bodied.ids.locals }
+    numbered = h.found_are ∙ read.3
+
+    stand = stands features bytes s m.start i h.filled h.reads.sections h.are_filled
+    fit = chunks_fit_in s.code_start (length bytes) bs (read_bodies s.bodies) stand.paired.chunks_are (chunks_fit s.code_start (length bytes) s.bodies (bodies_inside features bytes (state_of s) small h.reads.sections))
+    waits = bodies_wait features bytes s m.start i h.filled h.file filed h.reads.sections h.are_filled h.is_file bs [] (are_apart h.filled.functions.slots 0 (read_bodies s.bodies))
+
+    types_bare : map (option_map bare_type) m.types.types ≡ map (option_map bare_type) final.types
+    types_bare = ap (λ (x : Holder). x.types.types) h.names.same
+
+    locals_bare : map bare_local m.locals ≡ map bare_local h.bodied.locals
+    locals_bare = ap (λ (x : Holder). x.locals) h.names.same
+
+    funcs_bare : map (option_map bare_function) m.funcs.slots ≡ map (option_map bare_function) h.bodied.functions.slots
+    funcs_bare = ap (λ (x : Holder). x.funcs.slots) h.names.same
+
+    typed : (id : ℕ) (x : TypeItem) → type_at final id ≡ Some x → x.kind.entry ≡ false → Good (item spaces.«Type» id)
+    typed id x there plain = there_too m.types.types final.types id x types_bare there plain
+
+    no_locals : (function : ℕ) → i.locals function ≡ []
+    no_locals function = ap (λ (j : Ids). j.locals function) h.are_filled.numbers
+
+    named : (space : Numbered) (k id : ℕ) → id_of i 0 space k ≡ Some id → Good (item (space_of space) id)
+    named Types k id e = indices config bytes m found small is 0 Types k id (ap (λ (j : Ids). slice_get j.types k) numbered ∙ e)
+    named Functions k id e = indices config bytes m found small is 0 Functions k id (ap (λ (j : Ids). slice_get j.functions k) numbered ∙ e)
+    named Tables k id e = indices config bytes m found small is 0 Tables k id (ap (λ (j : Ids). slice_get j.tables k) numbered ∙ e)
+    named Memories k id e = indices config bytes m found small is 0 Memories k id (ap (λ (j : Ids). slice_get j.memories k) numbered ∙ e)
+    named Tags k id e = indices config bytes m found small is 0 Tags k id (ap (λ (j : Ids). slice_get j.tags k) numbered ∙ e)
+    named Globals k id e = indices config bytes m found small is 0 Globals k id (ap (λ (j : Ids). slice_get j.globals k) numbered ∙ e)
+    named ElementSegments k id e = indices config bytes m found small is 0 ElementSegments k id (ap (λ (j : Ids). slice_get j.elements k) numbered ∙ e)
+    named DataSegments k id e = indices config bytes m found small is 0 DataSegments k id (ap (λ (j : Ids). slice_get j.segments k) numbered ∙ e)
+    named Locals k id e = absurd (let none = ap (λ (l : List ℕ). slice_get l k) (no_locals 0) in let both = sym none ∙ e in cc)
+    named Labels k id e = absurd cc
+
+    many : length m.locals ≡ length h.bodied.locals
+    many = sym (length-map m.locals bare_local) ∙ ap length locals_bare ∙ length-map h.bodied.locals bare_local
+
+    local_lives : (id : ℕ) → id < length h.bodied.locals → Good (item spaces.Local id)
+    local_lives id lt = subst (λ (k : ℕ). id < k) (sym many) lt
+
+    around_is = waits.filed h.filled.types (env_of h.file h.filled.types) (λ _. []) 0 (grows_none h.filled.types) (env_is h.file h.filled.types)
+
+    SoundNow : State → Type 0
+    SoundNow = Sound stay on enter walks tries h.file features a (count_in s) final h.bodied.locals i Good typed named local_lives
+
+    first : SoundNow old
+    first = record {
+      names = refl;
+      below = λ function k id e. absurd (let none = ap (λ (l : List ℕ). slice_get l k) (no_locals function) in let both = sym none ∙ e in cc);
+      closed = filed_closed Good (types_of a.filled) i.types h.file.own_types h.filled.types around_is.types_are h.is_file.own_types (λ k id e. named Types k id e);
+      locals_good = tt;
+    }
+
+    last : SoundNow h.bodied
+    last = steps_sound stay on enter walks tries h.file features a (count_in s) final h.bodied.locals i Good typed named local_lives s.code_start (length bytes) bs old h.bodied fit waits h.bodies_are (grows_none final) (omega arith) first
+
+    Walked : LocalFunction → Type 0
+    Walked local = AllAre Good (items_of (body_walk (seqs_of local.builder) 0))
+
+    ends = steps_have stay on enter h.file features a (count_in s) h.bodied SoundNow Walked
+        (λ b bs old new small w step rest sound.
+            let grows = steps_grow on h.file features bs new h.bodied rest in
+            let on_new = step_on stay on enter h.file features a (count_in s) b bs old new w step in
+            let le = steps_more stay on enter walks tries h.file features a (count_in s) final h.bodied.locals i Good typed named local_lives bs new h.bodied on_new rest in (
+              step_walk stay on enter walks tries h.file features a (count_in s) final h.bodied.locals i Good typed named local_lives b bs old new small w step grows le sound last.closed,
+              step_sound stay on enter walks tries h.file features a (count_in s) final h.bodied.locals i Good typed named local_lives b bs old new small w step grows le sound,
+            ))
+        s.code_start (length bytes) bs old fit waits h.bodies_are first
+
+    body_good : (kind : FunctionKind) (local : LocalFunction) → kind ≡ kinds.Local local → Walked local → AllOf Good (items_of (body_names m.locals kind))
+    body_good kind local e walked = subst (λ (k : FunctionKind). AllOf Good (items_of (body_names m.locals k))) (sym e)
+        (items_join Good (body_events local) (events_of (used_types m.locals) (body_events local)) (all_of Good (items_of (body_events local)) walked)
+        (used_good Good m.locals (locals_good Good m.locals h.bodied.locals locals_bare last.locals_good) (body_events local)))
+
+    function_good : (f : ℕ) (function : Function) → item_at m.funcs f ≡ Some function → AllOf Good (items_of (function_names m.locals function))
+    function_good f function there =
+        let slot = slice_index_or h.bodied.functions.slots f None in
+        let same = kind_at function slot (sym (ap (option_map bare_function) there) ∙ bare_same bare_function m.funcs.slots h.bodied.functions.slots f funcs_bare) in
+        (kept.typed f function there, elim (ends f) as (λ _. AllOf Good (items_of (body_names m.locals function.kind))) [
+          | inl was ↦
+              let read = read_kind i.types 0 f s.functions.items same.function
+              (ap (λ (l : List (Option Function)). slice_index_or l f None) (sym h.are_filled.functions) ∙ sym was.0 ∙ same.there) in
+              subst (λ (es : List Event). AllOf Good (items_of es)) (sym (no_body m.locals _ read.0.import function.kind (sym same.kind_is ∙ read.1))) tt
+          | inr body ↦
+              let alike : same.function ≡ body.function = some_is same.function body.function (sym same.there ∙ body.there) in
+              body_good function.kind body.local (sym same.kind_is ∙ ap (λ (x : Function). x.kind) alike ∙ body.kind) body.good
+        ])
+
+    all_function : (f : ℕ) (o : Option Function) → item_at m.funcs f ≡ o → AllOf Good (items_of (named_by (function_names m.locals) o))
+    all_function f None e = tt
+    all_function f (Some function) e = function_good f function e
+
+    all_type : (id : ℕ) → AllOf Good (items_of (named_by type_names (type_at m.types id)))
+    all_type id = type_good Good (type_at m.types id) (type_at final id) (bare_same bare_type m.types.types final.types id types_bare) (λ x there. last.closed id x there)
+
+    others : (space : Space) (id : ℕ) → HasNoBodies space → AllOf Good (names n (item space id))
+    others space id bare = all_of Good (names n (item space id)) (λ y c. kept.named (item space id) y bare c)
+
+    all_good : (space : Space) (id : ℕ) → AllOf Good (items_of (names_in n space id))
+    all_good spaces.«Type» id = all_type id
+    all_good spaces.Function id = all_function id (item_at m.funcs id) refl
+    all_good spaces.Table id = others spaces.Table id tt
+    all_good spaces.Memory id = tt
+    all_good spaces.Tag id = others spaces.Tag id tt
+    all_good spaces.Global id = others spaces.Global id tt
+    all_good spaces.Element id = others spaces.Element id tt
+    all_good spaces.Data id = others spaces.Data id tt
+    all_good spaces.Local id = tt
+    all_good spaces.Label id = tt

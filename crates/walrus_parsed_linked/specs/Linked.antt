@@ -1,0 +1,13 @@
+-- A module that was read is linked.
+use Rattle.std.specs.Prelude.{ℕ, ◌<◌, List, All}
+use Rattle.walrus_config.specs.declared.config.ModuleConfig.{ModuleConfig}
+use Rattle.walrus_index_maps.specs.Maps.{Ids}
+use Rattle.walrus_linked.specs.Linked.{IsLinked}
+use Rattle.walrus_module.specs.Parts.{parts}
+use Rattle.walrus_module.specs.declared.module.Module.{Module as Whole}
+use Rattle.walrus_parse.specs.Parsed.{IsReadAs}
+
+-- each import names a live item that names it back, and each imported item a live import; functions are imported or whole; and what is
+-- named lives: by an item or its body, by an export, or as the start function
+abbrev pub ReadModulesAreLinked : Type 0 → Type 0
+ReadModulesAreLinked B = (config : ModuleConfig) (bytes : List ℕ) (m : Whole B) (found : Ids) → All (λ b. b < 256) bytes → IsReadAs config bytes m found → IsLinked (parts m)

@@ -1,0 +1,4 @@
+//! Modules that are read are linked.
+#![tactic(auto)]
+
+pub mod laws;
