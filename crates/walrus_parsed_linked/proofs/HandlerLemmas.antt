@@ -61,20 +61,17 @@ module _ (P : InstrSeqType → Type 0) where
 
   handler_good : (xs : List Slot) (j : ℕ) → AllOf SlotGood xs → OfGood (handler_in xs j)
   handler_good [] j h = tt
-  handler_good (x ∷ xs) j h = go (x.seq == j)
+  handler_good (x ∷ xs) j h = go (handler_good xs j h.1) (x.seq == j)
     where
-      go : (c : Bool) → OfGood (if c then x.handles else handler_in xs j)
-      go true = h.0
-      go false = handler_good xs j h.1
+      go : OfGood (handler_in xs j) → (c : Bool) → OfGood (if c then x.handles else handler_in xs j)
+      go later true = h.0
+      go later false = later
 
   module _ (tags : ℕ → Option ℕ) (b : List InstrSeq) (t : IsTree b 0) (tries : (k : ℕ) (x : InstrSeq) → Has (tree_ids t) k → slice_get b k ≡ Some x → TriesAre (map seq_of b) P x.instrs.items) where
     got : (bs : List InstrSeq) (k : ℕ) (s : Seq) → slice_get (map seq_of bs) k ≡ Some s → (x : InstrSeq) × (slice_get bs k ≡ Some x) × (seq_of x ≡ s)
     got [] k s e = absurd cc
-    got (x ∷ bs) k s e = at k e
-      where
-        at : (k : ℕ) → slice_get (map seq_of (x ∷ bs)) k ≡ Some s → (y : InstrSeq) × (slice_get (x ∷ bs) k ≡ Some y) × (seq_of y ≡ s)
-        at zero e = (x, refl, some_is (seq_of x) s e)
-        at (suc k) e = got bs k s e
+    got (x ∷ bs) zero s e = (x, refl, some_is (seq_of x) s e)
+    got (x ∷ bs) (suc k) s e = got bs k s e
 
     seq_good : (k : ℕ) → Has (tree_ids t) k → AllOf SlotGood (seq_slots tags (map seq_of b) (slice_get (map seq_of b) k))
     seq_good k has = go (slice_get (map seq_of b) k) refl
