@@ -1,8 +1,8 @@
 -- What a callback leaves that answers each number by one function.
 use native.Mathlib.Nat.{ℕ_set}
-use Rattle.std.proofs.Common.{ℕ, ◌≡◌, ◌<◌, Bool, true, false, List, [], ◌∷◌, length, Option, Some, None, refl, sym, ap, subst, ◌∙◌, arith}
+use Rattle.std.proofs.Common.{ℕ, ◌≡◌, Bool, true, false, List, [], ◌∷◌, length, Option, Some, None, refl, sym, ap, subst, ◌∙◌}
 use Rattle.std.proofs.lemmas.Bool.{ltb-true}
-use Rattle.std.proofs.lemmas.List.{length-map, with_items_is}
+use Rattle.std.proofs.lemmas.List.{with_items_is}
 use Rattle.std.specs.Prelude.{map, nat_lt, MatchBool, if◌then◌else◌}
 use Rattle.std.specs.Option.{option_map}
 use Rattle.std.specs.Vec.{with_items}
@@ -89,6 +89,7 @@ vec_stays {X} v xs e = over (with_items v xs).items is ((with_items v xs).ok.0)
   where
     is : (with_items v xs).items ≡ v.items
     is = with_items_is v xs (ap length e ∙ sym v.ok.0) ∙ e
+
     over : (ys : List X) → ys ≡ v.items → (p : v.len ≡ length ys) → record v { items = ys; ok = (p, v.ok.1) } ≡ v
     over ys q = subst (λ (zs : List X). (p : v.len ≡ length zs) → record v { items = zs; ok = (p, v.ok.1) } ≡ v) (sym q) (λ p i. record v { ok = (ℕ_set _ _ p v.ok.0 i, v.ok.1) })
 

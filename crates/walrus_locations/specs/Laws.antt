@@ -7,7 +7,7 @@ use Rattle.walrus_builder.specs.declared.function.FunctionBuilder.{FunctionBuild
 use Rattle.walrus_builder.specs.Functions.{seqs_of}
 use Rattle.walrus_collections.specs.walrus_module_items.declared.function.Function.{Function}
 use Rattle.walrus_collections.specs.walrus_module_items.declared.function.FunctionKind.{FunctionKind}
-use Rattle.walrus_collections.specs.walrus_module_items.declared.function.FunctionKind.TheVariants.{Import, Local, Uninitialized}
+use Rattle.walrus_collections.specs.walrus_module_items.declared.function.FunctionKind.TheVariants.{Local}
 use Rattle.walrus_walks.specs.walrus_instr.declared.instr.Instr.{Instr}
 use Rattle.walrus_walks.specs.walrus_instr.declared.seq.InstrLocId.{InstrLocId}
 use Rattle.walrus_walks.specs.walrus_instr.declared.seq.InstrSeq.{InstrSeq}

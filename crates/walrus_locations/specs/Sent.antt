@@ -1,12 +1,12 @@
 -- Locations that are sent through a callback.
-use Rattle.std.specs.Prelude.{ℕ, ◌≡◌, ◌<◌, List, Option, Some, None, MatchBool, nat_lt, slice_set}
+use Rattle.std.specs.Prelude.{ℕ, ◌≡◌, ◌<◌, Option, Some, None, MatchBool, nat_lt, slice_set}
 use Rattle.std.specs.Vec.{with_items}
 use Rattle.walrus_arena.specs.Arena.{Arena, item_at}
 use Rattle.walrus_builder.specs.declared.function.FunctionBuilder.{FunctionBuilder}
 use Rattle.walrus_builder.specs.Functions.{seqs_of}
 use Rattle.walrus_collections.specs.walrus_module_items.declared.function.Function.{Function}
 use Rattle.walrus_collections.specs.walrus_module_items.declared.function.FunctionKind.{FunctionKind}
-use Rattle.walrus_collections.specs.walrus_module_items.declared.function.FunctionKind.TheVariants.{Import, Local, Uninitialized}
+use Rattle.walrus_collections.specs.walrus_module_items.declared.function.FunctionKind.TheVariants.{Local}
 use Rattle.walrus_walks.specs.walrus_instr.declared.instr.Instr.{Instr}
 use Rattle.walrus_walks.specs.walrus_instr.declared.seq.InstrLocId.{InstrLocId}
 use Rattle.walrus_walks.specs.walrus_instr.declared.seq.InstrSeq.{InstrSeq}

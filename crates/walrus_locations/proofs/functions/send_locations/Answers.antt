@@ -1,5 +1,5 @@
-use Rattle.std.proofs.Common.{ap, sym, ◌∙◌, arith, subst}
-use Rattle.walrus_locations.proofs.SendLemmas.{slots_begin, slots_end, slots_go_on}
+use Rattle.std.proofs.Common.{arith}
+use Rattle.walrus_locations.proofs.SendLemmas.{slots_begin, slots_end}
 use Rattle.walrus_locations.proofs.functions.send_locations.Goals as goal
 
 pub loop-index-init : goal.loop-index-init
