@@ -15,7 +15,8 @@ fn push_seq(numbers: &mut Vec<u32>, seq: &InstrSeq) -> std::result::Result<(), A
     for (_instr, place) in seq.instrs.iter() {
         numbers.push(place.data())?;
     }
-    numbers.push(seq.end.data())
+    numbers.push(seq.end.data())?;
+    Ok(())
 }
 
 // Those of a module, by rising function and sequence.
