@@ -1,5 +1,5 @@
 -- Steps of the loops over sequences and over functions.
-use Rattle.std.proofs.Common.{ℕ, zero, suc, ◌≡◌, ◌<◌, ◌+◌, List, [], ◌∷◌, length, Some, None, Result, Ok, Err, OnOk, refl, sym, ap, subst, ◌∙◌}
+use Rattle.std.proofs.Common.{ℕ, zero, suc, ◌≡◌, ◌+◌, List, [], ◌∷◌, length, Some, Result, Ok, Err, OnOk, refl, sym, ap, subst, ◌∙◌}
 use Rattle.std.proofs.lemmas.Option.{get_or_from_slice_get, slice_get_within}
 use Rattle.std.specs.Prelude.{slice_get, slice_set}
 use Rattle.walrus_arena.specs.Arena.{Arena}
@@ -12,7 +12,7 @@ use Rattle.walrus_collections.specs.walrus_module_items.walrus_local_function.de
 use Rattle.walrus_walks.specs.walrus_instr.declared.seq.InstrLocId.{InstrLocId}
 use Rattle.walrus_walks.specs.walrus_instr.declared.seq.InstrSeq.{InstrSeq}
 use Rattle.walrus_walks.proofs.Threaded.{Continues, threads_end, threads_turn}
-use Rattle.walrus_locations.specs.Sent.{BodySent, FunctionSent, FunctionsSent, IsSentAt, KindSent, SeqSent, SlotSent}
+use Rattle.walrus_locations.specs.Sent.{BodySent, FunctionSent, FunctionsSent, KindSent, SeqSent, SlotSent}
 
 set_length : {A : Type 0} (xs : List A) (i : ℕ) (y : A) → length (slice_set xs i y) ≡ length xs
 set_length [] i y = refl
