@@ -47,13 +47,7 @@ pub trait Parse {
         B: Drop,
         G: FnMut(u32) -> InstrLocId + Drop,
         F: FnOnce(&mut Module<B>, &IndicesToIds) -> Result<()> + Drop,
-    >(
-        &self,
-        alloc: Global,
-        wasm: &[u8],
-        on_instr_loc: G,
-        on_parse: F,
-    ) -> Result<Module<B>>
+    >(&self, alloc: Global, wasm: &[u8], on_instr_loc: G, on_parse: F) -> Result<Module<B>>
         requires sends { AnswersLocations G.pre }
         requires callable { F.IsAlwaysCallable on_parse }
         ensures read { IfOk result (λ m. HandsOn G.step on_instr_loc F.FnOnce on_parse (flags self.now) wasm.now (Ok tt) m) }
@@ -73,13 +67,7 @@ impl Parse for ModuleConfig {
         B: Drop,
         G: FnMut(u32) -> InstrLocId + Drop,
         F: FnOnce(&mut Module<B>, &IndicesToIds) -> Result<()> + Drop,
-    >(
-        &self,
-        alloc: Global,
-        wasm: &[u8],
-        on_instr_loc: G,
-        on_parse: F,
-    ) -> Result<Module<B>> {
+    >(&self, alloc: Global, wasm: &[u8], on_instr_loc: G, on_parse: F) -> Result<Module<B>> {
         let mut module = Module::with_config(alloc, *self);
         let found = parse_into(alloc, wasm, &mut module)?;
         let mut sends = on_instr_loc;
