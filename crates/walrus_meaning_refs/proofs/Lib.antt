@@ -1,0 +1,11 @@
+mod Bodies
+mod Functions
+mod Instrs
+mod Items
+mod Kept
+mod Locals
+mod Low
+mod Owned
+mod Sets
+mod Types
+mod Walks
