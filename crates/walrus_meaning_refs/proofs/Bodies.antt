@@ -20,7 +20,7 @@ use Rattle.walrus_meaning.specs.Bodies.{block_of, own_piece, own_seen}
 use Rattle.walrus_meaning_laws.specs.Plain.{PlainNameWhatIsTold}
 use Rattle.walrus_pairing_laws.specs.Told.{told_all}
 use Rattle.walrus_meaning_refs.specs.Instrs.{of_items as kept_name, unlabelled, part_types}
-use Rattle.walrus_meaning_refs.specs.Meant.{parts_of, body_names, BodiesNameWhatIsTold}
+use Rattle.walrus_meaning_refs.specs.Bodies.{parts_of, body_names, BodiesNameWhatIsTold}
 use Rattle.walrus_meaning_refs.proofs.Instrs.{piece_out, block_out, out, out_append, items_append, type_told, instr_told}
 use Rattle.walrus_meaning_refs.proofs.Sets.{Same, same_refl, same_sym, same_trans, same_eq, same_cat, same_cross, same_between, flat_append, flat_of_map, flat_of_flat, flat_both, have_same}
 

@@ -19,21 +19,21 @@ use Rattle.walrus_walks.specs.walrus_instr.Constants.{ops_of}
 use Rattle.walrus_walks.specs.Events.{Event, events_of, ref_names, val_names}
 use Rattle.walrus_walks.specs.ConstEvents.{ExprsTellOps, expr_names, op_names}
 use Rattle.walrus_marks.specs.Named.{event_items, items_of}
-use Rattle.walrus_passes_laws.specs.walrus_references.walrus_module_items.declared.table.Table.{Table}
-use Rattle.walrus_passes_laws.specs.walrus_references.walrus_module_items.declared.global.Global.{Global}
-use Rattle.walrus_passes_laws.specs.walrus_references.walrus_module_items.declared.global.GlobalKind.{GlobalKind}
-use Rattle.walrus_passes_laws.specs.walrus_references.walrus_module_items.declared.global.GlobalKind.TheVariants as globals
-use Rattle.walrus_passes_laws.specs.walrus_references.walrus_module_items.declared.data.Data.{Data}
-use Rattle.walrus_passes_laws.specs.walrus_references.walrus_module_items.declared.data.DataKind.{DataKind}
-use Rattle.walrus_passes_laws.specs.walrus_references.walrus_module_items.declared.data.DataKind.TheVariants as datas
-use Rattle.walrus_passes_laws.specs.walrus_references.walrus_module_items.declared.element.Element.{Element}
-use Rattle.walrus_passes_laws.specs.walrus_references.walrus_module_items.declared.element.ElementKind.{ElementKind}
-use Rattle.walrus_passes_laws.specs.walrus_references.walrus_module_items.declared.element.ElementKind.TheVariants as elements
-use Rattle.walrus_passes_laws.specs.walrus_references.walrus_module_items.declared.element.ElementItems.{ElementItems}
-use Rattle.walrus_passes_laws.specs.walrus_references.walrus_module_items.declared.element.ElementItems.TheVariants as holds
+use Rattle.walrus_references.specs.walrus_module_items.declared.table.Table.{Table}
+use Rattle.walrus_references.specs.walrus_module_items.declared.global.Global.{Global}
+use Rattle.walrus_references.specs.walrus_module_items.declared.global.GlobalKind.{GlobalKind}
+use Rattle.walrus_references.specs.walrus_module_items.declared.global.GlobalKind.TheVariants as globals
+use Rattle.walrus_references.specs.walrus_module_items.declared.data.Data.{Data}
+use Rattle.walrus_references.specs.walrus_module_items.declared.data.DataKind.{DataKind}
+use Rattle.walrus_references.specs.walrus_module_items.declared.data.DataKind.TheVariants as datas
+use Rattle.walrus_references.specs.walrus_module_items.declared.element.Element.{Element}
+use Rattle.walrus_references.specs.walrus_module_items.declared.element.ElementKind.{ElementKind}
+use Rattle.walrus_references.specs.walrus_module_items.declared.element.ElementKind.TheVariants as elements
+use Rattle.walrus_references.specs.walrus_module_items.declared.element.ElementItems.{ElementItems}
+use Rattle.walrus_references.specs.walrus_module_items.declared.element.ElementItems.TheVariants as holds
 use Rattle.walrus_roots.specs.declared.item.Item.{Item}
 use Rattle.walrus_roots.specs.Items.{item}
-use Rattle.walrus_passes_laws.specs.walrus_references.References.{table_items, init_items, global_items, value_items, data_items, element_items, place_items, held_items}
+use Rattle.walrus_references.specs.References.{table_items, init_items, global_items, value_items, data_items, element_items, place_items, held_items}
 use Rattle.walrus_meaning.specs.Words.{own_expr, const_seen}
 use Rattle.walrus_meaning.specs.Meaning.{own_table, own_global, own_value_of, own_element, own_element_mode, own_elements, own_segment, own_data_mode}
 use Rattle.walrus_meaning_refs.specs.Items.{own_item, own_items, ItemsNameWhatIsMeant}

@@ -1,11 +1,6 @@
 mod Bodies
-mod Functions
 mod Instrs
-mod Items
-mod Kept
+pub mod Items
 mod Locals
-mod Low
-mod Owned
-mod Sets
-mod Types
+pub mod Sets
 mod Walks

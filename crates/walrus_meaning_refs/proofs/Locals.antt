@@ -23,8 +23,7 @@ use Rattle.walrus_walks.specs.walrus_forms.declared.value.ValType.{ValType}
 use Rattle.walrus_items.specs.declared.local.Local.{Local}
 use Rattle.walrus_meaning.specs.walrus_local_function.declared.local_function.LocalFunction.{LocalFunction}
 use Rattle.walrus_meaning.specs.Bodies.{has_number, named_locals, own_body, own_operators, used_locals}
-use Rattle.walrus_meaning_refs.specs.Locals.{UsedLocalsAreDeclared}
-use Rattle.walrus_meaning_refs.specs.Meant.{type_of_local}
+use Rattle.walrus_meaning_refs.specs.Locals.{UsedLocalsAreDeclared, type_of_local}
 use Rattle.walrus_meaning_refs.proofs.Sets.{In, in_of, contains_of, in_cases, in_map, map_in, in_flat, flat_in}
 
 -- ---- the locals among the names of an operator

@@ -7,7 +7,7 @@ use Rattle.walrus_marks.specs.Named.{event_items, items_of}
 use Rattle.walrus_roots.specs.declared.item.Item.{Item}
 use Rattle.walrus_pairing_laws.specs.Told.{told_all}
 use Rattle.walrus_meaning_refs.specs.Instrs.{unlabelled}
-use Rattle.walrus_meaning_refs.specs.Meant.{body_names, named_item, BodiesNameWhatIsTold, WalksNameItems}
+use Rattle.walrus_meaning_refs.specs.Bodies.{body_names, named_item, BodiesNameWhatIsTold, WalksNameItems}
 use Rattle.walrus_meaning_refs.proofs.Instrs.{out, out_append}
 use Rattle.walrus_meaning_refs.proofs.Sets.{Same, same_eq, same_sym, same_trans, same_map, same_of, have_same, map_append}
 

@@ -8,13 +8,13 @@ use Rattle.walrus_walks.specs.walrus_instr.declared.const_expr.ConstExpr.{ConstE
 use Rattle.walrus_walks.specs.Events.{ref_names, val_names}
 use Rattle.walrus_walks.specs.ConstEvents.{expr_names}
 use Rattle.walrus_marks.specs.Named.{items_of}
-use Rattle.walrus_passes_laws.specs.walrus_references.walrus_module_items.declared.table.Table.{Table}
-use Rattle.walrus_passes_laws.specs.walrus_references.walrus_module_items.declared.global.Global.{Global}
-use Rattle.walrus_passes_laws.specs.walrus_references.walrus_module_items.declared.tag.Tag.{Tag}
-use Rattle.walrus_passes_laws.specs.walrus_references.walrus_module_items.declared.data.Data.{Data}
-use Rattle.walrus_passes_laws.specs.walrus_references.walrus_module_items.declared.element.Element.{Element}
+use Rattle.walrus_references.specs.walrus_module_items.declared.table.Table.{Table}
+use Rattle.walrus_references.specs.walrus_module_items.declared.global.Global.{Global}
+use Rattle.walrus_references.specs.walrus_module_items.declared.tag.Tag.{Tag}
+use Rattle.walrus_references.specs.walrus_module_items.declared.data.Data.{Data}
+use Rattle.walrus_references.specs.walrus_module_items.declared.element.Element.{Element}
 use Rattle.walrus_roots.specs.declared.item.Item.{Item}
-use Rattle.walrus_passes_laws.specs.walrus_references.References.{table_items, global_items, tag_items, data_items, element_items}
+use Rattle.walrus_references.specs.References.{table_items, global_items, tag_items, data_items, element_items}
 use Rattle.walrus_meaning.specs.Words.{own_expr}
 use Rattle.walrus_meaning.specs.Meaning.{own_table, own_global, own_tag, own_element, own_segment}
 

@@ -1,6 +1,7 @@
 -- The locals that a body uses, and those that it declares.
-use Rattle.std.specs.Prelude.{◌≡◌, ◌↔◌, ℕ, List, Some, Contains}
+use Rattle.std.specs.Prelude.{◌≡◌, ◌↔◌, ℕ, List, Option, Some, Contains, slice_get}
 use Rattle.std.specs.List.{flat_map}
+use Rattle.std.specs.Option.{option_map}
 use Rattle.wasm_references.specs.wasm_grammar.Modules.{Placed}
 use Rattle.wasm_references.specs.wasm_immediates.Items.{Locals}
 use Rattle.wasm_references.specs.wasm_operator_names.Names.{Name, operator_names}
@@ -8,7 +9,10 @@ use Rattle.walrus_walks.specs.walrus_forms.declared.value.ValType.{ValType}
 use Rattle.walrus_items.specs.declared.local.Local.{Local}
 use Rattle.walrus_meaning.specs.walrus_local_function.declared.local_function.LocalFunction.{LocalFunction}
 use Rattle.walrus_meaning.specs.Bodies.{own_body, own_operators}
-use Rattle.walrus_meaning_refs.specs.Meant.{type_of_local}
+
+-- the type of a known local
+abbrev pub type_of_local : List Local → ℕ → Option ValType
+type_of_local locals id = option_map (λ (l : Local). l.ty) (slice_get locals id)
 
 -- an operator of the body names the local
 abbrev pub UsesLocal : LocalFunction → ℕ → Type 0

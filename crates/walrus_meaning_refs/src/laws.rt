@@ -1,9 +1,9 @@
-//! Laws: functions with nothing to do, whose contracts hold of all instructions, bodies and modules.
+//! Laws: functions with nothing to do, whose contracts hold of all instructions, bodies and items.
 
+ghost use Rattle.walrus_meaning_refs.specs.Bodies.{BodiesNameWhatIsTold, WalksNameItems};
 ghost use Rattle.walrus_meaning_refs.specs.Instrs.{InstrsNameWhatIsTold};
 ghost use Rattle.walrus_meaning_refs.specs.Items.{ItemsNameWhatIsMeant};
 ghost use Rattle.walrus_meaning_refs.specs.Locals.{UsedLocalsAreDeclared};
-ghost use Rattle.walrus_meaning_refs.specs.Meant.{BodiesNameWhatIsTold, KeptIsMeant, ReferencesAreMeant, WalksNameItems};
 
 use walrus_meaning_laws::laws::plain_instructions_name_what_is_told;
 use walrus_tree::laws::{text_is_plain, trees_are_nested, trees_are_sound};
@@ -49,25 +49,3 @@ pub fn walks_name_items()
 pub fn used_locals_are_declared()
     ensures { UsedLocalsAreDeclared }
 {}
-
-/// In a linked module an item names just what it names in the module that is meant, a function the types of locals in place of these.
-pub fn references_are_meant()
-    ensures { ReferencesAreMeant }
-{
-    bodies_name_what_is_told();
-    expressions_tell_their_operators();
-    walk_is_plain();
-    held_are_nested();
-    trees_are_nested();
-}
-
-/// What is kept of a linked module is what is kept of the module that it means.
-pub fn kept_is_meant()
-    ensures { KeptIsMeant }
-{
-    bodies_name_what_is_told();
-    expressions_tell_their_operators();
-    walk_is_plain();
-    held_are_nested();
-    trees_are_nested();
-}

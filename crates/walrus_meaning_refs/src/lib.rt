@@ -1,4 +1,4 @@
-//! Laws: what the items of a module in memory name is what the items name of the module that it means.
+//! Laws: what is named in a module in memory is what is named in the module that it means.
 #![tactic(auto)]
 
 pub mod laws;

@@ -37,10 +37,12 @@ use Rattle.walrus_meaning.specs.Bodies.{own_piece}
 use Rattle.walrus_meaning.specs.Meaning.{own_function, own_origin}
 use Rattle.walrus_meaning_refs.specs.Instrs.{of_items as kept_name, unlabelled}
 use Rattle.walrus_meaning_refs.specs.Items.{own_item, own_items}
-use Rattle.walrus_meaning_refs.specs.Meant.{parts_of, body_names, kind_parts, function_parts, type_of_local, BodiesNameWhatIsTold}
+use Rattle.walrus_meaning_refs.specs.Bodies.{parts_of, body_names, BodiesNameWhatIsTold}
+use Rattle.walrus_meaning_refs.specs.Locals.{type_of_local}
+use Rattle.walrus_meaning_kept.specs.Meant.{kind_parts, function_parts}
 use Rattle.walrus_meaning_refs.proofs.Items.{val_meant}
-use Rattle.walrus_meaning_refs.proofs.Low.{low_at}
-use Rattle.walrus_meaning_refs.proofs.Owned.{item_of, owned_forth, owned_back}
+use Rattle.walrus_meaning_kept.proofs.Low.{low_at}
+use Rattle.walrus_meaning_kept.proofs.Owned.{item_of, owned_forth, owned_back}
 use Rattle.walrus_meaning_refs.proofs.Sets.{In, in_of, contains_of, in_left, in_right, in_cases, Same, same_of, same_eq, same_sym, same_trans, same_flat, flat_append, flat_of_flat, flat_same}
 
 -- ---- what is told, and the items of it

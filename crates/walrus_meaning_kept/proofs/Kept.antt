@@ -42,13 +42,15 @@ use Rattle.walrus_meaning.specs.Words.{own_expr}
 use Rattle.walrus_meaning.specs.Meaning.{slots_of, means, own_given, own_export, own_function, own_table, own_memory, own_global, own_tag, own_element, own_element_mode, own_segment, own_data_mode}
 use Rattle.walrus_meaning.proofs.MeaningLemmas.{items_seen}
 use Rattle.walrus_meaning_refs.specs.Items.{own_item, own_items}
-use Rattle.walrus_meaning_refs.specs.Meant.{meant, function_parts, type_of_local, listed_elements, listed_data, IsShared, RefersThrough, BodiesNameWhatIsTold, ReferencesAreMeant, KeptIsMeant}
-use Rattle.walrus_meaning_refs.proofs.Functions.{meant_items, function_forth, function_through, function_back}
+use Rattle.walrus_meaning_refs.specs.Bodies.{BodiesNameWhatIsTold}
+use Rattle.walrus_meaning_refs.specs.Locals.{type_of_local}
+use Rattle.walrus_meaning_kept.specs.Meant.{meant, function_parts, listed_elements, listed_data, IsShared, RefersThrough, ReferencesAreMeant, KeptIsMeant}
+use Rattle.walrus_meaning_kept.proofs.Functions.{meant_items, function_forth, function_through, function_back}
 use Rattle.walrus_meaning_refs.proofs.Items.{table_meant, global_meant, segment_meant, element_meant}
-use Rattle.walrus_meaning_refs.proofs.Low.{Low, low_at, local_low, named_are_low}
-use Rattle.walrus_meaning_refs.proofs.Owned.{item_of, owned_forth, owned_back}
+use Rattle.walrus_meaning_kept.proofs.Low.{Low, low_at, local_low, named_are_low}
+use Rattle.walrus_meaning_kept.proofs.Owned.{item_of, owned_forth, owned_back}
 use Rattle.walrus_meaning_refs.proofs.Sets.{In, in_of, contains_of, in_map, map_in}
-use Rattle.walrus_meaning_refs.proofs.Types.{type_forth, type_back}
+use Rattle.walrus_meaning_kept.proofs.Types.{type_forth, type_back}
 
 -- ---- what is there is seen
 

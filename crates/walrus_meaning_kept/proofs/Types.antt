@@ -21,7 +21,7 @@ use Rattle.walrus_passes_laws.specs.walrus_references.References.{named_by, type
 use Rattle.walrus_meaning.specs.Meaning.{plain_kind, group_kinds, has_kinds, own_groups, type_ids}
 use Rattle.walrus_passes_laws.specs.Served.{GroupsAreWritten}
 use Rattle.walrus_meaning_refs.specs.Items.{own_item, own_items}
-use Rattle.walrus_meaning_refs.proofs.Owned.{item_of, owned_forth, owned_back}
+use Rattle.walrus_meaning_kept.proofs.Owned.{item_of, owned_forth, owned_back}
 use Rattle.walrus_meaning_refs.proofs.Sets.{In, in_of, contains_of, in_map, map_in, in_flat, flat_same}
 
 -- ---- lists

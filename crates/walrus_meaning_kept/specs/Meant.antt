@@ -1,29 +1,16 @@
 -- References over what a module means: the abstract module whose numbers are ids, with the ids of its types, the types of its
 -- locals, the block types of the parts of its bodies, and the segments that tables and memories list.
-use Rattle.std.specs.Prelude.{◌≡◌, ◌⊎◌, ◌↔◌, ℕ, List, [], ◌++◌, map, Option, Some, None, Contains, slice_get}
+use Rattle.std.specs.Prelude.{◌≡◌, ◌⊎◌, ◌↔◌, ℕ, List, [], Option, Some, None, Contains}
 use Rattle.std.specs.HashSet.{keys}
-use Rattle.std.specs.List.{flat_map}
-use Rattle.std.specs.Option.{option_map}
 use Rattle.wasm_references.specs.wasm_formats.declared.fault.Space.{Space}
 use Rattle.wasm_references.specs.wasm_formats.declared.fault.Space.TheVariants as spaces
 use Rattle.wasm_references.specs.wasm_immediates.declared.block_type.BlockType.{BlockType}
-use Rattle.wasm_references.specs.wasm_grammar.Modules.{Placed}
-use Rattle.wasm_references.specs.wasm_operator_names.Names.{Name, operator_names, block_names}
-use Rattle.wasm_references.specs.wasm_body_grammar.Rules.{space_of}
 use Rattle.wasm_references.specs.References as abstract
 use Rattle.wasm_references.specs.References.{Numbered}
 use Rattle.wasm_references.specs.Kept.{Kept as KeptOf}
-use Rattle.walrus_walks.specs.walrus_forms.declared.value.ValType.{ValType}
 use Rattle.walrus_arena.specs.Arena.{item_at}
 use Rattle.walrus_walks.specs.walrus_types.TypeLaws.{AreGrouped}
-use Rattle.walrus_walks.specs.walrus_instr.declared.seq.InstrLocId.{InstrLocId}
-use Rattle.walrus_walks.specs.walrus_instr.declared.seq.InstrSeq.{InstrSeq}
-use Rattle.walrus_tree.specs.Text.{Piece, operators}
-use Rattle.walrus_tree.specs.Trees.{IsTree}
-use Rattle.walrus_walks.specs.Walk.{body_walk}
-use Rattle.walrus_marks.specs.Named.{items_of}
 use Rattle.walrus_passes_laws.specs.walrus_references.walrus_builder.Functions.{seqs_of}
-use Rattle.walrus_items.specs.declared.local.Local.{Local}
 use Rattle.walrus_meaning.specs.walrus_module.Parts.{Module}
 use Rattle.walrus_meaning.specs.walrus_linked.Linked.{IsLinked}
 use Rattle.walrus_passes_laws.specs.walrus_references.walrus_module_items.declared.function.Function.{Function}
@@ -31,21 +18,17 @@ use Rattle.walrus_passes_laws.specs.walrus_references.walrus_module_items.declar
 use Rattle.walrus_passes_laws.specs.walrus_references.walrus_module_items.declared.function.FunctionKind.TheVariants as functions
 use Rattle.walrus_passes_laws.specs.walrus_references.walrus_module_items.declared.table.Table.{Table}
 use Rattle.walrus_passes_laws.specs.walrus_references.walrus_module_items.declared.memory.Memory.{Memory}
-use Rattle.walrus_meaning.specs.Bodies.{own_piece}
 use Rattle.walrus_meaning.specs.Meaning.{means, type_ids}
-use Rattle.walrus_pairing_laws.specs.Told.{told_all}
 use Rattle.walrus_roots.specs.declared.item.Item.{Item}
 use Rattle.walrus_roots.specs.Items.{item}
 use Rattle.walrus_passes_laws.specs.walrus_references.References.{Refers}
 use Rattle.walrus_passes_laws.specs.walrus_references.Kept.{Kept}
 use Rattle.walrus_passes_laws.specs.Served.{GroupsAreWritten}
-use Rattle.walrus_meaning_refs.specs.Instrs.{HaveSame, part_types, unlabelled}
+use Rattle.walrus_meaning_refs.specs.Bodies.{parts_of}
 use Rattle.walrus_meaning_refs.specs.Items.{own_item, own_items}
+use Rattle.walrus_meaning_refs.specs.Locals.{type_of_local}
 
--- the block types of the parts of a body that no operator has
-abbrev pub parts_of : List InstrSeq → List BlockType
-parts_of b = flat_map (λ (p : Piece × InstrLocId). part_types b p.0) (operators b 0)
-
+-- the block types of the parts of a function's body
 abbrev pub kind_parts : FunctionKind → List BlockType
 kind_parts (functions.Local local) = parts_of (seqs_of local.builder)
 kind_parts _ = []
@@ -53,9 +36,6 @@ kind_parts _ = []
 abbrev pub function_parts : Option Function → List BlockType
 function_parts (Some f) = kind_parts f.kind
 function_parts None = []
-
-abbrev pub type_of_local : List Local → ℕ → Option ValType
-type_of_local locals id = option_map (λ (l : Local). l.ty) (slice_get locals id)
 
 abbrev pub listed_elements : Option Table → List ℕ
 listed_elements (Some t) = keys t.elem_segments
@@ -75,22 +55,6 @@ meant m = record {
   own_elements = λ t. listed_elements (item_at m.tables t);
   own_data = λ x. listed_data (item_at m.memories x);
 }
-
--- what the operators of a body name, and the block types of its parts
-abbrev pub body_names : List InstrSeq → List Name
-body_names b = flat_map (λ (o : Placed). operator_names o.op) (map (own_piece b) (operators b 0)) ++ flat_map block_names (parts_of b)
-
--- of a body whose sequences form a tree that is what the walk of it tells
-abbrev pub BodiesNameWhatIsTold : Type 0
-BodiesNameWhatIsTold = (b : List InstrSeq) → IsTree b 0 → HaveSame (unlabelled (body_names b)) (unlabelled (told_all (body_walk b 0)))
-
--- the item of a name
-abbrev pub named_item : Name → Item
-named_item n = item (space_of n.0) n.1
-
--- so that the items that the walk names are those of these names
-abbrev pub WalksNameItems : Type 0
-WalksNameItems = (b : List InstrSeq) → IsTree b 0 → HaveSame (items_of (body_walk b 0)) (map named_item (unlabelled (body_names b)))
 
 -- ---- references
 
