@@ -16,14 +16,16 @@ use Rattle.wasm_operator_names.specs.Names.{Name, operator_names, block_names}
 use Rattle.wasm_grammar.specs.Modules.{Item, Expr, Origin, Imported, Own, Placed, Body, Function, Table, Global, Tag, Mode, Passive, Declared, Active, Elements, Functions, Expressions, Element, Segment, Module}
 use Rattle.wasm_body_grammar.specs.Rules.{space_of}
 
--- a module, its bodies as they are written, and what its records don't say: the number of each type, in the order of its groups; of
--- a function and a number the type of this local; of a function the block types of its parts that no operator has, those of `else`,
--- `catch` and `catch_all`; and the segments that a table and a memory list themselves
+-- a module, its bodies as they are written (of a file: their normal forms), with what its records don't say
 pub record Numbered : Type 0 where
   pub filled : Module
+  -- the number of each type, in the order of the groups
   pub types : List ℕ
+  -- of a function and a local of it: the local's type
   pub local_type : ℕ → ℕ → Option ValType
+  -- of a function: the block types of its parts that no operator has, those of `else`, `catch` and `catch_all`
   pub parts : ℕ → List BlockType
+  -- the segments that a table lists itself, and those that a memory does
   pub own_elements : ℕ → List ℕ
   pub own_data : ℕ → List ℕ
 
