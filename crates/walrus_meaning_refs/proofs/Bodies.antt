@@ -1,6 +1,6 @@
 -- The walk of a body's tree and its text name the same items.
-use Rattle.std.proofs.Common.{◌≡◌, ◌∙◌, ℕ, List, [], ◌∷◌, ◌++◌, map, length, Option, Some, None, refl, sym, ap, subst, append-nil, append_assoc}
-use Rattle.std.specs.Prelude.{slice_get, All}
+use Rattle.std.proofs.Common.{◌≡◌, ◌∙◌, ℕ, List, [], ◌∷◌, ◌++◌, map, length, Option, Some, None, refl, sym, ap, append-nil, append_assoc}
+use Rattle.std.specs.Prelude.{slice_get}
 use Rattle.std.specs.List.{flat_map, AllByRecursion}
 use Rattle.std.proofs.lemmas.List.Elements.{recursion_from_All}
 use Rattle.wasm_references.specs.wasm_grammar.Modules.{Placed}
@@ -9,7 +9,7 @@ use Rattle.wasm_references.specs.wasm_operator_names.Names.{Name, operator_names
 use Rattle.walrus_walks.specs.walrus_instr.declared.instr.Instr.{Instr}
 use Rattle.walrus_walks.specs.walrus_instr.declared.seq.InstrLocId.{InstrLocId}
 use Rattle.walrus_walks.specs.walrus_instr.declared.seq.InstrSeq.{InstrSeq}
-use Rattle.walrus_walks.specs.Events.{Event, StartOf, EndOf, names, events_of, block_names as told_block}
+use Rattle.walrus_walks.specs.Events.{EndOf, names, events_of, block_names as told_block}
 use Rattle.walrus_walks.specs.Plain.{HeldAreNested, WalkIsPlain}
 use Rattle.walrus_walks.specs.Tree.{children, children_in, IsNested}
 use Rattle.walrus_walks.specs.Walk.{of_items, walk, body_walk}
@@ -18,7 +18,6 @@ use Rattle.walrus_tree.specs.TextLaws.{TextIsPlain, TreesAreNested, PartsAreWhol
 use Rattle.walrus_tree.specs.Trees.{Trees, Nothing, Tree, Stand, IsTree, AreWithin}
 use Rattle.walrus_meaning.specs.Bodies.{block_of, own_piece, own_seen}
 use Rattle.walrus_meaning_laws.specs.Plain.{PlainNameWhatIsTold}
-use Rattle.walrus_pairing_laws.specs.Told.{told_all}
 use Rattle.walrus_meaning_refs.specs.Instrs.{of_items as kept_name, unlabelled, part_types}
 use Rattle.walrus_meaning_refs.specs.Bodies.{parts_of, body_names, BodiesNameWhatIsTold}
 use Rattle.walrus_meaning_refs.proofs.Instrs.{piece_out, block_out, out, out_append, items_append, type_told, instr_told}

@@ -1,16 +1,13 @@
 -- Instructions and the operators that are meant by them name the same items.
-use Rattle.std.proofs.Common.{◌≡◌, ◌∙◌, ◌<◌, ℕ, Bool, true, false, List, [], ◌∷◌, ◌++◌, map, drop, Option, Some, None, refl, sym, ap, subst, append-nil, append_assoc}
+use Rattle.std.proofs.Common.{◌≡◌, ◌∙◌, ℕ, Bool, true, List, [], ◌∷◌, ◌++◌, map, Some, None, refl, sym, ap, subst, append-nil}
 use Rattle.std.specs.Prelude.{slice_get, length}
-use Rattle.std.specs.List.{flat_map, filter_map}
+use Rattle.std.specs.List.{flat_map}
 use Rattle.std.proofs.lemmas.List.Elements.{filter_map-append}
 use Rattle.wasm_references.specs.wasm_immediates.Items.{Labels, Tags}
-use Rattle.wasm_references.specs.wasm_immediates.declared.block_type.BlockType.{BlockType}
-use Rattle.wasm_references.specs.wasm_immediates.declared.clause.Clause.{Clause}
 use Rattle.wasm_references.specs.wasm_operator_names.Names.{Name, operator_names, block_names, heap_names, clause_names, label_name}
 use Rattle.walrus_walks.specs.walrus_forms.declared.value.HeapType.{HeapType}
 use Rattle.walrus_walks.specs.walrus_forms.declared.value.HeapType.TheVariants.{Abstract, Concrete, Exact}
 use Rattle.walrus_walks.specs.walrus_forms.declared.value.RefType.{RefType}
-use Rattle.walrus_walks.specs.walrus_forms.declared.value.ValType.{ValType}
 use Rattle.walrus_walks.specs.walrus_forms.declared.value.ValType.TheVariants.{I32, I64, F32, F64, V128, Ref}
 use Rattle.walrus_walks.specs.walrus_instr.declared.instr.Instr.{Instr}
 use Rattle.walrus_walks.specs.walrus_instr.declared.instr.Instr.TheVariants as instrs
@@ -21,7 +18,7 @@ use Rattle.walrus_walks.specs.walrus_instr.declared.instr.TryTableCatch.TheVaria
 use Rattle.walrus_walks.specs.walrus_instr.declared.seq.InstrSeq.{InstrSeq}
 use Rattle.walrus_walks.specs.walrus_instr.declared.seq.InstrSeqType.{InstrSeqType}
 use Rattle.walrus_walks.specs.walrus_instr.declared.seq.InstrSeqType.TheVariants.{Simple, MultiValue}
-use Rattle.walrus_walks.specs.Events.{Event, NamesSeq, names, events_of, ref_names, val_names, written_names, block_names as told_block, legacy_names, clause_names as told_clause}
+use Rattle.walrus_walks.specs.Events.{Event, NamesSeq, names, events_of, ref_names, block_names as told_block, legacy_names, clause_names as told_clause}
 use Rattle.walrus_walks.specs.Tree.{children, handlers}
 use Rattle.walrus_tree.specs.Text.{Piece, Operator, after, after_parts}
 use Rattle.walrus_tree.specs.Trees.{Delegates, IsWithin}

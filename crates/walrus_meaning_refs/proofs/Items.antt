@@ -1,5 +1,5 @@
 -- What stands in items, as what they mean has it.
-use Rattle.std.proofs.Common.{◌≡◌, ◌∙◌, ℕ, Bool, List, [], ◌∷◌, ◌++◌, map, Option, Some, None, refl, sym, ap}
+use Rattle.std.proofs.Common.{◌≡◌, ◌∙◌, ℕ, Bool, List, [], ◌∷◌, ◌++◌, map, Option, Some, None, refl, ap}
 use Rattle.std.specs.List.{flat_map}
 use Rattle.std.specs.Option.{option_map}
 use Rattle.wasm_references.specs.wasm_formats.declared.fault.Space.TheVariants as spaces

@@ -1,8 +1,7 @@
 -- Locals that a body uses.
-use Rattle.std.proofs.Common.{◌≡◌, ◌∙◌, ◌⊎◌, ◌↔◌, ◌+◌, ℕ, zero, suc, Bool, true, false, not, ◌&&◌, ◌||◌, List, [], ◌∷◌, ◌++◌, map, Option, Some, None, Contains, refl, sym, ap, subst, inl, inr, arith, cond, if◌then◌else◌}
+use Rattle.std.proofs.Common.{◌≡◌, ◌∙◌, ◌⊎◌, ◌+◌, ℕ, zero, suc, Bool, true, false, not, ◌&&◌, ◌||◌, List, [], ◌∷◌, map, Some, Contains, refl, sym, ap, subst, inl, inr, arith, cond, if◌then◌else◌}
 use Rattle.std.specs.Prelude.{◌==◌, slice_get}
-use Rattle.std.specs.List.{flat_map, filter, list_any}
-use Rattle.std.specs.Option.{option_map}
+use Rattle.std.specs.List.{flat_map, filter}
 use Rattle.std.proofs.lemmas.Bool.{cases_eq, eq-eqb, ne_eqb, false≢true}
 use Rattle.wasm_references.specs.wasm_grammar.Modules.{Placed}
 use Rattle.wasm_references.specs.wasm_immediates.Items.{Space, Types, Functions, Tables, Memories, Tags, Globals, ElementSegments, DataSegments, Locals, Labels, Item, Names, Number, S32, S64, Bits, Byte, Bytes, Heap, Block, Access, ManyLabels, ManyValues, ManyClauses}
@@ -24,7 +23,7 @@ use Rattle.walrus_items.specs.declared.local.Local.{Local}
 use Rattle.walrus_meaning.specs.walrus_local_function.declared.local_function.LocalFunction.{LocalFunction}
 use Rattle.walrus_meaning.specs.Bodies.{has_number, named_locals, own_body, own_operators, used_locals}
 use Rattle.walrus_meaning_refs.specs.Locals.{UsedLocalsAreDeclared, type_of_local}
-use Rattle.walrus_meaning_refs.proofs.Sets.{In, in_of, contains_of, in_cases, in_map, map_in, in_flat, flat_in}
+use Rattle.walrus_meaning_refs.proofs.Sets.{In, in_of, contains_of, in_map, map_in, in_flat, flat_in}
 
 -- ---- the locals among the names of an operator
 

@@ -1,5 +1,5 @@
 -- Lists as sets.
-use Rattle.std.proofs.Common.{◌≡◌, ◌∙◌, ◌⊎◌, ◌↔◌, ◌<◌, ℕ, zero, suc, Bool, true, false, List, [], ◌∷◌, ◌++◌, map, reverse, length, Contains, refl, sym, ap, subst, inl, inr, arith, append_assoc, append-nil, if◌then◌else◌}
+use Rattle.std.proofs.Common.{◌≡◌, ◌∙◌, ◌⊎◌, ◌↔◌, ◌<◌, ℕ, zero, suc, Bool, true, false, List, [], ◌∷◌, ◌++◌, map, reverse, length, Contains, refl, sym, ap, subst, inl, inr, arith, append_assoc, if◌then◌else◌}
 use mathlib.Core.List.{reverse_aux}
 use Rattle.std.specs.Prelude.{get_or}
 use Rattle.std.specs.List.{flat_map}

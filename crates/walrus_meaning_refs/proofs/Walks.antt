@@ -1,6 +1,5 @@
 -- The items that walks name.
-use Rattle.std.proofs.Common.{◌≡◌, ◌∙◌, ◌↔◌, List, [], ◌∷◌, ◌++◌, map, refl, sym, ap}
-use Rattle.wasm_references.specs.wasm_operator_names.Names.{Name}
+use Rattle.std.proofs.Common.{◌≡◌, ◌∙◌, List, [], ◌∷◌, ◌++◌, map, refl, sym, ap}
 use Rattle.walrus_walks.specs.Events.{Event, StartOf, EndOf, Visits, NamesSeq, NamesLocal, NamesMemory, NamesTable, NamesGlobal, NamesFunction, NamesData, NamesType, NamesElement, NamesTag, Holds}
 use Rattle.walrus_walks.specs.Walk.{body_walk}
 use Rattle.walrus_marks.specs.Named.{event_items, items_of}
@@ -9,7 +8,7 @@ use Rattle.walrus_pairing_laws.specs.Told.{told_all}
 use Rattle.walrus_meaning_refs.specs.Instrs.{unlabelled}
 use Rattle.walrus_meaning_refs.specs.Bodies.{body_names, named_item, BodiesNameWhatIsTold, WalksNameItems}
 use Rattle.walrus_meaning_refs.proofs.Instrs.{out, out_append}
-use Rattle.walrus_meaning_refs.proofs.Sets.{Same, same_eq, same_sym, same_trans, same_map, same_of, have_same, map_append}
+use Rattle.walrus_meaning_refs.proofs.Sets.{same_eq, same_sym, same_trans, same_map, same_of, have_same, map_append}
 
 event_named : (e : Event) → event_items e ≡ map named_item (out (e ∷ []))
 event_named (NamesSeq id) = refl

@@ -1,5 +1,5 @@
 -- What a walk of a body tells that it names, beside what its operators name.
-use Rattle.std.specs.Prelude.{ℕ, List, ◌++◌, map}
+use Rattle.std.specs.Prelude.{List, ◌++◌, map}
 use Rattle.std.specs.List.{flat_map}
 use Rattle.wasm_references.specs.wasm_body_grammar.Rules.{space_of}
 use Rattle.wasm_references.specs.wasm_grammar.Modules.{Placed}

@@ -1,5 +1,5 @@
 -- What an instruction names, beside what its pieces of the text name.
-use Rattle.std.specs.Prelude.{ℕ, ◌↔◌, List, [], ◌∷◌, ◌++◌, map, drop, Option, Contains, slice_get}
+use Rattle.std.specs.Prelude.{ℕ, ◌↔◌, List, [], ◌∷◌, ◌++◌, map, drop, Contains, slice_get}
 use Rattle.std.specs.List.{flat_map}
 use Rattle.wasm_references.specs.wasm_immediates.declared.block_type.BlockType.{BlockType}
 use Rattle.wasm_references.specs.wasm_operator_names.Names.{Name, operator_names, block_names}
