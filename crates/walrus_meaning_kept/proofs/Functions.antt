@@ -43,7 +43,7 @@ use Rattle.walrus_meaning_kept.specs.Meant.{kind_parts, function_parts}
 use Rattle.walrus_meaning_refs.proofs.Items.{val_meant}
 use Rattle.walrus_meaning_kept.proofs.Low.{low_at}
 use Rattle.walrus_meaning_kept.proofs.Owned.{item_of, owned_forth, owned_back}
-use Rattle.walrus_meaning_refs.proofs.Sets.{In, in_of, contains_of, in_left, in_right, in_cases, Same, same_of, same_eq, same_sym, same_trans, same_flat, flat_append, flat_of_flat, flat_same}
+use Rattle.walrus_meaning_refs.proofs.Sets.{In, in_of, contains_of, in_left, in_right, in_cases, Same, same_of, same_eq, same_trans, same_flat, flat_append, flat_of_flat, flat_same}
 
 -- ---- what is told, and the items of it
 

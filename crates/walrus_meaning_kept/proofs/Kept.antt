@@ -1,6 +1,6 @@
 -- References of a module, and what is kept of it, as of what it means.
-use Rattle.std.proofs.Common.{◌≡◌, ◌∙◌, ◌⊎◌, ◌↔◌, ◌<◌, ℕ, zero, suc, List, [], ◌∷◌, ◌++◌, map, Option, Some, None, Contains, IsSome, refl, sym, ap, subst, inl, inr, arith}
-use Rattle.std.specs.Prelude.{MatchOption, slice_get, slice_index_or}
+use Rattle.std.proofs.Common.{◌≡◌, ◌∙◌, ◌⊎◌, ◌↔◌, ℕ, List, Option, Some, None, Contains, IsSome, refl, sym, ap, subst, inl, inr, arith}
+use Rattle.std.specs.Prelude.{MatchOption}
 use Rattle.std.specs.HashSet.{keys}
 use Rattle.std.specs.Option.{option_map}
 use Rattle.wasm_references.specs.wasm_formats.declared.fault.Space.{Space}
@@ -15,20 +15,17 @@ use Rattle.walrus_walks.specs.ConstEvents.{ExprsTellOps}
 use Rattle.walrus_walks.specs.Plain.{HeldAreNested, WalkIsPlain}
 use Rattle.walrus_tree.specs.TextLaws.{TreesAreNested}
 use Rattle.walrus_walks.specs.walrus_instr.declared.const_expr.ConstExpr.{ConstExpr}
-use Rattle.walrus_marks.specs.Chains.{Chain, root, refers}
+use Rattle.walrus_marks.specs.Chains.{root, refers}
 use Rattle.walrus_meaning.specs.walrus_module.Parts.{Module}
 use Rattle.walrus_meaning.specs.walrus_module.Items.{given_out}
-use Rattle.walrus_passes_laws.specs.walrus_references.walrus_module_items.declared.function.Function.{Function}
 use Rattle.walrus_passes_laws.specs.walrus_references.walrus_module_items.declared.table.Table.{Table}
 use Rattle.walrus_passes_laws.specs.walrus_references.walrus_module_items.declared.memory.Memory.{Memory}
-use Rattle.walrus_passes_laws.specs.walrus_references.walrus_module_items.declared.tag.Tag.{Tag}
 use Rattle.walrus_passes_laws.specs.walrus_references.walrus_module_items.declared.data.Data.{Data}
 use Rattle.walrus_passes_laws.specs.walrus_references.walrus_module_items.declared.data.DataKind.{DataKind}
 use Rattle.walrus_passes_laws.specs.walrus_references.walrus_module_items.declared.data.DataKind.TheVariants as datas
 use Rattle.walrus_passes_laws.specs.walrus_references.walrus_module_items.declared.element.Element.{Element}
 use Rattle.walrus_passes_laws.specs.walrus_references.walrus_module_items.declared.element.ElementKind.{ElementKind}
 use Rattle.walrus_passes_laws.specs.walrus_references.walrus_module_items.declared.element.ElementKind.TheVariants as elements
-use Rattle.walrus_passes_laws.specs.walrus_references.walrus_module_items.declared.export.Export.{Export}
 use Rattle.walrus_passes_laws.specs.walrus_references.walrus_module_items.declared.export.ExportItem.{ExportItem}
 use Rattle.walrus_passes_laws.specs.walrus_references.walrus_module_items.declared.export.ExportItem.TheVariants as exported
 use Rattle.walrus_roots.specs.declared.item.Item.{Item}
@@ -36,7 +33,7 @@ use Rattle.walrus_roots.specs.Items.{item, space_number}
 use Rattle.walrus_meaning.specs.walrus_linked.Linked.{IsLinked}
 use Rattle.walrus_passes_laws.specs.walrus_references.References.{Refers, RefersIn, Named, named_by, table_items, global_items, tag_items, element_items, data_items, HasElement, HasData, IsActiveIn, IsCopiedInto}
 use Rattle.walrus_passes_laws.specs.walrus_references.Roots.{Root, exports, starts, is_active, fills_import, declares, is_pushed}
-use Rattle.walrus_passes_laws.specs.walrus_references.Kept.{IsReached, IsFirstMemory, IsSpared, Kept}
+use Rattle.walrus_passes_laws.specs.walrus_references.Kept.{IsReached, IsSpared, Kept}
 use Rattle.walrus_passes_laws.specs.Served.{GroupsAreWritten}
 use Rattle.walrus_meaning.specs.Words.{own_expr}
 use Rattle.walrus_meaning.specs.Meaning.{slots_of, means, own_given, own_export, own_function, own_table, own_memory, own_global, own_tag, own_element, own_element_mode, own_segment, own_data_mode}
@@ -47,9 +44,8 @@ use Rattle.walrus_meaning_refs.specs.Locals.{type_of_local}
 use Rattle.walrus_meaning_kept.specs.Meant.{meant, function_parts, listed_elements, listed_data, IsShared, RefersThrough, ReferencesAreMeant, KeptIsMeant}
 use Rattle.walrus_meaning_kept.proofs.Functions.{meant_items, function_forth, function_through, function_back}
 use Rattle.walrus_meaning_refs.proofs.Items.{table_meant, global_meant, segment_meant, element_meant}
-use Rattle.walrus_meaning_kept.proofs.Low.{Low, low_at, local_low, named_are_low}
+use Rattle.walrus_meaning_kept.proofs.Low.{low_at, named_are_low}
 use Rattle.walrus_meaning_kept.proofs.Owned.{item_of, owned_forth, owned_back}
-use Rattle.walrus_meaning_refs.proofs.Sets.{In, in_of, contains_of, in_map, map_in}
 use Rattle.walrus_meaning_kept.proofs.Types.{type_forth, type_back}
 
 -- ---- what is there is seen

@@ -1,16 +1,16 @@
 -- No item of an abstract module names a local.
-use Rattle.std.proofs.Common.{◌≡◌, ◌∙◌, ◌⊎◌, ◌<◌, ℕ, Bool, true, List, [], ◌∷◌, ◌++◌, map, Option, Some, None, Contains, refl, sym, ap, subst, inl, inr, arith}
+use Rattle.std.proofs.Common.{◌≡◌, ◌∙◌, ◌<◌, ℕ, List, [], ◌∷◌, ◌++◌, map, Option, Some, None, Contains, sym, ap, inl, inr, arith}
 use Rattle.std.specs.Prelude.{MatchOption}
 use Rattle.std.specs.List.{flat_map}
 use Rattle.std.specs.Option.{option_to_list}
 use Rattle.wasm_references.specs.wasm_formats.declared.fault.Space.{Space}
 use Rattle.wasm_references.specs.wasm_formats.declared.fault.Space.TheVariants as spaces
-use Rattle.wasm_references.specs.wasm_grammar.Modules.{Item, Expr, Origin, Imported, Own, Placed, Body, Function, Table, Global, Tag, Mode, Passive, Declared, Active, Elements, Functions, Expressions, Element, Segment}
+use Rattle.wasm_references.specs.wasm_grammar.Modules.{Item, Expr, Origin, Imported, Own, Placed, Body, Function, Table, Global, Mode, Passive, Declared, Active, Elements, Functions, Expressions, Element}
 use Rattle.wasm_references.specs.wasm_immediates.Items as immediates
 use Rattle.wasm_references.specs.wasm_immediates.declared.block_type.BlockType.{BlockType}
 use Rattle.wasm_references.specs.wasm_operators.Operators.{Seen}
 use Rattle.wasm_references.specs.wasm_operator_names.Names.{Name, operator_names, block_names}
-use Rattle.wasm_references.specs.References.{Numbered, item, ref_items, value_items, local_items, name_items, names_items, no_locals, expr_items, body_items, origin_items, function_items, init_items, table_items, global_items, tag_items, mode_items, held_items, element_items, segment_items, slot, named_by, TypeRefers, HasElement, HasData, RefersIn, Refers}
+use Rattle.wasm_references.specs.References.{Numbered, item, ref_items, value_items, local_items, name_items, names_items, no_locals, expr_items, body_items, origin_items, function_items, init_items, table_items, global_items, tag_items, mode_items, held_items, element_items, segment_items, slot, named_by, HasElement, HasData, RefersIn, Refers}
 use Rattle.walrus_walks.specs.walrus_forms.Kinds.{kind_names}
 use Rattle.walrus_walks.specs.walrus_forms.Values.{ref_name, value_name}
 use Rattle.walrus_walks.specs.walrus_forms.declared.value.RefType.{RefType}

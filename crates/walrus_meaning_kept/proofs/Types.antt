@@ -1,5 +1,5 @@
 -- Types, their groups, and their numbers.
-use Rattle.std.proofs.Common.{◌≡◌, ◌∙◌, ◌⊎◌, ◌↔◌, ◌+◌, ◌<◌, ℕ, zero, suc, Bool, true, false, List, [], ◌∷◌, ◌++◌, map, length, filter, take, drop, Option, Some, None, Contains, IsSome, refl, sym, ap, subst, inl, inr, arith, append-nil, if◌then◌else◌}
+use Rattle.std.proofs.Common.{◌≡◌, ◌∙◌, ◌⊎◌, ◌+◌, ℕ, zero, suc, Bool, true, false, List, [], ◌∷◌, ◌++◌, map, length, filter, take, drop, Option, Some, None, Contains, IsSome, refl, sym, ap, subst, inl, inr, arith, append-nil, if◌then◌else◌}
 use Rattle.std.specs.Prelude.{slice_get, slice_index_or}
 use Rattle.std.specs.List.{flat_map}
 use Rattle.std.proofs.lemmas.Bool.{false≢true}
@@ -15,7 +15,6 @@ use Rattle.walrus_walks.specs.walrus_types.Table.{Table as TypeTable, type_at, g
 use Rattle.walrus_walks.specs.walrus_types.TypeLaws.{AreGrouped}
 use Rattle.walrus_roots.specs.declared.item.Item.{Item}
 use Rattle.walrus_roots.specs.Items.{item}
-use Rattle.walrus_meaning.specs.walrus_module.Parts.{Module}
 use Rattle.walrus_meaning.specs.walrus_module.Items.{written, written_type}
 use Rattle.walrus_passes_laws.specs.walrus_references.References.{named_by, type_items, IsInGroup}
 use Rattle.walrus_meaning.specs.Meaning.{plain_kind, group_kinds, has_kinds, own_groups, type_ids}

@@ -2,7 +2,6 @@
 -- locals, the block types of the parts of its bodies, and the segments that tables and memories list.
 use Rattle.std.specs.Prelude.{◌≡◌, ◌⊎◌, ◌↔◌, ℕ, List, [], Option, Some, None, Contains}
 use Rattle.std.specs.HashSet.{keys}
-use Rattle.wasm_references.specs.wasm_formats.declared.fault.Space.{Space}
 use Rattle.wasm_references.specs.wasm_formats.declared.fault.Space.TheVariants as spaces
 use Rattle.wasm_references.specs.wasm_immediates.declared.block_type.BlockType.{BlockType}
 use Rattle.wasm_references.specs.References as abstract
