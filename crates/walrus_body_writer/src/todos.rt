@@ -24,6 +24,14 @@ impl Model for Todos {
     ghost view = { λ t. with_next t.rest.items t.next };
 }
 
+// Puts this into the list. It isn't inlined: mostly nothing is kept apart that the list has to take.
+#[inline(never)]
+fn put(rest: &mut Vec<Todo>, one: Todo) -> Result<(), AllocError>
+    ensures { OnOk result (rest.new.items ≡ rest.old.items ++ one ∷ []) }
+{
+    rest.extend_from_slice(&[one])
+}
+
 impl Todos {
     /// This alone. Takes no memory.
     pub(crate) fn new(alloc: Global, one: Todo) -> Self
@@ -36,17 +44,19 @@ impl Todos {
     }
 
     /// Puts this behind the others.
+    #[inline]
     pub(crate) fn push(&mut self, one: Todo) -> Result<(), AllocError>
         ensures { OnOk result (self.new ≡ self.old ++ one ∷ []) }
     {
         if let Some(next) = self.next {
-            self.rest.extend_from_slice(&[next])?;
+            put(&mut self.rest, next)?;
         }
         self.next = Some(one);
         Ok(())
     }
 
     /// Takes the last.
+    #[inline]
     pub(crate) fn pop(&mut self) -> Option<Todo>
         ensures items { MatchOption result (self.old ≡ []) (λ top. self.old ≡ self.new ++ top ∷ []) }
     {
