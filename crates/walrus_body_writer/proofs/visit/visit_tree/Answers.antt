@@ -1,8 +1,5 @@
-use Rattle.std.proofs.Common.{◌≡◌, ◌∙◌, ap, refl, sym, List, [], ◌∷◌, ◌++◌}
+use Rattle.std.proofs.Common.{ap, refl, sym, []}
 use Rattle.walrus_tree.specs.Text.{operators}
-use Rattle.walrus_body_writer.specs.declared.todo.Closer.TheVariants.{End}
-use Rattle.walrus_body_writer.specs.declared.todo.Todo.{Todo}
-use Rattle.walrus_body_writer.specs.declared.todo.Todo.TheVariants.{Enter}
 use Rattle.walrus_body_writer.specs.Doing.{left}
 use Rattle.walrus_body_writer.specs.Emitting.{state}
 use Rattle.walrus_body_writer.proofs.Steps.{passed, falls, starts}
