@@ -4,10 +4,10 @@ ghost use Rattle.walrus_linked.specs.walrus_module.Parts.{parts};
 ghost use Rattle.walrus_linked.specs.walrus_module.Items.{written_type};
 ghost use Rattle.walrus_linked.specs.walrus_module.Items.{Lives};
 
-use crate::checks::Check;
 use std::alloc::AllocError;
 use walrus_arena::TypeId;
 use walrus_linked::module::Module;
+use walrus_marks::Check;
 use walrus_roots::Item;
 use walrus_types::ModuleTypes;
 use wasm_formats::Space;

@@ -5,12 +5,12 @@ ghost use Rattle.walrus_arena.specs.Arena.{item_at};
 ghost use Rattle.walrus_linked.specs.walrus_module_items.declared.function.Function.{Function as AnyFunction};
 ghost use Rattle.walrus_used.specs.walrus_references.Refused.{FormsTree, HasTree};
 
-use crate::checks::Check;
 use std::alloc::{AllocError, Global};
 use walrus_arena::FunctionId;
 use walrus_exact::module_items::FunctionKind;
 use walrus_linked::collections::ModuleFunctions;
 use walrus_linked::module::Module;
+use walrus_marks::Check;
 use walrus_roots::Item;
 use walrus_tree::check_tree;
 use wasm_formats::Space;

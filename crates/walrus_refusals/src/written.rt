@@ -19,7 +19,6 @@ ghost use Rattle.walrus_used.specs.Bodies.{seq_counts};
 ghost use Rattle.walrus_refusals.specs.Checks.{IsMet};
 ghost use Rattle.walrus_refusals.specs.Written.{BodyHasNone, HasNoExact, HasNone, IsUnshared, KindHasNone};
 
-use crate::checks::Check;
 use std::alloc::{AllocError, Global};
 use walrus_arena::{DataId, ElementId, FunctionId, GlobalId, TableId, TypeId};
 use walrus_exact::module_items::FunctionKind;
@@ -32,7 +31,7 @@ use walrus_linked::collections::{
     ModuleData, ModuleElements, ModuleFunctions, ModuleGlobals, ModuleTables,
 };
 use walrus_linked::module::Module;
-use walrus_marks::Marks;
+use walrus_marks::{Check, Marks};
 use walrus_roots::Item;
 use walrus_types::ModuleTypes;
 use walrus_used::reached_seqs;

@@ -1,5 +1,5 @@
 -- What is met for each item of a collection.
-use Rattle.std.specs.Prelude.{ℕ, ◌<◌, ◌⊎◌, ◌↔◌, Bool, false, List, [], ◌∷◌, Option, Some, None, is_some, Contains, MatchOption, if◌then◌else◌}
+use Rattle.std.specs.Prelude.{◌≡◌, ℕ, ◌+◌, ◌⊎◌, ◌↔◌, Bool, false, List, [], ◌∷◌, Option, Some, None, is_some, Contains, MatchOption, if◌then◌else◌}
 use Rattle.wasm_formats.specs.declared.fault.Space.TheVariants as spaces
 use Rattle.walrus_arena.specs.Arena.{Arena, item_at}
 use Rattle.walrus_references.specs.walrus_module_items.declared.table.Table.{Table}
@@ -14,10 +14,6 @@ use Rattle.walrus_references.specs.walrus_module.Items.{given_out}
 use Rattle.walrus_references.specs.walrus_module.Parts.{Module}
 use Rattle.walrus_roots.specs.declared.item.Item.{Item}
 use Rattle.walrus_roots.specs.Items.{item}
-
--- the item is one of a number below n
-abbrev pub Below : (ℕ → Item → Type 0) → ℕ → Item → Type 0
-Below P n x = (k : ℕ) × (k < n) × P k x
 
 -- the item is picked for the live item of the id
 abbrev pub IsPickedAt : {T : Type 0} → (ℕ → T → Item → Type 0) → Arena T → ℕ → Item → Type 0
@@ -56,3 +52,11 @@ abbrev pub RootWith : Module → List Item → List Item → Item → Type 0
 RootWith m rooted pushed x =
     (((IsPicked (λ _ (e : Export) y. Contains (given_out e.item ∷ []) y) m.exports x ⊎ IsPicked (λ id (d : Data) y. Contains (active_data id d.kind) y) m.data_segments x) ⊎ Contains rooted x) ⊎ Contains pushed x)
     ⊎ Contains (start_items m.start) x
+
+-- the same of these but the segments that are copied
+abbrev pub OtherRootWith : Module → List Item → List Item → Item → Type 0
+OtherRootWith m rooted pushed x = ((IsPicked (λ _ (e : Export) y. Contains (given_out e.item ∷ []) y) m.exports x ⊎ Contains rooted x) ⊎ Contains pushed x) ⊎ Contains (start_items m.start) x
+
+-- the item is such a root of the first part, or of one of the next parts the data segment of this part, if it is copied
+abbrev pub RootIn : Module → List Item → List Item → ℕ → Item → Type 0
+RootIn m rooted pushed part x = ((part ≡ 0) × OtherRootWith m rooted pushed x) ⊎ ((id : ℕ) × (part ≡ id + 1) × IsPickedAt (λ id (d : Data) y. Contains (active_data id d.kind) y) m.data_segments id x)
