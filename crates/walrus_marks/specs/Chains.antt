@@ -14,10 +14,6 @@ pub data Chain (Root : Item → Type 0) (Refers : Item → Item → Type 0) : It
 abbrev pub FitsIn : List ℕ → Item → Type 0
 FitsIn counts x = x.id < slice_index_or counts (space_number x.space) 0
 
--- the item is one of a number below n
-abbrev pub Below : (ℕ → Item → Type 0) → ℕ → Item → Type 0
-Below P n x = (k : ℕ) × (k < n) × P k x
-
 -- just these items were met, some of them perhaps more than once
 pub record Meets (Named : Item → Type 0) (old new : State) : Type 0 where
   pub items : List Item
@@ -28,7 +24,3 @@ pub record Meets (Named : Item → Type 0) (old new : State) : Type 0 where
 pub record IsReached (counts : List ℕ) (Root : Item → Type 0) (Refers : Item → Item → Type 0) (s : State) : Type 0 where
   pub marked : (x : Item) → IsTrue (is_marked s.met.marks x) ↔ (Chain Root Refers x × FitsIn counts x)
   pub missing : MatchOption s.missing ((x : Item) → Chain Root Refers x → FitsIn counts x) (λ i. Chain Root Refers i × (FitsIn counts i → ⊥))
-
--- it holds of all that is marked
-abbrev pub AllHold : (Item → Type 0) → State → Type 0
-AllHold holds s = (x : Item) → IsTrue (is_marked s.met.marks x) → holds x

@@ -6,4 +6,4 @@ mod sweep;
 mod visit;
 
 pub use marks::Marks;
-pub use sweep::{Check, Names, Reached, reach, reach_asking};
+pub use sweep::{Names, reach};

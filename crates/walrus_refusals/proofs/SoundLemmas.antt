@@ -20,7 +20,8 @@ use Rattle.walrus_linked.specs.Linked.{import_in}
 use Rattle.walrus_roots.specs.declared.item.Item.{Item}
 use Rattle.walrus_roots.specs.Items.{item, space_number}
 use Rattle.walrus_marks.specs.Marks.{State}
-use Rattle.walrus_marks.specs.Chains.{AllHold, FitsIn}
+use Rattle.walrus_marks.specs.Chains.{FitsIn}
+use Rattle.walrus_used.specs.Asked.{AllHold}
 use Rattle.walrus_marks.specs.Chains.{IsReached as IsReachedIn}
 use Rattle.walrus_used.specs.walrus_references.References.{Refers}
 use Rattle.walrus_used.specs.walrus_references.Roots.{Root}

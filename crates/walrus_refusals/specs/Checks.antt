@@ -11,7 +11,7 @@ use Rattle.walrus_linked.specs.Linked.{import_in}
 use Rattle.walrus_roots.specs.declared.item.Item.{Item}
 use Rattle.walrus_roots.specs.Items.{item, space_number}
 use Rattle.walrus_marks.specs.Marks.{State, is_marked}
-use Rattle.walrus_marks.specs.Chains.{AllHold}
+use Rattle.walrus_used.specs.Asked.{AllHold}
 use Rattle.walrus_linked.specs.walrus_module.Items.{brought}
 use Rattle.walrus_used.specs.walrus_references.Refused.{FormsTree}
 use Rattle.walrus_refusals.specs.Asked.{IsOwnLinked}

@@ -9,9 +9,9 @@ ghost use Rattle.walrus_refusals.specs.Checks.{HoldsIn, HoldsOrFails, IsMet};
 
 use std::alloc::AllocError;
 use walrus_linked::module::Module;
-use walrus_marks::{Check, Marks};
+use walrus_marks::Marks;
 use walrus_roots::Item;
-use walrus_used::id_counts;
+use walrus_used::{Check, id_counts};
 use wasm_formats::Space;
 
 /// Two checks, of which an item is asked both while it is at hand.

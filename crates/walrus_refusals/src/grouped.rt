@@ -13,9 +13,9 @@ use std::alloc::{AllocError, Global};
 use walrus_arena::TypeId;
 use walrus_items::RecGroup;
 use walrus_linked::module::Module;
-use walrus_marks::Check;
 use walrus_roots::Item;
 use walrus_types::ModuleTypes;
+use walrus_used::Check;
 use wasm_formats::Space;
 
 // Whether both lists begin, with one id.

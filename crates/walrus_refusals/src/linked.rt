@@ -21,8 +21,9 @@ use walrus_linked::collections::{
     ModuleFunctions, ModuleGlobals, ModuleImports, ModuleMemories, ModuleTables, ModuleTags,
 };
 use walrus_linked::module::Module;
-use walrus_marks::{Check, Marks};
+use walrus_marks::Marks;
 use walrus_roots::Item;
+use walrus_used::Check;
 use wasm_formats::Space;
 
 /// The item that an import brings.

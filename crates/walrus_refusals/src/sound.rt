@@ -3,7 +3,8 @@ ghost use Rattle.std.specs.Prelude.{◌≡◌, ◌↔◌, Decides, IfErr, IfOk, 
 ghost use Rattle.std.specs.Bool.{OnTrue};
 ghost use Rattle.walrus_linked.specs.walrus_module.Parts.{parts};
 ghost use Rattle.walrus_roots.specs.declared.item.Item.{Item as AnyItem};
-ghost use Rattle.walrus_marks.specs.Chains.{AllHold, FitsIn};
+ghost use Rattle.walrus_marks.specs.Chains.{FitsIn};
+ghost use Rattle.walrus_used.specs.Asked.{AllHold};
 ghost use Rattle.walrus_used.specs.walrus_references.Kept.{IsReached};
 ghost use Rattle.walrus_linked.specs.walrus_module.Items.{Lives};
 ghost use Rattle.walrus_used.specs.Counts.{counts_of};
@@ -21,9 +22,9 @@ use crate::written::{Inexact, Unshared, locals_have_none};
 use std::alloc::{AllocError, Global};
 use walrus_errors::{Form, ModuleError};
 use walrus_linked::module::Module;
-use walrus_marks::{Check, Marks, Reached};
+use walrus_marks::Marks;
 use walrus_roots::Item;
-use walrus_used::reach_items;
+use walrus_used::{Check, Reached, reach_items};
 use wasm_formats::Space;
 
 // Whether it holds of all that was met but locals.

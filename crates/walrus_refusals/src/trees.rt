@@ -10,9 +10,9 @@ use walrus_arena::FunctionId;
 use walrus_exact::module_items::FunctionKind;
 use walrus_linked::collections::ModuleFunctions;
 use walrus_linked::module::Module;
-use walrus_marks::Check;
 use walrus_roots::Item;
 use walrus_tree::check_tree;
+use walrus_used::Check;
 use wasm_formats::Space;
 
 // Whether the body of a function is a tree, if it has one.

@@ -31,10 +31,10 @@ use walrus_linked::collections::{
     ModuleData, ModuleElements, ModuleFunctions, ModuleGlobals, ModuleTables,
 };
 use walrus_linked::module::Module;
-use walrus_marks::{Check, Marks};
+use walrus_marks::Marks;
 use walrus_roots::Item;
 use walrus_types::ModuleTypes;
-use walrus_used::reached_seqs;
+use walrus_used::{Check, reached_seqs};
 use wasm_formats::Space;
 
 fn is_unshared(globals: &ModuleGlobals, id: GlobalId) -> bool

@@ -16,7 +16,7 @@ use Rattle.walrus_marks.specs.Marks.{State, is_marked, meet}
 use Rattle.walrus_marks.specs.Chains.{FitsIn, IsReached, Meets}
 use Rattle.walrus_references.specs.References.{BodyNames, Reaches, Holds, IsEntry, held, held_in, known_items}
 use Rattle.walrus_used.specs.Bodies.{SeqNames, seq_counts}
-use Rattle.walrus_marks.specs.Chains.{Below}
+use Rattle.walrus_used.specs.Picks.{Below}
 use Rattle.walrus_used.proofs.MeetsLemmas.{meets_same, below_all}
 
 pub handlers_flat : (cs : List LegacyCatch) → map (item spaces.Label) (handlers cs) ≡ flat_map (λ c. map (item spaces.Label) (handler c)) cs

@@ -7,7 +7,8 @@ use Rattle.std.proofs.lemmas.List.Elements.{Contains-append_left, Contains-appen
 use Rattle.std.proofs.lemmas.Bool.{cases_eq}
 use Rattle.walrus_roots.specs.declared.item.Item.{Item}
 use Rattle.walrus_marks.specs.Marks.{State, meet}
-use Rattle.walrus_marks.specs.Chains.{Below, Meets}
+use Rattle.walrus_marks.specs.Chains.{Meets}
+use Rattle.walrus_used.specs.Picks.{Below}
 
 -- these, in a list
 pub meets_list : (es : List Item) (a b : State) → b ≡ fold meet a es → Meets (λ x. Contains es x) a b

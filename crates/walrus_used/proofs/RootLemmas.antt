@@ -19,10 +19,10 @@ use Rattle.walrus_references.specs.walrus_module.Parts.{Module}
 use Rattle.walrus_roots.specs.declared.item.Item.{Item}
 use Rattle.walrus_roots.specs.Items.{item}
 use Rattle.walrus_marks.specs.Marks.{State, meet}
-use Rattle.walrus_marks.specs.Chains.{Below, Meets}
+use Rattle.walrus_marks.specs.Chains.{Meets}
 use Rattle.walrus_references.specs.Roots.{Root, exports, starts, is_active, fills_import, declares, is_pushed}
 use Rattle.walrus_references.specs.walrus_module.Items.{given_out}
-use Rattle.walrus_used.specs.Picks.{AreRooted, IsPickedAt, IsPicked, OtherRootWith, RootIn, RootWith, active_data, is_imported, rooted_element, start_items}
+use Rattle.walrus_used.specs.Picks.{AreRooted, Below, IsPickedAt, IsPicked, OtherRootWith, RootIn, RootWith, active_data, is_imported, rooted_element, start_items}
 use Rattle.walrus_used.proofs.MeetsLemmas.{AreJust, just_all, meets_list, meets_same, meets_then, below_all}
 use Rattle.walrus_used.proofs.LooksLemmas.{none_in, first_in, only_in, one_live, one_back}
 

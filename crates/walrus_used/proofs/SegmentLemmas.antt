@@ -15,8 +15,7 @@ use Rattle.walrus_roots.specs.declared.item.Item.{Item}
 use Rattle.walrus_roots.specs.Items.{item}
 use Rattle.walrus_references.specs.References.{IsActiveIn}
 use Rattle.walrus_used.specs.Looks.{AreActive, IsAt, listed, listed_segment}
-use Rattle.walrus_marks.specs.Chains.{Below}
-use Rattle.walrus_used.specs.Picks.{AreRooted, IsPickedAt, rooted_element}
+use Rattle.walrus_used.specs.Picks.{AreRooted, Below, IsPickedAt, rooted_element}
 use Rattle.walrus_used.proofs.LooksLemmas.{none_in, first_in, only_in}
 use Rattle.walrus_used.proofs.MeetsLemmas.{AreJust, just_none, just_more, just_skip}
 use Rattle.walrus_used.proofs.RootLemmas.{picked_just, dead_picks, all_just}

@@ -1,5 +1,5 @@
 -- What is met for each item of a collection.
-use Rattle.std.specs.Prelude.{◌≡◌, ℕ, ◌+◌, ◌⊎◌, ◌↔◌, Bool, false, List, [], ◌∷◌, Option, Some, None, is_some, Contains, MatchOption, if◌then◌else◌}
+use Rattle.std.specs.Prelude.{◌≡◌, ℕ, ◌+◌, ◌<◌, ◌⊎◌, ◌↔◌, Bool, false, List, [], ◌∷◌, Option, Some, None, is_some, Contains, MatchOption, if◌then◌else◌}
 use Rattle.wasm_formats.specs.declared.fault.Space.TheVariants as spaces
 use Rattle.walrus_arena.specs.Arena.{Arena, item_at}
 use Rattle.walrus_references.specs.walrus_module_items.declared.table.Table.{Table}
@@ -14,6 +14,10 @@ use Rattle.walrus_references.specs.walrus_module.Items.{given_out}
 use Rattle.walrus_references.specs.walrus_module.Parts.{Module}
 use Rattle.walrus_roots.specs.declared.item.Item.{Item}
 use Rattle.walrus_roots.specs.Items.{item}
+
+-- the item is one of a number below n
+abbrev pub Below : (ℕ → Item → Type 0) → ℕ → Item → Type 0
+Below P n x = (k : ℕ) × (k < n) × P k x
 
 -- the item is picked for the live item of the id
 abbrev pub IsPickedAt : {T : Type 0} → (ℕ → T → Item → Type 0) → Arena T → ℕ → Item → Type 0

@@ -119,15 +119,9 @@ struct Body<'a> {
 impl<'a> Names for Body<'a> {
     ghost is_root = { λ _ x. IsEntry x };
 
-    ghost is_root_in = { λ _ _ x. IsEntry x };
-
     ghost refers = { λ b x y. Holds b.seqs.now x y };
 
-    fn root_parts(&self) -> usize {
-        1
-    }
-
-    fn meet_roots(&self, _part: usize, marks: &mut Marks) {
+    fn meet_roots(&self, marks: &mut Marks) {
         marks.meet(Item {
             space: Space::Label,
             id: 0,

@@ -2,17 +2,18 @@
 ghost use Rattle.std.specs.Prelude.{◌≡◌, ◌<◌, ◌≤◌, ◌^◌, ℕ, IfOk, slice_index_or};
 ghost use Rattle.std.specs.List.{fold};
 ghost use Rattle.std.specs.Bool.{OnTrue};
-ghost use Rattle.walrus_marks.specs.Chains.{AllHold, IsReached};
+ghost use Rattle.walrus_marks.specs.Chains.{IsReached};
 ghost use Rattle.walrus_references.specs.References.{Refers};
 ghost use Rattle.walrus_references.specs.Roots.{Root};
 ghost use Rattle.walrus_references.specs.walrus_module.Parts.{parts};
+ghost use Rattle.walrus_used.specs.Asked.{AllHold};
 ghost use Rattle.walrus_used.specs.Counts.{counts_of, past_id, past_types};
 
 use crate::module_names::ModuleNames;
 use crate::segments::element_segments;
+use crate::sweep::{Check, Reached, reach_asking};
 use std::alloc::{AllocError, Global};
 use walrus_arena::TypeId;
-use walrus_marks::{Check, Reached, reach_asking};
 use walrus_references::module::Module;
 use walrus_roots::Item;
 use walrus_types::ModuleTypes;

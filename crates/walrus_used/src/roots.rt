@@ -159,14 +159,14 @@ fn meet_others<B>(marks: &mut Marks, input: &Module<B>, rooted: &[Item], pushed:
 }
 
 /// How many parts of roots there are: one for each data segment, and one for all others.
-pub(crate) fn root_parts<B>(input: &Module<B>) -> usize
+pub(crate) fn part_count<B>(input: &Module<B>) -> usize
     ensures { result ≡ next_id input.now.data_segments + 1 }
 {
     input.data_segments.next_id().index() + 1
 }
 
 /// Meets the roots of a part, where custom sections push these and these element segments are roots.
-pub(crate) fn meet_roots<B>(
+pub(crate) fn meet_part<B>(
     marks: &mut Marks,
     input: &Module<B>,
     rooted: &[Item],

@@ -3,7 +3,7 @@ use Rattle.walrus_marks.specs.Marks.{State}
 use Rattle.walrus_marks.specs.Chains.{Meets}
 use Rattle.walrus_references.specs.References.{seq_items}
 use Rattle.walrus_used.specs.Bodies.{SeqNames}
-use Rattle.walrus_marks.specs.Chains.{Below}
+use Rattle.walrus_used.specs.Picks.{Below}
 use Rattle.walrus_used.proofs.BodyLemmas.{all_named, get_is, named_now, was_reached, was_not}
 use Rattle.walrus_used.proofs.MeetsLemmas.{below_more, below_skip, meets_list, none_below}
 use Rattle.walrus_used.proofs.bodies.meet_seqs.Goals as goal

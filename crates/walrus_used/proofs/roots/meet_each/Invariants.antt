@@ -1,6 +1,6 @@
 use Rattle.std.proofs.Common.{Contains}
-use Rattle.walrus_marks.specs.Chains.{Below, Meets}
-use Rattle.walrus_used.specs.Picks.{IsPickedAt}
+use Rattle.walrus_marks.specs.Chains.{Meets}
+use Rattle.walrus_used.specs.Picks.{Below, IsPickedAt}
 use Rattle.walrus_used.proofs.roots.meet_each.Given as goal
 
 abbrev pub invariant-loop-index : goal.invariant-loop-index
