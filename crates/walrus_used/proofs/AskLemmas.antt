@@ -1,5 +1,5 @@
 -- What is reached part by part, and asked.
-use Rattle.std.proofs.Common.{◌≡◌, ◌∙◌, ◌⊎◌, ◌+◌, ◌<◌, ℕ, List, Bool, true, [], ◌∷◌, ◌++◌, length, get_or, Some, None, Option, Contains, refl, sym, ap, subst, inl, inr, arith}
+use Rattle.std.proofs.Common.{◌≡◌, ◌∙◌, ◌⊎◌, ◌+◌, ℕ, List, Bool, true, false, [], ◌∷◌, ◌++◌, length, get_or, Some, None, Option, Contains, refl, sym, ap, subst, inl, inr, arith}
 use Rattle.std.specs.Prelude.{◌↔◌, IsTrue, MatchOption}
 use Rattle.std.specs.Bool.{OnTrue}
 use Rattle.std.specs.List.{fold}
