@@ -9,4 +9,4 @@ returns-then-part-eq0 g c = first_part (parts c.args.input.now) c.args.pushed.no
 pub returns-else-part-eq0 : goal.returns-else-part-eq0
 returns-else-part-eq0 g c =
     (let next : c.args.part ≡ (c.args.part - 1) + 1 = omega (arith, c.if-part-eq0.false) in
-      next_part (parts c.args.input.now) c.args.pushed.now c.args.rooted.now c.args.part (c.args.part - 1) c.args.marks.now c.meet_at.new.marks next c.meet_at.ensures)
+    next_part (parts c.args.input.now) c.args.pushed.now c.args.rooted.now c.args.part (c.args.part - 1) c.args.marks.now c.meet_at.new.marks next c.meet_at.ensures)

@@ -32,7 +32,7 @@ pub returns-clause-reached : goal.returns-clause-reached
 returns-clause-reached g c =
     asks_reached c.args.counts.now (g.N.PartNames.is_root_in c.args.names.now) (g.N.PartNames.refers c.args.names.now) (g.C.Check.holds c.args.check.now) (g.N.PartNames.is_root c.args.names.now) c.loop-part.part
     (let all : c.part_count-part-end.result ≡ c.loop-part.part = omega (arith, c.loop-part-test.false, c.loop-part.auto.part-end) in
-      subst (λ (n : ℕ). (x : AnyItem) → g.N.PartNames.is_root c.args.names.now x ↔ Below (g.N.PartNames.is_root_in c.args.names.now) n x) all c.part_count-part-end.ensures)
+    subst (λ (n : ℕ). (x : AnyItem) → g.N.PartNames.is_root c.args.names.now x ↔ Below (g.N.PartNames.is_root_in c.args.names.now) n x) all c.part_count-part-end.ensures)
     c.loop-part.marks c.loop-part.invariant.1 c.requires.fit c.loop-part.holds c.loop-part.invariant.0
 
 pub returns-clause-asked : goal.returns-clause-asked
