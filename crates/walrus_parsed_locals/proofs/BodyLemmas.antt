@@ -61,7 +61,7 @@ module _ (locals : List Local) (local : LocalFunction) (found : Ids) (a : Around
   named n lt =
       ap (λ (l : List ℕ). unwrap_or (slice_get l n) n) (ids ∙ ids_joined (length before) params (map (renamed_value (at found.types)) x.locals))
       ∙ ap (λ (o : Option ℕ). unwrap_or o n) (get_id (length before) (params ++ map (renamed_value (at found.types)) x.locals) n
-        (let many = length-append params (map (renamed_value (at found.types)) x.locals) in omega (arith, lt, many)))
+      (let many = length-append params (map (renamed_value (at found.types)) x.locals) in omega (arith, lt, many)))
       ∙ ap (λ (m : ℕ). m + n) (sym sized)
 
   names_are : named_locals (own_operators local) ≡ map (λ (n : ℕ). length (types_of before) + n) (locals_named ops)

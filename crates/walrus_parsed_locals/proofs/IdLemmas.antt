@@ -57,9 +57,9 @@ pub types_joined : (before more : List Local) (first second : ℕ) (params own :
 types_joined before more first second params own =
     map-append (λ (l : Local). l.ty) before (locals_from first params ++ (locals_from second own ++ more))
     ∙ ap (λ (l : List ValType). types_of before ++ l) (
-      map-append (λ (l : Local). l.ty) (locals_from first params) (locals_from second own ++ more)
-      ∙ ap (λ (l : List ValType). l ++ types_of (locals_from second own ++ more)) (types_from first params)
-      ∙ ap (λ (l : List ValType). params ++ l) (map-append (λ (l : Local). l.ty) (locals_from second own) more ∙ ap (λ (l : List ValType). l ++ types_of more) (types_from second own))
+    map-append (λ (l : Local). l.ty) (locals_from first params) (locals_from second own ++ more)
+    ∙ ap (λ (l : List ValType). l ++ types_of (locals_from second own ++ more)) (types_from first params)
+    ∙ ap (λ (l : List ValType). params ++ l) (map-append (λ (l : Local). l.ty) (locals_from second own) more ∙ ap (λ (l : List ValType). l ++ types_of more) (types_from second own))
     )
 
 types_bare : (ls : List Local) → types_of (map bare_local ls) ≡ types_of ls

@@ -13,9 +13,6 @@ use Rattle.walrus_parsed_locals.proofs.NameLemmas.{AllOf, Below, has_moved, none
 -- behind these locals stand the parameters of a function, and those that it declares, and then others; names of its own are moved so
 module _ (before params own later : List ValType) (names args : List ℕ) (below : AllOf (Below (length params + length own)) names)
     (arguments : (k : ℕ) → length before ≤ k → k < length before + length params → has args k ≡ true) (others : (k : ℕ) → length before + length params ≤ k → has args k ≡ false) where
-  first : ℕ
-  first = length before
-
   abbrev moved_names : List ℕ
   moved_names = map (λ (n : ℕ). length before + n) names
 
@@ -37,21 +34,21 @@ module _ (before params own later : List ValType) (names args : List ℕ) (below
 
   own_pass : passing test (numbered (length before + length params) own) ≡ map (moved (length before)) (passing (has names) (numbered (length params) own))
   own_pass = pass_moved test (has names) (length before) (length params) (length before + length params) refl own (λ k le lt.
-        ap (λ (b : Bool). b && not (has args (length before + k))) (has_moved (length before) names k)
-        ∙ ap (λ (b : Bool). has names k && not b) (others (length before + k) (omega (arith, le)))
-        ∙ and-true (has names k))
+      ap (λ (b : Bool). b && not (has args (length before + k))) (has_moved (length before) names k)
+      ∙ ap (λ (b : Bool). has names k && not b) (others (length before + k) (omega (arith, le)))
+      ∙ and-true (has names k))
 
   pub used_are : in_order (passing test (numbered 0 (before ++ (params ++ (own ++ later))))) ≡ map (moved (length before)) (in_order (passing (has names) (numbered (length params) own)))
   used_are =
       ap in_order (
-        split 0 before (params ++ (own ++ later))
-        ∙ ap (λ (l : List Key). l ++ passing test (numbered (0 + length before) (params ++ (own ++ later)))) none_first
-        ∙ ap (λ (n : ℕ). passing test (numbered n (params ++ (own ++ later)))) (omega arith)
-        ∙ split (length before) params (own ++ later)
-        ∙ ap (λ (l : List Key). l ++ passing test (numbered (length before + length params) (own ++ later))) none_given
-        ∙ split (length before + length params) own later
-        ∙ ap (λ (l : List Key). passing test (numbered (length before + length params) own) ++ l) none_later
-        ∙ append-nil (passing test (numbered (length before + length params) own))
-        ∙ own_pass
+      split 0 before (params ++ (own ++ later))
+      ∙ ap (λ (l : List Key). l ++ passing test (numbered (0 + length before) (params ++ (own ++ later)))) none_first
+      ∙ ap (λ (n : ℕ). passing test (numbered n (params ++ (own ++ later)))) (omega arith)
+      ∙ split (length before) params (own ++ later)
+      ∙ ap (λ (l : List Key). l ++ passing test (numbered (length before + length params) (own ++ later))) none_given
+      ∙ split (length before + length params) own later
+      ∙ ap (λ (l : List Key). passing test (numbered (length before + length params) own) ++ l) none_later
+      ∙ append-nil (passing test (numbered (length before + length params) own))
+      ∙ own_pass
       )
       ∙ order_moved (length before) (passing (has names) (numbered (length params) own))

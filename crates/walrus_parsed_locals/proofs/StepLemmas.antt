@@ -29,7 +29,6 @@ use Rattle.walrus_known_sections.specs.Items.{chunk_of}
 use Rattle.walrus_local_function.specs.declared.local_function.LocalFunction.{LocalFunction}
 use Rattle.walrus_module_bodies.specs.Steps.{IsStep, State, Steps}
 use Rattle.walrus_module_bodies.specs.declared.file.FileEnv.{FileEnv}
-use Rattle.walrus_module_env.specs.declared.env.ModuleEnv.{ModuleEnv}
 use Rattle.walrus_module_items.specs.declared.function.Function.{Function}
 use Rattle.walrus_module_items.specs.declared.function.FunctionKind.TheVariants as kinds
 use Rattle.walrus_parsed_bodies.proofs.SlotLemmas.{NoneOf, set_cases}
