@@ -1,6 +1,5 @@
 mod ValueLemmas
 mod TableLemmas
 mod LocalLemmas
-mod HandlerLemmas
 mod StepLemmas
 mod LinkedLemmas

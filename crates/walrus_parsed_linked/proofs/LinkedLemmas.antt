@@ -14,7 +14,7 @@ use Rattle.wasm_modules.specs.Modules.{around}
 use Rattle.wasm_sections.specs.Within.{bodies_inside}
 use Rattle.walrus_arena.specs.Arena.{item_at}
 use Rattle.walrus_body_walks.specs.Answers.{AllAre}
-use Rattle.walrus_body_walks.specs.Laws.{TriesHaveAnswers, WalksNameAnswers}
+use Rattle.walrus_body_walks.specs.Laws.{HandlersHaveAnswers, WalksNameAnswers}
 use Rattle.walrus_builder.specs.Functions.{seqs_of}
 use Rattle.walrus_file_bodies.proofs.PairLemmas.{are_apart, chunks_fit}
 use Rattle.walrus_file_bodies.proofs.StopLemmas.{bodies_wait, chunks_fit_in, count_in}
@@ -128,8 +128,8 @@ no_body locals ty None kind e = ap (body_names locals) e
 no_body locals ty (Some n) kind e = ap (body_names locals) e
 
 pub linked : {B : Type 0} → ReadFunctionsAreWhole B → ReadModulesHaveLinks B → NamesOfReadItemsLive B → IndicesOfReadModulesLive B → FilledFunctionsStand B → FilledModulesAreFiled B → BodiesReadFiles B
-    → EntryTypesGrow → FoundTypesStay → TablesGrowOn → WalksNameAnswers → TriesHaveAnswers → ReadModulesAreLinked B
-linked {B} whole links live indices stands filed bodies enter stay on walks tries config bytes m found small is = record {
+    → EntryTypesGrow → FoundTypesStay → TablesGrowOn → WalksNameAnswers → HandlersHaveAnswers → ReadModulesAreLinked B
+linked {B} whole links live indices stands filed bodies enter stay on walks handled config bytes m found small is = record {
   imports = has.imports;
   imported = has.imported;
   whole = whole config bytes m found small is;
@@ -209,7 +209,7 @@ linked {B} whole links live indices stands filed bodies enter stay on walks trie
     around_is = waits.filed h.filled.types (env_of h.file h.filled.types) (λ _. []) 0 (grows_none h.filled.types) (env_is h.file h.filled.types)
 
     SoundNow : State → Type 0
-    SoundNow = Sound stay on enter walks tries h.file features a (count_in s) final h.bodied.locals i Good typed named local_lives
+    SoundNow = Sound stay on enter walks handled h.file features a (count_in s) final h.bodied.locals i Good typed named local_lives
 
     first : SoundNow old
     first = record {
@@ -220,7 +220,7 @@ linked {B} whole links live indices stands filed bodies enter stay on walks trie
     }
 
     last : SoundNow h.bodied
-    last = steps_sound stay on enter walks tries h.file features a (count_in s) final h.bodied.locals i Good typed named local_lives s.code_start (length bytes) bs old h.bodied fit waits h.bodies_are (grows_none final) (omega arith) first
+    last = steps_sound stay on enter walks handled h.file features a (count_in s) final h.bodied.locals i Good typed named local_lives s.code_start (length bytes) bs old h.bodied fit waits h.bodies_are (grows_none final) (omega arith) first
 
     Walked : LocalFunction → Type 0
     Walked local = AllAre Good (items_of (body_walk (seqs_of local.builder) 0))
@@ -229,9 +229,9 @@ linked {B} whole links live indices stands filed bodies enter stay on walks trie
         (λ b bs old new small w step rest sound.
             let grows = steps_grow on h.file features bs new h.bodied rest in
             let on_new = step_on stay on enter h.file features a (count_in s) b bs old new w step in
-            let le = steps_more stay on enter walks tries h.file features a (count_in s) final h.bodied.locals i Good typed named local_lives bs new h.bodied on_new rest in (
-              step_walk stay on enter walks tries h.file features a (count_in s) final h.bodied.locals i Good typed named local_lives b bs old new small w step grows le sound last.closed,
-              step_sound stay on enter walks tries h.file features a (count_in s) final h.bodied.locals i Good typed named local_lives b bs old new small w step grows le sound,
+            let le = steps_more stay on enter walks handled h.file features a (count_in s) final h.bodied.locals i Good typed named local_lives bs new h.bodied on_new rest in (
+              step_walk stay on enter walks handled h.file features a (count_in s) final h.bodied.locals i Good typed named local_lives b bs old new small w step grows le sound last.closed,
+              step_sound stay on enter walks handled h.file features a (count_in s) final h.bodied.locals i Good typed named local_lives b bs old new small w step grows le sound,
             ))
         s.code_start (length bytes) bs old fit waits h.bodies_are first
 

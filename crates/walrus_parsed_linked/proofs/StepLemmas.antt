@@ -2,7 +2,7 @@
 use Rattle.std.specs.Prelude.{ℕ, zero, suc, ◌≡◌, ◌<◌, ◌≤◌, ◌+◌, Bool, true, false, List, [], ◌∷◌, All, Contains, length, map, Option, Some, None, IfSome, slice_get, slice_index_or, refl, if◌then◌else◌}
 use Rattle.std.proofs.Common.{ap, sym, ◌∙◌, subst, arith}
 use Rattle.std.proofs.lemmas.List.{length-append}
-use Rattle.std.proofs.lemmas.Option.{get_or_from_slice_get}
+use Rattle.std.proofs.lemmas.Option.{get_or_from_slice_get, slice_get_within}
 use Rattle.wasm_body_grammar.specs.Bodies.{Parts, body, body_of, declared}
 use Rattle.wasm_body_grammar.specs.Rules.{Around, space_of}
 use Rattle.wasm_features.specs.declared.WasmFeatures.{WasmFeatures}
@@ -18,7 +18,8 @@ use Rattle.wasm_sections.specs.Within.{ChunksFit}
 use Rattle.walrus_body_nesting.specs.Opens.{same}
 use Rattle.walrus_body_rules.specs.Sights.{Sight}
 use Rattle.walrus_body_walks.specs.Answers.{AllAre, AnswersAre, HandlersAre, IsAnswer, block_items, value_items, without_handlers}
-use Rattle.walrus_body_walks.specs.Laws.{IsRead as IsReadBy, TriesAre, TriesHaveAnswers, WalksNameAnswers, try_type}
+use Rattle.walrus_body_walks.specs.Laws.{HandlersHaveAnswers, IsRead as IsReadBy, WalksNameAnswers}
+use Rattle.walrus_body_walks.proofs.Answers.{answers_are, other_answers_are}
 use Rattle.walrus_builder.specs.Built.{Seq, contents, seq_of}
 use Rattle.walrus_builder.specs.Functions.{seqs_of}
 use Rattle.walrus_file_bodies.specs.Read.{Waits, env_is, env_of, grows_none, read_body_reads, step_filed, step_is_read, step_names, step_on, steps_grow, names_on}
@@ -56,9 +57,8 @@ use Rattle.walrus_roots.specs.declared.item.Item.{Item}
 use Rattle.walrus_tree.specs.Trees.{Has, IsTree}
 use Rattle.walrus_types.specs.Items.{Item as TypeItem}
 use Rattle.walrus_types.specs.Table.{Table, type_at}
-use Rattle.walrus_parsed_names.proofs.ListLemmas.{AllOf, all_contains, get_some}
+use Rattle.walrus_parsed_names.proofs.ListLemmas.{AllOf, all_contains, get_some, some_is}
 use Rattle.walrus_parsed_names.proofs.ValueLemmas.{value_served}
-use Rattle.walrus_parsed_linked.proofs.HandlerLemmas.{handlers_good}
 use Rattle.walrus_parsed_linked.proofs.LocalLemmas.{GoodLocal, NamesBelow, adds_below, adds_good, adds_many, values_good}
 use Rattle.walrus_parsed_linked.proofs.TableLemmas.{gives_closed, merges_closed, picked_good}
 use Rattle.walrus_parsed_linked.proofs.ValueLemmas.{Closed, GoodBlock, GoodValues, entry_good, params_good, results_good}
@@ -67,14 +67,7 @@ pub all_of : {A : Type 0} (P : A → Type 0) (xs : List A) → ((y : A) → Cont
 all_of P [] f = tt
 all_of P (x ∷ xs) f = (f x (0, omega arith, refl), all_of P xs (λ y c. f y (suc c.0, (let lt = c.1 in omega (arith, lt)), c.2)))
 
-answers_good : (s : Sight) (Good : Item → Type 0) → AnswersAre s Good → HandlersAre s Good → (y : Item) → IsAnswer s y → Good y
-answers_good s Good h k y (IsAnswer.Looked space n id e) = h.looked space n id e
-answers_good s Good h k y (IsAnswer.OfParams id tys _ e has) = h.params id tys e y has
-answers_good s Good h k y (IsAnswer.OfResults id tys _ e has) = h.results id tys e y has
-answers_good s Good h k y (IsAnswer.OfBlock ps rs ty _ e p r has) = h.blocks ps rs ty e (λ x c. answers_good s Good h k x (p x c)) (λ x c. answers_good s Good h k x (r x c)) y has
-answers_good s Good h k y (IsAnswer.OfHandler ps rs ty _ e p r has) = k ps rs ty e (λ x c. answers_good s Good h k x (p x c)) (λ x c. answers_good s Good h k x (r x c)) y has
-
-module _ (stay : FoundTypesStay) (on : TablesGrowOn) (enter : EntryTypesGrow) (walks : WalksNameAnswers) (tries : TriesHaveAnswers) (file : FileEnv) (features : WasmFeatures) (a : Around) (count : ℕ → ℕ)
+module _ (stay : FoundTypesStay) (on : TablesGrowOn) (enter : EntryTypesGrow) (walks : WalksNameAnswers) (handled : HandlersHaveAnswers) (file : FileEnv) (features : WasmFeatures) (a : Around) (count : ℕ → ℕ)
     (final : Table) (last : List Local) (i : Ids) (Good : Item → Type 0) (typed : (id : ℕ) (x : TypeItem) → type_at final id ≡ Some x → x.kind.entry ≡ false → Good (item spaces.«Type» id))
     (named : (space : Space) (n id : ℕ) → id_of i 0 space n ≡ Some id → Good (item (space_of space) id)) (local_lives : (id : ℕ) → id < length last → Good (item spaces.Local id)) where
   -- ---- what is seen
@@ -185,28 +178,22 @@ module _ (stay : FoundTypesStay) (on : TablesGrowOn) (enter : EntryTypesGrow) (w
     grows_mid : Grows s.mid final
     grows_mid = on s.mid new.types final (given_types_grow s.handled.handlers (length s.handled.handlers) (map seq_of s.handled.own) (contents s.body.builder.builder) s.mid new.types s.handled.given) grows
 
-    seen : AnswersAre (without_handlers aside.sight) Good
-    seen = subst (λ (x : Sight). AnswersAre (without_handlers x) Good) (sym aside.aside)
-        (answers g s.mid s.handled.env_is.types_are mid_closed grows_mid new.ids new_names new.locals new_below le b.number (λ ps rs. None))
+    seen : AnswersAre aside.sight Good
+    seen = subst (λ (x : Sight). AnswersAre x Good) (sym aside.aside)
+        (answers g s.mid s.handled.env_is.types_are mid_closed grows_mid new.ids new_names new.locals new_below le b.number aside.sight.handler_type)
 
-    tries_good : (k : ℕ) (x : InstrSeq) → Has (tree_ids s.handled.tree) k → slice_get s.handled.own k ≡ Some x → TriesAre (map seq_of s.handled.own) (GoodBlock Good) x.instrs.items
-    tries_good k x has at =
-        all_tries (map seq_of s.handled.own) x.instrs.items (tries aside.sight s.handled.own read_by s.handled.tree k x has at)
-      where
-        good : (ty : InstrSeqType) → AllAre (IsAnswer (without_handlers aside.sight)) (block_items ty) → GoodBlock Good ty
-        good ty are = all_of Good (block_items ty) (λ y c. answers_good (without_handlers aside.sight) Good seen (λ ps rs ty e p r y c. absurd cc) y (are y c))
-
-        if_try : (o : Option InstrSeqType) → IfSome o (λ ty. AllAre (IsAnswer (without_handlers aside.sight)) (block_items ty)) → IfSome o (GoodBlock Good)
-        if_try None h = tt
-        if_try (Some ty) h = good ty h
-
-        all_tries : (bs : List Seq) (is : List (Instr × InstrLocId)) → TriesAre bs (λ ty. AllAre (IsAnswer (without_handlers aside.sight)) (block_items ty)) is → TriesAre bs (GoodBlock Good) is
-        all_tries bs [] h = tt
-        all_tries bs (i ∷ is) h = (if_try (try_type bs i.0) h.0, all_tries bs is h.1)
+    handler_good : (k : ℕ) (x : Handler) → slice_get s.handled.handlers k ≡ Some (Some x) → GoodBlock Good x.block
+    handler_good k x at =
+        let are = s.handled.gathered in
+        let lt : k < length s.handled.own = subst (λ (n : ℕ). k < n) are.many (slice_get_within s.handled.handlers k (Some x) at) in
+        let told = some_is _ (Some x) (sym (are.told k lt) ∙ at) in
+        let block : AllAre (IsAnswer (without_handlers aside.sight)) (block_items x.block) =
+        subst (λ (o : Option Handler). IfSome o (λ h. AllAre (IsAnswer (without_handlers aside.sight)) (block_items h.block))) told (handled aside.sight s.handled.own read_by s.handled.tree _ k) in
+        all_of Good (block_items x.block) (λ y c. other_answers_are aside.sight Good seen y (block y c))
 
     new_closed : Closed Good new.types
     new_closed = gives_closed Good s.handled.handlers (length s.handled.handlers) (map seq_of s.handled.own) s.mid (contents s.body.builder.builder) new.types
-        (handlers_good (GoodBlock Good) _ s.handled.own s.handled.tree tries_good s.handled.handlers s.handled.gathered) s.handled.given mid_closed
+        handler_good s.handled.given mid_closed
 
     pub step_sound : Sound new
     step_sound = record { names = new_names; below = new_below; closed = new_closed; locals_good = new_good }
@@ -222,7 +209,7 @@ module _ (stay : FoundTypesStay) (on : TablesGrowOn) (enter : EntryTypesGrow) (w
         let by : IsReadBy sight (seqs_of s.body.builder) =
         record { around = a; params = length s.params; place = _; bytes = b.chunk.bytes.now; parts = parts; is_body = (small, rules.0, rules.1); pick = block_pick a; stands = read.stands } in
         let whole = grows_none final in
-        answers_good sight Good (answers e final refl closed whole new.ids new_names new.locals new_below le b.number (λ ps rs. picked ps rs final))
+        answers_are sight Good (answers e final refl closed whole new.ids new_names new.locals new_below le b.number (λ ps rs. picked ps rs final))
         (λ ps rs ty is p r. pick_are final whole ps rs ty is r) y (walks sight (seqs_of s.body.builder) by y has)
 
   -- ---- all of them

@@ -57,12 +57,12 @@ module _ (Good : Item → Type 0) where
   values_kind (F32 ∷ tys) h = values_kind tys h
   values_kind (F64 ∷ tys) h = values_kind tys h
   values_kind (V128 ∷ tys) h = values_kind tys h
-  values_kind (Ref ty ∷ tys) h = of_heap ty.heap_type h
+  values_kind (Ref ty ∷ tys) h = of_heap (λ k. values_kind tys k) ty.heap_type h
     where
-      of_heap : (heap : HeapType) → GoodValues (Ref (record { nullable = ty.nullable; heap_type = heap }) ∷ tys) → GoodTypes (filter_map value_name (Ref (record { nullable = ty.nullable; heap_type = heap }) ∷ tys))
-      of_heap (Abstract abstract) h = values_kind tys h
-      of_heap (Concrete id) h = (h.0, values_kind tys h.1)
-      of_heap (Exact id) h = (h.0, values_kind tys h.1)
+      of_heap : (GoodValues tys → GoodTypes (filter_map value_name tys)) → (heap : HeapType) → GoodValues (Ref (record { nullable = ty.nullable; heap_type = heap }) ∷ tys) → GoodTypes (filter_map value_name (Ref (record { nullable = ty.nullable; heap_type = heap }) ∷ tys))
+      of_heap later (Abstract abstract) h = later h
+      of_heap later (Concrete id) h = (h.0, later h.1)
+      of_heap later (Exact id) h = (h.0, later h.1)
 
   kind_values : (tys : List ValType) → GoodTypes (filter_map value_name tys) → GoodValues tys
   kind_values [] h = tt
@@ -71,12 +71,12 @@ module _ (Good : Item → Type 0) where
   kind_values (F32 ∷ tys) h = kind_values tys h
   kind_values (F64 ∷ tys) h = kind_values tys h
   kind_values (V128 ∷ tys) h = kind_values tys h
-  kind_values (Ref ty ∷ tys) h = of_heap ty.heap_type h
+  kind_values (Ref ty ∷ tys) h = of_heap (λ k. kind_values tys k) ty.heap_type h
     where
-      of_heap : (heap : HeapType) → GoodTypes (filter_map value_name (Ref (record { nullable = ty.nullable; heap_type = heap }) ∷ tys)) → GoodValues (Ref (record { nullable = ty.nullable; heap_type = heap }) ∷ tys)
-      of_heap (Abstract abstract) h = kind_values tys h
-      of_heap (Concrete id) h = (h.0, kind_values tys h.1)
-      of_heap (Exact id) h = (h.0, kind_values tys h.1)
+      of_heap : (GoodTypes (filter_map value_name tys) → GoodValues tys) → (heap : HeapType) → GoodTypes (filter_map value_name (Ref (record { nullable = ty.nullable; heap_type = heap }) ∷ tys)) → GoodValues (Ref (record { nullable = ty.nullable; heap_type = heap }) ∷ tys)
+      of_heap later (Abstract abstract) h = later h
+      of_heap later (Concrete id) h = (h.0, later h.1)
+      of_heap later (Exact id) h = (h.0, later h.1)
 
   pub function_good : (params results : List ValType) → GoodValues params → GoodValues results → GoodKind (function_kind params results)
   function_good params results h k =

@@ -2,7 +2,7 @@
 
 ghost use Rattle.walrus_parsed_linked.specs.Linked.{ReadModulesAreLinked};
 
-use walrus_body_walks::laws::{tries_have_answers, walks_name_answers};
+use walrus_body_walks::laws::{handlers_have_answers, walks_name_answers};
 use walrus_file_bodies::laws::bodies_read_files;
 use walrus_function_types::laws::{entry_types_grow, found_types_stay, tables_grow_on};
 use walrus_items_into::laws::{filled_functions_stand, filled_modules_are_filed};
@@ -28,5 +28,5 @@ pub fn modules_that_are_read_are_linked<B>()
     found_types_stay();
     tables_grow_on();
     walks_name_answers();
-    tries_have_answers();
+    handlers_have_answers();
 }
