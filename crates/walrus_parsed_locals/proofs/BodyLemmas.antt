@@ -1,5 +1,5 @@
 -- Lemmas: the locals of one body, behind which and before which others stand.
-use Rattle.std.specs.Prelude.{ℕ, ◌≡◌, ◌⊎◌, ◌<◌, ◌≤◌, ◌+◌, ◌&&◌, not, Bool, true, false, List, [], ◌∷◌, ◌++◌, length, map, Option, Some, slice_get, refl}
+use Rattle.std.specs.Prelude.{ℕ, ◌≡◌, ◌⊎◌, ◌<◌, ◌≤◌, ◌+◌, ◌&&◌, not, true, false, List, [], ◌∷◌, ◌++◌, length, map, Option, Some, slice_get, refl}
 use Rattle.std.specs.List.{filter, flat_map, range_with_len}
 use Rattle.std.specs.Option.{unwrap_or}
 use Rattle.std.proofs.Common.{ap, sym, ◌∙◌, subst, arith, inl, inr}

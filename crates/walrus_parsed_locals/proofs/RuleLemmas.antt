@@ -1,5 +1,5 @@
 -- Lemmas: a body that meets the rules names locals of its function alone, and so does its normal form.
-use Rattle.std.specs.Prelude.{ℕ, ◌≡◌, ◌<◌, ◌+◌, true, nat_lt, List, [], ◌∷◌, length, map, Option, Some, None}
+use Rattle.std.specs.Prelude.{ℕ, ◌≡◌, ◌+◌, true, nat_lt, List, [], ◌∷◌, length, map, Some, None}
 use Rattle.std.proofs.lemmas.Bool.{ltb-true}
 use Rattle.wasm_body_grammar.specs.Bodies.{frames_of}
 use Rattle.wasm_body_grammar.specs.Frames.{Frame, turned}
@@ -12,7 +12,7 @@ use Rattle.wasm_immediates.specs.declared.block_type.BlockType.{BlockType}
 use Rattle.wasm_module_rules.specs.Keeps.{first_none, must_holds}
 use Rattle.wasm_normal_form.specs.Bodies.{locals_named}
 use Rattle.wasm_normal_form.specs.Normal.{normal_ops}
-use Rattle.wasm_normal_form.specs.Roles.{Placed, placed}
+use Rattle.wasm_normal_form.specs.Roles.{placed}
 use Rattle.wasm_operator_names.specs.Names.{Name, operator_names}
 use Rattle.wasm_operators.specs.Operators.{flow_of}
 use Rattle.wasm_ruled_modules.specs.Rules.{AreOperators, IsBody}
