@@ -1,5 +1,5 @@
 -- Lemmas: the locals of a module that was read.
-use Rattle.std.specs.Prelude.{ℕ, ◌≡◌, ◌⊎◌, ◌<◌, ◌+◌, true, List, [], ◌∷◌, ◌++◌, length, map, Option, Some, None, slice_get, slice_index_or}
+use Rattle.std.specs.Prelude.{ℕ, ◌≡◌, ◌⊎◌, ◌<◌, ◌+◌, true, List, [], ◌∷◌, ◌++◌, length, map, Some, None, slice_get, slice_index_or}
 use Rattle.std.specs.List.{AllZip, range_with_len}
 use Rattle.std.specs.Option.{option_map}
 use Rattle.std.proofs.Common.{ap, sym, ◌∙◌, subst}
@@ -14,7 +14,6 @@ use Rattle.wasm_normal_form.specs.Locals.{Key}
 use Rattle.wasm_normal_form.specs.Normal.{normal_ops}
 use Rattle.wasm_run_names.specs.Picks.{block_pick}
 use Rattle.wasm_sections.specs.Within.{bodies_inside}
-use Rattle.walrus_arena.specs.Arena.{item_at}
 use Rattle.walrus_body_locals.specs.Locals.{ids_from}
 use Rattle.walrus_body_trees.specs.Laws.{meant, renamed}
 use Rattle.walrus_file_bodies.proofs.PairLemmas.{are_apart, chunks_fit}

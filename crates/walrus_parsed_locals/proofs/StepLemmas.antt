@@ -1,5 +1,5 @@
 -- Lemmas: the locals that the function of each body of a file gets.
-use Rattle.std.specs.Prelude.{ℕ, ◌≡◌, ◌≢◌, ◌⊎◌, ◌<◌, ◌+◌, ◌==◌, Bool, List, [], ◌∷◌, ◌++◌, All, length, map, Option, Some, None, slice_index_or, slice_set, refl, if◌then◌else◌}
+use Rattle.std.specs.Prelude.{ℕ, ◌≡◌, ◌≢◌, ◌+◌, Bool, List, [], ◌∷◌, ◌++◌, All, length, map, Option, Some, None, slice_index_or, slice_set, refl, if◌then◌else◌}
 use Rattle.std.specs.List.{AllZip}
 use Rattle.std.proofs.Common.{ap, sym, ◌∙◌, subst, inl, inr}
 use Rattle.std.proofs.lemmas.Bool.{eq-eqb}
@@ -15,7 +15,7 @@ use Rattle.wasm_grammar.specs.Modules as grammar
 use Rattle.wasm_ruled_modules.specs.Bodied.{body_is}
 use Rattle.wasm_ruled_modules.specs.Rules.{IsBody}
 use Rattle.wasm_sections.specs.Within.{ChunksFit}
-use Rattle.walrus_arena.specs.Arena.{Arena, item_at}
+use Rattle.walrus_arena.specs.Arena.{Arena}
 use Rattle.walrus_body_locals.specs.Locals.{ids_from, locals_from, with_more}
 use Rattle.walrus_builder.specs.Built.{contents}
 use Rattle.walrus_file_bodies.specs.Read.{Waits, coded_by, env_is, env_of, grows_none, others_keep, read_body_reads, step_filed, step_on}
