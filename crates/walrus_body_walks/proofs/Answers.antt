@@ -2,20 +2,20 @@
 use Rattle.std.proofs.Common.{◌≡◌, List, Option, Some, None, map}
 use Rattle.std.specs.Prelude.{IfSome}
 use Rattle.wasm_operator_names.specs.Laws.{NamesAreRenamed}
-use Rattle.wasm_normal_form.specs.Trees.{tree_of}
-use Rattle.wasm_normal_form.specs.Normal.{normal}
-use Rattle.walrus_forms.specs.declared.value.ValType.{ValType}
-use Rattle.walrus_instr.specs.declared.instr.Instr.{Instr}
-use Rattle.walrus_instr.specs.declared.seq.InstrLocId.{InstrLocId}
-use Rattle.walrus_instr.specs.declared.seq.InstrSeq.{InstrSeq}
-use Rattle.walrus_instr.specs.declared.seq.InstrSeqType.{InstrSeqType}
+use Rattle.walrus_handler_laws.specs.walrus_body_steps.wasm_normal_form.Trees.{tree_of}
+use Rattle.walrus_handler_laws.specs.walrus_body_steps.wasm_normal_form.Normal.{normal}
+use Rattle.walrus_walks.specs.walrus_forms.declared.value.ValType.{ValType}
+use Rattle.walrus_marks.specs.walrus_instr.declared.instr.Instr.{Instr}
+use Rattle.walrus_marks.specs.walrus_instr.declared.seq.InstrLocId.{InstrLocId}
+use Rattle.walrus_marks.specs.walrus_instr.declared.seq.InstrSeq.{InstrSeq}
+use Rattle.walrus_marks.specs.walrus_instr.declared.seq.InstrSeqType.{InstrSeqType}
 use Rattle.walrus_walks.specs.Events.{block_names}
 use Rattle.walrus_walks.specs.Walk.{body_walk}
-use Rattle.walrus_builder.specs.Built.{seq_of}
+use Rattle.walrus_handler_laws.specs.walrus_tree.walrus_builder.Built.{seq_of}
 use Rattle.walrus_roots.specs.declared.item.Item.{Item}
 use Rattle.walrus_pairing_laws.specs.Told.{NamesAreTold}
 use Rattle.walrus_operator_laws.specs.Laws.{OperatorComesBack}
-use Rattle.walrus_body_rules.specs.Sights.{Sight}
+use Rattle.walrus_handler_laws.specs.walrus_body_steps.walrus_body_rules.Sights.{Sight}
 use Rattle.walrus_body_trees.specs.Laws.{ops_of}
 use Rattle.walrus_body_walks.specs.Answers.{AllAre, AnswersAre, HandlersAre, IsAnswer, Looked, OfParams, OfResults, OfBlock, OfHandler, block_items, value_items, without_handlers}
 use Rattle.walrus_handler_laws.specs.Handlers.{tree_ids}

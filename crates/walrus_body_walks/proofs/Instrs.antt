@@ -5,41 +5,41 @@ use Rattle.std.specs.List.{AllByRecursion}
 use Rattle.std.specs.Option.{unwrap_or}
 use Rattle.std.proofs.lemmas.List.Elements.{All-from_recursion, recursion_from_All}
 use Rattle.std.proofs.lemmas.List.Sorted.{All-permutation, IsPermutation-reverse}
-use Rattle.wasm_features.specs.declared.WasmFeatures.{WasmFeatures}
-use Rattle.wasm_formats.specs.declared.fault.Space.TheVariants as spaces
-use Rattle.wasm_immediates.specs.declared.clause.Clause.{Clause}
-use Rattle.wasm_immediates.specs.declared.clause.Clause.TheVariants as handlers
-use Rattle.wasm_immediates.specs.Items.{Labels, Tags, Item as Word, Names, Byte, Heap, ManyLabels}
-use Rattle.wasm_operators.specs.declared.op_code.OpCode.{OpCode}
-use Rattle.wasm_operators.specs.Operators.{Seen}
+use Rattle.wasm_operator_ranges.specs.wasm_operator_bytes.wasm_operators.wasm_features.declared.WasmFeatures.{WasmFeatures}
+use Rattle.walrus_handler_laws.specs.walrus_body_steps.wasm_body_grammar.wasm_formats.declared.fault.Space.TheVariants as spaces
+use Rattle.walrus_operator_laws.specs.walrus_pairing.wasm_immediates.declared.clause.Clause.{Clause}
+use Rattle.walrus_operator_laws.specs.walrus_pairing.wasm_immediates.declared.clause.Clause.TheVariants as handlers
+use Rattle.walrus_operator_laws.specs.walrus_pairing.wasm_immediates.Items.{Labels, Tags, Item as Word, Names, Byte, Heap, ManyLabels}
+use Rattle.wasm_operator_ranges.specs.wasm_operator_bytes.wasm_operators.declared.op_code.OpCode.{OpCode}
+use Rattle.wasm_operator_ranges.specs.wasm_operator_bytes.wasm_operators.Operators.{Seen}
 use Rattle.wasm_operator_names.specs.Names.{Name, Renaming, operator_names, renamed_operator}
 use Rattle.wasm_operator_names.specs.Laws.{NamesAreRenamed, renamed_name}
 use Rattle.wasm_operator_ranges.specs.Ranges.{OperatorFits}
-use Rattle.wasm_body_grammar.specs.Rules.{space_of}
-use Rattle.walrus_forms.specs.declared.value.HeapType.{HeapType}
-use Rattle.walrus_instr.specs.declared.instr.Instr.{Instr}
-use Rattle.walrus_instr.specs.declared.instr.Instr.TheVariants as instrs
-use Rattle.walrus_instr.specs.declared.instr.LegacyCatch.{LegacyCatch}
-use Rattle.walrus_instr.specs.declared.instr.LegacyCatch.TheVariants as legacy
-use Rattle.walrus_instr.specs.declared.instr.TryTableCatch.{TryTableCatch}
-use Rattle.walrus_instr.specs.declared.seq.InstrSeqType.{InstrSeqType}
+use Rattle.walrus_handler_laws.specs.walrus_body_steps.wasm_body_grammar.Rules.{space_of}
+use Rattle.walrus_walks.specs.walrus_forms.declared.value.HeapType.{HeapType}
+use Rattle.walrus_marks.specs.walrus_instr.declared.instr.Instr.{Instr}
+use Rattle.walrus_marks.specs.walrus_instr.declared.instr.Instr.TheVariants as instrs
+use Rattle.walrus_marks.specs.walrus_instr.declared.instr.LegacyCatch.{LegacyCatch}
+use Rattle.walrus_marks.specs.walrus_instr.declared.instr.LegacyCatch.TheVariants as legacy
+use Rattle.walrus_marks.specs.walrus_instr.declared.instr.TryTableCatch.{TryTableCatch}
+use Rattle.walrus_marks.specs.walrus_instr.declared.seq.InstrSeqType.{InstrSeqType}
 use Rattle.walrus_walks.specs.Tree.{children, handlers as handlers_of}
 use Rattle.walrus_walks.specs.Events.{Event, StartOf, EndOf, Visits, NamesSeq, NamesLocal, NamesMemory, NamesTable, NamesGlobal, NamesFunction, NamesData, NamesType, NamesElement, NamesTag, Holds, block_names, clause_names, events_of, legacy_names, names, ref_names}
-use Rattle.walrus_builder.specs.Built.{Seq}
-use Rattle.walrus_tree.specs.Trees.{Has}
+use Rattle.walrus_handler_laws.specs.walrus_tree.walrus_builder.Built.{Seq}
+use Rattle.walrus_handler_laws.specs.walrus_tree.Trees.{Has}
 use Rattle.walrus_roots.specs.declared.item.Item.{Item}
 use Rattle.walrus_roots.specs.Items.{item}
-use Rattle.walrus_pairing.specs.Read.{at, instr_at}
-use Rattle.walrus_pairing.specs.Write.{operator_at}
+use Rattle.walrus_operator_laws.specs.walrus_pairing.Read.{at, instr_at}
+use Rattle.walrus_operator_laws.specs.walrus_pairing.Write.{operator_at}
 use Rattle.walrus_pairing_laws.specs.Told.{NamesAreTold, all, is_reversed, told_all}
 use Rattle.walrus_operator_laws.specs.Laws.{OperatorComesBack, Renames}
 use Rattle.walrus_operator_laws.proofs.Forth.{bytes_found, objects_found}
-use Rattle.walrus_body_nesting.specs.declared.frames.Opener.{Opener}
-use Rattle.walrus_body_nesting.specs.declared.frames.Opener.TheVariants as openers
-use Rattle.walrus_body_nesting.specs.Opens.{Makes, type_at}
-use Rattle.walrus_body_nesting.specs.Stands.{Turn, Otherwise, Handles, Part, Block, EndsOnce, part, parts_of}
-use Rattle.walrus_body_rules.specs.Sights.{Sight, look}
-use Rattle.walrus_body_steps.specs.Meanings.{AreClauses, IsClause, IsOpener, RunsAs, branch_at, cast_at}
+use Rattle.walrus_handler_laws.specs.walrus_body_steps.walrus_body_nesting.declared.frames.Opener.{Opener}
+use Rattle.walrus_handler_laws.specs.walrus_body_steps.walrus_body_nesting.declared.frames.Opener.TheVariants as openers
+use Rattle.walrus_handler_laws.specs.walrus_body_steps.walrus_body_nesting.Opens.{Makes, type_at}
+use Rattle.walrus_handler_laws.specs.walrus_body_steps.walrus_body_nesting.Stands.{Turn, Otherwise, Handles, Part, Block, EndsOnce, part, parts_of}
+use Rattle.walrus_handler_laws.specs.walrus_body_steps.walrus_body_rules.Sights.{Sight, look}
+use Rattle.walrus_handler_laws.specs.walrus_body_steps.Meanings.{AreClauses, IsClause, IsOpener, RunsAs, branch_at, cast_at}
 use Rattle.walrus_body_walks.specs.Answers.{AnswersAre}
 use Rattle.walrus_body_walks.specs.Laws.{try_type}
 use Rattle.walrus_body_walks.proofs.Told.{Told, told_each, told_join}

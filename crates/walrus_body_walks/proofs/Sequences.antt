@@ -2,25 +2,25 @@
 use Rattle.std.proofs.Common.{ℕ, zero, suc, ◌≡◌, ◌⊎◌, Bool, true, false, List, [], ◌∷◌, map, Some, refl, sym, ap, subst, ◌∙◌, inl, inr, eq-eqb, eqb-true}
 use Rattle.std.specs.Prelude.{◌==◌, slice_get, if◌then◌else◌}
 use Rattle.std.specs.List.{AllByRecursion}
-use Rattle.wasm_features.specs.declared.WasmFeatures.{WasmFeatures}
-use Rattle.wasm_operators.specs.Operators.{Seen}
+use Rattle.wasm_operator_ranges.specs.wasm_operator_bytes.wasm_operators.wasm_features.declared.WasmFeatures.{WasmFeatures}
+use Rattle.wasm_operator_ranges.specs.wasm_operator_bytes.wasm_operators.Operators.{Seen}
 use Rattle.wasm_operator_names.specs.Laws.{NamesAreRenamed}
-use Rattle.wasm_immediates.specs.Items.{Tags}
-use Rattle.wasm_normal_form.specs.Trees.{Tree as OpTree, Close, Arm, Skip, Run, Nest}
-use Rattle.walrus_forms.specs.declared.value.ValType.{ValType}
-use Rattle.walrus_instr.specs.declared.instr.Instr.{Instr}
-use Rattle.walrus_instr.specs.declared.seq.InstrLocId.{InstrLocId}
-use Rattle.walrus_instr.specs.declared.seq.InstrSeq.{InstrSeq}
-use Rattle.walrus_instr.specs.declared.seq.InstrSeqType.{InstrSeqType}
+use Rattle.walrus_operator_laws.specs.walrus_pairing.wasm_immediates.Items.{Tags}
+use Rattle.walrus_handler_laws.specs.walrus_body_steps.wasm_normal_form.Trees.{Tree as OpTree, Close, Arm, Skip, Run, Nest}
+use Rattle.walrus_walks.specs.walrus_forms.declared.value.ValType.{ValType}
+use Rattle.walrus_marks.specs.walrus_instr.declared.instr.Instr.{Instr}
+use Rattle.walrus_marks.specs.walrus_instr.declared.seq.InstrLocId.{InstrLocId}
+use Rattle.walrus_marks.specs.walrus_instr.declared.seq.InstrSeq.{InstrSeq}
+use Rattle.walrus_marks.specs.walrus_instr.declared.seq.InstrSeqType.{InstrSeqType}
 use Rattle.walrus_walks.specs.Events.{block_names}
-use Rattle.walrus_builder.specs.Built.{Seq, seq_of}
+use Rattle.walrus_handler_laws.specs.walrus_tree.walrus_builder.Built.{Seq, seq_of}
 use Rattle.walrus_roots.specs.declared.item.Item.{Item}
 use Rattle.walrus_pairing_laws.specs.Told.{NamesAreTold}
 use Rattle.walrus_operator_laws.specs.Laws.{OperatorComesBack}
-use Rattle.walrus_body_nesting.specs.Opens.{type_at}
-use Rattle.walrus_body_nesting.specs.Stands.{Turn, Otherwise, Handles, HandlesAll, Part, Finish, Ended, with, none, lies, StandsAs}
-use Rattle.walrus_body_rules.specs.Sights.{Sight, results_of, tag_params}
-use Rattle.walrus_body_steps.specs.Meanings.{TurnsTo, meaning}
+use Rattle.walrus_handler_laws.specs.walrus_body_steps.walrus_body_nesting.Opens.{type_at}
+use Rattle.walrus_handler_laws.specs.walrus_body_steps.walrus_body_nesting.Stands.{Turn, Otherwise, Handles, HandlesAll, Part, Finish, Ended, with, none, lies, StandsAs}
+use Rattle.walrus_handler_laws.specs.walrus_body_steps.walrus_body_rules.Sights.{Sight, results_of, tag_params}
+use Rattle.walrus_handler_laws.specs.walrus_body_steps.Meanings.{TurnsTo, meaning}
 use Rattle.walrus_body_walks.specs.Answers.{AllAre, AnswersAre, value_items}
 use Rattle.walrus_body_walks.proofs.Fitting.{RunsFit}
 use Rattle.walrus_body_walks.proofs.Told.{Told, all_later, told_are}

@@ -1,19 +1,19 @@
 -- Lemmas: what the walk of a body names whose sequences hold fine instructions, and the sequences of its tree.
 use Rattle.std.proofs.Common.{ℕ, zero, suc, ◌≡◌, ◌⊎◌, List, [], ◌∷◌, ◌++◌, length, map, Some, refl, sym, subst, ◌∙◌, inl, inr}
 use Rattle.std.specs.Prelude.{Option, IfSome, slice_get}
-use Rattle.walrus_instr.specs.declared.instr.Instr.{Instr}
-use Rattle.walrus_instr.specs.declared.seq.InstrLocId.{InstrLocId}
-use Rattle.walrus_instr.specs.declared.seq.InstrSeq.{InstrSeq}
-use Rattle.walrus_instr.specs.declared.seq.InstrSeqType.{InstrSeqType}
+use Rattle.walrus_marks.specs.walrus_instr.declared.instr.Instr.{Instr}
+use Rattle.walrus_marks.specs.walrus_instr.declared.seq.InstrLocId.{InstrLocId}
+use Rattle.walrus_marks.specs.walrus_instr.declared.seq.InstrSeq.{InstrSeq}
+use Rattle.walrus_marks.specs.walrus_instr.declared.seq.InstrSeqType.{InstrSeqType}
 use Rattle.walrus_walks.specs.Events.{Event, EndOf, block_names, events_of, names}
 use Rattle.walrus_walks.specs.Tree.{children, children_in}
 use Rattle.walrus_walks.specs.Walk.{body_walk, of_items, of_seq, walk, walk_within}
 use Rattle.walrus_walks.proofs.Bodies.{body_at}
-use Rattle.walrus_builder.specs.Built.{seq_of}
-use Rattle.walrus_tree.specs.Trees.{Has, IsTree, Nothing, Stand, Tree, Trees, ids}
+use Rattle.walrus_handler_laws.specs.walrus_tree.walrus_builder.Built.{seq_of}
+use Rattle.walrus_handler_laws.specs.walrus_tree.Trees.{Has, IsTree, Nothing, Stand, Tree, Trees, ids}
 use Rattle.walrus_handler_laws.specs.Handlers.{tree_ids}
 use Rattle.walrus_roots.specs.declared.item.Item.{Item}
-use Rattle.walrus_body_nesting.specs.Stands.{none, with}
+use Rattle.walrus_handler_laws.specs.walrus_body_steps.walrus_body_nesting.Stands.{none, with}
 use Rattle.walrus_body_walks.specs.Laws.{TriesAre, try_type}
 use Rattle.walrus_body_walks.proofs.Told.{Told, all_later, told_join}
 use Rattle.walrus_body_walks.proofs.Types.{some_is}

@@ -1,14 +1,14 @@
 -- What a sight answers with: the items that a body can name which is read by it.
 use Rattle.std.specs.Prelude.{◌≡◌, ℕ, List, Contains, Some, None}
-use Rattle.wasm_immediates.specs.Items.{Space}
-use Rattle.wasm_body_grammar.specs.Rules.{space_of}
-use Rattle.walrus_forms.specs.declared.value.ValType.{ValType}
-use Rattle.walrus_instr.specs.declared.seq.InstrSeqType.{InstrSeqType}
+use Rattle.walrus_operator_laws.specs.walrus_pairing.wasm_immediates.Items.{Space}
+use Rattle.walrus_handler_laws.specs.walrus_body_steps.wasm_body_grammar.Rules.{space_of}
+use Rattle.walrus_walks.specs.walrus_forms.declared.value.ValType.{ValType}
+use Rattle.walrus_marks.specs.walrus_instr.declared.seq.InstrSeqType.{InstrSeqType}
 use Rattle.walrus_walks.specs.Events.{block_names, events_of, val_names}
 use Rattle.walrus_roots.specs.declared.item.Item.{Item}
 use Rattle.walrus_roots.specs.Items.{item}
 use Rattle.walrus_marks.specs.Named.{items_of}
-use Rattle.walrus_body_rules.specs.Sights.{Sight, look}
+use Rattle.walrus_handler_laws.specs.walrus_body_steps.walrus_body_rules.Sights.{Sight, look}
 
 -- the items that value types name, and that a block type names
 abbrev pub value_items : List ValType → List Item

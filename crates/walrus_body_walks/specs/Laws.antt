@@ -1,24 +1,24 @@
 -- What bodies that were read name.
 use Rattle.std.specs.Prelude.{◌≡◌, ℕ, List, map, Option, Some, None, IfSome, slice_get}
 use Rattle.std.specs.List.{AllByRecursion}
-use Rattle.wasm_immediates.specs.declared.block_type.BlockType.{BlockType}
-use Rattle.wasm_body_grammar.specs.Rules.{Around}
-use Rattle.wasm_body_grammar.specs.Bodies.{Parts}
-use Rattle.wasm_normal_form.specs.Trees.{tree_of}
-use Rattle.wasm_normal_form.specs.Normal.{normal}
-use Rattle.walrus_instr.specs.declared.instr.Instr.{Instr}
-use Rattle.walrus_instr.specs.declared.instr.Instr.TheVariants as instrs
-use Rattle.walrus_instr.specs.declared.seq.InstrLocId.{InstrLocId}
-use Rattle.walrus_instr.specs.declared.seq.InstrSeq.{InstrSeq}
-use Rattle.walrus_instr.specs.declared.seq.InstrSeqType.{InstrSeqType}
+use Rattle.walrus_operator_laws.specs.walrus_pairing.wasm_immediates.declared.block_type.BlockType.{BlockType}
+use Rattle.walrus_handler_laws.specs.walrus_body_steps.wasm_body_grammar.Rules.{Around}
+use Rattle.walrus_handler_laws.specs.walrus_body_steps.wasm_body_grammar.Bodies.{Parts}
+use Rattle.walrus_handler_laws.specs.walrus_body_steps.wasm_normal_form.Trees.{tree_of}
+use Rattle.walrus_handler_laws.specs.walrus_body_steps.wasm_normal_form.Normal.{normal}
+use Rattle.walrus_marks.specs.walrus_instr.declared.instr.Instr.{Instr}
+use Rattle.walrus_marks.specs.walrus_instr.declared.instr.Instr.TheVariants as instrs
+use Rattle.walrus_marks.specs.walrus_instr.declared.seq.InstrLocId.{InstrLocId}
+use Rattle.walrus_marks.specs.walrus_instr.declared.seq.InstrSeq.{InstrSeq}
+use Rattle.walrus_marks.specs.walrus_instr.declared.seq.InstrSeqType.{InstrSeqType}
 use Rattle.walrus_walks.specs.Walk.{body_walk}
-use Rattle.walrus_builder.specs.Built.{Seq, seq_of}
-use Rattle.walrus_tree.specs.Trees.{Has, IsTree}
+use Rattle.walrus_handler_laws.specs.walrus_tree.walrus_builder.Built.{Seq, seq_of}
+use Rattle.walrus_handler_laws.specs.walrus_tree.Trees.{Has, IsTree}
 use Rattle.walrus_marks.specs.Named.{items_of}
-use Rattle.walrus_body_nesting.specs.Opens.{type_at}
-use Rattle.walrus_body_nesting.specs.Stands.{StandsAs}
-use Rattle.walrus_body_rules.specs.Sights.{Sight}
-use Rattle.walrus_body_steps.specs.Meanings.{meaning}
+use Rattle.walrus_handler_laws.specs.walrus_body_steps.walrus_body_nesting.Opens.{type_at}
+use Rattle.walrus_handler_laws.specs.walrus_body_steps.walrus_body_nesting.Stands.{StandsAs}
+use Rattle.walrus_handler_laws.specs.walrus_body_steps.walrus_body_rules.Sights.{Sight}
+use Rattle.walrus_handler_laws.specs.walrus_body_steps.Meanings.{meaning}
 use Rattle.walrus_body_trees.specs.Laws.{IsBody, ops_of}
 use Rattle.walrus_handler_laws.specs.Handlers.{told_by, tree_ids}
 use Rattle.walrus_body_walks.specs.Answers.{AllAre, IsAnswer, block_items, without_handlers}

@@ -96,7 +96,7 @@ module _ (seen : FilesAreSeen) (e : ModuleEnv) (function : ℕ) (i : Ids) (s : S
   later j = ap (λ (x : Sight). seen_by x j) aside
 
   pub aside_read : {V : Type 0} {told : Telling V} {entry : InstrSeqType} {ls ms : List Local} {v w : V} (j : Ids) (b : List Seq) → Parses s told params code old entry ls ms j v w b → IsBodyAside e function params old i j ls ms b
-  aside_read j b p a filed = record {
+  aside_read {ls = ls} {ms = ms} j b p a filed = record {
     sight = seen_by s j;
     aside = later j;
     place = place_at code p.mid;

@@ -12,6 +12,7 @@ use Rattle.walrus_module.specs.walrus_local_function.walrus_body_locals.wasm_bod
 use Rattle.walrus_file_bodies.specs.walrus_items_into.wasm_sections.Laws.{ReadsSections}
 use Rattle.wasm_name_payloads.specs.Names.{names_of}
 use Rattle.wasm_name_payloads.specs.Producers.{processed, producers_of}
+use Rattle.walrus_arena.specs.Arena.{Arena}
 use Rattle.walrus_config.specs.Config.{feature_names}
 use Rattle.walrus_config.specs.declared.config.ModuleConfig.{ModuleConfig}
 use Rattle.walrus_customs.specs.Producers.{fields_of}
@@ -20,12 +21,15 @@ use Rattle.walrus_errors.specs.declared.error.ModuleError.{ModuleError}
 use Rattle.walrus_module.specs.walrus_body_writer.walrus_pairing.walrus_index_maps.Maps.{Ids}
 use Rattle.walrus_module.specs.walrus_body_writer.walrus_pairing.walrus_index_maps.Views.{ids}
 use Rattle.walrus_module.specs.walrus_body_writer.walrus_pairing.walrus_index_maps.declared.indices_to_ids.IndicesToIds.{IndicesToIds}
+use Rattle.walrus_module.specs.walrus_builder.walrus_walks.walrus_instr.declared.seq.InstrLocId.{InstrLocId}
 use Rattle.walrus_item_names.specs.Gives.{GivesNames}
 use Rattle.walrus_item_names.specs.Holder.{Holder, holder}
 use Rattle.walrus_module.specs.walrus_types.walrus_items.declared.local.Local.{Local}
 use Rattle.walrus_file_bodies.specs.walrus_items_into.Filled.{IsFilledFrom}
 use Rattle.walrus_file_bodies.specs.walrus_items_into.Spaces.{Spaces, spaces}
+use Rattle.walrus_locations.specs.Sent.{FunctionsSent}
 use Rattle.walrus_module.specs.declared.module.Module.{Module as Whole}
+use Rattle.walrus_module.specs.walrus_module_items.declared.function.Function.{Function}
 use Rattle.walrus_file_bodies.specs.walrus_items_into.walrus_tables_into.walrus_sections_into.walrus_known_sections.State.{state_of}
 use Rattle.walrus_file_bodies.specs.walrus_items_into.walrus_tables_into.walrus_sections_into.walrus_known_sections.declared.sections.Sections.{Sections}
 use Rattle.walrus_file_bodies.specs.walrus_module_bodies.Steps.{State, Steps, state}
@@ -108,9 +112,13 @@ module _ {B : Type 0} where
       pub met : g.post f (shown, (given, tt)) (answer, (after, tt))
       pub leaves : after.now ≡ m
 
-    -- so it may for the module that is read from these bytes
+  module _ {G : Type 0} (step : G → ℕ → InstrLocId → G → Type 0) (places : G) {F : Type 0} (g : Once F (MutBor (Whole B) × (Bor IndicesToIds × Unit {0})) (Result (Unit {0}) ModuleError × (MutBor (Whole B) × Unit {0}))) (f : F) where
+    -- the locations of the module that is read from these bytes are sent through the one; then the other may answer and leave so
     pub record HandsOn (config : ModuleConfig) (bytes : List ℕ) (answer : Result (Unit {0}) ModuleError) (m : Whole B) : Type 0 where
       pub read : Whole B
       pub found : IndicesToIds
       pub is_read : IsReadAs config bytes read (ids found)
-      pub left : Leaves read found answer m
+      pub last : G
+      pub functions : Arena Function
+      pub sent : FunctionsSent step places read.funcs last functions
+      pub left : Leaves g f (record read { funcs = functions }) found answer m

@@ -3,6 +3,7 @@
 ghost use Rattle.std.specs.Prelude.{ℕ, ◌⊎◌, List, Err, IfErr, IfOk, Ok};
 ghost use Rattle.walrus_config.specs.Config.{default_config};
 ghost use Rattle.walrus_config.specs.declared.config.ModuleConfig.{ModuleConfig as Flags};
+ghost use Rattle.walrus_locations.specs.Sent.{AnswersLocations};
 ghost use Rattle.walrus_module.specs.declared.module.Module.{Module as Whole};
 ghost use Rattle.walrus_parse.specs.Parsed.{HandsOn, IsRead, read_features};
 ghost use Rattle.walrus_parse.specs.Refusals.{IsRefusal};
@@ -11,7 +12,9 @@ use crate::whole::parse_into;
 use std::alloc::Global;
 use walrus_config::ModuleConfig;
 use walrus_errors::Result;
+use walrus_file_bodies::items_into::module_env::body_env::instr::InstrLocId;
 use walrus_file_bodies::items_into::tables_into::sections_into::index_maps::IndicesToIds;
+use walrus_locations::send_locations;
 use walrus_module::Module;
 
 /// Reading with flags.
@@ -30,20 +33,25 @@ pub trait Parse {
         ensures read { IfOk result (λ m. IsRead (flags self.now) wasm.now m) }
         ensures refused { IfErr result (λ error. IsRefusal (read_features (flags self.now)) wasm.now error) };
 
-    /// The same module, once `on_parse` has had it, with the ids that its indices have in the file.
+    /// The same module, once `on_instr_loc` has said what stands in the place of each location in it, and `on_parse` has then had it, with
+    /// the ids that its indices have in the file. A location is that of an instruction, or of the end of a sequence; `on_instr_loc` is
+    /// called with its number, for one function after another, in each for one sequence after another, in each for one instruction after
+    /// another and then for the end. Where there is no location, it isn't called.
+    ///
+    /// Asks that `on_instr_loc` may be called, in whatever state it is, with each number of a location, and `on_parse` with anything.
     ///
     /// # Errors
     ///
     /// Those of [`Parse::parse`], or else what `on_parse` refuses.
-    fn parse_with<B: Drop, F: FnOnce(&mut Module<B>, &IndicesToIds) -> Result<()> + Drop>(
-        &self,
-        alloc: Global,
-        wasm: &[u8],
-        on_parse: F,
-    ) -> Result<Module<B>>
+    fn parse_with<
+        B: Drop,
+        G: FnMut(u32) -> InstrLocId + Drop,
+        F: FnOnce(&mut Module<B>, &IndicesToIds) -> Result<()> + Drop,
+    >(&self, alloc: Global, wasm: &[u8], on_instr_loc: G, on_parse: F) -> Result<Module<B>>
+        requires sends { AnswersLocations G.pre }
         requires callable { F.IsAlwaysCallable on_parse }
-        ensures read { IfOk result (λ m. HandsOn F.FnOnce on_parse (flags self.now) wasm.now (Ok tt) m) }
-        ensures refused { IfErr result (λ error. IsRefusal (read_features (flags self.now)) wasm.now error ⊎ ((m : Whole B) × HandsOn F.FnOnce on_parse (flags self.now) wasm.now (Err error) m)) };
+        ensures read { IfOk result (λ m. HandsOn G.step on_instr_loc F.FnOnce on_parse (flags self.now) wasm.now (Ok tt) m) }
+        ensures refused { IfErr result (λ error. IsRefusal (read_features (flags self.now)) wasm.now error ⊎ ((m : Whole B) × HandsOn G.step on_instr_loc F.FnOnce on_parse (flags self.now) wasm.now (Err error) m)) };
 }
 
 impl Parse for ModuleConfig {
@@ -55,14 +63,15 @@ impl Parse for ModuleConfig {
         Ok(module)
     }
 
-    fn parse_with<B: Drop, F: FnOnce(&mut Module<B>, &IndicesToIds) -> Result<()> + Drop>(
-        &self,
-        alloc: Global,
-        wasm: &[u8],
-        on_parse: F,
-    ) -> Result<Module<B>> {
+    fn parse_with<
+        B: Drop,
+        G: FnMut(u32) -> InstrLocId + Drop,
+        F: FnOnce(&mut Module<B>, &IndicesToIds) -> Result<()> + Drop,
+    >(&self, alloc: Global, wasm: &[u8], on_instr_loc: G, on_parse: F) -> Result<Module<B>> {
         let mut module = Module::with_config(alloc, *self);
         let found = parse_into(alloc, wasm, &mut module)?;
+        let mut sends = on_instr_loc;
+        send_locations(&mut sends, &mut module.funcs)?;
         match on_parse(&mut module, &found) {
             Ok(()) => Ok(module),
             Err(error) => Err(error),

@@ -7,6 +7,7 @@ use walrus_config::ModuleConfig;
 use walrus_counts::count;
 use walrus_errors::{ModuleError, Result};
 use walrus_index_maps::IndicesToIds;
+use walrus_instr::InstrLocId;
 use walrus_module::Module;
 use walrus_parse::Parse;
 
@@ -29,6 +30,7 @@ fn sees(alloc: Global, bytes: &[u8], functions: u32) -> bool {
     let read: Result<Module<()>> = ModuleConfig::new().parse_with(
         alloc,
         bytes,
+        InstrLocId::new,
         |module: &mut Module<()>, indices: &IndicesToIds| check(alloc, module, indices, functions),
     );
     read.is_ok()
@@ -49,6 +51,7 @@ fn refusal(alloc: Global, bytes: &[u8]) -> Option<ModuleError> {
     let read: Result<Module<()>> = ModuleConfig::new().parse_with(
         alloc,
         bytes,
+        InstrLocId::new,
         |_module: &mut Module<()>, _indices: &IndicesToIds| Err(ModuleError::NoTree),
     );
     match read {
@@ -76,6 +79,7 @@ fn is_changed(alloc: Global, bytes: &[u8], index: u32) -> bool {
     let read: Result<Module<()>> = ModuleConfig::new().parse_with(
         alloc,
         bytes,
+        InstrLocId::new,
         |module: &mut Module<()>, indices: &IndicesToIds| {
             module.start = indices.get_func(index).ok();
             Ok(())

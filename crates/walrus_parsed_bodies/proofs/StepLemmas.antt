@@ -2,33 +2,33 @@
 use Rattle.std.specs.Prelude.{ℕ, ◌≡◌, ◌⊎◌, ◌<◌, ◌≤◌, ◌+◌, List, [], ◌∷◌, All, length, map, Option, Some, None, slice_index_or, slice_set, refl}
 use Rattle.std.specs.Option.{option_and_then}
 use Rattle.std.proofs.Common.{ap, sym, ◌∙◌, subst, inl, inr}
-use Rattle.wasm_body_grammar.specs.Bodies.{Parts, body, body_of}
-use Rattle.wasm_body_grammar.specs.Rules.{Around}
-use Rattle.wasm_run_names.specs.Picks.{block_pick}
-use Rattle.wasm_features.specs.declared.WasmFeatures.{WasmFeatures}
-use Rattle.wasm_formats.specs.Formats.{Small}
-use Rattle.wasm_normal_form.specs.Trees.{tree_of}
-use Rattle.wasm_sections.specs.Within.{ChunksFit}
+use Rattle.walrus_linked.specs.walrus_local_function.walrus_body_locals.wasm_body_grammar.Bodies.{Parts, body, body_of}
+use Rattle.walrus_linked.specs.walrus_local_function.walrus_body_locals.wasm_body_grammar.Rules.{Around}
+use Rattle.walrus_file_bodies.specs.walrus_items_into.walrus_module_env.wasm_run_names.Picks.{block_pick}
+use Rattle.walrus_linked.specs.walrus_body_writer.walrus_pairing.wasm_immediates.wasm_features.declared.WasmFeatures.{WasmFeatures}
+use Rattle.walrus_linked.specs.walrus_local_function.walrus_body_locals.walrus_body_nesting.wasm_formats.Formats.{Small}
+use Rattle.walrus_linked.specs.walrus_local_function.walrus_body_locals.wasm_normal_form.Trees.{tree_of}
+use Rattle.walrus_file_bodies.specs.walrus_items_into.wasm_sections.Within.{ChunksFit}
 use Rattle.walrus_arena.specs.Arena.{Arena, item_at}
-use Rattle.walrus_body_locals.specs.Locals.{ids_from}
+use Rattle.walrus_linked.specs.walrus_local_function.walrus_body_locals.Locals.{ids_from}
 use Rattle.walrus_body_trees.specs.Laws.{BodiesAreTrees, ops_of}
-use Rattle.walrus_builder.specs.Functions.{seqs_of}
+use Rattle.walrus_parse.specs.walrus_module.walrus_builder.Functions.{seqs_of}
 use Rattle.walrus_file_bodies.specs.Read.{AreCounted, Waits, env_is, env_of, ids_length, step_is_read, step_on}
-use Rattle.walrus_forms.specs.declared.value.ValType.{ValType}
+use Rattle.walrus_parse.specs.walrus_module.walrus_types.walrus_forms.declared.value.ValType.{ValType}
 use Rattle.walrus_function_types.specs.FunctionTypes.{form_params, params_at}
 use Rattle.walrus_function_types.specs.Growth.{EntryTypesGrow, FoundTypesStay, Grows, TablesGrowOn}
-use Rattle.walrus_functions_into.specs.declared.bodies.FunctionBody.{FunctionBody}
-use Rattle.walrus_known_sections.specs.Items.{chunk_of}
-use Rattle.walrus_local_function.specs.declared.local_function.LocalFunction.{LocalFunction}
-use Rattle.walrus_module_bodies.specs.Steps.{IsStep, State, Steps}
-use Rattle.walrus_module_bodies.specs.declared.file.FileEnv.{FileEnv}
-use Rattle.walrus_module_env.specs.Around.{IsFiled, sight_in}
-use Rattle.walrus_module_env.specs.Parsed.{PicksAreSeen}
-use Rattle.walrus_module_items.specs.declared.function.Function.{Function}
-use Rattle.walrus_module_items.specs.declared.function.FunctionKind.TheVariants as kinds
-use Rattle.walrus_tree.specs.Trees.{AreDistinct, IsTree}
-use Rattle.walrus_types.specs.Items.{Item}
-use Rattle.walrus_types.specs.Table.{Table, type_at}
+use Rattle.walrus_file_bodies.specs.walrus_items_into.walrus_functions_into.declared.bodies.FunctionBody.{FunctionBody}
+use Rattle.walrus_file_bodies.specs.walrus_items_into.walrus_tables_into.walrus_sections_into.walrus_known_sections.Items.{chunk_of}
+use Rattle.walrus_linked.specs.walrus_local_function.declared.local_function.LocalFunction.{LocalFunction}
+use Rattle.walrus_file_bodies.specs.walrus_module_bodies.Steps.{IsStep, State, Steps}
+use Rattle.walrus_file_bodies.specs.walrus_module_bodies.declared.file.FileEnv.{FileEnv}
+use Rattle.walrus_file_bodies.specs.walrus_items_into.walrus_module_env.Around.{IsFiled, sight_in}
+use Rattle.walrus_file_bodies.specs.walrus_items_into.walrus_module_env.Parsed.{PicksAreSeen}
+use Rattle.walrus_linked.specs.walrus_module_items.declared.function.Function.{Function}
+use Rattle.walrus_linked.specs.walrus_module_items.declared.function.FunctionKind.TheVariants as kinds
+use Rattle.walrus_linked.specs.walrus_tree.Trees.{AreDistinct, IsTree}
+use Rattle.walrus_parse.specs.walrus_module.walrus_types.Items.{Item}
+use Rattle.walrus_parse.specs.walrus_module.walrus_types.Table.{Table, type_at}
 use Rattle.walrus_parsed_bodies.proofs.PickLemmas.{stands_as_written}
 use Rattle.walrus_parsed_bodies.proofs.SlotLemmas.{NoneOf, ids_distinct, set_cases}
 

@@ -2,9 +2,9 @@
 use Rattle.std.specs.Prelude.{ℕ, zero, suc, ◌≡◌, ◌⊎◌, ◌<◌, ◌+◌, Bool, true, List, [], ◌∷◌, All, IfSome, length, map, Option, Some, None, slice_index_or, refl}
 use Rattle.std.specs.Option.{option_and_then, option_map}
 use Rattle.std.proofs.Common.{ap, sym, ◌∙◌, subst, arith, inl, inr}
-use Rattle.wasm_features.specs.declared.WasmFeatures.{WasmFeatures}
-use Rattle.wasm_modules.specs.Modules.{around}
-use Rattle.wasm_sections.specs.Within.{ChunksFit, bodies_inside}
+use Rattle.walrus_linked.specs.walrus_body_writer.walrus_pairing.wasm_immediates.wasm_features.declared.WasmFeatures.{WasmFeatures}
+use Rattle.walrus_file_bodies.specs.walrus_items_into.wasm_module_rules.wasm_modules.Modules.{around}
+use Rattle.walrus_file_bodies.specs.walrus_items_into.wasm_sections.Within.{ChunksFit, bodies_inside}
 use Rattle.walrus_arena.specs.Arena.{Arena, item_at}
 use Rattle.walrus_body_trees.specs.Laws.{BodiesAreTrees}
 use Rattle.walrus_config.specs.declared.config.ModuleConfig.{ModuleConfig}
@@ -12,32 +12,32 @@ use Rattle.walrus_file_bodies.proofs.PairLemmas.{are_apart, chunks_fit}
 use Rattle.walrus_file_bodies.proofs.StopLemmas.{bodies_wait, chunks_fit_in, count_in}
 use Rattle.walrus_file_bodies.specs.Read.{steps_grow}
 use Rattle.walrus_file_bodies.specs.Ready.{bodies_in}
-use Rattle.walrus_forms.specs.Forms.{Form, FunctionForm, StructForm, ArrayForm, params_of}
-use Rattle.walrus_forms.specs.declared.value.ValType.{ValType}
+use Rattle.walrus_parse.specs.walrus_module.walrus_types.walrus_forms.Forms.{Form, FunctionForm, StructForm, ArrayForm, params_of}
+use Rattle.walrus_parse.specs.walrus_module.walrus_types.walrus_forms.declared.value.ValType.{ValType}
 use Rattle.walrus_function_types.specs.FunctionTypes.{form_params, params_at}
 use Rattle.walrus_function_types.specs.Growth.{EntryTypesGrow, FoundTypesStay, TablesGrowOn}
-use Rattle.walrus_functions_into.specs.Bodies.{bodiless, bodiless_from, is_bodiless, wants_body}
-use Rattle.walrus_functions_into.specs.Functions.{functions_from, kind_of}
-use Rattle.walrus_functions_into.specs.Laws.{read_bodies}
-use Rattle.walrus_functions_into.specs.declared.bodies.FunctionBody.{FunctionBody}
-use Rattle.walrus_index_maps.specs.Maps.{Ids}
-use Rattle.walrus_item_names.specs.Holder.{Holder}
-use Rattle.walrus_item_names.specs.Names.{bare_function, bare_type}
-use Rattle.walrus_items_into.specs.Laws.{FilledFunctionsStand, FilledModulesAreFiled}
-use Rattle.walrus_known_sections.specs.State.{state_of}
+use Rattle.walrus_file_bodies.specs.walrus_items_into.walrus_functions_into.Bodies.{bodiless, bodiless_from, is_bodiless, wants_body}
+use Rattle.walrus_file_bodies.specs.walrus_items_into.walrus_functions_into.Functions.{functions_from, kind_of}
+use Rattle.walrus_file_bodies.specs.walrus_items_into.walrus_functions_into.Laws.{read_bodies}
+use Rattle.walrus_file_bodies.specs.walrus_items_into.walrus_functions_into.declared.bodies.FunctionBody.{FunctionBody}
+use Rattle.walrus_linked.specs.walrus_body_writer.walrus_pairing.walrus_index_maps.Maps.{Ids}
+use Rattle.walrus_parse.specs.walrus_item_names.Holder.{Holder}
+use Rattle.walrus_parse.specs.walrus_item_names.Names.{bare_function, bare_type}
+use Rattle.walrus_file_bodies.specs.walrus_items_into.Laws.{FilledFunctionsStand, FilledModulesAreFiled}
+use Rattle.walrus_file_bodies.specs.walrus_items_into.walrus_tables_into.walrus_sections_into.walrus_known_sections.State.{state_of}
 use Rattle.walrus_linked.specs.Linked.{HasArguments, IsWhole}
-use Rattle.walrus_local_function.specs.declared.local_function.LocalFunction.{LocalFunction}
-use Rattle.walrus_module.specs.Parts.{Module, parts}
-use Rattle.walrus_module.specs.declared.module.Module.{Module as Whole}
-use Rattle.walrus_module_bodies.specs.Steps.{state}
-use Rattle.walrus_module_env.specs.Parsed.{PicksAreSeen}
-use Rattle.walrus_module_items.specs.declared.function.Function.{Function}
-use Rattle.walrus_module_items.specs.declared.function.FunctionKind.{FunctionKind}
-use Rattle.walrus_module_items.specs.declared.function.FunctionKind.TheVariants as kinds
+use Rattle.walrus_linked.specs.walrus_local_function.declared.local_function.LocalFunction.{LocalFunction}
+use Rattle.walrus_parse.specs.walrus_module.Parts.{Module, parts}
+use Rattle.walrus_parse.specs.walrus_module.declared.module.Module.{Module as Whole}
+use Rattle.walrus_file_bodies.specs.walrus_module_bodies.Steps.{state}
+use Rattle.walrus_file_bodies.specs.walrus_items_into.walrus_module_env.Parsed.{PicksAreSeen}
+use Rattle.walrus_linked.specs.walrus_module_items.declared.function.Function.{Function}
+use Rattle.walrus_linked.specs.walrus_module_items.declared.function.FunctionKind.{FunctionKind}
+use Rattle.walrus_linked.specs.walrus_module_items.declared.function.FunctionKind.TheVariants as kinds
 use Rattle.walrus_parse.specs.Parsed.{IsReadAs, read_features}
-use Rattle.walrus_tree.specs.Trees.{Has}
-use Rattle.walrus_types.specs.Items.{Item}
-use Rattle.walrus_types.specs.Table.{Table, type_at}
+use Rattle.walrus_linked.specs.walrus_tree.Trees.{Has}
+use Rattle.walrus_parse.specs.walrus_module.walrus_types.Items.{Item}
+use Rattle.walrus_parse.specs.walrus_module.walrus_types.Table.{Table, type_at}
 use Rattle.walrus_parsed_bodies.specs.Whole.{ReadFunctionsAreWhole}
 use Rattle.walrus_parsed_bodies.proofs.SlotLemmas.{NoneOf, none_has, read_kind, wanted}
 use Rattle.walrus_parsed_bodies.proofs.StepLemmas.{IsGood, step_good, steps_have}

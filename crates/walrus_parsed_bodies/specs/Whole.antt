@@ -2,11 +2,11 @@
 use Rattle.std.specs.Prelude.{ℕ, ◌≡◌, ◌<◌, List, All, Some}
 use Rattle.walrus_arena.specs.Arena.{item_at}
 use Rattle.walrus_config.specs.declared.config.ModuleConfig.{ModuleConfig}
-use Rattle.walrus_index_maps.specs.Maps.{Ids}
+use Rattle.walrus_linked.specs.walrus_body_writer.walrus_pairing.walrus_index_maps.Maps.{Ids}
 use Rattle.walrus_linked.specs.Linked.{IsWhole}
-use Rattle.walrus_module.specs.Parts.{Module, parts}
-use Rattle.walrus_module.specs.declared.module.Module.{Module as Whole}
-use Rattle.walrus_module_items.specs.declared.function.Function.{Function}
+use Rattle.walrus_parse.specs.walrus_module.Parts.{Module, parts}
+use Rattle.walrus_parse.specs.walrus_module.declared.module.Module.{Module as Whole}
+use Rattle.walrus_linked.specs.walrus_module_items.declared.function.Function.{Function}
 use Rattle.walrus_parse.specs.Parsed.{IsReadAs}
 
 -- each function is imported, or has a body of its arguments whose sequences form a tree

@@ -2,3 +2,6 @@
 #![tactic(auto)]
 
 pub mod laws;
+
+// Passed on to crates above, which then list this one alone.
+pub use walrus_parse as parse;

@@ -3,7 +3,7 @@ use Rattle.std.specs.Prelude.{◌≡◌, List, [], ◌∷◌, map, Option, Some,
 use Rattle.std.specs.Option.{option_map}
 use Rattle.std.proofs.Common.{ap, sym, ◌∙◌}
 use Rattle.walrus_arena.specs.Arena.{Arena}
-use Rattle.walrus_item_names.specs.Called.{bare_items}
+use Rattle.walrus_parse.specs.walrus_item_names.Called.{bare_items}
 use Rattle.walrus_meaning.specs.Meaning.{slots_of}
 
 -- of each item the same is seen without its name

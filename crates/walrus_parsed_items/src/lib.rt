@@ -2,3 +2,7 @@
 #![tactic(auto)]
 
 pub mod laws;
+
+// Passed on to crates above, which then list this one alone.
+pub use walrus_into_laws as into_laws;
+pub use walrus_parse as parse;

@@ -5,17 +5,17 @@ use Rattle.std.proofs.Common.{ap, sym, ◌∙◌, subst, arith, inl, inr}
 use Rattle.std.proofs.lemmas.List.{length-map}
 use Rattle.std.proofs.lemmas.List.Concat.{flat_map-append}
 use Rattle.std.proofs.lemmas.Option.{get_or_from_slice_get, slice_get_within}
-use Rattle.wasm_body_grammar.specs.Rules.{Around, space_of}
-use Rattle.wasm_formats.specs.declared.fault.Space.{Space}
-use Rattle.wasm_formats.specs.declared.fault.Space.TheVariants as spaces
-use Rattle.wasm_grammar.specs.States.{types_of}
-use Rattle.wasm_immediates.specs.Items.{Space as Numbered, Types, Functions, Tables, Memories, Tags, Globals, ElementSegments, DataSegments, Locals, Labels}
-use Rattle.wasm_modules.specs.Modules.{around}
-use Rattle.wasm_sections.specs.Within.{bodies_inside}
+use Rattle.walrus_handler_types.specs.walrus_body_steps.wasm_body_grammar.Rules.{Around, space_of}
+use Rattle.walrus_handler_types.specs.walrus_body_steps.walrus_body_nesting.wasm_formats.declared.fault.Space.{Space}
+use Rattle.walrus_handler_types.specs.walrus_body_steps.walrus_body_nesting.wasm_formats.declared.fault.Space.TheVariants as spaces
+use Rattle.walrus_handler_types.specs.walrus_body_steps.wasm_grammar.States.{types_of}
+use Rattle.walrus_linked.specs.walrus_body_writer.walrus_pairing.wasm_immediates.Items.{Space as Numbered, Types, Functions, Tables, Memories, Tags, Globals, ElementSegments, DataSegments, Locals, Labels}
+use Rattle.walrus_file_bodies.specs.walrus_items_into.wasm_module_rules.wasm_modules.Modules.{around}
+use Rattle.walrus_file_bodies.specs.walrus_items_into.wasm_sections.Within.{bodies_inside}
 use Rattle.walrus_arena.specs.Arena.{item_at}
 use Rattle.walrus_body_walks.specs.Answers.{AllAre}
 use Rattle.walrus_body_walks.specs.Laws.{HandlersHaveAnswers, WalksNameAnswers}
-use Rattle.walrus_builder.specs.Functions.{seqs_of}
+use Rattle.walrus_linked.specs.walrus_module.walrus_builder.Functions.{seqs_of}
 use Rattle.walrus_file_bodies.proofs.PairLemmas.{are_apart, chunks_fit}
 use Rattle.walrus_file_bodies.proofs.StopLemmas.{bodies_wait, chunks_fit_in, count_in}
 use Rattle.walrus_file_bodies.specs.Laws.{BodiesReadFiles}
@@ -25,38 +25,38 @@ use Rattle.walrus_forms.specs.Kinds.{Kind, kind_names}
 use Rattle.walrus_forms.specs.Renaming.{KindBelow, at, renamed_kind}
 use Rattle.walrus_forms.proofs.RenamingLemmas.{In, kinds-below, kinds-names}
 use Rattle.walrus_function_types.specs.Growth.{EntryTypesGrow, FoundTypesStay, TablesGrowOn}
-use Rattle.walrus_functions_into.specs.Functions.{functions_from, kind_of}
-use Rattle.walrus_functions_into.specs.Laws.{read_bodies}
-use Rattle.walrus_functions_into.specs.declared.bodies.FunctionBody.{FunctionBody}
-use Rattle.walrus_index_maps.specs.Maps.{Ids}
-use Rattle.walrus_item_names.specs.Holder.{Holder}
-use Rattle.walrus_item_names.specs.Names.{bare_function, bare_local, bare_type}
-use Rattle.walrus_items.specs.declared.local.Local.{Local}
-use Rattle.walrus_items_into.specs.Laws.{FilledFunctionsStand, FilledModulesAreFiled}
-use Rattle.walrus_known_sections.specs.State.{state_of}
+use Rattle.walrus_file_bodies.specs.walrus_items_into.walrus_functions_into.Functions.{functions_from, kind_of}
+use Rattle.walrus_file_bodies.specs.walrus_items_into.walrus_functions_into.Laws.{read_bodies}
+use Rattle.walrus_file_bodies.specs.walrus_items_into.walrus_functions_into.declared.bodies.FunctionBody.{FunctionBody}
+use Rattle.walrus_linked.specs.walrus_body_writer.walrus_pairing.walrus_index_maps.Maps.{Ids}
+use Rattle.walrus_parsed_bodies.specs.walrus_parse.walrus_item_names.Holder.{Holder}
+use Rattle.walrus_parsed_bodies.specs.walrus_parse.walrus_item_names.Names.{bare_function, bare_local, bare_type}
+use Rattle.walrus_types.specs.walrus_items.declared.local.Local.{Local}
+use Rattle.walrus_file_bodies.specs.walrus_items_into.Laws.{FilledFunctionsStand, FilledModulesAreFiled}
+use Rattle.walrus_file_bodies.specs.walrus_items_into.walrus_tables_into.walrus_sections_into.walrus_known_sections.State.{state_of}
 use Rattle.walrus_linked.specs.Names.{body_events, body_names, function_names, local_names, named_by, names, names_in, type_names, used_types}
-use Rattle.walrus_local_function.specs.declared.local_function.LocalFunction.{LocalFunction}
+use Rattle.walrus_linked.specs.walrus_local_function.declared.local_function.LocalFunction.{LocalFunction}
 use Rattle.walrus_marks.specs.Named.{event_items, items_of}
 use Rattle.walrus_marks.specs.walrus_walks.Events.{Event, NamesLocal, StartOf, EndOf, Visits, NamesSeq, NamesMemory, NamesTable, NamesGlobal, NamesFunction, NamesData, NamesType, NamesElement, NamesTag, Holds, events_of}
 use Rattle.walrus_marks.specs.walrus_walks.Walk.{body_walk}
-use Rattle.walrus_module.specs.Items.{Lives, LivesIn}
-use Rattle.walrus_module.specs.Parts.{Module, parts}
-use Rattle.walrus_module_bodies.specs.Steps.{State, state}
-use Rattle.walrus_module_env.specs.Filled.{AreFiled}
-use Rattle.walrus_module_items.specs.declared.function.Function.{Function}
-use Rattle.walrus_module_items.specs.declared.function.FunctionKind.{FunctionKind}
-use Rattle.walrus_module_items.specs.declared.function.FunctionKind.TheVariants as kinds
-use Rattle.walrus_pairing.specs.Looks.{id_of}
-use Rattle.walrus_parse.specs.Parsed.{read_features}
-use Rattle.walrus_roots.specs.Items.{item}
-use Rattle.walrus_roots.specs.declared.item.Item.{Item}
+use Rattle.walrus_linked.specs.walrus_module.Items.{Lives, LivesIn}
+use Rattle.walrus_linked.specs.walrus_module.Parts.{Module, parts}
+use Rattle.walrus_file_bodies.specs.walrus_module_bodies.Steps.{State, state}
+use Rattle.walrus_file_bodies.specs.walrus_items_into.walrus_module_env.Filled.{AreFiled}
+use Rattle.walrus_linked.specs.walrus_module_items.declared.function.Function.{Function}
+use Rattle.walrus_linked.specs.walrus_module_items.declared.function.FunctionKind.{FunctionKind}
+use Rattle.walrus_linked.specs.walrus_module_items.declared.function.FunctionKind.TheVariants as kinds
+use Rattle.walrus_linked.specs.walrus_body_writer.walrus_pairing.Looks.{id_of}
+use Rattle.walrus_parsed_bodies.specs.walrus_parse.Parsed.{read_features}
+use Rattle.walrus_file_bodies.specs.walrus_items_into.walrus_tables_into.walrus_sections.walrus_roots.Items.{item}
+use Rattle.walrus_file_bodies.specs.walrus_items_into.walrus_tables_into.walrus_sections.walrus_roots.declared.item.Item.{Item}
 use Rattle.walrus_types.specs.Items.{Item as TypeItem}
 use Rattle.walrus_types.specs.Table.{Table, next_id, type_at}
 use Rattle.walrus_parsed_bodies.proofs.SlotLemmas.{read_kind}
 use Rattle.walrus_parsed_bodies.proofs.StepLemmas.{HasBody, steps_have}
 use Rattle.walrus_parsed_bodies.proofs.WholeLemmas.{bare_same, kind_at}
 use Rattle.walrus_parsed_bodies.specs.Whole.{ReadFunctionsAreWhole}
-use Rattle.walrus_parsed_links.specs.Links.{ReadModulesHaveLinks}
+use Rattle.walrus_parsed_names.specs.walrus_parsed_links.Links.{ReadModulesHaveLinks}
 use Rattle.walrus_parsed_names.proofs.ListLemmas.{AllOf, all_contains, get_some, items_join, some_is}
 use Rattle.walrus_parsed_names.proofs.TypeLemmas.{there_too}
 use Rattle.walrus_parsed_names.specs.Named.{HasNoBodies, NamesOfReadItemsLive}

@@ -3,13 +3,13 @@ use Rattle.std.specs.Prelude.{ℕ, zero, suc, ◌≡◌, ◌≢◌, ◌⊎◌, �
 use Rattle.std.proofs.Common.{ap, sym, ◌∙◌, subst, arith, inl, inr}
 use Rattle.std.proofs.lemmas.List.{length-append}
 use Rattle.std.proofs.lemmas.List.Concat.{flat_map-append}
-use Rattle.walrus_body_locals.specs.Locals.{Adds, ids_from, locals_from, with_more}
+use Rattle.walrus_linked.specs.walrus_local_function.walrus_body_locals.Locals.{Adds, ids_from, locals_from, with_more}
 use Rattle.walrus_forms.specs.declared.value.ValType.{ValType}
-use Rattle.walrus_index_maps.specs.Maps.{Ids}
-use Rattle.walrus_items.specs.declared.local.Local.{Local}
+use Rattle.walrus_linked.specs.walrus_body_writer.walrus_pairing.walrus_index_maps.Maps.{Ids}
+use Rattle.walrus_types.specs.walrus_items.declared.local.Local.{Local}
 use Rattle.walrus_marks.specs.Named.{event_items, items_of}
 use Rattle.walrus_marks.specs.walrus_walks.Events.{Event, events_of, val_names}
-use Rattle.walrus_roots.specs.declared.item.Item.{Item}
+use Rattle.walrus_file_bodies.specs.walrus_items_into.walrus_tables_into.walrus_sections.walrus_roots.declared.item.Item.{Item}
 use Rattle.walrus_parsed_names.proofs.ListLemmas.{AllOf, all_join}
 use Rattle.walrus_parsed_linked.proofs.ValueLemmas.{GoodValues}
 

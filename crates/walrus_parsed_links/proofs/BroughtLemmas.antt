@@ -2,30 +2,30 @@
 use Rattle.std.specs.Prelude.{ℕ, ◌≡◌, List, [], ◌∷◌, map, Option, Some, None, slice_index_or, refl}
 use Rattle.std.specs.Option.{option_and_then, option_map}
 use Rattle.std.proofs.Common.{ap, sym, ◌∙◌}
-use Rattle.wasm_formats.specs.declared.fault.Space.{Space}
-use Rattle.wasm_formats.specs.declared.fault.Space.TheVariants as spaces
-use Rattle.wasm_grammar.specs.Modules as grammar
+use Rattle.walrus_meaning.specs.walrus_local_function.walrus_body_locals.walrus_body_nesting.wasm_formats.declared.fault.Space.{Space}
+use Rattle.walrus_meaning.specs.walrus_local_function.walrus_body_locals.walrus_body_nesting.wasm_formats.declared.fault.Space.TheVariants as spaces
+use Rattle.walrus_meaning.specs.walrus_local_function.walrus_body_locals.wasm_grammar.Modules as grammar
 use Rattle.wasm_import_links.specs.Links as file
 use Rattle.walrus_arena.specs.Arena.{item_at}
-use Rattle.walrus_into_laws.specs.Renamed.{retyped_global, retyped_origin, retyped_table, retyped_tag}
-use Rattle.walrus_items.specs.declared.local.Local.{Local}
-use Rattle.walrus_linked.specs.Linked.{function_import, global_import, import_of, tag_import}
+use Rattle.walrus_parsed_items.specs.walrus_into_laws.Renamed.{retyped_global, retyped_origin, retyped_table, retyped_tag}
+use Rattle.walrus_meaning.specs.walrus_body_writer.walrus_pairing.walrus_items.declared.local.Local.{Local}
+use Rattle.walrus_meaning.specs.walrus_linked.Linked.{function_import, global_import, import_of, tag_import}
 use Rattle.walrus_meaning.specs.Meaning.{means, own_brought, own_function, own_global, own_memory, own_origin, own_table, own_tag, own_value_of}
-use Rattle.walrus_module.specs.Items.{brought}
-use Rattle.walrus_module.specs.Parts.{Module}
-use Rattle.walrus_module_items.specs.declared.function.Function.{Function}
-use Rattle.walrus_module_items.specs.declared.function.FunctionKind.{FunctionKind}
-use Rattle.walrus_module_items.specs.declared.function.FunctionKind.TheVariants as functions
-use Rattle.walrus_module_items.specs.declared.global.Global.{Global}
-use Rattle.walrus_module_items.specs.declared.global.GlobalKind.{GlobalKind}
-use Rattle.walrus_module_items.specs.declared.global.GlobalKind.TheVariants as globals
-use Rattle.walrus_module_items.specs.declared.import.ImportKind.{ImportKind}
-use Rattle.walrus_module_items.specs.declared.import.ImportKind.TheVariants as kinds
-use Rattle.walrus_module_items.specs.declared.memory.Memory.{Memory}
-use Rattle.walrus_module_items.specs.declared.table.Table.{Table}
-use Rattle.walrus_module_items.specs.declared.tag.Tag.{Tag}
-use Rattle.walrus_roots.specs.Items.{item}
-use Rattle.walrus_roots.specs.declared.item.Item.{Item}
+use Rattle.walrus_meaning.specs.walrus_module.Items.{brought}
+use Rattle.walrus_meaning.specs.walrus_module.Parts.{Module}
+use Rattle.walrus_meaning.specs.walrus_linked.walrus_module_items.declared.function.Function.{Function}
+use Rattle.walrus_meaning.specs.walrus_linked.walrus_module_items.declared.function.FunctionKind.{FunctionKind}
+use Rattle.walrus_meaning.specs.walrus_linked.walrus_module_items.declared.function.FunctionKind.TheVariants as functions
+use Rattle.walrus_meaning.specs.walrus_linked.walrus_module_items.declared.global.Global.{Global}
+use Rattle.walrus_meaning.specs.walrus_linked.walrus_module_items.declared.global.GlobalKind.{GlobalKind}
+use Rattle.walrus_meaning.specs.walrus_linked.walrus_module_items.declared.global.GlobalKind.TheVariants as globals
+use Rattle.walrus_meaning.specs.walrus_linked.walrus_module_items.declared.import.ImportKind.{ImportKind}
+use Rattle.walrus_meaning.specs.walrus_linked.walrus_module_items.declared.import.ImportKind.TheVariants as kinds
+use Rattle.walrus_meaning.specs.walrus_linked.walrus_module_items.declared.memory.Memory.{Memory}
+use Rattle.walrus_meaning.specs.walrus_linked.walrus_module_items.declared.table.Table.{Table}
+use Rattle.walrus_meaning.specs.walrus_linked.walrus_module_items.declared.tag.Tag.{Tag}
+use Rattle.walrus_parsed_items.specs.walrus_parse.walrus_file_bodies.walrus_items_into.walrus_tables_into.walrus_sections.walrus_roots.Items.{item}
+use Rattle.walrus_parsed_items.specs.walrus_parse.walrus_file_bodies.walrus_items_into.walrus_tables_into.walrus_sections.walrus_roots.declared.item.Item.{Item}
 use Rattle.walrus_parsed_items.specs.Items.{HasItems, brought_by, head_of, heads}
 use Rattle.walrus_parsed_links.proofs.SlotLemmas.{import_at, imports_same}
 

@@ -2,26 +2,26 @@
 use Rattle.std.specs.Prelude.{ℕ, ◌≡◌, ◌<◌, Bool, List, length, map, Option, Some, None, IsSome, slice_index_or, refl}
 use Rattle.std.specs.Option.{option_map}
 use Rattle.std.proofs.Common.{ap, sym, ◌∙◌, subst}
-use Rattle.wasm_formats.specs.declared.fault.Space.TheVariants as spaces
-use Rattle.wasm_grammar.specs.Modules as grammar
-use Rattle.wasm_grammar.specs.States.{count_of}
+use Rattle.walrus_meaning.specs.walrus_local_function.walrus_body_locals.walrus_body_nesting.wasm_formats.declared.fault.Space.TheVariants as spaces
+use Rattle.walrus_meaning.specs.walrus_local_function.walrus_body_locals.wasm_grammar.Modules as grammar
+use Rattle.walrus_meaning.specs.walrus_local_function.walrus_body_locals.wasm_grammar.States.{count_of}
 use Rattle.wasm_import_links.specs.Full.{AreFull, ReadModulesAreFull}
 use Rattle.wasm_import_links.specs.Links as file
 use Rattle.wasm_import_links.proofs.SlotLemmas.{same_links}
 use Rattle.wasm_module_rules.specs.Linked.{IsBelow, IsThere, ReadModulesAreLinked}
 use Rattle.walrus_arena.specs.Arena.{item_at}
-use Rattle.walrus_into_laws.specs.Renamed.{retyped_global, retyped_table, retyped_tag}
-use Rattle.walrus_linked.specs.Linked.{import_of}
+use Rattle.walrus_parsed_items.specs.walrus_into_laws.Renamed.{retyped_global, retyped_table, retyped_tag}
+use Rattle.walrus_meaning.specs.walrus_linked.Linked.{import_of}
 use Rattle.walrus_meaning.specs.Meaning.{means, own_brought, own_export, own_function, own_given, own_global, own_import, own_memory, own_table, own_tag}
-use Rattle.walrus_module.specs.Items.{Lives, brought, given_out}
-use Rattle.walrus_module.specs.Parts.{Module, parts}
-use Rattle.walrus_module_items.specs.declared.export.Export.{Export}
-use Rattle.walrus_module_items.specs.declared.export.ExportItem.{ExportItem}
-use Rattle.walrus_module_items.specs.declared.export.ExportItem.TheVariants as exported
-use Rattle.walrus_module_items.specs.declared.import.Import.{Import}
-use Rattle.walrus_parse.specs.Parsed.{read_features}
-use Rattle.walrus_roots.specs.Items.{item}
-use Rattle.walrus_roots.specs.declared.item.Item.{Item}
+use Rattle.walrus_meaning.specs.walrus_module.Items.{Lives, brought, given_out}
+use Rattle.walrus_meaning.specs.walrus_module.Parts.{Module, parts}
+use Rattle.walrus_meaning.specs.walrus_linked.walrus_module_items.declared.export.Export.{Export}
+use Rattle.walrus_meaning.specs.walrus_linked.walrus_module_items.declared.export.ExportItem.{ExportItem}
+use Rattle.walrus_meaning.specs.walrus_linked.walrus_module_items.declared.export.ExportItem.TheVariants as exported
+use Rattle.walrus_meaning.specs.walrus_linked.walrus_module_items.declared.import.Import.{Import}
+use Rattle.walrus_parsed_items.specs.walrus_parse.Parsed.{read_features}
+use Rattle.walrus_parsed_items.specs.walrus_parse.walrus_file_bodies.walrus_items_into.walrus_tables_into.walrus_sections.walrus_roots.Items.{item}
+use Rattle.walrus_parsed_items.specs.walrus_parse.walrus_file_bodies.walrus_items_into.walrus_tables_into.walrus_sections.walrus_roots.declared.item.Item.{Item}
 use Rattle.walrus_parsed_items.specs.Items.{HasItems, ReadModulesHaveItems, file_of, head_of, heads, same}
 use Rattle.walrus_parsed_links.specs.Links.{HasLinks, ReadModulesHaveLinks}
 use Rattle.walrus_parsed_links.proofs.BroughtLemmas.{brought_is, file_brings, import_of_meant, item_of}

@@ -1,18 +1,18 @@
 -- What names one another in a module that was read: the clauses of linked modules that don't look into items.
 use Rattle.std.specs.Prelude.{ℕ, ◌≡◌, ◌<◌, List, All, Some}
-use Rattle.wasm_formats.specs.declared.fault.Space.TheVariants as spaces
+use Rattle.walrus_meaning.specs.walrus_local_function.walrus_body_locals.walrus_body_nesting.wasm_formats.declared.fault.Space.TheVariants as spaces
 use Rattle.walrus_arena.specs.Arena.{item_at}
 use Rattle.walrus_config.specs.declared.config.ModuleConfig.{ModuleConfig}
-use Rattle.walrus_index_maps.specs.Maps.{Ids}
-use Rattle.walrus_linked.specs.Linked.{import_of}
-use Rattle.walrus_module.specs.Items.{Lives, brought, given_out}
-use Rattle.walrus_module.specs.Parts.{Module, parts}
-use Rattle.walrus_module.specs.declared.module.Module.{Module as Whole}
-use Rattle.walrus_module_items.specs.declared.export.Export.{Export}
-use Rattle.walrus_module_items.specs.declared.import.Import.{Import}
-use Rattle.walrus_parse.specs.Parsed.{IsReadAs}
-use Rattle.walrus_roots.specs.Items.{item}
-use Rattle.walrus_roots.specs.declared.item.Item.{Item}
+use Rattle.walrus_meaning.specs.walrus_body_writer.walrus_pairing.walrus_index_maps.Maps.{Ids}
+use Rattle.walrus_meaning.specs.walrus_linked.Linked.{import_of}
+use Rattle.walrus_meaning.specs.walrus_module.Items.{Lives, brought, given_out}
+use Rattle.walrus_meaning.specs.walrus_module.Parts.{Module, parts}
+use Rattle.walrus_meaning.specs.walrus_module.declared.module.Module.{Module as Whole}
+use Rattle.walrus_meaning.specs.walrus_linked.walrus_module_items.declared.export.Export.{Export}
+use Rattle.walrus_meaning.specs.walrus_linked.walrus_module_items.declared.import.Import.{Import}
+use Rattle.walrus_parsed_items.specs.walrus_parse.Parsed.{IsReadAs}
+use Rattle.walrus_parsed_items.specs.walrus_parse.walrus_file_bodies.walrus_items_into.walrus_tables_into.walrus_sections.walrus_roots.Items.{item}
+use Rattle.walrus_parsed_items.specs.walrus_parse.walrus_file_bodies.walrus_items_into.walrus_tables_into.walrus_sections.walrus_roots.declared.item.Item.{Item}
 
 -- each import names a live item that names it back, and each imported item a live import that names it; what is exported or started lives
 pub record HasLinks (m : Module) : Type 0 where

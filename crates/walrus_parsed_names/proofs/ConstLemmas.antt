@@ -2,33 +2,33 @@
 use Rattle.std.specs.Prelude.{ℕ, ◌≡◌, ◌<◌, Bool, List, [], ◌∷◌, ◌++◌, length, map, Option, Some, None, nat_lt, refl}
 use Rattle.std.proofs.Common.{ap, sym, ◌∙◌, subst}
 use Rattle.std.proofs.lemmas.Bool.{ltb-true}
-use Rattle.wasm_formats.specs.Stops.{Trouble, Index}
-use Rattle.wasm_formats.specs.declared.fault.Space.TheVariants as spaces
-use Rattle.wasm_grammar.specs.Exprs.{Known, items_test}
-use Rattle.wasm_grammar.specs.Modules.{Expr}
-use Rattle.wasm_grammar.specs.Values.{first_of, must}
-use Rattle.wasm_module_rules.specs.Keeps.{first_none, must_holds}
+use Rattle.walrus_group_laws.specs.walrus_meaning.walrus_local_function.walrus_body_locals.walrus_body_nesting.wasm_formats.Stops.{Trouble, Index}
+use Rattle.walrus_group_laws.specs.walrus_meaning.walrus_local_function.walrus_body_locals.walrus_body_nesting.wasm_formats.declared.fault.Space.TheVariants as spaces
+use Rattle.walrus_group_laws.specs.walrus_meaning.walrus_local_function.walrus_body_locals.wasm_grammar.Exprs.{Known, items_test}
+use Rattle.walrus_group_laws.specs.walrus_meaning.walrus_local_function.walrus_body_locals.wasm_grammar.Modules.{Expr}
+use Rattle.walrus_group_laws.specs.walrus_meaning.walrus_local_function.walrus_body_locals.wasm_grammar.Values.{first_of, must}
+use Rattle.walrus_parsed_links.specs.walrus_parsed_items.walrus_parse.walrus_file_bodies.walrus_items_into.wasm_module_rules.Keeps.{first_none, must_holds}
 use Rattle.wasm_ruled_modules.specs.Rules.{AreKnown, IsExpr}
-use Rattle.wasm_operators.specs.Operators.{Seen}
-use Rattle.wasm_operator_names.specs.Names.{renamed_heap, renamed_item, renamed_operator}
-use Rattle.wasm_ref_types.specs.declared.heap.HeapType.{HeapType as Read}
-use Rattle.wasm_ref_types.specs.declared.heap.HeapType.TheVariants as read
-use Rattle.wasm_ref_types.specs.declared.index.UnpackedIndex.{UnpackedIndex}
-use Rattle.wasm_ref_types.specs.declared.index.UnpackedIndex.TheVariants.{Module, RecGroup, Id}
-use Rattle.wasm_immediates.specs.Items.{Space, Types, Functions, Globals, Item as Word, Names, Number, S32, S64, Bits, Byte, Bytes, Heap, Block, Access, ManyLabels, ManyValues, ManyClauses}
-use Rattle.walrus_forms.specs.declared.value.HeapType.{HeapType}
-use Rattle.walrus_forms.specs.declared.value.HeapType.TheVariants.{Abstract, Concrete, Exact}
-use Rattle.walrus_instr.specs.Constants.{ops_of}
-use Rattle.walrus_instr.specs.declared.const_expr.ConstExpr.{ConstExpr}
-use Rattle.walrus_instr.specs.declared.const_expr.ConstOp.{ConstOp}
-use Rattle.walrus_instr.specs.declared.const_expr.ConstOp.TheVariants as consts
-use Rattle.walrus_into_laws.specs.Renamed.{by_types, retyped_expr}
+use Rattle.walrus_group_laws.specs.walrus_meaning.walrus_body_writer.walrus_pairing.walrus_operator_codes.wasm_operators.Operators.{Seen}
+use Rattle.walrus_group_laws.specs.walrus_meaning.walrus_local_function.walrus_body_locals.wasm_body_grammar.wasm_operator_names.Names.{renamed_heap, renamed_item, renamed_operator}
+use Rattle.walrus_group_laws.specs.walrus_meaning.walrus_local_function.walrus_body_locals.wasm_ref_types.declared.heap.HeapType.{HeapType as Read}
+use Rattle.walrus_group_laws.specs.walrus_meaning.walrus_local_function.walrus_body_locals.wasm_ref_types.declared.heap.HeapType.TheVariants as read
+use Rattle.walrus_group_laws.specs.walrus_meaning.walrus_local_function.walrus_body_locals.wasm_ref_types.declared.index.UnpackedIndex.{UnpackedIndex}
+use Rattle.walrus_group_laws.specs.walrus_meaning.walrus_local_function.walrus_body_locals.wasm_ref_types.declared.index.UnpackedIndex.TheVariants.{Module, RecGroup, Id}
+use Rattle.walrus_group_laws.specs.walrus_meaning.walrus_body_writer.walrus_pairing.wasm_immediates.Items.{Space, Types, Functions, Globals, Item as Word, Names, Number, S32, S64, Bits, Byte, Bytes, Heap, Block, Access, ManyLabels, ManyValues, ManyClauses}
+use Rattle.walrus_walks.specs.walrus_forms.declared.value.HeapType.{HeapType}
+use Rattle.walrus_walks.specs.walrus_forms.declared.value.HeapType.TheVariants.{Abstract, Concrete, Exact}
+use Rattle.walrus_marks.specs.walrus_instr.Constants.{ops_of}
+use Rattle.walrus_marks.specs.walrus_instr.declared.const_expr.ConstExpr.{ConstExpr}
+use Rattle.walrus_marks.specs.walrus_instr.declared.const_expr.ConstOp.{ConstOp}
+use Rattle.walrus_marks.specs.walrus_instr.declared.const_expr.ConstOp.TheVariants as consts
+use Rattle.walrus_parsed_links.specs.walrus_parsed_items.walrus_into_laws.Renamed.{by_types, retyped_expr}
 use Rattle.walrus_marks.specs.Named.{items_of}
 use Rattle.walrus_marks.specs.walrus_walks.ConstEvents.{ExprsTellOps, expr_names, op_names}
 use Rattle.walrus_marks.specs.walrus_walks.Events.{Event, events_of, ref_names}
-use Rattle.walrus_meaning.specs.Words.{const_seen, own_expr, own_heap}
-use Rattle.walrus_roots.specs.Items.{item}
-use Rattle.walrus_roots.specs.declared.item.Item.{Item}
+use Rattle.walrus_group_laws.specs.walrus_meaning.Words.{const_seen, own_expr, own_heap}
+use Rattle.walrus_parsed_links.specs.walrus_parsed_items.walrus_parse.walrus_file_bodies.walrus_items_into.walrus_tables_into.walrus_sections.walrus_roots.Items.{item}
+use Rattle.walrus_parsed_links.specs.walrus_parsed_items.walrus_parse.walrus_file_bodies.walrus_items_into.walrus_tables_into.walrus_sections.walrus_roots.declared.item.Item.{Item}
 use Rattle.walrus_parsed_names.proofs.ListLemmas.{AllOf, all_join, cons_head, cons_tail, items_join}
 
 -- of what is known, it holds of each item

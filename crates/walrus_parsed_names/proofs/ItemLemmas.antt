@@ -3,57 +3,57 @@ use Rattle.std.specs.Prelude.{ℕ, zero, suc, ◌≡◌, ◌<◌, ◌≤◌, ◌
 use Rattle.std.specs.Option.{is_some, option_map, unwrap_or}
 use Rattle.std.proofs.Common.{ap, sym, ◌∙◌, subst, arith}
 use Rattle.std.proofs.lemmas.List.{length-append}
-use Rattle.wasm_features.specs.declared.WasmFeatures.{WasmFeatures}
-use Rattle.wasm_formats.specs.declared.fault.Space.{Space}
-use Rattle.wasm_formats.specs.declared.fault.Space.TheVariants as spaces
-use Rattle.wasm_grammar.specs.Exprs.{Known}
-use Rattle.wasm_grammar.specs.Modules as grammar
-use Rattle.wasm_grammar.specs.States.{form_test, types_of}
-use Rattle.walrus_forms.specs.Kinds.{Kind}
-use Rattle.walrus_forms.specs.Renaming.{RefBelow, ValueBelow, renamed_ref}
-use Rattle.walrus_forms.specs.declared.value.RefType.{RefType}
+use Rattle.walrus_group_laws.specs.walrus_meaning.walrus_body_writer.walrus_pairing.wasm_immediates.wasm_features.declared.WasmFeatures.{WasmFeatures}
+use Rattle.walrus_group_laws.specs.walrus_meaning.walrus_local_function.walrus_body_locals.walrus_body_nesting.wasm_formats.declared.fault.Space.{Space}
+use Rattle.walrus_group_laws.specs.walrus_meaning.walrus_local_function.walrus_body_locals.walrus_body_nesting.wasm_formats.declared.fault.Space.TheVariants as spaces
+use Rattle.walrus_group_laws.specs.walrus_meaning.walrus_local_function.walrus_body_locals.wasm_grammar.Exprs.{Known}
+use Rattle.walrus_group_laws.specs.walrus_meaning.walrus_local_function.walrus_body_locals.wasm_grammar.Modules as grammar
+use Rattle.walrus_group_laws.specs.walrus_meaning.walrus_local_function.walrus_body_locals.wasm_grammar.States.{form_test, types_of}
+use Rattle.walrus_walks.specs.walrus_forms.Kinds.{Kind}
+use Rattle.walrus_walks.specs.walrus_forms.Renaming.{RefBelow, ValueBelow, renamed_ref}
+use Rattle.walrus_walks.specs.walrus_forms.declared.value.RefType.{RefType}
 use Rattle.wasm_import_links.specs.Full.{AreFull, ReadModulesAreFull}
-use Rattle.wasm_module_rules.specs.Linked.{AllBelow, AreListed, Each, GoesInto, IsFunctionType}
+use Rattle.walrus_parsed_links.specs.walrus_parsed_items.walrus_parse.walrus_file_bodies.walrus_items_into.wasm_module_rules.Linked.{AllBelow, AreListed, Each, GoesInto, IsFunctionType}
 use Rattle.wasm_ruled_modules.specs.Rules.{AreExprs, GlobalsSee, IsExpr, IsInit, IsPlaced, IsRuled, ItemsBelow, ItemsKnown, ReadModulesAreRuled, is_imported, knows, knows_imported, memory_wide, own_init, table_wide}
 use Rattle.walrus_arena.specs.Arena.{item_at}
 use Rattle.walrus_config.specs.declared.config.ModuleConfig.{ModuleConfig}
-use Rattle.walrus_file_bodies.specs.Laws.{BodiesReadFiles}
+use Rattle.walrus_parsed_links.specs.walrus_parsed_items.walrus_parse.walrus_file_bodies.Laws.{BodiesReadFiles}
 use Rattle.walrus_function_types.specs.Growth.{FoundTypesStay, TablesGrowOn}
 use Rattle.walrus_group_laws.specs.Groups.{ReadTypesAreDeclared}
-use Rattle.walrus_index_maps.specs.Maps.{Ids}
-use Rattle.walrus_instr.specs.declared.const_expr.ConstExpr.{ConstExpr}
-use Rattle.walrus_into_laws.specs.Meaning.{type_id}
-use Rattle.walrus_into_laws.specs.Renamed.{each, retyped_element, retyped_expr, retyped_global, retyped_items, retyped_mode, retyped_origin, retyped_segment, retyped_table, retyped_tag}
-use Rattle.walrus_linked.specs.Names.{data_kind_names, element_kind_names, element_names, global_names, held_names, init_names, named_by, names, names_in, table_names, tag_names, value_names}
+use Rattle.walrus_group_laws.specs.walrus_meaning.walrus_body_writer.walrus_pairing.walrus_index_maps.Maps.{Ids}
+use Rattle.walrus_marks.specs.walrus_instr.declared.const_expr.ConstExpr.{ConstExpr}
+use Rattle.walrus_parsed_links.specs.walrus_parsed_items.walrus_into_laws.Meaning.{type_id}
+use Rattle.walrus_parsed_links.specs.walrus_parsed_items.walrus_into_laws.Renamed.{each, retyped_element, retyped_expr, retyped_global, retyped_items, retyped_mode, retyped_origin, retyped_segment, retyped_table, retyped_tag}
+use Rattle.walrus_group_laws.specs.walrus_meaning.walrus_linked.Names.{data_kind_names, element_kind_names, element_names, global_names, held_names, init_names, named_by, names, names_in, table_names, tag_names, value_names}
 use Rattle.walrus_marks.specs.Named.{items_of}
 use Rattle.walrus_marks.specs.walrus_walks.ConstEvents.{ExprsTellOps, expr_names}
 use Rattle.walrus_marks.specs.walrus_walks.Events.{Event, NamesFunction, events_of, ref_names, val_names}
-use Rattle.walrus_meaning.specs.Meaning.{means, own_data_mode, own_element, own_element_mode, own_elements, own_function, own_global, own_segment, own_table, own_tag, own_value_of}
-use Rattle.walrus_meaning.specs.Words.{own_expr}
-use Rattle.walrus_module.specs.Items.{Lives, LivesIn}
-use Rattle.walrus_module.specs.Parts.{Module, parts}
-use Rattle.walrus_module_items.specs.Functions.{type_of}
-use Rattle.walrus_module_items.specs.declared.data.DataKind.{DataKind}
-use Rattle.walrus_module_items.specs.declared.data.DataKind.TheVariants as datas
-use Rattle.walrus_module_items.specs.declared.element.ElementItems.{ElementItems}
-use Rattle.walrus_module_items.specs.declared.element.ElementItems.TheVariants as holds
-use Rattle.walrus_module_items.specs.declared.element.ElementKind.{ElementKind}
-use Rattle.walrus_module_items.specs.declared.element.ElementKind.TheVariants as elements
-use Rattle.walrus_module_items.specs.declared.function.Function.{Function}
-use Rattle.walrus_module_items.specs.declared.global.GlobalKind.{GlobalKind}
-use Rattle.walrus_module_items.specs.declared.global.GlobalKind.TheVariants as globals
-use Rattle.walrus_module_items.specs.declared.data.Data.{Data}
-use Rattle.walrus_module_items.specs.declared.element.Element.{Element}
-use Rattle.walrus_module_items.specs.declared.global.Global.{Global}
-use Rattle.walrus_module_items.specs.declared.table.Table.{Table}
-use Rattle.walrus_module_items.specs.declared.tag.Tag.{Tag}
-use Rattle.walrus_items_into.specs.Numbers.{types_in}
-use Rattle.walrus_parse.specs.Parsed.{read_features}
-use Rattle.walrus_roots.specs.Items.{item}
-use Rattle.walrus_roots.specs.declared.item.Item.{Item}
-use Rattle.walrus_sections_into.specs.Becomes.{look_of}
-use Rattle.walrus_types_into.specs.Into.{NewTypesStand, TypesNameBelow}
-use Rattle.walrus_parsed_items.specs.Items.{HasItems, ReadModulesHaveItems, file_of, head_of, heads, same}
+use Rattle.walrus_group_laws.specs.walrus_meaning.Meaning.{means, own_data_mode, own_element, own_element_mode, own_elements, own_function, own_global, own_segment, own_table, own_tag, own_value_of}
+use Rattle.walrus_group_laws.specs.walrus_meaning.Words.{own_expr}
+use Rattle.walrus_group_laws.specs.walrus_meaning.walrus_module.Items.{Lives, LivesIn}
+use Rattle.walrus_group_laws.specs.walrus_meaning.walrus_module.Parts.{Module, parts}
+use Rattle.walrus_group_laws.specs.walrus_meaning.walrus_linked.walrus_module_items.Functions.{type_of}
+use Rattle.walrus_group_laws.specs.walrus_meaning.walrus_linked.walrus_module_items.declared.data.DataKind.{DataKind}
+use Rattle.walrus_group_laws.specs.walrus_meaning.walrus_linked.walrus_module_items.declared.data.DataKind.TheVariants as datas
+use Rattle.walrus_group_laws.specs.walrus_meaning.walrus_linked.walrus_module_items.declared.element.ElementItems.{ElementItems}
+use Rattle.walrus_group_laws.specs.walrus_meaning.walrus_linked.walrus_module_items.declared.element.ElementItems.TheVariants as holds
+use Rattle.walrus_group_laws.specs.walrus_meaning.walrus_linked.walrus_module_items.declared.element.ElementKind.{ElementKind}
+use Rattle.walrus_group_laws.specs.walrus_meaning.walrus_linked.walrus_module_items.declared.element.ElementKind.TheVariants as elements
+use Rattle.walrus_group_laws.specs.walrus_meaning.walrus_linked.walrus_module_items.declared.function.Function.{Function}
+use Rattle.walrus_group_laws.specs.walrus_meaning.walrus_linked.walrus_module_items.declared.global.GlobalKind.{GlobalKind}
+use Rattle.walrus_group_laws.specs.walrus_meaning.walrus_linked.walrus_module_items.declared.global.GlobalKind.TheVariants as globals
+use Rattle.walrus_group_laws.specs.walrus_meaning.walrus_linked.walrus_module_items.declared.data.Data.{Data}
+use Rattle.walrus_group_laws.specs.walrus_meaning.walrus_linked.walrus_module_items.declared.element.Element.{Element}
+use Rattle.walrus_group_laws.specs.walrus_meaning.walrus_linked.walrus_module_items.declared.global.Global.{Global}
+use Rattle.walrus_group_laws.specs.walrus_meaning.walrus_linked.walrus_module_items.declared.table.Table.{Table}
+use Rattle.walrus_group_laws.specs.walrus_meaning.walrus_linked.walrus_module_items.declared.tag.Tag.{Tag}
+use Rattle.walrus_parsed_links.specs.walrus_parsed_items.walrus_parse.walrus_file_bodies.walrus_items_into.Numbers.{types_in}
+use Rattle.walrus_parsed_links.specs.walrus_parsed_items.walrus_parse.Parsed.{read_features}
+use Rattle.walrus_parsed_links.specs.walrus_parsed_items.walrus_parse.walrus_file_bodies.walrus_items_into.walrus_tables_into.walrus_sections.walrus_roots.Items.{item}
+use Rattle.walrus_parsed_links.specs.walrus_parsed_items.walrus_parse.walrus_file_bodies.walrus_items_into.walrus_tables_into.walrus_sections.walrus_roots.declared.item.Item.{Item}
+use Rattle.walrus_parsed_links.specs.walrus_parsed_items.walrus_parse.walrus_file_bodies.walrus_items_into.walrus_tables_into.walrus_sections_into.Becomes.{look_of}
+use Rattle.walrus_group_laws.specs.walrus_types_into.Into.{NewTypesStand, TypesNameBelow}
+use Rattle.walrus_parsed_links.specs.walrus_parsed_items.Items.{HasItems, ReadModulesHaveItems, file_of, head_of, heads, same}
 use Rattle.walrus_parsed_links.proofs.SlotLemmas.{each_at, flags, flags_seen, live_at, seen_at}
 use Rattle.walrus_parsed_links.proofs.LinkLemmas.{function_flags}
 use Rattle.walrus_parsed_names.specs.Named.{HasNoBodies, NamesLive, NamesOfReadItemsLive}

@@ -3,30 +3,30 @@ use Rattle.std.specs.Prelude.{ℕ, ◌≡◌, ◌<◌, Bool, true, false, List, 
 use Rattle.std.specs.List.{AllByRecursion}
 use Rattle.std.specs.Option.{is_some, option_map, unwrap_or}
 use Rattle.std.proofs.Common.{ap, sym, ◌∙◌, subst}
-use Rattle.wasm_features.specs.declared.WasmFeatures.{WasmFeatures}
-use Rattle.wasm_formats.specs.declared.fault.Space.TheVariants as spaces
+use Rattle.walrus_group_laws.specs.walrus_meaning.walrus_body_writer.walrus_pairing.wasm_immediates.wasm_features.declared.WasmFeatures.{WasmFeatures}
+use Rattle.walrus_group_laws.specs.walrus_meaning.walrus_local_function.walrus_body_locals.walrus_body_nesting.wasm_formats.declared.fault.Space.TheVariants as spaces
 use Rattle.walrus_config.specs.declared.config.ModuleConfig.{ModuleConfig}
-use Rattle.walrus_file_bodies.specs.Read.{grows_none, steps_grow}
-use Rattle.walrus_forms.specs.Kinds.{Kind}
-use Rattle.walrus_forms.specs.Records.{TypeGroup}
-use Rattle.walrus_forms.specs.Renaming.{at, renamed_kind}
+use Rattle.walrus_parsed_links.specs.walrus_parsed_items.walrus_parse.walrus_file_bodies.Read.{grows_none, steps_grow}
+use Rattle.walrus_walks.specs.walrus_forms.Kinds.{Kind}
+use Rattle.walrus_walks.specs.walrus_forms.Records.{TypeGroup}
+use Rattle.walrus_walks.specs.walrus_forms.Renaming.{at, renamed_kind}
 use Rattle.walrus_function_types.specs.Growth.{FoundTypesStay, Grows, TablesGrowOn}
-use Rattle.walrus_functions_into.specs.declared.bodies.FunctionBody.{FunctionBody}
+use Rattle.walrus_parsed_links.specs.walrus_parsed_items.walrus_parse.walrus_file_bodies.walrus_items_into.walrus_functions_into.declared.bodies.FunctionBody.{FunctionBody}
 use Rattle.walrus_group_laws.specs.Groups.{AreDeclared, ReadTypesAreDeclared}
-use Rattle.walrus_index_maps.specs.Maps.{Ids}
-use Rattle.walrus_item_names.specs.Holder.{Holder}
-use Rattle.walrus_item_names.specs.Names.{bare_type, bare_types}
-use Rattle.walrus_items_into.specs.Numbers.{types_in}
-use Rattle.walrus_known_sections.specs.State.{state_of}
-use Rattle.walrus_known_sections.specs.Types.{kinds_in}
-use Rattle.walrus_module.specs.Items.{written, written_type}
-use Rattle.walrus_module.specs.declared.module.Module.{Module as Whole}
-use Rattle.walrus_module_bodies.specs.Steps.{IsStep, State, Steps}
-use Rattle.walrus_module_bodies.specs.declared.file.FileEnv.{FileEnv}
-use Rattle.walrus_parse.specs.Parsed.{IsReadAs, read_features}
-use Rattle.walrus_types.specs.Items.{Item}
-use Rattle.walrus_types.specs.Table.{Table, type_at}
-use Rattle.walrus_types_into.specs.Into.{NewTypesStand, TypesNameBelow}
+use Rattle.walrus_group_laws.specs.walrus_meaning.walrus_body_writer.walrus_pairing.walrus_index_maps.Maps.{Ids}
+use Rattle.walrus_parsed_links.specs.walrus_parsed_items.walrus_parse.walrus_item_names.Holder.{Holder}
+use Rattle.walrus_parsed_links.specs.walrus_parsed_items.walrus_parse.walrus_item_names.Names.{bare_type, bare_types}
+use Rattle.walrus_parsed_links.specs.walrus_parsed_items.walrus_parse.walrus_file_bodies.walrus_items_into.Numbers.{types_in}
+use Rattle.walrus_parsed_links.specs.walrus_parsed_items.walrus_parse.walrus_file_bodies.walrus_items_into.walrus_tables_into.walrus_sections_into.walrus_known_sections.State.{state_of}
+use Rattle.walrus_parsed_links.specs.walrus_parsed_items.walrus_parse.walrus_file_bodies.walrus_items_into.walrus_tables_into.walrus_sections_into.walrus_known_sections.Types.{kinds_in}
+use Rattle.walrus_group_laws.specs.walrus_meaning.walrus_module.Items.{written, written_type}
+use Rattle.walrus_group_laws.specs.walrus_meaning.walrus_module.declared.module.Module.{Module as Whole}
+use Rattle.walrus_parsed_links.specs.walrus_parsed_items.walrus_parse.walrus_file_bodies.walrus_module_bodies.Steps.{IsStep, State, Steps}
+use Rattle.walrus_parsed_links.specs.walrus_parsed_items.walrus_parse.walrus_file_bodies.walrus_module_bodies.declared.file.FileEnv.{FileEnv}
+use Rattle.walrus_parsed_links.specs.walrus_parsed_items.walrus_parse.Parsed.{IsReadAs, read_features}
+use Rattle.walrus_walks.specs.walrus_types.Items.{Item}
+use Rattle.walrus_walks.specs.walrus_types.Table.{Table, type_at}
+use Rattle.walrus_group_laws.specs.walrus_types_into.Into.{NewTypesStand, TypesNameBelow}
 use Rattle.walrus_parsed_links.proofs.SlotLemmas.{seen_at}
 use Rattle.walrus_parsed_names.proofs.ListLemmas.{AllOf, all_at, all_join, get_some, some_is}
 

@@ -1,18 +1,18 @@
 -- Lemmas: what types of values name, which are those of the file with other numbers of types.
 use Rattle.std.specs.Prelude.{ℕ, ◌≡◌, ◌<◌, Bool, List, Option, IfSome}
 use Rattle.std.proofs.Common.{sym, subst}
-use Rattle.wasm_formats.specs.declared.fault.Space.TheVariants as spaces
-use Rattle.walrus_forms.specs.Renaming.{RefBelow, ValueBelow, renamed_heap, renamed_ref, renamed_value}
-use Rattle.walrus_forms.specs.Values.{heap_name}
-use Rattle.walrus_forms.specs.declared.value.HeapType.{HeapType}
-use Rattle.walrus_forms.specs.declared.value.HeapType.TheVariants.{Abstract, Concrete, Exact}
-use Rattle.walrus_forms.specs.declared.value.RefType.{RefType}
-use Rattle.walrus_forms.specs.declared.value.ValType.{ValType}
-use Rattle.walrus_forms.specs.declared.value.ValType.TheVariants.{I32, I64, F32, F64, V128, Ref}
+use Rattle.walrus_group_laws.specs.walrus_meaning.walrus_local_function.walrus_body_locals.walrus_body_nesting.wasm_formats.declared.fault.Space.TheVariants as spaces
+use Rattle.walrus_walks.specs.walrus_forms.Renaming.{RefBelow, ValueBelow, renamed_heap, renamed_ref, renamed_value}
+use Rattle.walrus_walks.specs.walrus_forms.Values.{heap_name}
+use Rattle.walrus_walks.specs.walrus_forms.declared.value.HeapType.{HeapType}
+use Rattle.walrus_walks.specs.walrus_forms.declared.value.HeapType.TheVariants.{Abstract, Concrete, Exact}
+use Rattle.walrus_walks.specs.walrus_forms.declared.value.RefType.{RefType}
+use Rattle.walrus_walks.specs.walrus_forms.declared.value.ValType.{ValType}
+use Rattle.walrus_walks.specs.walrus_forms.declared.value.ValType.TheVariants.{I32, I64, F32, F64, V128, Ref}
 use Rattle.walrus_marks.specs.Named.{items_of}
 use Rattle.walrus_marks.specs.walrus_walks.Events.{ref_names, val_names}
-use Rattle.walrus_roots.specs.Items.{item}
-use Rattle.walrus_roots.specs.declared.item.Item.{Item}
+use Rattle.walrus_parsed_links.specs.walrus_parsed_items.walrus_parse.walrus_file_bodies.walrus_items_into.walrus_tables_into.walrus_sections.walrus_roots.Items.{item}
+use Rattle.walrus_parsed_links.specs.walrus_parsed_items.walrus_parse.walrus_file_bodies.walrus_items_into.walrus_tables_into.walrus_sections.walrus_roots.declared.item.Item.{Item}
 use Rattle.walrus_parsed_names.proofs.ListLemmas.{AllOf}
 
 module _ (types : ℕ) (r : ℕ → ℕ) (P : Item → Type 0) (serves : (n : ℕ) → n < types → P (item spaces.«Type» (r n))) where

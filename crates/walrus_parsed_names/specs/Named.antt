@@ -1,19 +1,19 @@
 -- What items name in a module that was read lives: the clause of linked modules on names, types and bodies aside.
 use Rattle.std.specs.Prelude.{ℕ, ◌≡◌, ◌<◌, List, All, Contains, Some}
-use Rattle.wasm_formats.specs.declared.fault.Space.{Space}
-use Rattle.wasm_formats.specs.declared.fault.Space.TheVariants as spaces
+use Rattle.walrus_group_laws.specs.walrus_meaning.walrus_local_function.walrus_body_locals.walrus_body_nesting.wasm_formats.declared.fault.Space.{Space}
+use Rattle.walrus_group_laws.specs.walrus_meaning.walrus_local_function.walrus_body_locals.walrus_body_nesting.wasm_formats.declared.fault.Space.TheVariants as spaces
 use Rattle.walrus_arena.specs.Arena.{item_at}
 use Rattle.walrus_config.specs.declared.config.ModuleConfig.{ModuleConfig}
-use Rattle.walrus_index_maps.specs.Maps.{Ids}
-use Rattle.walrus_linked.specs.Names.{names}
-use Rattle.walrus_module.specs.Items.{Lives}
-use Rattle.walrus_module.specs.Parts.{Module, parts}
-use Rattle.walrus_module.specs.declared.module.Module.{Module as Whole}
-use Rattle.walrus_module_items.specs.Functions.{type_of}
-use Rattle.walrus_module_items.specs.declared.function.Function.{Function}
-use Rattle.walrus_parse.specs.Parsed.{IsReadAs}
-use Rattle.walrus_roots.specs.Items.{item}
-use Rattle.walrus_roots.specs.declared.item.Item.{Item}
+use Rattle.walrus_group_laws.specs.walrus_meaning.walrus_body_writer.walrus_pairing.walrus_index_maps.Maps.{Ids}
+use Rattle.walrus_group_laws.specs.walrus_meaning.walrus_linked.Names.{names}
+use Rattle.walrus_group_laws.specs.walrus_meaning.walrus_module.Items.{Lives}
+use Rattle.walrus_group_laws.specs.walrus_meaning.walrus_module.Parts.{Module, parts}
+use Rattle.walrus_group_laws.specs.walrus_meaning.walrus_module.declared.module.Module.{Module as Whole}
+use Rattle.walrus_group_laws.specs.walrus_meaning.walrus_linked.walrus_module_items.Functions.{type_of}
+use Rattle.walrus_group_laws.specs.walrus_meaning.walrus_linked.walrus_module_items.declared.function.Function.{Function}
+use Rattle.walrus_parsed_links.specs.walrus_parsed_items.walrus_parse.Parsed.{IsReadAs}
+use Rattle.walrus_parsed_links.specs.walrus_parsed_items.walrus_parse.walrus_file_bodies.walrus_items_into.walrus_tables_into.walrus_sections.walrus_roots.Items.{item}
+use Rattle.walrus_parsed_links.specs.walrus_parsed_items.walrus_parse.walrus_file_bodies.walrus_items_into.walrus_tables_into.walrus_sections.walrus_roots.declared.item.Item.{Item}
 
 -- the items of the space are no types, and have no bodies
 abbrev pub HasNoBodies : Space → Type 0

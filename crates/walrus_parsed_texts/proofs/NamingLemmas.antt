@@ -2,28 +2,28 @@
 use Rattle.std.specs.Prelude.{ℕ, ◌≡◌, Bool, Option, Some, None, Result, Ok, Err, slice_get, refl}
 use Rattle.std.specs.Option.{option_map, unwrap_or}
 use Rattle.std.proofs.Common.{ap, sym, ◌∙◌, subst}
-use Rattle.wasm_immediates.specs.Items.{Space, Types}
-use Rattle.wasm_immediates.specs.declared.block_type.BlockType.{BlockType}
-use Rattle.wasm_immediates.specs.declared.block_type.BlockType.TheVariants as blocks
-use Rattle.wasm_operator_names.specs.Names.{Renaming, renamed_block, renamed_value}
-use Rattle.wasm_ref_types.specs.Reference.{reference}
-use Rattle.wasm_ref_types.specs.declared.heap.HeapType.{HeapType as WrittenHeap}
-use Rattle.wasm_ref_types.specs.declared.value.ValType.{ValType as WrittenValue}
-use Rattle.wasm_ref_types.specs.declared.value.ValType.TheVariants as values
-use Rattle.walrus_body_rules.specs.Sights.{Sight, look, value_block}
+use Rattle.walrus_operator_laws.specs.walrus_pairing.wasm_immediates.Items.{Space, Types}
+use Rattle.walrus_operator_laws.specs.walrus_pairing.wasm_immediates.declared.block_type.BlockType.{BlockType}
+use Rattle.walrus_operator_laws.specs.walrus_pairing.wasm_immediates.declared.block_type.BlockType.TheVariants as blocks
+use Rattle.wasm_body_grammar.specs.wasm_operator_names.Names.{Renaming, renamed_block, renamed_value}
+use Rattle.wasm_body_grammar.specs.wasm_operator_names.wasm_ref_types.Reference.{reference}
+use Rattle.wasm_body_grammar.specs.wasm_operator_names.wasm_ref_types.declared.heap.HeapType.{HeapType as WrittenHeap}
+use Rattle.wasm_body_grammar.specs.wasm_operator_names.wasm_ref_types.declared.value.ValType.{ValType as WrittenValue}
+use Rattle.wasm_body_grammar.specs.wasm_operator_names.wasm_ref_types.declared.value.ValType.TheVariants as values
+use Rattle.walrus_meaning.specs.walrus_local_function.walrus_function_parser.walrus_body_rules.Sights.{Sight, look, value_block}
 use Rattle.walrus_body_trees.specs.Laws.{IsNaming}
-use Rattle.walrus_forms.specs.declared.value.HeapType.{HeapType}
-use Rattle.walrus_forms.specs.declared.value.HeapType.TheVariants.{Abstract, Concrete, Exact}
-use Rattle.walrus_forms.specs.declared.value.ValType.{ValType}
-use Rattle.walrus_forms.specs.declared.value.ValType.TheVariants.{I32, I64, F32, F64, V128, Ref}
-use Rattle.walrus_instr.specs.declared.seq.InstrSeqType.{InstrSeqType}
-use Rattle.walrus_instr.specs.declared.seq.InstrSeqType.TheVariants.{Simple, MultiValue}
+use Rattle.wasm_body_grammar.specs.wasm_grammar.walrus_forms.declared.value.HeapType.{HeapType}
+use Rattle.wasm_body_grammar.specs.wasm_grammar.walrus_forms.declared.value.HeapType.TheVariants.{Abstract, Concrete, Exact}
+use Rattle.wasm_body_grammar.specs.wasm_grammar.walrus_forms.declared.value.ValType.{ValType}
+use Rattle.wasm_body_grammar.specs.wasm_grammar.walrus_forms.declared.value.ValType.TheVariants.{I32, I64, F32, F64, V128, Ref}
+use Rattle.walrus_operator_laws.specs.walrus_pairing.walrus_instr.declared.seq.InstrSeqType.{InstrSeqType}
+use Rattle.walrus_operator_laws.specs.walrus_pairing.walrus_instr.declared.seq.InstrSeqType.TheVariants.{Simple, MultiValue}
 use Rattle.walrus_meaning.specs.Words.{own_block, own_heap, own_value}
-use Rattle.walrus_module_env.specs.Around.{block_named}
+use Rattle.walrus_file_bodies.specs.walrus_items_into.walrus_module_env.Around.{block_named}
 use Rattle.walrus_operator_laws.proofs.Types.{value_again}
 use Rattle.walrus_operator_laws.specs.Laws.{Renames}
-use Rattle.walrus_pairing.specs.Looks.{Or, ◌>>=◌}
-use Rattle.walrus_pairing.specs.Types.{read_value, written_heap, written_value}
+use Rattle.walrus_operator_laws.specs.walrus_pairing.Looks.{Or, ◌>>=◌}
+use Rattle.walrus_operator_laws.specs.walrus_pairing.Types.{read_value, written_heap, written_value}
 use Rattle.walrus_pairing_laws.specs.Told.{all}
 
 heap_written : (h : HeapType) → written_heap (all Types) h ≡ Ok (own_heap h)

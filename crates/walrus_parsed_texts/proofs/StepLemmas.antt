@@ -8,36 +8,36 @@ use Rattle.wasm_body_grammar.specs.Bodies.{Parts, body, body_of}
 use Rattle.wasm_body_grammar.specs.Codes.{ReadsCodes}
 use Rattle.wasm_body_grammar.specs.Laws.{BodiesReadOnce, ReadsBody}
 use Rattle.wasm_body_grammar.specs.Rules.{Around}
-use Rattle.wasm_features.specs.declared.WasmFeatures.{WasmFeatures}
-use Rattle.wasm_formats.specs.Formats.{Small}
-use Rattle.wasm_grammar.specs.Modules as grammar
-use Rattle.wasm_immediates.specs.Items.{Space, Types, Functions, Tables, Memories, Tags, Globals, ElementSegments, DataSegments, Locals, Labels}
-use Rattle.wasm_immediates.specs.declared.block_type.BlockType.{BlockType}
-use Rattle.wasm_normal_form.specs.Normal.{normal_ops}
-use Rattle.wasm_normal_form.specs.Trees.{tree_of}
-use Rattle.wasm_run_names.specs.Picks.{block_pick}
-use Rattle.wasm_sections.specs.Within.{ChunksFit}
+use Rattle.wasm_body_grammar.specs.wasm_formats.wasm_features.declared.WasmFeatures.{WasmFeatures}
+use Rattle.wasm_body_grammar.specs.wasm_formats.Formats.{Small}
+use Rattle.wasm_body_grammar.specs.wasm_grammar.Modules as grammar
+use Rattle.walrus_operator_laws.specs.walrus_pairing.wasm_immediates.Items.{Space, Types, Functions, Tables, Memories, Tags, Globals, ElementSegments, DataSegments, Locals, Labels}
+use Rattle.walrus_operator_laws.specs.walrus_pairing.wasm_immediates.declared.block_type.BlockType.{BlockType}
+use Rattle.walrus_meaning.specs.walrus_local_function.walrus_body_locals.wasm_normal_form.Normal.{normal_ops}
+use Rattle.walrus_meaning.specs.walrus_local_function.walrus_body_locals.wasm_normal_form.Trees.{tree_of}
+use Rattle.walrus_file_bodies.specs.walrus_items_into.walrus_module_env.wasm_run_names.Picks.{block_pick}
+use Rattle.walrus_file_bodies.specs.walrus_items_into.wasm_sections.Within.{ChunksFit}
 use Rattle.walrus_arena.specs.Arena.{Arena, item_at}
-use Rattle.walrus_body_locals.specs.Locals.{ids_from, with_more}
+use Rattle.walrus_meaning.specs.walrus_local_function.walrus_body_locals.Locals.{ids_from, with_more}
 use Rattle.walrus_body_trees.specs.Laws.{AreOwn, BodiesMeanTheirs, IsNaming, meant, ops_of, renamed}
-use Rattle.walrus_builder.specs.Functions.{seqs_of}
+use Rattle.walrus_meaning.specs.walrus_module.walrus_builder.Functions.{seqs_of}
 use Rattle.walrus_file_bodies.specs.Read.{Waits, coded_by, env_is, env_of, grows_none, others_keep, read_body_reads, step_is_read, step_on, steps_grow}
-use Rattle.walrus_forms.specs.declared.value.ValType.{ValType}
+use Rattle.wasm_body_grammar.specs.wasm_grammar.walrus_forms.declared.value.ValType.{ValType}
 use Rattle.walrus_function_types.specs.Growth.{EntryTypesGrow, FoundTypesStay, Grows, TablesGrowOn}
-use Rattle.walrus_functions_into.specs.declared.bodies.FunctionBody.{FunctionBody}
-use Rattle.walrus_index_maps.specs.Maps.{Ids}
-use Rattle.walrus_instr.specs.declared.seq.InstrSeqType.{InstrSeqType}
-use Rattle.walrus_known_sections.specs.Items.{chunk_of}
-use Rattle.walrus_local_function.specs.declared.local_function.LocalFunction.{LocalFunction}
+use Rattle.walrus_file_bodies.specs.walrus_items_into.walrus_functions_into.declared.bodies.FunctionBody.{FunctionBody}
+use Rattle.walrus_operator_laws.specs.walrus_pairing.walrus_index_maps.Maps.{Ids}
+use Rattle.walrus_operator_laws.specs.walrus_pairing.walrus_instr.declared.seq.InstrSeqType.{InstrSeqType}
+use Rattle.walrus_file_bodies.specs.walrus_items_into.walrus_tables_into.walrus_sections_into.walrus_known_sections.Items.{chunk_of}
+use Rattle.walrus_meaning.specs.walrus_local_function.declared.local_function.LocalFunction.{LocalFunction}
 use Rattle.walrus_meaning.specs.Bodies.{own_operators}
-use Rattle.walrus_module_bodies.specs.Steps.{IsStep, State, Steps}
-use Rattle.walrus_module_bodies.specs.declared.file.FileEnv.{FileEnv}
-use Rattle.walrus_module_env.specs.Around.{sight_in}
-use Rattle.walrus_module_env.specs.Parsed.{BlocksAreNamed, PicksAreSeen}
-use Rattle.walrus_module_items.specs.declared.function.Function.{Function}
-use Rattle.walrus_module_items.specs.declared.function.FunctionKind.TheVariants as kinds
-use Rattle.walrus_pairing.specs.Looks.{id_of}
-use Rattle.walrus_types.specs.Table.{Table}
+use Rattle.walrus_file_bodies.specs.walrus_module_bodies.Steps.{IsStep, State, Steps}
+use Rattle.walrus_file_bodies.specs.walrus_module_bodies.declared.file.FileEnv.{FileEnv}
+use Rattle.walrus_file_bodies.specs.walrus_items_into.walrus_module_env.Around.{sight_in}
+use Rattle.walrus_file_bodies.specs.walrus_items_into.walrus_module_env.Parsed.{BlocksAreNamed, PicksAreSeen}
+use Rattle.walrus_meaning.specs.walrus_linked.walrus_module_items.declared.function.Function.{Function}
+use Rattle.walrus_meaning.specs.walrus_linked.walrus_module_items.declared.function.FunctionKind.TheVariants as kinds
+use Rattle.walrus_operator_laws.specs.walrus_pairing.Looks.{id_of}
+use Rattle.walrus_meaning.specs.walrus_module.walrus_types.Table.{Table}
 use Rattle.walrus_parsed_bodies.proofs.PickLemmas.{stands_as_written}
 use Rattle.walrus_parsed_bodies.proofs.SlotLemmas.{NoneOf, set_cases}
 use Rattle.walrus_parsed_texts.specs.Texts.{naming, text_of}

@@ -3,29 +3,29 @@ use Rattle.std.specs.Prelude.{ℕ, ◌≡◌, ◌<◌, List, [], length, Option,
 use Rattle.std.specs.Option.{unwrap_or}
 use Rattle.std.proofs.Common.{ap, sym, ◌∙◌, subst}
 use Rattle.std.proofs.lemmas.Option.{slice_get_within}
-use Rattle.wasm_body_grammar.specs.Rules.{Around}
-use Rattle.wasm_features.specs.declared.WasmFeatures.{WasmFeatures}
-use Rattle.wasm_grammar.specs.States.{State, types_of}
-use Rattle.wasm_immediates.specs.Items.{Space, Types, Functions, Tables, Memories, Tags, Globals, ElementSegments, DataSegments, Locals, Labels}
+use Rattle.walrus_group_laws.specs.walrus_meaning.walrus_local_function.walrus_body_locals.wasm_body_grammar.Rules.{Around}
+use Rattle.wasm_operator_names.specs.wasm_immediates.wasm_features.declared.WasmFeatures.{WasmFeatures}
+use Rattle.walrus_group_laws.specs.walrus_meaning.walrus_local_function.walrus_body_locals.wasm_grammar.States.{State, types_of}
+use Rattle.wasm_operator_names.specs.wasm_immediates.Items.{Space, Types, Functions, Tables, Memories, Tags, Globals, ElementSegments, DataSegments, Locals, Labels}
 use Rattle.wasm_import_links.specs.Full.{ReadModulesAreFull}
-use Rattle.wasm_modules.specs.Modules.{around}
+use Rattle.walrus_file_bodies.specs.walrus_items_into.wasm_module_rules.wasm_modules.Modules.{around}
 use Rattle.walrus_file_bodies.proofs.StopLemmas.{bodies_wait}
 use Rattle.walrus_file_bodies.specs.Laws.{BodiesReadFiles}
 use Rattle.walrus_file_bodies.specs.Read.{env_is, env_of, grows_none}
 use Rattle.walrus_function_types.specs.Growth.{FoundTypesStay, TablesGrowOn}
 use Rattle.walrus_group_laws.specs.Groups.{ReadTypesAreDeclared}
-use Rattle.walrus_index_maps.specs.Maps.{Ids}
-use Rattle.walrus_into_laws.specs.Meaning.{OrderedStay}
-use Rattle.walrus_items_into.specs.Laws.{FilledModulesAreFiled}
-use Rattle.walrus_items_into.specs.Numbers.{types_in}
-use Rattle.walrus_known_sections.specs.State.{state_of}
-use Rattle.walrus_module.specs.Parts.{parts}
-use Rattle.walrus_module_env.specs.Around.{IsFiled}
-use Rattle.walrus_module_env.specs.declared.env.ModuleEnv.{ModuleEnv}
-use Rattle.walrus_pairing.specs.Looks.{id_of}
-use Rattle.walrus_parse.specs.Parsed.{read_features}
-use Rattle.walrus_types_into.specs.Into.{NewTypesStand, TypesNameBelow}
-use Rattle.walrus_parsed_items.specs.Items.{ReadModulesHaveItems, file_of}
+use Rattle.walrus_group_laws.specs.walrus_meaning.walrus_body_writer.walrus_pairing.walrus_index_maps.Maps.{Ids}
+use Rattle.walrus_parsed_names.specs.walrus_parsed_items.walrus_into_laws.Meaning.{OrderedStay}
+use Rattle.walrus_file_bodies.specs.walrus_items_into.Laws.{FilledModulesAreFiled}
+use Rattle.walrus_file_bodies.specs.walrus_items_into.Numbers.{types_in}
+use Rattle.walrus_file_bodies.specs.walrus_items_into.walrus_tables_into.walrus_sections_into.walrus_known_sections.State.{state_of}
+use Rattle.walrus_parsed_texts.specs.walrus_parse.walrus_module.Parts.{parts}
+use Rattle.walrus_file_bodies.specs.walrus_items_into.walrus_module_env.Around.{IsFiled}
+use Rattle.walrus_file_bodies.specs.walrus_items_into.walrus_module_env.declared.env.ModuleEnv.{ModuleEnv}
+use Rattle.walrus_group_laws.specs.walrus_meaning.walrus_body_writer.walrus_pairing.Looks.{id_of}
+use Rattle.walrus_parsed_texts.specs.walrus_parse.Parsed.{read_features}
+use Rattle.walrus_group_laws.specs.walrus_types_into.Into.{NewTypesStand, TypesNameBelow}
+use Rattle.walrus_parsed_names.specs.walrus_parsed_items.Items.{ReadModulesHaveItems, file_of}
 use Rattle.walrus_parsed_names.proofs.TypeLemmas.{types_live}
 use Rattle.walrus_parsed_uses.specs.Indices.{IndicesOfReadModulesLive}
 use Rattle.walrus_parsed_uses.specs.Uses.{IsThere}

@@ -5,7 +5,7 @@ use Rattle.std.specs.Option.{option_map, unwrap_or}
 use Rattle.std.proofs.Common.{ap, sym, ◌∙◌, subst, arith}
 use Rattle.std.proofs.lemmas.List.Elements.{All-head, All-tail}
 use Rattle.std.proofs.lemmas.Option.{get_or_from_slice_get}
-use Rattle.wasm_formats.specs.declared.fault.Space.TheVariants as spaces
+use Rattle.walrus_group_laws.specs.walrus_meaning.walrus_local_function.walrus_body_locals.walrus_body_nesting.wasm_formats.declared.fault.Space.TheVariants as spaces
 use Rattle.wasm_ruled_modules.specs.Rules.{ReadModulesAreRuled}
 use Rattle.walrus_file_bodies.specs.Laws.{BodiesReadFiles}
 use Rattle.walrus_forms.specs.Forms.{Form, FunctionForm, StructForm, ArrayForm, form_names}
@@ -17,27 +17,27 @@ use Rattle.walrus_forms.specs.declared.value.ValType.{ValType}
 use Rattle.walrus_forms.proofs.RenamingLemmas.{kinds-names}
 use Rattle.walrus_function_types.specs.Growth.{FoundTypesStay, TablesGrowOn}
 use Rattle.walrus_group_laws.specs.Groups.{ReadTypesAreDeclared}
-use Rattle.walrus_index_maps.specs.Maps.{Ids}
-use Rattle.walrus_item_names.specs.Holder.{Holder}
-use Rattle.walrus_item_names.specs.Names.{bare_type}
-use Rattle.walrus_items_into.specs.Numbers.{types_in}
-use Rattle.walrus_known_sections.specs.State.{state_of}
-use Rattle.walrus_known_sections.specs.Types.{kinds_in}
-use Rattle.walrus_linked.specs.Names.{named_by, names, type_names}
+use Rattle.walrus_group_laws.specs.walrus_meaning.walrus_body_writer.walrus_pairing.walrus_index_maps.Maps.{Ids}
+use Rattle.walrus_parsed_texts.specs.walrus_parse.walrus_item_names.Holder.{Holder}
+use Rattle.walrus_parsed_texts.specs.walrus_parse.walrus_item_names.Names.{bare_type}
+use Rattle.walrus_file_bodies.specs.walrus_items_into.Numbers.{types_in}
+use Rattle.walrus_file_bodies.specs.walrus_items_into.walrus_tables_into.walrus_sections_into.walrus_known_sections.State.{state_of}
+use Rattle.walrus_file_bodies.specs.walrus_items_into.walrus_tables_into.walrus_sections_into.walrus_known_sections.Types.{kinds_in}
+use Rattle.walrus_group_laws.specs.walrus_meaning.walrus_linked.Names.{named_by, names, type_names}
 use Rattle.walrus_marks.specs.Named.{items_of}
 use Rattle.walrus_marks.specs.walrus_walks.Events.{NamesType}
-use Rattle.walrus_module.specs.Items.{Lives, LivesIn}
-use Rattle.walrus_module.specs.Parts.{Module, parts}
-use Rattle.walrus_parse.specs.Parsed.{read_features}
-use Rattle.walrus_parsed_items.specs.Items.{ReadModulesHaveItems, file_of}
+use Rattle.walrus_parsed_texts.specs.walrus_parse.walrus_module.Items.{Lives, LivesIn}
+use Rattle.walrus_parsed_texts.specs.walrus_parse.walrus_module.Parts.{Module, parts}
+use Rattle.walrus_parsed_texts.specs.walrus_parse.Parsed.{read_features}
+use Rattle.walrus_parsed_names.specs.walrus_parsed_items.Items.{ReadModulesHaveItems, file_of}
 use Rattle.walrus_parsed_names.proofs.ListLemmas.{AllOf, all_at, all_contains, all_join, get_some, some_is}
 use Rattle.walrus_file_bodies.specs.Read.{steps_grow}
 use Rattle.walrus_parsed_names.proofs.TypeLemmas.{types_live}
 use Rattle.walrus_parsed_links.proofs.SlotLemmas.{seen_at}
-use Rattle.walrus_roots.specs.Items.{item}
-use Rattle.walrus_types.specs.Items.{Item as TypeItem}
-use Rattle.walrus_types.specs.Table.{Table, type_at}
-use Rattle.walrus_types_into.specs.Into.{NewTypesStand, TypesNameBelow}
+use Rattle.walrus_file_bodies.specs.walrus_items_into.walrus_tables_into.walrus_sections.walrus_roots.Items.{item}
+use Rattle.walrus_marks.specs.walrus_instr.walrus_types.Items.{Item as TypeItem}
+use Rattle.walrus_marks.specs.walrus_instr.walrus_types.Table.{Table, type_at}
+use Rattle.walrus_group_laws.specs.walrus_types_into.Into.{NewTypesStand, TypesNameBelow}
 use Rattle.walrus_parsed_uses.specs.Types.{NamesOfReadTypesLive}
 use Rattle.walrus_parsed_uses.proofs.RuleLemmas.{groups_below}
 

@@ -1,12 +1,12 @@
 -- Lemmas: what holds of all that a body names holds of all that its normal form does.
 use Rattle.std.specs.Prelude.{ℕ, Bool, true, false, List, [], ◌∷◌, ◌++◌, map, Option}
-use Rattle.wasm_immediates.specs.Items.{Item, Names, Number, S32, S64, Bits, Byte, Bytes, Heap, Block, Access, ManyLabels, ManyValues, ManyClauses}
-use Rattle.wasm_immediates.specs.declared.block_type.BlockType.{BlockType}
-use Rattle.wasm_normal_form.specs.Normal.{closed, normal_from, normal_ops, with_pick}
-use Rattle.wasm_normal_form.specs.Roles.{Placed, Role, Passes, Runs, Opens, Turns, Ends, cuts, is_if, role}
-use Rattle.wasm_normal_form.specs.Trees.{Tree, Close, Arm, Skip, Run, Nest, flat, innermost, open_in, prepend, tree_of}
+use Rattle.wasm_operator_names.specs.wasm_immediates.Items.{Item, Names, Number, S32, S64, Bits, Byte, Bytes, Heap, Block, Access, ManyLabels, ManyValues, ManyClauses}
+use Rattle.wasm_operator_names.specs.wasm_immediates.declared.block_type.BlockType.{BlockType}
+use Rattle.walrus_group_laws.specs.walrus_meaning.walrus_local_function.walrus_body_locals.wasm_normal_form.Normal.{closed, normal_from, normal_ops, with_pick}
+use Rattle.walrus_group_laws.specs.walrus_meaning.walrus_local_function.walrus_body_locals.wasm_normal_form.Roles.{Placed, Role, Passes, Runs, Opens, Turns, Ends, cuts, is_if, role}
+use Rattle.walrus_group_laws.specs.walrus_meaning.walrus_local_function.walrus_body_locals.wasm_normal_form.Trees.{Tree, Close, Arm, Skip, Run, Nest, flat, innermost, open_in, prepend, tree_of}
 use Rattle.wasm_operator_names.specs.Names.{Name, block_names, item_names, operator_names}
-use Rattle.wasm_operators.specs.Operators.{Seen}
+use Rattle.walrus_file_bodies.specs.walrus_items_into.walrus_module_env.walrus_body_parser.wasm_operators.Operators.{Seen}
 use Rattle.std.specs.List.{flat_map}
 use Rattle.walrus_parsed_names.proofs.ListLemmas.{AllOf, all_join}
 

@@ -6,23 +6,23 @@ use Rattle.std.proofs.Common.{arith}
 use Rattle.std.proofs.lemmas.Bool.{ltb-true}
 use Rattle.std.proofs.lemmas.List.{length-append}
 use Rattle.std.proofs.lemmas.List.Elements.{All-nil, All-cons, All-head, All-tail}
-use Rattle.wasm_body_grammar.specs.Frames.{Frame, turned}
-use Rattle.wasm_body_grammar.specs.Bodies.{frames_of}
-use Rattle.wasm_body_grammar.specs.Rules.{Around, found_in, latest_from, leads, names_test, pick, room, serves, space_of}
-use Rattle.wasm_formats.specs.Stops.{Index}
-use Rattle.wasm_formats.specs.declared.fault.Space.TheVariants as spaces
-use Rattle.wasm_grammar.specs.Modules as grammar
-use Rattle.wasm_grammar.specs.States.{count_of, types_of}
-use Rattle.wasm_grammar.specs.TypeWords.{value_from}
-use Rattle.wasm_grammar.specs.Values.{must}
-use Rattle.wasm_immediates.specs.Items.{Space, Types, Functions, Tables, Memories, Tags, Globals, ElementSegments, DataSegments, Locals, Labels}
-use Rattle.wasm_immediates.specs.declared.block_type.BlockType.{BlockType}
-use Rattle.wasm_immediates.specs.declared.block_type.BlockType.TheVariants as blocks
-use Rattle.wasm_module_rules.specs.Keeps.{first_none, must_holds}
+use Rattle.walrus_group_laws.specs.walrus_meaning.walrus_local_function.walrus_body_locals.wasm_body_grammar.Frames.{Frame, turned}
+use Rattle.walrus_group_laws.specs.walrus_meaning.walrus_local_function.walrus_body_locals.wasm_body_grammar.Bodies.{frames_of}
+use Rattle.walrus_group_laws.specs.walrus_meaning.walrus_local_function.walrus_body_locals.wasm_body_grammar.Rules.{Around, found_in, latest_from, leads, names_test, pick, room, serves, space_of}
+use Rattle.walrus_group_laws.specs.walrus_meaning.walrus_local_function.walrus_body_locals.walrus_body_nesting.wasm_formats.Stops.{Index}
+use Rattle.walrus_group_laws.specs.walrus_meaning.walrus_local_function.walrus_body_locals.walrus_body_nesting.wasm_formats.declared.fault.Space.TheVariants as spaces
+use Rattle.walrus_group_laws.specs.walrus_meaning.walrus_local_function.walrus_body_locals.wasm_grammar.Modules as grammar
+use Rattle.walrus_group_laws.specs.walrus_meaning.walrus_local_function.walrus_body_locals.wasm_grammar.States.{count_of, types_of}
+use Rattle.walrus_group_laws.specs.walrus_meaning.walrus_local_function.walrus_body_locals.wasm_grammar.TypeWords.{value_from}
+use Rattle.walrus_group_laws.specs.walrus_meaning.walrus_local_function.walrus_body_locals.wasm_grammar.Values.{must}
+use Rattle.wasm_operator_names.specs.wasm_immediates.Items.{Space, Types, Functions, Tables, Memories, Tags, Globals, ElementSegments, DataSegments, Locals, Labels}
+use Rattle.wasm_operator_names.specs.wasm_immediates.declared.block_type.BlockType.{BlockType}
+use Rattle.wasm_operator_names.specs.wasm_immediates.declared.block_type.BlockType.TheVariants as blocks
+use Rattle.walrus_file_bodies.specs.walrus_items_into.wasm_module_rules.Keeps.{first_none, must_holds}
 use Rattle.wasm_operator_names.specs.Names.{Name, block_names, operator_names, value_names}
-use Rattle.wasm_operators.specs.Operators.{flow_of}
+use Rattle.walrus_file_bodies.specs.walrus_items_into.walrus_module_env.walrus_body_parser.wasm_operators.Operators.{flow_of}
 use Rattle.wasm_ruled_modules.specs.Rules.{AreBelow, AreOperators, GroupsBelow}
-use Rattle.wasm_run_names.specs.Picks.{block_pick, form_pick, kind_pick}
+use Rattle.walrus_file_bodies.specs.walrus_items_into.walrus_module_env.wasm_run_names.Picks.{block_pick, form_pick, kind_pick}
 use Rattle.walrus_forms.specs.Forms.{Form, FunctionForm, StructForm, ArrayForm}
 use Rattle.walrus_forms.specs.Kinds.{Kind}
 use Rattle.walrus_forms.specs.Records.{TypeGroup}

@@ -3,43 +3,43 @@ use Rattle.std.specs.Prelude.{ℕ, ◌≡◌, ◌≢◌, ◌<◌, List, [], ◌�
 use Rattle.std.specs.List.{AllByRecursion, AllZip}
 use Rattle.std.specs.Option.{unwrap_or}
 use Rattle.std.proofs.Common.{ap, sym, ◌∙◌, subst}
-use Rattle.wasm_body_grammar.specs.Codes.{Code, ReadsCodes}
-use Rattle.wasm_body_grammar.specs.Rules.{Around}
-use Rattle.wasm_formats.specs.declared.fault.Space.TheVariants as spaces
-use Rattle.wasm_grammar.specs.Modules as grammar
-use Rattle.wasm_grammar.specs.States.{State, types_of}
-use Rattle.wasm_immediates.specs.Items.{Space, Types, Functions, Tables, Memories, Tags, Globals, ElementSegments, DataSegments, Locals, Labels}
+use Rattle.walrus_group_laws.specs.walrus_meaning.walrus_local_function.walrus_body_locals.wasm_body_grammar.Codes.{Code, ReadsCodes}
+use Rattle.walrus_group_laws.specs.walrus_meaning.walrus_local_function.walrus_body_locals.wasm_body_grammar.Rules.{Around}
+use Rattle.walrus_group_laws.specs.walrus_meaning.walrus_local_function.walrus_body_locals.walrus_body_nesting.wasm_formats.declared.fault.Space.TheVariants as spaces
+use Rattle.walrus_group_laws.specs.walrus_meaning.walrus_local_function.walrus_body_locals.wasm_grammar.Modules as grammar
+use Rattle.walrus_group_laws.specs.walrus_meaning.walrus_local_function.walrus_body_locals.wasm_grammar.States.{State, types_of}
+use Rattle.wasm_operator_names.specs.wasm_immediates.Items.{Space, Types, Functions, Tables, Memories, Tags, Globals, ElementSegments, DataSegments, Locals, Labels}
 use Rattle.wasm_import_links.specs.Full.{AreFull, ReadModulesAreFull}
-use Rattle.wasm_module_rules.specs.Reading.{bodies_length}
-use Rattle.wasm_modules.specs.Modules.{around, codes, module_of}
-use Rattle.wasm_normal_form.specs.Normal.{normal_ops}
-use Rattle.wasm_normal_form.specs.Roles.{Placed, placed}
+use Rattle.walrus_file_bodies.specs.walrus_items_into.wasm_module_rules.Reading.{bodies_length}
+use Rattle.walrus_file_bodies.specs.walrus_items_into.wasm_module_rules.wasm_modules.Modules.{around, codes, module_of}
+use Rattle.walrus_group_laws.specs.walrus_meaning.walrus_local_function.walrus_body_locals.wasm_normal_form.Normal.{normal_ops}
+use Rattle.walrus_group_laws.specs.walrus_meaning.walrus_local_function.walrus_body_locals.wasm_normal_form.Roles.{Placed, placed}
 use Rattle.wasm_operator_names.specs.Laws.{NamesAreRenamed, renamed_name}
 use Rattle.wasm_operator_names.specs.Names.{Name, operator_names}
 use Rattle.wasm_ruled_modules.specs.Bodied.{body_is}
 use Rattle.wasm_ruled_modules.specs.Rules.{GroupsBelow, IsBody, ReadModulesAreRuled}
-use Rattle.wasm_run_names.specs.Picks.{block_pick}
+use Rattle.walrus_file_bodies.specs.walrus_items_into.walrus_module_env.wasm_run_names.Picks.{block_pick}
 use Rattle.walrus_body_trees.specs.Laws.{meant, renamed}
 use Rattle.walrus_file_bodies.specs.Laws.{BodiesReadFiles}
 use Rattle.walrus_file_bodies.specs.Ready.{bodies_in}
 use Rattle.walrus_function_types.specs.Growth.{FoundTypesStay, TablesGrowOn}
-use Rattle.walrus_functions_into.specs.declared.bodies.FunctionBody.{FunctionBody}
+use Rattle.walrus_file_bodies.specs.walrus_items_into.walrus_functions_into.declared.bodies.FunctionBody.{FunctionBody}
 use Rattle.walrus_group_laws.specs.Groups.{ReadTypesAreDeclared}
-use Rattle.walrus_index_maps.specs.Maps.{Ids}
-use Rattle.walrus_into_laws.specs.Meaning.{OrderedStay, OthersStay}
-use Rattle.walrus_into_laws.specs.Renamed.{retyped_element, retyped_global, retyped_segment, retyped_table, retyped_tag}
-use Rattle.walrus_items_into.specs.Numbers.{numbers_of, types_in}
-use Rattle.walrus_known_sections.specs.State.{state_of}
-use Rattle.walrus_known_sections.specs.declared.sections.Sections.{Sections}
-use Rattle.walrus_meaning.specs.Bodies.{own_operators}
-use Rattle.walrus_meaning.specs.Meaning.{means, own_element, own_global, own_segment, own_table, own_tag}
-use Rattle.walrus_module.specs.Items.{LivesIn}
-use Rattle.walrus_module.specs.Parts.{Module, parts}
-use Rattle.walrus_pairing.specs.Looks.{id_of}
-use Rattle.walrus_parse.specs.Parsed.{read_features}
-use Rattle.walrus_sections_into.specs.Becomes.{look_of}
-use Rattle.walrus_types_into.specs.Into.{NewTypesStand, TypesNameBelow}
-use Rattle.walrus_parsed_items.specs.Items.{HasItems, ReadModulesHaveItems, file_of}
+use Rattle.walrus_group_laws.specs.walrus_meaning.walrus_body_writer.walrus_pairing.walrus_index_maps.Maps.{Ids}
+use Rattle.walrus_parsed_names.specs.walrus_parsed_items.walrus_into_laws.Meaning.{OrderedStay, OthersStay}
+use Rattle.walrus_parsed_names.specs.walrus_parsed_items.walrus_into_laws.Renamed.{retyped_element, retyped_global, retyped_segment, retyped_table, retyped_tag}
+use Rattle.walrus_file_bodies.specs.walrus_items_into.Numbers.{numbers_of, types_in}
+use Rattle.walrus_file_bodies.specs.walrus_items_into.walrus_tables_into.walrus_sections_into.walrus_known_sections.State.{state_of}
+use Rattle.walrus_file_bodies.specs.walrus_items_into.walrus_tables_into.walrus_sections_into.walrus_known_sections.declared.sections.Sections.{Sections}
+use Rattle.walrus_group_laws.specs.walrus_meaning.Bodies.{own_operators}
+use Rattle.walrus_group_laws.specs.walrus_meaning.Meaning.{means, own_element, own_global, own_segment, own_table, own_tag}
+use Rattle.walrus_parsed_texts.specs.walrus_parse.walrus_module.Items.{LivesIn}
+use Rattle.walrus_parsed_texts.specs.walrus_parse.walrus_module.Parts.{Module, parts}
+use Rattle.walrus_group_laws.specs.walrus_meaning.walrus_body_writer.walrus_pairing.Looks.{id_of}
+use Rattle.walrus_parsed_texts.specs.walrus_parse.Parsed.{read_features}
+use Rattle.walrus_file_bodies.specs.walrus_items_into.walrus_tables_into.walrus_sections_into.Becomes.{look_of}
+use Rattle.walrus_group_laws.specs.walrus_types_into.Into.{NewTypesStand, TypesNameBelow}
+use Rattle.walrus_parsed_names.specs.walrus_parsed_items.Items.{HasItems, ReadModulesHaveItems, file_of}
 use Rattle.walrus_parsed_links.proofs.LinkLemmas.{function_flags}
 use Rattle.walrus_parsed_links.proofs.SlotLemmas.{flags, flags_seen, live_at}
 use Rattle.walrus_parsed_names.proofs.ListLemmas.{AllOf}

@@ -1,12 +1,12 @@
 -- What an index names in a module that was read: an item that lives.
 use Rattle.std.specs.Prelude.{ℕ, ◌≡◌, ◌<◌, List, All, Some}
-use Rattle.wasm_immediates.specs.Items.{Space}
+use Rattle.wasm_operator_names.specs.wasm_immediates.Items.{Space}
 use Rattle.walrus_config.specs.declared.config.ModuleConfig.{ModuleConfig}
-use Rattle.walrus_index_maps.specs.Maps.{Ids}
-use Rattle.walrus_module.specs.Parts.{parts}
-use Rattle.walrus_module.specs.declared.module.Module.{Module as Whole}
-use Rattle.walrus_pairing.specs.Looks.{id_of}
-use Rattle.walrus_parse.specs.Parsed.{IsReadAs}
+use Rattle.walrus_group_laws.specs.walrus_meaning.walrus_body_writer.walrus_pairing.walrus_index_maps.Maps.{Ids}
+use Rattle.walrus_parsed_texts.specs.walrus_parse.walrus_module.Parts.{parts}
+use Rattle.walrus_parsed_texts.specs.walrus_parse.walrus_module.declared.module.Module.{Module as Whole}
+use Rattle.walrus_group_laws.specs.walrus_meaning.walrus_body_writer.walrus_pairing.Looks.{id_of}
+use Rattle.walrus_parsed_texts.specs.walrus_parse.Parsed.{IsReadAs}
 use Rattle.walrus_parsed_uses.specs.Uses.{IsThere}
 
 -- the item of the id that an index has lives; locals and labels are a body's own

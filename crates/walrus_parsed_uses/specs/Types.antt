@@ -1,16 +1,16 @@
 -- What the types of a file name in the module that was read: types that live.
 use Rattle.std.specs.Prelude.{ℕ, ◌<◌, List, All, Contains, length, slice_get}
 use Rattle.std.specs.Option.{unwrap_or}
-use Rattle.wasm_formats.specs.declared.fault.Space.TheVariants as spaces
+use Rattle.walrus_group_laws.specs.walrus_meaning.walrus_local_function.walrus_body_locals.walrus_body_nesting.wasm_formats.declared.fault.Space.TheVariants as spaces
 use Rattle.walrus_config.specs.declared.config.ModuleConfig.{ModuleConfig}
-use Rattle.walrus_index_maps.specs.Maps.{Ids}
-use Rattle.walrus_linked.specs.Names.{names}
-use Rattle.walrus_module.specs.Items.{Lives}
-use Rattle.walrus_module.specs.Parts.{Module, parts}
-use Rattle.walrus_module.specs.declared.module.Module.{Module as Whole}
-use Rattle.walrus_parse.specs.Parsed.{IsReadAs}
-use Rattle.walrus_roots.specs.Items.{item}
-use Rattle.walrus_roots.specs.declared.item.Item.{Item}
+use Rattle.walrus_group_laws.specs.walrus_meaning.walrus_body_writer.walrus_pairing.walrus_index_maps.Maps.{Ids}
+use Rattle.walrus_group_laws.specs.walrus_meaning.walrus_linked.Names.{names}
+use Rattle.walrus_parsed_texts.specs.walrus_parse.walrus_module.Items.{Lives}
+use Rattle.walrus_parsed_texts.specs.walrus_parse.walrus_module.Parts.{Module, parts}
+use Rattle.walrus_parsed_texts.specs.walrus_parse.walrus_module.declared.module.Module.{Module as Whole}
+use Rattle.walrus_parsed_texts.specs.walrus_parse.Parsed.{IsReadAs}
+use Rattle.walrus_file_bodies.specs.walrus_items_into.walrus_tables_into.walrus_sections.walrus_roots.Items.{item}
+use Rattle.walrus_file_bodies.specs.walrus_items_into.walrus_tables_into.walrus_sections.walrus_roots.declared.item.Item.{Item}
 
 -- what the type of each index names lives
 abbrev pub TypesNameLiving : Module → Ids → Type 0

@@ -1,23 +1,23 @@
 -- What the bodies of a module that was read name: items that live.
 use Rattle.std.specs.Prelude.{ℕ, ◌≡◌, ◌<◌, List, All, Some}
 use Rattle.std.specs.List.{AllByRecursion}
-use Rattle.wasm_body_grammar.specs.Rules.{space_of}
-use Rattle.wasm_grammar.specs.Modules.{Placed}
-use Rattle.wasm_immediates.specs.Items.{Space, Locals, Labels}
+use Rattle.walrus_group_laws.specs.walrus_meaning.walrus_local_function.walrus_body_locals.wasm_body_grammar.Rules.{space_of}
+use Rattle.walrus_group_laws.specs.walrus_meaning.walrus_local_function.walrus_body_locals.wasm_grammar.Modules.{Placed}
+use Rattle.wasm_operator_names.specs.wasm_immediates.Items.{Space, Locals, Labels}
 use Rattle.wasm_operator_names.specs.Names.{Name, operator_names}
 use Rattle.walrus_arena.specs.Arena.{item_at}
 use Rattle.walrus_config.specs.declared.config.ModuleConfig.{ModuleConfig}
 use Rattle.walrus_file_bodies.specs.Ready.{bodies_in}
-use Rattle.walrus_functions_into.specs.declared.bodies.FunctionBody.{FunctionBody}
-use Rattle.walrus_index_maps.specs.Maps.{Ids}
-use Rattle.walrus_local_function.specs.declared.local_function.LocalFunction.{LocalFunction}
-use Rattle.walrus_meaning.specs.Bodies.{own_operators}
-use Rattle.walrus_module.specs.Items.{LivesIn}
-use Rattle.walrus_module.specs.Parts.{Module, parts}
-use Rattle.walrus_module.specs.declared.module.Module.{Module as Whole}
-use Rattle.walrus_module_items.specs.declared.function.Function.{Function}
-use Rattle.walrus_module_items.specs.declared.function.FunctionKind.TheVariants as kinds
-use Rattle.walrus_parse.specs.Parsed.{IsReadAs}
+use Rattle.walrus_file_bodies.specs.walrus_items_into.walrus_functions_into.declared.bodies.FunctionBody.{FunctionBody}
+use Rattle.walrus_group_laws.specs.walrus_meaning.walrus_body_writer.walrus_pairing.walrus_index_maps.Maps.{Ids}
+use Rattle.walrus_group_laws.specs.walrus_meaning.walrus_local_function.declared.local_function.LocalFunction.{LocalFunction}
+use Rattle.walrus_group_laws.specs.walrus_meaning.Bodies.{own_operators}
+use Rattle.walrus_parsed_texts.specs.walrus_parse.walrus_module.Items.{LivesIn}
+use Rattle.walrus_parsed_texts.specs.walrus_parse.walrus_module.Parts.{Module, parts}
+use Rattle.walrus_parsed_texts.specs.walrus_parse.walrus_module.declared.module.Module.{Module as Whole}
+use Rattle.walrus_parsed_texts.specs.walrus_parse.walrus_module.walrus_module_items.declared.function.Function.{Function}
+use Rattle.walrus_parsed_texts.specs.walrus_parse.walrus_module.walrus_module_items.declared.function.FunctionKind.TheVariants as kinds
+use Rattle.walrus_parsed_texts.specs.walrus_parse.Parsed.{IsReadAs}
 
 -- the item of the module lives; a label or local is the body's own
 abbrev pub IsThere : Module → Space → ℕ → Type 0

@@ -2,3 +2,7 @@
 #![tactic(auto)]
 
 pub mod laws;
+
+// Passed on to crates above, which then list this one alone.
+pub use walrus_parsed_texts as parsed_texts;
+pub use walrus_parsed_names as parsed_names;

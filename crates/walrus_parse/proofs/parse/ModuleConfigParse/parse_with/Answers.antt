@@ -12,7 +12,7 @@ use Rattle.walrus_parse.proofs.parse.ModuleConfigParse.parse_with.Goals as goal
 
 pub returns-in_err-found-clause-refused : goal.returns-in_err-found-clause-refused
 returns-in_err-found-clause-refused g c =
-    handed (λ (error : ModuleError). IsRefusal (read_features c.args.self.now) c.args.wasm.now error ⊎ ((m : Whole g.row.B.Denot) × HandsOn {B = g.row.B.Denot} {F = g.row.F.Denot} g.F.FnOnce c.args.on_parse c.args.self.now c.args.wasm.now (Err error) m))
+    handed (λ (error : ModuleError). IsRefusal (read_features c.args.self.now) c.args.wasm.now error ⊎ ((m : Whole g.row.B.Denot) × HandsOn {B = g.row.B.Denot} {G = g.row.G.Denot} (goal.G-step g) c.args.on_instr_loc {F = g.row.F.Denot} g.F.FnOnce c.args.on_parse c.args.self.now c.args.wasm.now (Err error) m))
     c.in_err-found.field-0.0 c.from_residual.result c.from_residual.ensures
     (inl (subst (λ (config : Flags). IsRefusal (read_features config) c.args.wasm.now c.in_err-found.field-0.0) c.with_config-module.ensures.config c.in_err-found.ensures.refused))
 
@@ -24,6 +24,9 @@ returns-in-Err-clause-refused g c =
         read = c.parse_into.new.module;
         found = c.in_ok-found.found;
         is_read = is_read c.parse_into.new.module c.args.self.now c.args.wasm.now c.with_config-module.result.config (ids c.in_ok-found.found) c.in_ok-found.ensures.flags c.with_config-module.ensures.config c.in_ok-found.ensures.read;
+        last = c.send_locations.new.sends;
+        functions = c.send_locations.new.functions;
+        sent = c.in_ok-send_locations.ensures;
         left = leaves_so g.F.FnOnce c.args.on_parse _ _ _ _ _ c.in-Err.is c.on_parse.ensures;
       },
     )
@@ -33,5 +36,8 @@ returns-in-Ok-clause-read g c = record {
   read = c.parse_into.new.module;
   found = c.in_ok-found.found;
   is_read = is_read c.parse_into.new.module c.args.self.now c.args.wasm.now c.with_config-module.result.config (ids c.in_ok-found.found) c.in_ok-found.ensures.flags c.with_config-module.ensures.config c.in_ok-found.ensures.read;
+  last = c.send_locations.new.sends;
+  functions = c.send_locations.new.functions;
+  sent = c.in_ok-send_locations.ensures;
   left = leaves_so g.F.FnOnce c.args.on_parse _ _ _ _ _ c.in-Ok.is c.on_parse.ensures;
 }

@@ -1,0 +1,2 @@
+mod ReplaceLemmas
+mod SendLemmas
