@@ -6,36 +6,36 @@ use Rattle.std.proofs.Common.{ap, sym, ◌∙◌, subst}
 use Rattle.wasm_body_grammar.specs.Codes.{Code, ReadsCodes}
 use Rattle.wasm_body_grammar.specs.Laws.{BodiesReadOnce}
 use Rattle.wasm_body_grammar.specs.Rules.{Around}
-use Rattle.wasm_grammar.specs.Modules as grammar
-use Rattle.wasm_immediates.specs.Items.{Locals}
-use Rattle.wasm_modules.specs.Modules.{around}
-use Rattle.wasm_normal_form.specs.Bodies.{is_used, new_number}
-use Rattle.wasm_normal_form.specs.Locals.{Key}
-use Rattle.wasm_normal_form.specs.Normal.{normal_ops}
-use Rattle.wasm_run_names.specs.Picks.{block_pick}
-use Rattle.wasm_sections.specs.Within.{bodies_inside}
-use Rattle.walrus_body_locals.specs.Locals.{ids_from}
+use Rattle.wasm_body_grammar.specs.wasm_grammar.Modules as grammar
+use Rattle.wasm_body_grammar.specs.wasm_operator_names.wasm_immediates.Items.{Locals}
+use Rattle.walrus_file_bodies.specs.walrus_items_into.wasm_module_rules.wasm_modules.Modules.{around}
+use Rattle.walrus_meaning.specs.walrus_local_function.walrus_body_locals.wasm_normal_form.Bodies.{is_used, new_number}
+use Rattle.walrus_meaning.specs.walrus_local_function.walrus_body_locals.wasm_normal_form.Locals.{Key}
+use Rattle.walrus_meaning.specs.walrus_local_function.walrus_body_locals.wasm_normal_form.Normal.{normal_ops}
+use Rattle.walrus_file_bodies.specs.walrus_items_into.walrus_module_env.wasm_run_names.Picks.{block_pick}
+use Rattle.walrus_file_bodies.specs.walrus_items_into.wasm_sections.Within.{bodies_inside}
+use Rattle.walrus_meaning.specs.walrus_local_function.walrus_body_locals.Locals.{ids_from}
 use Rattle.walrus_body_trees.specs.Laws.{meant, renamed}
 use Rattle.walrus_file_bodies.proofs.PairLemmas.{are_apart, chunks_fit}
 use Rattle.walrus_file_bodies.proofs.StopLemmas.{bodies_wait, chunks_fit_in, count_in}
 use Rattle.walrus_file_bodies.specs.Read.{ids_length}
 use Rattle.walrus_file_bodies.specs.Ready.{bodies_in}
-use Rattle.walrus_forms.specs.Renaming.{at, renamed_value}
+use Rattle.wasm_body_grammar.specs.wasm_grammar.walrus_forms.Renaming.{at, renamed_value}
 use Rattle.walrus_function_types.specs.Growth.{EntryTypesGrow, FoundTypesStay, TablesGrowOn}
-use Rattle.walrus_functions_into.specs.Laws.{read_bodies}
-use Rattle.walrus_functions_into.specs.declared.bodies.FunctionBody.{FunctionBody}
-use Rattle.walrus_index_maps.specs.Maps.{Ids}
-use Rattle.walrus_item_names.specs.Holder.{Holder}
-use Rattle.walrus_item_names.specs.Names.{bare_function, bare_local}
-use Rattle.walrus_items_into.specs.Laws.{FilledFunctionsStand, FilledModulesAreFiled}
-use Rattle.walrus_known_sections.specs.State.{state_of}
-use Rattle.walrus_local_function.specs.declared.local_function.LocalFunction.{LocalFunction}
+use Rattle.walrus_file_bodies.specs.walrus_items_into.walrus_functions_into.Laws.{read_bodies}
+use Rattle.walrus_file_bodies.specs.walrus_items_into.walrus_functions_into.declared.bodies.FunctionBody.{FunctionBody}
+use Rattle.walrus_meaning.specs.walrus_body_writer.walrus_pairing.walrus_index_maps.Maps.{Ids}
+use Rattle.walrus_parsed_texts.specs.walrus_parse.walrus_item_names.Holder.{Holder}
+use Rattle.walrus_parsed_texts.specs.walrus_parse.walrus_item_names.Names.{bare_function, bare_local}
+use Rattle.walrus_file_bodies.specs.walrus_items_into.Laws.{FilledFunctionsStand, FilledModulesAreFiled}
+use Rattle.walrus_file_bodies.specs.walrus_items_into.walrus_tables_into.walrus_sections_into.walrus_known_sections.State.{state_of}
+use Rattle.walrus_meaning.specs.walrus_local_function.declared.local_function.LocalFunction.{LocalFunction}
 use Rattle.walrus_meaning.specs.Bodies.{local_ids, own_operators, used_locals}
-use Rattle.walrus_module.specs.Parts.{Module, parts}
-use Rattle.walrus_module_bodies.specs.Steps.{State, state}
-use Rattle.walrus_module_items.specs.declared.function.Function.{Function}
-use Rattle.walrus_module_items.specs.declared.function.FunctionKind.TheVariants as kinds
-use Rattle.walrus_parse.specs.Parsed.{read_features}
+use Rattle.walrus_meaning.specs.walrus_module.Parts.{Module, parts}
+use Rattle.walrus_file_bodies.specs.walrus_module_bodies.Steps.{State, state}
+use Rattle.walrus_meaning.specs.walrus_linked.walrus_module_items.declared.function.Function.{Function}
+use Rattle.walrus_meaning.specs.walrus_linked.walrus_module_items.declared.function.FunctionKind.TheVariants as kinds
+use Rattle.walrus_parsed_texts.specs.walrus_parse.Parsed.{read_features}
 use Rattle.walrus_parsed_bodies.proofs.WholeLemmas.{bare_same, kind_at}
 use Rattle.walrus_parsed_texts.specs.Texts.{MeansBody, ReadBodiesMeanTheirs, naming, text_of}
 use Rattle.walrus_parsed_locals.specs.Locals.{HasLocals, ReadBodiesHaveTheirLocals, keys_of, kept_numbers}

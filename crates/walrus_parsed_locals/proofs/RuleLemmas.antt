@@ -4,17 +4,17 @@ use Rattle.std.proofs.lemmas.Bool.{ltb-true}
 use Rattle.wasm_body_grammar.specs.Bodies.{frames_of}
 use Rattle.wasm_body_grammar.specs.Frames.{Frame, turned}
 use Rattle.wasm_body_grammar.specs.Rules.{Around, names_test, room, space_of}
-use Rattle.wasm_formats.specs.Stops.{Index}
-use Rattle.wasm_grammar.specs.Modules as grammar
-use Rattle.wasm_grammar.specs.Values.{must}
-use Rattle.wasm_immediates.specs.Items.{Space, Types, Functions, Tables, Memories, Tags, Globals, ElementSegments, DataSegments, Locals, Labels}
-use Rattle.wasm_immediates.specs.declared.block_type.BlockType.{BlockType}
-use Rattle.wasm_module_rules.specs.Keeps.{first_none, must_holds}
-use Rattle.wasm_normal_form.specs.Bodies.{locals_named}
-use Rattle.wasm_normal_form.specs.Normal.{normal_ops}
-use Rattle.wasm_normal_form.specs.Roles.{placed}
-use Rattle.wasm_operator_names.specs.Names.{Name, operator_names}
-use Rattle.wasm_operators.specs.Operators.{flow_of}
+use Rattle.wasm_body_grammar.specs.wasm_formats.Stops.{Index}
+use Rattle.wasm_body_grammar.specs.wasm_grammar.Modules as grammar
+use Rattle.wasm_body_grammar.specs.wasm_grammar.Values.{must}
+use Rattle.wasm_body_grammar.specs.wasm_operator_names.wasm_immediates.Items.{Space, Types, Functions, Tables, Memories, Tags, Globals, ElementSegments, DataSegments, Locals, Labels}
+use Rattle.wasm_body_grammar.specs.wasm_operator_names.wasm_immediates.declared.block_type.BlockType.{BlockType}
+use Rattle.walrus_file_bodies.specs.walrus_items_into.wasm_module_rules.Keeps.{first_none, must_holds}
+use Rattle.walrus_meaning.specs.walrus_local_function.walrus_body_locals.wasm_normal_form.Bodies.{locals_named}
+use Rattle.walrus_meaning.specs.walrus_local_function.walrus_body_locals.wasm_normal_form.Normal.{normal_ops}
+use Rattle.walrus_meaning.specs.walrus_local_function.walrus_body_locals.wasm_normal_form.Roles.{placed}
+use Rattle.wasm_body_grammar.specs.wasm_operator_names.Names.{Name, operator_names}
+use Rattle.wasm_body_grammar.specs.wasm_operators.Operators.{flow_of}
 use Rattle.wasm_ruled_modules.specs.Rules.{AreOperators, IsBody}
 use Rattle.walrus_parsed_locals.proofs.NameLemmas.{AllOf, Below, LocalBelow, LocalsBelow, NameBelow, items_below, locals_below}
 use Rattle.walrus_parsed_locals.proofs.NormalLemmas.{normal_ops_in}

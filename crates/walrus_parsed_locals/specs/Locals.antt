@@ -2,27 +2,27 @@
 use Rattle.std.specs.Prelude.{ℕ, ◌≡◌, ◌⊎◌, ◌<◌, ◌++◌, true, List, All, length, map, Some, slice_get}
 use Rattle.std.specs.List.{AllZip, range_with_len}
 use Rattle.wasm_body_grammar.specs.Rules.{Around}
-use Rattle.wasm_grammar.specs.Modules as grammar
-use Rattle.wasm_immediates.specs.Items.{Locals}
-use Rattle.wasm_modules.specs.Modules.{around}
-use Rattle.wasm_normal_form.specs.Bodies.{Body, is_used, new_number, normal_body, used_keys}
-use Rattle.wasm_normal_form.specs.Locals.{Key}
-use Rattle.wasm_normal_form.specs.Normal.{normal_ops}
-use Rattle.wasm_run_names.specs.Picks.{block_pick}
+use Rattle.wasm_body_grammar.specs.wasm_grammar.Modules as grammar
+use Rattle.wasm_body_grammar.specs.wasm_operator_names.wasm_immediates.Items.{Locals}
+use Rattle.walrus_file_bodies.specs.walrus_items_into.wasm_module_rules.wasm_modules.Modules.{around}
+use Rattle.walrus_meaning.specs.walrus_local_function.walrus_body_locals.wasm_normal_form.Bodies.{Body, is_used, new_number, normal_body, used_keys}
+use Rattle.walrus_meaning.specs.walrus_local_function.walrus_body_locals.wasm_normal_form.Locals.{Key}
+use Rattle.walrus_meaning.specs.walrus_local_function.walrus_body_locals.wasm_normal_form.Normal.{normal_ops}
+use Rattle.walrus_file_bodies.specs.walrus_items_into.walrus_module_env.wasm_run_names.Picks.{block_pick}
 use Rattle.walrus_arena.specs.Arena.{item_at}
 use Rattle.walrus_config.specs.declared.config.ModuleConfig.{ModuleConfig}
 use Rattle.walrus_file_bodies.specs.Ready.{bodies_in}
-use Rattle.walrus_forms.specs.Renaming.{at, renamed_value}
-use Rattle.walrus_functions_into.specs.declared.bodies.FunctionBody.{FunctionBody}
-use Rattle.walrus_index_maps.specs.Maps.{Ids}
-use Rattle.walrus_known_sections.specs.State.{state_of}
-use Rattle.walrus_local_function.specs.declared.local_function.LocalFunction.{LocalFunction}
+use Rattle.wasm_body_grammar.specs.wasm_grammar.walrus_forms.Renaming.{at, renamed_value}
+use Rattle.walrus_file_bodies.specs.walrus_items_into.walrus_functions_into.declared.bodies.FunctionBody.{FunctionBody}
+use Rattle.walrus_meaning.specs.walrus_body_writer.walrus_pairing.walrus_index_maps.Maps.{Ids}
+use Rattle.walrus_file_bodies.specs.walrus_items_into.walrus_tables_into.walrus_sections_into.walrus_known_sections.State.{state_of}
+use Rattle.walrus_meaning.specs.walrus_local_function.declared.local_function.LocalFunction.{LocalFunction}
 use Rattle.walrus_meaning.specs.Bodies.{local_ids, own_body}
-use Rattle.walrus_module.specs.Parts.{Module, parts}
-use Rattle.walrus_module.specs.declared.module.Module.{Module as Whole}
-use Rattle.walrus_module_items.specs.declared.function.Function.{Function}
-use Rattle.walrus_module_items.specs.declared.function.FunctionKind.TheVariants as kinds
-use Rattle.walrus_parse.specs.Parsed.{IsReadAs, read_features}
+use Rattle.walrus_meaning.specs.walrus_module.Parts.{Module, parts}
+use Rattle.walrus_meaning.specs.walrus_module.declared.module.Module.{Module as Whole}
+use Rattle.walrus_meaning.specs.walrus_linked.walrus_module_items.declared.function.Function.{Function}
+use Rattle.walrus_meaning.specs.walrus_linked.walrus_module_items.declared.function.FunctionKind.TheVariants as kinds
+use Rattle.walrus_parsed_texts.specs.walrus_parse.Parsed.{IsReadAs, read_features}
 use Rattle.walrus_parsed_texts.specs.Texts.{naming, text_of}
 
 -- a body with the ids of types in the place of their indices: locals are in the order of their types
