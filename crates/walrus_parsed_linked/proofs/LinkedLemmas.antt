@@ -11,7 +11,8 @@ use Rattle.walrus_handler_types.specs.walrus_body_steps.walrus_body_nesting.wasm
 use Rattle.walrus_handler_types.specs.walrus_body_steps.wasm_grammar.States.{types_of}
 use Rattle.walrus_linked.specs.walrus_body_writer.walrus_pairing.wasm_immediates.Items.{Space as Numbered, Types, Functions, Tables, Memories, Tags, Globals, ElementSegments, DataSegments, Locals, Labels}
 use Rattle.walrus_file_bodies.specs.walrus_items_into.wasm_module_rules.wasm_modules.Modules.{around}
-use Rattle.walrus_file_bodies.specs.walrus_items_into.wasm_sections.Within.{bodies_inside}
+use Rattle.walrus_file_bodies.specs.walrus_items_into.wasm_sections.Within.{ChunksFit, bodies_inside}
+use Rattle.walrus_linked.specs.walrus_body_writer.walrus_pairing.wasm_immediates.wasm_features.declared.WasmFeatures.{WasmFeatures}
 use Rattle.walrus_arena.specs.Arena.{item_at}
 use Rattle.walrus_body_walks.specs.Answers.{AllAre}
 use Rattle.walrus_body_walks.specs.Laws.{HandlersHaveAnswers, WalksNameAnswers}
@@ -19,7 +20,7 @@ use Rattle.walrus_linked.specs.walrus_module.walrus_builder.Functions.{seqs_of}
 use Rattle.walrus_file_bodies.proofs.PairLemmas.{are_apart, chunks_fit}
 use Rattle.walrus_file_bodies.proofs.StopLemmas.{bodies_wait, chunks_fit_in, count_in}
 use Rattle.walrus_file_bodies.specs.Laws.{BodiesReadFiles}
-use Rattle.walrus_file_bodies.specs.Read.{env_is, env_of, grows_none, steps_grow}
+use Rattle.walrus_file_bodies.specs.Read.{Waits, env_is, env_of, grows_none, step_on, steps_grow}
 use Rattle.walrus_file_bodies.specs.Ready.{bodies_in}
 use Rattle.walrus_forms.specs.Kinds.{Kind, kind_names}
 use Rattle.walrus_forms.specs.Renaming.{KindBelow, at, renamed_kind}
@@ -34,6 +35,8 @@ use Rattle.walrus_parsed_bodies.specs.walrus_parse.walrus_item_names.Names.{bare
 use Rattle.walrus_types.specs.walrus_items.declared.local.Local.{Local}
 use Rattle.walrus_file_bodies.specs.walrus_items_into.Laws.{FilledFunctionsStand, FilledModulesAreFiled}
 use Rattle.walrus_file_bodies.specs.walrus_items_into.walrus_tables_into.walrus_sections_into.walrus_known_sections.State.{state_of}
+use Rattle.walrus_file_bodies.specs.walrus_items_into.walrus_tables_into.walrus_sections_into.walrus_known_sections.Items.{chunk_of}
+use Rattle.walrus_file_bodies.specs.walrus_items_into.walrus_tables_into.walrus_sections_into.walrus_known_sections.declared.sections.Sections.{Sections}
 use Rattle.walrus_linked.specs.Names.{body_events, body_names, function_names, local_names, named_by, names, names_in, type_names, used_types}
 use Rattle.walrus_linked.specs.walrus_local_function.declared.local_function.LocalFunction.{LocalFunction}
 use Rattle.walrus_marks.specs.Named.{event_items, items_of}
@@ -56,10 +59,10 @@ use Rattle.walrus_parsed_bodies.proofs.SlotLemmas.{read_kind}
 use Rattle.walrus_parsed_bodies.proofs.StepLemmas.{HasBody, steps_have}
 use Rattle.walrus_parsed_bodies.proofs.WholeLemmas.{bare_same, kind_at}
 use Rattle.walrus_parsed_bodies.specs.Whole.{ReadFunctionsAreWhole}
-use Rattle.walrus_parsed_names.specs.walrus_parsed_links.Links.{ReadModulesHaveLinks}
+use Rattle.walrus_parsed_names.specs.walrus_parsed_links.Links.{HasLinks, ReadModulesHaveLinks}
 use Rattle.walrus_parsed_names.proofs.ListLemmas.{AllOf, all_contains, get_some, items_join, some_is}
 use Rattle.walrus_parsed_names.proofs.TypeLemmas.{there_too}
-use Rattle.walrus_parsed_names.specs.Named.{HasNoBodies, NamesOfReadItemsLive}
+use Rattle.walrus_parsed_names.specs.Named.{HasNoBodies, NamesLive, NamesOfReadItemsLive}
 use Rattle.walrus_parsed_uses.specs.Indices.{IndicesOfReadModulesLive}
 use Rattle.walrus_parsed_linked.specs.Linked.{ReadModulesAreLinked}
 use Rattle.walrus_parsed_linked.proofs.LocalLemmas.{GoodLocal}
@@ -144,49 +147,58 @@ linked {B} whole links live indices stands filed bodies enter stay on walks hand
     Good : Item → Type 0
     Good = Lives n
 
+    has : HasLinks n
     has = links config bytes m found small is
+
+    kept : NamesLive n
     kept = live config bytes m found small is
-    h = is.1
-    s = h.sections
+
+    s : Sections
+    s = is.1.sections
+
+    features : WasmFeatures
     features = read_features config
+
     a : Around
     a = around features (state_of s)
 
     bs : List FunctionBody
-    bs = bodies_in s h.filled.functions
+    bs = bodies_in s is.1.filled.functions
 
     i : Ids
-    i = h.numbers
+    i = is.1.numbers
 
     old : State
-    old = state h.filled.types [] i h.filled.functions
+    old = state is.1.filled.types [] i is.1.filled.functions
 
     final : Table
-    final = h.bodied.types
+    final = is.1.bodied.types
 
-    read = bodies features bytes s m.start i h.filled h.file [] h.bodied h.reads.short small h.reads.sections h.are_filled h.is_file h.bodies_are
+    numbered : found ≡ record i { locals = is.1.bodied.ids.locals }
+    numbered = is.1.found_are ∙ (bodies features bytes s m.start i is.1.filled is.1.file [] is.1.bodied is.1.reads.short small is.1.reads.sections is.1.are_filled is.1.is_file is.1.bodies_are).3
 
-    numbered : found ≡ record i { locals = h.bodied.ids.locals }
-    numbered = h.found_are ∙ read.3
+    fit : ChunksFit s.code_start (length bytes) (map (λ (b : FunctionBody). chunk_of b.chunk) bs)
+    fit =
+        let stand = stands features bytes s m.start i is.1.filled is.1.reads.sections is.1.are_filled in
+        chunks_fit_in s.code_start (length bytes) bs (read_bodies s.bodies) stand.paired.chunks_are (chunks_fit s.code_start (length bytes) s.bodies (bodies_inside features bytes (state_of s) small is.1.reads.sections))
 
-    stand = stands features bytes s m.start i h.filled h.reads.sections h.are_filled
-    fit = chunks_fit_in s.code_start (length bytes) bs (read_bodies s.bodies) stand.paired.chunks_are (chunks_fit s.code_start (length bytes) s.bodies (bodies_inside features bytes (state_of s) small h.reads.sections))
-    waits = bodies_wait features bytes s m.start i h.filled h.file filed h.reads.sections h.are_filled h.is_file bs [] (are_apart h.filled.functions.slots 0 (read_bodies s.bodies))
+    waits : Waits is.1.file features a (count_in s) old bs
+    waits = bodies_wait features bytes s m.start i is.1.filled is.1.file filed is.1.reads.sections is.1.are_filled is.1.is_file bs [] (are_apart is.1.filled.functions.slots 0 (read_bodies s.bodies))
 
     types_bare : map (option_map bare_type) m.types.types ≡ map (option_map bare_type) final.types
-    types_bare = ap (λ (x : Holder). x.types.types) h.names.same
+    types_bare = ap (λ (x : Holder). x.types.types) is.1.names.same
 
-    locals_bare : map bare_local m.locals ≡ map bare_local h.bodied.locals
-    locals_bare = ap (λ (x : Holder). x.locals) h.names.same
+    locals_bare : map bare_local m.locals ≡ map bare_local is.1.bodied.locals
+    locals_bare = ap (λ (x : Holder). x.locals) is.1.names.same
 
-    funcs_bare : map (option_map bare_function) m.funcs.slots ≡ map (option_map bare_function) h.bodied.functions.slots
-    funcs_bare = ap (λ (x : Holder). x.funcs.slots) h.names.same
+    funcs_bare : map (option_map bare_function) m.funcs.slots ≡ map (option_map bare_function) is.1.bodied.functions.slots
+    funcs_bare = ap (λ (x : Holder). x.funcs.slots) is.1.names.same
 
     typed : (id : ℕ) (x : TypeItem) → type_at final id ≡ Some x → x.kind.entry ≡ false → Good (item spaces.«Type» id)
     typed id x there plain = there_too m.types.types final.types id x types_bare there plain
 
     no_locals : (function : ℕ) → i.locals function ≡ []
-    no_locals function = ap (λ (j : Ids). j.locals function) h.are_filled.numbers
+    no_locals function = ap (λ (j : Ids). j.locals function) is.1.are_filled.numbers
 
     named : (space : Numbered) (k id : ℕ) → id_of i 0 space k ≡ Some id → Good (item (space_of space) id)
     named Types k id e = indices config bytes m found small is 0 Types k id (ap (λ (j : Ids). slice_get j.types k) numbered ∙ e)
@@ -200,54 +212,51 @@ linked {B} whole links live indices stands filed bodies enter stay on walks hand
     named Locals k id e = absurd (let none = ap (λ (l : List ℕ). slice_get l k) (no_locals 0) in let both = sym none ∙ e in cc)
     named Labels k id e = absurd cc
 
-    many : length m.locals ≡ length h.bodied.locals
-    many = sym (length-map m.locals bare_local) ∙ ap length locals_bare ∙ length-map h.bodied.locals bare_local
+    many : length m.locals ≡ length is.1.bodied.locals
+    many = sym (length-map m.locals bare_local) ∙ ap length locals_bare ∙ length-map is.1.bodied.locals bare_local
 
-    local_lives : (id : ℕ) → id < length h.bodied.locals → Good (item spaces.Local id)
+    local_lives : (id : ℕ) → id < length is.1.bodied.locals → Good (item spaces.Local id)
     local_lives id lt = subst (λ (k : ℕ). id < k) (sym many) lt
 
-    around_is = waits.filed h.filled.types (env_of h.file h.filled.types) (λ _. []) 0 (grows_none h.filled.types) (env_is h.file h.filled.types)
-
     SoundNow : State → Type 0
-    SoundNow = Sound stay on enter walks handled h.file features a (count_in s) final h.bodied.locals i Good typed named local_lives
+    SoundNow = Sound stay on enter walks handled is.1.file features a (count_in s) final is.1.bodied.locals i Good typed named local_lives
 
     first : SoundNow old
     first = record {
       names = refl;
       below = λ function k id e. absurd (let none = ap (λ (l : List ℕ). slice_get l k) (no_locals function) in let both = sym none ∙ e in cc);
-      closed = filed_closed Good (types_of a.filled) i.types h.file.own_types h.filled.types around_is.types_are h.is_file.own_types (λ k id e. named Types k id e);
+      closed = filed_closed Good (types_of a.filled) i.types is.1.file.own_types is.1.filled.types (waits.filed is.1.filled.types (env_of is.1.file is.1.filled.types) (λ _. []) 0 (grows_none is.1.filled.types) (env_is is.1.file is.1.filled.types)).types_are is.1.is_file.own_types (λ k id e. named Types k id e);
       locals_good = tt;
     }
 
-    last : SoundNow h.bodied
-    last = steps_sound stay on enter walks handled h.file features a (count_in s) final h.bodied.locals i Good typed named local_lives s.code_start (length bytes) bs old h.bodied fit waits h.bodies_are (grows_none final) (omega arith) first
+    last : SoundNow is.1.bodied
+    last = steps_sound stay on enter walks handled is.1.file features a (count_in s) final is.1.bodied.locals i Good typed named local_lives s.code_start (length bytes) bs old is.1.bodied fit waits is.1.bodies_are (grows_none final) (omega arith) first
 
     Walked : LocalFunction → Type 0
     Walked local = AllAre Good (items_of (body_walk (seqs_of local.builder) 0))
 
-    ends = steps_have stay on enter h.file features a (count_in s) h.bodied SoundNow Walked
-        (λ b bs old new small w step rest sound.
-            let grows = steps_grow on h.file features bs new h.bodied rest in
-            let on_new = step_on stay on enter h.file features a (count_in s) b bs old new w step in
-            let le = steps_more stay on enter walks handled h.file features a (count_in s) final h.bodied.locals i Good typed named local_lives bs new h.bodied on_new rest in (
-              step_walk stay on enter walks handled h.file features a (count_in s) final h.bodied.locals i Good typed named local_lives b bs old new small w step grows le sound last.closed,
-              step_sound stay on enter walks handled h.file features a (count_in s) final h.bodied.locals i Good typed named local_lives b bs old new small w step grows le sound,
-            ))
-        s.code_start (length bytes) bs old fit waits h.bodies_are first
-
     body_good : (kind : FunctionKind) (local : LocalFunction) → kind ≡ kinds.Local local → Walked local → AllOf Good (items_of (body_names m.locals kind))
     body_good kind local e walked = subst (λ (k : FunctionKind). AllOf Good (items_of (body_names m.locals k))) (sym e)
         (items_join Good (body_events local) (events_of (used_types m.locals) (body_events local)) (all_of Good (items_of (body_events local)) walked)
-        (used_good Good m.locals (locals_good Good m.locals h.bodied.locals locals_bare last.locals_good) (body_events local)))
+        (used_good Good m.locals (locals_good Good m.locals is.1.bodied.locals locals_bare last.locals_good) (body_events local)))
 
     function_good : (f : ℕ) (function : Function) → item_at m.funcs f ≡ Some function → AllOf Good (items_of (function_names m.locals function))
     function_good f function there =
-        let slot = slice_index_or h.bodied.functions.slots f None in
-        let same = kind_at function slot (sym (ap (option_map bare_function) there) ∙ bare_same bare_function m.funcs.slots h.bodied.functions.slots f funcs_bare) in
-        (kept.typed f function there, elim (ends f) as (λ _. AllOf Good (items_of (body_names m.locals function.kind))) [
+        let ends = steps_have stay on enter is.1.file features a (count_in s) is.1.bodied SoundNow Walked
+            (λ b bs old new small w step rest sound.
+                let grows = steps_grow on is.1.file features bs new is.1.bodied rest in
+                let on_new = step_on stay on enter is.1.file features a (count_in s) b bs old new w step in
+                let le = steps_more stay on enter walks handled is.1.file features a (count_in s) final is.1.bodied.locals i Good typed named local_lives bs new is.1.bodied on_new rest in (
+                  step_walk stay on enter walks handled is.1.file features a (count_in s) final is.1.bodied.locals i Good typed named local_lives b bs old new small w step grows le sound last.closed,
+                  step_sound stay on enter walks handled is.1.file features a (count_in s) final is.1.bodied.locals i Good typed named local_lives b bs old new small w step grows le sound,
+                ))
+            s.code_start (length bytes) bs old fit waits is.1.bodies_are first f in
+        let slot = slice_index_or is.1.bodied.functions.slots f None in
+        let same = kind_at function slot (sym (ap (option_map bare_function) there) ∙ bare_same bare_function m.funcs.slots is.1.bodied.functions.slots f funcs_bare) in
+        (kept.typed f function there, elim ends as (λ _. AllOf Good (items_of (body_names m.locals function.kind))) [
           | inl was ↦
               let read = read_kind i.types 0 f s.functions.items same.function
-              (ap (λ (l : List (Option Function)). slice_index_or l f None) (sym h.are_filled.functions) ∙ sym was.0 ∙ same.there) in
+              (ap (λ (l : List (Option Function)). slice_index_or l f None) (sym is.1.are_filled.functions) ∙ sym was.0 ∙ same.there) in
               subst (λ (es : List Event). AllOf Good (items_of es)) (sym (no_body m.locals _ read.0.import function.kind (sym same.kind_is ∙ read.1))) tt
           | inr body ↦
               let alike : same.function ≡ body.function = some_is same.function body.function (sym same.there ∙ body.there) in

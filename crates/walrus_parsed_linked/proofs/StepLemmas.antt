@@ -45,9 +45,11 @@ use Rattle.walrus_linked.specs.walrus_local_function.declared.local_function.Loc
 use Rattle.walrus_marks.specs.Named.{items_of}
 use Rattle.walrus_marks.specs.walrus_walks.Events.{block_names, events_of, val_names}
 use Rattle.walrus_marks.specs.walrus_walks.Walk.{body_walk}
-use Rattle.walrus_file_bodies.specs.walrus_module_bodies.Steps.{IsStep, State, Steps}
+use Rattle.walrus_file_bodies.specs.walrus_module_bodies.Reading.{AddsRuns, IsReadAside}
+use Rattle.walrus_file_bodies.specs.walrus_module_bodies.Steps.{IsStep, State, Steps, cursor_of}
 use Rattle.walrus_file_bodies.specs.walrus_module_bodies.declared.file.FileEnv.{FileEnv}
 use Rattle.walrus_file_bodies.specs.walrus_items_into.walrus_module_env.Around.{IsFiled, sight_in}
+use Rattle.walrus_file_bodies.specs.walrus_items_into.walrus_module_env.Parsed.{IsRead}
 use Rattle.walrus_file_bodies.specs.walrus_items_into.walrus_module_env.Env.{if_own, is_own, own_pick}
 use Rattle.walrus_file_bodies.specs.walrus_items_into.walrus_module_env.declared.env.ModuleEnv.{ModuleEnv}
 use Rattle.walrus_linked.specs.walrus_module_items.Functions.{type_of}
@@ -96,7 +98,7 @@ module _ (stay : FoundTypesStay) (on : TablesGrowOn) (enter : EntryTypesGrow) (w
   sight_with e function j handler = record (sight_in e function j) { handler_type = handler }
 
   pick_are : (t : Table) → Grows t final → (ps rs : List ValType) (ty : InstrSeqType) → picked ps rs t ≡ Some ty → AllAre Good (value_items rs) → AllAre Good (block_items ty)
-  pick_are t grows ps rs ty e r = all_contains Good (block_items ty) _ (picked_good Good final typed t grows ps rs ty e (all_of Good (value_items rs) r))
+  pick_are t grows ps rs ty e r = λ y c. all_contains Good (block_items ty) y (picked_good Good final typed t grows ps rs ty e (all_of Good (value_items rs) r)) c
 
   answers : (e : ModuleEnv) (t : Table) → e.types.now ≡ t → Closed Good t → Grows t final → (j : Ids) → j ≡ record i { locals = j.locals } → (ls : List Local) → NamesBelow ls j → length ls ≤ length last → (function : ℕ)
       → (handler : List ValType → List ValType → Option InstrSeqType) → AnswersAre (sight_with e function j handler) Good
@@ -125,7 +127,7 @@ module _ (stay : FoundTypesStay) (on : TablesGrowOn) (enter : EntryTypesGrow) (w
   module _ (b : FunctionBody) (bs : List FunctionBody) (old new : State) (small : Small b.chunk.bytes.now) (w : Waits file features a count old (b ∷ bs)) (s : IsStep file features b old new) (grows : Grows new.types final)
       (le : length new.locals ≤ length last) (h : Sound old) where
     mid_names : s.numbered ≡ record i { locals = s.numbered.locals }
-    mid_names = s.arguments.named ∙ ap (λ (k : Ids). record k { locals = s.numbered.locals }) h.names
+    mid_names = names_on i old.ids s.numbered h.names (s.arguments.named ∙ ap (λ (l : ℕ → List ℕ). record old.ids { locals = l }) (sym (ap (λ (k : Ids). k.locals) s.arguments.named)))
 
     new_names : new.ids ≡ record i { locals = new.ids.locals }
     new_names = names_on i old.ids new.ids h.names (step_names stay on enter file features a count b old new s)
@@ -139,9 +141,11 @@ module _ (stay : FoundTypesStay) (on : TablesGrowOn) (enter : EntryTypesGrow) (w
     mid_good : AllOf (GoodLocal Good) s.named
     mid_good = adds_good Good b.number s.params old.locals s.named old.ids s.numbered s.arguments (params_good Good old.types h.closed (type_of s.item.kind) s.params s.params_are) h.locals_good
 
-    mid_env : ModuleEnv
+    abbrev mid_env : ModuleEnv
     mid_env = env_of file s.mid
 
+    it : (r : IsRead (env_of file new.types) b.number (length s.params) (cursor_of file features b) new.ids (contents s.body.builder.builder) a) × (length (new.ids.locals b.number) ≡ length s.params + length (declared r.runs))
+        × AddsRuns b.number r.runs s.named new.locals s.numbered new.ids
     it = s.read mid_env (env_of file new.types) new.types (env_is file s.mid) (grows_none new.types) (env_is file new.types) a (step_filed stay on enter file features a count b bs old new w s mid_env (env_is file s.mid))
 
     mid_filed : IsFiled mid_env s.numbered b.number (length s.params) features a
@@ -164,9 +168,10 @@ module _ (stay : FoundTypesStay) (on : TablesGrowOn) (enter : EntryTypesGrow) (w
     new_below = adds_below b.number (map (renamed_value (at s.numbered.types)) (declared it.0.runs)) s.named new.locals s.numbered new.ids it.2 mid_below
 
     -- the types of its handlers
-    g : ModuleEnv
+    abbrev g : ModuleEnv
     g = s.handled.env
 
+    aside : IsReadAside g b.number (length s.params) (cursor_of file features b) s.numbered new.ids s.named new.locals (map seq_of s.handled.own) a
     aside = s.handled.aside a (step_filed stay on enter file features a count b bs old new w s g s.handled.env_is)
 
     read_by : IsReadBy aside.sight s.handled.own

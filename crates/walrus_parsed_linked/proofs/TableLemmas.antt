@@ -38,7 +38,7 @@ module _ (Good : Item → Type 0) where
     where
       go : (o : Option ℕ) → MatchOption o (Adds kind id t v) (λ found. (id ≡ found) × (v ≡ t)) → Closed Good v
       go (Some found) h = subst (Closed Good) (sym h.1) closed
-      go None adds k x at =
+      go None adds = λ k x at.
           elim (one_more t.types (record { id = id; kind = kind; name = None }) k x (sym (ap (λ (l : List (Option TypeItem)). slice_index_or l k None) adds.types) ∙ at)) as (λ _. GoodKind Good x.kind) [
             | inl before ↦ closed k x before
             | inr e ↦ subst (λ (z : TypeItem). GoodKind Good z.kind) e good

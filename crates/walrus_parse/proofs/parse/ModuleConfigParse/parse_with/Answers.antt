@@ -1,7 +1,8 @@
 use Rattle.std.specs.Prelude.{◌⊎◌, Err}
-use Rattle.std.proofs.Common.{inl, inr, subst}
+use Rattle.std.proofs.Common.{inl, inr, refl, subst}
 use Rattle.walrus_config.specs.declared.config.ModuleConfig.{ModuleConfig as Flags}
 use Rattle.walrus_errors.specs.declared.error.ModuleError.{ModuleError}
+use Rattle.walrus_errors.specs.declared.error.ModuleError.TheVariants.{Memory}
 use Rattle.walrus_module.specs.declared.module.Module.{Module as Whole}
 use Rattle.walrus_module.specs.walrus_body_writer.walrus_pairing.walrus_index_maps.Views.{ids}
 use Rattle.walrus_parse.specs.Parsed.{HandsOn, read_features}
@@ -15,6 +16,12 @@ returns-in_err-found-clause-refused g c =
     handed (λ (error : ModuleError). IsRefusal (read_features c.args.self.now) c.args.wasm.now error ⊎ ((m : Whole g.row.B.Denot) × HandsOn {B = g.row.B.Denot} {G = g.row.G.Denot} (goal.G-step g) c.args.on_instr_loc {F = g.row.F.Denot} g.F.FnOnce c.args.on_parse c.args.self.now c.args.wasm.now (Err error) m))
     c.in_err-found.field-0.0 c.from_residual.result c.from_residual.ensures
     (inl (subst (λ (config : Flags). IsRefusal (read_features config) c.args.wasm.now c.in_err-found.field-0.0) c.with_config-module.ensures.config c.in_err-found.ensures.refused))
+
+-- want of memory alone refuses a pass over locations
+pub returns-in_err-send_locations-clause-refused : goal.returns-in_err-send_locations-clause-refused
+returns-in_err-send_locations-clause-refused g c =
+    handed (λ (error : ModuleError). IsRefusal (read_features c.args.self.now) c.args.wasm.now error ⊎ ((m : Whole g.row.B.Denot) × HandsOn {B = g.row.B.Denot} {G = g.row.G.Denot} (goal.G-step g) c.args.on_instr_loc {F = g.row.F.Denot} g.F.FnOnce c.args.on_parse c.args.self.now c.args.wasm.now (Err error) m))
+    Memory c.from_residual-in_err-send_locations.result c.from_residual-in_err-send_locations.ensures (inl (inl refl))
 
 pub returns-in-Err-clause-refused : goal.returns-in-Err-clause-refused
 returns-in-Err-clause-refused g c =
