@@ -75,7 +75,7 @@ module _ (stay : FoundTypesStay) (on : TablesGrowOn) (enter : EntryTypesGrow) (t
 -- what holds of each body as it is read, where this holds before the bodies and after each, up to a last state
 module _ (stay : FoundTypesStay) (on : TablesGrowOn) (enter : EntryTypesGrow) (file : FileEnv) (features : WasmFeatures) (a : Around) (count : ℕ → ℕ) (last : State) (I : State → Type 0) (P : LocalFunction → Type 0)
     (each : (b : FunctionBody) (bs : List FunctionBody) (old new : State) → Small b.chunk.bytes.now → Waits file features a count old (b ∷ bs) → (s : IsStep file features b old new) → Steps file features bs new last
-        → I old → P s.body × I new) where
+    → I old → P s.body × I new) where
   -- the slot is as it was, and none of the bodies is of its function; or its function has such a body
   abbrev pub Ends : List FunctionBody → State → ℕ → Type 0
   Ends bs old n = ((slice_index_or last.functions.slots n None ≡ slice_index_or old.functions.slots n None) × NoneOf n bs) ⊎ HasBody P (slice_index_or last.functions.slots n None)

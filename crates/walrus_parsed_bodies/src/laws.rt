@@ -3,9 +3,9 @@
 ghost use Rattle.walrus_parsed_bodies.specs.Whole.{ReadFunctionsAreWhole};
 
 use walrus_body_trees::laws::bodies_are_trees;
-use walrus_function_types::laws::{entry_types_grow, found_types_stay, tables_grow_on};
 use walrus_file_bodies::items_into::laws::{filled_functions_stand, filled_modules_are_filed};
 use walrus_file_bodies::items_into::module_env::laws::picks_are_seen;
+use walrus_function_types::laws::{entry_types_grow, found_types_stay, tables_grow_on};
 
 /// In a module that was read each function is imported, or has a body of distinct arguments, one for each parameter of its type, whose
 /// sequences form a tree in which each label names a sequence around it.

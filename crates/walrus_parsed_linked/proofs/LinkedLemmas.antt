@@ -243,25 +243,27 @@ linked {B} whole links live indices stands filed bodies enter stay on walks hand
     function_good : (f : ℕ) (function : Function) → item_at m.funcs f ≡ Some function → AllOf Good (items_of (function_names m.locals function))
     function_good f function there =
         let ends = steps_have stay on enter is.1.file features a (count_in s) is.1.bodied SoundNow Walked
-            (λ b bs old new small w step rest sound.
-                let grows = steps_grow on is.1.file features bs new is.1.bodied rest in
-                let on_new = step_on stay on enter is.1.file features a (count_in s) b bs old new w step in
-                let le = steps_more stay on enter walks handled is.1.file features a (count_in s) final is.1.bodied.locals i Good typed named local_lives bs new is.1.bodied on_new rest in (
-                  step_walk stay on enter walks handled is.1.file features a (count_in s) final is.1.bodied.locals i Good typed named local_lives b bs old new small w step grows le sound last.closed,
-                  step_sound stay on enter walks handled is.1.file features a (count_in s) final is.1.bodied.locals i Good typed named local_lives b bs old new small w step grows le sound,
-                ))
-            s.code_start (length bytes) bs old fit waits is.1.bodies_are first f in
+        (λ b bs old new small w step rest sound.
+        let grows = steps_grow on is.1.file features bs new is.1.bodied rest in
+        let on_new = step_on stay on enter is.1.file features a (count_in s) b bs old new w step in
+        let le = steps_more stay on enter walks handled is.1.file features a (count_in s) final is.1.bodied.locals i Good typed named local_lives bs new is.1.bodied on_new rest in (
+          step_walk stay on enter walks handled is.1.file features a (count_in s) final is.1.bodied.locals i Good typed named local_lives b bs old new small w step grows le sound last.closed,
+          step_sound stay on enter walks handled is.1.file features a (count_in s) final is.1.bodied.locals i Good typed named local_lives b bs old new small w step grows le sound,
+        ))
+        s.code_start (length bytes) bs old fit waits is.1.bodies_are first f in
         let slot = slice_index_or is.1.bodied.functions.slots f None in
-        let same = kind_at function slot (sym (ap (option_map bare_function) there) ∙ bare_same bare_function m.funcs.slots is.1.bodied.functions.slots f funcs_bare) in
-        (kept.typed f function there, elim ends as (λ _. AllOf Good (items_of (body_names m.locals function.kind))) [
-          | inl was ↦
-              let read = read_kind i.types 0 f s.functions.items same.function
-              (ap (λ (l : List (Option Function)). slice_index_or l f None) (sym is.1.are_filled.functions) ∙ sym was.0 ∙ same.there) in
-              subst (λ (es : List Event). AllOf Good (items_of es)) (sym (no_body m.locals _ read.0.import function.kind (sym same.kind_is ∙ read.1))) tt
-          | inr body ↦
-              let alike : same.function ≡ body.function = some_is same.function body.function (sym same.there ∙ body.there) in
-              body_good function.kind body.local (sym same.kind_is ∙ ap (λ (x : Function). x.kind) alike ∙ body.kind) body.good
-        ])
+        let same = kind_at function slot (sym (ap (option_map bare_function) there) ∙ bare_same bare_function m.funcs.slots is.1.bodied.functions.slots f funcs_bare) in (
+          kept.typed f function there,
+          elim ends as (λ _. AllOf Good (items_of (body_names m.locals function.kind))) [
+            | inl was ↦
+                let read = read_kind i.types 0 f s.functions.items same.function
+                (ap (λ (l : List (Option Function)). slice_index_or l f None) (sym is.1.are_filled.functions) ∙ sym was.0 ∙ same.there) in
+                subst (λ (es : List Event). AllOf Good (items_of es)) (sym (no_body m.locals _ read.0.import function.kind (sym same.kind_is ∙ read.1))) tt
+            | inr body ↦
+                let alike : same.function ≡ body.function = some_is same.function body.function (sym same.there ∙ body.there) in
+                body_good function.kind body.local (sym same.kind_is ∙ ap (λ (x : Function). x.kind) alike ∙ body.kind) body.good
+          ],
+        )
 
     all_function : (f : ℕ) (o : Option Function) → item_at m.funcs f ≡ o → AllOf Good (items_of (named_by (function_names m.locals) o))
     all_function f None e = tt

@@ -3,12 +3,12 @@
 ghost use Rattle.walrus_parsed_linked.specs.Linked.{ReadModulesAreLinked};
 
 use walrus_body_walks::laws::{handlers_have_answers, walks_name_answers};
+use walrus_file_bodies::items_into::laws::{filled_functions_stand, filled_modules_are_filed};
 use walrus_file_bodies::laws::bodies_read_files;
 use walrus_function_types::laws::{entry_types_grow, found_types_stay, tables_grow_on};
-use walrus_file_bodies::items_into::laws::{filled_functions_stand, filled_modules_are_filed};
 use walrus_parsed_bodies::laws::functions_of_read_modules_are_whole;
-use walrus_parsed_names::parsed_links::laws::read_modules_have_links;
 use walrus_parsed_names::laws::names_of_read_items_live;
+use walrus_parsed_names::parsed_links::laws::read_modules_have_links;
 use walrus_parsed_uses::laws::indices_of_read_modules_live;
 
 /// A module that was read is linked: each import names a live item that names it back, and each imported item a live import; functions are

@@ -2,11 +2,11 @@
 
 ghost use Rattle.walrus_parsed_names.specs.Named.{NamesOfReadItemsLive};
 
-use walrus_parsed_links::parsed_items::parse::file_bodies::laws::bodies_read_files;
 use walrus_function_types::laws::{found_types_stay, tables_grow_on};
 use walrus_group_laws::read_types_are_declared;
-use walrus_parsed_links::parsed_items::laws::read_modules_have_items;
 use walrus_group_laws::types_into::laws::{new_types_stand, types_name_below};
+use walrus_parsed_links::parsed_items::laws::read_modules_have_items;
+use walrus_parsed_links::parsed_items::parse::file_bodies::laws::bodies_read_files;
 use walrus_walks::visit_laws::expressions_tell_their_operators;
 use wasm_import_links::laws::read_modules_are_full;
 use wasm_ruled_modules::laws::read_modules_are_ruled;

@@ -3,9 +3,9 @@
 ghost use Rattle.walrus_parsed_texts.specs.Texts.{ReadBodiesMeanTheirs};
 
 use walrus_body_trees::laws::bodies_mean_their_normal_form;
-use walrus_function_types::laws::{entry_types_grow, found_types_stay, tables_grow_on};
 use walrus_file_bodies::items_into::laws::{filled_functions_stand, filled_modules_are_filed};
 use walrus_file_bodies::items_into::module_env::laws::{blocks_are_named, picks_are_seen};
+use walrus_function_types::laws::{entry_types_grow, found_types_stay, tables_grow_on};
 use wasm_body_grammar::laws::bodies_read_once;
 
 /// In a module that was read the function of each body of the file means that body's normal form: its operators are the normal form's, each

@@ -4,14 +4,14 @@ ghost use Rattle.walrus_parsed_uses.specs.Indices.{IndicesOfReadModulesLive};
 ghost use Rattle.walrus_parsed_uses.specs.Types.{NamesOfReadTypesLive};
 ghost use Rattle.walrus_parsed_uses.specs.Uses.{NamesOfReadBodiesLive};
 
+use walrus_file_bodies::items_into::laws::filled_modules_are_filed;
 use walrus_file_bodies::laws::bodies_read_files;
 use walrus_function_types::laws::{found_types_stay, tables_grow_on};
 use walrus_group_laws::read_types_are_declared;
+use walrus_group_laws::types_into::laws::{new_types_stand, types_name_below};
 use walrus_parsed_links::parsed_items::into_laws::ordered_stay;
-use walrus_file_bodies::items_into::laws::filled_modules_are_filed;
 use walrus_parsed_links::parsed_items::laws::read_modules_have_items;
 use walrus_parsed_texts::laws::bodies_of_read_modules_mean_theirs;
-use walrus_group_laws::types_into::laws::{new_types_stand, types_name_below};
 use wasm_import_links::laws::read_modules_are_full;
 use wasm_operator_names::laws::names_are_renamed;
 use wasm_ruled_modules::laws::read_modules_are_ruled;
