@@ -7,10 +7,11 @@ use Rattle.walrus_instr.specs.declared.instr.Instr.{Instr}
 use Rattle.walrus_instr.specs.declared.seq.InstrLocId.{InstrLocId}
 use Rattle.walrus_body_writer.specs.walrus_tree.Text.{Piece}
 use Rattle.walrus_body_writer.specs.Visiting.{text_size}
+use Rattle.walrus_body_names.proofs.Same.{same_lists, same_on, same_then}
 use Rattle.walrus_body_names.specs.declared.facts.Facts.{Facts}
 use Rattle.walrus_body_names.specs.Facts.{IsTold}
 use Rattle.walrus_body_writer.specs.Spelled.{Text}
-use Rattle.walrus_body_names.specs.Names.{has_any, local_in, piece_names, segment_in, text_names}
+use Rattle.walrus_body_names.specs.Names.{HaveSame, has_any, local_in, piece_names, segment_in, text_names}
 
 -- a fold of steps that append is one list
 pub gathers : {S : Type 0} (list : S → List ℕ) (names : Instr → List ℕ) (ps : Text) (old last : S) → FoldsTo (λ (s : S) (p : Piece × InstrLocId) (t : S). list t ≡ list s ++ piece_names names p.0) old ps last
@@ -32,7 +33,7 @@ any_append false (x ∷ xs) ys = refl
 pub record Known (ps : Text) (old last : Facts) : Type 0 where
   pub size : last.size ≡ old.size + text_size ps
   pub marked : last.names_segment ≡ (old.names_segment || has_any (text_names segment_in ps))
-  pub gathered : last.found.items ≡ old.found.items ++ text_names local_in ps
+  pub gathered : HaveSame last.found.items (old.found.items ++ text_names local_in ps)
 
 pub knows : (ps : Text) (old last : Facts) → FoldsTo (λ (s : Facts) (p : Piece × InstrLocId) (t : Facts). IsTold s p.0 t) old ps last → Known ps old last
 knows [] old last h =
@@ -40,7 +41,7 @@ knows [] old last h =
     record {
       size = omega (arith, size);
       marked = ap (λ (s : Facts). s.names_segment) (sym h) ∙ or_false old.names_segment;
-      gathered = ap (λ (s : Facts). s.found.items) (sym h) ∙ sym (append-nil old.found.items);
+      gathered = same_lists last.found.items (old.found.items ++ []) (ap (λ (s : Facts). s.found.items) (sym h) ∙ sym (append-nil old.found.items));
     }
 knows (p ∷ ps) old last h =
     let first = h.1.counted in
@@ -49,5 +50,9 @@ knows (p ∷ ps) old last h =
     record {
       size = omega (arith, first, rest);
       marked = later.marked ∙ ap (λ (v : Bool). v || has_any (text_names segment_in ps)) h.1.marked ∙ any_append old.names_segment (piece_names segment_in p.0) (text_names segment_in ps);
-      gathered = later.gathered ∙ ap (λ (z : List ℕ). z ++ text_names local_in ps) h.1.gathered ∙ append_assoc old.found.items (piece_names local_in p.0) (text_names local_in ps);
+      gathered =
+          same_then last.found.items (h.0.found.items ++ text_names local_in ps) (old.found.items ++ (piece_names local_in p.0 ++ text_names local_in ps)) later.gathered
+          (same_then (h.0.found.items ++ text_names local_in ps) ((old.found.items ++ piece_names local_in p.0) ++ text_names local_in ps) (old.found.items ++ (piece_names local_in p.0 ++ text_names local_in ps))
+          (same_on h.0.found.items (old.found.items ++ piece_names local_in p.0) (text_names local_in ps) h.1.gathered)
+          (same_lists ((old.found.items ++ piece_names local_in p.0) ++ text_names local_in ps) (old.found.items ++ (piece_names local_in p.0 ++ text_names local_in ps)) (append_assoc old.found.items (piece_names local_in p.0) (text_names local_in ps))));
     }

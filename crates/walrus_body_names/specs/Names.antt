@@ -37,6 +37,10 @@ abbrev pub has_any : List ℕ → Bool
 has_any [] = false
 has_any (k ∷ ks) = true
 
+-- the same names, however often
+abbrev pub HaveSame : List ℕ → List ℕ → Type 0
+HaveSame xs ys = (k : ℕ) → Contains xs k ↔ Contains ys k
+
 -- the list of these names as a set: each once, rising
 pub record AreSet (names set : List ℕ) : Type 0 where
   pub rising : IsStrictlySortedBy nat_cmp set

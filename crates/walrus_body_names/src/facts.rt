@@ -1,11 +1,12 @@
 //! What is known of a body before it is written.
 
-ghost use Rattle.std.specs.Prelude.{◌≡◌, slice_get, IfErr, IfOk};
+ghost use Rattle.std.specs.Prelude.{◌≡◌, ◌++◌, ◌∷◌, [], slice_get, Contains, IfErr, IfOk, OnErr, OnOk};
+ghost use Rattle.std.specs.Bool.{OnTrue};
 ghost use Rattle.walrus_builder.specs.Functions.{seqs_of};
 ghost use Rattle.walrus_body_writer.specs.walrus_tree.Text.{operators};
 ghost use Rattle.walrus_body_writer.specs.Emitting.{IsCause};
 ghost use Rattle.walrus_body_writer.specs.Visiting.{text_size};
-ghost use Rattle.walrus_body_names.specs.Names.{AreSet, are_constants, has_any, is_constant, local_in, segment_in, text_names};
+ghost use Rattle.walrus_body_names.specs.Names.{AreSet, HaveSame, are_constants, has_any, is_constant, local_in, segment_in, text_names};
 
 use crate::distinct::distinct;
 use crate::names::{local_of, named_segments, segment_of};
@@ -27,12 +28,68 @@ pub struct FunctionFacts {
     pub used_locals: Vec<LocalId>,
 }
 
+// How many hints are kept.
+const HINTS: usize = 512;
+
 // Counts operators and gathers what they name.
 #[derive(Drop)]
 struct Facts {
     size: u64,
     names_segment: bool,
+    // Each local at least once. Those that hints show to be there aren't put there again, so that few are left to sort.
     found: Vec<LocalId>,
+    // By a local's number, a place where it may have been found.
+    hints: Vec<usize>,
+}
+
+// Whether a hint shows that the local is among these.
+fn is_there(found: &[LocalId], hints: &[usize], id: LocalId) -> bool
+    ensures { OnTrue result (Contains found.now id) }
+{
+    let slot = id.index() % HINTS;
+    if slot >= hints.len() {
+        return false;
+    }
+    let at = hints[slot];
+    if at >= found.len() {
+        return false;
+    }
+    if found[at].index() == id.index() {
+        return true;
+    }
+    false
+}
+
+// Puts the local behind those that were found, if no hint shows that it is among them.
+fn gather(found: &mut Vec<LocalId>, hints: &mut Vec<usize>, id: LocalId) -> Result<(), AllocError>
+    ensures told { OnOk result (HaveSame found.new.items (found.old.items ++ id ∷ [])) }
+    ensures refused { OnErr result (found.new.items ≡ found.old.items) }
+{
+    if is_there(found.as_slice(), hints.as_slice(), id) {
+        return Ok(());
+    }
+    let at = found.len();
+    found.push(id)?;
+    let slot = id.index() % HINTS;
+    if slot < hints.len() {
+        hints[slot] = at;
+    }
+    Ok(())
+}
+
+// Gathers the local that an instruction names, if it names one.
+fn gather_named(
+    found: &mut Vec<LocalId>,
+    hints: &mut Vec<usize>,
+    instr: &Instr,
+) -> Result<(), AllocError>
+    ensures told { OnOk result (HaveSame found.new.items (found.old.items ++ local_in instr.now)) }
+    ensures refused { OnErr result (found.new.items ≡ found.old.items) }
+{
+    match local_of(instr) {
+        Some(id) => gather(found, hints, id),
+        None => Ok(()),
+    }
 }
 
 impl TextVisitor for Facts {
@@ -46,9 +103,7 @@ impl TextVisitor for Facts {
         let Some(size) = self.size.checked_add(1) else {
             return Err(AllocError);
         };
-        if let Some(id) = local_of(instr) {
-            self.found.push(id)?;
-        }
+        gather_named(&mut self.found, &mut self.hints, instr)?;
         self.names_segment = self.names_segment || segment_of(instr).is_some();
         self.size = size;
         Ok(())
@@ -71,16 +126,19 @@ pub fn emit_facts(alloc: Global, body: &FunctionBuilder) -> Result<FunctionFacts
     ensures locals { IfOk result (λ facts. AreSet (text_names local_in (operators (seqs_of body.now) 0)) facts.used_locals.items) }
     ensures refused { IfErr result (IsCause (seqs_of body.now)) }
 {
+    let hints = vec![in alloc; 0; HINTS]?;
     let mut facts = Facts {
         size: 0,
         names_segment: false,
         found: Vec::new(alloc),
+        hints,
     };
     visit_text(alloc, &mut facts, body)?;
     let Facts {
         size,
         names_segment: uses_data_segments,
         found,
+        ..
     } = facts;
     let used_locals = distinct(found)?;
     Ok(FunctionFacts {

@@ -25,7 +25,10 @@ use Rattle.walrus_body_steps.specs.walrus_body_rules.Sights.{Sight}
 use Rattle.walrus_body_steps.specs.walrus_body_rules.Rules.{items_test}
 use Rattle.walrus_body_steps.specs.Meanings.{RunsAs}
 use Rattle.walrus_body_operands.specs.Asked.{AnswersIf, Meets, index_test, try_test, written_test}
-use Rattle.walrus_body_operands.specs.Listed.{is_bare, known_labels}
+use Rattle.wasm_operators.specs.Operators.{flow_of}
+use Rattle.walrus_body_operands.specs.declared.steps.Step.{Step}
+use Rattle.walrus_body_operands.specs.Steps.{IsStep}
+use Rattle.walrus_body_operands.specs.Listed.{holds_list, is_bare, known_labels}
 use Rattle.walrus_body_operands.proofs.Tests.{items_are, block_tests, label_tests, try_tests}
 use Rattle.walrus_body_operands.proofs.Pairing.{one_test}
 
@@ -50,6 +53,11 @@ answers_of wants s labels ids code x y r t offset is test h =
     (answers_same wants r t (items_test s labels (record { code = code; items = items_of y })) offset (RunsAs s ids code (items_of y)) test h)
 
 -- ---- steps
+
+-- what takes no memory
+pub may_answer : (s : Sight) (ids : List ℕ) (op : Operator) (offset : ℕ) (r : Result Step BodyError) → Meets r (items_test s (known_labels (flow_of op.code) (length ids)) (seen op)) offset (IsStep s ids (seen op))
+    → AnswersIf (holds_list (kind_is op.immediates)) r (items_test s (known_labels (flow_of op.code) (length ids)) (seen op)) offset (IsStep s ids (seen op))
+may_answer s ids op offset r h = answers (holds_list (kind_is op.immediates)) r (items_test s (known_labels (flow_of op.code) (length ids)) (seen op)) offset (IsStep s ids (seen op)) h
 
 pub bare_items : (x : Immediates) → is_bare (kind_is x) ≡ true → items_of x ≡ []
 bare_items imm.Bare h = refl

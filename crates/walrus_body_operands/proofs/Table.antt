@@ -1,7 +1,7 @@
 -- Lemmas: what the table of operators says of immediates, by what an operator does to a run.
-use Rattle.std.specs.Prelude.{ℕ, ◌≡◌, ◌&&◌, ◌||◌, not, Bool, true, false, Option, Some, refl}
+use Rattle.std.specs.Prelude.{ℕ, ℤ, ◌≡◌, ◌⊎◌, ◌&&◌, ◌||◌, not, Bool, true, false, Option, Some, refl}
 use Rattle.std.specs.Option.{is_some}
-use Rattle.std.proofs.Common.{ap, sym, subst, ◌∙◌}
+use Rattle.std.proofs.Common.{ap, sym, subst, ◌∙◌, inl, inr}
 use Rattle.std.proofs.lemmas.Bool.{and_parts}
 use Rattle.wasm_operators.specs.declared.entry.Entry.{Entry}
 use Rattle.wasm_operators.specs.declared.entry.Flow.{Flow}
@@ -13,12 +13,14 @@ use Rattle.wasm_operators.specs.Table.{structure_rows, call_rows, plain_rows, fb
 use Rattle.wasm_operators.specs.Operators.{op_code, flow_in, flow_of}
 use Rattle.walrus_body_steps.specs.wasm_normal_form.Roles.{Runs, role_in}
 use Rattle.walrus_forms.specs.declared.value.RefType.{RefType}
+use Rattle.walrus_operators.specs.declared.immediates.Immediates.{Immediates}
+use Rattle.walrus_operators.specs.declared.immediates.Immediates.TheVariants as imm
 use Rattle.walrus_operators.specs.declared.operator.Operator.{Operator}
 use Rattle.walrus_operators.specs.Immediates.{kind_is}
 use Rattle.walrus_operator_laws.proofs.Rows.{TablePasses, table_holds}
 use Rattle.walrus_body_steps.specs.Meanings.{cast_at}
 use Rattle.walrus_body_operands.specs.Asked.{labelled_at}
-use Rattle.walrus_body_operands.specs.Listed.{IsListed, RunsListed, opened_by, begins_block, is_bare, names_tag, names_label}
+use Rattle.walrus_body_operands.specs.Listed.{IsListed, RunsListed, opened_by, begins_block, is_bare, names_alone, names_tag, names_label}
 
 -- ---- which kinds an operator may have that does this to a run
 
@@ -145,3 +147,66 @@ label_runs op runs is from to n k =
 
 pub cast_runs : (op : Operator) → RunsListed op → kind_is op.immediates ≡ kinds.Cast → (k : ℕ) (from to : RefType) → is_some (cast_at op.code k from to) ≡ true
 cast_runs op runs is k from to = subst (λ (kind : Kind). by_kind 0 k from to (runs.0.0).flow kind op.code ≡ true) is (kind_passes op runs 0 k from to)
+
+-- ---- behind these a run goes on
+
+abbrev pub goes_on : Kind → Bool
+goes_on kinds.Local = true
+goes_on kinds.Global = true
+goes_on kinds.Access = true
+goes_on kinds.I32 = true
+goes_on kinds.I64 = true
+goes_on _ = false
+
+abbrev is_going : Flow → Bool
+is_going flows.Goes = true
+is_going _ = false
+
+abbrev going_test : ℕ → Entry → ℕ → Bool
+going_test prefix e number = not (goes_on e.kind) || is_going e.flow
+
+going_pass : TablePasses going_test
+unfolding structure_rows call_rows plain_rows fb_rows fc_rows fd_rows fe_rows
+going_pass = record { structure = refl; call = refl; plain = refl; fb = refl; fc = refl; fd = refl; fe = refl }
+
+goes_then : (f : Flow) → is_going f ≡ true → f ≡ flows.Goes
+goes_then flows.Passes h = absurd cc
+goes_then flows.Goes h = refl
+goes_then flows.Traps h = absurd cc
+goes_then flows.OpensBlock h = absurd cc
+goes_then flows.OpensLoop h = absurd cc
+goes_then flows.OpensIf h = absurd cc
+goes_then flows.OpensTry h = absurd cc
+goes_then flows.OpensTryTable h = absurd cc
+goes_then flows.Else h = absurd cc
+goes_then flows.Catch h = absurd cc
+goes_then flows.CatchAll h = absurd cc
+goes_then flows.Delegate h = absurd cc
+goes_then flows.End h = absurd cc
+goes_then flows.Branches h = absurd cc
+goes_then flows.Chooses h = absurd cc
+goes_then flows.Selects h = absurd cc
+goes_then flows.Returns h = absurd cc
+goes_then flows.Calls h = absurd cc
+goes_then flows.CallsIndirectly h = absurd cc
+goes_then flows.TailCalls h = absurd cc
+goes_then flows.TailCallsIndirectly h = absurd cc
+goes_then flows.Throws h = absurd cc
+goes_then flows.ThrowsOrTraps h = absurd cc
+
+pub going : (op : Operator) → IsListed op → goes_on (kind_is op.immediates) ≡ true → flow_of op.code ≡ Some flows.Goes
+going op listed on =
+    let e = listed.0 in
+    let passes = table_holds going_test going_pass op.code.prefix op.code.number e listed.1 in
+    let off : not (goes_on e.kind) ≡ false = ap (λ (k : Kind). not (goes_on k)) listed.2 ∙ ap not on in
+    ap flow_in listed.1 ∙ ap (λ (f : Flow). flow_in (Some (record e { flow = f }))) (goes_then e.flow (second (not (goes_on e.kind)) (is_going e.flow) off passes))
+
+-- immediates of these kinds
+abbrev IsOneOf : Immediates → Type 0
+IsOneOf x = ((n : ℕ) × (x ≡ imm.Local n)) ⊎ (((n : ℕ) × (x ≡ imm.Global n)) ⊎ (((n : ℤ) × (x ≡ imm.I32 n)) ⊎ ((n : ℤ) × (x ≡ imm.I64 n))))
+
+pub one_goes : (x : Immediates) → IsOneOf x → goes_on (kind_is x) ≡ true
+one_goes x h = elim h [ inl a ↦ ap (λ (y : Immediates). goes_on (kind_is y)) a.1 | inr b ↦ elim b [ inl a ↦ ap (λ (y : Immediates). goes_on (kind_is y)) a.1 | inr c ↦ elim c [ inl a ↦ ap (λ (y : Immediates). goes_on (kind_is y)) a.1 | inr a ↦ ap (λ (y : Immediates). goes_on (kind_is y)) a.1 ] ] ]
+
+pub one_alone : (x : Immediates) → IsOneOf x → names_alone x ≡ true
+one_alone x h = elim h [ inl a ↦ ap names_alone a.1 | inr b ↦ elim b [ inl a ↦ ap names_alone a.1 | inr c ↦ elim c [ inl a ↦ ap names_alone a.1 | inr a ↦ ap names_alone a.1 ] ] ]

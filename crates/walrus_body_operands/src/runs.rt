@@ -130,7 +130,7 @@ fn paired<S: Scope>(scope: &S, op: &Operator, offset: u64) -> Result<Instr, Body
     }
 }
 
-fn plain<S: Scope>(scope: &S, op: &Operator, offset: u64) -> Result<Instr, BodyError>
+pub(crate) fn plain<S: Scope>(scope: &S, op: &Operator, offset: u64) -> Result<Instr, BodyError>
     requires runs { RunsListed op.now }
     requires alone { names_alone op.now.immediates ≡ true }
     ensures { (labels : ℕ) (around : List ℕ) → Meets result (items_test (S.sight scope.now) labels (seen op.now)) offset (RunsAs (S.sight scope.now) around op.now.code (items_of op.now.immediates)) }
@@ -190,7 +190,7 @@ fn within<S: Scope>(
 }
 
 // Of an operator that accesses a memory.
-fn on_memory<S: Scope>(
+pub(crate) fn on_memory<S: Scope>(
     scope: &S,
     op: &Operator,
     access: MemoryAccess,

@@ -9,13 +9,13 @@ ghost use Rattle.walrus_body_steps.specs.walrus_body_rules.Rules.{items_test};
 ghost use Rattle.walrus_body_steps.specs.walrus_body_rules.Sights.{Sight};
 ghost use Rattle.walrus_body_steps.specs.Meanings.{IsOpener};
 ghost use Rattle.walrus_body_operands.specs.Asked.{AnswersIf, Meets};
-ghost use Rattle.walrus_body_operands.specs.Listed.{IsListed, RunsListed, begins_block, holds_list, known_labels, names_label, names_tag, opened_by};
+ghost use Rattle.walrus_body_operands.specs.Listed.{IsListed, RunsListed, accessed, begins_block, holds_list, known_labels, names_alone, names_label, names_tag, opened_by};
 ghost use Rattle.walrus_body_operands.specs.Steps.{IsStep};
 
 use crate::faults::no_item;
 use crate::labels::Labels;
 use crate::opens::{tag_id, try_table};
-use crate::runs::run;
+use crate::runs::{on_memory, plain, run};
 use crate::scope::Scope;
 use crate::types::block_type;
 use std::alloc::Global;
@@ -25,7 +25,7 @@ use walrus_body_steps::body_nesting::Opener;
 use walrus_instr::{Instr, InstrSeqType};
 use walrus_operators::{Immediates, Operator};
 use wasm_formats::Space;
-use wasm_immediates::BlockType;
+use wasm_immediates::{BlockType, MemoryAccess};
 use wasm_operators::Flow;
 
 /// What an operator does to the open sequences of a body.
@@ -159,31 +159,61 @@ fn delegate<L: Labels>(op: &Operator, labels: &L, offset: u64) -> Result<Step, B
     }
 }
 
+// This and what follows for the frequent kinds of immediates are functions of their own: what the others keep on the stack is then no
+// part of each call.
+#[inline(never)]
 fn stand<S: Scope, L: Labels>(
     scope: &S,
     alloc: Global,
     op: &Operator,
     labels: &L,
+    cut: bool,
     offset: u64,
 ) -> Result<Step, BodyError>
-    requires { RunsListed op.now }
+    requires runs { RunsListed op.now }
+    requires cut { cut ≡ cuts_in (flow_of op.now.code) }
     ensures { AnswersIf (holds_list (kind_is op.now.immediates)) result (items_test (S.sight scope.now) (length (L.ids labels.now)) (seen op.now)) offset (IsStep (S.sight scope.now) (L.ids labels.now) (seen op.now)) }
 {
-    let cuts = cuts(op.code.flow());
     match run(scope, alloc, op, labels, offset) {
-        Ok(instr) => Ok(Step::Run { instr, cuts }),
+        Ok(instr) => Ok(Step::Run { instr, cuts: cut }),
         Err(fault) => Err(fault),
     }
 }
 
-/// What an operator of the table does, at this offset inside these sequences.
-///
-/// # Errors
-///
-/// At this offset, where what the operator names isn't there or may not stand there: `Index`, `TypeForm` (of a block type), `Position`
-/// (a data segment with no data count), `Unsupported` and `Bounds`, of those that are due the one of the lowest number, and of `Index`
-/// the first in the order of the bytes. Want of memory, for the labels of a `br_table` and the clauses of a `try_table` alone.
-pub fn step_of<S: Scope, L: Labels>(
+// An operator that names nothing but what is to be there, and behind which a run goes on.
+fn goes<S: Scope>(scope: &S, op: &Operator, offset: u64) -> Result<Step, BodyError>
+    requires listed { IsListed op.now }
+    requires goes { flow_of op.now.code ≡ Some Flow.Goes }
+    requires alone { names_alone op.now.immediates ≡ true }
+    ensures { (labels : ℕ) (around : List ℕ) → Meets result (items_test (S.sight scope.now) labels (seen op.now)) offset (IsStep (S.sight scope.now) around (seen op.now)) }
+{
+    match plain(scope, op, offset) {
+        Ok(instr) => Ok(Step::Run { instr, cuts: false }),
+        Err(fault) => Err(fault),
+    }
+}
+
+// An operator that accesses a memory, and behind which a run goes on.
+fn reaches<S: Scope>(
+    scope: &S,
+    op: &Operator,
+    access: MemoryAccess,
+    offset: u64,
+) -> Result<Step, BodyError>
+    requires listed { IsListed op.now }
+    requires goes { flow_of op.now.code ≡ Some Flow.Goes }
+    requires access { accessed op.now.immediates ≡ Some access }
+    ensures { (labels : ℕ) (around : List ℕ) → Meets result (items_test (S.sight scope.now) labels (seen op.now)) offset (IsStep (S.sight scope.now) around (seen op.now)) }
+{
+    match on_memory(scope, op, access, offset) {
+        Ok(instr) => Ok(Step::Run { instr, cuts: false }),
+        Err(fault) => Err(fault),
+    }
+}
+
+// By what the operator does to a run.
+#[inline(never)]
+fn by_flow<S: Scope, L: Labels>(
     scope: &S,
     alloc: Global,
     op: &Operator,
@@ -194,7 +224,7 @@ pub fn step_of<S: Scope, L: Labels>(
     ensures { AnswersIf (holds_list (kind_is op.now.immediates)) result (items_test (S.sight scope.now) (known_labels (flow_of op.now.code) (length (L.ids labels.now))) (seen op.now)) offset (IsStep (S.sight scope.now) (L.ids labels.now) (seen op.now)) }
 {
     let Some(flow) = op.code.flow() else {
-        return stand(scope, alloc, op, labels, offset);
+        return stand(scope, alloc, op, labels, false, offset);
     };
     match flow {
         Flow::Passes => Ok(Step::Pass),
@@ -219,6 +249,50 @@ pub fn step_of<S: Scope, L: Labels>(
         | Flow::TailCalls
         | Flow::TailCallsIndirectly
         | Flow::Throws
-        | Flow::ThrowsOrTraps => stand(scope, alloc, op, labels, offset),
+        | Flow::ThrowsOrTraps => stand(scope, alloc, op, labels, cuts(Some(flow)), offset),
+    }
+}
+
+// Of an operator without immediates.
+fn bare<S: Scope, L: Labels>(
+    scope: &S,
+    alloc: Global,
+    op: &Operator,
+    labels: &L,
+    offset: u64,
+) -> Result<Step, BodyError>
+    requires listed { IsListed op.now }
+    requires bare { op.now.immediates ≡ Immediates.Bare }
+    ensures { AnswersIf (holds_list (kind_is op.now.immediates)) result (items_test (S.sight scope.now) (known_labels (flow_of op.now.code) (length (L.ids labels.now))) (seen op.now)) offset (IsStep (S.sight scope.now) (L.ids labels.now) (seen op.now)) }
+{
+    match op.code.flow() {
+        Some(Flow::Goes) => goes(scope, op, offset),
+        _ => by_flow(scope, alloc, op, labels, offset),
+    }
+}
+
+/// What an operator of the table does, at this offset inside these sequences.
+///
+/// # Errors
+///
+/// At this offset, where what the operator names isn't there or may not stand there: `Index`, `TypeForm` (of a block type), `Position`
+/// (a data segment with no data count), `Unsupported` and `Bounds`, of those that are due the one of the lowest number, and of `Index`
+/// the first in the order of the bytes. Want of memory, for the labels of a `br_table` and the clauses of a `try_table` alone.
+pub fn step_of<S: Scope, L: Labels>(
+    scope: &S,
+    alloc: Global,
+    op: &Operator,
+    labels: &L,
+    offset: u64,
+) -> Result<Step, BodyError>
+    requires { IsListed op.now }
+    ensures { AnswersIf (holds_list (kind_is op.now.immediates)) result (items_test (S.sight scope.now) (known_labels (flow_of op.now.code) (length (L.ids labels.now))) (seen op.now)) offset (IsStep (S.sight scope.now) (L.ids labels.now) (seen op.now)) }
+{
+    match &op.immediates {
+        Immediates::Bare => bare(scope, alloc, op, labels, offset),
+        Immediates::Local(_) | Immediates::Global(_) | Immediates::I32(_) | Immediates::I64(_) =>
+            goes(scope, op, offset),
+        Immediates::Access(access) => reaches(scope, op, *access, offset),
+        _ => by_flow(scope, alloc, op, labels, offset),
     }
 }

@@ -1,5 +1,6 @@
 pub mod Spelled
 pub mod Numbers
+pub mod Nexts
 pub mod Doing
 pub mod Outputs
 pub mod Refusals

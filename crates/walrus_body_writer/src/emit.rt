@@ -20,6 +20,7 @@ use crate::operators::{closer_of, written_of};
 use crate::output::Output;
 use crate::refusal::fault_of;
 use crate::todo::{Closer, Met, Todo};
+use crate::todos::Todos;
 use crate::walk::{advance, item_at, seq_at};
 use std::alloc::Global;
 use walrus_arena::{FunctionId, InstrSeqId};
@@ -114,8 +115,7 @@ fn write_tree(
     walrus_tree::laws::text_is_plain();
     walrus_tree::laws::trees_are_sound();
     let mut depths = Depths::new(alloc, seqs.len())?;
-    let mut todo = Vec::new(alloc);
-    todo.extend_from_slice(&[Todo::Enter(entry, Closer::End)])?;
+    let mut todo = Todos::new(alloc, Todo::Enter(entry, Closer::End));
     while let Some(top) = todo.pop() {
         let met = advance(seqs, top, &mut todo, &mut depths)?;
         match write_met(alloc, numbers, seqs, &depths, met, out) {

@@ -9,6 +9,7 @@ mod output;
 mod refusal;
 mod size;
 mod todo;
+mod todos;
 mod visit;
 mod walk;
 

@@ -3,6 +3,7 @@
 ghost use Rattle.std.specs.Prelude.{◌≡◌, List, [], ◌∷◌, ◌++◌, OnOk, IfOk};
 ghost use Rattle.walrus_body_writer.specs.Doing.{closer_before, entering, handling};
 
+use crate::todos::Todos;
 use std::alloc::AllocError;
 use walrus_arena::{InstrSeqId, TagId};
 use walrus_instr::{Instr, InstrLocId, LegacyCatch};
@@ -50,16 +51,16 @@ pub(crate) enum Met {
     Nothing,
 }
 
-fn push_enter(todo: &mut Vec<Todo>, seq: InstrSeqId, closer: Closer) -> Result<(), AllocError>
-    ensures { OnOk result (todo.new.items ≡ todo.old.items ++ Todo.Enter seq closer ∷ []) }
+fn push_enter(todo: &mut Todos, seq: InstrSeqId, closer: Closer) -> Result<(), AllocError>
+    ensures { OnOk result (todo.new ≡ todo.old ++ Todo.Enter seq closer ∷ []) }
 {
-    todo.extend_from_slice(&[Todo::Enter(seq, closer)])
+    todo.push(Todo::Enter(seq, closer))
 }
 
 // Pushes a part of a legacy `try`, behind which this stands; gives what stands before it.
-fn push_part(todo: &mut Vec<Todo>, part: LegacyCatch, closer: Closer) -> Result<Closer, AllocError>
+fn push_part(todo: &mut Todos, part: LegacyCatch, closer: Closer) -> Result<Closer, AllocError>
     ensures { IfOk result (λ before. (parts : List LegacyCatch) → closer ≡ closer_before parts →
-        (before ≡ closer_before (part ∷ parts)) × ((ts : List Todo) → todo.old.items ≡ ts ++ handling parts → todo.new.items ≡ ts ++ handling (part ∷ parts))) }
+        (before ≡ closer_before (part ∷ parts)) × ((ts : List Todo) → todo.old ≡ ts ++ handling parts → todo.new ≡ ts ++ handling (part ∷ parts))) }
 {
     match part {
         LegacyCatch::Catch { tag, handler } => {
@@ -75,8 +76,8 @@ fn push_part(todo: &mut Vec<Todo>, part: LegacyCatch, closer: Closer) -> Result<
 }
 
 // Pushes the handlers of the parts, the last first; gives what stands before the first part.
-fn push_parts(todo: &mut Vec<Todo>, parts: &[LegacyCatch]) -> Result<Closer, AllocError>
-    ensures pushed { IfOk result (λ _. todo.new.items ≡ todo.old.items ++ handling parts.now) }
+fn push_parts(todo: &mut Todos, parts: &[LegacyCatch]) -> Result<Closer, AllocError>
+    ensures pushed { IfOk result (λ _. todo.new ≡ todo.old ++ handling parts.now) }
     ensures before { IfOk result (λ before. before ≡ closer_before parts.now) }
 {
     let mut closer = Closer::End;
@@ -93,8 +94,8 @@ fn push_parts(todo: &mut Vec<Todo>, parts: &[LegacyCatch]) -> Result<Closer, All
 /// # Errors
 ///
 /// Want of memory. Some may have been pushed.
-pub(crate) fn push_held(todo: &mut Vec<Todo>, instr: &Instr) -> Result<(), AllocError>
-    ensures { OnOk result (todo.new.items ≡ todo.old.items ++ entering instr.now) }
+pub(crate) fn push_held(todo: &mut Todos, instr: &Instr) -> Result<(), AllocError>
+    ensures { OnOk result (todo.new ≡ todo.old ++ entering instr.now) }
 {
     match instr {
         Instr::Block { seq } => push_enter(todo, *seq, Closer::End),

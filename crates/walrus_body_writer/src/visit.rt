@@ -12,6 +12,7 @@ ghost use Rattle.walrus_body_writer.specs.Visiting.{IsLeft, ToldPart, Visits};
 
 use crate::depths::Depths;
 use crate::todo::{Closer, Met, Todo};
+use crate::todos::Todos;
 use crate::walk::{advance, item_at, seq_at};
 use std::alloc::{AllocError, Global};
 use walrus_arena::InstrSeqId;
@@ -93,8 +94,7 @@ fn visit_tree<V: TextVisitor>(
     walrus_tree::laws::text_is_plain();
     walrus_tree::laws::trees_are_sound();
     let mut depths = Depths::new(alloc, seqs.len())?;
-    let mut todo = Vec::new(alloc);
-    todo.extend_from_slice(&[Todo::Enter(entry, Closer::End)])?;
+    let mut todo = Todos::new(alloc, Todo::Enter(entry, Closer::End));
     while let Some(top) = todo.pop() {
         let met = advance(seqs, top, &mut todo, &mut depths)?;
         tell_met(visitor, seqs, met)?;

@@ -6,6 +6,7 @@ ghost use Rattle.walrus_body_writer.specs.Emitting.{Advances, state};
 
 use crate::depths::Depths;
 use crate::todo::{Closer, Met, Place, Todo, push_held};
+use crate::todos::Todos;
 use std::alloc::AllocError;
 use walrus_arena::InstrSeqId;
 use walrus_instr::{Instr, InstrLocId, InstrSeq};
@@ -49,17 +50,17 @@ pub(crate) fn item_at(seq: &InstrSeq, at: usize) -> Option<&(Instr, InstrLocId)>
 
 // Leaves what an instruction holds, and what is behind it, to do.
 fn push_rest(
-    todo: &mut Vec<Todo>,
+    todo: &mut Todos,
     seq: InstrSeqId,
     at: usize,
     closer: Closer,
     instr: &Instr,
 ) -> Result<(), AllocError>
     requires { at < 18446744073709551615 }
-    ensures { OnOk result (todo.new.items ≡ (todo.old.items ++ Todo.Inside (record { seq = seq; next = at + 1; closer = closer }) ∷ []) ++ entering instr.now) }
+    ensures { OnOk result (todo.new ≡ (todo.old ++ Todo.Inside (record { seq = seq; next = at + 1; closer = closer }) ∷ []) ++ entering instr.now) }
 {
     let next = at + 1;
-    todo.extend_from_slice(&[Todo::Inside(Place { seq, next, closer })])?;
+    todo.push(Todo::Inside(Place { seq, next, closer }))?;
     push_held(todo, instr)
 }
 
@@ -72,10 +73,10 @@ fn push_rest(
 pub(crate) fn advance(
     seqs: &[InstrSeq],
     top: Todo,
-    todo: &mut Vec<Todo>,
+    todo: &mut Todos,
     depths: &mut Depths,
 ) -> Result<Met, AllocError>
-    ensures { IfOk result (λ met. Advances seqs.now top met (state todo.old.items depths.old) (state todo.new.items depths.new)) }
+    ensures { IfOk result (λ met. Advances seqs.now top met (state todo.old depths.old) (state todo.new depths.new)) }
 {
     let Place {
         seq: id,

@@ -53,7 +53,7 @@ pub(crate) fn bare_code_of(instr: &Instr) -> Option<OpCode>
     }
 }
 
-fn write_constant(value: Value) -> Written
+pub(crate) fn write_constant(value: Value) -> Written
     ensures { as_seen result ≡ constant value }
 {
     match value {
@@ -66,7 +66,7 @@ fn write_constant(value: Value) -> Written
 }
 
 // With a lane, where there is one.
-fn lane_op(code: OpCode, lane: Option<u8>) -> Written
+pub(crate) fn lane_op(code: OpCode, lane: Option<u8>) -> Written
     ensures { as_seen result ≡ Ok (Some (record { code = code; items = lane_items lane })) }
 {
     match lane {

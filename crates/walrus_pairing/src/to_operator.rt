@@ -7,19 +7,26 @@ ghost use Rattle.walrus_pairing.specs.Answers.{selected, IsSelectAnswer, IsAnswe
 ghost use Rattle.walrus_pairing.specs.Write.{plain_at};
 
 use crate::error::PairError;
-use crate::families::{bare_code_of, write_memory, write_numeric, write_object, write_variable};
+use crate::families::{
+    bare_code_of, lane_op, write_constant, write_memory, write_numeric, write_object,
+    write_variable,
+};
 use crate::types::write_value;
-use crate::written::{Written, op};
+use crate::written::{Written, access_op, function_op, global_op, local_op, op};
 use std::alloc::Global;
 use walrus_access_codes::instr::Instr;
-use walrus_access_codes::operator_codes::byte;
+use walrus_access_codes::operator_codes::{
+    byte, code_of_binary, code_of_unary, lane_of_binary, lane_of_unary,
+};
+use walrus_access_codes::{code_of_load, code_of_store};
 use walrus_arena::FunctionId;
 use walrus_forms::ValType;
 use walrus_index_maps::IdsToIndices;
 use walrus_operators::Immediates;
 
-// Of an instruction without a list.
-fn plain_operator(instr: &Instr, function: FunctionId, maps: &IdsToIndices) -> Written
+// Of an instruction without a list. It isn't inlined: what it keeps on the stack is then no part of each call.
+#[inline(never)]
+fn rare_operator(instr: &Instr, function: FunctionId, maps: &IdsToIndices) -> Written
     ensures { as_seen result ≡ plain_at (number_of (indices maps.now) function) instr.now }
 {
     if let Some(code) = bare_code_of(instr) {
@@ -35,6 +42,26 @@ fn plain_operator(instr: &Instr, function: FunctionId, maps: &IdsToIndices) -> W
         return Ok(Some(op));
     }
     write_object(instr, maps)
+}
+
+// The same, the frequent instructions first.
+fn plain_operator(instr: &Instr, function: FunctionId, maps: &IdsToIndices) -> Written
+    ensures { as_seen result ≡ plain_at (number_of (indices maps.now) function) instr.now }
+{
+    match instr {
+        Instr::LocalGet { local } => local_op(byte(0x20), *local, function, maps),
+        Instr::LocalSet { local } => local_op(byte(0x21), *local, function, maps),
+        Instr::LocalTee { local } => local_op(byte(0x22), *local, function, maps),
+        Instr::Const { value } => write_constant(*value),
+        Instr::Unop { op } => lane_op(code_of_unary(*op), lane_of_unary(*op)),
+        Instr::Binop { op } => lane_op(code_of_binary(*op), lane_of_binary(*op)),
+        Instr::Load { memory, kind, arg } => access_op(code_of_load(*kind), *memory, *arg, maps),
+        Instr::Store { memory, kind, arg } => access_op(code_of_store(*kind), *memory, *arg, maps),
+        Instr::Call { func } => function_op(byte(0x10), *func, maps),
+        Instr::GlobalGet { global } => global_op(byte(0x23), *global, maps),
+        Instr::GlobalSet { global } => global_op(byte(0x24), *global, maps),
+        _ => rare_operator(instr, function, maps),
+    }
 }
 
 // The type that a `select` names.

@@ -1,10 +1,10 @@
 -- What was met, and what is reached.
 use Rattle.std.proofs.Common.{◌≡◌, ◌∙◌, ◌⊎◌, ◌<◌, ℕ, List, Bool, true, false, Option, Some, None, get_or, length, refl, sym, ap, subst, inl, inr, arith}
-use Rattle.std.specs.Prelude.{◌↔◌, MatchOption, Decides, is_some, slice_get}
+use Rattle.std.specs.Prelude.{◌↔◌, MatchOption, Decides, is_some}
 use Rattle.std.specs.Option.{option_and_then}
 use Rattle.std.proofs.lemmas.List.{get_or_past}
 use Rattle.std.specs.Bool.{OnTrue}
-use Rattle.std.proofs.lemmas.Bool.{cases_lt, false≢true, OnTrue_from}
+use Rattle.std.proofs.lemmas.Bool.{cases_lt, false≢true, OnTrue_at, OnTrue_from}
 use Rattle.wasm_formats.specs.declared.fault.Form.{Form}
 use Rattle.wasm_formats.specs.declared.fault.Form.TheVariants as forms
 use Rattle.wasm_formats.specs.declared.fault.Space.{Space}
@@ -21,6 +21,7 @@ use Rattle.walrus_roots.specs.declared.item.Item.{Item}
 use Rattle.walrus_roots.specs.Items.{item, space_number}
 use Rattle.walrus_marks.specs.Marks.{State}
 use Rattle.walrus_marks.specs.Chains.{FitsIn}
+use Rattle.walrus_used.specs.Asked.{AllHold}
 use Rattle.walrus_marks.specs.Chains.{IsReached as IsReachedIn}
 use Rattle.walrus_used.specs.walrus_references.References.{Refers}
 use Rattle.walrus_used.specs.walrus_references.Roots.{Root}
@@ -33,9 +34,7 @@ use Rattle.walrus_refusals.specs.Asked.{Linked, IsOwnLinked, IsBrought, IsWholeI
 use Rattle.walrus_linked.specs.walrus_module.Items.{brought}
 use Rattle.walrus_refusals.specs.Checks.{IsMet, IsWell, HoldsMet, HoldsOrFails, AllClaimTruly, AreInexact, AreWell, FailsIn, HasMetForm}
 use Rattle.walrus_refusals.specs.Sound.{AllReached, HasForm, IsSound, Stands}
-use Rattle.walrus_items.specs.declared.local.Local.{Local}
-use Rattle.walrus_exact.specs.Exact.{val_exact}
-use Rattle.walrus_refusals.specs.Written.{HasNone, HasNoExact, HasNoExactIn, IsUnshared, IsUnsharedIn, StaysIn, StaysInGroup}
+use Rattle.walrus_refusals.specs.Written.{HasNoExact, HasNoExactIn, IsUnshared, IsUnsharedIn, StaysIn, StaysInGroup}
 
 -- nothing stands at an id that wasn't given out
 none_at : {T : Type 0} (a : Arena T) (id : ℕ) → (id < length a.slots → ⊥) → item_at a id ≡ None
@@ -237,13 +236,13 @@ module _ (m : Module) where
 
     pub well_sound : AreWell m s → IsSound m pushed
     well_sound w =
-        let stand = all_stand w.flagged (λ x low met. (w.items x low met).1.0) in record {
-          linked = linked_from (λ x low met. (w.items x low met).0.0, w.claims);
-          trees = trees_from (λ x low met. (w.items x low met).0.1);
+        let stand = all_stand w.flagged (λ x low met. (w.items x met).1.0) in record {
+          linked = linked_from (λ x low met. (w.items x met).0.0, w.claims);
+          trees = trees_from (λ x low met. (w.items x met).0.1);
           live = λ x r. (stand x r).0;
           grouped = λ x r. (stand x r).1;
-          unshared = all_unshared w.flagged (λ x low met. (w.items x low met).1.1.0);
-          inexact = all_inexact w.flagged (λ x low met. (w.items x low met).1.1.1, w.locals);
+          unshared = all_unshared w.flagged (λ x low met. (w.items x met).1.1.0);
+          inexact = all_inexact w.flagged (λ x low met. (w.items x met).1.1.1, λ id met. (w.items (item spaces.Local id) met).1.1.1);
         }
 
 none_if : (o : Option Item) → is_some o ≡ false → o ≡ None
@@ -252,14 +251,8 @@ none_if (Some i) is = absurd (false≢true (sym is))
 
 -- nothing is wrong, where no test fails
 module _ (m : Module) (s : State) where
-  pub well_if : (locals : List Local) (b c l : Bool) → locals ≡ m.locals → is_some s.missing ≡ false → b ≡ true → Decides b (HoldsMet (IsWell m) s) → c ≡ true → Decides c (AllClaimTruly m s)
-      → Decides l ((id : ℕ) → IsMet s (item spaces.Local id) → HasNone (λ (x : Local). val_exact x.ty) (slice_get locals id)) → OnTrue l (AreWell m s)
-  well_if locals b c l are none items held claims claimed decided = OnTrue_from l (AreWell m s) (λ e. record {
-    flagged = none_if s.missing none;
-    items = held.0 items;
-    claims = claimed.0 claims;
-    locals = subst (λ (ls : List Local). (id : ℕ) → IsMet s (item spaces.Local id) → HasNone (λ (x : Local). val_exact x.ty) (slice_get ls id)) are (decided.0 e);
-  })
+  pub well_if : (held c : Bool) → held ≡ true → OnTrue held (AllHold (IsWell m) s) → is_some s.missing ≡ false → Decides c (AllClaimTruly m s) → OnTrue c (AreWell m s)
+  well_if held c is holds none claimed = OnTrue_from c (AreWell m s) (λ e. record { flagged = none_if s.missing none; items = OnTrue_at is holds; claims = claimed.0 e })
 
 -- what an answer says
 pub holds_not : (holds : Item → Type 0) (s : State) (answer : Option Space) (space : Space) → answer ≡ Some space → HoldsOrFails holds s answer → ((x : Item) → x.space ≡ space → IsMet s x → holds x) → ⊥

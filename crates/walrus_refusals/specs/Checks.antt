@@ -11,6 +11,7 @@ use Rattle.walrus_linked.specs.Linked.{import_in}
 use Rattle.walrus_roots.specs.declared.item.Item.{Item}
 use Rattle.walrus_roots.specs.Items.{item, space_number}
 use Rattle.walrus_marks.specs.Marks.{State, is_marked}
+use Rattle.walrus_used.specs.Asked.{AllHold}
 use Rattle.walrus_linked.specs.walrus_module.Items.{brought}
 use Rattle.walrus_used.specs.walrus_references.Refused.{FormsTree}
 use Rattle.walrus_refusals.specs.Asked.{IsOwnLinked}
@@ -63,6 +64,5 @@ AllClaimTruly m marks = (i : ℕ) (import : Import) → item_at m.imports i ≡ 
 -- nothing is wrong with what was met
 pub record AreWell (m : Module) (marks : State) : Type 0 where
   pub flagged : marks.missing ≡ None
-  pub items : HoldsMet (IsWell m) marks
+  pub items : AllHold (IsWell m) marks
   pub claims : AllClaimTruly m marks
-  pub locals : (id : ℕ) → IsMet marks (item spaces.Local id) → HasNoExact m (item spaces.Local id)

@@ -11,24 +11,10 @@ use std::alloc::AllocError;
 use walrus_linked::module::Module;
 use walrus_marks::Marks;
 use walrus_roots::Item;
-use walrus_used::id_counts;
+use walrus_used::{Check, id_counts};
 use wasm_formats::Space;
 
-/// What is asked of items.
-pub(crate) trait Check {
-    /// That it holds of the item.
-    ghost holds: { Self → AnyItem → Type 0 };
-
-    /// Whether it holds of the item.
-    ///
-    /// # Errors
-    ///
-    /// Want of memory.
-    fn check(&self, item: Item) -> Result<bool, AllocError>
-        ensures { IfOk result (λ ok. Decides ok (holds self.now item)) };
-}
-
-/// Two of them, of which an item is asked both while it is at hand.
+/// Two checks, of which an item is asked both while it is at hand.
 #[derive(Drop)]
 pub(crate) struct Both<A, B> {
     pub(crate) first: A,

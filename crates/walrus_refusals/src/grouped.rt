@@ -9,13 +9,13 @@ ghost use Rattle.walrus_used.specs.walrus_references.References.{IsInGroup};
 ghost use Rattle.walrus_refusals.specs.Grouped.{are_one, begin_alike};
 ghost use Rattle.walrus_refusals.specs.Written.{MayName, NamesNoLater, StaysInGroup};
 
-use crate::checks::Check;
 use std::alloc::{AllocError, Global};
 use walrus_arena::TypeId;
 use walrus_items::RecGroup;
 use walrus_linked::module::Module;
 use walrus_roots::Item;
 use walrus_types::ModuleTypes;
+use walrus_used::Check;
 use wasm_formats::Space;
 
 // Whether both lists begin, with one id.

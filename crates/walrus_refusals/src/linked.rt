@@ -14,7 +14,6 @@ ghost use Rattle.walrus_linked.specs.walrus_module.Items.{brought};
 ghost use Rattle.walrus_refusals.specs.Checks.{AllClaimTruly, ClaimsTruly};
 
 use crate::arguments::has_arguments;
-use crate::checks::Check;
 use std::alloc::{AllocError, Global};
 use walrus_arena::{FunctionId, GlobalId, ImportId, MemoryId, TableId, TagId};
 use walrus_exact::module_items::{FunctionKind, GlobalKind, Import, ImportKind, TagKind};
@@ -24,6 +23,7 @@ use walrus_linked::collections::{
 use walrus_linked::module::Module;
 use walrus_marks::Marks;
 use walrus_roots::Item;
+use walrus_used::Check;
 use wasm_formats::Space;
 
 /// The item that an import brings.

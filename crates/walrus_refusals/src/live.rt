@@ -4,12 +4,12 @@ ghost use Rattle.walrus_linked.specs.walrus_module.Parts.{parts};
 ghost use Rattle.walrus_linked.specs.walrus_module.Items.{written_type};
 ghost use Rattle.walrus_linked.specs.walrus_module.Items.{Lives};
 
-use crate::checks::Check;
 use std::alloc::AllocError;
 use walrus_arena::TypeId;
 use walrus_linked::module::Module;
 use walrus_roots::Item;
 use walrus_types::ModuleTypes;
+use walrus_used::Check;
 use wasm_formats::Space;
 
 // Whether the type lives and is no entry type.

@@ -4,15 +4,16 @@ ghost use Rattle.std.specs.Bool.{OnTrue};
 ghost use Rattle.walrus_linked.specs.walrus_module.Parts.{parts};
 ghost use Rattle.walrus_roots.specs.declared.item.Item.{Item as AnyItem};
 ghost use Rattle.walrus_marks.specs.Chains.{FitsIn};
+ghost use Rattle.walrus_used.specs.Asked.{AllHold};
 ghost use Rattle.walrus_used.specs.walrus_references.Kept.{IsReached};
 ghost use Rattle.walrus_linked.specs.walrus_module.Items.{Lives};
 ghost use Rattle.walrus_used.specs.Counts.{counts_of};
 ghost use Rattle.walrus_refusals.specs.Asked.{IsOwnLinked};
-ghost use Rattle.walrus_refusals.specs.Checks.{AllClaimTruly, AreWell, AreInexact, FailsIn, HasMetForm, HoldsMet, IsMet};
+ghost use Rattle.walrus_refusals.specs.Checks.{AllClaimTruly, AreWell, AreInexact, FailsIn, HasMetForm, HoldsMet, IsMet, IsWell};
 ghost use Rattle.walrus_refusals.specs.Sound.{IsRefused, IsSound, Stands};
 ghost use Rattle.walrus_refusals.specs.Written.{IsUnshared, StaysInGroup};
 
-use crate::checks::{Both, Check, failing_space};
+use crate::checks::{Both, failing_space};
 use crate::grouped::Grouped;
 use crate::linked::{OwnLinks, all_claim_truly};
 use crate::live::Living;
@@ -23,7 +24,7 @@ use walrus_errors::{Form, ModuleError};
 use walrus_linked::module::Module;
 use walrus_marks::Marks;
 use walrus_roots::Item;
-use walrus_used::reach_items;
+use walrus_used::{Check, Reached, reach_items};
 use wasm_formats::Space;
 
 // Whether it holds of all that was met but locals.
@@ -95,40 +96,18 @@ fn form_of<B>(alloc: Global, input: &Module<B>, marks: &Marks) -> Result<Option<
     Ok(None)
 }
 
-// Whether nothing is wrong with what was met, told in one pass: an item is asked all while it is at hand.
-fn are_well<B>(alloc: Global, input: &Module<B>, marks: &Marks) -> Result<bool, AllocError>
-    requires { (x : AnyItem) → IsMet marks.now x → FitsIn (counts_of (parts input.now)) x }
-    ensures { IfOk result (λ ok. OnTrue ok (AreWell (parts input.now) marks.now)) }
+// Whether nothing is wrong with what was reached, where it is told of all of it whether an item is well.
+fn are_well<B>(input: &Module<B>, reached: &Reached) -> bool
+    requires { OnTrue reached.now.holds (AllHold (IsWell (parts input.now)) reached.now.marks) }
+    ensures { OnTrue result (AreWell (parts input.now) reached.now.marks) }
 {
-    let linked = Both {
-        first: OwnLinks { alloc, input },
-        second: Trees { alloc, input },
-    };
-    let standing = Both {
-        first: Living { input },
-        second: Grouped { alloc, input },
-    };
-    let written = Both {
-        first: Unshared { input },
-        second: Inexact { alloc, input },
-    };
-    let all = Both {
-        first: linked,
-        second: Both {
-            first: standing,
-            second: written,
-        },
-    };
-    if marks.missing().is_some() {
-        return Ok(false);
+    if !reached.holds {
+        return false;
     }
-    if !holds_of_all(input, marks, &all)? {
-        return Ok(false);
+    if reached.marks.missing().is_some() {
+        return false;
     }
-    if !all_claim_truly(input, marks) {
-        return Ok(false);
-    }
-    Ok(locals_have_none(input.locals.iter().as_slice(), marks))
+    all_claim_truly(input, &reached.marks)
 }
 
 /// Marks what is reached from the roots, where custom sections push these. Takes time and memory in proportion to
@@ -150,10 +129,30 @@ pub fn reach_sound<B>(
     ensures refused { IfErr result (IsRefused (parts input.now) pushed.now) }
 {
     walrus_types::laws::types_are_grouped(&input.types);
-    let marks = reach_items(alloc, input, pushed)?;
-    if are_well(alloc, input, &marks)? {
-        return Ok(marks);
+    let linked = Both {
+        first: OwnLinks { alloc, input },
+        second: Trees { alloc, input },
+    };
+    let standing = Both {
+        first: Living { input },
+        second: Grouped { alloc, input },
+    };
+    let written = Both {
+        first: Unshared { input },
+        second: Inexact { alloc, input },
+    };
+    let well = Both {
+        first: linked,
+        second: Both {
+            first: standing,
+            second: written,
+        },
+    };
+    let reached = reach_items(alloc, input, pushed, &well)?;
+    if are_well(input, &reached) {
+        return Ok(reached.marks);
     }
+    let marks = reached.marks;
     if !are_linked(alloc, input, &marks)? {
         return Err(ModuleError::NotLinked);
     }

@@ -19,7 +19,6 @@ ghost use Rattle.walrus_used.specs.Bodies.{seq_counts};
 ghost use Rattle.walrus_refusals.specs.Checks.{IsMet};
 ghost use Rattle.walrus_refusals.specs.Written.{BodyHasNone, HasNoExact, HasNone, IsUnshared, KindHasNone};
 
-use crate::checks::Check;
 use std::alloc::{AllocError, Global};
 use walrus_arena::{DataId, ElementId, FunctionId, GlobalId, TableId, TypeId};
 use walrus_exact::module_items::FunctionKind;
@@ -35,7 +34,7 @@ use walrus_linked::module::Module;
 use walrus_marks::Marks;
 use walrus_roots::Item;
 use walrus_types::ModuleTypes;
-use walrus_used::reached_seqs;
+use walrus_used::{Check, reached_seqs};
 use wasm_formats::Space;
 
 fn is_unshared(globals: &ModuleGlobals, id: GlobalId) -> bool

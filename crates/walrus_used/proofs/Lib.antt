@@ -1,3 +1,4 @@
+pub mod AskLemmas
 pub mod BodyLemmas
 pub mod CountLemmas
 pub mod GroupLemmas

@@ -1,5 +1,5 @@
 -- What is met for the roots.
-use Rattle.std.proofs.Common.{◌≡◌, ◌∙◌, ◌⊎◌, ◌<◌, ℕ, true, List, [], ◌∷◌, length, Option, Some, None, Contains, refl, sym, ap, subst, inl, inr}
+use Rattle.std.proofs.Common.{◌≡◌, ◌∙◌, ◌⊎◌, ◌+◌, ◌<◌, ◌≤◌, ℕ, true, List, [], ◌∷◌, length, Option, Some, None, Contains, refl, sym, ap, subst, inl, inr, arith}
 use Rattle.std.specs.Prelude.{◌↔◌, IsSome, MatchOption}
 use Rattle.std.specs.List.{fold}
 use Rattle.std.proofs.lemmas.List.{get_or_past}
@@ -22,7 +22,7 @@ use Rattle.walrus_marks.specs.Marks.{State, meet}
 use Rattle.walrus_marks.specs.Chains.{Meets}
 use Rattle.walrus_references.specs.Roots.{Root, exports, starts, is_active, fills_import, declares, is_pushed}
 use Rattle.walrus_references.specs.walrus_module.Items.{given_out}
-use Rattle.walrus_used.specs.Picks.{AreRooted, Below, IsPickedAt, IsPicked, RootWith, active_data, is_imported, rooted_element, start_items}
+use Rattle.walrus_used.specs.Picks.{AreRooted, Below, IsPickedAt, IsPicked, OtherRootWith, RootIn, RootWith, active_data, is_imported, rooted_element, start_items}
 use Rattle.walrus_used.proofs.MeetsLemmas.{AreJust, just_all, meets_list, meets_same, meets_then, below_all}
 use Rattle.walrus_used.proofs.LooksLemmas.{none_in, first_in, only_in, one_live, one_back}
 
@@ -46,6 +46,9 @@ module _ {T : Type 0} (picks : ℕ → T → Item → Type 0) (a : Arena T) wher
     | inl below ↦ below
     | inr past ↦ absurd (subst (λ (o : Option T). MatchOption o ⊥ (λ y. picks k y x)) (get_or_past a.slots k None past) h)
   ]
+
+  pub past_picks : (n : ℕ) (x : Item) → length a.slots ≤ n → IsPickedAt picks a n x → ⊥
+  past_picks n x past h = (let below = picked_below n x h in omega (arith, past, below))
 
   pub picked_just : (n : ℕ) (t : T) (xs : List Item) → item_at a n ≡ Some t → AreJust xs (picks n t) → AreJust xs (IsPickedAt picks a n)
   picked_just n t xs at are = λ x. (
@@ -153,9 +156,51 @@ module _ (m : Module) (pushed : List Item) where
     roots_with x = (λ h. met_root x (with_met x h), λ r. met_with x (root_met x r))
 
   -- one after the other
-  pub roots_after : (rooted : List Item) (a b c d e f : State) → Meets Exported a b → Meets Copied b c → d ≡ fold meet c rooted → e ≡ fold meet d pushed → f ≡ fold meet e (start_items m.start) → Meets (RootWith m rooted pushed) a f
-  roots_after rooted a b c d e f p q r s t =
-      let two = meets_then Exported Copied a b c p q in
-      let three = meets_then (λ x. Exported x ⊎ Copied x) (λ x. Contains rooted x) a c d two (meets_list rooted c d r) in
-      let four = meets_then (λ x. (Exported x ⊎ Copied x) ⊎ Contains rooted x) (λ x. Contains pushed x) a d e three (meets_list pushed d e s) in
-      meets_then (λ x. ((Exported x ⊎ Copied x) ⊎ Contains rooted x) ⊎ Contains pushed x) (λ x. Contains (start_items m.start) x) a e f four (meets_list (start_items m.start) e f t)
+  pub others_after : (rooted : List Item) (a b c d e : State) → Meets Exported a b → c ≡ fold meet b rooted → d ≡ fold meet c pushed → e ≡ fold meet d (start_items m.start) → Meets (OtherRootWith m rooted pushed) a e
+  others_after rooted a b c d e p q r s =
+      let two = meets_then Exported (λ x. Contains rooted x) a b c p (meets_list rooted b c q) in
+      let three = meets_then (λ x. Exported x ⊎ Contains rooted x) (λ x. Contains pushed x) a c d two (meets_list pushed c d r) in
+      meets_then (λ x. (Exported x ⊎ Contains rooted x) ⊎ Contains pushed x) (λ x. Contains (start_items m.start) x) a d e three (meets_list (start_items m.start) d e s)
+
+  -- ---- in parts
+  module _ (rooted : List Item) where
+    abbrev CopiedAt : ℕ → Item → Type 0
+    CopiedAt n x = IsPickedAt (λ id (d : Data) y. Contains (active_data id d.kind) y) m.data_segments n x
+
+    pub first_part : (part : ℕ) (a b : State) → part ≡ 0 → Meets (OtherRootWith m rooted pushed) a b → Meets (RootIn m rooted pushed part) a b
+    first_part part a b first met = meets_same (OtherRootWith m rooted pushed) (RootIn m rooted pushed part) a b (λ x. (
+      λ h. inl (first, h),
+      λ h. elim h as (λ _. OtherRootWith m rooted pushed x) [ inl l ↦ l.1 | inr r ↦ absurd (omega (arith, first, r.1)) ],
+    )) met
+
+    pub next_part : (part n : ℕ) (a b : State) → part ≡ n + 1 → Meets (CopiedAt n) a b → Meets (RootIn m rooted pushed part) a b
+    next_part part n a b next met = meets_same (CopiedAt n) (RootIn m rooted pushed part) a b (λ x. (
+      λ h. inr (n, next, h),
+      λ h. elim h as (λ _. CopiedAt n x) [ inl l ↦ absurd (omega (arith, next, l.0)) | inr r ↦ (let same : r.0 ≡ n = omega (arith, next, r.1) in subst (λ k. CopiedAt k x) same r.2) ],
+    )) met
+
+    abbrev Parts : ℕ → Item → Type 0
+    Parts n x = Below (RootIn m rooted pushed) n x
+
+    in_first : (n : ℕ) (x : Item) → n ≡ length m.data_segments.slots + 1 → OtherRootWith m rooted pushed x → Parts n x
+    in_first n x all h = (0, omega (arith, all), inl (refl, h))
+
+    in_parts : (n : ℕ) (x : Item) → n ≡ length m.data_segments.slots + 1 → RootWith m rooted pushed x → Parts n x
+    in_parts n x all (inl (inl (inl (inl e)))) = in_first n x all (inl (inl (inl e)))
+    in_parts n x all (inl (inl (inl (inr d)))) = (d.0 + 1, omega (arith, all, picked_below (λ id (d : Data) y. Contains (active_data id d.kind) y) m.data_segments d.0 x d.1), inr (d.0, refl, d.1))
+    in_parts n x all (inl (inl (inr c))) = in_first n x all (inl (inl (inr c)))
+    in_parts n x all (inl (inr p)) = in_first n x all (inl (inr p))
+    in_parts n x all (inr s) = in_first n x all (inr s)
+
+    other_root : (x : Item) → OtherRootWith m rooted pushed x → RootWith m rooted pushed x
+    other_root x (inl (inl (inl e))) = inl (inl (inl (inl e)))
+    other_root x (inl (inl (inr c))) = inl (inl (inr c))
+    other_root x (inl (inr p)) = inl (inr p)
+    other_root x (inr s) = inr s
+
+    part_root : (part : ℕ) (x : Item) → RootIn m rooted pushed part x → RootWith m rooted pushed x
+    part_root part x (inl l) = other_root x l.1
+    part_root part x (inr r) = inl (inl (inl (inr (r.0, r.2))))
+
+    pub all_parts : (n : ℕ) → n ≡ length m.data_segments.slots + 1 → (x : Item) → RootWith m rooted pushed x ↔ Below (RootIn m rooted pushed) n x
+    all_parts n all x = (λ h. in_parts n x all h, λ h. part_root h.0 x h.2)

@@ -1,5 +1,5 @@
 -- What is met for each item of a collection.
-use Rattle.std.specs.Prelude.{ℕ, ◌<◌, ◌⊎◌, ◌↔◌, Bool, false, List, [], ◌∷◌, Option, Some, None, is_some, Contains, MatchOption, if◌then◌else◌}
+use Rattle.std.specs.Prelude.{◌≡◌, ℕ, ◌+◌, ◌<◌, ◌⊎◌, ◌↔◌, Bool, false, List, [], ◌∷◌, Option, Some, None, is_some, Contains, MatchOption, if◌then◌else◌}
 use Rattle.wasm_formats.specs.declared.fault.Space.TheVariants as spaces
 use Rattle.walrus_arena.specs.Arena.{Arena, item_at}
 use Rattle.walrus_references.specs.walrus_module_items.declared.table.Table.{Table}
@@ -56,3 +56,11 @@ abbrev pub RootWith : Module → List Item → List Item → Item → Type 0
 RootWith m rooted pushed x =
     (((IsPicked (λ _ (e : Export) y. Contains (given_out e.item ∷ []) y) m.exports x ⊎ IsPicked (λ id (d : Data) y. Contains (active_data id d.kind) y) m.data_segments x) ⊎ Contains rooted x) ⊎ Contains pushed x)
     ⊎ Contains (start_items m.start) x
+
+-- the same of these but the segments that are copied
+abbrev pub OtherRootWith : Module → List Item → List Item → Item → Type 0
+OtherRootWith m rooted pushed x = ((IsPicked (λ _ (e : Export) y. Contains (given_out e.item ∷ []) y) m.exports x ⊎ Contains rooted x) ⊎ Contains pushed x) ⊎ Contains (start_items m.start) x
+
+-- the item is such a root of the first part, or of one of the next parts the data segment of this part, if it is copied
+abbrev pub RootIn : Module → List Item → List Item → ℕ → Item → Type 0
+RootIn m rooted pushed part x = ((part ≡ 0) × OtherRootWith m rooted pushed x) ⊎ ((id : ℕ) × (part ≡ id + 1) × IsPickedAt (λ id (d : Data) y. Contains (active_data id d.kind) y) m.data_segments id x)

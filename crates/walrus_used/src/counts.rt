@@ -1,17 +1,19 @@
 //! What is reached in a module.
 ghost use Rattle.std.specs.Prelude.{◌≡◌, ◌<◌, ◌≤◌, ◌^◌, ℕ, IfOk, slice_index_or};
 ghost use Rattle.std.specs.List.{fold};
+ghost use Rattle.std.specs.Bool.{OnTrue};
 ghost use Rattle.walrus_marks.specs.Chains.{IsReached};
 ghost use Rattle.walrus_references.specs.References.{Refers};
 ghost use Rattle.walrus_references.specs.Roots.{Root};
 ghost use Rattle.walrus_references.specs.walrus_module.Parts.{parts};
+ghost use Rattle.walrus_used.specs.Asked.{AllHold};
 ghost use Rattle.walrus_used.specs.Counts.{counts_of, past_id, past_types};
 
 use crate::module_names::ModuleNames;
 use crate::segments::element_segments;
+use crate::sweep::{Check, Reached, reach_asking};
 use std::alloc::{AllocError, Global};
 use walrus_arena::TypeId;
-use walrus_marks::{Marks, reach};
 use walrus_references::module::Module;
 use walrus_roots::Item;
 use walrus_types::ModuleTypes;
@@ -73,18 +75,20 @@ pub fn id_counts<B>(input: &Module<B>) -> [usize; 10]
     ]
 }
 
-/// Marks what is reached from the roots, where custom sections push these. Takes time and memory in proportion to
-/// the module.
+/// Marks what is reached from the roots, where custom sections push these, and asks of each item, while it is at hand,
+/// whether this holds. Takes time and memory in proportion to the module.
 ///
 /// # Errors
 ///
 /// Want of memory.
-pub fn reach_items<B>(
+pub fn reach_items<B, C: Check>(
     alloc: Global,
     input: &Module<B>,
     pushed: &[Item],
-) -> Result<Marks, AllocError>
-    ensures { IfOk result (λ marks. IsReached (counts_of (parts input.now)) (Root (parts input.now) pushed.now) (Refers (parts input.now)) marks) }
+    check: &C,
+) -> Result<Reached, AllocError>
+    ensures reached { IfOk result (λ r. IsReached (counts_of (parts input.now)) (Root (parts input.now) pushed.now) (Refers (parts input.now)) r.marks) }
+    ensures asked { IfOk result (λ r. OnTrue r.holds (AllHold (C.holds check.now) r.marks)) }
 {
     walrus_types::laws::types_are_grouped(&input.types);
     let segments = element_segments(alloc, input)?;
@@ -95,5 +99,5 @@ pub fn reach_items<B>(
         pushed,
         active: segments.active.as_slice(),
     };
-    reach(alloc, &names, &id_counts(input))
+    reach_asking(alloc, &names, check, &id_counts(input))
 }

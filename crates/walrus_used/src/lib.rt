@@ -7,9 +7,11 @@ mod module_names;
 mod names;
 mod roots;
 mod segments;
+mod sweep;
 
 pub use bodies::reached_seqs;
 pub use counts::{id_counts, reach_items, type_count};
+pub use sweep::{Check, Reached};
 
 // Passed on to crates above, which then list this one alone.
 pub use walrus_references::{collections, local_function, module, module_items};

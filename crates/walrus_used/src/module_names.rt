@@ -8,21 +8,22 @@ ghost use Rattle.walrus_marks.specs.Marks.{lists_of, meet};
 ghost use Rattle.walrus_marks.specs.Chains.{Meets};
 ghost use Rattle.walrus_references.specs.References.{KindNames, named_by, type_items, global_items, tag_items, element_items, data_items, local_items};
 ghost use Rattle.walrus_references.specs.walrus_module.Items.{written_type};
-ghost use Rattle.walrus_used.specs.Picks.{RootWith};
+ghost use Rattle.walrus_used.specs.Picks.{RootIn, RootWith};
 ghost use Rattle.walrus_references.specs.walrus_module.Parts.{parts};
 ghost use Rattle.walrus_used.specs.Looks.{Looks, LooksIn, LooksInGroup, group_items, table_looks, memory_looks};
 ghost use Rattle.wasm_formats.specs.declared.fault.Space.TheVariants as spaces;
 
 use crate::bodies::meet_body;
 use crate::names::{meet_data, meet_element, meet_global, meet_table, meet_types, meet_val_type};
-use crate::roots::{meet_all, meet_roots};
+use crate::roots::{meet_all, meet_part, part_count};
 use crate::segments::{meet_listed_data, meet_listed_elements};
+use crate::sweep::PartNames;
 use std::alloc::{AllocError, Global};
 use walrus_arena::{
     DataId, ElementId, FunctionId, GlobalId, LocalId, MemoryId, TableId, TagId, TypeId,
 };
 use walrus_items::ModuleLocals;
-use walrus_marks::{Marks, Names};
+use walrus_marks::Marks;
 use walrus_references::collections::{ModuleData, ModuleElements, ModuleGlobals, ModuleTags};
 use walrus_references::module::Module;
 use walrus_references::module_items::FunctionKind;
@@ -192,13 +193,19 @@ pub(crate) struct ModuleNames<'a, B> {
     pub(crate) active: &'a [Vec<Item>],
 }
 
-impl<'a, B> Names for ModuleNames<'a, B> {
+impl<'a, B> PartNames for ModuleNames<'a, B> {
     ghost is_root = { λ s x. RootWith (parts s.input.now) s.rooted.now s.pushed.now x };
+
+    ghost is_root_in = { λ s part x. RootIn (parts s.input.now) s.rooted.now s.pushed.now part x };
 
     ghost refers = { λ s x y. Looks (parts s.input.now) (lists_of s.active.now) x y };
 
-    fn meet_roots(&self, marks: &mut Marks) {
-        meet_roots(marks, self.input, self.rooted, self.pushed);
+    fn part_count(&self) -> usize {
+        part_count(self.input)
+    }
+
+    fn meet_part(&self, part: usize, marks: &mut Marks) {
+        meet_part(marks, self.input, self.rooted, self.pushed, part);
     }
 
     fn meet_named(&self, item: Item, marks: &mut Marks) -> Result<(), AllocError> {

@@ -1,13 +1,13 @@
 //! Meeting the roots of a module.
-ghost use Rattle.std.specs.Prelude.{◌≡◌, ◌++◌, ℕ, List, [], ◌∷◌, Contains, OnOk};
+ghost use Rattle.std.specs.Prelude.{◌≡◌, ◌+◌, ◌++◌, ℕ, List, [], ◌∷◌, Contains, OnOk};
 ghost use Rattle.std.specs.List.{fold};
 ghost use Rattle.walrus_roots.specs.declared.item.Item.{Item as AnyItem};
 ghost use Rattle.walrus_marks.specs.Marks.{meet};
 ghost use Rattle.walrus_marks.specs.Chains.{Meets};
 ghost use Rattle.walrus_references.specs.walrus_module.Items.{given_out};
 ghost use Rattle.walrus_references.specs.walrus_module.Parts.{parts};
-ghost use Rattle.walrus_used.specs.Picks.{IsPicked, RootWith, active_data, is_imported, rooted_element, start_items};
-ghost use Rattle.walrus_arena.specs.Arena.{item_at};
+ghost use Rattle.walrus_used.specs.Picks.{IsPicked, IsPickedAt, OtherRootWith, RootIn, active_data, is_imported, rooted_element, start_items};
+ghost use Rattle.walrus_arena.specs.Arena.{item_at, next_id};
 
 use std::alloc::AllocError;
 use walrus_arena::{DataId, DataSpace, ElementId, ExportId, ExportSpace, FunctionId, Id, TableId};
@@ -28,15 +28,30 @@ pub(crate) trait Picks<T, S> {
         ensures { marks.new ≡ fold meet marks.old (picks self.now id item.now) };
 }
 
+// Meets what is picked for the item of this number, if it lives.
+fn meet_at<T, S, P: Picks<T, S>>(
+    items: &Collection<T, S>,
+    picks: &P,
+    index: usize,
+    marks: &mut Marks,
+)
+    ensures { Meets (IsPickedAt (λ id t x. Contains (P.picks picks.now id t) x) items.now index) marks.old marks.new }
+{
+    if index >= items.next_id().index() {
+        return;
+    }
+    if items.contains(Id::from_index(index)) {
+        let item = items.get(Id::from_index(index));
+        picks.pick(Id::from_index(index), item, marks);
+    }
+}
+
 // Meets what is picked for each live item.
 fn meet_each<T, S, P: Picks<T, S>>(items: &Collection<T, S>, picks: &P, marks: &mut Marks)
     ensures { Meets (IsPicked (λ id t x. Contains (P.picks picks.now id t) x) items.now) marks.old marks.new }
 {
     for index in 0..items.next_id().index() {
-        if items.contains(Id::from_index(index)) {
-            let item = items.get(Id::from_index(index));
-            picks.pick(Id::from_index(index), item, marks);
-        }
+        meet_at(items, picks, index, marks);
     }
 }
 
@@ -133,13 +148,36 @@ fn meet_start(marks: &mut Marks, start: Option<FunctionId>)
     }
 }
 
-/// Meets the roots, where custom sections push these and these element segments are roots.
-pub(crate) fn meet_roots<B>(marks: &mut Marks, input: &Module<B>, rooted: &[Item], pushed: &[Item])
-    ensures { Meets (RootWith (parts input.now) rooted.now pushed.now) marks.old marks.new }
+// Meets the roots but data segments.
+fn meet_others<B>(marks: &mut Marks, input: &Module<B>, rooted: &[Item], pushed: &[Item])
+    ensures { Meets (OtherRootWith (parts input.now) rooted.now pushed.now) marks.old marks.new }
 {
     meet_each(&input.exports, &Exported, marks);
-    meet_each(&input.data_segments, &ActiveData, marks);
     meet_all(marks, rooted);
     meet_all(marks, pushed);
     meet_start(marks, input.start);
+}
+
+/// How many parts of roots there are: one for each data segment, and one for all others.
+pub(crate) fn part_count<B>(input: &Module<B>) -> usize
+    ensures { result ≡ next_id input.now.data_segments + 1 }
+{
+    input.data_segments.next_id().index() + 1
+}
+
+/// Meets the roots of a part, where custom sections push these and these element segments are roots.
+pub(crate) fn meet_part<B>(
+    marks: &mut Marks,
+    input: &Module<B>,
+    rooted: &[Item],
+    pushed: &[Item],
+    part: usize,
+)
+    ensures { Meets (RootIn (parts input.now) rooted.now pushed.now part) marks.old marks.new }
+{
+    if part == 0 {
+        meet_others(marks, input, rooted, pushed);
+    } else {
+        meet_at(&input.data_segments, &ActiveData, part - 1, marks);
+    }
 }

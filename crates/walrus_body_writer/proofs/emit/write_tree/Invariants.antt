@@ -6,7 +6,7 @@ use Rattle.walrus_body_writer.specs.Numbers.{look_of}
 use Rattle.walrus_body_writer.proofs.emit.write_tree.Given as goal
 
 abbrev pub invariant-loop-top : goal.invariant-loop-top
-invariant-loop-top l = Goes (look_of l.numbers) l.seqs (operators l.seqs l.fn.entry) l.fn.out (state l.todo.items l.depths) l.out
+invariant-loop-top l = Goes (look_of l.numbers) l.seqs (operators l.seqs l.fn.entry) l.fn.out (state l.todo l.depths) l.out
 
 abbrev pub decreases-loop-top : goal.decreases-loop-top
-decreases-loop-top l = length (left l.seqs [] l.todo.items)
+decreases-loop-top l = length (left l.seqs [] l.todo)

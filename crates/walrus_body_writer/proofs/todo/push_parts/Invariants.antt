@@ -5,7 +5,7 @@ use Rattle.walrus_body_writer.proofs.todo.push_parts.Given as goal
 abbrev pub invariant-loop-at : goal.invariant-loop-at
 invariant-loop-at l = record {
   inside : l.at ≤ length l.parts;
-  pushed : l.todo.items ≡ l.fn.todo.items ++ handling (drop l.at l.parts);
+  pushed : l.todo ≡ l.fn.todo ++ handling (drop l.at l.parts);
   before : l.closer ≡ closer_before (drop l.at l.parts);
 }
 

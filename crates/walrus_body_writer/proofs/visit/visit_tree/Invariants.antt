@@ -6,7 +6,7 @@ use Rattle.walrus_body_writer.specs.Visiting.{Tells}
 use Rattle.walrus_body_writer.proofs.visit.visit_tree.Given as goal
 
 abbrev pub invariant-loop-top : goal.invariant-loop-top
-invariant-loop-top g l = Tells g.V.TextVisitor.step l.seqs (operators l.seqs l.fn.entry) l.fn.visitor (state l.todo.items l.depths) l.visitor
+invariant-loop-top g l = Tells g.V.TextVisitor.step l.seqs (operators l.seqs l.fn.entry) l.fn.visitor (state l.todo l.depths) l.visitor
 
 abbrev pub decreases-loop-top : goal.decreases-loop-top
-decreases-loop-top g l = length (left l.seqs [] l.todo.items)
+decreases-loop-top g l = length (left l.seqs [] l.todo)

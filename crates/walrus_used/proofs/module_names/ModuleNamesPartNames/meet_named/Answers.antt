@@ -1,7 +1,7 @@
 use Rattle.walrus_marks.specs.Marks.{lists_of}
 use Rattle.walrus_references.specs.walrus_module.Parts.{parts}
 use Rattle.walrus_used.proofs.ModuleLemmas.{at_type}
-use Rattle.walrus_used.proofs.module_names.ModuleNamesNames.meet_named.Goals as goal
+use Rattle.walrus_used.proofs.module_names.ModuleNamesPartNames.meet_named.Goals as goal
 
 pub returns-in_ok-meet_type_at-in-Type : goal.returns-in_ok-meet_type_at-in-Type
 returns-in_ok-meet_type_at-in-Type g c =

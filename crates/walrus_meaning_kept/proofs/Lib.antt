@@ -1,0 +1,5 @@
+mod Functions
+mod Kept
+mod Low
+mod Owned
+mod Types

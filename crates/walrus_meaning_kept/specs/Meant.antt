@@ -1,0 +1,76 @@
+-- References over what a module means: the abstract module whose numbers are ids, with the ids of its types, the types of its
+-- locals, the block types of the parts of its bodies, and the segments that tables and memories list.
+use Rattle.std.specs.Prelude.{◌≡◌, ◌⊎◌, ◌↔◌, ℕ, List, [], Option, Some, None, Contains}
+use Rattle.std.specs.HashSet.{keys}
+use Rattle.wasm_references.specs.wasm_formats.declared.fault.Space.TheVariants as spaces
+use Rattle.wasm_references.specs.wasm_immediates.declared.block_type.BlockType.{BlockType}
+use Rattle.wasm_references.specs.References as abstract
+use Rattle.wasm_references.specs.References.{Numbered}
+use Rattle.wasm_references.specs.Kept.{Kept as KeptOf}
+use Rattle.walrus_arena.specs.Arena.{item_at}
+use Rattle.walrus_walks.specs.walrus_types.TypeLaws.{AreGrouped}
+use Rattle.walrus_passes_laws.specs.walrus_references.walrus_builder.Functions.{seqs_of}
+use Rattle.walrus_meaning.specs.walrus_module.Parts.{Module}
+use Rattle.walrus_meaning.specs.walrus_linked.Linked.{IsLinked}
+use Rattle.walrus_passes_laws.specs.walrus_references.walrus_module_items.declared.function.Function.{Function}
+use Rattle.walrus_passes_laws.specs.walrus_references.walrus_module_items.declared.function.FunctionKind.{FunctionKind}
+use Rattle.walrus_passes_laws.specs.walrus_references.walrus_module_items.declared.function.FunctionKind.TheVariants as functions
+use Rattle.walrus_passes_laws.specs.walrus_references.walrus_module_items.declared.table.Table.{Table}
+use Rattle.walrus_passes_laws.specs.walrus_references.walrus_module_items.declared.memory.Memory.{Memory}
+use Rattle.walrus_meaning.specs.Meaning.{means, type_ids}
+use Rattle.walrus_roots.specs.declared.item.Item.{Item}
+use Rattle.walrus_roots.specs.Items.{item}
+use Rattle.walrus_passes_laws.specs.walrus_references.References.{Refers}
+use Rattle.walrus_passes_laws.specs.walrus_references.Kept.{Kept}
+use Rattle.walrus_passes_laws.specs.Served.{GroupsAreWritten}
+use Rattle.walrus_meaning_refs.specs.Bodies.{parts_of}
+use Rattle.walrus_meaning_refs.specs.Items.{own_item, own_items}
+use Rattle.walrus_meaning_refs.specs.Locals.{type_of_local}
+
+-- the block types of the parts of a function's body
+abbrev pub kind_parts : FunctionKind → List BlockType
+kind_parts (functions.Local local) = parts_of (seqs_of local.builder)
+kind_parts _ = []
+
+abbrev pub function_parts : Option Function → List BlockType
+function_parts (Some f) = kind_parts f.kind
+function_parts None = []
+
+abbrev pub listed_elements : Option Table → List ℕ
+listed_elements (Some t) = keys t.elem_segments
+listed_elements None = []
+
+abbrev pub listed_data : Option Memory → List ℕ
+listed_data (Some x) = keys x.data_segments
+listed_data None = []
+
+-- what references look at in what a module means
+abbrev pub meant : Module → Numbered
+meant m = record {
+  filled = means m;
+  types = type_ids m.types;
+  local_type = λ f id. type_of_local m.locals id;
+  parts = λ f. function_parts (item_at m.funcs f);
+  own_elements = λ t. listed_elements (item_at m.tables t);
+  own_data = λ x. listed_data (item_at m.memories x);
+}
+
+-- ---- references
+
+-- the item is no local: locals are a body's own
+abbrev pub IsShared : Item → Type 0
+IsShared x = x.space ≡ spaces.Local → ⊥
+
+-- the one item names the other, or a local whose type this is
+abbrev pub RefersThrough : Module → Item → Item → Type 0
+RefersThrough m x y = Refers m x y ⊎ ((id : ℕ) × Refers m x (item spaces.Local id) × Refers m (item spaces.Local id) y)
+
+-- in a linked module items name just what they name in what it means
+abbrev pub ReferencesAreMeant : Type 0
+ReferencesAreMeant = (m : Module) → IsLinked m → AreGrouped m.types → GroupsAreWritten m.types → (x y : Item) → IsShared x → IsShared y
+    → RefersThrough m x y ↔ abstract.Refers (meant m) (own_item x) (own_item y)
+
+-- so that what is kept of it is what is kept of what it means
+abbrev pub KeptIsMeant : Type 0
+KeptIsMeant = (m : Module) (pushed : List Item) → IsLinked m → AreGrouped m.types → GroupsAreWritten m.types → ((x : Item) → Contains pushed x → IsShared x)
+    → (x : Item) → IsShared x → Kept m pushed x ↔ KeptOf (meant m) (own_items pushed) (own_item x)

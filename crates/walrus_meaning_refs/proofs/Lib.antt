@@ -1,0 +1,6 @@
+mod Bodies
+mod Instrs
+pub mod Items
+mod Locals
+pub mod Sets
+mod Walks

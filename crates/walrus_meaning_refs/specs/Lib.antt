@@ -1,0 +1,4 @@
+pub mod Bodies
+pub mod Instrs
+pub mod Items
+pub mod Locals

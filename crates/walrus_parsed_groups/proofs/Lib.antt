@@ -1,0 +1,12 @@
+mod OnceLemmas
+mod TableLemmas
+mod FoundLemmas
+mod GivenLemmas
+mod FitLemmas
+mod ToldLemmas
+mod CatchLemmas
+mod FileLemmas
+mod StepLemmas
+mod TextLemmas
+mod ReadLemmas
+mod TellLemmas

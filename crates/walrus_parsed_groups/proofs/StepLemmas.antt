@@ -1,0 +1,105 @@
+-- Lemmas: the bodies of a file add to the table of types what their handlers lack.
+use Rattle.std.proofs.Common.{◌≡◌, ◌∙◌, ℕ, List, [], ◌∷◌, ◌++◌, length, map, Option, Some, None, refl, sym, ap, subst}
+use Rattle.std.specs.Prelude.{IsSome}
+use Rattle.std.specs.List.{AllByRecursion, flat_map}
+use Rattle.std.proofs.lemmas.List.{append_assoc, append-nil}
+use Rattle.std.proofs.lemmas.List.Concat.{flat_map-append}
+use Rattle.walrus_operator_laws.specs.walrus_pairing.wasm_immediates.wasm_features.declared.WasmFeatures.{WasmFeatures}
+use Rattle.walrus_handler_laws.specs.walrus_body_steps.wasm_body_grammar.Bodies.{Parts, body}
+use Rattle.walrus_handler_laws.specs.walrus_body_steps.wasm_body_grammar.Rules.{Around}
+use Rattle.walrus_handler_laws.specs.walrus_body_steps.walrus_body_nesting.wasm_formats.Formats.{Small}
+use Rattle.walrus_handler_laws.specs.walrus_body_steps.wasm_normal_form.Normal.{normal}
+use Rattle.walrus_file_bodies.specs.walrus_items_into.wasm_sections.Within.{ChunksFit}
+use Rattle.walrus_handler_laws.specs.walrus_body_steps.walrus_body_nesting.Opens.{same}
+use Rattle.walrus_file_bodies.specs.walrus_items_into.walrus_module_env.walrus_body_parser.Points.{place_at}
+use Rattle.walrus_handler_laws.specs.walrus_body_steps.walrus_body_rules.Sights.{Sight, results_of}
+use Rattle.walrus_parse.specs.walrus_module.walrus_builder.Built.{contents, seq_of}
+use Rattle.walrus_file_bodies.specs.Read.{Waits, step_filed, step_on, steps_grow}
+use Rattle.walrus_forms.specs.declared.value.ValType.{ValType}
+use Rattle.walrus_function_types.specs.FunctionTypes.{params_at, results_at}
+use Rattle.walrus_function_types.specs.Growth.{EntryTypesGrow, FoundTypesStay, Grows, TablesGrowOn}
+use Rattle.walrus_file_bodies.specs.walrus_items_into.walrus_functions_into.declared.bodies.FunctionBody.{FunctionBody}
+use Rattle.walrus_handler_laws.specs.Handlers.{tree_ids}
+use Rattle.walrus_handler_laws.specs.Retyping.{handler_params}
+use Rattle.walrus_handler_laws.specs.declared.handler.Handler.{Handler}
+use Rattle.walrus_handler_types.proofs.Growing.{given_types_grow}
+use Rattle.walrus_handler_types.specs.Giving.{block_results, caught}
+use Rattle.walrus_handler_types.specs.walrus_handlers.Gathering.{AreHandlers}
+use Rattle.walrus_operator_laws.specs.walrus_pairing.walrus_instr.declared.seq.InstrSeqType.{InstrSeqType}
+use Rattle.walrus_operator_laws.specs.walrus_pairing.walrus_instr.declared.seq.InstrSeqType.TheVariants.{Simple, MultiValue}
+use Rattle.walrus_file_bodies.specs.walrus_items_into.walrus_tables_into.walrus_sections_into.walrus_known_sections.Items.{chunk_of}
+use Rattle.walrus_file_bodies.specs.walrus_module_bodies.Steps.{IsStep, State, Steps, cursor_of}
+use Rattle.walrus_file_bodies.specs.walrus_module_bodies.declared.file.FileEnv.{FileEnv}
+use Rattle.walrus_operator_laws.specs.Laws.{OperatorComesBack}
+use Rattle.walrus_parse.specs.walrus_module.walrus_types.Table.{Table}
+use Rattle.walrus_parsed_groups.specs.Added.{Signature}
+use Rattle.walrus_parsed_groups.specs.Groups.{handlers_in}
+use Rattle.walrus_parsed_groups.specs.Handlers.{HasTypes, signatures}
+use Rattle.walrus_parsed_groups.proofs.FitLemmas.{AreSpelled, body_fits, body_tree}
+use Rattle.walrus_parsed_groups.proofs.GivenLemmas.{stands_given, types_stay}
+use Rattle.walrus_parsed_groups.proofs.TableLemmas.{Stands, stands_entered}
+use Rattle.walrus_parsed_groups.proofs.ToldLemmas.{IsSeen, handlers_seen}
+
+-- ---- what a sight sees of a handler the table has
+
+seen_caught : (s : Sight) (t : Table) → s.params ≡ params_at t → (tag : Option ℕ) → IsSome (handler_params s tag) → IsSome (caught t tag)
+seen_caught s t e None is = is
+seen_caught s t e (Some id) is = subst (λ (f : ℕ → Option (List ValType)). IsSome (f id)) e is
+
+seen_results : (s : Sight) (t : Table) → s.results ≡ results_at t → (block : InstrSeqType) → IsSome (results_of s block) → IsSome (block_results t block)
+seen_results s t e (Simple ty) is = is
+seen_results s t e (MultiValue id) is = subst (λ (f : ℕ → Option (List ValType)). IsSome (f id)) e is
+
+pub seen_types : (s : Sight) (t : Table) → s.params ≡ params_at t → s.results ≡ results_at t → (h : Option Handler) → IsSeen s h → HasTypes t h
+seen_types s t p r None is = tt
+seen_types s t p r (Some h) is = (seen_caught s t p h.tag_type is.0, seen_results s t r h.block is.1)
+
+all_typed : (s : Sight) (t : Table) → s.params ≡ params_at t → s.results ≡ results_at t → (hs : List (Option Handler)) → AllByRecursion (IsSeen s) hs → AllByRecursion (HasTypes t) hs
+all_typed s t p r [] is = tt
+all_typed s t p r (h ∷ hs) is = (seen_types s t p r h is.0, all_typed s t p r hs is.1)
+
+all_stay : (t v : Table) → Grows t v → (hs : List (Option Handler)) → AllByRecursion (HasTypes t) hs → AllByRecursion (HasTypes v) hs
+all_stay t v g [] is = tt
+all_stay t v g (h ∷ hs) is = (types_stay t v g h is.0, all_stay t v g hs is.1)
+
+all_join : {X : Type 0} (P : X → Type 0) (xs ys : List X) → AllByRecursion P xs → AllByRecursion P ys → AllByRecursion P (xs ++ ys)
+all_join P [] ys h k = k
+all_join P (x ∷ xs) ys h k = (h.0, all_join P xs ys h.1 k)
+
+-- ---- steps
+
+module _ (back : OperatorComesBack) (spelled : AreSpelled) (stay : FoundTypesStay) (on : TablesGrowOn) (enter : EntryTypesGrow) (file : FileEnv) (features : WasmFeatures) (a : Around) (count : ℕ → ℕ) where
+  -- the table that a body begins with has the types of its handlers' tags and blocks
+  step_typed : (b : FunctionBody) (bs : List FunctionBody) (old new : State) → Small b.chunk.bytes.now → Waits file features a count old (b ∷ bs) → (s : IsStep file features b old new) → AllByRecursion (HasTypes s.mid) s.handled.handlers
+  step_typed b bs old new small w s =
+      let g = s.handled in
+      let e = g.env in
+      let filed = step_filed stay on enter file features a count b bs old new w s e g.env_is in
+      let r = g.aside a filed in
+      let parts : Parts = ((r.place, r.runs), r.ops) in
+      let found = (body a (length s.params) (place_at e.code_start (cursor_of file features b))).found b.chunk.bytes.now parts small r.read in
+      let fits = body_fits spelled a (length s.params) (place_at e.code_start (cursor_of file features b)) b.chunk.bytes.now parts same small found.0 in
+      let are = subst (λ (f : ℕ → Option ℕ). AreHandlers f g.own (tree_ids g.tree) g.handlers) (sym (ap (λ (x : Sight). x.tag_type) r.aside)) g.gathered in
+      all_typed r.sight s.mid (ap (λ (x : Sight). x.params) r.aside ∙ ap params_at g.env_is.types_are) (ap (λ (x : Sight). x.results) r.aside ∙ ap results_at g.env_is.types_are) g.handlers
+      (handlers_seen back a.features r.sight g.own (normal same (body_tree parts)) fits (r.stands same (λ ty. refl)) g.tree g.handlers are)
+
+  module _ (t : Table) where
+    pub steps_stand : (start end : ℕ) (bs : List FunctionBody) (old new : State) → ChunksFit start end (map (λ (b : FunctionBody). chunk_of b.chunk) bs) → Waits file features a count old bs → (steps : Steps file features bs old new)
+        → (later : Table) → Grows new.types later → (ss : List Signature) → Stands t ss old.types
+        → Stands t (ss ++ flat_map (signatures later) (handlers_in file features bs old new steps)) new.types × AllByRecursion (HasTypes later) (handlers_in file features bs old new steps)
+    steps_stand start end [] old new fit w e later grows ss h =
+        (subst (λ (l : List Signature). Stands t l new.types) (sym (append-nil ss)) (subst (λ (s : State). Stands t ss s.types) (sym e) h), tt)
+    steps_stand start end (b ∷ bs) old new fit w (mid, step, rest) later grows ss h =
+        let hs = step.handled.handlers in
+        let others = handlers_in file features bs mid new rest in
+        let c = map seq_of step.handled.own in
+        let typed = step_typed b bs old mid fit.0.0 w step in
+        let given = step.handled.given in
+        let first : Grows step.mid mid.types = given_types_grow hs (length hs) c (contents step.body.builder.builder) step.mid mid.types given in
+        let all : Grows step.mid later = on step.mid mid.types later first (on mid.types new.types later (steps_grow on file features bs mid new rest) grows) in
+        let one = stands_given t ss hs c step.mid (stands_entered t ss old.types h step.results step.entry step.mid step.entered) typed later all (contents step.body.builder.builder) mid.types given in
+        let done : List Signature = flat_map (signatures later) hs in
+        let more = steps_stand start end bs mid new fit.1 (step_on stay on enter file features a count b bs old mid w step) rest later grows (ss ++ done) one in
+        let same_list : (ss ++ done) ++ flat_map (signatures later) others ≡ ss ++ flat_map (signatures later) (hs ++ others) =
+        append_assoc ss done (flat_map (signatures later) others) ∙ ap (λ (l : List Signature). ss ++ l) (sym (flat_map-append (signatures later) hs others)) in
+        (subst (λ (l : List Signature). Stands t l new.types) same_list more.0, all_join (HasTypes later) hs others (all_stay step.mid later all hs typed) more.1)

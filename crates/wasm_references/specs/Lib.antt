@@ -1,0 +1,10 @@
+pub mod Kept
+pub mod References
+pub mod Roots
+-- Passed on to crates above, which then list this one alone.
+pub use Rattle.wasm_body_grammar.specs as wasm_body_grammar
+pub use Rattle.wasm_formats.specs as wasm_formats
+pub use Rattle.wasm_grammar.specs as wasm_grammar
+pub use Rattle.wasm_grammar.specs.wasm_operators as wasm_operators
+pub use Rattle.wasm_operator_names.specs as wasm_operator_names
+pub use Rattle.wasm_operator_names.specs.wasm_immediates as wasm_immediates
