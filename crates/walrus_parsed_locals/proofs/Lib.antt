@@ -1,0 +1,10 @@
+mod KeyLemmas
+mod NameLemmas
+mod NormalLemmas
+mod PlaceLemmas
+mod RuleLemmas
+mod SplitLemmas
+mod IdLemmas
+mod BodyLemmas
+mod StepLemmas
+mod LocalLemmas
