@@ -2,11 +2,7 @@
 #![tactic(auto)]
 
 #[cfg(test)]
-mod callback;
-#[cfg(test)]
 mod helpers;
-#[cfg(test)]
-mod locations;
 #[cfg(test)]
 mod names;
 #[cfg(test)]
