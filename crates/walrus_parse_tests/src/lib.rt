@@ -2,6 +2,8 @@
 #![tactic(auto)]
 
 #[cfg(test)]
+mod callback;
+#[cfg(test)]
 mod helpers;
 #[cfg(test)]
 mod names;
