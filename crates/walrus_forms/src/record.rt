@@ -217,7 +217,7 @@ fn resolve_values(
     requires { All (ValueBelow (length ids.now)) (map value_of values.now) }
     ensures { IfOk result (λ types. types.items ≡ map (renamed_value (at ids.now)) (map value_of values.now)) }
 {
-    let mut types = Vec::new(alloc);
+    let mut types = Vec::with_capacity(alloc, values.len())?;
     for value in values {
         types.extend_from_slice(&[value.resolve(ids)])?;
     }
@@ -233,7 +233,7 @@ fn resolve_fields(
     requires { All (FieldBelow (length ids.now)) (map field_of fields.now) }
     ensures { IfOk result (λ types. types.items ≡ map (renamed_field (at ids.now)) (map field_of fields.now)) }
 {
-    let mut types = Vec::new(alloc);
+    let mut types = Vec::with_capacity(alloc, fields.len())?;
     for field in fields {
         types.extend_from_slice(&[field.resolve(ids)])?;
     }

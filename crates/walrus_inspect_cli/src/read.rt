@@ -14,6 +14,7 @@ use inspect_program::config::ModuleConfig;
 use inspect_program::errors::Result;
 use inspect_program::lines::Counts;
 use std::alloc::Global;
+use std::mem;
 use walrus_counts::count;
 use walrus_parse::parse_into;
 use walrus_passes::gc;
@@ -48,5 +49,8 @@ fn count_in(alloc: Global, mut input: Module, kept: bool) -> Result<Counts>
     if kept {
         gc::run(alloc, &mut input)?;
     }
-    count(alloc, &input)
+    let counts = count(alloc, &input);
+    // The program ends next, and giving back each list of a large module would take longer than counting what is in it.
+    mem::forget(input);
+    counts
 }

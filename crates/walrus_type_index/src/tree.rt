@@ -208,6 +208,17 @@ fn balance(mut node: Box<Node>) -> Box<Node>
     node
 }
 
+// The node after one of its sides, which was so high before, is so high now. A side that is as high as it was leaves all above it alone:
+// the other sides, which are met nowhere else, aren't looked at.
+fn settled(node: Box<Node>, before: u64, now: u64) -> Box<Node>
+    ensures { node_ids result.value ≡ node_ids node.value }
+{
+    if now == before {
+        return node;
+    }
+    balance(node)
+}
+
 // The tree with one more id.
 fn put(tree: Tree, types: &TombstoneArena<Type, TypeSpace>, mut new: Box<Node>) -> Tree
     requires { IsStrictlySortedBy (id_cmp (kinds_in types.now.slots)) tree }
@@ -223,12 +234,16 @@ fn put(tree: Tree, types: &TombstoneArena<Type, TypeSpace>, mut new: Box<Node>) 
         Some(mut node) => {
             if compare(types, new.id, node.id).is_lt() {
                 let side = mem::replace(&mut node.left, Tree::new());
+                let before = side.height();
                 node.left = put(side, types, new);
-                return Tree::of(balance(node));
+                let now = node.left.height();
+                return Tree::of(settled(node, before, now));
             }
             let side = mem::replace(&mut node.right, Tree::new());
+            let before = side.height();
             node.right = put(side, types, new);
-            Tree::of(balance(node))
+            let now = node.right.height();
+            Tree::of(settled(node, before, now))
         }
     }
 }

@@ -70,7 +70,7 @@ fn member_records(
 ) -> Result<Vec<TypeRecord>>
     ensures { TellsMembers end first members result }
 {
-    let mut records = Vec::new(alloc);
+    let mut records = Vec::with_capacity(alloc, members.len())?;
     let mut number = first;
     for member in members {
         let record = own_record(alloc, end, number, member)?;

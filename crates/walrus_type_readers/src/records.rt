@@ -16,7 +16,7 @@ use wasm_types::SubType;
 fn value_records(alloc: Global, types: &[ValType]) -> Result<Option<Vec<ValRecord>>, AllocError>
     ensures { IfOk result (λ records. option_map (λ v. map value_told v.items) records ≡ told_all value_of types.now) }
 {
-    let mut records = Vec::new(alloc);
+    let mut records = Vec::with_capacity(alloc, types.len())?;
     for ty in types {
         let Some(record) = value_record(*ty) else {
             return Ok(None);
@@ -51,7 +51,7 @@ fn field_records(
 ) -> Result<Option<Vec<FieldRecord>>, AllocError>
     ensures { IfOk result (λ records. option_map (λ v. map field_told v.items) records ≡ told_all field_of fields.now) }
 {
-    let mut records = Vec::new(alloc);
+    let mut records = Vec::with_capacity(alloc, fields.len())?;
     for field in fields {
         let Some(record) = field_record(*field) else {
             return Ok(None);

@@ -46,7 +46,7 @@ fn resolve_all(
     requires { All (KindBelow (length ids.now)) (map record_kind types.now) }
     ensures { IfOk result (λ news. map member_kind news.items ≡ map (renamed_kind (at ids.now)) (map record_kind types.now)) }
 {
-    let mut news = Vec::new(alloc);
+    let mut news = Vec::with_capacity(alloc, types.len())?;
     for ty in types {
         news.push(resolve(alloc, ty, ids)?)?;
     }

@@ -10,7 +10,7 @@ use Rattle.walrus_type_readers.proofs.groups.member_records.Goals as goal
 
 pub returns-in_err-record : goal.returns-in_err-record
 returns-in_err-record c =
-    let p = err_from_is_err_and c.from_residual.result c.from_residual.ensures.1 in
+    let p = err_from_is_err_and c.from_residual-in_err-record.result c.from_residual-in_err-record.ensures.1 in
     let so_far = ap (λ (ms : List (ℕ × SubType)). members_test c.args.end c.loop-member.number ms) (sym c.in-Some.ensures.steps) ∙ c.loop-member.invariant.tests in
     first_fails c.args.end c.loop-member.number c.in-Some.member c.next.new.self c.args.members c.args.first _ _ _ p.1 p.2 c.in_err-record.ensures.tells so_far
 
