@@ -3,7 +3,7 @@ use crate::own::Keeper;
 use std::alloc::Global;
 use std::test::Fail;
 use walrus_arena::FunctionId;
-use walrus_sections::{CustomSection, ModuleCustomSections, Section};
+use walrus_sections::{CustomSection, ModuleCustomSections, RawCustomSection, Section};
 
 fn raw_bytes_are(sections: &ModuleCustomSections, index: usize, bytes: &[u8]) -> bool {
     match sections.iter().nth(index) {
@@ -15,17 +15,28 @@ fn raw_bytes_are(sections: &ModuleCustomSections, index: usize, bytes: &[u8]) ->
     }
 }
 
+// Whether a section of these bytes was handed out.
+fn bytes_were(removed: Option<RawCustomSection>, bytes: &[u8]) -> bool {
+    match removed {
+        Some(section) => section.bytes.as_slice() == bytes,
+        None => false,
+    }
+}
+
 #[test]
 fn a_raw_section_is_found_until_it_is_removed(rt: HostRuntime) -> Result<(), Fail> {
+    let function = FunctionId::from_index(3);
     let mut sections = ModuleCustomSections::new(rt.alloc());
     let id = sections.add_raw("x", &[0x2a])?;
+    let boxed = sections.add(Box::new(rt.alloc(), Keeper { function })?)?;
     assert!(rt; sections.get(id).is_none());
     assert!(rt; raw_bytes_are(&sections, 0, &[0x2a]));
     assert!(rt; sections.name(id) == Some("x"));
     assert!(rt; sections.remove_raw("y").is_none());
-    assert!(rt; sections.remove_raw("x").is_some());
+    assert!(rt; bytes_were(sections.remove_raw("x"), &[0x2a]));
     assert!(rt; sections.remove_raw("x").is_none());
     assert!(rt; !sections.contains(id));
+    assert!(rt; matches!(sections.delete(boxed), Some(Section::Boxed(_))));
     Ok(())
 }
 
