@@ -1,12 +1,13 @@
 #!/usr/bin/env python3
 """Prints what each function of a crate costs to prove from nothing, dearest first, in seconds of the processor.
 
-    bench/functions.py CRATE [--test] [--most N] [--keep]
+    bench/functions.py CRATE [--test] [--most N] [--keep] [--only PATH]..
 
 The libraries below the crate have to be proved (`rt check` in the crate does it). Nothing is kept: neither the crate's out/ is read
 nor written, but with --keep, under which what was proved before has no line. A function's share is what was used from the line before
 to its own, so the first one has the loading of std in it, and each has what it was the first to load. `end` is what stands behind the
-last. What is known so far goes to standard error.
+last. What is known so far goes to standard error. With --only (repeatable) a module or a function alone is proved, with what it calls: no verdict,
+but each function that isn't proved is told.
 """
 import argparse
 import os
@@ -35,6 +36,7 @@ def main():
     words.add_argument("--test", action="store_true")
     words.add_argument("--most", type=int, default=40)
     words.add_argument("--keep", action="store_true")
+    words.add_argument("--only", action="append", default=[])
     asked = words.parse_args()
     os.chdir(ROOT)
     crate = next((it for it in rtlib.crates_below(ROOT) if it.name == asked.crate), None)
@@ -45,6 +47,7 @@ def main():
         sys.exit(f"not proved yet: {' '.join(lacking)}")
     command = [rtlib.RATTLE, "check", *crate.words(["--jobs", "1"], tests=asked.test, keeps=False), "--progress"]
     command += rtlib.KEPT if asked.keep else []
+    command += [word for path in asked.only for word in ("--only", path)]
     how = {"cwd": crate.folder, "stdin": subprocess.DEVNULL, "stdout": subprocess.PIPE, "stderr": subprocess.STDOUT, "text": True}
     shares, last, said = [], 0.0, ""
     with subprocess.Popen(command, **how) as ran:
@@ -57,6 +60,8 @@ def main():
                 last = now
             elif line.strip():
                 said = line.strip()
+                if re.match(r"fn \S+: (?!proved)|\S+:\d+:\d+: error", said):
+                    print(said[:200], file=sys.stderr, flush=True)
     whole = os.times()
     whole = whole.children_user + whole.children_system
     shares.append((whole - last, "end"))

@@ -1,7 +1,6 @@
 //! Locals as bytes and numbers.
 
 use std::alloc::{AllocError, Global};
-use std::test::Fail;
 use walrus_arena::{FunctionId, LocalId};
 use walrus_body_env::BodyError;
 use walrus_forms::ValType;
@@ -46,42 +45,57 @@ fn number_of(maps: &IdsToIndices, index: u32) -> Option<u32> {
     maps.get_local_index(FunctionId::from_index(0), local(index))
 }
 
+fn have_numbers(maps: &IdsToIndices, numbers: &[(u32, Option<u32>)]) -> bool {
+    for (index, number) in numbers {
+        if number_of(maps, *index) != *number {
+            return false;
+        }
+    }
+    true
+}
+
+// Writes the locals, and says whether they have these numbers then. (One function owns the maps, since each that does is dear to prove.)
+fn numbers(
+    alloc: Global,
+    used: &[LocalId],
+    numbers: &[(u32, Option<u32>)],
+    out: &mut Vec<u8>,
+) -> Result<bool, BodyError> {
+    let mut maps = IdsToIndices::new(alloc);
+    write(alloc, used, &mut maps, out)?;
+    Ok(have_numbers(&maps, numbers))
+}
+
 // Whether the locals have these numbers, and are written behind a byte as these bytes.
 fn gives(
     alloc: Global,
     used: &[LocalId],
-    numbers: &[(u32, Option<u32>)],
+    wanted: &[(u32, Option<u32>)],
     bytes: &[u8],
 ) -> Result<bool, BodyError> {
-    let mut maps = IdsToIndices::new(alloc);
     let mut out = Vec::new(alloc);
-    write(alloc, used, &mut maps, &mut out)?;
-    for (index, number) in numbers {
-        if number_of(&maps, *index) != *number {
-            return Ok(false);
-        }
-    }
-    Ok(out.as_slice() == bytes)
+    Ok(numbers(alloc, used, wanted, &mut out)? && out.as_slice() == bytes)
+}
+
+fn is_unknown_local(fault: BodyError) -> bool {
+    let expected = BodyError::Index {
+        space: Space::Local,
+        offset: None,
+    };
+    fault == expected
 }
 
 fn is_unknown(alloc: Global, used: &[LocalId]) -> bool {
-    let mut maps = IdsToIndices::new(alloc);
     let mut out = Vec::new(alloc);
-    match write(alloc, used, &mut maps, &mut out) {
-        Err(fault) => {
-            let expected = BodyError::Index {
-                space: Space::Local,
-                offset: None,
-            };
-            fault == expected && out.as_slice() == [0xff].as_slice()
-        }
-        Ok(()) => false,
+    match numbers(alloc, used, &[], &mut out) {
+        Err(fault) => is_unknown_local(fault) && out.as_slice() == [0xff].as_slice(),
+        Ok(_) => false,
     }
 }
 
 // Of the last four, those that are used: by type, then by id, in runs.
 #[test]
-fn used_alone_by_type(rt: HostRuntime) -> Result<(), Fail> {
+fn used_alone_by_type(rt: HostRuntime) {
     let used = [local(4), local(3), local(0), local(1), local(3)];
     let numbers = [
         (0, Some(0)),
@@ -91,21 +105,23 @@ fn used_alone_by_type(rt: HostRuntime) -> Result<(), Fail> {
         (4, Some(3)),
     ];
     let bytes = [0xff, 0x02, 0x01, 0x7f, 0x02, 0x7e];
-    assert!(rt; gives(rt.alloc(), &used, &numbers, &bytes) == Ok(true));
-    Ok(())
+    assert!(rt; matches!(gives(rt.alloc(), &used, &numbers, &bytes), Ok(true)));
 }
 
 // None but the argument is used, or none at all.
 #[test]
-fn no_declarations(rt: HostRuntime) -> Result<(), Fail> {
+fn no_declarations(rt: HostRuntime) {
     let numbers = [(0, Some(0)), (1, None)];
-    assert!(rt; gives(rt.alloc(), &[local(0)], &numbers, &[0xff, 0x00]) == Ok(true));
-    assert!(rt; gives(rt.alloc(), &[], &numbers, &[0xff, 0x00]) == Ok(true));
-    Ok(())
+    assert!(rt;
+        matches!(
+            gives(rt.alloc(), &[local(0)], &numbers, &[0xff, 0x00]),
+            Ok(true)
+        )
+    );
+    assert!(rt; matches!(gives(rt.alloc(), &[], &numbers, &[0xff, 0x00]), Ok(true)));
 }
 
 #[test]
-fn unknown(rt: HostRuntime) -> Result<(), Fail> {
+fn unknown(rt: HostRuntime) {
     assert!(rt; is_unknown(rt.alloc(), &[local(1), local(5)]));
-    Ok(())
 }

@@ -9,4 +9,4 @@ pub use give::give_types;
 pub use walrus_handlers::{AnyHandler, Handler, handlers};
 
 // Passed on to crates above, which then list this one alone.
-pub use walrus_handlers::{body_steps, tree};
+pub use walrus_handlers::tree;

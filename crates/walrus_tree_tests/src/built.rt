@@ -1,6 +1,6 @@
 //! The walk that changes, over a function that is built.
 use crate::log::Log;
-use std::alloc::AllocError;
+use std::alloc::{AllocError, Global};
 use std::test::Fail;
 use walrus_arena::{FunctionId, LocalId, TypeId};
 use walrus_builder::{FunctionBuilder, InstrSeqBuilder, check_nesting, dfs_pre_order_mut};
@@ -23,16 +23,23 @@ fn is_changed(body: &mut FunctionBuilder) -> bool {
     }
 }
 
+// Walks the function, if its body nests, and says whether it is changed then.
+fn changes(alloc: Global, function: &mut FunctionBuilder) -> Result<bool, AllocError> {
+    let start = function.func_body_id();
+    if !check_nesting(alloc, function, start)? {
+        return Ok(false);
+    }
+    let mut log = Log::new(alloc);
+    dfs_pre_order_mut(alloc, &mut log, function, start)?;
+    Ok(is_changed(function))
+}
+
 #[test]
 fn a_function_that_is_built_is_changed(rt: HostRuntime) -> Result<(), Fail> {
     let ty = TypeId::from_index(0);
     let mut function = FunctionBuilder::with_types(rt.alloc(), ty, InstrSeqType::Simple(None))?;
-    let start = function.func_body_id();
     add_instrs(function.func_body())?;
-    assert!(rt; check_nesting(rt.alloc(), &function, start)?);
-    let mut log = Log::new(rt.alloc());
-    dfs_pre_order_mut(rt.alloc(), &mut log, &mut function, start)?;
-    assert!(rt; is_changed(&mut function));
+    assert!(rt; changes(rt.alloc(), &mut function)?);
     assert!(rt; function.ty() == ty);
     Ok(())
 }

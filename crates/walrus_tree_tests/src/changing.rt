@@ -100,32 +100,47 @@ fn is_inner_changed(instrs: &[(Instr, InstrLocId)]) -> bool {
     }
 }
 
+// Two empty sequences.
+fn two(alloc: Global) -> Result<Vec<InstrSeq>, AllocError> {
+    let mut seqs = Vec::new(alloc);
+    push_seq(alloc, &mut seqs)?;
+    push_seq(alloc, &mut seqs)?;
+    Ok(seqs)
+}
+
+// Fills the first, which holds the second, and the second.
+fn fill(seqs: &mut [InstrSeq], start: InstrSeqId, inner: InstrSeqId) -> Result<(), AllocError> {
+    add_outer(seqs, start, inner)?;
+    add_inner(seqs, inner)
+}
+
 #[test]
 fn renames(rt: HostRuntime) -> Result<(), Fail> {
-    let mut seqs = Vec::new(rt.alloc());
-    let start = push_seq(rt.alloc(), &mut seqs)?;
-    let inner = push_seq(rt.alloc(), &mut seqs)?;
-    let all = seqs.as_mut_slice();
-    add_outer(all, start, inner)?;
-    add_inner(all, inner)?;
-    change(&rt, rt.alloc(), all)?;
-    assert!(rt; is_outer_changed(instrs_of(all, start)));
-    assert!(rt; is_inner_changed(instrs_of(all, inner)));
+    let (start, inner) = (InstrSeqId::from_index(0), InstrSeqId::from_index(1));
+    let mut seqs = two(rt.alloc())?;
+    fill(seqs.as_mut_slice(), start, inner)?;
+    change(&rt, rt.alloc(), seqs.as_mut_slice())?;
+    assert!(rt; is_outer_changed(instrs_of(seqs.as_slice(), start)));
+    assert!(rt; is_inner_changed(instrs_of(seqs.as_slice(), inner)));
     Ok(())
+}
+
+// Two instructions of the first sequence hold the other, which has a constant.
+fn share(seqs: &mut [InstrSeq], shared: InstrSeqId) -> Result<(), AllocError> {
+    let start = InstrSeqId::from_index(0);
+    push(seqs, start, Instr::Block { seq: shared })?;
+    push(seqs, start, Instr::Loop { seq: shared })?;
+    push_five(seqs, shared)
 }
 
 // A sequence that two instructions hold is handed over twice, the second time as it was left.
 #[test]
 fn shared_sequence_is_changed_twice(rt: HostRuntime) -> Result<(), Fail> {
-    let mut seqs = Vec::new(rt.alloc());
-    let start = push_seq(rt.alloc(), &mut seqs)?;
-    let shared = push_seq(rt.alloc(), &mut seqs)?;
-    let all = seqs.as_mut_slice();
-    push(all, start, Instr::Block { seq: shared })?;
-    push(all, start, Instr::Loop { seq: shared })?;
-    push_five(all, shared)?;
-    change(&rt, rt.alloc(), all)?;
-    assert!(rt; holds(all, shared, 7));
+    let shared = InstrSeqId::from_index(1);
+    let mut seqs = two(rt.alloc())?;
+    share(seqs.as_mut_slice(), shared)?;
+    change(&rt, rt.alloc(), seqs.as_mut_slice())?;
+    assert!(rt; holds(seqs.as_slice(), shared, 7));
     Ok(())
 }
 

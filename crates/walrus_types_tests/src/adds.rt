@@ -1,5 +1,6 @@
 // Adds answer an equal live type where there is one.
-use crate::steps::{Step, immutable, table, take};
+use crate::asks::{Ask, is_so};
+use crate::steps::{Step, immutable, take};
 use std::alloc::{AllocError, Global};
 use std::test::Fail;
 use walrus_arena::LocalId;
@@ -46,15 +47,14 @@ fn equal_types_are_merged(rt: HostRuntime) -> Result<(), Fail> {
 }
 
 // One type is found, and another isn't there.
-fn is_found(types: &ModuleTypes) -> bool {
+pub fn is_found(types: &ModuleTypes) -> bool {
     let found = types.find(&[], &[ValType::I64]);
     matches!(found, Some(id) if id.index() == 0) && types.find(&[], &[]).is_none()
 }
 
 #[test]
 fn finds(rt: HostRuntime) -> Result<(), Fail> {
-    let types = table(rt.alloc(), &[Step::Gives(ValType::I64)])?;
-    assert!(rt; is_found(&types));
+    assert!(rt; is_so(rt.alloc(), &[Step::Gives(ValType::I64)], Ask::Found)?);
     Ok(())
 }
 
@@ -77,7 +77,7 @@ const PAIRS: [(ValType, ValType, (usize, usize)); 4] = [
     (ValType::I32, ValType::I64, (3, 4)),
 ];
 
-fn adds_pairs(types: &mut ModuleTypes) -> Result<bool, AllocError> {
+pub fn adds_pairs(types: &mut ModuleTypes) -> Result<bool, AllocError> {
     let mut agree = true;
     for (param, given, ids) in PAIRS {
         agree &= adds_both(types, param, given, ids)?;
@@ -87,8 +87,8 @@ fn adds_pairs(types: &mut ModuleTypes) -> Result<bool, AllocError> {
 
 #[test]
 fn types_with_their_entry_types(rt: HostRuntime) -> Result<(), Fail> {
-    let mut types = table(rt.alloc(), &[Step::Maps(ValType::F64, ValType::F32)])?;
-    assert!(rt; adds_pairs(&mut types)?);
+    let steps = [Step::Maps(ValType::F64, ValType::F32)];
+    assert!(rt; is_so(rt.alloc(), &steps, Ask::Pairs)?);
     Ok(())
 }
 

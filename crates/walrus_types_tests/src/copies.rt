@@ -1,5 +1,6 @@
 // A copy says what its original was made of.
-use crate::steps::{Step, are_ids, name, table};
+use crate::asks::{Ask, is_so};
+use crate::steps::{Step, are_ids, name};
 use std::alloc::{AllocError, Global};
 use std::test::Fail;
 use walrus_arena::TypeId;
@@ -188,20 +189,20 @@ fn copies_named(alloc: Global, types: &ModuleTypes, id: TypeId) -> Result<bool, 
 }
 
 // Adds a type with a name, and says whether a copy of it says the same.
-fn copies_added(alloc: Global, types: &mut ModuleTypes) -> Result<bool, AllocError> {
+pub fn copies_added(alloc: Global, types: &mut ModuleTypes) -> Result<bool, AllocError> {
     add_named(alloc, types, TypeId::from_index(0), "t")?;
     copies_named(alloc, types, TypeId::from_index(1))
 }
 
 #[test]
 fn of_a_type(rt: HostRuntime) -> Result<(), Fail> {
-    let mut types = table(rt.alloc(), &[Step::Function])?;
-    assert!(rt; copies_added(rt.alloc(), &mut types)?);
+    assert!(rt; is_so(rt.alloc(), &[Step::Function], Ask::TypeIsCopied)?);
     Ok(())
 }
 
-// Whether a copy of the type's group has no mark and that member alone.
-fn copies_group(types: &ModuleTypes, id: TypeId) -> Result<bool, AllocError> {
+// Whether a copy of the second type's group has no mark and that member alone.
+pub fn copies_group(types: &ModuleTypes) -> Result<bool, AllocError> {
+    let id = TypeId::from_index(1);
     let Some(group) = types.rec_group_for_type(id) else {
         return Ok(false);
     };
@@ -211,7 +212,7 @@ fn copies_group(types: &ModuleTypes, id: TypeId) -> Result<bool, AllocError> {
 
 #[test]
 fn of_a_group(rt: HostRuntime) -> Result<(), Fail> {
-    let types = table(rt.alloc(), &[Step::Function, Step::Param(ValType::I32)])?;
-    assert!(rt; copies_group(&types, TypeId::from_index(1))?);
+    let steps = [Step::Function, Step::Param(ValType::I32)];
+    assert!(rt; is_so(rt.alloc(), &steps, Ask::GroupIsCopied)?);
     Ok(())
 }

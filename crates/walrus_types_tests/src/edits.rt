@@ -1,6 +1,7 @@
 // Deleting, naming, copying.
-use crate::steps::{Step, name, table};
-use std::alloc::AllocError;
+use crate::asks::{Ask, is_so};
+use crate::steps::{Step, name};
+use std::alloc::{AllocError, Global};
 use std::test::Fail;
 use walrus_arena::TypeId;
 use walrus_types::{ModuleTypes, ValType};
@@ -24,7 +25,7 @@ fn goes(types: &mut ModuleTypes, id: TypeId, tried: bool) -> bool {
 }
 
 // Adds the type and deletes it, once each way.
-fn adds_and_deletes(types: &mut ModuleTypes) -> Result<bool, AllocError> {
+pub fn adds_and_deletes(types: &mut ModuleTypes) -> Result<bool, AllocError> {
     let alone = adds(types, 0)? && goes(types, TypeId::from_index(0), false);
     let tried = adds(types, 1)? && goes(types, TypeId::from_index(1), true);
     Ok(alone && tried)
@@ -32,13 +33,13 @@ fn adds_and_deletes(types: &mut ModuleTypes) -> Result<bool, AllocError> {
 
 #[test]
 fn deletes(rt: HostRuntime) -> Result<(), Fail> {
-    let mut types = ModuleTypes::new(rt.alloc());
-    assert!(rt; adds_and_deletes(&mut types)?);
+    assert!(rt; is_so(rt.alloc(), &[], Ask::Deletes)?);
     Ok(())
 }
 
-// Whether the live type's whole group goes.
-fn group_goes(types: &mut ModuleTypes, id: TypeId) -> bool {
+// Whether the first type's whole group goes, which is live.
+pub fn group_goes(types: &mut ModuleTypes) -> bool {
+    let id = TypeId::from_index(0);
     if !types.contains(id) {
         return false;
     }
@@ -48,8 +49,7 @@ fn group_goes(types: &mut ModuleTypes, id: TypeId) -> bool {
 
 #[test]
 fn deletes_a_group(rt: HostRuntime) -> Result<(), Fail> {
-    let mut types = table(rt.alloc(), &[Step::Param(ValType::I32)])?;
-    assert!(rt; group_goes(&mut types, TypeId::from_index(0)));
+    assert!(rt; is_so(rt.alloc(), &[Step::Param(ValType::I32)], Ask::GroupGoes)?);
     Ok(())
 }
 
@@ -59,11 +59,15 @@ fn first_is_named(types: &ModuleTypes, name: &str, other: &str) -> bool {
     matches!(found, Some(id) if id.index() == 0) && types.by_name(other).is_none()
 }
 
+pub fn takes_name(alloc: Global, types: &mut ModuleTypes) -> Result<bool, AllocError> {
+    name(alloc, types, TypeId::from_index(0), "a")?;
+    Ok(first_is_named(types, "a", "b"))
+}
+
 #[test]
 fn names(rt: HostRuntime) -> Result<(), Fail> {
-    let mut types = table(rt.alloc(), &[Step::Maps(ValType::I32, ValType::F32)])?;
-    name(rt.alloc(), &mut types, TypeId::from_index(0), "a")?;
-    assert!(rt; first_is_named(&types, "a", "b"));
+    let steps = [Step::Maps(ValType::I32, ValType::F32)];
+    assert!(rt; is_so(rt.alloc(), &steps, Ask::Names)?);
     Ok(())
 }
 
@@ -84,10 +88,14 @@ fn has_odd_members(types: &ModuleTypes) -> bool {
     members == 1
 }
 
+// Two types, in groups of even size together.
+pub fn iterates_all(types: &ModuleTypes) -> bool {
+    told(types) == 3 && !has_odd_members(types)
+}
+
 #[test]
 fn iterates(rt: HostRuntime) -> Result<(), Fail> {
-    let types = table(rt.alloc(), &[Step::Function, Step::Param(ValType::F64)])?;
-    assert_eq!(rt; told(&types), 3);
-    assert!(rt; !has_odd_members(&types));
+    let steps = [Step::Function, Step::Param(ValType::F64)];
+    assert!(rt; is_so(rt.alloc(), &steps, Ask::Iterates)?);
     Ok(())
 }

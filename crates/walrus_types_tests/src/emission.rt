@@ -1,7 +1,7 @@
 // Writing a table: worked examples, the order of types, refusals.
 ghost use Rattle.std.specs.Prelude.{◌<◌, ◌^◌};
 
-use crate::steps::{Step, are_at, immutable, link, take, written};
+use crate::steps::{Step, are_at, are_ids, immutable, link, table, take, written};
 use std::alloc::Global;
 use std::test::Fail;
 use walrus_arena::TypeId;
@@ -69,7 +69,7 @@ pub fn is_structure(group: Option<&GroupRecord>, expected: &[FieldRecord]) -> bo
 }
 
 // Two function types, sorted, and a structure without fields.
-pub fn is_sorted(emitted: &EmittedTypes) -> bool {
+fn is_sorted(emitted: &EmittedTypes) -> bool {
     emitted.groups.len() == 3
         && is_consumer(emitted.groups.get(0), ValRecord::I32)
         && is_consumer(emitted.groups.get(1), ValRecord::I64)
@@ -84,6 +84,51 @@ pub fn is_linked(emitted: &EmittedTypes) -> bool {
         && is_consumer(emitted.groups.get(2), ValRecord::I32)
 }
 
+// What is asked of the groups, beside where the types are written.
+#[derive(Clone, Copy)]
+pub enum Shape {
+    Any,
+    // one group
+    Single,
+    Sorted,
+    Linked,
+    // five groups, the third one marked, of two types
+    PairOfFive,
+    // an open type, and a final one below it
+    Supertypes,
+    // the ids 2, 0 and 1 in this order
+    Turned,
+    // the ids 2 and 3
+    Last,
+}
+
+pub fn has_shape(emitted: &EmittedTypes, shape: Shape) -> bool {
+    match shape {
+        Shape::Any => true,
+        Shape::Single => emitted.groups.len() == 1,
+        Shape::Sorted => is_sorted(emitted),
+        Shape::Linked => is_linked(emitted),
+        Shape::PairOfFive => { is_marked_pair(emitted.groups.get(2)) && emitted.groups.len() == 5 }
+        Shape::Supertypes => {
+            head(emitted.groups.get(1)) == Some((false, None))
+                && head(emitted.groups.get(2)) == Some((true, Some(1)))
+        }
+        Shape::Turned => are_ids(&emitted.ids, &[2, 0, 1]),
+        Shape::Last => are_ids(&emitted.ids, &[2, 3]),
+    }
+}
+
+// Whether the groups that are written have that shape, and the types of the ids 0, 1 and so on these indices.
+pub fn stands(
+    alloc: Global,
+    steps: &[Step],
+    shape: Shape,
+    wanted: &[Option<u32>],
+) -> Result<bool, IrError> {
+    let emitted = written(alloc, steps)?;
+    Ok(has_shape(&emitted, shape) && are_at(&emitted, wanted))
+}
+
 #[test]
 fn single_types_are_written(rt: HostRuntime) -> Result<(), Fail> {
     let steps = [
@@ -92,9 +137,8 @@ fn single_types_are_written(rt: HostRuntime) -> Result<(), Fail> {
         Step::Param(ValType::I32),
         Step::Param(ValType::I64),
     ];
-    let emitted = written(rt.alloc(), &steps)?;
-    assert!(rt; is_sorted(&emitted));
-    assert!(rt; are_at(&emitted, &[Some(1), Some(2), Some(0)]));
+    let wanted = [Some(1), Some(2), Some(0)];
+    assert!(rt; stands(rt.alloc(), &steps, Shape::Sorted, &wanted)?);
     Ok(())
 }
 
@@ -105,7 +149,7 @@ fn a_type_that_names_a_type_stays(rt: HostRuntime) -> Result<(), Fail> {
         Step::Field(link(id(0))),
         Step::Param(ValType::I32),
     ];
-    assert!(rt; is_linked(&written(rt.alloc(), &steps)?));
+    assert!(rt; stands(rt.alloc(), &steps, Shape::Linked, &[])?);
     Ok(())
 }
 
@@ -126,14 +170,8 @@ fn a_group_stays(rt: HostRuntime) -> Result<(), Fail> {
         Step::Param(ValType::F64),
         Step::Param(ValType::F32),
     ];
-    let emitted = written(rt.alloc(), &steps)?;
-    assert!(rt; is_marked_pair(emitted.groups.get(2)) && emitted.groups.len() == 5);
-    assert!(rt;
-        are_at(
-            &emitted,
-            &[Some(1), Some(0), Some(2), Some(3), Some(5), Some(4)]
-        )
-    );
+    let wanted = [Some(1), Some(0), Some(2), Some(3), Some(5), Some(4)];
+    assert!(rt; stands(rt.alloc(), &steps, Shape::PairOfFive, &wanted)?);
     Ok(())
 }
 
@@ -154,9 +192,7 @@ fn supertypes_are_written(rt: HostRuntime) -> Result<(), Fail> {
         Step::Open(bytes()),
         Step::Below(bytes(), id(1)),
     ];
-    let emitted = written(rt.alloc(), &steps)?;
-    assert_eq!(rt; head(emitted.groups.get(1)), Some((false, None)));
-    assert_eq!(rt; head(emitted.groups.get(2)), Some((true, Some(1))));
+    assert!(rt; stands(rt.alloc(), &steps, Shape::Supertypes, &[])?);
     Ok(())
 }
 
@@ -205,20 +241,10 @@ fn arrays(alloc: Global) -> Result<EmittedTypes, IrError> {
     types.emit()
 }
 
-#[test]
-fn fields_are_ordered(rt: HostRuntime) -> Result<(), Fail> {
-    let emitted = arrays(rt.alloc())?;
-    for k in 0..22 {
-        assert_eq!(rt; emitted.indices.get(id(k)), Some(21 - k as u32));
-    }
-    Ok(())
-}
-
-// The types are written in the opposite order.
-fn turns(alloc: Global, steps: &[Step]) -> Result<bool, IrError> {
-    let emitted = written(alloc, steps)?;
-    let mut agree = emitted.groups.len() == steps.len();
-    let mut left = steps.len();
+// So many types are written, in the opposite order.
+fn is_turned(emitted: &EmittedTypes, count: usize) -> bool {
+    let mut agree = emitted.groups.len() == count;
+    let mut left = count;
     for k in 0..u32::MAX {
         if left == 0 {
             break;
@@ -227,7 +253,18 @@ fn turns(alloc: Global, steps: &[Step]) -> Result<bool, IrError> {
         let index = emitted.indices.get(id(k as usize));
         agree &= matches!(index, Some(index) if index as usize == left);
     }
-    Ok(agree)
+    agree
+}
+
+#[test]
+fn fields_are_ordered(rt: HostRuntime) -> Result<(), Fail> {
+    assert!(rt; is_turned(&arrays(rt.alloc())?, 22));
+    Ok(())
+}
+
+// The types are written in the opposite order.
+fn turns(alloc: Global, steps: &[Step]) -> Result<bool, IrError> {
+    Ok(is_turned(&written(alloc, steps)?, steps.len()))
 }
 
 #[test]
@@ -302,8 +339,8 @@ fn equal_types_stand_by_id(rt: HostRuntime) -> Result<(), Fail> {
         Step::Function,
         Step::Close(id(1)),
     ];
-    let emitted = written(rt.alloc(), &steps)?;
-    assert!(rt; are_at(&emitted, &[Some(1), Some(2), Some(0)]));
+    let wanted = [Some(1), Some(2), Some(0)];
+    assert!(rt; stands(rt.alloc(), &steps, Shape::Any, &wanted)?);
     Ok(())
 }
 
@@ -314,17 +351,15 @@ fn a_group_of_one_type_stays(rt: HostRuntime) -> Result<(), Fail> {
         Step::Alone,
         Step::Param(ValType::I32),
     ];
-    let emitted = written(rt.alloc(), &steps)?;
-    assert!(rt; are_at(&emitted, &[Some(0), Some(1), Some(2)]));
+    let wanted = [Some(0), Some(1), Some(2)];
+    assert!(rt; stands(rt.alloc(), &steps, Shape::Any, &wanted)?);
     Ok(())
 }
 
 #[test]
 fn entry_types_are_not_written(rt: HostRuntime) -> Result<(), Fail> {
     let steps = [Step::Entry(Some(ValType::I32)), Step::Gives(ValType::I32)];
-    let emitted = written(rt.alloc(), &steps)?;
-    assert_eq!(rt; emitted.groups.len(), 1);
-    assert!(rt; are_at(&emitted, &[None, Some(0)]));
+    assert!(rt; stands(rt.alloc(), &steps, Shape::Single, &[None, Some(0)])?);
     Ok(())
 }
 
@@ -344,31 +379,42 @@ fn chain(alloc: Global) -> Result<ModuleTypes, IrError> {
     Ok(types)
 }
 
-fn written_chain(alloc: Global) -> Result<EmittedTypes, IrError> {
-    chain(alloc)?.emit()
+// So many types are written, in their own order.
+fn is_in_order(emitted: &EmittedTypes, count: u32) -> bool {
+    let mut agree = emitted.groups.len() == count as usize;
+    for k in 0..count {
+        agree &= emitted.indices.get(id(k as usize)) == Some(k);
+    }
+    agree
+}
+
+fn writes_chain(alloc: Global) -> Result<bool, IrError> {
+    Ok(is_in_order(&chain(alloc)?.emit()?, 601))
 }
 
 #[test]
 fn blocks_are_written(rt: HostRuntime) -> Result<(), Fail> {
-    let emitted = written_chain(rt.alloc())?;
-    assert_eq!(rt; emitted.groups.len(), 601);
-    for k in 0..601 {
-        assert_eq!(rt; emitted.indices.get(id(k)), Some(k as u32));
-    }
+    assert!(rt; writes_chain(rt.alloc())?);
     Ok(())
 }
 
-fn broken_chain(alloc: Global) -> Result<EmittedTypes, IrError> {
+// A fault behind the first block.
+fn breaks_chain(alloc: Global, fault: IrError) -> Result<bool, IrError> {
     let mut types = chain(alloc)?;
     take(alloc, &mut types, &Step::Field(link(id(1000))))?;
-    types.emit()
+    Ok(is_refused(&types, fault))
 }
 
-fn is_refused(outcome: Result<EmittedTypes, IrError>, fault: IrError) -> bool {
-    match outcome {
+fn is_refused(types: &ModuleTypes, fault: IrError) -> bool {
+    match types.emit() {
         Ok(_) => false,
         Err(refused) => refused == fault,
     }
+}
+
+// Whether the table after these steps is refused so.
+fn refuses(alloc: Global, steps: &[Step], fault: IrError) -> Result<bool, IrError> {
+    Ok(is_refused(&table(alloc, steps)?, fault))
 }
 
 #[test]
@@ -379,12 +425,12 @@ fn names_at_fault(rt: HostRuntime) -> Result<(), Fail> {
         Step::Field(link(id(0))),
         Step::Delete(id(0)),
     ];
-    assert!(rt; is_refused(written(alloc, &deleted), IrError::Dead));
+    assert!(rt; refuses(alloc, &deleted, IrError::Dead)?);
     let entry = [Step::Entry(Some(ValType::I64)), Step::Field(link(id(0)))];
-    assert!(rt; is_refused(written(alloc, &entry), IrError::EntryOnly));
+    assert!(rt; refuses(alloc, &entry, IrError::EntryOnly)?);
     let later = [Step::Field(link(id(1))), Step::Function];
-    assert!(rt; is_refused(written(alloc, &later), IrError::Later));
-    assert!(rt; is_refused(broken_chain(alloc), IrError::Dead));
+    assert!(rt; refuses(alloc, &later, IrError::Later)?);
+    assert!(rt; breaks_chain(alloc, IrError::Dead)?);
     Ok(())
 }
 
@@ -396,6 +442,6 @@ fn the_first_fault_is_answered(rt: HostRuntime) -> Result<(), Fail> {
         Step::Field(link(id(9))),
         Step::Function,
     ];
-    assert!(rt; is_refused(written(rt.alloc(), &steps), IrError::Later));
+    assert!(rt; refuses(rt.alloc(), &steps, IrError::Later)?);
     Ok(())
 }

@@ -1,4 +1,5 @@
 // Groups that a closure makes of their ids.
+use crate::asks::{Ask, is_so};
 use crate::steps::{link, member, ring};
 use std::alloc::{AllocError, Global};
 use std::test::Fail;
@@ -31,14 +32,18 @@ fn add_pair(types: &mut ModuleTypes, alloc: Global) -> Result<bool, IrError> {
     Ok(is_pair(ids.as_slice()))
 }
 
+// Adds two types that refer to each other, and says whether none of them goes alone.
+pub fn adds_ring(alloc: Global, types: &mut ModuleTypes) -> Result<bool, IrError> {
+    let is_added = add_pair(types, alloc)?;
+    let (first, second) = (TypeId::from_index(0), TypeId::from_index(1));
+    let refer = refers(types, first, second) && refers(types, second, first);
+    let stays = !goes(types, first) && types.contains(first);
+    Ok(is_added && refer && stays)
+}
+
 #[test]
 fn two_that_name_each_other(rt: HostRuntime) -> Result<(), Fail> {
-    let mut types = ModuleTypes::new(rt.alloc());
-    assert!(rt; add_pair(&mut types, rt.alloc())?);
-    let (first, second) = (TypeId::from_index(0), TypeId::from_index(1));
-    assert!(rt; refers(&types, first, second) && refers(&types, second, first));
-    assert!(rt; !goes(&mut types, first));
-    assert!(rt; types.contains(first));
+    assert!(rt; is_so(rt.alloc(), &[], Ask::Ring)?);
     Ok(())
 }
 
@@ -53,11 +58,15 @@ fn adds_first(types: &mut ModuleTypes) -> Result<bool, AllocError> {
     Ok(types.add(&[], &[])?.index() == 0)
 }
 
+// Whether a group of another count is refused, and leaves no id behind.
+pub fn refuses_count(alloc: Global, types: &mut ModuleTypes) -> Result<bool, IrError> {
+    let is_refused = is_refused_by_count(types, alloc);
+    Ok(is_refused && adds_first(types)?)
+}
+
 #[test]
 fn another_count(rt: HostRuntime) -> Result<(), Fail> {
-    let mut types = ModuleTypes::new(rt.alloc());
-    assert!(rt; is_refused_by_count(&mut types, rt.alloc()));
-    assert!(rt; adds_first(&mut types)?);
+    assert!(rt; is_so(rt.alloc(), &[], Ask::OtherCount)?);
     Ok(())
 }
 

@@ -1,5 +1,6 @@
 // The types in the order in which they are written.
-use crate::steps::{Step, are_at, are_ids, written};
+use crate::emission::{Shape, stands};
+use crate::steps::Step;
 use std::test::Fail;
 use walrus_arena::TypeId;
 use walrus_types::ValType;
@@ -11,9 +12,8 @@ fn ids_stand_in_the_order_of_indices(rt: HostRuntime) -> Result<(), Fail> {
         Step::Struct,
         Step::Param(ValType::I32),
     ];
-    let emitted = written(rt.alloc(), &steps)?;
-    assert!(rt; are_ids(&emitted.ids, &[2, 0, 1]));
-    assert!(rt; are_at(&emitted, &[Some(1), Some(2), Some(0)]));
+    let wanted = [Some(1), Some(2), Some(0)];
+    assert!(rt; stands(rt.alloc(), &steps, Shape::Turned, &wanted)?);
     Ok(())
 }
 
@@ -26,8 +26,7 @@ fn deleted_types_and_entry_types_have_no_place(rt: HostRuntime) -> Result<(), Fa
         Step::Param(ValType::F32),
         Step::Delete(TypeId::from_index(0)),
     ];
-    let emitted = written(rt.alloc(), &steps)?;
-    assert!(rt; are_ids(&emitted.ids, &[2, 3]));
-    assert!(rt; are_at(&emitted, &[None, None, Some(0), Some(1)]));
+    let wanted = [None, None, Some(0), Some(1)];
+    assert!(rt; stands(rt.alloc(), &steps, Shape::Last, &wanted)?);
     Ok(())
 }

@@ -4,6 +4,8 @@
 #[cfg(test)]
 mod adds;
 #[cfg(test)]
+mod asks;
+#[cfg(test)]
 mod chains;
 #[cfg(test)]
 mod copies;

@@ -6,14 +6,14 @@ ghost use Rattle.walrus_forms.specs.Renaming.{ValueBelow};
 ghost use Rattle.walrus_types.specs.Parsing.{AreBelow};
 ghost use Rattle.walrus_types_tests.specs.Records.{NamesBelow};
 
-use crate::emission::{is_linked, is_sorted};
+use crate::emission::{Shape, has_shape, is_linked};
 use crate::steps::{are_at, are_ids};
 use std::alloc::{AllocError, Global};
 use std::test::Fail;
 use walrus_arena::TypeId;
 use walrus_types::{
     CompositeRecord, EmittedTypes, FieldRecord, GroupRecord, HeapRecord, IrError, ModuleTypes,
-    RefRecord, StorageRecord, TypeRecord, ValRecord,
+    RefRecord, StorageRecord, TypeIndices, TypeRecord, ValRecord,
 };
 
 // A group of one final type of this form, without supertype.
@@ -144,19 +144,43 @@ fn parses(
     Ok(are_ids(&parse(alloc, types, entries)?, wanted))
 }
 
-#[test]
-fn singles(rt: HostRuntime) -> Result<(), Fail> {
-    let mut types = ModuleTypes::new(rt.alloc());
-    let entries = [Entry::Long, Entry::Empty, Entry::Short, Entry::Long];
-    assert!(rt; parses(rt.alloc(), &mut types, &entries, &[0, 1, 2, 0])?);
-    assert!(rt; writes_sorted(&types)?);
-    Ok(())
+// What is asked of a table that has read groups.
+#[derive(Clone, Copy)]
+enum Then {
+    Nothing,
+    // it writes the types of `singles`, sorted
+    Sorted,
+    // it writes the types of `LINKED` in their order, of which the second names the first
+    Linked,
+    OneIsMarked,
 }
 
-// Whether it writes the types of `singles`, sorted.
-fn writes_sorted(types: &ModuleTypes) -> Result<bool, IrError> {
+// Whether it writes its types with that shape at these indices.
+fn writes(types: &ModuleTypes, shape: Shape, wanted: &[Option<u32>]) -> Result<bool, IrError> {
     let emitted = types.emit()?;
-    Ok(is_sorted(&emitted) && are_at(&emitted, &[Some(1), Some(2), Some(0)]))
+    Ok(has_shape(&emitted, shape) && are_at(&emitted, wanted))
+}
+
+fn holds(alloc: Global, types: &ModuleTypes, then: Then) -> Result<bool, IrError> {
+    match then {
+        Then::Nothing => Ok(true),
+        Then::Sorted => writes(types, Shape::Sorted, &[Some(1), Some(2), Some(0)]),
+        Then::Linked => Ok(names_first(alloc, types, id(1))? && writes_linked(types)?),
+        Then::OneIsMarked => Ok(one_is_marked(types)),
+    }
+}
+
+// Whether a new table that reads the groups gives them these ids, and what then is asked holds.
+fn reads(alloc: Global, entries: &[Entry], wanted: &[usize], then: Then) -> Result<bool, IrError> {
+    let mut types = ModuleTypes::new(alloc);
+    Ok(parses(alloc, &mut types, entries, wanted)? && holds(alloc, &types, then)?)
+}
+
+#[test]
+fn singles(rt: HostRuntime) -> Result<(), Fail> {
+    let entries = [Entry::Long, Entry::Empty, Entry::Short, Entry::Long];
+    assert!(rt; reads(rt.alloc(), &entries, &[0, 1, 2, 0], Then::Sorted)?);
+    Ok(())
 }
 
 // Whether the live type names the first alone.
@@ -173,17 +197,13 @@ const LINKED: [Entry; 3] = [Entry::Long, Entry::Holder(0), Entry::Short];
 
 #[test]
 fn a_type_that_names_another(rt: HostRuntime) -> Result<(), Fail> {
-    let mut types = ModuleTypes::new(rt.alloc());
-    assert!(rt; parses(rt.alloc(), &mut types, &LINKED, &[0, 1, 2])?);
-    assert!(rt; names_first(rt.alloc(), &types, id(1))?);
-    assert!(rt; writes_linked(&types)?);
+    assert!(rt; reads(rt.alloc(), &LINKED, &[0, 1, 2], Then::Linked)?);
     Ok(())
 }
 
 // Whether it writes the types of `LINKED` in their order.
 fn writes_linked(types: &ModuleTypes) -> Result<bool, IrError> {
-    let emitted = types.emit()?;
-    Ok(is_linked(&emitted) && are_at(&emitted, &[Some(0), Some(1), Some(2)]))
+    writes(types, Shape::Linked, &[Some(0), Some(1), Some(2)])
 }
 
 // One group of two has a mark.
@@ -197,24 +217,21 @@ fn one_is_marked(types: &ModuleTypes) -> bool {
 
 #[test]
 fn the_latest_equal_type(rt: HostRuntime) -> Result<(), Fail> {
-    let mut types = ModuleTypes::new(rt.alloc());
     let entries = [Entry::Long, Entry::Marked, Entry::Nothing, Entry::Long];
-    assert!(rt; parses(rt.alloc(), &mut types, &entries, &[0, 1, 1])?);
-    assert!(rt; one_is_marked(&types));
+    assert!(rt; reads(rt.alloc(), &entries, &[0, 1, 1], Then::OneIsMarked)?);
     Ok(())
 }
 
 // Two types that refer to themselves, and twice one that refers to the second.
 #[test]
 fn a_type_that_names_itself(rt: HostRuntime) -> Result<(), Fail> {
-    let mut types = ModuleTypes::new(rt.alloc());
     let entries = [
         Entry::Holder(0),
         Entry::Holder(1),
         Entry::Holder(1),
         Entry::Holder(1),
     ];
-    assert!(rt; parses(rt.alloc(), &mut types, &entries, &[0, 1, 2, 2])?);
+    assert!(rt; reads(rt.alloc(), &entries, &[0, 1, 2, 2], Then::Nothing)?);
     Ok(())
 }
 
@@ -232,25 +249,45 @@ fn rewritten(alloc: Global, entries: &[Entry]) -> Result<EmittedTypes, IrError> 
     types.emit()
 }
 
+// The ids 0, 1 and so on have the indices of `LINKED`, and the next has none.
+fn has_linked_indices(indices: &TypeIndices) -> bool {
+    let mut agree = true;
+    for (k, index) in [(0, Some(0)), (1, Some(1)), (2, Some(2)), (3, None)] {
+        agree &= indices.get(id(k)) == index;
+    }
+    agree
+}
+
+// Whether a copy says what a new table writes that has read `LINKED`, and a copy of its indices too.
+fn is_copied(alloc: Global, emitted: &EmittedTypes) -> Result<bool, AllocError> {
+    let copy = emitted.clone(alloc)?;
+    Ok(is_linked(&copy) && has_linked_indices(&copy.indices))
+}
+
+fn has_copied_indices(emitted: &EmittedTypes) -> Result<bool, AllocError> {
+    Ok(has_linked_indices(&emitted.indices.clone()?))
+}
+
+fn copies_linked(alloc: Global) -> Result<bool, IrError> {
+    let emitted = rewritten(alloc, &LINKED)?;
+    Ok(is_copied(alloc, &emitted)? && has_copied_indices(&emitted)?)
+}
+
 #[test]
 fn copies_of_what_is_written(rt: HostRuntime) -> Result<(), Fail> {
-    let copy = rewritten(rt.alloc(), &LINKED)?.clone(rt.alloc())?;
-    assert!(rt; is_linked(&copy));
-    assert!(rt; are_at(&copy, &[Some(0), Some(1), Some(2), None]));
+    assert!(rt; copies_linked(rt.alloc())?);
     Ok(())
 }
 
-#[test]
-fn copies_of_indices(rt: HostRuntime) -> Result<(), Fail> {
-    let indices = rewritten(rt.alloc(), &LINKED)?.indices.clone()?;
-    for (k, index) in [(0, Some(0)), (1, Some(1)), (2, Some(2)), (3, None)] {
-        assert_eq!(rt; indices.get(id(k)), index);
-    }
-    Ok(())
-}
-
-fn is_same(one: &EmittedTypes, other: &EmittedTypes) -> bool {
-    one.groups.as_slice() == other.groups.as_slice()
+// Whether these groups, read by a new table, are written as the others are, and each type at its index.
+fn are_same(
+    alloc: Global,
+    entries: &[Entry],
+    wanted: &[Option<u32>],
+    other: &EmittedTypes,
+) -> Result<bool, IrError> {
+    let one = rewritten(alloc, entries)?;
+    Ok(are_at(&one, wanted) && one.groups.as_slice() == other.groups.as_slice())
 }
 
 // Two neighbours, and a structure that refers to the first; and the same with the neighbours in each other's places.
@@ -260,8 +297,6 @@ fn neighbours_change_places(rt: HostRuntime) -> Result<(), Fail> {
     let one = rewritten(rt.alloc(), &long_first)?;
     assert!(rt; are_at(&one, &[Some(1), Some(0), Some(2)]));
     let short_first = [Entry::Short, Entry::Long, Entry::Holder(1)];
-    let other = rewritten(rt.alloc(), &short_first)?;
-    assert!(rt; are_at(&other, &[Some(0), Some(1), Some(2)]));
-    assert!(rt; is_same(&one, &other));
+    assert!(rt; are_same(rt.alloc(), &short_first, &[Some(0), Some(1), Some(2)], &one)?);
     Ok(())
 }

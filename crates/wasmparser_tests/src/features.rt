@@ -3,72 +3,139 @@
 use bitflags::Flags;
 use wasm_features::{WasmFeatures, WasmFeaturesInflated};
 
+fn is_mvp(set: WasmFeatures) -> bool {
+    set.floats() && set.gc_types() && !set.mutable_global()
+}
+
+fn is_wasm1(set: WasmFeatures) -> bool {
+    set.mutable_global() && !set.sign_extension()
+}
+
+fn is_wasm2(set: WasmFeatures) -> bool {
+    set.saturating_float_to_int()
+        && set.sign_extension()
+        && set.reference_types()
+        && set.multi_value()
+        && set.bulk_memory()
+        && set.simd()
+        && set.call_indirect_overlong()
+        && set.bulk_memory_opt()
+        && !set.tail_call()
+}
+
+fn is_wasm3(set: WasmFeatures) -> bool {
+    set.tail_call()
+        && set.extended_const()
+        && set.function_references()
+        && set.gc()
+        && set.multi_memory()
+        && set.relaxed_simd()
+        && set.exceptions()
+        && set.memory64()
+        && !set.threads()
+}
+
+fn is_usual(set: WasmFeatures) -> bool {
+    set.threads()
+        && set.custom_page_sizes()
+        && !set.legacy_exceptions()
+        && !set.wide_arithmetic()
+        && !set.shared_everything_threads()
+}
+
+fn is_lime1(set: WasmFeatures) -> bool {
+    set.extended_const()
+        && set.call_indirect_overlong()
+        && set.bulk_memory_opt()
+        && !set.reference_types()
+        && !set.bulk_memory()
+        && !set.simd()
+}
+
 #[test]
 fn versions_have_their_features(rt: HostRuntime) {
-    let mvp = WasmFeatures::MVP;
-    assert!(rt; mvp.floats() && mvp.gc_types() && !mvp.mutable_global());
-    let wasm1 = WasmFeatures::WASM1;
-    assert!(rt; wasm1.mutable_global() && !wasm1.sign_extension());
-    let wasm2 = WasmFeatures::WASM2;
-    assert!(rt;
-        wasm2.saturating_float_to_int() && wasm2.sign_extension() && wasm2.reference_types()
-    );
-    assert!(rt; wasm2.multi_value() && wasm2.bulk_memory() && wasm2.simd());
-    assert!(rt; wasm2.call_indirect_overlong() && wasm2.bulk_memory_opt() && !wasm2.tail_call());
-    let wasm3 = WasmFeatures::WASM3;
-    assert!(rt; wasm3.tail_call() && wasm3.extended_const() && wasm3.function_references());
-    assert!(rt; wasm3.gc() && wasm3.multi_memory() && wasm3.relaxed_simd());
-    assert!(rt; wasm3.exceptions() && wasm3.memory64() && !wasm3.threads());
-    let usual = WasmFeatures::default();
-    assert!(rt; usual.threads() && usual.custom_page_sizes() && !usual.legacy_exceptions());
-    assert!(rt; !usual.wide_arithmetic() && !usual.shared_everything_threads());
-    let lime1 = WasmFeatures::LIME1;
-    assert!(rt;
-        lime1.extended_const() && lime1.call_indirect_overlong() && lime1.bulk_memory_opt()
-    );
-    assert!(rt; !lime1.reference_types() && !lime1.bulk_memory() && !lime1.simd());
+    assert!(rt; is_mvp(WasmFeatures::MVP));
+    assert!(rt; is_wasm1(WasmFeatures::WASM1));
+    assert!(rt; is_wasm2(WasmFeatures::WASM2));
+    assert!(rt; is_wasm3(WasmFeatures::WASM3));
+    assert!(rt; is_usual(WasmFeatures::default()));
+    assert!(rt; is_lime1(WasmFeatures::LIME1));
+}
+
+fn has_bits(set: WasmFeatures, bits: u32) -> bool {
+    set.bits() == bits
+}
+
+// Whether the set of these bits is one that the library knows.
+fn is_known(bits: u32) -> bool {
+    WasmFeatures::from_bits(bits).is_some()
+}
+
+fn retains(bits: u32, first: WasmFeatures, second: WasmFeatures) -> bool {
+    WasmFeatures::from_bits_retain(bits) == first | second
 }
 
 #[test]
 fn names_have_their_bits(rt: HostRuntime) {
     assert_eq!(rt; WasmFeatures::FLAGS.len(), 24);
-    assert_eq!(rt; WasmFeatures::all().bits(), 0xff_ffff);
-    assert_eq!(rt; WasmFeatures::GC.bits(), 0x2_0000);
-    assert_eq!(rt; WasmFeatures::REFERENCE_TYPES.bits(), 0x40_0008);
-    assert_eq!(rt; WasmFeatures::BULK_MEMORY.bits(), 0x80_0020);
+    let sets = [
+        (WasmFeatures::all(), 0xff_ffff),
+        (WasmFeatures::GC, 0x2_0000),
+        (WasmFeatures::REFERENCE_TYPES, 0x40_0008),
+        (WasmFeatures::BULK_MEMORY, 0x80_0020),
+    ];
+    for (set, bits) in sets {
+        assert!(rt; has_bits(set, bits));
+    }
     assert!(rt; WasmFeatures::from_name("TAIL_CALL") == Some(WasmFeatures::TAIL_CALL));
     assert!(rt; WasmFeatures::from_name("tail_call").is_none());
-    assert!(rt; WasmFeatures::from_bits(1 << 24).is_none());
-    assert!(rt;
-        WasmFeatures::from_bits_retain(3)
-            == WasmFeatures::MUTABLE_GLOBAL | WasmFeatures::SATURATING_FLOAT_TO_INT
+    assert!(rt; !is_known(1 << 24));
+    let (first, second) = (
+        WasmFeatures::MUTABLE_GLOBAL,
+        WasmFeatures::SATURATING_FLOAT_TO_INT,
     );
+    assert!(rt; retains(3, first, second));
+}
+
+// The operations over two sets of one feature each.
+fn agree(simd: WasmFeatures, gc: WasmFeatures) -> bool {
+    let both = simd.union(gc);
+    both.contains(gc)
+        && !both.contains(WasmFeatures::REFERENCE_TYPES)
+        && both.intersects(simd | WasmFeatures::THREADS)
+        && both & gc == gc
+        && both - gc == simd
+        && both ^ gc == simd
+        && (!both).complement() == both
+        && both.intersection(WasmFeatures::THREADS).is_empty()
+        && both.difference(both) == WasmFeatures::empty()
+        && both.symmetric_difference(simd) == gc
+}
+
+// The calls that change the empty set by one feature.
+fn change_by_name(features: &mut WasmFeatures) -> bool {
+    features.insert(WasmFeatures::BULK_MEMORY);
+    features.remove(WasmFeatures::BULK_MEMORY_OPT);
+    let is_half = features.bits() == 1 << 5 && !features.bulk_memory();
+    features.toggle(WasmFeatures::BULK_MEMORY);
+    let is_other_half = *features == WasmFeatures::BULK_MEMORY_OPT;
+    features.set(WasmFeatures::MEMORY64, true);
+    is_half && is_other_half && features.memory64()
+}
+
+fn change_by_operator(features: &mut WasmFeatures) {
+    *features |= WasmFeatures::GC;
+    *features &= WasmFeatures::GC | WasmFeatures::SIMD;
+    *features ^= WasmFeatures::SIMD;
+    *features -= WasmFeatures::GC;
 }
 
 #[test]
 fn operations_are_those_of_sets(rt: HostRuntime) {
-    let both = WasmFeatures::SIMD.union(WasmFeatures::GC);
-    assert!(rt; both.contains(WasmFeatures::GC) && !both.contains(WasmFeatures::REFERENCE_TYPES));
-    assert!(rt; both.intersects(WasmFeatures::SIMD | WasmFeatures::THREADS));
-    assert!(rt;
-        both & WasmFeatures::GC == WasmFeatures::GC && both - WasmFeatures::GC == WasmFeatures::SIMD
-    );
-    assert!(rt; both ^ WasmFeatures::GC == WasmFeatures::SIMD && (!both).complement() == both);
-    assert!(rt; both.intersection(WasmFeatures::THREADS).is_empty());
-    assert!(rt; both.difference(both) == WasmFeatures::empty());
-    assert!(rt; both.symmetric_difference(WasmFeatures::SIMD) == WasmFeatures::GC);
+    assert!(rt; agree(WasmFeatures::SIMD, WasmFeatures::GC));
     let mut features = WasmFeatures::empty();
-    features.insert(WasmFeatures::BULK_MEMORY);
-    features.remove(WasmFeatures::BULK_MEMORY_OPT);
-    assert!(rt; features.bits() == 1 << 5 && !features.bulk_memory());
-    features.toggle(WasmFeatures::BULK_MEMORY);
-    assert!(rt; features == WasmFeatures::BULK_MEMORY_OPT);
-    features.set(WasmFeatures::MEMORY64, true);
-    assert!(rt; features.memory64());
-    features |= WasmFeatures::GC;
-    features &= WasmFeatures::GC | WasmFeatures::SIMD;
-    features ^= WasmFeatures::SIMD;
-    features -= WasmFeatures::GC;
+    assert!(rt; change_by_name(&mut features));
+    change_by_operator(&mut features);
     assert!(rt; features == WasmFeatures::SIMD);
 }
 

@@ -10,6 +10,16 @@ pub(crate) fn reader_at(bytes: &[u8], offset: u32) -> BinaryReader<'_> {
     BinaryReader::new(bytes, u64::from(offset))
 }
 
+// Whether these bytes are read next.
+fn reads_bytes(reader: &mut BinaryReader<'_>, wanted: &[u8]) -> Result<bool> {
+    Ok(reader.read_bytes(wanted.len())? == wanted)
+}
+
+// Whether the last byte is this, as it is looked at and as it is read.
+fn ends_in(reader: &mut BinaryReader<'_>, byte: u8) -> Result<bool> {
+    Ok(reader.is_end_then_eof() && reader.peek()? == byte && reader.read_u7()? == byte)
+}
+
 #[test]
 fn fixed_widths(rt: HostRuntime) -> std::result::Result<(), Fail> {
     let mut reader = reader_at(b"\0asm\x01\0\0\0\x0b", 0);
@@ -18,10 +28,8 @@ fn fixed_widths(rt: HostRuntime) -> std::result::Result<(), Fail> {
         refused(reader.read_u64()),
         Some((ErrorKind::EndOfFile(3), 4))
     );
-    assert_eq!(rt; reader.read_bytes(4)?, [1, 0, 0, 0].as_slice());
-    assert!(rt; reader.is_end_then_eof());
-    assert_eq!(rt; reader.peek()?, 0x0b);
-    assert_eq!(rt; reader.read_u7()?, 0x0b);
+    assert!(rt; reads_bytes(&mut reader, &[1, 0, 0, 0])?);
+    assert!(rt; ends_in(&mut reader, 0x0b)?);
     Ok(())
 }
 
@@ -40,11 +48,15 @@ fn floats(rt: HostRuntime) -> std::result::Result<(), Fail> {
     Ok(())
 }
 
+// Whether these two texts are read next.
+fn reads_names(reader: &mut BinaryReader<'_>, first: &str, second: &str) -> Result<bool> {
+    Ok(reader.read_string()? == first && reader.read_unlimited_string()? == second)
+}
+
 #[test]
 fn names(rt: HostRuntime) -> std::result::Result<(), Fail> {
     let mut reader = reader_at(b"\x04name\x03\xe2\x82\xac", 100);
-    assert_eq!(rt; reader.read_string()?, "name");
-    assert_eq!(rt; reader.read_unlimited_string()?, "\u{20ac}");
+    assert!(rt; reads_names(&mut reader, "name", "\u{20ac}")?);
     assert_eq!(rt; reader.original_position(), 109);
     reader_at(b"\x04name", 0).skip_string()?;
     Ok(())
@@ -76,16 +88,25 @@ fn first_version(bytes: &[u8]) -> BinaryReader<'_> {
     BinaryReader::new_features(bytes, 1000, WasmFeatures::MVP)
 }
 
+// Whether the reader of the first version is of the bytes between these places.
+fn spans(reader: &BinaryReader<'_>, start: u64, end: u64) -> bool {
+    let range = reader.range();
+    range.start == start && range.end == end && reader.features() == WasmFeatures::MVP
+}
+
+// Whether so many bytes are read and left, and what is left begins at this place.
+fn stands_at(reader: &BinaryReader<'_>, read: usize, left: usize, place: u64) -> bool {
+    reader.current_position() == read
+        && reader.bytes_remaining() == left
+        && reader.shrink().original_position() == place
+}
+
 #[test]
 fn windows(rt: HostRuntime) -> std::result::Result<(), Fail> {
     let mut reader = first_version(&[0x02, 0x80, 0x01, 0x7f]);
     let inner = reader.read_reader()?;
-    assert_eq!(rt; inner.range().start, 1001);
-    assert_eq!(rt; inner.range().end, 1003);
-    assert_eq!(rt; inner.features(), WasmFeatures::MVP);
-    assert_eq!(rt; reader.current_position(), 3);
-    assert_eq!(rt; reader.bytes_remaining(), 1);
-    assert_eq!(rt; reader.shrink().original_position(), 1003);
+    assert!(rt; spans(&inner, 1001, 1003));
+    assert!(rt; stands_at(&reader, 3, 1, 1003));
     Ok(())
 }
 
@@ -111,7 +132,7 @@ fn skipped_bytes(rt: HostRuntime) -> std::result::Result<(), Fail> {
         r.read_var_u32()?;
         Ok(())
     })?;
-    assert_eq!(rt; skipped.read_bytes(3)?, [0x02, 0x80, 0x01].as_slice());
+    assert!(rt; reads_bytes(&mut skipped, &[0x02, 0x80, 0x01])?);
     assert_eq!(rt; reader.current_position(), 3);
     let back = reader.skip(|r| {
         *r = BinaryReader::new(&[0x7f], 7);

@@ -5,91 +5,144 @@ use wasm_ref_types::{
     AbstractHeapType, CoreTypeId, HeapType, PackedIndex, RefType, UnpackedIndex, ValType,
 };
 
+// The index that is packed and unpacked again.
+fn packed_and_back(index: UnpackedIndex) -> Option<UnpackedIndex> {
+    match index.pack() {
+        Some(packed) => Some(packed.unpack()),
+        None => None,
+    }
+}
+
+// Whether no packed index has the number of the id.
+fn is_too_large(id: CoreTypeId, number: u32) -> bool {
+    PackedIndex::from_module_index(number).is_none()
+        && PackedIndex::from_rec_group_index(number).is_none()
+        && PackedIndex::from_id(id).is_none()
+        && UnpackedIndex::Id(id).pack().is_none()
+}
+
 #[test]
-fn indices_of_20_bits(rt: HostRuntime) -> Result<(), Fail> {
+fn indices_of_20_bits(rt: HostRuntime) {
     let last = UnpackedIndex::RecGroup(1_048_575);
-    assert_eq!(rt; last.pack().map(|index| index.unpack()), Some(last));
-    assert_eq!(rt; PackedIndex::from_module_index(1_048_576).is_none(), true);
-    assert_eq!(rt;
-        PackedIndex::from_rec_group_index(1_048_576).is_none(),
-        true
-    );
+    assert_eq!(rt; packed_and_back(last), Some(last));
     let id = CoreTypeId::from_index(1_048_576);
-    assert_eq!(rt; PackedIndex::from_id(id).is_none(), true);
-    assert_eq!(rt; UnpackedIndex::Id(id).pack().is_none(), true);
+    assert!(rt; is_too_large(id, 1_048_576));
     assert_eq!(rt; id.index(), 1_048_576);
-    Ok(())
+}
+
+// Whether packed indices of this number rise by their kind.
+fn kinds_rise(number: u32) -> Option<bool> {
+    let module = PackedIndex::from_module_index(number)?;
+    let group = PackedIndex::from_rec_group_index(number)?;
+    let core = PackedIndex::from_id(CoreTypeId::from_index(number))?;
+    Some(module < group && group < core)
 }
 
 #[test]
-fn kinds_of_indices(rt: HostRuntime) -> Result<(), Fail> {
-    let id = CoreTypeId::from_index(4);
-    let (Some(module), Some(group), Some(core)) = (
-        PackedIndex::from_module_index(4),
-        PackedIndex::from_rec_group_index(4),
-        PackedIndex::from_id(id),
-    ) else {
-        return Ok(());
-    };
-    assert_eq!(rt; module < group, true);
-    assert_eq!(rt; group < core, true);
-    Ok(())
+fn kinds_of_indices(rt: HostRuntime) {
+    assert_eq!(rt; kinds_rise(4), Some(true));
+}
+
+// The numbers that an index has, by its kind.
+type Numbers = (Option<u32>, Option<u32>, Option<CoreTypeId>);
+
+fn has_numbers(index: UnpackedIndex, (module, group, core): Numbers) -> bool {
+    index.as_module_index() == module
+        && index.as_rec_group_index() == group
+        && index.as_core_type_id() == core
+        && index.is_canonical() == core.is_some()
+}
+
+fn has_numbers_packed(packed: PackedIndex, (module, group, core): Numbers) -> bool {
+    packed.as_module_index() == module
+        && packed.as_rec_group_index() == group
+        && packed.as_core_type_id() == core
+        && packed.is_canonical() == core.is_some()
 }
 
 #[test]
-fn numbers_of_indices(rt: HostRuntime) -> Result<(), Fail> {
+fn numbers_of_indices(rt: HostRuntime) {
     let id = CoreTypeId::from_index(4);
     let kinds = [
         (UnpackedIndex::Module(4), (Some(4), None, None)),
         (UnpackedIndex::RecGroup(4), (None, Some(4), None)),
         (UnpackedIndex::Id(id), (None, None, Some(id))),
     ];
-    for (index, (module, group, core)) in kinds {
-        assert_eq!(rt; index.as_module_index(), module);
-        assert_eq!(rt; index.as_rec_group_index(), group);
-        assert_eq!(rt; index.as_core_type_id(), core);
-        assert_eq!(rt; index.is_canonical(), core.is_some());
-        let Some(packed) = index.pack() else {
-            return Ok(());
-        };
-        assert_eq!(rt; packed.as_module_index(), module);
-        assert_eq!(rt; packed.as_rec_group_index(), group);
-        assert_eq!(rt; packed.as_core_type_id(), core);
-        assert_eq!(rt; packed.is_canonical(), core.is_some());
+    for (index, numbers) in kinds {
+        assert!(rt; has_numbers(index, numbers));
+        assert!(rt;
+            match index.pack() {
+                Some(packed) => has_numbers_packed(packed, numbers),
+                None => false,
+            }
+        );
     }
-    Ok(())
+}
+
+// The index of this number in a module, of which a test's proof is to know nothing.
+fn index_of(number: u32) -> Result<PackedIndex, Fail> {
+    match PackedIndex::from_module_index(number) {
+        Some(index) => Ok(index),
+        None => Err("no index")?,
+    }
+}
+
+fn is_concrete(ty: RefType, index: PackedIndex) -> bool {
+    ty.is_nullable()
+        && ty.type_index() == Some(index)
+        && ty.is_concrete_type_ref()
+        && !ty.is_exact_type_ref()
 }
 
 #[test]
 fn a_concrete_reference(rt: HostRuntime) -> Result<(), Fail> {
-    let index = PackedIndex::from_module_index(983_040).ok_or("no index")?;
-    let ty = RefType::concrete(true, index);
-    assert_eq!(rt; ty.is_nullable(), true);
-    assert_eq!(rt; ty.type_index(), Some(index));
-    assert_eq!(rt; ty.is_concrete_type_ref(), true);
-    assert_eq!(rt; ty.is_exact_type_ref(), false);
-    assert_eq!(rt; RefType::exact(true, index).is_exact_type_ref(), true);
+    let index = index_of(983_040)?;
+    assert!(rt; is_concrete(RefType::concrete(true, index), index));
+    assert!(rt; RefType::exact(true, index).is_exact_type_ref());
     Ok(())
+}
+
+// Whether the nullable reference has this other form, and neither a shared one.
+fn has_forms(ty: RefType, non_null: RefType) -> bool {
+    ty.as_non_null() == non_null && non_null.nullable() == ty && ty.shared().is_none()
+}
+
+// A heap type of this index in a module.
+fn heap_of(number: u32) -> HeapType {
+    HeapType::Concrete(UnpackedIndex::Module(number))
 }
 
 #[test]
 fn forms_of_a_reference(rt: HostRuntime) -> Result<(), Fail> {
-    let index = PackedIndex::from_module_index(983_040).ok_or("no index")?;
+    let index = index_of(983_040)?;
     let ty = RefType::concrete(true, index);
-    assert_eq!(rt; ty.as_non_null(), RefType::concrete(false, index));
-    assert_eq!(rt; ty.as_non_null().nullable(), ty);
-    assert_eq!(rt; ty.shared(), None);
-    assert_eq!(rt;
-        ty.heap_type(),
-        HeapType::Concrete(UnpackedIndex::Module(983_040))
-    );
-    let wide = HeapType::Concrete(UnpackedIndex::Module(1_048_576));
-    assert_eq!(rt; RefType::new(true, wide), None);
+    assert!(rt; has_forms(ty, RefType::concrete(false, index)));
+    assert!(rt; ty.heap_type() == heap_of(983_040));
+    assert!(rt; RefType::new(true, heap_of(1_048_576)).is_none());
     Ok(())
 }
 
+// Whether it is a function, an external one, an array, a structure, a continuation, or none.
+type Kinds = (bool, bool, bool, bool, bool, bool);
+
+fn is_of_kinds(ty: RefType, (func, external, array, structure, cont, none): Kinds) -> bool {
+    ty.is_func_ref() == func
+        && ty.is_extern_ref() == external
+        && ty.is_array_ref() == array
+        && ty.is_struct_ref() == structure
+        && ty.is_cont_ref() == cont
+        && ty.is_none_ref() == none
+}
+
+fn is_function(ty: Option<RefType>) -> bool {
+    match ty {
+        Some(ty) => ty.is_func_ref(),
+        None => false,
+    }
+}
+
 #[test]
-fn abstract_references(rt: HostRuntime) -> Result<(), Fail> {
+fn abstract_references(rt: HostRuntime) {
     let types = [
         (RefType::FUNCREF, (true, false, false, false, false, false)),
         (RefType::EXTERN, (false, true, false, false, false, false)),
@@ -102,61 +155,64 @@ fn abstract_references(rt: HostRuntime) -> Result<(), Fail> {
             (false, false, false, false, false, false),
         ),
     ];
-    for (ty, (func, external, array, structure, cont, none)) in types {
-        assert_eq!(rt; ty.is_func_ref(), func);
-        assert_eq!(rt; ty.is_extern_ref(), external);
-        assert_eq!(rt; ty.is_array_ref(), array);
-        assert_eq!(rt; ty.is_struct_ref(), structure);
-        assert_eq!(rt; ty.is_cont_ref(), cont);
-        assert_eq!(rt; ty.is_none_ref(), none);
+    for (ty, kinds) in types {
+        assert!(rt; is_of_kinds(ty, kinds));
     }
-    assert_eq!(rt;
-        RefType::FUNC.shared().map(|ty| ty.is_func_ref()),
-        Some(true)
-    );
-    assert_eq!(rt; RefType::ANYREF.type_index(), None);
-    Ok(())
+    assert!(rt; is_function(RefType::FUNC.shared()));
+    assert!(rt; RefType::ANYREF.type_index().is_none());
 }
 
 #[test]
-fn differences(rt: HostRuntime) -> Result<(), Fail> {
-    assert_eq!(rt;
-        RefType::difference(RefType::ANYREF, RefType::NULLREF),
-        RefType::ANY
-    );
-    assert_eq!(rt;
-        RefType::difference(RefType::ANYREF, RefType::I31),
-        RefType::ANYREF
-    );
-    assert_eq!(rt;
-        RefType::difference(RefType::ANY, RefType::NULLREF),
-        RefType::ANY
-    );
-    Ok(())
+fn differences(rt: HostRuntime) {
+    let rows = [
+        (RefType::ANYREF, RefType::NULLREF, RefType::ANY),
+        (RefType::ANYREF, RefType::I31, RefType::ANYREF),
+        (RefType::ANY, RefType::NULLREF, RefType::ANY),
+    ];
+    for (whole, part, left) in rows {
+        assert!(rt; RefType::difference(whole, part) == left);
+    }
+}
+
+// Whether each is lower than the next.
+fn rise(types: &[RefType]) -> bool {
+    let mut last: Option<RefType> = None;
+    for ty in types {
+        if let Some(before) = last {
+            if !(before < *ty) {
+                return false;
+            }
+        }
+        last = Some(*ty);
+    }
+    true
+}
+
+fn references_rise(shared: RefType, first: PackedIndex, second: PackedIndex) -> bool {
+    rise(&[
+        RefType::FUNC,
+        RefType::NOCONT,
+        shared,
+        RefType::concrete(false, first),
+        RefType::concrete(false, second),
+        RefType::exact(false, first),
+        RefType::FUNCREF,
+    ])
 }
 
 #[test]
 fn the_order_of_references(rt: HostRuntime) -> Result<(), Fail> {
-    let first = PackedIndex::from_module_index(900).ok_or("no index")?;
-    let second = PackedIndex::from_rec_group_index(0).ok_or("no index")?;
-    let shared = RefType::FUNC.shared().ok_or("no type")?;
-    assert_eq!(rt; RefType::FUNC < RefType::NOCONT, true);
-    assert_eq!(rt; RefType::NOCONT < shared, true);
-    assert_eq!(rt; shared < RefType::concrete(false, first), true);
-    assert_eq!(rt;
-        RefType::concrete(false, first) < RefType::concrete(false, second),
-        true
-    );
-    assert_eq!(rt;
-        RefType::concrete(false, second) < RefType::exact(false, first),
-        true
-    );
-    assert_eq!(rt; RefType::exact(false, first) < RefType::FUNCREF, true);
+    let first = index_of(900)?;
+    let rises = match (RefType::FUNC.shared(), PackedIndex::from_rec_group_index(0)) {
+        (Some(shared), Some(second)) => references_rise(shared, first, second),
+        _ => false,
+    };
+    assert!(rt; rises);
     Ok(())
 }
 
 #[test]
-fn subtypes(rt: HostRuntime) -> Result<(), Fail> {
+fn subtypes(rt: HostRuntime) {
     let pairs = [
         (AbstractHeapType::None, AbstractHeapType::Any, true),
         (AbstractHeapType::I31, AbstractHeapType::Eq, true),
@@ -168,11 +224,16 @@ fn subtypes(rt: HostRuntime) -> Result<(), Fail> {
     for (small, large, below) in pairs {
         assert_eq!(rt; small.is_subtype_of(large), below);
     }
-    Ok(())
+}
+
+fn is_value(ty: ValType, reference: Option<RefType>, defaultable: bool) -> bool {
+    ty.is_reference_type() == reference.is_some()
+        && ty.as_reference_type() == reference
+        && ty.is_defaultable() == defaultable
 }
 
 #[test]
-fn value_types(rt: HostRuntime) -> Result<(), Fail> {
+fn value_types(rt: HostRuntime) {
     let types = [
         (ValType::FUNCREF, Some(RefType::FUNCREF), true),
         (ValType::CONTREF, Some(RefType::CONTREF), true),
@@ -180,9 +241,6 @@ fn value_types(rt: HostRuntime) -> Result<(), Fail> {
         (ValType::F64, None, true),
     ];
     for (ty, reference, defaultable) in types {
-        assert_eq!(rt; ty.is_reference_type(), reference.is_some());
-        assert_eq!(rt; ty.as_reference_type(), reference);
-        assert_eq!(rt; ty.is_defaultable(), defaultable);
+        assert!(rt; is_value(ty, reference, defaultable));
     }
-    Ok(())
 }

@@ -2,7 +2,6 @@
 
 use crate::faults::refused;
 use std::alloc::Global;
-use std::test::Fail;
 use wasm_reader::{BinaryReader, ErrorKind, Result, WasmFeatures};
 use wasm_ref_types::{AbstractHeapType, HeapType, PackedIndex, RefType, UnpackedIndex, ValType};
 
@@ -12,11 +11,21 @@ fn value(alloc: Global, features: WasmFeatures, bytes: &[u8]) -> Result<ValType>
 }
 
 fn reference(alloc: Global, bytes: &[u8]) -> Option<RefType> {
-    BinaryReader::new(bytes, 11).read(alloc).ok()
+    match BinaryReader::new(bytes, 11).read(alloc) {
+        Ok(ty) => Some(ty),
+        Err(_) => None,
+    }
 }
 
 fn heap(alloc: Global, bytes: &[u8]) -> Result<HeapType> {
     BinaryReader::new(bytes, 11).read(alloc)
+}
+
+fn is_abstract(alloc: Global, bytes: &[u8], ty: AbstractHeapType) -> bool {
+    match BinaryReader::new(bytes, 0).read::<AbstractHeapType>(alloc) {
+        Ok(read) => read == ty,
+        Err(_) => false,
+    }
 }
 
 fn module(index: u32) -> HeapType {
@@ -24,7 +33,7 @@ fn module(index: u32) -> HeapType {
 }
 
 #[test]
-fn numbers_and_vectors(rt: HostRuntime) -> std::result::Result<(), Fail> {
+fn numbers_and_vectors(rt: HostRuntime) {
     let types = [
         (0x7f, ValType::I32),
         (0x7e, ValType::I64),
@@ -33,16 +42,14 @@ fn numbers_and_vectors(rt: HostRuntime) -> std::result::Result<(), Fail> {
         (0x7b, ValType::V128),
     ];
     for (byte, ty) in types {
-        assert_eq!(rt;
-            value(rt.alloc(), WasmFeatures::MVP, &[byte]).ok(),
-            Some(ty)
+        assert!(rt;
+            matches!(value(rt.alloc(), WasmFeatures::MVP, &[byte]), Ok(read) if read == ty)
         );
     }
-    Ok(())
 }
 
 #[test]
-fn abstract_types(rt: HostRuntime) -> std::result::Result<(), Fail> {
+fn abstract_types(rt: HostRuntime) {
     let types = [
         (
             0x70,
@@ -98,44 +105,48 @@ fn abstract_types(rt: HostRuntime) -> std::result::Result<(), Fail> {
         ),
     ];
     for (byte, ty, nullable, non_null) in types {
-        let bytes = [byte];
-        let mut reader = BinaryReader::new(&bytes, 0);
-        let read: Result<AbstractHeapType> = reader.read(rt.alloc());
-        assert_eq!(rt; read.ok(), Some(ty));
-        assert_eq!(rt; reference(rt.alloc(), &[byte]), Some(nullable));
-        assert_eq!(rt; reference(rt.alloc(), &[0x63, byte]), Some(nullable));
-        assert_eq!(rt; reference(rt.alloc(), &[0x64, byte]), Some(non_null));
+        assert!(rt; is_abstract(rt.alloc(), &[byte], ty));
+        assert!(rt; reference(rt.alloc(), &[byte]) == Some(nullable));
+        assert!(rt; reference(rt.alloc(), &[0x63, byte]) == Some(nullable));
+        assert!(rt; reference(rt.alloc(), &[0x64, byte]) == Some(non_null));
         let shared = HeapType::Abstract { shared: true, ty };
-        assert_eq!(rt;
-            reference(rt.alloc(), &[0x65, byte]),
-            RefType::new(true, shared)
-        );
-        assert_eq!(rt;
-            reference(rt.alloc(), &[0x64, 0x65, byte]),
-            RefType::new(false, shared)
-        );
+        assert!(rt; reference(rt.alloc(), &[0x65, byte]) == RefType::new(true, shared));
+        assert!(rt; reference(rt.alloc(), &[0x64, 0x65, byte]) == RefType::new(false, shared));
     }
-    Ok(())
+}
+
+// The index that the reference of these bytes names.
+fn named(alloc: Global, bytes: &[u8]) -> Option<PackedIndex> {
+    match reference(alloc, bytes) {
+        Some(ty) => ty.type_index(),
+        None => None,
+    }
+}
+
+fn is_heap(alloc: Global, bytes: &[u8], index: u32) -> bool {
+    match heap(alloc, bytes) {
+        Ok(ty) => ty == module(index),
+        Err(_) => false,
+    }
 }
 
 #[test]
-fn indices(rt: HostRuntime) -> std::result::Result<(), Fail> {
+fn indices(rt: HostRuntime) {
     let alloc = rt.alloc();
-    let zero = RefType::new(false, module(0));
-    assert_eq!(rt; reference(alloc, &[0x64, 0x00]), zero);
-    assert_eq!(rt; heap(alloc, &[0x80, 0x00])?, module(0));
-    assert_eq!(rt;
-        reference(alloc, &[0x63, 0xac, 0x02]),
-        RefType::new(true, module(300))
-    );
-    assert_eq!(rt; heap(alloc, &[0xff, 0xff, 0x3f])?, module(1_048_575));
-    let five = reference(alloc, &[0x64, 0x05]).and_then(|ty| ty.type_index());
-    assert_eq!(rt; five, PackedIndex::from_module_index(5));
-    Ok(())
+    let rows: [(&[u8], bool, u32); 2] = [
+        (&[0x64, 0x00], false, 0),
+        (&[0x63, 0xac, 0x02], true, 300),
+    ];
+    for (bytes, nullable, index) in rows {
+        assert!(rt; reference(alloc, bytes) == RefType::new(nullable, module(index)));
+    }
+    assert!(rt; is_heap(alloc, &[0x80, 0x00], 0));
+    assert!(rt; is_heap(alloc, &[0xff, 0xff, 0x3f], 1_048_575));
+    assert!(rt; named(alloc, &[0x64, 0x05]) == PackedIndex::from_module_index(5));
 }
 
 #[test]
-fn features_that_are_off(rt: HostRuntime) -> std::result::Result<(), Fail> {
+fn features_that_are_off(rt: HostRuntime) {
     let shared = ErrorKind::Feature(WasmFeatures::SHARED_EVERYTHING_THREADS);
     let forms: [(&[u8], u64); 2] = [(&[0x65, 0x70], 11), (&[0x63, 0x65, 0x00], 12)];
     for (bytes, place) in forms {
@@ -150,16 +161,12 @@ fn features_that_are_off(rt: HostRuntime) -> std::result::Result<(), Fail> {
         assert_eq!(rt; refused(outcome), Some((types, 11)));
     }
     for byte in [0x70, 0x6f, 0x69] {
-        assert_eq!(rt;
-            value(rt.alloc(), WasmFeatures::FLOATS, &[byte]).is_ok(),
-            true
-        );
+        assert!(rt; value(rt.alloc(), WasmFeatures::FLOATS, &[byte]).is_ok());
     }
-    Ok(())
 }
 
 #[test]
-fn faults_of_values(rt: HostRuntime) -> std::result::Result<(), Fail> {
+fn faults_of_values(rt: HostRuntime) {
     let faults: [(&[u8], ErrorKind, u64); 9] = [
         (&[], ErrorKind::EndOfFile(1), 11),
         (&[0x63], ErrorKind::EndOfFile(1), 12),
@@ -175,12 +182,11 @@ fn faults_of_values(rt: HostRuntime) -> std::result::Result<(), Fail> {
         let outcome = value(rt.alloc(), WasmFeatures::all(), bytes);
         assert_eq!(rt; refused(outcome), Some((kind, place)));
     }
-    Ok(())
 }
 
 // A padded `func` is no byte of an abstract type, and exact types have no bytes.
 #[test]
-fn faults_of_heap_types(rt: HostRuntime) -> std::result::Result<(), Fail> {
+fn faults_of_heap_types(rt: HostRuntime) {
     let faults: [(&[u8], ErrorKind, u64); 3] = [
         (&[0xf0, 0x7f], ErrorKind::BadByte, 11),
         (&[0x62, 0x00], ErrorKind::BadByte, 11),
@@ -193,5 +199,4 @@ fn faults_of_heap_types(rt: HostRuntime) -> std::result::Result<(), Fail> {
     for (bytes, kind, place) in faults {
         assert_eq!(rt; refused(heap(rt.alloc(), bytes)), Some((kind, place)));
     }
-    Ok(())
 }
