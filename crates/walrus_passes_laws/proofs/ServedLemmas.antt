@@ -66,7 +66,7 @@ use Rattle.walrus_used.proofs.LooksLemmas.{none_in, first_in, only_in, cases_in}
 use Rattle.walrus_passes.specs.walrus_refusals.Asked.{IsBrought, IsWholeIn, HasBody, Linked}
 use Rattle.walrus_passes.specs.walrus_refusals.Sound.{AllReached, IsRefused, HasForm}
 use Rattle.walrus_passes.specs.walrus_refusals.Written.{StaysInGroup, IsUnshared, HasNoExact}
-use Rattle.walrus_passes_laws.specs.Served.{GroupsAreWritten, PushesLive, LiveIsServed, LinkedIsServed, LinkedAreServed}
+use Rattle.walrus_passes_laws.specs.Served.{GroupsAreWritten, PushesLive, LiveIsServed, LinkedAreServed}
 use Rattle.walrus_passes_laws.proofs.BodyLemmas.{split}
 use Rattle.walrus_passes_laws.proofs.WalkLemmas.{join_left, join_right, body_told}
 use Rattle.walrus_passes_laws.proofs.LinkedLemmas.{types_told, functions_told}
