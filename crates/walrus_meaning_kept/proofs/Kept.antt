@@ -1,6 +1,6 @@
 -- References of a module, and what is kept of it, as of what it means.
-use Rattle.std.proofs.Common.{◌≡◌, ◌∙◌, ◌⊎◌, ◌↔◌, ℕ, List, Option, Some, None, Contains, IsSome, refl, sym, ap, subst, inl, inr, arith}
-use Rattle.std.specs.Prelude.{MatchOption}
+use Rattle.std.proofs.Common.{◌≡◌, ◌∙◌, ◌⊎◌, ◌↔◌, ℕ, List, ◌<◌, Bool, map, Option, Some, None, Contains, IsSome, refl, sym, ap, subst, inl, inr, arith}
+use Rattle.std.specs.Prelude.{Decides, MatchOption}
 use Rattle.std.specs.HashSet.{keys}
 use Rattle.std.specs.Option.{option_map}
 use Rattle.wasm_references.specs.wasm_formats.declared.fault.Space.{Space}
@@ -10,6 +10,7 @@ use Rattle.wasm_references.specs.References as abstract
 use Rattle.wasm_references.specs.Roots as roots
 use Rattle.wasm_references.specs.Kept as kept
 use Rattle.walrus_arena.specs.Arena.{Arena, item_at, IsLive}
+use Rattle.walrus_walks.specs.walrus_types.Table.{Table as TypeTable}
 use Rattle.walrus_walks.specs.walrus_types.TypeLaws.{AreGrouped}
 use Rattle.walrus_walks.specs.ConstEvents.{ExprsTellOps}
 use Rattle.walrus_walks.specs.Plain.{HeldAreNested, WalkIsPlain}
@@ -17,7 +18,13 @@ use Rattle.walrus_tree.specs.TextLaws.{TreesAreNested}
 use Rattle.walrus_walks.specs.walrus_instr.declared.const_expr.ConstExpr.{ConstExpr}
 use Rattle.walrus_marks.specs.Chains.{root, refers}
 use Rattle.walrus_meaning.specs.walrus_module.Parts.{Module}
-use Rattle.walrus_meaning.specs.walrus_module.Items.{given_out}
+use Rattle.walrus_meaning.specs.walrus_module.Items.{brought, given_out}
+use Rattle.walrus_passes_laws.specs.walrus_references.walrus_module_items.declared.import.Import.{Import}
+use Rattle.walrus_passes_laws.specs.walrus_references.walrus_module_items.declared.import.ImportKind.{ImportKind}
+use Rattle.walrus_passes_laws.specs.walrus_references.walrus_module_items.declared.import.ImportKind.TheVariants as kinds
+use Rattle.walrus_passes_laws.specs.walrus_references.walrus_module_items.declared.function.Function.{Function}
+use Rattle.walrus_passes_laws.specs.walrus_references.walrus_module_items.declared.function.FunctionKind.{FunctionKind}
+use Rattle.walrus_passes_laws.specs.walrus_references.walrus_module_items.declared.function.FunctionKind.TheVariants as functions
 use Rattle.walrus_passes_laws.specs.walrus_references.walrus_module_items.declared.table.Table.{Table}
 use Rattle.walrus_passes_laws.specs.walrus_references.walrus_module_items.declared.memory.Memory.{Memory}
 use Rattle.walrus_passes_laws.specs.walrus_references.walrus_module_items.declared.data.Data.{Data}
@@ -30,10 +37,18 @@ use Rattle.walrus_passes_laws.specs.walrus_references.walrus_module_items.declar
 use Rattle.walrus_passes_laws.specs.walrus_references.walrus_module_items.declared.export.ExportItem.TheVariants as exported
 use Rattle.walrus_roots.specs.declared.item.Item.{Item}
 use Rattle.walrus_roots.specs.Items.{item, space_number}
-use Rattle.walrus_meaning.specs.walrus_linked.Linked.{IsLinked}
+use Rattle.walrus_meaning.specs.walrus_linked.Linked.{IsLinked, IsWhole}
 use Rattle.walrus_passes_laws.specs.walrus_references.References.{Refers, RefersIn, Named, named_by, table_items, global_items, tag_items, element_items, data_items, HasElement, HasData, IsActiveIn, IsCopiedInto}
 use Rattle.walrus_passes_laws.specs.walrus_references.Roots.{Root, exports, starts, is_active, fills_import, declares, is_pushed}
 use Rattle.walrus_passes_laws.specs.walrus_references.Kept.{IsReached, IsSpared, Kept}
+use Rattle.walrus_passes_laws.specs.walrus_references.Refused.{HasTree, IsTreeIn}
+use Rattle.walrus_passes_laws.specs.walrus_refusals.Asked.{HasBody, IsWholeIn}
+use Rattle.walrus_passes_laws.specs.walrus_refusals.Sound.{IsSound}
+use Rattle.walrus_passes_laws.specs.walrus_passes.Part.{IsPart, Rest}
+use Rattle.walrus_passes_laws.specs.walrus_passes.UsedItems.{HasJust}
+use Rattle.walrus_passes_laws.specs.walrus_passes.declared.used.Used.{Used}
+use Rattle.walrus_passes.proofs.RestLemmas.{rest_as}
+use Rattle.walrus_passes.proofs.TypeLemmas.{types_as}
 use Rattle.walrus_passes_laws.specs.Served.{GroupsAreWritten}
 use Rattle.walrus_meaning.specs.Words.{own_expr}
 use Rattle.walrus_meaning.specs.Meaning.{slots_of, means, own_given, own_export, own_function, own_table, own_memory, own_global, own_tag, own_element, own_element_mode, own_segment, own_data_mode}
@@ -41,12 +56,13 @@ use Rattle.walrus_meaning.proofs.MeaningLemmas.{items_seen}
 use Rattle.walrus_meaning_refs.specs.Items.{own_item, own_items}
 use Rattle.walrus_meaning_refs.specs.Bodies.{BodiesNameWhatIsTold}
 use Rattle.walrus_meaning_refs.specs.Locals.{type_of_local}
-use Rattle.walrus_meaning_kept.specs.Meant.{meant, function_parts, listed_elements, listed_data, IsShared, RefersThrough, ReferencesAreMeant, KeptIsMeant}
+use Rattle.walrus_meaning_kept.specs.Meant.{meant, function_parts, listed_elements, listed_data, GroupIsWritten, IsPlainIn, IsShared, PushesShared, RefersThrough, ReferencesAreMeant, IsKeptMeant, KeptIsMeant, PassesKeepWhatIsMeant}
 use Rattle.walrus_meaning_kept.proofs.Functions.{meant_items, function_forth, function_through, function_back}
 use Rattle.walrus_meaning_refs.proofs.Items.{table_meant, global_meant, segment_meant, element_meant}
 use Rattle.walrus_meaning_kept.proofs.Low.{low_at, named_are_low}
 use Rattle.walrus_meaning_kept.proofs.Owned.{item_of, owned_forth, owned_back}
 use Rattle.walrus_meaning_kept.proofs.Types.{type_forth, type_back}
+use Rattle.walrus_meaning_refs.proofs.Sets.{in_of, contains_of, map_in}
 
 -- ---- what is there is seen
 
@@ -175,7 +191,7 @@ is_local spaces.Label = inr (λ e. (let same = ap space_number e in omega (arith
 not_function : (s : Space) → (space_number s ≡ 1 → ⊥) → s ≡ spaces.Function → ⊥
 not_function s other e = other (ap space_number e)
 
-module _ (plain : WalkIsPlain) (nested : HeldAreNested) (trees : TreesAreNested) (tell : ExprsTellOps) (told : BodiesNameWhatIsTold) (m : Module) (linked : IsLinked m) (grouped : AreGrouped m.types) (written : GroupsAreWritten m.types) where
+module _ (plain : WalkIsPlain) (nested : HeldAreNested) (trees : TreesAreNested) (tell : ExprsTellOps) (told : BodiesNameWhatIsTold) (m : Module) (grouped : AreGrouped m.types) where
   abbrev MeantIn : Space → ℕ → Item → Type 0
   MeantIn s id y = abstract.RefersIn (meant m) s id (own_item y)
 
@@ -186,63 +202,63 @@ module _ (plain : WalkIsPlain) (nested : HeldAreNested) (trees : TreesAreNested)
   from_slot : (id : ℕ) (y : Item) → MeantIn spaces.Function id y → Contains (meant_items m.locals (item_at m.funcs id)) (own_item y)
   from_slot id y c = subst (λ (o : Option grammar.Function). Contains (abstract.named_by (abstract.function_items (type_of_local m.locals) (function_parts (item_at m.funcs id))) o) (own_item y)) (sym (seen_at (own_function m.locals) m.funcs id)) c
 
-  refers_forth : (s : Space) (id : ℕ) (y : Item) → (s ≡ spaces.Local → ⊥) → (s ≡ spaces.Function → IsShared y) → RefersIn m s id y → MeantIn s id y
-  refers_forth spaces.«Type» id y other shared h = type_forth m.types grouped written (meant m) refl refl id y h
-  refers_forth spaces.Function id y other shared h = at_slot id y (function_forth plain nested trees told m.types m.locals (item_at m.funcs id) (λ f e. linked.whole id f e) y (shared refl) h)
-  refers_forth spaces.Table id y other shared (inl c) = inl ((items_seen_at own_table m.tables table_items abstract.table_items (table_meant tell) id y).0 c)
-  refers_forth spaces.Table id y other shared (inr h) = inr (there_forth m own_table m.tables id (λ t. HasElement m id t y) (abstract.HasElement (meant m) id (own_item y)) (λ t at. element_forth m id t at y) h)
-  refers_forth spaces.Memory id y other shared h = there_forth m own_memory m.memories id (λ x. HasData m id x y) (abstract.HasData (meant m) id (own_item y)) (λ x at. data_forth m id x at y) h
-  refers_forth spaces.Global id y other shared c = (items_seen_at own_global m.globals global_items abstract.global_items (global_meant tell) id y).0 c
-  refers_forth spaces.Tag id y other shared c = (items_seen_at own_tag m.tags tag_items abstract.tag_items (λ t. refl) id y).0 c
-  refers_forth spaces.Element id y other shared c = (items_seen_at own_element m.elements element_items abstract.element_items (element_meant tell) id y).0 c
-  refers_forth spaces.Data id y other shared c = (items_seen_at own_segment m.data_segments (λ (d : Data). data_items d.kind) abstract.segment_items (segment_meant tell) id y).0 c
-  refers_forth spaces.Local id y other shared h = absurd (other refl)
-  refers_forth spaces.Label id y other shared h = absurd h
+  refers_forth : (s : Space) (id : ℕ) (y : Item) → IsPlainIn m s id → (s ≡ spaces.Local → ⊥) → (s ≡ spaces.Function → IsShared y) → RefersIn m s id y → MeantIn s id y
+  refers_forth spaces.«Type» id y plain_at other shared h = type_forth m.types grouped (meant m) refl refl id y (plain_at.grouped refl) h
+  refers_forth spaces.Function id y plain_at other shared h = at_slot id y (function_forth plain nested trees told m.types m.locals (item_at m.funcs id) (plain_at.whole refl) y (shared refl) h)
+  refers_forth spaces.Table id y plain_at other shared (inl c) = inl ((items_seen_at own_table m.tables table_items abstract.table_items (table_meant tell) id y).0 c)
+  refers_forth spaces.Table id y plain_at other shared (inr h) = inr (there_forth m own_table m.tables id (λ t. HasElement m id t y) (abstract.HasElement (meant m) id (own_item y)) (λ t at. element_forth m id t at y) h)
+  refers_forth spaces.Memory id y plain_at other shared h = there_forth m own_memory m.memories id (λ x. HasData m id x y) (abstract.HasData (meant m) id (own_item y)) (λ x at. data_forth m id x at y) h
+  refers_forth spaces.Global id y plain_at other shared c = (items_seen_at own_global m.globals global_items abstract.global_items (global_meant tell) id y).0 c
+  refers_forth spaces.Tag id y plain_at other shared c = (items_seen_at own_tag m.tags tag_items abstract.tag_items (λ t. refl) id y).0 c
+  refers_forth spaces.Element id y plain_at other shared c = (items_seen_at own_element m.elements element_items abstract.element_items (element_meant tell) id y).0 c
+  refers_forth spaces.Data id y plain_at other shared c = (items_seen_at own_segment m.data_segments (λ (d : Data). data_items d.kind) abstract.segment_items (segment_meant tell) id y).0 c
+  refers_forth spaces.Local id y plain_at other shared h = absurd (other refl)
+  refers_forth spaces.Label id y plain_at other shared h = absurd h
 
   -- functions alone name locals
-  none_through : (s : Space) (id l : ℕ) → (s ≡ spaces.Local → ⊥) → (s ≡ spaces.Function → ⊥) → RefersIn m s id (item spaces.Local l) → ⊥
-  none_through s id l other apart h = named_are_low (meant m) (abstract.item s id) (own_item (item spaces.Local l)) (refers_forth s id (item spaces.Local l) other (λ e. absurd (apart e)) h) refl
+  none_through : (s : Space) (id l : ℕ) → IsPlainIn m s id → (s ≡ spaces.Local → ⊥) → (s ≡ spaces.Function → ⊥) → RefersIn m s id (item spaces.Local l) → ⊥
+  none_through s id l plain_at other apart h = named_are_low (meant m) (abstract.item s id) (own_item (item spaces.Local l)) (refers_forth s id (item spaces.Local l) plain_at other (λ e. absurd (apart e)) h) refl
 
-  refers_through : (s : Space) (id l : ℕ) (y : Item) → (s ≡ spaces.Local → ⊥) → RefersIn m s id (item spaces.Local l) → RefersIn m spaces.Local l y → MeantIn s id y
-  refers_through spaces.Function id l y other h c = at_slot id y (function_through plain nested trees told m.types m.locals (item_at m.funcs id) (λ f e. linked.whole id f e) l y h c)
-  refers_through spaces.«Type» id l y other h c = absurd (none_through spaces.«Type» id l other (not_function spaces.«Type» (λ e. omega (arith, e))) h)
-  refers_through spaces.Table id l y other h c = absurd (none_through spaces.Table id l other (not_function spaces.Table (λ e. omega (arith, e))) h)
-  refers_through spaces.Memory id l y other h c = absurd (none_through spaces.Memory id l other (not_function spaces.Memory (λ e. omega (arith, e))) h)
-  refers_through spaces.Global id l y other h c = absurd (none_through spaces.Global id l other (not_function spaces.Global (λ e. omega (arith, e))) h)
-  refers_through spaces.Tag id l y other h c = absurd (none_through spaces.Tag id l other (not_function spaces.Tag (λ e. omega (arith, e))) h)
-  refers_through spaces.Element id l y other h c = absurd (none_through spaces.Element id l other (not_function spaces.Element (λ e. omega (arith, e))) h)
-  refers_through spaces.Data id l y other h c = absurd (none_through spaces.Data id l other (not_function spaces.Data (λ e. omega (arith, e))) h)
-  refers_through spaces.Local id l y other h c = absurd (other refl)
-  refers_through spaces.Label id l y other h c = absurd h
+  refers_through : (s : Space) (id l : ℕ) (y : Item) → IsPlainIn m s id → (s ≡ spaces.Local → ⊥) → RefersIn m s id (item spaces.Local l) → RefersIn m spaces.Local l y → MeantIn s id y
+  refers_through spaces.Function id l y plain_at other h c = at_slot id y (function_through plain nested trees told m.types m.locals (item_at m.funcs id) (plain_at.whole refl) l y h c)
+  refers_through spaces.«Type» id l y plain_at other h c = absurd (none_through spaces.«Type» id l plain_at other (not_function spaces.«Type» (λ e. omega (arith, e))) h)
+  refers_through spaces.Table id l y plain_at other h c = absurd (none_through spaces.Table id l plain_at other (not_function spaces.Table (λ e. omega (arith, e))) h)
+  refers_through spaces.Memory id l y plain_at other h c = absurd (none_through spaces.Memory id l plain_at other (not_function spaces.Memory (λ e. omega (arith, e))) h)
+  refers_through spaces.Global id l y plain_at other h c = absurd (none_through spaces.Global id l plain_at other (not_function spaces.Global (λ e. omega (arith, e))) h)
+  refers_through spaces.Tag id l y plain_at other h c = absurd (none_through spaces.Tag id l plain_at other (not_function spaces.Tag (λ e. omega (arith, e))) h)
+  refers_through spaces.Element id l y plain_at other h c = absurd (none_through spaces.Element id l plain_at other (not_function spaces.Element (λ e. omega (arith, e))) h)
+  refers_through spaces.Data id l y plain_at other h c = absurd (none_through spaces.Data id l plain_at other (not_function spaces.Data (λ e. omega (arith, e))) h)
+  refers_through spaces.Local id l y plain_at other h c = absurd (other refl)
+  refers_through spaces.Label id l y plain_at other h c = absurd h
 
   abbrev ThroughIn : Space → ℕ → Item → Type 0
   ThroughIn s id y = RefersIn m s id y ⊎ ((l : ℕ) × RefersIn m s id (item spaces.Local l) × RefersIn m spaces.Local l y)
 
-  refers_back : (s : Space) (id : ℕ) (y : Item) → MeantIn s id y → ThroughIn s id y
-  refers_back spaces.«Type» id y h = inl (type_back m.types grouped written (meant m) refl refl id y h)
-  refers_back spaces.Function id y c = function_back plain nested trees told m.types m.locals (item_at m.funcs id) (λ f e. linked.whole id f e) y (from_slot id y c)
-  refers_back spaces.Table id y (inl c) = inl (inl ((items_seen_at own_table m.tables table_items abstract.table_items (table_meant tell) id y).1 c))
-  refers_back spaces.Table id y (inr h) = inl (inr (there_back m own_table m.tables id (λ t. HasElement m id t y) (abstract.HasElement (meant m) id (own_item y)) (λ t at. element_back m id t at y) h))
-  refers_back spaces.Memory id y h = inl (there_back m own_memory m.memories id (λ x. HasData m id x y) (abstract.HasData (meant m) id (own_item y)) (λ x at. data_back m id x at y) h)
-  refers_back spaces.Global id y c = inl ((items_seen_at own_global m.globals global_items abstract.global_items (global_meant tell) id y).1 c)
-  refers_back spaces.Tag id y c = inl ((items_seen_at own_tag m.tags tag_items abstract.tag_items (λ t. refl) id y).1 c)
-  refers_back spaces.Element id y c = inl ((items_seen_at own_element m.elements element_items abstract.element_items (element_meant tell) id y).1 c)
-  refers_back spaces.Data id y c = inl ((items_seen_at own_segment m.data_segments (λ (d : Data). data_items d.kind) abstract.segment_items (segment_meant tell) id y).1 c)
-  refers_back spaces.Local id y h = absurd h
-  refers_back spaces.Label id y h = absurd h
+  refers_back : (s : Space) (id : ℕ) (y : Item) → IsPlainIn m s id → MeantIn s id y → ThroughIn s id y
+  refers_back spaces.«Type» id y plain_at h = inl (type_back m.types grouped (meant m) refl refl id y h)
+  refers_back spaces.Function id y plain_at c = function_back plain nested trees told m.types m.locals (item_at m.funcs id) (plain_at.whole refl) y (from_slot id y c)
+  refers_back spaces.Table id y plain_at (inl c) = inl (inl ((items_seen_at own_table m.tables table_items abstract.table_items (table_meant tell) id y).1 c))
+  refers_back spaces.Table id y plain_at (inr h) = inl (inr (there_back m own_table m.tables id (λ t. HasElement m id t y) (abstract.HasElement (meant m) id (own_item y)) (λ t at. element_back m id t at y) h))
+  refers_back spaces.Memory id y plain_at h = inl (there_back m own_memory m.memories id (λ x. HasData m id x y) (abstract.HasData (meant m) id (own_item y)) (λ x at. data_back m id x at y) h)
+  refers_back spaces.Global id y plain_at c = inl ((items_seen_at own_global m.globals global_items abstract.global_items (global_meant tell) id y).1 c)
+  refers_back spaces.Tag id y plain_at c = inl ((items_seen_at own_tag m.tags tag_items abstract.tag_items (λ t. refl) id y).1 c)
+  refers_back spaces.Element id y plain_at c = inl ((items_seen_at own_element m.elements element_items abstract.element_items (element_meant tell) id y).1 c)
+  refers_back spaces.Data id y plain_at c = inl ((items_seen_at own_segment m.data_segments (λ (d : Data). data_items d.kind) abstract.segment_items (segment_meant tell) id y).1 c)
+  refers_back spaces.Local id y plain_at h = absurd h
+  refers_back spaces.Label id y plain_at h = absurd h
 
-  refs_both : (x y : Item) → IsShared x → IsShared y → RefersThrough m x y ↔ abstract.Refers (meant m) (own_item x) (own_item y)
-  refs_both x y sx sy = (
+  refs_both : (x y : Item) → IsPlainIn m x.space x.id → IsShared x → IsShared y → RefersThrough m x y ↔ abstract.Refers (meant m) (own_item x) (own_item y)
+  refs_both x y plain_at sx sy = (
     λ h. elim h as (λ _. abstract.Refers (meant m) (own_item x) (own_item y)) [
-      | inl r ↦ refers_forth x.space x.id y sx (λ e. sy) r
-      | inr t ↦ refers_through x.space x.id t.0 y sx t.1 t.2
+      | inl r ↦ refers_forth x.space x.id y plain_at sx (λ e. sy) r
+      | inr t ↦ refers_through x.space x.id t.0 y plain_at sx t.1 t.2
     ],
-    λ h. refers_back x.space x.id y h,
+    λ h. refers_back x.space x.id y plain_at h,
   )
 
   -- ---- what is kept
 
-  module _ (pushed : List Item) (push : (x : Item) → Contains pushed x → IsShared x) where
+  module _ (pushed : List Item) (push : PushesShared pushed) (all_plain : (x : Item) → IsReached m pushed x → IsPlainIn m x.space x.id) where
     abbrev Reached : grammar.Item → Type 0
     Reached z = kept.IsReached (meant m) (own_items pushed) z
 
@@ -314,32 +330,32 @@ module _ (plain : WalkIsPlain) (nested : HeldAreNested) (trees : TreesAreNested)
     -- an item is reached there, or it is a local that one names that is
     data Found (x : Item) : Type 0 where
       shared_one : IsShared x → Reached (own_item x) → Found x
-      local_one : (from : Item) → IsShared from → Reached (own_item from) → Refers m from x → x.space ≡ spaces.Local → Found x
+      local_one : (from : Item) → IsPlainIn m from.space from.id → IsShared from → Reached (own_item from) → Refers m from x → x.space ≡ spaces.Local → Found x
 
     found_shared : (x : Item) → IsShared x → Found x → Reached (own_item x)
     found_shared x shared (shared_one s r) = r
-    found_shared x shared (local_one from sf r q e) = absurd (shared e)
+    found_shared x shared (local_one from pf sf r q e) = absurd (shared e)
 
-    found_on : (x y : Item) → Refers m x y → Found x → Found y
-    found_on x y r (shared_one sx a) = elim (is_local y.space) as (λ _. Found y) [
-      | inl e ↦ local_one x sx a r e
-      | inr s ↦ shared_one s (kept.refers a (refers_forth x.space x.id y sx (λ e. s) r))
+    found_on : (x y : Item) → IsPlainIn m x.space x.id → Refers m x y → Found x → Found y
+    found_on x y px r (shared_one sx a) = elim (is_local y.space) as (λ _. Found y) [
+      | inl e ↦ local_one x px sx a r e
+      | inr s ↦ shared_one s (kept.refers a (refers_forth x.space x.id y px sx (λ e. s) r))
     ]
-    found_on x y r (local_one from sf a q e) =
+    found_on x y px r (local_one from pf sf a q e) =
         let named : RefersIn m from.space from.id (item spaces.Local x.id) = subst (λ (s : Space). RefersIn m from.space from.id (item s x.id)) e q in
         let typed : RefersIn m spaces.Local x.id y = subst (λ (s : Space). RefersIn m s x.id y) e r in
-        let next = refers_through from.space from.id x.id y sf named typed in
+        let next = refers_through from.space from.id x.id y pf sf named typed in
         shared_one (named_are_low (meant m) (own_item from) (own_item y) next) (kept.refers a next)
 
     found : (x : Item) → IsReached m pushed x → Found x
     found x (root r) = shared_one (root_shared x r) (kept.root (root_forth x r))
-    found y (refers {x} k r) = found_on x y r (found x k)
+    found y (refers {x} k r) = found_on x y (all_plain x k) r (found x k)
 
     reached_back : (z : grammar.Item) → Reached z → IsReached m pushed (item_of z)
     reached_back z (kept.root r) = root (root_back z r)
     reached_back y (kept.refers {x} k r) =
         let before = reached_back x k in
-        elim (refers_back x.space x.number (item_of y) r) as (λ _. IsReached m pushed (item_of y)) [
+        elim (refers_back x.space x.number (item_of y) (all_plain (item_of x) before) r) as (λ _. IsReached m pushed (item_of y)) [
           | inl q ↦ refers before q
           | inr t ↦ refers (refers before t.1) t.2
         ]
@@ -376,8 +392,97 @@ module _ (plain : WalkIsPlain) (nested : HeldAreNested) (trees : TreesAreNested)
       λ h. elim h as (λ _. Kept m pushed x) [ inl r ↦ inl (reached_back (own_item x) r) | inr p ↦ inr (spared_back x p) ],
     )
 
-pub references_meant : WalkIsPlain → HeldAreNested → TreesAreNested → ExprsTellOps → BodiesNameWhatIsTold → ReferencesAreMeant
-references_meant plain nested trees tell told m linked grouped written x y sx sy = refs_both plain nested trees tell told m linked grouped written x y sx sy
+-- ---- which items are plain
 
-pub kept_meant : WalkIsPlain → HeldAreNested → TreesAreNested → ExprsTellOps → BodiesNameWhatIsTold → KeptIsMeant
-kept_meant plain nested trees tell told m pushed linked grouped written push x shared = kept_both plain nested trees tell told m linked grouped written pushed push x shared
+linked_plain : (m : Module) → IsLinked m → GroupsAreWritten m.types → (x : Item) → IsPlainIn m x.space x.id
+linked_plain m linked written x = record {
+  whole = λ e f at. linked.whole x.id f at;
+  grouped = λ e group has ex k c. written has.place group has.live ex k c;
+}
+
+whole_of : (types : TypeTable) (kind : FunctionKind) → HasBody types kind → HasTree kind → IsWhole types kind
+whole_of types (functions.Import i) body tree = tt
+whole_of types (functions.Local local) body tree = (body, tree)
+whole_of types (functions.Uninitialized ty) body tree = absurd body
+
+module _ (m : Module) (pushed : List Item) (sound : IsSound m pushed) where
+  sound_whole : (x : Item) → IsReached m pushed x → x.space ≡ spaces.Function → (f : Function) → item_at m.funcs x.id ≡ Some f → IsWhole m.types f.kind
+  sound_whole x r e f at =
+      let own : IsWholeIn m spaces.Function x.id = subst (λ (s : Space). IsWholeIn m s x.id) e (sound.linked x r).own.1 in
+      let tree : IsTreeIn m spaces.Function x.id = subst (λ (s : Space). IsTreeIn m s x.id) e (sound.trees x r) in
+      whole_of m.types f.kind
+      (subst (λ (o : Option Function). MatchOption o (Unit {0}) (λ (g : Function). HasBody m.types g.kind)) at own)
+      (subst (λ (o : Option Function). MatchOption o (Unit {0}) (λ (g : Function). HasTree g.kind)) at tree)
+
+  sound_grouped : (x : Item) → IsReached m pushed x → x.space ≡ spaces.«Type» → GroupIsWritten m.types x.id
+  sound_grouped x r e group has ex k c =
+      let there = contains_of (map (item spaces.«Type») group.types) (item spaces.«Type» k) (map_in (item spaces.«Type») group.types k (in_of group.types k c)) in
+      let named : RefersIn m x.space x.id (item spaces.«Type» k) = subst (λ (s : Space). RefersIn m s x.id (item spaces.«Type» k)) (sym e) (inr (group, has, ex, there)) in
+      sound.live (item spaces.«Type» k) (refers r named)
+
+  sound_plain : (x : Item) → IsReached m pushed x → IsPlainIn m x.space x.id
+  sound_plain x r = record { whole = sound_whole x r; grouped = sound_grouped x r }
+
+-- ---- passes in other words
+
+not_local : (s : Space) (id : ℕ) → space_number s < 8 → IsShared (item s id)
+not_local s id below = low_at s below
+
+brought_shared : (kind : ImportKind) → IsShared (brought kind)
+brought_shared (kinds.Function id) = not_local spaces.Function id (omega arith)
+brought_shared (kinds.Table id) = not_local spaces.Table id (omega arith)
+brought_shared (kinds.Memory id) = not_local spaces.Memory id (omega arith)
+brought_shared (kinds.Global id) = not_local spaces.Global id (omega arith)
+brought_shared (kinds.Tag id) = not_local spaces.Tag id (omega arith)
+
+module _ (P Q : Item → Type 0) (same : (x : Item) → IsShared x → P x ↔ Q x) where
+  other_words : (s : Space) → space_number s < 8 → (id : ℕ) (b : Bool) → Decides b (P (item s id)) → Decides b (Q (item s id))
+  other_words s below id b d = (λ e. (same (item s id) (not_local s id below)).0 (d.0 e), λ q. d.1 ((same (item s id) (not_local s id below)).1 q))
+
+  just_as : (u : Used) → HasJust P u → HasJust Q u
+  just_as u h = record {
+    of_types = λ id. other_words spaces.«Type» (omega arith) id _ (h.of_types id);
+    of_funcs = λ id. other_words spaces.Function (omega arith) id _ (h.of_funcs id);
+    of_tables = λ id. other_words spaces.Table (omega arith) id _ (h.of_tables id);
+    of_memories = λ id. other_words spaces.Memory (omega arith) id _ (h.of_memories id);
+    of_tags = λ id. other_words spaces.Tag (omega arith) id _ (h.of_tags id);
+    of_globals = λ id. other_words spaces.Global (omega arith) id _ (h.of_globals id);
+    of_elements = λ id. other_words spaces.Element (omega arith) id _ (h.of_elements id);
+    of_data_segments = λ id. other_words spaces.Data (omega arith) id _ (h.of_data_segments id);
+  }
+
+  by_id : {T : Type 0} (s : Space) → space_number s < 8 → (a b : Arena T) → Rest (λ id _. P (item s id)) a b → Rest (λ id _. Q (item s id)) a b
+  by_id s below a b r =
+      rest_as (λ id _. P (item s id)) (λ id _. Q (item s id)) a b (λ id _. (same (item s id) (not_local s id below)).0) (λ id _. (same (item s id) (not_local s id below)).1) r
+
+  shared_part : (m n : Module) → IsPart P m n → IsPart Q m n
+  shared_part m n p = record {
+    types = types_as (λ id. P (item spaces.«Type» id)) (λ id. Q (item spaces.«Type» id)) m.types n.types
+        (λ id. (same (item spaces.«Type» id) (not_local spaces.«Type» id (omega arith))).0) (λ id. (same (item spaces.«Type» id) (not_local spaces.«Type» id (omega arith))).1) p.types;
+    funcs = by_id spaces.Function (omega arith) m.funcs n.funcs p.funcs;
+    tables = by_id spaces.Table (omega arith) m.tables n.tables p.tables;
+    memories = by_id spaces.Memory (omega arith) m.memories n.memories p.memories;
+    tags = by_id spaces.Tag (omega arith) m.tags n.tags p.tags;
+    globals = by_id spaces.Global (omega arith) m.globals n.globals p.globals;
+    elements = by_id spaces.Element (omega arith) m.elements n.elements p.elements;
+    data_segments = by_id spaces.Data (omega arith) m.data_segments n.data_segments p.data_segments;
+    imports = rest_as (λ _ (import : Import). P (brought import.kind)) (λ _ (import : Import). Q (brought import.kind)) m.imports n.imports
+        (λ _ import. (same (brought import.kind) (brought_shared import.kind)).0) (λ _ import. (same (brought import.kind) (brought_shared import.kind)).1) p.imports;
+    others = p.others;
+  }
+
+module _ (plain : WalkIsPlain) (nested : HeldAreNested) (trees : TreesAreNested) (tell : ExprsTellOps) (told : BodiesNameWhatIsTold) where
+  pub references_meant : ReferencesAreMeant
+  references_meant m linked grouped written x y sx sy = refs_both plain nested trees tell told m grouped x y (linked_plain m linked written x) sx sy
+
+  pub kept_meant : KeptIsMeant
+  kept_meant m pushed linked grouped written push x shared = kept_both plain nested trees tell told m grouped pushed push (λ y r. linked_plain m linked written y) x shared
+
+  pub passes_meant : PassesKeepWhatIsMeant
+  passes_meant m pushed sound grouped push =
+      let both = kept_both plain nested trees tell told m grouped pushed push (sound_plain m pushed sound) in
+      record {
+        kept = both;
+        used = λ u h. just_as (Kept m pushed) (IsKeptMeant m pushed) both u h;
+        left = λ n p. shared_part (Kept m pushed) (IsKeptMeant m pushed) both m n p;
+      }

@@ -18,8 +18,8 @@ use Rattle.walrus_roots.specs.Items.{item}
 use Rattle.walrus_meaning.specs.walrus_module.Items.{written, written_type}
 use Rattle.walrus_passes_laws.specs.walrus_references.References.{named_by, type_items, IsInGroup}
 use Rattle.walrus_meaning.specs.Meaning.{plain_kind, group_kinds, has_kinds, own_groups, type_ids}
-use Rattle.walrus_passes_laws.specs.Served.{GroupsAreWritten}
 use Rattle.walrus_meaning_refs.specs.Items.{own_item, own_items}
+use Rattle.walrus_meaning_kept.specs.Meant.{GroupIsWritten}
 use Rattle.walrus_meaning_kept.proofs.Owned.{item_of, owned_forth, owned_back}
 use Rattle.walrus_meaning_refs.proofs.Sets.{In, in_of, contains_of, in_map, map_in, in_flat, flat_same}
 
@@ -254,7 +254,7 @@ module _ (t : TypeTable) where
       go true f = absurd (false≢true (sym f))
       go false f = c
 
-  module _ (grouped : AreGrouped t) (written_groups : GroupsAreWritten t) (v : Numbered) (groups : v.filled.groups ≡ own_groups t) (types : v.types ≡ type_ids t) where
+  module _ (grouped : AreGrouped t) (v : Numbered) (groups : v.filled.groups ≡ own_groups t) (types : v.types ≡ type_ids t) where
     all_are : numbered v.filled.groups v.types ≡ all (entries_from 0 t.groups)
     all_are = ap (λ (gs : List TypeGroup). numbered gs v.types) groups ∙ ap (numbered (own_groups t)) (types ∙ ids_are)
 
@@ -276,23 +276,23 @@ module _ (t : TypeTable) where
     get_in (y ∷ xs) (suc p) x e = inr (get_in xs p x e)
 
     -- the members of a group that is written as one are its types
-    listed_types : (g : Group) (place : ℕ) (y : Item) → group_at t place ≡ Some g → g.explicit ≡ true → Contains (map (item spaces.«Type») g.types) y → Contains (map (abstract.item spaces.«Type») (ids_in g.types)) (own_item y)
-    listed_types g place y live ex c =
+    listed_types : (g : Group) (y : Item) → ((k : ℕ) → Contains g.types k → IsSome (written_type t k)) → Contains (map (item spaces.«Type») g.types) y → Contains (map (abstract.item spaces.«Type») (ids_in g.types)) (own_item y)
+    listed_types g y all c =
         let r = in_map (item spaces.«Type») g.types y (in_of (map (item spaces.«Type») g.types) y c) in
-        let w = is_written (type_at t r.0) (written_groups place g live ex r.0 (contains_of g.types r.0 r.1)) in
+        let w = is_written (type_at t r.0) (all r.0 (contains_of g.types r.0 r.1)) in
         let at = member_at g.types r.0 w.0 r.1 w.1 w.2 in
         contains_of (map (abstract.item spaces.«Type») (ids_in g.types)) (own_item y) (
         subst (In (map (abstract.item spaces.«Type») (ids_in g.types))) (ap own_item r.2) (map_in (abstract.item spaces.«Type») (ids_in g.types) r.0 (get_in (ids_in g.types) at.0 r.0 at.1))
         )
 
-    pub type_forth : (id : ℕ) (y : Item) → Contains (named_by type_items (written_type t id)) y ⊎ IsInGroup t id y → TypeRefers v id (own_item y)
-    type_forth id y (inl c) =
+    pub type_forth : (id : ℕ) (y : Item) → GroupIsWritten t id → Contains (named_by type_items (written_type t id)) y ⊎ IsInGroup t id y → TypeRefers v id (own_item y)
+    type_forth id y all (inl c) =
         let w = named_written (type_at t id) y c in
         let home = grouped.listed id w.0 w.1 in
         (pair home.0, w.0.kind, type_is id w.0 home.0 w.1 w.2 home.1, inl (owned_forth (type_items w.0) (map (abstract.item spaces.«Type») (kind_names w.0.kind)) (types_meant (kind_names w.0.kind)) y w.3))
-    type_forth id y (inr h) =
-        let w = is_written (type_at t id) (written_groups h.1.place h.0 h.1.live h.2 id h.1.listed) in
-        (pair h.0, w.0.kind, type_is id w.0 h.0 w.1 w.2 h.1, inr (h.2, listed_types h.0 h.1.place y h.1.live h.2 h.3))
+    type_forth id y all (inr h) =
+        let w = is_written (type_at t id) (all h.0 h.1 h.2 id h.1.listed) in
+        (pair h.0, w.0.kind, type_is id w.0 h.0 w.1 w.2 h.1, inr (h.2, listed_types h.0 y (all h.0 h.1 h.2) h.3))
 
     id_in : (id : ℕ) (o : Option TypeItem) (x : ℕ) → In (plain_id id o) x → id ≡ x
     id_in id None x h = absurd h

@@ -1,6 +1,6 @@
-//! Laws: functions with nothing to do, whose contracts hold of all linked modules.
+//! Laws: functions with nothing to do, whose contracts hold of all linked modules, or of all that passes don't refuse.
 
-ghost use Rattle.walrus_meaning_kept.specs.Meant.{KeptIsMeant, ReferencesAreMeant};
+ghost use Rattle.walrus_meaning_kept.specs.Meant.{KeptIsMeant, PassesKeepWhatIsMeant, ReferencesAreMeant};
 
 use walrus_meaning_refs::laws::bodies_name_what_is_told;
 use walrus_tree::laws::trees_are_nested;
@@ -21,6 +21,17 @@ pub fn references_are_meant()
 /// What is kept of a linked module is what is kept of the module that it means.
 pub fn kept_is_meant()
     ensures { KeptIsMeant }
+{
+    bodies_name_what_is_told();
+    expressions_tell_their_operators();
+    walk_is_plain();
+    held_are_nested();
+    trees_are_nested();
+}
+
+/// Where `Used::new` and `gc::run` don't refuse a module, linked or not, they give and leave what is kept of the module that it means.
+pub fn passes_keep_what_is_meant()
+    ensures { PassesKeepWhatIsMeant }
 {
     bodies_name_what_is_told();
     expressions_tell_their_operators();

@@ -1,5 +1,5 @@
 -- What is left of a module once what isn't kept is deleted.
-use Rattle.std.specs.Prelude.{◌≡◌, ℕ, true, List, length, Some, IsSome, Contains}
+use Rattle.std.specs.Prelude.{◌≡◌, ℕ, true, List, filter, length, Some, IsSome, is_some, Contains}
 use Rattle.wasm_formats.specs.declared.fault.Space.TheVariants as spaces
 use Rattle.walrus_arena.specs.Arena.{Arena, item_at}
 use Rattle.walrus_items.specs.Items.{Item as TypeItem, Group}
@@ -23,15 +23,22 @@ pub record RestAmong {T : Type 0} (among : ℕ → Type 0) (stays : ℕ → T �
 abbrev pub Rest : {T : Type 0} → (ℕ → T → Type 0) → Arena T → Arena T → Type 0
 Rest stays old new = RestAmong (λ _. Unit {0}) stays old new
 
+-- the group without its members that don't live
+abbrev pub left_of : TypeTable → Group → Group
+left_of t group = record { explicit = group.explicit; types = filter (λ id. is_some (type_at t id)) group.types }
+
 -- types that stay are as they were, with their explicit groups; of those among these no others are left but entry types;
--- and entry types that are in no explicit group are as they were
+-- entry types that are in no explicit group are as they were; and each group is what is left of one that stood in its place
 pub record TypesRestAmong (among stays : ℕ → Type 0) (old new : TypeTable) : Type 0 where
+  pub sized : length new.types ≡ length old.types
+  pub places : length new.groups ≡ length old.groups
   pub each : (id : ℕ) → stays id → type_at new id ≡ type_at old id
   pub only : (id : ℕ) (ty : TypeItem) → type_at new id ≡ Some ty → type_at old id ≡ Some ty
   pub stay : (id : ℕ) → among id → IsSome (written_type new id) → stays id
   pub entries : (id : ℕ) (ty : TypeItem) → type_at old id ≡ Some ty → ty.kind.entry ≡ true → ((group : Group) → HasMember old id group → group.explicit ≡ true → ⊥) → type_at new id ≡ Some ty
   pub groups : (place : ℕ) (group : Group) → group_at old place ≡ Some group → group.explicit ≡ true → (id : ℕ) → Contains group.types id → stays id → group_at new place ≡ Some group
   pub only_groups : (place : ℕ) (group : Group) → group_at new place ≡ Some group → group.explicit ≡ true → group_at old place ≡ Some group
+  pub left : (place : ℕ) (group : Group) → group_at new place ≡ Some group → (before : Group) × (group_at old place ≡ Some before) × (group ≡ left_of new before)
 
 abbrev pub TypesRest : (ℕ → Type 0) → TypeTable → TypeTable → Type 0
 TypesRest stays old new = TypesRestAmong (λ _. Unit {0}) stays old new

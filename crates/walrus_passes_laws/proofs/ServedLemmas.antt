@@ -61,12 +61,12 @@ use Rattle.walrus_used.specs.walrus_references.References.{RefersIn, Named, Kind
 use Rattle.walrus_used.specs.walrus_references.References.{named_by as referred_by}
 use Rattle.walrus_used.specs.walrus_references.Roots.{Root, exports, starts, is_active, fills_import, declares, is_pushed}
 use Rattle.walrus_used.specs.walrus_references.Kept.{IsReached}
-use Rattle.walrus_used.specs.walrus_references.Refused.{IsTreeIn, HasTree}
+use Rattle.walrus_used.specs.walrus_references.Refused.{IsTreeIn, HasTree, FormsTree}
 use Rattle.walrus_used.proofs.LooksLemmas.{none_in, first_in, only_in, cases_in}
-use Rattle.walrus_passes.specs.walrus_refusals.Asked.{IsBrought, IsWholeIn, HasBody}
+use Rattle.walrus_passes.specs.walrus_refusals.Asked.{IsBrought, IsWholeIn, HasBody, Linked}
 use Rattle.walrus_passes.specs.walrus_refusals.Sound.{AllReached, IsRefused, HasForm}
 use Rattle.walrus_passes.specs.walrus_refusals.Written.{StaysInGroup, IsUnshared, HasNoExact}
-use Rattle.walrus_passes_laws.specs.Served.{GroupsAreWritten, PushesLive, IsServed, LinkedIsServed, LinkedAreServed}
+use Rattle.walrus_passes_laws.specs.Served.{GroupsAreWritten, PushesLive, LiveIsServed, LinkedAreServed}
 use Rattle.walrus_passes_laws.proofs.BodyLemmas.{split}
 use Rattle.walrus_passes_laws.proofs.WalkLemmas.{join_left, join_right, body_told}
 use Rattle.walrus_passes_laws.proofs.LinkedLemmas.{types_told, functions_told}
@@ -263,6 +263,48 @@ is_there : {A : Type 0} (P : A → Type 0) (o : Option A) → MatchOption o ⊥ 
 is_there P None h = absurd h
 is_there P (Some x) h = refl
 
+-- ---- linked items, and trees
+module _ (m : Module) (linked : IsLinked m) where
+  brought_by : (x : Item) (named : Option ℕ) → import_in m x.space x.id ≡ named → IsBrought m.imports x named
+  brought_by x None is = tt
+  brought_by x (Some i) is = (let h = linked.imported x i is in subst (λ (o : Option Import). MatchOption o ⊥ (λ import. brought import.kind ≡ x)) (sym h.1) h.2)
+
+  has_body : (kind : FunctionKind) → IsWhole m.types kind → HasBody m.types kind
+  has_body (functions.Import i) h = h
+  has_body (functions.Local local) h = h.0
+  has_body (functions.Uninitialized t) h = h
+
+  has_tree : (kind : FunctionKind) → IsWhole m.types kind → HasTree kind
+  has_tree (functions.Import i) h = tt
+  has_tree (functions.Local local) h = h.1
+  has_tree (functions.Uninitialized t) h = tt
+
+  body_if : (id : ℕ) (o : Option Function) → item_at m.funcs id ≡ o → MatchOption o (Unit {0}) (λ f. HasBody m.types f.kind) × MatchOption o (Unit {0}) (λ f. HasTree f.kind)
+  body_if id None at = (tt, tt)
+  body_if id (Some f) at = (let whole = linked.whole id f at in (has_body f.kind whole, has_tree f.kind whole))
+
+  whole_in : (space : Space) (id : ℕ) → IsWholeIn m space id × IsTreeIn m space id
+  whole_in spaces.Type id = (tt, tt)
+  whole_in spaces.Function id = body_if id (item_at m.funcs id) refl
+  whole_in spaces.Table id = (tt, tt)
+  whole_in spaces.Memory id = (tt, tt)
+  whole_in spaces.Tag id = (tt, tt)
+  whole_in spaces.Global id = (tt, tt)
+  whole_in spaces.Element id = (tt, tt)
+  whole_in spaces.Data id = (tt, tt)
+  whole_in spaces.Local id = (tt, tt)
+  whole_in spaces.Label id = (tt, tt)
+
+  is_linked : (x : Item) → Linked m x
+  is_linked x = record {
+    own = (brought_by x (import_in m x.space x.id) refl, (whole_in x.space x.id).0);
+    claimed = λ i import at is below. subst (λ (y : Item). import_in m y.space y.id ≡ Some i) is (linked.imports i import at);
+  }
+
+  is_tree : (x : Item) → FormsTree m x
+  is_tree x = (whole_in x.space x.id).1
+
+-- ---- what is reached lives
 module _ (plain : WalkIsPlain) (held : HeldAreNested) (nested : TreesAreNested) (m : Module) (pushed : List Item) (linked : IsLinked m) (groups : GroupsAreWritten m.types) (push : PushesLive m pushed) where
   -- it lives, and if it is a local what its type names lives
   abbrev Fine : Item → Type 0
@@ -355,47 +397,6 @@ module _ (plain : WalkIsPlain) (held : HeldAreNested) (nested : TreesAreNested) 
   all_fine x (root r) = root_fine x r
   all_fine y (refers {x} k r) = refers_fine x.space x.id y (all_fine x k) r
 
-  -- ---- linked items, and trees
-  brought_by : (x : Item) (named : Option ℕ) → import_in m x.space x.id ≡ named → IsBrought m.imports x named
-  brought_by x None is = tt
-  brought_by x (Some i) is = (let h = linked.imported x i is in subst (λ (o : Option Import). MatchOption o ⊥ (λ import. brought import.kind ≡ x)) (sym h.1) h.2)
-
-  has_body : (kind : FunctionKind) → IsWhole m.types kind → HasBody m.types kind
-  has_body (functions.Import i) h = h
-  has_body (functions.Local local) h = h.0
-  has_body (functions.Uninitialized t) h = h
-
-  has_tree : (kind : FunctionKind) → IsWhole m.types kind → HasTree kind
-  has_tree (functions.Import i) h = tt
-  has_tree (functions.Local local) h = h.1
-  has_tree (functions.Uninitialized t) h = tt
-
-  body_if : (id : ℕ) (o : Option Function) → item_at m.funcs id ≡ o → MatchOption o (Unit {0}) (λ f. HasBody m.types f.kind) × MatchOption o (Unit {0}) (λ f. HasTree f.kind)
-  body_if id None at = (tt, tt)
-  body_if id (Some f) at = (let whole = linked.whole id f at in (has_body f.kind whole, has_tree f.kind whole))
-
-  whole_in : (space : Space) (id : ℕ) → IsWholeIn m space id × IsTreeIn m space id
-  whole_in spaces.Type id = (tt, tt)
-  whole_in spaces.Function id = body_if id (item_at m.funcs id) refl
-  whole_in spaces.Table id = (tt, tt)
-  whole_in spaces.Memory id = (tt, tt)
-  whole_in spaces.Tag id = (tt, tt)
-  whole_in spaces.Global id = (tt, tt)
-  whole_in spaces.Element id = (tt, tt)
-  whole_in spaces.Data id = (tt, tt)
-  whole_in spaces.Local id = (tt, tt)
-  whole_in spaces.Label id = (tt, tt)
-
-  all_served : IsServed m pushed
-  all_served = record {
-    linked = λ x r. record {
-      own = (brought_by x (import_in m x.space x.id) refl, (whole_in x.space x.id).0);
-      claimed = λ i import at is below. subst (λ (y : Item). import_in m y.space y.id ≡ Some i) is (linked.imports i import at);
-    };
-    trees = λ x r. (whole_in x.space x.id).1;
-    live = λ x r. (all_fine x r).0;
-  }
-
   no_form : (form : Form) → AllReached m pushed (IsUnshared m) → AllReached m pushed (HasNoExact m) → HasForm m pushed form → ⊥
   no_form forms.SharedGlobal unshared inexact h = h unshared
   no_form forms.ExactType unshared inexact h = h inexact
@@ -404,17 +405,26 @@ module _ (plain : WalkIsPlain) (held : HeldAreNested) (nested : TreesAreNested) 
   no_form forms.ContinuationType unshared inexact h = h
   no_form forms.Select unshared inexact h = h
 
+  none_dead : AllReached m pushed (StaysInGroup m) → (space : Space) → IsRefused m pushed (refusals.DeadReference space) → ⊥
+  none_dead grouped space h = h.2 (λ x r e. ((all_fine x r).0, grouped x r))
+
   module _ (grouped : AllReached m pushed (StaysInGroup m)) (unshared : AllReached m pushed (IsUnshared m)) (inexact : AllReached m pushed (HasNoExact m)) where
     memory_alone : (fault : ModuleError) → IsRefused m pushed fault → fault ≡ refusals.Memory
     memory_alone refusals.Memory h = refl
-    memory_alone refusals.NotLinked h = absurd (h all_served.linked)
-    memory_alone refusals.NoTree h = absurd (h.1 all_served.trees)
-    memory_alone (refusals.DeadReference space) h = absurd (h.2 (λ x r e. (all_served.live x r, grouped x r)))
+    memory_alone refusals.NotLinked h = absurd (h (λ x r. is_linked m linked x))
+    memory_alone refusals.NoTree h = absurd (h.1 (λ x r. is_tree m linked x))
+    memory_alone (refusals.DeadReference space) h = absurd (none_dead grouped space h)
     memory_alone (refusals.Unsupported form place) h = absurd (no_form form unshared inexact h.3)
     memory_alone _ h = absurd h
 
-  pub served : LinkedIsServed m pushed
-  served = record { served = all_served; memory_alone = memory_alone }
+  pub live_served : LiveIsServed m pushed
+  live_served = record { live = λ x r. (all_fine x r).0; none_dead = none_dead; memory_alone = memory_alone }
 
 pub are_served : WalkIsPlain → HeldAreNested → TreesAreNested → LinkedAreServed
-are_served plain held nested m pushed linked groups push = served plain held nested m pushed linked groups push
+are_served plain held nested m pushed linked = record {
+  linked = λ x r. is_linked m linked x;
+  trees = λ x r. is_tree m linked x;
+  not_unlinked = λ h. h (λ x r. is_linked m linked x);
+  not_treeless = λ h. h.1 (λ x r. is_tree m linked x);
+  pushing_live = λ groups push. live_served plain held nested m pushed linked groups push;
+}

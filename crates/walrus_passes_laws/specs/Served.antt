@@ -1,5 +1,6 @@
 -- A linked module isn't refused.
 use Rattle.std.specs.Prelude.{◌≡◌, ℕ, true, List, Some, IsSome, Contains}
+use Rattle.wasm_formats.specs.declared.fault.Space.{Space}
 use Rattle.wasm_formats.specs.declared.fault.Space.TheVariants as spaces
 use Rattle.walrus_items.specs.Items.{Group}
 use Rattle.walrus_types.specs.Table.{Table as TypeTable, group_at}
@@ -22,18 +23,21 @@ GroupsAreWritten t = (place : ℕ) (group : Group) → group_at t place ≡ Some
 abbrev pub PushesLive : Module → List Item → Type 0
 PushesLive m pushed = (x : Item) → Contains pushed x → Lives m x × (x.space ≡ spaces.Local → ⊥)
 
--- in what is reached, items and imports name each other, bodies are trees, and all lives
-pub record IsServed (m : Module) (pushed : List Item) : Type 0 where
-  pub linked : AllReached m pushed (Linked m)
-  pub trees : AllReached m pushed (FormsTree m)
+-- where what custom sections push lives, what is reached does, so that without types that name one past their own group none of it
+-- is a dead reference; and without forms that stand in no file the module is refused for want of memory alone
+pub record LiveIsServed (m : Module) (pushed : List Item) : Type 0 where
   pub live : AllReached m pushed (Lives m)
-
--- what is reached in a linked module is so; and where its types name none past their own groups and it has no form that stands
--- in no file, it is refused for want of memory alone
-pub record LinkedIsServed (m : Module) (pushed : List Item) : Type 0 where
-  pub served : IsServed m pushed
+  pub none_dead : AllReached m pushed (StaysInGroup m) → (space : Space) → IsRefused m pushed (refusals.DeadReference space) → ⊥
   pub memory_alone : AllReached m pushed (StaysInGroup m) → AllReached m pushed (IsUnshared m) → AllReached m pushed (HasNoExact m)
       → (fault : ModuleError) → IsRefused m pushed fault → fault ≡ refusals.Memory
 
+-- in a linked module items and imports name each other and bodies are trees, whatever custom sections push
+pub record LinkedIsServed (m : Module) (pushed : List Item) : Type 0 where
+  pub linked : AllReached m pushed (Linked m)
+  pub trees : AllReached m pushed (FormsTree m)
+  pub not_unlinked : IsRefused m pushed refusals.NotLinked → ⊥
+  pub not_treeless : IsRefused m pushed refusals.NoTree → ⊥
+  pub pushing_live : GroupsAreWritten m.types → PushesLive m pushed → LiveIsServed m pushed
+
 abbrev pub LinkedAreServed : Type 0
-LinkedAreServed = (m : Module) (pushed : List Item) → IsLinked m → GroupsAreWritten m.types → PushesLive m pushed → LinkedIsServed m pushed
+LinkedAreServed = (m : Module) (pushed : List Item) → IsLinked m → LinkedIsServed m pushed

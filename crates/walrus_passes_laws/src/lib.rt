@@ -18,8 +18,9 @@ pub fn gc_keeps_linked()
     ensures { GcKeepsLinked }
 {}
 
-/// On a linked module whose types name none past their own groups, without shared globals and exact heap types, `gc::run`
-/// and `Used::new` are refused for want of memory alone, where custom sections push live items.
+/// On a linked module `gc::run` and `Used::new` never answer `NotLinked` and `NoTree`. Where custom sections push live items and
+/// types name none past their own groups, they don't answer `DeadReference`; and without shared globals and exact heap types they
+/// are refused for want of memory alone.
 pub fn linked_are_served()
     ensures { LinkedAreServed }
 {
