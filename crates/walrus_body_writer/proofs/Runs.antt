@@ -1,5 +1,5 @@
 -- Instructions that hold no sequence, one after another at a place of an open sequence.
-use Rattle.std.proofs.Common.{ℕ, ◌+◌, ◌<◌, ◌≤◌, ◌≡◌, Bool, true, false, List, [], ◌∷◌, ◌++◌, length, Option, Some, None, Ok, Err, refl, sym, ap, subst, arith, ◌∙◌, append-nil, inl, inr}
+use Rattle.std.proofs.Common.{ℕ, ◌≤◌, ◌≡◌, false, List, [], ◌∷◌, ◌++◌, length, Option, Some, Ok, Err, refl, sym, ap, subst, arith, ◌∙◌, append-nil, inl, inr}
 use Rattle.std.specs.Prelude.{slice_get, Result, OnErr, IfErr, IsErr, IsErrAnd}
 use Rattle.walrus_instr.specs.declared.instr.Instr.{Instr}
 use Rattle.walrus_instr.specs.declared.instr.Instr.TheVariants.{Block, Loop, IfElse, Try, TryTable}
@@ -18,10 +18,9 @@ use Rattle.walrus_body_writer.specs.declared.depths.Depths.{Depths}
 use Rattle.walrus_body_writer.specs.declared.output.Output.{Output}
 use Rattle.walrus_body_writer.specs.Spelled.{Text, written_instr}
 use Rattle.walrus_body_writer.specs.Doing.{entering, holds, label_by, left}
-use Rattle.walrus_body_writer.specs.Outputs.{IsSame}
-use Rattle.walrus_body_writer.specs.Refusals.{IsLarge, LeavesOff, value_in}
-use Rattle.walrus_body_writer.specs.Emitting.{State, state, advanced, Advances, AdvancesAt, AdvancesIn, Good, Passed, IsDone, Goes, GoesOn, GoesOff, Writes}
-use Rattle.walrus_body_writer.specs.Visiting.{Tells, TellsOn, TellsOff, ToldPart, Visits}
+use Rattle.walrus_body_writer.specs.Refusals.{IsLarge, value_in}
+use Rattle.walrus_body_writer.specs.Emitting.{State, state, advanced, Advances, AdvancesAt, AdvancesIn, Good, Passed, IsDone, Goes, GoesOn, GoesOff}
+use Rattle.walrus_body_writer.specs.Visiting.{Tells, TellsOn, TellsOff, ToldPart}
 use Rattle.walrus_body_writer.proofs.Steps.{passed, falls, refuses, writes_on}
 use Rattle.walrus_body_writer.proofs.Folds.{tells_on}
 
