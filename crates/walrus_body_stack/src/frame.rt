@@ -47,6 +47,9 @@ pub(crate) struct Frame {
     pub(crate) instrs: Vec<(Instr, InstrLocId)>,
 }
 
+// A list of fewer instructions is short.
+const FEW: usize = 16;
+
 impl Frame {
     /// Adds an instruction where it is reached.
     pub(crate) fn run(
@@ -68,6 +71,16 @@ impl Frame {
             Reach::Cut => Ok(()),
             Reach::Dropped => Ok(()),
         }
+    }
+
+    /// Leaves room for a block that is opened, and in a short list for that alone: it may stay open for long.
+    pub(crate) fn leave_room(&mut self) -> Result<(), AllocError>
+        ensures { open_of self.new ≡ open_of self.old }
+    {
+        if self.instrs.len() < FEW {
+            self.instrs.reserve_exact(1)?;
+        }
+        Ok(())
     }
 
     /// Adds a block where it was reached.

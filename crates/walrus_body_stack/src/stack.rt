@@ -27,6 +27,8 @@ pub struct Stack {
     // The innermost, which is always there.
     pub(crate) current: Frame,
     pub(crate) outer: Vec<Frame>,
+    // The room of a sequence that ended, for the next one.
+    pub(crate) spare: Vec<(Instr, InstrLocId)>,
 }
 
 impl Stack {
@@ -54,6 +56,7 @@ impl Stack {
             builder,
             current,
             outer: Vec::new(alloc),
+            spare: Vec::new(alloc),
         }
     }
 
@@ -154,6 +157,7 @@ impl Stack {
     {
         let own = ty;
         let reach = inner_reach(self.current.reach);
+        self.current.leave_room()?;
         let seq = self.fresh(ty)?;
         let sort = first_sort(opener);
         let handlers = Handlers::new(self.alloc);
@@ -165,26 +169,35 @@ impl Stack {
             seq,
             handlers,
             reach,
-            instrs: Vec::new(self.alloc),
+            instrs: self.room(),
         };
         self.push(frame)?;
         Ok(())
     }
 
-    // Gives the innermost sequence its instructions, and its end this location. A list that was pushed to has room to spare, which would
-    // cost each later walk its time.
-    pub(crate) fn close(&mut self, place: InstrLocId)
+    // Gives the innermost sequence its instructions, and its end this location.
+    pub(crate) fn close(&mut self, place: InstrLocId) -> Result<(), AllocError>
         requires { self.old.current.seq < length (blocks self.old) }
         ensures ty { heading_of self.new ≡ heading_of self.old }
-        ensures filled { blocks self.new ≡ filled place self.old }
-        ensures empty { self.new.current.instrs.items ≡ [] }
+        ensures filled { OnOk result (blocks self.new ≡ filled place self.old) }
+        ensures empty { OnOk result (self.new.current.instrs.items ≡ []) }
         ensures current { self.new.current ≡ record self.old.current { instrs = self.new.current.instrs } }
         ensures outer { self.new.outer ≡ self.old.outer }
     {
-        let empty = Vec::new(self.alloc);
-        let mut instrs = mem::replace(&mut self.current.instrs, empty);
-        instrs.shrink_to_fit();
+        let instrs = taken(&mut self.current.instrs)?;
         self.builder.fill(self.current.seq, instrs, place);
+        Ok(())
+    }
+
+    // The room of a sequence that ended, or none.
+    fn room(&mut self) -> Vec<(Instr, InstrLocId)>
+        ensures empty { result.items ≡ [] }
+        ensures rest { self.new ≡ record self.old { spare = self.new.spare } }
+    {
+        let empty = Vec::new(self.alloc);
+        let mut room = mem::replace(&mut self.spare, empty);
+        room.clear();
+        room
     }
 
     // The instruction of a block that ended; an `if` without `else` gets an empty one.
@@ -236,7 +249,7 @@ impl Stack {
         ensures ty { OnOk result (heading_of self.new ≡ heading_of self.old) }
         ensures ended { IfOk result (λ done. IsEnded done place self.old self.new) }
     {
-        self.close(place);
+        self.close(place)?;
         let Some(outer) = self.outer.pop() else {
             return Ok(true);
         };
@@ -249,8 +262,9 @@ impl Stack {
             seq,
             handlers,
             reach,
-            ..
+            instrs,
         } = closed;
+        self.spare = instrs;
         let instr = self.block_of(sort, ty, first, seq, handlers)?;
         self.current.nest(instr, place, reach)?;
         Ok(false)
@@ -268,7 +282,7 @@ impl Stack {
         ensures ty { OnOk result (heading_of self.new ≡ heading_of self.old) }
         ensures handed { IfOk result (λ done. IsHanded done depth self.old self.new) }
     {
-        self.close(InstrLocId::default());
+        self.close(InstrLocId::default())?;
         let Some(outer) = self.outer.pop() else {
             return Ok(true);
         };
@@ -284,6 +298,23 @@ impl Stack {
         self.current.nest(instr, place, reach)?;
         Ok(false)
     }
+}
+
+// What is longer gives up its room, and isn't copied.
+const SHORT: usize = 256;
+
+// The instructions, in a list of just their number: one with room to spare would cost each later walk its time.
+fn taken(instrs: &mut Vec<(Instr, InstrLocId)>) -> Result<Vec<(Instr, InstrLocId)>, AllocError>
+    ensures taken { IfOk result (λ own. own.items ≡ instrs.old.items) }
+    ensures empty { OnOk result (instrs.new.items ≡ []) }
+{
+    if instrs.len() <= SHORT {
+        return instrs.split_off(0);
+    }
+    let empty = Vec::new(*instrs.allocator());
+    let mut own = mem::replace(instrs, empty);
+    own.shrink_to_fit();
+    Ok(own)
 }
 
 // The first part of a block.

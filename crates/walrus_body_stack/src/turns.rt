@@ -34,7 +34,7 @@ impl Stack {
         ensures current { IfOk result (λ id. self.new.current ≡ record self.old.current { seq = id; reach = reach_on self.old.current.reach; instrs = self.new.current.instrs }) }
         ensures outer { self.new.outer ≡ self.old.outer }
     {
-        self.close(place);
+        self.close(place)?;
         let seq = self.fresh(ty)?;
         self.current.seq = seq;
         self.current.reach = next_reach(self.current.reach);

@@ -5,3 +5,4 @@ pub mod Outs
 mod Refused
 mod Steps
 mod Folds
+mod Runs

@@ -1,5 +1,5 @@
 -- What emission keeps: what is left to do, and how deep each open sequence lies.
-use Rattle.std.specs.Prelude.{◌≡◌, ℕ, ◌+◌, ◌-◌, ◌<◌, List, [], ◌∷◌, ◌++◌, drop, length, Option, Some, None, slice_get, slice_index_or, slice_set}
+use Rattle.std.specs.Prelude.{◌≡◌, ℕ, ◌+◌, ◌-◌, ◌<◌, Bool, true, false, List, [], ◌∷◌, ◌++◌, drop, length, Option, Some, None, slice_get, slice_index_or, slice_set}
 use Rattle.walrus_instr.specs.declared.instr.Instr.{Instr}
 use Rattle.walrus_instr.specs.declared.instr.Instr.TheVariants.{Block, Loop, IfElse, Try, TryTable}
 use Rattle.walrus_instr.specs.declared.instr.LegacyCatch.{LegacyCatch}
@@ -45,6 +45,15 @@ entering (IfElse k other) = Enter other closers.End ∷ Enter k closers.Else ∷
 entering (Try k catches) = handling catches.items ++ Enter k (closer_before catches.items) ∷ []
 entering (TryTable k _) = Enter k closers.End ∷ []
 entering _ = []
+
+-- whether it holds sequences
+abbrev pub holds : Instr → Bool
+holds (Block k) = true
+holds (Loop k) = true
+holds (IfElse k other) = true
+holds (Try k catches) = true
+holds (TryTable k catches) = true
+holds _ = false
 
 -- the sequences around the end of the list, innermost first, where `around` are those around its beginning
 abbrev pub opened : List ℕ → List Todo → List ℕ

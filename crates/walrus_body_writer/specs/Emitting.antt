@@ -1,10 +1,10 @@
 -- One step of emission, and what its loop keeps.
-use Rattle.std.specs.Prelude.{◌≡◌, ℕ, ◌+◌, ◌-◌, List, [], ◌∷◌, ◌++◌, length, Option, Some, None, Result, Ok, Err, slice_get}
+use Rattle.std.specs.Prelude.{◌≡◌, ℕ, ◌+◌, ◌-◌, ◌≤◌, List, [], ◌∷◌, ◌++◌, length, Option, Some, None, Result, Ok, Err, slice_get}
 use Rattle.walrus_instr.specs.declared.instr.Instr.{Instr}
 use Rattle.walrus_instr.specs.declared.seq.InstrLocId.{InstrLocId}
 use Rattle.walrus_instr.specs.declared.seq.InstrSeq.{InstrSeq}
 use Rattle.walrus_tree.specs.walrus_walks.Tree.{IsRank}
-use Rattle.walrus_tree.specs.TextLaws.{AreSound}
+use Rattle.walrus_tree.specs.TextLaws.{AreSound, TextIsPlain}
 use Rattle.walrus_body_writer.specs.declared.todo.Place.{Place}
 use Rattle.walrus_body_writer.specs.declared.todo.Todo.{Todo}
 use Rattle.walrus_body_writer.specs.declared.todo.Todo.TheVariants.{Inside}
@@ -21,7 +21,7 @@ use Rattle.wasm_operators.specs.Operators.{Seen}
 use Rattle.walrus_pairing.specs.Looks.{Look, Or}
 use Rattle.walrus_pairing.specs.declared.error.PairError.{PairError}
 use Rattle.walrus_body_writer.specs.Outputs.{PutsIf, IsSame, Wrote}
-use Rattle.walrus_body_writer.specs.Refusals.{Gives, IsLarge, value_in}
+use Rattle.walrus_body_writer.specs.Refusals.{Gives, IsLarge, LeavesOff, value_in}
 use Rattle.walrus_body_writer.specs.Spelled.{Text, written_instr, written}
 use Rattle.walrus_body_writer.specs.Doing.{piece_of, entering, opened, left, AreDeep, label_by, AreRanked, place_of, depths_after, height_after}
 
@@ -113,6 +113,15 @@ pub record Goes (look : Look) (b : List InstrSeq) (t : Text) (old : Output) (s :
   pub front : Text
   pub parts : t ≡ front ++ left b [] s.todo
   pub wrote : Wrote look b front old out
+
+-- behind these, what was written up to one place of what is next was written up to another, and no more is left
+abbrev pub GoesOn : Look → List InstrSeq → Depths → Todo → Todo → Output → Output → Type 0
+GoesOn look b d top next old new = TextIsPlain → (all : Text) (first : Output) (ts : List Todo) → Goes look b all first (state (ts ++ top ∷ []) d) old
+    → Goes look b all first (state (ts ++ next ∷ []) d) new × (length (left b [] (ts ++ next ∷ [])) ≤ length (left b [] (ts ++ top ∷ [])))
+
+-- or a piece there is refused
+abbrev pub GoesOff : Look → List InstrSeq → Depths → Todo → PairError → Output → Output → Type 0
+GoesOff look b d top e old new = TextIsPlain → (all : Text) (first : Output) (ts : List Todo) → Goes look b all first (state (ts ++ top ∷ []) d) old → LeavesOff look b all first e new
 
 -- a refusal has its cause; that a growth was refused says nothing
 abbrev pub IsCause : List InstrSeq → BodyError → Type 0

@@ -1,5 +1,5 @@
 -- What a visitor is told of.
-use Rattle.std.specs.Prelude.{◌≡◌, ◌⊎◌, ℕ, ◌+◌, List, [], ◌∷◌, ◌++◌, Some, slice_get}
+use Rattle.std.specs.Prelude.{◌≡◌, ◌⊎◌, ℕ, ◌+◌, ◌≤◌, List, [], ◌∷◌, ◌++◌, length, Some, slice_get}
 use Rattle.std.specs.List.{FoldsTo}
 use Rattle.walrus_body_env.specs.declared.error.BodyError.{BodyError}
 use Rattle.walrus_body_env.specs.declared.error.BodyError.TheVariants.{NoTree}
@@ -7,11 +7,14 @@ use Rattle.walrus_instr.specs.declared.instr.Instr.{Instr}
 use Rattle.walrus_instr.specs.declared.seq.InstrLocId.{InstrLocId}
 use Rattle.walrus_instr.specs.declared.seq.InstrSeq.{InstrSeq}
 use Rattle.walrus_tree.specs.Text.{Piece, Operator}
+use Rattle.walrus_tree.specs.TextLaws.{TextIsPlain}
+use Rattle.walrus_body_writer.specs.declared.depths.Depths.{Depths}
+use Rattle.walrus_body_writer.specs.declared.todo.Todo.{Todo}
 use Rattle.walrus_body_writer.specs.declared.todo.Met.{Met}
 use Rattle.walrus_body_writer.specs.declared.todo.Met.TheVariants.{AnInstr, AnEnd, Nothing}
 use Rattle.walrus_body_writer.specs.Spelled.{Text}
 use Rattle.walrus_body_writer.specs.Doing.{left, piece_of}
-use Rattle.walrus_body_writer.specs.Emitting.{Good, State}
+use Rattle.walrus_body_writer.specs.Emitting.{Good, State, state}
 
 -- it was told of what was met
 abbrev pub Visits : {V : Type 0} → (V → Piece × InstrLocId → V → Type 0) → List InstrSeq → Met → V → V → Type 0
@@ -35,6 +38,15 @@ pub record Tells {V : Type 0} (step : V → Piece × InstrLocId → V → Type 0
   pub front : Text
   pub parts : t ≡ front ++ left b [] s.todo
   pub told : FoldsTo step old front new
+
+-- behind these, what was told up to one place of what is next was told up to another, and no more is left
+abbrev pub TellsOn : {V : Type 0} → (V → Piece × InstrLocId → V → Type 0) → List InstrSeq → Todo → Todo → V → V → Type 0
+TellsOn {V} step b top next old new = TextIsPlain → (all : Text) (first : V) (ts : List Todo) (d : Depths) → Tells step b all first (state (ts ++ top ∷ []) d) old
+    → Tells step b all first (state (ts ++ next ∷ []) d) new × (length (left b [] (ts ++ next ∷ [])) ≤ length (left b [] (ts ++ top ∷ [])))
+
+-- or memory was wanted there
+abbrev pub TellsOff : {V : Type 0} → (V → Piece × InstrLocId → V → Type 0) → (V → V → Type 0) → List InstrSeq → Todo → V → V → Type 0
+TellsOff {V} step same b top old new = TextIsPlain → (all : Text) (first : V) (ts : List Todo) (d : Depths) → Tells step b all first (state (ts ++ top ∷ []) d) old → ToldPart step same all first new
 
 -- a body that is no tree leaves the visitor as it was; want of memory, with a first part told
 abbrev pub IsLeft : {V : Type 0} → (V → Piece × InstrLocId → V → Type 0) → (V → V → Type 0) → Text → V → V → BodyError → Type 0

@@ -1,32 +1,32 @@
 //! Bodies are written.
 
-ghost use Rattle.std.specs.Prelude.{List, IfErr, OnOk};
+ghost use Rattle.std.specs.Prelude.{List, IfErr, IfOk, OnOk};
 ghost use Rattle.walrus_tree.specs.walrus_builder.Functions.{seqs_of};
 ghost use Rattle.walrus_index_maps.specs.Views.{indices};
 ghost use Rattle.walrus_pairing.specs.Looks.{number_of};
 ghost use Rattle.walrus_pairing.specs.Seen.{as_seen};
 ghost use Rattle.walrus_tree.specs.Trees.{IsTree};
 ghost use Rattle.walrus_tree.specs.Text.{operators};
-ghost use Rattle.walrus_body_writer.specs.Doing.{piece_of};
-ghost use Rattle.walrus_body_writer.specs.Spelled.{written};
-ghost use Rattle.walrus_body_writer.specs.Emitting.{IsDone, Writes, state};
+ghost use Rattle.walrus_body_writer.specs.Doing.{label_by, piece_of};
+ghost use Rattle.walrus_body_writer.specs.Spelled.{written, written_instr};
+ghost use Rattle.walrus_body_writer.specs.Emitting.{GoesOff, GoesOn, IsDone, Writes, state};
 ghost use Rattle.walrus_body_writer.specs.Numbers.{look_of};
 ghost use Rattle.walrus_body_writer.specs.Outputs.{IsPut, Wrote};
-ghost use Rattle.walrus_body_writer.specs.Refusals.{IsRefusal, LeavesOff};
+ghost use Rattle.walrus_body_writer.specs.Refusals.{IsLarge, IsRefusal, LeavesOff, value_in};
 
 use crate::depths::Depths;
 use crate::numbers::{Numbers, Written};
 use crate::operators::{closer_of, written_of};
 use crate::output::Output;
 use crate::refusal::fault_of;
-use crate::todo::{Closer, Met, Todo};
+use crate::todo::{Closer, Met, Place, Todo};
 use crate::todos::Todos;
-use crate::walk::{advance, item_at, seq_at};
+use crate::walk::{advance, item_at, plain_at, seq_at};
 use std::alloc::Global;
 use walrus_arena::{FunctionId, InstrSeqId};
 use walrus_body_env::BodyError;
 use walrus_index_maps::IdsToIndices;
-use walrus_instr::{InstrLocId, InstrSeq};
+use walrus_instr::{Instr, InstrLocId, InstrSeq};
 use walrus_pairing::PairError;
 use walrus_tree::builder::FunctionBuilder;
 use walrus_tree::check_tree;
@@ -45,8 +45,25 @@ fn put(out: &mut Output, operator: Written, place: InstrLocId) -> Result<(), Pai
     }
 }
 
-// Writes the instruction at a position of an open sequence.
+// Writes an instruction, where these sequences are open.
+#[inline]
 #[tactic(auto, using(crate::proofs::Refused::done))]
+fn write_one(
+    alloc: Global,
+    numbers: &Numbers<'_>,
+    seqs: &[InstrSeq],
+    depths: &Depths,
+    instr: &Instr,
+    place: InstrLocId,
+    out: &mut Output,
+) -> Result<(), PairError>
+    ensures { IsDone (IsLarge (look_of numbers.now) (value_in seqs.now instr.now)) (written_instr (look_of numbers.now) seqs.now (label_by depths.now.depths.items depths.now.height) instr.now) place out.old out.new result }
+{
+    let operator = written_of(alloc, numbers, seqs, depths, instr);
+    put(out, operator, place)
+}
+
+// Writes the instruction at a position of an open sequence.
 fn write_instr(
     alloc: Global,
     numbers: &Numbers<'_>,
@@ -64,8 +81,7 @@ fn write_instr(
     let Some((instr, place)) = item_at(seq, at) else {
         return Ok(());
     };
-    let operator = written_of(alloc, numbers, seqs, depths, instr);
-    put(out, operator, *place)
+    write_one(alloc, numbers, seqs, depths, instr, *place, out)
 }
 
 // Writes what stands behind a sequence.
@@ -99,6 +115,57 @@ fn write_met(
     }
 }
 
+// Writes the instructions at a place of an open sequence, as far as none of them holds a sequence; gives the place behind them.
+fn write_plain(
+    alloc: Global,
+    numbers: &Numbers<'_>,
+    seqs: &[InstrSeq],
+    depths: &Depths,
+    place: Place,
+    out: &mut Output,
+) -> Result<Place, PairError>
+    ensures on { IfOk result (λ next. GoesOn (look_of numbers.now) seqs.now depths.now (Todo.Inside place) (Todo.Inside next) out.old out.new) }
+    ensures off { IfErr result (λ e. GoesOff (look_of numbers.now) seqs.now depths.now (Todo.Inside place) e out.old out.new) }
+{
+    let Some(seq) = seq_at(seqs, place.seq) else {
+        return Ok(place);
+    };
+    let mut next = place.next;
+    while let Some((instr, at)) = plain_at(seq, next) {
+        match write_one(alloc, numbers, seqs, depths, instr, *at, out) {
+            Ok(()) => {}
+            Err(error) => return Err(error),
+        }
+        next += 1;
+    }
+    Ok(Place {
+        seq: place.seq,
+        next,
+        closer: place.closer,
+    })
+}
+
+// The same of what is next, if it is open.
+fn write_on(
+    alloc: Global,
+    numbers: &Numbers<'_>,
+    seqs: &[InstrSeq],
+    depths: &Depths,
+    top: Todo,
+    out: &mut Output,
+) -> Result<Todo, PairError>
+    ensures on { IfOk result (λ next. GoesOn (look_of numbers.now) seqs.now depths.now top next out.old out.new) }
+    ensures off { IfErr result (λ e. GoesOff (look_of numbers.now) seqs.now depths.now top e out.old out.new) }
+{
+    match top {
+        Todo::Enter(_, _) => Ok(top),
+        Todo::Inside(place) => match write_plain(alloc, numbers, seqs, depths, place, out) {
+            Ok(next) => Ok(Todo::Inside(next)),
+            Err(error) => Err(error),
+        },
+    }
+}
+
 // Writes the sequences of a tree.
 fn write_tree(
     alloc: Global,
@@ -117,7 +184,11 @@ fn write_tree(
     let mut depths = Depths::new(alloc, seqs.len())?;
     let mut todo = Todos::new(alloc, Todo::Enter(entry, Closer::End));
     while let Some(top) = todo.pop() {
-        let met = advance(seqs, top, &mut todo, &mut depths)?;
+        let next = match write_on(alloc, numbers, seqs, &depths, top, out) {
+            Ok(next) => next,
+            Err(error) => return Err(error),
+        };
+        let met = advance(seqs, next, &mut todo, &mut depths)?;
         match write_met(alloc, numbers, seqs, &depths, met, out) {
             Ok(()) => {}
             Err(error) => return Err(error),

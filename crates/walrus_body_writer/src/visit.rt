@@ -1,6 +1,6 @@
 //! The text of a body is told, piece by piece.
 
-ghost use Rattle.std.specs.Prelude.{◌≡◌, ℕ, List, IfErr, OnErr, OnOk};
+ghost use Rattle.std.specs.Prelude.{◌≡◌, ℕ, List, IfErr, IfOk, OnErr, OnOk};
 ghost use Rattle.std.specs.List.{FoldsTo};
 ghost use Rattle.walrus_instr.specs.declared.seq.InstrLocId.{InstrLocId as Loc};
 ghost use Rattle.walrus_tree.specs.walrus_builder.Functions.{seqs_of};
@@ -8,12 +8,12 @@ ghost use Rattle.walrus_tree.specs.Trees.{IsTree};
 ghost use Rattle.walrus_tree.specs.Text.{Operator, Piece, operators};
 ghost use Rattle.walrus_body_writer.specs.Doing.{piece_of};
 ghost use Rattle.walrus_body_writer.specs.Emitting.{IsCause};
-ghost use Rattle.walrus_body_writer.specs.Visiting.{IsLeft, ToldPart, Visits};
+ghost use Rattle.walrus_body_writer.specs.Visiting.{IsLeft, TellsOff, TellsOn, ToldPart, Visits};
 
 use crate::depths::Depths;
-use crate::todo::{Closer, Met, Todo};
+use crate::todo::{Closer, Met, Place, Todo};
 use crate::todos::Todos;
-use crate::walk::{advance, item_at, seq_at};
+use crate::walk::{advance, item_at, plain_at, seq_at};
 use std::alloc::{AllocError, Global};
 use walrus_arena::InstrSeqId;
 use walrus_body_env::BodyError;
@@ -79,6 +79,48 @@ fn tell_met<V: TextVisitor>(visitor: &mut V, seqs: &[InstrSeq], met: Met) -> Res
     }
 }
 
+// Tells of the instructions at a place of an open sequence, as far as none of them holds a sequence; gives the place behind them.
+fn tell_plain<V: TextVisitor>(
+    visitor: &mut V,
+    seqs: &[InstrSeq],
+    place: Place,
+) -> Result<Place, AllocError>
+    ensures told { IfOk result (λ next. TellsOn V.step seqs.now (Todo.Inside place) (Todo.Inside next) visitor.old visitor.new) }
+    ensures refused { OnErr result (TellsOff V.step V.same seqs.now (Todo.Inside place) visitor.old visitor.new) }
+{
+    let Some(seq) = seq_at(seqs, place.seq) else {
+        return Ok(place);
+    };
+    let mut next = place.next;
+    while let Some((instr, at)) = plain_at(seq, next) {
+        visitor.instr(instr, *at)?;
+        next += 1;
+    }
+    Ok(Place {
+        seq: place.seq,
+        next,
+        closer: place.closer,
+    })
+}
+
+// The same of what is next, if it is open.
+fn tell_on<V: TextVisitor>(
+    visitor: &mut V,
+    seqs: &[InstrSeq],
+    top: Todo,
+) -> Result<Todo, AllocError>
+    ensures told { IfOk result (λ next. TellsOn V.step seqs.now top next visitor.old visitor.new) }
+    ensures refused { OnErr result (TellsOff V.step V.same seqs.now top visitor.old visitor.new) }
+{
+    match top {
+        Todo::Enter(_, _) => Ok(top),
+        Todo::Inside(place) => match tell_plain(visitor, seqs, place) {
+            Ok(next) => Ok(Todo::Inside(next)),
+            Err(error) => Err(error),
+        },
+    }
+}
+
 // Tells the text of a tree.
 fn visit_tree<V: TextVisitor>(
     alloc: Global,
@@ -96,7 +138,8 @@ fn visit_tree<V: TextVisitor>(
     let mut depths = Depths::new(alloc, seqs.len())?;
     let mut todo = Todos::new(alloc, Todo::Enter(entry, Closer::End));
     while let Some(top) = todo.pop() {
-        let met = advance(seqs, top, &mut todo, &mut depths)?;
+        let next = tell_on(visitor, seqs, top)?;
+        let met = advance(seqs, next, &mut todo, &mut depths)?;
         tell_met(visitor, seqs, met)?;
     }
     Ok(())

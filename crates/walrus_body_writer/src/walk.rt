@@ -1,7 +1,7 @@
 //! The text of a tree, piece by piece.
 
-ghost use Rattle.std.specs.Prelude.{◌≡◌, ◌+◌, ◌<◌, ◌++◌, [], ◌∷◌, IfOk, OnOk, OnSome, option_copied, slice_get};
-ghost use Rattle.walrus_body_writer.specs.Doing.{depths_after, entering, height_after, place_of};
+ghost use Rattle.std.specs.Prelude.{◌≡◌, ◌+◌, ◌<◌, ◌++◌, [], ◌∷◌, IfOk, IfSome, OnOk, OnSome, Some, false, option_copied, slice_get};
+ghost use Rattle.walrus_body_writer.specs.Doing.{depths_after, entering, height_after, holds, place_of};
 ghost use Rattle.walrus_body_writer.specs.Emitting.{Advances, state};
 
 use crate::depths::Depths;
@@ -46,6 +46,34 @@ pub(crate) fn item_at(seq: &InstrSeq, at: usize) -> Option<&(Instr, InstrLocId)>
         return None;
     }
     Some(&seq.instrs[at])
+}
+
+fn holds(instr: &Instr) -> bool
+    ensures { result ≡ holds instr.now }
+{
+    matches!(
+        instr,
+        Instr::Block { .. }
+            | Instr::Loop { .. }
+            | Instr::IfElse { .. }
+            | Instr::Try { .. }
+            | Instr::TryTable { .. }
+    )
+}
+
+/// The instruction at a position of a sequence, with its location, if it holds no sequence itself.
+#[inline]
+pub(crate) fn plain_at(seq: &InstrSeq, at: usize) -> Option<&(Instr, InstrLocId)>
+    ensures item { IfSome (option_copied result) (λ x. (slice_get seq.now.instrs.items at ≡ Some x) × (holds x.0 ≡ false)) }
+    ensures room { OnSome result (at < 18446744073709551615) }
+{
+    let Some(item) = item_at(seq, at) else {
+        return None;
+    };
+    if holds(&item.0) {
+        return None;
+    }
+    Some(item)
 }
 
 // Leaves what an instruction holds, and what is behind it, to do.

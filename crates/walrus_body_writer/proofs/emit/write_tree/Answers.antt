@@ -1,28 +1,50 @@
-use Rattle.std.proofs.Common.{ap, sym, []}
+use Rattle.std.proofs.Common.{List, ap, refl, sym, arith, length, [], ◌∷◌, ◌++◌}
 use Rattle.walrus_tree.specs.Text.{operators}
 use Rattle.walrus_body_writer.specs.Doing.{left}
 use Rattle.walrus_body_writer.specs.Emitting.{state}
 use Rattle.walrus_body_writer.specs.Numbers.{look_of}
 use Rattle.walrus_body_writer.proofs.Steps.{passed, falls, refuses, starts, writes_on}
+use Rattle.walrus_body_writer.specs.declared.todo.Todo.{Todo}
 use Rattle.walrus_body_writer.proofs.Outs.{wrote_none}
+use Rattle.walrus_body_writer.proofs.Runs.{if_memory, taken_goes}
+use Rattle.walrus_body_writer.proofs.Refused.{wants}
+use Rattle.walrus_body_writer.specs.Refusals.{LeavesOff}
 use Rattle.walrus_body_writer.proofs.emit.write_tree.Goals as goal
 
 pub loop-top-preserved : goal.loop-top-preserved
 loop-top-preserved c =
-    let b = c.args.seqs.now in
     let look = look_of c.args.numbers.now in
+    let b = c.args.seqs.now in
+    let all = operators b c.args.entry in
+    let first = c.args.out.now in
+    let ts = c.pop.new.self in
+    let d = c.loop-top.depths in
+    let next = c.in-Ok.next in
     let new = state c.advance.new.todo c.advance.new.depths in
-    let i = c.loop-top.invariant in
-    writes_on look b (operators b c.args.entry) c.args.out.now i.front (left b [] c.loop-top.todo) new c.loop-top.out c.write_met.new.out i.parts i.wrote c.in_ok-met.met
-    (passed b c.text_is_plain.ensures.plain c.loop-top.todo c.pop.new.self c.in-Some.top c.loop-top.depths c.in_ok-met.met new c.in-Some.ensures.items i.good c.in_ok-met.ensures)
-    (c.in-Ok.ensures c.advance.new.todo)
+    let plain = c.text_is_plain.ensures.plain in
+    let r = c.in-Ok.ensures.on plain all first ts (taken_goes look b all first c.loop-top.todo ts c.in-Some.top d c.loop-top.out c.in-Some.ensures.items c.loop-top.invariant) in
+    let i = r.0 in
+    let h = passed b plain (ts ++ next ∷ []) ts next d c.in_ok-met.met new refl i.good c.in_ok-met.ensures in
+    writes_on look b all first i.front (left b [] (ts ++ next ∷ [])) new c.write_on.new.out c.write_met.new.out i.parts i.wrote c.in_ok-met.met h (c.in-Ok-write_met.ensures c.advance.new.todo)
 
 pub loop-top-smaller : goal.loop-top-smaller
 loop-top-smaller c =
+    let look = look_of c.args.numbers.now in
     let b = c.args.seqs.now in
+    let all = operators b c.args.entry in
+    let first = c.args.out.now in
+    let ts = c.pop.new.self in
+    let d = c.loop-top.depths in
+    let next = c.in-Ok.next in
     let new = state c.advance.new.todo c.advance.new.depths in
-    falls b (left b [] c.loop-top.todo) c.in_ok-met.met new
-    (passed b c.text_is_plain.ensures.plain c.loop-top.todo c.pop.new.self c.in-Some.top c.loop-top.depths c.in_ok-met.met new c.in-Some.ensures.items c.loop-top.invariant.good c.in_ok-met.ensures)
+    let plain = c.text_is_plain.ensures.plain in
+    let r = c.in-Ok.ensures.on plain all first ts (taken_goes look b all first c.loop-top.todo ts c.in-Some.top d c.loop-top.out c.in-Some.ensures.items c.loop-top.invariant) in
+    let i = r.0 in
+    let h = passed b plain (ts ++ next ∷ []) ts next d c.in_ok-met.met new refl i.good c.in_ok-met.ensures in
+    let l = falls b (left b [] (ts ++ next ∷ [])) c.in_ok-met.met new h in
+    let m = r.1 in
+    let e = ap (λ (z : List Todo). length (left b [] z)) c.in-Some.ensures.items in
+    omega (arith, l, m, e)
 
 pub loop-top-init : goal.loop-top-init
 loop-top-init c =
@@ -38,9 +60,36 @@ loop-top-init c =
 
 pub returns-in-Err-clause-left : goal.returns-in-Err-clause-left
 returns-in-Err-clause-left c =
+    let look = look_of c.args.numbers.now in
     let b = c.args.seqs.now in
+    let all = operators b c.args.entry in
+    let first = c.args.out.now in
+    c.in-Err.ensures.off c.text_is_plain.ensures.plain all first c.pop.new.self (taken_goes look b all first c.loop-top.todo c.pop.new.self c.in-Some.top c.loop-top.depths c.loop-top.out c.in-Some.ensures.items c.loop-top.invariant)
+
+pub returns-in-Err-write_met-clause-left : goal.returns-in-Err-write_met-clause-left
+returns-in-Err-write_met-clause-left c =
+    let look = look_of c.args.numbers.now in
+    let b = c.args.seqs.now in
+    let all = operators b c.args.entry in
+    let first = c.args.out.now in
+    let ts = c.pop.new.self in
+    let d = c.loop-top.depths in
+    let next = c.in-Ok.next in
     let new = state c.advance.new.todo c.advance.new.depths in
-    let i = c.loop-top.invariant in
-    refuses (look_of c.args.numbers.now) b (operators b c.args.entry) c.args.out.now i.front (left b [] c.loop-top.todo) new c.loop-top.out c.write_met.new.out i.parts i.wrote c.in_ok-met.met c.in-Err.error
-    (passed b c.text_is_plain.ensures.plain c.loop-top.todo c.pop.new.self c.in-Some.top c.loop-top.depths c.in_ok-met.met new c.in-Some.ensures.items i.good c.in_ok-met.ensures)
-    (c.in-Err.ensures c.advance.new.todo)
+    let plain = c.text_is_plain.ensures.plain in
+    let r = c.in-Ok.ensures.on plain all first ts (taken_goes look b all first c.loop-top.todo ts c.in-Some.top d c.loop-top.out c.in-Some.ensures.items c.loop-top.invariant) in
+    let i = r.0 in
+    let h = passed b plain (ts ++ next ∷ []) ts next d c.in_ok-met.met new refl i.good c.in_ok-met.ensures in
+    refuses look b all first i.front (left b [] (ts ++ next ∷ [])) new c.write_on.new.out c.write_met.new.out i.parts i.wrote c.in_ok-met.met c.in-Err-write_met.error h (c.in-Err-write_met.ensures c.advance.new.todo)
+
+pub returns-in_err-met-clause-left : goal.returns-in_err-met-clause-left
+returns-in_err-met-clause-left c =
+    let look = look_of c.args.numbers.now in
+    let b = c.args.seqs.now in
+    let all = operators b c.args.entry in
+    let first = c.args.out.now in
+    let ts = c.pop.new.self in
+    let d = c.loop-top.depths in
+    let i = (c.in-Ok.ensures.on c.text_is_plain.ensures.plain all first ts (taken_goes look b all first c.loop-top.todo ts c.in-Some.top d c.loop-top.out c.in-Some.ensures.items c.loop-top.invariant)).0 in
+    if_memory c.from_residual-in_err-met.result (λ e. LeavesOff look b all first e c.write_on.new.out)
+    (wants look b all i.front (left b [] (ts ++ c.in-Ok.next ∷ [])) first c.write_on.new.out i.parts i.wrote) c.from_residual-in_err-met.ensures

@@ -1,0 +1,33 @@
+use Rattle.std.proofs.Common.{arith}
+use Rattle.std.proofs.lemmas.Option.{slice_get_within}
+use Rattle.walrus_body_writer.specs.declared.todo.Place.{Place}
+use Rattle.walrus_body_writer.specs.declared.todo.Todo.TheVariants.{Inside}
+use Rattle.walrus_body_writer.specs.Emitting.{advanced}
+use Rattle.walrus_body_writer.specs.Visiting.{TellsOff}
+use Rattle.walrus_body_writer.proofs.Runs.{on_err, tells_more, turn_tells, wants_more, wants_there}
+use Rattle.walrus_body_writer.proofs.visit.tell_plain.Goals as goal
+
+pub returns-in_err-instr-clause-refused : goal.returns-in_err-instr-clause-refused
+returns-in_err-instr-clause-refused g c =
+    let step = g.V.TextVisitor.step in
+    let same = g.V.TextVisitor.same in
+    let b = c.args.seqs.now in
+    let here : Place = record { seq = c.args.place.seq; next = c.loop-instr.next; closer = c.args.place.closer } in
+    on_err c.from_residual.result (TellsOff step same b (Inside c.args.place) c.args.visitor.now c.instr.new.self)
+    (wants_more step same b (Inside c.args.place) (Inside here) c.args.visitor.now c.loop-instr.visitor c.instr.new.self c.loop-instr.invariant
+    (wants_there step same b (Inside here) c.loop-instr.visitor c.instr.new.self c.in_err-instr.ensures.refused))
+
+pub loop-instr-smaller : goal.loop-instr-smaller
+loop-instr-smaller g c =
+    let l = slice_get_within c.in-Some.seq.now.instrs.items c.loop-instr.next c.in-Some-plain_at.field-0.now c.in-Some-plain_at.ensures.item.0 in
+    omega (arith, l)
+
+pub loop-instr-preserved : goal.loop-instr-preserved
+loop-instr-preserved g c =
+    let step = g.V.TextVisitor.step in
+    let same = g.V.TextVisitor.same in
+    let b = c.args.seqs.now in
+    let here : Place = record { seq = c.args.place.seq; next = c.loop-instr.next; closer = c.args.place.closer } in
+    let i = c.in-Some-plain_at.field-0.now in
+    tells_more step same b (Inside c.args.place) (Inside here) (Inside (advanced here)) c.args.visitor.now c.loop-instr.visitor c.instr.new.self c.loop-instr.invariant
+    (turn_tells b here c.in-Some.seq.now i (let e = c.in-Some.ensures in cc) c.in-Some-plain_at.ensures.item.0 c.in-Some-plain_at.ensures.item.1 step same c.loop-instr.visitor c.instr.new.self c.in_ok-instr.ensures.told)
