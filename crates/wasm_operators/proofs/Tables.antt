@@ -1,5 +1,5 @@
 -- Lemmas: entries by number say what the rows say.
-use Rattle.std.proofs.Common.{◌≡◌, ◌<◌, ◌≤◌, ◌&&◌, ◌∙◌, inl, inr, nat_le, nat_lt, ℕ, Bool, true, false, List, [], ◌∷◌, Option, None, refl, sym, arith, map, slice_index_or}
+use Rattle.std.proofs.Common.{◌≡◌, ◌≤◌, ◌&&◌, ◌∙◌, inl, inr, nat_le, nat_lt, ℕ, Bool, true, false, List, [], ◌∷◌, Option, None, refl, sym, arith, map, slice_index_or}
 use Rattle.std.specs.List.{range_with_len}
 use Rattle.std.proofs.lemmas.Bool.{cases_Bool, cases_lt, leb-true, ltb-true, le-ltb}
 use Rattle.std.proofs.lemmas.List.{get_or_past}

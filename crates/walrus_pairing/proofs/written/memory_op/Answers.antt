@@ -1,5 +1,0 @@
-use Rattle.std.proofs.Common.{refl, sym}
-use Rattle.walrus_pairing.proofs.written.memory_op.Goals as goal
-
-pub returns : goal.returns
-returns c = rw (c.op.ensures, sym c.get_memory_index.ensures, sym c.in_ok-memory.ensures) refl
