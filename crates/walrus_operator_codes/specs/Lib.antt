@@ -2,6 +2,7 @@ pub mod Runs
 pub mod Unary
 pub mod Binary
 pub mod Ternary
+pub mod Numeric
 -- Passed on to crates above, which then list this one alone.
 pub use Rattle.walrus_instr.specs as walrus_instr
 pub use Rattle.walrus_instr.specs.walrus_items as walrus_items

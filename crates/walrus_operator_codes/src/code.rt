@@ -61,5 +61,8 @@ pub fn atomic(number: u32) -> OpCode
 pub fn pick<T: Copy>(ops: &[T], at: u32) -> Option<T>
     ensures { result ≡ slice_get ops.now at }
 {
-    ops.get(at as usize).copied()
+    match ops.get(at as usize) {
+        Some(op) => Some(*op),
+        None => None,
+    }
 }

@@ -4,6 +4,8 @@
 
 mod binary;
 mod code;
+mod numeric;
+mod table;
 mod ternary;
 mod unary;
 

@@ -2,6 +2,7 @@
 
 use crate::view::{Seen, holds, text};
 use std::alloc::Global;
+use wasm_operators::Kind;
 
 // An access, its memory behind 2^32 times it with its alignment, and its offset. Flags with bit 6 have a memory's index behind them.
 const ACCESSES: [(&[u8], u64, u64); 9] = [
@@ -41,7 +42,7 @@ fn holds_accesses(alloc: Global, prefix: u8, number: u32) -> bool {
         if !holds(
             alloc,
             &bytes,
-            Seen::new(prefix, number, "access", place, offset),
+            Seen::new(prefix, number, Kind::Access, place, offset),
         ) {
             return false;
         }
@@ -54,7 +55,7 @@ fn holds_lanes(alloc: Global, number: u32) -> bool {
         let Ok(bytes) = text(alloc, 0xfd, number, byte, &[]) else {
             return false;
         };
-        if !holds(alloc, &bytes, Seen::new(0xfd, number, "lane", lane, 0)) {
+        if !holds(alloc, &bytes, Seen::new(0xfd, number, Kind::Lane, lane, 0)) {
             return false;
         }
     }
@@ -69,7 +70,7 @@ fn holds_access_lanes(alloc: Global, number: u32) -> bool {
         if !holds(
             alloc,
             &bytes,
-            Seen::new(0xfd, number, "access lane", 131, lane),
+            Seen::new(0xfd, number, Kind::AccessLane, 131, lane),
         ) {
             return false;
         }

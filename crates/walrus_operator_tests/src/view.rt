@@ -4,6 +4,7 @@ use std::alloc::{AllocError, Global};
 use walrus_operator_writer::write_operator;
 use walrus_operators::{Immediates, Operator, OperatorError, OperatorReader};
 use wasm_immediates::MemoryAccess;
+use wasm_operators::Kind;
 use wasm_reader::{BinaryReader, ErrorKind, WasmFeatures};
 
 // The operator that these bytes are, all of them. The first stands at 11. All features are on.
@@ -23,13 +24,13 @@ pub fn read(alloc: Global, bytes: &[u8]) -> Option<Operator> {
 pub struct Seen {
     prefix: u8,
     number: u32,
-    form: &'static str,
+    form: Kind,
     first: u64,
     second: u64,
 }
 
 impl Seen {
-    pub fn new(prefix: u8, number: u32, form: &'static str, first: u64, second: u64) -> Self {
+    pub fn new(prefix: u8, number: u32, form: Kind, first: u64, second: u64) -> Self {
         Seen {
             prefix,
             number,
@@ -133,57 +134,57 @@ fn of_access(access: &MemoryAccess) -> (u64, u64) {
     )
 }
 
-fn named(form: &'static str, first: u32, second: u32) -> (&'static str, u64, u64) {
+fn named(form: Kind, first: u32, second: u32) -> (Kind, u64, u64) {
     (form, u64::from(first), u64::from(second))
 }
 
-fn numbers(immediates: &Immediates) -> (&'static str, u64, u64) {
+fn numbers(immediates: &Immediates) -> (Kind, u64, u64) {
     match immediates {
-        Immediates::Bare => ("none", 0, 0),
-        Immediates::Block(_) => ("block", 0, 0),
-        Immediates::TryTable(_, clauses) => ("try_table", clauses.len() as u64, 0),
-        Immediates::Tag(n) => named("tag", *n, 0),
-        Immediates::Label(n) => named("label", *n, 0),
+        Immediates::Bare => (Kind::Bare, 0, 0),
+        Immediates::Block(_) => (Kind::Block, 0, 0),
+        Immediates::TryTable(_, clauses) => (Kind::TryTable, clauses.len() as u64, 0),
+        Immediates::Tag(n) => named(Kind::Tag, *n, 0),
+        Immediates::Label(n) => named(Kind::Label, *n, 0),
         Immediates::BrTable(labels, otherwise) => (
-            "br_table",
+            Kind::BrTable,
             labels.len() as u64,
             u64::from(*otherwise),
         ),
-        Immediates::Function(n) => named("function", *n, 0),
-        Immediates::TypeTable(m, n) => named("type table", *m, *n),
-        Immediates::Type(n) => named("type", *n, 0),
-        Immediates::Select(types) => ("select", types.len() as u64, 0),
-        Immediates::Local(n) => named("local", *n, 0),
-        Immediates::Global(n) => named("global", *n, 0),
-        Immediates::Table(n) => named("table", *n, 0),
+        Immediates::Function(n) => named(Kind::Function, *n, 0),
+        Immediates::TypeTable(m, n) => named(Kind::TypeTable, *m, *n),
+        Immediates::Type(n) => named(Kind::Type, *n, 0),
+        Immediates::Select(types) => (Kind::Select, types.len() as u64, 0),
+        Immediates::Local(n) => named(Kind::Local, *n, 0),
+        Immediates::Global(n) => named(Kind::Global, *n, 0),
+        Immediates::Table(n) => named(Kind::Table, *n, 0),
         Immediates::Access(access) => {
             let (first, second) = of_access(access);
-            ("access", first, second)
+            (Kind::Access, first, second)
         }
-        Immediates::Memory(n) => named("memory", *n, 0),
-        Immediates::I32(_) => ("i32", 0, 0),
-        Immediates::I64(_) => ("i64", 0, 0),
-        Immediates::F32(x) => ("f32", u64::from(x.bits()), 0),
-        Immediates::F64(x) => ("f64", x.bits(), 0),
-        Immediates::Heap(_) => ("heap", 0, 0),
-        Immediates::DataMemory(m, n) => named("data memory", *m, *n),
-        Immediates::Data(n) => named("data", *n, 0),
-        Immediates::MemoryMemory(m, n) => named("memory memory", *m, *n),
-        Immediates::ElementTable(m, n) => named("element table", *m, *n),
-        Immediates::Element(n) => named("element", *n, 0),
-        Immediates::TableTable(m, n) => named("table table", *m, *n),
-        Immediates::TypeNumber(m, n) => named("type number", *m, *n),
-        Immediates::TypeData(m, n) => named("type data", *m, *n),
-        Immediates::TypeElement(m, n) => named("type element", *m, *n),
-        Immediates::TypeType(m, n) => named("type type", *m, *n),
-        Immediates::Cast(flags, label, _, _) => ("cast", u64::from(*flags), u64::from(*label)),
-        Immediates::Vector(bytes) => ("vector", u64::from(bytes[0]), u64::from(bytes[15])),
-        Immediates::Lane(lane) => ("lane", u64::from(*lane), 0),
+        Immediates::Memory(n) => named(Kind::Memory, *n, 0),
+        Immediates::I32(_) => (Kind::I32, 0, 0),
+        Immediates::I64(_) => (Kind::I64, 0, 0),
+        Immediates::F32(x) => (Kind::F32, u64::from(x.bits()), 0),
+        Immediates::F64(x) => (Kind::F64, x.bits(), 0),
+        Immediates::Heap(_) => (Kind::Heap, 0, 0),
+        Immediates::DataMemory(m, n) => named(Kind::DataMemory, *m, *n),
+        Immediates::Data(n) => named(Kind::Data, *n, 0),
+        Immediates::MemoryMemory(m, n) => named(Kind::MemoryMemory, *m, *n),
+        Immediates::ElementTable(m, n) => named(Kind::ElementTable, *m, *n),
+        Immediates::Element(n) => named(Kind::Element, *n, 0),
+        Immediates::TableTable(m, n) => named(Kind::TableTable, *m, *n),
+        Immediates::TypeNumber(m, n) => named(Kind::TypeNumber, *m, *n),
+        Immediates::TypeData(m, n) => named(Kind::TypeData, *m, *n),
+        Immediates::TypeElement(m, n) => named(Kind::TypeElement, *m, *n),
+        Immediates::TypeType(m, n) => named(Kind::TypeType, *m, *n),
+        Immediates::Cast(flags, label, _, _) => (Kind::Cast, u64::from(*flags), u64::from(*label)),
+        Immediates::Vector(bytes) => (Kind::Vector, u64::from(bytes[0]), u64::from(bytes[15])),
+        Immediates::Lane(lane) => (Kind::Lane, u64::from(*lane), 0),
         Immediates::AccessLane(access, lane) => (
-            "access lane",
+            Kind::AccessLane,
             u64::from(access.align),
             u64::from(*lane),
         ),
-        Immediates::Zero => ("zero", 0, 0),
+        Immediates::Zero => (Kind::Zero, 0, 0),
     }
 }

@@ -1,5 +1,5 @@
 -- Bytes are written one behind another.
-use Rattle.std.proofs.Common.{◌≡◌, ℕ, List, [], ◌∷◌, ◌++◌, Result, Ok, Err, sym, ap, ◌∙◌}
+use Rattle.std.proofs.Common.{◌≡◌, ℕ, List, [], ◌∷◌, ◌++◌, Result, Ok, Err, sym, ◌∙◌}
 use Rattle.std.proofs.lemmas.List.{append-nil, append_assoc}
 use Rattle.std.specs.List.{flat_map}
 use Rattle.std.specs.declared.alloc.AllocError.{AllocError}
@@ -7,16 +7,8 @@ use Rattle.wasm_immediates.specs.Items.{Item}
 use Rattle.wasm_operators.specs.declared.op_code.OpCode.{OpCode}
 use Rattle.wasm_operator_ranges.specs.wasm_operator_bytes.Bytes.{code_bytes, item_bytes}
 use Rattle.walrus_operator_writer.specs.Appended.{Appends, AppendsItems, with_items}
-use Rattle.walrus_operator_writer.proofs.Keeps.{keeps_on}
-
--- nothing is written
-pub nothing : (old : List ℕ) → old ≡ old ++ []
-nothing old = sym (append-nil old)
-
--- first these bytes, then those
-pub appends_on : (old mid new a b : List ℕ) (result : Result (Unit {0}) AllocError) → mid ≡ old ++ a → Appends b mid new result → Appends (a ++ b) old new result
-appends_on old mid new a b (Ok x) e h = h ∙ ap (λ (l : List ℕ). l ++ b) e ∙ append_assoc old a b
-appends_on old mid new a b (Err x) e h = keeps_on old mid new a e h
+use Rattle.walrus_number_writer.proofs.Keeps.{keeps_on}
+pub use Rattle.walrus_number_writer.proofs.Appends.{nothing, appends_on}
 
 pub with_items_is : (out : List ℕ) (items : List Item) → with_items out items ≡ out ++ flat_map item_bytes items
 with_items_is out [] = sym (append-nil out)

@@ -1,5 +1,3 @@
-pub mod Shortens
 pub mod Appends
 pub mod Keeps
-pub mod Digits
 pub mod Again

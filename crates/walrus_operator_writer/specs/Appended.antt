@@ -3,15 +3,7 @@ use Rattle.std.specs.Prelude.{ℕ, ◌≡◌, List, [], ◌∷◌, ◌++◌, Res
 use Rattle.std.specs.declared.alloc.AllocError.{AllocError}
 use Rattle.wasm_immediates.specs.Items.{Item}
 use Rattle.wasm_operator_ranges.specs.wasm_operator_bytes.Bytes.{item_bytes}
-
--- what was there stands at the front
-pub record Keeps (old new : List ℕ) : Type 0 where
-  pub more : List ℕ
-  pub behind : new ≡ old ++ more
-
--- these bytes were put behind what was there; or memory was refused part of the way
-abbrev pub Appends : List ℕ → List ℕ → List ℕ → Result (Unit {0}) AllocError → Type 0
-Appends bytes old new result = MatchResult result (λ _. new ≡ old ++ bytes) (λ _. Keeps old new)
+pub use Rattle.walrus_number_writer.specs.Appended.{Keeps, Appends}
 
 -- the items behind these bytes, one after another
 abbrev pub with_items : List ℕ → List Item → List ℕ

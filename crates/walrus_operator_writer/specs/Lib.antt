@@ -1,4 +1,3 @@
-pub mod Signs
 pub mod Appended
 pub mod Laws
 -- Passed on to crates above, which then list this one alone.

@@ -5,11 +5,11 @@ ghost use Rattle.walrus_operators.specs.Immediates.{items_of};
 ghost use Rattle.walrus_operator_writer.specs.Appended.{Appends, AppendsItems};
 ghost use Rattle.wasm_operator_ranges.specs.wasm_operator_bytes.Bytes.{access_bytes, clause_bytes, unsigned_bytes, value_bytes, vec_bytes};
 
-use crate::number::{
-    write_bits32, write_bits64, write_byte, write_bytes, write_signed, write_unsigned,
-};
 use crate::types::{write_block_type, write_heap_type, write_value_type};
 use std::alloc::AllocError;
+use walrus_number_writer::{
+    write_bits32, write_bits64, write_byte, write_bytes, write_signed, write_unsigned,
+};
 use walrus_operators::Immediates;
 use wasm_immediates::{Clause, MemoryAccess};
 use wasm_ref_types::ValType;

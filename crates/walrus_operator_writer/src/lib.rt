@@ -3,10 +3,9 @@
 
 mod immediates;
 pub mod laws;
-mod number;
 mod operator;
 mod types;
 
-pub use number::write_unsigned;
 pub use operator::write_operator;
 pub use types::write_value_type;
+pub use walrus_number_writer::write_unsigned;

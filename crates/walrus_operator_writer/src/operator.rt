@@ -6,8 +6,8 @@ ghost use Rattle.walrus_operator_writer.specs.Appended.{Appends};
 ghost use Rattle.wasm_operator_ranges.specs.wasm_operator_bytes.Bytes.{code_bytes, operator_bytes, unsigned_bytes};
 
 use crate::immediates::write_immediates;
-use crate::number::{write_byte, write_unsigned};
 use std::alloc::AllocError;
+use walrus_number_writer::{write_byte, write_unsigned};
 use walrus_operators::Operator;
 use wasm_operators::OpCode;
 

@@ -1,2 +1,3 @@
 mod Handlers
 mod Moves
+mod Unknown

@@ -9,7 +9,7 @@ use crate::read::read_immediates;
 use std::alloc::Global;
 use std::marker::Model;
 use wasm_operators::OpCode;
-use wasm_reader::{BinaryReader, Error, FromReader, Result};
+use wasm_reader::{BinaryReader, Error, Result};
 
 /// Why no operator was read.
 #[derive(Clone, Copy, PartialEq, Eq)]
@@ -76,10 +76,10 @@ impl<'a> OperatorReader<'a> {
     pub fn read(&mut self, alloc: Global) -> Result<Operator, OperatorError>
         ensures { ReadsOperator self.old.window.features self.old self.new result }
     {
-        let offset = self.reader.original_position();
-        let code = OpCode::from_reader(alloc, &mut self.reader)?;
-        let Some(kind) = code.kind(self.reader.features()) else {
-            return Err(OperatorError::Unknown(offset));
+        let (code, kind) = OpCode::read(alloc, &mut self.reader)?;
+        let kind = match kind {
+            Ok(kind) => kind,
+            Err(offset) => return Err(OperatorError::Unknown(offset)),
         };
         let immediates = read_immediates(kind, alloc, &mut self.reader)?;
         Ok(Operator { code, immediates })

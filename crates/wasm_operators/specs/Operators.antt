@@ -1,7 +1,8 @@
 -- Operators, and how they are read (Core Specification, binary format: instructions).
-use Rattle.std.specs.Prelude.{ℕ, ◌&&◌, nat_le, Bool, true, List, Option, Some, None, Ok, if◌then◌else◌}
+use Rattle.std.specs.Prelude.{ℕ, ◌+◌, ◌&&◌, ◌≡◌, nat_le, Bool, true, List, Option, Some, None, Result, Ok, Err, if◌then◌else◌}
 use Rattle.wasm_immediates.specs.wasm_features.declared.WasmFeatures.{WasmFeatures}
 use Rattle.wasm_immediates.specs.wasm_features.Features.{has, LegacyExceptions, WideArithmetic}
+use Rattle.wasm_immediates.specs.wasm_reader.Cursor.{Cursor}
 use Rattle.wasm_immediates.specs.wasm_reader.Reading.{Reading, ◌>>=◌, byte_at}
 use Rattle.wasm_immediates.specs.wasm_reader.Numbers.{unsigned_at}
 use Rattle.wasm_immediates.specs.Items.{Item}
@@ -28,6 +29,11 @@ allowed features (Some e) = if is_on features e.gate then Some e.kind else None
 -- which immediates follow a code, where it is an operator under these features
 unfoldable pub kind_of : WasmFeatures → OpCode → Option Kind
 kind_of features code = allowed features (find_code code.prefix code.number)
+
+-- which immediates follow a code that was read here; or, if it is no operator's, where it begins
+abbrev pub IsKindOrPlace : Cursor → OpCode → Result Kind ℕ → Type 0
+IsKindOrPlace old code (Ok kind) = kind_of old.window.features code ≡ Some kind
+IsKindOrPlace old code (Err offset) = (kind_of old.window.features code ≡ None) × (offset ≡ old.window.start + old.position)
 
 -- what it does to a run, where the table knows it
 abbrev pub flow_in : Option Entry → Option Flow

@@ -1,8 +1,9 @@
 //! The codes of operators (Core Specification, binary format: instructions).
 
-ghost use Rattle.std.specs.Prelude.{◌≡◌};
+ghost use Rattle.std.specs.Prelude.{◌≡◌, IfOk};
+ghost use Rattle.wasm_immediates.specs.wasm_reader.Reading.{Reads};
 ghost use Rattle.wasm_operators.specs.Table.{find_code};
-ghost use Rattle.wasm_operators.specs.Operators.{code_at, flow_of, kind_of};
+ghost use Rattle.wasm_operators.specs.Operators.{code_at, flow_of, kind_of, IsKindOrPlace};
 
 use crate::entry::{Entry, Flow, Kind};
 use crate::table::code_entry;
@@ -40,6 +41,28 @@ impl OpCode {
             return None;
         }
         Some(entry.kind)
+    }
+
+    /// The next code, and which immediates follow it; in place of these the offset of the code's first byte, where it is no
+    /// operator's under the reader's features.
+    ///
+    /// # Errors
+    ///
+    /// As the reader refuses the code.
+    #[inline]
+    pub fn read(
+        alloc: Global,
+        reader: &mut BinaryReader<'_>,
+    ) -> Result<(OpCode, std::result::Result<Kind, u64>)>
+        ensures code { Reads code_at (λ read. read.0) reader.old reader.new result }
+        ensures kind { IfOk result (λ read. IsKindOrPlace reader.old read.0 read.1) }
+    {
+        let offset = reader.original_position();
+        let code = OpCode::from_reader(alloc, reader)?;
+        match code.kind(reader.features()) {
+            Some(kind) => Ok((code, Ok(kind))),
+            None => Ok((code, Err(offset))),
+        }
     }
 
     /// What it does to a run, where the table knows it.

@@ -1,205 +1,212 @@
-//! The table of operators: each list of rows as a `match`, an arm a row.
+//! The table of operators: their entries by number.
 
-ghost use Rattle.std.specs.Prelude.{◌≡◌, Some};
-ghost use Rattle.wasm_operators.specs.declared.entry.Gate.TheVariants.{Always};
-ghost use Rattle.wasm_operators.specs.declared.entry.Flow.TheVariants.{Goes};
-ghost use Rattle.wasm_operators.specs.Table.{find, find_byte, find_code, structure_rows, call_rows, plain_rows, fb_rows, fc_rows, fd_rows, fe_rows};
+ghost use Rattle.std.specs.Prelude.{◌≡◌, None, slice_index_or};
+ghost use Rattle.wasm_operators.specs.Table.{find_code};
 
 use crate::entry::{Entry, Flow, Gate, Kind};
 
-#[inline]
-fn entry(gate: Gate, kind: Kind, flow: Flow) -> Option<Entry>
-    ensures { result ≡ Some (record { gate = gate; kind = kind; flow = flow }) }
-{
-    Some(Entry { gate, kind, flow })
+macro_rules! entry {
+    ($gate:ident, $kind:ident, $flow:ident) => {
+        Some(Entry {
+            gate: Gate::$gate,
+            kind: Kind::$kind,
+            flow: Flow::$flow,
+        })
+    };
 }
 
 // Of an operator that is always on, and after which a run goes on or traps.
-#[inline]
-fn plain(kind: Kind) -> Option<Entry>
-    ensures { result ≡ Some (record { gate = Always; kind = kind; flow = Goes }) }
-{
-    entry(Gate::Always, kind, Flow::Goes)
+macro_rules! plain {
+    ($kind:ident) => {
+        entry!(Always, $kind, Goes)
+    };
 }
 
-// The bytes below 10: blocks and what leaves them.
-#[inline]
-#[tactic(auto, unfolding(crate::specs::Table::structure_rows))]
-fn structure_entry(number: u32) -> Option<Entry>
-    ensures { result ≡ find structure_rows number }
-{
-    match number {
-        0x00 => entry(Gate::Always, Kind::Bare, Flow::Traps),
-        0x01 => entry(Gate::Always, Kind::Bare, Flow::Passes),
-        0x02 => entry(Gate::Always, Kind::Block, Flow::OpensBlock),
-        0x03 => entry(Gate::Always, Kind::Block, Flow::OpensLoop),
-        0x04 => entry(Gate::Always, Kind::Block, Flow::OpensIf),
-        0x05 => entry(Gate::Always, Kind::Bare, Flow::Else),
-        0x06 => entry(Gate::LegacyExceptions, Kind::Block, Flow::OpensTry),
-        0x07 => entry(Gate::LegacyExceptions, Kind::Tag, Flow::Catch),
-        0x08 => entry(Gate::Always, Kind::Tag, Flow::Throws),
-        0x09 => entry(Gate::LegacyExceptions, Kind::Label, Flow::Throws),
-        0x0a => entry(Gate::Always, Kind::Bare, Flow::ThrowsOrTraps),
-        0x0b => entry(Gate::Always, Kind::Bare, Flow::End),
-        0x0c => entry(Gate::Always, Kind::Label, Flow::Branches),
-        0x0d => entry(Gate::Always, Kind::Label, Flow::Chooses),
-        0x0e => entry(Gate::Always, Kind::BrTable, Flow::Selects),
-        0x0f => entry(Gate::Always, Kind::Bare, Flow::Returns),
-        _ => None,
-    }
-}
+const NONE: Option<Entry> = None;
 
-// The bytes 10 to 27: calls, the rest of the blocks, and operators on locals, globals and tables.
-#[inline]
-#[tactic(auto, unfolding(crate::specs::Table::call_rows))]
-fn call_entry(number: u32) -> Option<Entry>
-    ensures { result ≡ find call_rows number }
-{
-    match number {
-        0x10 => entry(Gate::Always, Kind::Function, Flow::Calls),
-        0x11 => entry(Gate::Always, Kind::TypeTable, Flow::CallsIndirectly),
-        0x12 => entry(Gate::Always, Kind::Function, Flow::TailCalls),
-        0x13 => entry(Gate::Always, Kind::TypeTable, Flow::TailCallsIndirectly),
-        0x14 => entry(Gate::Always, Kind::Type, Flow::CallsIndirectly),
-        0x15 => entry(Gate::Always, Kind::Type, Flow::TailCallsIndirectly),
-        0x18 => entry(Gate::LegacyExceptions, Kind::Label, Flow::Delegate),
-        0x19 => entry(Gate::LegacyExceptions, Kind::Bare, Flow::CatchAll),
-        0x1a..=0x1b => plain(Kind::Bare),
-        0x1c => plain(Kind::Select),
-        0x1f => entry(Gate::Always, Kind::TryTable, Flow::OpensTryTable),
-        0x20..=0x22 => plain(Kind::Local),
-        0x23..=0x24 => plain(Kind::Global),
-        0x25..=0x26 => plain(Kind::Table),
-        _ => None,
-    }
-}
+const TRAP: Option<Entry> = entry!(Always, Bare, Traps);
 
-// The bytes from 28 on: memory, constants, arithmetic and references.
-#[inline]
-#[tactic(auto, unfolding(crate::specs::Table::plain_rows))]
-fn plain_entry(number: u32) -> Option<Entry>
-    ensures { result ≡ find plain_rows number }
-{
-    match number {
-        0x28..=0x3e => plain(Kind::Access),
-        0x3f..=0x40 => plain(Kind::Memory),
-        0x41 => plain(Kind::I32),
-        0x42 => plain(Kind::I64),
-        0x43 => plain(Kind::F32),
-        0x44 => plain(Kind::F64),
-        0x45..=0xc4 => plain(Kind::Bare),
-        0xd0 => plain(Kind::Heap),
-        0xd1 => plain(Kind::Bare),
-        0xd2 => plain(Kind::Function),
-        0xd3..=0xd4 => plain(Kind::Bare),
-        0xd5..=0xd6 => entry(Gate::Always, Kind::Label, Flow::Chooses),
-        _ => None,
-    }
-}
+const NOP: Option<Entry> = entry!(Always, Bare, Passes);
+
+const BLOCK: Option<Entry> = entry!(Always, Block, OpensBlock);
+
+const LOOP: Option<Entry> = entry!(Always, Block, OpensLoop);
+
+const IF: Option<Entry> = entry!(Always, Block, OpensIf);
+
+const ELSE: Option<Entry> = entry!(Always, Bare, Else);
+
+const TRY: Option<Entry> = entry!(LegacyExceptions, Block, OpensTry);
+
+const CATCH: Option<Entry> = entry!(LegacyExceptions, Tag, Catch);
+
+const THROW: Option<Entry> = entry!(Always, Tag, Throws);
+
+const RETHROW: Option<Entry> = entry!(LegacyExceptions, Label, Throws);
+
+const THROW_REF: Option<Entry> = entry!(Always, Bare, ThrowsOrTraps);
+
+const END: Option<Entry> = entry!(Always, Bare, End);
+
+const BR: Option<Entry> = entry!(Always, Label, Branches);
+
+const BR_IF: Option<Entry> = entry!(Always, Label, Chooses);
+
+const BR_TABLE: Option<Entry> = entry!(Always, BrTable, Selects);
+
+const RETURN: Option<Entry> = entry!(Always, Bare, Returns);
+
+const CALL: Option<Entry> = entry!(Always, Function, Calls);
+
+const CALL_TABLE: Option<Entry> = entry!(Always, TypeTable, CallsIndirectly);
+
+const TAIL_CALL: Option<Entry> = entry!(Always, Function, TailCalls);
+
+const TAIL_TABLE: Option<Entry> = entry!(Always, TypeTable, TailCallsIndirectly);
+
+const CALL_REF: Option<Entry> = entry!(Always, Type, CallsIndirectly);
+
+const TAIL_REF: Option<Entry> = entry!(Always, Type, TailCallsIndirectly);
+
+const DELEGATE: Option<Entry> = entry!(LegacyExceptions, Label, Delegate);
+
+const CATCH_ALL: Option<Entry> = entry!(LegacyExceptions, Bare, CatchAll);
+
+const BARE: Option<Entry> = plain!(Bare);
+
+const SELECT: Option<Entry> = plain!(Select);
+
+const TRY_TABLE: Option<Entry> = entry!(Always, TryTable, OpensTryTable);
+
+const LOCAL: Option<Entry> = plain!(Local);
+
+const GLOBAL: Option<Entry> = plain!(Global);
+
+const TABLE: Option<Entry> = plain!(Table);
+
+const ACCESS: Option<Entry> = plain!(Access);
+
+const MEMORY: Option<Entry> = plain!(Memory);
+
+const I32: Option<Entry> = plain!(I32);
+
+const I64: Option<Entry> = plain!(I64);
+
+const F32: Option<Entry> = plain!(F32);
+
+const F64: Option<Entry> = plain!(F64);
+
+const HEAP: Option<Entry> = plain!(Heap);
+
+const FUNC: Option<Entry> = plain!(Function);
+
+const TYPE: Option<Entry> = plain!(Type);
+
+const TYPE_U32: Option<Entry> = plain!(TypeNumber);
+
+const TYPE_DATA: Option<Entry> = plain!(TypeData);
+
+const TYPE_ELEM: Option<Entry> = plain!(TypeElement);
+
+const TYPE_TYPE: Option<Entry> = plain!(TypeType);
+
+const CAST: Option<Entry> = entry!(Always, Cast, Chooses);
+
+const DATA_MEM: Option<Entry> = plain!(DataMemory);
+
+const DATA: Option<Entry> = plain!(Data);
+
+const MEM_MEM: Option<Entry> = plain!(MemoryMemory);
+
+const ELEM_TABLE: Option<Entry> = plain!(ElementTable);
+
+const ELEM: Option<Entry> = plain!(Element);
+
+const TABLES: Option<Entry> = plain!(TableTable);
+
+const WIDE: Option<Entry> = entry!(WideArithmetic, Bare, Goes);
+
+const VECTOR: Option<Entry> = plain!(Vector);
+
+const LANE: Option<Entry> = plain!(Lane);
+
+const ACC_LANE: Option<Entry> = plain!(AccessLane);
+
+const ZERO: Option<Entry> = plain!(Zero);
+
+// Of bytes.
+static BYTES: [Option<Entry>; 215] = [
+    TRAP, NOP, BLOCK, LOOP, IF, ELSE, TRY, CATCH, THROW, RETHROW, THROW_REF, END, BR, BR_IF,
+    BR_TABLE, RETURN, CALL, CALL_TABLE, TAIL_CALL, TAIL_TABLE, CALL_REF, TAIL_REF, NONE, NONE,
+    DELEGATE, CATCH_ALL, BARE, BARE, SELECT, NONE, NONE, TRY_TABLE, LOCAL, LOCAL, LOCAL, GLOBAL,
+    GLOBAL, TABLE, TABLE, NONE, ACCESS, ACCESS, ACCESS, ACCESS, ACCESS, ACCESS, ACCESS, ACCESS,
+    ACCESS, ACCESS, ACCESS, ACCESS, ACCESS, ACCESS, ACCESS, ACCESS, ACCESS, ACCESS, ACCESS, ACCESS,
+    ACCESS, ACCESS, ACCESS, MEMORY, MEMORY, I32, I64, F32, F64, BARE, BARE, BARE, BARE, BARE, BARE,
+    BARE, BARE, BARE, BARE, BARE, BARE, BARE, BARE, BARE, BARE, BARE, BARE, BARE, BARE, BARE, BARE,
+    BARE, BARE, BARE, BARE, BARE, BARE, BARE, BARE, BARE, BARE, BARE, BARE, BARE, BARE, BARE, BARE,
+    BARE, BARE, BARE, BARE, BARE, BARE, BARE, BARE, BARE, BARE, BARE, BARE, BARE, BARE, BARE, BARE,
+    BARE, BARE, BARE, BARE, BARE, BARE, BARE, BARE, BARE, BARE, BARE, BARE, BARE, BARE, BARE, BARE,
+    BARE, BARE, BARE, BARE, BARE, BARE, BARE, BARE, BARE, BARE, BARE, BARE, BARE, BARE, BARE, BARE,
+    BARE, BARE, BARE, BARE, BARE, BARE, BARE, BARE, BARE, BARE, BARE, BARE, BARE, BARE, BARE, BARE,
+    BARE, BARE, BARE, BARE, BARE, BARE, BARE, BARE, BARE, BARE, BARE, BARE, BARE, BARE, BARE, BARE,
+    BARE, BARE, BARE, BARE, BARE, BARE, BARE, BARE, BARE, BARE, NONE, NONE, NONE, NONE, NONE, NONE,
+    NONE, NONE, NONE, NONE, NONE, HEAP, BARE, FUNC, BARE, BARE, BR_IF, BR_IF,
+];
 
 // Behind fb: garbage-collected objects.
-#[inline]
-#[tactic(auto, unfolding(crate::specs::Table::fb_rows))]
-fn fb_entry(number: u32) -> Option<Entry>
-    ensures { result ≡ find fb_rows number }
-{
-    match number {
-        0..=1 => plain(Kind::Type),
-        2..=5 => plain(Kind::TypeNumber),
-        6..=7 => plain(Kind::Type),
-        8 => plain(Kind::TypeNumber),
-        9 => plain(Kind::TypeData),
-        10 => plain(Kind::TypeElement),
-        11..=14 => plain(Kind::Type),
-        15 => plain(Kind::Bare),
-        16 => plain(Kind::Type),
-        17 => plain(Kind::TypeType),
-        18 => plain(Kind::TypeData),
-        19 => plain(Kind::TypeElement),
-        20..=23 => plain(Kind::Heap),
-        24..=25 => entry(Gate::Always, Kind::Cast, Flow::Chooses),
-        26..=30 => plain(Kind::Bare),
-        _ => None,
-    }
-}
+static OBJECTS: [Option<Entry>; 31] = [
+    TYPE, TYPE, TYPE_U32, TYPE_U32, TYPE_U32, TYPE_U32, TYPE, TYPE, TYPE_U32, TYPE_DATA, TYPE_ELEM,
+    TYPE, TYPE, TYPE, TYPE, BARE, TYPE, TYPE_TYPE, TYPE_DATA, TYPE_ELEM, HEAP, HEAP, HEAP, HEAP,
+    CAST, CAST, BARE, BARE, BARE, BARE, BARE,
+];
 
 // Behind fc: saturating conversions, bulk operators and wide arithmetic.
-#[inline]
-#[tactic(auto, unfolding(crate::specs::Table::fc_rows))]
-fn fc_entry(number: u32) -> Option<Entry>
-    ensures { result ≡ find fc_rows number }
-{
-    match number {
-        0..=7 => plain(Kind::Bare),
-        8 => plain(Kind::DataMemory),
-        9 => plain(Kind::Data),
-        10 => plain(Kind::MemoryMemory),
-        11 => plain(Kind::Memory),
-        12 => plain(Kind::ElementTable),
-        13 => plain(Kind::Element),
-        14 => plain(Kind::TableTable),
-        15..=17 => plain(Kind::Table),
-        19..=22 => entry(Gate::WideArithmetic, Kind::Bare, Flow::Goes),
-        _ => None,
-    }
-}
+static BULK: [Option<Entry>; 23] = [
+    BARE, BARE, BARE, BARE, BARE, BARE, BARE, BARE, DATA_MEM, DATA, MEM_MEM, MEMORY, ELEM_TABLE,
+    ELEM, TABLES, TABLE, TABLE, TABLE, NONE, WIDE, WIDE, WIDE, WIDE,
+];
 
 // Behind fd: vectors.
-#[inline]
-#[tactic(auto, unfolding(crate::specs::Table::fd_rows))]
-fn fd_entry(number: u32) -> Option<Entry>
-    ensures { result ≡ find fd_rows number }
-{
-    match number {
-        0..=11 => plain(Kind::Access),
-        12..=13 => plain(Kind::Vector),
-        14..=20 => plain(Kind::Bare),
-        21..=34 => plain(Kind::Lane),
-        35..=83 => plain(Kind::Bare),
-        84..=91 => plain(Kind::AccessLane),
-        92..=93 => plain(Kind::Access),
-        94..=153 => plain(Kind::Bare),
-        155..=161 => plain(Kind::Bare),
-        163..=164 => plain(Kind::Bare),
-        167..=174 => plain(Kind::Bare),
-        177 => plain(Kind::Bare),
-        181..=186 => plain(Kind::Bare),
-        188..=193 => plain(Kind::Bare),
-        195..=196 => plain(Kind::Bare),
-        199..=206 => plain(Kind::Bare),
-        209 => plain(Kind::Bare),
-        213..=225 => plain(Kind::Bare),
-        227..=237 => plain(Kind::Bare),
-        239..=275 => plain(Kind::Bare),
-        _ => None,
-    }
-}
+static VECTORS: [Option<Entry>; 276] = [
+    ACCESS, ACCESS, ACCESS, ACCESS, ACCESS, ACCESS, ACCESS, ACCESS, ACCESS, ACCESS, ACCESS, ACCESS,
+    VECTOR, VECTOR, BARE, BARE, BARE, BARE, BARE, BARE, BARE, LANE, LANE, LANE, LANE, LANE, LANE,
+    LANE, LANE, LANE, LANE, LANE, LANE, LANE, LANE, BARE, BARE, BARE, BARE, BARE, BARE, BARE, BARE,
+    BARE, BARE, BARE, BARE, BARE, BARE, BARE, BARE, BARE, BARE, BARE, BARE, BARE, BARE, BARE, BARE,
+    BARE, BARE, BARE, BARE, BARE, BARE, BARE, BARE, BARE, BARE, BARE, BARE, BARE, BARE, BARE, BARE,
+    BARE, BARE, BARE, BARE, BARE, BARE, BARE, BARE, BARE, ACC_LANE, ACC_LANE, ACC_LANE, ACC_LANE,
+    ACC_LANE, ACC_LANE, ACC_LANE, ACC_LANE, ACCESS, ACCESS, BARE, BARE, BARE, BARE, BARE, BARE,
+    BARE, BARE, BARE, BARE, BARE, BARE, BARE, BARE, BARE, BARE, BARE, BARE, BARE, BARE, BARE, BARE,
+    BARE, BARE, BARE, BARE, BARE, BARE, BARE, BARE, BARE, BARE, BARE, BARE, BARE, BARE, BARE, BARE,
+    BARE, BARE, BARE, BARE, BARE, BARE, BARE, BARE, BARE, BARE, BARE, BARE, BARE, BARE, BARE, BARE,
+    BARE, BARE, BARE, BARE, BARE, BARE, NONE, BARE, BARE, BARE, BARE, BARE, BARE, BARE, NONE, BARE,
+    BARE, NONE, NONE, BARE, BARE, BARE, BARE, BARE, BARE, BARE, BARE, NONE, NONE, BARE, NONE, NONE,
+    NONE, BARE, BARE, BARE, BARE, BARE, BARE, NONE, BARE, BARE, BARE, BARE, BARE, BARE, NONE, BARE,
+    BARE, NONE, NONE, BARE, BARE, BARE, BARE, BARE, BARE, BARE, BARE, NONE, NONE, BARE, NONE, NONE,
+    NONE, BARE, BARE, BARE, BARE, BARE, BARE, BARE, BARE, BARE, BARE, BARE, BARE, BARE, NONE, BARE,
+    BARE, BARE, BARE, BARE, BARE, BARE, BARE, BARE, BARE, BARE, NONE, BARE, BARE, BARE, BARE, BARE,
+    BARE, BARE, BARE, BARE, BARE, BARE, BARE, BARE, BARE, BARE, BARE, BARE, BARE, BARE, BARE, BARE,
+    BARE, BARE, BARE, BARE, BARE, BARE, BARE, BARE, BARE, BARE, BARE, BARE, BARE, BARE, BARE, BARE,
+];
 
 // Behind fe: atomic operators.
-#[inline]
-#[tactic(auto, unfolding(crate::specs::Table::fe_rows))]
-fn fe_entry(number: u32) -> Option<Entry>
-    ensures { result ≡ find fe_rows number }
-{
-    match number {
-        0..=2 => plain(Kind::Access),
-        3 => plain(Kind::Zero),
-        16..=78 => plain(Kind::Access),
-        _ => None,
-    }
-}
+static ATOMICS: [Option<Entry>; 79] = [
+    ACCESS, ACCESS, ACCESS, ZERO, NONE, NONE, NONE, NONE, NONE, NONE, NONE, NONE, NONE, NONE, NONE,
+    NONE, ACCESS, ACCESS, ACCESS, ACCESS, ACCESS, ACCESS, ACCESS, ACCESS, ACCESS, ACCESS, ACCESS,
+    ACCESS, ACCESS, ACCESS, ACCESS, ACCESS, ACCESS, ACCESS, ACCESS, ACCESS, ACCESS, ACCESS, ACCESS,
+    ACCESS, ACCESS, ACCESS, ACCESS, ACCESS, ACCESS, ACCESS, ACCESS, ACCESS, ACCESS, ACCESS, ACCESS,
+    ACCESS, ACCESS, ACCESS, ACCESS, ACCESS, ACCESS, ACCESS, ACCESS, ACCESS, ACCESS, ACCESS, ACCESS,
+    ACCESS, ACCESS, ACCESS, ACCESS, ACCESS, ACCESS, ACCESS, ACCESS, ACCESS, ACCESS, ACCESS, ACCESS,
+    ACCESS, ACCESS, ACCESS, ACCESS,
+];
 
-// Of a byte.
+// The entry of a number.
 #[inline]
-fn byte_entry(number: u32) -> Option<Entry>
-    ensures { result ≡ find_byte number }
+fn at(entries: &[Option<Entry>], number: u32) -> Option<Entry>
+    ensures { result ≡ slice_index_or entries.now number None }
 {
-    if number < 0x10 {
-        structure_entry(number)
-    } else if number < 0x28 {
-        call_entry(number)
-    } else {
-        plain_entry(number)
+    match entries.get(number as usize) {
+        Some(found) => *found,
+        None => None,
     }
 }
 
@@ -209,11 +216,11 @@ pub(crate) fn code_entry(prefix: u8, number: u32) -> Option<Entry>
     ensures { result ≡ find_code prefix number }
 {
     match prefix {
-        0 => byte_entry(number),
-        0xfb => fb_entry(number),
-        0xfc => fc_entry(number),
-        0xfd => fd_entry(number),
-        0xfe => fe_entry(number),
+        0 => at(&BYTES, number),
+        0xfb => at(&OBJECTS, number),
+        0xfc => at(&BULK, number),
+        0xfd => at(&VECTORS, number),
+        0xfe => at(&ATOMICS, number),
         _ => None,
     }
 }

@@ -2,7 +2,7 @@
 use Rattle.std.proofs.Common.{◌≡◌, ◌/◌, ◌%◌, ◌^◌, ℕ, zero, suc, List, ◌∷◌, ap, sym, ◌∙◌, refl, w32, w64}
 use Rattle.std.proofs.Math.Nat.{pow-suc, div-div-eq-div-mul}
 use Rattle.std.specs.Int.{bytes_low_first, to_le_bytes}
-use Rattle.wasm_operator_ranges.specs.wasm_operator_bytes.Bytes.{little_bytes}
+use Rattle.wasm_operator_bytes.specs.Bytes.{little_bytes}
 
 from_byte : (i k n : ℕ) → bytes_low_first (suc i) k n ≡ little_bytes k (n / 256 ^ suc i)
 from_byte i zero n = refl

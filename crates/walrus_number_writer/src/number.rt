@@ -1,24 +1,34 @@
 //! Numbers are written (Core Specification, binary format, values: integers).
 
 ghost use Rattle.std.specs.Prelude.{◌≡◌, ◌<◌, ◌^◌, ◌-◌, [], ◌∷◌, if◌then◌else◌};
-ghost use Rattle.wasm_operator_ranges.specs.wasm_operator_bytes.Bytes.{little_bytes, signed_bytes, unsigned_bytes};
-ghost use Rattle.walrus_operator_writer.specs.Appended.{Appends};
-ghost use Rattle.walrus_operator_writer.specs.Signs.{signed_of};
+ghost use Rattle.wasm_operator_bytes.specs.Bytes.{little_bytes, signed_bytes, unsigned_bytes};
+ghost use Rattle.walrus_number_writer.specs.Appended.{Appends};
+ghost use Rattle.walrus_number_writer.specs.Signs.{signed_of};
 
 use std::alloc::AllocError;
 
+/// Puts a byte behind the bytes.
+///
+/// # Errors
+///
+/// Want of memory. What was there stands at the front, here and below.
 #[inline]
 #[tactic(auto, using(crate::proofs::Keeps::keeps_all))]
-pub(crate) fn write_byte(out: &mut Vec<u8>, byte: u8) -> Result<(), AllocError>
+pub fn write_byte(out: &mut Vec<u8>, byte: u8) -> Result<(), AllocError>
     ensures { Appends (byte ∷ []) out.old.items out.new.items result }
 {
     out.push(byte)?;
     Ok(())
 }
 
+/// Puts these bytes behind the bytes.
+///
+/// # Errors
+///
+/// Want of memory.
 #[inline]
 #[tactic(auto, using(crate::proofs::Keeps::keeps_all))]
-pub(crate) fn write_bytes(out: &mut Vec<u8>, bytes: &[u8]) -> Result<(), AllocError>
+pub fn write_bytes(out: &mut Vec<u8>, bytes: &[u8]) -> Result<(), AllocError>
     ensures { Appends bytes.now out.old.items out.new.items result }
 {
     out.extend_from_slice(bytes)?;
@@ -29,7 +39,7 @@ pub(crate) fn write_bytes(out: &mut Vec<u8>, bytes: &[u8]) -> Result<(), AllocEr
 ///
 /// # Errors
 ///
-/// Want of memory. What was there stands at the front.
+/// Want of memory.
 #[inline]
 #[tactic(auto, using(crate::proofs::Keeps::keeps_on))]
 pub fn write_unsigned(out: &mut Vec<u8>, n: u64) -> Result<(), AllocError>
@@ -65,8 +75,13 @@ fn group(negative: bool, low: u8) -> u8
     if negative { 0x7f - low } else { low }
 }
 
+/// Puts a signed number behind the bytes, in its shortest spelling.
+///
+/// # Errors
+///
+/// Want of memory.
 #[inline]
-pub(crate) fn write_signed(out: &mut Vec<u8>, n: i64) -> Result<(), AllocError>
+pub fn write_signed(out: &mut Vec<u8>, n: i64) -> Result<(), AllocError>
     ensures { Appends (signed_bytes n) out.old.items out.new.items result }
 {
     let (negative, mut rest) = split(n);
@@ -77,16 +92,25 @@ pub(crate) fn write_signed(out: &mut Vec<u8>, n: i64) -> Result<(), AllocError>
     write_byte(out, group(negative, rest as u8))
 }
 
-// The bits of a float, the lowest first.
+/// Puts the bits of a float of 32 bits behind the bytes, the lowest first.
+///
+/// # Errors
+///
+/// Want of memory.
 #[tactic(auto, using(crate::proofs::Digits::four_bytes))]
-pub(crate) fn write_bits32(out: &mut Vec<u8>, bits: u32) -> Result<(), AllocError>
+pub fn write_bits32(out: &mut Vec<u8>, bits: u32) -> Result<(), AllocError>
     ensures { Appends (little_bytes 4 bits) out.old.items out.new.items result }
 {
     write_bytes(out, &bits.to_le_bytes())
 }
 
+/// Puts the bits of a float of 64 bits behind the bytes, the lowest first.
+///
+/// # Errors
+///
+/// Want of memory.
 #[tactic(auto, using(crate::proofs::Digits::eight_bytes))]
-pub(crate) fn write_bits64(out: &mut Vec<u8>, bits: u64) -> Result<(), AllocError>
+pub fn write_bits64(out: &mut Vec<u8>, bits: u64) -> Result<(), AllocError>
     ensures { Appends (little_bytes 8 bits) out.old.items out.new.items result }
 {
     write_bytes(out, &bits.to_le_bytes())

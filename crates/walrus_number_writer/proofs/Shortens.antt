@@ -4,11 +4,11 @@ use Rattle.std.proofs.lemmas.Bool.{lt-ltb, le-ltb}
 use Rattle.std.proofs.lemmas.List.{append-nil}
 use Rattle.std.proofs.Math.Nat.{pow-suc, mul_assoc}
 use Rattle.std.specs.declared.alloc.AllocError.{AllocError}
-use Rattle.wasm_ref_types.specs.wasm_reader.Shortest.{shortest_unsigned, shortest_signed}
-use Rattle.wasm_operator_ranges.specs.wasm_operator_bytes.Bytes.{unsigned_bytes, signed_bytes}
-use Rattle.walrus_operator_writer.specs.Signs.{signed_of}
-use Rattle.walrus_operator_writer.specs.Appended.{Appends}
-use Rattle.walrus_operator_writer.proofs.Keeps.{keeps_on}
+use Rattle.wasm_reader.specs.Shortest.{shortest_unsigned, shortest_signed}
+use Rattle.wasm_operator_bytes.specs.Bytes.{unsigned_bytes, signed_bytes}
+use Rattle.walrus_number_writer.specs.Signs.{signed_of}
+use Rattle.walrus_number_writer.specs.Appended.{Appends}
+use Rattle.walrus_number_writer.proofs.Keeps.{keeps_on}
 
 -- what was written of a number behind `old`, how many bytes may follow, and what the number that is left spells with that many bytes
 pub record Shortens (spell : ℕ → ℕ → List ℕ) (limit : ℕ) (old bytes now : List ℕ) (left : ℕ) : Type 0 where
