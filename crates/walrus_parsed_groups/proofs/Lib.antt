@@ -10,3 +10,7 @@ mod StepLemmas
 mod TextLemmas
 mod ReadLemmas
 mod TellLemmas
+mod SetLemmas
+mod HandledLemmas
+mod NamedLemmas
+mod LackLemmas

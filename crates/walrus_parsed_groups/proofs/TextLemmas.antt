@@ -71,12 +71,12 @@ widens file t v e is g function i h = record {
 }
 
 -- a body's first byte has its place behind the beginning of the code section's contents
-placed_there : (file : FileEnv) (features : WasmFeatures) (b : FunctionBody) (code : ℕ) → code ≡ file.code_start → place_at code (cursor_of file features b) ≡ b.chunk.place
+pub placed_there : (file : FileEnv) (features : WasmFeatures) (b : FunctionBody) (code : ℕ) → code ≡ file.code_start → place_at code (cursor_of file features b) ≡ b.chunk.place
 placed_there file features b code is = omega (arith, is)
 
 -- ---- what a sight sees of a handler the table has
 
-seen_is : (s : Sight) (t : Table) → s.params ≡ params_at t → s.results ≡ results_at t → (h : Option Handler) → seen_signatures s h ≡ signatures t h
+pub seen_is : (s : Sight) (t : Table) → s.params ≡ params_at t → s.results ≡ results_at t → (h : Option Handler) → seen_signatures s h ≡ signatures t h
 seen_is s t p r None = refl
 seen_is s t p r (Some h) = ap (λ (o : Option (List ValType)). signature_of o (results_of s h.block)) (tag h.tag_type) ∙ ap (signature_of (caught t h.tag_type)) (block h.block)
   where
@@ -88,7 +88,7 @@ seen_is s t p r (Some h) = ap (λ (o : Option (List ValType)). signature_of o (r
     block (Simple ty) = refl
     block (MultiValue id) = ap (λ (f : ℕ → Option (List ValType)). f id) r
 
-each_is : (f g : ℕ → List Signature) → ((j : ℕ) → f j ≡ g j) → (js : List ℕ) → flat_map f js ≡ flat_map g js
+pub each_is : (f g : ℕ → List Signature) → ((j : ℕ) → f j ≡ g j) → (js : List ℕ) → flat_map f js ≡ flat_map g js
 each_is f g h [] = refl
 each_is f g h (j ∷ js) = ap (λ (l : List Signature). l ++ flat_map f js) (h j) ∙ ap (λ (l : List Signature). g j ++ l) (each_is f g h js)
 

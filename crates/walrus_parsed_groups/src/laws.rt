@@ -1,5 +1,6 @@
 //! Laws: functions with nothing to do, whose contracts hold of all modules that are read.
 
+ghost use Rattle.walrus_parsed_groups.specs.Files.{ReadModulesAddLacking};
 ghost use Rattle.walrus_parsed_groups.specs.Groups.{ReadModulesHaveGroups};
 ghost use Rattle.walrus_parsed_groups.specs.Texts.{ReadModulesTellTexts};
 
@@ -10,6 +11,7 @@ use walrus_group_laws::types_into::laws::types_name_below;
 use walrus_group_laws::{groups_mean, read_types_are_declared};
 use walrus_handler_laws::laws::trees_tell;
 use walrus_operator_laws::laws::operators_come_back;
+use wasm_body_grammar::laws::bodies_read_once;
 use wasm_operator_ranges::laws::operators_in_range_are_spelled;
 
 /// The groups of types of a module that was read are those of its file, but for single types that are merged with earlier ones, each type's
@@ -41,6 +43,24 @@ pub fn read_modules_tell_texts<B>()
     trees_tell();
     filled_functions_stand::<B>();
     filled_modules_are_filed::<B>();
+    entry_types_grow();
+    found_types_stay();
+    tables_grow_on();
+}
+
+/// The types that stand behind those of the file are, each once, those of the handlers of its bodies for which the file has no type: of each
+/// `catch` and `catch_all` that is reached, from the parameters of the tag's type to the results of its `try`, as the file has them, each type
+/// under the id that its index has.
+pub fn read_modules_add_lacking<B>()
+    ensures { ReadModulesAddLacking B }
+{
+    operators_come_back();
+    operators_in_range_are_spelled();
+    trees_tell();
+    bodies_read_once();
+    filled_functions_stand::<B>();
+    filled_modules_are_filed::<B>();
+    bodies_read_files::<B>();
     entry_types_grow();
     found_types_stay();
     tables_grow_on();

@@ -1,0 +1,7 @@
+mod FunctionLemmas
+mod BodyLemmas
+mod TypeLemmas
+mod FileLemmas
+mod NameLemmas
+mod SizeLemmas
+mod MeanLemmas

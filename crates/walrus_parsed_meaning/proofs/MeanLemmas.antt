@@ -1,0 +1,213 @@
+-- Lemmas: a module that was read means the module of its file.
+use Rattle.std.specs.Prelude.{ℕ, ◌≡◌, ◌+◌, Bool, false, List, [], ◌++◌, if◌then◌else◌, IfSome, length, map, Option, Some, None, slice_get, slice_index_or, refl}
+use Rattle.std.specs.List.{flat_map}
+use Rattle.std.specs.Option.{option_map}
+use Rattle.std.proofs.Common.{ap, sym, subst, ◌∙◌, arith}
+use Rattle.walrus_handler_types.specs.walrus_body_steps.wasm_body_grammar.Codes.{param_count}
+use Rattle.walrus_handler_types.specs.walrus_body_steps.wasm_body_grammar.Rules.{Around}
+use Rattle.walrus_handler_types.specs.walrus_body_steps.wasm_body_grammar.wasm_grammar.Modules as grammar
+use Rattle.walrus_handler_types.specs.walrus_body_steps.wasm_body_grammar.wasm_grammar.States.{types_of}
+use Rattle.walrus_handler_types.specs.walrus_body_steps.wasm_body_grammar.wasm_grammar.walrus_forms.Forms.{params_of}
+use Rattle.walrus_handler_types.specs.walrus_body_steps.wasm_body_grammar.wasm_grammar.walrus_forms.Kinds.{Kind}
+use Rattle.walrus_handler_types.specs.walrus_body_steps.wasm_body_grammar.wasm_grammar.walrus_forms.Renaming.{at, renamed_kind}
+use Rattle.walrus_handler_types.specs.walrus_body_steps.wasm_body_grammar.wasm_operator_names.wasm_immediates.Items.{Locals}
+use Rattle.walrus_handler_types.specs.walrus_body_steps.wasm_body_grammar.wasm_operator_names.wasm_immediates.declared.block_type.BlockType.{BlockType}
+use Rattle.wasm_name_payloads.specs.Names.{Given, names_of}
+use Rattle.wasm_ruled_modules.specs.Rules.{ReadModulesAreRuled}
+use Rattle.walrus_parsed_texts.specs.walrus_parse.walrus_file_bodies.Laws.{BodiesReadFiles}
+use Rattle.walrus_parsed_texts.specs.walrus_parse.walrus_file_bodies.Ready.{bodies_in}
+use Rattle.walrus_parsed_texts.specs.walrus_parse.walrus_file_bodies.walrus_items_into.Laws.{FilledFunctionsStand}
+use Rattle.walrus_parsed_texts.specs.walrus_parse.walrus_file_bodies.walrus_items_into.Numbers.{numbers_of, types_in}
+use Rattle.walrus_parsed_texts.specs.walrus_parse.walrus_file_bodies.walrus_items_into.walrus_functions_into.Bodies.{bodiless_from}
+use Rattle.walrus_parsed_texts.specs.walrus_parse.walrus_file_bodies.walrus_items_into.walrus_functions_into.declared.bodies.FunctionBody.{FunctionBody}
+use Rattle.walrus_parsed_texts.specs.walrus_parse.walrus_file_bodies.walrus_items_into.walrus_module_env.wasm_run_names.Picks.{block_pick}
+use Rattle.walrus_parsed_texts.specs.walrus_parse.walrus_file_bodies.walrus_items_into.walrus_tables_into.walrus_sections_into.Becomes.{look_of}
+use Rattle.walrus_parsed_texts.specs.walrus_parse.walrus_file_bodies.walrus_items_into.walrus_tables_into.walrus_sections_into.walrus_known_sections.State.{state_of}
+use Rattle.walrus_parsed_texts.specs.walrus_parse.walrus_file_bodies.walrus_items_into.walrus_tables_into.walrus_sections_into.walrus_known_sections.declared.sections.Sections.{Sections}
+use Rattle.walrus_parsed_texts.specs.walrus_parse.walrus_file_bodies.walrus_items_into.wasm_module_rules.Linked.{Each, IsFunctionType}
+use Rattle.walrus_parsed_texts.specs.walrus_parse.walrus_file_bodies.walrus_items_into.wasm_module_rules.wasm_modules.Modules.{around, module_of}
+use Rattle.walrus_parsed_texts.specs.walrus_parse.walrus_file_bodies.walrus_module_bodies.Steps.{state}
+use Rattle.walrus_function_types.specs.Growth.{FoundTypesStay, TablesGrowOn}
+use Rattle.walrus_group_laws.specs.walrus_types_into.Into.{NewTypesStand, TypesNameBelow}
+use Rattle.walrus_group_laws.specs.walrus_meaning.Meaning.{means, own_function, own_origin, slots_of}
+use Rattle.walrus_group_laws.specs.walrus_meaning.walrus_body_writer.walrus_pairing.walrus_index_maps.Maps.{Ids}
+use Rattle.walrus_group_laws.specs.walrus_meaning.walrus_linked.Linked.{IsLinked, IsWhole}
+use Rattle.walrus_group_laws.specs.walrus_meaning.walrus_linked.walrus_module_items.Functions.{type_of}
+use Rattle.walrus_group_laws.specs.walrus_meaning.walrus_linked.walrus_module_items.declared.function.Function.{Function}
+use Rattle.walrus_group_laws.specs.walrus_meaning.walrus_linked.walrus_module_items.declared.function.FunctionKind.TheVariants as kinds
+use Rattle.walrus_group_laws.specs.walrus_meaning.walrus_local_function.walrus_body_locals.wasm_normal_form.Bodies.{used_keys}
+use Rattle.walrus_group_laws.specs.walrus_meaning.walrus_local_function.walrus_body_locals.wasm_normal_form.Normal.{normal_ops}
+use Rattle.walrus_group_laws.specs.walrus_meaning.walrus_module.Parts.{Module, parts}
+use Rattle.walrus_group_laws.specs.walrus_meaning.walrus_module.walrus_types.Table.{type_at}
+use Rattle.walrus_parsed_groups.specs.Added.{added}
+use Rattle.walrus_parsed_groups.specs.Files.{AreLacking, ReadModulesAddLacking, bodies_handle, sent}
+use Rattle.walrus_parsed_groups.specs.Groups.{ReadModulesHaveGroups, handlers_of}
+use Rattle.walrus_parsed_groups.specs.Handlers.{signatures}
+use Rattle.walrus_parsed_links.specs.walrus_parsed_items.Items.{ReadModulesHaveItems, same}
+use Rattle.walrus_parsed_links.specs.walrus_parsed_items.walrus_into_laws.Meaning.{CustomsMean, OrderedStay, OthersStay, own_custom, type_id}
+use Rattle.walrus_parsed_links.specs.walrus_parsed_items.walrus_into_laws.Renamed.{retyped_table}
+use Rattle.walrus_parsed_links.specs.walrus_parsed_items.walrus_parse.Named.{all_names}
+use Rattle.walrus_parsed_links.specs.walrus_parsed_items.walrus_parse.Parsed.{named_in, read_features}
+use Rattle.walrus_parsed_links.specs.walrus_parsed_items.walrus_parse.walrus_item_names.Holder.{Holder}
+use Rattle.walrus_parsed_links.specs.walrus_parsed_items.walrus_parse.walrus_item_names.Sent.{sent_names}
+use Rattle.walrus_parsed_linked.specs.Linked.{ReadModulesAreLinked}
+use Rattle.walrus_parsed_links.proofs.SlotLemmas.{each_at, seen_at}
+use Rattle.walrus_parsed_locals.specs.Locals.{ReadBodiesHaveTheirLocals, kept_numbers, typed}
+use Rattle.walrus_parsed_texts.specs.Texts.{ReadBodiesMeanTheirs, naming, text_of}
+use Rattle.walrus_parsed_meaning.specs.Meant.{body_meant, picks}
+use Rattle.walrus_parsed_meaning.specs.Means.{AreSized, HasLocals, HasNames, ReadModulesMeanFiles, function_bodies, holder_of, names_in, section_if}
+use Rattle.walrus_parsed_meaning.proofs.BodyLemmas.{BodyOf, all_have}
+use Rattle.walrus_parsed_meaning.proofs.FileLemmas.{picks_same, plain_same}
+use Rattle.walrus_parsed_meaning.proofs.FunctionLemmas.{BodyAt, EachHas, at_start, bodies_are, bodies_have, functions_same, has_at, has_from, heads_at, own_are, own_numbers}
+use Rattle.walrus_parsed_meaning.proofs.NameLemmas.{filled_bare, named_so, steps_bare, synthetic_same}
+use Rattle.walrus_parsed_meaning.proofs.SizeLemmas.{MemorySmall, TableSmall, files_are_sized, tables_stay}
+use Rattle.walrus_parsed_meaning.proofs.TypeLemmas.{KindAt, as_many, kind_stands, some_kind}
+
+-- ---- one function
+
+module _ (m : Module) (found : Ids) (pick : BlockType → BlockType) (file : grammar.Module) (n : ℕ) (g : grammar.Function) (x : grammar.Body) (b : BodyOf m found pick file n x) where
+  -- as it is seen in what the module means
+  slot_at : slice_index_or (slots_of (own_function m.locals) m.funcs) n None ≡ Some (own_function m.locals b.function)
+  slot_at = seen_at (own_function m.locals) m.funcs.slots n ∙ ap (option_map (own_function m.locals)) b.there
+
+  -- it is whole, and its type has as many parameters as that of the file's function
+  counts : IsWhole m.types b.function.kind → (ty : ℕ) → type_of b.function.kind ≡ ty → (kind : Kind) → slice_get (types_of file) g.ty ≡ Some kind → KindAt (type_at m.types ty) (renamed_kind (at found.types) kind)
+      → length b.local.args.items ≡ param_count file g.ty
+  counts whole ty same_type kind there stands =
+      let own = subst (IsWhole m.types) b.kind whole in
+      let typed_so : type_of (kinds.Local b.local) ≡ ty = sym (ap type_of b.kind) ∙ same_type in
+      as_many (at found.types) (type_at m.types ty) (slice_get (types_of file) g.ty) kind (length b.local.args.items) there stands
+      (subst (λ (k : ℕ). IfSome (type_at m.types k) (λ y. length b.local.args.items ≡ length (params_of y.kind.form))) typed_so own.0.counted)
+
+  body_at : length b.local.args.items ≡ param_count file g.ty → BodyAt found pick file (slots_of (own_function m.locals) m.funcs) n g x
+  body_at count = (
+    own_function m.locals b.function,
+    slot_at,
+    ap (own_origin m.locals) b.kind
+        ∙ ap (λ (y : grammar.Body). (let o : grammar.Origin grammar.Body = grammar.Own y in o)) (b.body ∙ ap (λ (c : ℕ). body_meant found pick file n c x) count),
+  )
+
+  locals_at : length b.local.args.items ≡ param_count file g.ty → HasLocals m found pick n (param_count file g.ty) x
+  locals_at count = record {
+    function = b.function;
+    there = b.there;
+    local = b.local;
+    kind = b.kind;
+    ids = b.ids ∙ ap (λ (c : ℕ). map (naming found n Locals) (kept_numbers c (used_keys c (typed found x).locals (normal_ops pick (text_of x))))) count;
+  }
+
+-- ---- the whole
+
+-- the names that are given, by the synthetic ones
+abbrev made_by : Bool → Ids → List Given → List Given → List Given
+made_by wanted ids made names = sent_names false ids (if wanted then made else []) ++ sent_names wanted ids names
+
+-- but for locals each index of another space than types is its own id
+others_in : OrderedStay → (found numbers : Ids) (s : Sections) → numbers ≡ numbers_of s → found ≡ record numbers { locals = found.locals } → OthersStay (look_of (record found { locals = λ function. [] }))
+others_in ordered found numbers s is same_but = ordered (record found { locals = λ function. [] }) (record {
+  functions = (length s.functions.items, ap (λ (j : Ids). j.functions) all);
+  tables = (length s.tables.items, ap (λ (j : Ids). j.tables) all);
+  memories = (length s.memories.items, ap (λ (j : Ids). j.memories) all);
+  tags = (length s.tags.items, ap (λ (j : Ids). j.tags) all);
+  globals = (length s.globals.items, ap (λ (j : Ids). j.globals) all);
+  elements = (length s.elements.items, ap (λ (j : Ids). j.elements) all);
+  segments = (length s.segments.items, ap (λ (j : Ids). j.segments) all);
+  locals = refl;
+})
+  where
+    all : record found { locals = λ (function : ℕ). (let none : List ℕ = [] in none) } ≡ record (numbers_of s) { locals = λ (function : ℕ). (let none : List ℕ = [] in none) }
+    all = ap (λ (j : Ids). record j { locals = λ (function : ℕ). (let none : List ℕ = [] in none) }) (same_but ∙ ap (λ (j : Ids). record j { locals = found.locals }) is)
+
+pub mean_files : {B : Type 0} → ReadModulesHaveItems B → ReadBodiesMeanTheirs B → ReadBodiesHaveTheirLocals B → ReadModulesHaveGroups B → ReadModulesAddLacking B → ReadModulesAreLinked B → ReadModulesAreRuled
+    → ((given : B → grammar.Custom) → CustomsMean given) → OrderedStay → FilledFunctionsStand B → BodiesReadFiles B → NewTypesStand → TypesNameBelow → FoundTypesStay → TablesGrowOn → ReadModulesMeanFiles B
+mean_files {B} have_items mean have_locals have_groups add_lacking are_linked are_ruled customs_mean ordered stands bodies_read stand below stay on config bytes m found small is =
+    let h = is.1 in
+    let s = h.sections in
+    let features = read_features config in
+    let a : Around = around features (state_of s) in
+    let file : grammar.Module = module_of (state_of s) h.bodies in
+    let pick : BlockType → BlockType = picks features file in
+    let r : ℕ → ℕ = type_id (look_of found) in
+    let bs : List FunctionBody = bodies_in s h.filled.functions in
+    let items = have_items config bytes m found small is in
+    let linked : IsLinked (parts m) = are_linked config bytes m found small is in
+    let ruled = are_ruled features bytes file items.0 in
+    let read = bodies_read features bytes s m.start h.numbers h.filled h.file [] h.bodied h.reads.short small h.reads.sections h.are_filled h.is_file h.bodies_are in
+    let same_but : found ≡ record h.numbers { locals = found.locals } =
+    h.found_are ∙ read.3 ∙ ap (λ (l : ℕ → List ℕ). record h.numbers { locals = l }) (sym (ap (λ (j : Ids). j.locals) h.found_are)) in
+    let types : found.types ≡ (types_in s).ids = ap (λ (j : Ids). j.types) same_but ∙ ap (λ (j : Ids). j.types) h.are_filled.numbers in
+    let stand_so = stands features bytes s m.start h.numbers h.filled h.reads.sections h.are_filled in
+    let numbers : map (λ (b : FunctionBody). b.number) bs ≡ own_numbers 0 (state_of s).filled.functions =
+    stand_so.paired.functions_are ∙ ap (bodiless_from 0) h.are_filled.functions ∙ own_are h.numbers.types 0 s.functions.items in
+    let zip = all_have (parts m) found a file bs h.bodies (mean config bytes m found small is) (have_locals config bytes m found small is) in
+    let some = bodies_have (λ n x. BodyOf (parts m) found (block_pick a) file n x) 0 (state_of s).filled.functions bs h.bodies numbers zip in
+    let all : EachHas (λ n g x. BodyOf (parts m) found pick file n x) 0 file.functions =
+    subst (λ (p : BlockType → BlockType). EachHas (λ n g x. BodyOf (parts m) found p file n x) 0 file.functions) (sym (picks_same features (state_of s) h.bodies)) some in
+    let own : (n : ℕ) (g : grammar.Function) (x : grammar.Body) → slice_get file.functions n ≡ Some (Some g) → g.origin ≡ grammar.Own x
+    → (b : BodyOf (parts m) found pick file n x) × (length b.local.args.items ≡ param_count file g.ty) =
+    λ n g x there o.
+    let b = at_zero (λ k. BodyOf (parts m) found pick file k x) n (has_at (λ k f y. BodyOf (parts m) found pick file k y) 0 file.functions n g x all there o) in
+    let f = own_function m.locals b.function in
+    let ty : type_of b.function.kind ≡ r g.ty = heads_at r (means (parts m)).functions file.functions n f g items.1.functions (slot_at (parts m) found pick file n g x b) there in
+    let kind = some_kind (slice_get (types_of file) g.ty) (each_at (λ (z : grammar.Function). IsFunctionType file z.ty) file.functions n g ruled.1.linked.functions_typed (at_start file.functions n g there)) in
+    let stood = kind_stands stand below stay on config bytes m found is types g.ty kind.kind kind.is in
+    (b, counts (parts m) found pick file n g x b (linked.whole n b.function b.there) (r g.ty) ty kind.kind kind.is stood) in
+    let X : List (Option grammar.Function) = (means (parts m)).functions in
+    let each : EachHas (BodyAt found pick file X) 0 file.functions =
+    has_from (BodyAt found pick file X) 0 file.functions (λ n g x there o. from_zero (λ k. BodyAt found pick file X k g x) n (let b = own n g x there o in body_at (parts m) found pick file n g x b.0 b.1)) in
+    let functions = functions_same found pick file X 0 X file.functions (λ j. ap (λ (k : ℕ). slice_index_or X k None) (let z : j ≡ j + 0 = omega arith in z)) items.1.functions each in
+    let of_file : AreSized file = files_are_sized features bytes file items.0 in
+    let groups = have_groups config bytes m found small is in
+    let own_bodies : flat_map function_bodies file.functions ≡ h.bodies = bodies_are (λ n x. BodyOf (parts m) found (block_pick a) file n x) 0 (state_of s).filled.functions bs h.bodies numbers zip in
+    let lacking = subst (λ (xs : List grammar.Body). AreLacking (types_in s).table (map (sent (at found.types)) (bodies_handle file xs)) (added (types_in s).table (flat_map (signatures m.types) (handlers_of config bytes m found is))))
+    (sym own_bodies) (add_lacking config bytes m found small is) in
+    let old : Holder = named_in h.filled h.bodied None in
+    let bare = steps_bare h.file features bs (state h.filled.types [] h.numbers h.filled.functions) h.bodied h.bodies_are (filled_bare s m.start h.numbers h.filled h.are_filled) in
+    let wanted : Bool = config.generate_synthetic_names_for_anonymous_items in
+    let given : all_names wanted h.bodied.ids old (names_of file) ≡ names_in config file m found =
+    ap (λ (l : List Given). made_by wanted h.bodied.ids l (names_of file)) (synthetic_same h.bodied.ids old (holder_of m) (sym (ap (λ (x : Holder). x.funcs.slots) h.names.same)))
+    ∙ ap (λ (j : Ids). all_names wanted j (holder_of m) (names_of file)) (sym h.found_are) in
+    let names = subst (λ (l : List Given). HasNames l (holder_of m)) given
+    (named_so s m.start h.numbers h.filled h.are_filled h.bodied bare old refl refl refl refl refl refl refl (all_names wanted h.bodied.ids old (names_of file)) (holder_of m) h.names) in
+    let sections : (given : B → grammar.Custom) → slots_of (own_custom given) m.customs ≡ flat_map section_if file.customs = λ given.
+    ap (slots_of (own_custom given)) h.customs ∙ customs_mean given s h.filled.customs h.are_filled.customs ∙ sym (plain_same s.customs.items) in (
+      file,
+      items.0,
+      record {
+        types = types;
+        more = added (types_in s).table (flat_map (signatures m.types) (handlers_of config bytes m found is));
+        lacking = lacking;
+        others = others_in ordered found h.numbers s h.are_filled.numbers same_but;
+        meant = λ i. record {
+          groups = groups.groups i;
+          imports = items.1.imports i;
+          functions = functions i;
+          tables = items.1.tables i;
+          memories = items.1.memories i;
+          tags = items.1.tags i;
+          globals = items.1.globals i;
+          exports = items.1.exports i;
+          start = items.1.start i;
+          elements = items.1.elements i;
+          segments = items.1.segments i;
+          customs = [];
+        };
+        locals = λ n g x there o. (let b = own n g x there o in locals_at (parts m) found pick file n g x b.0 b.1);
+        linked = linked;
+        sized = record {
+          tables = subst (Each TableSmall) (sym items.1.tables) (tables_stay (retyped_table r) (λ t. refl) (λ t. refl) (λ t. refl) file.tables of_file.tables);
+          memories = subst (Each MemorySmall) (sym items.1.memories) of_file.memories;
+        };
+        counted = ruled.0;
+        ruled = ruled.1;
+        customs = sections;
+        producers = h.producers_are;
+        names = names;
+      },
+    )
+  where
+    at_zero : (P : ℕ → Type 0) (n : ℕ) → P (n + 0) → P n
+    at_zero P n p = let z : n + 0 ≡ n = omega arith in subst P z p
+
+    from_zero : (P : ℕ → Type 0) (n : ℕ) → P n → P (n + 0)
+    from_zero P n p = let z : n ≡ n + 0 = omega arith in subst P z p

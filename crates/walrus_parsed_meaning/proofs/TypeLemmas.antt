@@ -1,0 +1,80 @@
+-- Lemmas: the types of a file in the module that was read.
+use Rattle.std.specs.Prelude.{ℕ, ◌≡◌, List, IfSome, length, map, Option, Some, None, slice_get, refl}
+use Rattle.std.specs.Option.{option_map, unwrap_or}
+use Rattle.std.proofs.Common.{ap, sym, subst, ◌∙◌}
+use Rattle.std.proofs.lemmas.List.{length-map}
+use Rattle.walrus_handler_types.specs.walrus_body_steps.wasm_body_grammar.Codes.{kind_params}
+use Rattle.walrus_handler_types.specs.walrus_body_steps.wasm_body_grammar.wasm_grammar.States.{form_test}
+use Rattle.walrus_handler_types.specs.walrus_body_steps.wasm_body_grammar.wasm_grammar.walrus_forms.Forms.{Form, FunctionForm, StructForm, ArrayForm, params_of}
+use Rattle.walrus_handler_types.specs.walrus_body_steps.wasm_body_grammar.wasm_grammar.walrus_forms.Kinds.{Kind}
+use Rattle.walrus_handler_types.specs.walrus_body_steps.wasm_body_grammar.wasm_grammar.walrus_forms.Renaming.{at, renamed_form, renamed_kind, renamed_value}
+use Rattle.walrus_config.specs.declared.config.ModuleConfig.{ModuleConfig}
+use Rattle.walrus_parsed_texts.specs.walrus_parse.walrus_file_bodies.Read.{steps_grow}
+use Rattle.walrus_parsed_texts.specs.walrus_parse.walrus_file_bodies.walrus_items_into.Numbers.{types_in}
+use Rattle.walrus_parsed_texts.specs.walrus_parse.walrus_file_bodies.walrus_items_into.walrus_tables_into.walrus_sections_into.walrus_known_sections.State.{state_of}
+use Rattle.walrus_parsed_texts.specs.walrus_parse.walrus_file_bodies.walrus_items_into.walrus_tables_into.walrus_sections_into.walrus_known_sections.Types.{kinds_in}
+use Rattle.walrus_function_types.specs.Growth.{FoundTypesStay, TablesGrowOn}
+use Rattle.walrus_group_laws.specs.walrus_types_into.Into.{NewTypesStand, TypesNameBelow}
+use Rattle.walrus_group_laws.specs.walrus_meaning.walrus_body_writer.walrus_pairing.walrus_index_maps.Maps.{Ids}
+use Rattle.walrus_group_laws.specs.walrus_meaning.walrus_module.declared.module.Module.{Module as Whole}
+use Rattle.walrus_group_laws.specs.walrus_meaning.walrus_module.walrus_types.Table.{Table, type_at}
+use Rattle.walrus_parsed_bodies.proofs.WholeLemmas.{bare_same}
+use Rattle.walrus_parsed_links.specs.walrus_parsed_items.walrus_parse.Parsed.{IsReadAs, read_features}
+use Rattle.walrus_parsed_links.specs.walrus_parsed_items.walrus_parse.walrus_item_names.Holder.{Holder}
+use Rattle.walrus_parsed_links.specs.walrus_parsed_items.walrus_parse.walrus_item_names.Names.{bare_type}
+use Rattle.walrus_handler_types.specs.walrus_tree.walrus_walks.walrus_types.Items.{Item}
+
+some_is : {A : Type 0} (x y : A) → Some x ≡ Some y → x ≡ y
+some_is x y e = cc
+
+-- a type under another name is of the same kind
+pub record KindAt (slot : Option Item) (kind : Kind) : Type 0 where
+  pub item : Item
+  pub there : slot ≡ Some item
+  pub kind_is : item.kind ≡ kind
+
+bare_kind : (slot : Option Item) (x : Item) → option_map bare_type slot ≡ Some (bare_type x) → KindAt slot x.kind
+bare_kind None x e = absurd cc
+bare_kind (Some y) x e = record { item = y; there = refl; kind_is = ap (λ (z : Item). z.kind) (some_is (bare_type y) (bare_type x) e) }
+
+-- the type of each index stands under its id, renamed
+pub kind_stands : {B : Type 0} → NewTypesStand → TypesNameBelow → FoundTypesStay → TablesGrowOn → (config : ModuleConfig) (bytes : List ℕ) (m : Whole B) (found : Ids) → (is : IsReadAs config bytes m found)
+    → found.types ≡ (types_in is.1.sections).ids → (n : ℕ) (kind : Kind) → slice_get (kinds_in is.1.sections.types) n ≡ Some kind
+    → KindAt (type_at m.types (unwrap_or (slice_get found.types n) n)) (renamed_kind (at found.types) kind)
+kind_stands stand below stay on config bytes m found is same n kind there =
+    let h = is.1 in
+    let s = h.sections in
+    let features = read_features config in
+    let stood = (stand s.types (below features bytes (state_of s) h.reads.sections)).stand n kind there in
+    let x : Item = record { id = stood.0; kind = renamed_kind (at (types_in s).ids) kind; name = None } in
+    let grown = steps_grow on h.file features _ _ h.bodied h.bodies_are in
+    let filled : type_at h.filled.types stood.0 ≡ Some x = ap (λ (t : Table). type_at t stood.0) h.are_filled.types ∙ stood.2 in
+    let bodied : type_at h.bodied.types stood.0 ≡ Some x = (stay h.filled.types h.bodied.types grown).live stood.0 x filled in
+    let bare : map (option_map bare_type) m.types.types ≡ map (option_map bare_type) h.bodied.types.types = ap (λ (a : Holder). a.types.types) h.names.same in
+    let id : unwrap_or (slice_get found.types n) n ≡ stood.0 = ap (λ (l : List ℕ). unwrap_or (slice_get l n) n) same ∙ ap (λ (o : Option ℕ). unwrap_or o n) stood.1 in
+    let own = bare_kind (type_at m.types stood.0) x (bare_same bare_type m.types.types h.bodied.types.types stood.0 bare ∙ ap (option_map bare_type) bodied) in
+    subst (λ (ids : List ℕ). KindAt (type_at m.types (unwrap_or (slice_get found.types n) n)) (renamed_kind (at ids) kind)) (sym same)
+    (subst (λ (k : ℕ). KindAt (type_at m.types k) (renamed_kind (at (types_in s).ids) kind)) (sym id) own)
+
+-- ---- how many parameters a type has
+
+params_renamed : (r : ℕ → ℕ) (form : Form) → length (params_of (renamed_form r form)) ≡ length (params_of form)
+params_renamed r (FunctionForm params results) = length-map params (renamed_value r)
+params_renamed r (StructForm fields) = refl
+params_renamed r (ArrayForm field) = refl
+
+pub record SomeKind (o : Option Kind) : Type 0 where
+  pub kind : Kind
+  pub is : o ≡ Some kind
+
+-- a function type is there
+pub some_kind : (o : Option Kind) → form_test o ≡ None → SomeKind o
+some_kind None e = absurd cc
+some_kind (Some kind) e = record { kind = kind; is = refl }
+
+-- what is as many as the parameters of the renamed type is as many as those of the type
+pub as_many : (r : ℕ → ℕ) (slot : Option Item) (o : Option Kind) (kind : Kind) (count : ℕ) → o ≡ Some kind → KindAt slot (renamed_kind r kind) → IfSome slot (λ ty. count ≡ length (params_of ty.kind.form))
+    → count ≡ kind_params o
+as_many r slot o kind count is at h =
+    subst (λ (z : Option Item). IfSome z (λ ty. count ≡ length (params_of ty.kind.form))) at.there h
+    ∙ ap (λ (k : Kind). length (params_of k.form)) at.kind_is ∙ params_renamed r kind.form ∙ ap kind_params (sym is)

@@ -1,0 +1,4 @@
+//! Modules that are read mean those of their files.
+#![tactic(auto)]
+
+pub mod laws;
