@@ -128,6 +128,7 @@ pub record MeansFile {B : Type 0} (config : ModuleConfig) (file : grammar.Module
   -- it is linked, and the file's module meets the rules; sizes with addresses of 32 bits are below 2^32
   pub linked : IsLinked (parts m)
   pub sized : AreSized (means (parts m))
+  -- (whether the file has a data count section, which rules of bodies ask for, its module doesn't tell)
   pub counted : Bool
   pub ruled : IsRuled (read_features config) counted file
   -- its custom sections, whatever boxes would give, and its producers, this tool with them
