@@ -14,6 +14,14 @@ pub use program::{Inspector, run_words, status, text_of};
 pub use words::{Job, job_of, words_of};
 
 // Passed on to crates above, which then list this one alone.
-pub use inspect_lines as lines;
-pub use walrus_config as config;
-pub use walrus_errors as errors;
+pub mod config {
+    pub use walrus_config::ModuleConfig;
+}
+
+pub mod errors {
+    pub use walrus_errors::{ModuleError, Result};
+}
+
+pub mod lines {
+    pub use inspect_lines::Counts;
+}

@@ -10,5 +10,17 @@ pub use access::{
 };
 
 // Passed on to crates above, which then list this one alone.
-pub use walrus_operator_codes as operator_codes;
-pub use walrus_operator_codes::{instr, type_table};
+pub mod instr {
+    pub use walrus_operator_codes::instr::{Bits128, Instr, MemArg, Value};
+}
+
+pub mod operator_codes {
+    pub use walrus_operator_codes::{
+        atomic, binary_of, bulk, byte, code_of_binary, code_of_ternary, code_of_unary,
+        lane_of_binary, lane_of_unary, object, ternary_of, unary_of, vector,
+    };
+}
+
+pub mod type_table {
+    pub use walrus_operator_codes::type_table::{ModuleLocals, ValType};
+}

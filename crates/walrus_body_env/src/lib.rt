@@ -10,4 +10,10 @@ pub use error::BodyError;
 pub use validator::{AcceptAll, Validator};
 
 // Passed on to crates above, which then list this one alone.
-pub use walrus_instr as instr;
+pub mod instr {
+    pub use walrus_instr::{InstrLocId, InstrSeqType, TryTableCatch};
+
+    pub mod type_table {
+        pub use walrus_instr::type_table::{ModuleLocals, ModuleTypes, ValType};
+    }
+}

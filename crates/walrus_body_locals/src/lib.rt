@@ -7,5 +7,10 @@ mod value_types;
 pub use runs::read_locals;
 
 // Passed on to crates above, which then list this one alone.
-pub use walrus_body_nesting as body_nesting;
-pub use walrus_body_nesting::body_env;
+pub mod body_env {
+    pub use walrus_body_nesting::body_env::{BodyEnv, BodyError, Validator};
+}
+
+pub mod body_nesting {
+    pub use walrus_body_nesting::Reach;
+}

@@ -9,5 +9,10 @@ pub use facts::{FunctionFacts, emit_facts, is_const, used_data_segments};
 pub use names::{named_locals, named_segments};
 
 // Passed on to crates above, which then list this one alone.
-pub use walrus_body_writer as body_writer;
-pub use walrus_body_writer::body_env;
+pub mod body_env {
+    pub use walrus_body_writer::body_env::{BodyEnv, BodyError, Validator};
+}
+
+pub mod body_writer {
+    pub use walrus_body_writer::{Output, body_size, emit_instructions};
+}

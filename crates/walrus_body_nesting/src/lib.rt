@@ -6,4 +6,6 @@ mod frames;
 pub use frames::{Opener, Reach};
 
 // Passed on to crates above, which then list this one alone.
-pub use walrus_body_env as body_env;
+pub mod body_env {
+    pub use walrus_body_env::{BodyEnv, BodyError, Validator};
+}

@@ -17,4 +17,6 @@ pub use scope::{Operands, Scope};
 pub use steps::{Step, step_of};
 
 // Passed on to crates above, which then list this one alone.
-pub use walrus_body_steps::body_stack;
+pub mod body_stack {
+    pub use walrus_body_steps::body_stack::Stack;
+}

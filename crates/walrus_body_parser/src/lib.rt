@@ -9,4 +9,6 @@ mod trees;
 pub use trees::read_tree;
 
 // Passed on to crates above, which then list this one alone.
-pub use walrus_body_operands as body_operands;
+pub mod body_operands {
+    pub use walrus_body_operands::Operands;
+}

@@ -9,5 +9,10 @@ mod turns;
 pub use stack::Stack;
 
 // Passed on to crates above, which then list this one alone.
-pub use walrus_body_nesting as body_nesting;
-pub use walrus_body_nesting::body_env;
+pub mod body_env {
+    pub use walrus_body_nesting::body_env::{BodyEnv, BodyError};
+}
+
+pub mod body_nesting {
+    pub use walrus_body_nesting::Opener;
+}

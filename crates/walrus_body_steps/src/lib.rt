@@ -4,5 +4,14 @@
 pub mod laws;
 
 // Passed on to crates above, which then list this one alone.
-pub use walrus_body_stack as body_stack;
-pub use walrus_body_stack::{body_env, body_nesting};
+pub mod body_env {
+    pub use walrus_body_stack::body_env::{BodyEnv, BodyError};
+}
+
+pub mod body_nesting {
+    pub use walrus_body_stack::body_nesting::Opener;
+}
+
+pub mod body_stack {
+    pub use walrus_body_stack::Stack;
+}

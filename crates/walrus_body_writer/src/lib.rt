@@ -21,5 +21,10 @@ pub use todo::Closer;
 pub use visit::{TextVisitor, visit_text};
 
 // Passed on to crates above, which then list this one alone.
-pub use walrus_body_env as body_env;
-pub use walrus_pairing as pairing;
+pub mod body_env {
+    pub use walrus_body_env::{BodyEnv, BodyError, Validator};
+}
+
+pub mod pairing {
+    pub use walrus_pairing::{PairError, write_value};
+}

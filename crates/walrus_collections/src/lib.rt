@@ -24,5 +24,13 @@ pub use tables::ModuleTables;
 pub use tags::ModuleTags;
 
 // Passed on to crates above, which then list this one alone.
-pub use walrus_module_items as module_items;
-pub use walrus_module_items::local_function;
+pub mod local_function {
+    pub use walrus_module_items::local_function::LocalFunction;
+}
+
+pub mod module_items {
+    pub use walrus_module_items::{
+        Data, DataKind, Element, ElementItems, ElementKind, Export, ExportItem, Function,
+        FunctionKind, Global, GlobalKind, ImportKind, Memory, Table, Tag,
+    };
+}

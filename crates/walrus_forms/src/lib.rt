@@ -19,4 +19,6 @@ pub use record::{
 pub use value::{AbstractHeapType, FieldType, HeapType, RefType, StorageType, ValType};
 
 // Passed on to crates above, which then list this one alone.
-pub use walrus_arena as arena;
+pub mod arena {
+    pub use walrus_arena::{LocalId, Tombstone, TypeId};
+}

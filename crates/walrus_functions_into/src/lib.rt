@@ -9,4 +9,10 @@ pub use bodies::{FunctionBody, pair_bodies};
 pub use functions::{add_bodiless, add_functions, give_body};
 
 // Passed on to crates above, which then list this one alone.
-pub use walrus_types_into as types_into;
+pub mod types_into {
+    pub use walrus_types_into::read_types_into;
+
+    pub mod laws {
+        pub use walrus_types_into::laws::{new_types_stand, types_name_below};
+    }
+}

@@ -3,9 +3,6 @@
 
 ghost use Rattle.walrus_group_laws.specs.Groups.{GroupsMean, ReadTypesAreDeclared};
 
-// Passed on to crates above, which then list this one alone.
-pub use walrus_types_into as types_into;
-
 /// No type that was read is an entry type, which stands for a body's own block.
 pub fn read_types_are_declared()
     ensures { ReadTypesAreDeclared }
@@ -17,4 +14,11 @@ pub fn groups_mean()
     ensures { GroupsMean }
 {
     walrus_types_into::laws::new_types_stand();
+}
+
+// Passed on to crates above, which then list this one alone.
+pub mod types_into {
+    pub mod laws {
+        pub use walrus_types_into::laws::{new_types_stand, types_name_below};
+    }
 }

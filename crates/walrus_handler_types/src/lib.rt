@@ -9,4 +9,6 @@ pub use give::give_types;
 pub use walrus_handlers::{AnyHandler, Handler, handlers};
 
 // Passed on to crates above, which then list this one alone.
-pub use walrus_handlers::tree;
+pub mod tree {
+    pub use walrus_handlers::tree::check_tree;
+}

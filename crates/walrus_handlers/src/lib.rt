@@ -6,7 +6,25 @@ mod gather;
 
 pub use any::AnyHandler;
 pub use gather::handlers;
-pub use walrus_handler_laws::Handler;
+pub use walrus_handler_laws::{Handler, laws};
 
 // Passed on to crates above, which then list this one alone.
-pub use walrus_handler_laws::{body_steps, laws, tree};
+pub mod tree {
+    pub use walrus_handler_laws::tree::check_tree;
+
+    pub mod builder {
+        pub use walrus_handler_laws::tree::builder::FunctionBuilder;
+
+        pub mod tree_walks {
+            pub mod instr {
+                pub use walrus_handler_laws::tree::builder::tree_walks::instr::InstrSeqType;
+
+                pub mod type_table {
+                    pub use walrus_handler_laws::tree::builder::tree_walks::instr::type_table::{
+                        ModuleTypes, ValType,
+                    };
+                }
+            }
+        }
+    }
+}

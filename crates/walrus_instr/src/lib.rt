@@ -18,4 +18,6 @@ pub use operators::{BinaryOp, TernaryOp, UnaryOp};
 pub use seq::{InstrLocId, InstrSeq, InstrSeqType};
 
 // Passed on to crates above, which then list this one alone.
-pub use walrus_types as type_table;
+pub mod type_table {
+    pub use walrus_types::{HeapType, ModuleLocals, ModuleTypes, RefType, ValType};
+}

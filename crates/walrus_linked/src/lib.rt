@@ -1,14 +1,10 @@
 //! When a module is linked, and what calls keep of it and of its collections.
 #![tactic(auto)]
 
-// Passed on to crates above, which then list this one alone.
 ghost use Rattle.std.specs.Prelude.{ℕ};
 ghost use Rattle.walrus_linked.specs.Empty.{EmptyIsLinked};
 ghost use Rattle.walrus_linked.specs.Kept.{ImportsKeepLinked};
 ghost use Rattle.walrus_linked.specs.OwnIds.{OwnIdsAreKept};
-
-pub use walrus_module as module;
-pub use walrus_module::collections;
 
 /// A module without items is linked.
 pub fn empty_is_linked()
@@ -26,3 +22,21 @@ pub fn imports_keep_linked()
 pub fn own_ids_are_kept<T>()
     ensures { (id_of : T → ℕ) → OwnIdsAreKept id_of }
 {}
+
+// Passed on to crates above, which then list this one alone.
+pub mod collections {
+    pub use walrus_module::collections::{
+        Collection, ModuleData, ModuleElements, ModuleExports, ModuleFunctions, ModuleGlobals,
+        ModuleImports, ModuleMemories, ModuleTables, ModuleTags,
+    };
+}
+
+pub mod module {
+    pub use walrus_module::Module;
+
+    pub mod module_items {
+        pub use walrus_module::module_items::{
+            DataKind, ElementItems, ElementKind, ExportItem, GlobalKind, ImportKind,
+        };
+    }
+}

@@ -1,10 +1,7 @@
 //! What deletes and writes keep of a linked module.
 #![tactic(auto)]
 
-// Passed on to crates above, which then list this one alone.
 ghost use Rattle.walrus_linked_changes.specs.Changes.{DeletesKeepLinked, WritesKeepLinked};
-
-pub use walrus_linked_edits as linked_edits;
 
 /// A linked module stays linked where an item is deleted that nothing else names: a type, a function, a table, a memory, a global,
 /// a tag or a segment; and where a whole group of types is, whose members nothing else names.
@@ -17,3 +14,10 @@ pub fn deletes_keep_linked()
 pub fn writes_keep_linked()
     ensures { WritesKeepLinked }
 {}
+
+// Passed on to crates above, which then list this one alone.
+pub mod linked_edits {
+    pub use walrus_linked_edits::{
+        adds_keep_linked, deleted_exports_keep_linked, replaces_keep_linked,
+    };
+}

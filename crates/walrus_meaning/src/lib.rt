@@ -1,12 +1,8 @@
 //! What a module means: the abstract module of the standard's grammar, whose numbers are ids.
 #![tactic(auto)]
 
-// Passed on to crates above, which then list this one alone.
 ghost use Rattle.walrus_meaning.specs.Laws.{EmptyMeansEmpty, ItemsAreSeen, DeletesAreSeen, AddsAreSeen};
 ghost use Rattle.walrus_arena.specs.Arena.{Arena};
-
-pub use walrus_linked as linked;
-pub use walrus_linked::module;
 
 /// A module without items and groups means the empty module.
 pub fn empty_means_empty()
@@ -23,3 +19,25 @@ pub fn items_are_seen<A, B>()
 pub fn adds_are_seen()
     ensures { AddsAreSeen }
 {}
+
+// Passed on to crates above, which then list this one alone.
+pub mod linked {
+    pub use walrus_linked::{empty_is_linked, imports_keep_linked, own_ids_are_kept};
+
+    pub mod collections {
+        pub use walrus_linked::collections::{
+            ModuleData, ModuleElements, ModuleExports, ModuleGlobals, ModuleImports,
+            ModuleMemories, ModuleTables, ModuleTags,
+        };
+    }
+}
+
+pub mod module {
+    pub use walrus_linked::module::Module;
+
+    pub mod module_items {
+        pub use walrus_linked::module::module_items::{
+            DataKind, ElementItems, ElementKind, ExportItem, GlobalKind, ImportKind,
+        };
+    }
+}

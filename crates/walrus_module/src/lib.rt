@@ -9,5 +9,20 @@ mod replace;
 pub use module::Module;
 
 // Passed on to crates above, which then list this one alone.
-pub use walrus_collections as collections;
-pub use walrus_collections::{local_function, module_items};
+pub mod collections {
+    pub use walrus_collections::{
+        Collection, ModuleData, ModuleElements, ModuleExports, ModuleFunctions, ModuleGlobals,
+        ModuleImports, ModuleMemories, ModuleTables, ModuleTags,
+    };
+}
+
+pub mod local_function {
+    pub use walrus_collections::local_function::LocalFunction;
+}
+
+pub mod module_items {
+    pub use walrus_collections::module_items::{
+        Data, DataKind, Element, ElementItems, ElementKind, Export, ExportItem, Function,
+        FunctionKind, Global, GlobalKind, ImportKind, Memory, Table, Tag,
+    };
+}

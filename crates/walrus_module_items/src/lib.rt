@@ -22,4 +22,6 @@ pub use table::Table;
 pub use tag::{Tag, TagKind};
 
 // Passed on to crates above, which then list this one alone.
-pub use walrus_local_function as local_function;
+pub mod local_function {
+    pub use walrus_local_function::LocalFunction;
+}

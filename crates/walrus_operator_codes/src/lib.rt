@@ -15,6 +15,17 @@ pub use ternary::{code_of_ternary, ternary_of};
 pub use unary::{code_of_unary, lane_of_unary, unary_of};
 
 // Passed on to crates above, which then list this one alone.
-pub use walrus_instr as instr;
-pub use walrus_instr::type_table;
-pub use wasm_operators as operator_table;
+pub mod instr {
+    pub use walrus_instr::{
+        AtomicOp, AtomicWidth, Bits128, ExtendedLoad, Instr, LoadKind, LoadSimdKind, MemArg,
+        StoreKind, Value,
+    };
+}
+
+pub mod operator_table {
+    pub use wasm_operators::OpCode;
+}
+
+pub mod type_table {
+    pub use walrus_instr::type_table::{ModuleLocals, ValType};
+}

@@ -4,4 +4,6 @@
 pub mod laws;
 
 // Passed on to crates above, which then list this one alone.
-pub use walrus_pairing as pairing;
+pub mod pairing {
+    pub use walrus_pairing::{PairError, instr_of, read_heap, read_value};
+}

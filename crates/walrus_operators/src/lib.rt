@@ -13,5 +13,16 @@ pub use operator::Operator;
 pub use reader::{OperatorError, OperatorReader};
 
 // Passed on to crates above, which then list this one alone.
-pub use wasm_immediates as immediate_forms;
-pub use wasm_operators as operator_table;
+pub mod immediate_forms {
+    pub use wasm_immediates::MemoryAccess;
+
+    pub mod reader {
+        pub mod features {
+            pub use wasm_immediates::reader::features::WasmFeatures;
+        }
+    }
+}
+
+pub mod operator_table {
+    pub use wasm_operators::OpCode;
+}

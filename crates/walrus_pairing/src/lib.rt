@@ -15,5 +15,14 @@ pub use to_operator::operator_of;
 pub use types::{read_heap, read_value, write_heap, write_value};
 
 // Passed on to crates above, which then list this one alone.
-pub use walrus_access_codes::{operator_codes, type_table};
-pub use walrus_operators as operators;
+pub mod operator_codes {
+    pub use walrus_access_codes::operator_codes::{byte, object};
+}
+
+pub mod operators {
+    pub use walrus_operators::{Immediates, Operator};
+}
+
+pub mod type_table {
+    pub use walrus_access_codes::type_table::{ModuleLocals, ValType};
+}

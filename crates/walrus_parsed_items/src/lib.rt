@@ -4,5 +4,14 @@
 pub mod laws;
 
 // Passed on to crates above, which then list this one alone.
-pub use walrus_into_laws as into_laws;
-pub use walrus_parse as parse;
+pub mod into_laws {
+    pub use walrus_into_laws::{customs_mean, ordered_stay};
+}
+
+pub mod parse {
+    pub mod file_bodies {
+        pub mod laws {
+            pub use walrus_parse::file_bodies::laws::bodies_read_files;
+        }
+    }
+}

@@ -4,4 +4,20 @@
 pub mod laws;
 
 // Passed on to crates above, which then list this one alone.
-pub use walrus_parsed_items as parsed_items;
+pub mod parsed_items {
+    pub mod into_laws {
+        pub use walrus_parsed_items::into_laws::{customs_mean, ordered_stay};
+    }
+
+    pub mod laws {
+        pub use walrus_parsed_items::laws::read_modules_have_items;
+    }
+
+    pub mod parse {
+        pub mod file_bodies {
+            pub mod laws {
+                pub use walrus_parsed_items::parse::file_bodies::laws::bodies_read_files;
+            }
+        }
+    }
+}

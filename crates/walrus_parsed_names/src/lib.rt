@@ -4,4 +4,8 @@
 pub mod laws;
 
 // Passed on to crates above, which then list this one alone.
-pub use walrus_parsed_links as parsed_links;
+pub mod parsed_links {
+    pub mod laws {
+        pub use walrus_parsed_links::laws::read_modules_have_links;
+    }
+}

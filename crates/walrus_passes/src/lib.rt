@@ -10,4 +10,18 @@ mod used;
 pub use used::Used;
 
 // Passed on to crates above, which then list this one alone.
-pub use walrus_used::{collections, local_function, module, module_items};
+pub mod collections {
+    pub use walrus_used::collections::{Collection, ModuleData, ModuleElements, ModuleFunctions};
+}
+
+pub mod local_function {
+    pub use walrus_used::local_function::LocalFunction;
+}
+
+pub mod module {
+    pub use walrus_used::module::Module;
+}
+
+pub mod module_items {
+    pub use walrus_used::module_items::{DataKind, ElementItems, ElementKind};
+}

@@ -1,12 +1,9 @@
 //! Laws of passes over modules.
 #![tactic(auto)]
 
-// Passed on to crates above, which then list this one alone.
 ghost use Rattle.walrus_passes_laws.specs.LinkedKept.{GcKeepsLinked};
 ghost use Rattle.walrus_passes_laws.specs.Served.{LinkedAreServed};
 ghost use Rattle.walrus_passes_laws.specs.Twice.{GcTwice};
-
-pub use walrus_passes as passes;
 
 /// A second `gc::run` deletes nothing, and is refused for want of memory alone.
 pub fn second_gc_deletes_nothing()
@@ -27,4 +24,9 @@ pub fn linked_are_served()
     walrus_walks::laws::walk_is_plain();
     walrus_walks::laws::held_are_nested();
     walrus_tree::laws::trees_are_nested();
+}
+
+// Passed on to crates above, which then list this one alone.
+pub mod passes {
+    pub use walrus_passes::{Used, gc};
 }

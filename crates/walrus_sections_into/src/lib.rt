@@ -26,11 +26,44 @@ pub use segments::add_segments;
 pub use tags::add_tags;
 
 // Passed on to crates above, which then list this one alone.
-pub use walrus_arena as arena;
-pub use walrus_forms as forms;
-pub use walrus_index_maps as index_maps;
-pub use walrus_instr as instr;
-pub use walrus_known_sections as known_sections;
-pub use walrus_meaning::linked::collections;
-pub use walrus_meaning::module::module_items;
-pub use walrus_operators as operators;
+pub mod arena {
+    pub use walrus_arena::{FunctionId, GlobalId};
+}
+
+pub mod collections {
+    pub use walrus_meaning::linked::collections::{ModuleElements, ModuleGlobals, ModuleTables};
+}
+
+pub mod forms {
+    pub use walrus_forms::{HeapRecord, HeapType, RefRecord, RefType, ValRecord, ValType};
+}
+
+pub mod index_maps {
+    pub use walrus_index_maps::IndicesToIds;
+}
+
+pub mod instr {
+    pub use walrus_instr::ConstExpr;
+}
+
+pub mod known_sections {
+    pub use walrus_known_sections::{
+        Chunk, Custom, Element, ElementItems, Mode, Sections, Table, TableType,
+    };
+}
+
+pub mod module_items {
+    pub use walrus_meaning::module::module_items::{ElementItems, ElementKind, GlobalKind};
+}
+
+pub mod operators {
+    pub use walrus_operators::Operator;
+
+    pub mod immediate_forms {
+        pub mod reader {
+            pub mod features {
+                pub use walrus_operators::immediate_forms::reader::features::WasmFeatures;
+            }
+        }
+    }
+}

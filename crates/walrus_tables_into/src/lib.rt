@@ -14,6 +14,51 @@ pub use globals::add_globals;
 pub use tables::add_tables;
 
 // Passed on to crates above, which then list this one alone.
-pub use walrus_section_values as section_values;
-pub use walrus_sections as sections;
-pub use walrus_sections_into as sections_into;
+pub mod section_values {
+    pub use walrus_section_values::{Global, GlobalOrigin, Limits};
+}
+
+pub mod sections {
+    pub use walrus_sections::Sections;
+}
+
+pub mod sections_into {
+    pub use walrus_sections_into::{
+        IntoError, add_exports, add_imports, add_memories, add_segments, add_tags, number_elements,
+        number_globals, number_memories, number_segments, number_tables, number_tags, read_start,
+    };
+
+    pub mod collections {
+        pub use walrus_sections_into::collections::{ModuleElements, ModuleGlobals, ModuleTables};
+    }
+
+    pub mod forms {
+        pub use walrus_sections_into::forms::{
+            HeapRecord, HeapType, RefRecord, RefType, ValRecord, ValType,
+        };
+    }
+
+    pub mod index_maps {
+        pub use walrus_sections_into::index_maps::IndicesToIds;
+    }
+
+    pub mod known_sections {
+        pub use walrus_sections_into::known_sections::{
+            Chunk, Custom, Element, ElementItems, Mode, Sections, Table, TableType,
+        };
+    }
+
+    pub mod module_items {
+        pub use walrus_sections_into::module_items::{ElementItems, GlobalKind};
+    }
+
+    pub mod operators {
+        pub mod immediate_forms {
+            pub mod reader {
+                pub mod features {
+                    pub use walrus_sections_into::operators::immediate_forms::reader::features::WasmFeatures;
+                }
+            }
+        }
+    }
+}

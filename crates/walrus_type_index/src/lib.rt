@@ -12,4 +12,6 @@ pub use node::{Spare, Tree};
 pub use order::Target;
 
 // Passed on to crates above, which then list this one alone.
-pub use walrus_items as items;
+pub mod items {
+    pub use walrus_items::{Local, ModuleLocals, RecGroup, Type};
+}

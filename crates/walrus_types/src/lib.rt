@@ -27,4 +27,9 @@ pub use walrus_forms::{
 pub use walrus_type_index::items::{Local, ModuleLocals, RecGroup, Type};
 
 // Passed on to crates above, which then list this one alone.
-pub use walrus_arena as arena;
+pub mod arena {
+    pub use walrus_arena::{
+        DataId, ElementId, FunctionId, GlobalId, InstrSeqId, LocalId, MemoryId, TableId, TagId,
+        TypeId,
+    };
+}

@@ -14,4 +14,20 @@ pub use counts::{id_counts, reach_items, type_count};
 pub use sweep::{Check, Reached};
 
 // Passed on to crates above, which then list this one alone.
-pub use walrus_references::{collections, local_function, module, module_items};
+pub mod collections {
+    pub use walrus_references::collections::{
+        Collection, ModuleData, ModuleElements, ModuleFunctions, ModuleImports,
+    };
+}
+
+pub mod local_function {
+    pub use walrus_references::local_function::LocalFunction;
+}
+
+pub mod module {
+    pub use walrus_references::module::Module;
+}
+
+pub mod module_items {
+    pub use walrus_references::module_items::{DataKind, ElementItems, ElementKind};
+}

@@ -22,5 +22,17 @@ pub use visitor::Visitor;
 pub use visitor_mut::VisitorMut;
 
 // Passed on to crates above, which then list this one alone.
-pub use walrus_instr as instr;
-pub use walrus_instr::type_table;
+pub mod instr {
+    pub use walrus_instr::{
+        AtomicOp, AtomicWidth, BinaryOp, Instr, InstrLocId, InstrSeq, InstrSeqType, LegacyCatch,
+        LoadKind, LoadSimdKind, MemArg, ShuffleIndices, StoreKind, TernaryOp, UnaryOp, Value,
+    };
+
+    pub mod type_table {
+        pub use walrus_instr::type_table::{ModuleTypes, ValType};
+    }
+}
+
+pub mod type_table {
+    pub use walrus_instr::type_table::{ModuleTypes, RefType, ValType};
+}

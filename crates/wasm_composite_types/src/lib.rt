@@ -16,5 +16,16 @@ pub use form::{ArrayType, CompositeInnerType, CompositeType, ContType, FuncType,
 pub use list::TypeList;
 
 // Passed on to crates above, which then list this one alone.
-pub use wasm_ref_types as ref_types;
-pub use wasm_ref_types::reader;
+pub mod reader {
+    pub use wasm_ref_types::reader::{
+        BinaryReader, Error, ErrorKind, FromReader, Result, WasmFeatures,
+    };
+
+    pub mod features {
+        pub use wasm_ref_types::reader::features::WasmFeatures;
+    }
+}
+
+pub mod ref_types {
+    pub use wasm_ref_types::{HeapType, ValType};
+}

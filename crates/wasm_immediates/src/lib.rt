@@ -13,4 +13,14 @@ pub use memory_access::MemoryAccess;
 pub use small::{read_below, read_zero};
 
 // Passed on to crates above, which then list this one alone.
-pub use wasm_composite_types::{reader, ref_types};
+pub mod reader {
+    pub use wasm_composite_types::reader::{BinaryReader, FromReader, Result, WasmFeatures};
+
+    pub mod features {
+        pub use wasm_composite_types::reader::features::WasmFeatures;
+    }
+}
+
+pub mod ref_types {
+    pub use wasm_composite_types::ref_types::{HeapType, ValType};
+}

@@ -19,4 +19,6 @@ pub use reader::BinaryReader;
 pub use wasm_features::{WasmFeatures, WasmFeaturesInflated};
 
 // Passed on to crates above, which then list this one alone.
-pub use wasm_features as features;
+pub mod features {
+    pub use wasm_features::WasmFeatures;
+}

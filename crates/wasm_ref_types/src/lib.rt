@@ -16,5 +16,20 @@ pub use reference::RefType;
 pub use value::ValType;
 
 // Passed on to crates above, which then list this one alone.
-pub use wasm_reader as reader;
-pub use wasm_reader::features;
+pub mod features {
+    pub use wasm_reader::features::WasmFeatures;
+}
+
+pub mod reader {
+    pub use wasm_reader::{BinaryReader, Error, ErrorKind, FromReader, Result, WasmFeatures};
+
+    pub mod features {
+        pub use wasm_reader::features::WasmFeatures;
+    }
+
+    pub mod limits {
+        pub use wasm_reader::limits::{
+            MAX_WASM_FUNCTION_PARAMS, MAX_WASM_FUNCTION_RETURNS, MAX_WASM_STRUCT_FIELDS,
+        };
+    }
+}
