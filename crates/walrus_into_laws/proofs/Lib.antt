@@ -1,3 +1,6 @@
+pub mod DeclaredLemmas
+pub mod GroupLemmas
+pub mod ParsedLemmas
 pub mod FunctionLemmas
 pub mod ItemLemmas
 pub mod ExpressionLemmas

@@ -1,9 +1,11 @@
 //! Laws of what was read of a file and put into a module: it fills the collections, and means what was read, renamed.
 #![tactic(auto)]
 
-ghost use Rattle.wasm_grammar.specs.Modules.{Custom};
+ghost use Rattle.walrus_meaning.specs.walrus_local_function.walrus_body_locals.wasm_grammar.Modules.{Custom};
 ghost use Rattle.walrus_into_laws.specs.Functions.{FunctionsFill};
 ghost use Rattle.walrus_into_laws.specs.Meaning.{ImportsMean, FunctionsMean, TablesMean, MemoriesMean, TagsMean, GlobalsMean, ExportsMean, StartMeans, ElementsMean, SegmentsMean, CustomsMean, ModuleMeans, OrderedStay};
+
+pub mod groups;
 
 /// Functions that are added fill the slots behind those that were there with what was read: each of the type that is named, brought by
 /// the same import, or without a body yet (Core Specification, binary format: function section).
@@ -78,7 +80,14 @@ pub fn module_means()
     ensures { ModuleMeans }
 {
     wasm_spelled_modules::laws::read_sections_are_spelled();
-    walrus_group_laws::types_into::laws::types_name_below();
-    walrus_group_laws::read_types_are_declared();
-    walrus_group_laws::groups_mean();
+    walrus_types_into::laws::types_name_below();
+    groups::read_types_are_declared();
+    groups::groups_mean();
+}
+
+// Passed on to crates above, which then list this one alone.
+pub mod types_into {
+    pub mod laws {
+        pub use walrus_types_into::laws::{new_types_stand, types_name_below};
+    }
 }

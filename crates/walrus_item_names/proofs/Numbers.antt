@@ -7,7 +7,7 @@ use Rattle.wasm_name_payloads.specs.Joined.{flat_map_append}
 use Rattle.wasm_formats.specs.declared.fault.Space.TheVariants as spaces
 use Rattle.wasm_name_payloads.specs.Names.{Bearer, Given, given, item_in}
 use Rattle.walrus_arena.specs.Arena.{item_at}
-use Rattle.walrus_names_into.specs.Numbered.{locals_in}
+use Rattle.walrus_payloads_into.specs.Numbered.{locals_in}
 use Rattle.walrus_index_maps.specs.Maps.{Ids}
 use Rattle.walrus_item_names.specs.Holder.{Holder}
 use Rattle.walrus_module.specs.walrus_module_items.declared.function.Function.{Function}

@@ -7,7 +7,7 @@ use Rattle.std.proofs.lemmas.List.{append_assoc, append-nil}
 use Rattle.wasm_formats.specs.declared.fault.Space.TheVariants as spaces
 use Rattle.wasm_name_payloads.specs.Names.{Bearer, TheModule, AnItem, ALocal, Given, given, item_in}
 use Rattle.walrus_index_maps.specs.Maps.{Ids}
-use Rattle.walrus_names_into.specs.Numbered.{ids_in, locals_in}
+use Rattle.walrus_payloads_into.specs.Numbered.{ids_in, locals_in}
 
 -- the same with the id that the number names; a local of a function is an item of the space of locals
 abbrev pub sent : Ids → Bearer → Option Bearer

@@ -9,7 +9,7 @@ use Rattle.walrus_index_maps.specs.Maps.{Ids}
 use Rattle.walrus_item_names.specs.Holder.{Holder}
 use Rattle.walrus_module.specs.walrus_module_items.declared.function.Function.{Function}
 use Rattle.walrus_module.specs.walrus_module_items.Functions.{local_of}
-use Rattle.walrus_names_into.specs.Numbered.{locals_in}
+use Rattle.walrus_payloads_into.specs.Numbered.{locals_in}
 
 -- f and the function's number
 abbrev pub function_text : ℕ → List ℕ

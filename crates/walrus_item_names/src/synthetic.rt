@@ -2,7 +2,7 @@
 
 ghost use Rattle.std.specs.Prelude.{◌≡◌, ◌<◌, ◌^◌, ◌++◌, ℕ, false, length, OnOk, IfOk, Some, slice_get, decimal, string_bytes};
 ghost use Rattle.walrus_index_maps.specs.Views.{ids};
-ghost use Rattle.walrus_names_into.specs.Numbered.{locals_in};
+ghost use Rattle.walrus_payloads_into.specs.Numbered.{locals_in};
 ghost use Rattle.walrus_arena.specs.Arena.{item_at};
 ghost use Rattle.walrus_item_names.specs.Sent.{sent_names};
 ghost use Rattle.walrus_item_names.specs.Holder.{holder};

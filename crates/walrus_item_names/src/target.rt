@@ -6,7 +6,7 @@ ghost use Rattle.walrus_index_maps.specs.Views.{ids};
 ghost use Rattle.wasm_formats.specs.declared.fault.Space.TheVariants as spaces;
 ghost use Rattle.wasm_name_payloads.specs.Names.{item_in};
 ghost use Rattle.walrus_payload_readers.specs.Bearers.{bearer_of};
-ghost use Rattle.walrus_names_into.specs.Numbered.{ids_in, locals_in};
+ghost use Rattle.walrus_payloads_into.specs.Numbered.{ids_in, locals_in};
 ghost use Rattle.walrus_item_names.specs.Sent.{sent};
 ghost use Rattle.walrus_item_names.specs.Targets.{target_bearer};
 

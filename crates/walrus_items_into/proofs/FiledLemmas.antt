@@ -16,7 +16,7 @@ use Rattle.walrus_functions_into.specs.walrus_types_into.Into.{TypesNameBelow, N
 use Rattle.walrus_module_env.specs.declared.env.ModuleEnv.{ModuleEnv}
 use Rattle.walrus_module_env.specs.Around.{IsFiled}
 use Rattle.walrus_module_env.specs.Filled.{AreFiled, HasBehind, ReadTypesAreFiled}
-use Rattle.walrus_names_into.specs.Numbered.{ids_in, locals_of, locals_in, IsNumbered}
+use Rattle.walrus_payloads_into.specs.Numbered.{ids_in, locals_of, locals_in, IsNumbered}
 use Rattle.walrus_module_env.specs.walrus_body_parser.walrus_body_rules.wasm_body_grammar.wasm_formats.declared.fault.Space.{Space}
 use Rattle.walrus_module_env.specs.walrus_body_parser.walrus_body_rules.wasm_body_grammar.wasm_formats.declared.fault.Space.TheVariants as spaces
 use Rattle.walrus_module_env.specs.walrus_body_parser.walrus_body_rules.wasm_grammar.Modules.{Body, Function as GrammarFunction, Memory as GrammarMemory}
@@ -103,7 +103,7 @@ wide_at [] [] n h = refl
 wide_at [] (y ∷ ys) n h = absurd h
 wide_at (x ∷ xs) [] n h = absurd h
 wide_at (x ∷ xs) (None ∷ ys) n h = absurd h
-wide_at (x ∷ xs) (Some y ∷ ys) zero h = ap (λ (m : GrammarMemory). option_map (λ (m : GrammarMemory). m.wide) (Some m)) h.0
+wide_at (x ∷ xs) (Some y ∷ ys) zero h = ap (λ (m : GrammarMemory). option_map (λ (m : GrammarMemory). m.wide) (Some m)) h.0.meant
 wide_at (x ∷ xs) (Some y ∷ ys) (suc n) h = wide_at xs ys n h.1
 
 -- ---- the module

@@ -8,7 +8,7 @@ use Rattle.walrus_functions_into.specs.wasm_module_rules.wasm_modules.Modules.{a
 use Rattle.wasm_name_payloads.specs.Names.{local_count}
 use Rattle.walrus_read_laws.specs.walrus_tables_into.walrus_sections_into.walrus_instr.walrus_types.Table.{next_id, IsFunctionType}
 use Rattle.walrus_module_env.specs.walrus_body_parser.walrus_body_rules.wasm_grammar.Modules.{Body}
-use Rattle.walrus_names_into.specs.Numbered.{IsNumbered}
+use Rattle.walrus_payloads_into.specs.Numbered.{IsNumbered}
 use Rattle.walrus_module_env.specs.declared.env.ModuleEnv.{ModuleEnv}
 use Rattle.walrus_module_env.specs.Around.{IsFiled}
 use Rattle.walrus_module_env.specs.Filled.{HasBehind}

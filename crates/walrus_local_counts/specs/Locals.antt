@@ -6,7 +6,7 @@ use Rattle.wasm_body_grammar.specs.Bodies.{most_locals}
 use Rattle.wasm_module_rules.specs.wasm_modules.Modules.{Reads}
 use Rattle.wasm_name_payloads.specs.Names.{local_count}
 use Rattle.walrus_index_maps.specs.Maps.{Ids}
-use Rattle.walrus_names_into.specs.Numbered.{locals_in, IsNumbered}
+use Rattle.walrus_payloads_into.specs.Numbered.{locals_in, IsNumbered}
 
 -- no more than there may be
 abbrev pub FewLocals : Type 0

@@ -17,7 +17,7 @@ use Rattle.walrus_tree.specs.Text.{Piece, Operator, End, after, of_parts, of_ins
 use Rattle.walrus_tree.specs.TextLaws.{TextIsPlain, TreesAreNested, PartsAreWhole}
 use Rattle.walrus_tree.specs.Trees.{Trees, Nothing, Tree, Stand, IsTree, AreWithin}
 use Rattle.walrus_meaning.specs.Bodies.{block_of, own_piece, own_seen}
-use Rattle.walrus_meaning_laws.specs.Plain.{PlainNameWhatIsTold}
+use Rattle.walrus_meaning_refs.specs.Plain.{PlainNameWhatIsTold}
 use Rattle.walrus_meaning_refs.specs.Instrs.{of_items as kept_name, unlabelled, part_types}
 use Rattle.walrus_meaning_refs.specs.Bodies.{parts_of, body_names, BodiesNameWhatIsTold}
 use Rattle.walrus_meaning_refs.proofs.Instrs.{piece_out, block_out, out, out_append, items_append, type_told, instr_told}

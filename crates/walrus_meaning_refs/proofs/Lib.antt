@@ -1,3 +1,4 @@
+mod PlainLemmas
 mod Bodies
 mod Instrs
 pub mod Items

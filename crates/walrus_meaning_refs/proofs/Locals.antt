@@ -16,10 +16,10 @@ use Rattle.wasm_references.specs.wasm_operator_names.wasm_ref_types.declared.ind
 use Rattle.wasm_references.specs.wasm_operator_names.wasm_ref_types.declared.value.ValType.{ValType as WrittenValue}
 use Rattle.wasm_references.specs.wasm_operator_names.wasm_ref_types.declared.value.ValType.TheVariants.{I32, I64, F32, F64, V128, Ref}
 use Rattle.wasm_references.specs.wasm_operator_names.Names.{Name, index_names, heap_names, value_names, block_names, clause_names, label_name, item_names, operator_names}
-use Rattle.wasm_normal_form.specs.Locals.{Key, key_cmp, is_less, insert_key, in_order, numbered}
-use Rattle.wasm_normal_form.specs.Bodies.{local_in}
+use Rattle.walrus_meaning.specs.walrus_local_function.walrus_body_locals.wasm_normal_form.Locals.{Key, key_cmp, is_less, insert_key, in_order, numbered}
+use Rattle.walrus_meaning.specs.walrus_local_function.walrus_body_locals.wasm_normal_form.Bodies.{local_in}
 use Rattle.walrus_walks.specs.walrus_forms.declared.value.ValType.{ValType}
-use Rattle.walrus_items.specs.declared.local.Local.{Local}
+use Rattle.walrus_walks.specs.walrus_instr.walrus_items.declared.local.Local.{Local}
 use Rattle.walrus_meaning.specs.walrus_local_function.declared.local_function.LocalFunction.{LocalFunction}
 use Rattle.walrus_meaning.specs.Bodies.{has_number, named_locals, own_body, own_operators, used_locals}
 use Rattle.walrus_meaning_refs.specs.Locals.{UsedLocalsAreDeclared, type_of_local}

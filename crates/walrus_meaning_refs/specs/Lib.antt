@@ -1,3 +1,4 @@
+pub mod Plain
 pub mod Bodies
 pub mod Instrs
 pub mod Items

@@ -6,7 +6,7 @@ use Rattle.wasm_references.specs.wasm_grammar.Modules.{Placed}
 use Rattle.wasm_references.specs.wasm_immediates.Items.{Locals}
 use Rattle.wasm_references.specs.wasm_operator_names.Names.{operator_names}
 use Rattle.walrus_walks.specs.walrus_forms.declared.value.ValType.{ValType}
-use Rattle.walrus_items.specs.declared.local.Local.{Local}
+use Rattle.walrus_walks.specs.walrus_instr.walrus_items.declared.local.Local.{Local}
 use Rattle.walrus_meaning.specs.walrus_local_function.declared.local_function.LocalFunction.{LocalFunction}
 use Rattle.walrus_meaning.specs.Bodies.{own_body, own_operators}
 

@@ -4,11 +4,24 @@ ghost use Rattle.walrus_meaning_refs.specs.Bodies.{BodiesNameWhatIsTold, WalksNa
 ghost use Rattle.walrus_meaning_refs.specs.Instrs.{InstrsNameWhatIsTold};
 ghost use Rattle.walrus_meaning_refs.specs.Items.{ItemsNameWhatIsMeant};
 ghost use Rattle.walrus_meaning_refs.specs.Locals.{UsedLocalsAreDeclared};
+ghost use Rattle.walrus_meaning_refs.specs.Plain.{PlainHaveOperators, PlainNameWhatIsTold};
 
-use walrus_meaning_laws::laws::plain_instructions_name_what_is_told;
+use walrus_pairing_laws::laws::names_are_told;
 use walrus_tree::laws::{text_is_plain, trees_are_nested, trees_are_sound};
 use walrus_walks::laws::{held_are_nested, walk_is_plain};
 use walrus_walks::visit_laws::expressions_tell_their_operators;
+
+/// A plain instruction has an operator of its own: that is what a body means by it.
+pub fn plain_instructions_have_operators()
+    ensures { PlainHaveOperators }
+{}
+
+/// What a visitor of a plain instruction is told that it names is what the operator names that a body means by it.
+pub fn plain_instructions_name_what_is_told()
+    ensures { PlainNameWhatIsTold }
+{
+    names_are_told();
+}
 
 /// The operator of an instruction, and those behind the sequences that it holds, name what a visitor of it is told that it names, and
 /// what the block types of these sequences name, where the labels that are numbers are known.

@@ -2,10 +2,10 @@
 use Rattle.std.proofs.Common.{ℕ, suc, ◌≡◌, ◌+◌, ◌==◌, ◌<◌, Bool, true, false, List, [], ◌∷◌, ◌++◌, length, take, None, if◌then◌else◌, refl, ap, sym, ◌∙◌, arith, append-nil}
 use Rattle.std.specs.Prelude.{slice_index_or}
 use Rattle.std.proofs.lemmas.List.{append_assoc, length-append, take_more}
-use Rattle.walrus_bodies_into.specs.walrus_handler_types.walrus_body_steps.walrus_body_rules.walrus_forms.declared.value.ValType.{ValType}
-use Rattle.walrus_bodies_into.specs.walrus_handler_types.walrus_body_steps.walrus_access_codes.walrus_items.declared.local.Local.{Local}
+use Rattle.walrus_forms.specs.declared.value.ValType.{ValType}
+use Rattle.walrus_types.specs.walrus_items.declared.local.Local.{Local}
 use Rattle.walrus_index_maps.specs.Maps.{Ids, with_last}
-use Rattle.walrus_bodies_into.specs.walrus_module_env.walrus_collections.walrus_local_function.walrus_body_locals.Locals.{locals_from, ids_from, with_more, with_locals}
+use Rattle.walrus_module_env.specs.walrus_collections.walrus_local_function.walrus_body_locals.Locals.{locals_from, ids_from, with_more, with_locals}
 use Rattle.walrus_module_bodies.specs.Steps.{HasArguments}
 
 locals_behind : (xs : List ValType) (y : ValType) (n : ℕ) → locals_from n (xs ++ y ∷ []) ≡ locals_from n xs ++ record { id = n + length xs; ty = y; name = None } ∷ []

@@ -7,25 +7,25 @@ use Rattle.wasm_features.specs.declared.WasmFeatures.{WasmFeatures}
 use Rattle.wasm_reader.specs.Cursor.{rest}
 use Rattle.walrus_arena.specs.Arena.{Arena, item_at}
 use Rattle.walrus_arena.proofs.ArenaLemmas.{at-other}
-use Rattle.walrus_bodies_into.specs.walrus_handler_types.walrus_body_steps.walrus_body_rules.walrus_forms.declared.value.ValType.{ValType}
-use Rattle.walrus_bodies_into.specs.walrus_handler_types.walrus_tree.walrus_walks.walrus_types.Table.{Table}
+use Rattle.walrus_forms.specs.declared.value.ValType.{ValType}
+use Rattle.walrus_types.specs.Table.{Table}
 use Rattle.walrus_function_types.specs.FunctionTypes.{params_at}
 use Rattle.walrus_function_types.specs.Growth.{EntryTypesGrow, FoundTypesStay, TablesGrowOn}
 use Rattle.walrus_function_types.proofs.GrowthLemmas.{grows_same}
 use Rattle.walrus_handler_types.proofs.Growing.{params_grow}
 use Rattle.walrus_index_maps.specs.Maps.{Ids}
-use Rattle.walrus_bodies_into.specs.walrus_handler_types.walrus_body_steps.wasm_body_grammar.Bodies.{Parts, body, body_of, declared}
-use Rattle.walrus_bodies_into.specs.walrus_handler_types.walrus_body_steps.wasm_body_grammar.Codes.{Code}
-use Rattle.walrus_bodies_into.specs.walrus_handler_types.walrus_body_steps.wasm_body_grammar.Laws.{ReadsBody}
-use Rattle.walrus_bodies_into.specs.walrus_handler_types.walrus_body_steps.wasm_body_grammar.Rules.{Around}
-use Rattle.walrus_bodies_into.specs.walrus_handler_types.walrus_body_steps.wasm_grammar.Modules.{Body}
-use Rattle.walrus_bodies_into.specs.walrus_module_env.declared.env.ModuleEnv.{ModuleEnv}
-use Rattle.walrus_bodies_into.specs.walrus_module_env.Around.{IsFiled}
-use Rattle.walrus_bodies_into.specs.walrus_module_env.walrus_body_parser.Points.{place_at}
-use Rattle.walrus_bodies_into.specs.walrus_module_env.walrus_collections.walrus_local_function.walrus_body_locals.Locals.{ids_from, with_more}
-use Rattle.walrus_bodies_into.specs.walrus_module_env.walrus_collections.walrus_module_items.declared.function.Function.{Function}
-use Rattle.walrus_bodies_into.specs.walrus_module_env.walrus_collections.walrus_module_items.declared.function.FunctionKind.TheVariants as kinds
-use Rattle.walrus_bodies_into.specs.walrus_module_env.walrus_collections.walrus_module_items.Functions.{type_of}
+use Rattle.walrus_body_parser.specs.walrus_body_rules.wasm_body_grammar.Bodies.{Parts, body, body_of, declared}
+use Rattle.walrus_body_parser.specs.walrus_body_rules.wasm_body_grammar.Codes.{Code}
+use Rattle.walrus_body_parser.specs.walrus_body_rules.wasm_body_grammar.Laws.{ReadsBody}
+use Rattle.walrus_body_parser.specs.walrus_body_rules.wasm_body_grammar.Rules.{Around}
+use Rattle.walrus_body_parser.specs.walrus_body_rules.wasm_grammar.Modules.{Body}
+use Rattle.walrus_module_env.specs.declared.env.ModuleEnv.{ModuleEnv}
+use Rattle.walrus_module_env.specs.Around.{IsFiled}
+use Rattle.walrus_body_parser.specs.Points.{place_at}
+use Rattle.walrus_module_env.specs.walrus_collections.walrus_local_function.walrus_body_locals.Locals.{ids_from, with_more}
+use Rattle.walrus_module_env.specs.walrus_collections.walrus_module_items.declared.function.Function.{Function}
+use Rattle.walrus_module_env.specs.walrus_collections.walrus_module_items.declared.function.FunctionKind.TheVariants as kinds
+use Rattle.walrus_module_env.specs.walrus_collections.walrus_module_items.Functions.{type_of}
 use Rattle.walrus_functions_into.specs.declared.bodies.FunctionBody.{FunctionBody}
 use Rattle.walrus_module_bodies.specs.declared.file.FileEnv.{FileEnv}
 use Rattle.walrus_module_bodies.specs.Envs.{IsEnv}

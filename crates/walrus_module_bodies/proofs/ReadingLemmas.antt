@@ -7,38 +7,38 @@ use Rattle.wasm_reader.specs.Cursor.{Cursor, rest}
 use Rattle.walrus_function_types.specs.Growth.{Grows}
 use Rattle.walrus_index_maps.specs.Maps.{Ids}
 use Rattle.walrus_body_trees.specs.Laws.{BodiesAreTrees}
-use Rattle.walrus_bodies_into.specs.walrus_handler_types.Giving.{Gives}
-use Rattle.walrus_bodies_into.specs.walrus_handler_types.walrus_handlers.Gathering.{AreHandlers}
-use Rattle.walrus_bodies_into.specs.walrus_handler_types.walrus_handler_laws.Handlers.{tree_ids}
-use Rattle.walrus_bodies_into.specs.walrus_handler_types.walrus_handler_laws.declared.handler.Handler.{Handler}
-use Rattle.walrus_bodies_into.specs.walrus_handler_types.walrus_body_steps.Picks.{ArePicks}
-use Rattle.walrus_bodies_into.specs.walrus_handler_types.walrus_body_steps.walrus_body_nesting.Opens.{same}
+use Rattle.walrus_handler_types.specs.Giving.{Gives}
+use Rattle.walrus_handler_types.specs.walrus_handlers.Gathering.{AreHandlers}
+use Rattle.walrus_handler_types.specs.walrus_handler_laws.Handlers.{tree_ids}
+use Rattle.walrus_handler_types.specs.walrus_handler_laws.declared.handler.Handler.{Handler}
+use Rattle.walrus_body_parser.specs.walrus_body_steps.Picks.{ArePicks}
+use Rattle.walrus_body_parser.specs.walrus_body_stack.walrus_body_nesting.Opens.{same}
 use Rattle.wasm_features.specs.declared.WasmFeatures.{WasmFeatures}
-use Rattle.walrus_bodies_into.specs.walrus_handler_types.walrus_body_steps.wasm_body_grammar.Bodies.{body, declared}
-use Rattle.walrus_bodies_into.specs.walrus_handler_types.walrus_body_steps.wasm_body_grammar.Rules.{Around}
-use Rattle.walrus_bodies_into.specs.walrus_handler_types.walrus_body_steps.walrus_body_rules.walrus_forms.Renaming.{at, renamed_value}
-use Rattle.walrus_bodies_into.specs.walrus_handler_types.walrus_body_steps.wasm_grammar.States.{types_of}
-use Rattle.walrus_bodies_into.specs.walrus_handler_types.walrus_body_steps.wasm_normal_form.Normal.{normal}
-use Rattle.walrus_bodies_into.specs.walrus_handler_types.walrus_body_steps.wasm_normal_form.Trees.{tree_of}
-use Rattle.walrus_bodies_into.specs.walrus_handler_types.walrus_tree.Trees.{IsTree}
-use Rattle.walrus_bodies_into.specs.walrus_handler_types.walrus_tree.walrus_builder.Built.{Seq, contents, seq_of}
-use Rattle.walrus_bodies_into.specs.walrus_handler_types.walrus_tree.walrus_builder.Functions.{seqs_of}
-use Rattle.walrus_bodies_into.specs.walrus_handler_types.walrus_tree.walrus_builder.declared.function.FunctionBuilder.{FunctionBuilder}
-use Rattle.walrus_bodies_into.specs.walrus_handler_types.walrus_body_steps.walrus_access_codes.walrus_instr.declared.seq.InstrSeq.{InstrSeq}
-use Rattle.walrus_bodies_into.specs.walrus_handler_types.walrus_body_steps.walrus_access_codes.walrus_items.declared.local.Local.{Local}
-use Rattle.walrus_bodies_into.specs.walrus_handler_types.walrus_tree.walrus_walks.walrus_types.Table.{Table}
-use Rattle.walrus_bodies_into.specs.walrus_module_env.declared.env.ModuleEnv.{ModuleEnv}
-use Rattle.walrus_bodies_into.specs.walrus_module_env.Around.{IsFiled, sight_in}
-use Rattle.walrus_bodies_into.specs.walrus_module_env.Env.{tag_type_at}
-use Rattle.walrus_bodies_into.specs.walrus_module_env.Filled.{AreFiled}
-use Rattle.walrus_bodies_into.specs.walrus_module_env.Parsed.{PicksAreSeen}
-use Rattle.walrus_bodies_into.specs.walrus_module_env.walrus_body_parser.Points.{place_at, ops_from}
-use Rattle.walrus_bodies_into.specs.walrus_module_env.walrus_collections.walrus_local_function.walrus_body_locals.Locals.{ids_from, with_locals}
-use Rattle.walrus_bodies_into.specs.walrus_module_env.walrus_collections.walrus_module_items.declared.memory.Memory.{Memory}
-use Rattle.walrus_bodies_into.specs.walrus_module_env.wasm_run_names.Picks.{block_pick}
+use Rattle.walrus_body_parser.specs.walrus_body_rules.wasm_body_grammar.Bodies.{body, declared}
+use Rattle.walrus_body_parser.specs.walrus_body_rules.wasm_body_grammar.Rules.{Around}
+use Rattle.walrus_forms.specs.Renaming.{at, renamed_value}
+use Rattle.walrus_body_parser.specs.walrus_body_rules.wasm_grammar.States.{types_of}
+use Rattle.walrus_body_parser.specs.walrus_body_stack.wasm_normal_form.Normal.{normal}
+use Rattle.walrus_body_parser.specs.walrus_body_stack.wasm_normal_form.Trees.{tree_of}
+use Rattle.walrus_handler_types.specs.walrus_tree.Trees.{IsTree}
+use Rattle.walrus_body_parser.specs.walrus_body_stack.walrus_builder.Built.{Seq, contents, seq_of}
+use Rattle.walrus_body_parser.specs.walrus_body_stack.walrus_builder.Functions.{seqs_of}
+use Rattle.walrus_body_parser.specs.walrus_body_stack.walrus_builder.declared.function.FunctionBuilder.{FunctionBuilder}
+use Rattle.walrus_body_parser.specs.walrus_body_stack.walrus_instr.declared.seq.InstrSeq.{InstrSeq}
+use Rattle.walrus_types.specs.walrus_items.declared.local.Local.{Local}
+use Rattle.walrus_types.specs.Table.{Table}
+use Rattle.walrus_module_env.specs.declared.env.ModuleEnv.{ModuleEnv}
+use Rattle.walrus_module_env.specs.Around.{IsFiled, sight_in}
+use Rattle.walrus_module_env.specs.Env.{tag_type_at}
+use Rattle.walrus_module_env.specs.Filled.{AreFiled}
+use Rattle.walrus_module_env.specs.Parsed.{PicksAreSeen}
+use Rattle.walrus_body_parser.specs.Points.{place_at, ops_from}
+use Rattle.walrus_module_env.specs.walrus_collections.walrus_local_function.walrus_body_locals.Locals.{ids_from, with_locals}
+use Rattle.walrus_module_env.specs.walrus_collections.walrus_module_items.declared.memory.Memory.{Memory}
+use Rattle.walrus_module_env.specs.wasm_run_names.Picks.{block_pick}
 use Rattle.walrus_module_bodies.specs.declared.file.FileEnv.{FileEnv}
 use Rattle.walrus_module_bodies.specs.Envs.{IsEnv}
-use Rattle.walrus_bodies_into.specs.Handled.{HandledBodiesStand}
+use Rattle.walrus_module_env.specs.Handled.{HandledBodiesStand}
 use Rattle.walrus_module_bodies.specs.Reading.{GivesHandlers, IsBodyAside, IsHandledBody}
 
 -- ---- the file is another environment's too

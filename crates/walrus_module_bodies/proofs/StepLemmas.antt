@@ -6,21 +6,21 @@ use Rattle.std.proofs.lemmas.List.Elements.{All-head, All-tail}
 use Rattle.wasm_features.specs.declared.WasmFeatures.{WasmFeatures}
 use Rattle.walrus_arena.specs.Arena.{Arena, item_at}
 use Rattle.walrus_arena.proofs.ArenaLemmas.{at-other}
-use Rattle.walrus_bodies_into.specs.walrus_handler_types.walrus_body_steps.walrus_body_rules.walrus_forms.declared.value.ValType.{ValType}
-use Rattle.walrus_bodies_into.specs.walrus_handler_types.walrus_body_steps.walrus_body_rules.walrus_forms.Forms.{Form, FunctionForm, StructForm, ArrayForm, is_function}
-use Rattle.walrus_bodies_into.specs.walrus_handler_types.walrus_tree.walrus_walks.walrus_types.Items.{Item}
-use Rattle.walrus_bodies_into.specs.walrus_handler_types.walrus_tree.walrus_walks.walrus_types.Table.{IsFunctionType, Table, type_at}
+use Rattle.walrus_forms.specs.declared.value.ValType.{ValType}
+use Rattle.walrus_forms.specs.Forms.{Form, FunctionForm, StructForm, ArrayForm, is_function}
+use Rattle.walrus_types.specs.Items.{Item}
+use Rattle.walrus_types.specs.Table.{IsFunctionType, Table, type_at}
 use Rattle.walrus_function_types.specs.FunctionTypes.{params_at, results_at}
 use Rattle.walrus_function_types.specs.Growth.{FoundTypesStay, Grows, TablesGrowOn}
 use Rattle.walrus_function_types.proofs.GrowthLemmas.{grows_same}
 use Rattle.walrus_index_maps.specs.Maps.{Ids}
-use Rattle.walrus_bodies_into.specs.walrus_handler_types.walrus_body_steps.walrus_body_env.declared.error.BodyError.{BodyError}
-use Rattle.walrus_bodies_into.specs.walrus_module_env.Around.{IsFiled}
-use Rattle.walrus_bodies_into.specs.walrus_module_env.walrus_collections.walrus_module_items.declared.tag.Tag.{Tag}
-use Rattle.walrus_bodies_into.specs.walrus_module_env.walrus_collections.walrus_local_function.walrus_body_locals.Locals.{ids_from, with_more}
-use Rattle.walrus_bodies_into.specs.walrus_module_env.walrus_collections.walrus_module_items.declared.function.Function.{Function}
-use Rattle.walrus_bodies_into.specs.walrus_module_env.walrus_collections.walrus_module_items.declared.function.FunctionKind.TheVariants as kinds
-use Rattle.walrus_bodies_into.specs.walrus_module_env.walrus_collections.walrus_module_items.Functions.{type_of}
+use Rattle.walrus_body_parser.specs.walrus_body_stack.walrus_body_env.declared.error.BodyError.{BodyError}
+use Rattle.walrus_module_env.specs.Around.{IsFiled}
+use Rattle.walrus_module_env.specs.walrus_collections.walrus_module_items.declared.tag.Tag.{Tag}
+use Rattle.walrus_module_env.specs.walrus_collections.walrus_local_function.walrus_body_locals.Locals.{ids_from, with_more}
+use Rattle.walrus_module_env.specs.walrus_collections.walrus_module_items.declared.function.Function.{Function}
+use Rattle.walrus_module_env.specs.walrus_collections.walrus_module_items.declared.function.FunctionKind.TheVariants as kinds
+use Rattle.walrus_module_env.specs.walrus_collections.walrus_module_items.Functions.{type_of}
 use Rattle.walrus_functions_into.specs.declared.bodies.FunctionBody.{FunctionBody}
 use Rattle.walrus_module_bodies.specs.declared.file.FileEnv.{FileEnv}
 use Rattle.walrus_module_bodies.specs.Reading.{TagsStand}

@@ -1,7 +1,7 @@
 -- A module around its bodies, while its types grow.
 use Rattle.std.specs.Prelude.{◌≡◌}
-use Rattle.walrus_bodies_into.specs.walrus_handler_types.walrus_tree.walrus_walks.walrus_types.Table.{Table}
-use Rattle.walrus_bodies_into.specs.walrus_module_env.declared.env.ModuleEnv.{ModuleEnv}
+use Rattle.walrus_types.specs.Table.{Table}
+use Rattle.walrus_module_env.specs.declared.env.ModuleEnv.{ModuleEnv}
 use Rattle.walrus_module_bodies.specs.declared.file.FileEnv.{FileEnv}
 
 -- what bodies ask of the module, beside this table of types

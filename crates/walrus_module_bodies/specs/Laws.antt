@@ -2,14 +2,14 @@
 use Rattle.std.specs.Prelude.{ℕ, ◌≡◌, ◌≢◌, ◌+◌, ◌<◌, List, [], ◌∷◌, length, All, Some}
 use Rattle.wasm_features.specs.declared.WasmFeatures.{WasmFeatures}
 use Rattle.walrus_arena.specs.Arena.{item_at}
-use Rattle.walrus_bodies_into.specs.walrus_handler_types.walrus_body_steps.walrus_body_rules.walrus_forms.declared.value.ValType.{ValType}
+use Rattle.walrus_forms.specs.declared.value.ValType.{ValType}
 use Rattle.walrus_function_types.specs.FunctionTypes.{params_at}
 use Rattle.walrus_index_maps.specs.Maps.{Ids}
-use Rattle.walrus_bodies_into.specs.walrus_handler_types.walrus_body_steps.wasm_body_grammar.Codes.{Code, ReadsCodes}
-use Rattle.walrus_bodies_into.specs.walrus_handler_types.walrus_body_steps.wasm_body_grammar.Rules.{Around}
-use Rattle.walrus_bodies_into.specs.walrus_handler_types.walrus_body_steps.wasm_grammar.Modules.{Body}
-use Rattle.walrus_bodies_into.specs.walrus_module_env.walrus_collections.walrus_module_items.declared.function.Function.{Function}
-use Rattle.walrus_bodies_into.specs.walrus_module_env.walrus_collections.walrus_module_items.Functions.{type_of}
+use Rattle.walrus_body_parser.specs.walrus_body_rules.wasm_body_grammar.Codes.{Code, ReadsCodes}
+use Rattle.walrus_body_parser.specs.walrus_body_rules.wasm_body_grammar.Rules.{Around}
+use Rattle.walrus_body_parser.specs.walrus_body_rules.wasm_grammar.Modules.{Body}
+use Rattle.walrus_module_env.specs.walrus_collections.walrus_module_items.declared.function.Function.{Function}
+use Rattle.walrus_module_env.specs.walrus_collections.walrus_module_items.Functions.{type_of}
 use Rattle.walrus_functions_into.specs.declared.bodies.FunctionBody.{FunctionBody}
 use Rattle.walrus_module_bodies.specs.declared.file.FileEnv.{FileEnv}
 use Rattle.walrus_module_bodies.specs.Steps.{AreApart, IsModuleOf, IsReady, State, Steps}

@@ -4,39 +4,39 @@ use Rattle.wasm_reader.specs.Cursor.{Cursor, end_of, rest}
 use Rattle.walrus_arena.specs.Arena.{Arena, item_at}
 use Rattle.walrus_function_types.specs.Growth.{Grows}
 use Rattle.walrus_index_maps.specs.Maps.{Ids}
-use Rattle.walrus_bodies_into.specs.walrus_handler_types.Giving.{Gives}
-use Rattle.walrus_bodies_into.specs.walrus_handler_types.walrus_handlers.Gathering.{AreHandlers}
-use Rattle.walrus_bodies_into.specs.walrus_handler_types.walrus_handler_laws.Handlers.{tree_ids}
-use Rattle.walrus_bodies_into.specs.walrus_handler_types.walrus_handler_laws.declared.handler.Handler.{Handler}
-use Rattle.walrus_bodies_into.specs.walrus_handler_types.walrus_body_steps.walrus_access_codes.walrus_instr.declared.seq.InstrSeq.{InstrSeq}
-use Rattle.walrus_bodies_into.specs.walrus_handler_types.walrus_body_steps.walrus_access_codes.walrus_items.declared.local.Local.{Local}
-use Rattle.walrus_bodies_into.specs.walrus_handler_types.walrus_body_steps.walrus_body_rules.walrus_forms.Renaming.{at, renamed_value}
-use Rattle.walrus_bodies_into.specs.walrus_handler_types.walrus_tree.Trees.{IsTree}
-use Rattle.walrus_bodies_into.specs.walrus_module_env.Env.{tag_type_at}
-use Rattle.walrus_bodies_into.specs.walrus_module_env.walrus_collections.walrus_local_function.walrus_body_locals.Locals.{Adds}
-use Rattle.walrus_bodies_into.specs.walrus_handler_types.walrus_body_steps.Meanings.{meaning}
-use Rattle.walrus_bodies_into.specs.walrus_handler_types.walrus_body_steps.Picks.{ArePicks}
-use Rattle.walrus_bodies_into.specs.walrus_handler_types.walrus_body_steps.walrus_body_nesting.Stands.{StandsAs}
-use Rattle.walrus_bodies_into.specs.walrus_handler_types.walrus_body_steps.walrus_body_env.declared.error.BodyError.{BodyError}
-use Rattle.walrus_bodies_into.specs.walrus_handler_types.walrus_body_steps.walrus_body_rules.Sights.{Sight}
-use Rattle.walrus_bodies_into.specs.walrus_handler_types.walrus_body_steps.walrus_body_nesting.wasm_formats.Stops.{Stop}
-use Rattle.walrus_bodies_into.specs.walrus_handler_types.walrus_body_steps.wasm_body_grammar.Rules.{Around}
-use Rattle.walrus_bodies_into.specs.walrus_handler_types.walrus_body_steps.wasm_body_grammar.Bodies.{Run, body, declared}
-use Rattle.walrus_bodies_into.specs.walrus_module_env.walrus_body_parser.wasm_operators.Operators.{Seen}
-use Rattle.walrus_bodies_into.specs.walrus_handler_types.walrus_body_steps.wasm_normal_form.Trees.{tree_of}
-use Rattle.walrus_bodies_into.specs.walrus_handler_types.walrus_body_steps.wasm_normal_form.Normal.{normal}
-use Rattle.walrus_bodies_into.specs.walrus_handler_types.walrus_body_steps.wasm_normal_form.wasm_immediates.declared.block_type.BlockType.{BlockType}
-use Rattle.walrus_bodies_into.specs.walrus_handler_types.walrus_tree.walrus_builder.Built.{Seq, seq_of}
-use Rattle.walrus_bodies_into.specs.walrus_handler_types.walrus_tree.walrus_walks.walrus_types.Table.{IsFunctionType, Table}
-use Rattle.walrus_bodies_into.specs.walrus_module_env.walrus_body_parser.Points.{place_at, ops_from}
-use Rattle.walrus_bodies_into.specs.walrus_module_env.walrus_collections.walrus_local_function.walrus_body_locals.Calls.{IsFaultOf}
-use Rattle.walrus_bodies_into.specs.walrus_module_env.walrus_collections.walrus_module_items.declared.tag.Tag.{Tag}
-use Rattle.walrus_bodies_into.specs.walrus_module_env.declared.env.ModuleEnv.{ModuleEnv}
-use Rattle.walrus_bodies_into.specs.walrus_module_env.Around.{IsFiled, sight_in}
-use Rattle.walrus_bodies_into.specs.walrus_module_env.Parsed.{IsRead}
+use Rattle.walrus_handler_types.specs.Giving.{Gives}
+use Rattle.walrus_handler_types.specs.walrus_handlers.Gathering.{AreHandlers}
+use Rattle.walrus_handler_types.specs.walrus_handler_laws.Handlers.{tree_ids}
+use Rattle.walrus_handler_types.specs.walrus_handler_laws.declared.handler.Handler.{Handler}
+use Rattle.walrus_body_parser.specs.walrus_body_stack.walrus_instr.declared.seq.InstrSeq.{InstrSeq}
+use Rattle.walrus_types.specs.walrus_items.declared.local.Local.{Local}
+use Rattle.walrus_forms.specs.Renaming.{at, renamed_value}
+use Rattle.walrus_handler_types.specs.walrus_tree.Trees.{IsTree}
+use Rattle.walrus_module_env.specs.Env.{tag_type_at}
+use Rattle.walrus_module_env.specs.walrus_collections.walrus_local_function.walrus_body_locals.Locals.{Adds}
+use Rattle.walrus_body_parser.specs.walrus_body_steps.Meanings.{meaning}
+use Rattle.walrus_body_parser.specs.walrus_body_steps.Picks.{ArePicks}
+use Rattle.walrus_body_parser.specs.walrus_body_stack.walrus_body_nesting.Stands.{StandsAs}
+use Rattle.walrus_body_parser.specs.walrus_body_stack.walrus_body_env.declared.error.BodyError.{BodyError}
+use Rattle.walrus_body_parser.specs.walrus_body_rules.Sights.{Sight}
+use Rattle.walrus_body_parser.specs.walrus_body_rules.wasm_body_grammar.wasm_formats.Stops.{Stop}
+use Rattle.walrus_body_parser.specs.walrus_body_rules.wasm_body_grammar.Rules.{Around}
+use Rattle.walrus_body_parser.specs.walrus_body_rules.wasm_body_grammar.Bodies.{Run, body, declared}
+use Rattle.walrus_body_parser.specs.wasm_operators.Operators.{Seen}
+use Rattle.walrus_body_parser.specs.walrus_body_stack.wasm_normal_form.Trees.{tree_of}
+use Rattle.walrus_body_parser.specs.walrus_body_stack.wasm_normal_form.Normal.{normal}
+use Rattle.walrus_body_parser.specs.wasm_operators.wasm_immediates.declared.block_type.BlockType.{BlockType}
+use Rattle.walrus_body_parser.specs.walrus_body_stack.walrus_builder.Built.{Seq, seq_of}
+use Rattle.walrus_types.specs.Table.{IsFunctionType, Table}
+use Rattle.walrus_body_parser.specs.Points.{place_at, ops_from}
+use Rattle.walrus_module_env.specs.walrus_collections.walrus_local_function.walrus_body_locals.Calls.{IsFaultOf}
+use Rattle.walrus_module_env.specs.walrus_collections.walrus_module_items.declared.tag.Tag.{Tag}
+use Rattle.walrus_module_env.specs.declared.env.ModuleEnv.{ModuleEnv}
+use Rattle.walrus_module_env.specs.Around.{IsFiled, sight_in}
+use Rattle.walrus_module_env.specs.Parsed.{IsRead}
 use Rattle.walrus_module_bodies.specs.declared.file.FileEnv.{FileEnv}
 use Rattle.walrus_module_bodies.specs.Envs.{IsEnv}
-use Rattle.walrus_bodies_into.specs.Handled.{SeesAside}
+use Rattle.walrus_module_env.specs.Handled.{SeesAside}
 
 -- the locals that these runs declare were added to the module, and the next indices of the function name them
 abbrev pub AddsRuns : ℕ → List Run → List Local → List Local → Ids → Ids → Type 0

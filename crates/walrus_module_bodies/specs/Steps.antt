@@ -3,26 +3,26 @@ use Rattle.std.specs.Prelude.{ℕ, ◌≡◌, ◌≢◌, ◌⊎◌, ◌<◌, ◌
 use Rattle.wasm_features.specs.declared.WasmFeatures.{WasmFeatures}
 use Rattle.wasm_reader.specs.Cursor.{Cursor}
 use Rattle.walrus_arena.specs.Arena.{Arena, item_at, with_item}
-use Rattle.walrus_bodies_into.specs.walrus_handler_types.walrus_body_steps.walrus_body_rules.walrus_forms.declared.value.ValType.{ValType}
-use Rattle.walrus_bodies_into.specs.walrus_handler_types.walrus_body_steps.walrus_body_rules.walrus_forms.Kinds.{entry_kind}
-use Rattle.walrus_bodies_into.specs.walrus_handler_types.walrus_tree.walrus_walks.walrus_types.Table.{IsFunctionType, Merges, Table}
+use Rattle.walrus_forms.specs.declared.value.ValType.{ValType}
+use Rattle.walrus_forms.specs.Kinds.{entry_kind}
+use Rattle.walrus_types.specs.Table.{IsFunctionType, Merges, Table}
 use Rattle.walrus_function_types.specs.FunctionTypes.{params_at, results_at}
 use Rattle.walrus_function_types.specs.Growth.{Grows}
 use Rattle.walrus_index_maps.specs.Maps.{Ids}
-use Rattle.walrus_bodies_into.specs.walrus_handler_types.walrus_body_steps.walrus_access_codes.walrus_items.declared.local.Local.{Local}
-use Rattle.walrus_bodies_into.specs.walrus_handler_types.walrus_body_steps.walrus_body_env.declared.error.BodyError.{BodyError}
-use Rattle.walrus_bodies_into.specs.walrus_handler_types.walrus_body_steps.walrus_body_nesting.wasm_formats.Stops.{Stop}
-use Rattle.walrus_bodies_into.specs.walrus_handler_types.walrus_body_steps.wasm_body_grammar.Bodies.{body}
-use Rattle.walrus_bodies_into.specs.walrus_handler_types.walrus_body_steps.wasm_body_grammar.Rules.{Around}
-use Rattle.walrus_bodies_into.specs.walrus_handler_types.walrus_tree.walrus_builder.Built.{contents}
-use Rattle.walrus_bodies_into.specs.walrus_module_env.declared.env.ModuleEnv.{ModuleEnv}
-use Rattle.walrus_bodies_into.specs.walrus_module_env.Around.{IsFiled}
-use Rattle.walrus_bodies_into.specs.walrus_module_env.walrus_collections.walrus_local_function.declared.local_function.LocalFunction.{LocalFunction}
-use Rattle.walrus_bodies_into.specs.walrus_module_env.walrus_collections.walrus_local_function.walrus_body_locals.Calls.{IsFaultOf}
-use Rattle.walrus_bodies_into.specs.walrus_module_env.walrus_collections.walrus_local_function.walrus_body_locals.Locals.{Adds, Leaves, ids_from}
-use Rattle.walrus_bodies_into.specs.walrus_module_env.walrus_collections.walrus_module_items.declared.function.Function.{Function}
-use Rattle.walrus_bodies_into.specs.walrus_module_env.walrus_collections.walrus_module_items.declared.function.FunctionKind.TheVariants as kinds
-use Rattle.walrus_bodies_into.specs.walrus_module_env.walrus_collections.walrus_module_items.Functions.{type_of}
+use Rattle.walrus_types.specs.walrus_items.declared.local.Local.{Local}
+use Rattle.walrus_body_parser.specs.walrus_body_stack.walrus_body_env.declared.error.BodyError.{BodyError}
+use Rattle.walrus_body_parser.specs.walrus_body_rules.wasm_body_grammar.wasm_formats.Stops.{Stop}
+use Rattle.walrus_body_parser.specs.walrus_body_rules.wasm_body_grammar.Bodies.{body}
+use Rattle.walrus_body_parser.specs.walrus_body_rules.wasm_body_grammar.Rules.{Around}
+use Rattle.walrus_body_parser.specs.walrus_body_stack.walrus_builder.Built.{contents}
+use Rattle.walrus_module_env.specs.declared.env.ModuleEnv.{ModuleEnv}
+use Rattle.walrus_module_env.specs.Around.{IsFiled}
+use Rattle.walrus_module_env.specs.walrus_collections.walrus_local_function.declared.local_function.LocalFunction.{LocalFunction}
+use Rattle.walrus_module_env.specs.walrus_collections.walrus_local_function.walrus_body_locals.Calls.{IsFaultOf}
+use Rattle.walrus_module_env.specs.walrus_collections.walrus_local_function.walrus_body_locals.Locals.{Adds, Leaves, ids_from}
+use Rattle.walrus_module_env.specs.walrus_collections.walrus_module_items.declared.function.Function.{Function}
+use Rattle.walrus_module_env.specs.walrus_collections.walrus_module_items.declared.function.FunctionKind.TheVariants as kinds
+use Rattle.walrus_module_env.specs.walrus_collections.walrus_module_items.Functions.{type_of}
 use Rattle.walrus_functions_into.specs.declared.bodies.FunctionBody.{FunctionBody}
 use Rattle.walrus_module_bodies.specs.declared.file.FileEnv.{FileEnv}
 use Rattle.walrus_module_bodies.specs.Envs.{IsEnv}

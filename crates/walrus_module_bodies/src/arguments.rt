@@ -2,20 +2,18 @@
 
 ghost use Rattle.std.specs.Prelude.{◌≡◌, IfOk, IfSome};
 ghost use Rattle.walrus_index_maps.specs.Views.{ids};
-ghost use Rattle.walrus_bodies_into.specs.walrus_handler_types.walrus_tree.walrus_walks.walrus_types.Table.{Merges};
-ghost use Rattle.walrus_bodies_into.specs.walrus_handler_types.walrus_body_steps.walrus_body_rules.walrus_forms.Kinds.{entry_kind};
+ghost use Rattle.walrus_types.specs.Table.{Merges};
+ghost use Rattle.walrus_forms.specs.Kinds.{entry_kind};
 ghost use Rattle.walrus_function_types.specs.FunctionTypes.{params_at, results_at};
 ghost use Rattle.walrus_module_bodies.specs.Steps.{HasArguments};
 
 use std::alloc::{AllocError, Global};
 use walrus_arena::{FunctionId, LocalId, TypeId};
-use walrus_bodies_into::module_env::ModuleEnv;
-use walrus_bodies_into::module_env::body_env::BodyEnv;
-use walrus_bodies_into::module_env::body_env::instr::type_table::{
-    ModuleLocals, ModuleTypes, ValType,
-};
 use walrus_function_types::function_at;
 use walrus_index_maps::IndicesToIds;
+use walrus_module_env::ModuleEnv;
+use walrus_module_env::body_env::BodyEnv;
+use walrus_module_env::body_env::instr::type_table::{ModuleLocals, ModuleTypes, ValType};
 
 /// Adds a local for each of these parameters, which the next numbers of the function name.
 pub(crate) fn add_arguments(

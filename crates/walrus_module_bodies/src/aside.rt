@@ -3,26 +3,26 @@
 ghost use Rattle.std.specs.Prelude.{◌≡◌, ◌⊎◌, ◌<◌, ◌≤◌, ◌+◌, length, All, None, IfOk, IfErr};
 ghost use Rattle.wasm_reader.specs.Cursor.{IsWithin, end_of, rest};
 ghost use Rattle.walrus_index_maps.specs.Views.{ids};
-ghost use Rattle.walrus_bodies_into.specs.walrus_handler_types.walrus_body_steps.walrus_body_env.declared.error.BodyError.TheVariants.{Memory as WantsMemory};
-ghost use Rattle.walrus_bodies_into.specs.walrus_handler_types.walrus_body_steps.wasm_body_grammar.Rules.{Around};
-ghost use Rattle.walrus_bodies_into.specs.walrus_handler_types.walrus_tree.Trees.{IsTree};
-ghost use Rattle.walrus_bodies_into.specs.walrus_handler_types.walrus_tree.walrus_builder.Built.{contents};
-ghost use Rattle.walrus_bodies_into.specs.walrus_handler_types.walrus_tree.walrus_builder.Functions.{seqs_of};
-ghost use Rattle.walrus_bodies_into.specs.walrus_module_env.Around.{IsFiled};
-ghost use Rattle.walrus_bodies_into.specs.walrus_module_env.walrus_collections.walrus_local_function.walrus_body_locals.Locals.{Leaves};
+ghost use Rattle.walrus_body_parser.specs.walrus_body_stack.walrus_body_env.declared.error.BodyError.TheVariants.{Memory as WantsMemory};
+ghost use Rattle.walrus_body_parser.specs.walrus_body_rules.wasm_body_grammar.Rules.{Around};
+ghost use Rattle.walrus_handler_types.specs.walrus_tree.Trees.{IsTree};
+ghost use Rattle.walrus_body_parser.specs.walrus_body_stack.walrus_builder.Built.{contents};
+ghost use Rattle.walrus_body_parser.specs.walrus_body_stack.walrus_builder.Functions.{seqs_of};
+ghost use Rattle.walrus_module_env.specs.Around.{IsFiled};
+ghost use Rattle.walrus_module_env.specs.walrus_collections.walrus_local_function.walrus_body_locals.Locals.{Leaves};
 ghost use Rattle.walrus_module_bodies.specs.Reading.{IsBodyAside, IsBodyFault, TagsStand};
 
 use std::alloc::Global;
 use walrus_arena::{FunctionId, LocalId, TypeId};
-use walrus_bodies_into::handler_types::AnyHandler;
-use walrus_bodies_into::module_env::ModuleEnv;
-use walrus_bodies_into::module_env::body_env::instr::InstrSeqType;
-use walrus_bodies_into::module_env::body_env::instr::type_table::ModuleLocals;
-use walrus_bodies_into::module_env::body_env::{AcceptAll, BodyError};
-use walrus_bodies_into::module_env::collections::local_function::LocalFunction;
-use walrus_bodies_into::module_env::laws::files_are_seen;
 use walrus_body_trees::laws::bodies_are_trees;
+use walrus_handler_types::AnyHandler;
 use walrus_index_maps::IndicesToIds;
+use walrus_module_env::ModuleEnv;
+use walrus_module_env::body_env::instr::InstrSeqType;
+use walrus_module_env::body_env::instr::type_table::ModuleLocals;
+use walrus_module_env::body_env::{AcceptAll, BodyError};
+use walrus_module_env::collections::local_function::LocalFunction;
+use walrus_module_env::laws::files_are_seen;
 use wasm_reader::BinaryReader;
 
 // Reads the body of a function of this type and these arguments, beside some type for each handler.

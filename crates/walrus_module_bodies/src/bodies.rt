@@ -2,19 +2,19 @@
 
 ghost use Rattle.std.specs.Prelude.{◌≡◌, ◌⊎◌, All, IfErr, OnOk};
 ghost use Rattle.walrus_index_maps.specs.Views.{ids};
-ghost use Rattle.walrus_bodies_into.specs.walrus_handler_types.walrus_body_steps.walrus_body_env.declared.error.BodyError.TheVariants.{Memory as WantsMemory};
+ghost use Rattle.walrus_body_parser.specs.walrus_body_stack.walrus_body_env.declared.error.BodyError.TheVariants.{Memory as WantsMemory};
 ghost use Rattle.walrus_module_bodies.specs.Reading.{TagsStand};
 ghost use Rattle.walrus_module_bodies.specs.Steps.{AreApart, IsFiledLater, IsPlaced, IsReady, Steps, StopsIn, state};
 
 use crate::body::read_body;
 use crate::file::FileEnv;
 use std::alloc::Global;
-use walrus_bodies_into::module_env::body_env::BodyError;
-use walrus_bodies_into::module_env::body_env::instr::type_table::{ModuleLocals, ModuleTypes};
-use walrus_bodies_into::module_env::collections::ModuleFunctions;
 use walrus_function_types::laws::{found_types_stay, tables_grow_on};
 use walrus_functions_into::FunctionBody;
 use walrus_index_maps::IndicesToIds;
+use walrus_module_env::body_env::BodyError;
+use walrus_module_env::body_env::instr::type_table::{ModuleLocals, ModuleTypes};
+use walrus_module_env::collections::ModuleFunctions;
 use wasm_features::WasmFeatures;
 
 /// Reads bodies in turn, each for a function that has none yet, and gives them to these (Core Specification, binary format: code

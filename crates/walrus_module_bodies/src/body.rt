@@ -3,7 +3,7 @@
 ghost use Rattle.std.specs.Prelude.{◌≡◌, ◌⊎◌, ◌<◌, ◌+◌, All, IfErr, OnOk, length};
 ghost use Rattle.wasm_reader.specs.Cursor.{IsWithin, rest};
 ghost use Rattle.walrus_index_maps.specs.Views.{ids};
-ghost use Rattle.walrus_bodies_into.specs.walrus_handler_types.walrus_body_steps.walrus_body_env.declared.error.BodyError.TheVariants.{Memory as WantsMemory};
+ghost use Rattle.walrus_body_parser.specs.walrus_body_stack.walrus_body_env.declared.error.BodyError.TheVariants.{Memory as WantsMemory};
 ghost use Rattle.walrus_module_bodies.specs.Reading.{TagsStand};
 ghost use Rattle.walrus_module_bodies.specs.Steps.{Fails, IsFiledLater, IsPlaced, IsReady, IsStep, state};
 
@@ -11,13 +11,13 @@ use crate::arguments::{add_arguments, entry_type, params_of};
 use crate::file::FileEnv;
 use crate::handled::read_handled;
 use std::alloc::Global;
-use walrus_bodies_into::module_env::body_env::BodyError;
-use walrus_bodies_into::module_env::body_env::instr::InstrSeqType;
-use walrus_bodies_into::module_env::body_env::instr::type_table::{ModuleLocals, ModuleTypes};
-use walrus_bodies_into::module_env::collections::ModuleFunctions;
 use walrus_function_types::laws::{entry_types_grow, found_types_stay, tables_grow_on};
 use walrus_functions_into::{FunctionBody, give_body};
 use walrus_index_maps::IndicesToIds;
+use walrus_module_env::body_env::BodyError;
+use walrus_module_env::body_env::instr::InstrSeqType;
+use walrus_module_env::body_env::instr::type_table::{ModuleLocals, ModuleTypes};
+use walrus_module_env::collections::ModuleFunctions;
 use wasm_features::WasmFeatures;
 use wasm_reader::BinaryReader;
 

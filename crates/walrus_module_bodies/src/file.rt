@@ -3,9 +3,9 @@
 ghost use Rattle.std.specs.Prelude.{◌≡◌};
 ghost use Rattle.walrus_module_bodies.specs.Envs.{IsEnv};
 
-use walrus_bodies_into::module_env::ModuleEnv;
-use walrus_bodies_into::module_env::body_env::instr::type_table::ModuleTypes;
-use walrus_bodies_into::module_env::collections::{ModuleMemories, ModuleTags};
+use walrus_module_env::ModuleEnv;
+use walrus_module_env::body_env::instr::type_table::ModuleTypes;
+use walrus_module_env::collections::{ModuleMemories, ModuleTags};
 
 /// What stands while the bodies of a file are read into their module; its types grow by those of handlers.
 #[derive(Clone, Copy)]

@@ -2,3 +2,5 @@ mod AroundLemmas
 mod FiledLemmas
 mod ParseLemmas
 mod PickLemmas
+mod FirstLemmas
+mod HandledLemmas

@@ -1,8 +1,11 @@
-//! Laws: functions with nothing to do, whose contracts hold of all modules.
+//! Laws: functions with nothing to do, whose contracts hold of all modules and bodies.
 
 ghost use Rattle.walrus_module_env.specs.Filled.{ReadTypesAreFiled};
+ghost use Rattle.walrus_module_env.specs.First.{FirstTypesStay};
+ghost use Rattle.walrus_module_env.specs.Handled.{HandledBodiesStand};
 ghost use Rattle.walrus_module_env.specs.Parsed.{FilesAreSeen, PicksAreSeen, PicksAreNamed, BlocksAreNamed};
 
+use walrus_handler_types::laws::{handlers_stand, trees_tell};
 use walrus_types_into::laws::new_types_stand;
 
 /// A body sees the file whose sections were read into its module.
@@ -31,3 +34,17 @@ pub fn read_types_are_filed()
 {
     new_types_stand();
 }
+
+/// A body that was read beside some type for each handler, and whose handlers were given theirs, stands so beside each later table of the
+/// module's types.
+pub fn handled_bodies_stand()
+    ensures { HandledBodiesStand }
+{
+    handlers_stand();
+    trees_tell();
+}
+
+/// The types of a file that stand first in a table stay so where it grows.
+pub fn first_types_stay()
+    ensures { FirstTypesStay }
+{}

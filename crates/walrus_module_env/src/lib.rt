@@ -1,4 +1,5 @@
-//! The bodies of a file's functions, read into the module that its sections have filled.
+//! The bodies of a file's functions, read into the module that its sections have filled; laws, of bodies with handlers in a module whose
+//! types grow too.
 #![tactic(auto)]
 
 mod env;

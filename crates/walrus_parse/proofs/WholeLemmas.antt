@@ -12,7 +12,7 @@ use Rattle.walrus_file_bodies.specs.Ready.{IsFileOf, bodies_in}
 use Rattle.walrus_file_bodies.specs.walrus_items_into.Filled.{IsFilledFrom}
 use Rattle.walrus_file_bodies.specs.walrus_items_into.Laws.{FilledModulesAreNumbered, NamedLocalsCount}
 use Rattle.walrus_file_bodies.specs.walrus_items_into.Spaces.{Spaces}
-use Rattle.walrus_file_bodies.specs.walrus_items_into.walrus_names_into.Numbered.{IsNumbered}
+use Rattle.walrus_payloads_into.specs.Numbered.{IsNumbered}
 use Rattle.walrus_file_bodies.specs.walrus_items_into.walrus_tables_into.walrus_sections_into.walrus_known_sections.State.{state_of}
 use Rattle.walrus_file_bodies.specs.walrus_items_into.walrus_tables_into.walrus_sections_into.walrus_known_sections.declared.sections.Sections.{Sections}
 use Rattle.walrus_file_bodies.specs.walrus_items_into.wasm_module_rules.wasm_modules.Modules.{IsShort, Reads, module_of}

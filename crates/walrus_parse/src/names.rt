@@ -7,7 +7,7 @@ ghost use Rattle.walrus_module.specs.walrus_body_writer.walrus_pairing.walrus_in
 ghost use Rattle.walrus_item_names.specs.Gives.{GivesNames};
 ghost use Rattle.walrus_item_names.specs.Holder.{holder};
 ghost use Rattle.walrus_local_counts.specs.Locals.{HasFew};
-ghost use Rattle.walrus_file_bodies.specs.walrus_items_into.walrus_names_into.Numbered.{IsNumbered};
+ghost use Rattle.walrus_payloads_into.specs.Numbered.{IsNumbered};
 ghost use Rattle.walrus_payloads_into.specs.Customs.{AreCustoms};
 ghost use Rattle.walrus_parse.specs.Named.{all_names, made_names};
 

@@ -1,23 +1,23 @@
 -- Lemmas: what stands as a normal form with picks stands as it with block types as they are written.
-use Rattle.std.specs.Prelude.{ℕ, ◌≡◌, Bool, false, List, [], ◌∷◌, map, Some, refl}
+use Rattle.std.specs.Prelude.{ℕ, ◌≡◌, Bool, false, List, [], ◌∷◌, map, refl}
 use Rattle.std.proofs.Common.{ap, sym, ◌∙◌, subst}
-use Rattle.walrus_linked.specs.walrus_body_writer.walrus_pairing.wasm_immediates.Items.{Item as Word, Names, Number, S32, S64, Bits, Byte, Bytes, Heap, Block, Access, ManyLabels, ManyValues, ManyClauses}
-use Rattle.walrus_linked.specs.walrus_body_writer.walrus_pairing.wasm_immediates.declared.block_type.BlockType.{BlockType}
-use Rattle.walrus_linked.specs.walrus_body_writer.walrus_pairing.wasm_immediates.declared.clause.Clause.{Clause}
-use Rattle.walrus_linked.specs.walrus_body_writer.walrus_pairing.walrus_operator_codes.wasm_operators.Operators.{Seen}
-use Rattle.walrus_linked.specs.walrus_local_function.walrus_body_locals.wasm_normal_form.Normal.{normal, picked, with_pick}
-use Rattle.walrus_linked.specs.walrus_local_function.walrus_body_locals.wasm_normal_form.Trees.{Tree, Close, Arm, Skip, Run, Nest}
-use Rattle.walrus_linked.specs.walrus_local_function.walrus_body_locals.walrus_body_nesting.Opens.{same}
-use Rattle.walrus_linked.specs.walrus_local_function.walrus_body_locals.walrus_body_nesting.Stands.{Finish, Part, StandsAs, lies}
-use Rattle.walrus_linked.specs.walrus_local_function.walrus_body_locals.walrus_body_nesting.declared.frames.Opener.{Opener}
-use Rattle.walrus_linked.specs.walrus_local_function.walrus_body_locals.walrus_body_nesting.declared.frames.Opener.TheVariants as openers
+use Rattle.walrus_parsed_items.specs.walrus_into_laws.walrus_meaning.walrus_linked.walrus_body_writer.walrus_pairing.wasm_immediates.Items.{Item as Word, Names, Number, S32, S64, Bits, Byte, Bytes, Heap, Block, Access, ManyLabels, ManyValues, ManyClauses}
+use Rattle.walrus_parsed_items.specs.walrus_into_laws.walrus_meaning.walrus_linked.walrus_body_writer.walrus_pairing.wasm_immediates.declared.block_type.BlockType.{BlockType}
+use Rattle.walrus_parsed_items.specs.walrus_into_laws.walrus_meaning.walrus_linked.walrus_body_writer.walrus_pairing.wasm_immediates.declared.clause.Clause.{Clause}
+use Rattle.walrus_parsed_items.specs.walrus_into_laws.walrus_meaning.walrus_linked.walrus_body_writer.walrus_pairing.walrus_operator_codes.wasm_operators.Operators.{Seen}
+use Rattle.walrus_parsed_items.specs.walrus_into_laws.walrus_meaning.walrus_linked.walrus_local_function.walrus_body_locals.wasm_normal_form.Normal.{normal, picked, with_pick}
+use Rattle.walrus_parsed_items.specs.walrus_into_laws.walrus_meaning.walrus_linked.walrus_local_function.walrus_body_locals.wasm_normal_form.Trees.{Tree, Close, Arm, Skip, Run, Nest}
+use Rattle.walrus_parsed_items.specs.walrus_into_laws.walrus_meaning.walrus_linked.walrus_local_function.walrus_body_locals.walrus_body_nesting.Opens.{same}
+use Rattle.walrus_parsed_items.specs.walrus_into_laws.walrus_meaning.walrus_linked.walrus_local_function.walrus_body_locals.walrus_body_nesting.Stands.{Finish, Part, StandsAs, lies}
+use Rattle.walrus_parsed_items.specs.walrus_into_laws.walrus_meaning.walrus_linked.walrus_local_function.walrus_body_locals.walrus_body_nesting.declared.frames.Opener.{Opener}
+use Rattle.walrus_parsed_items.specs.walrus_into_laws.walrus_meaning.walrus_linked.walrus_local_function.walrus_body_locals.walrus_body_nesting.declared.frames.Opener.TheVariants as openers
 use Rattle.walrus_file_bodies.specs.walrus_items_into.walrus_module_env.walrus_body_parser.walrus_body_steps.Meanings.{IsOpener, OpensOf, meaning}
 use Rattle.walrus_file_bodies.specs.walrus_items_into.walrus_module_env.walrus_body_parser.walrus_body_steps.Picks.{ArePicks, normal_picked, with_picks}
-use Rattle.walrus_linked.specs.walrus_local_function.walrus_function_parser.walrus_body_rules.Sights.{Sight, written_block}
-use Rattle.walrus_parse.specs.walrus_module.walrus_builder.Built.{Seq}
-use Rattle.walrus_linked.specs.walrus_body_writer.walrus_body_env.walrus_instr.declared.instr.Instr.{Instr}
-use Rattle.walrus_linked.specs.walrus_body_writer.walrus_body_env.walrus_instr.declared.seq.InstrLocId.{InstrLocId}
-use Rattle.walrus_linked.specs.walrus_body_writer.walrus_body_env.walrus_instr.declared.seq.InstrSeqType.{InstrSeqType}
+use Rattle.walrus_parsed_items.specs.walrus_into_laws.walrus_meaning.walrus_linked.walrus_local_function.walrus_function_parser.walrus_body_rules.Sights.{Sight, written_block}
+use Rattle.walrus_parsed_items.specs.walrus_parse.walrus_module.walrus_builder.Built.{Seq}
+use Rattle.walrus_parsed_items.specs.walrus_into_laws.walrus_meaning.walrus_linked.walrus_body_writer.walrus_body_env.walrus_instr.declared.instr.Instr.{Instr}
+use Rattle.walrus_parsed_items.specs.walrus_into_laws.walrus_meaning.walrus_linked.walrus_body_writer.walrus_body_env.walrus_instr.declared.seq.InstrLocId.{InstrLocId}
+use Rattle.walrus_parsed_items.specs.walrus_into_laws.walrus_meaning.walrus_linked.walrus_body_writer.walrus_body_env.walrus_instr.declared.seq.InstrSeqType.{InstrSeqType}
 
 block_was : (pick : BlockType → BlockType) (written : BlockType) (more words : List Word) → map (with_pick pick) words ≡ Block written ∷ more
     → (ty : BlockType) × (rest : List Word) × (words ≡ Block ty ∷ rest) × (pick ty ≡ written) × (map (with_pick pick) rest ≡ more)

@@ -1,60 +1,52 @@
 -- Lemmas: functions of a module that was read are whole.
-use Rattle.std.specs.Prelude.{ℕ, zero, suc, ◌≡◌, ◌⊎◌, ◌<◌, ◌+◌, Bool, true, List, [], ◌∷◌, All, IfSome, length, map, Option, Some, None, slice_index_or, refl}
+use Rattle.std.specs.Prelude.{ℕ, ◌≡◌, ◌<◌, true, List, [], All, IfSome, length, map, Option, Some, None, slice_index_or, refl}
 use Rattle.std.specs.Option.{option_and_then, option_map}
 use Rattle.std.proofs.Common.{ap, sym, ◌∙◌, subst, arith, inl, inr}
-use Rattle.walrus_linked.specs.walrus_body_writer.walrus_pairing.wasm_immediates.wasm_features.declared.WasmFeatures.{WasmFeatures}
 use Rattle.walrus_file_bodies.specs.walrus_items_into.wasm_module_rules.wasm_modules.Modules.{around}
 use Rattle.walrus_file_bodies.specs.walrus_items_into.wasm_sections.Within.{ChunksFit, bodies_inside}
-use Rattle.walrus_arena.specs.Arena.{Arena, item_at}
 use Rattle.walrus_body_trees.specs.Laws.{BodiesAreTrees}
 use Rattle.walrus_config.specs.declared.config.ModuleConfig.{ModuleConfig}
 use Rattle.walrus_file_bodies.proofs.PairLemmas.{are_apart, chunks_fit}
 use Rattle.walrus_file_bodies.proofs.StopLemmas.{bodies_wait, chunks_fit_in, count_in}
-use Rattle.walrus_file_bodies.specs.Read.{steps_grow}
+use Rattle.walrus_file_bodies.specs.Read.{Waits, steps_grow}
 use Rattle.walrus_file_bodies.specs.Ready.{bodies_in}
-use Rattle.walrus_parse.specs.walrus_module.walrus_types.walrus_forms.Forms.{Form, FunctionForm, StructForm, ArrayForm, params_of}
-use Rattle.walrus_parse.specs.walrus_module.walrus_types.walrus_forms.declared.value.ValType.{ValType}
-use Rattle.walrus_function_types.specs.FunctionTypes.{form_params, params_at}
+use Rattle.walrus_forms.specs.Forms.{Form, FunctionForm, StructForm, ArrayForm, params_of}
+use Rattle.walrus_forms.specs.declared.value.ValType.{ValType}
+use Rattle.walrus_function_types.specs.FunctionTypes.{form_params}
 use Rattle.walrus_function_types.specs.Growth.{EntryTypesGrow, FoundTypesStay, TablesGrowOn}
-use Rattle.walrus_file_bodies.specs.walrus_items_into.walrus_functions_into.Bodies.{bodiless, bodiless_from, is_bodiless, wants_body}
-use Rattle.walrus_file_bodies.specs.walrus_items_into.walrus_functions_into.Functions.{functions_from, kind_of}
+use Rattle.walrus_file_bodies.specs.walrus_items_into.walrus_functions_into.Bodies.{is_bodiless, wants_body}
+use Rattle.walrus_file_bodies.specs.walrus_items_into.walrus_functions_into.Functions.{kind_of}
 use Rattle.walrus_file_bodies.specs.walrus_items_into.walrus_functions_into.Laws.{read_bodies}
 use Rattle.walrus_file_bodies.specs.walrus_items_into.walrus_functions_into.declared.bodies.FunctionBody.{FunctionBody}
-use Rattle.walrus_linked.specs.walrus_body_writer.walrus_pairing.walrus_index_maps.Maps.{Ids}
-use Rattle.walrus_parse.specs.walrus_item_names.Holder.{Holder}
-use Rattle.walrus_parse.specs.walrus_item_names.Names.{bare_function, bare_type}
+use Rattle.walrus_parsed_items.specs.walrus_into_laws.walrus_meaning.walrus_linked.walrus_body_writer.walrus_pairing.walrus_index_maps.Maps.{Ids}
+use Rattle.walrus_parsed_items.specs.walrus_parse.walrus_item_names.Holder.{Holder}
+use Rattle.walrus_parsed_items.specs.walrus_parse.walrus_item_names.Names.{bare_function, bare_type}
 use Rattle.walrus_file_bodies.specs.walrus_items_into.Laws.{FilledFunctionsStand, FilledModulesAreFiled}
+use Rattle.walrus_file_bodies.specs.walrus_items_into.walrus_tables_into.walrus_sections_into.walrus_known_sections.Items.{chunk_of}
 use Rattle.walrus_file_bodies.specs.walrus_items_into.walrus_tables_into.walrus_sections_into.walrus_known_sections.State.{state_of}
-use Rattle.walrus_linked.specs.Linked.{HasArguments, IsWhole}
-use Rattle.walrus_linked.specs.walrus_local_function.declared.local_function.LocalFunction.{LocalFunction}
-use Rattle.walrus_parse.specs.walrus_module.Parts.{Module, parts}
-use Rattle.walrus_parse.specs.walrus_module.declared.module.Module.{Module as Whole}
+use Rattle.walrus_parsed_items.specs.walrus_into_laws.walrus_meaning.walrus_linked.Linked.{IsWhole}
+use Rattle.walrus_parsed_items.specs.walrus_into_laws.walrus_meaning.walrus_linked.walrus_local_function.declared.local_function.LocalFunction.{LocalFunction}
+use Rattle.walrus_parsed_items.specs.walrus_parse.walrus_module.declared.module.Module.{Module as Whole}
 use Rattle.walrus_file_bodies.specs.walrus_module_bodies.Steps.{state}
 use Rattle.walrus_file_bodies.specs.walrus_items_into.walrus_module_env.Parsed.{PicksAreSeen}
-use Rattle.walrus_linked.specs.walrus_module_items.declared.function.Function.{Function}
-use Rattle.walrus_linked.specs.walrus_module_items.declared.function.FunctionKind.{FunctionKind}
-use Rattle.walrus_linked.specs.walrus_module_items.declared.function.FunctionKind.TheVariants as kinds
-use Rattle.walrus_parse.specs.Parsed.{IsReadAs, read_features}
-use Rattle.walrus_linked.specs.walrus_tree.Trees.{Has}
-use Rattle.walrus_parse.specs.walrus_module.walrus_types.Items.{Item}
-use Rattle.walrus_parse.specs.walrus_module.walrus_types.Table.{Table, type_at}
+use Rattle.walrus_parsed_items.specs.walrus_into_laws.walrus_meaning.walrus_linked.walrus_module_items.declared.function.Function.{Function}
+use Rattle.walrus_parsed_items.specs.walrus_into_laws.walrus_meaning.walrus_linked.walrus_module_items.declared.function.FunctionKind.{FunctionKind}
+use Rattle.walrus_parsed_items.specs.walrus_into_laws.walrus_meaning.walrus_linked.walrus_module_items.declared.function.FunctionKind.TheVariants as kinds
+use Rattle.walrus_parsed_items.specs.walrus_parse.Parsed.{IsReadAs, read_features}
+use Rattle.walrus_parsed_items.specs.walrus_into_laws.walrus_meaning.walrus_linked.walrus_tree.Trees.{Has}
+use Rattle.walrus_parsed_items.specs.walrus_parse.walrus_module.walrus_types.Items.{Item}
+use Rattle.walrus_parsed_items.specs.walrus_parse.walrus_module.walrus_types.Table.{Table, type_at}
 use Rattle.walrus_parsed_bodies.specs.Whole.{ReadFunctionsAreWhole}
-use Rattle.walrus_parsed_bodies.proofs.SlotLemmas.{NoneOf, none_has, read_kind, wanted}
+use Rattle.walrus_parsed_bodies.proofs.SlotLemmas.{none_has, read_kind, wanted}
 use Rattle.walrus_parsed_bodies.proofs.StepLemmas.{IsGood, step_good, steps_have}
+use Rattle.walrus_parsed_items.proofs.ListLemmas.{some_is}
+use Rattle.walrus_parsed_items.proofs.SlotLemmas.{seen_at}
 
 -- ---- without names
 
-bare_at : {A : Type 0} (bare : A → A) (slots : List (Option A)) (n : ℕ) → slice_index_or (map (option_map bare) slots) n None ≡ option_map bare (slice_index_or slots n None)
-bare_at bare [] n = refl
-bare_at bare (slot ∷ slots) zero = refl
-bare_at bare (slot ∷ slots) (suc n) = bare_at bare slots n
-
-some_is : {A : Type 0} (x y : A) → Some x ≡ Some y → x ≡ y
-some_is x y e = cc
-
 -- what stands at a number, where only names differ
 pub bare_same : {A : Type 0} (bare : A → A) (xs ys : List (Option A)) (n : ℕ) → map (option_map bare) xs ≡ map (option_map bare) ys → option_map bare (slice_index_or xs n None) ≡ option_map bare (slice_index_or ys n None)
-bare_same {A} bare xs ys n e = sym (bare_at bare xs n) ∙ ap (λ (l : List (Option A)). slice_index_or l n None) e ∙ bare_at bare ys n
+bare_same {A} bare xs ys n e = sym (seen_at bare xs n) ∙ ap (λ (l : List (Option A)). slice_index_or l n None) e ∙ seen_at bare ys n
 
 -- so of a function its kind is the same
 pub record KindAt (slot : Option Function) (kind : FunctionKind) : Type 0 where
@@ -101,6 +93,27 @@ imported_whole : (types : Table) (ty : ℕ) (import : Option ℕ) (kind : Functi
 imported_whole types ty None kind e none = absurd (none (ap is_bodiless e))
 imported_whole types ty (Some n) kind e none = subst (IsWhole types) (sym e) tt
 
+-- ---- the bodies of a module that was read
+
+-- they lie in the file
+pub bodies_lie : {B : Type 0} → FilledFunctionsStand B → (config : ModuleConfig) (bytes : List ℕ) (m : Whole B) (found : Ids) → All (λ b. b < 256) bytes → (is : IsReadAs config bytes m found)
+    → ChunksFit is.1.sections.code_start (length bytes) (map (λ (b : FunctionBody). chunk_of b.chunk) (bodies_in is.1.sections is.1.filled.functions))
+bodies_lie stands config bytes m found small is =
+    let h = is.1 in
+    let s = h.sections in
+    let features = read_features config in
+    let stand = stands features bytes s m.start h.numbers h.filled h.reads.sections h.are_filled in
+    chunks_fit_in s.code_start (length bytes) (bodies_in s h.filled.functions) (read_bodies s.bodies) stand.paired.chunks_are (chunks_fit s.code_start (length bytes) s.bodies (bodies_inside features bytes (state_of s) small h.reads.sections))
+
+-- once the sections have filled it, they may be read into it
+pub bodies_are_due : {B : Type 0} → FilledModulesAreFiled B → (config : ModuleConfig) (bytes : List ℕ) (m : Whole B) (found : Ids) (is : IsReadAs config bytes m found)
+    → Waits is.1.file (read_features config) (around (read_features config) (state_of is.1.sections)) (count_in is.1.sections) (state is.1.filled.types [] is.1.numbers is.1.filled.functions) (bodies_in is.1.sections is.1.filled.functions)
+bodies_are_due filed config bytes m found is =
+    let h = is.1 in
+    let s = h.sections in
+    let f = h.filled in
+    bodies_wait (read_features config) bytes s m.start h.numbers f h.file filed h.reads.sections h.are_filled h.is_file (bodies_in s f.functions) [] (are_apart f.functions.slots 0 (read_bodies s.bodies))
+
 pub functions_whole : {B : Type 0} → FilledFunctionsStand B → FilledModulesAreFiled B → FoundTypesStay → TablesGrowOn → EntryTypesGrow → BodiesAreTrees → PicksAreSeen → ReadFunctionsAreWhole B
 functions_whole {B} stands filed stay on enter trees seen config bytes m found small is n function at =
     let h = is.1 in
@@ -111,8 +124,8 @@ functions_whole {B} stands filed stay on enter trees seen config bytes m found s
     let bs : List FunctionBody = bodies_in s f.functions in
     let old = state f.types [] h.numbers f.functions in
     let stand = stands features bytes s m.start h.numbers f h.reads.sections h.are_filled in
-    let fit = chunks_fit_in s.code_start (length bytes) bs (read_bodies s.bodies) stand.paired.chunks_are (chunks_fit s.code_start (length bytes) s.bodies (bodies_inside features bytes (state_of s) small h.reads.sections)) in
-    let waits = bodies_wait features bytes s m.start h.numbers f h.file filed h.reads.sections h.are_filled h.is_file bs [] (are_apart f.functions.slots 0 (read_bodies s.bodies)) in
+    let fit = bodies_lie stands config bytes m found small is in
+    let waits = bodies_are_due filed config bytes m found is in
     let t = h.bodied.types in
     let ends = steps_have stay on enter h.file features a (count_in s) h.bodied (λ _. Unit {0}) (IsGood t)
     (λ b bs old new small w step rest i. (step_good stay on enter trees seen h.file features a (count_in s) b bs old new t small w step (steps_grow on h.file features bs new h.bodied rest), tt))

@@ -1,11 +1,22 @@
 //! Laws: functions with nothing to do, whose contracts hold of all modules that are read.
 
+ghost use Rattle.walrus_parsed_bodies.specs.Texts.{ReadBodiesMeanTheirs};
+ghost use Rattle.walrus_parsed_bodies.specs.Uses.{NamesOfReadBodiesLive};
 ghost use Rattle.walrus_parsed_bodies.specs.Whole.{ReadFunctionsAreWhole};
 
-use walrus_body_trees::laws::bodies_are_trees;
+use walrus_body_trees::laws::{bodies_are_trees, bodies_mean_their_normal_form};
 use walrus_file_bodies::items_into::laws::{filled_functions_stand, filled_modules_are_filed};
-use walrus_file_bodies::items_into::module_env::laws::picks_are_seen;
+use walrus_file_bodies::items_into::module_env::laws::{blocks_are_named, picks_are_seen};
+use walrus_file_bodies::laws::bodies_read_files;
 use walrus_function_types::laws::{entry_types_grow, found_types_stay, tables_grow_on};
+use walrus_parsed_items::into_laws::groups::read_types_are_declared;
+use walrus_parsed_items::into_laws::ordered_stay;
+use walrus_parsed_items::into_laws::types_into::laws::{new_types_stand, types_name_below};
+use walrus_parsed_items::laws::read_modules_have_items;
+use wasm_body_grammar::laws::bodies_read_once;
+use wasm_import_links::laws::read_modules_are_full;
+use wasm_operator_names::laws::names_are_renamed;
+use wasm_ruled_modules::laws::read_modules_are_ruled;
 
 /// In a module that was read each function is imported, or has a body of distinct arguments, one for each parameter of its type, whose
 /// sequences form a tree in which each label names a sequence around it.
@@ -19,4 +30,39 @@ pub fn functions_of_read_modules_are_whole<B>()
     found_types_stay();
     tables_grow_on();
     picks_are_seen();
+}
+
+/// In a module that was read the function of each body of the file means that body's normal form: its operators are the normal form's, each
+/// index renamed to the id that it names, and each block type to that of its pick, at the places that they carry.
+pub fn bodies_of_read_modules_mean_theirs<B>()
+    ensures { ReadBodiesMeanTheirs B }
+{
+    filled_functions_stand::<B>();
+    filled_modules_are_filed::<B>();
+    bodies_mean_their_normal_form();
+    bodies_read_once();
+    entry_types_grow();
+    found_types_stay();
+    tables_grow_on();
+    picks_are_seen();
+    blocks_are_named();
+}
+
+/// In a module that was read, what the operators of each body of the file name lives: types, also inside block types, heap types and value
+/// types, functions, tables, memories, tags, globals and segments; labels and locals are the body's own.
+pub fn names_of_read_bodies_live<B>()
+    ensures { NamesOfReadBodiesLive B }
+{
+    bodies_of_read_modules_mean_theirs::<B>();
+    bodies_read_files::<B>();
+    read_modules_have_items::<B>();
+    read_modules_are_full();
+    read_modules_are_ruled();
+    ordered_stay();
+    names_are_renamed();
+    new_types_stand();
+    types_name_below();
+    read_types_are_declared();
+    found_types_stay();
+    tables_grow_on();
 }

@@ -1,19 +1,17 @@
-//! Bodies of a module that was read.
+//! Bodies of a module that was read: they are whole, mean the normal forms of the file's, and what they name lives.
 #![tactic(auto)]
 
 pub mod laws;
 
 // Passed on to crates above, which then list this one alone.
-pub mod parse {
-    pub mod file_bodies {
-        pub mod items_into {
-            pub mod laws {
-                pub use walrus_parse::file_bodies::items_into::laws::filled_functions_stand;
-            }
-        }
-
+pub mod file_bodies {
+    pub mod items_into {
         pub mod laws {
-            pub use walrus_parse::file_bodies::laws::bodies_read_files;
+            pub use walrus_file_bodies::items_into::laws::filled_functions_stand;
         }
+    }
+
+    pub mod laws {
+        pub use walrus_file_bodies::laws::bodies_read_files;
     }
 }

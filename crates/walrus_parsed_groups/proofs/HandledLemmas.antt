@@ -14,12 +14,9 @@ use Rattle.walrus_parse.specs.walrus_module.walrus_builder.Built.{Seq, seq_of}
 use Rattle.walrus_parsed_groups.specs.Added.{Signature}
 use Rattle.walrus_parsed_groups.specs.Files.{In}
 use Rattle.walrus_parsed_groups.proofs.SetLemmas.{in_flat, in_flat_from}
+use Rattle.walrus_parsed_groups.proofs.ToldLemmas.{all_join}
 
 -- ---- the sequences of a tree are there
-
-all_join : {A : Type 0} (P : A → Type 0) (xs ys : List A) → AllByRecursion P xs → AllByRecursion P ys → AllByRecursion P (xs ++ ys)
-all_join P [] ys h k = k
-all_join P (x ∷ xs) ys h k = (h.0, all_join P xs ys h.1 k)
 
 abbrev IsThere : List InstrSeq → ℕ → Type 0
 IsThere b k = k < length b
@@ -78,7 +75,7 @@ get_in [] n x e = absurd cc
 get_in (y ∷ xs) zero x e = inl (let f = e in cc)
 get_in (y ∷ xs) (suc n) x e = inr (get_in xs n x e)
 
-some_is : {A : Type 0} (x y : A) → Some x ≡ Some y → x ≡ y
+pub some_is : {A : Type 0} (x y : A) → Some x ≡ Some y → x ≡ y
 some_is x y e = cc
 
 module _ (tags : ℕ → Option ℕ) (b : List InstrSeq) (t : IsTree b 0) (hs : List (Option Handler)) (are : AreHandlers tags b (tree_ids t) hs) (tells : TellsHandlers tags (map seq_of b) (tree_ids t) (told_by tags b (tree_ids t)))

@@ -64,15 +64,12 @@ use Rattle.walrus_parsed_groups.proofs.CatchLemmas.{body_catches, seen_signature
 use Rattle.walrus_parsed_groups.proofs.FileLemmas.{all_signatures}
 use Rattle.walrus_parsed_groups.proofs.FitLemmas.{AreSpelled, body_fits, body_tree}
 use Rattle.walrus_parsed_groups.proofs.GivenLemmas.{signatures_stay}
-use Rattle.walrus_parsed_groups.proofs.HandledLemmas.{listed_told, told_listed}
+use Rattle.walrus_parsed_groups.proofs.HandledLemmas.{listed_told, some_is, told_listed}
 use Rattle.walrus_parsed_groups.proofs.NamedLemmas.{SeesFile, body_sent}
 use Rattle.walrus_parsed_groups.proofs.SetLemmas.{added_lack, in_either, in_left, in_right}
 use Rattle.walrus_parsed_groups.proofs.StepLemmas.{seen_types}
 use Rattle.walrus_parsed_groups.proofs.TextLemmas.{each_is, placed_there, seen_is}
 use Rattle.walrus_parsed_groups.proofs.ToldLemmas.{each_seen}
-
-some_is : {A : Type 0} (x y : A) → Some x ≡ Some y → x ≡ y
-some_is x y e = cc
 
 -- ---- the same members
 

@@ -14,7 +14,7 @@ use Rattle.walrus_forms.specs.Records.{TypeGroup}
 use Rattle.walrus_function_types.specs.Growth.{EntryTypesGrow, FoundTypesStay, TablesGrowOn}
 use Rattle.walrus_file_bodies.specs.walrus_items_into.walrus_functions_into.Laws.{read_bodies}
 use Rattle.walrus_file_bodies.specs.walrus_items_into.walrus_functions_into.declared.bodies.FunctionBody.{FunctionBody}
-use Rattle.walrus_group_laws.specs.Groups.{GroupsMean, ReadTypesAreDeclared, kept}
+use Rattle.walrus_into_laws.specs.Groups.{GroupsMean, ReadTypesAreDeclared, kept}
 use Rattle.walrus_handler_laws.specs.declared.handler.Handler.{Handler}
 use Rattle.walrus_operator_laws.specs.walrus_pairing.walrus_index_maps.Maps.{Ids}
 use Rattle.walrus_parse.specs.walrus_item_names.Holder.{Holder}
@@ -26,7 +26,7 @@ use Rattle.walrus_file_bodies.specs.walrus_module_bodies.Steps.{State, state}
 use Rattle.walrus_operator_laws.specs.Laws.{OperatorComesBack}
 use Rattle.walrus_parse.specs.Parsed.{read_features}
 use Rattle.walrus_parse.specs.walrus_module.walrus_types.Table.{Table}
-use Rattle.walrus_group_laws.specs.walrus_types_into.Into.{TypesNameBelow}
+use Rattle.walrus_into_laws.specs.walrus_types_into.Into.{TypesNameBelow}
 use Rattle.walrus_parsed_groups.specs.Added.{Signature, added, is_missing, single}
 use Rattle.walrus_parsed_groups.specs.Groups.{ReadModulesHaveGroups, handlers_of}
 use Rattle.walrus_parsed_groups.specs.Handlers.{signatures}

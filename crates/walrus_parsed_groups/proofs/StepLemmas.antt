@@ -38,7 +38,7 @@ use Rattle.walrus_parsed_groups.specs.Handlers.{HasTypes, signatures}
 use Rattle.walrus_parsed_groups.proofs.FitLemmas.{AreSpelled, body_fits, body_tree}
 use Rattle.walrus_parsed_groups.proofs.GivenLemmas.{stands_given, types_stay}
 use Rattle.walrus_parsed_groups.proofs.TableLemmas.{Stands, stands_entered}
-use Rattle.walrus_parsed_groups.proofs.ToldLemmas.{IsSeen, handlers_seen}
+use Rattle.walrus_parsed_groups.proofs.ToldLemmas.{IsSeen, all_join, handlers_seen}
 
 -- ---- what a sight sees of a handler the table has
 
@@ -61,10 +61,6 @@ all_typed s t p r (h ∷ hs) is = (seen_types s t p r h is.0, all_typed s t p r 
 all_stay : (t v : Table) → Grows t v → (hs : List (Option Handler)) → AllByRecursion (HasTypes t) hs → AllByRecursion (HasTypes v) hs
 all_stay t v g [] is = tt
 all_stay t v g (h ∷ hs) is = (types_stay t v g h is.0, all_stay t v g hs is.1)
-
-all_join : {X : Type 0} (P : X → Type 0) (xs ys : List X) → AllByRecursion P xs → AllByRecursion P ys → AllByRecursion P (xs ++ ys)
-all_join P [] ys h k = k
-all_join P (x ∷ xs) ys h k = (h.0, all_join P xs ys h.1 k)
 
 -- ---- steps
 

@@ -9,7 +9,7 @@ use Rattle.walrus_forms.specs.Kinds.{Kind}
 use Rattle.walrus_forms.specs.Renaming.{at, renamed_value}
 use Rattle.walrus_forms.specs.declared.value.ValType.{ValType}
 use Rattle.walrus_function_types.specs.FunctionTypes.{form_params, form_results}
-use Rattle.walrus_group_laws.specs.walrus_types_into.Into.{no_types}
+use Rattle.walrus_into_laws.specs.walrus_types_into.Into.{no_types}
 use Rattle.walrus_handler_laws.specs.walrus_body_steps.walrus_body_nesting.Opens.{same}
 use Rattle.walrus_handler_laws.specs.walrus_body_steps.wasm_grammar.Modules as grammar
 use Rattle.walrus_handler_laws.specs.walrus_body_steps.wasm_grammar.States.{types_of}

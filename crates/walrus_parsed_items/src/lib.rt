@@ -1,4 +1,5 @@
-//! What a module that was read means: the items of its file's module (Core Specification, binary format: modules).
+//! What a module that was read means: the items of its file's module (Core Specification, binary format: modules); what names one another
+//! in it (imports and what they bring, exports, the start function), and what items name.
 #![tactic(auto)]
 
 pub mod laws;
@@ -6,12 +7,14 @@ pub mod laws;
 // Passed on to crates above, which then list this one alone.
 pub mod into_laws {
     pub use walrus_into_laws::{customs_mean, ordered_stay};
-}
 
-pub mod parse {
-    pub mod file_bodies {
+    pub mod groups {
+        pub use walrus_into_laws::groups::read_types_are_declared;
+    }
+
+    pub mod types_into {
         pub mod laws {
-            pub use walrus_parse::file_bodies::laws::bodies_read_files;
+            pub use walrus_into_laws::types_into::laws::{new_types_stand, types_name_below};
         }
     }
 }

@@ -1,3 +1,5 @@
+mod KindLemmas
+mod IndexLemmas
 mod ValueLemmas
 mod TableLemmas
 mod LocalLemmas

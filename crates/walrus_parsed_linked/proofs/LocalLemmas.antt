@@ -1,16 +1,16 @@
 -- Lemmas: the locals that bodies add, and the indices that name them.
-use Rattle.std.specs.Prelude.{ℕ, zero, suc, ◌≡◌, ◌≢◌, ◌⊎◌, ◌<◌, ◌≤◌, ◌+◌, ◌==◌, Bool, true, false, List, [], ◌∷◌, ◌++◌, length, map, Option, Some, None, slice_get, refl, if◌then◌else◌}
+use Rattle.std.specs.Prelude.{ℕ, zero, suc, ◌≡◌, ◌⊎◌, ◌<◌, ◌+◌, ◌==◌, Bool, true, false, List, [], ◌∷◌, ◌++◌, length, Some, slice_get, refl, if◌then◌else◌}
 use Rattle.std.proofs.Common.{ap, sym, ◌∙◌, subst, arith, inl, inr}
 use Rattle.std.proofs.lemmas.List.{length-append}
 use Rattle.std.proofs.lemmas.List.Concat.{flat_map-append}
-use Rattle.walrus_linked.specs.walrus_local_function.walrus_body_locals.Locals.{Adds, ids_from, locals_from, with_more}
+use Rattle.walrus_parsed_items.specs.walrus_into_laws.walrus_meaning.walrus_linked.walrus_local_function.walrus_body_locals.Locals.{Adds, ids_from, locals_from}
 use Rattle.walrus_forms.specs.declared.value.ValType.{ValType}
-use Rattle.walrus_linked.specs.walrus_body_writer.walrus_pairing.walrus_index_maps.Maps.{Ids}
+use Rattle.walrus_parsed_items.specs.walrus_into_laws.walrus_meaning.walrus_linked.walrus_body_writer.walrus_pairing.walrus_index_maps.Maps.{Ids}
 use Rattle.walrus_types.specs.walrus_items.declared.local.Local.{Local}
 use Rattle.walrus_marks.specs.Named.{event_items, items_of}
-use Rattle.walrus_marks.specs.walrus_walks.Events.{Event, events_of, val_names}
+use Rattle.walrus_marks.specs.walrus_walks.Events.{events_of, val_names}
 use Rattle.walrus_file_bodies.specs.walrus_items_into.walrus_tables_into.walrus_sections.walrus_roots.declared.item.Item.{Item}
-use Rattle.walrus_parsed_names.proofs.ListLemmas.{AllOf, all_join}
+use Rattle.walrus_parsed_items.proofs.ListLemmas.{AllOf, all_join, some_is}
 use Rattle.walrus_parsed_linked.proofs.ValueLemmas.{GoodValues}
 
 -- ---- indices name locals that are there
@@ -22,9 +22,6 @@ in_either : (xs ys : List ℕ) (k id : ℕ) → slice_get (xs ++ ys) k ≡ Some 
 in_either [] ys k id e = inr (k, e)
 in_either (x ∷ xs) ys zero id e = inl (0, e)
 in_either (x ∷ xs) ys (suc k) id e = elim (in_either xs ys k id e) as (λ _. ((j : ℕ) × (slice_get (x ∷ xs) j ≡ Some id)) ⊎ ((j : ℕ) × (slice_get ys j ≡ Some id))) [ inl h ↦ inl (suc h.0, h.1) | inr h ↦ inr h ]
-
-some_is : (x y : ℕ) → Some x ≡ Some y → x ≡ y
-some_is x y e = cc
 
 from_below : (first : ℕ) (tys : List ValType) (k id : ℕ) → slice_get (ids_from first tys) k ≡ Some id → id < first + length tys
 from_below first [] k id e = absurd cc

@@ -1,9 +1,9 @@
 -- Lemmas: a table of types that grows while bodies are read names good types alone.
-use Rattle.std.specs.Prelude.{ℕ, zero, suc, ◌≡◌, ◌⊎◌, Bool, true, false, List, [], ◌∷◌, ◌++◌, length, map, Option, Some, None, MatchOption, slice_get, slice_index_or, refl}
+use Rattle.std.specs.Prelude.{ℕ, zero, suc, ◌≡◌, ◌⊎◌, false, List, [], ◌∷◌, ◌++◌, Option, Some, None, MatchOption, slice_get, slice_index_or, refl}
 use Rattle.std.specs.Option.{option_map, option_or}
 use Rattle.std.proofs.Common.{ap, sym, ◌∙◌, subst, inl, inr, append-nil}
 use Rattle.walrus_handler_types.specs.walrus_body_steps.walrus_body_nesting.wasm_formats.declared.fault.Space.TheVariants as spaces
-use Rattle.walrus_linked.specs.walrus_module.walrus_builder.Built.{Seq}
+use Rattle.walrus_parsed_items.specs.walrus_into_laws.walrus_meaning.walrus_linked.walrus_module.walrus_builder.Built.{Seq}
 use Rattle.walrus_forms.specs.Kinds.{Kind, function_kind}
 use Rattle.walrus_forms.specs.declared.value.ValType.{ValType}
 use Rattle.walrus_forms.proofs.EqLemmas.{same-kind-law}
@@ -11,19 +11,19 @@ use Rattle.walrus_forms.specs.Same.{same_kind}
 use Rattle.walrus_function_types.specs.Growth.{Grows}
 use Rattle.walrus_function_types.proofs.GrowthLemmas.{lives_on}
 use Rattle.walrus_handler_types.specs.walrus_handler_laws.declared.handler.Handler.{Handler}
-use Rattle.walrus_handler_types.specs.Giving.{Finds, FindsIf, Gives, GivesAt, GivesType, block_results, caught}
+use Rattle.walrus_handler_types.specs.Giving.{Finds, FindsIf, Gives, GivesType, block_results, caught}
 use Rattle.walrus_marks.specs.walrus_instr.BlockTypes.{Makes, picked, short_form}
 use Rattle.walrus_marks.specs.walrus_instr.declared.seq.InstrSeqType.{InstrSeqType}
 use Rattle.walrus_marks.specs.walrus_instr.declared.seq.InstrSeqType.TheVariants.{Simple, MultiValue}
 use Rattle.walrus_marks.specs.Named.{items_of}
-use Rattle.walrus_marks.specs.walrus_walks.Events.{Event, events_of, val_names}
+use Rattle.walrus_marks.specs.walrus_walks.Events.{Event, val_names}
 use Rattle.walrus_file_bodies.specs.walrus_items_into.walrus_tables_into.walrus_sections.walrus_roots.Items.{item}
 use Rattle.walrus_file_bodies.specs.walrus_items_into.walrus_tables_into.walrus_sections.walrus_roots.declared.item.Item.{Item}
 use Rattle.walrus_types.proofs.LawLemmas.{latest-law}
 use Rattle.walrus_types.specs.Items.{Item as TypeItem}
 use Rattle.walrus_types.specs.Table.{Adds, Merges, Table, equal_type, found_type, type_at}
 use Rattle.walrus_types.specs.TypeLaws.{IsLatest}
-use Rattle.walrus_parsed_names.proofs.ListLemmas.{AllOf, some_is}
+use Rattle.walrus_parsed_items.proofs.ListLemmas.{AllOf, some_is}
 use Rattle.walrus_parsed_linked.proofs.ValueLemmas.{Closed, GoodBlock, GoodKind, GoodValues, function_good, params_good, results_good}
 
 one_more : (xs : List (Option TypeItem)) (y : TypeItem) (k : ℕ) (x : TypeItem) → slice_index_or (xs ++ Some y ∷ []) k None ≡ Some x → (slice_index_or xs k None ≡ Some x) ⊎ (y ≡ x)

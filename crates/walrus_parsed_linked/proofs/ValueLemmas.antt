@@ -1,9 +1,8 @@
 -- Lemmas: what value types name, by a list of them and by a kind that has them.
-use Rattle.std.specs.Prelude.{ℕ, ◌≡◌, Bool, List, [], ◌∷◌, ◌++◌, map, Option, Some, None, option_to_list, refl}
+use Rattle.std.specs.Prelude.{ℕ, ◌≡◌, List, [], ◌∷◌, ◌++◌, map, Option, Some, None, option_to_list, refl}
 use Rattle.std.specs.List.{filter_map}
 use Rattle.std.specs.Option.{option_and_then}
-use Rattle.std.proofs.Common.{ap, sym, ◌∙◌, subst}
-use Rattle.walrus_handler_types.specs.walrus_body_steps.walrus_body_nesting.wasm_formats.declared.fault.Space.TheVariants as spaces
+use Rattle.std.proofs.Common.{subst}
 use Rattle.walrus_forms.specs.Forms.{Form, FunctionForm, StructForm, ArrayForm, form_names}
 use Rattle.walrus_forms.specs.Kinds.{Kind, entry_kind, function_kind, kind_names}
 use Rattle.walrus_forms.specs.Values.{value_name}
@@ -13,13 +12,12 @@ use Rattle.walrus_forms.specs.declared.value.ValType.{ValType}
 use Rattle.walrus_forms.specs.declared.value.ValType.TheVariants.{I32, I64, F32, F64, V128, Ref}
 use Rattle.walrus_function_types.specs.FunctionTypes.{form_params, form_results, params_at, results_at}
 use Rattle.walrus_marks.specs.walrus_instr.declared.seq.InstrSeqType.{InstrSeqType}
-use Rattle.walrus_marks.specs.walrus_instr.declared.seq.InstrSeqType.TheVariants.{Simple, MultiValue}
-use Rattle.walrus_marks.specs.Named.{event_items, items_of}
-use Rattle.walrus_marks.specs.walrus_walks.Events.{Event, NamesType, block_names, events_of, ref_names, val_names}
+use Rattle.walrus_marks.specs.Named.{items_of}
+use Rattle.walrus_marks.specs.walrus_walks.Events.{Event, NamesType, block_names, events_of, val_names}
 use Rattle.walrus_file_bodies.specs.walrus_items_into.walrus_tables_into.walrus_sections.walrus_roots.declared.item.Item.{Item}
 use Rattle.walrus_types.specs.Items.{Item as TypeItem}
 use Rattle.walrus_types.specs.Table.{Table, type_at}
-use Rattle.walrus_parsed_names.proofs.ListLemmas.{AllOf, all_join, some_is}
+use Rattle.walrus_parsed_items.proofs.ListLemmas.{AllOf, some_is}
 
 abbrev pub names_types : List ℕ → List Event
 names_types ns = map (λ name. NamesType name) ns

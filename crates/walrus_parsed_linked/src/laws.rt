@@ -1,15 +1,53 @@
 //! Laws: functions with nothing to do, whose contracts hold of all modules that are read.
 
+ghost use Rattle.walrus_parsed_linked.specs.Indices.{IndicesOfReadModulesLive};
 ghost use Rattle.walrus_parsed_linked.specs.Linked.{ReadModulesAreLinked};
+ghost use Rattle.walrus_parsed_linked.specs.Types.{NamesOfReadTypesLive};
 
 use walrus_body_walks::laws::{handlers_have_answers, walks_name_answers};
 use walrus_file_bodies::items_into::laws::{filled_functions_stand, filled_modules_are_filed};
 use walrus_file_bodies::laws::bodies_read_files;
 use walrus_function_types::laws::{entry_types_grow, found_types_stay, tables_grow_on};
 use walrus_parsed_bodies::laws::functions_of_read_modules_are_whole;
-use walrus_parsed_names::laws::names_of_read_items_live;
-use walrus_parsed_names::parsed_links::laws::read_modules_have_links;
-use walrus_parsed_uses::laws::indices_of_read_modules_live;
+use walrus_parsed_items::into_laws::groups::read_types_are_declared;
+use walrus_parsed_items::into_laws::ordered_stay;
+use walrus_parsed_items::into_laws::types_into::laws::{new_types_stand, types_name_below};
+use walrus_parsed_items::laws::{
+    names_of_read_items_live, read_modules_have_items, read_modules_have_links,
+};
+use wasm_import_links::laws::read_modules_are_full;
+use wasm_ruled_modules::laws::read_modules_are_ruled;
+
+/// In a module that was read, what the type of each index of the file names lives: the types of its form, and its supertype.
+pub fn names_of_read_types_live<B>()
+    ensures { NamesOfReadTypesLive B }
+{
+    read_modules_have_items::<B>();
+    bodies_read_files::<B>();
+    read_modules_are_ruled();
+    new_types_stand();
+    types_name_below();
+    read_types_are_declared();
+    found_types_stay();
+    tables_grow_on();
+}
+
+/// In a module that was read, the id that an index of the file has is that of an item that lives, in each space but those of locals and
+/// labels, which are a body's own.
+pub fn indices_of_read_modules_live<B>()
+    ensures { IndicesOfReadModulesLive B }
+{
+    filled_modules_are_filed::<B>();
+    bodies_read_files::<B>();
+    read_modules_have_items::<B>();
+    read_modules_are_full();
+    ordered_stay();
+    new_types_stand();
+    types_name_below();
+    read_types_are_declared();
+    found_types_stay();
+    tables_grow_on();
+}
 
 /// A module that was read is linked: each import names a live item that names it back, and each imported item a live import; functions are
 /// imported, or have a body of their arguments whose sequences form a tree; and what its types, items and bodies name, what it exports and

@@ -1,4 +1,4 @@
-//! Modules that are read are linked.
+//! Modules that are read are linked: what types name lives, and so does what indices name.
 #![tactic(auto)]
 
 pub mod laws;

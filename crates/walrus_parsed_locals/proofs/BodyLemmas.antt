@@ -20,7 +20,7 @@ use Rattle.walrus_meaning.specs.walrus_body_writer.walrus_pairing.walrus_index_m
 use Rattle.walrus_meaning.specs.walrus_body_writer.walrus_pairing.walrus_items.declared.local.Local.{Local}
 use Rattle.walrus_meaning.specs.walrus_local_function.declared.local_function.LocalFunction.{LocalFunction}
 use Rattle.walrus_meaning.specs.Bodies.{local_ids, named_locals, own_operators, used_locals}
-use Rattle.walrus_parsed_texts.specs.Texts.{naming, text_of}
+use Rattle.walrus_parsed_bodies.specs.Texts.{naming, text_of}
 use Rattle.walrus_parsed_locals.specs.Locals.{kept_numbers}
 use Rattle.walrus_parsed_locals.proofs.IdLemmas.{get_id, has_no_other, has_own, ids_by_number, ids_joined, types_of}
 use Rattle.walrus_parsed_locals.proofs.KeyLemmas.{has, moved, types_moved}

@@ -13,20 +13,17 @@ use Rattle.walrus_meaning.specs.walrus_local_function.walrus_body_locals.wasm_no
 use Rattle.walrus_meaning.specs.walrus_local_function.walrus_body_locals.wasm_normal_form.Locals.{Key}
 use Rattle.walrus_meaning.specs.walrus_local_function.walrus_body_locals.wasm_normal_form.Normal.{normal_ops}
 use Rattle.walrus_file_bodies.specs.walrus_items_into.walrus_module_env.wasm_run_names.Picks.{block_pick}
-use Rattle.walrus_file_bodies.specs.walrus_items_into.wasm_sections.Within.{bodies_inside}
 use Rattle.walrus_meaning.specs.walrus_local_function.walrus_body_locals.Locals.{ids_from}
 use Rattle.walrus_body_trees.specs.Laws.{meant, renamed}
-use Rattle.walrus_file_bodies.proofs.PairLemmas.{are_apart, chunks_fit}
-use Rattle.walrus_file_bodies.proofs.StopLemmas.{bodies_wait, chunks_fit_in, count_in}
+use Rattle.walrus_file_bodies.proofs.StopLemmas.{count_in}
 use Rattle.walrus_file_bodies.specs.Read.{ids_length}
 use Rattle.walrus_file_bodies.specs.Ready.{bodies_in}
 use Rattle.wasm_body_grammar.specs.wasm_grammar.walrus_forms.Renaming.{at, renamed_value}
 use Rattle.walrus_function_types.specs.Growth.{EntryTypesGrow, FoundTypesStay, TablesGrowOn}
-use Rattle.walrus_file_bodies.specs.walrus_items_into.walrus_functions_into.Laws.{read_bodies}
 use Rattle.walrus_file_bodies.specs.walrus_items_into.walrus_functions_into.declared.bodies.FunctionBody.{FunctionBody}
 use Rattle.walrus_meaning.specs.walrus_body_writer.walrus_pairing.walrus_index_maps.Maps.{Ids}
-use Rattle.walrus_parsed_texts.specs.walrus_parse.walrus_item_names.Holder.{Holder}
-use Rattle.walrus_parsed_texts.specs.walrus_parse.walrus_item_names.Names.{bare_function, bare_local}
+use Rattle.walrus_parsed_bodies.specs.walrus_parsed_items.walrus_parse.walrus_item_names.Holder.{Holder}
+use Rattle.walrus_parsed_bodies.specs.walrus_parsed_items.walrus_parse.walrus_item_names.Names.{bare_function, bare_local}
 use Rattle.walrus_file_bodies.specs.walrus_items_into.Laws.{FilledFunctionsStand, FilledModulesAreFiled}
 use Rattle.walrus_file_bodies.specs.walrus_items_into.walrus_tables_into.walrus_sections_into.walrus_known_sections.State.{state_of}
 use Rattle.walrus_meaning.specs.walrus_local_function.declared.local_function.LocalFunction.{LocalFunction}
@@ -35,9 +32,9 @@ use Rattle.walrus_meaning.specs.walrus_module.Parts.{Module, parts}
 use Rattle.walrus_file_bodies.specs.walrus_module_bodies.Steps.{State, state}
 use Rattle.walrus_meaning.specs.walrus_linked.walrus_module_items.declared.function.Function.{Function}
 use Rattle.walrus_meaning.specs.walrus_linked.walrus_module_items.declared.function.FunctionKind.TheVariants as kinds
-use Rattle.walrus_parsed_texts.specs.walrus_parse.Parsed.{read_features}
-use Rattle.walrus_parsed_bodies.proofs.WholeLemmas.{bare_same, kind_at}
-use Rattle.walrus_parsed_texts.specs.Texts.{MeansBody, ReadBodiesMeanTheirs, naming, text_of}
+use Rattle.walrus_parsed_bodies.specs.walrus_parsed_items.walrus_parse.Parsed.{read_features}
+use Rattle.walrus_parsed_bodies.proofs.WholeLemmas.{bare_same, bodies_are_due, bodies_lie, kind_at}
+use Rattle.walrus_parsed_bodies.specs.Texts.{MeansBody, ReadBodiesMeanTheirs, naming, text_of}
 use Rattle.walrus_parsed_locals.specs.Locals.{HasLocals, ReadBodiesHaveTheirLocals, keys_of, kept_numbers}
 use Rattle.walrus_parsed_locals.proofs.BodyLemmas.{all_ids, all_numbers, arguments_are, locals_are}
 use Rattle.walrus_parsed_locals.proofs.IdLemmas.{types_joined, types_of, types_same}
@@ -99,8 +96,8 @@ bodies_have {B} mean stands filed stay on enter once config bytes m found small 
     let bs : List FunctionBody = bodies_in s f.functions in
     let old = state f.types [] h.numbers f.functions in
     let stand = stands features bytes s m.start h.numbers f h.reads.sections h.are_filled in
-    let fit = chunks_fit_in s.code_start (length bytes) bs (read_bodies s.bodies) stand.paired.chunks_are (chunks_fit s.code_start (length bytes) s.bodies (bodies_inside features bytes (state_of s) small h.reads.sections)) in
-    let waits = bodies_wait features bytes s m.start h.numbers f h.file filed h.reads.sections h.are_filled h.is_file bs [] (are_apart f.functions.slots 0 (read_bodies s.bodies)) in
+    let fit = bodies_lie stands config bytes m found small is in
+    let waits = bodies_are_due filed config bytes m found is in
     let reads = subst (λ (cs : List Code). ReadsCodes a cs h.bodies) (sym stand.paired.codes_are) h.reads.codes_are in
     let all = all_locals stay on enter once h.file features a (count_in s) s.code_start (length bytes) bs h.bodies old h.bodied fit waits reads h.bodies_are in
     let funcs : map (option_map bare_function) m.funcs.slots ≡ map (option_map bare_function) h.bodied.functions.slots = ap (λ (x : Holder). x.funcs.slots) h.names.same in

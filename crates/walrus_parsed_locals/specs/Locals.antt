@@ -22,8 +22,8 @@ use Rattle.walrus_meaning.specs.walrus_module.Parts.{Module, parts}
 use Rattle.walrus_meaning.specs.walrus_module.declared.module.Module.{Module as Whole}
 use Rattle.walrus_meaning.specs.walrus_linked.walrus_module_items.declared.function.Function.{Function}
 use Rattle.walrus_meaning.specs.walrus_linked.walrus_module_items.declared.function.FunctionKind.TheVariants as kinds
-use Rattle.walrus_parsed_texts.specs.walrus_parse.Parsed.{IsReadAs, read_features}
-use Rattle.walrus_parsed_texts.specs.Texts.{naming, text_of}
+use Rattle.walrus_parsed_bodies.specs.walrus_parsed_items.walrus_parse.Parsed.{IsReadAs, read_features}
+use Rattle.walrus_parsed_bodies.specs.Texts.{naming, text_of}
 
 -- a body with the ids of types in the place of their indices: locals are in the order of their types
 abbrev pub typed : Ids → grammar.Body → Body

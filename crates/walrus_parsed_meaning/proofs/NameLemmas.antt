@@ -1,5 +1,5 @@
 -- Lemmas: the names in a module that was read.
-use Rattle.std.specs.Prelude.{ℕ, zero, suc, ◌≡◌, ◌+◌, Bool, true, false, List, [], ◌∷◌, ◌++◌, IfSome, length, map, MatchOption, Option, Some, None, slice_get, slice_index_or, slice_set, string_bytes, refl, if◌then◌else◌}
+use Rattle.std.specs.Prelude.{ℕ, zero, suc, ◌≡◌, ◌+◌, Bool, true, false, List, [], ◌∷◌, ◌++◌, IfSome, length, map, MatchOption, Option, Some, None, slice_get, slice_index_or, slice_set, string_bytes, refl}
 use Rattle.std.specs.List.{AllByRecursion}
 use Rattle.std.specs.Option.{option_and_then, option_map}
 use Rattle.std.proofs.Common.{ap, sym, subst, ◌∙◌}
@@ -10,42 +10,42 @@ use Rattle.walrus_handler_types.specs.walrus_body_steps.wasm_body_grammar.wasm_g
 use Rattle.walrus_handler_types.specs.walrus_body_steps.wasm_body_grammar.wasm_grammar.walrus_forms.Records.{TypeGroup}
 use Rattle.walrus_handler_types.specs.walrus_body_steps.wasm_body_grammar.wasm_grammar.walrus_forms.Renaming.{at, renamed_kind}
 use Rattle.walrus_handler_types.specs.walrus_body_steps.wasm_body_grammar.wasm_grammar.walrus_forms.declared.value.ValType.{ValType}
-use Rattle.wasm_name_payloads.specs.Names.{ALocal, AnItem, Bearer, Given, TheModule, last_name, same_bearer}
+use Rattle.wasm_name_payloads.specs.Names.{ALocal, AnItem, Bearer, Given, TheModule, last_name}
 use Rattle.walrus_arena.specs.Arena.{Arena, item_at}
-use Rattle.walrus_parsed_texts.specs.walrus_parse.walrus_file_bodies.walrus_items_into.Filled.{IsFilledFrom}
-use Rattle.walrus_parsed_texts.specs.walrus_parse.walrus_file_bodies.walrus_items_into.Spaces.{Spaces}
-use Rattle.walrus_parsed_texts.specs.walrus_parse.walrus_file_bodies.walrus_items_into.walrus_functions_into.Functions.{functions_from}
-use Rattle.walrus_parsed_texts.specs.walrus_parse.walrus_file_bodies.walrus_items_into.walrus_functions_into.declared.bodies.FunctionBody.{FunctionBody}
-use Rattle.walrus_parsed_texts.specs.walrus_parse.walrus_file_bodies.walrus_items_into.walrus_tables_into.walrus_sections_into.Slots.{Become, Filled}
-use Rattle.walrus_parsed_texts.specs.walrus_parse.walrus_file_bodies.walrus_items_into.walrus_tables_into.walrus_sections_into.walrus_known_sections.declared.items.Function.{Function as ReadFunction}
-use Rattle.walrus_parsed_texts.specs.walrus_parse.walrus_file_bodies.walrus_items_into.walrus_tables_into.walrus_sections_into.walrus_known_sections.declared.sections.Sections.{Sections}
-use Rattle.walrus_parsed_texts.specs.walrus_parse.walrus_file_bodies.walrus_items_into.wasm_module_rules.Linked.{Each}
-use Rattle.walrus_parsed_texts.specs.walrus_parse.walrus_file_bodies.walrus_module_bodies.Steps.{IsStep, State, Steps}
-use Rattle.walrus_parsed_texts.specs.walrus_parse.walrus_file_bodies.walrus_module_bodies.declared.file.FileEnv.{FileEnv}
-use Rattle.walrus_group_laws.specs.walrus_types_into.Into.{no_types}
+use Rattle.walrus_parsed_items.specs.walrus_parse.walrus_file_bodies.walrus_items_into.Filled.{IsFilledFrom}
+use Rattle.walrus_parsed_items.specs.walrus_parse.walrus_file_bodies.walrus_items_into.Spaces.{Spaces}
+use Rattle.walrus_parsed_items.specs.walrus_parse.walrus_file_bodies.walrus_items_into.walrus_functions_into.Functions.{functions_from}
+use Rattle.walrus_parsed_items.specs.walrus_parse.walrus_file_bodies.walrus_items_into.walrus_functions_into.declared.bodies.FunctionBody.{FunctionBody}
+use Rattle.walrus_parsed_items.specs.walrus_parse.walrus_file_bodies.walrus_items_into.walrus_tables_into.walrus_sections_into.Slots.{Become, Filled}
+use Rattle.walrus_parsed_items.specs.walrus_parse.walrus_file_bodies.walrus_items_into.walrus_tables_into.walrus_sections_into.walrus_known_sections.declared.items.Function.{Function as ReadFunction}
+use Rattle.walrus_parsed_items.specs.walrus_parse.walrus_file_bodies.walrus_items_into.walrus_tables_into.walrus_sections_into.walrus_known_sections.declared.sections.Sections.{Sections}
+use Rattle.walrus_parsed_items.specs.walrus_parse.walrus_file_bodies.walrus_items_into.wasm_module_rules.Linked.{Each}
+use Rattle.walrus_parsed_items.specs.walrus_parse.walrus_file_bodies.walrus_module_bodies.Steps.{IsStep, State, Steps}
+use Rattle.walrus_parsed_items.specs.walrus_parse.walrus_file_bodies.walrus_module_bodies.declared.file.FileEnv.{FileEnv}
+use Rattle.walrus_parsed_items.specs.walrus_into_laws.walrus_types_into.Into.{no_types}
 use Rattle.walrus_handler_types.specs.Giving.{Finds, FindsIf, Gives, GivesType, block_results, caught}
 use Rattle.walrus_handler_types.specs.walrus_handler_laws.declared.handler.Handler.{Handler}
-use Rattle.walrus_group_laws.specs.walrus_meaning.walrus_body_writer.walrus_pairing.walrus_index_maps.Maps.{Ids}
-use Rattle.walrus_group_laws.specs.walrus_meaning.walrus_linked.walrus_module_items.declared.function.Function.{Function}
-use Rattle.walrus_group_laws.specs.walrus_meaning.walrus_linked.walrus_module_items.declared.function.FunctionKind.TheVariants as kinds
-use Rattle.walrus_group_laws.specs.walrus_meaning.walrus_local_function.walrus_body_locals.Locals.{locals_from}
-use Rattle.walrus_group_laws.specs.walrus_meaning.walrus_module.walrus_builder.Built.{Seq}
-use Rattle.walrus_group_laws.specs.walrus_meaning.walrus_module.walrus_types.Groups.{new_items}
-use Rattle.walrus_group_laws.specs.walrus_meaning.walrus_module.walrus_types.Parsing.{Parsed, added, known_ids, merged, parsed, parsed_group, unparsed}
-use Rattle.walrus_group_laws.specs.walrus_meaning.walrus_module.walrus_types.Table.{Adds, Merges, Table, equal_type, next_id}
-use Rattle.walrus_group_laws.specs.walrus_meaning.walrus_module.walrus_types.walrus_items.Items.{Item}
-use Rattle.walrus_group_laws.specs.walrus_meaning.walrus_module.walrus_types.walrus_items.declared.local.Local.{Local}
+use Rattle.walrus_operator_laws.specs.walrus_pairing.walrus_index_maps.Maps.{Ids}
+use Rattle.walrus_parsed_items.specs.walrus_parse.walrus_module.walrus_module_items.declared.function.Function.{Function}
+use Rattle.walrus_parsed_items.specs.walrus_parse.walrus_module.walrus_module_items.declared.function.FunctionKind.TheVariants as kinds
+use Rattle.walrus_parsed_items.specs.walrus_into_laws.walrus_meaning.walrus_local_function.walrus_body_locals.Locals.{locals_from}
+use Rattle.walrus_handler_types.specs.walrus_tree.walrus_builder.Built.{Seq}
+use Rattle.walrus_parsed_items.specs.walrus_parse.walrus_module.walrus_types.Groups.{new_items}
+use Rattle.walrus_parsed_items.specs.walrus_parse.walrus_module.walrus_types.Parsing.{Parsed, added, known_ids, merged, parsed, parsed_group, unparsed}
+use Rattle.walrus_parsed_items.specs.walrus_parse.walrus_module.walrus_types.Table.{Adds, Merges, Table, equal_type, next_id}
+use Rattle.walrus_operator_laws.specs.walrus_pairing.walrus_items.Items.{Item}
+use Rattle.walrus_operator_laws.specs.walrus_pairing.walrus_items.declared.local.Local.{Local}
 use Rattle.walrus_operator_laws.specs.walrus_pairing.walrus_instr.BlockTypes.{Makes, picked, short_form}
 use Rattle.walrus_operator_laws.specs.walrus_pairing.walrus_instr.declared.seq.InstrSeqType.{InstrSeqType}
 use Rattle.walrus_operator_laws.specs.walrus_pairing.walrus_instr.declared.seq.InstrSeqType.TheVariants.{MultiValue}
 use Rattle.walrus_parsed_bodies.proofs.WholeLemmas.{bare_same}
-use Rattle.walrus_parsed_links.specs.walrus_parsed_items.walrus_parse.walrus_item_names.Gives.{GivesNames}
-use Rattle.walrus_parsed_links.specs.walrus_parsed_items.walrus_parse.walrus_item_names.Holder.{Holder}
-use Rattle.walrus_parsed_links.specs.walrus_parsed_items.walrus_parse.walrus_item_names.Names.{bare_function, element_called, function_called, global_called, item_name, local_called, name_at, table_called, type_called}
-use Rattle.walrus_parsed_links.specs.walrus_parsed_items.walrus_parse.walrus_item_names.Synthetic.{args_of, body_args, each_below, function_names, synthetic}
-use Rattle.walrus_parsed_texts.specs.walrus_parse.walrus_file_bodies.walrus_items_into.walrus_names_into.Numbered.{locals_in}
-use Rattle.walrus_parsed_links.proofs.SlotLemmas.{each_at}
-use Rattle.walrus_parsed_meaning.specs.Means.{BeginsIn, BeginsUnnamed, HasNames}
+use Rattle.walrus_parsed_items.specs.walrus_parse.walrus_item_names.Gives.{GivesNames}
+use Rattle.walrus_parsed_items.specs.walrus_parse.walrus_item_names.Holder.{Holder}
+use Rattle.walrus_parsed_items.specs.walrus_parse.walrus_item_names.Names.{bare_function, data_called, element_called, function_called, global_called, item_name, local_called, memory_called, name_at, table_called, tag_called, type_called}
+use Rattle.walrus_parsed_items.specs.walrus_parse.walrus_item_names.Synthetic.{args_of, body_args, each_below, function_names, synthetic}
+use Rattle.walrus_parsed_items.specs.walrus_parse.walrus_file_bodies.walrus_items_into.walrus_payloads_into.Numbered.{locals_in}
+use Rattle.walrus_parsed_items.proofs.SlotLemmas.{each_at}
+use Rattle.walrus_parsed_meaning.specs.Means.{HasNames}
 
 -- ---- lists of slots
 
@@ -177,19 +177,6 @@ module _ (file : FileEnv) (features : WasmFeatures) where
 
 -- ---- names that are given
 
-last_given : (bearer : Bearer) (name : List ℕ) (names : List Given) (old : Option (List ℕ)) → last_name bearer None names ≡ Some name → last_name bearer old names ≡ Some name
-last_given bearer name [] old e = absurd cc
-last_given bearer name (g ∷ names) old e = go (same_bearer g.bearer bearer) e (last_given bearer name names old)
-  where
-    go : (b : Bool) → last_name bearer (if b then Some g.name else None) names ≡ Some name → (last_name bearer None names ≡ Some name → last_name bearer old names ≡ Some name)
-        → last_name bearer (if b then Some g.name else old) names ≡ Some name
-    go true e on = e
-    go false e on = on e
-
-if_given : (o p : Option (Option (List ℕ))) (f : Option (List ℕ) → Option (List ℕ)) (name : List ℕ) → p ≡ option_map f o → ((old : Option (List ℕ)) → f old ≡ Some name) → IfSome p (λ own. own ≡ Some name)
-if_given None p f name e h = rw e tt
-if_given (Some old) p f name e h = rw e (h old)
-
 if_none : (o p : Option (Option (List ℕ))) (f : Option (List ℕ) → Option (List ℕ)) → p ≡ option_map f o → IfSome o (λ own. own ≡ None) → IfSome p (λ own. own ≡ f None)
 if_none None p f e h = rw e tt
 if_none (Some old) p f e h = rw e (ap f h)
@@ -209,29 +196,27 @@ local_none (l ∷ ls) (suc n) h = local_none ls n h.1
 
 -- what a module has that its file filled, before names are given
 module _ {B : Type 0} (s : Sections) (begin : Option ℕ) (i : Ids) (f : Spaces B) (filled : IsFilledFrom s begin i f) (bodied : State) (none : NoNames bodied) (m : Holder) (types : m.types ≡ bodied.types)
-    (funcs : m.funcs ≡ bodied.functions) (locals : m.locals ≡ bodied.locals) (tables : m.tables ≡ f.tables) (globals : m.globals ≡ f.globals) (elements : m.elements ≡ f.elements) (own : m.name ≡ None) where
-  none_in : (space : Space) (n : ℕ) → BeginsIn space → IfSome (item_name m space n) (λ own. own ≡ None)
-  none_in spaces.«Type» n h = rw types (called_none type_called IsBare (λ x e. e) bodied.types.types n none.types)
-  none_in spaces.Function n h = rw funcs (called_none function_called IsPlain (λ x e. ap (option_map string_bytes) e) bodied.functions.slots n none.functions)
-  none_in spaces.Table n h = rw tables (called_none table_called (λ x. x.name ≡ None) (λ x e. ap (option_map string_bytes) e) f.tables.slots n (filled_each _ (λ x. x.name ≡ None) (λ x y r. r.no_name) s.tables.items f.tables.slots filled.tables))
-  none_in spaces.Global n h = rw globals (called_none global_called (λ x. x.name ≡ None) (λ x e. ap (option_map string_bytes) e) f.globals.slots n (filled_each _ (λ x. x.name ≡ None) (λ x y r. r.no_name) s.globals.items f.globals.slots filled.globals))
-  none_in spaces.Element n h = rw elements (called_none element_called (λ x. x.name ≡ None) (λ x e. ap (option_map string_bytes) e) f.elements.slots n (filled_each _ (λ x. x.name ≡ None) (λ x y r. r.no_name) s.elements.items f.elements.slots filled.elements))
-  none_in spaces.Local n h = rw locals (local_none bodied.locals n none.locals)
-  none_in spaces.Memory n h = absurd h
-  none_in spaces.Tag n h = absurd h
-  none_in spaces.Data n h = absurd h
-  none_in spaces.Label n h = tt
+    (funcs : m.funcs ≡ bodied.functions) (locals : m.locals ≡ bodied.locals) (tables : m.tables ≡ f.tables) (memories : m.memories ≡ f.memories) (tags : m.tags ≡ f.tags) (globals : m.globals ≡ f.globals)
+    (elements : m.elements ≡ f.elements) (segments : m.data_segments ≡ f.segments) (own : m.name ≡ None) where
+  none_in : (space : Space) (n : ℕ) → IfSome (item_name m space n) (λ own. own ≡ None)
+  none_in spaces.«Type» n = rw types (called_none type_called IsBare (λ x e. e) bodied.types.types n none.types)
+  none_in spaces.Function n = rw funcs (called_none function_called IsPlain (λ x e. ap (option_map string_bytes) e) bodied.functions.slots n none.functions)
+  none_in spaces.Table n = rw tables (called_none table_called (λ x. x.name ≡ None) (λ x e. ap (option_map string_bytes) e) f.tables.slots n (filled_each _ (λ x. x.name ≡ None) (λ x y r. r.no_name) s.tables.items f.tables.slots filled.tables))
+  none_in spaces.Memory n = rw memories (called_none memory_called (λ x. x.name ≡ None) (λ x e. ap (option_map string_bytes) e) f.memories.slots n (filled_each _ (λ x. x.name ≡ None) (λ x y r. r.no_name) s.memories.items f.memories.slots filled.memories))
+  none_in spaces.Tag n = rw tags (called_none tag_called (λ x. x.name ≡ None) (λ x e. ap (option_map string_bytes) e) f.tags.slots n (filled_each _ (λ x. x.name ≡ None) (λ x y r. r.no_name) s.tags.items f.tags.slots filled.tags))
+  none_in spaces.Global n = rw globals (called_none global_called (λ x. x.name ≡ None) (λ x e. ap (option_map string_bytes) e) f.globals.slots n (filled_each _ (λ x. x.name ≡ None) (λ x y r. r.no_name) s.globals.items f.globals.slots filled.globals))
+  none_in spaces.Element n = rw elements (called_none element_called (λ x. x.name ≡ None) (λ x e. ap (option_map string_bytes) e) f.elements.slots n (filled_each _ (λ x. x.name ≡ None) (λ x y r. r.no_name) s.elements.items f.elements.slots filled.elements))
+  none_in spaces.Data n = rw segments (called_none data_called (λ x. x.name ≡ None) (λ x e. ap (option_map string_bytes) e) f.segments.slots n (filled_each _ (λ x. x.name ≡ None) (λ x y r. r.no_name) s.segments.items f.segments.slots filled.segments))
+  none_in spaces.Local n = rw locals (local_none bodied.locals n none.locals)
+  none_in spaces.Label n = tt
 
-  none_at : (bearer : Bearer) → BeginsUnnamed bearer → IfSome (name_at m bearer) (λ own. own ≡ None)
-  none_at TheModule h = ap (option_map string_bytes) own
-  none_at (AnItem x) h = none_in x.space x.number h
-  none_at (ALocal function local) h = tt
+  none_at : (bearer : Bearer) → IfSome (name_at m bearer) (λ own. own ≡ None)
+  none_at TheModule = ap (option_map string_bytes) own
+  none_at (AnItem x) = none_in x.space x.number
+  none_at (ALocal function local) = tt
 
   pub named_so : (names : List Given) (n : Holder) → GivesNames names m n → HasNames names n
-  named_so names n gives = record {
-    given = λ bearer name e. if_given (name_at m bearer) (name_at n bearer) (λ found. last_name bearer found names) name (gives.named bearer) (λ old. last_given bearer name names old e);
-    others = λ bearer h. if_none (name_at m bearer) (name_at n bearer) (λ found. last_name bearer found names) (gives.named bearer) (none_at bearer h);
-  }
+  named_so names n gives bearer = if_none (name_at m bearer) (name_at n bearer) (λ found. last_name bearer found names) (gives.named bearer) (none_at bearer)
 
 -- ---- synthetic names don't depend on names
 

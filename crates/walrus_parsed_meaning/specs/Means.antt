@@ -10,38 +10,36 @@ use Rattle.walrus_handler_types.specs.walrus_body_steps.wasm_body_grammar.wasm_g
 use Rattle.walrus_handler_types.specs.walrus_body_steps.wasm_body_grammar.wasm_grammar.walrus_forms.Renaming.{at}
 use Rattle.walrus_handler_types.specs.walrus_body_steps.wasm_body_grammar.wasm_operator_names.wasm_immediates.Items.{Locals}
 use Rattle.walrus_handler_types.specs.walrus_body_steps.wasm_body_grammar.wasm_operator_names.wasm_immediates.declared.block_type.BlockType.{BlockType}
-use Rattle.walrus_handler_types.specs.walrus_body_steps.wasm_body_grammar.wasm_formats.declared.fault.Space.{Space}
-use Rattle.walrus_handler_types.specs.walrus_body_steps.wasm_body_grammar.wasm_formats.declared.fault.Space.TheVariants as spaces
-use Rattle.wasm_name_payloads.specs.Names.{AnItem, Bearer, Given, last_name, names_of}
+use Rattle.wasm_name_payloads.specs.Names.{Bearer, Given, last_name, names_of}
 use Rattle.wasm_name_payloads.specs.Producers.{processed, producers_of}
 use Rattle.wasm_ruled_modules.specs.Rules.{IsRuled}
 use Rattle.walrus_arena.specs.Arena.{item_at}
 use Rattle.walrus_config.specs.declared.config.ModuleConfig.{ModuleConfig}
 use Rattle.walrus_customs.specs.Producers.{fields_of}
-use Rattle.walrus_parsed_texts.specs.walrus_parse.walrus_file_bodies.walrus_items_into.wasm_module_rules.Linked.{Each}
-use Rattle.walrus_parsed_texts.specs.walrus_parse.walrus_file_bodies.walrus_items_into.wasm_module_rules.wasm_modules.Modules.{Reads}
-use Rattle.walrus_parsed_texts.specs.walrus_parse.walrus_file_bodies.walrus_items_into.walrus_tables_into.walrus_sections_into.Becomes.{look_of}
-use Rattle.walrus_group_laws.specs.walrus_types_into.Into.{no_types}
-use Rattle.walrus_group_laws.specs.walrus_meaning.Bodies.{local_ids}
-use Rattle.walrus_group_laws.specs.walrus_meaning.Meaning.{means, slots_of}
-use Rattle.walrus_group_laws.specs.walrus_meaning.walrus_body_writer.walrus_pairing.walrus_index_maps.Maps.{Ids}
-use Rattle.walrus_group_laws.specs.walrus_meaning.walrus_linked.Linked.{IsLinked}
-use Rattle.walrus_group_laws.specs.walrus_meaning.walrus_linked.walrus_module_items.declared.function.Function.{Function}
-use Rattle.walrus_group_laws.specs.walrus_meaning.walrus_linked.walrus_module_items.declared.function.FunctionKind.TheVariants as kinds
-use Rattle.walrus_group_laws.specs.walrus_meaning.walrus_local_function.declared.local_function.LocalFunction.{LocalFunction}
-use Rattle.walrus_group_laws.specs.walrus_meaning.walrus_local_function.walrus_body_locals.wasm_normal_form.Bodies.{used_keys}
-use Rattle.walrus_group_laws.specs.walrus_meaning.walrus_local_function.walrus_body_locals.wasm_normal_form.Normal.{normal_ops}
-use Rattle.walrus_group_laws.specs.walrus_meaning.walrus_module.Parts.{Module, parts}
-use Rattle.walrus_group_laws.specs.walrus_meaning.walrus_module.declared.module.Module.{Module as Whole}
-use Rattle.walrus_group_laws.specs.walrus_meaning.walrus_module.walrus_types.Parsing.{Parsed, parsed, unparsed}
+use Rattle.walrus_parsed_items.specs.walrus_parse.walrus_file_bodies.walrus_items_into.wasm_module_rules.Linked.{Each}
+use Rattle.walrus_parsed_items.specs.walrus_parse.walrus_file_bodies.walrus_items_into.wasm_module_rules.wasm_modules.Modules.{Reads}
+use Rattle.walrus_parsed_items.specs.walrus_parse.walrus_file_bodies.walrus_items_into.walrus_tables_into.walrus_sections_into.Becomes.{look_of}
+use Rattle.walrus_parsed_items.specs.walrus_into_laws.walrus_types_into.Into.{no_types}
+use Rattle.walrus_parsed_items.specs.walrus_into_laws.walrus_meaning.Bodies.{local_ids}
+use Rattle.walrus_parsed_items.specs.walrus_into_laws.walrus_meaning.Meaning.{means, slots_of}
+use Rattle.walrus_operator_laws.specs.walrus_pairing.walrus_index_maps.Maps.{Ids}
+use Rattle.walrus_parsed_items.specs.walrus_into_laws.walrus_meaning.walrus_linked.Linked.{IsLinked}
+use Rattle.walrus_parsed_items.specs.walrus_parse.walrus_module.walrus_module_items.declared.function.Function.{Function}
+use Rattle.walrus_parsed_items.specs.walrus_parse.walrus_module.walrus_module_items.declared.function.FunctionKind.TheVariants as kinds
+use Rattle.walrus_parsed_items.specs.walrus_into_laws.walrus_meaning.walrus_local_function.declared.local_function.LocalFunction.{LocalFunction}
+use Rattle.walrus_handler_types.specs.walrus_body_steps.wasm_normal_form.Bodies.{used_keys}
+use Rattle.walrus_handler_types.specs.walrus_body_steps.wasm_normal_form.Normal.{normal_ops}
+use Rattle.walrus_parsed_items.specs.walrus_parse.walrus_module.Parts.{Module, parts}
+use Rattle.walrus_parsed_items.specs.walrus_parse.walrus_module.declared.module.Module.{Module as Whole}
+use Rattle.walrus_parsed_items.specs.walrus_parse.walrus_module.walrus_types.Parsing.{Parsed, parsed, unparsed}
 use Rattle.walrus_parsed_groups.specs.Files.{AreLacking, bodies_handle, sent}
-use Rattle.walrus_parsed_links.specs.walrus_parsed_items.walrus_into_laws.Meaning.{OthersStay, own_custom}
-use Rattle.walrus_parsed_links.specs.walrus_parsed_items.walrus_parse.Named.{all_names}
-use Rattle.walrus_parsed_links.specs.walrus_parsed_items.walrus_parse.Parsed.{IsReadAs, read_features}
-use Rattle.walrus_parsed_links.specs.walrus_parsed_items.walrus_parse.walrus_item_names.Holder.{Holder, holder}
-use Rattle.walrus_parsed_links.specs.walrus_parsed_items.walrus_parse.walrus_item_names.Names.{name_at}
+use Rattle.walrus_parsed_items.specs.walrus_into_laws.Meaning.{OthersStay, own_custom}
+use Rattle.walrus_parsed_items.specs.walrus_parse.Named.{all_names}
+use Rattle.walrus_parsed_items.specs.walrus_parse.Parsed.{IsReadAs, read_features}
+use Rattle.walrus_parsed_items.specs.walrus_parse.walrus_item_names.Holder.{Holder, holder}
+use Rattle.walrus_parsed_items.specs.walrus_parse.walrus_item_names.Names.{name_at}
 use Rattle.walrus_parsed_locals.specs.Locals.{kept_numbers, typed}
-use Rattle.walrus_parsed_texts.specs.Texts.{naming, text_of}
+use Rattle.walrus_parsed_bodies.specs.Texts.{naming, text_of}
 use Rattle.walrus_parsed_meaning.specs.Meant.{module_meant, picks}
 
 -- in the module the locals of the function of this number, by their new numbers, have the ids that are named by its parameters, and then by
@@ -61,21 +59,9 @@ holder_of m = holder m.types m.funcs m.tables m.memories m.tags m.globals m.elem
 abbrev pub names_in : {B : Type 0} → ModuleConfig → grammar.Module → Whole B → Ids → List Given
 names_in config file m found = all_names config.generate_synthetic_names_for_anonymous_items found (holder_of m) (names_of file)
 
--- what is known to have no name before
-abbrev pub BeginsIn : Space → Type 0
-BeginsIn spaces.Memory = ⊥
-BeginsIn spaces.Tag = ⊥
-BeginsIn spaces.Data = ⊥
-BeginsIn _ = Unit {0}
-
-abbrev pub BeginsUnnamed : Bearer → Type 0
-BeginsUnnamed (AnItem x) = BeginsIn x.space
-BeginsUnnamed _ = Unit {0}
-
 -- what bears a name has the last one that it was given, and where it was given none it has none
-pub record HasNames (names : List Given) (m : Holder) : Type 0 where
-  pub given : (bearer : Bearer) (name : List ℕ) → last_name bearer None names ≡ Some name → IfSome (name_at m bearer) (λ own. own ≡ Some name)
-  pub others : (bearer : Bearer) → BeginsUnnamed bearer → IfSome (name_at m bearer) (λ own. own ≡ last_name bearer None names)
+abbrev pub HasNames : List Given → Holder → Type 0
+HasNames names m = (bearer : Bearer) → IfSome (name_at m bearer) (λ own. own ≡ last_name bearer None names)
 
 -- where addresses have 32 bits, the sizes are below 2^32
 abbrev pub IsSmall : Bool → ℕ → Option ℕ → Type 0

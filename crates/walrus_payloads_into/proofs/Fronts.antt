@@ -5,7 +5,7 @@ use Rattle.std.proofs.lemmas.List.{take_more, map-append, append-nil}
 use Rattle.wasm_name_payloads.specs.Joined.{flat_map_append}
 use Rattle.walrus_known_sections.specs.Items.{custom_of}
 use Rattle.walrus_known_sections.specs.declared.items.Custom.{Custom}
-use Rattle.wasm_grammar.specs.Modules.{Custom as Read}
+use Rattle.wasm_body_grammar.specs.wasm_grammar.Modules.{Custom as Read}
 use Rattle.walrus_payloads_into.specs.Customs.{customs_of}
 
 one_more : {Z : Type 0} (f : Option Read → List Z) (customs : List Custom) (i : ℕ) (now : Custom) → i < length customs

@@ -2,7 +2,7 @@
 use Rattle.std.specs.Prelude.{◌≡◌, List, map, Option, Some}
 use Rattle.walrus_known_sections.specs.Items.{custom_of}
 use Rattle.walrus_known_sections.specs.declared.items.Custom.{Custom}
-use Rattle.wasm_grammar.specs.Modules.{Custom as Read, Module}
+use Rattle.wasm_body_grammar.specs.wasm_grammar.Modules.{Custom as Read, Module}
 
 -- slots that are all filled
 abbrev pub customs_of : List Custom → List (Option Read)

@@ -1,1 +1,4 @@
+pub mod Numbered
+pub mod Counted
+pub mod Same
 pub mod Customs

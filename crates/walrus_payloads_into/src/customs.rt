@@ -2,22 +2,22 @@
 
 ghost use Rattle.std.specs.Prelude.{◌≡◌, map, IfOk};
 ghost use Rattle.std.specs.List.{flat_map};
-ghost use Rattle.wasm_grammar.specs.Modules.{Module};
+ghost use Rattle.wasm_body_grammar.specs.wasm_grammar.Modules.{Module};
 ghost use Rattle.wasm_name_payloads.specs.Names.{names_if, names_of};
 ghost use Rattle.wasm_name_payloads.specs.Producers as file;
 ghost use Rattle.walrus_index_maps.specs.Views.{ids};
 ghost use Rattle.walrus_payload_readers.specs.Bearers.{given_of};
-ghost use Rattle.walrus_names_into.specs.Numbered.{IsNumbered};
+ghost use Rattle.walrus_payloads_into.specs.Numbered.{IsNumbered};
 ghost use Rattle.walrus_customs.specs.Producers.{fields_of};
 ghost use Rattle.walrus_payloads_into.specs.Customs.{customs_of, AreCustoms};
 
+use crate::names::read_section_names;
+use crate::producers::{producers_of, read_fields};
 use std::alloc::{AllocError, Global};
 use walrus_customs::{ModuleProducers, ProducerField};
 use walrus_index_maps::IndicesToIds;
 use walrus_known_sections::Custom;
-use walrus_names_into::read_section_names;
 use walrus_payload_readers::Given;
-use walrus_producers_into::{producers_of, read_fields};
 
 // The names of all sections `name`.
 fn read_names<'a>(

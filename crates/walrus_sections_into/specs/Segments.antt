@@ -1,5 +1,5 @@
 -- Data segments, as they were read and in a module.
-use Rattle.std.specs.Prelude.{◌≡◌, Some}
+use Rattle.std.specs.Prelude.{◌≡◌, Some, None}
 use Rattle.wasm_immediates.specs.Items.{Memories}
 use Rattle.walrus_instr.specs.Constants.{ops_of}
 use Rattle.walrus_pairing.specs.Looks.{Look}
@@ -21,3 +21,4 @@ ModeBecomes look _ _ = ⊥
 pub record IsSegmentOf (look : Look) (read : ReadData) (d : Data) : Type 0 where
   pub mode : ModeBecomes look read.mode d.kind
   pub bytes : d.value.items ≡ read.bytes.now
+  pub no_name : d.name ≡ None

@@ -65,5 +65,6 @@ module _ {X Y : Type 0} (R : X → Y → Type 0) where
 -- ---- the spaces
 
 -- the memory means what was read of it
-abbrev pub IsMemoryOf : ReadMemory → Memory → Type 0
-IsMemoryOf m y = own_memory y ≡ memory_of m
+pub record IsMemoryOf (m : ReadMemory) (y : Memory) : Type 0 where
+  pub meant : own_memory y ≡ memory_of m
+  pub no_name : y.name ≡ None

@@ -1,5 +1,5 @@
 -- Tags, as they were read and in a module.
-use Rattle.std.specs.Prelude.{◌≡◌, Some}
+use Rattle.std.specs.Prelude.{◌≡◌, Some, None}
 use Rattle.wasm_immediates.specs.Items.{Types}
 use Rattle.walrus_pairing.specs.Looks.{Look}
 use Rattle.walrus_meaning.specs.walrus_linked.Linked.{tag_import}
@@ -10,3 +10,4 @@ use Rattle.walrus_known_sections.specs.declared.items.Tag.{Tag as ReadTag}
 pub record IsTagOf (look : Look) (read : ReadTag) (t : Tag) : Type 0 where
   pub ty : look Types read.ty ≡ Some t.ty
   pub import : tag_import t.kind ≡ read.import
+  pub no_name : t.name ≡ None

@@ -2,7 +2,7 @@ use Rattle.std.proofs.Common.{string_bytes, arith}
 use Rattle.wasm_formats.specs.declared.fault.Space.TheVariants as spaces
 use Rattle.wasm_name_payloads.specs.Names.{ALocal, item_in}
 use Rattle.walrus_index_maps.specs.Views.{ids}
-use Rattle.walrus_names_into.specs.Numbered.{locals_in}
+use Rattle.walrus_payloads_into.specs.Numbered.{locals_in}
 use Rattle.walrus_item_names.specs.Holder.{holder}
 use Rattle.walrus_item_names.specs.Synthetic.{local_text, local_names}
 use Rattle.walrus_item_names.specs.Targets.{target_bearer}

@@ -1,7 +1,7 @@
 use Rattle.std.proofs.Common.{◌≤◌, ◌-◌, false, length}
 use Rattle.walrus_index_maps.specs.Views.{ids}
 use Rattle.walrus_item_names.specs.Holder.{holder}
-use Rattle.walrus_names_into.specs.Numbered.{locals_in}
+use Rattle.walrus_payloads_into.specs.Numbered.{locals_in}
 use Rattle.walrus_item_names.specs.Sent.{sent_names}
 use Rattle.walrus_item_names.specs.Gives.{GivesNames}
 use Rattle.walrus_item_names.specs.Synthetic.{each_below, local_names}

@@ -2,8 +2,8 @@ use Rattle.std.proofs.Common.{inl, inr, length, refl, ⊎_elim}
 use Rattle.std.proofs.lemmas.Result.{err_from_is_err_and}
 use Rattle.walrus_index_maps.specs.Views.{ids}
 use Rattle.walrus_handler_types.proofs.Growing.{given_types_grow}
-use Rattle.walrus_bodies_into.specs.walrus_handler_types.walrus_tree.walrus_builder.Built.{contents}
-use Rattle.walrus_bodies_into.specs.walrus_module_env.Env.{tag_type_at}
+use Rattle.walrus_body_parser.specs.walrus_body_stack.walrus_builder.Built.{contents}
+use Rattle.walrus_module_env.specs.Env.{tag_type_at}
 use Rattle.walrus_module_bodies.proofs.ReadingLemmas.{gives_handlers, handled_read, many_handlers}
 use Rattle.walrus_module_bodies.proofs.handled.read_handled.Goals as goal
 

@@ -1,2 +1,0 @@
-mod FirstLemmas
-mod HandledLemmas

@@ -1,5 +1,0 @@
-use Rattle.walrus_bodies_into.proofs.FirstLemmas as first
-use Rattle.walrus_bodies_into.proofs.laws.first_types_stay.Goals as goal
-
-pub returns : goal.returns
-returns c = first.first_types_stay

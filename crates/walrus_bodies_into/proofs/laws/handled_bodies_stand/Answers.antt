@@ -1,5 +1,0 @@
-use Rattle.walrus_bodies_into.proofs.HandledLemmas as handled
-use Rattle.walrus_bodies_into.proofs.laws.handled_bodies_stand.Goals as goal
-
-pub returns : goal.returns
-returns c = handled.handled_bodies_stand c.handlers_stand.ensures c.trees_tell.ensures

@@ -1,5 +1,0 @@
-use Rattle.walrus_group_laws.proofs.DeclaredLemmas.{read_types_are_declared}
-use Rattle.walrus_group_laws.proofs.read_types_are_declared.Goals as goal
-
-pub returns : goal.returns
-returns c = read_types_are_declared

@@ -1,4 +1,0 @@
-pub mod Groups
--- Passed on to crates above, which then list this one alone.
-pub use Rattle.walrus_meaning.specs as walrus_meaning
-pub use Rattle.walrus_types_into.specs as walrus_types_into

@@ -1,4 +1,0 @@
-//! Laws of what a module in memory means.
-#![tactic(auto)]
-
-pub mod laws;

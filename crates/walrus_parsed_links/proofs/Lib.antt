@@ -1,3 +1,0 @@
-pub mod SlotLemmas
-mod BroughtLemmas
-pub mod LinkLemmas

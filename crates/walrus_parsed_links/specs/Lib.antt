@@ -1,3 +1,0 @@
-pub mod Links
--- Passed on to crates above, which then list this one alone.
-pub use Rattle.walrus_parsed_items.specs as walrus_parsed_items

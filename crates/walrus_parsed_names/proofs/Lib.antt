@@ -1,5 +1,0 @@
-pub mod ListLemmas
-mod ConstLemmas
-pub mod ValueLemmas
-pub mod TypeLemmas
-mod ItemLemmas

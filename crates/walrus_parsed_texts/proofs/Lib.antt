@@ -1,3 +1,0 @@
-mod NamingLemmas
-mod StepLemmas
-mod TextLemmas

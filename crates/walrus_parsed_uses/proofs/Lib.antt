@@ -1,5 +1,0 @@
-mod NormalLemmas
-mod RuleLemmas
-pub mod UseLemmas
-mod KindLemmas
-mod IndexLemmas
