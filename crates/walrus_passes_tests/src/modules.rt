@@ -5,7 +5,7 @@ use walrus_arena::{
     ExportId, FunctionId, GlobalId, Id, ImportId, InstrSeqId, TableId, TypeId,
     UntypedCustomSectionId,
 };
-use walrus_builder::FunctionBuilder;
+use walrus_builder::{FunctionBuilder, check_nesting};
 use walrus_config::ModuleConfig;
 use walrus_errors::{Form, ModuleError, Space};
 use walrus_forms::{FieldType, HeapType, RefType, StorageType, ValType};
@@ -14,7 +14,7 @@ use walrus_local_function::LocalFunction;
 use walrus_module::Module;
 use walrus_module::collections::Collection;
 use walrus_module_items::{ElementItems, ElementKind, FunctionKind};
-use walrus_passes::gc;
+use walrus_passes::{Used, gc};
 
 /// A step by which a module is made or changed. Numbers are those of ids.
 #[derive(Clone, Copy)]
@@ -59,7 +59,11 @@ pub(crate) enum Step {
     /// The function is to be used, or not.
     Used(usize),
     Unused(usize),
-    /// A gc, which answers this: 0 for `Ok`, 1 for `NotLinked`, 2 for `NoTree`, 3 for a dead function, 4 for a dead type,
+    /// The import `mod`, `dummy` is to be found by its names and by its function.
+    Found(usize),
+    /// The body is not to be nested.
+    NotNested(usize),
+    /// A gc, and what is used before it, which both answer this: 0 for `Ok`, 1 for `NotLinked`, 2 for `NoTree`, 3 for a dead function, 4 for a dead type,
     /// 5 for a shared global, 6 for an exact type, 7 for a section that refuses.
     Gc(usize),
 }
@@ -200,9 +204,29 @@ fn answer(refusal: Option<ModuleError>) -> usize {
     }
 }
 
-/// Whether a gc answers what this number says.
+/// Whether `Used::new` and then a gc answer what this number says.
 pub(crate) fn answers(alloc: Global, module: &mut Module, wanted: usize) -> bool {
-    answer(gc::run(alloc, module).err()) == wanted
+    answer(Used::new(alloc, module).err()) == wanted
+        && answer(gc::run(alloc, module).err()) == wanted
+}
+
+// Whether the import is found by its names, as one of this function, and by the function.
+fn finds(module: &Module, function: FunctionId) -> bool {
+    module.imports.get_func("mod", "dummy") == Ok(function)
+        && module.imports.get_imported_func(function).is_some()
+}
+
+// Whether the function has a body that isn't nested.
+fn is_not_nested(alloc: Global, module: &Module, function: FunctionId) -> Result<bool, AllocError> {
+    if !module.funcs.contains(function) {
+        return Ok(false);
+    }
+    match &module.funcs.get(function).kind {
+        FunctionKind::Local(local) => {
+            Ok(!check_nesting(alloc, local.builder(), local.entry_block())?)
+        }
+        FunctionKind::Import(_) | FunctionKind::Uninitialized(_) => Ok(false),
+    }
 }
 
 fn function(index: usize) -> FunctionId {
@@ -294,6 +318,8 @@ fn take(alloc: Global, module: &mut Module, step: Step) -> Result<bool, AllocErr
         Step::Gc(wanted) => return Ok(answers(alloc, module, wanted)),
         Step::Used(index) => return Ok(uses(alloc, module, function(index))),
         Step::Unused(index) => return Ok(!uses(alloc, module, function(index))),
+        Step::Found(index) => return Ok(finds(module, function(index))),
+        Step::NotNested(index) => return is_not_nested(alloc, module, function(index)),
         Step::Uninitialize(function) => uninitialize(module, function),
         Step::Call { caller, .. } => put_in(module, caller, step)?,
         Step::Return(function) | Step::Nest(function) | Step::Stray(function) => {
