@@ -4,6 +4,7 @@ pub mod Nexts
 pub mod Doing
 pub mod Outputs
 pub mod Refusals
+pub mod Appended
 pub mod Emitting
 pub mod Visiting
 -- Passed on to crates above, which then list this one alone.

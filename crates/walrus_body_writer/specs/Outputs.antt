@@ -1,5 +1,5 @@
 -- What is written behind what was written.
-use Rattle.std.specs.Prelude.{◌≡◌, List, [], ◌∷◌, ◌++◌, length, Option, Some, None, Result, Ok, Err, ◌⊎◌, if◌then◌else◌}
+use Rattle.std.specs.Prelude.{◌≡◌, ℕ, take, List, [], ◌∷◌, ◌++◌, length, Option, Some, None, Result, Ok, Err, ◌⊎◌, if◌then◌else◌}
 use Rattle.walrus_instr.specs.declared.seq.InstrLocId.{InstrLocId}
 use Rattle.walrus_instr.specs.declared.seq.InstrSeq.{InstrSeq}
 use Rattle.wasm_operators.specs.Operators.{Seen}
@@ -15,6 +15,23 @@ pub record Puts (op : Seen) (place : InstrLocId) (old new : Output) : Type 0 whe
   pub bytes : new.bytes.items ≡ old.bytes.items ++ operator_bytes op
   pub places : new.places.items ≡ (if old.keeps_places then old.places.items ++ (place, length old.bytes.items) ∷ [] else old.places.items)
   pub keeps : new.keeps_places ≡ old.keeps_places
+
+-- an operator that begins there has its place, where places are kept
+pub record IsNoted (place : InstrLocId) (at : ℕ) (old new : Output) : Type 0 where
+  pub bytes : new.bytes.items ≡ old.bytes.items
+  pub places : new.places.items ≡ (if old.keeps_places then old.places.items ++ (place, at) ∷ [] else old.places.items)
+  pub keeps : new.keeps_places ≡ old.keeps_places
+
+-- the bytes from there on were cut off
+pub record IsCut (at : ℕ) (old new : Output) : Type 0 where
+  pub bytes : new.bytes.items ≡ take at old.bytes.items
+  pub places : new.places.items ≡ old.places.items
+  pub keeps : new.keeps_places ≡ old.keeps_places
+
+-- either of these; memory was wanted then
+abbrev pub IsEnded : InstrLocId → ℕ → Output → Output → Result (Unit {0}) PairError → Type 0
+IsEnded place at old new (Ok _) = IsNoted place at old new
+IsEnded place at old new (Err e) = (e ≡ errors.Memory) × IsCut at old new
 
 -- what is written was put there
 abbrev pub PutsIf : Or (Option Seen) → InstrLocId → Output → Output → Type 0

@@ -11,10 +11,11 @@ ghost use Rattle.walrus_body_writer.specs.Doing.{label_by, piece_of};
 ghost use Rattle.walrus_body_writer.specs.Spelled.{written, written_instr};
 ghost use Rattle.walrus_body_writer.specs.Emitting.{GoesOff, GoesOn, IsDone, Writes, state};
 ghost use Rattle.walrus_body_writer.specs.Numbers.{look_of};
-ghost use Rattle.walrus_body_writer.specs.Outputs.{IsPut, Wrote};
+ghost use Rattle.walrus_body_writer.specs.Outputs.{IsEnded, IsPut, Wrote};
 ghost use Rattle.walrus_body_writer.specs.Refusals.{IsLarge, IsRefusal, LeavesOff, value_in};
 
 use crate::depths::Depths;
+use crate::frequent::append_frequent;
 use crate::numbers::{Numbers, Written};
 use crate::operators::{closer_of, written_of};
 use crate::output::Output;
@@ -45,10 +46,19 @@ fn put(out: &mut Output, operator: Written, place: InstrLocId) -> Result<(), Pai
     }
 }
 
-// Writes an instruction, where these sequences are open.
-#[inline]
+// Ends the operator whose bytes begin there.
+#[inline(always)]
+fn end_at(out: &mut Output, place: InstrLocId, at: usize) -> Result<(), PairError>
+    ensures { IsEnded place at out.old out.new result }
+{
+    out.end(place, at)?;
+    Ok(())
+}
+
+// Writes an instruction, where these sequences are open. It isn't inlined: the operator is large, and mostly there is none.
+#[inline(never)]
 #[tactic(auto, using(crate::proofs::Refused::done))]
-fn write_one(
+fn write_any(
     alloc: Global,
     numbers: &Numbers<'_>,
     seqs: &[InstrSeq],
@@ -61,6 +71,30 @@ fn write_one(
 {
     let operator = written_of(alloc, numbers, seqs, depths, instr);
     put(out, operator, place)
+}
+
+// The same, for one that holds no sequence: frequent ones straight.
+#[inline(always)]
+fn write_one(
+    alloc: Global,
+    numbers: &Numbers<'_>,
+    seqs: &[InstrSeq],
+    depths: &Depths,
+    instr: &Instr,
+    place: InstrLocId,
+    out: &mut Output,
+) -> Result<(), PairError>
+    ensures { IsDone (IsLarge (look_of numbers.now) (value_in seqs.now instr.now)) (written_instr (look_of numbers.now) seqs.now (label_by depths.now.depths.items depths.now.height) instr.now) place out.old out.new result }
+{
+    let at = out.bytes.len();
+    match append_frequent(numbers, depths, instr, &mut out.bytes) {
+        Ok(true) => end_at(out, place, at),
+        Ok(false) => write_any(alloc, numbers, seqs, depths, instr, place, out),
+        Err(error) => {
+            out.bytes.truncate(at);
+            Err(error)
+        }
+    }
 }
 
 // Writes the instruction at a position of an open sequence.
@@ -81,7 +115,7 @@ fn write_instr(
     let Some((instr, place)) = item_at(seq, at) else {
         return Ok(());
     };
-    write_one(alloc, numbers, seqs, depths, instr, *place, out)
+    write_any(alloc, numbers, seqs, depths, instr, *place, out)
 }
 
 // Writes what stands behind a sequence.

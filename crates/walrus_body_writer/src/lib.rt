@@ -3,6 +3,7 @@
 
 mod depths;
 mod emit;
+mod frequent;
 mod numbers;
 mod operators;
 mod output;

@@ -2,7 +2,7 @@
 
 ghost use Rattle.std.specs.Prelude.{◌≡◌, ◌++◌, [], ◌∷◌, OnErr, OnOk, if◌then◌else◌};
 ghost use Rattle.walrus_pairing.specs.walrus_operators.Operators.{seen};
-ghost use Rattle.walrus_body_writer.specs.Outputs.{IsSame, Puts};
+ghost use Rattle.walrus_body_writer.specs.Outputs.{IsCut, IsNoted, IsSame, Puts};
 
 use std::alloc::{AllocError, Global};
 use walrus_instr::InstrLocId;
@@ -47,6 +47,23 @@ impl Output {
         Ok(())
     }
 
+    /// The bytes behind this place are an operator: notes it, or cuts them off.
+    ///
+    /// # Errors
+    ///
+    /// Want of memory.
+    #[inline]
+    pub(crate) fn end(&mut self, place: InstrLocId, at: usize) -> Result<(), AllocError>
+        ensures noted { OnOk result (IsNoted place at self.old self.new) }
+        ensures cut { OnErr result (IsCut at self.old self.new) }
+    {
+        if let Err(refused) = self.note(place, at) {
+            self.bytes.truncate(at);
+            return Err(refused);
+        }
+        Ok(())
+    }
+
     /// Puts an operator behind what was written, in its shortest spelling.
     ///
     /// # Errors
@@ -58,10 +75,6 @@ impl Output {
     {
         let at = self.bytes.len();
         write_operator(&mut self.bytes, operator)?;
-        if let Err(refused) = self.note(place, at) {
-            self.bytes.truncate(at);
-            return Err(refused);
-        }
-        Ok(())
+        self.end(place, at)
     }
 }

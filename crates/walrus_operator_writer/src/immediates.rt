@@ -14,8 +14,13 @@ use walrus_operators::Immediates;
 use wasm_immediates::{Clause, MemoryAccess};
 use wasm_ref_types::ValType;
 
-// An index, or another u32.
-fn write_index(out: &mut Vec<u8>, n: u32) -> Result<(), AllocError>
+/// Puts an index, or another u32, behind the bytes, in its shortest spelling.
+///
+/// # Errors
+///
+/// Want of memory. What was there stands at the front, here and below.
+#[inline]
+pub fn write_index(out: &mut Vec<u8>, n: u32) -> Result<(), AllocError>
     ensures { Appends (unsigned_bytes n) out.old.items out.new.items result }
 {
     write_unsigned(out, u64::from(n))
@@ -30,9 +35,14 @@ fn write_two(out: &mut Vec<u8>, first: u32, second: u32) -> Result<(), AllocErro
     write_index(out, second)
 }
 
-// The memory's index stands only where it isn't 0.
+/// Puts an access to memory behind the bytes, in its shortest spelling: the memory's index stands only where it isn't 0.
+///
+/// # Errors
+///
+/// Want of memory.
+#[inline]
 #[tactic(auto, using(crate::proofs::Appends::appends_on, crate::proofs::Keeps::keeps_on, std::proofs::lemmas::List::append_assoc))]
-fn write_access(out: &mut Vec<u8>, access: MemoryAccess) -> Result<(), AllocError>
+pub fn write_access(out: &mut Vec<u8>, access: MemoryAccess) -> Result<(), AllocError>
     ensures { Appends (access_bytes access) out.old.items out.new.items result }
 {
     if access.memory == 0 {

@@ -19,8 +19,13 @@ fn write_prefixed(out: &mut Vec<u8>, prefix: u8, number: u32) -> Result<(), Allo
     write_unsigned(out, u64::from(number))
 }
 
-#[inline]
-fn write_code(out: &mut Vec<u8>, code: OpCode) -> Result<(), AllocError>
+/// Puts an operator's code behind the bytes, in its shortest spelling.
+///
+/// # Errors
+///
+/// Want of memory. What was there stands at the front.
+#[inline(always)]
+pub fn write_code(out: &mut Vec<u8>, code: OpCode) -> Result<(), AllocError>
     ensures { Appends (code_bytes code) out.old.items out.new.items result }
 {
     if code.prefix == 0 {

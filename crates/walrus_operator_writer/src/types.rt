@@ -88,7 +88,12 @@ pub fn write_value_type(out: &mut Vec<u8>, ty: ValType) -> Result<(), AllocError
     write_byte(out, code)
 }
 
-pub(crate) fn write_block_type(out: &mut Vec<u8>, ty: BlockType) -> Result<(), AllocError>
+/// Puts the type of a block behind the bytes, in its shortest spelling.
+///
+/// # Errors
+///
+/// Want of memory. What was there stands at the front.
+pub fn write_block_type(out: &mut Vec<u8>, ty: BlockType) -> Result<(), AllocError>
     ensures { Appends (block_bytes ty) out.old.items out.new.items result }
 {
     match ty {
