@@ -99,6 +99,7 @@ impl TextVisitor for Facts {
 
     ghost same = { λ old new. IsAsBefore old new };
 
+    #[inline(always)]
     fn instr(&mut self, instr: &Instr, _place: InstrLocId) -> Result<(), AllocError> {
         let Some(size) = self.size.checked_add(1) else {
             return Err(AllocError);

@@ -14,6 +14,7 @@ use walrus_body_writer::{Closer, TextVisitor, visit_text};
 use walrus_builder::FunctionBuilder;
 use walrus_instr::{Instr, InstrLocId};
 
+#[inline(always)]
 pub(crate) fn segment_of(instr: &Instr) -> Option<DataId>
     ensures { option_to_list result ≡ segment_in instr.now }
 {
@@ -26,6 +27,7 @@ pub(crate) fn segment_of(instr: &Instr) -> Option<DataId>
     }
 }
 
+#[inline(always)]
 pub(crate) fn local_of(instr: &Instr) -> Option<LocalId>
     ensures { option_to_list result ≡ local_in instr.now }
 {
