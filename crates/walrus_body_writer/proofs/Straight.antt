@@ -1,7 +1,7 @@
 -- Frequent instructions are written straight.
-use Rattle.std.proofs.Common.{ℕ, subst, ◌≡◌, List, [], ◌∷◌, ◌++◌, Option, Some, None, Ok, Err, refl, sym, ap, ◌∙◌, length, take, if◌then◌else◌}
-use Rattle.std.proofs.lemmas.List.{append-nil, append_assoc, take_at}
-use Rattle.std.specs.Prelude.{Bool, Result, true, false}
+use Rattle.std.proofs.Common.{ℕ, subst, ◌≡◌, List, [], ◌∷◌, ◌++◌, Option, Some, None, Ok, Err, refl, sym, ap, ◌∙◌, length, if◌then◌else◌}
+use Rattle.std.proofs.lemmas.List.{append-nil}
+use Rattle.std.specs.Prelude.{Bool, Result, true}
 use Rattle.std.specs.declared.alloc.AllocError.{AllocError}
 use Rattle.std.specs.declared.alloc.Global.{Global}
 use Rattle.std.specs.declared.vec.Vec.{Vec}
@@ -36,7 +36,7 @@ use Rattle.walrus_instr.specs.declared.operators.UnaryOp.{UnaryOp}
 use Rattle.walrus_body_writer.specs.declared.output.Output.{Output}
 use Rattle.walrus_body_writer.specs.Appended.{IsAppended, IsBehind, named}
 use Rattle.walrus_body_writer.specs.Emitting.{IsDone}
-use Rattle.walrus_body_writer.specs.Outputs.{IsCut, IsEnded, IsNoted, IsSame, PutsIf}
+use Rattle.walrus_body_writer.specs.Outputs.{IsCut, IsEnded, IsNoted, IsSame}
 use Rattle.walrus_body_writer.specs.Refusals.{Gives, IsLarge, value_in}
 use Rattle.walrus_body_writer.specs.Spelled.{written_instr}
 

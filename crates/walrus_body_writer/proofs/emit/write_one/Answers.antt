@@ -1,4 +1,4 @@
-use Rattle.std.proofs.Common.{◌≡◌, ◌∙◌, List, Ok, Err, refl, subst}
+use Rattle.std.proofs.Common.{◌∙◌, Ok, refl, subst}
 use Rattle.std.specs.Prelude.{Bool}
 use Rattle.walrus_body_writer.specs.Appended.{IsAppended}
 use Rattle.walrus_body_writer.specs.Doing.{label_by}

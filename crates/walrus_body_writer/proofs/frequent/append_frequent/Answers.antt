@@ -1,10 +1,9 @@
-use Rattle.std.proofs.Common.{ℕ, ap, sym, refl, ◌∙◌, List}
-use Rattle.wasm_immediates.specs.Items.{Functions, Globals, Labels, Locals, Names, Item}
+use Rattle.std.proofs.Common.{ℕ, ap, sym, refl, ◌∙◌}
+use Rattle.wasm_immediates.specs.Items.{Functions, Globals, Labels, Locals, Names}
 use Rattle.std.specs.Prelude.{[], ◌∷◌, None, Option}
 use Rattle.wasm_operators.specs.declared.op_code.OpCode.{OpCode}
-use Rattle.walrus_pairing.specs.walrus_operator_codes.Binary.{binary_code, binary_lane}
-use Rattle.walrus_pairing.specs.walrus_operator_codes.Runs.{byte}
-use Rattle.walrus_pairing.specs.walrus_operator_codes.Unary.{unary_code, unary_lane}
+use Rattle.walrus_pairing.specs.walrus_operator_codes.Binary.{binary_lane}
+use Rattle.walrus_pairing.specs.walrus_operator_codes.Unary.{unary_lane}
 use Rattle.walrus_pairing.specs.Write.{access, lane_items, one, op}
 use Rattle.walrus_body_writer.specs.Doing.{label_by}
 use Rattle.walrus_body_writer.specs.Numbers.{look_of}
