@@ -1,11 +1,11 @@
 -- Frequent instructions are written straight.
-use Rattle.std.proofs.Common.{ℕ, subst, ◌≡◌, List, [], ◌∷◌, ◌++◌, Option, Some, None, Ok, Err, refl, sym, ap, ◌∙◌, length, if◌then◌else◌}
+use Rattle.std.proofs.Common.{ℕ, subst, ◌≡◌, List, [], ◌∷◌, ◌++◌, Option, Some, None, Ok, Err, refl, sym, ap, ◌∙◌, inl, inr, length, if◌then◌else◌}
 use Rattle.std.proofs.lemmas.List.{append-nil}
-use Rattle.std.specs.Prelude.{Bool, Result, true}
+use Rattle.std.specs.Prelude.{Bool, Result, true, slice_get}
 use Rattle.std.specs.declared.alloc.AllocError.{AllocError}
 use Rattle.std.specs.declared.alloc.Global.{Global}
 use Rattle.std.specs.declared.vec.Vec.{Vec}
-use Rattle.wasm_immediates.specs.Items.{Access, Item, Locals, Functions, Globals, Memories, Names, Space}
+use Rattle.wasm_immediates.specs.Items.{Access, Block, Item, Locals, Functions, Globals, Memories, Names, Space}
 use Rattle.wasm_operators.specs.declared.op_code.OpCode.{OpCode}
 use Rattle.wasm_operators.specs.Operators.{Seen}
 use Rattle.walrus_operator_writer.specs.Appended.{Appends, Keeps}
@@ -17,6 +17,8 @@ use Rattle.walrus_instr.specs.declared.instr.Instr.TheVariants as instrs
 use Rattle.walrus_access_codes.specs.walrus_instr.declared.instr.Value.{Value}
 use Rattle.walrus_instr.specs.declared.seq.InstrLocId.{InstrLocId}
 use Rattle.walrus_instr.specs.declared.seq.InstrSeq.{InstrSeq}
+use Rattle.walrus_instr.specs.declared.seq.InstrSeqType.{InstrSeqType}
+use Rattle.wasm_immediates.specs.declared.block_type.BlockType.{BlockType}
 use Rattle.walrus_instr.specs.walrus_forms.declared.value.ValType.{ValType}
 use Rattle.walrus_access_codes.specs.walrus_instr.declared.memory.MemArg.{MemArg}
 use Rattle.walrus_access_codes.specs.walrus_instr.declared.memory.LoadKind.{LoadKind}
@@ -27,7 +29,7 @@ use Rattle.walrus_index_maps.specs.declared.space.Space.{Space as Named}
 use Rattle.walrus_index_maps.specs.declared.space.Space.TheVariants as spaces
 use Rattle.walrus_pairing.specs.declared.error.PairError.{PairError}
 use Rattle.walrus_pairing.specs.declared.error.PairError.TheVariants as errors
-use Rattle.walrus_pairing.specs.Looks.{Look, Or, word}
+use Rattle.walrus_pairing.specs.Looks.{Look, Or, ◌>>=◌, word}
 use Rattle.walrus_pairing.specs.Write.{access, access_of, constant, either, lane_items, one, op, operator_at, seen_of}
 use Rattle.walrus_pairing.specs.walrus_operator_codes.Binary.{binary_code, binary_lane}
 use Rattle.walrus_pairing.specs.walrus_operator_codes.Unary.{unary_code, unary_lane}
@@ -37,8 +39,8 @@ use Rattle.walrus_body_writer.specs.declared.output.Output.{Output}
 use Rattle.walrus_body_writer.specs.Appended.{IsAppended, IsBehind, named}
 use Rattle.walrus_body_writer.specs.Emitting.{IsDone}
 use Rattle.walrus_body_writer.specs.Outputs.{IsCut, IsEnded, IsNoted, IsSame}
-use Rattle.walrus_body_writer.specs.Refusals.{Gives, IsLarge, value_in}
-use Rattle.walrus_body_writer.specs.Spelled.{written_instr}
+use Rattle.walrus_body_writer.specs.Refusals.{Gives, IsLarge, value_in, value_of}
+use Rattle.walrus_body_writer.specs.Spelled.{block, opening, type_in, written_instr}
 
 -- ---- one operator
 
@@ -79,6 +81,34 @@ pub is_access : (look : Look) (code : OpCode) (memory n : ℕ) (arg : MemArg) (o
 is_access look code memory n arg old new e h =
     let F : Option ℕ → Type 0 = λ z. IsAppended ⊥ (access (λ space k. z) code memory arg None) old new (Ok true) in
     subst F (sym e) h
+
+-- the beginning of a block: of a type that has its numbers, or none
+bound : {A B : Type 0} (large : Type 0) (x : Or A) (f : A → Or B) (e : PairError) → Gives large x (Err e) → Gives large (x >>= f) (Err e)
+bound large x f (errors.Unknown s) h = ap (λ z. z >>= f) h
+bound large x f errors.SharedType h = ap (λ z. z >>= f) h
+bound large x f errors.ContinuationType h = ap (λ z. z >>= f) h
+bound large x f errors.Select h = ap (λ z. z >>= f) h
+bound large x f errors.Alignment h = ap (λ z. z >>= f) h
+bound {A} {B} large x f errors.TypeIndex h = elim h as (λ _. Gives large (x >>= f) (Err errors.TypeIndex)) [ inl i ↦ inl i | inr i ↦ inr (ap (λ z. z >>= f) i) ]
+bound large x f errors.Memory h = tt
+
+abbrev pub begins : ℕ → BlockType → Or (Option Seen)
+begins code ty = op (byte code) (Block ty ∷ [])
+
+pub opened : (look : Look) (b : List InstrSeq) (code k : ℕ) (of : InstrSeqType) (ty : BlockType) (old new : Vec ℕ Global)
+    → of ≡ type_in (slice_get b k) → Ok ty ≡ block look of → new.items ≡ old.items ++ operator_bytes (seen_of (byte code) (Block ty ∷ []))
+    → IsAppended (IsLarge look (value_of (type_in (slice_get b k)))) (opening look b code k) old new (Ok true)
+opened look b code k of ty old new is e h =
+    let F : InstrSeqType → Type 0 = λ z. IsAppended (IsLarge look (value_of z)) (block look z >>= begins code) old new (Ok true) in
+    let G : Or BlockType → Type 0 = λ z. IsAppended (IsLarge look (value_of of)) (z >>= begins code) old new (Ok true) in
+    subst F is (subst G e h)
+
+pub unopened : (look : Look) (b : List InstrSeq) (code k : ℕ) (of : InstrSeqType) (e : PairError) (old new : Vec ℕ Global)
+    → of ≡ type_in (slice_get b k) → Gives (IsLarge look (value_of of)) (block look of) (Err e) → new ≡ old
+    → IsAppended (IsLarge look (value_of (type_in (slice_get b k)))) (opening look b code k) old new (Err e)
+unopened look b code k of e old new is h same =
+    let F : InstrSeqType → Type 0 = λ z. IsAppended (IsLarge look (value_of z)) (block look z >>= begins code) old new (Err e) in
+    subst F is (bound (IsLarge look (value_of of)) (block look of) (begins code) e h, keeps_all old.items new.items (ap (λ (z : Vec ℕ Global). z.items) same))
 
 -- ---- one instruction
 

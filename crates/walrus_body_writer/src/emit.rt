@@ -15,7 +15,7 @@ ghost use Rattle.walrus_body_writer.specs.Outputs.{IsEnded, IsPut, Wrote};
 ghost use Rattle.walrus_body_writer.specs.Refusals.{IsLarge, IsRefusal, LeavesOff, value_in};
 
 use crate::depths::Depths;
-use crate::frequent::append_frequent;
+use crate::frequent::{append_end, append_frequent, append_holder};
 use crate::numbers::{Numbers, Written};
 use crate::operators::{closer_of, written_of};
 use crate::output::Output;
@@ -97,6 +97,30 @@ fn write_one(
     }
 }
 
+// The same, for one that may hold sequences.
+#[inline(always)]
+fn write_holder(
+    alloc: Global,
+    numbers: &Numbers<'_>,
+    seqs: &[InstrSeq],
+    depths: &Depths,
+    instr: &Instr,
+    place: InstrLocId,
+    out: &mut Output,
+) -> Result<(), PairError>
+    ensures { IsDone (IsLarge (look_of numbers.now) (value_in seqs.now instr.now)) (written_instr (look_of numbers.now) seqs.now (label_by depths.now.depths.items depths.now.height) instr.now) place out.old out.new result }
+{
+    let at = out.bytes.len();
+    match append_holder(numbers, seqs, instr, &mut out.bytes) {
+        Ok(true) => end_at(out, place, at),
+        Ok(false) => write_any(alloc, numbers, seqs, depths, instr, place, out),
+        Err(error) => {
+            out.bytes.truncate(at);
+            Err(error)
+        }
+    }
+}
+
 // Writes the instruction at a position of an open sequence.
 fn write_instr(
     alloc: Global,
@@ -115,11 +139,12 @@ fn write_instr(
     let Some((instr, place)) = item_at(seq, at) else {
         return Ok(());
     };
-    write_any(alloc, numbers, seqs, depths, instr, *place, out)
+    write_holder(alloc, numbers, seqs, depths, instr, *place, out)
 }
 
 // Writes what stands behind a sequence.
-fn write_end(
+#[inline(never)]
+fn write_any_end(
     numbers: &Numbers<'_>,
     closer: Closer,
     place: InstrLocId,
@@ -129,6 +154,27 @@ fn write_end(
 {
     let operator = closer_of(numbers, closer);
     put(out, operator, place)
+}
+
+// The same, most often straight.
+fn write_end(
+    numbers: &Numbers<'_>,
+    closer: Closer,
+    place: InstrLocId,
+    out: &mut Output,
+) -> Result<(), PairError>
+    ensures { (b : List InstrSeq) → IsDone ⊥ (written (look_of numbers.now) b (piece_of closer)) place out.old out.new result }
+{
+    let at = out.bytes.len();
+    let any = closer;
+    match append_end(closer, &mut out.bytes) {
+        Ok(true) => end_at(out, place, at),
+        Ok(false) => write_any_end(numbers, any, place, out),
+        Err(error) => {
+            out.bytes.truncate(at);
+            Err(error)
+        }
+    }
 }
 
 // Writes what stands where the list has come to.

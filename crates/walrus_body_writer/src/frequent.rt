@@ -1,34 +1,37 @@
 //! Frequent instructions are written straight behind the bytes, with no operator between.
 
-ghost use Rattle.std.specs.Prelude.{◌≡◌, [], ◌∷◌, List, None};
-ghost use Rattle.wasm_immediates.specs.Items.{Space as Of, Access, Bits, Byte, Functions, Globals, Labels, Locals, Names, Number, S32, S64};
+ghost use Rattle.std.specs.Prelude.{◌≡◌, ℕ, [], ◌∷◌, List, None, slice_get};
+ghost use Rattle.wasm_immediates.specs.Items.{Space as Of, Access, Bits, Block, Byte, Functions, Globals, Labels, Locals, Names, Number, S32, S64};
 ghost use Rattle.walrus_operator_writer.specs.Appended.{Appends};
 ghost use Rattle.walrus_operator_writer.specs.wasm_operator_bytes.Bytes.{operator_bytes};
 ghost use Rattle.walrus_pairing.specs.walrus_operator_codes.Runs as codes;
-ghost use Rattle.walrus_pairing.specs.Looks.{word};
+ghost use Rattle.walrus_pairing.specs.Looks.{Look, word};
 ghost use Rattle.walrus_pairing.specs.Write.{access, access_of, constant, lane_items, log_of, one, op, seen_of};
 ghost use Rattle.walrus_body_writer.specs.Appended.{IsAppended, named};
-ghost use Rattle.walrus_body_writer.specs.Doing.{label_by};
+ghost use Rattle.walrus_body_writer.specs.Doing.{label_by, piece_of};
 ghost use Rattle.walrus_body_writer.specs.Numbers.{look_of};
-ghost use Rattle.walrus_body_writer.specs.Refusals.{IsLarge, value_in};
-ghost use Rattle.walrus_body_writer.specs.Spelled.{written_instr};
+ghost use Rattle.walrus_body_writer.specs.Refusals.{IsLarge, value_in, value_of};
+ghost use Rattle.walrus_body_writer.specs.Spelled.{opening, type_in, written, written_instr};
 
 use crate::depths::Depths;
 use crate::numbers::Numbers;
+use crate::operators::{block_type, type_of};
+use crate::todo::Closer;
 use std::alloc::AllocError;
 use walrus_access_codes::instr::{MemArg, Value};
 use walrus_access_codes::operator_codes::{
     byte, code_of_binary, code_of_unary, lane_of_binary, lane_of_unary,
 };
 use walrus_access_codes::{code_of_load, code_of_store};
-use walrus_arena::{FunctionId, GlobalId, LocalId, MemoryId};
+use walrus_arena::{FunctionId, GlobalId, InstrSeqId, LocalId, MemoryId};
 use walrus_index_maps::Space;
 use walrus_instr::{Instr, InstrSeq};
 use walrus_operator_writer::{
-    write_access, write_bits32, write_bits64, write_byte, write_code, write_index, write_signed,
+    write_access, write_bits32, write_bits64, write_block_type, write_byte, write_code,
+    write_index, write_signed,
 };
 use walrus_pairing::PairError;
-use wasm_immediates::MemoryAccess;
+use wasm_immediates::{BlockType, MemoryAccess};
 use wasm_operators::OpCode;
 
 // What puts one operator behind the bytes, or a part of it where memory is refused.
@@ -104,6 +107,15 @@ fn append_f64(bytes: &mut Vec<u8>, bits: u64) -> Done
 {
     write_code(bytes, byte(0x44))?;
     write_bits64(bytes, bits)
+}
+
+#[inline(always)]
+#[tactic(auto, using(crate::proofs::Straight::one_item))]
+fn append_block(bytes: &mut Vec<u8>, code: OpCode, ty: BlockType) -> Done
+    ensures { Appends (operator_bytes (seen_of code (Block ty ∷ []))) bytes.old.items bytes.new.items result }
+{
+    write_code(bytes, code)?;
+    write_block_type(bytes, ty)
 }
 
 // An operator with a name, if that has a number.
@@ -288,6 +300,74 @@ pub(crate) fn append_frequent(
         Instr::GlobalSet { global } => append_global(numbers, bytes, byte(0x24), *global),
         Instr::Br { block } => append_label(bytes, byte(0x0c), depths.label(*block)),
         Instr::BrIf { block } => append_label(bytes, byte(0x0d), depths.label(*block)),
+        _ => Ok(false),
+    }
+}
+
+// The beginning of a block, of the type of this sequence.
+#[inline(always)]
+#[tactic(auto, using(crate::proofs::Straight::opened, crate::proofs::Straight::unopened))]
+fn append_opening(
+    numbers: &Numbers<'_>,
+    seqs: &[InstrSeq],
+    bytes: &mut Vec<u8>,
+    code: u32,
+    id: InstrSeqId,
+) -> Result<bool, PairError>
+    ensures { IsAppended (IsLarge (look_of numbers.now) (value_of (type_in (slice_get seqs.now id)))) (opening (look_of numbers.now) seqs.now code id) bytes.old bytes.new result }
+{
+    match block_type(numbers, &type_of(seqs, id)) {
+        Ok(ty) => {
+            append_block(bytes, byte(code), ty)?;
+            Ok(true)
+        }
+        Err(error) => Err(error),
+    }
+}
+
+/// The same of an instruction that may hold sequences.
+///
+/// # Errors
+///
+/// Its type has no number, or one that is too great; or want of memory. What was there stands at the front.
+#[inline(always)]
+pub(crate) fn append_holder(
+    numbers: &Numbers<'_>,
+    seqs: &[InstrSeq],
+    instr: &Instr,
+    bytes: &mut Vec<u8>,
+) -> Result<bool, PairError>
+    ensures { (number : ℕ → ℕ) → IsAppended (IsLarge (look_of numbers.now) (value_in seqs.now instr.now)) (written_instr (look_of numbers.now) seqs.now number instr.now) bytes.old bytes.new result }
+{
+    match instr {
+        Instr::Block { seq } => append_opening(numbers, seqs, bytes, 0x02, *seq),
+        Instr::Loop { seq } => append_opening(numbers, seqs, bytes, 0x03, *seq),
+        Instr::IfElse { consequent, .. } => append_opening(numbers, seqs, bytes, 0x04, *consequent),
+        _ => Ok(false),
+    }
+}
+
+// An operator without immediates.
+#[inline(always)]
+fn append_plain(bytes: &mut Vec<u8>, code: OpCode) -> Result<bool, PairError>
+    ensures { IsAppended ⊥ (op code []) bytes.old bytes.new result }
+{
+    append_bare(bytes, code)?;
+    Ok(true)
+}
+
+/// The same of what stands behind a sequence.
+///
+/// # Errors
+///
+/// Want of memory. What was there stands at the front.
+#[inline(always)]
+pub(crate) fn append_end(closer: Closer, bytes: &mut Vec<u8>) -> Result<bool, PairError>
+    ensures { (look : Look) (b : List InstrSeq) → IsAppended ⊥ (written look b (piece_of closer)) bytes.old bytes.new result }
+{
+    match closer {
+        Closer::Else => append_plain(bytes, byte(0x05)),
+        Closer::End => append_plain(bytes, byte(0x0b)),
         _ => Ok(false),
     }
 }

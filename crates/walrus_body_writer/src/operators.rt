@@ -22,8 +22,8 @@ use walrus_pairing::operators::Immediates;
 use walrus_pairing::{PairError, operator_of, write_heap, write_value};
 use wasm_immediates::{BlockType, Clause};
 
-// The type of a sequence.
-fn type_of(seqs: &[InstrSeq], id: InstrSeqId) -> InstrSeqType
+/// The type of a sequence.
+pub(crate) fn type_of(seqs: &[InstrSeq], id: InstrSeqId) -> InstrSeqType
     ensures { result ≡ type_in (slice_get seqs.now id) }
 {
     let index = id.index();
@@ -54,8 +54,8 @@ fn function_block(numbers: &Numbers<'_>, ty: TypeId) -> Result<BlockType, PairEr
     Ok(BlockType::Type(number))
 }
 
-// The type of a block.
-fn block_type(numbers: &Numbers<'_>, ty: &InstrSeqType) -> Result<BlockType, PairError>
+/// The type of a block.
+pub(crate) fn block_type(numbers: &Numbers<'_>, ty: &InstrSeqType) -> Result<BlockType, PairError>
     ensures { Gives (IsLarge (look_of numbers.now) (value_of ty.now)) (block (look_of numbers.now) ty.now) result }
 {
     match ty {
