@@ -2,6 +2,8 @@
 #![tactic(auto)]
 
 #[cfg(test)]
+mod frequent;
+#[cfg(test)]
 mod locals;
 #[cfg(test)]
 mod written;
