@@ -1,8 +1,9 @@
 //! Immediates are written.
 
-ghost use Rattle.std.specs.Prelude.{◌++◌};
+ghost use Rattle.std.specs.Prelude.{[], ◌∷◌, ◌++◌};
 ghost use Rattle.walrus_operators.specs.Immediates.{items_of};
 ghost use Rattle.walrus_operator_writer.specs.Appended.{Appends, AppendsItems};
+ghost use Rattle.walrus_operators.specs.wasm_immediates.Items as items;
 ghost use Rattle.wasm_operator_ranges.specs.wasm_operator_bytes.Bytes.{access_bytes, clause_bytes, unsigned_bytes, value_bytes, vec_bytes};
 
 use crate::types::{write_block_type, write_heap_type, write_value_type};
@@ -11,8 +12,8 @@ use walrus_number_writer::{
     write_bits32, write_bits64, write_byte, write_bytes, write_signed, write_unsigned,
 };
 use walrus_operators::Immediates;
-use wasm_immediates::{Clause, MemoryAccess};
-use wasm_ref_types::ValType;
+use wasm_immediates::{BlockType, Clause, MemoryAccess};
+use wasm_ref_types::{HeapType, ValType};
 
 /// Puts an index, or another u32, behind the bytes, in its shortest spelling.
 ///
@@ -111,59 +112,85 @@ fn write_clauses(out: &mut Vec<u8>, clauses: &[Clause]) -> Result<(), AllocError
     Ok(())
 }
 
+#[tactic(auto, using(crate::proofs::Appends::then_written, crate::proofs::Keeps::keeps_on))]
+fn write_try_table(out: &mut Vec<u8>, ty: BlockType, clauses: &[Clause]) -> Result<(), AllocError>
+    ensures { AppendsItems (items.Block ty ∷ items.ManyClauses clauses.now ∷ []) out.old.items out.new.items result }
+{
+    write_block_type(out, ty)?;
+    write_clauses(out, clauses)
+}
+
+#[tactic(auto, using(crate::proofs::Appends::then_written, crate::proofs::Keeps::keeps_on))]
+fn write_branch_table(out: &mut Vec<u8>, labels: &[u32], otherwise: u32) -> Result<(), AllocError>
+    ensures { AppendsItems (items.ManyLabels labels.now ∷ items.Names items.Labels otherwise ∷ []) out.old.items out.new.items result }
+{
+    write_labels(out, labels)?;
+    write_index(out, otherwise)
+}
+
+#[tactic(auto, using(crate::proofs::Appends::then_written, crate::proofs::Keeps::keeps_on))]
+fn write_access_lane(out: &mut Vec<u8>, access: MemoryAccess, lane: u8) -> Result<(), AllocError>
+    ensures { AppendsItems (items.Access «access» ∷ items.Byte lane ∷ []) out.old.items out.new.items result }
+{
+    write_access(out, access)?;
+    write_byte(out, lane)
+}
+
 #[tactic(auto, using(crate::proofs::Appends::appends_on, crate::proofs::Keeps::keeps_on, std::proofs::lemmas::List::append_assoc))]
+fn write_cast(
+    out: &mut Vec<u8>,
+    flags: u8,
+    label: u32,
+    from: HeapType,
+    to: HeapType,
+) -> Result<(), AllocError>
+    ensures { AppendsItems (items.Byte flags ∷ items.Names items.Labels label ∷ items.Heap from ∷ items.Heap to ∷ []) out.old.items out.new.items result }
+{
+    write_byte(out, flags)?;
+    write_index(out, label)?;
+    write_heap_type(out, from)?;
+    write_heap_type(out, to)
+}
+
+#[tactic(auto, using(crate::proofs::Appends::both_written))]
 pub(crate) fn write_immediates(out: &mut Vec<u8>, immediates: &Immediates) -> Result<(), AllocError>
     ensures { AppendsItems (items_of immediates.now) out.old.items out.new.items result }
 {
     match immediates {
         Immediates::Bare => Ok(()),
+        Immediates::Tag(n)
+        | Immediates::Label(n)
+        | Immediates::Function(n)
+        | Immediates::Type(n)
+        | Immediates::Local(n)
+        | Immediates::Global(n)
+        | Immediates::Table(n)
+        | Immediates::Memory(n)
+        | Immediates::Data(n)
+        | Immediates::Element(n) => write_index(out, *n),
+        Immediates::TypeTable(m, n)
+        | Immediates::DataMemory(m, n)
+        | Immediates::MemoryMemory(m, n)
+        | Immediates::ElementTable(m, n)
+        | Immediates::TableTable(m, n)
+        | Immediates::TypeNumber(m, n)
+        | Immediates::TypeData(m, n)
+        | Immediates::TypeElement(m, n)
+        | Immediates::TypeType(m, n) => write_two(out, *m, *n),
         Immediates::Block(ty) => write_block_type(out, *ty),
-        Immediates::TryTable(ty, clauses) => {
-            write_block_type(out, *ty)?;
-            write_clauses(out, clauses)
-        }
-        Immediates::Tag(n) => write_index(out, *n),
-        Immediates::Label(n) => write_index(out, *n),
-        Immediates::BrTable(labels, otherwise) => {
-            write_labels(out, labels)?;
-            write_index(out, *otherwise)
-        }
-        Immediates::Function(n) => write_index(out, *n),
-        Immediates::TypeTable(m, n) => write_two(out, *m, *n),
-        Immediates::Type(n) => write_index(out, *n),
+        Immediates::TryTable(ty, clauses) => write_try_table(out, *ty, clauses),
+        Immediates::BrTable(labels, otherwise) => write_branch_table(out, labels, *otherwise),
         Immediates::Select(types) => write_values(out, types),
-        Immediates::Local(n) => write_index(out, *n),
-        Immediates::Global(n) => write_index(out, *n),
-        Immediates::Table(n) => write_index(out, *n),
         Immediates::Access(access) => write_access(out, *access),
-        Immediates::Memory(n) => write_index(out, *n),
         Immediates::I32(n) => write_signed(out, i64::from(*n)),
         Immediates::I64(n) => write_signed(out, *n),
         Immediates::F32(x) => write_bits32(out, x.bits()),
         Immediates::F64(x) => write_bits64(out, x.bits()),
         Immediates::Heap(ty) => write_heap_type(out, *ty),
-        Immediates::DataMemory(m, n) => write_two(out, *m, *n),
-        Immediates::Data(n) => write_index(out, *n),
-        Immediates::MemoryMemory(m, n) => write_two(out, *m, *n),
-        Immediates::ElementTable(m, n) => write_two(out, *m, *n),
-        Immediates::Element(n) => write_index(out, *n),
-        Immediates::TableTable(m, n) => write_two(out, *m, *n),
-        Immediates::TypeNumber(m, n) => write_two(out, *m, *n),
-        Immediates::TypeData(m, n) => write_two(out, *m, *n),
-        Immediates::TypeElement(m, n) => write_two(out, *m, *n),
-        Immediates::TypeType(m, n) => write_two(out, *m, *n),
-        Immediates::Cast(flags, label, from, to) => {
-            write_byte(out, *flags)?;
-            write_index(out, *label)?;
-            write_heap_type(out, *from)?;
-            write_heap_type(out, *to)
-        }
+        Immediates::Cast(flags, label, from, to) => write_cast(out, *flags, *label, *from, *to),
         Immediates::Vector(bytes) => write_bytes(out, bytes),
         Immediates::Lane(lane) => write_byte(out, *lane),
-        Immediates::AccessLane(access, lane) => {
-            write_access(out, *access)?;
-            write_byte(out, *lane)
-        }
+        Immediates::AccessLane(access, lane) => write_access_lane(out, *access, *lane),
         Immediates::Zero => write_byte(out, 0),
     }
 }

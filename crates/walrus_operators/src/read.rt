@@ -17,7 +17,7 @@ use wasm_reader::{BinaryReader, FromReader, Result};
 // No list is longer than a u32 counts.
 const MOST: usize = 4294967295;
 
-#[tactic(auto, unfolding(wasm_immediates::specs::Readings::items_at, wasm_immediates::specs::Readings::item_at), using(crate::proofs::Handlers::handlers_fail))]
+#[tactic(auto, unfolding(wasm_immediates::specs::Readings::items_at, wasm_immediates::specs::Readings::item_at))]
 fn read_try_table(alloc: Global, reader: &mut BinaryReader<'_>) -> Result<Immediates>
     ensures items { ReadsUnlessMemory (items_at reader.old.window.features (forms Kind.TryTable)) items_of reader.old reader.new result }
     ensures kind { IfOk result (λ x. kind_is x ≡ Kind.TryTable) }
