@@ -1,9 +1,7 @@
 //! Operators of a code and of immediates that name ids.
 ghost use Rattle.std.specs.Prelude.{◌≡◌, None, Ok, Some};
-ghost use Rattle.std.specs.Option.{ok_or};
 ghost use Rattle.walrus_operators.specs.wasm_immediates.Items.{Types, Functions, Tables, Memories, Tags, Globals, ElementSegments, DataSegments, Locals};
 ghost use Rattle.walrus_index_maps.specs.Views.{indices};
-ghost use Rattle.walrus_pairing.specs.declared.error.PairError.TheVariants.{Unknown};
 ghost use Rattle.walrus_pairing.specs.Looks.{number_of};
 ghost use Rattle.walrus_pairing.specs.Seen.{as_seen};
 ghost use Rattle.walrus_pairing.specs.Write.{one, two, counted, access, heap, log_of};
@@ -23,12 +21,14 @@ use walrus_operators::{Immediates, Operator};
 /// An operator, none, or why it isn't written.
 pub(crate) type Written = Result<Option<Operator>, PairError>;
 
-// The number that was found.
-#[inline]
-fn number(found: Option<u32>, space: Space) -> Result<u32, PairError>
-    ensures { result ≡ ok_or found (Unknown space) }
-{
-    found.ok_or(PairError::Unknown(space))
+// The number that was found, or the caller answers that there is none.
+macro_rules! number {
+    ($found:expr, $space:ident) => {
+        match $found {
+            Some(number) => number,
+            None => return Err(PairError::Unknown(Space::$space)),
+        }
+    };
 }
 
 // An operator.
@@ -42,14 +42,14 @@ pub(crate) fn op(code: OpCode, immediates: Immediates) -> Written
 pub(crate) fn function_op(code: OpCode, func: FunctionId, maps: &IdsToIndices) -> Written
     ensures { as_seen result ≡ one (number_of (indices maps.now) 0) code Functions func }
 {
-    let func = number(maps.get_func_index(func), Space::Function)?;
+    let func = number!(maps.get_func_index(func), Function);
     op(code, Immediates::Function(func))
 }
 
 pub(crate) fn type_op(code: OpCode, ty: TypeId, maps: &IdsToIndices) -> Written
     ensures { as_seen result ≡ one (number_of (indices maps.now) 0) code Types ty }
 {
-    let ty = number(maps.get_type_index(ty), Space::Type)?;
+    let ty = number!(maps.get_type_index(ty), Type);
     op(code, Immediates::Type(ty))
 }
 
@@ -61,36 +61,36 @@ pub(crate) fn type_table_op(
 ) -> Written
     ensures { as_seen result ≡ two (number_of (indices maps.now) 0) code Types ty Tables table }
 {
-    let ty = number(maps.get_type_index(ty), Space::Type)?;
-    let table = number(maps.get_table_index(table), Space::Table)?;
+    let ty = number!(maps.get_type_index(ty), Type);
+    let table = number!(maps.get_table_index(table), Table);
     op(code, Immediates::TypeTable(ty, table))
 }
 
 pub(crate) fn tag_op(code: OpCode, tag: TagId, maps: &IdsToIndices) -> Written
     ensures { as_seen result ≡ one (number_of (indices maps.now) 0) code Tags tag }
 {
-    let tag = number(maps.get_tag_index(tag), Space::Tag)?;
+    let tag = number!(maps.get_tag_index(tag), Tag);
     op(code, Immediates::Tag(tag))
 }
 
 pub(crate) fn global_op(code: OpCode, global: GlobalId, maps: &IdsToIndices) -> Written
     ensures { as_seen result ≡ one (number_of (indices maps.now) 0) code Globals global }
 {
-    let global = number(maps.get_global_index(global), Space::Global)?;
+    let global = number!(maps.get_global_index(global), Global);
     op(code, Immediates::Global(global))
 }
 
 pub(crate) fn table_op(code: OpCode, table: TableId, maps: &IdsToIndices) -> Written
     ensures { as_seen result ≡ one (number_of (indices maps.now) 0) code Tables table }
 {
-    let table = number(maps.get_table_index(table), Space::Table)?;
+    let table = number!(maps.get_table_index(table), Table);
     op(code, Immediates::Table(table))
 }
 
 pub(crate) fn element_op(code: OpCode, elem: ElementId, maps: &IdsToIndices) -> Written
     ensures { as_seen result ≡ one (number_of (indices maps.now) 0) code ElementSegments elem }
 {
-    let elem = number(maps.get_element_index(elem), Space::Element)?;
+    let elem = number!(maps.get_element_index(elem), Element);
     op(code, Immediates::Element(elem))
 }
 
@@ -102,8 +102,8 @@ pub(crate) fn element_table_op(
 ) -> Written
     ensures { as_seen result ≡ two (number_of (indices maps.now) 0) code ElementSegments elem Tables table }
 {
-    let elem = number(maps.get_element_index(elem), Space::Element)?;
-    let table = number(maps.get_table_index(table), Space::Table)?;
+    let elem = number!(maps.get_element_index(elem), Element);
+    let table = number!(maps.get_table_index(table), Table);
     op(code, Immediates::ElementTable(elem, table))
 }
 
@@ -115,22 +115,22 @@ pub(crate) fn table_table_op(
 ) -> Written
     ensures { as_seen result ≡ two (number_of (indices maps.now) 0) code Tables dst Tables src }
 {
-    let dst = number(maps.get_table_index(dst), Space::Table)?;
-    let src = number(maps.get_table_index(src), Space::Table)?;
+    let dst = number!(maps.get_table_index(dst), Table);
+    let src = number!(maps.get_table_index(src), Table);
     op(code, Immediates::TableTable(dst, src))
 }
 
 pub(crate) fn memory_op(code: OpCode, memory: MemoryId, maps: &IdsToIndices) -> Written
     ensures { as_seen result ≡ one (number_of (indices maps.now) 0) code Memories memory }
 {
-    let memory = number(maps.get_memory_index(memory), Space::Memory)?;
+    let memory = number!(maps.get_memory_index(memory), Memory);
     op(code, Immediates::Memory(memory))
 }
 
 pub(crate) fn data_op(code: OpCode, segment: DataId, maps: &IdsToIndices) -> Written
     ensures { as_seen result ≡ one (number_of (indices maps.now) 0) code DataSegments segment }
 {
-    let segment = number(maps.get_data_index(segment), Space::Data)?;
+    let segment = number!(maps.get_data_index(segment), Data);
     op(code, Immediates::Data(segment))
 }
 
@@ -142,8 +142,8 @@ pub(crate) fn data_memory_op(
 ) -> Written
     ensures { as_seen result ≡ two (number_of (indices maps.now) 0) code DataSegments segment Memories memory }
 {
-    let segment = number(maps.get_data_index(segment), Space::Data)?;
-    let memory = number(maps.get_memory_index(memory), Space::Memory)?;
+    let segment = number!(maps.get_data_index(segment), Data);
+    let memory = number!(maps.get_memory_index(memory), Memory);
     op(code, Immediates::DataMemory(segment, memory))
 }
 
@@ -155,8 +155,8 @@ pub(crate) fn memory_memory_op(
 ) -> Written
     ensures { as_seen result ≡ two (number_of (indices maps.now) 0) code Memories dst Memories src }
 {
-    let dst = number(maps.get_memory_index(dst), Space::Memory)?;
-    let src = number(maps.get_memory_index(src), Space::Memory)?;
+    let dst = number!(maps.get_memory_index(dst), Memory);
+    let src = number!(maps.get_memory_index(src), Memory);
     op(code, Immediates::MemoryMemory(dst, src))
 }
 
@@ -168,8 +168,8 @@ pub(crate) fn type_data_op(
 ) -> Written
     ensures { as_seen result ≡ two (number_of (indices maps.now) 0) code Types ty DataSegments segment }
 {
-    let ty = number(maps.get_type_index(ty), Space::Type)?;
-    let segment = number(maps.get_data_index(segment), Space::Data)?;
+    let ty = number!(maps.get_type_index(ty), Type);
+    let segment = number!(maps.get_data_index(segment), Data);
     op(code, Immediates::TypeData(ty, segment))
 }
 
@@ -181,16 +181,16 @@ pub(crate) fn type_element_op(
 ) -> Written
     ensures { as_seen result ≡ two (number_of (indices maps.now) 0) code Types ty ElementSegments elem }
 {
-    let ty = number(maps.get_type_index(ty), Space::Type)?;
-    let elem = number(maps.get_element_index(elem), Space::Element)?;
+    let ty = number!(maps.get_type_index(ty), Type);
+    let elem = number!(maps.get_element_index(elem), Element);
     op(code, Immediates::TypeElement(ty, elem))
 }
 
 pub(crate) fn type_type_op(code: OpCode, dst: TypeId, src: TypeId, maps: &IdsToIndices) -> Written
     ensures { as_seen result ≡ two (number_of (indices maps.now) 0) code Types dst Types src }
 {
-    let dst = number(maps.get_type_index(dst), Space::Type)?;
-    let src = number(maps.get_type_index(src), Space::Type)?;
+    let dst = number!(maps.get_type_index(dst), Type);
+    let src = number!(maps.get_type_index(src), Type);
     op(code, Immediates::TypeType(dst, src))
 }
 
@@ -202,14 +202,14 @@ pub(crate) fn local_op(
 ) -> Written
     ensures { as_seen result ≡ one (number_of (indices maps.now) function) code Locals local }
 {
-    let local = number(maps.get_local_index(function, local), Space::Local)?;
+    let local = number!(maps.get_local_index(function, local), Local);
     op(code, Immediates::Local(local))
 }
 
 pub(crate) fn type_number_op(code: OpCode, ty: TypeId, count: u32, maps: &IdsToIndices) -> Written
     ensures { as_seen result ≡ counted (number_of (indices maps.now) 0) code Types ty count }
 {
-    let ty = number(maps.get_type_index(ty), Space::Type)?;
+    let ty = number!(maps.get_type_index(ty), Type);
     op(code, Immediates::TypeNumber(ty, count))
 }
 
@@ -231,7 +231,7 @@ fn log_of(align: u32) -> u32
 pub(crate) fn access_op(code: OpCode, memory: MemoryId, arg: MemArg, maps: &IdsToIndices) -> Written
     ensures { as_seen result ≡ access (number_of (indices maps.now) 0) code memory arg None }
 {
-    let memory = number(maps.get_memory_index(memory), Space::Memory)?;
+    let memory = number!(maps.get_memory_index(memory), Memory);
     op(
         code,
         Immediates::Access(MemoryAccess {
@@ -254,7 +254,7 @@ pub(crate) fn lane_access_op(
     let Some(lane) = lane else {
         return access_op(code, memory, arg, maps);
     };
-    let memory = number(maps.get_memory_index(memory), Space::Memory)?;
+    let memory = number!(maps.get_memory_index(memory), Memory);
     let access = MemoryAccess {
         align: log_of(arg.align),
         memory,

@@ -10,25 +10,25 @@ pub returns-in-LoadSimd : goal.returns-in-LoadSimd
 returns-in-LoadSimd c = rw c.in-LoadSimd.is (rw c.lane_of_simd.ensures at (rw c.code_of_simd.ensures at c.lane_access_op.ensures))
 
 pub returns-in-MemorySize : goal.returns-in-MemorySize
-returns-in-MemorySize c = rw c.in-MemorySize.is (rw c.byte.ensures at c.memory_op.ensures)
+returns-in-MemorySize c = rw c.in-MemorySize.is c.memory_op.ensures
 
 pub returns-in-MemoryGrow : goal.returns-in-MemoryGrow
-returns-in-MemoryGrow c = rw c.in-MemoryGrow.is (rw c.byte-in-MemoryGrow.ensures at c.memory_op-in-MemoryGrow.ensures)
+returns-in-MemoryGrow c = rw c.in-MemoryGrow.is c.memory_op-in-MemoryGrow.ensures
 
 pub returns-in-MemoryInit : goal.returns-in-MemoryInit
-returns-in-MemoryInit c = rw c.in-MemoryInit.is (rw c.bulk.ensures at c.data_memory_op.ensures)
+returns-in-MemoryInit c = rw c.in-MemoryInit.is c.data_memory_op.ensures
 
 pub returns-in-DataDrop : goal.returns-in-DataDrop
-returns-in-DataDrop c = rw c.in-DataDrop.is (rw c.bulk-in-DataDrop.ensures at c.data_op.ensures)
+returns-in-DataDrop c = rw c.in-DataDrop.is c.data_op.ensures
 
 pub returns-in-MemoryCopy : goal.returns-in-MemoryCopy
-returns-in-MemoryCopy c = rw c.in-MemoryCopy.is (rw c.bulk-in-MemoryCopy.ensures at c.memory_memory_op.ensures)
+returns-in-MemoryCopy c = rw c.in-MemoryCopy.is c.memory_memory_op.ensures
 
 pub returns-in-MemoryFill : goal.returns-in-MemoryFill
-returns-in-MemoryFill c = rw c.in-MemoryFill.is (rw c.bulk-in-MemoryFill.ensures at c.memory_op-in-MemoryFill.ensures)
+returns-in-MemoryFill c = rw c.in-MemoryFill.is c.memory_op-in-MemoryFill.ensures
 
 pub returns-in-AtomicNotify : goal.returns-in-AtomicNotify
-returns-in-AtomicNotify c = rw c.in-AtomicNotify.is (rw c.atomic.ensures at c.access_op-in-AtomicNotify.ensures)
+returns-in-AtomicNotify c = rw c.in-AtomicNotify.is c.access_op-in-AtomicNotify.ensures
 
 pub returns-in-AtomicRmw : goal.returns-in-AtomicRmw
 returns-in-AtomicRmw c = rw c.in-AtomicRmw.is (rw c.code_of_rmw.ensures at c.access_op-in-AtomicRmw.ensures)

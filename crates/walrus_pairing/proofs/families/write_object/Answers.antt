@@ -1,7 +1,7 @@
 use Rattle.walrus_pairing.proofs.families.write_object.Goals as goal
 
 pub returns-in-RefNull : goal.returns-in-RefNull
-returns-in-RefNull c = rw c.in-RefNull.is (rw c.byte.ensures at c.heap_op.ensures)
+returns-in-RefNull c = rw c.in-RefNull.is c.heap_op.ensures
 
 pub returns-in-RefTest : goal.returns-in-RefTest
 returns-in-RefTest c = rw c.in-RefTest.is (rw c.code_of_test.ensures at c.heap_op-in-RefTest.ensures)
@@ -10,58 +10,58 @@ pub returns-in-RefCast : goal.returns-in-RefCast
 returns-in-RefCast c = rw c.in-RefCast.is (rw c.code_of_cast.ensures at c.heap_op-in-RefCast.ensures)
 
 pub returns-in-StructNew : goal.returns-in-StructNew
-returns-in-StructNew c = rw c.in-StructNew.is (rw c.object.ensures at c.type_op.ensures)
+returns-in-StructNew c = rw c.in-StructNew.is c.type_op.ensures
 
 pub returns-in-StructNewDefault : goal.returns-in-StructNewDefault
-returns-in-StructNewDefault c = rw c.in-StructNewDefault.is (rw c.object-in-StructNewDefault.ensures at c.type_op-in-StructNewDefault.ensures)
+returns-in-StructNewDefault c = rw c.in-StructNewDefault.is c.type_op-in-StructNewDefault.ensures
 
 pub returns-in-StructGet : goal.returns-in-StructGet
-returns-in-StructGet c = rw c.in-StructGet.is (rw c.object-in-StructGet.ensures at c.type_number_op.ensures)
+returns-in-StructGet c = rw c.in-StructGet.is c.type_number_op.ensures
 
 pub returns-in-StructGetS : goal.returns-in-StructGetS
-returns-in-StructGetS c = rw c.in-StructGetS.is (rw c.object-in-StructGetS.ensures at c.type_number_op-in-StructGetS.ensures)
+returns-in-StructGetS c = rw c.in-StructGetS.is c.type_number_op-in-StructGetS.ensures
 
 pub returns-in-StructGetU : goal.returns-in-StructGetU
-returns-in-StructGetU c = rw c.in-StructGetU.is (rw c.object-in-StructGetU.ensures at c.type_number_op-in-StructGetU.ensures)
+returns-in-StructGetU c = rw c.in-StructGetU.is c.type_number_op-in-StructGetU.ensures
 
 pub returns-in-StructSet : goal.returns-in-StructSet
-returns-in-StructSet c = rw c.in-StructSet.is (rw c.object-in-StructSet.ensures at c.type_number_op-in-StructSet.ensures)
+returns-in-StructSet c = rw c.in-StructSet.is c.type_number_op-in-StructSet.ensures
 
 pub returns-in-ArrayNew : goal.returns-in-ArrayNew
-returns-in-ArrayNew c = rw c.in-ArrayNew.is (rw c.object-in-ArrayNew.ensures at c.type_op-in-ArrayNew.ensures)
+returns-in-ArrayNew c = rw c.in-ArrayNew.is c.type_op-in-ArrayNew.ensures
 
 pub returns-in-ArrayNewDefault : goal.returns-in-ArrayNewDefault
-returns-in-ArrayNewDefault c = rw c.in-ArrayNewDefault.is (rw c.object-in-ArrayNewDefault.ensures at c.type_op-in-ArrayNewDefault.ensures)
+returns-in-ArrayNewDefault c = rw c.in-ArrayNewDefault.is c.type_op-in-ArrayNewDefault.ensures
 
 pub returns-in-ArrayNewFixed : goal.returns-in-ArrayNewFixed
-returns-in-ArrayNewFixed c = rw c.in-ArrayNewFixed.is (rw c.object-in-ArrayNewFixed.ensures at c.type_number_op-in-ArrayNewFixed.ensures)
+returns-in-ArrayNewFixed c = rw c.in-ArrayNewFixed.is c.type_number_op-in-ArrayNewFixed.ensures
 
 pub returns-in-ArrayNewData : goal.returns-in-ArrayNewData
-returns-in-ArrayNewData c = rw c.in-ArrayNewData.is (rw c.object-in-ArrayNewData.ensures at c.type_data_op.ensures)
+returns-in-ArrayNewData c = rw c.in-ArrayNewData.is c.type_data_op.ensures
 
 pub returns-in-ArrayNewElem : goal.returns-in-ArrayNewElem
-returns-in-ArrayNewElem c = rw c.in-ArrayNewElem.is (rw c.object-in-ArrayNewElem.ensures at c.type_element_op.ensures)
+returns-in-ArrayNewElem c = rw c.in-ArrayNewElem.is c.type_element_op.ensures
 
 pub returns-in-ArrayGet : goal.returns-in-ArrayGet
-returns-in-ArrayGet c = rw c.in-ArrayGet.is (rw c.object-in-ArrayGet.ensures at c.type_op-in-ArrayGet.ensures)
+returns-in-ArrayGet c = rw c.in-ArrayGet.is c.type_op-in-ArrayGet.ensures
 
 pub returns-in-ArrayGetS : goal.returns-in-ArrayGetS
-returns-in-ArrayGetS c = rw c.in-ArrayGetS.is (rw c.object-in-ArrayGetS.ensures at c.type_op-in-ArrayGetS.ensures)
+returns-in-ArrayGetS c = rw c.in-ArrayGetS.is c.type_op-in-ArrayGetS.ensures
 
 pub returns-in-ArrayGetU : goal.returns-in-ArrayGetU
-returns-in-ArrayGetU c = rw c.in-ArrayGetU.is (rw c.object-in-ArrayGetU.ensures at c.type_op-in-ArrayGetU.ensures)
+returns-in-ArrayGetU c = rw c.in-ArrayGetU.is c.type_op-in-ArrayGetU.ensures
 
 pub returns-in-ArraySet : goal.returns-in-ArraySet
-returns-in-ArraySet c = rw c.in-ArraySet.is (rw c.object-in-ArraySet.ensures at c.type_op-in-ArraySet.ensures)
+returns-in-ArraySet c = rw c.in-ArraySet.is c.type_op-in-ArraySet.ensures
 
 pub returns-in-ArrayFill : goal.returns-in-ArrayFill
-returns-in-ArrayFill c = rw c.in-ArrayFill.is (rw c.object-in-ArrayFill.ensures at c.type_op-in-ArrayFill.ensures)
+returns-in-ArrayFill c = rw c.in-ArrayFill.is c.type_op-in-ArrayFill.ensures
 
 pub returns-in-ArrayCopy : goal.returns-in-ArrayCopy
-returns-in-ArrayCopy c = rw c.in-ArrayCopy.is (rw c.object-in-ArrayCopy.ensures at c.type_type_op.ensures)
+returns-in-ArrayCopy c = rw c.in-ArrayCopy.is c.type_type_op.ensures
 
 pub returns-in-ArrayInitData : goal.returns-in-ArrayInitData
-returns-in-ArrayInitData c = rw c.in-ArrayInitData.is (rw c.object-in-ArrayInitData.ensures at c.type_data_op-in-ArrayInitData.ensures)
+returns-in-ArrayInitData c = rw c.in-ArrayInitData.is c.type_data_op-in-ArrayInitData.ensures
 
 pub returns-in-ArrayInitElem : goal.returns-in-ArrayInitElem
-returns-in-ArrayInitElem c = rw c.in-ArrayInitElem.is (rw c.object-in-ArrayInitElem.ensures at c.type_element_op-in-ArrayInitElem.ensures)
+returns-in-ArrayInitElem c = rw c.in-ArrayInitElem.is c.type_element_op-in-ArrayInitElem.ensures

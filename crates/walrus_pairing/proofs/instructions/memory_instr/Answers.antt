@@ -1,0 +1,11 @@
+use Rattle.std.proofs.Common.{refl}
+use Rattle.walrus_pairing.proofs.instructions.memory_instr.Goals as goal
+
+pub returns-in-63 : goal.returns-in-63
+returns-in-63 c = rw (c.in-0.is, c.in-63.is) refl
+
+pub returns-in-64 : goal.returns-in-64
+returns-in-64 c = rw (c.in-0.is, c.in-64.is) refl
+
+pub returns-in-11 : goal.returns-in-11
+returns-in-11 c = rw (c.in-252.is, c.in-11.is) refl

@@ -1,5 +1,0 @@
-use Rattle.std.proofs.Common.{refl, sym}
-use Rattle.walrus_pairing.proofs.written.type_element_op.Goals as goal
-
-pub returns : goal.returns
-returns c = rw (c.op.ensures, sym c.get_type_index.ensures, sym c.in_ok-ty.ensures, sym c.get_element_index.ensures, sym c.in_ok-elem.ensures) refl
