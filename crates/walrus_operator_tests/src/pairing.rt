@@ -1,4 +1,4 @@
 //! Tests of the pairing of operators with instructions: each row of the standard's table of plain operators, paired and back.
 mod bare;
-mod forms;
+pub(crate) mod forms;
 pub(crate) mod maps;

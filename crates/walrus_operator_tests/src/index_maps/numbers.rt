@@ -84,13 +84,12 @@ fn the_next_id_has_the_next_number(rt: HostRuntime) -> Result<(), Fail> {
 }
 
 // Sets, one after the other, a function, a local and its number there.
-fn locals(alloc: Global, rows: &[(u32, u32, u32)]) -> Result<IdsToIndices, AllocError> {
-    let mut numbers = IdsToIndices::new(alloc);
+fn set(numbers: &mut IdsToIndices, rows: &[(u32, u32, u32)]) -> Result<(), AllocError> {
     for (function, local, number) in rows {
         let function = Id::from_index(*function as usize);
         numbers.set_local_index(function, Id::from_index(*local as usize), *number)?;
     }
-    Ok(numbers)
+    Ok(())
 }
 
 fn local_of(numbers: &IdsToIndices, function: u32, local: u32) -> Option<u32> {
@@ -108,7 +107,8 @@ fn functions_that_share_a_local_have_their_own_numbers(rt: HostRuntime) -> Resul
         (3, 5, 30),
         (2, 5, 21),
     ];
-    let numbers = locals(rt.alloc(), &rows)?;
+    let mut numbers = IdsToIndices::new(rt.alloc());
+    set(&mut numbers, &rows)?;
     for (function, local, number) in [(1, 5, 12), (2, 5, 21), (3, 5, 30), (1, 6, 11)] {
         assert!(rt; local_of(&numbers, function, local) == Some(number));
     }

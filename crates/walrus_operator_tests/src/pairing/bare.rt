@@ -1,53 +1,40 @@
 //! Operators without names: by their codes alone.
 
 use crate::codes::PLAIN;
+use crate::pairing::forms::{Form, comes_back, instr};
 use std::alloc::Global;
 use std::process::Abort;
 use std::test::Fail;
-use walrus_arena::Id;
 use walrus_index_maps::{IdsToIndices, IndicesToIds};
 use walrus_instr::{BinaryOp, Instr, UnaryOp};
-use walrus_operators::{Immediates, Operator};
-use walrus_pairing::{PairError, instr_of, operator_of};
 use wasm_operators::OpCode;
 
-// The operator of this code comes back from its instruction.
-fn comes_back(alloc: Global, code: OpCode) -> Result<bool, PairError> {
-    let ids = IndicesToIds::new(alloc);
-    let numbers = IdsToIndices::new(alloc);
-    let op = Operator {
-        code,
-        immediates: Immediates::Bare,
-    };
-    let Some(instr) = instr_of(&op, Id::from_index(0), &ids)? else {
-        return Ok(false);
-    };
-    let Some(back) = operator_of(alloc, &instr, Id::from_index(0), &numbers)? else {
-        return Ok(false);
-    };
-    Ok(back.code == code && matches!(back.immediates, Immediates::Bare))
-}
-
-fn all_come_back(alloc: Global, prefix: u8, first: u32, last: u32) -> Result<bool, PairError> {
-    for number in first..=last {
-        if !comes_back(alloc, OpCode { prefix, number })? {
-            return Ok(false);
+fn all_come_back(alloc: Global, ids: &IndicesToIds, numbers: &IdsToIndices) -> bool {
+    for (prefix, first, last) in PLAIN {
+        for number in first..=last {
+            if comes_back(alloc, OpCode { prefix, number }, Form::Bare, ids, numbers) != Ok(true) {
+                return false;
+            }
         }
     }
-    Ok(true)
+    true
 }
 
 #[test]
 fn operators_without_immediates(rt: HostRuntime) -> Result<(), Fail> {
-    for (prefix, first, last) in PLAIN {
-        let all = all_come_back(rt.alloc(), prefix, first, last);
-        assert!(rt; all == Ok(true));
-    }
+    let ids = IndicesToIds::new(rt.alloc());
+    let numbers = IdsToIndices::new(rt.alloc());
+    assert!(rt; all_come_back(rt.alloc(), &ids, &numbers));
     Ok(())
+}
+
+fn has_instr(code: OpCode, ids: &IndicesToIds) -> bool {
+    matches!(instr(code, Form::Bare, ids), Ok(Some(_)))
 }
 
 #[test]
 fn blocks_and_holes_have_no_instruction(rt: HostRuntime) -> Result<(), Fail> {
+    let ids = IndicesToIds::new(rt.alloc());
     for (prefix, number) in [
         (0, 0x01),
         (0, 0x05),
@@ -59,48 +46,67 @@ fn blocks_and_holes_have_no_instruction(rt: HostRuntime) -> Result<(), Fail> {
         (0xfe, 3),
         (1, 0x45),
     ] {
-        let back = comes_back(rt.alloc(), OpCode { prefix, number });
-        assert!(rt; back == Ok(false));
+        assert!(rt; !has_instr(OpCode { prefix, number }, &ids));
     }
     Ok(())
 }
 
-fn bare_instr(alloc: Global, prefix: u8, number: u32) -> Result<Option<Instr>, PairError> {
-    let op = Operator {
-        code: OpCode { prefix, number },
-        immediates: Immediates::Bare,
-    };
-    instr_of(&op, Id::from_index(0), &IndicesToIds::new(alloc))
+fn traps(ids: &IndicesToIds) -> bool {
+    let found = instr(
+        OpCode {
+            prefix: 0,
+            number: 0xa8,
+        },
+        Form::Bare,
+        ids,
+    );
+    matches!(
+        found,
+        Ok(Some(Instr::Unop {
+            op: UnaryOp::I32TruncSF32
+        }))
+    )
+}
+
+fn saturates(ids: &IndicesToIds) -> bool {
+    let found = instr(
+        OpCode {
+            prefix: 0xfc,
+            number: 0,
+        },
+        Form::Bare,
+        ids,
+    );
+    matches!(
+        found,
+        Ok(Some(Instr::Unop {
+            op: UnaryOp::I32TruncSatF32S
+        }))
+    )
+}
+
+fn is_wide(ids: &IndicesToIds) -> bool {
+    let found = instr(
+        OpCode {
+            prefix: 0xfc,
+            number: 22,
+        },
+        Form::Bare,
+        ids,
+    );
+    matches!(
+        found,
+        Ok(Some(Instr::Binop {
+            op: BinaryOp::I64MulWideU
+        }))
+    )
 }
 
 #[test]
 fn conversions_that_trap_and_that_saturate(rt: HostRuntime) -> Result<(), Fail> {
-    let traps = bare_instr(rt.alloc(), 0, 0xa8);
-    let saturates = bare_instr(rt.alloc(), 0xfc, 0);
-    let wide = bare_instr(rt.alloc(), 0xfc, 22);
-    assert!(rt;
-        matches!(
-            traps,
-            Ok(Some(Instr::Unop {
-                op: UnaryOp::I32TruncSF32
-            }))
-        )
-    );
-    assert!(rt;
-        matches!(
-            saturates,
-            Ok(Some(Instr::Unop {
-                op: UnaryOp::I32TruncSatF32S
-            }))
-        )
-    );
-    assert!(rt;
-        matches!(
-            wide,
-            Ok(Some(Instr::Binop {
-                op: BinaryOp::I64MulWideU
-            }))
-        )
-    );
+    let ids = IndicesToIds::new(rt.alloc());
+    assert!(rt; traps(&ids));
+    assert!(rt; saturates(&ids));
+    assert!(rt; is_wide(&ids));
     Ok(())
 }

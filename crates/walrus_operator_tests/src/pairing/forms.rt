@@ -5,6 +5,7 @@ use std::alloc::Global;
 use std::process::Abort;
 use std::test::Fail;
 use walrus_arena::Id;
+use walrus_index_maps::{IdsToIndices, IndicesToIds};
 use walrus_instr::Instr;
 use walrus_operators::{Immediates, Operator};
 use walrus_pairing::{PairError, instr_of, operator_of};
@@ -15,7 +16,8 @@ use wasm_ref_types::{HeapType, ValType};
 
 // The immediates of a row.
 #[derive(Clone, Copy, PartialEq)]
-enum Form {
+pub(crate) enum Form {
+    Bare,
     Function,
     Type,
     Local,
@@ -56,6 +58,7 @@ fn access() -> MemoryAccess {
 
 fn immediates(form: Form) -> Immediates {
     match form {
+        Form::Bare => Immediates::Bare,
         Form::Function => Immediates::Function(1),
         Form::Type => Immediates::Type(1),
         Form::Local => Immediates::Local(1),
@@ -94,6 +97,7 @@ fn given(is: bool, form: Form) -> Option<Form> {
 // The row that has these immediates.
 fn form_of(found: &Immediates) -> Option<Form> {
     match found {
+        Immediates::Bare => Some(Form::Bare),
         Immediates::Local(n) => given(*n == 1, Form::Local),
         Immediates::Memory(n) => given(*n == 0, Form::Memory),
         Immediates::Data(n) => given(*n == 1, Form::Data),
@@ -114,35 +118,51 @@ fn form_of(found: &Immediates) -> Option<Form> {
     }
 }
 
-// The operator of this code and these immediates has an instruction.
-fn is_read(alloc: Global, code: OpCode, form: Form) -> Result<bool, PairError> {
+// The instruction of this code and these immediates.
+pub(crate) fn instr(
+    code: OpCode,
+    form: Form,
+    ids: &IndicesToIds,
+) -> Result<Option<Instr>, PairError> {
     let op = Operator {
         code,
         immediates: immediates(form),
     };
-    let instr = instr_of(&op, Id::from_index(7), &ids(alloc)?)?;
-    Ok(instr.is_some())
+    instr_of(&op, Id::from_index(7), ids)
 }
 
-// The operator of this code and these immediates comes back from its instruction.
-fn comes_back(alloc: Global, code: OpCode, form: Form) -> Result<bool, PairError> {
-    let ids = ids(alloc)?;
-    let numbers = indices(alloc)?;
-    let op = Operator {
-        code,
-        immediates: immediates(form),
-    };
-    let Some(instr) = instr_of(&op, Id::from_index(7), &ids)? else {
-        return Ok(false);
-    };
-    let Some(back) = operator_of(alloc, &instr, Id::from_index(7), &numbers)? else {
+// The instruction's operator has this code and these immediates.
+fn is_written(
+    alloc: Global,
+    instr: &Instr,
+    code: OpCode,
+    form: Form,
+    numbers: &IdsToIndices,
+) -> Result<bool, PairError> {
+    let Some(back) = operator_of(alloc, instr, Id::from_index(7), numbers)? else {
         return Ok(false);
     };
     Ok(back.code == code && form_of(&back.immediates) == Some(form))
 }
 
+// The operator of this code and these immediates comes back from its instruction.
+pub(crate) fn comes_back(
+    alloc: Global,
+    code: OpCode,
+    form: Form,
+    ids: &IndicesToIds,
+    numbers: &IdsToIndices,
+) -> Result<bool, PairError> {
+    let Some(instr) = instr(code, form, ids)? else {
+        return Ok(false);
+    };
+    is_written(alloc, &instr, code, form, numbers)
+}
+
 #[test]
 fn operators_with_immediates(rt: HostRuntime) -> Result<(), Fail> {
+    let ids = ids(rt.alloc())?;
+    let numbers = indices(rt.alloc())?;
     for (prefix, first, last, form) in [
         (0, 0x20, 0x22, Form::Local),
         (0, 0x28, 0x3e, Form::Access),
@@ -166,7 +186,7 @@ fn operators_with_immediates(rt: HostRuntime) -> Result<(), Fail> {
         (0xfe, 16, 78, Form::Access),
     ] {
         for number in first..=last {
-            let back = comes_back(rt.alloc(), OpCode { prefix, number }, form);
+            let back = comes_back(rt.alloc(), OpCode { prefix, number }, form, &ids, &numbers);
             assert!(rt; back == Ok(true));
         }
     }
@@ -175,6 +195,7 @@ fn operators_with_immediates(rt: HostRuntime) -> Result<(), Fail> {
 
 #[test]
 fn operators_with_a_name(rt: HostRuntime) -> Result<(), Fail> {
+    let ids = ids(rt.alloc())?;
     for (prefix, first, last, form) in [
         (0, 0x08, 0x08, Form::Tag),
         (0, 0x10, 0x10, Form::Function),
@@ -193,8 +214,7 @@ fn operators_with_a_name(rt: HostRuntime) -> Result<(), Fail> {
         (0xfc, 15, 17, Form::Table),
     ] {
         for number in first..=last {
-            let read = is_read(rt.alloc(), OpCode { prefix, number }, form);
-            assert!(rt; read == Ok(true));
+            assert!(rt; matches!(instr(OpCode { prefix, number }, form, &ids), Ok(Some(_))));
         }
     }
     Ok(())
@@ -218,13 +238,12 @@ fn fields(instr: &Instr) -> Option<(u32, u32)> {
     }
 }
 
-fn fields_of(alloc: Global, code: OpCode, form: Form) -> Result<Option<(u32, u32)>, PairError> {
-    let op = Operator {
-        code,
-        immediates: immediates(form),
-    };
-    let instr = instr_of(&op, Id::from_index(7), &ids(alloc)?)?;
-    match &instr {
+fn fields_of(
+    code: OpCode,
+    form: Form,
+    ids: &IndicesToIds,
+) -> Result<Option<(u32, u32)>, PairError> {
+    match &instr(code, form, ids)? {
         Some(instr) => Ok(fields(instr)),
         None => Ok(None),
     }
@@ -232,6 +251,7 @@ fn fields_of(alloc: Global, code: OpCode, form: Form) -> Result<Option<(u32, u32
 
 #[test]
 fn names_stand_in_their_fields(rt: HostRuntime) -> Result<(), Fail> {
+    let ids = ids(rt.alloc())?;
     // The first index is 1, which is the id 4, or 0, which is the id 7.
     for (prefix, number, form, first, second) in [
         (0, 0x11, Form::TypeTable, 4, 7),
@@ -246,13 +266,13 @@ fn names_stand_in_their_fields(rt: HostRuntime) -> Result<(), Fail> {
         (0xfc, 12, Form::ElementTable, 4, 7),
         (0xfc, 14, Form::TableTable, 7, 4),
     ] {
-        let found = fields_of(rt.alloc(), OpCode { prefix, number }, form);
+        let found = fields_of(OpCode { prefix, number }, form, &ids);
         assert!(rt; found == Ok(Some((first, second))));
     }
     Ok(())
 }
 
-fn select_of(alloc: Global, types: Vec<ValType>) -> Result<bool, PairError> {
+fn select(types: Vec<ValType>, ids: &IndicesToIds) -> Result<Option<Instr>, PairError> {
     let op = Operator {
         code: OpCode {
             prefix: 0,
@@ -260,12 +280,12 @@ fn select_of(alloc: Global, types: Vec<ValType>) -> Result<bool, PairError> {
         },
         immediates: Immediates::Select(types),
     };
-    let ids = ids(alloc)?;
-    let numbers = indices(alloc)?;
-    let Some(instr) = instr_of(&op, Id::from_index(7), &ids)? else {
-        return Ok(false);
-    };
-    let Some(back) = operator_of(alloc, &instr, Id::from_index(7), &numbers)? else {
+    instr_of(&op, Id::from_index(7), ids)
+}
+
+// The instruction's operator names one type, of floats of 64 bits.
+fn is_of_floats(alloc: Global, instr: &Instr, numbers: &IdsToIndices) -> Result<bool, PairError> {
+    let Some(back) = operator_of(alloc, instr, Id::from_index(7), numbers)? else {
         return Ok(false);
     };
     match &back.immediates {
@@ -274,11 +294,31 @@ fn select_of(alloc: Global, types: Vec<ValType>) -> Result<bool, PairError> {
     }
 }
 
+fn select_of(
+    alloc: Global,
+    types: Vec<ValType>,
+    ids: &IndicesToIds,
+    numbers: &IdsToIndices,
+) -> Result<bool, PairError> {
+    let Some(instr) = select(types, ids)? else {
+        return Ok(false);
+    };
+    is_of_floats(alloc, &instr, numbers)
+}
+
 #[test]
 fn a_select_of_one_type(rt: HostRuntime) -> Result<(), Fail> {
-    let one = select_of(rt.alloc(), vec![in rt.alloc(); ValType::F64]?);
+    let ids = ids(rt.alloc())?;
+    let numbers = indices(rt.alloc())?;
+    let one = select_of(
+        rt.alloc(),
+        vec![in rt.alloc(); ValType::F64]?,
+        &ids,
+        &numbers,
+    );
     assert!(rt; one == Ok(true));
-    let two = select_of(rt.alloc(), vec![in rt.alloc(); ValType::I32, ValType::I32]?);
+    let types = vec![in rt.alloc(); ValType::I32, ValType::I32]?;
+    let two = select_of(rt.alloc(), types, &ids, &numbers);
     assert!(rt; two == Err(PairError::Select));
     Ok(())
 }

@@ -42,11 +42,16 @@ pub(crate) fn ids(alloc: Global) -> Result<IndicesToIds, AllocError> {
 pub(crate) fn indices(alloc: Global) -> Result<IdsToIndices, AllocError> {
     let mut numbers = IdsToIndices::new(alloc);
     numbers.push_memory(Id::from_index(7))?;
+    set_both(&mut numbers)?;
+    Ok(numbers)
+}
+
+fn set_both(numbers: &mut IdsToIndices) -> Result<(), AllocError> {
     for (id, number) in [(7, 0), (4, 1)] {
         numbers.set_data_index(Id::from_index(id), number)?;
         numbers.set_local_index(Id::from_index(7), Id::from_index(id), number)?;
     }
-    Ok(numbers)
+    Ok(())
 }
 
 #[test]
