@@ -1,3 +1,4 @@
 mod Handlers
 mod Moves
 mod Unknown
+mod Known

@@ -5,10 +5,12 @@ use Rattle.wasm_reader.specs.declared.error.Error.{Error}
 use Rattle.wasm_reader.specs.Cursor.{Cursor, rest, end_of, Forward}
 use Rattle.wasm_reader.specs.Reading.{Reading, fault}
 use Rattle.wasm_reader.specs.Items.{WantsMemory}
+use Rattle.wasm_operators.specs.declared.entry.Entry.{Entry}
 use Rattle.wasm_operators.specs.declared.entry.Kind.{Kind}
 use Rattle.wasm_operators.specs.declared.op_code.OpCode.{OpCode}
 use Rattle.wasm_operators.specs.Kinds.{takes_memory}
-use Rattle.wasm_operators.specs.Operators.{kind_of, code_at, Seen, operator_at}
+use Rattle.wasm_operators.specs.Table.{find_code}
+use Rattle.wasm_operators.specs.Operators.{is_on, kind_of, code_at, Seen, operator_at}
 use Rattle.walrus_operators.specs.declared.operator.Operator.{Operator}
 use Rattle.walrus_operators.specs.declared.reader.OperatorError.{OperatorError}
 use Rattle.walrus_operators.specs.declared.reader.OperatorError.TheVariants as errors
@@ -43,3 +45,15 @@ pub record ReadsOperator (features : WasmFeatures) (old new : Cursor) (result : 
   pub kind : IfOk result (λ op. kind_of features op.code ≡ Some (kind_is op.immediates))
   pub place : IfErr result (λ e. offset_of e ≤ end_of new)
   pub moves : Forward old new
+
+-- a code stands here that is an operator's under the features, of which the table says this
+pub record IsNext (c : Cursor) (e : Entry) : Type 0 where
+  pub code : OpCode
+  pub later : List ℕ
+  pub coded : code_at (rest c) ≡ Ok (code, later)
+  pub listed : find_code code.prefix code.number ≡ Some e
+  pub on : is_on c.window.features e.gate ≡ true
+
+-- and these immediates follow it
+abbrev pub IsNextOf : Cursor → Kind → Type 0
+IsNextOf c kind = (e : Entry) × IsNext c e × (e.kind ≡ kind)

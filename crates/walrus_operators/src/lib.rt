@@ -24,5 +24,5 @@ pub mod immediate_forms {
 }
 
 pub mod operator_table {
-    pub use wasm_operators::OpCode;
+    pub use wasm_operators::{Entry, Flow, Kind, OpCode};
 }

@@ -166,7 +166,7 @@ fn read_rare(kind: Kind, alloc: Global, reader: &mut BinaryReader<'_>) -> Result
 }
 
 // The immediates of a kind.
-#[inline]
+#[inline(always)]
 #[tactic(auto, unfolding(wasm_immediates::specs::Readings::items_at, wasm_immediates::specs::Readings::item_at))]
 pub(crate) fn read_immediates(
     kind: Kind,

@@ -1,15 +1,20 @@
 //! Operators are read one by one.
 
-ghost use Rattle.std.specs.Prelude.{◌≡◌, ◌==◌, ◌+◌, length};
+ghost use Rattle.std.specs.Prelude.{◌≡◌, ◌==◌, ◌+◌, length, IfOk, IfSome, Ok, Some};
 ghost use Rattle.wasm_reader.specs.Cursor.{rest};
-ghost use Rattle.walrus_operators.specs.Operators.{ReadsOperator};
+ghost use Rattle.wasm_reader.specs.Reading.{Reads, plain};
+ghost use Rattle.wasm_operators.specs.Operators.{code_at, IsKindOrPlace};
+ghost use Rattle.wasm_operators.specs.Table.{find_code};
+ghost use Rattle.wasm_operators.specs.declared.entry.Entry.{Entry as Row};
+ghost use Rattle.walrus_operators.specs.Immediates.{kind_is};
+ghost use Rattle.walrus_operators.specs.Operators.{IsNext, IsNextOf, ReadsOperator};
 
 use crate::operator::Operator;
 use crate::read::read_immediates;
 use std::alloc::Global;
 use std::marker::Model;
-use wasm_operators::OpCode;
-use wasm_reader::{BinaryReader, Error, Result};
+use wasm_operators::{Entry, Kind, OpCode};
+use wasm_reader::{BinaryReader, Error, FromReader, Result};
 
 /// Why no operator was read.
 #[derive(Clone, Copy, PartialEq, Eq)]
@@ -30,6 +35,17 @@ impl From<Error> for OperatorError {
     fn from(error: Error) -> Self {
         OperatorError::Read(error)
     }
+}
+
+// The next code, whose kind is known.
+#[inline(always)]
+fn read_code(alloc: Global, reader: &mut BinaryReader<'_>, kind: Kind) -> Result<OpCode>
+    requires { IsNextOf reader.old kind }
+    ensures code { Reads code_at plain reader.old reader.new result }
+    ensures kind { IfOk result (λ code. IsKindOrPlace reader.old code (Ok kind)) }
+    ensures entry { IfOk result (λ code. (e : Row) → IsNext reader.old e → find_code code.prefix code.number ≡ Some e) }
+{
+    OpCode::from_reader(alloc, reader)
 }
 
 /// Reads operators one by one.
@@ -81,6 +97,46 @@ impl<'a> OperatorReader<'a> {
             Ok(kind) => kind,
             Err(offset) => return Err(OperatorError::Unknown(offset)),
         };
+        let immediates = read_immediates(kind, alloc, &mut self.reader)?;
+        Ok(Operator { code, immediates })
+    }
+
+    /// What the table says of the next operator, whose code stays to be read; none where that is more than a byte, or no operator's under
+    /// the reader's features.
+    #[inline(always)]
+    pub fn next_entry(&self) -> Option<Entry>
+        ensures { IfSome result (λ entry. IsNext self.now entry) }
+    {
+        let Ok(byte) = self.reader.peek() else {
+            return None;
+        };
+        if byte >= 0xfb {
+            return None;
+        }
+        let code = OpCode {
+            prefix: 0,
+            number: u32::from(byte),
+        };
+        let Some(entry) = code.entry() else {
+            return None;
+        };
+        if !entry.gate.is_on(self.reader.features()) {
+            return None;
+        }
+        Some(entry)
+    }
+
+    /// The next operator, whose immediates are of this kind, refused as [`OperatorReader::read`] refuses it. Where the kind is written out,
+    /// no other is tested.
+    #[inline(always)]
+    #[tactic(auto, unfolding(wasm_operators::specs::Operators::operator_at))]
+    pub fn read_as(&mut self, kind: Kind, alloc: Global) -> Result<Operator, OperatorError>
+        requires { IsNextOf self.old kind }
+        ensures read { ReadsOperator self.old.window.features self.old self.new result }
+        ensures kind { IfOk result (λ op. kind_is op.immediates ≡ kind) }
+        ensures entry { IfOk result (λ op. (e : Row) → IsNext self.old e → find_code op.code.prefix op.code.number ≡ Some e) }
+    {
+        let code = read_code(alloc, &mut self.reader, kind)?;
         let immediates = read_immediates(kind, alloc, &mut self.reader)?;
         Ok(Operator { code, immediates })
     }
