@@ -1,6 +1,7 @@
 //! An open sequence of a body that is read.
 
-ghost use Rattle.std.specs.Prelude.{◌≡◌, OnOk};
+ghost use Rattle.std.specs.Prelude.{◌≡◌, ◌<◌, OnOk};
+ghost use Rattle.std.specs.Vec.{vec_len, vec_capacity};
 ghost use Rattle.walrus_body_nesting.specs.Opens.{nested, ran, reach_in, reach_on};
 ghost use Rattle.walrus_body_stack.specs.Frames.{open_of};
 
@@ -51,7 +52,28 @@ pub(crate) struct Frame {
 const FEW: usize = 16;
 
 impl Frame {
+    // Room for one more. Growth stands apart, so that what is inlined stays small.
+    #[inline(always)]
+    fn make_room(&mut self) -> Result<(), AllocError>
+        ensures room { OnOk result (vec_len self.new.instrs < vec_capacity self.new.instrs) }
+        ensures rest { open_of self.new ≡ open_of self.old }
+    {
+        if self.instrs.len() < self.instrs.capacity() {
+            return Ok(());
+        }
+        self.grow()
+    }
+
+    #[inline(never)]
+    fn grow(&mut self) -> Result<(), AllocError>
+        ensures room { OnOk result (vec_len self.new.instrs < vec_capacity self.new.instrs) }
+        ensures rest { open_of self.new ≡ open_of self.old }
+    {
+        self.instrs.reserve(1)
+    }
+
     /// Adds an instruction where it is reached.
+    #[inline(always)]
     pub(crate) fn run(
         &mut self,
         instr: Instr,
@@ -62,7 +84,8 @@ impl Frame {
     {
         match self.reach {
             Reach::Live => {
-                self.instrs.push((instr, place))?;
+                self.make_room()?;
+                self.instrs.push_reserved((instr, place));
                 if cuts {
                     self.reach = Reach::Cut;
                 }

@@ -84,6 +84,7 @@ impl Stack {
     }
 
     /// The sequence that a label names: the innermost has the label 0.
+    #[inline(always)]
     pub fn label(&self, depth: u32) -> Option<InstrSeqId>
         ensures { result ≡ slice_get (ids_of (opens self.now)) depth }
     {
@@ -110,6 +111,7 @@ impl Stack {
     /// # Errors
     ///
     /// Want of memory.
+    #[inline(always)]
     pub fn run(&mut self, instr: Instr, place: InstrLocId, cuts: bool) -> Result<(), AllocError>
         ensures ty { heading_of self.new ≡ heading_of self.old }
         ensures opens { OnOk result (opens self.new ≡ ran (instr, place) cuts (inner self.old) ∷ around self.old) }
