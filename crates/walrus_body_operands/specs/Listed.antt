@@ -22,6 +22,13 @@ IsListed op = (e : Entry) × (find_code op.code.prefix op.code.number ≡ Some e
 abbrev pub RunsListed : Operator → Type 0
 RunsListed op = IsListed op × (role (seen op) ≡ Runs)
 
+-- behind it the next operator is reached, and it stands in a sequence
+abbrev pub keeps_on : Option Flow → Bool
+keeps_on (Some flows.Goes) = true
+keeps_on (Some flows.Calls) = true
+keeps_on (Some flows.Chooses) = true
+keeps_on _ = false
+
 -- of so many open sequences: `delegate` doesn't count the one that it ends
 abbrev pub known_labels : Option Flow → ℕ → ℕ
 known_labels (Some flows.Delegate) count = count - 1

@@ -24,6 +24,7 @@ pub trait Labels {
 }
 
 /// The sequence that a label names.
+#[inline(always)]
 pub(crate) fn label<L: Labels>(labels: &L, depth: u32, offset: u64) -> Result<InstrSeqId, BodyError>
     ensures { Meets result (label_test (L.ids labels.now) depth) offset (λ k. slice_get (L.ids labels.now) depth ≡ Some k) }
 {

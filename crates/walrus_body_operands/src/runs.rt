@@ -35,6 +35,7 @@ use wasm_operators::OpCode;
 use wasm_ref_types::{HeapType, ValType};
 
 // Of an operator that names this label, which is that of this sequence.
+#[inline(always)]
 fn labelled(code: OpCode, depth: u32, block: InstrSeqId) -> Option<Instr>
     ensures { result ≡ labelled_at code depth block }
 {
@@ -75,6 +76,7 @@ fn casting(code: OpCode, block: InstrSeqId, from_ty: RefType, to_ty: RefType) ->
     }
 }
 
+#[inline(always)]
 fn branch<L: Labels>(code: OpCode, depth: u32, labels: &L, offset: u64) -> Result<Instr, BodyError>
     requires { (k : ℕ) → is_some (labelled_at code depth k) ≡ true }
     ensures { (s : Sight) → Meets result (items_test s (length (L.ids labels.now)) (record { code = code; items = Names LabelSpace depth ∷ [] })) offset (RunsAs s (L.ids labels.now) code (Names LabelSpace depth ∷ [])) }
@@ -118,6 +120,7 @@ fn branch_table<L: Labels>(
 }
 
 // Of an operator that is paired by itself.
+#[inline(always)]
 fn paired<S: Scope>(scope: &S, op: &Operator, offset: u64) -> Result<Instr, BodyError>
     requires runs { RunsListed op.now }
     requires plain { holds_labels (kind_is op.now.immediates) ≡ false }
@@ -130,6 +133,7 @@ fn paired<S: Scope>(scope: &S, op: &Operator, offset: u64) -> Result<Instr, Body
     }
 }
 
+#[inline(always)]
 pub(crate) fn plain<S: Scope>(scope: &S, op: &Operator, offset: u64) -> Result<Instr, BodyError>
     requires runs { RunsListed op.now }
     requires alone { names_alone op.now.immediates ≡ true }
@@ -163,6 +167,7 @@ fn on_segment<S: Scope>(scope: &S, op: &Operator, offset: u64) -> Result<Instr, 
 }
 
 // Whether the offset of an access is an address of its memory.
+#[inline(always)]
 fn is_within<S: Scope>(scope: &S, access: MemoryAccess) -> bool
     ensures { result ≡ (has_wide (S.sight scope.now) (look (S.sight scope.now) Memories access.memory) || nat_lt access.offset (2 ^ 32)) }
 {
@@ -173,6 +178,7 @@ fn is_within<S: Scope>(scope: &S, access: MemoryAccess) -> bool
 }
 
 // The instruction, where it reaches addresses of the memory.
+#[inline(always)]
 fn within<S: Scope>(
     scope: &S,
     access: MemoryAccess,
@@ -190,6 +196,7 @@ fn within<S: Scope>(
 }
 
 // Of an operator that accesses a memory.
+#[inline(always)]
 pub(crate) fn on_memory<S: Scope>(
     scope: &S,
     op: &Operator,
@@ -263,6 +270,7 @@ fn cast<S: Scope, L: Labels>(
 }
 
 /// The instruction of an operator that stands in a sequence.
+#[inline(always)]
 pub(crate) fn run<S: Scope, L: Labels>(
     scope: &S,
     alloc: Global,

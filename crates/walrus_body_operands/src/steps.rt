@@ -9,7 +9,7 @@ ghost use Rattle.walrus_body_steps.specs.walrus_body_rules.Rules.{items_test};
 ghost use Rattle.walrus_body_steps.specs.walrus_body_rules.Sights.{Sight};
 ghost use Rattle.walrus_body_steps.specs.Meanings.{IsOpener};
 ghost use Rattle.walrus_body_operands.specs.Asked.{AnswersIf, Meets};
-ghost use Rattle.walrus_body_operands.specs.Listed.{IsListed, RunsListed, accessed, begins_block, holds_list, known_labels, names_alone, names_label, names_tag, opened_by};
+ghost use Rattle.walrus_body_operands.specs.Listed.{IsListed, RunsListed, accessed, begins_block, holds_list, keeps_on, known_labels, names_alone, names_label, names_tag, opened_by};
 ghost use Rattle.walrus_body_operands.specs.Steps.{IsStep};
 
 use crate::faults::no_item;
@@ -268,6 +268,30 @@ fn bare<S: Scope, L: Labels>(
     match op.code.flow() {
         Some(Flow::Goes) => goes(scope, op, offset),
         _ => by_flow(scope, alloc, op, labels, offset),
+    }
+}
+
+/// The same as [`step_of`] of an operator that stands in a sequence, and behind which the next is reached. All of it is inlined: where the
+/// form of the immediates is known, no other is tested.
+///
+/// # Errors
+///
+/// As [`step_of`].
+#[inline(always)]
+pub fn step_on<S: Scope, L: Labels>(
+    scope: &S,
+    alloc: Global,
+    op: &Operator,
+    labels: &L,
+    offset: u64,
+) -> Result<Step, BodyError>
+    requires listed { IsListed op.now }
+    requires on { keeps_on (flow_of op.now.code) ≡ true }
+    ensures { AnswersIf (holds_list (kind_is op.now.immediates)) result (items_test (S.sight scope.now) (known_labels (flow_of op.now.code) (length (L.ids labels.now))) (seen op.now)) offset (IsStep (S.sight scope.now) (L.ids labels.now) (seen op.now)) }
+{
+    match run(scope, alloc, op, labels, offset) {
+        Ok(instr) => Ok(Step::Run { instr, cuts: false }),
+        Err(fault) => Err(fault),
     }
 }
 

@@ -58,6 +58,7 @@ fn no_type(offset: u64) -> BodyError
 }
 
 /// Begins a handler for the exceptions of a tag.
+#[inline(never)]
 pub(crate) fn begin_handler<S: Scope>(
     scope: &S,
     stack: &mut Stack,
@@ -77,6 +78,7 @@ pub(crate) fn begin_handler<S: Scope>(
 }
 
 /// Begins a handler for all exceptions.
+#[inline(never)]
 pub(crate) fn begin_last_handler<S: Scope>(
     scope: &S,
     stack: &mut Stack,

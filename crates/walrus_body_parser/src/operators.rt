@@ -1,22 +1,40 @@
 //! Operators are read, one after another.
 
-ghost use Rattle.std.specs.Prelude.{◌≡◌, ◌<◌, ◌≤◌, ◌+◌, length, IfOk, OnOk};
-ghost use Rattle.wasm_reader.specs.Cursor.{Forward, IsWithin, end_of, rest};
+ghost use Rattle.std.specs.Prelude.{◌≡◌, ◌<◌, ◌≤◌, ◌+◌, length, true, IfOk, OnOk, Some, Err};
+ghost use Rattle.wasm_reader.specs.Cursor.{Cursor, Forward, IsWithin, end_of, rest};
+ghost use Rattle.wasm_operators.specs.declared.entry.Entry.{Entry};
+ghost use Rattle.wasm_operators.specs.Table.{find_code};
 ghost use Rattle.walrus_body_locals.specs.wasm_body_grammar.Bodies.{operator};
-ghost use Rattle.walrus_operators.specs.Operators.{seen};
+ghost use Rattle.walrus_operators.specs.Operators.{seen, IsNext, IsNextOf, ReadsOperator};
 ghost use Rattle.walrus_body_locals.specs.walrus_body_nesting.Opens.{Shaped};
 ghost use Rattle.walrus_body_operands.specs.walrus_body_stack.Frames.{blocks, heading_of, opens};
 ghost use Rattle.walrus_body_locals.specs.Calls.{Parses};
-ghost use Rattle.walrus_body_operands.specs.Listed.{IsListed};
+ghost use Rattle.walrus_body_operands.specs.Listed.{IsListed, keeps_on};
 ghost use Rattle.walrus_body_parser.specs.Changes.{ReadsNext, entry_of};
+ghost use Rattle.walrus_body_parser.specs.Points.{IsRefusedAs};
 
 use crate::steps::change;
 use std::alloc::Global;
 use walrus_body_locals::body_env::{BodyError, Validator};
 use walrus_body_operands::body_stack::Stack;
-use walrus_body_operands::{Scope, step_of};
+use walrus_body_operands::{Scope, step_of, step_on};
 use walrus_instr::InstrLocId;
+use walrus_operators::operator_table::{Flow, Kind};
 use walrus_operators::{Operator, OperatorError, OperatorReader};
+
+// The fault of an operator that isn't read.
+#[cold]
+#[inline(never)]
+fn fault(error: OperatorError) -> BodyError
+    ensures { (old new : Cursor) → IsWithin old → ReadsOperator old.window.features old new (Err error) → IsRefusedAs old new result }
+{
+    match error {
+        OperatorError::Read(error) => BodyError::from(error),
+        OperatorError::Unknown(offset) => BodyError::Operator {
+            offset: Some(offset),
+        },
+    }
+}
 
 // The next operator, which the features let pass.
 fn next_operator(alloc: Global, reader: &mut OperatorReader<'_>) -> Result<Operator, BodyError>
@@ -27,21 +45,33 @@ fn next_operator(alloc: Global, reader: &mut OperatorReader<'_>) -> Result<Opera
 {
     match reader.read(alloc) {
         Ok(op) => Ok(op),
-        Err(OperatorError::Read(error)) => Err(BodyError::from(error)),
-        Err(OperatorError::Unknown(offset)) => Err(BodyError::Operator {
-            offset: Some(offset),
-        }),
+        Err(error) => Err(fault(error)),
     }
 }
 
-/// Reads an operator inside the open sequences, changes them, and then tells the validator of it; says whether it ended the body. Asks
-/// for an end of the bytes that is less than 4294967295 behind the beginning of the code section's contents.
-///
-/// # Errors
-///
-/// The first that is due: as the operator is read; at its first byte `Operator`, `Index`, `TypeForm`, `Nesting`, `Position`,
-/// `Unsupported` and `Bounds`, by their numbers; as the validator refuses it; want of memory.
-pub(crate) fn read_operator<S: Scope, V: Validator>(
+// The next one, of a kind that is known.
+#[inline(always)]
+fn next_known(
+    kind: Kind,
+    alloc: Global,
+    reader: &mut OperatorReader<'_>,
+) -> Result<Operator, BodyError>
+    requires within { IsWithin reader.old }
+    requires next { IsNextOf reader.old kind }
+    ensures read { Parses (operator reader.old.window.features).parse (λ op x. seen op ≡ x) reader.old reader.new result }
+    ensures listed { IfOk result (λ op. IsListed op) }
+    ensures takes { OnOk result (length (rest reader.new) < length (rest reader.old)) }
+    ensures entry { IfOk result (λ op. (e : Entry) → IsNext reader.old e → find_code op.code.prefix op.code.number ≡ Some e) }
+{
+    match reader.read_as(kind, alloc) {
+        Ok(op) => Ok(op),
+        Err(error) => Err(fault(error)),
+    }
+}
+
+// Any operator. It isn't inlined: what it keeps on the stack is then no part of the reading of the frequent ones.
+#[inline(never)]
+fn read_any<S: Scope, V: Validator>(
     scope: &S,
     alloc: Global,
     reader: &mut OperatorReader<'_>,
@@ -66,4 +96,89 @@ pub(crate) fn read_operator<S: Scope, V: Validator>(
     let done = change(scope, stack, step, place, offset)?;
     validator.op(offset, &op)?;
     Ok(done)
+}
+
+// One of a kind that is known, behind which the next is reached. All of it is inlined, for each kind anew.
+#[inline(always)]
+fn read_known<S: Scope, V: Validator>(
+    kind: Kind,
+    scope: &S,
+    alloc: Global,
+    reader: &mut OperatorReader<'_>,
+    stack: &mut Stack,
+    validator: &mut V,
+    code_start: u64,
+) -> Result<bool, BodyError>
+    requires shaped { Shaped (blocks stack.old) (opens stack.old) }
+    requires within { IsWithin reader.old }
+    requires begins { code_start ≤ reader.old.window.start + reader.old.position }
+    requires ends { end_of reader.old < code_start + 4294967295 }
+    requires next { (e : Entry) × IsNext reader.old e × (e.kind ≡ kind) × (keeps_on (Some e.flow) ≡ true) }
+    ensures read { ReadsNext (S.sight scope.now) V.op_step code_start reader.old stack.old validator.old reader.new stack.new validator.new result }
+    ensures takes { OnOk result (length (rest reader.new) < length (rest reader.old)) }
+    ensures ty { OnOk result (heading_of stack.new ≡ heading_of stack.old) }
+    ensures entry { OnOk result (entry_of stack.new ≡ entry_of stack.old) }
+    ensures moves { Forward reader.old reader.new }
+{
+    let offset = reader.original_position();
+    let place = InstrLocId::new((offset - code_start) as u32);
+    let op = next_known(kind, alloc, reader)?;
+    let step = step_on(scope, alloc, &op, &*stack, offset)?;
+    let done = change(scope, stack, step, place, offset)?;
+    validator.op(offset, &op)?;
+    Ok(done)
+}
+
+// Whether the next operator is reached behind one that does this to a run.
+#[inline(always)]
+fn goes_on(flow: Flow) -> bool
+    ensures { result ≡ keeps_on (Some flow) }
+{
+    matches!(flow, Flow::Goes | Flow::Calls | Flow::Chooses)
+}
+
+/// Reads an operator inside the open sequences, changes them, and then tells the validator of it; says whether it ended the body. Asks
+/// for an end of the bytes that is less than 4294967295 behind the beginning of the code section's contents.
+///
+/// # Errors
+///
+/// The first that is due: as the operator is read; at its first byte `Operator`, `Index`, `TypeForm`, `Nesting`, `Position`,
+/// `Unsupported` and `Bounds`, by their numbers; as the validator refuses it; want of memory.
+#[inline(always)]
+pub(crate) fn read_operator<S: Scope, V: Validator>(
+    scope: &S,
+    alloc: Global,
+    reader: &mut OperatorReader<'_>,
+    stack: &mut Stack,
+    validator: &mut V,
+    code_start: u64,
+) -> Result<bool, BodyError>
+    requires shaped { Shaped (blocks stack.old) (opens stack.old) }
+    requires within { IsWithin reader.old }
+    requires begins { code_start ≤ reader.old.window.start + reader.old.position }
+    requires ends { end_of reader.old < code_start + 4294967295 }
+    ensures read { ReadsNext (S.sight scope.now) V.op_step code_start reader.old stack.old validator.old reader.new stack.new validator.new result }
+    ensures takes { OnOk result (length (rest reader.new) < length (rest reader.old)) }
+    ensures ty { OnOk result (heading_of stack.new ≡ heading_of stack.old) }
+    ensures entry { OnOk result (entry_of stack.new ≡ entry_of stack.old) }
+    ensures moves { Forward reader.old reader.new }
+{
+    let Some(entry) = reader.next_entry() else {
+        return read_any(scope, alloc, reader, stack, validator, code_start);
+    };
+    if !goes_on(entry.flow) {
+        return read_any(scope, alloc, reader, stack, validator, code_start);
+    }
+    match entry.kind {
+        Kind::Bare => read_known(Kind::Bare, scope, alloc, reader, stack, validator, code_start),
+        Kind::Label => read_known(Kind::Label, scope, alloc, reader, stack, validator, code_start),
+        Kind::Function => read_known(Kind::Function, scope, alloc, reader, stack, validator, code_start),
+        Kind::Local => read_known(Kind::Local, scope, alloc, reader, stack, validator, code_start),
+        Kind::Global => read_known(Kind::Global, scope, alloc, reader, stack, validator, code_start),
+        Kind::Access => read_known(Kind::Access, scope, alloc, reader, stack, validator, code_start),
+        Kind::I32 => read_known(Kind::I32, scope, alloc, reader, stack, validator, code_start),
+        Kind::I64 => read_known(Kind::I64, scope, alloc, reader, stack, validator, code_start),
+        Kind::F64 => read_known(Kind::F64, scope, alloc, reader, stack, validator, code_start),
+        _ => read_any(scope, alloc, reader, stack, validator, code_start),
+    }
 }

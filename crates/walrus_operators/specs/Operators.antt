@@ -1,5 +1,5 @@
 -- What a call of the reader of operators answers.
-use Rattle.std.specs.Prelude.{ℕ, ◌+◌, ◌-◌, ◌≤◌, ◌≡◌, ◌⊎◌, true, List, Option, Some, None, Result, Ok, Err, IfOk, IfErr}
+use Rattle.std.specs.Prelude.{ℕ, ◌+◌, ◌-◌, ◌<◌, ◌≤◌, ◌≡◌, ◌⊎◌, true, List, ◌∷◌, Option, Some, None, Result, Ok, Err, IfOk, IfErr}
 use Rattle.wasm_reader.specs.wasm_features.declared.WasmFeatures.{WasmFeatures}
 use Rattle.wasm_reader.specs.declared.error.Error.{Error}
 use Rattle.wasm_reader.specs.Cursor.{Cursor, rest, end_of, Forward}
@@ -46,12 +46,13 @@ pub record ReadsOperator (features : WasmFeatures) (old new : Cursor) (result : 
   pub place : IfErr result (λ e. offset_of e ≤ end_of new)
   pub moves : Forward old new
 
--- a code stands here that is an operator's under the features, of which the table says this
+-- a byte stands here that is the code of an operator under the features, of which the table says this
 pub record IsNext (c : Cursor) (e : Entry) : Type 0 where
-  pub code : OpCode
+  pub byte : ℕ
   pub later : List ℕ
-  pub coded : code_at (rest c) ≡ Ok (code, later)
-  pub listed : find_code code.prefix code.number ≡ Some e
+  pub stands : rest c ≡ byte ∷ later
+  pub low : byte < 0xfb
+  pub listed : find_code 0 byte ≡ Some e
   pub on : is_on c.window.features e.gate ≡ true
 
 -- and these immediates follow it

@@ -14,7 +14,7 @@ use crate::read::read_immediates;
 use std::alloc::Global;
 use std::marker::Model;
 use wasm_operators::{Entry, Kind, OpCode};
-use wasm_reader::{BinaryReader, Error, FromReader, Result};
+use wasm_reader::{BinaryReader, Error, Result};
 
 /// Why no operator was read.
 #[derive(Clone, Copy, PartialEq, Eq)]
@@ -37,15 +37,19 @@ impl From<Error> for OperatorError {
     }
 }
 
-// The next code, whose kind is known.
+// The next code, a byte, whose kind is known.
 #[inline(always)]
-fn read_code(alloc: Global, reader: &mut BinaryReader<'_>, kind: Kind) -> Result<OpCode>
+fn read_code(reader: &mut BinaryReader<'_>, kind: Kind) -> Result<OpCode>
     requires { IsNextOf reader.old kind }
     ensures code { Reads code_at plain reader.old reader.new result }
     ensures kind { IfOk result (λ code. IsKindOrPlace reader.old code (Ok kind)) }
     ensures entry { IfOk result (λ code. (e : Row) → IsNext reader.old e → find_code code.prefix code.number ≡ Some e) }
 {
-    OpCode::from_reader(alloc, reader)
+    let byte = reader.read_u8()?;
+    Ok(OpCode {
+        prefix: 0,
+        number: u32::from(byte),
+    })
 }
 
 /// Reads operators one by one.
@@ -136,7 +140,7 @@ impl<'a> OperatorReader<'a> {
         ensures kind { IfOk result (λ op. kind_is op.immediates ≡ kind) }
         ensures entry { IfOk result (λ op. (e : Row) → IsNext self.old e → find_code op.code.prefix op.code.number ≡ Some e) }
     {
-        let code = read_code(alloc, &mut self.reader, kind)?;
+        let code = read_code(&mut self.reader, kind)?;
         let immediates = read_immediates(kind, alloc, &mut self.reader)?;
         Ok(Operator { code, immediates })
     }

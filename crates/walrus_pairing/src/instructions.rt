@@ -18,6 +18,7 @@ use walrus_operators::immediate_forms::MemoryAccess;
 use walrus_operators::operator_table::OpCode;
 use wasm_reader::{Ieee32, Ieee64};
 
+#[inline(always)]
 fn bare_instr(code: OpCode) -> Option<Instr>
     ensures { result ≡ read.bare_at code }
 {
@@ -57,6 +58,7 @@ fn bare_instr(code: OpCode) -> Option<Instr>
 }
 
 // Of a numeric operator, and the lane behind it, if there is one.
+#[inline(always)]
 fn numeric_instr(code: OpCode, lane: Option<u8>) -> Option<Instr>
     ensures { result ≡ read.numeric_at code lane }
 {
@@ -70,6 +72,7 @@ fn numeric_instr(code: OpCode, lane: Option<u8>) -> Option<Instr>
 }
 
 // Without immediates.
+#[inline(always)]
 pub(crate) fn no_immediates_instr(code: OpCode) -> Option<Instr>
     ensures { result ≡ read.no_immediates_at code }
 {
@@ -110,6 +113,7 @@ pub(crate) fn run_instr(code: OpCode, bytes: [u8; 16]) -> Option<Instr>
     }
 }
 
+#[inline(always)]
 pub(crate) fn i32_instr(code: OpCode, n: i32) -> Option<Instr>
     ensures { result ≡ read.of_bytes (read.at 0x41 (instrs.Const (constants.I32 n)) ∷ []) code }
 {
@@ -121,6 +125,7 @@ pub(crate) fn i32_instr(code: OpCode, n: i32) -> Option<Instr>
     })
 }
 
+#[inline(always)]
 pub(crate) fn i64_instr(code: OpCode, n: i64) -> Option<Instr>
     ensures { result ≡ read.of_bytes (read.at 0x42 (instrs.Const (constants.I64 n)) ∷ []) code }
 {
@@ -143,6 +148,7 @@ pub(crate) fn f32_instr(code: OpCode, bits: Ieee32) -> Option<Instr>
     })
 }
 
+#[inline(always)]
 pub(crate) fn f64_instr(code: OpCode, bits: Ieee64) -> Option<Instr>
     ensures { result ≡ read.bits_at code 8 bits.0 }
 {
@@ -215,6 +221,7 @@ pub(crate) fn memory_instr(code: OpCode, memory: MemoryId) -> Option<Instr>
     }
 }
 
+#[inline(always)]
 pub(crate) fn function_instr(code: OpCode, func: FunctionId) -> Option<Instr>
     ensures { result ≡ read.function_at code func }
 {
@@ -229,6 +236,7 @@ pub(crate) fn function_instr(code: OpCode, func: FunctionId) -> Option<Instr>
     }
 }
 
+#[inline(always)]
 pub(crate) fn local_instr(code: OpCode, local: LocalId) -> Option<Instr>
     ensures { result ≡ read.local_at code local }
 {
@@ -243,6 +251,7 @@ pub(crate) fn local_instr(code: OpCode, local: LocalId) -> Option<Instr>
     }
 }
 
+#[inline(always)]
 pub(crate) fn global_instr(code: OpCode, global: GlobalId) -> Option<Instr>
     ensures { result ≡ read.global_at code global }
 {
@@ -440,6 +449,7 @@ pub(crate) fn heap_instr(code: OpCode, heap: HeapType) -> Option<Instr>
 }
 
 // Alignment and offset of an access.
+#[inline(always)]
 pub(crate) fn arg_of(access: MemoryAccess) -> Result<MemArg, PairError>
     ensures { result ≡ read.arg_of «access» }
 {
@@ -475,6 +485,7 @@ fn wait_instr(code: OpCode, memory: MemoryId, arg: MemArg) -> Option<Instr>
 }
 
 // Of an access without a lane.
+#[inline(always)]
 pub(crate) fn access_instr(code: OpCode, memory: MemoryId, arg: MemArg) -> Option<Instr>
     ensures { result ≡ read.access_at code memory arg }
 {

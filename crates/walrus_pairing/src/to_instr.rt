@@ -49,16 +49,16 @@ fn select_instr(types: &[ValType], maps: &IndicesToIds) -> Read
     Err(PairError::Select)
 }
 
-// The instruction of an operator without immediates. This and what follows for the frequent kinds aren't inlined: what they keep on the
-// stack is then no part of each call.
-#[inline(never)]
+// The instruction of an operator without immediates. This and what follows for the frequent kinds are inlined, so that where the kind is
+// known no other is tested.
+#[inline(always)]
 fn read_bare(code: OpCode) -> Read
     ensures { result ≡ Ok (no_immediates_at code) }
 {
     Ok(no_immediates_instr(code))
 }
 
-#[inline(never)]
+#[inline(always)]
 fn read_local(code: OpCode, n: u32, function: FunctionId, maps: &IndicesToIds) -> Read
     ensures { result ≡ single_at (id_of (ids maps.now) function) code (items.Names items.Locals n) }
 {
@@ -66,7 +66,7 @@ fn read_local(code: OpCode, n: u32, function: FunctionId, maps: &IndicesToIds) -
     Ok(local_instr(code, id))
 }
 
-#[inline(never)]
+#[inline(always)]
 fn read_global(code: OpCode, n: u32, maps: &IndicesToIds) -> Read
     ensures { result ≡ single_at (id_of (ids maps.now) 0) code (items.Names items.Globals n) }
 {
@@ -74,7 +74,7 @@ fn read_global(code: OpCode, n: u32, maps: &IndicesToIds) -> Read
     Ok(global_instr(code, id))
 }
 
-#[inline(never)]
+#[inline(always)]
 fn read_function(code: OpCode, n: u32, maps: &IndicesToIds) -> Read
     ensures { result ≡ single_at (id_of (ids maps.now) 0) code (items.Names items.Functions n) }
 {
@@ -82,7 +82,7 @@ fn read_function(code: OpCode, n: u32, maps: &IndicesToIds) -> Read
     Ok(function_instr(code, id))
 }
 
-#[inline(never)]
+#[inline(always)]
 fn read_access(code: OpCode, access: MemoryAccess, maps: &IndicesToIds) -> Read
     ensures { result ≡ single_at (id_of (ids maps.now) 0) code (items.Access «access») }
 {
@@ -271,6 +271,7 @@ fn rare_instr(op: &Operator, function: FunctionId, maps: &IndicesToIds) -> Read
 ///
 /// `Unknown` where an index names nothing: the first in the order of the immediates. Else `SharedType`, `ContinuationType`, `Select`
 /// and `Alignment`.
+#[inline(always)]
 pub fn instr_of(op: &Operator, function: FunctionId, maps: &IndicesToIds) -> Read
     ensures { result ≡ instr_at (id_of (ids maps.now) function) (seen op.now) }
 {

@@ -1,5 +1,13 @@
-use Rattle.walrus_operators.proofs.Known.{kind_answers}
+use Rattle.wasm_reader.specs.Cursor.{rest}
+use Rattle.walrus_operators.proofs.Known.{code_next, kind_next}
 use Rattle.walrus_operators.proofs.reader.read_code.Goals as goal
 
+pub returns-clause-code : goal.returns-clause-code
+returns-clause-code c = record {
+  value = code_next c.args.reader.now c.in_ok-byte.byte c.from.result (rest c.read_u8.new.self) c.from.ensures c.in_ok-byte.ensures.value c.args.kind c.requires;
+  place = tt;
+  moves = c.read_u8.ensures.moves;
+}
+
 pub returns-clause-kind : goal.returns-clause-kind
-returns-clause-kind c = kind_answers c.args.reader.now c.from_reader.new.reader c.args.kind c.from_reader.result c.requires c.from_reader.ensures
+returns-clause-kind c = kind_next c.args.reader.now c.in_ok-byte.byte c.from.result (rest c.read_u8.new.self) c.from.ensures c.in_ok-byte.ensures.value c.args.kind c.requires

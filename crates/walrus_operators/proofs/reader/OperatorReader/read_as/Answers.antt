@@ -1,0 +1,7 @@
+use Rattle.std.proofs.Common.{subst, sym}
+use Rattle.wasm_reader.specs.Cursor.{Cursor}
+use Rattle.walrus_operators.specs.Operators.{IsNext}
+use Rattle.walrus_operators.proofs.reader.OperatorReader.read_as.Goals as goal
+
+pub returns-clause-entry : goal.returns-clause-entry
+returns-clause-entry c = λ e n. let F : Cursor → Type 0 = λ z. IsNext z e in c.in_ok-code.ensures.entry e (subst F (sym c.self.view_is) n)
