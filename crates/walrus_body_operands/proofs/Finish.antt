@@ -1,6 +1,6 @@
 -- Lemmas: what is answered of the parts of an operator is answered of the operator.
 use Rattle.std.specs.Prelude.{ℕ, ◌≡◌, List, length, Option, None, Result, Ok, Err}
-use Rattle.std.specs.Prelude.{◌⊎◌, nat_lt, Bool, true, [], Some, refl}
+use Rattle.std.specs.Prelude.{◌⊎◌, nat_lt, Bool, true, false, [], Some, refl}
 use Rattle.std.proofs.Common.{ap, sym, subst, ◌∙◌, inl, inr}
 use Rattle.std.specs.Global.{Vec}
 use Rattle.wasm_immediates.specs.declared.block_type.BlockType.{BlockType}
@@ -12,7 +12,7 @@ use Rattle.wasm_operators.specs.declared.op_code.OpCode.{OpCode}
 use Rattle.wasm_formats.specs.declared.fault.Space.TheVariants as spaces
 use Rattle.wasm_formats.specs.Stops.{Trouble, Index}
 use Rattle.walrus_body_steps.specs.wasm_grammar.Values.{must}
-use Rattle.walrus_body_steps.specs.wasm_normal_form.Roles.{Runs, role_in}
+use Rattle.walrus_body_steps.specs.wasm_normal_form.Roles.{Runs, role, role_in, cuts_in}
 use Rattle.walrus_instr.specs.declared.instr.Instr.{Instr}
 use Rattle.walrus_operators.specs.declared.immediates.Immediates.{Immediates}
 use Rattle.walrus_operators.specs.declared.immediates.Immediates.TheVariants as imm
@@ -27,8 +27,9 @@ use Rattle.walrus_body_steps.specs.Meanings.{RunsAs}
 use Rattle.walrus_body_operands.specs.Asked.{AnswersIf, Meets, index_test, try_test, written_test}
 use Rattle.wasm_operators.specs.Operators.{flow_of}
 use Rattle.walrus_body_operands.specs.declared.steps.Step.{Step}
+use Rattle.walrus_body_operands.specs.declared.steps.Step.TheVariants as step
 use Rattle.walrus_body_operands.specs.Steps.{IsStep}
-use Rattle.walrus_body_operands.specs.Listed.{holds_list, is_bare, known_labels}
+use Rattle.walrus_body_operands.specs.Listed.{holds_list, is_bare, keeps_on, known_labels}
 use Rattle.walrus_body_operands.proofs.Tests.{items_are, block_tests, label_tests, try_tests}
 use Rattle.walrus_body_operands.proofs.Pairing.{one_test}
 
@@ -147,3 +148,54 @@ try_test_is s ids op ty cs is =
 -- it does one of these to a run
 pub stands : (f : Flow) → (f ≡ flows.Goes) ⊎ ((f ≡ flows.Traps) ⊎ ((f ≡ flows.Branches) ⊎ ((f ≡ flows.Chooses) ⊎ ((f ≡ flows.Selects) ⊎ ((f ≡ flows.Returns) ⊎ ((f ≡ flows.Calls) ⊎ ((f ≡ flows.CallsIndirectly) ⊎ ((f ≡ flows.TailCalls) ⊎ ((f ≡ flows.TailCallsIndirectly) ⊎ ((f ≡ flows.Throws) ⊎ (f ≡ flows.ThrowsOrTraps))))))))))) → role_in (Some f) ≡ Runs
 stands f h = elim h [ inl a0 ↦ ap (λ (g : Flow). role_in (Some g)) a0 | inr b0 ↦ elim b0 [ inl a1 ↦ ap (λ (g : Flow). role_in (Some g)) a1 | inr b1 ↦ elim b1 [ inl a2 ↦ ap (λ (g : Flow). role_in (Some g)) a2 | inr b2 ↦ elim b2 [ inl a3 ↦ ap (λ (g : Flow). role_in (Some g)) a3 | inr b3 ↦ elim b3 [ inl a4 ↦ ap (λ (g : Flow). role_in (Some g)) a4 | inr b4 ↦ elim b4 [ inl a5 ↦ ap (λ (g : Flow). role_in (Some g)) a5 | inr b5 ↦ elim b5 [ inl a6 ↦ ap (λ (g : Flow). role_in (Some g)) a6 | inr b6 ↦ elim b6 [ inl a7 ↦ ap (λ (g : Flow). role_in (Some g)) a7 | inr b7 ↦ elim b7 [ inl a8 ↦ ap (λ (g : Flow). role_in (Some g)) a8 | inr b8 ↦ elim b8 [ inl a9 ↦ ap (λ (g : Flow). role_in (Some g)) a9 | inr b9 ↦ elim b9 [ inl a10 ↦ ap (λ (g : Flow). role_in (Some g)) a10 | inr b10 ↦ ap (λ (g : Flow). role_in (Some g)) b10 ] ] ] ] ] ] ] ] ] ] ]
+
+-- ---- operators behind which the next is reached
+
+-- such a one stands in a sequence, cuts nothing off, and knows all labels
+record Keeps (f : Option Flow) (n : ℕ) : Type 0 where
+  role : role_in f ≡ Runs
+  cut : false ≡ cuts_in f
+  known : n ≡ known_labels f n
+
+kept : (f : Option Flow) (n : ℕ) → keeps_on f ≡ true → Keeps f n
+kept (Some flows.Goes) n h = record { role = refl; cut = refl; known = refl }
+kept (Some flows.Calls) n h = record { role = refl; cut = refl; known = refl }
+kept (Some flows.Chooses) n h = record { role = refl; cut = refl; known = refl }
+kept None n h = absurd cc
+kept (Some flows.Passes) n h = absurd cc
+kept (Some flows.Traps) n h = absurd cc
+kept (Some flows.OpensBlock) n h = absurd cc
+kept (Some flows.OpensLoop) n h = absurd cc
+kept (Some flows.OpensIf) n h = absurd cc
+kept (Some flows.OpensTry) n h = absurd cc
+kept (Some flows.OpensTryTable) n h = absurd cc
+kept (Some flows.Else) n h = absurd cc
+kept (Some flows.Catch) n h = absurd cc
+kept (Some flows.CatchAll) n h = absurd cc
+kept (Some flows.Delegate) n h = absurd cc
+kept (Some flows.End) n h = absurd cc
+kept (Some flows.Branches) n h = absurd cc
+kept (Some flows.Selects) n h = absurd cc
+kept (Some flows.Returns) n h = absurd cc
+kept (Some flows.CallsIndirectly) n h = absurd cc
+kept (Some flows.TailCalls) n h = absurd cc
+kept (Some flows.TailCallsIndirectly) n h = absurd cc
+kept (Some flows.Throws) n h = absurd cc
+kept (Some flows.ThrowsOrTraps) n h = absurd cc
+
+pub on_runs : (op : Operator) → keeps_on (flow_of op.code) ≡ true → role (seen op) ≡ Runs
+on_runs op on = (kept (flow_of op.code) 0 on).role
+
+-- the instruction is that of its step
+pub on_step : (s : Sight) (ids : List ℕ) (op : Operator) (wants : Bool) (offset : ℕ) (r : Result Instr BodyError) → keeps_on (flow_of op.code) ≡ true
+    → AnswersIf wants r (items_test s (length ids) (seen op)) offset (RunsAs s ids op.code (items_of op.immediates))
+    → AnswersIf wants r (items_test s (known_labels (flow_of op.code) (length ids)) (seen op)) offset (λ i. IsStep s ids (seen op) (step.Run i false))
+on_step s ids op wants offset r on h =
+    let k = kept (flow_of op.code) (length ids) on in
+    let F : ℕ → Type 0 = λ n. AnswersIf wants r (items_test s n (seen op)) offset (λ i. IsStep s ids (seen op) (step.Run i false)) in
+    subst F k.known (go r h)
+  where
+    go : (r : Result Instr BodyError) → AnswersIf wants r (items_test s (length ids) (seen op)) offset (RunsAs s ids op.code (items_of op.immediates))
+        → AnswersIf wants r (items_test s (length ids) (seen op)) offset (λ i. IsStep s ids (seen op) (step.Run i false))
+    go (Ok i) g = let k = kept (flow_of op.code) (length ids) on in (g.0, (k.role, g.1, k.cut))
+    go (Err e) g = g

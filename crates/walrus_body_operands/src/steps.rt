@@ -1,6 +1,6 @@
 //! What an operator does to the open sequences of a body.
 
-ghost use Rattle.std.specs.Prelude.{◌≡◌, ◌-◌, ◌&&◌, ℕ, List, length, not, true, Some};
+ghost use Rattle.std.specs.Prelude.{◌≡◌, ◌-◌, ◌&&◌, ℕ, List, length, not, true, false, Some};
 ghost use Rattle.wasm_operators.specs.Operators.{flow_of};
 ghost use Rattle.walrus_body_steps.specs.wasm_normal_form.Roles.{cuts_in};
 ghost use Rattle.walrus_operators.specs.Immediates.{kind_is};
@@ -271,28 +271,25 @@ fn bare<S: Scope, L: Labels>(
     }
 }
 
-/// The same as [`step_of`] of an operator that stands in a sequence, and behind which the next is reached. All of it is inlined: where the
-/// form of the immediates is known, no other is tested.
+/// The instruction of an operator that stands in a sequence, and behind which the next is reached. All of it is inlined: where the form of
+/// the immediates is known, no other is tested.
 ///
 /// # Errors
 ///
 /// As [`step_of`].
 #[inline(always)]
-pub fn step_on<S: Scope, L: Labels>(
+pub fn instr_on<S: Scope, L: Labels>(
     scope: &S,
     alloc: Global,
     op: &Operator,
     labels: &L,
     offset: u64,
-) -> Result<Step, BodyError>
+) -> Result<Instr, BodyError>
     requires listed { IsListed op.now }
     requires on { keeps_on (flow_of op.now.code) ≡ true }
-    ensures { AnswersIf (holds_list (kind_is op.now.immediates)) result (items_test (S.sight scope.now) (known_labels (flow_of op.now.code) (length (L.ids labels.now))) (seen op.now)) offset (IsStep (S.sight scope.now) (L.ids labels.now) (seen op.now)) }
+    ensures { AnswersIf (holds_list (kind_is op.now.immediates)) result (items_test (S.sight scope.now) (known_labels (flow_of op.now.code) (length (L.ids labels.now))) (seen op.now)) offset (λ instr. IsStep (S.sight scope.now) (L.ids labels.now) (seen op.now) (Step.Run instr false)) }
 {
-    match run(scope, alloc, op, labels, offset) {
-        Ok(instr) => Ok(Step::Run { instr, cuts: false }),
-        Err(fault) => Err(fault),
-    }
+    run(scope, alloc, op, labels, offset)
 }
 
 /// What an operator of the table does, at this offset inside these sequences.

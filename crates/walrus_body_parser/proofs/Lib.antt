@@ -3,3 +3,4 @@ mod Typing
 pub mod Takes
 mod Reading
 mod Looping
+mod Frequent

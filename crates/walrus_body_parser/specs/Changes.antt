@@ -1,5 +1,5 @@
 -- How operators change the open sequences of a body, and what hinders them.
-use Rattle.std.specs.Prelude.{◌≡◌, ◌⊎◌, ℕ, ◌-◌, Bool, false, List, [], ◌∷◌, length, Option, Some, None, Result, Ok, Err}
+use Rattle.std.specs.Prelude.{◌≡◌, ◌⊎◌, ℕ, ◌-◌, Bool, true, false, List, [], ◌∷◌, length, Option, Some, None, Result, Ok, Err}
 use Rattle.wasm_reader.specs.Cursor.{Cursor, rest, end_of}
 use Rattle.walrus_instr.specs.declared.seq.InstrLocId.{InstrLocId}
 use Rattle.walrus_instr.specs.declared.seq.InstrSeqType.{InstrSeqType}
@@ -72,3 +72,9 @@ module _ {V : Type 0} (s : Sight) (step : V → ℕ → Seen → Option BodyErro
       (x : ℕ × Seen) × (reads_next (rest old) ≡ Ok (x, rest new)) × (step v (end_of old - length (rest old)) x.1 ≡ (None, w))
       × Steps (meaning s) x.1 (Some (place_at code old)) (blocks stack) (opens stack) done (blocks after) (opens after)
   ReadsNext new after w (Err e) = (e ≡ faults.Memory) ⊎ Fails reads_next (op_told step) (end_of old) v (rest old) e ⊎ HindersNext e
+
+  -- so it was with one that can't end the body; or nothing was read
+  abbrev pub ReadsIf : Cursor → Stack → V → Result Bool BodyError → Type 0
+  ReadsIf new after w (Ok true) = ReadsNext new after w (Ok false)
+  ReadsIf new after w (Ok false) = (new ≡ old) × (after ≡ stack) × (w ≡ v)
+  ReadsIf new after w (Err e) = ReadsNext new after w (Err e)

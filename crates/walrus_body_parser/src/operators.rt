@@ -1,6 +1,7 @@
 //! Operators are read, one after another.
 
 ghost use Rattle.std.specs.Prelude.{◌≡◌, ◌<◌, ◌≤◌, ◌+◌, length, true, IfOk, OnOk, Some, Err};
+ghost use Rattle.std.specs.Bool.{OnTrue};
 ghost use Rattle.wasm_reader.specs.Cursor.{Cursor, Forward, IsWithin, end_of, rest};
 ghost use Rattle.wasm_operators.specs.declared.entry.Entry.{Entry};
 ghost use Rattle.wasm_operators.specs.Table.{find_code};
@@ -10,14 +11,14 @@ ghost use Rattle.walrus_body_locals.specs.walrus_body_nesting.Opens.{Shaped};
 ghost use Rattle.walrus_body_operands.specs.walrus_body_stack.Frames.{blocks, heading_of, opens};
 ghost use Rattle.walrus_body_locals.specs.Calls.{Parses};
 ghost use Rattle.walrus_body_operands.specs.Listed.{IsListed, keeps_on};
-ghost use Rattle.walrus_body_parser.specs.Changes.{ReadsNext, entry_of};
+ghost use Rattle.walrus_body_parser.specs.Changes.{ReadsIf, ReadsNext, entry_of};
 ghost use Rattle.walrus_body_parser.specs.Points.{IsRefusedAs};
 
 use crate::steps::change;
 use std::alloc::Global;
 use walrus_body_locals::body_env::{BodyError, Validator};
 use walrus_body_operands::body_stack::Stack;
-use walrus_body_operands::{Scope, step_of, step_on};
+use walrus_body_operands::{Scope, instr_on, step_of};
 use walrus_instr::InstrLocId;
 use walrus_operators::operator_table::{Flow, Kind};
 use walrus_operators::{Operator, OperatorError, OperatorReader};
@@ -69,9 +70,16 @@ fn next_known(
     }
 }
 
-// Any operator. It isn't inlined: what it keeps on the stack is then no part of the reading of the frequent ones.
+/// Reads an operator inside the open sequences, changes them, and then tells the validator of it; says whether it ended the body. Asks
+/// for an end of the bytes that is less than 4294967295 behind the beginning of the code section's contents. It isn't inlined: what it
+/// keeps on the stack is then no part of the reading of the frequent ones.
+///
+/// # Errors
+///
+/// The first that is due: as the operator is read; at its first byte `Operator`, `Index`, `TypeForm`, `Nesting`, `Position`,
+/// `Unsupported` and `Bounds`, by their numbers; as the validator refuses it; want of memory.
 #[inline(never)]
-fn read_any<S: Scope, V: Validator>(
+pub(crate) fn read_operator<S: Scope, V: Validator>(
     scope: &S,
     alloc: Global,
     reader: &mut OperatorReader<'_>,
@@ -114,8 +122,8 @@ fn read_known<S: Scope, V: Validator>(
     requires begins { code_start ≤ reader.old.window.start + reader.old.position }
     requires ends { end_of reader.old < code_start + 4294967295 }
     requires next { (e : Entry) × IsNext reader.old e × (e.kind ≡ kind) × (keeps_on (Some e.flow) ≡ true) }
-    ensures read { ReadsNext (S.sight scope.now) V.op_step code_start reader.old stack.old validator.old reader.new stack.new validator.new result }
-    ensures takes { OnOk result (length (rest reader.new) < length (rest reader.old)) }
+    ensures read { ReadsIf (S.sight scope.now) V.op_step code_start reader.old stack.old validator.old reader.new stack.new validator.new result }
+    ensures takes { IfOk result (λ read. OnTrue read (length (rest reader.new) < length (rest reader.old))) }
     ensures ty { OnOk result (heading_of stack.new ≡ heading_of stack.old) }
     ensures entry { OnOk result (entry_of stack.new ≡ entry_of stack.old) }
     ensures moves { Forward reader.old reader.new }
@@ -123,10 +131,10 @@ fn read_known<S: Scope, V: Validator>(
     let offset = reader.original_position();
     let place = InstrLocId::new((offset - code_start) as u32);
     let op = next_known(kind, alloc, reader)?;
-    let step = step_on(scope, alloc, &op, &*stack, offset)?;
-    let done = change(scope, stack, step, place, offset)?;
+    let instr = instr_on(scope, alloc, &op, &*stack, offset)?;
+    stack.run(instr, place, false)?;
     validator.op(offset, &op)?;
-    Ok(done)
+    Ok(true)
 }
 
 // Whether the next operator is reached behind one that does this to a run.
@@ -137,15 +145,15 @@ fn goes_on(flow: Flow) -> bool
     matches!(flow, Flow::Goes | Flow::Calls | Flow::Chooses)
 }
 
-/// Reads an operator inside the open sequences, changes them, and then tells the validator of it; says whether it ended the body. Asks
-/// for an end of the bytes that is less than 4294967295 behind the beginning of the code section's contents.
+/// Reads an operator as [`read_operator`] does where it is a frequent one, which never ends the body; says whether it was. Else nothing
+/// is read.
 ///
 /// # Errors
 ///
-/// The first that is due: as the operator is read; at its first byte `Operator`, `Index`, `TypeForm`, `Nesting`, `Position`,
-/// `Unsupported` and `Bounds`, by their numbers; as the validator refuses it; want of memory.
+/// As [`read_operator`].
 #[inline(always)]
-pub(crate) fn read_operator<S: Scope, V: Validator>(
+#[tactic(auto, using(crate::proofs::Frequent::next_so))]
+pub(crate) fn read_frequent<S: Scope, V: Validator>(
     scope: &S,
     alloc: Global,
     reader: &mut OperatorReader<'_>,
@@ -157,28 +165,100 @@ pub(crate) fn read_operator<S: Scope, V: Validator>(
     requires within { IsWithin reader.old }
     requires begins { code_start ≤ reader.old.window.start + reader.old.position }
     requires ends { end_of reader.old < code_start + 4294967295 }
-    ensures read { ReadsNext (S.sight scope.now) V.op_step code_start reader.old stack.old validator.old reader.new stack.new validator.new result }
-    ensures takes { OnOk result (length (rest reader.new) < length (rest reader.old)) }
+    ensures read { ReadsIf (S.sight scope.now) V.op_step code_start reader.old stack.old validator.old reader.new stack.new validator.new result }
+    ensures takes { IfOk result (λ read. OnTrue read (length (rest reader.new) < length (rest reader.old))) }
     ensures ty { OnOk result (heading_of stack.new ≡ heading_of stack.old) }
     ensures entry { OnOk result (entry_of stack.new ≡ entry_of stack.old) }
     ensures moves { Forward reader.old reader.new }
 {
     let Some(entry) = reader.next_entry() else {
-        return read_any(scope, alloc, reader, stack, validator, code_start);
+        return Ok(false);
     };
     if !goes_on(entry.flow) {
-        return read_any(scope, alloc, reader, stack, validator, code_start);
+        return Ok(false);
     }
     match entry.kind {
-        Kind::Bare => read_known(Kind::Bare, scope, alloc, reader, stack, validator, code_start),
-        Kind::Label => read_known(Kind::Label, scope, alloc, reader, stack, validator, code_start),
-        Kind::Function => read_known(Kind::Function, scope, alloc, reader, stack, validator, code_start),
-        Kind::Local => read_known(Kind::Local, scope, alloc, reader, stack, validator, code_start),
-        Kind::Global => read_known(Kind::Global, scope, alloc, reader, stack, validator, code_start),
-        Kind::Access => read_known(Kind::Access, scope, alloc, reader, stack, validator, code_start),
-        Kind::I32 => read_known(Kind::I32, scope, alloc, reader, stack, validator, code_start),
-        Kind::I64 => read_known(Kind::I64, scope, alloc, reader, stack, validator, code_start),
-        Kind::F64 => read_known(Kind::F64, scope, alloc, reader, stack, validator, code_start),
-        _ => read_any(scope, alloc, reader, stack, validator, code_start),
+        Kind::Bare => read_known(
+            Kind::Bare,
+            scope,
+            alloc,
+            reader,
+            stack,
+            validator,
+            code_start,
+        ),
+        Kind::Label => read_known(
+            Kind::Label,
+            scope,
+            alloc,
+            reader,
+            stack,
+            validator,
+            code_start,
+        ),
+        Kind::Function => read_known(
+            Kind::Function,
+            scope,
+            alloc,
+            reader,
+            stack,
+            validator,
+            code_start,
+        ),
+        Kind::Local => read_known(
+            Kind::Local,
+            scope,
+            alloc,
+            reader,
+            stack,
+            validator,
+            code_start,
+        ),
+        Kind::Global => read_known(
+            Kind::Global,
+            scope,
+            alloc,
+            reader,
+            stack,
+            validator,
+            code_start,
+        ),
+        Kind::Access => read_known(
+            Kind::Access,
+            scope,
+            alloc,
+            reader,
+            stack,
+            validator,
+            code_start,
+        ),
+        Kind::I32 => read_known(
+            Kind::I32,
+            scope,
+            alloc,
+            reader,
+            stack,
+            validator,
+            code_start,
+        ),
+        Kind::I64 => read_known(
+            Kind::I64,
+            scope,
+            alloc,
+            reader,
+            stack,
+            validator,
+            code_start,
+        ),
+        Kind::F64 => read_known(
+            Kind::F64,
+            scope,
+            alloc,
+            reader,
+            stack,
+            validator,
+            code_start,
+        ),
+        _ => Ok(false),
     }
 }
