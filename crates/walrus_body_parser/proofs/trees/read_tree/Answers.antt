@@ -25,7 +25,7 @@ loop-done-init g c =
 
 pub returns-in_err-read-clause-refused : goal.returns-in_err-read-clause-refused
 returns-in_err-read-clause-refused g c =
-    let p = err_from_is_err_and c.from_residual-in_err-read.result c.from_residual-in_err-read.ensures.1 in
+    let p = err_from_is_err_and c.from_residual.result c.from_residual.ensures.1 in
     let F : Bool → Type 0 = λ d. Goes (g.S.Scope.sight c.args.scope.now) (validating g.V.Validator.op_step g.V.Validator.finish_step) c.args.code_start c.args.body c.args.validator.now d (blocks c.loop-done.stack) (opens c.loop-done.stack) c.loop-done.reader c.loop-done.validator in
     let here = subst F c.loop-done-test.true c.loop-done.invariant.0 in
     rw (p.1, p.2) (goes_fails (g.S.Scope.sight c.args.scope.now) (validating g.V.Validator.op_step g.V.Validator.finish_step) c.args.code_start c.args.body c.args.validator.now c.loop-done.stack c.loop-done.reader c.loop-done.validator here
