@@ -135,10 +135,11 @@ pub struct InstrSeq {
     id: InstrSeqId,
     /// The type of the block.
     pub ty: InstrSeqType,
+    /// Where the `end` stood.
+    // It lies beside the type, which spares eight bytes.
+    pub end: InstrLocId,
     /// The instructions in their order, without the `end`.
     pub instrs: Vec<(Instr, InstrLocId)>,
-    /// Where the `end` stood.
-    pub end: InstrLocId,
 }
 
 impl InstrSeq {

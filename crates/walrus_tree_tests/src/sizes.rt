@@ -11,5 +11,5 @@ fn instructions_are_compact(rt: HostRuntime) {
     assert_eq!(rt; size_of::<Instr>(), 40);
     assert_eq!(rt; size_of::<(Instr, InstrLocId)>(), 48);
     assert_eq!(rt; size_of::<InstrSeqType>(), 24);
-    assert_eq!(rt; size_of::<InstrSeq>(), 64);
+    assert_eq!(rt; size_of::<InstrSeq>(), 56);
 }
