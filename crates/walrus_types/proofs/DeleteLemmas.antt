@@ -82,7 +82,7 @@ left-types explicit [] h is = absurd cc
 left-types explicit (x ∷ xs) h is =
     let e : record { explicit = explicit; types = x ∷ xs } ≡ h = cc in ap (λ (g : Group). g.types) (sym e)
 
-nothing : (x : ℕ) → Contains [] x → ⊥
+pub nothing : (x : ℕ) → Contains [] x → ⊥
 nothing x (k, less, at) = omega arith
 
 other-passes : (id other : ℕ) → other ≢ id → not (other == id) ≡ true

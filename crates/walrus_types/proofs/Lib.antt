@@ -13,5 +13,6 @@ pub mod ParseLemmas
 pub mod Places
 pub mod RankLemmas
 pub mod SameLemmas
+pub mod SweepLemmas
 pub mod TableLemmas
 pub mod SameOnce

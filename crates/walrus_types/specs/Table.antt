@@ -1,7 +1,7 @@
 -- What a contract sees of a type table: the types and the groups by id, live or dead.
-use Rattle.std.specs.Prelude.{◌≡◌, ◌≢◌, ℕ, ◌<◌, ◌≤◌, Bool, false, not, ◌&&◌, ◌==◌, List, [], ◌∷◌, ◌++◌, length, map, filter, find, Contains, AllPairs, Option, Some, None, IsSome, IsTrue, MatchOption, slice_index, slice_index_or, slice_set, if◌then◌else◌}
+use Rattle.std.specs.Prelude.{◌≡◌, ◌≢◌, ℕ, ◌<◌, ◌≤◌, Bool, false, not, ◌&&◌, ◌==◌, List, [], ◌∷◌, ◌++◌, length, map, filter, find, Contains, AllPairs, Option, Some, None, is_some, IsSome, IsTrue, MatchOption, slice_index, slice_index_or, slice_set, if◌then◌else◌}
 use Rattle.std.specs.List.{list_any}
-use Rattle.std.specs.Option.{option_map, option_map_or}
+use Rattle.std.specs.Option.{option_map, option_map_or, option_and_then}
 use Rattle.walrus_arena.specs.Arena.{entries_from}
 use Rattle.walrus_forms.specs.declared.value.ValType.{ValType}
 use Rattle.walrus_type_index.specs.walrus_items.declared.subtype.Type.{«Type» as TypeItem}
@@ -111,6 +111,15 @@ clear_all (id ∷ ids) types = clear_all ids (slice_set types id None)
 abbrev pub DeletesGroup : ℕ → Table → Table → Type 0
 DeletesGroup id old new = (place : ℕ) (group : Group) → group_at old place ≡ Some group → Contains group.types id
     → new ≡ record { types = clear_all group.types old.types; groups = slice_set old.groups place None }
+
+-- a group without its members that aren't among these types
+abbrev pub with_live : List (Option Item) → Group → Option Group
+with_live types group = nonempty_group group.explicit (filter (λ id. is_some (slice_index_or types id None)) group.types)
+
+-- those of these types that live are gone, from their groups too
+pub record DeletesAll (ids : List ℕ) (old new : Table) : Type 0 where
+  pub types : new.types ≡ clear_all ids old.types
+  pub groups : new.groups ≡ map (option_and_then (with_live new.types)) old.groups
 
 -- whether the type of that id, if it lives, names this one
 abbrev pub is_named_at : Table → ℕ → ℕ → Bool

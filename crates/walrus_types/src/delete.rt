@@ -1,12 +1,12 @@
 //! Deleting types from a table.
-ghost use Rattle.std.specs.Prelude.{◌≡◌, ◌<◌, length, slice_index, ℕ, Bool, true, false, not, [], map, Contains, Some, None, IsSome, slice_set};
+ghost use Rattle.std.specs.Prelude.{◌≡◌, ◌<◌, length, slice_index, ℕ, Bool, true, false, not, [], map, filter, Contains, Some, None, is_some, IsSome, slice_set};
 ghost use Rattle.std.specs.Bool.{OnTrue, OnFalse};
-ghost use Rattle.std.specs.Option.{option_map};
+ghost use Rattle.std.specs.Option.{option_map, option_and_then};
 ghost use Rattle.walrus_arena.specs.Arena.{IsLive as HasLive, item_at};
 ghost use Rattle.walrus_type_index.specs.walrus_items.Items.{Group, group_of, item_of};
 ghost use Rattle.walrus_type_index.specs.Places.{kinds_in};
 ghost use Rattle.walrus_type_index.specs.Ordered.{IsOrdered};
-ghost use Rattle.walrus_types.specs.Table.{IsLive, Deletes, DeletesGroup, group_at, is_named_in, is_named_at, clear_all, without_member, table_of};
+ghost use Rattle.walrus_types.specs.Table.{IsLive, Deletes, DeletesGroup, group_at, is_named_in, is_named_at, clear_all, without_member, with_live, table_of, type_at};
 
 use crate::table::ModuleTypes;
 use walrus_arena::{RecGroupId, RecGroupSpace, TombstoneArena, TypeId, TypeSpace};
@@ -85,4 +85,50 @@ pub(crate) fn home_of(homes: &[RecGroupId], id: TypeId) -> RecGroupId
     ensures { result ≡ slice_index homes.now id }
 {
     homes[id.index()]
+}
+
+// Whether the type lives.
+fn lives(types: &TombstoneArena<Type, TypeSpace>, id: TypeId) -> bool
+    ensures { result ≡ is_some (type_at (table_of types.now.slots []) id) }
+{
+    types.contains(id)
+}
+
+// Takes the members that don't live out of the group.
+fn keep_live(group: &mut RecGroup, types: &TombstoneArena<Type, TypeSpace>)
+    ensures members { group.new.types.items ≡ filter (λ member. is_some (type_at (table_of types.now.slots []) member)) group.old.types.items }
+    ensures explicit { group.new.explicit ≡ group.old.explicit }
+{
+    group.types.retain(|member| lives(types, *member));
+}
+
+// Takes the members that don't live out of the group of this id, if it lives. It goes where none is left.
+fn sweep_at(
+    groups: &mut TombstoneArena<RecGroup, RecGroupSpace>,
+    types: &TombstoneArena<Type, TypeSpace>,
+    place: RecGroupId,
+)
+    ensures { map (option_map group_of) groups.new.slots
+        ≡ slice_set (map (option_map group_of) groups.old.slots) place (option_and_then (with_live (map (option_map item_of) types.now.slots)) (option_map group_of (item_at groups.old place))) }
+{
+    if !groups.contains(place) {
+        return;
+    }
+    let group = &mut groups[place];
+    keep_live(group, types);
+    if group.is_empty() {
+        groups.delete(place);
+    }
+}
+
+// Takes the members that don't live out of each group. Those go where none is left.
+pub(crate) fn sweep(
+    groups: &mut TombstoneArena<RecGroup, RecGroupSpace>,
+    types: &TombstoneArena<Type, TypeSpace>,
+)
+    ensures { map (option_map group_of) groups.new.slots ≡ map (option_and_then (with_live (map (option_map item_of) types.now.slots))) (map (option_map group_of) groups.old.slots) }
+{
+    for index in 0..groups.next_id().index() {
+        sweep_at(groups, types, RecGroupId::from_index(index));
+    }
 }

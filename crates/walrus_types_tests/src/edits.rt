@@ -53,6 +53,48 @@ fn deletes_a_group(rt: HostRuntime) -> Result<(), Fail> {
     Ok(())
 }
 
+// The ids of the live types, and the sizes of the groups, each as digits.
+fn live_ids(types: &ModuleTypes) -> usize {
+    let mut ids: usize = 0;
+    for ty in types.iter() {
+        ids = ids.saturating_mul(10).saturating_add(ty.id().index());
+    }
+    ids
+}
+
+fn group_sizes(types: &ModuleTypes) -> usize {
+    let mut sizes: usize = 0;
+    for group in types.rec_groups() {
+        sizes = sizes.saturating_mul(10).saturating_add(group.types.len());
+    }
+    sizes
+}
+
+// Of groups of three, two and one, whether the second goes with one of the first, in one call; then these
+// ids are dead, and nothing more goes.
+pub fn many_go(types: &mut ModuleTypes) -> bool {
+    let first = TypeId::from_index(1);
+    let pair = TypeId::from_index(4);
+    let ids = [
+        pair,
+        first,
+        TypeId::from_index(3),
+        pair,
+        TypeId::from_index(9),
+    ];
+    types.delete_all(&ids);
+    let gone = live_ids(types) == 25 && group_sizes(types) == 21;
+    types.delete_all(&ids);
+    gone && live_ids(types) == 25 && group_sizes(types) == 21
+}
+
+#[test]
+fn deletes_many(rt: HostRuntime) -> Result<(), Fail> {
+    let steps = [Step::Ring(3), Step::Ring(2), Step::Alone];
+    assert!(rt; is_so(rt.alloc(), &steps, Ask::ManyGo)?);
+    Ok(())
+}
+
 // The first type has this name, and no type has the other.
 fn first_is_named(types: &ModuleTypes, name: &str, other: &str) -> bool {
     let found = types.by_name(name);
