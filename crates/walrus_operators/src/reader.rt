@@ -1,13 +1,13 @@
 //! Operators are read one by one.
 
-ghost use Rattle.std.specs.Prelude.{◌≡◌, ◌==◌, ◌+◌, length, IfOk, IfSome, Ok, Some};
+ghost use Rattle.std.specs.Prelude.{◌≡◌, ◌==◌, ◌+◌, length, IfOk, MatchOption, Ok, Some};
 ghost use Rattle.wasm_reader.specs.Cursor.{rest};
 ghost use Rattle.wasm_reader.specs.Reading.{Reads, plain};
 ghost use Rattle.wasm_operators.specs.Operators.{code_at, IsKindOrPlace};
 ghost use Rattle.wasm_operators.specs.Table.{find_code};
 ghost use Rattle.wasm_operators.specs.declared.entry.Entry.{Entry as Row};
 ghost use Rattle.walrus_operators.specs.Immediates.{kind_is};
-ghost use Rattle.walrus_operators.specs.Operators.{IsNext, IsNextOf, ReadsOperator};
+ghost use Rattle.walrus_operators.specs.Operators.{IsNext, IsNextOf, NoneIsNext, ReadsOperator};
 
 use crate::operator::Operator;
 use crate::read::read_immediates;
@@ -105,11 +105,11 @@ impl<'a> OperatorReader<'a> {
         Ok(Operator { code, immediates })
     }
 
-    /// What the table says of the next operator, whose code stays to be read; none where that is more than a byte, or no operator's under
-    /// the reader's features.
+    /// What the table says of the next operator, whose code stays to be read; none exactly where no byte is left, or that is no operator's
+    /// code by itself under the reader's features.
     #[inline(always)]
     pub fn next_entry(&self) -> Option<Entry>
-        ensures { IfSome result (λ entry. IsNext self.now entry) }
+        ensures { MatchOption result (NoneIsNext self.now) (λ entry. IsNext self.now entry) }
     {
         let Ok(byte) = self.reader.peek() else {
             return None;
