@@ -7,7 +7,7 @@ use Rattle.std.proofs.lemmas.List.FromFn.{get_or-map-range_with_len, length-map-
 use Rattle.std.proofs.Math.ListN.{get_or-map}
 use Rattle.walrus_operator_codes.specs.declared.numeric.Numeric.{Numeric}
 use Rattle.walrus_operator_codes.specs.declared.numeric.Numeric.TheVariants.{Nothing}
-use Rattle.walrus_operator_codes.specs.Runs.{Run, in_runs}
+use Rattle.walrus_codes.specs.Runs.{Run, in_runs}
 use Rattle.walrus_operator_codes.specs.Numeric.{entry_at}
 
 -- all runs lie between two numbers

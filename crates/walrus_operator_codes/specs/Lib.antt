@@ -1,9 +1,9 @@
-pub mod Runs
-pub mod Unary
 pub mod Binary
 pub mod Ternary
 pub mod Numeric
 -- Passed on to crates above, which then list this one alone.
-pub use Rattle.walrus_instr.specs as walrus_instr
-pub use Rattle.walrus_instr.specs.walrus_items as walrus_items
-pub use Rattle.wasm_operators.specs as wasm_operators
+pub use Rattle.walrus_codes.specs.Runs as Runs
+pub use Rattle.walrus_codes.specs.Unary as Unary
+pub use Rattle.walrus_codes.specs.walrus_instr as walrus_instr
+pub use Rattle.walrus_codes.specs.walrus_items as walrus_items
+pub use Rattle.walrus_codes.specs.wasm_operators as wasm_operators

@@ -1,8 +1,8 @@
 -- Numeric operators of any count of operands, by number.
 use Rattle.std.specs.Prelude.{ℕ, ◌-◌, nat_lt, List, Option, Some, None, slice_index_or, if◌then◌else◌}
-use Rattle.walrus_instr.specs.declared.operators.UnaryOp.{UnaryOp}
-use Rattle.walrus_instr.specs.declared.operators.BinaryOp.{BinaryOp}
-use Rattle.walrus_instr.specs.declared.operators.TernaryOp.{TernaryOp}
+use Rattle.walrus_codes.specs.walrus_instr.declared.operators.UnaryOp.{UnaryOp}
+use Rattle.walrus_codes.specs.walrus_instr.declared.operators.BinaryOp.{BinaryOp}
+use Rattle.walrus_codes.specs.walrus_instr.declared.operators.TernaryOp.{TernaryOp}
 use Rattle.walrus_operator_codes.specs.declared.numeric.Numeric.{Numeric}
 use Rattle.walrus_operator_codes.specs.declared.numeric.Numeric.TheVariants.{Nothing, Unary, Binary, Ternary}
 

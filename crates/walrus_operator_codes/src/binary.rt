@@ -1,12 +1,12 @@
 //! Codes of the operators of two operands (Core Specification, binary format: numeric instructions, vector instructions).
 ghost use Rattle.std.specs.Prelude.{◌≡◌, None};
-ghost use Rattle.walrus_operator_codes.specs.Runs.{in_runs};
+ghost use Rattle.walrus_codes.specs.Runs.{in_runs};
 ghost use Rattle.walrus_operator_codes.specs.Binary.{binary_lanes, bare_binary_at, binary_at, binary_code, binary_lane};
 
-use crate::code::{bulk, byte, vector};
 use crate::numeric::{Numeric, numeric_of};
-use walrus_instr::BinaryOp;
-use wasm_operators::OpCode;
+use walrus_codes::instr::BinaryOp;
+use walrus_codes::operator_table::OpCode;
+use walrus_codes::{bulk, byte, vector};
 
 #[tactic(auto, unfolding(crate::specs::Binary::binary_lanes))]
 fn binary_of_lane(number: u32, idx: u8) -> Option<BinaryOp>

@@ -1,7 +1,7 @@
 //! Numeric operators by their numbers (Core Specification, binary format: numeric instructions, vector instructions).
 
 use crate::numeric::Numeric;
-use walrus_instr::{BinaryOp, TernaryOp, UnaryOp};
+use walrus_codes::instr::{BinaryOp, TernaryOp, UnaryOp};
 
 // The bytes from 45 on.
 pub(crate) static BYTES: [Numeric; 128] = [

@@ -2,10 +2,10 @@
 ghost use Rattle.std.specs.Prelude.{◌≡◌};
 ghost use Rattle.walrus_operator_codes.specs.Ternary.{ternary_at, ternary_code};
 
-use crate::code::vector;
 use crate::numeric::{Numeric, numeric_of};
-use walrus_instr::TernaryOp;
-use wasm_operators::OpCode;
+use walrus_codes::instr::TernaryOp;
+use walrus_codes::operator_table::OpCode;
+use walrus_codes::vector;
 
 /// The operator of three operands that has this code, if one has.
 pub fn ternary_of(code: OpCode) -> Option<TernaryOp>

@@ -1,6 +1,6 @@
 use Rattle.std.proofs.Common.{None, refl}
-use Rattle.walrus_operator_codes.specs.Runs.{in_runs}
-use Rattle.walrus_operator_codes.specs.Unary.{unary_bytes, unary_bulks, low_unary_vectors, high_unary_vectors, unary_vector_at}
+use Rattle.walrus_codes.specs.Runs.{in_runs}
+use Rattle.walrus_codes.specs.Unary.{unary_bytes, unary_bulks, low_unary_vectors, high_unary_vectors, unary_vector_at}
 use Rattle.walrus_operator_codes.specs.Binary.{binary_bytes, binary_bulks, low_binary_vectors, high_binary_vectors, binary_vector_at}
 use Rattle.walrus_operator_codes.specs.Ternary.{ternary_vectors}
 use Rattle.walrus_operator_codes.specs.Numeric.{unary, binary, ternary}

@@ -1,19 +1,19 @@
 -- Codes of loads, stores and atomic operators (Core Specification, binary format: memory instructions, vector instructions; the
 -- proposal on threads).
 use Rattle.std.specs.Prelude.{ℕ, ◌+◌, ◌==◌, true, false, List, [], ◌∷◌, Option, Some, None, if◌then◌else◌}
-use Rattle.walrus_operator_codes.specs.walrus_instr.declared.memory.ExtendedLoad.TheVariants as extends
-use Rattle.walrus_operator_codes.specs.walrus_instr.declared.memory.LoadKind.{LoadKind}
-use Rattle.walrus_operator_codes.specs.walrus_instr.declared.memory.LoadKind.TheVariants as loads
-use Rattle.walrus_operator_codes.specs.walrus_instr.declared.memory.StoreKind.{StoreKind}
-use Rattle.walrus_operator_codes.specs.walrus_instr.declared.memory.StoreKind.TheVariants as stores
-use Rattle.walrus_operator_codes.specs.walrus_instr.declared.memory.LoadSimdKind.{LoadSimdKind}
-use Rattle.walrus_operator_codes.specs.walrus_instr.declared.memory.LoadSimdKind.TheVariants as vectors
-use Rattle.walrus_operator_codes.specs.walrus_instr.declared.memory.AtomicOp.{AtomicOp}
-use Rattle.walrus_operator_codes.specs.walrus_instr.declared.memory.AtomicOp.TheVariants as changes
-use Rattle.walrus_operator_codes.specs.walrus_instr.declared.memory.AtomicWidth.{AtomicWidth}
-use Rattle.walrus_operator_codes.specs.walrus_instr.declared.memory.AtomicWidth.TheVariants as widths
-use Rattle.walrus_operator_codes.specs.wasm_operators.declared.op_code.OpCode.{OpCode}
-use Rattle.walrus_operator_codes.specs.Runs.{Run, run, in_runs, byte, vector, atomic}
+use Rattle.walrus_instr.specs.declared.memory.ExtendedLoad.TheVariants as extends
+use Rattle.walrus_instr.specs.declared.memory.LoadKind.{LoadKind}
+use Rattle.walrus_instr.specs.declared.memory.LoadKind.TheVariants as loads
+use Rattle.walrus_instr.specs.declared.memory.StoreKind.{StoreKind}
+use Rattle.walrus_instr.specs.declared.memory.StoreKind.TheVariants as stores
+use Rattle.walrus_instr.specs.declared.memory.LoadSimdKind.{LoadSimdKind}
+use Rattle.walrus_instr.specs.declared.memory.LoadSimdKind.TheVariants as vectors
+use Rattle.walrus_instr.specs.declared.memory.AtomicOp.{AtomicOp}
+use Rattle.walrus_instr.specs.declared.memory.AtomicOp.TheVariants as changes
+use Rattle.walrus_instr.specs.declared.memory.AtomicWidth.{AtomicWidth}
+use Rattle.walrus_instr.specs.declared.memory.AtomicWidth.TheVariants as widths
+use Rattle.wasm_operators.specs.declared.op_code.OpCode.{OpCode}
+use Rattle.walrus_codes.specs.Runs.{Run, run, in_runs, byte, vector, atomic}
 
 -- loads of one byte
 unfoldable pub byte_loads : List (Run LoadKind)

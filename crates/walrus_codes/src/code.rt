@@ -1,6 +1,6 @@
 //! Codes behind a prefix, and picks from runs of them.
 ghost use Rattle.std.specs.Prelude.{◌≡◌, slice_get};
-ghost use Rattle.walrus_operator_codes.specs.Runs as codes;
+ghost use Rattle.walrus_codes.specs.Runs as codes;
 
 use wasm_operators::OpCode;
 

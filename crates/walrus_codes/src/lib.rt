@@ -1,0 +1,29 @@
+//! Codes behind a prefix, and those of operators of one operand and of accesses to memory (Core Specification, binary format: numeric
+//! instructions, memory instructions, vector instructions; the proposal on threads).
+#![tactic(auto)]
+
+mod access;
+mod code;
+mod unary;
+
+pub use access::{
+    code_of_cmpxchg, code_of_load, code_of_rmw, code_of_simd, code_of_store, lane_of_simd,
+};
+pub use code::{atomic, bulk, byte, object, pick, vector};
+pub use unary::{code_of_unary, lane_of_unary};
+
+// Passed on to crates above, which then list this one alone.
+pub mod instr {
+    pub use walrus_instr::{
+        AtomicOp, AtomicWidth, BinaryOp, Bits128, ExtendedLoad, Instr, LoadKind, LoadSimdKind,
+        MemArg, StoreKind, TernaryOp, UnaryOp, Value,
+    };
+}
+
+pub mod operator_table {
+    pub use wasm_operators::OpCode;
+}
+
+pub mod type_table {
+    pub use walrus_instr::type_table::{ModuleLocals, ValType};
+}
