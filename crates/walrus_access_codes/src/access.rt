@@ -90,6 +90,7 @@ fn load_of_atomic(number: u32) -> Option<LoadKind>
 }
 
 /// The load that has this code, if one has.
+#[inline(always)]
 pub fn load_of(code: OpCode) -> Option<LoadKind>
     ensures { result ≡ load_at code }
 {

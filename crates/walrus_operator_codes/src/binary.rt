@@ -33,6 +33,7 @@ fn bare_binary_of(code: OpCode) -> Option<BinaryOp>
 }
 
 /// The operator of two operands that has this code, and this lane behind it, if one has.
+#[inline(always)]
 pub fn binary_of(code: OpCode, lane: Option<u8>) -> Option<BinaryOp>
     ensures { result ≡ binary_at code lane }
 {

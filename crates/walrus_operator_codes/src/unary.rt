@@ -45,6 +45,7 @@ fn bare_unary_of(code: OpCode) -> Option<UnaryOp>
 }
 
 /// The operator of one operand that has this code, and this lane behind it, if one has.
+#[inline(always)]
 pub fn unary_of(code: OpCode, lane: Option<u8>) -> Option<UnaryOp>
     ensures { result ≡ unary_at code lane }
 {
