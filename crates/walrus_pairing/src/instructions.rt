@@ -1,18 +1,14 @@
-//! Instructions of a code and of immediates, whose names are ids.
-ghost use Rattle.std.specs.Prelude.{◌≡◌, [], ◌∷◌, Some, option_map};
-ghost use Rattle.walrus_access_codes.specs.Access.{simd_at};
+//! Instructions of a code and of immediates without names, and those of many codes that name an id.
+ghost use Rattle.std.specs.Prelude.{◌≡◌, [], ◌∷◌};
 ghost use Rattle.walrus_access_codes.specs.walrus_instr.declared.instr.Instr.TheVariants as instrs;
 ghost use Rattle.walrus_access_codes.specs.walrus_instr.declared.instr.Value.TheVariants as constants;
-ghost use Rattle.walrus_operators.specs.wasm_immediates.Items as items;
 ghost use Rattle.walrus_pairing.specs.Read as read;
 
 use crate::error::PairError;
 use walrus_access_codes::instr::{Bits128, Instr, MemArg, Value};
 use walrus_access_codes::operator_codes::{binary_of, ternary_of, unary_of};
 use walrus_access_codes::{cmpxchg_of, load_of, rmw_of, simd_of, store_of};
-use walrus_arena::{
-    DataId, ElementId, FunctionId, GlobalId, LocalId, MemoryId, TableId, TagId, TypeId,
-};
+use walrus_arena::{MemoryId, TableId, TypeId};
 use walrus_forms::{HeapType, RefType};
 use walrus_operators::immediate_forms::MemoryAccess;
 use walrus_operators::operator_table::OpCode;
@@ -204,202 +200,6 @@ pub(crate) fn table_instr(code: OpCode, table: TableId) -> Option<Instr>
     }
 }
 
-pub(crate) fn memory_instr(code: OpCode, memory: MemoryId) -> Option<Instr>
-    ensures { result ≡ read.memory_at code memory }
-{
-    match code.prefix {
-        0 => match code.number {
-            0x3f => Some(Instr::MemorySize { memory }),
-            0x40 => Some(Instr::MemoryGrow { memory }),
-            _ => None,
-        },
-        0xfc => match code.number {
-            11 => Some(Instr::MemoryFill { memory }),
-            _ => None,
-        },
-        _ => None,
-    }
-}
-
-#[inline(always)]
-pub(crate) fn function_instr(code: OpCode, func: FunctionId) -> Option<Instr>
-    ensures { result ≡ read.function_at code func }
-{
-    if code.prefix != 0 {
-        return None;
-    }
-    match code.number {
-        0x10 => Some(Instr::Call { func }),
-        0x12 => Some(Instr::ReturnCall { func }),
-        0xd2 => Some(Instr::RefFunc { func }),
-        _ => None,
-    }
-}
-
-#[inline(always)]
-pub(crate) fn local_instr(code: OpCode, local: LocalId) -> Option<Instr>
-    ensures { result ≡ read.local_at code local }
-{
-    if code.prefix != 0 {
-        return None;
-    }
-    match code.number {
-        0x20 => Some(Instr::LocalGet { local }),
-        0x21 => Some(Instr::LocalSet { local }),
-        0x22 => Some(Instr::LocalTee { local }),
-        _ => None,
-    }
-}
-
-#[inline(always)]
-pub(crate) fn global_instr(code: OpCode, global: GlobalId) -> Option<Instr>
-    ensures { result ≡ read.global_at code global }
-{
-    if code.prefix != 0 {
-        return None;
-    }
-    match code.number {
-        0x23 => Some(Instr::GlobalGet { global }),
-        0x24 => Some(Instr::GlobalSet { global }),
-        _ => None,
-    }
-}
-
-pub(crate) fn tag_instr(code: OpCode, tag: TagId) -> Option<Instr>
-    ensures { result ≡ read.name_at code items.Tags tag }
-{
-    if code.prefix != 0 {
-        return None;
-    }
-    match code.number {
-        0x08 => Some(Instr::Throw { tag }),
-        _ => None,
-    }
-}
-
-pub(crate) fn element_instr(code: OpCode, elem: ElementId) -> Option<Instr>
-    ensures { result ≡ read.name_at code items.ElementSegments elem }
-{
-    if code.prefix != 0xfc {
-        return None;
-    }
-    match code.number {
-        13 => Some(Instr::ElemDrop { elem }),
-        _ => None,
-    }
-}
-
-pub(crate) fn data_instr(code: OpCode, data: DataId) -> Option<Instr>
-    ensures { result ≡ read.name_at code items.DataSegments «data» }
-{
-    if code.prefix != 0xfc {
-        return None;
-    }
-    match code.number {
-        9 => Some(Instr::DataDrop { data }),
-        _ => None,
-    }
-}
-
-pub(crate) fn type_table_instr(code: OpCode, ty: TypeId, table: TableId) -> Option<Instr>
-    ensures { result ≡ read.names_at code items.Types ty items.Tables «table» }
-{
-    if code.prefix != 0 {
-        return None;
-    }
-    match code.number {
-        0x11 => Some(Instr::CallIndirect { ty, table }),
-        0x13 => Some(Instr::ReturnCallIndirect { ty, table }),
-        _ => None,
-    }
-}
-
-pub(crate) fn data_memory_instr(code: OpCode, data: DataId, memory: MemoryId) -> Option<Instr>
-    ensures { result ≡ read.names_at code items.DataSegments «data» items.Memories memory }
-{
-    if code.prefix != 0xfc {
-        return None;
-    }
-    match code.number {
-        8 => Some(Instr::MemoryInit { memory, data }),
-        _ => None,
-    }
-}
-
-pub(crate) fn memory_memory_instr(code: OpCode, dst: MemoryId, src: MemoryId) -> Option<Instr>
-    ensures { result ≡ read.names_at code items.Memories dst items.Memories src }
-{
-    if code.prefix != 0xfc {
-        return None;
-    }
-    match code.number {
-        10 => Some(Instr::MemoryCopy { src, dst }),
-        _ => None,
-    }
-}
-
-pub(crate) fn element_table_instr(code: OpCode, elem: ElementId, table: TableId) -> Option<Instr>
-    ensures { result ≡ read.names_at code items.ElementSegments elem items.Tables «table» }
-{
-    if code.prefix != 0xfc {
-        return None;
-    }
-    match code.number {
-        12 => Some(Instr::TableInit { table, elem }),
-        _ => None,
-    }
-}
-
-pub(crate) fn table_table_instr(code: OpCode, dst: TableId, src: TableId) -> Option<Instr>
-    ensures { result ≡ read.names_at code items.Tables dst items.Tables src }
-{
-    if code.prefix != 0xfc {
-        return None;
-    }
-    match code.number {
-        14 => Some(Instr::TableCopy { src, dst }),
-        _ => None,
-    }
-}
-
-pub(crate) fn type_data_instr(code: OpCode, ty: TypeId, data: DataId) -> Option<Instr>
-    ensures { result ≡ read.names_at code items.Types ty items.DataSegments «data» }
-{
-    if code.prefix != 0xfb {
-        return None;
-    }
-    match code.number {
-        9 => Some(Instr::ArrayNewData { ty, data }),
-        18 => Some(Instr::ArrayInitData { ty, data }),
-        _ => None,
-    }
-}
-
-pub(crate) fn type_element_instr(code: OpCode, ty: TypeId, elem: ElementId) -> Option<Instr>
-    ensures { result ≡ read.names_at code items.Types ty items.ElementSegments elem }
-{
-    if code.prefix != 0xfb {
-        return None;
-    }
-    match code.number {
-        10 => Some(Instr::ArrayNewElem { ty, elem }),
-        19 => Some(Instr::ArrayInitElem { ty, elem }),
-        _ => None,
-    }
-}
-
-pub(crate) fn type_type_instr(code: OpCode, dst: TypeId, src: TypeId) -> Option<Instr>
-    ensures { result ≡ read.names_at code items.Types dst items.Types src }
-{
-    if code.prefix != 0xfb {
-        return None;
-    }
-    match code.number {
-        17 => Some(Instr::ArrayCopy { src, dst }),
-        _ => None,
-    }
-}
-
 pub(crate) fn type_number_instr(code: OpCode, ty: TypeId, n: u32) -> Option<Instr>
     ensures { result ≡ read.counted_at code ty n }
 {
@@ -510,19 +310,4 @@ pub(crate) fn access_instr(code: OpCode, memory: MemoryId, arg: MemArg) -> Optio
         return Some(Instr::Cmpxchg { memory, width, arg });
     }
     wait_instr(code, memory, arg)
-}
-
-// Of an access with a lane.
-pub(crate) fn lane_access_instr(
-    code: OpCode,
-    memory: MemoryId,
-    arg: MemArg,
-    lane: u8,
-) -> Option<Instr>
-    ensures { result ≡ option_map (read.simd_access memory arg) (simd_at code (Some lane)) }
-{
-    let Some(kind) = simd_of(code, Some(lane)) else {
-        return None;
-    };
-    Some(Instr::LoadSimd { memory, kind, arg })
 }

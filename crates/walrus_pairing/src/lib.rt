@@ -4,6 +4,7 @@
 mod error;
 mod families;
 mod instructions;
+mod named;
 mod to_instr;
 mod to_operator;
 mod types;

@@ -1,38 +1,34 @@
 //! The instruction of an operator.
-ghost use Rattle.std.specs.Prelude.{◌≡◌, Ok, slice_get};
-ghost use Rattle.walrus_operators.specs.wasm_immediates.Items as items;
+ghost use Rattle.std.specs.Prelude.{◌≡◌, slice_get};
 ghost use Rattle.walrus_operators.specs.Operators.{seen};
 ghost use Rattle.walrus_index_maps.specs.Views.{ids};
 ghost use Rattle.walrus_pairing.specs.Looks.{id_of};
 ghost use Rattle.walrus_pairing.specs.Types.{named};
-ghost use Rattle.walrus_pairing.specs.Read.{instr_at, no_immediates_at, pair_at, select_at, single_at};
+ghost use Rattle.walrus_pairing.specs.Read.{instr_at, select_at};
 
 use crate::error::PairError;
 use crate::instructions::{
-    access_instr, arg_of, byte_instr, data_instr, data_memory_instr, element_instr,
-    element_table_instr, f32_instr, f64_instr, function_instr, global_instr, heap_instr, i32_instr,
-    i64_instr, lane_access_instr, local_instr, memory_instr, memory_memory_instr,
-    no_immediates_instr, run_instr, table_instr, table_table_instr, tag_instr, type_data_instr,
-    type_element_instr, type_instr, type_number_instr, type_table_instr, type_type_instr,
+    byte_instr, f32_instr, f64_instr, i32_instr, i64_instr, no_immediates_instr, run_instr,
 };
-use crate::types::{named_type, read_heap, read_value};
+use crate::named::{
+    Read, read_access, read_counted, read_data, read_data_memory, read_element, read_element_table,
+    read_function, read_global, read_lane_access, read_local, read_memory, read_memory_memory,
+    read_reference, read_table, read_table_table, read_tag, read_type, read_type_data,
+    read_type_element, read_type_table, read_type_type,
+};
+use crate::types::{named_type, read_value};
 use walrus_access_codes::instr::Instr;
 use walrus_arena::FunctionId;
 use walrus_index_maps::IndicesToIds;
-use walrus_operators::immediate_forms::MemoryAccess;
-use walrus_operators::operator_table::OpCode;
 use walrus_operators::{Immediates, Operator};
-use wasm_ref_types::{HeapType, ValType};
-
-/// An instruction, none, or why it isn't read.
-type Read = Result<Option<Instr>, PairError>;
+use wasm_ref_types::ValType;
 
 // Each type that the value types name is one of the module's.
 fn named_types(types: &[ValType], maps: &IndicesToIds) -> Result<(), PairError>
     ensures { result ≡ named (slice_get (ids maps.now).types) types.now }
 {
-    for ty in types {
-        named_type(*ty, maps)?;
+    for &ty in types {
+        named_type(ty, maps)?;
     }
     Ok(())
 }
@@ -49,184 +45,14 @@ fn select_instr(types: &[ValType], maps: &IndicesToIds) -> Read
     Err(PairError::Select)
 }
 
-// The instruction of an operator without immediates. This and what follows for the frequent kinds are inlined, so that where the kind is
-// known no other is tested.
-#[inline(always)]
-fn read_bare(code: OpCode) -> Read
-    ensures { result ≡ Ok (no_immediates_at code) }
-{
-    Ok(no_immediates_instr(code))
-}
-
-#[inline(always)]
-fn read_local(code: OpCode, n: u32, function: FunctionId, maps: &IndicesToIds) -> Read
-    ensures { result ≡ single_at (id_of (ids maps.now) function) code (items.Names items.Locals n) }
-{
-    let id = maps.get_local(function, n)?;
-    Ok(local_instr(code, id))
-}
-
-#[inline(always)]
-fn read_global(code: OpCode, n: u32, maps: &IndicesToIds) -> Read
-    ensures { result ≡ single_at (id_of (ids maps.now) 0) code (items.Names items.Globals n) }
-{
-    let id = maps.get_global(n)?;
-    Ok(global_instr(code, id))
-}
-
-#[inline(always)]
-fn read_function(code: OpCode, n: u32, maps: &IndicesToIds) -> Read
-    ensures { result ≡ single_at (id_of (ids maps.now) 0) code (items.Names items.Functions n) }
-{
-    let id = maps.get_func(n)?;
-    Ok(function_instr(code, id))
-}
-
-#[inline(always)]
-fn read_access(code: OpCode, access: MemoryAccess, maps: &IndicesToIds) -> Read
-    ensures { result ≡ single_at (id_of (ids maps.now) 0) code (items.Access «access») }
-{
-    let memory = maps.get_memory(access.memory)?;
-    let arg = arg_of(access)?;
-    Ok(access_instr(code, memory, arg))
-}
-
-fn read_lane_access(code: OpCode, access: MemoryAccess, lane: u8, maps: &IndicesToIds) -> Read
-    ensures { result ≡ pair_at (id_of (ids maps.now) 0) code (items.Access «access») (items.Byte lane) }
-{
-    let memory = maps.get_memory(access.memory)?;
-    let arg = arg_of(access)?;
-    Ok(lane_access_instr(code, memory, arg, lane))
-}
-
-fn read_counted(code: OpCode, ty: u32, n: u32, maps: &IndicesToIds) -> Read
-    ensures { result ≡ pair_at (id_of (ids maps.now) 0) code (items.Names items.Types ty) (items.Number n) }
-{
-    let id = maps.get_type(ty)?;
-    Ok(type_number_instr(code, id, n))
-}
-
-fn read_reference(code: OpCode, ty: HeapType, maps: &IndicesToIds) -> Read
-    ensures { result ≡ single_at (id_of (ids maps.now) 0) code (items.Heap ty) }
-{
-    let own = read_heap(ty, maps)?;
-    Ok(heap_instr(code, own))
-}
-
-fn read_tag(code: OpCode, n: u32, maps: &IndicesToIds) -> Read
-    ensures { result ≡ single_at (id_of (ids maps.now) 0) code (items.Names items.Tags n) }
-{
-    let id = maps.get_tag(n)?;
-    Ok(tag_instr(code, id))
-}
-
-fn read_type(code: OpCode, n: u32, maps: &IndicesToIds) -> Read
-    ensures { result ≡ single_at (id_of (ids maps.now) 0) code (items.Names items.Types n) }
-{
-    let id = maps.get_type(n)?;
-    Ok(type_instr(code, id))
-}
-
-fn read_table(code: OpCode, n: u32, maps: &IndicesToIds) -> Read
-    ensures { result ≡ single_at (id_of (ids maps.now) 0) code (items.Names items.Tables n) }
-{
-    let id = maps.get_table(n)?;
-    Ok(table_instr(code, id))
-}
-
-fn read_memory(code: OpCode, n: u32, maps: &IndicesToIds) -> Read
-    ensures { result ≡ single_at (id_of (ids maps.now) 0) code (items.Names items.Memories n) }
-{
-    let id = maps.get_memory(n)?;
-    Ok(memory_instr(code, id))
-}
-
-fn read_data(code: OpCode, n: u32, maps: &IndicesToIds) -> Read
-    ensures { result ≡ single_at (id_of (ids maps.now) 0) code (items.Names items.DataSegments n) }
-{
-    let id = maps.get_data(n)?;
-    Ok(data_instr(code, id))
-}
-
-fn read_element(code: OpCode, n: u32, maps: &IndicesToIds) -> Read
-    ensures { result ≡ single_at (id_of (ids maps.now) 0) code (items.Names items.ElementSegments n) }
-{
-    let id = maps.get_element(n)?;
-    Ok(element_instr(code, id))
-}
-
-fn read_type_table(code: OpCode, m: u32, n: u32, maps: &IndicesToIds) -> Read
-    ensures { result ≡ pair_at (id_of (ids maps.now) 0) code (items.Names items.Types m) (items.Names items.Tables n) }
-{
-    let first = maps.get_type(m)?;
-    let second = maps.get_table(n)?;
-    Ok(type_table_instr(code, first, second))
-}
-
-fn read_data_memory(code: OpCode, m: u32, n: u32, maps: &IndicesToIds) -> Read
-    ensures { result ≡ pair_at (id_of (ids maps.now) 0) code (items.Names items.DataSegments m) (items.Names items.Memories n) }
-{
-    let first = maps.get_data(m)?;
-    let second = maps.get_memory(n)?;
-    Ok(data_memory_instr(code, first, second))
-}
-
-fn read_memory_memory(code: OpCode, m: u32, n: u32, maps: &IndicesToIds) -> Read
-    ensures { result ≡ pair_at (id_of (ids maps.now) 0) code (items.Names items.Memories m) (items.Names items.Memories n) }
-{
-    let first = maps.get_memory(m)?;
-    let second = maps.get_memory(n)?;
-    Ok(memory_memory_instr(code, first, second))
-}
-
-fn read_element_table(code: OpCode, m: u32, n: u32, maps: &IndicesToIds) -> Read
-    ensures { result ≡ pair_at (id_of (ids maps.now) 0) code (items.Names items.ElementSegments m) (items.Names items.Tables n) }
-{
-    let first = maps.get_element(m)?;
-    let second = maps.get_table(n)?;
-    Ok(element_table_instr(code, first, second))
-}
-
-fn read_table_table(code: OpCode, m: u32, n: u32, maps: &IndicesToIds) -> Read
-    ensures { result ≡ pair_at (id_of (ids maps.now) 0) code (items.Names items.Tables m) (items.Names items.Tables n) }
-{
-    let first = maps.get_table(m)?;
-    let second = maps.get_table(n)?;
-    Ok(table_table_instr(code, first, second))
-}
-
-fn read_type_data(code: OpCode, m: u32, n: u32, maps: &IndicesToIds) -> Read
-    ensures { result ≡ pair_at (id_of (ids maps.now) 0) code (items.Names items.Types m) (items.Names items.DataSegments n) }
-{
-    let first = maps.get_type(m)?;
-    let second = maps.get_data(n)?;
-    Ok(type_data_instr(code, first, second))
-}
-
-fn read_type_element(code: OpCode, m: u32, n: u32, maps: &IndicesToIds) -> Read
-    ensures { result ≡ pair_at (id_of (ids maps.now) 0) code (items.Names items.Types m) (items.Names items.ElementSegments n) }
-{
-    let first = maps.get_type(m)?;
-    let second = maps.get_element(n)?;
-    Ok(type_element_instr(code, first, second))
-}
-
-fn read_type_type(code: OpCode, m: u32, n: u32, maps: &IndicesToIds) -> Read
-    ensures { result ≡ pair_at (id_of (ids maps.now) 0) code (items.Names items.Types m) (items.Names items.Types n) }
-{
-    let first = maps.get_type(m)?;
-    let second = maps.get_type(n)?;
-    Ok(type_type_instr(code, first, second))
-}
-
-// The same of the rarer kinds, by a function of its own for the reason above.
+// The same of the rarer kinds, by a function of its own, so that where the kind is known and frequent no other is tested.
 #[inline(never)]
 fn rare_instr(op: &Operator, function: FunctionId, maps: &IndicesToIds) -> Read
     ensures { result ≡ instr_at (id_of (ids maps.now) function) (seen op.now) }
 {
     let code = op.code;
     match &op.immediates {
-        Immediates::Bare => read_bare(code),
+        Immediates::Bare => Ok(no_immediates_instr(code)),
         Immediates::Tag(n) => read_tag(code, *n, maps),
         Immediates::Function(n) => read_function(code, *n, maps),
         Immediates::TypeTable(m, n) => read_type_table(code, *m, *n, maps),
@@ -277,7 +103,7 @@ pub fn instr_of(op: &Operator, function: FunctionId, maps: &IndicesToIds) -> Rea
 {
     let code = op.code;
     match &op.immediates {
-        Immediates::Bare => read_bare(code),
+        Immediates::Bare => Ok(no_immediates_instr(code)),
         Immediates::Local(n) => read_local(code, *n, function, maps),
         Immediates::I32(n) => Ok(i32_instr(code, *n)),
         Immediates::I64(n) => Ok(i64_instr(code, *n)),

@@ -39,18 +39,28 @@ pub(crate) fn op(code: OpCode, immediates: Immediates) -> Written
     Ok(Some(Operator { code, immediates }))
 }
 
+// The same, written out: a call would be a good part of what the proof of a small function takes.
+macro_rules! operator {
+    ($code:expr, $immediates:expr) => {
+        Ok(Some(Operator {
+            code: $code,
+            immediates: $immediates,
+        }))
+    };
+}
+
 pub(crate) fn function_op(code: OpCode, func: FunctionId, maps: &IdsToIndices) -> Written
     ensures { as_seen result ≡ one (number_of (indices maps.now) 0) code Functions func }
 {
     let func = number!(maps.get_func_index(func), Function);
-    op(code, Immediates::Function(func))
+    operator!(code, Immediates::Function(func))
 }
 
 pub(crate) fn type_op(code: OpCode, ty: TypeId, maps: &IdsToIndices) -> Written
     ensures { as_seen result ≡ one (number_of (indices maps.now) 0) code Types ty }
 {
     let ty = number!(maps.get_type_index(ty), Type);
-    op(code, Immediates::Type(ty))
+    operator!(code, Immediates::Type(ty))
 }
 
 pub(crate) fn type_table_op(
@@ -63,35 +73,35 @@ pub(crate) fn type_table_op(
 {
     let ty = number!(maps.get_type_index(ty), Type);
     let table = number!(maps.get_table_index(table), Table);
-    op(code, Immediates::TypeTable(ty, table))
+    operator!(code, Immediates::TypeTable(ty, table))
 }
 
 pub(crate) fn tag_op(code: OpCode, tag: TagId, maps: &IdsToIndices) -> Written
     ensures { as_seen result ≡ one (number_of (indices maps.now) 0) code Tags tag }
 {
     let tag = number!(maps.get_tag_index(tag), Tag);
-    op(code, Immediates::Tag(tag))
+    operator!(code, Immediates::Tag(tag))
 }
 
 pub(crate) fn global_op(code: OpCode, global: GlobalId, maps: &IdsToIndices) -> Written
     ensures { as_seen result ≡ one (number_of (indices maps.now) 0) code Globals global }
 {
     let global = number!(maps.get_global_index(global), Global);
-    op(code, Immediates::Global(global))
+    operator!(code, Immediates::Global(global))
 }
 
 pub(crate) fn table_op(code: OpCode, table: TableId, maps: &IdsToIndices) -> Written
     ensures { as_seen result ≡ one (number_of (indices maps.now) 0) code Tables table }
 {
     let table = number!(maps.get_table_index(table), Table);
-    op(code, Immediates::Table(table))
+    operator!(code, Immediates::Table(table))
 }
 
 pub(crate) fn element_op(code: OpCode, elem: ElementId, maps: &IdsToIndices) -> Written
     ensures { as_seen result ≡ one (number_of (indices maps.now) 0) code ElementSegments elem }
 {
     let elem = number!(maps.get_element_index(elem), Element);
-    op(code, Immediates::Element(elem))
+    operator!(code, Immediates::Element(elem))
 }
 
 pub(crate) fn element_table_op(
@@ -104,7 +114,7 @@ pub(crate) fn element_table_op(
 {
     let elem = number!(maps.get_element_index(elem), Element);
     let table = number!(maps.get_table_index(table), Table);
-    op(code, Immediates::ElementTable(elem, table))
+    operator!(code, Immediates::ElementTable(elem, table))
 }
 
 pub(crate) fn table_table_op(
@@ -117,21 +127,21 @@ pub(crate) fn table_table_op(
 {
     let dst = number!(maps.get_table_index(dst), Table);
     let src = number!(maps.get_table_index(src), Table);
-    op(code, Immediates::TableTable(dst, src))
+    operator!(code, Immediates::TableTable(dst, src))
 }
 
 pub(crate) fn memory_op(code: OpCode, memory: MemoryId, maps: &IdsToIndices) -> Written
     ensures { as_seen result ≡ one (number_of (indices maps.now) 0) code Memories memory }
 {
     let memory = number!(maps.get_memory_index(memory), Memory);
-    op(code, Immediates::Memory(memory))
+    operator!(code, Immediates::Memory(memory))
 }
 
 pub(crate) fn data_op(code: OpCode, segment: DataId, maps: &IdsToIndices) -> Written
     ensures { as_seen result ≡ one (number_of (indices maps.now) 0) code DataSegments segment }
 {
     let segment = number!(maps.get_data_index(segment), Data);
-    op(code, Immediates::Data(segment))
+    operator!(code, Immediates::Data(segment))
 }
 
 pub(crate) fn data_memory_op(
@@ -144,7 +154,7 @@ pub(crate) fn data_memory_op(
 {
     let segment = number!(maps.get_data_index(segment), Data);
     let memory = number!(maps.get_memory_index(memory), Memory);
-    op(code, Immediates::DataMemory(segment, memory))
+    operator!(code, Immediates::DataMemory(segment, memory))
 }
 
 pub(crate) fn memory_memory_op(
@@ -157,7 +167,7 @@ pub(crate) fn memory_memory_op(
 {
     let dst = number!(maps.get_memory_index(dst), Memory);
     let src = number!(maps.get_memory_index(src), Memory);
-    op(code, Immediates::MemoryMemory(dst, src))
+    operator!(code, Immediates::MemoryMemory(dst, src))
 }
 
 pub(crate) fn type_data_op(
@@ -170,7 +180,7 @@ pub(crate) fn type_data_op(
 {
     let ty = number!(maps.get_type_index(ty), Type);
     let segment = number!(maps.get_data_index(segment), Data);
-    op(code, Immediates::TypeData(ty, segment))
+    operator!(code, Immediates::TypeData(ty, segment))
 }
 
 pub(crate) fn type_element_op(
@@ -183,7 +193,7 @@ pub(crate) fn type_element_op(
 {
     let ty = number!(maps.get_type_index(ty), Type);
     let elem = number!(maps.get_element_index(elem), Element);
-    op(code, Immediates::TypeElement(ty, elem))
+    operator!(code, Immediates::TypeElement(ty, elem))
 }
 
 pub(crate) fn type_type_op(code: OpCode, dst: TypeId, src: TypeId, maps: &IdsToIndices) -> Written
@@ -191,7 +201,7 @@ pub(crate) fn type_type_op(code: OpCode, dst: TypeId, src: TypeId, maps: &IdsToI
 {
     let dst = number!(maps.get_type_index(dst), Type);
     let src = number!(maps.get_type_index(src), Type);
-    op(code, Immediates::TypeType(dst, src))
+    operator!(code, Immediates::TypeType(dst, src))
 }
 
 pub(crate) fn local_op(
@@ -203,21 +213,21 @@ pub(crate) fn local_op(
     ensures { as_seen result ≡ one (number_of (indices maps.now) function) code Locals local }
 {
     let local = number!(maps.get_local_index(function, local), Local);
-    op(code, Immediates::Local(local))
+    operator!(code, Immediates::Local(local))
 }
 
 pub(crate) fn type_number_op(code: OpCode, ty: TypeId, count: u32, maps: &IdsToIndices) -> Written
     ensures { as_seen result ≡ counted (number_of (indices maps.now) 0) code Types ty count }
 {
     let ty = number!(maps.get_type_index(ty), Type);
-    op(code, Immediates::TypeNumber(ty, count))
+    operator!(code, Immediates::TypeNumber(ty, count))
 }
 
 pub(crate) fn heap_op(code: OpCode, ty: HeapType, maps: &IdsToIndices) -> Written
     ensures { as_seen result ≡ heap (number_of (indices maps.now) 0) code ty }
 {
     let ty = write_heap(ty, maps)?;
-    op(code, Immediates::Heap(ty))
+    operator!(code, Immediates::Heap(ty))
 }
 
 // The logarithm of an alignment, which is to be a power of two: the count of its trailing zeros, at most 31.
@@ -232,13 +242,13 @@ pub(crate) fn access_op(code: OpCode, memory: MemoryId, arg: MemArg, maps: &IdsT
     ensures { as_seen result ≡ access (number_of (indices maps.now) 0) code memory arg None }
 {
     let memory = number!(maps.get_memory_index(memory), Memory);
-    op(
+    operator!(
         code,
         Immediates::Access(MemoryAccess {
             align: log_of(arg.align),
             memory,
             offset: arg.offset,
-        }),
+        })
     )
 }
 
@@ -260,5 +270,5 @@ pub(crate) fn lane_access_op(
         memory,
         offset: arg.offset,
     };
-    op(code, Immediates::AccessLane(access, lane))
+    operator!(code, Immediates::AccessLane(access, lane))
 }

@@ -3,7 +3,7 @@ use Rattle.walrus_access_codes.specs.walrus_instr.declared.instr.Instr.{Instr}
 use Rattle.walrus_pairing.proofs.to_instr.rare_instr.Goals as goal
 
 pub returns-in-Bare : goal.returns-in-Bare
-returns-in-Bare c = rw c.in-Bare.is c.read_bare.ensures
+returns-in-Bare c = rw c.in-Bare.is (ap (λ (i : Option Instr). Ok i) c.no_immediates_instr.ensures)
 
 pub returns-in-Tag : goal.returns-in-Tag
 returns-in-Tag c = rw c.in-Tag.is c.read_tag.ensures
