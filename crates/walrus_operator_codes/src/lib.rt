@@ -13,9 +13,7 @@ pub use ternary::{code_of_ternary, ternary_of};
 pub use unary::unary_of;
 
 // Passed on to crates above, which then list this one alone.
-pub use walrus_codes::{
-    atomic, bulk, byte, code_of_unary, lane_of_unary, object, pick, vector,
-};
+pub use walrus_codes::{atomic, bulk, byte, code_of_unary, lane_of_unary, object, pick, vector};
 
 pub mod instr {
     pub use walrus_codes::instr::{
