@@ -85,7 +85,7 @@ module _ (ms : List Mark) (n : ℕ) (around : List ℕ) (marked : Marked ms n ar
   right_delegates (Legacy.Delegate depth ∷ parts) h = and_made (nat_lt depth n) (is_last parts) (is_below depth h.0) (ap is_last h.1)
 
   -- ---- instructions
-  within_right : (i : Instr) → within ms n i ≡ true → IsWithin around i
+  pub within_right : (i : Instr) → within ms n i ≡ true → IsWithin around i
   within_right (TryTable _ catches) h = record { named = clauses_open_has catches.items h; counted = tt }
   within_right (Br block) h = record { named = (open_has block h, tt); counted = tt }
   within_right (BrIf block) h = record { named = (open_has block h, tt); counted = tt }
@@ -100,7 +100,7 @@ module _ (ms : List Mark) (n : ℕ) (around : List ℕ) (marked : Marked ms n ar
   within_right (Try _ catches) h = record { named = tt; counted = delegates_right catches.items h }
   within_right _ h = record { named = tt; counted = tt }
 
-  right_within : (i : Instr) → IsWithin around i → within ms n i ≡ true
+  pub right_within : (i : Instr) → IsWithin around i → within ms n i ≡ true
   right_within (TryTable _ catches) h = has_clauses_open catches.items h.named
   right_within (Br block) h = has_open block h.named.0
   right_within (BrIf block) h = has_open block h.named.0

@@ -1,6 +1,6 @@
 mod Entering
-mod Labels
-mod Marking
+pub mod Labels
+pub mod Marking
 mod Lefts
 mod Goings
 mod Nests

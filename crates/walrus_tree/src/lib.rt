@@ -3,7 +3,7 @@
 
 mod check;
 pub mod laws;
-mod marks;
+pub mod marks;
 mod steps;
 mod tree;
 

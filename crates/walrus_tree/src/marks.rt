@@ -8,7 +8,7 @@ use walrus_instr::{Instr, LegacyCatch, TryTableCatch};
 
 /// How far a sequence is tested.
 #[derive(Clone, Copy)]
-pub(crate) enum Mark {
+pub enum Mark {
     /// It wasn't entered.
     Fresh,
     /// It was entered, and not left.
@@ -80,7 +80,7 @@ fn delegates_within(parts: &[LegacyCatch], depth: usize) -> bool
 }
 
 /// Whether each label of the instruction names a sequence that is open, of which there are so many.
-pub(crate) fn is_within(instr: &Instr, marks: &[Mark], depth: usize) -> bool
+pub fn is_within(instr: &Instr, marks: &[Mark], depth: usize) -> bool
     ensures { result ≡ within marks.now depth instr.now }
 {
     match instr {
