@@ -7,7 +7,7 @@ use Rattle.walrus_instr.specs.declared.seq.InstrLocId.{InstrLocId}
 use Rattle.walrus_instr.specs.declared.seq.InstrSeq.{InstrSeq}
 use Rattle.walrus_tree.specs.Text.{Piece, Operator}
 use Rattle.walrus_body_writer.specs.declared.todo.Met.{Met}
-use Rattle.walrus_body_writer.specs.declared.todo.Met.TheVariants.{AnInstr, AnEnd, Nothing}
+use Rattle.walrus_body_writer.specs.declared.todo.Met.TheVariants.{AnInstr, AnEnd}
 use Rattle.walrus_body_writer.specs.Spelled.{Text}
 use Rattle.walrus_body_writer.specs.Doing.{left, piece_of}
 use Rattle.walrus_body_writer.specs.Emitting.{State, Good, Passed}
@@ -26,7 +26,6 @@ module _ {V : Type 0} (step : V → Piece × InstrLocId → V → Type 0) (b : L
   pub tells_on : (met : Met) → Passed b before met new → Visits step b met visitor next → Tells step b all old new next
   tells_on (AnInstr k at) h w = tells (Operator h.around h.item.0, h.item.1) h.was h.good (w h.seq h.item h.found h.stands h.around)
   tells_on (AnEnd c place) h w = tells (piece_of c, place) h.was h.good w
-  tells_on Nothing h w = absurd h
 
 -- a fold of steps that add is a sum
 pub adds_up : {S : Type 0} (count : S → ℕ) (ps : Text) (old last : S) → FoldsTo (λ (s : S) (p : Piece × InstrLocId) (t : S). count t ≡ count s + weight p.0) old ps last → count last ≡ count old + text_size ps

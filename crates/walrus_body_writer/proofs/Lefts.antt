@@ -1,5 +1,5 @@
 -- Lists of what is left, part by part.
-use Rattle.std.proofs.Common.{ℕ, zero, suc, ◌<◌, ◌≡◌, List, [], ◌∷◌, ◌++◌, Option, Some, None, refl, sym, ap, subst, arith, inl, inr, ◌∙◌, append-nil}
+use Rattle.std.proofs.Common.{ℕ, false, zero, suc, ◌<◌, ◌≡◌, List, [], ◌∷◌, ◌++◌, Option, Some, None, refl, sym, ap, subst, arith, inl, inr, ◌∙◌, append-nil}
 use Rattle.std.specs.Prelude.{slice_get}
 use Rattle.std.proofs.lemmas.List.{append_assoc}
 use Rattle.walrus_instr.specs.declared.instr.Instr.{Instr}
@@ -16,7 +16,7 @@ use Rattle.walrus_body_writer.specs.declared.todo.Closer.TheVariants as closers
 use Rattle.walrus_body_writer.specs.declared.todo.Todo.{Todo}
 use Rattle.walrus_body_writer.specs.declared.todo.Todo.TheVariants.{Enter, Inside}
 use Rattle.walrus_body_writer.specs.Spelled.{Text}
-use Rattle.walrus_body_writer.specs.Doing.{piece_of, closer_before, handling, entering, opened, here, left, IsBelow, AreRanked}
+use Rattle.walrus_body_writer.specs.Doing.{holds, piece_of, closer_before, handling, entering, opened, here, left, IsBelow, AreRanked}
 
 pub opened_append : (around : List ℕ) (xs ys : List Todo) → opened around (xs ++ ys) ≡ opened (opened around xs) ys
 opened_append around [] ys = refl
@@ -66,7 +66,7 @@ below_more rank c k (j ∷ js) l h = (let g = h.0 in omega (arith, l, g), below_
 
 -- ---- what an instruction holds
 
-handling_opens : (around : List ℕ) (parts : List LegacyCatch) → opened around (handling parts) ≡ around
+pub handling_opens : (around : List ℕ) (parts : List LegacyCatch) → opened around (handling parts) ≡ around
 handling_opens around [] = refl
 handling_opens around (Legacy.Catch tag j ∷ parts) = opened_append around (handling parts) (Enter j (closer_before parts) ∷ []) ∙ handling_opens around parts
 handling_opens around (Legacy.CatchAll j ∷ parts) = opened_append around (handling parts) (Enter j (closer_before parts) ∷ []) ∙ handling_opens around parts
@@ -156,3 +156,11 @@ entering_opens around (IfElse k other) = refl
 entering_opens around (Try k catches) = opened_append around (handling catches.items) (Enter k (closer_before catches.items) ∷ []) ∙ handling_opens around catches.items
 entering_opens around (TryTable k catches) = refl
 entering_opens around _ = refl
+
+pub holds_none : (i : Instr) → holds i ≡ false → entering i ≡ []
+holds_none (Block k) h = absurd cc
+holds_none (Loop k) h = absurd cc
+holds_none (IfElse k other) h = absurd cc
+holds_none (Try k catches) h = absurd cc
+holds_none (TryTable k catches) h = absurd cc
+holds_none _ h = refl

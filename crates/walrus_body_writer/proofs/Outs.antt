@@ -1,7 +1,7 @@
 -- What is written behind what was written.
-use Rattle.std.proofs.Common.{ℕ, ◌+◌, ◌≡◌, Bool, true, false, List, [], ◌∷◌, ◌++◌, length, Option, Some, None, Ok, Err, refl, sym, ap, arith, ◌∙◌, length-append}
+use Rattle.std.proofs.Common.{ℕ, ◌+◌, ◌<◌, ◌≡◌, drop, get_or, take, Bool, true, false, List, [], ◌∷◌, ◌++◌, length, Option, Some, None, Ok, Err, refl, sym, ap, arith, ◌∙◌, length-append}
 use Rattle.std.specs.Prelude.{if◌then◌else◌}
-use Rattle.std.proofs.lemmas.List.{append-nil, append_assoc}
+use Rattle.std.proofs.lemmas.List.{append-nil, append_assoc, drop_more}
 use Rattle.walrus_instr.specs.declared.seq.InstrLocId.{InstrLocId}
 use Rattle.walrus_instr.specs.declared.seq.InstrSeq.{InstrSeq}
 use Rattle.walrus_tree.specs.Text.{Piece}
@@ -9,7 +9,7 @@ use Rattle.wasm_operators.specs.Operators.{Seen}
 use Rattle.walrus_pairing.specs.Looks.{Look, Or}
 use Rattle.walrus_body_writer.specs.declared.output.Output.{Output}
 use Rattle.walrus_body_writer.specs.Spelled.{Text, written, bytes_of, piece_bytes, text_bytes, pair_of, text_places, IsWritten, AreWritten}
-use Rattle.walrus_body_writer.specs.Outputs.{PutsIf, IsSame, Wrote}
+use Rattle.walrus_body_writer.specs.Outputs.{Joins, PutsIf, IsSame, Wrote, moved}
 
 abbrev pub Pairs : Type 0
 Pairs = List (InstrLocId × ℕ)
@@ -93,3 +93,70 @@ wrote_on look b t old mid new p w h =
 
 pub wrote_same : (look : Look) (b : List InstrSeq) (t : Text) (old mid new : Output) → Wrote look b t old mid → IsSame mid new → Wrote look b t old new
 wrote_same look b t old mid new w s = record { bytes = s.bytes ∙ w.bytes; places = s.places ∙ w.places; keeps = s.keeps ∙ w.keeps; written = w.written }
+
+-- ---- what was written elsewhere
+
+-- what stood there stands at the front
+pub record Fronts (old new : Pairs) : Type 0 where
+  pub more : Pairs
+  pub is : new ≡ old ++ more
+
+take_front : (xs ys : Pairs) → take (length xs) (xs ++ ys) ≡ xs
+take_front [] ys = refl
+take_front (x ∷ xs) ys = ap (λ (z : Pairs). x ∷ z) (take_front xs ys)
+
+pub front_taken : (old new : Pairs) → Fronts old new → take (length old) new ≡ old
+front_taken old new f = ap (take (length old)) f.is ∙ take_front old f.more
+
+pub front_same : (old : Pairs) → Fronts old old
+front_same old = record { more = []; is = sym (append-nil old) }
+
+pub front_more : (old mid new : Pairs) (p : InstrLocId × ℕ) → Fronts old mid → new ≡ mid ++ p ∷ [] → Fronts old new
+front_more old mid new p f e = record { more = f.more ++ p ∷ []; is = e ∙ ap (λ (z : Pairs). z ++ p ∷ []) f.is ∙ append_assoc old f.more (p ∷ []) }
+
+-- one place more
+pub moved_more : (by : ℕ) (mid new all more : Pairs) (n : ℕ) (p : InstrLocId × ℕ) → n < length more → p ≡ get_or more n p → new ≡ mid ++ (p.0, by + p.1) ∷ [] → mid ++ moved by (drop n more) ≡ all
+    → new ++ moved by (drop (n + 1) more) ≡ all
+moved_more by mid new all more n p l e put before =
+    let rest = moved by (drop (n + 1) more) in
+    let here : drop n more ≡ p ∷ drop (n + 1) more = drop_more more n p l ∙ ap (λ (y : InstrLocId × ℕ). y ∷ drop (n + 1) more) (sym e) in
+    ap (λ (z : Pairs). z ++ rest) put ∙ append_assoc mid ((p.0, by + p.1) ∷ []) rest ∙ ap (λ (z : Pairs). mid ++ moved by z) (sym here) ∙ before
+
+moved_append : (by : ℕ) (xs ys : Pairs) → moved by (xs ++ ys) ≡ moved by xs ++ moved by ys
+moved_append by [] ys = refl
+moved_append by (x ∷ xs) ys = ap (λ (z : Pairs). (x.0, by + x.1) ∷ z) (moved_append by xs ys)
+
+moved_pair : (by : ℕ) (a : Or (Option Seen)) (l : InstrLocId) (at : ℕ) → moved by (pair_of a l at) ≡ pair_of a l (by + at)
+moved_pair by (Ok (Some op)) l at = refl
+moved_pair by (Ok None) l at = refl
+moved_pair by (Err e) l at = refl
+
+module _ (look : Look) (b : List InstrSeq) where
+  moved_places : (by at : ℕ) (t : Text) → moved by (text_places look b at t) ≡ text_places look b (by + at) t
+  moved_places by at [] = refl
+  moved_places by at (x ∷ xs) =
+      let size = length (piece_bytes look b x.0) in
+      let a = written look b x.0 in
+      let n : by + (at + size) ≡ (by + at) + size = omega arith in
+      moved_append by (pair_of a x.1 at) (text_places look b (at + size) xs)
+      ∙ ap (λ (z : Pairs). z ++ moved by (text_places look b (at + size) xs)) (moved_pair by a x.1 at)
+      ∙ ap (λ (z : Pairs). pair_of a x.1 (by + at) ++ z) (moved_places by (at + size) xs ∙ ap (λ (m : ℕ). text_places look b m xs) n)
+
+  places_behind : (k j : Bool) (olds starts mores : Pairs) (n m : ℕ) (t : Text) → j ≡ k → starts ≡ [] → m ≡ 0 → mores ≡ (if j then starts ++ text_places look b m t else starts)
+      → olds ++ moved n mores ≡ (if k then olds ++ text_places look b n t else olds)
+  places_behind true true olds starts mores n m t same none zero h =
+      let sum : n + 0 ≡ n = omega arith in
+      ap (λ (z : Pairs). olds ++ moved n z) (h ∙ ap (λ (z : Pairs). z ++ text_places look b m t) none ∙ ap (λ (i : ℕ). text_places look b i t) zero)
+      ∙ ap (λ (z : Pairs). olds ++ z) (moved_places n 0 t ∙ ap (λ (i : ℕ). text_places look b i t) sum)
+  places_behind false false olds starts mores n m t same none zero h = ap (λ (z : Pairs). olds ++ moved n z) (h ∙ none) ∙ append-nil olds
+  places_behind true false olds starts mores n m t same none zero h = absurd cc
+  places_behind false true olds starts mores n m t same none zero h = absurd cc
+
+  -- what was written behind nothing stands behind what was written here
+  pub wrote_behind : (t : Text) (start more old new : Output) → start.bytes.items ≡ [] → start.places.items ≡ [] → start.keeps_places ≡ old.keeps_places → Wrote look b t start more → Joins more old new → Wrote look b t old new
+  wrote_behind t start more old new none nowhere same w j = record {
+    bytes = j.bytes ∙ ap (λ (z : List ℕ). old.bytes.items ++ z) (w.bytes ∙ ap (λ (z : List ℕ). z ++ text_bytes look b t) none);
+    places = j.places ∙ places_behind old.keeps_places start.keeps_places old.places.items start.places.items more.places.items (length old.bytes.items) (length start.bytes.items) t same nowhere (ap length none) w.places;
+    keeps = j.keeps;
+    written = w.written;
+  }

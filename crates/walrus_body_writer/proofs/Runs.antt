@@ -2,7 +2,6 @@
 use Rattle.std.proofs.Common.{ℕ, ◌≤◌, ◌≡◌, false, List, [], ◌∷◌, ◌++◌, length, Option, Some, Ok, Err, refl, sym, ap, subst, arith, ◌∙◌, append-nil, inl, inr}
 use Rattle.std.specs.Prelude.{slice_get, Result, OnErr, IfErr, IsErr, IsErrAnd}
 use Rattle.walrus_instr.specs.declared.instr.Instr.{Instr}
-use Rattle.walrus_instr.specs.declared.instr.Instr.TheVariants.{Block, Loop, IfElse, Try, TryTable}
 use Rattle.walrus_instr.specs.declared.seq.InstrLocId.{InstrLocId}
 use Rattle.walrus_instr.specs.declared.seq.InstrSeq.{InstrSeq}
 use Rattle.walrus_tree.specs.Text.{Piece, Operator}
@@ -17,20 +16,13 @@ use Rattle.walrus_body_writer.specs.declared.todo.Met.TheVariants.{AnInstr}
 use Rattle.walrus_body_writer.specs.declared.depths.Depths.{Depths}
 use Rattle.walrus_body_writer.specs.declared.output.Output.{Output}
 use Rattle.walrus_body_writer.specs.Spelled.{Text, written_instr}
-use Rattle.walrus_body_writer.specs.Doing.{entering, holds, label_by, left}
+use Rattle.walrus_body_writer.specs.Doing.{holds, label_by, left}
 use Rattle.walrus_body_writer.specs.Refusals.{IsLarge, value_in}
 use Rattle.walrus_body_writer.specs.Emitting.{State, state, advanced, Advances, AdvancesAt, AdvancesIn, Good, Passed, IsDone, Goes, GoesOn, GoesOff}
 use Rattle.walrus_body_writer.specs.Visiting.{Tells, TellsOn, TellsOff, ToldPart}
+use Rattle.walrus_body_writer.proofs.Lefts.{holds_none}
 use Rattle.walrus_body_writer.proofs.Steps.{passed, falls, refuses, writes_on}
 use Rattle.walrus_body_writer.proofs.Folds.{tells_on}
-
-holds_none : (i : Instr) → holds i ≡ false → entering i ≡ []
-holds_none (Block k) h = absurd cc
-holds_none (Loop k) h = absurd cc
-holds_none (IfElse k other) h = absurd cc
-holds_none (Try k catches) h = absurd cc
-holds_none (TryTable k catches) h = absurd cc
-holds_none _ h = refl
 
 -- one of them, which stands there
 module _ (b : List InstrSeq) (at : Place) (seq : InstrSeq) (i : Instr × InstrLocId) (found : slice_get b at.seq ≡ Some seq) (stands : slice_get seq.instrs.items at.next ≡ Some i) (none : holds i.0 ≡ false) where
@@ -42,7 +34,7 @@ module _ (b : List InstrSeq) (at : Place) (seq : InstrSeq) (i : Instr × InstrLo
       let xs : List Todo = ts ++ Inside (advanced at) ∷ [] in
       let F : Option InstrSeq → Type 0 = λ o. AdvancesAt (Inside at) (AnInstr at.seq at.next) o (state ts d) (behind ts d) in
       let G : Option (Instr × InstrLocId) → Type 0 = λ o. AdvancesIn (Inside at) (AnInstr at.seq at.next) seq o (state ts d) (behind ts d) in
-      subst F (sym found) (subst G (sym stands) (record { is = refl; depths = refl; height = refl; todo = sym (ap (λ (z : List Todo). xs ++ z) (holds_none i.0 none) ∙ append-nil xs) }))
+      subst F (sym found) (subst G (sym stands) (record { is = refl; marks = refl; depths = refl; height = refl; todo = sym (ap (λ (z : List Todo). xs ++ z) (holds_none i.0 none) ∙ append-nil xs) }))
 
   it_passed : (ts : List Todo) (d : Depths) → TextIsPlain → Good b (state (ts ++ Inside at ∷ []) d) → Passed b (left b [] (ts ++ Inside at ∷ [])) (AnInstr at.seq at.next) (behind ts d)
   it_passed ts d plain good = passed b plain (ts ++ Inside at ∷ []) ts (Inside at) d (AnInstr at.seq at.next) (behind ts d) refl good (advances ts d)

@@ -13,7 +13,7 @@ use Rattle.walrus_tree.specs.Text.{Piece, Operator, after, of_parts, of_instrs, 
 use Rattle.walrus_tree.specs.TextLaws.{TextIsPlain, AreSound}
 use Rattle.walrus_body_writer.specs.declared.todo.Closer.TheVariants.{End}
 use Rattle.walrus_body_writer.specs.declared.todo.Met.{Met}
-use Rattle.walrus_body_writer.specs.declared.todo.Met.TheVariants.{AnInstr, AnEnd, Nothing}
+use Rattle.walrus_body_writer.specs.declared.todo.Met.TheVariants.{AnInstr, AnEnd}
 use Rattle.walrus_body_writer.specs.declared.todo.Todo.{Todo}
 use Rattle.walrus_body_writer.specs.declared.todo.Todo.TheVariants.{Enter, Inside}
 use Rattle.walrus_pairing.specs.Looks.{Look, Or}
@@ -94,10 +94,10 @@ drop_suc {A} (y ∷ xs) zero x e = ap (λ (z : A). z ∷ xs) (some_is A y x e)
     some_is A y x e = cc
 drop_suc {A} (y ∷ xs) (suc n) x e = drop_suc xs n x e
 
-drop_at : {A : Type 0} (xs : List A) (n : ℕ) (x : A) → slice_get xs n ≡ Some x → drop n xs ≡ x ∷ drop (n + 1) xs
+pub drop_at : {A : Type 0} (xs : List A) (n : ℕ) (x : A) → slice_get xs n ≡ Some x → drop n xs ≡ x ∷ drop (n + 1) xs
 drop_at xs n x e = let one : suc n ≡ n + 1 = omega arith in drop_suc xs n x e ∙ ap (λ (m : ℕ). x ∷ drop m xs) one
 
-drop_past : {A : Type 0} (xs : List A) (n : ℕ) → slice_get xs n ≡ None → drop n xs ≡ []
+pub drop_past : {A : Type 0} (xs : List A) (n : ℕ) → slice_get xs n ≡ None → drop n xs ≡ []
 drop_past [] zero e = refl
 drop_past [] (suc n) e = refl
 drop_past {A} (y ∷ xs) zero e = absurd (some_none A y e)
@@ -112,7 +112,7 @@ regroup x p r e l =
     ap (λ (z : Text). x ∷ (z ++ l)) (append_assoc p r e) ∙ ap (λ (z : Text). x ∷ z) (append_assoc p (r ++ e) l)
 
 -- behind a list that ts and this make
-module _ (b : List InstrSeq) (plain : TextIsPlain) (ts : List Todo) (top : Todo) (old : State) (g : Good b (record { todo = ts ++ top ∷ []; depths = old.depths; height = old.height })) where
+module _ (b : List InstrSeq) (plain : TextIsPlain) (ts : List Todo) (top : Todo) (old : State) (g : Good b (record { todo = ts ++ top ∷ []; marks = old.marks; depths = old.depths; height = old.height })) where
   -- the text that was left begins with this piece
   goes_on : (p : Piece × InstrLocId) (rest : Text) (new : State) → left b [] (ts ++ top ∷ []) ≡ p ∷ rest → left b [] new.todo ≡ rest
       → AreRanked g.rank [] new.todo → AreDeep new.depths (opened [] new.todo) → new.height ≡ length (opened [] new.todo) → length new.depths ≡ length b → Good b new
@@ -130,7 +130,7 @@ module _ (b : List InstrSeq) (plain : TextIsPlain) (ts : List Todo) (top : Todo)
   top_of = top_is b plain g.rank g.is_rank ts top old.depths old.height (ranked_back g.rank [] ts (top ∷ []) g.ranked) g.deep g.height g.sized
 
   module _ (t : Top b g.rank (opened [] ts) old.depths old.height top) (met : Met) (new : State) where
-    instr_passed : (i : Instr × InstrLocId) → slice_get t.seq.instrs.items (place_of top).next ≡ Some i → MetInstr top i met (record { todo = ts; depths = old.depths; height = old.height }) new → Passed b (left b [] (ts ++ top ∷ [])) met new
+    instr_passed : (i : Instr × InstrLocId) → slice_get t.seq.instrs.items (place_of top).next ≡ Some i → MetInstr top i met (record { todo = ts; marks = old.marks; depths = old.depths; height = old.height }) new → Passed b (left b [] (ts ++ top ∷ [])) met new
     instr_passed i at w =
         let k = (place_of top).seq in
         let around = opened [] ts in
@@ -174,7 +174,7 @@ module _ (b : List InstrSeq) (plain : TextIsPlain) (ts : List Todo) (top : Todo)
               (ap length w.depths ∙ t.sized);
         })
 
-    end_passed : slice_get t.seq.instrs.items (place_of top).next ≡ None → MetEnd top t.seq.end met (record { todo = ts; depths = old.depths; height = old.height }) new → Passed b (left b [] (ts ++ top ∷ [])) met new
+    end_passed : slice_get t.seq.instrs.items (place_of top).next ≡ None → MetEnd top t.seq.end met (record { todo = ts; marks = old.marks; depths = old.depths; height = old.height }) new → Passed b (left b [] (ts ++ top ∷ [])) met new
     end_passed at w =
         let k = (place_of top).seq in
         let around = opened [] ts in
@@ -193,16 +193,16 @@ module _ (b : List InstrSeq) (plain : TextIsPlain) (ts : List Todo) (top : Todo)
               (ap length w.depths ∙ t.sized);
         })
 
-    in_passed : (o : Option (Instr × InstrLocId)) → slice_get t.seq.instrs.items (place_of top).next ≡ o → AdvancesIn top met t.seq o (record { todo = ts; depths = old.depths; height = old.height }) new → Passed b (left b [] (ts ++ top ∷ [])) met new
+    in_passed : (o : Option (Instr × InstrLocId)) → slice_get t.seq.instrs.items (place_of top).next ≡ o → AdvancesIn top met t.seq o (record { todo = ts; marks = old.marks; depths = old.depths; height = old.height }) new → Passed b (left b [] (ts ++ top ∷ [])) met new
     in_passed (Some i) e h = instr_passed i e h
     in_passed None e h = end_passed e h
 
-    at_passed : AdvancesAt top met (slice_get b (place_of top).seq) (record { todo = ts; depths = old.depths; height = old.height }) new → Passed b (left b [] (ts ++ top ∷ [])) met new
+    at_passed : AdvancesAt top met (slice_get b (place_of top).seq) (record { todo = ts; marks = old.marks; depths = old.depths; height = old.height }) new → Passed b (left b [] (ts ++ top ∷ [])) met new
     at_passed h =
-        let F : Option InstrSeq → Type 0 = λ o. AdvancesAt top met o (record { todo = ts; depths = old.depths; height = old.height }) new in
+        let F : Option InstrSeq → Type 0 = λ o. AdvancesAt top met o (record { todo = ts; marks = old.marks; depths = old.depths; height = old.height }) new in
         in_passed (slice_get t.seq.instrs.items (place_of top).next) refl (subst F t.found h)
 
-  pub passed_at : (met : Met) (new : State) → Advances b top met (record { todo = ts; depths = old.depths; height = old.height }) new → Passed b (left b [] (ts ++ top ∷ [])) met new
+  pub passed_at : (met : Met) (new : State) → Advances b top met (record { todo = ts; marks = old.marks; depths = old.depths; height = old.height }) new → Passed b (left b [] (ts ++ top ∷ [])) met new
   passed_at met new h = at_passed top_of met new h
 
 -- a turn of a loop over the list
@@ -215,12 +215,10 @@ passed b plain items ts top d met new is g h =
 pub falls : (b : List InstrSeq) (before : Text) (met : Met) (new : State) → Passed b before met new → length (left b [] new.todo) < length before
 falls b before (AnInstr k at) new h = let e = ap length h.was in omega (arith, e)
 falls b before (AnEnd c place) new h = let e = ap length h.was in omega (arith, e)
-falls b before Nothing new h = absurd h
 
 pub stays_good : (b : List InstrSeq) (before : Text) (met : Met) (new : State) → Passed b before met new → Good b new
 stays_good b before (AnInstr k at) new h = h.good
 stays_good b before (AnEnd c place) new h = h.good
-stays_good b before Nothing new h = absurd h
 
 -- the beginning
 pub starts : (b : List InstrSeq) (entry : ℕ) (items : List Todo) (d : Depths) → IsNested b entry → AreSound (operators b entry) → items ≡ Enter entry End ∷ [] → d.height ≡ 0 → length d.depths.items ≡ length b → Good b (state items d)
@@ -245,7 +243,6 @@ module _ (look : Look) (b : List InstrSeq) (all : Text) (old : Output) (front be
       puts_on (Operator h.around h.item.0, h.item.1) h.was h.good
       (subst (λ (a : Or (Option Seen)). PutsIf a h.item.1 out next) (instr_same look b new.depths h.around new.height h.deep h.high h.item.0 h.within) (w h.seq h.item h.found h.stands))
   writes_on (AnEnd c place) h w = puts_on (piece_of c, place) h.was h.good w
-  writes_on Nothing h w = absurd h
 
   stops_at : (p : Piece × InstrLocId) (e : PairError) → before ≡ p ∷ left b [] new.todo → Gives (IsLarge look (value_at b p.0)) (written look b p.0) (Err e) → IsSame out next → LeavesOff look b all old e next
   stops_at p e was due same = record {
@@ -262,4 +259,3 @@ module _ (look : Look) (b : List InstrSeq) (all : Text) (old : Output) (front be
       stops_at (Operator h.around h.item.0, h.item.1) e h.was
       (subst (λ (a : Or (Option Seen)). Gives (IsLarge look (value_in b h.item.0)) a (Err e)) (instr_same look b new.depths h.around new.height h.deep h.high h.item.0 h.within) r.0) r.1
   refuses (AnEnd c place) e h w = stops_at (piece_of c, place) e h.was (gives_more (IsLarge look (value_at b (piece_of c))) (written look b (piece_of c)) e w.0) w.1
-  refuses Nothing e h w = absurd h

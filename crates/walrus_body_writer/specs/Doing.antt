@@ -5,6 +5,8 @@ use Rattle.walrus_instr.specs.declared.instr.Instr.TheVariants.{Block, Loop, IfE
 use Rattle.walrus_instr.specs.declared.instr.LegacyCatch.{LegacyCatch}
 use Rattle.walrus_instr.specs.declared.instr.LegacyCatch.TheVariants as Legacy
 use Rattle.walrus_instr.specs.declared.seq.InstrSeq.{InstrSeq}
+use Rattle.walrus_tree.specs.declared.marks.Mark.{Mark}
+use Rattle.walrus_tree.specs.declared.marks.Mark.TheVariants.{Open}
 use Rattle.walrus_tree.specs.Text.{Piece, Else, Catch, CatchAll, Delegate, End, of_instrs, text}
 use Rattle.walrus_body_writer.specs.declared.todo.Closer.{Closer}
 use Rattle.walrus_body_writer.specs.declared.todo.Closer.TheVariants as closers
@@ -107,6 +109,10 @@ place_of (Inside at) = at
 abbrev pub depths_after : List ℕ → ℕ → Todo → List ℕ
 depths_after depths height (Enter k _) = slice_set depths k height
 depths_after depths height (Inside _) = depths
+
+abbrev pub marks_after : List Mark → Todo → List Mark
+marks_after ms (Enter k _) = slice_set ms k Open
+marks_after ms (Inside _) = ms
 
 abbrev pub height_after : ℕ → Todo → ℕ
 height_after height (Enter _ _) = height + 1

@@ -1,16 +1,18 @@
 -- One step of emission, and what its loop keeps.
-use Rattle.std.specs.Prelude.{◌≡◌, ℕ, ◌+◌, ◌-◌, ◌≤◌, List, [], ◌∷◌, ◌++◌, length, Option, Some, None, Result, Ok, Err, slice_get}
+use Rattle.std.specs.Prelude.{◌≡◌, ℕ, ◌+◌, ◌-◌, ◌≤◌, List, [], ◌∷◌, ◌++◌, length, Option, Some, None, Result, Ok, Err, slice_get, slice_set}
 use Rattle.walrus_instr.specs.declared.instr.Instr.{Instr}
 use Rattle.walrus_instr.specs.declared.seq.InstrLocId.{InstrLocId}
 use Rattle.walrus_instr.specs.declared.seq.InstrSeq.{InstrSeq}
 use Rattle.walrus_tree.specs.walrus_walks.Tree.{IsRank}
+use Rattle.walrus_tree.specs.declared.marks.Mark.{Mark}
+use Rattle.walrus_tree.specs.declared.marks.Mark.TheVariants.{Done}
 use Rattle.walrus_tree.specs.TextLaws.{AreSound, TextIsPlain}
 use Rattle.walrus_body_writer.specs.declared.todo.Place.{Place}
 use Rattle.walrus_body_writer.specs.declared.todo.Todo.{Todo}
 use Rattle.walrus_body_writer.specs.declared.todo.Todo.TheVariants.{Inside}
 use Rattle.walrus_body_writer.specs.declared.todo.Closer.{Closer}
 use Rattle.walrus_body_writer.specs.declared.todo.Met.{Met}
-use Rattle.walrus_body_writer.specs.declared.todo.Met.TheVariants.{AnInstr, AnEnd, Nothing}
+use Rattle.walrus_body_writer.specs.declared.todo.Met.TheVariants.{AnInstr, AnEnd}
 use Rattle.walrus_tree.specs.Text.{Operator}
 use Rattle.walrus_body_writer.specs.declared.depths.Depths.{Depths}
 use Rattle.walrus_body_writer.specs.declared.output.Output.{Output}
@@ -23,16 +25,17 @@ use Rattle.walrus_pairing.specs.declared.error.PairError.{PairError}
 use Rattle.walrus_body_writer.specs.Outputs.{PutsIf, IsSame, Wrote}
 use Rattle.walrus_body_writer.specs.Refusals.{Gives, IsLarge, LeavesOff, value_in}
 use Rattle.walrus_body_writer.specs.Spelled.{Text, written_instr, written}
-use Rattle.walrus_body_writer.specs.Doing.{piece_of, entering, opened, left, AreDeep, label_by, AreRanked, place_of, depths_after, height_after}
+use Rattle.walrus_body_writer.specs.Doing.{piece_of, entering, opened, left, AreDeep, label_by, AreRanked, place_of, depths_after, height_after, marks_after}
 
--- the list of what is left, how deep sequences lie and how many are open
+-- the list of what is left, how far sequences were tested, how deep they lie and how many are open
 pub record State : Type 0 where
   pub todo : List Todo
+  pub marks : List Mark
   pub depths : List ℕ
   pub height : ℕ
 
 abbrev pub state : List Todo → Depths → State
-state todo d = record { todo = todo; depths = d.depths.items; height = d.height }
+state todo d = record { todo = todo; marks = d.marks.items; depths = d.depths.items; height = d.height }
 
 abbrev pub advanced : Place → Place
 advanced at = record { seq = at.seq; next = at.next + 1; closer = at.closer }
@@ -40,6 +43,7 @@ advanced at = record { seq = at.seq; next = at.next + 1; closer = at.closer }
 -- an instruction stands there; what it holds and what is behind it is left
 pub record MetInstr (top : Todo) (i : Instr × InstrLocId) (met : Met) (old new : State) : Type 0 where
   pub is : met ≡ AnInstr (place_of top).seq (place_of top).next
+  pub marks : new.marks ≡ marks_after old.marks top
   pub depths : new.depths ≡ depths_after old.depths old.height top
   pub height : new.height ≡ height_after old.height top
   pub todo : new.todo ≡ (old.todo ++ Inside (advanced (place_of top)) ∷ []) ++ entering i.0
@@ -47,6 +51,7 @@ pub record MetInstr (top : Todo) (i : Instr × InstrLocId) (met : Met) (old new 
 -- a sequence ends there
 pub record MetEnd (top : Todo) (end : InstrLocId) (met : Met) (old new : State) : Type 0 where
   pub is : met ≡ AnEnd (place_of top).closer end
+  pub marks : new.marks ≡ slice_set (marks_after old.marks top) (place_of top).seq Done
   pub depths : new.depths ≡ depths_after old.depths old.height top
   pub height : new.height ≡ height_after old.height top - 1
   pub todo : new.todo ≡ old.todo
@@ -93,7 +98,6 @@ pub record PassedEnd (b : List InstrSeq) (before : Text) (c : Closer) (place : I
 abbrev pub Passed : List InstrSeq → Text → Met → State → Type 0
 Passed b before (AnInstr k at) new = PassedInstr b before k at new
 Passed b before (AnEnd c place) new = PassedEnd b before c place new
-Passed b before Nothing new = ⊥
 
 -- what is to be written was, or it is refused and nothing was put there
 abbrev pub IsDone : Type 0 → Or (Option Seen) → InstrLocId → Output → Output → Result (Unit {0}) PairError → Type 0
@@ -105,7 +109,6 @@ abbrev pub Writes : Look → List InstrSeq → Met → State → Output → Outp
 Writes look b (AnInstr k at) s old new result = (q : InstrSeq) (i : Instr × InstrLocId) → slice_get b k ≡ Some q → slice_get q.instrs.items at ≡ Some i
     → IsDone (IsLarge look (value_in b i.0)) (written_instr look b (label_by s.depths s.height) i.0) i.1 old new result
 Writes look b (AnEnd c place) s old new result = IsDone ⊥ (written look b (piece_of c)) place old new result
-Writes look b Nothing s old new result = Unit {0}
 
 -- a first part of the text was written, and the text of what is left is the rest
 pub record Goes (look : Look) (b : List InstrSeq) (t : Text) (old : Output) (s : State) (out : Output) : Type 0 where

@@ -7,6 +7,7 @@ pub mod Refusals
 pub mod Appended
 pub mod Emitting
 pub mod Visiting
+pub mod Tested
 -- Passed on to crates above, which then list this one alone.
 pub use Rattle.walrus_body_env.specs as walrus_body_env
 pub use Rattle.walrus_pairing.specs as walrus_pairing

@@ -1,5 +1,5 @@
 -- What is written behind what was written.
-use Rattle.std.specs.Prelude.{◌≡◌, ℕ, take, List, [], ◌∷◌, ◌++◌, length, Option, Some, None, Result, Ok, Err, ◌⊎◌, if◌then◌else◌}
+use Rattle.std.specs.Prelude.{◌≡◌, ℕ, ◌+◌, take, List, [], ◌∷◌, ◌++◌, length, Option, Some, None, Result, Ok, Err, ◌⊎◌, if◌then◌else◌}
 use Rattle.walrus_instr.specs.declared.seq.InstrLocId.{InstrLocId}
 use Rattle.walrus_instr.specs.declared.seq.InstrSeq.{InstrSeq}
 use Rattle.wasm_operators.specs.Operators.{Seen}
@@ -49,6 +49,17 @@ pub record IsSame (old new : Output) : Type 0 where
 abbrev pub IsPut : Or (Option Seen) → InstrLocId → Output → Output → Result (Unit {0}) PairError → Type 0
 IsPut a place old new (Ok _) = PutsIf a place old new
 IsPut a place old new (Err e) = ((e ≡ errors.Memory) ⊎ (a ≡ Err e)) × IsSame old new
+
+-- places that lie so much further on
+abbrev pub moved : ℕ → List (InstrLocId × ℕ) → List (InstrLocId × ℕ)
+moved by [] = []
+moved by (p ∷ ps) = (p.0, by + p.1) ∷ moved by ps
+
+-- what was written elsewhere stands behind what was written here
+pub record Joins (more old new : Output) : Type 0 where
+  pub bytes : new.bytes.items ≡ old.bytes.items ++ more.bytes.items
+  pub places : new.places.items ≡ old.places.items ++ moved (length old.bytes.items) more.places.items
+  pub keeps : new.keeps_places ≡ old.keeps_places
 
 -- the text was written, each piece of it: its bytes stand behind what was there, and where places are kept, so do its places
 pub record Wrote (look : Look) (b : List InstrSeq) (t : Text) (old new : Output) : Type 0 where

@@ -11,7 +11,7 @@ use Rattle.walrus_tree.specs.TextLaws.{TextIsPlain}
 use Rattle.walrus_body_writer.specs.declared.depths.Depths.{Depths}
 use Rattle.walrus_body_writer.specs.declared.todo.Todo.{Todo}
 use Rattle.walrus_body_writer.specs.declared.todo.Met.{Met}
-use Rattle.walrus_body_writer.specs.declared.todo.Met.TheVariants.{AnInstr, AnEnd, Nothing}
+use Rattle.walrus_body_writer.specs.declared.todo.Met.TheVariants.{AnInstr, AnEnd}
 use Rattle.walrus_body_writer.specs.Spelled.{Text}
 use Rattle.walrus_body_writer.specs.Doing.{left, piece_of}
 use Rattle.walrus_body_writer.specs.Emitting.{Good, State, state}
@@ -21,7 +21,6 @@ abbrev pub Visits : {V : Type 0} → (V → Piece × InstrLocId → V → Type 0
 Visits step b (AnInstr k at) old new = (q : InstrSeq) (i : Instr × InstrLocId) → slice_get b k ≡ Some q → slice_get q.instrs.items at ≡ Some i
     → (around : List ℕ) → step old (Operator around i.0, i.1) new
 Visits step b (AnEnd c place) old new = step old (piece_of c, place) new
-Visits step b Nothing old new = Unit {0}
 
 -- a first part of the text was told, and what the visitor held then it holds now
 pub record ToldPart {V : Type 0} (step : V → Piece × InstrLocId → V → Type 0) (same : V → V → Type 0) (t : Text) (old new : V) : Type 0 where

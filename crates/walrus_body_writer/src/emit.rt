@@ -1,6 +1,7 @@
 //! Bodies are written.
 
-ghost use Rattle.std.specs.Prelude.{List, IfErr, IfOk, OnOk};
+ghost use Rattle.std.specs.Prelude.{List, IfErr, IfOk, MatchBool, OnOk};
+ghost use Rattle.std.specs.Bool.{OnTrue};
 ghost use Rattle.walrus_tree.specs.walrus_builder.Functions.{seqs_of};
 ghost use Rattle.walrus_index_maps.specs.Views.{indices};
 ghost use Rattle.walrus_pairing.specs.Looks.{number_of};
@@ -12,6 +13,7 @@ ghost use Rattle.walrus_body_writer.specs.Spelled.{written, written_instr};
 ghost use Rattle.walrus_body_writer.specs.Emitting.{GoesOff, GoesOn, IsDone, Writes, state};
 ghost use Rattle.walrus_body_writer.specs.Numbers.{look_of};
 ghost use Rattle.walrus_body_writer.specs.Outputs.{IsEnded, IsPut, Wrote};
+ghost use Rattle.walrus_body_writer.specs.Tested.{Skips};
 ghost use Rattle.walrus_body_writer.specs.Refusals.{IsLarge, IsRefusal, LeavesOff, value_in};
 
 use crate::depths::Depths;
@@ -191,7 +193,6 @@ fn write_met(
     match met {
         Met::AnInstr(seq, at) => write_instr(alloc, numbers, seqs, depths, seq, at, out),
         Met::AnEnd(closer, place) => write_end(numbers, closer, place, out),
-        Met::Nothing => Ok(()),
     }
 }
 
@@ -205,13 +206,14 @@ fn write_plain(
     out: &mut Output,
 ) -> Result<Place, PairError>
     ensures on { IfOk result (λ next. GoesOn (look_of numbers.now) seqs.now depths.now (Todo.Inside place) (Todo.Inside next) out.old out.new) }
+    ensures tested { IfOk result (λ next. Skips seqs.now depths.now (Todo.Inside place) (Todo.Inside next)) }
     ensures off { IfErr result (λ e. GoesOff (look_of numbers.now) seqs.now depths.now (Todo.Inside place) e out.old out.new) }
 {
     let Some(seq) = seq_at(seqs, place.seq) else {
         return Ok(place);
     };
     let mut next = place.next;
-    while let Some((instr, at)) = plain_at(seq, next) {
+    while let Some((instr, at)) = plain_at(seq, depths, next) {
         match write_one(alloc, numbers, seqs, depths, instr, *at, out) {
             Ok(()) => {}
             Err(error) => return Err(error),
@@ -235,6 +237,7 @@ fn write_on(
     out: &mut Output,
 ) -> Result<Todo, PairError>
     ensures on { IfOk result (λ next. GoesOn (look_of numbers.now) seqs.now depths.now top next out.old out.new) }
+    ensures tested { IfOk result (λ next. Skips seqs.now depths.now top next) }
     ensures off { IfErr result (λ e. GoesOff (look_of numbers.now) seqs.now depths.now top e out.old out.new) }
 {
     match top {
@@ -246,17 +249,17 @@ fn write_on(
     }
 }
 
-// Writes the sequences of a tree.
+// Writes the sequences of a tree; false where they form none.
 fn write_tree(
     alloc: Global,
     numbers: &Numbers<'_>,
     seqs: &[InstrSeq],
     entry: InstrSeqId,
     out: &mut Output,
-) -> Result<(), PairError>
-    requires { IsTree seqs.now entry }
-    ensures written { OnOk result (Wrote (look_of numbers.now) seqs.now (operators seqs.now entry) out.old out.new) }
-    ensures left { IfErr result (λ e. LeavesOff (look_of numbers.now) seqs.now (operators seqs.now entry) out.old e out.new) }
+) -> Result<bool, PairError>
+    ensures tree { IfOk result (λ fine. MatchBool fine (IsTree seqs.now entry) (IsTree seqs.now entry → ⊥)) }
+    ensures written { IfOk result (λ fine. OnTrue fine (Wrote (look_of numbers.now) seqs.now (operators seqs.now entry) out.old out.new)) }
+    ensures left { IfErr result (λ e. IsTree seqs.now entry → LeavesOff (look_of numbers.now) seqs.now (operators seqs.now entry) out.old e out.new) }
 {
     walrus_tree::laws::trees_are_nested();
     walrus_tree::laws::text_is_plain();
@@ -268,13 +271,15 @@ fn write_tree(
             Ok(next) => next,
             Err(error) => return Err(error),
         };
-        let met = advance(seqs, next, &mut todo, &mut depths)?;
+        let Some(met) = advance(seqs, next, &mut todo, &mut depths)? else {
+            return Ok(false);
+        };
         match write_met(alloc, numbers, seqs, &depths, met, out) {
             Ok(()) => {}
             Err(error) => return Err(error),
         }
     }
-    Ok(())
+    Ok(true)
 }
 
 /// Puts the instructions of a function's body behind what was written, through its last `end`: each as an operator in its shortest
@@ -300,14 +305,21 @@ pub fn emit_instructions(
     ensures refused { IfErr result (λ fault. IsRefusal (number_of (indices maps.now) function) (seqs_of body.now) out.old fault out.new) }
 {
     let entry = body.func_body_id();
-    match check_tree(alloc, body, entry) {
-        Ok(true) => {}
-        Ok(false) => return Err(BodyError::NoTree),
-        Err(_) => return Err(BodyError::Memory),
-    }
     let numbers = Numbers { maps, function };
-    match write_tree(alloc, &numbers, body.seqs(), entry, out) {
-        Ok(()) => Ok(()),
-        Err(error) => Err(fault_of(error)),
+    let mut own = Output::new(alloc, out.keeps_places);
+    match write_tree(alloc, &numbers, body.seqs(), entry, &mut own) {
+        Ok(true) => match out.append(&own) {
+            Ok(()) => Ok(()),
+            Err(_) => Err(BodyError::Memory),
+        },
+        Ok(false) => Err(BodyError::NoTree),
+        Err(error) => match check_tree(alloc, body, entry) {
+            Ok(true) => match out.append(&own) {
+                Ok(()) => Err(fault_of(error)),
+                Err(_) => Err(BodyError::Memory),
+            },
+            Ok(false) => Err(BodyError::NoTree),
+            Err(_) => Err(BodyError::Memory),
+        },
     }
 }

@@ -19,7 +19,7 @@ pub use output::Output;
 pub use refusal::fault_of;
 pub use size::body_size;
 pub use todo::Closer;
-pub use visit::{TextVisitor, visit_text};
+pub use visit::{TextVisitor, visit_once, visit_text};
 
 // Passed on to crates above, which then list this one alone.
 pub mod body_env {

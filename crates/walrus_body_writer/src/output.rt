@@ -1,8 +1,8 @@
 //! Where operators are written to.
 
-ghost use Rattle.std.specs.Prelude.{◌≡◌, ◌++◌, [], ◌∷◌, OnErr, OnOk, if◌then◌else◌};
+ghost use Rattle.std.specs.Prelude.{◌≡◌, ◌++◌, [], ◌∷◌, OnErr, OnOk, if◌then◌else◌, length, take};
 ghost use Rattle.walrus_pairing.specs.walrus_operators.Operators.{seen};
-ghost use Rattle.walrus_body_writer.specs.Outputs.{IsCut, IsNoted, IsSame, Puts};
+ghost use Rattle.walrus_body_writer.specs.Outputs.{IsCut, IsNoted, IsSame, Joins, Puts, moved};
 
 use std::alloc::{AllocError, Global};
 use walrus_instr::InstrLocId;
@@ -18,6 +18,24 @@ pub struct Output {
     pub places: Vec<(InstrLocId, usize)>,
     /// Whether places are kept.
     pub keeps_places: bool,
+}
+
+// Puts places behind these, each so much further on.
+fn append_places(
+    places: &mut Vec<(InstrLocId, usize)>,
+    more: &[(InstrLocId, usize)],
+    by: usize,
+) -> Result<(), AllocError>
+    ensures put { OnOk result (places.new.items ≡ places.old.items ++ moved by more.now) }
+    ensures kept { take (length places.old.items) places.new.items ≡ places.old.items }
+{
+    for (place, at) in more {
+        let Some(at) = by.checked_add(*at) else {
+            return Err(AllocError);
+        };
+        places.push((*place, at))?;
+    }
+    Ok(())
 }
 
 impl Output {
@@ -59,6 +77,28 @@ impl Output {
     {
         if let Err(refused) = self.note(place, at) {
             self.bytes.truncate(at);
+            return Err(refused);
+        }
+        Ok(())
+    }
+
+    /// Puts what was written elsewhere behind what was written here.
+    ///
+    /// # Errors
+    ///
+    /// Want of memory. The bytes and places are as they were.
+    pub(crate) fn append(&mut self, more: &Output) -> Result<(), AllocError>
+        ensures joined { OnOk result (Joins more.now self.old self.new) }
+        ensures unjoined { OnErr result (IsSame self.old self.new) }
+    {
+        let count = self.places.len();
+        let by = self.bytes.len();
+        if let Err(refused) = append_places(&mut self.places, more.places.as_slice(), by) {
+            self.places.truncate(count);
+            return Err(refused);
+        }
+        if let Err(refused) = self.bytes.extend_from_slice(more.bytes.as_slice()) {
+            self.places.truncate(count);
             return Err(refused);
         }
         Ok(())

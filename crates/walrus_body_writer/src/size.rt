@@ -7,7 +7,7 @@ ghost use Rattle.walrus_body_writer.specs.Emitting.{IsCause};
 ghost use Rattle.walrus_body_writer.specs.Visiting.{text_size};
 
 use crate::todo::Closer;
-use crate::visit::{TextVisitor, visit_text};
+use crate::visit::{TextVisitor, visit_once};
 use std::alloc::{AllocError, Global};
 use walrus_body_env::BodyError;
 use walrus_instr::{Instr, InstrLocId};
@@ -51,6 +51,6 @@ pub fn body_size(alloc: Global, body: &FunctionBuilder) -> Result<u64, BodyError
     ensures refused { IfErr result (IsCause (seqs_of body.now)) }
 {
     let mut size = Size { count: 0 };
-    visit_text(alloc, &mut size, body)?;
+    visit_once(alloc, &mut size, body)?;
     Ok(size.count)
 }

@@ -47,8 +47,6 @@ pub(crate) enum Met {
     AnInstr(InstrSeqId, usize),
     /// The end of a sequence, and what stands behind that, at this location.
     AnEnd(Closer, InstrLocId),
-    /// Nothing, as there is no such sequence.
-    Nothing,
 }
 
 fn push_enter(todo: &mut Todos, seq: InstrSeqId, closer: Closer) -> Result<(), AllocError>

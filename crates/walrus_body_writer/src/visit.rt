@@ -1,6 +1,7 @@
 //! The text of a body is told, piece by piece.
 
-ghost use Rattle.std.specs.Prelude.{◌≡◌, ℕ, List, IfErr, IfOk, OnErr, OnOk};
+ghost use Rattle.std.specs.Prelude.{◌≡◌, ℕ, List, IfErr, IfOk, MatchBool, OnErr, OnOk};
+ghost use Rattle.std.specs.Bool.{OnTrue};
 ghost use Rattle.std.specs.List.{FoldsTo};
 ghost use Rattle.walrus_instr.specs.declared.seq.InstrLocId.{InstrLocId as Loc};
 ghost use Rattle.walrus_tree.specs.walrus_builder.Functions.{seqs_of};
@@ -8,6 +9,7 @@ ghost use Rattle.walrus_tree.specs.Trees.{IsTree};
 ghost use Rattle.walrus_tree.specs.Text.{Operator, Piece, operators};
 ghost use Rattle.walrus_body_writer.specs.Doing.{piece_of};
 ghost use Rattle.walrus_body_writer.specs.Emitting.{IsCause};
+ghost use Rattle.walrus_body_writer.specs.Tested.{Skips};
 ghost use Rattle.walrus_body_writer.specs.Visiting.{IsLeft, TellsOff, TellsOn, ToldPart, Visits};
 
 use crate::depths::Depths;
@@ -75,7 +77,6 @@ fn tell_met<V: TextVisitor>(visitor: &mut V, seqs: &[InstrSeq], met: Met) -> Res
     match met {
         Met::AnInstr(seq, at) => tell_instr(visitor, seqs, seq, at),
         Met::AnEnd(closer, place) => visitor.end(closer, place),
-        Met::Nothing => Ok(()),
     }
 }
 
@@ -83,16 +84,18 @@ fn tell_met<V: TextVisitor>(visitor: &mut V, seqs: &[InstrSeq], met: Met) -> Res
 fn tell_plain<V: TextVisitor>(
     visitor: &mut V,
     seqs: &[InstrSeq],
+    depths: &Depths,
     place: Place,
 ) -> Result<Place, AllocError>
     ensures told { IfOk result (λ next. TellsOn V.step seqs.now (Todo.Inside place) (Todo.Inside next) visitor.old visitor.new) }
+    ensures tested { IfOk result (λ next. Skips seqs.now depths.now (Todo.Inside place) (Todo.Inside next)) }
     ensures refused { OnErr result (TellsOff V.step V.same seqs.now (Todo.Inside place) visitor.old visitor.new) }
 {
     let Some(seq) = seq_at(seqs, place.seq) else {
         return Ok(place);
     };
     let mut next = place.next;
-    while let Some((instr, at)) = plain_at(seq, next) {
+    while let Some((instr, at)) = plain_at(seq, depths, next) {
         visitor.instr(instr, *at)?;
         next += 1;
     }
@@ -107,30 +110,32 @@ fn tell_plain<V: TextVisitor>(
 fn tell_on<V: TextVisitor>(
     visitor: &mut V,
     seqs: &[InstrSeq],
+    depths: &Depths,
     top: Todo,
 ) -> Result<Todo, AllocError>
     ensures told { IfOk result (λ next. TellsOn V.step seqs.now top next visitor.old visitor.new) }
+    ensures tested { IfOk result (λ next. Skips seqs.now depths.now top next) }
     ensures refused { OnErr result (TellsOff V.step V.same seqs.now top visitor.old visitor.new) }
 {
     match top {
         Todo::Enter(_, _) => Ok(top),
-        Todo::Inside(place) => match tell_plain(visitor, seqs, place) {
+        Todo::Inside(place) => match tell_plain(visitor, seqs, depths, place) {
             Ok(next) => Ok(Todo::Inside(next)),
             Err(error) => Err(error),
         },
     }
 }
 
-// Tells the text of a tree.
+// Tells the text of a tree; false where the sequences form none.
 fn visit_tree<V: TextVisitor>(
     alloc: Global,
     visitor: &mut V,
     seqs: &[InstrSeq],
     entry: InstrSeqId,
-) -> Result<(), AllocError>
-    requires { IsTree seqs.now entry }
-    ensures told { OnOk result (FoldsTo V.step visitor.old (operators seqs.now entry) visitor.new) }
-    ensures left { OnErr result (ToldPart V.step V.same (operators seqs.now entry) visitor.old visitor.new) }
+) -> Result<bool, AllocError>
+    ensures tree { IfOk result (λ fine. MatchBool fine (IsTree seqs.now entry) (IsTree seqs.now entry → ⊥)) }
+    ensures told { IfOk result (λ fine. OnTrue fine (FoldsTo V.step visitor.old (operators seqs.now entry) visitor.new)) }
+    ensures left { OnErr result (IsTree seqs.now entry → ToldPart V.step V.same (operators seqs.now entry) visitor.old visitor.new) }
 {
     walrus_tree::laws::trees_are_nested();
     walrus_tree::laws::text_is_plain();
@@ -138,11 +143,13 @@ fn visit_tree<V: TextVisitor>(
     let mut depths = Depths::new(alloc, seqs.len())?;
     let mut todo = Todos::new(alloc, Todo::Enter(entry, Closer::End));
     while let Some(top) = todo.pop() {
-        let next = tell_on(visitor, seqs, top)?;
-        let met = advance(seqs, next, &mut todo, &mut depths)?;
+        let next = tell_on(visitor, seqs, &depths, top)?;
+        let Some(met) = advance(seqs, next, &mut todo, &mut depths)? else {
+            return Ok(false);
+        };
         tell_met(visitor, seqs, met)?;
     }
-    Ok(())
+    Ok(true)
 }
 
 /// Tells the visitor the text of a body, through its last `end`.
@@ -165,6 +172,30 @@ pub fn visit_text<V: TextVisitor>(
     if !check_tree(alloc, body, entry)? {
         return Err(BodyError::NoTree);
     }
-    visit_tree(alloc, visitor, body.seqs(), entry)?;
+    if !visit_tree(alloc, visitor, body.seqs(), entry)? {
+        return Err(BodyError::NoTree);
+    }
+    Ok(())
+}
+
+/// Tells the visitor the text of a body, through its last `end`, and looks at each instruction once.
+///
+/// # Errors
+///
+/// `NoTree` exactly where the sequences that the body's own reaches form no tree in which each label names a sequence around it; else
+/// want of memory alone. Something may have been told then.
+pub fn visit_once<V: TextVisitor>(
+    alloc: Global,
+    visitor: &mut V,
+    body: &FunctionBuilder,
+) -> Result<(), BodyError>
+    ensures tree { OnOk result (IsTree (seqs_of body.now) 0) }
+    ensures told { OnOk result (FoldsTo V.step visitor.old (operators (seqs_of body.now) 0) visitor.new) }
+    ensures refused { IfErr result (IsCause (seqs_of body.now)) }
+{
+    let entry = body.func_body_id();
+    if !visit_tree(alloc, visitor, body.seqs(), entry)? {
+        return Err(BodyError::NoTree);
+    }
     Ok(())
 }

@@ -1,10 +1,12 @@
-use Rattle.std.proofs.Common.{arith}
+use Rattle.std.proofs.Common.{◌≡◌, Some, arith}
+use Rattle.std.specs.Prelude.{slice_get}
 use Rattle.std.proofs.lemmas.Option.{slice_get_within}
 use Rattle.walrus_body_writer.specs.declared.todo.Place.{Place}
 use Rattle.walrus_body_writer.specs.declared.todo.Todo.TheVariants.{Inside}
 use Rattle.walrus_body_writer.specs.Emitting.{advanced}
 use Rattle.walrus_body_writer.specs.Numbers.{look_of}
-use Rattle.walrus_body_writer.proofs.Runs.{refuses_more, turn_refuses, turn_writes, writes_more}
+use Rattle.walrus_body_writer.proofs.Runs.{refuses_more, turn_refuses, turn_writes, writes_more, writes_none}
+use Rattle.walrus_body_writer.proofs.Tests.{skips_more, skips_none, turn_skips}
 use Rattle.walrus_body_writer.proofs.emit.write_plain.Goals as goal
 
 pub returns-in-Err-clause-off : goal.returns-in-Err-clause-off
@@ -15,7 +17,7 @@ returns-in-Err-clause-off c =
     let here : Place = record { seq = c.args.place.seq; next = c.loop-instr.next; closer = c.args.place.closer } in
     let i = c.in-Some-plain_at.field-0.now in
     let e = c.in-Err.error in
-    refuses_more look b d (Inside c.args.place) (Inside here) e c.args.out.now c.loop-instr.out c.write_one.new.out c.loop-instr.invariant
+    refuses_more look b d (Inside c.args.place) (Inside here) e c.args.out.now c.loop-instr.out c.write_one.new.out c.loop-instr.invariant.goes
     (turn_refuses b here c.in-Some.seq.now i (let e = c.in-Some.ensures in cc) c.in-Some-plain_at.ensures.item.0 c.in-Some-plain_at.ensures.item.1 look d c.loop-instr.out c.write_one.new.out e c.in-Err.ensures)
 
 pub loop-instr-smaller : goal.loop-instr-smaller
@@ -30,5 +32,19 @@ loop-instr-preserved c =
     let d = c.args.depths.now in
     let here : Place = record { seq = c.args.place.seq; next = c.loop-instr.next; closer = c.args.place.closer } in
     let i = c.in-Some-plain_at.field-0.now in
-    writes_more look b d (Inside c.args.place) (Inside here) (Inside (advanced here)) c.args.out.now c.loop-instr.out c.write_one.new.out c.loop-instr.invariant
-    (turn_writes b here c.in-Some.seq.now i (let e = c.in-Some.ensures in cc) c.in-Some-plain_at.ensures.item.0 c.in-Some-plain_at.ensures.item.1 look d c.loop-instr.out c.write_one.new.out c.in-Ok.ensures)
+    let s = c.in-Some.seq.now in
+    let found : slice_get b here.seq ≡ Some s = let e = c.in-Some.ensures in cc in
+    let stands = c.in-Some-plain_at.ensures.item.0 in
+    let none = c.in-Some-plain_at.ensures.item.1 in
+    record {
+      goes =
+          writes_more look b d (Inside c.args.place) (Inside here) (Inside (advanced here)) c.args.out.now c.loop-instr.out c.write_one.new.out c.loop-instr.invariant.goes
+          (turn_writes b here s i found stands none look d c.loop-instr.out c.write_one.new.out c.in-Ok.ensures);
+      tested = skips_more b d (Inside c.args.place) (Inside here) (Inside (advanced here)) c.loop-instr.invariant.tested (turn_skips b here s i d found stands none c.in-Some-plain_at.ensures.item.2);
+    }
+
+pub loop-instr-init : goal.loop-instr-init
+loop-instr-init c =
+    let b = c.args.seqs.now in
+    let d = c.args.depths.now in
+    record { goes = writes_none (look_of c.args.numbers.now) b d (Inside c.args.place) c.args.out.now; tested = skips_none b d (Inside c.args.place) }

@@ -7,5 +7,5 @@ use Rattle.walrus_body_writer.proofs.size.body_size.Goals as goal
 
 pub returns-clause-counted : goal.returns-clause-counted
 returns-clause-counted c =
-    let sum = adds_up (λ (s : Size). s.count) (operators (seqs_of c.args.body.now) 0) (record { count = 0 }) c.visit_text.new.visitor c.in_ok-visit_text.ensures.told in
+    let sum = adds_up (λ (s : Size). s.count) (operators (seqs_of c.args.body.now) 0) (record { count = 0 }) c.visit_once.new.visitor c.in_ok-visit_once.ensures.told in
     omega (arith, sum)

@@ -1,12 +1,16 @@
-use Rattle.std.proofs.Common.{length, []}
+use Rattle.std.proofs.Common.{◌+◌}
 use Rattle.walrus_tree.specs.Text.{operators}
-use Rattle.walrus_body_writer.specs.Doing.{left}
+use Rattle.walrus_tree.specs.Trees.{IsTree}
 use Rattle.walrus_body_writer.specs.Emitting.{state}
+use Rattle.walrus_body_writer.specs.Tested.{IsTested, turns, work}
 use Rattle.walrus_body_writer.specs.Visiting.{Tells}
 use Rattle.walrus_body_writer.proofs.visit.visit_tree.Given as goal
 
 abbrev pub invariant-loop-top : goal.invariant-loop-top
-invariant-loop-top g l = Tells g.V.TextVisitor.step l.seqs (operators l.seqs l.fn.entry) l.fn.visitor (state l.todo l.depths) l.visitor
+invariant-loop-top g l = record {
+  tested : IsTested l.seqs l.fn.entry (state l.todo l.depths);
+  tells : IsTree l.seqs l.fn.entry → Tells g.V.TextVisitor.step l.seqs (operators l.seqs l.fn.entry) l.fn.visitor (state l.todo l.depths) l.visitor;
+}
 
 abbrev pub decreases-loop-top : goal.decreases-loop-top
-decreases-loop-top g l = length (left l.seqs [] l.todo)
+decreases-loop-top g l = work l.seqs l.depths.marks.items + turns l.seqs l.todo
