@@ -1,3 +1,5 @@
 mod Handling
-mod Labels
+mod Piles
+mod Nests
 mod Closing
+mod Labels

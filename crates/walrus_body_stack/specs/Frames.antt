@@ -1,9 +1,11 @@
 -- The open sequences of a body that is read, as contracts see them, and how calls change them.
 use Rattle.std.specs.Prelude.{◌≡◌, ◌⊎◌, ℕ, Bool, true, false, List, [], ◌∷◌, ◌++◌, length, map, reverse, Option, Some, None}
 use Rattle.std.specs.declared.alloc.Global.{Global}
+use Rattle.std.specs.Global.{Vec}
 use Rattle.std.specs.declared.string.String.{String}
 use Rattle.walrus_instr.specs.declared.instr.Instr.{Instr}
 use Rattle.walrus_instr.specs.declared.instr.Instr.TheVariants as instr
+use Rattle.walrus_instr.specs.declared.instr.TryTableCatch.{TryTableCatch}
 use Rattle.walrus_instr.specs.declared.seq.InstrLocId.{InstrLocId}
 use Rattle.walrus_instr.specs.declared.seq.InstrSeqType.{InstrSeqType}
 use Rattle.walrus_builder.specs.declared.function.FunctionBuilder.{FunctionBuilder}
@@ -16,18 +18,24 @@ use Rattle.walrus_body_nesting.specs.Stands.{Turn, Otherwise, Part, part, Finish
 use Rattle.walrus_body_nesting.specs.Opens.{Open, is_bare, reach_in, begun, turned_to, nested, Makes}
 use Rattle.walrus_body_stack.specs.declared.frame.Sort.{Sort}
 use Rattle.walrus_body_stack.specs.declared.frame.Sort.TheVariants as sorts
-use Rattle.walrus_body_stack.specs.declared.frame.Frame.{Frame}
+use Rattle.walrus_body_stack.specs.Held.{Held}
 use Rattle.walrus_body_stack.specs.declared.stack.Stack.{Stack}
 
-abbrev pub opener_of : Sort → Opener
-opener_of sorts.Block = openers.Block
-opener_of sorts.Loop = openers.Loop
-opener_of sorts.Then = openers.If
-opener_of sorts.Else = openers.If
-opener_of sorts.Try = openers.Try
-opener_of sorts.Catch = openers.Try
-opener_of sorts.CatchAll = openers.Try
-opener_of (sorts.TryTable clauses) = openers.TryTable clauses
+-- the clauses of a frame's block, if any were put on the pile
+abbrev pub clauses_or : List (Vec TryTableCatch) → Opener
+clauses_or [] = openers.Block
+clauses_or (c ∷ cs) = openers.TryTable c
+
+-- the clauses of open blocks, the innermost first
+abbrev pub opener_of : Sort → List (Vec TryTableCatch) → Opener
+opener_of sorts.Block cs = openers.Block
+opener_of sorts.Loop cs = openers.Loop
+opener_of sorts.Then cs = openers.If
+opener_of sorts.Else cs = openers.If
+opener_of sorts.Try cs = openers.Try
+opener_of sorts.Catch cs = openers.Try
+opener_of sorts.CatchAll cs = openers.Try
+opener_of sorts.TryTable cs = clauses_or cs
 
 abbrev pub kind_of : Sort → grammar.Frame
 kind_of sorts.Block = grammar.Plain
@@ -37,28 +45,72 @@ kind_of sorts.Else = grammar.Plain
 kind_of sorts.Try = grammar.Trying
 kind_of sorts.Catch = grammar.Catching
 kind_of sorts.CatchAll = grammar.Caught
-kind_of (sorts.TryTable clauses) = grammar.Plain
+kind_of sorts.TryTable = grammar.Plain
 
--- the parts behind the first one, by the handlers so far
-abbrev pub turns_of : Sort → ℕ → List Part → List Part
+abbrev pub top : List (List Part) → List Part
+top [] = []
+top (h ∷ hs) = h
+
+abbrev pub below : {A : Type 0} → List A → List A
+below [] = []
+below (x ∷ xs) = xs
+
+-- the parts behind the first one, by the handlers so far of open blocks, the innermost first
+abbrev pub turns_of : Sort → ℕ → List (List Part) → List Part
 turns_of sorts.Block k hs = []
 turns_of sorts.Loop k hs = []
 turns_of sorts.Then k hs = []
 turns_of sorts.Else k hs = part Otherwise k ∷ []
-turns_of sorts.Try k hs = hs
-turns_of sorts.Catch k hs = hs
-turns_of sorts.CatchAll k hs = hs
-turns_of (sorts.TryTable clauses) k hs = []
+turns_of sorts.Try k hs = top hs
+turns_of sorts.Catch k hs = top hs
+turns_of sorts.CatchAll k hs = top hs
+turns_of sorts.TryTable k hs = []
 
-abbrev pub open_of : Frame → Open
-open_of f = record { opener = opener_of f.sort; place = f.place; ty = f.ty; first = f.first; seq = f.seq; kind = kind_of f.sort; turns = turns_of f.sort f.seq f.handlers; reach = f.reach; instrs = f.instrs.items }
+-- those of the blocks around it
+abbrev pub handlers_around : Sort → List (List Part) → List (List Part)
+handlers_around sorts.Block hs = hs
+handlers_around sorts.Loop hs = hs
+handlers_around sorts.Then hs = hs
+handlers_around sorts.Else hs = hs
+handlers_around sorts.Try hs = below hs
+handlers_around sorts.Catch hs = below hs
+handlers_around sorts.CatchAll hs = below hs
+handlers_around sorts.TryTable hs = hs
+
+abbrev pub clauses_around : Sort → List (Vec TryTableCatch) → List (Vec TryTableCatch)
+clauses_around sorts.Block cs = cs
+clauses_around sorts.Loop cs = cs
+clauses_around sorts.Then cs = cs
+clauses_around sorts.Else cs = cs
+clauses_around sorts.Try cs = cs
+clauses_around sorts.Catch cs = cs
+clauses_around sorts.CatchAll cs = cs
+clauses_around sorts.TryTable cs = below cs
+
+abbrev pub open_of : Held → List (List Part) → List (Vec TryTableCatch) → Open
+open_of h hs cs =
+    record {
+      opener = opener_of h.frame.sort cs;
+      place = h.frame.place;
+      ty = h.frame.ty;
+      first = h.frame.first;
+      seq = h.frame.seq;
+      kind = kind_of h.frame.sort;
+      turns = turns_of h.frame.sort h.frame.seq hs;
+      reach = h.frame.reach;
+      instrs = h.instrs;
+    }
+
+abbrev pub opens_of : List Held → List (List Part) → List (Vec TryTableCatch) → List Open
+opens_of [] hs cs = []
+opens_of (h ∷ rest) hs cs = open_of h hs cs ∷ opens_of rest (handlers_around h.frame.sort hs) (clauses_around h.frame.sort cs)
 
 -- the innermost, those around it, and all
 abbrev pub inner : Stack → Open
-inner s = open_of s.current
+inner s = open_of s.nest.inner s.handlers s.clauses
 
 abbrev pub around : Stack → List Open
-around s = reverse (map open_of s.outer.items)
+around s = opens_of s.nest.outer (handlers_around s.nest.inner.frame.sort s.handlers) (clauses_around s.nest.inner.frame.sort s.clauses)
 
 abbrev pub opens : Stack → List Open
 opens s = inner s ∷ around s
@@ -106,14 +158,18 @@ pub record IsNested (finish : Finish) (old new : Stack) : Type 0 where
   pub makes : Makes (inner old).opener instr (block (inner old).first parts finish)
   pub opens_are : opens new ≡ nested (inner old).reach (instr, (inner old).place) outer ∷ further
 
--- the parts of a first sequence's block are none
-abbrev pub IsFirst : Sort → Type 0
-IsFirst s = (k : ℕ) → turns_of s k [] ≡ []
+-- the sort of a block's first part: how what opened it is told from what was noted of it
+pub record IsFirst (g : Opener) (s : Sort) (hs ks : List (List Part)) (cs ds : List (Vec TryTableCatch)) : Type 0 where
+  pub opener : opener_of s ds ≡ g
+  pub kind : kind_of s ≡ first_kind g
+  pub turns : (k : ℕ) → turns_of s k ks ≡ []
+  pub handlers : handlers_around s ks ≡ hs
+  pub clauses : clauses_around s ds ≡ cs
 
 -- the instruction of a block that ends with this sequence: an `if` without `else` gets an empty one
-abbrev pub IsMade : Sort → InstrSeqType → ℕ → ℕ → List Part → List Seq → List Seq → Instr → Type 0
-IsMade sorts.Then ty first k hs b c i = (c ≡ b ++ empty_seq (length b) ty ∷ []) × (i ≡ instr.IfElse first (length b))
-IsMade s ty first k hs b c i = (c ≡ b) × Makes (opener_of s) i (block first (turns_of s k hs) Ended)
+abbrev pub IsMade : Sort → InstrSeqType → ℕ → ℕ → List (List Part) → List (Vec TryTableCatch) → List Seq → List Seq → Instr → Type 0
+IsMade sorts.Then ty first k hs cs b c i = (c ≡ b ++ empty_seq (length b) ty ∷ []) × (i ≡ instr.IfElse first (length b))
+IsMade s ty first k hs cs b c i = (c ≡ b) × Makes (opener_of s cs) i (block first (turns_of s k hs) Ended)
 
 -- no `else` was added
 pub record IsClosed (place : InstrLocId) (finish : Finish) (old new : Stack) : Type 0 where

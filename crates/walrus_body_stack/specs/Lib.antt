@@ -1,4 +1,6 @@
 pub mod Catches
+pub mod Held
+pub mod Slots
 pub mod Frames
 -- Passed on to crates above, which then list this one alone.
 pub use Rattle.walrus_body_nesting.specs.walrus_body_env as walrus_body_env

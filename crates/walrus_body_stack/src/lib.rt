@@ -3,6 +3,8 @@
 
 mod frame;
 mod handlers;
+mod nest;
+mod pile;
 mod stack;
 mod turns;
 

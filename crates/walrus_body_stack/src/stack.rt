@@ -7,28 +7,29 @@ ghost use Rattle.walrus_builder.specs.Functions.{seqs_of};
 ghost use Rattle.walrus_body_nesting.specs.declared.frames.Opener.TheVariants as openers;
 ghost use Rattle.walrus_body_nesting.specs.declared.frames.Reach.TheVariants.{Live};
 ghost use Rattle.walrus_body_nesting.specs.Opens.{Shaped, begun, ids_of, ran, type_at};
-ghost use Rattle.walrus_body_stack.specs.Frames.{IsEnded, IsFirst, IsHanded, IsMade, IsOpened, IsTrying, around, blocks, filled, first_kind, heading, heading_of, inner, kind_of, open_of, opener_of, opens};
+ghost use Rattle.walrus_body_stack.specs.Frames.{IsEnded, IsFirst, IsHanded, IsMade, IsOpened, IsTrying, around, below, blocks, clauses_around, filled, handlers_around, heading, heading_of, inner, opens, top};
+ghost use Rattle.walrus_body_stack.specs.Held.{emptied, joined};
 ghost use Rattle.walrus_instr.specs.declared.seq.InstrSeqType.{InstrSeqType as BlockTy};
 
 use crate::frame::{Frame, Sort, inner_reach};
 use crate::handlers::Handlers;
+use crate::nest::Nest;
+use crate::pile::Pile;
 use std::alloc::{AllocError, Global};
-use std::mem;
 use walrus_arena::InstrSeqId;
 use walrus_body_nesting::{Opener, Reach};
 use walrus_builder::FunctionBuilder;
-use walrus_instr::{Instr, InstrLocId, InstrSeqType};
+use walrus_instr::{Instr, InstrLocId, InstrSeqType, TryTableCatch};
 
 /// A body that is read: its open sequences, in a list, so that their number is bounded by memory alone.
 #[derive(Drop)]
 pub struct Stack {
     pub(crate) alloc: Global,
     pub(crate) builder: FunctionBuilder,
-    // The innermost, which is always there.
-    pub(crate) current: Frame,
-    pub(crate) outer: Vec<Frame>,
-    // The room of a sequence that ended, for the next one.
-    pub(crate) spare: Vec<(Instr, InstrLocId)>,
+    pub(crate) nest: Nest,
+    // The handlers of each legacy `try` that is open, and the clauses of each `try_table`.
+    pub(crate) handlers: Pile<Handlers>,
+    pub(crate) clauses: Pile<Vec<TryTableCatch>>,
 }
 
 impl Stack {
@@ -41,22 +42,20 @@ impl Stack {
     {
         let first = builder.func_body_id();
         let ty = builder.seqs()[0].ty;
-        let current = Frame {
-            sort: Sort::Block,
-            place: InstrLocId::default(),
+        let frame = Frame {
             ty,
+            place: InstrLocId::default(),
             first,
             seq: first,
-            handlers: Handlers::new(alloc),
+            sort: Sort::Block,
             reach: Reach::Live,
-            instrs: Vec::new(alloc),
         };
         Stack {
             alloc,
             builder,
-            current,
-            outer: Vec::new(alloc),
-            spare: Vec::new(alloc),
+            nest: Nest::new(alloc, frame),
+            handlers: Pile::new(alloc),
+            clauses: Pile::new(alloc),
         }
     }
 
@@ -70,17 +69,18 @@ impl Stack {
     }
 
     /// Whether the next operator of the innermost sequence is reached.
+    #[inline(always)]
     pub fn reach(&self) -> Reach
         ensures { result ≡ (inner self.now).reach }
     {
-        self.current.reach
+        self.nest.reach()
     }
 
     /// The type of the innermost block.
     pub fn block_type(&self) -> InstrSeqType
         ensures { result ≡ (inner self.now).ty }
     {
-        self.current.ty
+        self.nest.frame().ty
     }
 
     /// The sequence that a label names: the innermost has the label 0.
@@ -88,22 +88,14 @@ impl Stack {
     pub fn label(&self, depth: u32) -> Option<InstrSeqId>
         ensures { result ≡ slice_get (ids_of (opens self.now)) depth }
     {
-        let depth = depth as usize;
-        if depth == 0 {
-            return Some(self.current.seq);
-        }
-        let count = self.outer.len();
-        if depth <= count {
-            return Some(self.outer[count - depth].seq);
-        }
-        None
+        self.nest.seq_at(depth)
     }
 
     /// How many open sequences lie around the innermost.
     pub fn outer_count(&self) -> usize
         ensures { result ≡ length (around self.now) }
     {
-        self.outer.len()
+        self.nest.outer_count()
     }
 
     /// Adds an instruction where it is reached; what follows it isn't, where it cuts.
@@ -117,7 +109,17 @@ impl Stack {
         ensures opens { OnOk result (opens self.new ≡ ran (instr, place) cuts (inner self.old) ∷ around self.old) }
         ensures blocks { blocks self.new ≡ blocks self.old }
     {
-        self.current.run(instr, place, cuts)
+        match self.nest.reach() {
+            Reach::Live => {
+                self.nest.add(instr, place)?;
+                if cuts {
+                    self.nest.cut();
+                }
+                Ok(())
+            }
+            Reach::Cut => Ok(()),
+            Reach::Dropped => Ok(()),
+        }
     }
 
     // An empty sequence of this type.
@@ -125,22 +127,34 @@ impl Stack {
         ensures ty { OnOk result (heading_of self.new ≡ heading_of self.old) }
         ensures id { IfOk result (λ id. id ≡ length (blocks self.old)) }
         ensures added { OnOk result (blocks self.new ≡ blocks self.old ++ empty_seq (length (blocks self.old)) ty ∷ []) }
-        ensures current { self.new.current ≡ self.old.current }
-        ensures outer { self.new.outer ≡ self.old.outer }
+        ensures nest { self.new.nest ≡ self.old.nest }
+        ensures handlers { self.new.handlers ≡ self.old.handlers }
+        ensures clauses { self.new.clauses ≡ self.old.clauses }
     {
         let id = self.builder.dangling_instr_seq(ty)?;
         Ok(id)
     }
 
-    // Takes this sequence as the innermost.
-    fn push(&mut self, frame: Frame) -> Result<(), AllocError>
-        ensures ty { heading_of self.new ≡ heading_of self.old }
-        ensures opens { OnOk result (opens self.new ≡ open_of frame ∷ opens self.old) }
-        ensures blocks { blocks self.new ≡ blocks self.old }
+    // The first part of a block, and what has to be kept of the block.
+    fn noted(&mut self, opener: Opener) -> Result<Sort, AllocError>
+        ensures builder { self.new.builder ≡ self.old.builder }
+        ensures nest { self.new.nest ≡ self.old.nest }
+        ensures first { IfOk result (λ s. IsFirst opener s self.old.handlers self.new.handlers self.old.clauses self.new.clauses) }
     {
-        let last = mem::replace(&mut self.current, frame);
-        self.outer.push(last)?;
-        Ok(())
+        match opener {
+            Opener::Block => Ok(Sort::Block),
+            Opener::Loop => Ok(Sort::Loop),
+            Opener::If => Ok(Sort::Then),
+            Opener::Try => {
+                let none = Handlers::new(self.alloc);
+                self.handlers.push(none)?;
+                Ok(Sort::Try)
+            }
+            Opener::TryTable(clauses) => {
+                self.clauses.push(clauses)?;
+                Ok(Sort::TryTable)
+            }
+        }
     }
 
     /// Opens a block of this type.
@@ -158,69 +172,60 @@ impl Stack {
         ensures opened { OnOk result (IsOpened opener place ty self.old self.new) }
     {
         let own = ty;
-        let reach = inner_reach(self.current.reach);
-        self.current.leave_room()?;
+        let reach = inner_reach(self.nest.reach());
         let seq = self.fresh(ty)?;
-        let sort = first_sort(opener);
-        let handlers = Handlers::new(self.alloc);
+        let sort = self.noted(opener)?;
         let frame = Frame {
-            sort,
-            place,
             ty: own,
+            place,
             first: seq,
             seq,
-            handlers,
+            sort,
             reach,
-            instrs: self.room(),
         };
-        self.push(frame)?;
-        Ok(())
+        self.nest.enter(frame)
     }
 
     // Gives the innermost sequence its instructions, and its end this location.
     pub(crate) fn close(&mut self, place: InstrLocId) -> Result<(), AllocError>
-        requires { self.old.current.seq < length (blocks self.old) }
+        requires { self.old.nest.inner.frame.seq < length (blocks self.old) }
         ensures ty { heading_of self.new ≡ heading_of self.old }
         ensures filled { OnOk result (blocks self.new ≡ filled place self.old) }
-        ensures empty { OnOk result (self.new.current.instrs.items ≡ []) }
-        ensures current { self.new.current ≡ record self.old.current { instrs = self.new.current.instrs } }
-        ensures outer { self.new.outer ≡ self.old.outer }
+        ensures nest { OnOk result (self.new.nest ≡ emptied self.old.nest) }
+        ensures handlers { self.new.handlers ≡ self.old.handlers }
+        ensures clauses { self.new.clauses ≡ self.old.clauses }
     {
-        let instrs = taken(&mut self.current.instrs)?;
-        self.builder.fill(self.current.seq, instrs, place);
+        let seq = self.nest.frame().seq;
+        let instrs = self.nest.take()?;
+        self.builder.fill(seq, instrs, place);
         Ok(())
     }
 
-    // The room of a sequence that ended, or none.
-    fn room(&mut self) -> Vec<(Instr, InstrLocId)>
-        ensures empty { result.items ≡ [] }
-        ensures rest { self.new ≡ record self.old { spare = self.new.spare } }
+    // Takes the handlers of the innermost legacy `try`.
+    pub(crate) fn handlers(&mut self) -> Handlers
+        ensures top { result ≡ top self.old.handlers }
+        ensures rest { self.new ≡ record self.old { handlers = below self.old.handlers } }
     {
-        let empty = Vec::new(self.alloc);
-        let mut room = mem::replace(&mut self.spare, empty);
-        room.clear();
-        room
+        match self.handlers.pop() {
+            Some(handlers) => handlers,
+            None => Handlers::new(self.alloc),
+        }
     }
 
     // The instruction of a block that ended; an `if` without `else` gets an empty one.
-    fn block_of(
-        &mut self,
-        sort: Sort,
-        ty: InstrSeqType,
-        first: InstrSeqId,
-        seq: InstrSeqId,
-        handlers: Handlers,
-    ) -> Result<Instr, AllocError>
+    fn block_of(&mut self, frame: Frame) -> Result<Instr, AllocError>
         ensures ty { OnOk result (heading_of self.new ≡ heading_of self.old) }
-        ensures made { IfOk result (λ instr. IsMade sort ty first seq handlers (blocks self.old) (blocks self.new) instr) }
-        ensures current { self.new.current ≡ self.old.current }
-        ensures outer { self.new.outer ≡ self.old.outer }
+        ensures made { IfOk result (λ instr. IsMade frame.sort frame.ty frame.first frame.seq self.old.handlers self.old.clauses (blocks self.old) (blocks self.new) instr) }
+        ensures nest { self.new.nest ≡ self.old.nest }
+        ensures handlers { OnOk result (self.new.handlers ≡ handlers_around frame.sort self.old.handlers) }
+        ensures clauses { OnOk result (self.new.clauses ≡ clauses_around frame.sort self.old.clauses) }
     {
-        match sort {
+        let first = frame.first;
+        match frame.sort {
             Sort::Block => Ok(Instr::Block { seq: first }),
             Sort::Loop => Ok(Instr::Loop { seq: first }),
             Sort::Then => {
-                let alternative = self.fresh(ty)?;
+                let alternative = self.fresh(frame.ty)?;
                 Ok(Instr::IfElse {
                     consequent: first,
                     alternative,
@@ -228,15 +233,35 @@ impl Stack {
             }
             Sort::Else => Ok(Instr::IfElse {
                 consequent: first,
-                alternative: seq,
+                alternative: frame.seq,
             }),
-            Sort::Try => Ok(handlers.into_try(first)),
-            Sort::Catch => Ok(handlers.into_try(first)),
-            Sort::CatchAll => Ok(handlers.into_try(first)),
-            Sort::TryTable(catches) => Ok(Instr::TryTable {
-                seq: first,
-                catches,
-            }),
+            Sort::Try => Ok(self.handlers().into_try(first)),
+            Sort::Catch => Ok(self.handlers().into_try(first)),
+            Sort::CatchAll => Ok(self.handlers().into_try(first)),
+            Sort::TryTable => match self.clauses.pop() {
+                Some(catches) => Ok(Instr::TryTable {
+                    seq: first,
+                    catches,
+                }),
+                None => Ok(Instr::Block { seq: first }),
+            },
+        }
+    }
+
+    // Adds a block where it was reached.
+    fn nested(
+        &mut self,
+        instr: Instr,
+        place: InstrLocId,
+        reach: Reach,
+    ) -> Result<(), AllocError>
+        ensures nest { OnOk result (self.new.nest ≡ joined reach (instr, place) self.old.nest) }
+        ensures rest { self.new ≡ record self.old { nest = self.new.nest } }
+    {
+        match reach {
+            Reach::Live => self.nest.add(instr, place),
+            Reach::Cut => self.nest.add(instr, place),
+            Reach::Dropped => Ok(()),
         }
     }
 
@@ -252,23 +277,14 @@ impl Stack {
         ensures ended { IfOk result (λ done. IsEnded done place self.old self.new) }
     {
         self.close(place)?;
-        let Some(outer) = self.outer.pop() else {
+        let frame = self.nest.frame();
+        let opened = frame.place;
+        let reach = frame.reach;
+        if !self.nest.leave() {
             return Ok(true);
-        };
-        let closed = mem::replace(&mut self.current, outer);
-        let Frame {
-            sort,
-            place,
-            ty,
-            first,
-            seq,
-            handlers,
-            reach,
-            instrs,
-        } = closed;
-        self.spare = instrs;
-        let instr = self.block_of(sort, ty, first, seq, handlers)?;
-        self.current.nest(instr, place, reach)?;
+        }
+        let instr = self.block_of(frame)?;
+        self.nested(instr, opened, reach)?;
         Ok(false)
     }
 
@@ -285,51 +301,13 @@ impl Stack {
         ensures handed { IfOk result (λ done. IsHanded done depth self.old self.new) }
     {
         self.close(InstrLocId::default())?;
-        let Some(outer) = self.outer.pop() else {
+        let frame = self.nest.frame();
+        if !self.nest.leave() {
             return Ok(true);
-        };
-        let closed = mem::replace(&mut self.current, outer);
-        let Frame {
-            place,
-            first,
-            handlers,
-            reach,
-            ..
-        } = closed;
-        let instr = handlers.into_delegating(first, depth)?;
-        self.current.nest(instr, place, reach)?;
+        }
+        let handlers = self.handlers();
+        let instr = handlers.into_delegating(frame.first, depth)?;
+        self.nested(instr, frame.place, frame.reach)?;
         Ok(false)
-    }
-}
-
-// What is longer gives up its room, and isn't copied.
-const SHORT: usize = 256;
-
-// The instructions, in a list of just their number: one with room to spare would cost each later walk its time.
-fn taken(instrs: &mut Vec<(Instr, InstrLocId)>) -> Result<Vec<(Instr, InstrLocId)>, AllocError>
-    ensures taken { IfOk result (λ own. own.items ≡ instrs.old.items) }
-    ensures empty { OnOk result (instrs.new.items ≡ []) }
-{
-    if instrs.len() <= SHORT {
-        return instrs.split_off(0);
-    }
-    let empty = Vec::new(*instrs.allocator());
-    let mut own = mem::replace(instrs, empty);
-    own.shrink_to_fit();
-    Ok(own)
-}
-
-// The first part of a block.
-fn first_sort(opener: Opener) -> Sort
-    ensures opener { opener_of result ≡ opener }
-    ensures kind { kind_of result ≡ first_kind opener }
-    ensures turns { IsFirst result }
-{
-    match opener {
-        Opener::Block => Sort::Block,
-        Opener::Loop => Sort::Loop,
-        Opener::If => Sort::Then,
-        Opener::Try => Sort::Try,
-        Opener::TryTable(clauses) => Sort::TryTable(clauses),
     }
 }

@@ -5,10 +5,12 @@ ghost use Rattle.walrus_body_nesting.specs.wasm_body_grammar.Frames.{Plain, Catc
 ghost use Rattle.walrus_builder.specs.Built.{empty_seq};
 ghost use Rattle.walrus_body_nesting.specs.Faults.{Answers, IsRefusal};
 ghost use Rattle.walrus_body_nesting.specs.Stands.{Handles, HandlesAll, Otherwise};
-ghost use Rattle.walrus_body_nesting.specs.Opens.{Shaped, reach_on};
+ghost use Rattle.walrus_body_nesting.specs.Opens.{Shaped};
 ghost use Rattle.walrus_body_stack.specs.Frames.{IsTurned, blocks, delegate_test, filled, handler_test, heading_of, inner, is_then, opens, other_test};
+ghost use Rattle.walrus_body_stack.specs.Held.{as_frame, emptied, turned};
 
-use crate::frame::{Sort, next_reach};
+use crate::frame::{Frame, Sort, next_reach};
+use crate::handlers::Handlers;
 use crate::stack::Stack;
 use std::alloc::AllocError;
 use walrus_arena::{InstrSeqId, TagId};
@@ -16,36 +18,50 @@ use walrus_body_nesting::body_env::BodyError;
 use walrus_instr::{InstrLocId, InstrSeqType};
 
 impl Sort {
-    fn is_then(&self) -> bool
-        ensures { result ≡ is_then self.now }
+    fn is_then(self) -> bool
+        ensures { result ≡ is_then self }
     {
         matches!(self, Sort::Then)
     }
 }
 
 impl Stack {
-    // Closes the innermost sequence, and goes on with an empty one of this type.
+    // Closes the innermost sequence, and gives an empty one of this type to go on with.
     fn next_part(&mut self, place: InstrLocId, ty: InstrSeqType) -> Result<InstrSeqId, AllocError>
-        requires { self.old.current.seq < length (blocks self.old) }
+        requires { self.old.nest.inner.frame.seq < length (blocks self.old) }
         ensures ty { OnOk result (heading_of self.new ≡ heading_of self.old) }
         ensures id { IfOk result (λ id. id ≡ length (filled place self.old)) }
         ensures added { OnOk result (blocks self.new ≡ filled place self.old ++ empty_seq (length (filled place self.old)) ty ∷ []) }
-        ensures empty { OnOk result (self.new.current.instrs.items ≡ []) }
-        ensures current { IfOk result (λ id. self.new.current ≡ record self.old.current { seq = id; reach = reach_on self.old.current.reach; instrs = self.new.current.instrs }) }
-        ensures outer { self.new.outer ≡ self.old.outer }
+        ensures nest { OnOk result (self.new.nest ≡ emptied self.old.nest) }
+        ensures handlers { self.new.handlers ≡ self.old.handlers }
+        ensures clauses { self.new.clauses ≡ self.old.clauses }
     {
         self.close(place)?;
         let seq = self.fresh(ty)?;
-        self.current.seq = seq;
-        self.current.reach = next_reach(self.current.reach);
         Ok(seq)
     }
 
-    // What part it is.
-    fn set_sort(&mut self, sort: Sort)
-        ensures { self.new ≡ record self.old { current = record self.old.current { sort = sort } } }
+    // Goes on with this sequence, as this part.
+    fn turn(&mut self, seq: InstrSeqId, sort: Sort)
+        ensures { self.new ≡ record self.old { nest = as_frame (turned seq sort self.old.nest.inner.frame) self.old.nest } }
     {
-        self.current.sort = sort;
+        let frame = self.nest.frame();
+        self.nest.set(Frame {
+            ty: frame.ty,
+            place: frame.place,
+            first: frame.first,
+            seq,
+            sort,
+            reach: next_reach(frame.reach),
+        });
+    }
+
+    // Keeps the handlers of the innermost legacy `try`.
+    fn keep(&mut self, handlers: Handlers) -> Result<(), AllocError>
+        ensures kept { OnOk result (self.new.handlers ≡ handlers ∷ self.old.handlers) }
+        ensures rest { self.new ≡ record self.old { handlers = self.new.handlers } }
+    {
+        self.handlers.push(handlers)
     }
 
     /// Begins the other part of an `if`, of the type of the first.
@@ -60,14 +76,14 @@ impl Stack {
         ensures refused { IfErr result (IsRefusal (other_test (inner self.old).kind) offset) }
         ensures turned { OnOk result (IsTurned Otherwise Plain (inner self.old).ty place self.old self.new) }
     {
-        if !self.current.sort.is_then() {
+        if !self.nest.frame().sort.is_then() {
             return Err(BodyError::Nesting {
                 offset: Some(offset),
             });
         }
-        let ty = self.current.ty;
-        self.next_part(place, ty)?;
-        self.set_sort(Sort::Else);
+        let ty = self.nest.frame().ty;
+        let seq = self.next_part(place, ty)?;
+        self.turn(seq, Sort::Else);
         Ok(())
     }
 
@@ -79,13 +95,13 @@ impl Stack {
     pub fn check_handler(&self, offset: u64) -> Result<(), BodyError>
         ensures { Answers result (handler_test (inner self.now).kind) offset (λ _. Unit {0}) }
     {
-        match &self.current.sort {
+        match self.nest.frame().sort {
             Sort::Try => Ok(()),
             Sort::Catch => Ok(()),
             Sort::CatchAll => Err(BodyError::Position {
                 offset: Some(offset),
             }),
-            Sort::Block | Sort::Loop | Sort::Then | Sort::Else | Sort::TryTable(_) => {
+            Sort::Block | Sort::Loop | Sort::Then | Sort::Else | Sort::TryTable => {
                 Err(BodyError::Nesting {
                     offset: Some(offset),
                 })
@@ -101,7 +117,7 @@ impl Stack {
     pub fn check_delegate(&self, offset: u64) -> Result<(), BodyError>
         ensures { Answers result (delegate_test (inner self.now).kind) offset (λ _. Unit {0}) }
     {
-        match &self.current.sort {
+        match self.nest.frame().sort {
             Sort::Try => Ok(()),
             Sort::Catch => Err(BodyError::Position {
                 offset: Some(offset),
@@ -109,7 +125,7 @@ impl Stack {
             Sort::CatchAll => Err(BodyError::Position {
                 offset: Some(offset),
             }),
-            Sort::Block | Sort::Loop | Sort::Then | Sort::Else | Sort::TryTable(_) => {
+            Sort::Block | Sort::Loop | Sort::Then | Sort::Else | Sort::TryTable => {
                 Err(BodyError::Nesting {
                     offset: Some(offset),
                 })
@@ -134,8 +150,10 @@ impl Stack {
         ensures turned { OnOk result (IsTurned (Handles tag) Catching ty place self.old self.new) }
     {
         let seq = self.next_part(place, ty)?;
-        self.current.handlers.push(tag, seq)?;
-        self.set_sort(Sort::Catch);
+        let mut handlers = self.handlers();
+        handlers.push(tag, seq)?;
+        self.keep(handlers)?;
+        self.turn(seq, Sort::Catch);
         Ok(())
     }
 
@@ -155,8 +173,10 @@ impl Stack {
         ensures turned { OnOk result (IsTurned HandlesAll Caught ty place self.old self.new) }
     {
         let seq = self.next_part(place, ty)?;
-        self.current.handlers.push_all(seq)?;
-        self.set_sort(Sort::CatchAll);
+        let mut handlers = self.handlers();
+        handlers.push_all(seq)?;
+        self.keep(handlers)?;
+        self.turn(seq, Sort::CatchAll);
         Ok(())
     }
 }

@@ -12,5 +12,6 @@ returns-clause-opens c =
     let F : List InstrSeq → Type 0 = λ ss. type_at (contents c.args.builder.builder) 0 ≡ Some (slice_index_or ss 0 x).ty in (
       (slice_index_or c.seqs.result.now 0 x).ty,
       subst F (sym c.seqs.ensures) (first_type c.args.builder.builder.seqs x c.requires),
-      body_open c.default.result (slice_index_or c.seqs.result.now 0 x).ty c.func_body_id-first.result c.new-2.result.items c.new-3.result.items c.default.ensures c.func_body_id-first.ensures c.new-2.ensures.items c.new-3.ensures.items,
+      body_open (record { alloc = c.args.alloc; builder = c.args.builder; nest = c.new.result; handlers = c.new-2.result; clauses = c.new-3.result })
+          (slice_index_or c.seqs.result.now 0 x).ty c.default.result c.func_body_id-first.result c.new.ensures c.default.ensures c.func_body_id-first.ensures,
     )

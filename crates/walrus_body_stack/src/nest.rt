@@ -1,0 +1,297 @@
+//! Open sequences with their instructions, which lie in one list.
+
+ghost use Rattle.std.specs.Prelude.{◌≡◌, ◌≤◌, ◌<◌, [], ◌∷◌, ◌++◌, length, take, drop, slice_get, IfOk, OnOk, OnErr};
+ghost use Rattle.std.specs.Option.{option_map};
+ghost use Rattle.std.specs.Vec.{vec_len, vec_capacity};
+ghost use Rattle.walrus_body_nesting.specs.declared.frames.Reach.TheVariants.{Cut as cut_reach};
+ghost use Rattle.walrus_body_stack.specs.Held.{IsLeft, added, as_frame, bare, emptied, entered, seqs_in};
+
+use crate::frame::Frame;
+use crate::pile::Pile;
+use std::alloc::{AllocError, Global};
+use std::marker::Model;
+use std::mem;
+use walrus_arena::InstrSeqId;
+use walrus_body_nesting::Reach;
+use walrus_instr::{Instr, InstrLocId};
+
+/// An open sequence, and where its instructions lie.
+#[derive(Clone, Copy)]
+pub(crate) struct Slot {
+    // Where they begin in the list.
+    pub(crate) begin: usize,
+    pub(crate) frame: Frame,
+    // Whether those of the sequences around it lie in the next list.
+    pub(crate) apart: bool,
+}
+
+/// The open sequences of a body. Their instructions lie in one list, each sequence's behind those of the one around it, so that no room
+/// is kept for each; what has become long is set aside.
+#[derive(Drop)]
+pub(crate) struct Nest {
+    // The innermost, which is always there, and those around it.
+    inner: Slot,
+    outer: Pile<Slot>,
+    list: Vec<(Instr, InstrLocId)>,
+    // The lists that were set aside.
+    aside: Pile<Vec<(Instr, InstrLocId)>>,
+    // The room of a list that is done with, for the next one.
+    spare: Vec<(Instr, InstrLocId)>,
+}
+
+impl Model for Nest {
+    ghost use Rattle.std.specs.Prelude.{◌∷◌};
+    ghost use Rattle.walrus_body_stack.specs.Held.{Nested};
+    ghost use Rattle.walrus_body_stack.specs.Slots.{Fits, nested_in};
+
+    ghost Value = { Nested };
+
+    ghost view = { λ n. nested_in n.inner n.outer n.list.items n.aside };
+
+    ghost invariant = { λ n. Fits (n.inner ∷ n.outer) n.list.items n.aside };
+}
+
+// A list of fewer instructions isn't set aside.
+const LONG: usize = 2032;
+
+// A sequence in a list of fewer isn't moved to one of its own.
+const LONGER: usize = 4064;
+
+// A list of more is given as it is, less its room, where all of it is asked for; what is shorter is copied.
+const SHORT: usize = 256;
+
+// Room for one more. Growth stands apart, so that what is inlined stays small.
+#[inline(always)]
+fn make_room(list: &mut Vec<(Instr, InstrLocId)>) -> Result<(), AllocError>
+    ensures room { OnOk result (vec_len list.new < vec_capacity list.new) }
+    ensures rest { list.new.items ≡ list.old.items }
+{
+    if list.len() < list.capacity() {
+        return Ok(());
+    }
+    grow(list)
+}
+
+#[inline(never)]
+fn grow(list: &mut Vec<(Instr, InstrLocId)>) -> Result<(), AllocError>
+    ensures room { OnOk result (vec_len list.new < vec_capacity list.new) }
+    ensures rest { list.new.items ≡ list.old.items }
+{
+    list.reserve(1)
+}
+
+// Takes off what begins there, in a list of just its number: one with room to spare would cost each later walk its time.
+fn taken(
+    list: &mut Vec<(Instr, InstrLocId)>,
+    begin: usize,
+) -> Result<Vec<(Instr, InstrLocId)>, AllocError>
+    requires { begin ≤ length list.old.items }
+    ensures taken { IfOk result (λ own. own.items ≡ drop begin list.old.items) }
+    ensures left { OnOk result (list.new.items ≡ take begin list.old.items) }
+    ensures refused { OnErr result (list.new.items ≡ list.old.items) }
+{
+    if begin == 0 && list.len() > SHORT {
+        let empty = Vec::new(*list.allocator());
+        let mut own = mem::replace(list, empty);
+        own.shrink_to_fit();
+        return Ok(own);
+    }
+    list.split_off(begin)
+}
+
+// Keeps the room of a list that is done with, unless it is large: then what ends next finds room there.
+fn keep(spare: &mut Vec<(Instr, InstrLocId)>, done: Vec<(Instr, InstrLocId)>) {
+    if done.capacity() <= SHORT {
+        *spare = done;
+    }
+}
+
+// What is there.
+#[inline(always)]
+fn seq_of(slot: Option<Slot>) -> Option<InstrSeqId>
+    ensures { result ≡ option_map (λ s. s.frame.seq) slot }
+{
+    match slot {
+        Some(slot) => Some(slot.frame.seq),
+        None => None,
+    }
+}
+
+impl Nest {
+    /// This sequence alone. Takes no memory.
+    pub(crate) fn new(alloc: Global, frame: Frame) -> Self
+        ensures { result ≡ record { inner = bare frame; outer = [] } }
+    {
+        Nest {
+            inner: Slot {
+                begin: 0,
+                frame,
+                apart: false,
+            },
+            outer: Pile::new(alloc),
+            list: Vec::new(alloc),
+            aside: Pile::new(alloc),
+            spare: Vec::new(alloc),
+        }
+    }
+
+    /// The innermost.
+    #[inline(always)]
+    pub(crate) fn frame(&self) -> Frame
+        ensures { result ≡ self.now.inner.frame }
+    {
+        self.inner.frame
+    }
+
+    /// Whether what comes next in it is reached.
+    #[inline(always)]
+    pub(crate) fn reach(&self) -> Reach
+        ensures { result ≡ self.now.inner.frame.reach }
+    {
+        self.inner.frame.reach
+    }
+
+    /// Puts this in place of what the innermost is; it keeps its instructions.
+    pub(crate) fn set(&mut self, frame: Frame)
+        ensures { self.new ≡ as_frame frame self.old }
+    {
+        self.inner.frame = frame;
+    }
+
+    /// Says that nothing that follows in the innermost is reached.
+    #[inline(always)]
+    pub(crate) fn cut(&mut self)
+        ensures { self.new ≡ as_frame (record self.old.inner.frame { reach = cut_reach }) self.old }
+    {
+        self.inner.frame.reach = Reach::Cut;
+    }
+
+    // A sequence that has become long gets a list of its own, so that it needn't be copied as it ends.
+    #[inline(never)]
+    fn part(&mut self) -> Result<(), AllocError>
+        ensures { OnOk result (self.new ≡ self.old) }
+    {
+        if self.inner.apart || self.inner.begin == 0 || self.list.len() < LONGER {
+            return Ok(());
+        }
+        let own = self.list.split_off(self.inner.begin)?;
+        self.aside.push_from(&mut self.list, own)?;
+        self.inner.begin = 0;
+        self.inner.apart = true;
+        Ok(())
+    }
+
+    // As the list is to grow, it may be time for that.
+    #[inline(always)]
+    fn parted(&mut self) -> Result<(), AllocError>
+        ensures { OnOk result (self.new ≡ self.old) }
+    {
+        if self.list.len() < self.list.capacity() {
+            return Ok(());
+        }
+        self.part()
+    }
+
+    /// Adds an instruction to the innermost.
+    #[inline(always)]
+    pub(crate) fn add(&mut self, instr: Instr, place: InstrLocId) -> Result<(), AllocError>
+        ensures { OnOk result (self.new ≡ added (instr, place) self.old) }
+    {
+        self.parted()?;
+        make_room(&mut self.list)?;
+        self.list.push_reserved((instr, place));
+        Ok(())
+    }
+
+    // Enters a sequence whose instructions lie behind those around it.
+    fn enter_here(&mut self, frame: Frame) -> Result<(), AllocError>
+        ensures { OnOk result (self.new ≡ entered frame self.old) }
+    {
+        self.outer.push(self.inner)?;
+        self.inner = Slot {
+            begin: self.list.len(),
+            frame,
+            apart: false,
+        };
+        Ok(())
+    }
+
+    // Enters one that has a list of its own.
+    fn enter_apart(&mut self, frame: Frame) -> Result<(), AllocError>
+        ensures { OnOk result (self.new ≡ entered frame self.old) }
+    {
+        self.outer.push(self.inner)?;
+        let empty = Vec::new(*self.spare.allocator());
+        let mut room = mem::replace(&mut self.spare, empty);
+        room.clear();
+        if let Err(error) = self.aside.push_from(&mut self.list, room) {
+            let _ = self.outer.pop();
+            return Err(error);
+        }
+        self.inner = Slot {
+            begin: 0,
+            frame,
+            apart: true,
+        };
+        Ok(())
+    }
+
+    /// Enters a sequence, which has no instructions so far.
+    pub(crate) fn enter(&mut self, frame: Frame) -> Result<(), AllocError>
+        ensures { OnOk result (self.new ≡ entered frame self.old) }
+    {
+        if self.list.len() < LONG {
+            self.enter_here(frame)
+        } else {
+            self.enter_apart(frame)
+        }
+    }
+
+    /// Takes the innermost one's instructions.
+    pub(crate) fn take(&mut self) -> Result<Vec<(Instr, InstrLocId)>, AllocError>
+        ensures taken { IfOk result (λ own. own.items ≡ self.old.inner.instrs) }
+        ensures left { OnOk result (self.new ≡ emptied self.old) }
+    {
+        taken(&mut self.list, self.inner.begin)
+    }
+
+    /// Leaves the innermost, if there is one around it; says whether there is.
+    pub(crate) fn leave(&mut self) -> bool
+        ensures { IsLeft result self.old self.new }
+    {
+        let Some(slot) = self.outer.pop() else {
+            return false;
+        };
+        if self.inner.apart {
+            let last = match self.aside.pop() {
+                Some(last) => last,
+                None => Vec::new(*self.list.allocator()),
+            };
+            keep(&mut self.spare, mem::replace(&mut self.list, last));
+            self.outer.give_up();
+        } else {
+            self.list.truncate(self.inner.begin);
+        }
+        self.inner = slot;
+        true
+    }
+
+    /// How many lie around the innermost.
+    pub(crate) fn outer_count(&self) -> usize
+        ensures { result ≡ length self.now.outer }
+    {
+        self.outer.len()
+    }
+
+    /// The sequence that a label names: the innermost has the label 0.
+    #[inline(always)]
+    pub(crate) fn seq_at(&self, depth: u32) -> Option<InstrSeqId>
+        ensures { result ≡ slice_get (seqs_in self.now) depth }
+    {
+        let depth = depth as usize;
+        if depth == 0 {
+            return Some(self.inner.frame.seq);
+        }
+        seq_of(self.outer.at(depth - 1))
+    }
+}

@@ -1,0 +1,97 @@
+//! A pile, whose top is taken first.
+
+ghost use Rattle.std.specs.Prelude.{◌≡◌, [], ◌∷◌, MatchOption, OnOk, OnErr, length, slice_get};
+
+use std::alloc::{AllocError, Global};
+use std::marker::Model;
+use std::mem;
+
+/// Items, of which the last is taken first. Contracts see that one first.
+#[derive(Drop)]
+pub(crate) struct Pile<T> {
+    items: Vec<T>,
+}
+
+impl<T> Model for Pile<T> {
+    ghost use Rattle.std.specs.Prelude.{List, reverse};
+    ghost use Rattle.std.specs.Coded.{coded_list};
+
+    ghost Value = { List T };
+
+    ghost coded = { coded_list T.code };
+
+    ghost view = { λ p. reverse p.items.items };
+}
+
+// So much more room than is used is kept.
+const ROOM: usize = 512;
+
+impl<T: Drop> Pile<T> {
+    /// None. Takes no memory.
+    pub(crate) fn new(alloc: Global) -> Self
+        ensures { result ≡ [] }
+    {
+        Pile {
+            items: Vec::new(alloc),
+        }
+    }
+
+    /// How many there are.
+    #[inline(always)]
+    pub(crate) fn len(&self) -> usize
+        ensures { result ≡ length self.now }
+    {
+        self.items.len()
+    }
+
+    /// Puts this on top.
+    pub(crate) fn push(&mut self, item: T) -> Result<(), AllocError>
+        ensures pushed { OnOk result (self.new ≡ item ∷ self.old) }
+        ensures refused { OnErr result (self.new ≡ self.old) }
+    {
+        self.items.push(item)?;
+        Ok(())
+    }
+
+    /// Takes the top.
+    pub(crate) fn pop(&mut self) -> Option<T>
+        ensures { MatchOption result ((self.old ≡ []) × (self.new ≡ [])) (λ top. self.old ≡ top ∷ self.new) }
+    {
+        self.items.pop()
+    }
+
+    /// Puts what is there on top, and this in its place.
+    pub(crate) fn push_from(&mut self, place: &mut T, next: T) -> Result<(), AllocError>
+        ensures pushed { OnOk result ((self.new ≡ place.old ∷ self.old) × (place.new ≡ next)) }
+        ensures refused { OnErr result ((self.new ≡ self.old) × (place.new ≡ place.old)) }
+    {
+        self.items.reserve(1)?;
+        let item = mem::replace(place, next);
+        self.items.push_reserved(item);
+        Ok(())
+    }
+
+    /// Gives up what room is far beyond the number of items.
+    pub(crate) fn give_up(&mut self)
+        ensures { self.new ≡ self.old }
+    {
+        let count = self.items.len();
+        if self.items.capacity().saturating_sub(count) > ROOM {
+            self.items.shrink_to(count.saturating_add(ROOM / 2));
+        }
+    }
+}
+
+impl<T: Copy + Drop> Pile<T> {
+    /// The item that lies below so many others.
+    #[inline(always)]
+    pub(crate) fn at(&self, depth: usize) -> Option<T>
+        ensures { result ≡ slice_get self.now depth }
+    {
+        let count = self.items.len();
+        if depth < count {
+            return Some(self.items[count - 1 - depth]);
+        }
+        None
+    }
+}
