@@ -1,9 +1,8 @@
 -- Lemmas: a table that grows by what handlers lacked keeps the types that others were given.
 use Rattle.std.proofs.Common.{◌≡◌, ◌∙◌, ◌⊎◌, inl, inr, ℕ, zero, suc, ◌+◌, ◌<◌, ◌≤◌, Bool, true, false, ◌&&◌, List, [], ◌∷◌, ◌++◌, length, map, refl, sym, ap, subst, arith}
-use Rattle.std.proofs.lemmas.Bool.{cases_lt, cases_eq}
-use Rattle.std.proofs.lemmas.List.{length-map}
-use Rattle.std.proofs.lemmas.Option.{slice_get_within}
-use Rattle.std.specs.Prelude.{◌≢◌, Option, Some, None, MatchOption, not, slice_get, slice_index_or, if◌then◌else◌}
+use Rattle.std.proofs.lemmas.Bool.{cases_eq, false≢true}
+use Rattle.std.specs.Prelude.{◌≢◌, Option, Some, None, MatchOption, is_some, not, slice_get, if◌then◌else◌}
+use Rattle.std.specs.List.{AllByRecursion, list_any}
 use Rattle.std.specs.Option.{option_and_then, option_map, option_or}
 use Rattle.walrus_arena.specs.Arena.{entries_from}
 use Rattle.walrus_forms.proofs.EqLemmas.{same-kind-law}
@@ -12,19 +11,22 @@ use Rattle.walrus_function_types.specs.Growth.{Grows}
 use Rattle.walrus_function_types.proofs.GrowthLemmas.{found_stays, function_grows, grows_on, grows_same, lives_on}
 use Rattle.walrus_handlers.specs.walrus_body_steps.walrus_body_rules.Sights.{Sight, results_of}
 use Rattle.walrus_handlers.specs.walrus_handler_laws.declared.handler.Handler.{Handler}
-use Rattle.walrus_handlers.specs.walrus_handler_laws.Handlers.{told_by}
+use Rattle.walrus_handlers.specs.walrus_handler_laws.Handlers.{told_by, tree_ids}
 use Rattle.walrus_handlers.specs.walrus_handler_laws.Retyping.{IsTyped, handler_params, with_type}
+use Rattle.walrus_handlers.specs.walrus_tree.Trees.{Has, IsTree}
 use Rattle.walrus_handlers.specs.walrus_tree.walrus_builder.Built.{Seq, edited, seq_of}
 use Rattle.walrus_handlers.specs.walrus_tree.walrus_builder.Edited.{edited_here, edited_others}
 use Rattle.walrus_handlers.specs.walrus_tree.walrus_walks.walrus_forms.declared.value.ValType.{ValType}
 use Rattle.walrus_handlers.specs.walrus_tree.walrus_walks.walrus_forms.Kinds.{Kind, function_kind}
 use Rattle.walrus_handlers.specs.walrus_tree.walrus_walks.walrus_forms.Same.{same_kind}
 use Rattle.walrus_handlers.specs.walrus_tree.walrus_walks.walrus_instr.BlockTypes.{Makes, picked, short_form}
+use Rattle.walrus_handlers.specs.walrus_tree.walrus_walks.walrus_instr.declared.seq.InstrSeq.{InstrSeq}
 use Rattle.walrus_handlers.specs.walrus_tree.walrus_walks.walrus_instr.declared.seq.InstrSeqType.{InstrSeqType}
 use Rattle.walrus_handlers.specs.walrus_tree.walrus_walks.walrus_instr.declared.seq.InstrSeqType.TheVariants.{Simple, MultiValue}
 use Rattle.walrus_handlers.specs.walrus_tree.walrus_walks.walrus_types.Items.{Item}
 use Rattle.walrus_handlers.specs.walrus_tree.walrus_walks.walrus_types.Table.{Adds, Merges, Table, entries, equal_type, found_type, latest_id, latest_in, merges, names_itself, next_id, type_at}
-use Rattle.walrus_handler_types.specs.Giving.{Finds, FindsIf, GivenAreTyped, GivenTypesGrow, Gives, GivesType, ListsTell, PicksHandlers, SeesLists, block_results, caught, listed}
+use Rattle.walrus_handler_types.specs.Giving.{Finds, FindsIf, GivenTypesGrow, Gives, GivesAt, GivesTree, GivesType, ListsGive, PicksHandlers, SeesLists, TreesAreTyped, block_results, caught, listed}
+use Rattle.walrus_handler_types.proofs.Ordering.{ids_there, told_there}
 
 -- ---- searches
 
@@ -132,110 +134,155 @@ finds_if_grows (Some ps) None was ty t v f = grows_same t v f.1
 finds_if_grows None (Some rs) was ty t v f = grows_same t v f.1
 finds_if_grows None None was ty t v f = grows_same t v f.1
 
-one_grows : (h : Option Handler) (was ty : InstrSeqType) (t v : Table) → GivesType h was t ty v → Grows t v
-one_grows None was ty t v g = grows_same t v g.1
-one_grows (Some h) was ty t v g = finds_if_grows (caught t h.tag_type) (block_results t h.block) was ty t v g
+one_grows : (h : Handler) (was ty : InstrSeqType) (t v : Table) → GivesType h was t ty v → Grows t v
+one_grows h was ty t v g = finds_if_grows (caught t h.tag_type) (block_results t h.block) was ty t v g
+
+pub at_grows : (k : ℕ) (h : Option Handler) (b c : List Seq) (t v : Table) → GivesAt k h b t c v → Grows t v
+at_grows k None b c t v (is, kept) = grows_same t v kept
+at_grows k (Some h) b c t v (x, found, ty, one, is) = one_grows h x.ty ty t v one
 
 pub given_types_grow : GivenTypesGrow
-given_types_grow hs zero b c old new (is, kept) = grows_same old new kept
-given_types_grow hs (suc n) b c old new (m, t, gives, h, at, (x, found, ty, one, is)) = grows_on old t new (given_types_grow hs n b m old t gives) (one_grows h x.ty ty t new one)
+given_types_grow told [] b c old new (is, kept) = grows_same old new kept
+given_types_grow told (k ∷ ks) b c old new (mid, t, one, rest) = grows_on old t new (at_grows k (told k) b mid old t one) (given_types_grow told ks mid c t new rest)
+
+pub tree_types_grow : (tags : ℕ → Option ℕ) (b : List InstrSeq) (t : IsTree b 0) (old : Table) (c : List Seq) (new : Table) → GivesTree tags b t old c new → Grows old new
+tree_types_grow tags b t old c new gives = given_types_grow (told_by tags b (tree_ids t)) (tree_ids t) (map seq_of b) c old new gives
+
+-- ---- lists of handlers
+
+-- one more behind
+pub gives_more : (told : ℕ → Option Handler) (ks : List ℕ) (k : ℕ) (b m c : List Seq) (old t new : Table) → Gives told ks b old m t → GivesAt k (told k) m t c new → Gives told (ks ++ k ∷ []) b old c new
+gives_more told [] k b m c old t new (is, kept) one =
+    (c, new, subst (λ (l : List Seq). GivesAt k (told k) l old c new) is (subst (λ (v : Table). GivesAt k (told k) m v c new) kept one), (refl, refl))
+gives_more told (j ∷ ks) k b m c old t new (mid, u, first, rest) one = (mid, u, first, gives_more told ks k mid m c u t new rest one)
+
+-- where none is a handler nothing is given
+pub gives_none : (told : ℕ → Option Handler) (ks : List ℕ) (b : List Seq) (old : Table) → ((k : ℕ) → told k ≡ None) → Gives told ks b old b old
+gives_none told [] b old h = (refl, refl)
+gives_none told (k ∷ ks) b old h = (b, old, subst (λ (o : Option Handler). GivesAt k o b old b old) (sym (h k)) (refl, refl), gives_none told ks b old h)
+
+pub none_listed : (hs : List (Option Handler)) → list_any is_some hs ≡ false → (k : ℕ) → listed hs k ≡ None
+none_listed [] e k = refl
+none_listed (None ∷ hs) e zero = refl
+none_listed (None ∷ hs) e (suc k) = none_listed hs e k
+none_listed (Some h ∷ hs) e k = absurd (false≢true (sym e))
+
+same_given : (f g : ℕ → Option Handler) (ks : List ℕ) → AllByRecursion (λ k. f k ≡ g k) ks → (b c : List Seq) (old new : Table) → Gives f ks b old c new → Gives g ks b old c new
+same_given f g [] same b c old new gives = gives
+same_given f g (k ∷ ks) same b c old new (mid, t, one, rest) =
+    (mid, t, subst (λ (o : Option Handler). GivesAt k o b old mid t) same.0 one, same_given f g ks same.1 mid c t new rest)
+
+each_later : {X : Type 0} (P Q : X → Type 0) → ((x : X) → P x → Q x) → (xs : List X) → AllByRecursion P xs → AllByRecursion Q xs
+each_later P Q f [] h = tt
+each_later P Q f (x ∷ xs) h = (f x h.0, each_later P Q f xs h.1)
+
+pub lists_give : ListsGive
+lists_give tags b t hs old new c are gives =
+    same_given (listed hs) (told_by tags b js) js (each_later (λ j. j < length b) (λ j. listed hs j ≡ told_by tags b js j) (λ j lt. ap (option_and_then (λ h. h)) (are.told j lt)) js (ids_there b t)) (map seq_of b) c old new gives
+  where
+    js : List ℕ
+    js = tree_ids t
 
 -- ---- all sequences
 
-listed_is : (hs : List (Option Handler)) (n : ℕ) (h : Option Handler) → slice_get hs n ≡ Some h → listed hs n ≡ h
-listed_is [] n h e = absurd cc
-listed_is (x ∷ hs) zero h e = cc
-listed_is (x ∷ hs) (suc n) h e = listed_is hs n h e
+module _ (told : ℕ → Option Handler) (base : Table) where
+  -- this table has the type for what the handler took and gave
+  abbrev HasType : Handler → InstrSeqType → Table → Type 0
+  HasType h ty t = (ps rs : List ValType) → caught base h.tag_type ≡ Some ps → block_results base h.block ≡ Some rs → picked ps rs t ≡ Some ty
 
-some_seq : (x y : Seq) → ◌≡◌ {A = Option Seq} (Some x) (Some y) → x ≡ y
-some_seq x y e = cc
+  -- the sequence is a handler of this type
+  abbrev IsGiven : ℕ → InstrSeqType → Table → Type 0
+  IsGiven j ty t = (h : Handler) × (told j ≡ Some h) × HasType h ty t
 
-module _ (hs : List (Option Handler)) (b : List Seq) (old : Table) where
-  -- a sequence that was of the one type is of the other: if it is a handler that had lists, of that which this table has for them
-  abbrev IsGiven : Option Handler → InstrSeqType → InstrSeqType → Table → Type 0
-  IsGiven None was ty t = ty ≡ was
-  IsGiven (Some h) was ty t = (ps rs : List ValType) → caught old h.tag_type ≡ Some ps → block_results old h.block ≡ Some rs → picked ps rs t ≡ Some ty
+  has_grown : (h : Handler) (ty : InstrSeqType) (t v : Table) → Grows t v → HasType h ty t → HasType h ty v
+  has_grown h ty t v g has = λ ps rs c r. picks_grow t v g ps rs ty (has ps rs c r)
 
-  given_grows : (h : Option Handler) (was ty : InstrSeqType) (t v : Table) → Grows t v → IsGiven h was ty t → IsGiven h was ty v
-  given_grows None was ty t v g e = e
-  given_grows (Some h) was ty t v g e = λ ps rs c r. picks_grow t v g ps rs ty (e ps rs c r)
-
-  gives_one : (h : Option Handler) (was ty : InstrSeqType) (t v : Table) → Grows old t → GivesType h was t ty v → IsGiven h was ty v
-  gives_one None was ty t v grown g = g.0
-  gives_one (Some h) was ty t v grown g = λ ps rs c r.
-      let params = caught_grows old t grown h.tag_type ps c in
-      let results = results_grow old t grown h.block rs r in
+  has_given : (h : Handler) (was ty : InstrSeqType) (t v : Table) → Grows base t → GivesType h was t ty v → HasType h ty v
+  has_given h was ty t v grown g = λ ps rs c r.
+      let params = caught_grows base t grown h.tag_type ps c in
+      let results = results_grow base t grown h.block rs r in
       let f = subst (λ (o : Option (List ValType)). FindsIf (Some ps) o was t ty v) results (subst (λ (o : Option (List ValType)). FindsIf o (block_results t h.block) was t ty v) params g) in
       (found_grows ps rs t v ty f).1
 
-  pub record AreGiven (n : ℕ) (c : List Seq) (v : Table) : Type 0 where
-    pub others : (j : ℕ) → n ≤ j → slice_get c j ≡ slice_get b j
-    pub given : (j : ℕ) (x : Seq) → j < n → slice_get b j ≡ Some x → (ty : InstrSeqType) × (slice_get c j ≡ Some (with_type ty x)) × IsGiven (listed hs j) x.ty ty v
+  -- what became of a sequence where these were given their types: it has its type still, or that of the handler that it is
+  pub record Became (ks : List ℕ) (c : List Seq) (v : Table) (j : ℕ) (x : Seq) : Type 0 where
+    pub ty : InstrSeqType
+    pub there : slice_get c j ≡ Some (with_type ty x)
+    pub either : (ty ≡ x.ty) ⊎ IsGiven j ty v
+    pub given : Has ks j → (h : Handler) → told j ≡ Some h → HasType h ty v
 
-  given_more : (n : ℕ) (m c : List Seq) (t v : Table) → Grows old t → AreGiven n m t → (h : Option Handler) → slice_get hs n ≡ Some h → (x : Seq) → slice_get m n ≡ Some x → (ty : InstrSeqType)
-      → GivesType h x.ty t ty v → c ≡ edited (with_type ty) m n → AreGiven (suc n) c v
-  given_more n m c t v grown done h at x found ty gives is = record {
-    others = λ j le. apart j (λ e. omega (arith, le, e)) ∙ done.others j (omega (arith, le));
-    given = λ j y lt there. go j y there (cases_eq j n) lt;
-  }
+  some_handler : (h k : Handler) → ◌≡◌ {A = Option Handler} (Some h) (Some k) → h ≡ k
+  some_handler h k e = cc
+
+  -- where one was given its type before
+  module _ (k : ℕ) (ks : List ℕ) (c : List Seq) (u v : Table) (grows : Grows u v) (j : ℕ) (x : Seq) where
+    after_none : told k ≡ None → Became ks c v j x → Became (k ∷ ks) c v j x
+    after_none none r = record {
+      ty = r.ty;
+      there = r.there;
+      either = r.either;
+      given = λ has h is. elim has as (λ _. HasType h r.ty v) [ inl same ↦ absurd (no_handler h (sym none ∙ ap told same ∙ is)) | inr later ↦ r.given later h is ];
+    }
+      where
+        no_handler : (h : Handler) → ◌≡◌ {A = Option Handler} None (Some h) → ⊥
+        no_handler h e = cc
+
+    after_other : (j ≡ k → ⊥) → Became ks c v j x → Became (k ∷ ks) c v j x
+    after_other ne r = record {
+      ty = r.ty;
+      there = r.there;
+      either = r.either;
+      given = λ has h is. elim has as (λ _. HasType h r.ty v) [ inl same ↦ absurd (ne (sym same)) | inr later ↦ r.given later h is ];
+    }
+
+    after_own : (h : Handler) (ty : InstrSeqType) → told j ≡ Some h → HasType h ty u → Became ks c v j (with_type ty x) → Became (k ∷ ks) c v j x
+    after_own h ty is has r = record { ty = r.ty; there = r.there; either = inr own; given = λ _ other too. subst (λ (z : Handler). HasType z r.ty v) (some_handler own.0 other (sym own.1 ∙ too)) own.2 }
+      where
+        own : IsGiven j r.ty v
+        own = elim r.either as (λ _. IsGiven j r.ty v) [ inl same ↦ (h, is, subst (λ (z : InstrSeqType). HasType h z v) (sym same) (has_grown h ty u v grows has)) | inr given ↦ given ]
+
+  become : (ks : List ℕ) (b c : List Seq) (t v : Table) → Grows base t → Gives told ks b t c v → (j : ℕ) (x : Seq) → slice_get b j ≡ Some x → Became ks c v j x
+  become [] b c t v grown (is, kept) j x found = record { ty = x.ty; there = ap (λ (l : List Seq). slice_get l j) is ∙ found; either = inl refl; given = λ has. absurd has }
+  become (k ∷ ks) b c t v grown (mid, u, one, rest) j x found =
+      go (told k) refl one (λ y. become ks mid c u v (grows_on base t u grown (at_grows k (told k) b mid t u one)) rest j y)
     where
-      one : IsGiven h x.ty ty v
-      one = gives_one h x.ty ty t v grown gives
+      later : Grows u v
+      later = given_types_grow told ks mid c u v rest
 
-      apart : (j : ℕ) → j ≢ n → slice_get c j ≡ slice_get m j
-      apart j ne = ap (λ (l : List Seq). slice_get l j) is ∙ edited_others (with_type ty) m n j ne
-
-      here : (y : Seq) → slice_get b n ≡ Some y → (own : InstrSeqType) × (slice_get c n ≡ Some (with_type own y)) × IsGiven (listed hs n) y.ty own v
-      here y there =
-          let same_seq = some_seq x y (sym found ∙ done.others n (omega arith) ∙ there) in (
-            ty,
-            ap (λ (l : List Seq). slice_get l n) is ∙ edited_here (with_type ty) m n ∙ ap (option_map (with_type ty)) (done.others n (omega arith) ∙ there),
-            subst (λ (z : Seq). IsGiven (listed hs n) z.ty ty v) same_seq (subst (λ (o : Option Handler). IsGiven o x.ty ty v) (sym (listed_is hs n h at)) one),
-          )
-
-      go : (j : ℕ) (y : Seq) → slice_get b j ≡ Some y → (j ≡ n) ⊎ (j ≢ n) → j < suc n → (own : InstrSeqType) × (slice_get c j ≡ Some (with_type own y)) × IsGiven (listed hs j) y.ty own v
-      go j y there (inl e) lt =
-          subst (λ (k : ℕ). (own : InstrSeqType) × (slice_get c k ≡ Some (with_type own y)) × IsGiven (listed hs k) y.ty own v) (sym e) (here y (ap (slice_get b) (sym e) ∙ there))
-      go j y there (inr ne) lt =
-          let r = done.given j y (before ne lt) there in
-          (r.0, apart j ne ∙ r.1, given_grows (listed hs j) y.ty r.0 t v (one_grows h x.ty ty t v gives) r.2)
+      go : (o : Option Handler) → told k ≡ o → GivesAt k o b t mid u → ((y : Seq) → slice_get mid j ≡ Some y → Became ks c v j y) → Became (k ∷ ks) c v j x
+      go None none (is, kept) on = after_none k ks c u v later j x none (on x (ap (λ (l : List Seq). slice_get l j) is ∙ found))
+      go (Some h) told_so (y, there, ty, gives, is) on = here (cases_eq j k)
         where
-          before : {i : ℕ} → i ≢ n → i < suc n → i < n
-          before {i} ne lt = before_go (cases_lt i n) ne lt
-            where
-              before_go : (i < n) ⊎ (n ≤ i) → i ≢ n → i < suc n → i < n
-              before_go (inl l) ne lt = l
-              before_go (inr l) ne lt = absurd (ne (omega (arith, l, lt)))
-
-  are_given : (n : ℕ) (c : List Seq) (v : Table) → Gives hs n b old c v → AreGiven n c v
-  are_given zero c v (is, kept) = record { others = λ j le. ap (λ (l : List Seq). slice_get l j) is; given = λ j x lt there. absurd (omega (arith, lt)) }
-  are_given (suc n) c v (m, t, gives, h, at, (x, found, ty, one, is)) = given_more n m c t v (given_types_grow hs n b m old t gives) (are_given n m t gives) h at x found ty one is
+          here : (j ≡ k) ⊎ (j ≢ k) → Became (k ∷ ks) c v j x
+          here (inr ne) = after_other k ks c u v later j x ne (on x (ap (λ (l : List Seq). slice_get l j) is ∙ edited_others (with_type ty) b k j ne ∙ found))
+          here (inl same) =
+              after_own k ks c u v later j x h ty (ap told same ∙ told_so) (has_given h y.ty ty t u grown gives)
+              (on (with_type ty x) (ap (λ (l : List Seq). slice_get l j) is ∙ ap (slice_get (edited (with_type ty) b k)) same ∙ edited_here (with_type ty) b k ∙ ap (option_map (with_type ty)) (ap (slice_get b) (sym same) ∙ found)))
 
   -- ---- who sees the tables
 
-  typed_by : (s u : Sight) (later : Table) → SeesLists s old → PicksHandlers u later → (h : Option Handler) (was ty : InstrSeqType) → IsGiven h was ty later → IsTyped s u h was ty
-  typed_by s u later sees picks None was ty e = e
-  typed_by s u later sees picks (Some h) was ty e = λ ps rs p r. picks ps rs ∙ e ps rs (sym (params_seen h.tag_type) ∙ p) (sym (results_seen h.block) ∙ r)
+  typed_by : (ks : List ℕ) (c : List Seq) (j : ℕ) (x : Seq) (s u : Sight) (new later : Table) → ((h : Handler) → told j ≡ Some h → Has ks j) → Grows new later → SeesLists s base → PicksHandlers u later
+      → (r : Became ks c new j x) → IsTyped s u (told j) x.ty r.ty
+  typed_by ks c j x s u new later covers grown sees picks r = go (told j) refl
     where
-      params_seen : (tag : Option ℕ) → handler_params s tag ≡ caught old tag
+      params_seen : (tag : Option ℕ) → handler_params s tag ≡ caught base tag
       params_seen None = refl
       params_seen (Some id) = sees.params id
 
-      results_seen : (block : InstrSeqType) → results_of s block ≡ block_results old block
+      results_seen : (block : InstrSeqType) → results_of s block ≡ block_results base block
       results_seen (Simple ty) = refl
       results_seen (MultiValue id) = sees.results id
 
-pub given_are_typed : GivenAreTyped
-given_are_typed hs b c old new later s u many gives grown sees picks j x there =
-    let all = are_given hs b old (length hs) c new gives in
-    let lt = slice_get_within b j x there in
-    let r = all.given j x (omega (arith, lt, many)) there in
-    (r.0, r.1, typed_by hs b old s u later sees picks (listed hs j) x.ty r.0 (given_grows hs b old (listed hs j) x.ty r.0 new later grown r.2))
+      no_handler : (h : Handler) → ◌≡◌ {A = Option Handler} None (Some h) → ⊥
+      no_handler h e = cc
 
-pub lists_tell : ListsTell
-lists_tell tags b js hs c s u handlers are j x found =
-    let r = are j x found in
-    let lt = slice_get_within (map seq_of b) j x found in
-    let many = length-map b seq_of in
-    let same = listed_is hs j (told_by tags b js j) (handlers.told j (omega (arith, lt, many))) in
-    (r.0, r.1, subst (λ (h : Option Handler). IsTyped s u h x.ty r.0) same r.2)
+      go : (o : Option Handler) → told j ≡ o → IsTyped s u o x.ty r.ty
+      go None none = elim r.either as (λ _. r.ty ≡ x.ty) [ inl same ↦ same | inr given ↦ absurd (no_handler given.0 (sym none ∙ given.1)) ]
+      go (Some h) is = λ ps rs p q.
+          picks ps rs ∙ has_grown h r.ty new later grown (r.given (covers h is) h is) ps rs (sym (params_seen h.tag_type) ∙ p) (sym (results_seen h.block) ∙ q)
+
+pub trees_are_typed : TreesAreTyped
+trees_are_typed tags b t c old new later s u gives grown sees picks j x found =
+    let told : ℕ → Option Handler = told_by tags b (tree_ids t) in
+    let r = become told old (tree_ids t) (map seq_of b) c old new (grows_same old old refl) gives j x found in
+    (r.ty, r.there, typed_by told old (tree_ids t) c j x s u new later (λ h is. told_there tags b t j h is) grown sees picks r)

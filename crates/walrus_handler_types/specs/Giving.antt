@@ -1,8 +1,10 @@
 -- The types that handlers are given by a table of types, which has those that it lacked added.
-use Rattle.std.specs.Prelude.{◌≡◌, ℕ, zero, suc, List, [], length, map, Option, Some, None, MatchOption, slice_get, slice_index_or}
+use Rattle.std.specs.Prelude.{◌≡◌, ℕ, List, [], ◌∷◌, map, Option, Some, None, MatchOption, slice_get}
+use Rattle.std.specs.Option.{option_and_then}
 use Rattle.walrus_function_types.specs.FunctionTypes.{params_at, results_at}
 use Rattle.walrus_function_types.specs.Growth.{Grows}
 use Rattle.walrus_handlers.specs.walrus_body_steps.walrus_body_rules.Sights.{Sight, value_list}
+use Rattle.walrus_handlers.specs.walrus_tree.Trees.{IsTree}
 use Rattle.walrus_handlers.specs.walrus_tree.walrus_builder.Built.{Seq, edited, seq_of}
 use Rattle.walrus_handlers.specs.walrus_tree.walrus_walks.walrus_forms.declared.value.ValType.{ValType}
 use Rattle.walrus_handlers.specs.walrus_tree.walrus_walks.walrus_instr.BlockTypes.{Makes, picked}
@@ -12,7 +14,7 @@ use Rattle.walrus_handlers.specs.walrus_tree.walrus_walks.walrus_instr.declared.
 use Rattle.walrus_handlers.specs.walrus_tree.walrus_walks.walrus_types.Table.{Table}
 use Rattle.walrus_handlers.specs.walrus_handler_laws.declared.handler.Handler.{Handler}
 use Rattle.walrus_handlers.specs.Gathering.{AreHandlers}
-use Rattle.walrus_handlers.specs.walrus_handler_laws.Handlers.{told_by}
+use Rattle.walrus_handlers.specs.walrus_handler_laws.Handlers.{told_by, tree_ids}
 use Rattle.walrus_handlers.specs.walrus_handler_laws.Retyping.{AreTyped, with_type}
 
 -- the parameters of a handler of a tag of this type, or of all tags
@@ -34,25 +36,33 @@ abbrev pub FindsIf : Option (List ValType) → Option (List ValType) → InstrSe
 FindsIf (Some params) (Some results) was old ty new = Finds params results old ty new
 FindsIf _ _ was old ty new = (ty ≡ was) × (new ≡ old)
 
--- the type of a sequence that had this type: another one if it is a handler
-abbrev pub GivesType : Option Handler → InstrSeqType → Table → InstrSeqType → Table → Type 0
-GivesType None was old ty new = (ty ≡ was) × (new ≡ old)
-GivesType (Some h) was old ty new = FindsIf (caught old h.tag_type) (block_results old h.block) was old ty new
+-- the type of a handler's sequence that had this type
+abbrev pub GivesType : Handler → InstrSeqType → Table → InstrSeqType → Table → Type 0
+GivesType h was old ty new = FindsIf (caught old h.tag_type) (block_results old h.block) was old ty new
 
--- a sequence has the type that it is given, all else of the sequences is as it was
+-- a sequence that is a handler has the type that it is given, all else of the sequences is as it was
 abbrev pub GivesAt : ℕ → Option Handler → List Seq → Table → List Seq → Table → Type 0
-GivesAt k h b old c new = (x : Seq) × (slice_get b k ≡ Some x) × (ty : InstrSeqType) × GivesType h x.ty old ty new × (c ≡ edited (with_type ty) b k)
+GivesAt k None b old c new = (c ≡ b) × (new ≡ old)
+GivesAt k (Some h) b old c new = (x : Seq) × (slice_get b k ≡ Some x) × (ty : InstrSeqType) × GivesType h x.ty old ty new × (c ≡ edited (with_type ty) b k)
 
--- the first n sequences have the types that they are given, one behind the other
-abbrev pub Gives : List (Option Handler) → ℕ → List Seq → Table → List Seq → Table → Type 0
-Gives hs zero b old c new = (c ≡ b) × (new ≡ old)
-Gives hs (suc n) b old c new = (mid : List Seq) × (t : Table) × Gives hs n b old mid t × (h : Option Handler) × (slice_get hs n ≡ Some h) × GivesAt n h mid t c new
-
--- ---- what is told by later tables
+-- these sequences have the types that they are given, one behind the other, each as the handler that it is told as, if it is one
+abbrev pub Gives : (ℕ → Option Handler) → List ℕ → List Seq → Table → List Seq → Table → Type 0
+Gives told [] b old c new = (c ≡ b) × (new ≡ old)
+Gives told (k ∷ ks) b old c new = (mid : List Seq) × (t : Table) × GivesAt k (told k) b old mid t × Gives told ks mid t c new
 
 -- the handler that a sequence is, if it is one, by a list of them
 abbrev pub listed : List (Option Handler) → ℕ → Option Handler
-listed hs j = slice_index_or hs j None
+listed hs j = option_and_then (λ h. h) (slice_get hs j)
+
+-- the sequences of a tree, in the order of the text, each as the handler that it is, if it is one
+abbrev pub tree_handlers : (ℕ → Option ℕ) → (b : List InstrSeq) → IsTree b 0 → List (Option Handler)
+tree_handlers tags b t = map (told_by tags b (tree_ids t)) (tree_ids t)
+
+-- in that order each has the type that it is given
+abbrev pub GivesTree : (ℕ → Option ℕ) → (b : List InstrSeq) → IsTree b 0 → Table → List Seq → Table → Type 0
+GivesTree tags b t old c new = Gives (told_by tags b (tree_ids t)) (tree_ids t) (map seq_of b) old c new
+
+-- ---- what is told by later tables
 
 -- of function types a sight has the parameters and results of a table
 pub record SeesLists (s : Sight) (t : Table) : Type 0 where
@@ -63,16 +73,16 @@ pub record SeesLists (s : Sight) (t : Table) : Type 0 where
 abbrev pub PicksHandlers : Sight → Table → Type 0
 PicksHandlers u t = (params results : List ValType) → u.handler_type params results ≡ picked params results t
 
--- who saw the old table and sees a later one has the types that handlers were given
-abbrev pub GivenAreTyped : Type 0
-GivenAreTyped = (hs : List (Option Handler)) (b c : List Seq) (old new later : Table) (s u : Sight) → length hs ≡ length b → Gives hs (length hs) b old c new → Grows new later
-    → SeesLists s old → PicksHandlers u later → AreTyped s u (listed hs) b c
+-- who saw the old table and sees a later one has the types that the handlers of a tree were given
+abbrev pub TreesAreTyped : Type 0
+TreesAreTyped = (tags : ℕ → Option ℕ) (b : List InstrSeq) (t : IsTree b 0) (c : List Seq) (old new later : Table) (s u : Sight) → GivesTree tags b t old c new → Grows new later
+    → SeesLists s old → PicksHandlers u later → AreTyped s u (told_by tags b (tree_ids t)) (map seq_of b) c
 
--- some handlers, the first ones, were given types
+-- a table grows by the types that sequences are given
 abbrev pub GivenTypesGrow : Type 0
-GivenTypesGrow = (hs : List (Option Handler)) (n : ℕ) (b c : List Seq) (old new : Table) → Gives hs n b old c new → Grows old new
+GivenTypesGrow = (told : ℕ → Option Handler) (ks : List ℕ) (b c : List Seq) (old new : Table) → Gives told ks b old c new → Grows old new
 
--- a list of handlers by sequence tells of the sequences what they are
-abbrev pub ListsTell : Type 0
-ListsTell = (tags : ℕ → Option ℕ) (b : List InstrSeq) (js : List ℕ) (hs : List (Option Handler)) (c : List Seq) (s u : Sight) → AreHandlers tags b js hs
-    → AreTyped s u (listed hs) (map seq_of b) c → AreTyped s u (told_by tags b js) (map seq_of b) c
+-- what is given by a list of handlers by sequence is given as the tree tells them
+abbrev pub ListsGive : Type 0
+ListsGive = (tags : ℕ → Option ℕ) (b : List InstrSeq) (t : IsTree b 0) (hs : List (Option Handler)) (old new : Table) (c : List Seq) → AreHandlers tags b (tree_ids t) hs
+    → Gives (listed hs) (tree_ids t) (map seq_of b) old c new → GivesTree tags b t old c new

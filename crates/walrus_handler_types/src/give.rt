@@ -1,11 +1,15 @@
 //! Handlers are given their types.
 
-ghost use Rattle.std.specs.Prelude.{◌≡◌, ◌<◌, ◌≤◌, ◌^◌, ℕ, IfOk, OnErr, OnOk, Some, length};
-ghost use Rattle.walrus_handler_types.specs.Giving.{Finds, FindsIf, Gives, GivesAt, GivesType};
+ghost use Rattle.std.specs.Prelude.{◌≡◌, ◌<◌, ℕ, IfOk, OnErr, OnOk, Some, is_some, length, take};
+ghost use Rattle.std.specs.List.{AllByRecursion, list_any};
+ghost use Rattle.walrus_handler_types.specs.Giving.{Finds, FindsIf, Gives, GivesAt, GivesType, listed};
+ghost use Rattle.walrus_handlers.specs.walrus_handler_laws.Handlers.{tree_ids};
+ghost use Rattle.walrus_handlers.specs.walrus_tree.Trees.{IsTree};
 ghost use Rattle.walrus_handlers.specs.walrus_tree.walrus_builder.Built.{contents};
 ghost use Rattle.walrus_handlers.specs.walrus_tree.walrus_builder.Functions.{seqs_of};
 
 use crate::lists::{block_results, caught};
+use crate::order::tree_order;
 use std::alloc::{AllocError, Global};
 use walrus_arena::InstrSeqId;
 use walrus_handlers::Handler;
@@ -35,7 +39,7 @@ fn handler_type(
     handler: Handler,
     was: InstrSeqType,
 ) -> Result<InstrSeqType, AllocError>
-    ensures given { IfOk result (λ ty. GivesType (Some handler) was types.old ty types.new) }
+    ensures given { IfOk result (λ ty. GivesType handler was types.old ty types.new) }
     ensures refused { OnErr result (types.new ≡ types.old) }
 {
     let Some(params) = caught(alloc, types, handler.tag_type)? else {
@@ -47,23 +51,30 @@ fn handler_type(
     found_or_added(types, params.as_slice(), results.as_slice())
 }
 
-// The type of a sequence that had this type.
-fn given_type(
+// Gives a handler's sequence its type.
+fn give_handler(
     alloc: Global,
+    handler: Handler,
     types: &mut ModuleTypes,
-    handler: Option<Handler>,
-    was: InstrSeqType,
-) -> Result<InstrSeqType, AllocError>
-    ensures given { IfOk result (λ ty. GivesType handler was types.old ty types.new) }
+    body: &mut FunctionBuilder,
+    id: InstrSeqId,
+) -> Result<(), AllocError>
+    requires { id < length (seqs_of body.old) }
+    ensures given { OnOk result (GivesAt id (Some handler) (contents body.old.builder) types.old (contents body.new.builder) types.new) }
+    ensures kept { OnErr result (body.new ≡ body.old) }
     ensures refused { OnErr result (types.new ≡ types.old) }
+    ensures ty { body.new.ty ≡ body.old.ty }
+    ensures name { body.new.name ≡ body.old.name }
+    ensures many { length (seqs_of body.new) ≡ length (seqs_of body.old) }
 {
-    match handler {
-        Some(handler) => handler_type(alloc, types, handler, was),
-        None => Ok(was),
-    }
+    let was = body.seqs()[id.index()].ty;
+    let ty = handler_type(alloc, types, handler, was)?;
+    let seq = body.seq_mut(id);
+    seq.ty = ty;
+    Ok(())
 }
 
-// Gives a sequence its type.
+// Gives a sequence its type, if it is a handler.
 fn give_type(
     alloc: Global,
     handler: Option<Handler>,
@@ -79,38 +90,75 @@ fn give_type(
     ensures name { body.new.name ≡ body.old.name }
     ensures many { length (seqs_of body.new) ≡ length (seqs_of body.old) }
 {
-    let was = body.seqs()[id.index()].ty;
-    let ty = given_type(alloc, types, handler, was)?;
-    let seq = body.seq_mut(id);
-    seq.ty = ty;
+    match handler {
+        Some(handler) => give_handler(alloc, handler, types, body, id),
+        None => Ok(()),
+    }
+}
+
+// The handler that a sequence is, if it is one, by a list of them.
+fn listed(handlers: &[Option<Handler>], id: InstrSeqId) -> Option<Handler>
+    ensures { result ≡ listed handlers.now id }
+{
+    match handlers.get(id.index()) {
+        Some(handler) => *handler,
+        None => None,
+    }
+}
+
+// Gives these sequences their types, one behind the other.
+fn give_each(
+    alloc: Global,
+    handlers: &[Option<Handler>],
+    types: &mut ModuleTypes,
+    body: &mut FunctionBuilder,
+    order: &[InstrSeqId],
+) -> Result<(), AllocError>
+    requires { AllByRecursion (λ id. id < length (seqs_of body.old)) order.now }
+    ensures given { OnOk result (Gives (listed handlers.now) order.now (contents body.old.builder) types.old (contents body.new.builder) types.new) }
+    ensures refused { OnErr result ((n : ℕ) × Gives (listed handlers.now) (take n order.now) (contents body.old.builder) types.old (contents body.new.builder) types.new) }
+    ensures ty { body.new.ty ≡ body.old.ty }
+    ensures name { body.new.name ≡ body.old.name }
+    ensures many { length (seqs_of body.new) ≡ length (seqs_of body.old) }
+{
+    for id in order {
+        give_type(alloc, listed(handlers, *id), types, body, *id)?;
+    }
     Ok(())
 }
 
-/// Gives each sequence that is a handler its type: from the parameters of its tag, or from none, to the results of its block. That is the
-/// short block type where there is one, else that of the latest final function type without supertype of just these lists, else that of one
-/// that is added behind all others. So, by rising id of the sequences, what is added stands in the order of the handlers. Where there are no
-/// such lists, as the tag or the block has no live function type, a sequence keeps its type. `handlers` is by sequence.
+// Whether one of these is a handler.
+fn has_handler(handlers: &[Option<Handler>]) -> bool
+    ensures { result ≡ list_any is_some handlers.now }
+{
+    handlers.iter().any(|handler| handler.is_some())
+}
+
+/// Gives each sequence of a body that is a handler its type: from the parameters of its tag, or from none, to the results of its block. That
+/// is the short block type where there is one, else that of the latest final function type without supertype of just these lists, else that
+/// of one that is added behind all others. So what is added stands in the order in which the text has the handlers. Where there are no such
+/// lists, as the tag or the block has no live function type, a sequence keeps its type. `handlers` is by sequence. Asks for a body that forms
+/// a tree. Looks at its instructions only where there is a handler.
 ///
 /// # Errors
 ///
-/// Want of memory. The first sequences have been given their types then, and no others.
+/// Want of memory. The first sequences of the text have been given their types then, and no others.
 pub fn give_types(
     alloc: Global,
     handlers: &[Option<Handler>],
     types: &mut ModuleTypes,
     body: &mut FunctionBuilder,
 ) -> Result<(), AllocError>
-    requires ids { length handlers.now ≤ 2 ^ 32 }
-    requires many { length handlers.now ≡ length (seqs_of body.old) }
-    ensures given { OnOk result (Gives handlers.now (length handlers.now) (contents body.old.builder) types.old (contents body.new.builder) types.new) }
-    ensures refused { OnErr result ((n : ℕ) × (n < length handlers.now) × Gives handlers.now n (contents body.old.builder) types.old (contents body.new.builder) types.new) }
+    requires { IsTree (seqs_of body.old) 0 }
+    ensures given { OnOk result ((t : IsTree (seqs_of body.old) 0) → Gives (listed handlers.now) (tree_ids t) (contents body.old.builder) types.old (contents body.new.builder) types.new) }
+    ensures refused { OnErr result ((t : IsTree (seqs_of body.old) 0) → (n : ℕ) × Gives (listed handlers.now) (take n (tree_ids t)) (contents body.old.builder) types.old (contents body.new.builder) types.new) }
     ensures ty { body.new.ty ≡ body.old.ty }
     ensures name { body.new.name ≡ body.old.name }
     ensures many { length (seqs_of body.new) ≡ length (seqs_of body.old) }
 {
-    for index in 0..handlers.len() {
-        let id = InstrSeqId::from_index(index);
-        give_type(alloc, handlers[index], types, body, id)?;
+    if !has_handler(handlers) {
+        return Ok(());
     }
-    Ok(())
+    let order = tree_order(alloc, body.seqs())?;
+    give_each(alloc, handlers, types, body, order.as_slice())
 }

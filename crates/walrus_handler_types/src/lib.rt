@@ -4,6 +4,7 @@
 mod give;
 pub mod laws;
 mod lists;
+mod order;
 
 pub use give::give_types;
 pub use walrus_handlers::{AnyHandler, Handler, handlers};

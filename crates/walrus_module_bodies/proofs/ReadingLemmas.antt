@@ -7,7 +7,8 @@ use Rattle.wasm_reader.specs.Cursor.{Cursor, rest}
 use Rattle.walrus_function_types.specs.Growth.{Grows}
 use Rattle.walrus_index_maps.specs.Maps.{Ids}
 use Rattle.walrus_body_trees.specs.Laws.{BodiesAreTrees}
-use Rattle.walrus_handler_types.specs.Giving.{Gives}
+use Rattle.walrus_handler_types.specs.Giving.{Gives, GivesTree, listed}
+use Rattle.walrus_handler_types.proofs.Growing.{lists_give}
 use Rattle.walrus_handler_types.specs.walrus_handlers.Gathering.{AreHandlers}
 use Rattle.walrus_handler_types.specs.walrus_handler_laws.Handlers.{tree_ids}
 use Rattle.walrus_handler_types.specs.walrus_handler_laws.declared.handler.Handler.{Handler}
@@ -105,8 +106,8 @@ handled_read stand seen file old new function params from i j ls ms c h e f late
         runs = r.runs;
         ops = r.ops;
         read = subst (λ (n : ℕ). (body a params (place_at n from)).parse (rest from) ≡ Ok ((r.place, r.runs), r.ops)) (is.begins ∙ sym at_f.begins) r.read;
-        stands = stand g f function j r.sight h.own h.tree h.handlers c new (normal (block_pick a) (tree_of (ops_from r.place r.ops))) r.aside (r.stands (block_pick a) picks) h.gathered
-            (subst (λ (v : Table). Gives h.handlers (length h.handlers) (map seq_of h.own) v c new) (sym is.types_are) h.given)
+        stands = stand g f function j r.sight h.own h.tree c new (normal (block_pick a) (tree_of (ops_from r.place r.ops))) r.aside (r.stands (block_pick a) picks)
+            (subst (λ (v : Table). GivesTree (tag_type_at g.tags.now) h.own h.tree v c new) (sym is.types_are) h.given)
             (record { types = subst (Grows new) (sym at_f.types_are) grows; own = at_f.own_are ∙ sym is.own_are; tags = at_f.tags_are ∙ sym is.tags_are });
       },
       r.counted,
@@ -120,18 +121,19 @@ module _ (tags : ℕ → Option ℕ) (x y z : FunctionBuilder) (to_y : y ≡ x) 
   are_handlers = subst (AreHandlers tags (seqs_of x) (tree_ids t)) (sym same_are)
       (subst (λ (f : FunctionBuilder). (u : IsTree (seqs_of f) 0) → AreHandlers tags (seqs_of f) (tree_ids u) told) to_y handlers t)
 
-  pub many_handlers : length hs ≡ length (seqs_of z)
-  many_handlers = are_handlers.many ∙ ap (λ (f : FunctionBuilder). length (seqs_of f)) (sym to_z)
-
   pub gives_handlers : (file : FileEnv) (g : ModuleEnv) (old new : Table) (function params : ℕ) (from : Cursor) (i j : Ids) (ls ms : List Local) (c : List Seq) → IsEnv file old g → tags ≡ tag_type_at g.tags.now
-      → IsBodyAside g function params from i j ls ms (contents x.builder) → Gives hs (length hs) (contents z.builder) old c new → GivesHandlers file old new function params from i j ls ms c
+      → IsBodyAside g function params from i j ls ms (contents x.builder) → ((u : IsTree (seqs_of z) 0) → Gives (listed hs) (tree_ids u) (contents z.builder) old c new)
+      → GivesHandlers file old new function params from i j ls ms c
   gives_handlers file g old new function params from i j ls ms c is tags_are aside gives = record {
     env = g;
     env_is = is;
     own = seqs_of x;
     tree = t;
     aside = aside;
-    handlers = hs;
-    gathered = subst (λ (ts : ℕ → Option ℕ). AreHandlers ts (seqs_of x) (tree_ids t) hs) tags_are are_handlers;
-    given = subst (λ (f : FunctionBuilder). Gives hs (length hs) (contents f.builder) old c new) to_z gives;
+    given = subst (λ (ts : ℕ → Option ℕ). GivesTree ts (seqs_of x) t old c new) tags_are
+        (lists_give tags (seqs_of x) t hs old new c are_handlers (subst (λ (f : FunctionBuilder). (u : IsTree (seqs_of f) 0) → Gives (listed hs) (tree_ids u) (contents f.builder) old c new) to_z gives t));
   }
+
+-- a tree is one in what was lent
+pub lent_tree : (x z : FunctionBuilder) → z ≡ x → IsTree (seqs_of x) 0 → IsTree (seqs_of z) 0
+lent_tree x z e t = subst (λ (f : FunctionBuilder). IsTree (seqs_of f) 0) (sym e) t

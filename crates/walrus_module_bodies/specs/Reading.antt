@@ -1,13 +1,10 @@
 -- The body of a function that is read into its module, with the types of its handlers.
-use Rattle.std.specs.Prelude.{◌≡◌, ◌+◌, ℕ, List, length, map, Option, Some, Ok, Err, slice_get}
+use Rattle.std.specs.Prelude.{◌≡◌, ◌+◌, ℕ, List, length, map, Some, Ok, Err, slice_get}
 use Rattle.wasm_reader.specs.Cursor.{Cursor, end_of, rest}
 use Rattle.walrus_arena.specs.Arena.{Arena, item_at}
 use Rattle.walrus_function_types.specs.Growth.{Grows}
 use Rattle.walrus_index_maps.specs.Maps.{Ids}
-use Rattle.walrus_handler_types.specs.Giving.{Gives}
-use Rattle.walrus_handler_types.specs.walrus_handlers.Gathering.{AreHandlers}
-use Rattle.walrus_handler_types.specs.walrus_handler_laws.Handlers.{tree_ids}
-use Rattle.walrus_handler_types.specs.walrus_handler_laws.declared.handler.Handler.{Handler}
+use Rattle.walrus_handler_types.specs.Giving.{GivesTree}
 use Rattle.walrus_body_parser.specs.walrus_body_stack.walrus_instr.declared.seq.InstrSeq.{InstrSeq}
 use Rattle.walrus_types.specs.walrus_items.declared.local.Local.{Local}
 use Rattle.walrus_forms.specs.Renaming.{at, renamed_value}
@@ -75,14 +72,12 @@ IsHandledBody file old new function params from i j ls ms b = (e f : ModuleEnv) 
     → (a : Around) → IsFiled e i function params from.window.features a
     → (r : IsRead f function params from j b a) × (length (j.locals function) ≡ params + length (declared r.runs)) × AddsRuns function r.runs ls ms i j
 
--- it was read beside some type for each handler, and its sequences formed a tree; then its handlers were given their types by the table, which
--- had those added that it lacked
+-- it was read beside some type for each handler, and its sequences formed a tree; then its handlers were given their types, in the order of the
+-- text, by the table, which had those added that it lacked
 pub record GivesHandlers (file : FileEnv) (old new : Table) (function params : ℕ) (from : Cursor) (i j : Ids) (ls ms : List Local) (b : List Seq) : Type 0 where
   pub env : ModuleEnv
   pub env_is : IsEnv file old env
   pub own : List InstrSeq
   pub tree : IsTree own 0
   pub aside : IsBodyAside env function params from i j ls ms (map seq_of own)
-  pub handlers : List (Option Handler)
-  pub gathered : AreHandlers (tag_type_at env.tags.now) own (tree_ids tree) handlers
-  pub given : Gives handlers (length handlers) (map seq_of own) old b new
+  pub given : GivesTree (tag_type_at env.tags.now) own tree old b new

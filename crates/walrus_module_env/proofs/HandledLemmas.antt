@@ -1,13 +1,11 @@
 -- Lemmas: what was read beside some types of handlers stands beside those that they were given.
-use Rattle.std.proofs.Common.{◌≡◌, ◌∙◌, ℕ, length, map, refl, sym, ap, subst}
-use Rattle.std.proofs.lemmas.List.{length-map}
+use Rattle.std.proofs.Common.{◌≡◌, ◌∙◌, ℕ, map, refl, sym, ap, subst}
 use Rattle.std.specs.Prelude.{Option, Some, None}
 use Rattle.walrus_function_types.specs.Growth.{Grows}
 use Rattle.walrus_function_types.proofs.GrowthLemmas.{grows_on}
 use Rattle.walrus_index_maps.specs.Maps.{Ids}
-use Rattle.walrus_handler_types.specs.Giving.{listed}
-use Rattle.walrus_handler_types.proofs.Growing.{function_results_grow, given_are_typed, given_types_grow, lists_tell, params_grow, picks_grow}
-use Rattle.walrus_handler_types.specs.walrus_handlers.Gathering.{AreHandlers}
+use Rattle.walrus_handler_types.specs.Giving.{GivesTree}
+use Rattle.walrus_handler_types.proofs.Growing.{function_results_grow, params_grow, picks_grow, tree_types_grow, trees_are_typed}
 use Rattle.walrus_handler_types.specs.walrus_handler_laws.Handlers.{told_by, tree_ids}
 use Rattle.walrus_handler_types.specs.walrus_handler_laws.Retyping.{AreTyped, HandlersStand, Widens}
 use Rattle.walrus_handler_types.specs.walrus_handler_laws.Handlers.{TreesTell}
@@ -39,20 +37,17 @@ module _ (e f : ModuleEnv) (function : ℕ) (j : Ids) (s : Sight) (aside : SeesA
   }
 
 pub handled_bodies_stand : HandlersStand → TreesTell → HandledBodiesStand
-handled_bodies_stand stand tell e f function j s b t hs c new body aside stands handlers gives later =
-    stand s (sight_in f function j) (map seq_of b) c (tree_ids t) (told_by s.tag_type b (tree_ids t)) body (widens e f function j s aside grown later.own later.tags) (tell s.tag_type b t) told stands
+handled_bodies_stand stand tell e f function j s b t c new body aside stands gives later =
+    stand s (sight_in f function j) (map seq_of b) c (tree_ids t) (told_by s.tag_type b (tree_ids t)) body (widens e f function j s aside grown later.own later.tags) (tell s.tag_type b t) typed stands
   where
     grown : Grows e.types.now f.types.now
-    grown = grows_on e.types.now new f.types.now (given_types_grow hs (length hs) (map seq_of b) c e.types.now new gives) later.types
+    grown = grows_on e.types.now new f.types.now (tree_types_grow (tag_type_at e.tags.now) b t e.types.now c new gives) later.types
 
-    are : AreHandlers s.tag_type b (tree_ids t) hs
-    are = subst (λ (tags : ℕ → Option ℕ). AreHandlers tags b (tree_ids t) hs) (sym (ap (λ (x : Sight). x.tag_type) aside)) handlers
+    own : GivesTree s.tag_type b t e.types.now c new
+    own = subst (λ (tags : ℕ → Option ℕ). GivesTree tags b t e.types.now c new) (sym (ap (λ (x : Sight). x.tag_type) aside)) gives
 
-    typed : AreTyped s (sight_in f function j) (listed hs) (map seq_of b) c
+    typed : AreTyped s (sight_in f function j) (told_by s.tag_type b (tree_ids t)) (map seq_of b) c
     typed =
-        given_are_typed hs (map seq_of b) c e.types.now new f.types.now s (sight_in f function j) (are.many ∙ sym (length-map b seq_of)) gives later.types
+        trees_are_typed s.tag_type b t c e.types.now new f.types.now s (sight_in f function j) own later.types
         (record { params = λ id. ap (λ (x : Sight). x.params id) aside; results = λ id. ap (λ (x : Sight). x.results id) aside })
         (λ params results. refl)
-
-    told : AreTyped s (sight_in f function j) (told_by s.tag_type b (tree_ids t)) (map seq_of b) c
-    told = lists_tell s.tag_type b (tree_ids t) hs c s (sight_in f function j) are typed

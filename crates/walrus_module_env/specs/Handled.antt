@@ -1,11 +1,8 @@
 -- Bodies that were read beside some type for each handler of a legacy `try`, and whose handlers were given theirs.
-use Rattle.std.specs.Prelude.{◌≡◌, ℕ, List, length, map, Option}
+use Rattle.std.specs.Prelude.{◌≡◌, ℕ, List, map}
 use Rattle.walrus_function_types.specs.Growth.{Grows}
 use Rattle.walrus_index_maps.specs.Maps.{Ids}
-use Rattle.walrus_handler_types.specs.Giving.{Gives}
-use Rattle.walrus_handler_types.specs.walrus_handlers.Gathering.{AreHandlers}
-use Rattle.walrus_handler_types.specs.walrus_handler_laws.Handlers.{tree_ids}
-use Rattle.walrus_handler_types.specs.walrus_handler_laws.declared.handler.Handler.{Handler}
+use Rattle.walrus_handler_types.specs.Giving.{GivesTree}
 use Rattle.walrus_handler_types.specs.walrus_body_steps.Meanings.{meaning}
 use Rattle.walrus_handler_types.specs.walrus_body_steps.walrus_body_nesting.wasm_normal_form.Trees.{Tree}
 use Rattle.walrus_handler_types.specs.walrus_body_steps.walrus_body_nesting.Stands.{StandsAs}
@@ -30,6 +27,5 @@ pub record IsLater (e : ModuleEnv) (t : Table) (f : ModuleEnv) : Type 0 where
 
 -- what stood as a body beside some types of handlers stands so in each later module, once the handlers of its tree were given their types
 abbrev pub HandledBodiesStand : Type 0
-HandledBodiesStand = (e f : ModuleEnv) (function : ℕ) (j : Ids) (s : Sight) (b : List InstrSeq) (t : IsTree b 0) (hs : List (Option Handler)) (c : List Seq) (new : Table) (body : Tree)
-    → SeesAside s (sight_in e function j) → StandsAs (meaning s) (map seq_of b) body → AreHandlers (tag_type_at e.tags.now) b (tree_ids t) hs
-    → Gives hs (length hs) (map seq_of b) e.types.now c new → IsLater e new f → StandsAs (meaning (sight_in f function j)) c body
+HandledBodiesStand = (e f : ModuleEnv) (function : ℕ) (j : Ids) (s : Sight) (b : List InstrSeq) (t : IsTree b 0) (c : List Seq) (new : Table) (body : Tree)
+    → SeesAside s (sight_in e function j) → StandsAs (meaning s) (map seq_of b) body → GivesTree (tag_type_at e.tags.now) b t e.types.now c new → IsLater e new f → StandsAs (meaning (sight_in f function j)) c body

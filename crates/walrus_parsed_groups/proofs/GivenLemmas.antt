@@ -1,15 +1,15 @@
 -- Lemmas: a table by which handlers were given types.
-use Rattle.std.proofs.Common.{◌≡◌, ◌∙◌, ℕ, zero, suc, List, [], ◌∷◌, ◌++◌, length, take, Option, Some, None, refl, sym, ap, subst}
-use Rattle.std.specs.Prelude.{IsSome, slice_get}
+use Rattle.std.proofs.Common.{◌≡◌, ◌∙◌, ℕ, List, [], ◌∷◌, ◌++◌, map, Option, Some, None, refl, sym, ap, subst}
+use Rattle.std.specs.Prelude.{IsSome}
 use Rattle.std.specs.List.{AllByRecursion, flat_map}
 use Rattle.std.proofs.lemmas.List.{append_assoc, append-nil}
-use Rattle.std.proofs.lemmas.List.Concat.{flat_map-append}
 use Rattle.walrus_forms.specs.declared.value.ValType.{ValType}
 use Rattle.walrus_function_types.specs.Growth.{Grows}
+use Rattle.walrus_function_types.proofs.GrowthLemmas.{grows_on}
 use Rattle.walrus_parse.specs.walrus_module.walrus_builder.Built.{Seq}
 use Rattle.walrus_handler_laws.specs.declared.handler.Handler.{Handler}
-use Rattle.walrus_handler_types.specs.Giving.{FindsIf, Gives, GivesType, block_results, caught}
-use Rattle.walrus_handler_types.proofs.Growing.{function_results_grow, given_types_grow, params_grow}
+use Rattle.walrus_handler_types.specs.Giving.{FindsIf, Gives, GivesAt, block_results, caught}
+use Rattle.walrus_handler_types.proofs.Growing.{at_grows, function_results_grow, given_types_grow, params_grow}
 use Rattle.walrus_operator_laws.specs.walrus_pairing.walrus_instr.declared.seq.InstrSeqType.{InstrSeqType}
 use Rattle.walrus_operator_laws.specs.walrus_pairing.walrus_instr.declared.seq.InstrSeqType.TheVariants.{Simple, MultiValue}
 use Rattle.walrus_parse.specs.walrus_module.walrus_types.Table.{Table}
@@ -53,40 +53,25 @@ module _ (t : Table) (ss : List Signature) (u : Table) (h : Stands t ss u) where
   stands_if None (Some rs) was ty v f = stands_on v f.1
   stands_if None None was ty v f = stands_on v f.1
 
-  stands_one : (x : Option Handler) (was ty : InstrSeqType) (v : Table) → GivesType x was u ty v → Stands t (ss ++ signatures u x) v
-  stands_one None was ty v g = stands_on v g.1
-  stands_one (Some x) was ty v g = stands_if (caught u x.tag_type) (block_results u x.block) was ty v g
+  stands_at : (k : ℕ) (x : Option Handler) (b c : List Seq) (v : Table) → GivesAt k x b u c v → Stands t (ss ++ signatures u x) v
+  stands_at k None b c v (is, kept) = stands_on v kept
+  stands_at k (Some x) b c v (y, found, ty, gives, is) = stands_if (caught u x.tag_type) (block_results u x.block) y.ty ty v gives
 
--- ---- those of a body
+-- ---- those of sequences
 
-all_get : {X : Type 0} (P : X → Type 0) (xs : List X) (n : ℕ) (x : X) → AllByRecursion P xs → slice_get xs n ≡ Some x → P x
-all_get P [] n x h e = absurd cc
-all_get P (y ∷ xs) zero x h e = subst P (let f = e in cc) h.0
-all_get P (y ∷ xs) (suc n) x h e = all_get P xs n x h.1 e
+pub all_stay : (t v : Table) → Grows t v → (hs : List (Option Handler)) → AllByRecursion (HasTypes t) hs → AllByRecursion (HasTypes v) hs
+all_stay t v g [] is = tt
+all_stay t v g (h ∷ hs) is = (types_stay t v g h is.0, all_stay t v g hs is.1)
 
-take_more : {X : Type 0} (xs : List X) (n : ℕ) (x : X) → slice_get xs n ≡ Some x → take (suc n) xs ≡ take n xs ++ x ∷ []
-take_more [] n x e = absurd cc
-take_more (y ∷ xs) zero x e = let same : y ≡ x = cc in ap (λ z. z ∷ []) same
-take_more (y ∷ xs) (suc n) x e = ap (λ l. y ∷ l) (take_more xs n x e)
-
-take_all : {X : Type 0} (xs : List X) → take (length xs) xs ≡ xs
-take_all [] = refl
-take_all (x ∷ xs) = ap (λ l. x ∷ l) (take_all xs)
-
-module _ (t : Table) (ss : List Signature) (hs : List (Option Handler)) (b : List Seq) (old : Table) (h : Stands t ss old) (typed : AllByRecursion (HasTypes old) hs) (later : Table) (grows : Grows old later) where
-  first : (n : ℕ) (c : List Seq) (new : Table) → Gives hs n b old c new → Stands t (ss ++ flat_map (signatures later) (take n hs)) new
-  first zero c new (is, kept) = stands_on t ss old h new kept
-  first (suc n) c new (m, u, gives, x, at, (s, found, ty, one, is)) =
-      let done : List Signature = flat_map (signatures later) (take n hs) in
-      let has = all_get (HasTypes old) hs n x typed at in
-      let same : signatures u x ≡ signatures later x = signatures_stay old u (given_types_grow hs n b m old u gives) x has ∙ sym (signatures_stay old later grows x has) in
-      let all : (ss ++ done) ++ signatures u x ≡ ss ++ flat_map (signatures later) (take (suc n) hs) =
-      ap (λ (l : List Signature). (ss ++ done) ++ l) same
-      ∙ append_assoc ss done (signatures later x)
-      ∙ ap (λ (l : List Signature). ss ++ (done ++ l)) (sym (append-nil (signatures later x)))
-      ∙ ap (λ (l : List Signature). ss ++ l) (sym (flat_map-append (signatures later) (take n hs) (x ∷ [])))
-      ∙ ap (λ (l : List (Option Handler)). ss ++ flat_map (signatures later) l) (sym (take_more hs n x at)) in
-      subst (λ (l : List Signature). Stands t l new) all (stands_one t (ss ++ done) u (first n m u gives) x s.ty ty new one)
-
-  pub stands_given : (c : List Seq) (new : Table) → Gives hs (length hs) b old c new → Stands t (ss ++ flat_map (signatures later) hs) new
-  stands_given c new gives = subst (λ (l : List (Option Handler)). Stands t (ss ++ flat_map (signatures later) l) new) (take_all hs) (first (length hs) c new gives)
+module _ (t later : Table) (told : ℕ → Option Handler) where
+  pub stands_given : (ks : List ℕ) (ss : List Signature) (b c : List Seq) (old new : Table) → Stands t ss old → AllByRecursion (HasTypes old) (map told ks) → Gives told ks b old c new → Grows new later
+      → Stands t (ss ++ flat_map (signatures later) (map told ks)) new
+  stands_given [] ss b c old new h typed (is, kept) grows = stands_on t ss old h new kept
+  stands_given (k ∷ ks) ss b c old new h typed (mid, u, one, rest) grows =
+      let x : Option Handler = told k in
+      let others : List Signature = flat_map (signatures later) (map told ks) in
+      let first : Grows old u = at_grows k x b mid old u one in
+      let all : Grows old later = grows_on old u later first (grows_on u new later (given_types_grow told ks mid c u new rest) grows) in
+      let more = stands_given ks (ss ++ signatures old x) mid c u new (stands_at t ss old h k x b mid u one) (all_stay old u first (map told ks) typed.1) rest grows in
+      subst (λ (l : List Signature). Stands t l new)
+      (append_assoc ss (signatures old x) others ∙ ap (λ (l : List Signature). ss ++ (l ++ others)) (sym (signatures_stay old later all x typed.0))) more

@@ -10,7 +10,5 @@ mod StepLemmas
 mod TextLemmas
 mod ReadLemmas
 mod TellLemmas
-mod SetLemmas
-mod HandledLemmas
 mod NamedLemmas
-mod LackLemmas
+mod HandlerLemmas

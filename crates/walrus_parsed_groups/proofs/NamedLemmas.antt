@@ -51,7 +51,9 @@ use Rattle.walrus_parsed_groups.specs.Added.{Signature}
 use Rattle.walrus_parsed_groups.specs.Catches.{catches, opened_results, part_signature}
 use Rattle.walrus_parsed_groups.specs.Files.{block_gives, opened_gives, part_handles, sent, tag_takes, text_handles, type_params, type_results}
 use Rattle.walrus_parsed_groups.specs.Handlers.{signature_of}
-use Rattle.walrus_parsed_groups.proofs.HandledLemmas.{some_is}
+
+pub some_is : {A : Type 0} (x y : A) → Some x ≡ Some y → x ≡ y
+some_is x y e = cc
 
 -- ---- lists by index
 

@@ -11,6 +11,7 @@ use Rattle.walrus_handler_laws.specs.walrus_body_steps.walrus_body_nesting.wasm_
 use Rattle.walrus_handler_laws.specs.walrus_body_steps.wasm_normal_form.Normal.{normal}
 use Rattle.walrus_file_bodies.specs.walrus_items_into.wasm_sections.Within.{ChunksFit}
 use Rattle.walrus_handler_laws.specs.walrus_body_steps.walrus_body_nesting.Opens.{same}
+use Rattle.walrus_file_bodies.specs.walrus_items_into.walrus_module_env.Env.{tag_type_at}
 use Rattle.walrus_file_bodies.specs.walrus_items_into.walrus_module_env.walrus_body_parser.Points.{place_at}
 use Rattle.walrus_handler_laws.specs.walrus_body_steps.walrus_body_rules.Sights.{Sight, results_of}
 use Rattle.walrus_parse.specs.walrus_module.walrus_builder.Built.{contents, seq_of}
@@ -19,12 +20,11 @@ use Rattle.walrus_forms.specs.declared.value.ValType.{ValType}
 use Rattle.walrus_function_types.specs.FunctionTypes.{params_at, results_at}
 use Rattle.walrus_function_types.specs.Growth.{EntryTypesGrow, FoundTypesStay, Grows, TablesGrowOn}
 use Rattle.walrus_file_bodies.specs.walrus_items_into.walrus_functions_into.declared.bodies.FunctionBody.{FunctionBody}
-use Rattle.walrus_handler_laws.specs.Handlers.{tree_ids}
+use Rattle.walrus_handler_laws.specs.Handlers.{told_by, tree_ids}
 use Rattle.walrus_handler_laws.specs.Retyping.{handler_params}
 use Rattle.walrus_handler_laws.specs.declared.handler.Handler.{Handler}
-use Rattle.walrus_handler_types.proofs.Growing.{given_types_grow}
-use Rattle.walrus_handler_types.specs.Giving.{block_results, caught}
-use Rattle.walrus_handler_types.specs.walrus_handlers.Gathering.{AreHandlers}
+use Rattle.walrus_handler_types.proofs.Growing.{tree_types_grow}
+use Rattle.walrus_handler_types.specs.Giving.{block_results, caught, tree_handlers}
 use Rattle.walrus_operator_laws.specs.walrus_pairing.walrus_instr.declared.seq.InstrSeqType.{InstrSeqType}
 use Rattle.walrus_operator_laws.specs.walrus_pairing.walrus_instr.declared.seq.InstrSeqType.TheVariants.{Simple, MultiValue}
 use Rattle.walrus_file_bodies.specs.walrus_items_into.walrus_tables_into.walrus_sections_into.walrus_known_sections.Items.{chunk_of}
@@ -36,9 +36,9 @@ use Rattle.walrus_parsed_groups.specs.Added.{Signature}
 use Rattle.walrus_parsed_groups.specs.Groups.{handlers_in}
 use Rattle.walrus_parsed_groups.specs.Handlers.{HasTypes, signatures}
 use Rattle.walrus_parsed_groups.proofs.FitLemmas.{AreSpelled, body_fits, body_tree}
-use Rattle.walrus_parsed_groups.proofs.GivenLemmas.{stands_given, types_stay}
+use Rattle.walrus_parsed_groups.proofs.GivenLemmas.{all_stay, stands_given}
 use Rattle.walrus_parsed_groups.proofs.TableLemmas.{Stands, stands_entered}
-use Rattle.walrus_parsed_groups.proofs.ToldLemmas.{IsSeen, all_join, handlers_seen}
+use Rattle.walrus_parsed_groups.proofs.ToldLemmas.{IsSeen, all_join, each_seen}
 
 -- ---- what a sight sees of a handler the table has
 
@@ -54,19 +54,16 @@ pub seen_types : (s : Sight) (t : Table) → s.params ≡ params_at t → s.resu
 seen_types s t p r None is = tt
 seen_types s t p r (Some h) is = (seen_caught s t p h.tag_type is.0, seen_results s t r h.block is.1)
 
-all_typed : (s : Sight) (t : Table) → s.params ≡ params_at t → s.results ≡ results_at t → (hs : List (Option Handler)) → AllByRecursion (IsSeen s) hs → AllByRecursion (HasTypes t) hs
-all_typed s t p r [] is = tt
-all_typed s t p r (h ∷ hs) is = (seen_types s t p r h is.0, all_typed s t p r hs is.1)
-
-all_stay : (t v : Table) → Grows t v → (hs : List (Option Handler)) → AllByRecursion (HasTypes t) hs → AllByRecursion (HasTypes v) hs
-all_stay t v g [] is = tt
-all_stay t v g (h ∷ hs) is = (types_stay t v g h is.0, all_stay t v g hs is.1)
+all_map : {X Y : Type 0} (P : Y → Type 0) (f : X → Y) → ((x : X) → P (f x)) → (xs : List X) → AllByRecursion P (map f xs)
+all_map P f h [] = tt
+all_map P f h (x ∷ xs) = (h x, all_map P f h xs)
 
 -- ---- steps
 
 module _ (back : OperatorComesBack) (spelled : AreSpelled) (stay : FoundTypesStay) (on : TablesGrowOn) (enter : EntryTypesGrow) (file : FileEnv) (features : WasmFeatures) (a : Around) (count : ℕ → ℕ) where
   -- the table that a body begins with has the types of its handlers' tags and blocks
-  step_typed : (b : FunctionBody) (bs : List FunctionBody) (old new : State) → Small b.chunk.bytes.now → Waits file features a count old (b ∷ bs) → (s : IsStep file features b old new) → AllByRecursion (HasTypes s.mid) s.handled.handlers
+  step_typed : (b : FunctionBody) (bs : List FunctionBody) (old new : State) → Small b.chunk.bytes.now → Waits file features a count old (b ∷ bs) → (s : IsStep file features b old new)
+      → AllByRecursion (HasTypes s.mid) (tree_handlers (tag_type_at s.handled.env.tags.now) s.handled.own s.handled.tree)
   step_typed b bs old new small w s =
       let g = s.handled in
       let e = g.env in
@@ -75,9 +72,12 @@ module _ (back : OperatorComesBack) (spelled : AreSpelled) (stay : FoundTypesSta
       let parts : Parts = ((r.place, r.runs), r.ops) in
       let found = (body a (length s.params) (place_at e.code_start (cursor_of file features b))).found b.chunk.bytes.now parts small r.read in
       let fits = body_fits spelled a (length s.params) (place_at e.code_start (cursor_of file features b)) b.chunk.bytes.now parts same small found.0 in
-      let are = subst (λ (f : ℕ → Option ℕ). AreHandlers f g.own (tree_ids g.tree) g.handlers) (sym (ap (λ (x : Sight). x.tag_type) r.aside)) g.gathered in
-      all_typed r.sight s.mid (ap (λ (x : Sight). x.params) r.aside ∙ ap params_at g.env_is.types_are) (ap (λ (x : Sight). x.results) r.aside ∙ ap results_at g.env_is.types_are) g.handlers
-      (handlers_seen back a.features r.sight g.own (normal same (body_tree parts)) fits (r.stands same (λ ty. refl)) g.tree g.handlers are)
+      let p : r.sight.params ≡ params_at s.mid = ap (λ (x : Sight). x.params) r.aside ∙ ap params_at g.env_is.types_are in
+      let q : r.sight.results ≡ results_at s.mid = ap (λ (x : Sight). x.results) r.aside ∙ ap results_at g.env_is.types_are in
+      let told : ℕ → Option Handler = told_by r.sight.tag_type g.own (tree_ids g.tree) in
+      let seen = each_seen back a.features r.sight g.own (normal same (body_tree parts)) fits (r.stands same (λ ty. refl)) g.tree in
+      subst (λ (f : ℕ → Option ℕ). AllByRecursion (HasTypes s.mid) (tree_handlers f g.own g.tree)) (ap (λ (x : Sight). x.tag_type) r.aside)
+      (all_map (HasTypes s.mid) told (λ j. seen_types r.sight s.mid p q (told j) (seen j)) (tree_ids g.tree))
 
   module _ (t : Table) where
     pub steps_stand : (start end : ℕ) (bs : List FunctionBody) (old new : State) → ChunksFit start end (map (λ (b : FunctionBody). chunk_of b.chunk) bs) → Waits file features a count old bs → (steps : Steps file features bs old new)
@@ -86,14 +86,16 @@ module _ (back : OperatorComesBack) (spelled : AreSpelled) (stay : FoundTypesSta
     steps_stand start end [] old new fit w e later grows ss h =
         (subst (λ (l : List Signature). Stands t l new.types) (sym (append-nil ss)) (subst (λ (s : State). Stands t ss s.types) (sym e) h), tt)
     steps_stand start end (b ∷ bs) old new fit w (mid, step, rest) later grows ss h =
-        let hs = step.handled.handlers in
+        let g = step.handled in
+        let tags : ℕ → Option ℕ = tag_type_at g.env.tags.now in
+        let js : List ℕ = tree_ids g.tree in
+        let hs : List (Option Handler) = tree_handlers tags g.own g.tree in
         let others = handlers_in file features bs mid new rest in
-        let c = map seq_of step.handled.own in
+        let c = contents step.body.builder.builder in
         let typed = step_typed b bs old mid fit.0.0 w step in
-        let given = step.handled.given in
-        let first : Grows step.mid mid.types = given_types_grow hs (length hs) c (contents step.body.builder.builder) step.mid mid.types given in
-        let all : Grows step.mid later = on step.mid mid.types later first (on mid.types new.types later (steps_grow on file features bs mid new rest) grows) in
-        let one = stands_given t ss hs c step.mid (stands_entered t ss old.types h step.results step.entry step.mid step.entered) typed later all (contents step.body.builder.builder) mid.types given in
+        let grown : Grows mid.types later = on mid.types new.types later (steps_grow on file features bs mid new rest) grows in
+        let all : Grows step.mid later = on step.mid mid.types later (tree_types_grow tags g.own g.tree step.mid c mid.types g.given) grown in
+        let one = stands_given t later (told_by tags g.own js) js ss (map seq_of g.own) c step.mid mid.types (stands_entered t ss old.types h step.results step.entry step.mid step.entered) typed g.given grown in
         let done : List Signature = flat_map (signatures later) hs in
         let more = steps_stand start end bs mid new fit.1 (step_on stay on enter file features a count b bs old mid w step) rest later grows (ss ++ done) one in
         let same_list : (ss ++ done) ++ flat_map (signatures later) others ≡ ss ++ flat_map (signatures later) (hs ++ others) =

@@ -22,8 +22,8 @@ use Rattle.walrus_file_bodies.specs.walrus_items_into.walrus_functions_into.decl
 use Rattle.walrus_handler_laws.specs.Handlers.{TreesTell, told_by, tree_ids}
 use Rattle.walrus_handler_laws.specs.Retyping.{Widens, handler_params}
 use Rattle.walrus_handler_laws.specs.declared.handler.Handler.{Handler}
-use Rattle.walrus_handler_types.proofs.Growing.{function_results_grow, given_types_grow, params_grow, picks_grow}
-use Rattle.walrus_handler_types.specs.Giving.{block_results, caught}
+use Rattle.walrus_handler_types.proofs.Growing.{function_results_grow, params_grow, picks_grow, tree_types_grow}
+use Rattle.walrus_handler_types.specs.Giving.{block_results, caught, tree_handlers}
 use Rattle.walrus_operator_laws.specs.walrus_pairing.walrus_index_maps.Maps.{Ids}
 use Rattle.walrus_parse.specs.walrus_item_names.Names.{bare_type}
 use Rattle.walrus_operator_laws.specs.walrus_pairing.walrus_instr.BlockTypes.{picked, short_form}
@@ -37,6 +37,7 @@ use Rattle.walrus_file_bodies.specs.walrus_items_into.walrus_module_env.Around.{
 use Rattle.walrus_file_bodies.specs.walrus_items_into.walrus_module_env.Env.{if_own, own_pick, tag_type_at}
 use Rattle.walrus_file_bodies.specs.walrus_items_into.walrus_module_env.declared.env.ModuleEnv.{ModuleEnv}
 use Rattle.walrus_operator_laws.specs.Laws.{OperatorComesBack}
+use Rattle.walrus_parse.specs.walrus_module.walrus_builder.Built.{contents}
 use Rattle.walrus_parse.specs.walrus_module.walrus_types.Table.{Table}
 use Rattle.walrus_parsed_groups.specs.Added.{Signature}
 use Rattle.walrus_parsed_groups.specs.Catches.{catches}
@@ -92,7 +93,7 @@ pub each_is : (f g : ℕ → List Signature) → ((j : ℕ) → f j ≡ g j) →
 each_is f g h [] = refl
 each_is f g h (j ∷ js) = ap (λ (l : List Signature). l ++ flat_map f js) (h j) ∙ ap (λ (l : List Signature). g j ++ l) (each_is f g h js)
 
-mapped : (f : Option Handler → List Signature) (g : ℕ → Option Handler) (js : List ℕ) → flat_map (λ j. f (g j)) js ≡ flat_map f (map g js)
+pub mapped : (f : Option Handler → List Signature) (g : ℕ → Option Handler) (js : List ℕ) → flat_map (λ j. f (g j)) js ≡ flat_map f (map g js)
 mapped f g [] = refl
 mapped f g (j ∷ js) = ap (λ (l : List Signature). f (g j) ++ l) (mapped f g js)
 
@@ -112,7 +113,7 @@ module _ (back : OperatorComesBack) (spelled : AreSpelled) (tell : TreesTell) (s
       let read = subst (λ (n : ℕ). (body a (length s.params) n).parse b.chunk.bytes.now ≡ Ok parts) (placed_there file features b e.code_start g.env_is.begins) r.read in
       let found = (body a (length s.params) b.chunk.place).found b.chunk.bytes.now parts small read in
       let fits = body_fits spelled a (length s.params) b.chunk.place b.chunk.bytes.now parts same small found.0 in
-      let first : Grows s.mid later = on s.mid new.types later (given_types_grow g.handlers (length g.handlers) _ _ s.mid new.types g.given) grows in
+      let first : Grows s.mid later = on s.mid new.types later (tree_types_grow (tag_type_at e.tags.now) g.own g.tree s.mid (contents s.body.builder.builder) new.types g.given) grows in
       let wide : Widens r.sight (sight_in (env_of file later) b.number new.ids) =
       subst (λ (x : Sight). Widens x (sight_in (env_of file later) b.number new.ids)) (sym r.aside) (widens file s.mid later e g.env_is first b.number new.ids r.sight.handler_type) in
       let tags : r.sight.tag_type ≡ tag_type_at e.tags.now = ap (λ (x : Sight). x.tag_type) r.aside in
@@ -128,7 +129,7 @@ module _ (back : OperatorComesBack) (spelled : AreSpelled) (tell : TreesTell) (s
         told = body_catches back a.features r.sight (sight_in (env_of file later) b.number new.ids) g.own wide g.tree told (tell r.sight.tag_type g.own g.tree) (normal same (body_tree parts)) fits stands None
             ∙ each_is (λ j. seen_signatures r.sight (told j)) (λ j. signatures later (told j)) each js
             ∙ mapped (signatures later) told js
-            ∙ ap (λ (f : ℕ → Option ℕ). flat_map (signatures later) (map (told_by f g.own js) js)) tags;
+            ∙ ap (λ (f : ℕ → Option ℕ). flat_map (signatures later) (tree_handlers f g.own g.tree)) tags;
       }
 
   pub steps_tell : (start end : ℕ) (bs : List FunctionBody) (old new : State) → ChunksFit start end (map (λ (b : FunctionBody). chunk_of b.chunk) bs) → Waits file features a count old bs → (steps : Steps file features bs old new)
@@ -159,7 +160,7 @@ module _ (file : FileEnv) (features : WasmFeatures) (a : Around) (t u : Table) (
     body = h.body;
     reads = h.reads;
     told = ap (λ (x : Sight). catches x None (normal same (tree_of (map (λ (o : grammar.Placed). placed o.op (Some o.place)) h.body.operators)))) (same_sight b.number new.ids)
-        ∙ h.told ∙ sym (all_signatures t u types (let js = tree_ids s.handled.tree in map (told_by (tag_type_at s.handled.env.tags.now) s.handled.own js) js));
+        ∙ h.told ∙ sym (all_signatures t u types (tree_handlers (tag_type_at s.handled.env.tags.now) s.handled.own s.handled.tree));
   }
 
   pub texts_named : (bs : List FunctionBody) (old new : State) (steps : Steps file features bs old new) → TellTexts file features a u bs old new steps → TellTexts file features a t bs old new steps

@@ -3,7 +3,6 @@ use Rattle.std.proofs.Common.{◌≡◌, ◌∙◌, ℕ, zero, suc, ◌<◌, Boo
 use Rattle.std.specs.Prelude.{◌==◌, IsSome, slice_get, if◌then◌else◌}
 use Rattle.std.specs.List.{AllByRecursion}
 use Rattle.std.specs.Option.{option_map}
-use Rattle.std.proofs.lemmas.Option.{slice_get_within}
 use Rattle.walrus_operator_laws.specs.walrus_pairing.wasm_immediates.wasm_features.declared.WasmFeatures.{WasmFeatures}
 use Rattle.walrus_handler_laws.specs.walrus_body_steps.wasm_normal_form.Trees.{Tree as OpTree, Close, Arm, Skip, Run, Nest}
 use Rattle.wasm_operator_ranges.specs.wasm_operator_bytes.wasm_operators.Operators.{Seen}
@@ -28,7 +27,6 @@ use Rattle.walrus_handler_laws.specs.walrus_body_steps.Meanings.{TurnsTo, meanin
 use Rattle.walrus_handler_laws.specs.declared.handler.Handler.{Handler}
 use Rattle.walrus_handler_laws.specs.Handlers.{Slot, all_slots, handler_in, part_slots, seq_slots, slots, slots_in, told_by, tree_ids, turn_handler}
 use Rattle.walrus_handler_laws.specs.Retyping.{handler_params}
-use Rattle.walrus_handler_types.specs.walrus_handlers.Gathering.{AreHandlers}
 use Rattle.walrus_parsed_groups.proofs.FitLemmas.{RunsFit, run_none}
 
 -- ---- lists
@@ -40,10 +38,6 @@ all_join P (x ∷ xs) ys h k = (h.0, all_join P xs ys h.1 k)
 all_split : {X : Type 0} (P : X → Type 0) (xs ys : List X) → AllByRecursion P (xs ++ ys) → AllByRecursion P xs × AllByRecursion P ys
 all_split P [] ys h = (tt, h)
 all_split P (x ∷ xs) ys h = let r = all_split P xs ys h.1 in ((h.0, r.0), r.1)
-
-all_from : {X : Type 0} (P : X → Type 0) (xs : List X) → ((n : ℕ) (x : X) → slice_get xs n ≡ Some x → P x) → AllByRecursion P xs
-all_from P [] h = tt
-all_from P (x ∷ xs) h = (h 0 x refl, all_from P xs (λ n y e. h (suc n) y e))
 
 pub seen_at : (b : List InstrSeq) (k : ℕ) (x : Seq) → slice_get (map seq_of b) k ≡ Some x → (y : InstrSeq) × (slice_get b k ≡ Some y) × (x ≡ seq_of y)
 seen_at [] k x e = absurd cc
@@ -241,11 +235,3 @@ module _ (back : OperatorComesBack) (features : WasmFeatures) (s : Sight) (b : L
       let own = subst (λ (z : Seq). Lies o [] 0 h.ty (with 0 none) z.instrs z.end [] Ended h.done) y.2 h.enters.lie in
       let body : Entered 0 = record { seq = y.0; found = y.1; tree = o; around = []; ty = h.ty; met = with 0 none; parts = []; finish = Ended; done = h.done; fits = n; lie = own } in
       told_seen (all_slots s.tag_type c (tree_ids t)) j (trees_fine (Tree 0 t.inside Nothing) [] (0 ∷ []) t.stands (body, tt))
-
-  pub handlers_seen : (o : OpTree) → RunsFit features o → StandsAs (meaning s) c o → (t : IsTree b 0) (hs : List (Option Handler)) → AreHandlers s.tag_type b (tree_ids t) hs → AllByRecursion (IsSeen s) hs
-  handlers_seen o n h t hs are = all_from (IsSeen s) hs (λ j x e.
-      let lt : j < length b = subst (λ (m : ℕ). j < m) are.many (slice_get_within hs j x e) in
-      subst (IsSeen s) (same_handler _ x (sym (are.told j lt) ∙ e)) (each_seen o n h t j))
-    where
-      same_handler : (x y : Option Handler) → ◌≡◌ {A = Option (Option Handler)} (Some x) (Some y) → x ≡ y
-      same_handler x y e = cc

@@ -1,5 +1,5 @@
--- What the handlers of legacy `try`s take and give, in words of a file's module alone; and the types that a table lacks for them.
-use Rattle.std.specs.Prelude.{ℕ, ◌≡◌, ◌⊎◌, ◌<◌, true, List, [], ◌∷◌, ◌++◌, All, map, Option, Some, None, slice_get, slice_index_or}
+-- What the handlers of legacy `try`s take and give, in words of a file's module alone.
+use Rattle.std.specs.Prelude.{ℕ, ◌≡◌, ◌<◌, List, [], ◌∷◌, ◌++◌, All, map, Option, Some, None, slice_get, slice_index_or}
 use Rattle.std.specs.List.{flat_map}
 use Rattle.std.specs.Option.{option_and_then, option_map}
 use Rattle.walrus_config.specs.declared.config.ModuleConfig.{ModuleConfig}
@@ -9,7 +9,6 @@ use Rattle.walrus_forms.specs.Kinds.{Kind}
 use Rattle.walrus_forms.specs.Renaming.{at, renamed_value}
 use Rattle.walrus_forms.specs.declared.value.ValType.{ValType}
 use Rattle.walrus_function_types.specs.FunctionTypes.{form_params, form_results}
-use Rattle.walrus_into_laws.specs.walrus_types_into.Into.{no_types}
 use Rattle.walrus_handler_laws.specs.walrus_body_steps.walrus_body_nesting.Opens.{same}
 use Rattle.walrus_handler_laws.specs.walrus_body_steps.wasm_grammar.Modules as grammar
 use Rattle.walrus_handler_laws.specs.walrus_body_steps.wasm_grammar.States.{types_of}
@@ -23,12 +22,10 @@ use Rattle.walrus_operator_laws.specs.walrus_pairing.wasm_immediates.declared.bl
 use Rattle.walrus_operator_laws.specs.walrus_pairing.wasm_immediates.declared.block_type.BlockType.TheVariants as blocks
 use Rattle.walrus_parse.specs.Parsed.{IsReadAs}
 use Rattle.walrus_parse.specs.walrus_module.declared.module.Module.{Module as Whole}
-use Rattle.walrus_parse.specs.walrus_module.walrus_types.Parsing.{parsed, unparsed}
-use Rattle.walrus_parse.specs.walrus_module.walrus_types.Table.{Table}
 use Rattle.wasm_operator_ranges.specs.wasm_operator_bytes.wasm_operators.Operators.{flow_of}
 use Rattle.wasm_operator_ranges.specs.wasm_operator_bytes.wasm_operators.declared.entry.Flow.{Flow}
 use Rattle.wasm_operator_ranges.specs.wasm_operator_bytes.wasm_operators.declared.entry.Flow.TheVariants as flows
-use Rattle.walrus_parsed_groups.specs.Added.{Signature, added, is_missing, kind_of}
+use Rattle.walrus_parsed_groups.specs.Added.{Signature}
 use Rattle.walrus_parsed_groups.specs.Groups.{handlers_of}
 use Rattle.walrus_parsed_groups.specs.Handlers.{signature_of, signatures}
 
@@ -82,27 +79,7 @@ sent r s = record { params = map (renamed_value r) s.params; results = map (rena
 abbrev pub bodies_handle : grammar.Module → List grammar.Body → List Signature
 bodies_handle file xs = flat_map (body_handles (types_of file) file.tags) xs
 
--- ---- kinds that are lacking
-
--- it stands in the list
-abbrev pub In : {A : Type 0} → List A → A → Type 0
-In [] x = ⊥
-In (y ∷ ys) x = (y ≡ x) ⊎ In ys x
-
--- none stands there twice
-abbrev pub AreOnce : {A : Type 0} → List A → Type 0
-AreOnce [] = Unit {0}
-AreOnce (x ∷ xs) = (In xs x → ⊥) × AreOnce xs
-
--- these kinds, each once, are those of the handlers for which the table has no type
-pub record AreLacking (t : Table) (handlers : List Signature) (kinds : List Kind) : Type 0 where
-  pub each : (kind : Kind) → In kinds kind → (s : Signature) × In handlers s × (is_missing t s ≡ true) × (kind_of s ≡ kind)
-  pub all : (s : Signature) → In handlers s → is_missing t s ≡ true → In kinds (kind_of s)
-  pub once : AreOnce kinds
-
--- those that stand behind a file's types in the module that was read are lacking for the handlers of its bodies
-abbrev pub ReadModulesAddLacking : Type 0 → Type 0
-ReadModulesAddLacking B = (config : ModuleConfig) (bytes : List ℕ) (m : Whole B) (found : Ids) → All (λ b. b < 256) bytes → (is : IsReadAs config bytes m found)
-    → let table : Table = (parsed is.1.sections.types (unparsed no_types)).table in
-    AreLacking table (map (sent (at found.types)) (bodies_handle (module_of (state_of is.1.sections) is.1.bodies) is.1.bodies))
-    (added table (flat_map (signatures m.types) (handlers_of config bytes m found is)))
+-- what the handlers of the module that was read take and give is what those of its file do, in their order
+abbrev pub ReadModulesHaveHandlers : Type 0 → Type 0
+ReadModulesHaveHandlers B = (config : ModuleConfig) (bytes : List ℕ) (m : Whole B) (found : Ids) → All (λ b. b < 256) bytes → (is : IsReadAs config bytes m found)
+    → flat_map (signatures m.types) (handlers_of config bytes m found is) ≡ map (sent (at found.types)) (bodies_handle (module_of (state_of is.1.sections) is.1.bodies) is.1.bodies)

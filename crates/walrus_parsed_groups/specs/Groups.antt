@@ -6,8 +6,10 @@ use Rattle.walrus_config.specs.declared.config.ModuleConfig.{ModuleConfig}
 use Rattle.walrus_file_bodies.specs.Ready.{bodies_in}
 use Rattle.walrus_forms.specs.Records.{TypeGroup}
 use Rattle.walrus_file_bodies.specs.walrus_items_into.walrus_functions_into.declared.bodies.FunctionBody.{FunctionBody}
+use Rattle.walrus_file_bodies.specs.walrus_items_into.walrus_module_env.Env.{tag_type_at}
 use Rattle.walrus_into_laws.specs.Groups.{kept}
 use Rattle.walrus_handler_laws.specs.declared.handler.Handler.{Handler}
+use Rattle.walrus_handler_types.specs.Giving.{tree_handlers}
 use Rattle.walrus_operator_laws.specs.walrus_pairing.walrus_index_maps.Maps.{Ids}
 use Rattle.walrus_into_laws.specs.walrus_meaning.Meaning.{own_groups}
 use Rattle.walrus_parse.specs.walrus_module.declared.module.Module.{Module as Whole}
@@ -20,11 +22,11 @@ use Rattle.walrus_into_laws.specs.walrus_types_into.Into.{no_types}
 use Rattle.walrus_parsed_groups.specs.Added.{added, is_missing, single}
 use Rattle.walrus_parsed_groups.specs.Handlers.{HasTypes, signatures}
 
--- the sequences of bodies that were read, each as the handler that it is, if it is one: body by body in the order of the file, and by rising id
--- in each; `AreHandlers` of a step says that its body's tree tells them
+-- the sequences of bodies that were read, each as the handler that it is, if it is one: body by body in the order of the file, and in the order
+-- of the text in each
 abbrev pub handlers_in : (file : FileEnv) (features : WasmFeatures) (bs : List FunctionBody) (old new : State) → Steps file features bs old new → List (Option Handler)
 handlers_in file features [] old new steps = []
-handlers_in file features (b ∷ bs) old new (mid, step, steps) = step.handled.handlers ++ handlers_in file features bs mid new steps
+handlers_in file features (b ∷ bs) old new (mid, step, steps) = (let h = step.handled in tree_handlers (tag_type_at h.env.tags.now) h.own h.tree) ++ handlers_in file features bs mid new steps
 
 -- those of a module that was read
 abbrev pub handlers_of : {B : Type 0} (config : ModuleConfig) (bytes : List ℕ) (m : Whole B) (found : Ids) → IsReadAs config bytes m found → List (Option Handler)

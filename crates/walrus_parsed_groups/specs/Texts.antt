@@ -14,7 +14,7 @@ use Rattle.walrus_config.specs.declared.config.ModuleConfig.{ModuleConfig}
 use Rattle.walrus_file_bodies.specs.Read.{env_of}
 use Rattle.walrus_file_bodies.specs.Ready.{bodies_in}
 use Rattle.walrus_file_bodies.specs.walrus_items_into.walrus_functions_into.declared.bodies.FunctionBody.{FunctionBody}
-use Rattle.walrus_handler_laws.specs.Handlers.{told_by, tree_ids}
+use Rattle.walrus_handler_types.specs.Giving.{tree_handlers}
 use Rattle.walrus_operator_laws.specs.walrus_pairing.walrus_index_maps.Maps.{Ids}
 use Rattle.walrus_file_bodies.specs.walrus_items_into.walrus_tables_into.walrus_sections_into.walrus_known_sections.State.{state_of}
 use Rattle.walrus_parse.specs.walrus_module.declared.module.Module.{Module as Whole}
@@ -33,9 +33,8 @@ module _ (file : FileEnv) (features : WasmFeatures) (a : Around) (t : Table) whe
   pub record TellsText (b : FunctionBody) (old new : State) (s : IsStep file features b old new) : Type 0 where
     pub body : grammar.Body
     pub reads : ReadsBody a (length s.params) b.chunk.place b.chunk.bytes.now body
-    pub told : let js = tree_ids s.handled.tree in
-        catches (sight_in (env_of file t) b.number new.ids) None (normal same (tree_of (map (λ (o : grammar.Placed). placed o.op (Some o.place)) body.operators)))
-        ≡ flat_map (signatures t) (map (told_by (tag_type_at s.handled.env.tags.now) s.handled.own js) js)
+    pub told : catches (sight_in (env_of file t) b.number new.ids) None (normal same (tree_of (map (λ (o : grammar.Placed). placed o.op (Some o.place)) body.operators)))
+        ≡ flat_map (signatures t) (tree_handlers (tag_type_at s.handled.env.tags.now) s.handled.own s.handled.tree)
 
   -- so it is of each body
   abbrev pub TellTexts : (bs : List FunctionBody) (old new : State) → Steps file features bs old new → Type 0

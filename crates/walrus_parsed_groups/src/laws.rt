@@ -1,6 +1,6 @@
 //! Laws: functions with nothing to do, whose contracts hold of all modules that are read.
 
-ghost use Rattle.walrus_parsed_groups.specs.Files.{ReadModulesAddLacking};
+ghost use Rattle.walrus_parsed_groups.specs.Files.{ReadModulesHaveHandlers};
 ghost use Rattle.walrus_parsed_groups.specs.Groups.{ReadModulesHaveGroups};
 ghost use Rattle.walrus_parsed_groups.specs.Texts.{ReadModulesTellTexts};
 
@@ -48,11 +48,11 @@ pub fn read_modules_tell_texts<B>()
     tables_grow_on();
 }
 
-/// The types that stand behind those of the file are, each once, those of the handlers of its bodies for which the file has no type: of each
-/// `catch` and `catch_all` that is reached, from the parameters of the tag's type to the results of its `try`, as the file has them, each type
-/// under the id that its index has.
-pub fn read_modules_add_lacking<B>()
-    ensures { ReadModulesAddLacking B }
+/// What the handlers of a module that was read take and give is what each `catch` and `catch_all` of its file does that is reached, body by body
+/// in the order of the text: from the parameters of the tag's type to the results of its `try`, as the file has them, each type under the id that
+/// its index has. So those that the file has no type for stand behind its types in this order, each once.
+pub fn read_modules_have_handlers<B>()
+    ensures { ReadModulesHaveHandlers B }
 {
     operators_come_back();
     operators_in_range_are_spelled();

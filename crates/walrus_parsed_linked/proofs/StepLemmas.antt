@@ -28,7 +28,8 @@ use Rattle.walrus_forms.specs.declared.value.ValType.{ValType}
 use Rattle.walrus_function_types.specs.FunctionTypes.{params_at, results_at}
 use Rattle.walrus_function_types.specs.Growth.{EntryTypesGrow, FoundTypesStay, Grows, TablesGrowOn}
 use Rattle.walrus_file_bodies.specs.walrus_items_into.walrus_functions_into.declared.bodies.FunctionBody.{FunctionBody}
-use Rattle.walrus_handler_types.proofs.Growing.{given_types_grow}
+use Rattle.walrus_handler_types.proofs.Growing.{tree_types_grow}
+use Rattle.walrus_handler_types.specs.walrus_handler_laws.Handlers.{told_by, tree_ids}
 use Rattle.walrus_handler_types.specs.walrus_handler_laws.declared.handler.Handler.{Handler}
 use Rattle.walrus_parsed_items.specs.walrus_into_laws.walrus_meaning.walrus_linked.walrus_body_writer.walrus_pairing.walrus_index_maps.Maps.{Ids}
 use Rattle.walrus_marks.specs.walrus_instr.BlockTypes.{picked}
@@ -43,7 +44,7 @@ use Rattle.walrus_file_bodies.specs.walrus_module_bodies.Steps.{IsStep, State, S
 use Rattle.walrus_file_bodies.specs.walrus_module_bodies.declared.file.FileEnv.{FileEnv}
 use Rattle.walrus_file_bodies.specs.walrus_items_into.walrus_module_env.Around.{IsFiled, sight_in}
 use Rattle.walrus_file_bodies.specs.walrus_items_into.walrus_module_env.Parsed.{IsRead}
-use Rattle.walrus_file_bodies.specs.walrus_items_into.walrus_module_env.Env.{if_own, is_own, own_pick}
+use Rattle.walrus_file_bodies.specs.walrus_items_into.walrus_module_env.Env.{if_own, is_own, own_pick, tag_type_at}
 use Rattle.walrus_file_bodies.specs.walrus_items_into.walrus_module_env.declared.env.ModuleEnv.{ModuleEnv}
 use Rattle.walrus_parsed_items.specs.walrus_into_laws.walrus_meaning.walrus_linked.walrus_module_items.Functions.{type_of}
 use Rattle.walrus_parsed_items.specs.walrus_into_laws.walrus_meaning.walrus_linked.walrus_body_writer.walrus_pairing.Looks.{id_of}
@@ -173,24 +174,23 @@ module _ (stay : FoundTypesStay) (on : TablesGrowOn) (enter : EntryTypesGrow) (w
         record { around = a; params = length s.params; place = _; bytes = b.chunk.bytes.now; parts = parts; is_body = (small, rules.0, rules.1); pick = same; stands = aside.stands same (λ ty. refl) }
 
     grows_mid : Grows s.mid final
-    grows_mid = on s.mid new.types final (given_types_grow s.handled.handlers (length s.handled.handlers) (map seq_of s.handled.own) (contents s.body.builder.builder) s.mid new.types s.handled.given) grows
+    grows_mid = on s.mid new.types final (tree_types_grow (tag_type_at g.tags.now) s.handled.own s.handled.tree s.mid (contents s.body.builder.builder) new.types s.handled.given) grows
 
     seen : AnswersAre aside.sight Good
     seen = subst (λ (x : Sight). AnswersAre x Good) (sym aside.aside)
         (answers g s.mid s.handled.env_is.types_are mid_closed grows_mid new.ids new_names new.locals new_below le b.number aside.sight.handler_type)
 
-    handler_good : (k : ℕ) (x : Handler) → slice_get s.handled.handlers k ≡ Some (Some x) → GoodBlock Good x.block
-    handler_good k x at =
-        let are = s.handled.gathered in
-        let lt : k < length s.handled.own = subst (λ (n : ℕ). k < n) are.many (slice_get_within s.handled.handlers k (Some x) at) in
-        let told = some_is _ (Some x) (sym (are.told k lt) ∙ at) in
+    abbrev told : ℕ → Option Handler
+    told = told_by (tag_type_at g.tags.now) s.handled.own (tree_ids s.handled.tree)
+
+    handler_good : (k : ℕ) (x : Handler) → told k ≡ Some x → GoodBlock Good x.block
+    handler_good k x is =
         let block : AllAre (IsAnswer (without_handlers aside.sight)) (block_items x.block) =
-        subst (λ (o : Option Handler). IfSome o (λ h. AllAre (IsAnswer (without_handlers aside.sight)) (block_items h.block))) told (handled aside.sight s.handled.own read_by s.handled.tree _ k) in
+        subst (λ (o : Option Handler). IfSome o (λ h. AllAre (IsAnswer (without_handlers aside.sight)) (block_items h.block))) is (handled aside.sight s.handled.own read_by s.handled.tree (tag_type_at g.tags.now) k) in
         all_of Good (block_items x.block) (λ y c. other_answers_are aside.sight Good seen y (block y c))
 
     new_closed : Closed Good new.types
-    new_closed = gives_closed Good s.handled.handlers (length s.handled.handlers) (map seq_of s.handled.own) s.mid (contents s.body.builder.builder) new.types
-        handler_good s.handled.given mid_closed
+    new_closed = gives_closed Good told (tree_ids s.handled.tree) (map seq_of s.handled.own) s.mid (contents s.body.builder.builder) new.types handler_good s.handled.given mid_closed
 
     pub step_sound : Sound new
     step_sound = record { names = new_names; below = new_below; closed = new_closed; locals_good = new_good }

@@ -1,5 +1,5 @@
 -- Lemmas: a table of types that grows while bodies are read names good types alone.
-use Rattle.std.specs.Prelude.{ℕ, zero, suc, ◌≡◌, ◌⊎◌, false, List, [], ◌∷◌, ◌++◌, Option, Some, None, MatchOption, slice_get, slice_index_or, refl}
+use Rattle.std.specs.Prelude.{ℕ, zero, suc, ◌≡◌, ◌⊎◌, false, List, [], ◌∷◌, ◌++◌, Option, Some, None, MatchOption, slice_index_or, refl}
 use Rattle.std.specs.Option.{option_map, option_or}
 use Rattle.std.proofs.Common.{ap, sym, ◌∙◌, subst, inl, inr, append-nil}
 use Rattle.walrus_handler_types.specs.walrus_body_steps.walrus_body_nesting.wasm_formats.declared.fault.Space.TheVariants as spaces
@@ -11,7 +11,7 @@ use Rattle.walrus_forms.specs.Same.{same_kind}
 use Rattle.walrus_function_types.specs.Growth.{Grows}
 use Rattle.walrus_function_types.proofs.GrowthLemmas.{lives_on}
 use Rattle.walrus_handler_types.specs.walrus_handler_laws.declared.handler.Handler.{Handler}
-use Rattle.walrus_handler_types.specs.Giving.{Finds, FindsIf, Gives, GivesType, block_results, caught}
+use Rattle.walrus_handler_types.specs.Giving.{Finds, FindsIf, Gives, GivesAt, GivesType, block_results, caught}
 use Rattle.walrus_marks.specs.walrus_instr.BlockTypes.{Makes, picked, short_form}
 use Rattle.walrus_marks.specs.walrus_instr.declared.seq.InstrSeqType.{InstrSeqType}
 use Rattle.walrus_marks.specs.walrus_instr.declared.seq.InstrSeqType.TheVariants.{Simple, MultiValue}
@@ -75,21 +75,24 @@ module _ (Good : Item → Type 0) where
       go None made = made_closed params results ty t v h k made closed
       go (Some found) m = subst (Closed Good) (sym m.1) closed
 
-  type_closed : (h : Option Handler) (was : InstrSeqType) (t : Table) (ty : InstrSeqType) (v : Table) → ((x : Handler) → h ≡ Some x → GoodBlock Good x.block) → GivesType h was t ty v → Closed Good t → Closed Good v
-  type_closed None was t ty v blocks gives closed = subst (Closed Good) (sym gives.1) closed
-  type_closed (Some h) was t ty v blocks gives closed = go (caught t h.tag_type) (block_results t h.block) refl refl gives
+  type_closed : (h : Handler) (was : InstrSeqType) (t : Table) (ty : InstrSeqType) (v : Table) → GoodBlock Good h.block → GivesType h was t ty v → Closed Good t → Closed Good v
+  type_closed h was t ty v block gives closed = go (caught t h.tag_type) (block_results t h.block) refl refl gives
     where
       go : (ps rs : Option (List ValType)) → caught t h.tag_type ≡ ps → block_results t h.block ≡ rs → FindsIf ps rs was t ty v → Closed Good v
-      go (Some ps) (Some rs) p r finds = finds_closed ps rs t ty v (caught_good t closed h.tag_type ps p) (block_good t closed h.block (blocks h refl) rs r) finds closed
+      go (Some ps) (Some rs) p r finds = finds_closed ps rs t ty v (caught_good t closed h.tag_type ps p) (block_good t closed h.block block rs r) finds closed
       go (Some ps) None p r same = subst (Closed Good) (sym same.1) closed
       go None (Some rs) p r same = subst (Closed Good) (sym same.1) closed
       go None None p r same = subst (Closed Good) (sym same.1) closed
 
-  pub gives_closed : (hs : List (Option Handler)) (n : ℕ) (b : List Seq) (t : Table) (c : List Seq) (v : Table) → ((k : ℕ) (x : Handler) → slice_get hs k ≡ Some (Some x) → GoodBlock Good x.block)
-      → Gives hs n b t c v → Closed Good t → Closed Good v
-  gives_closed hs zero b t c v blocks gives closed = subst (Closed Good) (sym gives.1) closed
-  gives_closed hs (suc n) b t c v blocks (mid, u, before, h, at, one) closed =
-      type_closed h one.0.ty u one.2 v (λ x e. blocks n x (at ∙ ap (λ (o : Option Handler). Some o) e)) one.3 (gives_closed hs n b t mid u blocks before closed)
+  at_closed : (k : ℕ) (h : Option Handler) (b : List Seq) (t : Table) (c : List Seq) (v : Table) → ((x : Handler) → h ≡ Some x → GoodBlock Good x.block) → GivesAt k h b t c v → Closed Good t → Closed Good v
+  at_closed k None b t c v blocks (is, kept) closed = subst (Closed Good) (sym kept) closed
+  at_closed k (Some h) b t c v blocks (x, found, ty, gives, is) closed = type_closed h x.ty t ty v (blocks h refl) gives closed
+
+  pub gives_closed : (told : ℕ → Option Handler) (ks : List ℕ) (b : List Seq) (t : Table) (c : List Seq) (v : Table) → ((k : ℕ) (x : Handler) → told k ≡ Some x → GoodBlock Good x.block)
+      → Gives told ks b t c v → Closed Good t → Closed Good v
+  gives_closed told [] b t c v blocks gives closed = subst (Closed Good) (sym gives.1) closed
+  gives_closed told (k ∷ ks) b t c v blocks (mid, u, one, rest) closed =
+      gives_closed told ks mid u c v blocks rest (at_closed k (told k) b t mid u (λ x e. blocks k x e) one closed)
 
   -- ---- what is picked
 

@@ -38,11 +38,12 @@ use Rattle.walrus_handler_types.specs.walrus_body_steps.wasm_normal_form.Bodies.
 use Rattle.walrus_handler_types.specs.walrus_body_steps.wasm_normal_form.Normal.{normal_ops}
 use Rattle.walrus_parsed_items.specs.walrus_parse.walrus_module.Parts.{Module, parts}
 use Rattle.walrus_parsed_items.specs.walrus_parse.walrus_module.walrus_types.Table.{type_at}
-use Rattle.walrus_parsed_groups.specs.Added.{added}
-use Rattle.walrus_parsed_groups.specs.Files.{AreLacking, ReadModulesAddLacking, bodies_handle, sent}
+use Rattle.walrus_parsed_groups.specs.Added.{Signature, added, single}
+use Rattle.walrus_parsed_groups.specs.Files.{ReadModulesHaveHandlers, bodies_handle, sent}
 use Rattle.walrus_parsed_groups.specs.Groups.{ReadModulesHaveGroups, handlers_of}
 use Rattle.walrus_parsed_groups.specs.Handlers.{signatures}
 use Rattle.walrus_parsed_items.specs.Items.{ReadModulesHaveItems}
+use Rattle.walrus_parsed_items.specs.walrus_into_laws.Groups.{kept}
 use Rattle.walrus_parsed_items.specs.walrus_into_laws.Meaning.{CustomsMean, OrderedStay, OthersStay, own_custom, type_id}
 use Rattle.walrus_parsed_items.specs.walrus_into_laws.Renamed.{retyped_table}
 use Rattle.walrus_parsed_items.specs.walrus_parse.Named.{all_names}
@@ -117,9 +118,9 @@ others_in ordered found numbers s is same_but = ordered (record found { locals =
     all : record found { locals = λ (function : ℕ). (let none : List ℕ = [] in none) } ≡ record (numbers_of s) { locals = λ (function : ℕ). (let none : List ℕ = [] in none) }
     all = ap (λ (j : Ids). record j { locals = λ (function : ℕ). (let none : List ℕ = [] in none) }) (same_but ∙ ap (λ (j : Ids). record j { locals = found.locals }) is)
 
-pub mean_files : {B : Type 0} → ReadModulesHaveItems B → ReadBodiesMeanTheirs B → ReadBodiesHaveTheirLocals B → ReadModulesHaveGroups B → ReadModulesAddLacking B → ReadModulesAreLinked B → ReadModulesAreRuled
+pub mean_files : {B : Type 0} → ReadModulesHaveItems B → ReadBodiesMeanTheirs B → ReadBodiesHaveTheirLocals B → ReadModulesHaveGroups B → ReadModulesHaveHandlers B → ReadModulesAreLinked B → ReadModulesAreRuled
     → ((given : B → grammar.Custom) → CustomsMean given) → OrderedStay → FilledFunctionsStand B → BodiesReadFiles B → NewTypesStand → TypesNameBelow → FoundTypesStay → TablesGrowOn → ReadModulesMeanFiles B
-mean_files {B} have_items mean have_locals have_groups add_lacking are_linked are_ruled customs_mean ordered stands bodies_read stand below stay on config bytes m found small is =
+mean_files {B} have_items mean have_locals have_groups have_handlers are_linked are_ruled customs_mean ordered stands bodies_read stand below stay on config bytes m found small is =
     let h = is.1 in
     let s = h.sections in
     let features = read_features config in
@@ -158,8 +159,9 @@ mean_files {B} have_items mean have_locals have_groups add_lacking are_linked ar
     let of_file : AreSized file = files_are_sized features bytes file items.0 in
     let groups = have_groups config bytes m found small is in
     let own_bodies : flat_map function_bodies file.functions ≡ h.bodies = bodies_are (λ n x. BodyOf (parts m) found (block_pick a) file n x) 0 (state_of s).filled.functions bs h.bodies numbers zip in
-    let lacking = subst (λ (xs : List grammar.Body). AreLacking (types_in s).table (map (sent (at found.types)) (bodies_handle file xs)) (added (types_in s).table (flat_map (signatures m.types) (handlers_of config bytes m found is))))
-    (sym own_bodies) (add_lacking config bytes m found small is) in
+    let handle : flat_map (signatures m.types) (handlers_of config bytes m found is) ≡ map (sent (at found.types)) (bodies_handle file (flat_map function_bodies file.functions)) =
+    have_handlers config bytes m found small is ∙ ap (λ (xs : List grammar.Body). map (sent (at found.types)) (bodies_handle file xs)) (sym own_bodies) in
+    let grouped = groups.groups ∙ ap (λ (ss : List Signature). kept found.types 0 file.groups ++ map single (added (types_in s).table ss)) handle in
     let old : Holder = named_in h.filled h.bodied None in
     let bare = steps_bare h.file features bs (state h.filled.types [] h.numbers h.filled.functions) h.bodied h.bodies_are (filled_bare s m.start h.numbers h.filled h.are_filled) in
     let wanted : Bool = config.generate_synthetic_names_for_anonymous_items in
@@ -174,11 +176,9 @@ mean_files {B} have_items mean have_locals have_groups add_lacking are_linked ar
       items.0,
       record {
         types = types;
-        more = added (types_in s).table (flat_map (signatures m.types) (handlers_of config bytes m found is));
-        lacking = lacking;
         others = others_in ordered found h.numbers s h.are_filled.numbers same_but;
         meant = λ i. record {
-          groups = groups.groups i;
+          groups = grouped i;
           imports = items.1.imports i;
           functions = functions i;
           tables = items.1.tables i;

@@ -23,13 +23,14 @@ use Rattle.walrus_parsed_items.specs.walrus_parse.walrus_file_bodies.walrus_item
 use Rattle.walrus_parsed_items.specs.walrus_parse.walrus_file_bodies.walrus_module_bodies.Steps.{IsStep, State, Steps}
 use Rattle.walrus_parsed_items.specs.walrus_parse.walrus_file_bodies.walrus_module_bodies.declared.file.FileEnv.{FileEnv}
 use Rattle.walrus_parsed_items.specs.walrus_into_laws.walrus_types_into.Into.{no_types}
-use Rattle.walrus_handler_types.specs.Giving.{Finds, FindsIf, Gives, GivesType, block_results, caught}
+use Rattle.walrus_handler_types.specs.Giving.{Finds, FindsIf, Gives, GivesAt, block_results, caught}
+use Rattle.walrus_handler_types.specs.walrus_handler_laws.Handlers.{told_by, tree_ids}
 use Rattle.walrus_handler_types.specs.walrus_handler_laws.declared.handler.Handler.{Handler}
 use Rattle.walrus_operator_laws.specs.walrus_pairing.walrus_index_maps.Maps.{Ids}
 use Rattle.walrus_parsed_items.specs.walrus_parse.walrus_module.walrus_module_items.declared.function.Function.{Function}
 use Rattle.walrus_parsed_items.specs.walrus_parse.walrus_module.walrus_module_items.declared.function.FunctionKind.TheVariants as kinds
 use Rattle.walrus_parsed_items.specs.walrus_into_laws.walrus_meaning.walrus_local_function.walrus_body_locals.Locals.{locals_from}
-use Rattle.walrus_handler_types.specs.walrus_tree.walrus_builder.Built.{Seq}
+use Rattle.walrus_handler_types.specs.walrus_tree.walrus_builder.Built.{Seq, contents, seq_of}
 use Rattle.walrus_parsed_items.specs.walrus_parse.walrus_module.walrus_types.Groups.{new_items}
 use Rattle.walrus_parsed_items.specs.walrus_parse.walrus_module.walrus_types.Parsing.{Parsed, added, known_ids, merged, parsed, parsed_group, unparsed}
 use Rattle.walrus_parsed_items.specs.walrus_parse.walrus_module.walrus_types.Table.{Adds, Merges, Table, equal_type, next_id}
@@ -43,6 +44,7 @@ use Rattle.walrus_parsed_items.specs.walrus_parse.walrus_item_names.Gives.{Gives
 use Rattle.walrus_parsed_items.specs.walrus_parse.walrus_item_names.Holder.{Holder}
 use Rattle.walrus_parsed_items.specs.walrus_parse.walrus_item_names.Names.{bare_function, data_called, element_called, function_called, global_called, item_name, local_called, memory_called, name_at, table_called, tag_called, type_called}
 use Rattle.walrus_parsed_items.specs.walrus_parse.walrus_item_names.Synthetic.{args_of, body_args, each_below, function_names, synthetic}
+use Rattle.walrus_parsed_items.specs.walrus_parse.walrus_file_bodies.walrus_items_into.walrus_module_env.Env.{tag_type_at}
 use Rattle.walrus_parsed_items.specs.walrus_parse.walrus_file_bodies.walrus_items_into.walrus_payloads_into.Numbered.{locals_in}
 use Rattle.walrus_parsed_items.proofs.SlotLemmas.{each_at}
 use Rattle.walrus_parsed_meaning.specs.Means.{HasNames}
@@ -124,13 +126,13 @@ if_bare (Some ps) None was ty t v f h = subst AreBare (sym f.1) h
 if_bare None (Some rs) was ty t v f h = subst AreBare (sym f.1) h
 if_bare None None was ty t v f h = subst AreBare (sym f.1) h
 
-type_bare : (x : Option Handler) (was ty : InstrSeqType) (t v : Table) → GivesType x was t ty v → AreBare t → AreBare v
-type_bare None was ty t v g h = subst AreBare (sym g.1) h
-type_bare (Some x) was ty t v g h = if_bare (caught t x.tag_type) (block_results t x.block) was ty t v g h
+at_bare : (k : ℕ) (x : Option Handler) (b c : List Seq) (t v : Table) → GivesAt k x b t c v → AreBare t → AreBare v
+at_bare k None b c t v g h = subst AreBare (sym g.1) h
+at_bare k (Some x) b c t v (y, found, ty, g, is) h = if_bare (caught t x.tag_type) (block_results t x.block) y.ty ty t v g h
 
-gives_bare : (hs : List (Option Handler)) (n : ℕ) (b c : List Seq) (t v : Table) → Gives hs n b t c v → AreBare t → AreBare v
-gives_bare hs zero b c t v g h = subst AreBare (sym g.1) h
-gives_bare hs (suc n) b c t v (mid, u, before, x, at, one) h = type_bare x one.0.ty one.2 u v one.3 (gives_bare hs n b mid t u before h)
+gives_bare : (told : ℕ → Option Handler) (ks : List ℕ) (b c : List Seq) (t v : Table) → Gives told ks b t c v → AreBare t → AreBare v
+gives_bare told [] b c t v g h = subst AreBare (sym g.1) h
+gives_bare told (k ∷ ks) b c t v (mid, u, one, rest) h = gives_bare told ks mid c u v rest (at_bare k (told k) b mid t u one h)
 
 -- ---- functions and locals
 
@@ -162,7 +164,8 @@ pub record NoNames (s : State) : Type 0 where
 module _ (file : FileEnv) (features : WasmFeatures) where
   step_bare : (b : FunctionBody) (old new : State) → IsStep file features b old new → NoNames old → NoNames new
   step_bare b old new s h = record {
-    types = gives_bare s.handled.handlers (length s.handled.handlers) _ _ s.mid new.types s.handled.given (merges_bare (entry_kind s.results) s.entry old.types s.mid s.entered h.types);
+    types = gives_bare (told_by (tag_type_at s.handled.env.tags.now) s.handled.own (tree_ids s.handled.tree)) (tree_ids s.handled.tree) (map seq_of s.handled.own) (contents s.body.builder.builder) s.mid new.types s.handled.given
+        (merges_bare (entry_kind s.results) s.entry old.types s.mid s.entered h.types);
     functions = subst (λ (a : Arena Function). Each IsPlain a.slots) (sym s.given)
         (each_set IsPlain old.functions.slots b.number (record s.item { kind = kinds.Local s.body }) h.functions (each_at IsPlain old.functions.slots b.number s.item h.functions s.was));
     locals = subst (AllByRecursion IsBareLocal) (sym s.left.added)

@@ -32,7 +32,8 @@ use Rattle.walrus_handler_types.specs.walrus_body_steps.wasm_normal_form.Normal.
 use Rattle.walrus_parsed_items.specs.walrus_parse.walrus_module.Parts.{Module, parts}
 use Rattle.walrus_parsed_items.specs.walrus_parse.walrus_module.declared.module.Module.{Module as Whole}
 use Rattle.walrus_parsed_items.specs.walrus_parse.walrus_module.walrus_types.Parsing.{Parsed, parsed, unparsed}
-use Rattle.walrus_parsed_groups.specs.Files.{AreLacking, bodies_handle, sent}
+use Rattle.walrus_parsed_groups.specs.Added.{added}
+use Rattle.walrus_parsed_groups.specs.Files.{bodies_handle, sent}
 use Rattle.walrus_parsed_items.specs.walrus_into_laws.Meaning.{OthersStay, own_custom}
 use Rattle.walrus_parsed_items.specs.walrus_parse.Named.{all_names}
 use Rattle.walrus_parsed_items.specs.walrus_parse.Parsed.{IsReadAs, read_features}
@@ -99,16 +100,17 @@ bodies_of file = flat_map function_bodies file.functions
 abbrev pub types_in : grammar.Module → Parsed
 types_in file = parsed file.groups (unparsed no_types)
 
+-- the types that the handlers of its bodies have and the file hasn't, in the order of the text, each once; found says which id each index names
+abbrev pub handler_kinds : Ids → grammar.Module → List Kind
+handler_kinds found file = added (types_in file).table (map (sent (at found.types)) (bodies_handle file (bodies_of file)))
+
 -- a module in memory that was read from a file of this module; found says which id each index names
 pub record MeansFile {B : Type 0} (config : ModuleConfig) (file : grammar.Module) (m : Whole B) (found : Ids) : Type 0 where
   -- the id of a type's index is that of what the type stands for, and any other index is its own id, but for those of locals
   pub types : found.types ≡ (types_in file).ids
   pub others : OthersStay (look_of (record found { locals = λ function. [] }))
-  -- the types that the handlers of its bodies have and the file hasn't, each once
-  pub more : List Kind
-  pub lacking : AreLacking (types_in file).table (map (sent (at found.types)) (bodies_handle file (bodies_of file))) more
-  -- it means the file's module, so renamed, with these types behind
-  pub meant : means (parts m) ≡ module_meant found (picks (read_features config) file) file more
+  -- it means the file's module, so renamed, with the types of handlers behind
+  pub meant : means (parts m) ≡ module_meant found (picks (read_features config) file) file (handler_kinds found file)
   pub locals : (n : ℕ) (f : grammar.Function) (x : grammar.Body) → slice_get file.functions n ≡ Some (Some f) → f.origin ≡ grammar.Own x
       → HasLocals (parts m) found (picks (read_features config) file) n (param_count file f.ty) x
   -- it is linked, and the file's module meets the rules; sizes with addresses of 32 bits are below 2^32

@@ -6,7 +6,7 @@ use walrus_function_types::laws::{found_types_stay, tables_grow_on};
 use walrus_parsed_bodies::file_bodies::items_into::laws::filled_functions_stand;
 use walrus_parsed_bodies::file_bodies::laws::bodies_read_files;
 use walrus_parsed_bodies::laws::bodies_of_read_modules_mean_theirs;
-use walrus_parsed_groups::laws::{read_modules_add_lacking, read_modules_have_groups};
+use walrus_parsed_groups::laws::{read_modules_have_groups, read_modules_have_handlers};
 use walrus_parsed_items::into_laws::types_into::laws::{new_types_stand, types_name_below};
 use walrus_parsed_items::into_laws::{customs_mean, ordered_stay};
 use walrus_parsed_items::laws::read_modules_have_items;
@@ -16,7 +16,7 @@ use wasm_ruled_modules::laws::read_modules_are_ruled;
 
 /// A module that was read means the module that its bytes read as: the same items, each index the id of what it names, bodies in their
 /// normal forms with the block types that are picked, single types merged with equal earlier ones, and behind these the types of handlers
-/// that the file hasn't. Its functions use the locals of these normal forms, in their order; its custom sections are the file's, but for
+/// that the file hasn't, in the order of the text. Its functions use the locals of these normal forms, in their order; its custom sections are the file's, but for
 /// those whose names and producers it has; its producers name this tool, and what has names has the last that it was given. It is linked,
 /// and the file's module meets the rules.
 pub fn modules_that_are_read_mean_their_files<B>()
@@ -26,7 +26,7 @@ pub fn modules_that_are_read_mean_their_files<B>()
     bodies_of_read_modules_mean_theirs::<B>();
     bodies_of_read_modules_have_their_locals::<B>();
     read_modules_have_groups::<B>();
-    read_modules_add_lacking::<B>();
+    read_modules_have_handlers::<B>();
     modules_that_are_read_are_linked::<B>();
     read_modules_are_ruled();
     customs_mean::<B>();

@@ -1,6 +1,5 @@
-use Rattle.std.proofs.Common.{◌≡◌, ◌∙◌, ℕ, Bool, true, false, List, Option, length, sym, ap, subst, arith}
+use Rattle.std.proofs.Common.{◌≡◌, ◌∙◌, ℕ, Bool, true, false, sym, subst}
 use Rattle.std.specs.Prelude.{MatchBool}
-use Rattle.walrus_handler_types.specs.walrus_handlers.walrus_handler_laws.declared.handler.Handler.{Handler}
 use Rattle.walrus_handler_types.specs.walrus_tree.Trees.{IsTree}
 use Rattle.walrus_handler_types.specs.walrus_tree.walrus_builder.Functions.{seqs_of}
 use Rattle.walrus_handler_types.specs.walrus_tree.walrus_builder.declared.function.FunctionBuilder.{FunctionBuilder}
@@ -12,13 +11,6 @@ checked false X e h = absurd cc
 
 pub give_types-requires : goal.give_types-requires
 give_types-requires c =
-    let same = ap (λ (l : List (Option Handler)). length l) c.as_slice.ensures.value in
     let found = checked c.in_ok-check_tree.field-0 _ c.if-not-branch.false c.in_ok-check_tree.ensures in
     let entry = subst (λ (k : ℕ). IsTree (seqs_of c.builder.result.now) k) c.entry_block.ensures found in
-    let tree = subst (λ (b : FunctionBuilder). IsTree (seqs_of b) 0) (c.builder.ensures ∙ sym c.builder-2.ensures) entry in
-    let many = (c.in_ok-told.ensures.told tree).many in
-    let ids = c.in_ok-told.ensures.ids in
-    record {
-      ids = omega (arith, same, ids);
-      many = same ∙ many ∙ ap (λ (b : FunctionBuilder). length (seqs_of b)) (c.builder-2.ensures ∙ sym c.builder_mut.ensures.value);
-    }
+    subst (λ (b : FunctionBuilder). IsTree (seqs_of b) 0) (c.builder.ensures ∙ sym c.builder_mut.ensures.value) entry

@@ -1,25 +1,29 @@
-use Rattle.std.proofs.Common.{inl, inr, length, refl, ⊎_elim}
+use Rattle.std.proofs.Common.{inl, inr, length, refl, take, ⊎_elim}
 use Rattle.std.proofs.lemmas.Result.{err_from_is_err_and}
 use Rattle.walrus_index_maps.specs.Views.{ids}
 use Rattle.walrus_handler_types.proofs.Growing.{given_types_grow}
+use Rattle.walrus_handler_types.specs.Giving.{listed}
+use Rattle.walrus_handler_types.specs.walrus_handler_laws.Handlers.{tree_ids}
 use Rattle.walrus_body_parser.specs.walrus_body_stack.walrus_builder.Built.{contents}
 use Rattle.walrus_module_env.specs.Env.{tag_type_at}
-use Rattle.walrus_module_bodies.proofs.ReadingLemmas.{gives_handlers, handled_read, many_handlers}
+use Rattle.walrus_module_bodies.proofs.ReadingLemmas.{gives_handlers, handled_read, lent_tree}
 use Rattle.walrus_module_bodies.proofs.handled.read_handled.Goals as goal
 
-pub give_types-requires-clause-many : goal.give_types-requires-clause-many
-give_types-requires-clause-many c =
-    many_handlers (tag_type_at c.beside-env.result.tags.now) c.in_ok-read.read.builder c.builder.result.now c.builder_mut.result.now c.builder.ensures c.builder_mut.ensures.value c.in_ok-read.ensures.tree
-    c.in_ok-told.told.items c.as_slice.result.now c.as_slice.ensures.value c.in_ok-told.ensures.told
+pub give_types-requires : goal.give_types-requires
+give_types-requires c = lent_tree c.in_ok-read.read.builder c.builder_mut.result.now c.builder_mut.ensures.value c.in_ok-read.ensures.tree
 
 pub returns-in_err-give_types-clause-grown : goal.returns-in_err-give_types-clause-grown
 returns-in_err-give_types-clause-grown c =
-    let r = c.in_err-give_types.ensures.refused in
-    given_types_grow c.as_slice.result.now r.0 (contents c.builder_mut.result.now.builder) (contents c.give_types.new.body.builder) c.args.types.now c.give_types.new.types r.2
+    let z = c.builder_mut.result.now in
+    let t = lent_tree c.in_ok-read.read.builder z c.builder_mut.ensures.value c.in_ok-read.ensures.tree in
+    let r = c.in_err-give_types.ensures.refused t in
+    given_types_grow (listed c.as_slice.result.now) (take r.0 (tree_ids t)) (contents z.builder) (contents c.give_types.new.body.builder) c.args.types.now c.give_types.new.types r.1
 
 pub returns-clause-grown : goal.returns-clause-grown
 returns-clause-grown c =
-    given_types_grow c.as_slice.result.now (length c.as_slice.result.now) (contents c.builder_mut.result.now.builder) (contents c.give_types.new.body.builder) c.args.types.now c.give_types.new.types c.in_ok-give_types.ensures.given
+    let z = c.builder_mut.result.now in
+    let t = lent_tree c.in_ok-read.read.builder z c.builder_mut.ensures.value c.in_ok-read.ensures.tree in
+    given_types_grow (listed c.as_slice.result.now) (tree_ids t) (contents z.builder) (contents c.give_types.new.body.builder) c.args.types.now c.give_types.new.types (c.in_ok-give_types.ensures.given t)
 
 pub returns-clause-handled : goal.returns-clause-handled
 returns-clause-handled c =

@@ -1,4 +1,4 @@
--- Lemmas: the types that were added for the handlers of bodies are those that their file says.
+-- Lemmas: what the handlers of bodies take and give is what their file says, in its order.
 use Rattle.std.proofs.Common.{◌≡◌, ◌∙◌, ◌⊎◌, inl, inr, ℕ, zero, suc, ◌<◌, List, [], ◌∷◌, ◌++◌, length, map, Ok, Option, Some, None, refl, sym, ap, subst, arith}
 use Rattle.std.specs.Prelude.{slice_get, slice_index_or}
 use Rattle.std.specs.List.{flat_map}
@@ -44,44 +44,30 @@ use Rattle.walrus_handler_laws.specs.walrus_body_steps.wasm_body_grammar.Rules.{
 use Rattle.walrus_handler_laws.specs.walrus_body_steps.wasm_grammar.Modules as grammar
 use Rattle.walrus_handler_laws.specs.walrus_body_steps.wasm_grammar.States.{types_of}
 use Rattle.walrus_handler_laws.specs.walrus_body_steps.wasm_normal_form.Normal.{normal}
-use Rattle.walrus_handler_types.proofs.Growing.{given_types_grow}
-use Rattle.walrus_handler_types.specs.walrus_handlers.Gathering.{AreHandlers}
+use Rattle.walrus_handler_types.proofs.Growing.{tree_types_grow}
+use Rattle.walrus_handler_types.specs.Giving.{tree_handlers}
 use Rattle.walrus_operator_laws.specs.Laws.{OperatorComesBack}
 use Rattle.walrus_operator_laws.specs.walrus_pairing.walrus_index_maps.Maps.{Ids}
 use Rattle.walrus_operator_laws.specs.walrus_pairing.wasm_immediates.wasm_features.declared.WasmFeatures.{WasmFeatures}
 use Rattle.walrus_parse.specs.Parsed.{read_features}
 use Rattle.walrus_parse.specs.walrus_item_names.Holder.{Holder}
 use Rattle.walrus_parse.specs.walrus_item_names.Names.{bare_type}
-use Rattle.walrus_parse.specs.walrus_module.walrus_builder.Built.{seq_of}
+use Rattle.walrus_parse.specs.walrus_module.walrus_builder.Built.{contents, seq_of}
 use Rattle.walrus_parse.specs.walrus_module.walrus_module_items.declared.tag.Tag.{Tag}
 use Rattle.walrus_parse.specs.walrus_module.walrus_types.Table.{Table}
 use Rattle.walrus_parsed_groups.specs.Added.{Signature}
 use Rattle.walrus_parsed_groups.specs.Catches.{catches}
-use Rattle.walrus_parsed_groups.specs.Files.{In, ReadModulesAddLacking, bodies_handle, body_handles, sent}
+use Rattle.walrus_parsed_groups.specs.Files.{ReadModulesHaveHandlers, bodies_handle, body_handles, sent}
 use Rattle.walrus_parsed_groups.specs.Groups.{handlers_in, handlers_of}
 use Rattle.walrus_parsed_groups.specs.Handlers.{signatures}
 use Rattle.walrus_parsed_groups.proofs.CatchLemmas.{body_catches, seen_signatures}
 use Rattle.walrus_parsed_groups.proofs.FileLemmas.{all_signatures}
 use Rattle.walrus_parsed_groups.proofs.FitLemmas.{AreSpelled, body_fits, body_tree}
 use Rattle.walrus_parsed_groups.proofs.GivenLemmas.{signatures_stay}
-use Rattle.walrus_parsed_groups.proofs.HandledLemmas.{listed_told, some_is, told_listed}
-use Rattle.walrus_parsed_groups.proofs.NamedLemmas.{SeesFile, body_sent}
-use Rattle.walrus_parsed_groups.proofs.SetLemmas.{added_lack, in_either, in_left, in_right}
+use Rattle.walrus_parsed_groups.proofs.NamedLemmas.{SeesFile, body_sent, some_is}
 use Rattle.walrus_parsed_groups.proofs.StepLemmas.{seen_types}
-use Rattle.walrus_parsed_groups.proofs.TextLemmas.{each_is, placed_there, seen_is}
+use Rattle.walrus_parsed_groups.proofs.TextLemmas.{each_is, mapped, placed_there, seen_is}
 use Rattle.walrus_parsed_groups.proofs.ToldLemmas.{each_seen}
-
--- ---- the same members
-
-pub record Same (xs ys : List Signature) : Type 0 where
-  pub to : (s : Signature) → In xs s → In ys s
-  pub back : (s : Signature) → In ys s → In xs s
-
-same_both : (xs ys us vs : List Signature) → Same xs us → Same ys vs → Same (xs ++ ys) (us ++ vs)
-same_both xs ys us vs h k = record {
-  to = λ s i. elim (in_either xs ys s i) as (λ _. In (us ++ vs) s) [ inl a ↦ in_left us vs s (h.to s a) | inr b ↦ in_right us vs s (k.to s b) ];
-  back = λ s i. elim (in_either us vs s i) as (λ _. In (xs ++ ys) s) [ inl a ↦ in_left xs ys s (h.back s a) | inr b ↦ in_right xs ys s (k.back s b) ];
-}
 
 -- ---- tags
 
@@ -134,7 +120,7 @@ module _ (back : OperatorComesBack) (spelled : AreSpelled) (tell : TreesTell) (o
     (count : ℕ → ℕ) (i0 : Ids) (named : TagsNamed a.filled i0 file.tags.now) (later : Table) where
   step_same : (b : FunctionBody) (bs : List FunctionBody) (old new : State) → Small b.chunk.bytes.now → Waits file features a count old (b ∷ bs) → (s : IsStep file features b old new) → Grows new.types later → HasLocals i0 new.ids
       → s.numbered.types ≡ i0.types → (x : grammar.Body) → ReadsBody a (count b.number) b.chunk.place b.chunk.bytes.now x
-      → Same (flat_map (signatures later) s.handled.handlers) (map (sent (at i0.types)) (body_handles (types_of a.filled) a.filled.tags x))
+      → flat_map (signatures later) (tree_handlers (tag_type_at s.handled.env.tags.now) s.handled.own s.handled.tree) ≡ map (sent (at i0.types)) (body_handles (types_of a.filled) a.filled.tags x)
   step_same b bs old new small w s grows ids mid x reads =
       let g = s.handled in
       let e = g.env in
@@ -145,7 +131,7 @@ module _ (back : OperatorComesBack) (spelled : AreSpelled) (tell : TreesTell) (o
       let read = subst (λ (n : ℕ). (body a (length s.params) n).parse b.chunk.bytes.now ≡ Ok parts) (placed_there file features b e.code_start g.env_is.begins) r.read in
       let found = (body a (length s.params) b.chunk.place).found b.chunk.bytes.now parts small read in
       let fits = body_fits spelled a (length s.params) b.chunk.place b.chunk.bytes.now parts same small found.0 in
-      let first : Grows s.mid later = on s.mid new.types later (given_types_grow g.handlers (length g.handlers) _ _ s.mid new.types g.given) grows in
+      let first : Grows s.mid later = on s.mid new.types later (tree_types_grow (tag_type_at e.tags.now) g.own g.tree s.mid (contents s.body.builder.builder) new.types g.given) grows in
       let tags : r.sight.tag_type ≡ tag_type_at e.tags.now = ap (λ (z : Sight). z.tag_type) r.aside in
       let told : ℕ → Option Handler = told_by r.sight.tag_type g.own js in
       let stands = r.stands same (λ ty. refl) in
@@ -176,21 +162,17 @@ module _ (back : OperatorComesBack) (spelled : AreSpelled) (tell : TreesTell) (o
       let in_words : flat_map (λ j. signatures later (told j)) js ≡ map (sent (at i0.types)) (body_handles (types_of a.filled) a.filled.tags x) =
       sym in_order ∙ body_sent (types_of a.filled) a.filled.tags i0.types s.mid e.own_types r.sight sees (map seq_of g.own) (normal same (body_tree parts)) stands
       ∙ ap (λ (y : grammar.Body). map (sent (at i0.types)) (body_handles (types_of a.filled) a.filled.tags y)) is in
-      let are = subst (λ (f : ℕ → Option ℕ). AreHandlers f g.own js g.handlers) (sym tags) g.gathered in
-      subst (Same (flat_map (signatures later) g.handlers)) in_words
-      (record {
-        to = listed_told r.sight.tag_type g.own g.tree g.handlers are own_tells (signatures later) refl;
-        back = told_listed r.sight.tag_type g.own g.tree g.handlers are own_tells (signatures later) refl;
-      })
+      ap (λ (f : ℕ → Option ℕ). flat_map (signatures later) (tree_handlers f g.own g.tree)) (sym tags) ∙ sym (mapped (signatures later) told js) ∙ in_words
 
   pub steps_same : (start end : ℕ) (bs : List FunctionBody) (xs : List grammar.Body) (old new : State) → ChunksFit start end (map (λ (b : FunctionBody). chunk_of b.chunk) bs) → Waits file features a count old bs
       → ReadsCodes a (map (coded_by count) bs) xs → (steps : Steps file features bs old new) → Grows new.types later → HasLocals i0 old.ids
-      → Same (flat_map (signatures later) (handlers_in file features bs old new steps)) (map (sent (at i0.types)) (bodies_handle a.filled xs))
-  steps_same start end [] [] old new fit w reads steps grows has = record { to = λ s h. h; back = λ s h. h }
+      → flat_map (signatures later) (handlers_in file features bs old new steps) ≡ map (sent (at i0.types)) (bodies_handle a.filled xs)
+  steps_same start end [] [] old new fit w reads steps grows has = refl
   steps_same start end [] (x ∷ xs) old new fit w reads steps grows has = absurd reads
   steps_same start end (b ∷ bs) [] old new fit w reads steps grows has = absurd reads
   steps_same start end (b ∷ bs) (x ∷ xs) old new fit w reads (mid, step, rest) grows has =
-      let ss = flat_map (signatures later) step.handled.handlers in
+      let g = step.handled in
+      let hs : List (Option Handler) = tree_handlers (tag_type_at g.env.tags.now) g.own g.tree in
       let others = handlers_in file features bs mid new rest in
       let own : List Signature = body_handles (types_of a.filled) a.filled.tags x in
       let more : List Signature = bodies_handle a.filled xs in
@@ -198,14 +180,15 @@ module _ (back : OperatorComesBack) (spelled : AreSpelled) (tell : TreesTell) (o
       let types : step.numbered.types ≡ i0.types = ap (λ (z : Ids). z.types) step.arguments.named ∙ ap (λ (z : Ids). z.types) has in
       let first = step_same b bs old mid fit.0.0 w step (on mid.types new.types later (steps_grow on file features bs mid new rest) grows) has_mid types x reads.0 in
       let later_ones = steps_same start end bs xs mid new fit.1 (step_on stay on enter file features a count b bs old mid w step) reads.1 rest grows has_mid in
-      subst (λ (l : List Signature). Same l (map (sent (at i0.types)) (own ++ more))) (sym (flat_map-append (signatures later) step.handled.handlers others))
-      (subst (Same (ss ++ flat_map (signatures later) others)) (sym (map-append (sent (at i0.types)) own more))
-      (same_both ss (flat_map (signatures later) others) (map (sent (at i0.types)) own) (map (sent (at i0.types)) more) first later_ones))
+      flat_map-append (signatures later) hs others
+      ∙ ap (λ (l : List Signature). l ++ flat_map (signatures later) others) first
+      ∙ ap (λ (l : List Signature). map (sent (at i0.types)) own ++ l) later_ones
+      ∙ sym (map-append (sent (at i0.types)) own more)
 
 -- ---- the whole
 
-pub add_lacking : {B : Type 0} → OperatorComesBack → AreSpelled → TreesTell → BodiesReadOnce → FilledFunctionsStand B → FilledModulesAreFiled B → BodiesReadFiles B → EntryTypesGrow → FoundTypesStay → TablesGrowOn → ReadModulesAddLacking B
-add_lacking {B} back spelled tell once stands filed bodies enter stay on config bytes m found small is =
+pub have_handlers : {B : Type 0} → OperatorComesBack → AreSpelled → TreesTell → BodiesReadOnce → FilledFunctionsStand B → FilledModulesAreFiled B → BodiesReadFiles B → EntryTypesGrow → FoundTypesStay → TablesGrowOn → ReadModulesHaveHandlers B
+have_handlers {B} back spelled tell once stands filed bodies enter stay on config bytes m found small is =
     let h = is.1 in
     let s = h.sections in
     let features = read_features config in
@@ -224,6 +207,4 @@ add_lacking {B} back spelled tell once stands filed bodies enter stay on config 
     subst (TagsNamed a.filled h.numbers) (sym h.is_file.tags_are) (tags_named a.filled h.numbers s.tags.items h.filled.tags (ap (λ (j : Ids). j.tags) h.are_filled.numbers) refl h.are_filled.tags) in
     let ended = steps_same back spelled tell once stay on enter h.file features a (count_in s) h.numbers named final s.code_start (length bytes) bs h.bodies old h.bodied fit waits reads h.bodies_are (grows_none final) refl in
     let bare : map (option_map bare_type) m.types.types ≡ map (option_map bare_type) final.types = ap (λ (x : Holder). x.types.types) h.names.same in
-    let mine = subst (λ (l : List Signature). Same l (map (sent (at h.numbers.types)) (bodies_handle a.filled h.bodies))) (sym (all_signatures m.types final bare hs)) ended in
-    let all = subst (λ (l : List ℕ). Same (flat_map (signatures m.types) hs) (map (sent (at l)) (bodies_handle a.filled h.bodies))) types mine in
-    added_lack (types_in s).table (flat_map (signatures m.types) hs) (map (sent (at found.types)) (bodies_handle a.filled h.bodies)) all.to all.back
+    all_signatures m.types final bare hs ∙ ended ∙ ap (λ (l : List ℕ). map (sent (at l)) (bodies_handle a.filled h.bodies)) types

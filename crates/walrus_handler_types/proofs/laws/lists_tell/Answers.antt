@@ -1,5 +1,0 @@
-use Rattle.walrus_handler_types.proofs.Growing as growing
-use Rattle.walrus_handler_types.proofs.laws.lists_tell.Goals as goal
-
-pub returns : goal.returns
-returns c = growing.lists_tell
