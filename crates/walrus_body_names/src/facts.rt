@@ -13,7 +13,7 @@ use crate::names::{local_of, named_segments, segment_of};
 use std::alloc::{AllocError, Global};
 use walrus_arena::{DataId, LocalId};
 use walrus_body_writer::body_env::BodyError;
-use walrus_body_writer::{Closer, TextVisitor, visit_text};
+use walrus_body_writer::{Closer, TextVisitor, visit_once};
 use walrus_builder::FunctionBuilder;
 use walrus_instr::{Instr, InstrLocId};
 
@@ -134,7 +134,7 @@ pub fn emit_facts(alloc: Global, body: &FunctionBuilder) -> Result<FunctionFacts
         found: Vec::new(alloc),
         hints,
     };
-    visit_text(alloc, &mut facts, body)?;
+    visit_once(alloc, &mut facts, body)?;
     let Facts {
         size,
         names_segment: uses_data_segments,

@@ -10,7 +10,7 @@ ghost use Rattle.walrus_body_names.specs.Names.{local_in, segment_in, text_names
 use std::alloc::{AllocError, Global};
 use walrus_arena::{DataId, LocalId};
 use walrus_body_writer::body_env::BodyError;
-use walrus_body_writer::{Closer, TextVisitor, visit_text};
+use walrus_body_writer::{Closer, TextVisitor, visit_once};
 use walrus_builder::FunctionBuilder;
 use walrus_instr::{Instr, InstrLocId};
 
@@ -104,7 +104,7 @@ pub fn named_segments(alloc: Global, body: &FunctionBuilder) -> Result<Vec<DataI
     let mut segments = Segments {
         found: Vec::new(alloc),
     };
-    visit_text(alloc, &mut segments, body)?;
+    visit_once(alloc, &mut segments, body)?;
     let Segments { found } = segments;
     Ok(found)
 }
@@ -122,7 +122,7 @@ pub fn named_locals(alloc: Global, body: &FunctionBuilder) -> Result<Vec<LocalId
     let mut locals = Locals {
         found: Vec::new(alloc),
     };
-    visit_text(alloc, &mut locals, body)?;
+    visit_once(alloc, &mut locals, body)?;
     let Locals { found } = locals;
     Ok(found)
 }
