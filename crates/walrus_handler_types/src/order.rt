@@ -55,10 +55,7 @@ fn push_children(held: &mut Vec<InstrSeqId>, instr: &Instr) -> Result<(), AllocE
 }
 
 // The sequences that these instructions hold, in their order.
-fn held_by(
-    alloc: Global,
-    instrs: &[(Instr, InstrLocId)],
-) -> Result<Vec<InstrSeqId>, AllocError>
+fn held_by(alloc: Global, instrs: &[(Instr, InstrLocId)]) -> Result<Vec<InstrSeqId>, AllocError>
     ensures { IfOk result (λ held. held.items ≡ children_in instrs.now) }
 {
     let mut held = Vec::new(alloc);
@@ -87,10 +84,7 @@ fn push_held(
 /// # Errors
 ///
 /// Want of memory.
-pub(crate) fn tree_order(
-    alloc: Global,
-    seqs: &[InstrSeq],
-) -> Result<Vec<InstrSeqId>, AllocError>
+pub(crate) fn tree_order(alloc: Global, seqs: &[InstrSeq]) -> Result<Vec<InstrSeqId>, AllocError>
     requires { IsTree seqs.now 0 }
     ensures { IfOk result (λ order. (t : IsTree seqs.now 0) → order.items ≡ tree_ids t) }
 {

@@ -41,7 +41,7 @@ returns-clause-given c =
     let types = c.give_each.new.types in
     on_ok (Gives (listed hs) c.as_slice.result.now from c.args.types.now body types) ((t : IsTree b 0) → Gives (listed hs) (tree_ids t) from c.args.types.now body types) c.give_each.result
     (λ given t. subst (λ (ks : List ℕ). Gives (listed hs) ks from c.args.types.now body types)
-        (ordered b c.seqs.result.now c.in_ok-order.order.items c.as_slice.result.now c.seqs.ensures c.as_slice.ensures.value c.in_ok-order.ensures t) given)
+    (ordered b c.seqs.result.now c.in_ok-order.order.items c.as_slice.result.now c.seqs.ensures c.as_slice.ensures.value c.in_ok-order.ensures t) given)
     c.give_each.ensures.given
 
 pub returns-clause-refused : goal.returns-clause-refused
