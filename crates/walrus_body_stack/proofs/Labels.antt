@@ -12,7 +12,6 @@ use Rattle.walrus_body_nesting.specs.declared.frames.Opener.TheVariants as opene
 use Rattle.walrus_body_nesting.specs.declared.frames.Reach.TheVariants.{Live}
 use Rattle.walrus_body_nesting.specs.Stands.{Part}
 use Rattle.walrus_body_nesting.specs.Opens.{ids_of, begun, type_at}
-use Rattle.walrus_body_stack.specs.declared.frame.Frame.{Frame}
 use Rattle.walrus_body_stack.specs.declared.stack.Stack.{Stack}
 use Rattle.walrus_body_stack.specs.declared.frame.Sort.TheVariants as sorts
 use Rattle.walrus_body_stack.specs.Held.{Held, Nested, bare, seqs_of, seqs_in}

@@ -1,14 +1,13 @@
 -- Sequences in one list: how it changes.
-use Rattle.std.proofs.Common.{ℕ, zero, suc, ◌-◌, ◌<◌, ◌≤◌, ◌≡◌, Bool, true, false, List, [], ◌∷◌, ◌++◌, length, take, drop, Option, Some, None, refl, sym, ap, subst, arith, ◌∙◌}
+use Rattle.std.proofs.Common.{ℕ, zero, suc, ◌-◌, ◌≤◌, ◌≡◌, Bool, true, false, List, [], ◌∷◌, ◌++◌, length, take, drop, refl, sym, ap, subst, arith, ◌∙◌}
 use Rattle.std.specs.Prelude.{slice_get}
 use Rattle.std.specs.Option.{option_map}
-use Rattle.std.specs.Global.{Vec}
 use Rattle.std.proofs.lemmas.List.{drop-append-le, take-append-le, take-take, take_all, drop_all, length-append, length-take-le}
 use Rattle.walrus_instr.specs.declared.instr.Instr.{Instr}
 use Rattle.walrus_instr.specs.declared.seq.InstrLocId.{InstrLocId}
 use Rattle.walrus_body_stack.specs.declared.frame.Frame.{Frame}
 use Rattle.walrus_body_stack.specs.declared.nest.Slot.{Slot}
-use Rattle.walrus_body_stack.specs.Held.{Held, Nested, added, bare, emptied, entered, seqs_of, seqs_in, IsLeft}
+use Rattle.walrus_body_stack.specs.Held.{Nested, added, bare, emptied, entered, seqs_of, seqs_in}
 use Rattle.walrus_body_stack.specs.Slots.{Instrs, Lists, Fits, further, helds, lower, nested_in}
 
 abbrev slot : ℕ → Frame → Bool → Slot

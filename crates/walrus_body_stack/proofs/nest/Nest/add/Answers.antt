@@ -1,7 +1,7 @@
 use Rattle.std.proofs.Common.{◌≡◌, [], ◌∷◌, ◌++◌, ◌∙◌, ap}
 use Rattle.walrus_instr.specs.declared.instr.Instr.{Instr}
 use Rattle.walrus_instr.specs.declared.seq.InstrLocId.{InstrLocId}
-use Rattle.walrus_body_stack.specs.Held.{Nested, added}
+use Rattle.walrus_body_stack.specs.Held.{added}
 use Rattle.walrus_body_stack.specs.Slots.{Instrs}
 use Rattle.walrus_body_stack.proofs.Nests.{nested_added, fits_added}
 use Rattle.walrus_body_stack.proofs.nest.Nest.add.Goals as goal

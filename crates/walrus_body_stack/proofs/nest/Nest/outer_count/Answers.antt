@@ -1,4 +1,4 @@
-use Rattle.std.proofs.Common.{◌≡◌, ◌∙◌, ap, sym, length}
+use Rattle.std.proofs.Common.{◌∙◌, ap, sym, length}
 use Rattle.walrus_body_stack.specs.Held.{Nested}
 use Rattle.walrus_body_stack.specs.Slots.{lower, further}
 use Rattle.walrus_body_stack.proofs.Nests.{held_count}
