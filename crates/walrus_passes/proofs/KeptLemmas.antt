@@ -1,18 +1,19 @@
 -- What is kept.
-use Rattle.std.proofs.Common.{◌≡◌, ◌∙◌, ◌⊎◌, ◌<◌, ℕ, Bool, true, false, List, Option, Some, None, length, sym, ap, subst, inl, inr, arith}
-use Rattle.std.specs.Prelude.{◌↔◌, Decides, MatchOption, IsSome}
+use Rattle.std.proofs.Common.{◌≡◌, ◌∙◌, ◌⊎◌, ◌<◌, ℕ, Bool, true, false, List, Option, Some, None, length, refl, sym, ap, subst, inl, inr, arith}
+use Rattle.std.specs.Prelude.{◌↔◌, Decides, MatchOption, IsSome, IsTrue}
 use Rattle.std.proofs.lemmas.List.{get_or_past}
 use Rattle.std.proofs.lemmas.Bool.{cases_lt, false≢true}
 use Rattle.wasm_formats.specs.declared.fault.Space.TheVariants as spaces
 use Rattle.walrus_arena.specs.Arena.{Arena, IsLive}
 use Rattle.walrus_used.specs.walrus_module.Parts.{Module}
 use Rattle.walrus_roots.specs.declared.item.Item.{Item}
-use Rattle.walrus_roots.specs.Items.{item}
-use Rattle.walrus_marks.specs.Marks.{State}
+use Rattle.walrus_roots.specs.Items.{item, space_number}
+use Rattle.walrus_marks.specs.Marks.{State, is_marked}
 use Rattle.walrus_used.specs.walrus_references.Kept.{IsReached, IsFirstMemory, IsSpared, Kept}
 use Rattle.walrus_used.specs.walrus_module.Items.{Lives}
 use Rattle.walrus_refusals.specs.Checks.{IsMet}
-use Rattle.walrus_passes.specs.Keeping.{SparesMemory}
+use Rattle.walrus_passes.specs.declared.kept.KeptItems.{KeptItems}
+use Rattle.walrus_passes.specs.Keeping.{IsHeld, SparesMemory}
 
 -- what lives was given out
 pub live_below : {T : Type 0} (a : Arena T) (id : ℕ) → IsLive a id → id < length a.slots
@@ -73,3 +74,16 @@ module _ (m : Module) (pushed : List Item) (s : State) (met : (x : Item) → IsM
   -- what is held is what is kept
   pub held_kept : (spared : Option ℕ) → MatchOption spared ((memory : ℕ) → SparesMemory m s memory → ⊥) (SparesMemory m s) → (x : Item) → (IsMet s x ⊎ MatchOption spared ⊥ (λ memory. x ≡ item spaces.Memory memory)) ↔ Kept m pushed x
   held_kept spared found x = (held_from spared found x, λ k. elim k as (λ _. IsMet s x ⊎ MatchOption spared ⊥ (λ memory. x ≡ item spaces.Memory memory)) [ inl r ↦ inl ((met x).1 r) | inr p ↦ inr (held_spared spared found x p) ])
+
+-- no type is the memory that is spared
+not_spared : (k : ℕ) (o : Option ℕ) → MatchOption o ⊥ (λ memory. item spaces.Type k ≡ item spaces.Memory memory) → ⊥
+not_spared k None h = h
+not_spared k (Some memory) h = (let same : 0 ≡ 3 = ap (λ (x : Item). space_number x.space) h in omega (arith, same))
+
+by_mark : (b : Bool) (Q : Type 0) → (Q → ⊥) → ((IsTrue b ⊎ Q → ⊥) → ⊥) → IsTrue b ⊎ Q
+by_mark true Q none twice = inl refl
+by_mark false Q none twice = absurd (twice (λ h. elim h as (λ _. ⊥) [ inl t ↦ false≢true t | inr q ↦ none q ]))
+
+-- a type is held or it isn't
+pub surely_held : (kept : KeptItems) (id : ℕ) → ((IsHeld kept (item spaces.Type id) → ⊥) → ⊥) → IsHeld kept (item spaces.Type id)
+surely_held kept id twice = by_mark (is_marked kept.marks.met.marks (item spaces.Type id)) (MatchOption kept.spared ⊥ (λ memory. item spaces.Type id ≡ item spaces.Memory memory)) (not_spared id kept.spared) twice

@@ -1,12 +1,8 @@
--- Dropping types.
-use Rattle.std.specs.Prelude.{◌≡◌, ℕ, true, Some, IsSome, Contains}
-use Rattle.wasm_formats.specs.declared.fault.Space.TheVariants as spaces
+-- Which types are dropped.
+use Rattle.std.specs.Prelude.{◌≡◌, ◌⊎◌, ◌↔◌, ℕ, true, List, Some, IsSome, Contains}
 use Rattle.walrus_items.specs.Items.{Group}
 use Rattle.walrus_types.specs.Table.{Table, group_at, HasMember}
-use Rattle.walrus_roots.specs.Items.{item}
 use Rattle.walrus_used.specs.walrus_module.Items.{written_type}
-use Rattle.walrus_passes.specs.declared.kept.KeptItems.{KeptItems}
-use Rattle.walrus_passes.specs.Keeping.{IsHeld}
 
 -- where a member of an explicit group stays, all stay
 abbrev pub AreClosed : (ℕ → Type 0) → Table → Type 0
@@ -16,6 +12,10 @@ AreClosed stays t = (place : ℕ) (group : Group) → group_at t place ≡ Some 
 abbrev pub IsInExplicit : Table → ℕ → Type 0
 IsInExplicit t id = (group : Group) × HasMember t id group × (group.explicit ≡ true)
 
--- the type lives, is no entry type and isn't kept
-abbrev pub IsNeedless : Table → KeptItems → ℕ → Type 0
-IsNeedless t kept id = IsSome (written_type t id) × (IsHeld kept (item spaces.Type id) → ⊥)
+-- the type doesn't stay: it is no entry type, or its group is explicit
+abbrev pub IsNeedless : (ℕ → Type 0) → Table → ℕ → Type 0
+IsNeedless stays t id = (stays id → ⊥) × (IsSome (written_type t id) ⊎ IsInExplicit t id)
+
+-- these are the types that don't stay
+abbrev pub AreNeedless : (ℕ → Type 0) → Table → List ℕ → Type 0
+AreNeedless stays t ids = (id : ℕ) → Contains ids id ↔ IsNeedless stays t id

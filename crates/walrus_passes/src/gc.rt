@@ -7,27 +7,30 @@ ghost use Rattle.walrus_refusals.specs.Sound.{IsRefused, IsSound};
 ghost use Rattle.walrus_arena.specs.Arena.{entries};
 ghost use Rattle.walrus_sections.specs.Sections.{pushed};
 ghost use Rattle.walrus_passes.specs.Asked.{IsRefusedAsked, WithPushed};
-ghost use Rattle.walrus_passes.specs.DroppedTypes.{AreClosed};
+ghost use Rattle.walrus_passes.specs.DroppedTypes.{AreClosed, AreNeedless};
 ghost use Rattle.walrus_passes.specs.Keeping.{IsHeld};
 ghost use Rattle.walrus_passes.specs.Part.{IsKeptPart, IsPart};
 
 use crate::drop::{drop_imports, drop_items};
 use crate::kept::{KeptItems, kept_items};
-use crate::types::drop_types;
+use crate::types::needless_types;
 use std::alloc::Global;
+use walrus_arena::TypeId;
 use walrus_errors::ModuleError;
 use walrus_roots::Item;
 use walrus_sections::CustomSection;
 use walrus_used::module::Module;
 use wasm_formats::Space;
 
-// Deletes the items that aren't kept, and each import whose item isn't. Takes no memory.
-fn drop_unkept<B>(input: &mut Module<B>, kept: &KeptItems)
-    requires { AreClosed (λ id. IsHeld kept.now (item spaces.Type id)) input.old.types }
+// Deletes the items that aren't kept, of which these are the types, and each import whose item isn't. Takes no memory.
+fn drop_unkept<B>(input: &mut Module<B>, kept: &KeptItems, types: &[TypeId])
+    requires closed { AreClosed (λ id. IsHeld kept.now (item spaces.Type id)) input.old.types }
+    requires listed { AreNeedless (λ id. IsHeld kept.now (item spaces.Type id)) input.old.types types.now }
     ensures part { IsPart (IsHeld kept.now) (parts input.old) (parts input.new) }
     ensures customs { input.new.customs ≡ input.old.customs }
 {
-    drop_types(&mut input.types, kept);
+    walrus_types::laws::types_are_grouped(&input.types);
+    input.types.delete_all(types);
     drop_items(&mut input.funcs, kept, Space::Function);
     drop_items(&mut input.tables, kept, Space::Table);
     drop_items(&mut input.memories, kept, Space::Memory);
@@ -76,6 +79,7 @@ pub fn run_from_roots<B>(
     ensures refused { IfErr result (IsRefused (parts input.old) pushed.now) }
 {
     let kept = kept_items(alloc, input, pushed)?;
-    drop_unkept(input, &kept);
+    let types = needless_types(alloc, &input.types, &kept)?;
+    drop_unkept(input, &kept, types.as_slice());
     Ok(())
 }

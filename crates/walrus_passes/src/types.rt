@@ -1,23 +1,24 @@
-//! Deleting types that aren't kept.
-ghost use Rattle.std.specs.Prelude.{◌≡◌, Decides};
+//! Which types aren't kept.
+ghost use Rattle.std.specs.Prelude.{◌≡◌, Decides, IfOk, IsSome};
 ghost use Rattle.wasm_formats.specs.declared.fault.Space.TheVariants as spaces;
 ghost use Rattle.walrus_roots.specs.Items.{item};
-ghost use Rattle.walrus_passes.specs.DroppedTypes.{AreClosed, IsInExplicit, IsNeedless};
+ghost use Rattle.walrus_used.specs.walrus_module.Items.{written_type};
+ghost use Rattle.walrus_passes.specs.DroppedTypes.{AreNeedless, IsInExplicit, IsNeedless};
 ghost use Rattle.walrus_passes.specs.Keeping.{IsHeld};
-ghost use Rattle.walrus_passes.specs.Part.{TypesRest, TypesRestAmong};
 
 use crate::kept::KeptItems;
+use std::alloc::{AllocError, Global};
 use walrus_arena::TypeId;
 use walrus_roots::Item;
 use walrus_types::ModuleTypes;
 use walrus_used::type_count;
 use wasm_formats::Space;
 
-// Whether the type lives, is no entry type and isn't kept.
-fn is_needless(types: &ModuleTypes, kept: &KeptItems, id: TypeId) -> bool
-    ensures { Decides result (IsNeedless types.now kept.now id) }
+// Whether the type lives and is no entry type.
+fn is_written(types: &ModuleTypes, id: TypeId) -> bool
+    ensures { Decides result (IsSome (written_type types.now id)) }
 {
-    !kept.has(Item::new(Space::Type, id)) && types.contains(id) && !types.get(id).is_entry()
+    types.contains(id) && !types.get(id).is_entry()
 }
 
 // Whether the type is in an explicit group.
@@ -31,30 +32,33 @@ fn is_in_explicit(types: &ModuleTypes, id: TypeId) -> bool
     }
 }
 
-// Deletes the type of this id, if it is needless, with all of its group if that is explicit.
-fn drop_type(types: &mut ModuleTypes, kept: &KeptItems, id: TypeId)
-    requires { AreClosed (λ k. IsHeld kept.now (item spaces.Type k)) types.old }
-    ensures { TypesRestAmong (λ k. k ≡ id) (λ k. IsHeld kept.now (item spaces.Type k)) types.old types.new }
+// Whether the type isn't kept, and is no entry type or in an explicit group.
+fn is_needless(types: &ModuleTypes, kept: &KeptItems, id: TypeId) -> bool
+    ensures { Decides result (IsNeedless (λ k. IsHeld kept.now (item spaces.Type k)) types.now id) }
 {
-    walrus_types::laws::types_are_grouped(types);
-    if !is_needless(types, kept, id) {
-        return;
-    }
-    if is_in_explicit(types, id) {
-        types.delete_entire_group(id);
-    } else {
-        types.delete(id);
-    }
+    !kept.has(Item::new(Space::Type, id)) && (is_written(types, id) || is_in_explicit(types, id))
 }
 
-/// Deletes the types that aren't kept. Entry types stay, but for those in explicit groups that aren't kept. Takes no
-/// memory.
-pub(crate) fn drop_types(types: &mut ModuleTypes, kept: &KeptItems)
-    requires { AreClosed (λ id. IsHeld kept.now (item spaces.Type id)) types.old }
-    ensures { TypesRest (λ id. IsHeld kept.now (item spaces.Type id)) types.old types.new }
+/// The types that aren't kept. Entry types are none of them, but for those in explicit groups.
+///
+/// # Errors
+///
+/// Want of memory.
+pub(crate) fn needless_types(
+    alloc: Global,
+    types: &ModuleTypes,
+    kept: &KeptItems,
+) -> Result<Vec<TypeId>, AllocError>
+    ensures { IfOk result (λ ids. AreNeedless (λ id. IsHeld kept.now (item spaces.Type id)) types.now ids.items) }
 {
     walrus_types::laws::types_are_grouped(types);
+    let mut ids = Vec::new(alloc);
     for index in 0..type_count(types) {
-        drop_type(types, kept, TypeId::from_index(index));
+        let id = TypeId::from_index(index);
+        if !is_needless(types, kept, id) {
+            continue;
+        }
+        ids.push(id)?;
     }
+    Ok(ids)
 }
