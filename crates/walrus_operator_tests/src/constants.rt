@@ -1,23 +1,35 @@
-//! Constants.
+//! Constants, each of which is paired.
 
+use crate::maps::Maps;
+use crate::pairing::{Paired, pairs};
 use crate::view::{Seen, holds, read};
 use std::alloc::Global;
 use walrus_operators::Immediates;
 use wasm_operators::Kind;
 
-fn is_constant(alloc: Global, bytes: &[u8], expected: i64) -> bool {
+fn is_constant(
+    alloc: Global,
+    maps: &Maps,
+    bytes: &[u8],
+    number: u32,
+    form: Kind,
+    expected: i64,
+) -> bool {
     let Some(operator) = read(alloc, bytes) else {
         return false;
     };
-    match &operator.immediates {
+    let is_it = match &operator.immediates {
         Immediates::I32(n) => i64::from(*n) == expected,
         Immediates::I64(n) => *n == expected,
         _ => false,
-    }
+    };
+    is_it
+        && holds(alloc, bytes, Seen::new(0, number, form, 0, 0))
+        && pairs(alloc, maps, bytes, Paired::Back)
 }
 
-#[test]
-fn constants_of_32_bits(rt: HostRuntime) {
+/// Of 32 bits.
+pub(crate) fn small(alloc: Global, maps: &Maps) -> bool {
     let rows: [(&[u8], i64); 9] = [
         (&[0x41, 0x00], 0),
         (&[0x41, 0x3f], 63),
@@ -30,13 +42,15 @@ fn constants_of_32_bits(rt: HostRuntime) {
         (&[0x41, 0x80, 0x80, 0x80, 0x80, 0x78], -2147483648),
     ];
     for (bytes, expected) in rows {
-        assert!(rt; is_constant(rt.alloc(), bytes, expected));
-        assert!(rt; holds(rt.alloc(), bytes, Seen::new(0, 0x41, Kind::I32, 0, 0)));
+        if !is_constant(alloc, maps, bytes, 0x41, Kind::I32, expected) {
+            return false;
+        }
     }
+    true
 }
 
-#[test]
-fn constants_of_64_bits(rt: HostRuntime) {
+/// Of 64 bits.
+pub(crate) fn large(alloc: Global, maps: &Maps) -> bool {
     let rows: [(&[u8], i64); 7] = [
         (&[0x42, 0x00], 0),
         (&[0x42, 0x7f], -1),
@@ -57,13 +71,15 @@ fn constants_of_64_bits(rt: HostRuntime) {
         ),
     ];
     for (bytes, expected) in rows {
-        assert!(rt; is_constant(rt.alloc(), bytes, expected));
-        assert!(rt; holds(rt.alloc(), bytes, Seen::new(0, 0x42, Kind::I64, 0, 0)));
+        if !is_constant(alloc, maps, bytes, 0x42, Kind::I64, expected) {
+            return false;
+        }
     }
+    true
 }
 
-#[test]
-fn floats_and_vectors(rt: HostRuntime) {
+/// Floats and vectors, and the byte of a fence.
+pub(crate) fn bits(alloc: Global, maps: &Maps) -> bool {
     let rows: [(&[u8], Seen); 7] = [
         (
             &[0x43, 0x00, 0x00, 0x00, 0x00],
@@ -98,6 +114,9 @@ fn floats_and_vectors(rt: HostRuntime) {
         (&[0xfe, 0x03, 0x00], Seen::new(0xfe, 3, Kind::Zero, 0, 0)),
     ];
     for (bytes, expected) in rows {
-        assert!(rt; holds(rt.alloc(), bytes, expected));
+        if !holds(alloc, bytes, expected) || !pairs(alloc, maps, bytes, Paired::Back) {
+            return false;
+        }
     }
+    true
 }

@@ -1,8 +1,7 @@
 //! Copies are written as the operators that they are copies of.
 
-use crate::view::read;
+use crate::view::{is_written, read};
 use std::alloc::Global;
-use walrus_operator_writer::write_operator;
 
 fn is_copied(alloc: Global, bytes: &[u8]) -> bool {
     let Some(operator) = read(alloc, bytes) else {
@@ -11,8 +10,7 @@ fn is_copied(alloc: Global, bytes: &[u8]) -> bool {
     let Ok(copy) = operator.clone() else {
         return false;
     };
-    let mut out = Vec::new(alloc);
-    write_operator(&mut out, &copy).is_ok() && out.as_slice() == bytes
+    is_written(alloc, &copy, bytes)
 }
 
 #[test]

@@ -16,9 +16,13 @@ mod indices;
 #[cfg(test)]
 mod lists;
 #[cfg(test)]
+mod maps;
+#[cfg(test)]
 mod pairing;
 #[cfg(test)]
 mod refusing;
+#[cfg(test)]
+mod table;
 #[cfg(test)]
 mod types;
 #[cfg(test)]

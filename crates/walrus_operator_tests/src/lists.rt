@@ -1,8 +1,12 @@
 //! Operators with lists among their immediates.
 
-use crate::view::{ends_early, is_written_again, read};
+use crate::maps::Maps;
+use crate::pairing::{Paired, pairs};
+use crate::view::{read, stands};
 use std::alloc::Global;
+use walrus_index_maps::Space;
 use walrus_operators::Immediates;
+use walrus_pairing::PairError;
 use wasm_immediates::{BlockType, Clause};
 use wasm_ref_types::ValType;
 
@@ -38,8 +42,8 @@ fn is_select(alloc: Global, bytes: &[u8], expected: &[ValType]) -> bool {
     }
 }
 
-#[test]
-fn branch_tables(rt: HostRuntime) {
+/// Tables of labels, which aren't paired.
+pub(crate) fn branch_tables(alloc: Global, maps: &Maps) -> bool {
     let rows: [(&[u8], &[u32], u32); 3] = [
         (&[0x0e, 0x00, 0x00], &[], 0),
         (
@@ -56,14 +60,18 @@ fn branch_tables(rt: HostRuntime) {
         ),
     ];
     for (bytes, labels, otherwise) in rows {
-        assert!(rt; is_branch_table(rt.alloc(), bytes, labels, otherwise));
-        assert!(rt; ends_early(rt.alloc(), bytes));
-        assert!(rt; is_written_again(rt.alloc(), bytes, bytes));
+        if !is_branch_table(alloc, bytes, labels, otherwise)
+            || !stands(alloc, bytes)
+            || !pairs(alloc, maps, bytes, Paired::Nothing)
+        {
+            return false;
+        }
     }
+    true
 }
 
-#[test]
-fn handlers(rt: HostRuntime) {
+/// Handlers, which aren't paired.
+pub(crate) fn handlers(alloc: Global, maps: &Maps) -> bool {
     let bytes = &[
         0x1f, 0x05, 0x04, 0x00, 0x7f, 0x80, 0x01, 0x01, 0xff, 0xff, 0xff, 0xff, 0x0f, 0x00, 0x02,
         0x7f, 0x03, 0xff, 0xff, 0xff, 0xff, 0x0f,
@@ -80,15 +88,39 @@ fn handlers(rt: HostRuntime) {
         Clause::CatchAll { label: 127 },
         Clause::CatchAllRef { label: 4294967295 },
     ];
-    assert!(rt; is_try_table(rt.alloc(), bytes, &expected));
-    assert!(rt; ends_early(rt.alloc(), bytes));
-    assert!(rt; is_written_again(rt.alloc(), bytes, bytes));
+    is_try_table(alloc, bytes, &expected)
+        && stands(alloc, bytes)
+        && pairs(alloc, maps, bytes, Paired::Nothing)
 }
 
-#[test]
-fn selected_types(rt: HostRuntime) {
-    let bytes = &[0x1c, 0x02, 0x7f, 0x6f];
-    assert!(rt; is_select(rt.alloc(), bytes, &[ValType::I32, ValType::EXTERNREF]));
-    assert!(rt; ends_early(rt.alloc(), bytes));
-    assert!(rt; is_written_again(rt.alloc(), bytes, bytes));
+/// Types of a `select`, of which one alone is paired.
+pub(crate) fn selected_types(alloc: Global, maps: &Maps) -> bool {
+    let rows: [(&[u8], Paired); 7] = [
+        (&[0x1c, 0x01, 0x7c], Paired::Back),
+        (&[0x1c, 0x01, 0x63, 0x00], Paired::Back),
+        (&[0x1c, 0x01, 0x64, 0xff, 0x00], Paired::Back),
+        (&[0x1c, 0x01, 0x63, 0x80, 0x01], Paired::Back),
+        (
+            &[0x1c, 0x01, 0x63, 0xff, 0xff, 0x3f],
+            Paired::Refused(PairError::Unknown(Space::Type)),
+        ),
+        (
+            &[0x1c, 0x02, 0x7f, 0x63, 0xff, 0xff, 0x3f],
+            Paired::Refused(PairError::Unknown(Space::Type)),
+        ),
+        (
+            &[0x1c, 0x02, 0x7f, 0x6f],
+            Paired::Refused(PairError::Select),
+        ),
+    ];
+    for (bytes, found) in rows {
+        if !stands(alloc, bytes) || !pairs(alloc, maps, bytes, found) {
+            return false;
+        }
+    }
+    is_select(
+        alloc,
+        &[0x1c, 0x02, 0x7f, 0x6f],
+        &[ValType::I32, ValType::EXTERNREF],
+    )
 }

@@ -50,14 +50,17 @@ fn is_seen(operator: &Operator, expected: Seen) -> bool {
         && second == expected.second
 }
 
+// Each proper front of the bytes is refused for its end, and the operator that they are is written as they are.
+pub fn stands(alloc: Global, bytes: &[u8]) -> bool {
+    ends_early(alloc, bytes) && is_written_again(alloc, bytes, bytes)
+}
+
 // The bytes are this operator, no front of them is one, and it is written as they are.
 pub fn holds(alloc: Global, bytes: &[u8], expected: Seen) -> bool {
     let Some(operator) = read(alloc, bytes) else {
         return false;
     };
-    is_seen(&operator, expected)
-        && ends_early(alloc, bytes)
-        && is_written_again(alloc, bytes, bytes)
+    is_seen(&operator, expected) && stands(alloc, bytes)
 }
 
 // A code, of one byte where the prefix is 0, and two parts of immediates.
@@ -97,8 +100,7 @@ pub fn outcome(
     }
 }
 
-// Each proper front of the bytes is refused for its end.
-pub fn ends_early(alloc: Global, bytes: &[u8]) -> bool {
+fn ends_early(alloc: Global, bytes: &[u8]) -> bool {
     for size in 0..bytes.len() {
         if !misses_bytes(alloc, &bytes[..size]) {
             return false;
@@ -114,16 +116,18 @@ fn misses_bytes(alloc: Global, bytes: &[u8]) -> bool {
     }
 }
 
+/// The operator is written as these bytes.
+pub fn is_written(alloc: Global, operator: &Operator, expected: &[u8]) -> bool {
+    let mut out = Vec::new(alloc);
+    write_operator(&mut out, operator).is_ok() && out.as_slice() == expected
+}
+
 // The operator that the bytes are is written as these others.
 pub fn is_written_again(alloc: Global, bytes: &[u8], expected: &[u8]) -> bool {
     let Some(operator) = read(alloc, bytes) else {
         return false;
     };
-    let mut out = Vec::new(alloc);
-    if write_operator(&mut out, &operator).is_err() {
-        return false;
-    }
-    out.as_slice() == expected
+    is_written(alloc, &operator, expected)
 }
 
 // A memory counts 2^32.

@@ -1,5 +1,6 @@
 //! What indices name, in each space.
 
+use crate::maps::{body, filled, push};
 use std::alloc::{AllocError, Global};
 use std::process::Abort;
 use std::test::Fail;
@@ -18,22 +19,6 @@ const SPACES: [Space; 9] = [
     Space::Local,
 ];
 
-// The next index of the space names the id; of locals, that of function 3.
-fn push(ids: &mut IndicesToIds, space: Space, id: u32) -> Result<u32, AllocError> {
-    let id = id as usize;
-    match space {
-        Space::Type => ids.push_type(Id::from_index(id)),
-        Space::Function => ids.push_func(Id::from_index(id)),
-        Space::Table => ids.push_table(Id::from_index(id)),
-        Space::Memory => ids.push_memory(Id::from_index(id)),
-        Space::Tag => ids.push_tag(Id::from_index(id)),
-        Space::Global => ids.push_global(Id::from_index(id)),
-        Space::Element => ids.push_element(Id::from_index(id)),
-        Space::Data => ids.push_data(Id::from_index(id)),
-        _ => ids.push_local(Id::from_index(3), Id::from_index(id)),
-    }
-}
-
 // What an index of the space names.
 fn named(ids: &IndicesToIds, space: Space, index: u32) -> Result<usize, UnknownIndex> {
     Ok(match space {
@@ -45,7 +30,7 @@ fn named(ids: &IndicesToIds, space: Space, index: u32) -> Result<usize, UnknownI
         Space::Global => ids.get_global(index)?.index(),
         Space::Element => ids.get_element(index)?.index(),
         Space::Data => ids.get_data(index)?.index(),
-        _ => ids.get_local(Id::from_index(3), index)?.index(),
+        _ => ids.get_local(body(), index)?.index(),
     })
 }
 
@@ -76,5 +61,24 @@ fn each_space_has_its_own_list(rt: HostRuntime) -> Result<(), Fail> {
         let fine = two(rt.alloc(), space)?;
         assert!(rt; fine);
     }
+    Ok(())
+}
+
+#[test]
+fn locals_are_of_one_function_and_types_are_named_anew(rt: HostRuntime) -> Result<(), Fail> {
+    let mut maps = filled(rt.alloc())?;
+    assert!(rt; maps.ids.get_local(body(), 129) == Ok(Id::from_index(1929)));
+    assert!(rt; maps.ids.get_local(Id::from_index(8), 0) == Err(UnknownIndex(Space::Local)));
+    maps.ids.remap_type(0, Id::from_index(9));
+    assert!(rt; maps.ids.get_type(0) == Ok(Id::from_index(9)));
+    assert!(rt; maps.ids.get_type(129) == Ok(Id::from_index(329)));
+    assert!(rt; maps.ids.get_type(130) == Err(UnknownIndex(Space::Type)));
+    Ok(())
+}
+
+#[test]
+fn an_unknown_index_says_of_what(rt: HostRuntime) -> Result<(), Fail> {
+    let text = format!(in rt.alloc(); "{}", UnknownIndex(Space::Element))?;
+    assert!(rt; text.as_str() == "index of a element is out of range");
     Ok(())
 }

@@ -1,12 +1,13 @@
 //! What number each id is written as, in each space.
 
+use crate::maps::{body, filled, give};
 use std::alloc::{AllocError, Global};
 use std::process::Abort;
 use std::test::Fail;
 use walrus_arena::Id;
 use walrus_index_maps::{IdsToIndices, Space};
 
-const SPACES: [Space; 7] = [
+const SPACES: [Space; 9] = [
     Space::Type,
     Space::Function,
     Space::Table,
@@ -14,20 +15,14 @@ const SPACES: [Space; 7] = [
     Space::Tag,
     Space::Global,
     Space::Element,
+    Space::Data,
+    Space::Local,
 ];
 
 // Numbers of the space alone: id 7 has the first.
 fn numbers(alloc: Global, space: Space) -> Result<IdsToIndices, AllocError> {
     let mut numbers = IdsToIndices::new(alloc);
-    match space {
-        Space::Type => numbers.push_type(Id::from_index(7))?,
-        Space::Function => numbers.push_func(Id::from_index(7))?,
-        Space::Table => numbers.push_table(Id::from_index(7))?,
-        Space::Memory => numbers.push_memory(Id::from_index(7))?,
-        Space::Tag => numbers.push_tag(Id::from_index(7))?,
-        Space::Global => numbers.push_global(Id::from_index(7))?,
-        _ => numbers.push_element(Id::from_index(7))?,
-    };
+    give(&mut numbers, space, 7, 0)?;
     Ok(numbers)
 }
 
@@ -40,7 +35,9 @@ fn number_of(numbers: &IdsToIndices, space: Space, id: u32) -> Option<u32> {
         Space::Memory => numbers.get_memory_index(Id::from_index(id)),
         Space::Tag => numbers.get_tag_index(Id::from_index(id)),
         Space::Global => numbers.get_global_index(Id::from_index(id)),
-        _ => numbers.get_element_index(Id::from_index(id)),
+        Space::Element => numbers.get_element_index(Id::from_index(id)),
+        Space::Data => numbers.get_data_index(Id::from_index(id)),
+        _ => numbers.get_local_index(body(), Id::from_index(id)),
     }
 }
 
@@ -65,21 +62,14 @@ fn each_space_has_its_own_numbers(rt: HostRuntime) -> Result<(), Fail> {
     Ok(())
 }
 
-fn two_types(alloc: Global) -> Result<IdsToIndices, AllocError> {
-    let mut numbers = IdsToIndices::new(alloc);
-    numbers.push_type(Id::from_index(7))?;
-    let next = Id::from_index(4);
-    if numbers.get_type_index(next).is_none() {
-        numbers.push_type(next)?;
-    }
-    Ok(numbers)
-}
-
+// The largest id that has a number, and its number.
 #[test]
 fn the_next_id_has_the_next_number(rt: HostRuntime) -> Result<(), Fail> {
-    let numbers = two_types(rt.alloc())?;
-    assert!(rt; numbers.get_type_index(Id::from_index(7)) == Some(0));
-    assert!(rt; numbers.get_type_index(Id::from_index(4)) == Some(1));
+    let maps = filled(rt.alloc())?;
+    assert!(rt; number_of(&maps.numbers, Space::Type, 200) == Some(0));
+    assert!(rt; number_of(&maps.numbers, Space::Type, 328) == Some(128));
+    assert!(rt; number_of(&maps.numbers, Space::Element, 1529) == Some(129));
+    assert!(rt; number_of(&maps.numbers, Space::Element, 1530).is_none());
     Ok(())
 }
 

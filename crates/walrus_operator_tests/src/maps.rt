@@ -1,0 +1,150 @@
+//! Maps of 130 items in each space: no index is its own id, and no space has another's.
+ghost use Rattle.std.specs.Prelude.{◌≤◌, ◌<◌, ◌+◌, ◌^◌, OnOk};
+ghost use Rattle.walrus_index_maps.specs.Views.{indices};
+ghost use Rattle.walrus_operator_tests.specs.Given.{given};
+
+use std::alloc::{AllocError, Global};
+use walrus_arena::{FunctionId, Id};
+use walrus_index_maps::{IdsToIndices, IndicesToIds, Space};
+
+/// What indices name, and what numbers ids have.
+#[derive(Drop)]
+pub(crate) struct Maps {
+    pub(crate) ids: IndicesToIds,
+    pub(crate) numbers: IdsToIndices,
+}
+
+/// The function that has the locals.
+pub(crate) fn body() -> FunctionId {
+    Id::from_index(7)
+}
+
+/// The next index of the space names the id.
+pub(crate) fn push(ids: &mut IndicesToIds, space: Space, id: u32) -> Result<u32, AllocError> {
+    let id = id as usize;
+    match space {
+        Space::Type => ids.push_type(Id::from_index(id)),
+        Space::Function => ids.push_func(Id::from_index(id)),
+        Space::Table => ids.push_table(Id::from_index(id)),
+        Space::Memory => ids.push_memory(Id::from_index(id)),
+        Space::Tag => ids.push_tag(Id::from_index(id)),
+        Space::Global => ids.push_global(Id::from_index(id)),
+        Space::Element => ids.push_element(Id::from_index(id)),
+        Space::Data => ids.push_data(Id::from_index(id)),
+        _ => ids.push_local(body(), Id::from_index(id)),
+    }
+}
+
+/// The id has the next number of the space, if it has none yet; of data segments and locals, this number.
+pub(crate) fn give(
+    numbers: &mut IdsToIndices,
+    space: Space,
+    id: u32,
+    number: u32,
+) -> Result<u32, AllocError>
+    requires room { given (indices numbers.old) < 2 ^ 32 }
+    ensures { OnOk result (given (indices numbers.new) ≤ given (indices numbers.old) + 1) }
+{
+    let id = id as usize;
+    match space {
+        Space::Type => {
+            let id = Id::from_index(id);
+            match numbers.get_type_index(id) {
+                None => numbers.push_type(id),
+                Some(number) => Ok(number),
+            }
+        }
+        Space::Function => {
+            let id = Id::from_index(id);
+            match numbers.get_func_index(id) {
+                None => numbers.push_func(id),
+                Some(number) => Ok(number),
+            }
+        }
+        Space::Table => {
+            let id = Id::from_index(id);
+            match numbers.get_table_index(id) {
+                None => numbers.push_table(id),
+                Some(number) => Ok(number),
+            }
+        }
+        Space::Memory => {
+            let id = Id::from_index(id);
+            match numbers.get_memory_index(id) {
+                None => numbers.push_memory(id),
+                Some(number) => Ok(number),
+            }
+        }
+        Space::Tag => {
+            let id = Id::from_index(id);
+            match numbers.get_tag_index(id) {
+                None => numbers.push_tag(id),
+                Some(number) => Ok(number),
+            }
+        }
+        Space::Global => {
+            let id = Id::from_index(id);
+            match numbers.get_global_index(id) {
+                None => numbers.push_global(id),
+                Some(number) => Ok(number),
+            }
+        }
+        Space::Element => {
+            let id = Id::from_index(id);
+            match numbers.get_element_index(id) {
+                None => numbers.push_element(id),
+                Some(number) => Ok(number),
+            }
+        }
+        Space::Data => {
+            numbers.set_data_index(Id::from_index(id), number)?;
+            Ok(number)
+        }
+        _ => {
+            numbers.set_local_index(body(), Id::from_index(id), number)?;
+            Ok(number)
+        }
+    }
+}
+
+// A space, and the id of its first item.
+fn space_at(turn: u32) -> (Space, u32) {
+    match turn {
+        0 => (Space::Type, 200),
+        1 => (Space::Function, 400),
+        2 => (Space::Table, 600),
+        3 => (Space::Memory, 800),
+        4 => (Space::Tag, 1000),
+        5 => (Space::Global, 1200),
+        6 => (Space::Element, 1400),
+        7 => (Space::Data, 1600),
+        _ => (Space::Local, 1800),
+    }
+}
+
+// Indices 0 to 129 of each space.
+fn ids(alloc: Global) -> Result<IndicesToIds, AllocError> {
+    let mut ids = IndicesToIds::new(alloc);
+    for n in 0..1170u32 {
+        let (space, first) = space_at(n % 9);
+        push(&mut ids, space, first.saturating_add(n / 9))?;
+    }
+    Ok(ids)
+}
+
+// Numbers 0 to 129 of the same.
+fn numbers(alloc: Global) -> Result<IdsToIndices, AllocError> {
+    let mut numbers = IdsToIndices::new(alloc);
+    for n in 0..1170u32 {
+        let (space, first) = space_at(n % 9);
+        give(&mut numbers, space, first.saturating_add(n / 9), n / 9)?;
+    }
+    Ok(numbers)
+}
+
+/// Both.
+pub(crate) fn filled(alloc: Global) -> Result<Maps, AllocError> {
+    let ids = ids(alloc)?;
+    let numbers = numbers(alloc)?;
+    Ok(Maps { ids, numbers })
+}
