@@ -152,8 +152,22 @@ pub(crate) fn two_numbers(alloc: Global, maps: &Maps) -> bool {
         (0xfb, 19, 19, Kind::TypeElement, Space::Type, Space::Element),
         (0xfb, 17, 17, Kind::TypeType, Space::Type, Space::Type),
         (0xfc, 8, 8, Kind::DataMemory, Space::Data, Space::Memory),
-        (0xfc, 10, 10, Kind::MemoryMemory, Space::Memory, Space::Memory),
-        (0xfc, 12, 12, Kind::ElementTable, Space::Element, Space::Table),
+        (
+            0xfc,
+            10,
+            10,
+            Kind::MemoryMemory,
+            Space::Memory,
+            Space::Memory,
+        ),
+        (
+            0xfc,
+            12,
+            12,
+            Kind::ElementTable,
+            Space::Element,
+            Space::Table,
+        ),
         (0xfc, 14, 14, Kind::TableTable, Space::Table, Space::Table),
     ];
     for (prefix, from, last, form, first, second) in rows {

@@ -119,7 +119,9 @@ pub(crate) fn heap_types(alloc: Global, maps: &Maps) -> bool {
         ),
     ];
     for (bytes, number, ty, found) in rows {
-        if !holds_typed(alloc, bytes, number, Typed::Heap(ty)) || !pairs(alloc, maps, bytes, found) {
+        if !holds_typed(alloc, bytes, number, Typed::Heap(ty))
+            || !pairs(alloc, maps, bytes, found)
+        {
             return false;
         }
     }
