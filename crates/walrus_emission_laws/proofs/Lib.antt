@@ -1,1 +1,3 @@
 mod Meant
+mod Read
+mod Named

@@ -131,7 +131,7 @@ not_none p (Ok (Some s)) t e = cc
 not_none p (Ok None) t e = t
 not_none p (Err x) t e = cc
 
-piece_is : (b : List InstrSeq) (p : Piece) → IsWritten (written all b p) → written all b p ≡ Ok (Some (own_seen b p))
+pub piece_is : (b : List InstrSeq) (p : Piece) → IsWritten (written all b p) → written all b p ≡ Ok (Some (own_seen b p))
 piece_is b (Operator around i) w =
     instr_is b (label around) i w (not_none (Operator around i) (written all b (Operator around i)) (piece_told all b (Operator around i)))
     ∙ ap (λ (number : ℕ → ℕ). Ok (Some (own_instr b number i))) (λ j k. label_is around k j)

@@ -1,10 +1,28 @@
 //! Laws: functions with nothing to do, whose contracts hold of all functions with a body.
 
-ghost use Rattle.walrus_emission_laws.specs.Laws.{BodiesAreMeant};
+ghost use Rattle.walrus_emission_laws.specs.Laws.{BodiesAreMeant, LocalsAreMeant, ReadBodiesAreWritten};
 
 /// The operators that are written for a body are those that it means, renamed as the map of ids renames, each with its location's place.
 pub fn bodies_are_meant()
     ensures { BodiesAreMeant }
 {
     walrus_body_laws::laws::texts_are_renamed();
+}
+
+/// The locals that are declared for a body, of those that its text names, are those that it means.
+pub fn locals_are_meant()
+    ensures { LocalsAreMeant }
+{
+    walrus_body_laws::laws::names_are_operators();
+    walrus_body_laws::laws::texts_are_renamed();
+}
+
+/// What is written for a body that was read is the normal form of what was read: its operators, each index renamed to the number that is
+/// written for the id that it named, at the places that they carry.
+pub fn read_bodies_are_written()
+    ensures { ReadBodiesAreWritten }
+{
+    bodies_are_meant();
+    walrus_body_trees::laws::bodies_mean_their_normal_form();
+    wasm_operator_names::laws::renamings_compose();
 }
