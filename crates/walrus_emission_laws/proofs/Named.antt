@@ -79,5 +79,5 @@ locals_meant agree renamed r look sends keeps local w locals used same =
     let t = operators b 0 in
     let from = renamed r look sends keeps b t w in
     let test : (k : ℕ) → has_number used k ≡ has_number (named_locals (own_operators local)) k =
-        λ k. same_test used (text_names local_in t) same k ∙ ap (λ (ns : List ℕ). has_number ns k) (text_named agree b t from.0) in
+    λ k. same_test used (text_names local_in t) same k ∙ ap (λ (ns : List ℕ). has_number ns k) (text_named agree b t from.0) in
     ap (λ (passes : ℕ → Bool). in_order (filter (λ (key : Key). passes key.1 && not (has_number local.args.items key.1)) (numbered 0 (types_of locals)))) (λ i k. test k i)
