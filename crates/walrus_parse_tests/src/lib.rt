@@ -6,6 +6,8 @@ mod callback;
 #[cfg(test)]
 mod helpers;
 #[cfg(test)]
+mod locations;
+#[cfg(test)]
 mod names;
 #[cfg(test)]
 mod read;
