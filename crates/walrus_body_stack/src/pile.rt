@@ -23,7 +23,7 @@ impl<T> Model for Pile<T> {
     ghost view = { λ p. reverse p.items.items };
 }
 
-// So much more room than is used is kept.
+// Room for so many items is kept in any case.
 const ROOM: usize = 512;
 
 impl<T: Drop> Pile<T> {
@@ -71,13 +71,15 @@ impl<T: Drop> Pile<T> {
         Ok(())
     }
 
-    /// Gives up what room is far beyond the number of items.
+    /// Gives up room where there is more of it than there are items. Half of them is left, so that it takes no more time to give up and
+    /// to grow again than to take and to push.
     pub(crate) fn give_up(&mut self)
         ensures { self.new ≡ self.old }
     {
         let count = self.items.len();
-        if self.items.capacity().saturating_sub(count) > ROOM {
-            self.items.shrink_to(count.saturating_add(ROOM / 2));
+        let room = self.items.capacity().saturating_sub(count);
+        if room > count.saturating_add(ROOM) {
+            self.items.shrink_to(count.saturating_add(count / 2));
         }
     }
 }
