@@ -6,8 +6,8 @@ ghost use Rattle.walrus_body_env.specs.declared.error.BodyError.TheVariants.{Mem
 
 use std::alloc::{AllocError, AllocFailed};
 use std::{error, fmt};
+use walrus_operators::the_reader::{Error, ErrorKind};
 use wasm_formats::{Form, Limited, Space};
-use wasm_reader::{Error, ErrorKind};
 
 /// Why a body is refused. Where the cause is in the bytes, `offset` is its place from the beginning of the file, in bytes; there is
 /// none for a fault of a call that no bytes were handed to.

@@ -2,14 +2,14 @@
 
 ghost use Rattle.std.specs.Prelude.{◌≡◌, ℕ, Option};
 ghost use Rattle.walrus_operators.specs.wasm_operators.Operators.{Seen};
-ghost use Rattle.wasm_ref_types.specs.declared.value.ValType.{ValType as Value};
+ghost use Rattle.walrus_operators.specs.wasm_immediates.wasm_ref_types.declared.value.ValType.{ValType as Value};
 ghost use Rattle.walrus_operators.specs.Operators.{seen};
 ghost use Rattle.walrus_body_env.specs.declared.error.BodyError.{BodyError as Fault};
 ghost use Rattle.walrus_body_env.specs.Faults.{Answers};
 
 use crate::error::BodyError;
 use walrus_operators::Operator;
-use wasm_ref_types::ValType;
+use walrus_operators::ref_types::ValType;
 
 /// Validates a body from left to right: told of each run of locals, of each operator and of the end, it accepts or refuses.
 /// What a call answers and leaves is a function of the validator and of what it is told.

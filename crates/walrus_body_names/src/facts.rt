@@ -2,7 +2,7 @@
 
 ghost use Rattle.std.specs.Prelude.{◌≡◌, ◌++◌, ◌∷◌, [], slice_get, Contains, IfErr, IfOk, OnErr, OnOk};
 ghost use Rattle.std.specs.Bool.{OnTrue};
-ghost use Rattle.walrus_builder.specs.Functions.{seqs_of};
+ghost use Rattle.walrus_body_writer.specs.walrus_tree.walrus_builder.Functions.{seqs_of};
 ghost use Rattle.walrus_body_writer.specs.walrus_tree.Text.{operators};
 ghost use Rattle.walrus_body_writer.specs.Emitting.{IsCause};
 ghost use Rattle.walrus_body_writer.specs.Visiting.{text_size};
@@ -13,8 +13,8 @@ use crate::names::{local_of, named_segments, segment_of};
 use std::alloc::{AllocError, Global};
 use walrus_arena::{DataId, LocalId};
 use walrus_body_writer::body_env::BodyError;
+use walrus_body_writer::builder::FunctionBuilder;
 use walrus_body_writer::{Closer, TextVisitor, visit_once};
-use walrus_builder::FunctionBuilder;
 use walrus_instr::{Instr, InstrLocId};
 
 /// What is known of a body before it is written.

@@ -2,7 +2,7 @@
 
 ghost use Rattle.std.specs.Prelude.{◌≡◌, IfOk, IfErr};
 ghost use Rattle.std.specs.Option.{option_to_list};
-ghost use Rattle.walrus_builder.specs.Functions.{seqs_of};
+ghost use Rattle.walrus_body_writer.specs.walrus_tree.walrus_builder.Functions.{seqs_of};
 ghost use Rattle.walrus_body_writer.specs.walrus_tree.Text.{operators};
 ghost use Rattle.walrus_body_writer.specs.Emitting.{IsCause};
 ghost use Rattle.walrus_body_names.specs.Names.{local_in, segment_in, text_names};
@@ -10,8 +10,8 @@ ghost use Rattle.walrus_body_names.specs.Names.{local_in, segment_in, text_names
 use std::alloc::{AllocError, Global};
 use walrus_arena::{DataId, LocalId};
 use walrus_body_writer::body_env::BodyError;
+use walrus_body_writer::builder::FunctionBuilder;
 use walrus_body_writer::{Closer, TextVisitor, visit_once};
-use walrus_builder::FunctionBuilder;
 use walrus_instr::{Instr, InstrLocId};
 
 #[inline(always)]

@@ -7,6 +7,7 @@ pub mod Ending
 pub mod Steps
 pub mod Faults
 -- Passed on to crates above, which then list this one alone.
+pub use Rattle.walrus_builder.specs as walrus_builder
 pub use Rattle.walrus_body_env.specs as walrus_body_env
 pub use Rattle.wasm_body_grammar.specs as wasm_body_grammar
 pub use Rattle.wasm_body_grammar.specs.wasm_formats as wasm_formats

@@ -9,3 +9,7 @@ pub use frames::{Opener, Reach};
 pub mod body_env {
     pub use walrus_body_env::{BodyEnv, BodyError, Validator};
 }
+
+pub mod builder {
+    pub use walrus_builder::FunctionBuilder;
+}

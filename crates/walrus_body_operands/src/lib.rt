@@ -20,3 +20,7 @@ pub use steps::{Step, instr_on, step_of};
 pub mod body_stack {
     pub use walrus_body_steps::body_stack::Stack;
 }
+
+pub mod builder {
+    pub use walrus_body_steps::builder::FunctionBuilder;
+}

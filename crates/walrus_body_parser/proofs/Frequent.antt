@@ -1,8 +1,8 @@
 -- Lemmas: frequent operators, of which the table is asked first.
 use Rattle.std.proofs.Common.{◌≡◌, ℕ, true, false, Some, subst, sym}
 use Rattle.wasm_reader.specs.Cursor.{Cursor}
-use Rattle.wasm_operators.specs.declared.entry.Entry.{Entry}
-use Rattle.wasm_operators.specs.declared.entry.Kind.{Kind}
+use Rattle.walrus_body_operands.specs.walrus_body_rules.wasm_body_grammar.wasm_operators.declared.entry.Entry.{Entry}
+use Rattle.walrus_body_operands.specs.walrus_body_rules.wasm_body_grammar.wasm_operators.declared.entry.Kind.{Kind}
 use Rattle.walrus_operators.specs.Operators.{IsNext}
 use Rattle.walrus_body_operands.specs.Listed.{keeps_on}
 use Rattle.walrus_body_operands.specs.walrus_body_stack.declared.stack.Stack.{Stack}

@@ -4,3 +4,5 @@ pub mod Takes
 mod Reading
 mod Looping
 mod Frequent
+-- Passed on to crates above, which then list this one alone.
+pub use Rattle.walrus_body_locals.proofs as walrus_body_locals

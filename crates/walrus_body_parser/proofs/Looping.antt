@@ -7,14 +7,14 @@ use Rattle.std.proofs.lemmas.List.Sums.{fold-append}
 use Rattle.wasm_features.specs.declared.WasmFeatures.{WasmFeatures}
 use Rattle.wasm_reader.specs.Cursor.{Window, Cursor, rest, end_of, Forward, IsWithin}
 use Rattle.walrus_instr.specs.declared.seq.InstrSeqType.{InstrSeqType}
-use Rattle.walrus_builder.specs.Built.{Building, Seq, seq_of, contents, no_place}
+use Rattle.walrus_body_operands.specs.walrus_body_stack.walrus_builder.Built.{Building, Seq, seq_of, contents, no_place}
 use Rattle.wasm_formats.specs.Stops.{Nesting, stop, Parsing}
 use Rattle.wasm_formats.specs.Formats.{Format, done_is, step_ok}
 use Rattle.wasm_formats.specs.Bytes.{never, either}
 use Rattle.wasm_formats.specs.Joined.{checked, ends_at}
-use Rattle.wasm_operators.specs.declared.entry.Flow.{Flow}
-use Rattle.wasm_operators.specs.declared.entry.Flow.TheVariants as flows
-use Rattle.wasm_operators.specs.Operators.{Seen, flow_of}
+use Rattle.walrus_body_operands.specs.walrus_body_rules.wasm_body_grammar.wasm_operators.declared.entry.Flow.{Flow}
+use Rattle.walrus_body_operands.specs.walrus_body_rules.wasm_body_grammar.wasm_operators.declared.entry.Flow.TheVariants as flows
+use Rattle.walrus_body_operands.specs.walrus_body_rules.wasm_body_grammar.wasm_operators.Operators.{Seen, flow_of}
 use Rattle.walrus_body_locals.specs.wasm_body_grammar.Frames.{Frame, Plain, turned, Turned}
 use Rattle.walrus_body_locals.specs.wasm_body_grammar.Rules.{turned_test}
 use Rattle.walrus_body_locals.specs.wasm_body_grammar.Bodies.{Point, next_point, frames_of, opened, is_closed, operator}

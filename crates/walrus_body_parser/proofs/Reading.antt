@@ -4,7 +4,7 @@ use Rattle.std.proofs.lemmas.Bool.{ne_eqb}
 use Rattle.walrus_instr.specs.declared.seq.InstrLocId.{InstrLocId}
 use Rattle.wasm_reader.specs.Cursor.{Cursor, rest, end_of}
 use Rattle.wasm_formats.specs.Stops.{Trouble, stop}
-use Rattle.wasm_operators.specs.Operators.{Seen, flow_of}
+use Rattle.walrus_body_operands.specs.walrus_body_rules.wasm_body_grammar.wasm_operators.Operators.{Seen, flow_of}
 use Rattle.walrus_body_locals.specs.wasm_grammar.Values.{first_of}
 use Rattle.walrus_body_locals.specs.wasm_body_grammar.Frames.{Frame, turned}
 use Rattle.walrus_body_locals.specs.wasm_body_grammar.Rules.{turned_test}

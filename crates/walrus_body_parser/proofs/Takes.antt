@@ -10,12 +10,12 @@ use Rattle.wasm_reader.specs.Numbers.{unsigned_at}
 use Rattle.wasm_reader.specs.Laws.{StaysWithin}
 use Rattle.wasm_reader.specs.Final.{map_final}
 use Rattle.wasm_reader.specs.Finals.{unsigned_final}
-use Rattle.wasm_operators.specs.wasm_immediates.Readings.{mapped, items_at}
-use Rattle.wasm_operators.specs.wasm_immediates.Finals.{items_final}
-use Rattle.wasm_operators.specs.declared.entry.Kind.{Kind}
-use Rattle.wasm_operators.specs.declared.op_code.OpCode.{OpCode}
-use Rattle.wasm_operators.specs.Kinds.{forms}
-use Rattle.wasm_operators.specs.Operators.{Seen, is_prefix, op_code, code_at, kind_of, seen_as, after_code, operator_at}
+use Rattle.walrus_body_operands.specs.walrus_body_rules.wasm_body_grammar.wasm_operators.wasm_immediates.Readings.{mapped, items_at}
+use Rattle.walrus_body_operands.specs.walrus_body_rules.wasm_body_grammar.wasm_operators.wasm_immediates.Finals.{items_final}
+use Rattle.walrus_body_operands.specs.walrus_body_rules.wasm_body_grammar.wasm_operators.declared.entry.Kind.{Kind}
+use Rattle.walrus_body_operands.specs.walrus_body_rules.wasm_body_grammar.wasm_operators.declared.op_code.OpCode.{OpCode}
+use Rattle.walrus_body_operands.specs.walrus_body_rules.wasm_body_grammar.wasm_operators.Kinds.{forms}
+use Rattle.walrus_body_operands.specs.walrus_body_rules.wasm_body_grammar.wasm_operators.Operators.{Seen, is_prefix, op_code, code_at, kind_of, seen_as, after_code, operator_at}
 use Rattle.wasm_formats.specs.Stops.{Read, Operator, Stop, stop, Parsing, value_at}
 use Rattle.wasm_formats.specs.Parts.{told_as}
 use Rattle.walrus_body_locals.specs.wasm_body_grammar.Bodies.{operator}

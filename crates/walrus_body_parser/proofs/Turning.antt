@@ -3,11 +3,11 @@ use Rattle.std.proofs.Common.{ℕ, ◌≡◌, Bool, true, false, List, [], ◌�
 use Rattle.walrus_instr.specs.declared.instr.Instr.{Instr}
 use Rattle.walrus_instr.specs.declared.seq.InstrLocId.{InstrLocId}
 use Rattle.walrus_instr.specs.declared.seq.InstrSeqType.{InstrSeqType}
-use Rattle.wasm_operators.specs.wasm_immediates.Items.{Tags, Labels, Names}
-use Rattle.wasm_operators.specs.declared.entry.Flow.TheVariants as flows
-use Rattle.wasm_operators.specs.Operators.{Seen, flow_of}
+use Rattle.walrus_body_operands.specs.walrus_body_rules.wasm_body_grammar.wasm_operators.wasm_immediates.Items.{Tags, Labels, Names}
+use Rattle.walrus_body_operands.specs.walrus_body_rules.wasm_body_grammar.wasm_operators.declared.entry.Flow.TheVariants as flows
+use Rattle.walrus_body_operands.specs.walrus_body_rules.wasm_body_grammar.wasm_operators.Operators.{Seen, flow_of}
 use Rattle.walrus_body_locals.specs.wasm_body_grammar.Frames.{Frame, Plain, Choice, Trying, Catching, Caught}
-use Rattle.walrus_builder.specs.Built.{Seq}
+use Rattle.walrus_body_operands.specs.walrus_body_stack.walrus_builder.Built.{Seq}
 use Rattle.walrus_body_locals.specs.wasm_normal_form.Roles.{Runs, role, cuts}
 use Rattle.walrus_body_locals.specs.walrus_body_nesting.Stands.{Handles, HandlesAll}
 use Rattle.walrus_body_locals.specs.walrus_body_nesting.Opens.{Open, ids_of, ran, reach_on, Unless, Shaped}

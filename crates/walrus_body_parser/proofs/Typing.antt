@@ -4,7 +4,7 @@ use Rattle.walrus_instr.specs.declared.instr.Instr.{Instr}
 use Rattle.walrus_instr.specs.declared.seq.InstrLocId.{InstrLocId}
 use Rattle.walrus_instr.specs.declared.seq.InstrSeqType.{InstrSeqType}
 use Rattle.walrus_body_locals.specs.wasm_body_grammar.Frames.{Frame}
-use Rattle.walrus_builder.specs.Built.{Seq, edited, filled_with}
+use Rattle.walrus_body_operands.specs.walrus_body_stack.walrus_builder.Built.{Seq, edited, filled_with}
 use Rattle.walrus_body_locals.specs.walrus_body_nesting.declared.frames.Opener.{Opener}
 use Rattle.walrus_body_locals.specs.walrus_body_nesting.Stands.{Turn}
 use Rattle.walrus_body_locals.specs.walrus_body_nesting.Opens.{Shaped, type_at}

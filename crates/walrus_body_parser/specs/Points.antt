@@ -6,7 +6,7 @@ use Rattle.wasm_formats.specs.Stops.{Nesting}
 use Rattle.wasm_formats.specs.Formats.{Format}
 use Rattle.wasm_formats.specs.Bytes.{never, either}
 use Rattle.wasm_formats.specs.Joined.{checked, ends_at}
-use Rattle.wasm_operators.specs.Operators.{Seen}
+use Rattle.walrus_body_operands.specs.walrus_body_rules.wasm_body_grammar.wasm_operators.Operators.{Seen}
 use Rattle.walrus_operators.specs.declared.operator.Operator.{Operator}
 use Rattle.walrus_operators.specs.Operators.{seen}
 use Rattle.walrus_body_locals.specs.wasm_grammar.Modules as grammar

@@ -4,8 +4,8 @@ use Rattle.wasm_features.specs.declared.WasmFeatures.{WasmFeatures}
 use Rattle.wasm_reader.specs.Cursor.{Cursor, rest, end_of}
 use Rattle.wasm_formats.specs.Stops.{Parsing}
 use Rattle.walrus_instr.specs.declared.seq.InstrSeqType.{InstrSeqType}
-use Rattle.walrus_builder.specs.Built.{Seq}
-use Rattle.wasm_operators.specs.Operators.{Seen}
+use Rattle.walrus_body_operands.specs.walrus_body_stack.walrus_builder.Built.{Seq}
+use Rattle.walrus_body_operands.specs.walrus_body_rules.wasm_body_grammar.wasm_operators.Operators.{Seen}
 use Rattle.walrus_body_locals.specs.wasm_body_grammar.Bodies.{Point, next_point, opened, is_closed}
 use Rattle.walrus_body_locals.specs.wasm_normal_form.Trees.{tree_of}
 use Rattle.walrus_body_locals.specs.wasm_normal_form.Normal.{normal}

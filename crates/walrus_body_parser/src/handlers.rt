@@ -1,7 +1,7 @@
 //! Handlers of a legacy `try` begin.
 
 ghost use Rattle.std.specs.Prelude.{◌≡◌, [], Some, None, IfOk, IfErr, OnOk};
-ghost use Rattle.wasm_operators.specs.Operators.{Seen};
+ghost use Rattle.walrus_body_operands.specs.walrus_body_rules.wasm_body_grammar.wasm_operators.Operators.{Seen};
 ghost use Rattle.walrus_body_locals.specs.walrus_body_nesting.Opens.{IsReached, Shaped, Unless, ids_of, reach_on};
 ghost use Rattle.walrus_body_operands.specs.walrus_body_stack.Frames.{blocks, heading_of, inner, opens};
 ghost use Rattle.walrus_body_operands.specs.walrus_body_rules.Sights.{handler_of, results_of, tag_params};

@@ -3,8 +3,8 @@
 ghost use Rattle.std.specs.Prelude.{◌≡◌, ◌<◌, ◌≤◌, ◌+◌, length, true, IfOk, OnOk, Some, Err};
 ghost use Rattle.std.specs.Bool.{OnTrue};
 ghost use Rattle.wasm_reader.specs.Cursor.{Cursor, Forward, IsWithin, end_of, rest};
-ghost use Rattle.wasm_operators.specs.declared.entry.Entry.{Entry};
-ghost use Rattle.wasm_operators.specs.Table.{find_code};
+ghost use Rattle.walrus_body_operands.specs.walrus_body_rules.wasm_body_grammar.wasm_operators.declared.entry.Entry.{Entry};
+ghost use Rattle.walrus_body_operands.specs.walrus_body_rules.wasm_body_grammar.wasm_operators.Table.{find_code};
 ghost use Rattle.walrus_body_locals.specs.wasm_body_grammar.Bodies.{operator};
 ghost use Rattle.walrus_operators.specs.Operators.{seen, IsNext, IsNextOf, ReadsOperator};
 ghost use Rattle.walrus_body_locals.specs.walrus_body_nesting.Opens.{Shaped};

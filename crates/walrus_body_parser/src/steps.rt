@@ -1,7 +1,7 @@
 //! The open sequences change, operator by operator.
 
 ghost use Rattle.std.specs.Prelude.{◌≡◌, OnOk};
-ghost use Rattle.wasm_operators.specs.Operators.{Seen};
+ghost use Rattle.walrus_body_operands.specs.walrus_body_rules.wasm_body_grammar.wasm_operators.Operators.{Seen};
 ghost use Rattle.walrus_body_locals.specs.walrus_body_nesting.Opens.{Shaped, ids_of};
 ghost use Rattle.walrus_body_operands.specs.walrus_body_stack.Frames.{blocks, heading_of, opens};
 ghost use Rattle.walrus_body_operands.specs.Steps.{IsStep};

@@ -2,8 +2,8 @@
 
 ghost use Rattle.std.specs.Prelude.{◌≡◌, ◌<◌, ◌≤◌, ◌+◌, length, IfOk, IfErr};
 ghost use Rattle.wasm_reader.specs.Cursor.{IsWithin, end_of};
-ghost use Rattle.walrus_builder.specs.Built.{contents};
-ghost use Rattle.walrus_builder.specs.Functions.{seqs_of};
+ghost use Rattle.walrus_body_operands.specs.walrus_body_stack.walrus_builder.Built.{contents};
+ghost use Rattle.walrus_body_operands.specs.walrus_body_stack.walrus_builder.Functions.{seqs_of};
 ghost use Rattle.walrus_body_locals.specs.walrus_body_nesting.Opens.{type_at};
 ghost use Rattle.walrus_body_operands.specs.walrus_body_stack.Frames.{heading};
 ghost use Rattle.walrus_body_parser.specs.Trees.{ReadsTree, RefusesTree, validating};
@@ -13,7 +13,7 @@ use std::alloc::Global;
 use walrus_body_locals::body_env::{BodyError, Validator};
 use walrus_body_operands::Scope;
 use walrus_body_operands::body_stack::Stack;
-use walrus_builder::FunctionBuilder;
+use walrus_body_operands::builder::FunctionBuilder;
 use walrus_operators::OperatorReader;
 use wasm_reader::BinaryReader;
 

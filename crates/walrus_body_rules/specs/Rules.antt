@@ -2,9 +2,9 @@
 use Rattle.std.specs.Prelude.{ℕ, ◌^◌, ◌&&◌, ◌||◌, nat_lt, Bool, false, not, List, [], ◌∷◌, Option, Some, None}
 use Rattle.std.specs.List.{list_any}
 use Rattle.std.specs.Option.{is_some}
-use Rattle.wasm_immediates.specs.declared.block_type.BlockType.{BlockType}
-use Rattle.wasm_immediates.specs.declared.block_type.BlockType.TheVariants as blocks
-use Rattle.wasm_immediates.specs.Items.{Types, Memories, Item, Block, Access}
+use Rattle.wasm_body_grammar.specs.wasm_operator_names.wasm_immediates.declared.block_type.BlockType.{BlockType}
+use Rattle.wasm_body_grammar.specs.wasm_operator_names.wasm_immediates.declared.block_type.BlockType.TheVariants as blocks
+use Rattle.wasm_body_grammar.specs.wasm_operator_names.wasm_immediates.Items.{Types, Memories, Item, Block, Access}
 use Rattle.wasm_body_grammar.specs.wasm_operators.Operators.{Seen, flow_of}
 use Rattle.wasm_body_grammar.specs.wasm_operator_names.Names.{Name, operator_names}
 use Rattle.wasm_body_grammar.specs.wasm_formats.Stops.{Trouble, TypeForm, Position, Bounds}

@@ -5,7 +5,7 @@ use Rattle.walrus_instr.specs.declared.instr.Instr.{Instr}
 use Rattle.walrus_instr.specs.declared.instr.TryTableCatch.{TryTableCatch}
 use Rattle.walrus_instr.specs.declared.seq.InstrLocId.{InstrLocId}
 use Rattle.walrus_instr.specs.declared.seq.InstrSeqType.{InstrSeqType}
-use Rattle.walrus_builder.specs.Built.{Seq, empty_seq, no_place}
+use Rattle.walrus_body_nesting.specs.walrus_builder.Built.{Seq, empty_seq, no_place}
 use Rattle.walrus_body_nesting.specs.declared.frames.Opener.TheVariants as openers
 use Rattle.walrus_body_nesting.specs.declared.frames.Reach.{Reach}
 use Rattle.walrus_body_nesting.specs.declared.frames.Reach.TheVariants.{Live, Cut, Dropped}

@@ -7,7 +7,7 @@ use Rattle.walrus_instr.specs.declared.seq.InstrSeq.{InstrSeq}
 use Rattle.walrus_instr.specs.declared.seq.InstrSeqType.{InstrSeqType}
 use Rattle.walrus_instr.specs.declared.instr.TryTableCatch.{TryTableCatch}
 use Rattle.walrus_body_nesting.specs.wasm_body_grammar.Frames.{Plain}
-use Rattle.walrus_builder.specs.Built.{seq_of, no_place}
+use Rattle.walrus_body_nesting.specs.walrus_builder.Built.{seq_of, no_place}
 use Rattle.walrus_body_nesting.specs.declared.frames.Opener.TheVariants as openers
 use Rattle.walrus_body_nesting.specs.declared.frames.Reach.TheVariants.{Live}
 use Rattle.walrus_body_nesting.specs.Stands.{Part}

@@ -8,8 +8,8 @@ use Rattle.walrus_instr.specs.declared.instr.Instr.TheVariants as instr
 use Rattle.walrus_instr.specs.declared.instr.TryTableCatch.{TryTableCatch}
 use Rattle.walrus_instr.specs.declared.seq.InstrLocId.{InstrLocId}
 use Rattle.walrus_instr.specs.declared.seq.InstrSeqType.{InstrSeqType}
-use Rattle.walrus_builder.specs.declared.function.FunctionBuilder.{FunctionBuilder}
-use Rattle.walrus_builder.specs.Built.{Seq, contents, edited, filled_with, empty_seq, no_place}
+use Rattle.walrus_body_nesting.specs.walrus_builder.declared.function.FunctionBuilder.{FunctionBuilder}
+use Rattle.walrus_body_nesting.specs.walrus_builder.Built.{Seq, contents, edited, filled_with, empty_seq, no_place}
 use Rattle.walrus_body_nesting.specs.wasm_formats.Stops.{Trouble, Nesting, Position}
 use Rattle.walrus_body_nesting.specs.wasm_body_grammar.Frames as grammar
 use Rattle.walrus_body_nesting.specs.declared.frames.Opener.{Opener}

@@ -18,3 +18,7 @@ pub mod body_env {
 pub mod body_nesting {
     pub use walrus_body_nesting::Opener;
 }
+
+pub mod builder {
+    pub use walrus_body_nesting::builder::FunctionBuilder;
+}

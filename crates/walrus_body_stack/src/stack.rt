@@ -2,8 +2,8 @@
 
 ghost use Rattle.std.specs.Prelude.{◌≡◌, ◌<◌, [], ◌∷◌, ◌++◌, length, slice_get, IfOk, OnOk, Some};
 ghost use Rattle.walrus_body_nesting.specs.wasm_body_grammar.Frames.{Plain};
-ghost use Rattle.walrus_builder.specs.Built.{contents, empty_seq, no_place};
-ghost use Rattle.walrus_builder.specs.Functions.{seqs_of};
+ghost use Rattle.walrus_body_nesting.specs.walrus_builder.Built.{contents, empty_seq, no_place};
+ghost use Rattle.walrus_body_nesting.specs.walrus_builder.Functions.{seqs_of};
 ghost use Rattle.walrus_body_nesting.specs.declared.frames.Opener.TheVariants as openers;
 ghost use Rattle.walrus_body_nesting.specs.declared.frames.Reach.TheVariants.{Live};
 ghost use Rattle.walrus_body_nesting.specs.Opens.{Shaped, begun, ids_of, ran, type_at};
@@ -17,8 +17,8 @@ use crate::nest::Nest;
 use crate::pile::Pile;
 use std::alloc::{AllocError, Global};
 use walrus_arena::InstrSeqId;
+use walrus_body_nesting::builder::FunctionBuilder;
 use walrus_body_nesting::{Opener, Reach};
-use walrus_builder::FunctionBuilder;
 use walrus_instr::{Instr, InstrLocId, InstrSeqType, TryTableCatch};
 
 /// A body that is read: its open sequences, in a list, so that their number is bounded by memory alone.

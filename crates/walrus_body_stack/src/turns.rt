@@ -2,7 +2,7 @@
 
 ghost use Rattle.std.specs.Prelude.{◌≡◌, ◌<◌, [], ◌∷◌, ◌++◌, None, Bool, length, IfOk, IfErr, OnOk};
 ghost use Rattle.walrus_body_nesting.specs.wasm_body_grammar.Frames.{Plain, Catching, Caught};
-ghost use Rattle.walrus_builder.specs.Built.{empty_seq};
+ghost use Rattle.walrus_body_nesting.specs.walrus_builder.Built.{empty_seq};
 ghost use Rattle.walrus_body_nesting.specs.Faults.{Answers, IsRefusal};
 ghost use Rattle.walrus_body_nesting.specs.Stands.{Handles, HandlesAll, Otherwise};
 ghost use Rattle.walrus_body_nesting.specs.Opens.{Shaped};

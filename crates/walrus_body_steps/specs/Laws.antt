@@ -4,9 +4,9 @@ use Rattle.walrus_body_stack.specs.walrus_instr.declared.instr.Instr.{Instr}
 use Rattle.walrus_body_stack.specs.walrus_instr.declared.seq.InstrLocId.{InstrLocId}
 use Rattle.walrus_body_stack.specs.walrus_instr.declared.seq.InstrSeqType.{InstrSeqType}
 use Rattle.walrus_body_stack.specs.walrus_builder.Built.{no_place}
-use Rattle.wasm_immediates.specs.Items.{Labels, Names}
-use Rattle.wasm_operators.specs.declared.entry.Flow.TheVariants as flows
-use Rattle.wasm_operators.specs.Operators.{Seen, flow_of}
+use Rattle.walrus_body_rules.specs.walrus_pairing.wasm_immediates.Items.{Labels, Names}
+use Rattle.walrus_body_rules.specs.wasm_body_grammar.wasm_operators.declared.entry.Flow.TheVariants as flows
+use Rattle.walrus_body_rules.specs.wasm_body_grammar.wasm_operators.Operators.{Seen, flow_of}
 use Rattle.walrus_body_rules.specs.wasm_body_grammar.Frames.{Plain, Catching, Caught}
 use Rattle.walrus_body_stack.specs.wasm_normal_form.Roles.{Placed, Passes, Runs, role, cuts}
 use Rattle.walrus_body_stack.specs.wasm_normal_form.Trees.{open_in, tree_of}

@@ -4,11 +4,11 @@ use Rattle.std.specs.Prelude.{Ok}
 use Rattle.walrus_body_stack.specs.walrus_instr.declared.seq.InstrLocId.{InstrLocId}
 use Rattle.walrus_body_stack.specs.walrus_instr.declared.seq.InstrSeqType.{InstrSeqType}
 use Rattle.walrus_body_stack.specs.walrus_builder.Built.{Seq, empty_seq, no_place}
-use Rattle.wasm_immediates.specs.Items.{Item, Names, Number, S32, S64, Bits, Byte, Bytes, Heap, Block, Access, ManyLabels, ManyValues, ManyClauses}
-use Rattle.wasm_operators.specs.declared.entry.Flow.{Flow}
-use Rattle.wasm_operators.specs.declared.entry.Flow.TheVariants as flows
-use Rattle.wasm_operators.specs.Operators.{Seen, flow_of}
-use Rattle.wasm_operators.specs.Table.{structure_rows}
+use Rattle.walrus_body_rules.specs.walrus_pairing.wasm_immediates.Items.{Item, Names, Number, S32, S64, Bits, Byte, Bytes, Heap, Block, Access, ManyLabels, ManyValues, ManyClauses}
+use Rattle.walrus_body_rules.specs.wasm_body_grammar.wasm_operators.declared.entry.Flow.{Flow}
+use Rattle.walrus_body_rules.specs.wasm_body_grammar.wasm_operators.declared.entry.Flow.TheVariants as flows
+use Rattle.walrus_body_rules.specs.wasm_body_grammar.wasm_operators.Operators.{Seen, flow_of}
+use Rattle.walrus_body_rules.specs.wasm_body_grammar.wasm_operators.Table.{structure_rows}
 use Rattle.walrus_body_rules.specs.wasm_body_grammar.Frames.{Frame, Plain, Choice, Trying, Catching, Caught, turned}
 use Rattle.walrus_body_stack.specs.wasm_normal_form.Roles.{Placed, Opens, Turns, Ends, role_in, role, is_if_in, is_delegate_in, else_op, end_op}
 use Rattle.walrus_body_stack.specs.wasm_normal_form.Trees.{open_in, tree_of}

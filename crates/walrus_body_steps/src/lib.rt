@@ -15,3 +15,7 @@ pub mod body_nesting {
 pub mod body_stack {
     pub use walrus_body_stack::Stack;
 }
+
+pub mod builder {
+    pub use walrus_body_stack::builder::FunctionBuilder;
+}

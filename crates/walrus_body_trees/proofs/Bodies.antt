@@ -23,7 +23,7 @@ use Rattle.walrus_body_nesting.specs.Opens.{same}
 use Rattle.walrus_body_trees.specs.Laws.{BodiesAreTrees, BodiesMeanTheirs, IsBody, meant, ops_of, renamed}
 use Rattle.walrus_body_trees.proofs.Counted.{AllFit, Counts, CountsAll, counts, first_counts, normal_counts}
 use Rattle.walrus_body_trees.proofs.Standing.{stands_tree}
-use Rattle.walrus_body_steps.specs.Picks.{normal_picked}
+use Rattle.walrus_meaning.specs.walrus_local_function.walrus_body_parser.walrus_body_steps.Picks.{normal_picked}
 use Rattle.walrus_body_trees.proofs.Texts.{body_tells, first_fits, fit_all, normal_fits}
 
 abbrev AreSpelled : Type 0

@@ -25,7 +25,7 @@ use Rattle.walrus_body_nesting.specs.declared.frames.Opener.TheVariants as opene
 use Rattle.walrus_body_nesting.specs.Stands.{Part, Finish, Ended, Delegated, Block, parts_of, finish_of, EndsOnce}
 use Rattle.walrus_body_nesting.specs.Opens.{Makes}
 use Rattle.walrus_body_rules.specs.Sights.{Sight, look}
-use Rattle.walrus_body_steps.specs.Meanings.{AreLabels, RunsAs, IsClause, AreClauses, IsOpener, branch_at, cast_at}
+use Rattle.walrus_meaning.specs.walrus_local_function.walrus_body_parser.walrus_body_steps.Meanings.{AreLabels, RunsAs, IsClause, AreClauses, IsOpener, branch_at, cast_at}
 use Rattle.walrus_body_trees.proofs.Counted.{Names1}
 
 abbrev pub seqs_in : List Part → List ℕ

@@ -15,7 +15,7 @@ use Rattle.walrus_tree.specs.Trees.{Has, AreDistinct, AreWithin, Trees, Nothing,
 use Rattle.walrus_operator_laws.specs.Laws.{OperatorComesBack}
 use Rattle.walrus_body_nesting.specs.Stands.{Part, Finish, Ended, Delegated, with, none, lies, StandsAs}
 use Rattle.walrus_body_rules.specs.Sights.{Sight}
-use Rattle.walrus_body_steps.specs.Meanings.{EndsAs, meaning}
+use Rattle.walrus_meaning.specs.walrus_local_function.walrus_body_parser.walrus_body_steps.Meanings.{EndsAs, meaning}
 use Rattle.walrus_body_trees.proofs.Counted.{Counts, Hands}
 use Rattle.walrus_body_trees.proofs.Instrs.{Finishes, seqs_in, made_children, made_within, run_stands}
 

@@ -39,9 +39,9 @@ use Rattle.walrus_body_nesting.specs.Stands as stands
 use Rattle.walrus_body_nesting.specs.Stands.{Turn, Otherwise, Handles, HandlesAll, Part, Finish, Ended, Delegated, parts_of, finish_of, place_in, with, none, lies, StandsAs}
 use Rattle.walrus_body_nesting.specs.Opens.{same, Makes}
 use Rattle.walrus_body_rules.specs.Sights.{Sight}
-use Rattle.walrus_body_steps.specs.Meanings.{EndsAs, TurnsTo, meaning}
-use Rattle.walrus_body_steps.specs.Stepping.{same_op}
-use Rattle.walrus_body_steps.specs.Picks.{with_picks}
+use Rattle.walrus_meaning.specs.walrus_local_function.walrus_body_parser.walrus_body_steps.Meanings.{EndsAs, TurnsTo, meaning}
+use Rattle.walrus_meaning.specs.walrus_local_function.walrus_body_parser.walrus_body_steps.Stepping.{same_op}
+use Rattle.walrus_meaning.specs.walrus_local_function.walrus_body_parser.walrus_body_steps.Picks.{with_picks}
 use Rattle.walrus_body_trees.specs.Laws.{IsNaming, AreOwn, renamed}
 use Rattle.walrus_body_trees.proofs.Counted.{AllFit, Counts}
 use Rattle.walrus_body_trees.proofs.Instrs.{seqs_in, made_children, run_stands}

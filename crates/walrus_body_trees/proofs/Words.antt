@@ -35,7 +35,7 @@ use Rattle.walrus_body_nesting.specs.declared.frames.Opener.TheVariants as opene
 use Rattle.walrus_body_nesting.specs.Stands as stands
 use Rattle.walrus_body_nesting.specs.Opens.{Makes}
 use Rattle.walrus_body_rules.specs.Sights.{Sight, look}
-use Rattle.walrus_body_steps.specs.Meanings.{AreLabels, RunsAs, IsClause, AreClauses, IsOpener, OpensOf, branch_at, cast_at, reference}
+use Rattle.walrus_meaning.specs.walrus_local_function.walrus_body_parser.walrus_body_steps.Meanings.{AreLabels, RunsAs, IsClause, AreClauses, IsOpener, OpensOf, branch_at, cast_at, reference}
 use Rattle.walrus_body_trees.specs.Laws.{IsNaming, AreOwn}
 use Rattle.walrus_body_trees.proofs.Instrs.{has_at}
 use Rattle.walrus_body_trees.proofs.Shapes.{blocks_is, code_is, table_is, flags_below}

@@ -16,7 +16,7 @@ use Rattle.walrus_tree.specs.Trees.{IsTree}
 use Rattle.walrus_body_nesting.specs.Stands.{StandsAs}
 use Rattle.walrus_body_nesting.specs.Opens.{same}
 use Rattle.walrus_body_rules.specs.Sights.{Sight, look, written_block}
-use Rattle.walrus_body_steps.specs.Meanings.{meaning}
+use Rattle.walrus_meaning.specs.walrus_local_function.walrus_body_parser.walrus_body_steps.Meanings.{meaning}
 use Rattle.walrus_meaning.specs.walrus_local_function.declared.local_function.LocalFunction.{LocalFunction}
 use Rattle.walrus_builder.specs.Functions.{seqs_of}
 use Rattle.walrus_meaning.specs.Words.{own_block}

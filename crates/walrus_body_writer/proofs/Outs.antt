@@ -2,8 +2,8 @@
 use Rattle.std.proofs.Common.{ℕ, ◌+◌, ◌<◌, ◌≡◌, drop, get_or, take, Bool, true, false, List, [], ◌∷◌, ◌++◌, length, Option, Some, None, Ok, Err, refl, sym, ap, arith, ◌∙◌, length-append}
 use Rattle.std.specs.Prelude.{if◌then◌else◌}
 use Rattle.std.proofs.lemmas.List.{append-nil, append_assoc, drop_more}
-use Rattle.walrus_instr.specs.declared.seq.InstrLocId.{InstrLocId}
-use Rattle.walrus_instr.specs.declared.seq.InstrSeq.{InstrSeq}
+use Rattle.walrus_tree.specs.walrus_walks.walrus_instr.declared.seq.InstrLocId.{InstrLocId}
+use Rattle.walrus_tree.specs.walrus_walks.walrus_instr.declared.seq.InstrSeq.{InstrSeq}
 use Rattle.walrus_tree.specs.Text.{Piece}
 use Rattle.wasm_operators.specs.Operators.{Seen}
 use Rattle.walrus_pairing.specs.Looks.{Look, Or}

@@ -3,12 +3,12 @@ use Rattle.std.proofs.Common.{ℕ, ◌+◌, ◌<◌, ◌≡◌, List, [], ◌∷
 use Rattle.std.specs.Prelude.{slice_get, slice_set}
 use Rattle.std.proofs.lemmas.List.{append_assoc}
 use Rattle.std.proofs.lemmas.Option.{same_Some}
-use Rattle.walrus_instr.specs.declared.instr.Instr.{Instr}
-use Rattle.walrus_instr.specs.declared.instr.Instr.TheVariants.{Block, Loop, IfElse, Try, TryTable}
-use Rattle.walrus_instr.specs.declared.instr.LegacyCatch.{LegacyCatch}
-use Rattle.walrus_instr.specs.declared.instr.LegacyCatch.TheVariants as Legacy
-use Rattle.walrus_instr.specs.declared.seq.InstrLocId.{InstrLocId}
-use Rattle.walrus_instr.specs.declared.seq.InstrSeq.{InstrSeq}
+use Rattle.walrus_tree.specs.walrus_walks.walrus_instr.declared.instr.Instr.{Instr}
+use Rattle.walrus_tree.specs.walrus_walks.walrus_instr.declared.instr.Instr.TheVariants.{Block, Loop, IfElse, Try, TryTable}
+use Rattle.walrus_tree.specs.walrus_walks.walrus_instr.declared.instr.LegacyCatch.{LegacyCatch}
+use Rattle.walrus_tree.specs.walrus_walks.walrus_instr.declared.instr.LegacyCatch.TheVariants as Legacy
+use Rattle.walrus_tree.specs.walrus_walks.walrus_instr.declared.seq.InstrLocId.{InstrLocId}
+use Rattle.walrus_tree.specs.walrus_walks.walrus_instr.declared.seq.InstrSeq.{InstrSeq}
 use Rattle.walrus_tree.specs.walrus_walks.Tree.{children, children_in, handlers}
 use Rattle.walrus_tree.specs.declared.marks.Mark.{Mark}
 use Rattle.walrus_tree.specs.declared.marks.Mark.TheVariants.{Fresh, Open, Done}

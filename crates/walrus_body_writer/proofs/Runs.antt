@@ -1,9 +1,9 @@
 -- Instructions that hold no sequence, one after another at a place of an open sequence.
 use Rattle.std.proofs.Common.{ℕ, ◌≤◌, ◌≡◌, false, List, [], ◌∷◌, ◌++◌, length, Option, Some, Ok, Err, refl, sym, ap, subst, arith, ◌∙◌, append-nil, inl, inr}
 use Rattle.std.specs.Prelude.{slice_get, Result, OnErr, IfErr, IsErr, IsErrAnd}
-use Rattle.walrus_instr.specs.declared.instr.Instr.{Instr}
-use Rattle.walrus_instr.specs.declared.seq.InstrLocId.{InstrLocId}
-use Rattle.walrus_instr.specs.declared.seq.InstrSeq.{InstrSeq}
+use Rattle.walrus_tree.specs.walrus_walks.walrus_instr.declared.instr.Instr.{Instr}
+use Rattle.walrus_tree.specs.walrus_walks.walrus_instr.declared.seq.InstrLocId.{InstrLocId}
+use Rattle.walrus_tree.specs.walrus_walks.walrus_instr.declared.seq.InstrSeq.{InstrSeq}
 use Rattle.walrus_tree.specs.Text.{Piece, Operator}
 use Rattle.walrus_tree.specs.TextLaws.{TextIsPlain}
 use Rattle.walrus_pairing.specs.Looks.{Look}

@@ -1,11 +1,11 @@
 -- Why a body isn't written, and what a refusal leaves.
 use Rattle.std.specs.Prelude.{◌≡◌, ◌⊎◌, List, [], ◌∷◌, ◌++◌, Option, Some, None, Err, slice_get}
-use Rattle.walrus_instr.specs.walrus_forms.declared.value.ValType.{ValType}
-use Rattle.walrus_instr.specs.declared.instr.Instr.{Instr}
-use Rattle.walrus_instr.specs.declared.instr.Instr.TheVariants.{Block, Loop, IfElse, Try, TryTable, Select}
-use Rattle.walrus_instr.specs.declared.seq.InstrSeq.{InstrSeq}
-use Rattle.walrus_instr.specs.declared.seq.InstrSeqType.{InstrSeqType}
-use Rattle.walrus_instr.specs.declared.seq.InstrSeqType.TheVariants.{Simple, MultiValue}
+use Rattle.walrus_tree.specs.walrus_walks.walrus_instr.walrus_forms.declared.value.ValType.{ValType}
+use Rattle.walrus_tree.specs.walrus_walks.walrus_instr.declared.instr.Instr.{Instr}
+use Rattle.walrus_tree.specs.walrus_walks.walrus_instr.declared.instr.Instr.TheVariants.{Block, Loop, IfElse, Try, TryTable, Select}
+use Rattle.walrus_tree.specs.walrus_walks.walrus_instr.declared.seq.InstrSeq.{InstrSeq}
+use Rattle.walrus_tree.specs.walrus_walks.walrus_instr.declared.seq.InstrSeqType.{InstrSeqType}
+use Rattle.walrus_tree.specs.walrus_walks.walrus_instr.declared.seq.InstrSeqType.TheVariants.{Simple, MultiValue}
 use Rattle.walrus_index_maps.specs.declared.space.Space.{Space as Named}
 use Rattle.walrus_index_maps.specs.declared.space.Space.TheVariants as words
 use Rattle.walrus_pairing.specs.declared.error.PairError.{PairError}

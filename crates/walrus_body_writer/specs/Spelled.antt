@@ -1,15 +1,15 @@
 -- What is written for a body: each piece of its text as an operator, in its shortest spelling, with numbers for what it names; or why
 -- it isn't written.
 use Rattle.std.specs.Prelude.{ℕ, suc, ◌+◌, ◌==◌, Bool, true, false, List, [], ◌∷◌, ◌++◌, map, length, Option, Some, None, Ok, Err, slice_get, if◌then◌else◌}
-use Rattle.walrus_instr.specs.walrus_forms.declared.value.RefType.{RefType}
-use Rattle.walrus_instr.specs.declared.instr.Instr.{Instr}
-use Rattle.walrus_instr.specs.declared.instr.Instr.TheVariants.{Block as BlockInstr, Loop, IfElse, Try, TryTable, Br, BrIf, BrTable, BrOnNull, BrOnNonNull, BrOnCast, BrOnCastFail, Rethrow}
-use Rattle.walrus_instr.specs.declared.instr.TryTableCatch.{TryTableCatch}
-use Rattle.walrus_instr.specs.declared.instr.TryTableCatch.TheVariants as parts
-use Rattle.walrus_instr.specs.declared.seq.InstrLocId.{InstrLocId}
-use Rattle.walrus_instr.specs.declared.seq.InstrSeq.{InstrSeq}
-use Rattle.walrus_instr.specs.declared.seq.InstrSeqType.{InstrSeqType}
-use Rattle.walrus_instr.specs.declared.seq.InstrSeqType.TheVariants.{Simple, MultiValue}
+use Rattle.walrus_tree.specs.walrus_walks.walrus_instr.walrus_forms.declared.value.RefType.{RefType}
+use Rattle.walrus_tree.specs.walrus_walks.walrus_instr.declared.instr.Instr.{Instr}
+use Rattle.walrus_tree.specs.walrus_walks.walrus_instr.declared.instr.Instr.TheVariants.{Block as BlockInstr, Loop, IfElse, Try, TryTable, Br, BrIf, BrTable, BrOnNull, BrOnNonNull, BrOnCast, BrOnCastFail, Rethrow}
+use Rattle.walrus_tree.specs.walrus_walks.walrus_instr.declared.instr.TryTableCatch.{TryTableCatch}
+use Rattle.walrus_tree.specs.walrus_walks.walrus_instr.declared.instr.TryTableCatch.TheVariants as parts
+use Rattle.walrus_tree.specs.walrus_walks.walrus_instr.declared.seq.InstrLocId.{InstrLocId}
+use Rattle.walrus_tree.specs.walrus_walks.walrus_instr.declared.seq.InstrSeq.{InstrSeq}
+use Rattle.walrus_tree.specs.walrus_walks.walrus_instr.declared.seq.InstrSeqType.{InstrSeqType}
+use Rattle.walrus_tree.specs.walrus_walks.walrus_instr.declared.seq.InstrSeqType.TheVariants.{Simple, MultiValue}
 use Rattle.walrus_tree.specs.Text.{Piece, Operator, Else, Catch, CatchAll, Delegate, End}
 use Rattle.wasm_immediates.specs.declared.block_type.BlockType.{BlockType}
 use Rattle.wasm_immediates.specs.declared.block_type.BlockType.TheVariants as blocks

@@ -9,7 +9,7 @@ ghost use Rattle.walrus_body_writer.specs.Tested.{may_enter, names_labels};
 
 use std::alloc::{AllocError, Global};
 use walrus_arena::InstrSeqId;
-use walrus_instr::Instr;
+use walrus_tree::instr::Instr;
 use walrus_tree::marks::{Mark, is_within};
 
 /// How many sequences are around each open one, by id, how far each was tested, and how many are open.

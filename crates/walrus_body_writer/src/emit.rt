@@ -29,10 +29,10 @@ use std::alloc::Global;
 use walrus_arena::{FunctionId, InstrSeqId};
 use walrus_body_env::BodyError;
 use walrus_index_maps::IdsToIndices;
-use walrus_instr::{Instr, InstrLocId, InstrSeq};
 use walrus_pairing::PairError;
 use walrus_tree::builder::FunctionBuilder;
 use walrus_tree::check_tree;
+use walrus_tree::instr::{Instr, InstrLocId, InstrSeq};
 
 // Puts what is written there.
 fn put(out: &mut Output, operator: Written, place: InstrLocId) -> Result<(), PairError>

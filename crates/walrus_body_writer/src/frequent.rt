@@ -18,19 +18,19 @@ use crate::numbers::Numbers;
 use crate::operators::{block_type, type_of};
 use crate::todo::Closer;
 use std::alloc::AllocError;
-use walrus_access_codes::instr::{MemArg, Value};
-use walrus_access_codes::operator_codes::{
-    byte, code_of_binary, code_of_unary, lane_of_binary, lane_of_unary,
-};
-use walrus_access_codes::{code_of_load, code_of_store};
 use walrus_arena::{FunctionId, GlobalId, InstrSeqId, LocalId, MemoryId};
 use walrus_index_maps::Space;
-use walrus_instr::{Instr, InstrSeq};
 use walrus_operator_writer::{
     write_access, write_bits32, write_bits64, write_block_type, write_byte, write_code,
     write_index, write_signed,
 };
 use walrus_pairing::PairError;
+use walrus_pairing::access_codes::instr::{MemArg, Value};
+use walrus_pairing::access_codes::operator_codes::{
+    byte, code_of_binary, code_of_unary, lane_of_binary, lane_of_unary,
+};
+use walrus_pairing::access_codes::{code_of_load, code_of_store};
+use walrus_tree::instr::{Instr, InstrSeq};
 use wasm_immediates::{BlockType, MemoryAccess};
 use wasm_operators::OpCode;
 

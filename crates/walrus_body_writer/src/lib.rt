@@ -26,6 +26,10 @@ pub mod body_env {
     pub use walrus_body_env::{BodyEnv, BodyError, Validator};
 }
 
+pub mod builder {
+    pub use walrus_tree::builder::FunctionBuilder;
+}
+
 pub mod pairing {
     pub use walrus_pairing::{PairError, write_value};
 }

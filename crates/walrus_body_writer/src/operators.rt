@@ -15,11 +15,11 @@ use crate::numbers::{Numbers, Written, op};
 use crate::todo::Closer;
 use std::alloc::{AllocError, Global};
 use walrus_arena::{InstrSeqId, TypeId};
-use walrus_instr::type_table::{RefType, ValType};
-use walrus_instr::{Instr, InstrSeq, InstrSeqType, TryTableCatch};
 use walrus_pairing::operator_codes::{byte, object};
 use walrus_pairing::operators::Immediates;
 use walrus_pairing::{PairError, operator_of, write_heap, write_value};
+use walrus_tree::instr::type_table::{RefType, ValType};
+use walrus_tree::instr::{Instr, InstrSeq, InstrSeqType, TryTableCatch};
 use wasm_immediates::{BlockType, Clause};
 
 /// The type of a sequence.

@@ -10,8 +10,8 @@ use crate::todo::Closer;
 use crate::visit::{TextVisitor, visit_once};
 use std::alloc::{AllocError, Global};
 use walrus_body_env::BodyError;
-use walrus_instr::{Instr, InstrLocId};
 use walrus_tree::builder::FunctionBuilder;
+use walrus_tree::instr::{Instr, InstrLocId};
 
 // Counts operators.
 #[derive(Drop)]

@@ -6,7 +6,7 @@ ghost use Rattle.walrus_body_writer.specs.Doing.{closer_before, entering, handli
 use crate::todos::Todos;
 use std::alloc::AllocError;
 use walrus_arena::{InstrSeqId, TagId};
-use walrus_instr::{Instr, InstrLocId, LegacyCatch};
+use walrus_tree::instr::{Instr, InstrLocId, LegacyCatch};
 
 /// What stands behind a sequence.
 #[derive(Clone, Copy)]

@@ -3,7 +3,7 @@
 ghost use Rattle.std.specs.Prelude.{◌≡◌, ℕ, List, IfErr, IfOk, MatchBool, OnErr, OnOk};
 ghost use Rattle.std.specs.Bool.{OnTrue};
 ghost use Rattle.std.specs.List.{FoldsTo};
-ghost use Rattle.walrus_instr.specs.declared.seq.InstrLocId.{InstrLocId as Loc};
+ghost use Rattle.walrus_tree.specs.walrus_walks.walrus_instr.declared.seq.InstrLocId.{InstrLocId as Loc};
 ghost use Rattle.walrus_tree.specs.walrus_builder.Functions.{seqs_of};
 ghost use Rattle.walrus_tree.specs.Trees.{IsTree};
 ghost use Rattle.walrus_tree.specs.Text.{Operator, Piece, operators};
@@ -19,9 +19,9 @@ use crate::walk::{advance, item_at, plain_at, seq_at};
 use std::alloc::{AllocError, Global};
 use walrus_arena::InstrSeqId;
 use walrus_body_env::BodyError;
-use walrus_instr::{Instr, InstrLocId, InstrSeq};
 use walrus_tree::builder::FunctionBuilder;
 use walrus_tree::check_tree;
+use walrus_tree::instr::{Instr, InstrLocId, InstrSeq};
 
 /// Is told the text of a body: its operators in their order, each with its location.
 pub trait TextVisitor {

@@ -11,7 +11,7 @@ use crate::todo::{Closer, Met, Place, Todo, push_held};
 use crate::todos::Todos;
 use std::alloc::AllocError;
 use walrus_arena::InstrSeqId;
-use walrus_instr::{Instr, InstrLocId, InstrSeq};
+use walrus_tree::instr::{Instr, InstrLocId, InstrSeq};
 
 // Enters the sequence that is next, if it isn't open; none where it is unknown, or was entered before.
 fn begin(depths: &mut Depths, top: Todo) -> Result<Option<Place>, AllocError>

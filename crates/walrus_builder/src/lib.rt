@@ -15,6 +15,16 @@ pub use seq_builder::InstrSeqBuilder;
 pub use walks::{check_nesting, dfs_body_in_order, dfs_in_order, dfs_pre_order_mut};
 
 // Passed on to crates above, which then list this one alone.
+pub mod instr {
+    pub use walrus_walks::instr::{
+        Instr, InstrLocId, InstrSeq, InstrSeqType, LegacyCatch, TryTableCatch,
+    };
+
+    pub mod type_table {
+        pub use walrus_walks::instr::type_table::{RefType, ValType};
+    }
+}
+
 pub mod tree_walks {
     pub use walrus_walks::Visitor;
 

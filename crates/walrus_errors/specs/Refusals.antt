@@ -1,8 +1,8 @@
 -- Where a refusal stands, and what a reader's refusal is as that of a module.
 use Rattle.std.specs.Prelude.{ℕ, Option, Some, None}
-use Rattle.wasm_reader.specs.declared.error.ErrorKind.{ErrorKind}
-use Rattle.wasm_reader.specs.declared.error.ErrorKind.TheVariants as kinds
-use Rattle.wasm_reader.specs.declared.error.Error.{Error}
+use Rattle.wasm_formats.specs.wasm_reader.declared.error.ErrorKind.{ErrorKind}
+use Rattle.wasm_formats.specs.wasm_reader.declared.error.ErrorKind.TheVariants as kinds
+use Rattle.wasm_formats.specs.wasm_reader.declared.error.Error.{Error}
 use Rattle.walrus_errors.specs.declared.error.ModuleError.{ModuleError}
 use Rattle.walrus_errors.specs.declared.error.ModuleError.TheVariants.{Read, Header, SectionOrder, SectionSize, Count, Index, TypeForm, ConstExpr, OffsetType, Nesting, Position, Operator, Unsupported, DuplicateExport, Bounds, Limit, Memory}
 

@@ -5,8 +5,8 @@ ghost use Rattle.walrus_errors.specs.Refusals.{offset_of, refusal_of};
 
 use std::alloc::{AllocError, AllocFailed};
 use std::{error, fmt};
+use wasm_formats::reader::{Error as ReadError, ErrorKind as ReadErrorKind};
 use wasm_formats::{Form, Limited, Space};
-use wasm_reader::{Error as ReadError, ErrorKind as ReadErrorKind};
 
 /// What a call on a module answers.
 pub type Result<T, E = ModuleError> = std::result::Result<T, E>;

@@ -2,7 +2,7 @@
 use Rattle.std.proofs.Common.{◌≡◌, ◌∙◌, ℕ, zero, suc, Bool, false, List, [], ◌∷◌, ◌++◌, slice_get, Option, Some, None, refl, sym, ap, subst, inl, inr}
 use Rattle.std.specs.Option.{option_map}
 use Rattle.std.specs.List.{AllByRecursion, cons_option, filter_map, flat_map}
-use Rattle.wasm_ruled_modules.specs.Keeping.{EntriesKeep, file_kept}
+use Rattle.walrus_items_into.specs.walrus_functions_into.walrus_types_into.wasm_ruled_modules.Keeping.{EntriesKeep, file_kept}
 use Rattle.walrus_items_into.specs.walrus_tables_into.walrus_sections_into.walrus_collections.walrus_local_function.walrus_body_locals.walrus_body_nesting.wasm_formats.wasm_features.declared.WasmFeatures.{WasmFeatures}
 use Rattle.walrus_items_into.specs.walrus_tables_into.walrus_sections_into.walrus_collections.walrus_local_function.walrus_body_locals.wasm_grammar.States.{State, types_of}
 use Rattle.walrus_items_into.specs.walrus_tables_into.walrus_sections_into.walrus_forms.Forms.{Form}

@@ -4,6 +4,14 @@
 pub mod laws;
 
 // Passed on to crates above, which then list this one alone.
+pub mod body_trees {
+    pub mod laws {
+        pub use walrus_module_bodies::body_trees::laws::{
+            bodies_are_trees, bodies_mean_their_normal_form,
+        };
+    }
+}
+
 pub mod items_into {
     pub use walrus_items_into::read_items;
 
@@ -81,4 +89,8 @@ pub mod items_into {
 
 pub mod module_bodies {
     pub use walrus_module_bodies::{FileEnv, read_bodies};
+}
+
+pub mod payloads_into {
+    pub use walrus_items_into::payloads_into::{names_in, producers_in};
 }

@@ -7,12 +7,12 @@ ghost use Rattle.walrus_file_reader.specs.Contents.{section_put};
 
 use crate::pieces::{Data, read_code, read_custom};
 use std::alloc::Global as Alloc;
-use walrus_entry_readers::{Functions, Globals, Imports, Memories, Tables, Tags};
 use walrus_export_reader::Exports;
 use walrus_known_sections::{Each, Sections};
 use walrus_section_frames::{DataCount, Start};
 use walrus_section_reader::{Fault, FaultKind, Many, Result, read_section};
 use walrus_segment_readers::Elements;
+use walrus_segment_readers::entry_readers::{Functions, Globals, Imports, Memories, Tables, Tags};
 use walrus_type_readers::Types;
 use wasm_reader::BinaryReader;
 

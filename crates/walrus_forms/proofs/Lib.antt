@@ -5,3 +5,5 @@ pub mod FormLemmas
 pub mod ListLemmas
 pub mod PlaceLemmas
 pub mod RenamingLemmas
+-- Passed on to crates above, which then list this one alone.
+pub use Rattle.walrus_arena.proofs as walrus_arena

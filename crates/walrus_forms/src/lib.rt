@@ -20,5 +20,8 @@ pub use value::{AbstractHeapType, FieldType, HeapType, RefType, StorageType, Val
 
 // Passed on to crates above, which then list this one alone.
 pub mod arena {
-    pub use walrus_arena::{LocalId, Tombstone, TypeId};
+    pub use walrus_arena::{
+        DataId, ElementId, FunctionId, GlobalId, InstrSeqId, Iter, LocalId, MemoryId, RecGroupId,
+        RecGroupSpace, TableId, TagId, Tombstone, TombstoneArena, TypeId, TypeSpace,
+    };
 }

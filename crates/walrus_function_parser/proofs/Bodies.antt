@@ -12,28 +12,28 @@ use Rattle.wasm_formats.specs.Parts.{told_as, told_ok}
 use Rattle.wasm_formats.specs.Bytes.{never, either}
 use Rattle.wasm_formats.specs.Joined.{tested, tested_ok, checked, ends_at}
 use Rattle.wasm_formats.specs.Files.{parse_all}
-use Rattle.walrus_body_locals.specs.wasm_immediates.Items.{Space, Types, Functions, Tables, Memories, Tags, Globals, ElementSegments, DataSegments, Locals, Labels}
+use Rattle.walrus_body_parser.specs.walrus_body_locals.wasm_immediates.Items.{Space, Types, Functions, Tables, Memories, Tags, Globals, ElementSegments, DataSegments, Locals, Labels}
 use Rattle.walrus_body_parser.specs.wasm_operators.Operators.{Seen, operator_at}
 use Rattle.walrus_forms.specs.declared.value.ValType.{ValType}
 use Rattle.walrus_forms.specs.Renaming.{at, renamed_value}
 use Rattle.walrus_instr.specs.walrus_items.declared.local.Local.{Local}
 use Rattle.walrus_index_maps.specs.Maps.{Ids}
-use Rattle.walrus_body_locals.specs.wasm_body_grammar.Rules as grammar
-use Rattle.walrus_body_locals.specs.wasm_body_grammar.Rules.{Around}
-use Rattle.walrus_body_locals.specs.wasm_body_grammar.Bodies.{Run, run, Point, next_total, next_point, declared, opened, is_closed, operator, operator_in, takes_some, runs, body}
-use Rattle.walrus_body_locals.specs.wasm_normal_form.Trees.{tree_of}
+use Rattle.walrus_body_parser.specs.walrus_body_locals.wasm_body_grammar.Rules as grammar
+use Rattle.walrus_body_parser.specs.walrus_body_locals.wasm_body_grammar.Rules.{Around}
+use Rattle.walrus_body_parser.specs.walrus_body_locals.wasm_body_grammar.Bodies.{Run, run, Point, next_total, next_point, declared, opened, is_closed, operator, operator_in, takes_some, runs, body}
+use Rattle.walrus_body_parser.specs.walrus_body_locals.wasm_normal_form.Trees.{tree_of}
 use Rattle.walrus_instr.specs.declared.seq.InstrSeqType.{InstrSeqType}
-use Rattle.walrus_builder.specs.Built.{Building, Seq, seq_of, contents}
-use Rattle.walrus_body_locals.specs.walrus_body_env.declared.error.BodyError.{BodyError}
-use Rattle.walrus_body_locals.specs.walrus_body_env.declared.error.BodyError.TheVariants.{Memory}
-use Rattle.walrus_body_locals.specs.walrus_body_nesting.Opens.{type_at}
+use Rattle.walrus_body_parser.specs.walrus_body_stack.walrus_builder.Built.{Building, Seq, seq_of, contents}
+use Rattle.walrus_body_parser.specs.walrus_body_locals.walrus_body_env.declared.error.BodyError.{BodyError}
+use Rattle.walrus_body_parser.specs.walrus_body_locals.walrus_body_env.declared.error.BodyError.TheVariants.{Memory}
+use Rattle.walrus_body_parser.specs.walrus_body_locals.walrus_body_nesting.Opens.{type_at}
 use Rattle.walrus_body_parser.specs.walrus_body_steps.Picks.{picks_stand}
-use Rattle.walrus_body_locals.proofs.Answering.{end_stays}
+use Rattle.walrus_body_parser.proofs.walrus_body_locals.Answering.{end_stays}
 use Rattle.walrus_body_parser.specs.walrus_body_rules.Sights.{Sight, room}
 use Rattle.walrus_body_parser.specs.walrus_body_rules.Rules.{operator_test}
 use Rattle.walrus_body_parser.specs.walrus_body_rules.Agreeing.{Sees, tests_agree}
-use Rattle.walrus_body_locals.specs.Told.{Telling, Pass}
-use Rattle.walrus_body_locals.specs.Locals.{run_told, IsSeen, FailRuns, Adds, ids_from, with_locals}
+use Rattle.walrus_body_parser.specs.walrus_body_locals.Told.{Telling, Pass}
+use Rattle.walrus_body_parser.specs.walrus_body_locals.Locals.{run_told, IsSeen, FailRuns, Adds, ids_from, with_locals}
 use Rattle.walrus_body_parser.specs.Points.{op_told, place_at, ops_from}
 use Rattle.walrus_body_parser.specs.Trees.{Validating, Parser, parser_of, EndOps, FailOps, ReadsTree, RefusesTree}
 use Rattle.walrus_body_parser.proofs.Takes.{operator_takes}

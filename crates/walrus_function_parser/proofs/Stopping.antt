@@ -12,14 +12,14 @@ use Rattle.wasm_formats.specs.Files.{parse_all}
 use Rattle.walrus_body_parser.specs.wasm_operators.Operators.{Seen, operator_at, code_at}
 use Rattle.walrus_instr.specs.walrus_items.declared.local.Local.{Local}
 use Rattle.walrus_index_maps.specs.Maps.{Ids}
-use Rattle.walrus_body_locals.specs.wasm_body_grammar.Rules as grammar
-use Rattle.walrus_body_locals.specs.wasm_body_grammar.Rules.{Around}
-use Rattle.walrus_body_locals.specs.wasm_body_grammar.Bodies.{Run, run, Point, next_total, next_point, opened, is_closed, operator, operator_in, takes_some, operators, runs, body}
-use Rattle.walrus_body_locals.specs.walrus_body_env.declared.error.BodyError.{BodyError}
-use Rattle.walrus_body_locals.specs.walrus_body_env.declared.error.BodyError.TheVariants.{Memory}
+use Rattle.walrus_body_parser.specs.walrus_body_locals.wasm_body_grammar.Rules as grammar
+use Rattle.walrus_body_parser.specs.walrus_body_locals.wasm_body_grammar.Rules.{Around}
+use Rattle.walrus_body_parser.specs.walrus_body_locals.wasm_body_grammar.Bodies.{Run, run, Point, next_total, next_point, opened, is_closed, operator, operator_in, takes_some, operators, runs, body}
+use Rattle.walrus_body_parser.specs.walrus_body_locals.walrus_body_env.declared.error.BodyError.{BodyError}
+use Rattle.walrus_body_parser.specs.walrus_body_locals.walrus_body_env.declared.error.BodyError.TheVariants.{Memory}
 use Rattle.walrus_body_parser.specs.walrus_body_rules.Sights.{Sight}
-use Rattle.walrus_body_locals.specs.Told.{Telling, Pass, Fails, fail_entries}
-use Rattle.walrus_body_locals.specs.Locals.{run_told, FailRuns}
+use Rattle.walrus_body_parser.specs.walrus_body_locals.Told.{Telling, Pass, Fails, fail_entries}
+use Rattle.walrus_body_parser.specs.walrus_body_locals.Locals.{run_told, FailRuns}
 use Rattle.walrus_body_parser.specs.Points.{op_told, place_at}
 use Rattle.walrus_body_parser.specs.Trees.{Validating, Parser, parser_of, PassOps, point_of, IsDue, FailOps}
 use Rattle.walrus_body_parser.specs.Trees as trees

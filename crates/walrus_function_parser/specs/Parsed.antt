@@ -2,29 +2,29 @@
 use Rattle.std.specs.Prelude.{◌≡◌, ◌⊎◌, ℕ, Bool, List, Option, Some, Ok, Err}
 use Rattle.wasm_features.specs.declared.WasmFeatures.{WasmFeatures}
 use Rattle.wasm_reader.specs.Cursor.{Cursor, Forward, rest, end_of}
-use Rattle.walrus_body_locals.specs.wasm_ref_types.declared.value.ValType.{ValType as Written}
+use Rattle.walrus_body_parser.specs.walrus_body_locals.wasm_ref_types.declared.value.ValType.{ValType as Written}
 use Rattle.walrus_forms.specs.declared.value.ValType.{ValType}
 use Rattle.walrus_instr.specs.walrus_items.declared.local.Local.{Local}
 use Rattle.walrus_index_maps.specs.Maps.{Ids}
 use Rattle.walrus_instr.specs.declared.seq.InstrSeqType.{InstrSeqType}
-use Rattle.walrus_builder.specs.Built.{Seq}
+use Rattle.walrus_body_parser.specs.walrus_body_stack.walrus_builder.Built.{Seq}
 use Rattle.wasm_formats.specs.Stops.{Stop}
-use Rattle.walrus_body_locals.specs.wasm_immediates.declared.block_type.BlockType.{BlockType}
+use Rattle.walrus_body_parser.specs.walrus_body_locals.wasm_immediates.declared.block_type.BlockType.{BlockType}
 use Rattle.walrus_body_parser.specs.wasm_operators.Operators.{Seen}
-use Rattle.walrus_body_locals.specs.wasm_body_grammar.Rules.{Around}
-use Rattle.walrus_body_locals.specs.wasm_body_grammar.Bodies.{Run, run, body}
-use Rattle.walrus_body_locals.specs.wasm_normal_form.Trees.{tree_of}
-use Rattle.walrus_body_locals.specs.wasm_normal_form.Normal.{normal}
-use Rattle.walrus_body_locals.specs.walrus_body_env.declared.error.BodyError.{BodyError}
-use Rattle.walrus_body_locals.specs.walrus_body_env.declared.error.BodyError.TheVariants as faults
-use Rattle.walrus_body_locals.specs.walrus_body_nesting.Opens.{type_at}
-use Rattle.walrus_body_locals.specs.walrus_body_nesting.Stands.{StandsAs}
+use Rattle.walrus_body_parser.specs.walrus_body_locals.wasm_body_grammar.Rules.{Around}
+use Rattle.walrus_body_parser.specs.walrus_body_locals.wasm_body_grammar.Bodies.{Run, run, body}
+use Rattle.walrus_body_parser.specs.walrus_body_locals.wasm_normal_form.Trees.{tree_of}
+use Rattle.walrus_body_parser.specs.walrus_body_locals.wasm_normal_form.Normal.{normal}
+use Rattle.walrus_body_parser.specs.walrus_body_locals.walrus_body_env.declared.error.BodyError.{BodyError}
+use Rattle.walrus_body_parser.specs.walrus_body_locals.walrus_body_env.declared.error.BodyError.TheVariants as faults
+use Rattle.walrus_body_parser.specs.walrus_body_locals.walrus_body_nesting.Opens.{type_at}
+use Rattle.walrus_body_parser.specs.walrus_body_locals.walrus_body_nesting.Stands.{StandsAs}
 use Rattle.walrus_body_parser.specs.walrus_body_rules.Sights.{Sight}
 use Rattle.walrus_body_parser.specs.walrus_body_rules.Agreeing.{Sees}
 use Rattle.walrus_body_parser.specs.walrus_body_steps.Meanings.{meaning}
 use Rattle.walrus_body_parser.specs.walrus_body_steps.Picks.{ArePicks}
-use Rattle.walrus_body_locals.specs.Calls.{IsFaultOf}
-use Rattle.walrus_body_locals.specs.Locals.{run_told, IsSeen, FailRuns, Declares}
+use Rattle.walrus_body_parser.specs.walrus_body_locals.Calls.{IsFaultOf}
+use Rattle.walrus_body_parser.specs.walrus_body_locals.Locals.{run_told, IsSeen, FailRuns, Declares}
 use Rattle.walrus_body_parser.specs.Points.{place_at, ops_from}
 use Rattle.walrus_body_parser.specs.Changes.{LacksType}
 use Rattle.walrus_body_parser.specs.Trees.{Validating, parser_of, EndOps, FailOps}

@@ -5,3 +5,8 @@
 mod parse;
 
 pub use parse::parse_function;
+
+// Passed on to crates above, which then list this one alone.
+pub mod builder {
+    pub use walrus_body_parser::builder::FunctionBuilder;
+}

@@ -2,19 +2,19 @@
 
 ghost use Rattle.std.specs.Prelude.{◌≡◌, ◌⊎◌, ◌<◌, ◌≤◌, ◌+◌, None, IfOk, IfErr};
 ghost use Rattle.wasm_reader.specs.Cursor.{end_of};
-ghost use Rattle.walrus_builder.specs.Built.{contents};
+ghost use Rattle.walrus_body_parser.specs.walrus_body_stack.walrus_builder.Built.{contents};
 ghost use Rattle.walrus_index_maps.specs.Views.{ids};
-ghost use Rattle.walrus_body_locals.specs.walrus_body_env.declared.error.BodyError.TheVariants.{Memory as WantsMemory};
-ghost use Rattle.walrus_body_locals.specs.Locals.{Leaves};
+ghost use Rattle.walrus_body_parser.specs.walrus_body_locals.walrus_body_env.declared.error.BodyError.TheVariants.{Memory as WantsMemory};
+ghost use Rattle.walrus_body_parser.specs.walrus_body_locals.Locals.{Leaves};
 ghost use Rattle.walrus_function_parser.specs.Parsed.{IsCause, Parses, Refuses, sight_of, telling};
 
 use std::alloc::Global;
 use walrus_arena::{FunctionId, TypeId};
-use walrus_body_locals::body_env::{BodyEnv, BodyError, Validator};
-use walrus_body_locals::read_locals;
+use walrus_body_parser::body_locals::body_env::{BodyEnv, BodyError, Validator};
+use walrus_body_parser::body_locals::read_locals;
 use walrus_body_parser::body_operands::Operands;
+use walrus_body_parser::builder::FunctionBuilder;
 use walrus_body_parser::read_tree;
-use walrus_builder::FunctionBuilder;
 use walrus_index_maps::IndicesToIds;
 use walrus_instr::InstrSeqType;
 use walrus_types::ModuleLocals;

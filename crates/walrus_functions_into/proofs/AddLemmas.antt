@@ -6,7 +6,7 @@ use Rattle.std.proofs.lemmas.List.{append-nil, append_assoc, length-append, leng
 use Rattle.walrus_arena.specs.Arena.{Arena, item_at, next_id, with_item}
 use Rattle.walrus_index_maps.specs.Maps.{Ids}
 use Rattle.walrus_collections.specs.walrus_module_items.declared.function.Function.{Function}
-use Rattle.walrus_known_sections.specs.declared.items.Function.{Function as ReadFunction}
+use Rattle.walrus_types_into.specs.walrus_known_sections.declared.items.Function.{Function as ReadFunction}
 use Rattle.walrus_functions_into.specs.Functions.{AddsFunctions, NumbersSome, function_as, functions_from, with_functions}
 
 -- the last one gets another item

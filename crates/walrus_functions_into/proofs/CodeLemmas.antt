@@ -8,12 +8,12 @@ use Rattle.walrus_types.specs.walrus_forms.Renaming.{at}
 use Rattle.wasm_body_grammar.specs.wasm_grammar.Modules.{Module, Function as GrammarFunction}
 use Rattle.wasm_body_grammar.specs.wasm_grammar.States.{State}
 use Rattle.wasm_body_grammar.specs.Codes.{Code, coded, own_type, param_count, type_if_own}
-use Rattle.wasm_module_rules.specs.wasm_modules.Modules.{chunks_of}
-use Rattle.wasm_ruled_modules.specs.Codes.{bodies_match}
-use Rattle.walrus_known_sections.specs.declared.items.Chunk.{Chunk}
-use Rattle.walrus_known_sections.specs.declared.items.Function.{Function as ReadFunction}
-use Rattle.walrus_known_sections.specs.Items.{function_of, function_origin, chunk_of}
-use Rattle.walrus_known_sections.specs.State.{state_of}
+use Rattle.walrus_types_into.specs.wasm_module_rules.wasm_modules.Modules.{chunks_of}
+use Rattle.walrus_types_into.specs.wasm_ruled_modules.Codes.{bodies_match}
+use Rattle.walrus_types_into.specs.walrus_known_sections.declared.items.Chunk.{Chunk}
+use Rattle.walrus_types_into.specs.walrus_known_sections.declared.items.Function.{Function as ReadFunction}
+use Rattle.walrus_types_into.specs.walrus_known_sections.Items.{function_of, function_origin, chunk_of}
+use Rattle.walrus_types_into.specs.walrus_known_sections.State.{state_of}
 use Rattle.walrus_functions_into.specs.declared.bodies.FunctionBody.{FunctionBody}
 use Rattle.walrus_functions_into.specs.Functions.{functions_from, kind_of}
 use Rattle.walrus_functions_into.specs.Bodies.{bodiless_from, is_bodiless, paired}

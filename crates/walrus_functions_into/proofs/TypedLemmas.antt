@@ -9,18 +9,18 @@ use Rattle.wasm_body_grammar.specs.wasm_grammar.Modules.{Imported, Own, Import, 
 use Rattle.wasm_body_grammar.specs.wasm_grammar.States.{State, form_test}
 use Rattle.wasm_sections.specs.TypeSection.{GroupEntry, add_group}
 use Rattle.wasm_sections.specs.Entities.{Entity, FunctionOf, TableOf, MemoryOf, GlobalOf, TagOf, ImportEntry, entity, import_entry, add_entity, add_import, import_of, with_import, no_body, TableEntry, add_table}
-use Rattle.wasm_module_rules.specs.Linked.{Each, IsFunctionType as IsTyped}
-use Rattle.wasm_module_rules.specs.Keeps.{each_push, each_later, typed_later, types_more}
-use Rattle.wasm_module_rules.specs.Reading.{kind_number, entity_kind}
-use Rattle.wasm_ruled_modules.specs.Keeping.{EntriesKeep, file_kept}
+use Rattle.walrus_types_into.specs.wasm_module_rules.Linked.{Each, IsFunctionType as IsTyped}
+use Rattle.walrus_types_into.specs.wasm_module_rules.Keeps.{each_push, each_later, typed_later, types_more}
+use Rattle.walrus_types_into.specs.wasm_module_rules.Reading.{kind_number, entity_kind}
+use Rattle.walrus_types_into.specs.wasm_ruled_modules.Keeping.{EntriesKeep, file_kept}
 use Rattle.walrus_types.specs.Table.{Table, IsFunctionType}
 use Rattle.walrus_types_into.specs.Into.{TypesStand}
 use Rattle.walrus_types_into.specs.Functions.{function_stands}
 use Rattle.walrus_collections.specs.walrus_module_items.declared.function.Function.{Function}
 use Rattle.walrus_collections.specs.walrus_module_items.Functions.{type_of}
-use Rattle.walrus_known_sections.specs.declared.items.Function.{Function as ReadFunction}
-use Rattle.walrus_known_sections.specs.Items.{function_of}
-use Rattle.walrus_known_sections.specs.Types.{kinds_in}
+use Rattle.walrus_types_into.specs.walrus_known_sections.declared.items.Function.{Function as ReadFunction}
+use Rattle.walrus_types_into.specs.walrus_known_sections.Items.{function_of}
+use Rattle.walrus_types_into.specs.walrus_known_sections.Types.{kinds_in}
 use Rattle.walrus_functions_into.specs.Functions.{AreTyped, functions_from, kind_of}
 use Rattle.walrus_functions_into.specs.Laws.{ReadFunctionsStand}
 

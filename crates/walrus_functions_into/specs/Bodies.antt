@@ -4,7 +4,7 @@ use Rattle.walrus_arena.specs.Arena.{Arena}
 use Rattle.walrus_collections.specs.walrus_module_items.declared.function.Function.{Function}
 use Rattle.walrus_collections.specs.walrus_module_items.declared.function.FunctionKind.{FunctionKind}
 use Rattle.walrus_collections.specs.walrus_module_items.declared.function.FunctionKind.TheVariants.{Import, Local, Uninitialized}
-use Rattle.walrus_known_sections.specs.declared.items.Chunk.{Chunk}
+use Rattle.walrus_types_into.specs.walrus_known_sections.declared.items.Chunk.{Chunk}
 use Rattle.walrus_functions_into.specs.declared.bodies.FunctionBody.{FunctionBody}
 
 abbrev pub is_bodiless : FunctionKind → Bool

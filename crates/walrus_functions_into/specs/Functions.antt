@@ -7,7 +7,7 @@ use Rattle.walrus_index_maps.specs.Maps.{Ids}
 use Rattle.walrus_collections.specs.walrus_module_items.declared.function.Function.{Function}
 use Rattle.walrus_collections.specs.walrus_module_items.declared.function.FunctionKind.{FunctionKind}
 use Rattle.walrus_collections.specs.walrus_module_items.declared.function.FunctionKind.TheVariants.{Import, Uninitialized}
-use Rattle.walrus_known_sections.specs.declared.items.Function.{Function as ReadFunction}
+use Rattle.walrus_types_into.specs.walrus_known_sections.declared.items.Function.{Function as ReadFunction}
 
 -- of this type, and brought by this import; where none brings it, it has no body yet
 abbrev pub kind_of : ℕ → Option ℕ → FunctionKind

@@ -5,17 +5,17 @@ use Rattle.wasm_features.specs.declared.WasmFeatures.{WasmFeatures}
 use Rattle.walrus_types.specs.walrus_forms.Renaming.{at}
 use Rattle.wasm_body_grammar.specs.Codes.{Code, param_count}
 use Rattle.wasm_sections.specs.Laws.{ReadsSections}
-use Rattle.wasm_module_rules.specs.wasm_modules.Modules.{codes}
-use Rattle.wasm_module_rules.specs.Linked.{Each}
+use Rattle.walrus_types_into.specs.wasm_module_rules.wasm_modules.Modules.{codes}
+use Rattle.walrus_types_into.specs.wasm_module_rules.Linked.{Each}
 use Rattle.walrus_types.specs.Table.{Table, IsFunctionType}
 use Rattle.walrus_types_into.specs.Into.{TypesStand}
 use Rattle.walrus_collections.specs.walrus_module_items.declared.function.Function.{Function}
 use Rattle.walrus_collections.specs.walrus_module_items.Functions.{type_of}
-use Rattle.walrus_known_sections.specs.declared.items.Chunk.{Chunk}
-use Rattle.walrus_known_sections.specs.declared.items.Function.{Function as ReadFunction}
-use Rattle.walrus_known_sections.specs.declared.sections.Sections.{Sections}
-use Rattle.walrus_known_sections.specs.Items.{chunk_of}
-use Rattle.walrus_known_sections.specs.State.{state_of}
+use Rattle.walrus_types_into.specs.walrus_known_sections.declared.items.Chunk.{Chunk}
+use Rattle.walrus_types_into.specs.walrus_known_sections.declared.items.Function.{Function as ReadFunction}
+use Rattle.walrus_types_into.specs.walrus_known_sections.declared.sections.Sections.{Sections}
+use Rattle.walrus_types_into.specs.walrus_known_sections.Items.{chunk_of}
+use Rattle.walrus_types_into.specs.walrus_known_sections.State.{state_of}
 use Rattle.walrus_functions_into.specs.declared.bodies.FunctionBody.{FunctionBody}
 use Rattle.walrus_functions_into.specs.Functions.{AreTyped, functions_from}
 use Rattle.walrus_functions_into.specs.Bodies.{bodiless_from, paired}

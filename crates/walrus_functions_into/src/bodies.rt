@@ -8,7 +8,7 @@ use std::alloc::{AllocError, Global};
 use walrus_arena::FunctionId;
 use walrus_collections::ModuleFunctions;
 use walrus_collections::module_items::FunctionKind;
-use walrus_known_sections::Chunk;
+use walrus_types_into::known_sections::Chunk;
 
 /// The bytes of a body with their place, and the function that it is of.
 #[derive(Clone, Copy)]

@@ -13,7 +13,7 @@ use walrus_collections::ModuleFunctions;
 use walrus_collections::local_function::LocalFunction;
 use walrus_collections::module_items::FunctionKind;
 use walrus_index_maps::IndicesToIds;
-use walrus_known_sections::Function;
+use walrus_types_into::known_sections::Function;
 
 // Lets a live function be of this kind.
 fn give_kind(functions: &mut ModuleFunctions, function: FunctionId, kind: FunctionKind)

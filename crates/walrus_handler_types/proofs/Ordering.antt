@@ -13,7 +13,7 @@ use Rattle.walrus_handlers.specs.walrus_tree.walrus_walks.Tree.{children, childr
 use Rattle.walrus_instr.specs.declared.instr.Instr.{Instr}
 use Rattle.walrus_instr.specs.declared.seq.InstrLocId.{InstrLocId}
 use Rattle.walrus_instr.specs.declared.seq.InstrSeq.{InstrSeq}
-use Rattle.walrus_handler_laws.proofs.Counting.{count, once_if, trees_tell}
+use Rattle.walrus_handlers.proofs.walrus_handler_laws.Counting.{count, once_if, trees_tell}
 
 -- ---- what sequences hold, as trees
 

@@ -1,10 +1,10 @@
 -- Lemmas: a module that was filled with what was read means it.
 use Rattle.std.proofs.Common.{◌≡◌, ◌∙◌, ℕ, List, [], Option, refl, ap}
-use Rattle.walrus_meaning.specs.walrus_local_function.walrus_body_locals.wasm_grammar.Modules as grammar
-use Rattle.walrus_meaning.specs.walrus_local_function.walrus_body_locals.wasm_grammar.walrus_forms.Records.{TypeGroup}
+use Rattle.walrus_tables_into.specs.walrus_meaning.walrus_local_function.walrus_body_locals.wasm_grammar.Modules as grammar
+use Rattle.walrus_tables_into.specs.walrus_meaning.walrus_local_function.walrus_body_locals.wasm_grammar.walrus_forms.Records.{TypeGroup}
 use Rattle.wasm_spelled_modules.specs.Spelled.{ReadSectionsAreSpelled}
-use Rattle.walrus_meaning.specs.Meaning.{own_groups}
-use Rattle.walrus_types_into.specs.Into.{TypesNameBelow}
+use Rattle.walrus_tables_into.specs.walrus_meaning.Meaning.{own_groups}
+use Rattle.walrus_functions_into.specs.walrus_types_into.Into.{TypesNameBelow}
 use Rattle.walrus_into_laws.specs.Groups.{GroupsMean, ReadTypesAreDeclared}
 use Rattle.walrus_tables_into.specs.walrus_sections_into.walrus_known_sections.State.{state_of}
 use Rattle.walrus_into_laws.specs.Meaning.{ModuleMeans}

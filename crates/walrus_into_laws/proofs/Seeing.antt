@@ -2,7 +2,7 @@
 use Rattle.std.proofs.Common.{◌≡◌, ◌∙◌, ℕ, List, [], ◌∷◌, map, Option, Some, None, refl, sym, ap}
 use Rattle.std.specs.Option.{option_map, unwrap_or}
 use Rattle.walrus_arena.specs.Arena.{Arena}
-use Rattle.walrus_meaning.specs.Meaning.{slots_of}
+use Rattle.walrus_tables_into.specs.walrus_meaning.Meaning.{slots_of}
 use Rattle.walrus_tables_into.specs.walrus_sections_into.walrus_pairing.Looks.{Look}
 use Rattle.walrus_tables_into.specs.walrus_sections_into.wasm_immediates.Items.{Space, Types, Functions, Tables, Memories, Tags, Globals, ElementSegments, DataSegments, Locals, Labels}
 use Rattle.walrus_tables_into.specs.walrus_sections_into.Becomes.{renames_by}

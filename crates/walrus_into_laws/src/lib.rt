@@ -1,7 +1,7 @@
 //! Laws of what was read of a file and put into a module: it fills the collections, and means what was read, renamed.
 #![tactic(auto)]
 
-ghost use Rattle.walrus_meaning.specs.walrus_local_function.walrus_body_locals.wasm_grammar.Modules.{Custom};
+ghost use Rattle.walrus_tables_into.specs.walrus_meaning.walrus_local_function.walrus_body_locals.wasm_grammar.Modules.{Custom};
 ghost use Rattle.walrus_into_laws.specs.Functions.{FunctionsFill};
 ghost use Rattle.walrus_into_laws.specs.Meaning.{ImportsMean, FunctionsMean, TablesMean, MemoriesMean, TagsMean, GlobalsMean, ExportsMean, StartMeans, ElementsMean, SegmentsMean, CustomsMean, ModuleMeans, OrderedStay};
 
@@ -80,7 +80,7 @@ pub fn module_means()
     ensures { ModuleMeans }
 {
     wasm_spelled_modules::laws::read_sections_are_spelled();
-    walrus_types_into::laws::types_name_below();
+    walrus_functions_into::types_into::laws::types_name_below();
     groups::read_types_are_declared();
     groups::groups_mean();
 }
@@ -88,6 +88,6 @@ pub fn module_means()
 // Passed on to crates above, which then list this one alone.
 pub mod types_into {
     pub mod laws {
-        pub use walrus_types_into::laws::{new_types_stand, types_name_below};
+        pub use walrus_functions_into::types_into::laws::{new_types_stand, types_name_below};
     }
 }

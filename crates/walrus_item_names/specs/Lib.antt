@@ -5,3 +5,5 @@ pub mod Names
 pub mod Gives
 pub mod Targets
 pub mod Synthetic
+-- Passed on to crates above, which then list this one alone.
+pub use Rattle.walrus_module.specs as walrus_module

@@ -10,3 +10,15 @@ mod target;
 
 pub use give::give_names;
 pub use synthetic::give_synthetic_names;
+
+// Passed on to crates above, which then list this one alone.
+pub mod module {
+    pub use walrus_module::Module;
+
+    pub mod collections {
+        pub use walrus_module::collections::{
+            ModuleData, ModuleElements, ModuleExports, ModuleFunctions, ModuleGlobals,
+            ModuleImports, ModuleMemories, ModuleTables, ModuleTags,
+        };
+    }
+}

@@ -42,6 +42,10 @@ pub mod module_env {
     }
 }
 
+pub mod payloads_into {
+    pub use walrus_payloads_into::{names_in, producers_in};
+}
+
 pub mod tables_into {
     pub mod sections {
         pub use walrus_read_laws::tables_into::sections::Sections;

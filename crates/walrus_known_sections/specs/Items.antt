@@ -2,9 +2,9 @@
 use Rattle.std.specs.Prelude.{ℕ, map, Option, Some, None}
 use Rattle.std.specs.Option.{option_map}
 use Rattle.walrus_forms.specs.Records.{ref_of, value_of}
-use Rattle.wasm_grammar.specs.Modules as grammar
-use Rattle.wasm_grammar.specs.Modules.{Origin, Imported, Own, Body}
-use Rattle.wasm_grammar.specs.States as states
+use Rattle.wasm_sections.specs.wasm_grammar.Modules as grammar
+use Rattle.wasm_sections.specs.wasm_grammar.Modules.{Origin, Imported, Own, Body}
+use Rattle.wasm_sections.specs.wasm_grammar.States as states
 use Rattle.wasm_sections.specs.Entities as entities
 use Rattle.wasm_sections.specs.Entities.{no_body, table_of as table_as, memory_of as memory_as}
 use Rattle.walrus_section_values.specs.Limits.{limits_of, memory_type_of}

@@ -12,12 +12,12 @@ use Rattle.wasm_formats.specs.Formats.{Format, refused}
 use Rattle.wasm_formats.specs.Joined.{after}
 use Rattle.wasm_formats.specs.Led.{IsOther, led, led_by, there, not_there}
 use Rattle.wasm_sections.specs.wasm_file_formats.Rooms.{if_room, first_or}
-use Rattle.walrus_section_reader.specs.declared.fault.Fault.{Fault}
-use Rattle.walrus_section_reader.specs.declared.fault.FaultKind.{FaultKind}
-use Rattle.walrus_section_reader.specs.declared.fault.FaultKind.TheVariants as faults
-use Rattle.walrus_section_reader.specs.Faults.{fault_of}
-use Rattle.walrus_section_reader.specs.Parses.{stop_of, FailsAs, Answers, Parses}
-use Rattle.walrus_section_reader.specs.Repeats.{joined, same_end, fails_then, fails_as}
+use Rattle.walrus_section_values.specs.walrus_section_reader.declared.fault.Fault.{Fault}
+use Rattle.walrus_section_values.specs.walrus_section_reader.declared.fault.FaultKind.{FaultKind}
+use Rattle.walrus_section_values.specs.walrus_section_reader.declared.fault.FaultKind.TheVariants as faults
+use Rattle.walrus_section_values.specs.walrus_section_reader.Faults.{fault_of}
+use Rattle.walrus_section_values.specs.walrus_section_reader.Parses.{stop_of, FailsAs, Answers, Parses}
+use Rattle.walrus_section_values.specs.walrus_section_reader.Repeats.{joined, same_end, fails_then, fails_as}
 use Rattle.walrus_known_sections.specs.Rooms.{is_memory_kind, is_memory, in_room}
 
 -- ---- one value behind another

@@ -3,10 +3,10 @@ use Rattle.std.specs.Prelude.{ℕ, ◌||◌, nat_le, Bool, true, false, Result, 
 use Rattle.wasm_reader.specs.declared.error.ErrorKind.{ErrorKind}
 use Rattle.wasm_reader.specs.declared.error.ErrorKind.TheVariants as kinds
 use Rattle.wasm_formats.specs.declared.fault.Limited.{Limited}
-use Rattle.walrus_section_reader.specs.declared.fault.Fault.{Fault}
-use Rattle.walrus_section_reader.specs.declared.fault.FaultKind.{FaultKind}
-use Rattle.walrus_section_reader.specs.declared.fault.FaultKind.TheVariants as faults
-use Rattle.walrus_section_reader.specs.Faults.{fault_of}
+use Rattle.walrus_section_values.specs.walrus_section_reader.declared.fault.Fault.{Fault}
+use Rattle.walrus_section_values.specs.walrus_section_reader.declared.fault.FaultKind.{FaultKind}
+use Rattle.walrus_section_values.specs.walrus_section_reader.declared.fault.FaultKind.TheVariants as faults
+use Rattle.walrus_section_values.specs.walrus_section_reader.Faults.{fault_of}
 
 abbrev pub is_memory_kind : ErrorKind → Bool
 is_memory_kind kinds.Memory = true

@@ -2,7 +2,7 @@
 use Rattle.std.specs.Prelude.{List, map, Option, Some}
 use Rattle.std.specs.Option.{option_map}
 use Rattle.std.specs.Global.{Vec}
-use Rattle.wasm_grammar.specs.States as grammar
+use Rattle.wasm_sections.specs.wasm_grammar.States as grammar
 use Rattle.walrus_section_values.specs.Globals.{global_of}
 use Rattle.walrus_known_sections.specs.Items.{import_of, function_of, table_of, memory_of, tag_of, export_of, element_of, data_of, custom_of, chunk_of}
 use Rattle.walrus_known_sections.specs.declared.sections.Sections.{Sections}

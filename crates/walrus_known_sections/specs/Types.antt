@@ -10,8 +10,8 @@ use Rattle.walrus_forms.specs.Kinds.{Kind}
 use Rattle.walrus_forms.specs.Records.{TypeGroup, record_form, record_kind, type_group}
 use Rattle.wasm_formats.specs.declared.fault.Space.TheVariants as spaces
 use Rattle.wasm_formats.specs.Stops.{Trouble, Index, TypeForm}
-use Rattle.wasm_grammar.specs.Values.{must}
-use Rattle.wasm_grammar.specs.States.{is_function, form_test}
+use Rattle.wasm_sections.specs.wasm_grammar.Values.{must}
+use Rattle.wasm_sections.specs.wasm_grammar.States.{is_function, form_test}
 
 -- the types of groups, in their order
 abbrev pub kinds_in : List TypeGroup → List Kind

@@ -3,14 +3,14 @@
 ghost use Rattle.std.specs.Prelude.{◌≡◌, List, ℕ, OnOk};
 ghost use Rattle.wasm_features.specs.declared.WasmFeatures.{WasmFeatures};
 ghost use Rattle.wasm_formats.specs.Stops.{Parsing};
-ghost use Rattle.wasm_grammar.specs.States.{State};
-ghost use Rattle.walrus_section_reader.specs.Parses.{Parses};
+ghost use Rattle.wasm_sections.specs.wasm_grammar.States.{State};
+ghost use Rattle.walrus_section_values.specs.walrus_section_reader.Parses.{Parses};
 ghost use Rattle.walrus_known_sections.specs.State.{state_of};
 
 use crate::sections::Sections;
 use std::alloc::{AllocError, Global as Alloc};
 use std::marker::PhantomData;
-use walrus_section_reader::{Entries, Result};
+use walrus_section_values::section_reader::{Entries, Result};
 use wasm_reader::BinaryReader;
 
 /// A kind of entries: how one is read, beside what was read before it, and how it is put there.
@@ -52,8 +52,8 @@ impl<'a, E: Entry<'a>> Entries<'a> for Each<'a, E> {
     type Into = Sections<'a>;
 
     ghost use Rattle.wasm_formats.specs.Stops.{◌>>=◌};
-    ghost use Rattle.wasm_grammar.specs.States.{State};
-    ghost use Rattle.walrus_section_reader.specs.Steps.{put_in};
+    ghost use Rattle.wasm_sections.specs.wasm_grammar.States.{State};
+    ghost use Rattle.walrus_section_values.specs.walrus_section_reader.Steps.{put_in};
     ghost use Rattle.walrus_known_sections.specs.State.{state_of};
 
     ghost State = { State };

@@ -2,7 +2,7 @@
 
 use walrus_forms::{RefRecord, ValRecord};
 use walrus_operators::Operator;
-use walrus_section_reader::Space;
+use walrus_section_values::section_reader::Space;
 use walrus_section_values::{Limits, MemoryType};
 
 /// The type of a table.

@@ -2,7 +2,7 @@
 
 ghost use Rattle.std.specs.Prelude.{◌≡◌, ◌++◌, ◌∷◌, [], length, map, slice_get, OnOk, OnErr};
 ghost use Rattle.walrus_forms.specs.Records.{record_form, type_group};
-ghost use Rattle.wasm_grammar.specs.States.{is_function, form_test};
+ghost use Rattle.wasm_sections.specs.wasm_grammar.States.{is_function, form_test};
 ghost use Rattle.walrus_known_sections.specs.Types.{kinds_in, form_fault, is_function_type};
 
 use std::alloc::{AllocError, Global};

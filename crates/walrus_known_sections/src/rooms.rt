@@ -3,7 +3,7 @@
 ghost use Rattle.std.specs.Prelude.{◌≡◌};
 ghost use Rattle.walrus_known_sections.specs.Rooms.{in_room, is_memory};
 
-use walrus_section_reader::{Fault, FaultKind, Limited, Result};
+use walrus_section_values::section_reader::{Fault, FaultKind, Limited, Result};
 use wasm_reader::ErrorKind;
 
 // Whether it is want of memory.

@@ -2,7 +2,7 @@
 
 ghost use Rattle.std.specs.Prelude.{◌≡◌};
 ghost use Rattle.wasm_formats.specs.declared.fault.Space.TheVariants as spaces;
-ghost use Rattle.wasm_grammar.specs.States.{has_room, known, nothing_yet};
+ghost use Rattle.wasm_sections.specs.wasm_grammar.States.{has_room, known, nothing_yet};
 ghost use Rattle.walrus_section_values.specs.Globals.{known_of};
 ghost use Rattle.walrus_known_sections.specs.State.{state_of};
 

@@ -3,8 +3,8 @@ use Rattle.std.specs.Prelude.{ℕ, slice_set}
 use Rattle.std.specs.Borrow.{Lends, Fml, MutBor}
 use Rattle.walrus_instr.specs.declared.seq.InstrSeq.{InstrSeq}
 use Rattle.walrus_instr.specs.contracts.seq.InstrSeq.{the_row as seq_row}
-use Rattle.walrus_builder.specs.declared.function.FunctionBuilder.{FunctionBuilder}
-use Rattle.walrus_builder.specs.contracts.function.FunctionBuilder.{the_row as builder_row}
+use Rattle.walrus_function_parser.specs.walrus_body_parser.walrus_body_stack.walrus_builder.declared.function.FunctionBuilder.{FunctionBuilder}
+use Rattle.walrus_function_parser.specs.walrus_body_parser.walrus_body_stack.walrus_builder.contracts.function.FunctionBuilder.{the_row as builder_row}
 use Rattle.walrus_local_function.specs.declared.local_function.LocalFunction.{LocalFunction}
 use Rattle.walrus_local_function.specs.contracts.local_function.LocalFunction.{the_row}
 

@@ -2,7 +2,7 @@
 
 ghost use Rattle.std.specs.Prelude.{◌≡◌, IfErr, IfOk, OnErr, OnOk, false, map, slice_get};
 ghost use Rattle.walrus_local_numbers.specs.wasm_normal_form.Locals.{runs_of};
-ghost use Rattle.walrus_builder.specs.Functions.{seqs_of};
+ghost use Rattle.walrus_function_parser.specs.walrus_body_parser.walrus_body_stack.walrus_builder.Functions.{seqs_of};
 ghost use Rattle.walrus_index_maps.specs.Views.{indices};
 ghost use Rattle.walrus_body_names.specs.walrus_pairing.Looks.{number_of};
 ghost use Rattle.walrus_body_names.specs.walrus_tree.Text.{operators};

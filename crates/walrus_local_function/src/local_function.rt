@@ -1,11 +1,11 @@
 //! A function with a body.
 ghost use Rattle.std.specs.Prelude.{◌≡◌, ◌↔◌, ◌<◌, length, slice_get, IsTrue, Some};
 ghost use Rattle.std.specs.Borrow.{sem};
-ghost use Rattle.walrus_builder.specs.Functions.{seqs_of};
+ghost use Rattle.walrus_function_parser.specs.walrus_body_parser.walrus_body_stack.walrus_builder.Functions.{seqs_of};
 ghost use Rattle.walrus_local_function.specs.Locals.{lends_function, lends_block};
 
 use walrus_arena::{InstrSeqId, LocalId, TypeId};
-use walrus_builder::FunctionBuilder;
+use walrus_function_parser::builder::FunctionBuilder;
 use walrus_instr::InstrSeq;
 
 /// A function with a body (Core Specification, functions): what was built, and the locals that are its arguments.

@@ -2,7 +2,7 @@
 
 ghost use Rattle.std.specs.Prelude.{◌≡◌, ◌⊎◌, ◌<◌, ◌≤◌, ◌+◌, length, None, IfOk, IfErr};
 ghost use Rattle.wasm_reader.specs.Cursor.{end_of};
-ghost use Rattle.walrus_builder.specs.Built.{contents};
+ghost use Rattle.walrus_function_parser.specs.walrus_body_parser.walrus_body_stack.walrus_builder.Built.{contents};
 ghost use Rattle.walrus_index_maps.specs.Views.{ids};
 ghost use Rattle.walrus_body_names.specs.walrus_body_env.declared.error.BodyError.TheVariants.{Memory as WantsMemory};
 ghost use Rattle.walrus_function_parser.specs.walrus_body_locals.Locals.{Leaves};

@@ -47,8 +47,8 @@ use Rattle.walrus_passes_laws.specs.walrus_refusals.Sound.{IsSound}
 use Rattle.walrus_passes_laws.specs.walrus_passes.Part.{IsPart, Rest}
 use Rattle.walrus_passes_laws.specs.walrus_passes.UsedItems.{HasJust}
 use Rattle.walrus_passes_laws.specs.walrus_passes.declared.used.Used.{Used}
-use Rattle.walrus_passes.proofs.RestLemmas.{rest_as}
-use Rattle.walrus_passes.proofs.TypeLemmas.{types_as}
+use Rattle.walrus_passes_laws.proofs.walrus_passes.RestLemmas.{rest_as}
+use Rattle.walrus_passes_laws.proofs.walrus_passes.TypeLemmas.{types_as}
 use Rattle.walrus_passes_laws.specs.Served.{GroupsAreWritten}
 use Rattle.walrus_meaning.specs.Words.{own_expr}
 use Rattle.walrus_meaning.specs.Meaning.{slots_of, means, own_given, own_export, own_function, own_table, own_memory, own_global, own_tag, own_element, own_element_mode, own_segment, own_data_mode}

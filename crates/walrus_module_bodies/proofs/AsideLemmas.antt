@@ -4,26 +4,26 @@ use Rattle.std.specs.Option.{is_some}
 use Rattle.wasm_reader.specs.Cursor.{Cursor, rest}
 use Rattle.walrus_forms.specs.declared.value.ValType.{ValType}
 use Rattle.walrus_index_maps.specs.Maps.{Ids}
-use Rattle.walrus_body_parser.specs.walrus_body_steps.Picks.{ArePicks}
-use Rattle.walrus_body_parser.specs.walrus_body_rules.wasm_body_grammar.wasm_formats.Stops.{TypeForm}
-use Rattle.walrus_body_parser.specs.walrus_body_rules.Agreeing.{Sees}
-use Rattle.walrus_body_parser.specs.walrus_body_rules.Rules.{has_wide, type_test}
-use Rattle.walrus_body_parser.specs.walrus_body_rules.Sights.{Sight, block_of, function_block, look, room, written_block}
-use Rattle.walrus_body_parser.specs.walrus_body_rules.wasm_body_grammar.Bodies.{body}
-use Rattle.walrus_body_parser.specs.walrus_body_rules.wasm_body_grammar.Rules as grammar
-use Rattle.walrus_body_parser.specs.walrus_body_rules.wasm_body_grammar.Rules.{Around}
-use Rattle.walrus_body_parser.specs.walrus_body_rules.wasm_grammar.Values.{must}
-use Rattle.walrus_body_parser.specs.wasm_operators.wasm_immediates.Items.{Space, Types, Functions, Tables, Memories, Tags, Globals, ElementSegments, DataSegments, Locals, Labels}
-use Rattle.walrus_body_parser.specs.wasm_operators.wasm_immediates.declared.block_type.BlockType.{BlockType}
-use Rattle.walrus_body_parser.specs.wasm_operators.wasm_immediates.declared.block_type.BlockType.TheVariants as blocks
-use Rattle.walrus_body_parser.specs.walrus_body_stack.walrus_builder.Built.{Seq}
-use Rattle.walrus_body_parser.specs.walrus_body_stack.walrus_instr.declared.seq.InstrSeqType.{InstrSeqType}
+use Rattle.walrus_module_env.specs.walrus_body_parser.walrus_body_steps.Picks.{ArePicks}
+use Rattle.walrus_module_env.specs.walrus_body_parser.walrus_body_rules.wasm_body_grammar.wasm_formats.Stops.{TypeForm}
+use Rattle.walrus_module_env.specs.walrus_body_parser.walrus_body_rules.Agreeing.{Sees}
+use Rattle.walrus_module_env.specs.walrus_body_parser.walrus_body_rules.Rules.{has_wide, type_test}
+use Rattle.walrus_module_env.specs.walrus_body_parser.walrus_body_rules.Sights.{Sight, block_of, function_block, look, room, written_block}
+use Rattle.walrus_module_env.specs.walrus_body_parser.walrus_body_rules.wasm_body_grammar.Bodies.{body}
+use Rattle.walrus_module_env.specs.walrus_body_parser.walrus_body_rules.wasm_body_grammar.Rules as grammar
+use Rattle.walrus_module_env.specs.walrus_body_parser.walrus_body_rules.wasm_body_grammar.Rules.{Around}
+use Rattle.walrus_module_env.specs.walrus_body_parser.walrus_body_rules.wasm_grammar.Values.{must}
+use Rattle.walrus_module_env.specs.walrus_body_parser.wasm_operators.wasm_immediates.Items.{Space, Types, Functions, Tables, Memories, Tags, Globals, ElementSegments, DataSegments, Locals, Labels}
+use Rattle.walrus_module_env.specs.walrus_body_parser.wasm_operators.wasm_immediates.declared.block_type.BlockType.{BlockType}
+use Rattle.walrus_module_env.specs.walrus_body_parser.wasm_operators.wasm_immediates.declared.block_type.BlockType.TheVariants as blocks
+use Rattle.walrus_module_env.specs.walrus_body_parser.walrus_body_stack.walrus_builder.Built.{Seq}
+use Rattle.walrus_module_env.specs.walrus_body_parser.walrus_body_stack.walrus_instr.declared.seq.InstrSeqType.{InstrSeqType}
 use Rattle.walrus_types.specs.walrus_items.declared.local.Local.{Local}
 use Rattle.walrus_module_env.specs.declared.env.ModuleEnv.{ModuleEnv}
 use Rattle.walrus_module_env.specs.Around.{IsFiled, sight_in}
 use Rattle.walrus_module_env.specs.Env.{is_wide_at, own_pick, params_at, results_at, tag_type_at}
 use Rattle.walrus_module_env.specs.Parsed.{FilesAreSeen}
-use Rattle.walrus_body_parser.specs.Points.{place_at}
+use Rattle.walrus_module_env.specs.walrus_body_parser.Points.{place_at}
 use Rattle.walrus_module_env.specs.walrus_collections.walrus_local_function.walrus_function_parser.Parsed.{IsAround, Parses, Telling, seen_by}
 use Rattle.walrus_module_env.specs.Handled.{SeesAside}
 use Rattle.walrus_module_bodies.proofs.ParsingLemmas.{declared_count, sees_more}

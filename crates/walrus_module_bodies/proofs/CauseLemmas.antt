@@ -3,26 +3,26 @@ use Rattle.std.proofs.Common.{ℕ, zero, suc, ◌≡◌, ◌⊎◌, ◌<◌, ◌
 use Rattle.std.specs.Prelude.{fold}
 use Rattle.wasm_reader.specs.declared.error.ErrorKind.TheVariants as kinds
 use Rattle.wasm_reader.specs.Cursor.{Cursor, rest, end_of, IsWithin}
-use Rattle.walrus_body_parser.specs.walrus_body_rules.wasm_body_grammar.wasm_formats.Stops.{Read, Nesting, Stop, stop}
-use Rattle.walrus_body_parser.specs.walrus_body_rules.wasm_body_grammar.wasm_formats.Formats.{refused_is}
-use Rattle.walrus_body_parser.specs.walrus_body_rules.wasm_body_grammar.wasm_formats.Bytes.{never, either}
-use Rattle.walrus_body_parser.specs.walrus_body_rules.wasm_body_grammar.wasm_formats.Joined.{checked, ends_at}
-use Rattle.walrus_body_parser.specs.walrus_body_rules.wasm_body_grammar.wasm_formats.Wholes.{u32}
-use Rattle.walrus_body_parser.specs.walrus_body_rules.wasm_body_grammar.wasm_formats.Files.{parse_all}
-use Rattle.walrus_body_parser.specs.wasm_operators.Operators.{Seen, operator_at, code_at}
+use Rattle.walrus_module_env.specs.walrus_body_parser.walrus_body_rules.wasm_body_grammar.wasm_formats.Stops.{Read, Nesting, Stop, stop}
+use Rattle.walrus_module_env.specs.walrus_body_parser.walrus_body_rules.wasm_body_grammar.wasm_formats.Formats.{refused_is}
+use Rattle.walrus_module_env.specs.walrus_body_parser.walrus_body_rules.wasm_body_grammar.wasm_formats.Bytes.{never, either}
+use Rattle.walrus_module_env.specs.walrus_body_parser.walrus_body_rules.wasm_body_grammar.wasm_formats.Joined.{checked, ends_at}
+use Rattle.walrus_module_env.specs.walrus_body_parser.walrus_body_rules.wasm_body_grammar.wasm_formats.Wholes.{u32}
+use Rattle.walrus_module_env.specs.walrus_body_parser.walrus_body_rules.wasm_body_grammar.wasm_formats.Files.{parse_all}
+use Rattle.walrus_module_env.specs.walrus_body_parser.wasm_operators.Operators.{Seen, operator_at, code_at}
 use Rattle.walrus_types.specs.walrus_items.declared.local.Local.{Local}
 use Rattle.walrus_index_maps.specs.Maps.{Ids}
-use Rattle.walrus_body_parser.specs.walrus_body_rules.wasm_body_grammar.Rules as grammar
-use Rattle.walrus_body_parser.specs.walrus_body_rules.wasm_body_grammar.Rules.{Around}
-use Rattle.walrus_body_parser.specs.walrus_body_rules.wasm_body_grammar.Bodies.{Run, run, Point, next_total, next_point, opened, is_closed, operator, operator_in, takes_some, operators, runs, body}
-use Rattle.walrus_body_parser.specs.walrus_body_stack.walrus_body_env.declared.error.BodyError.{BodyError}
-use Rattle.walrus_body_parser.specs.walrus_body_stack.walrus_body_env.declared.error.BodyError.TheVariants.{Memory}
-use Rattle.walrus_body_parser.specs.walrus_body_rules.Sights.{Sight}
+use Rattle.walrus_module_env.specs.walrus_body_parser.walrus_body_rules.wasm_body_grammar.Rules as grammar
+use Rattle.walrus_module_env.specs.walrus_body_parser.walrus_body_rules.wasm_body_grammar.Rules.{Around}
+use Rattle.walrus_module_env.specs.walrus_body_parser.walrus_body_rules.wasm_body_grammar.Bodies.{Run, run, Point, next_total, next_point, opened, is_closed, operator, operator_in, takes_some, operators, runs, body}
+use Rattle.walrus_module_env.specs.walrus_body_parser.walrus_body_stack.walrus_body_env.declared.error.BodyError.{BodyError}
+use Rattle.walrus_module_env.specs.walrus_body_parser.walrus_body_stack.walrus_body_env.declared.error.BodyError.TheVariants.{Memory}
+use Rattle.walrus_module_env.specs.walrus_body_parser.walrus_body_rules.Sights.{Sight}
 use Rattle.walrus_module_env.specs.walrus_collections.walrus_local_function.walrus_body_locals.Told.{Telling, Pass, Fails, fail_entries}
 use Rattle.walrus_module_env.specs.walrus_collections.walrus_local_function.walrus_body_locals.Locals.{run_told, FailRuns}
-use Rattle.walrus_body_parser.specs.Points.{op_told, place_at}
-use Rattle.walrus_body_parser.specs.Trees.{Validating, Parser, PassOps, IsDue, FailOps}
-use Rattle.walrus_body_parser.specs.Trees as trees
+use Rattle.walrus_module_env.specs.walrus_body_parser.Points.{op_told, place_at}
+use Rattle.walrus_module_env.specs.walrus_body_parser.Trees.{Validating, Parser, PassOps, IsDue, FailOps}
+use Rattle.walrus_module_env.specs.walrus_body_parser.Trees as trees
 use Rattle.walrus_module_env.specs.walrus_collections.walrus_local_function.walrus_function_parser.Parsed as parsed
 use Rattle.walrus_module_env.specs.walrus_collections.walrus_local_function.walrus_function_parser.Parsed.{seen_by, StopsFor, Bars, Lacks, IsCause, Refuses}
 use Rattle.walrus_module_bodies.proofs.ParsingLemmas.{parser_in, entry_shorter, pass_all, parsers_agree, sees_more, is_seen, place_behind}

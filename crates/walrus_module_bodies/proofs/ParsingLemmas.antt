@@ -6,29 +6,29 @@ use Rattle.std.proofs.lemmas.Bool.{eq-eqb}
 use Rattle.std.proofs.lemmas.List.{length-append, length-drop, length-map}
 use Rattle.wasm_features.specs.declared.WasmFeatures.{WasmFeatures}
 use Rattle.wasm_reader.specs.Cursor.{Window, Cursor, rest, end_of, Forward, IsWithin}
-use Rattle.walrus_body_parser.specs.walrus_body_rules.wasm_body_grammar.wasm_formats.Stops.{Trouble, Nesting, Parsing, ◌>>=◌, value_at}
-use Rattle.walrus_body_parser.specs.walrus_body_rules.wasm_body_grammar.wasm_formats.Formats.{step_ok, done_is, value_ok}
-use Rattle.walrus_body_parser.specs.walrus_body_rules.wasm_body_grammar.wasm_formats.Parts.{told_as, told_ok}
-use Rattle.walrus_body_parser.specs.walrus_body_rules.wasm_body_grammar.wasm_formats.Bytes.{never, either}
-use Rattle.walrus_body_parser.specs.walrus_body_rules.wasm_body_grammar.wasm_formats.Joined.{tested, tested_ok, checked, ends_at}
-use Rattle.walrus_body_parser.specs.walrus_body_rules.wasm_body_grammar.wasm_formats.Files.{parse_all}
-use Rattle.walrus_body_parser.specs.wasm_operators.wasm_immediates.Items.{Space, Types, Functions, Tables, Memories, Tags, Globals, ElementSegments, DataSegments, Locals, Labels}
-use Rattle.walrus_body_parser.specs.wasm_operators.Operators.{Seen, operator_at}
+use Rattle.walrus_module_env.specs.walrus_body_parser.walrus_body_rules.wasm_body_grammar.wasm_formats.Stops.{Trouble, Nesting, Parsing, ◌>>=◌, value_at}
+use Rattle.walrus_module_env.specs.walrus_body_parser.walrus_body_rules.wasm_body_grammar.wasm_formats.Formats.{step_ok, done_is, value_ok}
+use Rattle.walrus_module_env.specs.walrus_body_parser.walrus_body_rules.wasm_body_grammar.wasm_formats.Parts.{told_as, told_ok}
+use Rattle.walrus_module_env.specs.walrus_body_parser.walrus_body_rules.wasm_body_grammar.wasm_formats.Bytes.{never, either}
+use Rattle.walrus_module_env.specs.walrus_body_parser.walrus_body_rules.wasm_body_grammar.wasm_formats.Joined.{tested, tested_ok, checked, ends_at}
+use Rattle.walrus_module_env.specs.walrus_body_parser.walrus_body_rules.wasm_body_grammar.wasm_formats.Files.{parse_all}
+use Rattle.walrus_module_env.specs.walrus_body_parser.wasm_operators.wasm_immediates.Items.{Space, Types, Functions, Tables, Memories, Tags, Globals, ElementSegments, DataSegments, Locals, Labels}
+use Rattle.walrus_module_env.specs.walrus_body_parser.wasm_operators.Operators.{Seen, operator_at}
 use Rattle.walrus_forms.specs.declared.value.ValType.{ValType}
 use Rattle.walrus_forms.specs.Renaming.{at, renamed_value}
 use Rattle.walrus_types.specs.walrus_items.declared.local.Local.{Local}
 use Rattle.walrus_index_maps.specs.Maps.{Ids}
-use Rattle.walrus_body_parser.specs.walrus_body_rules.wasm_body_grammar.Rules as grammar
-use Rattle.walrus_body_parser.specs.walrus_body_rules.wasm_body_grammar.Rules.{Around}
-use Rattle.walrus_body_parser.specs.walrus_body_rules.wasm_body_grammar.Bodies.{Run, Point, next_total, next_point, declared, is_closed, operator, operator_in, takes_some, body}
-use Rattle.walrus_body_parser.specs.walrus_body_rules.Sights.{Sight, room}
-use Rattle.walrus_body_parser.specs.walrus_body_rules.Rules.{operator_test}
-use Rattle.walrus_body_parser.specs.walrus_body_rules.Agreeing.{Sees, tests_agree}
+use Rattle.walrus_module_env.specs.walrus_body_parser.walrus_body_rules.wasm_body_grammar.Rules as grammar
+use Rattle.walrus_module_env.specs.walrus_body_parser.walrus_body_rules.wasm_body_grammar.Rules.{Around}
+use Rattle.walrus_module_env.specs.walrus_body_parser.walrus_body_rules.wasm_body_grammar.Bodies.{Run, Point, next_total, next_point, declared, is_closed, operator, operator_in, takes_some, body}
+use Rattle.walrus_module_env.specs.walrus_body_parser.walrus_body_rules.Sights.{Sight, room}
+use Rattle.walrus_module_env.specs.walrus_body_parser.walrus_body_rules.Rules.{operator_test}
+use Rattle.walrus_module_env.specs.walrus_body_parser.walrus_body_rules.Agreeing.{Sees, tests_agree}
 use Rattle.walrus_module_env.specs.walrus_collections.walrus_local_function.walrus_body_locals.Told.{Telling, Pass}
 use Rattle.walrus_module_env.specs.walrus_collections.walrus_local_function.walrus_body_locals.Locals.{IsSeen, Adds, ids_from, with_locals}
-use Rattle.walrus_body_parser.specs.Points.{place_at}
-use Rattle.walrus_body_parser.specs.Trees.{Parser, parser_of}
-use Rattle.walrus_body_parser.proofs.Takes.{operator_takes}
+use Rattle.walrus_module_env.specs.walrus_body_parser.Points.{place_at}
+use Rattle.walrus_module_env.specs.walrus_body_parser.Trees.{Parser, parser_of}
+use Rattle.walrus_module_env.proofs.walrus_body_parser.Takes.{operator_takes}
 use Rattle.walrus_module_env.specs.walrus_collections.walrus_local_function.walrus_function_parser.Parsed.{IsAround, seen_by}
 
 -- how the operators of a body of so many locals are parsed in a file

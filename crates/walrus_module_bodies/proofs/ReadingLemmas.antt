@@ -12,20 +12,20 @@ use Rattle.walrus_handler_types.proofs.Growing.{lists_give}
 use Rattle.walrus_handler_types.specs.walrus_handlers.Gathering.{AreHandlers}
 use Rattle.walrus_handler_types.specs.walrus_handler_laws.Handlers.{tree_ids}
 use Rattle.walrus_handler_types.specs.walrus_handler_laws.declared.handler.Handler.{Handler}
-use Rattle.walrus_body_parser.specs.walrus_body_steps.Picks.{ArePicks}
-use Rattle.walrus_body_parser.specs.walrus_body_stack.walrus_body_nesting.Opens.{same}
+use Rattle.walrus_module_env.specs.walrus_body_parser.walrus_body_steps.Picks.{ArePicks}
+use Rattle.walrus_module_env.specs.walrus_body_parser.walrus_body_stack.walrus_body_nesting.Opens.{same}
 use Rattle.wasm_features.specs.declared.WasmFeatures.{WasmFeatures}
-use Rattle.walrus_body_parser.specs.walrus_body_rules.wasm_body_grammar.Bodies.{body, declared}
-use Rattle.walrus_body_parser.specs.walrus_body_rules.wasm_body_grammar.Rules.{Around}
+use Rattle.walrus_module_env.specs.walrus_body_parser.walrus_body_rules.wasm_body_grammar.Bodies.{body, declared}
+use Rattle.walrus_module_env.specs.walrus_body_parser.walrus_body_rules.wasm_body_grammar.Rules.{Around}
 use Rattle.walrus_forms.specs.Renaming.{at, renamed_value}
-use Rattle.walrus_body_parser.specs.walrus_body_rules.wasm_grammar.States.{types_of}
-use Rattle.walrus_body_parser.specs.walrus_body_stack.wasm_normal_form.Normal.{normal}
-use Rattle.walrus_body_parser.specs.walrus_body_stack.wasm_normal_form.Trees.{tree_of}
+use Rattle.walrus_module_env.specs.walrus_body_parser.walrus_body_rules.wasm_grammar.States.{types_of}
+use Rattle.walrus_module_env.specs.walrus_body_parser.walrus_body_stack.wasm_normal_form.Normal.{normal}
+use Rattle.walrus_module_env.specs.walrus_body_parser.walrus_body_stack.wasm_normal_form.Trees.{tree_of}
 use Rattle.walrus_handler_types.specs.walrus_tree.Trees.{IsTree}
-use Rattle.walrus_body_parser.specs.walrus_body_stack.walrus_builder.Built.{Seq, contents, seq_of}
-use Rattle.walrus_body_parser.specs.walrus_body_stack.walrus_builder.Functions.{seqs_of}
-use Rattle.walrus_body_parser.specs.walrus_body_stack.walrus_builder.declared.function.FunctionBuilder.{FunctionBuilder}
-use Rattle.walrus_body_parser.specs.walrus_body_stack.walrus_instr.declared.seq.InstrSeq.{InstrSeq}
+use Rattle.walrus_module_env.specs.walrus_body_parser.walrus_body_stack.walrus_builder.Built.{Seq, contents, seq_of}
+use Rattle.walrus_module_env.specs.walrus_body_parser.walrus_body_stack.walrus_builder.Functions.{seqs_of}
+use Rattle.walrus_module_env.specs.walrus_body_parser.walrus_body_stack.walrus_builder.declared.function.FunctionBuilder.{FunctionBuilder}
+use Rattle.walrus_module_env.specs.walrus_body_parser.walrus_body_stack.walrus_instr.declared.seq.InstrSeq.{InstrSeq}
 use Rattle.walrus_types.specs.walrus_items.declared.local.Local.{Local}
 use Rattle.walrus_types.specs.Table.{Table}
 use Rattle.walrus_module_env.specs.declared.env.ModuleEnv.{ModuleEnv}
@@ -33,7 +33,7 @@ use Rattle.walrus_module_env.specs.Around.{IsFiled, sight_in}
 use Rattle.walrus_module_env.specs.Env.{tag_type_at}
 use Rattle.walrus_module_env.specs.Filled.{AreFiled}
 use Rattle.walrus_module_env.specs.Parsed.{PicksAreSeen}
-use Rattle.walrus_body_parser.specs.Points.{place_at, ops_from}
+use Rattle.walrus_module_env.specs.walrus_body_parser.Points.{place_at, ops_from}
 use Rattle.walrus_module_env.specs.walrus_collections.walrus_local_function.walrus_body_locals.Locals.{ids_from, with_locals}
 use Rattle.walrus_module_env.specs.walrus_collections.walrus_module_items.declared.memory.Memory.{Memory}
 use Rattle.walrus_module_env.specs.wasm_run_names.Picks.{block_pick}

@@ -14,7 +14,7 @@ use Rattle.walrus_function_types.specs.FunctionTypes.{params_at, results_at}
 use Rattle.walrus_function_types.specs.Growth.{FoundTypesStay, Grows, TablesGrowOn}
 use Rattle.walrus_function_types.proofs.GrowthLemmas.{grows_same}
 use Rattle.walrus_index_maps.specs.Maps.{Ids}
-use Rattle.walrus_body_parser.specs.walrus_body_stack.walrus_body_env.declared.error.BodyError.{BodyError}
+use Rattle.walrus_module_env.specs.walrus_body_parser.walrus_body_stack.walrus_body_env.declared.error.BodyError.{BodyError}
 use Rattle.walrus_module_env.specs.Around.{IsFiled}
 use Rattle.walrus_module_env.specs.walrus_collections.walrus_module_items.declared.tag.Tag.{Tag}
 use Rattle.walrus_module_env.specs.walrus_collections.walrus_local_function.walrus_body_locals.Locals.{ids_from, with_more}

@@ -17,29 +17,29 @@ use Rattle.walrus_function_types.specs.FunctionTypes.{form_params, form_results,
 use Rattle.walrus_index_maps.specs.Maps.{Ids}
 use Rattle.walrus_module_bodies.proofs.ParsingLemmas.{parsers_agree, sees_more}
 use Rattle.walrus_module_bodies.proofs.CauseLemmas.{causes}
-use Rattle.walrus_body_parser.specs.walrus_body_stack.walrus_body_env.declared.error.BodyError.{BodyError}
-use Rattle.walrus_body_parser.specs.walrus_body_stack.walrus_body_env.declared.error.BodyError.TheVariants as faults
-use Rattle.walrus_body_parser.specs.walrus_body_rules.Sights.{Sight, block_of, function_block, handler_of, look, results_of, tag_params, value_block, value_list, written_block}
-use Rattle.walrus_body_parser.specs.walrus_body_rules.wasm_body_grammar.Bodies.{Point, Run, body, is_closed, next_total}
-use Rattle.walrus_body_parser.specs.wasm_operators.Operators.{Seen}
-use Rattle.walrus_body_parser.specs.walrus_body_rules.wasm_body_grammar.Rules.{Around}
-use Rattle.walrus_body_parser.specs.wasm_operators.wasm_immediates.Items.{Types}
-use Rattle.walrus_body_parser.specs.wasm_operators.wasm_immediates.declared.block_type.BlockType.{BlockType}
-use Rattle.walrus_body_parser.specs.wasm_operators.wasm_immediates.declared.block_type.BlockType.TheVariants as blocks
-use Rattle.walrus_body_parser.specs.walrus_body_stack.walrus_instr.BlockTypes.{picked}
-use Rattle.walrus_body_parser.specs.walrus_body_stack.walrus_instr.declared.seq.InstrSeqType.{InstrSeqType}
-use Rattle.walrus_body_parser.specs.walrus_body_stack.walrus_instr.declared.seq.InstrSeqType.TheVariants.{Simple, MultiValue}
-use Rattle.walrus_body_parser.specs.walrus_body_rules.walrus_pairing.Types.{read_value}
-use Rattle.walrus_body_parser.specs.walrus_body_rules.walrus_pairing.declared.error.PairError.{PairError}
+use Rattle.walrus_module_env.specs.walrus_body_parser.walrus_body_stack.walrus_body_env.declared.error.BodyError.{BodyError}
+use Rattle.walrus_module_env.specs.walrus_body_parser.walrus_body_stack.walrus_body_env.declared.error.BodyError.TheVariants as faults
+use Rattle.walrus_module_env.specs.walrus_body_parser.walrus_body_rules.Sights.{Sight, block_of, function_block, handler_of, look, results_of, tag_params, value_block, value_list, written_block}
+use Rattle.walrus_module_env.specs.walrus_body_parser.walrus_body_rules.wasm_body_grammar.Bodies.{Point, Run, body, is_closed, next_total}
+use Rattle.walrus_module_env.specs.walrus_body_parser.wasm_operators.Operators.{Seen}
+use Rattle.walrus_module_env.specs.walrus_body_parser.walrus_body_rules.wasm_body_grammar.Rules.{Around}
+use Rattle.walrus_module_env.specs.walrus_body_parser.wasm_operators.wasm_immediates.Items.{Types}
+use Rattle.walrus_module_env.specs.walrus_body_parser.wasm_operators.wasm_immediates.declared.block_type.BlockType.{BlockType}
+use Rattle.walrus_module_env.specs.walrus_body_parser.wasm_operators.wasm_immediates.declared.block_type.BlockType.TheVariants as blocks
+use Rattle.walrus_module_env.specs.walrus_body_parser.walrus_body_stack.walrus_instr.BlockTypes.{picked}
+use Rattle.walrus_module_env.specs.walrus_body_parser.walrus_body_stack.walrus_instr.declared.seq.InstrSeqType.{InstrSeqType}
+use Rattle.walrus_module_env.specs.walrus_body_parser.walrus_body_stack.walrus_instr.declared.seq.InstrSeqType.TheVariants.{Simple, MultiValue}
+use Rattle.walrus_module_env.specs.walrus_body_parser.walrus_body_rules.walrus_pairing.Types.{read_value}
+use Rattle.walrus_module_env.specs.walrus_body_parser.walrus_body_rules.walrus_pairing.declared.error.PairError.{PairError}
 use Rattle.walrus_types.specs.walrus_items.declared.local.Local.{Local}
 use Rattle.walrus_module_env.specs.declared.env.ModuleEnv.{ModuleEnv}
 use Rattle.walrus_module_env.specs.Around.{sight_in}
 use Rattle.walrus_module_env.specs.Env.{if_own, is_own, tag_type_at}
 use Rattle.walrus_module_env.specs.Parsed.{FilesAreSeen}
-use Rattle.walrus_body_parser.specs.Changes.{LacksType}
-use Rattle.walrus_body_parser.specs.Points.{op_told, place_at}
-use Rattle.walrus_body_parser.specs.Trees as trees
-use Rattle.walrus_body_parser.specs.Trees.{FailOps, IsDue, Parser, parser_of, point_of}
+use Rattle.walrus_module_env.specs.walrus_body_parser.Changes.{LacksType}
+use Rattle.walrus_module_env.specs.walrus_body_parser.Points.{op_told, place_at}
+use Rattle.walrus_module_env.specs.walrus_body_parser.Trees as trees
+use Rattle.walrus_module_env.specs.walrus_body_parser.Trees.{FailOps, IsDue, Parser, parser_of, point_of}
 use Rattle.walrus_module_env.specs.walrus_collections.walrus_local_function.walrus_body_locals.Locals.{Leaves, run_told}
 use Rattle.walrus_module_env.specs.walrus_collections.walrus_local_function.walrus_body_locals.Told.{Fails as Refused}
 use Rattle.walrus_module_env.specs.walrus_collections.walrus_module_items.declared.tag.Tag.{Tag}

@@ -5,27 +5,27 @@ use Rattle.walrus_arena.specs.Arena.{Arena, item_at}
 use Rattle.walrus_function_types.specs.Growth.{Grows}
 use Rattle.walrus_index_maps.specs.Maps.{Ids}
 use Rattle.walrus_handler_types.specs.Giving.{GivesTree}
-use Rattle.walrus_body_parser.specs.walrus_body_stack.walrus_instr.declared.seq.InstrSeq.{InstrSeq}
+use Rattle.walrus_module_env.specs.walrus_body_parser.walrus_body_stack.walrus_instr.declared.seq.InstrSeq.{InstrSeq}
 use Rattle.walrus_types.specs.walrus_items.declared.local.Local.{Local}
 use Rattle.walrus_forms.specs.Renaming.{at, renamed_value}
 use Rattle.walrus_handler_types.specs.walrus_tree.Trees.{IsTree}
 use Rattle.walrus_module_env.specs.Env.{tag_type_at}
 use Rattle.walrus_module_env.specs.walrus_collections.walrus_local_function.walrus_body_locals.Locals.{Adds}
-use Rattle.walrus_body_parser.specs.walrus_body_steps.Meanings.{meaning}
-use Rattle.walrus_body_parser.specs.walrus_body_steps.Picks.{ArePicks}
-use Rattle.walrus_body_parser.specs.walrus_body_stack.walrus_body_nesting.Stands.{StandsAs}
-use Rattle.walrus_body_parser.specs.walrus_body_stack.walrus_body_env.declared.error.BodyError.{BodyError}
-use Rattle.walrus_body_parser.specs.walrus_body_rules.Sights.{Sight}
-use Rattle.walrus_body_parser.specs.walrus_body_rules.wasm_body_grammar.wasm_formats.Stops.{Stop}
-use Rattle.walrus_body_parser.specs.walrus_body_rules.wasm_body_grammar.Rules.{Around}
-use Rattle.walrus_body_parser.specs.walrus_body_rules.wasm_body_grammar.Bodies.{Run, body, declared}
-use Rattle.walrus_body_parser.specs.wasm_operators.Operators.{Seen}
-use Rattle.walrus_body_parser.specs.walrus_body_stack.wasm_normal_form.Trees.{tree_of}
-use Rattle.walrus_body_parser.specs.walrus_body_stack.wasm_normal_form.Normal.{normal}
-use Rattle.walrus_body_parser.specs.wasm_operators.wasm_immediates.declared.block_type.BlockType.{BlockType}
-use Rattle.walrus_body_parser.specs.walrus_body_stack.walrus_builder.Built.{Seq, seq_of}
+use Rattle.walrus_module_env.specs.walrus_body_parser.walrus_body_steps.Meanings.{meaning}
+use Rattle.walrus_module_env.specs.walrus_body_parser.walrus_body_steps.Picks.{ArePicks}
+use Rattle.walrus_module_env.specs.walrus_body_parser.walrus_body_stack.walrus_body_nesting.Stands.{StandsAs}
+use Rattle.walrus_module_env.specs.walrus_body_parser.walrus_body_stack.walrus_body_env.declared.error.BodyError.{BodyError}
+use Rattle.walrus_module_env.specs.walrus_body_parser.walrus_body_rules.Sights.{Sight}
+use Rattle.walrus_module_env.specs.walrus_body_parser.walrus_body_rules.wasm_body_grammar.wasm_formats.Stops.{Stop}
+use Rattle.walrus_module_env.specs.walrus_body_parser.walrus_body_rules.wasm_body_grammar.Rules.{Around}
+use Rattle.walrus_module_env.specs.walrus_body_parser.walrus_body_rules.wasm_body_grammar.Bodies.{Run, body, declared}
+use Rattle.walrus_module_env.specs.walrus_body_parser.wasm_operators.Operators.{Seen}
+use Rattle.walrus_module_env.specs.walrus_body_parser.walrus_body_stack.wasm_normal_form.Trees.{tree_of}
+use Rattle.walrus_module_env.specs.walrus_body_parser.walrus_body_stack.wasm_normal_form.Normal.{normal}
+use Rattle.walrus_module_env.specs.walrus_body_parser.wasm_operators.wasm_immediates.declared.block_type.BlockType.{BlockType}
+use Rattle.walrus_module_env.specs.walrus_body_parser.walrus_body_stack.walrus_builder.Built.{Seq, seq_of}
 use Rattle.walrus_types.specs.Table.{IsFunctionType, Table}
-use Rattle.walrus_body_parser.specs.Points.{place_at, ops_from}
+use Rattle.walrus_module_env.specs.walrus_body_parser.Points.{place_at, ops_from}
 use Rattle.walrus_module_env.specs.walrus_collections.walrus_local_function.walrus_body_locals.Calls.{IsFaultOf}
 use Rattle.walrus_module_env.specs.walrus_collections.walrus_module_items.declared.tag.Tag.{Tag}
 use Rattle.walrus_module_env.specs.declared.env.ModuleEnv.{ModuleEnv}

@@ -10,11 +10,11 @@ use Rattle.walrus_function_types.specs.FunctionTypes.{params_at, results_at}
 use Rattle.walrus_function_types.specs.Growth.{Grows}
 use Rattle.walrus_index_maps.specs.Maps.{Ids}
 use Rattle.walrus_types.specs.walrus_items.declared.local.Local.{Local}
-use Rattle.walrus_body_parser.specs.walrus_body_stack.walrus_body_env.declared.error.BodyError.{BodyError}
-use Rattle.walrus_body_parser.specs.walrus_body_rules.wasm_body_grammar.wasm_formats.Stops.{Stop}
-use Rattle.walrus_body_parser.specs.walrus_body_rules.wasm_body_grammar.Bodies.{body}
-use Rattle.walrus_body_parser.specs.walrus_body_rules.wasm_body_grammar.Rules.{Around}
-use Rattle.walrus_body_parser.specs.walrus_body_stack.walrus_builder.Built.{contents}
+use Rattle.walrus_module_env.specs.walrus_body_parser.walrus_body_stack.walrus_body_env.declared.error.BodyError.{BodyError}
+use Rattle.walrus_module_env.specs.walrus_body_parser.walrus_body_rules.wasm_body_grammar.wasm_formats.Stops.{Stop}
+use Rattle.walrus_module_env.specs.walrus_body_parser.walrus_body_rules.wasm_body_grammar.Bodies.{body}
+use Rattle.walrus_module_env.specs.walrus_body_parser.walrus_body_rules.wasm_body_grammar.Rules.{Around}
+use Rattle.walrus_module_env.specs.walrus_body_parser.walrus_body_stack.walrus_builder.Built.{contents}
 use Rattle.walrus_module_env.specs.declared.env.ModuleEnv.{ModuleEnv}
 use Rattle.walrus_module_env.specs.Around.{IsFiled}
 use Rattle.walrus_module_env.specs.walrus_collections.walrus_local_function.declared.local_function.LocalFunction.{LocalFunction}

@@ -3,11 +3,11 @@
 ghost use Rattle.std.specs.Prelude.{◌≡◌, ◌⊎◌, ◌<◌, ◌≤◌, ◌+◌, length, All, None, IfOk, IfErr};
 ghost use Rattle.wasm_reader.specs.Cursor.{IsWithin, end_of, rest};
 ghost use Rattle.walrus_index_maps.specs.Views.{ids};
-ghost use Rattle.walrus_body_parser.specs.walrus_body_stack.walrus_body_env.declared.error.BodyError.TheVariants.{Memory as WantsMemory};
-ghost use Rattle.walrus_body_parser.specs.walrus_body_rules.wasm_body_grammar.Rules.{Around};
+ghost use Rattle.walrus_module_env.specs.walrus_body_parser.walrus_body_stack.walrus_body_env.declared.error.BodyError.TheVariants.{Memory as WantsMemory};
+ghost use Rattle.walrus_module_env.specs.walrus_body_parser.walrus_body_rules.wasm_body_grammar.Rules.{Around};
 ghost use Rattle.walrus_handler_types.specs.walrus_tree.Trees.{IsTree};
-ghost use Rattle.walrus_body_parser.specs.walrus_body_stack.walrus_builder.Built.{contents};
-ghost use Rattle.walrus_body_parser.specs.walrus_body_stack.walrus_builder.Functions.{seqs_of};
+ghost use Rattle.walrus_module_env.specs.walrus_body_parser.walrus_body_stack.walrus_builder.Built.{contents};
+ghost use Rattle.walrus_module_env.specs.walrus_body_parser.walrus_body_stack.walrus_builder.Functions.{seqs_of};
 ghost use Rattle.walrus_module_env.specs.Around.{IsFiled};
 ghost use Rattle.walrus_module_env.specs.walrus_collections.walrus_local_function.walrus_body_locals.Locals.{Leaves};
 ghost use Rattle.walrus_module_bodies.specs.Reading.{IsBodyAside, IsBodyFault, TagsStand};

@@ -2,7 +2,7 @@
 
 ghost use Rattle.std.specs.Prelude.{◌≡◌, ◌⊎◌, All, IfErr, OnOk};
 ghost use Rattle.walrus_index_maps.specs.Views.{ids};
-ghost use Rattle.walrus_body_parser.specs.walrus_body_stack.walrus_body_env.declared.error.BodyError.TheVariants.{Memory as WantsMemory};
+ghost use Rattle.walrus_module_env.specs.walrus_body_parser.walrus_body_stack.walrus_body_env.declared.error.BodyError.TheVariants.{Memory as WantsMemory};
 ghost use Rattle.walrus_module_bodies.specs.Reading.{TagsStand};
 ghost use Rattle.walrus_module_bodies.specs.Steps.{AreApart, IsFiledLater, IsPlaced, IsReady, Steps, StopsIn, state};
 

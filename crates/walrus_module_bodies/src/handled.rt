@@ -4,9 +4,9 @@ ghost use Rattle.std.specs.Prelude.{◌≡◌, ◌⊎◌, ◌<◌, ◌≤◌, �
 ghost use Rattle.wasm_reader.specs.Cursor.{IsWithin, end_of, rest};
 ghost use Rattle.walrus_index_maps.specs.Views.{ids};
 ghost use Rattle.walrus_function_types.specs.Growth.{Grows};
-ghost use Rattle.walrus_body_parser.specs.walrus_body_stack.walrus_body_env.declared.error.BodyError.TheVariants.{Memory as WantsMemory};
-ghost use Rattle.walrus_body_parser.specs.walrus_body_rules.wasm_body_grammar.Rules.{Around};
-ghost use Rattle.walrus_body_parser.specs.walrus_body_stack.walrus_builder.Built.{contents};
+ghost use Rattle.walrus_module_env.specs.walrus_body_parser.walrus_body_stack.walrus_body_env.declared.error.BodyError.TheVariants.{Memory as WantsMemory};
+ghost use Rattle.walrus_module_env.specs.walrus_body_parser.walrus_body_rules.wasm_body_grammar.Rules.{Around};
+ghost use Rattle.walrus_module_env.specs.walrus_body_parser.walrus_body_stack.walrus_builder.Built.{contents};
 ghost use Rattle.walrus_module_env.specs.declared.env.ModuleEnv.{ModuleEnv};
 ghost use Rattle.walrus_module_env.specs.Around.{IsFiled};
 ghost use Rattle.walrus_module_env.specs.walrus_collections.walrus_local_function.walrus_body_locals.Locals.{Leaves};

@@ -11,3 +11,10 @@ pub mod laws;
 
 pub use bodies::read_bodies;
 pub use file::FileEnv;
+
+// Passed on to crates above, which then list this one alone.
+pub mod body_trees {
+    pub mod laws {
+        pub use walrus_body_trees::laws::{bodies_are_trees, bodies_mean_their_normal_form};
+    }
+}

@@ -6,7 +6,7 @@ use Rattle.walrus_builder.specs.Built.{Seq}
 use Rattle.walrus_index_maps.specs.Maps.{Ids}
 use Rattle.walrus_instr.specs.declared.seq.InstrSeqType.{InstrSeqType}
 use Rattle.walrus_types.specs.walrus_items.declared.local.Local.{Local}
-use Rattle.walrus_body_parser.specs.Points.{place_at}
+use Rattle.walrus_collections.specs.walrus_body_parser.Points.{place_at}
 use Rattle.walrus_collections.specs.walrus_local_function.walrus_body_locals.wasm_grammar.States.{types_of}
 use Rattle.walrus_collections.specs.walrus_local_function.walrus_body_locals.walrus_body_env.declared.error.BodyError.{BodyError}
 use Rattle.walrus_collections.specs.walrus_local_function.walrus_body_locals.walrus_body_env.declared.error.BodyError.TheVariants.{Memory}

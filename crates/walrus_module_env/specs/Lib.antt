@@ -5,7 +5,7 @@ pub mod Parsed
 pub mod First
 pub mod Handled
 -- Passed on to crates above, which then list this one alone.
-pub use Rattle.walrus_body_parser.specs as walrus_body_parser
+pub use Rattle.walrus_collections.specs.walrus_body_parser as walrus_body_parser
 pub use Rattle.walrus_collections.specs as walrus_collections
 pub use Rattle.wasm_run_names.specs as wasm_run_names
 pub use Rattle.walrus_handler_types.specs as walrus_handler_types

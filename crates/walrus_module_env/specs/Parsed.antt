@@ -11,10 +11,10 @@ use Rattle.walrus_collections.specs.walrus_local_function.walrus_function_parser
 use Rattle.wasm_reader.specs.Cursor.{Cursor, rest}
 use Rattle.walrus_builder.specs.Built.{Seq}
 use Rattle.walrus_index_maps.specs.Maps.{Ids}
-use Rattle.walrus_body_parser.specs.wasm_operators.Operators.{Seen}
-use Rattle.walrus_body_parser.specs.walrus_body_steps.Meanings.{meaning}
-use Rattle.walrus_body_parser.specs.walrus_body_steps.Picks.{ArePicks}
-use Rattle.walrus_body_parser.specs.Points.{place_at, ops_from}
+use Rattle.walrus_collections.specs.walrus_body_parser.wasm_operators.Operators.{Seen}
+use Rattle.walrus_collections.specs.walrus_body_parser.walrus_body_steps.Meanings.{meaning}
+use Rattle.walrus_collections.specs.walrus_body_parser.walrus_body_steps.Picks.{ArePicks}
+use Rattle.walrus_collections.specs.walrus_body_parser.Points.{place_at, ops_from}
 use Rattle.walrus_collections.specs.walrus_local_function.walrus_body_locals.wasm_body_grammar.Rules.{Around, found_in}
 use Rattle.walrus_collections.specs.walrus_local_function.walrus_body_locals.wasm_body_grammar.Bodies.{Run, body}
 use Rattle.walrus_collections.specs.walrus_local_function.walrus_body_locals.wasm_normal_form.Trees.{tree_of}

@@ -3,14 +3,14 @@ use Rattle.std.specs.Prelude.{ℕ, zero, suc, ◌<◌, ◌^◌, ◌≡◌, ◌==
 use Rattle.std.specs.Option.{option_map}
 use Rattle.std.proofs.Common.{ap, sym, subst, ◌∙◌, arith, inl, inr}
 use Rattle.std.proofs.lemmas.Bool.{cases_Bool, and_parts, ltb-true, eqb-true}
-use Rattle.wasm_immediates.specs.declared.memory_access.MemoryAccess.{MemoryAccess}
-use Rattle.wasm_immediates.specs.Items.{Memories, Access}
-use Rattle.wasm_operators.specs.declared.op_code.OpCode.{OpCode}
-use Rattle.walrus_instr.specs.declared.instr.Instr.{Instr}
-use Rattle.walrus_instr.specs.declared.instr.Instr.TheVariants as instrs
-use Rattle.walrus_instr.specs.declared.memory.MemArg.{MemArg}
-use Rattle.walrus_instr.specs.declared.memory.AtomicOp.{AtomicOp}
-use Rattle.walrus_instr.specs.declared.memory.AtomicWidth.{AtomicWidth}
+use Rattle.wasm_operator_names.specs.wasm_immediates.declared.memory_access.MemoryAccess.{MemoryAccess}
+use Rattle.wasm_operator_names.specs.wasm_immediates.Items.{Memories, Access}
+use Rattle.wasm_operator_names.specs.wasm_operators.declared.op_code.OpCode.{OpCode}
+use Rattle.walrus_pairing.specs.walrus_instr.declared.instr.Instr.{Instr}
+use Rattle.walrus_pairing.specs.walrus_instr.declared.instr.Instr.TheVariants as instrs
+use Rattle.walrus_pairing.specs.walrus_instr.declared.memory.MemArg.{MemArg}
+use Rattle.walrus_pairing.specs.walrus_instr.declared.memory.AtomicOp.{AtomicOp}
+use Rattle.walrus_pairing.specs.walrus_instr.declared.memory.AtomicWidth.{AtomicWidth}
 use Rattle.walrus_pairing.specs.walrus_access_codes.Access.{load_at, store_at, simd_at, simd_lane, rmw_at, cmpxchg_at}
 use Rattle.walrus_pairing.specs.Looks.{Look}
 use Rattle.walrus_pairing.specs.Write.{op, operator_at, lane_items, log_of, access_of}

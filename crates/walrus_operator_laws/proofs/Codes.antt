@@ -3,18 +3,18 @@ use Rattle.std.specs.Prelude.{ℕ, ◌≡◌, ◌==◌, ◌&&◌, nat_lt, not, B
 use Rattle.std.specs.Option.{is_some}
 use Rattle.std.proofs.Common.{inl, inr}
 use Rattle.std.proofs.lemmas.Bool.{cases_Bool, and_parts, not-true, eqb-true}
-use Rattle.wasm_operators.specs.declared.op_code.OpCode.{OpCode}
-use Rattle.wasm_operators.specs.Operators.{op_code}
-use Rattle.walrus_instr.specs.declared.operators.UnaryOp.{UnaryOp}
-use Rattle.walrus_instr.specs.declared.operators.BinaryOp.{BinaryOp}
-use Rattle.walrus_instr.specs.declared.operators.TernaryOp.{TernaryOp}
-use Rattle.walrus_instr.specs.declared.memory.LoadKind.{LoadKind}
-use Rattle.walrus_instr.specs.declared.memory.LoadKind.TheVariants as loads
-use Rattle.walrus_instr.specs.declared.memory.StoreKind.{StoreKind}
-use Rattle.walrus_instr.specs.declared.memory.StoreKind.TheVariants as stores
-use Rattle.walrus_instr.specs.declared.memory.LoadSimdKind.{LoadSimdKind}
-use Rattle.walrus_instr.specs.declared.memory.AtomicOp.{AtomicOp}
-use Rattle.walrus_instr.specs.declared.memory.AtomicWidth.{AtomicWidth}
+use Rattle.wasm_operator_names.specs.wasm_operators.declared.op_code.OpCode.{OpCode}
+use Rattle.wasm_operator_names.specs.wasm_operators.Operators.{op_code}
+use Rattle.walrus_pairing.specs.walrus_instr.declared.operators.UnaryOp.{UnaryOp}
+use Rattle.walrus_pairing.specs.walrus_instr.declared.operators.BinaryOp.{BinaryOp}
+use Rattle.walrus_pairing.specs.walrus_instr.declared.operators.TernaryOp.{TernaryOp}
+use Rattle.walrus_pairing.specs.walrus_instr.declared.memory.LoadKind.{LoadKind}
+use Rattle.walrus_pairing.specs.walrus_instr.declared.memory.LoadKind.TheVariants as loads
+use Rattle.walrus_pairing.specs.walrus_instr.declared.memory.StoreKind.{StoreKind}
+use Rattle.walrus_pairing.specs.walrus_instr.declared.memory.StoreKind.TheVariants as stores
+use Rattle.walrus_pairing.specs.walrus_instr.declared.memory.LoadSimdKind.{LoadSimdKind}
+use Rattle.walrus_pairing.specs.walrus_instr.declared.memory.AtomicOp.{AtomicOp}
+use Rattle.walrus_pairing.specs.walrus_instr.declared.memory.AtomicWidth.{AtomicWidth}
 use Rattle.walrus_pairing.specs.walrus_operator_codes.Runs.{Run, run, in_runs}
 use Rattle.walrus_pairing.specs.walrus_operator_codes.Unary.{unary_bytes, unary_bulks, low_unary_vectors, high_unary_vectors, unary_lanes, unary_at, unary_code, unary_lane}
 use Rattle.walrus_pairing.specs.walrus_operator_codes.Binary.{binary_bytes, binary_bulks, low_binary_vectors, high_binary_vectors, binary_lanes, binary_at, binary_code, binary_lane}

@@ -2,8 +2,8 @@
 use Rattle.std.specs.Prelude.{ℕ, ◌≡◌, ◌⊎◌, Option, Some, None, Ok, Err, refl}
 use Rattle.std.specs.Option.{option_map}
 use Rattle.std.proofs.Common.{ap, ◌∙◌, inl, inr}
-use Rattle.wasm_immediates.specs.Items.{Space}
-use Rattle.walrus_instr.specs.declared.instr.Instr.{Instr}
+use Rattle.wasm_operator_names.specs.wasm_immediates.Items.{Space}
+use Rattle.walrus_pairing.specs.walrus_instr.declared.instr.Instr.{Instr}
 use Rattle.walrus_pairing.specs.Looks.{Look, Or, ◌>>=◌, found}
 use Rattle.walrus_pairing.specs.Read.{first}
 

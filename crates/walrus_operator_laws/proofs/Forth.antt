@@ -2,11 +2,11 @@
 use Rattle.std.specs.Prelude.{ℕ, ◌≡◌, ◌==◌, List, [], ◌∷◌, Some, refl}
 use Rattle.std.proofs.Common.{inl, inr}
 use Rattle.std.proofs.lemmas.Bool.{cases_Bool}
-use Rattle.wasm_immediates.specs.Items.{Space, Types, Functions, Tables, Memories, Tags, Globals, ElementSegments, DataSegments, Locals, Labels, Names, Number}
-use Rattle.wasm_operators.specs.declared.op_code.OpCode.{OpCode}
-use Rattle.wasm_operators.specs.Operators.{op_code}
-use Rattle.walrus_instr.specs.declared.instr.Instr.{Instr}
-use Rattle.walrus_instr.specs.declared.instr.Instr.TheVariants as instrs
+use Rattle.wasm_operator_names.specs.wasm_immediates.Items.{Space, Types, Functions, Tables, Memories, Tags, Globals, ElementSegments, DataSegments, Locals, Labels, Names, Number}
+use Rattle.wasm_operator_names.specs.wasm_operators.declared.op_code.OpCode.{OpCode}
+use Rattle.wasm_operator_names.specs.wasm_operators.Operators.{op_code}
+use Rattle.walrus_pairing.specs.walrus_instr.declared.instr.Instr.{Instr}
+use Rattle.walrus_pairing.specs.walrus_instr.declared.instr.Instr.TheVariants as instrs
 use Rattle.walrus_pairing.specs.walrus_operator_codes.Runs.{Run}
 use Rattle.walrus_pairing.specs.Looks.{Look}
 use Rattle.walrus_pairing.specs.Write.{op, operator_at}

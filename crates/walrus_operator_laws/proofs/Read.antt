@@ -11,25 +11,25 @@ use Rattle.wasm_ref_types.specs.declared.heap.HeapType.TheVariants.{Abstract as 
 use Rattle.wasm_ref_types.specs.declared.index.UnpackedIndex.TheVariants.{Module, RecGroup, Id}
 use Rattle.wasm_ref_types.specs.declared.value.ValType.{ValType as WrittenValue}
 use Rattle.wasm_ref_types.specs.declared.value.ValType.TheVariants.{I32 as WI32, I64 as WI64, F32 as WF32, F64 as WF64, V128 as WV128, Ref as WRef}
-use Rattle.wasm_immediates.specs.declared.memory_access.MemoryAccess.{MemoryAccess}
-use Rattle.wasm_immediates.specs.Items.{Space, Types, Functions, Tables, Memories, Tags, Globals, ElementSegments, DataSegments, Locals, Labels, Item, Names, Number, S32, S64, Bits, Byte, Bytes, Heap, Access, ManyValues, Form, index, number, s32, s64, bits, run, any_byte, zero_byte, heap, access, values}
-use Rattle.wasm_operators.specs.declared.entry.Entry.{Entry}
-use Rattle.wasm_operators.specs.declared.entry.Kind.{Kind}
-use Rattle.wasm_operators.specs.declared.entry.Kind.TheVariants as kinds
-use Rattle.wasm_operators.specs.declared.op_code.OpCode.{OpCode}
-use Rattle.wasm_operators.specs.Table.{find_code, structure_rows, call_rows, plain_rows, fb_rows, fc_rows, fd_rows, fe_rows}
-use Rattle.wasm_operators.specs.Kinds.{forms}
-use Rattle.wasm_operators.specs.Operators.{op_code}
+use Rattle.wasm_operator_names.specs.wasm_immediates.declared.memory_access.MemoryAccess.{MemoryAccess}
+use Rattle.wasm_operator_names.specs.wasm_immediates.Items.{Space, Types, Functions, Tables, Memories, Tags, Globals, ElementSegments, DataSegments, Locals, Labels, Item, Names, Number, S32, S64, Bits, Byte, Bytes, Heap, Access, ManyValues, Form, index, number, s32, s64, bits, run, any_byte, zero_byte, heap, access, values}
+use Rattle.wasm_operator_names.specs.wasm_operators.declared.entry.Entry.{Entry}
+use Rattle.wasm_operator_names.specs.wasm_operators.declared.entry.Kind.{Kind}
+use Rattle.wasm_operator_names.specs.wasm_operators.declared.entry.Kind.TheVariants as kinds
+use Rattle.wasm_operator_names.specs.wasm_operators.declared.op_code.OpCode.{OpCode}
+use Rattle.wasm_operator_names.specs.wasm_operators.Table.{find_code, structure_rows, call_rows, plain_rows, fb_rows, fc_rows, fd_rows, fe_rows}
+use Rattle.wasm_operator_names.specs.wasm_operators.Kinds.{forms}
+use Rattle.wasm_operator_names.specs.wasm_operators.Operators.{op_code}
 use Rattle.wasm_operator_ranges.specs.Ranges.{ItemFits, ItemsFit}
 use Rattle.walrus_forms.specs.declared.value.AbstractHeapType.TheVariants as types
 use Rattle.walrus_forms.specs.declared.value.HeapType.{HeapType}
 use Rattle.walrus_forms.specs.declared.value.HeapType.TheVariants.{Abstract, Concrete, Exact}
 use Rattle.walrus_forms.specs.declared.value.ValType.{ValType}
 use Rattle.walrus_forms.specs.declared.value.ValType.TheVariants.{I32, I64, F32, F64, V128, Ref}
-use Rattle.walrus_instr.specs.declared.instr.Value.TheVariants as constants
-use Rattle.walrus_instr.specs.declared.instr.Instr.{Instr}
-use Rattle.walrus_instr.specs.declared.instr.Instr.TheVariants as instrs
-use Rattle.walrus_instr.specs.declared.memory.MemArg.{MemArg}
+use Rattle.walrus_pairing.specs.walrus_instr.declared.instr.Value.TheVariants as constants
+use Rattle.walrus_pairing.specs.walrus_instr.declared.instr.Instr.{Instr}
+use Rattle.walrus_pairing.specs.walrus_instr.declared.instr.Instr.TheVariants as instrs
+use Rattle.walrus_pairing.specs.walrus_instr.declared.memory.MemArg.{MemArg}
 use Rattle.walrus_pairing.specs.walrus_operator_codes.Unary.{unary_bytes, unary_bulks, low_unary_vectors, high_unary_vectors, unary_lanes}
 use Rattle.walrus_pairing.specs.walrus_operator_codes.Binary.{binary_bytes, binary_bulks, low_binary_vectors, high_binary_vectors, binary_lanes}
 use Rattle.walrus_pairing.specs.walrus_operator_codes.Ternary.{ternary_vectors}

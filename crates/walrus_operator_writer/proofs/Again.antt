@@ -3,11 +3,11 @@ use Rattle.std.proofs.Common.{◌≡◌, ℕ, inl, inr, List, Option, Some, None
 use Rattle.wasm_ref_types.specs.wasm_features.declared.WasmFeatures.{WasmFeatures}
 use Rattle.wasm_ref_types.specs.wasm_reader.Cursor.{Cursor, rest}
 use Rattle.wasm_ref_types.specs.wasm_reader.Reading.{Reading}
-use Rattle.wasm_operators.specs.declared.entry.Kind.{Kind}
-use Rattle.wasm_operators.specs.declared.op_code.OpCode.{OpCode}
-use Rattle.wasm_operators.specs.Kinds.{forms}
-use Rattle.wasm_operators.specs.Operators.{kind_of, Seen, operator_at}
-use Rattle.wasm_operators.specs.Taken.{either_taken}
+use Rattle.walrus_operators.specs.wasm_operators.declared.entry.Kind.{Kind}
+use Rattle.walrus_operators.specs.wasm_operators.declared.op_code.OpCode.{OpCode}
+use Rattle.walrus_operators.specs.wasm_operators.Kinds.{forms}
+use Rattle.walrus_operators.specs.wasm_operators.Operators.{kind_of, Seen, operator_at}
+use Rattle.walrus_operators.specs.wasm_operators.Taken.{either_taken}
 use Rattle.wasm_operator_ranges.specs.wasm_operator_bytes.Vecs.{parts_small}
 use Rattle.wasm_operator_ranges.specs.Ranges.{OperatorFits, ItemsFit}
 use Rattle.wasm_operator_ranges.proofs.Operators.{operator_fits, operator_written}

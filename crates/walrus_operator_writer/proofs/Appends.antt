@@ -4,7 +4,7 @@ use Rattle.std.proofs.lemmas.List.{append-nil, append_assoc, flat_map_more, take
 use Rattle.std.specs.List.{flat_map}
 use Rattle.std.specs.declared.alloc.AllocError.{AllocError}
 use Rattle.wasm_immediates.specs.Items.{Item}
-use Rattle.wasm_operators.specs.declared.op_code.OpCode.{OpCode}
+use Rattle.walrus_operators.specs.wasm_operators.declared.op_code.OpCode.{OpCode}
 use Rattle.wasm_operator_ranges.specs.wasm_operator_bytes.Bytes.{code_bytes, item_bytes}
 use Rattle.walrus_operator_writer.specs.Appended.{Keeps, Appends, AppendsItems, with_items}
 use Rattle.walrus_number_writer.proofs.Keeps.{keeps_on}

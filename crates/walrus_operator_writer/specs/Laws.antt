@@ -2,9 +2,9 @@
 use Rattle.std.specs.Prelude.{ℕ, ◌<◌, ◌≤◌, ◌≡◌, List, ◌++◌, length, All, Some, Result, Ok, Err}
 use Rattle.wasm_ref_types.specs.wasm_features.declared.WasmFeatures.{WasmFeatures}
 use Rattle.wasm_ref_types.specs.wasm_reader.Cursor.{Cursor, rest}
-use Rattle.wasm_operators.specs.Kinds.{forms}
-use Rattle.wasm_operators.specs.Operators.{kind_of}
-use Rattle.wasm_operators.specs.Spellings.{SpellsOperator}
+use Rattle.walrus_operators.specs.wasm_operators.Kinds.{forms}
+use Rattle.walrus_operators.specs.wasm_operators.Operators.{kind_of}
+use Rattle.walrus_operators.specs.wasm_operators.Spellings.{SpellsOperator}
 use Rattle.wasm_operator_ranges.specs.wasm_operator_bytes.Bytes.{operator_bytes}
 use Rattle.wasm_operator_ranges.specs.Ranges.{ItemsFit}
 use Rattle.walrus_operators.specs.declared.operator.Operator.{Operator}

@@ -9,7 +9,7 @@ use crate::immediates::write_immediates;
 use std::alloc::AllocError;
 use walrus_number_writer::{write_byte, write_unsigned};
 use walrus_operators::Operator;
-use wasm_operators::OpCode;
+use walrus_operators::operator_table::OpCode;
 
 #[tactic(auto, using(crate::proofs::Appends::appends_on))]
 fn write_prefixed(out: &mut Vec<u8>, prefix: u8, number: u32) -> Result<(), AllocError>

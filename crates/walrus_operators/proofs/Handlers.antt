@@ -1,11 +1,11 @@
 -- Lemmas: handlers behind a block's type.
 use Rattle.std.specs.Prelude.{◌≡◌, ◌≤◌, [], ◌∷◌, Ok, Err, refl}
 use Rattle.std.proofs.Common.{inl, inr}
-use Rattle.wasm_reader.specs.wasm_features.declared.WasmFeatures.{WasmFeatures}
-use Rattle.wasm_reader.specs.declared.error.Error.{Error}
-use Rattle.wasm_reader.specs.Cursor.{Cursor, rest, end_of, Forward}
-use Rattle.wasm_reader.specs.Items.{FailsAs, ReadsUnlessMemory, vec_at}
-use Rattle.wasm_reader.proofs.Loop.{Forward-then}
+use Rattle.wasm_operators.specs.wasm_reader.wasm_features.declared.WasmFeatures.{WasmFeatures}
+use Rattle.wasm_operators.specs.wasm_reader.declared.error.Error.{Error}
+use Rattle.wasm_operators.specs.wasm_reader.Cursor.{Cursor, rest, end_of, Forward}
+use Rattle.wasm_operators.specs.wasm_reader.Items.{FailsAs, ReadsUnlessMemory, vec_at}
+use Rattle.wasm_operators.proofs.wasm_reader.Loop.{Forward-then}
 use Rattle.wasm_immediates.specs.declared.block_type.BlockType.{BlockType}
 use Rattle.wasm_immediates.specs.Items.{block, clauses}
 use Rattle.wasm_immediates.specs.Readings.{most, block_at, clause_at, item_at, items_at}

@@ -1,9 +1,9 @@
 -- Lemmas: a code of which the table was asked before it is read.
 use Rattle.std.proofs.Common.{◌≡◌, ◌<◌, ◌≤◌, ◌∙◌, refl, ℕ, Bool, true, false, List, [], ◌∷◌, Option, Some, None, Ok, Err, sym, arith, ap, subst}
 use Rattle.std.proofs.lemmas.Bool.{lt-leb}
-use Rattle.wasm_reader.specs.Cursor.{Cursor, rest}
-use Rattle.wasm_reader.specs.Reading.{Fault, Reading, byte_at, next_at}
-use Rattle.wasm_reader.specs.wasm_features.declared.WasmFeatures.{WasmFeatures}
+use Rattle.wasm_operators.specs.wasm_reader.Cursor.{Cursor, rest}
+use Rattle.wasm_operators.specs.wasm_reader.Reading.{Fault, Reading, byte_at, next_at}
+use Rattle.wasm_operators.specs.wasm_reader.wasm_features.declared.WasmFeatures.{WasmFeatures}
 use Rattle.wasm_operators.specs.declared.entry.Entry.{Entry}
 use Rattle.wasm_operators.specs.declared.entry.Kind.{Kind}
 use Rattle.wasm_operators.specs.Table.{find_code}

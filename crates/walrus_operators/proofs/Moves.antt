@@ -1,11 +1,11 @@
 -- The same bytes at another offset give the same operator, moved.
 use Rattle.std.proofs.Common.{◌≡◌, ℕ, inl, inr, Option, Some, None, Result, Ok, Err, arith}
-use Rattle.wasm_reader.specs.wasm_features.declared.WasmFeatures.{WasmFeatures}
-use Rattle.wasm_reader.specs.declared.error.Error.{Error}
-use Rattle.wasm_reader.specs.Cursor.{Cursor}
-use Rattle.wasm_reader.specs.Reading.{Reads, plain}
-use Rattle.wasm_reader.specs.Laws.{IsMoved, MovedAnswer}
-use Rattle.wasm_reader.proofs.Moved.{offsets_move_lem}
+use Rattle.wasm_operators.specs.wasm_reader.wasm_features.declared.WasmFeatures.{WasmFeatures}
+use Rattle.wasm_operators.specs.wasm_reader.declared.error.Error.{Error}
+use Rattle.wasm_operators.specs.wasm_reader.Cursor.{Cursor}
+use Rattle.wasm_operators.specs.wasm_reader.Reading.{Reads, plain}
+use Rattle.wasm_operators.specs.wasm_reader.Laws.{IsMoved, MovedAnswer}
+use Rattle.wasm_operators.proofs.wasm_reader.Moved.{offsets_move_lem}
 use Rattle.wasm_operators.specs.Operators.{Seen, operator_at}
 use Rattle.walrus_operators.specs.declared.operator.Operator.{Operator}
 use Rattle.walrus_operators.specs.declared.reader.OperatorError.{OperatorError}

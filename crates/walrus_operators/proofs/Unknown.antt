@@ -1,7 +1,7 @@
 -- Lemmas: a code that is no operator's.
 use Rattle.std.proofs.Common.{◌≡◌, ◌≤◌, ℕ, zero, suc, List, [], ◌∷◌, Result, Ok, Err, length, drop, arith, refl, subst}
-use Rattle.wasm_reader.specs.Cursor.{Cursor}
-use Rattle.wasm_reader.specs.Reading.{Reads}
+use Rattle.wasm_operators.specs.wasm_reader.Cursor.{Cursor}
+use Rattle.wasm_operators.specs.wasm_reader.Reading.{Reads}
 use Rattle.wasm_operators.specs.declared.entry.Kind.{Kind}
 use Rattle.wasm_operators.specs.declared.op_code.OpCode.{OpCode}
 use Rattle.wasm_operators.specs.Operators.{code_at, operator_at, IsKindOrPlace}

@@ -1,9 +1,9 @@
 -- What the offset of the bytes changes of a call of the reader of operators.
 use Rattle.std.specs.Prelude.{ℕ, ◌+◌, ◌≡◌, Result, Ok, Err}
-use Rattle.wasm_reader.specs.wasm_features.declared.WasmFeatures.{WasmFeatures}
-use Rattle.wasm_reader.specs.Cursor.{Cursor, IsWithin}
-use Rattle.wasm_reader.specs.Items.{WantsMemory}
-use Rattle.wasm_reader.specs.Laws.{IsMoved}
+use Rattle.wasm_operators.specs.wasm_reader.wasm_features.declared.WasmFeatures.{WasmFeatures}
+use Rattle.wasm_operators.specs.wasm_reader.Cursor.{Cursor, IsWithin}
+use Rattle.wasm_operators.specs.wasm_reader.Items.{WantsMemory}
+use Rattle.wasm_operators.specs.wasm_reader.Laws.{IsMoved}
 use Rattle.walrus_operators.specs.declared.operator.Operator.{Operator}
 use Rattle.walrus_operators.specs.declared.reader.OperatorError.{OperatorError}
 use Rattle.walrus_operators.specs.declared.reader.OperatorError.TheVariants as errors

@@ -1,10 +1,10 @@
 -- What a call of the reader of operators answers.
 use Rattle.std.specs.Prelude.{ℕ, ◌+◌, ◌-◌, ◌<◌, ◌≤◌, ◌≡◌, ◌⊎◌, true, List, ◌∷◌, Option, Some, None, Result, Ok, Err, IfOk, IfErr}
-use Rattle.wasm_reader.specs.wasm_features.declared.WasmFeatures.{WasmFeatures}
-use Rattle.wasm_reader.specs.declared.error.Error.{Error}
-use Rattle.wasm_reader.specs.Cursor.{Cursor, rest, end_of, Forward}
-use Rattle.wasm_reader.specs.Reading.{Reading, fault}
-use Rattle.wasm_reader.specs.Items.{WantsMemory}
+use Rattle.wasm_operators.specs.wasm_reader.wasm_features.declared.WasmFeatures.{WasmFeatures}
+use Rattle.wasm_operators.specs.wasm_reader.declared.error.Error.{Error}
+use Rattle.wasm_operators.specs.wasm_reader.Cursor.{Cursor, rest, end_of, Forward}
+use Rattle.wasm_operators.specs.wasm_reader.Reading.{Reading, fault}
+use Rattle.wasm_operators.specs.wasm_reader.Items.{WantsMemory}
 use Rattle.wasm_operators.specs.declared.entry.Entry.{Entry}
 use Rattle.wasm_operators.specs.declared.entry.Kind.{Kind}
 use Rattle.wasm_operators.specs.declared.op_code.OpCode.{OpCode}

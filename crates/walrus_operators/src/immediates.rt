@@ -2,7 +2,7 @@
 
 use wasm_immediates::ref_types::{HeapType, ValType};
 use wasm_immediates::{BlockType, Clause, MemoryAccess};
-use wasm_reader::{Ieee32, Ieee64};
+use wasm_operators::reader::{Ieee32, Ieee64};
 
 /// The immediates of an operator, by kind. Indices are numbers in the spaces of the module, locals and labels in those of the body;
 /// nothing is tested of them.

@@ -1,6 +1,6 @@
 //! Laws: functions with nothing to do, whose contracts hold of all bytes.
 
-ghost use Rattle.wasm_reader.specs.wasm_features.declared.WasmFeatures.{WasmFeatures};
+ghost use Rattle.wasm_operators.specs.wasm_reader.wasm_features.declared.WasmFeatures.{WasmFeatures};
 ghost use Rattle.walrus_operators.specs.Laws.{OperatorsMove};
 
 /// The same bytes at another offset give the same operator, or the same refusal, moved; want of memory aside.

@@ -26,3 +26,11 @@ pub mod immediate_forms {
 pub mod operator_table {
     pub use wasm_operators::{Entry, Flow, Kind, OpCode};
 }
+
+pub mod ref_types {
+    pub use wasm_operators::ref_types::ValType;
+}
+
+pub mod the_reader {
+    pub use wasm_operators::reader::{Error, ErrorKind, Ieee32, Ieee64};
+}

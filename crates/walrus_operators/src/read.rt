@@ -1,8 +1,8 @@
 //! Immediates are read, by their kind.
 
 ghost use Rattle.std.specs.Prelude.{◌≡◌, IfOk};
-ghost use Rattle.wasm_reader.specs.Reading.{Reads};
-ghost use Rattle.wasm_reader.specs.Items.{ReadsBy, ReadsUnlessMemory};
+ghost use Rattle.wasm_operators.specs.wasm_reader.Reading.{Reads};
+ghost use Rattle.wasm_operators.specs.wasm_reader.Items.{ReadsBy, ReadsUnlessMemory};
 ghost use Rattle.wasm_immediates.specs.Readings.{items_at};
 ghost use Rattle.wasm_operators.specs.Kinds.{forms, takes_memory};
 ghost use Rattle.walrus_operators.specs.Immediates.{IsRare, items_of, kind_is};
@@ -12,7 +12,7 @@ use std::alloc::Global;
 use wasm_immediates::ref_types::{HeapType, ValType};
 use wasm_immediates::{BlockType, Clause, MemoryAccess, read_below, read_zero};
 use wasm_operators::Kind;
-use wasm_reader::{BinaryReader, FromReader, Result};
+use wasm_operators::reader::{BinaryReader, FromReader, Result};
 
 // No list is longer than a u32 counts.
 const MOST: usize = 4294967295;

@@ -1,8 +1,8 @@
 //! Operators are read one by one.
 
 ghost use Rattle.std.specs.Prelude.{◌≡◌, ◌==◌, ◌+◌, length, IfOk, MatchOption, Ok, Some};
-ghost use Rattle.wasm_reader.specs.Cursor.{rest};
-ghost use Rattle.wasm_reader.specs.Reading.{Reads, plain};
+ghost use Rattle.wasm_operators.specs.wasm_reader.Cursor.{rest};
+ghost use Rattle.wasm_operators.specs.wasm_reader.Reading.{Reads, plain};
 ghost use Rattle.wasm_operators.specs.Operators.{code_at, IsKindOrPlace};
 ghost use Rattle.wasm_operators.specs.Table.{find_code};
 ghost use Rattle.wasm_operators.specs.declared.entry.Entry.{Entry as Row};
@@ -13,8 +13,8 @@ use crate::operator::Operator;
 use crate::read::read_immediates;
 use std::alloc::Global;
 use std::marker::Model;
+use wasm_operators::reader::{BinaryReader, Error, Result};
 use wasm_operators::{Entry, Kind, OpCode};
-use wasm_reader::{BinaryReader, Error, Result};
 
 /// Why no operator was read.
 #[derive(Clone, Copy, PartialEq, Eq)]
@@ -59,7 +59,7 @@ pub struct OperatorReader<'a> {
 }
 
 impl<'a> Model for OperatorReader<'a> {
-    ghost use Rattle.wasm_reader.specs.Cursor.{Cursor};
+    ghost use Rattle.wasm_operators.specs.wasm_reader.Cursor.{Cursor};
 
     ghost Value = { Cursor };
 

@@ -22,7 +22,7 @@ use walrus_arena::FunctionId;
 use walrus_index_maps::IdsToIndices;
 use walrus_operators::Immediates;
 use walrus_operators::operator_table::OpCode;
-use wasm_reader::{Ieee32, Ieee64};
+use walrus_operators::the_reader::{Ieee32, Ieee64};
 
 // A code, written out: a call for each would be half of what the proofs of the large matches take.
 macro_rules! code {

@@ -12,7 +12,7 @@ use walrus_arena::{MemoryId, TableId, TypeId};
 use walrus_forms::{HeapType, RefType};
 use walrus_operators::immediate_forms::MemoryAccess;
 use walrus_operators::operator_table::OpCode;
-use wasm_reader::{Ieee32, Ieee64};
+use walrus_operators::the_reader::{Ieee32, Ieee64};
 
 #[inline(always)]
 fn bare_instr(code: OpCode) -> Option<Instr>

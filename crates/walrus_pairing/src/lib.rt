@@ -16,6 +16,20 @@ pub use to_operator::operator_of;
 pub use types::{read_heap, read_value, write_heap, write_value};
 
 // Passed on to crates above, which then list this one alone.
+pub mod access_codes {
+    pub use walrus_access_codes::{code_of_load, code_of_store};
+
+    pub mod instr {
+        pub use walrus_access_codes::instr::{MemArg, Value};
+    }
+
+    pub mod operator_codes {
+        pub use walrus_access_codes::operator_codes::{
+            byte, code_of_binary, code_of_unary, lane_of_binary, lane_of_unary,
+        };
+    }
+}
+
 pub mod operator_codes {
     pub use walrus_access_codes::operator_codes::{byte, object};
 }

@@ -4,10 +4,10 @@ use Rattle.std.proofs.Common.{sym, subst}
 use Rattle.walrus_arena.specs.Arena.{Arena}
 use Rattle.walrus_file_bodies.specs.walrus_items_into.walrus_functions_into.declared.bodies.FunctionBody.{FunctionBody}
 use Rattle.walrus_file_bodies.specs.walrus_items_into.walrus_tables_into.walrus_sections_into.walrus_known_sections.declared.sections.Sections.{Sections}
-use Rattle.walrus_module.specs.walrus_module_items.declared.function.Function.{Function}
+use Rattle.walrus_item_names.specs.walrus_module.walrus_module_items.declared.function.Function.{Function}
 use Rattle.walrus_file_bodies.specs.walrus_module_bodies.Steps.{State}
 use Rattle.walrus_file_bodies.specs.walrus_module_bodies.declared.file.FileEnv.{FileEnv}
-use Rattle.walrus_module.specs.walrus_body_writer.walrus_pairing.wasm_immediates.wasm_features.declared.WasmFeatures.{WasmFeatures}
+use Rattle.walrus_item_names.specs.walrus_module.walrus_body_writer.walrus_pairing.wasm_immediates.wasm_features.declared.WasmFeatures.{WasmFeatures}
 use Rattle.walrus_file_bodies.specs.Ready.{AreReady, bodies_in}
 
 pub ready_over : (s : Sections) (functions : Arena Function) (file : FileEnv) (features : WasmFeatures) (bodies : List FunctionBody) (old : State) → bodies ≡ bodies_in s functions

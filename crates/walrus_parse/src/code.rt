@@ -1,8 +1,8 @@
 //! The bodies of a file.
 
 ghost use Rattle.std.specs.Prelude.{◌≡◌, length, IfErr, IfOk, OnOk};
-ghost use Rattle.walrus_module.specs.walrus_body_writer.walrus_pairing.walrus_index_maps.Views.{ids};
-ghost use Rattle.walrus_module.specs.walrus_types.Table.{entries, next_id};
+ghost use Rattle.walrus_item_names.specs.walrus_module.walrus_body_writer.walrus_pairing.walrus_index_maps.Views.{ids};
+ghost use Rattle.walrus_item_names.specs.walrus_module.walrus_types.Table.{entries, next_id};
 ghost use Rattle.walrus_file_bodies.specs.walrus_items_into.walrus_functions_into.Laws.{read_bodies};
 ghost use Rattle.walrus_file_bodies.specs.walrus_module_bodies.Steps.{Steps, state};
 ghost use Rattle.walrus_file_bodies.specs.walrus_module_bodies.declared.file.FileEnv.{FileEnv};
@@ -20,7 +20,7 @@ use walrus_file_bodies::items_into::tables_into::sections_into::index_maps::Indi
 use walrus_file_bodies::items_into::tables_into::sections_into::known_sections::{Chunk, Sections};
 use walrus_file_bodies::items_into::tables_into::sections_into::operators::immediate_forms::reader::features::WasmFeatures;
 use walrus_file_bodies::module_bodies::{FileEnv, read_bodies};
-use walrus_module::collections::{ModuleFunctions, ModuleMemories, ModuleTags};
+use walrus_item_names::module::collections::{ModuleFunctions, ModuleMemories, ModuleTags};
 
 // How many types live. They are held in memory, so there are never 2^64.
 fn count_types(types: &ModuleTypes) -> Result<usize, AllocError>

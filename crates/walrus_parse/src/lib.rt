@@ -12,6 +12,14 @@ pub use parse::{FromBuffer, Parse};
 pub use whole::parse_into;
 
 // Passed on to crates above, which then list this one alone.
+pub mod body_trees {
+    pub mod laws {
+        pub use walrus_file_bodies::body_trees::laws::{
+            bodies_are_trees, bodies_mean_their_normal_form,
+        };
+    }
+}
+
 pub mod file_bodies {
     pub mod items_into {
         pub mod functions_into {
@@ -29,7 +37,17 @@ pub mod file_bodies {
         }
 
         pub mod laws {
-            pub use walrus_file_bodies::items_into::laws::filled_functions_stand;
+            pub use walrus_file_bodies::items_into::laws::{
+                filled_functions_stand, filled_modules_are_filed,
+            };
+        }
+
+        pub mod module_env {
+            pub mod laws {
+                pub use walrus_file_bodies::items_into::module_env::laws::{
+                    blocks_are_named, picks_are_seen,
+                };
+            }
         }
     }
 

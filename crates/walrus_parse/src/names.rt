@@ -1,14 +1,14 @@
 //! The names of a module that was read.
 
 ghost use Rattle.std.specs.Prelude.{OnOk};
-ghost use Rattle.walrus_module.specs.walrus_local_function.walrus_body_locals.wasm_grammar.Modules.{Module};
+ghost use Rattle.walrus_item_names.specs.walrus_module.walrus_local_function.walrus_body_locals.wasm_grammar.Modules.{Module};
 ghost use Rattle.wasm_name_payloads.specs.Names.{names_of};
-ghost use Rattle.walrus_module.specs.walrus_body_writer.walrus_pairing.walrus_index_maps.Views.{ids};
+ghost use Rattle.walrus_item_names.specs.walrus_module.walrus_body_writer.walrus_pairing.walrus_index_maps.Views.{ids};
 ghost use Rattle.walrus_item_names.specs.Gives.{GivesNames};
 ghost use Rattle.walrus_item_names.specs.Holder.{holder};
 ghost use Rattle.walrus_local_counts.specs.Locals.{HasFew};
-ghost use Rattle.walrus_payloads_into.specs.Numbered.{IsNumbered};
-ghost use Rattle.walrus_payloads_into.specs.Customs.{AreCustoms};
+ghost use Rattle.walrus_file_bodies.specs.walrus_items_into.walrus_payloads_into.Numbered.{IsNumbered};
+ghost use Rattle.walrus_file_bodies.specs.walrus_items_into.walrus_payloads_into.Customs.{AreCustoms};
 ghost use Rattle.walrus_parse.specs.Named.{all_names, made_names};
 
 use std::alloc::{AllocError, Global};
@@ -17,12 +17,12 @@ use walrus_file_bodies::items_into::module_env::body_env::instr::type_table::{
 };
 use walrus_file_bodies::items_into::tables_into::sections_into::index_maps::IndicesToIds;
 use walrus_file_bodies::items_into::tables_into::sections_into::known_sections::Custom;
-use walrus_item_names::{give_names, give_synthetic_names};
-use walrus_module::collections::{
+use walrus_file_bodies::payloads_into::names_in;
+use walrus_item_names::module::collections::{
     ModuleData, ModuleElements, ModuleFunctions, ModuleGlobals, ModuleMemories, ModuleTables,
     ModuleTags,
 };
-use walrus_payloads_into::names_in;
+use walrus_item_names::{give_names, give_synthetic_names};
 
 // Synthetic names, if they are wanted.
 fn make_names(

@@ -1,7 +1,7 @@
 //! A whole module.
 
 ghost use Rattle.std.specs.Prelude.{◌≡◌, IfErr, IfOk};
-ghost use Rattle.walrus_module.specs.walrus_body_writer.walrus_pairing.walrus_index_maps.Views.{ids};
+ghost use Rattle.walrus_item_names.specs.walrus_module.walrus_body_writer.walrus_pairing.walrus_index_maps.Views.{ids};
 ghost use Rattle.walrus_file_bodies.specs.walrus_items_into.Spaces.{spaces};
 ghost use Rattle.walrus_parse.specs.Parsed.{IsEmpty, IsModuleOf, read_features};
 ghost use Rattle.walrus_parse.specs.Refusals.{IsRefusal};
@@ -22,13 +22,13 @@ use walrus_file_bodies::items_into::read_items;
 use walrus_file_bodies::items_into::tables_into::sections::Sections as CustomSections;
 use walrus_file_bodies::items_into::tables_into::sections_into::index_maps::IndicesToIds;
 use walrus_file_bodies::laws::{bodies_read_files, bodies_stop_files, filled_modules_are_ready};
-use walrus_local_counts::few_are_numbered;
-use walrus_module::Module;
-use walrus_module::collections::{
+use walrus_file_bodies::payloads_into::producers_in;
+use walrus_item_names::module::Module;
+use walrus_item_names::module::collections::{
     ModuleData, ModuleElements, ModuleExports, ModuleFunctions, ModuleGlobals, ModuleImports,
     ModuleMemories, ModuleTables, ModuleTags,
 };
-use walrus_payloads_into::producers_in;
+use walrus_local_counts::few_are_numbered;
 
 // Reads a file into the collections of an empty module; the start function and the producers are answered.
 fn read_module<B: Drop>(

@@ -8,3 +8,6 @@ mod TextLemmas
 mod NormalLemmas
 pub mod RuleLemmas
 pub mod UseLemmas
+-- Passed on to crates above, which then list this one alone.
+pub use Rattle.walrus_parsed_items.proofs as walrus_parsed_items
+pub use Rattle.walrus_parsed_items.proofs.walrus_file_bodies as walrus_file_bodies

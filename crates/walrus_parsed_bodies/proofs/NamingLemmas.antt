@@ -11,7 +11,7 @@ use Rattle.wasm_body_grammar.specs.wasm_operator_names.wasm_ref_types.declared.h
 use Rattle.wasm_body_grammar.specs.wasm_operator_names.wasm_ref_types.declared.value.ValType.{ValType as WrittenValue}
 use Rattle.wasm_body_grammar.specs.wasm_operator_names.wasm_ref_types.declared.value.ValType.TheVariants as values
 use Rattle.walrus_parsed_items.specs.walrus_into_laws.walrus_meaning.walrus_local_function.walrus_function_parser.walrus_body_rules.Sights.{Sight, look, value_block}
-use Rattle.walrus_body_trees.specs.Laws.{IsNaming}
+use Rattle.walrus_parsed_items.specs.walrus_body_trees.Laws.{IsNaming}
 use Rattle.walrus_forms.specs.declared.value.HeapType.{HeapType}
 use Rattle.walrus_forms.specs.declared.value.HeapType.TheVariants.{Abstract, Concrete, Exact}
 use Rattle.walrus_forms.specs.declared.value.ValType.{ValType}
@@ -19,7 +19,7 @@ use Rattle.walrus_forms.specs.declared.value.ValType.TheVariants.{I32, I64, F32,
 use Rattle.walrus_operator_laws.specs.walrus_pairing.walrus_instr.declared.seq.InstrSeqType.{InstrSeqType}
 use Rattle.walrus_operator_laws.specs.walrus_pairing.walrus_instr.declared.seq.InstrSeqType.TheVariants.{Simple, MultiValue}
 use Rattle.walrus_parsed_items.specs.walrus_into_laws.walrus_meaning.Words.{own_block, own_heap, own_value}
-use Rattle.walrus_file_bodies.specs.walrus_items_into.walrus_module_env.Around.{block_named}
+use Rattle.walrus_parsed_items.specs.walrus_parse.walrus_file_bodies.walrus_items_into.walrus_module_env.Around.{block_named}
 use Rattle.walrus_operator_laws.proofs.Types.{value_again}
 use Rattle.walrus_operator_laws.specs.Laws.{Renames}
 use Rattle.walrus_operator_laws.specs.walrus_pairing.Looks.{Or, ◌>>=◌}

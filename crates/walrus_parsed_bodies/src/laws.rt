@@ -4,11 +4,15 @@ ghost use Rattle.walrus_parsed_bodies.specs.Texts.{ReadBodiesMeanTheirs};
 ghost use Rattle.walrus_parsed_bodies.specs.Uses.{NamesOfReadBodiesLive};
 ghost use Rattle.walrus_parsed_bodies.specs.Whole.{ReadFunctionsAreWhole};
 
-use walrus_body_trees::laws::{bodies_are_trees, bodies_mean_their_normal_form};
-use walrus_file_bodies::items_into::laws::{filled_functions_stand, filled_modules_are_filed};
-use walrus_file_bodies::items_into::module_env::laws::{blocks_are_named, picks_are_seen};
-use walrus_file_bodies::laws::bodies_read_files;
 use walrus_function_types::laws::{entry_types_grow, found_types_stay, tables_grow_on};
+use walrus_parsed_items::body_trees::laws::{bodies_are_trees, bodies_mean_their_normal_form};
+use walrus_parsed_items::file_bodies::items_into::laws::{
+    filled_functions_stand, filled_modules_are_filed,
+};
+use walrus_parsed_items::file_bodies::items_into::module_env::laws::{
+    blocks_are_named, picks_are_seen,
+};
+use walrus_parsed_items::file_bodies::laws::bodies_read_files;
 use walrus_parsed_items::into_laws::groups::read_types_are_declared;
 use walrus_parsed_items::into_laws::ordered_stay;
 use walrus_parsed_items::into_laws::types_into::laws::{new_types_stand, types_name_below};

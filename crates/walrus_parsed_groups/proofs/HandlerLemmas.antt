@@ -6,28 +6,28 @@ use Rattle.std.specs.Option.{option_map}
 use Rattle.std.proofs.lemmas.List.{length-append, map-append}
 use Rattle.std.proofs.lemmas.List.Concat.{flat_map-append}
 use Rattle.walrus_arena.specs.Arena.{Arena, item_at}
-use Rattle.walrus_file_bodies.proofs.PairLemmas.{are_apart, chunks_fit}
-use Rattle.walrus_file_bodies.proofs.StopLemmas.{bodies_wait, chunks_fit_in, count_in}
-use Rattle.walrus_file_bodies.specs.Laws.{BodiesReadFiles}
-use Rattle.walrus_file_bodies.specs.Read.{HasLocals, Waits, coded_by, grows_none, names_on, step_filed, step_names, step_on, steps_grow}
-use Rattle.walrus_file_bodies.specs.Ready.{bodies_in}
-use Rattle.walrus_file_bodies.specs.walrus_items_into.Laws.{FilledFunctionsStand, FilledModulesAreFiled}
-use Rattle.walrus_file_bodies.specs.walrus_items_into.Numbers.{types_in}
-use Rattle.walrus_file_bodies.specs.walrus_items_into.walrus_functions_into.Laws.{read_bodies}
-use Rattle.walrus_file_bodies.specs.walrus_items_into.walrus_functions_into.declared.bodies.FunctionBody.{FunctionBody}
-use Rattle.walrus_file_bodies.specs.walrus_items_into.walrus_module_env.Env.{own_pick, tag_type_at}
-use Rattle.walrus_file_bodies.specs.walrus_items_into.walrus_module_env.Filled.{AreFiled}
-use Rattle.walrus_file_bodies.specs.walrus_items_into.walrus_tables_into.walrus_sections_into.Becomes.{look_of}
-use Rattle.walrus_file_bodies.specs.walrus_items_into.walrus_tables_into.walrus_sections_into.Numbers.{upto}
-use Rattle.walrus_file_bodies.specs.walrus_items_into.walrus_tables_into.walrus_sections_into.Slots.{Become, Filled}
-use Rattle.walrus_file_bodies.specs.walrus_items_into.walrus_tables_into.walrus_sections_into.Tags.{IsTagOf}
-use Rattle.walrus_file_bodies.specs.walrus_items_into.walrus_tables_into.walrus_sections_into.walrus_known_sections.Items.{chunk_of, tag_of}
-use Rattle.walrus_file_bodies.specs.walrus_items_into.walrus_tables_into.walrus_sections_into.walrus_known_sections.State.{state_of}
-use Rattle.walrus_file_bodies.specs.walrus_items_into.walrus_tables_into.walrus_sections_into.walrus_known_sections.declared.items.Tag.{Tag as ReadTag}
-use Rattle.walrus_file_bodies.specs.walrus_items_into.wasm_module_rules.wasm_modules.Modules.{around}
-use Rattle.walrus_file_bodies.specs.walrus_items_into.wasm_sections.Within.{ChunksFit, bodies_inside}
-use Rattle.walrus_file_bodies.specs.walrus_module_bodies.Steps.{IsStep, State, Steps, state}
-use Rattle.walrus_file_bodies.specs.walrus_module_bodies.declared.file.FileEnv.{FileEnv}
+use Rattle.walrus_parse.proofs.walrus_file_bodies.PairLemmas.{are_apart, chunks_fit}
+use Rattle.walrus_parse.proofs.walrus_file_bodies.StopLemmas.{bodies_wait, chunks_fit_in, count_in}
+use Rattle.walrus_parse.specs.walrus_file_bodies.Laws.{BodiesReadFiles}
+use Rattle.walrus_parse.specs.walrus_file_bodies.Read.{HasLocals, Waits, coded_by, grows_none, names_on, step_filed, step_names, step_on, steps_grow}
+use Rattle.walrus_parse.specs.walrus_file_bodies.Ready.{bodies_in}
+use Rattle.walrus_parse.specs.walrus_file_bodies.walrus_items_into.Laws.{FilledFunctionsStand, FilledModulesAreFiled}
+use Rattle.walrus_parse.specs.walrus_file_bodies.walrus_items_into.Numbers.{types_in}
+use Rattle.walrus_parse.specs.walrus_file_bodies.walrus_items_into.walrus_functions_into.Laws.{read_bodies}
+use Rattle.walrus_parse.specs.walrus_file_bodies.walrus_items_into.walrus_functions_into.declared.bodies.FunctionBody.{FunctionBody}
+use Rattle.walrus_parse.specs.walrus_file_bodies.walrus_items_into.walrus_module_env.Env.{own_pick, tag_type_at}
+use Rattle.walrus_parse.specs.walrus_file_bodies.walrus_items_into.walrus_module_env.Filled.{AreFiled}
+use Rattle.walrus_parse.specs.walrus_file_bodies.walrus_items_into.walrus_tables_into.walrus_sections_into.Becomes.{look_of}
+use Rattle.walrus_parse.specs.walrus_file_bodies.walrus_items_into.walrus_tables_into.walrus_sections_into.Numbers.{upto}
+use Rattle.walrus_parse.specs.walrus_file_bodies.walrus_items_into.walrus_tables_into.walrus_sections_into.Slots.{Become, Filled}
+use Rattle.walrus_parse.specs.walrus_file_bodies.walrus_items_into.walrus_tables_into.walrus_sections_into.Tags.{IsTagOf}
+use Rattle.walrus_parse.specs.walrus_file_bodies.walrus_items_into.walrus_tables_into.walrus_sections_into.walrus_known_sections.Items.{chunk_of, tag_of}
+use Rattle.walrus_parse.specs.walrus_file_bodies.walrus_items_into.walrus_tables_into.walrus_sections_into.walrus_known_sections.State.{state_of}
+use Rattle.walrus_parse.specs.walrus_file_bodies.walrus_items_into.walrus_tables_into.walrus_sections_into.walrus_known_sections.declared.items.Tag.{Tag as ReadTag}
+use Rattle.walrus_parse.specs.walrus_file_bodies.walrus_items_into.wasm_module_rules.wasm_modules.Modules.{around}
+use Rattle.walrus_parse.specs.walrus_file_bodies.walrus_items_into.wasm_sections.Within.{ChunksFit, bodies_inside}
+use Rattle.walrus_parse.specs.walrus_file_bodies.walrus_module_bodies.Steps.{IsStep, State, Steps, state}
+use Rattle.walrus_parse.specs.walrus_file_bodies.walrus_module_bodies.declared.file.FileEnv.{FileEnv}
 use Rattle.walrus_forms.specs.Renaming.{at}
 use Rattle.walrus_function_types.specs.FunctionTypes.{params_at, results_at}
 use Rattle.walrus_function_types.specs.Growth.{EntryTypesGrow, FoundTypesStay, Grows, TablesGrowOn}

@@ -4,8 +4,8 @@ use Rattle.std.specs.Prelude.{MatchOption, slice_get, slice_index_or}
 use Rattle.std.specs.Option.{option_and_then, option_map, option_or}
 use Rattle.std.proofs.lemmas.List.{map-append}
 use Rattle.std.proofs.lemmas.Option.{slice_get_within}
-use Rattle.walrus_file_bodies.specs.walrus_items_into.walrus_module_env.Env.{if_own, is_own, own_pick}
-use Rattle.walrus_file_bodies.specs.walrus_items_into.walrus_module_env.Filled.{AreFiled}
+use Rattle.walrus_parse.specs.walrus_file_bodies.walrus_items_into.walrus_module_env.Env.{if_own, is_own, own_pick}
+use Rattle.walrus_parse.specs.walrus_file_bodies.walrus_items_into.walrus_module_env.Filled.{AreFiled}
 use Rattle.walrus_forms.proofs.EqLemmas.{same-kind-law}
 use Rattle.walrus_forms.specs.Forms.{Form, FunctionForm, StructForm, ArrayForm}
 use Rattle.walrus_forms.specs.Kinds.{Kind, function_kind}

@@ -3,26 +3,26 @@ use Rattle.std.proofs.Common.{◌≡◌, ◌∙◌, ℕ, false, List, [], ◌++�
 use Rattle.std.specs.List.{AllByRecursion, flat_map}
 use Rattle.std.specs.Option.{option_map}
 use Rattle.walrus_handler_laws.specs.walrus_body_steps.wasm_body_grammar.Rules.{Around}
-use Rattle.walrus_file_bodies.specs.walrus_items_into.wasm_module_rules.wasm_modules.Modules.{around}
-use Rattle.walrus_file_bodies.specs.walrus_items_into.wasm_sections.Within.{bodies_inside}
-use Rattle.walrus_file_bodies.proofs.PairLemmas.{are_apart, chunks_fit}
-use Rattle.walrus_file_bodies.proofs.StopLemmas.{bodies_wait, chunks_fit_in, count_in}
-use Rattle.walrus_file_bodies.specs.Laws.{BodiesReadFiles}
-use Rattle.walrus_file_bodies.specs.Read.{grows_none}
-use Rattle.walrus_file_bodies.specs.Ready.{bodies_in}
+use Rattle.walrus_parse.specs.walrus_file_bodies.walrus_items_into.wasm_module_rules.wasm_modules.Modules.{around}
+use Rattle.walrus_parse.specs.walrus_file_bodies.walrus_items_into.wasm_sections.Within.{bodies_inside}
+use Rattle.walrus_parse.proofs.walrus_file_bodies.PairLemmas.{are_apart, chunks_fit}
+use Rattle.walrus_parse.proofs.walrus_file_bodies.StopLemmas.{bodies_wait, chunks_fit_in, count_in}
+use Rattle.walrus_parse.specs.walrus_file_bodies.Laws.{BodiesReadFiles}
+use Rattle.walrus_parse.specs.walrus_file_bodies.Read.{grows_none}
+use Rattle.walrus_parse.specs.walrus_file_bodies.Ready.{bodies_in}
 use Rattle.walrus_forms.specs.Records.{TypeGroup}
 use Rattle.walrus_function_types.specs.Growth.{EntryTypesGrow, FoundTypesStay, TablesGrowOn}
-use Rattle.walrus_file_bodies.specs.walrus_items_into.walrus_functions_into.Laws.{read_bodies}
-use Rattle.walrus_file_bodies.specs.walrus_items_into.walrus_functions_into.declared.bodies.FunctionBody.{FunctionBody}
+use Rattle.walrus_parse.specs.walrus_file_bodies.walrus_items_into.walrus_functions_into.Laws.{read_bodies}
+use Rattle.walrus_parse.specs.walrus_file_bodies.walrus_items_into.walrus_functions_into.declared.bodies.FunctionBody.{FunctionBody}
 use Rattle.walrus_into_laws.specs.Groups.{GroupsMean, ReadTypesAreDeclared, kept}
 use Rattle.walrus_handler_laws.specs.declared.handler.Handler.{Handler}
 use Rattle.walrus_operator_laws.specs.walrus_pairing.walrus_index_maps.Maps.{Ids}
 use Rattle.walrus_parse.specs.walrus_item_names.Holder.{Holder}
 use Rattle.walrus_parse.specs.walrus_item_names.Names.{bare_type}
-use Rattle.walrus_file_bodies.specs.walrus_items_into.Laws.{FilledFunctionsStand, FilledModulesAreFiled}
-use Rattle.walrus_file_bodies.specs.walrus_items_into.Numbers.{types_in}
-use Rattle.walrus_file_bodies.specs.walrus_items_into.walrus_tables_into.walrus_sections_into.walrus_known_sections.State.{state_of}
-use Rattle.walrus_file_bodies.specs.walrus_module_bodies.Steps.{State, state}
+use Rattle.walrus_parse.specs.walrus_file_bodies.walrus_items_into.Laws.{FilledFunctionsStand, FilledModulesAreFiled}
+use Rattle.walrus_parse.specs.walrus_file_bodies.walrus_items_into.Numbers.{types_in}
+use Rattle.walrus_parse.specs.walrus_file_bodies.walrus_items_into.walrus_tables_into.walrus_sections_into.walrus_known_sections.State.{state_of}
+use Rattle.walrus_parse.specs.walrus_file_bodies.walrus_module_bodies.Steps.{State, state}
 use Rattle.walrus_operator_laws.specs.Laws.{OperatorComesBack}
 use Rattle.walrus_parse.specs.Parsed.{read_features}
 use Rattle.walrus_parse.specs.walrus_module.walrus_types.Table.{Table}

@@ -10,15 +10,15 @@ use Rattle.walrus_handler_laws.specs.walrus_body_steps.wasm_grammar.Modules as g
 use Rattle.walrus_handler_laws.specs.walrus_body_steps.wasm_normal_form.Normal.{normal}
 use Rattle.walrus_handler_laws.specs.walrus_body_steps.wasm_normal_form.Roles.{placed}
 use Rattle.walrus_handler_laws.specs.walrus_body_steps.wasm_normal_form.Trees.{tree_of}
-use Rattle.walrus_file_bodies.specs.walrus_items_into.wasm_sections.Within.{ChunksFit}
+use Rattle.walrus_parse.specs.walrus_file_bodies.walrus_items_into.wasm_sections.Within.{ChunksFit}
 use Rattle.walrus_handler_laws.specs.walrus_body_steps.walrus_body_nesting.Opens.{same}
-use Rattle.walrus_file_bodies.specs.walrus_items_into.walrus_module_env.walrus_body_parser.Points.{place_at}
+use Rattle.walrus_parse.specs.walrus_file_bodies.walrus_items_into.walrus_module_env.walrus_body_parser.Points.{place_at}
 use Rattle.walrus_handler_laws.specs.walrus_body_steps.walrus_body_rules.Sights.{Sight, results_of}
-use Rattle.walrus_file_bodies.specs.Read.{Waits, env_of, step_filed, step_on, steps_grow}
+use Rattle.walrus_parse.specs.walrus_file_bodies.Read.{Waits, env_of, step_filed, step_on, steps_grow}
 use Rattle.walrus_forms.specs.declared.value.ValType.{ValType}
 use Rattle.walrus_function_types.specs.FunctionTypes.{params_at, results_at}
 use Rattle.walrus_function_types.specs.Growth.{EntryTypesGrow, FoundTypesStay, Grows, TablesGrowOn}
-use Rattle.walrus_file_bodies.specs.walrus_items_into.walrus_functions_into.declared.bodies.FunctionBody.{FunctionBody}
+use Rattle.walrus_parse.specs.walrus_file_bodies.walrus_items_into.walrus_functions_into.declared.bodies.FunctionBody.{FunctionBody}
 use Rattle.walrus_handler_laws.specs.Handlers.{TreesTell, told_by, tree_ids}
 use Rattle.walrus_handler_laws.specs.Retyping.{Widens, handler_params}
 use Rattle.walrus_handler_laws.specs.declared.handler.Handler.{Handler}
@@ -29,13 +29,13 @@ use Rattle.walrus_parse.specs.walrus_item_names.Names.{bare_type}
 use Rattle.walrus_operator_laws.specs.walrus_pairing.walrus_instr.BlockTypes.{picked, short_form}
 use Rattle.walrus_operator_laws.specs.walrus_pairing.walrus_instr.declared.seq.InstrSeqType.{InstrSeqType}
 use Rattle.walrus_operator_laws.specs.walrus_pairing.walrus_instr.declared.seq.InstrSeqType.TheVariants.{Simple, MultiValue}
-use Rattle.walrus_file_bodies.specs.walrus_items_into.walrus_tables_into.walrus_sections_into.walrus_known_sections.Items.{chunk_of}
-use Rattle.walrus_file_bodies.specs.walrus_module_bodies.Envs.{IsEnv}
-use Rattle.walrus_file_bodies.specs.walrus_module_bodies.Steps.{IsStep, State, Steps, cursor_of}
-use Rattle.walrus_file_bodies.specs.walrus_module_bodies.declared.file.FileEnv.{FileEnv}
-use Rattle.walrus_file_bodies.specs.walrus_items_into.walrus_module_env.Around.{sight_in}
-use Rattle.walrus_file_bodies.specs.walrus_items_into.walrus_module_env.Env.{if_own, own_pick, tag_type_at}
-use Rattle.walrus_file_bodies.specs.walrus_items_into.walrus_module_env.declared.env.ModuleEnv.{ModuleEnv}
+use Rattle.walrus_parse.specs.walrus_file_bodies.walrus_items_into.walrus_tables_into.walrus_sections_into.walrus_known_sections.Items.{chunk_of}
+use Rattle.walrus_parse.specs.walrus_file_bodies.walrus_module_bodies.Envs.{IsEnv}
+use Rattle.walrus_parse.specs.walrus_file_bodies.walrus_module_bodies.Steps.{IsStep, State, Steps, cursor_of}
+use Rattle.walrus_parse.specs.walrus_file_bodies.walrus_module_bodies.declared.file.FileEnv.{FileEnv}
+use Rattle.walrus_parse.specs.walrus_file_bodies.walrus_items_into.walrus_module_env.Around.{sight_in}
+use Rattle.walrus_parse.specs.walrus_file_bodies.walrus_items_into.walrus_module_env.Env.{if_own, own_pick, tag_type_at}
+use Rattle.walrus_parse.specs.walrus_file_bodies.walrus_items_into.walrus_module_env.declared.env.ModuleEnv.{ModuleEnv}
 use Rattle.walrus_operator_laws.specs.Laws.{OperatorComesBack}
 use Rattle.walrus_parse.specs.walrus_module.walrus_builder.Built.{contents}
 use Rattle.walrus_parse.specs.walrus_module.walrus_types.Table.{Table}

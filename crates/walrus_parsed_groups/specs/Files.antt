@@ -3,8 +3,8 @@ use Rattle.std.specs.Prelude.{ℕ, ◌≡◌, ◌<◌, List, [], ◌∷◌, ◌+
 use Rattle.std.specs.List.{flat_map}
 use Rattle.std.specs.Option.{option_and_then, option_map}
 use Rattle.walrus_config.specs.declared.config.ModuleConfig.{ModuleConfig}
-use Rattle.walrus_file_bodies.specs.walrus_items_into.wasm_module_rules.wasm_modules.Modules.{module_of}
-use Rattle.walrus_file_bodies.specs.walrus_items_into.walrus_tables_into.walrus_sections_into.walrus_known_sections.State.{state_of}
+use Rattle.walrus_parse.specs.walrus_file_bodies.walrus_items_into.wasm_module_rules.wasm_modules.Modules.{module_of}
+use Rattle.walrus_parse.specs.walrus_file_bodies.walrus_items_into.walrus_tables_into.walrus_sections_into.walrus_known_sections.State.{state_of}
 use Rattle.walrus_forms.specs.Kinds.{Kind}
 use Rattle.walrus_forms.specs.Renaming.{at, renamed_value}
 use Rattle.walrus_forms.specs.declared.value.ValType.{ValType}

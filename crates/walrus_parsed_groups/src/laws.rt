@@ -4,13 +4,15 @@ ghost use Rattle.walrus_parsed_groups.specs.Files.{ReadModulesHaveHandlers};
 ghost use Rattle.walrus_parsed_groups.specs.Groups.{ReadModulesHaveGroups};
 ghost use Rattle.walrus_parsed_groups.specs.Texts.{ReadModulesTellTexts};
 
-use walrus_file_bodies::items_into::laws::{filled_functions_stand, filled_modules_are_filed};
-use walrus_file_bodies::laws::bodies_read_files;
 use walrus_function_types::laws::{entry_types_grow, found_types_stay, tables_grow_on};
 use walrus_handler_laws::laws::trees_tell;
 use walrus_into_laws::groups::{groups_mean, read_types_are_declared};
 use walrus_into_laws::types_into::laws::types_name_below;
 use walrus_operator_laws::laws::operators_come_back;
+use walrus_parse::file_bodies::items_into::laws::{
+    filled_functions_stand, filled_modules_are_filed,
+};
+use walrus_parse::file_bodies::laws::bodies_read_files;
 use wasm_body_grammar::laws::bodies_read_once;
 use wasm_operator_ranges::laws::operators_in_range_are_spelled;
 

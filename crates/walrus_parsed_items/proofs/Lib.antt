@@ -9,3 +9,5 @@ mod ConstLemmas
 pub mod ValueLemmas
 pub mod TypeLemmas
 mod NamedLemmas
+-- Passed on to crates above, which then list this one alone.
+pub use Rattle.walrus_parse.proofs.walrus_file_bodies as walrus_file_bodies

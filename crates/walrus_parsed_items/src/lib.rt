@@ -5,6 +5,34 @@
 pub mod laws;
 
 // Passed on to crates above, which then list this one alone.
+pub mod body_trees {
+    pub mod laws {
+        pub use walrus_parse::body_trees::laws::{bodies_are_trees, bodies_mean_their_normal_form};
+    }
+}
+
+pub mod file_bodies {
+    pub mod items_into {
+        pub mod laws {
+            pub use walrus_parse::file_bodies::items_into::laws::{
+                filled_functions_stand, filled_modules_are_filed,
+            };
+        }
+
+        pub mod module_env {
+            pub mod laws {
+                pub use walrus_parse::file_bodies::items_into::module_env::laws::{
+                    blocks_are_named, picks_are_seen,
+                };
+            }
+        }
+    }
+
+    pub mod laws {
+        pub use walrus_parse::file_bodies::laws::bodies_read_files;
+    }
+}
+
 pub mod into_laws {
     pub use walrus_into_laws::{customs_mean, ordered_stay};
 

@@ -8,29 +8,29 @@ use Rattle.walrus_handler_types.specs.walrus_body_steps.wasm_body_grammar.wasm_o
 use Rattle.walrus_handler_types.specs.walrus_body_steps.wasm_grammar.States.{types_of}
 use Rattle.walrus_handler_types.specs.walrus_body_steps.wasm_body_grammar.wasm_operator_names.wasm_immediates.Items.{Space, Types, Functions, Tables, Memories, Tags, Globals, ElementSegments, DataSegments, Locals, Labels}
 use Rattle.wasm_import_links.specs.Full.{ReadModulesAreFull}
-use Rattle.walrus_file_bodies.specs.walrus_items_into.wasm_module_rules.wasm_modules.Modules.{around}
-use Rattle.walrus_file_bodies.proofs.StopLemmas.{bodies_wait}
-use Rattle.walrus_file_bodies.specs.Laws.{BodiesReadFiles}
-use Rattle.walrus_file_bodies.specs.Read.{env_is, env_of, grows_none}
+use Rattle.walrus_parsed_locals.specs.walrus_parsed_bodies.walrus_parsed_items.walrus_parse.walrus_file_bodies.walrus_items_into.wasm_module_rules.wasm_modules.Modules.{around}
+use Rattle.walrus_parsed_locals.proofs.walrus_parsed_bodies.walrus_file_bodies.StopLemmas.{bodies_wait}
+use Rattle.walrus_parsed_locals.specs.walrus_parsed_bodies.walrus_parsed_items.walrus_parse.walrus_file_bodies.Laws.{BodiesReadFiles}
+use Rattle.walrus_parsed_locals.specs.walrus_parsed_bodies.walrus_parsed_items.walrus_parse.walrus_file_bodies.Read.{env_is, env_of, grows_none}
 use Rattle.walrus_function_types.specs.Growth.{FoundTypesStay, TablesGrowOn}
-use Rattle.walrus_parsed_items.specs.walrus_into_laws.Groups.{ReadTypesAreDeclared}
-use Rattle.walrus_parsed_items.specs.walrus_into_laws.walrus_meaning.walrus_linked.walrus_body_writer.walrus_pairing.walrus_index_maps.Maps.{Ids}
-use Rattle.walrus_parsed_items.specs.walrus_into_laws.Meaning.{OrderedStay}
-use Rattle.walrus_file_bodies.specs.walrus_items_into.Laws.{FilledModulesAreFiled}
-use Rattle.walrus_file_bodies.specs.walrus_items_into.Numbers.{types_in}
-use Rattle.walrus_file_bodies.specs.walrus_items_into.walrus_tables_into.walrus_sections_into.walrus_known_sections.State.{state_of}
-use Rattle.walrus_parsed_items.specs.walrus_into_laws.walrus_meaning.walrus_linked.walrus_module.Parts.{parts}
-use Rattle.walrus_file_bodies.specs.walrus_items_into.walrus_module_env.Around.{IsFiled}
-use Rattle.walrus_file_bodies.specs.walrus_items_into.walrus_module_env.declared.env.ModuleEnv.{ModuleEnv}
-use Rattle.walrus_parsed_items.specs.walrus_into_laws.walrus_meaning.walrus_linked.walrus_body_writer.walrus_pairing.Looks.{id_of}
-use Rattle.walrus_parsed_items.specs.walrus_parse.Parsed.{read_features}
-use Rattle.walrus_parsed_items.specs.walrus_into_laws.walrus_types_into.Into.{NewTypesStand, TypesNameBelow}
-use Rattle.walrus_parsed_items.specs.Items.{ReadModulesHaveItems, file_of}
-use Rattle.walrus_parsed_items.proofs.TypeLemmas.{types_live}
+use Rattle.walrus_parsed_locals.specs.walrus_parsed_bodies.walrus_parsed_items.walrus_into_laws.Groups.{ReadTypesAreDeclared}
+use Rattle.walrus_parsed_locals.specs.walrus_parsed_bodies.walrus_parsed_items.walrus_into_laws.walrus_meaning.walrus_linked.walrus_body_writer.walrus_pairing.walrus_index_maps.Maps.{Ids}
+use Rattle.walrus_parsed_locals.specs.walrus_parsed_bodies.walrus_parsed_items.walrus_into_laws.Meaning.{OrderedStay}
+use Rattle.walrus_parsed_locals.specs.walrus_parsed_bodies.walrus_parsed_items.walrus_parse.walrus_file_bodies.walrus_items_into.Laws.{FilledModulesAreFiled}
+use Rattle.walrus_parsed_locals.specs.walrus_parsed_bodies.walrus_parsed_items.walrus_parse.walrus_file_bodies.walrus_items_into.Numbers.{types_in}
+use Rattle.walrus_parsed_locals.specs.walrus_parsed_bodies.walrus_parsed_items.walrus_parse.walrus_file_bodies.walrus_items_into.walrus_tables_into.walrus_sections_into.walrus_known_sections.State.{state_of}
+use Rattle.walrus_parsed_locals.specs.walrus_parsed_bodies.walrus_parsed_items.walrus_into_laws.walrus_meaning.walrus_linked.walrus_module.Parts.{parts}
+use Rattle.walrus_parsed_locals.specs.walrus_parsed_bodies.walrus_parsed_items.walrus_parse.walrus_file_bodies.walrus_items_into.walrus_module_env.Around.{IsFiled}
+use Rattle.walrus_parsed_locals.specs.walrus_parsed_bodies.walrus_parsed_items.walrus_parse.walrus_file_bodies.walrus_items_into.walrus_module_env.declared.env.ModuleEnv.{ModuleEnv}
+use Rattle.walrus_parsed_locals.specs.walrus_parsed_bodies.walrus_parsed_items.walrus_into_laws.walrus_meaning.walrus_linked.walrus_body_writer.walrus_pairing.Looks.{id_of}
+use Rattle.walrus_parsed_locals.specs.walrus_parsed_bodies.walrus_parsed_items.walrus_parse.Parsed.{read_features}
+use Rattle.walrus_parsed_locals.specs.walrus_parsed_bodies.walrus_parsed_items.walrus_into_laws.walrus_types_into.Into.{NewTypesStand, TypesNameBelow}
+use Rattle.walrus_parsed_locals.specs.walrus_parsed_bodies.walrus_parsed_items.Items.{ReadModulesHaveItems, file_of}
+use Rattle.walrus_parsed_locals.proofs.walrus_parsed_bodies.walrus_parsed_items.TypeLemmas.{types_live}
 use Rattle.walrus_parsed_linked.specs.Indices.{IndicesOfReadModulesLive}
-use Rattle.walrus_parsed_bodies.specs.Uses.{IsThere}
-use Rattle.walrus_parsed_bodies.proofs.RuleLemmas.{InRange}
-use Rattle.walrus_parsed_bodies.proofs.UseLemmas.{in_file, others_stay, there}
+use Rattle.walrus_parsed_locals.specs.walrus_parsed_bodies.Uses.{IsThere}
+use Rattle.walrus_parsed_locals.proofs.walrus_parsed_bodies.RuleLemmas.{InRange}
+use Rattle.walrus_parsed_locals.proofs.walrus_parsed_bodies.UseLemmas.{in_file, others_stay, there}
 
 -- an index that names something is below the count of its space
 in_count : (e : ModuleEnv) (i j : Ids) (features : WasmFeatures) (a : Around) (locals : ℕ) → IsFiled e i 0 locals features a → j ≡ record i { locals = j.locals }

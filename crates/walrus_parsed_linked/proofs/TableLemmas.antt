@@ -3,7 +3,7 @@ use Rattle.std.specs.Prelude.{ℕ, zero, suc, ◌≡◌, ◌⊎◌, false, List,
 use Rattle.std.specs.Option.{option_map, option_or}
 use Rattle.std.proofs.Common.{ap, sym, ◌∙◌, subst, inl, inr, append-nil}
 use Rattle.walrus_handler_types.specs.walrus_body_steps.walrus_body_nesting.wasm_formats.declared.fault.Space.TheVariants as spaces
-use Rattle.walrus_parsed_items.specs.walrus_into_laws.walrus_meaning.walrus_linked.walrus_module.walrus_builder.Built.{Seq}
+use Rattle.walrus_parsed_locals.specs.walrus_parsed_bodies.walrus_parsed_items.walrus_into_laws.walrus_meaning.walrus_linked.walrus_module.walrus_builder.Built.{Seq}
 use Rattle.walrus_forms.specs.Kinds.{Kind, function_kind}
 use Rattle.walrus_forms.specs.declared.value.ValType.{ValType}
 use Rattle.walrus_forms.proofs.EqLemmas.{same-kind-law}
@@ -17,13 +17,13 @@ use Rattle.walrus_marks.specs.walrus_instr.declared.seq.InstrSeqType.{InstrSeqTy
 use Rattle.walrus_marks.specs.walrus_instr.declared.seq.InstrSeqType.TheVariants.{Simple, MultiValue}
 use Rattle.walrus_marks.specs.Named.{items_of}
 use Rattle.walrus_marks.specs.walrus_walks.Events.{Event, val_names}
-use Rattle.walrus_file_bodies.specs.walrus_items_into.walrus_tables_into.walrus_sections.walrus_roots.Items.{item}
-use Rattle.walrus_file_bodies.specs.walrus_items_into.walrus_tables_into.walrus_sections.walrus_roots.declared.item.Item.{Item}
+use Rattle.walrus_parsed_locals.specs.walrus_parsed_bodies.walrus_parsed_items.walrus_parse.walrus_file_bodies.walrus_items_into.walrus_tables_into.walrus_sections.walrus_roots.Items.{item}
+use Rattle.walrus_parsed_locals.specs.walrus_parsed_bodies.walrus_parsed_items.walrus_parse.walrus_file_bodies.walrus_items_into.walrus_tables_into.walrus_sections.walrus_roots.declared.item.Item.{Item}
 use Rattle.walrus_types.proofs.LawLemmas.{latest-law}
 use Rattle.walrus_types.specs.Items.{Item as TypeItem}
 use Rattle.walrus_types.specs.Table.{Adds, Merges, Table, equal_type, found_type, type_at}
 use Rattle.walrus_types.specs.TypeLaws.{IsLatest}
-use Rattle.walrus_parsed_items.proofs.ListLemmas.{AllOf, some_is}
+use Rattle.walrus_parsed_locals.proofs.walrus_parsed_bodies.walrus_parsed_items.ListLemmas.{AllOf, some_is}
 use Rattle.walrus_parsed_linked.proofs.ValueLemmas.{Closed, GoodBlock, GoodKind, GoodValues, function_good, params_good, results_good}
 
 one_more : (xs : List (Option TypeItem)) (y : TypeItem) (k : ℕ) (x : TypeItem) → slice_index_or (xs ++ Some y ∷ []) k None ≡ Some x → (slice_index_or xs k None ≡ Some x) ⊎ (y ≡ x)

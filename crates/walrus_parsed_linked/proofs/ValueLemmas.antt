@@ -14,10 +14,10 @@ use Rattle.walrus_function_types.specs.FunctionTypes.{form_params, form_results,
 use Rattle.walrus_marks.specs.walrus_instr.declared.seq.InstrSeqType.{InstrSeqType}
 use Rattle.walrus_marks.specs.Named.{items_of}
 use Rattle.walrus_marks.specs.walrus_walks.Events.{Event, NamesType, block_names, events_of, val_names}
-use Rattle.walrus_file_bodies.specs.walrus_items_into.walrus_tables_into.walrus_sections.walrus_roots.declared.item.Item.{Item}
+use Rattle.walrus_parsed_locals.specs.walrus_parsed_bodies.walrus_parsed_items.walrus_parse.walrus_file_bodies.walrus_items_into.walrus_tables_into.walrus_sections.walrus_roots.declared.item.Item.{Item}
 use Rattle.walrus_types.specs.Items.{Item as TypeItem}
 use Rattle.walrus_types.specs.Table.{Table, type_at}
-use Rattle.walrus_parsed_items.proofs.ListLemmas.{AllOf, some_is}
+use Rattle.walrus_parsed_locals.proofs.walrus_parsed_bodies.walrus_parsed_items.ListLemmas.{AllOf, some_is}
 
 abbrev pub names_types : List ℕ → List Event
 names_types ns = map (λ name. NamesType name) ns

@@ -5,14 +5,18 @@ ghost use Rattle.walrus_parsed_linked.specs.Linked.{ReadModulesAreLinked};
 ghost use Rattle.walrus_parsed_linked.specs.Types.{NamesOfReadTypesLive};
 
 use walrus_body_walks::laws::{handlers_have_answers, walks_name_answers};
-use walrus_file_bodies::items_into::laws::{filled_functions_stand, filled_modules_are_filed};
-use walrus_file_bodies::laws::bodies_read_files;
 use walrus_function_types::laws::{entry_types_grow, found_types_stay, tables_grow_on};
-use walrus_parsed_bodies::laws::functions_of_read_modules_are_whole;
-use walrus_parsed_items::into_laws::groups::read_types_are_declared;
-use walrus_parsed_items::into_laws::ordered_stay;
-use walrus_parsed_items::into_laws::types_into::laws::{new_types_stand, types_name_below};
-use walrus_parsed_items::laws::{
+use walrus_parsed_locals::parsed_bodies::file_bodies::items_into::laws::{
+    filled_functions_stand, filled_modules_are_filed,
+};
+use walrus_parsed_locals::parsed_bodies::file_bodies::laws::bodies_read_files;
+use walrus_parsed_locals::parsed_bodies::laws::functions_of_read_modules_are_whole;
+use walrus_parsed_locals::parsed_bodies::parsed_items::into_laws::groups::read_types_are_declared;
+use walrus_parsed_locals::parsed_bodies::parsed_items::into_laws::ordered_stay;
+use walrus_parsed_locals::parsed_bodies::parsed_items::into_laws::types_into::laws::{
+    new_types_stand, types_name_below,
+};
+use walrus_parsed_locals::parsed_bodies::parsed_items::laws::{
     names_of_read_items_live, read_modules_have_items, read_modules_have_links,
 };
 use wasm_import_links::laws::read_modules_are_full;

@@ -7,19 +7,19 @@ use Rattle.std.proofs.lemmas.List.{length-append, length-map}
 use Rattle.wasm_body_grammar.specs.Rules.{Around}
 use Rattle.wasm_body_grammar.specs.wasm_grammar.Modules as grammar
 use Rattle.wasm_body_grammar.specs.wasm_operator_names.wasm_immediates.Items.{Locals}
-use Rattle.walrus_meaning.specs.walrus_local_function.walrus_body_locals.wasm_normal_form.Bodies.{is_used, local_in, locals_named, new_number, used_keys}
-use Rattle.walrus_meaning.specs.walrus_local_function.walrus_body_locals.wasm_normal_form.Locals.{Key, in_order, numbered}
-use Rattle.walrus_meaning.specs.walrus_local_function.walrus_body_locals.wasm_normal_form.Normal.{normal_ops}
-use Rattle.walrus_meaning.specs.walrus_local_function.walrus_body_locals.wasm_normal_form.Roles.{Placed}
-use Rattle.walrus_file_bodies.specs.walrus_items_into.walrus_module_env.wasm_run_names.Picks.{block_pick}
-use Rattle.walrus_meaning.specs.walrus_local_function.walrus_body_locals.Locals.{ids_from}
-use Rattle.walrus_body_trees.specs.Laws.{meant, renamed}
+use Rattle.walrus_parsed_bodies.specs.walrus_parsed_items.walrus_into_laws.walrus_meaning.walrus_local_function.walrus_body_locals.wasm_normal_form.Bodies.{is_used, local_in, locals_named, new_number, used_keys}
+use Rattle.walrus_parsed_bodies.specs.walrus_parsed_items.walrus_into_laws.walrus_meaning.walrus_local_function.walrus_body_locals.wasm_normal_form.Locals.{Key, in_order, numbered}
+use Rattle.walrus_parsed_bodies.specs.walrus_parsed_items.walrus_into_laws.walrus_meaning.walrus_local_function.walrus_body_locals.wasm_normal_form.Normal.{normal_ops}
+use Rattle.walrus_parsed_bodies.specs.walrus_parsed_items.walrus_into_laws.walrus_meaning.walrus_local_function.walrus_body_locals.wasm_normal_form.Roles.{Placed}
+use Rattle.walrus_parsed_bodies.specs.walrus_parsed_items.walrus_parse.walrus_file_bodies.walrus_items_into.walrus_module_env.wasm_run_names.Picks.{block_pick}
+use Rattle.walrus_parsed_bodies.specs.walrus_parsed_items.walrus_into_laws.walrus_meaning.walrus_local_function.walrus_body_locals.Locals.{ids_from}
+use Rattle.walrus_parsed_bodies.specs.walrus_parsed_items.walrus_body_trees.Laws.{meant, renamed}
 use Rattle.wasm_body_grammar.specs.wasm_grammar.walrus_forms.Renaming.{at, renamed_value}
 use Rattle.wasm_body_grammar.specs.wasm_grammar.walrus_forms.declared.value.ValType.{ValType}
-use Rattle.walrus_meaning.specs.walrus_body_writer.walrus_pairing.walrus_index_maps.Maps.{Ids}
-use Rattle.walrus_meaning.specs.walrus_body_writer.walrus_pairing.walrus_items.declared.local.Local.{Local}
-use Rattle.walrus_meaning.specs.walrus_local_function.declared.local_function.LocalFunction.{LocalFunction}
-use Rattle.walrus_meaning.specs.Bodies.{local_ids, named_locals, own_operators, used_locals}
+use Rattle.walrus_parsed_bodies.specs.walrus_parsed_items.walrus_into_laws.walrus_meaning.walrus_body_writer.walrus_pairing.walrus_index_maps.Maps.{Ids}
+use Rattle.walrus_parsed_bodies.specs.walrus_parsed_items.walrus_into_laws.walrus_meaning.walrus_body_writer.walrus_pairing.walrus_items.declared.local.Local.{Local}
+use Rattle.walrus_parsed_bodies.specs.walrus_parsed_items.walrus_into_laws.walrus_meaning.walrus_local_function.declared.local_function.LocalFunction.{LocalFunction}
+use Rattle.walrus_parsed_bodies.specs.walrus_parsed_items.walrus_into_laws.walrus_meaning.Bodies.{local_ids, named_locals, own_operators, used_locals}
 use Rattle.walrus_parsed_bodies.specs.Texts.{naming, text_of}
 use Rattle.walrus_parsed_locals.specs.Locals.{kept_numbers}
 use Rattle.walrus_parsed_locals.proofs.IdLemmas.{get_id, has_no_other, has_own, ids_by_number, ids_joined, types_of}

@@ -8,3 +8,5 @@ mod IdLemmas
 mod BodyLemmas
 mod StepLemmas
 mod LocalLemmas
+-- Passed on to crates above, which then list this one alone.
+pub use Rattle.walrus_parsed_bodies.proofs as walrus_parsed_bodies

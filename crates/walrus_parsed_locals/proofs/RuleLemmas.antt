@@ -9,10 +9,10 @@ use Rattle.wasm_body_grammar.specs.wasm_grammar.Modules as grammar
 use Rattle.wasm_body_grammar.specs.wasm_grammar.Values.{must}
 use Rattle.wasm_body_grammar.specs.wasm_operator_names.wasm_immediates.Items.{Space, Types, Functions, Tables, Memories, Tags, Globals, ElementSegments, DataSegments, Locals, Labels}
 use Rattle.wasm_body_grammar.specs.wasm_operator_names.wasm_immediates.declared.block_type.BlockType.{BlockType}
-use Rattle.walrus_file_bodies.specs.walrus_items_into.wasm_module_rules.Keeps.{first_none, must_holds}
-use Rattle.walrus_meaning.specs.walrus_local_function.walrus_body_locals.wasm_normal_form.Bodies.{locals_named}
-use Rattle.walrus_meaning.specs.walrus_local_function.walrus_body_locals.wasm_normal_form.Normal.{normal_ops}
-use Rattle.walrus_meaning.specs.walrus_local_function.walrus_body_locals.wasm_normal_form.Roles.{placed}
+use Rattle.walrus_parsed_bodies.specs.walrus_parsed_items.walrus_parse.walrus_file_bodies.walrus_items_into.wasm_module_rules.Keeps.{first_none, must_holds}
+use Rattle.walrus_parsed_bodies.specs.walrus_parsed_items.walrus_into_laws.walrus_meaning.walrus_local_function.walrus_body_locals.wasm_normal_form.Bodies.{locals_named}
+use Rattle.walrus_parsed_bodies.specs.walrus_parsed_items.walrus_into_laws.walrus_meaning.walrus_local_function.walrus_body_locals.wasm_normal_form.Normal.{normal_ops}
+use Rattle.walrus_parsed_bodies.specs.walrus_parsed_items.walrus_into_laws.walrus_meaning.walrus_local_function.walrus_body_locals.wasm_normal_form.Roles.{placed}
 use Rattle.wasm_body_grammar.specs.wasm_operator_names.Names.{Name, operator_names}
 use Rattle.wasm_body_grammar.specs.wasm_operators.Operators.{flow_of}
 use Rattle.wasm_ruled_modules.specs.Rules.{AreOperators, IsBody}

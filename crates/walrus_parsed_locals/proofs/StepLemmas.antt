@@ -14,23 +14,23 @@ use Rattle.wasm_body_grammar.specs.wasm_formats.Formats.{Small}
 use Rattle.wasm_body_grammar.specs.wasm_grammar.Modules as grammar
 use Rattle.wasm_ruled_modules.specs.Bodied.{body_is}
 use Rattle.wasm_ruled_modules.specs.Rules.{IsBody}
-use Rattle.walrus_file_bodies.specs.walrus_items_into.wasm_sections.Within.{ChunksFit}
+use Rattle.walrus_parsed_bodies.specs.walrus_parsed_items.walrus_parse.walrus_file_bodies.walrus_items_into.wasm_sections.Within.{ChunksFit}
 use Rattle.walrus_arena.specs.Arena.{Arena}
-use Rattle.walrus_meaning.specs.walrus_local_function.walrus_body_locals.Locals.{ids_from, locals_from, with_more}
-use Rattle.walrus_meaning.specs.walrus_module.walrus_builder.Built.{contents}
-use Rattle.walrus_file_bodies.specs.Read.{Waits, coded_by, env_is, env_of, grows_none, others_keep, read_body_reads, step_filed, step_on}
+use Rattle.walrus_parsed_bodies.specs.walrus_parsed_items.walrus_into_laws.walrus_meaning.walrus_local_function.walrus_body_locals.Locals.{ids_from, locals_from, with_more}
+use Rattle.walrus_parsed_bodies.specs.walrus_parsed_items.walrus_into_laws.walrus_meaning.walrus_module.walrus_builder.Built.{contents}
+use Rattle.walrus_parsed_bodies.specs.walrus_parsed_items.walrus_parse.walrus_file_bodies.Read.{Waits, coded_by, env_is, env_of, grows_none, others_keep, read_body_reads, step_filed, step_on}
 use Rattle.wasm_body_grammar.specs.wasm_grammar.walrus_forms.Renaming.{at, renamed_value}
 use Rattle.wasm_body_grammar.specs.wasm_grammar.walrus_forms.declared.value.ValType.{ValType}
 use Rattle.walrus_function_types.specs.Growth.{EntryTypesGrow, FoundTypesStay, TablesGrowOn}
-use Rattle.walrus_file_bodies.specs.walrus_items_into.walrus_functions_into.declared.bodies.FunctionBody.{FunctionBody}
-use Rattle.walrus_meaning.specs.walrus_body_writer.walrus_pairing.walrus_index_maps.Maps.{Ids}
-use Rattle.walrus_meaning.specs.walrus_body_writer.walrus_pairing.walrus_items.declared.local.Local.{Local}
-use Rattle.walrus_file_bodies.specs.walrus_items_into.walrus_tables_into.walrus_sections_into.walrus_known_sections.Items.{chunk_of}
-use Rattle.walrus_meaning.specs.walrus_local_function.declared.local_function.LocalFunction.{LocalFunction}
-use Rattle.walrus_file_bodies.specs.walrus_module_bodies.Steps.{IsStep, State, Steps}
-use Rattle.walrus_file_bodies.specs.walrus_module_bodies.declared.file.FileEnv.{FileEnv}
-use Rattle.walrus_meaning.specs.walrus_linked.walrus_module_items.declared.function.Function.{Function}
-use Rattle.walrus_meaning.specs.walrus_linked.walrus_module_items.declared.function.FunctionKind.TheVariants as kinds
+use Rattle.walrus_parsed_bodies.specs.walrus_parsed_items.walrus_parse.walrus_file_bodies.walrus_items_into.walrus_functions_into.declared.bodies.FunctionBody.{FunctionBody}
+use Rattle.walrus_parsed_bodies.specs.walrus_parsed_items.walrus_into_laws.walrus_meaning.walrus_body_writer.walrus_pairing.walrus_index_maps.Maps.{Ids}
+use Rattle.walrus_parsed_bodies.specs.walrus_parsed_items.walrus_into_laws.walrus_meaning.walrus_body_writer.walrus_pairing.walrus_items.declared.local.Local.{Local}
+use Rattle.walrus_parsed_bodies.specs.walrus_parsed_items.walrus_parse.walrus_file_bodies.walrus_items_into.walrus_tables_into.walrus_sections_into.walrus_known_sections.Items.{chunk_of}
+use Rattle.walrus_parsed_bodies.specs.walrus_parsed_items.walrus_into_laws.walrus_meaning.walrus_local_function.declared.local_function.LocalFunction.{LocalFunction}
+use Rattle.walrus_parsed_bodies.specs.walrus_parsed_items.walrus_parse.walrus_file_bodies.walrus_module_bodies.Steps.{IsStep, State, Steps}
+use Rattle.walrus_parsed_bodies.specs.walrus_parsed_items.walrus_parse.walrus_file_bodies.walrus_module_bodies.declared.file.FileEnv.{FileEnv}
+use Rattle.walrus_parsed_bodies.specs.walrus_parsed_items.walrus_into_laws.walrus_meaning.walrus_linked.walrus_module_items.declared.function.Function.{Function}
+use Rattle.walrus_parsed_bodies.specs.walrus_parsed_items.walrus_into_laws.walrus_meaning.walrus_linked.walrus_module_items.declared.function.FunctionKind.TheVariants as kinds
 use Rattle.walrus_parsed_bodies.proofs.SlotLemmas.{NoneOf, set_cases}
 use Rattle.walrus_parsed_locals.proofs.IdLemmas.{many_from}
 

@@ -2,8 +2,10 @@
 
 ghost use Rattle.walrus_parsed_locals.specs.Locals.{ReadBodiesHaveTheirLocals};
 
-use walrus_file_bodies::items_into::laws::{filled_functions_stand, filled_modules_are_filed};
 use walrus_function_types::laws::{entry_types_grow, found_types_stay, tables_grow_on};
+use walrus_parsed_bodies::file_bodies::items_into::laws::{
+    filled_functions_stand, filled_modules_are_filed,
+};
 use walrus_parsed_bodies::laws::bodies_of_read_modules_mean_theirs;
 use wasm_body_grammar::laws::bodies_read_once;
 

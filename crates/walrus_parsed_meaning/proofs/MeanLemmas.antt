@@ -14,46 +14,46 @@ use Rattle.walrus_handler_types.specs.walrus_body_steps.wasm_body_grammar.wasm_o
 use Rattle.walrus_handler_types.specs.walrus_body_steps.wasm_body_grammar.wasm_operator_names.wasm_immediates.declared.block_type.BlockType.{BlockType}
 use Rattle.wasm_name_payloads.specs.Names.{Given, names_of}
 use Rattle.wasm_ruled_modules.specs.Rules.{ReadModulesAreRuled}
-use Rattle.walrus_parsed_items.specs.walrus_parse.walrus_file_bodies.Laws.{BodiesReadFiles}
-use Rattle.walrus_parsed_items.specs.walrus_parse.walrus_file_bodies.Ready.{bodies_in}
-use Rattle.walrus_parsed_items.specs.walrus_parse.walrus_file_bodies.walrus_items_into.Laws.{FilledFunctionsStand}
-use Rattle.walrus_parsed_items.specs.walrus_parse.walrus_file_bodies.walrus_items_into.Numbers.{numbers_of, types_in}
-use Rattle.walrus_parsed_items.specs.walrus_parse.walrus_file_bodies.walrus_items_into.walrus_functions_into.Bodies.{bodiless_from}
-use Rattle.walrus_parsed_items.specs.walrus_parse.walrus_file_bodies.walrus_items_into.walrus_functions_into.declared.bodies.FunctionBody.{FunctionBody}
-use Rattle.walrus_parsed_items.specs.walrus_parse.walrus_file_bodies.walrus_items_into.walrus_module_env.wasm_run_names.Picks.{block_pick}
-use Rattle.walrus_parsed_items.specs.walrus_parse.walrus_file_bodies.walrus_items_into.walrus_tables_into.walrus_sections_into.Becomes.{look_of}
-use Rattle.walrus_parsed_items.specs.walrus_parse.walrus_file_bodies.walrus_items_into.walrus_tables_into.walrus_sections_into.walrus_known_sections.State.{state_of}
-use Rattle.walrus_parsed_items.specs.walrus_parse.walrus_file_bodies.walrus_items_into.walrus_tables_into.walrus_sections_into.walrus_known_sections.declared.sections.Sections.{Sections}
-use Rattle.walrus_parsed_items.specs.walrus_parse.walrus_file_bodies.walrus_items_into.wasm_module_rules.Linked.{Each, IsFunctionType}
-use Rattle.walrus_parsed_items.specs.walrus_parse.walrus_file_bodies.walrus_items_into.wasm_module_rules.wasm_modules.Modules.{around, module_of}
-use Rattle.walrus_parsed_items.specs.walrus_parse.walrus_file_bodies.walrus_module_bodies.Steps.{state}
+use Rattle.walrus_parsed_linked.specs.walrus_parsed_items.walrus_parse.walrus_file_bodies.Laws.{BodiesReadFiles}
+use Rattle.walrus_parsed_linked.specs.walrus_parsed_items.walrus_parse.walrus_file_bodies.Ready.{bodies_in}
+use Rattle.walrus_parsed_linked.specs.walrus_parsed_items.walrus_parse.walrus_file_bodies.walrus_items_into.Laws.{FilledFunctionsStand}
+use Rattle.walrus_parsed_linked.specs.walrus_parsed_items.walrus_parse.walrus_file_bodies.walrus_items_into.Numbers.{numbers_of, types_in}
+use Rattle.walrus_parsed_linked.specs.walrus_parsed_items.walrus_parse.walrus_file_bodies.walrus_items_into.walrus_functions_into.Bodies.{bodiless_from}
+use Rattle.walrus_parsed_linked.specs.walrus_parsed_items.walrus_parse.walrus_file_bodies.walrus_items_into.walrus_functions_into.declared.bodies.FunctionBody.{FunctionBody}
+use Rattle.walrus_parsed_linked.specs.walrus_parsed_items.walrus_parse.walrus_file_bodies.walrus_items_into.walrus_module_env.wasm_run_names.Picks.{block_pick}
+use Rattle.walrus_parsed_linked.specs.walrus_parsed_items.walrus_parse.walrus_file_bodies.walrus_items_into.walrus_tables_into.walrus_sections_into.Becomes.{look_of}
+use Rattle.walrus_parsed_linked.specs.walrus_parsed_items.walrus_parse.walrus_file_bodies.walrus_items_into.walrus_tables_into.walrus_sections_into.walrus_known_sections.State.{state_of}
+use Rattle.walrus_parsed_linked.specs.walrus_parsed_items.walrus_parse.walrus_file_bodies.walrus_items_into.walrus_tables_into.walrus_sections_into.walrus_known_sections.declared.sections.Sections.{Sections}
+use Rattle.walrus_parsed_linked.specs.walrus_parsed_items.walrus_parse.walrus_file_bodies.walrus_items_into.wasm_module_rules.Linked.{Each, IsFunctionType}
+use Rattle.walrus_parsed_linked.specs.walrus_parsed_items.walrus_parse.walrus_file_bodies.walrus_items_into.wasm_module_rules.wasm_modules.Modules.{around, module_of}
+use Rattle.walrus_parsed_linked.specs.walrus_parsed_items.walrus_parse.walrus_file_bodies.walrus_module_bodies.Steps.{state}
 use Rattle.walrus_function_types.specs.Growth.{FoundTypesStay, TablesGrowOn}
-use Rattle.walrus_parsed_items.specs.walrus_into_laws.walrus_types_into.Into.{NewTypesStand, TypesNameBelow}
-use Rattle.walrus_parsed_items.specs.walrus_into_laws.walrus_meaning.Meaning.{means, own_function, own_origin, slots_of}
+use Rattle.walrus_parsed_linked.specs.walrus_parsed_items.walrus_into_laws.walrus_types_into.Into.{NewTypesStand, TypesNameBelow}
+use Rattle.walrus_parsed_linked.specs.walrus_parsed_items.walrus_into_laws.walrus_meaning.Meaning.{means, own_function, own_origin, slots_of}
 use Rattle.walrus_operator_laws.specs.walrus_pairing.walrus_index_maps.Maps.{Ids}
-use Rattle.walrus_parsed_items.specs.walrus_into_laws.walrus_meaning.walrus_linked.Linked.{IsLinked, IsWhole}
-use Rattle.walrus_parsed_items.specs.walrus_parse.walrus_module.walrus_module_items.Functions.{type_of}
-use Rattle.walrus_parsed_items.specs.walrus_parse.walrus_module.walrus_module_items.declared.function.FunctionKind.TheVariants as kinds
+use Rattle.walrus_parsed_linked.specs.walrus_parsed_items.walrus_into_laws.walrus_meaning.walrus_linked.Linked.{IsLinked, IsWhole}
+use Rattle.walrus_parsed_linked.specs.walrus_parsed_items.walrus_parse.walrus_module.walrus_module_items.Functions.{type_of}
+use Rattle.walrus_parsed_linked.specs.walrus_parsed_items.walrus_parse.walrus_module.walrus_module_items.declared.function.FunctionKind.TheVariants as kinds
 use Rattle.walrus_handler_types.specs.walrus_body_steps.wasm_normal_form.Bodies.{used_keys}
 use Rattle.walrus_handler_types.specs.walrus_body_steps.wasm_normal_form.Normal.{normal_ops}
-use Rattle.walrus_parsed_items.specs.walrus_parse.walrus_module.Parts.{Module, parts}
-use Rattle.walrus_parsed_items.specs.walrus_parse.walrus_module.walrus_types.Table.{type_at}
+use Rattle.walrus_parsed_linked.specs.walrus_parsed_items.walrus_parse.walrus_module.Parts.{Module, parts}
+use Rattle.walrus_parsed_linked.specs.walrus_parsed_items.walrus_parse.walrus_module.walrus_types.Table.{type_at}
 use Rattle.walrus_parsed_groups.specs.Added.{Signature, added, single}
 use Rattle.walrus_parsed_groups.specs.Files.{ReadModulesHaveHandlers, bodies_handle, sent}
 use Rattle.walrus_parsed_groups.specs.Groups.{ReadModulesHaveGroups, handlers_of}
 use Rattle.walrus_parsed_groups.specs.Handlers.{signatures}
-use Rattle.walrus_parsed_items.specs.Items.{ReadModulesHaveItems}
-use Rattle.walrus_parsed_items.specs.walrus_into_laws.Groups.{kept}
-use Rattle.walrus_parsed_items.specs.walrus_into_laws.Meaning.{CustomsMean, OrderedStay, OthersStay, own_custom, type_id}
-use Rattle.walrus_parsed_items.specs.walrus_into_laws.Renamed.{retyped_table}
-use Rattle.walrus_parsed_items.specs.walrus_parse.Named.{all_names}
-use Rattle.walrus_parsed_items.specs.walrus_parse.Parsed.{named_in, read_features}
-use Rattle.walrus_parsed_items.specs.walrus_parse.walrus_item_names.Holder.{Holder}
-use Rattle.walrus_parsed_items.specs.walrus_parse.walrus_item_names.Sent.{sent_names}
+use Rattle.walrus_parsed_linked.specs.walrus_parsed_items.Items.{ReadModulesHaveItems}
+use Rattle.walrus_parsed_linked.specs.walrus_parsed_items.walrus_into_laws.Groups.{kept}
+use Rattle.walrus_parsed_linked.specs.walrus_parsed_items.walrus_into_laws.Meaning.{CustomsMean, OrderedStay, OthersStay, own_custom, type_id}
+use Rattle.walrus_parsed_linked.specs.walrus_parsed_items.walrus_into_laws.Renamed.{retyped_table}
+use Rattle.walrus_parsed_linked.specs.walrus_parsed_items.walrus_parse.Named.{all_names}
+use Rattle.walrus_parsed_linked.specs.walrus_parsed_items.walrus_parse.Parsed.{named_in, read_features}
+use Rattle.walrus_parsed_linked.specs.walrus_parsed_items.walrus_parse.walrus_item_names.Holder.{Holder}
+use Rattle.walrus_parsed_linked.specs.walrus_parsed_items.walrus_parse.walrus_item_names.Sent.{sent_names}
 use Rattle.walrus_parsed_linked.specs.Linked.{ReadModulesAreLinked}
-use Rattle.walrus_parsed_items.proofs.SlotLemmas.{each_at, seen_at}
-use Rattle.walrus_parsed_locals.specs.Locals.{ReadBodiesHaveTheirLocals, kept_numbers, typed}
-use Rattle.walrus_parsed_bodies.specs.Texts.{ReadBodiesMeanTheirs, naming, text_of}
+use Rattle.walrus_parsed_linked.proofs.walrus_parsed_items.SlotLemmas.{each_at, seen_at}
+use Rattle.walrus_parsed_linked.specs.walrus_parsed_locals.Locals.{ReadBodiesHaveTheirLocals, kept_numbers, typed}
+use Rattle.walrus_parsed_linked.specs.walrus_parsed_bodies.Texts.{ReadBodiesMeanTheirs, naming, text_of}
 use Rattle.walrus_parsed_meaning.specs.Meant.{body_meant, picks}
 use Rattle.walrus_parsed_meaning.specs.Means.{AreSized, HasLocals, HasNames, ReadModulesMeanFiles, function_bodies, holder_of, names_in, section_if}
 use Rattle.walrus_parsed_meaning.proofs.BodyLemmas.{BodyOf, all_have}

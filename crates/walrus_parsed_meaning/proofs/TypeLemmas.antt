@@ -9,21 +9,21 @@ use Rattle.walrus_handler_types.specs.walrus_body_steps.wasm_body_grammar.wasm_g
 use Rattle.walrus_handler_types.specs.walrus_body_steps.wasm_body_grammar.wasm_grammar.walrus_forms.Kinds.{Kind}
 use Rattle.walrus_handler_types.specs.walrus_body_steps.wasm_body_grammar.wasm_grammar.walrus_forms.Renaming.{at, renamed_form, renamed_kind, renamed_value}
 use Rattle.walrus_config.specs.declared.config.ModuleConfig.{ModuleConfig}
-use Rattle.walrus_parsed_items.specs.walrus_parse.walrus_file_bodies.Read.{steps_grow}
-use Rattle.walrus_parsed_items.specs.walrus_parse.walrus_file_bodies.walrus_items_into.Numbers.{types_in}
-use Rattle.walrus_parsed_items.specs.walrus_parse.walrus_file_bodies.walrus_items_into.walrus_tables_into.walrus_sections_into.walrus_known_sections.State.{state_of}
-use Rattle.walrus_parsed_items.specs.walrus_parse.walrus_file_bodies.walrus_items_into.walrus_tables_into.walrus_sections_into.walrus_known_sections.Types.{kinds_in}
+use Rattle.walrus_parsed_linked.specs.walrus_parsed_items.walrus_parse.walrus_file_bodies.Read.{steps_grow}
+use Rattle.walrus_parsed_linked.specs.walrus_parsed_items.walrus_parse.walrus_file_bodies.walrus_items_into.Numbers.{types_in}
+use Rattle.walrus_parsed_linked.specs.walrus_parsed_items.walrus_parse.walrus_file_bodies.walrus_items_into.walrus_tables_into.walrus_sections_into.walrus_known_sections.State.{state_of}
+use Rattle.walrus_parsed_linked.specs.walrus_parsed_items.walrus_parse.walrus_file_bodies.walrus_items_into.walrus_tables_into.walrus_sections_into.walrus_known_sections.Types.{kinds_in}
 use Rattle.walrus_function_types.specs.Growth.{FoundTypesStay, TablesGrowOn}
-use Rattle.walrus_parsed_items.specs.walrus_into_laws.walrus_types_into.Into.{NewTypesStand, TypesNameBelow}
+use Rattle.walrus_parsed_linked.specs.walrus_parsed_items.walrus_into_laws.walrus_types_into.Into.{NewTypesStand, TypesNameBelow}
 use Rattle.walrus_operator_laws.specs.walrus_pairing.walrus_index_maps.Maps.{Ids}
-use Rattle.walrus_parsed_items.specs.walrus_parse.walrus_module.declared.module.Module.{Module as Whole}
-use Rattle.walrus_parsed_items.specs.walrus_parse.walrus_module.walrus_types.Table.{Table, type_at}
-use Rattle.walrus_parsed_bodies.proofs.WholeLemmas.{bare_same}
-use Rattle.walrus_parsed_items.specs.walrus_parse.Parsed.{IsReadAs, read_features}
-use Rattle.walrus_parsed_items.specs.walrus_parse.walrus_item_names.Holder.{Holder}
-use Rattle.walrus_parsed_items.specs.walrus_parse.walrus_item_names.Names.{bare_type}
+use Rattle.walrus_parsed_linked.specs.walrus_parsed_items.walrus_parse.walrus_module.declared.module.Module.{Module as Whole}
+use Rattle.walrus_parsed_linked.specs.walrus_parsed_items.walrus_parse.walrus_module.walrus_types.Table.{Table, type_at}
+use Rattle.walrus_parsed_linked.proofs.walrus_parsed_bodies.WholeLemmas.{bare_same}
+use Rattle.walrus_parsed_linked.specs.walrus_parsed_items.walrus_parse.Parsed.{IsReadAs, read_features}
+use Rattle.walrus_parsed_linked.specs.walrus_parsed_items.walrus_parse.walrus_item_names.Holder.{Holder}
+use Rattle.walrus_parsed_linked.specs.walrus_parsed_items.walrus_parse.walrus_item_names.Names.{bare_type}
 use Rattle.walrus_handler_types.specs.walrus_tree.walrus_walks.walrus_types.Items.{Item}
-use Rattle.walrus_parsed_items.proofs.ListLemmas.{some_is}
+use Rattle.walrus_parsed_linked.proofs.walrus_parsed_items.ListLemmas.{some_is}
 
 -- a type under another name is of the same kind
 pub record KindAt (slot : Option Item) (kind : Kind) : Type 0 where

@@ -16,31 +16,31 @@ use Rattle.wasm_ruled_modules.specs.Rules.{IsRuled}
 use Rattle.walrus_arena.specs.Arena.{item_at}
 use Rattle.walrus_config.specs.declared.config.ModuleConfig.{ModuleConfig}
 use Rattle.walrus_customs.specs.Producers.{fields_of}
-use Rattle.walrus_parsed_items.specs.walrus_parse.walrus_file_bodies.walrus_items_into.wasm_module_rules.Linked.{Each}
-use Rattle.walrus_parsed_items.specs.walrus_parse.walrus_file_bodies.walrus_items_into.wasm_module_rules.wasm_modules.Modules.{Reads}
-use Rattle.walrus_parsed_items.specs.walrus_parse.walrus_file_bodies.walrus_items_into.walrus_tables_into.walrus_sections_into.Becomes.{look_of}
-use Rattle.walrus_parsed_items.specs.walrus_into_laws.walrus_types_into.Into.{no_types}
-use Rattle.walrus_parsed_items.specs.walrus_into_laws.walrus_meaning.Bodies.{local_ids}
-use Rattle.walrus_parsed_items.specs.walrus_into_laws.walrus_meaning.Meaning.{means, slots_of}
+use Rattle.walrus_parsed_linked.specs.walrus_parsed_items.walrus_parse.walrus_file_bodies.walrus_items_into.wasm_module_rules.Linked.{Each}
+use Rattle.walrus_parsed_linked.specs.walrus_parsed_items.walrus_parse.walrus_file_bodies.walrus_items_into.wasm_module_rules.wasm_modules.Modules.{Reads}
+use Rattle.walrus_parsed_linked.specs.walrus_parsed_items.walrus_parse.walrus_file_bodies.walrus_items_into.walrus_tables_into.walrus_sections_into.Becomes.{look_of}
+use Rattle.walrus_parsed_linked.specs.walrus_parsed_items.walrus_into_laws.walrus_types_into.Into.{no_types}
+use Rattle.walrus_parsed_linked.specs.walrus_parsed_items.walrus_into_laws.walrus_meaning.Bodies.{local_ids}
+use Rattle.walrus_parsed_linked.specs.walrus_parsed_items.walrus_into_laws.walrus_meaning.Meaning.{means, slots_of}
 use Rattle.walrus_operator_laws.specs.walrus_pairing.walrus_index_maps.Maps.{Ids}
-use Rattle.walrus_parsed_items.specs.walrus_into_laws.walrus_meaning.walrus_linked.Linked.{IsLinked}
-use Rattle.walrus_parsed_items.specs.walrus_parse.walrus_module.walrus_module_items.declared.function.Function.{Function}
-use Rattle.walrus_parsed_items.specs.walrus_parse.walrus_module.walrus_module_items.declared.function.FunctionKind.TheVariants as kinds
-use Rattle.walrus_parsed_items.specs.walrus_into_laws.walrus_meaning.walrus_local_function.declared.local_function.LocalFunction.{LocalFunction}
+use Rattle.walrus_parsed_linked.specs.walrus_parsed_items.walrus_into_laws.walrus_meaning.walrus_linked.Linked.{IsLinked}
+use Rattle.walrus_parsed_linked.specs.walrus_parsed_items.walrus_parse.walrus_module.walrus_module_items.declared.function.Function.{Function}
+use Rattle.walrus_parsed_linked.specs.walrus_parsed_items.walrus_parse.walrus_module.walrus_module_items.declared.function.FunctionKind.TheVariants as kinds
+use Rattle.walrus_parsed_linked.specs.walrus_parsed_items.walrus_into_laws.walrus_meaning.walrus_local_function.declared.local_function.LocalFunction.{LocalFunction}
 use Rattle.walrus_handler_types.specs.walrus_body_steps.wasm_normal_form.Bodies.{used_keys}
 use Rattle.walrus_handler_types.specs.walrus_body_steps.wasm_normal_form.Normal.{normal_ops}
-use Rattle.walrus_parsed_items.specs.walrus_parse.walrus_module.Parts.{Module, parts}
-use Rattle.walrus_parsed_items.specs.walrus_parse.walrus_module.declared.module.Module.{Module as Whole}
-use Rattle.walrus_parsed_items.specs.walrus_parse.walrus_module.walrus_types.Parsing.{Parsed, parsed, unparsed}
+use Rattle.walrus_parsed_linked.specs.walrus_parsed_items.walrus_parse.walrus_module.Parts.{Module, parts}
+use Rattle.walrus_parsed_linked.specs.walrus_parsed_items.walrus_parse.walrus_module.declared.module.Module.{Module as Whole}
+use Rattle.walrus_parsed_linked.specs.walrus_parsed_items.walrus_parse.walrus_module.walrus_types.Parsing.{Parsed, parsed, unparsed}
 use Rattle.walrus_parsed_groups.specs.Added.{added}
 use Rattle.walrus_parsed_groups.specs.Files.{bodies_handle, sent}
-use Rattle.walrus_parsed_items.specs.walrus_into_laws.Meaning.{OthersStay, own_custom}
-use Rattle.walrus_parsed_items.specs.walrus_parse.Named.{all_names}
-use Rattle.walrus_parsed_items.specs.walrus_parse.Parsed.{IsReadAs, read_features}
-use Rattle.walrus_parsed_items.specs.walrus_parse.walrus_item_names.Holder.{Holder, holder}
-use Rattle.walrus_parsed_items.specs.walrus_parse.walrus_item_names.Names.{name_at}
-use Rattle.walrus_parsed_locals.specs.Locals.{kept_numbers, typed}
-use Rattle.walrus_parsed_bodies.specs.Texts.{naming, text_of}
+use Rattle.walrus_parsed_linked.specs.walrus_parsed_items.walrus_into_laws.Meaning.{OthersStay, own_custom}
+use Rattle.walrus_parsed_linked.specs.walrus_parsed_items.walrus_parse.Named.{all_names}
+use Rattle.walrus_parsed_linked.specs.walrus_parsed_items.walrus_parse.Parsed.{IsReadAs, read_features}
+use Rattle.walrus_parsed_linked.specs.walrus_parsed_items.walrus_parse.walrus_item_names.Holder.{Holder, holder}
+use Rattle.walrus_parsed_linked.specs.walrus_parsed_items.walrus_parse.walrus_item_names.Names.{name_at}
+use Rattle.walrus_parsed_linked.specs.walrus_parsed_locals.Locals.{kept_numbers, typed}
+use Rattle.walrus_parsed_linked.specs.walrus_parsed_bodies.Texts.{naming, text_of}
 use Rattle.walrus_parsed_meaning.specs.Meant.{module_meant, picks}
 
 -- in the module the locals of the function of this number, by their new numbers, have the ids that are named by its parameters, and then by

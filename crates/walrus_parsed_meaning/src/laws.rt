@@ -3,15 +3,17 @@
 ghost use Rattle.walrus_parsed_meaning.specs.Means.{ReadModulesMeanFiles};
 
 use walrus_function_types::laws::{found_types_stay, tables_grow_on};
-use walrus_parsed_bodies::file_bodies::items_into::laws::filled_functions_stand;
-use walrus_parsed_bodies::file_bodies::laws::bodies_read_files;
-use walrus_parsed_bodies::laws::bodies_of_read_modules_mean_theirs;
 use walrus_parsed_groups::laws::{read_modules_have_groups, read_modules_have_handlers};
-use walrus_parsed_items::into_laws::types_into::laws::{new_types_stand, types_name_below};
-use walrus_parsed_items::into_laws::{customs_mean, ordered_stay};
-use walrus_parsed_items::laws::read_modules_have_items;
 use walrus_parsed_linked::laws::modules_that_are_read_are_linked;
-use walrus_parsed_locals::laws::bodies_of_read_modules_have_their_locals;
+use walrus_parsed_linked::parsed_bodies::file_bodies::items_into::laws::filled_functions_stand;
+use walrus_parsed_linked::parsed_bodies::file_bodies::laws::bodies_read_files;
+use walrus_parsed_linked::parsed_bodies::laws::bodies_of_read_modules_mean_theirs;
+use walrus_parsed_linked::parsed_items::into_laws::types_into::laws::{
+    new_types_stand, types_name_below,
+};
+use walrus_parsed_linked::parsed_items::into_laws::{customs_mean, ordered_stay};
+use walrus_parsed_linked::parsed_items::laws::read_modules_have_items;
+use walrus_parsed_linked::parsed_locals::laws::bodies_of_read_modules_have_their_locals;
 use wasm_ruled_modules::laws::read_modules_are_ruled;
 
 /// A module that was read means the module that its bytes read as: the same items, each index the id of what it names, bodies in their

@@ -2,7 +2,7 @@
 use Rattle.std.proofs.Common.{◌≡◌, ◌∙◌, List, Option, Some, Result, Ok, Err, sym, ap, subst}
 use Rattle.std.specs.Prelude.{OnOk, IfErr}
 use Rattle.walrus_errors.specs.declared.error.ModuleError.{ModuleError}
-use Rattle.walrus_used.specs.walrus_module.Parts.{Module}
+use Rattle.walrus_refusals.specs.walrus_used.walrus_module.Parts.{Module}
 use Rattle.walrus_roots.specs.declared.item.Item.{Item}
 use Rattle.walrus_refusals.specs.Sound.{IsRefused}
 use Rattle.walrus_passes.specs.Asked.{IsRefusedAsked, WithPushed}

@@ -5,12 +5,12 @@ use Rattle.std.proofs.lemmas.List.{get_or_past}
 use Rattle.std.proofs.lemmas.Bool.{cases_lt, false≢true}
 use Rattle.wasm_formats.specs.declared.fault.Space.TheVariants as spaces
 use Rattle.walrus_arena.specs.Arena.{Arena, IsLive}
-use Rattle.walrus_used.specs.walrus_module.Parts.{Module}
+use Rattle.walrus_refusals.specs.walrus_used.walrus_module.Parts.{Module}
 use Rattle.walrus_roots.specs.declared.item.Item.{Item}
 use Rattle.walrus_roots.specs.Items.{item, space_number}
 use Rattle.walrus_marks.specs.Marks.{State, is_marked}
-use Rattle.walrus_used.specs.walrus_references.Kept.{IsReached, IsFirstMemory, IsSpared, Kept}
-use Rattle.walrus_used.specs.walrus_module.Items.{Lives}
+use Rattle.walrus_refusals.specs.walrus_used.walrus_references.Kept.{IsReached, IsFirstMemory, IsSpared, Kept}
+use Rattle.walrus_refusals.specs.walrus_used.walrus_module.Items.{Lives}
 use Rattle.walrus_refusals.specs.Checks.{IsMet}
 use Rattle.walrus_passes.specs.declared.kept.KeptItems.{KeptItems}
 use Rattle.walrus_passes.specs.Keeping.{IsHeld, SparesMemory}

@@ -5,17 +5,17 @@ use Rattle.wasm_formats.specs.declared.fault.Space.{Space}
 use Rattle.wasm_formats.specs.declared.fault.Space.TheVariants as spaces
 use Rattle.walrus_arena.specs.Arena.{Arena}
 use Rattle.walrus_types.specs.TypeLaws.{AreGrouped}
-use Rattle.walrus_used.specs.walrus_module.Parts.{Module}
+use Rattle.walrus_refusals.specs.walrus_used.walrus_module.Parts.{Module}
 use Rattle.walrus_roots.specs.declared.item.Item.{Item}
 use Rattle.walrus_roots.specs.Items.{item, space_number}
 use Rattle.walrus_marks.specs.Chains.{FitsIn, refers}
-use Rattle.walrus_used.specs.walrus_references.Kept.{IsSpared, Kept}
-use Rattle.walrus_used.specs.walrus_module.Items.{Lives}
-use Rattle.walrus_used.specs.walrus_module.Items.{brought}
+use Rattle.walrus_refusals.specs.walrus_used.walrus_references.Kept.{IsSpared, Kept}
+use Rattle.walrus_refusals.specs.walrus_used.walrus_module.Items.{Lives}
+use Rattle.walrus_refusals.specs.walrus_used.walrus_module.Items.{brought}
 use Rattle.walrus_refusals.specs.Sound.{IsSound}
 use Rattle.walrus_refusals.proofs.GroupedLemmas.{in_mapped}
-use Rattle.walrus_used.specs.Counts.{counts_of}
-use Rattle.walrus_used.proofs.CountLemmas.{lives_fit}
+use Rattle.walrus_refusals.specs.walrus_used.Counts.{counts_of}
+use Rattle.walrus_refusals.proofs.walrus_used.CountLemmas.{lives_fit}
 use Rattle.walrus_passes.specs.DroppedTypes.{AreClosed}
 use Rattle.walrus_passes.specs.Part.{IsPart, Rest}
 use Rattle.walrus_passes.specs.UsedItems.{HasJust}

@@ -11,9 +11,9 @@ use Rattle.walrus_types.specs.Table.{Table, type_at, group_at, HasMember, Delete
 use Rattle.walrus_types.specs.TypeLaws.{AreGrouped}
 use Rattle.walrus_types.proofs.DeleteLemmas.{nonempty-some, contains-filter, nothing, length-clear_all, at-cleared, cleared-at}
 use Rattle.walrus_types.proofs.SweepLemmas.{was-there, member-there}
-use Rattle.walrus_used.specs.walrus_module.Items.{written, written_type}
-use Rattle.walrus_used.specs.Counts.{past_types}
-use Rattle.walrus_used.proofs.CountLemmas.{types_below}
+use Rattle.walrus_refusals.specs.walrus_used.walrus_module.Items.{written, written_type}
+use Rattle.walrus_refusals.specs.walrus_used.Counts.{past_types}
+use Rattle.walrus_refusals.proofs.walrus_used.CountLemmas.{types_below}
 use Rattle.walrus_passes.specs.DroppedTypes.{AreClosed, AreNeedless, IsInExplicit, IsNeedless}
 use Rattle.walrus_passes.specs.Part.{TypesRestAmong, left_of}
 

@@ -2,7 +2,7 @@
 use Rattle.std.specs.Prelude.{◌≡◌, ◌⊎◌, ◌↔◌, ℕ, true, List, Some, IsSome, Contains}
 use Rattle.walrus_items.specs.Items.{Group}
 use Rattle.walrus_types.specs.Table.{Table, group_at, HasMember}
-use Rattle.walrus_used.specs.walrus_module.Items.{written_type}
+use Rattle.walrus_refusals.specs.walrus_used.walrus_module.Items.{written_type}
 
 -- where a member of an explicit group stays, all stay
 abbrev pub AreClosed : (ℕ → Type 0) → Table → Type 0

@@ -5,8 +5,8 @@ use Rattle.walrus_roots.specs.declared.item.Item.{Item}
 use Rattle.walrus_roots.specs.Items.{item}
 use Rattle.walrus_marks.specs.Marks.{State}
 use Rattle.walrus_refusals.specs.Checks.{IsMet}
-use Rattle.walrus_used.specs.walrus_module.Parts.{Module}
-use Rattle.walrus_used.specs.walrus_references.Kept.{IsFirstMemory}
+use Rattle.walrus_refusals.specs.walrus_used.walrus_module.Parts.{Module}
+use Rattle.walrus_refusals.specs.walrus_used.walrus_references.Kept.{IsFirstMemory}
 use Rattle.walrus_passes.specs.declared.kept.KeptItems.{KeptItems}
 
 -- it was met, or is the memory that is spared

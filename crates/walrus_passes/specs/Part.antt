@@ -4,13 +4,13 @@ use Rattle.wasm_formats.specs.declared.fault.Space.TheVariants as spaces
 use Rattle.walrus_arena.specs.Arena.{Arena, item_at}
 use Rattle.walrus_items.specs.Items.{Item as TypeItem, Group}
 use Rattle.walrus_types.specs.Table.{Table as TypeTable, type_at, group_at, HasMember}
-use Rattle.walrus_used.specs.walrus_module_items.declared.import.Import.{Import}
-use Rattle.walrus_used.specs.walrus_module.Parts.{Module}
+use Rattle.walrus_refusals.specs.walrus_used.walrus_module_items.declared.import.Import.{Import}
+use Rattle.walrus_refusals.specs.walrus_used.walrus_module.Parts.{Module}
 use Rattle.walrus_roots.specs.declared.item.Item.{Item}
 use Rattle.walrus_roots.specs.Items.{item}
-use Rattle.walrus_used.specs.walrus_module.Items.{written_type}
-use Rattle.walrus_used.specs.walrus_references.Kept.{Kept}
-use Rattle.walrus_used.specs.walrus_module.Items.{brought}
+use Rattle.walrus_refusals.specs.walrus_used.walrus_module.Items.{written_type}
+use Rattle.walrus_refusals.specs.walrus_used.walrus_references.Kept.{Kept}
+use Rattle.walrus_refusals.specs.walrus_used.walrus_module.Items.{brought}
 
 -- the live items of the one collection are those of the other, under their ids, without those among these that don't stay
 pub record RestAmong {T : Type 0} (among : ℕ → Type 0) (stays : ℕ → T → Type 0) (old new : Arena T) : Type 0 where

@@ -2,10 +2,10 @@
 use Rattle.std.specs.Prelude.{ℕ, Decides, List, nat_eq}
 use Rattle.std.specs.HashSet.{contains}
 use Rattle.wasm_formats.specs.declared.fault.Space.TheVariants as spaces
-use Rattle.walrus_used.specs.walrus_module.Parts.{Module}
+use Rattle.walrus_refusals.specs.walrus_used.walrus_module.Parts.{Module}
 use Rattle.walrus_roots.specs.declared.item.Item.{Item}
 use Rattle.walrus_roots.specs.Items.{item}
-use Rattle.walrus_used.specs.walrus_references.Kept.{Kept}
+use Rattle.walrus_refusals.specs.walrus_used.walrus_references.Kept.{Kept}
 use Rattle.walrus_passes.specs.declared.used.Used.{Used}
 
 -- in each space the set has just these ids

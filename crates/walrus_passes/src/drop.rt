@@ -1,6 +1,6 @@
 //! Deleting what isn't kept from a collection.
 ghost use Rattle.std.specs.Prelude.{◌≡◌};
-ghost use Rattle.walrus_used.specs.walrus_module.Items.{brought};
+ghost use Rattle.walrus_refusals.specs.walrus_used.walrus_module.Items.{brought};
 ghost use Rattle.walrus_roots.specs.Items.{item};
 ghost use Rattle.walrus_passes.specs.Keeping.{IsHeld};
 ghost use Rattle.walrus_passes.specs.Part.{Rest, RestAmong};
@@ -8,8 +8,8 @@ ghost use Rattle.walrus_passes.specs.Part.{Rest, RestAmong};
 use crate::kept::KeptItems;
 use walrus_arena::{Id, ImportId, Tombstone};
 use walrus_refusals::brought;
+use walrus_refusals::used::collections::{Collection, ModuleImports};
 use walrus_roots::Item;
-use walrus_used::collections::{Collection, ModuleImports};
 use wasm_formats::Space;
 
 // Deletes the item of this number, if it lives and isn't kept.

@@ -1,7 +1,7 @@
 //! Dropping what isn't kept.
 ghost use Rattle.std.specs.Prelude.{◌≡◌, IfErr, OnErr, OnOk};
 ghost use Rattle.wasm_formats.specs.declared.fault.Space.TheVariants as spaces;
-ghost use Rattle.walrus_used.specs.walrus_module.Parts.{parts};
+ghost use Rattle.walrus_refusals.specs.walrus_used.walrus_module.Parts.{parts};
 ghost use Rattle.walrus_roots.specs.Items.{item};
 ghost use Rattle.walrus_refusals.specs.Sound.{IsRefused, IsSound};
 ghost use Rattle.walrus_arena.specs.Arena.{entries};
@@ -17,9 +17,9 @@ use crate::types::needless_types;
 use std::alloc::Global;
 use walrus_arena::TypeId;
 use walrus_errors::ModuleError;
+use walrus_refusals::used::module::Module;
 use walrus_roots::Item;
 use walrus_sections::CustomSection;
-use walrus_used::module::Module;
 use wasm_formats::Space;
 
 // Deletes the items that aren't kept, of which these are the types, and each import whose item isn't. Takes no memory.

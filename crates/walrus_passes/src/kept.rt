@@ -1,11 +1,11 @@
 //! What is kept of a module.
 ghost use Rattle.std.specs.Prelude.{◌≡◌, ◌↔◌, ◌<◌, ℕ, Decides, IfErr, IfOk, MatchOption, OnOk};
-ghost use Rattle.walrus_used.specs.walrus_module.Parts.{parts};
+ghost use Rattle.walrus_refusals.specs.walrus_used.walrus_module.Parts.{parts};
 ghost use Rattle.walrus_roots.specs.declared.item.Item.{Item as AnyItem};
 ghost use Rattle.walrus_roots.specs.Items.{item};
 ghost use Rattle.walrus_arena.specs.Arena.{IsLive};
-ghost use Rattle.walrus_used.specs.walrus_references.Kept.{IsFirstMemory, Kept};
-ghost use Rattle.walrus_used.specs.walrus_module.Items.{Lives};
+ghost use Rattle.walrus_refusals.specs.walrus_used.walrus_references.Kept.{IsFirstMemory, Kept};
+ghost use Rattle.walrus_refusals.specs.walrus_used.walrus_module.Items.{Lives};
 ghost use Rattle.wasm_formats.specs.declared.fault.Space.TheVariants as spaces;
 ghost use Rattle.walrus_refusals.specs.Checks.{IsMet};
 ghost use Rattle.walrus_refusals.specs.Sound.{IsRefused, IsSound};
@@ -15,9 +15,9 @@ use std::alloc::Global;
 use walrus_arena::MemoryId;
 use walrus_errors::ModuleError;
 use walrus_marks::Marks;
+use walrus_refusals::used::module::Module;
 use walrus_refusals::{is_same, reach_sound};
 use walrus_roots::Item;
-use walrus_used::module::Module;
 use wasm_formats::Space;
 
 /// The items that are kept.

@@ -11,17 +11,19 @@ pub use used::Used;
 
 // Passed on to crates above, which then list this one alone.
 pub mod collections {
-    pub use walrus_used::collections::{Collection, ModuleData, ModuleElements, ModuleFunctions};
+    pub use walrus_refusals::used::collections::{
+        Collection, ModuleData, ModuleElements, ModuleFunctions,
+    };
 }
 
 pub mod local_function {
-    pub use walrus_used::local_function::LocalFunction;
+    pub use walrus_refusals::used::local_function::LocalFunction;
 }
 
 pub mod module {
-    pub use walrus_used::module::Module;
+    pub use walrus_refusals::used::module::Module;
 }
 
 pub mod module_items {
-    pub use walrus_used::module_items::{DataKind, ElementItems, ElementKind};
+    pub use walrus_refusals::used::module_items::{DataKind, ElementItems, ElementKind};
 }

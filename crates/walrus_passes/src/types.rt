@@ -2,16 +2,16 @@
 ghost use Rattle.std.specs.Prelude.{◌≡◌, Decides, IfOk, IsSome};
 ghost use Rattle.wasm_formats.specs.declared.fault.Space.TheVariants as spaces;
 ghost use Rattle.walrus_roots.specs.Items.{item};
-ghost use Rattle.walrus_used.specs.walrus_module.Items.{written_type};
+ghost use Rattle.walrus_refusals.specs.walrus_used.walrus_module.Items.{written_type};
 ghost use Rattle.walrus_passes.specs.DroppedTypes.{AreNeedless, IsInExplicit, IsNeedless};
 ghost use Rattle.walrus_passes.specs.Keeping.{IsHeld};
 
 use crate::kept::KeptItems;
 use std::alloc::{AllocError, Global};
 use walrus_arena::TypeId;
+use walrus_refusals::used::type_count;
 use walrus_roots::Item;
 use walrus_types::ModuleTypes;
-use walrus_used::type_count;
 use wasm_formats::Space;
 
 // Whether the type lives and is no entry type.

@@ -1,10 +1,10 @@
 //! What of a module is used.
 ghost use Rattle.std.specs.Prelude.{◌<◌, ◌≤◌, ◌^◌, ℕ, Decides, IfErr, IfOk, OnOk, nat_eq};
 ghost use Rattle.std.specs.HashSet.{contains};
-ghost use Rattle.walrus_used.specs.walrus_module.Parts.{parts};
+ghost use Rattle.walrus_refusals.specs.walrus_used.walrus_module.Parts.{parts};
 ghost use Rattle.walrus_roots.specs.Items.{item};
 ghost use Rattle.walrus_marks.specs.Chains.{FitsIn};
-ghost use Rattle.walrus_used.specs.Counts.{counts_of};
+ghost use Rattle.walrus_refusals.specs.walrus_used.Counts.{counts_of};
 ghost use Rattle.walrus_refusals.specs.Sound.{IsRefused, IsSound};
 ghost use Rattle.walrus_arena.specs.Arena.{entries};
 ghost use Rattle.walrus_sections.specs.Sections.{pushed};
@@ -19,10 +19,10 @@ use walrus_arena::{
     TagSpace, TypeSpace,
 };
 use walrus_errors::ModuleError;
+use walrus_refusals::used::id_counts;
+use walrus_refusals::used::module::Module;
 use walrus_roots::Item;
 use walrus_sections::CustomSection;
-use walrus_used::id_counts;
-use walrus_used::module::Module;
 use wasm_formats::Space;
 
 /// The items of a module that are used: what chains of references reach from its roots (exports, the start function,

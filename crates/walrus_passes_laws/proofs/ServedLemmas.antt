@@ -28,41 +28,41 @@ use Rattle.walrus_tree.specs.TextLaws.{TreesAreNested}
 use Rattle.walrus_builder.specs.Functions.{seqs_of}
 use Rattle.walrus_errors.specs.declared.error.ModuleError.{ModuleError}
 use Rattle.walrus_errors.specs.declared.error.ModuleError.TheVariants as refusals
-use Rattle.walrus_used.specs.walrus_module_items.declared.function.Function.{Function}
-use Rattle.walrus_used.specs.walrus_module_items.declared.function.FunctionKind.{FunctionKind}
-use Rattle.walrus_used.specs.walrus_module_items.declared.function.FunctionKind.TheVariants as functions
-use Rattle.walrus_used.specs.walrus_module_items.declared.table.Table.{Table}
-use Rattle.walrus_used.specs.walrus_module_items.declared.memory.Memory.{Memory}
-use Rattle.walrus_used.specs.walrus_module_items.declared.global.Global.{Global}
-use Rattle.walrus_used.specs.walrus_module_items.declared.global.GlobalKind.{GlobalKind}
-use Rattle.walrus_used.specs.walrus_module_items.declared.global.GlobalKind.TheVariants as globals
-use Rattle.walrus_used.specs.walrus_module_items.declared.tag.Tag.{Tag}
-use Rattle.walrus_used.specs.walrus_module_items.declared.data.Data.{Data}
-use Rattle.walrus_used.specs.walrus_module_items.declared.data.DataKind.{DataKind}
-use Rattle.walrus_used.specs.walrus_module_items.declared.data.DataKind.TheVariants as datas
-use Rattle.walrus_used.specs.walrus_module_items.declared.element.Element.{Element}
-use Rattle.walrus_used.specs.walrus_module_items.declared.element.ElementKind.{ElementKind}
-use Rattle.walrus_used.specs.walrus_module_items.declared.element.ElementKind.TheVariants as elements
-use Rattle.walrus_used.specs.walrus_module_items.declared.element.ElementItems.{ElementItems}
-use Rattle.walrus_used.specs.walrus_module_items.declared.element.ElementItems.TheVariants as holds
-use Rattle.walrus_used.specs.walrus_module_items.declared.import.Import.{Import}
-use Rattle.walrus_used.specs.walrus_module_items.declared.export.ExportItem.{ExportItem}
-use Rattle.walrus_used.specs.walrus_module_items.declared.export.ExportItem.TheVariants as exported
-use Rattle.walrus_used.specs.walrus_module_items.Functions.{type_of}
-use Rattle.walrus_used.specs.walrus_module.Parts.{Module}
-use Rattle.walrus_used.specs.walrus_module.Items.{Lives, LivesIn, written, brought, given_out}
+use Rattle.walrus_passes.specs.walrus_refusals.walrus_used.walrus_module_items.declared.function.Function.{Function}
+use Rattle.walrus_passes.specs.walrus_refusals.walrus_used.walrus_module_items.declared.function.FunctionKind.{FunctionKind}
+use Rattle.walrus_passes.specs.walrus_refusals.walrus_used.walrus_module_items.declared.function.FunctionKind.TheVariants as functions
+use Rattle.walrus_passes.specs.walrus_refusals.walrus_used.walrus_module_items.declared.table.Table.{Table}
+use Rattle.walrus_passes.specs.walrus_refusals.walrus_used.walrus_module_items.declared.memory.Memory.{Memory}
+use Rattle.walrus_passes.specs.walrus_refusals.walrus_used.walrus_module_items.declared.global.Global.{Global}
+use Rattle.walrus_passes.specs.walrus_refusals.walrus_used.walrus_module_items.declared.global.GlobalKind.{GlobalKind}
+use Rattle.walrus_passes.specs.walrus_refusals.walrus_used.walrus_module_items.declared.global.GlobalKind.TheVariants as globals
+use Rattle.walrus_passes.specs.walrus_refusals.walrus_used.walrus_module_items.declared.tag.Tag.{Tag}
+use Rattle.walrus_passes.specs.walrus_refusals.walrus_used.walrus_module_items.declared.data.Data.{Data}
+use Rattle.walrus_passes.specs.walrus_refusals.walrus_used.walrus_module_items.declared.data.DataKind.{DataKind}
+use Rattle.walrus_passes.specs.walrus_refusals.walrus_used.walrus_module_items.declared.data.DataKind.TheVariants as datas
+use Rattle.walrus_passes.specs.walrus_refusals.walrus_used.walrus_module_items.declared.element.Element.{Element}
+use Rattle.walrus_passes.specs.walrus_refusals.walrus_used.walrus_module_items.declared.element.ElementKind.{ElementKind}
+use Rattle.walrus_passes.specs.walrus_refusals.walrus_used.walrus_module_items.declared.element.ElementKind.TheVariants as elements
+use Rattle.walrus_passes.specs.walrus_refusals.walrus_used.walrus_module_items.declared.element.ElementItems.{ElementItems}
+use Rattle.walrus_passes.specs.walrus_refusals.walrus_used.walrus_module_items.declared.element.ElementItems.TheVariants as holds
+use Rattle.walrus_passes.specs.walrus_refusals.walrus_used.walrus_module_items.declared.import.Import.{Import}
+use Rattle.walrus_passes.specs.walrus_refusals.walrus_used.walrus_module_items.declared.export.ExportItem.{ExportItem}
+use Rattle.walrus_passes.specs.walrus_refusals.walrus_used.walrus_module_items.declared.export.ExportItem.TheVariants as exported
+use Rattle.walrus_passes.specs.walrus_refusals.walrus_used.walrus_module_items.Functions.{type_of}
+use Rattle.walrus_passes.specs.walrus_refusals.walrus_used.walrus_module.Parts.{Module}
+use Rattle.walrus_passes.specs.walrus_refusals.walrus_used.walrus_module.Items.{Lives, LivesIn, written, brought, given_out}
 use Rattle.walrus_passes.specs.walrus_linked.Linked.{IsLinked, IsWhole, import_in}
 use Rattle.walrus_passes.specs.walrus_linked.Names.{names, names_in, named_by, type_names, function_names, body_names, body_events, used_types, local_names, table_names, init_names, global_names, value_names, tag_names, element_names, element_kind_names, held_names, data_kind_names}
 use Rattle.walrus_roots.specs.declared.item.Item.{Item}
 use Rattle.walrus_roots.specs.Items.{item, space_number}
 use Rattle.walrus_marks.specs.Chains.{root, refers}
 use Rattle.walrus_marks.specs.Named.{event_items, items_of}
-use Rattle.walrus_used.specs.walrus_references.References.{RefersIn, Named, KindNames, HasElement, HasData, IsActiveIn, IsCopiedInto, type_items, function_items, table_items, init_items, global_items, value_items, tag_items, element_items, place_items, held_items, data_items, local_items}
-use Rattle.walrus_used.specs.walrus_references.References.{named_by as referred_by}
-use Rattle.walrus_used.specs.walrus_references.Roots.{Root, exports, starts, is_active, fills_import, declares, is_pushed}
-use Rattle.walrus_used.specs.walrus_references.Kept.{IsReached}
-use Rattle.walrus_used.specs.walrus_references.Refused.{IsTreeIn, HasTree, FormsTree}
-use Rattle.walrus_used.proofs.LooksLemmas.{none_in, first_in, only_in, cases_in}
+use Rattle.walrus_passes.specs.walrus_refusals.walrus_used.walrus_references.References.{RefersIn, Named, KindNames, HasElement, HasData, IsActiveIn, IsCopiedInto, type_items, function_items, table_items, init_items, global_items, value_items, tag_items, element_items, place_items, held_items, data_items, local_items}
+use Rattle.walrus_passes.specs.walrus_refusals.walrus_used.walrus_references.References.{named_by as referred_by}
+use Rattle.walrus_passes.specs.walrus_refusals.walrus_used.walrus_references.Roots.{Root, exports, starts, is_active, fills_import, declares, is_pushed}
+use Rattle.walrus_passes.specs.walrus_refusals.walrus_used.walrus_references.Kept.{IsReached}
+use Rattle.walrus_passes.specs.walrus_refusals.walrus_used.walrus_references.Refused.{IsTreeIn, HasTree, FormsTree}
+use Rattle.walrus_passes.proofs.walrus_used.LooksLemmas.{none_in, first_in, only_in, cases_in}
 use Rattle.walrus_passes.specs.walrus_refusals.Asked.{IsBrought, IsWholeIn, HasBody, Linked}
 use Rattle.walrus_passes.specs.walrus_refusals.Sound.{AllReached, IsRefused, HasForm}
 use Rattle.walrus_passes.specs.walrus_refusals.Written.{StaysInGroup, IsUnshared, HasNoExact}

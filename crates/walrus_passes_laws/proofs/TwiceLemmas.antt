@@ -11,30 +11,30 @@ use Rattle.walrus_items.specs.declared.local.Local.{Local}
 use Rattle.walrus_types.specs.Table.{Table as TypeTable, type_at}
 use Rattle.walrus_forms.specs.Kinds.{kind_names}
 use Rattle.walrus_passes.specs.walrus_exact.Exact.{form_exact, table_exact, global_exact, element_exact, data_exact, val_exact}
-use Rattle.walrus_used.specs.walrus_module_items.declared.global.Global.{Global}
+use Rattle.walrus_passes.specs.walrus_refusals.walrus_used.walrus_module_items.declared.global.Global.{Global}
 use Rattle.walrus_forms.specs.Forms.{params_of}
 use Rattle.walrus_instr.specs.declared.const_expr.ConstExpr.{ConstExpr}
-use Rattle.walrus_used.specs.walrus_local_function.declared.local_function.LocalFunction.{LocalFunction}
-use Rattle.walrus_used.specs.walrus_module_items.declared.import.Import.{Import}
-use Rattle.walrus_used.specs.walrus_module_items.declared.function.Function.{Function}
-use Rattle.walrus_used.specs.walrus_module_items.declared.function.FunctionKind.{FunctionKind}
-use Rattle.walrus_used.specs.walrus_module_items.declared.function.FunctionKind.TheVariants as functions
-use Rattle.walrus_used.specs.walrus_module_items.declared.table.Table.{Table}
-use Rattle.walrus_used.specs.walrus_module_items.declared.memory.Memory.{Memory}
-use Rattle.walrus_used.specs.walrus_module_items.declared.data.Data.{Data}
-use Rattle.walrus_used.specs.walrus_module_items.declared.element.Element.{Element}
-use Rattle.walrus_used.specs.walrus_module_items.declared.element.ElementKind.TheVariants as elements
-use Rattle.walrus_used.specs.walrus_module_items.Functions.{type_of}
-use Rattle.walrus_used.specs.walrus_module.Parts.{Module}
-use Rattle.walrus_used.specs.walrus_module.Items.{LivesIn, written, brought}
+use Rattle.walrus_passes.specs.walrus_refusals.walrus_used.walrus_local_function.declared.local_function.LocalFunction.{LocalFunction}
+use Rattle.walrus_passes.specs.walrus_refusals.walrus_used.walrus_module_items.declared.import.Import.{Import}
+use Rattle.walrus_passes.specs.walrus_refusals.walrus_used.walrus_module_items.declared.function.Function.{Function}
+use Rattle.walrus_passes.specs.walrus_refusals.walrus_used.walrus_module_items.declared.function.FunctionKind.{FunctionKind}
+use Rattle.walrus_passes.specs.walrus_refusals.walrus_used.walrus_module_items.declared.function.FunctionKind.TheVariants as functions
+use Rattle.walrus_passes.specs.walrus_refusals.walrus_used.walrus_module_items.declared.table.Table.{Table}
+use Rattle.walrus_passes.specs.walrus_refusals.walrus_used.walrus_module_items.declared.memory.Memory.{Memory}
+use Rattle.walrus_passes.specs.walrus_refusals.walrus_used.walrus_module_items.declared.data.Data.{Data}
+use Rattle.walrus_passes.specs.walrus_refusals.walrus_used.walrus_module_items.declared.element.Element.{Element}
+use Rattle.walrus_passes.specs.walrus_refusals.walrus_used.walrus_module_items.declared.element.ElementKind.TheVariants as elements
+use Rattle.walrus_passes.specs.walrus_refusals.walrus_used.walrus_module_items.Functions.{type_of}
+use Rattle.walrus_passes.specs.walrus_refusals.walrus_used.walrus_module.Parts.{Module}
+use Rattle.walrus_passes.specs.walrus_refusals.walrus_used.walrus_module.Items.{LivesIn, written, brought}
 use Rattle.walrus_passes.specs.walrus_linked.Linked.{HasArguments, import_in}
 use Rattle.walrus_roots.specs.declared.item.Item.{Item}
 use Rattle.walrus_roots.specs.Items.{item, space_number}
 use Rattle.walrus_marks.specs.Chains.{root, refers}
-use Rattle.walrus_used.specs.walrus_references.References.{RefersIn, Named, named_by, type_items, function_items, table_items, global_items, tag_items, element_items, data_items, place_items, held_items, local_items, IsInGroup, HasElement, HasData, IsActiveIn, IsCopiedInto, KindNames}
-use Rattle.walrus_used.specs.walrus_references.Roots.{Root, exports, starts, is_active, fills_import, declares, is_pushed}
-use Rattle.walrus_used.specs.walrus_references.Kept.{IsReached, IsSpared, Kept}
-use Rattle.walrus_used.specs.walrus_references.Refused.{IsTreeIn, HasTree}
+use Rattle.walrus_passes.specs.walrus_refusals.walrus_used.walrus_references.References.{RefersIn, Named, named_by, type_items, function_items, table_items, global_items, tag_items, element_items, data_items, place_items, held_items, local_items, IsInGroup, HasElement, HasData, IsActiveIn, IsCopiedInto, KindNames}
+use Rattle.walrus_passes.specs.walrus_refusals.walrus_used.walrus_references.Roots.{Root, exports, starts, is_active, fills_import, declares, is_pushed}
+use Rattle.walrus_passes.specs.walrus_refusals.walrus_used.walrus_references.Kept.{IsReached, IsSpared, Kept}
+use Rattle.walrus_passes.specs.walrus_refusals.walrus_used.walrus_references.Refused.{IsTreeIn, HasTree}
 use Rattle.walrus_passes.specs.walrus_refusals.Asked.{Linked, IsBrought, IsWholeIn, HasBody, given}
 use Rattle.walrus_passes.specs.walrus_refusals.Sound.{IsSound}
 use Rattle.walrus_passes.specs.walrus_refusals.Written.{MayName, StaysIn, IsUnsharedIn, HasNone, KindHasNone, HasNoExactIn}

@@ -18,8 +18,8 @@ use Rattle.walrus_roots.specs.declared.item.Item.{Item}
 use Rattle.walrus_roots.specs.Items.{item}
 use Rattle.walrus_marks.specs.Chains.{Chain, root, refers}
 use Rattle.walrus_marks.specs.Named.{event_items, items_of}
-use Rattle.walrus_used.specs.walrus_references.References.{BodyNames, Holds, IsEntry, held, held_in, instr_items, seq_items, known_items}
-use Rattle.walrus_used.proofs.LooksLemmas.{none_in, only_in}
+use Rattle.walrus_passes.specs.walrus_refusals.walrus_used.walrus_references.References.{BodyNames, Holds, IsEntry, held, held_in, instr_items, seq_items, known_items}
+use Rattle.walrus_passes.proofs.walrus_used.LooksLemmas.{none_in, only_in}
 use Rattle.walrus_passes_laws.proofs.BodyLemmas.{has_cases, of_held}
 
 -- what two lists of events tell together

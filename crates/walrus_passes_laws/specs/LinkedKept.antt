@@ -1,6 +1,6 @@
 -- What dropping keeps of a linked module.
 use Rattle.std.specs.Prelude.{List}
-use Rattle.walrus_used.specs.walrus_module.Parts.{Module}
+use Rattle.walrus_passes.specs.walrus_refusals.walrus_used.walrus_module.Parts.{Module}
 use Rattle.walrus_roots.specs.declared.item.Item.{Item}
 use Rattle.walrus_passes.specs.walrus_linked.Linked.{IsLinked}
 use Rattle.walrus_passes.specs.Part.{IsKeptPart}

@@ -6,11 +6,11 @@ use Rattle.walrus_items.specs.Items.{Group}
 use Rattle.walrus_types.specs.Table.{Table as TypeTable, group_at}
 use Rattle.walrus_errors.specs.declared.error.ModuleError.{ModuleError}
 use Rattle.walrus_errors.specs.declared.error.ModuleError.TheVariants as refusals
-use Rattle.walrus_used.specs.walrus_module.Parts.{Module}
-use Rattle.walrus_used.specs.walrus_module.Items.{Lives, written_type}
+use Rattle.walrus_passes.specs.walrus_refusals.walrus_used.walrus_module.Parts.{Module}
+use Rattle.walrus_passes.specs.walrus_refusals.walrus_used.walrus_module.Items.{Lives, written_type}
 use Rattle.walrus_roots.specs.declared.item.Item.{Item}
 use Rattle.walrus_passes.specs.walrus_linked.Linked.{IsLinked}
-use Rattle.walrus_used.specs.walrus_references.Refused.{FormsTree}
+use Rattle.walrus_passes.specs.walrus_refusals.walrus_used.walrus_references.Refused.{FormsTree}
 use Rattle.walrus_passes.specs.walrus_refusals.Asked.{Linked}
 use Rattle.walrus_passes.specs.walrus_refusals.Sound.{AllReached, IsRefused}
 use Rattle.walrus_passes.specs.walrus_refusals.Written.{StaysInGroup, IsUnshared, HasNoExact}

@@ -1,12 +1,12 @@
 -- A second gc.
 use Rattle.std.specs.Prelude.{◌≡◌, ◌↔◌, ℕ, ◌<◌, Some, List}
 use Rattle.walrus_arena.specs.Arena.{item_at}
-use Rattle.walrus_used.specs.walrus_module_items.declared.import.Import.{Import}
-use Rattle.walrus_used.specs.walrus_module.Parts.{Module}
-use Rattle.walrus_used.specs.walrus_module.Items.{Lives, brought}
+use Rattle.walrus_passes.specs.walrus_refusals.walrus_used.walrus_module_items.declared.import.Import.{Import}
+use Rattle.walrus_passes.specs.walrus_refusals.walrus_used.walrus_module.Parts.{Module}
+use Rattle.walrus_passes.specs.walrus_refusals.walrus_used.walrus_module.Items.{Lives, brought}
 use Rattle.walrus_roots.specs.declared.item.Item.{Item}
 use Rattle.walrus_roots.specs.Items.{space_number}
-use Rattle.walrus_used.specs.walrus_references.Kept.{Kept}
+use Rattle.walrus_passes.specs.walrus_refusals.walrus_used.walrus_references.Kept.{Kept}
 use Rattle.walrus_passes.specs.walrus_refusals.Sound.{IsSound}
 use Rattle.walrus_passes.specs.Part.{IsKeptPart}
 

@@ -2,7 +2,7 @@
 use Rattle.std.proofs.Common.{◌≡◌, ◌∙◌, ◌+◌, ◌<◌, ◌++◌, ℕ, List, [], ◌∷◌, Option, Some, length, take, slice_index_or, ap, sym}
 use Rattle.std.specs.List.{flat_map}
 use Rattle.std.proofs.lemmas.List.{take_more, map-append, append-nil}
-use Rattle.wasm_name_payloads.specs.Joined.{flat_map_append}
+use Rattle.walrus_payload_readers.specs.wasm_name_payloads.Joined.{flat_map_append}
 use Rattle.walrus_known_sections.specs.Items.{custom_of}
 use Rattle.walrus_known_sections.specs.declared.items.Custom.{Custom}
 use Rattle.wasm_body_grammar.specs.wasm_grammar.Modules.{Custom as Read}

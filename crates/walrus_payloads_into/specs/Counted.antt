@@ -15,7 +15,7 @@ use Rattle.wasm_formats.specs.declared.fault.Space.TheVariants as spaces
 use Rattle.wasm_body_grammar.specs.wasm_grammar.Modules.{Own, Function, Module, empty}
 use Rattle.wasm_body_grammar.specs.wasm_grammar.States.{count_of}
 use Rattle.wasm_body_grammar.specs.Codes.{kind_params}
-use Rattle.wasm_name_payloads.specs.Names.{local_count, function_locals, first_slot}
+use Rattle.walrus_payload_readers.specs.wasm_name_payloads.Names.{local_count, function_locals, first_slot}
 use Rattle.walrus_payloads_into.specs.Numbered.{ids_in, locals_of, locals_in, IsNumbered}
 
 -- a type without parameters

@@ -5,7 +5,7 @@ use Rattle.wasm_formats.specs.declared.fault.Space.{Space}
 use Rattle.wasm_formats.specs.declared.fault.Space.TheVariants as spaces
 use Rattle.wasm_body_grammar.specs.wasm_grammar.Modules.{Module}
 use Rattle.wasm_body_grammar.specs.wasm_grammar.States.{count_of}
-use Rattle.wasm_name_payloads.specs.Names.{local_count}
+use Rattle.walrus_payload_readers.specs.wasm_name_payloads.Names.{local_count}
 
 -- the ids of a space, by the numbers of their items
 abbrev pub ids_in : Ids → Space → List ℕ

@@ -11,10 +11,10 @@ use Rattle.wasm_formats.specs.Wholes.{u32}
 use Rattle.wasm_body_grammar.specs.wasm_grammar.Modules.{Module}
 use Rattle.wasm_body_grammar.specs.wasm_grammar.States.{count_of}
 use Rattle.wasm_body_grammar.specs.wasm_grammar.Values.{must}
-use Rattle.wasm_name_payloads.specs.Keepers.{Kept}
-use Rattle.wasm_name_payloads.specs.Joined.{continued, led}
-use Rattle.wasm_name_payloads.specs.Windows.{window, parts_of}
-use Rattle.wasm_name_payloads.specs.Names.{Given, ALocal, Part, ModuleName, ItemNames, LocalNames, Skipped, part_of, item_in, name_map, counted, local_count, contents, subsection, takes_some, names_in, names_if, same_name, section_name}
+use Rattle.walrus_payload_readers.specs.wasm_name_payloads.Keepers.{Kept}
+use Rattle.walrus_payload_readers.specs.wasm_name_payloads.Joined.{continued, led}
+use Rattle.walrus_payload_readers.specs.wasm_name_payloads.Windows.{window, parts_of}
+use Rattle.walrus_payload_readers.specs.wasm_name_payloads.Names.{Given, ALocal, Part, ModuleName, ItemNames, LocalNames, Skipped, part_of, item_in, name_map, counted, local_count, contents, subsection, takes_some, names_in, names_if, same_name, section_name}
 use Rattle.walrus_payloads_into.specs.Numbered.{IsNumbered}
 
 -- as many items and locals

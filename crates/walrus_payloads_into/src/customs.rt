@@ -3,8 +3,8 @@
 ghost use Rattle.std.specs.Prelude.{◌≡◌, map, IfOk};
 ghost use Rattle.std.specs.List.{flat_map};
 ghost use Rattle.wasm_body_grammar.specs.wasm_grammar.Modules.{Module};
-ghost use Rattle.wasm_name_payloads.specs.Names.{names_if, names_of};
-ghost use Rattle.wasm_name_payloads.specs.Producers as file;
+ghost use Rattle.walrus_payload_readers.specs.wasm_name_payloads.Names.{names_if, names_of};
+ghost use Rattle.walrus_payload_readers.specs.wasm_name_payloads.Producers as file;
 ghost use Rattle.walrus_index_maps.specs.Views.{ids};
 ghost use Rattle.walrus_payload_readers.specs.Bearers.{given_of};
 ghost use Rattle.walrus_payloads_into.specs.Numbered.{IsNumbered};

@@ -1,7 +1,7 @@
 //! Fields that were read, as the producers of a module.
 
 ghost use Rattle.std.specs.Prelude.{◌≡◌, ◌++◌, IfOk, OnOk, Some};
-ghost use Rattle.wasm_name_payloads.specs.Producers.{processed, producers_if};
+ghost use Rattle.walrus_payload_readers.specs.wasm_name_payloads.Producers.{processed, producers_if};
 ghost use Rattle.walrus_customs.specs.Producers.{fields_of};
 
 use std::alloc::{AllocError, Global};

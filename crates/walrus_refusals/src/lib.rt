@@ -12,3 +12,26 @@ mod written;
 
 pub use linked::{brought, is_same};
 pub use sound::reach_sound;
+
+// Passed on to crates above, which then list this one alone.
+pub mod used {
+    pub use walrus_used::{id_counts, type_count};
+
+    pub mod collections {
+        pub use walrus_used::collections::{
+            Collection, ModuleData, ModuleElements, ModuleFunctions, ModuleImports,
+        };
+    }
+
+    pub mod local_function {
+        pub use walrus_used::local_function::LocalFunction;
+    }
+
+    pub mod module {
+        pub use walrus_used::module::Module;
+    }
+
+    pub mod module_items {
+        pub use walrus_used::module_items::{DataKind, ElementItems, ElementKind};
+    }
+}

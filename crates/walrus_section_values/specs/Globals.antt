@@ -4,7 +4,7 @@ use Rattle.std.proofs.Common.{arith}
 use Rattle.std.proofs.lemmas.Bool.{eqb-true}
 use Rattle.std.proofs.lemmas.List.{get_or-map, length-map}
 use Rattle.std.proofs.Math.ListN.{get_or-eq_default}
-use Rattle.wasm_formats.specs.Stops.{OffsetType}
+use Rattle.wasm_grammar.specs.wasm_formats.Stops.{OffsetType}
 use Rattle.wasm_grammar.specs.Values.{must}
 use Rattle.std.specs.Global.{Vec}
 use Rattle.walrus_forms.specs.Records.{value_of}

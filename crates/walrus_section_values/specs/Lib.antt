@@ -2,3 +2,5 @@ pub mod Limits
 pub mod Constants
 pub mod Untils
 pub mod Globals
+-- Passed on to crates above, which then list this one alone.
+pub use Rattle.walrus_section_reader.specs as walrus_section_reader

@@ -11,11 +11,11 @@ use Rattle.wasm_reader.specs.Finals.{unsigned_final}
 use Rattle.wasm_immediates.specs.Readings.{mapped}
 use Rattle.wasm_operators.specs.declared.op_code.OpCode.{OpCode}
 use Rattle.wasm_operators.specs.Operators.{is_prefix, op_code, code_at}
-use Rattle.wasm_formats.specs.Stops.{Count, Stop, stop, can_end, Parsing, ◌>>=◌}
-use Rattle.wasm_formats.specs.Formats.{Format}
-use Rattle.wasm_formats.specs.Led.{IsOther, not_there}
-use Rattle.wasm_formats.specs.Parts.{nothing}
-use Rattle.wasm_formats.specs.Until.{until, turn, parse_until, last_or}
+use Rattle.wasm_grammar.specs.wasm_formats.Stops.{Count, Stop, stop, can_end, Parsing, ◌>>=◌}
+use Rattle.wasm_grammar.specs.wasm_formats.Formats.{Format}
+use Rattle.wasm_grammar.specs.wasm_formats.Led.{IsOther, not_there}
+use Rattle.wasm_grammar.specs.wasm_formats.Parts.{nothing}
+use Rattle.wasm_grammar.specs.wasm_formats.Until.{until, turn, parse_until, last_or}
 use Rattle.walrus_section_reader.specs.declared.fault.Fault.{Fault}
 use Rattle.walrus_section_reader.specs.Parses.{FailsAs, Parses}
 use Rattle.walrus_section_reader.specs.Steps.{put_in}

@@ -3,13 +3,13 @@
 ghost use Rattle.std.specs.Prelude.{◌≡◌, ◌<◌, true, false, length, map, option_map, IfOk, OnOk};
 ghost use Rattle.wasm_reader.specs.Cursor.{rest};
 ghost use Rattle.wasm_reader.specs.Reading.{plain};
-ghost use Rattle.wasm_formats.specs.Stops.{ConstExpr, Index, OffsetType};
-ghost use Rattle.wasm_formats.specs.Until.{until};
+ghost use Rattle.wasm_grammar.specs.wasm_formats.Stops.{ConstExpr, Index, OffsetType};
+ghost use Rattle.wasm_grammar.specs.wasm_formats.Until.{until};
 ghost use Rattle.wasm_grammar.specs.TypeWords.{heap_of};
 ghost use Rattle.std.specs.Prelude.{nat_lt, slice_index_or, None};
 ghost use Rattle.walrus_forms.specs.Records.{value_of};
 ghost use Rattle.wasm_operators.specs.declared.entry.Kind.TheVariants as Kind;
-ghost use Rattle.wasm_formats.specs.Joined.{only};
+ghost use Rattle.wasm_grammar.specs.wasm_formats.Joined.{only};
 ghost use Rattle.wasm_grammar.specs.Values.{must};
 ghost use Rattle.wasm_grammar.specs.Exprs.{code, constant, constant_byte, constant_fb, expr, end_apart, gives_address, global_is, names_address, offset_test, heap_test, is_address, is_constant, items, items_test, offset, operator, read_wants, takes_some};
 ghost use Rattle.walrus_operators.specs.Immediates.{items_of};

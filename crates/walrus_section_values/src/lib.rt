@@ -16,3 +16,8 @@ pub use types::{
     heap_record, is_named_below, read_ref_type, read_value_type, ref_record, value_record,
 };
 pub use values::{read_below, read_index, read_name, read_u32, read_zero, take_byte};
+
+// Passed on to crates above, which then list this one alone.
+pub mod section_reader {
+    pub use walrus_section_reader::{Entries, Fault, FaultKind, Limited, Result, Space};
+}

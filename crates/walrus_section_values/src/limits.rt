@@ -1,14 +1,14 @@
 //! Limits of tables and memories (Core Specification, binary format: limits, memory types, table types).
 
 ghost use Rattle.std.specs.Prelude.{◌≡◌};
-ghost use Rattle.wasm_formats.specs.Parts.{optional};
+ghost use Rattle.wasm_grammar.specs.wasm_formats.Parts.{optional};
 ghost use Rattle.wasm_grammar.specs.Values.{size, limits, table_limits, memory_limits, in_order, has_maximum, is_shared, is_wide, has_page_size};
 ghost use Rattle.wasm_reader.specs.Reading.{plain};
 ghost use Rattle.walrus_section_reader.specs.Parses.{ParsesExactly};
-ghost use Rattle.wasm_formats.specs.declared.fault.Limited.TheVariants as limited;
-ghost use Rattle.wasm_formats.specs.Stops.{Limit};
-ghost use Rattle.wasm_formats.specs.Joined.{after};
-ghost use Rattle.wasm_formats.specs.Wholes.{u32};
+ghost use Rattle.wasm_grammar.specs.wasm_formats.declared.fault.Limited.TheVariants as limited;
+ghost use Rattle.wasm_grammar.specs.wasm_formats.Stops.{Limit};
+ghost use Rattle.wasm_grammar.specs.wasm_formats.Joined.{after};
+ghost use Rattle.wasm_grammar.specs.wasm_formats.Wholes.{u32};
 ghost use Rattle.wasm_grammar.specs.Values.{must};
 ghost use Rattle.walrus_section_values.specs.Limits.{limits_of, memory_type_of};
 

@@ -1,8 +1,8 @@
 //! Value types and reference types, whose names are indices of the file.
 
 ghost use Rattle.std.specs.Prelude.{◌≡◌, option_map};
-ghost use Rattle.wasm_formats.specs.declared.fault.Space.TheVariants as spaces;
-ghost use Rattle.wasm_formats.specs.Stops.{Index};
+ghost use Rattle.wasm_grammar.specs.wasm_formats.declared.fault.Space.TheVariants as spaces;
+ghost use Rattle.wasm_grammar.specs.wasm_formats.Stops.{Index};
 ghost use Rattle.walrus_forms.specs.Records.{heap_of as heap_told, ref_of as ref_told, value_of as value_told};
 ghost use Rattle.wasm_grammar.specs.TypeWords.{abstract_of, heap_of, ref_of, value_of};
 ghost use Rattle.wasm_grammar.specs.Values.{must, named_below, ref_type, value_type};

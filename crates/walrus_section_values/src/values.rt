@@ -2,12 +2,12 @@
 
 ghost use Rattle.std.specs.Prelude.{◌≡◌, true, false};
 ghost use Rattle.wasm_reader.specs.Cursor.{TakesByte, rest};
-ghost use Rattle.wasm_formats.specs.Led.{IsOther};
+ghost use Rattle.wasm_grammar.specs.wasm_formats.Led.{IsOther};
 ghost use Rattle.wasm_reader.specs.declared.error.ErrorKind.TheVariants as kinds;
 ghost use Rattle.wasm_reader.specs.Reading.{plain, seen_bytes};
-ghost use Rattle.wasm_formats.specs.Stops.{Read};
-ghost use Rattle.wasm_formats.specs.Bytes.{literal};
-ghost use Rattle.wasm_formats.specs.Wholes.{u32};
+ghost use Rattle.wasm_grammar.specs.wasm_formats.Stops.{Read};
+ghost use Rattle.wasm_grammar.specs.wasm_formats.Bytes.{literal};
+ghost use Rattle.wasm_grammar.specs.wasm_formats.Wholes.{u32};
 ghost use Rattle.wasm_grammar.specs.Values.{byte_below, index, name};
 ghost use Rattle.walrus_section_reader.specs.Parses.{ParsesExactly};
 

@@ -9,6 +9,7 @@ pub mod Lacks
 pub mod Numbers
 pub mod Loops
 -- Passed on to crates above, which then list this one alone.
+pub use Rattle.walrus_meaning.specs as walrus_meaning
 pub use Rattle.walrus_meaning.specs.walrus_linked.walrus_collections as walrus_collections
 pub use Rattle.walrus_forms.specs as walrus_forms
 pub use Rattle.walrus_index_maps.specs as walrus_index_maps

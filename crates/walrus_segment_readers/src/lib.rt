@@ -5,3 +5,8 @@ mod lists;
 mod segments;
 
 pub use segments::{DataForm, ElementForm, Elements, Segments};
+
+// Passed on to crates above, which then list this one alone.
+pub mod entry_readers {
+    pub use walrus_entry_readers::{Functions, Globals, Imports, Memories, Tables, Tags};
+}

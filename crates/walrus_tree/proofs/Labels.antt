@@ -1,12 +1,12 @@
 -- Labels by marks: the test of an instruction is right where the marks say what is around.
 use Rattle.std.proofs.Common.{ℕ, ◌<◌, ◌≡◌, Bool, true, false, ◌&&◌, nat_lt, List, [], ◌∷◌, ◌++◌, length, refl, sym, ap, arith, ◌∙◌, map, true≢false}
 use Rattle.std.proofs.lemmas.Bool.{lt-ltb, ltb-true}
-use Rattle.walrus_instr.specs.declared.instr.Instr.{Instr}
-use Rattle.walrus_instr.specs.declared.instr.Instr.TheVariants.{Try, TryTable, Br, BrIf, BrTable, BrOnNull, BrOnNonNull, BrOnCast, BrOnCastFail, Rethrow}
-use Rattle.walrus_instr.specs.declared.instr.LegacyCatch.{LegacyCatch}
-use Rattle.walrus_instr.specs.declared.instr.LegacyCatch.TheVariants as Legacy
-use Rattle.walrus_instr.specs.declared.instr.TryTableCatch.{TryTableCatch}
-use Rattle.walrus_instr.specs.declared.seq.InstrLocId.{InstrLocId}
+use Rattle.walrus_builder.specs.walrus_walks.walrus_instr.declared.instr.Instr.{Instr}
+use Rattle.walrus_builder.specs.walrus_walks.walrus_instr.declared.instr.Instr.TheVariants.{Try, TryTable, Br, BrIf, BrTable, BrOnNull, BrOnNonNull, BrOnCast, BrOnCastFail, Rethrow}
+use Rattle.walrus_builder.specs.walrus_walks.walrus_instr.declared.instr.LegacyCatch.{LegacyCatch}
+use Rattle.walrus_builder.specs.walrus_walks.walrus_instr.declared.instr.LegacyCatch.TheVariants as Legacy
+use Rattle.walrus_builder.specs.walrus_walks.walrus_instr.declared.instr.TryTableCatch.{TryTableCatch}
+use Rattle.walrus_builder.specs.walrus_walks.walrus_instr.declared.seq.InstrLocId.{InstrLocId}
 use Rattle.walrus_tree.specs.declared.marks.Mark.{Mark}
 use Rattle.walrus_tree.specs.declared.marks.Mark.TheVariants.{Fresh, Open, Done}
 use Rattle.walrus_tree.specs.Trees.{Has, HasAll, clause_label, Delegates, IsWithin, AreWithin}

@@ -1,6 +1,6 @@
 -- What the steps still enter, part by part.
 use Rattle.std.proofs.Common.{ℕ, ◌≡◌, List, [], ◌∷◌, ◌++◌, refl, sym, ap, subst, ◌∙◌, append_assoc}
-use Rattle.walrus_instr.specs.declared.seq.InstrSeq.{InstrSeq}
+use Rattle.walrus_builder.specs.walrus_walks.walrus_instr.declared.seq.InstrSeq.{InstrSeq}
 use Rattle.walrus_tree.specs.declared.steps.Step.{Step}
 use Rattle.walrus_tree.specs.declared.steps.Step.TheVariants.{Enter, Leave}
 use Rattle.walrus_tree.specs.Trees.{Trees, Nothing, Tree, ids, Stand}

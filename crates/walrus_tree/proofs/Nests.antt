@@ -2,7 +2,7 @@
 use Rattle.std.proofs.Common.{ℕ, ◌+◌, ◌<◌, ◌≤◌, ◌≡◌, cond, Bool, List, [], ◌∷◌, Some, refl, sym, ap, subst, arith, ◌∙◌, ◌⊎◌, inl, inr, ne_eqb, eq-eqb}
 use Rattle.std.specs.Prelude.{slice_get, nat_eq}
 use Rattle.std.proofs.lemmas.Bool.{cases_lt, cases_eq}
-use Rattle.walrus_instr.specs.declared.seq.InstrSeq.{InstrSeq}
+use Rattle.walrus_builder.specs.walrus_walks.walrus_instr.declared.seq.InstrSeq.{InstrSeq}
 use Rattle.walrus_builder.specs.walrus_walks.Tree.{children_in, Falls, IsRank}
 use Rattle.walrus_tree.specs.Trees.{Trees, Nothing, Tree, Stand}
 use Rattle.walrus_tree.specs.TextLaws.{TreesAreNested}

@@ -3,21 +3,21 @@ use Rattle.std.proofs.Common.{ℕ, ◌≡◌, Bool, List, [], ◌∷◌, ◌++�
 use Rattle.std.specs.Prelude.{slice_get, All}
 use Rattle.std.proofs.lemmas.List.{map-append, append-nil}
 use Rattle.std.proofs.lemmas.List.Elements.{All-head, All-tail, All-cons, All-nil}
-use Rattle.walrus_instr.specs.walrus_forms.declared.value.HeapType.{HeapType}
-use Rattle.walrus_instr.specs.walrus_forms.declared.value.HeapType.TheVariants.{Abstract, Concrete, Exact}
-use Rattle.walrus_instr.specs.walrus_forms.declared.value.RefType.{RefType}
-use Rattle.walrus_instr.specs.walrus_forms.declared.value.ValType.{ValType}
-use Rattle.walrus_instr.specs.walrus_forms.declared.value.ValType.TheVariants.{Ref}
-use Rattle.walrus_instr.specs.declared.instr.Instr.{Instr}
-use Rattle.walrus_instr.specs.declared.instr.Instr.TheVariants.{Try, TryTable, BrTable, BrOnCast, BrOnCastFail, Select, RefNull, RefTest, RefCast}
-use Rattle.walrus_instr.specs.declared.instr.LegacyCatch.{LegacyCatch}
-use Rattle.walrus_instr.specs.declared.instr.LegacyCatch.TheVariants as Legacy
-use Rattle.walrus_instr.specs.declared.instr.TryTableCatch.{TryTableCatch}
-use Rattle.walrus_instr.specs.declared.instr.TryTableCatch.TheVariants as Clause
-use Rattle.walrus_instr.specs.declared.seq.InstrLocId.{InstrLocId}
-use Rattle.walrus_instr.specs.declared.seq.InstrSeq.{InstrSeq}
-use Rattle.walrus_instr.specs.declared.seq.InstrSeqType.{InstrSeqType}
-use Rattle.walrus_instr.specs.declared.seq.InstrSeqType.TheVariants.{Simple, MultiValue}
+use Rattle.walrus_builder.specs.walrus_walks.walrus_instr.walrus_forms.declared.value.HeapType.{HeapType}
+use Rattle.walrus_builder.specs.walrus_walks.walrus_instr.walrus_forms.declared.value.HeapType.TheVariants.{Abstract, Concrete, Exact}
+use Rattle.walrus_builder.specs.walrus_walks.walrus_instr.walrus_forms.declared.value.RefType.{RefType}
+use Rattle.walrus_builder.specs.walrus_walks.walrus_instr.walrus_forms.declared.value.ValType.{ValType}
+use Rattle.walrus_builder.specs.walrus_walks.walrus_instr.walrus_forms.declared.value.ValType.TheVariants.{Ref}
+use Rattle.walrus_builder.specs.walrus_walks.walrus_instr.declared.instr.Instr.{Instr}
+use Rattle.walrus_builder.specs.walrus_walks.walrus_instr.declared.instr.Instr.TheVariants.{Try, TryTable, BrTable, BrOnCast, BrOnCastFail, Select, RefNull, RefTest, RefCast}
+use Rattle.walrus_builder.specs.walrus_walks.walrus_instr.declared.instr.LegacyCatch.{LegacyCatch}
+use Rattle.walrus_builder.specs.walrus_walks.walrus_instr.declared.instr.LegacyCatch.TheVariants as Legacy
+use Rattle.walrus_builder.specs.walrus_walks.walrus_instr.declared.instr.TryTableCatch.{TryTableCatch}
+use Rattle.walrus_builder.specs.walrus_walks.walrus_instr.declared.instr.TryTableCatch.TheVariants as Clause
+use Rattle.walrus_builder.specs.walrus_walks.walrus_instr.declared.seq.InstrLocId.{InstrLocId}
+use Rattle.walrus_builder.specs.walrus_walks.walrus_instr.declared.seq.InstrSeq.{InstrSeq}
+use Rattle.walrus_builder.specs.walrus_walks.walrus_instr.declared.seq.InstrSeqType.{InstrSeqType}
+use Rattle.walrus_builder.specs.walrus_walks.walrus_instr.declared.seq.InstrSeqType.TheVariants.{Simple, MultiValue}
 use Rattle.walrus_builder.specs.walrus_walks.Tree.{children, children_in, IsNested}
 use Rattle.walrus_builder.specs.walrus_walks.Events.{Event, StartOf, EndOf, NamesSeq, ref_names, val_names, written_names, block_names, legacy_names, clause_names, events_of, names}
 use Rattle.walrus_builder.specs.walrus_walks.Plain.{HeldAreNested, WalkIsPlain}

@@ -1,6 +1,6 @@
 -- The walk of a tree meets each sequence of it once.
 use Rattle.std.specs.Prelude.{◌≡◌, ℕ, List, [], ◌∷◌, map, Some, slice_get}
-use Rattle.walrus_instr.specs.declared.seq.InstrSeq.{InstrSeq}
+use Rattle.walrus_builder.specs.walrus_walks.walrus_instr.declared.seq.InstrSeq.{InstrSeq}
 use Rattle.walrus_builder.specs.walrus_walks.Events.{Event, StartOf}
 use Rattle.walrus_builder.specs.walrus_walks.Walk.{walk}
 use Rattle.walrus_tree.specs.Trees.{Nothing, Tree, ids, IsTree}

@@ -11,7 +11,7 @@ use crate::marks::{Mark, is_within};
 use crate::steps::{Step, push_children};
 use std::alloc::{AllocError, Global};
 use walrus_arena::InstrSeqId;
-use walrus_instr::{Instr, InstrLocId, InstrSeq};
+use walrus_builder::instr::{Instr, InstrLocId, InstrSeq};
 
 // Pushes the sequences that the instructions hold; false where a label names none that is open, of which there are so many.
 // Each instruction is looked at once, since most of the time goes into fetching it.

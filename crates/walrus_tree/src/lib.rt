@@ -27,3 +27,13 @@ pub mod builder {
         }
     }
 }
+
+pub mod instr {
+    pub use walrus_builder::instr::{
+        Instr, InstrLocId, InstrSeq, InstrSeqType, LegacyCatch, TryTableCatch,
+    };
+
+    pub mod type_table {
+        pub use walrus_builder::instr::type_table::{RefType, ValType};
+    }
+}

@@ -4,7 +4,7 @@ ghost use Rattle.walrus_tree.specs.Testing.{open_at, all_open, clauses_open, del
 ghost use Rattle.walrus_tree.specs.Trees.{clause_label};
 
 use walrus_arena::InstrSeqId;
-use walrus_instr::{Instr, LegacyCatch, TryTableCatch};
+use walrus_builder::instr::{Instr, LegacyCatch, TryTableCatch};
 
 /// How far a sequence is tested.
 #[derive(Clone, Copy)]

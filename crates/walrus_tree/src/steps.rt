@@ -5,7 +5,7 @@ ghost use Rattle.walrus_tree.specs.Testing.{entering};
 
 use std::alloc::AllocError;
 use walrus_arena::InstrSeqId;
-use walrus_instr::{Instr, LegacyCatch};
+use walrus_builder::instr::{Instr, LegacyCatch};
 
 /// What the test has to do.
 #[derive(Clone, Copy)]

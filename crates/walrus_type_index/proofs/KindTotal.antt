@@ -4,15 +4,15 @@ use Rattle.std.specs.Ordering.{ordering_then, bool_cmp, nat_cmp, then_cmp, on, M
 use Rattle.std.specs.Option.{option_cmp}
 use Rattle.std.specs.Cmp.{IsTotalOrder, then_total, on_total, bool_cmp_total, nat_cmp_total, ranks}
 use Rattle.std.specs.Cmp.Lexicographic.{slice_cmp, options_total, lists_total}
-use Rattle.walrus_forms.specs.declared.value.ValType.{ValType}
-use Rattle.walrus_forms.specs.declared.value.FieldType.{FieldType}
-use Rattle.walrus_forms.specs.contracts.value.ValTypeOrd.TheImpl.{ghosts as value_ord}
-use Rattle.walrus_forms.specs.contracts.value.ValTypeOrd.TheImpl.Laws as value_laws
-use Rattle.walrus_forms.specs.contracts.value.FieldTypeOrd.TheImpl.{ghosts as field_ord}
-use Rattle.walrus_forms.specs.contracts.value.FieldTypeOrd.TheImpl.Laws as field_laws
-use Rattle.walrus_forms.specs.Forms.{Form, FunctionForm, StructForm, ArrayForm}
-use Rattle.walrus_forms.specs.Kinds.{Kind}
-use Rattle.walrus_forms.specs.Order.{form_cmp, kind_cmp}
+use Rattle.walrus_items.specs.walrus_forms.declared.value.ValType.{ValType}
+use Rattle.walrus_items.specs.walrus_forms.declared.value.FieldType.{FieldType}
+use Rattle.walrus_items.specs.walrus_forms.contracts.value.ValTypeOrd.TheImpl.{ghosts as value_ord}
+use Rattle.walrus_items.specs.walrus_forms.contracts.value.ValTypeOrd.TheImpl.Laws as value_laws
+use Rattle.walrus_items.specs.walrus_forms.contracts.value.FieldTypeOrd.TheImpl.{ghosts as field_ord}
+use Rattle.walrus_items.specs.walrus_forms.contracts.value.FieldTypeOrd.TheImpl.Laws as field_laws
+use Rattle.walrus_items.specs.walrus_forms.Forms.{Form, FunctionForm, StructForm, ArrayForm}
+use Rattle.walrus_items.specs.walrus_forms.Kinds.{Kind}
+use Rattle.walrus_items.specs.walrus_forms.Order.{form_cmp, kind_cmp}
 use Rattle.walrus_type_index.specs.Places.{place_at, place_cmp, id_cmp}
 
 -- a form as a number and lists

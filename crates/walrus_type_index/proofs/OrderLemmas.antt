@@ -4,14 +4,14 @@ use Rattle.std.specs.declared.cmp.Ordering.{Ordering}
 use Rattle.std.specs.declared.cmp.Ordering.TheVariants.{Less, Equal, Greater}
 use Rattle.std.specs.Ordering.{ordering_then, bool_cmp, nat_cmp}
 use Rattle.std.specs.Option.{option_cmp}
-use Rattle.walrus_arena.specs.contracts.id.IdOrd.TheImpl as id_impl
-use Rattle.walrus_arena.specs.contracts.id.TypeSpace.{the_row as type_space}
+use Rattle.walrus_items.specs.walrus_arena.contracts.id.IdOrd.TheImpl as id_impl
+use Rattle.walrus_items.specs.walrus_arena.contracts.id.TypeSpace.{the_row as type_space}
 use Rattle.walrus_items.specs.declared.subtype.Type.{«Type» as TypeItem}
 use Rattle.walrus_items.specs.contracts.subtype.TypeOrd.TheImpl.{ghosts as type_ord}
-use Rattle.walrus_forms.proofs.FormLemmas.{composite_ord-forms}
-use Rattle.walrus_forms.specs.Forms.{form_of}
+use Rattle.walrus_items.proofs.walrus_forms.FormLemmas.{composite_ord-forms}
+use Rattle.walrus_items.specs.walrus_forms.Forms.{form_of}
 use Rattle.walrus_items.specs.Items.{kind_of}
-use Rattle.walrus_forms.specs.Order.{form_cmp, kind_cmp}
+use Rattle.walrus_items.specs.walrus_forms.Order.{form_cmp, kind_cmp}
 
 then-equal : (o : Ordering) → ordering_then o Equal ≡ o
 then-equal Less = refl

@@ -7,9 +7,9 @@ use Rattle.std.specs.List.Sorted.{IsStrictlySortedBy}
 use Rattle.std.specs.Cmp.{IsTotalOrder, tied_itself, tied_back, ranks}
 use Rattle.std.proofs.lemmas.Bool.{cases_Bool, false≢true, eqb-true}
 use Rattle.std.proofs.lemmas.List.{get_or-set_same}
-use Rattle.walrus_arena.proofs.ArenaLemmas.{at-other, at-kept, at-last, live-within}
+use Rattle.walrus_items.proofs.walrus_arena.ArenaLemmas.{at-other, at-kept, at-last, live-within}
 use Rattle.std.proofs.lemmas.List.Kept.{IsStrictlySortedBy-filter}
-use Rattle.walrus_forms.specs.Kinds.{Kind}
+use Rattle.walrus_items.specs.walrus_forms.Kinds.{Kind}
 use Rattle.walrus_type_index.specs.Places.{place_of, place_at, place_cmp, id_cmp, key_cmp, is_exactly, is_before, last_in, put_in}
 use Rattle.walrus_type_index.specs.Ordered.{is_at, has, lives_at, IsOrdered, IsLast}
 use Rattle.walrus_type_index.proofs.KindTotal.{ids, places}

@@ -4,23 +4,23 @@ use Rattle.std.specs.Ordering.{ordering_then, bool_cmp, nat_cmp}
 use Rattle.std.specs.Option.{option_cmp}
 use Rattle.std.specs.Cmp.Lexicographic.{slice_cmp}
 use Rattle.std.proofs.lemmas.Bool.{cases_Bool, false≢true, eqb-true}
-use Rattle.walrus_forms.specs.declared.value.AbstractHeapType.{AbstractHeapType}
-use Rattle.walrus_forms.specs.declared.value.AbstractHeapType.TheVariants.{Func, Extern, Any, None as NoneType, NoExtern, NoFunc, Eq, Struct, Array, I31, Exn, NoExn}
-use Rattle.walrus_forms.specs.declared.value.HeapType.{HeapType}
-use Rattle.walrus_forms.specs.declared.value.HeapType.TheVariants.{Abstract, Concrete, Exact}
-use Rattle.walrus_forms.specs.declared.value.RefType.{RefType}
-use Rattle.walrus_forms.specs.declared.value.ValType.{ValType}
-use Rattle.walrus_forms.specs.declared.value.ValType.TheVariants.{I32, I64, F32, F64, V128, Ref}
-use Rattle.walrus_forms.specs.declared.value.StorageType.{StorageType}
-use Rattle.walrus_forms.specs.declared.value.StorageType.TheVariants.{Val, I8, I16}
-use Rattle.walrus_forms.specs.declared.value.FieldType.{FieldType}
-use Rattle.walrus_forms.specs.contracts.value.ValTypeOrd.TheImpl.{ghosts as value_ord}
-use Rattle.walrus_forms.specs.contracts.value.FieldTypeOrd.TheImpl.{ghosts as field_ord}
-use Rattle.walrus_forms.specs.ValueOrder.{abstract_place, heap_cmp, ref_cmp, value_cmp, storage_cmp}
-use Rattle.walrus_forms.specs.Forms.{Form, FunctionForm, StructForm, ArrayForm}
-use Rattle.walrus_forms.specs.Kinds.{Kind}
-use Rattle.walrus_forms.specs.Order.{form_cmp, kind_cmp}
-use Rattle.walrus_forms.proofs.PlaceLemmas.{value-places, field-places}
+use Rattle.walrus_items.specs.walrus_forms.declared.value.AbstractHeapType.{AbstractHeapType}
+use Rattle.walrus_items.specs.walrus_forms.declared.value.AbstractHeapType.TheVariants.{Func, Extern, Any, None as NoneType, NoExtern, NoFunc, Eq, Struct, Array, I31, Exn, NoExn}
+use Rattle.walrus_items.specs.walrus_forms.declared.value.HeapType.{HeapType}
+use Rattle.walrus_items.specs.walrus_forms.declared.value.HeapType.TheVariants.{Abstract, Concrete, Exact}
+use Rattle.walrus_items.specs.walrus_forms.declared.value.RefType.{RefType}
+use Rattle.walrus_items.specs.walrus_forms.declared.value.ValType.{ValType}
+use Rattle.walrus_items.specs.walrus_forms.declared.value.ValType.TheVariants.{I32, I64, F32, F64, V128, Ref}
+use Rattle.walrus_items.specs.walrus_forms.declared.value.StorageType.{StorageType}
+use Rattle.walrus_items.specs.walrus_forms.declared.value.StorageType.TheVariants.{Val, I8, I16}
+use Rattle.walrus_items.specs.walrus_forms.declared.value.FieldType.{FieldType}
+use Rattle.walrus_items.specs.walrus_forms.contracts.value.ValTypeOrd.TheImpl.{ghosts as value_ord}
+use Rattle.walrus_items.specs.walrus_forms.contracts.value.FieldTypeOrd.TheImpl.{ghosts as field_ord}
+use Rattle.walrus_items.specs.walrus_forms.ValueOrder.{abstract_place, heap_cmp, ref_cmp, value_cmp, storage_cmp}
+use Rattle.walrus_items.specs.walrus_forms.Forms.{Form, FunctionForm, StructForm, ArrayForm}
+use Rattle.walrus_items.specs.walrus_forms.Kinds.{Kind}
+use Rattle.walrus_items.specs.walrus_forms.Order.{form_cmp, kind_cmp}
+use Rattle.walrus_items.proofs.walrus_forms.PlaceLemmas.{value-places, field-places}
 
 -- an order in which values that tie are one
 abbrev Ties : {X : Type 0} → (X → X → Ordering) → Type 0

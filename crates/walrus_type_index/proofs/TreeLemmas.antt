@@ -11,7 +11,7 @@ use Rattle.std.specs.Cmp.{IsTotalOrder, upto, tied_itself, tied_back}
 use Rattle.std.proofs.lemmas.Bool.{cases_Bool, false≢true, eqb-true}
 use Rattle.std.proofs.lemmas.List.Elements.{filter-append}
 use Rattle.std.proofs.lemmas.List.Folds.{find-append}
-use Rattle.walrus_forms.specs.Kinds.{Kind}
+use Rattle.walrus_items.specs.walrus_forms.Kinds.{Kind}
 use Rattle.walrus_type_index.specs.Places.{kinds_in, place_at, place_cmp, id_cmp, key_cmp, is_before, is_upto, is_exactly, last_in, put_in}
 use Rattle.walrus_type_index.proofs.KindTotal.{ids, places}
 

@@ -1,7 +1,7 @@
 -- What becomes of an index.
 use Rattle.std.specs.Prelude.{◌≡◌, ℕ, Bool, true, false, not, ◌==◌, List, Option, Some, None, filter, slice_index_or}
 use Rattle.std.specs.List.Sorted.{IsStrictlySortedBy}
-use Rattle.walrus_forms.specs.Kinds.{Kind}
+use Rattle.walrus_items.specs.walrus_forms.Kinds.{Kind}
 use Rattle.walrus_type_index.specs.Places.{id_cmp, is_before, is_exactly, last_in, put_in}
 use Rattle.walrus_type_index.specs.Ordered.{IsOrdered, IsLast, lives_at}
 

@@ -4,8 +4,8 @@ use Rattle.std.specs.declared.cmp.Ordering.{Ordering}
 use Rattle.std.specs.Ordering.{ordering_then, bool_cmp, nat_cmp, is_gt, is_lt, is_eq}
 use Rattle.std.specs.List.{list_any}
 use Rattle.std.specs.Option.{option_map, option_map_or, option_cmp}
-use Rattle.walrus_forms.specs.Kinds.{Kind, kind_names}
-use Rattle.walrus_forms.specs.Order.{kind_cmp}
+use Rattle.walrus_items.specs.walrus_forms.Kinds.{Kind, kind_names}
+use Rattle.walrus_items.specs.walrus_forms.Order.{kind_cmp}
 use Rattle.walrus_items.specs.declared.subtype.Type.{«Type» as TypeItem}
 use Rattle.walrus_items.specs.Items.{kind_of}
 

@@ -1,5 +1,5 @@
 -- What a search looks for.
-use Rattle.walrus_forms.specs.Kinds.{Kind, function_kind}
+use Rattle.walrus_items.specs.walrus_forms.Kinds.{Kind, function_kind}
 use Rattle.walrus_items.specs.Items.{kind_of}
 use Rattle.walrus_type_index.specs.declared.order.Target.{Target}
 use Rattle.walrus_type_index.specs.declared.order.Target.TheVariants.{Like, Function}

@@ -4,8 +4,8 @@ ghost use Rattle.walrus_type_index.specs.Places.{kinds_in};
 ghost use Rattle.walrus_type_index.specs.Ordered.{IsOrdered, lives_at};
 
 use crate::node::{Spare, Tree};
-use walrus_arena::{TombstoneArena, TypeId, TypeSpace};
 use walrus_items::Type;
+use walrus_items::arena::{TombstoneArena, TypeId, TypeSpace};
 
 /// Puts the one live type that is not in the index into it. Takes no memory.
 pub fn enter(index: &mut Tree, types: &TombstoneArena<Type, TypeSpace>, spare: Spare)

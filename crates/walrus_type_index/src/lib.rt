@@ -12,6 +12,21 @@ pub use node::{Spare, Tree};
 pub use order::Target;
 
 // Passed on to crates above, which then list this one alone.
+pub mod arena {
+    pub use walrus_items::arena::{
+        DataId, ElementId, FunctionId, GlobalId, InstrSeqId, Iter, LocalId, MemoryId, RecGroupId,
+        RecGroupSpace, TableId, TagId, TombstoneArena, TypeId, TypeSpace,
+    };
+}
+
+pub mod forms {
+    pub use walrus_items::forms::{
+        AbstractHeapType, ArrayType, CompositeRecord, CompositeType, FieldRecord, FieldType,
+        FunctionType, GroupRecord, HeapRecord, HeapType, RefRecord, RefType, StorageRecord,
+        StorageType, StructType, TypeRecord, ValRecord, ValType, index_of,
+    };
+}
+
 pub mod items {
     pub use walrus_items::{Local, ModuleLocals, RecGroup, Type};
 }

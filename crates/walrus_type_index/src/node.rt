@@ -1,6 +1,6 @@
 //! A balanced tree of the ids of a table's types.
 use std::marker::Model;
-use walrus_arena::TypeId;
+use walrus_items::arena::TypeId;
 
 /// Ids of types in order. Balanced by height, so that a search looks at few of them.
 #[cycle(tree)]

@@ -2,17 +2,17 @@
 ghost use Rattle.std.specs.Prelude.{◌≡◌, ℕ, Some, None};
 ghost use Rattle.std.specs.Ordering.{ordering_then, bool_cmp, is_lt, nat_cmp};
 ghost use Rattle.std.specs.Option.{option_cmp, option_map};
-ghost use Rattle.walrus_arena.specs.Arena.{item_at};
-ghost use Rattle.walrus_forms.specs.Kinds.{function_kind};
-ghost use Rattle.walrus_forms.specs.Order.{kind_cmp};
+ghost use Rattle.walrus_items.specs.walrus_arena.Arena.{item_at};
+ghost use Rattle.walrus_items.specs.walrus_forms.Kinds.{function_kind};
+ghost use Rattle.walrus_items.specs.walrus_forms.Order.{kind_cmp};
 ghost use Rattle.walrus_items.specs.Items.{kind_of};
 ghost use Rattle.walrus_type_index.specs.Places.{kinds_in, id_cmp, key_cmp, place_cmp, place_of, names_itself};
 ghost use Rattle.walrus_type_index.specs.Targets.{target_kind};
 
 use std::cmp::Ordering;
-use walrus_arena::{TombstoneArena, TypeId, TypeSpace};
-use walrus_forms::{CompositeType, ValType};
 use walrus_items::Type;
+use walrus_items::arena::{TombstoneArena, TypeId, TypeSpace};
+use walrus_items::forms::{CompositeType, ValType};
 
 /// What a search looks for: the kind of a type, or that of a final function type without supertype.
 #[derive(Clone, Copy)]

@@ -11,8 +11,8 @@ use crate::order::{Target, compare, compare_key};
 use std::alloc::{AllocError, Global};
 use std::cmp::Ordering;
 use std::mem;
-use walrus_arena::{TombstoneArena, TypeId, TypeSpace};
 use walrus_items::Type;
+use walrus_items::arena::{TombstoneArena, TypeId, TypeSpace};
 
 impl Spare {
     /// Memory for this id.

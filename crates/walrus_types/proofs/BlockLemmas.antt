@@ -3,7 +3,7 @@ use Rattle.std.proofs.Common.{◌≡◌, ◌∙◌, ℕ, ◌+◌, ◌-◌, ◌<�
 use Rattle.std.specs.Option.{option_or}
 use Rattle.std.proofs.lemmas.Grind.{flat_map-append}
 use Rattle.std.proofs.lemmas.List.{length-append, map-append, take-append-drop, drop-drop}
-use Rattle.walrus_forms.specs.Records.{TypeGroup}
+use Rattle.walrus_type_index.specs.walrus_items.walrus_forms.Records.{TypeGroup}
 use Rattle.walrus_type_index.specs.walrus_items.Items.{Group}
 use Rattle.walrus_type_index.specs.walrus_items.declared.subtype.RecGroup.{RecGroup}
 use Rattle.walrus_types.specs.declared.error.IrError.{IrError}

@@ -5,7 +5,7 @@ use Rattle.std.proofs.lemmas.Bool.{cases_Bool, cases_eq, eqb-false, ne_eqb, not-
 use Rattle.std.proofs.lemmas.List.{get_or-set_same, length-set, map-set}
 use Rattle.std.proofs.Math.Seq.{take-suc}
 use Rattle.std.proofs.lemmas.List.Kept.{AllPairs-filter}
-use Rattle.walrus_arena.proofs.ArenaLemmas.{live-within, at-other, at-deleted}
+use Rattle.walrus_type_index.proofs.walrus_forms.walrus_arena.ArenaLemmas.{live-within, at-other, at-deleted}
 use Rattle.walrus_type_index.specs.walrus_items.declared.subtype.RecGroup.{RecGroup}
 use Rattle.walrus_type_index.specs.walrus_items.Items.{Item, Group, item_of, group_of}
 use Rattle.walrus_type_index.specs.walrus_items.declared.subtype.Type.{«Type» as TypeItem}

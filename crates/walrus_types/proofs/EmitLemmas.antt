@@ -16,10 +16,10 @@ use Rattle.std.proofs.lemmas.List.{append-nil, length-append, length-set, get_or
 use Rattle.std.proofs.lemmas.List.Folds.{length-flat_map-take}
 use Rattle.std.proofs.lemmas.List.Elements.{Contains-push_cases, filter_map-append, filter_passes, All-nil, All-append, All-weaker}
 use Rattle.std.proofs.lemmas.Option.{slice_get-get_or, slice_get_within, get_or_from_slice_get, same_Some, none-some}
-use Rattle.walrus_forms.specs.Kinds.{Kind, kind_names}
-use Rattle.walrus_forms.specs.Order.{kind_cmp}
-use Rattle.walrus_forms.specs.Records.{TypeGroup}
-use Rattle.walrus_forms.specs.Renaming.{renamed_kind}
+use Rattle.walrus_type_index.specs.walrus_items.walrus_forms.Kinds.{Kind, kind_names}
+use Rattle.walrus_type_index.specs.walrus_items.walrus_forms.Order.{kind_cmp}
+use Rattle.walrus_type_index.specs.walrus_items.walrus_forms.Records.{TypeGroup}
+use Rattle.walrus_type_index.specs.walrus_items.walrus_forms.Renaming.{renamed_kind}
 use Rattle.walrus_type_order.specs.Order.{IsEmissionOrder}
 use Rattle.walrus_type_order.specs.Views.{ordered_by, ordered_under}
 use Rattle.walrus_type_index.specs.walrus_items.declared.subtype.Type.{«Type» as TypeItem}

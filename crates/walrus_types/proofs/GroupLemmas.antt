@@ -6,11 +6,11 @@ use Rattle.std.proofs.lemmas.Bool.{cases_lt}
 use Rattle.std.proofs.lemmas.List.{get_or_append_left, length-map, map-append}
 use Rattle.std.proofs.lemmas.List.FromFn.{length-range_with_len, get_or-range_with_len}
 use Rattle.std.proofs.Math.Seq.{get_or-append_right}
-use Rattle.walrus_arena.specs.Arena.{entries_from}
-use Rattle.walrus_arena.proofs.ArenaLemmas.{live-within, at-kept, at-last, at-push}
+use Rattle.walrus_type_index.specs.walrus_items.walrus_arena.Arena.{entries_from}
+use Rattle.walrus_type_index.proofs.walrus_forms.walrus_arena.ArenaLemmas.{live-within, at-kept, at-last, at-push}
 use Rattle.walrus_type_index.specs.walrus_items.declared.subtype.Type.{«Type» as TypeItem}
 use Rattle.walrus_type_index.specs.walrus_items.Items.{Item, Group, item_of, group_of}
-use Rattle.walrus_forms.specs.Kinds.{Kind}
+use Rattle.walrus_type_index.specs.walrus_items.walrus_forms.Kinds.{Kind}
 use Rattle.walrus_type_index.specs.walrus_items.declared.subtype.RecGroup.{RecGroup}
 use Rattle.walrus_types.specs.Groups.{new_items, group_slot, AddsGroup}
 use Rattle.walrus_types.specs.Table.{Table, next_id, latest_in, table_of, IsGrouped}

@@ -7,10 +7,10 @@ use Rattle.std.specs.List.Sorted.{IsStrictlySortedBy}
 use Rattle.std.specs.Cmp.{tied_itself, both_ways}
 use Rattle.std.proofs.lemmas.Bool.{cases_Bool, cases_lt, false≢true, eqb-true, and_right, eq-eqb}
 use Rattle.std.proofs.lemmas.List.{length-map}
-use Rattle.walrus_forms.specs.Kinds.{Kind}
-use Rattle.walrus_forms.specs.Order.{kind_cmp}
-use Rattle.walrus_forms.specs.Same.{same_kind}
-use Rattle.walrus_forms.proofs.EqLemmas.{same-kind-law}
+use Rattle.walrus_type_index.specs.walrus_items.walrus_forms.Kinds.{Kind}
+use Rattle.walrus_type_index.specs.walrus_items.walrus_forms.Order.{kind_cmp}
+use Rattle.walrus_type_index.specs.walrus_items.walrus_forms.Same.{same_kind}
+use Rattle.walrus_type_index.proofs.walrus_forms.EqLemmas.{same-kind-law}
 use Rattle.walrus_type_index.specs.walrus_items.declared.subtype.Type.{«Type» as TypeItem}
 use Rattle.walrus_type_index.specs.walrus_items.Items.{Item, item_of, kind_of}
 use Rattle.walrus_type_index.specs.Places.{kinds_in, place_of, place_cmp, id_cmp, is_exactly, last_in, names_itself}

@@ -8,7 +8,7 @@ use Rattle.walrus_type_index.specs.Places.{kinds_in}
 use Rattle.walrus_type_index.specs.Ordered.{IsOrdered, lives_at}
 use Rattle.walrus_type_index.proofs.OrderedLemmas.{ordered-written, ordered-dead, ordered-new}
 use Rattle.walrus_types.proofs.TableLemmas.{at-map}
-use Rattle.walrus_arena.proofs.ArenaLemmas.{at-kept, at-last, at-other, live-within}
+use Rattle.walrus_type_index.proofs.walrus_forms.walrus_arena.ArenaLemmas.{at-kept, at-last, at-other, live-within}
 use Rattle.std.proofs.lemmas.List.{get_or-set_same, get_or_past}
 use Rattle.std.proofs.lemmas.Bool.{eq-eqb, false≢true, cases_lt}
 

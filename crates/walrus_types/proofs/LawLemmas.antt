@@ -2,8 +2,8 @@
 use Rattle.std.proofs.Common.{◌≡◌, ◌∙◌, ℕ, zero, suc, ◌+◌, ◌<◌, Bool, true, false, cond, List, [], ◌∷◌, length, Option, Some, None, slice_index, slice_index_or, map, refl, sym, ap, arith, ◌⊎◌, inl, inr, ⊎_elim, subst}
 use Rattle.std.specs.Option.{option_map, MatchOption}
 use Rattle.std.proofs.lemmas.Bool.{cases_Bool, cases_eq, cases_lt}
-use Rattle.walrus_arena.specs.Arena.{entries_from}
-use Rattle.walrus_arena.proofs.ArenaLemmas.{live-within}
+use Rattle.walrus_type_index.specs.walrus_items.walrus_arena.Arena.{entries_from}
+use Rattle.walrus_type_index.proofs.walrus_forms.walrus_arena.ArenaLemmas.{live-within}
 use Rattle.walrus_type_index.specs.walrus_items.declared.subtype.Type.{«Type» as TypeItem}
 use Rattle.walrus_type_index.specs.walrus_items.declared.subtype.RecGroup.{RecGroup}
 use Rattle.walrus_type_index.specs.walrus_items.Items.{Item, item_of, group_of}

@@ -6,13 +6,13 @@ use Rattle.std.proofs.lemmas.Bool.{cases_Bool, cases_lt, cases_eq, eqb-true, and
 use Rattle.std.proofs.lemmas.Option.{slice_get_within, slice_get-map, slice_get-get_or, get_or_from_slice_get}
 use Rattle.std.proofs.lemmas.List.{get_or_append_left, get_or-append-add, length-map, append-nil}
 use Rattle.std.proofs.lemmas.List.FromFn.{length-range_with_len, get_or-range_with_len}
-use Rattle.walrus_arena.proofs.ArenaLemmas.{live-within}
-use Rattle.walrus_forms.specs.Kinds.{Kind, kind_names}
-use Rattle.walrus_forms.specs.Records.{TypeGroup}
-use Rattle.walrus_forms.specs.Renaming.{KindBelow, at, renamed_kind}
-use Rattle.walrus_forms.specs.Same.{same_kind}
-use Rattle.walrus_forms.proofs.EqLemmas.{same-kind-law}
-use Rattle.walrus_forms.proofs.RenamingLemmas.{In, in-mapped, of-mapped, in-any, any-in, kinds-agree, kinds-twice, kinds-names, kinds-below}
+use Rattle.walrus_type_index.proofs.walrus_forms.walrus_arena.ArenaLemmas.{live-within}
+use Rattle.walrus_type_index.specs.walrus_items.walrus_forms.Kinds.{Kind, kind_names}
+use Rattle.walrus_type_index.specs.walrus_items.walrus_forms.Records.{TypeGroup}
+use Rattle.walrus_type_index.specs.walrus_items.walrus_forms.Renaming.{KindBelow, at, renamed_kind}
+use Rattle.walrus_type_index.specs.walrus_items.walrus_forms.Same.{same_kind}
+use Rattle.walrus_type_index.proofs.walrus_forms.EqLemmas.{same-kind-law}
+use Rattle.walrus_type_index.proofs.walrus_forms.RenamingLemmas.{In, in-mapped, of-mapped, in-any, any-in, kinds-agree, kinds-twice, kinds-names, kinds-below}
 use Rattle.walrus_type_index.specs.walrus_items.Items.{Item}
 use Rattle.walrus_types.specs.Groups.{new_items}
 use Rattle.walrus_types.specs.Table.{next_id, type_at, names_itself, merges, latest_id}

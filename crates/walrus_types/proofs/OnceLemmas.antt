@@ -6,10 +6,10 @@ use Rattle.std.proofs.lemmas.Bool.{false≢true, cases_Bool, cases_lt}
 use Rattle.std.proofs.lemmas.List.{length-map}
 use Rattle.std.proofs.lemmas.List.Kept.{AllPairs-filter}
 use Rattle.std.proofs.lemmas.Option.{slice_get-get_or, same_Some, none-some}
-use Rattle.walrus_arena.specs.Arena.{entries_from}
-use Rattle.walrus_forms.specs.Kinds.{Kind}
-use Rattle.walrus_forms.specs.Records.{TypeGroup}
-use Rattle.walrus_forms.specs.Renaming.{renamed_kind}
+use Rattle.walrus_type_index.specs.walrus_items.walrus_arena.Arena.{entries_from}
+use Rattle.walrus_type_index.specs.walrus_items.walrus_forms.Kinds.{Kind}
+use Rattle.walrus_type_index.specs.walrus_items.walrus_forms.Records.{TypeGroup}
+use Rattle.walrus_type_index.specs.walrus_items.walrus_forms.Renaming.{renamed_kind}
 use Rattle.walrus_type_index.specs.walrus_items.Items.{Group}
 use Rattle.walrus_types.specs.Table.{Table, group_at}
 use Rattle.walrus_types.specs.TypeLaws.{AreGrouped}

@@ -2,7 +2,7 @@
 use Rattle.std.proofs.Common.{◌≡◌, ◌∙◌, ℕ, false, List, [], ◌∷◌, ◌++◌, length, map, Option, Some, None, refl, sym, ap}
 use Rattle.std.specs.Option.{option_map}
 use Rattle.std.proofs.lemmas.List.{length-map, map-append}
-use Rattle.walrus_forms.specs.Kinds.{Kind}
+use Rattle.walrus_type_index.specs.walrus_items.walrus_forms.Kinds.{Kind}
 use Rattle.walrus_type_index.specs.walrus_items.declared.subtype.Type.{«Type» as TypeItem}
 use Rattle.walrus_type_index.specs.walrus_items.declared.subtype.RecGroup.{RecGroup}
 use Rattle.walrus_type_index.specs.walrus_items.Items.{Item, Group, item_of, group_of, kind_of}

@@ -9,14 +9,14 @@ use Rattle.std.specs.Cmp.Lexicographic.{slice_cmp}
 use Rattle.std.proofs.Math.Nat.{mul-le-mul_left}
 use Rattle.std.proofs.lemmas.Bool.{cases_lt}
 use Rattle.std.proofs.lemmas.List.{drop_more}
-use Rattle.walrus_forms.specs.declared.value.ValType.{ValType}
-use Rattle.walrus_forms.specs.declared.value.ValType.TheVariants.{I32, I64, F32, F64, V128, Ref}
-use Rattle.walrus_forms.specs.contracts.value.ValTypeOrd.TheImpl.{ghosts as value_ord}
-use Rattle.walrus_forms.specs.ValueOrder.{value_place, value_cmp}
-use Rattle.walrus_forms.proofs.PlaceLemmas.{value-places}
-use Rattle.walrus_forms.specs.Forms.{Form, FunctionForm, StructForm, ArrayForm}
-use Rattle.walrus_forms.specs.Kinds.{Kind}
-use Rattle.walrus_forms.specs.Order.{form_cmp, kind_cmp}
+use Rattle.walrus_type_index.specs.walrus_items.walrus_forms.declared.value.ValType.{ValType}
+use Rattle.walrus_type_index.specs.walrus_items.walrus_forms.declared.value.ValType.TheVariants.{I32, I64, F32, F64, V128, Ref}
+use Rattle.walrus_type_index.specs.walrus_items.walrus_forms.contracts.value.ValTypeOrd.TheImpl.{ghosts as value_ord}
+use Rattle.walrus_type_index.specs.walrus_items.walrus_forms.ValueOrder.{value_place, value_cmp}
+use Rattle.walrus_type_index.proofs.walrus_forms.PlaceLemmas.{value-places}
+use Rattle.walrus_type_index.specs.walrus_items.walrus_forms.Forms.{Form, FunctionForm, StructForm, ArrayForm}
+use Rattle.walrus_type_index.specs.walrus_items.walrus_forms.Kinds.{Kind}
+use Rattle.walrus_type_index.specs.walrus_items.walrus_forms.Order.{form_cmp, kind_cmp}
 use Rattle.walrus_types.specs.Ranks.{digit, next_weight, digits, form_rank}
 
 -- numbers that don't tell against this order

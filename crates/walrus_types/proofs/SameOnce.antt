@@ -4,11 +4,11 @@ use Rattle.std.specs.List.{slice_get}
 use Rattle.std.proofs.lemmas.Bool.{cases_lt, cases_eq, eqb-true, and_parts, cases_Bool}
 use Rattle.std.proofs.lemmas.List.{length-map}
 use Rattle.std.proofs.lemmas.Option.{slice_get-get_or, slice_get_within}
-use Rattle.walrus_forms.specs.Forms.{StructForm}
-use Rattle.walrus_forms.specs.Kinds.{Kind, kind_names}
-use Rattle.walrus_forms.specs.Records.{TypeGroup}
-use Rattle.walrus_forms.specs.Renaming.{KindBelow, at, renamed_kind}
-use Rattle.walrus_forms.proofs.RenamingLemmas.{In, in-any, kinds-agree, kinds-below}
+use Rattle.walrus_type_index.specs.walrus_items.walrus_forms.Forms.{StructForm}
+use Rattle.walrus_type_index.specs.walrus_items.walrus_forms.Kinds.{Kind, kind_names}
+use Rattle.walrus_type_index.specs.walrus_items.walrus_forms.Records.{TypeGroup}
+use Rattle.walrus_type_index.specs.walrus_items.walrus_forms.Renaming.{KindBelow, at, renamed_kind}
+use Rattle.walrus_type_index.proofs.walrus_forms.RenamingLemmas.{In, in-any, kinds-agree, kinds-below}
 use Rattle.walrus_types.specs.Table.{names_itself}
 use Rattle.walrus_types.specs.Parsing.{AreBelow}
 use Rattle.walrus_types.specs.Mergers.{Entry, is_single, entries_of, IsEqual, StandsFor, IsSame, SameIsOne}

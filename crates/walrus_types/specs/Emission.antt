@@ -2,15 +2,15 @@
 use Rattle.std.specs.Prelude.{◌≡◌, ℕ, ◌+◌, ⊤, Bool, false, List, [], ◌∷◌, length, map, filter, flat_map, Contains, Option, Some, None, IsSome, is_some, slice_get, slice_index_or, if◌then◌else◌, nat_lt}
 use Rattle.std.specs.List.{list_any, filter_map}
 use Rattle.std.specs.Option.{option_map_or, option_or, option_and_then}
-use Rattle.walrus_arena.specs.Arena.{entries_from}
+use Rattle.walrus_type_index.specs.walrus_items.walrus_arena.Arena.{entries_from}
 use Rattle.walrus_type_order.specs.Order.{IsEmissionOrder}
 use Rattle.walrus_types.specs.declared.error.IrError.{IrError}
 use Rattle.walrus_types.specs.declared.error.IrError.TheVariants.{Memory, WrongCount, Dead, EntryOnly, Later}
-use Rattle.walrus_forms.specs.Kinds.{Kind, kind_names}
-use Rattle.walrus_forms.specs.Order.{kind_cmp}
-use Rattle.walrus_forms.specs.Records.{TypeGroup}
-use Rattle.walrus_forms.specs.Renaming.{renamed_kind}
-pub use Rattle.walrus_forms.specs.Renaming.{index_at}
+use Rattle.walrus_type_index.specs.walrus_items.walrus_forms.Kinds.{Kind, kind_names}
+use Rattle.walrus_type_index.specs.walrus_items.walrus_forms.Order.{kind_cmp}
+use Rattle.walrus_type_index.specs.walrus_items.walrus_forms.Records.{TypeGroup}
+use Rattle.walrus_type_index.specs.walrus_items.walrus_forms.Renaming.{renamed_kind}
+pub use Rattle.walrus_type_index.specs.walrus_items.walrus_forms.Renaming.{index_at}
 use Rattle.walrus_type_index.specs.walrus_items.Items.{Item, Group}
 use Rattle.walrus_types.specs.Table.{Table, type_at}
 

@@ -5,8 +5,8 @@ use Rattle.walrus_types.specs.declared.group.NewType.{NewType}
 use Rattle.std.specs.declared.alloc.Global.{Global}
 use Rattle.walrus_types.specs.declared.error.IrError.{IrError}
 use Rattle.walrus_types.specs.declared.error.IrError.TheVariants.{Memory, WrongCount, Dead, EntryOnly, Later}
-use Rattle.walrus_forms.specs.Forms.{form_of}
-use Rattle.walrus_forms.specs.Kinds.{Kind, declared_kind}
+use Rattle.walrus_type_index.specs.walrus_items.walrus_forms.Forms.{form_of}
+use Rattle.walrus_type_index.specs.walrus_items.walrus_forms.Kinds.{Kind, declared_kind}
 use Rattle.walrus_type_index.specs.walrus_items.Items.{Item, Group}
 use Rattle.walrus_types.specs.Table.{Table, next_id}
 

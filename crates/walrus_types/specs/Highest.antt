@@ -1,8 +1,8 @@
 -- The highest of some ids.
 use Rattle.std.specs.Prelude.{ℕ, false, List, Option, Some, None, slice_index_or, max, if◌then◌else◌}
 use Rattle.std.specs.Option.{option_map_or}
-use Rattle.walrus_forms.specs.Kinds.{Kind}
-use Rattle.walrus_forms.specs.Same.{same_kind}
+use Rattle.walrus_type_index.specs.walrus_items.walrus_forms.Kinds.{Kind}
+use Rattle.walrus_type_index.specs.walrus_items.walrus_forms.Same.{same_kind}
 
 -- the higher of two ids that may be there
 abbrev pub later_of : Option ℕ → Option ℕ → Option ℕ

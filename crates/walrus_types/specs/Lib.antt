@@ -12,5 +12,5 @@ pub mod Table
 pub mod TableLends
 pub mod TypeLaws
 -- Passed on to crates above, which then list this one alone.
-pub use Rattle.walrus_forms.specs as walrus_forms
+pub use Rattle.walrus_type_index.specs.walrus_items.walrus_forms as walrus_forms
 pub use Rattle.walrus_type_index.specs.walrus_items as walrus_items

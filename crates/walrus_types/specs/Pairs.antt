@@ -1,6 +1,6 @@
 -- What a table is after two kinds were added to it.
 use Rattle.std.specs.Prelude.{ℕ}
-use Rattle.walrus_forms.specs.Kinds.{Kind}
+use Rattle.walrus_type_index.specs.walrus_items.walrus_forms.Kinds.{Kind}
 use Rattle.walrus_types.specs.Table.{Table, Merges}
 
 -- an equal live type is answered for the first kind, or else there is one more, and then so for the second

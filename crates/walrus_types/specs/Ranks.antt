@@ -1,9 +1,9 @@
 -- Numbers that never fall where kinds rise: most kinds are told apart by them alone.
 use Rattle.std.specs.Prelude.{ℕ, ◌+◌, ◌*◌, ◌/◌, ◌^◌, ◌==◌, List, [], ◌∷◌, if◌then◌else◌}
-use Rattle.walrus_forms.specs.declared.value.ValType.{ValType}
-use Rattle.walrus_forms.specs.Forms.{Form, FunctionForm, StructForm, ArrayForm}
-use Rattle.walrus_forms.specs.Kinds.{Kind}
-use Rattle.walrus_forms.specs.ValueOrder.{value_place}
+use Rattle.walrus_type_index.specs.walrus_items.walrus_forms.declared.value.ValType.{ValType}
+use Rattle.walrus_type_index.specs.walrus_items.walrus_forms.Forms.{Form, FunctionForm, StructForm, ArrayForm}
+use Rattle.walrus_type_index.specs.walrus_items.walrus_forms.Kinds.{Kind}
+use Rattle.walrus_type_index.specs.walrus_items.walrus_forms.ValueOrder.{value_place}
 
 -- the digit of a value type: its place among them, from 1
 abbrev pub digit : ValType → ℕ

@@ -2,14 +2,14 @@
 use Rattle.std.specs.Prelude.{◌≡◌, ◌≢◌, ℕ, ◌<◌, ◌≤◌, Bool, false, not, ◌&&◌, ◌==◌, List, [], ◌∷◌, ◌++◌, length, map, filter, find, Contains, AllPairs, Option, Some, None, is_some, IsSome, IsTrue, MatchOption, slice_index, slice_index_or, slice_set, if◌then◌else◌}
 use Rattle.std.specs.List.{list_any}
 use Rattle.std.specs.Option.{option_map, option_map_or, option_and_then}
-use Rattle.walrus_arena.specs.Arena.{entries_from}
-use Rattle.walrus_forms.specs.declared.value.ValType.{ValType}
+use Rattle.walrus_type_index.specs.walrus_items.walrus_arena.Arena.{entries_from}
+use Rattle.walrus_type_index.specs.walrus_items.walrus_forms.declared.value.ValType.{ValType}
 use Rattle.walrus_type_index.specs.walrus_items.declared.subtype.Type.{«Type» as TypeItem}
 use Rattle.walrus_type_index.specs.walrus_items.declared.subtype.RecGroup.{RecGroup}
-use Rattle.walrus_forms.specs.Forms.{is_function}
-use Rattle.walrus_forms.specs.Kinds.{Kind, kind_names, function_kind}
+use Rattle.walrus_type_index.specs.walrus_items.walrus_forms.Forms.{is_function}
+use Rattle.walrus_type_index.specs.walrus_items.walrus_forms.Kinds.{Kind, kind_names, function_kind}
 use Rattle.walrus_type_index.specs.walrus_items.Items.{Item, Group, item_of, group_of, has_name}
-use Rattle.walrus_forms.specs.Same.{same_kind}
+use Rattle.walrus_type_index.specs.walrus_items.walrus_forms.Same.{same_kind}
 use Rattle.walrus_type_index.specs.Ordered.{IsOrdered}
 -- whether a type of an id and kind names itself
 pub use Rattle.walrus_type_index.specs.Places.{names_itself}

@@ -2,14 +2,14 @@
 ghost use Rattle.std.specs.Prelude.{◌≡◌, ◌<◌, length, slice_index, ℕ, Bool, true, false, not, [], map, filter, Contains, Some, None, is_some, IsSome, slice_set};
 ghost use Rattle.std.specs.Bool.{OnTrue, OnFalse};
 ghost use Rattle.std.specs.Option.{option_map, option_and_then};
-ghost use Rattle.walrus_arena.specs.Arena.{IsLive as HasLive, item_at};
+ghost use Rattle.walrus_type_index.specs.walrus_items.walrus_arena.Arena.{IsLive as HasLive, item_at};
 ghost use Rattle.walrus_type_index.specs.walrus_items.Items.{Group, group_of, item_of};
 ghost use Rattle.walrus_type_index.specs.Places.{kinds_in};
 ghost use Rattle.walrus_type_index.specs.Ordered.{IsOrdered};
 ghost use Rattle.walrus_types.specs.Table.{IsLive, Deletes, DeletesGroup, group_at, is_named_in, is_named_at, clear_all, without_member, with_live, table_of, type_at};
 
 use crate::table::ModuleTypes;
-use walrus_arena::{RecGroupId, RecGroupSpace, TombstoneArena, TypeId, TypeSpace};
+use walrus_type_index::arena::{RecGroupId, RecGroupSpace, TombstoneArena, TypeId, TypeSpace};
 use walrus_type_index::items::{RecGroup, Type};
 use walrus_type_index::{Tree, lend};
 

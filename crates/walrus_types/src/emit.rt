@@ -2,7 +2,7 @@
 ghost use Rattle.std.specs.Prelude.{◌≡◌, ◌+◌, ◌<◌, ◌≤◌, ◌^◌, ◌++◌, [], Some, None, false, IfOk, OnOk, IfErr, All, length, map, slice_index_or};
 ghost use Rattle.std.specs.List.{list_any};
 ghost use Rattle.std.specs.Option.{option_map};
-ghost use Rattle.walrus_forms.specs.Order.{kind_cmp};
+ghost use Rattle.walrus_type_index.specs.walrus_items.walrus_forms.Order.{kind_cmp};
 ghost use Rattle.walrus_type_order.specs.Order.{IsEmissionOrder};
 ghost use Rattle.walrus_type_index.specs.walrus_items.Items.{kind_of, group_of};
 ghost use Rattle.walrus_types.specs.Table.{table_of};
@@ -11,17 +11,17 @@ ghost use Rattle.walrus_types.specs.Inverse.{AreInverse};
 ghost use Rattle.walrus_types.specs.Mergers.{entries_of};
 ghost use Rattle.walrus_types.specs.Parsing.{AreBelow};
 ghost use Rattle.walrus_types.specs.Ranks.{ranked};
-ghost use Rattle.walrus_forms.specs.Kinds.{kind_names};
-ghost use Rattle.walrus_forms.specs.Records.{record_kind, type_group};
-ghost use Rattle.walrus_forms.specs.Renaming.{renamed_kind};
+ghost use Rattle.walrus_type_index.specs.walrus_items.walrus_forms.Kinds.{kind_names};
+ghost use Rattle.walrus_type_index.specs.walrus_items.walrus_forms.Records.{record_kind, type_group};
+ghost use Rattle.walrus_type_index.specs.walrus_items.walrus_forms.Renaming.{renamed_kind};
 
 use crate::error::IrError;
 use crate::rank::with_rank;
 use crate::table::ModuleTypes;
 use std::alloc::{AllocError, Global};
 use std::marker::Model;
-use walrus_arena::{RecGroupSpace, TombstoneArena, TypeId, TypeSpace};
-use walrus_forms::{GroupRecord, TypeRecord, index_of};
+use walrus_type_index::arena::{RecGroupSpace, TombstoneArena, TypeId, TypeSpace};
+use walrus_type_index::forms::{GroupRecord, TypeRecord, index_of};
 use walrus_type_index::items::{RecGroup, Type};
 use walrus_type_order::emission_order;
 

@@ -7,8 +7,8 @@ ghost use Rattle.walrus_type_index.specs.Ordered.{IsOrdered};
 ghost use Rattle.walrus_types.specs.Groups.{new_items, member_kind};
 
 use std::alloc::{AllocError, Global};
-use walrus_arena::{RecGroupId, RecGroupSpace, TombstoneArena, TypeId, TypeSpace};
-use walrus_forms::CompositeType;
+use walrus_type_index::arena::{RecGroupId, RecGroupSpace, TombstoneArena, TypeId, TypeSpace};
+use walrus_type_index::forms::CompositeType;
 use walrus_type_index::items::{RecGroup, Type};
 use walrus_type_index::{Spare, Tree, enter};
 

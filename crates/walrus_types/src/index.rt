@@ -1,14 +1,14 @@
 //! What is asked of the index of a table.
 ghost use Rattle.std.specs.Prelude.{◌≡◌, [], length, None};
-ghost use Rattle.walrus_forms.specs.Kinds.{function_kind};
+ghost use Rattle.walrus_type_index.specs.walrus_items.walrus_forms.Kinds.{function_kind};
 ghost use Rattle.walrus_type_index.specs.walrus_items.Items.{kind_of};
 ghost use Rattle.walrus_type_index.specs.Places.{kinds_in};
 ghost use Rattle.walrus_type_index.specs.Ordered.{IsOrdered};
 ghost use Rattle.walrus_types.specs.Table.{table_of, equal_type};
 ghost use Rattle.walrus_types.specs.Highest.{later_of, if_of_kind};
 
-use walrus_arena::{TombstoneArena, TypeId, TypeSpace};
-use walrus_forms::ValType;
+use walrus_type_index::arena::{TombstoneArena, TypeId, TypeSpace};
+use walrus_type_index::forms::ValType;
 use walrus_type_index::items::Type;
 use walrus_type_index::{Spare, Target, Tree};
 

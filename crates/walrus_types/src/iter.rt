@@ -4,7 +4,7 @@ ghost use Rattle.std.specs.Iterator.{YieldsFirstBy, item_count};
 ghost use Rattle.walrus_type_index.specs.walrus_items.Items.{item_of, group_of};
 
 use std::marker::Model;
-use walrus_arena::{Iter, RecGroupSpace, TypeSpace};
+use walrus_type_index::arena::{Iter, RecGroupSpace, TypeSpace};
 use walrus_type_index::items::{RecGroup, Type};
 
 /// The live types of a table, seen as the list of those that are left.

@@ -3,8 +3,8 @@ ghost use Rattle.std.specs.Prelude.{◌≡◌, ℕ, Bool};
 ghost use Rattle.walrus_type_index.specs.walrus_items.Items.{Item, kind_of};
 ghost use Rattle.walrus_types.specs.TypeLaws.{AreGrouped, FindsLatest};
 ghost use Rattle.walrus_types.specs.Mergers.{ParsingCarriesSame, SameIsOne};
-ghost use Rattle.walrus_forms.specs.Same.{same_kind};
-ghost use Rattle.walrus_forms.specs.Order.{kind_cmp};
+ghost use Rattle.walrus_type_index.specs.walrus_items.walrus_forms.Same.{same_kind};
+ghost use Rattle.walrus_type_index.specs.walrus_items.walrus_forms.Order.{kind_cmp};
 ghost use Rattle.walrus_type_index.specs.walrus_items.contracts.subtype.TypeOrd.TheImpl.{ghosts as type_ord};
 ghost use Rattle.walrus_type_index.specs.walrus_items.contracts.subtype.TypePartialEq.TheImpl.{ghosts as type_eq};
 

@@ -19,7 +19,7 @@ pub use error::IrError;
 pub use group::NewType;
 pub use iter::{RecGroups, Types};
 pub use table::ModuleTypes;
-pub use walrus_forms::{
+pub use walrus_type_index::forms::{
     AbstractHeapType, ArrayType, CompositeRecord, CompositeType, FieldRecord, FieldType,
     FunctionType, GroupRecord, HeapRecord, HeapType, RefRecord, RefType, StorageRecord,
     StorageType, StructType, TypeRecord, ValRecord, ValType,
@@ -28,7 +28,7 @@ pub use walrus_type_index::items::{Local, ModuleLocals, RecGroup, Type};
 
 // Passed on to crates above, which then list this one alone.
 pub mod arena {
-    pub use walrus_arena::{
+    pub use walrus_type_index::arena::{
         DataId, ElementId, FunctionId, GlobalId, InstrSeqId, LocalId, MemoryId, TableId, TagId,
         TypeId,
     };

@@ -1,8 +1,8 @@
 //! Adding the groups of a type section to a table.
 ghost use Rattle.std.specs.Prelude.{◌≡◌, ◌+◌, ◌<◌, ◌++◌, ◌∷◌, ◌&&◌, ◌==◌, not, false, [], All, IfOk, OnOk, OnErr, IfSome, length, map};
-ghost use Rattle.walrus_forms.specs.Kinds.{Kind};
-ghost use Rattle.walrus_forms.specs.Records.{record_kind, type_group};
-ghost use Rattle.walrus_forms.specs.Renaming.{KindBelow, at, renamed_kind};
+ghost use Rattle.walrus_type_index.specs.walrus_items.walrus_forms.Kinds.{Kind};
+ghost use Rattle.walrus_type_index.specs.walrus_items.walrus_forms.Records.{record_kind, type_group};
+ghost use Rattle.walrus_type_index.specs.walrus_items.walrus_forms.Renaming.{KindBelow, at, renamed_kind};
 ghost use Rattle.walrus_types.specs.Groups.{member_kind};
 ghost use Rattle.walrus_types.specs.Table.{next_id};
 ghost use Rattle.walrus_types.specs.Parsing.{Parsed, parsed, parsed_group, unparsed, AreBelow, IsPartOf};
@@ -10,8 +10,8 @@ ghost use Rattle.walrus_types.specs.Parsing.{Parsed, parsed, parsed_group, unpar
 use crate::group::{NewType, ids_from};
 use crate::table::ModuleTypes;
 use std::alloc::{AllocError, Global};
-use walrus_arena::TypeId;
-use walrus_forms::{GroupRecord, TypeRecord};
+use walrus_type_index::arena::TypeId;
+use walrus_type_index::forms::{GroupRecord, TypeRecord};
 
 // The type that the record describes, where each index names the id that the list has there.
 fn resolve(alloc: Global, ty: &TypeRecord, ids: &[TypeId]) -> Result<NewType, AllocError>

@@ -4,7 +4,7 @@ ghost use Rattle.std.specs.Option.{option_map};
 ghost use Rattle.walrus_type_index.specs.walrus_items.Items.{kind_of};
 ghost use Rattle.walrus_types.specs.Ranks.{digit, digits, form_rank, ranked};
 
-use walrus_forms::{CompositeType, ValType};
+use walrus_type_index::forms::{CompositeType, ValType};
 use walrus_type_index::items::Type;
 
 // The digit of a value type: its place among them, from 1.

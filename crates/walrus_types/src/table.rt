@@ -2,11 +2,11 @@
 ghost use Rattle.std.specs.Prelude.{◌≡◌, ◌↔◌, ◌+◌, ◌<◌, ◌^◌, length, ℕ, true, not, Contains, [], map, IfOk, IfErr, OnOk, OnErr, IfSome, MatchOption, IsTrue, Some, None};
 ghost use Rattle.std.specs.Bool.{OnTrue, OnFalse};
 ghost use Rattle.std.specs.Borrow.{sem};
-ghost use Rattle.walrus_forms.specs.Forms.{form_of, params_of, results_of};
-ghost use Rattle.walrus_forms.specs.Kinds.{function_kind, entry_kind, struct_kind, array_kind, declared_kind};
+ghost use Rattle.walrus_type_index.specs.walrus_items.walrus_forms.Forms.{form_of, params_of, results_of};
+ghost use Rattle.walrus_type_index.specs.walrus_items.walrus_forms.Kinds.{function_kind, entry_kind, struct_kind, array_kind, declared_kind};
 ghost use Rattle.walrus_type_index.specs.walrus_items.Items.{Group, item_of, group_of};
 ghost use Rattle.walrus_types.specs.Table.{next_id, type_at, IsLive, IsFunctionType, found_type, named_type, entries, Merges, HasMember, Deletes, DeletesAll, DeletesGroup, group_at, is_named_in};
-ghost use Rattle.walrus_arena.specs.Arena.{entries_from};
+ghost use Rattle.walrus_type_index.specs.walrus_items.walrus_arena.Arena.{entries_from};
 ghost use Rattle.std.specs.Fn.{FnOnceTakesAt, FnOnceReturnsAt};
 ghost use Rattle.std.specs.List.{range_with_len};
 ghost use Rattle.walrus_types.specs.Groups.{AddsGroup, IsBuilt, IsCause, member_kind};
@@ -21,8 +21,10 @@ use crate::iter::{RecGroups, Types};
 use std::alloc::{AllocError, Global};
 use std::marker::Model;
 use std::mem;
-use walrus_arena::{RecGroupId, RecGroupSpace, TombstoneArena, TypeId, TypeSpace};
-use walrus_forms::{ArrayType, CompositeType, FieldType, FunctionType, StructType, ValType};
+use walrus_type_index::arena::{RecGroupId, RecGroupSpace, TombstoneArena, TypeId, TypeSpace};
+use walrus_type_index::forms::{
+    ArrayType, CompositeType, FieldType, FunctionType, StructType, ValType,
+};
 use walrus_type_index::items::{RecGroup, Type};
 use walrus_type_index::{Spare, Target, Tree, lend, settle};
 

@@ -9,7 +9,7 @@ use Rattle.walrus_types.specs.Table.{Table, type_at}
 use Rattle.walrus_types.specs.Parsing.{AreBelow, IsPartOf, parsed, unparsed}
 use Rattle.walrus_known_sections.specs.Types.{kinds_in}
 use Rattle.wasm_grammar.specs.States.{State}
-use Rattle.wasm_sections.specs.Laws.{ReadsSections}
+use Rattle.walrus_known_sections.specs.wasm_sections.Laws.{ReadsSections}
 
 abbrev pub no_types : Table
 no_types = record { types = []; groups = [] }

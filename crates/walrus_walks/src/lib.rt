@@ -25,11 +25,12 @@ pub use visitor_mut::VisitorMut;
 pub mod instr {
     pub use walrus_instr::{
         AtomicOp, AtomicWidth, BinaryOp, Instr, InstrLocId, InstrSeq, InstrSeqType, LegacyCatch,
-        LoadKind, LoadSimdKind, MemArg, ShuffleIndices, StoreKind, TernaryOp, UnaryOp, Value,
+        LoadKind, LoadSimdKind, MemArg, ShuffleIndices, StoreKind, TernaryOp, TryTableCatch,
+        UnaryOp, Value,
     };
 
     pub mod type_table {
-        pub use walrus_instr::type_table::{ModuleTypes, ValType};
+        pub use walrus_instr::type_table::{ModuleTypes, RefType, ValType};
     }
 }
 

@@ -2,22 +2,22 @@
 use Rattle.std.specs.Prelude.{ℕ, ◌+◌, ◌<◌, nat_le, Bool, true, false, List, [], ◌∷◌, length, fold, Option, Result, Ok, Err, refl}
 use Rattle.std.specs.List.{flat_map, repeat}
 use Rattle.std.proofs.Common.{sym, ◌∙◌, arith}
-use Rattle.wasm_formats.specs.wasm_features.declared.WasmFeatures.{WasmFeatures}
-use Rattle.wasm_formats.specs.wasm_reader.declared.error.ErrorKind.TheVariants as kinds
+use Rattle.wasm_grammar.specs.wasm_formats.wasm_features.declared.WasmFeatures.{WasmFeatures}
+use Rattle.wasm_grammar.specs.wasm_formats.wasm_reader.declared.error.ErrorKind.TheVariants as kinds
 use Rattle.wasm_grammar.specs.walrus_forms.declared.value.ValType.{ValType}
 use Rattle.wasm_grammar.specs.wasm_operators.Operators.{Seen, flow_of, code_at, operator_at}
 use Rattle.wasm_grammar.specs.wasm_operators.Spellings.{SpellsEither}
 use Rattle.wasm_grammar.specs.wasm_operators.Taken.{either_taken}
 use Rattle.wasm_grammar.specs.wasm_operators.Finals.{operator_final}
-use Rattle.wasm_formats.specs.declared.fault.Limited.TheVariants as limits
-use Rattle.wasm_formats.specs.Stops.{Read, Nesting, Operator, Limit, Stop, ◌>>=◌}
-use Rattle.wasm_formats.specs.Formats.{Format, Whole, leaf}
-use Rattle.wasm_formats.specs.Bytes.{never, either, either_type}
-use Rattle.wasm_formats.specs.Joined.{checked, after, ends_at}
-use Rattle.wasm_formats.specs.Parts.{seen}
-use Rattle.wasm_formats.specs.Wholes.{u32, followed}
-use Rattle.wasm_formats.specs.Lists.{vec}
-use Rattle.wasm_formats.specs.Files.{entries, ended_by}
+use Rattle.wasm_grammar.specs.wasm_formats.declared.fault.Limited.TheVariants as limits
+use Rattle.wasm_grammar.specs.wasm_formats.Stops.{Read, Nesting, Operator, Limit, Stop, ◌>>=◌}
+use Rattle.wasm_grammar.specs.wasm_formats.Formats.{Format, Whole, leaf}
+use Rattle.wasm_grammar.specs.wasm_formats.Bytes.{never, either, either_type}
+use Rattle.wasm_grammar.specs.wasm_formats.Joined.{checked, after, ends_at}
+use Rattle.wasm_grammar.specs.wasm_formats.Parts.{seen}
+use Rattle.wasm_grammar.specs.wasm_formats.Wholes.{u32, followed}
+use Rattle.wasm_grammar.specs.wasm_formats.Lists.{vec}
+use Rattle.wasm_grammar.specs.wasm_formats.Files.{entries, ended_by}
 use Rattle.wasm_grammar.specs.Modules.{Placed, Body}
 use Rattle.wasm_grammar.specs.Values.{must, value_type}
 use Rattle.wasm_grammar.specs.States.{types_of}

@@ -1,11 +1,11 @@
 -- Lemmas: what is refused in a body is so whatever follows, but where its bytes end.
 use Rattle.std.specs.Prelude.{ℕ, ◌+◌, nat_le, length, fold, refl}
 use Rattle.std.proofs.Common.{sym, ◌∙◌}
-use Rattle.wasm_formats.specs.wasm_features.declared.WasmFeatures.{WasmFeatures}
-use Rattle.wasm_formats.specs.wasm_reader.declared.error.ErrorKind.TheVariants as kinds
-use Rattle.wasm_formats.specs.wasm_reader.Numbers.{Spells, unsigned, unsigned_at}
-use Rattle.wasm_formats.specs.wasm_reader.Spellings.{number_taken}
-use Rattle.wasm_formats.specs.wasm_reader.Finals.{unsigned_final}
+use Rattle.wasm_grammar.specs.wasm_formats.wasm_features.declared.WasmFeatures.{WasmFeatures}
+use Rattle.wasm_grammar.specs.wasm_formats.wasm_reader.declared.error.ErrorKind.TheVariants as kinds
+use Rattle.wasm_grammar.specs.wasm_formats.wasm_reader.Numbers.{Spells, unsigned, unsigned_at}
+use Rattle.wasm_grammar.specs.wasm_formats.wasm_reader.Spellings.{number_taken}
+use Rattle.wasm_grammar.specs.wasm_formats.wasm_reader.Finals.{unsigned_final}
 use Rattle.wasm_operator_names.specs.wasm_ref_types.ReadTypes.{value_at}
 use Rattle.wasm_operator_names.specs.wasm_ref_types.TypeSpellings.{SpellsValue}
 use Rattle.wasm_operator_names.specs.wasm_ref_types.TypesTaken.{value_taken}
@@ -15,15 +15,15 @@ use Rattle.wasm_grammar.specs.wasm_operators.Operators.{Seen, operator_at}
 use Rattle.wasm_grammar.specs.wasm_operators.Spellings.{SpellsEither}
 use Rattle.wasm_grammar.specs.wasm_operators.Taken.{either_taken}
 use Rattle.wasm_grammar.specs.wasm_operators.Finals.{operator_final}
-use Rattle.wasm_formats.specs.declared.fault.Form.TheVariants as unsupported
-use Rattle.wasm_formats.specs.declared.fault.Limited.TheVariants as limits
-use Rattle.wasm_formats.specs.Stops.{Read, Nesting, Operator, Unsupported, Limit}
-use Rattle.wasm_formats.specs.Formats.{leaf}
-use Rattle.wasm_formats.specs.Bytes.{never, either}
-use Rattle.wasm_formats.specs.Joined.{checked, ends_at}
-use Rattle.wasm_formats.specs.Parts.{seen}
-use Rattle.wasm_formats.specs.Wholes.{u32}
-use Rattle.wasm_formats.specs.Files.{entries}
+use Rattle.wasm_grammar.specs.wasm_formats.declared.fault.Form.TheVariants as unsupported
+use Rattle.wasm_grammar.specs.wasm_formats.declared.fault.Limited.TheVariants as limits
+use Rattle.wasm_grammar.specs.wasm_formats.Stops.{Read, Nesting, Operator, Unsupported, Limit}
+use Rattle.wasm_grammar.specs.wasm_formats.Formats.{leaf}
+use Rattle.wasm_grammar.specs.wasm_formats.Bytes.{never, either}
+use Rattle.wasm_grammar.specs.wasm_formats.Joined.{checked, ends_at}
+use Rattle.wasm_grammar.specs.wasm_formats.Parts.{seen}
+use Rattle.wasm_grammar.specs.wasm_formats.Wholes.{u32}
+use Rattle.wasm_grammar.specs.wasm_formats.Files.{entries}
 use Rattle.wasm_file_formats.specs.Closed.{IsClosed, IsClosedWhole, closed_leaf, closed_checked, closed_seen, closed_after, closed_if, closed_never, closed_ends_at, closed_followed, closed_entries, closed_vec, closed_ended}
 use Rattle.wasm_grammar.specs.TypeWords.{value_of, value_once}
 use Rattle.wasm_grammar.specs.Values.{must, named_below, value_type}

@@ -3,8 +3,8 @@ use Rattle.std.specs.Prelude.{ℕ, ◌+◌, ◌-◌, ◌≤◌, ◌≡◌, ◌�
 use Rattle.std.specs.Option.{is_some}
 use Rattle.wasm_grammar.specs.walrus_forms.Forms.{params_of}
 use Rattle.wasm_grammar.specs.walrus_forms.Kinds.{Kind}
-use Rattle.wasm_formats.specs.Stops.{Stop, stop, moved, before, ◌>>=◌}
-use Rattle.wasm_formats.specs.Formats.{Small}
+use Rattle.wasm_grammar.specs.wasm_formats.Stops.{Stop, stop, moved, before, ◌>>=◌}
+use Rattle.wasm_grammar.specs.wasm_formats.Formats.{Small}
 use Rattle.wasm_grammar.specs.Modules.{Function, Origin, Imported, Own, Module, Body}
 use Rattle.wasm_grammar.specs.States.{Chunk, types_of}
 use Rattle.wasm_body_grammar.specs.Rules.{Around}

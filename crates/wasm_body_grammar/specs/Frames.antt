@@ -3,7 +3,7 @@
 use Rattle.std.specs.Prelude.{ℕ, ◌-◌, List, [], ◌∷◌, length, Option, Some, None, Result, Ok, Err}
 use Rattle.wasm_grammar.specs.wasm_operators.declared.entry.Flow.{Flow}
 use Rattle.wasm_grammar.specs.wasm_operators.declared.entry.Flow.TheVariants as flows
-use Rattle.wasm_formats.specs.Stops.{Trouble, Nesting, Position}
+use Rattle.wasm_grammar.specs.wasm_formats.Stops.{Trouble, Nesting, Position}
 
 pub data Frame : Type 0 where
   -- the body, a block, a loop, a `try_table`, or the second part of an `if`

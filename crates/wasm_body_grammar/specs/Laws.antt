@@ -1,8 +1,8 @@
 -- Laws of bodies.
 use Rattle.std.specs.Prelude.{ℕ, ◌<◌, ◌≤◌, ◌≡◌, ◌⊎◌, false, List, ◌++◌, length, Ok, Err}
-use Rattle.wasm_formats.specs.wasm_reader.Laws.{IsPrefixFree}
-use Rattle.wasm_formats.specs.Stops.{Nesting, Stop, stop, moved}
-use Rattle.wasm_formats.specs.Formats.{Small}
+use Rattle.wasm_grammar.specs.wasm_formats.wasm_reader.Laws.{IsPrefixFree}
+use Rattle.wasm_grammar.specs.wasm_formats.Stops.{Nesting, Stop, stop, moved}
+use Rattle.wasm_grammar.specs.wasm_formats.Formats.{Small}
 use Rattle.wasm_file_formats.specs.Closed.{is_cut}
 use Rattle.wasm_grammar.specs.Modules.{Body}
 use Rattle.wasm_body_grammar.specs.Rules.{Around}

@@ -13,8 +13,8 @@ use Rattle.wasm_grammar.specs.wasm_operators.declared.entry.Flow.{Flow}
 use Rattle.wasm_grammar.specs.wasm_operators.declared.entry.Flow.TheVariants as flows
 use Rattle.wasm_grammar.specs.wasm_operators.Operators.{Seen, flow_of}
 use Rattle.wasm_operator_names.specs.Names.{Name, operator_names}
-use Rattle.wasm_formats.specs.Stops.{Trouble, Read, Header, SectionOrder, SectionSize, Count, Index, TypeForm, ConstExpr, OffsetType, Nesting, Position, Operator, Unsupported, DuplicateExport, Bounds, Limit}
-use Rattle.wasm_formats.specs.declared.fault.Form.TheVariants as unsupported
+use Rattle.wasm_grammar.specs.wasm_formats.Stops.{Trouble, Read, Header, SectionOrder, SectionSize, Count, Index, TypeForm, ConstExpr, OffsetType, Nesting, Position, Operator, Unsupported, DuplicateExport, Bounds, Limit}
+use Rattle.wasm_grammar.specs.wasm_formats.declared.fault.Form.TheVariants as unsupported
 use Rattle.wasm_grammar.specs.States.{types_of}
 use Rattle.wasm_grammar.specs.Values.{must, first_of}
 use Rattle.wasm_body_grammar.specs.Frames.{Frame, Plain, Choice, Trying, Catching, Caught, frames_after, turned, label_count}

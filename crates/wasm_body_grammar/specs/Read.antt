@@ -2,8 +2,8 @@
 use Rattle.std.specs.Prelude.{ℕ, ◌≡◌, ◌⊎◌, true, List, [], ◌∷◌, ◌++◌, length, fold, Result, Ok, Err, refl}
 use Rattle.std.proofs.Common.{ap, sym, ◌∙◌, subst, arith, inl, inr}
 use Rattle.std.proofs.lemmas.List.{append_assoc, append-nil}
-use Rattle.wasm_formats.specs.Stops.{Nesting, Stop, stop, moved}
-use Rattle.wasm_formats.specs.Formats.{InsideAll, front_small, done_is, done_refused, refused_is, step_ok, step_err}
+use Rattle.wasm_grammar.specs.wasm_formats.Stops.{Nesting, Stop, stop, moved}
+use Rattle.wasm_grammar.specs.wasm_formats.Formats.{InsideAll, front_small, done_is, done_refused, refused_is, step_ok, step_err}
 use Rattle.wasm_grammar.specs.Modules.{Body}
 use Rattle.wasm_body_grammar.specs.Rules.{Around}
 use Rattle.wasm_body_grammar.specs.Bodies.{Parts, Point, next_total, next_point, opened, is_closed, operator_in, body, body_of}

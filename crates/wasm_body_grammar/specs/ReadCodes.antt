@@ -1,8 +1,8 @@
 -- Lemmas: the bodies of a module are parsed as they read.
 use Rattle.std.specs.Prelude.{ℕ, ◌-◌, ◌+◌, ◌≤◌, ◌≡◌, List, [], ◌∷◌, Result, Ok, Err, refl}
 use Rattle.std.proofs.Common.{ap, sym, ◌∙◌, subst, arith, inl, inr}
-use Rattle.wasm_formats.specs.Stops.{Stop, stop, moved, before, ◌>>=◌}
-use Rattle.wasm_formats.specs.Formats.{done_is, done_refused, refused_is, step_ok, step_err}
+use Rattle.wasm_grammar.specs.wasm_formats.Stops.{Stop, stop, moved, before, ◌>>=◌}
+use Rattle.wasm_grammar.specs.wasm_formats.Formats.{done_is, done_refused, refused_is, step_ok, step_err}
 use Rattle.wasm_grammar.specs.Modules.{Body}
 use Rattle.wasm_body_grammar.specs.Rules.{Around}
 use Rattle.wasm_body_grammar.specs.Bodies.{body_at}

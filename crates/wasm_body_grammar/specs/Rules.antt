@@ -2,7 +2,7 @@
 use Rattle.std.specs.Prelude.{ℕ, ◌+◌, ◌^◌, ◌==◌, ◌&&◌, ◌||◌, nat_lt, Bool, true, false, not, List, [], ◌∷◌, length, Option, Some, None, Ok, Err, if◌then◌else◌, slice_get, slice_index_or}
 use Rattle.std.specs.List.{list_any, list_all, range_with_len}
 use Rattle.std.specs.Option.{is_some, option_map}
-use Rattle.wasm_formats.specs.wasm_features.declared.WasmFeatures.{WasmFeatures}
+use Rattle.wasm_grammar.specs.wasm_formats.wasm_features.declared.WasmFeatures.{WasmFeatures}
 use Rattle.wasm_grammar.specs.walrus_forms.declared.value.ValType.{ValType}
 use Rattle.wasm_grammar.specs.walrus_forms.Forms.{Form, FunctionForm, StructForm, ArrayForm}
 use Rattle.wasm_grammar.specs.walrus_forms.Kinds.{Kind, function_kind}
@@ -15,10 +15,10 @@ use Rattle.wasm_operator_names.specs.wasm_immediates.Items as immediates
 use Rattle.wasm_operator_names.specs.wasm_immediates.Items.{Item, Heap, Block, Access, ManyValues}
 use Rattle.wasm_grammar.specs.wasm_operators.Operators.{Seen, flow_of}
 use Rattle.wasm_operator_names.specs.Names.{Name, operator_names}
-use Rattle.wasm_formats.specs.declared.fault.Space.{Space}
-use Rattle.wasm_formats.specs.declared.fault.Space.TheVariants as spaces
-use Rattle.wasm_formats.specs.declared.fault.Form.TheVariants as unsupported
-use Rattle.wasm_formats.specs.Stops.{Trouble, Index, TypeForm, Position, Unsupported, Bounds}
+use Rattle.wasm_grammar.specs.wasm_formats.declared.fault.Space.{Space}
+use Rattle.wasm_grammar.specs.wasm_formats.declared.fault.Space.TheVariants as spaces
+use Rattle.wasm_grammar.specs.wasm_formats.declared.fault.Form.TheVariants as unsupported
+use Rattle.wasm_grammar.specs.wasm_formats.Stops.{Trouble, Index, TypeForm, Position, Unsupported, Bounds}
 use Rattle.wasm_grammar.specs.Modules.{Memory, Module}
 use Rattle.wasm_grammar.specs.TypeWords.{heap_of, value_of, value_from}
 use Rattle.wasm_grammar.specs.Values.{must, first_of}

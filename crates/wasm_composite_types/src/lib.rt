@@ -18,7 +18,7 @@ pub use list::TypeList;
 // Passed on to crates above, which then list this one alone.
 pub mod reader {
     pub use wasm_ref_types::reader::{
-        BinaryReader, Error, ErrorKind, FromReader, Result, WasmFeatures,
+        BinaryReader, Error, ErrorKind, FromReader, Ieee32, Ieee64, Result, WasmFeatures,
     };
 
     pub mod features {
@@ -27,5 +27,5 @@ pub mod reader {
 }
 
 pub mod ref_types {
-    pub use wasm_ref_types::{HeapType, ValType};
+    pub use wasm_ref_types::{HeapType, PackedIndex, ValType};
 }

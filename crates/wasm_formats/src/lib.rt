@@ -5,3 +5,8 @@
 mod fault;
 
 pub use fault::{Form, Limited, Space};
+
+// Passed on to crates above, which then list this one alone.
+pub mod reader {
+    pub use wasm_reader::{Error, ErrorKind};
+}

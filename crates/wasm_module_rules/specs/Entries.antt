@@ -13,11 +13,11 @@ use Rattle.wasm_formats.specs.Bytes.{either_type}
 use Rattle.wasm_formats.specs.Joined.{after}
 use Rattle.wasm_formats.specs.Lists.{EntryRules}
 use Rattle.wasm_formats.specs.Led.{led}
-use Rattle.wasm_grammar.specs.Modules.{Own}
-use Rattle.wasm_grammar.specs.Values.{must, first_of, memory_limits}
-use Rattle.wasm_grammar.specs.States.{State, count_of, most, has_room, room_test, function_type}
-use Rattle.wasm_sections.specs.Entities.{no_body, function_entry, add_function, TableEntry, table_type, initialised, table_of, table_apart, table_some, table_wants, table_entry, add_table, memory_of, memory_entry, add_memory, tag_type, tag_entry, add_tag}
-use Rattle.wasm_sections.specs.Segments.{ElementEntry, element_flags, element_form, element_entry, add_element, element_of, DataEntry, data_flags, data_form, data_entry, add_data, segment_of}
+use Rattle.wasm_modules.specs.wasm_body_grammar.wasm_grammar.Modules.{Own}
+use Rattle.wasm_modules.specs.wasm_body_grammar.wasm_grammar.Values.{must, first_of, memory_limits}
+use Rattle.wasm_modules.specs.wasm_body_grammar.wasm_grammar.States.{State, count_of, most, has_room, room_test, function_type}
+use Rattle.wasm_modules.specs.wasm_sections.Entities.{no_body, function_entry, add_function, TableEntry, table_type, initialised, table_of, table_apart, table_some, table_wants, table_entry, add_table, memory_of, memory_entry, add_memory, tag_type, tag_entry, add_tag}
+use Rattle.wasm_modules.specs.wasm_sections.Segments.{ElementEntry, element_flags, element_form, element_entry, add_element, element_of, DataEntry, data_flags, data_form, data_entry, add_data, segment_of}
 
 abbrev pub AllRuled : {A : Type 0} → (A → Type 0) → List A → Type 0
 AllRuled Rule [] = Unit {0}

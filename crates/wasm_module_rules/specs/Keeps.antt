@@ -11,13 +11,13 @@ use Rattle.wasm_formats.specs.declared.fault.Space.{Space}
 use Rattle.wasm_formats.specs.declared.fault.Space.TheVariants as spaces
 use Rattle.wasm_formats.specs.Stops.{Trouble}
 use Rattle.wasm_formats.specs.Bytes.{either_type}
-use Rattle.wasm_grammar.specs.Modules.{Item, Function, Table, Memory, Tag, Global, Import, Export, Elements, Functions, Expressions, Element, Segment, Mode, Active, Passive, Declared, Module}
-use Rattle.wasm_grammar.specs.Values.{must, first_of, in_order}
-use Rattle.wasm_grammar.specs.States.{State, types_of, count_of, form_test}
-use Rattle.wasm_sections.specs.TypeSection.{GroupEntry, type_group, add_group}
-use Rattle.wasm_sections.specs.Entities.{with_import, with_function, with_table, with_memory, with_tag, with_global}
-use Rattle.wasm_sections.specs.Exports.{has_name, ExportEntry, add_export, set_start, kind_space}
-use Rattle.wasm_sections.specs.Segments.{ElementEntry, add_element, element_of, DataEntry, add_data, segment_of}
+use Rattle.wasm_modules.specs.wasm_body_grammar.wasm_grammar.Modules.{Item, Function, Table, Memory, Tag, Global, Import, Export, Elements, Functions, Expressions, Element, Segment, Mode, Active, Passive, Declared, Module}
+use Rattle.wasm_modules.specs.wasm_body_grammar.wasm_grammar.Values.{must, first_of, in_order}
+use Rattle.wasm_modules.specs.wasm_body_grammar.wasm_grammar.States.{State, types_of, count_of, form_test}
+use Rattle.wasm_modules.specs.wasm_sections.TypeSection.{GroupEntry, type_group, add_group}
+use Rattle.wasm_modules.specs.wasm_sections.Entities.{with_import, with_function, with_table, with_memory, with_tag, with_global}
+use Rattle.wasm_modules.specs.wasm_sections.Exports.{has_name, ExportEntry, add_export, set_start, kind_space}
+use Rattle.wasm_modules.specs.wasm_sections.Segments.{ElementEntry, add_element, element_of, DataEntry, add_data, segment_of}
 use Rattle.wasm_module_rules.specs.Linked.{Each, IsFunctionType, IsThere, AreDistinct, GoesInto, AllBelow, AreListed, IsBelow, IsLimited, IsLinked}
 
 -- ---- slots

@@ -4,7 +4,7 @@ use Rattle.std.specs.List.{list_any}
 use Rattle.std.proofs.Common.{inl, inr}
 use Rattle.std.proofs.lemmas.Bool.{lt-ltb, le-ltb}
 use Rattle.wasm_features.specs.declared.WasmFeatures.{WasmFeatures}
-use Rattle.wasm_types.specs.declared.subtype.SubType.{SubType}
+use Rattle.wasm_modules.specs.wasm_types.declared.subtype.SubType.{SubType}
 use Rattle.wasm_formats.specs.declared.fault.Space.{Space}
 use Rattle.wasm_formats.specs.declared.fault.Space.TheVariants as spaces
 use Rattle.wasm_formats.specs.declared.fault.Limited.{Limited}
@@ -13,13 +13,13 @@ use Rattle.wasm_formats.specs.Stops.{Limit, stop}
 use Rattle.wasm_formats.specs.Formats.{Format, Stands}
 use Rattle.wasm_formats.specs.Joined.{after}
 use Rattle.wasm_file_formats.specs.Rooms.{if_room}
-use Rattle.wasm_grammar.specs.Exprs.{expr}
-use Rattle.wasm_grammar.specs.States.{State, count_of, most, limited, known, function_type, has_room, room_test}
-use Rattle.wasm_sections.specs.TypeNames.{sub_names, kind_of}
-use Rattle.wasm_sections.specs.TypeSection.{is_told, sub_test}
-use Rattle.wasm_sections.specs.Entities.{ImportEntry, import_test, function_entry, tag_type, tag_entry, global_type, global_entry}
-use Rattle.wasm_sections.specs.Exports.{has_name, name_test}
-use Rattle.wasm_sections.specs.Segments.{element_flags, element_form, element_entry, data_flags, data_form, data_entry}
+use Rattle.wasm_modules.specs.wasm_body_grammar.wasm_grammar.Exprs.{expr}
+use Rattle.wasm_modules.specs.wasm_body_grammar.wasm_grammar.States.{State, count_of, most, limited, known, function_type, has_room, room_test}
+use Rattle.wasm_modules.specs.wasm_sections.TypeNames.{sub_names, kind_of}
+use Rattle.wasm_modules.specs.wasm_sections.TypeSection.{is_told, sub_test}
+use Rattle.wasm_modules.specs.wasm_sections.Entities.{ImportEntry, import_test, function_entry, tag_type, tag_entry, global_type, global_entry}
+use Rattle.wasm_modules.specs.wasm_sections.Exports.{has_name, name_test}
+use Rattle.wasm_modules.specs.wasm_sections.Segments.{element_flags, element_form, element_entry, data_flags, data_form, data_entry}
 
 -- a value stands at the front of the bytes, and meets its rules
 abbrev pub StandsThere : {A : Type 0} → Format A → List ℕ → Type 0

@@ -2,10 +2,10 @@
 use Rattle.std.specs.Prelude.{ℕ, ◌<◌, ◌≡◌, true, false, List, [], ◌∷◌, ◌++◌, length, Option, Some, None, slice_get}
 use Rattle.std.specs.List.{list_any}
 use Rattle.wasm_features.specs.declared.WasmFeatures.{WasmFeatures}
-use Rattle.wasm_grammar.specs.Modules.{Item, Function, Table, Memory, Tag, Mode, Passive, Declared, Active, Elements, Functions, Expressions, Element, Segment, Import, Export, Module}
-use Rattle.wasm_grammar.specs.Values.{in_order, is_some}
-use Rattle.wasm_grammar.specs.States.{types_of, count_of, form_test}
-use Rattle.wasm_sections.specs.Exports.{has_name}
+use Rattle.wasm_modules.specs.wasm_body_grammar.wasm_grammar.Modules.{Item, Function, Table, Memory, Tag, Mode, Passive, Declared, Active, Elements, Functions, Expressions, Element, Segment, Import, Export, Module}
+use Rattle.wasm_modules.specs.wasm_body_grammar.wasm_grammar.Values.{in_order, is_some}
+use Rattle.wasm_modules.specs.wasm_body_grammar.wasm_grammar.States.{types_of, count_of, form_test}
+use Rattle.wasm_modules.specs.wasm_sections.Exports.{has_name}
 use Rattle.wasm_modules.specs.Modules.{Reads}
 
 -- of each filled slot

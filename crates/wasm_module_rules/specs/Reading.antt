@@ -13,19 +13,19 @@ use Rattle.wasm_formats.specs.Joined.{after}
 use Rattle.wasm_formats.specs.Wholes.{whole, sized}
 use Rattle.wasm_file_formats.specs.Counted.{counted}
 use Rattle.wasm_formats.specs.Lists.{SpellsEntries, EntryRules}
-use Rattle.wasm_grammar.specs.Modules.{Body, Imported, Function, Element, Import, Export}
-use Rattle.wasm_grammar.specs.States.{State, count_of, nothing_yet}
-use Rattle.wasm_body_grammar.specs.Codes.{own_type, filled_with, with_bodies}
-use Rattle.wasm_sections.specs.TypeSection.{GroupEntry, group, add_group}
-use Rattle.wasm_sections.specs.Entities.{TableType, MemoryType, TagType, Entity, FunctionOf, TableOf, MemoryOf, GlobalOf, TagOf, ImportEntry, entity, import_entry, add_entity, add_import, import_of, with_import, table_of, memory_of, global_of, space_of, next_number, function_entry, add_function, no_body, TableEntry, initialised, table_type, table_entry, add_table, memory_entry, add_memory, tag_type, tag_entry, add_tag, GlobalEntry, global_entry, add_global}
-use Rattle.wasm_grammar.specs.Modules.{Own}
-use Rattle.wasm_sections.specs.Exports.{ExportEntry, export_entry, add_export, kind_space}
-use Rattle.wasm_sections.specs.Segments.{functions, element_flags, data_flags, ElementForm, ActiveFunctions, PassiveFunctions, FunctionsInto, DeclaredFunctions, ActiveExpressions, PassiveExpressions, ExpressionsInto, DeclaredExpressions, ElementEntry, element_form, element_entry, add_element, element_of, DataForm, ActiveData, PassiveData, DataInto, DataEntry, data_form, data_entry, add_data, segment_of}
-use Rattle.wasm_sections.specs.Sections.{list_of, data_test, Section, CustomSection, TypeSection, ImportSection, FunctionSection, TableSection, MemorySection, TagSection, GlobalSection, ExportSection, StartSection, ElementSection, DataCountSection, CodeSection, DataSection, types_once, imports_once, functions_once, tables_once, memories_once, tags_once, globals_once, exports_once, elements_once, data_once, id_of, section, SectionEntry, section_entry, put, next}
-use Rattle.wasm_sections.specs.Ids.{either_case, section_id}
-use Rattle.wasm_sections.specs.Modules.{FileEntry, file, state_of}
+use Rattle.wasm_modules.specs.wasm_body_grammar.wasm_grammar.Modules.{Body, Imported, Function, Element, Import, Export}
+use Rattle.wasm_modules.specs.wasm_body_grammar.wasm_grammar.States.{State, count_of, nothing_yet}
+use Rattle.wasm_modules.specs.wasm_body_grammar.Codes.{own_type, filled_with, with_bodies}
+use Rattle.wasm_modules.specs.wasm_sections.TypeSection.{GroupEntry, group, add_group}
+use Rattle.wasm_modules.specs.wasm_sections.Entities.{TableType, MemoryType, TagType, Entity, FunctionOf, TableOf, MemoryOf, GlobalOf, TagOf, ImportEntry, entity, import_entry, add_entity, add_import, import_of, with_import, table_of, memory_of, global_of, space_of, next_number, function_entry, add_function, no_body, TableEntry, initialised, table_type, table_entry, add_table, memory_entry, add_memory, tag_type, tag_entry, add_tag, GlobalEntry, global_entry, add_global}
+use Rattle.wasm_modules.specs.wasm_body_grammar.wasm_grammar.Modules.{Own}
+use Rattle.wasm_modules.specs.wasm_sections.Exports.{ExportEntry, export_entry, add_export, kind_space}
+use Rattle.wasm_modules.specs.wasm_sections.Segments.{functions, element_flags, data_flags, ElementForm, ActiveFunctions, PassiveFunctions, FunctionsInto, DeclaredFunctions, ActiveExpressions, PassiveExpressions, ExpressionsInto, DeclaredExpressions, ElementEntry, element_form, element_entry, add_element, element_of, DataForm, ActiveData, PassiveData, DataInto, DataEntry, data_form, data_entry, add_data, segment_of}
+use Rattle.wasm_modules.specs.wasm_sections.Sections.{list_of, data_test, Section, CustomSection, TypeSection, ImportSection, FunctionSection, TableSection, MemorySection, TagSection, GlobalSection, ExportSection, StartSection, ElementSection, DataCountSection, CodeSection, DataSection, types_once, imports_once, functions_once, tables_once, memories_once, tags_once, globals_once, exports_once, elements_once, data_once, id_of, section, SectionEntry, section_entry, put, next}
+use Rattle.wasm_modules.specs.wasm_sections.Ids.{either_case, section_id}
+use Rattle.wasm_modules.specs.wasm_sections.Modules.{FileEntry, file, state_of}
 use Rattle.wasm_modules.specs.Modules.{module_of}
-use Rattle.wasm_grammar.specs.Values.{in_order, is_shared}
+use Rattle.wasm_modules.specs.wasm_body_grammar.wasm_grammar.Values.{in_order, is_shared}
 use Rattle.wasm_module_rules.specs.Linked.{Each, IsFunctionType, IsThere, IsLinked, IsLimited, GoesInto, AllBelow, AreListed, ReadModulesAreLinked}
 use Rattle.wasm_module_rules.specs.Keeps.{each_later, below_later, must_holds, first_none, not_true, listed_later, and_both, shared_has, room_rules, there_later, group_linked, function_linked, table_linked, memory_linked, tag_linked, global_linked, element_linked, data_linked, export_linked, start_linked, import_linked}
 

@@ -3,8 +3,8 @@ use Rattle.std.specs.Prelude.{ℕ, ◌+◌, ◌-◌, ◌≤◌, ◌≡◌, ◌�
 use Rattle.wasm_features.specs.declared.WasmFeatures.{WasmFeatures}
 use Rattle.wasm_formats.specs.Stops.{Trouble, Stop, stop}
 use Rattle.wasm_formats.specs.Formats.{Small}
-use Rattle.wasm_grammar.specs.Modules.{Module}
-use Rattle.wasm_grammar.specs.States.{State}
+use Rattle.wasm_sections.specs.wasm_grammar.Modules.{Module}
+use Rattle.wasm_sections.specs.wasm_grammar.States.{State}
 use Rattle.wasm_body_grammar.specs.Codes.{StopsCodes}
 use Rattle.wasm_sections.specs.Laws.{ReadsSections, StopsSections, FileIsCut}
 use Rattle.wasm_modules.specs.Modules.{around, codes, code_left, IsShort, Reads, StopsAt, Stops, module_at}

@@ -5,8 +5,8 @@ use Rattle.wasm_features.specs.declared.WasmFeatures.{WasmFeatures}
 use Rattle.walrus_forms.specs.Renaming.{at}
 use Rattle.walrus_types.specs.Parsing.{parsed, unparsed}
 use Rattle.wasm_formats.specs.Stops.{Trouble, Stop, ◌>>=◌}
-use Rattle.wasm_grammar.specs.Modules.{Body, Module}
-use Rattle.wasm_grammar.specs.States.{Chunk, State}
+use Rattle.wasm_sections.specs.wasm_grammar.Modules.{Body, Module}
+use Rattle.wasm_sections.specs.wasm_grammar.States.{Chunk, State}
 use Rattle.wasm_body_grammar.specs.Rules.{Around}
 use Rattle.wasm_body_grammar.specs.Codes.{Code, codes_of, codes_at, ReadsCodes, StopsCodes, with_bodies}
 use Rattle.wasm_sections.specs.Modules.{file, state_of}

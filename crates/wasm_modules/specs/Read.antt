@@ -5,8 +5,8 @@ use Rattle.std.proofs.lemmas.List.{length-append}
 use Rattle.wasm_features.specs.declared.WasmFeatures.{WasmFeatures}
 use Rattle.wasm_formats.specs.Stops.{Trouble, Stop, stop, moved, ◌>>=◌}
 use Rattle.wasm_formats.specs.Formats.{Small, done_is, done_refused, refused_is, step_ok, step_err}
-use Rattle.wasm_grammar.specs.Modules.{Body, Module}
-use Rattle.wasm_grammar.specs.States.{Chunk, State}
+use Rattle.wasm_sections.specs.wasm_grammar.Modules.{Body, Module}
+use Rattle.wasm_sections.specs.wasm_grammar.States.{Chunk, State}
 use Rattle.wasm_body_grammar.specs.Rules.{Around}
 use Rattle.wasm_body_grammar.specs.Codes.{Code, coded, codes_at, StopsCodes, AreBytes, AreInside}
 use Rattle.wasm_body_grammar.specs.ReadCodes.{parsing_reads_all}

@@ -4,7 +4,7 @@ use Rattle.walrus_forms.specs.declared.value.ValType.TheVariants.{I32}
 use Rattle.walrus_forms.specs.Kinds.{function_kind}
 use Rattle.wasm_formats.specs.declared.fault.Space.{Space}
 use Rattle.wasm_formats.specs.declared.fault.Space.TheVariants as spaces
-use Rattle.wasm_grammar.specs.Modules.{Imported, Own, Module, empty}
+use Rattle.wasm_body_grammar.specs.wasm_grammar.Modules.{Imported, Own, Module, empty}
 use Rattle.wasm_name_payloads.specs.Names.{TheModule, ALocal, Given, given, item_in, names_in, last_name}
 use Rattle.wasm_name_payloads.specs.Producers.{Value, Field, producers_in, processed, processed_by, walrus, version}
 use Rattle.wasm_name_payloads.specs.Written.{NameMap, Names, payload_bytes, producers_bytes}

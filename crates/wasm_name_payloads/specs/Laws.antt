@@ -2,7 +2,7 @@
 use Rattle.std.specs.Prelude.{ℕ, ◌≡◌, List, [], ◌∷◌, ◌++◌, Option, Some}
 use Rattle.std.specs.List.{flat_map}
 use Rattle.wasm_formats.specs.Formats.{Small}
-use Rattle.wasm_grammar.specs.Modules.{Module}
+use Rattle.wasm_body_grammar.specs.wasm_grammar.Modules.{Module}
 use Rattle.wasm_name_payloads.specs.Keepers.{Behind, Wrong}
 use Rattle.wasm_name_payloads.specs.Names.{Bearer, Given, given, names_in, names_rest, SpellsNames, last_name}
 use Rattle.wasm_name_payloads.specs.Producers.{Field, fields, producers_in, with_entry}

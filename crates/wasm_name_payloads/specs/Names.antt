@@ -14,9 +14,9 @@ use Rattle.wasm_formats.specs.Formats.{Format, leaf}
 use Rattle.wasm_formats.specs.Bytes.{byte}
 use Rattle.wasm_formats.specs.Joined.{checked, after}
 use Rattle.wasm_formats.specs.Wholes.{u32}
-use Rattle.wasm_grammar.specs.Modules.{Item, Origin, Imported, Own, Body, Function, Custom, Module}
-use Rattle.wasm_grammar.specs.Values.{must, run}
-use Rattle.wasm_grammar.specs.States.{count_of}
+use Rattle.wasm_body_grammar.specs.wasm_grammar.Modules.{Item, Origin, Imported, Own, Body, Function, Custom, Module}
+use Rattle.wasm_body_grammar.specs.wasm_grammar.Values.{must, run}
+use Rattle.wasm_body_grammar.specs.wasm_grammar.States.{count_of}
 use Rattle.wasm_body_grammar.specs.Codes.{param_count}
 use Rattle.wasm_name_payloads.specs.Keepers.{Rest, Keeper, one}
 use Rattle.wasm_name_payloads.specs.Joined.{times, led, each}

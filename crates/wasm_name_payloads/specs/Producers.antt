@@ -6,7 +6,7 @@ pub use Rattle.wasm_producers.specs.Entries.{Value, Field, with_value, with_entr
 use Rattle.wasm_formats.specs.Formats.{Format}
 use Rattle.wasm_formats.specs.Joined.{after, built}
 use Rattle.wasm_formats.specs.Lists.{vec}
-use Rattle.wasm_grammar.specs.Modules.{Custom, Module}
+use Rattle.wasm_body_grammar.specs.wasm_grammar.Modules.{Custom, Module}
 use Rattle.wasm_name_payloads.specs.Keepers.{Keeper, one}
 use Rattle.wasm_name_payloads.specs.Names.{text, counted, same_name}
 

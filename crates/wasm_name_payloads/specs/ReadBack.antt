@@ -13,9 +13,9 @@ use Rattle.wasm_formats.specs.declared.fault.Space.TheVariants as spaces
 use Rattle.wasm_formats.specs.Stops.{Index}
 use Rattle.wasm_formats.specs.Formats.{Format}
 use Rattle.wasm_formats.specs.Lists.{SpellsEntries, EntryRules, vec}
-use Rattle.wasm_grammar.specs.Modules.{Module}
-use Rattle.wasm_grammar.specs.Values.{must}
-use Rattle.wasm_grammar.specs.States.{count_of}
+use Rattle.wasm_body_grammar.specs.wasm_grammar.Modules.{Module}
+use Rattle.wasm_body_grammar.specs.wasm_grammar.Values.{must}
+use Rattle.wasm_body_grammar.specs.wasm_grammar.States.{count_of}
 use Rattle.wasm_name_payloads.specs.Keepers.{Behind, Kept, kept, Keeper, one}
 use Rattle.wasm_name_payloads.specs.Joined.{times, led, flat_map_append}
 use Rattle.wasm_name_payloads.specs.Windows.{SpellsParts, total_again}

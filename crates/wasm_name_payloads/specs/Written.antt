@@ -5,8 +5,8 @@ use Rattle.std.specs.Str.{is_utf8}
 use Rattle.wasm_reader.specs.Shortest.{u32_bytes}
 use Rattle.wasm_formats.specs.declared.fault.Space.{Space}
 use Rattle.wasm_formats.specs.declared.fault.Space.TheVariants as spaces
-use Rattle.wasm_grammar.specs.Modules.{Module}
-use Rattle.wasm_grammar.specs.States.{count_of}
+use Rattle.wasm_body_grammar.specs.wasm_grammar.Modules.{Module}
+use Rattle.wasm_body_grammar.specs.wasm_grammar.States.{count_of}
 use Rattle.wasm_name_payloads.specs.Names.{Given, given, TheModule, ALocal, item_in, named_below, local_count, space_number}
 use Rattle.wasm_name_payloads.specs.Producers.{Value, Field}
 

@@ -9,3 +9,14 @@ mod table;
 
 pub use entry::{Entry, Flow, Gate, Kind};
 pub use op_code::OpCode;
+
+// Passed on to crates above, which then list this one alone.
+pub mod reader {
+    pub use wasm_immediates::reader::{
+        BinaryReader, Error, ErrorKind, FromReader, Ieee32, Ieee64, Result,
+    };
+}
+
+pub mod ref_types {
+    pub use wasm_immediates::ref_types::ValType;
+}

@@ -21,7 +21,9 @@ pub mod features {
 }
 
 pub mod reader {
-    pub use wasm_reader::{BinaryReader, Error, ErrorKind, FromReader, Result, WasmFeatures};
+    pub use wasm_reader::{
+        BinaryReader, Error, ErrorKind, FromReader, Ieee32, Ieee64, Result, WasmFeatures,
+    };
 
     pub mod features {
         pub use wasm_reader::features::WasmFeatures;

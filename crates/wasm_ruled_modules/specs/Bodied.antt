@@ -11,14 +11,14 @@ use Rattle.wasm_formats.specs.declared.fault.Limited.TheVariants as limits
 use Rattle.wasm_formats.specs.Stops.{Limit}
 use Rattle.wasm_formats.specs.Bytes.{either_type}
 use Rattle.wasm_formats.specs.Lists.{SpellsEntries, EntryRules}
-use Rattle.wasm_grammar.specs.Modules.{Imported, Own, Origin, Body, Function, Module}
-use Rattle.wasm_grammar.specs.States.{Chunk, types_of}
-use Rattle.wasm_sections.specs.Entities.{no_body}
-use Rattle.wasm_body_grammar.specs.Frames.{Plain}
-use Rattle.wasm_body_grammar.specs.Rules.{Around, operator_test}
-use Rattle.wasm_body_grammar.specs.Bodies.{Run, most_locals, next_total, run, operator, Point, is_closed, operator_in, next_point, opened, declared, placed}
-use Rattle.wasm_body_grammar.specs.Laws.{ReadsBody}
-use Rattle.wasm_body_grammar.specs.Codes.{param_count, own_type, coded, ReadsCodes, filled_with, with_bodies}
+use Rattle.wasm_module_rules.specs.wasm_modules.wasm_body_grammar.wasm_grammar.Modules.{Imported, Own, Origin, Body, Function, Module}
+use Rattle.wasm_module_rules.specs.wasm_modules.wasm_body_grammar.wasm_grammar.States.{Chunk, types_of}
+use Rattle.wasm_module_rules.specs.wasm_modules.wasm_sections.Entities.{no_body}
+use Rattle.wasm_module_rules.specs.wasm_modules.wasm_body_grammar.Frames.{Plain}
+use Rattle.wasm_module_rules.specs.wasm_modules.wasm_body_grammar.Rules.{Around, operator_test}
+use Rattle.wasm_module_rules.specs.wasm_modules.wasm_body_grammar.Bodies.{Run, most_locals, next_total, run, operator, Point, is_closed, operator_in, next_point, opened, declared, placed}
+use Rattle.wasm_module_rules.specs.wasm_modules.wasm_body_grammar.Laws.{ReadsBody}
+use Rattle.wasm_module_rules.specs.wasm_modules.wasm_body_grammar.Codes.{param_count, own_type, coded, ReadsCodes, filled_with, with_bodies}
 use Rattle.wasm_module_rules.specs.Linked.{Each}
 use Rattle.wasm_module_rules.specs.Keeps.{must_holds}
 use Rattle.wasm_ruled_modules.specs.Rules.{AreOperators, LocalsBelow, IsBody, bare_slot, OriginRuled}

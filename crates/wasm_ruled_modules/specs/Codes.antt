@@ -9,17 +9,17 @@ use Rattle.wasm_features.specs.declared.WasmFeatures.{WasmFeatures}
 use Rattle.wasm_formats.specs.Stops.{SectionOrder, Count}
 use Rattle.wasm_formats.specs.Lists.{SpellsEntries, EntryRules}
 use Rattle.wasm_formats.specs.Wholes.{whole, sized}
-use Rattle.wasm_grammar.specs.Modules.{Own, Imported, Function}
-use Rattle.wasm_grammar.specs.States.{Chunk, State, nothing_yet}
-use Rattle.wasm_grammar.specs.Values.{must}
-use Rattle.wasm_body_grammar.specs.Codes.{own_type}
-use Rattle.wasm_sections.specs.TypeSection.{add_group}
-use Rattle.wasm_sections.specs.Entities.{Entity, FunctionOf, TableOf, MemoryOf, GlobalOf, TagOf, add_entity, add_import, import_of, with_import, add_function, no_body, TableEntry, add_table, add_memory, add_tag, add_global}
-use Rattle.wasm_sections.specs.Exports.{add_export}
-use Rattle.wasm_sections.specs.Segments.{add_element, add_data}
-use Rattle.wasm_sections.specs.Sections.{own_functions, CodeEntry, code, chunk_of, Section, CustomSection, TypeSection, ImportSection, FunctionSection, TableSection, MemorySection, TagSection, GlobalSection, ExportSection, StartSection, ElementSection, DataCountSection, CodeSection, DataSection, code_once, id_of, section, order_test, SectionEntry, section_entry, put, ends_with, next}
-use Rattle.wasm_sections.specs.Ids.{section_id}
-use Rattle.wasm_sections.specs.Modules.{FileEntry, file, state_of, has_bodies, has_data}
+use Rattle.wasm_module_rules.specs.wasm_modules.wasm_body_grammar.wasm_grammar.Modules.{Own, Imported, Function}
+use Rattle.wasm_module_rules.specs.wasm_modules.wasm_body_grammar.wasm_grammar.States.{Chunk, State, nothing_yet}
+use Rattle.wasm_module_rules.specs.wasm_modules.wasm_body_grammar.wasm_grammar.Values.{must}
+use Rattle.wasm_module_rules.specs.wasm_modules.wasm_body_grammar.Codes.{own_type}
+use Rattle.wasm_module_rules.specs.wasm_modules.wasm_sections.TypeSection.{add_group}
+use Rattle.wasm_module_rules.specs.wasm_modules.wasm_sections.Entities.{Entity, FunctionOf, TableOf, MemoryOf, GlobalOf, TagOf, add_entity, add_import, import_of, with_import, add_function, no_body, TableEntry, add_table, add_memory, add_tag, add_global}
+use Rattle.wasm_module_rules.specs.wasm_modules.wasm_sections.Exports.{add_export}
+use Rattle.wasm_module_rules.specs.wasm_modules.wasm_sections.Segments.{add_element, add_data}
+use Rattle.wasm_module_rules.specs.wasm_modules.wasm_sections.Sections.{own_functions, CodeEntry, code, chunk_of, Section, CustomSection, TypeSection, ImportSection, FunctionSection, TableSection, MemorySection, TagSection, GlobalSection, ExportSection, StartSection, ElementSection, DataCountSection, CodeSection, DataSection, code_once, id_of, section, order_test, SectionEntry, section_entry, put, ends_with, next}
+use Rattle.wasm_module_rules.specs.wasm_modules.wasm_sections.Ids.{section_id}
+use Rattle.wasm_module_rules.specs.wasm_modules.wasm_sections.Modules.{FileEntry, file, state_of, has_bodies, has_data}
 use Rattle.wasm_module_rules.specs.wasm_modules.Modules.{chunks_of}
 use Rattle.wasm_module_rules.specs.Keeps.{must_holds, and_both}
 

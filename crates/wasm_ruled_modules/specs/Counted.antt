@@ -10,13 +10,13 @@ use Rattle.walrus_forms.specs.Records.{TypeGroup}
 use Rattle.wasm_formats.specs.declared.fault.Space.TheVariants as spaces
 use Rattle.wasm_formats.specs.Stops.{Trouble}
 use Rattle.wasm_formats.specs.Bytes.{either_type}
-use Rattle.wasm_grammar.specs.Modules.{Own, Imported, Function, Table, Memory, Tag, Global, Import, empty}
-use Rattle.wasm_grammar.specs.States.{State, types_of, has_room}
-use Rattle.wasm_sections.specs.TypeNames.{kind_of}
-use Rattle.wasm_sections.specs.TypeSection.{Measured, GroupEntry, members, sub_test, members_test, at_place, group_test, type_group, add_group}
-use Rattle.wasm_sections.specs.Entities.{Entity, FunctionOf, TableOf, MemoryOf, GlobalOf, TagOf, ImportEntry, import_test, import_of, add_entity, add_import, with_import, table_of, memory_of, global_of, with_function, with_table, with_memory, with_tag, with_global, space_of, no_body, add_table, TableEntry}
-use Rattle.wasm_sections.specs.Exports.{ExportEntry, name_test, kind_space, add_export}
-use Rattle.wasm_sections.specs.Segments.{ElementEntry, add_element, element_of, DataEntry, add_data, segment_of}
+use Rattle.wasm_module_rules.specs.wasm_modules.wasm_body_grammar.wasm_grammar.Modules.{Own, Imported, Function, Table, Memory, Tag, Global, Import, empty}
+use Rattle.wasm_module_rules.specs.wasm_modules.wasm_body_grammar.wasm_grammar.States.{State, types_of, has_room}
+use Rattle.wasm_module_rules.specs.wasm_modules.wasm_sections.TypeNames.{kind_of}
+use Rattle.wasm_module_rules.specs.wasm_modules.wasm_sections.TypeSection.{Measured, GroupEntry, members, sub_test, members_test, at_place, group_test, type_group, add_group}
+use Rattle.wasm_module_rules.specs.wasm_modules.wasm_sections.Entities.{Entity, FunctionOf, TableOf, MemoryOf, GlobalOf, TagOf, ImportEntry, import_test, import_of, add_entity, add_import, with_import, table_of, memory_of, global_of, with_function, with_table, with_memory, with_tag, with_global, space_of, no_body, add_table, TableEntry}
+use Rattle.wasm_module_rules.specs.wasm_modules.wasm_sections.Exports.{ExportEntry, name_test, kind_space, add_export}
+use Rattle.wasm_module_rules.specs.wasm_modules.wasm_sections.Segments.{ElementEntry, add_element, element_of, DataEntry, add_data, segment_of}
 use Rattle.wasm_module_rules.specs.Keeps.{must_holds, first_none}
 use Rattle.wasm_ruled_modules.specs.Rules.{IsCounted}
 use Rattle.wasm_ruled_modules.specs.Keeping.{EntriesKeep}

@@ -12,12 +12,12 @@ use Rattle.wasm_formats.specs.Joined.{after}
 use Rattle.wasm_formats.specs.Lists.{SpellsEntries, EntryRules}
 use Rattle.wasm_formats.specs.Until.{SpellsUntil, UntilRules}
 use Rattle.wasm_formats.specs.Led.{led}
-use Rattle.wasm_grammar.specs.Modules.{Expr, Own, Imported, Function, Table, Memory, Global, Mode, Passive, Declared, Active, Element, Segment, Module, empty}
-use Rattle.wasm_grammar.specs.Exprs.{Known, is_constant, operator, end_apart, takes_some, read_wants, some_operators, expr, offset_test, offset}
-use Rattle.wasm_grammar.specs.States.{State, types_of, known, type_count}
-use Rattle.wasm_sections.specs.TypeSection.{GroupEntry, add_group}
-use Rattle.wasm_sections.specs.Entities.{global_type, Entity, FunctionOf, TableOf, MemoryOf, GlobalOf, TagOf, add_entity, import_of, with_import, table_of, memory_of, global_of, with_function, with_table, with_memory, with_global, no_body, table_type, table_apart, table_some, table_wants, initialised, TableEntry, table_entry, add_table, GlobalEntry, global_entry, add_global, ImportEntry, add_import}
-use Rattle.wasm_sections.specs.Segments.{wide_table, wide_memory, into_table, into_memory, named_table, named_memory, pass, functions, expressions, kind_of_functions, typed, contents, ElementForm, ActiveFunctions, PassiveFunctions, FunctionsInto, DeclaredFunctions, ActiveExpressions, PassiveExpressions, ExpressionsInto, DeclaredExpressions, once_0, once_2, once_4, once_5, once_6, once_7, element_flags, element_form, ElementEntry, element_entry, add_element, element_of, DataForm, ActiveData, PassiveData, DataInto, data_once_0, data_once_2, data_flags, data_form, DataEntry, data_entry, add_data, segment_of}
+use Rattle.wasm_module_rules.specs.wasm_modules.wasm_body_grammar.wasm_grammar.Modules.{Expr, Own, Imported, Function, Table, Memory, Global, Mode, Passive, Declared, Active, Element, Segment, Module, empty}
+use Rattle.wasm_module_rules.specs.wasm_modules.wasm_body_grammar.wasm_grammar.Exprs.{Known, is_constant, operator, end_apart, takes_some, read_wants, some_operators, expr, offset_test, offset}
+use Rattle.wasm_module_rules.specs.wasm_modules.wasm_body_grammar.wasm_grammar.States.{State, types_of, known, type_count}
+use Rattle.wasm_module_rules.specs.wasm_modules.wasm_sections.TypeSection.{GroupEntry, add_group}
+use Rattle.wasm_module_rules.specs.wasm_modules.wasm_sections.Entities.{global_type, Entity, FunctionOf, TableOf, MemoryOf, GlobalOf, TagOf, add_entity, import_of, with_import, table_of, memory_of, global_of, with_function, with_table, with_memory, with_global, no_body, table_type, table_apart, table_some, table_wants, initialised, TableEntry, table_entry, add_table, GlobalEntry, global_entry, add_global, ImportEntry, add_import}
+use Rattle.wasm_module_rules.specs.wasm_modules.wasm_sections.Segments.{wide_table, wide_memory, into_table, into_memory, named_table, named_memory, pass, functions, expressions, kind_of_functions, typed, contents, ElementForm, ActiveFunctions, PassiveFunctions, FunctionsInto, DeclaredFunctions, ActiveExpressions, PassiveExpressions, ExpressionsInto, DeclaredExpressions, once_0, once_2, once_4, once_5, once_6, once_7, element_flags, element_form, ElementEntry, element_entry, add_element, element_of, DataForm, ActiveData, PassiveData, DataInto, data_once_0, data_once_2, data_flags, data_form, DataEntry, data_entry, add_data, segment_of}
 use Rattle.wasm_module_rules.specs.Linked.{Each, GoesInto}
 use Rattle.wasm_module_rules.specs.Keeps.{each_push, each_later, goes_later, one_more, must_holds, room_rules}
 use Rattle.wasm_module_rules.specs.Reading.{element_number, data_number, element_flag, data_flag, element_go, data_go}

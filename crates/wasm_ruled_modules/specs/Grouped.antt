@@ -28,10 +28,10 @@ use Rattle.walrus_forms.specs.Kinds.{Kind, declared_kind}
 use Rattle.walrus_forms.specs.Records.{TypeGroup}
 use Rattle.walrus_forms.specs.Values.{heap_name}
 use Rattle.walrus_forms.specs.Renaming.{ValueBelow, StorageBelow, FieldBelow, FormBelow, KindBelow}
-use Rattle.wasm_grammar.specs.States.{State, types_of}
-use Rattle.wasm_grammar.specs.TypeWords.{value_of, value_from, value_told, heap_from}
-use Rattle.wasm_sections.specs.TypeNames.{heap_index, value_index, field_index, inner_names, super_names, sub_names, index_number, both, told_all, storage_of, field_of, form_of, composite_form, super_of, kind_of}
-use Rattle.wasm_sections.specs.TypeSection.{Measured, GroupEntry, members, sub_test, members_test, is_told, group_test, type_group, add_group}
+use Rattle.wasm_module_rules.specs.wasm_modules.wasm_body_grammar.wasm_grammar.States.{State, types_of}
+use Rattle.wasm_module_rules.specs.wasm_modules.wasm_body_grammar.wasm_grammar.TypeWords.{value_of, value_from, value_told, heap_from}
+use Rattle.wasm_module_rules.specs.wasm_modules.wasm_sections.TypeNames.{heap_index, value_index, field_index, inner_names, super_names, sub_names, index_number, both, told_all, storage_of, field_of, form_of, composite_form, super_of, kind_of}
+use Rattle.wasm_module_rules.specs.wasm_modules.wasm_sections.TypeSection.{Measured, GroupEntry, members, sub_test, members_test, is_told, group_test, type_group, add_group}
 use Rattle.wasm_module_rules.specs.Keeps.{must_holds, first_none, not_true}
 use Rattle.wasm_ruled_modules.specs.Rules.{AreBelow, GroupsBelow}
 use Rattle.wasm_ruled_modules.specs.Counted.{at_none}

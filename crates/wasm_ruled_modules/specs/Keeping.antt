@@ -8,17 +8,17 @@ use Rattle.wasm_formats.specs.Formats.{Format}
 use Rattle.wasm_formats.specs.Lists.{SpellsEntries, EntryRules}
 use Rattle.wasm_formats.specs.Wholes.{whole, sized}
 use Rattle.wasm_file_formats.specs.Counted.{counted}
-use Rattle.wasm_grammar.specs.Modules.{Module, empty}
-use Rattle.wasm_grammar.specs.States.{State, nothing_yet}
-use Rattle.wasm_grammar.specs.Values.{must}
+use Rattle.wasm_module_rules.specs.wasm_modules.wasm_body_grammar.wasm_grammar.Modules.{Module, empty}
+use Rattle.wasm_module_rules.specs.wasm_modules.wasm_body_grammar.wasm_grammar.States.{State, nothing_yet}
+use Rattle.wasm_module_rules.specs.wasm_modules.wasm_body_grammar.wasm_grammar.Values.{must}
 use Rattle.wasm_module_rules.specs.Keeps.{must_holds}
-use Rattle.wasm_sections.specs.TypeSection.{GroupEntry, group, add_group}
-use Rattle.wasm_sections.specs.Entities.{ImportEntry, import_entry, add_import, function_entry, add_function, TableEntry, table_entry, add_table, MemoryType, memory_entry, add_memory, TagType, tag_entry, add_tag, GlobalEntry, global_entry, add_global}
-use Rattle.wasm_sections.specs.Exports.{ExportEntry, export_entry, add_export, start_function, set_start}
-use Rattle.wasm_sections.specs.Segments.{ElementEntry, element_entry, add_element, DataEntry, data_entry, add_data}
-use Rattle.wasm_sections.specs.Sections.{CustomEntry, add_custom, data_test, list_of, Section, CustomSection, TypeSection, ImportSection, FunctionSection, TableSection, MemorySection, TagSection, GlobalSection, ExportSection, StartSection, ElementSection, DataCountSection, CodeSection, DataSection, types_once, imports_once, functions_once, tables_once, memories_once, tags_once, globals_once, exports_once, elements_once, data_once, id_of, section, order_test, SectionEntry, section_entry, put, ends_with, next}
-use Rattle.wasm_sections.specs.Ids.{section_id}
-use Rattle.wasm_sections.specs.Modules.{FileEntry, file, state_of}
+use Rattle.wasm_module_rules.specs.wasm_modules.wasm_sections.TypeSection.{GroupEntry, group, add_group}
+use Rattle.wasm_module_rules.specs.wasm_modules.wasm_sections.Entities.{ImportEntry, import_entry, add_import, function_entry, add_function, TableEntry, table_entry, add_table, MemoryType, memory_entry, add_memory, TagType, tag_entry, add_tag, GlobalEntry, global_entry, add_global}
+use Rattle.wasm_module_rules.specs.wasm_modules.wasm_sections.Exports.{ExportEntry, export_entry, add_export, start_function, set_start}
+use Rattle.wasm_module_rules.specs.wasm_modules.wasm_sections.Segments.{ElementEntry, element_entry, add_element, DataEntry, data_entry, add_data}
+use Rattle.wasm_module_rules.specs.wasm_modules.wasm_sections.Sections.{CustomEntry, add_custom, data_test, list_of, Section, CustomSection, TypeSection, ImportSection, FunctionSection, TableSection, MemorySection, TagSection, GlobalSection, ExportSection, StartSection, ElementSection, DataCountSection, CodeSection, DataSection, types_once, imports_once, functions_once, tables_once, memories_once, tags_once, globals_once, exports_once, elements_once, data_once, id_of, section, order_test, SectionEntry, section_entry, put, ends_with, next}
+use Rattle.wasm_module_rules.specs.wasm_modules.wasm_sections.Ids.{section_id}
+use Rattle.wasm_module_rules.specs.wasm_modules.wasm_sections.Modules.{FileEntry, file, state_of}
 
 -- an entry that is spelled and meets its rules keeps this true
 abbrev pub Keeps : {A : Type 0} → (Module → Type 0) → (State → A → State) → (State → Format A) → Type 0

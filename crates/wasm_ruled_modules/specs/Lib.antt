@@ -8,3 +8,5 @@ pub mod More
 pub mod Named
 pub mod Reading
 pub mod Rules
+-- Passed on to crates above, which then list this one alone.
+pub use Rattle.wasm_module_rules.specs as wasm_module_rules

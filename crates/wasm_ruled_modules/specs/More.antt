@@ -9,10 +9,10 @@ use Rattle.walrus_forms.specs.Values.{heap_name}
 use Rattle.wasm_immediates.specs.Items as immediates
 use Rattle.wasm_immediates.specs.Items.{Item, Names, Number, S32, S64, Bits, Byte, Bytes, Heap, Block, Access, ManyLabels, ManyValues, ManyClauses}
 use Rattle.wasm_formats.specs.Stops.{Trouble, OffsetType}
-use Rattle.wasm_grammar.specs.TypeWords.{heap_of}
-use Rattle.wasm_grammar.specs.Modules.{Expr, Table, Global, Mode, Passive, Declared, Active, Elements, Functions, Expressions, Element, Segment}
-use Rattle.wasm_grammar.specs.Values.{must, named_below}
-use Rattle.wasm_grammar.specs.Exprs.{Known, heap_test, space_test, item_test, items_test, global_is, names_address, gives_address, offset_test}
+use Rattle.wasm_module_rules.specs.wasm_modules.wasm_body_grammar.wasm_grammar.TypeWords.{heap_of}
+use Rattle.wasm_module_rules.specs.wasm_modules.wasm_body_grammar.wasm_grammar.Modules.{Expr, Table, Global, Mode, Passive, Declared, Active, Elements, Functions, Expressions, Element, Segment}
+use Rattle.wasm_module_rules.specs.wasm_modules.wasm_body_grammar.wasm_grammar.Values.{must, named_below}
+use Rattle.wasm_module_rules.specs.wasm_modules.wasm_body_grammar.wasm_grammar.Exprs.{Known, heap_test, space_test, item_test, items_test, global_is, names_address, gives_address, offset_test}
 use Rattle.wasm_module_rules.specs.Linked.{Each}
 use Rattle.wasm_module_rules.specs.Keeps.{each_later, must_holds, first_none}
 use Rattle.wasm_ruled_modules.specs.Rules.{AreKnown, IsExpr, AreExprs, IsInit, own_init, Sees, GlobalsSee, IsPlaced, ItemsKnown}

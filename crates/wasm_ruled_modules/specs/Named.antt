@@ -10,13 +10,13 @@ use Rattle.walrus_forms.specs.Renaming.{RefBelow, ValueBelow}
 use Rattle.wasm_formats.specs.Stops.{Trouble, Bounds}
 use Rattle.wasm_formats.specs.Bytes.{either_type}
 use Rattle.wasm_formats.specs.Joined.{after}
-use Rattle.wasm_grammar.specs.Modules.{Own, Imported, Table, Memory, Global, Elements, Functions, Expressions, Element, empty}
-use Rattle.wasm_grammar.specs.Values.{named_below, ref_type, value_type, Limits, memory_limits}
-use Rattle.wasm_grammar.specs.States.{State, types_of, type_count, known}
-use Rattle.wasm_grammar.specs.Exprs.{expr}
-use Rattle.wasm_sections.specs.TypeSection.{GroupEntry, add_group}
-use Rattle.wasm_sections.specs.Entities.{MemoryType, Entity, FunctionOf, TableOf, MemoryOf, GlobalOf, TagOf, entity, ImportEntry, import_entry, add_entity, add_import, import_of, with_import, table_of, memory_of, global_of, table_type, global_type, initialised, TableEntry, table_entry, add_table, memory_entry, add_memory, GlobalEntry, global_entry, add_global}
-use Rattle.wasm_sections.specs.Segments.{typed, ElementForm, ActiveFunctions, PassiveFunctions, FunctionsInto, DeclaredFunctions, ActiveExpressions, PassiveExpressions, ExpressionsInto, DeclaredExpressions, element_flags, element_form, ElementEntry, element_entry, add_element, element_of}
+use Rattle.wasm_module_rules.specs.wasm_modules.wasm_body_grammar.wasm_grammar.Modules.{Own, Imported, Table, Memory, Global, Elements, Functions, Expressions, Element, empty}
+use Rattle.wasm_module_rules.specs.wasm_modules.wasm_body_grammar.wasm_grammar.Values.{named_below, ref_type, value_type, Limits, memory_limits}
+use Rattle.wasm_module_rules.specs.wasm_modules.wasm_body_grammar.wasm_grammar.States.{State, types_of, type_count, known}
+use Rattle.wasm_module_rules.specs.wasm_modules.wasm_body_grammar.wasm_grammar.Exprs.{expr}
+use Rattle.wasm_module_rules.specs.wasm_modules.wasm_sections.TypeSection.{GroupEntry, add_group}
+use Rattle.wasm_module_rules.specs.wasm_modules.wasm_sections.Entities.{MemoryType, Entity, FunctionOf, TableOf, MemoryOf, GlobalOf, TagOf, entity, ImportEntry, import_entry, add_entity, add_import, import_of, with_import, table_of, memory_of, global_of, table_type, global_type, initialised, TableEntry, table_entry, add_table, memory_entry, add_memory, GlobalEntry, global_entry, add_global}
+use Rattle.wasm_module_rules.specs.wasm_modules.wasm_sections.Segments.{typed, ElementForm, ActiveFunctions, PassiveFunctions, FunctionsInto, DeclaredFunctions, ActiveExpressions, PassiveExpressions, ExpressionsInto, DeclaredExpressions, element_flags, element_form, ElementEntry, element_entry, add_element, element_of}
 use Rattle.wasm_module_rules.specs.Linked.{Each}
 use Rattle.wasm_module_rules.specs.Keeps.{each_push, each_later, must_holds, room_rules}
 use Rattle.wasm_module_rules.specs.Reading.{kind_number, element_number, entity_kind, element_flag}

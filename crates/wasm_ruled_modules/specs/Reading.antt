@@ -5,11 +5,11 @@ use Rattle.std.specs.Option.{is_some}
 use Rattle.std.proofs.Common.{ap, sym, ◌∙◌, subst, arith, inl, inr}
 use Rattle.std.proofs.lemmas.List.{append-nil, map-append}
 use Rattle.wasm_features.specs.declared.WasmFeatures.{WasmFeatures}
-use Rattle.wasm_grammar.specs.Modules.{Own, Imported, Body, Function, Module}
-use Rattle.wasm_grammar.specs.States.{State, types_of}
-use Rattle.wasm_sections.specs.Entities.{Entity, FunctionOf, TableOf, MemoryOf, GlobalOf, TagOf, ImportEntry, add_entity, with_import, import_of, no_body, TableEntry, add_table}
-use Rattle.wasm_body_grammar.specs.Codes.{own_type, ReadsCodes, with_bodies}
-use Rattle.wasm_body_grammar.specs.Rules.{Around}
+use Rattle.wasm_module_rules.specs.wasm_modules.wasm_body_grammar.wasm_grammar.Modules.{Own, Imported, Body, Function, Module}
+use Rattle.wasm_module_rules.specs.wasm_modules.wasm_body_grammar.wasm_grammar.States.{State, types_of}
+use Rattle.wasm_module_rules.specs.wasm_modules.wasm_sections.Entities.{Entity, FunctionOf, TableOf, MemoryOf, GlobalOf, TagOf, ImportEntry, add_entity, with_import, import_of, no_body, TableEntry, add_table}
+use Rattle.wasm_module_rules.specs.wasm_modules.wasm_body_grammar.Codes.{own_type, ReadsCodes, with_bodies}
+use Rattle.wasm_module_rules.specs.wasm_modules.wasm_body_grammar.Rules.{Around}
 use Rattle.wasm_module_rules.specs.wasm_modules.Modules.{same_of, around, chunks_of, codes, module_of}
 use Rattle.wasm_module_rules.specs.Linked.{Each}
 use Rattle.wasm_module_rules.specs.Reading.{read_modules_are_linked, bodies_length}

@@ -7,15 +7,15 @@ use Rattle.walrus_forms.specs.Kinds.{Kind}
 use Rattle.wasm_operators.specs.Operators.{flow_of}
 use Rattle.walrus_forms.specs.Records.{TypeGroup}
 use Rattle.walrus_forms.specs.Renaming.{RefBelow, ValueBelow, KindBelow}
-use Rattle.wasm_grammar.specs.Modules.{Expr, Origin, Imported, Own, Placed, Body, Function, Table, Memory, Global, Mode, Passive, Declared, Active, Elements, Functions, Expressions, Element, Segment, Module}
-use Rattle.wasm_grammar.specs.Exprs.{Known, is_constant, items_test, some_operators, offset_test}
-use Rattle.wasm_grammar.specs.States.{types_of}
-use Rattle.wasm_sections.specs.Segments.{wide_table, wide_memory}
-use Rattle.wasm_sections.specs.Entities.{no_body}
-use Rattle.wasm_body_grammar.specs.Frames.{Frame, Plain, turned}
-use Rattle.wasm_body_grammar.specs.Rules.{Around, operator_test}
-use Rattle.wasm_body_grammar.specs.Bodies.{most_locals, is_closed, frames_of}
-use Rattle.wasm_body_grammar.specs.Codes.{param_count}
+use Rattle.wasm_module_rules.specs.wasm_modules.wasm_body_grammar.wasm_grammar.Modules.{Expr, Origin, Imported, Own, Placed, Body, Function, Table, Memory, Global, Mode, Passive, Declared, Active, Elements, Functions, Expressions, Element, Segment, Module}
+use Rattle.wasm_module_rules.specs.wasm_modules.wasm_body_grammar.wasm_grammar.Exprs.{Known, is_constant, items_test, some_operators, offset_test}
+use Rattle.wasm_module_rules.specs.wasm_modules.wasm_body_grammar.wasm_grammar.States.{types_of}
+use Rattle.wasm_module_rules.specs.wasm_modules.wasm_sections.Segments.{wide_table, wide_memory}
+use Rattle.wasm_module_rules.specs.wasm_modules.wasm_sections.Entities.{no_body}
+use Rattle.wasm_module_rules.specs.wasm_modules.wasm_body_grammar.Frames.{Frame, Plain, turned}
+use Rattle.wasm_module_rules.specs.wasm_modules.wasm_body_grammar.Rules.{Around, operator_test}
+use Rattle.wasm_module_rules.specs.wasm_modules.wasm_body_grammar.Bodies.{most_locals, is_closed, frames_of}
+use Rattle.wasm_module_rules.specs.wasm_modules.wasm_body_grammar.Codes.{param_count}
 use Rattle.wasm_module_rules.specs.wasm_modules.Modules.{same_of, Reads}
 use Rattle.wasm_module_rules.specs.Linked.{Each, IsLinked}
 

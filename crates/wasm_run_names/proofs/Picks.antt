@@ -24,9 +24,9 @@ use Rattle.wasm_operator_names.specs.Names.{Renaming}
 use Rattle.wasm_grammar.specs.States.{types_of}
 use Rattle.wasm_grammar.specs.TypeWords.{value_from}
 use Rattle.wasm_body_grammar.specs.Rules.{Around, serves, leads, latest_from, found_in, pick}
-use Rattle.wasm_runs.specs.Programs.{Signature}
-use Rattle.wasm_runs.specs.Renamed.{renamed_signature}
-use Rattle.wasm_runs.specs.Modules.{kind_signature, signature_in}
+use Rattle.wasm_run_laws.specs.wasm_runs.Programs.{Signature}
+use Rattle.wasm_run_laws.specs.wasm_runs.Renamed.{renamed_signature}
+use Rattle.wasm_run_laws.specs.wasm_runs.Modules.{kind_signature, signature_in}
 use Rattle.wasm_run_names.specs.Picks.{form_pick, kind_pick, PicksOfModulesKeep, BlockTypesStand}
 
 -- ---- the latest type that passes a test passes it

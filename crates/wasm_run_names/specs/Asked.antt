@@ -5,7 +5,7 @@ use Rattle.wasm_operators.specs.declared.entry.Flow.{Flow}
 use Rattle.wasm_operators.specs.declared.entry.Flow.TheVariants as flows
 use Rattle.wasm_operators.specs.Operators.{Seen, flow_of}
 use Rattle.wasm_operators.specs.Spellings.{SpellsOperator}
-use Rattle.wasm_runs.specs.Programs.{labels_of, functions_of}
+use Rattle.wasm_run_laws.specs.wasm_runs.Programs.{labels_of, functions_of}
 
 abbrev pub OneLabel : Seen → Type 0
 OneLabel op = (k : ℕ) × (labels_of op ≡ k ∷ [])

@@ -11,7 +11,7 @@ use Rattle.wasm_operator_names.specs.Names.{Renaming}
 use Rattle.wasm_grammar.specs.Modules.{Module}
 use Rattle.wasm_grammar.specs.States.{types_of}
 use Rattle.wasm_body_grammar.specs.Rules.{Around, pick}
-use Rattle.wasm_runs.specs.Modules.{signature_in}
+use Rattle.wasm_run_laws.specs.wasm_runs.Modules.{signature_in}
 use Rattle.wasm_run_laws.specs.Stands.{IsTypedSo, PicksKeep}
 
 abbrev pub form_pick : Around → BlockType → Form → BlockType

@@ -3,13 +3,13 @@ use Rattle.std.specs.Prelude.{ℕ, ◌<◌, ◌≡◌, ◌==◌, ◌&&◌, ◌�
 use Rattle.std.proofs.Common.{ap, sym, ◌∙◌, subst, arith, inl, inr}
 use Rattle.std.proofs.lemmas.List.{append_assoc, length-append}
 use Rattle.wasm_features.specs.declared.WasmFeatures.{WasmFeatures}
-use Rattle.wasm_reader.specs.Vecs.{later_bytes}
-use Rattle.wasm_formats.specs.Stops.{Trouble, Header, SectionOrder, Stop, stop, moved, can_end}
-use Rattle.wasm_formats.specs.Formats.{Whole, Small}
-use Rattle.wasm_formats.specs.Bytes.{byte}
-use Rattle.wasm_formats.specs.Joined.{checked, after, built, tested_err}
-use Rattle.wasm_formats.specs.Lists.{vec}
-use Rattle.wasm_formats.specs.Wholes.{u32, whole, sized}
+use Rattle.wasm_types.specs.wasm_composite_types.wasm_reader.Vecs.{later_bytes}
+use Rattle.wasm_grammar.specs.wasm_formats.Stops.{Trouble, Header, SectionOrder, Stop, stop, moved, can_end}
+use Rattle.wasm_grammar.specs.wasm_formats.Formats.{Whole, Small}
+use Rattle.wasm_grammar.specs.wasm_formats.Bytes.{byte}
+use Rattle.wasm_grammar.specs.wasm_formats.Joined.{checked, after, built, tested_err}
+use Rattle.wasm_grammar.specs.wasm_formats.Lists.{vec}
+use Rattle.wasm_grammar.specs.wasm_formats.Wholes.{u32, whole, sized}
 use Rattle.wasm_file_formats.specs.Counted.{counted}
 use Rattle.wasm_file_formats.specs.Decided.{IsDecided, Stays, StaysSized, sized_stays, built_stays, stays_if, never_stays, behind_stays, among_decided, word_decided}
 use Rattle.wasm_grammar.specs.Values.{must}

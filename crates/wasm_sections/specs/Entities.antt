@@ -2,24 +2,24 @@
 use Rattle.std.specs.Prelude.{ℕ, ◌+◌, ◌≡◌, ◌==◌, nat_lt, Bool, true, false, List, [], ◌∷◌, ◌++◌, length, Option, Some, None, Err, ◌⊎◌, refl}
 use Rattle.std.proofs.Common.{subst, inl, inr}
 use Rattle.wasm_features.specs.declared.WasmFeatures.{WasmFeatures}
-use Rattle.wasm_reader.specs.declared.error.ErrorKind.TheVariants as kinds
-use Rattle.wasm_ref_types.specs.Reference.{Reference}
-use Rattle.wasm_ref_types.specs.ReadTypes.{reference_at, abstract_at}
-use Rattle.wasm_ref_types.specs.TypesTaken.{reference_taken}
-use Rattle.wasm_ref_types.specs.TypeSpellings.{SpellsReference}
-use Rattle.walrus_forms.specs.declared.value.RefType.{RefType}
-use Rattle.walrus_forms.specs.declared.value.ValType.{ValType}
-use Rattle.wasm_formats.specs.declared.fault.Space.{Space}
-use Rattle.wasm_formats.specs.declared.fault.Space.TheVariants as spaces
-use Rattle.wasm_formats.specs.declared.fault.Form.TheVariants as unsupported
-use Rattle.wasm_formats.specs.declared.fault.Limited.TheVariants as limits
-use Rattle.wasm_formats.specs.Stops.{Trouble, Read, Unsupported, Limit, Stop, stop, can_end}
-use Rattle.wasm_formats.specs.Formats.{Format, refused_is}
-use Rattle.wasm_formats.specs.Bytes.{literal, never, either, either_type}
-use Rattle.wasm_formats.specs.Joined.{checked, after, built}
-use Rattle.wasm_formats.specs.Parts.{optional}
-use Rattle.wasm_formats.specs.Wholes.{u32}
-use Rattle.wasm_formats.specs.Led.{led}
+use Rattle.wasm_types.specs.wasm_composite_types.wasm_reader.declared.error.ErrorKind.TheVariants as kinds
+use Rattle.wasm_types.specs.wasm_composite_types.wasm_ref_types.Reference.{Reference}
+use Rattle.wasm_types.specs.wasm_composite_types.wasm_ref_types.ReadTypes.{reference_at, abstract_at}
+use Rattle.wasm_types.specs.wasm_composite_types.wasm_ref_types.TypesTaken.{reference_taken}
+use Rattle.wasm_types.specs.wasm_composite_types.wasm_ref_types.TypeSpellings.{SpellsReference}
+use Rattle.wasm_grammar.specs.walrus_forms.declared.value.RefType.{RefType}
+use Rattle.wasm_grammar.specs.walrus_forms.declared.value.ValType.{ValType}
+use Rattle.wasm_grammar.specs.wasm_formats.declared.fault.Space.{Space}
+use Rattle.wasm_grammar.specs.wasm_formats.declared.fault.Space.TheVariants as spaces
+use Rattle.wasm_grammar.specs.wasm_formats.declared.fault.Form.TheVariants as unsupported
+use Rattle.wasm_grammar.specs.wasm_formats.declared.fault.Limited.TheVariants as limits
+use Rattle.wasm_grammar.specs.wasm_formats.Stops.{Trouble, Read, Unsupported, Limit, Stop, stop, can_end}
+use Rattle.wasm_grammar.specs.wasm_formats.Formats.{Format, refused_is}
+use Rattle.wasm_grammar.specs.wasm_formats.Bytes.{literal, never, either, either_type}
+use Rattle.wasm_grammar.specs.wasm_formats.Joined.{checked, after, built}
+use Rattle.wasm_grammar.specs.wasm_formats.Parts.{optional}
+use Rattle.wasm_grammar.specs.wasm_formats.Wholes.{u32}
+use Rattle.wasm_grammar.specs.wasm_formats.Led.{led}
 use Rattle.wasm_file_formats.specs.Rooms.{if_room}
 use Rattle.wasm_file_formats.specs.Firsts.{Refines, first_checked}
 use Rattle.wasm_grammar.specs.Modules.{Expr, Origin, Imported, Own, Body, Function, Table, Memory, Tag, Global, Import}

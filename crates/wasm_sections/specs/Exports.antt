@@ -4,13 +4,13 @@ use Rattle.std.specs.List.{list_any}
 use Rattle.std.specs.Cmp.Lexicographic.{slice_cmp}
 use Rattle.std.specs.Ordering.{nat_cmp}
 use Rattle.std.specs.BTreeMap.{is_at}
-use Rattle.wasm_formats.specs.declared.fault.Space.{Space}
-use Rattle.wasm_formats.specs.declared.fault.Space.TheVariants as spaces
-use Rattle.wasm_formats.specs.declared.fault.Limited.TheVariants as limits
-use Rattle.wasm_formats.specs.Stops.{Trouble, Index, DuplicateExport, Limit}
-use Rattle.wasm_formats.specs.Formats.{Format}
-use Rattle.wasm_formats.specs.Joined.{after, pair_checked}
-use Rattle.wasm_formats.specs.Wholes.{u32}
+use Rattle.wasm_grammar.specs.wasm_formats.declared.fault.Space.{Space}
+use Rattle.wasm_grammar.specs.wasm_formats.declared.fault.Space.TheVariants as spaces
+use Rattle.wasm_grammar.specs.wasm_formats.declared.fault.Limited.TheVariants as limits
+use Rattle.wasm_grammar.specs.wasm_formats.Stops.{Trouble, Index, DuplicateExport, Limit}
+use Rattle.wasm_grammar.specs.wasm_formats.Formats.{Format}
+use Rattle.wasm_grammar.specs.wasm_formats.Joined.{after, pair_checked}
+use Rattle.wasm_grammar.specs.wasm_formats.Wholes.{u32}
 use Rattle.wasm_grammar.specs.Modules.{Export}
 use Rattle.wasm_grammar.specs.Values.{must, first_of, name, byte_below, index}
 use Rattle.wasm_grammar.specs.States.{State, count_of}

@@ -1,13 +1,13 @@
 -- Laws of the sections of a file: which bytes are a module up to what is in its bodies, and where reading stops before bodies are read.
 use Rattle.std.specs.Prelude.{◌≤◌, ◌≡◌, ◌⊎◌, false, List, ◌++◌, ℕ, length}
 use Rattle.wasm_features.specs.declared.WasmFeatures.{WasmFeatures}
-use Rattle.wasm_reader.specs.Laws.{IsPrefixFree}
-use Rattle.wasm_formats.specs.Stops.{Stop, can_end}
-use Rattle.wasm_formats.specs.Formats.{Whole, Small}
-use Rattle.wasm_formats.specs.Bytes.{byte}
-use Rattle.wasm_formats.specs.Joined.{Behind, checked}
-use Rattle.wasm_formats.specs.Lists.{vec}
-use Rattle.wasm_formats.specs.Wholes.{u32, whole}
+use Rattle.wasm_types.specs.wasm_composite_types.wasm_reader.Laws.{IsPrefixFree}
+use Rattle.wasm_grammar.specs.wasm_formats.Stops.{Stop, can_end}
+use Rattle.wasm_grammar.specs.wasm_formats.Formats.{Whole, Small}
+use Rattle.wasm_grammar.specs.wasm_formats.Bytes.{byte}
+use Rattle.wasm_grammar.specs.wasm_formats.Joined.{Behind, checked}
+use Rattle.wasm_grammar.specs.wasm_formats.Lists.{vec}
+use Rattle.wasm_grammar.specs.wasm_formats.Wholes.{u32, whole}
 use Rattle.wasm_file_formats.specs.Counted.{counted}
 use Rattle.wasm_file_formats.specs.Decided.{IsDecided, SizeIsCut, AmongIsCut}
 use Rattle.wasm_file_formats.specs.Free.{Ruled}

@@ -1,10 +1,10 @@
 -- Modules up to what is in their bodies (Core Specification, binary format: modules).
 use Rattle.std.specs.Prelude.{ℕ, ◌==◌, ◌&&◌, ◌||◌, Bool, true, false, List, [], ◌∷◌, length, fold, Option, Some, None, refl}
 use Rattle.wasm_features.specs.declared.WasmFeatures.{WasmFeatures}
-use Rattle.wasm_formats.specs.Stops.{Header}
-use Rattle.wasm_formats.specs.Formats.{Format, Whole}
-use Rattle.wasm_formats.specs.Wholes.{followed}
-use Rattle.wasm_formats.specs.Files.{entries, ended}
+use Rattle.wasm_grammar.specs.wasm_formats.Stops.{Header}
+use Rattle.wasm_grammar.specs.wasm_formats.Formats.{Format, Whole}
+use Rattle.wasm_grammar.specs.wasm_formats.Wholes.{followed}
+use Rattle.wasm_grammar.specs.wasm_formats.Files.{entries, ended}
 use Rattle.wasm_file_formats.specs.Headers.{exactly}
 use Rattle.wasm_grammar.specs.States.{Chunk, State, nothing_yet}
 use Rattle.wasm_sections.specs.Sections.{own_functions, SectionEntry, section_entry, section_takes, next}

@@ -1,10 +1,10 @@
 -- Lemmas: laws of sections.
 use Rattle.std.specs.Prelude.{◌≡◌, ◌⊎◌, ◌++◌, length, Result, Ok, Err, refl}
 use Rattle.std.proofs.Common.{ap, sym, ◌∙◌, subst, inl, inr}
-use Rattle.wasm_formats.specs.Stops.{Stop, moved}
-use Rattle.wasm_formats.specs.Formats.{Whole, InsideAll, done_is, done_refused, refused_is}
-use Rattle.wasm_formats.specs.Lists.{vec}
-use Rattle.wasm_formats.specs.Wholes.{u32, whole}
+use Rattle.wasm_grammar.specs.wasm_formats.Stops.{Stop, moved}
+use Rattle.wasm_grammar.specs.wasm_formats.Formats.{Whole, InsideAll, done_is, done_refused, refused_is}
+use Rattle.wasm_grammar.specs.wasm_formats.Lists.{vec}
+use Rattle.wasm_grammar.specs.wasm_formats.Wholes.{u32, whole}
 use Rattle.wasm_file_formats.specs.Counted.{counted}
 use Rattle.wasm_grammar.specs.States.{State}
 use Rattle.wasm_sections.specs.Modules.{FileEntry, file, state_of}

@@ -3,13 +3,13 @@ use Rattle.std.specs.Prelude.{ℕ, ◌+◌, ◌-◌, ◌<◌, ◌≡◌, ◌==�
 use Rattle.std.proofs.Common.{ap, subst, sym, arith}
 use Rattle.std.proofs.lemmas.List.{length-append}
 use Rattle.wasm_features.specs.declared.WasmFeatures.{WasmFeatures}
-use Rattle.wasm_formats.specs.declared.fault.Limited.TheVariants as limits
-use Rattle.wasm_formats.specs.Stops.{Trouble, SectionOrder, Count, Limit}
-use Rattle.wasm_formats.specs.Formats.{Format, Whole}
-use Rattle.wasm_formats.specs.Bytes.{byte, never, either}
-use Rattle.wasm_formats.specs.Joined.{checked, after, built, ends_at}
-use Rattle.wasm_formats.specs.Wholes.{u32, whole, all_bytes, followed, sized}
-use Rattle.wasm_formats.specs.Lists.{vec, listed}
+use Rattle.wasm_grammar.specs.wasm_formats.declared.fault.Limited.TheVariants as limits
+use Rattle.wasm_grammar.specs.wasm_formats.Stops.{Trouble, SectionOrder, Count, Limit}
+use Rattle.wasm_grammar.specs.wasm_formats.Formats.{Format, Whole}
+use Rattle.wasm_grammar.specs.wasm_formats.Bytes.{byte, never, either}
+use Rattle.wasm_grammar.specs.wasm_formats.Joined.{checked, after, built, ends_at}
+use Rattle.wasm_grammar.specs.wasm_formats.Wholes.{u32, whole, all_bytes, followed, sized}
+use Rattle.wasm_grammar.specs.wasm_formats.Lists.{vec, listed}
 use Rattle.wasm_file_formats.specs.Counted.{counted}
 use Rattle.wasm_grammar.specs.Values.{must, name, run}
 use Rattle.wasm_grammar.specs.States.{Chunk, State}

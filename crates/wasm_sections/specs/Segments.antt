@@ -1,21 +1,21 @@
 -- Element and data segments (Core Specification, binary format: element section, data section).
 use Rattle.std.specs.Prelude.{ℕ, ◌≡◌, ◌==◌, ◌||◌, nat_lt, Bool, true, false, List, [], ◌∷◌, ◌++◌, length, Option, Some, None, if◌then◌else◌, slice_index_or}
 use Rattle.wasm_features.specs.declared.WasmFeatures.{WasmFeatures}
-use Rattle.wasm_reader.specs.declared.error.ErrorKind.TheVariants as kinds
-use Rattle.wasm_reader.specs.Text.{sized_bytes_at, SpellsSized}
-use Rattle.wasm_reader.specs.Spellings.{sized_bytes_taken}
-use Rattle.wasm_reader.specs.Finals.{sized_bytes_final}
-use Rattle.walrus_forms.specs.declared.value.AbstractHeapType.TheVariants as heaps
-use Rattle.walrus_forms.specs.declared.value.RefType.{RefType}
-use Rattle.walrus_forms.specs.Values.{nullable}
-use Rattle.wasm_formats.specs.declared.fault.Space.TheVariants as spaces
-use Rattle.wasm_formats.specs.declared.fault.Limited.TheVariants as limits
-use Rattle.wasm_formats.specs.Stops.{Read, Index}
-use Rattle.wasm_formats.specs.Formats.{Format, leaf}
-use Rattle.wasm_formats.specs.Bytes.{literal, never, either}
-use Rattle.wasm_formats.specs.Joined.{checked, after, built}
-use Rattle.wasm_formats.specs.Wholes.{u32}
-use Rattle.wasm_formats.specs.Lists.{vec}
+use Rattle.wasm_types.specs.wasm_composite_types.wasm_reader.declared.error.ErrorKind.TheVariants as kinds
+use Rattle.wasm_types.specs.wasm_composite_types.wasm_reader.Text.{sized_bytes_at, SpellsSized}
+use Rattle.wasm_types.specs.wasm_composite_types.wasm_reader.Spellings.{sized_bytes_taken}
+use Rattle.wasm_types.specs.wasm_composite_types.wasm_reader.Finals.{sized_bytes_final}
+use Rattle.wasm_grammar.specs.walrus_forms.declared.value.AbstractHeapType.TheVariants as heaps
+use Rattle.wasm_grammar.specs.walrus_forms.declared.value.RefType.{RefType}
+use Rattle.wasm_grammar.specs.walrus_forms.Values.{nullable}
+use Rattle.wasm_grammar.specs.wasm_formats.declared.fault.Space.TheVariants as spaces
+use Rattle.wasm_grammar.specs.wasm_formats.declared.fault.Limited.TheVariants as limits
+use Rattle.wasm_grammar.specs.wasm_formats.Stops.{Read, Index}
+use Rattle.wasm_grammar.specs.wasm_formats.Formats.{Format, leaf}
+use Rattle.wasm_grammar.specs.wasm_formats.Bytes.{literal, never, either}
+use Rattle.wasm_grammar.specs.wasm_formats.Joined.{checked, after, built}
+use Rattle.wasm_grammar.specs.wasm_formats.Wholes.{u32}
+use Rattle.wasm_grammar.specs.wasm_formats.Lists.{vec}
 use Rattle.wasm_file_formats.specs.Rooms.{if_room}
 use Rattle.wasm_grammar.specs.Modules.{Expr, Table, Memory, Passive, Declared, Active, Functions, Expressions, Element, Segment}
 use Rattle.wasm_grammar.specs.Values.{must, index, ref_type}

@@ -2,25 +2,25 @@
 use Rattle.std.specs.Prelude.{ℕ, Bool, true, false, List, [], ◌∷◌, ◌++◌, Option, Some, None}
 use Rattle.std.specs.Option.{option_map, option_to_list}
 use Rattle.std.specs.List.{filter_map}
-use Rattle.wasm_ref_types.specs.declared.heap.HeapType.{HeapType as ReadHeap}
-use Rattle.wasm_ref_types.specs.declared.heap.HeapType.TheVariants.{Concrete, Exact}
-use Rattle.wasm_ref_types.specs.declared.index.UnpackedIndex.{UnpackedIndex}
-use Rattle.wasm_ref_types.specs.declared.index.UnpackedIndex.TheVariants.{Module}
-use Rattle.wasm_ref_types.specs.declared.value.ValType.{ValType as ReadValue}
-use Rattle.wasm_ref_types.specs.declared.value.ValType.TheVariants as values
-use Rattle.wasm_composite_types.specs.declared.field.StorageType.{StorageType as ReadStorage}
-use Rattle.wasm_composite_types.specs.declared.field.StorageType.TheVariants as storages
-use Rattle.wasm_composite_types.specs.declared.field.FieldType.{FieldType as ReadField}
-use Rattle.wasm_composite_types.specs.declared.form.CompositeInnerType.{CompositeInnerType}
-use Rattle.wasm_composite_types.specs.declared.form.CompositeInnerType.TheVariants.{Func, Array, Struct, Cont}
-use Rattle.wasm_composite_types.specs.declared.form.CompositeType.{CompositeType}
-use Rattle.wasm_composite_types.specs.Fields.{unpacked}
+use Rattle.wasm_types.specs.wasm_composite_types.wasm_ref_types.declared.heap.HeapType.{HeapType as ReadHeap}
+use Rattle.wasm_types.specs.wasm_composite_types.wasm_ref_types.declared.heap.HeapType.TheVariants.{Concrete, Exact}
+use Rattle.wasm_types.specs.wasm_composite_types.wasm_ref_types.declared.index.UnpackedIndex.{UnpackedIndex}
+use Rattle.wasm_types.specs.wasm_composite_types.wasm_ref_types.declared.index.UnpackedIndex.TheVariants.{Module}
+use Rattle.wasm_types.specs.wasm_composite_types.wasm_ref_types.declared.value.ValType.{ValType as ReadValue}
+use Rattle.wasm_types.specs.wasm_composite_types.wasm_ref_types.declared.value.ValType.TheVariants as values
+use Rattle.wasm_types.specs.wasm_composite_types.declared.field.StorageType.{StorageType as ReadStorage}
+use Rattle.wasm_types.specs.wasm_composite_types.declared.field.StorageType.TheVariants as storages
+use Rattle.wasm_types.specs.wasm_composite_types.declared.field.FieldType.{FieldType as ReadField}
+use Rattle.wasm_types.specs.wasm_composite_types.declared.form.CompositeInnerType.{CompositeInnerType}
+use Rattle.wasm_types.specs.wasm_composite_types.declared.form.CompositeInnerType.TheVariants.{Func, Array, Struct, Cont}
+use Rattle.wasm_types.specs.wasm_composite_types.declared.form.CompositeType.{CompositeType}
+use Rattle.wasm_types.specs.wasm_composite_types.Fields.{unpacked}
 use Rattle.wasm_types.specs.declared.subtype.SubType.{SubType}
-use Rattle.walrus_forms.specs.declared.value.StorageType.{StorageType}
-use Rattle.walrus_forms.specs.declared.value.StorageType.TheVariants.{Val, I8, I16}
-use Rattle.walrus_forms.specs.declared.value.FieldType.{FieldType}
-use Rattle.walrus_forms.specs.Forms.{Form, FunctionForm, StructForm, ArrayForm}
-use Rattle.walrus_forms.specs.Kinds.{Kind, declared_kind}
+use Rattle.wasm_grammar.specs.walrus_forms.declared.value.StorageType.{StorageType}
+use Rattle.wasm_grammar.specs.walrus_forms.declared.value.StorageType.TheVariants.{Val, I8, I16}
+use Rattle.wasm_grammar.specs.walrus_forms.declared.value.FieldType.{FieldType}
+use Rattle.wasm_grammar.specs.walrus_forms.Forms.{Form, FunctionForm, StructForm, ArrayForm}
+use Rattle.wasm_grammar.specs.walrus_forms.Kinds.{Kind, declared_kind}
 use Rattle.wasm_grammar.specs.TypeWords.{value_of}
 
 -- ---- the types that are named

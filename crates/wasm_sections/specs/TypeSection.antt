@@ -5,26 +5,26 @@ use Rattle.std.proofs.Common.{ap, sym, subst, arith, inl, inr}
 use Rattle.std.proofs.lemmas.List.{length-append}
 use Rattle.wasm_features.specs.declared.WasmFeatures.{WasmFeatures}
 use Rattle.wasm_features.specs.Features.{GcTypes, enables, constant, features_of}
-use Rattle.wasm_reader.specs.declared.error.ErrorKind.TheVariants as kinds
-use Rattle.wasm_composite_types.specs.Readings.{composite_after, form_after}
+use Rattle.wasm_types.specs.wasm_composite_types.wasm_reader.declared.error.ErrorKind.TheVariants as kinds
+use Rattle.wasm_types.specs.wasm_composite_types.Readings.{composite_after, form_after}
 use Rattle.wasm_types.specs.declared.subtype.SubType.{SubType}
 use Rattle.wasm_types.specs.Readings.{sub_at, sub_after}
 use Rattle.wasm_types.specs.Spellings.{SpellsSub}
 use Rattle.wasm_types.specs.TypesTaken.{sub_taken}
 use Rattle.wasm_types.specs.Finals.{sub_final}
-use Rattle.walrus_forms.specs.Kinds.{Kind}
-use Rattle.walrus_forms.specs.Records.{TypeGroup}
-use Rattle.wasm_formats.specs.declared.fault.Space.TheVariants as spaces
-use Rattle.wasm_formats.specs.declared.fault.Form.TheVariants as unsupported
-use Rattle.wasm_formats.specs.declared.fault.Limited.TheVariants as limits
-use Rattle.wasm_formats.specs.Stops.{Trouble, Read, Index, Unsupported, Limit, Stop, stop, can_end}
-use Rattle.wasm_formats.specs.Formats.{Format, leaf, refused_is}
-use Rattle.wasm_formats.specs.Bytes.{either, either_type}
-use Rattle.wasm_formats.specs.Joined.{checked, after, built, ends_at}
-use Rattle.wasm_formats.specs.Parts.{inner_checked}
-use Rattle.wasm_formats.specs.Wholes.{u32}
-use Rattle.wasm_formats.specs.Lists.{listed, SpellsEntries}
-use Rattle.wasm_formats.specs.Led.{led}
+use Rattle.wasm_grammar.specs.walrus_forms.Kinds.{Kind}
+use Rattle.wasm_grammar.specs.walrus_forms.Records.{TypeGroup}
+use Rattle.wasm_grammar.specs.wasm_formats.declared.fault.Space.TheVariants as spaces
+use Rattle.wasm_grammar.specs.wasm_formats.declared.fault.Form.TheVariants as unsupported
+use Rattle.wasm_grammar.specs.wasm_formats.declared.fault.Limited.TheVariants as limits
+use Rattle.wasm_grammar.specs.wasm_formats.Stops.{Trouble, Read, Index, Unsupported, Limit, Stop, stop, can_end}
+use Rattle.wasm_grammar.specs.wasm_formats.Formats.{Format, leaf, refused_is}
+use Rattle.wasm_grammar.specs.wasm_formats.Bytes.{either, either_type}
+use Rattle.wasm_grammar.specs.wasm_formats.Joined.{checked, after, built, ends_at}
+use Rattle.wasm_grammar.specs.wasm_formats.Parts.{inner_checked}
+use Rattle.wasm_grammar.specs.wasm_formats.Wholes.{u32}
+use Rattle.wasm_grammar.specs.wasm_formats.Lists.{listed, SpellsEntries}
+use Rattle.wasm_grammar.specs.wasm_formats.Led.{led}
 use Rattle.wasm_file_formats.specs.Barred.{barred}
 use Rattle.wasm_grammar.specs.Values.{must, first_of}
 use Rattle.wasm_grammar.specs.States.{State, type_count}

@@ -3,10 +3,10 @@ use Rattle.std.specs.Prelude.{ℕ, ◌+◌, ◌-◌, ◌≤◌, ◌≡◌, List,
 use Rattle.std.proofs.Common.{ap, sym, ◌∙◌, subst, arith, inl, inr}
 use Rattle.std.proofs.lemmas.List.{length-append}
 use Rattle.wasm_features.specs.declared.WasmFeatures.{WasmFeatures}
-use Rattle.wasm_reader.specs.Vecs.{later_bytes}
-use Rattle.wasm_formats.specs.Formats.{Small, front_small}
-use Rattle.wasm_formats.specs.Lists.{SpellsEntries}
-use Rattle.wasm_formats.specs.Wholes.{whole, sized}
+use Rattle.wasm_types.specs.wasm_composite_types.wasm_reader.Vecs.{later_bytes}
+use Rattle.wasm_grammar.specs.wasm_formats.Formats.{Small, front_small}
+use Rattle.wasm_grammar.specs.wasm_formats.Lists.{SpellsEntries}
+use Rattle.wasm_grammar.specs.wasm_formats.Wholes.{whole, sized}
 use Rattle.wasm_grammar.specs.States.{Chunk, State, nothing_yet}
 use Rattle.wasm_sections.specs.TypeSection.{add_group}
 use Rattle.wasm_sections.specs.Entities.{Entity, FunctionOf, TableOf, MemoryOf, GlobalOf, TagOf, add_entity, add_import, add_function, TableEntry, add_table, add_memory, add_tag, add_global, with_import, import_of}

@@ -4,9 +4,9 @@ use Rattle.std.specs.Bool.{beq}
 use Rattle.std.specs.Option.{option_eq}
 use Rattle.std.specs.Cmp.Lexicographic.{pointwise}
 use Rattle.std.proofs.lemmas.Bool.{and_parts}
-use Rattle.wasm_ref_types.specs.declared.index.UnpackedIndex.{UnpackedIndex}
-use Rattle.wasm_ref_types.specs.Indices.{index_eq}
-use Rattle.wasm_ref_types.proofs.Same.{index-same}
+use Rattle.wasm_composite_types.specs.wasm_ref_types.declared.index.UnpackedIndex.{UnpackedIndex}
+use Rattle.wasm_composite_types.specs.wasm_ref_types.Indices.{index_eq}
+use Rattle.wasm_composite_types.proofs.wasm_ref_types.Same.{index-same}
 use Rattle.wasm_composite_types.specs.declared.form.CompositeType.{CompositeType}
 use Rattle.wasm_types.specs.declared.subtype.SubType.{SubType}
 use Rattle.wasm_composite_types.specs.contracts.form.CompositeInnerTypePartialEq.TheImpl.{ghosts as form_eq}

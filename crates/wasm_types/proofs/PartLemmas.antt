@@ -4,12 +4,12 @@ use Rattle.std.specs.Option.{option_len}
 use Rattle.std.proofs.Common.{arith, inl, inr, length-append}
 use Rattle.wasm_features.specs.declared.WasmFeatures.{WasmFeatures}
 use Rattle.wasm_reader.specs.Items.{SpellsItems, SpellsVec}
-use Rattle.wasm_ref_types.specs.declared.index.UnpackedIndex.{UnpackedIndex}
-use Rattle.wasm_ref_types.specs.declared.index.UnpackedIndex.TheVariants.{Module, RecGroup, Id}
-use Rattle.wasm_ref_types.specs.declared.value.ValType.{ValType}
-use Rattle.wasm_ref_types.specs.ReadTypes.{value_at}
-use Rattle.wasm_ref_types.specs.TypeSpellings.{SpellsValue}
-use Rattle.wasm_ref_types.specs.TypesTaken.{value_taken}
+use Rattle.wasm_composite_types.specs.wasm_ref_types.declared.index.UnpackedIndex.{UnpackedIndex}
+use Rattle.wasm_composite_types.specs.wasm_ref_types.declared.index.UnpackedIndex.TheVariants.{Module, RecGroup, Id}
+use Rattle.wasm_composite_types.specs.wasm_ref_types.declared.value.ValType.{ValType}
+use Rattle.wasm_composite_types.specs.wasm_ref_types.ReadTypes.{value_at}
+use Rattle.wasm_composite_types.specs.wasm_ref_types.TypeSpellings.{SpellsValue}
+use Rattle.wasm_composite_types.specs.wasm_ref_types.TypesTaken.{value_taken}
 use Rattle.wasm_composite_types.specs.declared.field.FieldType.{FieldType}
 use Rattle.wasm_composite_types.specs.declared.form.CompositeInnerType.{CompositeInnerType}
 use Rattle.wasm_composite_types.specs.declared.form.CompositeInnerType.TheVariants.{Func, Array, Struct, Cont}

@@ -10,7 +10,7 @@ use Rattle.wasm_reader.specs.Finals.{unsigned_final, size_final, vec_final}
 use Rattle.wasm_reader.specs.Numbers.{unsigned_at}
 use Rattle.wasm_reader.specs.Text.{size_at}
 use Rattle.wasm_reader.specs.Items.{vec_at}
-use Rattle.wasm_ref_types.specs.declared.index.UnpackedIndex.TheVariants.{Module}
+use Rattle.wasm_composite_types.specs.wasm_ref_types.declared.index.UnpackedIndex.TheVariants.{Module}
 use Rattle.wasm_composite_types.specs.Readings.{composite_after, composite_at}
 use Rattle.wasm_composite_types.specs.Finals.{begun_final, gated_from, made_from, composite_from, composite_final}
 use Rattle.wasm_types.specs.Readings.{index_at, supertype_at, declared_at, sub_after, sub_at, group_after, group_at}

@@ -12,3 +12,5 @@ pub mod TypesTaken
 pub mod Written
 pub mod Remap
 pub mod Parts
+-- Passed on to crates above, which then list this one alone.
+pub use Rattle.wasm_composite_types.specs as wasm_composite_types

@@ -8,8 +8,8 @@ use Rattle.wasm_reader.specs.Reading.{Reading, fault, ◌>>=◌, byte_at}
 use Rattle.wasm_reader.specs.Numbers.{unsigned_at}
 use Rattle.wasm_reader.specs.Text.{size_at}
 use Rattle.wasm_reader.specs.Items.{vec_at}
-use Rattle.wasm_ref_types.specs.declared.index.UnpackedIndex.{UnpackedIndex}
-use Rattle.wasm_ref_types.specs.declared.index.UnpackedIndex.TheVariants.{Module}
+use Rattle.wasm_composite_types.specs.wasm_ref_types.declared.index.UnpackedIndex.{UnpackedIndex}
+use Rattle.wasm_composite_types.specs.wasm_ref_types.declared.index.UnpackedIndex.TheVariants.{Module}
 use Rattle.wasm_composite_types.specs.Readings.{gated, composite_after, composite_at}
 use Rattle.wasm_types.specs.declared.subtype.SubType.{SubType}
 

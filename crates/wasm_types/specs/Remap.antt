@@ -1,7 +1,7 @@
 -- A call at each index that a type names, in the order of its bytes, up to the first that is refused. What a call that is not
 -- refused leaves stands in the index's place; nothing else changes.
 use Rattle.std.specs.Prelude.{◌≡◌, Option, Some, None, Result}
-use Rattle.wasm_ref_types.specs.declared.index.UnpackedIndex.{UnpackedIndex}
+use Rattle.wasm_composite_types.specs.wasm_ref_types.declared.index.UnpackedIndex.{UnpackedIndex}
 use Rattle.wasm_types.specs.declared.subtype.SubType.{SubType}
 use Rattle.wasm_composite_types.specs.Remap.{Keeps, VisitsIndex, VisitsBoth, VisitsEach, VisitsForm}
 use Rattle.wasm_types.specs.Groups.{Group}

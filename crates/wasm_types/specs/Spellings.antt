@@ -4,9 +4,9 @@ use Rattle.std.specs.Option.{option_to_list}
 use Rattle.wasm_features.specs.declared.WasmFeatures.{WasmFeatures}
 use Rattle.wasm_reader.specs.Numbers.{unsigned, Spells}
 use Rattle.wasm_reader.specs.Items.{SpellsVec}
-use Rattle.wasm_ref_types.specs.declared.index.UnpackedIndex.{UnpackedIndex}
-use Rattle.wasm_ref_types.specs.declared.index.UnpackedIndex.TheVariants.{Module, RecGroup, Id}
-use Rattle.wasm_ref_types.specs.TypeSpellings.{HasGcTypes, SpellsBehind}
+use Rattle.wasm_composite_types.specs.wasm_ref_types.declared.index.UnpackedIndex.{UnpackedIndex}
+use Rattle.wasm_composite_types.specs.wasm_ref_types.declared.index.UnpackedIndex.TheVariants.{Module, RecGroup, Id}
+use Rattle.wasm_composite_types.specs.wasm_ref_types.TypeSpellings.{HasGcTypes, SpellsBehind}
 use Rattle.wasm_types.specs.declared.subtype.SubType.{SubType}
 use Rattle.wasm_composite_types.specs.Spellings.{SpellsBoth, SpellsComposite, AtMost, IsWrittenComposite}
 use Rattle.wasm_types.specs.Readings.{Listed}

@@ -13,8 +13,8 @@ use Rattle.wasm_reader.specs.Items.{SpellsVec, vec_at}
 use Rattle.wasm_reader.specs.Laws.{TakesSpelled}
 use Rattle.wasm_reader.specs.Spellings.{ok_is, then_was, if_was, number_taken, size_again, size_was}
 use Rattle.wasm_reader.specs.Vecs.{later_bytes, vec_taken}
-use Rattle.wasm_ref_types.specs.declared.index.UnpackedIndex.{UnpackedIndex}
-use Rattle.wasm_ref_types.specs.declared.index.UnpackedIndex.TheVariants.{Module, RecGroup, Id}
+use Rattle.wasm_composite_types.specs.wasm_ref_types.declared.index.UnpackedIndex.{UnpackedIndex}
+use Rattle.wasm_composite_types.specs.wasm_ref_types.declared.index.UnpackedIndex.TheVariants.{Module, RecGroup, Id}
 use Rattle.wasm_composite_types.specs.declared.form.CompositeType.{CompositeType}
 use Rattle.wasm_types.specs.declared.subtype.SubType.{SubType}
 use Rattle.wasm_composite_types.specs.Readings.{composite_after, composite_at}

@@ -5,10 +5,10 @@ use Rattle.wasm_features.specs.declared.WasmFeatures.{WasmFeatures}
 use Rattle.wasm_reader.specs.Shortest.{shortest_unsigned}
 use Rattle.wasm_reader.specs.Spelled.{IsShortest-unsigned}
 use Rattle.wasm_reader.specs.Vecs.{vec_spelled}
-use Rattle.wasm_ref_types.specs.declared.index.UnpackedIndex.{UnpackedIndex}
-use Rattle.wasm_ref_types.specs.declared.index.UnpackedIndex.TheVariants.{Module, RecGroup, Id}
-use Rattle.wasm_ref_types.specs.TypeSpellings.{HasGcTypes, ReadsWritten}
-use Rattle.wasm_ref_types.specs.TypesTaken.{spelled_read}
+use Rattle.wasm_composite_types.specs.wasm_ref_types.declared.index.UnpackedIndex.{UnpackedIndex}
+use Rattle.wasm_composite_types.specs.wasm_ref_types.declared.index.UnpackedIndex.TheVariants.{Module, RecGroup, Id}
+use Rattle.wasm_composite_types.specs.wasm_ref_types.TypeSpellings.{HasGcTypes, ReadsWritten}
+use Rattle.wasm_composite_types.specs.wasm_ref_types.TypesTaken.{spelled_read}
 use Rattle.wasm_types.specs.declared.subtype.SubType.{SubType}
 use Rattle.wasm_composite_types.specs.Written.{items_spelled, composite_spelled}
 use Rattle.wasm_types.specs.Readings.{sub_at, group_at}

@@ -19,7 +19,7 @@ use std::cmp::Ordering;
 use std::hash::{Hash, Hasher};
 use std::marker::Model;
 use std::slice;
-use wasm_ref_types::PackedIndex;
+use wasm_composite_types::ref_types::PackedIndex;
 
 /// Types that may name one another: a type that stands alone, or an explicit group.
 ///

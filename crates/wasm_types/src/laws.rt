@@ -3,7 +3,7 @@
 ghost use Rattle.std.specs.Prelude.{◌≡◌, ◌↔◌, true};
 ghost use Rattle.wasm_features.specs.declared.WasmFeatures.{WasmFeatures};
 ghost use Rattle.wasm_reader.specs.Laws.{IsFinal, EndsEarly, TakesSpelled, IsPrefixFree};
-ghost use Rattle.wasm_ref_types.specs.TypeSpellings.{ReadsWritten};
+ghost use Rattle.wasm_composite_types.specs.wasm_ref_types.TypeSpellings.{ReadsWritten};
 ghost use Rattle.wasm_types.specs.Groups.{Group};
 ghost use Rattle.wasm_types.specs.Moving.{OffsetsOfGroupsMove, OffsetsOfSectionsMove};
 ghost use Rattle.wasm_types.specs.contracts.group.RecGroupPartialEq.TheImpl.{ghosts as group_eq};

@@ -11,9 +11,9 @@ use crate::group::RecGroup;
 use crate::subtype::SubType;
 use std::alloc::Global;
 use wasm_composite_types::read::{expect_gc, read_composite_after};
+use wasm_composite_types::ref_types::PackedIndex;
 use wasm_reader::limits::{MAX_WASM_GROUP_TYPES, MAX_WASM_SUPERTYPES};
 use wasm_reader::{BinaryReader, Error, ErrorKind, FromReader, Result};
-use wasm_ref_types::PackedIndex;
 
 // An index of a type. One of 2^20 or more is `Limit` at its first byte.
 #[tactic(auto, unfolding(crate::specs::Readings::index_at))]

@@ -6,8 +6,8 @@ ghost use Rattle.wasm_composite_types.specs.Remap.{VisitsEach};
 ghost use Rattle.wasm_types.specs.Remap.{VisitsSupertype, VisitsSub};
 
 use crate::subtype::SubType;
+use wasm_composite_types::ref_types::PackedIndex;
 use wasm_composite_types::remap::{remap_form, remap_index};
-use wasm_ref_types::PackedIndex;
 
 fn remap_supertype<E, F: FnMut(&mut PackedIndex) -> Result<(), E>>(
     supertype: Option<PackedIndex>,

@@ -6,10 +6,10 @@ ghost use Rattle.wasm_types.specs.Plain.{plain_function_of};
 ghost use Rattle.wasm_composite_types.specs.declared.form.CompositeInnerType.TheVariants.{Func};
 
 use std::alloc::AllocError;
+use wasm_composite_types::ref_types::PackedIndex;
 use wasm_composite_types::{
     ArrayType, CompositeInnerType, CompositeType, ContType, FuncType, StructType,
 };
-use wasm_ref_types::PackedIndex;
 
 /// A type with its place among subtypes.
 #[derive(PartialEq, Eq, PartialOrd, Ord, Hash, Drop)]

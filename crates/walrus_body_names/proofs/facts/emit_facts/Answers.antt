@@ -1,5 +1,5 @@
 use Rattle.std.proofs.Common.{arith, subst, false, List, ℕ, ◌++◌}
-use Rattle.walrus_builder.specs.Functions.{seqs_of}
+use Rattle.walrus_body_writer.specs.walrus_tree.walrus_builder.Functions.{seqs_of}
 use Rattle.walrus_body_writer.specs.walrus_tree.Text.{operators}
 use Rattle.walrus_body_names.specs.Names.{HaveSame, local_in, text_names}
 use Rattle.walrus_body_names.proofs.Gathering.{knows}

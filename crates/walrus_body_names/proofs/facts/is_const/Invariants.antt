@@ -1,6 +1,6 @@
 use Rattle.std.proofs.Common.{◌≡◌, drop}
 use Rattle.std.specs.Prelude.{slice_get}
-use Rattle.walrus_builder.specs.Functions.{seqs_of}
+use Rattle.walrus_body_writer.specs.walrus_tree.walrus_builder.Functions.{seqs_of}
 use Rattle.walrus_body_names.specs.Names.{all_constant, are_constants}
 use Rattle.walrus_body_names.proofs.facts.is_const.Given as goal
 

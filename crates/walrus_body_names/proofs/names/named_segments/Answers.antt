@@ -1,5 +1,5 @@
 use Rattle.std.proofs.Common.{◌∙◌, ap, List, ℕ, ◌++◌}
-use Rattle.walrus_builder.specs.Functions.{seqs_of}
+use Rattle.walrus_body_writer.specs.walrus_tree.walrus_builder.Functions.{seqs_of}
 use Rattle.walrus_body_writer.specs.walrus_tree.Text.{operators}
 use Rattle.walrus_body_names.specs.declared.names.Segments.{Segments}
 use Rattle.walrus_body_names.specs.Names.{segment_in, text_names}

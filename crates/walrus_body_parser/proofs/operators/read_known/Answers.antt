@@ -1,7 +1,7 @@
 use Rattle.std.proofs.Common.{ℕ, ◌≡◌, ◌<◌, ◌-◌, ◌∙◌, Option, Some, false, ap, inl, inr, arith}
 use Rattle.std.proofs.lemmas.Result.{err_from_is_err_and}
-use Rattle.wasm_operators.specs.declared.entry.Entry.{Entry as Row}
-use Rattle.wasm_operators.specs.Operators.{flow_in}
+use Rattle.walrus_body_operands.specs.walrus_body_rules.wasm_body_grammar.wasm_operators.declared.entry.Entry.{Entry as Row}
+use Rattle.walrus_body_operands.specs.walrus_body_rules.wasm_body_grammar.wasm_operators.Operators.{flow_in}
 use Rattle.walrus_operators.specs.Operators.{seen}
 use Rattle.walrus_body_operands.specs.Listed.{keeps_on}
 use Rattle.walrus_body_locals.specs.walrus_body_nesting.Stands.{place_in}

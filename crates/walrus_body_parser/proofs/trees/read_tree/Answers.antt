@@ -2,7 +2,7 @@ use Rattle.std.proofs.Common.{◌≡◌, ◌<◌, List, Some, Ok, Bool, false, l
 use Rattle.std.specs.Bool.{OnTrue}
 use Rattle.std.proofs.lemmas.Result.{err_from_is_err_and}
 use Rattle.wasm_reader.specs.Cursor.{Cursor, rest}
-use Rattle.walrus_builder.specs.Built.{Seq}
+use Rattle.walrus_body_operands.specs.walrus_body_stack.walrus_builder.Built.{Seq}
 use Rattle.walrus_body_locals.specs.walrus_body_nesting.Opens.{type_at}
 use Rattle.walrus_body_operands.specs.walrus_body_stack.Frames.{blocks, opens}
 use Rattle.walrus_body_parser.specs.Changes.{ReadsIf}

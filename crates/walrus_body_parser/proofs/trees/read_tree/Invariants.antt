@@ -1,6 +1,6 @@
 use Rattle.std.proofs.Common.{◌≡◌, length}
 use Rattle.wasm_reader.specs.Cursor.{rest}
-use Rattle.walrus_builder.specs.Built.{contents}
+use Rattle.walrus_body_operands.specs.walrus_body_stack.walrus_builder.Built.{contents}
 use Rattle.walrus_body_locals.specs.walrus_body_nesting.Opens.{type_at}
 use Rattle.walrus_body_operands.specs.walrus_body_stack.Frames.{blocks, heading, heading_of, opens}
 use Rattle.walrus_body_parser.specs.Changes.{entry_of}

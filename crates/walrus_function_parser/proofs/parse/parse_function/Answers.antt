@@ -2,10 +2,10 @@ use Rattle.std.proofs.Common.{◌≡◌, ◌⊎◌, ℕ, List, Option, Some, Non
 use Rattle.std.proofs.lemmas.Result.{err_from_is_err_and}
 use Rattle.std.specs.declared.alloc.Global.{Global}
 use Rattle.std.specs.declared.string.String.{String}
-use Rattle.walrus_builder.specs.Built.{Seq, contents}
+use Rattle.walrus_body_parser.specs.walrus_body_stack.walrus_builder.Built.{Seq, contents}
 use Rattle.walrus_index_maps.specs.Views.{ids}
-use Rattle.walrus_body_locals.specs.walrus_body_env.declared.error.BodyError.TheVariants.{Memory}
-use Rattle.walrus_body_locals.specs.walrus_body_nesting.Opens.{type_at}
+use Rattle.walrus_body_parser.specs.walrus_body_locals.walrus_body_env.declared.error.BodyError.TheVariants.{Memory}
+use Rattle.walrus_body_parser.specs.walrus_body_locals.walrus_body_nesting.Opens.{type_at}
 use Rattle.walrus_body_parser.specs.walrus_body_stack.Frames.{heading}
 use Rattle.walrus_body_parser.specs.walrus_body_rules.Sights.{Sight}
 use Rattle.walrus_body_parser.specs.Trees.{ReadsTree, RefusesTree}

@@ -1,7 +1,7 @@
 use Rattle.std.proofs.Common.{◌+◌, ◌≤◌, ℕ, ⊎_elim, inl, length, refl, subst, sym}
 use Rattle.walrus_index_maps.specs.Views.{ids}
-use Rattle.walrus_body_parser.specs.walrus_body_stack.walrus_builder.Built.{contents}
-use Rattle.walrus_body_parser.specs.walrus_body_stack.walrus_body_env.contracts.validator.AcceptAllValidator.TheImpl.{ghosts}
+use Rattle.walrus_module_env.specs.walrus_body_parser.walrus_body_stack.walrus_builder.Built.{contents}
+use Rattle.walrus_module_env.specs.walrus_body_parser.walrus_body_stack.walrus_body_env.contracts.validator.AcceptAllValidator.TheImpl.{ghosts}
 use Rattle.walrus_module_env.specs.walrus_collections.walrus_local_function.walrus_function_parser.Parsed.{telling}
 use Rattle.walrus_module_bodies.proofs.AsideLemmas.{aside_read, of_err, of_ok, one_aside}
 use Rattle.walrus_module_bodies.proofs.StopLemmas.{body_fault}

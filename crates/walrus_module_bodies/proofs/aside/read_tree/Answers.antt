@@ -1,6 +1,6 @@
 use Rattle.std.proofs.Common.{length}
 use Rattle.walrus_index_maps.specs.Views.{ids}
-use Rattle.walrus_body_parser.specs.walrus_body_stack.walrus_builder.Functions.{seqs_of}
+use Rattle.walrus_module_env.specs.walrus_body_parser.walrus_body_stack.walrus_builder.Functions.{seqs_of}
 use Rattle.walrus_module_bodies.proofs.AsideLemmas.{of_ok}
 use Rattle.walrus_module_bodies.proofs.ReadingLemmas.{aside_tree}
 use Rattle.walrus_module_bodies.proofs.aside.read_tree.Goals as goal

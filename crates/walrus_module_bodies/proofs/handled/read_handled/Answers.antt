@@ -4,7 +4,7 @@ use Rattle.walrus_index_maps.specs.Views.{ids}
 use Rattle.walrus_handler_types.proofs.Growing.{given_types_grow}
 use Rattle.walrus_handler_types.specs.Giving.{listed}
 use Rattle.walrus_handler_types.specs.walrus_handler_laws.Handlers.{tree_ids}
-use Rattle.walrus_body_parser.specs.walrus_body_stack.walrus_builder.Built.{contents}
+use Rattle.walrus_module_env.specs.walrus_body_parser.walrus_body_stack.walrus_builder.Built.{contents}
 use Rattle.walrus_module_env.specs.Env.{tag_type_at}
 use Rattle.walrus_module_bodies.proofs.ReadingLemmas.{gives_handlers, handled_read, lent_tree}
 use Rattle.walrus_module_bodies.proofs.handled.read_handled.Goals as goal

@@ -1,4 +1,4 @@
-use Rattle.wasm_reader.specs.Shortest.{shortest_unsigned}
+use Rattle.wasm_operator_bytes.specs.wasm_reader.Shortest.{shortest_unsigned}
 use Rattle.wasm_operator_bytes.specs.Bytes.{unsigned_bytes}
 use Rattle.walrus_number_writer.proofs.Shortens.{Shortens}
 use Rattle.walrus_number_writer.proofs.number.write_unsigned.Given as goal

@@ -1,4 +1,4 @@
-use Rattle.wasm_reader.specs.Cursor.{rest}
+use Rattle.wasm_operators.specs.wasm_reader.Cursor.{rest}
 use Rattle.walrus_operators.proofs.Known.{code_next, kind_next}
 use Rattle.walrus_operators.proofs.reader.read_code.Goals as goal
 

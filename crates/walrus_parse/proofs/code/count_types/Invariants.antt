@@ -1,5 +1,5 @@
 use Rattle.std.proofs.Common.{◌≡◌, ◌+◌, length}
-use Rattle.walrus_module.specs.walrus_types.Table.{entries}
+use Rattle.walrus_item_names.specs.walrus_module.walrus_types.Table.{entries}
 use Rattle.walrus_parse.proofs.code.count_types.Given as goal
 
 abbrev pub invariant-loop-ty : goal.invariant-loop-ty

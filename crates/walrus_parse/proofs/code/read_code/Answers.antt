@@ -1,7 +1,7 @@
 use Rattle.std.specs.Prelude.{refl}
 use Rattle.std.proofs.Common.{ap, ◌∙◌}
 use Rattle.walrus_file_bodies.specs.walrus_items_into.walrus_functions_into.Bodies.{bodiless, paired}
-use Rattle.walrus_module.specs.walrus_body_writer.walrus_pairing.walrus_index_maps.Views.{ids}
+use Rattle.walrus_item_names.specs.walrus_module.walrus_body_writer.walrus_pairing.walrus_index_maps.Views.{ids}
 use Rattle.walrus_file_bodies.specs.walrus_module_bodies.Steps.{state}
 use Rattle.walrus_file_bodies.specs.walrus_module_bodies.declared.file.FileEnv.{FileEnv}
 use Rattle.walrus_parse.proofs.CodeLemmas.{ready_over}

@@ -11,10 +11,10 @@ use Rattle.walrus_file_bodies.specs.walrus_items_into.wasm_module_rules.wasm_mod
 use Rattle.walrus_file_bodies.specs.walrus_module_bodies.Steps.{Steps, state}
 use Rattle.walrus_item_names.specs.Gives.{GivesNames}
 use Rattle.walrus_item_names.specs.Holder.{holder}
-use Rattle.walrus_module.specs.walrus_body_writer.walrus_pairing.wasm_immediates.wasm_features.declared.WasmFeatures.{WasmFeatures}
-use Rattle.walrus_module.specs.walrus_types.Table.{Table, entries, next_id}
-use Rattle.walrus_module.specs.walrus_types.walrus_items.declared.local.Local.{Local}
-use Rattle.walrus_payloads_into.specs.Customs.{customs_of}
+use Rattle.walrus_item_names.specs.walrus_module.walrus_body_writer.walrus_pairing.wasm_immediates.wasm_features.declared.WasmFeatures.{WasmFeatures}
+use Rattle.walrus_item_names.specs.walrus_module.walrus_types.Table.{Table, entries, next_id}
+use Rattle.walrus_item_names.specs.walrus_module.walrus_types.walrus_items.declared.local.Local.{Local}
+use Rattle.walrus_file_bodies.specs.walrus_items_into.walrus_payloads_into.Customs.{customs_of}
 use Rattle.walrus_parse.specs.Named.{all_names}
 use Rattle.walrus_parse.specs.Parsed.{ReadsAs, read_features}
 use Rattle.walrus_parse.specs.Refusals.{IsRefusal}

@@ -1,7 +1,7 @@
 use Rattle.std.proofs.Common.{◌≡◌, ◌∙◌, Some, sym, ap, subst}
 use Rattle.std.proofs.lemmas.Bool.{false≢true}
-use Rattle.walrus_used.specs.walrus_module_items.declared.import.Import.{Import}
-use Rattle.walrus_used.specs.walrus_module.Items.{brought}
+use Rattle.walrus_refusals.specs.walrus_used.walrus_module_items.declared.import.Import.{Import}
+use Rattle.walrus_refusals.specs.walrus_used.walrus_module.Items.{brought}
 use Rattle.walrus_passes.specs.Keeping.{IsHeld}
 use Rattle.walrus_passes.proofs.RestLemmas.{rest_without}
 use Rattle.walrus_passes.proofs.drop.drop_import_at.Goals as goal

@@ -1,5 +1,5 @@
 use Rattle.std.proofs.Common.{◌<◌}
-use Rattle.walrus_used.specs.walrus_module.Items.{brought}
+use Rattle.walrus_refusals.specs.walrus_used.walrus_module.Items.{brought}
 use Rattle.walrus_passes.specs.Keeping.{IsHeld}
 use Rattle.walrus_passes.specs.Part.{RestAmong}
 use Rattle.walrus_passes.proofs.drop.drop_imports.Given as goal

@@ -1,4 +1,4 @@
-use Rattle.walrus_used.specs.walrus_module.Parts.{parts}
+use Rattle.walrus_refusals.specs.walrus_used.walrus_module.Parts.{parts}
 use Rattle.walrus_refusals.specs.Sound.{IsSound}
 use Rattle.walrus_passes.specs.Part.{IsKeptPart}
 use Rattle.walrus_passes.proofs.AskedLemmas.{refused_these, with_these}

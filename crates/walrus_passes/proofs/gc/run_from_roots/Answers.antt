@@ -1,6 +1,6 @@
-use Rattle.walrus_used.specs.walrus_module.Parts.{parts}
+use Rattle.walrus_refusals.specs.walrus_used.walrus_module.Parts.{parts}
 use Rattle.walrus_passes.specs.Keeping.{IsHeld}
-use Rattle.walrus_used.specs.walrus_references.Kept.{Kept}
+use Rattle.walrus_refusals.specs.walrus_used.walrus_references.Kept.{Kept}
 use Rattle.walrus_passes.proofs.PartLemmas.{held_closed, part_as}
 use Rattle.walrus_passes.proofs.gc.run_from_roots.Goals as goal
 

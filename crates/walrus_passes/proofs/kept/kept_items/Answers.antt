@@ -1,4 +1,4 @@
-use Rattle.walrus_used.specs.walrus_module.Parts.{parts}
+use Rattle.walrus_refusals.specs.walrus_used.walrus_module.Parts.{parts}
 use Rattle.walrus_passes.proofs.KeptLemmas.{held_kept}
 use Rattle.walrus_passes.proofs.kept.kept_items.Goals as goal
 

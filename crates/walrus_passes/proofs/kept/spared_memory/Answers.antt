@@ -1,5 +1,5 @@
 use Rattle.std.proofs.Common.{◌∙◌}
-use Rattle.walrus_used.specs.walrus_module.Parts.{parts}
+use Rattle.walrus_refusals.specs.walrus_used.walrus_module.Parts.{parts}
 use Rattle.walrus_passes.proofs.KeptLemmas.{has_memory, has_no_data, spares_first}
 use Rattle.walrus_passes.proofs.kept.spared_memory.Goals as goal
 

@@ -1,6 +1,6 @@
 use Rattle.std.proofs.Common.{◌^◌, arith}
-use Rattle.walrus_used.specs.walrus_module.Parts.{parts}
-use Rattle.walrus_used.specs.Counts.{counts_of}
+use Rattle.walrus_refusals.specs.walrus_used.walrus_module.Parts.{parts}
+use Rattle.walrus_refusals.specs.walrus_used.Counts.{counts_of}
 use Rattle.walrus_passes.specs.Keeping.{IsHeld}
 use Rattle.walrus_passes.proofs.SetLemmas.{all_sets, bounded_by}
 use Rattle.walrus_passes.proofs.used.sets_of.Goals as goal

@@ -1,5 +1,5 @@
 use Rattle.std.proofs.Common.{map, refl}
-use Rattle.wasm_name_payloads.specs.Names.{names_if}
+use Rattle.walrus_payload_readers.specs.wasm_name_payloads.Names.{names_if}
 use Rattle.walrus_payload_readers.specs.Bearers.{given_of}
 use Rattle.walrus_payloads_into.proofs.Fronts.{next}
 use Rattle.walrus_payloads_into.proofs.customs.read_names.Goals as goal

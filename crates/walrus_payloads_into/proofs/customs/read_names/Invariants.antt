@@ -1,7 +1,7 @@
 use Rattle.std.proofs.Common.{◌≡◌, map, take}
 use Rattle.std.specs.List.{flat_map}
 use Rattle.wasm_body_grammar.specs.wasm_grammar.Modules.{Module}
-use Rattle.wasm_name_payloads.specs.Names.{names_if}
+use Rattle.walrus_payload_readers.specs.wasm_name_payloads.Names.{names_if}
 use Rattle.walrus_index_maps.specs.Views.{ids}
 use Rattle.walrus_payload_readers.specs.Bearers.{given_of}
 use Rattle.walrus_payloads_into.specs.Numbered.{IsNumbered}

@@ -1,5 +1,5 @@
 use Rattle.std.proofs.Common.{refl}
-use Rattle.wasm_name_payloads.specs.Producers.{producers_if}
+use Rattle.walrus_payload_readers.specs.wasm_name_payloads.Producers.{producers_if}
 use Rattle.walrus_customs.specs.Producers.{fields_of}
 use Rattle.walrus_payloads_into.proofs.Fronts.{next}
 use Rattle.walrus_payloads_into.proofs.customs.read_producers.Goals as goal

@@ -1,6 +1,6 @@
 use Rattle.std.proofs.Common.{◌≡◌, ◌++◌, ◌∙◌, true, List, map, ap, sym}
 use Rattle.std.proofs.lemmas.Result.{on_ok_weaker}
-use Rattle.wasm_name_payloads.specs.Names.{Given, same_name, section_name}
+use Rattle.walrus_payload_readers.specs.wasm_name_payloads.Names.{Given, same_name, section_name}
 use Rattle.walrus_index_maps.specs.Views.{ids}
 use Rattle.walrus_payload_readers.specs.Bearers.{given_of}
 use Rattle.walrus_payloads_into.specs.Counted.{file_of, file_is_numbered}

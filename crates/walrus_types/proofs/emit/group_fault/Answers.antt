@@ -1,7 +1,7 @@
 use Rattle.std.proofs.Common.{◌∙◌, ◌≡◌, ◌<◌, ◌+◌, ℕ, List, [], Option, length, get_or, drop, flat_map, sym, ap, subst}
 use Rattle.std.specs.List.{filter_map}
 use Rattle.std.specs.Option.{option_or}
-use Rattle.walrus_forms.specs.Kinds.{kind_names}
+use Rattle.walrus_type_index.specs.walrus_items.walrus_forms.Kinds.{kind_names}
 use Rattle.walrus_types.specs.declared.error.IrError.{IrError}
 use Rattle.walrus_type_index.specs.walrus_items.Items.{kind_of}
 use Rattle.walrus_types.specs.Table.{table_of}

@@ -1,6 +1,6 @@
 use Rattle.std.proofs.Common.{◌≡◌, [], drop, flat_map}
 use Rattle.std.specs.List.{filter_map}
-use Rattle.walrus_forms.specs.Kinds.{kind_names}
+use Rattle.walrus_type_index.specs.walrus_items.walrus_forms.Kinds.{kind_names}
 use Rattle.walrus_type_index.specs.walrus_items.Items.{group_of}
 use Rattle.walrus_types.specs.Table.{table_of}
 use Rattle.walrus_types.specs.Emission.{fault_at, first_fault, index_at, written_kind, group_names}

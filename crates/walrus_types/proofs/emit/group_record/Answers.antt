@@ -1,7 +1,7 @@
 use Rattle.std.proofs.Common.{◌∙◌, ◌≡◌, ◌<◌, ◌++◌, ◌∷◌, ℕ, List, [], length, get_or, map, ap, subst}
 use Rattle.std.proofs.lemmas.List.{map-append}
-use Rattle.walrus_forms.specs.Kinds.{Kind}
-use Rattle.walrus_forms.specs.Records.{record_kind}
+use Rattle.walrus_type_index.specs.walrus_items.walrus_forms.Kinds.{Kind}
+use Rattle.walrus_type_index.specs.walrus_items.walrus_forms.Records.{record_kind}
 use Rattle.walrus_type_index.specs.walrus_items.Items.{kind_of}
 use Rattle.walrus_types.specs.Table.{table_of}
 use Rattle.walrus_types.specs.Emission.{index_at, written_kind}

@@ -1,7 +1,7 @@
 use Rattle.std.proofs.Common.{◌≡◌, [], map, take}
 use Rattle.std.specs.List.{filter_map}
-use Rattle.walrus_forms.specs.Records.{record_kind}
-use Rattle.walrus_forms.specs.Renaming.{renamed_kind}
+use Rattle.walrus_type_index.specs.walrus_items.walrus_forms.Records.{record_kind}
+use Rattle.walrus_type_index.specs.walrus_items.walrus_forms.Renaming.{renamed_kind}
 use Rattle.walrus_types.specs.Table.{table_of}
 use Rattle.walrus_types.specs.Emission.{index_at, written_kind}
 use Rattle.walrus_types.proofs.emit.group_record.Given as goal

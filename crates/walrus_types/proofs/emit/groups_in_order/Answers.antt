@@ -1,7 +1,7 @@
 use Rattle.std.proofs.Common.{◌∙◌, ℕ, List, Bor, length, map, sym, ap, subst, slice_index_or}
 use Rattle.std.proofs.Math.ListN.{length-map}
 use Rattle.std.proofs.lemmas.Result.{IfOk-weaker}
-use Rattle.walrus_forms.specs.Order.{kind_cmp}
+use Rattle.walrus_type_index.specs.walrus_items.walrus_forms.Order.{kind_cmp}
 use Rattle.walrus_type_order.specs.Order.{IsEmissionOrder}
 use Rattle.walrus_type_index.specs.walrus_items.declared.subtype.RecGroup.{RecGroup}
 use Rattle.walrus_type_index.specs.walrus_items.Items.{Group, group_of}

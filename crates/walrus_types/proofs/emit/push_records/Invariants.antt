@@ -1,5 +1,5 @@
 use Rattle.std.proofs.Common.{◌≡◌, [], ◌++◌, map, take}
-use Rattle.walrus_forms.specs.Records.{type_group}
+use Rattle.walrus_type_index.specs.walrus_items.walrus_forms.Records.{type_group}
 use Rattle.walrus_type_index.specs.walrus_items.Items.{group_of}
 use Rattle.walrus_types.specs.Table.{table_of}
 use Rattle.walrus_types.specs.Emission.{index_at, described_group}

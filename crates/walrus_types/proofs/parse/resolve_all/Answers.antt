@@ -1,7 +1,7 @@
 use Rattle.std.proofs.Common.{length, subst, sym}
-use Rattle.walrus_forms.proofs.ListLemmas.{All-of_map}
-use Rattle.walrus_forms.specs.Records.{record_kind}
-use Rattle.walrus_forms.specs.Renaming.{KindBelow}
+use Rattle.walrus_type_index.proofs.walrus_forms.ListLemmas.{All-of_map}
+use Rattle.walrus_type_index.specs.walrus_items.walrus_forms.Records.{record_kind}
+use Rattle.walrus_type_index.specs.walrus_items.walrus_forms.Renaming.{KindBelow}
 use Rattle.walrus_types.proofs.parse.resolve_all.Goals as goal
 
 pub resolve-requires : goal.resolve-requires

@@ -1,6 +1,6 @@
 use Rattle.std.proofs.Common.{◌≡◌, map, take}
-use Rattle.walrus_forms.specs.Records.{record_kind}
-use Rattle.walrus_forms.specs.Renaming.{renamed_kind, at}
+use Rattle.walrus_type_index.specs.walrus_items.walrus_forms.Records.{record_kind}
+use Rattle.walrus_type_index.specs.walrus_items.walrus_forms.Renaming.{renamed_kind, at}
 use Rattle.walrus_types.specs.Groups.{member_kind}
 use Rattle.walrus_types.proofs.parse.resolve_all.Given as goal
 

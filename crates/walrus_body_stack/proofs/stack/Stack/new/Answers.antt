@@ -1,7 +1,7 @@
 use Rattle.std.proofs.Common.{◌≡◌, List, Some, sym, subst}
 use Rattle.std.specs.Prelude.{slice_index_or}
 use Rattle.walrus_instr.specs.declared.seq.InstrSeq.{InstrSeq}
-use Rattle.walrus_builder.specs.Built.{contents}
+use Rattle.walrus_body_nesting.specs.walrus_builder.Built.{contents}
 use Rattle.walrus_body_nesting.specs.Opens.{type_at}
 use Rattle.walrus_body_stack.proofs.Labels.{first_type, body_open}
 use Rattle.walrus_body_stack.proofs.stack.Stack.new.Goals as goal

@@ -1,6 +1,6 @@
 use Rattle.std.proofs.Common.{◌∙◌, ◌≡◌, ap, sym, subst, Some, None, true, false, arith}
-use Rattle.wasm_reader.specs.wasm_features.declared.WasmFeatures.{WasmFeatures}
-use Rattle.wasm_reader.specs.Cursor.{Cursor}
+use Rattle.wasm_operators.specs.wasm_reader.wasm_features.declared.WasmFeatures.{WasmFeatures}
+use Rattle.wasm_operators.specs.wasm_reader.Cursor.{Cursor}
 use Rattle.wasm_operators.specs.Table.{find_code}
 use Rattle.wasm_operators.specs.Operators.{is_on}
 use Rattle.walrus_operators.specs.Operators.{IsNext, NoneIsNext}

@@ -1,5 +1,5 @@
 use Rattle.std.proofs.Common.{subst, sym}
-use Rattle.wasm_reader.specs.Cursor.{Cursor}
+use Rattle.wasm_operators.specs.wasm_reader.Cursor.{Cursor}
 use Rattle.walrus_operators.specs.Operators.{IsNext}
 use Rattle.walrus_operators.proofs.reader.OperatorReader.read_as.Goals as goal
 

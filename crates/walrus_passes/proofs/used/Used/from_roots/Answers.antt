@@ -1,4 +1,4 @@
-use Rattle.walrus_used.specs.walrus_module.Parts.{parts}
+use Rattle.walrus_refusals.specs.walrus_used.walrus_module.Parts.{parts}
 use Rattle.walrus_passes.specs.Keeping.{IsHeld}
 use Rattle.walrus_passes.proofs.PartLemmas.{just_kept}
 use Rattle.walrus_passes.proofs.used.Used.from_roots.Goals as goal

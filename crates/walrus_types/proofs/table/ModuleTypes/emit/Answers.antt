@@ -1,6 +1,6 @@
 use Rattle.std.proofs.Common.{◌≡◌, ◌∙◌, ℕ, [], List, Bor, Vec, Global, Result, IfOk, IfErr, None, Some, length, map, refl, sym, ap, subst}
-use Rattle.walrus_forms.specs.Records.{TypeGroup, type_group}
-use Rattle.walrus_forms.specs.declared.record.GroupRecord.{GroupRecord}
+use Rattle.walrus_type_index.specs.walrus_items.walrus_forms.Records.{TypeGroup, type_group}
+use Rattle.walrus_type_index.specs.walrus_items.walrus_forms.declared.record.GroupRecord.{GroupRecord}
 use Rattle.walrus_type_index.specs.walrus_items.declared.subtype.RecGroup.{RecGroup}
 use Rattle.walrus_type_index.specs.walrus_items.Items.{group_of}
 use Rattle.walrus_types.specs.declared.error.IrError.{IrError}

@@ -1,5 +1,5 @@
 use Rattle.std.proofs.Common.{◌∙◌, Option, None, ℕ, true, ap}
-use Rattle.walrus_forms.specs.Kinds.{function_kind}
+use Rattle.walrus_type_index.specs.walrus_items.walrus_forms.Kinds.{function_kind}
 use Rattle.walrus_type_index.specs.Places.{kinds_in, is_exactly, last_in}
 use Rattle.walrus_types.specs.Highest.{later_of}
 use Rattle.walrus_types.specs.Table.{Table, found_type}

@@ -3,10 +3,10 @@ use Rattle.std.specs.List.{range_with_len}
 use Rattle.std.proofs.lemmas.List.{length-map}
 use Rattle.std.proofs.lemmas.List.FromFn.{length-range_with_len}
 use Rattle.std.proofs.lemmas.Result.{on_ok_weaker}
-use Rattle.walrus_forms.specs.Kinds.{Kind}
-use Rattle.walrus_forms.specs.declared.record.TypeRecord.{TypeRecord}
-use Rattle.walrus_forms.specs.Records.{TypeGroup, record_kind}
-use Rattle.walrus_forms.specs.Renaming.{KindBelow, renamed_kind, at}
+use Rattle.walrus_type_index.specs.walrus_items.walrus_forms.Kinds.{Kind}
+use Rattle.walrus_type_index.specs.walrus_items.walrus_forms.declared.record.TypeRecord.{TypeRecord}
+use Rattle.walrus_type_index.specs.walrus_items.walrus_forms.Records.{TypeGroup, record_kind}
+use Rattle.walrus_type_index.specs.walrus_items.walrus_forms.Renaming.{KindBelow, renamed_kind, at}
 use Rattle.walrus_types.specs.Groups.{member_kind}
 use Rattle.walrus_types.specs.Table.{next_id}
 use Rattle.walrus_types.specs.Parsing.{Parsed, parsed_group}

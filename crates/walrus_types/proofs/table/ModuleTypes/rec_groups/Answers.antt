@@ -1,5 +1,5 @@
 use Rattle.std.proofs.Common.{◌∙◌, ℕ, List, map, ap}
-use Rattle.walrus_arena.specs.Arena.{entries_from}
+use Rattle.walrus_type_index.specs.walrus_items.walrus_arena.Arena.{entries_from}
 use Rattle.walrus_type_index.specs.walrus_items.declared.subtype.RecGroup.{RecGroup}
 use Rattle.walrus_type_index.specs.walrus_items.Items.{Group, group_of}
 use Rattle.walrus_types.specs.Table.{Table}
