@@ -1,0 +1,4 @@
+pub mod Tests
+pub mod Picks
+mod Trees
+mod Picked
