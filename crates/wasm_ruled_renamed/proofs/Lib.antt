@@ -1,0 +1,6 @@
+mod Renaming
+mod Exprs
+mod Types
+mod Orders
+mod Locals
+mod Bodies

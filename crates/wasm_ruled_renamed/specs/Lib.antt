@@ -1,0 +1,5 @@
+pub mod Renamed
+pub mod Types
+pub mod Bodies
+-- Passed on to crates above, which then list this one alone.
+pub use Rattle.wasm_ruled_normal.specs as wasm_ruled_normal
