@@ -1,0 +1,8 @@
+use Rattle.wasm_normal_modules.proofs.Reading.{bring_no_types, read_modules_normal}
+use Rattle.wasm_normal_modules.proofs.laws.normal_forms_of_read_modules_are_ruled.Goals as goal
+
+pub returns-clause-plain : goal.returns-clause-plain
+returns-clause-plain c = bring_no_types
+
+pub returns-clause-ruled : goal.returns-clause-ruled
+returns-clause-ruled c = read_modules_normal c.normal_modules_are_ruled.ensures c.block_types_are_their_picks.ensures

@@ -1,0 +1,3 @@
+pub mod Modules
+-- Passed on to crates above, which then list this one alone.
+pub use Rattle.wasm_ruled_renamed.specs as wasm_ruled_renamed

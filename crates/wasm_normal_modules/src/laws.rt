@@ -1,0 +1,34 @@
+//! Laws: functions with nothing to do, whose contracts hold of all modules.
+
+ghost use Rattle.wasm_normal_modules.specs.Modules.{BlockTypesAreTheirPicks, NormalFormsOfReadModulesAreRuled, NormalModulesAreRuled, ReadModulesBringNoTypes};
+
+use wasm_ruled_normal::laws::normal_operators_are_ruled;
+use wasm_ruled_renamed::laws::{
+    normal_bodies_are_ruled, renamed_operators_are_ruled, retyped_types_serve,
+};
+
+/// The normal form of a module that meets the rules meets them, with its types sent elsewhere.
+pub fn normal_modules_are_ruled()
+    ensures { NormalModulesAreRuled }
+{
+    renamed_operators_are_ruled();
+    retyped_types_serve();
+    normal_bodies_are_ruled();
+}
+
+/// Each block type in it is its own pick, where its types are sent in their order.
+pub fn block_types_are_their_picks()
+    ensures { BlockTypesAreTheirPicks }
+{
+    normal_operators_are_ruled();
+    retyped_types_serve();
+}
+
+/// The normal form of a module that is read meets the rules, with its types as they are.
+pub fn normal_forms_of_read_modules_are_ruled()
+    ensures plain { ReadModulesBringNoTypes }
+    ensures ruled { NormalFormsOfReadModulesAreRuled }
+{
+    normal_modules_are_ruled();
+    block_types_are_their_picks();
+}
