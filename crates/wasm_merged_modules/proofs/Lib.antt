@@ -1,0 +1,5 @@
+mod Orders
+mod Steps
+mod SentKinds
+mod Groups
+mod Merged

@@ -1,0 +1,23 @@
+//! Laws: functions with nothing to do, whose contracts hold of all modules.
+
+ghost use Rattle.wasm_merged_modules.specs.Merged.{MergedModulesAreRuled, NoneStandBehind, TypesAreMerged};
+
+use walrus_types::laws::parsing_carries_same;
+use wasm_normal_modules::laws::{block_types_are_their_picks, normal_modules_are_ruled};
+
+/// The types of a file stand among its merged types, in their order; nothing has to stand behind these.
+pub fn types_are_merged()
+    ensures none { NoneStandBehind }
+    ensures merged { TypesAreMerged }
+{
+    parsing_carries_same();
+}
+
+/// The normal form of a module that meets the rules meets them with its types merged.
+pub fn merged_modules_are_ruled()
+    ensures { MergedModulesAreRuled }
+{
+    types_are_merged();
+    normal_modules_are_ruled();
+    block_types_are_their_picks();
+}
