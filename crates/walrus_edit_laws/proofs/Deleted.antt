@@ -2,6 +2,9 @@
 use Rattle.std.proofs.Common.{◌≡◌, ◌∙◌, ℕ, zero, suc, ◌<◌, ◌⊎◌, inl, inr, Bool, true, false, not, ◌==◌, ◌&&◌, Contains, List, [], ◌∷◌, length, filter, Option, Some, None, IsSome, if◌then◌else◌, refl, sym, ap, subst, arith}
 use Rattle.std.specs.Prelude.{slice_index_or, slice_set}
 use Rattle.std.specs.List.{slice_get}
+use Rattle.std.specs.Prelude.{is_some}
+use Rattle.std.specs.Option.{option_and_then}
+use Rattle.std.proofs.Math.ListN.{get_or-map}
 use Rattle.std.proofs.lemmas.Bool.{false≢true, cases_eq, cases_Bool, eq-eqb}
 use Rattle.std.proofs.lemmas.List.{get_or-set_same}
 use Rattle.std.proofs.lemmas.Option.{same_Some, none-some}
@@ -9,11 +12,12 @@ use Rattle.walrus_arena.proofs.ArenaLemmas.{live-within, at-deleted, at-other}
 use Rattle.walrus_forms.specs.Kinds.{Kind}
 use Rattle.walrus_forms.specs.Same.{same_kind}
 use Rattle.walrus_types.specs.Items.{Item, Group}
-use Rattle.walrus_types.specs.Table.{Table, type_at, group_at, IsLive, names_itself, merges, HasMember, nonempty_group, without_member, clear_all, Deletes, DeletesGroup}
+use Rattle.walrus_types.specs.Table.{Table, type_at, group_at, IsLive, names_itself, merges, HasMember, nonempty_group, without_member, with_live, clear_all, Deletes, DeletesGroup, DeletesAll}
 use Rattle.walrus_types.specs.TypeLaws.{AreGrouped}
 use Rattle.walrus_types.specs.Merged.{single_group, TypesHaveOwnIds}
 use Rattle.walrus_types.proofs.DeleteLemmas.{contains-filter, at-cleared}
 use Rattle.walrus_types.proofs.Places.{contains_has}
+use Rattle.walrus_types.proofs.SweepLemmas.{was-there, member-there}
 use Rattle.walrus_edit_laws.specs.Edits.{IsSettled}
 
 -- the types of u are some of t's, but for their names
@@ -150,6 +154,62 @@ module _ (t u : Table) (grouped : AreGrouped t) (settled : IsSettled t) (id : �
               | inr apart ↦ inl (sym (at-other t.groups left place q apart) ∙ slot)
             ];
       }
+
+-- types that are deleted together
+abbrev lives : Table → ℕ → Bool
+lives t id = is_some (type_at t id)
+
+kept_head : (b : Bool) (x : ℕ) (xs : List ℕ) → b ≡ true → (if b then x ∷ xs else xs) ≡ x ∷ xs
+kept_head true x xs e = refl
+kept_head false x xs e = absurd (false≢true e)
+
+-- all pass, or one doesn't
+all_or_one : (p : ℕ → Bool) (xs : List ℕ) → (filter p xs ≡ xs) ⊎ ((j : ℕ) × Contains xs j × (p j ≡ false))
+all_or_one p [] = inl refl
+all_or_one p (x ∷ xs) = elim (cases_Bool (p x)) as (λ _. (filter p (x ∷ xs) ≡ x ∷ xs) ⊎ ((j : ℕ) × Contains (x ∷ xs) j × (p j ≡ false))) [
+  | inl passes ↦ elim (all_or_one p xs) as (λ _. (filter p (x ∷ xs) ≡ x ∷ xs) ⊎ ((j : ℕ) × Contains (x ∷ xs) j × (p j ≡ false))) [
+    | inl all ↦ inl (kept_head (p x) x (filter p xs) passes ∙ ap (λ (ys : List ℕ). x ∷ ys) all)
+    | inr one ↦ inr (one.0, (suc (one.1).0, omega (arith, (one.1).1), (one.1).2), one.2)
+  ]
+  | inr fails ↦ inr (x, (0, omega arith, refl), fails)
+]
+
+pub deletes_these_types : (t u : Table) (ids : List ℕ) → DeletesAll ids t u → SomeTypes t u
+deletes_these_types t u ids gone i item is =
+    (item, (at-cleared ids t.types i item (ap (λ (xs : List (Option Item)). slice_index_or xs i None) (sym gone.types) ∙ is)).0, refl, refl)
+
+-- a group of which a type goes is marked, and has no entry type among those that are left
+pub deletes_these_shrinks : (t u : Table) → IsSettled t → (ids : List ℕ) → DeletesAll ids t u → Shrinks t u
+deletes_these_shrinks t u settled ids gone = record {
+  types = deletes_these_types t u ids gone;
+  groups = λ q g at_q.
+      let slot : option_and_then (with_live u.types) (group_at t q) ≡ Some g =
+      sym (get_or-map (option_and_then (with_live u.types)) t.groups q None) ∙ ap (λ (gs : List (Option Group)). slice_index_or gs q None) (sym gone.groups) ∙ at_q in
+      let was = was-there u.types (group_at t q) g slot in
+      let before : Group = was.0 in
+      let left : (i : ℕ) → Contains g.types i → Contains before.types i × (lives u i ≡ true) =
+      λ i c. contains-filter (lives u) before.types i (subst (λ (w : Group). Contains w.types i) was.2 c) in
+      elim (all_or_one (lives u) before.types) as (λ _. (group_at t q ≡ Some g) ⊎ ((g.explicit ≡ true) × ((i : ℕ) (item : Item) → Contains g.types i → type_at u i ≡ Some item → item.kind.entry ≡ true → ⊥))) [
+        | inl all ↦ inl (was.1 ∙ ap Some (sym (was.2 ∙ ap (λ (types : List ℕ). let w : Group = record { explicit = before.explicit; types = types } in w) all)))
+        | inr dead ↦ elim (cases_Bool before.explicit) as (λ _. (group_at t q ≡ Some g) ⊎ ((g.explicit ≡ true) × ((i : ℕ) (item : Item) → Contains g.types i → type_at u i ≡ Some item → item.kind.entry ≡ true → ⊥))) [
+          | inl marked ↦ inr (
+            ap (λ (w : Group). w.explicit) was.2 ∙ marked,
+            λ i item c is_i entry.
+                let kept = left i c in
+                let old = deletes_these_types t u ids gone i item is_i in
+                let alone : before.types ≡ i ∷ [] = settled.merged.entries q before was.1 i old.0 kept.0 old.1 (ap (λ (k : Kind). k.entry) old.2 ∙ entry) in
+                let itself : i ≡ dead.0 = one_left i dead.0 (subst (λ (xs : List ℕ). Contains xs dead.0) alone dead.1) in
+                false≢true (sym dead.2 ∙ ap (lives u) (sym itself) ∙ kept.1),
+          )
+          | inr unmarked ↦
+              let alone : before.types ≡ dead.0 ∷ [] = one_id before.types dead.0 (settled.single q before was.1 unmarked) dead.1 in
+              let one = member-there u.types (group_at t q) g slot in
+              let kept = left one.0 one.1 in
+              let itself : dead.0 ≡ one.0 = one_left dead.0 one.0 (subst (λ (xs : List ℕ). Contains xs one.0) alone kept.0) in
+              absurd (false≢true (sym dead.2 ∙ ap (lives u) itself ∙ kept.1))
+        ]
+      ];
+}
 
 -- a name that is written
 pub names_shrinks : (t u : Table) (id : ℕ) (x y : Item) → type_at t id ≡ Some x → y.id ≡ x.id → y.kind ≡ x.kind → u ≡ record t { types = slice_set t.types id (Some y) } → Shrinks t u

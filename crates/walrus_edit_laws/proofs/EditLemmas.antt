@@ -14,9 +14,9 @@ use Rattle.walrus_types.specs.Parsing.{with_group, unparsed}
 use Rattle.walrus_types.proofs.Places.{map_at}
 use Rattle.walrus_edit_laws.specs.Ordinary.{IsOrdinary, AreOrdinary}
 use Rattle.walrus_edit_laws.specs.Edits.{Edit, IsSettled, SettledIsKept, OwnIdsAreKept}
-use Rattle.walrus_edit_laws.specs.Edits.Edit.{Stays, Adds, AddsBoth, AddsAll, Parses, ParsesPart, DeletesOne, DeletesAll, Names}
+use Rattle.walrus_edit_laws.specs.Edits.Edit.{Stays, Adds, AddsBoth, AddsAll, Parses, ParsesPart, DeletesOne, DeletesAll, DeletesThese, Names}
 use Rattle.walrus_edit_laws.proofs.Grown.{Fits, Inner, PlainKinds, fits_marked, grown_inner, grown_own, merges_kept, parsed_kept}
-use Rattle.walrus_edit_laws.proofs.Deleted.{types_own, shrinks_settled, deletes_types, deletes_group_types, deletes_shrinks, deletes_group_shrinks, names_shrinks, stays_shrinks}
+use Rattle.walrus_edit_laws.proofs.Deleted.{types_own, shrinks_settled, deletes_types, deletes_group_types, deletes_shrinks, deletes_group_shrinks, deletes_these_types, deletes_these_shrinks, names_shrinks, stays_shrinks}
 
 -- the groups before a refused one
 front : (before after : List TypeGroup) → AreOrdinary (before ++ after) → AreOrdinary before
@@ -64,6 +64,7 @@ settled_kept old new grouped (ParsesPart groups ordinary part) s =
     (parsed_kept Inner step_inner part.before (unparsed old) (front part.before (part.refused ∷ part.after) (subst AreOrdinary part.split ordinary)) (inner_of old grouped s)))
 settled_kept old new grouped (DeletesOne id live deletes) s = shrinks_settled old new (deletes_shrinks old new grouped s id live deletes) s
 settled_kept old new grouped (DeletesAll id live deletes) s = shrinks_settled old new (deletes_group_shrinks old new grouped id live deletes) s
+settled_kept old new grouped (DeletesThese ids gone) s = shrinks_settled old new (deletes_these_shrinks old new s ids gone) s
 settled_kept old new grouped (Names id x y live same_id same_kind is) s = shrinks_settled old new (names_shrinks old new id x y live same_id same_kind is) s
 
 pub settled-law : SettledIsKept
@@ -90,6 +91,7 @@ own_kept old new grouped (ParsesPart groups ordinary part) own =
     (parsed_kept TypesHaveOwnIds step_own part.before (unparsed old) (front part.before (part.refused ∷ part.after) (subst AreOrdinary part.split ordinary)) own)
 own_kept old new grouped (DeletesOne id live deletes) own = types_own old new (deletes_types old new id deletes) own
 own_kept old new grouped (DeletesAll id live deletes) own = types_own old new (deletes_group_types old new grouped id live deletes) own
+own_kept old new grouped (DeletesThese ids gone) own = types_own old new (deletes_these_types old new ids gone) own
 own_kept old new grouped (Names id x y live same_id same_kind is) own = types_own old new (names_shrinks old new id x y live same_id same_kind is).types own
 
 pub own-law : OwnIdsAreKept

@@ -7,7 +7,7 @@ use Rattle.walrus_forms.specs.Kinds.{Kind}
 use Rattle.walrus_forms.specs.Records.{TypeGroup}
 use Rattle.walrus_types.specs.Items.{Item}
 use Rattle.walrus_types.specs.Groups.{member_kind, AddsGroup, IsBuilt}
-use Rattle.walrus_types.specs.Table.{Table, type_at, IsLive, Merges, Deletes, DeletesGroup}
+use Rattle.walrus_types.specs.Table.{Table, type_at, IsLive, Merges, Deletes, DeletesGroup, DeletesAll as AllGo}
 use Rattle.walrus_types.specs.Pairs.{MergesBoth}
 use Rattle.walrus_types.specs.Parsing.{parsed, unparsed, IsPartOf}
 use Rattle.walrus_types.specs.TypeLaws.{AreGrouped}
@@ -24,6 +24,7 @@ pub data Edit (old new : Table) : Type 0 where
   ParsesPart : (groups : List TypeGroup) → AreOrdinary groups → IsPartOf groups old new → Edit old new
   DeletesOne : (id : ℕ) → IsLive old id → Deletes id old new → Edit old new
   DeletesAll : (id : ℕ) → IsLive old id → DeletesGroup id old new → Edit old new
+  DeletesThese : (ids : List ℕ) → AllGo ids old new → Edit old new
   Names : (id : ℕ) (x y : Item) → type_at old id ≡ Some x → y.id ≡ x.id → y.kind ≡ x.kind
       → new ≡ record old { types = slice_set old.types id (Some y) } → Edit old new
 
