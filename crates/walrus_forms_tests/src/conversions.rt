@@ -1,6 +1,4 @@
 // Single types between ids and indices, and the types that they name.
-use std::alloc::AllocError;
-use std::test::Fail;
 use walrus_arena::TypeId;
 use walrus_forms::{
     AbstractHeapType, FieldRecord, FieldType, HeapRecord, HeapType, RefRecord, RefType,
@@ -26,33 +24,54 @@ const RECORD: FieldRecord = FieldRecord {
     mutable: true,
 };
 
-fn ids(alloc: std::alloc::Global) -> Result<Vec<TypeId>, AllocError> {
-    Vec::from_slice(alloc, &[TypeId::from_index(4), TypeId::from_index(7)])
+// Where the types 4 and 7 have the indices 0 and 1.
+const INDICES: [Option<u32>; 8] = [None, None, None, None, Some(0), None, None, Some(1)];
+
+fn heap_is_told(ty: HeapType, record: HeapRecord) -> bool {
+    ty.describe(&INDICES) == record
+}
+
+// Whether the field has this record, and the reference that one.
+fn is_told(field: FieldType, record: FieldRecord, ty: RefType, heap: HeapRecord) -> bool {
+    field.describe(&INDICES) == record && ty.describe(&INDICES).heap_type == heap
+}
+
+fn is_plain(storage: StorageType, value: ValType) -> bool {
+    storage.describe(&INDICES) == StorageRecord::I16 && value.describe(&INDICES) == ValRecord::V128
 }
 
 #[test]
 fn records_of_single_types(rt: HostRuntime) {
-    let indices = [None, None, None, None, Some(0), None, None, Some(1)];
-    assert!(rt; field().describe(&indices) == RECORD);
-    let concrete = HeapType::Concrete(TypeId::from_index(4));
-    assert!(rt; concrete.describe(&indices) == HeapRecord::Concrete(0));
-    let dead = HeapType::Exact(TypeId::from_index(2));
-    assert!(rt; dead.describe(&indices) == HeapRecord::Exact(0));
-    assert!(rt;
-        RefType::I31REF.describe(&indices).heap_type == HeapRecord::Abstract(AbstractHeapType::I31)
-    );
-    assert!(rt; StorageType::I16.describe(&indices) == StorageRecord::I16);
-    assert!(rt; ValType::V128.describe(&indices) == ValRecord::V128);
+    let heaps = [
+        (
+            HeapType::Concrete(TypeId::from_index(4)),
+            HeapRecord::Concrete(0),
+        ),
+        // one without an index
+        (HeapType::Exact(TypeId::from_index(2)), HeapRecord::Exact(0)),
+    ];
+    for (ty, record) in heaps {
+        assert!(rt; heap_is_told(ty, record));
+    }
+    let i31 = HeapRecord::Abstract(AbstractHeapType::I31);
+    assert!(rt; is_told(field(), RECORD, RefType::I31REF, i31));
+    assert!(rt; is_plain(StorageType::I16, ValType::V128));
+}
+
+// Of two types, whether the records are those of the field and of plain types.
+fn is_field(ids: &[TypeId]) -> bool {
+    ids.len() == 2 && RECORD.resolve(ids) == field()
+}
+
+fn are_plain(ids: &[TypeId]) -> bool {
+    StorageRecord::I8.resolve(ids) == StorageType::I8 && ValRecord::F64.resolve(ids) == ValType::F64
 }
 
 #[test]
-fn single_types_of_records(rt: HostRuntime) -> Result<(), Fail> {
-    let ids = ids(rt.alloc())?;
-    assert_eq!(rt; ids.len(), 2);
-    assert!(rt; RECORD.resolve(ids.as_slice()) == field());
-    assert!(rt; StorageRecord::I8.resolve(ids.as_slice()) == StorageType::I8);
-    assert!(rt; ValRecord::F64.resolve(ids.as_slice()) == ValType::F64);
-    Ok(())
+fn single_types_of_records(rt: HostRuntime) {
+    let ids = [TypeId::from_index(4), TypeId::from_index(7)];
+    assert!(rt; is_field(&ids));
+    assert!(rt; are_plain(&ids));
 }
 
 fn is_seven(id: Option<TypeId>) -> bool {
@@ -62,18 +81,29 @@ fn is_seven(id: Option<TypeId>) -> bool {
     }
 }
 
+fn names_seven(field: FieldType) -> bool {
+    let storage = field.element_type;
+    is_seven(field.type_id()) && is_seven(storage.type_id()) && is_seven(storage.unpack().type_id())
+}
+
+fn name_none(reference: RefType, heap: HeapType) -> bool {
+    reference.type_id().is_none() && heap.type_id().is_none()
+}
+
+fn have_indices(field: FieldRecord, heap: HeapRecord) -> bool {
+    field.type_index() == Some(1) && heap.type_index() == Some(5)
+}
+
+fn have_none(storage: StorageRecord, value: ValRecord) -> bool {
+    storage.type_index().is_none() && value.type_index().is_none()
+}
+
 #[test]
 fn names(rt: HostRuntime) {
-    let storage = field().element_type;
-    assert!(rt; is_seven(field().type_id()));
-    assert!(rt; is_seven(storage.type_id()));
-    assert!(rt; is_seven(storage.unpack().type_id()));
-    assert!(rt; RefType::ANYREF.type_id().is_none());
-    assert!(rt; HeapType::Abstract(AbstractHeapType::Eq).type_id().is_none());
-    assert_eq!(rt; RECORD.type_index(), Some(1));
-    assert_eq!(rt; HeapRecord::Concrete(5).type_index(), Some(5));
-    assert_eq!(rt; StorageRecord::I8.type_index(), None);
-    assert_eq!(rt; ValRecord::I32.type_index(), None);
+    assert!(rt; names_seven(field()));
+    assert!(rt; name_none(RefType::ANYREF, HeapType::Abstract(AbstractHeapType::Eq)));
+    assert!(rt; have_indices(RECORD, HeapRecord::Concrete(5)));
+    assert!(rt; have_none(StorageRecord::I8, ValRecord::I32));
 }
 
 #[test]
