@@ -1,48 +1,68 @@
 // Adds answer an equal live type where there is one.
-use crate::asks::{Ask, is_so};
-use crate::steps::{Step, immutable, take};
+use crate::steps::{Num, Step, take};
 use std::alloc::{AllocError, Global};
 use std::test::Fail;
 use walrus_arena::LocalId;
 use walrus_types::{
-    AbstractHeapType, FieldType, HeapType, IrError, Local, ModuleLocals, ModuleTypes, RefType,
-    StorageType, ValType,
+    AbstractHeapType, HeapType, IrError, Local, ModuleLocals, ModuleTypes, RefType, ValType,
 };
 
-// The ids that adding the types answers, in turn.
-fn answers(alloc: Global, steps: &[Step], wanted: &[usize]) -> Result<bool, IrError> {
-    let mut types = ModuleTypes::new(alloc);
+// Whether adding the type answers this id, which is live then.
+fn adds_as(
+    alloc: Global,
+    types: &mut ModuleTypes,
+    step: Step,
+    wanted: usize,
+) -> Result<bool, IrError> {
+    Ok(match take(alloc, types, step)? {
+        Some(id) => id.index() == wanted && types.contains(id),
+        None => false,
+    })
+}
+
+fn add_as(
+    alloc: Global,
+    types: &mut ModuleTypes,
+    steps: &[Step],
+    wanted: &[usize],
+) -> Result<bool, IrError> {
     let mut agree = steps.len() == wanted.len();
     for (step, index) in steps.iter().zip(wanted) {
-        agree &= match take(alloc, &mut types, step)? {
-            Some(id) => id.index() == *index && types.contains(id),
-            None => false,
-        };
+        agree &= adds_as(alloc, types, *step, *index)?;
     }
     Ok(agree)
 }
 
-fn bytes() -> FieldType {
-    immutable(StorageType::I8)
+// The ids that adding the types answers, in turn.
+fn answers(alloc: Global, steps: &[Step], wanted: &[usize]) -> Result<bool, IrError> {
+    let mut types = ModuleTypes::new(alloc);
+    add_as(alloc, &mut types, steps, wanted)
 }
+
+const ADDS: [(&[Step], &[usize]); 3] = [
+    (
+        &[
+            Step::Param(Num::I64),
+            Step::Gives(Num::I64),
+            Step::Param(Num::I64),
+        ],
+        &[0, 1, 0],
+    ),
+    (
+        &[Step::Struct, Step::Array, Step::Final, Step::Open],
+        &[0, 1, 1, 2],
+    ),
+    (
+        &[Step::Entry(None), Step::Function, Step::Entry(None)],
+        &[0, 1, 0],
+    ),
+];
 
 #[test]
 fn equal_types_are_merged(rt: HostRuntime) -> Result<(), Fail> {
-    let functions = [
-        Step::Param(ValType::I64),
-        Step::Gives(ValType::I64),
-        Step::Param(ValType::I64),
-    ];
-    assert!(rt; answers(rt.alloc(), &functions, &[0, 1, 0])?);
-    let other_forms = [
-        Step::Struct,
-        Step::Array(bytes()),
-        Step::Final(bytes()),
-        Step::Open(bytes()),
-    ];
-    assert!(rt; answers(rt.alloc(), &other_forms, &[0, 1, 1, 2])?);
-    let entries = [Step::Entry(None), Step::Function, Step::Entry(None)];
-    assert!(rt; answers(rt.alloc(), &entries, &[0, 1, 0])?);
+    for (steps, wanted) in ADDS {
+        assert!(rt; answers(rt.alloc(), steps, wanted)?);
+    }
     Ok(())
 }
 
@@ -50,12 +70,6 @@ fn equal_types_are_merged(rt: HostRuntime) -> Result<(), Fail> {
 pub fn is_found(types: &ModuleTypes) -> bool {
     let found = types.find(&[], &[ValType::I64]);
     matches!(found, Some(id) if id.index() == 0) && types.find(&[], &[]).is_none()
-}
-
-#[test]
-fn finds(rt: HostRuntime) -> Result<(), Fail> {
-    assert!(rt; is_so(rt.alloc(), &[Step::Gives(ValType::I64)], Ask::Found)?);
-    Ok(())
 }
 
 // Adds the type and that of its body's own block, and says whether these are their ids.
@@ -85,20 +99,16 @@ pub fn adds_pairs(types: &mut ModuleTypes) -> Result<bool, AllocError> {
     Ok(agree)
 }
 
-#[test]
-fn types_with_their_entry_types(rt: HostRuntime) -> Result<(), Fail> {
-    let steps = [Step::Maps(ValType::F64, ValType::F32)];
-    assert!(rt; is_so(rt.alloc(), &steps, Ask::Pairs)?);
-    Ok(())
+fn adds_locals(locals: &mut ModuleLocals) -> Result<bool, AllocError> {
+    let a = locals.add(ValType::V128)?;
+    let b = locals.add(ValType::I32)?;
+    Ok(a == LocalId::from_index(0) && b == LocalId::from_index(1))
 }
 
 #[test]
 fn locals(rt: HostRuntime) -> Result<(), Fail> {
     let mut locals = ModuleLocals::new(rt.alloc());
-    let a = locals.add(ValType::V128)?;
-    let b = locals.add(ValType::I32)?;
-    assert_eq!(rt; a.index(), 0);
-    assert_eq!(rt; b, LocalId::from_index(1));
+    assert!(rt; adds_locals(&mut locals)?);
     Ok(())
 }
 
@@ -108,11 +118,20 @@ fn is_copy(copy: &Local) -> bool {
         && matches!(&copy.name, Some(name) if name.as_str() == "x")
 }
 
+fn named(alloc: Global, text: &str) -> Result<Local, AllocError> {
+    let mut local = Local::new(LocalId::from_index(3), ValType::F64);
+    local.name = Some(String::from_str(alloc, text)?);
+    Ok(local)
+}
+
+fn copies_local(local: &Local) -> Result<bool, AllocError> {
+    Ok(is_copy(&local.clone()?))
+}
+
 #[test]
 fn copies_of_locals(rt: HostRuntime) -> Result<(), Fail> {
-    let mut local = Local::new(LocalId::from_index(3), ValType::F64);
-    local.name = Some(String::from_str(rt.alloc(), "x")?);
-    assert!(rt; is_copy(&local.clone()?));
+    let local = named(rt.alloc(), "x")?;
+    assert!(rt; copies_local(&local)?);
     Ok(())
 }
 

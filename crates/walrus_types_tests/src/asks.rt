@@ -1,12 +1,13 @@
 //! What is asked of a table, so that one function owns it.
-use crate::steps::{Step, table};
+use crate::steps::{Num, Step, table};
 use crate::{adds, copies, edits, groups};
 use std::alloc::Global;
+use std::test::Fail;
 use walrus_types::{IrError, ModuleTypes};
 
-/// What is asked of a table.
+// What is asked of a table.
 #[derive(Clone, Copy)]
-pub enum Ask {
+enum Ask {
     Found,
     Pairs,
     Deletes,
@@ -36,8 +37,32 @@ fn holds(alloc: Global, types: &mut ModuleTypes, ask: Ask) -> Result<bool, IrErr
     }
 }
 
-/// Whether it holds of the table after these steps.
-pub fn is_so(alloc: Global, steps: &[Step], ask: Ask) -> Result<bool, IrError> {
+// Whether it holds of the table after these steps.
+fn is_so(alloc: Global, steps: &[Step], ask: Ask) -> Result<bool, IrError> {
     let mut types = table(alloc, steps)?;
     holds(alloc, &mut types, ask)
+}
+
+const ROWS: [(&[Step], Ask); 11] = [
+    (&[Step::Gives(Num::I64)], Ask::Found),
+    // a type with its entry type
+    (&[Step::Maps(Num::F64, Num::F32)], Ask::Pairs),
+    (&[], Ask::Deletes),
+    (&[Step::Param(Num::I32)], Ask::GroupGoes),
+    (&[Step::Ring(3), Step::Ring(2), Step::Alone], Ask::ManyGo),
+    (&[Step::Maps(Num::I32, Num::F32)], Ask::Names),
+    (&[Step::Function, Step::Param(Num::F64)], Ask::Iterates),
+    // two that name each other
+    (&[], Ask::Ring),
+    (&[], Ask::OtherCount),
+    (&[Step::Function], Ask::TypeIsCopied),
+    (&[Step::Function, Step::Param(Num::I32)], Ask::GroupIsCopied),
+];
+
+#[test]
+fn tables_do_what_is_asked(rt: HostRuntime) -> Result<(), Fail> {
+    for (steps, ask) in ROWS {
+        assert!(rt; is_so(rt.alloc(), steps, ask)?);
+    }
+    Ok(())
 }

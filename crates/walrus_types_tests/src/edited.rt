@@ -27,6 +27,6 @@ fn adds_to_a_new_table(rt: HostRuntime) -> Result<(), Fail> {
     let mut types = ModuleTypes::new(rt.alloc());
     settled_is_kept();
     let added = add_to_settled(&mut types, &[ValType::F64], &[])?;
-    assert_eq!(rt; added.index(), 0);
+    assert!(rt; added.index() == 0);
     Ok(())
 }

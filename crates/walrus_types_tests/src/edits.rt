@@ -1,8 +1,6 @@
 // Deleting, naming, copying.
-use crate::asks::{Ask, is_so};
-use crate::steps::{Step, name};
+use crate::steps::name;
 use std::alloc::{AllocError, Global};
-use std::test::Fail;
 use walrus_arena::TypeId;
 use walrus_types::{ModuleTypes, ValType};
 
@@ -31,12 +29,6 @@ pub fn adds_and_deletes(types: &mut ModuleTypes) -> Result<bool, AllocError> {
     Ok(alone && tried)
 }
 
-#[test]
-fn deletes(rt: HostRuntime) -> Result<(), Fail> {
-    assert!(rt; is_so(rt.alloc(), &[], Ask::Deletes)?);
-    Ok(())
-}
-
 // Whether the first type's whole group goes, which is live.
 pub fn group_goes(types: &mut ModuleTypes) -> bool {
     let id = TypeId::from_index(0);
@@ -45,12 +37,6 @@ pub fn group_goes(types: &mut ModuleTypes) -> bool {
     }
     types.delete_entire_group(id);
     types.rec_group_for_type(id).is_none()
-}
-
-#[test]
-fn deletes_a_group(rt: HostRuntime) -> Result<(), Fail> {
-    assert!(rt; is_so(rt.alloc(), &[Step::Param(ValType::I32)], Ask::GroupGoes)?);
-    Ok(())
 }
 
 // The ids of the live types, and the sizes of the groups, each as digits.
@@ -88,13 +74,6 @@ pub fn many_go(types: &mut ModuleTypes) -> bool {
     gone && live_ids(types) == 25 && group_sizes(types) == 21
 }
 
-#[test]
-fn deletes_many(rt: HostRuntime) -> Result<(), Fail> {
-    let steps = [Step::Ring(3), Step::Ring(2), Step::Alone];
-    assert!(rt; is_so(rt.alloc(), &steps, Ask::ManyGo)?);
-    Ok(())
-}
-
 // The first type has this name, and no type has the other.
 fn first_is_named(types: &ModuleTypes, name: &str, other: &str) -> bool {
     let found = types.by_name(name);
@@ -104,13 +83,6 @@ fn first_is_named(types: &ModuleTypes, name: &str, other: &str) -> bool {
 pub fn takes_name(alloc: Global, types: &mut ModuleTypes) -> Result<bool, AllocError> {
     name(alloc, types, TypeId::from_index(0), "a")?;
     Ok(first_is_named(types, "a", "b"))
-}
-
-#[test]
-fn names(rt: HostRuntime) -> Result<(), Fail> {
-    let steps = [Step::Maps(ValType::I32, ValType::F32)];
-    assert!(rt; is_so(rt.alloc(), &steps, Ask::Names)?);
-    Ok(())
 }
 
 // The ids that are told, each as a bit.
@@ -133,11 +105,4 @@ fn has_odd_members(types: &ModuleTypes) -> bool {
 // Two types, in groups of even size together.
 pub fn iterates_all(types: &ModuleTypes) -> bool {
     told(types) == 3 && !has_odd_members(types)
-}
-
-#[test]
-fn iterates(rt: HostRuntime) -> Result<(), Fail> {
-    let steps = [Step::Function, Step::Param(ValType::F64)];
-    assert!(rt; is_so(rt.alloc(), &steps, Ask::Iterates)?);
-    Ok(())
 }

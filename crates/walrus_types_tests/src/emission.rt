@@ -1,7 +1,7 @@
 // Writing a table: worked examples, the order of types, refusals.
 ghost use Rattle.std.specs.Prelude.{◌<◌, ◌^◌};
 
-use crate::steps::{Step, are_at, are_ids, immutable, link, table, take, written};
+use crate::steps::{Num, Step, are_at, are_ids, immutable, table, take, written};
 use std::alloc::Global;
 use std::test::Fail;
 use walrus_arena::TypeId;
@@ -119,7 +119,7 @@ pub fn has_shape(emitted: &EmittedTypes, shape: Shape) -> bool {
 }
 
 // Whether the groups that are written have that shape, and the types of the ids 0, 1 and so on these indices.
-pub fn stands(
+fn stands(
     alloc: Global,
     steps: &[Step],
     shape: Shape,
@@ -129,27 +129,82 @@ pub fn stands(
     Ok(has_shape(&emitted, shape) && are_at(&emitted, wanted))
 }
 
-#[test]
-fn single_types_are_written(rt: HostRuntime) -> Result<(), Fail> {
-    let steps = [
-        Step::Param(ValType::I64),
-        Step::Struct,
-        Step::Param(ValType::I32),
-        Step::Param(ValType::I64),
-    ];
-    let wanted = [Some(1), Some(2), Some(0)];
-    assert!(rt; stands(rt.alloc(), &steps, Shape::Sorted, &wanted)?);
-    Ok(())
-}
+const WRITTEN: [(&[Step], Shape, &[Option<u32>]); 9] = [
+    // Single types are written once.
+    (
+        &[
+            Step::Param(Num::I64),
+            Step::Struct,
+            Step::Param(Num::I32),
+            Step::Param(Num::I64),
+        ],
+        Shape::Sorted,
+        &[Some(1), Some(2), Some(0)],
+    ),
+    // A type that names a type stays.
+    (
+        &[Step::Param(Num::I64), Step::Link(0), Step::Param(Num::I32)],
+        Shape::Linked,
+        &[],
+    ),
+    // A group stays, and so does one of one type.
+    (
+        &[
+            Step::Param(Num::I64),
+            Step::Param(Num::I32),
+            Step::Ring(2),
+            Step::Param(Num::F64),
+            Step::Param(Num::F32),
+        ],
+        Shape::PairOfFive,
+        &[Some(1), Some(0), Some(2), Some(3), Some(5), Some(4)],
+    ),
+    (
+        &[Step::Param(Num::I64), Step::Alone, Step::Param(Num::I32)],
+        Shape::Any,
+        &[Some(0), Some(1), Some(2)],
+    ),
+    (
+        &[Step::Param(Num::I64), Step::Open, Step::Below(1)],
+        Shape::Supertypes,
+        &[],
+    ),
+    // Adds merge equal types; a type that is written over may come to equal another, and stands by its id.
+    (
+        &[Step::Final, Step::Open, Step::Function, Step::Close(1)],
+        Shape::Any,
+        &[Some(1), Some(2), Some(0)],
+    ),
+    // Entry types are not written.
+    (
+        &[Step::Entry(Some(Num::I32)), Step::Gives(Num::I32)],
+        Shape::Single,
+        &[None, Some(0)],
+    ),
+    // The ids stand in the order of indices; deleted types and entry types have no place.
+    (
+        &[Step::Param(Num::I64), Step::Struct, Step::Param(Num::I32)],
+        Shape::Turned,
+        &[Some(1), Some(2), Some(0)],
+    ),
+    (
+        &[
+            Step::Param(Num::I64),
+            Step::Entry(Some(Num::I32)),
+            Step::Param(Num::I32),
+            Step::Param(Num::F32),
+            Step::Delete(0),
+        ],
+        Shape::Last,
+        &[None, None, Some(0), Some(1)],
+    ),
+];
 
 #[test]
-fn a_type_that_names_a_type_stays(rt: HostRuntime) -> Result<(), Fail> {
-    let steps = [
-        Step::Param(ValType::I64),
-        Step::Field(link(id(0))),
-        Step::Param(ValType::I32),
-    ];
-    assert!(rt; stands(rt.alloc(), &steps, Shape::Linked, &[])?);
+fn types_are_written(rt: HostRuntime) -> Result<(), Fail> {
+    for (steps, shape, wanted) in WRITTEN {
+        assert!(rt; stands(rt.alloc(), steps, shape, wanted)?);
+    }
     Ok(())
 }
 
@@ -161,20 +216,6 @@ fn is_marked_pair(group: Option<&GroupRecord>) -> bool {
     }
 }
 
-#[test]
-fn a_group_stays(rt: HostRuntime) -> Result<(), Fail> {
-    let steps = [
-        Step::Param(ValType::I64),
-        Step::Param(ValType::I32),
-        Step::Ring(2),
-        Step::Param(ValType::F64),
-        Step::Param(ValType::F32),
-    ];
-    let wanted = [Some(1), Some(0), Some(2), Some(3), Some(5), Some(4)];
-    assert!(rt; stands(rt.alloc(), &steps, Shape::PairOfFive, &wanted)?);
-    Ok(())
-}
-
 // Whether the first type of the group is final, and its supertype.
 fn head(group: Option<&GroupRecord>) -> Option<(bool, Option<u32>)> {
     match group {
@@ -183,21 +224,6 @@ fn head(group: Option<&GroupRecord>) -> Option<(bool, Option<u32>)> {
         }
         _ => None,
     }
-}
-
-#[test]
-fn supertypes_are_written(rt: HostRuntime) -> Result<(), Fail> {
-    let steps = [
-        Step::Param(ValType::I64),
-        Step::Open(bytes()),
-        Step::Below(bytes(), id(1)),
-    ];
-    assert!(rt; stands(rt.alloc(), &steps, Shape::Supertypes, &[])?);
-    Ok(())
-}
-
-fn bytes() -> FieldType {
-    immutable(StorageType::I8)
 }
 
 // Field types as they are ordered, one for each place.
@@ -232,12 +258,17 @@ fn fields_in_order() -> [FieldType; 22] {
 }
 
 // An array type for each of the field types, from the last to the first.
-fn arrays(alloc: Global) -> Result<EmittedTypes, IrError> {
-    let mut types = ModuleTypes::new(alloc);
+fn add_arrays(types: &mut ModuleTypes) -> Result<(), IrError> {
     let fields = fields_in_order();
     for k in 0..22 {
         types.add_array(fields[21 - k])?;
     }
+    Ok(())
+}
+
+fn arrays(alloc: Global) -> Result<EmittedTypes, IrError> {
+    let mut types = ModuleTypes::new(alloc);
+    add_arrays(&mut types)?;
     types.emit()
 }
 
@@ -267,107 +298,51 @@ fn turns(alloc: Global, steps: &[Step]) -> Result<bool, IrError> {
     Ok(is_turned(&written(alloc, steps)?, steps.len()))
 }
 
-#[test]
-fn functions_are_ordered(rt: HostRuntime) -> Result<(), Fail> {
-    let falling = [
-        Step::Param(ValType::I64),
-        Step::Params(ValType::I32, ValType::I64),
-        Step::Params(ValType::I32, ValType::I32),
-        Step::Maps(ValType::I32, ValType::I64),
-        Step::Param(ValType::I32),
-        Step::Gives(ValType::I64),
-    ];
-    assert!(rt; turns(rt.alloc(), &falling)?);
-    Ok(())
-}
-
-fn short() -> FieldType {
-    value(ValType::I32)
-}
-
-fn long() -> FieldType {
-    value(ValType::I64)
-}
-
-#[test]
-fn structures_are_ordered(rt: HostRuntime) -> Result<(), Fail> {
-    let falling = [
-        Step::Field(long()),
-        Step::Fields(short(), long()),
-        Step::Fields(short(), short()),
-        Step::Field(short()),
+const FALLING: [&[Step]; 4] = [
+    // functions
+    &[
+        Step::Param(Num::I64),
+        Step::Params(Num::I32, Num::I64),
+        Step::Params(Num::I32, Num::I32),
+        Step::Maps(Num::I32, Num::I64),
+        Step::Param(Num::I32),
+        Step::Gives(Num::I64),
+    ],
+    // structures
+    &[
+        Step::Field(Num::I64),
+        Step::Fields(Num::I32, Num::I64),
+        Step::Fields(Num::I32, Num::I32),
+        Step::Field(Num::I32),
         Step::Struct,
-    ];
-    assert!(rt; turns(rt.alloc(), &falling)?);
-    Ok(())
-}
+    ],
+    // one of each form
+    &[Step::Final, Step::Open, Step::Struct, Step::Param(Num::I64)],
+    // Types of one rank, by a parameter past the twentieth and by what stands behind references, between others.
+    &[
+        Step::Params(Num::Extern, Num::I32),
+        Step::Params(Num::Func, Num::I64),
+        Step::Param(Num::V128),
+        Step::Param(Num::F64),
+        Step::Params(Num::F32, Num::I32),
+        Step::Many(Num::I64),
+        Step::Many(Num::I32),
+    ],
+];
 
 #[test]
-fn forms_are_ordered(rt: HostRuntime) -> Result<(), Fail> {
-    let falling = [
-        Step::Final(bytes()),
-        Step::Open(bytes()),
-        Step::Struct,
-        Step::Param(ValType::I64),
-    ];
-    assert!(rt; turns(rt.alloc(), &falling)?);
-    Ok(())
-}
-
-// Types of one rank, by a parameter past the twentieth and by what stands behind references, between others.
-#[test]
-fn parameters_are_ordered(rt: HostRuntime) -> Result<(), Fail> {
-    let falling = [
-        Step::Params(ValType::Ref(RefType::EXTERNREF), ValType::I32),
-        Step::Params(ValType::Ref(RefType::FUNCREF), ValType::I64),
-        Step::Param(ValType::V128),
-        Step::Param(ValType::F64),
-        Step::Params(ValType::F32, ValType::I32),
-        Step::Many(ValType::I64),
-        Step::Many(ValType::I32),
-    ];
-    assert!(rt; turns(rt.alloc(), &falling)?);
-    Ok(())
-}
-
-// Adds merge equal types; a type that is written over may come to equal another.
-#[test]
-fn equal_types_stand_by_id(rt: HostRuntime) -> Result<(), Fail> {
-    let steps = [
-        Step::Final(bytes()),
-        Step::Open(bytes()),
-        Step::Function,
-        Step::Close(id(1)),
-    ];
-    let wanted = [Some(1), Some(2), Some(0)];
-    assert!(rt; stands(rt.alloc(), &steps, Shape::Any, &wanted)?);
-    Ok(())
-}
-
-#[test]
-fn a_group_of_one_type_stays(rt: HostRuntime) -> Result<(), Fail> {
-    let steps = [
-        Step::Param(ValType::I64),
-        Step::Alone,
-        Step::Param(ValType::I32),
-    ];
-    let wanted = [Some(0), Some(1), Some(2)];
-    assert!(rt; stands(rt.alloc(), &steps, Shape::Any, &wanted)?);
-    Ok(())
-}
-
-#[test]
-fn entry_types_are_not_written(rt: HostRuntime) -> Result<(), Fail> {
-    let steps = [Step::Entry(Some(ValType::I32)), Step::Gives(ValType::I32)];
-    assert!(rt; stands(rt.alloc(), &steps, Shape::Single, &[None, Some(0)])?);
+fn types_are_ordered(rt: HostRuntime) -> Result<(), Fail> {
+    for steps in FALLING {
+        assert!(rt; turns(rt.alloc(), steps)?);
+    }
     Ok(())
 }
 
 // Adds types each of which names the one before it.
 fn add_chain(alloc: Global, types: &mut ModuleTypes) -> Result<(), IrError> {
-    take(alloc, types, &Step::Struct)?;
+    take(alloc, types, Step::Struct)?;
     for k in 0..600 {
-        take(alloc, types, &Step::Field(link(id(k))))?;
+        take(alloc, types, Step::Link(k))?;
     }
     Ok(())
 }
@@ -401,7 +376,7 @@ fn blocks_are_written(rt: HostRuntime) -> Result<(), Fail> {
 // A fault behind the first block.
 fn breaks_chain(alloc: Global, fault: IrError) -> Result<bool, IrError> {
     let mut types = chain(alloc)?;
-    take(alloc, &mut types, &Step::Field(link(id(1000))))?;
+    take(alloc, &mut types, Step::Link(1000))?;
     Ok(is_refused(&types, fault))
 }
 
@@ -417,31 +392,33 @@ fn refuses(alloc: Global, steps: &[Step], fault: IrError) -> Result<bool, IrErro
     Ok(is_refused(&table(alloc, steps)?, fault))
 }
 
-#[test]
-fn names_at_fault(rt: HostRuntime) -> Result<(), Fail> {
-    let alloc = rt.alloc();
-    let deleted = [
-        Step::Param(ValType::I64),
-        Step::Field(link(id(0))),
-        Step::Delete(id(0)),
-    ];
-    assert!(rt; refuses(alloc, &deleted, IrError::Dead)?);
-    let entry = [Step::Entry(Some(ValType::I64)), Step::Field(link(id(0)))];
-    assert!(rt; refuses(alloc, &entry, IrError::EntryOnly)?);
-    let later = [Step::Field(link(id(1))), Step::Function];
-    assert!(rt; refuses(alloc, &later, IrError::Later)?);
-    assert!(rt; breaks_chain(alloc, IrError::Dead)?);
-    Ok(())
-}
+const FAULTS: [(&[Step], IrError); 4] = [
+    (
+        &[Step::Param(Num::I64), Step::Link(0), Step::Delete(0)],
+        IrError::Dead,
+    ),
+    (
+        &[Step::Entry(Some(Num::I64)), Step::Link(0)],
+        IrError::EntryOnly,
+    ),
+    (&[Step::Link(1), Step::Function], IrError::Later),
+    // The first fault is answered.
+    (
+        &[
+            Step::Entry(Some(Num::I64)),
+            Step::Links(3, 0),
+            Step::Link(9),
+            Step::Function,
+        ],
+        IrError::Later,
+    ),
+];
 
 #[test]
-fn the_first_fault_is_answered(rt: HostRuntime) -> Result<(), Fail> {
-    let steps = [
-        Step::Entry(Some(ValType::I64)),
-        Step::Fields(link(id(3)), link(id(0))),
-        Step::Field(link(id(9))),
-        Step::Function,
-    ];
-    assert!(rt; refuses(rt.alloc(), &steps, IrError::Later)?);
+fn names_at_fault(rt: HostRuntime) -> Result<(), Fail> {
+    for (steps, fault) in FAULTS {
+        assert!(rt; refuses(rt.alloc(), steps, fault)?);
+    }
+    assert!(rt; breaks_chain(rt.alloc(), IrError::Dead)?);
     Ok(())
 }

@@ -1,5 +1,4 @@
 // Groups that a closure makes of their ids.
-use crate::asks::{Ask, is_so};
 use crate::steps::{link, member, ring};
 use std::alloc::{AllocError, Global};
 use std::test::Fail;
@@ -41,12 +40,6 @@ pub fn adds_ring(alloc: Global, types: &mut ModuleTypes) -> Result<bool, IrError
     Ok(is_added && refer && stays)
 }
 
-#[test]
-fn two_that_name_each_other(rt: HostRuntime) -> Result<(), Fail> {
-    assert!(rt; is_so(rt.alloc(), &[], Ask::Ring)?);
-    Ok(())
-}
-
 fn is_refused_by_count(types: &mut ModuleTypes, alloc: Global) -> bool {
     match types.add_rec_group(2, |ids| ring(alloc, &ids[..1])) {
         Err(refused) => refused == IrError::WrongCount,
@@ -64,20 +57,18 @@ pub fn refuses_count(alloc: Global, types: &mut ModuleTypes) -> Result<bool, IrE
     Ok(is_refused && adds_first(types)?)
 }
 
-#[test]
-fn another_count(rt: HostRuntime) -> Result<(), Fail> {
-    assert!(rt; is_so(rt.alloc(), &[], Ask::OtherCount)?);
-    Ok(())
-}
-
 fn is_member(member: &NewType, to: TypeId) -> bool {
     member.is_final && member.supertype.is_none() && is_structure(&member.kind, link(to))
+}
+
+fn copies_member(member: &NewType, to: TypeId) -> Result<bool, AllocError> {
+    Ok(is_member(&member.clone()?, to))
 }
 
 #[test]
 fn copies_of_members(rt: HostRuntime) -> Result<(), Fail> {
     let to = TypeId::from_index(7);
     let original = member(rt.alloc(), &[link(to)])?;
-    assert!(rt; is_member(&original.clone()?, to));
+    assert!(rt; copies_member(&original, to)?);
     Ok(())
 }

@@ -18,8 +18,6 @@ mod emission;
 #[cfg(test)]
 mod groups;
 #[cfg(test)]
-mod ids;
-#[cfg(test)]
 mod orders;
 #[cfg(test)]
 mod records;

@@ -176,13 +176,6 @@ fn reads(alloc: Global, entries: &[Entry], wanted: &[usize], then: Then) -> Resu
     Ok(parses(alloc, &mut types, entries, wanted)? && holds(alloc, &types, then)?)
 }
 
-#[test]
-fn singles(rt: HostRuntime) -> Result<(), Fail> {
-    let entries = [Entry::Long, Entry::Empty, Entry::Short, Entry::Long];
-    assert!(rt; reads(rt.alloc(), &entries, &[0, 1, 2, 0], Then::Sorted)?);
-    Ok(())
-}
-
 // Whether the live type names the first alone.
 fn names_first(alloc: Global, types: &ModuleTypes, id: TypeId) -> Result<bool, AllocError> {
     let mut names = Vec::new(alloc);
@@ -194,12 +187,6 @@ fn names_first(alloc: Global, types: &ModuleTypes, id: TypeId) -> Result<bool, A
 
 // A function type, a structure type that refers to it, and another function type.
 const LINKED: [Entry; 3] = [Entry::Long, Entry::Holder(0), Entry::Short];
-
-#[test]
-fn a_type_that_names_another(rt: HostRuntime) -> Result<(), Fail> {
-    assert!(rt; reads(rt.alloc(), &LINKED, &[0, 1, 2], Then::Linked)?);
-    Ok(())
-}
 
 // Whether it writes the types of `LINKED` in their order.
 fn writes_linked(types: &ModuleTypes) -> Result<bool, IrError> {
@@ -215,30 +202,49 @@ fn one_is_marked(types: &ModuleTypes) -> bool {
     marks == 3
 }
 
+// Entries, the ids of their types, and what is asked of the table then.
+const SECTIONS: [(&[Entry], &[usize], Then); 4] = [
+    (
+        &[Entry::Long, Entry::Empty, Entry::Short, Entry::Long],
+        &[0, 1, 2, 0],
+        Then::Sorted,
+    ),
+    (&LINKED, &[0, 1, 2], Then::Linked),
+    // An equal type is found in the latest group.
+    (
+        &[Entry::Long, Entry::Marked, Entry::Nothing, Entry::Long],
+        &[0, 1, 1],
+        Then::OneIsMarked,
+    ),
+    // Two types that refer to themselves, and twice one that refers to the second.
+    (
+        &[
+            Entry::Holder(0),
+            Entry::Holder(1),
+            Entry::Holder(1),
+            Entry::Holder(1),
+        ],
+        &[0, 1, 2, 2],
+        Then::Nothing,
+    ),
+];
+
 #[test]
-fn the_latest_equal_type(rt: HostRuntime) -> Result<(), Fail> {
-    let entries = [Entry::Long, Entry::Marked, Entry::Nothing, Entry::Long];
-    assert!(rt; reads(rt.alloc(), &entries, &[0, 1, 1], Then::OneIsMarked)?);
+fn sections_are_read(rt: HostRuntime) -> Result<(), Fail> {
+    for (entries, wanted, then) in SECTIONS {
+        assert!(rt; reads(rt.alloc(), entries, wanted, then)?);
+    }
     Ok(())
 }
 
-// Two types that refer to themselves, and twice one that refers to the second.
-#[test]
-fn a_type_that_names_itself(rt: HostRuntime) -> Result<(), Fail> {
-    let entries = [
-        Entry::Holder(0),
-        Entry::Holder(1),
-        Entry::Holder(1),
-        Entry::Holder(1),
-    ];
-    assert!(rt; reads(rt.alloc(), &entries, &[0, 1, 2, 2], Then::Nothing)?);
-    Ok(())
+fn is_record_copied(alloc: Global, group: &GroupRecord) -> Result<bool, AllocError> {
+    Ok(group.clone(alloc)? == *group)
 }
 
 #[test]
 fn copies_of_records(rt: HostRuntime) -> Result<(), Fail> {
     let group = function(rt.alloc(), true, ValRecord::I64)?;
-    assert!(rt; group.clone(rt.alloc())? == group);
+    assert!(rt; is_record_copied(rt.alloc(), &group)?);
     Ok(())
 }
 
@@ -291,12 +297,18 @@ fn are_same(
 }
 
 // Two neighbours, and a structure that refers to the first; and the same with the neighbours in each other's places.
+fn change_places(alloc: Global) -> Result<bool, IrError> {
+    let long_first = [Entry::Long, Entry::Short, Entry::Holder(0)];
+    let one = rewritten(alloc, &long_first)?;
+    let short_first = [Entry::Short, Entry::Long, Entry::Holder(1)];
+    Ok(
+        are_at(&one, &[Some(1), Some(0), Some(2)])
+            && are_same(alloc, &short_first, &[Some(0), Some(1), Some(2)], &one)?,
+    )
+}
+
 #[test]
 fn neighbours_change_places(rt: HostRuntime) -> Result<(), Fail> {
-    let long_first = [Entry::Long, Entry::Short, Entry::Holder(0)];
-    let one = rewritten(rt.alloc(), &long_first)?;
-    assert!(rt; are_at(&one, &[Some(1), Some(0), Some(2)]));
-    let short_first = [Entry::Short, Entry::Long, Entry::Holder(1)];
-    assert!(rt; are_same(rt.alloc(), &short_first, &[Some(0), Some(1), Some(2)], &one)?);
+    assert!(rt; change_places(rt.alloc())?);
     Ok(())
 }

@@ -3,11 +3,11 @@ ghost use Rattle.std.specs.Prelude.{map};
 ghost use Rattle.walrus_forms.specs.Records.{type_group};
 ghost use Rattle.walrus_types.specs.Parsing.{AreBelow};
 
-use crate::steps::{Step, are_at, table};
+use crate::steps::{Num, Step, are_at, table};
 use std::alloc::Global;
 use std::test::Fail;
 use walrus_arena::TypeId;
-use walrus_types::{EmittedTypes, IrError, ModuleTypes, ValType};
+use walrus_types::{EmittedTypes, IrError, ModuleTypes};
 
 // By number: the test of std for lists takes ten times as long to prove.
 fn are_same(ids: &[TypeId], wanted: &[TypeId]) -> bool {
@@ -60,36 +60,45 @@ fn is_steady(
     Ok(are_at(&first, wanted) && keeps_order(alloc, &first, count)? && writes_again(alloc, &first)?)
 }
 
-#[test]
-fn a_second_round_changes_nothing(rt: HostRuntime) -> Result<(), Fail> {
-    let steps = [
-        Step::Param(ValType::I64),
-        Step::Param(ValType::I32),
-        Step::Ring(2),
-        Step::Maps(ValType::I32, ValType::I64),
-    ];
-    let types = table(rt.alloc(), &steps)?;
-    assert!(rt; is_steady(rt.alloc(), &types, &[Some(1), Some(0)], 5)?);
-    Ok(())
+fn is_so(
+    alloc: Global,
+    steps: &[Step],
+    wanted: &[Option<u32>],
+    count: usize,
+) -> Result<bool, IrError> {
+    let types = table(alloc, steps)?;
+    is_steady(alloc, &types, wanted, count)
 }
 
+// The last after deletes.
+const ROUNDS: [(&[Step], &[Option<u32>], usize); 2] = [
+    (
+        &[
+            Step::Param(Num::I64),
+            Step::Param(Num::I32),
+            Step::Ring(2),
+            Step::Maps(Num::I32, Num::I64),
+        ],
+        &[Some(1), Some(0)],
+        5,
+    ),
+    (
+        &[
+            Step::Param(Num::I64),
+            Step::Param(Num::I32),
+            Step::Ring(2),
+            Step::Delete(0),
+            Step::Param(Num::I64),
+        ],
+        &[None, Some(0), Some(1), Some(2), Some(3)],
+        4,
+    ),
+];
+
 #[test]
-fn a_second_round_after_deletes_changes_nothing(rt: HostRuntime) -> Result<(), Fail> {
-    let steps = [
-        Step::Param(ValType::I64),
-        Step::Param(ValType::I32),
-        Step::Ring(2),
-        Step::Delete(TypeId::from_index(0)),
-        Step::Param(ValType::I64),
-    ];
-    let types = table(rt.alloc(), &steps)?;
-    assert!(rt;
-        is_steady(
-            rt.alloc(),
-            &types,
-            &[None, Some(0), Some(1), Some(2), Some(3)],
-            4
-        )?
-    );
+fn a_second_round_changes_nothing(rt: HostRuntime) -> Result<(), Fail> {
+    for (steps, wanted, count) in ROUNDS {
+        assert!(rt; is_so(rt.alloc(), steps, wanted, count)?);
+    }
     Ok(())
 }

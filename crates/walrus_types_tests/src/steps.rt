@@ -6,38 +6,77 @@ use walrus_types::{
     RefType, StorageType, StructType, ValType,
 };
 
-/// What is done to a table.
-#[derive(Drop)]
+/// A value type that names no type.
+#[derive(Clone, Copy)]
+pub enum Num {
+    I32,
+    I64,
+    F32,
+    F64,
+    V128,
+    /// A nullable reference to functions.
+    Func,
+    /// A nullable reference to what the host has.
+    Extern,
+}
+
+/// What is done to a table. (Steps name types by their numbers, so that a constant can hold them.)
+#[derive(Clone, Copy)]
 pub enum Step {
     /// A function type without parameters and results.
     Function,
-    Param(ValType),
-    Params(ValType, ValType),
+    Param(Num),
+    Params(Num, Num),
     /// Twenty-one parameters, the last of this type.
-    Many(ValType),
-    Gives(ValType),
+    Many(Num),
+    Gives(Num),
     /// From this parameter to this result.
-    Maps(ValType, ValType),
+    Maps(Num, Num),
     /// The type of a body's own block with this result.
-    Entry(Option<ValType>),
+    Entry(Option<Num>),
     /// A structure type without fields.
     Struct,
-    Field(FieldType),
-    Fields(FieldType, FieldType),
-    Array(FieldType),
-    /// A final array type, by the call for all forms.
-    Final(FieldType),
+    /// One immutable field of this type, and two.
+    Field(Num),
+    Fields(Num, Num),
+    /// One immutable field that refers to the type of this id, and two.
+    Link(u32),
+    Links(u32, u32),
+    /// An array type of immutable bytes.
+    Array,
+    /// A final one, by the call for all forms.
+    Final,
     /// One that isn't final.
-    Open(FieldType),
-    /// A final array type with this supertype.
-    Below(FieldType, TypeId),
+    Open,
+    /// A final one with this supertype.
+    Below(u32),
     /// A marked group of so many structures, each of which refers to the next, and the last to the first.
     Ring(usize),
     /// A marked group of one structure without fields.
     Alone,
     /// The type is written over as a final one.
-    Close(TypeId),
-    Delete(TypeId),
+    Close(u32),
+    Delete(u32),
+}
+
+fn value_type(num: Num) -> ValType {
+    match num {
+        Num::I32 => ValType::I32,
+        Num::I64 => ValType::I64,
+        Num::F32 => ValType::F32,
+        Num::F64 => ValType::F64,
+        Num::V128 => ValType::V128,
+        Num::Func => ValType::Ref(RefType::FUNCREF),
+        Num::Extern => ValType::Ref(RefType::EXTERNREF),
+    }
+}
+
+fn field_type(num: Num) -> FieldType {
+    immutable(StorageType::Val(value_type(num)))
+}
+
+fn id(number: u32) -> TypeId {
+    TypeId::from_index(number as usize)
 }
 
 pub fn immutable(element_type: StorageType) -> FieldType {
@@ -81,23 +120,40 @@ fn alone(alloc: Global) -> Result<Vec<NewType>, IrError> {
     Ok(members)
 }
 
-fn array(field: FieldType) -> CompositeType {
-    CompositeType::Array(ArrayType { field })
+fn bytes() -> FieldType {
+    immutable(StorageType::I8)
 }
 
-fn add_function(types: &mut ModuleTypes, step: &Step) -> Result<Option<TypeId>, AllocError> {
-    let id = match step {
-        Step::Function => types.add(&[], &[])?,
-        Step::Param(param) => types.add(&[*param], &[])?,
-        Step::Params(first, second) => types.add(&[*first, *second], &[])?,
-        Step::Many(last) => types.add(&many(*last), &[])?,
-        Step::Gives(result) => types.add(&[], &[*result])?,
-        Step::Maps(param, result) => types.add(&[*param], &[*result])?,
-        Step::Entry(None) => types.add_entry_ty(&[])?,
-        Step::Entry(Some(result)) => types.add_entry_ty(&[*result])?,
-        _ => return Ok(None),
-    };
-    Ok(Some(id))
+fn array() -> CompositeType {
+    CompositeType::Array(ArrayType { field: bytes() })
+}
+
+fn add(
+    types: &mut ModuleTypes,
+    params: &[ValType],
+    results: &[ValType],
+) -> Result<Option<TypeId>, AllocError> {
+    Ok(Some(types.add(params, results)?))
+}
+
+fn add_function(types: &mut ModuleTypes, step: Step) -> Result<Option<TypeId>, AllocError> {
+    match step {
+        Step::Function => add(types, &[], &[]),
+        Step::Param(param) => add(types, &[value_type(param)], &[]),
+        Step::Params(first, second) => add(types, &[value_type(first), value_type(second)], &[]),
+        Step::Many(last) => add(types, &many(value_type(last)), &[]),
+        Step::Gives(result) => add(types, &[], &[value_type(result)]),
+        Step::Maps(param, result) => add(types, &[value_type(param)], &[value_type(result)]),
+        _ => Ok(None),
+    }
+}
+
+fn add_entry(types: &mut ModuleTypes, step: Step) -> Result<Option<TypeId>, AllocError> {
+    match step {
+        Step::Entry(None) => Ok(Some(types.add_entry_ty(&[])?)),
+        Step::Entry(Some(result)) => Ok(Some(types.add_entry_ty(&[value_type(result)])?)),
+        _ => Ok(None),
+    }
 }
 
 fn many(last: ValType) -> [ValType; 21] {
@@ -118,31 +174,44 @@ fn add_fields(
 fn add_structure(
     alloc: Global,
     types: &mut ModuleTypes,
-    step: &Step,
+    step: Step,
 ) -> Result<Option<TypeId>, AllocError> {
     match step {
         Step::Struct => add_fields(alloc, types, &[]),
-        Step::Field(field) => add_fields(alloc, types, &[*field]),
-        Step::Fields(first, second) => add_fields(alloc, types, &[*first, *second]),
+        Step::Field(num) => add_fields(alloc, types, &[field_type(num)]),
+        Step::Fields(first, second) => {
+            add_fields(alloc, types, &[field_type(first), field_type(second)])
+        }
+        Step::Link(to) => add_fields(alloc, types, &[link(id(to))]),
+        Step::Links(first, second) => {
+            add_fields(alloc, types, &[link(id(first)), link(id(second))])
+        }
         _ => Ok(None),
     }
 }
 
-fn add_array(types: &mut ModuleTypes, step: &Step) -> Result<Option<TypeId>, AllocError> {
-    let id = match step {
-        Step::Array(field) => types.add_array(*field)?,
-        Step::Final(field) => types.add_composite(array(*field), true, None)?,
-        Step::Open(field) => types.add_composite(array(*field), false, None)?,
-        Step::Below(field, id) => types.add_composite(array(*field), true, Some(*id))?,
-        _ => return Ok(None),
-    };
-    Ok(Some(id))
+fn add_form(
+    types: &mut ModuleTypes,
+    is_final: bool,
+    supertype: Option<TypeId>,
+) -> Result<Option<TypeId>, AllocError> {
+    Ok(Some(types.add_composite(array(), is_final, supertype)?))
 }
 
-fn add_group(alloc: Global, types: &mut ModuleTypes, step: &Step) -> Result<(), IrError> {
+fn add_array(types: &mut ModuleTypes, step: Step) -> Result<Option<TypeId>, AllocError> {
+    match step {
+        Step::Array => Ok(Some(types.add_array(bytes())?)),
+        Step::Final => add_form(types, true, None),
+        Step::Open => add_form(types, false, None),
+        Step::Below(to) => add_form(types, true, Some(id(to))),
+        _ => Ok(None),
+    }
+}
+
+fn add_group(alloc: Global, types: &mut ModuleTypes, step: Step) -> Result<(), IrError> {
     match step {
         Step::Ring(count) => {
-            types.add_rec_group(*count, |ids| ring(alloc, ids))?;
+            types.add_rec_group(count, |ids| ring(alloc, ids))?;
         }
         Step::Alone => {
             types.add_rec_group(1, |_| alone(alloc))?;
@@ -165,34 +234,45 @@ fn close(types: &mut ModuleTypes, id: TypeId) {
     }
 }
 
-fn edit(types: &mut ModuleTypes, step: &Step) {
+fn edit(types: &mut ModuleTypes, step: Step) {
     match step {
-        Step::Close(id) => close(types, *id),
-        Step::Delete(id) => remove(types, *id),
+        Step::Close(number) => close(types, id(number)),
+        Step::Delete(number) => remove(types, id(number)),
         _ => {}
     }
 }
 
-/// Takes the step, and answers the id where it adds a single type.
-pub fn take(
+// The id of the single type that the step adds, if it adds one.
+fn add_single(
     alloc: Global,
     types: &mut ModuleTypes,
-    step: &Step,
-) -> Result<Option<TypeId>, IrError> {
-    edit(types, step);
-    add_group(alloc, types, step)?;
+    step: Step,
+) -> Result<Option<TypeId>, AllocError> {
     let function = add_function(types, step)?;
+    let entry = add_entry(types, step)?;
     let structure = add_structure(alloc, types, step)?;
     let array = add_array(types, step)?;
-    Ok(function.or(structure).or(array))
+    Ok(function.or(entry).or(structure).or(array))
+}
+
+/// Takes the step, and answers the id where it adds a single type.
+pub fn take(alloc: Global, types: &mut ModuleTypes, step: Step) -> Result<Option<TypeId>, IrError> {
+    edit(types, step);
+    add_group(alloc, types, step)?;
+    Ok(add_single(alloc, types, step)?)
+}
+
+fn take_all(alloc: Global, types: &mut ModuleTypes, steps: &[Step]) -> Result<(), IrError> {
+    for step in steps {
+        take(alloc, types, *step)?;
+    }
+    Ok(())
 }
 
 /// The table after these steps.
 pub fn table(alloc: Global, steps: &[Step]) -> Result<ModuleTypes, IrError> {
     let mut types = ModuleTypes::new(alloc);
-    for step in steps {
-        take(alloc, &mut types, step)?;
-    }
+    take_all(alloc, &mut types, steps)?;
     Ok(types)
 }
 
