@@ -38,9 +38,9 @@ fn reads_text(alloc: Global, reader: &mut BinaryReader<'_>, wanted: &str) -> Res
 #[test]
 fn values(rt: HostRuntime) -> std::result::Result<(), Fail> {
     let mut reader = reader_at(b"\x80\x01\x02\xe2\x82\xac", 0);
-    assert_eq!(rt; reader.read::<u32>(rt.alloc())?, 128);
+    assert!(rt; reader.read::<u32>(rt.alloc())? == 128);
     let cut = refused(reader.shrink().read::<&str>(rt.alloc()));
-    assert_eq!(rt; cut, Some((ErrorKind::Utf8, 3)));
+    assert!(rt; cut == Some((ErrorKind::Utf8, 3)));
     let mut text = reader_at(b"\x03\xe2\x82\xac", 0);
     assert!(rt; reads_text(rt.alloc(), &mut text, "\u{20ac}")?);
     Ok(())
@@ -58,21 +58,27 @@ fn vecs(rt: HostRuntime) -> std::result::Result<(), Fail> {
     let mut reader = reader_at(b"\x02\x03\x0a\x80\x01\x00\x00\x01", 7);
     let lists = reader.read_vec::<Numbers>(rt.alloc(), 2)?;
     assert!(rt; are_lists(lists.as_slice(), &[10, 128, 0], &[]));
-    assert_eq!(rt; reader.original_position(), 14);
+    assert!(rt; reader.original_position() == 14);
     Ok(())
+}
+
+// The fault of the vec of at most two lists that stands at 7.
+fn fault_of_lists(alloc: Global, bytes: &[u8]) -> Option<(ErrorKind, u64)> {
+    refused(reader_at(bytes, 7).read_vec::<Numbers>(alloc, 2))
+}
+
+fn fault_of_numbers(alloc: Global, bytes: &[u8], limit: usize) -> Option<(ErrorKind, u64)> {
+    refused(reader_at(bytes, 7).read_vec::<u32>(alloc, limit))
 }
 
 #[test]
 fn refused_vecs(rt: HostRuntime) {
-    let mut past = reader_at(b"\x02\x03\x0a\x80\x01\x00\x04\x01", 7);
-    let outcome = refused(past.read_vec::<Numbers>(rt.alloc(), 2));
-    assert_eq!(rt; outcome, Some((ErrorKind::Limit, 13)));
-    let mut many = reader_at(b"\x83\x00\x00\x00\x00", 7);
-    let outcome = refused(many.read_vec::<u32>(rt.alloc(), 2));
-    assert_eq!(rt; outcome, Some((ErrorKind::Limit, 7)));
-    let mut short = reader_at(b"\x83\x00\x01\x02", 7);
-    let outcome = refused(short.read_vec::<u32>(rt.alloc(), 3));
-    assert_eq!(rt; outcome, Some((ErrorKind::EndOfFile(1), 11)));
+    let past = fault_of_lists(rt.alloc(), b"\x02\x03\x0a\x80\x01\x00\x04\x01");
+    assert!(rt; past == Some((ErrorKind::Limit, 13)));
+    let many = fault_of_numbers(rt.alloc(), b"\x83\x00\x00\x00\x00", 2);
+    assert!(rt; many == Some((ErrorKind::Limit, 7)));
+    let short = fault_of_numbers(rt.alloc(), b"\x83\x00\x01\x02", 3);
+    assert!(rt; short == Some((ErrorKind::EndOfFile(1), 11)));
 }
 
 // Whether the next number is this, or none is left.
@@ -91,42 +97,66 @@ fn next_fault(items: &mut BinaryReaderIter<'_, '_, u32>) -> Option<(ErrorKind, u
     }
 }
 
+fn give(items: &mut BinaryReaderIter<'_, '_, u32>, wanted: &[Option<u32>]) -> bool {
+    let mut agree = true;
+    for number in wanted {
+        agree &= gives(items, *number);
+    }
+    agree
+}
+
+// Whether a vec of at most three numbers gives these, as far as it is asked.
+fn reads_numbers(
+    alloc: Global,
+    reader: &mut BinaryReader<'_>,
+    wanted: &[Option<u32>],
+) -> Result<bool> {
+    let mut items = reader.read_iter::<u32>(alloc, 3)?;
+    Ok(give(&mut items, wanted))
+}
+
 #[test]
 fn one_by_one(rt: HostRuntime) -> std::result::Result<(), Fail> {
     let mut reader = reader_at(b"\x03\x05\x86\x01\x07\x08", 0);
-    let mut items = reader.read_iter::<u32>(rt.alloc(), 3)?;
-    for wanted in [Some(5), Some(134), Some(7), None, None] {
-        assert!(rt; gives(&mut items, wanted));
-    }
-    drop(items);
-    assert_eq!(rt; reader.read_u8()?, 8);
+    let wanted = [Some(5), Some(134), Some(7), None, None];
+    assert!(rt; reads_numbers(rt.alloc(), &mut reader, &wanted)?);
+    assert!(rt; reader.read_u8()? == 8);
     Ok(())
 }
 
 #[test]
 fn dropped_early(rt: HostRuntime) -> std::result::Result<(), Fail> {
     let mut reader = reader_at(b"\x03\x05\x86\x01\x07\x08", 0);
-    let mut items = reader.read_iter::<u32>(rt.alloc(), 3)?;
-    assert!(rt; gives(&mut items, Some(5)));
-    drop(items);
-    assert_eq!(rt; reader.current_position(), 5);
+    assert!(rt; reads_numbers(rt.alloc(), &mut reader, &[Some(5)])?);
+    assert!(rt; reader.current_position() == 5);
     Ok(())
+}
+
+// The first fault of a vec of at most 100 numbers, where nothing is given behind it.
+fn fault_alone(alloc: Global, reader: &mut BinaryReader<'_>) -> Result<Option<(ErrorKind, u64)>> {
+    let mut items = reader.read_iter::<u32>(alloc, 100)?;
+    let fault = next_fault(&mut items);
+    Ok(if items.next().is_none() { fault } else { None })
 }
 
 #[test]
 fn none_after_a_fault(rt: HostRuntime) -> std::result::Result<(), Fail> {
     let mut reader = reader_at(b"\x03\x80\x80\x80\x80\x10\x01\x02", 4);
-    let mut items = reader.read_iter::<u32>(rt.alloc(), 100)?;
-    assert_eq!(rt; next_fault(&mut items), Some((ErrorKind::TooLarge, 9)));
-    assert!(rt; items.next().is_none());
-    drop(items);
-    assert_eq!(rt; reader.bytes_remaining(), 2);
-    let mut many = reader_at(b"\x03\x05\x06\x07", 4);
-    let outcome = refused(many.read_iter::<u32>(rt.alloc(), 2));
-    assert_eq!(rt; outcome, Some((ErrorKind::Limit, 4)));
-    assert_eq!(rt; many.range().end, 8);
-    assert!(rt; many.bytes_remaining() <= 4);
+    let fault = fault_alone(rt.alloc(), &mut reader)?;
+    assert!(rt; fault == Some((ErrorKind::TooLarge, 9)));
+    assert!(rt; reader.bytes_remaining() == 2);
     Ok(())
+}
+
+// Whether a vec of more than two numbers is refused where it begins, and the reader's range stays.
+fn is_too_long(alloc: Global, reader: &mut BinaryReader<'_>) -> bool {
+    let is_limit = refused(reader.read_iter::<u32>(alloc, 2)) == Some((ErrorKind::Limit, 4));
+    is_limit && reader.range().end == 8 && reader.bytes_remaining() <= 4
+}
+
+#[test]
+fn too_many_one_by_one(rt: HostRuntime) {
+    assert!(rt; is_too_long(rt.alloc(), &mut reader_at(b"\x03\x05\x06\x07", 4)));
 }
 
 #[test]

@@ -60,7 +60,7 @@ fn counts(number: Number, rows: &[(&[u8], Outcome)]) -> (usize, usize) {
 #[test]
 fn the_least_s33(rt: HostRuntime) -> std::result::Result<(), Fail> {
     let mut reader = BinaryReader::new(b"\x80\x80\x80\x80\x70", 9);
-    assert_eq!(rt; reader.read_var_s33()?, -4_294_967_296);
+    assert!(rt; reader.read_var_s33()? == -4_294_967_296);
     assert!(rt; reader.eof());
     Ok(())
 }
@@ -81,7 +81,7 @@ fn u32_numbers(rt: HostRuntime) {
         (b"\x80\x80\x80\x80", Err((ErrorKind::EndOfFile(1), 13))),
         (b"", Err((ErrorKind::EndOfFile(1), 9))),
     ];
-    assert_eq!(rt; counts(Number::U32, &rows), (12, 12));
+    assert!(rt; counts(Number::U32, &rows) == (12, 12));
 }
 
 #[test]
@@ -111,7 +111,7 @@ fn u64_numbers(rt: HostRuntime) {
         ),
         (b"", Err((ErrorKind::EndOfFile(1), 9))),
     ];
-    assert_eq!(rt; counts(Number::U64, &rows), (8, 8));
+    assert!(rt; counts(Number::U64, &rows) == (8, 8));
 }
 
 #[test]
@@ -132,7 +132,7 @@ fn i32_numbers(rt: HostRuntime) {
         (b"\xff\xff\xff\xff", Err((ErrorKind::EndOfFile(1), 13))),
         (b"", Err((ErrorKind::EndOfFile(1), 9))),
     ];
-    assert_eq!(rt; counts(Number::I32, &rows), (14, 14));
+    assert!(rt; counts(Number::I32, &rows) == (14, 14));
 }
 
 #[test]
@@ -149,7 +149,7 @@ fn s33_numbers(rt: HostRuntime) {
         (b"\x80\x80\x80\x80", Err((ErrorKind::EndOfFile(1), 13))),
         (b"", Err((ErrorKind::EndOfFile(1), 9))),
     ];
-    assert_eq!(rt; counts(Number::S33, &rows), (10, 10));
+    assert!(rt; counts(Number::S33, &rows) == (10, 10));
 }
 
 #[test]
@@ -187,5 +187,5 @@ fn i64_numbers(rt: HostRuntime) {
         ),
         (b"", Err((ErrorKind::EndOfFile(1), 9))),
     ];
-    assert_eq!(rt; counts(Number::I64, &rows), (10, 10));
+    assert!(rt; counts(Number::I64, &rows) == (10, 10));
 }

@@ -23,11 +23,8 @@ fn ends_in(reader: &mut BinaryReader<'_>, byte: u8) -> Result<bool> {
 #[test]
 fn fixed_widths(rt: HostRuntime) -> std::result::Result<(), Fail> {
     let mut reader = reader_at(b"\0asm\x01\0\0\0\x0b", 0);
-    assert_eq!(rt; reader.read_u32()?, 0x6d73_6100);
-    assert_eq!(rt;
-        refused(reader.read_u64()),
-        Some((ErrorKind::EndOfFile(3), 4))
-    );
+    assert!(rt; reader.read_u32()? == 0x6d73_6100);
+    assert!(rt; refused(reader.read_u64()) == Some((ErrorKind::EndOfFile(3), 4)));
     assert!(rt; reads_bytes(&mut reader, &[1, 0, 0, 0])?);
     assert!(rt; ends_in(&mut reader, 0x0b)?);
     Ok(())
@@ -36,15 +33,15 @@ fn fixed_widths(rt: HostRuntime) -> std::result::Result<(), Fail> {
 #[test]
 fn a_byte_of_8_bits(rt: HostRuntime) {
     let outcome = reader_at(&[0x80], 5).read_u7();
-    assert_eq!(rt; refused(outcome), Some((ErrorKind::BadByte, 5)));
+    assert!(rt; refused(outcome) == Some((ErrorKind::BadByte, 5)));
 }
 
 #[test]
 fn floats(rt: HostRuntime) -> std::result::Result<(), Fail> {
     let single = reader_at(&[0, 0, 0x80, 0x3f], 0).read_f32()?;
-    assert_eq!(rt; single.bits(), 0x3f80_0000);
+    assert!(rt; single.bits() == 0x3f80_0000);
     let double = reader_at(&[0, 0, 0, 0, 0, 0, 0xf0, 0x3f], 0).read_f64()?;
-    assert_eq!(rt; double.bits(), 1.0f64.to_bits());
+    assert!(rt; double.bits() == 1.0f64.to_bits());
     Ok(())
 }
 
@@ -57,7 +54,7 @@ fn reads_names(reader: &mut BinaryReader<'_>, first: &str, second: &str) -> Resu
 fn names(rt: HostRuntime) -> std::result::Result<(), Fail> {
     let mut reader = reader_at(b"\x04name\x03\xe2\x82\xac", 100);
     assert!(rt; reads_names(&mut reader, "name", "\u{20ac}")?);
-    assert_eq!(rt; reader.original_position(), 109);
+    assert!(rt; reader.original_position() == 109);
     reader_at(b"\x04name", 0).skip_string()?;
     Ok(())
 }
@@ -71,16 +68,16 @@ fn bytes_of_no_name(rt: HostRuntime) {
     ];
     for (bytes, kind, place) in rows {
         let outcome = refused(reader_at(bytes, 100).read_string());
-        assert_eq!(rt; outcome, Some((kind, place)));
+        assert!(rt; outcome == Some((kind, place)));
         let outcome = refused(reader_at(bytes, 100).skip_string());
-        assert_eq!(rt; outcome, Some((kind, place)));
+        assert!(rt; outcome == Some((kind, place)));
     }
 }
 
 #[test]
 fn the_longest_name(rt: HostRuntime) -> std::result::Result<(), Fail> {
     let mut reader = reader_at(&[0xa0, 0x8d, 0x06], 7);
-    assert_eq!(rt; reader.read_size(MAX_WASM_STRING_SIZE)?, 100_000);
+    assert!(rt; reader.read_size(MAX_WASM_STRING_SIZE)? == 100_000);
     Ok(())
 }
 
@@ -110,54 +107,68 @@ fn windows(rt: HostRuntime) -> std::result::Result<(), Fail> {
     Ok(())
 }
 
+// Whether a byte of the window is this, what is left of it begins at this place, and it hasn't three bytes more.
+fn is_window(inner: &mut BinaryReader<'_>, byte: u8, place: u64) -> Result<bool> {
+    let is_read = inner.read_u8()? == byte && inner.remaining_range().start == place;
+    Ok(is_read && refused(inner.read_bytes(3)) == Some((ErrorKind::EndOfFile(2), place)))
+}
+
+fn has_window(reader: &mut BinaryReader<'_>, byte: u8, place: u64) -> Result<bool> {
+    let mut inner = reader.read_reader()?;
+    is_window(&mut inner, byte, place)
+}
+
 #[test]
 fn places_in_a_window(rt: HostRuntime) -> std::result::Result<(), Fail> {
     let mut reader = reader_at(&[0x02, 0x80, 0x01, 0x7f], 1000);
-    let mut inner = reader.read_reader()?;
-    assert_eq!(rt; inner.read_u8()?, 0x80);
-    assert_eq!(rt; inner.remaining_range().start, 1002);
-    assert_eq!(rt;
-        refused(inner.read_bytes(3)),
-        Some((ErrorKind::EndOfFile(2), 1002))
-    );
+    assert!(rt; has_window(&mut reader, 0x80, 1002)?);
     Ok(())
+}
+
+// Whether what is skipped, a byte and a number, are these bytes.
+fn skips(reader: &mut BinaryReader<'_>, wanted: &[u8]) -> Result<bool> {
+    let mut skipped = reader.skip(|r| {
+        r.read_u8()?;
+        r.read_var_u32()?;
+        Ok(())
+    })?;
+    reads_bytes(&mut skipped, wanted)
+}
+
+// Whether nothing is skipped where the reader is put back, to another that begins at 7.
+fn goes_back(reader: &mut BinaryReader<'_>) -> Result<bool> {
+    let back = reader.skip(|r| {
+        *r = BinaryReader::new(&[0x7f], 7);
+        Ok(())
+    })?;
+    Ok(back.eof() && back.original_position() == 7)
 }
 
 #[test]
 fn skipped_bytes(rt: HostRuntime) -> std::result::Result<(), Fail> {
     let mut reader = reader_at(&[0x02, 0x80, 0x01, 0x7f], 0);
     reader.set_features(WasmFeatures::MVP);
-    let mut skipped = reader.skip(|r| {
-        r.read_u8()?;
-        r.read_var_u32()?;
-        Ok(())
-    })?;
-    assert!(rt; reads_bytes(&mut skipped, &[0x02, 0x80, 0x01])?);
-    assert_eq!(rt; reader.current_position(), 3);
-    let back = reader.skip(|r| {
-        *r = BinaryReader::new(&[0x7f], 7);
-        Ok(())
-    })?;
-    assert!(rt; back.eof());
-    assert_eq!(rt; back.original_position(), 7);
+    assert!(rt; skips(&mut reader, &[0x02, 0x80, 0x01])?);
+    assert!(rt; reader.current_position() == 3);
+    assert!(rt; goes_back(&mut reader)?);
     Ok(())
 }
 
 #[test]
 fn places_far_on(rt: HostRuntime) -> std::result::Result<(), Fail> {
-    assert_eq!(rt; BinaryReader::new(&[0x10], 4_294_967_296).read_u8()?, 0x10);
-    assert_eq!(rt; BinaryReader::max_data_len(u64::MAX), 0);
+    assert!(rt; BinaryReader::new(&[0x10], 4_294_967_296).read_u8()? == 0x10);
+    assert!(rt; BinaryReader::max_data_len(u64::MAX) == 0);
     Ok(())
 }
 
 #[test]
 fn faults(rt: HostRuntime) -> std::result::Result<(), Fail> {
     let end = Error::new(ErrorKind::EndOfFile(3), 26);
-    assert_eq!(rt; end.needed_hint(), Some(3));
+    assert!(rt; end.needed_hint() == Some(3));
     let text = format!(in rt.alloc(); "{end}")?;
-    assert_eq!(rt; text.as_str(), "unexpected end (at offset 0x1a)");
+    assert!(rt; text.as_str() == "unexpected end (at offset 0x1a)");
     let off = Error::new(ErrorKind::Feature(WasmFeatures::GC), 0);
-    assert_eq!(rt; off.missing_wasm_feature(), Some(WasmFeatures::GC));
+    assert!(rt; off.missing_wasm_feature() == Some(WasmFeatures::GC));
     Ok(())
 }
 
@@ -170,7 +181,7 @@ fn messages(rt: HostRuntime) {
         (ErrorKind::Memory, "out of memory"),
     ];
     for (kind, message) in rows {
-        assert_eq!(rt; Error::new(kind, 0).message(), message);
+        assert!(rt; Error::new(kind, 0).message() == message);
     }
 }
 

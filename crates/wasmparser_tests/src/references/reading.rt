@@ -48,6 +48,18 @@ fn numbers_and_vectors(rt: HostRuntime) {
     }
 }
 
+// The references to values of the type of this byte, the nullable one by two spellings.
+fn are_unshared(alloc: Global, byte: u8, nullable: RefType, non_null: RefType) -> bool {
+    reference(alloc, &[byte]) == Some(nullable)
+        && reference(alloc, &[0x63, byte]) == Some(nullable)
+        && reference(alloc, &[0x64, byte]) == Some(non_null)
+}
+
+fn are_shared(alloc: Global, byte: u8, shared: HeapType) -> bool {
+    reference(alloc, &[0x65, byte]) == RefType::new(true, shared)
+        && reference(alloc, &[0x64, 0x65, byte]) == RefType::new(false, shared)
+}
+
 #[test]
 fn abstract_types(rt: HostRuntime) {
     let types = [
@@ -106,12 +118,8 @@ fn abstract_types(rt: HostRuntime) {
     ];
     for (byte, ty, nullable, non_null) in types {
         assert!(rt; is_abstract(rt.alloc(), &[byte], ty));
-        assert!(rt; reference(rt.alloc(), &[byte]) == Some(nullable));
-        assert!(rt; reference(rt.alloc(), &[0x63, byte]) == Some(nullable));
-        assert!(rt; reference(rt.alloc(), &[0x64, byte]) == Some(non_null));
-        let shared = HeapType::Abstract { shared: true, ty };
-        assert!(rt; reference(rt.alloc(), &[0x65, byte]) == RefType::new(true, shared));
-        assert!(rt; reference(rt.alloc(), &[0x64, 0x65, byte]) == RefType::new(false, shared));
+        assert!(rt; are_unshared(rt.alloc(), byte, nullable, non_null));
+        assert!(rt; are_shared(rt.alloc(), byte, HeapType::Abstract { shared: true, ty }));
     }
 }
 
@@ -145,58 +153,84 @@ fn indices(rt: HostRuntime) {
     assert!(rt; named(alloc, &[0x64, 0x05]) == PackedIndex::from_module_index(5));
 }
 
+fn fault(alloc: Global, features: WasmFeatures, bytes: &[u8]) -> Option<(ErrorKind, u64)> {
+    refused(value(alloc, features, bytes))
+}
+
+// Whether the bytes are refused at this place, for want of the feature.
+fn is_off(
+    alloc: Global,
+    features: WasmFeatures,
+    feature: WasmFeatures,
+    bytes: &[u8],
+    place: u64,
+) -> bool {
+    fault(alloc, features, bytes) == Some((ErrorKind::Feature(feature), place))
+}
+
 #[test]
 fn features_that_are_off(rt: HostRuntime) {
-    let shared = ErrorKind::Feature(WasmFeatures::SHARED_EVERYTHING_THREADS);
-    let forms: [(&[u8], u64); 2] = [(&[0x65, 0x70], 11), (&[0x63, 0x65, 0x00], 12)];
-    for (bytes, place) in forms {
-        let outcome = value(rt.alloc(), WasmFeatures::default(), bytes);
-        assert_eq!(rt; refused(outcome), Some((shared, place)));
-    }
-    let types = ErrorKind::Feature(WasmFeatures::GC_TYPES);
+    let shared = WasmFeatures::SHARED_EVERYTHING_THREADS;
+    let first = WasmFeatures::default();
+    assert!(rt; is_off(rt.alloc(), first, shared, &[0x65, 0x70], 11));
+    assert!(rt; is_off(rt.alloc(), first, shared, &[0x63, 0x65, 0x00], 12));
     for byte in [
         0x63, 0x64, 0x6e, 0x71, 0x72, 0x73, 0x6d, 0x6b, 0x6a, 0x6c, 0x74,
     ] {
-        let outcome = value(rt.alloc(), WasmFeatures::FLOATS, &[byte]);
-        assert_eq!(rt; refused(outcome), Some((types, 11)));
+        let (floats, types) = (WasmFeatures::FLOATS, WasmFeatures::GC_TYPES);
+        assert!(rt; is_off(rt.alloc(), floats, types, &[byte], 11));
     }
+}
+
+#[test]
+fn types_without_features(rt: HostRuntime) {
     for byte in [0x70, 0x6f, 0x69] {
-        assert!(rt; value(rt.alloc(), WasmFeatures::FLOATS, &[byte]).is_ok());
+        assert!(rt; fault(rt.alloc(), WasmFeatures::FLOATS, &[byte]).is_none());
+    }
+}
+
+// What bytes are read as, with all features or with those that a reader has by itself.
+#[derive(Clone, Copy)]
+enum Form {
+    Value,
+    Heap,
+}
+
+fn fault_of(alloc: Global, form: Form, bytes: &[u8]) -> Option<(ErrorKind, u64)> {
+    match form {
+        Form::Value => fault(alloc, WasmFeatures::all(), bytes),
+        Form::Heap => refused(heap(alloc, bytes)),
     }
 }
 
 #[test]
-fn faults_of_values(rt: HostRuntime) {
-    let faults: [(&[u8], ErrorKind, u64); 9] = [
-        (&[], ErrorKind::EndOfFile(1), 11),
-        (&[0x63], ErrorKind::EndOfFile(1), 12),
-        (&[0x63, 0x80], ErrorKind::EndOfFile(1), 13),
-        (&[0x40], ErrorKind::BadByte, 11),
-        (&[0x00], ErrorKind::BadByte, 11),
-        (&[0x68], ErrorKind::BadByte, 11),
-        (&[0x63, 0x65, 0x00], ErrorKind::BadByte, 13),
-        (&[0x65, 0x60], ErrorKind::BadByte, 12),
-        (&[0x63, 0x80, 0x80, 0xc0, 0x00], ErrorKind::Limit, 12),
-    ];
-    for (bytes, kind, place) in faults {
-        let outcome = value(rt.alloc(), WasmFeatures::all(), bytes);
-        assert_eq!(rt; refused(outcome), Some((kind, place)));
-    }
-}
-
-// A padded `func` is no byte of an abstract type, and exact types have no bytes.
-#[test]
-fn faults_of_heap_types(rt: HostRuntime) {
-    let faults: [(&[u8], ErrorKind, u64); 3] = [
-        (&[0xf0, 0x7f], ErrorKind::BadByte, 11),
-        (&[0x62, 0x00], ErrorKind::BadByte, 11),
+fn faults(rt: HostRuntime) {
+    let rows: [(Form, &[u8], ErrorKind, u64); 12] = [
+        (Form::Value, &[], ErrorKind::EndOfFile(1), 11),
+        (Form::Value, &[0x63], ErrorKind::EndOfFile(1), 12),
+        (Form::Value, &[0x63, 0x80], ErrorKind::EndOfFile(1), 13),
+        (Form::Value, &[0x40], ErrorKind::BadByte, 11),
+        (Form::Value, &[0x00], ErrorKind::BadByte, 11),
+        (Form::Value, &[0x68], ErrorKind::BadByte, 11),
+        (Form::Value, &[0x63, 0x65, 0x00], ErrorKind::BadByte, 13),
+        (Form::Value, &[0x65, 0x60], ErrorKind::BadByte, 12),
         (
+            Form::Value,
+            &[0x63, 0x80, 0x80, 0xc0, 0x00],
+            ErrorKind::Limit,
+            12,
+        ),
+        // A padded `func` is no byte of an abstract type, and exact types have no bytes.
+        (Form::Heap, &[0xf0, 0x7f], ErrorKind::BadByte, 11),
+        (Form::Heap, &[0x62, 0x00], ErrorKind::BadByte, 11),
+        (
+            Form::Heap,
             &[0x80, 0x80, 0x80, 0x80, 0x80, 0x00],
             ErrorKind::TooLong,
             15,
         ),
     ];
-    for (bytes, kind, place) in faults {
-        assert_eq!(rt; refused(heap(rt.alloc(), bytes)), Some((kind, place)));
+    for (form, bytes, kind, place) in rows {
+        assert!(rt; fault_of(rt.alloc(), form, bytes) == Some((kind, place)));
     }
 }

@@ -14,22 +14,18 @@ fn is_copied(ty: &FuncType) -> Result<bool, AllocError> {
     Ok(ty.clone()? == *ty)
 }
 
-#[test]
-fn function_types(rt: HostRuntime) -> Result<(), Fail> {
-    let ty = function(rt.alloc(), &[ValType::I32], &[])?;
-    assert!(rt; ty.params() == [ValType::I32].as_slice());
-    assert!(rt; ty.results().is_empty());
-    assert!(rt; is_copied(&ty)?);
-    Ok(())
+// Whether the type has these parameters and results, and so has a copy.
+fn is_kept(alloc: Global, params: &[ValType], results: &[ValType]) -> Result<bool, AllocError> {
+    let ty = function(alloc, params, results)?;
+    Ok(ty.params() == params && ty.results() == results && is_copied(&ty)?)
 }
 
 #[test]
-fn function_types_keep_their_order(rt: HostRuntime) -> Result<(), Fail> {
+fn function_types(rt: HostRuntime) -> Result<(), Fail> {
+    assert!(rt; is_kept(rt.alloc(), &[ValType::I32], &[])?);
     let params = [ValType::I64, ValType::F32, ValType::I64];
     let results = [ValType::F64, ValType::I32];
-    let ty = function(rt.alloc(), &params, &results)?;
-    assert!(rt; ty.params() == params.as_slice());
-    assert!(rt; ty.results() == results.as_slice());
+    assert!(rt; is_kept(rt.alloc(), &params, &results)?);
     Ok(())
 }
 
@@ -46,13 +42,10 @@ fn is_of(alloc: Global, sub: &SubType, param: ValType) -> Result<bool, AllocErro
     })
 }
 
-#[test]
-fn subtypes_of_functions(rt: HostRuntime) -> Result<(), Fail> {
-    let sub = shared_subtype(rt.alloc())?;
-    assert!(rt; sub.is_final && sub.composite_type.shared);
-    assert!(rt; sub.supertype_idx.is_none());
-    assert!(rt; is_of(rt.alloc(), &sub, ValType::I32)?);
-    Ok(())
+// Whether it is a final shared one without supertype that takes this value alone.
+fn is_shared(alloc: Global, sub: &SubType, param: ValType) -> Result<bool, AllocError> {
+    let is_shared = sub.is_final && sub.composite_type.shared && sub.supertype_idx.is_none();
+    Ok(is_shared && is_of(alloc, sub, param)?)
 }
 
 fn is_subtype_copied(sub: &SubType) -> Result<bool, AllocError> {
@@ -67,12 +60,20 @@ fn is_form_copied(form: &CompositeInnerType) -> Result<bool, AllocError> {
     Ok(form.clone()? == *form)
 }
 
+// The type, its composite type and its form.
+fn are_copied(sub: &SubType) -> Result<bool, AllocError> {
+    Ok(
+        is_subtype_copied(sub)?
+            && is_composite_copied(&sub.composite_type)?
+            && is_form_copied(&sub.composite_type.inner)?,
+    )
+}
+
 #[test]
-fn subtypes_are_copied(rt: HostRuntime) -> Result<(), Fail> {
+fn subtypes_of_functions(rt: HostRuntime) -> Result<(), Fail> {
     let sub = shared_subtype(rt.alloc())?;
-    assert!(rt; is_subtype_copied(&sub)?);
-    assert!(rt; is_composite_copied(&sub.composite_type)?);
-    assert!(rt; is_form_copied(&sub.composite_type.inner)?);
+    assert!(rt; is_shared(rt.alloc(), &sub, ValType::I32)?);
+    assert!(rt; are_copied(&sub)?);
     Ok(())
 }
 
@@ -80,13 +81,16 @@ fn is_list_copied(list: &TypeList<ValType>) -> Result<bool, AllocError> {
     Ok(list.clone()? == *list)
 }
 
+// Whether a list has these types, as it is lent, copied and given back.
+fn lists_types(alloc: Global, types: &[ValType]) -> Result<bool, AllocError> {
+    let list = TypeList::from_vec(Vec::from_slice(alloc, types)?);
+    let is_kept = list.as_slice() == types && is_list_copied(&list)?;
+    Ok(list.into_vec().as_slice() == types && is_kept)
+}
+
 #[test]
 fn lists(rt: HostRuntime) -> Result<(), Fail> {
-    let types = [ValType::F32, ValType::F64];
-    let list = TypeList::from_vec(Vec::from_slice(rt.alloc(), &types)?);
-    assert!(rt; list.as_slice() == types.as_slice());
-    assert!(rt; is_list_copied(&list)?);
-    assert!(rt; list.into_vec().as_slice() == types.as_slice());
+    assert!(rt; lists_types(rt.alloc(), &[ValType::F32, ValType::F64])?);
     Ok(())
 }
 
@@ -99,10 +103,16 @@ fn is_structure_copied(fields: StructType) -> Result<bool, AllocError> {
     Ok(*ty.unwrap_struct() == fields)
 }
 
+fn reads_copied(alloc: Global, bytes: &[u8]) -> Result<bool, AllocError> {
+    match read::<StructType>(alloc, bytes) {
+        Some(fields) => is_structure_copied(fields),
+        None => Ok(false),
+    }
+}
+
 #[test]
 fn structures_are_copied(rt: HostRuntime) -> Result<(), Fail> {
-    let fields: StructType = read(rt.alloc(), &[0x01, 0x78, 0x01]).ok_or("not read")?;
-    assert!(rt; is_structure_copied(fields)?);
+    assert!(rt; reads_copied(rt.alloc(), &[0x01, 0x78, 0x01])?);
     Ok(())
 }
 
@@ -226,20 +236,27 @@ fn renumbered(group: &mut RecGroup, end: u32) -> Result<(), u32> {
     group.remap_indices(&mut number)
 }
 
-#[test]
-fn indices_are_changed_in_their_order(rt: HostRuntime) -> Result<(), Fail> {
-    let mut group: RecGroup = read(rt.alloc(), &NAMING).ok_or("not read")?;
-    assert!(rt; renumbered(&mut group, 20).is_ok());
-    assert!(rt; names(group, 10, 11, 12));
-    Ok(())
+// What is answered for the group of these bytes, and whether the indices that it names then are these.
+fn answers(
+    alloc: Global,
+    bytes: &[u8],
+    end: u32,
+    (param, supertype, field): (u32, u32, u32),
+) -> Option<Result<(), u32>> {
+    let mut group: RecGroup = read(alloc, bytes)?;
+    let answer = renumbered(&mut group, end);
+    if names(group, param, supertype, field) {
+        Some(answer)
+    } else {
+        None
+    }
 }
 
 #[test]
-fn indices_behind_a_refusal_stay(rt: HostRuntime) -> Result<(), Fail> {
-    let mut group: RecGroup = read(rt.alloc(), &NAMING).ok_or("not read")?;
-    assert!(rt; renumbered(&mut group, 11) == Err(11));
-    assert!(rt; names(group, 10, 1, 1));
-    Ok(())
+fn indices_are_changed_in_their_order(rt: HostRuntime) {
+    assert!(rt; answers(rt.alloc(), &NAMING, 20, (10, 11, 12)) == Some(Ok(())));
+    // Those behind a refusal stay.
+    assert!(rt; answers(rt.alloc(), &NAMING, 11, (10, 1, 1)) == Some(Err(11)));
 }
 
 #[test]

@@ -55,7 +55,7 @@ fn storage_types(rt: HostRuntime) {
     ];
     for (byte, expected, packed, value) in rows {
         assert!(rt; read::<StorageType>(rt.alloc(), &[byte]) == Some(expected));
-        assert_eq!(rt; expected.is_packed(), packed);
+        assert!(rt; expected.is_packed() == packed);
         assert!(rt; expected.unpack() == value);
     }
 }
@@ -97,34 +97,44 @@ fn field_types(rt: HostRuntime) {
     }
 }
 
-fn is_from_to(ty: &FuncType, params: &[ValType], results: &[ValType]) -> bool {
-    ty.params() == params && ty.results() == results
-}
-
-#[test]
-fn what_follows_the_byte_of_a_function(rt: HostRuntime) -> Result<(), Fail> {
-    let function: FuncType = read(rt.alloc(), &[0x02, 0x7f, 0x7e, 0x01, 0x7d]).ok_or("not read")?;
-    assert!(rt; is_from_to(&function, &[ValType::I32, ValType::I64], &[ValType::F32]));
-    Ok(())
-}
-
-// The field of that index, where there are as many fields.
-fn field_of(ty: &StructType, count: usize, index: usize) -> Option<(StorageType, bool)> {
-    let fields = ty.fields.as_slice();
-    match fields.get(index) {
-        Some(field) if fields.len() == count => Some(parts(field)),
-        _ => None,
+fn is_from_to(alloc: Global, bytes: &[u8], params: &[ValType], results: &[ValType]) -> bool {
+    match read::<FuncType>(alloc, bytes) {
+        Some(ty) => ty.params() == params && ty.results() == results,
+        None => false,
     }
 }
 
 #[test]
-fn what_follows_the_byte_of_a_structure(rt: HostRuntime) -> Result<(), Fail> {
-    let ty: StructType = read(rt.alloc(), &[0x02, 0x7f, 0x00, 0x78, 0x01]).ok_or("not read")?;
-    let number = StorageType::Val(ValType::I32);
-    for (index, storage, mutable) in [(0, number, false), (1, StorageType::I8, true)] {
-        assert!(rt; field_of(&ty, 2, index) == Some((storage, mutable)));
+fn what_follows_the_byte_of_a_function(rt: HostRuntime) {
+    let bytes = [0x02, 0x7f, 0x7e, 0x01, 0x7d];
+    let params = [ValType::I32, ValType::I64];
+    assert!(rt; is_from_to(rt.alloc(), &bytes, &params, &[ValType::F32]));
+}
+
+// Whether it is read as a structure whose fields have these parts.
+fn has_fields(alloc: Global, bytes: &[u8], wanted: &[(StorageType, bool)]) -> bool {
+    let Some(ty) = read::<StructType>(alloc, bytes) else {
+        return false;
+    };
+    are_fields(&ty, wanted)
+}
+
+fn are_fields(ty: &StructType, wanted: &[(StorageType, bool)]) -> bool {
+    let mut agree = ty.fields.as_slice().len() == wanted.len();
+    for (field, (storage, mutable)) in ty.fields.as_slice().iter().zip(wanted) {
+        agree &= field.element_type == *storage && field.mutable == *mutable;
     }
-    Ok(())
+    agree
+}
+
+#[test]
+fn what_follows_the_byte_of_a_structure(rt: HostRuntime) {
+    let bytes = [0x02, 0x7f, 0x00, 0x78, 0x01];
+    let fields = [
+        (StorageType::Val(ValType::I32), false),
+        (StorageType::I8, true),
+    ];
+    assert!(rt; has_fields(rt.alloc(), &bytes, &fields));
 }
 
 // A function type that takes one value, and is not shared.
@@ -133,10 +143,16 @@ fn takes_one(alloc: Global, ty: &CompositeType, param: ValType) -> Result<bool, 
     Ok(!ty.shared && sub.composite_type == *ty)
 }
 
+fn is_read_so(alloc: Global, bytes: &[u8], param: ValType) -> Result<bool, AllocError> {
+    match read::<CompositeType>(alloc, bytes) {
+        Some(ty) => takes_one(alloc, &ty, param),
+        None => Ok(false),
+    }
+}
+
 #[test]
 fn composite_functions(rt: HostRuntime) -> Result<(), Fail> {
-    let ty: CompositeType = read(rt.alloc(), &[0x60, 0x01, 0x7b, 0x00]).ok_or("not read")?;
-    assert!(rt; takes_one(rt.alloc(), &ty, ValType::V128)?);
+    assert!(rt; is_read_so(rt.alloc(), &[0x60, 0x01, 0x7b, 0x00], ValType::V128)?);
     Ok(())
 }
 
@@ -155,10 +171,7 @@ fn is_shared(alloc: Global, bytes: &[u8]) -> Option<bool> {
 
 #[test]
 fn shared_composite_types(rt: HostRuntime) {
-    assert_eq!(rt;
-        is_shared(rt.alloc(), &[0x65, 0x60, 0x00, 0x00]),
-        Some(true)
-    );
+    assert!(rt; is_shared(rt.alloc(), &[0x65, 0x60, 0x00, 0x00]) == Some(true));
 }
 
 // A function type without parameters and results, or a structure without fields.
@@ -205,20 +218,32 @@ fn final_subtypes(rt: HostRuntime) {
     assert!(rt; are_equal::<SubType>(rt.alloc(), &FINAL, &bare));
 }
 
-fn element(ty: &SubType) -> Option<StorageType> {
+fn element_of(ty: &SubType) -> Option<StorageType> {
     match &ty.composite_type.inner {
         CompositeInnerType::Array(ty) => Some(ty.0.element_type),
         _ => None,
     }
 }
 
+fn element(alloc: Global, bytes: &[u8]) -> Option<StorageType> {
+    match read::<SubType>(alloc, bytes) {
+        Some(ty) => element_of(&ty),
+        None => None,
+    }
+}
+
+// Non-null references to the type of this index.
+fn references_to(index: u32) -> Option<StorageType> {
+    match PackedIndex::from_module_index(index) {
+        Some(index) => Some(StorageType::Val(ValType::Ref(RefType::concrete(false, index)))),
+        None => None,
+    }
+}
+
 #[test]
-fn arrays_of_references(rt: HostRuntime) -> Result<(), Fail> {
-    let array: SubType = read(rt.alloc(), &[0x5e, 0x64, 0x05, 0x01]).ok_or("not read")?;
-    let index = PackedIndex::from_module_index(5).ok_or("no index")?;
-    let expected = StorageType::Val(ValType::Ref(RefType::concrete(false, index)));
-    assert!(rt; element(&array) == Some(expected));
-    Ok(())
+fn arrays_of_references(rt: HostRuntime) {
+    let element = element(rt.alloc(), &[0x5e, 0x64, 0x05, 0x01]);
+    assert!(rt; element.is_some() && element == references_to(5));
 }
 
 // Whether the group has a mark, and how many types.
@@ -237,9 +262,9 @@ const NONE: [u8; 2] = [0x4e, 0x00];
 
 #[test]
 fn groups(rt: HostRuntime) {
-    assert_eq!(rt; group(rt.alloc(), &SINGLE), Some((false, 1)));
-    assert_eq!(rt; group(rt.alloc(), &ALONE), Some((true, 1)));
-    assert_eq!(rt; group(rt.alloc(), &NONE), Some((true, 0)));
+    assert!(rt; group(rt.alloc(), &SINGLE) == Some((false, 1)));
+    assert!(rt; group(rt.alloc(), &ALONE) == Some((true, 1)));
+    assert!(rt; group(rt.alloc(), &NONE) == Some((true, 0)));
 }
 
 #[test]
@@ -264,15 +289,23 @@ fn stand(group: RecGroup, wanted: &[(u64, bool)]) -> bool {
     agree && types.next().is_none()
 }
 
+// Of a group that is read, and of its copy.
+fn stand_in_both(alloc: Global, bytes: &[u8], wanted: &[(u64, bool)]) -> Result<bool, AllocError> {
+    let Some(group) = read::<RecGroup>(alloc, bytes) else {
+        return Ok(false);
+    };
+    let copy = group.clone()?;
+    Ok(stand(group, wanted) && stand(copy, wanted))
+}
+
 #[test]
 fn places_of_a_groups_types(rt: HostRuntime) -> Result<(), Fail> {
-    let group: RecGroup = read(rt.alloc(), &PAIR).ok_or("not read")?;
-    assert!(rt; stand(group.clone()?, &[(13, true), (16, false)]));
+    assert!(rt; stand_in_both(rt.alloc(), &PAIR, &[(13, true), (16, false)])?);
     Ok(())
 }
 
-// How many types the group gives, where it says so beforehand.
-fn count(group: RecGroup) -> Option<u32> {
+// How many types the group gives, at most four, and how many it says beforehand.
+fn counts(group: RecGroup) -> (u32, usize) {
     let mut types = group.into_types();
     let len = types.len();
     let mut count = 0u32;
@@ -281,16 +314,17 @@ fn count(group: RecGroup) -> Option<u32> {
             count = count.saturating_add(1);
         }
     }
-    if count as usize == len {
-        Some(count)
-    } else {
-        None
+    (count, len)
+}
+
+fn has_two(alloc: Global, bytes: &[u8]) -> bool {
+    match read::<RecGroup>(alloc, bytes) {
+        Some(group) => counts(group) == (2, 2),
+        None => false,
     }
 }
 
 #[test]
-fn types_of_a_group(rt: HostRuntime) -> Result<(), Fail> {
-    let group: RecGroup = read(rt.alloc(), &PAIR).ok_or("not read")?;
-    assert_eq!(rt; count(group), Some(2));
-    Ok(())
+fn types_of_a_group(rt: HostRuntime) {
+    assert!(rt; has_two(rt.alloc(), &PAIR));
 }

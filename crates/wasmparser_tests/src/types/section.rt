@@ -11,9 +11,9 @@ fn section(alloc: Global, bytes: &[u8]) -> Result<TypeSectionReader<'_>> {
 }
 
 // Whether a group has a mark, and how many types, or the fault in its place.
-type Told = std::result::Result<(bool, usize), (ErrorKind, u64)>;
+type Told = Option<std::result::Result<(bool, usize), (ErrorKind, u64)>>;
 
-fn next_group(groups: &mut TypeSectionReader<'_>) -> Option<Told> {
+fn next_group(groups: &mut TypeSectionReader<'_>) -> Told {
     match groups.next() {
         Some(Ok(group)) => Some(Ok((group.is_explicit_rec_group(), group.types().len()))),
         Some(Err(e)) => Some(Err((e.kind(), e.offset()))),
@@ -21,50 +21,67 @@ fn next_group(groups: &mut TypeSectionReader<'_>) -> Option<Told> {
     }
 }
 
+fn gives(groups: &mut TypeSectionReader<'_>, wanted: &[Told]) -> bool {
+    let mut agree = true;
+    for told in wanted {
+        agree &= next_group(groups) == *told;
+    }
+    agree
+}
+
+// Whether the section gives this, in turn.
+fn tells(alloc: Global, bytes: &[u8], wanted: &[Told]) -> Result<bool> {
+    let mut groups = section(alloc, bytes)?;
+    Ok(gives(&mut groups, wanted))
+}
+
 #[test]
 fn groups_one_by_one(rt: HostRuntime) -> std::result::Result<(), Fail> {
-    let bytes = [0x02, 0x60, 0x00, 0x00, 0x4e, 0x02, 0x5f, 0x00, 0x5f, 0x00];
-    let mut groups = section(rt.alloc(), &bytes)?;
-    for told in [Some(Ok((false, 1))), Some(Ok((true, 2))), None, None] {
-        assert!(rt; next_group(&mut groups) == told);
-    }
-    Ok(())
-}
-
-#[test]
-fn bytes_that_are_left_over(rt: HostRuntime) -> std::result::Result<(), Fail> {
-    let bytes = [0x01, 0x60, 0x00, 0x00, 0x00];
-    let mut groups = section(rt.alloc(), &bytes)?;
+    let pair = [0x02, 0x60, 0x00, 0x00, 0x4e, 0x02, 0x5f, 0x00, 0x5f, 0x00];
+    let told = [Some(Ok((false, 1))), Some(Ok((true, 2))), None, None];
+    assert!(rt; tells(rt.alloc(), &pair, &told)?);
+    // Bytes that are left over.
+    let more = [0x01, 0x60, 0x00, 0x00, 0x00];
     let trailing = Some(Err((ErrorKind::Trailing, 14)));
-    for told in [Some(Ok((false, 1))), trailing, None] {
-        assert!(rt; next_group(&mut groups) == told);
-    }
+    assert!(rt; tells(rt.alloc(), &more, &[Some(Ok((false, 1))), trailing, None])?);
+    // A section of more types than it has bytes.
+    let end = Some(Err((ErrorKind::EndOfFile(1), 15)));
+    assert!(rt; tells(rt.alloc(), &[0xff, 0xff, 0xff, 0xff, 0x0f], &[end, None])?);
     Ok(())
 }
 
-// A section of more types than it has bytes.
-#[test]
-fn nothing_behind_a_fault(rt: HostRuntime) -> std::result::Result<(), Fail> {
-    let mut groups = section(rt.alloc(), &[0xff, 0xff, 0xff, 0xff, 0x0f])?;
-    for told in [Some(Err((ErrorKind::EndOfFile(1), 15))), None] {
-        assert!(rt; next_group(&mut groups) == told);
-    }
-    Ok(())
+fn fault(alloc: Global, bytes: &[u8]) -> Option<(ErrorKind, u64)> {
+    refused(section(alloc, bytes))
 }
 
 #[test]
 fn a_count_past_32_bits(rt: HostRuntime) {
-    let wide = section(rt.alloc(), &[0x80, 0x80, 0x80, 0x80, 0x10]);
-    assert_eq!(rt; refused(wide), Some((ErrorKind::TooLarge, 14)));
+    let wide = [0x80, 0x80, 0x80, 0x80, 0x10];
+    assert!(rt; fault(rt.alloc(), &wide) == Some((ErrorKind::TooLarge, 14)));
 }
 
 // How many parameters the next function type has, or the fault in its place.
-fn next_count(types: &mut FuncTypes<'_>) -> Option<std::result::Result<usize, (ErrorKind, u64)>> {
+type Count = Option<std::result::Result<usize, (ErrorKind, u64)>>;
+
+fn next_count(types: &mut FuncTypes<'_>) -> Count {
     match types.next() {
         Some(Ok(ty)) => Some(Ok(ty.params().len())),
         Some(Err(e)) => Some(Err((e.kind(), e.offset()))),
         None => None,
     }
+}
+
+fn give(types: &mut FuncTypes<'_>, wanted: &[Count]) -> bool {
+    let mut agree = true;
+    for count in wanted {
+        agree &= next_count(types) == *count;
+    }
+    agree
+}
+
+fn counts(alloc: Global, bytes: &[u8], wanted: &[Count]) -> Result<bool> {
+    let mut types = section(alloc, bytes)?.into_iter_err_on_gc_types();
+    Ok(give(&mut types, wanted))
 }
 
 #[test]
@@ -74,13 +91,14 @@ fn function_types_alone(rt: HostRuntime) -> std::result::Result<(), Fail> {
         0x00, 0x60, 0x00, 0x00, 0x4e, 0x00,
     ];
     let gc = ErrorKind::Feature(WasmFeatures::GC_TYPES);
-    let mut types = section(rt.alloc(), &bytes)?.into_iter_err_on_gc_types();
-    for count in [1, 0] {
-        assert!(rt; next_count(&mut types) == Some(Ok(count)));
-    }
-    for place in [22, 24, 29] {
-        assert!(rt; next_count(&mut types) == Some(Err((gc, place))));
-    }
-    assert!(rt; next_count(&mut types).is_none());
+    let wanted = [
+        Some(Ok(1)),
+        Some(Ok(0)),
+        Some(Err((gc, 22))),
+        Some(Err((gc, 24))),
+        Some(Err((gc, 29))),
+        None,
+    ];
+    assert!(rt; counts(rt.alloc(), &bytes, &wanted)?);
     Ok(())
 }
