@@ -2,28 +2,22 @@
 #![tactic(auto)]
 
 #[cfg(test)]
-mod accesses;
-#[cfg(test)]
-mod codes;
-#[cfg(test)]
-mod constants;
-#[cfg(test)]
-mod copies;
+mod faults;
 #[cfg(test)]
 mod index_maps;
 #[cfg(test)]
-mod indices;
-#[cfg(test)]
-mod lists;
-#[cfg(test)]
 mod maps;
+#[cfg(test)]
+mod numbers;
+#[cfg(test)]
+mod operators;
 #[cfg(test)]
 mod pairing;
 #[cfg(test)]
-mod refusing;
+mod rows;
 #[cfg(test)]
 mod table;
 #[cfg(test)]
-mod types;
-#[cfg(test)]
 mod view;
+#[cfg(test)]
+mod words;

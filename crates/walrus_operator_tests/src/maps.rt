@@ -1,4 +1,4 @@
-//! Maps of 130 items in each space: no index is its own id, and no space has another's.
+//! Maps of 131 items in each space: no index is its own id, and no space has another's but the largest.
 ghost use Rattle.std.specs.Prelude.{◌≤◌, ◌<◌, ◌+◌, ◌^◌, OnOk};
 ghost use Rattle.walrus_index_maps.specs.Views.{indices};
 ghost use Rattle.walrus_operator_tests.specs.Given.{given};
@@ -108,36 +108,44 @@ pub(crate) fn give(
 }
 
 // A space, and the id of its first item.
-fn space_at(turn: u32) -> (Space, u32) {
-    match turn {
-        0 => (Space::Type, 200),
-        1 => (Space::Function, 400),
-        2 => (Space::Table, 600),
-        3 => (Space::Memory, 800),
-        4 => (Space::Tag, 1000),
-        5 => (Space::Global, 1200),
-        6 => (Space::Element, 1400),
-        7 => (Space::Data, 1600),
-        _ => (Space::Local, 1800),
-    }
+const FIRST: [(Space, u32); 9] = [
+    (Space::Type, 200),
+    (Space::Function, 400),
+    (Space::Table, 600),
+    (Space::Memory, 800),
+    (Space::Tag, 1000),
+    (Space::Global, 1200),
+    (Space::Element, 1400),
+    (Space::Data, 1600),
+    (Space::Local, 1800),
+];
+
+fn first_of(turn: u32) -> (Space, u32) {
+    FIRST[(turn % 9) as usize]
 }
 
-// Indices 0 to 129 of each space.
+// Indices 0 to 129 of each space, and 130 for the largest id.
 fn ids(alloc: Global) -> Result<IndicesToIds, AllocError> {
     let mut ids = IndicesToIds::new(alloc);
-    for n in 0..1170u32 {
-        let (space, first) = space_at(n % 9);
-        push(&mut ids, space, first.saturating_add(n / 9))?;
+    for n in 0..1179u32 {
+        let (space, first) = first_of(n);
+        let id = if n / 9 == 130 {
+            4294967295
+        } else {
+            first.saturating_add(n / 9)
+        };
+        push(&mut ids, space, id)?;
     }
     Ok(ids)
 }
 
-// Numbers 0 to 129 of the same.
+// Numbers 0 to 129 of the same; of data segments and locals the largest in place of 64.
 fn numbers(alloc: Global) -> Result<IdsToIndices, AllocError> {
     let mut numbers = IdsToIndices::new(alloc);
     for n in 0..1170u32 {
-        let (space, first) = space_at(n % 9);
-        give(&mut numbers, space, first.saturating_add(n / 9), n / 9)?;
+        let (space, first) = first_of(n);
+        let number = if n / 9 == 64 { 4294967295 } else { n / 9 };
+        give(&mut numbers, space, first.saturating_add(n / 9), number)?;
     }
     Ok(numbers)
 }

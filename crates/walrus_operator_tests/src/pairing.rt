@@ -1,26 +1,39 @@
-//! Tests of the pairing of operators with instructions.
-
-mod fields;
-mod numeric;
+//! What pairing makes of operators.
 
 use crate::maps::{Maps, body};
 use crate::view::{is_written, read};
+use crate::words::{bytes_of, cut, number};
 use std::alloc::Global;
-use walrus_index_maps::{IdsToIndices, IndicesToIds, Space};
-use walrus_instr::Instr;
+use walrus_index_maps::{IdsToIndices, Space};
+use walrus_instr::{BinaryOp, Instr, UnaryOp};
+use walrus_operators::{Immediates, Operator};
 use walrus_pairing::{PairError, instr_of, operator_of};
+use wasm_operators::OpCode;
 
-/// What pairing makes of an operator.
-#[derive(Clone, Copy, PartialEq)]
-pub(crate) enum Paired {
-    /// An instruction, whose operator is written as the same bytes.
-    Back,
-    /// No instruction.
-    Nothing,
-    /// A refusal.
-    Refused(PairError),
-    /// An instruction whose operator isn't the same.
-    Other,
+// What has nothing at an index.
+fn of_space(space: Space) -> &'static str {
+    match space {
+        Space::Type => "no-type",
+        Space::Function => "no-function",
+        Space::Table => "no-table",
+        Space::Memory => "no-memory",
+        Space::Tag => "no-tag",
+        Space::Global => "no-global",
+        Space::Element => "no-element",
+        Space::Data => "no-data",
+        Space::Local => "no-local",
+        Space::Label => "no-label",
+    }
+}
+
+fn refused(fault: PairError) -> &'static str {
+    match fault {
+        PairError::Unknown(space) => of_space(space),
+        PairError::SharedType => "shared",
+        PairError::Select => "select",
+        PairError::Alignment => "alignment",
+        _ => "other",
+    }
 }
 
 fn is_back(alloc: Global, instr: &Instr, numbers: &IdsToIndices, bytes: &[u8]) -> bool {
@@ -30,50 +43,93 @@ fn is_back(alloc: Global, instr: &Instr, numbers: &IdsToIndices, bytes: &[u8]) -
     is_written(alloc, &operator, bytes)
 }
 
-fn made_of(
+/// `back` where the instruction's operator is written as these bytes, `none` where there is no instruction, or the refusal.
+pub(crate) fn made_of(
     alloc: Global,
-    ids: &IndicesToIds,
-    numbers: &IdsToIndices,
+    maps: &Maps,
+    operator: &Operator,
     bytes: &[u8],
-    written: &[u8],
-) -> Paired {
-    let Some(operator) = read(alloc, bytes) else {
-        return Paired::Other;
-    };
-    match instr_of(&operator, body(), ids) {
+) -> &'static str {
+    match instr_of(operator, body(), &maps.ids) {
         Ok(Some(instr)) => {
-            if is_back(alloc, &instr, numbers, written) {
-                Paired::Back
+            if is_back(alloc, &instr, &maps.numbers, bytes) {
+                "back"
             } else {
-                Paired::Other
+                "other"
             }
         }
-        Ok(None) => Paired::Nothing,
-        Err(fault) => Paired::Refused(fault),
+        Ok(None) => "none",
+        Err(fault) => refused(fault),
     }
 }
 
-/// Whether the instruction's operator, of the operator that the bytes are, is written as these others.
-pub(crate) fn comes_back_as(
-    alloc: Global,
-    ids: &IndicesToIds,
-    numbers: &IdsToIndices,
-    bytes: &[u8],
-    written: &[u8],
-) -> bool {
-    made_of(alloc, ids, numbers, bytes, written) == Paired::Back
+// The ids of two fields, in the order in which the operator has their indices; of some operations a number, and 0.
+fn fields(instr: &Instr) -> (u32, u32) {
+    match instr {
+        Instr::CallIndirect { ty, table } => (ty.number(), table.number()),
+        Instr::ReturnCallIndirect { ty, table } => (ty.number(), table.number()),
+        Instr::MemoryInit { memory, data } => (data.number(), memory.number()),
+        Instr::MemoryCopy { src, dst } => (dst.number(), src.number()),
+        Instr::TableInit { table, elem } => (elem.number(), table.number()),
+        Instr::TableCopy { src, dst } => (dst.number(), src.number()),
+        Instr::ArrayNewData { ty, data } => (ty.number(), data.number()),
+        Instr::ArrayNewElem { ty, elem } => (ty.number(), elem.number()),
+        Instr::ArrayCopy { src, dst } => (dst.number(), src.number()),
+        Instr::ArrayInitData { ty, data } => (ty.number(), data.number()),
+        Instr::ArrayInitElem { ty, elem } => (ty.number(), elem.number()),
+        Instr::Unop {
+            op: UnaryOp::I32TruncSF32,
+        } => (1, 0),
+        Instr::Unop {
+            op: UnaryOp::I32TruncSatF32S,
+        } => (2, 0),
+        Instr::Binop {
+            op: BinaryOp::I64MulWideU,
+        } => (3, 0),
+        _ => (0, 0),
+    }
 }
 
-/// Whether pairing makes this of the operator that the bytes are.
-pub(crate) fn pairs(alloc: Global, maps: &Maps, bytes: &[u8], expected: Paired) -> bool {
-    made_of(alloc, &maps.ids, &maps.numbers, bytes, bytes) == expected
+// Two zeros where there is no instruction.
+fn fields_of(maps: &Maps, operator: &Operator) -> (u32, u32) {
+    match instr_of(operator, body(), &maps.ids) {
+        Ok(Some(instr)) => fields(&instr),
+        _ => (0, 0),
+    }
 }
 
-/// What is found where this index of the space stands: 130 name something, and labels are in no map.
-pub(crate) fn named(space: Space, index: u64, found: Paired) -> Paired {
-    if space == Space::Label || index < 130 {
-        found
-    } else {
-        Paired::Refused(PairError::Unknown(space))
+/// Whether the instruction of a row's operator has these two in its fields.
+pub(crate) fn has_fields(alloc: Global, maps: &Maps, row: &[u8]) -> bool {
+    let (bytes, rest) = cut(row, b' ');
+    let (first, second) = cut(rest, b' ');
+    let Some(operator) = read(alloc, bytes_of(bytes).as_slice()) else {
+        return false;
+    };
+    let (one, other) = fields_of(maps, &operator);
+    u64::from(one) == number(first, 10) && u64::from(other) == number(second, 10)
+}
+
+/// Whether the instruction of a row's operator is written as the other bytes.
+pub(crate) fn is_renumbered(alloc: Global, maps: &Maps, row: &[u8]) -> bool {
+    let (bytes, written) = cut(row, b' ');
+    let Some(operator) = read(alloc, bytes_of(bytes).as_slice()) else {
+        return false;
+    };
+    made_of(alloc, maps, &operator, bytes_of(written).as_slice()) == "back"
+}
+
+/// Whether the code of a row has no instruction without immediates.
+pub(crate) fn has_no_instr(maps: &Maps, row: &[u8]) -> bool {
+    let (prefix, code) = cut(row, b' ');
+    let operator = Operator {
+        code: OpCode {
+            prefix: (number(prefix, 16) % 0x100) as u8,
+            number: (number(code, 10) % 0x10000) as u32,
+        },
+        immediates: Immediates::Bare,
+    };
+    match instr_of(&operator, body(), &maps.ids) {
+        Ok(Some(_)) => false,
+        _ => true,
     }
 }

@@ -1,26 +1,86 @@
-//! The operators, row by row: each is read, is missing its end at each of its bytes, is written, and is paired both ways.
+//! All rows, over the same maps.
 
-use crate::maps::filled;
-use crate::{accesses, constants, indices, lists, types};
+use crate::faults::{are_unknown, is_refused, is_shortened};
+use crate::index_maps::{are_named, are_numbered};
+use crate::maps::{Maps, filled};
+use crate::operators::are_operators;
+use crate::pairing::{has_fields, has_no_instr, is_renumbered};
+use crate::rows::{CODES, FAULTS, FIELDS, NO_CODES, NO_INSTRUCTIONS, PADDED, RENUMBERED};
+use crate::words::cut;
+use std::alloc::Global;
 use std::process::Abort;
 use std::test::Fail;
 
+// What is asked of rows.
+#[derive(Clone, Copy)]
+enum Rows {
+    Codes,
+    NoCodes,
+    Faults,
+    Padded,
+    Fields,
+    Renumbered,
+    NoInstructions,
+}
+
+fn text(rows: Rows) -> &'static str {
+    match rows {
+        Rows::Codes => CODES,
+        Rows::NoCodes => NO_CODES,
+        Rows::Faults => FAULTS,
+        Rows::Padded => PADDED,
+        Rows::Fields => FIELDS,
+        Rows::Renumbered => RENUMBERED,
+        Rows::NoInstructions => NO_INSTRUCTIONS,
+    }
+}
+
+fn stands(alloc: Global, maps: &Maps, rows: Rows, row: &[u8]) -> bool {
+    match rows {
+        Rows::Codes => are_operators(alloc, maps, row),
+        Rows::NoCodes => are_unknown(alloc, row),
+        Rows::Faults => is_refused(alloc, row),
+        Rows::Padded => is_shortened(alloc, row),
+        Rows::Fields => has_fields(alloc, maps, row),
+        Rows::Renumbered => is_renumbered(alloc, maps, row),
+        Rows::NoInstructions => has_no_instr(maps, row),
+    }
+}
+
+fn stand(alloc: Global, maps: &Maps, rows: Rows) -> bool {
+    let text = text(rows).as_bytes();
+    let mut rest = text;
+    for _ in 0..text.len() {
+        let (row, next) = cut(rest, b'\n');
+        if !stands(alloc, maps, rows, row) {
+            return false;
+        }
+        if next.is_empty() {
+            return true;
+        }
+        rest = next;
+    }
+    false
+}
+
+const ALL: [Rows; 7] = [
+    Rows::Codes,
+    Rows::NoCodes,
+    Rows::Faults,
+    Rows::Padded,
+    Rows::Fields,
+    Rows::Renumbered,
+    Rows::NoInstructions,
+];
+
+// One function has the maps, as that is dear to prove.
 #[test]
-fn operators_of_the_table(rt: HostRuntime) -> Result<(), Fail> {
-    let maps = filled(rt.alloc())?;
-    assert!(rt; indices::bare(rt.alloc(), &maps));
-    assert!(rt; indices::one_index(rt.alloc(), &maps));
-    assert!(rt; indices::two_numbers(rt.alloc(), &maps));
-    assert!(rt; accesses::accesses(rt.alloc(), &maps));
-    assert!(rt; accesses::lanes(rt.alloc(), &maps));
-    assert!(rt; constants::small(rt.alloc(), &maps));
-    assert!(rt; constants::large(rt.alloc(), &maps));
-    assert!(rt; constants::bits(rt.alloc(), &maps));
-    assert!(rt; types::block_types(rt.alloc(), &maps));
-    assert!(rt; types::heap_types(rt.alloc(), &maps));
-    assert!(rt; types::casts(rt.alloc(), &maps));
-    assert!(rt; lists::branch_tables(rt.alloc(), &maps));
-    assert!(rt; lists::handlers(rt.alloc(), &maps));
-    assert!(rt; lists::selected_types(rt.alloc(), &maps));
+fn all_rows(rt: HostRuntime) -> Result<(), Fail> {
+    let mut maps = filled(rt.alloc())?;
+    for rows in ALL {
+        assert!(rt; stand(rt.alloc(), &maps, rows));
+    }
+    assert!(rt; are_numbered(&maps.numbers));
+    assert!(rt; are_named(&mut maps.ids));
     Ok(())
 }

@@ -1,6 +1,6 @@
 //! What indices name, in each space.
 
-use crate::maps::{body, filled, push};
+use crate::maps::{body, push};
 use std::alloc::{AllocError, Global};
 use std::process::Abort;
 use std::test::Fail;
@@ -19,19 +19,27 @@ const SPACES: [Space; 9] = [
     Space::Local,
 ];
 
+// The place of an id that was found.
+fn place<S>(found: Result<Id<S>, UnknownIndex>) -> Result<usize, UnknownIndex> {
+    match found {
+        Ok(id) => Ok(id.index()),
+        Err(unknown) => Err(unknown),
+    }
+}
+
 // What an index of the space names.
 fn named(ids: &IndicesToIds, space: Space, index: u32) -> Result<usize, UnknownIndex> {
-    Ok(match space {
-        Space::Type => ids.get_type(index)?.index(),
-        Space::Function => ids.get_func(index)?.index(),
-        Space::Table => ids.get_table(index)?.index(),
-        Space::Memory => ids.get_memory(index)?.index(),
-        Space::Tag => ids.get_tag(index)?.index(),
-        Space::Global => ids.get_global(index)?.index(),
-        Space::Element => ids.get_element(index)?.index(),
-        Space::Data => ids.get_data(index)?.index(),
-        _ => ids.get_local(body(), index)?.index(),
-    })
+    match space {
+        Space::Type => place(ids.get_type(index)),
+        Space::Function => place(ids.get_func(index)),
+        Space::Table => place(ids.get_table(index)),
+        Space::Memory => place(ids.get_memory(index)),
+        Space::Tag => place(ids.get_tag(index)),
+        Space::Global => place(ids.get_global(index)),
+        Space::Element => place(ids.get_element(index)),
+        Space::Data => place(ids.get_data(index)),
+        _ => place(ids.get_local(body(), index)),
+    }
 }
 
 // Whether index 0 names something in this space alone.
@@ -64,16 +72,15 @@ fn each_space_has_its_own_list(rt: HostRuntime) -> Result<(), Fail> {
     Ok(())
 }
 
-#[test]
-fn locals_are_of_one_function_and_types_are_named_anew(rt: HostRuntime) -> Result<(), Fail> {
-    let mut maps = filled(rt.alloc())?;
-    assert!(rt; maps.ids.get_local(body(), 129) == Ok(Id::from_index(1929)));
-    assert!(rt; maps.ids.get_local(Id::from_index(8), 0) == Err(UnknownIndex(Space::Local)));
-    maps.ids.remap_type(0, Id::from_index(9));
-    assert!(rt; maps.ids.get_type(0) == Ok(Id::from_index(9)));
-    assert!(rt; maps.ids.get_type(129) == Ok(Id::from_index(329)));
-    assert!(rt; maps.ids.get_type(130) == Err(UnknownIndex(Space::Type)));
-    Ok(())
+/// Whether locals are of one function, and types can be named anew.
+pub(crate) fn are_named(ids: &mut IndicesToIds) -> bool {
+    let locals = ids.get_local(body(), 129) == Ok(Id::from_index(1929))
+        && ids.get_local(Id::from_index(8), 0) == Err(UnknownIndex(Space::Local));
+    ids.remap_type(0, Id::from_index(9));
+    locals
+        && named(ids, Space::Type, 0) == Ok(9)
+        && named(ids, Space::Type, 129) == Ok(329)
+        && named(ids, Space::Type, 131) == Err(UnknownIndex(Space::Type))
 }
 
 #[test]

@@ -1,6 +1,6 @@
 //! What number each id is written as, in each space.
 
-use crate::maps::{body, filled, give};
+use crate::maps::{body, give};
 use std::alloc::{AllocError, Global};
 use std::process::Abort;
 use std::test::Fail;
@@ -62,19 +62,19 @@ fn each_space_has_its_own_numbers(rt: HostRuntime) -> Result<(), Fail> {
     Ok(())
 }
 
-// The largest id that has a number, and its number.
-#[test]
-fn the_next_id_has_the_next_number(rt: HostRuntime) -> Result<(), Fail> {
-    let maps = filled(rt.alloc())?;
-    assert!(rt; number_of(&maps.numbers, Space::Type, 200) == Some(0));
-    assert!(rt; number_of(&maps.numbers, Space::Type, 328) == Some(128));
-    assert!(rt; number_of(&maps.numbers, Space::Element, 1529) == Some(129));
-    assert!(rt; number_of(&maps.numbers, Space::Element, 1530).is_none());
-    Ok(())
+/// Whether the next id has the next number: the largest id that has one, and its number.
+pub(crate) fn are_numbered(numbers: &IdsToIndices) -> bool {
+    number_of(numbers, Space::Type, 200) == Some(0)
+        && number_of(numbers, Space::Type, 328) == Some(128)
+        && number_of(numbers, Space::Element, 1529) == Some(129)
+        && number_of(numbers, Space::Element, 1530).is_none()
 }
 
-// Sets, one after the other, a function, a local and its number there.
-fn set(numbers: &mut IdsToIndices, rows: &[(u32, u32, u32)]) -> Result<(), AllocError> {
+// A function, a local, and its number there.
+type Row = (u32, u32, u32);
+
+// Sets them one after the other.
+fn set(numbers: &mut IdsToIndices, rows: &[Row]) -> Result<(), AllocError> {
     for (function, local, number) in rows {
         let function = Id::from_index(*function as usize);
         numbers.set_local_index(function, Id::from_index(*local as usize), *number)?;
@@ -87,8 +87,23 @@ fn local_of(numbers: &IdsToIndices, function: u32, local: u32) -> Option<u32> {
     numbers.get_local_index(function, Id::from_index(local as usize))
 }
 
+fn are_apart(numbers: &IdsToIndices) -> bool {
+    for (function, local, number) in [(1, 5, 12), (2, 5, 21), (3, 5, 30), (1, 6, 11)] {
+        if local_of(numbers, function, local) != Some(number) {
+            return false;
+        }
+    }
+    for (function, local) in [(2, 6), (3, 6), (4, 5), (1, 7), (1, 4294967295)] {
+        if local_of(numbers, function, local).is_some() {
+            return false;
+        }
+    }
+    true
+}
+
 #[test]
 fn functions_that_share_a_local_have_their_own_numbers(rt: HostRuntime) -> Result<(), Fail> {
+    let mut numbers = IdsToIndices::new(rt.alloc());
     let rows = [
         (1, 5, 10),
         (2, 5, 20),
@@ -97,13 +112,7 @@ fn functions_that_share_a_local_have_their_own_numbers(rt: HostRuntime) -> Resul
         (3, 5, 30),
         (2, 5, 21),
     ];
-    let mut numbers = IdsToIndices::new(rt.alloc());
     set(&mut numbers, &rows)?;
-    for (function, local, number) in [(1, 5, 12), (2, 5, 21), (3, 5, 30), (1, 6, 11)] {
-        assert!(rt; local_of(&numbers, function, local) == Some(number));
-    }
-    for (function, local) in [(2, 6), (3, 6), (4, 5), (1, 7), (1, 4294967295)] {
-        assert!(rt; local_of(&numbers, function, local).is_none());
-    }
+    assert!(rt; are_apart(&numbers));
     Ok(())
 }

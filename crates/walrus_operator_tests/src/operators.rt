@@ -1,0 +1,120 @@
+//! The operators: each is read, is missing its end at each of its bytes, is written, copied, and paired both ways.
+
+use crate::maps::Maps;
+use crate::numbers::{form, number_at};
+use crate::pairing::made_of;
+use crate::rows::IMMEDIATES;
+use crate::view::{read, stands};
+use crate::words::{base, cut, number, text_of};
+use std::alloc::Global;
+use walrus_operators::{Immediates, Operator};
+
+// Whether the immediates have these numbers and no other, all in one word. A `-` alone is none.
+fn has_numbers(immediates: &Immediates, words: &[u8]) -> bool {
+    if words == "-".as_bytes() {
+        return number_at(immediates, 0).is_none();
+    }
+    let mut rest = words;
+    for at in 0..words.len() {
+        let (word, next) = cut(rest, b',');
+        if number_at(immediates, at) != Some(number(word, 10)) {
+            return false;
+        }
+        if next.is_empty() {
+            return number_at(immediates, at + 1).is_none();
+        }
+        rest = next;
+    }
+    false
+}
+
+// A code, and what follows it.
+#[derive(Clone, Copy)]
+struct Code<'a> {
+    prefix: u64,
+    number: u64,
+    form: &'a [u8],
+    // What pairing makes of it.
+    becomes: &'a [u8],
+}
+
+fn is_seen(operator: &Operator, code: Code<'_>, numbers: &[u8]) -> bool {
+    u64::from(operator.code.prefix) == code.prefix
+        && u64::from(operator.code.number) == code.number
+        && form(&operator.immediates).as_bytes() == code.form
+        && has_numbers(&operator.immediates, numbers)
+}
+
+fn becomes(alloc: Global, maps: &Maps, operator: &Operator, bytes: &[u8], word: &[u8]) -> bool {
+    made_of(alloc, maps, operator, bytes).as_bytes() == word
+}
+
+// Whether the bytes are an operator of this code and form with these numbers, of which pairing makes this.
+fn holds(
+    alloc: Global,
+    maps: &Maps,
+    bytes: &[u8],
+    code: Code<'_>,
+    numbers: &[u8],
+    word: &[u8],
+) -> bool {
+    let Some(operator) = read(alloc, bytes) else {
+        return false;
+    };
+    is_seen(&operator, code, numbers)
+        && stands(alloc, &operator, bytes)
+        && becomes(alloc, maps, &operator, bytes, word)
+}
+
+// Whether the code stands with the immediates of this row, if they are of its form.
+fn has_immediates(alloc: Global, maps: &Maps, code: Code<'_>, row: &[u8]) -> bool {
+    let (_, rest) = cut(row, b' ');
+    let (immediates, rest) = cut(rest, b' ');
+    let (numbers, word) = cut(rest, b' ');
+    let bytes = text_of(code.prefix, code.number, immediates);
+    let word = if word == "back".as_bytes() { code.becomes } else { word };
+    holds(alloc, maps, bytes.as_slice(), code, numbers, word)
+}
+
+// Whether the code stands with each of the immediates of its form, of which there are some.
+fn is_operator(alloc: Global, maps: &Maps, code: Code<'_>) -> bool {
+    let mut rest = IMMEDIATES.as_bytes();
+    let mut is_there = false;
+    for _ in 0..IMMEDIATES.len() {
+        let (row, next) = cut(rest, b'\n');
+        let (form, _) = cut(row, b' ');
+        if form == code.form {
+            if !has_immediates(alloc, maps, code, row) {
+                return false;
+            }
+            is_there = true;
+        }
+        if next.is_empty() {
+            return is_there;
+        }
+        rest = next;
+    }
+    false
+}
+
+/// Whether the codes of a row stand.
+pub(crate) fn are_operators(alloc: Global, maps: &Maps, row: &[u8]) -> bool {
+    let (prefix, rest) = cut(row, b' ');
+    let (first, rest) = cut(rest, b' ');
+    let (last, rest) = cut(rest, b' ');
+    let (form, becomes) = cut(rest, b' ');
+    let prefix = number(prefix, 16);
+    let base = base(prefix);
+    for number in number(first, base)..=number(last, base) {
+        let code = Code {
+            prefix,
+            number,
+            form,
+            becomes,
+        };
+        if !is_operator(alloc, maps, code) {
+            return false;
+        }
+    }
+    true
+}

@@ -1,0 +1,427 @@
+//! The rows, by the standard's tables of instructions: words with a space between them, and a row a line. Bytes stand as two digits each,
+//! `-` is none. Codes are ranges: of one byte in hexadecimal where the prefix is 00, else of decimal numbers behind the prefix.
+
+/// All operators: a prefix, the first and the last code, the form of the immediates, and what pairing makes of them.
+pub(crate) const CODES: &str = "00 00 00 bare back
+00 01 01 bare none
+00 02 04 block none
+00 05 05 bare none
+00 06 06 block none
+00 07 07 tag none
+00 08 08 tag back
+00 09 09 label none
+00 0a 0a bare back
+00 0b 0b bare none
+00 0c 0d label none
+00 0e 0e labels none
+00 0f 0f bare back
+00 10 10 function back
+00 11 11 type-table back
+00 12 12 function back
+00 13 13 type-table back
+00 14 15 type back
+00 18 18 label none
+00 19 19 bare none
+00 1a 1b bare back
+00 1c 1c values back
+00 1f 1f handlers none
+00 20 22 local back
+00 23 24 global back
+00 25 26 table back
+00 28 3e access back
+00 3f 40 memory back
+00 41 41 i32 back
+00 42 42 i64 back
+00 43 43 f32 back
+00 44 44 f64 back
+00 45 c4 bare back
+00 d0 d0 heap back
+00 d1 d1 bare back
+00 d2 d2 function back
+00 d3 d4 bare back
+00 d5 d6 label none
+fb 0 1 type back
+fb 2 5 type-number back
+fb 6 7 type back
+fb 8 8 type-number back
+fb 9 9 type-data back
+fb 10 10 type-element back
+fb 11 14 type back
+fb 15 15 bare back
+fb 16 16 type back
+fb 17 17 type-type back
+fb 18 18 type-data back
+fb 19 19 type-element back
+fb 20 23 heap back
+fb 24 25 cast none
+fb 26 30 bare back
+fc 0 7 bare back
+fc 8 8 data-memory back
+fc 9 9 data back
+fc 10 10 memory-memory back
+fc 11 11 memory back
+fc 12 12 element-table back
+fc 13 13 element back
+fc 14 14 table-table back
+fc 15 17 table back
+fc 19 22 bare back
+fd 0 11 access back
+fd 12 13 vector back
+fd 14 20 bare back
+fd 21 34 lane back
+fd 35 83 bare back
+fd 84 91 access-lane back
+fd 92 93 access back
+fd 94 153 bare back
+fd 155 161 bare back
+fd 163 164 bare back
+fd 167 174 bare back
+fd 177 177 bare back
+fd 181 186 bare back
+fd 188 193 bare back
+fd 195 196 bare back
+fd 199 206 bare back
+fd 209 209 bare back
+fd 213 225 bare back
+fd 227 237 bare back
+fd 239 275 bare back
+fe 0 2 access back
+fe 3 3 zero back
+fe 16 78 access back";
+
+/// What follows the codes of each form: its bytes, its numbers, and what pairing makes of it. `back` is an instruction that gives the same
+/// operator, where the code has one; `none` is no instruction, and all else a refusal. The maps have 131 items of each space.
+///
+/// Numbers are the indices in their order; of an access its alignment, memory and offset; of handlers a block type, then kind, tag and
+/// label of each; of labels the last, then the others. Types stand as the signed numbers that they are read as, types by index in a
+/// block's place 2^32 higher, shared ones 100 lower, and references that aren't null 1000 lower.
+pub(crate) const IMMEDIATES: &str = "bare - - back
+zero 00 - back
+tag 00 0 back
+tag 7f 127 back
+tag 8001 128 back
+tag ffffffff0f 4294967295 no-tag
+label 00 0 none
+label 7f 127 none
+label 8001 128 none
+label ffffffff0f 4294967295 none
+function 00 0 back
+function 7f 127 back
+function 8001 128 back
+function ffffffff0f 4294967295 no-function
+type 00 0 back
+type 7f 127 back
+type 8001 128 back
+type ffffffff0f 4294967295 no-type
+local 00 0 back
+local 7f 127 back
+local 8001 128 back
+local ffffffff0f 4294967295 no-local
+global 00 0 back
+global 7f 127 back
+global 8001 128 back
+global ffffffff0f 4294967295 no-global
+table 00 0 back
+table 7f 127 back
+table 8001 128 back
+table ffffffff0f 4294967295 no-table
+memory 00 0 back
+memory 7f 127 back
+memory 8001 128 back
+memory ffffffff0f 4294967295 no-memory
+data 00 0 back
+data 7f 127 back
+data 8001 128 back
+data ffffffff0f 4294967295 no-data
+element 00 0 back
+element 7f 127 back
+element 8001 128 back
+element ffffffff0f 4294967295 no-element
+type-table 810100 129,0 back
+type-table 81017f 129,127 back
+type-table 81018001 129,128 back
+type-table 8101ffffffff0f 129,4294967295 no-table
+type-table 0005 0,5 back
+type-table 7f05 127,5 back
+type-table 800105 128,5 back
+type-table ffffffff0f05 4294967295,5 no-type
+data-memory 810100 129,0 back
+data-memory 81017f 129,127 back
+data-memory 81018001 129,128 back
+data-memory 8101ffffffff0f 129,4294967295 no-memory
+data-memory 0005 0,5 back
+data-memory 7f05 127,5 back
+data-memory 800105 128,5 back
+data-memory ffffffff0f05 4294967295,5 no-data
+memory-memory 810100 129,0 back
+memory-memory 81017f 129,127 back
+memory-memory 81018001 129,128 back
+memory-memory 8101ffffffff0f 129,4294967295 no-memory
+memory-memory 0005 0,5 back
+memory-memory 7f05 127,5 back
+memory-memory 800105 128,5 back
+memory-memory ffffffff0f05 4294967295,5 no-memory
+element-table 810100 129,0 back
+element-table 81017f 129,127 back
+element-table 81018001 129,128 back
+element-table 8101ffffffff0f 129,4294967295 no-table
+element-table 0005 0,5 back
+element-table 7f05 127,5 back
+element-table 800105 128,5 back
+element-table ffffffff0f05 4294967295,5 no-element
+table-table 810100 129,0 back
+table-table 81017f 129,127 back
+table-table 81018001 129,128 back
+table-table 8101ffffffff0f 129,4294967295 no-table
+table-table 0005 0,5 back
+table-table 7f05 127,5 back
+table-table 800105 128,5 back
+table-table ffffffff0f05 4294967295,5 no-table
+type-number 810100 129,0 back
+type-number 81017f 129,127 back
+type-number 81018001 129,128 back
+type-number 8101ffffffff0f 129,4294967295 back
+type-number 0005 0,5 back
+type-number 7f05 127,5 back
+type-number 800105 128,5 back
+type-number ffffffff0f05 4294967295,5 no-type
+type-data 810100 129,0 back
+type-data 81017f 129,127 back
+type-data 81018001 129,128 back
+type-data 8101ffffffff0f 129,4294967295 no-data
+type-data 0005 0,5 back
+type-data 7f05 127,5 back
+type-data 800105 128,5 back
+type-data ffffffff0f05 4294967295,5 no-type
+type-element 810100 129,0 back
+type-element 81017f 129,127 back
+type-element 81018001 129,128 back
+type-element 8101ffffffff0f 129,4294967295 no-element
+type-element 0005 0,5 back
+type-element 7f05 127,5 back
+type-element 800105 128,5 back
+type-element ffffffff0f05 4294967295,5 no-type
+type-type 810100 129,0 back
+type-type 81017f 129,127 back
+type-type 81018001 129,128 back
+type-type 8101ffffffff0f 129,4294967295 no-type
+type-type 0005 0,5 back
+type-type 7f05 127,5 back
+type-type 800105 128,5 back
+type-type ffffffff0f05 4294967295,5 no-type
+access 0000 0,0,0 back
+access 1f7f 31,0,127 back
+access 3f8001 63,0,128 alignment
+access 1fffffffffffffffffff01 31,0,18446744073709551615 back
+access 800100 128,0,0 alignment
+access bfffffff0f00 4294967231,0,0 alignment
+access 427f8001 2,127,128 back
+access 5f80017f 31,128,127 back
+access 40ffffffff0f00 0,4294967295,0 no-memory
+access ffffffff0f0105 4294967231,1,5 alignment
+lane 00 0 back
+lane 7f 127 back
+lane 80 128 back
+lane ff 255 back
+access-lane 1f800100 31,0,128,0 back
+access-lane 1f80017f 31,0,128,127 back
+access-lane 1f800180 31,0,128,128 back
+access-lane 1f8001ff 31,0,128,255 back
+access-lane 437f0700 3,127,7,0 back
+access-lane 437f077f 3,127,7,127 back
+access-lane 437f0780 3,127,7,128 back
+access-lane 437f07ff 3,127,7,255 back
+access-lane 83010700 131,0,7,0 alignment
+access-lane 8301077f 131,0,7,127 alignment
+access-lane 83010780 131,0,7,128 alignment
+access-lane 830107ff 131,0,7,255 alignment
+i32 00 0 back
+i32 3f 63 back
+i32 40 -64 back
+i32 c000 64 back
+i32 bf7f -65 back
+i32 ff00 127 back
+i32 8001 128 back
+i32 ffffffff07 2147483647 back
+i32 8080808078 -2147483648 back
+i64 00 0 back
+i64 7f -1 back
+i64 ff00 127 back
+i64 8001 128 back
+i64 807f -128 back
+i64 ffffffffffffffffff00 9223372036854775807 back
+i64 8080808080808080807f -9223372036854775808 back
+f32 00000000 0 back
+f32 01020384 2214789633 back
+f64 0100000000000080 9223372036854775809 back
+f64 ffffffffffffffff 18446744073709551615 back
+vector 000102030405060708090a0b0c0d0e0f 0,1,2,3,4,5,6,7,8,9,10,11,12,13,14,15 back
+vector ffffffffffffffffffffffffffffff80 255,255,255,255,255,255,255,255,255,255,255,255,255,255,255,128 back
+block 40 -64 none
+block 7f -1 none
+block 7b -5 none
+block 6f -17 none
+block 00 4294967296 none
+block 3f 4294967359 none
+block c000 4294967360 none
+block ff00 4294967423 none
+block 8001 4294967424 none
+block ffffffff0f 8589934591 none
+heap 70 -16 back
+heap 6570 -116 shared
+heap 6f -17 back
+heap 656f -117 shared
+heap 6e -18 back
+heap 656e -118 shared
+heap 71 -15 back
+heap 6571 -115 shared
+heap 72 -14 back
+heap 6572 -114 shared
+heap 73 -13 back
+heap 6573 -113 shared
+heap 6d -19 back
+heap 656d -119 shared
+heap 6b -21 back
+heap 656b -121 shared
+heap 6a -22 back
+heap 656a -122 shared
+heap 6c -20 back
+heap 656c -120 shared
+heap 69 -23 back
+heap 6569 -123 shared
+heap 74 -12 back
+heap 6574 -112 shared
+heap 00 0 back
+heap c000 64 back
+heap ff00 127 back
+heap 8001 128 back
+heap ffff3f 1048575 no-type
+cast 00006e70 0,0,-18,-16 none
+cast 017f80016e 1,127,128,-18 none
+cast 028001006f 2,128,0,-17 none
+cast 03ffffffff0f6effff3f 3,4294967295,-18,1048575 none
+labels 0000 0 none
+labels 01ffffffff0fffffffff0f 4294967295,4294967295 none
+labels 03007f800105 5,0,127,128 none
+handlers 0504007f800101ffffffff0f00027f03ffffffff0f 4294967301,0,127,128,1,4294967295,0,2,0,127,3,0,4294967295 none
+handlers 05020002030304 4294967301,0,2,3,3,0,4 none
+values 017f -1 back
+values 017c -4 back
+values 016300 0 back
+values 0164ff00 -873 back
+values 01638001 128 back
+values 0163ffff3f 1048575 no-type
+values 027f63ffff3f -1,1048575 no-type
+values 027f6f -1,-17 select";
+
+/// What is no operator, up to the number 400 behind a prefix.
+pub(crate) const NO_CODES: &str = "00 16 17
+00 1d 1e
+00 27 27
+00 c5 cf
+00 d7 fa
+00 ff ff
+fb 31 400
+fc 18 18
+fc 23 400
+fd 154 154
+fd 162 162
+fd 165 166
+fd 175 176
+fd 178 180
+fd 187 187
+fd 194 194
+fd 197 198
+fd 207 208
+fd 210 212
+fd 226 226
+fd 238 238
+fd 276 400
+fe 4 15
+fe 79 400
+fc 16383 16383
+fd 16000 16000";
+
+/// Which feature is off, the bytes, and the fault with the count of missing bytes and its place. Where what an operator needs is off, the
+/// rest being on, the code is no operator's, and what follows isn't looked at.
+///
+/// Of the faults: codes whose number is too long or too large; a heap type whose number is negative, its first byte that of no abstract
+/// type; block types below zero that are no value types; a handler's kind; flags of a cast; a fence; types before the table, whose index
+/// is too long; missing bytes of a float and a vector; missing labels.
+pub(crate) const FAULTS: &str = "legacy 0640 unknown 0 11
+- 0640 none 0 0
+legacy 0700 unknown 0 11
+- 0700 none 0 0
+legacy 0900 unknown 0 11
+- 0900 none 0 0
+legacy 1800 unknown 0 11
+- 1800 none 0 0
+legacy 19 unknown 0 11
+- 19 none 0 0
+wide fc13 unknown 0 11
+- fc13 none 0 0
+wide fc14 unknown 0 11
+- fc14 none 0 0
+wide fc15 unknown 0 11
+- fc15 none 0 0
+wide fc16 unknown 0 11
+- fc16 none 0 0
+- - end 1 11
+- fd end 1 12
+- fc808080808000 long 0 16
+- fc8080808010 large 0 16
+- d0f07f bad 0 12
+- 0250 bad 0 12
+- 02c07f bad 0 12
+- 1f400104 bad 0 14
+- fb1804007070 bad 0 13
+- fe0301 bad 0 13
+- 1105808080808000 long 0 17
+- 430000 end 2 12
+- fd0c00 end 15 13
+- 0effffffff0f00 end 1 18";
+
+/// Padded numbers are read, and the shortest are written: of a memory 0 in so many words nothing, of a nullable abstract reference one byte.
+pub(crate) const PADDED: &str = "fc8000 fc00
+20818000 2001
+41ff7f 417f
+42c08000 42c000
+2842008000 280200
+d08000 d000
+026370 0270
+1c8100636f 1c016f
+0e8100800001 0e010001";
+
+/// What indices name in the fields of instructions, index 130 being that of the largest id. Operations that differ by their codes alone
+/// have a number here.
+pub(crate) const FIELDS: &str = "110100 201 600
+130100 201 600
+fb090100 201 1600
+fb0a0100 201 1400
+fb110100 201 200
+fb120100 201 1600
+fb130100 201 1400
+fc080100 1601 800
+fc0a0001 800 801
+fc0c0100 1401 600
+fc0e0001 600 601
+1182018201 4294967295 4294967295
+fb0982018201 4294967295 4294967295
+fb0a82018201 4294967295 4294967295
+fc0882018201 4294967295 4294967295
+a8 1 0
+fc00 2 0
+fc16 3 0";
+
+/// What is written where ids have the largest number: those of the data segments and locals of index 64.
+pub(crate) const RENUMBERED: &str = "fc0940 fc09ffffffff0f
+2040 20ffffffff0f
+2140 21ffffffff0f
+2240 22ffffffff0f";
+
+/// Codes of no operator, and some whose immediates are missing.
+pub(crate) const NO_INSTRUCTIONS: &str = "fd 154
+fd 226
+fd 276
+fe 3
+01 69";
