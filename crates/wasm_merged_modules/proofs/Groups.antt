@@ -29,7 +29,7 @@ new_seen : (id : ℕ) (kinds : List Kind) → map (option_map (λ (i : Item). i.
 new_seen id [] = refl
 new_seen id (k ∷ kinds) = ap (λ (l : List (Option Kind)). Some k ∷ l) (new_seen (id + 1) kinds)
 
-group_seen : (marked : Bool) (kinds : List Kind) (t : Table) → seen (with_group marked kinds t) ≡ seen t ++ somes kinds
+pub group_seen : (marked : Bool) (kinds : List Kind) (t : Table) → seen (with_group marked kinds t) ≡ seen t ++ somes kinds
 group_seen marked kinds t =
     map-append (option_map (λ (i : Item). i.kind)) t.types (new_items (next_id t) kinds) ∙ ap (λ (l : List (Option Kind)). seen t ++ l) (new_seen (next_id t) kinds)
 

@@ -3,3 +3,5 @@ mod Steps
 mod SentKinds
 mod Groups
 mod Merged
+mod Behind
+mod Missing

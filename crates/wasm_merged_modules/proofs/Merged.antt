@@ -30,12 +30,12 @@ use Rattle.wasm_merged_modules.specs.Merged.{MergedModulesAreRuled, NoneStandBeh
 
 -- ---- lists of kinds
 
-somes_at : (kinds : List Kind) (n : ℕ) → slice_index_or (somes kinds) n None ≡ slice_get kinds n
+pub somes_at : (kinds : List Kind) (n : ℕ) → slice_index_or (somes kinds) n None ≡ slice_get kinds n
 somes_at [] n = refl
 somes_at (k ∷ kinds) zero = refl
 somes_at (k ∷ kinds) (suc n) = somes_at kinds n
 
-get_left : (xs ys : List Kind) (n : ℕ) (k : Kind) → slice_get xs n ≡ Some k → slice_get (xs ++ ys) n ≡ Some k
+pub get_left : (xs ys : List Kind) (n : ℕ) (k : Kind) → slice_get xs n ≡ Some k → slice_get (xs ++ ys) n ≡ Some k
 get_left [] ys n k e = absurd cc
 get_left (x ∷ xs) ys zero k e = e
 get_left (x ∷ xs) ys (suc n) k e = get_left xs ys n k e
@@ -45,7 +45,7 @@ get_right [] ys n le = ap (slice_get ys) (let e : n ≡ n - 0 = omega arith in e
 get_right (x ∷ xs) ys zero le = absurd (omega (arith, le))
 get_right (x ∷ xs) ys (suc n) le = get_right xs ys n (omega (arith, le)) ∙ ap (slice_get ys) (let e : n - length xs ≡ suc n - suc (length xs) = omega arith in e)
 
-kinds_joined : (xs ys : List TypeGroup) → kinds_of (xs ++ ys) ≡ kinds_of xs ++ kinds_of ys
+pub kinds_joined : (xs ys : List TypeGroup) → kinds_of (xs ++ ys) ≡ kinds_of xs ++ kinds_of ys
 kinds_joined xs ys = flat_map-append (λ (g : TypeGroup). g.kinds) xs ys
 
 groups_joined : (xs ys : List TypeGroup) (n : ℕ) → GroupsBelow n xs → GroupsBelow (n + length (kinds_of xs)) ys → GroupsBelow n (xs ++ ys)
@@ -128,19 +128,19 @@ module _ (carries : ParsingCarriesSame) (groups : List TypeGroup) (below : Group
   abbrev p : Parsed
   p = merged_types groups
 
-  orderly : AreOrderly ids (next_id p.table)
+  pub orderly : AreOrderly ids (next_id p.table)
   orderly = all_orderly groups (unparsed new_table) none_orderly
 
-  kept_are : AreKept groups (unparsed new_table) ids
+  pub kept_are : AreKept groups (unparsed new_table) ids
   kept_are = all_kept groups (unparsed new_table) none_orderly below ids refl
 
-  many : length ids ≡ length (kinds_of groups)
+  pub many : length ids ≡ length (kinds_of groups)
   many = ids_many groups (unparsed new_table) ∙ (let e : 0 + length (kinds_of groups) ≡ length (kinds_of groups) = omega arith in e)
 
-  kept_many : next_id p.table ≡ length (kinds_of (kept_of groups))
+  pub kept_many : next_id p.table ≡ length (kinds_of (kept_of groups))
   kept_many = sym (length-map p.table.types (option_map (λ (i : Item). i.kind))) ∙ ap length kept_are.seen_are ∙ length-map (kinds_of (kept_of groups)) (λ (k : Kind). Some k)
 
-  kind_there : (n : ℕ) (kind : Kind) → slice_get (kinds_of groups) n ≡ Some kind → slice_get (kinds_of (kept_of groups)) (at ids n) ≡ Some (renamed_kind (at ids) kind)
+  pub kind_there : (n : ℕ) (kind : Kind) → slice_get (kinds_of groups) n ≡ Some kind → slice_get (kinds_of (kept_of groups)) (at ids n) ≡ Some (renamed_kind (at ids) kind)
   kind_there n kind e =
       let c = carries groups (walrus_groups 0 groups below) in
       let entry = entry_at (entries_of groups) n kind (ap (λ (l : List Kind). slice_get l n) (entry_kinds groups) ∙ e) in

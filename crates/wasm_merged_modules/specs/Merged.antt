@@ -1,13 +1,15 @@
 -- A module whose types are merged: each group stands as it is, each type named by its id, but for single types that stand for an earlier one.
-use Rattle.std.specs.Prelude.{ℕ, ◌≡◌, ◌+◌, ◌<◌, ◌==◌, ◌&&◌, Bool, true, false, not, List, [], ◌∷◌, ◌++◌, length, map, take, Option, Some, slice_get, if◌then◌else◌}
-use Rattle.std.specs.List.{flat_map, list_any}
+use Rattle.std.specs.Prelude.{ℕ, ◌≡◌, ◌+◌, ◌<◌, ◌==◌, ◌&&◌, Bool, true, false, not, List, [], ◌∷◌, ◌++◌, length, map, filter, take, Option, Some, slice_get, if◌then◌else◌}
+use Rattle.std.specs.List.{AllByRecursion, flat_map, list_any}
 use Rattle.std.specs.Option.{is_some}
 use Rattle.walrus_forms.specs.Kinds.{Kind}
 use Rattle.walrus_forms.specs.Records.{TypeGroup}
-use Rattle.walrus_forms.specs.Renaming.{at, renamed_kind, renamed_value}
+use Rattle.walrus_forms.specs.Renaming.{KindBelow, at, renamed_kind, renamed_value}
+use Rattle.walrus_forms.specs.Same.{same_kind}
 use Rattle.walrus_forms.specs.declared.value.ValType.{ValType}
 use Rattle.walrus_types.specs.Parsing.{Parsed, parsed, unparsed}
-use Rattle.walrus_types.specs.Table.{Table}
+use Rattle.walrus_types.specs.Table.{Table, type_at}
+use Rattle.walrus_types.specs.walrus_items.Items.{Item}
 use Rattle.wasm_normal_modules.specs.Modules.{BringsNoTypes, MeetsRules, OriginPicked, normal_module}
 use Rattle.wasm_normal_modules.specs.wasm_ruled_renamed.Types.{RetypesInOrder}
 use Rattle.wasm_normal_modules.specs.wasm_ruled_renamed.wasm_ruled_normal.wasm_ruled_modules.Rules.{GroupsBelow, IsRuled, around_bodies}
@@ -66,6 +68,31 @@ pub record StandBehind (a : Around) (more : List TypeGroup) : Type 0 where
 -- none at all may
 abbrev pub NoneStandBehind : Type 0
 NoneStandBehind = (features : WasmFeatures) (counted : Bool) (m : Module) → GroupsBelow 0 m.groups → StandBehind (around_bodies features counted m) []
+
+-- so may single types of new kinds: each names types that are there, and none that is there has it
+abbrev pub AreNew : List Kind → List Kind → Type 0
+AreNew there [] = Unit {0}
+AreNew there (k ∷ kinds) = KindBelow (length there) k × ((n : ℕ) → slice_get there n ≡ Some k → ⊥) × AreNew (there ++ k ∷ []) kinds
+
+abbrev pub single : Kind → TypeGroup
+single kind = record { marked = false; kinds = kind ∷ [] }
+
+abbrev pub NewKindsStandBehind : Type 0
+NewKindsStandBehind = (features : WasmFeatures) (counted : Bool) (m : Module) (kinds : List Kind) → GroupsBelow 0 m.groups → AreNew (kinds_of (kept_of m.groups)) kinds
+    → StandBehind (around_bodies features counted m) (map single kinds)
+
+-- each of these kinds once, where it stands first
+abbrev pub once : List Kind → List Kind
+once [] = []
+once (k ∷ kinds) = k ∷ filter (λ other. not (same_kind k other)) (once kinds)
+
+-- it names types that are there, and no type of the table has it
+abbrev pub IsMissing : List TypeGroup → Kind → Type 0
+IsMissing groups kind = KindBelow (length (kinds_of (kept_of groups))) kind × ((id : ℕ) (item : Item) → type_at (merged_types groups).table id ≡ Some item → item.kind ≡ kind → ⊥)
+
+-- kinds that are missing, each once, are new
+abbrev pub MissingKindsAreNew : Type 0
+MissingKindsAreNew = (groups : List TypeGroup) (kinds : List Kind) → GroupsBelow 0 groups → AllByRecursion (IsMissing groups) kinds → AreNew (kinds_of (kept_of groups)) (once kinds)
 
 -- the types of a file stand among its merged types, and what is behind them, in their order
 abbrev pub TypesAreMerged : Type 0

@@ -1,7 +1,8 @@
 //! Laws: functions with nothing to do, whose contracts hold of all modules.
 
-ghost use Rattle.wasm_merged_modules.specs.Merged.{MergedModulesAreRuled, NoneStandBehind, TypesAreMerged};
+ghost use Rattle.wasm_merged_modules.specs.Merged.{MergedModulesAreRuled, MissingKindsAreNew, NewKindsStandBehind, NoneStandBehind, TypesAreMerged};
 
+use walrus_forms::laws::same_kind_is_equality;
 use walrus_types::laws::parsing_carries_same;
 use wasm_normal_modules::laws::{block_types_are_their_picks, normal_modules_are_ruled};
 
@@ -11,6 +12,15 @@ pub fn types_are_merged()
     ensures merged { TypesAreMerged }
 {
     parsing_carries_same();
+}
+
+/// Single types of new kinds may stand behind them, as those of handlers do, and kinds that no type has are new, each once.
+pub fn new_kinds_stand_behind()
+    ensures behind { NewKindsStandBehind }
+    ensures missing { MissingKindsAreNew }
+{
+    parsing_carries_same();
+    same_kind_is_equality();
 }
 
 /// The normal form of a module that meets the rules meets them with its types merged.

@@ -1,4 +1,4 @@
 pub mod Slots
 mod Modules
 mod Picked
-mod Reading
+pub mod Reading

@@ -131,7 +131,7 @@ option_own : {A : Type 0} (f : A → A) → ((x : A) → f x ≡ x) → (o : Opt
 option_own f each None = refl
 option_own f each (Some x) = ap Some (each x)
 
-kind_own : (k : Kind) → renamed_kind own k ≡ k
+pub kind_own : (k : Kind) → renamed_kind own k ≡ k
 kind_own k =
     ap (λ (f : Form). let j : Kind = record { form = f; final = k.final; supertype = option_map own k.supertype; entry = k.entry } in j) (form_own k.form)
     ∙ ap (λ (o : Option ℕ). let j : Kind = record { form = k.form; final = k.final; supertype = o; entry = k.entry } in j) (option_own own (λ n. refl) k.supertype)
