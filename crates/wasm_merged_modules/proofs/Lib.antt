@@ -2,6 +2,6 @@ mod Orders
 mod Steps
 mod SentKinds
 mod Groups
-mod Merged
+pub mod Merged
 mod Behind
 mod Missing

@@ -1,21 +1,27 @@
 -- Lemmas: kinds that no type has are new, each once.
-use Rattle.std.specs.Prelude.{ℕ, zero, suc, ◌≡◌, ◌⊎◌, Bool, true, false, not, List, [], ◌∷◌, ◌++◌, length, filter, Option, Some, None, slice_get, slice_index_or, refl}
+use Rattle.std.specs.Prelude.{ℕ, zero, suc, ◌≡◌, ◌⊎◌, Bool, true, false, not, List, [], ◌∷◌, ◌++◌, length, filter, Option, Some, None, slice_get, slice_index_or, refl, if◌then◌else◌, ◌+◌, map}
 use Rattle.std.specs.List.{AllByRecursion}
 use Rattle.std.specs.Option.{option_map}
-use Rattle.std.proofs.Common.{ap, sym, ◌∙◌, subst, cond, inl, inr}
+use Rattle.std.proofs.Common.{ap, sym, ◌∙◌, subst, cond, inl, inr, arith}
 use Rattle.std.proofs.lemmas.List.{length-append}
-use Rattle.walrus_forms.specs.Kinds.{Kind}
+use Rattle.walrus_forms.specs.Kinds.{Kind, function_kind}
 use Rattle.walrus_forms.specs.Records.{TypeGroup}
 use Rattle.walrus_forms.specs.Renaming.{KindBelow}
 use Rattle.walrus_forms.specs.Same.{SameKindIsEquality, same_kind}
 use Rattle.walrus_types.specs.Mergers.{ParsingCarriesSame}
-use Rattle.walrus_types.specs.Table.{type_at}
+use Rattle.walrus_types.specs.Table.{latest_in, type_at}
 use Rattle.walrus_types.specs.walrus_items.Items.{Item}
+use Rattle.walrus_types.specs.walrus_items.walrus_arena.Arena.{entries_from}
+use Rattle.wasm_normal_modules.proofs.Reading.{bring_no_types}
 use Rattle.wasm_normal_modules.proofs.Slots.{slot_sent}
+use Rattle.wasm_normal_modules.specs.wasm_ruled_renamed.wasm_ruled_normal.wasm_ruled_modules.Reading.{read_modules_are_ruled}
 use Rattle.wasm_normal_modules.specs.wasm_ruled_renamed.wasm_ruled_normal.wasm_ruled_modules.Rules.{GroupsBelow}
 use Rattle.wasm_merged_modules.proofs.Behind.{wider}
 use Rattle.wasm_merged_modules.proofs.Merged.{kept_are, somes_at}
-use Rattle.wasm_merged_modules.specs.Merged.{AreNew, IsMissing, MissingKindsAreNew, kept_of, kinds_of, merged_types, once}
+use Rattle.wasm_merged_modules.specs.Merged.{AreNew, IsMissing, MergedFilesAreRuled, MergedModulesAreRuled, MissingKindsAreNew, NewKindsStandBehind, UnfoundKindsAreMissing, kept_of, kinds_of, merged_types, once, single}
+
+some_item : (a b : Item) → (let some : Item → Option Item = λ i. Some i in some a ≡ some b) → a ≡ b
+some_item a b e = cc
 
 -- ---- some of a list
 
@@ -118,3 +124,38 @@ module _ (carries : ParsingCarriesSame) (groups : List TypeGroup) (below : Group
 pub missing_new : ParsingCarriesSame → SameKindIsEquality → MissingKindsAreNew
 missing_new carries is groups kinds below h =
     all_new (once kinds) (kinds_of (kept_of groups)) (once_apart is kinds) (all_once (IsOther (kinds_of (kept_of groups))) kinds (all_other carries groups below kinds h))
+
+-- ---- where a search finds none, none passes
+
+module _ (test : ℕ × Item → Bool) where
+  some_stays : (es : List (ℕ × Item)) (found : ℕ) → latest_in test (Some found) es ≡ None → ⊥
+  some_stays [] found e = absurd cc
+  some_stays (x ∷ es) found e = by (test x) (some_stays es x.0) (some_stays es found) e
+    where
+      by : (b : Bool) → (latest_in test (Some x.0) es ≡ None → ⊥) → (latest_in test (Some found) es ≡ None → ⊥) → latest_in test (if b then Some x.0 else Some found) es ≡ None → ⊥
+      by true first old e = first e
+      by false first old e = old e
+
+  none_passes : (slots : List (Option Item)) (id : ℕ) (found : Option ℕ) → latest_in test found (entries_from id slots) ≡ None → (n : ℕ) (item : Item) → slice_index_or slots n None ≡ Some item → test (id + n, item) ≡ true → ⊥
+  none_passes [] id found e n item at passes = absurd cc
+  none_passes (None ∷ slots) id found e zero item at passes = absurd cc
+  none_passes (None ∷ slots) id found e (suc n) item at passes =
+      none_passes slots (id + 1) found e n item at (ap (λ (k : ℕ). test (k, item)) (let same : (id + 1) + n ≡ id + suc n = omega arith in same) ∙ passes)
+  none_passes (Some x ∷ slots) id found e zero item at passes =
+      let here : test (id, x) ≡ true =
+      ap (λ (i : Item). test (id, i)) (some_item x item at) ∙ ap (λ (k : ℕ). test (k, item)) (let same : id ≡ id + 0 = omega arith in same) ∙ passes in
+      some_stays (entries_from (id + 1) slots) id (ap (λ (b : Bool). latest_in test (if b then Some id else found) (entries_from (id + 1) slots)) (sym here) ∙ e)
+  none_passes (Some x ∷ slots) id found e (suc n) item at passes =
+      none_passes slots (id + 1) (if test (id, x) then Some id else found) e n item at (ap (λ (k : ℕ). test (k, item)) (let same : (id + 1) + n ≡ id + suc n = omega arith in same) ∙ passes)
+
+pub unfound_missing : SameKindIsEquality → UnfoundKindsAreMissing
+unfound_missing is groups params results below e =
+    (below, λ id item at same. none_passes (λ (e : ℕ × Item). same_kind e.1.kind (function_kind params results)) (merged_types groups).table.types 0 None e id item at ((is item.kind (function_kind params results)).1 same))
+
+-- ---- files
+
+pub files_merged : NewKindsStandBehind → MissingKindsAreNew → MergedModulesAreRuled → MergedFilesAreRuled
+files_merged behind missing merged place features bytes m kinds reads absent =
+    let ruled = read_modules_are_ruled features bytes m reads in
+    let rules = ruled.1 in
+    (ruled.0, merged place features ruled.0 (map single (once kinds)) m (bring_no_types features bytes m reads) rules (behind features ruled.0 m (once kinds) rules.groups (missing m.groups kinds rules.groups absent)))

@@ -1,19 +1,20 @@
 -- A module whose types are merged: each group stands as it is, each type named by its id, but for single types that stand for an earlier one.
-use Rattle.std.specs.Prelude.{ℕ, ◌≡◌, ◌+◌, ◌<◌, ◌==◌, ◌&&◌, Bool, true, false, not, List, [], ◌∷◌, ◌++◌, length, map, filter, take, Option, Some, slice_get, if◌then◌else◌}
+use Rattle.std.specs.Prelude.{ℕ, ◌≡◌, ◌+◌, ◌<◌, ◌==◌, ◌&&◌, Bool, true, false, not, List, [], ◌∷◌, ◌++◌, length, map, filter, take, Option, Some, slice_get, if◌then◌else◌, None}
 use Rattle.std.specs.List.{AllByRecursion, flat_map, list_any}
 use Rattle.std.specs.Option.{is_some}
-use Rattle.walrus_forms.specs.Kinds.{Kind}
+use Rattle.walrus_forms.specs.Kinds.{Kind, function_kind}
 use Rattle.walrus_forms.specs.Records.{TypeGroup}
 use Rattle.walrus_forms.specs.Renaming.{KindBelow, at, renamed_kind, renamed_value}
 use Rattle.walrus_forms.specs.Same.{same_kind}
 use Rattle.walrus_forms.specs.declared.value.ValType.{ValType}
 use Rattle.walrus_types.specs.Parsing.{Parsed, parsed, unparsed}
-use Rattle.walrus_types.specs.Table.{Table, type_at}
+use Rattle.walrus_types.specs.Table.{Table, found_type, type_at}
 use Rattle.walrus_types.specs.walrus_items.Items.{Item}
 use Rattle.wasm_normal_modules.specs.Modules.{BringsNoTypes, MeetsRules, OriginPicked, normal_module}
 use Rattle.wasm_normal_modules.specs.wasm_ruled_renamed.Types.{RetypesInOrder}
 use Rattle.wasm_normal_modules.specs.wasm_ruled_renamed.wasm_ruled_normal.wasm_ruled_modules.Rules.{GroupsBelow, IsRuled, around_bodies}
 use Rattle.wasm_normal_modules.specs.wasm_ruled_renamed.wasm_ruled_normal.wasm_ruled_modules.wasm_module_rules.Linked.{Each}
+use Rattle.wasm_normal_modules.specs.wasm_ruled_renamed.wasm_ruled_normal.wasm_ruled_modules.wasm_module_rules.wasm_modules.Modules.{Reads}
 use Rattle.wasm_normal_modules.specs.wasm_ruled_renamed.wasm_ruled_normal.wasm_ruled_modules.wasm_module_rules.wasm_modules.wasm_body_grammar.Rules.{Around, found_in, serves}
 use Rattle.wasm_normal_modules.specs.wasm_ruled_renamed.wasm_ruled_normal.wasm_ruled_modules.wasm_module_rules.wasm_modules.wasm_body_grammar.wasm_formats.wasm_features.declared.WasmFeatures.{WasmFeatures}
 use Rattle.wasm_normal_modules.specs.wasm_ruled_renamed.wasm_ruled_normal.wasm_ruled_modules.wasm_module_rules.wasm_modules.wasm_body_grammar.wasm_grammar.Modules.{Function, Module}
@@ -94,6 +95,11 @@ IsMissing groups kind = KindBelow (length (kinds_of (kept_of groups))) kind × (
 abbrev pub MissingKindsAreNew : Type 0
 MissingKindsAreNew = (groups : List TypeGroup) (kinds : List Kind) → GroupsBelow 0 groups → AllByRecursion (IsMissing groups) kinds → AreNew (kinds_of (kept_of groups)) (once kinds)
 
+-- so is the kind of a function type that isn't found
+abbrev pub UnfoundKindsAreMissing : Type 0
+UnfoundKindsAreMissing = (groups : List TypeGroup) (params results : List ValType) → KindBelow (length (kinds_of (kept_of groups))) (function_kind params results) → found_type params results (merged_types groups).table ≡ None
+    → IsMissing groups (function_kind params results)
+
 -- the types of a file stand among its merged types, and what is behind them, in their order
 abbrev pub TypesAreMerged : Type 0
 TypesAreMerged = (place : Option ℕ → ℕ) (features : WasmFeatures) (counted : Bool) (more : List TypeGroup) (m : Module) → GroupsBelow 0 m.groups
@@ -105,3 +111,9 @@ abbrev pub MergedModulesAreRuled : Type 0
 MergedModulesAreRuled = (place : Option ℕ → ℕ) (features : WasmFeatures) (counted : Bool) (more : List TypeGroup) (m : Module) → BringsNoTypes m → IsRuled features counted m
     → (let n = merged_module place features counted more m in StandBehind (around_bodies features counted m) more
     → MeetsRules features counted n × Each (λ (f : Function). OriginPicked (around_bodies features counted n) f.origin) n.functions)
+
+-- so it is with each module that is read, with single types of missing kinds behind its own
+abbrev pub MergedFilesAreRuled : Type 0
+MergedFilesAreRuled = (place : Option ℕ → ℕ) (features : WasmFeatures) (bytes : List ℕ) (m : Module) (kinds : List Kind) → Reads features bytes m → AllByRecursion (IsMissing m.groups) kinds
+    → (counted : Bool) × (let n = merged_module place features counted (map single (once kinds)) m in
+    MeetsRules features counted n × Each (λ (f : Function). OriginPicked (around_bodies features counted n) f.origin) n.functions)

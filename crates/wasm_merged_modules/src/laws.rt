@@ -1,6 +1,6 @@
 //! Laws: functions with nothing to do, whose contracts hold of all modules.
 
-ghost use Rattle.wasm_merged_modules.specs.Merged.{MergedModulesAreRuled, MissingKindsAreNew, NewKindsStandBehind, NoneStandBehind, TypesAreMerged};
+ghost use Rattle.wasm_merged_modules.specs.Merged.{MergedFilesAreRuled, MergedModulesAreRuled, MissingKindsAreNew, NewKindsStandBehind, NoneStandBehind, TypesAreMerged, UnfoundKindsAreMissing};
 
 use walrus_forms::laws::same_kind_is_equality;
 use walrus_types::laws::parsing_carries_same;
@@ -18,6 +18,7 @@ pub fn types_are_merged()
 pub fn new_kinds_stand_behind()
     ensures behind { NewKindsStandBehind }
     ensures missing { MissingKindsAreNew }
+    ensures unfound { UnfoundKindsAreMissing }
 {
     parsing_carries_same();
     same_kind_is_equality();
@@ -30,4 +31,12 @@ pub fn merged_modules_are_ruled()
     types_are_merged();
     normal_modules_are_ruled();
     block_types_are_their_picks();
+}
+
+/// So it is with each module that is read, with single types of missing kinds behind its own.
+pub fn merged_files_are_ruled()
+    ensures { MergedFilesAreRuled }
+{
+    new_kinds_stand_behind();
+    merged_modules_are_ruled();
 }
