@@ -4,3 +4,4 @@ mod Types
 mod Orders
 mod Locals
 mod Bodies
+mod Worked

@@ -2,6 +2,7 @@
 
 ghost use Rattle.wasm_ruled_renamed.specs.Bodies.{NormalBodiesAreRuled, RenamedBodiesAreRuled};
 ghost use Rattle.wasm_ruled_renamed.specs.Renamed.{RenamedExprsAreKnown, RenamedOffsetsFit, RenamedOperatorsAreRuled};
+ghost use Rattle.wasm_ruled_renamed.specs.Rows.{IsWorked};
 ghost use Rattle.wasm_ruled_renamed.specs.Types.{PicksGoToPicks, RetypedTypesServe};
 
 use walrus_forms::laws::same_kind_is_equality;
@@ -29,3 +30,8 @@ pub fn normal_bodies_are_ruled()
 {
     normal_operators_are_ruled();
 }
+
+/// A body with its normal form, computed.
+pub fn worked_body()
+    ensures { IsWorked }
+{}
