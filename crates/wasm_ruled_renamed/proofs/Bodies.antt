@@ -230,7 +230,7 @@ module _ (r : Renaming) (a b : Around) (old new : ℕ) (number : ℕ → ℕ) (r
         let goods = all_split Good (local_in x) (flat_map local_in xs) k in
         all_join Sent (item_names x) (flat_map item_names xs) (item_sent x both.0 goods.0) (items_sent xs both.1 goods.1)
 
-  all_sent : (at : Option ℕ → ℕ) (ops : List Placed) (frames : List Frame) → AreOperators a old frames (map (located at) ops) → AllByRecursion (λ (o : Placed). AllByRecursion Good (locals_of o)) ops
+  pub all_sent : (at : Option ℕ → ℕ) (ops : List Placed) (frames : List Frame) → AreOperators a old frames (map (located at) ops) → AllByRecursion (λ (o : Placed). AllByRecursion Good (locals_of o)) ops
       → AllByRecursion (NamesThere (with_numbers number r) b new) (map (located at) ops)
   all_sent at [] frames h k = tt
   all_sent at (o ∷ ops) frames h k =

@@ -3,5 +3,5 @@ mod Exprs
 mod Types
 mod Orders
 mod Locals
-mod Bodies
+pub mod Bodies
 mod Worked
