@@ -1,6 +1,6 @@
-//! Codes that are no operator's, features that are off, faults at their places, and padded numbers. The first byte of each text stands at 11.
+//! Codes that are no operator's, features that are off, and faults at their places. The first byte of each text stands at 11.
 
-use crate::view::{is_written, outcome, read};
+use crate::view::outcome;
 use crate::words::{base, bytes_of, cut, number, text_of};
 use std::alloc::Global;
 use wasm_reader::WasmFeatures;
@@ -43,13 +43,4 @@ pub(crate) fn is_refused(alloc: Global, row: &[u8]) -> bool {
     let (missing, place) = cut(rest, b' ');
     let found = outcome(alloc, without(off), bytes_of(bytes).as_slice());
     found.0.as_bytes() == kind && found.1 == number(missing, 10) && found.2 == number(place, 10)
-}
-
-/// Whether the operator of a row is written as the other bytes.
-pub(crate) fn is_shortened(alloc: Global, row: &[u8]) -> bool {
-    let (bytes, shortest) = cut(row, b' ');
-    let Some(operator) = read(alloc, bytes_of(bytes).as_slice()) else {
-        return false;
-    };
-    is_written(alloc, &operator, bytes_of(shortest).as_slice())
 }

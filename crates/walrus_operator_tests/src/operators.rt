@@ -2,10 +2,10 @@
 
 use crate::maps::Maps;
 use crate::numbers::{form, number_at};
-use crate::pairing::made_of;
+use crate::pairing::{has_fields, made_of};
 use crate::rows::IMMEDIATES;
-use crate::view::{read, stands};
-use crate::words::{base, cut, number, text_of};
+use crate::view::{is_written, read, stands};
+use crate::words::{base, bytes_of, cut, number, text_of};
 use std::alloc::Global;
 use walrus_operators::{Immediates, Operator};
 
@@ -72,7 +72,11 @@ fn has_immediates(alloc: Global, maps: &Maps, code: Code<'_>, row: &[u8]) -> boo
     let (immediates, rest) = cut(rest, b' ');
     let (numbers, word) = cut(rest, b' ');
     let bytes = text_of(code.prefix, code.number, immediates);
-    let word = if word == "back".as_bytes() { code.becomes } else { word };
+    let word = if word == "back".as_bytes() {
+        code.becomes
+    } else {
+        word
+    };
     holds(alloc, maps, bytes.as_slice(), code, numbers, word)
 }
 
@@ -117,4 +121,34 @@ pub(crate) fn are_operators(alloc: Global, maps: &Maps, row: &[u8]) -> bool {
         }
     }
     true
+}
+
+/// What is asked of an operator.
+#[derive(Clone, Copy)]
+pub(crate) enum Asked {
+    /// It is written as these bytes.
+    Written,
+    /// Its instruction's operator is.
+    Renumbered,
+    /// Its instruction has these two in its fields.
+    Fields,
+}
+
+fn is_so(alloc: Global, maps: &Maps, operator: &Operator, asked: Asked, words: &[u8]) -> bool {
+    match asked {
+        Asked::Written => is_written(alloc, operator, bytes_of(words).as_slice()),
+        Asked::Renumbered => {
+            made_of(alloc, maps, operator, bytes_of(words).as_slice()) == "back"
+        }
+        Asked::Fields => has_fields(maps, operator, words),
+    }
+}
+
+/// Whether this stands of the operator of a row.
+pub(crate) fn is_answered(alloc: Global, maps: &Maps, asked: Asked, row: &[u8]) -> bool {
+    let (bytes, words) = cut(row, b' ');
+    match read(alloc, bytes_of(bytes).as_slice()) {
+        Some(operator) => is_so(alloc, maps, &operator, asked, words),
+        None => false,
+    }
 }

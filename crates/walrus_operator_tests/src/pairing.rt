@@ -1,8 +1,8 @@
 //! What pairing makes of operators.
 
 use crate::maps::{Maps, body};
-use crate::view::{is_written, read};
-use crate::words::{bytes_of, cut, number};
+use crate::view::is_written;
+use crate::words::{cut, number};
 use std::alloc::Global;
 use walrus_index_maps::{IdsToIndices, Space};
 use walrus_instr::{BinaryOp, Instr, UnaryOp};
@@ -98,24 +98,11 @@ fn fields_of(maps: &Maps, operator: &Operator) -> (u32, u32) {
     }
 }
 
-/// Whether the instruction of a row's operator has these two in its fields.
-pub(crate) fn has_fields(alloc: Global, maps: &Maps, row: &[u8]) -> bool {
-    let (bytes, rest) = cut(row, b' ');
-    let (first, second) = cut(rest, b' ');
-    let Some(operator) = read(alloc, bytes_of(bytes).as_slice()) else {
-        return false;
-    };
-    let (one, other) = fields_of(maps, &operator);
+/// Whether the operator's instruction has the two numbers of the words in its fields.
+pub(crate) fn has_fields(maps: &Maps, operator: &Operator, words: &[u8]) -> bool {
+    let (first, second) = cut(words, b' ');
+    let (one, other) = fields_of(maps, operator);
     u64::from(one) == number(first, 10) && u64::from(other) == number(second, 10)
-}
-
-/// Whether the instruction of a row's operator is written as the other bytes.
-pub(crate) fn is_renumbered(alloc: Global, maps: &Maps, row: &[u8]) -> bool {
-    let (bytes, written) = cut(row, b' ');
-    let Some(operator) = read(alloc, bytes_of(bytes).as_slice()) else {
-        return false;
-    };
-    made_of(alloc, maps, &operator, bytes_of(written).as_slice()) == "back"
 }
 
 /// Whether the code of a row has no instruction without immediates.

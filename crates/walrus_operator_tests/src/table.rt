@@ -1,10 +1,10 @@
 //! All rows, over the same maps.
 
-use crate::faults::{are_unknown, is_refused, is_shortened};
+use crate::faults::{are_unknown, is_refused};
 use crate::index_maps::{are_named, are_numbered};
 use crate::maps::{Maps, filled};
-use crate::operators::are_operators;
-use crate::pairing::{has_fields, has_no_instr, is_renumbered};
+use crate::operators::{Asked, are_operators, is_answered};
+use crate::pairing::has_no_instr;
 use crate::rows::{CODES, FAULTS, FIELDS, NO_CODES, NO_INSTRUCTIONS, PADDED, RENUMBERED};
 use crate::words::cut;
 use std::alloc::Global;
@@ -40,9 +40,9 @@ fn stands(alloc: Global, maps: &Maps, rows: Rows, row: &[u8]) -> bool {
         Rows::Codes => are_operators(alloc, maps, row),
         Rows::NoCodes => are_unknown(alloc, row),
         Rows::Faults => is_refused(alloc, row),
-        Rows::Padded => is_shortened(alloc, row),
-        Rows::Fields => has_fields(alloc, maps, row),
-        Rows::Renumbered => is_renumbered(alloc, maps, row),
+        Rows::Padded => is_answered(alloc, maps, Asked::Written, row),
+        Rows::Fields => is_answered(alloc, maps, Asked::Fields, row),
+        Rows::Renumbered => is_answered(alloc, maps, Asked::Renumbered, row),
         Rows::NoInstructions => has_no_instr(maps, row),
     }
 }
