@@ -10,18 +10,20 @@ fn is_unknown(alloc: Global, bytes: &[u8]) -> bool {
     kind == "unknown" && place == 11
 }
 
-/// Whether the codes of a row are no operator's.
-pub(crate) fn are_unknown(alloc: Global, row: &[u8]) -> bool {
+/// How many codes of a row are no operator's, if all are.
+pub(crate) fn are_unknown(alloc: Global, row: &[u8]) -> Option<u32> {
     let (prefix, rest) = cut(row, b' ');
     let (first, last) = cut(rest, b' ');
     let prefix = number(prefix, 16);
     let base = base(prefix);
+    let mut sum = 0u32;
     for code in number(first, base)..=number(last, base) {
         if !is_unknown(alloc, text_of(prefix, code, &[]).as_slice()) {
-            return false;
+            return None;
         }
+        sum = sum.saturating_add(1);
     }
-    true
+    Some(sum)
 }
 
 fn without(feature: &[u8]) -> WasmFeatures {

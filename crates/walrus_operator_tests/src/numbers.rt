@@ -69,7 +69,7 @@ fn of_abstract(ty: AbstractHeapType) -> u64 {
         AbstractHeapType::I31 => 20,
         AbstractHeapType::Exn => 23,
         AbstractHeapType::NoExn => 12,
-        _ => 0,
+        _ => 98,
     })
 }
 
@@ -88,7 +88,7 @@ fn of_heap(ty: HeapType) -> u64 {
     }
 }
 
-// A nullable reference is the number of its heap type, any other is 1000 below it.
+// A nullable reference is the number of its heap type, any other is 2^24 below it, where no index leads.
 fn of_value(ty: ValType) -> u64 {
     match ty {
         ValType::I32 => below(1),
@@ -100,7 +100,7 @@ fn of_value(ty: ValType) -> u64 {
             if ty.is_nullable() {
                 of_heap(ty.heap_type())
             } else {
-                of_heap(ty.heap_type()).wrapping_sub(1000)
+                of_heap(ty.heap_type()).wrapping_sub(16777216)
             }
         }
     }

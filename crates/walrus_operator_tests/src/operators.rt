@@ -80,35 +80,36 @@ fn has_immediates(alloc: Global, maps: &Maps, code: Code<'_>, row: &[u8]) -> boo
     holds(alloc, maps, bytes.as_slice(), code, numbers, word)
 }
 
-// Whether the code stands with each of the immediates of its form, of which there are some.
-fn is_operator(alloc: Global, maps: &Maps, code: Code<'_>) -> bool {
+// With how many immediates the code stands: with each of its form. None where it doesn't, or there are none.
+fn stands_with(alloc: Global, maps: &Maps, code: Code<'_>) -> Option<u32> {
     let mut rest = IMMEDIATES.as_bytes();
-    let mut is_there = false;
+    let mut count = 0u32;
     for _ in 0..IMMEDIATES.len() {
         let (row, next) = cut(rest, b'\n');
         let (form, _) = cut(row, b' ');
         if form == code.form {
             if !has_immediates(alloc, maps, code, row) {
-                return false;
+                return None;
             }
-            is_there = true;
+            count = count.saturating_add(1);
         }
         if next.is_empty() {
-            return is_there;
+            return if count == 0 { None } else { Some(count) };
         }
         rest = next;
     }
-    false
+    None
 }
 
-/// Whether the codes of a row stand.
-pub(crate) fn are_operators(alloc: Global, maps: &Maps, row: &[u8]) -> bool {
+/// How many operators of the codes of a row stand, if all do.
+pub(crate) fn operators_stand(alloc: Global, maps: &Maps, row: &[u8]) -> Option<u32> {
     let (prefix, rest) = cut(row, b' ');
     let (first, rest) = cut(rest, b' ');
     let (last, rest) = cut(rest, b' ');
     let (form, becomes) = cut(rest, b' ');
     let prefix = number(prefix, 16);
     let base = base(prefix);
+    let mut sum = 0u32;
     for number in number(first, base)..=number(last, base) {
         let code = Code {
             prefix,
@@ -116,11 +117,12 @@ pub(crate) fn are_operators(alloc: Global, maps: &Maps, row: &[u8]) -> bool {
             form,
             becomes,
         };
-        if !is_operator(alloc, maps, code) {
-            return false;
+        match stands_with(alloc, maps, code) {
+            Some(count) => sum = sum.saturating_add(count),
+            None => return None,
         }
     }
-    true
+    Some(sum)
 }
 
 /// What is asked of an operator.

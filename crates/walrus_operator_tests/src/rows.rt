@@ -308,7 +308,7 @@ handlers 05020002030304 4294967301,0,2,3,3,0,4 none
 values 017f -1 back
 values 017c -4 back
 values 016300 0 back
-values 0164ff00 -873 back
+values 0164ff00 -16777089 back
 values 01638001 128 back
 values 0163ffff3f 1048575 no-type
 values 027f63ffff3f -1,1048575 no-type

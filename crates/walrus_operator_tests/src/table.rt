@@ -3,7 +3,7 @@
 use crate::faults::{are_unknown, is_refused};
 use crate::index_maps::{are_named, are_numbered};
 use crate::maps::{Maps, filled};
-use crate::operators::{Asked, are_operators, is_answered};
+use crate::operators::{Asked, is_answered, operators_stand};
 use crate::pairing::has_no_instr;
 use crate::rows::{CODES, FAULTS, FIELDS, NO_CODES, NO_INSTRUCTIONS, PADDED, RENUMBERED};
 use crate::words::cut;
@@ -35,50 +35,58 @@ fn text(rows: Rows) -> &'static str {
     }
 }
 
-fn stands(alloc: Global, maps: &Maps, rows: Rows, row: &[u8]) -> bool {
+fn once(stands: bool) -> Option<u32> {
+    if stands { Some(1) } else { None }
+}
+
+// How many operators or codes a row has, if all stand.
+fn stands(alloc: Global, maps: &Maps, rows: Rows, row: &[u8]) -> Option<u32> {
     match rows {
-        Rows::Codes => are_operators(alloc, maps, row),
+        Rows::Codes => operators_stand(alloc, maps, row),
         Rows::NoCodes => are_unknown(alloc, row),
-        Rows::Faults => is_refused(alloc, row),
-        Rows::Padded => is_answered(alloc, maps, Asked::Written, row),
-        Rows::Fields => is_answered(alloc, maps, Asked::Fields, row),
-        Rows::Renumbered => is_answered(alloc, maps, Asked::Renumbered, row),
-        Rows::NoInstructions => has_no_instr(maps, row),
+        Rows::Faults => once(is_refused(alloc, row)),
+        Rows::Padded => once(is_answered(alloc, maps, Asked::Written, row)),
+        Rows::Fields => once(is_answered(alloc, maps, Asked::Fields, row)),
+        Rows::Renumbered => once(is_answered(alloc, maps, Asked::Renumbered, row)),
+        Rows::NoInstructions => once(has_no_instr(maps, row)),
     }
 }
 
-fn stand(alloc: Global, maps: &Maps, rows: Rows) -> bool {
+fn stand(alloc: Global, maps: &Maps, rows: Rows) -> Option<u32> {
     let text = text(rows).as_bytes();
     let mut rest = text;
+    let mut sum = 0u32;
     for _ in 0..text.len() {
         let (row, next) = cut(rest, b'\n');
-        if !stands(alloc, maps, rows, row) {
-            return false;
+        match stands(alloc, maps, rows, row) {
+            Some(count) => sum = sum.saturating_add(count),
+            None => return None,
         }
         if next.is_empty() {
-            return true;
+            return Some(sum);
         }
         rest = next;
     }
-    false
+    None
 }
 
-const ALL: [Rows; 7] = [
-    Rows::Codes,
-    Rows::NoCodes,
-    Rows::Faults,
-    Rows::Padded,
-    Rows::Fields,
-    Rows::Renumbered,
-    Rows::NoInstructions,
+// With how many operators, codes or rows there are: 575 codes stand with all immediates of their forms.
+const ALL: [(Rows, u32); 7] = [
+    (Rows::Codes, 2065),
+    (Rows::NoCodes, 1283),
+    (Rows::Faults, 32),
+    (Rows::Padded, 9),
+    (Rows::Fields, 18),
+    (Rows::Renumbered, 4),
+    (Rows::NoInstructions, 5),
 ];
 
 // One function has the maps, as that is dear to prove.
 #[test]
 fn all_rows(rt: HostRuntime) -> Result<(), Fail> {
     let mut maps = filled(rt.alloc())?;
-    for rows in ALL {
-        assert!(rt; stand(rt.alloc(), &maps, rows));
+    for (rows, count) in ALL {
+        assert!(rt; stand(rt.alloc(), &maps, rows) == Some(count));
     }
     assert!(rt; are_numbered(&maps.numbers));
     assert!(rt; are_named(&mut maps.ids));
