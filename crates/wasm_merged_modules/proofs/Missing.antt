@@ -12,9 +12,8 @@ use Rattle.walrus_types.specs.Mergers.{ParsingCarriesSame}
 use Rattle.walrus_types.specs.Table.{latest_in, type_at}
 use Rattle.walrus_types.specs.walrus_items.Items.{Item}
 use Rattle.walrus_types.specs.walrus_items.walrus_arena.Arena.{entries_from}
-use Rattle.wasm_normal_modules.proofs.Reading.{bring_no_types}
+use Rattle.wasm_normal_modules.proofs.Reading.{bring_no_types, read_modules_meet}
 use Rattle.wasm_normal_modules.proofs.Slots.{slot_sent}
-use Rattle.wasm_normal_modules.specs.wasm_ruled_renamed.wasm_ruled_normal.wasm_ruled_modules.Reading.{read_modules_are_ruled}
 use Rattle.wasm_normal_modules.specs.wasm_ruled_renamed.wasm_ruled_normal.wasm_ruled_modules.Rules.{GroupsBelow}
 use Rattle.wasm_merged_modules.proofs.Behind.{wider}
 use Rattle.wasm_merged_modules.proofs.Merged.{kept_are, somes_at}
@@ -156,6 +155,5 @@ unfound_missing is groups params results below e =
 
 pub files_merged : NewKindsStandBehind → MissingKindsAreNew → MergedModulesAreRuled → MergedFilesAreRuled
 files_merged behind missing merged place features bytes m kinds reads absent =
-    let ruled = read_modules_are_ruled features bytes m reads in
-    let rules = ruled.1 in
-    (ruled.0, merged place features ruled.0 (map single (once kinds)) m (bring_no_types features bytes m reads) rules (behind features ruled.0 m (once kinds) rules.groups (missing m.groups kinds rules.groups absent)))
+    let rules = read_modules_meet features bytes m reads in
+    merged place features true (map single (once kinds)) m (bring_no_types features bytes m reads) rules (behind features true m (once kinds) rules.groups (missing m.groups kinds rules.groups absent))

@@ -12,7 +12,7 @@ use Rattle.walrus_types.specs.Table.{Table, found_type, type_at}
 use Rattle.walrus_types.specs.walrus_items.Items.{Item}
 use Rattle.wasm_normal_modules.specs.Modules.{BringsNoTypes, MeetsRules, OriginPicked, normal_module}
 use Rattle.wasm_normal_modules.specs.wasm_ruled_renamed.Types.{RetypesInOrder}
-use Rattle.wasm_normal_modules.specs.wasm_ruled_renamed.wasm_ruled_normal.wasm_ruled_modules.Rules.{GroupsBelow, IsRuled, around_bodies}
+use Rattle.wasm_normal_modules.specs.wasm_ruled_renamed.wasm_ruled_normal.wasm_ruled_modules.Rules.{GroupsBelow, around_bodies}
 use Rattle.wasm_normal_modules.specs.wasm_ruled_renamed.wasm_ruled_normal.wasm_ruled_modules.wasm_module_rules.Linked.{Each}
 use Rattle.wasm_normal_modules.specs.wasm_ruled_renamed.wasm_ruled_normal.wasm_ruled_modules.wasm_module_rules.wasm_modules.Modules.{Reads}
 use Rattle.wasm_normal_modules.specs.wasm_ruled_renamed.wasm_ruled_normal.wasm_ruled_modules.wasm_module_rules.wasm_modules.wasm_body_grammar.Rules.{Around, found_in, serves}
@@ -108,12 +108,13 @@ TypesAreMerged = (place : Option ℕ → ℕ) (features : WasmFeatures) (counted
 
 -- so the normal form of a module that meets the rules meets them with its types merged, and each block type in it is its own pick
 abbrev pub MergedModulesAreRuled : Type 0
-MergedModulesAreRuled = (place : Option ℕ → ℕ) (features : WasmFeatures) (counted : Bool) (more : List TypeGroup) (m : Module) → BringsNoTypes m → IsRuled features counted m
+MergedModulesAreRuled = (place : Option ℕ → ℕ) (features : WasmFeatures) (counted : Bool) (more : List TypeGroup) (m : Module) → BringsNoTypes m → MeetsRules features counted m
     → (let n = merged_module place features counted more m in StandBehind (around_bodies features counted m) more
     → MeetsRules features counted n × Each (λ (f : Function). OriginPicked (around_bodies features counted n) f.origin) n.functions)
 
--- so it is with each module that is read, with single types of missing kinds behind its own
+-- so it is with each module that is read, with single types of missing kinds behind its own: taken to have a data count section, which a module doesn't
+-- tell
 abbrev pub MergedFilesAreRuled : Type 0
 MergedFilesAreRuled = (place : Option ℕ → ℕ) (features : WasmFeatures) (bytes : List ℕ) (m : Module) (kinds : List Kind) → Reads features bytes m → AllByRecursion (IsMissing m.groups) kinds
-    → (counted : Bool) × (let n = merged_module place features counted (map single (once kinds)) m in
-    MeetsRules features counted n × Each (λ (f : Function). OriginPicked (around_bodies features counted n) f.origin) n.functions)
+    → (let n = merged_module place features true (map single (once kinds)) m in
+    MeetsRules features true n × Each (λ (f : Function). OriginPicked (around_bodies features true n) f.origin) n.functions)

@@ -14,7 +14,7 @@ pub fn types_are_merged()
     parsing_carries_same();
 }
 
-/// Single types of new kinds may stand behind them, as those of handlers do, and kinds that no type has are new, each once.
+/// Single types of new kinds may stand behind merged types, as those of handlers do, and kinds that no type has are new, each once.
 pub fn new_kinds_stand_behind()
     ensures behind { NewKindsStandBehind }
     ensures missing { MissingKindsAreNew }
@@ -33,7 +33,7 @@ pub fn merged_modules_are_ruled()
     block_types_are_their_picks();
 }
 
-/// So it is with each module that is read, with single types of missing kinds behind its own.
+/// The normal form of a module that is read meets the rules with its types merged, and with single types of missing kinds behind these.
 pub fn merged_files_are_ruled()
     ensures { MergedFilesAreRuled }
 {

@@ -1,5 +1,5 @@
--- Lemmas: modules that are read, and their types as they are.
-use Rattle.std.specs.Prelude.{ℕ, ◌≡◌, ◌==◌, Bool, true, false, List, [], ◌∷◌, length, map, Option, Some, None, slice_get, refl, if◌then◌else◌}
+-- Lemmas: modules that are read, types as they are, and a data count section besides.
+use Rattle.std.specs.Prelude.{ℕ, ◌≡◌, ◌+◌, ◌==◌, Bool, true, false, List, [], ◌∷◌, length, map, Option, Some, None, slice_get, refl, if◌then◌else◌}
 use Rattle.std.specs.Option.{option_map}
 use Rattle.std.proofs.Common.{ap, sym, ◌∙◌, subst, inl, inr}
 use Rattle.std.proofs.lemmas.Option.{slice_get_within}
@@ -16,17 +16,23 @@ use Rattle.wasm_ruled_normal.specs.wasm_ruled_modules.wasm_module_rules.wasm_mod
 use Rattle.wasm_ruled_normal.specs.wasm_ruled_modules.wasm_module_rules.wasm_modules.wasm_body_grammar.wasm_grammar.walrus_forms.declared.value.ValType.TheVariants.{I32, I64, F32, F64, V128, Ref}
 use Rattle.wasm_ruled_normal.specs.wasm_ruled_modules.wasm_module_rules.wasm_modules.wasm_body_grammar.wasm_formats.declared.fault.Space.TheVariants as spaces
 use Rattle.wasm_ruled_normal.specs.wasm_ruled_modules.wasm_module_rules.wasm_modules.wasm_body_grammar.wasm_formats.wasm_features.declared.WasmFeatures.{WasmFeatures}
-use Rattle.wasm_ruled_normal.specs.wasm_ruled_modules.wasm_module_rules.wasm_modules.wasm_body_grammar.wasm_grammar.Modules.{Export, Import, Module}
+use Rattle.wasm_ruled_normal.specs.wasm_ruled_modules.wasm_module_rules.wasm_modules.wasm_body_grammar.Bodies.{frames_of}
+use Rattle.wasm_ruled_normal.specs.wasm_ruled_modules.wasm_module_rules.wasm_modules.wasm_body_grammar.Codes.{param_count}
+use Rattle.wasm_ruled_normal.specs.wasm_ruled_modules.wasm_module_rules.wasm_modules.wasm_body_grammar.Frames.{Frame, Plain as PlainFrame, turned}
+use Rattle.wasm_ruled_normal.specs.wasm_ruled_modules.wasm_module_rules.wasm_modules.wasm_body_grammar.Rules.{Around}
+use Rattle.wasm_ruled_normal.specs.wasm_ruled_modules.wasm_module_rules.wasm_modules.wasm_body_grammar.wasm_grammar.Modules.{Body, Export, Function, Import, Imported, Module, Origin, Own, Placed}
 use Rattle.wasm_ruled_normal.specs.wasm_ruled_modules.wasm_module_rules.wasm_modules.wasm_body_grammar.wasm_grammar.States.{State, types_of}
-use Rattle.wasm_ruled_normal.specs.wasm_ruled_modules.wasm_module_rules.Keeps.{each_push}
+use Rattle.wasm_ruled_normal.specs.wasm_ruled_modules.wasm_module_rules.wasm_modules.wasm_body_grammar.wasm_operators.Operators.{Seen, flow_of}
+use Rattle.wasm_ruled_normal.specs.wasm_ruled_modules.wasm_module_rules.Keeps.{each_later, each_push}
 use Rattle.wasm_ruled_normal.specs.wasm_ruled_modules.wasm_module_rules.Linked.{Each}
 use Rattle.wasm_ruled_normal.specs.wasm_ruled_modules.Keeping.{EntriesKeep, file_kept}
 use Rattle.wasm_ruled_normal.specs.wasm_ruled_modules.Reading.{read_modules_are_ruled}
-use Rattle.wasm_ruled_normal.specs.wasm_ruled_modules.Rules.{around_bodies}
+use Rattle.wasm_ruled_normal.specs.wasm_ruled_modules.Rules.{AreOperators, HasBody, IsRuled, OriginRuled, around_bodies}
+use Rattle.wasm_ruled_normal.proofs.Tests.{Passes, passes, tested}
 use Rattle.wasm_ruled_renamed.specs.Types.{Retypes, RetypesInOrder}
 use Rattle.wasm_ruled_normal.specs.wasm_ruled_modules.wasm_module_rules.wasm_modules.wasm_sections.Entities.{Entity, FunctionOf, TableOf, MemoryOf, GlobalOf, TagOf, ImportEntry, TableEntry, add_entity, add_table, import_of, space_of, with_import}
 use Rattle.wasm_ruled_normal.specs.wasm_ruled_modules.wasm_module_rules.wasm_modules.wasm_sections.Exports.{ExportEntry, add_export, kind_space}
-use Rattle.wasm_normal_modules.specs.Modules.{BlockTypesAreTheirPicks, NormalFormsOfReadModulesAreRuled, NormalModulesAreRuled, ReadModulesBringNoTypes, own_normal}
+use Rattle.wasm_normal_modules.specs.Modules.{BlockTypesAreTheirPicks, MeetsRules, NormalFormsOfReadModulesAreRuled, NormalModulesAreRuled, OwnNormalFormsAreRuled, ReadModulesBringNoTypes, ReadModulesMeetRules, own_normal}
 
 -- ---- nothing that is a type is imported or exported
 
@@ -149,14 +155,55 @@ module _ (place : Option ℕ → ℕ) (features : WasmFeatures) (counted : Bool)
     others = λ k kind at e. inl (k, slice_get_within (types_of m) k kind at, e, refl);
   }
 
-pub read_modules_normal : NormalModulesAreRuled → BlockTypesAreTheirPicks → NormalFormsOfReadModulesAreRuled
-read_modules_normal normal picked place features bytes m h =
-    let ruled = read_modules_are_ruled features bytes m h in
-    let counted = ruled.0 in
-    let rules = ruled.1 in (
-      counted,
-      (
-        normal place features counted own m.groups m (own_types place features counted m) rules.groups (bring_no_types features bytes m h) rules,
-        picked place features counted own m.groups m (own_in_order place features counted m) rules,
-      ),
-    )
+pub own_normal_ruled : NormalModulesAreRuled → BlockTypesAreTheirPicks → OwnNormalFormsAreRuled
+own_normal_ruled normal picked place features counted m plain h = (
+  normal place features counted own m.groups m (own_types place features counted m) h.groups plain h,
+  picked place features counted own m.groups m (own_in_order place features counted m) h,
+)
+
+-- ---- a data count section besides
+
+module _ (features : WasmFeatures) (counted : Bool) (m : Module) where
+  abbrev a : Around
+  a = around_bodies features counted m
+
+  abbrev b : Around
+  b = around_bodies features true m
+
+  passes_counted : (locals : ℕ) (frames : List Frame) (op : Seen) → Passes a locals frames op → Passes b locals frames op
+  passes_counted locals frames op h = record {
+    named = h.named;
+    formed = h.formed;
+    nested = h.nested;
+    counted = refl;
+    selects = h.selects;
+    worded = h.worded;
+    reached = h.reached;
+  }
+
+  operators_counted : (locals : ℕ) (frames : List Frame) (ops : List Placed) → AreOperators a locals frames ops → AreOperators b locals frames ops
+  operators_counted locals frames [] h = h
+  operators_counted locals frames (o ∷ ops) h = (
+    h.0,
+    tested b locals frames o.op (passes_counted locals frames o.op (passes a locals frames o.op h.1)),
+    operators_counted locals (frames_of (turned (flow_of o.op.code) frames) frames) ops h.2,
+  )
+
+  origin_counted : (params : ℕ) (o : Origin Body) → OriginRuled a params o → OriginRuled b params o
+  origin_counted params (Imported n) h = tt
+  origin_counted params (Own x) h = record { counted = h.counted; named = h.named; operators = operators_counted (params + length x.locals) (PlainFrame ∷ []) x.operators h.operators }
+
+  rules_counted : IsRuled features counted m → MeetsRules features true m
+  rules_counted h = record {
+    linked = h.linked;
+    groups = h.groups;
+    named = h.named;
+    expressed = h.expressed;
+    bodies = each_later (λ (f : Function). HasBody a f) (λ (f : Function). HasBody b f) (λ f k. origin_counted (param_count a.filled f.ty) f.origin k) m.functions h.bodies;
+  }
+
+pub read_modules_meet : ReadModulesMeetRules
+read_modules_meet features bytes m h = let ruled = read_modules_are_ruled features bytes m h in rules_counted features ruled.0 m ruled.1
+
+pub read_modules_normal : OwnNormalFormsAreRuled → NormalFormsOfReadModulesAreRuled
+read_modules_normal normal place features bytes m h = normal place features true m (bring_no_types features bytes m h) (read_modules_meet features bytes m h)

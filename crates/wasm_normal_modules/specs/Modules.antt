@@ -1,6 +1,6 @@
 -- A module in its normal form among other types: the index of each type is sent elsewhere, and each body has its normal form. What it comes from
 -- met the rules; so does it.
-use Rattle.std.specs.Prelude.{ℕ, ◌≡◌, Bool, List, [], map, Option}
+use Rattle.std.specs.Prelude.{ℕ, ◌≡◌, Bool, true, List, [], map, Option}
 use Rattle.std.specs.List.{AllByRecursion}
 use Rattle.std.specs.Option.{option_map}
 use Rattle.wasm_ruled_normal.specs.wasm_ruled_modules.wasm_module_rules.wasm_modules.wasm_body_grammar.wasm_grammar.walrus_forms.Records.{TypeGroup}
@@ -14,7 +14,7 @@ use Rattle.wasm_ruled_normal.specs.wasm_ruled_modules.wasm_module_rules.wasm_mod
 use Rattle.wasm_ruled_normal.specs.wasm_ruled_modules.wasm_module_rules.wasm_modules.wasm_body_grammar.wasm_operator_names.wasm_immediates.Items.{Types}
 use Rattle.wasm_ruled_normal.specs.wasm_ruled_modules.wasm_module_rules.Linked.{Each, IsLinked}
 use Rattle.wasm_ruled_normal.specs.wasm_ruled_modules.wasm_module_rules.wasm_modules.Modules.{Reads}
-use Rattle.wasm_ruled_normal.specs.wasm_ruled_modules.Rules.{AreExpressed, AreNamed, GroupsBelow, HasBody, IsRuled, around_bodies}
+use Rattle.wasm_ruled_normal.specs.wasm_ruled_modules.Rules.{AreExpressed, AreNamed, GroupsBelow, HasBody, around_bodies}
 use Rattle.wasm_ruled_normal.specs.Normal.{OpensPicked}
 use Rattle.wasm_ruled_renamed.specs.Bodies.{normal_renamed}
 use Rattle.wasm_ruled_renamed.specs.Types.{Retypes, RetypesInOrder}
@@ -70,7 +70,7 @@ module _ (place : Option ℕ → ℕ) (a : Around) (r : ℕ → ℕ) where
   abbrev pub normal_function : Function → Function
   normal_function f = record { ty = r f.ty; origin = normal_origin (param_count a.filled f.ty) f.origin }
 
--- the module in its normal form, with these groups of types
+-- the module in its normal form, with these groups of types; custom sections are told apart
 abbrev pub normal_module : (Option ℕ → ℕ) → Around → (ℕ → ℕ) → List TypeGroup → Module → Module
 normal_module place a r groups m = record {
   groups = groups;
@@ -89,7 +89,7 @@ normal_module place a r groups m = record {
 
 -- ---- the law
 
--- the rules, but for how long lists may be
+-- the rules, but for how many items a module may have
 pub record MeetsRules (features : WasmFeatures) (counted : Bool) (m : Module) : Type 0 where
   pub linked : IsLinked m
   pub groups : GroupsBelow 0 m.groups
@@ -106,7 +106,7 @@ pub record BringsNoTypes (m : Module) : Type 0 where
 abbrev pub NormalModulesAreRuled : Type 0
 NormalModulesAreRuled = (place : Option ℕ → ℕ) (features : WasmFeatures) (counted : Bool) (r : ℕ → ℕ) (groups : List TypeGroup) (m : Module)
     → (let a = around_bodies features counted m in let n = normal_module place a r groups m in
-    Retypes r a (around_bodies features counted n) → GroupsBelow 0 groups → BringsNoTypes m → IsRuled features counted m → MeetsRules features counted n)
+    Retypes r a (around_bodies features counted n) → GroupsBelow 0 groups → BringsNoTypes m → MeetsRules features counted m → MeetsRules features counted n)
 
 -- ---- block types are their picks
 
@@ -118,7 +118,19 @@ OriginPicked a (Own x) = AllByRecursion (OpensPicked a) x.operators
 abbrev pub BlockTypesAreTheirPicks : Type 0
 BlockTypesAreTheirPicks = (place : Option ℕ → ℕ) (features : WasmFeatures) (counted : Bool) (r : ℕ → ℕ) (groups : List TypeGroup) (m : Module)
     → (let a = around_bodies features counted m in let n = normal_module place a r groups m in let b = around_bodies features counted n in
-    RetypesInOrder r a b → IsRuled features counted m → Each (λ (f : Function). OriginPicked b f.origin) n.functions)
+    RetypesInOrder r a b → MeetsRules features counted m → Each (λ (f : Function). OriginPicked b f.origin) n.functions)
+
+-- ---- types as they are
+
+-- the normal form of a module, with its types as they are
+abbrev pub own_normal : (Option ℕ → ℕ) → WasmFeatures → Bool → Module → Module
+own_normal place features counted m = normal_module place (around_bodies features counted m) (λ n. n) m.groups m
+
+-- that of a module that meets the rules meets them, and each block type in it is its own pick
+abbrev pub OwnNormalFormsAreRuled : Type 0
+OwnNormalFormsAreRuled = (place : Option ℕ → ℕ) (features : WasmFeatures) (counted : Bool) (m : Module) → BringsNoTypes m → MeetsRules features counted m
+    → (let n = own_normal place features counted m in
+    MeetsRules features counted n × Each (λ (f : Function). OriginPicked (around_bodies features counted n) f.origin) n.functions)
 
 -- ---- modules that are read
 
@@ -126,12 +138,12 @@ BlockTypesAreTheirPicks = (place : Option ℕ → ℕ) (features : WasmFeatures)
 abbrev pub ReadModulesBringNoTypes : Type 0
 ReadModulesBringNoTypes = (features : WasmFeatures) (bytes : List ℕ) (m : Module) → Reads features bytes m → BringsNoTypes m
 
--- the normal form of a module, with its types as they are
-abbrev pub own_normal : (Option ℕ → ℕ) → WasmFeatures → Bool → Module → Module
-own_normal place features counted m = normal_module place (around_bodies features counted m) (λ n. n) m.groups m
+-- a module that is read meets the rules: taken to have a data count section, which a module doesn't tell
+abbrev pub ReadModulesMeetRules : Type 0
+ReadModulesMeetRules = (features : WasmFeatures) (bytes : List ℕ) (m : Module) → Reads features bytes m → MeetsRules features true m
 
--- that of a module that is read meets the rules, and each block type in it is its own pick
+-- so does its normal form, and each block type in that is its own pick
 abbrev pub NormalFormsOfReadModulesAreRuled : Type 0
 NormalFormsOfReadModulesAreRuled = (place : Option ℕ → ℕ) (features : WasmFeatures) (bytes : List ℕ) (m : Module) → Reads features bytes m
-    → (counted : Bool) × (let n = own_normal place features counted m in
-    MeetsRules features counted n × Each (λ (f : Function). OriginPicked (around_bodies features counted n) f.origin) n.functions)
+    → (let n = own_normal place features true m in
+    MeetsRules features true n × Each (λ (f : Function). OriginPicked (around_bodies features true n) f.origin) n.functions)

@@ -1,6 +1,6 @@
 //! Laws: functions with nothing to do, whose contracts hold of all modules.
 
-ghost use Rattle.wasm_normal_modules.specs.Modules.{BlockTypesAreTheirPicks, NormalFormsOfReadModulesAreRuled, NormalModulesAreRuled, ReadModulesBringNoTypes};
+ghost use Rattle.wasm_normal_modules.specs.Modules.{BlockTypesAreTheirPicks, NormalFormsOfReadModulesAreRuled, NormalModulesAreRuled, OwnNormalFormsAreRuled, ReadModulesBringNoTypes, ReadModulesMeetRules};
 ghost use Rattle.wasm_normal_modules.specs.Numbered.{NamesDecide, NumberedBodiesAreNormal};
 
 use wasm_ruled_normal::laws::normal_operators_are_ruled;
@@ -17,7 +17,7 @@ pub fn normal_modules_are_ruled()
     normal_bodies_are_ruled();
 }
 
-/// Each block type in it is its own pick, where its types are sent in their order.
+/// In the normal form of a module that meets the rules each block type is its own pick, where its types are sent in their order.
 pub fn block_types_are_their_picks()
     ensures { BlockTypesAreTheirPicks }
 {
@@ -25,9 +25,11 @@ pub fn block_types_are_their_picks()
     retyped_types_serve();
 }
 
-/// The normal form of a module that is read meets the rules, with its types as they are.
+/// The normal form of a module that meets the rules meets them, with its types as they are, and so does that of a module that is read.
 pub fn normal_forms_of_read_modules_are_ruled()
+    ensures own { OwnNormalFormsAreRuled }
     ensures plain { ReadModulesBringNoTypes }
+    ensures rules { ReadModulesMeetRules }
     ensures ruled { NormalFormsOfReadModulesAreRuled }
 {
     normal_modules_are_ruled();
