@@ -39,7 +39,7 @@ use Rattle.wasm_ruled_renamed.proofs.Locals.{keys_below, keys_length, number_sma
 use Rattle.wasm_ruled_renamed.proofs.Renaming.{operators_renamed}
 use Rattle.wasm_ruled_normal.proofs.Tests.{Within, all_join, all_split, names_within, passes}
 use Rattle.wasm_ruled_normal.specs.Normal.{NormalOperatorsAreRuled, located, text_of}
-use Rattle.wasm_ruled_renamed.specs.Bodies.{NormalBodiesAreRuled, Reaches, RenamedBodiesAreRuled, with_numbers}
+use Rattle.wasm_ruled_renamed.specs.Bodies.{NormalBodiesAreRuled, Reaches, RenamedBodiesAreRuled, SameRenamedIsNormal, with_numbers}
 use Rattle.wasm_ruled_renamed.specs.Renamed.{IsThere, Keeps, NamesThere, renamed_placed}
 
 -- ---- locals are renamed by a renaming that keeps all else
@@ -317,3 +317,26 @@ bodies_ruled normal at a params x below h =
     let body : List grammar.Placed → grammar.Body = λ written. record { locals = map (λ (k : Key). k.0) keys; operators = written } in
     subst (λ (written : List grammar.Placed). IsBody a params (body written)) (sym (located_by (new_number params keys) at ops))
     (whole normal at same a a params x below (record { labels = λ n. refl; counted = λ e. e; wide = λ n e. e; typed = λ n lt e. e }) (λ space n k. k) x.locals refl h.named h)
+
+-- ---- nothing renamed
+
+local_stays : (ty : ValType) → renamed_value (same Types) ty ≡ ty
+local_stays I32 = refl
+local_stays I64 = refl
+local_stays F32 = refl
+local_stays F64 = refl
+local_stays V128 = refl
+local_stays (Ref ty) = go ty.nullable ty.heap_type
+  where
+    go : (nullable : Bool) (heap : HeapType) → renamed_value (same Types) (Ref (record { nullable = nullable; heap_type = heap })) ≡ Ref (record { nullable = nullable; heap_type = heap })
+    go nullable (words.Abstract abstract) = refl
+    go nullable (words.Concrete n) = refl
+    go nullable (words.Exact n) = refl
+
+pub same_normal : SameRenamedIsNormal
+same_normal at a params x =
+    let ops = normal_ops (block_pick a) (text_of x.operators) in
+    let keys : List ValType → List Key = λ tys. used_keys params tys ops in
+    let body : List ValType → List grammar.Placed → grammar.Body = λ tys written. record { locals = map (λ (k : Key). k.0) (keys tys); operators = written } in
+    ap (λ (tys : List ValType). body tys (map (renamed_placed (with_numbers (new_number params (keys tys)) same)) (map (located at) ops))) (all_stay (λ n. n) (renamed_value (same Types)) local_stays x.locals)
+    ∙ ap (body x.locals) (sym (located_by (new_number params (keys x.locals)) at ops))

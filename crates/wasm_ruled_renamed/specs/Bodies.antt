@@ -1,8 +1,9 @@
 -- What holds of whole bodies in their normal form, as they are and renamed: where they met the rules, so does it.
-use Rattle.std.specs.Prelude.{ℕ, ◌<◌, map, Option}
+use Rattle.std.specs.Prelude.{ℕ, ◌≡◌, ◌<◌, map, Option}
 use Rattle.walrus_forms.specs.Renaming.{renamed_value}
 use Rattle.wasm_ruled_normal.specs.wasm_ruled_modules.wasm_module_rules.wasm_modules.wasm_body_grammar.Rules.{Around, room}
 use Rattle.wasm_ruled_normal.specs.wasm_ruled_modules.wasm_module_rules.wasm_modules.wasm_body_grammar.wasm_grammar.Modules as grammar
+use Rattle.wasm_ruled_normal.specs.wasm_ruled_modules.wasm_module_rules.wasm_modules.wasm_body_grammar.wasm_operator_names.Laws.{same}
 use Rattle.wasm_ruled_normal.specs.wasm_ruled_modules.wasm_module_rules.wasm_modules.wasm_body_grammar.wasm_operator_names.Names.{Renaming}
 use Rattle.wasm_ruled_normal.specs.wasm_ruled_modules.wasm_module_rules.wasm_modules.wasm_body_grammar.wasm_operator_names.wasm_immediates.Items.{Space, Types, Locals, Labels}
 use Rattle.wasm_ruled_normal.specs.wasm_normal_form.Bodies.{Body, new_number, normal_body, used_keys}
@@ -16,7 +17,8 @@ use Rattle.wasm_ruled_renamed.specs.Renamed.{Keeps, renamed_placed}
 abbrev pub body_from : (Option ℕ → ℕ) → Body → grammar.Body
 body_from place b = record { locals = b.locals; operators = map (located place) b.ops }
 
--- the normal form of the body of a function of so many parameters, by the picks of the file around it
+-- the normal form of the body of a function of so many parameters, by the picks of the file around it; its locals stand in the order of their
+-- types as they are written
 abbrev pub normal_of : (Option ℕ → ℕ) → Around → ℕ → grammar.Body → grammar.Body
 normal_of place a params x = body_from place (normal_body (block_pick a) params (record { locals = x.locals; ops = text_of x.operators }))
 
@@ -47,6 +49,10 @@ normal_renamed place a r params x =
     let ops = normal_ops (block_pick a) (text_of x.operators) in
     let keys = used_keys params (map (renamed_value (r Types)) x.locals) ops in
     record { locals = map (λ (k : Key). k.0) keys; operators = map (renamed_placed (with_numbers (new_number params keys) r)) (map (located place) ops) }
+
+-- where each number stays, it is the normal form as it is
+abbrev pub SameRenamedIsNormal : Type 0
+SameRenamedIsNormal = (place : Option ℕ → ℕ) (a : Around) (params : ℕ) (x : grammar.Body) → normal_renamed place a same params x ≡ normal_of place a params x
 
 -- a body that meets the rules in one file so meets those in another to which each item goes
 abbrev pub RenamedBodiesAreRuled : Type 0

@@ -1,4 +1,4 @@
--- A worked body: it meets the rules, and this is its normal form.
+-- A worked body: it meets the rules, operands aside (its `block` lacks one), and this is its normal form.
 use Rattle.std.specs.Prelude.{ℕ, ◌≡◌, ◌==◌, false, List, [], ◌∷◌, Option, unwrap_or, if◌then◌else◌}
 use Rattle.walrus_forms.specs.Kinds.{Kind, function_kind}
 use Rattle.walrus_forms.specs.Records.{TypeGroup}
