@@ -1,4 +1,4 @@
--- Lemmas: bodies that were named otherwise and then numbered are the normal forms.
+-- Lemmas: operators that were named otherwise and then numbered are those of the normal forms.
 use Rattle.std.specs.Prelude.{ℕ, ◌≡◌, ◌<◌, ◌+◌, Bool, true, false, List, [], ◌∷◌, length, map, Option, refl, if◌then◌else◌}
 use Rattle.std.specs.List.{AllByRecursion, flat_map}
 use Rattle.std.proofs.Common.{ap, ◌∙◌, arith}
@@ -18,7 +18,7 @@ use Rattle.wasm_ruled_renamed.proofs.Bodies.{all_sent, all_used}
 use Rattle.wasm_ruled_renamed.specs.Bodies.{with_numbers}
 use Rattle.wasm_ruled_renamed.specs.Renamed.{IsThere, NamesThere, renamed_placed}
 use Rattle.wasm_normal_modules.proofs.Alike.{names_decide}
-use Rattle.wasm_normal_modules.specs.Numbered.{ComesTo, IsNumbered, NumberedBodiesAreNormal, keys_of, named_by, ops_of}
+use Rattle.wasm_normal_modules.specs.Numbered.{ComesTo, IsNumbered, NumberedOperatorsAreNormal, keys_of, named_by, ops_of}
 
 module _ (normal : NormalOperatorsAreRuled) (place : Option ℕ → ℕ) (a : Around) (r named : Renaming) (position : ℕ → ℕ) (params : ℕ) (x : grammar.Body) (below : GroupsBelow 0 a.filled.groups) (h : IsBody a params x)
     (comes : (space : Space) (n : ℕ) → ComesTo place a r named position params x space n) where
@@ -103,5 +103,5 @@ module _ (normal : NormalOperatorsAreRuled) (place : Option ℕ → ℕ) (a : Ar
   pub numbered : IsNumbered place a r named position params x
   numbered = all_come ops there used
 
-pub bodies_numbered : NormalOperatorsAreRuled → NumberedBodiesAreNormal
-bodies_numbered normal place a r named position params x below h comes = numbered normal place a r named position params x below h comes
+pub operators_numbered : NormalOperatorsAreRuled → NumberedOperatorsAreNormal
+operators_numbered normal place a r named position params x below h comes = numbered normal place a r named position params x below h comes

@@ -1,4 +1,5 @@
--- Bodies whose operators were renamed otherwise, as by ids of locals: where each name comes to the same in the end, they are the normal forms.
+-- Operators of normal forms that were renamed otherwise, as by ids of locals: where each name comes to the same in the end, they are those of the renamed
+-- normal forms.
 use Rattle.std.specs.Prelude.{ℕ, ◌≡◌, ◌<◌, ◌+◌, true, List, length, map, Option}
 use Rattle.std.specs.List.{AllByRecursion}
 use Rattle.wasm_ruled_normal.specs.Normal.{located, text_of}
@@ -43,6 +44,6 @@ module _ (place : Option ℕ → ℕ) (a : Around) (r named : Renaming) (positio
   abbrev pub IsNumbered : Type 0
   IsNumbered = map (renamed_placed (with_numbers position same)) (map (located place) (map (named_by named) ops_of)) ≡ (normal_renamed place a r params x).operators
 
-abbrev pub NumberedBodiesAreNormal : Type 0
-NumberedBodiesAreNormal = (place : Option ℕ → ℕ) (a : Around) (r named : Renaming) (position : ℕ → ℕ) (params : ℕ) (x : grammar.Body) → GroupsBelow 0 a.filled.groups → IsBody a params x
+abbrev pub NumberedOperatorsAreNormal : Type 0
+NumberedOperatorsAreNormal = (place : Option ℕ → ℕ) (a : Around) (r named : Renaming) (position : ℕ → ℕ) (params : ℕ) (x : grammar.Body) → GroupsBelow 0 a.filled.groups → IsBody a params x
     → ((space : Space) (n : ℕ) → ComesTo place a r named position params x space n) → IsNumbered place a r named position params x

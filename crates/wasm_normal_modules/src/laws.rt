@@ -1,7 +1,7 @@
 //! Laws: functions with nothing to do, whose contracts hold of all modules.
 
 ghost use Rattle.wasm_normal_modules.specs.Modules.{BlockTypesAreTheirPicks, NormalFormsOfReadModulesAreRuled, NormalModulesAreRuled, OwnNormalFormsAreRuled, ReadModulesBringNoTypes, ReadModulesMeetRules};
-ghost use Rattle.wasm_normal_modules.specs.Numbered.{NamesDecide, NumberedBodiesAreNormal};
+ghost use Rattle.wasm_normal_modules.specs.Numbered.{NamesDecide, NumberedOperatorsAreNormal};
 
 use wasm_ruled_normal::laws::normal_operators_are_ruled;
 use wasm_ruled_renamed::laws::{
@@ -36,10 +36,11 @@ pub fn normal_forms_of_read_modules_are_ruled()
     block_types_are_their_picks();
 }
 
-/// Renamings that agree on what an operator names rename it alike; so a body whose operators were named otherwise, and then numbered, is the normal form.
-pub fn numbered_bodies_are_normal()
+/// Renamings that agree on what an operator names rename it alike; so operators of a normal form that were named otherwise, and then numbered, are those of
+/// the renamed normal form.
+pub fn numbered_operators_are_normal()
     ensures decide { NamesDecide }
-    ensures normal { NumberedBodiesAreNormal }
+    ensures normal { NumberedOperatorsAreNormal }
 {
     normal_operators_are_ruled();
 }

@@ -1,4 +1,4 @@
-//! The normal form of a module that meets the rules meets them: a law as a function with nothing to do but to call others.
+//! The normal form of a module that meets the rules meets them: laws as functions with nothing to do but to call others.
 #![tactic(auto)]
 
 pub mod laws;
