@@ -32,7 +32,7 @@ use Rattle.wasm_ruled_normal.proofs.Tests.{Passes, passes, tested}
 use Rattle.wasm_ruled_renamed.specs.Types.{Retypes, RetypesInOrder}
 use Rattle.wasm_ruled_normal.specs.wasm_ruled_modules.wasm_module_rules.wasm_modules.wasm_sections.Entities.{Entity, FunctionOf, TableOf, MemoryOf, GlobalOf, TagOf, ImportEntry, TableEntry, add_entity, add_table, import_of, space_of, with_import}
 use Rattle.wasm_ruled_normal.specs.wasm_ruled_modules.wasm_module_rules.wasm_modules.wasm_sections.Exports.{ExportEntry, add_export, kind_space}
-use Rattle.wasm_normal_modules.specs.Modules.{BlockTypesAreTheirPicks, MeetsRules, NormalFormsOfReadModulesAreRuled, NormalModulesAreRuled, OwnNormalFormsAreRuled, ReadModulesBringNoTypes, ReadModulesMeetRules, own_normal}
+use Rattle.wasm_normal_modules.specs.Modules.{BlockTypesAreTheirPicks, MeetsRules, NormalFormsOfReadModulesAreRuled, NormalModulesAreRuled, OwnNormalFormsAreRuled, ReadModulesBringNoTypes, ReadModulesMeetRules, RulesHoldCounted, own_normal}
 
 -- ---- nothing that is a type is imported or exported
 
@@ -193,8 +193,8 @@ module _ (features : WasmFeatures) (counted : Bool) (m : Module) where
   origin_counted params (Imported n) h = tt
   origin_counted params (Own x) h = record { counted = h.counted; named = h.named; operators = operators_counted (params + length x.locals) (PlainFrame ∷ []) x.operators h.operators }
 
-  rules_counted : IsRuled features counted m → MeetsRules features true m
-  rules_counted h = record {
+  counted_rules : MeetsRules features counted m → MeetsRules features true m
+  counted_rules h = record {
     linked = h.linked;
     groups = h.groups;
     named = h.named;
@@ -202,8 +202,14 @@ module _ (features : WasmFeatures) (counted : Bool) (m : Module) where
     bodies = each_later (λ (f : Function). HasBody a f) (λ (f : Function). HasBody b f) (λ f k. origin_counted (param_count a.filled f.ty) f.origin k) m.functions h.bodies;
   }
 
+pub rules_counted : RulesHoldCounted
+rules_counted features counted m h = counted_rules features counted m h
+
+pub rules_meet : (features : WasmFeatures) (counted : Bool) (m : Module) → IsRuled features counted m → MeetsRules features counted m
+rules_meet features counted m h = record { linked = h.linked; groups = h.groups; named = h.named; expressed = h.expressed; bodies = h.bodies }
+
 pub read_modules_meet : ReadModulesMeetRules
-read_modules_meet features bytes m h = let ruled = read_modules_are_ruled features bytes m h in rules_counted features ruled.0 m ruled.1
+read_modules_meet features bytes m h = let ruled = read_modules_are_ruled features bytes m h in rules_counted features ruled.0 m (rules_meet features ruled.0 m ruled.1)
 
 pub read_modules_normal : OwnNormalFormsAreRuled → NormalFormsOfReadModulesAreRuled
 read_modules_normal normal place features bytes m h = normal place features true m (bring_no_types features bytes m h) (read_modules_meet features bytes m h)

@@ -97,6 +97,10 @@ pub record MeetsRules (features : WasmFeatures) (counted : Bool) (m : Module) : 
   pub expressed : AreExpressed m
   pub bodies : Each (λ (f : Function). HasBody (around_bodies features counted m) f) m.functions
 
+-- what meets them without a data count section meets them with one
+abbrev pub RulesHoldCounted : Type 0
+RulesHoldCounted = (features : WasmFeatures) (counted : Bool) (m : Module) → MeetsRules features counted m → MeetsRules features true m
+
 -- no type is imported or exported
 pub record BringsNoTypes (m : Module) : Type 0 where
   pub imports : Each (λ (i : Import). i.item.space ≡ spaces.«Type» → ⊥) m.imports

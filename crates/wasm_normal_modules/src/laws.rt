@@ -1,6 +1,6 @@
 //! Laws: functions with nothing to do, whose contracts hold of all modules.
 
-ghost use Rattle.wasm_normal_modules.specs.Modules.{BlockTypesAreTheirPicks, NormalFormsOfReadModulesAreRuled, NormalModulesAreRuled, OwnNormalFormsAreRuled, ReadModulesBringNoTypes, ReadModulesMeetRules};
+ghost use Rattle.wasm_normal_modules.specs.Modules.{BlockTypesAreTheirPicks, NormalFormsOfReadModulesAreRuled, NormalModulesAreRuled, OwnNormalFormsAreRuled, ReadModulesBringNoTypes, ReadModulesMeetRules, RulesHoldCounted};
 ghost use Rattle.wasm_normal_modules.specs.Numbered.{NamesDecide, NumberedOperatorsAreNormal};
 
 use wasm_ruled_normal::laws::normal_operators_are_ruled;
@@ -25,10 +25,12 @@ pub fn block_types_are_their_picks()
     retyped_types_serve();
 }
 
-/// The normal form of a module that meets the rules meets them, with its types as they are, and so does that of a module that is read.
+/// The normal form of a module that meets the rules meets them, with its types as they are, and so does that of a module that is read, taken to have
+/// a data count section: what meets the rules without one meets them with one.
 pub fn normal_forms_of_read_modules_are_ruled()
     ensures own { OwnNormalFormsAreRuled }
     ensures plain { ReadModulesBringNoTypes }
+    ensures counted { RulesHoldCounted }
     ensures rules { ReadModulesMeetRules }
     ensures ruled { NormalFormsOfReadModulesAreRuled }
 {
