@@ -1,8 +1,7 @@
 // What becomes of the files.
 use crate::folder::Folder;
 use rewriter_program::{Failure, InputFile, OutputFile, locate, run_words};
-use std::alloc::Global;
-use std::io::{PipeReader, PipeWriter, Read};
+use std::io::Read;
 use std::os::fd::AsRawFd;
 use std::os::unix::fs::MetadataExt;
 use std::test::Fail;
@@ -49,101 +48,46 @@ fn status_in(
     Ok(status_of(rt, &places, &input, &output))
 }
 
-// Whether a run over files of the folder ends so, and leaves so many files.
-fn ends(
-    rt: &HostRuntime,
-    folder: &Folder,
-    (places, input, output): (&str, &str, &str),
-    status: u8,
-    count: usize,
-) -> Result<bool, Fail> {
-    let is_status = status_in(rt, folder, places, input, output)? == status;
-    Ok(is_status && folder.count()? == count)
-}
-
-// What becomes of files that a folder is given. (A function that owns a folder does nothing else.)
-#[derive(Clone, Copy)]
-enum Case {
-    Done,
-    Same,
-    Refused,
-    Twice,
-    Closed,
-    End,
-    Cause,
-    Unwritable,
-}
-
-fn holds(rt: &HostRuntime, folder: &Folder, case: Case) -> Result<bool, Fail> {
-    match case {
-        Case::Done => is_rewritten(rt, folder),
-        Case::Same => is_written_over(rt, folder),
-        Case::Refused => is_refused(rt, folder),
-        Case::Twice => are_refused(rt, folder),
-        Case::Closed => are_told(rt, folder),
-        Case::End => is_closed(rt, folder),
-        Case::Cause => has_cause(rt, folder),
-        Case::Unwritable => stays(rt, folder),
-    }
-}
-
-// Whether it holds in a new folder of that name.
-fn is_so(rt: &HostRuntime, name: &str, case: Case) -> Result<bool, Fail> {
-    let folder = Folder::new(rt, name)?;
-    let is_so = holds(rt, &folder, case)?;
-    folder.remove()?;
-    Ok(is_so)
-}
-
-fn is_rewritten(rt: &HostRuntime, folder: &Folder) -> Result<bool, Fail> {
-    folder.add("input", &INPUT)?;
-    Ok(
-        ends(rt, folder, ("places", "input", "output"), 0, 3)?
-            && folder.holds("output", &OUTPUT)?
-            && folder.holds("places", b"4 3\n")?,
-    )
-}
-
 #[test]
 fn a_module_is_rewritten(rt: HostRuntime) -> Result<(), Fail> {
-    assert!(rt; is_so(&rt, "done", Case::Done)?);
-    Ok(())
-}
-
-fn is_written_over(rt: &HostRuntime, folder: &Folder) -> Result<bool, Fail> {
-    folder.add("input", &INPUT)?;
-    folder.set_mode("input", 0o640)?;
-    folder.with_link("input", "link")?;
-    Ok(
-        ends(rt, folder, ("places", "input", "link"), 0, 3)?
-            && folder.holds("input", &OUTPUT)?
-            && folder.is_link("link")?
-            && folder.mode("input")? == 0o640,
-    )
+    let folder = Folder::new(&rt, "done")?;
+    folder.with("input", &INPUT)?;
+    assert_eq!(rt; status_in(&rt, &folder, "places", "input", "output")?, 0);
+    assert!(rt; folder.holds("output", &OUTPUT)?);
+    assert!(rt; folder.holds("places", b"4 3\n")?);
+    assert_eq!(rt; folder.count()?, 3);
+    folder.remove()
 }
 
 #[test]
 fn an_input_may_be_its_output(rt: HostRuntime) -> Result<(), Fail> {
-    assert!(rt; is_so(&rt, "same", Case::Same)?);
-    Ok(())
-}
-
-fn is_refused(rt: &HostRuntime, folder: &Folder) -> Result<bool, Fail> {
-    folder.add("input", b"no module")?;
-    folder.add("output", b"old")?;
-    Ok(ends(rt, folder, ("places", "input", "output"), 1, 2)? && folder.holds("output", b"old")?)
+    let folder = Folder::new(&rt, "same")?;
+    folder.with("input", &INPUT)?;
+    folder.set_mode("input", 0o640)?;
+    folder.with_link("input", "link")?;
+    assert_eq!(rt; status_in(&rt, &folder, "places", "input", "link")?, 0);
+    assert!(rt; folder.holds("input", &OUTPUT)?);
+    assert!(rt; folder.is_link("link")?);
+    assert_eq!(rt; folder.mode("input")?, 0o640);
+    assert_eq!(rt; folder.count()?, 3);
+    folder.remove()
 }
 
 #[test]
 fn a_refused_module_leaves_the_files(rt: HostRuntime) -> Result<(), Fail> {
-    assert!(rt; is_so(&rt, "refused", Case::Refused)?);
-    Ok(())
+    let folder = Folder::new(&rt, "refused")?;
+    folder.with("input", b"no module")?;
+    folder.with("output", b"old")?;
+    assert_eq!(rt; status_in(&rt, &folder, "places", "input", "output")?, 1);
+    assert!(rt; folder.holds("output", b"old")?);
+    assert_eq!(rt; folder.count()?, 2);
+    folder.remove()
 }
 
 // Two files, each also by other names, a link to a file that isn't there, and a folder.
 fn add_names(folder: &Folder) -> Result<(), Fail> {
-    folder.add("in", &INPUT)?;
-    folder.add("out", b"old")?;
+    folder.with("in", &INPUT)?;
+    folder.with("out", b"old")?;
     folder.with_other_name("out", "hard")?;
     folder.with_link("in", "in-link")?;
     folder.with_link("out", "out-link")?;
@@ -151,62 +95,56 @@ fn add_names(folder: &Folder) -> Result<(), Fail> {
     folder.with_folder("sub")
 }
 
-// What is to take places, be read and be written.
-const TWICE: [(&str, &str, &str); 12] = [
-    ("out", "in", "out"),
-    ("./out", "in", "out"),
-    ("sub/../out", "in", "out"),
-    ("hard", "in", "out"),
-    ("out", "in", "out-link"),
-    ("none", "in", "sub/../none"),
-    ("none-link", "in", "none"),
-    ("in", "in", "out"),
-    ("in-link", "in", "out"),
-    ("in", "in-link", "none"),
-    ("none", "none", "out"),
-    // Nothing was read: else the input would be missing.
-    ("out", "none", "out"),
-];
-
-fn are_refused(rt: &HostRuntime, folder: &Folder) -> Result<bool, Fail> {
-    add_names(folder)?;
-    let mut agree = true;
-    for names in TWICE {
-        agree &= ends(rt, folder, names, 2, 7)?;
-    }
-    Ok(agree && folder.holds("in", &INPUT)? && folder.holds("out", b"old")?)
-}
-
 #[test]
 fn one_file_for_two_things_is_refused(rt: HostRuntime) -> Result<(), Fail> {
-    assert!(rt; is_so(&rt, "twice", Case::Twice)?);
-    Ok(())
-}
-
-const CLOSED: [(&str, &str, &str, u8); 3] = [
-    ("none", "none", "output", 2),
-    ("none/output", "none", "output", 3),
-    ("none", "input", "none/output", 3),
-];
-
-fn are_told(rt: &HostRuntime, folder: &Folder) -> Result<bool, Fail> {
-    folder.add("input", &INPUT)?;
-    let mut agree = true;
-    for (places, input, output, status) in CLOSED {
-        agree &= ends(rt, folder, (places, input, output), status, 1)?;
+    let folder = Folder::new(&rt, "twice")?;
+    add_names(&folder)?;
+    let rows = [
+        ("out", "in", "out"),
+        ("./out", "in", "out"),
+        ("sub/../out", "in", "out"),
+        ("hard", "in", "out"),
+        ("out", "in", "out-link"),
+        ("none", "in", "sub/../none"),
+        ("none-link", "in", "none"),
+        ("in", "in", "out"),
+        ("in-link", "in", "out"),
+        ("in", "in-link", "none"),
+        ("none", "none", "out"),
+        // Nothing was read: else the input would be missing.
+        ("out", "none", "out"),
+    ];
+    for (places, input, output) in rows {
+        let status = status_in(&rt, &folder, places, input, output)?;
+        assert_eq!(rt; status, 2, "{places} {input} {output}");
     }
-    // The bytes are written before the places are.
-    Ok(
-        agree
-            && ends(rt, folder, ("none/output", "input", "output"), 3, 2)?
-            && folder.holds("output", &OUTPUT)?,
-    )
+    assert!(rt; folder.holds("in", &INPUT)?);
+    assert!(rt; folder.holds("out", b"old")?);
+    assert_eq!(rt; folder.count()?, 7);
+    folder.remove()
 }
 
 #[test]
 fn a_file_that_cannot_be_opened_is_told(rt: HostRuntime) -> Result<(), Fail> {
-    assert!(rt; is_so(&rt, "closed", Case::Closed)?);
-    Ok(())
+    let folder = Folder::new(&rt, "closed")?;
+    folder.with("input", &INPUT)?;
+    let rows = [
+        ("none", "none", "output", 2),
+        ("none/output", "none", "output", 3),
+        ("none", "input", "none/output", 3),
+    ];
+    for (places, input, output, wanted) in rows {
+        let status = status_in(&rt, &folder, places, input, output)?;
+        assert_eq!(rt; status, wanted, "{places} {input} {output}");
+    }
+    assert_eq!(rt; folder.count()?, 1);
+    // The bytes are written before the places are.
+    assert_eq!(rt;
+        status_in(&rt, &folder, "none/output", "input", "output")?,
+        3
+    );
+    assert!(rt; folder.holds("output", &OUTPUT)?);
+    folder.remove()
 }
 
 // Whether this process has the file open by that number.
@@ -227,33 +165,19 @@ fn is_open(rt: &HostRuntime, path: &str) -> Result<bool, Fail> {
     Ok(is_any)
 }
 
-// Whether so many bytes are read, and the file is open then.
-fn reads(input: &mut InputFile<'_, HostRuntime>, count: usize) -> bool {
-    let mut buffer = [0; 8];
-    input.read(&mut buffer) == Ok(count)
-}
-
-fn is_closed_behind(rt: &HostRuntime, path: &str, whole: &str) -> Result<bool, Fail> {
-    let mut input = InputFile::new(rt, path);
-    let is_open_then = reads(&mut input, 3) && is_open(rt, whole)?;
-    let is_closed_then = reads(&mut input, 0) && !is_open(rt, whole)?;
-    Ok(is_open_then && is_closed_then && reads(&mut input, 0))
-}
-
-fn is_closed(rt: &HostRuntime, folder: &Folder) -> Result<bool, Fail> {
-    let path = folder.with("input", b"abc")?;
-    let whole = fs::canonicalize(rt, path.as_str())?;
-    is_closed_behind(rt, &path, whole.as_str())
-}
-
 #[test]
 fn an_input_is_closed_at_its_end(rt: HostRuntime) -> Result<(), Fail> {
-    assert!(rt; is_so(&rt, "end", Case::End)?);
-    Ok(())
-}
-
-fn is_failure(alloc: Global, failure: Failure<'_>, text: &str) -> Result<bool, Fail> {
-    Ok(failure.to_string(alloc)?.as_str() == text)
+    let folder = Folder::new(&rt, "end")?;
+    let path = folder.with("input", b"abc")?;
+    let whole = fs::canonicalize(&rt, path.as_str())?;
+    let mut input = InputFile::new(&rt, &path);
+    let mut buffer = [0; 8];
+    assert_eq!(rt; input.read(&mut buffer), Ok(3));
+    assert!(rt; is_open(&rt, whole.as_str())?);
+    assert_eq!(rt; input.read(&mut buffer), Ok(0));
+    assert!(rt; !is_open(&rt, whole.as_str())?);
+    assert_eq!(rt; input.read(&mut buffer), Ok(0));
+    folder.remove()
 }
 
 #[test]
@@ -262,10 +186,15 @@ fn a_fault_of_a_file_has_its_cause(rt: HostRuntime) -> Result<(), Fail> {
         fault: Fault::ReaderFault,
         cause: Some(("in.wasm", io::Error::from_raw_os_error(2))),
     };
-    let text = "error: input can not be read\n  in.wasm: No such file or directory (os error 2)";
-    assert!(rt; is_failure(rt.alloc(), missing, text)?);
+    assert_eq!(rt;
+        missing.to_string(rt.alloc())?.as_str(),
+        "error: input can not be read\n  in.wasm: No such file or directory (os error 2)"
+    );
     let header = Failure::from(Fault::Header { offset: 0 });
-    assert!(rt; is_failure(rt.alloc(), header, "error at 0: not a WebAssembly module")?);
+    assert_eq!(rt;
+        header.to_string(rt.alloc())?.as_str(),
+        "error at 0: not a WebAssembly module"
+    );
     Ok(())
 }
 
@@ -286,15 +215,6 @@ fn refusal_in(rt: &HostRuntime, folder: &Folder, name: &str) -> Result<String, F
     refusal(rt, &path)
 }
 
-fn is_refusal(rt: &HostRuntime, path: &str, text: &str) -> Result<bool, Fail> {
-    Ok(refusal(rt, path)?.as_str() == text)
-}
-
-fn has_cause(rt: &HostRuntime, folder: &Folder) -> Result<bool, Fail> {
-    folder.add("file", b"old")?;
-    Ok(refusal_in(rt, folder, "file/new")?.as_str() == "Not a directory (os error 20)")
-}
-
 #[test]
 fn what_the_system_says_is_kept(rt: HostRuntime) -> Result<(), Fail> {
     let rows = [
@@ -302,10 +222,15 @@ fn what_the_system_says_is_kept(rt: HostRuntime) -> Result<(), Fail> {
         ("/dev", "Is a directory (os error 21)"),
     ];
     for (path, text) in rows {
-        assert!(rt; is_refusal(&rt, path, text)?);
+        assert_eq!(rt; refusal(&rt, path)?.as_str(), text);
     }
-    assert!(rt; is_so(&rt, "causes", Case::Cause)?);
-    Ok(())
+    let folder = Folder::new(&rt, "causes")?;
+    folder.with("file", b"old")?;
+    assert_eq!(rt;
+        refusal_in(&rt, &folder, "file/new")?.as_str(),
+        "Not a directory (os error 20)"
+    );
+    folder.remove()
 }
 
 // Whether this is the system's own user, who may write all.
@@ -314,49 +239,35 @@ fn may_write_all(rt: &HostRuntime, folder: &Folder) -> Result<bool, Fail> {
     Ok(fs::metadata(rt, path.as_str())?.uid() == 0)
 }
 
-fn is_denied(rt: &HostRuntime, folder: &Folder) -> Result<bool, Fail> {
-    Ok(refusal_in(rt, folder, "file")?.as_str() == "Permission denied (os error 13)")
-}
-
 // Who may not write a file may not replace it.
-fn stays(rt: &HostRuntime, folder: &Folder) -> Result<bool, Fail> {
-    folder.add("file", b"old")?;
-    folder.set_mode("file", 0o444)?;
-    if may_write_all(rt, folder)? {
-        return Ok(true);
-    }
-    Ok(is_denied(rt, folder)? && folder.holds("file", b"old")? && folder.count()? == 1)
-}
-
 #[test]
 fn a_file_that_may_not_be_written_stays(rt: HostRuntime) -> Result<(), Fail> {
-    assert!(rt; is_so(&rt, "unwritable", Case::Unwritable)?);
-    Ok(())
-}
-
-// Whether three bytes are written there, by one write and a flush.
-fn takes_three(rt: &HostRuntime, path: &str) -> Result<bool, Fail> {
-    let (_, target) = locate(rt, path)?;
-    let mut sink = OutputFile::new(rt, &target);
-    Ok(sink.write(b"abc") == Ok(3) && sink.flush() == Ok(()))
-}
-
-// Whether three bytes stand in the pipe, and no more.
-fn gives_three(reader: &mut PipeReader) -> Result<bool, Fail> {
-    let mut buffer = [0; 8];
-    let count = reader.read(&mut buffer)?;
-    Ok(count == 3 && &buffer[..3] == b"abc".as_slice())
-}
-
-fn fills_pipe(rt: &HostRuntime, writer: PipeWriter) -> Result<bool, Fail> {
-    let path = format!(in rt.alloc(); "/proc/self/fd/{}", writer.as_raw_fd())?;
-    takes_three(rt, &path)
+    let folder = Folder::new(&rt, "unwritable")?;
+    folder.with("file", b"old")?;
+    folder.set_mode("file", 0o444)?;
+    if !may_write_all(&rt, &folder)? {
+        assert_eq!(rt;
+            refusal_in(&rt, &folder, "file")?.as_str(),
+            "Permission denied (os error 13)"
+        );
+        assert!(rt; folder.holds("file", b"old")?);
+        assert_eq!(rt; folder.count()?, 1);
+    }
+    folder.remove()
 }
 
 #[test]
 fn a_pipe_is_written_directly(rt: HostRuntime) -> Result<(), Fail> {
     let (mut reader, writer) = io::pipe(&rt)?;
-    assert!(rt; fills_pipe(&rt, writer)?);
-    assert!(rt; gives_three(&mut reader)?);
+    let path = format!(in rt.alloc(); "/proc/self/fd/{}", writer.as_raw_fd())?;
+    let (_, target) = locate(&rt, &path)?;
+    let mut sink = OutputFile::new(&rt, &target);
+    assert_eq!(rt; sink.write(b"abc"), Ok(3));
+    assert_eq!(rt; sink.flush(), Ok(()));
+    drop(sink);
+    drop(writer);
+    let mut buffer = [0; 8];
+    assert_eq!(rt; reader.read(&mut buffer)?, 3);
+    assert_eq!(rt; &buffer[..3], b"abc".as_slice());
     Ok(())
 }
