@@ -1,11 +1,10 @@
 //! Blocks, positions and constants.
 use crate::common::{PLAIN, function};
 use crate::rows::{
-    ARRAY_LEN, BLOCK, DROP, IF_ELSE, LOOP, REF_EQ, RETURN, UNREACHABLE, assert_rows,
+    ARRAY_LEN, BLOCK, DROP, IF_ELSE, LOOP, REF_EQ, RETURN, Row, UNREACHABLE, are_rows,
 };
 use std::alloc::AllocError;
 use std::mem;
-use std::process::Abort;
 use std::test::Fail;
 use walrus_builder::{FunctionBuilder, InstrSeqBuilder};
 use walrus_instr::{Instr, InstrLocId, InstrSeqType, Value};
@@ -47,17 +46,22 @@ fn are_constants(instrs: &[(Instr, InstrLocId)], values: &[Value]) -> bool {
     agree
 }
 
-#[test]
-fn constants(rt: HostRuntime) -> Result<(), Fail> {
-    let mut body = function(rt.alloc())?;
-    add_constants(body.func_body())?;
+// Whether just the constants stand there, once they are added.
+fn adds_constants(seq: &mut InstrSeqBuilder) -> Result<bool, AllocError> {
+    add_constants(seq)?;
     let values = [
         Value::I32(-7),
         Value::I64(-8),
         Value::F32(0x7fc0_0001),
         Value::F64(9),
     ];
-    assert!(rt; are_constants(body.func_body().instrs(), &values));
+    Ok(are_constants(seq.instrs(), &values))
+}
+
+#[test]
+fn constants(rt: HostRuntime) -> Result<(), Fail> {
+    let mut body = function(rt.alloc())?;
+    assert!(rt; adds_constants(body.func_body())?);
     Ok(())
 }
 
@@ -81,8 +85,10 @@ fn add_blocks(seq: &mut InstrSeqBuilder) -> Result<(), AllocError> {
     add_choice(seq)
 }
 
-fn insert_block(rt: &impl Abort, seq: &mut InstrSeqBuilder) -> Result<(), AllocError> {
-    assert!(rt; 1 <= seq.instrs().len());
+fn insert_block(seq: &mut InstrSeqBuilder) -> Result<(), AllocError> {
+    if seq.instrs().is_empty() {
+        return Err(AllocError);
+    }
     seq.block_at(1, PLAIN, |inner| inner.i32_const(5))
 }
 
@@ -90,16 +96,20 @@ fn insert_loop(seq: &mut InstrSeqBuilder) -> Result<(), AllocError> {
     seq.loop_at(0, LONG, |inner| inner.i32_const(6))
 }
 
-// The sequences 5 to 8 are held before.
-fn insert_blocks(rt: &impl Abort, seq: &mut InstrSeqBuilder) -> Result<(), AllocError> {
-    insert_block(rt, seq)?;
-    insert_loop(seq)?;
+fn insert_choice(seq: &mut InstrSeqBuilder) -> Result<(), AllocError> {
     seq.if_else_at(
         0,
         PLAIN,
         |then| then.i32_const(7),
         |other| other.i32_const(8),
     )
+}
+
+// The sequences 5 to 8 are held before.
+fn insert_blocks(seq: &mut InstrSeqBuilder) -> Result<(), AllocError> {
+    insert_block(seq)?;
+    insert_loop(seq)?;
+    insert_choice(seq)
 }
 
 // The type and the constant of each of the sequences 1 to 8.
@@ -122,37 +132,36 @@ fn holds_all(body: &FunctionBuilder) -> bool {
     agree
 }
 
+const BLOCKS: [Row; 7] = [
+    (IF_ELSE, 7, 8, 0),
+    (LOOP, 6, 0, 0),
+    (DROP, 0, 0, 0),
+    (BLOCK, 5, 0, 0),
+    (BLOCK, 1, 0, 0),
+    (LOOP, 2, 0, 0),
+    (IF_ELSE, 3, 4, 0),
+];
+
+// Whether the sequence, which is the first, holds the blocks.
+fn holds_blocks(seq: &mut InstrSeqBuilder) -> Result<bool, AllocError> {
+    add_blocks(seq)?;
+    insert_blocks(seq)?;
+    Ok(seq.id().index() == 0 && are_rows(seq.instrs(), &BLOCKS))
+}
+
 #[test]
 fn blocks(rt: HostRuntime) -> Result<(), Fail> {
     let mut body = function(rt.alloc())?;
-    add_blocks(body.func_body())?;
-    insert_blocks(&rt, body.func_body())?;
-    assert_eq!(rt; body.func_body().id().index(), 0);
-    assert_rows(
-        &rt,
-        body.func_body().instrs(),
-        &[
-            (IF_ELSE, 7, 8, 0),
-            (LOOP, 6, 0, 0),
-            (DROP, 0, 0, 0),
-            (BLOCK, 5, 0, 0),
-            (BLOCK, 1, 0, 0),
-            (LOOP, 2, 0, 0),
-            (IF_ELSE, 3, 4, 0),
-        ],
-    );
+    assert!(rt; holds_blocks(body.func_body())?);
     assert!(rt; holds_all(&body));
     Ok(())
 }
 
 // Puts the instruction there, behind so many at most.
-fn put_at(
-    rt: &impl Abort,
-    seq: &mut InstrSeqBuilder,
-    position: usize,
-    instr: Instr,
-) -> Result<(), AllocError> {
-    assert!(rt; position <= seq.instrs().len());
+fn put_at(seq: &mut InstrSeqBuilder, position: usize, instr: Instr) -> Result<(), AllocError> {
+    if position > seq.instrs().len() {
+        return Err(AllocError);
+    }
     seq.instr_at(position, instr)
 }
 
@@ -161,27 +170,29 @@ fn put(seq: &mut InstrSeqBuilder, instr: Instr) -> Result<(), AllocError> {
 }
 
 // Two at the end, one between them, and one behind them.
-fn add_at(rt: &impl Abort, seq: &mut InstrSeqBuilder) -> Result<(), AllocError> {
+fn add_at(seq: &mut InstrSeqBuilder) -> Result<(), AllocError> {
     put(seq, Instr::Drop)?;
     put(seq, Instr::Return)?;
-    put_at(rt, seq, 1, Instr::ArrayLen)?;
-    put_at(rt, seq, 3, Instr::RefEq)
+    put_at(seq, 1, Instr::ArrayLen)?;
+    put_at(seq, 3, Instr::RefEq)
+}
+
+const FOUR: [Row; 4] = [
+    (DROP, 0, 0, 0),
+    (ARRAY_LEN, 0, 0, 0),
+    (RETURN, 0, 0, 0),
+    (REF_EQ, 0, 0, 0),
+];
+
+fn adds_at(seq: &mut InstrSeqBuilder) -> Result<bool, AllocError> {
+    add_at(seq)?;
+    Ok(are_rows(seq.instrs(), &FOUR))
 }
 
 #[test]
 fn instr_at(rt: HostRuntime) -> Result<(), Fail> {
     let mut body = function(rt.alloc())?;
-    add_at(&rt, body.func_body())?;
-    assert_rows(
-        &rt,
-        body.func_body().instrs(),
-        &[
-            (DROP, 0, 0, 0),
-            (ARRAY_LEN, 0, 0, 0),
-            (RETURN, 0, 0, 0),
-            (REF_EQ, 0, 0, 0),
-        ],
-    );
+    assert!(rt; adds_at(body.func_body())?);
     Ok(())
 }
 
@@ -194,17 +205,15 @@ fn has_drop_alone(seq: &InstrSeqBuilder) -> bool {
 }
 
 // A block that is refused leaves the sequence with what is before it.
-fn check_left(rt: &impl Abort, seq: &mut InstrSeqBuilder) -> Result<(), AllocError> {
+fn is_left(seq: &mut InstrSeqBuilder) -> Result<bool, AllocError> {
     put(seq, Instr::Drop)?;
-    assert!(rt; is_refused(seq));
-    assert!(rt; has_drop_alone(seq));
-    Ok(())
+    Ok(is_refused(seq) && has_drop_alone(seq))
 }
 
 #[test]
 fn a_refused_block_leaves_its_sequence(rt: HostRuntime) -> Result<(), Fail> {
     let mut body = function(rt.alloc())?;
-    check_left(&rt, body.func_body())?;
+    assert!(rt; is_left(body.func_body())?);
     Ok(())
 }
 
@@ -216,68 +225,62 @@ fn swap_in_block(seq: &mut InstrSeqBuilder, given: &mut InstrSeqBuilder) -> Resu
     })
 }
 
-// Puts another builder, which has the sequence 0 alone, in place of that which fills the sequence 1.
-fn put_smaller(
-    rt: &impl Abort,
-    body: &mut FunctionBuilder,
-    other: &mut FunctionBuilder,
-) -> Result<(), AllocError> {
-    let begun = body.dangling_instr_seq(PLAIN)?;
-    assert!(rt; begun.index() < body.seqs().len());
-    let seq = body.instr_seq(begun);
-    let given = other.func_body();
+fn swaps_in(seq: &mut InstrSeqBuilder, given: &mut InstrSeqBuilder) -> Result<bool, AllocError> {
     put(given, Instr::Drop)?;
     swap_in_block(seq, given)?;
-    assert!(rt; has_drop_alone(seq));
-    Ok(())
+    Ok(has_drop_alone(seq))
+}
+
+// Puts another builder, which has the sequence 0 alone, in place of that which fills the sequence 1.
+fn takes_smaller(
+    body: &mut FunctionBuilder,
+    other: &mut FunctionBuilder,
+) -> Result<bool, AllocError> {
+    let begun = body.dangling_instr_seq(PLAIN)?;
+    if begun.index() >= body.seqs().len() {
+        return Ok(false);
+    }
+    let is_swapped = swaps_in(body.instr_seq(begun), other.func_body())?;
+    Ok(is_swapped && body.seqs().len() == 1 && other.seqs().len() == 3)
 }
 
 #[test]
 fn another_builder_without_that_sequence(rt: HostRuntime) -> Result<(), Fail> {
     let mut body = function(rt.alloc())?;
     let mut other = function(rt.alloc())?;
-    put_smaller(&rt, &mut body, &mut other)?;
-    assert_eq!(rt; body.seqs().len(), 1);
-    assert_eq!(rt; other.seqs().len(), 3);
+    assert!(rt; takes_smaller(&mut body, &mut other)?);
     Ok(())
 }
 
-fn swap_in_third(
-    rt: &impl Abort,
-    seq: &mut InstrSeqBuilder,
-    given: &mut InstrSeqBuilder,
-) -> Result<(), AllocError> {
-    assert!(rt; 2 <= seq.instrs().len());
+fn swap_in_third(seq: &mut InstrSeqBuilder, given: &mut InstrSeqBuilder) -> Result<(), AllocError> {
+    if seq.instrs().len() < 2 {
+        return Err(AllocError);
+    }
     seq.block_at(2, LONG, |inner| {
         mem::swap(inner, given);
         Ok(())
     })
 }
 
+// The place is past its end.
+const SHORTER: [Row; 2] = [(UNREACHABLE, 0, 0, 0), (BLOCK, 1, 0, 0)];
+
 // Puts another builder, whose sequence has one instruction, where a block is to go behind two.
-fn put_shorter(
-    rt: &impl Abort,
+fn takes_shorter(
     seq: &mut InstrSeqBuilder,
     given: &mut InstrSeqBuilder,
-) -> Result<(), AllocError> {
+) -> Result<bool, AllocError> {
     put(seq, Instr::Drop)?;
     put(seq, Instr::Return)?;
     put(given, Instr::Unreachable)?;
-    swap_in_third(rt, seq, given)?;
-    assert_eq!(rt; seq.id().index(), 0);
-    // The place is past its end.
-    assert_rows(
-        rt,
-        seq.instrs(),
-        &[(UNREACHABLE, 0, 0, 0), (BLOCK, 1, 0, 0)],
-    );
-    Ok(())
+    swap_in_third(seq, given)?;
+    Ok(seq.id().index() == 0 && are_rows(seq.instrs(), &SHORTER))
 }
 
 #[test]
 fn another_builder_with_that_sequence(rt: HostRuntime) -> Result<(), Fail> {
     let mut body = function(rt.alloc())?;
     let mut other = function(rt.alloc())?;
-    put_shorter(&rt, body.func_body(), other.func_body())?;
+    assert!(rt; takes_shorter(body.func_body(), other.func_body())?);
     Ok(())
 }

@@ -1,32 +1,45 @@
 //! Each call that adds an instruction, once.
 use crate::common::function;
-use crate::rows::assert_rows;
+use crate::rows::are_rows;
 use crate::{control, memory, reference};
+use std::alloc::{AllocError, Global};
 use std::test::Fail;
+use walrus_builder::InstrSeqBuilder;
 
-#[test]
-fn control_and_operators(rt: HostRuntime) -> Result<(), Fail> {
-    let mut body = function(rt.alloc())?;
-    let seq = body.func_body();
-    control::add_all(rt.alloc(), seq)?;
-    assert_rows(&rt, seq.instrs(), &control::ROWS);
-    Ok(())
+// What instructions work on.
+#[derive(Clone, Copy)]
+enum Family {
+    Control,
+    Memory,
+    Reference,
+}
+
+fn adds(alloc: Global, seq: &mut InstrSeqBuilder, family: Family) -> Result<bool, AllocError> {
+    match family {
+        Family::Control => {
+            control::add_all(alloc, seq)?;
+            Ok(are_rows(seq.instrs(), &control::ROWS))
+        }
+        Family::Memory => {
+            memory::add_all(seq)?;
+            Ok(are_rows(seq.instrs(), &memory::ROWS))
+        }
+        Family::Reference => {
+            reference::add_all(seq)?;
+            Ok(are_rows(seq.instrs(), &reference::ROWS))
+        }
+    }
+}
+
+fn adds_to_new(alloc: Global, family: Family) -> Result<bool, AllocError> {
+    let mut body = function(alloc)?;
+    adds(alloc, body.func_body(), family)
 }
 
 #[test]
-fn tables_and_memories(rt: HostRuntime) -> Result<(), Fail> {
-    let mut body = function(rt.alloc())?;
-    let seq = body.func_body();
-    memory::add_all(seq)?;
-    assert_rows(&rt, seq.instrs(), &memory::ROWS);
-    Ok(())
-}
-
-#[test]
-fn references(rt: HostRuntime) -> Result<(), Fail> {
-    let mut body = function(rt.alloc())?;
-    let seq = body.func_body();
-    reference::add_all(seq)?;
-    assert_rows(&rt, seq.instrs(), &reference::ROWS);
+fn calls(rt: HostRuntime) -> Result<(), Fail> {
+    for family in [Family::Control, Family::Memory, Family::Reference] {
+        assert!(rt; adds_to_new(rt.alloc(), family)?);
+    }
     Ok(())
 }

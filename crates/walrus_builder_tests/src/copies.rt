@@ -1,5 +1,5 @@
 //! Copies of instructions, sequences and constant expressions, and the text of a location.
-use crate::rows::{ARG, CALL, LOAD, LOCAL_TEE, UNREACHABLE, assert_rows};
+use crate::rows::{ARG, CALL, LOAD, LOCAL_TEE, Row, UNREACHABLE, are_rows};
 use std::alloc::{AllocError, Global};
 use std::test::Fail;
 use walrus_arena::{FunctionId, GlobalId, InstrSeqId, LocalId, MemoryId, TagId};
@@ -35,20 +35,21 @@ fn plain(alloc: Global) -> Result<Vec<(Instr, InstrLocId)>, AllocError> {
     ]?)
 }
 
+const PLAIN: [Row; 4] = [
+    (UNREACHABLE, 0, 0, 0),
+    (CALL, 3, 0, 0),
+    (LOCAL_TEE, 3, 0, 0),
+    (LOAD, 3, 1, 1),
+];
+
+fn are_copied(alloc: Global, instrs: &[(Instr, InstrLocId)]) -> Result<bool, AllocError> {
+    Ok(are_rows(copies(alloc, instrs)?.as_slice(), &PLAIN))
+}
+
 #[test]
 fn plain_instructions(rt: HostRuntime) -> Result<(), Fail> {
     let instrs = plain(rt.alloc())?;
-    let all = copies(rt.alloc(), instrs.as_slice())?;
-    assert_rows(
-        &rt,
-        all.as_slice(),
-        &[
-            (UNREACHABLE, 0, 0, 0),
-            (CALL, 3, 0, 0),
-            (LOCAL_TEE, 3, 0, 0),
-            (LOAD, 3, 1, 1),
-        ],
-    );
+    assert!(rt; are_copied(rt.alloc(), instrs.as_slice())?);
     Ok(())
 }
 
@@ -66,13 +67,6 @@ fn is_choice(instr: &Instr) -> bool {
         }
         _ => false,
     }
-}
-
-#[test]
-fn labels(rt: HostRuntime) -> Result<(), Fail> {
-    let copy = choice(rt.alloc())?.clone()?;
-    assert!(rt; is_choice(&copy));
-    Ok(())
 }
 
 fn each_clause() -> [TryTableCatch; 4] {
@@ -101,13 +95,6 @@ fn has_clauses(instr: &Instr) -> bool {
     }
 }
 
-#[test]
-fn clauses(rt: HostRuntime) -> Result<(), Fail> {
-    let copy = with_clauses(rt.alloc())?.clone()?;
-    assert!(rt; has_clauses(&copy));
-    Ok(())
-}
-
 fn each_part() -> [LegacyCatch; 3] {
     let tag = TagId::from_index(6);
     let handler = InstrSeqId::from_index(3);
@@ -133,10 +120,44 @@ fn has_parts(instr: &Instr) -> bool {
     }
 }
 
+// What an instruction holds a list of.
+#[derive(Clone, Copy)]
+enum List {
+    Labels,
+    Clauses,
+    Parts,
+}
+
+fn with_list(alloc: Global, list: List) -> Result<Instr, AllocError> {
+    match list {
+        List::Labels => choice(alloc),
+        List::Clauses => with_clauses(alloc),
+        List::Parts => with_parts(alloc),
+    }
+}
+
+fn has_list(instr: &Instr, list: List) -> bool {
+    match list {
+        List::Labels => is_choice(instr),
+        List::Clauses => has_clauses(instr),
+        List::Parts => has_parts(instr),
+    }
+}
+
+fn copies_list(instr: &Instr, list: List) -> Result<bool, AllocError> {
+    Ok(has_list(&instr.clone()?, list))
+}
+
+fn list_is_copied(alloc: Global, list: List) -> Result<bool, AllocError> {
+    let instr = with_list(alloc, list)?;
+    copies_list(&instr, list)
+}
+
 #[test]
-fn parts(rt: HostRuntime) -> Result<(), Fail> {
-    let copy = with_parts(rt.alloc())?.clone()?;
-    assert!(rt; has_parts(&copy));
+fn lists(rt: HostRuntime) -> Result<(), Fail> {
+    for list in [List::Labels, List::Clauses, List::Parts] {
+        assert!(rt; list_is_copied(rt.alloc(), list)?);
+    }
     Ok(())
 }
 
@@ -207,9 +228,12 @@ fn single_constants(rt: HostRuntime) -> Result<(), Fail> {
     Ok(())
 }
 
+fn is_written(alloc: Global, place: InstrLocId, text: &str) -> Result<bool, AllocError> {
+    Ok(format!(in alloc; "{place:?}")?.as_str() == text)
+}
+
 #[test]
 fn text_of_a_location(rt: HostRuntime) -> Result<(), Fail> {
-    let text = format!(in rt.alloc(); "{:?}", InstrLocId::new(5))?;
-    assert_eq!(rt; text.as_str(), "InstrLocId(5)");
+    assert!(rt; is_written(rt.alloc(), InstrLocId::new(5), "InstrLocId(5)")?);
     Ok(())
 }

@@ -1,7 +1,6 @@
 //! Functions that are built, and their sequences.
 use crate::common::{PLAIN, function};
 use std::alloc::{AllocError, Global};
-use std::process::Abort;
 use std::test::Fail;
 use walrus_arena::InstrSeqId;
 use walrus_builder::{FunctionBuilder, InstrSeqBuilder};
@@ -14,25 +13,24 @@ fn takes_name(body: &mut FunctionBuilder, text: &str) -> Result<bool, AllocError
     Ok(matches!(&body.name, Some(name) if name.as_str() == text))
 }
 
+fn takes_names(body: &mut FunctionBuilder) -> Result<bool, AllocError> {
+    Ok(body.name.is_none() && takes_name(body, "first")? && takes_name(body, "n")?)
+}
+
 #[test]
 fn names(rt: HostRuntime) -> Result<(), Fail> {
     let mut body = function(rt.alloc())?;
-    assert!(rt; body.name.is_none());
-    assert!(rt; takes_name(&mut body, "first")?);
-    assert!(rt; takes_name(&mut body, "n")?);
+    assert!(rt; takes_names(&mut body)?);
     Ok(())
 }
 
 // What is added to a new sequence stands there alone.
-fn fills_new(
-    rt: &impl Abort,
-    body: &mut FunctionBuilder,
-    id: InstrSeqId,
-) -> Result<(), AllocError> {
-    assert!(rt; id.index() < body.seqs().len());
-    assert!(rt; has_return_alone(body.instr_seq(id))?);
-    assert!(rt; is_empty(body.func_body()));
-    Ok(())
+fn fills_new(body: &mut FunctionBuilder, id: InstrSeqId) -> Result<bool, AllocError> {
+    if id.index() >= body.seqs().len() {
+        return Ok(false);
+    }
+    let is_filled = has_return_alone(body.instr_seq(id))?;
+    Ok(is_filled && is_empty(body.func_body()))
 }
 
 fn has_return_alone(seq: &mut InstrSeqBuilder) -> Result<bool, AllocError> {
@@ -53,12 +51,15 @@ fn has_two(body: &FunctionBuilder, second: InstrSeqId) -> bool {
     second.index() == 1 && body.seqs().len() == 2
 }
 
+fn dangles(body: &mut FunctionBuilder) -> Result<bool, AllocError> {
+    let id = adds_second(body)?;
+    Ok(has_two(body, id) && is_empty(body.func_body()) && fills_new(body, id)?)
+}
+
 #[test]
 fn dangling(rt: HostRuntime) -> Result<(), Fail> {
     let mut body = function(rt.alloc())?;
-    let id = adds_second(&mut body)?;
-    assert!(rt; has_two(&body, id) && is_empty(body.func_body()));
-    fills_new(&rt, &mut body, id)?;
+    assert!(rt; dangles(&mut body)?);
     Ok(())
 }
 
@@ -73,12 +74,16 @@ fn are_three(instrs: &[(Instr, InstrLocId)], place: InstrLocId) -> bool {
     matches!(instrs, [(Instr::Drop, _), (Instr::Return, _), (Instr::RefEq, at)] if *at == place)
 }
 
+fn writes_list(seq: &mut InstrSeqBuilder) -> Result<bool, AllocError> {
+    let place = InstrLocId::new(5);
+    add_three(seq, place)?;
+    Ok(are_three(seq.instrs(), place))
+}
+
 #[test]
 fn list_for_writing(rt: HostRuntime) -> Result<(), Fail> {
     let mut body = function(rt.alloc())?;
-    let place = InstrLocId::new(5);
-    add_three(body.func_body(), place)?;
-    assert!(rt; are_three(body.func_body().instrs(), place));
+    assert!(rt; writes_list(body.func_body())?);
     Ok(())
 }
 
@@ -108,14 +113,6 @@ fn next_index(types: &mut ModuleTypes) -> Result<usize, AllocError> {
     Ok(types.add(&[ValType::F64], &[])?.index())
 }
 
-#[test]
-fn new_functions(rt: HostRuntime) -> Result<(), Fail> {
-    let mut types = ModuleTypes::new(rt.alloc());
-    assert!(rt; begin_alike(rt.alloc(), &mut types)?);
-    assert!(rt; next_index(&mut types)? == 3);
-    Ok(())
-}
-
 // Whether the block type is this.
 fn makes(
     types: &mut ModuleTypes,
@@ -124,13 +121,6 @@ fn makes(
     wanted: InstrSeqType,
 ) -> Result<bool, AllocError> {
     Ok(InstrSeqType::new(types, params, results)? == wanted)
-}
-
-#[test]
-fn new_block_types(rt: HostRuntime) -> Result<(), Fail> {
-    let mut types = ModuleTypes::new(rt.alloc());
-    assert!(rt; makes_simple(&mut types)? && has_no_type(&types));
-    Ok(())
 }
 
 // Types without parameters and of at most one result need no type of the table.
@@ -163,11 +153,32 @@ fn has_both(types: &ModuleTypes, ty: InstrSeqType) -> bool {
         && InstrSeqType::existing(types, &[], &[ValType::F64]) == Some(one)
 }
 
+// What is asked of a new table of types.
+#[derive(Clone, Copy)]
+enum Ask {
+    Functions,
+    Simple,
+    Table,
+}
+
+fn is_so(alloc: Global, types: &mut ModuleTypes, ask: Ask) -> Result<bool, AllocError> {
+    match ask {
+        Ask::Functions => Ok(begin_alike(alloc, types)? && next_index(types)? == 3),
+        Ask::Simple => Ok(makes_simple(types)? && has_no_type(types)),
+        Ask::Table => Ok(has_none(types) && takes_added(types)?),
+    }
+}
+
+fn is_so_of_new(alloc: Global, ask: Ask) -> Result<bool, AllocError> {
+    let mut types = ModuleTypes::new(alloc);
+    is_so(alloc, &mut types, ask)
+}
+
 #[test]
-fn block_types_of_the_table(rt: HostRuntime) -> Result<(), Fail> {
-    let mut types = ModuleTypes::new(rt.alloc());
-    assert!(rt; has_none(&types));
-    assert!(rt; takes_added(&mut types)?);
+fn types_of_functions_and_blocks(rt: HostRuntime) -> Result<(), Fail> {
+    for ask in [Ask::Functions, Ask::Simple, Ask::Table] {
+        assert!(rt; is_so_of_new(rt.alloc(), ask)?);
+    }
     Ok(())
 }
 
@@ -228,10 +239,18 @@ fn is_product(expr: &ConstExpr) -> bool {
     }
 }
 
+fn product(alloc: Global) -> Result<ConstExpr, AllocError> {
+    let ops = vec![in alloc; ConstOp::I64Const(1), ConstOp::I64Const(2), ConstOp::I64Mul]?;
+    Ok(ConstExpr::from_ops(ops))
+}
+
+fn copies_product(expr: &ConstExpr) -> Result<bool, AllocError> {
+    Ok(is_product(&expr.clone()?))
+}
+
 #[test]
 fn constant_clones(rt: HostRuntime) -> Result<(), Fail> {
-    let ops = vec![in rt.alloc(); ConstOp::I64Const(1), ConstOp::I64Const(2), ConstOp::I64Mul]?;
-    let expr = ConstExpr::from_ops(ops);
-    assert!(rt; is_product(&expr.clone()?));
+    let expr = product(rt.alloc())?;
+    assert!(rt; copies_product(&expr)?);
     Ok(())
 }

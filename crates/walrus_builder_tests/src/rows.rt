@@ -1,5 +1,4 @@
 //! Instructions as rows of a table.
-use std::process::Abort;
 use walrus_instr::{
     AtomicOp, AtomicWidth, BinaryOp, Bits128, Instr, InstrLocId, LoadKind, LoadSimdKind, MemArg,
     StoreKind, TernaryOp, UnaryOp, Value,
@@ -302,10 +301,10 @@ fn row(instr: &Instr) -> Option<Row> {
 }
 
 /// Just these instructions, without locations.
-pub fn assert_rows(rt: &impl Abort, instrs: &[(Instr, InstrLocId)], rows: &[Row]) {
-    assert!(rt; instrs.len() == rows.len());
+pub fn are_rows(instrs: &[(Instr, InstrLocId)], rows: &[Row]) -> bool {
+    let mut agree = instrs.len() == rows.len();
     for ((instr, place), wanted) in instrs.iter().zip(rows) {
-        assert!(rt; place.is_default());
-        assert!(rt; row(instr) == Some(*wanted));
+        agree &= place.is_default() && row(instr) == Some(*wanted);
     }
+    agree
 }

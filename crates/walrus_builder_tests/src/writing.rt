@@ -1,7 +1,6 @@
 //! Sequences that are written: lent, filled, and added to with locations.
 use crate::common::{PLAIN, function};
 use std::alloc::{AllocError, Global};
-use std::process::Abort;
 use std::test::Fail;
 use walrus_arena::InstrSeqId;
 use walrus_builder::FunctionBuilder;
@@ -45,22 +44,14 @@ fn is_second(seqs: &[InstrSeq], places: &[u32], end: u32) -> bool {
 
 const LONG: InstrSeqType = InstrSeqType::Simple(Some(ValType::I64));
 
-fn write(rt: &impl Abort, body: &mut FunctionBuilder, id: InstrSeqId) -> Result<(), AllocError> {
-    assert!(rt; id.index() < body.seqs().len());
+fn write(body: &mut FunctionBuilder, id: InstrSeqId) -> Result<(), AllocError> {
+    if id.index() >= body.seqs().len() {
+        return Err(AllocError);
+    }
     let seq = body.seq_mut(id);
     seq.ty = LONG;
     seq.end = InstrLocId::new(9);
     seq.instrs.push((Instr::Drop, InstrLocId::new(7)))?;
-    Ok(())
-}
-
-#[test]
-fn lent_for_writing(rt: HostRuntime) -> Result<(), Fail> {
-    let mut body = function(rt.alloc())?;
-    let first = add_two(&mut body)?;
-    write(&rt, &mut body, first)?;
-    assert!(rt; is_second(body.seqs(), &[7], 9));
-    assert!(rt; matches!(body.seqs(), [_, seq, _] if seq.ty == LONG));
     Ok(())
 }
 
@@ -71,38 +62,73 @@ fn two(alloc: Global) -> Result<Vec<(Instr, InstrLocId)>, AllocError> {
     ]?)
 }
 
-#[test]
-fn filled(rt: HostRuntime) -> Result<(), Fail> {
-    let mut body = function(rt.alloc())?;
-    let first = add_two(&mut body)?;
-    let instrs = two(rt.alloc())?;
-    assert!(rt; first.index() < body.seqs().len());
-    body.fill(first, instrs, InstrLocId::new(5));
-    assert!(rt; is_second(body.seqs(), &[3, 4], 5));
+fn fill(alloc: Global, body: &mut FunctionBuilder, id: InstrSeqId) -> Result<(), AllocError> {
+    let instrs = two(alloc)?;
+    if id.index() < body.seqs().len() {
+        body.fill(id, instrs, InstrLocId::new(5));
+    }
     Ok(())
 }
 
-fn append(rt: &impl Abort, body: &mut FunctionBuilder, id: InstrSeqId) -> Result<(), AllocError> {
-    assert!(rt; id.index() < body.seqs().len());
+fn are_appended(instrs: &[(Instr, InstrLocId)]) -> bool {
+    matches!(
+        instrs,
+        [(Instr::Drop, _), (Instr::Return, _), (Instr::RefEq, _)]
+    )
+}
+
+fn appends(body: &mut FunctionBuilder, id: InstrSeqId) -> Result<bool, AllocError> {
+    if id.index() >= body.seqs().len() {
+        return Ok(false);
+    }
     let seq = body.instr_seq(id);
     seq.instr_with_location(Instr::Drop, InstrLocId::new(8))?;
     seq.return_()?;
     seq.instr_with_location(Instr::RefEq, InstrLocId::new(6))?;
-    assert!(rt;
-        matches!(
-            seq.instrs(),
-            [(Instr::Drop, _), (Instr::Return, _), (Instr::RefEq, _)]
-        )
-    );
-    Ok(())
+    Ok(are_appended(seq.instrs()))
+}
+
+// Ways to write a sequence.
+#[derive(Clone, Copy)]
+enum Way {
+    Lent,
+    Filled,
+    Appended,
+}
+
+// Whether the second of three sequences is written so, and no other.
+fn is_written(alloc: Global, body: &mut FunctionBuilder, way: Way) -> Result<bool, AllocError> {
+    let first = add_two(body)?;
+    match way {
+        Way::Lent => {
+            write(body, first)?;
+            Ok(is_second(body.seqs(), &[7], 9) && is_long(body.seqs()))
+        }
+        Way::Filled => {
+            fill(alloc, body, first)?;
+            Ok(is_second(body.seqs(), &[3, 4], 5))
+        }
+        Way::Appended => {
+            let is_appended = appends(body, first)?;
+            Ok(is_appended && is_second(body.seqs(), &[8, u32::MAX, 6], u32::MAX))
+        }
+    }
+}
+
+fn is_long(seqs: &[InstrSeq]) -> bool {
+    matches!(seqs, [_, seq, _] if seq.ty == LONG)
+}
+
+fn writes(alloc: Global, way: Way) -> Result<bool, AllocError> {
+    let mut body = function(alloc)?;
+    is_written(alloc, &mut body, way)
 }
 
 #[test]
-fn appended_with_locations(rt: HostRuntime) -> Result<(), Fail> {
-    let mut body = function(rt.alloc())?;
-    let first = add_two(&mut body)?;
-    append(&rt, &mut body, first)?;
-    assert!(rt; is_second(body.seqs(), &[8, u32::MAX, 6], u32::MAX));
+fn sequences_are_written(rt: HostRuntime) -> Result<(), Fail> {
+    for way in [Way::Lent, Way::Filled, Way::Appended] {
+        assert!(rt; writes(rt.alloc(), way)?);
+    }
     Ok(())
 }
 
