@@ -14,16 +14,16 @@ use Rattle.walrus_operator_writer.proofs.Appends.{appends_on}
 use Rattle.walrus_operator_writer.proofs.Keeps.{keeps_all, keeps_front}
 use Rattle.walrus_tree.specs.walrus_walks.walrus_instr.declared.instr.Instr.{Instr}
 use Rattle.walrus_tree.specs.walrus_walks.walrus_instr.declared.instr.Instr.TheVariants as instrs
-use Rattle.walrus_pairing.specs.walrus_access_codes.walrus_instr.declared.instr.Value.{Value}
+use Rattle.walrus_pairing.specs.walrus_operator_codes.walrus_instr.declared.instr.Value.{Value}
 use Rattle.walrus_tree.specs.walrus_walks.walrus_instr.declared.seq.InstrLocId.{InstrLocId}
 use Rattle.walrus_tree.specs.walrus_walks.walrus_instr.declared.seq.InstrSeq.{InstrSeq}
 use Rattle.walrus_tree.specs.walrus_walks.walrus_instr.declared.seq.InstrSeqType.{InstrSeqType}
 use Rattle.wasm_immediates.specs.declared.block_type.BlockType.{BlockType}
 use Rattle.walrus_tree.specs.walrus_walks.walrus_instr.walrus_forms.declared.value.ValType.{ValType}
-use Rattle.walrus_pairing.specs.walrus_access_codes.walrus_instr.declared.memory.MemArg.{MemArg}
-use Rattle.walrus_pairing.specs.walrus_access_codes.walrus_instr.declared.memory.LoadKind.{LoadKind}
-use Rattle.walrus_pairing.specs.walrus_access_codes.walrus_instr.declared.memory.StoreKind.{StoreKind}
-use Rattle.walrus_pairing.specs.walrus_access_codes.Access.{load_code, store_code}
+use Rattle.walrus_pairing.specs.walrus_operator_codes.walrus_instr.declared.memory.MemArg.{MemArg}
+use Rattle.walrus_pairing.specs.walrus_operator_codes.walrus_instr.declared.memory.LoadKind.{LoadKind}
+use Rattle.walrus_pairing.specs.walrus_operator_codes.walrus_instr.declared.memory.StoreKind.{StoreKind}
+use Rattle.walrus_pairing.specs.walrus_operator_codes.Access.{load_code, store_code}
 use Rattle.walrus_pairing.specs.walrus_operator_codes.Runs.{byte}
 use Rattle.walrus_index_maps.specs.declared.space.Space.{Space as Named}
 use Rattle.walrus_index_maps.specs.declared.space.Space.TheVariants as spaces

@@ -1,5 +1,7 @@
 pub mod Runs
 pub mod Unary
+pub mod Binary
+pub mod Ternary
 pub mod Access
 -- Passed on to crates above, which then list this one alone.
 pub use Rattle.walrus_instr.specs as walrus_instr

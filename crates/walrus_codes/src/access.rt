@@ -3,7 +3,7 @@
 ghost use Rattle.std.specs.Prelude.{◌≡◌, ◌<◌};
 ghost use Rattle.walrus_codes.specs.Access.{load_code, store_code, simd_code, simd_lane, width_place, first_code, rmw_code, cmpxchg_code};
 
-use crate::code::{atomic, byte, vector};
+use crate::code::atomic;
 use walrus_instr::{AtomicOp, AtomicWidth, ExtendedLoad, LoadKind, LoadSimdKind, StoreKind};
 use wasm_operators::OpCode;
 
@@ -12,58 +12,58 @@ pub fn code_of_load(kind: LoadKind) -> OpCode
     ensures { result ≡ load_code kind }
 {
     match kind {
-        LoadKind::I32 { atomic: false } => byte(0x28),
-        LoadKind::I64 { atomic: false } => byte(0x29),
-        LoadKind::F32 => byte(0x2a),
-        LoadKind::F64 => byte(0x2b),
+        LoadKind::I32 { atomic: false } => code!(0, 0x28),
+        LoadKind::I64 { atomic: false } => code!(0, 0x29),
+        LoadKind::F32 => code!(0, 0x2a),
+        LoadKind::F64 => code!(0, 0x2b),
         LoadKind::I32_8 {
             kind: ExtendedLoad::SignExtend,
-        } => byte(0x2c),
+        } => code!(0, 0x2c),
         LoadKind::I32_8 {
             kind: ExtendedLoad::ZeroExtend,
-        } => byte(0x2d),
+        } => code!(0, 0x2d),
         LoadKind::I32_16 {
             kind: ExtendedLoad::SignExtend,
-        } => byte(0x2e),
+        } => code!(0, 0x2e),
         LoadKind::I32_16 {
             kind: ExtendedLoad::ZeroExtend,
-        } => byte(0x2f),
+        } => code!(0, 0x2f),
         LoadKind::I64_8 {
             kind: ExtendedLoad::SignExtend,
-        } => byte(0x30),
+        } => code!(0, 0x30),
         LoadKind::I64_8 {
             kind: ExtendedLoad::ZeroExtend,
-        } => byte(0x31),
+        } => code!(0, 0x31),
         LoadKind::I64_16 {
             kind: ExtendedLoad::SignExtend,
-        } => byte(0x32),
+        } => code!(0, 0x32),
         LoadKind::I64_16 {
             kind: ExtendedLoad::ZeroExtend,
-        } => byte(0x33),
+        } => code!(0, 0x33),
         LoadKind::I64_32 {
             kind: ExtendedLoad::SignExtend,
-        } => byte(0x34),
+        } => code!(0, 0x34),
         LoadKind::I64_32 {
             kind: ExtendedLoad::ZeroExtend,
-        } => byte(0x35),
-        LoadKind::V128 => vector(0),
-        LoadKind::I32 { atomic: true } => atomic(16),
-        LoadKind::I64 { atomic: true } => atomic(17),
+        } => code!(0, 0x35),
+        LoadKind::V128 => code!(0xfd, 0),
+        LoadKind::I32 { atomic: true } => code!(0xfe, 16),
+        LoadKind::I64 { atomic: true } => code!(0xfe, 17),
         LoadKind::I32_8 {
             kind: ExtendedLoad::ZeroExtendAtomic,
-        } => atomic(18),
+        } => code!(0xfe, 18),
         LoadKind::I32_16 {
             kind: ExtendedLoad::ZeroExtendAtomic,
-        } => atomic(19),
+        } => code!(0xfe, 19),
         LoadKind::I64_8 {
             kind: ExtendedLoad::ZeroExtendAtomic,
-        } => atomic(20),
+        } => code!(0xfe, 20),
         LoadKind::I64_16 {
             kind: ExtendedLoad::ZeroExtendAtomic,
-        } => atomic(21),
+        } => code!(0xfe, 21),
         LoadKind::I64_32 {
             kind: ExtendedLoad::ZeroExtendAtomic,
-        } => atomic(22),
+        } => code!(0xfe, 22),
     }
 }
 
@@ -72,23 +72,23 @@ pub fn code_of_store(kind: StoreKind) -> OpCode
     ensures { result ≡ store_code kind }
 {
     match kind {
-        StoreKind::I32 { atomic: false } => byte(0x36),
-        StoreKind::I64 { atomic: false } => byte(0x37),
-        StoreKind::F32 => byte(0x38),
-        StoreKind::F64 => byte(0x39),
-        StoreKind::I32_8 { atomic: false } => byte(0x3a),
-        StoreKind::I32_16 { atomic: false } => byte(0x3b),
-        StoreKind::I64_8 { atomic: false } => byte(0x3c),
-        StoreKind::I64_16 { atomic: false } => byte(0x3d),
-        StoreKind::I64_32 { atomic: false } => byte(0x3e),
-        StoreKind::V128 => vector(11),
-        StoreKind::I32 { atomic: true } => atomic(23),
-        StoreKind::I64 { atomic: true } => atomic(24),
-        StoreKind::I32_8 { atomic: true } => atomic(25),
-        StoreKind::I32_16 { atomic: true } => atomic(26),
-        StoreKind::I64_8 { atomic: true } => atomic(27),
-        StoreKind::I64_16 { atomic: true } => atomic(28),
-        StoreKind::I64_32 { atomic: true } => atomic(29),
+        StoreKind::I32 { atomic: false } => code!(0, 0x36),
+        StoreKind::I64 { atomic: false } => code!(0, 0x37),
+        StoreKind::F32 => code!(0, 0x38),
+        StoreKind::F64 => code!(0, 0x39),
+        StoreKind::I32_8 { atomic: false } => code!(0, 0x3a),
+        StoreKind::I32_16 { atomic: false } => code!(0, 0x3b),
+        StoreKind::I64_8 { atomic: false } => code!(0, 0x3c),
+        StoreKind::I64_16 { atomic: false } => code!(0, 0x3d),
+        StoreKind::I64_32 { atomic: false } => code!(0, 0x3e),
+        StoreKind::V128 => code!(0xfd, 11),
+        StoreKind::I32 { atomic: true } => code!(0xfe, 23),
+        StoreKind::I64 { atomic: true } => code!(0xfe, 24),
+        StoreKind::I32_8 { atomic: true } => code!(0xfe, 25),
+        StoreKind::I32_16 { atomic: true } => code!(0xfe, 26),
+        StoreKind::I64_8 { atomic: true } => code!(0xfe, 27),
+        StoreKind::I64_16 { atomic: true } => code!(0xfe, 28),
+        StoreKind::I64_32 { atomic: true } => code!(0xfe, 29),
     }
 }
 
@@ -97,26 +97,26 @@ pub fn code_of_simd(kind: LoadSimdKind) -> OpCode
     ensures { result ≡ simd_code kind }
 {
     match kind {
-        LoadSimdKind::V128Load8x8S => vector(1),
-        LoadSimdKind::V128Load8x8U => vector(2),
-        LoadSimdKind::V128Load16x4S => vector(3),
-        LoadSimdKind::V128Load16x4U => vector(4),
-        LoadSimdKind::V128Load32x2S => vector(5),
-        LoadSimdKind::V128Load32x2U => vector(6),
-        LoadSimdKind::Splat8 => vector(7),
-        LoadSimdKind::Splat16 => vector(8),
-        LoadSimdKind::Splat32 => vector(9),
-        LoadSimdKind::Splat64 => vector(10),
-        LoadSimdKind::V128Load32Zero => vector(92),
-        LoadSimdKind::V128Load64Zero => vector(93),
-        LoadSimdKind::V128Load8Lane(_) => vector(84),
-        LoadSimdKind::V128Load16Lane(_) => vector(85),
-        LoadSimdKind::V128Load32Lane(_) => vector(86),
-        LoadSimdKind::V128Load64Lane(_) => vector(87),
-        LoadSimdKind::V128Store8Lane(_) => vector(88),
-        LoadSimdKind::V128Store16Lane(_) => vector(89),
-        LoadSimdKind::V128Store32Lane(_) => vector(90),
-        LoadSimdKind::V128Store64Lane(_) => vector(91),
+        LoadSimdKind::V128Load8x8S => code!(0xfd, 1),
+        LoadSimdKind::V128Load8x8U => code!(0xfd, 2),
+        LoadSimdKind::V128Load16x4S => code!(0xfd, 3),
+        LoadSimdKind::V128Load16x4U => code!(0xfd, 4),
+        LoadSimdKind::V128Load32x2S => code!(0xfd, 5),
+        LoadSimdKind::V128Load32x2U => code!(0xfd, 6),
+        LoadSimdKind::Splat8 => code!(0xfd, 7),
+        LoadSimdKind::Splat16 => code!(0xfd, 8),
+        LoadSimdKind::Splat32 => code!(0xfd, 9),
+        LoadSimdKind::Splat64 => code!(0xfd, 10),
+        LoadSimdKind::V128Load32Zero => code!(0xfd, 92),
+        LoadSimdKind::V128Load64Zero => code!(0xfd, 93),
+        LoadSimdKind::V128Load8Lane(_) => code!(0xfd, 84),
+        LoadSimdKind::V128Load16Lane(_) => code!(0xfd, 85),
+        LoadSimdKind::V128Load32Lane(_) => code!(0xfd, 86),
+        LoadSimdKind::V128Load64Lane(_) => code!(0xfd, 87),
+        LoadSimdKind::V128Store8Lane(_) => code!(0xfd, 88),
+        LoadSimdKind::V128Store16Lane(_) => code!(0xfd, 89),
+        LoadSimdKind::V128Store32Lane(_) => code!(0xfd, 90),
+        LoadSimdKind::V128Store64Lane(_) => code!(0xfd, 91),
     }
 }
 

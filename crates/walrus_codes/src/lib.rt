@@ -2,6 +2,16 @@
 //! instructions, memory instructions, vector instructions; the proposal on threads).
 #![tactic(auto)]
 
+// A code, written out: a call for each would be a good part of what the proofs of the large matches take.
+macro_rules! code {
+    ($prefix:literal, $number:literal) => {
+        OpCode {
+            prefix: $prefix,
+            number: $number,
+        }
+    };
+}
+
 mod access;
 mod code;
 mod unary;
@@ -15,15 +25,11 @@ pub use unary::{code_of_unary, lane_of_unary};
 // Passed on to crates above, which then list this one alone.
 pub mod instr {
     pub use walrus_instr::{
-        AtomicOp, AtomicWidth, BinaryOp, Bits128, ExtendedLoad, Instr, LoadKind, LoadSimdKind,
-        MemArg, StoreKind, TernaryOp, UnaryOp, Value,
+        AtomicOp, AtomicWidth, BinaryOp, ExtendedLoad, LoadKind, LoadSimdKind, StoreKind,
+        TernaryOp, UnaryOp,
     };
 }
 
 pub mod operator_table {
     pub use wasm_operators::OpCode;
-}
-
-pub mod type_table {
-    pub use walrus_instr::type_table::{ModuleLocals, ValType};
 }

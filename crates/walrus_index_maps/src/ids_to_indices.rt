@@ -54,8 +54,7 @@ impl IdsToIndices {
         ensures given { IfOk result (λ number. (number ≡ (indices self.old).types.given) × (indices self.new ≡ record (indices self.old) { types = next_numbered id (indices self.old).types })) }
         ensures refused { OnErr result (indices self.new ≡ indices self.old) }
     {
-        let number = self.types.push(id)?;
-        Ok(number)
+        self.types.push(id)
     }
 
     /// The number of a type, if it has one.
@@ -76,8 +75,7 @@ impl IdsToIndices {
         ensures given { IfOk result (λ number. (number ≡ (indices self.old).functions.given) × (indices self.new ≡ record (indices self.old) { functions = next_numbered id (indices self.old).functions })) }
         ensures refused { OnErr result (indices self.new ≡ indices self.old) }
     {
-        let number = self.funcs.push(id)?;
-        Ok(number)
+        self.funcs.push(id)
     }
 
     /// The number of a function, if it has one.
@@ -98,8 +96,7 @@ impl IdsToIndices {
         ensures given { IfOk result (λ number. (number ≡ (indices self.old).tables.given) × (indices self.new ≡ record (indices self.old) { tables = next_numbered id (indices self.old).tables })) }
         ensures refused { OnErr result (indices self.new ≡ indices self.old) }
     {
-        let number = self.tables.push(id)?;
-        Ok(number)
+        self.tables.push(id)
     }
 
     /// The number of a table, if it has one.
@@ -120,8 +117,7 @@ impl IdsToIndices {
         ensures given { IfOk result (λ number. (number ≡ (indices self.old).memories.given) × (indices self.new ≡ record (indices self.old) { memories = next_numbered id (indices self.old).memories })) }
         ensures refused { OnErr result (indices self.new ≡ indices self.old) }
     {
-        let number = self.memories.push(id)?;
-        Ok(number)
+        self.memories.push(id)
     }
 
     /// The number of a memory, if it has one.
@@ -142,8 +138,7 @@ impl IdsToIndices {
         ensures given { IfOk result (λ number. (number ≡ (indices self.old).tags.given) × (indices self.new ≡ record (indices self.old) { tags = next_numbered id (indices self.old).tags })) }
         ensures refused { OnErr result (indices self.new ≡ indices self.old) }
     {
-        let number = self.tags.push(id)?;
-        Ok(number)
+        self.tags.push(id)
     }
 
     /// The number of a tag, if it has one.
@@ -164,8 +159,7 @@ impl IdsToIndices {
         ensures given { IfOk result (λ number. (number ≡ (indices self.old).globals.given) × (indices self.new ≡ record (indices self.old) { globals = next_numbered id (indices self.old).globals })) }
         ensures refused { OnErr result (indices self.new ≡ indices self.old) }
     {
-        let number = self.globals.push(id)?;
-        Ok(number)
+        self.globals.push(id)
     }
 
     /// The number of a global, if it has one.
@@ -186,8 +180,7 @@ impl IdsToIndices {
         ensures given { IfOk result (λ number. (number ≡ (indices self.old).elements.given) × (indices self.new ≡ record (indices self.old) { elements = next_numbered id (indices self.old).elements })) }
         ensures refused { OnErr result (indices self.new ≡ indices self.old) }
     {
-        let number = self.elements.push(id)?;
-        Ok(number)
+        self.elements.push(id)
     }
 
     /// The number of an element segment, if it has one.

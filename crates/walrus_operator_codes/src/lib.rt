@@ -2,30 +2,30 @@
 //! Specification, binary format: numeric instructions, vector instructions; the proposal on wide arithmetic).
 #![tactic(auto)]
 
+// A code, written out: a call for each would be a good part of what the proofs of the large matches take.
+macro_rules! code {
+    ($prefix:literal, $number:literal) => {
+        OpCode {
+            prefix: $prefix,
+            number: $number,
+        }
+    };
+}
+
+mod access;
 mod binary;
 mod numeric;
 mod table;
 mod ternary;
 mod unary;
 
+pub use access::{cmpxchg_of, load_of, rmw_of, simd_of, store_of};
 pub use binary::{binary_of, code_of_binary, lane_of_binary};
 pub use ternary::{code_of_ternary, ternary_of};
 pub use unary::unary_of;
 
 // Passed on to crates above, which then list this one alone.
-pub use walrus_codes::{atomic, bulk, byte, code_of_unary, lane_of_unary, object, pick, vector};
-
-pub mod instr {
-    pub use walrus_codes::instr::{
-        AtomicOp, AtomicWidth, Bits128, ExtendedLoad, Instr, LoadKind, LoadSimdKind, MemArg,
-        StoreKind, Value,
-    };
-}
-
-pub mod operator_table {
-    pub use walrus_codes::operator_table::OpCode;
-}
-
-pub mod type_table {
-    pub use walrus_codes::type_table::{ModuleLocals, ValType};
-}
+pub use walrus_codes::{
+    atomic, byte, code_of_cmpxchg, code_of_load, code_of_rmw, code_of_simd, code_of_store,
+    code_of_unary, lane_of_simd, lane_of_unary, object,
+};

@@ -1,8 +1,8 @@
 //! Numeric operators by their codes, whatever the count of their operands.
 ghost use Rattle.std.specs.Prelude.{◌≡◌};
 ghost use Rattle.walrus_codes.specs.Unary.{bare_unary_at};
-ghost use Rattle.walrus_operator_codes.specs.Binary.{bare_binary_at};
-ghost use Rattle.walrus_operator_codes.specs.Ternary.{ternary_at};
+ghost use Rattle.walrus_codes.specs.Binary.{bare_binary_at};
+ghost use Rattle.walrus_codes.specs.Ternary.{ternary_at};
 ghost use Rattle.walrus_operator_codes.specs.Numeric.{entry_at, unary, binary, ternary};
 
 use crate::table::{BULK, BYTES, VECTORS};

@@ -1,11 +1,10 @@
 //! Codes of the operators of three operands (Core Specification, binary format: vector instructions).
 ghost use Rattle.std.specs.Prelude.{◌≡◌};
-ghost use Rattle.walrus_operator_codes.specs.Ternary.{ternary_at, ternary_code};
+ghost use Rattle.walrus_codes.specs.Ternary.{ternary_at, ternary_code};
 
 use crate::numeric::{Numeric, numeric_of};
 use walrus_codes::instr::TernaryOp;
 use walrus_codes::operator_table::OpCode;
-use walrus_codes::vector;
 
 /// The operator of three operands that has this code, if one has.
 pub fn ternary_of(code: OpCode) -> Option<TernaryOp>
@@ -22,14 +21,14 @@ pub fn code_of_ternary(op: TernaryOp) -> OpCode
     ensures { result ≡ ternary_code op }
 {
     match op {
-        TernaryOp::F32x4RelaxedMadd => vector(261),
-        TernaryOp::F32x4RelaxedNmadd => vector(262),
-        TernaryOp::F64x2RelaxedMadd => vector(263),
-        TernaryOp::F64x2RelaxedNmadd => vector(264),
-        TernaryOp::I8x16RelaxedLaneselect => vector(265),
-        TernaryOp::I16x8RelaxedLaneselect => vector(266),
-        TernaryOp::I32x4RelaxedLaneselect => vector(267),
-        TernaryOp::I64x2RelaxedLaneselect => vector(268),
-        TernaryOp::I32x4RelaxedDotI8x16I7x16AddS => vector(275),
+        TernaryOp::F32x4RelaxedMadd => code!(0xfd, 261),
+        TernaryOp::F32x4RelaxedNmadd => code!(0xfd, 262),
+        TernaryOp::F64x2RelaxedMadd => code!(0xfd, 263),
+        TernaryOp::F64x2RelaxedNmadd => code!(0xfd, 264),
+        TernaryOp::I8x16RelaxedLaneselect => code!(0xfd, 265),
+        TernaryOp::I16x8RelaxedLaneselect => code!(0xfd, 266),
+        TernaryOp::I32x4RelaxedLaneselect => code!(0xfd, 267),
+        TernaryOp::I64x2RelaxedLaneselect => code!(0xfd, 268),
+        TernaryOp::I32x4RelaxedDotI8x16I7x16AddS => code!(0xfd, 275),
     }
 }

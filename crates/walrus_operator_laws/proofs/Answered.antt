@@ -13,7 +13,7 @@ use Rattle.walrus_pairing.specs.walrus_instr.declared.instr.Instr.TheVariants as
 use Rattle.walrus_pairing.specs.walrus_operators.declared.immediates.Immediates.{Immediates}
 use Rattle.walrus_pairing.specs.walrus_operators.declared.immediates.Immediates.TheVariants as imm
 use Rattle.walrus_pairing.specs.walrus_operators.Immediates.{items_of, kind_is}
-use Rattle.walrus_pairing.specs.walrus_access_codes.Access.{simd_at}
+use Rattle.walrus_pairing.specs.walrus_operator_codes.Access.{simd_at}
 use Rattle.walrus_pairing.specs.declared.error.PairError.TheVariants as errors
 use Rattle.walrus_pairing.specs.Looks.{Look, Or, ◌>>=◌, found}
 use Rattle.walrus_pairing.specs.Types.{read_heap, read_value, named}

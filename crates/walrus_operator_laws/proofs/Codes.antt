@@ -19,7 +19,7 @@ use Rattle.walrus_pairing.specs.walrus_operator_codes.Runs.{Run, run, in_runs}
 use Rattle.walrus_pairing.specs.walrus_operator_codes.Unary.{unary_bytes, unary_bulks, low_unary_vectors, high_unary_vectors, unary_lanes, unary_at, unary_code, unary_lane}
 use Rattle.walrus_pairing.specs.walrus_operator_codes.Binary.{binary_bytes, binary_bulks, low_binary_vectors, high_binary_vectors, binary_lanes, binary_at, binary_code, binary_lane}
 use Rattle.walrus_pairing.specs.walrus_operator_codes.Ternary.{ternary_vectors, ternary_at, ternary_code}
-use Rattle.walrus_pairing.specs.walrus_access_codes.Access.{byte_loads, atomic_loads, load_at, load_code, byte_stores, atomic_stores, store_at, store_code, vector_accesses, lane_accesses, simd_at, simd_code, simd_lane, widths_in_order, atomic_changes, rmw_at, rmw_code, cmpxchg_at, cmpxchg_code}
+use Rattle.walrus_pairing.specs.walrus_operator_codes.Access.{byte_loads, atomic_loads, load_at, load_code, byte_stores, atomic_stores, store_at, store_code, vector_accesses, lane_accesses, simd_at, simd_code, simd_lane, widths_in_order, atomic_changes, rmw_at, rmw_code, cmpxchg_at, cmpxchg_code}
 use Rattle.walrus_operator_laws.proofs.Found.{AllFit, all_pass, prefix_found, prefix_passed}
 
 abbrev same_code : OpCode → OpCode → Bool

@@ -19,7 +19,7 @@ use Rattle.walrus_pairing.specs.walrus_instr.declared.instr.Instr.{Instr}
 use Rattle.walrus_pairing.specs.walrus_instr.declared.instr.Instr.TheVariants as instrs
 use Rattle.walrus_pairing.specs.walrus_instr.declared.memory.MemArg.{MemArg}
 use Rattle.walrus_pairing.specs.walrus_operator_codes.Runs.{byte}
-use Rattle.walrus_pairing.specs.walrus_access_codes.Access.{simd_at}
+use Rattle.walrus_pairing.specs.walrus_operator_codes.Access.{simd_at}
 use Rattle.walrus_pairing.specs.Looks.{Look, ◌>>=◌, found}
 use Rattle.walrus_pairing.specs.Types.{read_heap, read_value, named}
 use Rattle.walrus_pairing.specs.Write.{op, operator_at, lane_items}

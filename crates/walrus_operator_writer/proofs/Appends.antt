@@ -7,8 +7,8 @@ use Rattle.wasm_immediates.specs.Items.{Item}
 use Rattle.walrus_operators.specs.wasm_operators.declared.op_code.OpCode.{OpCode}
 use Rattle.wasm_operator_ranges.specs.wasm_operator_bytes.Bytes.{code_bytes, item_bytes}
 use Rattle.walrus_operator_writer.specs.Appended.{Keeps, Appends, AppendsItems, with_items}
-use Rattle.walrus_number_writer.proofs.Keeps.{keeps_on}
-pub use Rattle.walrus_number_writer.proofs.Appends.{nothing, appends_on}
+use Rattle.wasm_operator_bytes.proofs.Keeps.{keeps_on}
+pub use Rattle.wasm_operator_bytes.proofs.Appends.{nothing, appends_on}
 
 pub with_items_is : (out : List ℕ) (items : List Item) → with_items out items ≡ out ++ flat_map item_bytes items
 with_items_is out [] = sym (append-nil out)

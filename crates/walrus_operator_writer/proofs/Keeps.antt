@@ -1,2 +1,2 @@
 -- What stands at the front stays there.
-pub use Rattle.walrus_number_writer.proofs.Keeps.{keeps_all, keeps_on, keeps_front}
+pub use Rattle.wasm_operator_bytes.proofs.Keeps.{keeps_all, keeps_on, keeps_front}

@@ -3,7 +3,7 @@ use Rattle.std.specs.Prelude.{ℕ, ◌≡◌, List, [], ◌∷◌, ◌++◌, Res
 use Rattle.std.specs.declared.alloc.AllocError.{AllocError}
 use Rattle.wasm_immediates.specs.Items.{Item}
 use Rattle.wasm_operator_ranges.specs.wasm_operator_bytes.Bytes.{item_bytes}
-pub use Rattle.walrus_number_writer.specs.Appended.{Keeps, Appends}
+pub use Rattle.wasm_operator_bytes.specs.Appended.{Keeps, Appends}
 
 -- the items behind these bytes, one after another
 abbrev pub with_items : List ℕ → List Item → List ℕ

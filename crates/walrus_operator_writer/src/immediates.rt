@@ -8,11 +8,11 @@ ghost use Rattle.wasm_operator_ranges.specs.wasm_operator_bytes.Bytes.{access_by
 
 use crate::types::{write_block_type, write_heap_type, write_value_type};
 use std::alloc::AllocError;
-use walrus_number_writer::{
-    write_bits32, write_bits64, write_byte, write_bytes, write_signed, write_unsigned,
-};
 use walrus_operators::Immediates;
 use wasm_immediates::{BlockType, Clause, MemoryAccess};
+use wasm_operator_bytes::{
+    write_bits32, write_bits64, write_byte, write_bytes, write_signed, write_unsigned,
+};
 use wasm_ref_types::{HeapType, ValType};
 
 /// Puts an index, or another u32, behind the bytes, in its shortest spelling.

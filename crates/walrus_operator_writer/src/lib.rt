@@ -9,6 +9,6 @@ mod types;
 pub use immediates::{write_access, write_index};
 pub use operator::{write_code, write_operator};
 pub use types::{write_block_type, write_value_type};
-pub use walrus_number_writer::{
+pub use wasm_operator_bytes::{
     write_bits32, write_bits64, write_byte, write_signed, write_unsigned,
 };

@@ -7,9 +7,9 @@ ghost use Rattle.wasm_operator_ranges.specs.wasm_operator_bytes.Bytes.{code_byte
 
 use crate::immediates::write_immediates;
 use std::alloc::AllocError;
-use walrus_number_writer::{write_byte, write_unsigned};
 use walrus_operators::Operator;
 use walrus_operators::operator_table::OpCode;
+use wasm_operator_bytes::{write_byte, write_unsigned};
 
 #[tactic(auto, using(crate::proofs::Appends::appends_on))]
 fn write_prefixed(out: &mut Vec<u8>, prefix: u8, number: u32) -> Result<(), AllocError>

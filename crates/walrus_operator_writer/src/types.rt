@@ -5,8 +5,8 @@ ghost use Rattle.walrus_operator_writer.specs.Appended.{Appends};
 ghost use Rattle.wasm_operator_ranges.specs.wasm_operator_bytes.Bytes.{abstract_code, heap_bytes, reference_parts, reference_bytes, value_bytes, block_bytes};
 
 use std::alloc::AllocError;
-use walrus_number_writer::{write_byte, write_bytes, write_signed};
 use wasm_immediates::BlockType;
+use wasm_operator_bytes::{write_byte, write_bytes, write_signed};
 use wasm_ref_types::{AbstractHeapType, HeapType, RefType, UnpackedIndex, ValType};
 
 fn abstract_code(ty: AbstractHeapType) -> u8

@@ -1,5 +1,5 @@
 -- Immediates, item by item.
-use Rattle.std.specs.Prelude.{List, [], ◌∷◌}
+use Rattle.std.specs.Prelude.{ℕ, List, [], ◌∷◌}
 use Rattle.wasm_operators.specs.wasm_reader.Floats.{seen_bits32, seen_bits64}
 use Rattle.wasm_immediates.specs.Items.{Types, Functions, Tables, Memories, Tags, Globals, ElementSegments, DataSegments, Locals, Labels, Item, Names, Number, S32, S64, Bits, Byte, Bytes, Heap, Block, Access, ManyLabels, ManyValues, ManyClauses}
 use Rattle.wasm_operators.specs.declared.entry.Kind.{Kind}
@@ -96,3 +96,47 @@ IsRare kinds.I32 = ⊥
 IsRare kinds.I64 = ⊥
 IsRare kinds.F64 = ⊥
 IsRare kind = Unit {0}
+
+-- a single index follows, and two numbers
+abbrev pub IsOfOne : Kind → Type 0
+IsOfOne kinds.Tag = Unit {0}
+IsOfOne kinds.Type = Unit {0}
+IsOfOne kinds.Table = Unit {0}
+IsOfOne kinds.Memory = Unit {0}
+IsOfOne kinds.Data = Unit {0}
+IsOfOne kinds.Element = Unit {0}
+IsOfOne kind = ⊥
+
+abbrev pub IsOfTwo : Kind → Type 0
+IsOfTwo kinds.TypeTable = Unit {0}
+IsOfTwo kinds.DataMemory = Unit {0}
+IsOfTwo kinds.MemoryMemory = Unit {0}
+IsOfTwo kinds.ElementTable = Unit {0}
+IsOfTwo kinds.TableTable = Unit {0}
+IsOfTwo kinds.TypeNumber = Unit {0}
+IsOfTwo kinds.TypeData = Unit {0}
+IsOfTwo kinds.TypeElement = Unit {0}
+IsOfTwo kinds.TypeType = Unit {0}
+IsOfTwo kind = ⊥
+
+-- the items of these
+abbrev pub one_item : Kind → ℕ → List Item
+one_item kinds.Tag n = Names Tags n ∷ []
+one_item kinds.Type n = Names Types n ∷ []
+one_item kinds.Table n = Names Tables n ∷ []
+one_item kinds.Memory n = Names Memories n ∷ []
+one_item kinds.Data n = Names DataSegments n ∷ []
+one_item kinds.Element n = Names ElementSegments n ∷ []
+one_item kind n = []
+
+abbrev pub two_items : Kind → ℕ → ℕ → List Item
+two_items kinds.TypeTable m n = Names Types m ∷ Names Tables n ∷ []
+two_items kinds.DataMemory m n = Names DataSegments m ∷ Names Memories n ∷ []
+two_items kinds.MemoryMemory m n = Names Memories m ∷ Names Memories n ∷ []
+two_items kinds.ElementTable m n = Names ElementSegments m ∷ Names Tables n ∷ []
+two_items kinds.TableTable m n = Names Tables m ∷ Names Tables n ∷ []
+two_items kinds.TypeNumber m n = Names Types m ∷ Number n ∷ []
+two_items kinds.TypeData m n = Names Types m ∷ Names DataSegments n ∷ []
+two_items kinds.TypeElement m n = Names Types m ∷ Names ElementSegments n ∷ []
+two_items kinds.TypeType m n = Names Types m ∷ Names Types n ∷ []
+two_items kind m n = []

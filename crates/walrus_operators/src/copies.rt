@@ -1,6 +1,8 @@
 //! Copies of operators.
 
-ghost use Rattle.std.specs.Prelude.{IfOk};
+ghost use Rattle.std.specs.Prelude.{◌≡◌, true, MatchResult};
+ghost use Rattle.wasm_operators.specs.Kinds.{takes_memory};
+ghost use Rattle.walrus_operators.specs.Immediates.{kind_is};
 ghost use Rattle.walrus_operators.specs.Copies.{IsImmediatesCopy, IsOperatorCopy};
 
 use crate::immediates::Immediates;
@@ -14,7 +16,7 @@ impl Immediates {
     ///
     /// Want of memory, where they hold a list.
     pub fn clone(&self) -> Result<Self, AllocError>
-        ensures { IfOk result (λ copy. IsImmediatesCopy self.now copy) }
+        ensures { MatchResult result (λ copy. IsImmediatesCopy self.now copy) (λ _. takes_memory (kind_is self.now) ≡ true) }
     {
         match self {
             Immediates::Bare => Ok(Immediates::Bare),
@@ -67,7 +69,7 @@ impl Operator {
     ///
     /// Want of memory, where it holds a list.
     pub fn clone(&self) -> Result<Self, AllocError>
-        ensures { IfOk result (λ copy. IsOperatorCopy self.now copy) }
+        ensures { MatchResult result (λ copy. IsOperatorCopy self.now copy) (λ _. takes_memory (kind_is self.now.immediates) ≡ true) }
     {
         Ok(Operator {
             code: self.code,

@@ -5,14 +5,14 @@ ghost use Rattle.wasm_operators.specs.wasm_reader.Reading.{Reads};
 ghost use Rattle.wasm_operators.specs.wasm_reader.Items.{ReadsBy, ReadsUnlessMemory};
 ghost use Rattle.wasm_immediates.specs.Readings.{items_at};
 ghost use Rattle.wasm_operators.specs.Kinds.{forms, takes_memory};
-ghost use Rattle.walrus_operators.specs.Immediates.{IsRare, items_of, kind_is};
+ghost use Rattle.walrus_operators.specs.Immediates.{IsOfOne, IsOfTwo, IsRare, items_of, kind_is, one_item, two_items};
 
 use crate::immediates::Immediates;
 use std::alloc::Global;
 use wasm_immediates::ref_types::{HeapType, ValType};
-use wasm_immediates::{BlockType, Clause, MemoryAccess, read_below, read_zero};
-use wasm_operators::Kind;
+use wasm_immediates::{BlockType, Clause, read_below, read_zero};
 use wasm_operators::reader::{BinaryReader, FromReader, Result};
+use wasm_operators::{Kind, read_access};
 
 // No list is longer than a u32 counts.
 const MOST: usize = 4294967295;
@@ -70,13 +70,50 @@ fn read_vector(reader: &mut BinaryReader<'_>) -> Result<Immediates>
 }
 
 #[tactic(auto, unfolding(wasm_immediates::specs::Readings::items_at, wasm_immediates::specs::Readings::item_at))]
-fn read_access_lane(alloc: Global, reader: &mut BinaryReader<'_>) -> Result<Immediates>
+fn read_access_lane(reader: &mut BinaryReader<'_>) -> Result<Immediates>
     ensures items { Reads (items_at reader.old.window.features (forms Kind.AccessLane)) items_of reader.old reader.new result }
     ensures kind { IfOk result (λ x. kind_is x ≡ Kind.AccessLane) }
 {
-    let access = MemoryAccess::from_reader(alloc, reader)?;
+    let access = read_access(reader)?;
     let lane = reader.read_u8()?;
     Ok(Immediates::AccessLane(access, lane))
+}
+
+// Immediates of one index.
+fn of_one(kind: Kind, n: u32) -> Immediates
+    requires { IsOfOne kind }
+    ensures items { items_of result ≡ one_item kind n }
+    ensures kind { kind_is result ≡ kind }
+{
+    match kind {
+        Kind::Tag => Immediates::Tag(n),
+        Kind::Type => Immediates::Type(n),
+        Kind::Table => Immediates::Table(n),
+        Kind::Memory => Immediates::Memory(n),
+        Kind::Data => Immediates::Data(n),
+        Kind::Element => Immediates::Element(n),
+        _ => unreachable!(),
+    }
+}
+
+// Immediates of two numbers.
+fn of_two(kind: Kind, m: u32, n: u32) -> Immediates
+    requires { IsOfTwo kind }
+    ensures items { items_of result ≡ two_items kind m n }
+    ensures kind { kind_is result ≡ kind }
+{
+    match kind {
+        Kind::TypeTable => Immediates::TypeTable(m, n),
+        Kind::DataMemory => Immediates::DataMemory(m, n),
+        Kind::MemoryMemory => Immediates::MemoryMemory(m, n),
+        Kind::ElementTable => Immediates::ElementTable(m, n),
+        Kind::TableTable => Immediates::TableTable(m, n),
+        Kind::TypeNumber => Immediates::TypeNumber(m, n),
+        Kind::TypeData => Immediates::TypeData(m, n),
+        Kind::TypeElement => Immediates::TypeElement(m, n),
+        Kind::TypeType => Immediates::TypeType(m, n),
+        _ => unreachable!(),
+    }
 }
 
 // The immediates of a rarer kind. It isn't inlined: what it keeps on the stack is then no part of each read.
@@ -89,65 +126,31 @@ fn read_rare(kind: Kind, alloc: Global, reader: &mut BinaryReader<'_>) -> Result
 {
     match kind {
         Kind::TryTable => read_try_table(alloc, reader),
-        Kind::Tag => Ok(Immediates::Tag(reader.read_var_u32()?)),
         Kind::BrTable => read_branch_table(alloc, reader),
-        Kind::TypeTable => {
+        Kind::Select => read_select(alloc, reader),
+        Kind::Tag | Kind::Type | Kind::Table | Kind::Memory | Kind::Data | Kind::Element => {
+            let n = reader.read_var_u32()?;
+            Ok(of_one(kind, n))
+        }
+        Kind::TypeTable
+        | Kind::DataMemory
+        | Kind::MemoryMemory
+        | Kind::ElementTable
+        | Kind::TableTable
+        | Kind::TypeNumber
+        | Kind::TypeData
+        | Kind::TypeElement
+        | Kind::TypeType => {
             let first = reader.read_var_u32()?;
             let second = reader.read_var_u32()?;
-            Ok(Immediates::TypeTable(first, second))
+            Ok(of_two(kind, first, second))
         }
-        Kind::Type => Ok(Immediates::Type(reader.read_var_u32()?)),
-        Kind::Select => read_select(alloc, reader),
-        Kind::Table => Ok(Immediates::Table(reader.read_var_u32()?)),
-        Kind::Memory => Ok(Immediates::Memory(reader.read_var_u32()?)),
         Kind::F32 => Ok(Immediates::F32(reader.read_f32()?)),
         Kind::Heap => Ok(Immediates::Heap(HeapType::from_reader(alloc, reader)?)),
-        Kind::DataMemory => {
-            let first = reader.read_var_u32()?;
-            let second = reader.read_var_u32()?;
-            Ok(Immediates::DataMemory(first, second))
-        }
-        Kind::Data => Ok(Immediates::Data(reader.read_var_u32()?)),
-        Kind::MemoryMemory => {
-            let first = reader.read_var_u32()?;
-            let second = reader.read_var_u32()?;
-            Ok(Immediates::MemoryMemory(first, second))
-        }
-        Kind::ElementTable => {
-            let first = reader.read_var_u32()?;
-            let second = reader.read_var_u32()?;
-            Ok(Immediates::ElementTable(first, second))
-        }
-        Kind::Element => Ok(Immediates::Element(reader.read_var_u32()?)),
-        Kind::TableTable => {
-            let first = reader.read_var_u32()?;
-            let second = reader.read_var_u32()?;
-            Ok(Immediates::TableTable(first, second))
-        }
-        Kind::TypeNumber => {
-            let first = reader.read_var_u32()?;
-            let second = reader.read_var_u32()?;
-            Ok(Immediates::TypeNumber(first, second))
-        }
-        Kind::TypeData => {
-            let first = reader.read_var_u32()?;
-            let second = reader.read_var_u32()?;
-            Ok(Immediates::TypeData(first, second))
-        }
-        Kind::TypeElement => {
-            let first = reader.read_var_u32()?;
-            let second = reader.read_var_u32()?;
-            Ok(Immediates::TypeElement(first, second))
-        }
-        Kind::TypeType => {
-            let first = reader.read_var_u32()?;
-            let second = reader.read_var_u32()?;
-            Ok(Immediates::TypeType(first, second))
-        }
         Kind::Cast => read_cast(alloc, reader),
         Kind::Vector => read_vector(reader),
         Kind::Lane => Ok(Immediates::Lane(reader.read_u8()?)),
-        Kind::AccessLane => read_access_lane(alloc, reader),
+        Kind::AccessLane => read_access_lane(reader),
         Kind::Zero => {
             read_zero(reader)?;
             Ok(Immediates::Zero)
@@ -183,7 +186,7 @@ pub(crate) fn read_immediates(
         Kind::Function => Ok(Immediates::Function(reader.read_var_u32()?)),
         Kind::Local => Ok(Immediates::Local(reader.read_var_u32()?)),
         Kind::Global => Ok(Immediates::Global(reader.read_var_u32()?)),
-        Kind::Access => Ok(Immediates::Access(MemoryAccess::from_reader(alloc, reader)?)),
+        Kind::Access => Ok(Immediates::Access(read_access(reader)?)),
         Kind::I32 => Ok(Immediates::I32(reader.read_var_i32()?)),
         Kind::I64 => Ok(Immediates::I64(reader.read_var_i64()?)),
         Kind::F64 => Ok(Immediates::F64(reader.read_f64()?)),

@@ -5,11 +5,10 @@ pub mod Seen
 pub mod Answers
 pub mod Read
 -- Passed on to crates above, which then list this one alone.
-pub use Rattle.walrus_access_codes.specs as walrus_access_codes
+pub use Rattle.walrus_operator_codes.specs as walrus_operator_codes
 pub use Rattle.walrus_forms.specs as walrus_forms
 pub use Rattle.walrus_index_maps.specs as walrus_index_maps
-pub use Rattle.walrus_access_codes.specs.walrus_instr as walrus_instr
-pub use Rattle.walrus_access_codes.specs.walrus_items as walrus_items
-pub use Rattle.walrus_access_codes.specs.walrus_operator_codes as walrus_operator_codes
+pub use Rattle.walrus_operator_codes.specs.walrus_instr as walrus_instr
+pub use Rattle.walrus_operator_codes.specs.walrus_items as walrus_items
 pub use Rattle.walrus_operators.specs as walrus_operators
 pub use Rattle.walrus_operators.specs.wasm_immediates as wasm_immediates

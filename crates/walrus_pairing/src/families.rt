@@ -11,15 +11,14 @@ use crate::written::{
     table_table_op, tag_op, type_data_op, type_element_op, type_number_op, type_op, type_table_op,
     type_type_op,
 };
-use walrus_access_codes::instr::{Instr, Value};
-use walrus_access_codes::operator_codes::{
-    atomic, code_of_binary, code_of_ternary, code_of_unary, lane_of_binary, lane_of_unary, object,
-};
-use walrus_access_codes::{
-    code_of_cmpxchg, code_of_load, code_of_rmw, code_of_simd, code_of_store, lane_of_simd,
-};
 use walrus_arena::FunctionId;
 use walrus_index_maps::IdsToIndices;
+use walrus_instr::{Instr, Value};
+use walrus_operator_codes::{
+    atomic, code_of_binary, code_of_cmpxchg, code_of_load, code_of_rmw, code_of_simd,
+    code_of_store, code_of_ternary, code_of_unary, lane_of_binary, lane_of_simd, lane_of_unary,
+    object,
+};
 use walrus_operators::Immediates;
 use walrus_operators::operator_table::OpCode;
 use walrus_operators::the_reader::{Ieee32, Ieee64};

@@ -1,15 +1,16 @@
 //! Instructions of a code and of immediates without names, and those of many codes that name an id.
 ghost use Rattle.std.specs.Prelude.{◌≡◌, [], ◌∷◌};
-ghost use Rattle.walrus_access_codes.specs.walrus_instr.declared.instr.Instr.TheVariants as instrs;
-ghost use Rattle.walrus_access_codes.specs.walrus_instr.declared.instr.Value.TheVariants as constants;
+ghost use Rattle.walrus_operator_codes.specs.walrus_instr.declared.instr.Instr.TheVariants as instrs;
+ghost use Rattle.walrus_operator_codes.specs.walrus_instr.declared.instr.Value.TheVariants as constants;
 ghost use Rattle.walrus_pairing.specs.Read as read;
 
 use crate::error::PairError;
-use walrus_access_codes::instr::{Bits128, Instr, MemArg, Value};
-use walrus_access_codes::operator_codes::{binary_of, ternary_of, unary_of};
-use walrus_access_codes::{cmpxchg_of, load_of, rmw_of, simd_of, store_of};
 use walrus_arena::{MemoryId, TableId, TypeId};
 use walrus_forms::{HeapType, RefType};
+use walrus_instr::{Bits128, Instr, MemArg, Value};
+use walrus_operator_codes::{
+    binary_of, cmpxchg_of, load_of, rmw_of, simd_of, store_of, ternary_of, unary_of,
+};
 use walrus_operators::immediate_forms::MemoryAccess;
 use walrus_operators::operator_table::OpCode;
 use walrus_operators::the_reader::{Ieee32, Ieee64};

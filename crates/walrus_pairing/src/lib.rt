@@ -17,21 +17,21 @@ pub use types::{read_heap, read_value, write_heap, write_value};
 
 // Passed on to crates above, which then list this one alone.
 pub mod access_codes {
-    pub use walrus_access_codes::{code_of_load, code_of_store};
+    pub use walrus_operator_codes::{code_of_load, code_of_store};
 
     pub mod instr {
-        pub use walrus_access_codes::instr::{MemArg, Value};
+        pub use walrus_instr::{MemArg, Value};
     }
 
     pub mod operator_codes {
-        pub use walrus_access_codes::operator_codes::{
+        pub use walrus_operator_codes::{
             byte, code_of_binary, code_of_unary, lane_of_binary, lane_of_unary,
         };
     }
 }
 
 pub mod operator_codes {
-    pub use walrus_access_codes::operator_codes::{byte, object};
+    pub use walrus_operator_codes::{byte, object};
 }
 
 pub mod operators {
@@ -39,5 +39,5 @@ pub mod operators {
 }
 
 pub mod type_table {
-    pub use walrus_access_codes::type_table::{ModuleLocals, ValType};
+    pub use walrus_instr::type_table::{ModuleLocals, ValType};
 }

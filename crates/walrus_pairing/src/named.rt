@@ -10,10 +10,10 @@ use crate::instructions::{
     access_instr, arg_of, heap_instr, table_instr, type_instr, type_number_instr,
 };
 use crate::types::read_heap;
-use walrus_access_codes::instr::Instr;
-use walrus_access_codes::simd_of;
 use walrus_arena::FunctionId;
 use walrus_index_maps::IndicesToIds;
+use walrus_instr::Instr;
+use walrus_operator_codes::simd_of;
 use walrus_operators::immediate_forms::MemoryAccess;
 use walrus_operators::operator_table::OpCode;
 use wasm_ref_types::HeapType;

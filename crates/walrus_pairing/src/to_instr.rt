@@ -17,9 +17,9 @@ use crate::named::{
     read_type_element, read_type_table, read_type_type,
 };
 use crate::types::{named_type, read_value};
-use walrus_access_codes::instr::Instr;
 use walrus_arena::FunctionId;
 use walrus_index_maps::IndicesToIds;
+use walrus_instr::Instr;
 use walrus_operators::{Immediates, Operator};
 use wasm_ref_types::ValType;
 

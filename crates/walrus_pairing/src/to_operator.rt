@@ -14,14 +14,13 @@ use crate::families::{
 use crate::types::write_value;
 use crate::written::{Written, access_op, function_op, global_op, local_op, op};
 use std::alloc::Global;
-use walrus_access_codes::instr::Instr;
-use walrus_access_codes::operator_codes::{
-    byte, code_of_binary, code_of_unary, lane_of_binary, lane_of_unary,
-};
-use walrus_access_codes::{code_of_load, code_of_store};
 use walrus_arena::FunctionId;
 use walrus_forms::ValType;
 use walrus_index_maps::IdsToIndices;
+use walrus_instr::Instr;
+use walrus_operator_codes::{
+    byte, code_of_binary, code_of_load, code_of_store, code_of_unary, lane_of_binary, lane_of_unary,
+};
 use walrus_operators::Immediates;
 
 // Of an instruction without a list. It isn't inlined: what it keeps on the stack is then no part of each call.

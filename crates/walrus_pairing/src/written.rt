@@ -8,12 +8,12 @@ ghost use Rattle.walrus_pairing.specs.Write.{one, two, counted, access, heap, lo
 
 use crate::error::PairError;
 use crate::types::write_heap;
-use walrus_access_codes::instr::MemArg;
 use walrus_arena::{
     DataId, ElementId, FunctionId, GlobalId, LocalId, MemoryId, TableId, TagId, TypeId,
 };
 use walrus_forms::HeapType;
 use walrus_index_maps::{IdsToIndices, Space};
+use walrus_instr::MemArg;
 use walrus_operators::immediate_forms::MemoryAccess;
 use walrus_operators::operator_table::OpCode;
 use walrus_operators::{Immediates, Operator};

@@ -21,7 +21,7 @@ use Rattle.walrus_instr.specs.declared.memory.AtomicOp.{AtomicOp}
 use Rattle.walrus_instr.specs.declared.memory.AtomicOp.TheVariants as changes
 use Rattle.walrus_instr.specs.declared.memory.AtomicWidth.{AtomicWidth}
 use Rattle.walrus_instr.specs.declared.memory.AtomicWidth.TheVariants as widths
-use Rattle.walrus_access_codes.specs.Access.{byte_loads, atomic_loads, byte_stores, atomic_stores, vector_accesses, lane_accesses, atomic_changes, load_code, store_code, simd_code, simd_lane, simd_at, rmw_code, cmpxchg_code}
+use Rattle.walrus_operator_codes.specs.Access.{byte_loads, atomic_loads, byte_stores, atomic_stores, vector_accesses, lane_accesses, atomic_changes, load_code, store_code, simd_code, simd_lane, simd_at, rmw_code, cmpxchg_code}
 use Rattle.wasm_ref_types.specs.declared.heap.HeapType.{HeapType as WrittenHeap}
 use Rattle.wasm_ref_types.specs.declared.heap.HeapType.TheVariants.{Concrete as WConcrete, Exact as WExact}
 use Rattle.wasm_ref_types.specs.declared.index.UnpackedIndex.TheVariants.{Module}

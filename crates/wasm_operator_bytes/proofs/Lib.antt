@@ -1,0 +1,4 @@
+pub mod Shortens
+pub mod Appends
+pub mod Keeps
+pub mod Digits

@@ -5,6 +5,8 @@ pub mod Types
 pub mod Vecs
 pub mod Leaves
 pub mod Operators
+pub mod Signs
+pub mod Appended
 -- Passed on to crates above, which then list this one alone.
 pub use Rattle.wasm_operators.specs.wasm_immediates as wasm_immediates
 pub use Rattle.wasm_operators.specs as wasm_operators

@@ -2,11 +2,13 @@
 //! exceptions, threads and wide arithmetic).
 #![tactic(auto)]
 
+mod access;
 mod entry;
 pub mod laws;
 mod op_code;
 mod table;
 
+pub use access::read_access;
 pub use entry::{Entry, Flow, Gate, Kind};
 pub use op_code::OpCode;
 

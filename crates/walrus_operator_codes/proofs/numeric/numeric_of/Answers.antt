@@ -1,8 +1,8 @@
 use Rattle.std.proofs.Common.{None, refl}
 use Rattle.walrus_codes.specs.Runs.{in_runs}
 use Rattle.walrus_codes.specs.Unary.{unary_bytes, unary_bulks, low_unary_vectors, high_unary_vectors, unary_vector_at}
-use Rattle.walrus_operator_codes.specs.Binary.{binary_bytes, binary_bulks, low_binary_vectors, high_binary_vectors, binary_vector_at}
-use Rattle.walrus_operator_codes.specs.Ternary.{ternary_vectors}
+use Rattle.walrus_codes.specs.Binary.{binary_bytes, binary_bulks, low_binary_vectors, high_binary_vectors, binary_vector_at}
+use Rattle.walrus_codes.specs.Ternary.{ternary_vectors}
 use Rattle.walrus_operator_codes.specs.Numeric.{unary, binary, ternary}
 use Rattle.walrus_operator_codes.proofs.Tables.{none_outside, none_outside_both, found_at}
 use Rattle.walrus_operator_codes.proofs.numeric.numeric_of.Goals as goal

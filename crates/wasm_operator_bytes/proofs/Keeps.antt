@@ -1,7 +1,7 @@
 -- What stands at the front stays there.
 use Rattle.std.proofs.Common.{◌≡◌, ℕ, List, [], ◌++◌, length, take, sym, ap, ◌∙◌}
 use Rattle.std.proofs.lemmas.List.{append-nil, append_assoc, take_at}
-use Rattle.walrus_number_writer.specs.Appended.{Keeps}
+use Rattle.wasm_operator_bytes.specs.Appended.{Keeps}
 
 pub keeps_all : (old new : List ℕ) → new ≡ old → Keeps old new
 keeps_all old new e = record { more = []; behind = e ∙ sym (append-nil old) }

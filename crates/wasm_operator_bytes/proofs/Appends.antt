@@ -2,8 +2,8 @@
 use Rattle.std.proofs.Common.{◌≡◌, ℕ, List, [], ◌++◌, Result, Ok, Err, sym, ap, ◌∙◌}
 use Rattle.std.proofs.lemmas.List.{append-nil, append_assoc}
 use Rattle.std.specs.declared.alloc.AllocError.{AllocError}
-use Rattle.walrus_number_writer.specs.Appended.{Appends}
-use Rattle.walrus_number_writer.proofs.Keeps.{keeps_on}
+use Rattle.wasm_operator_bytes.specs.Appended.{Appends}
+use Rattle.wasm_operator_bytes.proofs.Keeps.{keeps_on}
 
 -- nothing is written
 pub nothing : (old : List ℕ) → old ≡ old ++ []

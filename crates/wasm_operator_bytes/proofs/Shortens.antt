@@ -6,9 +6,9 @@ use Rattle.std.proofs.Math.Nat.{pow-suc, mul_assoc}
 use Rattle.std.specs.declared.alloc.AllocError.{AllocError}
 use Rattle.wasm_operator_bytes.specs.wasm_reader.Shortest.{shortest_unsigned, shortest_signed}
 use Rattle.wasm_operator_bytes.specs.Bytes.{unsigned_bytes, signed_bytes}
-use Rattle.walrus_number_writer.specs.Signs.{signed_of}
-use Rattle.walrus_number_writer.specs.Appended.{Appends}
-use Rattle.walrus_number_writer.proofs.Keeps.{keeps_on}
+use Rattle.wasm_operator_bytes.specs.Signs.{signed_of}
+use Rattle.wasm_operator_bytes.specs.Appended.{Appends}
+use Rattle.wasm_operator_bytes.proofs.Keeps.{keeps_on}
 
 -- what was written of a number behind `old`, how many bytes may follow, and what the number that is left spells with that many bytes
 pub record Shortens (spell : ℕ → ℕ → List ℕ) (limit : ℕ) (old bytes now : List ℕ) (left : ℕ) : Type 0 where

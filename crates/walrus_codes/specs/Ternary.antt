@@ -1,8 +1,8 @@
 -- Codes of the operators of three operands (Core Specification, binary format: vector instructions).
 use Rattle.std.specs.Prelude.{◌==◌, List, [], ◌∷◌, Option, None, if◌then◌else◌}
-use Rattle.walrus_codes.specs.walrus_instr.declared.operators.TernaryOp.{TernaryOp}
-use Rattle.walrus_codes.specs.walrus_instr.declared.operators.TernaryOp.TheVariants.{F32x4RelaxedMadd, F32x4RelaxedNmadd, F64x2RelaxedMadd, F64x2RelaxedNmadd, I8x16RelaxedLaneselect, I16x8RelaxedLaneselect, I32x4RelaxedLaneselect, I64x2RelaxedLaneselect, I32x4RelaxedDotI8x16I7x16AddS}
-use Rattle.walrus_codes.specs.wasm_operators.declared.op_code.OpCode.{OpCode}
+use Rattle.walrus_instr.specs.declared.operators.TernaryOp.{TernaryOp}
+use Rattle.walrus_instr.specs.declared.operators.TernaryOp.TheVariants.{F32x4RelaxedMadd, F32x4RelaxedNmadd, F64x2RelaxedMadd, F64x2RelaxedNmadd, I8x16RelaxedLaneselect, I16x8RelaxedLaneselect, I32x4RelaxedLaneselect, I64x2RelaxedLaneselect, I32x4RelaxedDotI8x16I7x16AddS}
+use Rattle.wasm_operators.specs.declared.op_code.OpCode.{OpCode}
 use Rattle.walrus_codes.specs.Runs.{Run, run, in_runs, vector}
 
 -- those behind fd

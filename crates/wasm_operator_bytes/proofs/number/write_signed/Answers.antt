@@ -1,8 +1,8 @@
 use Rattle.std.proofs.Common.{◌+◌, ℕ, ◌≡◌, rules, ap, to_z, of_z, w64}
 use Rattle.std.proofs.lemmas.Int.{to_z-of_z}
 use Rattle.wasm_operator_bytes.specs.Bytes.{signed_bytes}
-use Rattle.walrus_number_writer.proofs.Shortens.{begins_signed, signed_spelling, shortens_on, shortened}
-use Rattle.walrus_number_writer.proofs.number.write_signed.Goals as goal
+use Rattle.wasm_operator_bytes.proofs.Shortens.{begins_signed, signed_spelling, shortens_on, shortened}
+use Rattle.wasm_operator_bytes.proofs.number.write_signed.Goals as goal
 
 pub loop-rest-init : goal.loop-rest-init
 loop-rest-init c = begins_signed c.args.out.now.items (to_z w64 (of_z w64 c.args.n)) c.split-negative.result.0 c.split-negative.result.1 c.split-negative.ensures.fits c.split-negative.ensures.number

@@ -1,7 +1,7 @@
 use Rattle.wasm_operator_bytes.specs.wasm_reader.Shortest.{shortest_unsigned}
 use Rattle.wasm_operator_bytes.specs.Bytes.{unsigned_bytes}
-use Rattle.walrus_number_writer.proofs.Shortens.{Shortens}
-use Rattle.walrus_number_writer.proofs.number.write_unsigned.Given as goal
+use Rattle.wasm_operator_bytes.proofs.Shortens.{Shortens}
+use Rattle.wasm_operator_bytes.proofs.number.write_unsigned.Given as goal
 
 abbrev pub invariant-loop-rest : goal.invariant-loop-rest
 invariant-loop-rest l = Shortens shortest_unsigned 128 l.fn.out.items (unsigned_bytes l.fn.n) l.out.items l.rest

@@ -2,8 +2,8 @@
 
 ghost use Rattle.std.specs.Prelude.{◌≡◌, ◌<◌, ◌^◌, ◌-◌, [], ◌∷◌, if◌then◌else◌};
 ghost use Rattle.wasm_operator_bytes.specs.Bytes.{little_bytes, signed_bytes, unsigned_bytes};
-ghost use Rattle.walrus_number_writer.specs.Appended.{Appends};
-ghost use Rattle.walrus_number_writer.specs.Signs.{signed_of};
+ghost use Rattle.wasm_operator_bytes.specs.Appended.{Appends};
+ghost use Rattle.wasm_operator_bytes.specs.Signs.{signed_of};
 
 use std::alloc::AllocError;
 

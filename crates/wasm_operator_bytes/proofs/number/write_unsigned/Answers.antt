@@ -1,7 +1,7 @@
 use Rattle.std.proofs.Common.{refl}
 use Rattle.wasm_operator_bytes.specs.Bytes.{unsigned_bytes}
-use Rattle.walrus_number_writer.proofs.Shortens.{begins_unsigned, unsigned_spelling, shortens_on, shortened}
-use Rattle.walrus_number_writer.proofs.number.write_unsigned.Goals as goal
+use Rattle.wasm_operator_bytes.proofs.Shortens.{begins_unsigned, unsigned_spelling, shortens_on, shortened}
+use Rattle.wasm_operator_bytes.proofs.number.write_unsigned.Goals as goal
 
 pub loop-rest-init : goal.loop-rest-init
 loop-rest-init c = begins_unsigned c.args.out.now.items c.args.n c.ranges.n.fits

@@ -1,4 +1,0 @@
-pub mod Shortens
-pub mod Appends
-pub mod Keeps
-pub mod Digits

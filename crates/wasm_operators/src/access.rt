@@ -1,0 +1,32 @@
+//! Accesses to memory are read (Core Specification, binary format: memory instructions).
+
+ghost use Rattle.wasm_immediates.specs.wasm_reader.Reading.{Reads, plain};
+ghost use Rattle.wasm_immediates.specs.Readings.{access_at, memory_at};
+
+use wasm_immediates::MemoryAccess;
+use wasm_immediates::reader::{BinaryReader, Result};
+
+/// Where an operator accesses memory: nothing is tested of it. (It stands here, and not beside the struct, so that its wrong body is tried
+/// over one proof with those of the table.)
+#[inline]
+#[tactic(auto, unfolding(wasm_immediates::specs::Readings::access_at, wasm_immediates::specs::Readings::memory_at))]
+pub fn read_access(reader: &mut BinaryReader<'_>) -> Result<MemoryAccess>
+    ensures { Reads access_at plain reader.old reader.new result }
+{
+    let flags = reader.read_var_u32()?;
+    if flags / 64 % 2 == 1 {
+        let memory = reader.read_var_u32()?;
+        let offset = reader.read_var_u64()?;
+        return Ok(MemoryAccess {
+            align: flags - 64,
+            memory,
+            offset,
+        });
+    }
+    let offset = reader.read_var_u64()?;
+    Ok(MemoryAccess {
+        align: flags,
+        memory: 0,
+        offset,
+    })
+}
