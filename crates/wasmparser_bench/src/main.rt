@@ -1,74 +1,66 @@
-//! Times the reading of numbers of one to five bytes: `wasmparser_bench BYTES`.
+//! Times the reading of numbers of one to five bytes: `wasmparser_bench BYTES`; of operators: `wasmparser_bench FILE read` reads those of
+//! a file one by one, with `write` for `read` it writes each again, with `load` it does neither, and with `all` it does all of these.
 //!
-//! What was read is printed on standard output, the microseconds that it took on standard error.
+//! What was read is printed on standard output, the microseconds that numbers took on standard error.
 #![tactic(auto)]
 
+mod numbers;
+mod operators;
+
+use crate::numbers::{push_numbers, sum_of};
+use crate::operators::{NOTHING, Seen, read_all, read_and_write};
 use anyhow::{Result, bail};
-use std::env;
 use std::time::Instant;
-use wasmparser::BinaryReader;
+use std::{env, fs};
 
 fn main(rt: HostRuntime) -> Result<()> {
     let words: Vec<String> = env::args(&rt)?.collect(rt.alloc())?;
-    let Some(size) = words.get(1).and_then(|word| word.parse::<usize>().ok()) else {
-        bail!("wasmparser_bench BYTES");
-    };
+    match words.as_slice() {
+        [_, size] => match size.parse::<usize>() {
+            Ok(size) => time_numbers(&rt, size),
+            Err(_) => bail!("wasmparser_bench BYTES"),
+        },
+        [_, file, way] => look_at(&rt, file.as_str(), way.as_str()),
+        _ => bail!("wasmparser_bench BYTES, or FILE read|write|load|all"),
+    }
+}
+
+fn time_numbers(rt: &HostRuntime, size: usize) -> Result<()> {
     let mut bytes = Vec::new(rt.alloc());
     push_numbers(&mut bytes, size.min(1 << 30))?;
-    let start = Instant::now(&rt)?;
+    let start = Instant::now(rt)?;
     let sum = sum_of(&bytes);
-    let took = start.elapsed(&rt)?;
+    let took = start.elapsed(rt)?;
     println!(rt; "{} bytes, sum {sum}", bytes.len())?;
     eprintln!(rt; "{}", took.as_micros())?;
     Ok(())
 }
 
-#[inline(never)]
-fn sum_of(bytes: &[u8]) -> u64 {
-    let mut reader = BinaryReader::new(bytes, 0);
-    let mut sum = 0u64;
-    for _ in 0..bytes.len() {
-        match reader.read_var_u32() {
-            Ok(n) => sum = sum.wrapping_add(u64::from(n)),
-            Err(_) => break,
+fn look_at(rt: &HostRuntime, file: &str, way: &str) -> Result<()> {
+    let bytes = fs::read(rt, file)?;
+    match way {
+        "read" => tell(rt, read_all(rt.alloc(), &bytes)),
+        "write" => write(rt, &bytes),
+        "all" => {
+            tell(rt, read_all(rt.alloc(), &bytes))?;
+            write(rt, &bytes)?;
+            time_numbers(rt, 65536)
         }
+        _ => tell(rt, NOTHING),
     }
-    sum
 }
 
-// Numbers of one to five bytes in turn by chance, until there are so many bytes.
-fn push_numbers(bytes: &mut Vec<u8>, size: usize) -> Result<()> {
-    let mut state = 12345u64;
-    for _ in 0..size {
-        if bytes.len() >= size {
-            break;
-        }
-        state = state
-            .wrapping_mul(6364136223846793005)
-            .wrapping_add(1442695040888963407);
-        let n = (state >> 20) & 0xffff_ffff;
-        push(
-            bytes,
-            match (state >> 60) % 5 {
-                0 => n >> 25,
-                1 => n >> 18,
-                2 => n >> 11,
-                3 => n >> 4,
-                _ => n,
-            },
-        )?;
-    }
-    Ok(())
+fn write(rt: &HostRuntime, bytes: &[u8]) -> Result<()> {
+    let mut out = Vec::new(rt.alloc());
+    out.reserve(bytes.len())?;
+    let seen = read_and_write(rt.alloc(), bytes, &mut out)?;
+    tell(rt, seen)
 }
 
-fn push(bytes: &mut Vec<u8>, mut n: u64) -> Result<()> {
-    for _ in 0..9 {
-        if n < 0x80 {
-            break;
-        }
-        bytes.push((n & 0x7f | 0x80) as u8)?;
-        n >>= 7;
-    }
-    bytes.push((n & 0x7f) as u8)?;
+fn tell(rt: &HostRuntime, seen: Seen) -> Result<()> {
+    println!(rt;
+        "{} operators, sum {}, {} bytes written",
+        seen.operators, seen.sum, seen.written
+    )?;
     Ok(())
 }

@@ -1,49 +1,23 @@
-//! Reads operators, to be timed: `walrus_operator_bench FILE read` reads those of a file one by one, with `write` for `read` it writes
-//! each again, and with `load` it does neither. It prints what it saw.
-#![tactic(auto)]
+//! Operators, read one by one and written again.
 
-use anyhow::{Result, bail};
 use std::alloc::{AllocError, Global};
-use std::{env, fs};
 use walrus_operator_writer::write_operator;
 use walrus_operators::{Immediates, OperatorReader};
 use wasm_reader::BinaryReader;
 
 // What was seen of operators: how many there are, a sum over them, and how many bytes were written.
 #[derive(Clone, Copy)]
-struct Seen {
-    operators: u64,
-    sum: u64,
-    written: usize,
+pub(crate) struct Seen {
+    pub(crate) operators: u64,
+    pub(crate) sum: u64,
+    pub(crate) written: usize,
 }
 
-const NOTHING: Seen = Seen {
+pub(crate) const NOTHING: Seen = Seen {
     operators: 0,
     sum: 0,
     written: 0,
 };
-
-fn main(rt: HostRuntime) -> Result<()> {
-    let words: Vec<String> = env::args(&rt)?.collect(rt.alloc())?;
-    let [_, file, way] = words.as_slice() else {
-        bail!("walrus_operator_bench FILE read|write|load");
-    };
-    let bytes = fs::read(&rt, file.as_str())?;
-    let mut out = Vec::new(rt.alloc());
-    let seen = match way.as_str() {
-        "read" => read_all(rt.alloc(), &bytes),
-        "write" => {
-            out.reserve(bytes.len())?;
-            read_and_write(rt.alloc(), &bytes, &mut out)?
-        }
-        _ => NOTHING,
-    };
-    println!(rt;
-        "{} operators, sum {}, {} bytes written",
-        seen.operators, seen.sum, seen.written
-    )?;
-    Ok(())
-}
 
 // A number of an operator's immediates.
 #[inline]
@@ -64,7 +38,7 @@ fn number_of(immediates: &Immediates) -> u64 {
 }
 
 #[inline(never)]
-fn read_all(alloc: Global, bytes: &[u8]) -> Seen {
+pub(crate) fn read_all(alloc: Global, bytes: &[u8]) -> Seen {
     let mut reader = OperatorReader::new(BinaryReader::new(bytes, 0));
     let mut seen = NOTHING;
     for _ in 0..bytes.len() {
@@ -81,7 +55,11 @@ fn read_all(alloc: Global, bytes: &[u8]) -> Seen {
 }
 
 #[inline(never)]
-fn read_and_write(alloc: Global, bytes: &[u8], out: &mut Vec<u8>) -> Result<Seen, AllocError> {
+pub(crate) fn read_and_write(
+    alloc: Global,
+    bytes: &[u8],
+    out: &mut Vec<u8>,
+) -> Result<Seen, AllocError> {
     let mut reader = OperatorReader::new(BinaryReader::new(bytes, 0));
     let mut operators = 0u64;
     for _ in 0..bytes.len() {
