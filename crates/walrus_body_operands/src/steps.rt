@@ -292,7 +292,12 @@ pub fn instr_on<S: Scope, L: Labels>(
     run(scope, alloc, op, labels, offset)
 }
 
-/// What an operator does that ends a block, or the body.
+/// What an operator does that ends a block, or the body: it names nothing, so nothing is asked of what is around it. As [`step_of`], it is
+/// told where the operator stands, of which its contract speaks.
+///
+/// # Errors
+///
+/// None.
 #[inline(always)]
 pub fn end_of<S: Scope, L: Labels>(
     scope: &S,
@@ -307,7 +312,11 @@ pub fn end_of<S: Scope, L: Labels>(
     Ok(Step::End)
 }
 
-/// What an operator does that has a block type alone.
+/// The same as [`step_of`], for an operator that most likely opens a block, a loop or an `if`.
+///
+/// # Errors
+///
+/// As [`step_of`].
 #[inline(always)]
 pub fn opening<S: Scope, L: Labels>(
     scope: &S,

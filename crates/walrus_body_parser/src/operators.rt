@@ -70,7 +70,7 @@ fn next_known(
     }
 }
 
-// Reads any operator. It isn't inlined: what it keeps on the stack is then no part of the reading of others.
+// Reads any operator. It isn't inlined, as what it keeps on the stack would be set to zero for each of the others, too.
 #[inline(never)]
 fn read_any<S: Scope, V: Validator>(
     scope: &S,
@@ -129,7 +129,7 @@ fn read_end<S: Scope, V: Validator>(
     Ok(done)
 }
 
-// Reads one that has a block type alone.
+// Reads one that has a block type.
 #[inline(never)]
 fn read_opening<S: Scope, V: Validator>(
     scope: &S,
@@ -160,8 +160,8 @@ fn read_opening<S: Scope, V: Validator>(
 }
 
 /// Reads an operator inside the open sequences, changes them, and then tells the validator of it; says whether it ended the body. Asks
-/// for an end of the bytes that is less than 4294967295 behind the beginning of the code section's contents. It isn't inlined: what it
-/// keeps on the stack is then no part of the reading of the frequent ones.
+/// for an end of the bytes that is less than 4294967295 behind the beginning of the code section's contents. An `end`, and what has a block
+/// type alone, have functions of their own, in which what others keep on the stack has no part.
 ///
 /// # Errors
 ///
