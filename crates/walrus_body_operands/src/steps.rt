@@ -292,6 +292,50 @@ pub fn instr_on<S: Scope, L: Labels>(
     run(scope, alloc, op, labels, offset)
 }
 
+/// What an operator does that ends a block, or the body: it names nothing, so nothing is asked of what is around it. As [`step_of`], it is
+/// told where the operator stands, of which its contract speaks.
+///
+/// # Errors
+///
+/// None.
+#[inline(always)]
+pub fn end_of<S: Scope, L: Labels>(
+    scope: &S,
+    op: &Operator,
+    labels: &L,
+    offset: u64,
+) -> Result<Step, BodyError>
+    requires listed { IsListed op.now }
+    requires ends { flow_of op.now.code ≡ Some Flow.End }
+    ensures { AnswersIf (holds_list (kind_is op.now.immediates)) result (items_test (S.sight scope.now) (known_labels (flow_of op.now.code) (length (L.ids labels.now))) (seen op.now)) offset (IsStep (S.sight scope.now) (L.ids labels.now) (seen op.now)) }
+{
+    Ok(Step::End)
+}
+
+/// The same as [`step_of`], for an operator that most likely opens a block, a loop or an `if`.
+///
+/// # Errors
+///
+/// As [`step_of`].
+#[inline(always)]
+pub fn opening<S: Scope, L: Labels>(
+    scope: &S,
+    alloc: Global,
+    op: &Operator,
+    labels: &L,
+    offset: u64,
+) -> Result<Step, BodyError>
+    requires { IsListed op.now }
+    ensures { AnswersIf (holds_list (kind_is op.now.immediates)) result (items_test (S.sight scope.now) (known_labels (flow_of op.now.code) (length (L.ids labels.now))) (seen op.now)) offset (IsStep (S.sight scope.now) (L.ids labels.now) (seen op.now)) }
+{
+    match op.code.flow() {
+        Some(Flow::OpensBlock) => open(scope, op, Opener::Block, offset),
+        Some(Flow::OpensLoop) => open(scope, op, Opener::Loop, offset),
+        Some(Flow::OpensIf) => open(scope, op, Opener::If, offset),
+        _ => by_flow(scope, alloc, op, labels, offset),
+    }
+}
+
 /// What an operator of the table does, at this offset inside these sequences.
 ///
 /// # Errors

@@ -3,7 +3,9 @@ use Rattle.std.proofs.Common.{◌≡◌, ℕ, true, false, Some, subst, sym}
 use Rattle.wasm_reader.specs.Cursor.{Cursor}
 use Rattle.walrus_body_operands.specs.walrus_body_rules.wasm_body_grammar.wasm_operators.declared.entry.Entry.{Entry}
 use Rattle.walrus_body_operands.specs.walrus_body_rules.wasm_body_grammar.wasm_operators.declared.entry.Kind.{Kind}
-use Rattle.walrus_operators.specs.Operators.{IsNext}
+use Rattle.walrus_body_operands.specs.walrus_body_rules.wasm_body_grammar.wasm_operators.declared.entry.Kind.TheVariants as kinds
+use Rattle.walrus_body_operands.specs.walrus_body_rules.wasm_body_grammar.wasm_operators.declared.entry.Flow.TheVariants as flows
+use Rattle.walrus_operators.specs.Operators.{IsNext, IsNextOf}
 use Rattle.walrus_body_operands.specs.Listed.{keeps_on}
 use Rattle.walrus_body_operands.specs.walrus_body_stack.declared.stack.Stack.{Stack}
 use Rattle.walrus_body_operands.specs.walrus_body_stack.Frames.{opens, blocks}
@@ -17,6 +19,16 @@ IsFrequent c kind = (e : Entry) × IsNext c e × (e.kind ≡ kind) × (keeps_on 
 
 pub next_so : (c : Cursor) (e : Entry) (kind : Kind) → IsNext c e → e.kind ≡ kind → keeps_on (Some e.flow) ≡ true → IsFrequent c kind
 next_so c e kind n is on = (e, n, is, on)
+
+pub kind_so : (c : Cursor) (e : Entry) (kind : Kind) → IsNext c e → e.kind ≡ kind → IsNextOf c kind
+kind_so c e kind n is = (e, n, is)
+
+-- what is asked of an `end`
+abbrev pub IsEnding : Cursor → Type 0
+IsEnding c = (e : Entry) × IsNext c e × (e.kind ≡ kinds.Bare) × (e.flow ≡ flows.End)
+
+pub end_so : (c : Cursor) (e : Entry) → IsNext c e → e.kind ≡ kinds.Bare → e.flow ≡ flows.End → IsEnding c
+end_so c e n is ends = (e, n, is, ends)
 
 -- where nothing was read, what was so goes on
 pub goes_same : {V : Type 0} (s : Sight) (told : Validating V) (code : ℕ) (old : Cursor) (v : V) (stack after : Stack) (now new : Cursor) (w u : V) → (new ≡ now) × (after ≡ stack) × (u ≡ w)

@@ -18,7 +18,7 @@ use crate::steps::change;
 use std::alloc::Global;
 use walrus_body_locals::body_env::{BodyError, Validator};
 use walrus_body_operands::body_stack::Stack;
-use walrus_body_operands::{Scope, instr_on, step_of};
+use walrus_body_operands::{Scope, end_of, instr_on, opening, step_of};
 use walrus_instr::InstrLocId;
 use walrus_operators::operator_table::{Flow, Kind};
 use walrus_operators::{Operator, OperatorError, OperatorReader};
@@ -70,16 +70,9 @@ fn next_known(
     }
 }
 
-/// Reads an operator inside the open sequences, changes them, and then tells the validator of it; says whether it ended the body. Asks
-/// for an end of the bytes that is less than 4294967295 behind the beginning of the code section's contents. It isn't inlined: what it
-/// keeps on the stack is then no part of the reading of the frequent ones.
-///
-/// # Errors
-///
-/// The first that is due: as the operator is read; at its first byte `Operator`, `Index`, `TypeForm`, `Nesting`, `Position`,
-/// `Unsupported` and `Bounds`, by their numbers; as the validator refuses it; want of memory.
+// Reads any operator. It isn't inlined, as what it keeps on the stack would be set to zero for each of the others, too.
 #[inline(never)]
-pub(crate) fn read_operator<S: Scope, V: Validator>(
+fn read_any<S: Scope, V: Validator>(
     scope: &S,
     alloc: Global,
     reader: &mut OperatorReader<'_>,
@@ -104,6 +97,107 @@ pub(crate) fn read_operator<S: Scope, V: Validator>(
     let done = change(scope, stack, step, place, offset)?;
     validator.op(offset, &op)?;
     Ok(done)
+}
+
+// Reads an `end`.
+#[inline(never)]
+fn read_end<S: Scope, V: Validator>(
+    scope: &S,
+    alloc: Global,
+    reader: &mut OperatorReader<'_>,
+    stack: &mut Stack,
+    validator: &mut V,
+    code_start: u64,
+) -> Result<bool, BodyError>
+    requires shaped { Shaped (blocks stack.old) (opens stack.old) }
+    requires within { IsWithin reader.old }
+    requires begins { code_start ≤ reader.old.window.start + reader.old.position }
+    requires ends { end_of reader.old < code_start + 4294967295 }
+    requires next { (e : Entry) × IsNext reader.old e × (e.kind ≡ Kind.Bare) × (e.flow ≡ Flow.End) }
+    ensures read { ReadsNext (S.sight scope.now) V.op_step code_start reader.old stack.old validator.old reader.new stack.new validator.new result }
+    ensures takes { OnOk result (length (rest reader.new) < length (rest reader.old)) }
+    ensures ty { OnOk result (heading_of stack.new ≡ heading_of stack.old) }
+    ensures entry { OnOk result (entry_of stack.new ≡ entry_of stack.old) }
+    ensures moves { Forward reader.old reader.new }
+{
+    let offset = reader.original_position();
+    let place = InstrLocId::new((offset - code_start) as u32);
+    let op = next_known(Kind::Bare, alloc, reader)?;
+    let step = end_of(scope, &op, &*stack, offset)?;
+    let done = change(scope, stack, step, place, offset)?;
+    validator.op(offset, &op)?;
+    Ok(done)
+}
+
+// Reads one that has a block type.
+#[inline(never)]
+fn read_opening<S: Scope, V: Validator>(
+    scope: &S,
+    alloc: Global,
+    reader: &mut OperatorReader<'_>,
+    stack: &mut Stack,
+    validator: &mut V,
+    code_start: u64,
+) -> Result<bool, BodyError>
+    requires shaped { Shaped (blocks stack.old) (opens stack.old) }
+    requires within { IsWithin reader.old }
+    requires begins { code_start ≤ reader.old.window.start + reader.old.position }
+    requires ends { end_of reader.old < code_start + 4294967295 }
+    requires next { IsNextOf reader.old Kind.Block }
+    ensures read { ReadsNext (S.sight scope.now) V.op_step code_start reader.old stack.old validator.old reader.new stack.new validator.new result }
+    ensures takes { OnOk result (length (rest reader.new) < length (rest reader.old)) }
+    ensures ty { OnOk result (heading_of stack.new ≡ heading_of stack.old) }
+    ensures entry { OnOk result (entry_of stack.new ≡ entry_of stack.old) }
+    ensures moves { Forward reader.old reader.new }
+{
+    let offset = reader.original_position();
+    let place = InstrLocId::new((offset - code_start) as u32);
+    let op = next_known(Kind::Block, alloc, reader)?;
+    let step = opening(scope, alloc, &op, &*stack, offset)?;
+    let done = change(scope, stack, step, place, offset)?;
+    validator.op(offset, &op)?;
+    Ok(done)
+}
+
+/// Reads an operator inside the open sequences, changes them, and then tells the validator of it; says whether it ended the body. Asks
+/// for an end of the bytes that is less than 4294967295 behind the beginning of the code section's contents. An `end`, and what has a block
+/// type alone, have functions of their own, in which what others keep on the stack has no part.
+///
+/// # Errors
+///
+/// The first that is due: as the operator is read; at its first byte `Operator`, `Index`, `TypeForm`, `Nesting`, `Position`,
+/// `Unsupported` and `Bounds`, by their numbers; as the validator refuses it; want of memory.
+#[inline(always)]
+#[tactic(auto, using(crate::proofs::Frequent::kind_so, crate::proofs::Frequent::end_so))]
+pub(crate) fn read_operator<S: Scope, V: Validator>(
+    scope: &S,
+    alloc: Global,
+    reader: &mut OperatorReader<'_>,
+    stack: &mut Stack,
+    validator: &mut V,
+    code_start: u64,
+) -> Result<bool, BodyError>
+    requires shaped { Shaped (blocks stack.old) (opens stack.old) }
+    requires within { IsWithin reader.old }
+    requires begins { code_start ≤ reader.old.window.start + reader.old.position }
+    requires ends { end_of reader.old < code_start + 4294967295 }
+    ensures read { ReadsNext (S.sight scope.now) V.op_step code_start reader.old stack.old validator.old reader.new stack.new validator.new result }
+    ensures takes { OnOk result (length (rest reader.new) < length (rest reader.old)) }
+    ensures ty { OnOk result (heading_of stack.new ≡ heading_of stack.old) }
+    ensures entry { OnOk result (entry_of stack.new ≡ entry_of stack.old) }
+    ensures moves { Forward reader.old reader.new }
+{
+    let Some(entry) = reader.next_entry() else {
+        return read_any(scope, alloc, reader, stack, validator, code_start);
+    };
+    match entry.kind {
+        Kind::Block => read_opening(scope, alloc, reader, stack, validator, code_start),
+        Kind::Bare => match entry.flow {
+            Flow::End => read_end(scope, alloc, reader, stack, validator, code_start),
+            _ => read_any(scope, alloc, reader, stack, validator, code_start),
+        },
+        _ => read_any(scope, alloc, reader, stack, validator, code_start),
+    }
 }
 
 // One of a kind that is known, behind which the next is reached. All of it is inlined, for each kind anew.

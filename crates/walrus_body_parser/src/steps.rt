@@ -39,6 +39,7 @@ fn hand_on<S: Scope>(
 ///
 /// At this offset, `Nesting` and `Position` where it may not stand in the innermost sequence, `TypeForm` where there is no type for
 /// the handler that it begins; want of memory.
+#[inline(always)]
 pub(crate) fn change<S: Scope>(
     scope: &S,
     stack: &mut Stack,

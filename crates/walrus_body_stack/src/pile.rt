@@ -71,15 +71,15 @@ impl<T: Drop> Pile<T> {
         Ok(())
     }
 
-    /// Gives up room where there is more of it than there are items. Half of them is left, so that it takes no more time to give up and
-    /// to grow again than to take and to push.
+    /// Gives up room where there is more of it than an eighth of the items. Half of that is left: a number of items in proportion has to be
+    /// taken or pushed before the next move, so that giving up and growing again take time in proportion to these.
     pub(crate) fn give_up(&mut self)
         ensures { self.new ≡ self.old }
     {
         let count = self.items.len();
         let room = self.items.capacity().saturating_sub(count);
-        if room > count.saturating_add(ROOM) {
-            self.items.shrink_to(count.saturating_add(count / 2));
+        if room > (count / 8).saturating_add(ROOM) {
+            self.items.shrink_to(count.saturating_add(count / 16));
         }
     }
 }

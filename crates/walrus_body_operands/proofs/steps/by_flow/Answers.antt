@@ -1,4 +1,4 @@
-use Rattle.std.proofs.Common.{◌≡◌, ◌-◌, ◌∙◌, ℕ, List, Option, Some, Result, length, true, sym, ap}
+use Rattle.std.proofs.Common.{◌≡◌, ◌-◌, ◌∙◌, ℕ, Option, Some, length, true, sym, ap}
 use Rattle.walrus_forms.specs.declared.value.AbstractHeapType.TheVariants as abstracts
 use Rattle.walrus_forms.specs.declared.value.HeapType.TheVariants as heaps
 use Rattle.walrus_forms.specs.declared.value.RefType.{RefType}
@@ -8,12 +8,7 @@ use Rattle.wasm_operators.specs.Operators.{flow_of}
 use Rattle.walrus_body_steps.specs.wasm_normal_form.Roles.{Runs, cuts_in, role, role_in}
 use Rattle.walrus_operators.specs.Immediates.{kind_is}
 use Rattle.walrus_operators.specs.Operators.{seen}
-use Rattle.walrus_operators.specs.declared.operator.Operator.{Operator}
-use Rattle.walrus_body_steps.specs.walrus_body_env.declared.error.BodyError.{BodyError}
-use Rattle.walrus_body_steps.specs.walrus_body_rules.Sights.{Sight}
 use Rattle.walrus_body_steps.specs.walrus_body_rules.Rules.{items_test}
-use Rattle.walrus_body_operands.specs.declared.steps.Step.{Step}
-use Rattle.walrus_body_operands.specs.Asked.{AnswersIf, Meets}
 use Rattle.walrus_body_operands.specs.Listed.{holds_list, known_labels}
 use Rattle.walrus_body_operands.specs.Steps.{IsStep}
 use Rattle.walrus_body_operands.proofs.Finish.{answers, answers_same, bare_tests, labels_known, may_answer, stands}

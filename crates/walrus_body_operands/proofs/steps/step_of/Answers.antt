@@ -1,15 +1,8 @@
-use Rattle.std.proofs.Common.{◌≡◌, ℕ, List, Result, length, ap}
+use Rattle.std.proofs.Common.{length, ap}
 use Rattle.wasm_operators.specs.Operators.{flow_of}
 use Rattle.walrus_operators.specs.Immediates.{kind_is}
-use Rattle.walrus_operators.specs.Operators.{seen}
 use Rattle.walrus_operators.specs.declared.immediates.Immediates.{Immediates}
-use Rattle.walrus_operators.specs.declared.operator.Operator.{Operator}
-use Rattle.walrus_body_steps.specs.walrus_body_env.declared.error.BodyError.{BodyError}
-use Rattle.walrus_body_steps.specs.walrus_body_rules.Sights.{Sight}
-use Rattle.walrus_body_steps.specs.walrus_body_rules.Rules.{items_test}
-use Rattle.walrus_body_operands.specs.declared.steps.Step.{Step}
-use Rattle.walrus_body_operands.specs.Listed.{accessed, holds_list, known_labels}
-use Rattle.walrus_body_operands.specs.Steps.{IsStep}
+use Rattle.walrus_body_operands.specs.Listed.{accessed, known_labels}
 use Rattle.walrus_body_operands.proofs.Finish.{may_answer}
 use Rattle.walrus_body_operands.proofs.Table.{going, goes_on, one_alone, one_goes}
 use Rattle.walrus_body_operands.proofs.steps.step_of.Goals as goal

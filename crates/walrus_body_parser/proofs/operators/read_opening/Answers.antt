@@ -5,7 +5,7 @@ use Rattle.walrus_body_locals.specs.walrus_body_nesting.Stands.{place_in}
 use Rattle.walrus_body_parser.specs.Points.{place_at}
 use Rattle.walrus_body_parser.proofs.Takes.{offset_is}
 use Rattle.walrus_body_parser.proofs.Reading.{items_refused, change_refused, told_refused, next_read, place_is}
-use Rattle.walrus_body_parser.proofs.operators.read_operator.Goals as goal
+use Rattle.walrus_body_parser.proofs.operators.read_opening.Goals as goal
 
 pub overflow_cast-offset : goal.overflow_cast-offset
 overflow_cast-offset g c = let e = c.requires.ends in let w = c.requires.within in omega (arith, e, w, c.original_position-offset.ensures)
@@ -16,20 +16,20 @@ new-place-requires g c = let e = c.requires.ends in let w = c.requires.within in
 pub returns-in_err-step-clause-read : goal.returns-in_err-step-clause-read
 returns-in_err-step-clause-read g c =
     let p = err_from_is_err_and c.from_residual-in_err-step.result c.from_residual-in_err-step.ensures.1 in
-    rw (p.1, p.2) (items_refused (g.S.Scope.sight c.args.scope.now) g.V.Validator.op_step c.args.code_start c.args.reader.now c.next_operator.new.reader c.args.stack.now c.args.validator.now c.in_ok-op.op c.original_position-offset.result
+    rw (p.1, p.2) (items_refused (g.S.Scope.sight c.args.scope.now) g.V.Validator.op_step c.args.code_start c.args.reader.now c.next_known.new.reader c.args.stack.now c.args.validator.now c.in_ok-op.op c.original_position-offset.result
     (c.original_position-offset.ensures ∙ offset_is c.args.reader.now c.requires.within) c.in_ok-op.ensures.read c.in_ok-op.ensures.listed c.args.stack.now c.args.validator.now c.in_err-step.field-0.0 (elim c.in_err-step.ensures [ inl m ↦ inl m.0 | inr f ↦ inr f ]))
 
 pub returns-in_err-done-clause-read : goal.returns-in_err-done-clause-read
 returns-in_err-done-clause-read g c =
     let p = err_from_is_err_and c.from_residual-in_err-done.result c.from_residual-in_err-done.ensures.1 in
-    rw (p.1, p.2) (change_refused (g.S.Scope.sight c.args.scope.now) g.V.Validator.op_step c.args.code_start c.args.reader.now c.next_operator.new.reader c.args.stack.now c.args.validator.now c.in_ok-op.op c.original_position-offset.result
+    rw (p.1, p.2) (change_refused (g.S.Scope.sight c.args.scope.now) g.V.Validator.op_step c.args.code_start c.args.reader.now c.next_known.new.reader c.args.stack.now c.args.validator.now c.in_ok-op.op c.original_position-offset.result
     (c.original_position-offset.ensures ∙ offset_is c.args.reader.now c.requires.within) c.in_ok-op.ensures.read c.in_ok-op.ensures.listed c.change.new.stack c.args.validator.now c.in_err-done.field-0.0 c.in_ok-step.ensures.0
     (c.in_err-done.ensures.changed (seen c.in_ok-op.op) c.in_ok-step.ensures.1))
 
 pub returns-in_err-op-2-clause-read : goal.returns-in_err-op-2-clause-read
 returns-in_err-op-2-clause-read g c =
     let p = err_from_is_err_and c.from_residual-in_err-op-2.result c.from_residual-in_err-op-2.ensures.1 in
-    rw (p.1, p.2) (told_refused (g.S.Scope.sight c.args.scope.now) g.V.Validator.op_step c.args.code_start c.args.reader.now c.next_operator.new.reader c.args.stack.now c.args.validator.now c.in_ok-op.op c.original_position-offset.result
+    rw (p.1, p.2) (told_refused (g.S.Scope.sight c.args.scope.now) g.V.Validator.op_step c.args.code_start c.args.reader.now c.next_known.new.reader c.args.stack.now c.args.validator.now c.in_ok-op.op c.original_position-offset.result
     (c.original_position-offset.ensures ∙ offset_is c.args.reader.now c.requires.within) c.in_ok-op.ensures.read c.in_ok-op.ensures.listed c.new-place.result c.change.new.stack c.in_ok-done.done c.op.new.self c.in_err-op-2.field-0.0 c.in_ok-step.ensures.0
     (c.in_ok-done.ensures.changed (seen c.in_ok-op.op) c.in_ok-step.ensures.1) c.in_err-op-2.ensures)
 
@@ -41,6 +41,6 @@ returns-clause-read g c =
     let small : offset - c.args.code_start < 4294967295 = (let e = c.requires.ends in let w = c.requires.within in omega (arith, e, w, c.original_position-offset.ensures)) in
     let located : place_in c.new-place.result ≡ Some (place_at c.args.code_start old) =
     ap place_in c.new-place.ensures ∙ place_is (offset - c.args.code_start) small ∙ ap (λ (k : ℕ). Some (k - c.args.code_start)) at in
-    next_read (g.S.Scope.sight c.args.scope.now) g.V.Validator.op_step c.args.code_start c.args.reader.now c.next_operator.new.reader c.args.stack.now c.args.validator.now c.in_ok-op.op c.original_position-offset.result
+    next_read (g.S.Scope.sight c.args.scope.now) g.V.Validator.op_step c.args.code_start c.args.reader.now c.next_known.new.reader c.args.stack.now c.args.validator.now c.in_ok-op.op c.original_position-offset.result
     (c.original_position-offset.ensures ∙ offset_is c.args.reader.now c.requires.within) c.in_ok-op.ensures.read c.in_ok-op.ensures.listed c.new-place.result c.change.new.stack c.in_ok-done.done c.op.new.self c.in_ok-step.ensures.0 located
     (c.in_ok-done.ensures.changed (seen c.in_ok-op.op) c.in_ok-step.ensures.1) c.in_ok-op-2.ensures
