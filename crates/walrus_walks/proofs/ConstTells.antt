@@ -1,22 +1,19 @@
 -- What constant expressions and types tell a visitor.
-use Rattle.std.proofs.Common.{◌≡◌, ℕ, Bool, List, [], ◌∷◌, ◌++◌, map, refl, ap}
+use Rattle.std.proofs.Common.{◌≡◌, ℕ, Bool, [], ◌∷◌, ◌++◌, map, refl, ap}
 use Rattle.std.specs.Option.{option_to_list}
 use Rattle.walrus_instr.specs.walrus_forms.declared.value.HeapType.{HeapType}
 use Rattle.walrus_instr.specs.walrus_forms.declared.value.HeapType.TheVariants.{Abstract, Concrete, Exact}
 use Rattle.walrus_instr.specs.walrus_forms.declared.value.RefType.{RefType}
-use Rattle.walrus_instr.specs.walrus_forms.declared.value.ValType.{ValType}
 use Rattle.walrus_instr.specs.walrus_forms.declared.value.ValType.TheVariants as Val
 use Rattle.walrus_instr.specs.walrus_forms.Values.{ref_name}
 use Rattle.walrus_instr.specs.walrus_forms.Renaming.{renamed_ref}
 use Rattle.walrus_instr.specs.declared.instr.Value.{Value as Constant}
 use Rattle.walrus_instr.specs.declared.instr.Value.TheVariants.{I32, I64, F32, F64, V128}
-use Rattle.walrus_instr.specs.declared.const_expr.ConstOp.{ConstOp}
-use Rattle.walrus_instr.specs.declared.const_expr.ConstOp.TheVariants.{I32Const, I64Const, F32Const, F64Const, V128Const, GlobalGet, RefNull as RefNullOp, RefFunc as RefFuncOp, StructNew, StructNewDefault, ArrayNew, ArrayNewDefault, ArrayNewFixed}
-use Rattle.walrus_instr.specs.declared.const_expr.ConstExpr.{ConstExpr}
+use Rattle.walrus_instr.specs.declared.const_expr.ConstOp.TheVariants.{GlobalGet, RefNull as RefNullOp, RefFunc as RefFuncOp, StructNew, StructNewDefault, ArrayNew, ArrayNewDefault, ArrayNewFixed}
 use Rattle.walrus_instr.specs.declared.const_expr.ConstExpr.TheVariants.{«Value», Global, RefNull, RefFunc, Extended}
-use Rattle.walrus_instr.specs.Constants.{const_of, ops_of}
-use Rattle.walrus_instr.specs.Renamed.{Renaming, renamed_op}
-use Rattle.walrus_walks.specs.Events.{Event, NamesGlobal, NamesFunction, NamesType, Holds, ref_names}
+use Rattle.walrus_instr.specs.Constants.{const_of}
+use Rattle.walrus_instr.specs.Renamed.{Renaming}
+use Rattle.walrus_walks.specs.Events.{NamesType, Holds, ref_names}
 use Rattle.walrus_walks.specs.ConstEvents.{op_names, renamed_event, ExprsTellOps, TellsRenamed, TellsAllNames, RefsTellNames, ValuesTellNames}
 
 heap_alone : (nullable : Bool) (heap : HeapType) → let ty : RefType = record { nullable = nullable; heap_type = heap } in ref_names ty ≡ ref_names ty ++ []
