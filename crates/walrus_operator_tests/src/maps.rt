@@ -14,24 +14,28 @@ pub(crate) struct Maps {
     pub(crate) numbers: IdsToIndices,
 }
 
+/// The id of this number. It has no contract, so that no caller's proof computes what it makes.
+pub(crate) fn id<S>(number: u32) -> Id<S> {
+    Id::from_index(number as usize)
+}
+
 /// The function that has the locals.
 pub(crate) fn body() -> FunctionId {
-    Id::from_index(7)
+    id(7)
 }
 
 /// The next index of the space names the id.
-pub(crate) fn push(ids: &mut IndicesToIds, space: Space, id: u32) -> Result<u32, AllocError> {
-    let id = id as usize;
+pub(crate) fn push(ids: &mut IndicesToIds, space: Space, at: u32) -> Result<u32, AllocError> {
     match space {
-        Space::Type => ids.push_type(Id::from_index(id)),
-        Space::Function => ids.push_func(Id::from_index(id)),
-        Space::Table => ids.push_table(Id::from_index(id)),
-        Space::Memory => ids.push_memory(Id::from_index(id)),
-        Space::Tag => ids.push_tag(Id::from_index(id)),
-        Space::Global => ids.push_global(Id::from_index(id)),
-        Space::Element => ids.push_element(Id::from_index(id)),
-        Space::Data => ids.push_data(Id::from_index(id)),
-        _ => ids.push_local(body(), Id::from_index(id)),
+        Space::Type => ids.push_type(id(at)),
+        Space::Function => ids.push_func(id(at)),
+        Space::Table => ids.push_table(id(at)),
+        Space::Memory => ids.push_memory(id(at)),
+        Space::Tag => ids.push_tag(id(at)),
+        Space::Global => ids.push_global(id(at)),
+        Space::Element => ids.push_element(id(at)),
+        Space::Data => ids.push_data(id(at)),
+        _ => ids.push_local(body(), id(at)),
     }
 }
 
@@ -39,69 +43,68 @@ pub(crate) fn push(ids: &mut IndicesToIds, space: Space, id: u32) -> Result<u32,
 pub(crate) fn give(
     numbers: &mut IdsToIndices,
     space: Space,
-    id: u32,
+    at: u32,
     number: u32,
 ) -> Result<u32, AllocError>
     requires room { given (indices numbers.old) < 2 ^ 32 }
     ensures { OnOk result (given (indices numbers.new) ≤ given (indices numbers.old) + 1) }
 {
-    let id = id as usize;
     match space {
         Space::Type => {
-            let id = Id::from_index(id);
+            let id = id(at);
             match numbers.get_type_index(id) {
                 None => numbers.push_type(id),
                 Some(number) => Ok(number),
             }
         }
         Space::Function => {
-            let id = Id::from_index(id);
+            let id = id(at);
             match numbers.get_func_index(id) {
                 None => numbers.push_func(id),
                 Some(number) => Ok(number),
             }
         }
         Space::Table => {
-            let id = Id::from_index(id);
+            let id = id(at);
             match numbers.get_table_index(id) {
                 None => numbers.push_table(id),
                 Some(number) => Ok(number),
             }
         }
         Space::Memory => {
-            let id = Id::from_index(id);
+            let id = id(at);
             match numbers.get_memory_index(id) {
                 None => numbers.push_memory(id),
                 Some(number) => Ok(number),
             }
         }
         Space::Tag => {
-            let id = Id::from_index(id);
+            let id = id(at);
             match numbers.get_tag_index(id) {
                 None => numbers.push_tag(id),
                 Some(number) => Ok(number),
             }
         }
         Space::Global => {
-            let id = Id::from_index(id);
+            let id = id(at);
             match numbers.get_global_index(id) {
                 None => numbers.push_global(id),
                 Some(number) => Ok(number),
             }
         }
         Space::Element => {
-            let id = Id::from_index(id);
+            let id = id(at);
             match numbers.get_element_index(id) {
                 None => numbers.push_element(id),
                 Some(number) => Ok(number),
             }
         }
         Space::Data => {
-            numbers.set_data_index(Id::from_index(id), number)?;
+            numbers.set_data_index(id(at), number)?;
             Ok(number)
         }
         _ => {
-            numbers.set_local_index(body(), Id::from_index(id), number)?;
+            numbers.set_local_index(body(), id(at), number)?;
             Ok(number)
         }
     }

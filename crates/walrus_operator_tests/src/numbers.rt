@@ -1,48 +1,57 @@
 //! What an operator's immediates are: their form, and their numbers one by one.
 
+use crate::words::nth;
 use walrus_operators::Immediates;
 use wasm_immediates::{BlockType, Clause, MemoryAccess};
 use wasm_ref_types::{AbstractHeapType, HeapType, UnpackedIndex, ValType};
 
-/// Their form.
-pub(crate) fn form(immediates: &Immediates) -> &'static str {
+// The forms in the order of the arms below: one text, as a text an arm would be dear.
+const FORMS: &str =
+    "bare block handlers tag label labels function type-table type values local global table access memory i32 i64 f32 f64 heap data-memory data memory-memory element-table element table-table type-number type-data type-element type-type cast vector lane access-lane zero";
+
+fn place(immediates: &Immediates) -> usize {
     match immediates {
-        Immediates::Bare => "bare",
-        Immediates::Block(_) => "block",
-        Immediates::TryTable(_, _) => "handlers",
-        Immediates::Tag(_) => "tag",
-        Immediates::Label(_) => "label",
-        Immediates::BrTable(_, _) => "labels",
-        Immediates::Function(_) => "function",
-        Immediates::TypeTable(_, _) => "type-table",
-        Immediates::Type(_) => "type",
-        Immediates::Select(_) => "values",
-        Immediates::Local(_) => "local",
-        Immediates::Global(_) => "global",
-        Immediates::Table(_) => "table",
-        Immediates::Access(_) => "access",
-        Immediates::Memory(_) => "memory",
-        Immediates::I32(_) => "i32",
-        Immediates::I64(_) => "i64",
-        Immediates::F32(_) => "f32",
-        Immediates::F64(_) => "f64",
-        Immediates::Heap(_) => "heap",
-        Immediates::DataMemory(_, _) => "data-memory",
-        Immediates::Data(_) => "data",
-        Immediates::MemoryMemory(_, _) => "memory-memory",
-        Immediates::ElementTable(_, _) => "element-table",
-        Immediates::Element(_) => "element",
-        Immediates::TableTable(_, _) => "table-table",
-        Immediates::TypeNumber(_, _) => "type-number",
-        Immediates::TypeData(_, _) => "type-data",
-        Immediates::TypeElement(_, _) => "type-element",
-        Immediates::TypeType(_, _) => "type-type",
-        Immediates::Cast(_, _, _, _) => "cast",
-        Immediates::Vector(_) => "vector",
-        Immediates::Lane(_) => "lane",
-        Immediates::AccessLane(_, _) => "access-lane",
-        Immediates::Zero => "zero",
+        Immediates::Bare => 0,
+        Immediates::Block(_) => 1,
+        Immediates::TryTable(_, _) => 2,
+        Immediates::Tag(_) => 3,
+        Immediates::Label(_) => 4,
+        Immediates::BrTable(_, _) => 5,
+        Immediates::Function(_) => 6,
+        Immediates::TypeTable(_, _) => 7,
+        Immediates::Type(_) => 8,
+        Immediates::Select(_) => 9,
+        Immediates::Local(_) => 10,
+        Immediates::Global(_) => 11,
+        Immediates::Table(_) => 12,
+        Immediates::Access(_) => 13,
+        Immediates::Memory(_) => 14,
+        Immediates::I32(_) => 15,
+        Immediates::I64(_) => 16,
+        Immediates::F32(_) => 17,
+        Immediates::F64(_) => 18,
+        Immediates::Heap(_) => 19,
+        Immediates::DataMemory(_, _) => 20,
+        Immediates::Data(_) => 21,
+        Immediates::MemoryMemory(_, _) => 22,
+        Immediates::ElementTable(_, _) => 23,
+        Immediates::Element(_) => 24,
+        Immediates::TableTable(_, _) => 25,
+        Immediates::TypeNumber(_, _) => 26,
+        Immediates::TypeData(_, _) => 27,
+        Immediates::TypeElement(_, _) => 28,
+        Immediates::TypeType(_, _) => 29,
+        Immediates::Cast(_, _, _, _) => 30,
+        Immediates::Vector(_) => 31,
+        Immediates::Lane(_) => 32,
+        Immediates::AccessLane(_, _) => 33,
+        Immediates::Zero => 34,
     }
+}
+
+/// Their form.
+pub(crate) fn form(immediates: &Immediates) -> &'static [u8] {
+    nth(FORMS.as_bytes(), place(immediates))
 }
 
 // A number below zero counts from 2^64 down.

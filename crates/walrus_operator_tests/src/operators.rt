@@ -41,12 +41,12 @@ struct Code<'a> {
 fn is_seen(operator: &Operator, code: Code<'_>, numbers: &[u8]) -> bool {
     u64::from(operator.code.prefix) == code.prefix
         && u64::from(operator.code.number) == code.number
-        && form(&operator.immediates).as_bytes() == code.form
+        && form(&operator.immediates) == code.form
         && has_numbers(&operator.immediates, numbers)
 }
 
 fn becomes(alloc: Global, maps: &Maps, operator: &Operator, bytes: &[u8], word: &[u8]) -> bool {
-    made_of(alloc, maps, operator, bytes).as_bytes() == word
+    made_of(alloc, maps, operator, bytes) == word
 }
 
 // Whether the bytes are an operator of this code and form with these numbers, of which pairing makes this.
@@ -140,7 +140,7 @@ fn is_so(alloc: Global, maps: &Maps, operator: &Operator, asked: Asked, words: &
     match asked {
         Asked::Written => is_written(alloc, operator, bytes_of(words).as_slice()),
         Asked::Renumbered => {
-            made_of(alloc, maps, operator, bytes_of(words).as_slice()) == "back"
+            made_of(alloc, maps, operator, bytes_of(words).as_slice()) == "back".as_bytes()
         }
         Asked::Fields => has_fields(maps, operator, words),
     }

@@ -2,7 +2,7 @@
 
 use crate::maps::{Maps, body};
 use crate::view::is_written;
-use crate::words::{cut, number};
+use crate::words::{cut, nth, number};
 use std::alloc::Global;
 use walrus_index_maps::{IdsToIndices, Space};
 use walrus_instr::{BinaryOp, Instr, UnaryOp};
@@ -10,29 +10,33 @@ use walrus_operators::{Immediates, Operator};
 use walrus_pairing::{PairError, instr_of, operator_of};
 use wasm_operators::OpCode;
 
-// What has nothing at an index.
-fn of_space(space: Space) -> &'static str {
+// What pairing makes, one text: `back` where the instruction's operator is written as the same bytes, `none` where there is no instruction,
+// or the refusal, of an index by its space.
+const MADE: &str =
+    "back other none shared select alignment no-type no-function no-table no-memory no-tag no-global no-element no-data no-local no-label";
+
+fn of_space(space: Space) -> usize {
     match space {
-        Space::Type => "no-type",
-        Space::Function => "no-function",
-        Space::Table => "no-table",
-        Space::Memory => "no-memory",
-        Space::Tag => "no-tag",
-        Space::Global => "no-global",
-        Space::Element => "no-element",
-        Space::Data => "no-data",
-        Space::Local => "no-local",
-        Space::Label => "no-label",
+        Space::Type => 6,
+        Space::Function => 7,
+        Space::Table => 8,
+        Space::Memory => 9,
+        Space::Tag => 10,
+        Space::Global => 11,
+        Space::Element => 12,
+        Space::Data => 13,
+        Space::Local => 14,
+        Space::Label => 15,
     }
 }
 
-fn refused(fault: PairError) -> &'static str {
+fn refused(fault: PairError) -> usize {
     match fault {
         PairError::Unknown(space) => of_space(space),
-        PairError::SharedType => "shared",
-        PairError::Select => "select",
-        PairError::Alignment => "alignment",
-        _ => "other",
+        PairError::SharedType => 3,
+        PairError::Select => 4,
+        PairError::Alignment => 5,
+        _ => 1,
     }
 }
 
@@ -43,40 +47,47 @@ fn is_back(alloc: Global, instr: &Instr, numbers: &IdsToIndices, bytes: &[u8]) -
     is_written(alloc, &operator, bytes)
 }
 
-/// `back` where the instruction's operator is written as these bytes, `none` where there is no instruction, or the refusal.
+fn made(alloc: Global, maps: &Maps, operator: &Operator, bytes: &[u8]) -> usize {
+    match instr_of(operator, body(), &maps.ids) {
+        Ok(Some(instr)) => {
+            if is_back(alloc, &instr, &maps.numbers, bytes) {
+                0
+            } else {
+                1
+            }
+        }
+        Ok(None) => 2,
+        Err(fault) => refused(fault),
+    }
+}
+
+/// What pairing makes of the operator of these bytes.
 pub(crate) fn made_of(
     alloc: Global,
     maps: &Maps,
     operator: &Operator,
     bytes: &[u8],
-) -> &'static str {
-    match instr_of(operator, body(), &maps.ids) {
-        Ok(Some(instr)) => {
-            if is_back(alloc, &instr, &maps.numbers, bytes) {
-                "back"
-            } else {
-                "other"
-            }
-        }
-        Ok(None) => "none",
-        Err(fault) => refused(fault),
-    }
+) -> &'static [u8] {
+    nth(MADE.as_bytes(), made(alloc, maps, operator, bytes))
 }
 
 // The ids of two fields, in the order in which the operator has their indices; of some operations a number, and 0.
 fn fields(instr: &Instr) -> (u32, u32) {
     match instr {
-        Instr::CallIndirect { ty, table } => (ty.number(), table.number()),
-        Instr::ReturnCallIndirect { ty, table } => (ty.number(), table.number()),
+        Instr::CallIndirect { ty, table } | Instr::ReturnCallIndirect { ty, table } => {
+            (ty.number(), table.number())
+        }
         Instr::MemoryInit { memory, data } => (data.number(), memory.number()),
         Instr::MemoryCopy { src, dst } => (dst.number(), src.number()),
         Instr::TableInit { table, elem } => (elem.number(), table.number()),
         Instr::TableCopy { src, dst } => (dst.number(), src.number()),
-        Instr::ArrayNewData { ty, data } => (ty.number(), data.number()),
-        Instr::ArrayNewElem { ty, elem } => (ty.number(), elem.number()),
+        Instr::ArrayNewData { ty, data } | Instr::ArrayInitData { ty, data } => {
+            (ty.number(), data.number())
+        }
+        Instr::ArrayNewElem { ty, elem } | Instr::ArrayInitElem { ty, elem } => {
+            (ty.number(), elem.number())
+        }
         Instr::ArrayCopy { src, dst } => (dst.number(), src.number()),
-        Instr::ArrayInitData { ty, data } => (ty.number(), data.number()),
-        Instr::ArrayInitElem { ty, elem } => (ty.number(), elem.number()),
         Instr::Unop {
             op: UnaryOp::I32TruncSF32,
         } => (1, 0),

@@ -10,6 +10,17 @@ pub(crate) fn cut(text: &[u8], by: u8) -> (&[u8], &[u8]) {
     (text, &text[text.len()..])
 }
 
+/// The word of this number, from 0 on.
+pub(crate) fn nth(text: &[u8], number: usize) -> &[u8] {
+    let mut rest = text;
+    for _ in 0..number {
+        let (_, next) = cut(rest, b' ');
+        rest = next;
+    }
+    let (word, _) = cut(rest, b' ');
+    word
+}
+
 // What a digit stands for, of those behind 9 too.
 fn digit(byte: u8) -> u8 {
     if byte < b'a' {

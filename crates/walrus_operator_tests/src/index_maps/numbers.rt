@@ -1,10 +1,9 @@
 //! What number each id is written as, in each space.
 
-use crate::maps::{body, give};
+use crate::maps::{body, give, id};
 use std::alloc::{AllocError, Global};
 use std::process::Abort;
 use std::test::Fail;
-use walrus_arena::Id;
 use walrus_index_maps::{IdsToIndices, Space};
 
 const SPACES: [Space; 9] = [
@@ -26,18 +25,17 @@ fn numbers(alloc: Global, space: Space) -> Result<IdsToIndices, AllocError> {
     Ok(numbers)
 }
 
-fn number_of(numbers: &IdsToIndices, space: Space, id: u32) -> Option<u32> {
-    let id = id as usize;
+fn number_of(numbers: &IdsToIndices, space: Space, at: u32) -> Option<u32> {
     match space {
-        Space::Type => numbers.get_type_index(Id::from_index(id)),
-        Space::Function => numbers.get_func_index(Id::from_index(id)),
-        Space::Table => numbers.get_table_index(Id::from_index(id)),
-        Space::Memory => numbers.get_memory_index(Id::from_index(id)),
-        Space::Tag => numbers.get_tag_index(Id::from_index(id)),
-        Space::Global => numbers.get_global_index(Id::from_index(id)),
-        Space::Element => numbers.get_element_index(Id::from_index(id)),
-        Space::Data => numbers.get_data_index(Id::from_index(id)),
-        _ => numbers.get_local_index(body(), Id::from_index(id)),
+        Space::Type => numbers.get_type_index(id(at)),
+        Space::Function => numbers.get_func_index(id(at)),
+        Space::Table => numbers.get_table_index(id(at)),
+        Space::Memory => numbers.get_memory_index(id(at)),
+        Space::Tag => numbers.get_tag_index(id(at)),
+        Space::Global => numbers.get_global_index(id(at)),
+        Space::Element => numbers.get_element_index(id(at)),
+        Space::Data => numbers.get_data_index(id(at)),
+        _ => numbers.get_local_index(body(), id(at)),
     }
 }
 
@@ -76,15 +74,15 @@ type Row = (u32, u32, u32);
 // Sets them one after the other.
 fn set(numbers: &mut IdsToIndices, rows: &[Row]) -> Result<(), AllocError> {
     for (function, local, number) in rows {
-        let function = Id::from_index(*function as usize);
-        numbers.set_local_index(function, Id::from_index(*local as usize), *number)?;
+        let function = id(*function);
+        numbers.set_local_index(function, id(*local), *number)?;
     }
     Ok(())
 }
 
 fn local_of(numbers: &IdsToIndices, function: u32, local: u32) -> Option<u32> {
-    let function = Id::from_index(function as usize);
-    numbers.get_local_index(function, Id::from_index(local as usize))
+    let function = id(function);
+    numbers.get_local_index(function, id(local))
 }
 
 fn are_apart(numbers: &IdsToIndices) -> bool {
