@@ -5,3 +5,5 @@ mod FileLemmas
 mod NameLemmas
 mod SizeLemmas
 mod MeanLemmas
+-- Passed on to crates above, which then list this one alone.
+pub use Rattle.walrus_parsed_linked.proofs as walrus_parsed_linked

@@ -1,0 +1,5 @@
+mod HandlerLemmas
+mod ItemLemmas
+mod PlaceLemmas
+mod FunctionLemmas
+mod RuledLemmas

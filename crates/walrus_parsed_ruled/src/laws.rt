@@ -1,0 +1,35 @@
+//! Laws: functions with nothing to do, whose contracts hold of all modules that are read.
+
+ghost use Rattle.walrus_parsed_ruled.specs.Ruled.{MeaningsAreMerged, ReadModulesMeanRuledOnes};
+
+use walrus_parsed_meaning::laws::modules_that_are_read_mean_their_files;
+use walrus_types::laws::parsing_carries_same;
+use wasm_merged_modules::laws::{merged_files_are_ruled, new_kinds_stand_behind};
+use wasm_normal_modules::laws::{
+    normal_forms_of_read_modules_are_ruled, numbered_operators_are_normal,
+};
+use wasm_ruled_normal::laws::normal_operators_are_ruled;
+
+/// What a module means that was read from a file, its locals numbered function by function, is the normal form of the file's module, its types merged, with
+/// the types of handlers behind them.
+pub fn meanings_of_read_modules_are_merged<B>()
+    ensures { MeaningsAreMerged B }
+{
+    parsing_carries_same();
+    numbered_operators_are_normal();
+    normal_forms_of_read_modules_are_ruled();
+}
+
+/// A module that was read means one that meets the rules: each block type is its own pick, sizes with addresses of 32 bits are below 2^32, and no custom section
+/// is named as those of names and of producers are.
+pub fn modules_that_are_read_mean_ruled_ones<B>()
+    ensures { ReadModulesMeanRuledOnes B }
+{
+    meanings_of_read_modules_are_merged::<B>();
+    modules_that_are_read_mean_their_files::<B>();
+    parsing_carries_same();
+    normal_operators_are_ruled();
+    normal_forms_of_read_modules_are_ruled();
+    new_kinds_stand_behind();
+    merged_files_are_ruled();
+}
