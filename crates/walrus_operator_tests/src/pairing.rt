@@ -1,6 +1,7 @@
 //! What pairing makes of operators.
 
 use crate::maps::{Maps, body};
+use crate::numbers::form;
 use crate::view::is_written;
 use crate::words::{cut, nth, number};
 use std::alloc::Global;
@@ -10,7 +11,7 @@ use walrus_operators::{Immediates, Operator};
 use walrus_pairing::{PairError, instr_of, operator_of};
 use wasm_operators::OpCode;
 
-// What pairing makes, one text: `back` where the instruction's operator is written as the same bytes, `none` where there is no instruction,
+// What pairing makes, one text: `back` where the instruction's operator is of the same form and written as the same bytes, `none` where there is no instruction,
 // or the refusal, of an index by its space.
 const MADE: &str =
     "back other none shared select alignment no-type no-function no-table no-memory no-tag no-global no-element no-data no-local no-label";
@@ -40,17 +41,24 @@ fn refused(fault: PairError) -> usize {
     }
 }
 
-fn is_back(alloc: Global, instr: &Instr, numbers: &IdsToIndices, bytes: &[u8]) -> bool {
+// Immediates of the same form, too: a byte 00 and a lane 0 are written alike.
+fn is_back(
+    alloc: Global,
+    instr: &Instr,
+    numbers: &IdsToIndices,
+    first: &Operator,
+    bytes: &[u8],
+) -> bool {
     let Ok(Some(operator)) = operator_of(alloc, instr, body(), numbers) else {
         return false;
     };
-    is_written(alloc, &operator, bytes)
+    form(&operator.immediates) == form(&first.immediates) && is_written(alloc, &operator, bytes)
 }
 
 fn made(alloc: Global, maps: &Maps, operator: &Operator, bytes: &[u8]) -> usize {
     match instr_of(operator, body(), &maps.ids) {
         Ok(Some(instr)) => {
-            if is_back(alloc, &instr, &maps.numbers, bytes) {
+            if is_back(alloc, &instr, &maps.numbers, operator, bytes) {
                 0
             } else {
                 1
