@@ -3,7 +3,6 @@ use crate::common::function;
 use crate::rows::are_rows;
 use crate::{control, memory, reference};
 use std::alloc::{AllocError, Global};
-use std::test::Fail;
 use walrus_builder::InstrSeqBuilder;
 
 // What instructions work on.
@@ -37,9 +36,8 @@ fn adds_to_new(alloc: Global, family: Family) -> Result<bool, AllocError> {
 }
 
 #[test]
-fn calls(rt: HostRuntime) -> Result<(), Fail> {
+fn calls(rt: HostRuntime) {
     for family in [Family::Control, Family::Memory, Family::Reference] {
-        assert!(rt; adds_to_new(rt.alloc(), family)?);
+        assert!(rt; adds_to_new(rt.alloc(), family) == Ok(true));
     }
-    Ok(())
 }

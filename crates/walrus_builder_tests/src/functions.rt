@@ -175,11 +175,10 @@ fn is_so_of_new(alloc: Global, ask: Ask) -> Result<bool, AllocError> {
 }
 
 #[test]
-fn types_of_functions_and_blocks(rt: HostRuntime) -> Result<(), Fail> {
+fn types_of_functions_and_blocks(rt: HostRuntime) {
     for ask in [Ask::Functions, Ask::Simple, Ask::Table] {
-        assert!(rt; is_so_of_new(rt.alloc(), ask)?);
+        assert!(rt; is_so_of_new(rt.alloc(), ask) == Ok(true));
     }
-    Ok(())
 }
 
 // A `try` that holds this sequence, with a part that passes its exceptions on.

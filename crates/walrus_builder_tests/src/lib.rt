@@ -1,4 +1,4 @@
-//! Tests of the builder, each call with ample memory.
+//! Tests of instructions, walks, trees and the builder, each call with ample memory.
 #![tactic(auto)]
 
 #[cfg(test)]
@@ -19,5 +19,7 @@ mod memory;
 mod reference;
 #[cfg(test)]
 mod rows;
+#[cfg(test)]
+mod walks;
 #[cfg(test)]
 mod writing;

@@ -1,7 +1,6 @@
 //! The walk that changes.
-use crate::log::Log;
+use super::log::Log;
 use std::alloc::{AllocError, Global};
-use std::process::Abort;
 use std::test::Fail;
 use walrus_arena::{FunctionId, InstrSeqId, LocalId, MemoryId};
 use walrus_instr::{Instr, InstrLocId, InstrSeq, InstrSeqType, Value};
@@ -45,10 +44,12 @@ fn instrs_of(seqs: &[InstrSeq], id: InstrSeqId) -> &[(Instr, InstrLocId)] {
     }
 }
 
-// Walks the sequences from the first.
-fn change(rt: &impl Abort, alloc: Global, seqs: &mut [InstrSeq]) -> Result<(), AllocError> {
+// Walks the sequences from the first, if they nest.
+fn change(alloc: Global, seqs: &mut [InstrSeq]) -> Result<(), AllocError> {
     let start = InstrSeqId::from_index(0);
-    assert!(rt; check_nesting(alloc, seqs, start)?);
+    if !check_nesting(alloc, seqs, start)? {
+        return Ok(());
+    }
     let mut log = Log::new(alloc);
     dfs_pre_order_mut(alloc, &mut log, seqs, start)
 }
@@ -114,14 +115,17 @@ fn fill(seqs: &mut [InstrSeq], start: InstrSeqId, inner: InstrSeqId) -> Result<(
     add_inner(seqs, inner)
 }
 
+fn are_renamed(alloc: Global, seqs: &mut [InstrSeq]) -> Result<bool, AllocError> {
+    let (start, inner) = (InstrSeqId::from_index(0), InstrSeqId::from_index(1));
+    fill(seqs, start, inner)?;
+    change(alloc, seqs)?;
+    Ok(is_outer_changed(instrs_of(seqs, start)) && is_inner_changed(instrs_of(seqs, inner)))
+}
+
 #[test]
 fn renames(rt: HostRuntime) -> Result<(), Fail> {
-    let (start, inner) = (InstrSeqId::from_index(0), InstrSeqId::from_index(1));
     let mut seqs = two(rt.alloc())?;
-    fill(seqs.as_mut_slice(), start, inner)?;
-    change(&rt, rt.alloc(), seqs.as_mut_slice())?;
-    assert!(rt; is_outer_changed(instrs_of(seqs.as_slice(), start)));
-    assert!(rt; is_inner_changed(instrs_of(seqs.as_slice(), inner)));
+    assert!(rt; are_renamed(rt.alloc(), seqs.as_mut_slice())?);
     Ok(())
 }
 
@@ -133,14 +137,18 @@ fn share(seqs: &mut [InstrSeq], shared: InstrSeqId) -> Result<(), AllocError> {
     push_five(seqs, shared)
 }
 
+fn is_changed_twice(alloc: Global, seqs: &mut [InstrSeq]) -> Result<bool, AllocError> {
+    let shared = InstrSeqId::from_index(1);
+    share(seqs, shared)?;
+    change(alloc, seqs)?;
+    Ok(holds(seqs, shared, 7))
+}
+
 // A sequence that two instructions hold is handed over twice, the second time as it was left.
 #[test]
 fn shared_sequence_is_changed_twice(rt: HostRuntime) -> Result<(), Fail> {
-    let shared = InstrSeqId::from_index(1);
     let mut seqs = two(rt.alloc())?;
-    share(seqs.as_mut_slice(), shared)?;
-    change(&rt, rt.alloc(), seqs.as_mut_slice())?;
-    assert!(rt; holds(seqs.as_slice(), shared, 7));
+    assert!(rt; is_changed_twice(rt.alloc(), seqs.as_mut_slice())?);
     Ok(())
 }
 
@@ -154,14 +162,21 @@ fn add_nest(alloc: Global, seqs: &mut Vec<InstrSeq>) -> Result<InstrSeqId, Alloc
     Ok(outer)
 }
 
+// Whether a five in the innermost of the nest is changed.
+fn is_changed(
+    alloc: Global,
+    seqs: &mut [InstrSeq],
+    innermost: InstrSeqId,
+) -> Result<bool, AllocError> {
+    push_five(seqs, innermost)?;
+    change(alloc, seqs)?;
+    Ok(innermost.index() == 100_000 && holds(seqs, innermost, 6))
+}
+
 #[test]
 fn deep_nest_is_changed(rt: HostRuntime) -> Result<(), Fail> {
     let mut seqs = Vec::new(rt.alloc());
     let innermost = add_nest(rt.alloc(), &mut seqs)?;
-    let all = seqs.as_mut_slice();
-    push_five(all, innermost)?;
-    change(&rt, rt.alloc(), all)?;
-    assert!(rt; innermost.index() == 100_000);
-    assert!(rt; holds(all, innermost, 6));
+    assert!(rt; is_changed(rt.alloc(), seqs.as_mut_slice(), innermost)?);
     Ok(())
 }

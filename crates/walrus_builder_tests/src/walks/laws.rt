@@ -1,5 +1,5 @@
 //! Laws are functions: each is called, generic ones at a visitor of these tests.
-use crate::log::Log;
+use super::log::Log;
 
 #[test]
 fn laws_can_be_cited() {

@@ -1,6 +1,6 @@
 //! One instruction of each form, with what it names by the table of operators.
 //!
-//! The words follow the fields of the form, and `;` stands between those of two forms. (A text in each row takes
+//! The words follow the fields of the form, and `;` stands behind those of each form. (A text in each row takes
 //! far longer to prove.) A count, a lane, a depth, an offset or the number of a
 //! field is no id and has no word; nor has a sequence that is held.
 use std::alloc::{AllocError, Global};
@@ -99,7 +99,7 @@ pub fn control_forms(alloc: Global) -> Result<Vec<Instr>, AllocError> {
 
 /// What each of these names.
 pub const CONTROL_WORDS: &str =
-    ";label;label;label;label;label type type;label type type;;tag;;;function;type table;type;function;type table;type;label label label";
+    "; label ; label ; label ; label ; label type type ; label type type ; ; tag ; ; ; function ; type table ; type ; function ; type table ; type ; label label label ; ";
 
 /// What works on operands, locals, globals and references.
 pub fn operand_forms(alloc: Global) -> Result<Vec<Instr>, AllocError> {
@@ -149,7 +149,7 @@ pub fn operand_forms(alloc: Global) -> Result<Vec<Instr>, AllocError> {
 
 /// What each of these names.
 pub const OPERAND_WORDS: &str =
-    ";type;value;;;;;;;;;local;local;local;global;global;type;;function;;;type;type;;;;;";
+    "; type ; value ; ; ; ; ; ; ; ; ; local ; local ; local ; global ; global ; type ; ; function ; ; ; type ; type ; ; ; ; ; ; ";
 
 /// What works on tables and element segments.
 pub fn table_forms(alloc: Global) -> Result<Vec<Instr>, AllocError> {
@@ -174,7 +174,8 @@ pub fn table_forms(alloc: Global) -> Result<Vec<Instr>, AllocError> {
 }
 
 /// What each of these names.
-pub const TABLE_WORDS: &str = "table;table;table;table;table;table element;element;table table";
+pub const TABLE_WORDS: &str =
+    "table ; table ; table ; table ; table ; table element ; element ; table table ; ";
 
 /// What works on memories and data segments.
 pub fn memory_forms(alloc: Global) -> Result<Vec<Instr>, AllocError> {
@@ -234,7 +235,7 @@ pub fn memory_forms(alloc: Global) -> Result<Vec<Instr>, AllocError> {
 
 /// What each of these names.
 pub const MEMORY_WORDS: &str =
-    "memory;memory;memory;memory;memory;memory data;data;memory memory;memory;memory;memory;memory;memory;";
+    "memory ; memory ; memory ; memory ; memory ; memory data ; data ; memory memory ; memory ; memory ; memory ; memory ; memory ; ; ";
 
 /// What works on structures and arrays.
 pub fn aggregate_forms(alloc: Global) -> Result<Vec<Instr>, AllocError> {
@@ -281,7 +282,7 @@ pub fn aggregate_forms(alloc: Global) -> Result<Vec<Instr>, AllocError> {
 
 /// What each of these names.
 pub const AGGREGATE_WORDS: &str =
-    "type;type;type;type;type;type;type;type;type;type data;type element;type;type;type;type;;type;type type;type data;type element";
+    "type ; type ; type ; type ; type ; type ; type ; type ; type ; type data ; type element ; type ; type ; type ; type ; ; type ; type type ; type data ; type element ; ";
 
 /// What holds sequences, which are 1 to 8: a legacy `try` with a part of each kind, a `try_table`
 /// with a clause of each kind.
@@ -329,7 +330,7 @@ pub fn structured_forms(alloc: Global) -> Result<Vec<Instr>, AllocError> {
 }
 
 /// What each of these names.
-pub const STRUCTURED_WORDS: &str = ";;;tag;tag label tag label label label";
+pub const STRUCTURED_WORDS: &str = "; ; ; tag ; tag label tag label label label ; ";
 
 /// Types that name no id, and a `try_table` with clauses of two kinds.
 pub fn other_forms(alloc: Global) -> Result<Vec<Instr>, AllocError> {
@@ -359,4 +360,4 @@ pub fn other_forms(alloc: Global) -> Result<Vec<Instr>, AllocError> {
 }
 
 /// What each of these names.
-pub const OTHER_WORDS: &str = ";label type;tag label label";
+pub const OTHER_WORDS: &str = "; label type ; tag label label ; ";

@@ -1,5 +1,5 @@
 //! What constant expressions tell a visitor.
-use crate::log::Log;
+use super::log::Log;
 use std::alloc::{AllocError, Global};
 use std::test::Fail;
 use walrus_arena::{FunctionId, GlobalId, TypeId};
@@ -13,10 +13,6 @@ fn told(alloc: Global, ops: &[ConstOp]) -> Result<Log, AllocError> {
     let mut log = Log::new(alloc);
     expr.visit(&mut log);
     Ok(log)
-}
-
-fn says(log: &Log, text: &str) -> bool {
-    !log.refused && log.text.as_str() == text
 }
 
 // Adds what the expression tells.
@@ -42,7 +38,7 @@ fn operators_tell_by_space(rt: HostRuntime) -> Result<(), Fail> {
         ConstOp::ArrayNewFixed(ty, 3),
     ];
     let told = told(rt.alloc(), &ops)?;
-    assert!(rt; says(&told, "7 value global type function type "));
+    assert!(rt; told.says("7 value global type function type "));
     Ok(())
 }
 
@@ -53,7 +49,7 @@ fn short_forms_tell_the_same(rt: HostRuntime) {
     tell(&mut log, &ConstExpr::Global(GlobalId::from_index(0)));
     tell(&mut log, &ConstExpr::RefNull(RefType::EQREF));
     tell(&mut log, &ConstExpr::RefFunc(FunctionId::from_index(0)));
-    assert!(rt; says(&log, "3 global function "));
+    assert!(rt; log.says("3 global function "));
 }
 
 #[test]

@@ -1,5 +1,5 @@
 //! The walk of a body, which isn't told of the type of the body's own sequence.
-use crate::log::Log;
+use super::log::Log;
 use std::alloc::{AllocError, Global};
 use std::test::Fail;
 use walrus_arena::TypeId;
@@ -11,10 +11,6 @@ use walrus_instr::InstrSeqType;
 fn add_block(seq: &mut InstrSeqBuilder, ty: InstrSeqType) -> Result<(), AllocError> {
     seq.block(ty, |inner| inner.i32_const(2))?;
     seq.drop()
-}
-
-fn says(log: &Log, text: &str) -> bool {
-    !log.refused && log.text.as_str() == text
 }
 
 // Whether the walk of the body tells this text, and the walk of its sequence the other.
@@ -32,7 +28,7 @@ fn tell(
     dfs_body_in_order(alloc, &mut log, body)?;
     let mut whole = Log::new(alloc);
     dfs_in_order(alloc, &mut whole, body, start)?;
-    Ok(says(&log, text) && says(&whole, whole_text))
+    Ok(log.says(text) && whole.says(whole_text))
 }
 
 #[test]

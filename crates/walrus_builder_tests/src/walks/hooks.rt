@@ -1,10 +1,10 @@
 //! Each form of instruction tells of what it names, in both walks.
-use crate::forms::{
+use super::forms::{
     AGGREGATE_WORDS, CONTROL_WORDS, MEMORY_WORDS, OPERAND_WORDS, OTHER_WORDS, STRUCTURED_WORDS,
     TABLE_WORDS, aggregate_forms, control_forms, memory_forms, operand_forms, other_forms,
     structured_forms, table_forms,
 };
-use crate::log::Log;
+use super::log::Log;
 use std::alloc::{AllocError, Global};
 use std::test::Fail;
 use walrus_arena::{InstrSeqId, TypeId};
@@ -57,45 +57,35 @@ fn words_of(family: Family) -> &'static str {
     }
 }
 
-fn says(log: &Log, words: &str) -> bool {
-    !log.refused && log.text.trim_end() == words
+fn tell(log: &mut Log, instr: &Instr) {
+    instr.visit(log);
+    log.word(";")
 }
 
-fn tells(alloc: Global, instr: &Instr, words: &str) -> bool {
-    let mut log = Log::new(alloc);
-    instr.visit(&mut log);
-    says(&log, words)
-}
-
-fn tells_changing(alloc: Global, instr: &mut Instr, words: &str) -> bool {
-    let mut log = Log::new(alloc);
-    instr.visit_mut(&mut log);
-    says(&log, words)
+fn tell_changing(log: &mut Log, instr: &mut Instr) {
+    instr.visit_mut(log);
+    log.word(";")
 }
 
 // Whether each form of the family tells of what it names, in both walks.
 fn are_told(alloc: Global, family: Family) -> Result<bool, AllocError> {
-    let mut left = words_of(family).split(';');
-    let mut agree = true;
-    for mut instr in forms_of(alloc, family)? {
-        match left.next() {
-            Some(words) => {
-                agree &= tells(alloc, &instr, words);
-                agree &= tells_changing(alloc, &mut instr, words);
-            }
-            None => agree = false,
-        }
+    let forms = forms_of(alloc, family)?;
+    let mut told = Log::new(alloc);
+    let mut changing = Log::new(alloc);
+    for mut instr in forms {
+        tell(&mut told, &instr);
+        tell_changing(&mut changing, &mut instr);
     }
-    Ok(agree && left.next().is_none())
+    let words = words_of(family);
+    Ok(told.says(words) && changing.says(words))
 }
 
 #[test]
-fn each_form_tells_of_what_it_names(rt: HostRuntime) -> Result<(), Fail> {
+fn each_form_tells_of_what_it_names(rt: HostRuntime) {
     for family in FORMS {
-        assert!(rt; are_told(rt.alloc(), family)?);
+        assert!(rt; are_told(rt.alloc(), family) == Ok(true));
     }
-    assert!(rt; are_told(rt.alloc(), Family::Other)?);
-    Ok(())
+    assert!(rt; are_told(rt.alloc(), Family::Other) == Ok(true));
 }
 
 fn add_family(
@@ -162,12 +152,26 @@ const EXPECTED: [(&str, usize); 13] = [
     ("value", 1),
 ];
 
-fn count(text: &str, word: &str) -> usize {
-    let mut found = 0usize;
-    for told in text.split(' ') {
-        if told == word {
+// How many bytes of the word are met with this one behind so many, or a number past its length where they differ.
+fn met(word: &[u8], at: usize, byte: u8) -> usize {
+    match word.get(at) {
+        Some(wanted) if *wanted == byte => at.wrapping_add(1),
+        _ => usize::MAX,
+    }
+}
+
+// How often the word stands in the text, which has a blank behind each word.
+fn count(text: &[u8], word: &[u8]) -> usize {
+    let (mut found, mut at) = (0usize, 0usize);
+    for byte in text {
+        if *byte != b' ' {
+            at = met(word, at, *byte);
+            continue;
+        }
+        if at == word.len() {
             found = found.wrapping_add(1);
         }
+        at = 0;
     }
     found
 }
@@ -175,7 +179,7 @@ fn count(text: &str, word: &str) -> usize {
 fn are_counted(log: &Log) -> bool {
     let mut agree = !log.refused && log.instrs == 93;
     for (word, wanted) in EXPECTED {
-        agree &= count(&log.text, word) == wanted;
+        agree &= count(log.text.as_bytes(), word.as_bytes()) == wanted;
     }
     agree
 }

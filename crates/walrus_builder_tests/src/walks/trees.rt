@@ -1,12 +1,11 @@
 //! Which bodies are trees.
+use crate::common::{PLAIN, add, add_nest, function};
 use std::alloc::{AllocError, Global};
 use std::test::Fail;
-use walrus_arena::{InstrSeqId, TagId, TypeId};
+use walrus_arena::{InstrSeqId, TagId};
 use walrus_builder::{FunctionBuilder, InstrSeqBuilder, check_nesting};
-use walrus_instr::{Instr, InstrSeqType, LegacyCatch, TryTableCatch};
+use walrus_instr::{Instr, LegacyCatch, TryTableCatch};
 use walrus_tree::check_tree;
-
-const PLAIN: InstrSeqType = InstrSeqType::Simple(None);
 
 fn id(index: u32) -> InstrSeqId {
     InstrSeqId::from_index(index as usize)
@@ -86,38 +85,117 @@ fn add_around(alloc: Global, seq: &mut InstrSeqBuilder, around: Around) -> Resul
 
 // A body of four sequences, its own and three more.
 fn four(alloc: Global) -> Result<FunctionBuilder, AllocError> {
-    let mut body = FunctionBuilder::with_types(alloc, TypeId::from_index(0), PLAIN)?;
+    let mut body = function(alloc)?;
     for _ in 0..3 {
         body.dangling_instr_seq(PLAIN)?;
     }
     Ok(body)
 }
 
-// Adds the instruction to a sequence that is there.
-fn add(body: &mut FunctionBuilder, seq: InstrSeqId, instr: Instr) -> Result<(), AllocError> {
-    if seq.index() >= body.seqs().len() {
-        return Err(AllocError);
-    }
-    body.instr_seq(seq).instr(instr)
+// What is added to such a body.
+#[derive(Clone, Copy)]
+enum More {
+    /// What the body's own sequence has, and an instruction of the sequence of this number.
+    Form(Around, u32, Form),
+    /// A `try` of one or two parts.
+    Parts(LegacyCatch, Option<LegacyCatch>),
+    /// A block with a `try_table` of this clause.
+    Clause(TryTableCatch),
+    /// The sequence 3, held by the sequence 1 and by an `if`.
+    Shared,
 }
 
-fn is_tree(alloc: Global, around: Around, index: u32, form: Form) -> Result<bool, AllocError> {
+fn add_form(
+    alloc: Global,
+    body: &mut FunctionBuilder,
+    seq: InstrSeqId,
+    form: Form,
+) -> Result<(), AllocError> {
+    let instr = instr_of(alloc, form)?;
+    add(body, seq, instr)
+}
+
+fn add_parts(
+    alloc: Global,
+    body: &mut FunctionBuilder,
+    first: LegacyCatch,
+    second: Option<LegacyCatch>,
+) -> Result<(), AllocError> {
+    let seq = id(1);
+    let catches = match second {
+        Some(second) => Vec::from_slice(alloc, &[first, second])?,
+        None => Vec::from_slice(alloc, &[first])?,
+    };
+    add(body, id(0), Instr::Try { seq, catches })
+}
+
+fn add_clause(
+    alloc: Global,
+    body: &mut FunctionBuilder,
+    clause: TryTableCatch,
+) -> Result<(), AllocError> {
+    let seq = id(2);
+    let catches = Vec::from_slice(alloc, &[clause])?;
+    add(body, id(1), Instr::TryTable { seq, catches })
+}
+
+fn add_block(body: &mut FunctionBuilder, around: u32, seq: u32) -> Result<(), AllocError> {
+    add(body, id(around), Instr::Block { seq: id(seq) })
+}
+
+fn add_shared(body: &mut FunctionBuilder) -> Result<(), AllocError> {
+    add_block(body, 0, 1)?;
+    add_block(body, 1, 3)?;
+    let (consequent, alternative) = (id(2), id(3));
+    let instr = Instr::IfElse {
+        consequent,
+        alternative,
+    };
+    add(body, id(0), instr)
+}
+
+fn add_more(alloc: Global, body: &mut FunctionBuilder, more: More) -> Result<(), AllocError> {
+    match more {
+        More::Form(around, seq, form) => {
+            add_around(alloc, body.func_body(), around)?;
+            add_form(alloc, body, id(seq), form)
+        }
+        More::Parts(first, second) => add_parts(alloc, body, first, second),
+        More::Clause(clause) => {
+            add_block(body, 0, 1)?;
+            add_clause(alloc, body, clause)
+        }
+        More::Shared => add_shared(body),
+    }
+}
+
+fn with(alloc: Global, more: More) -> Result<FunctionBuilder, AllocError> {
     let mut body = four(alloc)?;
-    add_around(alloc, body.func_body(), around)?;
-    add(&mut body, id(index), instr_of(alloc, form)?)?;
+    add_more(alloc, &mut body, more)?;
+    Ok(body)
+}
+
+// Whether the body of four sequences is a tree with this in it.
+fn is_tree(alloc: Global, more: More) -> Result<bool, AllocError> {
+    let body = with(alloc, more)?;
     check_tree(alloc, &body, body.func_body_id())
+}
+
+// Whether its own sequence is a tree, and one that isn't there is none.
+fn is_own(alloc: Global, body: &FunctionBuilder) -> Result<bool, AllocError> {
+    Ok(check_tree(alloc, body, id(0))? && !check_tree(alloc, body, id(4))?)
 }
 
 #[test]
 fn empty(rt: HostRuntime) -> Result<(), Fail> {
     let body = four(rt.alloc())?;
-    assert!(rt; check_tree(rt.alloc(), &body, body.func_body_id())?);
-    assert!(rt; !check_tree(rt.alloc(), &body, id(4))?);
+    assert!(rt; body.func_body_id() == id(0));
+    assert!(rt; is_own(rt.alloc(), &body)?);
     Ok(())
 }
 
 #[test]
-fn beside_each_other(rt: HostRuntime) -> Result<(), Fail> {
+fn beside_each_other(rt: HostRuntime) {
     let rows = [
         // Held by themselves, or by none.
         (0, Form::Loop(0), false),
@@ -138,82 +216,53 @@ fn beside_each_other(rt: HostRuntime) -> Result<(), Fail> {
         (2, Form::BrTable(2, 1), false),
     ];
     for (index, form, wanted) in rows {
-        assert!(rt; is_tree(rt.alloc(), Around::Blocks, index, form)? == wanted);
+        assert!(rt; is_tree(rt.alloc(), More::Form(Around::Blocks, index, form)) == Ok(wanted));
     }
-    Ok(())
 }
 
 #[test]
-fn arms(rt: HostRuntime) -> Result<(), Fail> {
+fn arms_and_handlers(rt: HostRuntime) {
     let rows = [
-        (1, Form::Br(1), true),
-        (1, Form::Br(2), false),
-        (2, Form::Br(1), false),
-        (2, Form::Block(1), false),
-    ];
-    for (arm, form, wanted) in rows {
-        assert!(rt; is_tree(rt.alloc(), Around::Arms, arm, form)? == wanted);
-    }
-    Ok(())
-}
-
-#[test]
-fn handlers(rt: HostRuntime) -> Result<(), Fail> {
-    let rows = [
+        (Around::Arms, 1, Form::Br(1), true),
+        (Around::Arms, 1, Form::Br(2), false),
+        (Around::Arms, 2, Form::Br(1), false),
+        (Around::Arms, 2, Form::Block(1), false),
         // A handler is inside what is around the `try`: with its own two frames are open.
-        (3, Form::Rethrow(0), true),
-        (3, Form::Rethrow(1), true),
-        (3, Form::Rethrow(2), false),
-        (3, Form::Br(1), false),
-        (3, Form::Br(2), false),
-        (1, Form::Loop(3), false),
+        (Around::Handlers, 3, Form::Rethrow(0), true),
+        (Around::Handlers, 3, Form::Rethrow(1), true),
+        (Around::Handlers, 3, Form::Rethrow(2), false),
+        (Around::Handlers, 3, Form::Br(1), false),
+        (Around::Handlers, 3, Form::Br(2), false),
+        (Around::Handlers, 1, Form::Loop(3), false),
     ];
-    for (index, form, wanted) in rows {
-        assert!(rt; is_tree(rt.alloc(), Around::Handlers, index, form)? == wanted);
+    for (around, index, form, wanted) in rows {
+        assert!(rt; is_tree(rt.alloc(), More::Form(around, index, form)) == Ok(wanted));
     }
-    Ok(())
 }
 
-// The sequence 3 is held by the sequence 1 and by an `if`.
-fn shares(alloc: Global) -> Result<FunctionBuilder, AllocError> {
-    let mut body = four(alloc)?;
-    add(&mut body, id(0), Instr::Block { seq: id(1) })?;
-    add(&mut body, id(1), Instr::Block { seq: id(3) })?;
-    let (consequent, alternative) = (id(2), id(3));
-    let instr = Instr::IfElse {
-        consequent,
-        alternative,
-    };
-    add(&mut body, id(0), instr)?;
-    Ok(body)
+// Whether a body nests that is no tree, and one of its sequences is one.
+fn nests_alone(alloc: Global, body: &FunctionBuilder) -> Result<bool, AllocError> {
+    Ok(
+        check_nesting(alloc, body, id(0))?
+            && !check_tree(alloc, body, id(0))?
+            && check_tree(alloc, body, id(1))?,
+    )
 }
 
 #[test]
 fn held_twice(rt: HostRuntime) -> Result<(), Fail> {
-    let body = shares(rt.alloc())?;
-    assert!(rt; check_nesting(rt.alloc(), &body, id(0))?);
-    assert!(rt; !check_tree(rt.alloc(), &body, id(0))?);
-    assert!(rt; check_tree(rt.alloc(), &body, id(1))?);
+    let body = with(rt.alloc(), More::Shared)?;
+    assert!(rt; nests_alone(rt.alloc(), &body)?);
     Ok(())
 }
 
-// Whether a body is a tree whose `try` has one or two parts.
+// Whether the body is a tree whose `try` has these parts.
 fn has_parts(
     alloc: Global,
     first: LegacyCatch,
     second: Option<LegacyCatch>,
 ) -> Result<bool, AllocError> {
-    let mut body = four(alloc)?;
-    let mut catches = Vec::from_slice(alloc, &[first])?;
-    if let Some(second) = second {
-        catches.push(second)?;
-    }
-    let instr = Instr::Try {
-        seq: id(1),
-        catches,
-    };
-    add(&mut body, id(0), instr)?;
-    check_tree(alloc, &body, body.func_body_id())
+    is_tree(alloc, More::Parts(first, second))
 }
 
 #[test]
@@ -235,21 +284,8 @@ fn delegates(rt: HostRuntime) -> Result<(), Fail> {
     Ok(())
 }
 
-// Whether a body is a tree that has a block with a `try_table` of this clause.
-fn has_clause(alloc: Global, clause: TryTableCatch) -> Result<bool, AllocError> {
-    let mut body = four(alloc)?;
-    let catches = Vec::from_slice(alloc, &[clause])?;
-    add(&mut body, id(0), Instr::Block { seq: id(1) })?;
-    let instr = Instr::TryTable {
-        seq: id(2),
-        catches,
-    };
-    add(&mut body, id(1), instr)?;
-    check_tree(alloc, &body, body.func_body_id())
-}
-
 #[test]
-fn clauses(rt: HostRuntime) -> Result<(), Fail> {
+fn clauses(rt: HostRuntime) {
     let tag = TagId::from_index(0);
     let rows = [
         (TryTableCatch::Catch { tag, label: id(0) }, true),
@@ -259,20 +295,8 @@ fn clauses(rt: HostRuntime) -> Result<(), Fail> {
         (TryTableCatch::CatchRef { tag, label: id(3) }, false),
     ];
     for (clause, wanted) in rows {
-        assert!(rt; has_clause(rt.alloc(), clause)? == wanted);
+        assert!(rt; is_tree(rt.alloc(), More::Clause(clause)) == Ok(wanted));
     }
-    Ok(())
-}
-
-// Adds 100,000 blocks, each in the one before, and gives the last.
-fn add_nest(body: &mut FunctionBuilder) -> Result<InstrSeqId, AllocError> {
-    let mut outer = body.func_body_id();
-    for _ in 0..100_000 {
-        let seq = body.dangling_instr_seq(PLAIN)?;
-        add(body, outer, Instr::Block { seq })?;
-        outer = seq;
-    }
-    Ok(outer)
 }
 
 // Whether the body still is a tree with this instruction in the sequence.
@@ -282,23 +306,30 @@ fn stays(
     seq: InstrSeqId,
     form: Form,
 ) -> Result<bool, AllocError> {
-    add(body, seq, instr_of(alloc, form)?)?;
+    add_form(alloc, body, seq, form)?;
     check_tree(alloc, body, body.func_body_id())
+}
+
+// The count of frames in a nest of 100,000 blocks: 100,001 with the body's.
+const NEST: [(Form, bool); 3] = [
+    (Form::Br(0), true),
+    (Form::Rethrow(100_000), true),
+    (Form::Rethrow(100_001), false),
+];
+
+fn counts_frames(alloc: Global, body: &mut FunctionBuilder) -> Result<bool, AllocError> {
+    let last = add_nest(body)?;
+    let mut agree = true;
+    for (form, wanted) in NEST {
+        agree &= stays(alloc, body, last, form)? == wanted;
+    }
+    Ok(agree)
 }
 
 #[test]
 fn deep_nest(rt: HostRuntime) -> Result<(), Fail> {
-    let mut body = FunctionBuilder::with_types(rt.alloc(), TypeId::from_index(0), PLAIN)?;
-    let last = add_nest(&mut body)?;
-    // The count of frames: 100,001 with the body's.
-    let rows = [
-        (Form::Br(0), true),
-        (Form::Rethrow(100_000), true),
-        (Form::Rethrow(100_001), false),
-    ];
-    for (form, wanted) in rows {
-        assert!(rt; stays(rt.alloc(), &mut body, last, form)? == wanted);
-    }
+    let mut body = function(rt.alloc())?;
+    assert!(rt; counts_frames(rt.alloc(), &mut body)?);
     Ok(())
 }
 

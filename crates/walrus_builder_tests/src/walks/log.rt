@@ -25,6 +25,11 @@ impl Log {
         }
     }
 
+    /// Whether it was told this.
+    pub fn says(&self, text: &str) -> bool {
+        !self.refused && self.text.as_str() == text
+    }
+
     pub fn word(&mut self, word: &str) {
         if self.text.push_str(word).is_err() || self.text.push(' ').is_err() {
             self.refused = true;

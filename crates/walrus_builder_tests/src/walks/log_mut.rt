@@ -2,8 +2,8 @@
 //! constant, and puts `unreachable` in place of `drop`, once it has written down what it was told.
 ghost use Rattle.std.specs.Prelude.{⊤};
 
-use crate::log::Log;
-use crate::renamer::{add_one, move_function, move_local, replace_drop};
+use super::log::Log;
+use super::renamer::{add_one, move_function, move_local, replace_drop};
 use walrus_arena::{
     DataId, ElementId, FunctionId, GlobalId, InstrSeqId, LocalId, MemoryId, TableId, TagId, TypeId,
 };

@@ -1,5 +1,5 @@
 //! The walk that changes, over a function that is built.
-use crate::log::Log;
+use super::log::Log;
 use std::alloc::{AllocError, Global};
 use std::test::Fail;
 use walrus_arena::{FunctionId, LocalId, TypeId};
