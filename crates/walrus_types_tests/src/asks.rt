@@ -2,7 +2,6 @@
 use crate::steps::{Num, Step, table};
 use crate::{adds, copies, edits, groups};
 use std::alloc::Global;
-use std::test::Fail;
 use walrus_types::{IrError, ModuleTypes};
 
 // What is asked of a table.
@@ -60,9 +59,8 @@ const ROWS: [(&[Step], Ask); 11] = [
 ];
 
 #[test]
-fn tables_do_what_is_asked(rt: HostRuntime) -> Result<(), Fail> {
+fn tables_do_what_is_asked(rt: HostRuntime) {
     for (steps, ask) in ROWS {
-        assert!(rt; is_so(rt.alloc(), steps, ask)?);
+        assert!(rt; matches!(is_so(rt.alloc(), steps, ask), Ok(true)));
     }
-    Ok(())
 }

@@ -1,4 +1,4 @@
-//! Tests of the type table, each call with ample memory.
+//! Tests of arenas, of the forms of types and their records, and of the type table, each call with ample memory.
 #![tactic(auto)]
 
 #[cfg(test)]
@@ -15,6 +15,8 @@ mod edited;
 mod edits;
 #[cfg(test)]
 mod emission;
+#[cfg(test)]
+mod forms;
 #[cfg(test)]
 mod groups;
 #[cfg(test)]

@@ -230,11 +230,10 @@ const SECTIONS: [(&[Entry], &[usize], Then); 4] = [
 ];
 
 #[test]
-fn sections_are_read(rt: HostRuntime) -> Result<(), Fail> {
+fn sections_are_read(rt: HostRuntime) {
     for (entries, wanted, then) in SECTIONS {
-        assert!(rt; reads(rt.alloc(), entries, wanted, then)?);
+        assert!(rt; matches!(reads(rt.alloc(), entries, wanted, then), Ok(true)));
     }
-    Ok(())
 }
 
 fn is_record_copied(alloc: Global, group: &GroupRecord) -> Result<bool, AllocError> {
@@ -280,9 +279,8 @@ fn copies_linked(alloc: Global) -> Result<bool, IrError> {
 }
 
 #[test]
-fn copies_of_what_is_written(rt: HostRuntime) -> Result<(), Fail> {
-    assert!(rt; copies_linked(rt.alloc())?);
-    Ok(())
+fn copies_of_what_is_written(rt: HostRuntime) {
+    assert!(rt; matches!(copies_linked(rt.alloc()), Ok(true)));
 }
 
 // Whether these groups, read by a new table, are written as the others are, and each type at its index.
@@ -308,7 +306,6 @@ fn change_places(alloc: Global) -> Result<bool, IrError> {
 }
 
 #[test]
-fn neighbours_change_places(rt: HostRuntime) -> Result<(), Fail> {
-    assert!(rt; change_places(rt.alloc())?);
-    Ok(())
+fn neighbours_change_places(rt: HostRuntime) {
+    assert!(rt; matches!(change_places(rt.alloc()), Ok(true)));
 }

@@ -5,7 +5,6 @@ ghost use Rattle.walrus_types.specs.Parsing.{AreBelow};
 
 use crate::steps::{Num, Step, are_at, table};
 use std::alloc::Global;
-use std::test::Fail;
 use walrus_arena::TypeId;
 use walrus_types::{EmittedTypes, IrError, ModuleTypes};
 
@@ -96,9 +95,8 @@ const ROUNDS: [(&[Step], &[Option<u32>], usize); 2] = [
 ];
 
 #[test]
-fn a_second_round_changes_nothing(rt: HostRuntime) -> Result<(), Fail> {
+fn a_second_round_changes_nothing(rt: HostRuntime) {
     for (steps, wanted, count) in ROUNDS {
-        assert!(rt; is_so(rt.alloc(), steps, wanted, count)?);
+        assert!(rt; matches!(is_so(rt.alloc(), steps, wanted, count), Ok(true)));
     }
-    Ok(())
 }

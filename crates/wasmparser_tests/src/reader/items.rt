@@ -35,15 +35,19 @@ fn reads_text(alloc: Global, reader: &mut BinaryReader<'_>, wanted: &str) -> Res
     Ok(reader.read::<&str>(alloc)? == wanted)
 }
 
+// Whether a number is read, and then a text is refused that is cut off.
+fn reads_cut(alloc: Global, reader: &mut BinaryReader<'_>) -> Result<bool> {
+    let is_number = reader.read::<u32>(alloc)? == 128;
+    let cut = refused(reader.shrink().read::<&str>(alloc));
+    Ok(is_number && cut == Some((ErrorKind::Utf8, 3)))
+}
+
 #[test]
-fn values(rt: HostRuntime) -> std::result::Result<(), Fail> {
+fn values(rt: HostRuntime) {
     let mut reader = reader_at(b"\x80\x01\x02\xe2\x82\xac", 0);
-    assert!(rt; reader.read::<u32>(rt.alloc())? == 128);
-    let cut = refused(reader.shrink().read::<&str>(rt.alloc()));
-    assert!(rt; cut == Some((ErrorKind::Utf8, 3)));
+    assert!(rt; matches!(reads_cut(rt.alloc(), &mut reader), Ok(true)));
     let mut text = reader_at(b"\x03\xe2\x82\xac", 0);
-    assert!(rt; reads_text(rt.alloc(), &mut text, "\u{20ac}")?);
-    Ok(())
+    assert!(rt; matches!(reads_text(rt.alloc(), &mut text, "\u{20ac}"), Ok(true)));
 }
 
 fn are_lists(lists: &[Numbers], first: &[u32], second: &[u32]) -> bool {
@@ -125,11 +129,10 @@ fn one_by_one(rt: HostRuntime) -> std::result::Result<(), Fail> {
 }
 
 #[test]
-fn dropped_early(rt: HostRuntime) -> std::result::Result<(), Fail> {
+fn dropped_early(rt: HostRuntime) {
     let mut reader = reader_at(b"\x03\x05\x86\x01\x07\x08", 0);
-    assert!(rt; reads_numbers(rt.alloc(), &mut reader, &[Some(5)])?);
+    assert!(rt; matches!(reads_numbers(rt.alloc(), &mut reader, &[Some(5)]), Ok(true)));
     assert!(rt; reader.current_position() == 5);
-    Ok(())
 }
 
 // The first fault of a vec of at most 100 numbers, where nothing is given behind it.

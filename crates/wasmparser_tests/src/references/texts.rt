@@ -1,25 +1,56 @@
 //! Texts of the Core Specification's text format, and of shared and exact types.
 
 use std::alloc::{AllocError, Global};
-use std::fmt::{Debug, Display};
+use std::fmt::Display;
 use std::test::Fail;
 use wasm_ref_types::{
     AbstractHeapType, CoreTypeId, HeapType, PackedIndex, RefType, UnpackedIndex, ValType,
 };
 
-fn is_written<T: Display>(alloc: Global, value: &T, text: &str) -> Result<bool, AllocError> {
-    let written = format!(in alloc; "{value}")?;
-    Ok(written.as_str() == text)
+fn push_shown<T: Display>(alloc: Global, text: &mut String, value: &T) -> Result<(), AllocError> {
+    text.push_str(format!(in alloc; "{value},")?.as_str())
 }
 
-fn is_debug<T: Debug>(alloc: Global, value: &T, text: &str) -> Result<bool, AllocError> {
-    let written = format!(in alloc; "{value:?}")?;
-    Ok(written.as_str() == text)
+// The texts of these, each with a `,` behind it.
+fn shown<T: Display>(alloc: Global, values: &[T]) -> Result<String, AllocError> {
+    let mut text = String::new(alloc);
+    for value in values {
+        push_shown(alloc, &mut text, value)?;
+    }
+    Ok(text)
 }
 
-fn is_wat(alloc: Global, ty: RefType, text: &str) -> Result<bool, AllocError> {
-    let wat = ty.wat(alloc)?;
-    Ok(wat.as_str() == text)
+// (Texts in a table take far longer to prove. No text has a `,` of its own where the two are equal, as there are as many
+// as values.)
+fn are_shown<T: Display>(alloc: Global, values: &[T], texts: &str) -> Result<bool, AllocError> {
+    Ok(shown(alloc, values)?.as_str() == texts)
+}
+
+// The same of what `wat` and a debugger's form give.
+fn wats(alloc: Global, types: &[RefType]) -> Result<String, AllocError> {
+    let mut text = String::new(alloc);
+    for ty in types {
+        text.push_str(ty.wat(alloc)?.as_str())?;
+        text.push(',')?;
+    }
+    Ok(text)
+}
+
+fn debugs(alloc: Global, types: &[ValType]) -> Result<String, AllocError> {
+    let mut text = String::new(alloc);
+    for ty in types {
+        text.push_str(format!(in alloc; "{ty:?},")?.as_str())?;
+    }
+    Ok(text)
+}
+
+// By both ways.
+fn are_references(alloc: Global, types: &[RefType], texts: &str) -> Result<bool, AllocError> {
+    Ok(wats(alloc, types)?.as_str() == texts && are_shown(alloc, types, texts)?)
+}
+
+fn are_values(alloc: Global, types: &[ValType], texts: &str) -> Result<bool, AllocError> {
+    Ok(debugs(alloc, types)?.as_str() == texts && are_shown(alloc, types, texts)?)
 }
 
 const REFERENCES: [RefType; 28] = [
@@ -53,77 +84,62 @@ const REFERENCES: [RefType; 28] = [
     RefType::NOCONT,
 ];
 
-// The text of each, in the same order. (Texts in a table take far longer to prove.)
+// The text of each, in the same order.
 const TEXTS: &str =
     "(ref null func),(ref func),(ref null extern),(ref extern),(ref null any),(ref any),(ref null none),\
     (ref none),(ref null noextern),(ref noextern),(ref null nofunc),(ref nofunc),(ref null eq),(ref eq),\
     (ref null struct),(ref struct),(ref null array),(ref array),(ref null i31),(ref i31),(ref null exn),\
-    (ref exn),(ref null noexn),(ref noexn),(ref null cont),(ref cont),(ref null nocont),(ref nocont)";
+    (ref exn),(ref null noexn),(ref noexn),(ref null cont),(ref cont),(ref null nocont),(ref nocont),";
 
-// Whether each type is written as the text of its place, by both ways, and no text is left.
-fn are_written(alloc: Global, types: &[RefType], texts: &str) -> Result<bool, AllocError> {
-    let mut texts = texts.split(',');
-    for ty in types {
-        let Some(text) = texts.next() else {
-            return Ok(false);
-        };
-        if !is_wat(alloc, *ty, text)? || !is_written(alloc, ty, text)? {
-            return Ok(false);
-        }
-    }
-    Ok(texts.next().is_none())
+#[test]
+fn references(rt: HostRuntime) {
+    assert!(rt; are_references(rt.alloc(), &REFERENCES, TEXTS) == Ok(true));
 }
 
 #[test]
-fn references(rt: HostRuntime) -> Result<(), Fail> {
-    assert!(rt; are_written(rt.alloc(), &REFERENCES, TEXTS)?);
-    Ok(())
-}
-
-#[test]
-fn heap_types(rt: HostRuntime) -> Result<(), Fail> {
+fn heap_types(rt: HostRuntime) {
     let ty = AbstractHeapType::I31;
     let id = UnpackedIndex::Id(CoreTypeId::from_index(3));
-    let texts = [
-        (HeapType::FUNC, "func"),
-        (HeapType::EXTERN, "extern"),
-        (HeapType::Abstract { shared: true, ty }, "(shared i31)"),
-        (HeapType::Concrete(UnpackedIndex::Module(7)), "7"),
-        (HeapType::Exact(UnpackedIndex::RecGroup(12)), "(exact 12)"),
-        (HeapType::Concrete(id), "3"),
+    let types = [
+        HeapType::FUNC,
+        HeapType::EXTERN,
+        HeapType::Abstract { shared: true, ty },
+        HeapType::Concrete(UnpackedIndex::Module(7)),
+        HeapType::Exact(UnpackedIndex::RecGroup(12)),
+        HeapType::Concrete(id),
     ];
-    for (ty, text) in texts {
-        assert!(rt; is_written(rt.alloc(), &ty, text)?, "{text}");
-    }
-    Ok(())
+    assert!(rt;
+        are_shown(
+            rt.alloc(),
+            &types,
+            "func,extern,(shared i31),7,(exact 12),3,"
+        ) == Ok(true)
+    );
 }
 
 #[test]
 fn references_by_index(rt: HostRuntime) -> Result<(), Fail> {
     let index = PackedIndex::from_module_index(983_040).ok_or("no index")?;
-    let texts = [
-        (RefType::concrete(true, index), "(ref null 983040)"),
-        (RefType::exact(false, index), "(ref (exact 983040))"),
-    ];
-    for (ty, text) in texts {
-        assert!(rt; is_wat(rt.alloc(), ty, text)?, "{text}");
-    }
+    let types = [RefType::concrete(true, index), RefType::exact(false, index)];
+    assert!(rt;
+        are_references(
+            rt.alloc(),
+            &types,
+            "(ref null 983040),(ref (exact 983040)),"
+        )?
+    );
     Ok(())
 }
 
 #[test]
-fn values(rt: HostRuntime) -> Result<(), Fail> {
-    let texts = [
-        (ValType::I32, "i32"),
-        (ValType::I64, "i64"),
-        (ValType::F32, "f32"),
-        (ValType::F64, "f64"),
-        (ValType::V128, "v128"),
-        (ValType::EXNREF, "(ref null exn)"),
+fn values(rt: HostRuntime) {
+    let types = [
+        ValType::I32,
+        ValType::I64,
+        ValType::F32,
+        ValType::F64,
+        ValType::V128,
+        ValType::EXNREF,
     ];
-    for (ty, text) in texts {
-        assert!(rt; is_written(rt.alloc(), &ty, text)?, "{text}");
-        assert!(rt; is_debug(rt.alloc(), &ty, text)?, "{text}");
-    }
-    Ok(())
+    assert!(rt; are_values(rt.alloc(), &types, "i32,i64,f32,f64,v128,(ref null exn),") == Ok(true));
 }
