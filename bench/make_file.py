@@ -1,19 +1,19 @@
 #!/usr/bin/env python3
 """Makes a valid WebAssembly file of one shape, from a seed: what a reader of whole files has most of.
 
-    bench/make_file.py [--seed N] [--count N] code|names|exports|segments|types FILE
+    bench/make_file.py [--seed N] [--count N] code|names|exports|segments|data|types FILE
 
 code: functions of some 100 operators each (locals, constants, loads and stores, arithmetic, calls, nested blocks, branches), in a module
 with a memory, a global and a table. names: empty functions, each with a name and a local with a name. exports: as many exports of one
-function, whose names begin alike. segments: as many passive data segments of four bytes. types: as many function types, each
-another. --count is the number of functions, exports, segments or types.
+function, whose names begin alike. segments: as many passive data segments of four bytes. data: the same, of 400 bytes. types: as many
+function types, each another. --count is the number of functions, exports, segments or types.
 """
 import argparse
 import random
 
 I32 = b"\x7f"
 END = b"\x0b"
-SHAPES = ("code", "names", "exports", "segments", "types")
+SHAPES = ("code", "names", "exports", "segments", "data", "types")
 
 
 def unsigned(number):
@@ -117,8 +117,12 @@ def exports(rng, count):
     return [types, functions, section(7, vector([name(b"an export of this module, number %d" % n) + b"\x00\x00" for n in order])), bodies]
 
 
-def segments(rng, count):
-    return [section(5, vector([b"\x00\x01"])), section(11, vector([b"\x01" + name(rng.randbytes(4)) for _ in range(count)]))]
+def segments(rng, count, size=4):
+    return [section(5, vector([b"\x00\x01"])), section(11, vector([b"\x01" + name(rng.randbytes(size)) for _ in range(count)]))]
+
+
+def data(rng, count):
+    return segments(rng, count, 400)
 
 
 def types(rng, count):

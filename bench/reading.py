@@ -1,5 +1,5 @@
 #!/usr/bin/env python3
-"""Times walrus_inspect against wasm-opt --all-features without passes on files of five shapes, each of three sizes, and prints a table.
+"""Times walrus_inspect against wasm-opt --all-features without passes on files of six shapes, each of three sizes, and prints a table.
 
     bench/reading.py [--rounds N] [--scale N] [FILE..]
 
@@ -18,8 +18,8 @@ from compare import install, measured
 ROOT = os.path.dirname(os.path.dirname(os.path.abspath(__file__)))
 CRATE = f"{ROOT}/crates/walrus_inspect_cli"
 PROGRAM = f"{CRATE}/out/walrus_inspect_cli"
-# The largest count of each shape: code of some 50 MB, a million of each other thing but of segments, of which there may be fewer.
-COUNTS = {"code": 200_000, "names": 1_000_000, "exports": 1_000_000, "segments": 100_000, "types": 1_000_000}
+# The largest count of each shape: code of some 50 MB, a million of each other thing but of segments, of which there may be fewer (they are small, and data is the same with longer ones).
+COUNTS = {"code": 200_000, "names": 1_000_000, "exports": 1_000_000, "segments": 100_000, "data": 100_000, "types": 1_000_000}
 
 
 def build():

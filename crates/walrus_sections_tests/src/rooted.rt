@@ -121,17 +121,20 @@ fn roots_are_what_was_added(rt: HostRuntime) -> Result<(), Fail> {
 
 fn is_cloned(transform: &CodeTransform) -> Result<bool, AllocError> {
     let copy = transform.clone()?;
-    let (Some(&(location, offset)), Some((function, range))) =
-        (copy.instruction_map.first(), copy.function_ranges.first())
-    else {
+    let (Some(&(location, offset)), Some((function, range))) = (
+        copy.instruction_map.first(),
+        copy.function_ranges.first(),
+    ) else {
         return Ok(false);
     };
-    Ok(location == InstrLocId::new(3)
-        && offset == 11
-        && copy.code_section_start == 8
-        && function.index() == 5
-        && range.start == 9
-        && range.end == 12)
+    Ok(
+        location == InstrLocId::new(3)
+            && offset == 11
+            && copy.code_section_start == 8
+            && function.index() == 5
+            && range.start == 9
+            && range.end == 12,
+    )
 }
 
 #[test]
