@@ -3,7 +3,7 @@
 
     bench/files.py
 
-What one process can show of itself is tested in rewriter_program_tests; the rest is here.
+What one process can show of itself is tested in wasm_rewriter_tests; the rest is here.
 """
 import os
 import subprocess

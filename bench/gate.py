@@ -67,7 +67,8 @@ def work_of(pid, crates):
         is_test = any(it.endswith("rattle-test") for it in words)
         return (runs[1].removesuffix("_tests"), "tests") if is_test else (runs[1], "programs")
     named = words[words.index("--crate-name") + 1] if "--crate-name" in words[:-1] else None
-    name = named or next((it for it in crates if f"{folder}/".startswith(f"{crates[it]}/")), None)
+    # (rt works in a copy of the clone)
+    name = named or next(iter(re.findall(r"/crates/(\w+)(?:/|$)", folder)), None)
     if name not in crates:
         return None
     if "/rt-edit-" in folder:
@@ -145,13 +146,22 @@ def edits_in(folder):
     return sum(it.endswith(".edit") for it in os.listdir(f"{folder}/must-fail")) if os.path.isdir(f"{folder}/must-fail") else 0
 
 
+def started_in(pid):
+    """The folder in which a process was started: rt works in a copy of it."""
+    try:
+        with open(f"/proc/{pid}/environ", errors="replace") as file:
+            return dict(word.partition("=")[::2] for word in file.read().split("\0")).get("PWD")
+    except OSError:
+        return None
+
+
 def running(clone):
-    """The `rt ci` that runs in a folder, which a Python runs, and not the copies of itself that it is about to start commands in."""
+    """The `rt ci`, of all crates or of some, that was started in a folder, which a Python runs, and not the copies of itself that it is about to start commands in."""
     found = []
     for it in processes().values():
-        words = [word for word in words_of(it.pid) if word]
-        is_rt = [os.path.basename(word) for word in words[-2:]] == ["rt", "ci"] and "python" in os.path.basename(words[0])
-        if is_rt and folder_of(it.pid) == clone:
+        words = [os.path.basename(word) for word in words_of(it.pid) if word]
+        is_rt = words[1:3] == ["rt", "ci"] and "python" in words[0]
+        if is_rt and clone in (folder_of(it.pid), started_in(it.pid)):
             found.append((it.born, it.pid))
     return min(found)[1] if found else None
 

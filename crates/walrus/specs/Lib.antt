@@ -46,8 +46,10 @@ pub use Rattle.walrus_meaning.specs.Words
 -- What names what, what is kept, why a pass is refused, and what it leaves.
 pub use Rattle.walrus_passes_laws.specs.walrus_references.Kept as KeptItems
 pub use Rattle.walrus_passes_laws.specs.walrus_references.References
+pub use Rattle.walrus_passes_laws.specs.walrus_references.Refused as TreeItems
 pub use Rattle.walrus_passes_laws.specs.walrus_references.Roots as RootItems
 pub use Rattle.walrus_passes_laws.specs.walrus_exact.Exact
+pub use Rattle.walrus_passes_laws.specs.walrus_refusals.Asked as LinkedItems
 pub use Rattle.walrus_passes_laws.specs.walrus_refusals.Sound
 pub use Rattle.walrus_passes_laws.specs.walrus_refusals.Written
 pub use Rattle.walrus_passes_laws.specs.walrus_passes.Asked
@@ -57,3 +59,5 @@ pub use Rattle.walrus_passes_laws.specs.walrus_passes.UsedItems
 pub use Rattle.walrus_passes_laws.specs.LinkedKept
 pub use Rattle.walrus_passes_laws.specs.Served
 pub use Rattle.walrus_passes_laws.specs.Twice
+pub use Rattle.walrus_marks.specs.Chains
+pub use Rattle.walrus_meaning_kept.specs.Meant

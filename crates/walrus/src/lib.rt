@@ -23,7 +23,7 @@ pub use walrus_sections::{
 /// What of a module is used, and dropping the rest.
 pub mod passes {
     pub use walrus_passes_laws::passes::{Used, gc};
-    pub use walrus_roots::Roots;
+    pub use walrus_roots::{Item, Roots};
 }
 
 /// Laws of the words that contracts cite.
@@ -45,4 +45,12 @@ pub mod laws {
 
     /// What passes keep of a module.
     pub use walrus_passes_laws as passes;
+
+    /// What is reached is the least that holds the roots and is closed, and is what is reached in the module that is meant.
+    pub mod kept {
+        pub use walrus_meaning_kept::laws::{
+            kept_is_meant, passes_keep_what_is_meant, references_are_meant,
+        };
+        pub use walrus_references::kept_is_least;
+    }
 }

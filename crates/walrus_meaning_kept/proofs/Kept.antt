@@ -36,7 +36,7 @@ use Rattle.walrus_passes_laws.specs.walrus_references.walrus_module_items.declar
 use Rattle.walrus_passes_laws.specs.walrus_references.walrus_module_items.declared.export.ExportItem.{ExportItem}
 use Rattle.walrus_passes_laws.specs.walrus_references.walrus_module_items.declared.export.ExportItem.TheVariants as exported
 use Rattle.walrus_roots.specs.declared.item.Item.{Item}
-use Rattle.walrus_roots.specs.Items.{item, space_number}
+use Rattle.walrus_roots.specs.Items.{item, space_number, IsShared, PushesShared}
 use Rattle.walrus_meaning.specs.walrus_linked.Linked.{IsLinked, IsWhole}
 use Rattle.walrus_passes_laws.specs.walrus_references.References.{Refers, RefersIn, Named, named_by, table_items, global_items, tag_items, element_items, data_items, HasElement, HasData, IsActiveIn, IsCopiedInto}
 use Rattle.walrus_passes_laws.specs.walrus_references.Roots.{Root, exports, starts, is_active, fills_import, declares, is_pushed}
@@ -56,7 +56,7 @@ use Rattle.walrus_meaning.proofs.MeaningLemmas.{items_seen}
 use Rattle.walrus_meaning_refs.specs.Items.{own_item, own_items}
 use Rattle.walrus_meaning_refs.specs.Bodies.{BodiesNameWhatIsTold}
 use Rattle.walrus_meaning_refs.specs.Locals.{type_of_local}
-use Rattle.walrus_meaning_kept.specs.Meant.{meant, function_parts, listed_elements, listed_data, GroupIsWritten, IsPlainIn, IsShared, PushesShared, RefersThrough, ReferencesAreMeant, IsKeptMeant, KeptIsMeant, PassesKeepWhatIsMeant}
+use Rattle.walrus_meaning_kept.specs.Meant.{meant, function_parts, listed_elements, listed_data, GroupIsWritten, IsPlainIn, RefersThrough, ReferencesAreMeant, IsKeptMeant, KeptIsMeant, PassesKeepWhatIsMeant}
 use Rattle.walrus_meaning_kept.proofs.Functions.{meant_items, function_forth, function_through, function_back}
 use Rattle.walrus_meaning_refs.proofs.Items.{table_meant, global_meant, segment_meant, element_meant}
 use Rattle.walrus_meaning_kept.proofs.Low.{low_at, named_are_low}

@@ -23,7 +23,7 @@ use Rattle.walrus_passes_laws.specs.walrus_references.walrus_module_items.declar
 use Rattle.walrus_passes_laws.specs.walrus_references.walrus_module_items.declared.memory.Memory.{Memory}
 use Rattle.walrus_meaning.specs.Meaning.{means, type_ids}
 use Rattle.walrus_roots.specs.declared.item.Item.{Item}
-use Rattle.walrus_roots.specs.Items.{item}
+use Rattle.walrus_roots.specs.Items.{item, IsShared, PushesShared}
 use Rattle.walrus_passes_laws.specs.walrus_references.References.{Refers}
 use Rattle.walrus_passes_laws.specs.walrus_references.Kept.{Kept}
 use Rattle.walrus_passes_laws.specs.walrus_refusals.Sound.{IsSound}
@@ -76,10 +76,6 @@ pub record IsPlainIn (m : Module) (s : Space) (id : ℕ) : Type 0 where
 
 -- ---- references
 
--- the item is no local: locals are a body's own
-abbrev pub IsShared : Item → Type 0
-IsShared x = x.space ≡ spaces.Local → ⊥
-
 -- the one item names the other, or a local whose type this is
 abbrev pub RefersThrough : Module → Item → Item → Type 0
 RefersThrough m x y = Refers m x y ⊎ ((id : ℕ) × Refers m x (item spaces.Local id) × Refers m (item spaces.Local id) y)
@@ -88,10 +84,6 @@ RefersThrough m x y = Refers m x y ⊎ ((id : ℕ) × Refers m x (item spaces.Lo
 abbrev pub ReferencesAreMeant : Type 0
 ReferencesAreMeant = (m : Module) → IsLinked m → AreGrouped m.types → GroupsAreWritten m.types → (x y : Item) → IsShared x → IsShared y
     → RefersThrough m x y ↔ abstract.Refers (meant m) (own_item x) (own_item y)
-
--- custom sections push no locals
-abbrev pub PushesShared : List Item → Type 0
-PushesShared pushed = (x : Item) → Contains pushed x → IsShared x
 
 -- what is kept of what a module means
 abbrev pub IsKeptMeant : Module → List Item → Item → Type 0

@@ -1,1 +1,2 @@
+mod Reserved
 mod Rest

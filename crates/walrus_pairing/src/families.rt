@@ -1,8 +1,8 @@
 //! The operators of instructions, family by family.
-ghost use Rattle.std.specs.Prelude.{◌≡◌, Ok, Err, None, Some};
+ghost use Rattle.std.specs.Prelude.{◌≡◌, false, Ok, Err, None, Some};
 ghost use Rattle.walrus_index_maps.specs.Views.{indices};
 ghost use Rattle.walrus_pairing.specs.Looks.{number_of};
-ghost use Rattle.walrus_pairing.specs.Seen.{as_seen};
+ghost use Rattle.walrus_pairing.specs.Seen.{as_seen, has_reserved_byte, is_fence};
 ghost use Rattle.walrus_pairing.specs.Write.{bare_code, test_code, cast_code, constant, numeric, variable, memory_op, object_op, lane_items};
 
 use crate::written::{
@@ -78,7 +78,8 @@ pub(crate) fn write_constant(value: Value) -> Written
 
 // With a lane, where there is one.
 pub(crate) fn lane_op(code: OpCode, lane: Option<u8>) -> Written
-    ensures { as_seen result ≡ Ok (Some (record { code = code; items = lane_items lane })) }
+    ensures value { as_seen result ≡ Ok (Some (record { code = code; items = lane_items lane })) }
+    ensures reserved { has_reserved_byte result ≡ false }
 {
     match lane {
         None => op(code, Immediates::Bare),
@@ -87,7 +88,8 @@ pub(crate) fn lane_op(code: OpCode, lane: Option<u8>) -> Written
 }
 
 pub(crate) fn write_numeric(instr: &Instr) -> Written
-    ensures { as_seen result ≡ numeric instr.now }
+    ensures value { as_seen result ≡ numeric instr.now }
+    ensures reserved { has_reserved_byte result ≡ is_fence instr.now }
 {
     match instr {
         Instr::Const { value } => write_constant(*value),

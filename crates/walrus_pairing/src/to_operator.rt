@@ -1,8 +1,8 @@
 //! The operator of an instruction.
-ghost use Rattle.std.specs.Prelude.{◌≡◌};
+ghost use Rattle.std.specs.Prelude.{◌≡◌, false};
 ghost use Rattle.walrus_index_maps.specs.Views.{indices};
 ghost use Rattle.walrus_pairing.specs.Looks.{number_of};
-ghost use Rattle.walrus_pairing.specs.Seen.{as_seen};
+ghost use Rattle.walrus_pairing.specs.Seen.{as_seen, has_reserved_byte, is_fence};
 ghost use Rattle.walrus_pairing.specs.Answers.{selected, IsSelectAnswer, IsAnswer};
 ghost use Rattle.walrus_pairing.specs.Write.{plain_at};
 
@@ -26,7 +26,8 @@ use walrus_operators::Immediates;
 // Of an instruction without a list. It isn't inlined: what it keeps on the stack is then no part of each call.
 #[inline(never)]
 fn rare_operator(instr: &Instr, function: FunctionId, maps: &IdsToIndices) -> Written
-    ensures { as_seen result ≡ plain_at (number_of (indices maps.now) function) instr.now }
+    ensures value { as_seen result ≡ plain_at (number_of (indices maps.now) function) instr.now }
+    ensures reserved { has_reserved_byte result ≡ is_fence instr.now }
 {
     if let Some(code) = bare_code_of(instr) {
         return op(code, Immediates::Bare);
@@ -45,7 +46,8 @@ fn rare_operator(instr: &Instr, function: FunctionId, maps: &IdsToIndices) -> Wr
 
 // The same, the frequent instructions first.
 fn plain_operator(instr: &Instr, function: FunctionId, maps: &IdsToIndices) -> Written
-    ensures { as_seen result ≡ plain_at (number_of (indices maps.now) function) instr.now }
+    ensures value { as_seen result ≡ plain_at (number_of (indices maps.now) function) instr.now }
+    ensures reserved { has_reserved_byte result ≡ is_fence instr.now }
 {
     match instr {
         Instr::LocalGet { local } => local_op(byte(0x20), *local, function, maps),
@@ -74,7 +76,8 @@ fn selected_type(instr: &Instr) -> Option<ValType>
 }
 
 fn select_operator(alloc: Global, ty: ValType, maps: &IdsToIndices) -> Written
-    ensures { IsSelectAnswer (indices maps.now).types.number ty result }
+    ensures answer { IsSelectAnswer (indices maps.now).types.number ty result }
+    ensures reserved { has_reserved_byte result ≡ false }
 {
     let ty = write_value(ty, maps)?;
     let mut types = Vec::new(alloc);
@@ -83,7 +86,7 @@ fn select_operator(alloc: Global, ty: ValType, maps: &IdsToIndices) -> Written
 }
 
 /// The plain operator of an instruction in the body of this function, its names by their numbers; none for an instruction that holds
-/// sequences or labels, which is not paired by itself.
+/// sequences or labels, which is not paired by itself. A fence's, and no other, has a reserved byte.
 ///
 /// # Errors
 ///
@@ -95,7 +98,8 @@ pub fn operator_of(
     function: FunctionId,
     maps: &IdsToIndices,
 ) -> Written
-    ensures { IsAnswer (number_of (indices maps.now) function) instr.now result }
+    ensures answer { IsAnswer (number_of (indices maps.now) function) instr.now result }
+    ensures reserved { has_reserved_byte result ≡ is_fence instr.now }
 {
     if let Some(ty) = selected_type(instr) {
         return select_operator(alloc, ty, maps);

@@ -2,7 +2,7 @@
 ghost use Rattle.std.specs.Prelude.{◌≡◌, IfErr, OnErr, OnOk};
 ghost use Rattle.wasm_formats.specs.declared.fault.Space.TheVariants as spaces;
 ghost use Rattle.walrus_refusals.specs.walrus_used.walrus_module.Parts.{parts};
-ghost use Rattle.walrus_roots.specs.Items.{item};
+ghost use Rattle.walrus_roots.specs.Items.{item, PushesShared};
 ghost use Rattle.walrus_refusals.specs.Sound.{IsRefused, IsSound};
 ghost use Rattle.walrus_arena.specs.Arena.{entries};
 ghost use Rattle.walrus_sections.specs.Sections.{pushed};
@@ -54,6 +54,7 @@ fn drop_unkept<B>(input: &mut Module<B>, kept: &KeptItems, types: &[TypeId])
 pub fn run<B: CustomSection>(alloc: Global, input: &mut Module<B>) -> Result<(), ModuleError>
     ensures kept { OnOk result (WithPushed (pushed B.gc_roots (entries input.old.customs)) (λ items. IsKeptPart (parts input.old) items (parts input.new))) }
     ensures sound { OnOk result (WithPushed (pushed B.gc_roots (entries input.old.customs)) (IsSound (parts input.old))) }
+    ensures shared { OnOk result (WithPushed (pushed B.gc_roots (entries input.old.customs)) PushesShared) }
     ensures customs { input.new.customs ≡ input.old.customs }
     ensures unchanged { OnErr result (input.new ≡ input.old) }
     ensures refused { IfErr result (IsRefusedAsked (parts input.old) (pushed B.gc_roots (entries input.old.customs))) }

@@ -2,7 +2,7 @@
 ghost use Rattle.std.specs.Prelude.{◌<◌, ◌≤◌, ◌^◌, ℕ, Decides, IfErr, IfOk, OnOk, nat_eq};
 ghost use Rattle.std.specs.HashSet.{contains};
 ghost use Rattle.walrus_refusals.specs.walrus_used.walrus_module.Parts.{parts};
-ghost use Rattle.walrus_roots.specs.Items.{item};
+ghost use Rattle.walrus_roots.specs.Items.{item, PushesShared};
 ghost use Rattle.walrus_marks.specs.Chains.{FitsIn};
 ghost use Rattle.walrus_refusals.specs.walrus_used.Counts.{counts_of};
 ghost use Rattle.walrus_refusals.specs.Sound.{IsRefused, IsSound};
@@ -95,6 +95,7 @@ impl Used {
     pub fn new<B: CustomSection>(alloc: Global, input: &Module<B>) -> Result<Self, ModuleError>
         ensures kept { IfOk result (λ used. WithPushed (pushed B.gc_roots (entries input.now.customs)) (λ items. AreKept (parts input.now) items used)) }
         ensures sound { OnOk result (WithPushed (pushed B.gc_roots (entries input.now.customs)) (IsSound (parts input.now))) }
+        ensures shared { OnOk result (WithPushed (pushed B.gc_roots (entries input.now.customs)) PushesShared) }
         ensures refused { IfErr result (IsRefusedAsked (parts input.now) (pushed B.gc_roots (entries input.now.customs))) }
     {
         let roots = input.customs.gc_roots(alloc)?;

@@ -13,11 +13,12 @@ use walrus_passes::Used;
 use walrus_roots::Roots;
 use walrus_sections::{CodeTransform, CustomSection, SectionFault};
 
-// A section that keeps a function, or refuses.
+// A section that keeps a function, or refuses to say what it keeps.
 #[derive(Drop)]
 struct Keeper {
     function: FunctionId,
     refuses: bool,
+    fault: SectionFault,
 }
 
 impl CustomSection for Keeper {
@@ -41,7 +42,7 @@ impl CustomSection for Keeper {
 
     fn add_gc_roots(&self, roots: &mut Roots) -> Result<(), SectionFault> {
         if self.refuses {
-            return Err(SectionFault::Refused);
+            return Err(self.fault);
         }
         roots.push_func(self.function)?;
         Ok(())
@@ -50,17 +51,37 @@ impl CustomSection for Keeper {
     fn apply_code_transform(&mut self, _transform: &CodeTransform) {}
 }
 
+fn add(alloc: Global, module: &mut Module, keeper: Keeper) -> Result<(), AllocError> {
+    module.customs.add(Box::new(alloc, keeper)?)?;
+    Ok(())
+}
+
 /// Adds a section that keeps this function.
 pub(crate) fn keep(
     alloc: Global,
     module: &mut Module,
     function: FunctionId,
-    refuses: bool,
 ) -> Result<(), AllocError> {
-    module
-        .customs
-        .add(Box::new(alloc, Keeper { function, refuses })?)?;
-    Ok(())
+    let keeper = Keeper {
+        function,
+        refuses: false,
+        fault: SectionFault::Refused,
+    };
+    add(alloc, module, keeper)
+}
+
+/// Adds a section that answers this when it is asked.
+pub(crate) fn refuse(
+    alloc: Global,
+    module: &mut Module,
+    fault: SectionFault,
+) -> Result<(), AllocError> {
+    let keeper = Keeper {
+        function: FunctionId::from_index(0),
+        refuses: true,
+        fault,
+    };
+    add(alloc, module, keeper)
 }
 
 /// Whether the function is used.
@@ -71,12 +92,13 @@ pub(crate) fn uses(alloc: Global, module: &Module, function: FunctionId) -> bool
     }
 }
 
-// Of two functions the second is exported; with a section that keeps the first both are used.
+// Of two functions, of which the first returns, the second is exported; with a section that keeps the first both are used.
 #[test]
 fn what_a_section_keeps_is_used(rt: HostRuntime) -> Result<(), Fail> {
     let steps = [
         Step::Function,
         Step::Function,
+        Step::Return(0),
         Step::ExportFunction(1),
         Step::Used(1),
         Step::Unused(0),
@@ -126,5 +148,36 @@ fn a_section_refuses_first(rt: HostRuntime) -> Result<(), Fail> {
         Step::Gc(7),
     ];
     assert!(rt; leave(rt.alloc(), &steps, [1, 1, 0, 0, 0])?);
+    Ok(())
+}
+
+// Sections are asked by rising id, before anything else.
+#[test]
+fn a_section_without_memory_is_told_first(rt: HostRuntime) -> Result<(), Fail> {
+    let steps = [
+        Step::Function,
+        Step::ExportFunction(0),
+        Step::Uninitialize(0),
+        Step::Short,
+        Step::Refuse,
+        Step::Gc(8),
+        Step::DeleteSection(0),
+        Step::Gc(7),
+    ];
+    assert!(rt; leave(rt.alloc(), &steps, [1, 1, 0, 0, 0])?);
+    Ok(())
+}
+
+#[test]
+fn a_section_that_keeps_a_dead_function(rt: HostRuntime) -> Result<(), Fail> {
+    let steps = [
+        Step::Function,
+        Step::Keep(0),
+        Step::DeleteFunction(0),
+        Step::Gc(3),
+        Step::DeleteSection(0),
+        Step::Gc(0),
+    ];
+    assert!(rt; leave(rt.alloc(), &steps, [0, 0, 0, 0, 0])?);
     Ok(())
 }

@@ -1,5 +1,5 @@
 //! Small modules, made by steps, and how many items they have.
-use crate::asked::{keep, uses};
+use crate::asked::{keep, refuse, uses};
 use std::alloc::{AllocError, Global};
 use walrus_arena::{
     ExportId, FunctionId, GlobalId, Id, ImportId, InstrSeqId, TableId, TypeId,
@@ -15,6 +15,7 @@ use walrus_module::Module;
 use walrus_module::collections::Collection;
 use walrus_module_items::{ElementItems, ElementKind, FunctionKind};
 use walrus_passes::{Used, gc};
+use walrus_sections::SectionFault;
 
 /// A step by which a module is made or changed. Numbers are those of ids.
 #[derive(Clone, Copy)]
@@ -52,10 +53,13 @@ pub(crate) enum Step {
     DeleteExport(usize),
     DeleteImport(usize),
     DeleteType(usize),
-    /// A section that keeps the function, and one that refuses.
+    /// A section that keeps the function, one that refuses, and one that has no memory to say what it keeps.
     Keep(usize),
     Refuse,
+    Short,
     DeleteSection(usize),
+    /// The function is to live.
+    Lives(usize),
     /// The function is to be used, or not.
     Used(usize),
     Unused(usize),
@@ -64,7 +68,7 @@ pub(crate) enum Step {
     /// The body is not to be nested.
     NotNested(usize),
     /// A gc, and what is used before it, which both answer this: 0 for `Ok`, 1 for `NotLinked`, 2 for `NoTree`, 3 for a dead function, 4 for a dead type,
-    /// 5 for a shared global, 6 for an exact type, 7 for a section that refuses.
+    /// 5 for a shared global, 6 for an exact type, 7 for a section that refuses, 8 for want of memory.
     Gc(usize),
 }
 
@@ -200,7 +204,8 @@ fn answer(refusal: Option<ModuleError>) -> usize {
             },
         ) => 6,
         Some(ModuleError::SectionRefused) => 7,
-        Some(_) => 8,
+        Some(ModuleError::Memory) => 8,
+        Some(_) => 9,
     }
 }
 
@@ -281,8 +286,9 @@ fn add(alloc: Global, module: &mut Module, step: Step) -> Result<(), AllocError>
         }
         Step::Struct(ty) => add_struct(alloc, module, ty),
         Step::SharedGlobal => add_shared(module),
-        Step::Keep(index) => keep(alloc, module, function(index), false),
-        Step::Refuse => keep(alloc, module, function(0), true),
+        Step::Keep(index) => keep(alloc, module, function(index)),
+        Step::Refuse => refuse(alloc, module, SectionFault::Refused),
+        Step::Short => refuse(alloc, module, SectionFault::Memory),
         Step::Segment { table, function } => add_segment(alloc, module, active(table), function),
         Step::Declared(function) => add_segment(alloc, module, ElementKind::Declared, function),
         _ => Ok(()),
@@ -316,6 +322,7 @@ fn name(module: &mut Module, step: Step) -> Result<(), AllocError> {
 fn take(alloc: Global, module: &mut Module, step: Step) -> Result<bool, AllocError> {
     match step {
         Step::Gc(wanted) => return Ok(answers(alloc, module, wanted)),
+        Step::Lives(index) => return Ok(module.funcs.contains(function(index))),
         Step::Used(index) => return Ok(uses(alloc, module, function(index))),
         Step::Unused(index) => return Ok(!uses(alloc, module, function(index))),
         Step::Found(index) => return Ok(finds(module, function(index))),

@@ -83,13 +83,16 @@ fn a_function_that_is_named_behind_a_return_is_kept(rt: HostRuntime) -> Result<(
     Ok(())
 }
 
+// A refusal drops nothing, not even a function that nothing names.
 #[test]
 fn a_dead_function_that_is_exported(rt: HostRuntime) -> Result<(), Fail> {
     let steps = [
         Step::Function,
+        Step::Function,
         Step::ExportFunction(0),
         Step::DeleteFunction(0),
         Step::Gc(3),
+        Step::Lives(1),
         Step::DeleteExport(0),
         Step::Gc(0),
     ];

@@ -1,5 +1,5 @@
 -- Items of a module, by space and id.
-use Rattle.std.specs.Prelude.{ℕ}
+use Rattle.std.specs.Prelude.{◌≡◌, ℕ, List, Contains}
 use Rattle.wasm_formats.specs.declared.fault.Space.{Space}
 use Rattle.wasm_formats.specs.declared.fault.Space.TheVariants as spaces
 use Rattle.walrus_roots.specs.declared.item.Item.{Item}
@@ -19,3 +19,11 @@ space_number spaces.Element = 6
 space_number spaces.Data = 7
 space_number spaces.Local = 8
 space_number spaces.Label = 9
+
+-- the item is no local: locals are a body's own
+abbrev pub IsShared : Item → Type 0
+IsShared x = x.space ≡ spaces.Local → ⊥
+
+-- none of what custom sections push is a local
+abbrev pub PushesShared : List Item → Type 0
+PushesShared pushed = (x : Item) → Contains pushed x → IsShared x

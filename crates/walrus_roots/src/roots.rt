@@ -1,7 +1,7 @@
 //! The items that custom sections keep.
 ghost use Rattle.std.specs.Prelude.{◌≡◌, [], ◌∷◌, ◌++◌, IfOk, OnOk, OnErr};
 ghost use Rattle.wasm_formats.specs.declared.fault.Space.TheVariants as spaces;
-ghost use Rattle.walrus_roots.specs.Items.{item};
+ghost use Rattle.walrus_roots.specs.Items.{item, IsShared, PushesShared};
 
 use crate::item::Item;
 use std::alloc::{AllocError, Global};
@@ -18,10 +18,13 @@ pub struct Roots {
 impl Model for Roots {
     ghost use Rattle.std.specs.Prelude.{List};
     ghost use Rattle.walrus_roots.specs.declared.item.Item.{Item};
+    ghost use Rattle.walrus_roots.specs.Items.{PushesShared};
 
     ghost Value = { List Item };
 
     ghost view = { λ r. r.items.items };
+
+    ghost invariant = { λ r. PushesShared r.items.items };
 }
 
 impl Roots {
@@ -47,11 +50,21 @@ impl Roots {
         })
     }
 
-    /// The items, in the order in which they were added.
+    /// The items, in the order in which they were added. None is a local.
     pub fn items(&self) -> &[Item]
-        ensures { result.now ≡ self.now }
+        ensures items { result.now ≡ self.now }
+        ensures shared { PushesShared result.now }
     {
         self.items.as_slice()
+    }
+
+    fn push(&mut self, item: Item) -> Result<(), AllocError>
+        requires { IsShared «item» }
+        ensures added { OnOk result (self.new ≡ self.old ++ «item» ∷ []) }
+        ensures refused { OnErr result (self.new ≡ self.old) }
+    {
+        self.items.push(item)?;
+        Ok(())
     }
 
     /// Adds a function.
@@ -63,8 +76,7 @@ impl Roots {
         ensures added { OnOk result (self.new ≡ self.old ++ item spaces.Function id ∷ []) }
         ensures refused { OnErr result (self.new ≡ self.old) }
     {
-        self.items.push(Item::new(Space::Function, id))?;
-        Ok(())
+        self.push(Item::new(Space::Function, id))
     }
 
     /// Adds a table.
@@ -76,8 +88,7 @@ impl Roots {
         ensures added { OnOk result (self.new ≡ self.old ++ item spaces.Table id ∷ []) }
         ensures refused { OnErr result (self.new ≡ self.old) }
     {
-        self.items.push(Item::new(Space::Table, id))?;
-        Ok(())
+        self.push(Item::new(Space::Table, id))
     }
 
     /// Adds a memory.
@@ -89,8 +100,7 @@ impl Roots {
         ensures added { OnOk result (self.new ≡ self.old ++ item spaces.Memory id ∷ []) }
         ensures refused { OnErr result (self.new ≡ self.old) }
     {
-        self.items.push(Item::new(Space::Memory, id))?;
-        Ok(())
+        self.push(Item::new(Space::Memory, id))
     }
 
     /// Adds a global.
@@ -102,8 +112,7 @@ impl Roots {
         ensures added { OnOk result (self.new ≡ self.old ++ item spaces.Global id ∷ []) }
         ensures refused { OnErr result (self.new ≡ self.old) }
     {
-        self.items.push(Item::new(Space::Global, id))?;
-        Ok(())
+        self.push(Item::new(Space::Global, id))
     }
 
     /// Adds a tag.
@@ -115,7 +124,6 @@ impl Roots {
         ensures added { OnOk result (self.new ≡ self.old ++ item spaces.Tag id ∷ []) }
         ensures refused { OnErr result (self.new ≡ self.old) }
     {
-        self.items.push(Item::new(Space::Tag, id))?;
-        Ok(())
+        self.push(Item::new(Space::Tag, id))
     }
 }

@@ -1,9 +1,10 @@
 //! What sections keep, and what they are told.
 use crate::own::{Keeper, Listener, Refuser};
-use std::alloc::Global;
+use std::alloc::{AllocError, Global};
 use std::test::Fail;
 use walrus_arena::{FunctionId, GlobalId, MemoryId, TableId, TagId, UntypedCustomSectionId};
 use walrus_index_maps::IdsToIndices;
+use walrus_instr::InstrLocId;
 use walrus_roots::{Item, Roots};
 use walrus_sections::{CodeTransform, CustomSection, ModuleCustomSections, SectionFault};
 use wasm_formats::Space;
@@ -114,5 +115,37 @@ fn roots_are_what_was_added(rt: HostRuntime) -> Result<(), Fail> {
         (Space::Tag, 1),
     ];
     assert!(rt; are(roots.items(), &added));
+    assert!(rt; are(roots.clone()?.items(), &added));
+    Ok(())
+}
+
+fn is_cloned(transform: &CodeTransform) -> Result<bool, AllocError> {
+    let copy = transform.clone()?;
+    let (Some(&(location, offset)), Some((function, range))) =
+        (copy.instruction_map.first(), copy.function_ranges.first())
+    else {
+        return Ok(false);
+    };
+    Ok(location == InstrLocId::new(3)
+        && offset == 11
+        && copy.code_section_start == 8
+        && function.index() == 5
+        && range.start == 9
+        && range.end == 12)
+}
+
+#[test]
+fn a_transform_is_cloned(rt: HostRuntime) -> Result<(), Fail> {
+    let alloc = rt.alloc();
+    let mut transform = CodeTransform {
+        instruction_map: Vec::new(alloc),
+        code_section_start: 8,
+        function_ranges: Vec::new(alloc),
+    };
+    transform.instruction_map.push((InstrLocId::new(3), 11))?;
+    transform
+        .function_ranges
+        .push((FunctionId::from_index(5), 9..12))?;
+    assert!(rt; is_cloned(&transform)?);
     Ok(())
 }

@@ -3,6 +3,7 @@ use crate::own::Keeper;
 use std::alloc::Global;
 use std::test::Fail;
 use walrus_arena::FunctionId;
+use walrus_index_maps::IdsToIndices;
 use walrus_sections::{CustomSection, ModuleCustomSections, RawCustomSection, Section};
 
 fn raw_bytes_are(sections: &ModuleCustomSections, index: usize, bytes: &[u8]) -> bool {
@@ -23,6 +24,18 @@ fn bytes_were(removed: Option<RawCustomSection>, bytes: &[u8]) -> bool {
     }
 }
 
+// Whether a boxed section of these bytes was handed out.
+fn data_was(alloc: Global, deleted: Option<Section>, bytes: &[u8]) -> bool {
+    let numbers = IdsToIndices::new(alloc);
+    match deleted {
+        Some(Section::Boxed(section)) => match section.data(alloc, &numbers) {
+            Ok(found) => found.as_slice() == bytes,
+            Err(_) => false,
+        },
+        _ => false,
+    }
+}
+
 #[test]
 fn a_raw_section_is_found_until_it_is_removed(rt: HostRuntime) -> Result<(), Fail> {
     let function = FunctionId::from_index(3);
@@ -36,7 +49,7 @@ fn a_raw_section_is_found_until_it_is_removed(rt: HostRuntime) -> Result<(), Fai
     assert!(rt; bytes_were(sections.remove_raw("x"), &[0x2a]));
     assert!(rt; sections.remove_raw("x").is_none());
     assert!(rt; !sections.contains(id));
-    assert!(rt; matches!(sections.delete(boxed), Some(Section::Boxed(_))));
+    assert!(rt; data_was(rt.alloc(), sections.delete(boxed), &[1]));
     Ok(())
 }
 

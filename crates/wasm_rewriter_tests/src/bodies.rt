@@ -84,45 +84,57 @@ fn faults(rt: HostRuntime) {
     }
 }
 
-#[test]
-fn numbers(rt: HostRuntime) -> Result<(), AllocError> {
-    let mut out = Vec::new(rt.alloc());
-    write_u32(&mut out, 624_485)?;
-    write_s32(&mut out, -123_456)?;
+fn write_numbers(out: &mut Vec<u8>) -> Result<(), AllocError> {
+    write_u32(out, 624_485)?;
+    write_s32(out, -123_456)?;
     for n in [63, 64, -64, -65] {
-        write_s32(&mut out, n)?;
+        write_s32(out, n)?;
     }
-    let wanted: &[u8] = &[
-        0xe5, 0x8e, 0x26, 0xc0, 0xbb, 0x78, 0x3f, 0xc0, 0x00, 0x40, 0xbf, 0x7f,
-    ];
-    assert_eq!(rt; out.as_slice(), wanted);
     Ok(())
 }
 
 #[test]
-fn bodies(rt: HostRuntime) -> Result<(), AllocError> {
+fn numbers(rt: HostRuntime) -> Result<(), AllocError> {
+    let mut out = Vec::new(rt.alloc());
+    write_numbers(&mut out)?;
+    let wanted: &[u8] = &[
+        0xe5, 0x8e, 0x26, 0xc0, 0xbb, 0x78, 0x3f, 0xc0, 0x00, 0x40, 0xbf, 0x7f,
+    ];
+    assert!(rt; out.as_slice() == wanted);
+    Ok(())
+}
+
+// Writes a body behind a count and its size, and says whether it has that size.
+fn writes_body(writer: &mut CodeWriter) -> Result<bool, AllocError> {
     let options = Options::new();
     let body: &[u8] = &[0x00, 0x01, 0x10, 0x01, 0x0f, 0x41, 0x07, 0x1a, 0x0b];
     let new_function: &[u32] = &[0, 200];
+    write_u32(&mut writer.bytes, 1)?;
+    write_u32(&mut writer.bytes, 6)?;
+    let Ok(_) = check_body(&options, new_function.len(), body, 27) else {
+        return Ok(false);
+    };
+    let bytes = measure_body(&options, new_function, body);
+    if writer.bytes.len() < 100 && bytes < 100 {
+        writer.write_body(&options, new_function, 2, body)?;
+    }
+    Ok(bytes == 6)
+}
+
+fn is_written(writer: &CodeWriter, bytes: &[u8], places: &[(u32, u32)]) -> bool {
+    match &writer.places {
+        Some(pairs) => writer.bytes.as_slice() == bytes && pairs.as_slice() == places,
+        None => false,
+    }
+}
+
+#[test]
+fn bodies(rt: HostRuntime) {
     let mut writer = CodeWriter {
         bytes: Vec::new(rt.alloc()),
         places: Some(Vec::new(rt.alloc())),
     };
-    write_u32(&mut writer.bytes, 1)?;
-    write_u32(&mut writer.bytes, 6)?;
-    let Ok(_) = check_body(&options, new_function.len(), body, 27) else {
-        return Err(AllocError);
-    };
-    let bytes = measure_body(&options, new_function, body);
-    assert_eq!(rt; bytes, 6);
-    if writer.bytes.len() < 100 && bytes < 100 {
-        writer.write_body(&options, new_function, 2, body)?;
-    }
-    let wanted: &[u8] = &[0x01, 0x06, 0x00, 0x10, 0xc8, 0x01, 0x0f, 0x0b];
-    assert_eq!(rt; writer.bytes.as_slice(), wanted);
-    if let Some(places) = &writer.places {
-        let wanted: &[(u32, u32)] = &[(4, 3), (6, 6), (10, 7)];
-        assert_eq!(rt; places.as_slice(), wanted);
-    }
-    Ok(())
+    assert!(rt; writes_body(&mut writer) == Ok(true));
+    let bytes = [0x01, 0x06, 0x00, 0x10, 0xc8, 0x01, 0x0f, 0x0b];
+    assert!(rt; is_written(&writer, &bytes, &[(4, 3), (6, 6), (10, 7)]));
 }

@@ -42,89 +42,114 @@ pub fn sink_of(alloc: Global, room: usize, fail: SinkFail) -> Result<MemorySink,
     MemorySink::new(alloc, room, fail)
 }
 
+// Whether the source gives just these bytes.
+fn gives<S: Source>(alloc: Global, source: &mut S, bytes: &[u8]) -> bool {
+    match given(alloc, source) {
+        Some(read) => read.as_slice() == bytes,
+        None => false,
+    }
+}
+
 #[test]
 fn reads_to_the_end(rt: HostRuntime) {
     for len in [31, 0] {
         let bytes = &MODULE[..len];
-        let mut source = MemorySource::new(bytes, None);
-        let read = given(rt.alloc(), &mut source);
-        assert!(rt; read.is_some_and(|read| read.as_slice() == bytes), "{len}");
+        assert!(rt; gives(rt.alloc(), &mut MemorySource::new(bytes, None), bytes));
     }
+}
+
+fn refuses<S: Source>(alloc: Global, source: &mut S) -> bool {
+    read_all(alloc, source).err() == Some(ReadFault::Reader)
+}
+
+// Whether a source refuses, which fails at that read, and gives nothing behind it.
+fn is_told(alloc: Global, failing: u64, refused: bool) -> bool {
+    let mut source = MemorySource::new(&MODULE, Some(failing));
+    refuses(alloc, &mut source) == refused && read_of(&mut source).is_none()
 }
 
 #[test]
 fn a_read_that_fails_is_told(rt: HostRuntime) {
-    for (failing, fails) in [(0, true), (1, true), (2, false)] {
-        let mut source = MemorySource::new(&MODULE, Some(failing));
-        let answer = read_all(rt.alloc(), &mut source);
-        assert_eq!(rt;
-            answer.err() == Some(ReadFault::Reader),
-            fails,
-            "at {failing}"
-        );
-        assert_eq!(rt; read_of(&mut source), None, "after {failing}");
+    for (failing, refused) in [(0, true), (1, true), (2, false)] {
+        assert!(rt; is_told(rt.alloc(), failing, refused));
     }
 }
 
+// Whether the module is sent up to the cut, and the sink has these bytes then.
+fn takes_front(sink: &mut MemorySink, cut: Option<u64>, front: &[u8]) -> bool {
+    cut_at(sink, &MODULE) == cut && sink.bytes() == front
+}
+
+fn is_cut(alloc: Global, fail: SinkFail, count: u64, front: &[u8]) -> Result<bool, AllocError> {
+    let mut sink = sink_of(alloc, 40, fail)?;
+    Ok(takes_front(&mut sink, Some(count), front) && stays_failed(&mut sink))
+}
+
 #[test]
-fn a_write_that_fails_leaves_the_first_bytes(rt: HostRuntime) -> Result<(), Fail> {
+fn a_write_that_fails_leaves_the_first_bytes(rt: HostRuntime) {
     for count in 0..31u64 {
+        let front = &MODULE[..count as usize];
         for fail in [SinkFail::After(count), SinkFail::Zero(count)] {
-            let mut sink = sink_of(rt.alloc(), 40, fail)?;
-            assert_eq!(rt; cut_at(&mut sink, &MODULE), Some(count), "{count}");
-            assert!(rt; sink.bytes() == &MODULE[..count as usize], "{count}");
-            assert!(rt; stays_failed(&mut sink), "{count}");
+            assert!(rt; is_cut(rt.alloc(), fail, count, front) == Ok(true));
         }
     }
-    Ok(())
+}
+
+// Whether the whole module is taken, whatever the sending answers.
+fn takes_whole(alloc: Global, fail: SinkFail, cut: Option<u64>) -> Result<bool, AllocError> {
+    let mut sink = sink_of(alloc, 31, fail)?;
+    Ok(takes_front(&mut sink, cut, &MODULE))
 }
 
 #[test]
-fn a_flush_that_fails_comes_after_all_bytes(rt: HostRuntime) -> Result<(), Fail> {
+fn a_flush_that_fails_comes_after_all_bytes(rt: HostRuntime) {
     let fates = [
         (SinkFail::Never, None),
         (SinkFail::After(31), None),
         (SinkFail::Flush, Some(31)),
     ];
     for (fail, cut) in fates {
-        let mut sink = sink_of(rt.alloc(), 31, fail)?;
-        assert_eq!(rt; cut_at(&mut sink, &MODULE), cut);
-        assert!(rt; sink.bytes() == MODULE.as_slice());
+        assert!(rt; takes_whole(rt.alloc(), fail, cut) == Ok(true));
     }
-    Ok(())
 }
 
 fn takes<S: Sink>(sink: &mut S, bytes: &[u8]) -> Option<usize> {
     sink.write(bytes).ok()
 }
 
-#[test]
-fn a_write_past_the_room_fails(rt: HostRuntime) -> Result<(), Fail> {
-    let mut sink = sink_of(rt.alloc(), 3, SinkFail::Never)?;
-    for (text, taken) in [("ab", Some(2)), ("cd", None), ("c", None)] {
-        assert_eq!(rt; takes(&mut sink, text.as_bytes()), taken, "{text}");
-    }
-    assert!(rt; sink.bytes() == b"ab".as_slice());
-    Ok(())
+fn has_room_for_three(sink: &mut MemorySink) -> bool {
+    takes(sink, b"ab") == Some(2)
+        && takes(sink, b"cd").is_none()
+        && takes(sink, b"c").is_none()
+        && sink.bytes() == b"ab".as_slice()
 }
 
 #[test]
-fn places_are_lines(rt: HostRuntime) -> Result<(), Fail> {
-    let fates = [
-        (SinkFail::Never, None, "4 3\n"),
-        (SinkFail::After(0), Some(0), ""),
-        (SinkFail::After(1), Some(1), "4"),
-        (SinkFail::After(2), Some(2), "4 "),
-        (SinkFail::Zero(3), Some(3), "4 3"),
-        (SinkFail::Flush, Some(4), "4 3\n"),
-    ];
-    let places = [(4, 3)];
-    for (fail, cut, text) in fates {
-        let mut sink = sink_of(rt.alloc(), 8, fail)?;
-        assert_eq!(rt; listing_cut_at(&mut sink, &places), cut, "{text}");
-        assert!(rt; sink.bytes() == text.as_bytes(), "{text}");
-    }
+fn a_write_past_the_room_fails(rt: HostRuntime) -> Result<(), Fail> {
+    let mut sink = sink_of(rt.alloc(), 3, SinkFail::Never)?;
+    assert!(rt; has_room_for_three(&mut sink));
     Ok(())
+}
+
+// Whether one place is listed up to the cut, and the sink has that text then.
+fn lists(alloc: Global, fail: SinkFail, cut: Option<u64>, text: &[u8]) -> Result<bool, AllocError> {
+    let mut sink = sink_of(alloc, 8, fail)?;
+    Ok(listing_cut_at(&mut sink, &[(4, 3)]) == cut && sink.bytes() == text)
+}
+
+#[test]
+fn places_are_lines(rt: HostRuntime) {
+    let fates: [(SinkFail, Option<u64>, &[u8]); 6] = [
+        (SinkFail::Never, None, b"4 3\n"),
+        (SinkFail::After(0), Some(0), b""),
+        (SinkFail::After(1), Some(1), b"4"),
+        (SinkFail::After(2), Some(2), b"4 "),
+        (SinkFail::Zero(3), Some(3), b"4 3"),
+        (SinkFail::Flush, Some(4), b"4 3\n"),
+    ];
+    for (fail, cut, text) in fates {
+        assert!(rt; lists(rt.alloc(), fail, cut, text) == Ok(true));
+    }
 }
 
 // As `cut_at`, of places.
@@ -135,30 +160,51 @@ fn listing_cut_at<S: Sink>(sink: &mut S, places: &[(u32, u32)]) -> Option<u64>
 }
 
 // 3,000 places, and their lines.
-fn long_list(alloc: Global) -> Result<(Vec<(u32, u32)>, String), Fail> {
-    let mut places = Vec::new(alloc);
-    let mut text = String::new(alloc);
+fn push_long_list(
+    alloc: Global,
+    places: &mut Vec<(u32, u32)>,
+    text: &mut String,
+) -> Result<(), AllocError> {
     for step in 0..3000u32 {
         let (old, new) = (step.wrapping_mul(1431655), u32::MAX - 2999 + step);
         places.push((old, new))?;
         text.push_str(format!(in alloc; "{old} {new}\n")?.as_str())?;
     }
-    Ok((places, text))
+    Ok(())
+}
+
+// Whether a first part of the text is listed up to the cut, and all of it where there is none.
+fn lists_part(
+    alloc: Global,
+    places: &[(u32, u32)],
+    text: &[u8],
+    fate: (SinkFail, Option<u64>),
+) -> Result<bool, AllocError>
+    requires { length places.now ≤ 2 ^ 32 }
+{
+    let (fail, cut) = fate;
+    let mut sink = sink_of(alloc, text.len(), fail)?;
+    let is_cut = listing_cut_at(&mut sink, places) == cut;
+    let is_whole = sink.bytes().len() == text.len();
+    Ok(is_cut && text.starts_with(sink.bytes()) && is_whole == cut.is_none())
+}
+
+fn are_listed(alloc: Global, places: &[(u32, u32)], text: &[u8]) -> Result<bool, AllocError> {
+    if places.len() != 3000 {
+        return Ok(false);
+    }
+    Ok(
+        lists_part(alloc, places, text, (SinkFail::Never, None))?
+            && lists_part(alloc, places, text, (SinkFail::Zero(40_000), Some(40_000)))?,
+    )
 }
 
 #[test]
 fn long_place_lists_are_written_in_parts(rt: HostRuntime) -> Result<(), Fail> {
-    let (places, text) = long_list(rt.alloc())?;
-    assert_eq!(rt; places.len(), 3000);
-    for (fail, cut) in [
-        (SinkFail::Never, None),
-        (SinkFail::Zero(40_000), Some(40_000)),
-    ] {
-        let mut sink = sink_of(rt.alloc(), text.len(), fail)?;
-        assert_eq!(rt; listing_cut_at(&mut sink, &places), cut);
-        assert!(rt; text.as_bytes().starts_with(sink.bytes()));
-        assert_eq!(rt; sink.bytes().len() == text.len(), cut.is_none());
-    }
+    let mut places = Vec::new(rt.alloc());
+    let mut text = String::new(rt.alloc());
+    push_long_list(rt.alloc(), &mut places, &mut text)?;
+    assert!(rt; are_listed(rt.alloc(), &places, text.as_bytes())?);
     Ok(())
 }
 
@@ -183,15 +229,14 @@ impl Read for Stumbling {
 #[test]
 fn a_source_of_std_reads_all(rt: HostRuntime) {
     let mut source = StdSource::new(MODULE.as_slice());
-    let read = given(rt.alloc(), &mut source);
-    assert!(rt; read.is_some_and(|read| read.as_slice() == MODULE.as_slice()));
+    assert!(rt; gives(rt.alloc(), &mut source, &MODULE));
 }
 
 #[test]
 fn a_sink_of_std_writes_all(rt: HostRuntime) {
     let mut out = Vec::new(rt.alloc());
     let mut sink = StdSink::new(&mut out);
-    assert_eq!(rt; cut_at(&mut sink, &MODULE), None);
+    assert!(rt; cut_at(&mut sink, &MODULE).is_none());
     drop(sink);
     assert!(rt; out.as_slice() == MODULE.as_slice());
 }
@@ -200,6 +245,6 @@ fn a_sink_of_std_writes_all(rt: HostRuntime) {
 fn a_source_of_std_stumbles(rt: HostRuntime) {
     let mut stumbling = StdSource::new(Stumbling(0));
     for count in [Some(1), Some(1), None, None] {
-        assert_eq!(rt; read_of(&mut stumbling), count);
+        assert!(rt; read_of(&mut stumbling) == count);
     }
 }

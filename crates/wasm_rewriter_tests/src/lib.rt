@@ -1,4 +1,4 @@
-//! Tests of `wasm_rewriter` and of the crates below it, against examples that were worked by hand.
+//! Tests of `wasm_rewriter`, of the crates below it and of its program, against examples that were worked by hand.
 #![tactic(auto)]
 
 #[cfg(test)]
@@ -19,6 +19,8 @@ mod numbering;
 mod pieces;
 #[cfg(test)]
 mod prefixes;
+#[cfg(test)]
+mod program;
 #[cfg(test)]
 mod reading;
 #[cfg(test)]

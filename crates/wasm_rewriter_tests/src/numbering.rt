@@ -4,7 +4,7 @@ ghost use Rattle.std.specs.Prelude.{◌≡◌, ◌<◌, IfOk, All, vec_len};
 ghost use Rattle.wasm_model.specs.Features.{Features};
 ghost use Rattle.rewriter_module.specs.Meaning.{IsSound};
 
-use rewriter_module::{Export, Function, FunctionType, Module};
+use rewriter_module::{Export, Function, FunctionType, Module, Numbering};
 use rewriter_part::number;
 use std::alloc::{AllocError, Global};
 use wasm_model::types::ValType;
@@ -50,34 +50,51 @@ fn takes(alloc: Global, params: &[ValType]) -> Result<FunctionType, AllocError> 
     })
 }
 
+fn types(alloc: Global) -> Result<Vec<FunctionType>, AllocError>
+    ensures { IfOk result (λ ts. vec_len ts ≡ 4) }
+{
+    let types = vec![in alloc;
+        takes(alloc, &[ValType::I32])?,
+        takes(alloc, &[])?,
+        takes(alloc, &[ValType::I32])?,
+        takes(alloc, &[ValType::I64])?,
+    ]?;
+    Ok(types)
+}
+
+fn exports(alloc: Global) -> Result<Vec<Export<'static>>, AllocError>
+    ensures { IfOk result (λ es. All (λ e. e.function < 8) es.items) }
+{
+    let exports = vec![in alloc;
+        Export {
+            name: "a",
+            function: 0
+        },
+    ]?;
+    Ok(exports)
+}
+
+fn numbered(alloc: Global) -> Result<Numbering, AllocError> {
+    let input = Module {
+        types: types(alloc)?,
+        functions: functions(alloc)?,
+        exports: exports(alloc)?,
+        start: Some(5),
+    };
+    number(alloc, &input)
+}
+
+fn are_worked(numbers: &Numbering) -> bool {
+    numbers.functions.as_slice() == [0, 2, 1, 5].as_slice()
+        && numbers.new_function.as_slice() == [0, 2, 1, 0, 0, 3, 0, 0].as_slice()
+        && numbers.types.as_slice() == [1, 0].as_slice()
+        && numbers.new_type.as_slice() == [1, 0, 1, 0].as_slice()
+}
+
 /// What calls reach from the export and the start function is kept: larger functions first, those
 /// of one size by their numbers. The third type is the first one again.
 #[test]
 fn numbers_a_small_module(rt: HostRuntime) -> Result<(), AllocError> {
-    let alloc = rt.alloc();
-    let input = Module {
-        types: vec![in alloc;
-            takes(alloc, &[ValType::I32])?,
-            takes(alloc, &[])?,
-            takes(alloc, &[ValType::I32])?,
-            takes(alloc, &[ValType::I64])?,
-        ]?,
-        functions: functions(alloc)?,
-        exports: vec![in alloc;
-            Export {
-                name: "a",
-                function: 0
-            },
-        ]?,
-        start: Some(5),
-    };
-    let numbers = number(alloc, &input)?;
-    assert_eq!(rt; numbers.functions.as_slice(), [0, 2, 1, 5].as_slice());
-    assert_eq!(rt;
-        numbers.new_function.as_slice(),
-        [0, 2, 1, 0, 0, 3, 0, 0].as_slice()
-    );
-    assert_eq!(rt; numbers.types.as_slice(), [1, 0].as_slice());
-    assert_eq!(rt; numbers.new_type.as_slice(), [1, 0, 1, 0].as_slice());
+    assert!(rt; are_worked(&numbered(rt.alloc())?));
     Ok(())
 }

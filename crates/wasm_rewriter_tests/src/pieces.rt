@@ -88,6 +88,11 @@ pub fn fault_in(alloc: Global, pieces: &[&[u8]]) -> Result<Option<Fault>, AllocE
     Ok(fault_of(alloc, &bytes))
 }
 
+/// Whether the module of these pieces is refused with this fault.
+pub fn is_refused(alloc: Global, pieces: &[&[u8]], fault: Fault) -> Result<bool, AllocError> {
+    Ok(fault_in(alloc, pieces)? == Some(fault))
+}
+
 /// Why `bytes` are refused, if they are.
 pub fn fault_of(alloc: Global, bytes: &[u8]) -> Option<Fault> {
     rewrite(alloc, bytes, &with_places()).err()

@@ -24,67 +24,105 @@ fn runs(
     Ok(found == answer && sink.bytes() == taken.0 && places.bytes() == taken.1)
 }
 
-#[test]
-fn what_is_written_is_counted(rt: HostRuntime) -> Result<(), Fail> {
-    let input = exported(rt.alloc(), NOP_CODE)?;
-    let output = smallest(rt.alloc())?;
+fn is_counted(alloc: Global, input: &[u8], output: &[u8]) -> Result<bool, AllocError> {
     let answer = Ok(Summary {
         bytes: 31,
         places: 1,
     });
     let failing = (None, SinkFail::Never, SinkFail::Never);
-    assert!(rt; runs(rt.alloc(), &input, failing, answer, (&output, b"4 3\n"))?);
-    Ok(())
+    runs(alloc, input, failing, answer, (output, b"4 3\n"))
 }
 
-#[test]
-fn a_writer_that_fails_has_the_first_bytes(rt: HostRuntime) -> Result<(), Fail> {
-    let input = exported(rt.alloc(), NOP_CODE)?;
-    let output = smallest(rt.alloc())?;
-    assert_eq!(rt; output.len(), 31);
+// Whether a run whose writer fails so answers how many bytes were written, which are these.
+fn is_cut(
+    alloc: Global,
+    input: &[u8],
+    front: &[u8],
+    fail: SinkFail,
+    written: u64,
+) -> Result<bool, AllocError> {
+    let answer = Err(Fault::WriterFault { written });
+    let failing = (None, fail, SinkFail::Never);
+    runs(alloc, input, failing, answer, (front, b""))
+}
+
+// A writer that fails has the first bytes.
+fn is_cut_anywhere(alloc: Global, input: &[u8], output: &[u8]) -> Result<bool, AllocError> {
+    if output.len() != 31 {
+        return Ok(false);
+    }
+    let mut agree = is_cut(alloc, input, output, SinkFail::Flush, 31)?;
     for written in 0..31u64 {
-        let answer = Err(Fault::WriterFault { written });
         let front = &output[..written as usize];
-        for fail in [SinkFail::After(written), SinkFail::Zero(written)] {
-            let failing = (None, fail, SinkFail::Never);
-            assert!(rt; runs(rt.alloc(), &input, failing, answer, (front, b""))?);
-        }
+        agree &= is_cut(alloc, input, front, SinkFail::After(written), written)?;
+        agree &= is_cut(alloc, input, front, SinkFail::Zero(written), written)?;
     }
-    let answer = Err(Fault::WriterFault { written: 31 });
-    let failing = (None, SinkFail::Flush, SinkFail::Never);
-    assert!(rt; runs(rt.alloc(), &input, failing, answer, (&output, b""))?);
-    Ok(())
+    Ok(agree)
 }
 
-#[test]
-fn a_places_writer_that_fails_has_the_first_of_the_lines(rt: HostRuntime) -> Result<(), Fail> {
-    let input = exported(rt.alloc(), NOP_CODE)?;
-    let output = smallest(rt.alloc())?;
-    let fates = [
-        (SinkFail::After(0), 0),
-        (SinkFail::After(1), 1),
-        (SinkFail::Zero(2), 2),
-        (SinkFail::After(3), 3),
-        (SinkFail::Flush, 4),
+// As `is_cut`, of the writer of places.
+fn is_listing_cut(
+    alloc: Global,
+    input: &[u8],
+    taken: (&[u8], &[u8]),
+    fail: SinkFail,
+    written: u64,
+) -> Result<bool, AllocError> {
+    let answer = Err(Fault::PlacesFault { written });
+    let failing = (None, SinkFail::Never, fail);
+    runs(alloc, input, failing, answer, taken)
+}
+
+// A writer of places that fails has the first of the lines.
+fn is_listing_cut_anywhere(alloc: Global, input: &[u8], output: &[u8]) -> Result<bool, AllocError> {
+    let fates: [(SinkFail, u64, &[u8]); 5] = [
+        (SinkFail::After(0), 0, b""),
+        (SinkFail::After(1), 1, b"4"),
+        (SinkFail::Zero(2), 2, b"4 "),
+        (SinkFail::After(3), 3, b"4 3"),
+        (SinkFail::Flush, 4, b"4 3\n"),
     ];
-    for (fail, written) in fates {
-        let answer = Err(Fault::PlacesFault { written });
-        let lines = &b"4 3\n"[..written as usize];
-        let failing = (None, SinkFail::Never, fail);
-        assert!(rt; runs(rt.alloc(), &input, failing, answer, (&output, lines))?);
+    let mut agree = true;
+    for (fail, written, lines) in fates {
+        agree &= is_listing_cut(alloc, input, (output, lines), fail, written)?;
     }
-    Ok(())
+    Ok(agree)
+}
+
+fn is_unread(alloc: Global, input: &[u8], failing_read: u64) -> Result<bool, AllocError> {
+    let failing = (Some(failing_read), SinkFail::Never, SinkFail::Never);
+    runs(alloc, input, failing, Err(Fault::ReaderFault), (b"", b""))
+}
+
+// What is asked of runs on a function of one `nop`. (One function owns it and what is written of it.)
+#[derive(Clone, Copy)]
+enum Ask {
+    IsCounted,
+    IsCut,
+    IsListingCut,
+    IsUnread,
+}
+
+fn holds(alloc: Global, input: &[u8], output: &[u8], ask: Ask) -> Result<bool, AllocError> {
+    match ask {
+        Ask::IsCounted => is_counted(alloc, input, output),
+        Ask::IsCut => is_cut_anywhere(alloc, input, output),
+        Ask::IsListingCut => is_listing_cut_anywhere(alloc, input, output),
+        Ask::IsUnread => Ok(is_unread(alloc, input, 0)? && is_unread(alloc, input, 1)?),
+    }
+}
+
+fn is_so(alloc: Global, ask: Ask) -> Result<bool, AllocError> {
+    let input = exported(alloc, NOP_CODE)?;
+    let output = smallest(alloc)?;
+    holds(alloc, &input, &output, ask)
 }
 
 #[test]
-fn nothing_is_written_of_what_is_not_read(rt: HostRuntime) -> Result<(), Fail> {
-    let input = exported(rt.alloc(), NOP_CODE)?;
-    let answer = Err(Fault::ReaderFault);
-    for failing_read in [0, 1] {
-        let failing = (Some(failing_read), SinkFail::Never, SinkFail::Never);
-        assert!(rt; runs(rt.alloc(), &input, failing, answer, (b"", b""))?);
+fn runs_do_what_is_asked(rt: HostRuntime) {
+    for ask in [Ask::IsCounted, Ask::IsCut, Ask::IsListingCut, Ask::IsUnread] {
+        assert!(rt; is_so(rt.alloc(), ask) == Ok(true));
     }
-    Ok(())
 }
 
 #[test]

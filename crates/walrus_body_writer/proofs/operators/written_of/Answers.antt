@@ -62,4 +62,4 @@ returns-in_default c =
     let d = c.in_default in
     answered (look_of c.args.numbers.now) c.args.seqs.now (label_by c.args.depths.now.depths.items c.args.depths.now.height) c.args.instr.now c.operator_of.result
     (other c.args.instr.now d.not-Block d.not-Loop d.not-IfElse d.not-Try d.not-TryTable d.not-Br d.not-BrIf d.not-BrTable d.not-BrOnNull d.not-BrOnNonNull d.not-BrOnCast d.not-BrOnCastFail d.not-Rethrow)
-    c.operator_of.ensures
+    c.operator_of.ensures.answer

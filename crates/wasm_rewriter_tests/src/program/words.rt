@@ -1,7 +1,7 @@
 // Words, and what is said of them.
 use clap::Error;
 use rewriter_program::{job_of, run_words, words_of};
-use std::alloc::Global;
+use std::alloc::{AllocError, Global};
 use std::env::FillError;
 use std::rt::Env;
 use std::test::Fail;
@@ -21,7 +21,7 @@ fn is_chosen(alloc: Global, flag: &str, options: Options) -> bool {
 }
 
 #[test]
-fn each_flag_chooses_an_option(rt: HostRuntime) -> Result<(), Fail> {
+fn each_flag_chooses_an_option(rt: HostRuntime) {
     let plain = Options::new();
     let rows = [
         (
@@ -61,67 +61,73 @@ fn each_flag_chooses_an_option(rt: HostRuntime) -> Result<(), Fail> {
         ),
     ];
     for (flag, options) in rows {
-        assert!(rt; is_chosen(rt.alloc(), flag, options), "{flag}");
+        assert!(rt; is_chosen(rt.alloc(), flag, options));
     }
-    Ok(())
 }
 
 #[test]
 fn wrong_words_are_refused(rt: HostRuntime) {
-    assert_eq!(rt; run_words(&rt, &["wasm_rewriter"]), 2);
-    assert_eq!(rt; run_words(&rt, &["wasm_rewriter", "in"]), 2);
-    assert_eq!(rt;
-        run_words(&rt, &["wasm_rewriter", "--fast", "in", "out"]),
-        2
-    );
-    assert_eq!(rt; run_words(&rt, &["wasm_rewriter", "--places"]), 2);
-    assert_eq!(rt;
-        run_words(&rt, &["wasm_rewriter", "--places", "-", "in", "-"]),
-        2
-    );
-}
-
-// What is said of words that are wrong, or that ask for something else.
-fn said(rt: &HostRuntime, words: &[&str]) -> Result<String, Fail> {
-    match job_of(rt.alloc(), words) {
-        Ok(_) => Ok(String::new(rt.alloc())),
-        Err(error) => Ok(error.to_string(rt.alloc())?),
+    let rows: [&[&str]; 5] = [
+        &["wasm_rewriter"],
+        &["wasm_rewriter", "in"],
+        &["wasm_rewriter", "--fast", "in", "out"],
+        &["wasm_rewriter", "--places"],
+        &["wasm_rewriter", "--places", "-", "in", "-"],
+    ];
+    for words in rows {
+        assert!(rt; run_words(&rt, words) == 2);
     }
 }
 
-#[test]
-fn wrong_words_are_told(rt: HostRuntime) -> Result<(), Fail> {
-    assert_eq!(rt;
-        said(&rt, &["wasm_rewriter", "input"])?.as_str(),
-        "error: the following required arguments were not provided:\n  <OUTPUT>\n\nUsage: wasm_rewriter <INPUT> <OUTPUT>\n\nFor more information, try '--help'.\n"
-    );
-    assert_eq!(rt;
-        said(&rt, &["wasm_rewriter", "input", "output", "other"])?.as_str(),
-        "error: unexpected argument 'other' found\n\nUsage: wasm_rewriter [OPTIONS] <INPUT> <OUTPUT>\n\nFor more information, try '--help'.\n"
-    );
-    assert_eq!(rt;
-        said(&rt, &["wasm_rewriter", "--places"])?.as_str(),
-        "error: a value is required for '--places <FILE>' but none was supplied\n\nFor more information, try '--help'.\n"
-    );
-    Ok(())
+// What is said of words that are wrong, or that ask for something else.
+fn said(alloc: Global, words: &[&str]) -> Result<String, AllocError> {
+    match job_of(alloc, words) {
+        Ok(_) => Ok(String::new(alloc)),
+        Err(error) => error.to_string(alloc),
+    }
+}
+
+fn is_said(alloc: Global, words: &[&str], text: &str) -> Result<bool, AllocError> {
+    Ok(said(alloc, words)?.as_str() == text)
 }
 
 #[test]
-fn help_and_version_are_told(rt: HostRuntime) -> Result<(), Fail> {
-    assert_eq!(rt;
-        said(&rt, &["wasm_rewriter", "--version"])?.as_str(),
-        "wasm_rewriter 0.28.0\n"
-    );
-    let help = said(&rt, &["wasm_rewriter", "--help"])?;
+fn wrong_words_and_the_version_are_told(rt: HostRuntime) {
+    let rows: [(&[&str], &str); 4] = [
+        (
+            &["wasm_rewriter", "input"],
+            "error: the following required arguments were not provided:\n  <OUTPUT>\n\nUsage: wasm_rewriter <INPUT> <OUTPUT>\n\nFor more information, try '--help'.\n",
+        ),
+        (
+            &["wasm_rewriter", "input", "output", "other"],
+            "error: unexpected argument 'other' found\n\nUsage: wasm_rewriter [OPTIONS] <INPUT> <OUTPUT>\n\nFor more information, try '--help'.\n",
+        ),
+        (
+            &["wasm_rewriter", "--places"],
+            "error: a value is required for '--places <FILE>' but none was supplied\n\nFor more information, try '--help'.\n",
+        ),
+        (&["wasm_rewriter", "--version"], "wasm_rewriter 0.28.0\n"),
+    ];
+    for (words, text) in rows {
+        assert!(rt; is_said(rt.alloc(), words, text) == Ok(true));
+    }
+}
+
+// Whether the help has this part.
+fn helps(alloc: Global, part: &str) -> Result<bool, AllocError> {
+    Ok(said(alloc, &["wasm_rewriter", "--help"])?.contains(part))
+}
+
+#[test]
+fn help_is_told(rt: HostRuntime) {
     let parts = [
         "Keeps of a WebAssembly module what its exports and its start function need, in the shortest spelling\n\nUsage: wasm_rewriter [OPTIONS] <INPUT> <OUTPUT>\n",
         "it is replaced once INPUT was accepted and all is written",
         "A fault's offset is counted from the start of INPUT, and a place from the function count of the code section, both in bytes and in decimal.\n",
     ];
     for part in parts {
-        assert!(rt; help.contains(part), "{part}");
+        assert!(rt; helps(rt.alloc(), part) == Ok(true));
     }
-    Ok(())
 }
 
 // A program that was started with a word that is no text.
@@ -146,14 +152,18 @@ impl Env for Started {
     }
 }
 
+// What is said of the words of a program that was started so.
+fn said_at_start(alloc: Global) -> Result<String, AllocError> {
+    match words_of(&(Started, alloc)) {
+        Ok(_) => Ok(String::new(alloc)),
+        Err(error) => error.to_string(alloc),
+    }
+}
+
 #[test]
 fn words_that_are_no_text_are_wrong(rt: HostRuntime) -> Result<(), Fail> {
-    let Err(error) = words_of(&(Started, rt.alloc())) else {
-        return Err(Fail::from("words"));
-    };
-    assert_eq!(rt;
-        error.to_string(rt.alloc())?.as_str(),
-        "error: a word is no UTF-8 text\n\nUsage: wasm_rewriter [OPTIONS] <INPUT> <OUTPUT>\n\nFor more information, try '--help'.\n"
-    );
+    let text =
+        "error: a word is no UTF-8 text\n\nUsage: wasm_rewriter [OPTIONS] <INPUT> <OUTPUT>\n\nFor more information, try '--help'.\n";
+    assert!(rt; said_at_start(rt.alloc())?.as_str() == text);
     Ok(())
 }

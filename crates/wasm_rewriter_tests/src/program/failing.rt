@@ -1,5 +1,5 @@
 // Files of the system of which one thing fails.
-use crate::folder::Folder;
+use super::folder::Folder;
 use rewriter_program::{OutputFile, locate};
 use std::alloc::{Allocator, Global};
 use std::fmt::Display;
@@ -11,7 +11,7 @@ use std::{fs, io};
 use wasm_rewriter::{DeviceFailed, Sink};
 
 // What fails.
-#[derive(Clone, Copy, Debug, PartialEq, Eq)]
+#[derive(Clone, Copy, PartialEq, Eq)]
 enum Failing {
     // writes, once a file took two bytes
     Write,
@@ -168,49 +168,75 @@ impl Print for Host<'_> {
     }
 }
 
-#[test]
-fn a_failed_output_leaves_the_old_file_and_no_other(rt: HostRuntime) -> Result<(), Fail> {
-    let folder = Folder::new(&rt, "failing")?;
-    let output = folder.with("output", b"old")?;
+// Whether two writes and a flush aren't all done.
+fn fails(sink: &mut OutputFile<'_, Host<'_>>) -> bool {
+    let mut is_done = false;
+    for _ in 0..2 {
+        is_done = sink.write(b"new").is_ok();
+    }
+    !(is_done && sink.flush().is_ok())
+}
+
+fn stays_failed(sink: &mut OutputFile<'_, Host<'_>>) -> bool {
+    sink.write(b"new") == Err(DeviceFailed) && sink.flush() == Err(DeviceFailed)
+}
+
+// Whether the output at the path fails, stays so, and has a cause.
+fn is_failed(host: &Host<'_>, output: &str) -> Result<bool, Fail> {
+    let (_, target) = locate(host.rt, output)?;
+    let mut sink = OutputFile::new(host, &target);
+    let is_failed = fails(&mut sink) && stays_failed(&mut sink);
+    Ok(sink.into_cause().is_some() && is_failed)
+}
+
+// Whether the old file is left then, and no other.
+fn is_left(rt: &HostRuntime, folder: &Folder, failing: Failing) -> Result<bool, Fail> {
+    let output = folder.at("output")?;
+    let host = Host { rt, failing };
+    let is_failed = is_failed(&host, &output)?;
+    Ok(is_failed && folder.holds("output", b"old")? && folder.count()? == 1)
+}
+
+fn are_left(rt: &HostRuntime, folder: &Folder) -> Result<bool, Fail> {
+    folder.add("output", b"old")?;
+    let mut agree = true;
     for failing in [
         Failing::Write,
         Failing::Permissions,
         Failing::Sync,
         Failing::Rename,
     ] {
-        let host = Host { rt: &rt, failing };
-        let (_, target) = locate(&rt, &output)?;
-        let mut sink = OutputFile::new(&host, &target);
-        let mut is_done = false;
-        for _ in 0..2 {
-            is_done = sink.write(b"new").is_ok();
-        }
-        is_done = is_done && sink.flush().is_ok();
-        assert!(rt; !is_done, "{failing:?}");
-        assert_eq!(rt; sink.write(b"new"), Err(DeviceFailed), "{failing:?}");
-        assert_eq!(rt; sink.flush(), Err(DeviceFailed), "{failing:?}");
-        assert!(rt; sink.into_cause().is_some(), "{failing:?}");
-        assert!(rt; folder.holds("output", b"old")?, "{failing:?}");
-        assert_eq!(rt; folder.count()?, 1, "{failing:?}");
+        agree &= is_left(rt, folder, failing)?;
     }
+    Ok(agree)
+}
+
+#[test]
+fn a_failed_output_leaves_the_old_file_and_no_other(rt: HostRuntime) -> Result<(), Fail> {
+    let folder = Folder::new(&rt, "failing")?;
+    assert!(rt; are_left(&rt, &folder)?);
     folder.remove()
+}
+
+fn takes_two(host: &Host<'_>, link: &str) -> Result<bool, Fail> {
+    let (_, target) = locate(host, link)?;
+    let mut sink = OutputFile::new(host, &target);
+    Ok(sink.write(b"ne") == Ok(2) && sink.flush() == Ok(()))
+}
+
+fn is_written_through(rt: &HostRuntime, folder: &Folder) -> Result<bool, Fail> {
+    folder.add("output", b"old")?;
+    folder.with_link("output", "link")?;
+    let link = folder.at("link")?;
+    let failing = Failing::Rename;
+    let is_taken = takes_two(&Host { rt, failing }, &link)?;
+    Ok(is_taken && folder.is_link("link")? && folder.holds("output", b"ne")?)
 }
 
 // This host can't say where a link leads, as one that is no UTF-8 text.
 #[test]
 fn a_link_that_cannot_be_told_is_written_through(rt: HostRuntime) -> Result<(), Fail> {
     let folder = Folder::new(&rt, "untold")?;
-    folder.with("output", b"old")?;
-    folder.with_link("output", "link")?;
-    let host = Host {
-        rt: &rt,
-        failing: Failing::Rename,
-    };
-    let link = folder.at("link")?;
-    let (_, target) = locate(&host, &link)?;
-    let mut sink = OutputFile::new(&host, &target);
-    assert_eq!(rt; sink.write(b"ne"), Ok(2));
-    assert_eq!(rt; sink.flush(), Ok(()));
-    assert!(rt; folder.is_link("link")? && folder.holds("output", b"ne")?);
+    assert!(rt; is_written_through(&rt, &folder)?);
     folder.remove()
 }

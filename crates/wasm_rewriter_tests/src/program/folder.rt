@@ -30,6 +30,12 @@ impl<'a> Folder<'a> {
         Ok(path)
     }
 
+    /// A new file of that name.
+    pub fn add(&self, name: &str, bytes: &[u8]) -> Result<(), Fail> {
+        self.with(name, bytes)?;
+        Ok(())
+    }
+
     /// A new folder of that name.
     pub fn with_folder(&self, name: &str) -> Result<(), Fail> {
         let path = self.at(name)?;

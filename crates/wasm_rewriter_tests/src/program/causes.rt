@@ -1,5 +1,5 @@
 // What is said of files, whole.
-use crate::folder::Folder;
+use super::folder::Folder;
 use rewriter_program::{Mistake, Targets, job_of, rewrite_files};
 use std::test::Fail;
 
@@ -34,25 +34,26 @@ fn says_in(rt: &HostRuntime, folder: &Folder, output: &str, wanted: &str) -> Res
     says(rt, &input, output, wanted)
 }
 
+// Whether each fault is told of its own file, in a folder that has an input.
+fn are_told(rt: &HostRuntime, folder: &Folder) -> Result<bool, Fail> {
+    folder.add("input", &EMPTY)?;
+    let output = folder.at("output")?;
+    Ok(
+        says(rt, "none/input", "none/output", UNREAD)?
+            && says_in(rt, folder, "none/output", UNWRITTEN)?
+            && says_in(rt, folder, &output, UNPLACED)?,
+    )
+}
+
 #[test]
 fn each_fault_of_a_file_names_that_file(rt: HostRuntime) -> Result<(), Fail> {
-    let folder = Folder::new(&rt, "causes")?;
-    folder.with("input", &EMPTY)?;
-    assert!(rt; says(&rt, "none/input", "none/output", UNREAD)?);
-    assert!(rt; says_in(&rt, &folder, "none/output", UNWRITTEN)?);
-    let output = folder.at("output")?;
-    assert!(rt; says_in(&rt, &folder, &output, UNPLACED)?);
+    let folder = Folder::new(&rt, "faults")?;
+    assert!(rt; are_told(&rt, &folder)?);
     folder.remove()
 }
 
 #[test]
 fn mistakes_name_the_two_words(rt: HostRuntime) {
-    assert_eq!(rt;
-        Mistake::PlacesIsOutput.text(),
-        "OUTPUT and FILE are one file"
-    );
-    assert_eq!(rt;
-        Mistake::PlacesIsInput.text(),
-        "INPUT and FILE are one file"
-    );
+    assert!(rt; Mistake::PlacesIsOutput.text() == "OUTPUT and FILE are one file");
+    assert!(rt; Mistake::PlacesIsInput.text() == "INPUT and FILE are one file");
 }

@@ -1,10 +1,10 @@
 use Rattle.std.proofs.Common.{◌≡◌, ℕ, false, length, sym, subst, arith}
 use Rattle.wasm_model.specs.Features.{Features}
 use Rattle.rewriter_module.specs.Meaning.{IsSound}
-use Rattle.wasm_rewriter_tests.proofs.numbering.numbers_a_small_module.Goals as goal
+use Rattle.wasm_rewriter_tests.proofs.numbering.numbered.Goals as goal
 
 pub number-requires-clause-sound : goal.number-requires-clause-sound
-number-requires-clause-sound g c =
+number-requires-clause-sound c =
     let functions = c.in_ok-functions.field-0 in
     let features : Features = record { legacy_exceptions = false; wide_arithmetic = false } in
     let count : length functions.items ≡ 8 = omega (arith, functions.ok.0, c.in_ok-functions.ensures.len) in

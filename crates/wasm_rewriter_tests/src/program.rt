@@ -1,0 +1,7 @@
+//! The program: its words, statuses and texts, and what becomes of the files.
+
+mod causes;
+mod failing;
+mod files;
+mod folder;
+mod words;
