@@ -1,6 +1,7 @@
 -- Slots of a module that are filled with what was read of a file.
 use Rattle.std.specs.Prelude.{ℕ, zero, suc, ◌+◌, ◌≡◌, ◌<◌, List, [], ◌∷◌, ◌++◌, length, take, map, Option, Some, None, Result, Err, OnErr, slice_index_or, refl}
 use Rattle.std.specs.Option.{option_map}
+use Rattle.std.specs.HashSet.{keys}
 use Rattle.std.proofs.Common.{ap, sym, ◌∙◌, subst, arith}
 use Rattle.std.proofs.lemmas.List.{append_assoc, append-nil}
 use Rattle.walrus_arena.specs.Arena.{Arena}
@@ -64,7 +65,8 @@ module _ {X Y : Type 0} (R : X → Y → Type 0) where
 
 -- ---- the spaces
 
--- the memory means what was read of it
+-- the memory means what was read of it; no segment is active in it but those that name it
 pub record IsMemoryOf (m : ReadMemory) (y : Memory) : Type 0 where
   pub meant : own_memory y ≡ memory_of m
+  pub no_segments : keys y.data_segments ≡ []
   pub no_name : y.name ≡ None
