@@ -1,6 +1,10 @@
 mod FunctionLemmas
 mod BodyLemmas
 mod TypeLemmas
+mod TypeIdLemmas
+mod OwnLemmas
+mod IndexLemmas
+mod StandLemmas
 mod FileLemmas
 mod NameLemmas
 mod SizeLemmas

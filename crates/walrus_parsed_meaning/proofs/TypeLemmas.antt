@@ -1,6 +1,6 @@
 -- Lemmas: the types of a file in the module that was read.
 use Rattle.std.specs.Prelude.{ℕ, ◌≡◌, List, IfSome, length, map, Option, Some, None, slice_get, refl}
-use Rattle.std.specs.Option.{option_map, unwrap_or}
+use Rattle.std.specs.Option.{option_map}
 use Rattle.std.proofs.Common.{ap, sym, subst, ◌∙◌}
 use Rattle.std.proofs.lemmas.List.{length-map}
 use Rattle.walrus_handler_types.specs.walrus_body_steps.wasm_body_grammar.Codes.{kind_params}
@@ -24,21 +24,21 @@ use Rattle.walrus_parsed_linked.specs.walrus_parsed_items.walrus_parse.walrus_it
 use Rattle.walrus_parsed_linked.specs.walrus_parsed_items.walrus_parse.walrus_item_names.Names.{bare_type}
 use Rattle.walrus_handler_types.specs.walrus_tree.walrus_walks.walrus_types.Items.{Item}
 use Rattle.walrus_parsed_linked.proofs.walrus_parsed_items.ListLemmas.{some_is}
+use Rattle.walrus_parsed_meaning.specs.Means.{TypeIs}
 
 -- a type under another name is of the same kind
-pub record KindAt (slot : Option Item) (kind : Kind) : Type 0 where
-  pub item : Item
-  pub there : slot ≡ Some item
-  pub kind_is : item.kind ≡ kind
-
-bare_kind : (slot : Option Item) (x : Item) → option_map bare_type slot ≡ Some (bare_type x) → KindAt slot x.kind
-bare_kind None x e = absurd cc
-bare_kind (Some y) x e = record { item = y; there = refl; kind_is = ap (λ (z : Item). z.kind) (some_is (bare_type y) (bare_type x) e) }
+bare_kind : (t : Table) (id : ℕ) (x : Item) → x.id ≡ id → option_map bare_type (type_at t id) ≡ Some (bare_type x) → TypeIs t id x.kind
+bare_kind t id x own e = by (type_at t id) refl e
+  where
+    by : (o : Option Item) → type_at t id ≡ o → option_map bare_type o ≡ Some (bare_type x) → TypeIs t id x.kind
+    by None there e = absurd cc
+    by (Some y) there e =
+        let same : bare_type y ≡ bare_type x = some_is (bare_type y) (bare_type x) e in record { item = y; there = there; own_id = ap (λ (z : Item). z.id) same ∙ own; kind_is = ap (λ (z : Item). z.kind) same }
 
 -- the type of each index stands under its id, renamed
 pub kind_stands : {B : Type 0} → NewTypesStand → TypesNameBelow → FoundTypesStay → TablesGrowOn → (config : ModuleConfig) (bytes : List ℕ) (m : Whole B) (found : Ids) → (is : IsReadAs config bytes m found)
     → found.types ≡ (types_in is.1.sections).ids → (n : ℕ) (kind : Kind) → slice_get (kinds_in is.1.sections.types) n ≡ Some kind
-    → KindAt (type_at m.types (unwrap_or (slice_get found.types n) n)) (renamed_kind (at found.types) kind)
+    → (id : ℕ) × (slice_get found.types n ≡ Some id) × TypeIs m.types id (renamed_kind (at found.types) kind)
 kind_stands stand below stay on config bytes m found is same n kind there =
     let h = is.1 in
     let s = h.sections in
@@ -49,10 +49,11 @@ kind_stands stand below stay on config bytes m found is same n kind there =
     let filled : type_at h.filled.types stood.0 ≡ Some x = ap (λ (t : Table). type_at t stood.0) h.are_filled.types ∙ stood.2 in
     let bodied : type_at h.bodied.types stood.0 ≡ Some x = (stay h.filled.types h.bodied.types grown).live stood.0 x filled in
     let bare : map (option_map bare_type) m.types.types ≡ map (option_map bare_type) h.bodied.types.types = ap (λ (a : Holder). a.types.types) h.names.same in
-    let id : unwrap_or (slice_get found.types n) n ≡ stood.0 = ap (λ (l : List ℕ). unwrap_or (slice_get l n) n) same ∙ ap (λ (o : Option ℕ). unwrap_or o n) stood.1 in
-    let own = bare_kind (type_at m.types stood.0) x (bare_same bare_type m.types.types h.bodied.types.types stood.0 bare ∙ ap (option_map bare_type) bodied) in
-    subst (λ (ids : List ℕ). KindAt (type_at m.types (unwrap_or (slice_get found.types n) n)) (renamed_kind (at ids) kind)) (sym same)
-    (subst (λ (k : ℕ). KindAt (type_at m.types k) (renamed_kind (at (types_in s).ids) kind)) (sym id) own)
+    let own = bare_kind m.types stood.0 x refl (bare_same bare_type m.types.types h.bodied.types.types stood.0 bare ∙ ap (option_map bare_type) bodied) in (
+      stood.0,
+      ap (λ (l : List ℕ). slice_get l n) same ∙ stood.1,
+      subst (λ (ids : List ℕ). TypeIs m.types stood.0 (renamed_kind (at ids) kind)) (sym same) own,
+    )
 
 -- ---- how many parameters a type has
 
@@ -71,8 +72,8 @@ some_kind None e = absurd cc
 some_kind (Some kind) e = record { kind = kind; is = refl }
 
 -- what is as many as the parameters of the renamed type is as many as those of the type
-pub as_many : (r : ℕ → ℕ) (slot : Option Item) (o : Option Kind) (kind : Kind) (count : ℕ) → o ≡ Some kind → KindAt slot (renamed_kind r kind) → IfSome slot (λ ty. count ≡ length (params_of ty.kind.form))
+pub as_many : (r : ℕ → ℕ) (t : Table) (id : ℕ) (o : Option Kind) (kind : Kind) (count : ℕ) → o ≡ Some kind → TypeIs t id (renamed_kind r kind) → IfSome (type_at t id) (λ ty. count ≡ length (params_of ty.kind.form))
     → count ≡ kind_params o
-as_many r slot o kind count is at h =
+as_many r t id o kind count is at h =
     subst (λ (z : Option Item). IfSome z (λ ty. count ≡ length (params_of ty.kind.form))) at.there h
     ∙ ap (λ (k : Kind). length (params_of k.form)) at.kind_is ∙ params_renamed r kind.form ∙ ap kind_params (sym is)

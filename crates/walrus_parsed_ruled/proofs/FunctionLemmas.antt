@@ -29,7 +29,7 @@ use Rattle.walrus_types.specs.walrus_forms.walrus_arena.Arena.{item_at}
 use Rattle.walrus_parsed_meaning.specs.walrus_parsed_linked.walrus_parsed_items.walrus_into_laws.walrus_meaning.walrus_body_writer.walrus_pairing.walrus_index_maps.Maps.{Ids}
 use Rattle.walrus_parsed_meaning.specs.walrus_parsed_linked.walrus_parsed_items.walrus_into_laws.Meaning.{OthersStay, type_id}
 use Rattle.walrus_parsed_meaning.specs.walrus_parsed_linked.walrus_parsed_items.walrus_into_laws.walrus_meaning.walrus_linked.Linked.{IsLinked, IsWhole}
-use Rattle.walrus_parsed_meaning.specs.walrus_parsed_linked.walrus_parsed_items.walrus_into_laws.walrus_meaning.Bodies.{local_ids, own_body}
+use Rattle.walrus_parsed_meaning.specs.walrus_parsed_linked.walrus_parsed_items.walrus_into_laws.walrus_meaning.Bodies.{depth_of, local_ids, own_body}
 use Rattle.walrus_parsed_meaning.specs.walrus_parsed_linked.walrus_parsed_items.walrus_into_laws.walrus_meaning.Meaning.{own_function, own_origin, slots_of}
 use Rattle.walrus_parsed_meaning.specs.walrus_parsed_linked.walrus_parsed_items.walrus_parse.walrus_module.Parts.{Module}
 use Rattle.walrus_parsed_meaning.specs.walrus_parsed_linked.walrus_parsed_items.walrus_parse.walrus_module.walrus_module_items.declared.function.Function.{Function}
@@ -41,7 +41,7 @@ use Rattle.walrus_parsed_meaning.specs.walrus_parsed_linked.walrus_parsed_items.
 use Rattle.walrus_parsed_meaning.specs.walrus_parsed_linked.walrus_parsed_items.walrus_parse.walrus_module.walrus_tree.Trees.{AreDistinct}
 use Rattle.walrus_parsed_meaning.specs.Meant.{body_meant, each_from, function_meant, origin_meant, place_of}
 use Rattle.walrus_parsed_meaning.specs.Means.{HasLocals}
-use Rattle.walrus_parsed_ruled.specs.Numbered.{numbered_body, numbered_function, numbered_origin, place_in}
+use Rattle.walrus_parsed_ruled.specs.Numbered.{numbered_body, numbered_function, numbered_origin}
 use Rattle.walrus_parsed_meaning.proofs.walrus_parsed_linked.walrus_parsed_items.ListLemmas.{some_is}
 use Rattle.walrus_parsed_ruled.proofs.ItemLemmas.{split}
 use Rattle.walrus_parsed_ruled.proofs.PlaceLemmas.{at_number, ids_distinct, placed}
@@ -139,14 +139,14 @@ module _ (numbering : NumberedOperatorsAreNormal) (features : WasmFeatures) (fil
     abbrev keys : List Key
     keys = used_keys params (typed found x).locals ops
 
-    local_comes : (n : ℕ) → n < params + length x.locals → is_used ops n ≡ true → place_in ids (naming found f Locals n) ≡ new_number params keys n
+    local_comes : (n : ℕ) → n < params + length x.locals → is_used ops n ≡ true → depth_of ids (naming found f Locals n) ≡ new_number params keys n
     local_comes n lt used =
         let many = length-map x.locals (renamed_value r) in
         placed ids (new_number params keys n) (naming found f Locals n) distinct
         (ap (λ (l : List ℕ). slice_get l (new_number params keys n)) are ∙ slice_get-map (naming found f Locals) (kept_numbers params keys) (new_number params keys n)
         ∙ ap (option_map (naming found f Locals)) (at_number params (typed found x).locals ops n (omega (arith, lt, many)) used))
 
-    comes : (space : Space) (n : ℕ) → ComesTo place_of a (by_types r) (naming found f) (place_in ids) params x space n
+    comes : (space : Space) (n : ℕ) → ComesTo place_of a (by_types r) (naming found f) (depth_of ids) params x space n
     comes Locals n = local_comes n
     comes Labels n = refl
     comes Types n = λ lt. type_named n lt
@@ -161,7 +161,7 @@ module _ (numbering : NumberedOperatorsAreNormal) (features : WasmFeatures) (fil
     body_numbered : numbered_body ids (body_meant found pick file f params x) ≡ normal_renamed place_of a (by_types r) params x
     body_numbered = λ i. record {
       locals = (body_meant found pick file f params x).locals;
-      operators = numbering place_of a (by_types r) (naming found f) (place_in ids) params x below ruled comes i;
+      operators = numbering place_of a (by_types r) (naming found f) (depth_of ids) params x below ruled comes i;
     }
 
   -- ---- one function

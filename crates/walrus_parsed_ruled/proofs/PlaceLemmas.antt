@@ -13,9 +13,8 @@ use Rattle.wasm_ruled_normal.specs.wasm_normal_form.Roles.{Placed}
 use Rattle.walrus_parsed_meaning.specs.walrus_parsed_linked.walrus_parsed_items.walrus_parse.walrus_module.walrus_tree.Trees.{AreDistinct, Has}
 use Rattle.walrus_types.specs.walrus_items.declared.local.Local.{Local}
 use Rattle.walrus_parsed_meaning.specs.walrus_parsed_linked.walrus_parsed_items.walrus_into_laws.walrus_meaning.walrus_local_function.declared.local_function.LocalFunction.{LocalFunction}
-use Rattle.walrus_parsed_meaning.specs.walrus_parsed_linked.walrus_parsed_items.walrus_into_laws.walrus_meaning.Bodies.{has_number, local_ids, named_locals, own_operators}
+use Rattle.walrus_parsed_meaning.specs.walrus_parsed_linked.walrus_parsed_items.walrus_into_laws.walrus_meaning.Bodies.{depth_of, has_number, local_ids, named_locals, own_operators}
 use Rattle.walrus_parsed_meaning.proofs.walrus_parsed_linked.walrus_parsed_items.ListLemmas.{some_is}
-use Rattle.walrus_parsed_ruled.specs.Numbered.{place_in}
 
 -- ---- where no id stands twice each stands at its place
 
@@ -27,11 +26,11 @@ stands (x ∷ ids) (suc k) id e = inr (stands ids k id e)
 behind : (x : ℕ) (ids : List ℕ) (id : ℕ) → (Has ids x → ⊥) → Has ids id → x ≡ id → ⊥
 behind x ids id none h e = none (subst (Has ids) (sym e) h)
 
-pub placed : (ids : List ℕ) (k id : ℕ) → AreDistinct ids → slice_get ids k ≡ Some id → place_in ids id ≡ k
+pub placed : (ids : List ℕ) (k id : ℕ) → AreDistinct ids → slice_get ids k ≡ Some id → depth_of ids id ≡ k
 placed [] k id d e = absurd cc
-placed (x ∷ ids) zero id d e = ap (λ (b : Bool). if b then 0 else suc (place_in ids id)) (eq-eqb x id (some_is x id e))
+placed (x ∷ ids) zero id d e = ap (λ (b : Bool). if b then 0 else suc (depth_of ids id)) (eq-eqb x id (some_is x id e))
 placed (x ∷ ids) (suc k) id d e =
-    ap (λ (b : Bool). if b then 0 else suc (place_in ids id)) (ne_eqb x id (behind x ids id d.0 (stands ids k id e))) ∙ ap suc (placed ids k id d.1 e)
+    ap (λ (b : Bool). if b then 0 else suc (depth_of ids id)) (ne_eqb x id (behind x ids id d.0 (stands ids k id e))) ∙ ap suc (placed ids k id d.1 e)
 
 -- ---- the ids of used locals, in their order
 

@@ -86,7 +86,7 @@ module _ {B : Type 0} (carries : ParsingCarriesSame) (numbering : NumberedOperat
   types = length (types_of file)
 
   abbrev kinds : List Kind
-  kinds = handler_kinds found file
+  kinds = handler_kinds file
 
   abbrev r : ℕ → ℕ
   r = type_id (look_of found)
@@ -198,7 +198,7 @@ read_ruled carries operators unfound counts ruled merged_so mean config bytes m 
     let rules = counts features h.counted file (record { linked = h.ruled.linked; groups = h.ruled.groups; named = h.ruled.named; expressed = h.ruled.expressed; bodies = h.ruled.bodies }) in
     let lacking : List ℕ → List Kind = λ ids. map kind_of (filter (is_missing (merged_types file.groups).table) (map (sent (at ids)) (bodies_handle file (bodies_of file)))) in
     let missing = handlers_missing operators unfound features true file rules.groups (id_below carries file.groups rules.groups) rules.bodies in
-    let kinds : handler_kinds found file ≡ merged.once (lacking (ids_of file.groups)) = ap (λ (ids : List ℕ). once (lacking ids)) h.types ∙ once_same (lacking (ids_of file.groups)) in
+    let kinds : handler_kinds file ≡ merged.once (lacking (ids_of file.groups)) = once_same (lacking (ids_of file.groups)) in
     let same : merged_module place_of features true (map single (merged.once (lacking (ids_of file.groups)))) file ≡ numbered (parts m) =
     sym (merged_so config file m found h ∙ ap (λ (ks : List Kind). merged_module place_of features true (map single ks) file) kinds) in
     let both = ruled place_of features bytes file (lacking (ids_of file.groups)) means.1 missing in

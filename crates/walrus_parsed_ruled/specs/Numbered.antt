@@ -1,10 +1,10 @@
 -- What a module means, with the locals of each body numbered as the rules of bodies count them: by their places among those of its function (Core
 -- Specification, functions).
-use Rattle.std.specs.Prelude.{ℕ, suc, ◌==◌, List, [], ◌∷◌, map, if◌then◌else◌}
+use Rattle.std.specs.Prelude.{ℕ, List, map}
 use Rattle.wasm_ruled_normal.specs.wasm_ruled_modules.wasm_module_rules.wasm_modules.wasm_body_grammar.wasm_grammar.Modules as grammar
 use Rattle.wasm_ruled_normal.specs.wasm_ruled_modules.wasm_module_rules.wasm_modules.wasm_body_grammar.wasm_operator_names.Laws.{same}
 use Rattle.walrus_types.specs.walrus_items.declared.local.Local.{Local}
-use Rattle.walrus_parsed_meaning.specs.walrus_parsed_linked.walrus_parsed_items.walrus_into_laws.walrus_meaning.Bodies.{local_ids, own_body}
+use Rattle.walrus_parsed_meaning.specs.walrus_parsed_linked.walrus_parsed_items.walrus_into_laws.walrus_meaning.Bodies.{depth_of, local_ids, own_body}
 use Rattle.walrus_parsed_meaning.specs.walrus_parsed_linked.walrus_parsed_items.walrus_into_laws.walrus_meaning.Meaning.{means, own_origin, slots_of}
 use Rattle.walrus_parsed_meaning.specs.walrus_parsed_linked.walrus_parsed_items.walrus_parse.walrus_module.Parts.{Module}
 use Rattle.walrus_parsed_meaning.specs.walrus_parsed_linked.walrus_parsed_items.walrus_parse.walrus_module.walrus_module_items.Functions.{type_of}
@@ -14,14 +14,9 @@ use Rattle.walrus_parsed_meaning.specs.walrus_parsed_linked.walrus_parsed_items.
 use Rattle.wasm_ruled_renamed.specs.Bodies.{with_numbers}
 use Rattle.wasm_ruled_renamed.specs.Renamed.{renamed_placed}
 
--- the first place at which an id stands
-abbrev pub place_in : List ℕ → ℕ → ℕ
-place_in [] id = 0
-place_in (first ∷ ids) id = if first == id then 0 else suc (place_in ids id)
-
--- a body whose locals have these ids, each named by its place among them
+-- a body whose locals have these ids, each named by its place among them: how many stand before it
 abbrev pub numbered_body : List ℕ → grammar.Body → grammar.Body
-numbered_body ids x = record { locals = x.locals; operators = map (renamed_placed (with_numbers (place_in ids) same)) x.operators }
+numbered_body ids x = record { locals = x.locals; operators = map (renamed_placed (with_numbers (depth_of ids) same)) x.operators }
 
 abbrev pub numbered_origin : List Local → FunctionKind → grammar.Origin grammar.Body
 numbered_origin locals (kinds.Local local) = grammar.Own (numbered_body (local_ids locals local) (own_body locals local))

@@ -21,10 +21,12 @@ use Rattle.walrus_parsed_ruled.specs.Numbered.{numbered}
 -- to have a data count section, which a module doesn't tell
 abbrev pub MeaningsAreMerged : Type 0 → Type 0
 MeaningsAreMerged B = (config : ModuleConfig) (file : grammar.Module) (m : Whole B) (found : Ids) → MeansFile config file m found
-    → numbered (parts m) ≡ merged_module place_of (read_features config) true (map single (handler_kinds found file)) file
+    → numbered (parts m) ≡ merged_module place_of (read_features config) true (map single (handler_kinds file)) file
 
 -- what a module means meets the rules, but for how many items a module may have (Core Specification, valid modules), and each block type there is its own pick;
--- sizes with addresses of 32 bits are below 2^32; no custom section is called `name` or `producers`, whatever boxes would give
+-- sizes with addresses of 32 bits are below 2^32; no custom section is called `name` or `producers`, whatever boxes would give. The limit on the locals of a function,
+-- 50,000, stays among the rules. An index there is an id, so this is for modules as they were read: nothing is deleted there, and the types of the file's groups have the
+-- ids 0, 1 and on
 pub record MeansRuled {B : Type 0} (features : WasmFeatures) (m : Whole B) : Type 0 where
   pub rules : MeetsRules features true (numbered (parts m))
   pub picked : Each (λ (f : grammar.Function). OriginPicked (around_bodies features true (numbered (parts m))) f.origin) (numbered (parts m)).functions
