@@ -38,7 +38,7 @@ pub mod file_bodies {
 
         pub mod laws {
             pub use walrus_file_bodies::items_into::laws::{
-                filled_functions_stand, filled_modules_are_filed,
+                filled_functions_stand, filled_modules_are_filed, named_locals_count,
             };
         }
 

@@ -2,9 +2,12 @@
 
 ghost use Rattle.walrus_parsed_meaning.specs.Means.{ReadModulesMeanFiles};
 
-use walrus_file_bodies::items_into::laws::{filled_modules_are_filed, named_locals_count};
 use walrus_function_types::laws::{entry_types_grow, found_types_stay, tables_grow_on};
-use walrus_into_laws::groups::{groups_mean, read_types_are_declared};
+use walrus_parsed_groups::body_grammar::laws::bodies_read_once;
+use walrus_parsed_groups::file_bodies::items_into::laws::{
+    filled_modules_are_filed, named_locals_count,
+};
+use walrus_parsed_groups::into_laws::groups::{groups_mean, read_types_are_declared};
 use walrus_parsed_groups::laws::{read_modules_have_groups, read_modules_have_handlers};
 use walrus_parsed_linked::laws::modules_that_are_read_are_linked;
 use walrus_parsed_linked::parsed_bodies::file_bodies::items_into::laws::filled_functions_stand;
@@ -16,15 +19,15 @@ use walrus_parsed_linked::parsed_items::into_laws::types_into::laws::{
 use walrus_parsed_linked::parsed_items::into_laws::{customs_mean, ordered_stay};
 use walrus_parsed_linked::parsed_items::laws::read_modules_have_items;
 use walrus_parsed_linked::parsed_locals::laws::bodies_of_read_modules_have_their_locals;
-use wasm_body_grammar::laws::bodies_read_once;
 use wasm_ruled_modules::laws::read_modules_are_ruled;
 
 /// A module that was read means the module that its bytes read as: the same items, each index the id of what it names, bodies in their
-/// normal forms with the block types that are picked, single types merged with equal earlier ones, and behind these the types of handlers
-/// that the file hasn't, in the order of the text. Each index has an id: types stand under theirs, which follow one another as their groups do, and locals of
-/// the file's types under theirs, none under two. The sequences of its functions stand as the file's bodies, each part with its type. Its functions use the locals of these normal forms, in their order; its custom sections are the file's, but for
-/// those whose names and producers it has; its producers name this tool, and what has names has the last that it was given. It is linked,
-/// and the file's module meets the rules.
+/// normal forms with the block types that are picked, single types merged with equal earlier ones, and behind these the types of
+/// handlers that the file hasn't, in the order of the text. Each index has an id: types stand under theirs, which follow one another as
+/// their groups do, and locals of the file's types under theirs, none under two. The sequences of its functions stand as the file's
+/// bodies, each part with its type. Its functions use the locals of these normal forms, in their order; its custom sections are the
+/// file's, but for those whose names and producers it has; its producers name this tool, and what has names has the last that it was
+/// given. It is linked, and the file's module meets the rules.
 pub fn modules_that_are_read_mean_their_files<B>()
     ensures { ReadModulesMeanFiles B }
 {
