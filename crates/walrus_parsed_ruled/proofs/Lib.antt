@@ -3,3 +3,5 @@ mod ItemLemmas
 mod PlaceLemmas
 mod FunctionLemmas
 mod RuledLemmas
+mod SentNames
+mod SentLemmas

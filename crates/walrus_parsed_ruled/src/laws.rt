@@ -1,8 +1,10 @@
 //! Laws: functions with nothing to do, whose contracts hold of all modules that are read.
 
 ghost use Rattle.walrus_parsed_ruled.specs.Ruled.{MeaningsAreMerged, ReadModulesMeanRuledOnes};
+ghost use Rattle.walrus_parsed_ruled.specs.Sent.{ReadModulesAreHandedOn, SentModulesMeanRuledOnes};
 
 use walrus_parsed_meaning::laws::modules_that_are_read_mean_their_files;
+use walrus_sent_laws::instr::InstrLocId;
 use walrus_types::laws::parsing_carries_same;
 use wasm_merged_modules::laws::{merged_files_are_ruled, new_kinds_stand_behind};
 use wasm_normal_modules::laws::{
@@ -32,4 +34,18 @@ pub fn modules_that_are_read_mean_ruled_ones<B>()
     normal_forms_of_read_modules_are_ruled();
     new_kinds_stand_behind();
     merged_files_are_ruled();
+}
+
+/// What means a module that meets the rules means one when its locations are sent through a callback.
+pub fn sent_modules_mean_ruled_ones<F: FnMut(u32) -> InstrLocId, B>()
+    ensures { SentModulesMeanRuledOnes F.step B }
+{}
+
+/// A module that was read and whose locations were then sent through a callback, as the one is that `parse_with` hands on, is linked and means a module that
+/// meets the rules; the one that was read means the module of its file, and this one the same, but that each operator stands at the answer for its place.
+pub fn read_modules_are_handed_on<F: FnMut(u32) -> InstrLocId, B>()
+    ensures { ReadModulesAreHandedOn F.step B }
+{
+    modules_that_are_read_mean_their_files::<B>();
+    modules_that_are_read_mean_ruled_ones::<B>();
 }
