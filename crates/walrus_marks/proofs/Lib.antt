@@ -1,3 +1,4 @@
+pub mod ClaimLemmas
 pub mod FlagLemmas
 pub mod MarkLemmas
 pub mod MetLemmas

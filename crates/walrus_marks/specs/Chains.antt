@@ -1,9 +1,9 @@
 -- What is reached by chains.
-use Rattle.std.specs.Prelude.{◌≡◌, ◌↔◌, ℕ, ◌<◌, List, MatchOption, IsTrue, Contains, slice_index_or}
+use Rattle.std.specs.Prelude.{◌≡◌, ◌↔◌, ◌⊎◌, ℕ, ◌<◌, List, MatchOption, IsTrue, Contains, slice_index_or}
 use Rattle.std.specs.List.{fold}
 use Rattle.walrus_roots.specs.declared.item.Item.{Item}
 use Rattle.walrus_roots.specs.Items.{space_number}
-use Rattle.walrus_marks.specs.Marks.{State, meet, is_marked}
+use Rattle.walrus_marks.specs.Marks.{Missing, State, meet, is_claimed, is_marked}
 
 -- a finite chain of references leads to the item from a root
 pub data Chain (Root : Item → Type 0) (Refers : Item → Item → Type 0) : Item → Type 0 where
@@ -20,7 +20,12 @@ pub record Meets (Named : Item → Type 0) (old new : State) : Type 0 where
   pub are : (x : Item) → Contains items x ↔ Named x
   pub met : new ≡ fold meet old items
 
--- of what chains reach, what fits is marked, and nothing else; and one that doesn't fit is known, if there is one
+-- one of those that chains reach and that don't fit is known, if there is one: one that is claimed, if there is such a one
+abbrev pub Lacks : List ℕ → (Item → Type 0) → (Item → Item → Type 0) → Missing → Type 0
+Lacks counts Root Refers m = MatchOption m.item ((x : Item) → Chain Root Refers x → FitsIn counts x)
+    (λ i. Chain Root Refers i × (FitsIn counts i → ⊥) × (IsTrue (is_claimed m.claimed i) ⊎ ((x : Item) → Chain Root Refers x → IsTrue (is_claimed m.claimed x) → FitsIn counts x)))
+
+-- of what chains reach, what fits is marked, and nothing else; and what doesn't fit is known
 pub record IsReached (counts : List ℕ) (Root : Item → Type 0) (Refers : Item → Item → Type 0) (s : State) : Type 0 where
   pub marked : (x : Item) → IsTrue (is_marked s.met.marks x) ↔ (Chain Root Refers x × FitsIn counts x)
-  pub missing : MatchOption s.missing ((x : Item) → Chain Root Refers x → FitsIn counts x) (λ i. Chain Root Refers i × (FitsIn counts i → ⊥))
+  pub missing : Lacks counts Root Refers s.missing

@@ -1,4 +1,5 @@
 pub mod Chains
+pub mod Claims
 pub mod Marks
 pub mod Named
 -- Passed on to crates above, which then list this one alone.

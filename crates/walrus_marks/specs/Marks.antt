@@ -1,7 +1,7 @@
 -- Sets of items, as flags by space and id.
-use Rattle.std.specs.Prelude.{ℕ, ◌<◌, nat_lt, Option, Some, None, Bool, true, false, not, List, [], ◌∷◌, ◌++◌, length, map, count_by, slice_index_or, slice_set, replicate, Vec, if◌then◌else◌}
+use Rattle.std.specs.Prelude.{ℕ, ◌<◌, nat_lt, nat_eq, Option, Some, None, Bool, true, false, not, List, [], ◌∷◌, ◌++◌, length, map, count_by, slice_index_or, slice_set, replicate, Vec, if◌then◌else◌}
 use Rattle.std.specs.Global.{Global}
-use Rattle.std.specs.List.{sum_by}
+use Rattle.std.specs.List.{sum_by, list_any}
 use Rattle.walrus_roots.specs.declared.item.Item.{Item}
 use Rattle.walrus_roots.specs.Items.{space_number}
 
@@ -32,16 +32,42 @@ is_new marks i = not (slice_index_or (flags_of marks i) i.id true)
 abbrev pub meet_there : Met → Item → Met
 meet_there s i = if is_new s.marks i then record { marks = mark s.marks i; work = s.work ++ i ∷ [] } else s
 
--- what was met, and the last item for which there was no flag
+-- of what was met without a flag one item, and which items are claimed: ids by the number of their space
+pub record Missing : Type 0 where
+  pub item : Option Item
+  pub claimed : List (List ℕ)
+
+-- the item is one of those that are claimed
+abbrev pub is_claimed : List (List ℕ) → Item → Bool
+is_claimed claimed i = list_any (nat_eq i.id) (slice_index_or claimed (space_number i.space) [])
+
+-- one more without a flag stands for the one before, but for a claimed one
+abbrev pub in_place : List (List ℕ) → Option Item → Item → Option Item
+in_place claimed None i = Some i
+in_place claimed (Some j) i = if is_claimed claimed j then Some j else Some i
+
+abbrev pub miss : Missing → Item → Missing
+miss s i = record { item = in_place s.claimed s.item i; claimed = s.claimed }
+
+-- the item is a claimed one
+abbrev pub are_missed : List (List ℕ) → Option Item → Bool
+are_missed claimed None = false
+are_missed claimed (Some i) = is_claimed claimed i
+
+-- a claimed one was met without a flag
+abbrev pub misses_claimed : Missing → Bool
+misses_claimed m = are_missed m.claimed m.item
+
+-- what was met
 pub record State : Type 0 where
   pub met : Met
-  pub missing : Option Item
+  pub missing : Missing
 
 abbrev pub has_flag : List (List Bool) → Item → Bool
 has_flag marks i = nat_lt i.id (length (flags_of marks i))
 
 abbrev pub meet : State → Item → State
-meet s i = record { met = meet_there s.met i; missing = if has_flag s.met.marks i then s.missing else Some i }
+meet s i = record { met = meet_there s.met i; missing = if has_flag s.met.marks i then s.missing else miss s.missing i }
 
 -- so many are not marked
 abbrev pub left_in : List Bool → ℕ
@@ -54,6 +80,6 @@ left_out marks = sum_by left_in marks
 abbrev pub lists_of : {A : Type 0} → List (Vec A Global) → List (List A)
 lists_of vs = map (λ v. v.items) vs
 
--- nothing is met, and there are so many flags by space
-abbrev pub met_none : List ℕ → State
-met_none counts = record { met = record { marks = map (λ n. replicate n false) counts; work = [] }; missing = None }
+-- nothing is met, there are so many flags by space, and these are claimed
+abbrev pub met_none : List ℕ → List (List ℕ) → State
+met_none counts claimed = record { met = record { marks = map (λ n. replicate n false) counts; work = [] }; missing = record { item = None; claimed = claimed } }

@@ -1,8 +1,9 @@
 //! The items that were met.
 ghost use Rattle.std.specs.Prelude.{◌≡◌, ◌+◌, ◌<◌, ◌≤◌, ◌++◌, ◌∷◌, [], true, false, not, None, IfOk, length, map, MatchOption, replicate, slice_index_or, vec_capacity, vec_len};
 ghost use Rattle.walrus_roots.specs.Items.{item};
-ghost use Rattle.walrus_marks.specs.Marks.{flags_of, is_marked, left_out, meet, met_none};
+ghost use Rattle.walrus_marks.specs.Marks.{flags_of, in_place, is_marked, left_out, meet, met_none, misses_claimed};
 
+use crate::claims::Claims;
 use std::alloc::{AllocError, Global};
 use std::marker::Model;
 use walrus_roots::Item;
@@ -17,8 +18,9 @@ pub struct Marks {
     flags: Vec<Vec<bool>>,
     // Those to be looked at. There is room for all that were not met.
     work: Vec<Item>,
-    // The last item for which there was no flag.
+    // An item for which there was no flag, a claimed one if there was such a one.
     missing: Option<Item>,
+    claims: Claims,
 }
 
 impl Model for Marks {
@@ -27,7 +29,7 @@ impl Model for Marks {
 
     ghost Value = { State };
 
-    ghost view = { λ s. record { met = record { marks = lists_of s.flags.items; work = s.work.items }; missing = s.missing } };
+    ghost view = { λ s. record { met = record { marks = lists_of s.flags.items; work = s.work.items }; missing = record { item = s.missing; claimed = s.claims } } };
 
     ghost invariant = { λ s. record {
       spaces : length s.flags.items ≡ 10;
@@ -55,15 +57,27 @@ fn is_set(flags: &[bool], id: usize) -> bool
     }
 }
 
+// Keeps an item that has no flag, but where a claimed one is kept.
+fn miss(missing: &mut Option<Item>, claims: &Claims, item: Item)
+    ensures { missing.new ≡ in_place claims.now missing.old «item» }
+{
+    if let Some(known) = *missing {
+        if claims.contains(known) {
+            return;
+        }
+    }
+    *missing = Some(item);
+}
+
 impl Marks {
-    /// No item is met, and each space has as many flags as the counts say.
+    /// No item is met, each space has as many flags as the counts say, and these items are claimed.
     ///
     /// # Errors
     ///
     /// Want of memory.
-    pub fn new(alloc: Global, counts: &[usize]) -> Result<Self, AllocError>
+    pub fn new(alloc: Global, counts: &[usize], claims: Claims) -> Result<Self, AllocError>
         requires { length counts.now ≡ 10 }
-        ensures { IfOk result (λ s. s ≡ met_none counts.now) }
+        ensures { IfOk result (λ s. s ≡ met_none counts.now claims) }
     {
         let mut flags: Vec<Vec<bool>> = Vec::new(alloc);
         let mut all: usize = 0;
@@ -78,6 +92,7 @@ impl Marks {
             flags,
             work,
             missing: None,
+            claims,
         })
     }
 
@@ -88,7 +103,7 @@ impl Marks {
         let space = item.space_number();
         let id = item.id as usize;
         if id >= self.flags[space].len() {
-            self.missing = Some(item);
+            miss(&mut self.missing, &self.claims, item);
         } else if is_new(&self.flags[space], id) {
             self.flags[space][id] = true;
             self.work.push_reserved(item);
@@ -119,10 +134,20 @@ impl Marks {
         is_set(&self.flags[first.space_number()], index)
     }
 
-    /// An item that was met and has no flag.
+    /// An item that was met and has no flag: a claimed one, if such a one was met.
     pub fn missing(&self) -> Option<Item>
-        ensures { result ≡ self.now.missing }
+        ensures { result ≡ self.now.missing.item }
     {
         self.missing
+    }
+
+    /// Whether a claimed item was met that has no flag.
+    pub fn misses_claimed(&self) -> bool
+        ensures { result ≡ misses_claimed self.now.missing }
+    {
+        match self.missing {
+            Some(item) => self.claims.contains(item),
+            None => false,
+        }
     }
 }

@@ -3,6 +3,7 @@ ghost use Rattle.std.specs.Prelude.{◌≡◌, length, OnOk, IfOk};
 ghost use Rattle.walrus_roots.specs.declared.item.Item.{Item as AnyItem};
 ghost use Rattle.walrus_marks.specs.Chains.{FitsIn, IsReached, Meets};
 
+use crate::claims::Claims;
 use crate::marks::Marks;
 use std::alloc::{AllocError, Global};
 use walrus_roots::Item;
@@ -39,7 +40,7 @@ pub fn reach<N: Names>(alloc: Global, names: &N, counts: &[usize]) -> Result<Mar
     requires fit { (x y : AnyItem) → N.refers names.now x y → FitsIn counts.now x }
     ensures { IfOk result (λ marks. IsReached counts.now (N.is_root names.now) (N.refers names.now) marks) }
 {
-    let mut marks = Marks::new(alloc, counts)?;
+    let mut marks = Marks::new(alloc, counts, Claims::none(alloc))?;
     names.meet_roots(&mut marks);
     while let Some(item) = marks.take() {
         names.meet_named(item, &mut marks)?;

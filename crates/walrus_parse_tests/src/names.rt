@@ -3,7 +3,6 @@ ghost use Rattle.std.specs.Prelude.{◌<◌};
 
 use crate::read::{CUSTOMS, LOCALS, NOP};
 use std::alloc::Global;
-use std::test::Fail;
 use walrus_arena::UntypedCustomSectionId;
 use walrus_config::ModuleConfig;
 use walrus_errors::Result;
@@ -69,25 +68,24 @@ fn gives(alloc: Global, bytes: &[u8], synthetic: bool, function: &str, locals: [
     }
 }
 
-#[test]
-fn items_have_the_names_of_the_file(rt: HostRuntime) -> Result<(), Fail> {
-    let alloc = rt.alloc();
-    assert!(rt; gives(alloc, LOCAL, false, "", ["x", ""]));
-    assert!(rt; gives(alloc, FUNCTION, false, "a", ["", ""]));
-    assert!(rt; gives(alloc, FIRST, false, "a", ["", ""]));
-    assert!(rt; gives(alloc, NO_NAMES, false, "", ["", ""]));
-    assert!(rt; gives(alloc, UNKNOWN, false, "", ["", ""]));
-    Ok(())
-}
+// Files, whether synthetic names are wanted, and what the function and the first two locals are called then.
+const NAMES: [(&[u8], bool, &str, [&str; 2]); 9] = [
+    (LOCAL, false, "", ["x", ""]),
+    (FUNCTION, false, "a", ["", ""]),
+    (FIRST, false, "a", ["", ""]),
+    (NO_NAMES, false, "", ["", ""]),
+    (UNKNOWN, false, "", ["", ""]),
+    (LOCALS, true, "f0", ["l0", "l1"]),
+    (LOCALS, false, "", ["", ""]),
+    (LOCAL, true, "f0", ["x", ""]),
+    (FUNCTION, true, "a", ["", ""]),
+];
 
 #[test]
-fn items_without_names_are_given_some(rt: HostRuntime) -> Result<(), Fail> {
-    let alloc = rt.alloc();
-    assert!(rt; gives(alloc, LOCALS, true, "f0", ["l0", "l1"]));
-    assert!(rt; gives(alloc, LOCALS, false, "", ["", ""]));
-    assert!(rt; gives(alloc, LOCAL, true, "f0", ["x", ""]));
-    assert!(rt; gives(alloc, FUNCTION, true, "a", ["", ""]));
-    Ok(())
+fn items_have_the_names_of_the_file(rt: HostRuntime) {
+    for (bytes, synthetic, function, locals) in NAMES {
+        assert!(rt; gives(rt.alloc(), bytes, synthetic, function, locals));
+    }
 }
 
 // The name of the custom section of this number.
@@ -116,12 +114,16 @@ fn has_sections(alloc: Global, bytes: &[u8], names: [&str; 3]) -> bool {
     }
 }
 
-// Sections of names are none of the module's own.
+// Files and the names of their first three custom sections: sections of names are none of the module's own.
+const SECTIONS: [(&[u8], [&str; 3]); 3] = [
+    (CUSTOMS, [".debug_info", "x", "dylink.0"]),
+    (FUNCTION, ["", "", ""]),
+    (NOP, ["", "", ""]),
+];
+
 #[test]
-fn other_custom_sections_stay(rt: HostRuntime) -> Result<(), Fail> {
-    let alloc = rt.alloc();
-    assert!(rt; has_sections(alloc, CUSTOMS, [".debug_info", "x", "dylink.0"]));
-    assert!(rt; has_sections(alloc, FUNCTION, ["", "", ""]));
-    assert!(rt; has_sections(alloc, NOP, ["", "", ""]));
-    Ok(())
+fn other_custom_sections_stay(rt: HostRuntime) {
+    for (bytes, names) in SECTIONS {
+        assert!(rt; has_sections(rt.alloc(), bytes, names));
+    }
 }

@@ -70,33 +70,31 @@ pub(crate) const CUSTOMS: &[u8] =
 pub(crate) const START: &[u8] =
     b"\0asm\x01\0\0\0\x01\x04\x01\x60\0\0\x03\x02\x01\0\x08\x01\0\x0a\x04\x01\x02\0\x0b";
 
-#[test]
-fn plain_files_are_read(rt: HostRuntime) -> Result<(), Fail> {
-    let alloc = rt.alloc();
-    assert!(rt; holds(alloc, NOP, [1, 1, 0, 0, 0, 0, 0, 0, 0, 1, 0]));
-    assert!(rt; holds(alloc, RETURNS, [1, 2, 0, 0, 0, 0, 0, 0, 0, 1, 1]));
-    assert!(rt; holds(alloc, CALLS, [1, 2, 0, 0, 0, 0, 0, 0, 0, 1, 3]));
-    assert!(rt; holds(alloc, EMPTY, [0, 0, 0, 0, 0, 0, 0, 0, 0, 0, 0]));
-    assert!(rt; holds(alloc, EQUAL_TYPES, [1, 1, 0, 0, 0, 0, 0, 0, 0, 1, 0]));
-    assert!(rt; holds(alloc, EQUAL_GROUPS, [1, 1, 0, 0, 0, 0, 0, 0, 0, 1, 0]));
-    assert!(rt; holds(alloc, IF, [1, 1, 0, 0, 0, 0, 0, 0, 0, 1, 2]));
-    assert!(rt; holds(alloc, LOCALS, [1, 1, 0, 0, 0, 0, 0, 0, 0, 1, 2]));
-    assert!(rt; holds(alloc, PADDED, [1, 1, 0, 0, 0, 0, 0, 0, 0, 1, 0]));
-    Ok(())
-}
+const FILES: [(&[u8], [u64; 11]); 17] = [
+    (NOP, [1, 1, 0, 0, 0, 0, 0, 0, 0, 1, 0]),
+    (RETURNS, [1, 2, 0, 0, 0, 0, 0, 0, 0, 1, 1]),
+    (CALLS, [1, 2, 0, 0, 0, 0, 0, 0, 0, 1, 3]),
+    (EMPTY, [0, 0, 0, 0, 0, 0, 0, 0, 0, 0, 0]),
+    (EQUAL_TYPES, [1, 1, 0, 0, 0, 0, 0, 0, 0, 1, 0]),
+    (EQUAL_GROUPS, [1, 1, 0, 0, 0, 0, 0, 0, 0, 1, 0]),
+    (IF, [1, 1, 0, 0, 0, 0, 0, 0, 0, 1, 2]),
+    (LOCALS, [1, 1, 0, 0, 0, 0, 0, 0, 0, 1, 2]),
+    (PADDED, [1, 1, 0, 0, 0, 0, 0, 0, 0, 1, 0]),
+    (DROPPED, [1, 1, 0, 0, 0, 0, 0, 0, 0, 1, 1]),
+    (TAIL, [1, 2, 0, 0, 0, 0, 0, 0, 0, 1, 2]),
+    (REFERS, [1, 2, 0, 0, 0, 1, 0, 0, 0, 1, 2]),
+    (DATA, [1, 1, 0, 1, 0, 0, 0, 1, 0, 1, 1]),
+    (TABLE, [1, 1, 1, 0, 0, 0, 1, 0, 0, 1, 0]),
+    (CATCHES, [3, 1, 0, 0, 1, 0, 0, 0, 0, 1, 3]),
+    (CUSTOMS, [0, 0, 0, 0, 0, 0, 0, 0, 0, 0, 0]),
+    (START, [1, 1, 0, 0, 0, 0, 0, 0, 0, 0, 0]),
+];
 
 #[test]
-fn files_of_all_kinds_are_read(rt: HostRuntime) -> Result<(), Fail> {
-    let alloc = rt.alloc();
-    assert!(rt; holds(alloc, DROPPED, [1, 1, 0, 0, 0, 0, 0, 0, 0, 1, 1]));
-    assert!(rt; holds(alloc, TAIL, [1, 2, 0, 0, 0, 0, 0, 0, 0, 1, 2]));
-    assert!(rt; holds(alloc, REFERS, [1, 2, 0, 0, 0, 1, 0, 0, 0, 1, 2]));
-    assert!(rt; holds(alloc, DATA, [1, 1, 0, 1, 0, 0, 0, 1, 0, 1, 1]));
-    assert!(rt; holds(alloc, TABLE, [1, 1, 1, 0, 0, 0, 1, 0, 0, 1, 0]));
-    assert!(rt; holds(alloc, CATCHES, [3, 1, 0, 0, 1, 0, 0, 0, 0, 1, 3]));
-    assert!(rt; holds(alloc, CUSTOMS, [0, 0, 0, 0, 0, 0, 0, 0, 0, 0, 0]));
-    assert!(rt; holds(alloc, START, [1, 1, 0, 0, 0, 0, 0, 0, 0, 0, 0]));
-    Ok(())
+fn files_are_read(rt: HostRuntime) {
+    for (bytes, counts) in FILES {
+        assert!(rt; holds(rt.alloc(), bytes, counts));
+    }
 }
 
 // Blocks inside one another, 100,000 deep.

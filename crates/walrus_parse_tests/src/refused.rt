@@ -6,155 +6,122 @@ use std::test::Fail;
 use walrus_config::ModuleConfig;
 use walrus_errors::{Form, Limited, ModuleError, Space};
 
-// Bytes that spell no value: in a body, in a custom section's name, counts past what there is, numbers that are too large or too long.
+// Bytes that spell no value, with what their reader says of which place: in a body, in a custom section's name, counts past what there is,
+// numbers that are too large or too long.
+const MISREAD: [(&[u8], &str, u64); 8] = [
+    (
+        b"\0asm\x01\0\0\0\x01\x04\x01\x60\0\0\x03\x02\x01\0\x07\x05\x01\x01f\0\0\x0a\x08\x01\x06\0\xd0\xf0\x7f\x1a\x0b",
+        "byte is not allowed here",
+        31,
+    ),
+    (b"\0asm\x01\0\0\0\0\x02\x05a", "unexpected end", 11),
+    (
+        b"\0asm\x01\0\0\0\x01\x05\xff\xff\xff\xff\x0f",
+        "unexpected end",
+        15,
+    ),
+    (
+        b"\0asm\x01\0\0\0\x01\x07\x01N\xff\xff\xff\xff\x0f",
+        "count passes a limit",
+        12,
+    ),
+    (
+        b"\0asm\x01\0\0\0\x01\x07\x01\x60\xff\xff\xff\xff\x0f",
+        "count passes a limit",
+        12,
+    ),
+    (
+        b"\0asm\x01\0\0\0\x01\x80\x80\x80\x80\x10",
+        "number is too large",
+        13,
+    ),
+    (
+        b"\0asm\x01\0\0\0\x01\x80\x80\x80\x80\x80\0",
+        "number is too long",
+        13,
+    ),
+    (
+        b"\0asm\x01\0\0\0\x01\x04\x01\x60\0\0\x03\x02\x01\0\x07\x05\x01\x01f\0\0\x0a\x06\x01\x04\0\x02\x40\x0b",
+        "unexpected end",
+        33,
+    ),
+];
+
 #[test]
-fn bytes_that_spell_nothing(rt: HostRuntime) -> Result<(), Fail> {
-    let alloc = rt.alloc();
-    assert!(rt;
-        misreads(
-            alloc,
-            b"\0asm\x01\0\0\0\x01\x04\x01\x60\0\0\x03\x02\x01\0\x07\x05\x01\x01f\0\0\x0a\x08\x01\x06\0\xd0\xf0\x7f\x1a\x0b",
-            "byte is not allowed here",
-            31
-        )
-    );
-    assert!(rt; misreads(alloc, b"\0asm\x01\0\0\0\0\x02\x05a", "unexpected end", 11));
-    assert!(rt;
-        misreads(
-            alloc,
-            b"\0asm\x01\0\0\0\x01\x05\xff\xff\xff\xff\x0f",
-            "unexpected end",
-            15
-        )
-    );
-    assert!(rt;
-        misreads(
-            alloc,
-            b"\0asm\x01\0\0\0\x01\x07\x01N\xff\xff\xff\xff\x0f",
-            "count passes a limit",
-            12
-        )
-    );
-    assert!(rt;
-        misreads(
-            alloc,
-            b"\0asm\x01\0\0\0\x01\x07\x01\x60\xff\xff\xff\xff\x0f",
-            "count passes a limit",
-            12
-        )
-    );
-    assert!(rt;
-        misreads(
-            alloc,
-            b"\0asm\x01\0\0\0\x01\x80\x80\x80\x80\x10",
-            "number is too large",
-            13
-        )
-    );
-    assert!(rt;
-        misreads(
-            alloc,
-            b"\0asm\x01\0\0\0\x01\x80\x80\x80\x80\x80\0",
-            "number is too long",
-            13
-        )
-    );
-    assert!(rt;
-        misreads(
-            alloc,
-            b"\0asm\x01\0\0\0\x01\x04\x01\x60\0\0\x03\x02\x01\0\x07\x05\x01\x01f\0\0\x0a\x06\x01\x04\0\x02\x40\x0b",
-            "unexpected end",
-            33
-        )
-    );
-    Ok(())
+fn bytes_that_spell_nothing(rt: HostRuntime) {
+    for (bytes, text, offset) in MISREAD {
+        assert!(rt; misreads(rt.alloc(), bytes, text, offset));
+    }
 }
 
-// Names of nothing, in a body, an export and the start section; operators that may not stand where they do; a type that isn't a function's own.
-#[test]
-fn what_names_and_bodies_may_not_do(rt: HostRuntime) -> Result<(), Fail> {
-    let alloc = rt.alloc();
-    let error = ModuleError::Index {
-        space: Space::Local,
-        offset: 31,
-    };
-    assert!(rt;
-        fault(
-            alloc,
-            b"\0asm\x01\0\0\0\x01\x04\x01\x60\0\0\x03\x02\x01\0\x07\x05\x01\x01f\0\0\x0a\x07\x01\x05\0\x0f\x20\0\x0b"
-        ) == Some(error)
-    );
-    let error = ModuleError::Index {
-        space: Space::Function,
-        offset: 14,
-    };
-    assert!(rt; fault(alloc, b"\0asm\x01\0\0\0\x07\x05\x01\x01f\0\0") == Some(error));
-    let error = ModuleError::Index {
-        space: Space::Function,
-        offset: 30,
-    };
-    assert!(rt;
-        fault(
-            alloc,
-            b"\0asm\x01\0\0\0\x01\x04\x01\x60\0\0\x03\x02\x01\0\x07\x05\x01\x01f\0\0\x0a\x06\x01\x04\0\x10\x05\x0b"
-        ) == Some(error)
-    );
-    let error = ModuleError::Index {
-        space: Space::Function,
-        offset: 20,
-    };
-    assert!(rt;
-        fault(
-            alloc,
-            b"\0asm\x01\0\0\0\x01\x04\x01\x60\0\0\x03\x02\x01\0\x08\x01\x01"
-        ) == Some(error)
-    );
-    let error = ModuleError::Position { offset: 35 };
-    assert!(rt;
-        fault(
-            alloc,
-            b"\0asm\x01\0\0\0\x01\x04\x01\x60\0\0\x03\x02\x01\0\x05\x03\x01\0\x01\x07\x05\x01\x01f\0\0\x0a\x07\x01\x05\0\xfc\x09\0\x0b\x0b\x04\x01\x01\x01\x2a"
-        ) == Some(error)
-    );
-    let error = ModuleError::TypeForm { offset: 53 };
-    assert!(rt;
-        fault(
-            alloc,
-            b"\0asm\x01\0\0\0\x01\x0f\x03\x60\0\0\x60\x01\x7f\0P\0\x60\x01\x7f\x01\x7f\x03\x02\x01\0\x0d\x03\x01\0\x01\x07\x05\x01\x01f\0\0\x0a\x0f\x01\x0d\0\x06\x7fA\x01\x07\0\x0b\x02\x02\x0b\x1a\x0b"
-        ) == Some(error)
-    );
-    let error = ModuleError::Nesting { offset: 31 };
-    assert!(rt;
-        fault(
-            alloc,
-            b"\0asm\x01\0\0\0\x01\x04\x01\x60\0\0\x03\x02\x01\0\x07\x05\x01\x01f\0\0\x0a\x06\x01\x04\0\x0b\x01\x0b"
-        ) == Some(error)
-    );
-    Ok(())
-}
+// Names of nothing, in a body, an export and the start section; operators that may not stand where they do; a type that isn't a function's own; a
+// limit; a size; what is not supported.
+const REFUSED: [(&[u8], ModuleError); 10] = [
+    (
+        b"\0asm\x01\0\0\0\x01\x04\x01\x60\0\0\x03\x02\x01\0\x07\x05\x01\x01f\0\0\x0a\x07\x01\x05\0\x0f\x20\0\x0b",
+        ModuleError::Index {
+            space: Space::Local,
+            offset: 31,
+        },
+    ),
+    (
+        b"\0asm\x01\0\0\0\x07\x05\x01\x01f\0\0",
+        ModuleError::Index {
+            space: Space::Function,
+            offset: 14,
+        },
+    ),
+    (
+        b"\0asm\x01\0\0\0\x01\x04\x01\x60\0\0\x03\x02\x01\0\x07\x05\x01\x01f\0\0\x0a\x06\x01\x04\0\x10\x05\x0b",
+        ModuleError::Index {
+            space: Space::Function,
+            offset: 30,
+        },
+    ),
+    (
+        b"\0asm\x01\0\0\0\x01\x04\x01\x60\0\0\x03\x02\x01\0\x08\x01\x01",
+        ModuleError::Index {
+            space: Space::Function,
+            offset: 20,
+        },
+    ),
+    (
+        b"\0asm\x01\0\0\0\x01\x04\x01\x60\0\0\x03\x02\x01\0\x05\x03\x01\0\x01\x07\x05\x01\x01f\0\0\x0a\x07\x01\x05\0\xfc\x09\0\x0b\x0b\x04\x01\x01\x01\x2a",
+        ModuleError::Position { offset: 35 },
+    ),
+    (
+        b"\0asm\x01\0\0\0\x01\x0f\x03\x60\0\0\x60\x01\x7f\0P\0\x60\x01\x7f\x01\x7f\x03\x02\x01\0\x0d\x03\x01\0\x01\x07\x05\x01\x01f\0\0\x0a\x0f\x01\x0d\0\x06\x7fA\x01\x07\0\x0b\x02\x02\x0b\x1a\x0b",
+        ModuleError::TypeForm { offset: 53 },
+    ),
+    (
+        b"\0asm\x01\0\0\0\x01\x04\x01\x60\0\0\x03\x02\x01\0\x07\x05\x01\x01f\0\0\x0a\x06\x01\x04\0\x0b\x01\x0b",
+        ModuleError::Nesting { offset: 31 },
+    ),
+    (
+        b"\0asm\x01\0\0\0\x01\x04\x01\x60\0\0\x03\x02\x01\0\x07\x05\x01\x01f\0\0\x0a\x0a\x01\x08\x01\xff\xff\xff\xff\x0f\x7f\x0b",
+        ModuleError::Limit {
+            of: Limited::Locals,
+            offset: 30,
+        },
+    ),
+    (
+        b"\0asm\x01\0\0\0\x01\xff\xff\xff\xff\x0f",
+        ModuleError::SectionSize { offset: 9 },
+    ),
+    (
+        b"\0asm\x01\0\0\0\x06\x06\x01\x7f\x02A\0\x0b",
+        ModuleError::Unsupported {
+            form: Form::SharedGlobal,
+            offset: 12,
+        },
+    ),
+];
 
-// Limits, sizes, and what is not supported.
 #[test]
-fn what_is_not_read(rt: HostRuntime) -> Result<(), Fail> {
-    let alloc = rt.alloc();
-    let error = ModuleError::Limit {
-        of: Limited::Locals,
-        offset: 30,
-    };
-    assert!(rt;
-        fault(
-            alloc,
-            b"\0asm\x01\0\0\0\x01\x04\x01\x60\0\0\x03\x02\x01\0\x07\x05\x01\x01f\0\0\x0a\x0a\x01\x08\x01\xff\xff\xff\xff\x0f\x7f\x0b"
-        ) == Some(error)
-    );
-    let error = ModuleError::SectionSize { offset: 9 };
-    assert!(rt; fault(alloc, b"\0asm\x01\0\0\0\x01\xff\xff\xff\xff\x0f") == Some(error));
-    let error = ModuleError::Unsupported {
-        form: Form::SharedGlobal,
-        offset: 12,
-    };
-    assert!(rt; fault(alloc, b"\0asm\x01\0\0\0\x06\x06\x01\x7f\x02A\0\x0b") == Some(error));
-    Ok(())
+fn what_files_may_not_hold(rt: HostRuntime) {
+    for (bytes, error) in REFUSED {
+        assert!(rt; fault(rt.alloc(), bytes) == Some(error));
+    }
 }
 
 // The legacy exception operators where they are switched off.

@@ -298,7 +298,7 @@ module _ (m : Module) (linked : IsLinked m) where
   is_linked : (x : Item) → Linked m x
   is_linked x = record {
     own = (brought_by x (import_in m x.space x.id) refl, (whole_in x.space x.id).0);
-    claimed = λ i import at is below. subst (λ (y : Item). import_in m y.space y.id ≡ Some i) is (linked.imports i import at);
+    claimed = λ i import at is. subst (λ (y : Item). import_in m y.space y.id ≡ Some i) is (linked.imports i import at);
   }
 
   is_tree : (x : Item) → FormsTree m x

@@ -35,7 +35,7 @@ use Rattle.walrus_passes.specs.walrus_refusals.walrus_used.walrus_references.Ref
 use Rattle.walrus_passes.specs.walrus_refusals.walrus_used.walrus_references.Roots.{Root, exports, starts, is_active, fills_import, declares, is_pushed}
 use Rattle.walrus_passes.specs.walrus_refusals.walrus_used.walrus_references.Kept.{IsReached, IsSpared, Kept}
 use Rattle.walrus_passes.specs.walrus_refusals.walrus_used.walrus_references.Refused.{IsTreeIn, HasTree}
-use Rattle.walrus_passes.specs.walrus_refusals.Asked.{Linked, IsBrought, IsWholeIn, HasBody, given}
+use Rattle.walrus_passes.specs.walrus_refusals.Asked.{Linked, IsBrought, IsWholeIn, HasBody}
 use Rattle.walrus_passes.specs.walrus_refusals.Sound.{IsSound}
 use Rattle.walrus_passes.specs.walrus_refusals.Written.{MayName, StaysIn, IsUnsharedIn, HasNone, KindHasNone, HasNoExactIn}
 use Rattle.walrus_passes.specs.Part.{IsKeptPart, Rest}
@@ -281,18 +281,6 @@ module _ (m n : Module) (pushed : List Item) (part : IsKeptPart m pushed n) wher
   import_same spaces.Local id k = refl
   import_same spaces.Label id k = refl
 
-  given_same : (space : Space) → given n space ≡ given m space
-  given_same spaces.Type = refl
-  given_same spaces.Function = part.funcs.sized
-  given_same spaces.Table = part.tables.sized
-  given_same spaces.Memory = part.memories.sized
-  given_same spaces.Tag = part.tags.sized
-  given_same spaces.Global = part.globals.sized
-  given_same spaces.Element = refl
-  given_same spaces.Data = refl
-  given_same spaces.Local = refl
-  given_same spaces.Label = refl
-
   brought_if : (x : Item) → Kept m pushed x → (i : ℕ) (o : Option Import) → item_at m.imports i ≡ o → MatchOption o ⊥ (λ import. brought import.kind ≡ x) → MatchOption (item_at n.imports i) ⊥ (λ import. brought import.kind ≡ x)
   brought_if x k i None at h = absurd h
   brought_if x k i (Some import) at h = subst (λ (o : Option Import). MatchOption o ⊥ (λ import. brought import.kind ≡ x)) (sym (part.imports.each i import at (subst (Kept m pushed) (sym h) k))) h
@@ -394,7 +382,7 @@ module _ (m n : Module) (pushed : List Item) (part : IsKeptPart m pushed n) wher
   linked_on : (x : Item) → IsReached m pushed x → Linked m x → Linked n x
   linked_on x r h = record {
     own = (subst (IsBrought n.imports x) (sym (import_same x.space x.id (inl r))) (brought_on x (inl r) (import_in m x.space x.id) h.own.0), whole_on x.space x.id r h.own.1);
-    claimed = λ i import at is below. import_same x.space x.id (inl r) ∙ h.claimed i import (part.imports.only i import at) is (subst (λ k. x.id < k) (given_same x.space) below);
+    claimed = λ i import at is. import_same x.space x.id (inl r) ∙ h.claimed i import (part.imports.only i import at) is;
   }
 
   pub nothing : IsSound m pushed → NothingToDrop m n pushed

@@ -5,7 +5,6 @@ ghost use Rattle.walrus_roots.specs.Items.{item};
 
 use crate::modules::{Step, leave};
 use std::alloc::{AllocError, Global};
-use std::test::Fail;
 use walrus_arena::FunctionId;
 use walrus_index_maps::IdsToIndices;
 use walrus_module::Module;
@@ -92,92 +91,88 @@ pub(crate) fn uses(alloc: Global, module: &Module, function: FunctionId) -> bool
     }
 }
 
-// Of two functions, of which the first returns, the second is exported; with a section that keeps the first both are used.
-#[test]
-fn what_a_section_keeps_is_used(rt: HostRuntime) -> Result<(), Fail> {
-    let steps = [
-        Step::Function,
-        Step::Function,
-        Step::Return(0),
-        Step::ExportFunction(1),
-        Step::Used(1),
-        Step::Unused(0),
-        Step::Keep(0),
-        Step::Used(1),
-        Step::Used(0),
-    ];
-    assert!(rt; leave(rt.alloc(), &steps, [1, 2, 0, 0, 0])?);
-    Ok(())
-}
+// Steps, and how many types, functions, tables, elements and imports they leave.
+const ROWS: [(&[Step], [usize; 5]); 6] = [
+    // Of two functions, of which the first returns, the second is exported; with a section that keeps the first both are used.
+    (
+        &[
+            Step::Function,
+            Step::Function,
+            Step::Return(0),
+            Step::ExportFunction(1),
+            Step::Used(1),
+            Step::Unused(0),
+            Step::Keep(0),
+            Step::Used(1),
+            Step::Used(0),
+        ],
+        [1, 2, 0, 0, 0],
+    ),
+    // What a section keeps stays.
+    (
+        &[
+            Step::Function,
+            Step::Function,
+            Step::Keep(0),
+            Step::Gc(0),
+            Step::Keep(0),
+            Step::Gc(0),
+        ],
+        [1, 1, 0, 0, 0],
+    ),
+    // What no section keeps goes.
+    (
+        &[
+            Step::Function,
+            Step::Keep(0),
+            Step::Gc(0),
+            Step::DeleteSection(0),
+            Step::Gc(0),
+        ],
+        [0, 0, 0, 0, 0],
+    ),
+    // A section that refuses is told before an item that isn't linked.
+    (
+        &[
+            Step::Function,
+            Step::ExportFunction(0),
+            Step::Uninitialize(0),
+            Step::Refuse,
+            Step::Gc(7),
+        ],
+        [1, 1, 0, 0, 0],
+    ),
+    // Sections are asked by rising id, before anything else.
+    (
+        &[
+            Step::Function,
+            Step::ExportFunction(0),
+            Step::Uninitialize(0),
+            Step::Short,
+            Step::Refuse,
+            Step::Gc(8),
+            Step::DeleteSection(0),
+            Step::Gc(7),
+        ],
+        [1, 1, 0, 0, 0],
+    ),
+    // A section that keeps a dead function.
+    (
+        &[
+            Step::Function,
+            Step::Keep(0),
+            Step::DeleteFunction(0),
+            Step::Gc(3),
+            Step::DeleteSection(0),
+            Step::Gc(0),
+        ],
+        [0, 0, 0, 0, 0],
+    ),
+];
 
 #[test]
-fn what_a_section_keeps_stays(rt: HostRuntime) -> Result<(), Fail> {
-    let steps = [
-        Step::Function,
-        Step::Function,
-        Step::Keep(0),
-        Step::Gc(0),
-        Step::Keep(0),
-        Step::Gc(0),
-    ];
-    assert!(rt; leave(rt.alloc(), &steps, [1, 1, 0, 0, 0])?);
-    Ok(())
-}
-
-#[test]
-fn what_no_section_keeps_goes(rt: HostRuntime) -> Result<(), Fail> {
-    let steps = [
-        Step::Function,
-        Step::Keep(0),
-        Step::Gc(0),
-        Step::DeleteSection(0),
-        Step::Gc(0),
-    ];
-    assert!(rt; leave(rt.alloc(), &steps, [0, 0, 0, 0, 0])?);
-    Ok(())
-}
-
-// A section that refuses is told before an item that isn't linked.
-#[test]
-fn a_section_refuses_first(rt: HostRuntime) -> Result<(), Fail> {
-    let steps = [
-        Step::Function,
-        Step::ExportFunction(0),
-        Step::Uninitialize(0),
-        Step::Refuse,
-        Step::Gc(7),
-    ];
-    assert!(rt; leave(rt.alloc(), &steps, [1, 1, 0, 0, 0])?);
-    Ok(())
-}
-
-// Sections are asked by rising id, before anything else.
-#[test]
-fn a_section_without_memory_is_told_first(rt: HostRuntime) -> Result<(), Fail> {
-    let steps = [
-        Step::Function,
-        Step::ExportFunction(0),
-        Step::Uninitialize(0),
-        Step::Short,
-        Step::Refuse,
-        Step::Gc(8),
-        Step::DeleteSection(0),
-        Step::Gc(7),
-    ];
-    assert!(rt; leave(rt.alloc(), &steps, [1, 1, 0, 0, 0])?);
-    Ok(())
-}
-
-#[test]
-fn a_section_that_keeps_a_dead_function(rt: HostRuntime) -> Result<(), Fail> {
-    let steps = [
-        Step::Function,
-        Step::Keep(0),
-        Step::DeleteFunction(0),
-        Step::Gc(3),
-        Step::DeleteSection(0),
-        Step::Gc(0),
-    ];
-    assert!(rt; leave(rt.alloc(), &steps, [0, 0, 0, 0, 0])?);
-    Ok(())
+fn sections_are_asked(rt: HostRuntime) {
+    for (steps, counts) in ROWS {
+        assert!(rt; matches!(leave(rt.alloc(), steps, counts), Ok(true)));
+    }
 }

@@ -1,6 +1,6 @@
 -- What was met, and what is reached.
 use Rattle.std.proofs.Common.{◌≡◌, ◌∙◌, ◌⊎◌, ◌<◌, ℕ, List, Bool, true, false, Option, Some, None, get_or, length, refl, sym, ap, subst, inl, inr, arith}
-use Rattle.std.specs.Prelude.{◌↔◌, MatchOption, Decides, is_some}
+use Rattle.std.specs.Prelude.{◌↔◌, IsTrue, MatchOption, Decides, is_some}
 use Rattle.std.specs.Option.{option_and_then}
 use Rattle.std.proofs.lemmas.List.{get_or_past}
 use Rattle.std.specs.Bool.{OnTrue}
@@ -10,17 +10,16 @@ use Rattle.wasm_formats.specs.declared.fault.Form.TheVariants as forms
 use Rattle.wasm_formats.specs.declared.fault.Space.{Space}
 use Rattle.wasm_formats.specs.declared.fault.Space.TheVariants as spaces
 use Rattle.walrus_types.specs.TypeLaws.{AreGrouped}
-use Rattle.walrus_arena.specs.Arena.{Arena, item_at}
+use Rattle.walrus_arena.specs.Arena.{Arena, item_at, next_id}
 use Rattle.walrus_linked.specs.walrus_module_items.declared.import.Import.{Import}
-use Rattle.walrus_linked.specs.walrus_module_items.declared.import.ImportKind.{ImportKind}
-use Rattle.walrus_linked.specs.walrus_module_items.declared.import.ImportKind.TheVariants as kinds
 use Rattle.walrus_linked.specs.walrus_module_items.declared.function.Function.{Function}
 use Rattle.walrus_linked.specs.walrus_module.Parts.{Module}
 use Rattle.walrus_linked.specs.Linked.{import_in}
 use Rattle.walrus_roots.specs.declared.item.Item.{Item}
 use Rattle.walrus_roots.specs.Items.{item, space_number}
-use Rattle.walrus_marks.specs.Marks.{State}
-use Rattle.walrus_marks.specs.Chains.{FitsIn}
+use Rattle.walrus_marks.specs.Marks.{State, are_missed, is_claimed, misses_claimed}
+use Rattle.walrus_marks.proofs.MetLemmas.{claimed_or_not}
+use Rattle.walrus_marks.specs.Chains.{FitsIn, Lacks}
 use Rattle.walrus_used.specs.Asked.{AllHold}
 use Rattle.walrus_marks.specs.Chains.{IsReached as IsReachedIn}
 use Rattle.walrus_used.specs.walrus_references.References.{Refers}
@@ -30,9 +29,9 @@ use Rattle.walrus_linked.specs.walrus_module.Items.{Lives, LivesIn}
 use Rattle.walrus_used.specs.walrus_references.Refused.{FormsTree, HasTree, IsTreeIn}
 use Rattle.walrus_used.specs.Counts.{counts_of}
 use Rattle.walrus_used.proofs.CountLemmas.{lives_fit}
-use Rattle.walrus_refusals.specs.Asked.{Linked, IsOwnLinked, IsBrought, IsWholeIn, IsClaimed, given}
+use Rattle.walrus_refusals.specs.Asked.{Linked, IsOwnLinked, IsBrought, IsWholeIn, IsClaimed}
 use Rattle.walrus_linked.specs.walrus_module.Items.{brought}
-use Rattle.walrus_refusals.specs.Checks.{IsMet, IsWell, HoldsMet, HoldsOrFails, AllClaimTruly, AreInexact, AreWell, FailsIn, HasMetForm}
+use Rattle.walrus_refusals.specs.Checks.{IsMet, IsWell, AreClaims, AreLinked, HoldsMet, HoldsOrFails, AllClaimTruly, AreInexact, AreWell, FailsIn, HasMetForm}
 use Rattle.walrus_refusals.specs.Sound.{AllReached, HasForm, IsSound, Stands}
 use Rattle.walrus_refusals.specs.Written.{HasNoExact, HasNoExactIn, IsUnshared, IsUnsharedIn, StaysIn, StaysInGroup}
 
@@ -48,6 +47,10 @@ nothing_asked P o is = subst (λ (p : Option _). MatchOption p (Unit {0}) P) (sy
 
 not_brought : (imports : Arena Import) (x : Item) (named : Option ℕ) → named ≡ None → IsBrought imports x named
 not_brought imports x named is = subst (IsBrought imports x) (sym is) tt
+
+-- what stands somewhere stands below the next id
+some_below : {T : Type 0} (a : Arena T) (id : ℕ) (t : T) → item_at a id ≡ Some t → id < next_id a
+some_below a id t at = elim (cases_lt id (next_id a)) as (λ _. id < next_id a) [ inl below ↦ below | inr past ↦ absurd (let none : None ≡ Some t = sym (get_or_past a.slots id None past) ∙ at in cc) ]
 
 module _ (m : Module) where
   -- what wasn't given out says nothing
@@ -110,26 +113,6 @@ module _ (m : Module) where
   tree_high : (space : Space) (id : ℕ) → (space_number space < 8 → ⊥) → IsTreeIn m space id
   tree_high space id = high_cases (λ space. IsTreeIn m space id) tt tt space
 
-  -- what imports bring is given out below the counts
-  given_in : (space : Space) (id : ℕ) → id < given m space → FitsIn (counts_of m) (item space id)
-  given_in spaces.Type id below = absurd (omega (arith, below))
-  given_in spaces.Function id below = below
-  given_in spaces.Table id below = below
-  given_in spaces.Memory id below = below
-  given_in spaces.Tag id below = below
-  given_in spaces.Global id below = below
-  given_in spaces.Element id below = absurd (omega (arith, below))
-  given_in spaces.Data id below = absurd (omega (arith, below))
-  given_in spaces.Local id below = absurd (omega (arith, below))
-  given_in spaces.Label id below = absurd (omega (arith, below))
-
-  brought_given : (kind : ImportKind) → FitsIn (counts_of m) (brought kind) → (brought kind).id < given m (brought kind).space
-  brought_given (kinds.Function id) fits = fits
-  brought_given (kinds.Table id) fits = fits
-  brought_given (kinds.Memory id) fits = fits
-  brought_given (kinds.Global id) fits = fits
-  brought_given (kinds.Tag id) fits = fits
-
   fits_or : (x : Item) → FitsIn (counts_of m) x ⊎ (FitsIn (counts_of m) x → ⊥)
   fits_or x = elim (cases_lt x.id (get_or (counts_of m) (space_number x.space) 0)) as (λ _. FitsIn (counts_of m) x ⊎ (FitsIn (counts_of m) x → ⊥)) [ inl below ↦ inl below | inr past ↦ inr (λ below. omega (arith, below, past)) ]
 
@@ -153,34 +136,60 @@ module _ (m : Module) where
       | inl fits ↦ elim (low_or x) as (λ _. P x) [ inl low ↦ all x low (reached_met x r fits) | inr over ↦ high x over ]
     ]
 
-    claims_from : AllClaimTruly m s → (x : Item) → IsReached m pushed x → IsClaimed m x
-    claims_from all x r i import at is below =
-        let met : IsMet s (brought import.kind) = subst (IsMet s) (sym is) (reached_met x r (given_in x.space x.id below)) in
-        subst (λ y. import_in m y.space y.id ≡ Some i) is (all i import at met)
+    module _ (claims : AreClaims m s.missing.claimed) where
+      -- an item that wasn't given out and that an import brings isn't reached, where none that is claimed is missed
+      none_past : (o : Option Item) → s.missing.item ≡ o → are_missed s.missing.claimed o ≡ false → Lacks (counts_of m) (Root m pushed) (Refers m) (record { item = o; claimed = s.missing.claimed })
+          → (x : Item) → IsReached m pushed x → IsTrue (is_claimed s.missing.claimed x) → FitsIn (counts_of m) x
+      none_past None is missed all x r claimed = all x r
+      none_past (Some j) is missed one x r claimed = elim one.2 as (λ _. FitsIn (counts_of m) x) [ inl is ↦ absurd (false≢true (sym missed ∙ is)) | inr all ↦ all x r claimed ]
 
-    pub linked_from : HoldsMet (IsOwnLinked m) s × AllClaimTruly m s → AllReached m pushed (Linked m)
-    linked_from all x r = record {
-      own = all_of (IsOwnLinked m) own_past (λ y high. own_high y.space y.id high) all.0 x r;
-      claimed = claims_from all.1 x r;
-    }
+      claimed_fits : misses_claimed s.missing ≡ false → (x : Item) → IsReached m pushed x → (i : ℕ) (import : Import) → item_at m.imports i ≡ Some import → brought import.kind ≡ x → FitsIn (counts_of m) x
+      claimed_fits missed x r i import at is = elim (fits_or x) as (λ _. FitsIn (counts_of m) x) [
+        | inl fits ↦ fits
+        | inr past ↦ none_past s.missing.item refl missed h.missing x r ((claims x).1 (past, (i, some_below m.imports i import at, subst (λ (o : Option Import). MatchOption o ⊥ (λ import. brought import.kind ≡ x)) (sym at) is)))
+      ]
 
-    pub linked_met : AllReached m pushed (Linked m) → HoldsMet (IsOwnLinked m) s × AllClaimTruly m s
-    linked_met all = (
-      λ x low met. (all x (met_reached x met)).own,
-      λ i import at met. (all (brought import.kind) (met_reached (brought import.kind) met)).claimed i import at refl (brought_given import.kind (met_fits (brought import.kind) met)),
-    )
+      claims_from : AllClaimTruly m s → misses_claimed s.missing ≡ false → (x : Item) → IsReached m pushed x → IsClaimed m x
+      claims_from all missed x r i import at is =
+          let met : IsMet s (brought import.kind) = subst (IsMet s) (sym is) (reached_met x r (claimed_fits missed x r i import at is)) in
+          subst (λ y. import_in m y.space y.id ≡ Some i) is (all i import at met)
+
+      pub linked_from : AreLinked m s → AllReached m pushed (Linked m)
+      linked_from all x r = record {
+        own = all_of (IsOwnLinked m) own_past (λ y high. own_high y.space y.id high) all.0 x r;
+        claimed = claims_from all.1 all.2 x r;
+      }
+
+      -- the import that brings an item that wasn't given out isn't named by it
+      unnamed : (j : Item) → (FitsIn (counts_of m) j → ⊥) → (i : ℕ) (o : Option Import) → item_at m.imports i ≡ o → MatchOption o ⊥ (λ import. brought import.kind ≡ j) → IsClaimed m j → ⊥
+      unnamed j past i None at is claimed = is
+      unnamed j past i (Some import) at is claimed = (let none : None ≡ Some i = sym (import_past j.space j.id past) ∙ claimed i import at is in cc)
+
+      none_missed : AllReached m pushed (Linked m) → (o : Option Item) → Lacks (counts_of m) (Root m pushed) (Refers m) (record { item = o; claimed = s.missing.claimed }) → are_missed s.missing.claimed o ≡ false
+      none_missed all None one = refl
+      none_missed all (Some j) one = elim (claimed_or_not s.missing.claimed j) as (λ _. is_claimed s.missing.claimed j ≡ false) [
+        | inl is ↦ (let by = ((claims j).0 is).1 in absurd (unnamed j one.1 by.0 (item_at m.imports by.0) refl by.2 (all j one.0).claimed))
+        | inr not ↦ not
+      ]
+
+      pub linked_met : AllReached m pushed (Linked m) → AreLinked m s
+      linked_met all = (
+        λ x low met. (all x (met_reached x met)).own,
+        λ i import at met. (all (brought import.kind) (met_reached (brought import.kind) met)).claimed i import at refl,
+        none_missed all s.missing.item h.missing,
+      )
+
+      pub not_linked : (b : Bool) → b ≡ false → Decides b (AreLinked m s) → AllReached m pushed (Linked m) → ⊥
+      not_linked b fails d all = false≢true (sym fails ∙ d.1 (linked_met all))
+
+      pub are_linked : (b : Bool) → b ≡ true → Decides b (AreLinked m s) → AllReached m pushed (Linked m)
+      are_linked b so d = linked_from (d.0 so)
 
     pub trees_from : HoldsMet (FormsTree m) s → AllReached m pushed (FormsTree m)
     trees_from all = all_of (FormsTree m) (λ x past. tree_past x.space x.id past) (λ x high. tree_high x.space x.id high) all
 
     pub trees_met : AllReached m pushed (FormsTree m) → HoldsMet (FormsTree m) s
     trees_met all x low met = all x (met_reached x met)
-
-    pub not_linked : (b : Bool) → b ≡ false → Decides b (HoldsMet (IsOwnLinked m) s × AllClaimTruly m s) → AllReached m pushed (Linked m) → ⊥
-    not_linked b fails d all = false≢true (sym fails ∙ d.1 (linked_met all))
-
-    pub are_linked : (b : Bool) → b ≡ true → Decides b (HoldsMet (IsOwnLinked m) s × AllClaimTruly m s) → AllReached m pushed (Linked m)
-    are_linked b so d = linked_from (d.0 so)
 
     pub not_trees : (b : Bool) → b ≡ false → Decides b (HoldsMet (FormsTree m) s) → AllReached m pushed (FormsTree m) → ⊥
     not_trees b fails d all = false≢true (sym fails ∙ d.1 (trees_met all))
@@ -190,15 +199,15 @@ module _ (m : Module) where
 
     -- one that doesn't live, or that names another past its group
     module _ (grouped : AreGrouped m.types) where
-      missing_reached : (i : Item) → s.missing ≡ Some i → IsReached m pushed i × (FitsIn (counts_of m) i → ⊥)
-      missing_reached i is = subst (λ (o : Option Item). MatchOption o ((x : Item) → IsReached m pushed x → FitsIn (counts_of m) x) (λ y. IsReached m pushed y × (FitsIn (counts_of m) y → ⊥))) is h.missing
+      missing_reached : (i : Item) → s.missing.item ≡ Some i → IsReached m pushed i × (FitsIn (counts_of m) i → ⊥)
+      missing_reached i is = (let one = subst (λ (o : Option Item). Lacks (counts_of m) (Root m pushed) (Refers m) (record { item = o; claimed = s.missing.claimed })) is h.missing in (one.0, one.1))
 
       dead_found : (space : Space) → FailsIn (Stands m) s space → AllReached m pushed (λ x. x.space ≡ space → Stands m x) → ⊥
       dead_found space (inl fails) all = fails (λ x is met. all x (met_reached x met) is)
       dead_found space (inr (i, missing, is)) all = (let d = missing_reached i missing in d.1 (lives_fit m grouped i (all i d.0 is).0))
 
-      pub dead_answered : (answer : Option Space) (space : Space) → answer ≡ Some space → MatchOption answer (HoldsMet (Stands m) s × (s.missing ≡ None)) (FailsIn (Stands m) s) → AllReached m pushed (λ x. x.space ≡ space → Stands m x) → ⊥
-      dead_answered answer space is said = dead_found space (subst (λ (o : Option Space). MatchOption o (HoldsMet (Stands m) s × (s.missing ≡ None)) (FailsIn (Stands m) s)) is said)
+      pub dead_answered : (answer : Option Space) (space : Space) → answer ≡ Some space → MatchOption answer (HoldsMet (Stands m) s × (s.missing.item ≡ None)) (FailsIn (Stands m) s) → AllReached m pushed (λ x. x.space ≡ space → Stands m x) → ⊥
+      dead_answered answer space is said = dead_found space (subst (λ (o : Option Space). MatchOption o (HoldsMet (Stands m) s × (s.missing.item ≡ None)) (FailsIn (Stands m) s)) is said)
 
     pub has_form : (form : Form) → HasMetForm m s form → HasForm m pushed form
     has_form forms.SharedGlobal fails = λ all. fails (λ x low met. all x (met_reached x met))
@@ -208,9 +217,9 @@ module _ (m : Module) where
     has_form forms.ContinuationType fails = fails
     has_form forms.Select fails = fails
 
-    module _ (none : s.missing ≡ None) where
+    module _ (none : s.missing.item ≡ None) where
       all_fit : (x : Item) → IsReached m pushed x → FitsIn (counts_of m) x
-      all_fit = subst (λ (o : Option Item). MatchOption o ((x : Item) → IsReached m pushed x → FitsIn (counts_of m) x) (λ y. IsReached m pushed y × (FitsIn (counts_of m) y → ⊥))) none h.missing
+      all_fit = subst (λ (o : Option Item). Lacks (counts_of m) (Root m pushed) (Refers m) (record { item = o; claimed = s.missing.claimed })) none h.missing
 
       all_reached : (P : Space → ℕ → Type 0) → HoldsMet (λ x. P x.space x.id) s → ((id : ℕ) → IsMet s (item spaces.Local id) → P spaces.Local id) → ((id : ℕ) → FitsIn (counts_of m) (item spaces.Label id) → P spaces.Label id)
           → AllReached m pushed (λ x. P x.space x.id)
@@ -234,10 +243,10 @@ module _ (m : Module) where
       pub all_met : (x : Item) → IsMet s x ↔ IsReached m pushed x
       all_met x = (met_reached x, λ r. reached_met x r (all_fit x r))
 
-    pub well_sound : AreWell m s → IsSound m pushed
-    well_sound w =
+    pub well_sound : AreClaims m s.missing.claimed → AreWell m s → IsSound m pushed
+    well_sound claims w =
         let stand = all_stand w.flagged (λ x low met. (w.items x met).1.0) in record {
-          linked = linked_from (λ x low met. (w.items x met).0.0, w.claims);
+          linked = linked_from claims (λ x low met. (w.items x met).0.0, w.claims, ap (are_missed s.missing.claimed) w.flagged);
           trees = trees_from (λ x low met. (w.items x met).0.1);
           live = λ x r. (stand x r).0;
           grouped = λ x r. (stand x r).1;
@@ -251,8 +260,8 @@ none_if (Some i) is = absurd (false≢true (sym is))
 
 -- nothing is wrong, where no test fails
 module _ (m : Module) (s : State) where
-  pub well_if : (held c : Bool) → held ≡ true → OnTrue held (AllHold (IsWell m) s) → is_some s.missing ≡ false → Decides c (AllClaimTruly m s) → OnTrue c (AreWell m s)
-  well_if held c is holds none claimed = OnTrue_from c (AreWell m s) (λ e. record { flagged = none_if s.missing none; items = OnTrue_at is holds; claims = claimed.0 e })
+  pub well_if : (held c : Bool) → held ≡ true → OnTrue held (AllHold (IsWell m) s) → is_some s.missing.item ≡ false → Decides c (AllClaimTruly m s) → OnTrue c (AreWell m s)
+  well_if held c is holds none claimed = OnTrue_from c (AreWell m s) (λ e. record { flagged = none_if s.missing.item none; items = OnTrue_at is holds; claims = claimed.0 e })
 
 -- what an answer says
 pub holds_not : (holds : Item → Type 0) (s : State) (answer : Option Space) (space : Space) → answer ≡ Some space → HoldsOrFails holds s answer → ((x : Item) → x.space ≡ space → IsMet s x → holds x) → ⊥
@@ -266,6 +275,28 @@ module _ (m : Module) (s : State) where
   pub dead_first : (space : Space) → (((x : Item) → x.space ≡ space → IsMet s x → Lives m x) → ⊥) → FailsIn (Stands m) s space
   dead_first space fails = inl (λ all. fails (λ x is met. (all x is met).0))
 
-  pub dead_last : HoldsMet (Lives m) s → s.missing ≡ None → (answer : Option Space) → HoldsOrFails (StaysInGroup m) s answer → MatchOption answer (HoldsMet (Stands m) s × (s.missing ≡ None)) (FailsIn (Stands m) s)
+  pub dead_last : HoldsMet (Lives m) s → s.missing.item ≡ None → (answer : Option Space) → HoldsOrFails (StaysInGroup m) s answer → MatchOption answer (HoldsMet (Stands m) s × (s.missing.item ≡ None)) (FailsIn (Stands m) s)
   dead_last live none None all = (λ x low met. (live x low met, all x low met), none)
   dead_last live none (Some space) fails = inl (λ all. fails.1 (λ x is met. (all x is met).1))
+
+-- what is answered where nothing fails, and where something does
+module _ (m : Module) (s : State) where
+  pub stood : (answer : Option Space) → answer ≡ None → MatchOption answer (HoldsMet (Stands m) s × (s.missing.item ≡ None)) (FailsIn (Stands m) s) → HoldsMet (Stands m) s × (s.missing.item ≡ None)
+  stood answer is said = subst (λ (o : Option Space). MatchOption o (HoldsMet (Stands m) s × (s.missing.item ≡ None)) (FailsIn (Stands m) s)) is said
+
+  pub formed : (answer : Option Form) (form : Form) → answer ≡ Some form → MatchOption answer (HoldsMet (IsUnshared m) s × AreInexact m s) (HasMetForm m s) → HasMetForm m s form
+  formed answer form is said = subst (λ (o : Option Form). MatchOption o (HoldsMet (IsUnshared m) s × AreInexact m s) (HasMetForm m s)) is said
+
+  pub unformed : (answer : Option Form) → answer ≡ None → MatchOption answer (HoldsMet (IsUnshared m) s × AreInexact m s) (HasMetForm m s) → HoldsMet (IsUnshared m) s × AreInexact m s
+  unformed answer is said = subst (λ (o : Option Form). MatchOption o (HoldsMet (IsUnshared m) s × AreInexact m s) (HasMetForm m s)) is said
+
+-- nothing is wrong, where each of these holds of all that is reached
+pub all_sound : (m : Module) (pushed : List Item) → AllReached m pushed (Linked m) → AllReached m pushed (FormsTree m) → AllReached m pushed (Stands m) → AllReached m pushed (IsUnshared m) → AllReached m pushed (HasNoExact m) → IsSound m pushed
+all_sound m pushed linked trees stand unshared inexact = record {
+  linked = linked;
+  trees = trees;
+  live = λ x r. (stand x r).0;
+  grouped = λ x r. (stand x r).1;
+  unshared = unshared;
+  inexact = inexact;
+}

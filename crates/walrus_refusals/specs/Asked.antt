@@ -1,8 +1,8 @@
 -- What is asked of a reached item.
-use Rattle.std.specs.Prelude.{◌≡◌, ℕ, ◌<◌, Option, Some, MatchOption}
+use Rattle.std.specs.Prelude.{◌≡◌, ℕ, Option, Some, MatchOption}
 use Rattle.wasm_formats.specs.declared.fault.Space.{Space}
 use Rattle.wasm_formats.specs.declared.fault.Space.TheVariants as spaces
-use Rattle.walrus_arena.specs.Arena.{Arena, item_at, next_id}
+use Rattle.walrus_arena.specs.Arena.{Arena, item_at}
 use Rattle.walrus_types.specs.Table.{Table as TypeTable}
 use Rattle.walrus_linked.specs.walrus_module_items.declared.import.Import.{Import}
 use Rattle.walrus_linked.specs.walrus_module_items.declared.function.Function.{Function}
@@ -12,7 +12,6 @@ use Rattle.walrus_linked.specs.walrus_module.Parts.{Module}
 use Rattle.walrus_linked.specs.walrus_module.Items.{brought}
 use Rattle.walrus_linked.specs.Linked.{HasArguments, import_in}
 use Rattle.walrus_roots.specs.declared.item.Item.{Item}
-use Rattle.walrus_roots.specs.Items.{item}
 
 -- the import that is named, if one is, lives and brings the item
 abbrev pub IsBrought : Arena Import → Item → Option ℕ → Type 0
@@ -28,22 +27,13 @@ abbrev pub IsWholeIn : Module → Space → ℕ → Type 0
 IsWholeIn m spaces.Function id = MatchOption (item_at m.funcs id) (Unit {0}) (λ (f : Function). HasBody m.types f.kind)
 IsWholeIn m _ id = Unit {0}
 
--- how many ids were given out, in the spaces of what imports bring
-abbrev pub given : Module → Space → ℕ
-given m spaces.Function = next_id m.funcs
-given m spaces.Table = next_id m.tables
-given m spaces.Memory = next_id m.memories
-given m spaces.Global = next_id m.globals
-given m spaces.Tag = next_id m.tags
-given m _ = 0
-
 -- what an item says of itself: the import that it names brings it, and a function has a body
 abbrev pub IsOwnLinked : Module → Item → Type 0
 IsOwnLinked m x = IsBrought m.imports x (import_in m x.space x.id) × IsWholeIn m x.space x.id
 
--- what imports say of an item that was given out: each that brings it is named by it
+-- what imports say of an item: each that brings it is named by it
 abbrev pub IsClaimed : Module → Item → Type 0
-IsClaimed m x = (i : ℕ) (import : Import) → item_at m.imports i ≡ Some import → brought import.kind ≡ x → x.id < given m x.space → import_in m x.space x.id ≡ Some i
+IsClaimed m x = (i : ℕ) (import : Import) → item_at m.imports i ≡ Some import → brought import.kind ≡ x → import_in m x.space x.id ≡ Some i
 
 -- an item and the imports that bring it name each other, and a function is imported or has a body of its arguments
 pub record Linked (m : Module) (x : Item) : Type 0 where

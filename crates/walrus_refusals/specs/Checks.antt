@@ -1,16 +1,18 @@
 -- Checks of the items that were met.
-use Rattle.std.specs.Prelude.{◌≡◌, ◌⊎◌, ℕ, ◌<◌, Option, Some, None, MatchOption, IsTrue}
+use Rattle.std.specs.Prelude.{◌≡◌, ◌⊎◌, ◌↔◌, ℕ, ◌<◌, false, List, length, Option, Some, None, MatchOption, IsTrue}
 use Rattle.wasm_formats.specs.declared.fault.Form.{Form}
 use Rattle.wasm_formats.specs.declared.fault.Form.TheVariants as forms
 use Rattle.wasm_formats.specs.declared.fault.Space.{Space}
 use Rattle.wasm_formats.specs.declared.fault.Space.TheVariants as spaces
-use Rattle.walrus_arena.specs.Arena.{item_at}
+use Rattle.walrus_arena.specs.Arena.{item_at, next_id}
 use Rattle.walrus_linked.specs.walrus_module_items.declared.import.Import.{Import}
 use Rattle.walrus_linked.specs.walrus_module.Parts.{Module}
 use Rattle.walrus_linked.specs.Linked.{import_in}
 use Rattle.walrus_roots.specs.declared.item.Item.{Item}
 use Rattle.walrus_roots.specs.Items.{item, space_number}
-use Rattle.walrus_marks.specs.Marks.{State, is_marked}
+use Rattle.walrus_marks.specs.Marks.{State, is_claimed, is_marked, misses_claimed}
+use Rattle.walrus_marks.specs.Chains.{FitsIn}
+use Rattle.walrus_used.specs.Counts.{counts_of}
 use Rattle.walrus_used.specs.Asked.{AllHold}
 use Rattle.walrus_linked.specs.walrus_module.Items.{brought}
 use Rattle.walrus_used.specs.walrus_references.Refused.{FormsTree}
@@ -37,7 +39,7 @@ HoldsOrFails holds marks answer =
 
 -- it isn't so of what was met in the space, or an item of the space was met that has no flag
 abbrev pub FailsIn : (Item → Type 0) → State → Space → Type 0
-FailsIn holds marks space = (((x : Item) → x.space ≡ space → IsMet marks x → holds x) → ⊥) ⊎ ((i : Item) × (marks.missing ≡ Some i) × (i.space ≡ space))
+FailsIn holds marks space = (((x : Item) → x.space ≡ space → IsMet marks x → holds x) → ⊥) ⊎ ((i : Item) × (marks.missing.item ≡ Some i) × (i.space ≡ space))
 
 -- no heap type in what was met, locals among it, is exact
 abbrev pub AreInexact : Module → State → Type 0
@@ -61,8 +63,29 @@ ClaimsTruly m marks i import = IsMet marks (brought import.kind) → import_in m
 abbrev pub AllClaimTruly : Module → State → Type 0
 AllClaimTruly m marks = (i : ℕ) (import : Import) → item_at m.imports i ≡ Some import → ClaimsTruly m marks i import
 
+-- an import below n brings the item
+abbrev pub IsBroughtBelow : Module → ℕ → Item → Type 0
+IsBroughtBelow m n x = (i : ℕ) × (i < n) × MatchOption (item_at m.imports i) ⊥ (λ import. brought import.kind ≡ x)
+
+-- the ids were not given out, and imports below n bring them
+abbrev pub ArePast : Module → ℕ → List (List ℕ) → Type 0
+ArePast m n claimed = (x : Item) → IsTrue (is_claimed claimed x) ↔ ((FitsIn (counts_of m) x → ⊥) × IsBroughtBelow m n x)
+
+-- the item and those before are claimed; the item only where there are fewer ids
+pub record IsAddedPast (counts : List ℕ) (old : List (List ℕ)) (i : Item) (new : List (List ℕ)) : Type 0 where
+  pub sized : length new ≡ length old
+  pub are : (x : Item) → IsTrue (is_claimed new x) ↔ (((x ≡ i) × (FitsIn counts x → ⊥)) ⊎ IsTrue (is_claimed old x))
+
+-- just these are brought by imports, and were not given out
+abbrev pub AreClaims : Module → List (List ℕ) → Type 0
+AreClaims m claimed = ArePast m (next_id m.imports) claimed
+
+-- what was met and imports name each other, and functions have bodies
+abbrev pub AreLinked : Module → State → Type 0
+AreLinked m marks = HoldsMet (IsOwnLinked m) marks × AllClaimTruly m marks × (misses_claimed marks.missing ≡ false)
+
 -- nothing is wrong with what was met
 pub record AreWell (m : Module) (marks : State) : Type 0 where
-  pub flagged : marks.missing ≡ None
+  pub flagged : marks.missing.item ≡ None
   pub items : AllHold (IsWell m) marks
   pub claims : AllClaimTruly m marks

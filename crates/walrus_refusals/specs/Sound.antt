@@ -1,5 +1,5 @@
 -- What is asked of all that is reached in a module, and why one is refused.
-use Rattle.std.specs.Prelude.{◌≡◌, ℕ, List}
+use Rattle.std.specs.Prelude.{◌≡◌, List}
 use Rattle.wasm_formats.specs.declared.fault.Form.{Form}
 use Rattle.wasm_formats.specs.declared.fault.Form.TheVariants as forms
 use Rattle.walrus_errors.specs.declared.error.ModuleError.{ModuleError}

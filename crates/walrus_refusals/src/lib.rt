@@ -3,6 +3,7 @@
 
 mod arguments;
 mod checks;
+mod claims;
 mod grouped;
 mod linked;
 mod live;

@@ -8,12 +8,12 @@ ghost use Rattle.walrus_used.specs.Asked.{AllHold};
 ghost use Rattle.walrus_used.specs.walrus_references.Kept.{IsReached};
 ghost use Rattle.walrus_linked.specs.walrus_module.Items.{Lives};
 ghost use Rattle.walrus_used.specs.Counts.{counts_of};
-ghost use Rattle.walrus_refusals.specs.Asked.{IsOwnLinked};
-ghost use Rattle.walrus_refusals.specs.Checks.{AllClaimTruly, AreWell, AreInexact, FailsIn, HasMetForm, HoldsMet, IsMet, IsWell};
+ghost use Rattle.walrus_refusals.specs.Checks.{AreLinked, AreWell, AreInexact, FailsIn, HasMetForm, HoldsMet, IsMet, IsWell};
 ghost use Rattle.walrus_refusals.specs.Sound.{IsRefused, IsSound, Stands};
 ghost use Rattle.walrus_refusals.specs.Written.{IsUnshared, StaysInGroup};
 
 use crate::checks::{Both, failing_space};
+use crate::claims::past_claims;
 use crate::grouped::Grouped;
 use crate::linked::{OwnLinks, all_claim_truly};
 use crate::live::Living;
@@ -45,12 +45,12 @@ fn holds_of_all<B, C: Check>(
 // Whether what was met and imports name each other, and functions have bodies.
 fn are_linked<B>(alloc: Global, input: &Module<B>, marks: &Marks) -> Result<bool, AllocError>
     requires { (x : AnyItem) → IsMet marks.now x → FitsIn (counts_of (parts input.now)) x }
-    ensures { IfOk result (λ ok. Decides ok (HoldsMet (IsOwnLinked (parts input.now)) marks.now × AllClaimTruly (parts input.now) marks.now)) }
+    ensures { IfOk result (λ ok. Decides ok (AreLinked (parts input.now) marks.now)) }
 {
     if !holds_of_all(input, marks, &OwnLinks { alloc, input })? {
         return Ok(false);
     }
-    Ok(all_claim_truly(input, marks))
+    Ok(all_claim_truly(input, marks) && !marks.misses_claimed())
 }
 
 // The space of an item that was met and doesn't live, or of types where one names another past its own group.
@@ -60,7 +60,7 @@ fn dead_space<B>(
     marks: &Marks,
 ) -> Result<Option<Space>, AllocError>
     requires { (x : AnyItem) → IsMet marks.now x → FitsIn (counts_of (parts input.now)) x }
-    ensures { IfOk result (λ answer. MatchOption answer ((HoldsMet (Stands (parts input.now)) marks.now) × (marks.now.missing ≡ None)) (FailsIn (Stands (parts input.now)) marks.now)) }
+    ensures { IfOk result (λ answer. MatchOption answer ((HoldsMet (Stands (parts input.now)) marks.now) × (marks.now.missing.item ≡ None)) (FailsIn (Stands (parts input.now)) marks.now)) }
 {
     if let Some(space) = failing_space(input, marks, &Living { input })? {
         return Ok(Some(space));
@@ -148,7 +148,8 @@ pub fn reach_sound<B>(
             second: written,
         },
     };
-    let reached = reach_items(alloc, input, pushed, &well)?;
+    let claims = past_claims(alloc, input)?;
+    let reached = reach_items(alloc, input, pushed, &well, claims)?;
     if are_well(input, &reached) {
         return Ok(reached.marks);
     }

@@ -1,6 +1,6 @@
 -- What is looked at, and what lives, has an id below the counts.
-use Rattle.std.proofs.Common.{◌≡◌, ◌+◌, ◌<◌, ◌≤◌, ℕ, zero, suc, List, [], ◌∷◌, length, map, get_or, Option, Some, None, Contains, refl, sym, subst, inl, inr, arith}
-use Rattle.std.specs.Prelude.{◌↔◌, IsSome, MatchOption, slice_get}
+use Rattle.std.proofs.Common.{◌≡◌, ◌+◌, ◌<◌, ◌≤◌, ◌⊎◌, ℕ, zero, suc, List, [], ◌∷◌, length, map, get_or, Option, Some, None, Contains, refl, sym, subst, inl, inr, arith}
+use Rattle.std.specs.Prelude.{◌↔◌, IsSome, IsTrue, MatchOption, slice_get}
 use Rattle.std.proofs.lemmas.List.{get_or_past}
 use Rattle.std.specs.List.{fold}
 use Rattle.std.proofs.lemmas.Bool.{cases_lt, lt-ltb, le-ltb, false≢true}
@@ -14,8 +14,8 @@ use Rattle.walrus_references.specs.walrus_module_items.declared.function.Functio
 use Rattle.walrus_references.specs.walrus_module.Parts.{Module}
 use Rattle.walrus_roots.specs.declared.item.Item.{Item}
 use Rattle.walrus_roots.specs.Items.{item}
-use Rattle.walrus_marks.specs.Marks.{State}
-use Rattle.walrus_marks.specs.Chains.{Chain, FitsIn, root, refers}
+use Rattle.walrus_marks.specs.Marks.{State, is_claimed}
+use Rattle.walrus_marks.specs.Chains.{Chain, FitsIn, Lacks, root, refers}
 use Rattle.walrus_marks.specs.Chains.{IsReached as IsReachedIn}
 use Rattle.walrus_references.specs.References.{Refers, named_by, type_items, local_items, KindNames}
 use Rattle.walrus_references.specs.Roots.{Root}
@@ -152,26 +152,31 @@ module _ (counts : List ℕ) (P Q : Item → Type 0) (R : Item → Item → Type
   back : (x : Item) → Chain Q R x → Chain P R x
   back x k = chain_from Q P R (λ y q. (same y).1 q) x k
 
-  missing_same : (o : Option Item) → MatchOption o ((x : Item) → Chain P R x → FitsIn counts x) (λ i. Chain P R i × (FitsIn counts i → ⊥))
-      → MatchOption o ((x : Item) → Chain Q R x → FitsIn counts x) (λ i. Chain Q R i × (FitsIn counts i → ⊥))
-  missing_same None fits = λ x r. fits x (back x r)
-  missing_same (Some i) d = (there i d.0, d.1)
+  missing_same : (claimed : List (List ℕ)) (o : Option Item) → Lacks counts P R (record { item = o; claimed = claimed }) → Lacks counts Q R (record { item = o; claimed = claimed })
+  missing_same claimed None fits = λ x r. fits x (back x r)
+  missing_same claimed (Some i) d = (there i d.0, d.1, elim d.2 as (λ _. IsTrue (is_claimed claimed i) ⊎ ((x : Item) → Chain Q R x → IsTrue (is_claimed claimed x) → FitsIn counts x)) [ inl is ↦ inl is | inr all ↦ inr (λ x r. all x (back x r)) ])
 
   pub from_same : IsReachedIn counts Q R s
   from_same = record {
     marked = λ x. (λ set. (let both = (h.marked x).0 set in (there x both.0, both.1)), λ both. (h.marked x).1 (back x both.0, both.1));
-    missing = missing_same s.missing h.missing;
+    missing = missing_same s.missing.claimed s.missing.item h.missing;
   }
 
 -- what is looked at reaches what references reach
 module _ (m : Module) (active : List (List Item)) (ok : AreActive m active) (pushed : List Item) (s : State) (h : IsReachedIn (counts_of m) (Root m pushed) (Looks m active) s) where
-  missing_said : (o : Option Item) → MatchOption o ((x : Item) → Chain (Root m pushed) (Looks m active) x → FitsIn (counts_of m) x) (λ i. Chain (Root m pushed) (Looks m active) i × (FitsIn (counts_of m) i → ⊥))
-      → MatchOption o ((x : Item) → IsReached m pushed x → FitsIn (counts_of m) x) (λ i. IsReached m pushed i × (FitsIn (counts_of m) i → ⊥))
-  missing_said None fits = λ x r. fits x (reached_looked m active ok pushed x r)
-  missing_said (Some i) d = (looked_reached m active ok pushed i d.0, d.1)
+  missing_said : (claimed : List (List ℕ)) (o : Option Item) → Lacks (counts_of m) (Root m pushed) (Looks m active) (record { item = o; claimed = claimed }) → Lacks (counts_of m) (Root m pushed) (Refers m) (record { item = o; claimed = claimed })
+  missing_said claimed None fits = λ x r. fits x (reached_looked m active ok pushed x r)
+  missing_said claimed (Some i) d = (
+    looked_reached m active ok pushed i d.0,
+    d.1,
+    elim d.2 as (λ _. IsTrue (is_claimed claimed i) ⊎ ((x : Item) → IsReached m pushed x → IsTrue (is_claimed claimed x) → FitsIn (counts_of m) x)) [
+      | inl is ↦ inl is
+      | inr all ↦ inr (λ x r. all x (reached_looked m active ok pushed x r))
+    ],
+  )
 
   pub reaches : IsReachedIn (counts_of m) (Root m pushed) (Refers m) s
   reaches = record {
     marked = λ x. (λ set. (let both = (h.marked x).0 set in (looked_reached m active ok pushed x both.0, both.1)), λ both. (h.marked x).1 (reached_looked m active ok pushed x both.0, both.1));
-    missing = missing_said s.missing h.missing;
+    missing = missing_said s.missing.claimed s.missing.item h.missing;
   }

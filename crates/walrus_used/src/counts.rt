@@ -14,6 +14,7 @@ use crate::segments::element_segments;
 use crate::sweep::{Check, Reached, reach_asking};
 use std::alloc::{AllocError, Global};
 use walrus_arena::TypeId;
+use walrus_marks::Claims;
 use walrus_references::module::Module;
 use walrus_roots::Item;
 use walrus_types::ModuleTypes;
@@ -76,7 +77,8 @@ pub fn id_counts<B>(input: &Module<B>) -> [usize; 10]
 }
 
 /// Marks what is reached from the roots, where custom sections push these, and asks of each item, while it is at hand,
-/// whether this holds. Takes time and memory in proportion to the module.
+/// whether this holds. Of those that have no flag a claimed one is known, if such a one is reached. Takes time and memory in
+/// proportion to the module.
 ///
 /// # Errors
 ///
@@ -86,8 +88,10 @@ pub fn reach_items<B, C: Check>(
     input: &Module<B>,
     pushed: &[Item],
     check: &C,
+    claims: Claims,
 ) -> Result<Reached, AllocError>
     ensures reached { IfOk result (λ r. IsReached (counts_of (parts input.now)) (Root (parts input.now) pushed.now) (Refers (parts input.now)) r.marks) }
+    ensures claimed { IfOk result (λ r. r.marks.missing.claimed ≡ claims) }
     ensures asked { IfOk result (λ r. OnTrue r.holds (AllHold (C.holds check.now) r.marks)) }
 {
     walrus_types::laws::types_are_grouped(&input.types);
@@ -99,5 +103,5 @@ pub fn reach_items<B, C: Check>(
         pushed,
         active: segments.active.as_slice(),
     };
-    reach_asking(alloc, &names, check, &id_counts(input))
+    reach_asking(alloc, &names, check, &id_counts(input), claims)
 }

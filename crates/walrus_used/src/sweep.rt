@@ -7,7 +7,7 @@ ghost use Rattle.walrus_used.specs.Asked.{AllHold};
 ghost use Rattle.walrus_used.specs.Picks.{Below};
 
 use std::alloc::{AllocError, Global};
-use walrus_marks::Marks;
+use walrus_marks::{Claims, Marks};
 use walrus_roots::Item;
 
 /// Roots in parts, and references: which items are kept for themselves, and what each item names.
@@ -74,6 +74,7 @@ fn holds_on<C: Check>(check: &C, held: bool, item: Item) -> Result<bool, AllocEr
 /// Marks what chains of references reach from the roots, where each space has as many ids as the counts say, and asks of
 /// each item, while it is at hand, whether this holds. Each item is looked at once, and what the roots of a part reach before
 /// those of the next are met, so that memory that was touched is soon touched again. Asks that items past the counts name nothing.
+/// Of those that have no flag a claimed one is known, if such a one is reached.
 ///
 /// # Errors
 ///
@@ -83,13 +84,15 @@ pub(crate) fn reach_asking<N: PartNames, C: Check>(
     names: &N,
     check: &C,
     counts: &[usize],
+    claims: Claims,
 ) -> Result<Reached, AllocError>
     requires spaces { length counts.now ≡ 10 }
     requires fit { (x y : AnyItem) → N.refers names.now x y → FitsIn counts.now x }
     ensures reached { IfOk result (λ r. IsReached counts.now (N.is_root names.now) (N.refers names.now) r.marks) }
+    ensures claimed { IfOk result (λ r. r.marks.missing.claimed ≡ claims) }
     ensures asked { IfOk result (λ r. OnTrue r.holds (AllHold (C.holds check.now) r.marks)) }
 {
-    let mut marks = Marks::new(alloc, counts)?;
+    let mut marks = Marks::new(alloc, counts, claims)?;
     let mut holds = true;
     for part in 0..names.part_count() {
         names.meet_part(part, &mut marks);

@@ -2,7 +2,7 @@ use Rattle.walrus_marks.proofs.ReachLemmas.{sweeps_begin, sweeps_turn, turn_fall
 use Rattle.walrus_marks.proofs.sweep.reach.Goals as goal
 
 pub loop-item-init : goal.loop-item-init
-loop-item-init g c = sweeps_begin c.args.counts.now (g.N.Names.is_root c.args.names.now) (g.N.Names.refers c.args.names.now) c.in_ok-marks.marks c.meet_roots.new.marks c.in_ok-marks.ensures c.meet_roots.ensures
+loop-item-init g c = sweeps_begin c.args.counts.now c.none.result (g.N.Names.is_root c.args.names.now) (g.N.Names.refers c.args.names.now) c.in_ok-marks.marks c.meet_roots.new.marks c.in_ok-marks.ensures c.meet_roots.ensures
 
 pub loop-item-smaller : goal.loop-item-smaller
 loop-item-smaller g c =

@@ -1,6 +1,5 @@
-use Rattle.std.proofs.Common.{Option, None, MatchOption, ◌≡◌, ◌∙◌, refl, sym, subst, inr}
+use Rattle.std.proofs.Common.{None, MatchOption, ◌≡◌, ◌∙◌, refl, sym, inr}
 use Rattle.std.proofs.lemmas.Result.{IfOk-weaker}
-use Rattle.wasm_formats.specs.declared.fault.Space.{Space}
 use Rattle.walrus_linked.specs.walrus_module.Parts.{parts}
 use Rattle.walrus_linked.specs.walrus_module.Items.{Lives}
 use Rattle.walrus_refusals.specs.Checks.{FailsIn, HoldsMet, HoldsOrFails}
@@ -22,5 +21,5 @@ returns g c =
     let m = parts c.args.input.now in
     let s = c.args.marks.now in
     let live : HoldsMet (Lives m) s = holds_all (Lives m) s c.in_ok-space.field-0 c.in_default.is c.in_ok-space.ensures in
-    IfOk-weaker c.failing_space-2.result (HoldsOrFails (StaysInGroup m) s) (λ answer. MatchOption answer (HoldsMet (Stands m) s × (s.missing ≡ None)) (FailsIn (Stands m) s))
+    IfOk-weaker c.failing_space-2.result (HoldsOrFails (StaysInGroup m) s) (λ answer. MatchOption answer (HoldsMet (Stands m) s × (s.missing.item ≡ None)) (FailsIn (Stands m) s))
     (λ answer h. dead_last m s live (sym c.missing.ensures ∙ c.in_default-missing.is) answer h) c.failing_space-2.ensures
