@@ -123,7 +123,7 @@ module _ {B : Type 0} (features : WasmFeatures) (bytes : List ℕ) (s : Sections
       let at = upto_is (length s.tags.items) n tag (ap (λ (x : Ids). slice_get x.tags n) (sym f.numbers) ∙ named) in
       let slots : file.tags.now.slots ≡ f.tags.more = ap (λ (a : Arena Tag). a.slots) o.tags_are ∙ f.tags.behind in
       let read = tag_at (look_of i) (λ n. IsTyped (state_of s).filled n) (λ n. IsFunctionType m.types n)
-      (λ n id typed look. typed_at (types_of (state_of s).filled) i.types file.own_types m.types types_filed n id typed look) s.tags.items f.tags.more n at.1 f.tags.become linked.tags_typed in
+      (λ n id typed look. typed_at (types_of (state_of s).filled) i.types file.own_types m.types types_filed n id typed look) s.tags.items f.tags.more n 0 at.1 f.tags.become linked.tags_typed in
       (read.0, ap (λ (l : List (Option Tag)). slice_index_or l tag None) slots ∙ ap (λ (k : ℕ). slice_index_or f.tags.more k None) at.0 ∙ read.1, read.2)
 
 pub modules_are_ready : {B : Type 0} → FilledFunctionsStand B → FilledModulesAreFiled B → FilledModulesAreReady B

@@ -63,10 +63,10 @@ typed_at kinds ids own t filed n id typed named = go (slice_get kinds n) refl ty
 
 module _ (look : Look) (P Q : ℕ → Type 0) (one : (n id : ℕ) → P n → look Types n ≡ Some id → Q id) where
   -- what a tag of the file became
-  pub tag_at : (xs : List ReadTag) (ys : List (Option Tag)) (n : ℕ) → n < length xs → Become (IsTagOf look) xs ys → Each (λ (t : GrammarTag). P t.ty) (map (λ x. Some (tag_of x)) xs)
+  pub tag_at : (xs : List ReadTag) (ys : List (Option Tag)) (n first : ℕ) → n < length xs → Become (IsTagOf look) xs ys first → Each (λ (t : GrammarTag). P t.ty) (map (λ x. Some (tag_of x)) xs)
       → (t : Tag) × (slice_index_or ys n None ≡ Some t) × Q t.ty
-  tag_at [] ys n lt h p = absurd (omega (arith, lt))
-  tag_at (x ∷ xs) [] n lt h p = absurd h
-  tag_at (x ∷ xs) (None ∷ ys) n lt h p = absurd h
-  tag_at (x ∷ xs) (Some y ∷ ys) zero lt h p = (y, refl, one x.ty y.ty p.0 h.0.ty)
-  tag_at (x ∷ xs) (Some y ∷ ys) (suc n) lt h p = tag_at xs ys n (omega (arith, lt)) h.1 p.1
+  tag_at [] ys n first lt h p = absurd (omega (arith, lt))
+  tag_at (x ∷ xs) [] n first lt h p = absurd h
+  tag_at (x ∷ xs) (None ∷ ys) n first lt h p = absurd h
+  tag_at (x ∷ xs) (Some y ∷ ys) zero first lt h p = (y, refl, one x.ty y.ty p.0 h.0.ty)
+  tag_at (x ∷ xs) (Some y ∷ ys) (suc n) first lt h p = tag_at xs ys n (suc first) (omega (arith, lt)) h.1 p.1

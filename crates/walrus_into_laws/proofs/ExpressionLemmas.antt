@@ -67,8 +67,8 @@ module _ (features : WasmFeatures) (look : Look) (stay : OthersStay look) where
   init_means (Some ops) None spelled h = absurd h
   init_means (Some ops) (Some c) spelled h = ap (λ (e : Expr). Some e) (expr_means ops.items c spelled h)
 
-  table_means : (r : ReadTable) (t : Table) → InitIsSpelled features (option_map expr_of r.init) → IsTableOf look r t → own_table t ≡ retyped_table (type_id look) (table_of r)
-  table_means r t spelled h = go _ _ _ _ _ _ _ _ _ _ _ _ h.wide h.initial h.maximum (ref_renamed look (ref_of r.ty.element) t.element_ty h.element) (init_means r.init t.init spelled h.init) h.import
+  table_means : (slot : ℕ) (r : ReadTable) (t : Table) → InitIsSpelled features (option_map expr_of r.init) → IsTableOf look slot r t → own_table t ≡ retyped_table (type_id look) (table_of r)
+  table_means slot r t spelled h = go _ _ _ _ _ _ _ _ _ _ _ _ h.wide h.initial h.maximum (ref_renamed look (ref_of r.ty.element) t.element_ty h.element) (init_means r.init t.init spelled h.init) h.import
     where
       go : (a b : Bool) (c d : ℕ) (e f : Option ℕ) (g h : RefType) (i j : Option Expr) (k l : Option ℕ) → a ≡ b → c ≡ d → e ≡ f → g ≡ h → i ≡ j → k ≡ l
           → ◌≡◌ {A = grammar.Table} (record { wide = a; initial = c; maximum = e; element = g; init = i; imported = k }) (record { wide = b; initial = d; maximum = f; element = h; init = j; imported = l })
@@ -82,8 +82,8 @@ module _ (features : WasmFeatures) (look : Look) (stay : OthersStay look) where
   origin_means (origins.Own init) (globals.Import id) spelled h = absurd h
   origin_means (origins.Own init) (globals.Local c) spelled h = ap (λ (e : Expr). grammar.Own e) (expr_means init.items c spelled h)
 
-  global_means : (r : ReadGlobal) (g : Global) → OriginIsSpelled features (origin_of r.origin) → IsGlobalOf look r g → own_global g ≡ retyped_global (type_id look) (global_of r)
-  global_means r g spelled h = go _ _ _ _ _ _ (value_renamed look (value_of r.ty) g.ty h.ty) h.mutable (origin_means r.origin g.kind spelled h.origin)
+  global_means : (slot : ℕ) (r : ReadGlobal) (g : Global) → OriginIsSpelled features (origin_of r.origin) → IsGlobalOf look slot r g → own_global g ≡ retyped_global (type_id look) (global_of r)
+  global_means slot r g spelled h = go _ _ _ _ _ _ (value_renamed look (value_of r.ty) g.ty h.ty) h.mutable (origin_means r.origin g.kind spelled h.origin)
     where
       go : (a b : ValType) (c d : Bool) (e f : Origin Expr) → a ≡ b → c ≡ d → e ≡ f → ◌≡◌ {A = grammar.Global} (record { ty = a; mutable = c; origin = e }) (record { ty = b; mutable = d; origin = f })
       go a b c d e f x y z = rw (x, y, z) refl
@@ -127,8 +127,8 @@ module _ (features : WasmFeatures) (look : Look) (stay : OthersStay look) where
   items_mean (listed.Expressions read exprs) (holds.Functions ids) spelled h = absurd h
   items_mean (listed.Expressions read exprs) (holds.Expressions ty cs) spelled h = expressions_are _ _ _ _ (ref_renamed look (ref_of read) ty h.0) (exprs_mean exprs.items cs.items spelled h.1)
 
-  element_means : (r : ReadElement) (e : Element) → ModeIsSpelled features (mode_of r.mode) × ItemsAreSpelled features (items_of r.items) → IsElementOf look r e → own_element e ≡ retyped_element (type_id look) (element_of r)
-  element_means r e spelled h = go _ _ _ _ (mode_means r.mode e.kind spelled.0 h.mode) (items_mean r.items e.items spelled.1 h.items)
+  element_means : (slot : ℕ) (r : ReadElement) (e : Element) → ModeIsSpelled features (mode_of r.mode) × ItemsAreSpelled features (items_of r.items) → IsElementOf look slot r e → own_element e ≡ retyped_element (type_id look) (element_of r)
+  element_means slot r e spelled h = go _ _ _ _ (mode_means r.mode e.kind spelled.0 h.mode) (items_mean r.items e.items spelled.1 h.items)
     where
       go : (a b : grammar.Mode) (c d : grammar.Elements) → a ≡ b → c ≡ d → ◌≡◌ {A = grammar.Element} (record { mode = a; items = c }) (record { mode = b; items = d })
       go a b c d x y = rw (x, y) refl
@@ -141,15 +141,15 @@ module _ (features : WasmFeatures) (look : Look) (stay : OthersStay look) where
   data_mode_means (modes.Active n offset) datas.Passive spelled h = absurd h
   data_mode_means (modes.Active n offset) (datas.Active memory c) spelled h = active_is _ _ _ _ (stay Memories n memory (λ e. absurd cc) h.0) (expr_means offset.items c spelled h.1)
 
-  segment_means : (r : ReadData) (d : Data) → ModeIsSpelled features (mode_of r.mode) → IsSegmentOf look r d → own_segment d ≡ retyped_segment (type_id look) (data_of r)
-  segment_means r d spelled h = go _ _ _ _ (data_mode_means r.mode d.kind spelled h.mode) h.bytes
+  segment_means : (slot : ℕ) (r : ReadData) (d : Data) → ModeIsSpelled features (mode_of r.mode) → IsSegmentOf look slot r d → own_segment d ≡ retyped_segment (type_id look) (data_of r)
+  segment_means slot r d spelled h = go _ _ _ _ (data_mode_means r.mode d.kind spelled h.mode) h.bytes
     where
       go : (a b : grammar.Mode) (c d : List ℕ) → a ≡ b → c ≡ d → ◌≡◌ {A = grammar.Segment} (record { mode = a; bytes = c }) (record { mode = b; bytes = d })
       go a b c d x y = rw (x, y) refl
 
 pub tables_mean : TablesMean
 tables_mean features s look new spelled stay h =
-    as_changed (IsTableOf look) table_of own_table _ (retyped_table (type_id look)) (λ r t p is. table_means features look stay r t p.0 is) s.tables.items new spelled.tables h
+    as_changed (IsTableOf look) table_of own_table _ (retyped_table (type_id look)) (λ slot r t p is. table_means features look stay slot r t p.0 is) s.tables.items new spelled.tables h
 
 pub globals_mean : GlobalsMean
 globals_mean features s look new spelled stay h =
@@ -161,4 +161,4 @@ elements_mean features s look new spelled stay h =
 
 pub segments_mean : SegmentsMean
 segments_mean features s look new spelled stay h =
-    as_changed (IsSegmentOf look) data_of own_segment _ (retyped_segment (type_id look)) (λ r d p is. segment_means features look stay r d p.0 is) s.segments.items new spelled.segments h
+    as_changed (IsSegmentOf look) data_of own_segment _ (retyped_segment (type_id look)) (λ slot r d p is. segment_means features look stay slot r d p.0 is) s.segments.items new spelled.segments h

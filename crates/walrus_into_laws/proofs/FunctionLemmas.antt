@@ -28,12 +28,13 @@ kind_type ty None = refl
 kind_type ty (Some n) = refl
 
 all_become : (look : Look) (types : List ℕ) (id : ℕ) (reads : List ReadFunction) → ((n : ℕ) → look Types n ≡ slice_get types n) → AreTyped types reads
-    → Become (IsFunctionOf look) reads (functions_from types id reads)
+    → Become (IsFunctionOf look) reads (functions_from types id reads) id
 all_become look types id [] same typed = tt
 all_become look types id (r ∷ reads) same typed =
     let ty = at types r.ty in
     let is = kind_type ty r.import in (
       record {
+        id = refl;
         ty = same r.ty ∙ there types r.ty (All-head (λ (f : ReadFunction). f.ty < length types) r reads typed) ∙ sym (ap (λ (n : ℕ). Some n) is);
         kind = sym (ap (λ (n : ℕ). kind_of n r.import) is);
       },
@@ -53,11 +54,11 @@ origin_is locals ty (Some n) = refl
 both : (a b : ℕ) (o p : Origin Body) → a ≡ b → o ≡ p → ◌≡◌ {A = GrammarFunction} (record { ty = a; origin = o }) (record { ty = b; origin = p })
 both a b o p same other = rw (same, other) refl
 
-function_means : (look : Look) (locals : List Local) (r : ReadFunction) (f : Function) → IsFunctionOf look r f → own_function locals f ≡ retyped_function (type_id look) (function_of r)
-function_means look locals r f h =
+function_means : (look : Look) (locals : List Local) (slot : ℕ) (r : ReadFunction) (f : Function) → IsFunctionOf look slot r f → own_function locals f ≡ retyped_function (type_id look) (function_of r)
+function_means look locals slot r f h =
     both _ _ _ _ (type_is look r.ty (type_of f.kind) h.ty) (ap (own_origin locals) h.kind ∙ origin_is locals (type_of f.kind) r.import)
 
 pub functions_mean : FunctionsMean
 functions_mean s look locals new h =
-    as_changed (IsFunctionOf look) function_of (own_function locals) (λ f. Unit {0}) (retyped_function (type_id look)) (λ r f _ is. function_means look locals r f is)
+    as_changed (IsFunctionOf look) function_of (own_function locals) (λ f. Unit {0}) (retyped_function (type_id look)) (λ slot r f _ is. function_means look locals slot r f is)
     s.functions.items new (nothing_asked function_of s.functions.items) h

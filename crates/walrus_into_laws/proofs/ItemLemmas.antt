@@ -49,14 +49,14 @@ module _ (look : Look) (stay : OthersStay look) where
   given_out spaces.Tag n (given.Tag id) h = ap (item spaces.Tag) (stay Tags n id (λ e. absurd cc) h)
   given_out _ n _ h = absurd h
 
-  import_means : (r : ReadImport) (i : Import) → IsImportOf look r i → own_import i ≡ import_of r
-  import_means r i h = go _ _ _ _ _ _ h.space_name h.name (brought r.space r.index i.kind h.kind)
+  import_means : (slot : ℕ) (r : ReadImport) (i : Import) → IsImportOf look slot r i → own_import i ≡ import_of r
+  import_means slot r i h = go _ _ _ _ _ _ h.space_name h.name (brought r.space r.index i.kind h.kind)
     where
       go : (a b c d : List ℕ) (x y : grammar.Item) → a ≡ b → c ≡ d → x ≡ y → ◌≡◌ {A = grammar.Import} (record { space_name = a; name = c; item = x }) (record { space_name = b; name = d; item = y })
       go a b c d x y e f g = rw (e, f, g) refl
 
-  export_means : (r : ReadExport) (x : Export) → IsExportOf look r x → own_export x ≡ export_of r
-  export_means r x h = go _ _ _ _ h.name (given_out r.space r.index x.item h.item)
+  export_means : (slot : ℕ) (r : ReadExport) (x : Export) → IsExportOf look slot r x → own_export x ≡ export_of r
+  export_means slot r x h = go _ _ _ _ h.name (given_out r.space r.index x.item h.item)
     where
       go : (a b : List ℕ) (x y : grammar.Item) → a ≡ b → x ≡ y → ◌≡◌ {A = grammar.Export} (record { name = a; item = x }) (record { name = b; item = y })
       go a b x y e f = rw (e, f) refl
@@ -67,18 +67,18 @@ module _ (look : Look) (stay : OthersStay look) where
   start_is (Some n) None h = absurd h
   start_is (Some n) (Some id) h = ap (λ (k : ℕ). Some k) (stay Functions n id (λ e. absurd cc) h)
 
-tag_means : (look : Look) (r : ReadTag) (t : Tag) → IsTagOf look r t → own_tag t ≡ retyped_tag (type_id look) (tag_of r)
-tag_means look r t h = go _ _ _ _ (type_is look r.ty t.ty h.ty) h.import
+tag_means : (look : Look) (slot : ℕ) (r : ReadTag) (t : Tag) → IsTagOf look slot r t → own_tag t ≡ retyped_tag (type_id look) (tag_of r)
+tag_means look slot r t h = go _ _ _ _ (type_is look r.ty t.ty h.ty) h.import
   where
     go : (a b : ℕ) (m n : Option ℕ) → a ≡ b → m ≡ n → ◌≡◌ {A = grammar.Tag} (record { ty = a; imported = m }) (record { ty = b; imported = n })
     go a b m n e f = rw (e, f) refl
 
-custom_means : {B : Type 0} (boxed : B → grammar.Custom) (r : ReadCustom) (section : Section B) → IsCustomOf r section → own_custom boxed section ≡ custom_of r
-custom_means boxed r (Raw section) h = go _ _ _ _ h.named h.holds
+custom_means : {B : Type 0} (boxed : B → grammar.Custom) (slot : ℕ) (r : ReadCustom) (section : Section B) → IsCustomOf slot r section → own_custom boxed section ≡ custom_of r
+custom_means boxed slot r (Raw section) h = go _ _ _ _ h.named h.holds
   where
     go : (a b c d : List ℕ) → a ≡ b → c ≡ d → ◌≡◌ {A = grammar.Custom} (record { name = a; bytes = c }) (record { name = b; bytes = d })
     go a b c d e f = rw (e, f) refl
-custom_means boxed r (Boxed section) h = absurd h
+custom_means boxed slot r (Boxed section) h = absurd h
 
 pub imports_mean : ImportsMean
 imports_mean s look new stay h = as_read (IsImportOf look) import_of own_import s.imports.items new (import_means look stay) h
@@ -87,11 +87,11 @@ pub exports_mean : ExportsMean
 exports_mean s look new stay h = as_read (IsExportOf look) export_of own_export s.exports.items new (export_means look stay) h
 
 pub memories_mean : MemoriesMean
-memories_mean s new h = as_read IsMemoryOf memory_of own_memory s.memories.items new (λ r m is. is.meant) h
+memories_mean s new h = as_read IsMemoryOf memory_of own_memory s.memories.items new (λ slot r m is. is.meant) h
 
 pub tags_mean : TagsMean
 tags_mean s look new h =
-    as_changed (IsTagOf look) tag_of own_tag (λ t. Unit {0}) (retyped_tag (type_id look)) (λ r t _ is. tag_means look r t is) s.tags.items new (nothing_asked tag_of s.tags.items) h
+    as_changed (IsTagOf look) tag_of own_tag (λ t. Unit {0}) (retyped_tag (type_id look)) (λ slot r t _ is. tag_means look slot r t is) s.tags.items new (nothing_asked tag_of s.tags.items) h
 
 pub start_means : StartMeans
 start_means s look start stay h = start_is look stay s.start start h

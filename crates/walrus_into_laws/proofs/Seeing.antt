@@ -1,5 +1,5 @@
 -- Lemmas: slots that are filled with what was read are seen as it is, renamed.
-use Rattle.std.proofs.Common.{◌≡◌, ◌∙◌, ℕ, List, [], ◌∷◌, map, Option, Some, None, refl, sym, ap}
+use Rattle.std.proofs.Common.{◌≡◌, ◌∙◌, ℕ, suc, List, [], ◌∷◌, map, Option, Some, None, refl, sym, ap}
 use Rattle.std.specs.Option.{option_map, unwrap_or}
 use Rattle.walrus_arena.specs.Arena.{Arena}
 use Rattle.walrus_tables_into.specs.walrus_meaning.Meaning.{slots_of}
@@ -15,23 +15,23 @@ use Rattle.walrus_into_laws.specs.Meaning.{type_id, OthersStay}
 abbrev pub slots : {X Z : Type 0} → (X → Z) → List X → List (Option Z)
 slots read xs = map (λ x. Some (read x)) xs
 
-module _ {X Y Z : Type 0} (R : X → Y → Type 0) (read : X → Z) (see : Y → Z) where
+module _ {X Y Z : Type 0} (R : ℕ → X → Y → Type 0) (read : X → Z) (see : Y → Z) where
   -- each is seen as it was read
-  pub as_read : (xs : List X) (new : Arena Y) → ((x : X) (y : Y) → R x y → see y ≡ read x) → Filled R xs [] new.slots → slots_of see new ≡ slots read xs
-  as_read xs new same h = ap (λ (l : List (Option Y)). map (option_map see) l) h.behind ∙ filled_seen R read see same xs h.more h.become
+  pub as_read : (xs : List X) (new : Arena Y) → ((slot : ℕ) (x : X) (y : Y) → R slot x y → see y ≡ read x) → Filled R xs [] new.slots → slots_of see new ≡ slots read xs
+  as_read xs new same h = ap (λ (l : List (Option Y)). map (option_map see) l) h.behind ∙ filled_seen R read see same xs h.more 0 h.become
 
-  module _ (P : Z → Type 0) (change : Z → Z) (same : (x : X) (y : Y) → P (read x) → R x y → see y ≡ change (read x)) where
-    changed_so : (xs : List X) (ys : List (Option Y)) → Each P (slots read xs) → Become R xs ys → map (option_map see) ys ≡ each change (slots read xs)
-    changed_so [] [] p h = refl
-    changed_so [] (y ∷ ys) p h = absurd h
-    changed_so (x ∷ xs) [] p h = absurd h
-    changed_so (x ∷ xs) (None ∷ ys) p h = absurd h
-    changed_so (x ∷ xs) (Some y ∷ ys) p h =
-        ap (λ (z : Z). Some z ∷ map (option_map see) ys) (same x y p.0 h.0) ∙ ap (λ (l : List (Option Z)). Some (change (read x)) ∷ l) (changed_so xs ys p.1 h.1)
+  module _ (P : Z → Type 0) (change : Z → Z) (same : (slot : ℕ) (x : X) (y : Y) → P (read x) → R slot x y → see y ≡ change (read x)) where
+    changed_so : (xs : List X) (ys : List (Option Y)) (first : ℕ) → Each P (slots read xs) → Become R xs ys first → map (option_map see) ys ≡ each change (slots read xs)
+    changed_so [] [] first p h = refl
+    changed_so [] (y ∷ ys) first p h = absurd h
+    changed_so (x ∷ xs) [] first p h = absurd h
+    changed_so (x ∷ xs) (None ∷ ys) first p h = absurd h
+    changed_so (x ∷ xs) (Some y ∷ ys) first p h =
+        ap (λ (z : Z). Some z ∷ map (option_map see) ys) (same first x y p.0 h.0) ∙ ap (λ (l : List (Option Z)). Some (change (read x)) ∷ l) (changed_so xs ys (suc first) p.1 h.1)
 
     -- each is seen as it was read, changed, where what was read is fit for it
     pub as_changed : (xs : List X) (new : Arena Y) → Each P (slots read xs) → Filled R xs [] new.slots → slots_of see new ≡ each change (slots read xs)
-    as_changed xs new p h = ap (λ (l : List (Option Y)). map (option_map see) l) h.behind ∙ changed_so xs h.more p h.become
+    as_changed xs new p h = ap (λ (l : List (Option Y)). map (option_map see) l) h.behind ∙ changed_so xs h.more 0 p h.become
 
 -- where nothing is asked
 pub nothing_asked : {X Z : Type 0} (read : X → Z) (xs : List X) → Each (λ (z : Z). Unit {0}) (slots read xs)

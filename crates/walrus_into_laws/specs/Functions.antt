@@ -9,8 +9,9 @@ use Rattle.walrus_tables_into.specs.walrus_sections_into.wasm_immediates.Items.{
 use Rattle.walrus_tables_into.specs.walrus_sections_into.Slots.{Filled}
 use Rattle.walrus_functions_into.specs.Functions.{AreTyped, functions_from, kind_of}
 
--- of the type that is named, brought by the same import; where none brings it, it has no body yet
-pub record IsFunctionOf (look : Look) (read : ReadFunction) (f : Function) : Type 0 where
+-- of the type that is named, brought by the same import; where none brings it, it has no body yet; its id is its slot
+pub record IsFunctionOf (look : Look) (slot : ℕ) (read : ReadFunction) (f : Function) : Type 0 where
+  pub id : f.id ≡ slot
   pub ty : look Types read.ty ≡ Some (type_of f.kind)
   pub kind : f.kind ≡ kind_of (type_of f.kind) read.import
 

@@ -90,21 +90,21 @@ named {Y} slots ys ids k n a b c = elim (cases_lt n k) as (λ _. option_and_then
 
 -- ---- memories
 
-become_length : {X Y : Type 0} (R : X → Y → Type 0) (xs : List X) (ys : List (Option Y)) → Become R xs ys → length ys ≡ length xs
-become_length R [] [] h = refl
-become_length R [] (y ∷ ys) h = absurd h
-become_length R (x ∷ xs) [] h = absurd h
-become_length R (x ∷ xs) (None ∷ ys) h = absurd h
-become_length R (x ∷ xs) (Some y ∷ ys) h = ap suc (become_length R xs ys h.1)
+become_length : {X Y : Type 0} (R : ℕ → X → Y → Type 0) (xs : List X) (ys : List (Option Y)) (first : ℕ) → Become R xs ys first → length ys ≡ length xs
+become_length R [] [] first h = refl
+become_length R [] (y ∷ ys) first h = absurd h
+become_length R (x ∷ xs) [] first h = absurd h
+become_length R (x ∷ xs) (None ∷ ys) first h = absurd h
+become_length R (x ∷ xs) (Some y ∷ ys) first h = ap suc (become_length R xs ys (suc first) h.1)
 
-wide_at : (xs : List ReadMemory) (ys : List (Option Memory)) (n : ℕ) → Become IsMemoryOf xs ys
+wide_at : (xs : List ReadMemory) (ys : List (Option Memory)) (n first : ℕ) → Become IsMemoryOf xs ys first
     → option_map (λ (m : Memory). m.memory64) (slice_index_or ys n None) ≡ option_map (λ (m : GrammarMemory). m.wide) (slice_index_or (map (λ x. Some (memory_of x)) xs) n None)
-wide_at [] [] n h = refl
-wide_at [] (y ∷ ys) n h = absurd h
-wide_at (x ∷ xs) [] n h = absurd h
-wide_at (x ∷ xs) (None ∷ ys) n h = absurd h
-wide_at (x ∷ xs) (Some y ∷ ys) zero h = ap (λ (m : GrammarMemory). option_map (λ (m : GrammarMemory). m.wide) (Some m)) h.0.meant
-wide_at (x ∷ xs) (Some y ∷ ys) (suc n) h = wide_at xs ys n h.1
+wide_at [] [] n first h = refl
+wide_at [] (y ∷ ys) n first h = absurd h
+wide_at (x ∷ xs) [] n first h = absurd h
+wide_at (x ∷ xs) (None ∷ ys) n first h = absurd h
+wide_at (x ∷ xs) (Some y ∷ ys) zero first h = ap (λ (m : GrammarMemory). option_map (λ (m : GrammarMemory). m.wide) (Some m)) h.0.meant
+wide_at (x ∷ xs) (Some y ∷ ys) (suc n) first h = wide_at xs ys n (suc first) h.1
 
 -- ---- the module
 
@@ -160,8 +160,8 @@ module _ {B : Type 0} (features : WasmFeatures) (bytes : List ℕ) (s : Sections
         wide_are = λ n.
             let memories = f.memories in
             ap (option_map (λ (m : Memory). m.memory64))
-            (named e.memories.now.slots memories.more j.memories (length s.memories.items) n (ap (λ (a : Arena Memory). a.slots) env.memories ∙ memories.behind) memories_upto (become_length IsMemoryOf s.memories.items memories.more memories.become))
-            ∙ wide_at s.memories.items memories.more n memories.become;
+            (named e.memories.now.slots memories.more j.memories (length s.memories.items) n (ap (λ (a : Arena Memory). a.slots) env.memories ∙ memories.behind) memories_upto (become_length IsMemoryOf s.memories.items memories.more 0 memories.become))
+            ∙ wide_at s.memories.items memories.more n 0 memories.become;
         counted_is = env.has_data_count;
       }
 

@@ -63,10 +63,10 @@ numbered s i j k l t first none empty no_function types functions items =
 -- ---- all of it
 
 -- what was added is what was read
-pub over : {X Y : Type 0} {R : X → Y → Type 0} {xs ys : List X} {old new : List (Option Y)} → ys ≡ xs → Filled R ys old new → Filled R xs old new
+pub over : {X Y : Type 0} {R : ℕ → X → Y → Type 0} {xs ys : List X} {old new : List (Option Y)} → ys ≡ xs → Filled R ys old new → Filled R xs old new
 over {X} {Y} {R} {xs} {ys} {old} {new} e h = subst (λ (xs : List X). Filled R xs old new) e h
 
-emptied : {X Y : Type 0} (R : X → Y → Type 0) (xs : List X) (old new : List (Option Y)) → old ≡ [] → Filled R xs old new → Filled R xs [] new
+emptied : {X Y : Type 0} (R : ℕ → X → Y → Type 0) (xs : List X) (old new : List (Option Y)) → old ≡ [] → Filled R xs old new → Filled R xs [] new
 emptied {X} {Y} R xs old new e h = subst (λ (slots : List (Option Y)). Filled R xs slots new) e h
 
 functions_are : (reads all : List ReadFunction) (types others : List ℕ) (old new : List (Option Function)) → old ≡ [] → reads ≡ all → types ≡ others

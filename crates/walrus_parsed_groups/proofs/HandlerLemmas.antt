@@ -89,13 +89,13 @@ upto_at (suc count) n id e = go (last_at (upto count) count n id e) (upto_at cou
     go (inl h) on = let r = on h in (r.0, (let lt = r.1 in omega (arith, lt)))
     go (inr h) on = let m = h.0 in let c = h.1 in let l = upto_length count in (omega (arith, m, c, l), omega (arith, m, l))
 
-become_at : {X Y Z : Type 0} (R : X → Y → Type 0) (v : X → Z) (xs : List X) (ys : List (Option Y)) (n : ℕ) → Become R xs ys → n < length xs
-    → (x : X) × (y : Y) × (slice_index_or (map (λ z. Some (v z)) xs) n None ≡ Some (v x)) × (slice_index_or ys n None ≡ Some y) × R x y
-become_at R v [] ys n h lt = absurd (omega (arith, lt))
-become_at R v (x ∷ xs) [] n h lt = absurd h
-become_at R v (x ∷ xs) (None ∷ ys) n h lt = absurd h
-become_at R v (x ∷ xs) (Some y ∷ ys) zero h lt = (x, y, refl, refl, h.0)
-become_at R v (x ∷ xs) (Some y ∷ ys) (suc n) h lt = become_at R v xs ys n h.1 (omega (arith, lt))
+become_at : {X Y Z : Type 0} (R : ℕ → X → Y → Type 0) (v : X → Z) (xs : List X) (ys : List (Option Y)) (n first : ℕ) → Become R xs ys first → n < length xs
+    → (x : X) × (y : Y) × (slice_index_or (map (λ z. Some (v z)) xs) n None ≡ Some (v x)) × (slice_index_or ys n None ≡ Some y) × (slot : ℕ) × R slot x y
+become_at R v [] ys n first h lt = absurd (omega (arith, lt))
+become_at R v (x ∷ xs) [] n first h lt = absurd h
+become_at R v (x ∷ xs) (None ∷ ys) n first h lt = absurd h
+become_at R v (x ∷ xs) (Some y ∷ ys) zero first h lt = (x, y, refl, refl, first, h.0)
+become_at R v (x ∷ xs) (Some y ∷ ys) (suc n) first h lt = become_at R v xs ys n (suc first) h.1 (omega (arith, lt))
 
 -- each index of a tag names a tag of the file's type
 abbrev TagsNamed : grammar.Module → Ids → Arena Tag → Type 0
@@ -105,13 +105,13 @@ TagsNamed file i tags = (n tag : ℕ) → slice_get i.tags n ≡ Some tag
 tags_named : (file : grammar.Module) (i : Ids) (reads : List ReadTag) (tags : Arena Tag) → i.tags ≡ upto (length reads) → file.tags ≡ map (λ x. Some (tag_of x)) reads → Filled (IsTagOf (look_of i)) reads [] tags.slots → TagsNamed file i tags
 tags_named file i reads tags numbered there filled n tag e =
     let at_n = upto_at (length reads) n tag (ap (λ (l : List ℕ). slice_get l n) (sym numbered) ∙ e) in
-    let b = become_at (IsTagOf (look_of i)) tag_of reads filled.more n filled.become at_n.1 in
+    let b = become_at (IsTagOf (look_of i)) tag_of reads filled.more n 0 filled.become at_n.1 in
     let slot : item_at tags tag ≡ Some b.1 = ap (λ (k : ℕ). slice_index_or tags.slots k None) at_n.0 ∙ ap (λ (l : List (Option Tag)). slice_index_or l n None) filled.behind ∙ b.3 in (
       tag_of b.0,
       ap (λ (l : List (Option grammar.Tag)). slice_index_or l n None) there ∙ b.2,
       b.1.ty,
       ap (option_map (λ (t : Tag). t.ty)) slot,
-      b.4.ty,
+      b.5.ty,
     )
 
 -- ---- steps

@@ -46,12 +46,12 @@ slots_many f xs = length-map xs (λ x. Some (f x))
 abbrev pub IsUnshared : Global → Type 0
 IsUnshared g = g.shared ≡ false
 
-pub unshared : (look : Look) (reads : List ReadGlobal) (gs : List (Option Global)) → Become (IsGlobalOf look) reads gs → Each IsUnshared gs
-unshared look [] [] h = tt
-unshared look [] (g ∷ gs) h = absurd h
-unshared look (x ∷ reads) [] h = absurd h
-unshared look (x ∷ reads) (None ∷ gs) h = absurd h
-unshared look (x ∷ reads) (Some g ∷ gs) h = (h.0.shared, unshared look reads gs h.1)
+pub unshared : (look : Look) (reads : List ReadGlobal) (gs : List (Option Global)) (first : ℕ) → Become (IsGlobalOf look) reads gs first → Each IsUnshared gs
+unshared look [] [] first h = tt
+unshared look [] (g ∷ gs) first h = absurd h
+unshared look (x ∷ reads) [] first h = absurd h
+unshared look (x ∷ reads) (None ∷ gs) first h = absurd h
+unshared look (x ∷ reads) (Some g ∷ gs) first h = (h.0.shared, unshared look reads gs (suc first) h.1)
 
 abbrev first_of : List (Option Global) → Option Global
 first_of [] = None

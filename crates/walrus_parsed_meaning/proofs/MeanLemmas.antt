@@ -278,7 +278,7 @@ mean_files {B} have_items mean have_locals have_groups have_handlers are_linked 
         typed_locals = owned;
         sequences = sequences;
         unshared = unshared_bare h.filled.globals.slots m.globals.slots (sym bare_globals)
-            (subst (Each IsUnshared) (sym h.are_filled.globals.behind) (unshared (look_of h.numbers) s.globals.items h.are_filled.globals.more h.are_filled.globals.become));
+            (subst (Each IsUnshared) (sym h.are_filled.globals.behind) (unshared (look_of h.numbers) s.globals.items h.are_filled.globals.more 0 h.are_filled.globals.become));
         linked = linked;
         sized = record {
           tables = subst (Each TableSmall) (sym items.1.tables) (tables_stay (retyped_table r) (λ t. refl) (λ t. refl) (λ t. refl) file.tables of_file.tables);

@@ -63,15 +63,15 @@ each_set P (None ∷ xs) (suc n) y h p = each_set P xs n y h p
 each_set P (Some x ∷ xs) zero y h p = (p, h.1)
 each_set P (Some x ∷ xs) (suc n) y h p = (h.0, each_set P xs n y h.1 p)
 
-become_each : {X Y : Type 0} (R : X → Y → Type 0) (P : Y → Type 0) → ((x : X) (y : Y) → R x y → P y) → (xs : List X) (ys : List (Option Y)) → Become R xs ys → Each P ys
-become_each R P f [] [] h = tt
-become_each R P f [] (y ∷ ys) h = absurd h
-become_each R P f (x ∷ xs) [] h = absurd h
-become_each R P f (x ∷ xs) (None ∷ ys) h = absurd h
-become_each R P f (x ∷ xs) (Some y ∷ ys) h = (f x y h.0, become_each R P f xs ys h.1)
+become_each : {X Y : Type 0} (R : ℕ → X → Y → Type 0) (P : Y → Type 0) → ((slot : ℕ) (x : X) (y : Y) → R slot x y → P y) → (xs : List X) (ys : List (Option Y)) (first : ℕ) → Become R xs ys first → Each P ys
+become_each R P f [] [] first h = tt
+become_each R P f [] (y ∷ ys) first h = absurd h
+become_each R P f (x ∷ xs) [] first h = absurd h
+become_each R P f (x ∷ xs) (None ∷ ys) first h = absurd h
+become_each R P f (x ∷ xs) (Some y ∷ ys) first h = (f first x y h.0, become_each R P f xs ys (suc first) h.1)
 
-filled_each : {X Y : Type 0} (R : X → Y → Type 0) (P : Y → Type 0) → ((x : X) (y : Y) → R x y → P y) → (xs : List X) (slots : List (Option Y)) → Filled R xs [] slots → Each P slots
-filled_each R P f xs slots h = subst (Each P) (sym h.behind) (become_each R P f xs h.more h.become)
+filled_each : {X Y : Type 0} (R : ℕ → X → Y → Type 0) (P : Y → Type 0) → ((slot : ℕ) (x : X) (y : Y) → R slot x y → P y) → (xs : List X) (slots : List (Option Y)) → Filled R xs [] slots → Each P slots
+filled_each R P f xs slots h = subst (Each P) (sym h.behind) (become_each R P f xs h.more 0 h.become)
 
 -- ---- types
 
@@ -204,12 +204,12 @@ module _ {B : Type 0} (s : Sections) (begin : Option ℕ) (i : Ids) (f : Spaces 
   none_in : (space : Space) (n : ℕ) → IfSome (item_name m space n) (λ own. own ≡ None)
   none_in spaces.«Type» n = rw types (called_none type_called IsBare (λ x e. e) bodied.types.types n none.types)
   none_in spaces.Function n = rw funcs (called_none function_called IsPlain (λ x e. ap (option_map string_bytes) e) bodied.functions.slots n none.functions)
-  none_in spaces.Table n = rw tables (called_none table_called (λ x. x.name ≡ None) (λ x e. ap (option_map string_bytes) e) f.tables.slots n (filled_each _ (λ x. x.name ≡ None) (λ x y r. r.no_name) s.tables.items f.tables.slots filled.tables))
-  none_in spaces.Memory n = rw memories (called_none memory_called (λ x. x.name ≡ None) (λ x e. ap (option_map string_bytes) e) f.memories.slots n (filled_each _ (λ x. x.name ≡ None) (λ x y r. r.no_name) s.memories.items f.memories.slots filled.memories))
-  none_in spaces.Tag n = rw tags (called_none tag_called (λ x. x.name ≡ None) (λ x e. ap (option_map string_bytes) e) f.tags.slots n (filled_each _ (λ x. x.name ≡ None) (λ x y r. r.no_name) s.tags.items f.tags.slots filled.tags))
-  none_in spaces.Global n = rw globals (called_none global_called (λ x. x.name ≡ None) (λ x e. ap (option_map string_bytes) e) f.globals.slots n (filled_each _ (λ x. x.name ≡ None) (λ x y r. r.no_name) s.globals.items f.globals.slots filled.globals))
-  none_in spaces.Element n = rw elements (called_none element_called (λ x. x.name ≡ None) (λ x e. ap (option_map string_bytes) e) f.elements.slots n (filled_each _ (λ x. x.name ≡ None) (λ x y r. r.no_name) s.elements.items f.elements.slots filled.elements))
-  none_in spaces.Data n = rw segments (called_none data_called (λ x. x.name ≡ None) (λ x e. ap (option_map string_bytes) e) f.segments.slots n (filled_each _ (λ x. x.name ≡ None) (λ x y r. r.no_name) s.segments.items f.segments.slots filled.segments))
+  none_in spaces.Table n = rw tables (called_none table_called (λ x. x.name ≡ None) (λ x e. ap (option_map string_bytes) e) f.tables.slots n (filled_each _ (λ x. x.name ≡ None) (λ slot x y r. r.no_name) s.tables.items f.tables.slots filled.tables))
+  none_in spaces.Memory n = rw memories (called_none memory_called (λ x. x.name ≡ None) (λ x e. ap (option_map string_bytes) e) f.memories.slots n (filled_each _ (λ x. x.name ≡ None) (λ slot x y r. r.no_name) s.memories.items f.memories.slots filled.memories))
+  none_in spaces.Tag n = rw tags (called_none tag_called (λ x. x.name ≡ None) (λ x e. ap (option_map string_bytes) e) f.tags.slots n (filled_each _ (λ x. x.name ≡ None) (λ slot x y r. r.no_name) s.tags.items f.tags.slots filled.tags))
+  none_in spaces.Global n = rw globals (called_none global_called (λ x. x.name ≡ None) (λ x e. ap (option_map string_bytes) e) f.globals.slots n (filled_each _ (λ x. x.name ≡ None) (λ slot x y r. r.no_name) s.globals.items f.globals.slots filled.globals))
+  none_in spaces.Element n = rw elements (called_none element_called (λ x. x.name ≡ None) (λ x e. ap (option_map string_bytes) e) f.elements.slots n (filled_each _ (λ x. x.name ≡ None) (λ slot x y r. r.no_name) s.elements.items f.elements.slots filled.elements))
+  none_in spaces.Data n = rw segments (called_none data_called (λ x. x.name ≡ None) (λ x e. ap (option_map string_bytes) e) f.segments.slots n (filled_each _ (λ x. x.name ≡ None) (λ slot x y r. r.no_name) s.segments.items f.segments.slots filled.segments))
   none_in spaces.Local n = rw locals (local_none bodied.locals n none.locals)
   none_in spaces.Label n = tt
 

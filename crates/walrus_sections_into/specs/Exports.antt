@@ -18,8 +18,9 @@ ItemBecomes look spaces.Global n (items.Global id) = look Globals n ≡ Some id
 ItemBecomes look spaces.Tag n (items.Tag id) = look Tags n ≡ Some id
 ItemBecomes look _ n _ = ⊥
 
--- the same name
-pub record IsExportOf (look : Look) (read : ReadExport) (e : Export) : Type 0 where
+-- the same name; its id is its slot
+pub record IsExportOf (look : Look) (slot : ℕ) (read : ReadExport) (e : Export) : Type 0 where
+  pub id : e.id ≡ slot
   pub name : string_bytes e.name ≡ read.name.now
   pub item : ItemBecomes look read.space read.index e.item
 

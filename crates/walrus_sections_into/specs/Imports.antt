@@ -18,8 +18,9 @@ KindBecomes look spaces.Global n (kinds.Global id) = look Globals n ≡ Some id
 KindBecomes look spaces.Tag n (kinds.Tag id) = look Tags n ≡ Some id
 KindBecomes look _ n _ = ⊥
 
--- the same names
-pub record IsImportOf (look : Look) (read : ReadImport) (i : Import) : Type 0 where
+-- the same names; its id is its slot
+pub record IsImportOf (look : Look) (slot : ℕ) (read : ReadImport) (i : Import) : Type 0 where
+  pub id : i.id ≡ slot
   pub space_name : string_bytes i.«module» ≡ read.«module».now
   pub name : string_bytes i.name ≡ read.name.now
   pub kind : KindBecomes look read.space read.index i.kind

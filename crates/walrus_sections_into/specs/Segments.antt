@@ -1,5 +1,5 @@
 -- Data segments, as they were read and in a module.
-use Rattle.std.specs.Prelude.{◌≡◌, Some, None}
+use Rattle.std.specs.Prelude.{ℕ, ◌≡◌, Some, None}
 use Rattle.wasm_immediates.specs.Items.{Memories}
 use Rattle.walrus_instr.specs.Constants.{ops_of}
 use Rattle.walrus_pairing.specs.Looks.{Look}
@@ -17,8 +17,9 @@ ModeBecomes look modes.Passive kinds.Passive = Unit {0}
 ModeBecomes look (modes.Active n offset) (kinds.Active memory expr) = (look Memories n ≡ Some memory) × OpsBecome look offset.items (ops_of expr)
 ModeBecomes look _ _ = ⊥
 
--- the same bytes
-pub record IsSegmentOf (look : Look) (read : ReadData) (d : Data) : Type 0 where
+-- the same bytes; its id is its slot
+pub record IsSegmentOf (look : Look) (slot : ℕ) (read : ReadData) (d : Data) : Type 0 where
+  pub id : d.id ≡ slot
   pub mode : ModeBecomes look read.mode d.kind
   pub bytes : d.value.items ≡ read.bytes.now
   pub no_name : d.name ≡ None

@@ -2,6 +2,7 @@
 
 ghost use Rattle.std.specs.Prelude.{◌≡◌, IfOk, IfErr, OnOk, OnErr};
 ghost use Rattle.std.specs.List.{Any};
+ghost use Rattle.walrus_arena.specs.Arena.{next_id};
 ghost use Rattle.walrus_meaning.specs.walrus_linked.walrus_collections.Added.{Adds};
 ghost use Rattle.walrus_index_maps.specs.Views.{ids};
 ghost use Rattle.walrus_sections_into.specs.Becomes.{look_of};
@@ -53,7 +54,7 @@ fn add_import(
     maps: &IndicesToIds,
     into: &mut ModuleImports,
 ) -> Result<(), IntoError>
-    ensures added { OnOk result (Adds (IsImportOf (look_of (ids maps.now)) import.now) into.old into.new) }
+    ensures added { OnOk result (Adds (IsImportOf (look_of (ids maps.now)) (next_id into.old) import.now) into.old into.new) }
     ensures refused { OnErr result (into.new ≡ into.old) }
     ensures unknown { IfErr result (λ e. e ≡ Unknown → ImportLacks (look_of (ids maps.now)) import.now) }
 {

@@ -2,6 +2,7 @@
 
 ghost use Rattle.std.specs.Prelude.{◌≡◌, IfErr, OnOk, OnErr};
 ghost use Rattle.walrus_known_sections.specs.Items.{memory_of};
+ghost use Rattle.walrus_arena.specs.Arena.{next_id};
 ghost use Rattle.walrus_meaning.specs.walrus_linked.walrus_collections.Added.{Adds};
 ghost use Rattle.walrus_meaning.specs.Meaning.{own_memory};
 ghost use Rattle.walrus_sections_into.specs.Slots.{Filled, FilledInPart, IsMemoryOf};
@@ -13,7 +14,7 @@ use walrus_known_sections::Memory;
 use walrus_meaning::linked::collections::ModuleMemories;
 
 fn add_memory(memory: &Memory, into: &mut ModuleMemories) -> Result<(), IntoError>
-    ensures added { OnOk result (Adds (IsMemoryOf memory.now) into.old into.new) }
+    ensures added { OnOk result (Adds (IsMemoryOf (next_id into.old) memory.now) into.old into.new) }
     ensures refused { OnErr result (into.new ≡ into.old) }
     ensures memory { IfErr result (λ e. e ≡ NoMemory) }
 {

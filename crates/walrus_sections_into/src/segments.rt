@@ -2,6 +2,7 @@
 
 ghost use Rattle.std.specs.Prelude.{◌≡◌, IfOk, IfErr, OnOk, OnErr};
 ghost use Rattle.std.specs.List.{Any};
+ghost use Rattle.walrus_arena.specs.Arena.{next_id};
 ghost use Rattle.walrus_meaning.specs.walrus_linked.walrus_collections.Added.{Adds};
 ghost use Rattle.walrus_index_maps.specs.Views.{ids};
 ghost use Rattle.walrus_sections_into.specs.Becomes.{look_of};
@@ -50,7 +51,7 @@ fn add_segment(
     maps: &IndicesToIds,
     into: &mut ModuleData,
 ) -> Result<(), IntoError>
-    ensures added { OnOk result (Adds (IsSegmentOf (look_of (ids maps.now)) segment.now) into.old into.new) }
+    ensures added { OnOk result (Adds (IsSegmentOf (look_of (ids maps.now)) (next_id into.old) segment.now) into.old into.new) }
     ensures refused { OnErr result (into.new ≡ into.old) }
     ensures unknown { IfErr result (λ e. e ≡ Unknown → DataLacks (look_of (ids maps.now)) segment.now) }
 {

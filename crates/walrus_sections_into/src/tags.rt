@@ -2,6 +2,7 @@
 
 ghost use Rattle.std.specs.Prelude.{◌≡◌, IfErr, OnOk, OnErr};
 ghost use Rattle.std.specs.List.{Any};
+ghost use Rattle.walrus_arena.specs.Arena.{next_id};
 ghost use Rattle.walrus_meaning.specs.walrus_linked.walrus_collections.Added.{Adds};
 ghost use Rattle.walrus_index_maps.specs.Views.{ids};
 ghost use Rattle.walrus_sections_into.specs.Becomes.{look_of};
@@ -17,7 +18,7 @@ use walrus_known_sections::Tag;
 use walrus_meaning::linked::collections::ModuleTags;
 
 fn add_tag(tag: &Tag, maps: &IndicesToIds, into: &mut ModuleTags) -> Result<(), IntoError>
-    ensures added { OnOk result (Adds (IsTagOf (look_of (ids maps.now)) tag.now) into.old into.new) }
+    ensures added { OnOk result (Adds (IsTagOf (look_of (ids maps.now)) (next_id into.old) tag.now) into.old into.new) }
     ensures refused { OnErr result (into.new ≡ into.old) }
     ensures unknown { IfErr result (λ e. e ≡ Unknown → TagLacks (look_of (ids maps.now)) tag.now) }
 {

@@ -2,23 +2,23 @@
 use Rattle.std.specs.Prelude.{ℕ, zero, suc, ◌+◌, ◌≡◌, ◌<◌, List, [], ◌∷◌, ◌++◌, length, take, Option, Some, None, Result, Err, OnErr, slice_index_or, refl}
 use Rattle.std.specs.List.{flat_map}
 use Rattle.std.proofs.Common.{ap, sym, ◌∙◌, subst, arith}
-use Rattle.std.proofs.lemmas.List.{append_assoc, take_more}
+use Rattle.std.proofs.lemmas.List.{append_assoc, length-append, take_more}
 use Rattle.std.proofs.lemmas.Grind.{flat_map-append}
 use Rattle.walrus_sections_into.specs.Slots.{Become, Filled, FilledInPart}
 
-module _ {X Y : Type 0} (R : X → Y → Type 0) where
-  become_both : (xs ys : List X) (zs bs : List (Option Y)) → Become R xs zs → Become R ys bs → Become R (xs ++ ys) (zs ++ bs)
-  become_both [] ys [] bs first second = second
-  become_both [] ys (a ∷ zs) bs first second = absurd first
-  become_both (x ∷ xs) ys [] bs first second = absurd first
-  become_both (x ∷ xs) ys (None ∷ zs) bs first second = absurd first
-  become_both (x ∷ xs) ys (Some a ∷ zs) bs first second = (first.0, become_both xs ys zs bs first.1 second)
+module _ {X Y : Type 0} (R : ℕ → X → Y → Type 0) where
+  become_both : (xs ys : List X) (zs bs : List (Option Y)) (n m : ℕ) → m ≡ n + length zs → Become R xs zs n → Become R ys bs m → Become R (xs ++ ys) (zs ++ bs) n
+  become_both [] ys [] bs n m is first second = subst (λ (k : ℕ). Become R ys bs k) (omega (arith, is)) second
+  become_both [] ys (a ∷ zs) bs n m is first second = absurd first
+  become_both (x ∷ xs) ys [] bs n m is first second = absurd first
+  become_both (x ∷ xs) ys (None ∷ zs) bs n m is first second = absurd first
+  become_both (x ∷ xs) ys (Some a ∷ zs) bs n m is first second = (first.0, become_both xs ys zs bs (suc n) m (omega (arith, is)) first.1 second)
 
   filled_both : (xs ys : List X) (old mid new : List (Option Y)) → Filled R xs old mid → Filled R ys mid new → Filled R (xs ++ ys) old new
   filled_both xs ys old mid new first second = record {
     more = first.more ++ second.more;
     behind = second.behind ∙ ap (λ (l : List (Option Y)). l ++ second.more) first.behind ∙ append_assoc old first.more second.more;
-    become = become_both xs ys first.more second.more first.become second.become;
+    become = become_both xs ys first.more second.more (length old) (length mid) (ap length first.behind ∙ length-append old first.more) first.become second.become;
   }
 
   -- what one more item leaves comes behind

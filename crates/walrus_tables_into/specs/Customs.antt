@@ -1,5 +1,5 @@
 -- Custom sections, as they were read and in a module.
-use Rattle.std.specs.Prelude.{◌≡◌, ◌||◌, Bool, List, [], ◌∷◌, codes, if◌then◌else◌}
+use Rattle.std.specs.Prelude.{ℕ, ◌≡◌, ◌||◌, Bool, List, [], ◌∷◌, codes, if◌then◌else◌}
 use Rattle.std.specs.BTreeMap.{is_at}
 use Rattle.std.specs.Cmp.Lexicographic.{slice_cmp}
 use Rattle.std.specs.Ordering.{nat_cmp}
@@ -9,10 +9,10 @@ use Rattle.walrus_sections.specs.declared.section.Section.TheVariants.{Raw, Boxe
 use Rattle.walrus_sections.specs.Sections.{IsRaw}
 use Rattle.walrus_sections_into.specs.walrus_known_sections.declared.items.Custom.{Custom}
 
--- a raw one of the same name, with the same bytes
-abbrev pub IsCustomOf : {B : Type 0} → Custom → Section B → Type 0
-IsCustomOf read (Raw section) = IsRaw read.name.now read.bytes.now section
-IsCustomOf read (Boxed section) = ⊥
+-- in any slot, a raw one of the same name, with the same bytes
+abbrev pub IsCustomOf : {B : Type 0} → ℕ → Custom → Section B → Type 0
+IsCustomOf slot read (Raw section) = IsRaw read.name.now read.bytes.now section
+IsCustomOf slot read (Boxed section) = ⊥
 
 -- the names of items and the producers of a module have places of their own
 abbrev pub is_payload : Custom → Bool

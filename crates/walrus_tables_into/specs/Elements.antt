@@ -44,7 +44,9 @@ ItemsBecome look (listed.Functions numbers) (holds.Functions ids) = AllZip (IsFu
 ItemsBecome look (listed.Expressions read exprs) (holds.Expressions ty become) = (ref_in look (ref_of read) ≡ Ok ty) × AllZip (ExprBecomes look) exprs.items become.items
 ItemsBecome look _ _ = ⊥
 
-pub record IsElementOf (look : Look) (read : ReadElement) (e : Element) : Type 0 where
+-- of the same items, at the same time; its id is its slot
+pub record IsElementOf (look : Look) (slot : ℕ) (read : ReadElement) (e : Element) : Type 0 where
+  pub id : e.id ≡ slot
   pub mode : ModeBecomes look read.mode e.kind
   pub items : ItemsBecome look read.items e.items
   pub no_name : e.name ≡ None

@@ -1,5 +1,5 @@
 -- Globals, as they were read and in a module.
-use Rattle.std.specs.Prelude.{◌≡◌, ◌⊎◌, false, None, Ok, Err}
+use Rattle.std.specs.Prelude.{ℕ, ◌≡◌, ◌⊎◌, false, None, Ok, Err}
 use Rattle.std.specs.List.{Any}
 use Rattle.walrus_sections_into.specs.walrus_forms.Records.{value_of}
 use Rattle.walrus_sections_into.specs.walrus_instr.Constants.{ops_of}
@@ -21,8 +21,9 @@ OriginBecomes look (origins.Import n) (kinds.Import id) = id ≡ n
 OriginBecomes look (origins.Own init) (kinds.Local expr) = OpsBecome look init.items (ops_of expr)
 OriginBecomes look _ _ = ⊥
 
--- of the same type, renamed
-pub record IsGlobalOf (look : Look) (read : ReadGlobal) (g : Global) : Type 0 where
+-- of the same type, renamed; its id is its slot
+pub record IsGlobalOf (look : Look) (slot : ℕ) (read : ReadGlobal) (g : Global) : Type 0 where
+  pub id : g.id ≡ slot
   pub ty : value_in look (value_of read.ty) ≡ Ok g.ty
   pub mutable : g.mutable ≡ read.mutable
   pub shared : g.shared ≡ false

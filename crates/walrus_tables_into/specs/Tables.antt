@@ -1,5 +1,5 @@
 -- Tables, as they were read and in a module.
-use Rattle.std.specs.Prelude.{◌≡◌, ◌⊎◌, [], Option, Some, None, IsSome, Ok, Err}
+use Rattle.std.specs.Prelude.{ℕ, ◌≡◌, ◌⊎◌, [], Option, Some, None, IsSome, Ok, Err}
 use Rattle.std.specs.List.{Any}
 use Rattle.std.specs.Global.{Vec}
 use Rattle.std.specs.HashSet.{keys}
@@ -22,8 +22,9 @@ InitBecomes look None None = Unit {0}
 InitBecomes look (Some init) (Some expr) = OpsBecome look init.items (ops_of expr)
 InitBecomes look _ _ = ⊥
 
--- of the same type, renamed, and with the same limits, brought by the same import; no segment is active in it but those that name it
-pub record IsTableOf (look : Look) (read : ReadTable) (t : Table) : Type 0 where
+-- of the same type, renamed, and with the same limits, brought by the same import; its id is its slot, and no segment is active in it but those that name it
+pub record IsTableOf (look : Look) (slot : ℕ) (read : ReadTable) (t : Table) : Type 0 where
+  pub id : t.id ≡ slot
   pub wide : t.table64 ≡ is_wide read.ty.limits.flags
   pub initial : t.initial ≡ read.ty.limits.minimum
   pub maximum : t.maximum ≡ read.ty.limits.maximum

@@ -3,6 +3,7 @@
 ghost use Rattle.std.specs.Prelude.{◌≡◌, IfOk, IfErr, OnOk, OnErr};
 ghost use Rattle.std.specs.List.{AllZip, Any};
 ghost use Rattle.walrus_sections_into.specs.walrus_collections.Added.{Adds};
+ghost use Rattle.walrus_sections_into.specs.walrus_forms.walrus_arena.Arena.{next_id};
 ghost use Rattle.walrus_sections_into.specs.walrus_index_maps.Views.{ids};
 ghost use Rattle.walrus_sections_into.specs.Becomes.{look_of};
 ghost use Rattle.walrus_sections_into.specs.Slots.{Filled, FilledInPart};
@@ -98,7 +99,7 @@ fn add_element(
     maps: &IndicesToIds,
     into: &mut ModuleElements,
 ) -> Result<(), IntoError>
-    ensures added { OnOk result (Adds (IsElementOf (look_of (ids maps.now)) element.now) into.old into.new) }
+    ensures added { OnOk result (Adds (IsElementOf (look_of (ids maps.now)) (next_id into.old) element.now) into.old into.new) }
     ensures refused { OnErr result (into.new ≡ into.old) }
     ensures unknown { IfErr result (λ e. e ≡ Unknown → ElementLacks (look_of (ids maps.now)) element.now) }
 {

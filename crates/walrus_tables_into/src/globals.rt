@@ -3,6 +3,7 @@
 ghost use Rattle.std.specs.Prelude.{◌≡◌, ◌∷◌, ◌++◌, [], false, Some, None, IfOk, IfErr, OnOk, OnErr};
 ghost use Rattle.std.specs.List.{Any};
 ghost use Rattle.walrus_sections_into.specs.walrus_collections.Added.{Adds};
+ghost use Rattle.walrus_sections_into.specs.walrus_forms.walrus_arena.Arena.{next_id};
 ghost use Rattle.walrus_sections_into.specs.walrus_index_maps.Views.{ids};
 ghost use Rattle.walrus_sections_into.specs.Becomes.{look_of};
 ghost use Rattle.walrus_sections_into.specs.Slots.{Filled, FilledInPart};
@@ -46,6 +47,7 @@ fn add_kind(
     kind: GlobalKind,
     into: &mut ModuleGlobals,
 ) -> Result<GlobalId, AllocError>
+    ensures id { IfOk result (λ id. id ≡ next_id into.old) }
     ensures added { IfOk result (λ id. into.new.slots ≡ into.old.slots ++ Some (record { id = id; ty = ty; mutable = mutable; shared = false; kind = kind; name = None }) ∷ []) }
     ensures refused { OnErr result (into.new ≡ into.old) }
 {
@@ -61,7 +63,7 @@ fn add_global(
     maps: &IndicesToIds,
     into: &mut ModuleGlobals,
 ) -> Result<(), IntoError>
-    ensures added { OnOk result (Adds (IsGlobalOf (look_of (ids maps.now)) global.now) into.old into.new) }
+    ensures added { OnOk result (Adds (IsGlobalOf (look_of (ids maps.now)) (next_id into.old) global.now) into.old into.new) }
     ensures refused { OnErr result (into.new ≡ into.old) }
     ensures unknown { IfErr result (λ e. e ≡ Unknown → GlobalLacks (look_of (ids maps.now)) global.now) }
 {

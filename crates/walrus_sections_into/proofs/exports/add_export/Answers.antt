@@ -9,6 +9,6 @@ returns-clause-added c =
     let all = c.in_ok-add.ensures.added in
     let it = all.2 in (
       it.0,
-      record { name = it.1.name_is; item = subst (ItemBecomes (look_of (ids c.args.maps.now)) c.args.export.now.space c.args.export.now.index) (sym (it.1.item_is ∙ all.1)) c.in_ok-item.ensures.becomes },
+      record { id = it.1.id_is; name = it.1.name_is; item = subst (ItemBecomes (look_of (ids c.args.maps.now)) c.args.export.now.space c.args.export.now.index) (sym (it.1.item_is ∙ all.1)) c.in_ok-item.ensures.becomes },
       it.2,
     )

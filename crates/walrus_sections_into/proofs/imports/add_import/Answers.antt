@@ -11,6 +11,6 @@ returns-clause-added c =
     let look = look_of (ids c.args.maps.now) in
     let kind = subst (λ n. KindBecomes look c.args.import.now.space n c.in_ok-kind.kind) c.in_ok-number.ensures.found c.in_ok-kind.ensures.becomes in (
       it.0,
-      record { space_name = it.1.module_is; name = it.1.name_is; kind = subst (KindBecomes look c.args.import.now.space c.args.import.now.index) (sym (it.1.kind_is ∙ all.1)) kind },
+      record { id = it.1.id_is; space_name = it.1.module_is; name = it.1.name_is; kind = subst (KindBecomes look c.args.import.now.space c.args.import.now.index) (sym (it.1.kind_is ∙ all.1)) kind },
       it.2,
     )
