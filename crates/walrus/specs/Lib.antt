@@ -60,4 +60,7 @@ pub use Rattle.walrus_passes_laws.specs.LinkedKept
 pub use Rattle.walrus_passes_laws.specs.Served
 pub use Rattle.walrus_passes_laws.specs.Twice
 pub use Rattle.walrus_marks.specs.Chains
+pub use Rattle.wasm_references.specs.Kept as MeantKept
+pub use Rattle.wasm_references.specs.References as MeantReferences
+pub use Rattle.wasm_references.specs.Roots as MeantRoots
 pub use Rattle.walrus_meaning_kept.specs.Meant

@@ -52,5 +52,6 @@ pub mod laws {
             kept_is_meant, passes_keep_what_is_meant, references_are_meant,
         };
         pub use walrus_references::kept_is_least;
+        pub use wasm_references::kept_is_least as meant_kept_is_least;
     }
 }
