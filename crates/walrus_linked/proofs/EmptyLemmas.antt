@@ -48,6 +48,7 @@ empty_linked m z = record {
   imported = λ x i at. absurd (no_import_in m z x.space x.id i at);
   whole = λ f function at. absurd (none_is_some _ function (none_at m.funcs.slots f z.funcs) at);
   named = λ x y lives has. absurd (none_lives_in m z x.space x.id lives);
+  grouped = λ place group at. absurd (none_is_some _ group (none_at m.types.groups place z.groups) at);
   exported = λ e export at. absurd (none_is_some _ export (none_at m.exports.slots e z.exports) at);
   started = λ f at. absurd (none_is_some m.start f z.start at);
 }

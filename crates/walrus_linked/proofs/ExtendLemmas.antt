@@ -6,12 +6,13 @@ use Rattle.walrus_module.specs.walrus_module_items.declared.export.Export.{Expor
 use Rattle.walrus_module.specs.walrus_module_items.declared.function.Function.{Function}
 use Rattle.wasm_formats.specs.declared.fault.Space.{Space}
 use Rattle.wasm_formats.specs.declared.fault.Space.TheVariants as spaces
+use Rattle.walrus_module.specs.walrus_types.Table.{Table}
 use Rattle.walrus_module.specs.Parts.{Module}
 use Rattle.walrus_roots.specs.declared.item.Item.{Item}
 use Rattle.walrus_roots.specs.Items.{item}
 use Rattle.walrus_module.specs.Items.{Lives, LivesIn, brought, given_out}
 use Rattle.walrus_linked.specs.Names.{names}
-use Rattle.walrus_linked.specs.Linked.{IsLinked, IsWhole, import_of, import_in}
+use Rattle.walrus_linked.specs.Linked.{IsLinked, IsWhole, GroupsAreWritten, import_of, import_in}
 use Rattle.walrus_linked.proofs.SlotLemmas.{pushed_at, pushed_kept, pushed_new}
 
 -- there is this import beside the old ones
@@ -43,6 +44,7 @@ pub record Extends (m n : Module) (x0 : Item) (i0 : ℕ) (imp0 : Import) : Type 
   pub import_new : import_of n x0 ≡ Some i0
   pub whole : (f : ℕ) (function : Function) → item_at n.funcs f ≡ Some function → IsWhole n.types function.kind
   pub names_new : (y : Item) → Contains (names n x0) y → Lives n y
+  pub types_same : n.types ≡ m.types
   pub exports_same : n.exports ≡ m.exports
   pub start_same : n.start ≡ m.start
 
@@ -61,6 +63,7 @@ linked m n x0 i0 imp0 e l = record {
     | inl h ↦ let F : List Item → Type 0 = λ ys. Contains ys y in (e.spaces y.space).lives_kept y.id (l.named x y h (subst F ((e.spaces x.space).names_kept x.id h) has))
     | inr h ↦ let F : Item → Type 0 = λ z. Contains (names n z) y in e.names_new y (subst F h has)
   ];
+  grouped = let G : Table → Type 0 = λ t. GroupsAreWritten t in subst G (sym e.types_same) l.grouped;
   exported = λ k export at. let old : item_at m.exports k ≡ Some export = ap (λ (a : Arena Export). item_at a k) (sym e.exports_same) ∙ at in let x = given_out export.item in (e.spaces x.space).lives_kept x.id (l.exported k export old);
   started = λ f at. (e.spaces spaces.Function).lives_kept f (l.started f (sym e.start_same ∙ at));
 }

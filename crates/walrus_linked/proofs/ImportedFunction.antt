@@ -59,6 +59,7 @@ module _ (m : Module) (is : Arena Import) (xs : Arena Function) (x0 : Function) 
         import_new = ap (option_and_then says) (pushed_new m.funcs xs x0 adds) ∙ back;
         whole = whole l.whole own;
         names_new = new_names m.funcs xs x0 adds (λ o. items_of (named_by (function_names m.locals) o)) (Lives n) new;
+        types_same = refl;
         exports_same = refl;
         start_same = refl;
       }) l

@@ -52,6 +52,7 @@ module _ (m : Module) (is : Arena Import) (xs : Arena Global) (x0 : Global) (imp
         import_new = ap (option_and_then says) (pushed_new m.globals xs x0 adds) ∙ back;
         whole = l.whole;
         names_new = new_names m.globals xs x0 adds (λ o. items_of (named_by global_names o)) (Lives n) new;
+        types_same = refl;
         exports_same = refl;
         start_same = refl;
       }) l

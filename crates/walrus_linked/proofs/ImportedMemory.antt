@@ -51,6 +51,7 @@ module _ (m : Module) (is : Arena Import) (xs : Arena Memory) (x0 : Memory) (imp
         import_new = ap (option_and_then says) (pushed_new m.memories xs x0 adds) ∙ back;
         whole = l.whole;
         names_new = new;
+        types_same = refl;
         exports_same = refl;
         start_same = refl;
       }) l

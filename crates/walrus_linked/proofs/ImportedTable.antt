@@ -52,6 +52,7 @@ module _ (m : Module) (is : Arena Import) (xs : Arena Table) (x0 : Table) (imp0 
         import_new = ap (option_and_then says) (pushed_new m.tables xs x0 adds) ∙ back;
         whole = l.whole;
         names_new = new_names m.tables xs x0 adds (λ o. items_of (named_by table_names o)) (Lives n) new;
+        types_same = refl;
         exports_same = refl;
         start_same = refl;
       }) l

@@ -52,6 +52,7 @@ module _ (m : Module) (is : Arena Import) (xs : Arena Tag) (x0 : Tag) (imp0 : Im
         import_new = ap (option_and_then says) (pushed_new m.tags xs x0 adds) ∙ back;
         whole = l.whole;
         names_new = new_names m.tags xs x0 adds (λ o. items_of (named_by tag_names o)) (Lives n) new;
+        types_same = refl;
         exports_same = refl;
         start_same = refl;
       }) l

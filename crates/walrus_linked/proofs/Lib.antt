@@ -1,5 +1,6 @@
 pub mod EmptyLemmas
 pub mod ExtendLemmas
+pub mod GroupLemmas
 pub mod ImportedFunction
 pub mod ImportedGlobal
 pub mod ImportedMemory

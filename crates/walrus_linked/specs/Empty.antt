@@ -7,6 +7,7 @@ pub record IsEmpty (m : Module) : Type 0 where
   pub imports : m.imports.slots ≡ []
   pub tables : m.tables.slots ≡ []
   pub types : m.types.types ≡ []
+  pub groups : m.types.groups ≡ []
   pub funcs : m.funcs.slots ≡ []
   pub globals : m.globals.slots ≡ []
   pub locals : m.locals ≡ []

@@ -10,7 +10,6 @@ use Rattle.walrus_linked.specs.walrus_module_items.declared.global.Global.{Globa
 use Rattle.walrus_linked.specs.walrus_module_items.declared.tag.Tag.{Tag as TagItem}
 use Rattle.walrus_linked.specs.walrus_module_items.declared.data.Data.{Data as DataItem}
 use Rattle.walrus_linked.specs.walrus_module_items.declared.element.Element.{Element as ElementItem}
-use Rattle.walrus_types.specs.Table.{Table}
 use Rattle.walrus_walks.specs.Events.{Event}
 use Rattle.walrus_linked.specs.walrus_module.Parts.{Module}
 use Rattle.walrus_linked.specs.walrus_module.Items.{Lives, given_out}
@@ -31,9 +30,8 @@ use Rattle.walrus_linked_changes.proofs.ImportChanges as I
 
 pub deletes_keep_linked : DeletesKeepLinked
 deletes_keep_linked = record {
-  types = λ m n id is rest none l. subst IsLinked (sym rest) (Y.deleted m n.types _ (Y.one_gone m n.types id is.types) none l);
-  groups = λ m n id place group at has is rest none l.
-      let gone = ap (λ (t : Table). t.types) (is place group at has) in subst IsLinked (sym rest) (Y.deleted m n.types _ (Y.group_gone m n.types group gone) none l);
+  types = λ m n id grouped live is rest none l. subst IsLinked (sym rest) (Y.deleted m n.types _ (Y.one_gone m n.types id is grouped live) none l);
+  groups = λ m n id place group grouped at has is rest none l. subst IsLinked (sym rest) (Y.deleted m n.types _ (Y.group_gone m n.types place group at (is place group at has) grouped) none l);
   functions = λ m n id is rest none l. subst IsLinked (sym rest) (F.deleted m n.funcs id is none l);
   tables = λ m n id is rest none l. subst IsLinked (sym rest) (T.deleted m n.tables id is none l);
   memories = λ m n id is rest none l. subst IsLinked (sym rest) (M.deleted m n.memories id is none l);

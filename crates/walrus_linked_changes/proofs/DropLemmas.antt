@@ -11,7 +11,7 @@ use Rattle.walrus_roots.specs.declared.item.Item.{Item}
 use Rattle.walrus_roots.specs.Items.{item, space_number}
 use Rattle.walrus_linked.specs.walrus_module.Items.{LivesIn, brought, given_out}
 use Rattle.walrus_linked.specs.Names.{names}
-use Rattle.walrus_linked.specs.Linked.{IsLinked, IsWhole, import_in}
+use Rattle.walrus_linked.specs.Linked.{IsLinked, IsWhole, GroupsAreWritten, import_in}
 use Rattle.walrus_linked_changes.specs.Changes.{AreUnnamed}
 
 -- items of two spaces differ
@@ -31,6 +31,7 @@ pub record Drops (m n : Module) (goes : Item → Type 0) : Type 0 where
   pub exports_same : n.exports ≡ m.exports
   pub start_same : n.start ≡ m.start
   pub spaces : (s : Space) → InDrop m n goes s
+  pub grouped : GroupsAreWritten n.types
   pub whole : (f : ℕ) (function : Function) → item_at n.funcs f ≡ Some function → IsWhole n.types function.kind
 
 pub after_drop : (m n : Module) (goes : Item → Type 0) → Drops m n goes → AreUnnamed m goes → IsLinked m → IsLinked n
@@ -46,6 +47,7 @@ after_drop m n goes d none l = record {
       let was = (d.spaces y.space).lives_at y.id lives in
       let had = (d.spaces y.space).named y.id lives z has in
       (d.spaces z.space).lives_kept z.id (λ e. was.1 (none.by_items z e y was.0 had)) (l.named y z was.0 had);
+  grouped = d.grouped;
   exported = λ e export at.
       let old : item_at m.exports e ≡ Some export = ap (λ (a : Arena Export). item_at a e) (sym d.exports_same) ∙ at in
       let y = given_out export.item in (d.spaces y.space).lives_kept y.id (λ g. none.by_exports y g e export old refl) (l.exported e export old);

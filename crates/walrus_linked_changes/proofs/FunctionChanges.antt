@@ -43,7 +43,7 @@ module _ (m : Module) (xs : Arena Function) (k : ℕ) (is : xs.slots ≡ slice_s
   left_in spaces.Label = record { import_at = λ id i h. h; import_kept = λ id i other h. h; lives_at = λ id h. (h, apart spaces.Label spaces.Function (λ e. absurd (omega (arith, e))) id k); lives_kept = λ id other h. h; named = λ id h y has. has }
 
   pub deleted : IsUnnamed m (item spaces.Function k) → IsLinked m → IsLinked left
-  deleted none l = after_drop m left (λ x. x ≡ item spaces.Function k) (record { imports_same = refl; exports_same = refl; start_same = refl; spaces = left_in; whole = λ f function at. l.whole f function (still m.funcs.slots xs.slots k is f function at).0 }) none l
+  deleted none l = after_drop m left (λ x. x ≡ item spaces.Function k) (record { imports_same = refl; exports_same = refl; start_same = refl; spaces = left_in; grouped = l.grouped; whole = λ f function at. l.whole f function (still m.funcs.slots xs.slots k is f function at).0 }) none l
 
 module _ (m : Module) (xs : Arena Function) (k : ℕ) (old new : Function) (at : item_at m.funcs k ≡ Some old) (is : xs.slots ≡ slice_set m.funcs.slots k (Some new)) (same : says new ≡ says old) where
   abbrev n : Module
@@ -70,4 +70,4 @@ module _ (m : Module) (xs : Arena Function) (k : ℕ) (old new : Function) (at :
   is_whole l whole f function h = set_at m.funcs.slots xs.slots k old new at is (λ (x : Function). IsWhole m.types x.kind) whole f function (l.whole f function) h
 
   pub written : IsWhole m.types new.kind → ((y : Item) → Contains (items_of ((function_names m.locals) new)) y → Lives n y) → IsLinked m → IsLinked n
-  written whole lives l = after_change m n (record { imports_same = refl; spaces = in_space lives; whole = is_whole l whole; exported = λ e export h. inl h; start_same = refl }) l
+  written whole lives l = after_change m n (record { imports_same = refl; spaces = in_space lives; whole = is_whole l whole; exported = λ e export h. inl h; start_same = refl; grouped = l.grouped }) l

@@ -39,6 +39,7 @@ module _ (m : Module) (xs : Arena Import) (k : ℕ) (old new : Import) (at : ite
     imported = λ x i h. let o = l.imported x i h in import_stays x i o.0 o.1 o.2;
     whole = l.whole;
     named = l.named;
+    grouped = l.grouped;
     exported = l.exported;
     started = l.started;
   }

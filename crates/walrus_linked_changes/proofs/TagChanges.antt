@@ -43,7 +43,7 @@ module _ (m : Module) (xs : Arena Tag) (k : ℕ) (is : xs.slots ≡ slice_set m.
   left_in spaces.Label = record { import_at = λ id i h. h; import_kept = λ id i other h. h; lives_at = λ id h. (h, apart spaces.Label spaces.Tag (λ e. absurd (omega (arith, e))) id k); lives_kept = λ id other h. h; named = λ id h y has. has }
 
   pub deleted : IsUnnamed m (item spaces.Tag k) → IsLinked m → IsLinked left
-  deleted none l = after_drop m left (λ x. x ≡ item spaces.Tag k) (record { imports_same = refl; exports_same = refl; start_same = refl; spaces = left_in; whole = l.whole }) none l
+  deleted none l = after_drop m left (λ x. x ≡ item spaces.Tag k) (record { imports_same = refl; exports_same = refl; start_same = refl; spaces = left_in; grouped = l.grouped; whole = l.whole }) none l
 
 module _ (m : Module) (xs : Arena Tag) (k : ℕ) (old new : Tag) (at : item_at m.tags k ≡ Some old) (is : xs.slots ≡ slice_set m.tags.slots k (Some new)) (same : says new ≡ says old) where
   abbrev n : Module
@@ -67,4 +67,4 @@ module _ (m : Module) (xs : Arena Tag) (k : ℕ) (old new : Tag) (at : item_at m
   in_space lives spaces.Label = record { import_kept = λ id i h. h; import_at = λ id i h. h; lives_kept = λ id h. h; named = λ id h y has. inl (h, has) }
 
   pub written : ((y : Item) → Contains (items_of ((tag_names) new)) y → Lives n y) → IsLinked m → IsLinked n
-  written lives l = after_change m n (record { imports_same = refl; spaces = in_space lives; whole = l.whole; exported = λ e export h. inl h; start_same = refl }) l
+  written lives l = after_change m n (record { imports_same = refl; spaces = in_space lives; whole = l.whole; exported = λ e export h. inl h; start_same = refl; grouped = l.grouped }) l

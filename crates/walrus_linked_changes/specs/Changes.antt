@@ -2,7 +2,8 @@
 use Rattle.std.specs.Prelude.{◌≡◌, ℕ, Some, None, Contains, slice_set}
 use Rattle.walrus_arena.specs.Arena.{item_at, with_item}
 use Rattle.walrus_items.specs.Items.{Group}
-use Rattle.walrus_types.specs.Table.{Deletes, DeletesGroup, group_at}
+use Rattle.walrus_types.specs.Table.{Deletes, DeletesGroup, IsLive, group_at}
+use Rattle.walrus_types.specs.TypeLaws.{AreGrouped}
 use Rattle.walrus_linked.specs.walrus_module_items.declared.import.Import.{Import}
 use Rattle.walrus_linked.specs.walrus_module_items.declared.export.Export.{Export}
 use Rattle.walrus_linked.specs.walrus_module_items.declared.function.Function.{Function}
@@ -36,11 +37,12 @@ IsUnnamed m x = AreUnnamed m (λ y. y ≡ x)
 abbrev pub IsMember : Group → Item → Type 0
 IsMember group x = (id : ℕ) × Contains group.types id × (x ≡ item spaces.Type id)
 
--- each says of a delete what it ensures; nothing else names what is deleted
+-- each says of a delete what it ensures; nothing else names what is deleted; of types each is in one group, as in each table, and a deleted one was live
 pub record DeletesKeepLinked : Type 0 where
-  pub types : (m n : Module) (id : ℕ) → Deletes id m.types n.types → n ≡ record m { types = n.types } → IsUnnamed m (item spaces.Type id) → IsLinked m → IsLinked n
-  pub groups : (m n : Module) (id place : ℕ) (group : Group) → group_at m.types place ≡ Some group → Contains group.types id → DeletesGroup id m.types n.types
-      → n ≡ record m { types = n.types } → AreUnnamed m (IsMember group) → IsLinked m → IsLinked n
+  pub types : (m n : Module) (id : ℕ) → AreGrouped m.types → IsLive m.types id → Deletes id m.types n.types → n ≡ record m { types = n.types }
+      → IsUnnamed m (item spaces.Type id) → IsLinked m → IsLinked n
+  pub groups : (m n : Module) (id place : ℕ) (group : Group) → AreGrouped m.types → group_at m.types place ≡ Some group → Contains group.types id
+      → DeletesGroup id m.types n.types → n ≡ record m { types = n.types } → AreUnnamed m (IsMember group) → IsLinked m → IsLinked n
   pub functions : (m n : Module) (id : ℕ) → n.funcs.slots ≡ slice_set m.funcs.slots id None → n ≡ record m { funcs = n.funcs }
       → IsUnnamed m (item spaces.Function id) → IsLinked m → IsLinked n
   pub tables : (m n : Module) (id : ℕ) → n.tables.slots ≡ slice_set m.tables.slots id None → n ≡ record m { tables = n.tables }

@@ -41,4 +41,4 @@ module _ (m : Module) (xs : Arena Data) (x0 : Data) (adds : xs.slots ≡ m.data_
 
   pub data_added : ((y : Item) → Contains (items_of (data_names x0)) y → Lives n y) → IsLinked m → IsLinked n
   data_added new l =
-      after_change m n (record { imports_same = refl; spaces = in_space new; whole = l.whole; exported = λ e export at. inl at; start_same = refl }) l
+      after_change m n (record { imports_same = refl; spaces = in_space new; whole = l.whole; exported = λ e export at. inl at; start_same = refl; grouped = l.grouped }) l

@@ -37,4 +37,4 @@ module _ (m : Module) (xs : Arena Element) (x0 : Element) (adds : xs.slots ≡ m
 
   pub element_added : ((y : Item) → Contains (items_of (element_names x0)) y → Lives n y) → IsLinked m → IsLinked n
   element_added new l =
-      after_change m n (record { imports_same = refl; spaces = in_space new; whole = l.whole; exported = λ e export at. inl at; start_same = refl }) l
+      after_change m n (record { imports_same = refl; spaces = in_space new; whole = l.whole; exported = λ e export at. inl at; start_same = refl; grouped = l.grouped }) l

@@ -48,4 +48,4 @@ module _ (m : Module) (xs : Arena Function) (x0 : Function) (adds : xs.slots ≡
 
   pub function_added : IsWhole m.types x0.kind → ((y : Item) → Contains (items_of (function_names m.locals x0)) y → Lives n y) → IsLinked m → IsLinked n
   function_added is new l =
-      after_change m n (record { imports_same = refl; spaces = in_space new; whole = whole l.whole is; exported = λ e export at. inl at; start_same = refl }) l
+      after_change m n (record { imports_same = refl; spaces = in_space new; whole = whole l.whole is; exported = λ e export at. inl at; start_same = refl; grouped = l.grouped }) l

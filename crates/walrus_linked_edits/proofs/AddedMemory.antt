@@ -36,4 +36,4 @@ module _ (m : Module) (xs : Arena Memory) (x0 : Memory) (adds : xs.slots ≡ m.m
 
   pub memory_added : IsLinked m → IsLinked n
   memory_added l =
-      after_change m n (record { imports_same = refl; spaces = in_space; whole = l.whole; exported = λ e export at. inl at; start_same = refl }) l
+      after_change m n (record { imports_same = refl; spaces = in_space; whole = l.whole; exported = λ e export at. inl at; start_same = refl; grouped = l.grouped }) l

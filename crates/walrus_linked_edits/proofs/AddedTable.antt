@@ -40,4 +40,4 @@ module _ (m : Module) (xs : Arena Table) (x0 : Table) (adds : xs.slots ≡ m.tab
 
   pub table_added : ((y : Item) → Contains (items_of (table_names x0)) y → Lives n y) → IsLinked m → IsLinked n
   table_added new l =
-      after_change m n (record { imports_same = refl; spaces = in_space new; whole = l.whole; exported = λ e export at. inl at; start_same = refl }) l
+      after_change m n (record { imports_same = refl; spaces = in_space new; whole = l.whole; exported = λ e export at. inl at; start_same = refl; grouped = l.grouped }) l

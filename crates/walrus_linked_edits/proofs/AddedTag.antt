@@ -40,4 +40,4 @@ module _ (m : Module) (xs : Arena Tag) (x0 : Tag) (adds : xs.slots ≡ m.tags.sl
 
   pub tag_added : ((y : Item) → Contains (items_of (tag_names x0)) y → Lives n y) → IsLinked m → IsLinked n
   tag_added new l =
-      after_change m n (record { imports_same = refl; spaces = in_space new; whole = l.whole; exported = λ e export at. inl at; start_same = refl }) l
+      after_change m n (record { imports_same = refl; spaces = in_space new; whole = l.whole; exported = λ e export at. inl at; start_same = refl; grouped = l.grouped }) l

@@ -11,7 +11,7 @@ use Rattle.walrus_roots.specs.declared.item.Item.{Item}
 use Rattle.walrus_roots.specs.Items.{item}
 use Rattle.walrus_linked.specs.walrus_module.Items.{Lives, LivesIn, brought, given_out}
 use Rattle.walrus_linked.specs.Names.{names}
-use Rattle.walrus_linked.specs.Linked.{IsLinked, IsWhole, import_in}
+use Rattle.walrus_linked.specs.Linked.{IsLinked, IsWhole, GroupsAreWritten, import_in}
 
 -- in this space items live on and say the same of imports; what they name they named, or it lives
 pub record InSpace (m n : Module) (s : Space) : Type 0 where
@@ -26,6 +26,7 @@ pub record Changes (m n : Module) : Type 0 where
   pub whole : (f : ℕ) (function : Function) → item_at n.funcs f ≡ Some function → IsWhole n.types function.kind
   pub exported : (e : ℕ) (export : Export) → item_at n.exports e ≡ Some export → (item_at m.exports e ≡ Some export) ⊎ Lives n (given_out export.item)
   pub start_same : n.start ≡ m.start
+  pub grouped : GroupsAreWritten n.types
 
 pub after_change : (m n : Module) → Changes m n → IsLinked m → IsLinked n
 after_change m n c l = record {
@@ -40,6 +41,7 @@ after_change m n c l = record {
     | inl h ↦ (c.spaces y.space).lives_kept y.id (l.named x y h.0 h.1)
     | inr h ↦ h
   ];
+  grouped = c.grouped;
   exported = λ e export at. elim (c.exported e export at) as (λ _. Lives n (given_out export.item)) [
     | inl h ↦ let x = given_out export.item in (c.spaces x.space).lives_kept x.id (l.exported e export h)
     | inr h ↦ h

@@ -27,7 +27,7 @@ module _ (m : Module) (es : Arena Export) where
   in_space spaces.Label = record { import_kept = λ id i h. h; import_at = λ id i h. h; lives_kept = λ id h. h; named = λ id h y has. inl (h, has) }
 
   exports_changed : ((e : ℕ) (export : Export) → item_at es e ≡ Some export → (item_at m.exports e ≡ Some export) ⊎ Lives n (given_out export.item)) → IsLinked m → IsLinked n
-  exports_changed are l = after_change m n (record { imports_same = refl; spaces = in_space; whole = l.whole; exported = are; start_same = refl }) l
+  exports_changed are l = after_change m n (record { imports_same = refl; spaces = in_space; whole = l.whole; exported = are; start_same = refl; grouped = l.grouped }) l
 
   given_lives : (x export : Export) → x ≡ export → Lives n (given_out x.item) → Lives n (given_out export.item)
   given_lives x export same lives = let L : Export → Type 0 = λ e. Lives n (given_out e.item) in subst L same lives

@@ -129,6 +129,7 @@ module _ (m : Module) (is : Arena Import) (fs : Arena Function) (f k : ℕ) (old
         (o.0, import_stays x i o.0 o.1 o.2 was.1, o.2);
     whole = whole is_whole;
     named = λ x y lives has. named new_lives x.space x.id lives y has;
+    grouped = l.grouped;
     exported = λ e export h. let x = given_out export.item in lives_kept x.space x.id (l.exported e export h);
     started = λ s h. lives_kept spaces.Function s (l.started s h);
   }

@@ -62,8 +62,8 @@ adds_keep_linked = record {
       subst IsLinked (sym same) (L.locals_added m (local ∷ []) l);
   types = λ m n kind id merges rest lives l.
       let L : Module → Type 0 = λ v. KindsNameLive v (kind ∷ []) in subst IsLinked (sym rest) (Y.types_grown m n.types (kind ∷ []) (Y.merged kind id m.types n.types merges).0 (subst L rest lives) l);
-  groups = λ m n explicit kinds adds rest lives l.
-      let L : Module → Type 0 = λ v. KindsNameLive v kinds in subst IsLinked (sym rest) (Y.types_grown m n.types kinds (Y.group_grows kinds m.types n.types explicit adds) (subst L rest lives) l);
+  groups = λ m n explicit kinds adds rest lives declared l.
+      let L : Module → Type 0 = λ v. KindsNameLive v kinds in subst IsLinked (sym rest) (Y.types_grown m n.types kinds (Y.group_grows kinds m.types n.types explicit adds declared) (subst L rest lives) l);
 }
 
 pub deleted_exports_keep_linked : DeletedExportsKeepLinked

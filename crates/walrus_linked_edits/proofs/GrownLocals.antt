@@ -84,4 +84,4 @@ module _ (m : Module) (more : List Local) where
   in_space l spaces.Label = record { import_kept = λ id i h. h; import_at = λ id i h. h; lives_kept = λ id h. h; named = λ id h y has. inl (h, has) }
 
   pub locals_added : IsLinked m → IsLinked n
-  locals_added l = after_change m n (record { imports_same = refl; spaces = in_space l; whole = l.whole; exported = λ e export at. inl at; start_same = refl }) l
+  locals_added l = after_change m n (record { imports_same = refl; spaces = in_space l; whole = l.whole; exported = λ e export at. inl at; start_same = refl; grouped = l.grouped }) l

@@ -25,9 +25,10 @@ use Rattle.walrus_roots.specs.Items.{item}
 use Rattle.walrus_marks.specs.Named.{items_of}
 use Rattle.walrus_linked.specs.walrus_module.Items.{Lives, LivesIn, written}
 use Rattle.walrus_linked.specs.Names.{names, named_by, function_names, body_names, type_names}
-use Rattle.walrus_linked.specs.Linked.{IsLinked, IsWhole, HasArguments}
+use Rattle.walrus_linked.specs.Linked.{IsLinked, IsWhole, HasArguments, GroupsAreWritten}
+use Rattle.walrus_linked.proofs.GroupLemmas.{group_written, merged_written}
 use Rattle.walrus_linked.proofs.SlotLemmas.{at_push, at_kept, at_new, is_some_at}
-use Rattle.walrus_linked_edits.specs.Edits.{KindsNameLive}
+use Rattle.walrus_linked_edits.specs.Edits.{KindsNameLive, MembersAreDeclared}
 use Rattle.walrus_linked_edits.proofs.NameLemmas.{here, type_at_names}
 use Rattle.walrus_linked_edits.proofs.ChangeLemmas.{InSpace, after_change}
 
@@ -49,10 +50,11 @@ item_of_type o ty e plain =
     let G : Bool → Type 0 = λ b. IsSome (if b then None else Some ty) in
     subst F (sym e) (subst G (sym plain) refl)
 
--- the old types are there, and each other one has one of these kinds
+-- the old types are there, and each other one has one of these kinds; the members of explicit groups are types that live, as before
 pub record Grows (kinds : List Kind) (old new : Table) : Type 0 where
   pub kept : (id : ℕ) (ty : TypeItem) → type_at old id ≡ Some ty → type_at new id ≡ Some ty
   pub at : (id : ℕ) (ty : TypeItem) → type_at new id ≡ Some ty → (type_at old id ≡ Some ty) ⊎ Contains kinds ty.kind
+  pub grouped : GroupsAreWritten old → GroupsAreWritten new
 
 -- the type of this kind is there
 pub record Finds (kind : Kind) (id : ℕ) (new : Table) : Type 0 where
@@ -68,13 +70,14 @@ module _ (kind : Kind) (id : ℕ) (old new : Table) where
   slots_at : (slots : List (Option TypeItem)) → new.types ≡ slots → (k : ℕ) → type_at new k ≡ slice_index_or slots k None
   slots_at slots is k = ap (λ (ts : List (Option TypeItem)). slice_index_or ts k None) is
 
-  added_grows : Adds kind id old new → Grows (kind ∷ []) old new
-  added_grows a = record {
+  added_grows : Adds kind id old new → (GroupsAreWritten old → GroupsAreWritten new) → Grows (kind ∷ []) old new
+  added_grows a grouped = record {
     kept = λ k ty h. slots_at _ a.types k ∙ at_kept old.types _ ty k h;
     at = λ k ty h. elim (at_push old.types _ ty k (sym (slots_at _ a.types k) ∙ h)) as (λ _. (type_at old k ≡ Some ty) ⊎ Contains (kind ∷ []) ty.kind) [
       | inl g ↦ inl g
       | inr g ↦ let H : Kind → Type 0 = λ x. Contains (kind ∷ []) x in inr (subst H (sym (ap (λ (t : TypeItem). t.kind) g.1)) (here kind []))
     ];
+    grouped = grouped;
   }
 
   added_finds : Adds kind id old new → Finds kind id new
@@ -98,13 +101,13 @@ module _ (kind : Kind) (id : ℕ) (old new : Table) where
   merged h = by_found (equal_type kind old) refl
     where
       by_found : (o : Option ℕ) → equal_type kind old ≡ o → Grows (kind ∷ []) old new × Finds kind id new
-      by_found None e = let a = MatchOption-at_none (Adds kind id old new) (λ (found : ℕ). (id ≡ found) × (new ≡ old)) e h in (added_grows a, added_finds a)
+      by_found None e = let a = MatchOption-at_none (Adds kind id old new) (λ (found : ℕ). (id ≡ found) × (new ≡ old)) e h in (added_grows a (merged_written kind id old new h), added_finds a)
       by_found (Some found) e =
           let s = MatchOption-at_some (Adds kind id old new) (λ (k : ℕ). (id ≡ k) × (new ≡ old)) found e h in
           let G : Table → Type 0 = λ t. Grows (kind ∷ []) old t in
           let F : Table → Type 0 = λ t. Finds kind id t in
           let I : ℕ → Type 0 = λ k. Finds kind k old in
-          (subst G (sym s.1) (record { kept = λ k ty at. at; at = λ k ty at. inl at }), subst F (sym s.1) (subst I (sym s.0) (found_kind found e)))
+          (subst G (sym s.1) (record { kept = λ k ty at. at; at = λ k ty at. inl at; grouped = λ w. w }), subst F (sym s.1) (subst I (sym s.0) (found_kind found e)))
 
 module _ (m : Module) where
   -- a live function's type is an item
@@ -135,12 +138,13 @@ module _ (kinds : List Kind) (old new : Table) where
   before_at (s ∷ slots) first zero ty e = e
   before_at (s ∷ slots) first (suc id) ty e = before_at slots first id ty e
 
-  pub group_grows : (explicit : Bool) → AddsGroup explicit kinds old new → Grows kinds old new
-  group_grows explicit a =
+  pub group_grows : (explicit : Bool) → AddsGroup explicit kinds old new → MembersAreDeclared explicit kinds → Grows kinds old new
+  group_grows explicit a declared =
       let slots_are : (id : ℕ) → type_at new id ≡ slice_index_or (old.types ++ new_items (next_id old) kinds) id None = λ id. ap (λ (ts : List (Option TypeItem)). slice_index_or ts id None) a.types in
       record {
         kept = λ id ty e. slots_are id ∙ before_at old.types (next_id old) id ty e;
         at = λ id ty e. behind_at old.types (next_id old) id ty (sym (slots_are id) ∙ e);
+        grouped = group_written explicit kinds old new a declared;
       }
 
 module _ (m : Module) (t : Table) (kinds : List Kind) (grows : Grows kinds m.types t) where
@@ -193,4 +197,5 @@ module _ (m : Module) (t : Table) (kinds : List Kind) (grows : Grows kinds m.typ
     whole = λ f function at. whole_kept function.kind (type_lives m l f function at) (l.whole f function at);
     exported = λ e export at. inl at;
     start_same = refl;
+    grouped = grows.grouped l.grouped;
   }) l

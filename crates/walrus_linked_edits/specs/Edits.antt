@@ -1,5 +1,5 @@
 -- What adds keep of a linked module, and what replacing a function does.
-use Rattle.std.specs.Prelude.{◌≡◌, ℕ, Bool, false, List, [], ◌∷◌, ◌++◌, Option, Some, None, Contains, Result, slice_set}
+use Rattle.std.specs.Prelude.{◌≡◌, ℕ, Bool, true, false, List, [], ◌∷◌, ◌++◌, Option, Some, None, Contains, Result, slice_set}
 use Rattle.std.specs.Fn.{Once}
 use Rattle.std.specs.Borrow.{Bor, MutBor}
 use Rattle.std.specs.declared.alloc.AllocError.{AllocError}
@@ -41,6 +41,10 @@ AreLive m events = (y : Item) → Contains (items_of events) y → Lives m y
 abbrev pub KindsNameLive : Module → List Kind → Type 0
 KindsNameLive m kinds = (kind : Kind) → Contains kinds kind → kind.entry ≡ false → (name : ℕ) → Contains (kind_names kind) name → Lives m (item spaces.Type name)
 
+-- in an explicit group none of these kinds is an entry type's
+abbrev pub MembersAreDeclared : Bool → List Kind → Type 0
+MembersAreDeclared explicit kinds = explicit ≡ true → (kind : Kind) → Contains kinds kind → kind.entry ≡ false
+
 -- each says of a call what it ensures where it answers an id; what the item names lives once it is added
 pub record AddsKeepLinked : Type 0 where
   pub functions : (m n : Module) (f : ℕ) (local : LocalFunction) → Adds (IsLocal f local) m.funcs n.funcs → n ≡ record m { funcs = n.funcs }
@@ -65,7 +69,7 @@ pub record AddsKeepLinked : Type 0 where
   pub types : (m n : Module) (kind : Kind) (id : ℕ) → Merges kind id m.types n.types → n ≡ record m { types = n.types }
       → KindsNameLive n (kind ∷ []) → IsLinked m → IsLinked n
   pub groups : (m n : Module) (explicit : Bool) (kinds : List Kind) → AddsGroup explicit kinds m.types n.types → n ≡ record m { types = n.types }
-      → KindsNameLive n kinds → IsLinked m → IsLinked n
+      → KindsNameLive n kinds → MembersAreDeclared explicit kinds → IsLinked m → IsLinked n
 
 -- nothing names an export
 abbrev pub DeletedExportsKeepLinked : Type 0

@@ -8,7 +8,7 @@ use walrus_arena::LocalId;
 use walrus_builder::InstrSeqBuilder;
 
 /// A linked module to which an item, an export, a local, a type or a group of types is added stays linked, where what is added
-/// names what lives; a function also has to be whole.
+/// names what lives; a function also has to be whole, and an explicit group to be without entry types.
 pub fn adds_keep_linked()
     ensures { AddsKeepLinked }
 {}

@@ -49,8 +49,8 @@ adds_seen = record {
 }
 
 pub empty_means : EmptyMeansEmpty
-empty_means m z no_groups =
-    ap (λ (ss : List TypeGroup). record (means m) { groups = ss }) (ap (λ (gs : List (Option Group)). own_groups (record { types = m.types.types; groups = gs })) no_groups)
+empty_means m z =
+    ap (λ (ss : List TypeGroup). record (means m) { groups = ss }) (ap (λ (gs : List (Option Group)). own_groups (record { types = m.types.types; groups = gs })) z.groups)
     ∙ ap (λ (ss : List (Option grammar.Import)). record (means m) { groups = []; imports = ss }) (none_seen own_import m.imports z.imports)
     ∙ ap (λ (ss : List (Option grammar.Function)). record (means m) { groups = []; imports = []; functions = ss }) (none_seen (own_function m.locals) m.funcs z.funcs)
     ∙ ap (λ (ss : List (Option grammar.Table)). record (means m) { groups = []; imports = []; functions = []; tables = ss }) (none_seen own_table m.tables z.tables)

@@ -16,9 +16,9 @@ use Rattle.walrus_linked.specs.Empty.{IsEmpty}
 use Rattle.wasm_grammar.specs.Modules as grammar
 use Rattle.walrus_meaning.specs.Meaning.{slots_of, own_import, own_export, own_function, own_table, own_memory, own_global, own_tag, own_element, own_segment, means}
 
--- a module without items and groups means the empty module
+-- a module without items means the empty module
 abbrev pub EmptyMeansEmpty : Type 0
-EmptyMeansEmpty = (m : Module) → IsEmpty m → m.types.groups ≡ [] → means m ≡ grammar.empty
+EmptyMeansEmpty = (m : Module) → IsEmpty m → means m ≡ grammar.empty
 
 -- what an item is seen as stands at its id, and nothing else does
 abbrev pub ItemsAreSeen : {A B : Type 0} → (A → B) → Arena A → Type 0

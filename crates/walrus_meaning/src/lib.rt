@@ -4,7 +4,7 @@
 ghost use Rattle.walrus_meaning.specs.Laws.{EmptyMeansEmpty, ItemsAreSeen, DeletesAreSeen, AddsAreSeen};
 ghost use Rattle.walrus_arena.specs.Arena.{Arena};
 
-/// A module without items and groups means the empty module.
+/// A module without items means the empty module.
 pub fn empty_means_empty()
     ensures { EmptyMeansEmpty }
 {}

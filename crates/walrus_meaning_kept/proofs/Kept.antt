@@ -49,7 +49,6 @@ use Rattle.walrus_passes_laws.specs.walrus_passes.UsedItems.{HasJust}
 use Rattle.walrus_passes_laws.specs.walrus_passes.declared.used.Used.{Used}
 use Rattle.walrus_passes_laws.proofs.walrus_passes.RestLemmas.{rest_as}
 use Rattle.walrus_passes_laws.proofs.walrus_passes.TypeLemmas.{types_as}
-use Rattle.walrus_passes_laws.specs.Served.{GroupsAreWritten}
 use Rattle.walrus_meaning.specs.Words.{own_expr}
 use Rattle.walrus_meaning.specs.Meaning.{slots_of, means, own_given, own_export, own_function, own_table, own_memory, own_global, own_tag, own_element, own_element_mode, own_segment, own_data_mode}
 use Rattle.walrus_meaning.proofs.MeaningLemmas.{items_seen}
@@ -394,10 +393,10 @@ module _ (plain : WalkIsPlain) (nested : HeldAreNested) (trees : TreesAreNested)
 
 -- ---- which items are plain
 
-linked_plain : (m : Module) → IsLinked m → GroupsAreWritten m.types → (x : Item) → IsPlainIn m x.space x.id
-linked_plain m linked written x = record {
+linked_plain : (m : Module) → IsLinked m → (x : Item) → IsPlainIn m x.space x.id
+linked_plain m linked x = record {
   whole = λ e f at. linked.whole x.id f at;
-  grouped = λ e group has ex k c. written has.place group has.live ex k c;
+  grouped = λ e group has ex k c. linked.grouped has.place group has.live ex k c;
 }
 
 whole_of : (types : TypeTable) (kind : FunctionKind) → HasBody types kind → HasTree kind → IsWhole types kind
@@ -473,10 +472,10 @@ module _ (P Q : Item → Type 0) (same : (x : Item) → IsShared x → P x ↔ Q
 
 module _ (plain : WalkIsPlain) (nested : HeldAreNested) (trees : TreesAreNested) (tell : ExprsTellOps) (told : BodiesNameWhatIsTold) where
   pub references_meant : ReferencesAreMeant
-  references_meant m linked grouped written x y sx sy = refs_both plain nested trees tell told m grouped x y (linked_plain m linked written x) sx sy
+  references_meant m linked grouped x y sx sy = refs_both plain nested trees tell told m grouped x y (linked_plain m linked x) sx sy
 
   pub kept_meant : KeptIsMeant
-  kept_meant m pushed linked grouped written push x shared = kept_both plain nested trees tell told m grouped pushed push (λ y r. linked_plain m linked written y) x shared
+  kept_meant m pushed linked grouped push x shared = kept_both plain nested trees tell told m grouped pushed push (λ y r. linked_plain m linked y) x shared
 
   pub passes_meant : PassesKeepWhatIsMeant
   passes_meant m pushed sound grouped push =

@@ -30,7 +30,6 @@ use Rattle.walrus_passes_laws.specs.walrus_refusals.Sound.{IsSound}
 use Rattle.walrus_passes_laws.specs.walrus_passes.Part.{IsPart, IsKeptPart}
 use Rattle.walrus_passes_laws.specs.walrus_passes.UsedItems.{AreKept, HasJust}
 use Rattle.walrus_passes_laws.specs.walrus_passes.declared.used.Used.{Used}
-use Rattle.walrus_passes_laws.specs.Served.{GroupsAreWritten}
 use Rattle.walrus_meaning_refs.specs.Bodies.{parts_of}
 use Rattle.walrus_meaning_refs.specs.Items.{own_item, own_items}
 use Rattle.walrus_meaning_refs.specs.Locals.{type_of_local}
@@ -82,7 +81,7 @@ RefersThrough m x y = Refers m x y ⊎ ((id : ℕ) × Refers m x (item spaces.Lo
 
 -- in a linked module items name just what they name in what it means
 abbrev pub ReferencesAreMeant : Type 0
-ReferencesAreMeant = (m : Module) → IsLinked m → AreGrouped m.types → GroupsAreWritten m.types → (x y : Item) → IsShared x → IsShared y
+ReferencesAreMeant = (m : Module) → IsLinked m → AreGrouped m.types → (x y : Item) → IsShared x → IsShared y
     → RefersThrough m x y ↔ abstract.Refers (meant m) (own_item x) (own_item y)
 
 -- what is kept of what a module means
@@ -91,7 +90,7 @@ IsKeptMeant m pushed x = KeptOf (meant m) (own_items pushed) (own_item x)
 
 -- so that what is kept of it is what is kept of what it means
 abbrev pub KeptIsMeant : Type 0
-KeptIsMeant = (m : Module) (pushed : List Item) → IsLinked m → AreGrouped m.types → GroupsAreWritten m.types → PushesShared pushed
+KeptIsMeant = (m : Module) (pushed : List Item) → IsLinked m → AreGrouped m.types → PushesShared pushed
     → (x : Item) → IsShared x → Kept m pushed x ↔ IsKeptMeant m pushed x
 
 -- so it is where a pass isn't refused, whatever stands in what isn't reached: the sets have just these items, and just these are left

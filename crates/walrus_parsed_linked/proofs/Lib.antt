@@ -2,6 +2,7 @@ mod KindLemmas
 mod IndexLemmas
 mod ValueLemmas
 mod TableLemmas
+mod GroupLemmas
 mod LocalLemmas
 mod StepLemmas
 mod LinkedLemmas

@@ -1,5 +1,5 @@
 -- Lemmas: a module that was read is linked.
-use Rattle.std.specs.Prelude.{ℕ, zero, suc, ◌≡◌, ◌<◌, false, List, [], ◌∷◌, length, map, Option, Some, None, slice_get, slice_index_or, refl}
+use Rattle.std.specs.Prelude.{ℕ, zero, suc, ◌≡◌, ◌<◌, Bool, true, false, List, [], ◌∷◌, length, map, Option, Some, None, IsSome, slice_get, slice_index_or, refl, if◌then◌else◌}
 use Rattle.std.specs.Option.{option_map}
 use Rattle.std.proofs.Common.{ap, sym, ◌∙◌, subst, arith, inl, inr}
 use Rattle.std.proofs.lemmas.List.{length-map}
@@ -34,12 +34,14 @@ use Rattle.walrus_parsed_locals.specs.walrus_parsed_bodies.walrus_parsed_items.w
 use Rattle.walrus_parsed_locals.specs.walrus_parsed_bodies.walrus_parsed_items.walrus_parse.walrus_file_bodies.walrus_items_into.walrus_tables_into.walrus_sections_into.walrus_known_sections.State.{state_of}
 use Rattle.walrus_parsed_locals.specs.walrus_parsed_bodies.walrus_parsed_items.walrus_parse.walrus_file_bodies.walrus_items_into.walrus_tables_into.walrus_sections_into.walrus_known_sections.Items.{chunk_of}
 use Rattle.walrus_parsed_locals.specs.walrus_parsed_bodies.walrus_parsed_items.walrus_parse.walrus_file_bodies.walrus_items_into.walrus_tables_into.walrus_sections_into.walrus_known_sections.declared.sections.Sections.{Sections}
+use Rattle.walrus_parsed_locals.specs.walrus_parsed_bodies.walrus_parsed_items.walrus_into_laws.Groups.{ReadTypesAreDeclared}
+use Rattle.walrus_parsed_locals.specs.walrus_parsed_bodies.walrus_parsed_items.walrus_into_laws.walrus_meaning.walrus_linked.Linked.{GroupsAreWritten}
 use Rattle.walrus_parsed_locals.specs.walrus_parsed_bodies.walrus_parsed_items.walrus_into_laws.walrus_meaning.walrus_linked.Names.{body_events, body_names, function_names, local_names, named_by, names, names_in, type_names, used_types}
 use Rattle.walrus_parsed_locals.specs.walrus_parsed_bodies.walrus_parsed_items.walrus_into_laws.walrus_meaning.walrus_linked.walrus_local_function.declared.local_function.LocalFunction.{LocalFunction}
 use Rattle.walrus_marks.specs.Named.{items_of}
 use Rattle.walrus_marks.specs.walrus_walks.Events.{Event, NamesLocal, events_of}
 use Rattle.walrus_marks.specs.walrus_walks.Walk.{body_walk}
-use Rattle.walrus_parsed_locals.specs.walrus_parsed_bodies.walrus_parsed_items.walrus_into_laws.walrus_meaning.walrus_linked.walrus_module.Items.{Lives}
+use Rattle.walrus_parsed_locals.specs.walrus_parsed_bodies.walrus_parsed_items.walrus_into_laws.walrus_meaning.walrus_linked.walrus_module.Items.{Lives, written}
 use Rattle.walrus_parsed_locals.specs.walrus_parsed_bodies.walrus_parsed_items.walrus_into_laws.walrus_meaning.walrus_linked.walrus_module.Parts.{Module, parts}
 use Rattle.walrus_parsed_locals.specs.walrus_parsed_bodies.walrus_parsed_items.walrus_parse.walrus_file_bodies.walrus_module_bodies.Steps.{State, state}
 use Rattle.walrus_parsed_locals.specs.walrus_parsed_bodies.walrus_parsed_items.walrus_parse.walrus_file_bodies.walrus_items_into.walrus_module_env.Filled.{AreFiled}
@@ -50,7 +52,7 @@ use Rattle.walrus_parsed_locals.specs.walrus_parsed_bodies.walrus_parsed_items.w
 use Rattle.walrus_parsed_locals.specs.walrus_parsed_bodies.walrus_parsed_items.walrus_parse.Parsed.{read_features}
 use Rattle.walrus_parsed_locals.specs.walrus_parsed_bodies.walrus_parsed_items.walrus_parse.walrus_file_bodies.walrus_items_into.walrus_tables_into.walrus_sections.walrus_roots.Items.{item}
 use Rattle.walrus_parsed_locals.specs.walrus_parsed_bodies.walrus_parsed_items.walrus_parse.walrus_file_bodies.walrus_items_into.walrus_tables_into.walrus_sections.walrus_roots.declared.item.Item.{Item}
-use Rattle.walrus_types.specs.Items.{Item as TypeItem}
+use Rattle.walrus_types.specs.Items.{Item as TypeItem, Group}
 use Rattle.walrus_types.specs.Table.{Table, next_id, type_at}
 use Rattle.walrus_parsed_locals.proofs.walrus_parsed_bodies.SlotLemmas.{read_kind}
 use Rattle.walrus_parsed_locals.proofs.walrus_parsed_bodies.StepLemmas.{steps_have}
@@ -62,6 +64,7 @@ use Rattle.walrus_parsed_locals.proofs.walrus_parsed_bodies.walrus_parsed_items.
 use Rattle.walrus_parsed_locals.specs.walrus_parsed_bodies.walrus_parsed_items.Named.{HasNoBodies, NamesLive, NamesOfReadItemsLive}
 use Rattle.walrus_parsed_linked.specs.Indices.{IndicesOfReadModulesLive}
 use Rattle.walrus_parsed_linked.specs.Linked.{ReadModulesAreLinked}
+use Rattle.walrus_parsed_linked.proofs.GroupLemmas.{file_written, steps_written}
 use Rattle.walrus_parsed_linked.proofs.LocalLemmas.{GoodLocal}
 use Rattle.walrus_parsed_linked.proofs.StepLemmas.{Sound, all_of, step_sound, step_walk, steps_more, steps_sound}
 use Rattle.walrus_parsed_linked.proofs.ValueLemmas.{Closed, GoodKind, GoodTypes}
@@ -122,18 +125,28 @@ module _ (Good : Item → Type 0) where
   type_good (Some x) None e h = absurd cc
   type_good (Some x) (Some y) e h = subst (λ (k : Kind). GoodKind Good k) (sym (ap (λ (z : TypeItem). z.kind) (some_is (bare_type x) (bare_type y) e))) (h y refl)
 
+-- a type that lives, and is no entry type
+of_written : (o : Option TypeItem) → IsSome (written o) → (x : TypeItem) × (o ≡ Some x) × (x.kind.entry ≡ false)
+of_written None h = absurd cc
+of_written (Some x) h = (x, refl, by_entry x.kind.entry refl h)
+  where
+    by_entry : (b : Bool) → x.kind.entry ≡ b → IsSome (if b then None else Some x) → x.kind.entry ≡ false
+    by_entry true e h = absurd cc
+    by_entry false e h = e
+
 -- a function of the file has no body by itself
 no_body : (locals : List Local) (ty : ℕ) (import : Option ℕ) (kind : FunctionKind) → kind ≡ kind_of ty import → body_names locals kind ≡ []
 no_body locals ty None kind e = ap (body_names locals) e
 no_body locals ty (Some n) kind e = ap (body_names locals) e
 
 pub linked : {B : Type 0} → ReadFunctionsAreWhole B → ReadModulesHaveLinks B → NamesOfReadItemsLive B → IndicesOfReadModulesLive B → FilledFunctionsStand B → FilledModulesAreFiled B → BodiesReadFiles B
-    → EntryTypesGrow → FoundTypesStay → TablesGrowOn → WalksNameAnswers → HandlersHaveAnswers → ReadModulesAreLinked B
-linked {B} whole links live indices stands filed bodies enter stay on walks handled config bytes m found small is = record {
+    → ReadTypesAreDeclared → EntryTypesGrow → FoundTypesStay → TablesGrowOn → WalksNameAnswers → HandlersHaveAnswers → ReadModulesAreLinked B
+linked {B} whole links live indices stands filed bodies declares enter stay on walks handled config bytes m found small is = record {
   imports = has.imports;
   imported = has.imported;
   whole = whole config bytes m found small is;
   named = λ x y lives c. all_contains Good (names n x) y (all_good x.space x.id) c;
+  grouped = members_live;
   exported = has.exported;
   started = has.started;
 }
@@ -191,6 +204,17 @@ linked {B} whole links live indices stands filed bodies enter stay on walks hand
 
     typed : (id : ℕ) (x : TypeItem) → type_at final id ≡ Some x → x.kind.entry ≡ false → Good (item spaces.«Type» id)
     typed id x there plain = there_too m.types.types final.types id x types_bare there plain
+
+    final_written : GroupsAreWritten final
+    final_written =
+        let G : Table → Type 0 = λ t. GroupsAreWritten t in
+        steps_written is.1.file features bs old is.1.bodied is.1.bodies_are (subst G (sym is.1.are_filled.types) (file_written s.types (declares features bytes (state_of s) is.1.reads.sections)))
+
+    members_live : GroupsAreWritten m.types
+    members_live place group there ex id c =
+        let groups : m.types.groups ≡ final.groups = ap (λ (x : Holder). x.types.groups) is.1.names.same in
+        let x = of_written (type_at final id) (final_written place group (ap (λ (gs : List (Option Group)). slice_index_or gs place None) (sym groups) ∙ there) ex id c) in
+        typed id x.0 x.1 x.2
 
     no_locals : (function : ℕ) → i.locals function ≡ []
     no_locals function = ap (λ (j : Ids). j.locals function) is.1.are_filled.numbers

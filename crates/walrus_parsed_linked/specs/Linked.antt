@@ -8,6 +8,6 @@ use Rattle.walrus_parsed_locals.specs.walrus_parsed_bodies.walrus_parsed_items.w
 use Rattle.walrus_parsed_locals.specs.walrus_parsed_bodies.walrus_parsed_items.walrus_parse.Parsed.{IsReadAs}
 
 -- each import names a live item that names it back, and each imported item a live import; functions are imported or whole; and what is
--- named lives: by an item or its body, by an export, or as the start function
+-- named lives: by an item or its body, by a type with its explicit group, by an export, or as the start function
 abbrev pub ReadModulesAreLinked : Type 0 → Type 0
 ReadModulesAreLinked B = (config : ModuleConfig) (bytes : List ℕ) (m : Whole B) (found : Ids) → All (λ b. b < 256) bytes → IsReadAs config bytes m found → IsLinked (parts m)

@@ -54,8 +54,8 @@ pub fn indices_of_read_modules_live<B>()
 }
 
 /// A module that was read is linked: each import names a live item that names it back, and each imported item a live import; functions are
-/// imported, or have a body of their arguments whose sequences form a tree; and what its types, items and bodies name, what it exports and
-/// what it starts lives.
+/// imported, or have a body of their arguments whose sequences form a tree; and what its types with their explicit groups, its items and
+/// bodies name, what it exports and what it starts lives.
 pub fn modules_that_are_read_are_linked<B>()
     ensures { ReadModulesAreLinked B }
 {
@@ -66,6 +66,7 @@ pub fn modules_that_are_read_are_linked<B>()
     filled_functions_stand::<B>();
     filled_modules_are_filed::<B>();
     bodies_read_files::<B>();
+    read_types_are_declared();
     entry_types_grow();
     found_types_stay();
     tables_grow_on();

@@ -9,7 +9,7 @@ use Rattle.std.proofs.lemmas.Bool.{cases_eq, false≢true}
 use Rattle.walrus_items.specs.Items.{Item as TypeItem, Group}
 use Rattle.walrus_types.specs.Table.{Table, type_at, group_at, HasMember, DeletesAll, clear_all, with_live, nonempty_group, IsLive}
 use Rattle.walrus_types.specs.TypeLaws.{AreGrouped}
-use Rattle.walrus_types.proofs.DeleteLemmas.{nonempty-some, contains-filter, nothing, length-clear_all, at-cleared, cleared-at}
+use Rattle.walrus_types.proofs.DeleteLemmas.{nonempty-some, contains-filter, filter-contains, nothing, length-clear_all, at-cleared, cleared-at}
 use Rattle.walrus_types.proofs.SweepLemmas.{was-there, member-there}
 use Rattle.walrus_refusals.specs.walrus_used.walrus_module.Items.{written, written_type}
 use Rattle.walrus_refusals.specs.walrus_used.Counts.{past_types}
@@ -175,6 +175,10 @@ module _ (stays : ℕ → Type 0) (sure : (id : ℕ) → ((stays id → ⊥) →
     ]) ∙ at;
     groups = λ place g at ex k c s. whole place g k at c (all_live place g at ex k c s);
     only_groups = whole_before;
+    rest = λ place g at k c live.
+        group_after place
+        ∙ ap (option_and_then (with_live b.types)) at
+        ∙ nonempty-some g.explicit (filter (lives b) g.types) (λ e. nothing k (subst (λ (xs : List ℕ). Contains xs k) e (filter-contains (lives b) g.types k c live)));
     left = group_before;
   }
 
@@ -188,5 +192,6 @@ types_as stays kept a b forth back r = record {
   entries = r.entries;
   groups = λ place group at ex id c k. r.groups place group at ex id c (back id k);
   only_groups = r.only_groups;
+  rest = r.rest;
   left = r.left;
 }

@@ -28,7 +28,7 @@ abbrev pub left_of : TypeTable → Group → Group
 left_of t group = record { explicit = group.explicit; types = filter (λ id. is_some (type_at t id)) group.types }
 
 -- types that stay are as they were, with their explicit groups; of those among these no others are left but entry types;
--- entry types that are in no explicit group are as they were; and each group is what is left of one that stood in its place
+-- entry types that are in no explicit group are as they were; and the groups are what is left of those of which a type lives, in their places
 pub record TypesRestAmong (among stays : ℕ → Type 0) (old new : TypeTable) : Type 0 where
   pub sized : length new.types ≡ length old.types
   pub places : length new.groups ≡ length old.groups
@@ -38,6 +38,7 @@ pub record TypesRestAmong (among stays : ℕ → Type 0) (old new : TypeTable) :
   pub entries : (id : ℕ) (ty : TypeItem) → type_at old id ≡ Some ty → ty.kind.entry ≡ true → ((group : Group) → HasMember old id group → group.explicit ≡ true → ⊥) → type_at new id ≡ Some ty
   pub groups : (place : ℕ) (group : Group) → group_at old place ≡ Some group → group.explicit ≡ true → (id : ℕ) → Contains group.types id → stays id → group_at new place ≡ Some group
   pub only_groups : (place : ℕ) (group : Group) → group_at new place ≡ Some group → group.explicit ≡ true → group_at old place ≡ Some group
+  pub rest : (place : ℕ) (group : Group) → group_at old place ≡ Some group → (id : ℕ) → Contains group.types id → IsSome (type_at new id) → group_at new place ≡ Some (left_of new group)
   pub left : (place : ℕ) (group : Group) → group_at new place ≡ Some group → (before : Group) × (group_at old place ≡ Some before) × (group ≡ left_of new before)
 
 abbrev pub TypesRest : (ℕ → Type 0) → TypeTable → TypeTable → Type 0

@@ -1,6 +1,6 @@
 -- What is left of a linked module.
 use Rattle.std.proofs.Common.{◌≡◌, ◌∙◌, ◌⊎◌, ◌<◌, ◌≤◌, ℕ, Bool, true, false, List, [], ◌∷◌, Option, Some, None, Contains, map, length, refl, sym, ap, subst, inl, inr, arith}
-use Rattle.std.specs.Prelude.{IsSome, MatchOption, slice_get, if◌then◌else◌}
+use Rattle.std.specs.Prelude.{IsSome, MatchOption, is_some, slice_get, if◌then◌else◌}
 use Rattle.std.specs.List.{flat_map}
 use Rattle.std.specs.Option.{option_and_then}
 use Rattle.std.proofs.lemmas.Bool.{false≢true, cases_lt}
@@ -8,9 +8,10 @@ use Rattle.std.proofs.lemmas.List.Elements.{Contains-append_left, Contains-appen
 use Rattle.wasm_formats.specs.declared.fault.Space.{Space}
 use Rattle.wasm_formats.specs.declared.fault.Space.TheVariants as spaces
 use Rattle.walrus_arena.specs.Arena.{item_at}
-use Rattle.walrus_items.specs.Items.{Item as TypeItem}
+use Rattle.walrus_items.specs.Items.{Item as TypeItem, Group}
 use Rattle.walrus_items.specs.declared.local.Local.{Local}
 use Rattle.walrus_types.specs.Table.{type_at}
+use Rattle.walrus_types.proofs.DeleteLemmas.{contains-filter}
 use Rattle.walrus_forms.specs.Kinds.{kind_names}
 use Rattle.walrus_instr.specs.declared.const_expr.ConstExpr.{ConstExpr}
 use Rattle.walrus_walks.specs.Events.{Event, NamesLocal, NamesType, NamesFunction, events_of, ref_names, val_names}
@@ -36,7 +37,7 @@ use Rattle.walrus_passes.specs.walrus_refusals.walrus_used.walrus_module_items.d
 use Rattle.walrus_passes.specs.walrus_refusals.walrus_used.walrus_module_items.Functions.{type_of}
 use Rattle.walrus_passes.specs.walrus_refusals.walrus_used.walrus_module.Parts.{Module}
 use Rattle.walrus_passes.specs.walrus_refusals.walrus_used.walrus_module.Items.{Lives, LivesIn, written, brought, given_out}
-use Rattle.walrus_passes.specs.walrus_linked.Linked.{IsLinked, IsWhole, HasArguments, import_in}
+use Rattle.walrus_passes.specs.walrus_linked.Linked.{IsLinked, IsWhole, HasArguments, GroupsAreWritten, import_in}
 use Rattle.walrus_passes.specs.walrus_linked.Names.{names, names_in, named_by, type_names, function_names, body_names, body_events, used_types, local_names, table_names, init_names, global_names, value_names, tag_names, element_names, element_kind_names, held_names, data_kind_names}
 use Rattle.walrus_roots.specs.declared.item.Item.{Item}
 use Rattle.walrus_roots.specs.Items.{item, space_number}
@@ -269,6 +270,18 @@ module _ (m : Module) (pushed : List Item) (linked : IsLinked m) where
     root_on : (x : Item) → Root m pushed x → Lives m x → Lives n x
     root_on x r live = lives_on m n pushed part x.space x.id (inl (root r)) live
 
+    some_type : (o : Option TypeItem) → is_some o ≡ true → (ty : TypeItem) × (o ≡ Some ty)
+    some_type None h = absurd (false≢true h)
+    some_type (Some ty) h = (ty, refl)
+
+    -- the members of a group are those that live of one that stood in its place
+    grouped_on : GroupsAreWritten n.types
+    grouped_on place group at ex id c =
+        let was = part.types.left place group at in
+        let kept = contains-filter (λ k. is_some (type_at n.types k)) was.0.types id (subst (λ (g : Group). Contains g.types id) was.2 c) in
+        let there = some_type (type_at n.types id) kept.1 in
+        subst (λ (o : Option TypeItem). IsSome (written o)) (part.types.only id there.0 there.1 ∙ sym there.1) (linked.grouped place was.0 was.1 (ap (λ (g : Group). g.explicit) (sym was.2) ∙ ex) id kept.0)
+
     pub linked_on : IsLinked n
     linked_on = record {
       imports = λ i import at.
@@ -283,6 +296,7 @@ module _ (m : Module) (pushed : List Item) (linked : IsLinked m) where
           let before = part.funcs.only f function at in
           whole_on function.kind (type_kept f function before (part.funcs.stay f function tt at)) (linked.whole f function before);
       named = λ x y live c. named_on x.space x.id y live c;
+      grouped = grouped_on;
       exported = λ e export at.
           let before : item_at m.exports e ≡ Some export = ap (λ a. item_at a e) (sym (exports_same m n pushed part)) ∙ at in
           root_on (given_out export.item) (exports e export before) (linked.exported e export before);

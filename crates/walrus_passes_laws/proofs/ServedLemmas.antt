@@ -66,7 +66,7 @@ use Rattle.walrus_passes.proofs.walrus_used.LooksLemmas.{none_in, first_in, only
 use Rattle.walrus_passes.specs.walrus_refusals.Asked.{IsBrought, IsWholeIn, HasBody, Linked}
 use Rattle.walrus_passes.specs.walrus_refusals.Sound.{AllReached, IsRefused, HasForm}
 use Rattle.walrus_passes.specs.walrus_refusals.Written.{StaysInGroup, IsUnshared, HasNoExact}
-use Rattle.walrus_passes_laws.specs.Served.{GroupsAreWritten, PushesLive, LiveIsServed, LinkedAreServed}
+use Rattle.walrus_passes_laws.specs.Served.{PushesLive, LiveIsServed, LinkedAreServed}
 use Rattle.walrus_passes_laws.proofs.BodyLemmas.{split}
 use Rattle.walrus_passes_laws.proofs.WalkLemmas.{join_left, join_right, body_told}
 use Rattle.walrus_passes_laws.proofs.LinkedLemmas.{types_told, functions_told}
@@ -298,14 +298,14 @@ module _ (m : Module) (linked : IsLinked m) where
   is_linked : (x : Item) → Linked m x
   is_linked x = record {
     own = (brought_by x (import_in m x.space x.id) refl, (whole_in x.space x.id).0);
-    claimed = λ i import at is. subst (λ (y : Item). import_in m y.space y.id ≡ Some i) is (linked.imports i import at);
+    named_back = λ i import at is. subst (λ (y : Item). import_in m y.space y.id ≡ Some i) is (linked.imports i import at);
   }
 
   is_tree : (x : Item) → FormsTree m x
   is_tree x = (whole_in x.space x.id).1
 
 -- ---- what is reached lives
-module _ (plain : WalkIsPlain) (held : HeldAreNested) (nested : TreesAreNested) (m : Module) (pushed : List Item) (linked : IsLinked m) (groups : GroupsAreWritten m.types) (push : PushesLive m pushed) where
+module _ (plain : WalkIsPlain) (held : HeldAreNested) (nested : TreesAreNested) (m : Module) (pushed : List Item) (linked : IsLinked m) (push : PushesLive m pushed) where
   -- it lives, and if it is a local what its type names lives
   abbrev Fine : Item → Type 0
   Fine x = Lives m x × (x.space ≡ spaces.Local → (z : Item) → Contains (referred_by local_items (slice_get m.locals x.id)) z → Lives m z)
@@ -372,7 +372,7 @@ module _ (plain : WalkIsPlain) (held : HeldAreNested) (nested : TreesAreNested) 
 
   refers_fine : (space : Space) (id : ℕ) (y : Item) → Fine (item space id) → RefersIn m space id y → Fine y
   refers_fine spaces.Type id y x (inl c) = (let b = by_written (type_at m.types id) y c in named_fine (item spaces.Type id) y x.0 (no_local_by type_names (λ ty. no_local_types (kind_names ty.kind)) (type_at m.types id)) b.1)
-  refers_fine spaces.Type id y x (inr (group, has, ex, c)) = (let t = in_types group.types y c in subst Fine t.2 (low spaces.Type t.0 (omega arith) (groups has.place group has.live ex t.0 t.1)))
+  refers_fine spaces.Type id y x (inr (group, has, ex, c)) = (let t = in_types group.types y c in subst Fine t.2 (low spaces.Type t.0 (omega arith) (linked.grouped has.place group has.live ex t.0 t.1)))
   refers_fine spaces.Function id y x h = function_fine id (item_at m.funcs id) refl y h
   refers_fine spaces.Table id y x (inl c) =
       named_fine (item spaces.Table id) y x.0 (no_local_by table_names (λ t. no_local_both (ref_names t.element_ty) (init_names t.init) (no_local_ref t.element_ty) (no_local_init t.init)) (item_at m.tables id)) (table_back (item_at m.tables id) y c)
@@ -426,5 +426,5 @@ are_served plain held nested m pushed linked = record {
   trees = λ x r. is_tree m linked x;
   not_unlinked = λ h. h (λ x r. is_linked m linked x);
   not_treeless = λ h. h.1 (λ x r. is_tree m linked x);
-  pushing_live = λ groups push. live_served plain held nested m pushed linked groups push;
+  pushing_live = λ push. live_served plain held nested m pushed linked push;
 }

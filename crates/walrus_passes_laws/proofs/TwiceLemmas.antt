@@ -1,6 +1,6 @@
 -- A second gc.
-use Rattle.std.proofs.Common.{◌≡◌, ◌∙◌, ◌⊎◌, ◌<◌, ℕ, false, List, [], ◌∷◌, Option, Some, None, Contains, length, refl, sym, ap, subst, inl, inr, arith}
-use Rattle.std.specs.Prelude.{◌++◌, IsSome, MatchOption, IfSome, slice_get}
+use Rattle.std.proofs.Common.{◌≡◌, ◌∙◌, ◌⊎◌, ◌<◌, ℕ, zero, suc, Bool, true, false, List, [], ◌∷◌, Option, Some, None, Contains, length, map, refl, sym, ap, subst, inl, inr, arith}
+use Rattle.std.specs.Prelude.{◌++◌, IsSome, MatchOption, IfSome, is_some, slice_get, if◌then◌else◌}
 use Rattle.std.specs.Option.{option_and_then}
 use Rattle.std.proofs.lemmas.Bool.{false≢true}
 use Rattle.wasm_formats.specs.declared.fault.Space.{Space}
@@ -8,7 +8,8 @@ use Rattle.wasm_formats.specs.declared.fault.Space.TheVariants as spaces
 use Rattle.walrus_arena.specs.Arena.{Arena, item_at, IsLive}
 use Rattle.walrus_items.specs.Items.{Item as TypeItem}
 use Rattle.walrus_items.specs.declared.local.Local.{Local}
-use Rattle.walrus_types.specs.Table.{Table as TypeTable, type_at}
+use Rattle.walrus_types.specs.Table.{Table as TypeTable, HasMember, type_at}
+use Rattle.walrus_types.proofs.DeleteLemmas.{filter-contains}
 use Rattle.walrus_forms.specs.Kinds.{kind_names}
 use Rattle.walrus_passes.specs.walrus_exact.Exact.{form_exact, table_exact, global_exact, element_exact, data_exact, val_exact}
 use Rattle.walrus_passes.specs.walrus_refusals.walrus_used.walrus_module_items.declared.global.Global.{Global}
@@ -26,7 +27,7 @@ use Rattle.walrus_passes.specs.walrus_refusals.walrus_used.walrus_module_items.d
 use Rattle.walrus_passes.specs.walrus_refusals.walrus_used.walrus_module_items.declared.element.ElementKind.TheVariants as elements
 use Rattle.walrus_passes.specs.walrus_refusals.walrus_used.walrus_module_items.Functions.{type_of}
 use Rattle.walrus_passes.specs.walrus_refusals.walrus_used.walrus_module.Parts.{Module}
-use Rattle.walrus_passes.specs.walrus_refusals.walrus_used.walrus_module.Items.{LivesIn, written, brought}
+use Rattle.walrus_passes.specs.walrus_refusals.walrus_used.walrus_module.Items.{Lives, LivesIn, written, brought}
 use Rattle.walrus_passes.specs.walrus_linked.Linked.{HasArguments, import_in}
 use Rattle.walrus_roots.specs.declared.item.Item.{Item}
 use Rattle.walrus_roots.specs.Items.{item, space_number}
@@ -36,9 +37,9 @@ use Rattle.walrus_passes.specs.walrus_refusals.walrus_used.walrus_references.Roo
 use Rattle.walrus_passes.specs.walrus_refusals.walrus_used.walrus_references.Kept.{IsReached, IsSpared, Kept}
 use Rattle.walrus_passes.specs.walrus_refusals.walrus_used.walrus_references.Refused.{IsTreeIn, HasTree}
 use Rattle.walrus_passes.specs.walrus_refusals.Asked.{Linked, IsBrought, IsWholeIn, HasBody}
-use Rattle.walrus_passes.specs.walrus_refusals.Sound.{IsSound}
+use Rattle.walrus_passes.specs.walrus_refusals.Sound.{AllReached, IsSound}
 use Rattle.walrus_passes.specs.walrus_refusals.Written.{MayName, StaysIn, IsUnsharedIn, HasNone, KindHasNone, HasNoExactIn}
-use Rattle.walrus_passes.specs.Part.{IsKeptPart, Rest}
+use Rattle.walrus_passes.specs.Part.{IsKeptPart, Rest, left_of}
 use Rattle.walrus_passes_laws.specs.Twice.{NothingToDrop, GcTwice}
 
 -- ---- one collection
@@ -84,6 +85,23 @@ some_then f (Some x) b h = refl
 
 same_space : (s : Space) (x y : Item) → x ≡ y → x.space ≡ y.space
 same_space s x y e = ap (λ (z : Item). z.space) e
+
+-- ---- what a type names
+type_there : (o : Option TypeItem) → IsSome (written o) → IsSome o
+type_there None h = h
+type_there (Some ty) h = refl
+
+in_map : (f : ℕ → Item) (xs : List ℕ) (x : ℕ) → Contains xs x → Contains (map f xs) (f x)
+in_map f [] x (k, less, at) = absurd (omega (arith, less))
+in_map f (y ∷ ys) x (zero, less, at) = (0, omega arith, ap f at)
+in_map f (y ∷ ys) x (suc k, less, at) = (let h = in_map f ys x (k, omega (arith, less), at) in (suc h.0, omega (arith, h.1), h.2))
+
+own_names : (ty : TypeItem) → IsSome (written (Some ty)) → (name : ℕ) → Contains (kind_names ty.kind) name → Contains (named_by type_items (written (Some ty))) (item spaces.Type name)
+own_names ty lives name c = by_entry ty.kind.entry lives
+  where
+    by_entry : (b : Bool) → IsSome (if b then None else Some ty) → Contains (named_by type_items (if b then None else Some ty)) (item spaces.Type name)
+    by_entry true h = absurd (false≢true h)
+    by_entry false h = in_map (item spaces.Type) (kind_names ty.kind) name c
 
 module _ (m n : Module) (pushed : List Item) (part : IsKeptPart m pushed n) where
   abbrev Stays : Space → ℕ → Type 0
@@ -332,28 +350,42 @@ module _ (m n : Module) (pushed : List Item) (part : IsKeptPart m pushed n) wher
   tree_on spaces.Label id k h = h
 
   -- ---- types in their order, and forms that stand in no file
-  may_name_on : (id name : ℕ) → Stays spaces.Type id → MayName m.types id name → MayName n.types id name
-  may_name_on id name k (inl e) = inl e
-  may_name_on id name k (inr h) = inr (group_forth id (item spaces.Type name) k h)
+  may_name_on : (id name : ℕ) → LivesIn n spaces.Type id → LivesIn n spaces.Type name → MayName m.types id name → MayName n.types id name
+  may_name_on id name live too (inl e) = inl e
+  may_name_on id name live too (inr (group, has, c)) =
+      let lives : ℕ → Bool = λ k. is_some (type_at n.types k) in
+      let there = type_there (type_at n.types id) live in
+      let here : HasMember n.types id (left_of n.types group) = record { place = has.place; live = part.types.rest has.place group has.live id has.listed there; listed = filter-contains lives group.types id has.listed there } in
+      inr (left_of n.types group, here, filter-contains lives group.types name c (type_there (type_at n.types name) too))
 
   abbrev NamesWithin : TypeTable → ℕ → Option TypeItem → Type 0
   NamesWithin t id o = MatchOption o (Unit {0}) (λ ty. (name : ℕ) → Contains (kind_names ty.kind) name → MayName t id name)
 
-  within_on : (id : ℕ) → Stays spaces.Type id → (o : Option TypeItem) → NamesWithin m.types id o → NamesWithin n.types id o
-  within_on id k None h = h
-  within_on id k (Some ty) h = λ name c. may_name_on id name k (h name c)
+  module _ (live : AllReached m pushed (Lives m)) where
+    lives_still : (id : ℕ) → IsReached m pushed (item spaces.Type id) → LivesIn n spaces.Type id
+    lives_still id r = lives_on spaces.Type id (inl r) (live (item spaces.Type id) r)
 
-  stays_on : (space : Space) (id : ℕ) → Stays space id → StaysIn m space id → StaysIn n space id
-  stays_on spaces.Type id k h = subst (NamesWithin n.types id) (sym (part.types.each id k)) (within_on id k (type_at m.types id) h)
-  stays_on spaces.Function id k h = h
-  stays_on spaces.Table id k h = h
-  stays_on spaces.Memory id k h = h
-  stays_on spaces.Tag id k h = h
-  stays_on spaces.Global id k h = h
-  stays_on spaces.Element id k h = h
-  stays_on spaces.Data id k h = h
-  stays_on spaces.Local id k h = h
-  stays_on spaces.Label id k h = h
+    -- what a reached type names is reached
+    name_reached : (id : ℕ) (ty : TypeItem) → type_at m.types id ≡ Some ty → IsReached m pushed (item spaces.Type id) → (name : ℕ) → Contains (kind_names ty.kind) name → IsReached m pushed (item spaces.Type name)
+    name_reached id ty at r name c =
+        let lives : IsSome (written (Some ty)) = subst (λ (o : Option TypeItem). IsSome (written o)) at (live (item spaces.Type id) r) in
+        refers r (inl (subst (λ (o : Option TypeItem). Contains (named_by type_items (written o)) (item spaces.Type name)) (sym at) (own_names ty lives name c)))
+
+    within_on : (id : ℕ) → IsReached m pushed (item spaces.Type id) → (o : Option TypeItem) → type_at m.types id ≡ o → NamesWithin m.types id o → NamesWithin n.types id o
+    within_on id r None at h = h
+    within_on id r (Some ty) at h = λ name c. may_name_on id name (lives_still id r) (lives_still name (name_reached id ty at r name c)) (h name c)
+
+  stays_on : AllReached m pushed (Lives m) → (space : Space) (id : ℕ) → IsReached m pushed (item space id) → StaysIn m space id → StaysIn n space id
+  stays_on live spaces.Type id r h = subst (NamesWithin n.types id) (sym (part.types.each id (inl r))) (within_on live id r (type_at m.types id) refl h)
+  stays_on live spaces.Function id r h = h
+  stays_on live spaces.Table id r h = h
+  stays_on live spaces.Memory id r h = h
+  stays_on live spaces.Tag id r h = h
+  stays_on live spaces.Global id r h = h
+  stays_on live spaces.Element id r h = h
+  stays_on live spaces.Data id r h = h
+  stays_on live spaces.Local id r h = h
+  stays_on live spaces.Label id r h = h
 
   unshared_on : (space : Space) (id : ℕ) → Stays space id → IsUnsharedIn m space id → IsUnsharedIn n space id
   unshared_on spaces.Type id k h = h
@@ -382,7 +414,7 @@ module _ (m n : Module) (pushed : List Item) (part : IsKeptPart m pushed n) wher
   linked_on : (x : Item) → IsReached m pushed x → Linked m x → Linked n x
   linked_on x r h = record {
     own = (subst (IsBrought n.imports x) (sym (import_same x.space x.id (inl r))) (brought_on x (inl r) (import_in m x.space x.id) h.own.0), whole_on x.space x.id r h.own.1);
-    claimed = λ i import at is. import_same x.space x.id (inl r) ∙ h.claimed i import (part.imports.only i import at) is;
+    named_back = λ i import at is. import_same x.space x.id (inl r) ∙ h.named_back i import (part.imports.only i import at) is;
   }
 
   pub nothing : IsSound m pushed → NothingToDrop m n pushed
@@ -391,7 +423,7 @@ module _ (m n : Module) (pushed : List Item) (part : IsKeptPart m pushed n) wher
       linked = λ x r. (let before = reached_back x r in linked_on x before (sound.linked x before));
       trees = λ x r. (let before = reached_back x r in tree_on x.space x.id (inl before) (sound.trees x before));
       live = λ x r. (let before = reached_back x r in lives_on x.space x.id (inl before) (sound.live x before));
-      grouped = λ x r. (let before = reached_back x r in stays_on x.space x.id (inl before) (sound.grouped x before));
+      grouped = λ x r. (let before = reached_back x r in stays_on sound.live x.space x.id before (sound.grouped x before));
       unshared = λ x r. (let before = reached_back x r in unshared_on x.space x.id (inl before) (sound.unshared x before));
       inexact = λ x r. (let before = reached_back x r in inexact_on x.space x.id (inl before) (sound.inexact x before));
     };

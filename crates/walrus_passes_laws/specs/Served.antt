@@ -1,23 +1,17 @@
 -- A linked module isn't refused.
-use Rattle.std.specs.Prelude.{◌≡◌, ℕ, true, List, Some, IsSome, Contains}
+use Rattle.std.specs.Prelude.{◌≡◌, List, Contains}
 use Rattle.wasm_formats.specs.declared.fault.Space.{Space}
 use Rattle.wasm_formats.specs.declared.fault.Space.TheVariants as spaces
-use Rattle.walrus_items.specs.Items.{Group}
-use Rattle.walrus_types.specs.Table.{Table as TypeTable, group_at}
 use Rattle.walrus_errors.specs.declared.error.ModuleError.{ModuleError}
 use Rattle.walrus_errors.specs.declared.error.ModuleError.TheVariants as refusals
 use Rattle.walrus_passes.specs.walrus_refusals.walrus_used.walrus_module.Parts.{Module}
-use Rattle.walrus_passes.specs.walrus_refusals.walrus_used.walrus_module.Items.{Lives, written_type}
+use Rattle.walrus_passes.specs.walrus_refusals.walrus_used.walrus_module.Items.{Lives}
 use Rattle.walrus_roots.specs.declared.item.Item.{Item}
 use Rattle.walrus_passes.specs.walrus_linked.Linked.{IsLinked}
 use Rattle.walrus_passes.specs.walrus_refusals.walrus_used.walrus_references.Refused.{FormsTree}
 use Rattle.walrus_passes.specs.walrus_refusals.Asked.{Linked}
 use Rattle.walrus_passes.specs.walrus_refusals.Sound.{AllReached, IsRefused}
 use Rattle.walrus_passes.specs.walrus_refusals.Written.{StaysInGroup, IsUnshared, HasNoExact}
-
--- no entry type is a member of an explicit group: none is ever put into one
-abbrev pub GroupsAreWritten : TypeTable → Type 0
-GroupsAreWritten t = (place : ℕ) (group : Group) → group_at t place ≡ Some group → group.explicit ≡ true → (id : ℕ) → Contains group.types id → IsSome (written_type t id)
 
 -- what custom sections push lives, and is no local, as `Roots` takes none
 abbrev pub PushesLive : Module → List Item → Type 0
@@ -37,7 +31,7 @@ pub record LinkedIsServed (m : Module) (pushed : List Item) : Type 0 where
   pub trees : AllReached m pushed (FormsTree m)
   pub not_unlinked : IsRefused m pushed refusals.NotLinked → ⊥
   pub not_treeless : IsRefused m pushed refusals.NoTree → ⊥
-  pub pushing_live : GroupsAreWritten m.types → PushesLive m pushed → LiveIsServed m pushed
+  pub pushing_live : PushesLive m pushed → LiveIsServed m pushed
 
 abbrev pub LinkedAreServed : Type 0
 LinkedAreServed = (m : Module) (pushed : List Item) → IsLinked m → LinkedIsServed m pushed

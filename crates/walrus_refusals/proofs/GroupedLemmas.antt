@@ -1,18 +1,15 @@
 -- Members of one group, told by the type with which it begins.
-use Rattle.std.proofs.Common.{◌≡◌, ◌∙◌, ◌<◌, ◌==◌, ◌&&◌, ◌+◌, ◌≤◌, ℕ, zero, suc, Bool, true, false, List, [], ◌∷◌, map, length, get_or, Option, Some, None, Contains, refl, sym, ap, subst, inl, inr, arith}
+use Rattle.std.proofs.Common.{◌≡◌, ◌∙◌, ◌<◌, ◌+◌, ◌≤◌, ℕ, zero, suc, Bool, true, false, List, [], ◌∷◌, map, length, get_or, Option, Some, None, Contains, refl, sym, ap, subst, inl, inr, arith}
 use Rattle.std.specs.Prelude.{Decides, MatchOption}
 use Rattle.std.specs.Option.{option_map}
 use Rattle.std.proofs.lemmas.List.{get_or_default}
 use Rattle.std.proofs.lemmas.Bool.{cases_eq, eq-eqb, eqb-true, false≢true}
-use Rattle.wasm_formats.specs.declared.fault.Space.TheVariants as spaces
-use Rattle.walrus_items.specs.Items.{Item as TypeItem, Group}
+use Rattle.walrus_items.specs.Items.{Group}
 use Rattle.walrus_types.specs.Table.{Table, type_at, group_at, HasMember}
 use Rattle.walrus_types.specs.TypeLaws.{AreGrouped}
-use Rattle.walrus_roots.specs.declared.item.Item.{Item}
-use Rattle.walrus_roots.specs.Items.{item}
-use Rattle.walrus_used.specs.walrus_references.References.{IsInGroup}
 use Rattle.walrus_used.proofs.LooksLemmas.{none_in, first_in}
 use Rattle.walrus_refusals.specs.Grouped.{begin_alike, are_one}
+use Rattle.walrus_refusals.specs.Written.{AreInOneGroup}
 
 at_mapped : {A B : Type 0} (f : A → B) (xs : List A) (k : ℕ) (d : A) → get_or (map f xs) k (f d) ≡ f (get_or xs k d)
 at_mapped f [] k d = refl
@@ -27,9 +24,6 @@ sized_mapped f (x ∷ xs) = ap suc (sized_mapped f xs)
 pub in_mapped : {A B : Type 0} (f : A → B) (xs : List A) (x : A) → Contains xs x → Contains (map f xs) (f x)
 in_mapped f xs x c = (c.0, omega (arith, c.1, sized_mapped f xs), at_mapped f xs c.0 x ∙ ap f c.2)
 
-pub member_of : (ids : List ℕ) (id : ℕ) → Contains (map (item spaces.Type) ids) (item spaces.Type id) → Contains ids id
-member_of ids id c = (c.0, omega (arith, c.1, sized_mapped (item spaces.Type) ids), sym (ap (λ (x : Item). x.id) (at_mapped (item spaces.Type) ids c.0 id)) ∙ ap (λ (x : Item). x.id) c.2)
-
 -- ---- two lists that begin alike
 begun_by : (ids others : List ℕ) → begin_alike ids others ≡ true → (a : ℕ) × Contains ids a × Contains others a
 begun_by [] others e = absurd (false≢true e)
@@ -39,10 +33,6 @@ begun_by (a ∷ ids) (b ∷ others) e = (a, first_in a ids, subst (λ k. Contain
 alike_itself : (ids : List ℕ) (a : ℕ) → Contains ids a → begin_alike ids ids ≡ true
 alike_itself [] a c = absurd (none_in a c)
 alike_itself (b ∷ ids) a c = eq-eqb b b refl
-
-both : (a b : Bool) → (a && b) ≡ true → (a ≡ true) × (b ≡ true)
-both true b e = (refl, e)
-both false b e = absurd (false≢true e)
 
 same_some : {A : Type 0} (o : Option A) (x y : A) → o ≡ Some x → o ≡ Some y → x ≡ y
 same_some o x y p q = (let one : Some x ≡ Some y = sym p ∙ q in cc)
@@ -58,39 +48,38 @@ module _ (t : Table) (grouped : AreGrouped t) where
   dead_member id g has dead = (let live = grouped.live has.place g has.live id has.listed in let no : None ≡ Some live.0 = sym dead ∙ live.1 in absurd cc)
 
   module _ (id name : ℕ) where
-    member : (g : Group) → HasMember t id g → Contains (map (item spaces.Type) g.types) (item spaces.Type name) → HasMember t name g
-    member g has c = record { place = has.place; live = has.live; listed = member_of g.types name c }
+    member : (g : Group) → HasMember t id g → Contains g.types name → HasMember t name g
+    member g has c = record { place = has.place; live = has.live; listed = c }
 
-    none_here : type_at t id ≡ None → Decides false (IsInGroup t id (item spaces.Type name))
+    none_here : type_at t id ≡ None → Decides false (AreInOneGroup t id name)
     none_here dead = (λ e. absurd (false≢true e), λ i. absurd (dead_member id i.0 i.1 dead))
 
-    none_there : type_at t name ≡ None → Decides false (IsInGroup t id (item spaces.Type name))
-    none_there dead = (λ e. absurd (false≢true e), λ i. absurd (dead_member name i.0 (member i.0 i.1 i.3) dead))
+    none_there : type_at t name ≡ None → Decides false (AreInOneGroup t id name)
+    none_there dead = (λ e. absurd (false≢true e), λ i. absurd (dead_member name i.0 (member i.0 i.1 i.2) dead))
 
     module _ (g h : Group) (has : HasMember t id g) (other : HasMember t name h) where
-      there : (g.explicit && begin_alike g.types h.types) ≡ true → IsInGroup t id (item spaces.Type name)
+      there : begin_alike g.types h.types ≡ true → AreInOneGroup t id name
       there so =
-          let parts = both g.explicit (begin_alike g.types h.types) so in
-          let begun = begun_by g.types h.types parts.1 in
+          let begun = begun_by g.types h.types so in
           let same : g ≡ h = one_group begun.0 g h has.place other.place has.live begun.1 other.live begun.2 in
-          (g, has, parts.0, in_mapped (item spaces.Type) g.types name (subst (λ (k : Group). Contains k.types name) (sym same) other.listed))
+          (g, has, subst (λ (k : Group). Contains k.types name) (sym same) other.listed)
 
-      so_if : (k : Group) → g ≡ k → h ≡ k → k.explicit ≡ true → HasMember t id k → (g.explicit && begin_alike g.types h.types) ≡ true
-      so_if k e f ex in_it = rw e (rw f (rw ex (alike_itself k.types id in_it.listed)))
+      so_if : (k : Group) → g ≡ k → h ≡ k → HasMember t id k → begin_alike g.types h.types ≡ true
+      so_if k e f in_it = rw e (rw f (alike_itself k.types id in_it.listed))
 
-      so_there : IsInGroup t id (item spaces.Type name) → (g.explicit && begin_alike g.types h.types) ≡ true
+      so_there : AreInOneGroup t id name → begin_alike g.types h.types ≡ true
       so_there i =
-          let too = member i.0 i.1 i.3 in
-          so_if i.0 (one_group id g i.0 has.place i.1.place has.live has.listed i.1.live i.1.listed) (one_group name h i.0 other.place too.place other.live other.listed too.live too.listed) i.2 i.1
+          let too = member i.0 i.1 i.2 in
+          so_if i.0 (one_group id g i.0 has.place i.1.place has.live has.listed i.1.live i.1.listed) (one_group name h i.0 other.place too.place other.live other.listed too.live too.listed) i.1
 
-      told : (b : Bool) → b ≡ (g.explicit && begin_alike g.types h.types) → Decides b (IsInGroup t id (item spaces.Type name))
+      told : (b : Bool) → b ≡ begin_alike g.types h.types → Decides b (AreInOneGroup t id name)
       told b is = (λ e. there (sym is ∙ e), λ i. is ∙ so_there i)
 
     -- what is told of the groups of both, where they have one
     pub decided : {X : Type 0} (f : X → Group) (a b : Option X) → MatchOption a (type_at t id ≡ None) (λ g. HasMember t id (f g)) → MatchOption b (type_at t name ≡ None) (λ h. HasMember t name (f h))
-        → (r : Bool) → r ≡ are_one (option_map f a) (option_map f b) → Decides r (IsInGroup t id (item spaces.Type name))
-    decided f None b dead other r is = subst (λ r. Decides r (IsInGroup t id (item spaces.Type name))) (sym is) (none_here dead)
-    decided f (Some g) None has dead r is = subst (λ r. Decides r (IsInGroup t id (item spaces.Type name))) (sym is) (none_there dead)
+        → (r : Bool) → r ≡ are_one (option_map f a) (option_map f b) → Decides r (AreInOneGroup t id name)
+    decided f None b dead other r is = subst (λ r. Decides r (AreInOneGroup t id name)) (sym is) (none_here dead)
+    decided f (Some g) None has dead r is = subst (λ r. Decides r (AreInOneGroup t id name)) (sym is) (none_there dead)
     decided f (Some g) (Some h) has other r is = told (f g) (f h) has other r is
 
 -- ---- what holds of the first of a list

@@ -29,7 +29,7 @@ use Rattle.walrus_linked.specs.walrus_module.Items.{Lives, LivesIn}
 use Rattle.walrus_used.specs.walrus_references.Refused.{FormsTree, HasTree, IsTreeIn}
 use Rattle.walrus_used.specs.Counts.{counts_of}
 use Rattle.walrus_used.proofs.CountLemmas.{lives_fit}
-use Rattle.walrus_refusals.specs.Asked.{Linked, IsOwnLinked, IsBrought, IsWholeIn, IsClaimed}
+use Rattle.walrus_refusals.specs.Asked.{Linked, IsOwnLinked, IsBrought, IsWholeIn, IsNamedBack}
 use Rattle.walrus_linked.specs.walrus_module.Items.{brought}
 use Rattle.walrus_refusals.specs.Checks.{IsMet, IsWell, AreClaims, AreLinked, HoldsMet, HoldsOrFails, AllClaimTruly, AreInexact, AreWell, FailsIn, HasMetForm}
 use Rattle.walrus_refusals.specs.Sound.{AllReached, HasForm, IsSound, Stands}
@@ -149,7 +149,7 @@ module _ (m : Module) where
         | inr past ↦ none_past s.missing.item refl missed h.missing x r ((claims x).1 (past, (i, some_below m.imports i import at, subst (λ (o : Option Import). MatchOption o ⊥ (λ import. brought import.kind ≡ x)) (sym at) is)))
       ]
 
-      claims_from : AllClaimTruly m s → misses_claimed s.missing ≡ false → (x : Item) → IsReached m pushed x → IsClaimed m x
+      claims_from : AllClaimTruly m s → misses_claimed s.missing ≡ false → (x : Item) → IsReached m pushed x → IsNamedBack m x
       claims_from all missed x r i import at is =
           let met : IsMet s (brought import.kind) = subst (IsMet s) (sym is) (reached_met x r (claimed_fits missed x r i import at is)) in
           subst (λ y. import_in m y.space y.id ≡ Some i) is (all i import at met)
@@ -157,25 +157,25 @@ module _ (m : Module) where
       pub linked_from : AreLinked m s → AllReached m pushed (Linked m)
       linked_from all x r = record {
         own = all_of (IsOwnLinked m) own_past (λ y high. own_high y.space y.id high) all.0 x r;
-        claimed = claims_from all.1 all.2 x r;
+        named_back = claims_from all.1 all.2 x r;
       }
 
       -- the import that brings an item that wasn't given out isn't named by it
-      unnamed : (j : Item) → (FitsIn (counts_of m) j → ⊥) → (i : ℕ) (o : Option Import) → item_at m.imports i ≡ o → MatchOption o ⊥ (λ import. brought import.kind ≡ j) → IsClaimed m j → ⊥
-      unnamed j past i None at is claimed = is
-      unnamed j past i (Some import) at is claimed = (let none : None ≡ Some i = sym (import_past j.space j.id past) ∙ claimed i import at is in cc)
+      unnamed : (j : Item) → (FitsIn (counts_of m) j → ⊥) → (i : ℕ) (o : Option Import) → item_at m.imports i ≡ o → MatchOption o ⊥ (λ import. brought import.kind ≡ j) → IsNamedBack m j → ⊥
+      unnamed j past i None at is named = is
+      unnamed j past i (Some import) at is named = (let none : None ≡ Some i = sym (import_past j.space j.id past) ∙ named i import at is in cc)
 
       none_missed : AllReached m pushed (Linked m) → (o : Option Item) → Lacks (counts_of m) (Root m pushed) (Refers m) (record { item = o; claimed = s.missing.claimed }) → are_missed s.missing.claimed o ≡ false
       none_missed all None one = refl
       none_missed all (Some j) one = elim (claimed_or_not s.missing.claimed j) as (λ _. is_claimed s.missing.claimed j ≡ false) [
-        | inl is ↦ (let by = ((claims j).0 is).1 in absurd (unnamed j one.1 by.0 (item_at m.imports by.0) refl by.2 (all j one.0).claimed))
+        | inl is ↦ (let by = ((claims j).0 is).1 in absurd (unnamed j one.1 by.0 (item_at m.imports by.0) refl by.2 (all j one.0).named_back))
         | inr not ↦ not
       ]
 
       pub linked_met : AllReached m pushed (Linked m) → AreLinked m s
       linked_met all = (
         λ x low met. (all x (met_reached x met)).own,
-        λ i import at met. (all (brought import.kind) (met_reached (brought import.kind) met)).claimed i import at refl,
+        λ i import at met. (all (brought import.kind) (met_reached (brought import.kind) met)).named_back i import at refl,
         none_missed all s.missing.item h.missing,
       )
 

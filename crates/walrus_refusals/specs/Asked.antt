@@ -32,10 +32,10 @@ abbrev pub IsOwnLinked : Module → Item → Type 0
 IsOwnLinked m x = IsBrought m.imports x (import_in m x.space x.id) × IsWholeIn m x.space x.id
 
 -- what imports say of an item: each that brings it is named by it
-abbrev pub IsClaimed : Module → Item → Type 0
-IsClaimed m x = (i : ℕ) (import : Import) → item_at m.imports i ≡ Some import → brought import.kind ≡ x → import_in m x.space x.id ≡ Some i
+abbrev pub IsNamedBack : Module → Item → Type 0
+IsNamedBack m x = (i : ℕ) (import : Import) → item_at m.imports i ≡ Some import → brought import.kind ≡ x → import_in m x.space x.id ≡ Some i
 
 -- an item and the imports that bring it name each other, and a function is imported or has a body of its arguments
 pub record Linked (m : Module) (x : Item) : Type 0 where
   pub own : IsOwnLinked m x
-  pub claimed : IsClaimed m x
+  pub named_back : IsNamedBack m x

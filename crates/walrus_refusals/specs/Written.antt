@@ -4,9 +4,9 @@ use Rattle.wasm_formats.specs.declared.fault.Space.{Space}
 use Rattle.wasm_formats.specs.declared.fault.Space.TheVariants as spaces
 use Rattle.walrus_arena.specs.Arena.{item_at}
 use Rattle.walrus_forms.specs.Kinds.{kind_names}
-use Rattle.walrus_items.specs.Items.{Item as TypeItem}
+use Rattle.walrus_items.specs.Items.{Item as TypeItem, Group}
 use Rattle.walrus_items.specs.declared.local.Local.{Local}
-use Rattle.walrus_types.specs.Table.{Table as TypeTable, type_at}
+use Rattle.walrus_types.specs.Table.{Table as TypeTable, HasMember, type_at}
 use Rattle.walrus_instr.specs.declared.seq.InstrSeq.{InstrSeq}
 use Rattle.walrus_builder.specs.Functions.{seqs_of}
 use Rattle.walrus_linked.specs.walrus_module_items.declared.function.Function.{Function}
@@ -17,13 +17,16 @@ use Rattle.walrus_linked.specs.walrus_module_items.declared.data.Data.{Data}
 use Rattle.walrus_exact.specs.Exact.{form_exact, seq_exact, table_exact, global_exact, element_exact, data_exact, val_exact}
 use Rattle.walrus_linked.specs.walrus_module.Parts.{Module}
 use Rattle.walrus_roots.specs.declared.item.Item.{Item}
-use Rattle.walrus_roots.specs.Items.{item}
-use Rattle.walrus_used.specs.walrus_references.References.{Reaches, IsInGroup}
+use Rattle.walrus_used.specs.walrus_references.References.{Reaches}
 
 -- ---- types in their order
--- the type may name the other: one that stands no later, or a member of its explicit group
+-- the two are members of one group, whether it is explicit or not
+abbrev pub AreInOneGroup : TypeTable → ℕ → ℕ → Type 0
+AreInOneGroup t id name = (group : Group) × HasMember t id group × Contains group.types name
+
+-- the type may name the other: one that stands no later, or a member of its group
 abbrev pub MayName : TypeTable → ℕ → ℕ → Type 0
-MayName t id name = (name ≤ id) ⊎ IsInGroup t id (item spaces.Type name)
+MayName t id name = (name ≤ id) ⊎ AreInOneGroup t id name
 
 abbrev pub NamesNoLater : TypeTable → ℕ → Type 0
 NamesNoLater t id = MatchOption (type_at t id) (Unit {0}) (λ (ty : TypeItem). (name : ℕ) → Contains (kind_names ty.kind) name → MayName t id name)

@@ -1,13 +1,10 @@
 //! Types name none past their own groups.
 ghost use Rattle.std.specs.Prelude.{◌≡◌, Contains, Decides, IfOk, ℕ};
 ghost use Rattle.std.specs.Option.{option_map};
-ghost use Rattle.wasm_formats.specs.declared.fault.Space.TheVariants as spaces;
 ghost use Rattle.walrus_items.specs.Items.{group_of};
 ghost use Rattle.walrus_linked.specs.walrus_module.Parts.{parts};
-ghost use Rattle.walrus_roots.specs.Items.{item};
-ghost use Rattle.walrus_used.specs.walrus_references.References.{IsInGroup};
 ghost use Rattle.walrus_refusals.specs.Grouped.{are_one, begin_alike};
-ghost use Rattle.walrus_refusals.specs.Written.{MayName, NamesNoLater, StaysInGroup};
+ghost use Rattle.walrus_refusals.specs.Written.{AreInOneGroup, MayName, NamesNoLater, StaysInGroup};
 
 use std::alloc::{AllocError, Global};
 use walrus_arena::TypeId;
@@ -28,21 +25,19 @@ fn begin_alike(ids: &[TypeId], others: &[TypeId]) -> bool
     }
 }
 
-// Whether both are there, are explicit, and are one.
+// Whether both are there and are one.
 fn are_one(group: Option<&RecGroup>, other: Option<&RecGroup>) -> bool
     ensures { result ≡ are_one (option_map (λ g. group_of g.now) group.entry) (option_map (λ g. group_of g.now) other.entry) }
 {
     match (group, other) {
-        (Some(group), Some(other)) => {
-            group.is_explicit() && begin_alike(group.types.as_slice(), other.types.as_slice())
-        }
+        (Some(group), Some(other)) => begin_alike(group.types.as_slice(), other.types.as_slice()),
         _ => false,
     }
 }
 
-// Whether the other is a member of the type's explicit group.
+// Whether the other is a member of the type's group.
 fn is_in_group(types: &ModuleTypes, id: TypeId, name: TypeId) -> bool
-    ensures { Decides result (IsInGroup types.now id (item spaces.Type name)) }
+    ensures { Decides result (AreInOneGroup types.now id name) }
 {
     walrus_types::laws::types_are_grouped(types);
     are_one(types.rec_group_for_type(id), types.rec_group_for_type(name))

@@ -147,6 +147,7 @@ module _ (P : InstrLocId → InstrLocId → Type 0) where
       imported = λ x i e. l.imported x i (sym (imports_stay x.space x.id) ∙ e);
       whole = λ f function e. whole_slot m.types (item_at m.funcs f) (item_at functions f) (shifted_at f) (l.whole f) function e;
       named = λ x y lx has. live_on y.space y.id (l.named x y (lived x.space x.id lx) (subst (λ (items : List Item). Contains items y) (all_names_stay x.space x.id) has));
+      grouped = l.grouped;
       exported = λ e export at. live_on (given_out export.item).space (given_out export.item).id (l.exported e export at);
       started = λ f e. live_on spaces.Function f (l.started f e);
     }
