@@ -1,7 +1,7 @@
 -- What is written behind what was written.
-use Rattle.std.proofs.Common.{ℕ, ◌+◌, ◌<◌, ◌≡◌, drop, get_or, take, Bool, true, false, List, [], ◌∷◌, ◌++◌, length, Option, Some, None, Ok, Err, refl, sym, ap, arith, ◌∙◌, length-append}
+use Rattle.std.proofs.Common.{ℕ, ◌+◌, ◌≡◌, Bool, true, false, List, [], ◌∷◌, ◌++◌, length, Option, Some, None, Ok, Err, refl, sym, ap, arith, ◌∙◌, length-append}
 use Rattle.std.specs.Prelude.{if◌then◌else◌}
-use Rattle.std.proofs.lemmas.List.{append-nil, append_assoc, drop_more}
+use Rattle.std.proofs.lemmas.List.{append-nil, append_assoc}
 use Rattle.walrus_tree.specs.walrus_walks.walrus_instr.declared.seq.InstrLocId.{InstrLocId}
 use Rattle.walrus_tree.specs.walrus_walks.walrus_instr.declared.seq.InstrSeq.{InstrSeq}
 use Rattle.walrus_tree.specs.Text.{Piece}
@@ -100,27 +100,6 @@ wrote_same look b t old mid new w s = record { bytes = s.bytes ∙ w.bytes; plac
 pub record Fronts (old new : Pairs) : Type 0 where
   pub more : Pairs
   pub is : new ≡ old ++ more
-
-take_front : (xs ys : Pairs) → take (length xs) (xs ++ ys) ≡ xs
-take_front [] ys = refl
-take_front (x ∷ xs) ys = ap (λ (z : Pairs). x ∷ z) (take_front xs ys)
-
-pub front_taken : (old new : Pairs) → Fronts old new → take (length old) new ≡ old
-front_taken old new f = ap (take (length old)) f.is ∙ take_front old f.more
-
-pub front_same : (old : Pairs) → Fronts old old
-front_same old = record { more = []; is = sym (append-nil old) }
-
-pub front_more : (old mid new : Pairs) (p : InstrLocId × ℕ) → Fronts old mid → new ≡ mid ++ p ∷ [] → Fronts old new
-front_more old mid new p f e = record { more = f.more ++ p ∷ []; is = e ∙ ap (λ (z : Pairs). z ++ p ∷ []) f.is ∙ append_assoc old f.more (p ∷ []) }
-
--- one place more
-pub moved_more : (by : ℕ) (mid new all more : Pairs) (n : ℕ) (p : InstrLocId × ℕ) → n < length more → p ≡ get_or more n p → new ≡ mid ++ (p.0, by + p.1) ∷ [] → mid ++ moved by (drop n more) ≡ all
-    → new ++ moved by (drop (n + 1) more) ≡ all
-moved_more by mid new all more n p l e put before =
-    let rest = moved by (drop (n + 1) more) in
-    let here : drop n more ≡ p ∷ drop (n + 1) more = drop_more more n p l ∙ ap (λ (y : InstrLocId × ℕ). y ∷ drop (n + 1) more) (sym e) in
-    ap (λ (z : Pairs). z ++ rest) put ∙ append_assoc mid ((p.0, by + p.1) ∷ []) rest ∙ ap (λ (z : Pairs). mid ++ moved by z) (sym here) ∙ before
 
 moved_append : (by : ℕ) (xs ys : Pairs) → moved by (xs ++ ys) ≡ moved by xs ++ moved by ys
 moved_append by [] ys = refl

@@ -6,7 +6,7 @@ use Rattle.std.proofs.lemmas.Bool.{lt-ltb, ltb-true, false≢true, cases_lt}
 use Rattle.std.proofs.lemmas.List.{get_or_past}
 use Rattle.std.proofs.lemmas.List.Elements.{Contains-push, Contains-push_cases, Contains-append_left}
 use Rattle.walrus_roots.specs.declared.item.Item.{Item}
-use Rattle.walrus_marks.specs.Marks.{Met, Missing, State, in_place, is_claimed, meet, meet_there, miss, has_flag, mark, is_marked, is_new, Fits, flags_of, left_out}
+use Rattle.walrus_marks.specs.Marks.{Met, Missing, State, kept_missing, is_claimed, meet, meet_there, miss, has_flag, mark, is_marked, is_new, Fits, flags_of, left_out}
 use Rattle.walrus_marks.proofs.FlagLemmas.{told_apart}
 use Rattle.walrus_marks.proofs.MarkLemmas.{contains_first, contains_later, contains_cases, IsMarked, marked_itself, marked_before, marked_still, flags_sized, one_less}
 
@@ -120,11 +120,11 @@ one_kept true j f e = (let h : Some j ≡ None = e in cc)
 one_kept false j f e = (let h : Some f ≡ None = e in cc)
 
 module _ (claimed : List (List ℕ)) where
-  placed : (o : Option Item) (f i : Item) → in_place claimed o f ≡ Some i → (o ≡ Some i) ⊎ (f ≡ i)
+  placed : (o : Option Item) (f i : Item) → kept_missing claimed o f ≡ Some i → (o ≡ Some i) ⊎ (f ≡ i)
   placed None f i e = inr (let h : Some f ≡ Some i = e in cc)
   placed (Some j) f i e = chosen (is_claimed claimed j) j f i e
 
-  never_none : (o : Option Item) (f : Item) → in_place claimed o f ≡ None → ⊥
+  never_none : (o : Option Item) (f : Item) → kept_missing claimed o f ≡ None → ⊥
   never_none None f e = (let h : Some f ≡ None = e in cc)
   never_none (Some j) f e = one_kept (is_claimed claimed j) j f e
 
@@ -133,7 +133,7 @@ module _ (claimed : List (List ℕ)) where
   neither_chosen false k f is none = (none f refl, is)
 
   -- where what is kept isn't claimed, neither of the two is
-  by_place : (o : Option Item) (f : Item) → ((j : Item) → in_place claimed o f ≡ Some j → is_claimed claimed j ≡ false) → (is_claimed claimed f ≡ false) × ((j : Item) → o ≡ Some j → is_claimed claimed j ≡ false)
+  by_place : (o : Option Item) (f : Item) → ((j : Item) → kept_missing claimed o f ≡ Some j → is_claimed claimed j ≡ false) → (is_claimed claimed f ≡ false) × ((j : Item) → o ≡ Some j → is_claimed claimed j ≡ false)
   by_place None f none = (none f refl, λ j e. absurd (let h : None ≡ Some j = e in cc))
   by_place (Some k) f none = (let both = neither_chosen (is_claimed claimed k) k f refl none in (both.0, λ j e. (let same : k ≡ j = (let h : Some k ≡ Some j = e in cc) in subst (λ (x : Item). is_claimed claimed x ≡ false) same both.1)))
 

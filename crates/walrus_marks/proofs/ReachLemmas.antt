@@ -1,6 +1,6 @@
 -- What is reached is what the loop marks.
 use Rattle.std.proofs.Common.{◌≡◌, ◌∙◌, ◌⊎◌, ◌+◌, ◌<◌, ℕ, zero, suc, List, Bool, true, false, [], ◌∷◌, ◌++◌, length, get_or, map, Some, None, Option, Contains, refl, sym, ap, subst, inl, inr, arith, length-append}
-use Rattle.std.specs.Prelude.{replicate, ◌↔◌, IsTrue, MatchOption}
+use Rattle.std.specs.Prelude.{replicate, ◌↔◌, IsTrue}
 use Rattle.std.specs.List.{fold}
 use Rattle.std.proofs.lemmas.List.{get_or-replicate, get_or_past, length-replicate}
 use Rattle.std.proofs.lemmas.List.Elements.{Contains-push, Contains-push_cases, Contains-append_left}

@@ -41,22 +41,22 @@ pub record Missing : Type 0 where
 abbrev pub is_claimed : List (List ℕ) → Item → Bool
 is_claimed claimed i = list_any (nat_eq i.id) (slice_index_or claimed (space_number i.space) [])
 
--- one more without a flag stands for the one before, but for a claimed one
-abbrev pub in_place : List (List ℕ) → Option Item → Item → Option Item
-in_place claimed None i = Some i
-in_place claimed (Some j) i = if is_claimed claimed j then Some j else Some i
+-- which of two without a flag is kept: the one before, if it is claimed, else this one
+abbrev pub kept_missing : List (List ℕ) → Option Item → Item → Option Item
+kept_missing claimed None i = Some i
+kept_missing claimed (Some j) i = if is_claimed claimed j then Some j else Some i
 
 abbrev pub miss : Missing → Item → Missing
-miss s i = record { item = in_place s.claimed s.item i; claimed = s.claimed }
+miss s i = record { item = kept_missing s.claimed s.item i; claimed = s.claimed }
 
--- the item is a claimed one
-abbrev pub are_missed : List (List ℕ) → Option Item → Bool
-are_missed claimed None = false
-are_missed claimed (Some i) = is_claimed claimed i
+-- the item is there and is claimed
+abbrev pub is_one_claimed : List (List ℕ) → Option Item → Bool
+is_one_claimed claimed None = false
+is_one_claimed claimed (Some i) = is_claimed claimed i
 
 -- a claimed one was met without a flag
 abbrev pub misses_claimed : Missing → Bool
-misses_claimed m = are_missed m.claimed m.item
+misses_claimed m = is_one_claimed m.claimed m.item
 
 -- what was met
 pub record State : Type 0 where

@@ -1,7 +1,7 @@
 //! The items that were met.
 ghost use Rattle.std.specs.Prelude.{◌≡◌, ◌+◌, ◌<◌, ◌≤◌, ◌++◌, ◌∷◌, [], true, false, not, None, IfOk, length, map, MatchOption, replicate, slice_index_or, vec_capacity, vec_len};
 ghost use Rattle.walrus_roots.specs.Items.{item};
-ghost use Rattle.walrus_marks.specs.Marks.{flags_of, in_place, is_marked, left_out, meet, met_none, misses_claimed};
+ghost use Rattle.walrus_marks.specs.Marks.{flags_of, kept_missing, is_marked, left_out, meet, met_none, misses_claimed};
 
 use crate::claims::Claims;
 use std::alloc::{AllocError, Global};
@@ -59,7 +59,7 @@ fn is_set(flags: &[bool], id: usize) -> bool
 
 // Keeps an item that has no flag, but where a claimed one is kept.
 fn miss(missing: &mut Option<Item>, claims: &Claims, item: Item)
-    ensures { missing.new ≡ in_place claims.now missing.old «item» }
+    ensures { missing.new ≡ kept_missing claims.now missing.old «item» }
 {
     if let Some(known) = *missing {
         if claims.contains(known) {

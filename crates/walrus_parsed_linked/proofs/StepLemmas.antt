@@ -2,7 +2,7 @@
 use Rattle.std.specs.Prelude.{ℕ, suc, ◌≡◌, ◌<◌, ◌≤◌, ◌+◌, Bool, true, false, List, [], ◌∷◌, Contains, length, map, Option, Some, None, IfSome, slice_get, refl, if◌then◌else◌}
 use Rattle.std.proofs.Common.{ap, sym, ◌∙◌, subst, arith}
 use Rattle.std.proofs.lemmas.List.{length-append}
-use Rattle.std.proofs.lemmas.Option.{get_or_from_slice_get, slice_get_within}
+use Rattle.std.proofs.lemmas.Option.{get_or_from_slice_get}
 use Rattle.walrus_handler_types.specs.walrus_body_steps.wasm_body_grammar.Bodies.{Parts, body, body_of, declared}
 use Rattle.walrus_handler_types.specs.walrus_body_steps.wasm_body_grammar.Rules.{Around, space_of}
 use Rattle.walrus_parsed_locals.specs.walrus_parsed_bodies.walrus_parsed_items.walrus_into_laws.walrus_meaning.walrus_linked.walrus_body_writer.walrus_pairing.wasm_immediates.wasm_features.declared.WasmFeatures.{WasmFeatures}
@@ -52,7 +52,7 @@ use Rattle.walrus_parsed_locals.specs.walrus_parsed_bodies.walrus_parsed_items.w
 use Rattle.walrus_parsed_locals.specs.walrus_parsed_bodies.walrus_parsed_items.walrus_parse.walrus_file_bodies.walrus_items_into.walrus_tables_into.walrus_sections.walrus_roots.declared.item.Item.{Item}
 use Rattle.walrus_types.specs.Items.{Item as TypeItem}
 use Rattle.walrus_types.specs.Table.{Table, type_at}
-use Rattle.walrus_parsed_locals.proofs.walrus_parsed_bodies.walrus_parsed_items.ListLemmas.{AllOf, all_contains, get_some, some_is}
+use Rattle.walrus_parsed_locals.proofs.walrus_parsed_bodies.walrus_parsed_items.ListLemmas.{AllOf, all_contains, get_some}
 use Rattle.walrus_parsed_locals.proofs.walrus_parsed_bodies.walrus_parsed_items.ValueLemmas.{value_served}
 use Rattle.walrus_parsed_linked.proofs.LocalLemmas.{GoodLocal, NamesBelow, adds_below, adds_good, adds_many, values_good}
 use Rattle.walrus_parsed_linked.proofs.TableLemmas.{gives_closed, merges_closed, picked_good}

@@ -17,7 +17,7 @@ use Rattle.walrus_linked.specs.walrus_module.Parts.{Module}
 use Rattle.walrus_linked.specs.Linked.{import_in}
 use Rattle.walrus_roots.specs.declared.item.Item.{Item}
 use Rattle.walrus_roots.specs.Items.{item, space_number}
-use Rattle.walrus_marks.specs.Marks.{State, are_missed, is_claimed, misses_claimed}
+use Rattle.walrus_marks.specs.Marks.{State, is_one_claimed, is_claimed, misses_claimed}
 use Rattle.walrus_marks.proofs.MetLemmas.{claimed_or_not}
 use Rattle.walrus_marks.specs.Chains.{FitsIn, Lacks}
 use Rattle.walrus_used.specs.Asked.{AllHold}
@@ -138,7 +138,7 @@ module _ (m : Module) where
 
     module _ (claims : AreClaims m s.missing.claimed) where
       -- an item that wasn't given out and that an import brings isn't reached, where none that is claimed is missed
-      none_past : (o : Option Item) → s.missing.item ≡ o → are_missed s.missing.claimed o ≡ false → Lacks (counts_of m) (Root m pushed) (Refers m) (record { item = o; claimed = s.missing.claimed })
+      none_past : (o : Option Item) → s.missing.item ≡ o → is_one_claimed s.missing.claimed o ≡ false → Lacks (counts_of m) (Root m pushed) (Refers m) (record { item = o; claimed = s.missing.claimed })
           → (x : Item) → IsReached m pushed x → IsTrue (is_claimed s.missing.claimed x) → FitsIn (counts_of m) x
       none_past None is missed all x r claimed = all x r
       none_past (Some j) is missed one x r claimed = elim one.2 as (λ _. FitsIn (counts_of m) x) [ inl is ↦ absurd (false≢true (sym missed ∙ is)) | inr all ↦ all x r claimed ]
@@ -165,7 +165,7 @@ module _ (m : Module) where
       unnamed j past i None at is named = is
       unnamed j past i (Some import) at is named = (let none : None ≡ Some i = sym (import_past j.space j.id past) ∙ named i import at is in cc)
 
-      none_missed : AllReached m pushed (Linked m) → (o : Option Item) → Lacks (counts_of m) (Root m pushed) (Refers m) (record { item = o; claimed = s.missing.claimed }) → are_missed s.missing.claimed o ≡ false
+      none_missed : AllReached m pushed (Linked m) → (o : Option Item) → Lacks (counts_of m) (Root m pushed) (Refers m) (record { item = o; claimed = s.missing.claimed }) → is_one_claimed s.missing.claimed o ≡ false
       none_missed all None one = refl
       none_missed all (Some j) one = elim (claimed_or_not s.missing.claimed j) as (λ _. is_claimed s.missing.claimed j ≡ false) [
         | inl is ↦ (let by = ((claims j).0 is).1 in absurd (unnamed j one.1 by.0 (item_at m.imports by.0) refl by.2 (all j one.0).named_back))
@@ -246,7 +246,7 @@ module _ (m : Module) where
     pub well_sound : AreClaims m s.missing.claimed → AreWell m s → IsSound m pushed
     well_sound claims w =
         let stand = all_stand w.flagged (λ x low met. (w.items x met).1.0) in record {
-          linked = linked_from claims (λ x low met. (w.items x met).0.0, w.claims, ap (are_missed s.missing.claimed) w.flagged);
+          linked = linked_from claims (λ x low met. (w.items x met).0.0, w.claims, ap (is_one_claimed s.missing.claimed) w.flagged);
           trees = trees_from (λ x low met. (w.items x met).0.1);
           live = λ x r. (stand x r).0;
           grouped = λ x r. (stand x r).1;
