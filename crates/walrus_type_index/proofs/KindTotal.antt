@@ -1,8 +1,8 @@
 -- Kinds, places and ids are totally ordered.
-use Rattle.std.proofs.Common.{◌≡◌, ◌∙◌, ℕ, ◌<◌, Bool, true, false, List, [], ◌∷◌, Option, Some, None, refl, sym, ap, subst, Ordering, Less, Equal, Greater}
-use Rattle.std.specs.Ordering.{ordering_then, bool_cmp, nat_cmp, then_cmp, on, MatchOrdering, is_gt, is_lt}
+use Rattle.std.proofs.Common.{◌≡◌, ℕ, Bool, List, [], Option, Some, None, refl, sym, ap, subst, Ordering, Less, Equal, Greater}
+use Rattle.std.specs.Ordering.{ordering_then, nat_cmp, then_cmp, on}
 use Rattle.std.specs.Option.{option_cmp}
-use Rattle.std.specs.Cmp.{IsTotalOrder, then_total, on_total, bool_cmp_total, nat_cmp_total, ranks}
+use Rattle.std.specs.Cmp.{IsTotalOrder, then_total, on_total, bool_cmp_total, nat_cmp_total}
 use Rattle.std.specs.Cmp.Lexicographic.{slice_cmp, options_total, lists_total}
 use Rattle.walrus_items.specs.walrus_forms.declared.value.ValType.{ValType}
 use Rattle.walrus_items.specs.walrus_forms.declared.value.FieldType.{FieldType}

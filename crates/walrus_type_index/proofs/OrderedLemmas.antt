@@ -1,17 +1,15 @@
 -- An index over lends, deletes and adds.
-use Rattle.std.proofs.Common.{◌≡◌, ◌∙◌, ℕ, ◌+◌, ◌<◌, ◌≤◌, ◌==◌, ◌||◌, ◌&&◌, Bool, true, false, cond, not, List, [], ◌∷◌, ◌++◌, filter, find, slice_index_or, slice_set, length, Option, Some, None, inl, inr, refl, sym, ap, subst, arith, Ordering, Less, Equal, Greater, eq-eqb}
+use Rattle.std.proofs.Common.{◌≡◌, ◌∙◌, ℕ, ◌<◌, ◌≤◌, ◌==◌, ◌||◌, ◌&&◌, Bool, true, false, cond, not, List, [], ◌∷◌, filter, find, slice_index_or, Option, Some, None, inl, inr, refl, sym, ap, subst, arith, Ordering, Less, Equal, Greater, eq-eqb}
 use Rattle.std.specs.Ordering.{ordering_then, ordering_reverse, nat_cmp, is_gt, is_lt, is_eq, MatchOrdering}
 use Rattle.std.specs.Prelude.{is_some}
 use Rattle.std.specs.List.{AllByRecursion, list_any}
 use Rattle.std.specs.List.Sorted.{IsStrictlySortedBy}
 use Rattle.std.specs.Cmp.{IsTotalOrder, tied_itself, tied_back, ranks}
 use Rattle.std.proofs.lemmas.Bool.{cases_Bool, false≢true, eqb-true}
-use Rattle.std.proofs.lemmas.List.{get_or-set_same}
-use Rattle.walrus_items.proofs.walrus_arena.ArenaLemmas.{at-other, at-kept, at-last, live-within}
 use Rattle.std.proofs.lemmas.List.Kept.{IsStrictlySortedBy-filter}
 use Rattle.walrus_items.specs.walrus_forms.Kinds.{Kind}
 use Rattle.walrus_type_index.specs.Places.{place_of, place_at, place_cmp, id_cmp, key_cmp, is_exactly, is_before, last_in, put_in}
-use Rattle.walrus_type_index.specs.Ordered.{is_at, has, lives_at, IsOrdered, IsLast}
+use Rattle.walrus_type_index.specs.Ordered.{has, lives_at, IsOrdered, IsLast}
 use Rattle.walrus_type_index.proofs.KindTotal.{ids, places}
 use Rattle.walrus_type_index.proofs.TreeLemmas.{Sorted, number-tied}
 
@@ -203,6 +201,56 @@ ordered-dead id index ks ls o same dead = record {
         o.listed y ∙ ap (λ (b : Bool). lives_at ks y && not b) this ∙ not-self (lives_at ks y) ∙ sym (ap (λ (b : Bool). b && true) now)
     | inr other ↦ o.listed y ∙ ap (λ (b : Bool). lives_at ks y && not b) other ∙ ap (λ (k : Option Kind). is_some k && true) (same y other)
   ];
+  lent_lives = λ y e. absurd cc;
+}
+
+-- the ids that pass are left
+none-passes : (b : Bool) → false ≡ (b && false)
+none-passes true = refl
+none-passes false = refl
+
+passes-here : (b : Bool) → b ≡ true → (c : Bool) → true ≡ (b && (true || c))
+passes-here b e c = sym (ap (λ (x : Bool). x && true) e)
+
+fails-here : (b : Bool) → b ≡ false → (c : Bool) → (b && c) ≡ (b && (true || c))
+fails-here b e c = ap (λ (x : Bool). x && c) e ∙ sym (ap (λ (x : Bool). x && true) e)
+
+pub filter-passes : (p : ℕ → Bool) (y : ℕ) (xs : List ℕ) → has y (filter p xs) ≡ (p y && has y xs)
+filter-passes p y [] = none-passes (p y)
+filter-passes p y (x ∷ xs) = elim (cases_Bool (p x)) as (λ _. has y (cond (p x) (x ∷ filter p xs) (filter p xs)) ≡ (p y && ((x == y) || has y xs))) [
+  | inl passes ↦ ap (λ (b : Bool). has y (cond b (x ∷ filter p xs) (filter p xs))) passes
+      ∙ elim (cases_Bool (x == y)) as (λ _. ((x == y) || has y (filter p xs)) ≡ (p y && ((x == y) || has y xs))) [
+        | inl same ↦
+            let here : p y ≡ true = ap p (sym (eqb-true x y same)) ∙ passes in
+            ap (λ (b : Bool). b || has y (filter p xs)) same ∙ passes-here (p y) here (has y xs) ∙ ap (λ (b : Bool). p y && (b || has y xs)) (sym same)
+        | inr other ↦ ap (λ (b : Bool). b || has y (filter p xs)) other ∙ filter-passes p y xs ∙ ap (λ (b : Bool). p y && (b || has y xs)) (sym other)
+      ]
+  | inr fails ↦ ap (λ (b : Bool). has y (cond b (x ∷ filter p xs) (filter p xs))) fails ∙ filter-passes p y xs
+      ∙ elim (cases_Bool (x == y)) as (λ _. (p y && has y xs) ≡ (p y && ((x == y) || has y xs))) [
+        | inl same ↦
+            let here : p y ≡ false = ap p (sym (eqb-true x y same)) ∙ fails in
+            fails-here (p y) here (has y xs) ∙ ap (λ (b : Bool). p y && (b || has y xs)) (sym same)
+        | inr other ↦ ap (λ (b : Bool). p y && (b || has y xs)) (sym other)
+      ]
+]
+
+both-true : (a b : Bool) → (a && b) ≡ true → a ≡ true
+both-true true b e = refl
+both-true false b e = absurd (false≢true e)
+
+still-live : (now before : Bool) → (now ≡ true → before ≡ now) → (now && (before && true)) ≡ (now && true)
+still-live true before e = ap (λ (b : Bool). b && true) (e refl)
+still-live false before e = refl
+
+-- types die, and are taken out of the index behind that
+pub ordered-swept : (index : List ℕ) (ks ls : List (Option Kind)) → IsOrdered None index ks
+    → ((y : ℕ) → lives_at ls y ≡ true → slice_index_or ks y None ≡ slice_index_or ls y None) → IsOrdered None (filter (lives_at ls) index) ls
+ordered-swept index ks ls o same = record {
+  sorted = sorted-same ks ls (filter (lives_at ls) index)
+      (λ y e. same y (both-true (lives_at ls y) (has y index) (sym (filter-passes (lives_at ls) y index) ∙ e)))
+      (IsStrictlySortedBy-filter (id_cmp ks) (lives_at ls) index o.sorted);
+  listed = λ y. filter-passes (lives_at ls) y index ∙ ap (λ (b : Bool). lives_at ls y && b) (o.listed y)
+      ∙ still-live (lives_at ls y) (lives_at ks y) (λ e. ap (λ (k : Option Kind). is_some k) (same y e));
   lent_lives = λ y e. absurd cc;
 }
 

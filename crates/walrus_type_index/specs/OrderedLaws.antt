@@ -20,6 +20,10 @@ abbrev pub Dies : Type 0
 Dies = (id : ℕ) (index : List ℕ) (old new : List (Option Kind)) → IsOrdered (Some id) index old
     → ((other : ℕ) → (id == other) ≡ false → slice_index_or old other None ≡ slice_index_or new other None) → lives_at new id ≡ false → IsOrdered None index new
 
+abbrev pub Sweeps : Type 0
+Sweeps = (index : List ℕ) (old new : List (Option Kind)) → IsOrdered None index old
+    → ((id : ℕ) → lives_at new id ≡ true → slice_index_or old id None ≡ slice_index_or new id None) → IsOrdered None (filter (lives_at new) index) new
+
 abbrev pub IsBorn : Type 0
 IsBorn = (id : ℕ) (index : List ℕ) (old new : List (Option Kind)) → IsOrdered None index old → lives_at old id ≡ false
     → ((other : ℕ) → (id == other) ≡ false → slice_index_or old other None ≡ slice_index_or new other None) → lives_at new id ≡ true → IsOrdered (Some id) index new

@@ -1,5 +1,5 @@
 //! Laws of the words that the contracts of this crate cite. Each function is its contract alone.
-ghost use Rattle.walrus_type_index.specs.OrderedLaws.{PutsBack, Lends, Writes, Dies, IsBorn, FindsLast};
+ghost use Rattle.walrus_type_index.specs.OrderedLaws.{PutsBack, Lends, Writes, Dies, Sweeps, IsBorn, FindsLast};
 
 /// A lent id goes back into the order.
 pub fn lent_goes_back()
@@ -19,6 +19,11 @@ pub fn writing_keeps_order()
 /// A type that is out of the index dies, and touches nothing that is in it.
 pub fn dying_keeps_order()
     ensures { Dies }
+{}
+
+/// Types die while the index isn't looked at, and are then taken out of it.
+pub fn sweeping_keeps_order()
+    ensures { Sweeps }
 {}
 
 /// A new type is as one that was lent: it is yet to be put into the order.

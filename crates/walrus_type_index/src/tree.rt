@@ -4,6 +4,7 @@ ghost use Rattle.std.specs.Option.{option_map};
 ghost use Rattle.std.specs.List.Sorted.{IsStrictlySortedBy};
 ghost use Rattle.walrus_type_index.specs.Places.{kinds_in, id_cmp, is_before, is_upto, is_exactly, last_in, put_in};
 ghost use Rattle.walrus_type_index.specs.Targets.{target_kind};
+ghost use Rattle.walrus_type_index.specs.Ordered.{lives_at};
 ghost use Rattle.walrus_type_index.specs.Tree.{node_ids, ids_of};
 
 use crate::node::{Node, Spare, Tree};
@@ -96,6 +97,14 @@ impl Tree {
             Some(node) => Some(Spare { node }),
             None => None,
         }
+    }
+
+    /// Takes out the ids of types that don't live, in one walk. Takes no memory.
+    pub fn sweep(&mut self, types: &TombstoneArena<Type, TypeSpace>)
+        ensures { self.new ≡ filter (lives_at (kinds_in types.now.slots)) self.old }
+    {
+        let tree = mem::replace(self, Tree::new());
+        *self = live(tree, types);
     }
 
     /// The last id of a type of the kind that is looked for, of those that name themselves or of the others.
@@ -265,6 +274,59 @@ fn split_first(mut node: Box<Node>) -> (Box<Node>, Tree)
     }
 }
 
+// The node over these sides.
+fn over(left: Tree, mut node: Box<Node>, right: Tree) -> Tree
+    ensures { result ≡ left ++ node.value.id ∷ right }
+{
+    node.left = left;
+    node.right = right;
+    Tree::of(balance(node))
+}
+
+// The node between these sides, the left one of which may be higher by more than one: it comes under that one's right edge.
+fn hang_right(left: Tree, node: Box<Node>, right: Tree) -> Tree
+    ensures { result ≡ left ++ node.value.id ∷ right }
+{
+    if left.height() <= right.height().saturating_add(1) {
+        return over(left, node, right);
+    }
+    match left.open() {
+        None => over(Tree::new(), node, right),
+        Some(mut top) => {
+            let side = mem::replace(&mut top.right, Tree::new());
+            top.right = hang_right(side, node, right);
+            Tree::of(balance(top))
+        }
+    }
+}
+
+// The node between these sides, the right one of which may be higher by more than one: it comes under that one's left edge.
+fn hang_left(right: Tree, node: Box<Node>, left: Tree) -> Tree
+    ensures { result ≡ left ++ node.value.id ∷ right }
+{
+    if right.height() <= left.height().saturating_add(1) {
+        return over(left, node, right);
+    }
+    match right.open() {
+        None => over(left, node, Tree::new()),
+        Some(mut top) => {
+            let side = mem::replace(&mut top.left, Tree::new());
+            top.left = hang_left(side, node, left);
+            Tree::of(balance(top))
+        }
+    }
+}
+
+// The node between sides of any height.
+fn between(left: Tree, node: Box<Node>, right: Tree) -> Tree
+    ensures { result ≡ left ++ node.value.id ∷ right }
+{
+    if left.height() > right.height() {
+        return hang_right(left, node, right);
+    }
+    hang_left(right, node, left)
+}
+
 // The ids of both.
 fn join(left: Tree, right: Tree) -> Tree
     ensures { result ≡ left ++ right }
@@ -272,10 +334,8 @@ fn join(left: Tree, right: Tree) -> Tree
     match right.open() {
         None => left,
         Some(node) => {
-            let (mut first, rest) = split_first(node);
-            first.left = left;
-            first.right = rest;
-            Tree::of(balance(first))
+            let (first, rest) = split_first(node);
+            between(left, first, rest)
         }
     }
 }
@@ -321,6 +381,24 @@ fn take(
                 (join(left, right), Some(bare))
             }
         },
+    }
+}
+
+// The ids of live types.
+fn live(tree: Tree, types: &TombstoneArena<Type, TypeSpace>) -> Tree
+    ensures { result ≡ filter (lives_at (kinds_in types.now.slots)) tree }
+{
+    match tree.open() {
+        None => Tree::new(),
+        Some(node) => {
+            let (left, bare, right) = apart(node);
+            let before = live(left, types);
+            let behind = live(right, types);
+            if types.contains(bare.id) {
+                return between(before, bare, behind);
+            }
+            join(before, behind)
+        }
     }
 }
 

@@ -58,6 +58,39 @@ pub(crate) fn clear_types(
     }
 }
 
+// Deletes a type, if it lives. The index isn't looked at.
+fn kill(types: &mut TombstoneArena<Type, TypeSpace>, id: TypeId)
+    ensures { types.new.slots ≡ slice_set types.old.slots id None }
+{
+    if types.contains(id) {
+        types.delete(id);
+    }
+}
+
+// Deletes these types, those of them that live. The index isn't looked at.
+fn kill_all(types: &mut TombstoneArena<Type, TypeSpace>, ids: &[TypeId])
+    ensures types { map (option_map item_of) types.new.slots ≡ clear_all ids.now (map (option_map item_of) types.old.slots) }
+    ensures others { (id : ℕ) → IsSome (item_at types.new id) → item_at types.new id ≡ item_at types.old id }
+{
+    for id in ids {
+        kill(types, *id);
+    }
+}
+
+// Deletes these types, those of them that live, and then takes them out of the index in one walk of it. No type is lent.
+pub(crate) fn clear_together(
+    types: &mut TombstoneArena<Type, TypeSpace>,
+    index: &mut Tree,
+    ids: &[TypeId],
+)
+    requires { IsOrdered None index.old (kinds_in types.old.slots) }
+    ensures types { map (option_map item_of) types.new.slots ≡ clear_all ids.now (map (option_map item_of) types.old.slots) }
+    ensures ordered { IsOrdered None index.new (kinds_in types.new.slots) }
+{
+    kill_all(types, ids);
+    index.sweep(types);
+}
+
 // Whether that type lives and names this one.
 fn names_at(types: &TombstoneArena<Type, TypeSpace>, other: TypeId, id: TypeId) -> bool
     ensures { result ≡ is_named_at (table_of types.now.slots []) id other }

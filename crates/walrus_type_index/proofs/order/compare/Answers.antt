@@ -1,4 +1,4 @@
-use Rattle.std.proofs.Common.{◌∙◌, ap, Option, ℕ, slice_index_or, None, ◌≡◌, List}
+use Rattle.std.proofs.Common.{◌∙◌, ap, Option, slice_index_or, None}
 use Rattle.std.specs.Ordering.{ordering_then, nat_cmp}
 use Rattle.walrus_items.specs.walrus_forms.Kinds.{Kind}
 use Rattle.walrus_type_index.specs.Places.{place_cmp, place_of, kinds_in}

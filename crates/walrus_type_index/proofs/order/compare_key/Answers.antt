@@ -1,4 +1,4 @@
-use Rattle.std.proofs.Common.{◌∙◌, ap, Option, ℕ, slice_index_or, None, Some}
+use Rattle.std.proofs.Common.{◌∙◌, ap, Option, Some}
 use Rattle.walrus_items.specs.walrus_forms.Kinds.{Kind}
 use Rattle.walrus_type_index.specs.Places.{place_cmp, place_of}
 use Rattle.walrus_type_index.specs.Targets.{target_kind}

@@ -1,4 +1,4 @@
-use Rattle.std.proofs.Common.{◌≡◌, ◌∙◌, ◌∷◌, ◌++◌, ℕ, List, Some, ap, sym, subst, arith, length-append, rules, true, false, not}
+use Rattle.std.proofs.Common.{◌≡◌, ◌∙◌, ◌∷◌, ◌++◌, ap, sym, subst, arith, length-append, rules, true, false, not}
 use Rattle.std.specs.Ordering.{is_gt}
 use Rattle.walrus_type_index.specs.Places.{kinds_in, id_cmp, is_upto, key_cmp}
 use Rattle.walrus_type_index.specs.Targets.{target_kind}

@@ -1,5 +1,4 @@
-use Rattle.std.proofs.Common.{◌≡◌, ◌∙◌, ◌∷◌, ◌++◌, ℕ, List, ap, sym, subst, arith, length-append, rules, true, false}
-use Rattle.std.specs.Ordering.{is_lt}
+use Rattle.std.proofs.Common.{◌≡◌, ◌∙◌, ◌∷◌, ◌++◌, ap, sym, subst, arith, length-append, rules, true, false}
 use Rattle.walrus_type_index.specs.Places.{kinds_in, id_cmp, is_before}
 use Rattle.walrus_type_index.specs.Tree.{ids_of}
 use Rattle.walrus_type_index.proofs.TreeLemmas.{Sorted, sorted-front, sorted-back, put-left, put-right}

@@ -1,4 +1,4 @@
-use Rattle.std.proofs.Common.{◌≡◌, ◌∙◌, ◌∷◌, ◌++◌, ℕ, List, Some, ap, sym, subst, arith, length-append, rules, filter, find, not, ◌==◌, Less, Greater, Equal}
+use Rattle.std.proofs.Common.{◌≡◌, ◌∙◌, ◌∷◌, ◌++◌, ℕ, ap, sym, subst, arith, length-append, rules, filter, find, not, ◌==◌, Less, Greater, Equal}
 use Rattle.walrus_type_index.specs.Places.{kinds_in, id_cmp}
 use Rattle.walrus_type_index.specs.Tree.{ids_of}
 use Rattle.walrus_type_index.proofs.TreeLemmas.{Sorted, sorted-front, sorted-back, take-left, take-right, take-here}

@@ -1,6 +1,5 @@
-use Rattle.std.proofs.Common.{◌≡◌, ◌∙◌, ℕ, Option, Some, None, ap, sym, cond, Bool, true, false, rules, arith}
-use Rattle.std.specs.Ordering.{is_eq}
-use Rattle.walrus_type_index.specs.Places.{kinds_in, is_exactly, is_upto, last_in, key_cmp}
+use Rattle.std.proofs.Common.{◌≡◌, ◌∙◌, Some, None, ap, sym, cond, Bool, true, false, arith}
+use Rattle.walrus_type_index.specs.Places.{kinds_in, is_exactly, is_upto, last_in}
 use Rattle.walrus_type_index.specs.Targets.{target_kind}
 use Rattle.walrus_type_index.proofs.TreeLemmas.{if_exact, latest-exact}
 use Rattle.walrus_type_index.proofs.node.Tree.latest.Goals as goal

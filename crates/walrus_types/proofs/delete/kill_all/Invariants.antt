@@ -1,0 +1,12 @@
+use Rattle.std.proofs.Common.{◌≡◌, map, take}
+use Rattle.std.specs.Option.{option_map}
+use Rattle.walrus_type_index.specs.walrus_items.Items.{item_of}
+use Rattle.walrus_types.specs.Table.{clear_all}
+use Rattle.walrus_types.proofs.IndexLemmas.{AreKept}
+use Rattle.walrus_types.proofs.delete.kill_all.Given as goal
+
+abbrev pub invariant-loop-id : goal.invariant-loop-id
+invariant-loop-id l = record {
+  types : map (option_map item_of) l.types.slots ≡ clear_all (take l.id-index l.ids) (map (option_map item_of) l.fn.types.slots);
+  others : AreKept l.fn.types.slots l.types.slots;
+}
