@@ -1,13 +1,14 @@
 //! Building of sequences.
-ghost use Rattle.std.specs.Prelude.{◌≡◌, ◌<◌, ◌≤◌, [], ◌∷◌, ◌++◌, length, slice_get, Some, Ok, IfOk, IfErr, OnOk, OnErr, insert};
+ghost use Rattle.std.specs.Prelude.{◌≡◌, ◌<◌, ◌≤◌, [], ◌∷◌, ◌++◌, length, slice_get, Some, Ok, IfOk, IfErr, OnOk, OnErr};
 ghost use Rattle.std.specs.Borrow.{sem};
 ghost use Rattle.std.specs.Option.{option_map};
-ghost use Rattle.walrus_builder.specs.Built.{contents, empty_seq, no_place, pushes, pushes_from, inserts, back_to, Edits, EditsAt, IsBegun, IsLeft, IsRefused};
+ghost use Rattle.walrus_builder.specs.Built.{contents, empty_seq, pushes, pushes_from, inserts, back_to, Edits, EditsAt, IsBegun, IsLeft, IsRefused};
 ghost use Rattle.walrus_builder.specs.Lends.{lends_instrs, lends_seq};
 
 use std::alloc::{AllocError, Global};
 use std::marker::Model;
 use walrus_arena::InstrSeqId;
+use walrus_walks::insert_at;
 use walrus_walks::instr::{Instr, InstrLocId, InstrSeq, InstrSeqType, Value};
 
 /// The sequences of a body, one of which is at hand: what is called adds to that one.
@@ -27,20 +28,6 @@ impl Model for InstrSeqBuilder {
     ghost view = { λ b. record { id = b.id; seqs = b.seqs.items } };
 
     ghost invariant = { λ b. b.id < length b.seqs.items };
-}
-
-// Inserts an instruction without a location.
-fn insert_at(
-    instrs: &mut Vec<(Instr, InstrLocId)>,
-    position: usize,
-    instr: Instr,
-) -> Result<(), AllocError>
-    requires { position ≤ length instrs.old.items }
-    ensures inserted { OnOk result (instrs.new.items ≡ insert instrs.old.items position (instr, no_place)) }
-    ensures refused { OnErr result (instrs.new.items ≡ instrs.old.items) }
-{
-    instrs.insert(position, (instr, InstrLocId::default()))?;
-    Ok(())
 }
 
 impl InstrSeqBuilder {

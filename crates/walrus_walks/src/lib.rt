@@ -2,6 +2,7 @@
 #![tactic(auto)]
 
 mod in_order;
+mod insert;
 pub mod laws;
 mod nesting;
 mod pre_order_mut;
@@ -14,6 +15,7 @@ mod visitor;
 mod visitor_mut;
 
 pub use in_order::{dfs_body_in_order, dfs_in_order};
+pub use insert::insert_at;
 pub use nesting::check_nesting;
 pub use pre_order_mut::dfs_pre_order_mut;
 pub use visit::Visit;
