@@ -22,6 +22,7 @@ use std::alloc::Global;
 use walrus_arena::TagId;
 use walrus_body_steps::body_env::BodyError;
 use walrus_body_steps::body_nesting::Opener;
+use walrus_body_steps::body_stack::cuts;
 use walrus_instr::{Instr, InstrSeqType};
 use walrus_operators::{Immediates, Operator};
 use wasm_formats::Space;
@@ -80,23 +81,6 @@ fn label_of(immediates: &Immediates) -> u32
         Immediates::Label(depth) => *depth,
         _ => unreachable!(),
     }
-}
-
-// Whether what follows is cut off.
-fn cuts(flow: Option<Flow>) -> bool
-    ensures { result ≡ cuts_in flow }
-{
-    matches!(
-        flow,
-        Some(
-            Flow::Traps
-                | Flow::Branches
-                | Flow::Selects
-                | Flow::Returns
-                | Flow::Throws
-                | Flow::ThrowsOrTraps
-        )
-    )
 }
 
 fn open<S: Scope>(scope: &S, op: &Operator, opener: Opener, offset: u64) -> Result<Step, BodyError>

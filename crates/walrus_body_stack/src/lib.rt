@@ -1,6 +1,7 @@
 //! The open sequences of a body that is read: how operators change them.
 #![tactic(auto)]
 
+mod flow;
 mod frame;
 mod handlers;
 mod nest;
@@ -8,6 +9,7 @@ mod pile;
 mod stack;
 mod turns;
 
+pub use flow::cuts;
 pub use stack::Stack;
 
 // Passed on to crates above, which then list this one alone.

@@ -13,7 +13,7 @@ pub mod body_nesting {
 }
 
 pub mod body_stack {
-    pub use walrus_body_stack::Stack;
+    pub use walrus_body_stack::{Stack, cuts};
 }
 
 pub mod builder {
