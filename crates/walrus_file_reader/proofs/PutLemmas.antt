@@ -20,7 +20,8 @@ use Rattle.walrus_section_reader.specs.Parses.{Parses}
 use Rattle.walrus_section_reader.specs.Repeats.{same_parse}
 use Rattle.walrus_section_reader.specs.Steps.{put_in, stepped, stepped_whole, whole_by, sized_by, vec_by, step_of, entries_by, whole_steps, sized_steps, vec_steps_are, steps_are}
 use Rattle.walrus_type_readers.specs.Groups.{parse_group, put_group}
-use Rattle.walrus_file_reader.specs.Contents.{code_put, custom_put, data_put, section_put}
+use Rattle.walrus_section_frames.specs.Customs.{custom_put}
+use Rattle.walrus_file_reader.specs.Contents.{code_put, data_put, section_put}
 
 abbrev put_section : State → ℕ → Section × List ℕ → Parsing State
 put_section s end y = Ok (put s (end - length y.1) y.0, y.1)

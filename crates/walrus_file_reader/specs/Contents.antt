@@ -5,17 +5,13 @@ use Rattle.wasm_formats.specs.Stops.{Parsing, ◌>>=◌}
 use Rattle.wasm_formats.specs.Joined.{checked}
 use Rattle.wasm_formats.specs.Wholes.{u32, whole, sized}
 use Rattle.wasm_grammar.specs.States.{State}
-use Rattle.wasm_sections.specs.Sections.{code, custom, add_custom, section, section_entry, data_test, put, next, set_bodies}
+use Rattle.wasm_sections.specs.Sections.{code, section, section_entry, data_test, put, next, set_bodies}
 use Rattle.wasm_sections.specs.Segments.{data_entry, add_data}
-use Rattle.walrus_section_reader.specs.Steps.{stepped, step_of, entries_by}
+use Rattle.walrus_section_reader.specs.Steps.{step_of, entries_by}
 
 -- the code section, whose contents end so many bytes before this offset as are left
 abbrev pub code_put : ℕ → State → List ℕ → Parsing State
 code_put end s bytes = (sized (whole (code s))).parse bytes >>= λ x. Ok (set_bodies s (end - length x.1) x.0, x.1)
-
--- a custom section
-abbrev pub custom_put : State → List ℕ → Parsing State
-custom_put s bytes = stepped (sized custom) (add_custom s) bytes
 
 -- a count that agrees with the data count, and that many data segments
 abbrev pub data_put : WasmFeatures → State → List ℕ → Parsing State

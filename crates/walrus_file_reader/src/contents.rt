@@ -5,11 +5,11 @@ ghost use Rattle.walrus_section_reader.specs.Parses.{Parses};
 ghost use Rattle.walrus_known_sections.specs.State.{state_of};
 ghost use Rattle.walrus_file_reader.specs.Contents.{section_put};
 
-use crate::pieces::{Data, read_code, read_custom};
+use crate::pieces::{Data, read_code};
 use std::alloc::Global as Alloc;
 use walrus_export_reader::Exports;
 use walrus_known_sections::{Each, Sections};
-use walrus_section_frames::{DataCount, Start};
+use walrus_section_frames::{DataCount, Start, put_custom_section};
 use walrus_section_reader::{Fault, FaultKind, Many, Result, read_section};
 use walrus_segment_readers::Elements;
 use walrus_segment_readers::entry_readers::{Functions, Globals, Imports, Memories, Tables, Tags};
@@ -26,7 +26,7 @@ pub fn read_contents<'a>(
     ensures { Parses (section_put reader.old.window.features (end_of reader.old) (state_of sections.old) id) (λ _. state_of sections.new) reader.old reader.new result }
 {
     match id {
-        0 => read_custom(sections, reader),
+        0 => put_custom_section(sections, reader),
         1 => read_section::<Many<Each<'a, Types>>>(alloc, sections, reader),
         2 => read_section::<Many<Each<'a, Imports>>>(alloc, sections, reader),
         3 => read_section::<Many<Each<'a, Functions>>>(alloc, sections, reader),

@@ -1,45 +1,24 @@
 //! Sections that aren't lists of entries, each put into what was read before it.
 
-ghost use Rattle.std.specs.Prelude.{◌≡◌, OnOk, ℕ};
+ghost use Rattle.std.specs.Prelude.{◌≡◌, ℕ};
 ghost use Rattle.wasm_reader.specs.Cursor.{end_of};
 ghost use Rattle.wasm_reader.specs.Reading.{plain};
 ghost use Rattle.wasm_formats.specs.Joined.{checked};
 ghost use Rattle.wasm_formats.specs.Stops.{Count};
 ghost use Rattle.wasm_formats.specs.Wholes.{u32};
 ghost use Rattle.wasm_grammar.specs.Values.{must};
-ghost use Rattle.wasm_sections.specs.Sections.{add_custom, data_test};
+ghost use Rattle.wasm_sections.specs.Sections.{data_test};
 ghost use Rattle.walrus_section_reader.specs.Parses.{Parses, ParsesExactly};
 ghost use Rattle.walrus_known_sections.specs.State.{state_of};
-ghost use Rattle.walrus_section_frames.specs.Customs.{custom_entry_of};
-ghost use Rattle.walrus_file_reader.specs.Contents.{code_put, custom_put};
+ghost use Rattle.walrus_file_reader.specs.Contents.{code_put};
 
-use std::alloc::{AllocError, Global as Alloc};
+use std::alloc::Global as Alloc;
 use walrus_code_reader::{read_code_section, set_bodies};
-use walrus_known_sections::{Custom, Each, Sections};
-use walrus_section_frames::read_custom_section;
+use walrus_known_sections::{Each, Sections};
 use walrus_section_reader::{Entries, Fault, FaultKind, Result, read_entries};
 use walrus_section_values::read_u32;
 use walrus_segment_readers::Segments;
 use wasm_reader::BinaryReader;
-
-fn add_custom<'a>(
-    sections: &mut Sections<'a>,
-    custom: Custom<'a>,
-) -> std::result::Result<(), AllocError>
-    ensures { OnOk result (state_of sections.new ≡ add_custom (state_of sections.old) (custom_entry_of custom.entry)) }
-{
-    sections.customs.push(custom)?;
-    Ok(())
-}
-
-/// A custom section behind its id.
-pub fn read_custom<'a>(sections: &mut Sections<'a>, reader: &mut BinaryReader<'a>) -> Result<()>
-    ensures { Parses (custom_put (state_of sections.old)) (λ _. state_of sections.new) reader.old reader.new result }
-{
-    let custom = read_custom_section(reader)?;
-    add_custom(sections, custom)?;
-    Ok(())
-}
 
 /// The code section behind its id.
 pub fn read_code<'a>(

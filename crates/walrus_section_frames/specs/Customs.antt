@@ -5,11 +5,19 @@ use Rattle.std.proofs.lemmas.Bool.{le-leb}
 use Rattle.std.proofs.lemmas.List.{take_all}
 use Rattle.wasm_reader.specs.Reading.{bytes_at}
 use Rattle.wasm_reader.specs.Spellings.{ok_is}
-use Rattle.wasm_sections.specs.Sections.{CustomEntry}
+use Rattle.wasm_formats.specs.Stops.{Parsing}
+use Rattle.wasm_formats.specs.Wholes.{sized}
+use Rattle.wasm_grammar.specs.States.{State}
+use Rattle.wasm_sections.specs.Sections.{CustomEntry, custom, add_custom}
+use Rattle.walrus_section_reader.specs.Steps.{stepped}
 use Rattle.walrus_entry_readers.specs.walrus_known_sections.declared.items.Custom.{Custom}
 
 abbrev pub custom_entry_of : Custom → CustomEntry
 custom_entry_of c = (c.name.now, c.bytes.now)
+
+-- a custom section, put behind those before it
+abbrev pub custom_put : State → List ℕ → Parsing State
+custom_put s bytes = stepped (sized custom) (add_custom s) bytes
 
 -- Lemma: as many bytes as there are
 pub all_are : (bytes run later : List ℕ) (n : ℕ) → n ≡ length bytes → bytes_at n bytes ≡ Ok (run, later) → run ≡ bytes

@@ -1,11 +1,14 @@
 //! Custom sections (Core Specification, binary format: custom section).
 
+ghost use Rattle.std.specs.Prelude.{◌≡◌, OnOk};
 ghost use Rattle.wasm_formats.specs.Wholes.{sized};
-ghost use Rattle.wasm_sections.specs.Sections.{custom};
+ghost use Rattle.wasm_sections.specs.Sections.{add_custom, custom};
 ghost use Rattle.walrus_section_reader.specs.Parses.{Parses, ParsesWhole};
-ghost use Rattle.walrus_section_frames.specs.Customs.{custom_entry_of};
+ghost use Rattle.walrus_entry_readers.specs.walrus_known_sections.State.{state_of};
+ghost use Rattle.walrus_section_frames.specs.Customs.{custom_entry_of, custom_put};
 
-use walrus_entry_readers::Custom;
+use std::alloc::AllocError;
+use walrus_entry_readers::{Custom, Sections};
 use walrus_section_reader::{Result, open_section};
 use walrus_section_values::read_name;
 use wasm_reader::BinaryReader;
@@ -27,4 +30,26 @@ pub fn read_custom_section<'a>(reader: &mut BinaryReader<'a>) -> Result<Custom<'
     let mut contents = open_section(reader)?;
     let custom = read_custom(&mut contents)?;
     Ok(custom)
+}
+
+fn add_custom<'a>(
+    sections: &mut Sections<'a>,
+    custom: Custom<'a>,
+) -> std::result::Result<(), AllocError>
+    ensures { OnOk result (state_of sections.new ≡ add_custom (state_of sections.old) (custom_entry_of custom.entry)) }
+{
+    sections.customs.push(custom)?;
+    Ok(())
+}
+
+/// A custom section behind its id, put behind those before it.
+pub fn put_custom_section<'a>(
+    sections: &mut Sections<'a>,
+    reader: &mut BinaryReader<'a>,
+) -> Result<()>
+    ensures { Parses (custom_put (state_of sections.old)) (λ _. state_of sections.new) reader.old reader.new result }
+{
+    let custom = read_custom_section(reader)?;
+    add_custom(sections, custom)?;
+    Ok(())
 }

@@ -7,7 +7,7 @@ mod ends;
 mod order;
 mod singles;
 
-pub use custom::{read_custom, read_custom_section};
+pub use custom::{put_custom_section, read_custom, read_custom_section};
 pub use ends::has_all;
 pub use order::{rank, read_section_id};
 pub use singles::{DataCount, Start};
