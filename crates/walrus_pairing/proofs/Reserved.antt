@@ -1,5 +1,5 @@
 -- Where a reserved byte can stand: what is seen of an operator tells that it has none, unless its items begin with a byte.
-use Rattle.std.proofs.Common.{ℕ, ◌≡◌, Bool, true, false, Option, Some, None, Result, Ok, Err, List, [], ◌∷◌, refl, ap, ◌∙◌}
+use Rattle.std.proofs.Common.{ℕ, ◌≡◌, Bool, true, false, Option, Some, None, Result, Ok, Err, List, ◌∷◌, refl, ap, ◌∙◌}
 use Rattle.walrus_operators.specs.declared.immediates.Immediates.{Immediates}
 use Rattle.walrus_operators.specs.declared.immediates.Immediates.TheVariants as imm
 use Rattle.walrus_operators.specs.declared.operator.Operator.{Operator}

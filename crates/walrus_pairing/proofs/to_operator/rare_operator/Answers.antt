@@ -1,7 +1,6 @@
-use Rattle.std.proofs.Common.{Ok, Some, sym, ap, ◌∙◌}
+use Rattle.std.proofs.Common.{Ok, Some, sym, ◌∙◌}
 use Rattle.walrus_index_maps.specs.Views.{indices}
 use Rattle.walrus_pairing.specs.Looks.{number_of}
-use Rattle.walrus_pairing.specs.Seen.{has_reserved_byte}
 use Rattle.walrus_pairing.specs.Write.{variable, memory_op, object_op}
 use Rattle.walrus_pairing.proofs.Reserved.{has_none, in_variable, in_memory, in_object, of_bare}
 use Rattle.walrus_pairing.proofs.to_operator.rare_operator.Goals as goal
