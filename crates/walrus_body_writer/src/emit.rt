@@ -99,7 +99,7 @@ fn write_one(
     }
 }
 
-// The same, for one that may hold sequences.
+// The same, for one that may hold sequences. One that holds none is mostly a frequent one.
 #[inline(always)]
 fn write_holder(
     alloc: Global,
@@ -115,7 +115,7 @@ fn write_holder(
     let at = out.bytes.len();
     match append_holder(numbers, seqs, instr, &mut out.bytes) {
         Ok(true) => end_at(out, place, at),
-        Ok(false) => write_any(alloc, numbers, seqs, depths, instr, place, out),
+        Ok(false) => write_one(alloc, numbers, seqs, depths, instr, place, out),
         Err(error) => {
             out.bytes.truncate(at);
             Err(error)

@@ -23,8 +23,8 @@ returns-in-Ok-false c =
     let large = IsLarge look (value_in c.args.seqs.now c.args.instr.now) in
     let x = written_instr look c.args.seqs.now (label_by c.args.depths.now.depths.items c.args.depths.now.height) c.args.instr.now in
     let F : Bool → Type 0 = λ z. IsAppended large x c.args.out.now.bytes c.append_holder.new.bytes (Ok z) in
-    any_straight large x c.args.place c.args.out.now c.append_holder.new.bytes c.write_any.new.out c.write_any.result
-    (subst F c.in-Ok-false.field-0-test (c.in-Ok-false.ensures (label_by c.args.depths.now.depths.items c.args.depths.now.height))) c.write_any.ensures
+    any_straight large x c.args.place c.args.out.now c.append_holder.new.bytes c.write_one.new.out c.write_one.result
+    (subst F c.in-Ok-false.field-0-test (c.in-Ok-false.ensures (label_by c.args.depths.now.depths.items c.args.depths.now.height))) c.write_one.ensures
 
 pub returns-in-Err : goal.returns-in-Err
 returns-in-Err c =
