@@ -57,6 +57,10 @@ const LONG: usize = 2032;
 // A sequence in a list of fewer isn't moved to one of its own.
 const LONGER: usize = 4064;
 
+// Room that a list has from the beginning where another was set aside for it: more than it holds when it is set aside itself, so that it
+// is never copied to grow.
+const ROOM: usize = 2048;
+
 // A list of more is given as it is, less its room, where all of it is asked for; what is shorter is copied.
 const SHORT: usize = 256;
 
@@ -99,9 +103,20 @@ fn taken(
     list.split_off(begin)
 }
 
+// An empty list with room: that of a list that is done with, if it was kept.
+fn roomy(spare: &mut Vec<(Instr, InstrLocId)>) -> Result<Vec<(Instr, InstrLocId)>, AllocError>
+    ensures { IfOk result (λ room. room.items ≡ []) }
+{
+    let empty = Vec::new(*spare.allocator());
+    let mut room = mem::replace(spare, empty);
+    room.clear();
+    room.reserve(ROOM)?;
+    Ok(room)
+}
+
 // Keeps the room of a list that is done with, unless it is large: then what ends next finds room there.
 fn keep(spare: &mut Vec<(Instr, InstrLocId)>, done: Vec<(Instr, InstrLocId)>) {
-    if done.capacity() <= SHORT {
+    if done.capacity() <= ROOM {
         *spare = done;
     }
 }
@@ -220,10 +235,8 @@ impl Nest {
     fn enter_apart(&mut self, frame: Frame) -> Result<(), AllocError>
         ensures { OnOk result (self.new ≡ entered frame self.old) }
     {
+        let room = roomy(&mut self.spare)?;
         self.outer.push(self.inner)?;
-        let empty = Vec::new(*self.spare.allocator());
-        let mut room = mem::replace(&mut self.spare, empty);
-        room.clear();
         if let Err(error) = self.aside.push_from(&mut self.list, room) {
             let _ = self.outer.pop();
             return Err(error);
@@ -269,7 +282,7 @@ impl Nest {
             };
             keep(&mut self.spare, mem::replace(&mut self.list, last));
             self.outer.give_up();
-        } else {
+        } else if self.list.len() > self.inner.begin {
             self.list.truncate(self.inner.begin);
         }
         self.inner = slot;

@@ -249,6 +249,7 @@ impl Stack {
     }
 
     // Adds a block where it was reached.
+    #[inline(always)]
     fn nested(&mut self, instr: Instr, place: InstrLocId, reach: Reach) -> Result<(), AllocError>
         ensures nest { OnOk result (self.new.nest ≡ joined reach (instr, place) self.old.nest) }
         ensures rest { self.new ≡ record self.old { nest = self.new.nest } }
