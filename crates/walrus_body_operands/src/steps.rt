@@ -83,6 +83,7 @@ fn label_of(immediates: &Immediates) -> u32
     }
 }
 
+#[inline(always)]
 fn open<S: Scope>(scope: &S, op: &Operator, opener: Opener, offset: u64) -> Result<Step, BodyError>
     requires block { begins_block (kind_is op.now.immediates) ≡ true }
     requires opens { (s : Sight) (around : List ℕ) → IsOpener s around (seen op.now) opener }
