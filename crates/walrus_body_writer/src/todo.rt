@@ -49,6 +49,7 @@ pub(crate) enum Met {
     AnEnd(Closer, InstrLocId),
 }
 
+#[inline(always)]
 fn push_enter(todo: &mut Todos, seq: InstrSeqId, closer: Closer) -> Result<(), AllocError>
     ensures { OnOk result (todo.new ≡ todo.old ++ Todo.Enter seq closer ∷ []) }
 {
@@ -92,6 +93,7 @@ fn push_parts(todo: &mut Todos, parts: &[LegacyCatch]) -> Result<Closer, AllocEr
 /// # Errors
 ///
 /// Want of memory. Some may have been pushed.
+#[inline(always)]
 pub(crate) fn push_held(todo: &mut Todos, instr: &Instr) -> Result<(), AllocError>
     ensures { OnOk result (todo.new ≡ todo.old ++ entering instr.now) }
 {

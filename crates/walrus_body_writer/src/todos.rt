@@ -44,7 +44,7 @@ impl Todos {
     }
 
     /// Puts this behind the others.
-    #[inline]
+    #[inline(always)]
     pub(crate) fn push(&mut self, one: Todo) -> Result<(), AllocError>
         ensures { OnOk result (self.new ≡ self.old ++ one ∷ []) }
     {

@@ -90,6 +90,7 @@ pub(crate) fn plain_at<'a>(
 }
 
 // Leaves what an instruction holds, and what is behind it, to do.
+#[inline(always)]
 fn push_rest(
     todo: &mut Todos,
     seq: InstrSeqId,
@@ -111,6 +112,7 @@ fn push_rest(
 /// # Errors
 ///
 /// Want of memory.
+#[inline(always)]
 pub(crate) fn advance(
     seqs: &[InstrSeq],
     top: Todo,
