@@ -43,12 +43,8 @@ fn clear(types: &mut TombstoneArena<Type, TypeSpace>, index: &mut Tree, id: Type
     }
 }
 
-// Deletes these types, those of them that live. No type is lent.
-pub(crate) fn clear_types(
-    types: &mut TombstoneArena<Type, TypeSpace>,
-    index: &mut Tree,
-    ids: &[TypeId],
-)
+// Deletes these types, those of them that live, each by a search of the index. No type is lent.
+fn clear_each(types: &mut TombstoneArena<Type, TypeSpace>, index: &mut Tree, ids: &[TypeId])
     requires { IsOrdered None index.old (kinds_in types.old.slots) }
     ensures types { map (option_map item_of) types.new.slots ≡ clear_all ids.now (map (option_map item_of) types.old.slots) }
     ensures ordered { IsOrdered None index.new (kinds_in types.new.slots) }
@@ -78,7 +74,20 @@ fn kill_all(types: &mut TombstoneArena<Type, TypeSpace>, ids: &[TypeId])
 }
 
 // Deletes these types, those of them that live, and then takes them out of the index in one walk of it. No type is lent.
-pub(crate) fn clear_together(
+fn clear_together(types: &mut TombstoneArena<Type, TypeSpace>, index: &mut Tree, ids: &[TypeId])
+    requires { IsOrdered None index.old (kinds_in types.old.slots) }
+    ensures types { map (option_map item_of) types.new.slots ≡ clear_all ids.now (map (option_map item_of) types.old.slots) }
+    ensures ordered { IsOrdered None index.new (kinds_in types.new.slots) }
+{
+    kill_all(types, ids);
+    index.sweep(types);
+}
+
+// As many types as are walked past in the time of one search.
+const SEARCH: usize = 4;
+
+// Deletes these types, those of them that live. No type is lent.
+pub(crate) fn clear_types(
     types: &mut TombstoneArena<Type, TypeSpace>,
     index: &mut Tree,
     ids: &[TypeId],
@@ -87,8 +96,11 @@ pub(crate) fn clear_together(
     ensures types { map (option_map item_of) types.new.slots ≡ clear_all ids.now (map (option_map item_of) types.old.slots) }
     ensures ordered { IsOrdered None index.new (kinds_in types.new.slots) }
 {
-    kill_all(types, ids);
-    index.sweep(types);
+    if ids.len() < types.len() / SEARCH {
+        clear_each(types, index, ids);
+    } else {
+        clear_together(types, index, ids);
+    }
 }
 
 // Whether that type lives and names this one.

@@ -13,7 +13,7 @@ ghost use Rattle.walrus_types.specs.Groups.{AddsGroup, IsBuilt, IsCause, member_
 ghost use Rattle.walrus_types.specs.TypeLaws.{AreGrouped};
 ghost use Rattle.walrus_types.specs.TableLends.{lends_type};
 
-use crate::delete::{clear_together, clear_types, home_of, leave_group, members_name, sweep};
+use crate::delete::{clear_types, home_of, leave_group, members_name, sweep};
 use crate::error::IrError;
 use crate::group::{NewType, Single, ids_from, push_single, push_types, reserve_singles, types_of};
 use crate::index::{later, lent_function, look_up};
@@ -154,7 +154,7 @@ impl ModuleTypes {
         ensures { DeletesAll ids.now self.old self.new }
     {
         settle(&mut self.index, &mut self.lent, &self.types);
-        clear_together(&mut self.types, &mut self.index, ids);
+        clear_types(&mut self.types, &mut self.index, ids);
         sweep(&mut self.groups, &self.types);
     }
 

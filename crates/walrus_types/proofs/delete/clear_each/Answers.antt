@@ -3,7 +3,7 @@ use Rattle.std.specs.Option.{option_map}
 use Rattle.std.proofs.lemmas.List.{map-set}
 use Rattle.walrus_type_index.specs.walrus_items.Items.{item_of}
 use Rattle.walrus_types.proofs.DeleteLemmas.{clear_all-more}
-use Rattle.walrus_types.proofs.delete.clear_types.Goals as goal
+use Rattle.walrus_types.proofs.delete.clear_each.Goals as goal
 
 pub loop-id-preserved : goal.loop-id-preserved
 loop-id-preserved c = record {

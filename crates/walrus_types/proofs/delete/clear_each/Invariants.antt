@@ -4,7 +4,7 @@ use Rattle.walrus_type_index.specs.walrus_items.Items.{item_of}
 use Rattle.walrus_type_index.specs.Places.{kinds_in}
 use Rattle.walrus_type_index.specs.Ordered.{IsOrdered}
 use Rattle.walrus_types.specs.Table.{clear_all}
-use Rattle.walrus_types.proofs.delete.clear_types.Given as goal
+use Rattle.walrus_types.proofs.delete.clear_each.Given as goal
 
 abbrev pub invariant-loop-id : goal.invariant-loop-id
 invariant-loop-id l = record {
