@@ -12,6 +12,7 @@ enum Ask {
     Deletes,
     GroupGoes,
     ManyGo,
+    OthersAreFound,
     Names,
     Iterates,
     Ring,
@@ -27,6 +28,7 @@ fn holds(alloc: Global, types: &mut ModuleTypes, ask: Ask) -> Result<bool, IrErr
         Ask::Deletes => Ok(edits::adds_and_deletes(types)?),
         Ask::GroupGoes => Ok(edits::group_goes(types)),
         Ask::ManyGo => Ok(edits::many_go(types)),
+        Ask::OthersAreFound => Ok(edits::others_are_found(types)),
         Ask::Names => Ok(edits::takes_name(alloc, types)?),
         Ask::Iterates => Ok(edits::iterates_all(types)),
         Ask::Ring => groups::adds_ring(alloc, types),
@@ -42,13 +44,26 @@ fn is_so(alloc: Global, steps: &[Step], ask: Ask) -> Result<bool, IrError> {
     holds(alloc, &mut types, ask)
 }
 
-const ROWS: [(&[Step], Ask); 11] = [
+const ROWS: [(&[Step], Ask); 12] = [
     (&[Step::Gives(Num::I64)], Ask::Found),
     // a type with its entry type
     (&[Step::Maps(Num::F64, Num::F32)], Ask::Pairs),
     (&[], Ask::Deletes),
     (&[Step::Param(Num::I32)], Ask::GroupGoes),
     (&[Step::Ring(3), Step::Ring(2), Step::Alone], Ask::ManyGo),
+    (
+        &[
+            Step::Param(Num::I32),
+            Step::Param(Num::I64),
+            Step::Param(Num::F32),
+            Step::Param(Num::F64),
+            Step::Param(Num::V128),
+            Step::Function,
+            Step::Struct,
+            Step::Array,
+        ],
+        Ask::OthersAreFound,
+    ),
     (&[Step::Maps(Num::I32, Num::F32)], Ask::Names),
     (&[Step::Function, Step::Param(Num::F64)], Ask::Iterates),
     // two that name each other

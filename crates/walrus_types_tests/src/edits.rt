@@ -74,6 +74,41 @@ pub fn many_go(types: &mut ModuleTypes) -> bool {
     gone && live_ids(types) == 25 && group_sizes(types) == 21
 }
 
+const PARAMS: [ValType; 5] = [
+    ValType::I32,
+    ValType::I64,
+    ValType::F32,
+    ValType::F64,
+    ValType::V128,
+];
+
+// For each of the parameters the id of the function type of it alone and one more, or zero, as digits.
+fn found_ids(types: &ModuleTypes) -> usize {
+    let mut ids: usize = 0;
+    for param in PARAMS {
+        let digit = match types.find(&[param], &[]) {
+            Some(id) => id.index().saturating_add(1),
+            None => 0,
+        };
+        ids = ids.saturating_mul(10).saturating_add(digit);
+    }
+    ids
+}
+
+// Of eight types, the first five of which are those of the parameters, whether one of these goes by itself and then three together, and
+// the others are still found.
+pub fn others_are_found(types: &mut ModuleTypes) -> bool {
+    let all = found_ids(types) == 12345;
+    types.delete_all(&[TypeId::from_index(2)]);
+    let one = found_ids(types) == 12045;
+    types.delete_all(&[
+        TypeId::from_index(6),
+        TypeId::from_index(0),
+        TypeId::from_index(3),
+    ]);
+    all && one && found_ids(types) == 2005 && live_ids(types) == 1457
+}
+
 // The first type has this name, and no type has the other.
 fn first_is_named(types: &ModuleTypes, name: &str, other: &str) -> bool {
     let found = types.by_name(name);
