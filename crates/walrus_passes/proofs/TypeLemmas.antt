@@ -7,7 +7,7 @@ use Rattle.std.proofs.lemmas.List.{length-map}
 use Rattle.std.proofs.lemmas.List.Elements.{Contains-push, Contains-push_cases, Contains-append_left}
 use Rattle.std.proofs.lemmas.Bool.{cases_eq, false≢true}
 use Rattle.walrus_items.specs.Items.{Item as TypeItem, Group}
-use Rattle.walrus_types.specs.Table.{Table, type_at, group_at, HasMember, DeletesAll, clear_all, with_live, nonempty_group, IsLive}
+use Rattle.walrus_types.specs.Table.{Table, type_at, group_at, HasMember, DeletesAll, clear_all, marked, marked_from, with_live, nonempty_group, IsLive}
 use Rattle.walrus_types.specs.TypeLaws.{AreGrouped}
 use Rattle.walrus_types.proofs.DeleteLemmas.{nonempty-some, contains-filter, filter-contains, nothing, length-clear_all, at-cleared, cleared-at}
 use Rattle.walrus_types.proofs.SweepLemmas.{was-there, member-there}
@@ -70,7 +70,7 @@ dead_alone t grouped id dead = (λ e. absurd (false≢true e), λ other. (let li
 pub none_listed : (N : ℕ → Type 0) (k : ℕ) → Contains [] k ↔ ((k < 0) × N k)
 none_listed N k = (λ c. absurd (nothing k c), λ p. absurd (omega (arith, p.0)))
 
-pub one_listed : (N : ℕ → Type 0) (ids : List ℕ) (n id : ℕ) → id ≡ n → N id → ((k : ℕ) → Contains ids k ↔ ((k < n) × N k)) → (k : ℕ) → Contains (ids ++ id ∷ []) k ↔ ((k < n + 1) × N k)
+one_listed : (N : ℕ → Type 0) (ids : List ℕ) (n id : ℕ) → id ≡ n → N id → ((k : ℕ) → Contains ids k ↔ ((k < n) × N k)) → (k : ℕ) → Contains (ids ++ id ∷ []) k ↔ ((k < n + 1) × N k)
 one_listed N ids n id is here before k = (
   λ c. elim (Contains-push_cases ids id k c) as (λ _. (k < n + 1) × N k) [
     | inl old ↦ (let h = (before k).0 old in (omega (arith, h.0), h.1))
@@ -82,7 +82,7 @@ one_listed N ids n id is here before k = (
   ],
 )
 
-pub one_passed : (N : ℕ → Type 0) (ids : List ℕ) (n id : ℕ) → id ≡ n → (N id → ⊥) → ((k : ℕ) → Contains ids k ↔ ((k < n) × N k)) → (k : ℕ) → Contains ids k ↔ ((k < n + 1) × N k)
+one_passed : (N : ℕ → Type 0) (ids : List ℕ) (n id : ℕ) → id ≡ n → (N id → ⊥) → ((k : ℕ) → Contains ids k ↔ ((k < n) × N k)) → (k : ℕ) → Contains ids k ↔ ((k < n + 1) × N k)
 one_passed N ids n id is other before k = (
   λ c. (let h = (before k).0 c in (omega (arith, h.0), h.1)),
   λ p. elim (cases_eq k n) as (λ _. Contains ids k) [
@@ -90,6 +90,34 @@ one_passed N ids n id is other before k = (
     | inr apart ↦ (before k).1 (omega (arith, p.0, apart), p.1)
   ],
 )
+
+-- a mark that is put behind the others
+marked_more : (place : ℕ) (marks : List Bool) (mark : Bool) → marked_from place (marks ++ mark ∷ []) ≡ marked_from place marks ++ (if mark then (place + length marks) ∷ [] else [])
+marked_more place [] true = ap (λ (n : ℕ). n ∷ []) (let e : place ≡ place + 0 = omega arith in e)
+marked_more place [] false = refl
+marked_more place (true ∷ marks) mark =
+    ap (λ (ids : List ℕ). place ∷ ids) (marked_more (suc place) marks mark ∙ ap (λ (n : ℕ). marked_from (suc place) marks ++ (if mark then n ∷ [] else [])) (let e : suc place + length marks ≡ place + suc (length marks) = omega arith in e))
+marked_more place (false ∷ marks) mark =
+    marked_more (suc place) marks mark ∙ ap (λ (n : ℕ). marked_from (suc place) marks ++ (if mark then n ∷ [] else [])) (let e : suc place + length marks ≡ place + suc (length marks) = omega arith in e)
+
+nothing_more : (ids : List ℕ) → ids ++ [] ≡ ids
+nothing_more [] = refl
+nothing_more (id ∷ ids) = ap (λ (more : List ℕ). id ∷ more) (nothing_more ids)
+
+pub one_longer : (marks : List Bool) (mark : Bool) → length (marks ++ mark ∷ []) ≡ length marks + 1
+one_longer [] mark = refl
+one_longer (x ∷ marks) mark = ap suc (one_longer marks mark)
+
+pub mark_listed : (N : ℕ → Type 0) (marks : List Bool) (n id : ℕ) (mark : Bool) → length marks ≡ n → id ≡ n → Decides mark (N id)
+    → ((k : ℕ) → Contains (marked marks) k ↔ ((k < n) × N k)) → (k : ℕ) → Contains (marked (marks ++ mark ∷ [])) k ↔ ((k < n + 1) × N k)
+mark_listed N marks n id true sized is here before k =
+    subst (λ (ids : List ℕ). Contains ids k ↔ ((k < n + 1) × N k))
+    (ap (λ (i : ℕ). marked marks ++ i ∷ []) (is ∙ sym sized) ∙ sym (marked_more 0 marks true))
+    (one_listed N (marked marks) n id is (here.0 refl) before k)
+mark_listed N marks n id false sized is here before k =
+    subst (λ (ids : List ℕ). Contains ids k ↔ ((k < n + 1) × N k))
+    (sym (nothing_more (marked marks)) ∙ sym (marked_more 0 marks false))
+    (one_passed N (marked marks) n id is (λ needless. false≢true (here.1 needless)) before k)
 
 pub all_listed : (stays : ℕ → Type 0) (t : Table) (ids : List ℕ) (n : ℕ) → AreGrouped t → past_types t ≤ n → ((k : ℕ) → Contains ids k ↔ ((k < n) × IsNeedless stays t k)) → AreNeedless stays t ids
 all_listed stays t ids n grouped all listed k = (

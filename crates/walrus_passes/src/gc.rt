@@ -5,6 +5,7 @@ ghost use Rattle.walrus_refusals.specs.walrus_used.walrus_module.Parts.{parts};
 ghost use Rattle.walrus_roots.specs.Items.{item, PushesShared};
 ghost use Rattle.walrus_refusals.specs.Sound.{IsRefused, IsSound};
 ghost use Rattle.walrus_arena.specs.Arena.{entries};
+ghost use Rattle.walrus_types.specs.Table.{marked};
 ghost use Rattle.walrus_sections.specs.Sections.{pushed};
 ghost use Rattle.walrus_passes.specs.Asked.{IsRefusedAsked, WithPushed};
 ghost use Rattle.walrus_passes.specs.DroppedTypes.{AreClosed, AreNeedless};
@@ -15,22 +16,21 @@ use crate::drop::{drop_imports, drop_items};
 use crate::kept::{KeptItems, kept_items};
 use crate::types::needless_types;
 use std::alloc::Global;
-use walrus_arena::TypeId;
 use walrus_errors::ModuleError;
 use walrus_refusals::used::module::Module;
 use walrus_roots::Item;
 use walrus_sections::CustomSection;
 use wasm_formats::Space;
 
-// Deletes the items that aren't kept, of which these are the types, and each import whose item isn't. Takes no memory.
-fn drop_unkept<B>(input: &mut Module<B>, kept: &KeptItems, types: &[TypeId])
+// Deletes the items that aren't kept, of which the types are marked, and each import whose item isn't. Takes no memory.
+fn drop_unkept<B>(input: &mut Module<B>, kept: &KeptItems, types: &[bool])
     requires closed { AreClosed (λ id. IsHeld kept.now (item spaces.Type id)) input.old.types }
-    requires listed { AreNeedless (λ id. IsHeld kept.now (item spaces.Type id)) input.old.types types.now }
+    requires listed { AreNeedless (λ id. IsHeld kept.now (item spaces.Type id)) input.old.types (marked types.now) }
     ensures part { IsPart (IsHeld kept.now) (parts input.old) (parts input.new) }
     ensures customs { input.new.customs ≡ input.old.customs }
 {
     walrus_types::laws::types_are_grouped(&input.types);
-    input.types.delete_all(types);
+    input.types.delete_marked(types);
     drop_items(&mut input.funcs, kept, Space::Function);
     drop_items(&mut input.tables, kept, Space::Table);
     drop_items(&mut input.memories, kept, Space::Memory);

@@ -2,6 +2,7 @@
 ghost use Rattle.std.specs.Prelude.{◌≡◌, Decides, IfOk, IsSome};
 ghost use Rattle.wasm_formats.specs.declared.fault.Space.TheVariants as spaces;
 ghost use Rattle.walrus_roots.specs.Items.{item};
+ghost use Rattle.walrus_types.specs.Table.{marked};
 ghost use Rattle.walrus_refusals.specs.walrus_used.walrus_module.Items.{written_type};
 ghost use Rattle.walrus_passes.specs.DroppedTypes.{AreNeedless, IsInExplicit, IsNeedless};
 ghost use Rattle.walrus_passes.specs.Keeping.{IsHeld};
@@ -39,7 +40,7 @@ fn is_needless(types: &ModuleTypes, kept: &KeptItems, id: TypeId) -> bool
     !kept.has(Item::new(Space::Type, id)) && (is_written(types, id) || is_in_explicit(types, id))
 }
 
-/// The types that aren't kept. Entry types are none of them, but for those in explicit groups.
+/// Marks of the types that aren't kept. Entry types are none of them, but for those in explicit groups.
 ///
 /// # Errors
 ///
@@ -48,17 +49,14 @@ pub(crate) fn needless_types(
     alloc: Global,
     types: &ModuleTypes,
     kept: &KeptItems,
-) -> Result<Vec<TypeId>, AllocError>
-    ensures { IfOk result (λ ids. AreNeedless (λ id. IsHeld kept.now (item spaces.Type id)) types.now ids.items) }
+) -> Result<Vec<bool>, AllocError>
+    ensures { IfOk result (λ marks. AreNeedless (λ id. IsHeld kept.now (item spaces.Type id)) types.now (marked marks.items)) }
 {
     walrus_types::laws::types_are_grouped(types);
-    let mut ids = Vec::new(alloc);
+    let mut marks = Vec::new(alloc);
     for index in 0..type_count(types) {
-        let id = TypeId::from_index(index);
-        if !is_needless(types, kept, id) {
-            continue;
-        }
-        ids.push(id)?;
+        let needless = is_needless(types, kept, TypeId::from_index(index));
+        marks.push(needless)?;
     }
-    Ok(ids)
+    Ok(marks)
 }

@@ -234,23 +234,23 @@ filter-passes p y (x ∷ xs) = elim (cases_Bool (p x)) as (λ _. has y (cond (p 
       ]
 ]
 
-both-true : (a b : Bool) → (a && b) ≡ true → a ≡ true
-both-true true b e = refl
-both-true false b e = absurd (false≢true e)
+kept-both : (a b : Bool) → (not a && b) ≡ true → a ≡ false
+kept-both true b e = absurd (false≢true e)
+kept-both false b e = refl
 
-still-live : (now before : Bool) → (now ≡ true → before ≡ now) → (now && (before && true)) ≡ (now && true)
-still-live true before e = ap (λ (b : Bool). b && true) (e refl)
-still-live false before e = refl
+still-there : (dies : Bool) (before now : Option Kind) → now ≡ cond dies None before → (not dies && (is_some before && true)) ≡ (is_some now && true)
+still-there true before now e = sym (ap (λ (k : Option Kind). is_some k && true) e)
+still-there false before now e = sym (ap (λ (k : Option Kind). is_some k && true) e)
 
 -- types die, and are taken out of the index behind that
-pub ordered-swept : (index : List ℕ) (ks ls : List (Option Kind)) → IsOrdered None index ks
-    → ((y : ℕ) → lives_at ls y ≡ true → slice_index_or ks y None ≡ slice_index_or ls y None) → IsOrdered None (filter (lives_at ls) index) ls
-ordered-swept index ks ls o same = record {
-  sorted = sorted-same ks ls (filter (lives_at ls) index)
-      (λ y e. same y (both-true (lives_at ls y) (has y index) (sym (filter-passes (lives_at ls) y index) ∙ e)))
-      (IsStrictlySortedBy-filter (id_cmp ks) (lives_at ls) index o.sorted);
-  listed = λ y. filter-passes (lives_at ls) y index ∙ ap (λ (b : Bool). lives_at ls y && b) (o.listed y)
-      ∙ still-live (lives_at ls y) (lives_at ks y) (λ e. ap (λ (k : Option Kind). is_some k) (same y e));
+pub ordered-swept : (dies : ℕ → Bool) (index : List ℕ) (ks ls : List (Option Kind)) → IsOrdered None index ks
+    → ((y : ℕ) → slice_index_or ls y None ≡ cond (dies y) None (slice_index_or ks y None)) → IsOrdered None (filter (λ y. not (dies y)) index) ls
+ordered-swept dies index ks ls o same = record {
+  sorted = sorted-same ks ls (filter (λ y. not (dies y)) index)
+      (λ y e. sym (same y ∙ ap (λ (b : Bool). cond b None (slice_index_or ks y None)) (kept-both (dies y) (has y index) (sym (filter-passes (λ z. not (dies z)) y index) ∙ e))))
+      (IsStrictlySortedBy-filter (id_cmp ks) (λ y. not (dies y)) index o.sorted);
+  listed = λ y. filter-passes (λ z. not (dies z)) y index ∙ ap (λ (b : Bool). not (dies y) && b) (o.listed y)
+      ∙ still-there (dies y) (slice_index_or ks y None) (slice_index_or ls y None) (same y);
   lent_lives = λ y e. absurd cc;
 }
 

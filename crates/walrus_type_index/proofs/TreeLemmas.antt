@@ -303,3 +303,7 @@ latest-exact ks kind own (y ∷ ys) s =
           exact-from ks kind own y ys s
           ∙ ap (λ (b : Bool). if_exact ks kind own (last_in (is_upto ks kind own) (cond (not b) (Some y) None) ys)) (sym upto_it)
     ]
+
+-- an id that passes stays between what is left of the others
+pub kept-mid : (p : ℕ → Bool) (l : List ℕ) (k : ℕ) (r : List ℕ) → p k ≡ true → filter p (l ++ k ∷ r) ≡ filter p l ++ k ∷ filter p r
+kept-mid p l k r passes = filter-append p l (k ∷ r) ∙ ap (λ (b : Bool). filter p l ++ cond b (k ∷ filter p r) (filter p r)) passes

@@ -15,6 +15,10 @@ has id ids = list_any (λ x. x == id) ids
 abbrev pub lives_at : List (Option Kind) → ℕ → Bool
 lives_at kinds id = is_some (slice_index_or kinds id None)
 
+-- whether that id is marked; those past the marks aren't
+abbrev pub is_marked : List Bool → ℕ → Bool
+is_marked marks id = slice_index_or marks id false
+
 -- the index has just the live types in order, the one that is lent aside, which lives
 pub record IsOrdered (lent : Option ℕ) (index : List ℕ) (kinds : List (Option Kind)) : Type 0 where
   pub sorted : IsStrictlySortedBy (id_cmp kinds) index

@@ -1,5 +1,5 @@
 -- What becomes of an index.
-use Rattle.std.specs.Prelude.{◌≡◌, ℕ, Bool, true, false, not, ◌==◌, List, Option, Some, None, filter, slice_index_or}
+use Rattle.std.specs.Prelude.{◌≡◌, ℕ, Bool, true, false, not, ◌==◌, List, Option, Some, None, filter, slice_index_or, if◌then◌else◌}
 use Rattle.std.specs.List.Sorted.{IsStrictlySortedBy}
 use Rattle.walrus_items.specs.walrus_forms.Kinds.{Kind}
 use Rattle.walrus_type_index.specs.Places.{id_cmp, is_before, is_exactly, last_in, put_in}
@@ -21,8 +21,8 @@ Dies = (id : ℕ) (index : List ℕ) (old new : List (Option Kind)) → IsOrdere
     → ((other : ℕ) → (id == other) ≡ false → slice_index_or old other None ≡ slice_index_or new other None) → lives_at new id ≡ false → IsOrdered None index new
 
 abbrev pub Sweeps : Type 0
-Sweeps = (index : List ℕ) (old new : List (Option Kind)) → IsOrdered None index old
-    → ((id : ℕ) → lives_at new id ≡ true → slice_index_or old id None ≡ slice_index_or new id None) → IsOrdered None (filter (lives_at new) index) new
+Sweeps = (dies : ℕ → Bool) (index : List ℕ) (old new : List (Option Kind)) → IsOrdered None index old
+    → ((id : ℕ) → slice_index_or new id None ≡ (if dies id then None else slice_index_or old id None)) → IsOrdered None (filter (λ id. not (dies id)) index) new
 
 abbrev pub IsBorn : Type 0
 IsBorn = (id : ℕ) (index : List ℕ) (old new : List (Option Kind)) → IsOrdered None index old → lives_at old id ≡ false

@@ -21,7 +21,7 @@ pub fn dying_keeps_order()
     ensures { Dies }
 {}
 
-/// Types die while the index isn't looked at, and are then taken out of it.
+/// Types die while the index isn't looked at, and are then taken out of it together.
 pub fn sweeping_keeps_order()
     ensures { Sweeps }
 {}

@@ -3,11 +3,13 @@
 
 pub mod laws;
 mod lent;
+mod marks;
 mod node;
 mod order;
 mod tree;
 
 pub use lent::{enter, lend, settle};
+pub use marks::is_marked;
 pub use node::{Spare, Tree};
 pub use order::Target;
 

@@ -4,9 +4,10 @@ ghost use Rattle.std.specs.Option.{option_map};
 ghost use Rattle.std.specs.List.Sorted.{IsStrictlySortedBy};
 ghost use Rattle.walrus_type_index.specs.Places.{kinds_in, id_cmp, is_before, is_upto, is_exactly, last_in, put_in};
 ghost use Rattle.walrus_type_index.specs.Targets.{target_kind};
-ghost use Rattle.walrus_type_index.specs.Ordered.{lives_at};
+ghost use Rattle.walrus_type_index.specs.Ordered.{is_marked};
 ghost use Rattle.walrus_type_index.specs.Tree.{node_ids, ids_of};
 
+use crate::marks::is_marked;
 use crate::node::{Node, Spare, Tree};
 use crate::order::{Target, compare, compare_key};
 use std::alloc::{AllocError, Global};
@@ -99,12 +100,12 @@ impl Tree {
         }
     }
 
-    /// Takes out the ids of types that don't live, in one walk. Takes no memory.
-    pub fn sweep(&mut self, types: &TombstoneArena<Type, TypeSpace>)
-        ensures { self.new ≡ filter (lives_at (kinds_in types.now.slots)) self.old }
+    /// Takes out the marked ids, in one walk. Takes no memory.
+    pub fn sweep(&mut self, marks: &[bool])
+        ensures { self.new ≡ filter (λ id. not (is_marked marks.now id)) self.old }
     {
         let tree = mem::replace(self, Tree::new());
-        *self = live(tree, types);
+        *self = unmarked(tree, marks);
     }
 
     /// The last id of a type of the kind that is looked for, of those that name themselves or of the others.
@@ -384,20 +385,20 @@ fn take(
     }
 }
 
-// The ids of live types.
-fn live(tree: Tree, types: &TombstoneArena<Type, TypeSpace>) -> Tree
-    ensures { result ≡ filter (lives_at (kinds_in types.now.slots)) tree }
+// The ids that aren't marked.
+fn unmarked(tree: Tree, marks: &[bool]) -> Tree
+    ensures { result ≡ filter (λ id. not (is_marked marks.now id)) tree }
 {
     match tree.open() {
         None => Tree::new(),
         Some(node) => {
             let (left, bare, right) = apart(node);
-            let before = live(left, types);
-            let behind = live(right, types);
-            if types.contains(bare.id) {
-                return between(before, bare, behind);
+            let before = unmarked(left, marks);
+            let behind = unmarked(right, marks);
+            if is_marked(marks, bare.id) {
+                return join(before, behind);
             }
-            join(before, behind)
+            between(before, bare, behind)
         }
     }
 }

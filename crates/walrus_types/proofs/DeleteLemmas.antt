@@ -28,14 +28,14 @@ left-of id old new group slot is seen members same =
     ∙ ap (λ (xs : List ℕ). nonempty_group new.explicit xs) (sym members)
 
 -- an element is the first one or a later one
-cons-cases : (y : ℕ) (ys : List ℕ) (x : ℕ) → Contains (y ∷ ys) x → (y ≡ x) ⊎ Contains ys x
+pub cons-cases : (y : ℕ) (ys : List ℕ) (x : ℕ) → Contains (y ∷ ys) x → (y ≡ x) ⊎ Contains ys x
 cons-cases y ys x (zero, less, at) = inl at
 cons-cases y ys x (suc k, less, at) = inr (k, omega arith, at)
 
-cons-here : (y : ℕ) (ys : List ℕ) (x : ℕ) → y ≡ x → Contains (y ∷ ys) x
+pub cons-here : (y : ℕ) (ys : List ℕ) (x : ℕ) → y ≡ x → Contains (y ∷ ys) x
 cons-here y ys x is = (0, omega arith, is)
 
-cons-later : (y : ℕ) (ys : List ℕ) (x : ℕ) → Contains ys x → Contains (y ∷ ys) x
+pub cons-later : (y : ℕ) (ys : List ℕ) (x : ℕ) → Contains ys x → Contains (y ∷ ys) x
 cons-later y ys x (k, less, at) = (suc k, omega arith, at)
 
 filter-keeps : (p : ℕ → Bool) (y : ℕ) (ys : List ℕ) → p y ≡ true → filter p (y ∷ ys) ≡ y ∷ filter p ys

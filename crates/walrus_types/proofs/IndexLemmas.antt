@@ -1,14 +1,16 @@
 -- What a table's index knows, through the lists of the code.
-use Rattle.std.proofs.Common.{◌≡◌, ◌∙◌, ℕ, List, [], ◌∷◌, ◌++◌, length, Option, Some, None, true, false, ◌==◌, slice_index_or, slice_set, IsSome, filter, refl, subst, sym, ap, arith, ⊎_elim, length-append}
+use Rattle.std.proofs.Common.{◌≡◌, ◌∙◌, ℕ, Bool, cond, not, List, [], ◌∷◌, ◌++◌, length, Option, Some, None, true, false, ◌==◌, slice_index_or, slice_set, IsSome, filter, refl, subst, sym, ap, arith, ⊎_elim, length-append}
 use Rattle.std.specs.Option.{option_map}
 use Rattle.std.specs.Prelude.{is_some}
 use Rattle.walrus_type_index.specs.walrus_items.declared.subtype.Type.{«Type» as TypeItem}
 use Rattle.walrus_type_index.specs.walrus_items.Items.{kind_of}
 use Rattle.walrus_type_index.specs.Places.{kinds_in}
-use Rattle.walrus_type_index.specs.Ordered.{IsOrdered, lives_at}
+use Rattle.walrus_type_index.specs.Ordered.{IsOrdered, is_marked, lives_at}
 use Rattle.walrus_type_index.proofs.OrderedLemmas.{ordered-written, ordered-dead, ordered-swept, ordered-new}
-use Rattle.walrus_types.proofs.TableLemmas.{at-map, held}
-use Rattle.walrus_type_index.proofs.walrus_forms.walrus_arena.ArenaLemmas.{at-deleted, at-kept, at-last, at-other, live-within}
+use Rattle.walrus_type_index.specs.walrus_items.walrus_forms.Kinds.{Kind}
+use Rattle.walrus_types.proofs.MarkLemmas.{IsCleared}
+use Rattle.walrus_types.proofs.TableLemmas.{at-map}
+use Rattle.walrus_type_index.proofs.walrus_forms.walrus_arena.ArenaLemmas.{at-kept, at-last, at-other, live-within}
 use Rattle.std.proofs.lemmas.List.{get_or-set_same, get_or_past}
 use Rattle.std.proofs.lemmas.Bool.{eq-eqb, false≢true, cases_lt}
 
@@ -45,26 +47,19 @@ lent-dead slots index id old at o =
     ordered-dead id index (kinds_in slots) (kinds_in (slice_set slots id None)) o (kinds-apart slots None id)
     (ap is_some (at-map kind_of (slice_set slots id None) id ∙ ap (option_map kind_of) (get_or-set_same slots id None None (live-within slots id old at))))
 
--- what is left is what was there
-abbrev pub AreKept : List (Option TypeItem) → List (Option TypeItem) → Type 0
-AreKept old new = (id : ℕ) → IsSome (slice_index_or new id None) → slice_index_or new id None ≡ slice_index_or old id None
+kind-left : (dies : Bool) (slot : Option TypeItem) → option_map kind_of (cond dies None slot) ≡ cond dies None (option_map kind_of slot)
+kind-left true slot = refl
+kind-left false slot = refl
 
-pub kept_more : (first now after : List (Option TypeItem)) (gone : ℕ) → after ≡ slice_set now gone None → AreKept first now → AreKept first after
-kept_more first now after gone is kept id lives =
-    let h = held (slice_index_or after id None) lives in
-    let was = at-deleted now gone id h.0 (ap (λ (slots : List (Option TypeItem)). slice_index_or slots id None) (sym is) ∙ h.1) in
-    h.1 ∙ sym was.0 ∙ kept id (subst IsSome (sym was.0) refl)
-
-seen-lives : (slot : Option TypeItem) → is_some (option_map kind_of slot) ≡ true → IsSome slot
-seen-lives None live = live
-seen-lives (Some ty) live = refl
-
--- types died, and the index is swept
-pub swept_order : (old new : List (Option TypeItem)) (index : List ℕ) → IsOrdered None index (kinds_in old) → AreKept old new
-    → IsOrdered None (filter (lives_at (kinds_in new)) index) (kinds_in new)
-swept_order old new index o kept =
-    ordered-swept index (kinds_in old) (kinds_in new) o
-    (λ id live. kinds-agree old new id (sym (kept id (seen-lives (slice_index_or new id None) (sym (ap is_some (at-map kind_of new id)) ∙ live)))))
+-- the types of the marked ids died, and these are taken out of the index
+pub swept_order : (old new : List (Option TypeItem)) (marks : List Bool) (index : List ℕ) → IsOrdered None index (kinds_in old) → IsCleared marks old new
+    → IsOrdered None (filter (λ id. not (is_marked marks id)) index) (kinds_in new)
+swept_order old new marks index o cleared =
+    ordered-swept (is_marked marks) index (kinds_in old) (kinds_in new) o
+    (λ id. at-map kind_of new id
+    ∙ ap (option_map kind_of) (cleared id)
+    ∙ kind-left (is_marked marks id) (slice_index_or old id None)
+    ∙ ap (λ (k : Option Kind). cond (is_marked marks id) None k) (sym (at-map kind_of old id)))
 
 -- the slots apart from one that is added
 slots-apart : (slots : List (Option TypeItem)) (ty : TypeItem) (y : ℕ) → (length slots == y) ≡ false

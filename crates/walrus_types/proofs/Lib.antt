@@ -6,6 +6,7 @@ pub mod GroupLemmas
 pub mod HighestLemmas
 pub mod IndexLemmas
 pub mod LawLemmas
+pub mod MarkLemmas
 pub mod MergerLemmas
 pub mod OnceLemmas
 pub mod PairLemmas

@@ -1,15 +1,15 @@
 -- The table over the deletion of many types: its groups are swept one by one.
-use Rattle.std.proofs.Common.{◌≡◌, ◌≢◌, ◌∙◌, ℕ, zero, suc, ◌+◌, ◌≤◌, Bool, true, false, List, [], ◌∷◌, length, map, filter, add-one, Contains, AllPairs, Option, Some, None, slice_index, slice_index_or, slice_set, refl, sym, ap, arith, subst, IsSome}
-use Rattle.std.specs.Prelude.{is_some, ◌↔◌, IsTrue}
+use Rattle.std.proofs.Common.{◌≡◌, ◌≢◌, ◌∙◌, ℕ, zero, suc, ◌+◌, ◌≤◌, Bool, false, not, List, [], ◌∷◌, length, map, filter, add-one, Contains, AllPairs, Option, Some, None, slice_index, slice_index_or, slice_set, refl, sym, ap, arith, subst, IsSome}
+use Rattle.std.specs.Prelude.{is_some, IsTrue}
 use Rattle.std.specs.Option.{option_map, option_and_then}
 use Rattle.std.proofs.lemmas.Bool.{false≢true}
 use Rattle.std.proofs.lemmas.List.{length-map, map-set, set-get_or}
 use Rattle.std.proofs.lemmas.List.Kept.{AllPairs-filter}
 use Rattle.std.proofs.Math.ListN.{get_or-map}
+use Rattle.walrus_type_index.specs.Ordered.{is_marked}
 use Rattle.walrus_type_index.specs.walrus_items.declared.subtype.RecGroup.{RecGroup}
-use Rattle.walrus_type_index.specs.walrus_items.declared.subtype.Type.{«Type» as TypeItem}
-use Rattle.walrus_type_index.specs.walrus_items.Items.{Item, Group, item_of, group_of}
-use Rattle.walrus_types.specs.Table.{IsGrouped, RiseBelow, nonempty_group, with_live, clear_all}
+use Rattle.walrus_type_index.specs.walrus_items.Items.{Item, Group, group_of}
+use Rattle.walrus_types.specs.Table.{IsGrouped, RiseBelow, nonempty_group, with_live, without_marked, clear_all}
 use Rattle.walrus_types.proofs.TableLemmas.{at-map, held}
 use Rattle.walrus_types.proofs.DeleteLemmas.{nonempty-some, contains-filter, filter-contains, nothing, length-clear_all, at-cleared}
 
@@ -56,12 +56,12 @@ swept-step f first now after k place is before step =
     ∙ ap (λ (n : ℕ). swept_to f n start) (sym (add-one k))
 
 -- what is left of one group
-pub left-live : (types : List (Option Item)) (old new : RecGroup) (slot : Option RecGroup) → slot ≡ Some old
-    → new.types.items ≡ filter (λ member. is_some (slice_index_or types member None)) old.types.items → new.explicit ≡ old.explicit
-    → option_and_then (with_live types) (option_map group_of slot) ≡ nonempty_group new.explicit new.types.items
-left-live types old new slot is members same =
-    ap (λ (s : Option RecGroup). option_and_then (with_live types) (option_map group_of s)) is
-    ∙ ap (λ (b : Bool). nonempty_group b (filter (λ member. is_some (slice_index_or types member None)) old.types.items)) (sym same)
+pub left-unmarked : (marks : List Bool) (old new : RecGroup) (slot : Option RecGroup) → slot ≡ Some old
+    → new.types.items ≡ filter (λ id. not (is_marked marks id)) old.types.items → new.explicit ≡ old.explicit
+    → option_and_then (without_marked marks) (option_map group_of slot) ≡ nonempty_group new.explicit new.types.items
+left-unmarked marks old new slot is members same =
+    ap (λ (s : Option RecGroup). option_and_then (without_marked marks) (option_map group_of s)) is
+    ∙ ap (λ (b : Bool). nonempty_group b (filter (λ id. not (is_marked marks id)) old.types.items)) (sym same)
     ∙ ap (λ (xs : List ℕ). nonempty_group new.explicit xs) (sym members)
 
 -- its place is written
@@ -75,32 +75,14 @@ none-there None lives test dead = refl
 none-there (Some x) lives test dead = absurd (false≢true (sym dead ∙ test refl))
 
 -- or there is none
-pub swept-dead : (types : List (Option Item)) (slots : List (Option RecGroup)) (place : ℕ) (lives : Bool) → (IsSome (slice_index_or slots place None) → IsTrue lives) → lives ≡ false
-    → map (option_map group_of) slots ≡ slice_set (map (option_map group_of) slots) place (option_and_then (with_live types) (option_map group_of (slice_index_or slots place None)))
-swept-dead types slots place lives test dead =
+pub swept-dead : (marks : List Bool) (slots : List (Option RecGroup)) (place : ℕ) (lives : Bool) → (IsSome (slice_index_or slots place None) → IsTrue lives) → lives ≡ false
+    → map (option_map group_of) slots ≡ slice_set (map (option_map group_of) slots) place (option_and_then (without_marked marks) (option_map group_of (slice_index_or slots place None)))
+swept-dead marks slots place lives test dead =
     let none = none-there (slice_index_or slots place None) lives test dead in
     let shown : List (Option Group) = map (option_map group_of) slots in
     sym (set-get_or shown place None)
     ∙ ap (λ (slot : Option Group). slice_set shown place slot) (at-map group_of slots place ∙ ap (option_map group_of) none)
-    ∙ ap (λ (slot : Option RecGroup). slice_set shown place (option_and_then (with_live types) (option_map group_of slot))) (sym none)
-
-some-shown : {X Y : Type 0} (f : X → Y) (o : Option X) → is_some (option_map f o) ≡ is_some o
-some-shown f None = refl
-some-shown f (Some x) = refl
-
-same-test : (a b : Bool) → (IsTrue a ↔ IsTrue b) → a ≡ b
-same-test true true e = refl
-same-test false false e = refl
-same-test true false e = sym (e.0 refl)
-same-test false true e = e.1 refl
-
--- whether a type lives, as the table sees it
-pub lives-shown : (slots : List (Option TypeItem)) (id : ℕ) (b : Bool) → (IsTrue b ↔ IsSome (slice_index_or slots id None))
-    → b ≡ is_some (slice_index_or (map (option_map item_of) slots) id None)
-lives-shown slots id b lives =
-    same-test b (is_some (slice_index_or slots id None)) lives
-    ∙ sym (some-shown item_of (slice_index_or slots id None))
-    ∙ ap (λ (o : Option Item). is_some o) (sym (at-map item_of slots id))
+    ∙ ap (λ (slot : Option RecGroup). slice_set shown place (option_and_then (without_marked marks) (option_map group_of slot))) (sym none)
 
 left-is : (explicit : Bool) (xs : List ℕ) (h : Group) → nonempty_group explicit xs ≡ Some h → h ≡ record { explicit = explicit; types = xs }
 left-is explicit [] h is = absurd cc

@@ -1,5 +1,5 @@
 -- What a contract sees of a type table: the types and the groups by id, live or dead.
-use Rattle.std.specs.Prelude.{◌≡◌, ◌≢◌, ℕ, ◌<◌, ◌≤◌, Bool, false, not, ◌&&◌, ◌==◌, List, [], ◌∷◌, ◌++◌, length, map, filter, find, Contains, AllPairs, Option, Some, None, is_some, IsSome, IsTrue, MatchOption, slice_index, slice_index_or, slice_set, if◌then◌else◌}
+use Rattle.std.specs.Prelude.{◌≡◌, ◌≢◌, ℕ, suc, ◌<◌, ◌≤◌, Bool, false, not, ◌&&◌, ◌==◌, List, [], ◌∷◌, ◌++◌, length, map, filter, find, Contains, AllPairs, Option, Some, None, is_some, IsSome, IsTrue, MatchOption, slice_index, slice_index_or, slice_set, if◌then◌else◌}
 use Rattle.std.specs.List.{list_any}
 use Rattle.std.specs.Option.{option_map, option_map_or, option_and_then}
 use Rattle.walrus_type_index.specs.walrus_items.walrus_arena.Arena.{entries_from}
@@ -10,7 +10,7 @@ use Rattle.walrus_type_index.specs.walrus_items.walrus_forms.Forms.{is_function}
 use Rattle.walrus_type_index.specs.walrus_items.walrus_forms.Kinds.{Kind, kind_names, function_kind}
 use Rattle.walrus_type_index.specs.walrus_items.Items.{Item, Group, item_of, group_of, has_name}
 use Rattle.walrus_type_index.specs.walrus_items.walrus_forms.Same.{same_kind}
-use Rattle.walrus_type_index.specs.Ordered.{IsOrdered}
+use Rattle.walrus_type_index.specs.Ordered.{IsOrdered, is_marked}
 -- whether a type of an id and kind names itself
 pub use Rattle.walrus_type_index.specs.Places.{names_itself}
 
@@ -107,6 +107,15 @@ abbrev pub clear_all : List ℕ → List (Option Item) → List (Option Item)
 clear_all [] types = types
 clear_all (id ∷ ids) types = clear_all ids (slice_set types id None)
 
+-- the places of the marks that are set, counted from this one
+abbrev pub marked_from : ℕ → List Bool → List ℕ
+marked_from place [] = []
+marked_from place (mark ∷ marks) = if mark then place ∷ marked_from (suc place) marks else marked_from (suc place) marks
+
+-- the marked ids
+abbrev pub marked : List Bool → List ℕ
+marked marks = marked_from 0 marks
+
 -- the group of the type is gone, with all its members
 abbrev pub DeletesGroup : ℕ → Table → Table → Type 0
 DeletesGroup id old new = (place : ℕ) (group : Group) → group_at old place ≡ Some group → Contains group.types id
@@ -115,6 +124,10 @@ DeletesGroup id old new = (place : ℕ) (group : Group) → group_at old place �
 -- a group without its members that aren't among these types
 abbrev pub with_live : List (Option Item) → Group → Option Group
 with_live types group = nonempty_group group.explicit (filter (λ id. is_some (slice_index_or types id None)) group.types)
+
+-- a group without its marked members
+abbrev pub without_marked : List Bool → Group → Option Group
+without_marked marks group = nonempty_group group.explicit (filter (λ id. not (is_marked marks id)) group.types)
 
 -- those of these types that live are gone, from their groups too
 pub record DeletesAll (ids : List ℕ) (old new : Table) : Type 0 where

@@ -1,17 +1,17 @@
 //! Deleting types from a table.
-ghost use Rattle.std.specs.Prelude.{◌≡◌, ◌<◌, length, slice_index, ℕ, Bool, true, false, not, [], map, filter, Contains, Some, None, is_some, IsSome, slice_set};
+ghost use Rattle.std.specs.Prelude.{◌≡◌, ◌<◌, length, slice_index, ℕ, Bool, true, false, not, [], map, filter, Contains, Some, None, IsSome, slice_set, if◌then◌else◌};
 ghost use Rattle.std.specs.Bool.{OnTrue, OnFalse};
 ghost use Rattle.std.specs.Option.{option_map, option_and_then};
 ghost use Rattle.walrus_type_index.specs.walrus_items.walrus_arena.Arena.{IsLive as HasLive, item_at};
 ghost use Rattle.walrus_type_index.specs.walrus_items.Items.{Group, group_of, item_of};
 ghost use Rattle.walrus_type_index.specs.Places.{kinds_in};
-ghost use Rattle.walrus_type_index.specs.Ordered.{IsOrdered};
-ghost use Rattle.walrus_types.specs.Table.{IsLive, Deletes, DeletesGroup, group_at, is_named_in, is_named_at, clear_all, without_member, with_live, table_of, type_at};
+ghost use Rattle.walrus_type_index.specs.Ordered.{IsOrdered, is_marked};
+ghost use Rattle.walrus_types.specs.Table.{IsLive, Deletes, DeletesGroup, group_at, is_named_in, is_named_at, clear_all, marked, without_member, without_marked, table_of};
 
 use crate::table::ModuleTypes;
 use walrus_type_index::arena::{RecGroupId, RecGroupSpace, TombstoneArena, TypeId, TypeSpace};
 use walrus_type_index::items::{RecGroup, Type};
-use walrus_type_index::{Tree, lend};
+use walrus_type_index::{Tree, is_marked, lend};
 
 // Takes a type out of its group, which goes where none is left.
 pub(crate) fn leave_group(
@@ -44,7 +44,11 @@ fn clear(types: &mut TombstoneArena<Type, TypeSpace>, index: &mut Tree, id: Type
 }
 
 // Deletes these types, those of them that live, each by a search of the index. No type is lent.
-fn clear_each(types: &mut TombstoneArena<Type, TypeSpace>, index: &mut Tree, ids: &[TypeId])
+pub(crate) fn clear_each(
+    types: &mut TombstoneArena<Type, TypeSpace>,
+    index: &mut Tree,
+    ids: &[TypeId],
+)
     requires { IsOrdered None index.old (kinds_in types.old.slots) }
     ensures types { map (option_map item_of) types.new.slots ≡ clear_all ids.now (map (option_map item_of) types.old.slots) }
     ensures ordered { IsOrdered None index.new (kinds_in types.new.slots) }
@@ -63,44 +67,41 @@ fn kill(types: &mut TombstoneArena<Type, TypeSpace>, id: TypeId)
     }
 }
 
-// Deletes these types, those of them that live. The index isn't looked at.
-fn kill_all(types: &mut TombstoneArena<Type, TypeSpace>, ids: &[TypeId])
-    ensures types { map (option_map item_of) types.new.slots ≡ clear_all ids.now (map (option_map item_of) types.old.slots) }
-    ensures others { (id : ℕ) → IsSome (item_at types.new id) → item_at types.new id ≡ item_at types.old id }
+// Deletes the types of the marked ids, those of them that live. The index isn't looked at.
+fn kill_marked(types: &mut TombstoneArena<Type, TypeSpace>, marks: &[bool])
+    ensures sized { length types.new.slots ≡ length types.old.slots }
+    ensures each { (id : ℕ) → item_at types.new id ≡ (if is_marked marks.now id then None else item_at types.old id) }
 {
-    for id in ids {
-        kill(types, *id);
+    for index in 0..types.next_id().index() {
+        let id = TypeId::from_index(index);
+        if is_marked(marks, id) {
+            kill(types, id);
+        }
     }
 }
 
-// Deletes these types, those of them that live, and then takes them out of the index in one walk of it. No type is lent.
-fn clear_together(types: &mut TombstoneArena<Type, TypeSpace>, index: &mut Tree, ids: &[TypeId])
-    requires { IsOrdered None index.old (kinds_in types.old.slots) }
-    ensures types { map (option_map item_of) types.new.slots ≡ clear_all ids.now (map (option_map item_of) types.old.slots) }
-    ensures ordered { IsOrdered None index.new (kinds_in types.new.slots) }
+// Whether an id is marked.
+fn has_marked(marks: &[bool]) -> bool
+    ensures { OnFalse result ((id : ℕ) → is_marked marks.now id ≡ false) }
 {
-    kill_all(types, ids);
-    index.sweep(types);
+    marks.iter().any(|mark| *mark)
 }
 
-// As many types as are walked past in the time of one search.
-const SEARCH: usize = 4;
-
-// Deletes these types, those of them that live. No type is lent.
-pub(crate) fn clear_types(
+// Deletes the types of the marked ids, those of them that live, and then takes them out of the index in one walk of it. No type is lent.
+pub(crate) fn clear_marked(
     types: &mut TombstoneArena<Type, TypeSpace>,
     index: &mut Tree,
-    ids: &[TypeId],
+    marks: &[bool],
 )
     requires { IsOrdered None index.old (kinds_in types.old.slots) }
-    ensures types { map (option_map item_of) types.new.slots ≡ clear_all ids.now (map (option_map item_of) types.old.slots) }
+    ensures types { map (option_map item_of) types.new.slots ≡ clear_all (marked marks.now) (map (option_map item_of) types.old.slots) }
     ensures ordered { IsOrdered None index.new (kinds_in types.new.slots) }
 {
-    if ids.len() < types.len() / SEARCH {
-        clear_each(types, index, ids);
-    } else {
-        clear_together(types, index, ids);
+    if !has_marked(marks) {
+        return;
     }
+    kill_marked(types, marks);
+    index.sweep(marks);
 }
 
 // Whether that type lives and names this one.
@@ -132,48 +133,34 @@ pub(crate) fn home_of(homes: &[RecGroupId], id: TypeId) -> RecGroupId
     homes[id.index()]
 }
 
-// Whether the type lives.
-fn lives(types: &TombstoneArena<Type, TypeSpace>, id: TypeId) -> bool
-    ensures { result ≡ is_some (type_at (table_of types.now.slots []) id) }
-{
-    types.contains(id)
-}
-
-// Takes the members that don't live out of the group.
-fn keep_live(group: &mut RecGroup, types: &TombstoneArena<Type, TypeSpace>)
-    ensures members { group.new.types.items ≡ filter (λ member. is_some (type_at (table_of types.now.slots []) member)) group.old.types.items }
+// Takes the marked members out of the group.
+fn keep_unmarked(group: &mut RecGroup, marks: &[bool])
+    ensures members { group.new.types.items ≡ filter (λ id. not (is_marked marks.now id)) group.old.types.items }
     ensures explicit { group.new.explicit ≡ group.old.explicit }
 {
-    group.types.retain(|member| lives(types, *member));
+    group.types.retain(|member| !is_marked(marks, *member));
 }
 
-// Takes the members that don't live out of the group of this id, if it lives. It goes where none is left.
-fn sweep_at(
-    groups: &mut TombstoneArena<RecGroup, RecGroupSpace>,
-    types: &TombstoneArena<Type, TypeSpace>,
-    place: RecGroupId,
-)
+// Takes the marked members out of the group of this id, if it lives. It goes where none is left.
+fn sweep_at(groups: &mut TombstoneArena<RecGroup, RecGroupSpace>, marks: &[bool], place: RecGroupId)
     ensures { map (option_map group_of) groups.new.slots
-        ≡ slice_set (map (option_map group_of) groups.old.slots) place (option_and_then (with_live (map (option_map item_of) types.now.slots)) (option_map group_of (item_at groups.old place))) }
+        ≡ slice_set (map (option_map group_of) groups.old.slots) place (option_and_then (without_marked marks.now) (option_map group_of (item_at groups.old place))) }
 {
     if !groups.contains(place) {
         return;
     }
     let group = &mut groups[place];
-    keep_live(group, types);
+    keep_unmarked(group, marks);
     if group.is_empty() {
         groups.delete(place);
     }
 }
 
-// Takes the members that don't live out of each group. Those go where none is left.
-pub(crate) fn sweep(
-    groups: &mut TombstoneArena<RecGroup, RecGroupSpace>,
-    types: &TombstoneArena<Type, TypeSpace>,
-)
-    ensures { map (option_map group_of) groups.new.slots ≡ map (option_and_then (with_live (map (option_map item_of) types.now.slots))) (map (option_map group_of) groups.old.slots) }
+// Takes the marked members out of each group. Those go where none is left.
+pub(crate) fn sweep(groups: &mut TombstoneArena<RecGroup, RecGroupSpace>, marks: &[bool])
+    ensures { map (option_map group_of) groups.new.slots ≡ map (option_and_then (without_marked marks.now)) (map (option_map group_of) groups.old.slots) }
 {
     for index in 0..groups.next_id().index() {
-        sweep_at(groups, types, RecGroupId::from_index(index));
+        sweep_at(groups, marks, RecGroupId::from_index(index));
     }
 }

@@ -5,7 +5,7 @@ ghost use Rattle.std.specs.Borrow.{sem};
 ghost use Rattle.walrus_type_index.specs.walrus_items.walrus_forms.Forms.{form_of, params_of, results_of};
 ghost use Rattle.walrus_type_index.specs.walrus_items.walrus_forms.Kinds.{function_kind, entry_kind, struct_kind, array_kind, declared_kind};
 ghost use Rattle.walrus_type_index.specs.walrus_items.Items.{Group, item_of, group_of};
-ghost use Rattle.walrus_types.specs.Table.{next_id, type_at, IsLive, IsFunctionType, found_type, named_type, entries, Merges, HasMember, Deletes, DeletesAll, DeletesGroup, group_at, is_named_in};
+ghost use Rattle.walrus_types.specs.Table.{next_id, type_at, IsLive, IsFunctionType, found_type, named_type, entries, Merges, HasMember, Deletes, DeletesAll, DeletesGroup, group_at, is_named_in, marked};
 ghost use Rattle.walrus_type_index.specs.walrus_items.walrus_arena.Arena.{entries_from};
 ghost use Rattle.std.specs.Fn.{FnOnceTakesAt, FnOnceReturnsAt};
 ghost use Rattle.std.specs.List.{range_with_len};
@@ -13,7 +13,7 @@ ghost use Rattle.walrus_types.specs.Groups.{AddsGroup, IsBuilt, IsCause, member_
 ghost use Rattle.walrus_types.specs.TypeLaws.{AreGrouped};
 ghost use Rattle.walrus_types.specs.TableLends.{lends_type};
 
-use crate::delete::{clear_types, home_of, leave_group, members_name, sweep};
+use crate::delete::{clear_each, clear_marked, home_of, leave_group, members_name, sweep};
 use crate::error::IrError;
 use crate::group::{NewType, Single, ids_from, push_single, push_types, reserve_singles, types_of};
 use crate::index::{later, lent_function, look_up};
@@ -144,18 +144,18 @@ impl ModuleTypes {
         let group = &mut self.groups[home];
         let members = mem::replace(&mut group.types, Vec::new(self.alloc));
         settle(&mut self.index, &mut self.lent, &self.types);
-        clear_types(&mut self.types, &mut self.index, members.as_slice());
+        clear_each(&mut self.types, &mut self.index, members.as_slice());
         self.groups.delete(home);
     }
 
-    /// Deletes these types, those of them that live. Each group keeps the other members, and goes where there
-    /// is none. Takes no memory.
-    pub fn delete_all(&mut self, ids: &[TypeId])
-        ensures { DeletesAll ids.now self.old self.new }
+    /// Deletes the types of the marked ids, those of them that live. Each group keeps the other members, and goes where there
+    /// is none. Ids past the marks aren't marked. Takes no memory.
+    pub fn delete_marked(&mut self, marks: &[bool])
+        ensures { DeletesAll (marked marks.now) self.old self.new }
     {
         settle(&mut self.index, &mut self.lent, &self.types);
-        clear_types(&mut self.types, &mut self.index, ids);
-        sweep(&mut self.groups, &self.types);
+        clear_marked(&mut self.types, &mut self.index, marks);
+        sweep(&mut self.groups, marks);
     }
 
     // Where its lists take their memory.

@@ -56,21 +56,13 @@ fn group_sizes(types: &ModuleTypes) -> usize {
     sizes
 }
 
-// Of groups of three, two and one, whether the second goes with one of the first, in one call; then these
-// ids are dead, and nothing more goes.
+// Of groups of three, two and one, whether the second goes with one of the first, in one call, and a mark past all types changes nothing;
+// then these ids are dead, and nothing more goes.
 pub fn many_go(types: &mut ModuleTypes) -> bool {
-    let first = TypeId::from_index(1);
-    let pair = TypeId::from_index(4);
-    let ids = [
-        pair,
-        first,
-        TypeId::from_index(3),
-        pair,
-        TypeId::from_index(9),
-    ];
-    types.delete_all(&ids);
+    let marks = [false, true, false, true, true, false, false, true];
+    types.delete_marked(&marks);
     let gone = live_ids(types) == 25 && group_sizes(types) == 21;
-    types.delete_all(&ids);
+    types.delete_marked(&marks);
     gone && live_ids(types) == 25 && group_sizes(types) == 21
 }
 
@@ -99,13 +91,9 @@ fn found_ids(types: &ModuleTypes) -> usize {
 // the others are still found.
 pub fn others_are_found(types: &mut ModuleTypes) -> bool {
     let all = found_ids(types) == 12345;
-    types.delete_all(&[TypeId::from_index(2)]);
+    types.delete_marked(&[false, false, true]);
     let one = found_ids(types) == 12045;
-    types.delete_all(&[
-        TypeId::from_index(6),
-        TypeId::from_index(0),
-        TypeId::from_index(3),
-    ]);
+    types.delete_marked(&[true, false, false, true, false, false, true]);
     all && one && found_ids(types) == 2005 && live_ids(types) == 1457
 }
 

@@ -1,6 +1,7 @@
 use Rattle.std.proofs.Common.{refl}
 use Rattle.wasm_formats.specs.declared.fault.Space.TheVariants as spaces
 use Rattle.walrus_roots.specs.Items.{item}
+use Rattle.walrus_types.specs.Table.{marked}
 use Rattle.walrus_passes.specs.Keeping.{IsHeld}
 use Rattle.walrus_passes.proofs.KeptLemmas.{surely_held}
 use Rattle.walrus_passes.proofs.TypeLemmas.{types_rest}
@@ -8,7 +9,7 @@ use Rattle.walrus_passes.proofs.gc.drop_unkept.Goals as goal
 
 pub returns-clause-part : goal.returns-clause-part
 returns-clause-part g c = record {
-  types = types_rest (λ id. IsHeld c.args.kept.now (item spaces.Type id)) (surely_held c.args.kept.now) c.args.input.now.types c.delete_all.new.self c.args.types.now c.types_are_grouped.ensures c.requires.closed c.requires.listed c.delete_all.ensures;
+  types = types_rest (λ id. IsHeld c.args.kept.now (item spaces.Type id)) (surely_held c.args.kept.now) c.args.input.now.types c.delete_marked.new.self (marked c.args.types.now) c.types_are_grouped.ensures c.requires.closed c.requires.listed c.delete_marked.ensures;
   funcs = c.drop_items.ensures;
   tables = c.drop_items-2.ensures;
   memories = c.drop_items-3.ensures;

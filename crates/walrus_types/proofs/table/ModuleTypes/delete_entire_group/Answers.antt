@@ -14,17 +14,17 @@ index_mut-group-requires c = home-live c.self.inside.types.slots c.self.inside.g
 
 pub invariant_of-self : goal.invariant_of-self
 invariant_of-self c =
-    let cleared = c.clear_types.ensures.types ∙ ap (λ (ids : List ℕ). clear_all ids (map (option_map item_of) c.self.inside.types.slots)) (c.as_slice-2.ensures.value ∙ ap (λ v. v.items) c.replace-members.ensures.value) in
+    let cleared = c.clear_each.ensures.types ∙ ap (λ (ids : List ℕ). clear_all ids (map (option_map item_of) c.self.inside.types.slots)) (c.as_slice-2.ensures.value ∙ ap (λ v. v.items) c.replace-members.ensures.value) in
     record {
-      ordered = subst (λ (l : Option ℕ). IsOrdered l c.clear_types.new.index (kinds_in c.clear_types.new.types.slots)) (sym c.settle.ensures.lent) c.clear_types.ensures.ordered;
-      grouped = rw (c.delete.ensures.deleted, set-set) (deletes-group-grouped c.self.inside.types.slots c.self.inside.groups.slots c.self.inside.homes.items c.self.invariant.grouped c.clear_types.new.types.slots c.home_of-home.result
+      ordered = subst (λ (l : Option ℕ). IsOrdered l c.clear_each.new.index (kinds_in c.clear_each.new.types.slots)) (sym c.settle.ensures.lent) c.clear_each.ensures.ordered;
+      grouped = rw (c.delete.ensures.deleted, set-set) (deletes-group-grouped c.self.inside.types.slots c.self.inside.groups.slots c.self.inside.homes.items c.self.invariant.grouped c.clear_each.new.types.slots c.home_of-home.result
           c.index_mut-group.result.now c.index_mut-group.ensures.value cleared);
     }
 
 pub returns : goal.returns
 returns c =
-    let cleared = c.clear_types.ensures.types ∙ ap (λ (ids : List ℕ). clear_all ids (map (option_map item_of) c.self.inside.types.slots)) (c.as_slice-2.ensures.value ∙ ap (λ v. v.items) c.replace-members.ensures.value) in
+    let cleared = c.clear_each.ensures.types ∙ ap (λ (ids : List ℕ). clear_all ids (map (option_map item_of) c.self.inside.types.slots)) (c.as_slice-2.ensures.value ∙ ap (λ v. v.items) c.replace-members.ensures.value) in
     rw (c.delete.ensures.deleted, set-set)
-    (deletes-group c.self.inside.types.slots c.self.inside.groups.slots c.self.inside.homes.items c.self.invariant.grouped c.clear_types.new.types.slots c.args.id c.home_of-home.result c.args.self.now c.index_mut-group.result.now c.self.view_is
+    (deletes-group c.self.inside.types.slots c.self.inside.groups.slots c.self.inside.homes.items c.self.invariant.grouped c.clear_each.new.types.slots c.args.id c.home_of-home.result c.args.self.now c.index_mut-group.result.now c.self.view_is
     (sym (c.home_of-home.ensures ∙ ap (λ xs. slice_index xs c.args.id) c.as_slice.ensures.value))
     c.index_mut-group.ensures.value cleared)
