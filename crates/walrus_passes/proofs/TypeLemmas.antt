@@ -1,5 +1,5 @@
 -- What is left of the types.
-use Rattle.std.proofs.Common.{◌≡◌, ◌∙◌, ◌⊎◌, ◌+◌, ◌<◌, ◌≤◌, ℕ, Bool, true, false, List, [], ◌∷◌, ◌++◌, Option, Some, None, Contains, length, suc, refl, sym, ap, subst, inl, inr, arith}
+use Rattle.std.proofs.Common.{◌≡◌, ◌∙◌, ◌⊎◌, ◌+◌, ◌<◌, ◌≤◌, ℕ, Bool, true, false, List, [], ◌∷◌, ◌++◌, Option, Some, None, Contains, length, length-append, suc, refl, sym, ap, subst, inl, inr, arith}
 use Rattle.std.specs.Prelude.{◌↔◌, Decides, IsSome, is_some, filter, if◌then◌else◌, slice_index_or}
 use Rattle.std.specs.Option.{option_and_then}
 use Rattle.std.proofs.Math.ListN.{get_or-map}
@@ -105,14 +105,13 @@ nothing_more [] = refl
 nothing_more (id ∷ ids) = ap (λ (more : List ℕ). id ∷ more) (nothing_more ids)
 
 pub one_longer : (marks : List Bool) (mark : Bool) → length (marks ++ mark ∷ []) ≡ length marks + 1
-one_longer [] mark = refl
-one_longer (x ∷ marks) mark = ap suc (one_longer marks mark)
+one_longer marks mark = length-append marks (mark ∷ [])
 
 pub mark_listed : (N : ℕ → Type 0) (marks : List Bool) (n id : ℕ) (mark : Bool) → length marks ≡ n → id ≡ n → Decides mark (N id)
     → ((k : ℕ) → Contains (marked marks) k ↔ ((k < n) × N k)) → (k : ℕ) → Contains (marked (marks ++ mark ∷ [])) k ↔ ((k < n + 1) × N k)
 mark_listed N marks n id true sized is here before k =
     subst (λ (ids : List ℕ). Contains ids k ↔ ((k < n + 1) × N k))
-    (ap (λ (i : ℕ). marked marks ++ i ∷ []) (is ∙ sym sized) ∙ sym (marked_more 0 marks true))
+    (ap (λ (i : ℕ). marked marks ++ i ∷ []) (let e : id ≡ 0 + length marks = omega (arith, is, sized) in e) ∙ sym (marked_more 0 marks true))
     (one_listed N (marked marks) n id is (here.0 refl) before k)
 mark_listed N marks n id false sized is here before k =
     subst (λ (ids : List ℕ). Contains ids k ↔ ((k < n + 1) × N k))

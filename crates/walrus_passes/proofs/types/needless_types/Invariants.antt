@@ -1,4 +1,4 @@
-use Rattle.std.proofs.Common.{◌≡◌, ◌×◌, ◌<◌, ℕ, Contains, length}
+use Rattle.std.proofs.Common.{◌≡◌, ◌<◌, ℕ, Contains, length}
 use Rattle.std.specs.Prelude.{◌↔◌}
 use Rattle.wasm_formats.specs.declared.fault.Space.TheVariants as spaces
 use Rattle.walrus_roots.specs.Items.{item}
