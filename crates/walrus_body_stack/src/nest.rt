@@ -18,9 +18,9 @@ use walrus_instr::{Instr, InstrLocId};
 /// An open sequence, and where its instructions lie.
 #[derive(Clone, Copy)]
 pub(crate) struct Slot {
-    // Where they begin in the list.
-    pub(crate) begin: usize,
     pub(crate) frame: Frame,
+    // Where they begin in the list. What lies before them is short, as what is long is set aside.
+    pub(crate) begin: u16,
     // Whether those of the sequences around it lie in the next list.
     pub(crate) apart: bool,
 }
@@ -139,8 +139,8 @@ impl Nest {
     {
         Nest {
             inner: Slot {
-                begin: 0,
                 frame,
+                begin: 0,
                 apart: false,
             },
             outer: Pile::new(alloc),
@@ -189,7 +189,7 @@ impl Nest {
         if self.inner.apart || self.inner.begin == 0 || self.list.len() < LONGER {
             return Ok(());
         }
-        let own = self.list.split_off(self.inner.begin)?;
+        let own = self.list.split_off(usize::from(self.inner.begin))?;
         self.aside.push_from(&mut self.list, own)?;
         self.inner.begin = 0;
         self.inner.apart = true;
@@ -222,10 +222,13 @@ impl Nest {
     fn enter_here(&mut self, frame: Frame) -> Result<(), AllocError>
         ensures { OnOk result (self.new ≡ entered frame self.old) }
     {
+        let Ok(begin) = u16::try_from(self.list.len()) else {
+            return Err(AllocError);
+        };
         self.outer.push(self.inner)?;
         self.inner = Slot {
-            begin: self.list.len(),
             frame,
+            begin,
             apart: false,
         };
         Ok(())
@@ -242,8 +245,8 @@ impl Nest {
             return Err(error);
         }
         self.inner = Slot {
-            begin: 0,
             frame,
+            begin: 0,
             apart: true,
         };
         Ok(())
@@ -265,7 +268,7 @@ impl Nest {
         ensures taken { IfOk result (λ own. own.items ≡ self.old.inner.instrs) }
         ensures left { OnOk result (self.new ≡ emptied self.old) }
     {
-        taken(&mut self.list, self.inner.begin)
+        taken(&mut self.list, usize::from(self.inner.begin))
     }
 
     /// Leaves the innermost, if there is one around it; says whether there is.
@@ -275,6 +278,7 @@ impl Nest {
         let Some(slot) = self.outer.pop() else {
             return false;
         };
+        let begin = usize::from(self.inner.begin);
         if self.inner.apart {
             let last = match self.aside.pop() {
                 Some(last) => last,
@@ -282,8 +286,8 @@ impl Nest {
             };
             keep(&mut self.spare, mem::replace(&mut self.list, last));
             self.outer.give_up();
-        } else if self.list.len() > self.inner.begin {
-            self.list.truncate(self.inner.begin);
+        } else if self.list.len() > begin {
+            self.list.truncate(begin);
         }
         self.inner = slot;
         true
