@@ -4,6 +4,7 @@ ghost use Rattle.std.specs.Prelude.{◌≡◌, ◌++◌, ◌∷◌, [], slice_ge
 ghost use Rattle.std.specs.Bool.{OnTrue};
 ghost use Rattle.walrus_body_writer.specs.walrus_tree.walrus_builder.Functions.{seqs_of};
 ghost use Rattle.walrus_body_writer.specs.walrus_tree.Text.{operators};
+ghost use Rattle.walrus_body_writer.specs.walrus_tree.Trees.{IsTree};
 ghost use Rattle.walrus_body_writer.specs.Emitting.{IsCause};
 ghost use Rattle.walrus_body_writer.specs.Visiting.{text_size};
 ghost use Rattle.walrus_body_names.specs.Names.{AreSet, HaveSame, are_constants, has_any, is_constant, local_in, segment_in, text_names};
@@ -122,6 +123,7 @@ impl TextVisitor for Facts {
 /// `NoTree` exactly where the sequences that the body's own reaches form no tree in which each label names a sequence around it; else
 /// want of memory alone.
 pub fn emit_facts(alloc: Global, body: &FunctionBuilder) -> Result<FunctionFacts, BodyError>
+    ensures tree { OnOk result (IsTree (seqs_of body.now) 0) }
     ensures size { IfOk result (λ facts. facts.size ≡ text_size (operators (seqs_of body.now) 0)) }
     ensures segments { IfOk result (λ facts. facts.uses_data_segments ≡ has_any (text_names segment_in (operators (seqs_of body.now) 0))) }
     ensures locals { IfOk result (λ facts. AreSet (text_names local_in (operators (seqs_of body.now) 0)) facts.used_locals.items) }
@@ -156,6 +158,7 @@ pub fn emit_facts(alloc: Global, body: &FunctionBuilder) -> Result<FunctionFacts
 /// `NoTree` exactly where the sequences that the body's own reaches form no tree in which each label names a sequence around it; else
 /// want of memory alone.
 pub fn used_data_segments(alloc: Global, body: &FunctionBuilder) -> Result<Vec<DataId>, BodyError>
+    ensures tree { OnOk result (IsTree (seqs_of body.now) 0) }
     ensures named { IfOk result (λ ids. AreSet (text_names segment_in (operators (seqs_of body.now) 0)) ids.items) }
     ensures refused { IfErr result (IsCause (seqs_of body.now)) }
 {

@@ -1,9 +1,10 @@
 //! What the operators of a body name.
 
-ghost use Rattle.std.specs.Prelude.{◌≡◌, IfOk, IfErr};
+ghost use Rattle.std.specs.Prelude.{◌≡◌, IfOk, IfErr, OnOk};
 ghost use Rattle.std.specs.Option.{option_to_list};
 ghost use Rattle.walrus_body_writer.specs.walrus_tree.walrus_builder.Functions.{seqs_of};
 ghost use Rattle.walrus_body_writer.specs.walrus_tree.Text.{operators};
+ghost use Rattle.walrus_body_writer.specs.walrus_tree.Trees.{IsTree};
 ghost use Rattle.walrus_body_writer.specs.Emitting.{IsCause};
 ghost use Rattle.walrus_body_names.specs.Names.{local_in, segment_in, text_names};
 
@@ -98,6 +99,7 @@ impl TextVisitor for Locals {
 /// `NoTree` exactly where the sequences that the body's own reaches form no tree in which each label names a sequence around it; else
 /// want of memory alone.
 pub fn named_segments(alloc: Global, body: &FunctionBuilder) -> Result<Vec<DataId>, BodyError>
+    ensures tree { OnOk result (IsTree (seqs_of body.now) 0) }
     ensures named { IfOk result (λ ids. ids.items ≡ text_names segment_in (operators (seqs_of body.now) 0)) }
     ensures refused { IfErr result (IsCause (seqs_of body.now)) }
 {
@@ -116,6 +118,7 @@ pub fn named_segments(alloc: Global, body: &FunctionBuilder) -> Result<Vec<DataI
 /// `NoTree` exactly where the sequences that the body's own reaches form no tree in which each label names a sequence around it; else
 /// want of memory alone.
 pub fn named_locals(alloc: Global, body: &FunctionBuilder) -> Result<Vec<LocalId>, BodyError>
+    ensures tree { OnOk result (IsTree (seqs_of body.now) 0) }
     ensures named { IfOk result (λ ids. ids.items ≡ text_names local_in (operators (seqs_of body.now) 0)) }
     ensures refused { IfErr result (IsCause (seqs_of body.now)) }
 {

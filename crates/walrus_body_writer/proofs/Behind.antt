@@ -7,7 +7,6 @@ use Rattle.walrus_body_env.specs.declared.error.BodyError.TheVariants.{Memory}
 use Rattle.walrus_tree.specs.walrus_walks.walrus_instr.declared.seq.InstrSeq.{InstrSeq}
 use Rattle.walrus_pairing.specs.Looks.{Look}
 use Rattle.walrus_pairing.specs.declared.error.PairError.{PairError}
-use Rattle.walrus_pairing.specs.declared.error.PairError.TheVariants as errors
 use Rattle.walrus_tree.specs.Text.{operators}
 use Rattle.walrus_tree.specs.Trees.{IsTree}
 use Rattle.walrus_body_writer.specs.declared.output.Output.{Output}
@@ -48,8 +47,8 @@ module _ (look : Look) (b c : List InstrSeq) (k : ℕ) (is : c ≡ b) (first : k
         let G : ℕ → Type 0 = λ n. LeavesOff look b (operators b n) start e more in
         let h = subst G first (subst F is left tree) in
         let H : BodyError → Type 0 = λ f. IsRefusal look b old f new in
-        subst H (sym it) (refusal look b old e new (record { front = h.front; back = h.back; parts = h.parts; wrote = wrote_behind look b h.front start more old new none nowhere same h.wrote j; due = h.due }))
+        subst H (sym it) (refusal look b old (subst (IsTree b) first tree) e new (record { front = h.front; back = h.back; parts = h.parts; wrote = wrote_behind look b h.front start more old new none nowhere same h.wrote j; due = h.due }))
 
 -- memory was wanted, and nothing was put there
 pub memory_wanted : (look : Look) (b : List InstrSeq) (old new : Output) → IsSame old new → IsRefusal look b old Memory new
-memory_wanted look b old new same = (errors.Memory, refl, wants look b (operators b 0) [] (operators b 0) old new refl (wrote_same look b [] old old new (wrote_none look b old) same))
+memory_wanted look b old new same = wants look b (operators b 0) [] (operators b 0) old new refl (wrote_same look b [] old old new (wrote_none look b old) same)

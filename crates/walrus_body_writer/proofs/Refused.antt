@@ -13,6 +13,7 @@ use Rattle.walrus_pairing.specs.declared.error.PairError.{PairError}
 use Rattle.walrus_pairing.specs.declared.error.PairError.TheVariants as errors
 use Rattle.walrus_pairing.specs.Looks.{Look, Or}
 use Rattle.walrus_body_writer.specs.declared.output.Output.{Output}
+use Rattle.walrus_tree.specs.Trees.{IsTree}
 use Rattle.walrus_tree.specs.Text.{Catch, operators}
 use Rattle.wasm_immediates.specs.Items.{Tags, Types}
 use Rattle.walrus_tree.specs.walrus_walks.walrus_instr.declared.seq.InstrLocId.{InstrLocId}
@@ -133,11 +134,11 @@ memory_due look b (p ∷ ps) = tt
 pub wants : (look : Look) (b : List InstrSeq) (all front back : Text) (old out : Output) → all ≡ front ++ back → Wrote look b front old out → LeavesOff look b all old errors.Memory out
 wants look b all front back old out parts wrote = record { front = front; back = back; parts = parts; wrote = wrote; due = memory_due look b back }
 
-pub refusal : (look : Look) (b : List InstrSeq) (old : Output) (e : PairError) (new : Output) → LeavesOff look b (operators b 0) old e new → IsRefusal look b old (fault_of e) new
-refusal look b old (errors.Unknown s) new h = (errors.Unknown s, refl, h)
-refusal look b old errors.SharedType new h = (errors.SharedType, refl, h)
-refusal look b old errors.ContinuationType new h = (errors.ContinuationType, refl, h)
-refusal look b old errors.Select new h = (errors.Select, refl, h)
-refusal look b old errors.Alignment new h = (errors.Alignment, refl, h)
-refusal look b old errors.TypeIndex new h = (errors.TypeIndex, refl, h)
-refusal look b old errors.Memory new h = (errors.Memory, refl, h)
+pub refusal : (look : Look) (b : List InstrSeq) (old : Output) → IsTree b 0 → (e : PairError) (new : Output) → LeavesOff look b (operators b 0) old e new → IsRefusal look b old (fault_of e) new
+refusal look b old tree (errors.Unknown s) new h = (tree, errors.Unknown s, refl, h)
+refusal look b old tree errors.SharedType new h = (tree, errors.SharedType, refl, h)
+refusal look b old tree errors.ContinuationType new h = (tree, errors.ContinuationType, refl, h)
+refusal look b old tree errors.Select new h = (tree, errors.Select, refl, h)
+refusal look b old tree errors.Alignment new h = (tree, errors.Alignment, refl, h)
+refusal look b old tree errors.TypeIndex new h = (tree, errors.TypeIndex, refl, h)
+refusal look b old tree errors.Memory new h = h

@@ -95,7 +95,8 @@ fault_of errors.Alignment = faults.Bounds None
 fault_of errors.TypeIndex = faults.Limit limits.Types None
 fault_of errors.Memory = faults.Memory
 
--- the sequences form no tree, and nothing was written; else a first part was
+-- the sequences form no tree, and nothing was written; or memory was wanted behind a first part; else they form one, and a first part was written
 abbrev pub IsRefusal : Look → List InstrSeq → Output → BodyError → Output → Type 0
 IsRefusal look b old faults.NoTree new = (IsTree b 0 → ⊥) × (new ≡ old)
-IsRefusal look b old fault new = (e : PairError) × (fault ≡ fault_of e) × LeavesOff look b (operators b 0) old e new
+IsRefusal look b old faults.Memory new = LeavesOff look b (operators b 0) old errors.Memory new
+IsRefusal look b old fault new = IsTree b 0 × (e : PairError) × (fault ≡ fault_of e) × LeavesOff look b (operators b 0) old e new

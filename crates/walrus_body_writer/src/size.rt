@@ -1,8 +1,9 @@
 //! The size of a body.
 
-ghost use Rattle.std.specs.Prelude.{◌≡◌, IfOk, IfErr};
+ghost use Rattle.std.specs.Prelude.{◌≡◌, IfOk, IfErr, OnOk};
 ghost use Rattle.walrus_tree.specs.walrus_builder.Functions.{seqs_of};
 ghost use Rattle.walrus_tree.specs.Text.{operators};
+ghost use Rattle.walrus_tree.specs.Trees.{IsTree};
 ghost use Rattle.walrus_body_writer.specs.Emitting.{IsCause};
 ghost use Rattle.walrus_body_writer.specs.Visiting.{text_size};
 
@@ -47,6 +48,7 @@ impl TextVisitor for Size {
 /// `NoTree` exactly where the sequences that the body's own reaches form no tree in which each label names a sequence around it; else
 /// want of memory alone.
 pub fn body_size(alloc: Global, body: &FunctionBuilder) -> Result<u64, BodyError>
+    ensures tree { OnOk result (IsTree (seqs_of body.now) 0) }
     ensures counted { IfOk result (λ size. size ≡ text_size (operators (seqs_of body.now) 0)) }
     ensures refused { IfErr result (IsCause (seqs_of body.now)) }
 {

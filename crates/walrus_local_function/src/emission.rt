@@ -33,6 +33,7 @@ impl LocalFunction {
     /// `NoTree` exactly where the sequences that the entry sequence reaches form no tree in which each label names a sequence around it;
     /// else want of memory alone.
     pub fn size(&self, alloc: Global) -> Result<u64, BodyError>
+        ensures tree { OnOk result (IsTree (seqs_of self.now.builder) 0) }
         ensures counted { IfOk result (λ size. size ≡ text_size (operators (seqs_of self.now.builder) 0)) }
         ensures refused { IfErr result (IsTreeCause (seqs_of self.now.builder)) }
     {
@@ -52,6 +53,7 @@ impl LocalFunction {
     ///
     /// As those of [`size`](LocalFunction::size).
     pub fn used_data_segments(&self, alloc: Global) -> Result<Vec<DataId>, BodyError>
+        ensures tree { OnOk result (IsTree (seqs_of self.now.builder) 0) }
         ensures named { IfOk result (λ ids. AreSet (text_names segment_in (operators (seqs_of self.now.builder) 0)) ids.items) }
         ensures refused { IfErr result (IsTreeCause (seqs_of self.now.builder)) }
     {
@@ -64,6 +66,7 @@ impl LocalFunction {
     ///
     /// As those of [`size`](LocalFunction::size).
     pub fn emit_facts(&self, alloc: Global) -> Result<FunctionFacts, BodyError>
+        ensures tree { OnOk result (IsTree (seqs_of self.now.builder) 0) }
         ensures size { IfOk result (λ facts. facts.size ≡ text_size (operators (seqs_of self.now.builder) 0)) }
         ensures segments { IfOk result (λ facts. facts.uses_data_segments ≡ has_any (text_names segment_in (operators (seqs_of self.now.builder) 0))) }
         ensures locals { IfOk result (λ facts. AreSet (text_names local_in (operators (seqs_of self.now.builder) 0)) facts.used_locals.items) }
