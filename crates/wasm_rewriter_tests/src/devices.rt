@@ -43,7 +43,7 @@ pub fn sink_of(alloc: Global, room: usize, fail: SinkFail) -> Result<MemorySink,
 }
 
 // Whether the source gives just these bytes.
-fn gives<S: Source>(alloc: Global, source: &mut S, bytes: &[u8]) -> bool {
+pub fn gives<S: Source>(alloc: Global, source: &mut S, bytes: &[u8]) -> bool {
     match given(alloc, source) {
         Some(read) => read.as_slice() == bytes,
         None => false,

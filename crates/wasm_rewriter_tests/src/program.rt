@@ -4,4 +4,5 @@ mod causes;
 mod failing;
 mod files;
 mod folder;
+mod host;
 mod words;

@@ -1,172 +1,10 @@
-// Files of the system of which one thing fails.
+// What becomes of files where a call fails, or a signal comes between.
 use super::folder::Folder;
-use rewriter_program::{OutputFile, locate};
-use std::alloc::{Allocator, Global};
-use std::fmt::Display;
-use std::fs::{File, Metadata, OpenFile, OpenOptions, Permissions};
-use std::io::{ErrorKind, Read, Seek, SeekFrom, Write};
-use std::rt::Files;
+use super::host::{Failing, Host};
+use crate::devices::{cut_at, gives};
+use rewriter_program::{InputFile, OutputFile, locate};
 use std::test::Fail;
-use std::{fs, io};
 use wasm_rewriter::{DeviceFailed, Sink};
-
-// What fails.
-#[derive(Clone, Copy, PartialEq, Eq)]
-enum Failing {
-    // writes, once a file took two bytes
-    Write,
-    Permissions,
-    Sync,
-    Rename,
-}
-
-#[derive(Drop)]
-struct Host<'a> {
-    rt: &'a HostRuntime,
-    failing: Failing,
-}
-
-// A file, with the bytes that it took.
-#[derive(Drop)]
-struct HostFile {
-    file: File,
-    failing: Failing,
-    taken: u64,
-}
-
-fn failed() -> io::Error {
-    io::Error::from(ErrorKind::Other)
-}
-
-impl Read for HostFile {
-    fn read(&mut self, buf: &mut [u8]) -> io::Result<usize> {
-        self.file.read(buf)
-    }
-}
-
-impl Write for HostFile {
-    fn write(&mut self, buf: &[u8]) -> io::Result<usize> {
-        if self.failing == Failing::Write && self.taken > 1 {
-            return Err(failed());
-        }
-        let count = self.file.write(&buf[..buf.len().min(2)])?;
-        self.taken = self.taken.saturating_add(count as u64);
-        Ok(count)
-    }
-
-    fn flush(&mut self) -> io::Result<()> {
-        self.file.flush()
-    }
-}
-
-impl Seek for HostFile {
-    fn seek(&mut self, to: SeekFrom) -> io::Result<u64> {
-        self.file.seek(to)
-    }
-}
-
-impl OpenFile for HostFile {
-    fn metadata(&self) -> io::Result<Metadata> {
-        self.file.metadata()
-    }
-
-    fn set_len(&self, size: u64) -> io::Result<()> {
-        self.file.set_len(size)
-    }
-
-    fn sync_all(&self) -> io::Result<()> {
-        if self.failing == Failing::Sync {
-            return Err(failed());
-        }
-        self.file.sync_all()
-    }
-
-    fn sync_data(&self) -> io::Result<()> {
-        self.file.sync_data()
-    }
-
-    fn set_permissions(&self, permissions: Permissions) -> io::Result<()> {
-        if self.failing == Failing::Permissions {
-            return Err(failed());
-        }
-        self.file.set_permissions(permissions)
-    }
-}
-
-impl Files for Host<'_> {
-    type File = HostFile;
-
-    type Dir = <HostRuntime as Files>::Dir;
-
-    fn open_file(&self, how: &OpenOptions, path: &str) -> io::Result<HostFile> {
-        Ok(HostFile {
-            file: self.rt.open_file(how, path)?,
-            failing: self.failing,
-            taken: 0,
-        })
-    }
-
-    fn open_dir(&self, path: &str) -> io::Result<Self::Dir> {
-        self.rt.open_dir(path)
-    }
-
-    fn metadata(&self, path: &str) -> io::Result<Metadata> {
-        self.rt.metadata(path)
-    }
-
-    fn symlink_metadata(&self, path: &str) -> io::Result<Metadata> {
-        self.rt.symlink_metadata(path)
-    }
-
-    fn copy(&self, from: &str, to: &str) -> io::Result<u64> {
-        self.rt.copy(from, to)
-    }
-
-    fn rename(&self, from: &str, to: &str) -> io::Result<()> {
-        if self.failing == Failing::Rename {
-            return Err(failed());
-        }
-        self.rt.rename(from, to)
-    }
-
-    fn remove_file(&self, path: &str) -> io::Result<()> {
-        self.rt.remove_file(path)
-    }
-
-    fn create_dir(&self, path: &str) -> io::Result<()> {
-        self.rt.create_dir(path)
-    }
-
-    fn remove_dir(&self, path: &str) -> io::Result<()> {
-        self.rt.remove_dir(path)
-    }
-
-    fn remove_dir_all<B: Allocator>(&self, alloc: B, path: &str) -> io::Result<()> {
-        self.rt.remove_dir_all(alloc, path)
-    }
-}
-
-impl Alloc for Host<'_> {
-    type A = Global;
-
-    fn alloc(&self) -> Global {
-        self.rt.alloc()
-    }
-}
-
-impl Print for Host<'_> {
-    fn print<D: Display + Drop>(&self, value: D) -> io::Result<()> {
-        self.rt.print(value)
-    }
-
-    fn println<D: Display + Drop>(&self, value: D) -> io::Result<()> {
-        self.rt.println(value)
-    }
-
-    fn write_all(&self, bytes: &[u8]) -> io::Result<()> {
-        self.rt.write_all(bytes)
-    }
-}
 
 // Whether two writes and a flush aren't all done.
 fn fails(sink: &mut OutputFile<'_, Host<'_>>) -> bool {
@@ -189,26 +27,34 @@ fn is_failed(host: &Host<'_>, output: &str) -> Result<bool, Fail> {
     Ok(sink.into_cause().is_some() && is_failed)
 }
 
-// Whether the old file is left then, and no other.
-fn is_left(rt: &HostRuntime, folder: &Folder, failing: Failing) -> Result<bool, Fail> {
+// Whether that leaves so many files.
+fn leaves(rt: &HostRuntime, folder: &Folder, failing: Failing, count: usize) -> Result<bool, Fail> {
     let output = folder.at("output")?;
-    let host = Host { rt, failing };
-    let is_failed = is_failed(&host, &output)?;
-    Ok(is_failed && folder.holds("output", b"old")? && folder.count()? == 1)
+    let printed = "";
+    let host = Host {
+        rt,
+        failing,
+        printed,
+    };
+    Ok(is_failed(&host, &output)? && folder.count()? == count)
 }
 
+// Where no file was there, none is left, else the old one.
 fn are_left(rt: &HostRuntime, folder: &Folder) -> Result<bool, Fail> {
-    folder.add("output", b"old")?;
     let mut agree = true;
+    for failing in [Failing::Write, Failing::Sync, Failing::Rename] {
+        agree &= leaves(rt, folder, failing, 0)?;
+    }
+    folder.add("output", b"old")?;
     for failing in [
         Failing::Write,
         Failing::Permissions,
         Failing::Sync,
         Failing::Rename,
     ] {
-        agree &= is_left(rt, folder, failing)?;
+        agree &= leaves(rt, folder, failing, 1)?;
     }
-    Ok(agree)
+    Ok(agree && folder.holds("output", b"old")?)
 }
 
 #[test]
@@ -228,8 +74,12 @@ fn is_written_through(rt: &HostRuntime, folder: &Folder) -> Result<bool, Fail> {
     folder.add("output", b"old")?;
     folder.with_link("output", "link")?;
     let link = folder.at("link")?;
-    let failing = Failing::Rename;
-    let is_taken = takes_two(&Host { rt, failing }, &link)?;
+    let host = Host {
+        rt,
+        failing: Failing::Rename,
+        printed: "",
+    };
+    let is_taken = takes_two(&host, &link)?;
     Ok(is_taken && folder.is_link("link")? && folder.holds("output", b"ne")?)
 }
 
@@ -238,5 +88,46 @@ fn is_written_through(rt: &HostRuntime, folder: &Folder) -> Result<bool, Fail> {
 fn a_link_that_cannot_be_told_is_written_through(rt: HostRuntime) -> Result<(), Fail> {
     let folder = Folder::new(&rt, "untold")?;
     assert!(rt; is_written_through(&rt, &folder)?);
+    folder.remove()
+}
+
+// Whether four bytes are sent to what the path names.
+fn is_sent(host: &Host<'_>, path: &str) -> Result<bool, Fail> {
+    let (_, target) = locate(host, path)?;
+    let mut sink = OutputFile::new(host, &target);
+    Ok(cut_at(&mut sink, b"wasm").is_none())
+}
+
+// Whether the folder's file then has all of them, and behind them the mark of one flush.
+fn is_sent_once(host: &Host<'_>, folder: &Folder, name: &str) -> Result<bool, Fail> {
+    let path = folder.at(name)?;
+    Ok(is_sent(host, &path)? && folder.holds(name, b"wasm|")?)
+}
+
+fn is_read(host: &Host<'_>, path: &str) -> bool {
+    gives(host.rt.alloc(), &mut InputFile::new(host, path), b"abc")
+}
+
+// A file that isn't there, one that is, and one that is written through a link.
+fn are_tried_again(rt: &HostRuntime, folder: &Folder) -> Result<bool, Fail> {
+    let input = folder.with("input", b"abc")?;
+    folder.add("old", b"old")?;
+    folder.with_link("none", "link")?;
+    let host = Host {
+        rt,
+        failing: Failing::Signal,
+        printed: "",
+    };
+    let mut agree = is_read(&host, &input);
+    for name in ["new", "old", "link"] {
+        agree &= is_sent_once(&host, folder, name)?;
+    }
+    Ok(agree && folder.holds("none", b"wasm|")? && folder.count()? == 5)
+}
+
+#[test]
+fn an_interrupted_call_is_made_again(rt: HostRuntime) -> Result<(), Fail> {
+    let folder = Folder::new(&rt, "signals")?;
+    assert!(rt; are_tried_again(&rt, &folder)?);
     folder.remove()
 }

@@ -1,10 +1,12 @@
 // What becomes of the files.
 use super::folder::Folder;
+use super::host::{Failing, Host};
 use rewriter_program::{Failure, InputFile, OutputFile, locate, run_words};
 use std::alloc::Global;
 use std::io::{PipeReader, PipeWriter, Read};
 use std::os::fd::AsRawFd;
 use std::os::unix::fs::MetadataExt;
+use std::rt::Files;
 use std::test::Fail;
 use std::{fs, io};
 use wasm_rewriter::{Fault, Sink, Source};
@@ -22,7 +24,12 @@ const OUTPUT: [u8; 31] = [
 ];
 
 // The status of a run over these files.
-fn status_of(rt: &HostRuntime, places: &str, input: &str, output: &str) -> u8 {
+fn status_of<R: Files + Input + Print + Eprint + AllocGlobal>(
+    rt: &R,
+    places: &str,
+    input: &str,
+    output: &str,
+) -> u8 {
     let words = [
         "wasm_rewriter",
         "--no-names",
@@ -36,8 +43,8 @@ fn status_of(rt: &HostRuntime, places: &str, input: &str, output: &str) -> u8 {
 }
 
 // The status of a run over files of the folder.
-fn status_in(
-    rt: &HostRuntime,
+fn status_in<R: Files + Input + Print + Eprint + AllocGlobal>(
+    rt: &R,
     folder: &Folder,
     places: &str,
     input: &str,
@@ -50,8 +57,8 @@ fn status_in(
 }
 
 // Whether a run over files of the folder ends so, and leaves so many files.
-fn ends(
-    rt: &HostRuntime,
+fn ends<R: Files + Input + Print + Eprint + AllocGlobal>(
+    rt: &R,
     folder: &Folder,
     (places, input, output): (&str, &str, &str),
     status: u8,
@@ -72,6 +79,8 @@ enum Case {
     End,
     Cause,
     Unwritable,
+    Printed,
+    Spared,
 }
 
 fn holds(rt: &HostRuntime, folder: &Folder, case: Case) -> Result<bool, Fail> {
@@ -84,6 +93,8 @@ fn holds(rt: &HostRuntime, folder: &Folder, case: Case) -> Result<bool, Fail> {
         Case::End => is_closed(rt, folder),
         Case::Cause => has_cause(rt, folder),
         Case::Unwritable => stays(rt, folder),
+        Case::Printed => are_printed(rt, folder),
+        Case::Spared => is_spared(rt, folder),
     }
 }
 
@@ -95,12 +106,17 @@ fn is_so(rt: &HostRuntime, name: &str, case: Case) -> Result<bool, Fail> {
     Ok(is_so)
 }
 
+// To a new file, and to one that a link names.
 fn is_rewritten(rt: &HostRuntime, folder: &Folder) -> Result<bool, Fail> {
     folder.add("input", &INPUT)?;
+    folder.with_link("none", "link")?;
     Ok(
-        ends(rt, folder, ("places", "input", "output"), 0, 3)?
+        ends(rt, folder, ("places", "input", "output"), 0, 4)?
             && folder.holds("output", &OUTPUT)?
-            && folder.holds("places", b"4 3\n")?,
+            && folder.holds("places", b"4 3\n")?
+            && ends(rt, folder, ("places", "input", "link"), 0, 5)?
+            && folder.holds("none", &OUTPUT)?
+            && folder.is_link("link")?,
     )
 }
 
@@ -358,5 +374,62 @@ fn a_pipe_is_written_directly(rt: HostRuntime) -> Result<(), Fail> {
     let (mut reader, writer) = io::pipe(&rt)?;
     assert!(rt; fills_pipe(&rt, writer)?);
     assert!(rt; gives_three(&mut reader)?);
+    Ok(())
+}
+
+// Whether standard output takes the places, where a file takes the bytes.
+fn are_printed(rt: &HostRuntime, folder: &Folder) -> Result<bool, Fail> {
+    let input = folder.with("input", &INPUT)?;
+    let output = folder.at("output")?;
+    let printed = folder.at("printed")?;
+    let host = Host {
+        rt,
+        failing: Failing::Nothing,
+        printed: &printed,
+    };
+    Ok(
+        status_of(&host, "-", &input, &output) == 0
+            && folder.holds("output", &OUTPUT)?
+            && folder.holds("printed", b"4 3\n")?
+            && folder.count()? == 3,
+    )
+}
+
+#[test]
+fn places_are_printed(rt: HostRuntime) -> Result<(), Fail> {
+    assert!(rt; is_so(&rt, "printed", Case::Printed)?);
+    Ok(())
+}
+
+// A path of the next file that is opened, as long as it is.
+fn next_path(rt: &HostRuntime, path: &str) -> Result<String, Fail> {
+    let file = fs::open(rt, path)?;
+    Ok(format!(in rt.alloc(); "/proc/self/fd/{}", file.as_raw_fd())?)
+}
+
+// Were the input open while something is written, it would be the file of that path, and a run through the link, which
+// this host opens as it stands, would overwrite it. (By the path itself a new file would be made beside it, which that
+// folder refuses.)
+fn is_spared(rt: &HostRuntime, folder: &Folder) -> Result<bool, Fail> {
+    let input = folder.with("input", &INPUT)?;
+    let output = folder.at("output")?;
+    let path = next_path(rt, &input)?;
+    folder.with_link(&path, "link")?;
+    let host = Host {
+        rt,
+        failing: Failing::Nothing,
+        printed: "",
+    };
+    Ok(
+        status_of(rt, &path, &input, &output) == 3
+            && ends(&host, folder, ("link", "input", "output"), 3, 3)?
+            && ends(&host, folder, ("places", "input", "link"), 3, 3)?
+            && folder.holds("input", &INPUT)?,
+    )
+}
+
+#[test]
+fn an_input_is_never_open_while_something_is_written(rt: HostRuntime) -> Result<(), Fail> {
+    assert!(rt; is_so(&rt, "spared", Case::Spared)?);
     Ok(())
 }

@@ -1,10 +1,7 @@
 // Words, and what is said of them.
-use clap::Error;
-use rewriter_program::{job_of, run_words, words_of};
+use super::host::{Failing, Host};
+use rewriter_program::{job_of, run_words, status, words_of};
 use std::alloc::{AllocError, Global};
-use std::env::FillError;
-use std::rt::Env;
-use std::test::Fail;
 use wasm_rewriter::Options;
 
 // Whether the flag chooses these options, beside which the files are named.
@@ -130,40 +127,26 @@ fn help_is_told(rt: HostRuntime) {
     }
 }
 
-// A program that was started with a word that is no text.
-#[derive(Clone, Copy)]
-struct Started;
-
-impl Env for Started {
-    fn arg(&self, i: usize, buf: &mut [u8]) -> Result<usize, FillError> {
-        if i > 0 || buf.is_empty() {
-            return Err(FillError::NotPresent);
-        }
-        buf[0] = 0xff;
-        Ok(1)
-    }
-
-    fn var(&self, _name: &str, _buf: &mut [u8]) -> Result<usize, FillError> {
-        Err(FillError::NotPresent)
-    }
-
-    fn var_at(&self, _i: usize, _buf: &mut [u8]) -> Result<usize, FillError> {
-        Err(FillError::NotPresent)
+// What is said of the words that the program was started with.
+fn said_at_start(host: &Host<'_>) -> Result<String, AllocError> {
+    match words_of(host) {
+        Ok(_) => Ok(String::new(host.rt.alloc())),
+        Err(error) => error.to_string(host.rt.alloc()),
     }
 }
 
-// What is said of the words of a program that was started so.
-fn said_at_start(alloc: Global) -> Result<String, AllocError> {
-    match words_of(&(Started, alloc)) {
-        Ok(_) => Ok(String::new(alloc)),
-        Err(error) => error.to_string(alloc),
-    }
+fn are_wrong(host: &Host<'_>) -> Result<bool, AllocError> {
+    let text =
+        "error: a word is no UTF-8 text\n\nUsage: wasm_rewriter [OPTIONS] <INPUT> <OUTPUT>\n\nFor more information, try '--help'.\n";
+    Ok(said_at_start(host)?.as_str() == text && status(host) == 2)
 }
 
 #[test]
-fn words_that_are_no_text_are_wrong(rt: HostRuntime) -> Result<(), Fail> {
-    let text =
-        "error: a word is no UTF-8 text\n\nUsage: wasm_rewriter [OPTIONS] <INPUT> <OUTPUT>\n\nFor more information, try '--help'.\n";
-    assert!(rt; said_at_start(rt.alloc())?.as_str() == text);
-    Ok(())
+fn words_that_are_no_text_are_wrong(rt: HostRuntime) {
+    let host = Host {
+        rt: &rt,
+        failing: Failing::Nothing,
+        printed: "",
+    };
+    assert!(rt; are_wrong(&host) == Ok(true));
 }
