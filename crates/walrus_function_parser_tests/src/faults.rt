@@ -54,7 +54,8 @@ fn names(rt: HostRuntime) -> Result<(), Fail> {
     Ok(())
 }
 
-// A legacy `try` that is switched off; a null of a shared abstract type whose byte is none; a block type that has no pick.
+// A legacy `try` that is switched off; a null of a heap type whose number is negative, its first byte that of no abstract type; a block
+// type that has no pick.
 #[test]
 fn operators(rt: HostRuntime) -> Result<(), Fail> {
     let caught = [0x00, 0x06, 0x7f, 0x41, 0x01, 0x07, 0x00, 0x0b, 0x1a, 0x0b];

@@ -29,14 +29,14 @@ pub(crate) struct TestModule<'a> {
 }
 
 impl<'a> BodyEnv for TestModule<'a> {
-    ghost use Rattle.std.specs.Prelude.{◌==◌, [], Some, None, false, if◌then◌else◌};
+    ghost use Rattle.std.specs.Prelude.{◌==◌, [], Some, None, false, length, if◌then◌else◌};
     ghost use Rattle.walrus_instr.specs.declared.seq.InstrSeqType.TheVariants.{Simple, MultiValue};
 
     ghost type_params = { λ e ty. if ty == 0 then Some [] else Some e.one.now };
 
     ghost type_results = { λ e ty. if ty == 2 then Some e.one.now else Some [] };
 
-    ghost block_type = { λ e params results. None };
+    ghost block_type = { λ e params results. if length params == 0 then (if length results == 0 then Some (Simple None) else None) else None };
 
     ghost handler_type = { λ e params results. Some (MultiValue 2) };
 
@@ -64,7 +64,12 @@ impl<'a> BodyEnv for TestModule<'a> {
         Some(&[])
     }
 
-    fn block_type(&self, _params: &[ValType], _results: &[ValType]) -> Option<InstrSeqType> {
+    fn block_type(&self, params: &[ValType], results: &[ValType]) -> Option<InstrSeqType> {
+        if params.len() == 0 {
+            if results.len() == 0 {
+                return Some(EMPTY);
+            }
+        }
         None
     }
 

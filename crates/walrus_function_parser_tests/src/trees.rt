@@ -9,6 +9,7 @@ use walrus_body_env::BodyError;
 use walrus_body_writer::Output;
 use walrus_instr::InstrLocId;
 use walrus_items::ModuleLocals;
+use walrus_local_function::LocalFunction;
 use walrus_types::ValType;
 use wasm_features::WasmFeatures;
 
@@ -31,8 +32,12 @@ fn are_places(places: &[(InstrLocId, usize)], expected: &[(u32, usize)]) -> bool
     next == expected.len()
 }
 
-// What is written of a body that is read.
-fn rewritten(alloc: Global, bytes: &[u8]) -> Result<Output, BodyError>
+// Reads a body in a file with a data count.
+fn counted(
+    alloc: Global,
+    bytes: &[u8],
+    locals: &mut ModuleLocals,
+) -> Result<LocalFunction, BodyError>
     requires { length bytes.now < 1000000 }
 {
     let one = [ValType::I32];
@@ -41,8 +46,15 @@ fn rewritten(alloc: Global, bytes: &[u8]) -> Result<Output, BodyError>
         has_data_count: true,
         code_start: 27,
     };
+    read(alloc, &module, 2, bytes, WasmFeatures::all(), locals)
+}
+
+// What is written of a body that is read.
+fn rewritten(alloc: Global, bytes: &[u8]) -> Result<Output, BodyError>
+    requires { length bytes.now < 1000000 }
+{
     let mut locals = ModuleLocals::new(alloc);
-    let function = read(alloc, &module, 2, bytes, WasmFeatures::all(), &mut locals)?;
+    let function = counted(alloc, bytes, &mut locals)?;
     let mut out = Output::new(alloc, true);
     write(alloc, &function, &locals, &mut out)?;
     Ok(out)
@@ -120,6 +132,67 @@ fn segments_and_handlers(rt: HostRuntime) -> Result<(), Fail> {
     Ok(())
 }
 
+// Whether it names a data segment, this one alone, if there is one.
+fn names_segment(
+    alloc: Global,
+    function: &LocalFunction,
+    segment: Option<usize>,
+) -> Result<bool, BodyError> {
+    let facts = function.emit_facts(alloc)?;
+    let named = function.used_data_segments(alloc)?;
+    if facts.uses_data_segments != segment.is_some() || named.len() > 1 {
+        return Ok(false);
+    }
+    match named.first() {
+        Some(id) => Ok(segment == Some(id.index())),
+        None => Ok(segment.is_none()),
+    }
+}
+
+fn names(alloc: Global, bytes: &[u8], segment: Option<usize>) -> Result<bool, BodyError>
+    requires { length bytes.now < 1000000 }
+{
+    let function = counted(alloc, bytes, &mut ModuleLocals::new(alloc))?;
+    names_segment(alloc, &function, segment)
+}
+
+// A `data.drop`, and none.
+#[test]
+fn named_segments(rt: HostRuntime) -> Result<(), Fail> {
+    assert!(rt; names(rt.alloc(), &[0x00, 0xfc, 0x09, 0x00, 0x0b], Some(0)) == Ok(true));
+    assert!(rt; names(rt.alloc(), &[0x00, 0x0b], None) == Ok(true));
+    Ok(())
+}
+
+// Branches of each kind that may go on, out of a loop and back to its beginning; a `delegate`, which has no place, to the outer `try`, whose
+// handler throws again.
+#[test]
+fn branches(rt: HostRuntime) -> Result<(), Fail> {
+    let body = [
+        0x00, 0x03, 0x40, 0x0d, 0x00, 0xd5, 0x01, 0xd6, 0x00, 0xfb, 0x19, 0x00, 0x01, 0x6e, 0x6b,
+        0xfb, 0x19, 0x01, 0x00, 0x6e, 0x6b, 0xfb, 0x18, 0x02, 0x00, 0x6e, 0x6b, 0x0b, 0x06, 0x40,
+        0x06, 0x40, 0x18, 0x00, 0x19, 0x09, 0x00, 0x0b, 0x0b,
+    ];
+    let places = [
+        (3, 3),
+        (5, 5),
+        (7, 7),
+        (9, 9),
+        (11, 11),
+        (17, 17),
+        (23, 23),
+        (29, 29),
+        (30, 30),
+        (32, 32),
+        (36, 36),
+        (37, 37),
+        (39, 39),
+        (40, 40),
+    ];
+    assert!(rt; gives(rt.alloc(), &body, &body, &places));
+    Ok(())
+}
+
 // Labels in a list, clauses in a list.
 #[test]
 fn lists(rt: HostRuntime) -> Result<(), Fail> {
@@ -152,13 +225,14 @@ fn types(rt: HostRuntime) -> Result<(), Fail> {
     Ok(())
 }
 
-// So many blocks inside one another.
-fn nested(alloc: Global, depth: u32) -> Result<Vec<u8>, BodyError> {
+// So many blocks inside one another, with this in the innermost.
+fn nested(alloc: Global, depth: u32, inner: &[u8]) -> Result<Vec<u8>, BodyError> {
     let mut bytes = Vec::new(alloc);
     bytes.push(0x00)?;
     for _ in 0..depth {
         bytes.extend_from_slice(&[0x02, 0x40])?;
     }
+    bytes.extend_from_slice(inner)?;
     for _ in 0..depth {
         bytes.push(0x0b)?;
     }
@@ -166,17 +240,29 @@ fn nested(alloc: Global, depth: u32) -> Result<Vec<u8>, BodyError> {
     Ok(bytes)
 }
 
-fn nest_stays(alloc: Global, depth: u32) -> Result<bool, BodyError> {
-    let bytes = nested(alloc, depth)?;
+// Whether so many operators have places, the first of which is the first.
+fn are_placed(places: &[(InstrLocId, usize)], count: usize) -> bool {
+    match places.first() {
+        Some((location, at)) => places.len() == count && location.data() == 3 && *at == 1,
+        None => false,
+    }
+}
+
+// Whether a nest stays as it is, with so many places.
+fn nest_stays(alloc: Global, depth: u32, inner: &[u8], count: usize) -> Result<bool, BodyError> {
+    let bytes = nested(alloc, depth, inner)?;
     if bytes.len() >= 1_000_000 {
         return Ok(false);
     }
     let out = rewritten(alloc, bytes.as_slice())?;
-    Ok(out.bytes == bytes)
+    Ok(out.bytes == bytes && are_placed(out.places.as_slice(), count))
 }
 
+// An empty one; a branch out of the body by a label of one byte, and of two.
 #[test]
 fn deep_nest(rt: HostRuntime) -> Result<(), Fail> {
-    assert!(rt; nest_stays(rt.alloc(), 100_000) == Ok(true));
+    assert!(rt; nest_stays(rt.alloc(), 100_000, &[], 200_001) == Ok(true));
+    assert!(rt; nest_stays(rt.alloc(), 127, &[0x0c, 0x7f], 256) == Ok(true));
+    assert!(rt; nest_stays(rt.alloc(), 128, &[0x0c, 0x80, 0x01], 258) == Ok(true));
     Ok(())
 }

@@ -1,18 +1,19 @@
 //! What pairing makes of operators.
 
 use crate::maps::{Maps, body};
+use crate::names::is_named;
 use crate::numbers::form;
 use crate::view::is_written;
 use crate::words::{cut, nth, number};
 use std::alloc::Global;
 use walrus_index_maps::{IdsToIndices, Space};
-use walrus_instr::{BinaryOp, Instr, UnaryOp};
+use walrus_instr::Instr;
 use walrus_operators::{Immediates, Operator};
 use walrus_pairing::{PairError, instr_of, operator_of};
 use wasm_operators::OpCode;
 
-// What pairing makes, one text: `back` where the instruction's operator is of the same form and written as the same bytes, `none` where there is no instruction,
-// or the refusal, of an index by its space.
+// What pairing makes, one text: `back` where the instruction has the code of its name, and its operator is of the same form and written as the
+// same bytes, `none` where there is no instruction, or the refusal, of an index by its space.
 const MADE: &str =
     "back other none shared select alignment no-type no-function no-table no-memory no-tag no-global no-element no-data no-local no-label";
 
@@ -58,7 +59,9 @@ fn is_back(
 fn made(alloc: Global, maps: &Maps, operator: &Operator, bytes: &[u8]) -> usize {
     match instr_of(operator, body(), &maps.ids) {
         Ok(Some(instr)) => {
-            if is_back(alloc, &instr, &maps.numbers, operator, bytes) {
+            if is_named(&instr, operator.code)
+                && is_back(alloc, &instr, &maps.numbers, operator, bytes)
+            {
                 0
             } else {
                 1
@@ -79,7 +82,7 @@ pub(crate) fn made_of(
     nth(MADE.as_bytes(), made(alloc, maps, operator, bytes))
 }
 
-// The ids of two fields, in the order in which the operator has their indices; of some operations a number, and 0.
+// The ids of two fields, in the order in which the operator has their indices.
 fn fields(instr: &Instr) -> (u32, u32) {
     match instr {
         Instr::CallIndirect { ty, table } | Instr::ReturnCallIndirect { ty, table } => {
@@ -96,15 +99,6 @@ fn fields(instr: &Instr) -> (u32, u32) {
             (ty.number(), elem.number())
         }
         Instr::ArrayCopy { src, dst } => (dst.number(), src.number()),
-        Instr::Unop {
-            op: UnaryOp::I32TruncSF32,
-        } => (1, 0),
-        Instr::Unop {
-            op: UnaryOp::I32TruncSatF32S,
-        } => (2, 0),
-        Instr::Binop {
-            op: BinaryOp::I64MulWideU,
-        } => (3, 0),
         _ => (0, 0),
     }
 }

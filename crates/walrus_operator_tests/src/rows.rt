@@ -94,7 +94,7 @@ fe 16 78 access back";
 ///
 /// Numbers are the indices in their order; of an access its alignment, memory and offset; of handlers a block type, then kind, tag and
 /// label of each; of labels the last, then the others. Types stand as the signed numbers that they are read as, types by index in a
-/// block's place 2^32 higher, shared ones 100 lower, and references that aren't null 1000 lower.
+/// block's place 2^32 higher, shared ones 100 lower, and references that aren't null 2^24 lower.
 pub(crate) const IMMEDIATES: &str = "bare - - back
 zero 00 - back
 tag 00 0 back
@@ -235,6 +235,10 @@ access-lane 83010700 131,0,7,0 alignment
 access-lane 8301077f 131,0,7,127 alignment
 access-lane 83010780 131,0,7,128 alignment
 access-lane 830107ff 131,0,7,255 alignment
+access-lane 00007f 0,0,0,127 back
+access-lane 4080017f00 0,128,127,0 back
+access-lane 1fffffffffffffffffff0100 31,0,18446744073709551615,0 back
+access-lane 40ffffffff0f0000 0,4294967295,0,0 no-memory
 i32 00 0 back
 i32 3f 63 back
 i32 40 -64 back
@@ -246,6 +250,10 @@ i32 ffffffff07 2147483647 back
 i32 8080808078 -2147483648 back
 i64 00 0 back
 i64 7f -1 back
+i64 3f 63 back
+i64 40 -64 back
+i64 c000 64 back
+i64 bf7f -65 back
 i64 ff00 127 back
 i64 8001 128 back
 i64 807f -128 back
@@ -253,6 +261,7 @@ i64 ffffffffffffffffff00 9223372036854775807 back
 i64 8080808080808080807f -9223372036854775808 back
 f32 00000000 0 back
 f32 01020384 2214789633 back
+f32 ffffffff 4294967295 back
 f64 0100000000000080 9223372036854775809 back
 f64 ffffffffffffffff 18446744073709551615 back
 vector 000102030405060708090a0b0c0d0e0f 0,1,2,3,4,5,6,7,8,9,10,11,12,13,14,15 back
@@ -292,6 +301,7 @@ heap 6569 -123 shared
 heap 74 -12 back
 heap 6574 -112 shared
 heap 00 0 back
+heap 3f 63 back
 heap c000 64 back
 heap ff00 127 back
 heap 8001 128 back
@@ -300,11 +310,17 @@ cast 00006e70 0,0,-18,-16 none
 cast 017f80016e 1,127,128,-18 none
 cast 028001006f 2,128,0,-17 none
 cast 03ffffffff0f6effff3f 3,4294967295,-18,1048575 none
+cast 000000ff00 0,0,0,127 none
+cast 0000ff008001 0,0,127,128 none
+cast 0000ffff3f00 0,0,1048575,0 none
 labels 0000 0 none
+labels 007f 127 none
+labels 008001 128 none
 labels 01ffffffff0fffffffff0f 4294967295,4294967295 none
 labels 03007f800105 5,0,127,128 none
 handlers 0504007f800101ffffffff0f00027f03ffffffff0f 4294967301,0,127,128,1,4294967295,0,2,0,127,3,0,4294967295 none
 handlers 05020002030304 4294967301,0,2,3,3,0,4 none
+handlers 40020000000180018001 -64,0,0,0,1,128,128 none
 values 017f -1 back
 values 017c -4 back
 values 016300 0 back
@@ -392,8 +408,7 @@ d08000 d000
 1c8100636f 1c016f
 0e8100800001 0e010001";
 
-/// What indices name in the fields of instructions, index 130 being that of the largest id. Operations that differ by their codes alone
-/// have a number here.
+/// What indices name in the fields of instructions, index 130 being that of the largest id.
 pub(crate) const FIELDS: &str = "110100 201 600
 130100 201 600
 fb090100 201 1600
@@ -408,10 +423,7 @@ fc0e0001 600 601
 1182018201 4294967295 4294967295
 fb0982018201 4294967295 4294967295
 fb0a82018201 4294967295 4294967295
-fc0882018201 4294967295 4294967295
-a8 1 0
-fc00 2 0
-fc16 3 0";
+fc0882018201 4294967295 4294967295";
 
 /// What is written where ids have the largest number: those of the data segments and locals of index 64.
 pub(crate) const RENUMBERED: &str = "fc0940 fc09ffffffff0f
