@@ -53,3 +53,19 @@ pub use Rattle.wasm_runs.specs.Modules as RunModules
 pub use Rattle.wasm_runs.specs.Outcomes
 pub use Rattle.wasm_runs.specs.Programs
 pub use Rattle.wasm_runs.specs.Traces
+-- Laws.
+pub use Rattle.walrus_body_laws.specs.Laws as TextLaws
+pub use Rattle.walrus_body_laws.specs.Naming as TextNaming
+pub use Rattle.walrus_body_laws.specs.Nesting as TextNesting
+pub use Rattle.walrus_body_laws.specs.Renaming as TextRenaming
+pub use Rattle.walrus_body_trees.specs.Laws as TreeLaws
+pub use Rattle.walrus_emission_laws.specs.Laws as EmissionLaws
+pub use Rattle.wasm_normal_form.specs.Laws as NormalFormLaws
+pub use Rattle.wasm_normal_laws.specs.Laws as NormalBodyLaws
+pub use Rattle.wasm_runs.specs.Frames as RunFrames
+pub use Rattle.wasm_runs.specs.Laws as RunLaws
+pub use Rattle.wasm_runs.specs.Renamed as RunsRenamed
+pub use Rattle.wasm_run_laws.specs.Laws as NormalRunLaws
+pub use Rattle.wasm_run_laws.specs.Stands as RunStands
+pub use Rattle.wasm_run_names.specs.Asked as RunAsked
+pub use Rattle.wasm_run_names.specs.Picks as RunPicks

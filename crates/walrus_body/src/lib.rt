@@ -6,7 +6,7 @@ pub use walrus_body_env::{AcceptAll, BodyEnv, BodyError, Validator};
 pub use walrus_body_frames::{BlockKind, ControlFrame, IfElseState, ValidationContext};
 pub use walrus_body_names::FunctionFacts;
 pub use walrus_body_writer::Output;
-pub use walrus_index_maps::{IdsToIndices, IndicesToIds, UnknownIndex};
+pub use walrus_index_maps::{IdsToIndices, IndicesToIds, Space as IndexSpace, UnknownIndex};
 pub use walrus_local_function::LocalFunction;
 pub use walrus_operator_writer::write_operator;
 pub use walrus_operators::{Immediates, Operator, OperatorError, OperatorReader};
@@ -28,15 +28,19 @@ pub mod laws {
         pub use wasm_operators::laws as table;
     }
 
-    /// Bodies: their grammar, their normal form, what each operator of a body that is read asks and does, and what is written.
+    /// Bodies: their grammar, their normal form, what each operator of a body that is read asks and does, the trees that are read, and
+    /// what is written of them.
     pub mod bodies {
         pub use walrus_body_laws::laws as writing;
         pub use walrus_body_operands::laws as operands;
         pub use walrus_body_rules::laws as rules;
         pub use walrus_body_steps::laws as steps;
+        pub use walrus_body_trees::laws as trees;
+        pub use walrus_emission_laws::laws as emission;
         pub use walrus_local_numbers::laws as locals;
         pub use wasm_body_grammar::laws as grammar;
         pub use wasm_normal_form::laws as normal_form;
+        pub use wasm_normal_laws::normal_bodies_are_normal;
     }
 
     /// Runs: that a body and its normal form have equal traces.
