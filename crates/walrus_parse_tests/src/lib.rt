@@ -10,6 +10,8 @@ mod locations;
 #[cfg(test)]
 mod names;
 #[cfg(test)]
+mod producers;
+#[cfg(test)]
 mod read;
 #[cfg(test)]
 mod refused;

@@ -2,8 +2,8 @@
 use crate::asked::{keep, refuse, uses};
 use std::alloc::{AllocError, Global};
 use walrus_arena::{
-    ExportId, FunctionId, GlobalId, Id, ImportId, InstrSeqId, TableId, TypeId,
-    UntypedCustomSectionId,
+    DataId, ExportId, FunctionId, GlobalId, Id, ImportId, InstrSeqId, LocalId, MemoryId, TableId,
+    TypeId, UntypedCustomSectionId,
 };
 use walrus_builder::{FunctionBuilder, check_nesting};
 use walrus_config::ModuleConfig;
@@ -13,7 +13,7 @@ use walrus_instr::{ConstExpr, Instr, InstrSeqType, Value};
 use walrus_local_function::LocalFunction;
 use walrus_module::Module;
 use walrus_module::collections::Collection;
-use walrus_module_items::{ElementItems, ElementKind, FunctionKind};
+use walrus_module_items::{DataKind, ElementItems, ElementKind, FunctionKind};
 use walrus_passes::{Used, gc};
 use walrus_sections::SectionFault;
 
@@ -41,6 +41,19 @@ pub(crate) enum Step {
     Segment { table: usize, function: usize },
     /// A declared segment with the function.
     Declared(usize),
+    /// A memory of one page.
+    Memory,
+    ExportMemory(usize),
+    /// A passive data segment without bytes.
+    Data,
+    /// A local, of references to the type of this number.
+    Local(usize),
+    /// The function is called at instantiation.
+    Start(usize),
+    /// The segment is dropped by the function.
+    Drops { data: usize, function: usize },
+    /// The local is read by the function.
+    Reads { local: usize, function: usize },
     /// The first function is called by the second.
     Call { callee: usize, caller: usize },
     Return(usize),
@@ -53,6 +66,7 @@ pub(crate) enum Step {
     DeleteExport(usize),
     DeleteImport(usize),
     DeleteType(usize),
+    DeleteMemory(usize),
     /// A section that keeps the function, one that refuses, and one that has no memory to say what it keeps.
     Keep(usize),
     Refuse,
@@ -60,6 +74,9 @@ pub(crate) enum Step {
     DeleteSection(usize),
     /// The function is to live.
     Lives(usize),
+    /// The memory is to live, or not.
+    HasMemory(usize),
+    NoMemory(usize),
     /// The function is to be used, or not.
     Used(usize),
     Unused(usize),
@@ -107,6 +124,12 @@ fn active(table: usize) -> ElementKind {
     }
 }
 
+fn read(builder: &mut FunctionBuilder, local: LocalId) -> Result<(), AllocError> {
+    let mut body = builder.func_body();
+    body.local_get(local)?;
+    body.drop()
+}
+
 // Puts an instruction at the end of a body.
 fn put(builder: &mut FunctionBuilder, step: Step) -> Result<(), AllocError> {
     match step {
@@ -114,6 +137,10 @@ fn put(builder: &mut FunctionBuilder, step: Step) -> Result<(), AllocError> {
             .func_body()
             .call(FunctionId::from_index(callee & 0xff)),
         Step::Return(_) => builder.func_body().return_(),
+        Step::Drops { data, .. } => builder
+            .func_body()
+            .data_drop(DataId::from_index(data & 0xff)),
+        Step::Reads { local, .. } => read(builder, LocalId::from_index(local & 0xff)),
         Step::Nest(_) => builder.func_body().instr(Instr::Block {
             seq: InstrSeqId::from_index(0),
         }),
@@ -173,6 +200,12 @@ fn delete(module: &mut Module, step: Step) {
             let id = TypeId::from_index(index & 0xff);
             if module.types.contains(id) {
                 module.types.delete(id);
+            }
+        }
+        Step::DeleteMemory(index) => {
+            let id = memory(index);
+            if module.memories.contains(id) {
+                module.memories.delete(id);
             }
         }
         _ => {}
@@ -238,6 +271,10 @@ fn function(index: usize) -> FunctionId {
     FunctionId::from_index(index & 0xff)
 }
 
+fn memory(index: usize) -> MemoryId {
+    MemoryId::from_index(index & 0xff)
+}
+
 fn heap_type(ty: usize, exact: bool) -> HeapType {
     let id = TypeId::from_index(ty & 0xff);
     if exact {
@@ -270,6 +307,23 @@ fn add_shared(module: &mut Module) -> Result<(), AllocError> {
     Ok(())
 }
 
+fn add_memory(module: &mut Module) -> Result<(), AllocError> {
+    module.memories.add_local(false, false, 1, None, None)?;
+    Ok(())
+}
+
+fn add_data(alloc: Global, module: &mut Module) -> Result<(), AllocError> {
+    module
+        .data_segments
+        .add(DataKind::Passive, Vec::new(alloc))?;
+    Ok(())
+}
+
+fn add_local(module: &mut Module, ty: usize) -> Result<(), AllocError> {
+    module.locals.add(ValType::Ref(nullable(ty, false)))?;
+    Ok(())
+}
+
 fn add(alloc: Global, module: &mut Module, step: Step) -> Result<(), AllocError> {
     match step {
         Step::Function => add_function(alloc, module),
@@ -286,6 +340,9 @@ fn add(alloc: Global, module: &mut Module, step: Step) -> Result<(), AllocError>
         }
         Step::Struct(ty) => add_struct(alloc, module, ty),
         Step::SharedGlobal => add_shared(module),
+        Step::Memory => add_memory(module),
+        Step::Data => add_data(alloc, module),
+        Step::Local(ty) => add_local(module, ty),
         Step::Keep(index) => keep(alloc, module, function(index)),
         Step::Refuse => refuse(alloc, module, SectionFault::Refused),
         Step::Short => refuse(alloc, module, SectionFault::Memory),
@@ -313,6 +370,9 @@ fn name(module: &mut Module, step: Step) -> Result<(), AllocError> {
             let id = GlobalId::from_index(index & 0xff);
             module.exports.add("g", id)?;
         }
+        Step::ExportMemory(index) => {
+            module.exports.add("m", memory(index))?;
+        }
         _ => {}
     }
     Ok(())
@@ -323,24 +383,31 @@ fn take(alloc: Global, module: &mut Module, step: Step) -> Result<bool, AllocErr
     match step {
         Step::Gc(wanted) => return Ok(answers(alloc, module, wanted)),
         Step::Lives(index) => return Ok(module.funcs.contains(function(index))),
+        Step::HasMemory(index) => return Ok(module.memories.contains(memory(index))),
+        Step::NoMemory(index) => return Ok(!module.memories.contains(memory(index))),
         Step::Used(index) => return Ok(uses(alloc, module, function(index))),
         Step::Unused(index) => return Ok(!uses(alloc, module, function(index))),
         Step::Found(index) => return Ok(finds(module, function(index))),
         Step::NotNested(index) => return is_not_nested(alloc, module, function(index)),
         Step::Uninitialize(function) => uninitialize(module, function),
+        Step::Start(index) => module.start = Some(function(index)),
         Step::Call { caller, .. } => put_in(module, caller, step)?,
-        Step::Return(function) | Step::Nest(function) | Step::Stray(function) => {
-            put_in(module, function, step)?
-        }
+        Step::Return(function)
+        | Step::Nest(function)
+        | Step::Stray(function)
+        | Step::Drops { function, .. }
+        | Step::Reads { function, .. } => put_in(module, function, step)?,
         Step::DeleteFunction(_)
         | Step::DeleteExport(_)
         | Step::DeleteImport(_)
         | Step::DeleteSection(_)
-        | Step::DeleteType(_) => delete(module, step),
+        | Step::DeleteType(_)
+        | Step::DeleteMemory(_) => delete(module, step),
         Step::ImportOf(_)
         | Step::ExportFunction(_)
         | Step::ExportTable(_)
-        | Step::ExportGlobal(_) => name(module, step)?,
+        | Step::ExportGlobal(_)
+        | Step::ExportMemory(_) => name(module, step)?,
         _ => add(alloc, module, step)?,
     }
     Ok(true)

@@ -2,7 +2,7 @@
 use crate::modules::{Step, leave};
 
 // Steps, and how many types, functions, tables, elements and imports they leave.
-const ROWS: [(&[Step], [usize; 5]); 18] = [
+const ROWS: [(&[Step], [usize; 5]); 24] = [
     // A table that is exported keeps its segment, with the function and its type.
     (
         &[
@@ -242,6 +242,94 @@ const ROWS: [(&[Step], [usize; 5]); 18] = [
             Step::Gc(4),
         ],
         [3, 0, 2, 0, 0],
+    ),
+    // The start function is a root.
+    (
+        &[
+            Step::Function,
+            Step::Function,
+            Step::Start(1),
+            Step::Gc(0),
+            Step::Lives(1),
+        ],
+        [1, 1, 0, 0, 0],
+    ),
+    // The first live memory stays where a data segment is reached and no memory is.
+    (
+        &[
+            Step::Memory,
+            Step::Memory,
+            Step::Memory,
+            Step::DeleteMemory(0),
+            Step::Data,
+            Step::Function,
+            Step::ExportFunction(0),
+            Step::Drops {
+                data: 0,
+                function: 0,
+            },
+            Step::Gc(0),
+            Step::HasMemory(1),
+            Step::NoMemory(2),
+        ],
+        [1, 1, 0, 0, 0],
+    ),
+    // It goes where another memory is reached.
+    (
+        &[
+            Step::Memory,
+            Step::Memory,
+            Step::ExportMemory(1),
+            Step::Data,
+            Step::Function,
+            Step::ExportFunction(0),
+            Step::Drops {
+                data: 0,
+                function: 0,
+            },
+            Step::Gc(0),
+            Step::NoMemory(0),
+            Step::HasMemory(1),
+        ],
+        [1, 1, 0, 0, 0],
+    ),
+    // It goes where no data segment is reached.
+    (
+        &[
+            Step::Memory,
+            Step::Data,
+            Step::Function,
+            Step::ExportFunction(0),
+            Step::Gc(0),
+            Step::NoMemory(0),
+        ],
+        [1, 1, 0, 0, 0],
+    ),
+    // The type of a used local stays, which nothing else names.
+    (
+        &[
+            Step::Struct(0),
+            Step::Function,
+            Step::ExportFunction(0),
+            Step::Local(0),
+            Step::Reads {
+                local: 0,
+                function: 0,
+            },
+            Step::Gc(0),
+        ],
+        [2, 1, 0, 0, 0],
+    ),
+    // That of an unused one goes.
+    (
+        &[
+            Step::Struct(0),
+            Step::Function,
+            Step::ExportFunction(0),
+            Step::Local(0),
+            Step::Gc(0),
+        ],
+        [1, 1, 0, 0, 0],
     ),
 ];
 

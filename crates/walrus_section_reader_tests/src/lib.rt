@@ -1,4 +1,5 @@
-//! Tests of the readers of sections: each fault with its place, and sections that are read, each call with ample memory.
+//! Tests of the readers of sections: each fault with its place, and sections that are read; and of the writers of the sections `name` and
+//! `producers`; each call with ample memory.
 #![tactic(auto)]
 
 #[cfg(test)]
@@ -7,3 +8,5 @@ mod faults;
 mod files;
 #[cfg(test)]
 mod frames;
+#[cfg(test)]
+mod written;
