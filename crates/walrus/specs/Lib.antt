@@ -43,6 +43,16 @@ pub use Rattle.walrus_meaning.specs.Laws as MeaningLaws
 pub use Rattle.walrus_meaning.specs.Meaning
 pub use Rattle.walrus_meaning.specs.Segments
 pub use Rattle.walrus_meaning.specs.Words
+-- Modules that are read.
+pub use Rattle.walrus_parse.specs.Parsed as ReadModules
+pub use Rattle.walrus_parse.specs.Refusals as ReadRefusals
+pub use Rattle.walrus_parsed_linked.specs.Linked as ReadLinked
+pub use Rattle.walrus_parsed_meaning.specs.Means as ReadMeaning
+pub use Rattle.walrus_parsed_ruled.specs.Ruled as ReadRuled
+pub use Rattle.walrus_parsed_ruled.specs.Sent as ReadSent
+pub use Rattle.walrus_sent_laws.specs.Moved as SentRules
+pub use Rattle.walrus_sent_laws.specs.Ruled as SentRuled
+pub use Rattle.walrus_sent_laws.specs.Sent as SentModules
 -- What names what, what is kept, why a pass is refused, and what it leaves.
 pub use Rattle.walrus_passes_laws.specs.walrus_references.Kept as KeptItems
 pub use Rattle.walrus_passes_laws.specs.walrus_references.References

@@ -16,6 +16,7 @@ pub use walrus_module_items::{
     FuncResults, Function, FunctionKind, Global, GlobalKind, Import, ImportKind, ImportedFunction,
     Memory, Table, Tag, TagKind,
 };
+pub use walrus_parse::{FromBuffer, Parse, parse_into};
 pub use walrus_sections::{
     CodeTransform, CustomSection, ModuleCustomSections, Section, SectionFault, Sections,
 };
@@ -45,6 +46,14 @@ pub mod laws {
 
     /// What passes keep of a module.
     pub use walrus_passes_laws as passes;
+
+    /// What a module is that was read: linked, it means its file, and meets the rules; and so does what a callback is handed.
+    pub mod read {
+        pub use walrus_parsed_linked::laws::modules_that_are_read_are_linked;
+        pub use walrus_parsed_meaning::laws::modules_that_are_read_mean_their_files;
+        pub use walrus_parsed_ruled::laws as ruled;
+        pub use walrus_sent_laws::laws as sent;
+    }
 
     /// What is reached is the least that holds the roots and is closed, and is what is reached in the module that is meant.
     pub mod kept {
