@@ -78,7 +78,6 @@ module _ (look back : Look) where
     tells (instrs.Rethrow depth) s e = branches (instrs.Rethrow depth) 0x09 depth s refl e
     tells i s e = inl (refl, e)
 
-
 pub control_told : InstrComesBack → ControlIsTold
 control_told again look back undoes b number i j s plain other e f = both (tells look back b number i s e) (tells look back b number j s f)
   where

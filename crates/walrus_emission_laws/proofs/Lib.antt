@@ -1,3 +1,4 @@
 mod Meant
 mod Read
 mod Named
+mod Runs

@@ -1,6 +1,7 @@
 //! Laws: functions with nothing to do, whose contracts hold of all functions with a body.
 
 ghost use Rattle.walrus_emission_laws.specs.Laws.{BodiesAreMeant, LocalsAreMeant, ReadBodiesAreWritten};
+ghost use Rattle.walrus_emission_laws.specs.Runs.{WrittenBodiesRunRenamed};
 
 /// The operators that are written for a body are those that it means, renamed as the map of ids renames, each with its location's place.
 pub fn bodies_are_meant()
@@ -25,4 +26,13 @@ pub fn read_bodies_are_written()
     bodies_are_meant();
     walrus_body_trees::laws::bodies_mean_their_normal_form();
     wasm_operator_names::laws::renamings_compose();
+}
+
+/// What is written for a body that was read executes the same operators as what was read, renamed so, for all outcomes and bounds, and
+/// ends the same (Core Specification, execution).
+pub fn written_bodies_run_renamed()
+    ensures { WrittenBodiesRunRenamed }
+{
+    read_bodies_are_written();
+    wasm_run_laws::laws::bodies_run_renamed();
 }
