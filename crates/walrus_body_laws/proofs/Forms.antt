@@ -1,5 +1,5 @@
 -- Lemmas: what is written for an instruction tells its form.
-use Rattle.std.specs.Prelude.{ℕ, ◌≡◌, ◌⊎◌, List, [], ◌∷◌, map, slice_get, Option, Some, None, Ok, Err, refl}
+use Rattle.std.specs.Prelude.{ℕ, ◌≡◌, ◌⊎◌, List, [], ◌∷◌, map, slice_get, Some, None, Ok, Err, refl}
 use Rattle.std.proofs.Common.{ap, subst, inl, inr, ◌∙◌}
 use Rattle.wasm_immediates.specs.declared.block_type.BlockType.{BlockType}
 use Rattle.wasm_immediates.specs.declared.clause.Clause.{Clause}
