@@ -11,3 +11,5 @@ mod handlers;
 mod module;
 #[cfg(test)]
 mod trees;
+#[cfg(test)]
+mod validators;
