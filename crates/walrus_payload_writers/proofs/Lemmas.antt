@@ -1,5 +1,5 @@
 -- Bytes are written one behind another.
-use Rattle.std.specs.Prelude.{ℕ, ◌≡◌, ◌≤◌, ◌⊎◌, List, [], ◌++◌, length, Result, Ok, Err, refl}
+use Rattle.std.specs.Prelude.{ℕ, ◌≡◌, ◌≤◌, ◌^◌, ◌⊎◌, List, [], ◌++◌, length, Result, Ok, Err, refl}
 use Rattle.std.proofs.Common.{ap, ◌∙◌, arith, inl, inr}
 use Rattle.std.proofs.lemmas.List.{append_assoc, length-append}
 use Rattle.walrus_errors.specs.declared.error.ModuleError.{ModuleError}
@@ -32,10 +32,15 @@ writes_on old mid new a b (Err x) e h = refused_on a b old mid new x e h
 pub keeps_same : (old new : List ℕ) → new ≡ old → Keeps old new
 keeps_same old new e = keeps_all old new e
 
+-- a size is refused as so many bytes are
+pub size_cause : (n : ℕ) (e : ModuleError) → ((e ≡ Memory) × (n ≤ 2 ^ 30)) ⊎ IsTooMany n e → (e ≡ Memory) ⊎ IsTooMany n e
+size_cause n e (inl h) = inl h.0
+size_cause n e (inr h) = inr h
+
 -- a size that is refused, before so many bytes
 pub size_refused : (bytes old new : List ℕ) (e : ModuleError) → SizeRefused (length bytes) old new e → Refused (u32_bytes (length bytes) ++ bytes) old new e
 size_refused bytes old new e h =
-    record { keeps = h.keeps; cause = wider (length bytes) (length (u32_bytes (length bytes) ++ bytes)) e (omega (arith, length-append (u32_bytes (length bytes)) bytes)) h.cause }
+    record { keeps = h.keeps; cause = wider (length bytes) (length (u32_bytes (length bytes) ++ bytes)) e (omega (arith, length-append (u32_bytes (length bytes)) bytes)) (size_cause (length bytes) e h.cause) }
 
 -- what was refused of contents that stand in these bytes
 pub refused_inside : (part bytes old inner : List ℕ) (e : ModuleError) → Refused part [] inner e → length part ≤ length bytes → Refused bytes old old e

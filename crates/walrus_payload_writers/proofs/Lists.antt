@@ -9,7 +9,7 @@ use Rattle.wasm_name_payloads.specs.Written.{name_bytes, vec_bytes, value_bytes,
 use Rattle.wasm_producers.specs.Entries.{Value, Field}
 use Rattle.walrus_errors.specs.declared.error.ModuleError.{ModuleError}
 use Rattle.walrus_payload_writers.specs.Writes.{Refused, SizeRefused}
-use Rattle.walrus_payload_writers.proofs.Lemmas.{wider, refused_front, refused_on}
+use Rattle.walrus_payload_writers.proofs.Lemmas.{wider, size_cause, refused_front, refused_on}
 
 module _ {Y X : Type 0} (see : Y → X) (f : X → List ℕ) where
   abbrev all_bytes : List Y → List ℕ
@@ -47,7 +47,7 @@ module _ {Y X : Type 0} (see : Y → X) (f : X → List ℕ) where
   pub count_refused : ((x : X) → 0 < length (f x)) → (xs : List Y) (old new : List ℕ) (e : ModuleError) → SizeRefused (length xs) old new e → Refused (vec_bytes f (map see xs)) old new e
   count_refused takes xs old new e h = record {
     keeps = h.keeps;
-    cause = wider (length xs) (length (vec_bytes f (map see xs))) e (omega (arith, many takes xs, length-append (u32_bytes (length (map see xs))) (all_bytes xs))) h.cause;
+    cause = wider (length xs) (length (vec_bytes f (map see xs))) e (omega (arith, many takes xs, length-append (u32_bytes (length (map see xs))) (all_bytes xs))) (size_cause (length xs) e h.cause);
   }
 
 -- a number takes a byte at least

@@ -1,5 +1,5 @@
 -- What a call that writes puts behind the output.
-use Rattle.std.specs.Prelude.{ℕ, ◌≡◌, ◌<◌, ◌^◌, ◌⊎◌, List, ◌++◌, length, Result, MatchResult}
+use Rattle.std.specs.Prelude.{ℕ, ◌≡◌, ◌<◌, ◌≤◌, ◌^◌, ◌⊎◌, List, ◌++◌, length, Result, MatchResult}
 use Rattle.wasm_formats.specs.declared.fault.Limited.TheVariants.{File}
 use Rattle.wasm_reader.specs.Shortest.{u32_bytes}
 use Rattle.wasm_name_payloads.specs.Written.{name_bytes, part_bytes}
@@ -20,10 +20,10 @@ pub record Refused (bytes old new : List ℕ) (e : ModuleError) : Type 0 where
 abbrev pub Writes : List ℕ → List ℕ → List ℕ → Result (Unit {0}) ModuleError → Type 0
 Writes bytes old new result = MatchResult result (λ _. new ≡ old ++ bytes) (λ e. Refused bytes old new e)
 
--- the same of a size, refused where so many bytes are too many
+-- the same of a size, refused where so many bytes are too many: for these no memory is asked
 pub record SizeRefused (size : ℕ) (old new : List ℕ) (e : ModuleError) : Type 0 where
   pub keeps : Keeps old new
-  pub cause : (e ≡ Memory) ⊎ IsTooMany size e
+  pub cause : ((e ≡ Memory) × (size ≤ 2 ^ 30)) ⊎ IsTooMany size e
 
 abbrev pub SizeWritten : ℕ → List ℕ → List ℕ → Result (Unit {0}) ModuleError → Type 0
 SizeWritten size old new result = MatchResult result (λ _. new ≡ old ++ u32_bytes size) (λ e. SizeRefused size old new e)

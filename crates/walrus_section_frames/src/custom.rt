@@ -3,9 +3,9 @@
 ghost use Rattle.std.specs.Prelude.{◌≡◌, OnOk};
 ghost use Rattle.wasm_formats.specs.Wholes.{sized};
 ghost use Rattle.wasm_sections.specs.Sections.{add_custom, custom};
-ghost use Rattle.walrus_section_reader.specs.Parses.{Parses, ParsesWhole};
+ghost use Rattle.walrus_section_reader.specs.Parses.{Parses, ParsesExactly};
 ghost use Rattle.walrus_entry_readers.specs.walrus_known_sections.State.{state_of};
-ghost use Rattle.walrus_section_frames.specs.Customs.{custom_entry_of, custom_put};
+ghost use Rattle.walrus_section_frames.specs.Customs.{ReadsWhole, custom_entry_of, custom_put};
 
 use std::alloc::AllocError;
 use walrus_entry_readers::{Custom, Sections};
@@ -13,9 +13,9 @@ use walrus_section_reader::{Result, open_section};
 use walrus_section_values::read_name;
 use wasm_reader::BinaryReader;
 
-/// A name, and all bytes behind it. Of these nothing is asked.
+/// A name, and all bytes behind it. Of these nothing is asked. Takes no memory.
 pub fn read_custom<'a>(contents: &mut BinaryReader<'a>) -> Result<Custom<'a>>
-    ensures { ParsesWhole custom.parse custom_entry_of contents.old result }
+    ensures { ReadsWhole custom.parse custom_entry_of contents.old result }
 {
     let name = read_name(contents)?;
     let left = contents.bytes_remaining();
@@ -23,9 +23,9 @@ pub fn read_custom<'a>(contents: &mut BinaryReader<'a>) -> Result<Custom<'a>>
     Ok(Custom { name, bytes })
 }
 
-/// A custom section behind its id: a size, and so many bytes.
+/// A custom section behind its id: a size, and so many bytes. Takes no memory.
 pub fn read_custom_section<'a>(reader: &mut BinaryReader<'a>) -> Result<Custom<'a>>
-    ensures { Parses (sized custom).parse custom_entry_of reader.old reader.new result }
+    ensures { ParsesExactly (sized custom).parse custom_entry_of reader.old reader.new result }
 {
     let mut contents = open_section(reader)?;
     let custom = read_custom(&mut contents)?;
@@ -43,6 +43,7 @@ fn add_custom<'a>(
 }
 
 /// A custom section behind its id, put behind those before it.
+#[tactic(auto, using(crate::proofs::Exact::parses))]
 pub fn put_custom_section<'a>(
     sections: &mut Sections<'a>,
     reader: &mut BinaryReader<'a>,

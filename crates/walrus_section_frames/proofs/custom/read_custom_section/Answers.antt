@@ -1,7 +1,7 @@
 use Rattle.std.proofs.Common.{refl}
 use Rattle.std.proofs.lemmas.Result.{err_from_is_err_and}
 use Rattle.wasm_sections.specs.Sections.{custom}
-use Rattle.walrus_section_reader.specs.Windows.{not_opened, not_parsed, parsed}
+use Rattle.walrus_section_frames.proofs.Exact.{not_opened, not_parsed, parsed}
 use Rattle.walrus_section_frames.specs.Customs.{custom_entry_of}
 use Rattle.walrus_section_frames.proofs.custom.read_custom_section.Goals as goal
 
