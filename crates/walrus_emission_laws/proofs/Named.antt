@@ -7,7 +7,6 @@ use Rattle.std.proofs.lemmas.Bool.{eqb-true, eq-eqb, false≢true}
 use Rattle.wasm_operators.specs.Operators.{Seen}
 use Rattle.wasm_normal_form.specs.Bodies.{local_in as local_item, locals_named}
 use Rattle.wasm_normal_form.specs.Locals.{Key, in_order, numbered}
-use Rattle.walrus_items.specs.declared.local.Local.{Local}
 use Rattle.walrus_instr.specs.declared.seq.InstrSeq.{InstrSeq}
 use Rattle.walrus_builder.specs.Functions.{seqs_of}
 use Rattle.walrus_tree.specs.Text.{operators}

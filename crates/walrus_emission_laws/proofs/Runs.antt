@@ -1,5 +1,5 @@
 -- Lemmas: what is written for a body that was read runs as it does.
-use Rattle.std.proofs.Common.{◌≡◌, ℕ, List, [], ◌∷◌, map, ap, subst, sym, refl, ◌∙◌}
+use Rattle.std.proofs.Common.{◌≡◌, List, [], ◌∷◌, map, ap, subst, sym, refl, ◌∙◌}
 use Rattle.wasm_immediates.specs.Items.{Labels}
 use Rattle.wasm_operators.specs.Operators.{Seen}
 use Rattle.wasm_operator_names.specs.Laws.{after}

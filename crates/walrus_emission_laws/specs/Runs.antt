@@ -1,5 +1,5 @@
 -- What a body that was read does when it runs, and what is written for it.
-use Rattle.std.specs.Prelude.{◌≡◌, ℕ, List, map}
+use Rattle.std.specs.Prelude.{ℕ, List, map}
 use Rattle.std.specs.List.{AllByRecursion}
 use Rattle.wasm_normal_form.specs.Normal.{normal}
 use Rattle.wasm_normal_form.specs.Trees.{tree_of}

@@ -1,6 +1,7 @@
 //! A validator of the tests' own is told of each run of locals, of each operator and of the end, and refuses one of them.
 
 ghost use Rattle.std.specs.Prelude.{◌==◌, Some, None, if◌then◌else◌};
+ghost use Rattle.walrus_body_env.specs.Faults.{Answers};
 ghost use Rattle.walrus_body_env.specs.declared.error.BodyError.TheVariants as faults;
 
 use crate::module::{TestModule, indices};
@@ -25,7 +26,9 @@ struct Refuser {
 }
 
 impl Refuser {
-    fn answer(&mut self, offset: u64) -> Result<(), BodyError> {
+    fn answer(&mut self, offset: u64) -> Result<(), BodyError>
+        ensures { Answers (if offset == self.old.at then Some faults.NoTree else None, record self.old { last = offset }) result self.new }
+    {
         self.last = offset;
         if offset == self.at {
             return Err(BodyError::NoTree);
