@@ -2,7 +2,7 @@
 use Rattle.std.specs.Prelude.{ℕ, zero, suc, ◌≡◌, ◌+◌, ◌<◌, ◌≤◌, Bool, false, List, [], ◌∷◌, ◌++◌, length, map, Option, Some, None, MatchOption, refl}
 use Rattle.std.specs.List.{filter_map, flat_map}
 use Rattle.std.specs.Option.{option_and_then, option_map, option_to_list}
-use Rattle.std.proofs.Common.{ap, sym, ◌∙◌, subst, arith}
+use Rattle.std.proofs.Common.{ap, sym, ◌∙◌, subst, inl, arith}
 use Rattle.std.proofs.lemmas.List.{length-append}
 use Rattle.std.proofs.lemmas.List.Concat.{flat_map-append}
 use Rattle.walrus_forms.specs.Forms.{Form, FunctionForm, StructForm, ArrayForm, form_names}
@@ -15,7 +15,7 @@ use Rattle.walrus_function_types.proofs.GrowthLemmas.{grows_on}
 use Rattle.walrus_handler_types.specs.Giving.{Finds, FindsIf, Gives, GivesAt, block_results, caught, tree_handlers}
 use Rattle.walrus_handler_types.specs.walrus_handler_laws.Handlers.{told_by, tree_ids}
 use Rattle.walrus_handler_types.specs.walrus_handler_laws.declared.handler.Handler.{Handler}
-use Rattle.walrus_handler_types.proofs.Growing.{at_grows, function_results_grow, given_types_grow, params_grow, tree_types_grow}
+use Rattle.walrus_handler_types.proofs.Growing.{at_grows, function_results_grow, given_types_grow, params_grow}
 use Rattle.walrus_parsed_groups.specs.Added.{Signature, kind_of}
 use Rattle.walrus_parsed_groups.specs.Files.{sent}
 use Rattle.walrus_parsed_groups.specs.Groups.{handlers_in}

@@ -4,18 +4,20 @@ use Rattle.std.specs.List.{flat_map}
 use Rattle.std.specs.Option.{option_and_then, option_map}
 use Rattle.std.proofs.Common.{ap, sym, ◌∙◌, subst, arith, inl, inr}
 use Rattle.walrus_forms.specs.Kinds.{Kind, kind_names}
+use Rattle.walrus_forms.specs.Records.{TypeGroup}
 use Rattle.walrus_forms.specs.Renaming.{at}
 use Rattle.walrus_forms.specs.declared.value.ValType.{ValType}
 use Rattle.walrus_function_types.specs.FunctionTypes.{form_params, form_results}
 use Rattle.walrus_handler_types.specs.Giving.{block_results, caught}
-use Rattle.walrus_handler_types.specs.walrus_handler_laws.declared.handler.Handler.{Handler}
 use Rattle.walrus_parsed_groups.specs.Added.{Signature}
 use Rattle.walrus_parsed_groups.specs.Files.{ReadModulesHaveHandlers, bodies_handle, sent}
-use Rattle.walrus_parsed_groups.specs.Groups.{handlers_of}
+use Rattle.walrus_parsed_groups.specs.Groups.{handlers_in}
 use Rattle.walrus_parsed_groups.specs.Handlers.{signatures}
 use Rattle.walrus_parsed_linked.proofs.walrus_parsed_bodies.WholeLemmas.{bare_same}
 use Rattle.walrus_parsed_linked.proofs.walrus_parsed_items.ListLemmas.{AllOf, all_contains, some_is}
 use Rattle.walrus_parsed_linked.specs.walrus_parsed_items.walrus_into_laws.walrus_meaning.walrus_linked.walrus_body_writer.walrus_pairing.walrus_index_maps.Maps.{Ids}
+use Rattle.walrus_parsed_linked.specs.walrus_parsed_items.walrus_into_laws.walrus_meaning.walrus_linked.walrus_body_writer.walrus_pairing.wasm_immediates.wasm_features.declared.WasmFeatures.{WasmFeatures}
+use Rattle.walrus_parsed_linked.specs.walrus_parsed_items.walrus_into_laws.walrus_types_into.Into.{no_types}
 use Rattle.walrus_parsed_linked.specs.walrus_parsed_items.walrus_into_laws.walrus_meaning.walrus_linked.walrus_body_writer.walrus_pairing.walrus_instr.declared.seq.InstrSeqType.{InstrSeqType}
 use Rattle.walrus_parsed_linked.specs.walrus_parsed_items.walrus_into_laws.walrus_meaning.walrus_linked.walrus_body_writer.walrus_pairing.walrus_instr.declared.seq.InstrSeqType.TheVariants.{Simple, MultiValue}
 use Rattle.walrus_parsed_linked.specs.walrus_parsed_items.walrus_parse.Parsed.{read_features}
@@ -25,12 +27,14 @@ use Rattle.walrus_parsed_linked.specs.walrus_parsed_items.walrus_parse.walrus_fi
 use Rattle.walrus_parsed_linked.specs.walrus_parsed_items.walrus_parse.walrus_file_bodies.walrus_items_into.Numbers.{types_in}
 use Rattle.walrus_parsed_linked.specs.walrus_parsed_items.walrus_parse.walrus_file_bodies.walrus_items_into.wasm_module_rules.wasm_modules.Modules.{module_of}
 use Rattle.walrus_parsed_linked.specs.walrus_parsed_items.walrus_parse.walrus_file_bodies.walrus_items_into.walrus_tables_into.walrus_sections_into.walrus_known_sections.State.{state_of}
-use Rattle.walrus_parsed_linked.specs.walrus_parsed_items.walrus_parse.walrus_file_bodies.walrus_module_bodies.Steps.{State, state}
+use Rattle.walrus_parsed_linked.specs.walrus_parsed_items.walrus_parse.walrus_file_bodies.walrus_items_into.walrus_functions_into.declared.bodies.FunctionBody.{FunctionBody}
+use Rattle.walrus_parsed_linked.specs.walrus_parsed_items.walrus_parse.walrus_file_bodies.walrus_module_bodies.Steps.{State, Steps, state}
+use Rattle.walrus_parsed_linked.specs.walrus_parsed_items.walrus_parse.walrus_file_bodies.walrus_module_bodies.declared.file.FileEnv.{FileEnv}
 use Rattle.walrus_parsed_linked.specs.walrus_parsed_items.walrus_parse.walrus_item_names.Holder.{Holder}
 use Rattle.walrus_parsed_linked.specs.walrus_parsed_items.walrus_parse.walrus_item_names.Names.{bare_type}
 use Rattle.walrus_passes_laws.specs.walrus_refusals.Written.{MayName, NamesNoLater}
 use Rattle.walrus_types.specs.Items.{Group, Item}
-use Rattle.walrus_types.specs.Parsing.{Parsed}
+use Rattle.walrus_types.specs.Parsing.{Parsed, parsed, unparsed}
 use Rattle.walrus_types.specs.Table.{Table, next_id, type_at}
 use Rattle.walrus_parsed_served.specs.Stays.{ReadTypesStayInGroups}
 use Rattle.walrus_parsed_served.proofs.BodyLemmas.{Behind, SignatureLow, all_fit, sent_low, steps_behind}
@@ -96,45 +100,27 @@ first_behind p h = record {
       all_up (λ name. (name < next_id p.table) × MayName p.table id name) (λ name. (name ≤ next_id p.table) × MayName p.table id name) (λ name k. ((let lt = k.0 in omega (arith, lt)), k.1)) (kind_names x.kind) (h.names id x there);
 }
 
+-- bodies that were read one after another into a table of a file's types, and what the types are called
+module _ (groups : List TypeGroup) (file : FileEnv) (features : WasmFeatures) (bs : List FunctionBody) (old new : State) (steps : Steps file features bs old new) (t : Table) (found : List ℕ) (ss : List Signature) where
+  abbrev read : Parsed
+  read = parsed groups (unparsed no_types)
+
+  pub bodies_stay : old.types ≡ read.table → found ≡ read.ids → map (option_map bare_type) t.types ≡ map (option_map bare_type) new.types.types → t.groups ≡ new.types.groups
+      → flat_map (signatures t) (handlers_in file features bs old new steps) ≡ map (sent (at found)) ss → (id : ℕ) → NamesNoLater t id
+  bodies_stay filled numbered bare alike told =
+      let own : ℕ = next_id read.table in
+      let stays : Stays read = file_stays groups in
+      let low : AllOf (SignatureLow own) (map (sent (at found)) ss) = sent_low own (at found) (λ n. subst (λ (l : List ℕ). at l n ≤ own) (sym numbered) (at_most own read.ids stays.ids n)) ss in
+      let fit = all_fit own new.types t (same_caught t new.types bare alike) (same_results t new.types bare alike) (handlers_in file features bs old new steps) (subst (AllOf (SignatureLow own)) (sym told) low) in
+      let ended : Behind own new.types = steps_behind own new.types file features bs old new steps (grows_none new.types) fit (subst (Behind own) (sym filled) (first_behind read stays)) in
+      names_no_later t new.types bare alike (λ id x there. all_up (λ name. (name ≤ own) × MayName new.types id name) (MayName new.types id) (λ name h. h.1) (kind_names x.kind) (ended.names id x there))
+
 pub types_stay : {B : Type 0} → ReadModulesHaveHandlers B → BodiesReadFiles B → ReadTypesStayInGroups B
-types_stay {B} have bodies config bytes m found small is = names_no_later m.types final bare alike (λ id x there. all_up (λ name. (name ≤ own) × MayName final id name) (MayName final id) (λ name h. h.1) (kind_names x.kind) (ended.names id x there))
-  where
-    file : Parsed
-    file = types_in is.1.sections
-
-    stays : Stays file
-    stays = file_stays is.1.sections.types
-
-    own : ℕ
-    own = next_id file.table
-
-    final : Table
-    final = is.1.bodied.types
-
-    old : State
-    old = state is.1.filled.types [] is.1.numbers is.1.filled.functions
-
-    hs : List (Option Handler)
-    hs = handlers_of config bytes m found is
-
-    numbered : found.types ≡ file.ids
-    numbered =
-        let h = is.1 in
-        let read = bodies (read_features config) bytes h.sections m.start h.numbers h.filled h.file [] h.bodied h.reads.short small h.reads.sections h.are_filled h.is_file h.bodies_are in
-        ap (λ (j : Ids). j.types) (h.found_are ∙ read.3) ∙ ap (λ (j : Ids). j.types) h.are_filled.numbers
-
-    bare : map (option_map bare_type) m.types.types ≡ map (option_map bare_type) final.types
-    bare = ap (λ (x : Holder). x.types.types) is.1.names.same
-
-    alike : m.types.groups ≡ final.groups
-    alike = ap (λ (x : Holder). x.types.groups) is.1.names.same
-
-    low : AllOf (SignatureLow own) (flat_map (signatures m.types) hs)
-    low = subst (AllOf (SignatureLow own)) (sym (have config bytes m found small is))
-        (sent_low own (at found.types) (λ n. subst (λ (l : List ℕ). at l n ≤ own) (sym numbered) (at_most own file.ids stays.ids n))
-        (bodies_handle (module_of (state_of is.1.sections) is.1.bodies) is.1.bodies))
-
-    ended : Behind own final
-    ended = steps_behind own final is.1.file (read_features config) (bodies_in is.1.sections is.1.filled.functions) old is.1.bodied is.1.bodies_are (grows_none final)
-        (all_fit own final m.types (same_caught m.types final bare alike) (same_results m.types final bare alike) hs low)
-        (subst (Behind own) (sym is.1.are_filled.types) (first_behind file stays))
+types_stay {B} have bodies config bytes m found small is =
+    let h = is.1 in
+    let features = read_features config in
+    let read = bodies features bytes h.sections m.start h.numbers h.filled h.file [] h.bodied h.reads.short small h.reads.sections h.are_filled h.is_file h.bodies_are in
+    let numbered : found.types ≡ (types_in h.sections).ids = ap (λ (j : Ids). j.types) (h.found_are ∙ read.3) ∙ ap (λ (j : Ids). j.types) h.are_filled.numbers in
+    bodies_stay h.sections.types h.file features (bodies_in h.sections h.filled.functions) (state h.filled.types [] h.numbers h.filled.functions) h.bodied h.bodies_are m.types found.types
+    (bodies_handle (module_of (state_of h.sections) h.bodies) h.bodies) h.are_filled.types numbered (ap (λ (x : Holder). x.types.types) h.names.same) (ap (λ (x : Holder). x.types.groups) h.names.same)
+    (have config bytes m found small is)
