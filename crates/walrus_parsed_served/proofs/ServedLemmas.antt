@@ -3,14 +3,19 @@ use Rattle.std.specs.Prelude.{ℕ, zero, suc, ◌≡◌, Bool, false, List, [], 
 use Rattle.std.specs.Option.{option_map}
 use Rattle.std.proofs.Common.{ap, sym, ◌∙◌, subst}
 use Rattle.walrus_arena.specs.Arena.{item_at}
+use Rattle.walrus_config.specs.declared.config.ModuleConfig.{ModuleConfig}
 use Rattle.walrus_handler_types.specs.walrus_body_steps.walrus_body_nesting.wasm_formats.declared.fault.Space.{Space}
 use Rattle.walrus_handler_types.specs.walrus_body_steps.walrus_body_nesting.wasm_formats.declared.fault.Space.TheVariants as spaces
 use Rattle.walrus_parsed_linked.proofs.walrus_parsed_bodies.WholeLemmas.{bare_same}
 use Rattle.walrus_parsed_linked.proofs.walrus_parsed_items.ListLemmas.{some_is}
 use Rattle.walrus_parsed_linked.specs.Linked.{ReadModulesAreLinked}
 use Rattle.walrus_parsed_linked.specs.walrus_parsed_items.walrus_into_laws.walrus_meaning.walrus_linked.walrus_body_writer.walrus_pairing.Looks.{Look}
+use Rattle.walrus_parsed_linked.specs.walrus_parsed_items.walrus_into_laws.walrus_meaning.walrus_linked.walrus_body_writer.walrus_pairing.walrus_index_maps.Maps.{Ids}
+use Rattle.walrus_parsed_linked.specs.walrus_parsed_items.walrus_into_laws.walrus_meaning.walrus_linked.Linked.{IsLinked}
 use Rattle.walrus_parsed_linked.specs.walrus_parsed_items.walrus_into_laws.walrus_meaning.walrus_linked.walrus_module_items.declared.global.Global.{Global}
 use Rattle.walrus_parsed_linked.specs.walrus_parsed_items.walrus_into_laws.walrus_meaning.walrus_linked.walrus_module.Parts.{Module, parts}
+use Rattle.walrus_parsed_linked.specs.walrus_parsed_items.walrus_into_laws.walrus_meaning.walrus_linked.walrus_module.declared.module.Module.{Module as Whole}
+use Rattle.walrus_parsed_linked.specs.walrus_parsed_items.walrus_parse.Parsed.{IsReadAs}
 use Rattle.walrus_parsed_linked.specs.walrus_parsed_items.walrus_parse.walrus_file_bodies.walrus_items_into.walrus_tables_into.Globals.{IsGlobalOf}
 use Rattle.walrus_parsed_linked.specs.walrus_parsed_items.walrus_parse.walrus_file_bodies.walrus_items_into.walrus_tables_into.walrus_section_values.declared.globals.Global.{Global as ReadGlobal}
 use Rattle.walrus_parsed_linked.specs.walrus_parsed_items.walrus_parse.walrus_file_bodies.walrus_items_into.walrus_tables_into.walrus_sections.walrus_roots.declared.item.Item.{Item}
@@ -20,7 +25,9 @@ use Rattle.walrus_parsed_linked.specs.walrus_parsed_items.walrus_parse.walrus_it
 use Rattle.walrus_parsed_linked.specs.walrus_parsed_items.walrus_parse.walrus_item_names.Names.{bare_global}
 use Rattle.walrus_passes_laws.specs.Served.{LinkedAreServed}
 use Rattle.walrus_passes_laws.specs.walrus_refusals.Written.{IsUnshared, NamesNoLater, StaysInGroup}
-use Rattle.walrus_parsed_served.specs.Served.{ReadModulesAreServed}
+use Rattle.walrus_sent_laws.specs.Sent.{SentModulesAreLinked}
+use Rattle.walrus_sent_laws.specs.walrus_instr.declared.seq.InstrLocId.{InstrLocId}
+use Rattle.walrus_parsed_served.specs.Served.{IsServed, ReadModulesAreServed, SentModulesAreServed}
 use Rattle.walrus_parsed_served.specs.Stays.{ReadTypesStayInGroups}
 
 -- ---- item by item
@@ -71,16 +78,29 @@ all_unshared look xs old new bare filled id =
     bare_unshared (slice_index_or new id None) (slice_index_or old id None) (bare_same bare_global new old id bare)
     (λ g e. filled_unshared look xs filled.more 0 filled.become id g (ap (λ (l : List (Option Global)). slice_index_or l id None) (sym filled.behind) ∙ e))
 
-pub are_served : {B : Type 0} → ReadTypesStayInGroups B → ReadModulesAreLinked B → LinkedAreServed → ReadModulesAreServed B
-are_served {B} stay linked served config bytes m found small is pushed =
-    let n : Module = parts m in
-    let h = served n pushed (linked config bytes m found small is) in
-    let stays = λ (x : Item). stays_in n (stay config bytes m found small is) x.space x.id in
-    let read = is.1 in
-    let globals = all_unshared (look_of read.numbers) read.sections.globals.items read.filled.globals.slots m.globals.slots (ap (λ (x : Holder). x.globals.slots) read.names.same) read.are_filled.globals in
+served_so : (m : Module) → ((id : ℕ) → NamesNoLater m.types id) → ((id : ℕ) → MatchOption (item_at m.globals id) (Unit {0}) (λ (g : Global). g.shared ≡ false)) → IsLinked m → LinkedAreServed
+    → (pushed : List Item) → IsServed m pushed
+served_so m types globals linked served pushed =
+    let h = served m pushed linked in
     record {
       not_unlinked = h.not_unlinked;
       not_treeless = h.not_treeless;
-      none_dead = λ live. (h.pushing_live live).none_dead (λ x reached. stays x);
-      memory_alone = λ live inexact. (h.pushing_live live).memory_alone (λ x reached. stays x) (λ x reached. unshared_in n globals x.space x.id) inexact;
+      none_dead = λ live. (h.pushing_live live).none_dead (λ x reached. stays_in m types x.space x.id);
+      memory_alone = λ live inexact. (h.pushing_live live).memory_alone (λ x reached. stays_in m types x.space x.id) (λ x reached. unshared_in m globals x.space x.id) inexact;
     }
+
+-- ---- modules that were read
+
+read_unshared : {B : Type 0} (config : ModuleConfig) (bytes : List ℕ) (m : Whole B) (found : Ids) → IsReadAs config bytes m found → (id : ℕ) → MatchOption (item_at m.globals id) (Unit {0}) (λ (g : Global). g.shared ≡ false)
+read_unshared config bytes m found is =
+    let read = is.1 in
+    all_unshared (look_of read.numbers) read.sections.globals.items read.filled.globals.slots m.globals.slots (ap (λ (x : Holder). x.globals.slots) read.names.same) read.are_filled.globals
+
+pub are_served : {B : Type 0} → ReadTypesStayInGroups B → ReadModulesAreLinked B → LinkedAreServed → ReadModulesAreServed B
+are_served stay linked served config bytes m found small is =
+    served_so (parts m) (stay config bytes m found small is) (read_unshared config bytes m found is) (linked config bytes m found small is) served
+
+pub sent_are_served : {F : Type 0} (step : F → ℕ → InstrLocId → F → Type 0) {B : Type 0} → ReadTypesStayInGroups B → ReadModulesAreLinked B → SentModulesAreLinked step B → LinkedAreServed → SentModulesAreServed step B
+sent_are_served step stay linked sent served config bytes m found f g functions small is through =
+    served_so (parts (record m { funcs = functions })) (stay config bytes m found small is) (read_unshared config bytes m found is)
+    (sent f g m functions through (linked config bytes m found small is)) served

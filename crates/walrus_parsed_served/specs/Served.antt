@@ -12,6 +12,10 @@ use Rattle.walrus_parsed_linked.specs.walrus_parsed_items.walrus_parse.walrus_fi
 use Rattle.walrus_passes_laws.specs.Served.{PushesLive}
 use Rattle.walrus_passes_laws.specs.walrus_refusals.Sound.{AllReached, IsRefused}
 use Rattle.walrus_passes_laws.specs.walrus_refusals.Written.{HasNoExact}
+use Rattle.walrus_parsed_linked.specs.walrus_parsed_items.walrus_into_laws.walrus_meaning.walrus_linked.walrus_module_items.declared.function.Function.{Function}
+use Rattle.walrus_arena.specs.Arena.{Arena}
+use Rattle.walrus_sent_laws.specs.walrus_instr.declared.seq.InstrLocId.{InstrLocId}
+use Rattle.walrus_sent_laws.specs.walrus_locations.Sent.{FunctionsSent}
 
 -- whatever custom sections push, items and imports name each other and bodies are trees; where it lives, what is reached does, and names
 -- none past its own group; and without exact heap types the module is refused for want of memory alone
@@ -23,3 +27,9 @@ pub record IsServed (m : Module) (pushed : List Item) : Type 0 where
 
 abbrev pub ReadModulesAreServed : Type 0 → Type 0
 ReadModulesAreServed B = (config : ModuleConfig) (bytes : List ℕ) (m : Whole B) (found : Ids) → All (λ b. b < 256) bytes → IsReadAs config bytes m found → (pushed : List Item) → IsServed (parts m) pushed
+
+-- nor is one that was read and whose locations were sent through a callback
+module _ {F : Type 0} (step : F → ℕ → InstrLocId → F → Type 0) where
+  abbrev pub SentModulesAreServed : Type 0 → Type 0
+  SentModulesAreServed B = (config : ModuleConfig) (bytes : List ℕ) (m : Whole B) (found : Ids) (f g : F) (functions : Arena Function) → All (λ b. b < 256) bytes
+      → IsReadAs config bytes m found → FunctionsSent step f m.funcs g functions → (pushed : List Item) → IsServed (parts (record m { funcs = functions })) pushed

@@ -1,12 +1,14 @@
 //! Laws: functions with nothing to do, whose contracts hold of all modules that are read.
 
-ghost use Rattle.walrus_parsed_served.specs.Served.{ReadModulesAreServed};
+ghost use Rattle.walrus_parsed_served.specs.Served.{ReadModulesAreServed, SentModulesAreServed};
 ghost use Rattle.walrus_parsed_served.specs.Stays.{ReadTypesStayInGroups};
 
 use walrus_parsed_groups::laws::read_modules_have_handlers;
 use walrus_parsed_linked::laws::modules_that_are_read_are_linked;
 use walrus_parsed_linked::parsed_bodies::file_bodies::laws::bodies_read_files;
 use walrus_passes_laws::linked_are_served;
+use walrus_sent_laws::instr::InstrLocId;
+use walrus_sent_laws::laws::sent_modules_are_linked;
 
 /// In a module that was read each type names types that stand no later than itself, or that are members of its group.
 pub fn types_of_read_modules_stay_in_groups<B>()
@@ -24,5 +26,15 @@ pub fn modules_that_are_read_are_served<B>()
 {
     types_of_read_modules_stay_in_groups::<B>();
     modules_that_are_read_are_linked::<B>();
+    linked_are_served();
+}
+
+/// So it is of a module that was read and whose locations were then sent through a callback, as the one is that `parse_with` hands on.
+pub fn sent_modules_are_served<F: FnMut(u32) -> InstrLocId, B>()
+    ensures { SentModulesAreServed F.step B }
+{
+    types_of_read_modules_stay_in_groups::<B>();
+    modules_that_are_read_are_linked::<B>();
+    sent_modules_are_linked::<F, B>();
     linked_are_served();
 }
