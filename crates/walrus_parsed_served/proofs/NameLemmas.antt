@@ -1,12 +1,11 @@
 -- Lemmas: types that a table is given name none past their own groups.
-use Rattle.std.specs.Prelude.{ℕ, zero, suc, ◌≡◌, ◌⊎◌, ◌+◌, ◌<◌, ◌≤◌, Bool, List, [], ◌∷◌, ◌++◌, length, map, Contains, Option, Some, None, slice_index_or, refl}
+use Rattle.std.specs.Prelude.{ℕ, zero, suc, ◌≡◌, ◌⊎◌, ◌+◌, ◌<◌, ◌≤◌, Bool, List, [], ◌∷◌, ◌++◌, length, Contains, Option, Some, None, slice_index_or, refl}
 use Rattle.std.specs.List.{range_with_len}
 use Rattle.std.proofs.Common.{ap, sym, ◌∙◌, subst, inl, inr, arith}
 use Rattle.std.proofs.lemmas.Bool.{cases_lt}
-use Rattle.std.proofs.lemmas.List.{length-append}
 use Rattle.walrus_forms.specs.Kinds.{Kind, kind_names}
 use Rattle.walrus_parsed_linked.proofs.walrus_parsed_items.ListLemmas.{AllOf, some_is}
-use Rattle.walrus_passes_laws.specs.walrus_refusals.Written.{AreInOneGroup, MayName}
+use Rattle.walrus_passes_laws.specs.walrus_refusals.Written.{MayName}
 use Rattle.walrus_types.specs.Groups.{group_slot, new_items}
 use Rattle.walrus_types.specs.Items.{Group, Item}
 use Rattle.walrus_types.specs.Parsing.{with_group}
@@ -46,11 +45,15 @@ may_on : (t u : Table) (more : List (Option Group)) → u.groups ≡ t.groups ++
 may_on t u more groups id name may =
     elim may as (λ _. MayName u id name) [
       | inl le ↦ inl le
-      | inr one ↦ inr (one.0, record {
+      | inr one ↦ inr (
+        one.0,
+        record {
           place = one.1.place;
           live = ap (λ (gs : List (Option Group)). slice_index_or gs one.1.place None) groups ∙ group_stays t.groups more one.1.place one.0 one.1.live;
           listed = one.1.listed;
-        }, one.2)
+        },
+        one.2,
+      )
     ]
 
 -- ---- types behind those before
@@ -87,7 +90,7 @@ pub more_named : (Low High : ℕ → Type 0) → ((name : ℕ) → Low name → 
     → Named (λ id name. Low name × MayName t id name) t → Named (λ id name. High name × MayName u id name) u
 more_named Low High up first kinds more t u types groups new names id x there =
     elim (new_or_old (NamesSo (NewName High (next_id t) (length kinds) u)) t.types first kinds id x new (ap (λ (l : List (Option Item)). slice_index_or l id None) (sym types) ∙ there))
-      as (λ _. AllOf (λ name. High name × MayName u id name) (kind_names x.kind)) [
+    as (λ _. AllOf (λ name. High name × MayName u id name) (kind_names x.kind)) [
       | inl was ↦ all_up (λ name. Low name × MayName t id name) (λ name. High name × MayName u id name) (λ name h. (up name h.0, may_on t u more groups id name h.1)) (kind_names x.kind) (names id x was)
       | inr is ↦ all_up (NewName High (next_id t) (length kinds) u) (λ name. High name × MayName u id name) (λ name h. (h.0, h.1 id is.0 is.1.0)) (kind_names x.kind) is.1.1
     ]
@@ -114,11 +117,15 @@ module _ (explicit : Bool) (kinds : List Kind) (t : Table) where
   in_group : (id name : ℕ) → next_id t ≤ id → id < next_id t + length kinds → name < next_id t + length kinds → MayName (with_group explicit kinds t) id name
   in_group id name le lt below =
       elim (cases_lt id name) as (λ _. MayName (with_group explicit kinds t) id name) [
-        | inl later ↦ inr (record { explicit = explicit; types = range_with_len (next_id t) (length kinds) }, record {
+        | inl later ↦ inr (
+          record { explicit = explicit; types = range_with_len (next_id t) (length kinds) },
+          record {
             place = length t.groups;
             live = group_there explicit t.groups (next_id t) (length kinds) (omega (arith, le, lt));
             listed = range_has (next_id t) (length kinds) id le lt;
-          }, range_has (next_id t) (length kinds) name (omega (arith, le, later)) below)
+          },
+          range_has (next_id t) (length kinds) name (omega (arith, le, later)) below,
+        )
         | inr before ↦ inl before
       ]
 

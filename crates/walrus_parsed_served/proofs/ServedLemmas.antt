@@ -1,7 +1,7 @@
 -- Lemmas: a module that was read isn't refused.
-use Rattle.std.specs.Prelude.{ℕ, zero, suc, ◌≡◌, Bool, false, List, [], ◌∷◌, ◌++◌, length, map, Option, Some, None, MatchOption, slice_index_or, refl}
+use Rattle.std.specs.Prelude.{ℕ, zero, suc, ◌≡◌, false, List, [], ◌∷◌, map, Option, Some, None, MatchOption, slice_index_or, refl}
 use Rattle.std.specs.Option.{option_map}
-use Rattle.std.proofs.Common.{ap, sym, ◌∙◌, subst}
+use Rattle.std.proofs.Common.{ap, sym, ◌∙◌}
 use Rattle.walrus_arena.specs.Arena.{item_at}
 use Rattle.walrus_config.specs.declared.config.ModuleConfig.{ModuleConfig}
 use Rattle.walrus_handler_types.specs.walrus_body_steps.walrus_body_nesting.wasm_formats.declared.fault.Space.{Space}
@@ -24,6 +24,7 @@ use Rattle.walrus_parsed_linked.specs.walrus_parsed_items.walrus_parse.walrus_fi
 use Rattle.walrus_parsed_linked.specs.walrus_parsed_items.walrus_parse.walrus_item_names.Holder.{Holder}
 use Rattle.walrus_parsed_linked.specs.walrus_parsed_items.walrus_parse.walrus_item_names.Names.{bare_global}
 use Rattle.walrus_passes_laws.specs.Served.{LinkedAreServed}
+use Rattle.walrus_passes_laws.specs.walrus_refusals.Sound.{AllReached}
 use Rattle.walrus_passes_laws.specs.walrus_refusals.Written.{IsUnshared, NamesNoLater, StaysInGroup}
 use Rattle.walrus_sent_laws.specs.Sent.{SentModulesAreLinked}
 use Rattle.walrus_sent_laws.specs.walrus_instr.declared.seq.InstrLocId.{InstrLocId}
@@ -82,11 +83,14 @@ served_so : (m : Module) → ((id : ℕ) → NamesNoLater m.types id) → ((id :
     → (pushed : List Item) → IsServed m pushed
 served_so m types globals linked served pushed =
     let h = served m pushed linked in
+    let grouped : AllReached m pushed (StaysInGroup m) = λ x reached. stays_in m types x.space x.id in
+    let unshared : AllReached m pushed (IsUnshared m) = λ x reached. unshared_in m globals x.space x.id in
     record {
       not_unlinked = h.not_unlinked;
       not_treeless = h.not_treeless;
-      none_dead = λ live. (h.pushing_live live).none_dead (λ x reached. stays_in m types x.space x.id);
-      memory_alone = λ live inexact. (h.pushing_live live).memory_alone (λ x reached. stays_in m types x.space x.id) (λ x reached. unshared_in m globals x.space x.id) inexact;
+      none_dead = λ live. (h.pushing_live live).none_dead grouped;
+      sound = λ live inexact. record { linked = h.linked; trees = h.trees; live = (h.pushing_live live).live; grouped = grouped; unshared = unshared; inexact = inexact };
+      memory_alone = λ live. (h.pushing_live live).memory_alone grouped unshared;
     }
 
 -- ---- modules that were read

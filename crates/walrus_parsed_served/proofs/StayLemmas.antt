@@ -1,12 +1,11 @@
 -- Lemmas: the types of a module that was read name none past their own groups.
-use Rattle.std.specs.Prelude.{ℕ, zero, suc, ◌≡◌, ◌<◌, ◌≤◌, List, [], ◌∷◌, length, map, Contains, Option, Some, None, MatchOption, slice_index_or, refl}
+use Rattle.std.specs.Prelude.{ℕ, zero, suc, ◌≡◌, ◌<◌, ◌≤◌, List, [], ◌∷◌, map, Contains, Option, Some, None, MatchOption, slice_index_or, refl}
 use Rattle.std.specs.List.{flat_map}
 use Rattle.std.specs.Option.{option_and_then, option_map}
 use Rattle.std.proofs.Common.{ap, sym, ◌∙◌, subst, arith, inl, inr}
 use Rattle.walrus_forms.specs.Kinds.{Kind, kind_names}
 use Rattle.walrus_forms.specs.Records.{TypeGroup}
 use Rattle.walrus_forms.specs.Renaming.{at}
-use Rattle.walrus_forms.specs.declared.value.ValType.{ValType}
 use Rattle.walrus_function_types.specs.FunctionTypes.{form_params, form_results}
 use Rattle.walrus_handler_types.specs.Giving.{block_results, caught}
 use Rattle.walrus_parsed_groups.specs.Added.{Signature}
@@ -69,11 +68,15 @@ module _ (t u : Table) (types : map (option_map bare_type) t.types ≡ map (opti
   may_name id name may =
       elim may as (λ _. MayName t id name) [
         | inl le ↦ inl le
-        | inr one ↦ inr (one.0, record {
+        | inr one ↦ inr (
+          one.0,
+          record {
             place = one.1.place;
             live = ap (λ (gs : List (Option Group)). slice_index_or gs one.1.place None) groups ∙ one.1.live;
             listed = one.1.listed;
-          }, one.2)
+          },
+          one.2,
+        )
       ]
 
   names_no_later : Named (MayName u) u → (id : ℕ) → NamesNoLater t id

@@ -10,7 +10,7 @@ use Rattle.walrus_parsed_linked.specs.walrus_parsed_items.walrus_into_laws.walru
 use Rattle.walrus_parsed_linked.specs.walrus_parsed_items.walrus_parse.Parsed.{IsReadAs}
 use Rattle.walrus_parsed_linked.specs.walrus_parsed_items.walrus_parse.walrus_file_bodies.walrus_items_into.walrus_tables_into.walrus_sections.walrus_roots.declared.item.Item.{Item}
 use Rattle.walrus_passes_laws.specs.Served.{PushesLive}
-use Rattle.walrus_passes_laws.specs.walrus_refusals.Sound.{AllReached, IsRefused}
+use Rattle.walrus_passes_laws.specs.walrus_refusals.Sound.{AllReached, IsRefused, IsSound}
 use Rattle.walrus_passes_laws.specs.walrus_refusals.Written.{HasNoExact}
 use Rattle.walrus_parsed_linked.specs.walrus_parsed_items.walrus_into_laws.walrus_meaning.walrus_linked.walrus_module_items.declared.function.Function.{Function}
 use Rattle.walrus_arena.specs.Arena.{Arena}
@@ -18,11 +18,12 @@ use Rattle.walrus_sent_laws.specs.walrus_instr.declared.seq.InstrLocId.{InstrLoc
 use Rattle.walrus_sent_laws.specs.walrus_locations.Sent.{FunctionsSent}
 
 -- whatever custom sections push, items and imports name each other and bodies are trees; where it lives, what is reached does, and names
--- none past its own group; and without exact heap types the module is refused for want of memory alone
+-- none past its own group; and without exact heap types nothing is wrong, and the module is refused for want of memory alone
 pub record IsServed (m : Module) (pushed : List Item) : Type 0 where
   pub not_unlinked : IsRefused m pushed refusals.NotLinked → ⊥
   pub not_treeless : IsRefused m pushed refusals.NoTree → ⊥
   pub none_dead : PushesLive m pushed → (space : Space) → IsRefused m pushed (refusals.DeadReference space) → ⊥
+  pub sound : PushesLive m pushed → AllReached m pushed (HasNoExact m) → IsSound m pushed
   pub memory_alone : PushesLive m pushed → AllReached m pushed (HasNoExact m) → (fault : ModuleError) → IsRefused m pushed fault → fault ≡ refusals.Memory
 
 abbrev pub ReadModulesAreServed : Type 0 → Type 0

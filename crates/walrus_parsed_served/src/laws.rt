@@ -20,7 +20,7 @@ pub fn types_of_read_modules_stay_in_groups<B>()
 
 /// A module that was read isn't refused by `gc::run` and `Used::new` for items and imports that don't name each other, nor for bodies that
 /// are no trees. Where custom sections push live items it isn't refused for dead references either; and where no heap type in what is
-/// reached is exact, for want of memory alone.
+/// reached is exact, nothing is wrong with what is reached, so that it is refused for want of memory alone.
 pub fn modules_that_are_read_are_served<B>()
     ensures { ReadModulesAreServed B }
 {
