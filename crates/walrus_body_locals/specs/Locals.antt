@@ -1,5 +1,5 @@
 -- The locals that a body declares: what is read, and what is added.
-use Rattle.std.specs.Prelude.{◌≡◌, ◌⊎◌, ◌<◌, ℕ, suc, ◌+◌, ◌==◌, nat_le, List, [], ◌∷◌, ◌++◌, length, map, fold, Option, None, Ok, Err, if◌then◌else◌}
+use Rattle.std.specs.Prelude.{◌≡◌, ◌⊎◌, ◌<◌, ◌≤◌, ℕ, suc, ◌+◌, ◌==◌, nat_le, List, [], ◌∷◌, ◌++◌, length, map, fold, Option, None, Ok, Err, if◌then◌else◌}
 use Rattle.wasm_features.specs.declared.WasmFeatures.{WasmFeatures}
 use Rattle.wasm_reader.specs.Cursor.{Cursor, rest, end_of}
 use Rattle.wasm_ref_types.specs.declared.value.ValType.{ValType as Written}
@@ -92,12 +92,15 @@ pub record Adds (function : ℕ) (tys : List ValType) (ls ms : List Local) (i j 
   pub added : ms ≡ ls ++ locals_from (length ls) tys
   pub named : j ≡ with_locals function (ids_from (length ls) tys) i
 
--- what a refusal leaves: at most, some locals were added to the module, and some indices of the function name some
+-- what a refusal leaves: some locals were added to the module, and the next indices of the function name them, all or all but the last
 pub record Leaves (function : ℕ) (ls ms : List Local) (i j : Ids) : Type 0 where
   pub tys : List ValType
   pub ids : List ℕ
   pub added : ms ≡ ls ++ locals_from (length ls) tys
   pub named : j ≡ with_locals function ids i
+  pub unnamed : List ℕ
+  pub all : ids ++ unnamed ≡ ids_from (length ls) tys
+  pub few : length unnamed ≤ 1
 
 -- ---- the whole
 

@@ -83,7 +83,8 @@ fn declare(
 /// # Errors
 ///
 /// The first that is due: as a count or a type is read; `Limit` at a count where there are more than 50,000 locals with it, before its
-/// type is read; at a type `Unsupported` or `Index`; as the validator refuses a run; want of memory. Locals that were added stay.
+/// type is read; at a type `Unsupported` or `Index`; as the validator refuses a run; want of memory. Locals that were added
+/// stay, and the function's next indices name them, but for at most the last.
 pub fn read_locals<V: Validator>(
     alloc: Global,
     reader: &mut BinaryReader<'_>,

@@ -39,7 +39,7 @@ use Rattle.walrus_body_locals.proofs.Answering.{end_stays, accepted, barred}
 use Rattle.walrus_body_parser.proofs.Takes.{offset_is}
 use Rattle.walrus_body_parser.specs.Points.{operator_seen, op_told, place_at, ops_from}
 use Rattle.walrus_body_parser.specs.Changes.{LacksType, point_at, reads_next, ReadsNext}
-use Rattle.walrus_body_parser.specs.Trees.{Validating, parser_of, PassOps, point_of, Lacks, ReadsTree, RefusesTree}
+use Rattle.walrus_body_parser.specs.Trees.{Validating, parser_of, PassOps, point_of, AreOpen, Lacks, ReadsTree, RefusesTree}
 
 -- the place behind what was read
 behind_is : {A : Type 0} (start : ℕ) (f : Format A) (bytes later : List ℕ) (x : ℕ × A) → (ends_at start f).parse bytes ≡ Ok (x, later) → x.0 ≡ start + (length bytes - length later)
@@ -147,10 +147,19 @@ module _ {V : Type 0} (s : Sight) (told : Validating V) (code : ℕ) (old : Curs
           begins = let a = moves.forward in let b = g.begins in omega (arith, a, b, ap (λ (w : Window). w.start) moves.window);
         }
 
+    are_open : AreOpen s first g.ops (blocks stack) (opens stack)
+    are_open = record {
+      kinds = ap (λ (p : Point). p.frames) g.point;
+      shaped = g.good;
+      reads = λ ys.
+          let F : ℕ → Type 0 = λ k. Reads (meaning s) false (blocks stack) (opens stack) (open_in (ops_from k ys)) (normal same (tree_of (ops_from first (g.ops ++ ys)))) in
+          subst F (sym (ap (λ (p : Point). p.place) g.point)) (g.means ys);
+    }
+
     -- ---- the next one is refused
 
     fails_here : (e : BodyError) → Fails (parser_of old.window.features s (point_of (parser_of old.window.features s) told (end_of old) first g.ops)) (op_told told.op) (end_of old) w (rest now) e
-        ⊎ Lacks (parser_of old.window.features s) told (end_of old) first s (rest now) (point_of (parser_of old.window.features s) told (end_of old) first g.ops) e → RefusesTree s told code old v e
+        ⊎ Lacks (parser_of old.window.features s) told (end_of old) first s g.ops (rest now) e → RefusesTree s told code old v e
     fails_here e (inl h) =
         inr (record { ops = g.ops; later = rest now; left = w; passed = g.passed; fails = inl (inr (ap (λ (p : Point). is_closed p.frames) g.point), h) })
     fails_here e (inr h) = inr (record { ops = g.ops; later = rest now; left = w; passed = g.passed; fails = inr (inl h) })
@@ -167,7 +176,20 @@ module _ {V : Type 0} (s : Sight) (told : Validating V) (code : ℕ) (old : Curs
         let reads = g.means [] in
         let by = opened_by s (blocks stack) (inner stack) (around stack) (ids_of (opens stack)) reads.0 x.1 reads.1 hinders.1 hinders.0 hinders.2 g.good in
         let P : (List ℕ → Parsing (ℕ × Seen)) → Type 0 = λ p. p (rest now) ≡ Ok (x, h.1) in
-        fails_here e (inr (x, h.1, subst P same_next h.2, by.0, (inner stack).ty, by.1, hinders.2, hinders.3 ∙ ap (λ (k : ℕ). faults.TypeForm (Some (k - length (rest now)))) (end_stays old now g.moves)))
+        fails_here e (inr (record {
+          op = x;
+          later = h.1;
+          stands = subst P same_next h.2;
+          seqs = blocks stack;
+          inner = inner stack;
+          around = around stack;
+          open = are_open;
+          reached = hinders.1;
+          by = by.0;
+          opens = by.1;
+          lacks = hinders.2;
+          is = hinders.3 ∙ ap (λ (k : ℕ). faults.TypeForm (Some (k - length (rest now)))) (end_stays old now g.moves);
+        }))
 
   -- ---- the body is closed
 

@@ -1,23 +1,29 @@
 -- The operators of a body, up to its end, and the tree that they are read as.
-use Rattle.std.specs.Prelude.{◌≡◌, ◌⊎◌, ◌<◌, ℕ, ◌-◌, true, false, List, [], length, fold, Option, Some, None, Ok}
+use Rattle.std.specs.Prelude.{◌≡◌, ◌⊎◌, ◌<◌, ℕ, ◌-◌, true, false, List, [], ◌∷◌, ◌++◌, length, fold, Option, Some, None, Ok}
 use Rattle.wasm_features.specs.declared.WasmFeatures.{WasmFeatures}
 use Rattle.wasm_reader.specs.Cursor.{Cursor, rest, end_of}
 use Rattle.wasm_formats.specs.Stops.{Parsing}
-use Rattle.walrus_instr.specs.declared.seq.InstrSeqType.{InstrSeqType}
 use Rattle.walrus_body_operands.specs.walrus_body_stack.walrus_builder.Built.{Seq}
 use Rattle.walrus_body_operands.specs.walrus_body_rules.wasm_body_grammar.wasm_operators.Operators.{Seen}
 use Rattle.walrus_body_locals.specs.wasm_body_grammar.Bodies.{Point, next_point, opened, is_closed}
-use Rattle.walrus_body_locals.specs.wasm_normal_form.Trees.{tree_of}
+use Rattle.walrus_body_locals.specs.wasm_normal_form.Trees.{open_in, tree_of}
 use Rattle.walrus_body_locals.specs.wasm_normal_form.Normal.{normal}
 use Rattle.walrus_body_locals.specs.walrus_body_env.declared.error.BodyError.{BodyError}
 use Rattle.walrus_body_locals.specs.walrus_body_env.declared.error.BodyError.TheVariants as faults
 use Rattle.walrus_body_locals.specs.walrus_body_nesting.Stands.{StandsAs}
-use Rattle.walrus_body_locals.specs.walrus_body_nesting.Opens.{same}
+use Rattle.walrus_body_locals.specs.walrus_body_nesting.Opens.{Open, Good, IsReached, Reads, kinds_of, same}
 use Rattle.walrus_body_operands.specs.walrus_body_rules.Sights.{Sight}
 use Rattle.walrus_body_operands.specs.walrus_body_steps.Meanings.{OpensOf, meaning}
 use Rattle.walrus_body_locals.specs.Told.{Pass, Fails}
 use Rattle.walrus_body_parser.specs.Points.{operator_seen, op_told, place_at, ops_from}
 use Rattle.walrus_body_parser.specs.Changes.{LacksType}
+
+-- these sequences are open behind the operators that were read from this place on: they have the kinds of the frames there, and whatever
+-- operators come next, with these in them the body will stand as the tree of all in normal form
+pub record AreOpen (s : Sight) (place : ℕ) (ops : List (ℕ × Seen)) (b : List Seq) (os : List Open) : Type 0 where
+  pub kinds : (fold next_point (opened place) ops).frames ≡ kinds_of os
+  pub shaped : Good false b os
+  pub reads : (ys : List (ℕ × Seen)) → Reads (meaning s) false b os (open_in (ops_from (fold next_point (opened place) ops).place ys)) (normal same (tree_of (ops_from place (ops ++ ys))))
 
 -- a validator's two answers: told of an operator, and told of the end
 pub record Validating (V : Type 0) : Type 0 where
@@ -49,10 +55,22 @@ module _ {V : Type 0} (parser : Parser) (told : Validating V) (end place : ℕ) 
     pub closed : is_closed (point_of ops).frames ≡ true
     pub finished : told.finish left end ≡ (None, w)
 
-  -- the next one stands there, and begins a handler of a reached block for which the environment has no type
-  abbrev pub Lacks : Sight → List ℕ → Point → BodyError → Type 0
-  Lacks s bytes p e = (x : ℕ × Seen) × (later : List ℕ) × (parser p bytes ≡ Ok (x, later))
-      × (by : Seen) × (ty : InstrSeqType) × OpensOf s by ty × LacksType s ty x.1 × (e ≡ faults.TypeForm (Some (end - length bytes)))
+  -- behind these operators the next one stands there, and begins a handler of the innermost open block, which is reached, for which the
+  -- environment has no type
+  pub record Lacks (s : Sight) (ops : List (ℕ × Seen)) (bytes : List ℕ) (e : BodyError) : Type 0 where
+    pub op : ℕ × Seen
+    pub later : List ℕ
+    pub stands : parser (point_of ops) bytes ≡ Ok (op, later)
+    pub seqs : List Seq
+    pub inner : Open
+    pub around : List Open
+    pub open : AreOpen s place ops seqs (inner ∷ around)
+    pub reached : IsReached inner.reach
+    -- what opened the block
+    pub by : Seen
+    pub opens : OpensOf s by inner.ty
+    pub lacks : LacksType s inner.ty op.1
+    pub is : e ≡ faults.TypeForm (Some (end - length bytes))
 
   -- a next one is read: bytes are left, or the body isn't closed
   abbrev pub IsDue : Point → List ℕ → Type 0
@@ -64,7 +82,7 @@ module _ {V : Type 0} (parser : Parser) (told : Validating V) (end place : ℕ) 
     pub later : List ℕ
     pub left : V
     pub passed : PassOps v bytes ops later left
-    pub fails : (IsDue (point_of ops) later × Fails (parser (point_of ops)) (op_told told.op) end left later e) ⊎ Lacks s later (point_of ops) e
+    pub fails : (IsDue (point_of ops) later × Fails (parser (point_of ops)) (op_told told.op) end left later e) ⊎ Lacks s ops later e
         ⊎ ((later ≡ []) × (is_closed (point_of ops).frames ≡ true) × ((told.finish left end).0 ≡ Some e))
 
 -- ---- what a call answers

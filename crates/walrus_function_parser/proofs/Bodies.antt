@@ -98,7 +98,7 @@ repeat_count : (n : ℕ) (ty : ValType) → length (repeat n (ty ∷ [])) ≡ n
 repeat_count zero ty = refl
 repeat_count (suc n) ty = ap suc (repeat_count n ty)
 
-declared_count : (rs : List Run) (n : ℕ) → n + length (declared rs) ≡ fold next_total n rs
+pub declared_count : (rs : List Run) (n : ℕ) → n + length (declared rs) ≡ fold next_total n rs
 declared_count [] n = omega arith
 declared_count (r ∷ rs) n =
     let many = length-append (repeat r.0 (r.1 ∷ [])) (declared rs) in

@@ -1,4 +1,4 @@
-mod Bodies
-mod Stopping
+pub mod Bodies
+pub mod Stopping
 -- Passed on to crates above, which then list this one alone.
 pub use Rattle.walrus_body_parser.proofs as walrus_body_parser

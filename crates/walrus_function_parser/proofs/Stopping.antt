@@ -96,7 +96,7 @@ module _ {V : Type 0} (s : Sight) (told : parsed.Telling V) (params code : ℕ) 
       next = fold next_point (opened behind) f.ops
 
       go : (IsDue (parser_in a (fold next_total params rs)) told.rest (end_of old) behind next f.later × Fails (parser_in a (fold next_total params rs) next) (op_told told.rest.op) (end_of old) f.left f.later e)
-          ⊎ trees.Lacks (parser_in a (fold next_total params rs)) told.rest (end_of old) behind (seen_by s j) f.later next e
+          ⊎ trees.Lacks (parser_in a (fold next_total params rs)) told.rest (end_of old) behind (seen_by s j) f.ops f.later e
           ⊎ ((f.later ≡ []) × (is_closed next.frames ≡ true) × ((told.rest.finish f.left (end_of old)).0 ≡ Some e)) → Cause
       go (inl (due, inl h)) =
           inl (
@@ -106,7 +106,7 @@ module _ {V : Type 0} (s : Sight) (told : parsed.Telling V) (params code : ℕ) 
             h.2,
           )
       go (inl (due, inr h)) = inr (inl (inr (inl (f.left, end_of old - length f.later, h.0.1, h.3))))
-      go (inr (inl h)) = inr (inr (end_of old - length f.later, h.4, h.0.1, h.6, h.7))
+      go (inr (inl h)) = inr (inr (end_of old - length f.later, h.inner.ty, h.op.1, h.lacks, h.is))
       go (inr (inr h)) = inr (inl (inr (inr (f.left, end_of old, h.2))))
 
 pub causes : {V : Type 0} (s : Sight) (told : parsed.Telling V) (params code : ℕ) (old : Cursor) (ls ms : List Local) (j : Ids) (v : V) (e : BodyError) → IsWithin old → code ≤ old.window.start + old.position

@@ -30,7 +30,8 @@ impl LocalFunction {
     ///
     /// The first that is due, from left to right: where the bytes spell no body (Core Specification, binary format: code section), where
     /// a rule for bodies is broken, also in code that is dropped, or as the validator refuses; `TypeForm` where the environment has no
-    /// type for a handler that is reached; want of memory. Locals that were added stay.
+    /// type for a handler that is reached; want of memory. Locals that were added stay, and the function's next indices name them, but
+    /// for at most the last.
     pub fn parse<E: BodyEnv, V: Validator>(
         alloc: Global,
         env: &E,

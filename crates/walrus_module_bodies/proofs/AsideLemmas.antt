@@ -26,7 +26,7 @@ use Rattle.walrus_module_env.specs.Parsed.{FilesAreSeen}
 use Rattle.walrus_module_env.specs.walrus_body_parser.Points.{place_at}
 use Rattle.walrus_module_env.specs.walrus_collections.walrus_local_function.walrus_function_parser.Parsed.{IsAround, Parses, Telling, seen_by}
 use Rattle.walrus_module_env.specs.Handled.{SeesAside}
-use Rattle.walrus_module_bodies.proofs.ParsingLemmas.{declared_count, sees_more}
+use Rattle.walrus_module_env.proofs.walrus_function_parser.Bodies.{declared_count, sees_more}
 use Rattle.walrus_module_bodies.specs.Reading.{AddsRuns, IsBodyAside}
 
 -- the results of some ids aside too, where these change no block type

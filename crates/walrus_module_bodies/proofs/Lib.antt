@@ -1,9 +1,7 @@
 mod ArgumentLemmas
 mod AsideLemmas
 mod BodyLemmas
-mod CauseLemmas
 mod LawLemmas
-mod ParsingLemmas
 mod ReadingLemmas
 mod StepLemmas
 mod StopLemmas

@@ -15,8 +15,8 @@ use Rattle.walrus_types.specs.Table.{Table, found_type, type_at}
 use Rattle.walrus_types.specs.TypeLaws.{IsLatest}
 use Rattle.walrus_function_types.specs.FunctionTypes.{form_params, form_results, params_at, results_at}
 use Rattle.walrus_index_maps.specs.Maps.{Ids}
-use Rattle.walrus_module_bodies.proofs.ParsingLemmas.{parsers_agree, sees_more}
-use Rattle.walrus_module_bodies.proofs.CauseLemmas.{causes}
+use Rattle.walrus_module_env.proofs.walrus_function_parser.Bodies.{parsers_agree, sees_more}
+use Rattle.walrus_module_env.proofs.walrus_function_parser.Stopping.{causes}
 use Rattle.walrus_module_env.specs.walrus_body_parser.walrus_body_stack.walrus_body_env.declared.error.BodyError.{BodyError}
 use Rattle.walrus_module_env.specs.walrus_body_parser.walrus_body_stack.walrus_body_env.declared.error.BodyError.TheVariants as faults
 use Rattle.walrus_module_env.specs.walrus_body_parser.walrus_body_rules.Sights.{Sight, block_of, function_block, handler_of, look, results_of, tag_params, value_block, value_list, written_block}
@@ -211,10 +211,10 @@ module _ (e : ModuleEnv) (function : ℕ) (h : List ValType → List ValType →
     fails_total : (parser : Parser) (place : ℕ) (left : V) (bytes : List ℕ) → FailOps parser told.rest (end_of old) place (some_for j) left bytes fault → FailOps parser told.rest (end_of old) place (total_for j) left bytes fault
     fails_total parser place left bytes f = record { ops = f.ops; later = f.later; left = f.left; passed = f.passed; fails = go f.fails }
       where
-        go : HasFailed told parser (end_of old) place f.ops f.later f.left fault ⊎ trees.Lacks parser told.rest (end_of old) place (some_for j) f.later (point_of parser told.rest (end_of old) place f.ops) fault ⊎ HasEnded told parser (end_of old) place f.ops f.later f.left fault
-            → HasFailed told parser (end_of old) place f.ops f.later f.left fault ⊎ trees.Lacks parser told.rest (end_of old) place (total_for j) f.later (point_of parser told.rest (end_of old) place f.ops) fault ⊎ HasEnded told parser (end_of old) place f.ops f.later f.left fault
+        go : HasFailed told parser (end_of old) place f.ops f.later f.left fault ⊎ trees.Lacks parser told.rest (end_of old) place (some_for j) f.ops f.later fault ⊎ HasEnded told parser (end_of old) place f.ops f.later f.left fault
+            → HasFailed told parser (end_of old) place f.ops f.later f.left fault ⊎ trees.Lacks parser told.rest (end_of old) place (total_for j) f.ops f.later fault ⊎ HasEnded told parser (end_of old) place f.ops f.later f.left fault
         go (inl x) = inl x
-        go (inr (inl x)) = let r = written_results j x.5.0 x.4 x.5.3 in absurd (not_some j tags x.4 x.0.1 r.0 r.1 x.6)
+        go (inr (inl x)) = let r = written_results j x.opens.0 x.inner.ty x.opens.3 in absurd (not_some j tags x.inner.ty x.op.1 r.0 r.1 x.lacks)
         go (inr (inr x)) = inr (inr x)
 
     refuses_total : Refuses (some_for i) told params code old ls ms j v fault → Refuses (total_for i) told params code old ls ms j v fault

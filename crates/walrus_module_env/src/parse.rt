@@ -33,7 +33,7 @@ impl<'a> ModuleEnv<'a> {
     ///
     /// The first that is due, from left to right: where the bytes spell no body, where a rule for bodies is broken, also in code that is
     /// dropped, or as the validator refuses; `TypeForm` where the module has no type for a handler that is reached; want of memory. Locals
-    /// that were added stay.
+    /// that were added stay, and the function's next indices name them, but for at most the last.
     pub fn parse_body<V: Validator>(
         &self,
         alloc: Global,
