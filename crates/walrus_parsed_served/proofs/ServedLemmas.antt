@@ -26,7 +26,7 @@ use Rattle.walrus_parsed_linked.specs.walrus_parsed_items.walrus_parse.walrus_it
 use Rattle.walrus_passes_laws.specs.Served.{LinkedAreServed}
 use Rattle.walrus_passes_laws.specs.walrus_refusals.Sound.{AllReached}
 use Rattle.walrus_passes_laws.specs.walrus_refusals.Written.{IsUnshared, NamesNoLater, StaysInGroup}
-use Rattle.walrus_sent_laws.specs.Sent.{SentModulesAreLinked}
+use Rattle.walrus_sent_laws.proofs.LinkedLemmas.{sent_linked}
 use Rattle.walrus_sent_laws.specs.walrus_instr.declared.seq.InstrLocId.{InstrLocId}
 use Rattle.walrus_parsed_served.specs.Served.{IsServed, ReadModulesAreServed, SentModulesAreServed}
 use Rattle.walrus_parsed_served.specs.Stays.{ReadTypesStayInGroups}
@@ -104,7 +104,7 @@ pub are_served : {B : Type 0} → ReadTypesStayInGroups B → ReadModulesAreLink
 are_served stay linked served config bytes m found small is =
     served_so (parts m) (stay config bytes m found small is) (read_unshared config bytes m found is) (linked config bytes m found small is) served
 
-pub sent_are_served : {F : Type 0} (step : F → ℕ → InstrLocId → F → Type 0) {B : Type 0} → ReadTypesStayInGroups B → ReadModulesAreLinked B → SentModulesAreLinked step B → LinkedAreServed → SentModulesAreServed step B
-sent_are_served step stay linked sent served config bytes m found f g functions small is through =
+pub sent_are_served : {F : Type 0} (step : F → ℕ → InstrLocId → F → Type 0) {B : Type 0} → ReadTypesStayInGroups B → ReadModulesAreLinked B → LinkedAreServed → SentModulesAreServed step B
+sent_are_served step stay linked served config bytes m found f g functions small is through =
     served_so (parts (record m { funcs = functions })) (stay config bytes m found small is) (read_unshared config bytes m found is)
-    (sent f g m functions through (linked config bytes m found small is)) served
+    (sent_linked step f g m functions through (linked config bytes m found small is)) served

@@ -8,7 +8,6 @@ use walrus_parsed_linked::laws::modules_that_are_read_are_linked;
 use walrus_parsed_linked::parsed_bodies::file_bodies::laws::bodies_read_files;
 use walrus_passes_laws::linked_are_served;
 use walrus_sent_laws::instr::InstrLocId;
-use walrus_sent_laws::laws::sent_modules_are_linked;
 
 /// In a module that was read each type names types that stand no later than itself, or that are members of its group.
 pub fn types_of_read_modules_stay_in_groups<B>()
@@ -35,6 +34,5 @@ pub fn sent_modules_are_served<F: FnMut(u32) -> InstrLocId, B>()
 {
     types_of_read_modules_stay_in_groups::<B>();
     modules_that_are_read_are_linked::<B>();
-    sent_modules_are_linked::<F, B>();
     linked_are_served();
 }
