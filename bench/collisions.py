@@ -1,10 +1,12 @@
 #!/usr/bin/env python3
-"""Times the program on exports whose names are bad for a table of names, and prints the time of each doubling.
+"""Times the programs on names and types that are bad for a table of them, and prints the time of each doubling.
 
     bench/collisions.py [--rounds N] [--most N] [--instructions]
 
-The names of one row all collide under the hasher of the kit's hash tables, whose seed is fixed; those of the next
-differ in their last bytes alone, behind a long prefix that all have; those of the last are plain. A time is the
+Exports are read by both programs, types by walrus_inspect alone. The names of one row all collide under the hasher of
+the kit's hash tables, whose seed is fixed; those of the next differ in their last bytes alone, behind a long prefix that
+all have; those of the last are plain. Types are function types of ten parameters, in no order, behind fifty more that all
+have in common, or without these; types are found by comparing them, so that none collide. A time is the
 least of the rounds, from the start of the program to its end. Wanted is a factor of at most 2.3 a doubling. The sizes
 take turns, so that what else the machine does meets all of them alike. With --instructions those of the processor are
 counted by valgrind, which no other work and no cache disturbs, in place of the time.
@@ -20,7 +22,8 @@ import tempfile
 from make_module import section, unsigned, vector
 
 ROOT = os.path.dirname(os.path.dirname(os.path.abspath(__file__)))
-PROGRAM = f"{ROOT}/crates/wasm_rewriter_cli/out/wasm_rewriter_cli"
+REWRITER = f"{ROOT}/crates/wasm_rewriter_cli/out/wasm_rewriter_cli"
+INSPECTOR = f"{ROOT}/crates/walrus_inspect_cli/out/walrus_inspect_cli"
 # In 24 bytes, whatever eight ASCII bytes follow.
 COLLIDING = b"d3cljs4c6ezfz6tz" + bytes.fromhex("576a68d6a3d8997c")
 PREFIX = b"a" * 200
@@ -31,28 +34,54 @@ def free(number):
     return f"{number:08x}".encode()
 
 
-KINDS = {
+def scattered(number):
+    """Another number below 2^32 for each."""
+    return number * 2654435761 % 2**32
+
+
+HEADER = b"\0asm\x01\0\0\0"
+
+
+def exporting(name):
+    """What makes a module of so many exports, of these names."""
+
+    def module(count):
+        names = [name(number) for number in range(count)]
+        exports = vector([unsigned(len(name)) + name + b"\x00\x00" for name in names])
+        return HEADER + section(1, b"\x01\x60\x00\x00") + section(3, b"\x01\x00") + section(7, exports) + section(10, b"\x01\x02\x00\x0b")
+
+    return module
+
+
+def typing(front):
+    """What makes a module of so many function types with these parameters in common."""
+    kinds = (b"\x7f", b"\x7e", b"\x7d", b"\x7c")
+
+    def module(count):
+        # ten digits of base 4, another number below 4^10 for each type
+        own = [[kinds[(number * 421_773 % 4**10) >> 2 * k & 3] for k in range(10)] for number in range(count)]
+        return HEADER + section(1, vector([b"\x60" + vector(front + digits) + b"\x00" for digits in own]))
+
+    return module
+
+
+NAMES = {
     "names that collide": lambda number: COLLIDING + free(number),
     "names with a long prefix": lambda number: PREFIX + free(number),
-    "plain names": lambda number: b"function " + free(number * 2654435761 % 2**32),
+    "plain names": lambda number: b"function " + free(scattered(number)),
 }
-
-
-def module(names):
-    exports = vector([unsigned(len(name)) + name + b"\x00\x00" for name in names])
-    return (
-        b"\0asm\x01\0\0\0"
-        + section(1, b"\x01\x60\x00\x00")
-        + section(3, b"\x01\x00")
-        + section(7, exports)
-        + section(10, b"\x01\x02\x00\x0b")
-    )
+ROWS = [
+    *[(f"{kind}, wasm_rewriter", REWRITER, exporting(name)) for kind, name in NAMES.items()],
+    *[(f"{kind}, walrus_inspect", INSPECTOR, exporting(name)) for kind, name in NAMES.items()],
+    ("types with a long front, walrus_inspect", INSPECTOR, typing([b"\x7f"] * 50)),
+    ("plain types, walrus_inspect", INSPECTOR, typing([])),
+]
 
 
 def seconds(words):
     """The seconds of the processor that a program took."""
     before = resource.getrusage(resource.RUSAGE_CHILDREN)
-    subprocess.run(words, check=True)
+    subprocess.run(words, check=True, stdout=subprocess.DEVNULL)
     after = resource.getrusage(resource.RUSAGE_CHILDREN)
     return after.ru_utime + after.ru_stime - before.ru_utime - before.ru_stime
 
@@ -66,26 +95,28 @@ def instructions(words):
 
 
 def main():
-    words = argparse.ArgumentParser(description="Times exports whose names are bad for a table of names.")
+    words = argparse.ArgumentParser(description="Times names and types that are bad for a table of them.")
     words.add_argument("--rounds", type=int, default=5)
-    words.add_argument("--most", type=int, default=640_000, help="the most names of a module")
-    words.add_argument("--least", type=int, default=20_000, help="the least names of a module, doubled up to the most")
+    words.add_argument("--most", type=int, default=640_000, help="the most names or types of a module")
+    words.add_argument("--least", type=int, default=20_000, help="the least, doubled up to the most")
     words.add_argument("--instructions", action="store_true", help="count instructions in place of the time")
     asked = words.parse_args()
     cost, unit, rounds = (instructions, "million instructions", 1) if asked.instructions else (seconds, "s", asked.rounds)
-    subprocess.run([f"{ROOT}/bin/wasm_rewriter", "--help"], check=True, stdout=subprocess.DEVNULL)
+    for name in ("wasm_rewriter", "walrus_inspect"):
+        subprocess.run([f"{ROOT}/bin/{name}", "--help"], check=True, stdout=subprocess.DEVNULL)
     sizes = [asked.least]
     while 2 * sizes[-1] <= asked.most:
         sizes.append(2 * sizes[-1])
     with tempfile.TemporaryDirectory() as folder:
-        for kind, name in KINDS.items():
+        for kind, program, module in ROWS:
+            output = [f"{folder}/out.wasm"] if program == REWRITER else []
             for count in sizes:
                 with open(f"{folder}/{count}.wasm", "wb") as file:
-                    file.write(module([name(number) for number in range(count)]))
+                    file.write(module(count))
             took = {count: [] for count in sizes}
             for _ in range(rounds):
                 for count in sizes:
-                    took[count].append(cost([PROGRAM, f"{folder}/{count}.wasm", f"{folder}/out.wasm"]))
+                    took[count].append(cost([program, f"{folder}/{count}.wasm", *output]))
             last = None
             for count in sizes:
                 best = min(took[count])

@@ -1,4 +1,5 @@
-//! Calls above the faces `wasmparser`, `walrus_ir` and `walrus_body`, with contracts in words that these pass on.
+//! Calls above the faces `wasmparser`, `walrus_ir` and `walrus_body`, with contracts in words that these pass on, and the example of
+//! README.md above `wasm_rewriter`.
 #![tactic(auto)]
 
 ghost use Rattle.std.specs.Prelude.{◌≡◌, IfErr, IfOk, OnErr, MatchBool};
@@ -11,6 +12,8 @@ ghost use Rattle.walrus_ir.specs.Text.{operators};
 ghost use Rattle.walrus_ir.specs.Trees.{IsTree};
 ghost use Rattle.walrus_body.specs.Emitting.{IsCause};
 ghost use Rattle.walrus_body.specs.Names.{AreSet, segment_in, text_names};
+
+pub mod readme;
 
 use std::alloc::{AllocError, Global};
 use walrus_body::{BodyError, LocalFunction};

@@ -1,4 +1,5 @@
 mod Codes
+mod Forms
 mod Telling
 pub mod Agreeing
 mod Nesting

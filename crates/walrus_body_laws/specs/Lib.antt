@@ -1,3 +1,4 @@
+pub mod Forms
 pub mod Laws
 pub mod Naming
 pub mod Nesting

@@ -1,5 +1,6 @@
 //! Laws: functions with nothing to do, whose contracts hold of all bodies.
 
+ghost use Rattle.walrus_body_laws.specs.Forms.{ControlIsTold};
 ghost use Rattle.walrus_body_laws.specs.Laws.{BytesAgree, PlacesAgree, SizesAgree};
 ghost use Rattle.walrus_body_laws.specs.Naming.{LocalsAgree, SegmentsAgree};
 ghost use Rattle.walrus_body_laws.specs.Nesting.{TreesNest};
@@ -33,4 +34,12 @@ pub fn texts_are_renamed()
     ensures { TextsAreRenamed }
 {
     walrus_pairing_laws::laws::operators_are_sent();
+}
+
+/// Instructions that have one operator, under maps that undo each other, are one and the same where they hold neither a label nor the type
+/// of a block; those that do have a code for each form, so that they are of one form.
+pub fn control_forms_are_told()
+    ensures { ControlIsTold }
+{
+    walrus_pairing_laws::laws::instructions_come_back();
 }

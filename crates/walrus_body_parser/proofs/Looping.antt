@@ -183,7 +183,7 @@ module _ {V : Type 0} (s : Sight) (told : Validating V) (code : ℕ) (old : Curs
           seqs = blocks stack;
           inner = inner stack;
           around = around stack;
-          open = are_open;
+          behind = are_open;
           reached = hinders.1;
           by = by.0;
           opens = by.1;

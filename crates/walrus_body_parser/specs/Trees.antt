@@ -64,7 +64,7 @@ module _ {V : Type 0} (parser : Parser) (told : Validating V) (end place : ℕ) 
     pub seqs : List Seq
     pub inner : Open
     pub around : List Open
-    pub open : AreOpen s place ops seqs (inner ∷ around)
+    pub behind : AreOpen s place ops seqs (inner ∷ around)
     pub reached : IsReached inner.reach
     -- what opened the block
     pub by : Seen

@@ -1,1 +1,1 @@
-pub mod KeptCounts
+pub mod Inspected

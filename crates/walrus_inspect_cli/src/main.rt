@@ -1,6 +1,7 @@
 //! The program `walrus_inspect`: tells how many items of each kind live in a WebAssembly module.
 #![tactic(auto)]
 
+mod none;
 mod read;
 
 use inspect_program::status;

@@ -1,14 +1,10 @@
 //! A file becomes a module, and its items are counted.
 
-ghost use Rattle.std.specs.Prelude.{◌≡◌, IfOk, false, true};
-ghost use Rattle.walrus_arena.specs.Arena.{entries};
-ghost use Rattle.walrus_counts.specs.Counts.{AreCounts};
+ghost use Rattle.std.specs.Prelude.{IfErr, IfOk};
 ghost use Rattle.walrus_counts.specs.walrus_module.Parts.{parts};
-ghost use Rattle.walrus_parse.specs.Parsed.{DoesRead};
-ghost use Rattle.walrus_passes.specs.Asked.{WithPushed};
-ghost use Rattle.walrus_sections.specs.Sections.{pushed};
-ghost use Rattle.walrus_inspect_cli.specs.KeptCounts.{AreKeptCounts};
+ghost use Rattle.walrus_inspect_cli.specs.Inspected.{AreTold, Inspects, IsUntold};
 
+use crate::none::NoSection;
 use inspect_program::Inspector;
 use inspect_program::config::ModuleConfig;
 use inspect_program::errors::Result;
@@ -19,14 +15,13 @@ use walrus_counts::count;
 use walrus_parse::parse_into;
 use walrus_passes::gc;
 use walrus_passes::module::Module;
-use walrus_sections::CustomSection;
 
 /// Counts the items of modules.
 #[derive(Clone, Copy)]
 pub struct Modules;
 
 impl Inspector for Modules {
-    ghost answers = { λ _ bytes config _ result. IfOk result (λ _. DoesRead config bytes) };
+    ghost answers = { λ _ bytes config kept result. Inspects bytes config kept result };
 
     fn inspect(
         &self,
@@ -35,16 +30,16 @@ impl Inspector for Modules {
         config: ModuleConfig,
         kept: bool,
     ) -> Result<Counts> {
-        let mut module = Module::with_config(alloc, config);
+        let mut module = Module::<NoSection>::with_config(alloc, config);
         parse_into(alloc, bytes, &mut module)?;
         count_in(alloc, module, kept)
     }
 }
 
 // Counts the items of the module, or just what is kept of it.
-fn count_in(alloc: Global, mut input: Module, kept: bool) -> Result<Counts>
-    ensures whole { kept ≡ false → IfOk result (AreCounts (parts input)) }
-    ensures kept { kept ≡ true → IfOk result (λ counts. WithPushed (pushed ⟦<Box<dyn CustomSection> as CustomSection>⟧.gc_roots (entries input.customs)) (λ items. AreKeptCounts (parts input) items counts)) }
+fn count_in(alloc: Global, mut input: Module<NoSection>, kept: bool) -> Result<Counts>
+    ensures told { IfOk result (AreTold kept (parts input)) }
+    ensures refused { IfErr result (IsUntold kept (parts input)) }
 {
     if kept {
         gc::run(alloc, &mut input)?;
