@@ -1,5 +1,5 @@
 -- Lemmas: the types that bodies add to a file's name none past their own groups, as they name types of the file alone.
-use Rattle.std.specs.Prelude.{ℕ, ◌≡◌, ◌+◌, ◌≤◌, false, List, [], ◌∷◌, ◌++◌, length, map, Option, Some, None, MatchOption, refl}
+use Rattle.std.specs.Prelude.{ℕ, ◌≡◌, ◌≤◌, false, List, [], ◌∷◌, ◌++◌, length, map, Option, Some, None, MatchOption, refl}
 use Rattle.std.specs.List.{filter_map, flat_map}
 use Rattle.std.specs.Option.{option_and_then, option_to_list}
 use Rattle.std.proofs.Common.{ap, sym, ◌∙◌, subst, inl, arith}
