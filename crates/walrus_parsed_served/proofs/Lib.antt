@@ -1,0 +1,5 @@
+mod NameLemmas
+mod FileLemmas
+mod BodyLemmas
+mod StayLemmas
+mod ServedLemmas
