@@ -2,26 +2,44 @@
 use walrus_config::ModuleConfig;
 use wasm_features::WasmFeatures;
 
-#[test]
-fn a_chain_of_setters_sets_its_flags(rt: HostRuntime) {
-    let mut config = ModuleConfig::new();
+fn set_some(config: &mut ModuleConfig) {
     config
         .generate_name_section(false)
         .generate_dwarf(true)
         .generate_dwarf(false)
         .legacy_exceptions(false);
-    assert!(rt; !config.generate_name_section);
-    assert!(rt; !config.generate_dwarf);
-    assert!(rt; config.preserve_code_transform);
-    assert!(rt; !config.legacy_exceptions);
-    assert!(rt; config.generate_producers_section && config.strict_validate);
+}
+
+fn are_some_set(config: &ModuleConfig) -> bool {
+    !config.generate_name_section
+        && !config.generate_dwarf
+        && config.preserve_code_transform
+        && !config.legacy_exceptions
+        && config.generate_producers_section
+        && config.strict_validate
+}
+
+#[test]
+fn a_chain_of_setters_sets_its_flags(rt: HostRuntime) {
+    let mut config = ModuleConfig::new();
+    set_some(&mut config);
+    assert!(rt; are_some_set(&config));
+}
+
+fn has_all(features: WasmFeatures) -> bool {
+    features.legacy_exceptions()
+        && features.wide_arithmetic()
+        && features.contains(WasmFeatures::default())
+}
+
+fn has_stable_ones(config: &mut ModuleConfig) -> bool {
+    config.legacy_exceptions(false).only_stable_features(true);
+    config.features() == WasmFeatures::default()
 }
 
 #[test]
 fn features_follow_two_flags(rt: HostRuntime) {
     let mut config = ModuleConfig::default();
-    assert!(rt; config.features().legacy_exceptions() && config.features().wide_arithmetic());
-    assert!(rt; config.features().contains(WasmFeatures::default()));
-    config.legacy_exceptions(false).only_stable_features(true);
-    assert!(rt; config.features() == WasmFeatures::default());
+    assert!(rt; has_all(config.features()));
+    assert!(rt; has_stable_ones(&mut config));
 }

@@ -1,7 +1,6 @@
 //! What sections keep, and what they are told.
 use crate::own::{Keeper, Listener, Refuser};
 use std::alloc::{AllocError, Global};
-use std::test::Fail;
 use walrus_arena::{FunctionId, GlobalId, MemoryId, TableId, TagId, UntypedCustomSectionId};
 use walrus_index_maps::IdsToIndices;
 use walrus_instr::InstrLocId;
@@ -57,98 +56,127 @@ fn tell(sections: &mut ModuleCustomSections, id: UntypedCustomSectionId, alloc: 
     }
 }
 
-#[test]
-fn items_are_kept_by_rising_id(rt: HostRuntime) -> Result<(), Fail> {
-    let alloc = rt.alloc();
-    let mut sections = ModuleCustomSections::new(alloc);
-    assert!(rt; kept(&sections, alloc) == Ok((0, 0)));
+fn add_keeper(
+    alloc: Global,
+    sections: &mut ModuleCustomSections,
+    function: FunctionId,
+) -> Result<UntypedCustomSectionId, AllocError> {
+    sections.add(Box::new(alloc, Keeper { function })?)
+}
+
+fn add_refuser(
+    alloc: Global,
+    sections: &mut ModuleCustomSections,
+    fault: SectionFault,
+) -> Result<UntypedCustomSectionId, AllocError> {
+    sections.add(Box::new(alloc, Refuser { fault })?)
+}
+
+fn delete(sections: &mut ModuleCustomSections, id: UntypedCustomSectionId) {
+    let _ = sections.delete(id);
+}
+
+/// Whether items are kept by rising id: none, those of two sections behind a raw one, and those of the second alone.
+pub fn are_kept(alloc: Global, sections: &mut ModuleCustomSections) -> Result<bool, AllocError> {
+    let none = kept(sections, alloc) == Ok((0, 0));
     sections.add_raw("x", &[])?;
-    let function = FunctionId::from_index(3);
-    let first = sections.add(Box::new(alloc, Keeper { function })?)?;
-    let function = FunctionId::from_index(4);
-    sections.add(Box::new(alloc, Keeper { function })?)?;
-    assert!(rt; kept(&sections, alloc) == Ok((2, 3)));
-    sections.delete(first);
-    assert!(rt; kept(&sections, alloc) == Ok((1, 4)));
-    Ok(())
+    let first = add_keeper(alloc, sections, FunctionId::from_index(3))?;
+    add_keeper(alloc, sections, FunctionId::from_index(4))?;
+    let both = kept(sections, alloc) == Ok((2, 3));
+    delete(sections, first);
+    Ok(none && both && kept(sections, alloc) == Ok((1, 4)))
 }
 
-#[test]
-fn the_first_refusal_is_answered(rt: HostRuntime) -> Result<(), Fail> {
-    let alloc = rt.alloc();
-    let mut sections = ModuleCustomSections::new(alloc);
-    let fault = SectionFault::Refused;
-    let first = sections.add(Box::new(alloc, Refuser { fault })?)?;
-    let fault = SectionFault::Memory;
-    sections.add(Box::new(alloc, Refuser { fault })?)?;
-    assert!(rt; kept(&sections, alloc) == Err(SectionFault::Refused));
-    sections.delete(first);
-    assert!(rt; kept(&sections, alloc) == Err(SectionFault::Memory));
-    Ok(())
+/// Whether the first of two refusals is answered, and once that section is deleted the other.
+pub fn are_refused(alloc: Global, sections: &mut ModuleCustomSections) -> Result<bool, AllocError> {
+    let first = add_refuser(alloc, sections, SectionFault::Refused)?;
+    add_refuser(alloc, sections, SectionFault::Memory)?;
+    let is_first = kept(sections, alloc) == Err(SectionFault::Refused);
+    delete(sections, first);
+    Ok(is_first && kept(sections, alloc) == Err(SectionFault::Memory))
 }
 
-#[test]
-fn a_section_is_told_where_the_code_was_written(rt: HostRuntime) -> Result<(), Fail> {
-    let alloc = rt.alloc();
-    let mut sections = ModuleCustomSections::new(alloc);
-    let told = false;
-    let id = sections.add(Box::new(alloc, Listener { told })?)?;
-    assert!(rt; data_is(&sections, id, alloc, &[0]));
-    tell(&mut sections, id, alloc);
-    assert!(rt; data_is(&sections, id, alloc, &[1]));
-    Ok(())
+/// Whether a section is told where the code was written.
+pub fn is_told(alloc: Global, sections: &mut ModuleCustomSections) -> Result<bool, AllocError> {
+    let id = sections.add(Box::new(alloc, Listener { told: false })?)?;
+    let before = data_is(sections, id, alloc, &[0]);
+    tell(sections, id, alloc);
+    Ok(before && data_is(sections, id, alloc, &[1]))
 }
 
-#[test]
-fn roots_are_what_was_added(rt: HostRuntime) -> Result<(), Fail> {
-    let mut roots = Roots::new(rt.alloc());
+const ROOTS: [(Space, u32); 5] = [
+    (Space::Function, 5),
+    (Space::Table, 4),
+    (Space::Memory, 3),
+    (Space::Global, 2),
+    (Space::Tag, 1),
+];
+
+fn add_roots(roots: &mut Roots) -> Result<(), AllocError> {
     roots.push_func(FunctionId::from_index(5))?;
     roots.push_table(TableId::from_index(4))?;
     roots.push_memory(MemoryId::from_index(3))?;
     roots.push_global(GlobalId::from_index(2))?;
-    roots.push_tag(TagId::from_index(1))?;
-    let added = [
-        (Space::Function, 5),
-        (Space::Table, 4),
-        (Space::Memory, 3),
-        (Space::Global, 2),
-        (Space::Tag, 1),
-    ];
-    assert!(rt; are(roots.items(), &added));
-    assert!(rt; are(roots.clone()?.items(), &added));
-    Ok(())
+    roots.push_tag(TagId::from_index(1))
 }
 
-fn is_cloned(transform: &CodeTransform) -> Result<bool, AllocError> {
-    let copy = transform.clone()?;
-    let (Some(&(location, offset)), Some((function, range))) = (
-        copy.instruction_map.first(),
-        copy.function_ranges.first(),
-    ) else {
-        return Ok(false);
-    };
-    Ok(
-        location == InstrLocId::new(3)
-            && offset == 11
-            && copy.code_section_start == 8
-            && function.index() == 5
-            && range.start == 9
-            && range.end == 12,
-    )
+fn are_copied(roots: &Roots) -> Result<bool, AllocError> {
+    Ok(are(roots.clone()?.items(), &ROOTS))
+}
+
+fn have_roots(roots: &mut Roots) -> Result<bool, AllocError> {
+    add_roots(roots)?;
+    Ok(are(roots.items(), &ROOTS) && are_copied(roots)?)
 }
 
 #[test]
-fn a_transform_is_cloned(rt: HostRuntime) -> Result<(), Fail> {
-    let alloc = rt.alloc();
+fn roots_are_what_was_added(rt: HostRuntime) {
+    let mut roots = Roots::new(rt.alloc());
+    assert!(rt; have_roots(&mut roots) == Ok(true));
+}
+
+fn is_transform(transform: &CodeTransform) -> bool {
+    let (Some(&(location, offset)), Some((function, range))) = (
+        transform.instruction_map.first(),
+        transform.function_ranges.first(),
+    ) else {
+        return false;
+    };
+    location == InstrLocId::new(3)
+        && offset == 11
+        && transform.code_section_start == 8
+        && function.index() == 5
+        && range.start == 9
+        && range.end == 12
+}
+
+fn is_cloned(transform: &CodeTransform) -> Result<bool, AllocError> {
+    Ok(is_transform(&transform.clone()?))
+}
+
+fn fill(transform: &mut CodeTransform) -> Result<(), AllocError> {
+    transform.instruction_map.push((InstrLocId::new(3), 11))?;
+    transform
+        .function_ranges
+        .push((FunctionId::from_index(5), 9..12))?;
+    Ok(())
+}
+
+fn clones(transform: &mut CodeTransform) -> Result<bool, AllocError> {
+    fill(transform)?;
+    is_cloned(transform)
+}
+
+fn transform_is_cloned(alloc: Global) -> Result<bool, AllocError> {
     let mut transform = CodeTransform {
         instruction_map: Vec::new(alloc),
         code_section_start: 8,
         function_ranges: Vec::new(alloc),
     };
-    transform.instruction_map.push((InstrLocId::new(3), 11))?;
-    transform
-        .function_ranges
-        .push((FunctionId::from_index(5), 9..12))?;
-    assert!(rt; is_cloned(&transform)?);
-    Ok(())
+    clones(&mut transform)
+}
+
+#[test]
+fn a_transform_is_cloned(rt: HostRuntime) {
+    assert!(rt; transform_is_cloned(rt.alloc()) == Ok(true));
 }

@@ -1,8 +1,8 @@
-//! What lives under ids.
+//! What lives under ids. One function owns the sections of which all is asked.
 use crate::own::Keeper;
-use std::alloc::Global;
-use std::test::Fail;
-use walrus_arena::FunctionId;
+use crate::rooted::{are_kept, are_refused, is_told};
+use std::alloc::{AllocError, Global};
+use walrus_arena::{FunctionId, UntypedCustomSectionId};
 use walrus_index_maps::IdsToIndices;
 use walrus_sections::{CustomSection, ModuleCustomSections, RawCustomSection, Section};
 
@@ -24,6 +24,15 @@ fn bytes_were(removed: Option<RawCustomSection>, bytes: &[u8]) -> bool {
     }
 }
 
+// Whether a raw section of this name is removed that has these bytes.
+fn removes(sections: &mut ModuleCustomSections, name: &str, bytes: &[u8]) -> bool {
+    bytes_were(sections.remove_raw(name), bytes)
+}
+
+fn removes_none(sections: &mut ModuleCustomSections, name: &str) -> bool {
+    sections.remove_raw(name).is_none()
+}
+
 // Whether a boxed section of these bytes was handed out.
 fn data_was(alloc: Global, deleted: Option<Section>, bytes: &[u8]) -> bool {
     let numbers = IdsToIndices::new(alloc);
@@ -36,45 +45,108 @@ fn data_was(alloc: Global, deleted: Option<Section>, bytes: &[u8]) -> bool {
     }
 }
 
-#[test]
-fn a_raw_section_is_found_until_it_is_removed(rt: HostRuntime) -> Result<(), Fail> {
+// Adds a section that keeps a function.
+fn add_boxed(
+    alloc: Global,
+    sections: &mut ModuleCustomSections,
+) -> Result<UntypedCustomSectionId, AllocError> {
     let function = FunctionId::from_index(3);
-    let mut sections = ModuleCustomSections::new(rt.alloc());
-    let id = sections.add_raw("x", &[0x2a])?;
-    let boxed = sections.add(Box::new(rt.alloc(), Keeper { function })?)?;
-    assert!(rt; sections.get(id).is_none());
-    assert!(rt; raw_bytes_are(&sections, 0, &[0x2a]));
-    assert!(rt; sections.name(id) == Some("x"));
-    assert!(rt; sections.remove_raw("y").is_none());
-    assert!(rt; bytes_were(sections.remove_raw("x"), &[0x2a]));
-    assert!(rt; sections.remove_raw("x").is_none());
-    assert!(rt; !sections.contains(id));
-    assert!(rt; data_was(rt.alloc(), sections.delete(boxed), &[1]));
-    Ok(())
+    sections.add(Box::new(alloc, Keeper { function })?)
 }
 
-#[test]
-fn the_lowest_raw_section_of_a_name_is_removed(rt: HostRuntime) -> Result<(), Fail> {
-    let mut sections = ModuleCustomSections::new(rt.alloc());
+fn is_raw(sections: &ModuleCustomSections, id: UntypedCustomSectionId) -> bool {
+    sections.get(id).is_none()
+        && raw_bytes_are(sections, 0, &[0x2a])
+        && sections.name(id) == Some("x")
+}
+
+// Whether a raw section is found until it is removed, and the boxed one behind it stays until it is deleted.
+fn raw_is_found(alloc: Global, sections: &mut ModuleCustomSections) -> Result<bool, AllocError> {
+    let id = sections.add_raw("x", &[0x2a])?;
+    let boxed = add_boxed(alloc, sections)?;
+    Ok(
+        is_raw(sections, id)
+            && removes_none(sections, "y")
+            && removes(sections, "x", &[0x2a])
+            && removes_none(sections, "x")
+            && !sections.contains(id)
+            && data_was(alloc, sections.delete(boxed), &[1]),
+    )
+}
+
+// Whether the lowest raw section of a name is removed.
+fn lowest_is_removed(sections: &mut ModuleCustomSections) -> Result<bool, AllocError> {
     let first = sections.add_raw("x", &[1])?;
     let second = sections.add_raw("x", &[2])?;
-    assert!(rt; sections.remove_raw("x").is_some());
-    assert!(rt; !sections.contains(first));
-    assert!(rt; sections.contains(second));
-    assert!(rt; raw_bytes_are(&sections, 0, &[2]));
-    Ok(())
+    Ok(
+        removes(sections, "x", &[1])
+            && !sections.contains(first)
+            && sections.contains(second)
+            && raw_bytes_are(sections, 0, &[2]),
+    )
 }
 
+fn is_boxed(sections: &ModuleCustomSections, id: UntypedCustomSectionId) -> bool {
+    sections.get(id).is_some() && sections.get_raw(id).is_none() && sections.name(id) == Some("y")
+}
+
+fn deletes_boxed(sections: &mut ModuleCustomSections, id: UntypedCustomSectionId) -> bool {
+    matches!(sections.delete(id), Some(Section::Boxed(_)))
+}
+
+// Whether a boxed section is handed out, once.
+fn boxed_is_handed_out(
+    alloc: Global,
+    sections: &mut ModuleCustomSections,
+) -> Result<bool, AllocError> {
+    let id = add_boxed(alloc, sections)?;
+    Ok(
+        is_boxed(sections, id)
+            && removes_none(sections, "y")
+            && deletes_boxed(sections, id)
+            && sections.delete(id).is_none(),
+    )
+}
+
+// What is asked of sections.
+#[derive(Clone, Copy)]
+enum Ask {
+    RawIsFound,
+    LowestIsRemoved,
+    BoxedIsHandedOut,
+    ItemsAreKept,
+    FirstRefusal,
+    IsTold,
+}
+
+fn holds(alloc: Global, sections: &mut ModuleCustomSections, ask: Ask) -> Result<bool, AllocError> {
+    match ask {
+        Ask::RawIsFound => raw_is_found(alloc, sections),
+        Ask::LowestIsRemoved => lowest_is_removed(sections),
+        Ask::BoxedIsHandedOut => boxed_is_handed_out(alloc, sections),
+        Ask::ItemsAreKept => are_kept(alloc, sections),
+        Ask::FirstRefusal => are_refused(alloc, sections),
+        Ask::IsTold => is_told(alloc, sections),
+    }
+}
+
+fn is_so(alloc: Global, ask: Ask) -> Result<bool, AllocError> {
+    let mut sections = ModuleCustomSections::new(alloc);
+    holds(alloc, &mut sections, ask)
+}
+
+const ASKS: [Ask; 6] = [
+    Ask::RawIsFound,
+    Ask::LowestIsRemoved,
+    Ask::BoxedIsHandedOut,
+    Ask::ItemsAreKept,
+    Ask::FirstRefusal,
+    Ask::IsTold,
+];
+
 #[test]
-fn a_boxed_section_is_handed_out(rt: HostRuntime) -> Result<(), Fail> {
-    let function = FunctionId::from_index(3);
-    let mut sections = ModuleCustomSections::new(rt.alloc());
-    let id = sections.add(Box::new(rt.alloc(), Keeper { function })?)?;
-    assert!(rt; sections.get(id).is_some());
-    assert!(rt; sections.get_raw(id).is_none());
-    assert!(rt; sections.name(id) == Some("y"));
-    assert!(rt; sections.remove_raw("y").is_none());
-    assert!(rt; matches!(sections.delete(id), Some(Section::Boxed(_))));
-    assert!(rt; sections.delete(id).is_none());
-    Ok(())
+fn sections_do_what_is_asked(rt: HostRuntime) {
+    for ask in ASKS {
+        assert!(rt; is_so(rt.alloc(), ask) == Ok(true));
+    }
 }
