@@ -3,9 +3,8 @@ use crate::common::{PLAIN, function};
 use crate::rows::{
     ARRAY_LEN, BLOCK, DROP, IF_ELSE, LOOP, REF_EQ, RETURN, Row, UNREACHABLE, are_rows,
 };
-use std::alloc::AllocError;
+use std::alloc::{AllocError, Global};
 use std::mem;
-use std::test::Fail;
 use walrus_builder::{FunctionBuilder, InstrSeqBuilder};
 use walrus_instr::{Instr, InstrLocId, InstrSeqType, Value};
 use walrus_types::ValType;
@@ -19,8 +18,8 @@ fn is_constant(instr: &Instr, wanted: Value) -> bool {
     }
 }
 
-// Whether the sequence of that id has the type and just this constant.
-fn holds(body: &FunctionBuilder, id: usize, ty: InstrSeqType, value: i32) -> bool {
+/// Whether the sequence of that id has the type and just this constant.
+pub fn holds(body: &FunctionBuilder, id: usize, ty: InstrSeqType, value: i32) -> bool {
     let Some(seq) = body.seqs().get(id) else {
         return false;
     };
@@ -46,8 +45,8 @@ fn are_constants(instrs: &[(Instr, InstrLocId)], values: &[Value]) -> bool {
     agree
 }
 
-// Whether just the constants stand there, once they are added.
-fn adds_constants(seq: &mut InstrSeqBuilder) -> Result<bool, AllocError> {
+/// Whether just the constants stand there, once they are added.
+pub fn adds_constants(seq: &mut InstrSeqBuilder) -> Result<bool, AllocError> {
     add_constants(seq)?;
     let values = [
         Value::I32(-7),
@@ -56,13 +55,6 @@ fn adds_constants(seq: &mut InstrSeqBuilder) -> Result<bool, AllocError> {
         Value::F64(9),
     ];
     Ok(are_constants(seq.instrs(), &values))
-}
-
-#[test]
-fn constants(rt: HostRuntime) -> Result<(), Fail> {
-    let mut body = function(rt.alloc())?;
-    assert!(rt; adds_constants(body.func_body())?);
-    Ok(())
 }
 
 fn add_block(seq: &mut InstrSeqBuilder) -> Result<(), AllocError> {
@@ -149,12 +141,10 @@ fn holds_blocks(seq: &mut InstrSeqBuilder) -> Result<bool, AllocError> {
     Ok(seq.id().index() == 0 && are_rows(seq.instrs(), &BLOCKS))
 }
 
-#[test]
-fn blocks(rt: HostRuntime) -> Result<(), Fail> {
-    let mut body = function(rt.alloc())?;
-    assert!(rt; holds_blocks(body.func_body())?);
-    assert!(rt; holds_all(&body));
-    Ok(())
+/// Whether the first sequence holds the blocks, and those their constants.
+pub fn adds_blocks(body: &mut FunctionBuilder) -> Result<bool, AllocError> {
+    let are_held = holds_blocks(body.func_body())?;
+    Ok(are_held && holds_all(body))
 }
 
 // Puts the instruction there, behind so many at most.
@@ -184,16 +174,10 @@ const FOUR: [Row; 4] = [
     (REF_EQ, 0, 0, 0),
 ];
 
-fn adds_at(seq: &mut InstrSeqBuilder) -> Result<bool, AllocError> {
+/// Whether instructions stand where they are put.
+pub fn adds_at(seq: &mut InstrSeqBuilder) -> Result<bool, AllocError> {
     add_at(seq)?;
     Ok(are_rows(seq.instrs(), &FOUR))
-}
-
-#[test]
-fn instr_at(rt: HostRuntime) -> Result<(), Fail> {
-    let mut body = function(rt.alloc())?;
-    assert!(rt; adds_at(body.func_body())?);
-    Ok(())
 }
 
 fn is_refused(seq: &mut InstrSeqBuilder) -> bool {
@@ -204,17 +188,10 @@ fn has_drop_alone(seq: &InstrSeqBuilder) -> bool {
     seq.id().index() == 0 && matches!(seq.instrs(), [(Instr::Drop, place)] if place.is_default())
 }
 
-// A block that is refused leaves the sequence with what is before it.
-fn is_left(seq: &mut InstrSeqBuilder) -> Result<bool, AllocError> {
+/// A block that is refused leaves the sequence with what is before it.
+pub fn is_left(seq: &mut InstrSeqBuilder) -> Result<bool, AllocError> {
     put(seq, Instr::Drop)?;
     Ok(is_refused(seq) && has_drop_alone(seq))
-}
-
-#[test]
-fn a_refused_block_leaves_its_sequence(rt: HostRuntime) -> Result<(), Fail> {
-    let mut body = function(rt.alloc())?;
-    assert!(rt; is_left(body.func_body())?);
-    Ok(())
 }
 
 // Adds a block that takes another builder's place.
@@ -244,14 +221,6 @@ fn takes_smaller(
     Ok(is_swapped && body.seqs().len() == 1 && other.seqs().len() == 3)
 }
 
-#[test]
-fn another_builder_without_that_sequence(rt: HostRuntime) -> Result<(), Fail> {
-    let mut body = function(rt.alloc())?;
-    let mut other = function(rt.alloc())?;
-    assert!(rt; takes_smaller(&mut body, &mut other)?);
-    Ok(())
-}
-
 fn swap_in_third(seq: &mut InstrSeqBuilder, given: &mut InstrSeqBuilder) -> Result<(), AllocError> {
     if seq.instrs().len() < 2 {
         return Err(AllocError);
@@ -277,10 +246,33 @@ fn takes_shorter(
     Ok(seq.id().index() == 0 && are_rows(seq.instrs(), &SHORTER))
 }
 
+// Which other builder takes the place.
+#[derive(Clone, Copy)]
+enum Other {
+    Smaller,
+    Shorter,
+}
+
+fn takes(
+    body: &mut FunctionBuilder,
+    other: &mut FunctionBuilder,
+    kind: Other,
+) -> Result<bool, AllocError> {
+    match kind {
+        Other::Smaller => takes_smaller(body, other),
+        Other::Shorter => takes_shorter(body.func_body(), other.func_body()),
+    }
+}
+
+fn takes_new(alloc: Global, kind: Other) -> Result<bool, AllocError> {
+    let mut body = function(alloc)?;
+    let mut other = function(alloc)?;
+    takes(&mut body, &mut other, kind)
+}
+
 #[test]
-fn another_builder_with_that_sequence(rt: HostRuntime) -> Result<(), Fail> {
-    let mut body = function(rt.alloc())?;
-    let mut other = function(rt.alloc())?;
-    assert!(rt; takes_shorter(body.func_body(), other.func_body())?);
-    Ok(())
+fn another_builder_takes_its_place(rt: HostRuntime) {
+    for kind in [Other::Smaller, Other::Shorter] {
+        assert!(rt; takes_new(rt.alloc(), kind) == Ok(true));
+    }
 }

@@ -1,5 +1,5 @@
 //! The calls for control, parametric, numeric and variable instructions.
-use crate::rows::Row;
+use crate::rows::{Row, to_type};
 use std::alloc::{AllocError, Global};
 use walrus_arena::{FunctionId, GlobalId, InstrSeqId, LocalId, TableId, TagId, TypeId};
 use walrus_builder::InstrSeqBuilder;
@@ -19,16 +19,8 @@ fn add_exceptions(seq: &mut InstrSeqBuilder) -> Result<(), AllocError> {
     seq.throw(TagId::from_index(3))?;
     seq.throw_ref()?;
     seq.rethrow(3)?;
-    seq.br_on_cast(
-        InstrSeqId::from_index(3),
-        RefType::EXTERNREF,
-        RefType::I31REF,
-    )?;
-    seq.br_on_cast_fail(
-        InstrSeqId::from_index(3),
-        RefType::EXTERNREF,
-        RefType::I31REF,
-    )
+    seq.br_on_cast(InstrSeqId::from_index(3), to_type(5), to_type(7))?;
+    seq.br_on_cast_fail(InstrSeqId::from_index(3), to_type(5), to_type(7))
 }
 
 fn add_calls(seq: &mut InstrSeqBuilder) -> Result<(), AllocError> {
@@ -42,7 +34,7 @@ fn add_calls(seq: &mut InstrSeqBuilder) -> Result<(), AllocError> {
 
 fn add_operators(seq: &mut InstrSeqBuilder) -> Result<(), AllocError> {
     seq.drop()?;
-    seq.select(Some(ValType::I64))?;
+    seq.select(Some(ValType::Ref(to_type(3))))?;
     seq.const_(Value::V128(Bits128::new(17)))?;
     seq.unop(UnaryOp::I32Popcnt)?;
     seq.binop(BinaryOp::I64Rotr)?;
@@ -67,7 +59,7 @@ fn add_variables(seq: &mut InstrSeqBuilder) -> Result<(), AllocError> {
 
 /// Each call once.
 pub fn add_all(alloc: Global, seq: &mut InstrSeqBuilder) -> Result<(), AllocError> {
-    let blocks = vec![in alloc; InstrSeqId::from_index(8)]?;
+    let blocks = vec![in alloc; InstrSeqId::from_index(8), InstrSeqId::from_index(3)]?;
     seq.br_table(blocks, InstrSeqId::from_index(5))?;
     add_branches(seq)?;
     add_exceptions(seq)?;
@@ -79,7 +71,7 @@ pub fn add_all(alloc: Global, seq: &mut InstrSeqBuilder) -> Result<(), AllocErro
 
 /// What they add.
 pub const ROWS: [Row; 34] = [
-    (0, 1, 5, 0), // br_table
+    (0, 2, 5, 0), // br_table
     (1, 0, 0, 0), // unreachable
     (2, 3, 0, 0), // br
     (3, 3, 0, 0), // br_if
@@ -89,8 +81,8 @@ pub const ROWS: [Row; 34] = [
     (7, 3, 0, 0), // throw
     (8, 0, 0, 0), // throw_ref
     (9, 3, 0, 0), // rethrow
-    (10, 3, 2, 3), // br_on_cast
-    (11, 3, 2, 3), // br_on_cast_fail
+    (10, 3, 5, 7), // br_on_cast
+    (11, 3, 5, 7), // br_on_cast_fail
     (12, 3, 0, 0), // call
     (13, 3, 5, 0), // call_indirect
     (14, 3, 0, 0), // call_ref
@@ -98,7 +90,7 @@ pub const ROWS: [Row; 34] = [
     (16, 3, 5, 0), // return_call_indirect
     (17, 3, 0, 0), // return_call_ref
     (18, 0, 0, 0), // drop
-    (19, 1, 0, 0), // select
+    (19, 3, 0, 0), // select
     (20, 1, 0, 0), // const
     (21, 1, 0, 0), // unop
     (22, 1, 0, 0), // binop
@@ -114,3 +106,28 @@ pub const ROWS: [Row; 34] = [
     (32, 3, 0, 0), // global_get
     (33, 3, 0, 0), // global_set
 ];
+
+/// The calls whose types name no id.
+pub fn add_abstract(seq: &mut InstrSeqBuilder) -> Result<(), AllocError> {
+    let block = InstrSeqId::from_index(3);
+    seq.select(Some(ValType::I64))?;
+    seq.br_on_cast(block, RefType::EXTERNREF, RefType::I31REF)?;
+    seq.br_on_cast_fail(block, RefType::EXTERNREF, RefType::I31REF)?;
+    seq.ref_null(RefType::FUNCREF)?;
+    seq.ref_test(RefType::FUNCREF)?;
+    seq.ref_cast(RefType::FUNCREF)
+}
+
+/// What they add.
+pub const ABSTRACT: [Row; 6] = [
+    (19, 104, 0, 0), // select
+    (10, 3, 102, 103), // br_on_cast
+    (11, 3, 102, 103), // br_on_cast_fail
+    (70, 101, 0, 0), // ref_null
+    (75, 101, 0, 0), // ref_test
+    (76, 101, 0, 0), // ref_cast
+];
+
+/// What each of these names.
+pub const WORDS: &str =
+    "label label label ; ; label ; label ; label ; label ; ; tag ; ; ; label type type ; label type type ; function ; type table ; type ; function ; type table ; type ; ; type ; value ; ; ; ; ; ; ; ; ; local ; local ; local ; global ; global ; ";

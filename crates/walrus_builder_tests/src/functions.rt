@@ -1,5 +1,5 @@
 //! Functions that are built, and their sequences.
-use crate::common::{PLAIN, function};
+use crate::common::PLAIN;
 use std::alloc::{AllocError, Global};
 use std::test::Fail;
 use walrus_arena::InstrSeqId;
@@ -13,15 +13,9 @@ fn takes_name(body: &mut FunctionBuilder, text: &str) -> Result<bool, AllocError
     Ok(matches!(&body.name, Some(name) if name.as_str() == text))
 }
 
-fn takes_names(body: &mut FunctionBuilder) -> Result<bool, AllocError> {
+/// Whether a function has each name that it is given, and none before.
+pub fn takes_names(body: &mut FunctionBuilder) -> Result<bool, AllocError> {
     Ok(body.name.is_none() && takes_name(body, "first")? && takes_name(body, "n")?)
-}
-
-#[test]
-fn names(rt: HostRuntime) -> Result<(), Fail> {
-    let mut body = function(rt.alloc())?;
-    assert!(rt; takes_names(&mut body)?);
-    Ok(())
 }
 
 // What is added to a new sequence stands there alone.
@@ -51,16 +45,10 @@ fn has_two(body: &FunctionBuilder, second: InstrSeqId) -> bool {
     second.index() == 1 && body.seqs().len() == 2
 }
 
-fn dangles(body: &mut FunctionBuilder) -> Result<bool, AllocError> {
+/// Whether a sequence that is added is empty and stands apart.
+pub fn dangles(body: &mut FunctionBuilder) -> Result<bool, AllocError> {
     let id = adds_second(body)?;
     Ok(has_two(body, id) && is_empty(body.func_body()) && fills_new(body, id)?)
-}
-
-#[test]
-fn dangling(rt: HostRuntime) -> Result<(), Fail> {
-    let mut body = function(rt.alloc())?;
-    assert!(rt; dangles(&mut body)?);
-    Ok(())
 }
 
 fn add_three(seq: &mut InstrSeqBuilder, place: InstrLocId) -> Result<(), AllocError> {
@@ -74,17 +62,11 @@ fn are_three(instrs: &[(Instr, InstrLocId)], place: InstrLocId) -> bool {
     matches!(instrs, [(Instr::Drop, _), (Instr::Return, _), (Instr::RefEq, at)] if *at == place)
 }
 
-fn writes_list(seq: &mut InstrSeqBuilder) -> Result<bool, AllocError> {
+/// Whether what is pushed to the list stands behind what is called.
+pub fn writes_list(seq: &mut InstrSeqBuilder) -> Result<bool, AllocError> {
     let place = InstrLocId::new(5);
     add_three(seq, place)?;
     Ok(are_three(seq.instrs(), place))
-}
-
-#[test]
-fn list_for_writing(rt: HostRuntime) -> Result<(), Fail> {
-    let mut body = function(rt.alloc())?;
-    assert!(rt; writes_list(body.func_body())?);
-    Ok(())
 }
 
 // Makes a function of these types, and gives its body's own type where it begins as it is to.
@@ -206,13 +188,6 @@ fn is_copy(copy: &InstrSeq) -> bool {
         }
 }
 
-fn with_try(alloc: Global) -> Result<FunctionBuilder, AllocError> {
-    let mut body = function(alloc)?;
-    let tried = body.dangling_instr_seq(PLAIN)?;
-    add_try(alloc, body.func_body(), tried)?;
-    Ok(body)
-}
-
 // Whether there are two sequences, of which the first is copied.
 fn copies_first(seqs: &[InstrSeq]) -> Result<bool, AllocError> {
     match seqs {
@@ -221,11 +196,11 @@ fn copies_first(seqs: &[InstrSeq]) -> Result<bool, AllocError> {
     }
 }
 
-#[test]
-fn clones(rt: HostRuntime) -> Result<(), Fail> {
-    let body = with_try(rt.alloc())?;
-    assert!(rt; copies_first(body.seqs())?);
-    Ok(())
+/// Whether a sequence with a `try` is copied.
+pub fn copies_try(alloc: Global, body: &mut FunctionBuilder) -> Result<bool, AllocError> {
+    let tried = body.dangling_instr_seq(PLAIN)?;
+    add_try(alloc, body.func_body(), tried)?;
+    copies_first(body.seqs())
 }
 
 fn is_product(expr: &ConstExpr) -> bool {

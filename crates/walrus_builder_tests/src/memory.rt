@@ -73,3 +73,7 @@ pub const ROWS: [Row; 22] = [
     (60, 3, 1, 1), // atomic_wait
     (61, 0, 0, 0), // atomic_fence
 ];
+
+/// What each of these names.
+pub const WORDS: &str =
+    "table ; table ; table ; table ; table ; table element ; element ; table table ; memory ; memory ; memory ; memory ; memory ; memory data ; data ; memory memory ; memory ; memory ; memory ; memory ; memory ; ; ";

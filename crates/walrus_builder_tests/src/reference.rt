@@ -1,18 +1,17 @@
 //! The calls for reference, structure and array instructions.
-use crate::rows::Row;
+use crate::rows::{Row, to_type};
 use std::alloc::AllocError;
 use walrus_arena::{DataId, ElementId, FunctionId, TypeId};
 use walrus_builder::InstrSeqBuilder;
-use walrus_types::RefType;
 
 fn add_references(seq: &mut InstrSeqBuilder) -> Result<(), AllocError> {
-    seq.ref_null(RefType::FUNCREF)?;
+    seq.ref_null(to_type(3))?;
     seq.ref_is_null()?;
     seq.ref_func(FunctionId::from_index(3))?;
     seq.ref_eq()?;
     seq.ref_as_non_null()?;
-    seq.ref_test(RefType::FUNCREF)?;
-    seq.ref_cast(RefType::FUNCREF)
+    seq.ref_test(to_type(5))?;
+    seq.ref_cast(to_type(7))
 }
 
 fn add_conversions(seq: &mut InstrSeqBuilder) -> Result<(), AllocError> {
@@ -63,13 +62,13 @@ pub fn add_all(seq: &mut InstrSeqBuilder) -> Result<(), AllocError> {
 
 /// What they add.
 pub const ROWS: [Row; 32] = [
-    (70, 1, 0, 0), // ref_null
+    (70, 3, 0, 0), // ref_null
     (71, 0, 0, 0), // ref_is_null
     (72, 3, 0, 0), // ref_func
     (73, 0, 0, 0), // ref_eq
     (74, 0, 0, 0), // ref_as_non_null
-    (75, 1, 0, 0), // ref_test
-    (76, 1, 0, 0), // ref_cast
+    (75, 5, 0, 0), // ref_test
+    (76, 7, 0, 0), // ref_cast
     (77, 0, 0, 0), // ref_i31
     (78, 0, 0, 0), // i31_get_s
     (79, 0, 0, 0), // i31_get_u
@@ -96,3 +95,7 @@ pub const ROWS: [Row; 32] = [
     (100, 3, 0, 0), // array_fill
     (101, 3, 5, 0), // array_copy
 ];
+
+/// What each of these names.
+pub const WORDS: &str =
+    "type ; ; function ; ; ; type ; type ; ; ; ; ; ; type ; type ; type ; type ; type ; type ; type ; type ; type ; type data ; type element ; type data ; type element ; type ; type ; type ; type ; ; type ; type type ; ";

@@ -1,9 +1,10 @@
 //! Instructions as rows of a table.
+use walrus_arena::TypeId;
 use walrus_instr::{
     AtomicOp, AtomicWidth, BinaryOp, Bits128, Instr, InstrLocId, LoadKind, LoadSimdKind, MemArg,
     StoreKind, TernaryOp, UnaryOp, Value,
 };
-use walrus_types::{RefType, ValType};
+use walrus_types::{HeapType, RefType, ValType};
 
 /// The number of an instruction's form, as the tables of calls count them, and three numbers of its fields in their order.
 /// Of an operator, a type, a constant or a place in memory the number says whether it is the one of the tests; of a list it
@@ -16,11 +17,17 @@ pub const RETURN: u32 = 6;
 
 pub const CALL: u32 = 12;
 
+pub const RETURN_CALL: u32 = 15;
+
 pub const DROP: u32 = 18;
+
+pub const LOCAL_GET: u32 = 29;
 
 pub const LOCAL_TEE: u32 = 31;
 
 pub const LOAD: u32 = 48;
+
+pub const MEMORY_SIZE: u32 = 51;
 
 pub const REF_EQ: u32 = 73;
 
@@ -37,15 +44,39 @@ pub const ARG: MemArg = MemArg {
     offset: 4096,
 };
 
+/// A nullable reference to the type of this number.
+pub fn to_type(number: u32) -> RefType {
+    RefType {
+        nullable: true,
+        heap_type: HeapType::Concrete(TypeId::from_index(number as usize)),
+    }
+}
+
+// The number of the type that a nullable reference names, or one past those of the tests for each reference that names none.
 fn number(ty: &RefType) -> usize {
+    match ty.heap_type {
+        HeapType::Concrete(id) if ty.nullable => id.index(),
+        _ => abstract_number(ty),
+    }
+}
+
+fn abstract_number(ty: &RefType) -> usize {
     if *ty == RefType::FUNCREF {
-        1
+        101
     } else if *ty == RefType::EXTERNREF {
-        2
+        102
     } else if *ty == RefType::I31REF {
-        3
+        103
     } else {
         0
+    }
+}
+
+fn selected(ty: &Option<ValType>) -> usize {
+    match ty {
+        Some(ValType::Ref(ty)) => number(ty),
+        Some(ValType::I64) => 104,
+        _ => 0,
     }
 }
 
@@ -119,7 +150,7 @@ fn call_row(instr: &Instr) -> Option<Row> {
 fn operator_row(instr: &Instr) -> Option<Row> {
     let row = match instr {
         Instr::Drop => (18, 0, 0, 0),
-        Instr::Select { ty } => (19, usize::from(*ty == Some(ValType::I64)), 0, 0),
+        Instr::Select { ty } => (19, selected(ty), 0, 0),
         Instr::Const { value } => (
             20,
             usize::from(*value == Value::V128(Bits128::new(17))),
@@ -300,11 +331,16 @@ fn row(instr: &Instr) -> Option<Row> {
     control.or(memory).or(reference)
 }
 
-/// Just these instructions, without locations.
-pub fn are_rows(instrs: &[(Instr, InstrLocId)], rows: &[Row]) -> bool {
+/// Just these instructions, each with this location.
+pub fn are_rows_at(instrs: &[(Instr, InstrLocId)], rows: &[Row], at: InstrLocId) -> bool {
     let mut agree = instrs.len() == rows.len();
     for ((instr, place), wanted) in instrs.iter().zip(rows) {
-        agree &= place.is_default() && row(instr) == Some(*wanted);
+        agree &= *place == at && row(instr) == Some(*wanted);
     }
     agree
+}
+
+/// Just these instructions, without locations.
+pub fn are_rows(instrs: &[(Instr, InstrLocId)], rows: &[Row]) -> bool {
+    are_rows_at(instrs, rows, InstrLocId::default())
 }

@@ -1,16 +1,15 @@
 //! Walks over sequences, bodies that are trees, and what walks share.
 
 mod bodies;
-mod built;
-mod changing;
+pub mod changing;
 mod constants;
 mod forms;
-mod hooks;
+pub mod hooks;
 mod laws;
 mod log;
 mod log_mut;
-mod refused;
+pub mod refused;
 mod renamer;
 mod sizes;
-mod tests;
-mod trees;
+pub mod tests;
+pub mod trees;

@@ -1,5 +1,5 @@
 //! Sequences that are written: lent, filled, and added to with locations.
-use crate::common::{PLAIN, function};
+use crate::common::PLAIN;
 use std::alloc::{AllocError, Global};
 use walrus_arena::InstrSeqId;
 use walrus_builder::FunctionBuilder;
@@ -87,16 +87,16 @@ fn appends(body: &mut FunctionBuilder, id: InstrSeqId) -> Result<bool, AllocErro
     Ok(are_appended(seq.instrs()))
 }
 
-// Ways to write a sequence.
+/// Ways to write a sequence.
 #[derive(Clone, Copy)]
-enum Way {
+pub enum Way {
     Lent,
     Filled,
     Appended,
 }
 
-// Whether the second of three sequences is written so, and no other.
-fn is_written(alloc: Global, body: &mut FunctionBuilder, way: Way) -> Result<bool, AllocError> {
+/// Whether the second of three sequences is written so, and no other.
+pub fn is_written(alloc: Global, body: &mut FunctionBuilder, way: Way) -> Result<bool, AllocError> {
     let first = add_two(body)?;
     match way {
         Way::Lent => {
@@ -116,18 +116,6 @@ fn is_written(alloc: Global, body: &mut FunctionBuilder, way: Way) -> Result<boo
 
 fn is_long(seqs: &[InstrSeq]) -> bool {
     matches!(seqs, [_, seq, _] if seq.ty == LONG)
-}
-
-fn writes(alloc: Global, way: Way) -> Result<bool, AllocError> {
-    let mut body = function(alloc)?;
-    is_written(alloc, &mut body, way)
-}
-
-#[test]
-fn sequences_are_written(rt: HostRuntime) {
-    for way in [Way::Lent, Way::Filled, Way::Appended] {
-        assert!(rt; writes(rt.alloc(), way) == Ok(true));
-    }
 }
 
 #[test]

@@ -1,182 +1,159 @@
-//! The walk that changes.
+//! The walk that changes, over functions that are built, and over a list.
 use super::log::Log;
+use crate::blocks::holds;
+use crate::common::{PLAIN, add, add_nest};
+use crate::rows::{
+    BLOCK, CALL, LOCAL_GET, LOCAL_TEE, MEMORY_SIZE, RETURN_CALL, Row, UNREACHABLE, are_rows_at,
+};
 use std::alloc::{AllocError, Global};
-use std::test::Fail;
-use walrus_arena::{FunctionId, InstrSeqId, LocalId, MemoryId};
-use walrus_instr::{Instr, InstrLocId, InstrSeq, InstrSeqType, Value};
-use walrus_walks::{check_nesting, dfs_pre_order_mut};
+use walrus_arena::{FunctionId, InstrSeqId, LocalId, MemoryId, TypeId};
+use walrus_builder::{FunctionBuilder, InstrSeqBuilder, check_nesting, dfs_pre_order_mut};
+use walrus_instr::{Instr, InstrLocId, InstrSeq, Value};
 
-fn push_seq(alloc: Global, seqs: &mut Vec<InstrSeq>) -> Result<InstrSeqId, AllocError> {
-    if seqs.len() > u32::MAX as usize {
+// Walks the function, if its body nests.
+fn change(alloc: Global, body: &mut FunctionBuilder) -> Result<(), AllocError> {
+    let start = body.func_body_id();
+    if !check_nesting(alloc, body, start)? {
+        return Ok(());
+    }
+    let mut log = Log::new(alloc);
+    dfs_pre_order_mut(alloc, &mut log, body, start)
+}
+
+// Helpers without contracts, so that what calls them knows nothing of the sequence.
+fn put(seq: &mut InstrSeqBuilder, instr: Instr, place: InstrLocId) -> Result<(), AllocError> {
+    seq.instr_with_location(instr, place)
+}
+
+fn new_seq(body: &mut FunctionBuilder) -> Result<InstrSeqId, AllocError> {
+    body.dangling_instr_seq(PLAIN)
+}
+
+fn add_outer(seq: &mut InstrSeqBuilder, inner: InstrSeqId) -> Result<(), AllocError> {
+    let none = InstrLocId::default();
+    let func = FunctionId::from_index(1);
+    let local = LocalId::from_index(2);
+    put(seq, Instr::Call { func }, none)?;
+    put(seq, Instr::LocalGet { local }, none)?;
+    put(seq, Instr::Drop, none)?;
+    put(seq, Instr::Block { seq: inner }, none)
+}
+
+fn add_inner(seq: &mut InstrSeqBuilder, place: InstrLocId) -> Result<(), AllocError> {
+    let local = LocalId::from_index(2);
+    let func = FunctionId::from_index(1);
+    let memory = MemoryId::from_index(3);
+    put(seq, Instr::LocalTee { local }, place)?;
+    put(seq, Instr::ReturnCall { func }, place)?;
+    put(seq, Instr::Drop, place)?;
+    put(seq, Instr::MemorySize { memory }, place)
+}
+
+const OUTER: [Row; 4] = [
+    (CALL, 11, 0, 0),
+    (LOCAL_GET, 22, 0, 0),
+    (UNREACHABLE, 0, 0, 0),
+    (BLOCK, 1, 0, 0),
+];
+
+const INNER: [Row; 4] = [
+    (LOCAL_TEE, 22, 0, 0),
+    (RETURN_CALL, 11, 0, 0),
+    (UNREACHABLE, 0, 0, 0),
+    (MEMORY_SIZE, 3, 0, 0),
+];
+
+// Fills the body's own sequence, which holds another one, and that one.
+fn fill(body: &mut FunctionBuilder, place: InstrLocId) -> Result<(), AllocError> {
+    let inner = new_seq(body)?;
+    add_outer(body.func_body(), inner)?;
+    if inner.index() >= body.seqs().len() {
         return Err(AllocError);
     }
-    let id = InstrSeqId::from_index(seqs.len());
-    seqs.push(InstrSeq::new(alloc, id, InstrSeqType::Simple(None)))?;
-    Ok(id)
+    add_inner(body.instr_seq(inner), place)
 }
 
-fn push(seqs: &mut [InstrSeq], id: InstrSeqId, instr: Instr) -> Result<(), AllocError> {
-    if let Some(seq) = seqs.get_mut(id.index()) {
-        seq.instrs.push((instr, InstrLocId::new(7)))?;
-    }
-    Ok(())
-}
-
-fn push_five(seqs: &mut [InstrSeq], id: InstrSeqId) -> Result<(), AllocError> {
-    let value = Value::I32(5);
-    push(seqs, id, Instr::Const { value })
-}
-
-// The only instruction of the sequence is that constant.
-fn holds(seqs: &[InstrSeq], id: InstrSeqId, value: i32) -> bool {
-    match seqs.get(id.index()) {
-        Some(seq) => {
-            matches!(seq.instrs.as_slice(), [(Instr::Const { value: Value::I32(n) }, _)] if *n == value)
-        }
+// Whether the sequence has just these instructions, at this place.
+fn has_rows(seqs: &[InstrSeq], id: usize, rows: &[Row], place: InstrLocId) -> bool {
+    match seqs.get(id) {
+        Some(seq) => are_rows_at(seq.instrs.as_slice(), rows, place),
         None => false,
     }
 }
 
-fn instrs_of(seqs: &[InstrSeq], id: InstrSeqId) -> &[(Instr, InstrLocId)] {
-    match seqs.get(id.index()) {
-        Some(seq) => seq.instrs.as_slice(),
-        None => &[],
-    }
+fn are_renamed(seqs: &[InstrSeq], place: InstrLocId) -> bool {
+    has_rows(seqs, 0, &OUTER, InstrLocId::default()) && has_rows(seqs, 1, &INNER, place)
 }
 
-// Walks the sequences from the first, if they nest.
-fn change(alloc: Global, seqs: &mut [InstrSeq]) -> Result<(), AllocError> {
+/// Whether what two sequences name is changed, each where it stands.
+pub fn is_renamed(alloc: Global, body: &mut FunctionBuilder) -> Result<bool, AllocError> {
+    let place = InstrLocId::new(7);
+    fill(body, place)?;
+    change(alloc, body)?;
+    Ok(body.ty() == TypeId::from_index(0) && are_renamed(body.seqs(), place))
+}
+
+fn copy_all(seqs: &[InstrSeq], copies: &mut Vec<InstrSeq>) -> Result<(), AllocError> {
+    for seq in seqs {
+        copies.push(seq.clone()?)?;
+    }
+    Ok(())
+}
+
+// Walks the list from its first sequence, if that nests.
+fn change_list(alloc: Global, seqs: &mut [InstrSeq]) -> Result<(), AllocError> {
     let start = InstrSeqId::from_index(0);
-    if !check_nesting(alloc, seqs, start)? {
+    if !walrus_walks::check_nesting(alloc, seqs, start)? {
         return Ok(());
     }
     let mut log = Log::new(alloc);
-    dfs_pre_order_mut(alloc, &mut log, seqs, start)
+    walrus_walks::dfs_pre_order_mut(alloc, &mut log, seqs, start)
 }
 
-fn add_outer(
-    seqs: &mut [InstrSeq],
-    start: InstrSeqId,
-    inner: InstrSeqId,
-) -> Result<(), AllocError> {
-    let func = FunctionId::from_index(1);
-    let local = LocalId::from_index(2);
-    push(seqs, start, Instr::Call { func })?;
-    push(seqs, start, Instr::LocalGet { local })?;
-    push(seqs, start, Instr::Block { seq: inner })
-}
-
-fn add_inner(seqs: &mut [InstrSeq], inner: InstrSeqId) -> Result<(), AllocError> {
-    let func = FunctionId::from_index(1);
-    let local = LocalId::from_index(2);
-    let memory = MemoryId::from_index(3);
-    push(seqs, inner, Instr::LocalTee { local })?;
-    push(seqs, inner, Instr::ReturnCall { func })?;
-    push(seqs, inner, Instr::Drop)?;
-    push(seqs, inner, Instr::MemorySize { memory })
-}
-
-fn is_outer_changed(instrs: &[(Instr, InstrLocId)]) -> bool {
-    match instrs {
-        [
-            (Instr::Call { func }, _),
-            (Instr::LocalGet { local }, _),
-            (Instr::Block { seq }, _),
-        ] => func.index() == 11 && local.index() == 22 && seq.index() == 1,
-        _ => false,
-    }
-}
-
-fn is_inner_changed(instrs: &[(Instr, InstrLocId)]) -> bool {
-    match instrs {
-        [
-            (Instr::LocalTee { local }, _),
-            (Instr::ReturnCall { func }, _),
-            (Instr::Unreachable, place),
-            (Instr::MemorySize { memory }, _),
-        ] => {
-            local.index() == 22 && func.index() == 11 && place.data() == 7 && memory.index() == 3
-        }
-        _ => false,
-    }
-}
-
-// Two empty sequences.
-fn two(alloc: Global) -> Result<Vec<InstrSeq>, AllocError> {
-    let mut seqs = Vec::new(alloc);
-    push_seq(alloc, &mut seqs)?;
-    push_seq(alloc, &mut seqs)?;
-    Ok(seqs)
-}
-
-// Fills the first, which holds the second, and the second.
-fn fill(seqs: &mut [InstrSeq], start: InstrSeqId, inner: InstrSeqId) -> Result<(), AllocError> {
-    add_outer(seqs, start, inner)?;
-    add_inner(seqs, inner)
-}
-
-fn are_renamed(alloc: Global, seqs: &mut [InstrSeq]) -> Result<bool, AllocError> {
-    let (start, inner) = (InstrSeqId::from_index(0), InstrSeqId::from_index(1));
-    fill(seqs, start, inner)?;
-    change(alloc, seqs)?;
-    Ok(is_outer_changed(instrs_of(seqs, start)) && is_inner_changed(instrs_of(seqs, inner)))
-}
-
-#[test]
-fn renames(rt: HostRuntime) -> Result<(), Fail> {
-    let mut seqs = two(rt.alloc())?;
-    assert!(rt; are_renamed(rt.alloc(), seqs.as_mut_slice())?);
-    Ok(())
-}
-
-// Two instructions of the first sequence hold the other, which has a constant.
-fn share(seqs: &mut [InstrSeq], shared: InstrSeqId) -> Result<(), AllocError> {
-    let start = InstrSeqId::from_index(0);
-    push(seqs, start, Instr::Block { seq: shared })?;
-    push(seqs, start, Instr::Loop { seq: shared })?;
-    push_five(seqs, shared)
-}
-
-fn is_changed_twice(alloc: Global, seqs: &mut [InstrSeq]) -> Result<bool, AllocError> {
-    let shared = InstrSeqId::from_index(1);
-    share(seqs, shared)?;
-    change(alloc, seqs)?;
-    Ok(holds(seqs, shared, 7))
-}
-
-// A sequence that two instructions hold is handed over twice, the second time as it was left.
-#[test]
-fn shared_sequence_is_changed_twice(rt: HostRuntime) -> Result<(), Fail> {
-    let mut seqs = two(rt.alloc())?;
-    assert!(rt; is_changed_twice(rt.alloc(), seqs.as_mut_slice())?);
-    Ok(())
-}
-
-fn add_nest(alloc: Global, seqs: &mut Vec<InstrSeq>) -> Result<InstrSeqId, AllocError> {
-    let mut outer = push_seq(alloc, seqs)?;
-    for _ in 0..100_000 {
-        let seq = push_seq(alloc, seqs)?;
-        push(seqs.as_mut_slice(), outer, Instr::Block { seq })?;
-        outer = seq;
-    }
-    Ok(outer)
-}
-
-// Whether a five in the innermost of the nest is changed.
-fn is_changed(
+// Of copies of these sequences.
+fn are_copies_renamed(
     alloc: Global,
-    seqs: &mut [InstrSeq],
-    innermost: InstrSeqId,
+    seqs: &[InstrSeq],
+    place: InstrLocId,
 ) -> Result<bool, AllocError> {
-    push_five(seqs, innermost)?;
-    change(alloc, seqs)?;
-    Ok(innermost.index() == 100_000 && holds(seqs, innermost, 6))
+    let mut copies = Vec::new(alloc);
+    copy_all(seqs, &mut copies)?;
+    change_list(alloc, &mut copies)?;
+    Ok(are_renamed(&copies, place))
 }
 
-#[test]
-fn deep_nest_is_changed(rt: HostRuntime) -> Result<(), Fail> {
-    let mut seqs = Vec::new(rt.alloc());
-    let innermost = add_nest(rt.alloc(), &mut seqs)?;
-    assert!(rt; is_changed(rt.alloc(), seqs.as_mut_slice(), innermost)?);
-    Ok(())
+/// The same over a list of the two sequences.
+pub fn is_list_renamed(alloc: Global, body: &mut FunctionBuilder) -> Result<bool, AllocError> {
+    let place = InstrLocId::new(7);
+    fill(body, place)?;
+    are_copies_renamed(alloc, body.seqs(), place)
+}
+
+fn add_five(body: &mut FunctionBuilder, id: InstrSeqId) -> Result<(), AllocError> {
+    let value = Value::I32(5);
+    add(body, id, Instr::Const { value })
+}
+
+// Two instructions hold a sequence, which has a constant.
+fn share(body: &mut FunctionBuilder) -> Result<(), AllocError> {
+    let seq = new_seq(body)?;
+    let outer = body.func_body_id();
+    add(body, outer, Instr::Block { seq })?;
+    add(body, outer, Instr::Loop { seq })?;
+    add_five(body, seq)
+}
+
+/// A sequence that two instructions hold is handed over twice, the second time as it was left.
+pub fn is_changed_twice(alloc: Global, body: &mut FunctionBuilder) -> Result<bool, AllocError> {
+    share(body)?;
+    change(alloc, body)?;
+    Ok(holds(body, 1, PLAIN, 7))
+}
+
+/// Whether a five in the innermost of a nest is changed.
+pub fn is_nest_changed(alloc: Global, body: &mut FunctionBuilder) -> Result<bool, AllocError> {
+    let innermost = add_nest(body)?;
+    add_five(body, innermost)?;
+    change(alloc, body)?;
+    Ok(holds(body, 100_000, PLAIN, 6))
 }

@@ -1,59 +1,51 @@
 //! Each form of instruction tells of what it names, in both walks.
-use super::forms::{
-    AGGREGATE_WORDS, CONTROL_WORDS, MEMORY_WORDS, OPERAND_WORDS, OTHER_WORDS, STRUCTURED_WORDS,
-    TABLE_WORDS, aggregate_forms, control_forms, memory_forms, operand_forms, other_forms,
-    structured_forms, table_forms,
-};
+//!
+//! The words follow the fields of the form, and `;` stands behind those of each form. (A text in each row takes
+//! far longer to prove.) A count, a lane, a depth, an offset or the number of a
+//! field is no id and has no word; nor has a sequence that is held.
+use super::forms::{OTHER_WORDS, STRUCTURED_WORDS, add_other, add_structured};
 use super::log::Log;
+use crate::calls::{self, Family};
+use crate::common::PLAIN;
+use crate::rows::to_type;
+use crate::{control, memory, reference};
 use std::alloc::{AllocError, Global};
-use std::test::Fail;
-use walrus_arena::{InstrSeqId, TypeId};
-use walrus_instr::{Instr, InstrLocId, InstrSeq, InstrSeqType};
-use walrus_types::{HeapType, RefType, ValType};
-use walrus_walks::{Visit, VisitMut, check_nesting, dfs_in_order, dfs_pre_order_mut};
+use walrus_arena::TypeId;
+use walrus_builder::{FunctionBuilder, InstrSeqBuilder, dfs_pre_order_mut};
+use walrus_instr::{Instr, InstrLocId, InstrSeqType};
+use walrus_types::ValType;
+use walrus_walks::{Visit, VisitMut, check_nesting, dfs_in_order};
 
-// The forms, by what they work on.
+/// The forms, by what adds them.
 #[derive(Clone, Copy)]
-enum Family {
+pub enum Forms {
     Structured,
-    Control,
-    Operand,
-    Table,
-    Memory,
-    Aggregate,
+    Called(Family),
     Other,
 }
 
-const FORMS: [Family; 6] = [
-    Family::Structured,
-    Family::Control,
-    Family::Operand,
-    Family::Table,
-    Family::Memory,
-    Family::Aggregate,
+const FORMS: [Forms; 4] = [
+    Forms::Structured,
+    Forms::Called(Family::Control),
+    Forms::Called(Family::Memory),
+    Forms::Called(Family::Reference),
 ];
 
-fn forms_of(alloc: Global, family: Family) -> Result<Vec<Instr>, AllocError> {
-    match family {
-        Family::Structured => structured_forms(alloc),
-        Family::Control => control_forms(alloc),
-        Family::Operand => operand_forms(alloc),
-        Family::Table => table_forms(alloc),
-        Family::Memory => memory_forms(alloc),
-        Family::Aggregate => aggregate_forms(alloc),
-        Family::Other => other_forms(alloc),
+fn add(alloc: Global, seq: &mut InstrSeqBuilder, forms: Forms) -> Result<(), AllocError> {
+    match forms {
+        Forms::Structured => add_structured(alloc, seq),
+        Forms::Called(family) => calls::add(alloc, seq, family),
+        Forms::Other => add_other(alloc, seq),
     }
 }
 
-fn words_of(family: Family) -> &'static str {
-    match family {
-        Family::Structured => STRUCTURED_WORDS,
-        Family::Control => CONTROL_WORDS,
-        Family::Operand => OPERAND_WORDS,
-        Family::Table => TABLE_WORDS,
-        Family::Memory => MEMORY_WORDS,
-        Family::Aggregate => AGGREGATE_WORDS,
-        Family::Other => OTHER_WORDS,
+fn words_of(forms: Forms) -> &'static str {
+    match forms {
+        Forms::Structured => STRUCTURED_WORDS,
+        Forms::Called(Family::Control) => control::WORDS,
+        Forms::Called(Family::Memory) => memory::WORDS,
+        Forms::Called(Family::Reference) => reference::WORDS,
+        Forms::Other => OTHER_WORDS,
     }
 }
 
@@ -67,72 +59,58 @@ fn tell_changing(log: &mut Log, instr: &mut Instr) {
     log.word(";")
 }
 
-// Whether each form of the family tells of what it names, in both walks.
-fn are_told(alloc: Global, family: Family) -> Result<bool, AllocError> {
-    let forms = forms_of(alloc, family)?;
-    let mut told = Log::new(alloc);
-    let mut changing = Log::new(alloc);
-    for mut instr in forms {
-        tell(&mut told, &instr);
-        tell_changing(&mut changing, &mut instr);
+fn are_told(alloc: Global, instrs: &[(Instr, InstrLocId)], words: &str) -> bool {
+    let mut log = Log::new(alloc);
+    for (instr, _place) in instrs {
+        tell(&mut log, instr);
     }
-    let words = words_of(family);
-    Ok(told.says(words) && changing.says(words))
+    log.says(words)
 }
 
-#[test]
-fn each_form_tells_of_what_it_names(rt: HostRuntime) {
-    for family in FORMS {
-        assert!(rt; are_told(rt.alloc(), family) == Ok(true));
+fn are_told_changing(alloc: Global, instrs: &mut [(Instr, InstrLocId)], words: &str) -> bool {
+    let mut log = Log::new(alloc);
+    for (instr, _place) in instrs {
+        tell_changing(&mut log, instr);
     }
-    assert!(rt; are_told(rt.alloc(), Family::Other) == Ok(true));
+    log.says(words)
 }
 
-fn add_family(
+/// Whether each of these forms tells of what it names, in both walks.
+pub fn tell_names(
     alloc: Global,
-    instrs: &mut Vec<(Instr, InstrLocId)>,
-    family: Family,
-) -> Result<(), AllocError> {
-    for instr in forms_of(alloc, family)? {
-        instrs.push((instr, InstrLocId::default()))?;
-    }
-    Ok(())
+    seq: &mut InstrSeqBuilder,
+    forms: Forms,
+) -> Result<bool, AllocError> {
+    add(alloc, seq, forms)?;
+    let words = words_of(forms);
+    let is_told = are_told(alloc, seq.instrs(), words);
+    Ok(is_told && are_told_changing(alloc, seq.instrs_mut().as_mut_slice(), words))
 }
 
 // Each form once.
-fn add_forms(alloc: Global, instrs: &mut Vec<(Instr, InstrLocId)>) -> Result<(), AllocError> {
-    for family in FORMS {
-        add_family(alloc, instrs, family)?;
+fn add_all(alloc: Global, seq: &mut InstrSeqBuilder) -> Result<(), AllocError> {
+    for forms in FORMS {
+        add(alloc, seq, forms)?;
     }
     Ok(())
 }
 
-fn own(alloc: Global) -> Result<InstrSeq, AllocError> {
-    let plain = InstrSeqType::Simple(None);
-    let mut own = InstrSeq::new(alloc, InstrSeqId::from_index(0), plain);
-    add_forms(alloc, &mut own.instrs)?;
-    Ok(own)
+// The types of the sequences 1 to 8, of which two name a type.
+fn block_type(index: u32) -> InstrSeqType {
+    match index {
+        2 => InstrSeqType::MultiValue(TypeId::from_index(0)),
+        3 => InstrSeqType::Simple(Some(ValType::Ref(to_type(0)))),
+        _ => PLAIN,
+    }
 }
 
-// A body with each form once, of whose block types two name a type.
-fn body(alloc: Global) -> Result<Vec<InstrSeq>, AllocError> {
-    let ty = TypeId::from_index(0);
-    let plain = InstrSeqType::Simple(None);
-    let named = InstrSeqType::Simple(Some(ValType::Ref(RefType {
-        nullable: false,
-        heap_type: HeapType::Exact(ty),
-    })));
-    let mut seqs = Vec::new(alloc);
-    seqs.push(own(alloc)?)?;
+// A body with each form once.
+fn fill(alloc: Global, body: &mut FunctionBuilder) -> Result<(), AllocError> {
+    add_all(alloc, body.func_body())?;
     for index in 1..9 {
-        let block_type = match index {
-            2 => InstrSeqType::MultiValue(ty),
-            3 => named,
-            _ => plain,
-        };
-        seqs.push(InstrSeq::new(alloc, InstrSeqId::from_index(index), block_type))?;
+        body.dangling_instr_seq(block_type(index))?;
     }
-    Ok(seqs)
+    Ok(())
 }
 
 // By the table of operators, for 93 forms in one sequence and the empty ones that they hold.
@@ -184,30 +162,28 @@ fn are_counted(log: &Log) -> bool {
     agree
 }
 
-fn counts(alloc: Global, seqs: &[InstrSeq]) -> Result<bool, AllocError> {
-    let start = InstrSeqId::from_index(0);
-    if !check_nesting(alloc, seqs, start)? {
+fn counts(alloc: Global, body: &FunctionBuilder) -> Result<bool, AllocError> {
+    let start = body.func_body_id();
+    if !check_nesting(alloc, body.seqs(), start)? {
         return Ok(false);
     }
     let mut log = Log::new(alloc);
-    dfs_in_order(alloc, &mut log, seqs, start)?;
+    dfs_in_order(alloc, &mut log, body.seqs(), start)?;
     Ok(are_counted(&log))
 }
 
-fn counts_changing(alloc: Global, seqs: &mut [InstrSeq]) -> Result<bool, AllocError> {
-    let start = InstrSeqId::from_index(0);
-    if !check_nesting(alloc, seqs, start)? {
+fn counts_changing(alloc: Global, body: &mut FunctionBuilder) -> Result<bool, AllocError> {
+    let start = body.func_body_id();
+    if !check_nesting(alloc, body.seqs(), start)? {
         return Ok(false);
     }
     let mut log = Log::new(alloc);
-    dfs_pre_order_mut(alloc, &mut log, seqs, start)?;
+    dfs_pre_order_mut(alloc, &mut log, body, start)?;
     Ok(are_counted(&log))
 }
 
-#[test]
-fn each_hook_is_counted(rt: HostRuntime) -> Result<(), Fail> {
-    let mut seqs = body(rt.alloc())?;
-    assert!(rt; counts(rt.alloc(), seqs.as_slice())?);
-    assert!(rt; counts_changing(rt.alloc(), seqs.as_mut_slice())?);
-    Ok(())
+/// Whether each hook is called as often as it is to be, in both walks.
+pub fn count_forms(alloc: Global, body: &mut FunctionBuilder) -> Result<bool, AllocError> {
+    fill(alloc, body)?;
+    Ok(counts(alloc, body)? && counts_changing(alloc, body)?)
 }

@@ -1,9 +1,8 @@
 //! What a refused walk leaves. `rt try --test --fail-alloc N` refuses the Nth growth: for some N one of
 //! the list of a walk, which grows twice here. With none refused the walks are whole.
 use super::log::Log;
-use crate::common::{PLAIN, add, function};
+use crate::common::{PLAIN, add};
 use std::alloc::{AllocError, Global};
-use std::test::Fail;
 use walrus_builder::{FunctionBuilder, check_nesting, dfs_in_order, dfs_pre_order_mut};
 use walrus_instr::{Instr, InstrSeqType};
 
@@ -64,15 +63,8 @@ const IN_ORDER: &str =
 const PRE_ORDER: &str =
     "start block end start block end start block end start block end start block block block block block end start end start end start end start end start end ";
 
-// Whether both walks do so.
-fn are_told(alloc: Global, body: &mut FunctionBuilder) -> Result<bool, AllocError> {
+/// Whether both walks have told a front, whatever becomes of them.
+pub fn are_told(alloc: Global, body: &mut FunctionBuilder) -> Result<bool, AllocError> {
     add_blocks(body)?;
     Ok(told_in_order(alloc, body, IN_ORDER)? && told_changing(alloc, body, PRE_ORDER)?)
-}
-
-#[test]
-fn a_refused_walk_has_told_a_front(rt: HostRuntime) -> Result<(), Fail> {
-    let mut body = function(rt.alloc())?;
-    assert!(rt; are_told(rt.alloc(), &mut body)?);
-    Ok(())
 }

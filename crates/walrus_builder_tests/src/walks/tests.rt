@@ -213,12 +213,10 @@ fn none_nests(alloc: Global, body: &FunctionBuilder) -> Result<bool, AllocError>
     Ok(!check_nesting(alloc, body, body.func_body_id())? && !check_nesting(alloc, body, unknown)?)
 }
 
-#[test]
-fn holds_itself(rt: HostRuntime) -> Result<(), Fail> {
-    let mut body = function(rt.alloc())?;
-    add_self(&mut body)?;
-    assert!(rt; none_nests(rt.alloc(), &body)?);
-    Ok(())
+/// Whether a body that holds itself doesn't nest.
+pub fn holds_itself(alloc: Global, body: &mut FunctionBuilder) -> Result<bool, AllocError> {
+    add_self(body)?;
+    none_nests(alloc, body)
 }
 
 // How many instructions the body's own sequence has.

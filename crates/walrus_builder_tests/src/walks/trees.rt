@@ -317,20 +317,14 @@ const NEST: [(Form, bool); 3] = [
     (Form::Rethrow(100_001), false),
 ];
 
-fn counts_frames(alloc: Global, body: &mut FunctionBuilder) -> Result<bool, AllocError> {
+/// Whether depths in a nest of 100,000 blocks are counted to its last frame.
+pub fn counts_frames(alloc: Global, body: &mut FunctionBuilder) -> Result<bool, AllocError> {
     let last = add_nest(body)?;
     let mut agree = true;
     for (form, wanted) in NEST {
         agree &= stays(alloc, body, last, form)? == wanted;
     }
     Ok(agree)
-}
-
-#[test]
-fn deep_nest(rt: HostRuntime) -> Result<(), Fail> {
-    let mut body = function(rt.alloc())?;
-    assert!(rt; counts_frames(rt.alloc(), &mut body)?);
-    Ok(())
 }
 
 #[test]
