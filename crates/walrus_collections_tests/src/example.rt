@@ -3,7 +3,7 @@ use crate::held::are_held;
 use crate::modules::{add_caller, unit_type};
 use std::alloc::{AllocError, Global};
 use walrus_arena::{FunctionId, GlobalId, MemoryId, TableId};
-use walrus_collections::Collection;
+use walrus_collections::{Collection, ModuleFunctions};
 use walrus_errors::ModuleError;
 use walrus_forms::{RefType, ValType};
 use walrus_instr::{ConstExpr, Value};
@@ -70,7 +70,8 @@ fn is_filled(alloc: Global, module: &mut Module) -> bool {
     fill(alloc, module).is_ok()
 }
 
-fn count<T, S>(items: &Collection<T, S>) -> usize {
+/// How many items live.
+pub fn count<T, S>(items: &Collection<T, S>) -> usize {
     let mut found = 0usize;
     for _ in items.ids() {
         found = found.saturating_add(1);
@@ -78,9 +79,10 @@ fn count<T, S>(items: &Collection<T, S>) -> usize {
     found
 }
 
-fn with_body(module: &Module) -> usize {
+/// How many functions have a body.
+pub fn with_body(functions: &ModuleFunctions) -> usize {
     let mut found = 0usize;
-    for _ in module.funcs.iter_local() {
+    for _ in functions.iter_local() {
         found = found.saturating_add(1);
     }
     found
@@ -102,7 +104,7 @@ fn counts(module: &Module) -> [usize; 6] {
         module.memories.len(),
         count(&module.globals),
         count(&module.tags),
-        with_body(module),
+        with_body(&module.funcs),
     ]
 }
 

@@ -1,71 +1,89 @@
 //! Tests of whole modules. One function owns the module that all of them ask, since each that owns one is dear to prove.
+use crate::collections::{adds_with_element, finds_export, finds_lowest_import, gives_only_table};
 use crate::example::{are_as_given, are_counted, are_found, gives_only_memory};
+use crate::imported::{
+    finds_import, finds_local_function, function_holds_its_body, items_name_their_imports,
+    removes_root,
+};
 use crate::modules::empty;
 use crate::replaced::{each_export_is_replaced, first_export_is_replaced, import_is_replaced};
-use std::alloc::Global;
+use std::alloc::{AllocError, Global};
 use walrus_module::Module;
 
 // What is asked of a module.
 #[derive(Clone, Copy)]
 enum Row {
+    // Each collection has as many items as it was given, and holds them as given; imports and exports are found by name.
     Counted,
     AsGiven,
     Found,
     OnlyMemory,
+    // functions in the place of others
     FirstExport,
     EachExport,
     Import,
+    // single collections
+    FoundExport,
+    LowestImport,
+    OnlyTable,
+    FirstElement,
+    // items that imports bring, and bodies
+    NamedImports,
+    FoundImport,
+    RemovedRoot,
+    Body,
+    FoundFunction,
 }
 
-fn is_met(row: Row, alloc: Global, module: &mut Module) -> bool {
+fn is_met(row: Row, alloc: Global, module: &mut Module) -> Result<bool, AllocError> {
     match row {
-        Row::Counted => are_counted(alloc, module),
-        Row::AsGiven => are_as_given(alloc, module),
-        Row::Found => are_found(alloc, module),
-        Row::OnlyMemory => gives_only_memory(module),
-        Row::FirstExport => first_export_is_replaced(alloc, module),
-        Row::EachExport => each_export_is_replaced(alloc, module),
-        Row::Import => import_is_replaced(module),
+        Row::Counted => Ok(are_counted(alloc, module)),
+        Row::AsGiven => Ok(are_as_given(alloc, module)),
+        Row::Found => Ok(are_found(alloc, module)),
+        Row::OnlyMemory => Ok(gives_only_memory(module)),
+        Row::FirstExport => Ok(first_export_is_replaced(alloc, module)),
+        Row::EachExport => Ok(each_export_is_replaced(alloc, module)),
+        Row::Import => Ok(import_is_replaced(module)),
+        Row::FoundExport => finds_export(&mut module.exports),
+        Row::LowestImport => finds_lowest_import(&mut module.imports),
+        Row::OnlyTable => gives_only_table(&mut module.tables),
+        Row::FirstElement => adds_with_element(&mut module.tables),
+        Row::NamedImports => items_name_their_imports(module),
+        Row::FoundImport => finds_import(&mut module.imports),
+        Row::RemovedRoot => removes_root(&mut module.exports),
+        Row::Body => function_holds_its_body(alloc, &mut module.types),
+        Row::FoundFunction => finds_local_function(alloc, module),
     }
 }
 
 // Whether a module that begins without items meets this.
-fn holds(row: Row, alloc: Global) -> bool {
+fn holds(row: Row, alloc: Global) -> Result<bool, AllocError> {
     let mut module = empty(alloc);
     is_met(row, alloc, &mut module)
 }
 
-#[test]
-fn each_collection_has_as_many_items_as_it_was_given(rt: HostRuntime) {
-    assert!(rt; holds(Row::Counted, rt.alloc()));
-}
+const ROWS: [Row; 16] = [
+    Row::Counted,
+    Row::AsGiven,
+    Row::Found,
+    Row::OnlyMemory,
+    Row::FirstExport,
+    Row::EachExport,
+    Row::Import,
+    Row::FoundExport,
+    Row::LowestImport,
+    Row::OnlyTable,
+    Row::FirstElement,
+    Row::NamedImports,
+    Row::FoundImport,
+    Row::RemovedRoot,
+    Row::Body,
+    Row::FoundFunction,
+];
 
 #[test]
-fn each_collection_holds_its_items_as_given(rt: HostRuntime) {
-    assert!(rt; holds(Row::AsGiven, rt.alloc()));
-}
-
-#[test]
-fn imports_and_exports_are_found_by_name(rt: HostRuntime) {
-    assert!(rt; holds(Row::Found, rt.alloc()));
-}
-
-#[test]
-fn the_only_memory_is_given(rt: HostRuntime) {
-    assert!(rt; holds(Row::OnlyMemory, rt.alloc()));
-}
-
-#[test]
-fn the_first_export_of_a_function_names_another(rt: HostRuntime) {
-    assert!(rt; holds(Row::FirstExport, rt.alloc()));
-}
-
-#[test]
-fn each_export_is_replaced_in_turn(rt: HostRuntime) {
-    assert!(rt; holds(Row::EachExport, rt.alloc()));
-}
-
-#[test]
-fn an_imported_function_gets_a_body(rt: HostRuntime) {
-    assert!(rt; holds(Row::Import, rt.alloc()));
+fn modules_do_what_is_asked(rt: HostRuntime) {
+    for row in ROWS {
+        assert!(rt; holds(row, rt.alloc()) == Ok(true));
+    }
 }
