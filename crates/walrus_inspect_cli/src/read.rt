@@ -1,8 +1,9 @@
 //! A file becomes a module, and its items are counted.
 
-ghost use Rattle.std.specs.Prelude.{IfErr, IfOk};
+ghost use Rattle.std.specs.Prelude.{◌≡◌, IfErr, IfOk, false, true};
+ghost use Rattle.walrus_counts.specs.Counts.{AreCounts};
 ghost use Rattle.walrus_counts.specs.walrus_module.Parts.{parts};
-ghost use Rattle.walrus_inspect_cli.specs.Inspected.{AreTold, Inspects, IsUntold};
+ghost use Rattle.walrus_inspect_cli.specs.Inspected.{AreKeptCounts, Inspects, IsUncounted, IsUntold};
 
 use crate::none::NoSection;
 use inspect_program::Inspector;
@@ -36,15 +37,27 @@ impl Inspector for Modules {
     }
 }
 
+// Counts the items of what is kept of the module.
+fn count_kept(alloc: Global, input: &mut Module<NoSection>) -> Result<Counts>
+    ensures told { IfOk result (AreKeptCounts (parts input.old)) }
+    ensures refused { IfErr result (IsUntold true (parts input.old)) }
+{
+    gc::run(alloc, input)?;
+    count(alloc, input)
+}
+
 // Counts the items of the module, or just what is kept of it.
 fn count_in(alloc: Global, mut input: Module<NoSection>, kept: bool) -> Result<Counts>
-    ensures told { IfOk result (AreTold kept (parts input)) }
-    ensures refused { IfErr result (IsUntold kept (parts input)) }
+    ensures whole { kept ≡ false → IfOk result (AreCounts (parts input)) }
+    ensures kept { kept ≡ true → IfOk result (AreKeptCounts (parts input)) }
+    ensures uncounted { kept ≡ false → IfErr result (IsUncounted (parts input)) }
+    ensures untold { kept ≡ true → IfErr result (IsUntold true (parts input)) }
 {
-    if kept {
-        gc::run(alloc, &mut input)?;
-    }
-    let counts = count(alloc, &input);
+    let counts = if kept {
+        count_kept(alloc, &mut input)
+    } else {
+        count(alloc, &input)
+    };
     // The program ends next, and giving back each list of a large module would take longer than counting what is in it.
     mem::forget(input);
     counts
