@@ -35,7 +35,7 @@ module _ {B : Type 0} (roots : B → Option (List Item)) (none : (b : B) → roo
   pub refused_none : (xs : List (ℕ × Section B)) (m : Module) (e : ModuleError) → IsRefusedAsked m (pushed roots xs) e → IsRefused m [] e
   refused_none xs m e h = subst (λ (o : Option (List Item)). IsRefusedAsked m o e) (none_pushed xs) h
 
--- what a section pushes that a program brings, of which there is none here
+-- what a section of the program's own would push
 abbrev pub nothing : NoSection → Option (List Item)
 nothing b = Some []
 
