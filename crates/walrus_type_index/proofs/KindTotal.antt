@@ -13,7 +13,7 @@ use Rattle.walrus_items.specs.walrus_forms.contracts.value.FieldTypeOrd.TheImpl.
 use Rattle.walrus_items.specs.walrus_forms.Forms.{Form, FunctionForm, StructForm, ArrayForm}
 use Rattle.walrus_items.specs.walrus_forms.Kinds.{Kind}
 use Rattle.walrus_items.specs.walrus_forms.Order.{form_cmp, kind_cmp}
-use Rattle.walrus_type_index.specs.Places.{place_at, place_cmp, id_cmp}
+use Rattle.walrus_type_index.specs.Places.{Hashed, place_at, place_cmp, id_cmp, hashed_cmp}
 
 -- a form as a number and lists
 record Code : Type 0 where
@@ -72,3 +72,13 @@ places = then_total (on_total (λ (p : Option Kind × Bool). p.0) (options_total
 
 pub ids : (ks : List (Option Kind)) → IsTotalOrder (id_cmp ks)
 ids ks = then_total (on_total (place_at ks) places) nat_cmp_total
+
+pub hashed_ids : (ks : List (Option Kind)) → IsTotalOrder (hashed_cmp ks)
+hashed_ids ks = then_total (on_total (λ (x : Hashed). x.hash) nat_cmp_total) (on_total (λ (x : Hashed). x.id) (ids ks))
+
+-- hashes and places
+abbrev pub spot_cmp : ℕ × (Option Kind × Bool) → ℕ × (Option Kind × Bool) → Ordering
+spot_cmp a b = ordering_then (nat_cmp a.0 b.0) (place_cmp a.1 b.1)
+
+pub spots : IsTotalOrder spot_cmp
+spots = then_total (on_total (λ (p : ℕ × (Option Kind × Bool)). p.0) nat_cmp_total) (on_total (λ (p : ℕ × (Option Kind × Bool)). p.1) places)

@@ -1,6 +1,7 @@
 pub mod Ordered
 pub mod OrderedLaws
 pub mod Places
+pub mod Hashes
 pub mod Targets
 pub mod Tree
 -- Passed on to crates above, which then list this one alone.

@@ -1,4 +1,4 @@
--- How the types of a table are ordered: by kind, then those that name themselves last, then by id.
+-- How the types of a table are ordered: by hash, then by kind, then those that name themselves last, then by id.
 use Rattle.std.specs.Prelude.{ℕ, Bool, false, not, ◌==◌, List, [], ◌∷◌, map, Option, Some, None, slice_index_or, if◌then◌else◌}
 use Rattle.std.specs.declared.cmp.Ordering.{Ordering}
 use Rattle.std.specs.Ordering.{ordering_then, bool_cmp, nat_cmp, is_gt, is_lt, is_eq}
@@ -8,6 +8,8 @@ use Rattle.walrus_items.specs.walrus_forms.Kinds.{Kind, kind_names}
 use Rattle.walrus_items.specs.walrus_forms.Order.{kind_cmp}
 use Rattle.walrus_items.specs.declared.subtype.Type.{«Type» as TypeItem}
 use Rattle.walrus_items.specs.Items.{kind_of}
+pub use Rattle.walrus_type_index.specs.declared.node.Hashed.{Hashed}
+use Rattle.walrus_type_index.specs.Hashes.{hash_at}
 
 -- the kinds of the live types, by id
 abbrev pub kinds_in : List (Option TypeItem) → List (Option Kind)
@@ -32,26 +34,50 @@ place_cmp a b = ordering_then (option_cmp kind_cmp a.0 b.0) (bool_cmp a.1 b.1)
 abbrev pub id_cmp : List (Option Kind) → ℕ → ℕ → Ordering
 id_cmp kinds a b = ordering_then (place_cmp (place_at kinds a) (place_at kinds b)) (nat_cmp a b)
 
--- whether the id stands before the other
-abbrev pub is_before : List (Option Kind) → ℕ → ℕ → Bool
-is_before kinds a b = is_lt (id_cmp kinds a b)
+-- by hash, then as ids
+abbrev pub hashed_cmp : List (Option Kind) → Hashed → Hashed → Ordering
+hashed_cmp kinds a b = ordering_then (nat_cmp a.hash b.hash) (id_cmp kinds a.id b.id)
+
+-- whether the one stands before the other
+abbrev pub is_before : List (Option Kind) → Hashed → Hashed → Bool
+is_before kinds a b = is_lt (hashed_cmp kinds a b)
+
+-- whether neither stands before the other
+abbrev pub is_tied : List (Option Kind) → Hashed → Hashed → Bool
+is_tied kinds a b = is_eq (hashed_cmp kinds a b)
+
+-- the id behind its type's hash
+abbrev pub hashed_at : List (Option Kind) → ℕ → Hashed
+hashed_at kinds id = record { hash = hash_at kinds id; id = id }
 
 -- how an id stands to the types of this kind that name themselves, or that don't
 abbrev pub key_cmp : List (Option Kind) → Kind → Bool → ℕ → Ordering
 key_cmp kinds kind own id = place_cmp (place_at kinds id) (Some kind, own)
 
-abbrev pub is_upto : List (Option Kind) → Kind → Bool → ℕ → Bool
-is_upto kinds kind own id = not (is_gt (key_cmp kinds kind own id))
+-- how an id and its hash stand to those of this hash and kind
+abbrev pub wanted_cmp : List (Option Kind) → ℕ → Kind → Bool → Hashed → Ordering
+wanted_cmp kinds hash kind own x = ordering_then (nat_cmp x.hash hash) (key_cmp kinds kind own x.id)
+
+abbrev pub is_upto : List (Option Kind) → ℕ → Kind → Bool → Hashed → Bool
+is_upto kinds hash kind own x = not (is_gt (wanted_cmp kinds hash kind own x))
 
 abbrev pub is_exactly : List (Option Kind) → Kind → Bool → ℕ → Bool
 is_exactly kinds kind own id = is_eq (key_cmp kinds kind own id)
 
 -- the last id that passes, else what was found before
-abbrev pub last_in : (ℕ → Bool) → Option ℕ → List ℕ → Option ℕ
+abbrev pub last_in : (Hashed → Bool) → Option ℕ → List Hashed → Option ℕ
 last_in test found [] = found
-last_in test found (id ∷ ids) = last_in test (if test id then Some id else found) ids
+last_in test found (x ∷ xs) = last_in test (if test x then Some x.id else found) xs
 
--- the ids with one more, before the first that passes
-abbrev pub put_in : (ℕ → Bool) → ℕ → List ℕ → List ℕ
-put_in test id [] = id ∷ []
-put_in test id (x ∷ xs) = if test x then id ∷ x ∷ xs else x ∷ put_in test id xs
+-- the last id of just this kind
+abbrev pub last_of : List (Option Kind) → Kind → Bool → List Hashed → Option ℕ
+last_of kinds kind own index = last_in (λ x. is_exactly kinds kind own x.id) None index
+
+-- the list with one more, before the first that passes
+abbrev pub put_in : (Hashed → Bool) → Hashed → List Hashed → List Hashed
+put_in test new [] = new ∷ []
+put_in test new (x ∷ xs) = if test x then new ∷ x ∷ xs else x ∷ put_in test new xs
+
+-- the list with the id where it belongs
+abbrev pub entered : List (Option Kind) → ℕ → List Hashed → List Hashed
+entered kinds id index = put_in (is_before kinds (hashed_at kinds id)) (hashed_at kinds id) index

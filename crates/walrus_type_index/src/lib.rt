@@ -1,6 +1,7 @@
 //! An ordered index of the types of a table.
 #![tactic(auto)]
 
+mod hash;
 pub mod laws;
 mod lent;
 mod marks;
@@ -10,7 +11,7 @@ mod tree;
 
 pub use lent::{enter, lend, settle};
 pub use marks::is_marked;
-pub use node::{Spare, Tree};
+pub use node::{Hashed, Spare, Tree};
 pub use order::Target;
 
 // Passed on to crates above, which then list this one alone.

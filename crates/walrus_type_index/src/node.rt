@@ -2,6 +2,13 @@
 use std::marker::Model;
 use walrus_items::arena::TypeId;
 
+/// An id behind the hash of its type's kind, so that most searches look at nodes alone.
+#[derive(Clone, Copy)]
+pub struct Hashed {
+    pub hash: u64,
+    pub id: TypeId,
+}
+
 /// Ids of types in order. Balanced by height, so that a search looks at few of them.
 #[cycle(tree)]
 #[derive(Drop)]
@@ -13,19 +20,20 @@ pub struct Tree {
 #[derive(Drop)]
 pub(crate) struct Node {
     pub(crate) left: Tree,
-    pub(crate) id: TypeId,
+    pub(crate) hashed: Hashed,
     // What the sides are kept near each other by. No answer rests on it.
     pub(crate) height: u64,
     pub(crate) right: Tree,
 }
 
 impl Model for Tree {
-    ghost use Rattle.std.specs.Prelude.{ℕ, List, length, [], ◌∷◌, ◌++◌};
+    ghost use Rattle.std.specs.Prelude.{List, length, [], ◌∷◌, ◌++◌};
     ghost use Rattle.std.specs.Option.{option_map_or};
+    ghost use Rattle.walrus_type_index.specs.declared.node.Hashed.{Hashed};
 
-    ghost Value = { List ℕ };
+    ghost Value = { List Hashed };
 
-    ghost view = { λ t. option_map_or (λ b. b.value.left ++ b.value.id ∷ b.value.right) t.top [] };
+    ghost view = { λ t. option_map_or (λ b. b.value.left ++ b.value.hashed ∷ b.value.right) t.top [] };
 
     ghost size = { length };
 
@@ -45,5 +53,5 @@ impl Model for Spare {
 
     ghost Value = { ℕ };
 
-    ghost view = { λ s. s.node.value.id };
+    ghost view = { λ s. s.node.value.hashed.id };
 }

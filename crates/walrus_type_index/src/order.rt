@@ -6,9 +6,10 @@ ghost use Rattle.walrus_items.specs.walrus_arena.Arena.{item_at};
 ghost use Rattle.walrus_items.specs.walrus_forms.Kinds.{function_kind};
 ghost use Rattle.walrus_items.specs.walrus_forms.Order.{kind_cmp};
 ghost use Rattle.walrus_items.specs.Items.{kind_of};
-ghost use Rattle.walrus_type_index.specs.Places.{kinds_in, id_cmp, key_cmp, place_cmp, place_of, names_itself};
+ghost use Rattle.walrus_type_index.specs.Places.{kinds_in, id_cmp, key_cmp, place_cmp, hashed_cmp, wanted_cmp, place_of, names_itself};
 ghost use Rattle.walrus_type_index.specs.Targets.{target_kind};
 
+use crate::node::Hashed;
 use std::cmp::Ordering;
 use walrus_items::Type;
 use walrus_items::arena::{TombstoneArena, TypeId, TypeSpace};
@@ -21,8 +22,22 @@ pub enum Target<'a> {
     Function(&'a [ValType], &'a [ValType]),
 }
 
-// How the one stands to the other.
-pub(crate) fn compare(types: &TombstoneArena<Type, TypeSpace>, a: TypeId, b: TypeId) -> Ordering
+// How the one stands to the other: by hash, and only then by the types.
+pub(crate) fn compare_hashed(
+    types: &TombstoneArena<Type, TypeSpace>,
+    a: Hashed,
+    b: Hashed,
+) -> Ordering
+    ensures { result ≡ hashed_cmp (kinds_in types.now.slots) a b }
+{
+    match a.hash.cmp(&b.hash) {
+        Ordering::Equal => compare(types, a.id, b.id),
+        apart => apart,
+    }
+}
+
+// How the types of two ids stand to one another.
+fn compare(types: &TombstoneArena<Type, TypeSpace>, a: TypeId, b: TypeId) -> Ordering
     ensures { result ≡ id_cmp (kinds_in types.now.slots) a b }
 {
     let first = types.get(a);
@@ -90,6 +105,22 @@ fn compare_target(ty: &Type, target: Target<'_>) -> Ordering
     match target {
         Target::Like(other) => compare_kinds(ty, other),
         Target::Function(params, results) => compare_function(ty, params, results),
+    }
+}
+
+// How an id stands to the types that are looked for, which have this hash: by it, and only then by the type.
+pub(crate) fn compare_wanted(
+    types: &TombstoneArena<Type, TypeSpace>,
+    hashed: Hashed,
+    hash: u64,
+    target: Target<'_>,
+    own: bool,
+) -> Ordering
+    ensures { result ≡ wanted_cmp (kinds_in types.now.slots) hash (target_kind target.entry) own hashed }
+{
+    match hashed.hash.cmp(&hash) {
+        Ordering::Equal => compare_key(types, hashed.id, target, own),
+        apart => apart,
     }
 }
 

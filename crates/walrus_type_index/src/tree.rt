@@ -1,15 +1,16 @@
 //! A balanced tree of the ids of a table's types, in the order of their types.
-ghost use Rattle.std.specs.Prelude.{◌≡◌, ℕ, [], ◌∷◌, ◌++◌, ◌==◌, not, filter, find, None, Some, IfOk};
+ghost use Rattle.std.specs.Prelude.{◌≡◌, [], ◌∷◌, ◌++◌, ◌==◌, not, filter, find, None, Some, IfOk};
 ghost use Rattle.std.specs.Option.{option_map};
 ghost use Rattle.std.specs.List.Sorted.{IsStrictlySortedBy};
-ghost use Rattle.walrus_type_index.specs.Places.{kinds_in, id_cmp, is_before, is_upto, is_exactly, last_in, put_in};
+ghost use Rattle.walrus_type_index.specs.Places.{kinds_in, hashed_cmp, is_before, is_tied, is_upto, last_in, last_of, put_in, entered};
 ghost use Rattle.walrus_type_index.specs.Targets.{target_kind};
-ghost use Rattle.walrus_type_index.specs.Ordered.{is_marked};
+ghost use Rattle.walrus_type_index.specs.Ordered.{IsIndex, is_marked};
 ghost use Rattle.walrus_type_index.specs.Tree.{node_ids, ids_of};
 
+use crate::hash::{hashed, target_hash};
 use crate::marks::is_marked;
-use crate::node::{Node, Spare, Tree};
-use crate::order::{Target, compare, compare_key};
+use crate::node::{Hashed, Node, Spare, Tree};
+use crate::order::{Target, compare_hashed, compare_key, compare_wanted};
 use std::alloc::{AllocError, Global};
 use std::cmp::Ordering;
 use std::mem;
@@ -25,7 +26,7 @@ impl Spare {
             alloc,
             Node {
                 left: Tree::new(),
-                id,
+                hashed: Hashed { hash: 0, id },
                 height: 1,
                 right: Tree::new(),
             },
@@ -37,7 +38,7 @@ impl Spare {
     pub fn with_id(mut self, id: TypeId) -> Spare
         ensures { result ≡ id }
     {
-        self.node.id = id;
+        self.node.hashed.id = id;
         self
     }
 
@@ -45,7 +46,7 @@ impl Spare {
     pub fn id(&self) -> TypeId
         ensures { result ≡ self.now }
     {
-        self.node.id
+        self.node.hashed.id
     }
 }
 
@@ -77,22 +78,23 @@ impl Tree {
     }
 
     /// Puts the id where it belongs.
-    pub fn put(&mut self, types: &TombstoneArena<Type, TypeSpace>, spare: Spare)
-        requires { IsStrictlySortedBy (id_cmp (kinds_in types.now.slots)) self.old }
-        ensures { self.new ≡ put_in (is_before (kinds_in types.now.slots) spare) spare self.old }
+    pub fn put(&mut self, types: &TombstoneArena<Type, TypeSpace>, mut spare: Spare)
+        requires { IsStrictlySortedBy (hashed_cmp (kinds_in types.now.slots)) self.old }
+        ensures { self.new ≡ entered (kinds_in types.now.slots) spare self.old }
     {
         let tree = mem::replace(self, Tree::new());
+        spare.node.hashed = hashed(types, spare.node.hashed.id);
         *self = put(tree, types, spare.node);
     }
 
     /// Takes the id out, if it is in.
     pub fn take(&mut self, types: &TombstoneArena<Type, TypeSpace>, id: TypeId) -> Option<Spare>
-        requires { IsStrictlySortedBy (id_cmp (kinds_in types.now.slots)) self.old }
-        ensures rest { self.new ≡ filter (λ x. not (x == id)) self.old }
-        ensures taken { result ≡ find (λ x. x == id) self.old }
+        requires { IsIndex (kinds_in types.now.slots) self.old }
+        ensures rest { self.new ≡ filter (λ x. not (x.id == id)) self.old }
+        ensures taken { result ≡ option_map (λ x. x.id) (find (λ x. x.id == id) self.old) }
     {
         let tree = mem::replace(self, Tree::new());
-        let (rest, taken) = take(tree, types, id);
+        let (rest, taken) = take(tree, types, &hashed(types, id));
         *self = rest;
         match taken {
             Some(node) => Some(Spare { node }),
@@ -102,7 +104,7 @@ impl Tree {
 
     /// Takes out the marked ids, in one walk. Takes no memory.
     pub fn sweep(&mut self, marks: &[bool])
-        ensures { self.new ≡ filter (λ id. not (is_marked marks.now id)) self.old }
+        ensures { self.new ≡ filter (λ x. not (is_marked marks.now x.id)) self.old }
     {
         let tree = mem::replace(self, Tree::new());
         *self = unmarked(tree, marks);
@@ -115,10 +117,10 @@ impl Tree {
         target: Target<'_>,
         own: bool,
     ) -> Option<TypeId>
-        requires { IsStrictlySortedBy (id_cmp (kinds_in types.now.slots)) self.now }
-        ensures { result ≡ last_in (is_exactly (kinds_in types.now.slots) (target_kind target.entry) own) None self.now }
+        requires { IsIndex (kinds_in types.now.slots) self.now }
+        ensures { result ≡ last_of (kinds_in types.now.slots) (target_kind target.entry) own self.now }
     {
-        match last(self, types, target, own, None) {
+        match last(self, types, target_hash(target), target, own, None) {
             Some(id) => {
                 if compare_key(types, id, target, own).is_eq() {
                     Some(id)
@@ -231,8 +233,8 @@ fn settled(node: Box<Node>, before: u64, now: u64) -> Box<Node>
 
 // The tree with one more id.
 fn put(tree: Tree, types: &TombstoneArena<Type, TypeSpace>, mut new: Box<Node>) -> Tree
-    requires { IsStrictlySortedBy (id_cmp (kinds_in types.now.slots)) tree }
-    ensures { result ≡ put_in (is_before (kinds_in types.now.slots) new.value.id) new.value.id tree }
+    requires { IsStrictlySortedBy (hashed_cmp (kinds_in types.now.slots)) tree }
+    ensures { result ≡ put_in (is_before (kinds_in types.now.slots) new.value.hashed) new.value.hashed tree }
 {
     match tree.open() {
         None => {
@@ -242,7 +244,7 @@ fn put(tree: Tree, types: &TombstoneArena<Type, TypeSpace>, mut new: Box<Node>) 
             Tree::of(new)
         }
         Some(mut node) => {
-            if compare(types, new.id, node.id).is_lt() {
+            if compare_hashed(types, new.hashed, node.hashed).is_lt() {
                 let side = mem::replace(&mut node.left, Tree::new());
                 let before = side.height();
                 node.left = put(side, types, new);
@@ -260,7 +262,7 @@ fn put(tree: Tree, types: &TombstoneArena<Type, TypeSpace>, mut new: Box<Node>) 
 
 // The first node, and the others.
 fn split_first(mut node: Box<Node>) -> (Box<Node>, Tree)
-    ensures { node_ids node.value ≡ result.0.value.id ∷ result.1 }
+    ensures { node_ids node.value ≡ result.0.value.hashed ∷ result.1 }
 {
     match mem::replace(&mut node.left, Tree::new()).open() {
         None => {
@@ -277,7 +279,7 @@ fn split_first(mut node: Box<Node>) -> (Box<Node>, Tree)
 
 // The node over these sides.
 fn over(left: Tree, mut node: Box<Node>, right: Tree) -> Tree
-    ensures { result ≡ left ++ node.value.id ∷ right }
+    ensures { result ≡ left ++ node.value.hashed ∷ right }
 {
     node.left = left;
     node.right = right;
@@ -286,7 +288,7 @@ fn over(left: Tree, mut node: Box<Node>, right: Tree) -> Tree
 
 // The node between these sides, the left one of which may be higher by more than one: it comes under that one's right edge.
 fn hang_right(left: Tree, node: Box<Node>, right: Tree) -> Tree
-    ensures { result ≡ left ++ node.value.id ∷ right }
+    ensures { result ≡ left ++ node.value.hashed ∷ right }
 {
     if left.height() <= right.height().saturating_add(1) {
         return over(left, node, right);
@@ -303,7 +305,7 @@ fn hang_right(left: Tree, node: Box<Node>, right: Tree) -> Tree
 
 // The node between these sides, the right one of which may be higher by more than one: it comes under that one's left edge.
 fn hang_left(right: Tree, node: Box<Node>, left: Tree) -> Tree
-    ensures { result ≡ left ++ node.value.id ∷ right }
+    ensures { result ≡ left ++ node.value.hashed ∷ right }
 {
     if right.height() <= left.height().saturating_add(1) {
         return over(left, node, right);
@@ -320,7 +322,7 @@ fn hang_left(right: Tree, node: Box<Node>, left: Tree) -> Tree
 
 // The node between sides of any height.
 fn between(left: Tree, node: Box<Node>, right: Tree) -> Tree
-    ensures { result ≡ left ++ node.value.id ∷ right }
+    ensures { result ≡ left ++ node.value.hashed ∷ right }
 {
     if left.height() > right.height() {
         return hang_right(left, node, right);
@@ -344,7 +346,7 @@ fn join(left: Tree, right: Tree) -> Tree
 // The sides of a node, and the node without them.
 fn apart(mut node: Box<Node>) -> (Tree, Box<Node>, Tree)
     ensures left { result.0 ≡ node.value.left }
-    ensures id { result.1.value.id ≡ node.value.id }
+    ensures hashed { result.1.value.hashed ≡ node.value.hashed }
     ensures right { result.2 ≡ node.value.right }
 {
     let left = mem::replace(&mut node.left, Tree::new());
@@ -356,24 +358,24 @@ fn apart(mut node: Box<Node>) -> (Tree, Box<Node>, Tree)
 fn take(
     tree: Tree,
     types: &TombstoneArena<Type, TypeSpace>,
-    id: TypeId,
+    wanted: &Hashed,
 ) -> (Tree, Option<Box<Node>>)
-    requires { IsStrictlySortedBy (id_cmp (kinds_in types.now.slots)) tree }
-    ensures rest { result.0 ≡ filter (λ x. not (x == id)) tree }
-    ensures taken { option_map (λ node. node.value.id) result.1 ≡ find (λ x. x == id) tree }
+    requires { IsStrictlySortedBy (hashed_cmp (kinds_in types.now.slots)) tree }
+    ensures rest { result.0 ≡ filter (λ x. not (is_tied (kinds_in types.now.slots) wanted.now x)) tree }
+    ensures taken { option_map (λ node. node.value.hashed) result.1 ≡ find (is_tied (kinds_in types.now.slots) wanted.now) tree }
 {
     match tree.open() {
         None => (Tree::new(), None),
-        Some(mut node) => match compare(types, id, node.id) {
+        Some(mut node) => match compare_hashed(types, *wanted, node.hashed) {
             Ordering::Less => {
                 let side = mem::replace(&mut node.left, Tree::new());
-                let (rest, taken) = take(side, types, id);
+                let (rest, taken) = take(side, types, wanted);
                 node.left = rest;
                 (Tree::of(balance(node)), taken)
             }
             Ordering::Greater => {
                 let side = mem::replace(&mut node.right, Tree::new());
-                let (rest, taken) = take(side, types, id);
+                let (rest, taken) = take(side, types, wanted);
                 node.right = rest;
                 (Tree::of(balance(node)), taken)
             }
@@ -387,7 +389,7 @@ fn take(
 
 // The ids that aren't marked.
 fn unmarked(tree: Tree, marks: &[bool]) -> Tree
-    ensures { result ≡ filter (λ id. not (is_marked marks.now id)) tree }
+    ensures { result ≡ filter (λ x. not (is_marked marks.now x.id)) tree }
 {
     match tree.open() {
         None => Tree::new(),
@@ -395,7 +397,7 @@ fn unmarked(tree: Tree, marks: &[bool]) -> Tree
             let (left, bare, right) = apart(node);
             let before = unmarked(left, marks);
             let behind = unmarked(right, marks);
-            if is_marked(marks, bare.id) {
+            if is_marked(marks, bare.hashed.id) {
                 return join(before, behind);
             }
             between(before, bare, behind)
@@ -403,24 +405,25 @@ fn unmarked(tree: Tree, marks: &[bool]) -> Tree
     }
 }
 
-// The last id that is no later than what is looked for.
+// The last id that is no later than what is looked for, which has this hash.
 fn last(
     tree: &Tree,
     types: &TombstoneArena<Type, TypeSpace>,
+    hash: u64,
     target: Target<'_>,
     own: bool,
     found: Option<TypeId>,
 ) -> Option<TypeId>
-    requires { IsStrictlySortedBy (id_cmp (kinds_in types.now.slots)) tree.now }
-    ensures { result ≡ last_in (is_upto (kinds_in types.now.slots) (target_kind target.entry) own) found tree.now }
+    requires { IsStrictlySortedBy (hashed_cmp (kinds_in types.now.slots)) tree.now }
+    ensures { result ≡ last_in (is_upto (kinds_in types.now.slots) hash (target_kind target.entry) own) found tree.now }
 {
     match &tree.top {
         None => found,
         Some(node) => {
-            if compare_key(types, node.id, target, own).is_gt() {
-                return last(&node.left, types, target, own, found);
+            if compare_wanted(types, node.hashed, hash, target, own).is_gt() {
+                return last(&node.left, types, hash, target, own, found);
             }
-            last(&node.right, types, target, own, Some(node.id))
+            last(&node.right, types, hash, target, own, Some(node.hashed.id))
         }
     }
 }

@@ -3,7 +3,6 @@ use Rattle.std.proofs.Common.{◌≡◌, ◌∙◌, ℕ, ◌≤◌, ◌==◌, �
 use Rattle.std.specs.Ordering.{ordering_then, bool_cmp, is_eq}
 use Rattle.std.specs.Option.{option_map, option_map_or, MatchOption}
 use Rattle.std.specs.Prelude.{is_some}
-use Rattle.std.specs.List.Sorted.{IsStrictlySortedBy}
 use Rattle.std.specs.Cmp.{tied_itself, both_ways}
 use Rattle.std.proofs.lemmas.Bool.{cases_Bool, cases_lt, false≢true, eqb-true, and_right, eq-eqb}
 use Rattle.std.proofs.lemmas.List.{length-map}
@@ -13,8 +12,9 @@ use Rattle.walrus_type_index.specs.walrus_items.walrus_forms.Same.{same_kind}
 use Rattle.walrus_type_index.proofs.walrus_forms.EqLemmas.{same-kind-law}
 use Rattle.walrus_type_index.specs.walrus_items.declared.subtype.Type.{«Type» as TypeItem}
 use Rattle.walrus_type_index.specs.walrus_items.Items.{Item, item_of, kind_of}
-use Rattle.walrus_type_index.specs.Places.{kinds_in, place_of, place_cmp, id_cmp, is_exactly, last_in, names_itself}
-use Rattle.walrus_type_index.specs.Ordered.{IsOrdered, IsLast, has, is_at, lives_at}
+use Rattle.walrus_type_index.specs.declared.node.Hashed.{Hashed}
+use Rattle.walrus_type_index.specs.Places.{kinds_in, place_of, place_cmp, is_exactly, last_in, last_of, names_itself}
+use Rattle.walrus_type_index.specs.Ordered.{IsIndex, IsOrdered, IsLast, has, is_at, lives_at}
 use Rattle.walrus_type_index.proofs.KindTotal.{kinds}
 use Rattle.walrus_type_index.proofs.OrderedLemmas.{last-law}
 use Rattle.walrus_type_index.proofs.Tied.{tied}
@@ -85,22 +85,22 @@ either-highest p q (Some x) (Some y) f g = ⊎_elim
     (cases_lt x y)
 
 -- a search that finds nothing leaves nothing out
-never : (test : ℕ → Bool) (x : ℕ) (xs : List ℕ) → last_in test (Some x) xs ≡ None → ⊥
-never test x [] e = cc
-never test x (y ∷ ys) e = elim (cases_Bool (test y)) as (λ _. ⊥) [
-  | inl hit ↦ never test y ys (ap (λ (b : Bool). last_in test (cond b (Some y) (Some x)) ys) (sym hit) ∙ e)
-  | inr no_it ↦ never test x ys (ap (λ (b : Bool). last_in test (cond b (Some y) (Some x)) ys) (sym no_it) ∙ e)
+never : (test : ℕ → Bool) (id : ℕ) (xs : List Hashed) → last_in (λ z. test z.id) (Some id) xs ≡ None → ⊥
+never test id [] e = cc
+never test id (y ∷ ys) e = elim (cases_Bool (test y.id)) as (λ _. ⊥) [
+  | inl hit ↦ never test y.id ys (ap (λ (b : Bool). last_in (λ z. test z.id) (cond b (Some y.id) (Some id)) ys) (sym hit) ∙ e)
+  | inr no_it ↦ never test id ys (ap (λ (b : Bool). last_in (λ z. test z.id) (cond b (Some y.id) (Some id)) ys) (sym no_it) ∙ e)
 ]
 
-none-in : (test : ℕ → Bool) (xs : List ℕ) → last_in test None xs ≡ None → (y : ℕ) → (has y xs && test y) ≡ false
+none-in : (test : ℕ → Bool) (xs : List Hashed) → last_in (λ z. test z.id) None xs ≡ None → (y : ℕ) → (has y xs && test y) ≡ false
 none-in test [] e y = refl
-none-in test (x ∷ xs) e y = elim (cases_Bool (test x)) as (λ _. (((x == y) || has y xs) && test y) ≡ false) [
-  | inl hit ↦ absurd (never test x xs (ap (λ (b : Bool). last_in test (cond b (Some x) None) xs) (sym hit) ∙ e))
-  | inr no_it ↦ elim (cases_Bool (x == y)) as (λ _. (((x == y) || has y xs) && test y) ≡ false) [
-    | inl same ↦ and_right ((x == y) || has y xs) (test y) (ap test (sym (eqb-true x y same)) ∙ no_it)
+none-in test (x ∷ xs) e y = elim (cases_Bool (test x.id)) as (λ _. (((x.id == y) || has y xs) && test y) ≡ false) [
+  | inl hit ↦ absurd (never test x.id xs (ap (λ (b : Bool). last_in (λ z. test z.id) (cond b (Some x.id) None) xs) (sym hit) ∙ e))
+  | inr no_it ↦ elim (cases_Bool (x.id == y)) as (λ _. (((x.id == y) || has y xs) && test y) ≡ false) [
+    | inl same ↦ and_right ((x.id == y) || has y xs) (test y) (ap test (sym (eqb-true x.id y same)) ∙ no_it)
     | inr other ↦
         ap (λ (b : Bool). (b || has y xs) && test y) other
-        ∙ none-in test xs (ap (λ (b : Bool). last_in test (cond b (Some x) None) xs) (sym no_it) ∙ e) y
+        ∙ none-in test xs (ap (λ (b : Bool). last_in (λ z. test z.id) (cond b (Some x.id) None) xs) (sym no_it) ∙ e) y
   ]
 ]
 
@@ -113,8 +113,8 @@ of-both true b e = (refl, e)
 of-both false b e = absurd (false≢true e)
 
 -- what a search of the index finds is the highest id of it
-found-highest : (ks : List (Option Kind)) (kind : Kind) (own : Bool) (xs : List ℕ) → IsStrictlySortedBy (id_cmp ks) xs → (o : Option ℕ)
-    → last_in (is_exactly ks kind own) None xs ≡ o → IsHighest (λ id. has id xs && is_exactly ks kind own id) o
+found-highest : (ks : List (Option Kind)) (kind : Kind) (own : Bool) (xs : List Hashed) → IsIndex ks xs → (o : Option ℕ)
+    → last_of ks kind own xs ≡ o → IsHighest (λ id. has id xs && is_exactly ks kind own id) o
 found-highest ks kind own xs s None is = none-in (is_exactly ks kind own) xs is
 found-highest ks kind own xs s (Some x) is =
     let last : IsLast ks kind own xs x = last-law ks kind own xs s x is in (
@@ -201,12 +201,12 @@ seen-alike slots f id =
     ap (slot_passes f) (at-map kind_of slots id) ∙ as-item (slice_index_or slots id None) f ∙ sym (ap (slot_passes (λ (item : Item). f item.kind)) (at-map item_of slots id))
 
 -- a search of the index finds the type that stands for a new one
-pub finds-equal : (slots : List (Option TypeItem)) (index : List ℕ) (kind : Kind) → IsOrdered None index (kinds_in slots)
-    → last_in (is_exactly (kinds_in slots) kind false) None index ≡ latest_id (merges kind) (table_of slots [])
+pub finds-equal : (slots : List (Option TypeItem)) (index : List Hashed) (kind : Kind) → IsOrdered None index (kinds_in slots)
+    → last_of (kinds_in slots) kind false index ≡ latest_id (merges kind) (table_of slots [])
 finds-equal slots index kind o =
     let ks = kinds_in slots in
     let t : Table = table_of slots [] in
-    let found = last_in (is_exactly ks kind false) None index in
+    let found = last_of ks kind false index in
     one-highest (λ id. slot_passes (λ (item : Item). merges kind (id, item)) (type_at t id)) found (latest_id (merges kind) t)
     (same-highest (λ id. has id index && is_exactly ks kind false id) (λ id. slot_passes (λ (item : Item). merges kind (id, item)) (type_at t id)) found
     (λ id.
@@ -219,8 +219,8 @@ finds-equal slots index kind o =
     (latest-highest t (merges kind) (latest_id (merges kind) t) (latest-law t (merges kind)))
 
 -- what the index finds for a new type is what stands for it
-pub looked-up : (slots : List (Option TypeItem)) (index : List ℕ) (kind : Kind) (next : ℕ) (found : Option ℕ) → IsOrdered None index (kinds_in slots) → next ≡ length slots
-    → names_itself next kind ≡ false → found ≡ last_in (is_exactly (kinds_in slots) kind false) None index → found ≡ equal_type kind (table_of slots [])
+pub looked-up : (slots : List (Option TypeItem)) (index : List Hashed) (kind : Kind) (next : ℕ) (found : Option ℕ) → IsOrdered None index (kinds_in slots) → next ≡ length slots
+    → names_itself next kind ≡ false → found ≡ last_of (kinds_in slots) kind false index → found ≡ equal_type kind (table_of slots [])
 looked-up slots index kind next found o is_next apart is =
     is ∙ finds-equal slots index kind o
     ∙ sym (ap (λ (n : ℕ). cond (names_itself n kind) None (latest_id (merges kind) (table_of slots []))) (length-map slots (option_map item_of) ∙ sym is_next)
@@ -268,14 +268,14 @@ all-parts id None kind lent = never-both lent
 all-parts id (Some k) kind lent = parts (same_kind k kind) (names_itself id k) lent
 
 -- a search of the index for both, and a look at the lent type, find the latest of the kind
-pub finds-function : (slots : List (Option TypeItem)) (lent : Option ℕ) (index : List ℕ) (kind : Kind) → IsOrdered lent index (kinds_in slots)
-    → later_of (later_of (last_in (is_exactly (kinds_in slots) kind false) None index) (last_in (is_exactly (kinds_in slots) kind true) None index)) (if_of_kind (kinds_in slots) kind lent)
+pub finds-function : (slots : List (Option TypeItem)) (lent : Option ℕ) (index : List Hashed) (kind : Kind) → IsOrdered lent index (kinds_in slots)
+    → later_of (later_of (last_of (kinds_in slots) kind false index) (last_of (kinds_in slots) kind true index)) (if_of_kind (kinds_in slots) kind lent)
     ≡ latest_id (λ e. same_kind e.1.kind kind) (table_of slots [])
 finds-function slots lent index kind o =
     let ks = kinds_in slots in
     let t : Table = table_of slots [] in
-    let plain = last_in (is_exactly ks kind false) None index in
-    let own = last_in (is_exactly ks kind true) None index in
+    let plain = last_of ks kind false index in
+    let own = last_of ks kind true index in
     let test : ℕ × Item → Bool = λ e. same_kind e.1.kind kind in
     let p : ℕ → Bool = λ id. has id index && is_exactly ks kind false id in
     let q : ℕ → Bool = λ id. has id index && is_exactly ks kind true id in

@@ -4,6 +4,7 @@ use Rattle.std.specs.Option.{option_map}
 use Rattle.std.specs.Prelude.{is_some}
 use Rattle.walrus_type_index.specs.walrus_items.declared.subtype.Type.{«Type» as TypeItem}
 use Rattle.walrus_type_index.specs.walrus_items.Items.{kind_of}
+use Rattle.walrus_type_index.specs.declared.node.Hashed.{Hashed}
 use Rattle.walrus_type_index.specs.Places.{kinds_in}
 use Rattle.walrus_type_index.specs.Ordered.{IsOrdered, is_marked, lives_at}
 use Rattle.walrus_type_index.proofs.OrderedLemmas.{ordered-written, ordered-dead, ordered-swept, ordered-new}
@@ -34,14 +35,14 @@ kinds-apart slots slot id y apart =
     kinds-agree slots (slice_set slots id slot) y (sym (at-other slots slot id y (λ e. false≢true (sym apart ∙ eq-eqb id y (sym e)))))
 
 -- a lent type changes
-pub lent-written : (slots : List (Option TypeItem)) (index : List ℕ) (id : ℕ) (old new : TypeItem) → slice_index_or slots id None ≡ Some old
+pub lent-written : (slots : List (Option TypeItem)) (index : List Hashed) (id : ℕ) (old new : TypeItem) → slice_index_or slots id None ≡ Some old
     → IsOrdered (Some id) index (kinds_in slots) → IsOrdered (Some id) index (kinds_in (slice_set slots id (Some new)))
 lent-written slots index id old new at o =
     ordered-written id index (kinds_in slots) (kinds_in (slice_set slots id (Some new))) o (kinds-apart slots (Some new) id)
     (ap is_some (at-map kind_of (slice_set slots id (Some new)) id ∙ ap (option_map kind_of) (get_or-set_same slots id (Some new) None (live-within slots id old at))))
 
 -- a type that is out of the index is deleted
-pub lent-dead : (slots : List (Option TypeItem)) (index : List ℕ) (id : ℕ) (old : TypeItem) → slice_index_or slots id None ≡ Some old
+pub lent-dead : (slots : List (Option TypeItem)) (index : List Hashed) (id : ℕ) (old : TypeItem) → slice_index_or slots id None ≡ Some old
     → IsOrdered (Some id) index (kinds_in slots) → IsOrdered None index (kinds_in (slice_set slots id None))
 lent-dead slots index id old at o =
     ordered-dead id index (kinds_in slots) (kinds_in (slice_set slots id None)) o (kinds-apart slots None id)
@@ -52,8 +53,8 @@ kind-left true slot = refl
 kind-left false slot = refl
 
 -- the types of the marked ids died, and these are taken out of the index
-pub swept_order : (old new : List (Option TypeItem)) (marks : List Bool) (index : List ℕ) → IsOrdered None index (kinds_in old) → IsCleared marks old new
-    → IsOrdered None (filter (λ id. not (is_marked marks id)) index) (kinds_in new)
+pub swept_order : (old new : List (Option TypeItem)) (marks : List Bool) (index : List Hashed) → IsOrdered None index (kinds_in old) → IsCleared marks old new
+    → IsOrdered None (filter (λ x. not (is_marked marks x.id)) index) (kinds_in new)
 swept_order old new marks index o cleared =
     ordered-swept (is_marked marks) index (kinds_in old) (kinds_in new) o
     (λ id. at-map kind_of new id
@@ -73,7 +74,7 @@ slots-apart slots ty y apart = ⊎_elim
     (cases_lt y (length slots))
 
 -- a type was added, and is yet to be entered
-pub one-born : (slots : List (Option TypeItem)) (ty : TypeItem) (index : List ℕ) (id : ℕ) → id ≡ length slots
+pub one-born : (slots : List (Option TypeItem)) (ty : TypeItem) (index : List Hashed) (id : ℕ) → id ≡ length slots
     → IsOrdered None index (kinds_in slots) → IsOrdered (Some id) index (kinds_in (slots ++ Some ty ∷ []))
 one-born slots ty index id is o =
     subst (λ (k : ℕ). IsOrdered (Some k) index (kinds_in (slots ++ Some ty ∷ []))) (sym is)

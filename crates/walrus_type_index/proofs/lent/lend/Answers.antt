@@ -1,6 +1,6 @@
-use Rattle.std.proofs.Common.{◌∙◌, ℕ, List, Some, sym, subst}
+use Rattle.std.proofs.Common.{◌∙◌, List, Some, sym, subst}
 use Rattle.walrus_type_index.specs.Ordered.{IsOrdered}
-use Rattle.walrus_type_index.specs.Places.{kinds_in}
+use Rattle.walrus_type_index.specs.Places.{Hashed, kinds_in}
 use Rattle.walrus_type_index.proofs.OrderedLemmas.{live-found, ordered-taken}
 use Rattle.walrus_type_index.proofs.lent.lend.Goals as goal
 
@@ -11,5 +11,5 @@ returns-clause-lent c =
 pub returns-clause-index : goal.returns-clause-index
 returns-clause-index c =
     let ks = kinds_in c.args.types.now.slots in
-    subst (λ (xs : List ℕ). IsOrdered (Some c.args.id) xs ks) (sym c.take.ensures.rest)
+    subst (λ (xs : List Hashed). IsOrdered (Some c.args.id) xs ks) (sym c.take.ensures.rest)
     (ordered-taken c.args.id c.settle.new.index ks c.settle.ensures.index c.requires.lives)

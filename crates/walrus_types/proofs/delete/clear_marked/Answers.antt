@@ -1,6 +1,7 @@
 use Rattle.std.proofs.Common.{◌≡◌, ℕ, Bool, false, List, None, refl, sym, subst}
 use Rattle.std.specs.Bool.{OnFalse}
 use Rattle.walrus_type_index.specs.Ordered.{IsOrdered, is_marked}
+use Rattle.walrus_type_index.specs.declared.node.Hashed.{Hashed}
 use Rattle.walrus_type_index.specs.Places.{kinds_in}
 use Rattle.walrus_types.proofs.IndexLemmas.{swept_order}
 use Rattle.walrus_types.proofs.MarkLemmas.{cleared-shown, none-cleared}
@@ -16,5 +17,5 @@ returns-clause-types c = cleared-shown c.args.marks.now c.args.types.now.slots c
 
 pub returns-clause-ordered : goal.returns-clause-ordered
 returns-clause-ordered c =
-    subst (λ (xs : List ℕ). IsOrdered None xs (kinds_in c.kill_marked.new.types.slots)) (sym c.sweep.ensures)
+    subst (λ (xs : List Hashed). IsOrdered None xs (kinds_in c.kill_marked.new.types.slots)) (sym c.sweep.ensures)
     (swept_order c.args.types.now.slots c.kill_marked.new.types.slots c.args.marks.now c.args.index.now c.requires c.kill_marked.ensures.each)

@@ -1,6 +1,6 @@
 use Rattle.std.proofs.Common.{◌∙◌, Option, None, ℕ, true, ap}
 use Rattle.walrus_type_index.specs.walrus_items.walrus_forms.Kinds.{function_kind}
-use Rattle.walrus_type_index.specs.Places.{kinds_in, is_exactly, last_in}
+use Rattle.walrus_type_index.specs.Places.{kinds_in, last_of}
 use Rattle.walrus_types.specs.Highest.{later_of}
 use Rattle.walrus_types.specs.Table.{Table, found_type}
 use Rattle.walrus_types.proofs.HighestLemmas.{finds-function}
@@ -10,11 +10,11 @@ pub returns : goal.returns
 returns c =
     let slots = c.self.inside.types.slots in
     let kind = function_kind c.args.params.now c.args.results.now in
-    let own : Option ℕ = last_in (is_exactly (kinds_in slots) kind true) None c.self.inside.index in
+    let own : Option ℕ = last_of (kinds_in slots) kind true c.self.inside.index in
     c.later.ensures
     ∙ ap (λ (a : Option ℕ). later_of a c.lent_function-lent.result) (c.later-found.ensures
     ∙ ap (λ (b : Option ℕ). later_of c.latest-plain.result b) c.latest-own.ensures
     ∙ ap (λ (a : Option ℕ). later_of a own) c.latest-plain.ensures)
-    ∙ ap (λ (b : Option ℕ). later_of (later_of (last_in (is_exactly (kinds_in slots) kind Rattle.std.proofs.Common.false) None c.self.inside.index) own) b) c.lent_function-lent.ensures
+    ∙ ap (λ (b : Option ℕ). later_of (later_of (last_of (kinds_in slots) kind Rattle.std.proofs.Common.false c.self.inside.index) own) b) c.lent_function-lent.ensures
     ∙ finds-function slots c.self.inside.lent c.self.inside.index kind c.self.invariant.ordered
     ∙ ap (λ (t : Table). found_type c.args.params.now c.args.results.now t) c.self.view_is

@@ -1,0 +1,55 @@
+-- A number of each kind, by which most types are told apart. Any function of kinds would do: no answer rests on how numbers spread.
+use Rattle.std.specs.Prelude.{ℕ, ◌+◌, ◌*◌, ◌^◌, ◌%◌, List, [], ◌∷◌, Option, None, slice_index_or}
+use Rattle.std.specs.Option.{option_map_or}
+use Rattle.walrus_items.specs.walrus_forms.declared.value.HeapType.{HeapType}
+use Rattle.walrus_items.specs.walrus_forms.declared.value.HeapType.TheVariants.{Abstract, Concrete, Exact}
+use Rattle.walrus_items.specs.walrus_forms.declared.value.ValType.{ValType}
+use Rattle.walrus_items.specs.walrus_forms.declared.value.ValType.TheVariants.{I32, I64, F32, F64, V128, Ref}
+use Rattle.walrus_items.specs.walrus_forms.declared.value.StorageType.{StorageType}
+use Rattle.walrus_items.specs.walrus_forms.declared.value.StorageType.TheVariants.{Val, I8, I16}
+use Rattle.walrus_items.specs.walrus_forms.declared.value.FieldType.{FieldType}
+use Rattle.walrus_items.specs.walrus_forms.Forms.{Form, FunctionForm, StructForm, ArrayForm}
+use Rattle.walrus_items.specs.walrus_forms.Kinds.{Kind}
+
+-- the hash with one more number in it
+abbrev pub next_hash : ℕ → ℕ → ℕ
+next_hash hash number = ((hash * 11400714819323198485) % 2 ^ 64 + number) % 2 ^ 64
+
+abbrev pub heap_number : HeapType → ℕ
+heap_number (Abstract _) = 8
+heap_number (Concrete id) = 9 + id
+heap_number (Exact id) = 9 + id
+
+abbrev pub value_number : ValType → ℕ
+value_number I32 = 1
+value_number I64 = 2
+value_number F32 = 3
+value_number F64 = 4
+value_number V128 = 5
+value_number (Ref ty) = heap_number ty.heap_type
+
+abbrev pub storage_number : StorageType → ℕ
+storage_number I8 = 6
+storage_number I16 = 7
+storage_number (Val ty) = value_number ty
+
+-- with these value types in it, and with their end
+abbrev pub values_hash : ℕ → List ValType → ℕ
+values_hash hash [] = next_hash hash 0
+values_hash hash (value ∷ values) = values_hash (next_hash hash (value_number value)) values
+
+abbrev pub fields_hash : ℕ → List FieldType → ℕ
+fields_hash hash [] = hash
+fields_hash hash (field ∷ fields) = fields_hash (next_hash hash (storage_number field.element_type)) fields
+
+abbrev pub form_hash : Form → ℕ
+form_hash (FunctionForm params results) = values_hash (values_hash 0 params) results
+form_hash (StructForm fields) = fields_hash 1 fields
+form_hash (ArrayForm field) = next_hash 2 (storage_number field.element_type)
+
+abbrev pub hash_of : Kind → ℕ
+hash_of kind = form_hash kind.form
+
+-- the hash of the type of that id, if it lives
+abbrev pub hash_at : List (Option Kind) → ℕ → ℕ
+hash_at kinds id = option_map_or hash_of (slice_index_or kinds id None) 0

@@ -1,0 +1,121 @@
+//! Hashes of kinds, by which most types are told apart with no look at them.
+//!
+//! Equal kinds have equal hashes. No answer rests on more: how they spread is a matter of speed.
+ghost use Rattle.std.specs.Prelude.{◌≡◌};
+ghost use Rattle.walrus_items.specs.Items.{kind_of};
+ghost use Rattle.walrus_items.specs.walrus_forms.Forms.{FunctionForm};
+ghost use Rattle.walrus_type_index.specs.Places.{kinds_in, hashed_at};
+ghost use Rattle.walrus_type_index.specs.Hashes.{next_hash, heap_number, value_number, storage_number, values_hash, fields_hash, form_hash, hash_of, hash_at};
+ghost use Rattle.walrus_type_index.specs.Targets.{target_kind};
+
+use crate::node::Hashed;
+use crate::order::Target;
+use walrus_items::Type;
+use walrus_items::arena::{TombstoneArena, TypeId, TypeSpace};
+use walrus_items::forms::{CompositeType, FieldType, HeapType, StorageType, ValType};
+
+// 2^64 over the golden ratio: its multiples lie far apart.
+const FACTOR: u64 = 0x9e37_79b9_7f4a_7c15;
+
+// The hash with one more number in it.
+fn next_hash(hash: u64, number: u64) -> u64
+    ensures { result ≡ next_hash hash number }
+{
+    hash.wrapping_mul(FACTOR).wrapping_add(number)
+}
+
+fn heap_number(ty: &HeapType) -> u64
+    ensures { result ≡ heap_number ty.now }
+{
+    match ty {
+        HeapType::Abstract(_) => 8,
+        HeapType::Concrete(id) | HeapType::Exact(id) => 9 + u64::from(id.number()),
+    }
+}
+
+fn value_number(ty: &ValType) -> u64
+    ensures { result ≡ value_number ty.now }
+{
+    match ty {
+        ValType::I32 => 1,
+        ValType::I64 => 2,
+        ValType::F32 => 3,
+        ValType::F64 => 4,
+        ValType::V128 => 5,
+        ValType::Ref(ty) => heap_number(&ty.heap_type),
+    }
+}
+
+fn storage_number(ty: &StorageType) -> u64
+    ensures { result ≡ storage_number ty.now }
+{
+    match ty {
+        StorageType::I8 => 6,
+        StorageType::I16 => 7,
+        StorageType::Val(ty) => value_number(ty),
+    }
+}
+
+// The hash with these value types in it, and with their end.
+fn values_hash(start: u64, values: &[ValType]) -> u64
+    ensures { result ≡ values_hash start values.now }
+{
+    let mut hash = start;
+    for value in values {
+        hash = next_hash(hash, value_number(value));
+    }
+    next_hash(hash, 0)
+}
+
+fn fields_hash(start: u64, fields: &[FieldType]) -> u64
+    ensures { result ≡ fields_hash start fields.now }
+{
+    let mut hash = start;
+    for field in fields {
+        hash = next_hash(hash, storage_number(&field.element_type));
+    }
+    hash
+}
+
+fn function_hash(params: &[ValType], results: &[ValType]) -> u64
+    ensures { result ≡ form_hash (FunctionForm params.now results.now) }
+{
+    values_hash(values_hash(0, params), results)
+}
+
+fn type_hash(ty: &Type) -> u64
+    ensures { result ≡ hash_of (kind_of ty.now) }
+{
+    match ty.kind() {
+        CompositeType::Function(own) => function_hash(own.params(), own.results()),
+        CompositeType::Struct(own) => fields_hash(1, own.fields.as_slice()),
+        CompositeType::Array(own) => next_hash(2, storage_number(&own.field.element_type)),
+    }
+}
+
+/// The hash of what is looked for.
+pub(crate) fn target_hash(target: Target<'_>) -> u64
+    ensures { result ≡ hash_of (target_kind target.entry) }
+{
+    match target {
+        Target::Like(ty) => type_hash(ty),
+        Target::Function(params, results) => function_hash(params, results),
+    }
+}
+
+fn hash_at(types: &TombstoneArena<Type, TypeSpace>, id: TypeId) -> u64
+    ensures { result ≡ hash_at (kinds_in types.now.slots) id }
+{
+    match types.get(id) {
+        Some(ty) => type_hash(ty),
+        None => 0,
+    }
+}
+
+/// The id with the hash of its type.
+pub(crate) fn hashed(types: &TombstoneArena<Type, TypeSpace>, id: TypeId) -> Hashed
+    ensures { result ≡ hashed_at (kinds_in types.now.slots) id }
+{
+    let hash = hash_at(types, id);
+    Hashed { hash, id }
+}
