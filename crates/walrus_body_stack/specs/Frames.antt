@@ -1,5 +1,5 @@
 -- The open sequences of a body that is read, as contracts see them, and how calls change them.
-use Rattle.std.specs.Prelude.{◌≡◌, ◌⊎◌, ℕ, Bool, true, false, List, [], ◌∷◌, ◌++◌, length, Option, Some, None}
+use Rattle.std.specs.Prelude.{◌≡◌, ◌⊎◌, ℕ, Bool, true, false, List, [], ◌∷◌, ◌++◌, length, Option, Some, None, Result, Ok, Err}
 use Rattle.std.specs.declared.alloc.Global.{Global}
 use Rattle.std.specs.Global.{Vec}
 use Rattle.std.specs.declared.string.String.{String}
@@ -11,6 +11,8 @@ use Rattle.walrus_instr.specs.declared.seq.InstrSeqType.{InstrSeqType}
 use Rattle.walrus_body_nesting.specs.walrus_builder.declared.function.FunctionBuilder.{FunctionBuilder}
 use Rattle.walrus_body_nesting.specs.walrus_builder.Built.{Seq, contents, edited, filled_with, empty_seq, no_place}
 use Rattle.walrus_body_nesting.specs.wasm_formats.Stops.{Trouble, Nesting, Position}
+use Rattle.walrus_body_nesting.specs.walrus_body_env.declared.error.BodyError.{BodyError}
+use Rattle.walrus_body_nesting.specs.Faults.{Fails}
 use Rattle.walrus_body_nesting.specs.wasm_body_grammar.Frames as grammar
 use Rattle.walrus_body_nesting.specs.declared.frames.Opener.{Opener}
 use Rattle.walrus_body_nesting.specs.declared.frames.Opener.TheVariants as openers
@@ -209,6 +211,11 @@ is_then sorts.Then = true
 is_then _ = false
 
 -- ---- what may stand in a sequence of a kind
+
+-- a call that takes no memory answers only where the test passes, and refuses just as it fails
+abbrev pub IsTested : Result (Unit {0}) BodyError → Option Trouble → ℕ → Type 0
+IsTested (Ok x) test offset = (test ≡ None) × Unit {0}
+IsTested (Err e) test offset = Fails test offset e
 
 abbrev pub other_test : grammar.Frame → Option Trouble
 other_test grammar.Choice = None

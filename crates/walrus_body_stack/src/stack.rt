@@ -1,6 +1,6 @@
 //! The open sequences of a body that is read.
 
-ghost use Rattle.std.specs.Prelude.{◌≡◌, ◌<◌, [], ◌∷◌, ◌++◌, length, slice_get, IfOk, OnOk, Some};
+ghost use Rattle.std.specs.Prelude.{◌≡◌, ◌<◌, [], ◌∷◌, ◌++◌, length, slice_get, IfOk, OnErr, OnOk, Some};
 ghost use Rattle.walrus_body_nesting.specs.wasm_body_grammar.Frames.{Plain};
 ghost use Rattle.walrus_body_nesting.specs.walrus_builder.Built.{contents, empty_seq, no_place};
 ghost use Rattle.walrus_body_nesting.specs.walrus_builder.Functions.{seqs_of};
@@ -98,7 +98,7 @@ impl Stack {
         self.nest.outer_count()
     }
 
-    /// Adds an instruction where it is reached; what follows it isn't, where it cuts.
+    /// Adds an instruction where it is reached; what follows it isn't, where it cuts. Takes no memory where it isn't reached.
     ///
     /// # Errors
     ///
@@ -108,6 +108,7 @@ impl Stack {
         ensures ty { heading_of self.new ≡ heading_of self.old }
         ensures opens { OnOk result (opens self.new ≡ ran (instr, place) cuts (inner self.old) ∷ around self.old) }
         ensures blocks { blocks self.new ≡ blocks self.old }
+        ensures reached { OnErr result ((inner self.old).reach ≡ Live) }
     {
         match self.nest.reach() {
             Reach::Live => {

@@ -3,10 +3,11 @@
 ghost use Rattle.std.specs.Prelude.{◌≡◌, ◌<◌, [], ◌∷◌, ◌++◌, None, Bool, length, IfOk, IfErr, OnOk};
 ghost use Rattle.walrus_body_nesting.specs.wasm_body_grammar.Frames.{Plain, Catching, Caught};
 ghost use Rattle.walrus_body_nesting.specs.walrus_builder.Built.{empty_seq};
-ghost use Rattle.walrus_body_nesting.specs.Faults.{Answers, IsRefusal};
+ghost use Rattle.walrus_body_nesting.specs.Faults.{IsRefusal};
+ghost use Rattle.walrus_body_nesting.specs.walrus_body_env.declared.error.BodyError.TheVariants.{Memory};
 ghost use Rattle.walrus_body_nesting.specs.Stands.{Handles, HandlesAll, Otherwise};
 ghost use Rattle.walrus_body_nesting.specs.Opens.{Shaped};
-ghost use Rattle.walrus_body_stack.specs.Frames.{IsTurned, blocks, delegate_test, filled, handler_test, heading_of, inner, is_then, opens, other_test};
+ghost use Rattle.walrus_body_stack.specs.Frames.{IsTested, IsTurned, blocks, delegate_test, filled, handler_test, heading_of, inner, is_then, opens, other_test};
 ghost use Rattle.walrus_body_stack.specs.Held.{as_frame, emptied, turned};
 
 use crate::frame::{Frame, Sort, next_reach};
@@ -68,12 +69,13 @@ impl Stack {
     ///
     /// # Errors
     ///
-    /// `Nesting` at this offset, where the innermost sequence is no first part of an `if`; want of memory.
+    /// `Nesting` at this offset, where the innermost sequence is no first part of an `if`, which is asked first; want of memory.
     pub fn begin_else(&mut self, place: InstrLocId, offset: u64) -> Result<(), BodyError>
         requires { Shaped (blocks self.old) (opens self.old) }
         ensures ty { OnOk result (heading_of self.new ≡ heading_of self.old) }
         ensures passed { OnOk result (other_test (inner self.old).kind ≡ None) }
         ensures refused { IfErr result (IsRefusal (other_test (inner self.old).kind) offset) }
+        ensures wants { IfErr result (λ e. e ≡ Memory → other_test (inner self.old).kind ≡ None) }
         ensures turned { OnOk result (IsTurned Otherwise Plain (inner self.old).ty place self.old self.new) }
     {
         if !self.nest.frame().sort.is_then() {
@@ -93,7 +95,7 @@ impl Stack {
     ///
     /// At this offset, `Nesting` outside a legacy `try`, `Position` behind its handler for all exceptions.
     pub fn check_handler(&self, offset: u64) -> Result<(), BodyError>
-        ensures { Answers result (handler_test (inner self.now).kind) offset (λ _. Unit {0}) }
+        ensures { IsTested result (handler_test (inner self.now).kind) offset }
     {
         match self.nest.frame().sort {
             Sort::Try => Ok(()),
@@ -115,7 +117,7 @@ impl Stack {
     ///
     /// At this offset, `Nesting` outside a legacy `try`, `Position` behind a handler.
     pub fn check_delegate(&self, offset: u64) -> Result<(), BodyError>
-        ensures { Answers result (delegate_test (inner self.now).kind) offset (λ _. Unit {0}) }
+        ensures { IsTested result (delegate_test (inner self.now).kind) offset }
     {
         match self.nest.frame().sort {
             Sort::Try => Ok(()),
