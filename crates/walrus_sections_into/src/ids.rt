@@ -14,7 +14,7 @@ use walrus_index_maps::IndicesToIds;
 /// The import of this number. 2^32 of them can't be held.
 pub fn import_id(number: usize) -> Result<ImportId, IntoError>
     ensures found { IfOk result (λ id. id ≡ number) }
-    ensures refused { IfErr result (λ e. e ≡ Memory) }
+    ensures refused { IfErr result (λ e. (e ≡ Memory) × (2 ^ 32 ≤ number)) }
 {
     if number > u32::MAX as usize {
         return Err(IntoError::Memory);
@@ -98,7 +98,7 @@ pub fn type_id(number: u32, maps: &IndicesToIds) -> Result<TypeId, IntoError>
 /// A number of 32 bits. No greater one names anything.
 pub fn small(number: usize) -> Result<u32, IntoError>
     ensures found { IfOk result (λ n. n ≡ number) }
-    ensures past { IfErr result (λ e. 2 ^ 32 ≤ number) }
+    ensures past { IfErr result (λ e. (e ≡ Unknown) × (2 ^ 32 ≤ number)) }
 {
     if number > u32::MAX as usize {
         return Err(IntoError::Unknown);
