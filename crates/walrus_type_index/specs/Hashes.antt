@@ -13,7 +13,7 @@ use Rattle.walrus_items.specs.walrus_forms.Kinds.{Kind}
 
 -- the hash with one more number in it
 abbrev pub next_hash : ℕ → ℕ → ℕ
-next_hash hash number = ((hash * 11400714819323198485) % 2 ^ 64 + number) % 2 ^ 64
+next_hash hash number = ((hash * 16777619) % 2 ^ 64 + number) % 2 ^ 64
 
 abbrev pub heap_number : HeapType → ℕ
 heap_number (Abstract _) = 8

@@ -14,8 +14,9 @@ use walrus_items::Type;
 use walrus_items::arena::{TombstoneArena, TypeId, TypeSpace};
 use walrus_items::forms::{CompositeType, FieldType, HeapType, StorageType, ValType};
 
-// 2^64 over the golden ratio: its multiples lie far apart.
-const FACTOR: u64 = 0x9e37_79b9_7f4a_7c15;
+// The prime of the hash FNV-1. It is small, so that types that differ in an id alone stay in the order of these: a walk of the tree
+// then goes through memory much as the types were added.
+const FACTOR: u64 = 0x0100_0193;
 
 // The hash with one more number in it.
 fn next_hash(hash: u64, number: u64) -> u64
