@@ -50,7 +50,7 @@ is_whole read counted numbers few features bytes s begin i m file locals new sho
 pub code_refused : {B : Type 0} → BodiesStopFiles B → (features : WasmFeatures) (bytes : List ℕ) (s : Sections) (begin : Option ℕ) (i : Ids) (m : Spaces B) (locals : List Local) (error : ModuleError)
     → IsShort bytes → All (λ b. b < 256) bytes → ReadsSections features bytes (state_of s) → IsFilledFrom s begin i m
     → IsCodeRefusal features s m.tags m.memories (bodies_in s m.functions) (state m.types locals i m.functions) error → IsRefusal features bytes error
-code_refused stop features bytes s begin i m locals error short small reads filled (inl memory) = inl memory
+code_refused stop features bytes s begin i m locals error short small reads filled (inl memory) = inl (memory, short)
 code_refused stop features bytes s begin i m locals error short small reads filled (inr h) =
     let t = stop features bytes s begin i m h.file locals h.fault small reads filled h.is_file h.stops in
     inr (inr (record {

@@ -5,7 +5,7 @@ use Rattle.walrus_item_names.specs.walrus_module.walrus_local_function.walrus_bo
 use Rattle.walrus_errors.specs.declared.error.ModuleError.{ModuleError}
 use Rattle.walrus_errors.specs.declared.error.ModuleError.TheVariants as errors
 use Rattle.walrus_errors.specs.Refusals.{refusal_of}
-use Rattle.walrus_file_bodies.specs.walrus_items_into.wasm_module_rules.wasm_modules.Modules.{Stops}
+use Rattle.walrus_file_bodies.specs.walrus_items_into.wasm_module_rules.wasm_modules.Modules.{IsShort, Stops}
 use Rattle.walrus_item_names.specs.walrus_module.walrus_body_writer.walrus_body_env.declared.error.BodyError.{BodyError}
 use Rattle.walrus_item_names.specs.walrus_module.walrus_body_writer.walrus_body_env.declared.error.BodyError.TheVariants as bodies
 
@@ -35,9 +35,9 @@ pub record IsFault (features : WasmFeatures) (bytes : List ℕ) (error : ModuleE
   pub stops : Stops features bytes trouble place
   pub error_is : error ≡ refusal trouble place
 
--- the file is longer than 2^30 bytes, or it stops so; want of memory may stand in place of what comes later
+-- the file is longer than 2^30 bytes, or it stops so; want of memory may stand in place of what comes later, but for that length
 abbrev pub IsRefusal : WasmFeatures → List ℕ → ModuleError → Type 0
-IsRefusal features bytes error = (error ≡ errors.Memory) ⊎ (((error ≡ errors.InputTooLong) × (2 ^ 30 < length bytes)) ⊎ IsFault features bytes error)
+IsRefusal features bytes error = ((error ≡ errors.Memory) × IsShort bytes) ⊎ (((error ≡ errors.InputTooLong) × (2 ^ 30 < length bytes)) ⊎ IsFault features bytes error)
 
 -- ---- the refusal of a body
 
