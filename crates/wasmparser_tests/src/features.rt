@@ -54,12 +54,14 @@ fn is_lime1(set: WasmFeatures) -> bool {
 
 #[test]
 fn versions_have_their_features(rt: HostRuntime) {
-    assert!(rt; is_mvp(WasmFeatures::MVP));
-    assert!(rt; is_wasm1(WasmFeatures::WASM1));
-    assert!(rt; is_wasm2(WasmFeatures::WASM2));
-    assert!(rt; is_wasm3(WasmFeatures::WASM3));
-    assert!(rt; is_usual(WasmFeatures::default()));
-    assert!(rt; is_lime1(WasmFeatures::LIME1));
+    assert!(rt;
+        is_mvp(WasmFeatures::MVP)
+            && is_wasm1(WasmFeatures::WASM1)
+            && is_wasm2(WasmFeatures::WASM2)
+            && is_wasm3(WasmFeatures::WASM3)
+            && is_usual(WasmFeatures::default())
+            && is_lime1(WasmFeatures::LIME1)
+    );
 }
 
 fn has_bits(set: WasmFeatures, bits: u32) -> bool {
@@ -83,16 +85,14 @@ fn is_named_exactly() -> bool {
 #[test]
 fn names_have_their_bits(rt: HostRuntime) {
     assert!(rt; WasmFeatures::FLAGS.len() == 24);
-    let sets = [
-        (WasmFeatures::all(), 0xff_ffff),
-        (WasmFeatures::GC, 0x2_0000),
-        (WasmFeatures::REFERENCE_TYPES, 0x40_0008),
-        (WasmFeatures::BULK_MEMORY, 0x80_0020),
-    ];
-    for (set, bits) in sets {
-        assert!(rt; has_bits(set, bits));
-    }
-    assert!(rt; is_named_exactly() && !is_known(1 << 24));
+    assert!(rt;
+        has_bits(WasmFeatures::all(), 0xff_ffff)
+            && has_bits(WasmFeatures::GC, 0x2_0000)
+            && has_bits(WasmFeatures::REFERENCE_TYPES, 0x40_0008)
+            && has_bits(WasmFeatures::BULK_MEMORY, 0x80_0020)
+            && is_named_exactly()
+            && !is_known(1 << 24)
+    );
     let (first, second) = (
         WasmFeatures::MUTABLE_GLOBAL,
         WasmFeatures::SATURATING_FLOAT_TO_INT,
@@ -150,9 +150,8 @@ fn fields_come_back(rt: HostRuntime) {
     fields.call_indirect_overlong = false;
     fields.threads = true;
     let again = WasmFeatures::from_inflated(fields).inflate();
-    assert!(rt; !again.reference_types && again.bulk_memory && again.threads);
     fields.reference_types = false;
-    assert!(rt; again == fields);
+    assert!(rt; !again.reference_types && again.bulk_memory && again.threads && again == fields);
 }
 
 #[test]

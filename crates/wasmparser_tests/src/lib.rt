@@ -7,8 +7,12 @@ mod faults;
 #[cfg(test)]
 mod features;
 #[cfg(test)]
+mod outcomes;
+#[cfg(test)]
 mod reader;
 #[cfg(test)]
 mod references;
 #[cfg(test)]
 mod types;
+#[cfg(test)]
+mod words;

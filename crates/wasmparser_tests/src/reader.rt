@@ -1,5 +1,4 @@
 // Tests of the reader.
 
-mod items;
-mod numbers;
+pub mod items;
 mod reading;

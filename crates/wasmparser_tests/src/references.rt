@@ -2,4 +2,4 @@
 
 mod calls;
 mod reading;
-mod texts;
+pub mod texts;

@@ -2,5 +2,4 @@
 
 mod calls;
 mod reading;
-mod refusing;
 mod section;

@@ -1,6 +1,5 @@
 //! Calls on packed types.
 
-use std::test::Fail;
 use wasm_ref_types::{
     AbstractHeapType, CoreTypeId, HeapType, PackedIndex, RefType, UnpackedIndex, ValType,
 };
@@ -60,6 +59,14 @@ fn has_numbers_packed(packed: PackedIndex, (module, group, core): Numbers) -> bo
         && packed.is_canonical() == core.is_some()
 }
 
+fn has_numbers_both(index: UnpackedIndex, numbers: Numbers) -> bool {
+    has_numbers(index, numbers)
+        && match index.pack() {
+            Some(packed) => has_numbers_packed(packed, numbers),
+            None => false,
+        }
+}
+
 #[test]
 fn numbers_of_indices(rt: HostRuntime) {
     let id = CoreTypeId::from_index(4);
@@ -69,21 +76,7 @@ fn numbers_of_indices(rt: HostRuntime) {
         (UnpackedIndex::Id(id), (None, None, Some(id))),
     ];
     for (index, numbers) in kinds {
-        assert!(rt; has_numbers(index, numbers));
-        assert!(rt;
-            match index.pack() {
-                Some(packed) => has_numbers_packed(packed, numbers),
-                None => false,
-            }
-        );
-    }
-}
-
-// The index of this number in a module, of which a test's proof is to know nothing.
-fn index_of(number: u32) -> Result<PackedIndex, Fail> {
-    match PackedIndex::from_module_index(number) {
-        Some(index) => Ok(index),
-        None => Err("no index")?,
+        assert!(rt; has_numbers_both(index, numbers));
     }
 }
 
@@ -92,14 +85,6 @@ fn is_concrete(ty: RefType, index: PackedIndex) -> bool {
         && ty.type_index() == Some(index)
         && ty.is_concrete_type_ref()
         && !ty.is_exact_type_ref()
-}
-
-#[test]
-fn a_concrete_reference(rt: HostRuntime) -> Result<(), Fail> {
-    let index = index_of(983_040)?;
-    assert!(rt; is_concrete(RefType::concrete(true, index), index));
-    assert!(rt; RefType::exact(true, index).is_exact_type_ref());
-    Ok(())
 }
 
 // Whether the nullable reference has this other form, and neither a shared one.
@@ -112,14 +97,27 @@ fn heap_of(number: u32) -> HeapType {
     HeapType::Concrete(UnpackedIndex::Module(number))
 }
 
+fn is_reference(ty: RefType, index: PackedIndex, number: u32) -> bool {
+    is_concrete(ty, index)
+        && has_forms(ty, RefType::concrete(false, index))
+        && ty.heap_type() == heap_of(number)
+}
+
+// Whether references to the type of this index in a module are so.
+fn has_references(number: u32) -> bool {
+    match PackedIndex::from_module_index(number) {
+        Some(index) => {
+            is_reference(RefType::concrete(true, index), index, number)
+                && RefType::exact(true, index).is_exact_type_ref()
+        }
+        None => false,
+    }
+}
+
 #[test]
-fn forms_of_a_reference(rt: HostRuntime) -> Result<(), Fail> {
-    let index = index_of(983_040)?;
-    let ty = RefType::concrete(true, index);
-    assert!(rt; has_forms(ty, RefType::concrete(false, index)));
-    assert!(rt; ty.heap_type() == heap_of(983_040));
+fn references_by_index(rt: HostRuntime) {
+    assert!(rt; has_references(983_040));
     assert!(rt; RefType::new(true, heap_of(1_048_576)).is_none());
-    Ok(())
 }
 
 // Whether it is a function, an external one, an array, a structure, a continuation, or none.
@@ -158,8 +156,7 @@ fn abstract_references(rt: HostRuntime) {
     for (ty, kinds) in types {
         assert!(rt; is_of_kinds(ty, kinds));
     }
-    assert!(rt; is_function(RefType::FUNC.shared()));
-    assert!(rt; RefType::ANYREF.type_index().is_none());
+    assert!(rt; is_function(RefType::FUNC.shared()) && RefType::ANYREF.type_index().is_none());
 }
 
 #[test]
@@ -200,15 +197,16 @@ fn references_rise(shared: RefType, first: PackedIndex, second: PackedIndex) -> 
     ])
 }
 
+fn order_stands(module: u32, group: u32) -> Option<bool> {
+    let shared = RefType::FUNC.shared()?;
+    let first = PackedIndex::from_module_index(module)?;
+    let second = PackedIndex::from_rec_group_index(group)?;
+    Some(references_rise(shared, first, second))
+}
+
 #[test]
-fn the_order_of_references(rt: HostRuntime) -> Result<(), Fail> {
-    let first = index_of(900)?;
-    let rises = match (RefType::FUNC.shared(), PackedIndex::from_rec_group_index(0)) {
-        (Some(shared), Some(second)) => references_rise(shared, first, second),
-        _ => false,
-    };
-    assert!(rt; rises);
-    Ok(())
+fn the_order_of_references(rt: HostRuntime) {
+    assert!(rt; order_stands(900, 0) == Some(true));
 }
 
 #[test]

@@ -1,8 +1,7 @@
 //! Calls on types.
 
-use super::reading::{function, read};
+use super::reading::{function, is_from_to, is_function, is_structure, read, subtype};
 use std::alloc::{AllocError, Global};
-use std::test::Fail;
 use wasm_composite_types::{
     CompositeInnerType, CompositeType, FuncType, GlobalType, MemoryType, StorageType, StructType,
     TableType, TagKind, TagType, TypeList,
@@ -10,86 +9,96 @@ use wasm_composite_types::{
 use wasm_ref_types::{HeapType, PackedIndex, RefType, UnpackedIndex, ValType};
 use wasm_types::{RecGroup, SubType};
 
-fn is_copied(ty: &FuncType) -> Result<bool, AllocError> {
-    Ok(ty.clone()? == *ty)
+fn is_copy<T>(copy: Result<T, AllocError>, value: &T) -> bool
+where
+    T: PartialEq + Drop,
+{
+    match copy {
+        Ok(copy) => copy == *value,
+        Err(_) => false,
+    }
 }
 
 // Whether the type has these parameters and results, and so has a copy.
-fn is_kept(alloc: Global, params: &[ValType], results: &[ValType]) -> Result<bool, AllocError> {
-    let ty = function(alloc, params, results)?;
-    Ok(ty.params() == params && ty.results() == results && is_copied(&ty)?)
+fn is_kept(alloc: Global, params: &[ValType], results: &[ValType]) -> bool {
+    match function(alloc, params, results) {
+        Ok(ty) => is_from_to(&ty, params, results) && is_copy(ty.clone(), &ty),
+        Err(_) => false,
+    }
 }
 
 #[test]
 fn function_types(rt: HostRuntime) {
-    assert!(rt; is_kept(rt.alloc(), &[ValType::I32], &[]) == Ok(true));
+    assert!(rt; is_kept(rt.alloc(), &[ValType::I32], &[]));
     let params = [ValType::I64, ValType::F32, ValType::I64];
     let results = [ValType::F64, ValType::I32];
-    assert!(rt; is_kept(rt.alloc(), &params, &results) == Ok(true));
+    assert!(rt; is_kept(rt.alloc(), &params, &results));
 }
 
-fn shared_subtype(alloc: Global) -> Result<SubType, AllocError> {
-    SubType::func(function(alloc, &[ValType::I32], &[])?, true)
+// Whether it is a final shared one without supertype.
+fn is_shared(sub: &SubType) -> bool {
+    sub.is_final && sub.composite_type.shared && sub.supertype_idx.is_none()
+}
+
+fn is_of(sub: &SubType, ty: &FuncType) -> bool {
+    match &sub.composite_type.inner {
+        CompositeInnerType::Func(_) => *sub.unwrap_func() == *ty,
+        _ => false,
+    }
 }
 
 // Whether the subtype is of a function type that takes this value alone.
-fn is_of(alloc: Global, sub: &SubType, param: ValType) -> Result<bool, AllocError> {
-    let ty = function(alloc, &[param], &[])?;
-    Ok(match &sub.composite_type.inner {
-        CompositeInnerType::Func(_) => *sub.unwrap_func() == ty,
-        _ => false,
-    })
-}
-
-// Whether it is a final shared one without supertype that takes this value alone.
-fn is_shared(alloc: Global, sub: &SubType, param: ValType) -> Result<bool, AllocError> {
-    let is_shared = sub.is_final && sub.composite_type.shared && sub.supertype_idx.is_none();
-    Ok(is_shared && is_of(alloc, sub, param)?)
-}
-
-fn is_subtype_copied(sub: &SubType) -> Result<bool, AllocError> {
-    Ok(sub.clone()? == *sub)
-}
-
-fn is_composite_copied(ty: &CompositeType) -> Result<bool, AllocError> {
-    Ok(ty.clone()? == *ty)
-}
-
-fn is_form_copied(form: &CompositeInnerType) -> Result<bool, AllocError> {
-    Ok(form.clone()? == *form)
+fn takes(alloc: Global, sub: &SubType, param: ValType) -> bool {
+    match function(alloc, &[param], &[]) {
+        Ok(ty) => is_of(sub, &ty),
+        Err(_) => false,
+    }
 }
 
 // The type, its composite type and its form.
-fn are_copied(sub: &SubType) -> Result<bool, AllocError> {
-    Ok(
-        is_subtype_copied(sub)?
-            && is_composite_copied(&sub.composite_type)?
-            && is_form_copied(&sub.composite_type.inner)?,
-    )
+fn are_copied(sub: &SubType) -> bool {
+    let ty = &sub.composite_type;
+    is_copy(sub.clone(), sub) && is_copy(ty.clone(), ty) && is_copy(ty.inner.clone(), &ty.inner)
+}
+
+fn is_subtype(alloc: Global, sub: &SubType, param: ValType) -> bool {
+    is_shared(sub) && takes(alloc, sub, param) && are_copied(sub)
+}
+
+fn is_made(alloc: Global) -> bool {
+    match subtype(alloc, ValType::I32, true) {
+        Ok(sub) => is_subtype(alloc, &sub, ValType::I32),
+        Err(_) => false,
+    }
 }
 
 #[test]
-fn subtypes_of_functions(rt: HostRuntime) -> Result<(), Fail> {
-    let sub = shared_subtype(rt.alloc())?;
-    assert!(rt; is_shared(rt.alloc(), &sub, ValType::I32)?);
-    assert!(rt; are_copied(&sub)?);
-    Ok(())
+fn subtypes_of_functions(rt: HostRuntime) {
+    assert!(rt; is_made(rt.alloc()));
 }
 
-fn is_list_copied(list: &TypeList<ValType>) -> Result<bool, AllocError> {
-    Ok(list.clone()? == *list)
+fn is_list(list: &TypeList<ValType>, types: &[ValType]) -> bool {
+    list.as_slice() == types && is_copy(list.clone(), list)
+}
+
+fn gives_back(list: TypeList<ValType>, types: &[ValType]) -> bool {
+    list.into_vec().as_slice() == types
 }
 
 // Whether a list has these types, as it is lent, copied and given back.
-fn lists_types(alloc: Global, types: &[ValType]) -> Result<bool, AllocError> {
-    let list = TypeList::from_vec(Vec::from_slice(alloc, types)?);
-    let is_kept = list.as_slice() == types && is_list_copied(&list)?;
-    Ok(list.into_vec().as_slice() == types && is_kept)
+fn lists_types(alloc: Global, types: &[ValType]) -> bool {
+    match Vec::from_slice(alloc, types) {
+        Ok(given) => {
+            let list = TypeList::from_vec(given);
+            is_list(&list, types) & gives_back(list, types)
+        }
+        Err(_) => false,
+    }
 }
 
 #[test]
 fn lists(rt: HostRuntime) {
-    assert!(rt; lists_types(rt.alloc(), &[ValType::F32, ValType::F64]) == Ok(true));
+    assert!(rt; lists_types(rt.alloc(), &[ValType::F32, ValType::F64]));
 }
 
 // Whether a structure, in a composite type, is equal to a copy of itself.
@@ -113,75 +122,65 @@ fn structures_are_copied(rt: HostRuntime) {
     assert!(rt; reads_copied(rt.alloc(), &[0x01, 0x78, 0x01]) == Ok(true));
 }
 
-#[test]
-fn tables(rt: HostRuntime) {
-    let table = TableType {
+fn table() -> TableType {
+    TableType {
         element_type: RefType::FUNCREF,
         table64: false,
         initial: 1,
         maximum: Some(2),
         shared: false,
-    };
-    assert!(rt; table.index_type() == ValType::I32);
+    }
 }
 
-#[test]
-fn memories(rt: HostRuntime) {
-    let memory = MemoryType {
+fn memory(page_size_log2: Option<u32>) -> MemoryType {
+    MemoryType {
         memory64: true,
         shared: false,
         initial: 1,
         maximum: None,
-        page_size_log2: None,
-    };
-    assert!(rt; memory.index_type() == ValType::I64);
-    assert!(rt; memory.page_size_log2() == 16);
-    assert!(rt; memory.page_size() == 65_536);
-    let bytes = MemoryType {
-        page_size_log2: Some(0),
-        ..memory
-    };
-    assert!(rt; bytes.page_size() == 1);
-    assert!(rt; bytes != memory);
+        page_size_log2,
+    }
+}
+
+fn has_pages(memory: &MemoryType) -> bool {
+    memory.index_type() == ValType::I64
+        && memory.page_size_log2() == 16
+        && memory.page_size() == 65_536
+}
+
+fn has_bytes(memory: &MemoryType) -> bool {
+    memory.page_size_log2() == 0 && memory.page_size() == 1
+}
+
+fn are_memories(pages: &MemoryType, bytes: &MemoryType) -> bool {
+    has_pages(pages) && has_bytes(bytes) && *bytes != *pages
 }
 
 #[test]
-fn globals_and_tags(rt: HostRuntime) -> Result<(), Fail> {
+fn tables_and_memories(rt: HostRuntime) {
+    assert!(rt; table().index_type() == ValType::I32);
+    assert!(rt; are_memories(&memory(None), &memory(Some(0))));
+}
+
+#[test]
+fn globals_and_tags(rt: HostRuntime) {
     let global = GlobalType {
         content_type: ValType::I32,
         mutable: true,
         shared: false,
     };
-    assert!(rt; global == global.clone()?);
+    assert!(rt; is_copy(global.clone(), &global));
     let tag = TagType {
         kind: TagKind::Exception,
         func_type_idx: 3,
     };
     assert!(rt; tag.func_type_idx == 3);
-    Ok(())
 }
 
 // A group of a function type of one parameter and a structure below type 1, each of which names type 1.
 const NAMING: [u8; 15] = [
     0x4e, 0x02, 0x60, 0x01, 0x63, 0x01, 0x00, 0x50, 0x01, 0x01, 0x5f, 0x01, 0x64, 0x01, 0x00,
 ];
-
-fn first_param(ty: &SubType) -> Option<ValType> {
-    match &ty.composite_type.inner {
-        CompositeInnerType::Func(ty) => ty.params().first().copied(),
-        _ => None,
-    }
-}
-
-fn first_field(ty: &SubType) -> Option<StorageType> {
-    match &ty.composite_type.inner {
-        CompositeInnerType::Struct(ty) => match ty.fields.as_slice().first() {
-            Some(field) => Some(field.element_type),
-            None => None,
-        },
-        _ => None,
-    }
-}
 
 // The value type that refers to the type of this index.
 fn reference_to(index: u32, nullable: bool) -> Option<ValType> {
@@ -191,14 +190,17 @@ fn reference_to(index: u32, nullable: bool) -> Option<ValType> {
     }
 }
 
-fn is_function(ty: Option<SubType>, param: u32) -> bool {
-    match ty {
-        Some(ty) => first_param(&ty) == reference_to(param, true),
+fn names_param(ty: Option<SubType>, param: u32) -> bool {
+    let Some(ty) = ty else {
+        return false;
+    };
+    match reference_to(param, true) {
+        Some(reference) => is_function(&ty.composite_type, &[reference], &[]),
         None => false,
     }
 }
 
-fn is_structure(ty: Option<SubType>, supertype: u32, field: u32) -> bool {
+fn names_field(ty: Option<SubType>, supertype: u32, field: u32) -> bool {
     let Some(ty) = ty else {
         return false;
     };
@@ -206,14 +208,14 @@ fn is_structure(ty: Option<SubType>, supertype: u32, field: u32) -> bool {
         return false;
     };
     ty.supertype_idx == PackedIndex::from_module_index(supertype)
-        && first_field(&ty) == Some(StorageType::Val(reference))
+        && is_structure(&ty.composite_type, &[(StorageType::Val(reference), false)])
 }
 
 // Whether the three indices that the group names are these.
 fn names(group: RecGroup, param: u32, supertype: u32, field: u32) -> bool {
     let mut types = group.into_types();
-    let function = is_function(types.next(), param);
-    let structure = is_structure(types.next(), supertype, field);
+    let function = names_param(types.next(), param);
+    let structure = names_field(types.next(), supertype, field);
     function && structure && types.next().is_none()
 }
 

@@ -5,7 +5,7 @@ use wasm_composite_types::{
 };
 use wasm_reader::{BinaryReader, FromReader};
 use wasm_ref_types::{PackedIndex, RefType, ValType};
-use wasm_types::{RecGroup, SubType};
+use wasm_types::{IntoTypes, IntoTypesAndOffsets, RecGroup, SubType};
 
 // What the bytes are read as, where they are. The first one stands at 11, as that of the first type of a module.
 // All features are on.
@@ -45,6 +45,12 @@ fn are_rising<'a, T: FromReader<'a> + PartialOrd + Drop>(
     }
 }
 
+fn is_storage(alloc: Global, byte: u8, ty: StorageType, packed: bool, value: ValType) -> bool {
+    read::<StorageType>(alloc, &[byte]) == Some(ty)
+        && ty.is_packed() == packed
+        && ty.unpack() == value
+}
+
 #[test]
 fn storage_types(rt: HostRuntime) {
     let rows = [
@@ -52,10 +58,8 @@ fn storage_types(rt: HostRuntime) {
         (0x77, StorageType::I16, true, ValType::I32),
         (0x7e, StorageType::Val(ValType::I64), false, ValType::I64),
     ];
-    for (byte, expected, packed, value) in rows {
-        assert!(rt; read::<StorageType>(rt.alloc(), &[byte]) == Some(expected));
-        assert!(rt; expected.is_packed() == packed);
-        assert!(rt; expected.unpack() == value);
+    for (byte, ty, packed, value) in rows {
+        assert!(rt; is_storage(rt.alloc(), byte, ty, packed, value));
     }
 }
 
@@ -96,9 +100,13 @@ fn field_types(rt: HostRuntime) {
     }
 }
 
-fn is_from_to(alloc: Global, bytes: &[u8], params: &[ValType], results: &[ValType]) -> bool {
+pub fn is_from_to(ty: &FuncType, params: &[ValType], results: &[ValType]) -> bool {
+    ty.params() == params && ty.results() == results
+}
+
+fn reads_from_to(alloc: Global, bytes: &[u8], params: &[ValType], results: &[ValType]) -> bool {
     match read::<FuncType>(alloc, bytes) {
-        Some(ty) => ty.params() == params && ty.results() == results,
+        Some(ty) => is_from_to(&ty, params, results),
         None => false,
     }
 }
@@ -107,7 +115,7 @@ fn is_from_to(alloc: Global, bytes: &[u8], params: &[ValType], results: &[ValTyp
 fn what_follows_the_byte_of_a_function(rt: HostRuntime) {
     let bytes = [0x02, 0x7f, 0x7e, 0x01, 0x7d];
     let params = [ValType::I32, ValType::I64];
-    assert!(rt; is_from_to(rt.alloc(), &bytes, &params, &[ValType::F32]));
+    assert!(rt; reads_from_to(rt.alloc(), &bytes, &params, &[ValType::F32]));
 }
 
 // Whether it is read as a structure whose fields have these parts.
@@ -136,22 +144,43 @@ fn what_follows_the_byte_of_a_structure(rt: HostRuntime) {
     assert!(rt; has_fields(rt.alloc(), &bytes, &fields));
 }
 
-// A function type that takes one value, and is not shared.
-fn takes_one(alloc: Global, ty: &CompositeType, param: ValType) -> Result<bool, AllocError> {
-    let sub = SubType::func(function(alloc, &[param], &[])?, false)?;
-    Ok(!ty.shared && sub.composite_type == *ty)
+pub fn is_function(ty: &CompositeType, params: &[ValType], results: &[ValType]) -> bool {
+    match &ty.inner {
+        CompositeInnerType::Func(ty) => is_from_to(ty, params, results),
+        _ => false,
+    }
 }
 
-fn is_read_so(alloc: Global, bytes: &[u8], param: ValType) -> Result<bool, AllocError> {
+pub fn is_structure(ty: &CompositeType, fields: &[(StorageType, bool)]) -> bool {
+    match &ty.inner {
+        CompositeInnerType::Struct(ty) => are_fields(ty, fields),
+        _ => false,
+    }
+}
+
+// A final type of functions that take this value alone.
+pub fn subtype(alloc: Global, param: ValType, shared: bool) -> Result<SubType, AllocError> {
+    SubType::func(function(alloc, &[param], &[])?, shared)
+}
+
+// A function type that takes one value, and is not shared.
+fn takes_one(alloc: Global, ty: &CompositeType, param: ValType) -> bool {
+    match subtype(alloc, param, false) {
+        Ok(sub) => !ty.shared && sub.composite_type == *ty,
+        Err(_) => false,
+    }
+}
+
+fn is_read_so(alloc: Global, bytes: &[u8], param: ValType) -> bool {
     match read::<CompositeType>(alloc, bytes) {
         Some(ty) => takes_one(alloc, &ty, param),
-        None => Ok(false),
+        None => false,
     }
 }
 
 #[test]
 fn composite_functions(rt: HostRuntime) {
-    assert!(rt; is_read_so(rt.alloc(), &[0x60, 0x01, 0x7b, 0x00], ValType::V128) == Ok(true));
+    assert!(rt; is_read_so(rt.alloc(), &[0x60, 0x01, 0x7b, 0x00], ValType::V128));
 }
 
 #[test]
@@ -173,19 +202,26 @@ fn shared_composite_types(rt: HostRuntime) {
 }
 
 // A function type without parameters and results, or a structure without fields.
-fn is_empty(ty: &SubType) -> bool {
-    match &ty.composite_type.inner {
-        CompositeInnerType::Func(ty) => ty.params().is_empty() && ty.results().is_empty(),
-        CompositeInnerType::Struct(ty) => ty.fields.as_slice().is_empty(),
-        _ => false,
+fn is_empty(ty: &CompositeType) -> bool {
+    is_function(ty, &[], &[]) || is_structure(ty, &[])
+}
+
+fn has_supertype(ty: &SubType, index: Option<u32>) -> bool {
+    match index {
+        Some(index) => {
+            ty.supertype_idx.is_some() && ty.supertype_idx == PackedIndex::from_module_index(index)
+        }
+        None => ty.supertype_idx.is_none(),
     }
 }
 
-// Whether an empty type is final, and its supertype.
-fn empty(alloc: Global, bytes: &[u8]) -> Option<(bool, Option<PackedIndex>)> {
+// Whether an empty type is read, final or not, and with this supertype.
+fn reads_empty(alloc: Global, bytes: &[u8], is_final: bool, index: Option<u32>) -> bool {
     match read::<SubType>(alloc, bytes) {
-        Some(ty) if is_empty(&ty) => Some((ty.is_final, ty.supertype_idx)),
-        _ => None,
+        Some(ty) => {
+            is_empty(&ty.composite_type) && ty.is_final == is_final && has_supertype(&ty, index)
+        }
+        None => false,
     }
 }
 
@@ -193,27 +229,16 @@ const FINAL: [u8; 5] = [0x4f, 0x00, 0x60, 0x00, 0x00];
 
 #[test]
 fn empty_subtypes(rt: HostRuntime) {
-    let open = [0x50, 0x00, 0x60, 0x00, 0x00];
-    let below = [0x4f, 0x01, 0x07, 0x5f, 0x00];
-    let rows = [
-        (FINAL, true, None),
-        (open, false, None),
-        (below, true, Some(7)),
+    let rows: [(&[u8], bool, Option<u32>); 4] = [
+        (&FINAL, true, None),
+        (&[0x50, 0x00, 0x60, 0x00, 0x00], false, None),
+        (&[0x4f, 0x01, 0x07, 0x5f, 0x00], true, Some(7)),
+        (&[0x60, 0x00, 0x00], true, None),
     ];
     for (bytes, is_final, index) in rows {
-        let supertype = match index {
-            Some(index) => PackedIndex::from_module_index(index),
-            None => None,
-        };
-        assert!(rt; empty(rt.alloc(), &bytes) == Some((is_final, supertype)));
+        assert!(rt; reads_empty(rt.alloc(), bytes, is_final, index));
     }
-}
-
-#[test]
-fn final_subtypes(rt: HostRuntime) {
-    let bare = [0x60, 0x00, 0x00];
-    assert!(rt; empty(rt.alloc(), &bare) == Some((true, None)));
-    assert!(rt; are_equal::<SubType>(rt.alloc(), &FINAL, &bare));
+    assert!(rt; are_equal::<SubType>(rt.alloc(), &FINAL, &[0x60, 0x00, 0x00]));
 }
 
 fn element_of(ty: &SubType) -> Option<StorageType> {
@@ -245,10 +270,14 @@ fn arrays_of_references(rt: HostRuntime) {
 }
 
 // Whether the group has a mark, and how many types.
-fn group(alloc: Global, bytes: &[u8]) -> Option<(bool, usize)> {
+pub fn marked_and_count(group: &RecGroup) -> (bool, usize) {
+    (group.is_explicit_rec_group(), group.types().len())
+}
+
+fn is_group(alloc: Global, bytes: &[u8], is_marked: bool, count: usize) -> bool {
     match read::<RecGroup>(alloc, bytes) {
-        Some(group) => Some((group.is_explicit_rec_group(), group.types().len())),
-        None => None,
+        Some(group) => marked_and_count(&group) == (is_marked, count),
+        None => false,
     }
 }
 
@@ -260,58 +289,87 @@ const NONE: [u8; 2] = [0x4e, 0x00];
 
 #[test]
 fn groups(rt: HostRuntime) {
-    assert!(rt; group(rt.alloc(), &SINGLE) == Some((false, 1)));
-    assert!(rt; group(rt.alloc(), &ALONE) == Some((true, 1)));
-    assert!(rt; group(rt.alloc(), &NONE) == Some((true, 0)));
+    let rows: [(&[u8], bool, usize); 3] = [
+        (&SINGLE, false, 1),
+        (&ALONE, true, 1),
+        (&NONE, true, 0),
+    ];
+    for (bytes, is_marked, count) in rows {
+        assert!(rt; is_group(rt.alloc(), bytes, is_marked, count));
+    }
+}
+
+// They are compared by their types.
+fn are_compared(alloc: Global) -> bool {
+    are_equal::<RecGroup>(alloc, &ALONE, &SINGLE) && are_rising::<RecGroup>(alloc, &NONE, &SINGLE)
 }
 
 #[test]
 fn groups_are_compared_by_their_types(rt: HostRuntime) {
-    assert!(rt; are_equal::<RecGroup>(rt.alloc(), &ALONE, &SINGLE));
-    assert!(rt; are_rising::<RecGroup>(rt.alloc(), &NONE, &SINGLE));
+    assert!(rt; are_compared(rt.alloc()));
 }
 
 // A final function type, and an open structure type.
 const PAIR: [u8; 9] = [0x4e, 0x02, 0x60, 0x00, 0x00, 0x50, 0x00, 0x5f, 0x00];
 
-// Whether the types stand at these places, final or not, and no other behind them.
-fn stand(group: RecGroup, wanted: &[(u64, bool)]) -> bool {
-    let mut types = group.into_types_and_offsets();
-    let mut agree = types.len() == wanted.len();
-    for (place, is_final) in wanted {
-        agree &= match types.next() {
-            Some((offset, ty)) => offset == *place && ty.is_final == *is_final,
-            None => false,
-        };
+// The place of the next type, and whether it is final.
+fn next_place(types: &mut IntoTypesAndOffsets) -> Option<(u64, bool)> {
+    match types.next() {
+        Some((offset, ty)) => Some((offset, ty.is_final)),
+        None => None,
     }
-    agree && types.next().is_none()
 }
 
-// Of a group that is read, and of its copy.
-fn stand_in_both(alloc: Global, bytes: &[u8], wanted: &[(u64, bool)]) -> Result<bool, AllocError> {
-    let Some(group) = read::<RecGroup>(alloc, bytes) else {
-        return Ok(false);
-    };
-    let copy = group.clone()?;
-    Ok(stand(group, wanted) && stand(copy, wanted))
+// Whether the types stand at these places, final or not, and no other behind them.
+fn give(types: &mut IntoTypesAndOffsets, wanted: &[(u64, bool)]) -> bool {
+    let mut agree = types.len() == wanted.len();
+    for place in wanted {
+        agree &= next_place(types) == Some(*place);
+    }
+    agree && next_place(types).is_none()
+}
+
+fn stand(group: RecGroup, wanted: &[(u64, bool)]) -> bool {
+    let mut types = group.into_types_and_offsets();
+    give(&mut types, wanted)
+}
+
+fn stand_in_copy(group: &RecGroup, wanted: &[(u64, bool)]) -> bool {
+    match group.clone() {
+        Ok(copy) => stand(copy, wanted),
+        Err(_) => false,
+    }
+}
+
+// Of a copy of a group that is read, and of the group.
+fn stand_in_both(alloc: Global, bytes: &[u8], wanted: &[(u64, bool)]) -> bool {
+    match read::<RecGroup>(alloc, bytes) {
+        Some(group) => stand_in_copy(&group, wanted) & stand(group, wanted),
+        None => false,
+    }
 }
 
 #[test]
 fn places_of_a_groups_types(rt: HostRuntime) {
-    assert!(rt; stand_in_both(rt.alloc(), &PAIR, &[(13, true), (16, false)]) == Ok(true));
+    assert!(rt; stand_in_both(rt.alloc(), &PAIR, &[(13, true), (16, false)]));
 }
 
-// How many types the group gives, at most four, and how many it says beforehand.
-fn counts(group: RecGroup) -> (u32, usize) {
-    let mut types = group.into_types();
-    let len = types.len();
+// How many types are given, at most four.
+fn count(types: &mut IntoTypes) -> u32 {
     let mut count = 0u32;
     for _ in 0..4 {
         if types.next().is_some() {
             count = count.saturating_add(1);
         }
     }
-    (count, len)
+    count
+}
+
+// How many types the group gives, and how many it says beforehand.
+fn counts(group: RecGroup) -> (u32, usize) {
+    let mut types = group.into_types();
+    let len = types.len();
+    (count(&mut types), len)
 }
 
 fn has_two(alloc: Global, bytes: &[u8]) -> bool {
