@@ -21,7 +21,7 @@ returns-in_err-found-clause-refused g c =
 pub returns-in_err-send_locations-clause-refused : goal.returns-in_err-send_locations-clause-refused
 returns-in_err-send_locations-clause-refused g c =
     handed (λ (error : ModuleError). IsRefusal (read_features c.args.self.now) c.args.wasm.now error ⊎ ((m : Whole g.row.B.Denot) × HandsOn {B = g.row.B.Denot} {G = g.row.G.Denot} (goal.G-step g) c.args.on_instr_loc {F = g.row.F.Denot} g.F.FnOnce c.args.on_parse c.args.self.now c.args.wasm.now (Err error) m))
-    Memory c.from_residual-in_err-send_locations.result c.from_residual-in_err-send_locations.ensures (inl (inl refl))
+    Memory c.from_residual-in_err-send_locations.result c.from_residual-in_err-send_locations.ensures (inl (inl (refl, c.in_ok-found.ensures.read.reads.short)))
 
 pub returns-in-Err-clause-refused : goal.returns-in-Err-clause-refused
 returns-in-Err-clause-refused g c =
