@@ -1,0 +1,5 @@
+mod WrittenLemmas
+mod PlaceLemmas
+mod NumberLemmas
+mod NameLemmas
+mod TextLemmas

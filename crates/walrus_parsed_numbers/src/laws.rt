@@ -1,0 +1,42 @@
+//! Laws: functions with nothing to do, whose contracts hold of all functions with a body, and of all modules that are read.
+
+ghost use Rattle.walrus_parsed_numbers.specs.Numbers.{ReadBodiesHaveTheirNumbers, UsedLocalsAreMeant};
+ghost use Rattle.walrus_parsed_numbers.specs.Texts.{ReadBodiesWriteTheirs};
+
+use walrus_emission_laws::laws::{bodies_are_meant, locals_are_meant};
+use walrus_local_numbers::laws::numbers_follow;
+use walrus_parsed_locals::laws::bodies_of_read_modules_have_their_locals;
+use walrus_parsed_locals::parsed_bodies::laws::{
+    bodies_of_read_modules_mean_theirs, functions_of_read_modules_are_whole,
+};
+use wasm_operator_names::laws::renamings_compose;
+
+/// The locals that are declared for a body, of those that its text names, are those that it means, whether or not it can be written.
+pub fn used_locals_are_meant()
+    ensures { UsedLocalsAreMeant }
+{
+    locals_are_meant();
+}
+
+/// In a module that was read the locals that `LocalFunction::emit_locals` declares for the function of a body of the file, of those that
+/// its text names, are those of that body's normal form; and in the index map that it leaves, whatever had numbers before, each parameter
+/// and each local that the body uses has the number that it has there.
+pub fn bodies_of_read_modules_have_their_numbers<B>()
+    ensures { ReadBodiesHaveTheirNumbers B }
+{
+    bodies_of_read_modules_have_their_locals::<B>();
+    functions_of_read_modules_are_whole::<B>();
+    used_locals_are_meant();
+    numbers_follow();
+}
+
+/// What is written then for the function of a body of the file are the operators of that body's normal form: locals by their numbers there,
+/// each other index renamed to the number that is written for the id that it names.
+pub fn bodies_of_read_modules_write_theirs<B>()
+    ensures { ReadBodiesWriteTheirs B }
+{
+    bodies_of_read_modules_have_their_numbers::<B>();
+    bodies_of_read_modules_mean_theirs::<B>();
+    bodies_are_meant();
+    renamings_compose();
+}
