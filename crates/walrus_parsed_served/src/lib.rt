@@ -2,3 +2,22 @@
 #![tactic(auto)]
 
 pub mod laws;
+
+// Passed on to crates above, which then list this one alone.
+pub mod parsed_groups {
+    pub mod laws {
+        pub use walrus_parsed_groups::laws::read_modules_have_handlers;
+    }
+}
+
+pub mod parsed_items {
+    pub mod laws {
+        pub use walrus_parsed_linked::parsed_items::laws::read_modules_have_items;
+    }
+}
+
+pub mod sent_laws {
+    pub mod instr {
+        pub use walrus_sent_laws::instr::InstrLocId;
+    }
+}

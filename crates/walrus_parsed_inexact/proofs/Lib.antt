@@ -1,0 +1,10 @@
+mod ValueLemmas
+mod TreeLemmas
+mod ItemLemmas
+mod InstrLemmas
+mod LaidLemmas
+mod TextLemmas
+mod TypeLemmas
+mod StepLemmas
+mod ReadLemmas
+mod SentLemmas

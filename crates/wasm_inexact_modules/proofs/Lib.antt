@@ -1,0 +1,2 @@
+pub mod SpellLemmas
+mod SectionLemmas
