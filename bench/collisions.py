@@ -6,7 +6,7 @@
 Exports are read by both programs, types by walrus_inspect alone. The names of one row all collide under the hasher of
 the kit's hash tables, whose seed is fixed; those of the next differ in their last bytes alone, behind a long prefix that
 all have; those of the last are plain. Types are function types of ten parameters, in no order, behind fifty more that all
-have in common, or without these; types are found by comparing them, so that none collide. A time is the
+have in common, or without these; those of the last row all have one hash, so that they are found by comparing them. A time is the
 least of the rounds, from the start of the program to its end. Wanted is a factor of at most 2.3 a doubling. The sizes
 take turns, so that what else the machine does meets all of them alike. With --instructions those of the processor are
 counted by valgrind, which no other work and no cache disturbs, in place of the time.
@@ -53,9 +53,8 @@ def exporting(name):
     return module
 
 
-def typing(front):
-    """What makes a module of so many function types with these parameters in common."""
-    kinds = (b"\x7f", b"\x7e", b"\x7d", b"\x7c")
+def typing(front, kinds=(b"\x7f", b"\x7e", b"\x7d", b"\x7c")):
+    """What makes a module of so many function types with these parameters in common, and ten more of these four types."""
 
     def module(count):
         # ten digits of base 4, another number below 4^10 for each type
@@ -65,6 +64,8 @@ def typing(front):
     return module
 
 
+# funcref, externref, anyref and eqref, of which the index of types makes one number
+ABSTRACT = (b"\x70", b"\x6f", b"\x6e", b"\x6d")
 NAMES = {
     "names that collide": lambda number: COLLIDING + free(number),
     "names with a long prefix": lambda number: PREFIX + free(number),
@@ -75,6 +76,7 @@ ROWS = [
     *[(f"{kind}, walrus_inspect", INSPECTOR, exporting(name)) for kind, name in NAMES.items()],
     ("types with a long front, walrus_inspect", INSPECTOR, typing([b"\x7f"] * 50)),
     ("plain types, walrus_inspect", INSPECTOR, typing([])),
+    ("types that collide, walrus_inspect", INSPECTOR, typing([], ABSTRACT)),
 ]
 
 
