@@ -4,11 +4,11 @@ use Rattle.std.specs.Fn.{Once}
 use Rattle.std.specs.Borrow.{Bor, MutBor}
 use Rattle.std.proofs.Common.{◌∙◌, subst}
 use Rattle.walrus_config.specs.declared.config.ModuleConfig.{ModuleConfig}
-use Rattle.walrus_file_bodies.specs.walrus_items_into.Spaces.{spaces}
-use Rattle.walrus_item_names.specs.walrus_module.declared.module.Module.{Module as Whole}
-use Rattle.walrus_item_names.specs.walrus_module.walrus_body_writer.walrus_pairing.walrus_index_maps.Maps.{Ids}
+use Rattle.walrus_named_bodies.specs.walrus_file_bodies.walrus_items_into.Spaces.{spaces}
+use Rattle.walrus_named_bodies.specs.walrus_item_names.walrus_module.declared.module.Module.{Module as Whole}
+use Rattle.walrus_named_bodies.specs.walrus_item_names.walrus_module.walrus_body_writer.walrus_pairing.walrus_index_maps.Maps.{Ids}
 use Rattle.walrus_errors.specs.declared.error.ModuleError.{ModuleError}
-use Rattle.walrus_item_names.specs.walrus_module.walrus_body_writer.walrus_pairing.walrus_index_maps.declared.indices_to_ids.IndicesToIds.{IndicesToIds}
+use Rattle.walrus_named_bodies.specs.walrus_item_names.walrus_module.walrus_body_writer.walrus_pairing.walrus_index_maps.declared.indices_to_ids.IndicesToIds.{IndicesToIds}
 use Rattle.walrus_parse.specs.Parsed.{IsModuleOf, IsReadAs, Leaves}
 
 pub is_read : {B : Type 0} (m : Whole B) (config : ModuleConfig) (bytes : List ℕ) (own : ModuleConfig) (found : Ids) → m.config ≡ own → own ≡ config

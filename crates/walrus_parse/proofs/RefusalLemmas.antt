@@ -1,17 +1,18 @@
 -- Faults of sections and of bodies are those of the file.
 use Rattle.std.specs.Prelude.{ℕ, ◌≡◌, List, Option, Some, None, refl}
 use Rattle.std.proofs.Common.{ap, sym, ◌∙◌, inl, inr}
-use Rattle.walrus_item_names.specs.walrus_module.walrus_body_writer.walrus_pairing.wasm_immediates.wasm_features.declared.WasmFeatures.{WasmFeatures}
-use Rattle.walrus_item_names.specs.walrus_module.walrus_local_function.walrus_body_locals.walrus_body_nesting.wasm_formats.Stops.{Trouble, Read, Header, SectionOrder, SectionSize, Count, Index, TypeForm, ConstExpr, OffsetType, Nesting, Position, Operator, Unsupported, DuplicateExport, Bounds, Limit}
-use Rattle.walrus_file_bodies.specs.walrus_items_into.wasm_module_rules.wasm_modules.Modules.{IsShort}
-use Rattle.walrus_item_names.specs.walrus_module.walrus_body_writer.walrus_body_env.declared.error.BodyError.{BodyError}
-use Rattle.walrus_item_names.specs.walrus_module.walrus_local_function.walrus_body_locals.walrus_body_nesting.Faults.{fault_at}
+use Rattle.walrus_named_bodies.specs.walrus_item_names.walrus_module.walrus_body_writer.walrus_pairing.wasm_immediates.wasm_features.declared.WasmFeatures.{WasmFeatures}
+use Rattle.walrus_named_bodies.specs.walrus_item_names.walrus_module.walrus_local_function.walrus_body_locals.walrus_body_nesting.wasm_formats.Stops.{Trouble, Read, Header, SectionOrder, SectionSize, Count, Index, TypeForm, ConstExpr, OffsetType, Nesting, Position, Operator, Unsupported, DuplicateExport, Bounds, Limit}
+use Rattle.walrus_named_bodies.specs.walrus_file_bodies.walrus_items_into.wasm_module_rules.wasm_modules.Modules.{IsShort}
+use Rattle.walrus_named_bodies.specs.walrus_item_names.walrus_module.walrus_body_writer.walrus_body_env.declared.error.BodyError.{BodyError}
+use Rattle.walrus_named_bodies.specs.walrus_item_names.walrus_module.walrus_local_function.walrus_body_locals.walrus_body_nesting.Faults.{fault_at}
 use Rattle.walrus_errors.specs.declared.error.ModuleError.{ModuleError}
 use Rattle.walrus_file_reader.specs.Files.{IsRefused}
 use Rattle.walrus_section_reader.specs.Faults.{error_at, trouble_of}
 use Rattle.walrus_section_reader.specs.declared.fault.FaultKind.{FaultKind}
 use Rattle.walrus_section_reader.specs.declared.fault.FaultKind.TheVariants as faults
-use Rattle.walrus_parse.specs.Refusals.{IsRefusal, module_error, refusal}
+use Rattle.walrus_named_bodies.specs.Refusals.{module_error}
+use Rattle.walrus_parse.specs.Refusals.{IsRefusal, refusal}
 
 error_is : (kind : FaultKind) (place : ℕ) → error_at kind place ≡ refusal (trouble_of kind) place
 error_is (faults.Read kind) place = refl

@@ -2,13 +2,13 @@
 use Rattle.std.specs.Prelude.{ℕ, suc, ◌+◌, ◌≡◌, Bool, true, false, List, [], ◌∷◌, ◌++◌, length, map, Option, Some, None, refl}
 use Rattle.std.proofs.Common.{ap}
 use Rattle.walrus_arena.specs.Arena.{entries_from}
-use Rattle.walrus_item_names.specs.walrus_module.walrus_types.walrus_forms.Kinds.{Kind}
-use Rattle.walrus_item_names.specs.walrus_module.walrus_types.walrus_forms.Records.{TypeGroup}
-use Rattle.walrus_item_names.specs.walrus_module.walrus_types.walrus_forms.Renaming.{at, renamed_kind}
-use Rattle.walrus_item_names.specs.walrus_module.walrus_types.Groups.{new_items}
-use Rattle.walrus_item_names.specs.walrus_module.walrus_types.Parsing.{Parsed, added, known_ids, merged, parsed, parsed_group, unparsed}
-use Rattle.walrus_item_names.specs.walrus_module.walrus_types.Table.{entries, equal_type, next_id}
-use Rattle.walrus_item_names.specs.walrus_module.walrus_types.walrus_items.Items.{Item}
+use Rattle.walrus_named_bodies.specs.walrus_item_names.walrus_module.walrus_types.walrus_forms.Kinds.{Kind}
+use Rattle.walrus_named_bodies.specs.walrus_item_names.walrus_module.walrus_types.walrus_forms.Records.{TypeGroup}
+use Rattle.walrus_named_bodies.specs.walrus_item_names.walrus_module.walrus_types.walrus_forms.Renaming.{at, renamed_kind}
+use Rattle.walrus_named_bodies.specs.walrus_item_names.walrus_module.walrus_types.Groups.{new_items}
+use Rattle.walrus_named_bodies.specs.walrus_item_names.walrus_module.walrus_types.Parsing.{Parsed, added, known_ids, merged, parsed, parsed_group, unparsed}
+use Rattle.walrus_named_bodies.specs.walrus_item_names.walrus_module.walrus_types.Table.{entries, equal_type, next_id}
+use Rattle.walrus_named_bodies.specs.walrus_item_names.walrus_module.walrus_types.walrus_items.Items.{Item}
 
 abbrev AreAll : List (Option Item) → Type 0
 AreAll [] = Unit {0}

@@ -3,24 +3,24 @@ use Rattle.std.specs.Prelude.{ℕ, ◌<◌, ◌≡◌, All, List, slice_index_or
 use Rattle.std.proofs.lemmas.List.{get_or_default}
 use Rattle.std.proofs.Common.{sym, ◌∙◌, inl, inr, subst, arith, Fits, w8}
 use Rattle.walrus_errors.specs.declared.error.ModuleError.{ModuleError}
-use Rattle.walrus_local_counts.specs.Locals.{FewAreNumbered, HasFew}
-use Rattle.walrus_item_names.specs.walrus_module.walrus_body_writer.walrus_pairing.walrus_index_maps.Maps.{Ids}
-use Rattle.walrus_item_names.specs.walrus_module.walrus_body_writer.walrus_pairing.wasm_immediates.wasm_features.declared.WasmFeatures.{WasmFeatures}
-use Rattle.walrus_item_names.specs.walrus_module.walrus_local_function.walrus_body_locals.wasm_grammar.Modules as grammar
-use Rattle.walrus_item_names.specs.walrus_module.walrus_types.walrus_items.declared.local.Local.{Local}
-use Rattle.walrus_file_bodies.specs.Ready.{IsFileOf, bodies_in}
-use Rattle.walrus_file_bodies.specs.walrus_items_into.Filled.{IsFilledFrom}
-use Rattle.walrus_file_bodies.specs.walrus_items_into.Laws.{FilledModulesAreNumbered, NamedLocalsCount}
-use Rattle.walrus_file_bodies.specs.walrus_items_into.Spaces.{Spaces}
-use Rattle.walrus_file_bodies.specs.walrus_items_into.walrus_payloads_into.Numbered.{IsNumbered}
-use Rattle.walrus_file_bodies.specs.walrus_items_into.walrus_tables_into.walrus_sections_into.walrus_known_sections.State.{state_of}
-use Rattle.walrus_file_bodies.specs.walrus_items_into.walrus_tables_into.walrus_sections_into.walrus_known_sections.declared.sections.Sections.{Sections}
-use Rattle.walrus_file_bodies.specs.walrus_items_into.wasm_module_rules.wasm_modules.Modules.{IsShort, Reads, module_of}
-use Rattle.walrus_file_bodies.specs.walrus_items_into.wasm_sections.Laws.{ReadsSections}
-use Rattle.walrus_file_bodies.specs.walrus_module_bodies.Steps.{State, Steps, state}
-use Rattle.walrus_file_bodies.specs.walrus_module_bodies.declared.file.FileEnv.{FileEnv}
-use Rattle.walrus_file_bodies.specs.Laws.{BodiesReadFiles, BodiesStopFiles}
-use Rattle.walrus_parse.specs.Code.{IsCodeRefusal}
+use Rattle.walrus_named_bodies.specs.walrus_local_counts.Locals.{FewAreNumbered, HasFew}
+use Rattle.walrus_named_bodies.specs.walrus_item_names.walrus_module.walrus_body_writer.walrus_pairing.walrus_index_maps.Maps.{Ids}
+use Rattle.walrus_named_bodies.specs.walrus_item_names.walrus_module.walrus_body_writer.walrus_pairing.wasm_immediates.wasm_features.declared.WasmFeatures.{WasmFeatures}
+use Rattle.walrus_named_bodies.specs.walrus_item_names.walrus_module.walrus_local_function.walrus_body_locals.wasm_grammar.Modules as grammar
+use Rattle.walrus_named_bodies.specs.walrus_item_names.walrus_module.walrus_types.walrus_items.declared.local.Local.{Local}
+use Rattle.walrus_named_bodies.specs.walrus_file_bodies.Ready.{IsFileOf, bodies_in}
+use Rattle.walrus_named_bodies.specs.walrus_file_bodies.walrus_items_into.Filled.{IsFilledFrom}
+use Rattle.walrus_named_bodies.specs.walrus_file_bodies.walrus_items_into.Laws.{FilledModulesAreNumbered, NamedLocalsCount}
+use Rattle.walrus_named_bodies.specs.walrus_file_bodies.walrus_items_into.Spaces.{Spaces}
+use Rattle.walrus_named_bodies.specs.walrus_file_bodies.walrus_items_into.walrus_payloads_into.Numbered.{IsNumbered}
+use Rattle.walrus_named_bodies.specs.walrus_file_bodies.walrus_items_into.walrus_tables_into.walrus_sections_into.walrus_known_sections.State.{state_of}
+use Rattle.walrus_named_bodies.specs.walrus_file_bodies.walrus_items_into.walrus_tables_into.walrus_sections_into.walrus_known_sections.declared.sections.Sections.{Sections}
+use Rattle.walrus_named_bodies.specs.walrus_file_bodies.walrus_items_into.wasm_module_rules.wasm_modules.Modules.{IsShort, Reads, module_of}
+use Rattle.walrus_named_bodies.specs.walrus_file_bodies.walrus_items_into.wasm_sections.Laws.{ReadsSections}
+use Rattle.walrus_named_bodies.specs.walrus_file_bodies.walrus_module_bodies.Steps.{State, Steps, state}
+use Rattle.walrus_named_bodies.specs.walrus_file_bodies.walrus_module_bodies.declared.file.FileEnv.{FileEnv}
+use Rattle.walrus_named_bodies.specs.walrus_file_bodies.Laws.{BodiesReadFiles, BodiesStopFiles}
+use Rattle.walrus_named_bodies.specs.Code.{IsCodeRefusal}
 use Rattle.walrus_parse.specs.Parsed.{ReadsAs}
 use Rattle.walrus_parse.specs.Refusals.{IsRefusal}
 use Rattle.walrus_parse.proofs.RefusalLemmas.{fault_is}
@@ -59,11 +59,6 @@ code_refused stop features bytes s begin i m locals error short small reads fill
       stops = (t.0, (short, inr (state_of s, reads, t.1)), refl, t.2.1);
       error_is = h.error_is ∙ fault_is t.0.trouble t.2.0 h.fault t.2.2;
     }))
-
--- a refusal that `?` hands on
-pub handed : {A : Type 0} (P : ModuleError → Type 0) (e : ModuleError) (result : Result A ModuleError) → IsErr result × IsErrAnd result (λ x. x ≡ e) → P e → IfErr result P
-handed P e (Ok x) h p = tt
-handed P e (Err x) h p = subst P (sym h.1) p
 
 -- bytes are below 256
 pub small : (xs : List ℕ) → ((i : ℕ) → Fits w8 (slice_index_or xs i 0)) → All (λ b. b < 256) xs

@@ -1,13 +1,11 @@
 -- Why a file is refused, and where (Core Specification, binary format: modules).
-use Rattle.std.specs.Prelude.{ℕ, ◌^◌, ◌<◌, ◌≡◌, ◌⊎◌, List, length, Option, Some, None}
-use Rattle.walrus_item_names.specs.walrus_module.walrus_body_writer.walrus_pairing.wasm_immediates.wasm_features.declared.WasmFeatures.{WasmFeatures}
-use Rattle.walrus_item_names.specs.walrus_module.walrus_local_function.walrus_body_locals.walrus_body_nesting.wasm_formats.Stops.{Trouble, Read, Header, SectionOrder, SectionSize, Count, Index, TypeForm, ConstExpr, OffsetType, Nesting, Position, Operator, Unsupported, DuplicateExport, Bounds, Limit}
+use Rattle.std.specs.Prelude.{ℕ, ◌^◌, ◌<◌, ◌≡◌, ◌⊎◌, List, length}
+use Rattle.walrus_named_bodies.specs.walrus_item_names.walrus_module.walrus_body_writer.walrus_pairing.wasm_immediates.wasm_features.declared.WasmFeatures.{WasmFeatures}
+use Rattle.walrus_named_bodies.specs.walrus_item_names.walrus_module.walrus_local_function.walrus_body_locals.walrus_body_nesting.wasm_formats.Stops.{Trouble, Read, Header, SectionOrder, SectionSize, Count, Index, TypeForm, ConstExpr, OffsetType, Nesting, Position, Operator, Unsupported, DuplicateExport, Bounds, Limit}
 use Rattle.walrus_errors.specs.declared.error.ModuleError.{ModuleError}
 use Rattle.walrus_errors.specs.declared.error.ModuleError.TheVariants as errors
 use Rattle.walrus_errors.specs.Refusals.{refusal_of}
-use Rattle.walrus_file_bodies.specs.walrus_items_into.wasm_module_rules.wasm_modules.Modules.{IsShort, Stops}
-use Rattle.walrus_item_names.specs.walrus_module.walrus_body_writer.walrus_body_env.declared.error.BodyError.{BodyError}
-use Rattle.walrus_item_names.specs.walrus_module.walrus_body_writer.walrus_body_env.declared.error.BodyError.TheVariants as bodies
+use Rattle.walrus_named_bodies.specs.walrus_file_bodies.walrus_items_into.wasm_module_rules.wasm_modules.Modules.{IsShort, Stops}
 
 -- a trouble at its place in the file, as the refusal of a module
 abbrev pub refusal : Trouble → ℕ → ModuleError
@@ -38,23 +36,3 @@ pub record IsFault (features : WasmFeatures) (bytes : List ℕ) (error : ModuleE
 -- the file is longer than 2^30 bytes, or it stops so; want of memory may stand in place of what comes later, but for that length
 abbrev pub IsRefusal : WasmFeatures → List ℕ → ModuleError → Type 0
 IsRefusal features bytes error = ((error ≡ errors.Memory) × IsShort bytes) ⊎ (((error ≡ errors.InputTooLong) × (2 ^ 30 < length bytes)) ⊎ IsFault features bytes error)
-
--- ---- the refusal of a body
-
-abbrev pub place_of : Option ℕ → ℕ
-place_of None = 0
-place_of (Some place) = place
-
--- as that of its module; a body that is read is refused at a place
-abbrev pub module_error : BodyError → ModuleError
-module_error (bodies.Read error) = refusal_of error
-module_error (bodies.Index space place) = errors.Index space (place_of place)
-module_error (bodies.TypeForm place) = errors.TypeForm (place_of place)
-module_error (bodies.Nesting place) = errors.Nesting (place_of place)
-module_error (bodies.Position place) = errors.Position (place_of place)
-module_error (bodies.Operator place) = errors.Operator (place_of place)
-module_error (bodies.Unsupported form place) = errors.Unsupported form (place_of place)
-module_error (bodies.Bounds place) = errors.Bounds (place_of place)
-module_error (bodies.Limit of place) = errors.Limit of (place_of place)
-module_error bodies.NoTree = errors.NoTree
-module_error bodies.Memory = errors.Memory

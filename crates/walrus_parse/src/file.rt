@@ -1,15 +1,15 @@
 //! The sections of a file.
 
 ghost use Rattle.std.specs.Prelude.{◌^◌, ◌≤◌, length, IfErr, IfOk, OnOk};
-ghost use Rattle.walrus_file_bodies.specs.walrus_items_into.wasm_sections.Laws.{ReadsSections};
-ghost use Rattle.walrus_file_bodies.specs.walrus_items_into.walrus_tables_into.walrus_sections_into.walrus_known_sections.State.{state_of};
+ghost use Rattle.walrus_named_bodies.specs.walrus_file_bodies.walrus_items_into.wasm_sections.Laws.{ReadsSections};
+ghost use Rattle.walrus_named_bodies.specs.walrus_file_bodies.walrus_items_into.walrus_tables_into.walrus_sections_into.walrus_known_sections.State.{state_of};
 ghost use Rattle.walrus_parse.specs.Refusals.{IsRefusal};
 
 use std::alloc::Global;
 use walrus_errors::{ModuleError, Result};
-use walrus_file_bodies::items_into::tables_into::sections_into::known_sections::Sections;
-use walrus_file_bodies::items_into::tables_into::sections_into::operators::immediate_forms::reader::features::WasmFeatures;
 use walrus_file_reader::read_sections;
+use walrus_named_bodies::file_bodies::items_into::tables_into::sections_into::known_sections::Sections;
+use walrus_named_bodies::file_bodies::items_into::tables_into::sections_into::operators::immediate_forms::reader::features::WasmFeatures;
 
 // A file has at most so many bytes.
 const MAX_FILE: usize = 1 << 30;

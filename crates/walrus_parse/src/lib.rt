@@ -1,11 +1,8 @@
 //! Reading whole modules (Core Specification, binary format: modules).
 #![tactic(auto)]
 
-mod code;
 mod file;
-mod names;
 mod parse;
-mod refusal;
 mod whole;
 
 pub use parse::{FromBuffer, Parse};
@@ -14,7 +11,7 @@ pub use whole::parse_into;
 // Passed on to crates above, which then list this one alone.
 pub mod body_trees {
     pub mod laws {
-        pub use walrus_file_bodies::body_trees::laws::{
+        pub use walrus_named_bodies::file_bodies::body_trees::laws::{
             bodies_are_trees, bodies_mean_their_normal_form,
         };
     }
@@ -24,12 +21,12 @@ pub mod file_bodies {
     pub mod items_into {
         pub mod functions_into {
             pub mod laws {
-                pub use walrus_file_bodies::items_into::functions_into::laws::read_functions_stand;
+                pub use walrus_named_bodies::file_bodies::items_into::functions_into::laws::read_functions_stand;
             }
 
             pub mod types_into {
                 pub mod laws {
-                    pub use walrus_file_bodies::items_into::functions_into::types_into::laws::{
+                    pub use walrus_named_bodies::file_bodies::items_into::functions_into::types_into::laws::{
                         new_types_stand, types_name_below,
                     };
                 }
@@ -37,14 +34,14 @@ pub mod file_bodies {
         }
 
         pub mod laws {
-            pub use walrus_file_bodies::items_into::laws::{
+            pub use walrus_named_bodies::file_bodies::items_into::laws::{
                 filled_functions_stand, filled_modules_are_filed, named_locals_count,
             };
         }
 
         pub mod module_env {
             pub mod laws {
-                pub use walrus_file_bodies::items_into::module_env::laws::{
+                pub use walrus_named_bodies::file_bodies::items_into::module_env::laws::{
                     blocks_are_named, picks_are_seen,
                 };
             }
@@ -52,6 +49,6 @@ pub mod file_bodies {
     }
 
     pub mod laws {
-        pub use walrus_file_bodies::laws::bodies_read_files;
+        pub use walrus_named_bodies::file_bodies::laws::bodies_read_files;
     }
 }

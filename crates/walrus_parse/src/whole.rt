@@ -1,34 +1,37 @@
 //! A whole module.
 
 ghost use Rattle.std.specs.Prelude.{◌≡◌, IfErr, IfOk};
-ghost use Rattle.walrus_item_names.specs.walrus_module.walrus_body_writer.walrus_pairing.walrus_index_maps.Views.{ids};
-ghost use Rattle.walrus_file_bodies.specs.walrus_items_into.Spaces.{spaces};
+ghost use Rattle.walrus_named_bodies.specs.walrus_item_names.walrus_module.walrus_body_writer.walrus_pairing.walrus_index_maps.Views.{ids};
+ghost use Rattle.walrus_named_bodies.specs.walrus_file_bodies.walrus_items_into.Spaces.{spaces};
 ghost use Rattle.walrus_parse.specs.Parsed.{IsEmpty, IsModuleOf, read_features};
 ghost use Rattle.walrus_parse.specs.Refusals.{IsRefusal};
 
-use crate::code::read_code;
 use crate::file::read_file;
-use crate::names::name_items;
 use std::alloc::Global;
 use walrus_arena::FunctionId;
 use walrus_config::ModuleConfig;
 use walrus_customs::ModuleProducers;
 use walrus_errors::{ModuleError, Result};
-use walrus_file_bodies::items_into::laws::{filled_modules_are_numbered, named_locals_count};
-use walrus_file_bodies::items_into::module_env::body_env::instr::type_table::{
+use walrus_named_bodies::file_bodies::items_into::laws::{
+    filled_modules_are_numbered, named_locals_count,
+};
+use walrus_named_bodies::file_bodies::items_into::module_env::body_env::instr::type_table::{
     ModuleLocals, ModuleTypes,
 };
-use walrus_file_bodies::items_into::read_items;
-use walrus_file_bodies::items_into::tables_into::sections::Sections as CustomSections;
-use walrus_file_bodies::items_into::tables_into::sections_into::index_maps::IndicesToIds;
-use walrus_file_bodies::laws::{bodies_read_files, bodies_stop_files, filled_modules_are_ready};
-use walrus_file_bodies::payloads_into::producers_in;
-use walrus_item_names::module::Module;
-use walrus_item_names::module::collections::{
+use walrus_named_bodies::file_bodies::items_into::read_items;
+use walrus_named_bodies::file_bodies::items_into::tables_into::sections::Sections as CustomSections;
+use walrus_named_bodies::file_bodies::items_into::tables_into::sections_into::index_maps::IndicesToIds;
+use walrus_named_bodies::file_bodies::laws::{
+    bodies_read_files, bodies_stop_files, filled_modules_are_ready,
+};
+use walrus_named_bodies::file_bodies::payloads_into::producers_in;
+use walrus_named_bodies::item_names::module::Module;
+use walrus_named_bodies::item_names::module::collections::{
     ModuleData, ModuleElements, ModuleExports, ModuleFunctions, ModuleGlobals, ModuleImports,
     ModuleMemories, ModuleTables, ModuleTags,
 };
-use walrus_local_counts::few_are_numbered;
+use walrus_named_bodies::local_counts::few_are_numbered;
+use walrus_named_bodies::read_named;
 
 // Reads a file into the collections of an empty module; the start function and the producers are answered.
 fn read_module<B: Drop>(
@@ -69,14 +72,12 @@ fn read_module<B: Drop>(
         Ok(start) => start,
         Err(_) => return Err(ModuleError::Memory),
     };
-    read_code(
-        alloc, features, &sections, tags, memories, types, &mut maps, locals, functions,
-    )?;
-    name_items(
+    read_named(
         alloc,
+        features,
         config.generate_synthetic_names_for_anonymous_items,
-        sections.customs.as_slice(),
-        &maps,
+        &sections,
+        &mut maps,
         types,
         functions,
         tables,

@@ -9,7 +9,7 @@ ghost use Rattle.walrus_item_names.specs.Holder.{holder};
 ghost use Rattle.walrus_local_counts.specs.Locals.{HasFew};
 ghost use Rattle.walrus_file_bodies.specs.walrus_items_into.walrus_payloads_into.Numbered.{IsNumbered};
 ghost use Rattle.walrus_file_bodies.specs.walrus_items_into.walrus_payloads_into.Customs.{AreCustoms};
-ghost use Rattle.walrus_parse.specs.Named.{all_names, made_names};
+ghost use Rattle.walrus_named_bodies.specs.Named.{all_names, made_names};
 
 use std::alloc::{AllocError, Global};
 use walrus_file_bodies::items_into::module_env::body_env::instr::type_table::{

@@ -1,7 +1,7 @@
 //! Refusals of bodies, as those of their module.
 
 ghost use Rattle.std.specs.Prelude.{◌≡◌};
-ghost use Rattle.walrus_parse.specs.Refusals.{module_error, place_of};
+ghost use Rattle.walrus_named_bodies.specs.Refusals.{module_error, place_of};
 
 use walrus_errors::ModuleError;
 use walrus_file_bodies::items_into::module_env::body_env::BodyError;

@@ -1,6 +1,6 @@
 use Rattle.std.proofs.Common.{◌≡◌, ◌+◌, length}
 use Rattle.walrus_item_names.specs.walrus_module.walrus_types.Table.{entries}
-use Rattle.walrus_parse.proofs.code.count_types.Given as goal
+use Rattle.walrus_named_bodies.proofs.code.count_types.Given as goal
 
 abbrev pub invariant-loop-ty : goal.invariant-loop-ty
 invariant-loop-ty l = record {

@@ -6,8 +6,8 @@ use Rattle.walrus_item_names.specs.Gives.{GivesNames, gives_both}
 use Rattle.walrus_item_names.specs.Holder.{Holder, holder}
 use Rattle.walrus_item_names.specs.Sent.{sent_names}
 use Rattle.walrus_payload_readers.specs.Bearers.{given_of}
-use Rattle.walrus_parse.specs.Named.{made_names}
-use Rattle.walrus_parse.proofs.names.name_items.Goals as goal
+use Rattle.walrus_named_bodies.specs.Named.{made_names}
+use Rattle.walrus_named_bodies.proofs.names.name_items.Goals as goal
 
 pub returns : goal.returns
 returns c =

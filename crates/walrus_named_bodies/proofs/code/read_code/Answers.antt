@@ -4,8 +4,8 @@ use Rattle.walrus_file_bodies.specs.walrus_items_into.walrus_functions_into.Bodi
 use Rattle.walrus_item_names.specs.walrus_module.walrus_body_writer.walrus_pairing.walrus_index_maps.Views.{ids}
 use Rattle.walrus_file_bodies.specs.walrus_module_bodies.Steps.{state}
 use Rattle.walrus_file_bodies.specs.walrus_module_bodies.declared.file.FileEnv.{FileEnv}
-use Rattle.walrus_parse.proofs.CodeLemmas.{ready_over}
-use Rattle.walrus_parse.proofs.code.read_code.Goals as goal
+use Rattle.walrus_named_bodies.proofs.CodeLemmas.{ready_over}
+use Rattle.walrus_named_bodies.proofs.code.read_code.Goals as goal
 
 pub read_bodies-requires-clause-placed : goal.read_bodies-requires-clause-placed
 read_bodies-requires-clause-placed c =

@@ -7,7 +7,7 @@ ghost use Rattle.walrus_file_bodies.specs.walrus_items_into.walrus_functions_int
 ghost use Rattle.walrus_file_bodies.specs.walrus_module_bodies.Steps.{Steps, state};
 ghost use Rattle.walrus_file_bodies.specs.walrus_module_bodies.declared.file.FileEnv.{FileEnv};
 ghost use Rattle.walrus_file_bodies.specs.Ready.{AreReady, IsFileOf, bodies_in};
-ghost use Rattle.walrus_parse.specs.Code.{IsCodeRefusal};
+ghost use Rattle.walrus_named_bodies.specs.Code.{IsCodeRefusal};
 
 use crate::refusal::module_error;
 use std::alloc::{AllocError, Global};

@@ -1,0 +1,8 @@
+pub mod Refusals
+pub mod Named
+pub mod Code
+pub mod Behind
+-- Passed on to crates above, which then list this one alone.
+pub use Rattle.walrus_file_bodies.specs as walrus_file_bodies
+pub use Rattle.walrus_item_names.specs as walrus_item_names
+pub use Rattle.walrus_local_counts.specs as walrus_local_counts
