@@ -14,6 +14,9 @@ use std::alloc::Global;
 use std::mem;
 use walrus_counts::count;
 use walrus_parse::parse_into;
+use walrus_parsed_inexact::laws::modules_that_are_read_pass;
+use walrus_parsed_inexact::parsed_linked::laws::modules_that_are_read_are_linked;
+use walrus_parsed_inexact::passes_laws::gc_keeps_linked;
 use walrus_passes::gc;
 use walrus_passes::module::Module;
 
@@ -31,6 +34,9 @@ impl Inspector for Modules {
         config: ModuleConfig,
         kept: bool,
     ) -> Result<Counts> {
+        modules_that_are_read_are_linked::<NoSection>();
+        modules_that_are_read_pass::<NoSection>();
+        gc_keeps_linked();
         let mut module = Module::<NoSection>::with_config(alloc, config);
         parse_into(alloc, bytes, &mut module)?;
         count_in(alloc, module, kept)

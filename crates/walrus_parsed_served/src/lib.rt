@@ -16,6 +16,16 @@ pub mod parsed_items {
     }
 }
 
+pub mod parsed_linked {
+    pub mod laws {
+        pub use walrus_parsed_linked::laws::modules_that_are_read_are_linked;
+    }
+}
+
+pub mod passes_laws {
+    pub use walrus_passes_laws::gc_keeps_linked;
+}
+
 pub mod sent_laws {
     pub mod instr {
         pub use walrus_sent_laws::instr::InstrLocId;
