@@ -20,7 +20,7 @@ sys.path.insert(0, os.path.dirname(os.path.abspath(__file__)))
 from operators import signed, unsigned  # noqa: E402
 
 ROOT = os.path.dirname(os.path.dirname(os.path.abspath(__file__)))
-CRATE = f"{ROOT}/crates/walrus_body_bench"
+CRATE = f"{ROOT}/crates/walrus_bench"
 # runs a program and tells its processor time in microseconds and its peak in kilobytes: a child of this small process, since the peak of
 # one that a greater process starts is that of both
 RUNNER = r"""
@@ -147,9 +147,9 @@ def main():
             it.write(RUNNER)
         subprocess.run(["gcc", "-O2", "-o", runner, f"{runner}.c"], check=True)
         # proved and built anew where its sources are newer
-        print("building walrus_body_bench", file=sys.stderr)
-        subprocess.run(["rt", "run", "--", "data/body", "both"], cwd=CRATE, check=True, stdout=subprocess.DEVNULL, stderr=subprocess.DEVNULL)
-        ours, file, code = f"{CRATE}/out/walrus_body_bench", f"{folder}/body", f"{folder}/code"
+        print("building walrus_bench", file=sys.stderr)
+        subprocess.run(["rt", "run", "--", "body", "data/body", "both"], cwd=CRATE, check=True, stdout=subprocess.DEVNULL, stderr=subprocess.DEVNULL)
+        ours, file, code = f"{CRATE}/out/walrus_bench", f"{folder}/body", f"{folder}/code"
         first = None
         for what, count, some_locals, depth in SHAPES:
             if asked.only not in what:
@@ -161,7 +161,7 @@ def main():
             theirs = least(asked.rounds, runner, loop, code, "read")
             decoded = theirs[0] - least(asked.rounds, runner, loop, "/dev/null", "read")[0]
             seen = int(theirs[2].split()[0])
-            load, parse, both = (least(asked.rounds, runner, ours, file, way) for way in ("load", "parse", "both"))
+            load, parse, both = (least(asked.rounds, runner, ours, "body", file, way) for way in ("load", "parse", "both"))
             instructions, written = (int(both[2].split()[k]) for k in (0, 2))
             if written != len(declared) + len(operators):
                 sys.exit(f"{what}: of {len(declared) + len(operators)} bytes {written} are written")

@@ -11,7 +11,7 @@ import subprocess
 import sys
 
 ROOT = os.path.dirname(os.path.dirname(os.path.abspath(__file__)))
-CRATE = f"{ROOT}/crates/walrus_collections_bench"
+CRATE = f"{ROOT}/crates/walrus_bench"
 SIZES = (250_000, 500_000, 1_000_000, 2_000_000)
 
 
@@ -19,7 +19,7 @@ def least(rounds, count):
     """The least microseconds of adding, of finding and of deleting so many items, by collection."""
     found = {}
     for _ in range(rounds):
-        said = subprocess.run([f"{CRATE}/out/walrus_collections_bench", str(count)], capture_output=True, text=True, check=True)
+        said = subprocess.run([f"{CRATE}/out/walrus_bench", "collections", str(count)], capture_output=True, text=True, check=True)
         for line in said.stdout.splitlines():
             if not line.endswith(f": {count} found, 0 left"):
                 sys.exit(f"wrong counts: {line}")
@@ -34,8 +34,8 @@ def main():
     parser = argparse.ArgumentParser(description="Times the collections of a module.")
     parser.add_argument("--rounds", type=int, default=5)
     asked = parser.parse_args()
-    print("building walrus_collections_bench", file=sys.stderr)
-    subprocess.run(["rt", "run", "--", "1"], cwd=CRATE, check=True, stdout=subprocess.DEVNULL, stderr=subprocess.DEVNULL)
+    print("building walrus_bench", file=sys.stderr)
+    subprocess.run(["rt", "run", "--", "collections", "1"], cwd=CRATE, check=True, stdout=subprocess.DEVNULL, stderr=subprocess.DEVNULL)
     figures = {count: least(asked.rounds, count) for count in SIZES}
     print("| Nanoseconds an item | " + " | ".join(f"{call}, {count:,}" for call in ("added", "found", "deleted") for count in SIZES) + " |")
     print("|---" * (1 + 3 * len(SIZES)) + "|")

@@ -1,5 +1,5 @@
 #!/usr/bin/env python3
-"""Measures a build of walrus_body_bench (by unproved.py, or proved) with the body of bench/bodies.py, by operator.
+"""Measures a build of walrus_bench (by unproved.py, or proved) with the body of bench/bodies.py, by operator.
 
     bench/counts.py BENCH [BENCH2 ..] [--count] [--time] [--rounds N] [--functions] [--shape N]
 
@@ -65,13 +65,13 @@ def main():
             seen, size = given(150000, 400, 0)
             c = counted(folder, loop, f"{folder}/code", "read") - counted(folder, loop, "/dev/null", "read")
             for it in benches:
-                said = subprocess.run([it, f"{folder}/body", "both"], capture_output=True, text=True, check=True).stdout
+                said = subprocess.run([it, "body", f"{folder}/body", "both"], capture_output=True, text=True, check=True).stdout
                 if int(said.split()[2]) != size:
                     sys.exit(f"{it}: of {size} bytes written {said}")
-                load, parse, all_of_it = (counted(folder, it, f"{folder}/body", way) for way in ("load", "parse", "both"))
+                load, parse, all_of_it = (counted(folder, it, "body", f"{folder}/body", way) for way in ("load", "parse", "both"))
                 print(f"{it}: {seen} operators; instructions an operator: parsed {(parse - load) / seen:.1f}, written {(all_of_it - parse) / seen:.1f}, C {c / seen:.1f}", flush=True)
                 if "--functions" in words:
-                    functions(folder, seen, it, f"{folder}/body", "both")
+                    functions(folder, seen, it, "body", f"{folder}/body", "both")
         if both or "--time" in words:
             _, count, some_locals, depth = SHAPES[shape]
             seen, size = given(count, some_locals, depth)
@@ -87,7 +87,7 @@ def main():
                 run("c0", loop, "/dev/null", "read")
                 for it in benches:
                     for way in ("load", "parse", "both"):
-                        run((it, way), it, f"{folder}/body", way)
+                        run((it, way), it, "body", f"{folder}/body", way)
             c = (took["c"] - took["c0"]) * 1e3 / seen
             for it in benches:
                 load, parse, all_of_it = (took[it, way] for way in ("load", "parse", "both"))

@@ -16,8 +16,8 @@ import subprocess
 import sys
 
 ROOT = os.path.dirname(os.path.dirname(os.path.abspath(__file__)))
-CRATE = f"{ROOT}/crates/walrus_gc_bench"
-PROGRAM = f"{CRATE}/out/walrus_gc_bench"
+CRATE = f"{ROOT}/crates/walrus_bench"
+PROGRAM = f"{CRATE}/out/walrus_bench"
 SIZES = (10**4, 10**5, 10**6)
 COUNTED = (10**3, 10**4, 10**5)
 SHAPES = ("chain", "cycle", "segments", "groups")
@@ -39,7 +39,7 @@ def line(when, numbers):
 
 
 def run(shape, count, kept, modules, *front):
-    said = subprocess.run([*front, PROGRAM, shape, str(count), kept, str(modules)], capture_output=True, text=True, check=True)
+    said = subprocess.run([*front, PROGRAM, "gc", shape, str(count), kept, str(modules)], capture_output=True, text=True, check=True)
     wanted = [line("before", counts(shape, count, "all")), line("after", counts(shape, count, kept))]
     if said.stdout.splitlines() != wanted:
         sys.exit(f"wrong counts: {said.stdout}")
@@ -68,8 +68,8 @@ def main():
     parser.add_argument("--alone", action="store_true")
     parser.add_argument("--instructions", action="store_true")
     asked = parser.parse_args()
-    print("building walrus_gc_bench", file=sys.stderr)
-    subprocess.run(["rt", "run", "--", "chain", "1", "all", "1"], cwd=CRATE, check=True, stdout=subprocess.DEVNULL, stderr=subprocess.DEVNULL)
+    print("building walrus_bench", file=sys.stderr)
+    subprocess.run(["rt", "run", "--", "gc", "chain", "1", "all", "1"], cwd=CRATE, check=True, stdout=subprocess.DEVNULL, stderr=subprocess.DEVNULL)
     sizes = COUNTED if asked.instructions else SIZES
     what = "Instructions" if asked.instructions else "Nanoseconds"
     print(f"| {what} an item | Kept | " + " | ".join(f"{count:,}" for count in sizes) + " | Factor |")

@@ -3,7 +3,7 @@
 
     bench/trees.py [--rounds N]
 
-A time is the shortest of five tests in a run of walrus_tree_bench, the least of the rounds. An instruction's time is
+A time is the shortest of five tests in a run of `walrus_bench tree`, the least of the rounds. An instruction's time is
 compared with that of 1,000,000 instructions in one sequence. A list that pushes fill has room for four instructions of
 48 bytes at first; lists without room have memory for just what they hold.
 """
@@ -13,7 +13,7 @@ import subprocess
 import sys
 
 ROOT = os.path.dirname(os.path.dirname(os.path.abspath(__file__)))
-CRATE = f"{ROOT}/crates/walrus_tree_bench"
+CRATE = f"{ROOT}/crates/walrus_bench"
 # what is timed, how many blocks, how many instructions in each and in the body, where the blocks stand, and the room of their lists
 SHAPES = (
     ("1,000,000 instructions in one sequence", 0, 10**6, "flat", "some"),
@@ -33,7 +33,7 @@ def least(rounds, *words):
     """The microseconds of the shortest test, and the count of instructions."""
     runs = []
     for _ in range(rounds):
-        said = subprocess.run([f"{CRATE}/out/walrus_tree_bench", *map(str, words)], capture_output=True, text=True, check=True)
+        said = subprocess.run([f"{CRATE}/out/walrus_bench", "tree", *map(str, words)], capture_output=True, text=True, check=True)
         runs.append((int(said.stderr), int(said.stdout.split()[0])))
     return min(runs)
 
@@ -42,8 +42,8 @@ def main():
     parser = argparse.ArgumentParser(description="Times the test of trees.")
     parser.add_argument("--rounds", type=int, default=5)
     asked = parser.parse_args()
-    print("building walrus_tree_bench", file=sys.stderr)
-    subprocess.run(["rt", "run", "--", "1", "1", "flat", "some"], cwd=CRATE, check=True, stdout=subprocess.DEVNULL, stderr=subprocess.DEVNULL)
+    print("building walrus_bench", file=sys.stderr)
+    subprocess.run(["rt", "run", "--", "tree", "1", "1", "flat", "some"], cwd=CRATE, check=True, stdout=subprocess.DEVNULL, stderr=subprocess.DEVNULL)
     first = None
     for what, *words in SHAPES:
         took, count = least(asked.rounds, *words)

@@ -4,7 +4,7 @@ table, and adds types with one long front, and prints the time of each.
 
     bench/types.py [--rounds N]
 
-A time is the processor's, of a whole run of walrus_types_bench, the least of the rounds; what a run of no look-ups
+A time is the processor's, of a whole run of `walrus_bench types`, the least of the rounds; what a run of no look-ups
 takes is taken off that of the look-ups.
 """
 import argparse
@@ -14,13 +14,13 @@ import subprocess
 import sys
 
 ROOT = os.path.dirname(os.path.dirname(os.path.abspath(__file__)))
-CRATE = f"{ROOT}/crates/walrus_types_bench"
+CRATE = f"{ROOT}/crates/walrus_bench"
 
 
 def run(counts):
     """The seconds of the processor that one run takes."""
     before = resource.getrusage(resource.RUSAGE_CHILDREN)
-    subprocess.run([f"{CRATE}/out/walrus_types_bench", *map(str, counts)], stdout=subprocess.DEVNULL, check=True)
+    subprocess.run([f"{CRATE}/out/walrus_bench", "types", *map(str, counts)], stdout=subprocess.DEVNULL, check=True)
     after = resource.getrusage(resource.RUSAGE_CHILDREN)
     return after.ru_utime - before.ru_utime + after.ru_stime - before.ru_stime
 
@@ -34,8 +34,8 @@ def main():
     words.add_argument("--rounds", type=int, default=3)
     asked = words.parse_args()
     # proved and built anew where its sources are newer
-    print("building walrus_types_bench", file=sys.stderr)
-    subprocess.run(["rt", "run", "--", "16", "16", "16", "16", "16"], cwd=CRATE, check=True, stdout=subprocess.DEVNULL, stderr=subprocess.DEVNULL)
+    print("building walrus_bench", file=sys.stderr)
+    subprocess.run(["rt", "run", "--", "types", "16", "16", "16", "16", "16"], cwd=CRATE, check=True, stdout=subprocess.DEVNULL, stderr=subprocess.DEVNULL)
     # what is timed, and its sizes: the program's words for a size, those of what is taken off, how many it does
     searches = 10**6
     parts = (

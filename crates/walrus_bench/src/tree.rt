@@ -1,15 +1,14 @@
-//! Times the test of a tree: `walrus_tree_bench BLOCKS WITHIN SHAPE ROOM`.
+//! Times the test of a tree: `walrus_bench tree BLOCKS WITHIN SHAPE ROOM`.
 //!
 //! Makes a body of so many blocks with so many instructions in each and in the body, a third of which branch to the body:
 //! each in the one before where the shape is `nested`, else all in the body, and tests five times whether it
 //! is a tree. Where the room is `none`, the list of each block takes just the memory that it needs, as a reader's can; else
 //! what growth by pushes takes. The count of instructions is printed on standard output; on standard error the microseconds of
 //! the shortest test.
-#![tactic(auto)]
 
+use crate::words::{number, word};
 use anyhow::Result;
 use std::alloc::{AllocError, Global};
-use std::env;
 use std::time::Instant;
 use walrus_arena::{InstrSeqId, TypeId};
 use walrus_builder::FunctionBuilder;
@@ -18,32 +17,34 @@ use walrus_tree::check_tree;
 
 const PLAIN: InstrSeqType = InstrSeqType::Simple(None);
 
-fn main(rt: HostRuntime) -> Result<()> {
-    let words: Vec<String> = env::args(&rt)?.collect(rt.alloc())?;
-    let blocks = number(words.get(1));
-    let within = number(words.get(2));
-    let nested = words.get(3).is_some_and(|word| word.as_str() == "nested");
-    let exact = words.get(4).is_some_and(|word| word.as_str() == "none");
+/// Does what the words say.
+pub(crate) fn run(rt: &HostRuntime, words: &[String]) -> Result<()> {
+    let nested = word(words, 4) == "nested";
+    let exact = word(words, 5) == "none";
+    work(rt, number(words, 2), number(words, 3), nested, exact)
+}
+
+/// Times the test of such a body.
+pub(crate) fn work(
+    rt: &HostRuntime,
+    blocks: usize,
+    within: usize,
+    nested: bool,
+    exact: bool,
+) -> Result<()> {
     let body = body_of(rt.alloc(), blocks, within, nested, exact)?;
     let mut least = u128::MAX;
     let mut trees = 0u32;
     for _ in 0..5 {
-        let start = Instant::now(&rt)?;
+        let start = Instant::now(rt)?;
         if check_tree(rt.alloc(), &body, body.func_body_id())? {
             trees = trees.saturating_add(1);
         }
-        least = least.min(start.elapsed(&rt)?.as_micros());
+        least = least.min(start.elapsed(rt)?.as_micros());
     }
     println!(rt; "{} instructions, a tree {trees} times", count(&body))?;
     eprintln!(rt; "{least}")?;
     Ok(())
-}
-
-fn number(word: Option<&String>) -> usize {
-    match word {
-        Some(word) => word.parse::<usize>().unwrap_or(0),
-        None => 0,
-    }
 }
 
 fn count(body: &FunctionBuilder) -> usize {

@@ -1,13 +1,12 @@
-//! Times the collections of a module: `walrus_collections_bench COUNT`.
+//! Times the collections of a module: `walrus_bench collections COUNT`.
 //!
 //! Adds so many items to each of the nine collections, looks each up by its id, and deletes them. How many are found and how
 //! many are left in each is printed on standard output; on standard error, for each collection, the microseconds of
 //! adding, of finding and of deleting.
-#![tactic(auto)]
 
+use crate::words::number;
 use anyhow::Result;
 use std::alloc::{AllocError, Global};
-use std::env;
 use std::time::Instant;
 use walrus_arena::{FunctionId, Id, ImportId, MemoryId, TableId, Tombstone, TypeId};
 use walrus_collections::module_items::{DataKind, ElementItems, ElementKind};
@@ -18,21 +17,22 @@ use walrus_collections::{
 use walrus_forms::{RefType, ValType};
 use walrus_instr::{ConstExpr, Value};
 
-fn main(rt: HostRuntime) -> Result<()> {
-    let words: Vec<String> = env::args(&rt)?.collect(rt.alloc())?;
-    let count = match words.get(1) {
-        Some(word) => word.parse::<usize>().unwrap_or(0),
-        None => 0,
-    };
-    imports(&rt, count)?;
-    exports(&rt, count)?;
-    functions(&rt, count)?;
-    tables(&rt, count)?;
-    memories(&rt, count)?;
-    globals(&rt, count)?;
-    tags(&rt, count)?;
-    data(&rt, count)?;
-    elements(&rt, count)
+/// Does what the words say.
+pub(crate) fn run(rt: &HostRuntime, words: &[String]) -> Result<()> {
+    work(rt, number(words, 2))
+}
+
+/// Times so many items in each collection.
+pub(crate) fn work(rt: &HostRuntime, count: usize) -> Result<()> {
+    imports(rt, count)?;
+    exports(rt, count)?;
+    functions(rt, count)?;
+    tables(rt, count)?;
+    memories(rt, count)?;
+    globals(rt, count)?;
+    tags(rt, count)?;
+    data(rt, count)?;
+    elements(rt, count)
 }
 
 fn add_imports(items: &mut ModuleImports, count: usize) -> Result<(), AllocError> {

@@ -1,6 +1,6 @@
 use Rattle.std.proofs.Common.{ap, ◌∙◌}
 use Rattle.walrus_index_maps.specs.Maps.{Indices}
-use Rattle.walrus_body_bench.proofs.module.numbers.Goals as goal
+use Rattle.walrus_bench.proofs.module.numbers.Goals as goal
 
 pub push_func-requires-clause-is_new : goal.push_func-requires-clause-is_new
 push_func-requires-clause-is_new c = ap (λ (m : Indices). m.functions.number c.from_index.result) c.new-maps.ensures

@@ -1,15 +1,13 @@
-//! Reads and writes a body, to be timed: `walrus_body_bench FILE parse` reads the body of a function that a file holds, with `both` for
+//! Reads and writes a body, to be timed: `walrus_bench body FILE parse` reads the body of a function that a file holds, with `both` for
 //! `parse` it writes it again, with `load` it does neither. It prints how many instructions it read and how many bytes it wrote.
-#![tactic(auto)]
 
 ghost use Rattle.std.specs.Prelude.{◌<◌, length};
 
-mod module;
-
 use crate::module::{numbers, parse};
+use crate::words::word;
 use anyhow::{Result, bail};
 use std::alloc::Global;
-use std::{env, fs, mem};
+use std::{fs, mem};
 use walrus_arena::FunctionId;
 use walrus_body_env::BodyError;
 use walrus_body_writer::Output;
@@ -28,16 +26,18 @@ const NOTHING: Seen = Seen {
     written: 0,
 };
 
-fn main(rt: HostRuntime) -> Result<()> {
-    let words: Vec<String> = env::args(&rt)?.collect(rt.alloc())?;
-    let [_, file, way] = words.as_slice() else {
-        bail!("walrus_body_bench FILE load|parse|both");
-    };
-    let bytes = fs::read(&rt, file.as_str())?;
+/// Does what the words say.
+pub(crate) fn run(rt: &HostRuntime, words: &[String]) -> Result<()> {
+    work(rt, word(words, 2), word(words, 3))
+}
+
+/// Reads the file's body in this way, and writes it where that is asked.
+pub(crate) fn work(rt: &HostRuntime, file: &str, way: &str) -> Result<()> {
+    let bytes = fs::read(rt, file)?;
     if bytes.len() >= 1 << 31 {
         bail!("the file is too long");
     }
-    let seen = match way.as_str() {
+    let seen = match way {
         "parse" => read_and_write(rt.alloc(), &bytes, false),
         "both" => read_and_write(rt.alloc(), &bytes, true),
         _ => Ok(NOTHING),

@@ -1,4 +1,4 @@
-//! Works on type tables: `walrus_types_bench SINGLES GROUPS LOOKED_UP EDITS FRONTS`. `bench/types.py` times it.
+//! Works on type tables: `walrus_bench types SINGLES GROUPS LOOKED_UP EDITS FRONTS`. `bench/types.py` times it.
 //!
 //! Makes so many single function types and groups of two structures that name each other, writes them,
 //! parses what was written into a new table, adds half of the single types again, and writes that table.
@@ -6,27 +6,40 @@
 //! type and renames it, and every second one deletes it. Adds to a third table so many types whose first 1,000
 //! parameters are the same. The counts of groups, of types that were found, of types that are left and of
 //! types with one front are printed.
-#![tactic(auto)]
 
+use crate::words::number;
 use anyhow::Result;
 use std::alloc::Global;
-use std::env;
 use walrus_arena::TypeId;
 use walrus_types::{
     CompositeType, FieldType, HeapType, IrError, ModuleTypes, NewType, RefType, StorageType,
     StructType, ValType,
 };
 
-fn main(rt: HostRuntime) -> Result<()> {
-    let words: Vec<String> = env::args(&rt)?.collect(rt.alloc())?;
-    let (written, found) = singles_and_groups(
-        rt.alloc(),
-        number(words.get(1)),
-        number(words.get(2)),
-        number(words.get(3)),
-    )?;
-    let left = edit(rt.alloc(), number(words.get(4)))?;
-    let fronts = add_fronts(rt.alloc(), number(words.get(5)))?;
+/// Does what the words say.
+pub(crate) fn run(rt: &HostRuntime, words: &[String]) -> Result<()> {
+    work(
+        rt,
+        number(words, 2),
+        number(words, 3),
+        number(words, 4),
+        number(words, 5),
+        number(words, 6),
+    )
+}
+
+/// Makes, writes and edits tables of so many types, and tells what is in them.
+pub(crate) fn work(
+    rt: &HostRuntime,
+    singles: usize,
+    groups: usize,
+    looked_up: usize,
+    edits: usize,
+    fronts: usize,
+) -> Result<()> {
+    let (written, found) = singles_and_groups(rt.alloc(), singles, groups, looked_up)?;
+    let left = edit(rt.alloc(), edits)?;
+    let fronts = add_fronts(rt.alloc(), fronts)?;
     println!(rt; "{written} groups, {found} found, {left} left, {fronts} with one front")?;
     Ok(())
 }
@@ -43,13 +56,6 @@ fn singles_and_groups(
     add_groups(alloc, &mut types, groups)?;
     let written = write_again(alloc, &types, singles)?;
     Ok((written, find_singles(&types, singles, looked_up)))
-}
-
-fn number(word: Option<&String>) -> usize {
-    match word {
-        Some(word) => word.parse::<usize>().unwrap_or(0),
-        None => 0,
-    }
 }
 
 // Writes the table, parses what was written into a new one, adds half of the single types to it again,

@@ -1,4 +1,4 @@
-//! Times the dropping of what a module doesn't use: `walrus_gc_bench SHAPE COUNT KEPT MODULES`.
+//! Times the dropping of what a module doesn't use: `walrus_bench gc SHAPE COUNT KEPT MODULES`.
 //!
 //! Makes so many modules of so many items in one of four shapes, and then lets `gc::run` drop what isn't used from each in turn:
 //!
@@ -9,11 +9,10 @@
 //!
 //! Where `half` is kept, each function calls the next but one, and every second segment is passive; else all is kept. What
 //! lives in a module before and after is printed on standard output; on standard error the microseconds of all `gc::run`.
-#![tactic(auto)]
 
-use anyhow::Result;
+use crate::words::{number, word};
+use anyhow::{Result, bail};
 use std::alloc::{AllocError, Global};
-use std::env;
 use std::time::Instant;
 use walrus_arena::{FunctionId, Id, MemoryId, TableId, Tombstone, TypeId};
 use walrus_builder::FunctionBuilder;
@@ -29,17 +28,28 @@ use walrus_types::{
     StorageType, StructType, ValType,
 };
 
-fn main(rt: HostRuntime) -> Result<()> {
-    let words: Vec<String> = env::args(&rt)?.collect(rt.alloc())?;
-    match measure(&rt, words.as_slice()) {
-        Some(measured) => tell(&rt, &measured),
-        None => refuse(&rt),
-    }
+/// Does what the words say.
+pub(crate) fn run(rt: &HostRuntime, words: &[String]) -> Result<()> {
+    let step = if word(words, 4) == "half" { 2 } else { 1 };
+    work(rt, word(words, 2), count(words, 3), step, count(words, 5))
 }
 
-fn refuse(rt: &HostRuntime) -> Result<()> {
-    eprintln!(rt; "refused")?;
-    Ok(())
+fn count(words: &[String], at: usize) -> u32 {
+    u32::try_from(number(words, at)).unwrap_or(0)
+}
+
+/// Drops what isn't used from so many modules of this shape, where one item of so many is kept.
+pub(crate) fn work(
+    rt: &HostRuntime,
+    shape: &str,
+    count: u32,
+    step: u32,
+    modules: u32,
+) -> Result<()> {
+    match measure(rt, shape, count, step, modules) {
+        Some(measured) => tell(rt, &measured),
+        None => bail!("refused"),
+    }
 }
 
 /// How many items live.
@@ -59,33 +69,37 @@ struct Measured {
     took: u128,
 }
 
-fn number(word: Option<&String>) -> u32 {
-    match word {
-        Some(word) => word.parse::<u32>().unwrap_or(0),
-        None => 0,
-    }
+fn made(alloc: Global, shape: &str, count: u32, step: u32) -> Option<Module<()>> {
+    let mut input = Module::with_config(alloc, ModuleConfig::new());
+    make(alloc, &mut input, shape, count, step)?;
+    Some(input)
 }
 
-fn is(word: Option<&String>, text: &str) -> bool {
-    word.is_some_and(|word| word.as_str() == text)
+fn make_all(
+    alloc: Global,
+    inputs: &mut Vec<Module<()>>,
+    shape: &str,
+    count: u32,
+    step: u32,
+    modules: u32,
+) -> Option<()> {
+    for _ in 0..modules {
+        inputs.push(made(alloc, shape, count, step)?).ok()?;
+    }
+    Some(())
 }
 
-// Makes modules as the words say and drops what isn't used. None where something was refused. The modules are owned here, and
-// each is borrowed by what makes no error in a box alone, as their sections may be boxes: hence both loops.
-fn measure(rt: &HostRuntime, words: &[String]) -> Option<Measured> {
-    let count = number(words.get(2));
-    let step = if is(words.get(3), "half") { 2 } else { 1 };
-    let mut inputs: Vec<Module> = Vec::new(rt.alloc());
-    for _ in 0..number(words.get(4)) {
-        let mut input = Module::with_config(rt.alloc(), ModuleConfig::new());
-        make(rt.alloc(), &mut input, words.get(1), count, step)?;
-        inputs.push(input).ok()?;
+fn drop_from_all(alloc: Global, inputs: &mut [Module<()>]) -> Option<()> {
+    for input in inputs {
+        gc::run(alloc, input).ok()?;
     }
+    Some(())
+}
+
+fn timed(rt: &HostRuntime, inputs: &mut [Module<()>]) -> Option<Measured> {
     let before = count_lived(inputs.first()?);
     let start = Instant::now(rt).ok()?;
-    for input in inputs.as_mut_slice() {
-        gc::run(rt.alloc(), input).ok()?;
-    }
+    drop_from_all(rt.alloc(), inputs)?;
     let took = start.elapsed(rt).ok()?.as_micros();
     let after = count_lived(inputs.last()?);
     Some(Measured {
@@ -95,7 +109,14 @@ fn measure(rt: &HostRuntime, words: &[String]) -> Option<Measured> {
     })
 }
 
-fn count_lived(input: &Module) -> Lived {
+// Makes modules as the words say and drops what isn't used. None where something was refused.
+fn measure(rt: &HostRuntime, shape: &str, count: u32, step: u32, modules: u32) -> Option<Measured> {
+    let mut inputs = Vec::new(rt.alloc());
+    make_all(rt.alloc(), &mut inputs, shape, count, step, modules)?;
+    timed(rt, inputs.as_mut_slice())
+}
+
+fn count_lived(input: &Module<()>) -> Lived {
     Lived {
         functions: count_of(&input.funcs),
         types: count_types(&input.types),
@@ -142,21 +163,15 @@ fn count_types(types: &ModuleTypes) -> usize {
 }
 
 // Adds so many items in the shape of this name.
-fn make(
-    alloc: Global,
-    input: &mut Module,
-    shape: Option<&String>,
-    count: u32,
-    step: u32,
-) -> Option<()> {
-    if is(shape, "segments") {
+fn make(alloc: Global, input: &mut Module<()>, shape: &str, count: u32, step: u32) -> Option<()> {
+    if shape == "segments" {
         return add_segments(alloc, input, count, step);
     }
-    if is(shape, "groups") {
+    if shape == "groups" {
         add_groups(alloc, &mut input.types, &mut input.funcs, count / 2, step)?;
     } else {
         let ty = input.types.add(&[], &[]).ok()?;
-        add_callers(alloc, &mut input.funcs, ty, count, step, is(shape, "cycle")).ok()?;
+        add_callers(alloc, &mut input.funcs, ty, count, step, shape == "cycle").ok()?;
     }
     input.exports.add("f", FunctionId::from_index(0)).ok()?;
     Some(())
@@ -298,7 +313,7 @@ fn holders_of(alloc: Global, ty: TypeId) -> Result<NewType, AllocError> {
 }
 
 // Adds half as many data segments and half as many element segments, a memory, a table and a function.
-fn add_segments(alloc: Global, input: &mut Module, count: u32, step: u32) -> Option<()> {
+fn add_segments(alloc: Global, input: &mut Module<()>, count: u32, step: u32) -> Option<()> {
     let ty = input.types.add(&[], &[]).ok()?;
     add_callers(alloc, &mut input.funcs, ty, 1, 1, true).ok()?;
     input.memories.add_local(false, false, 1, None, None).ok()?;
