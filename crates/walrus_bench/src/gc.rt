@@ -10,6 +10,7 @@
 //! Where `half` is kept, each function calls the next but one, and every second segment is passive; else all is kept. What
 //! lives in a module before and after is printed on standard output; on standard error the microseconds of all `gc::run`.
 
+use crate::none::NoSection;
 use crate::words::{number, word};
 use anyhow::{Result, bail};
 use std::alloc::{AllocError, Global};
@@ -69,7 +70,7 @@ struct Measured {
     took: u128,
 }
 
-fn made(alloc: Global, shape: &str, count: u32, step: u32) -> Option<Module<()>> {
+fn made(alloc: Global, shape: &str, count: u32, step: u32) -> Option<Module<NoSection>> {
     let mut input = Module::with_config(alloc, ModuleConfig::new());
     make(alloc, &mut input, shape, count, step)?;
     Some(input)
@@ -77,7 +78,7 @@ fn made(alloc: Global, shape: &str, count: u32, step: u32) -> Option<Module<()>>
 
 fn make_all(
     alloc: Global,
-    inputs: &mut Vec<Module<()>>,
+    inputs: &mut Vec<Module<NoSection>>,
     shape: &str,
     count: u32,
     step: u32,
@@ -89,14 +90,14 @@ fn make_all(
     Some(())
 }
 
-fn drop_from_all(alloc: Global, inputs: &mut [Module<()>]) -> Option<()> {
+fn drop_from_all(alloc: Global, inputs: &mut [Module<NoSection>]) -> Option<()> {
     for input in inputs {
         gc::run(alloc, input).ok()?;
     }
     Some(())
 }
 
-fn timed(rt: &HostRuntime, inputs: &mut [Module<()>]) -> Option<Measured> {
+fn timed(rt: &HostRuntime, inputs: &mut [Module<NoSection>]) -> Option<Measured> {
     let before = count_lived(inputs.first()?);
     let start = Instant::now(rt).ok()?;
     drop_from_all(rt.alloc(), inputs)?;
@@ -116,7 +117,7 @@ fn measure(rt: &HostRuntime, shape: &str, count: u32, step: u32, modules: u32) -
     timed(rt, inputs.as_mut_slice())
 }
 
-fn count_lived(input: &Module<()>) -> Lived {
+fn count_lived(input: &Module<NoSection>) -> Lived {
     Lived {
         functions: count_of(&input.funcs),
         types: count_types(&input.types),
@@ -163,7 +164,13 @@ fn count_types(types: &ModuleTypes) -> usize {
 }
 
 // Adds so many items in the shape of this name.
-fn make(alloc: Global, input: &mut Module<()>, shape: &str, count: u32, step: u32) -> Option<()> {
+fn make(
+    alloc: Global,
+    input: &mut Module<NoSection>,
+    shape: &str,
+    count: u32,
+    step: u32,
+) -> Option<()> {
     if shape == "segments" {
         return add_segments(alloc, input, count, step);
     }
@@ -313,7 +320,7 @@ fn holders_of(alloc: Global, ty: TypeId) -> Result<NewType, AllocError> {
 }
 
 // Adds half as many data segments and half as many element segments, a memory, a table and a function.
-fn add_segments(alloc: Global, input: &mut Module<()>, count: u32, step: u32) -> Option<()> {
+fn add_segments(alloc: Global, input: &mut Module<NoSection>, count: u32, step: u32) -> Option<()> {
     let ty = input.types.add(&[], &[]).ok()?;
     add_callers(alloc, &mut input.funcs, ty, 1, 1, true).ok()?;
     input.memories.add_local(false, false, 1, None, None).ok()?;

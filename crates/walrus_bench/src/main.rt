@@ -6,6 +6,7 @@ mod body;
 mod collections;
 mod gc;
 mod module;
+mod none;
 mod tree;
 mod types;
 mod words;
