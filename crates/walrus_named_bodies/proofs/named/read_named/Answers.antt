@@ -11,7 +11,7 @@ use Rattle.walrus_named_bodies.proofs.named.read_named.Goals as goal
 pub returns-in_err-read_code-clause-stops : goal.returns-in_err-read_code-clause-stops
 returns-in_err-read_code-clause-stops c =
     handed (λ (error : ModuleError). IsCodeRefusal c.args.features c.args.sections.now c.args.tags.now c.args.memories.now (bodies_in c.args.sections.now c.args.functions.now) (state c.args.types.now c.args.locals.now (ids c.args.maps.now) c.args.functions.now) error)
-    c.in_err-read_code.field-0.0 c.from_residual-in_err-read_code.result c.from_residual-in_err-read_code.ensures c.in_err-read_code.ensures.stops
+    c.in_err-read_code.field-0.0 c.from_residual.result c.from_residual.ensures c.in_err-read_code.ensures.stops
 
 pub name_items-requires : goal.name_items-requires
 name_items-requires c =
