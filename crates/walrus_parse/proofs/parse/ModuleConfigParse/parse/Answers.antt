@@ -5,7 +5,7 @@ use Rattle.walrus_named_bodies.specs.walrus_item_names.walrus_module.walrus_body
 use Rattle.walrus_parse.specs.Parsed.{read_features}
 use Rattle.walrus_parse.specs.Refusals.{IsRefusal}
 use Rattle.walrus_parse.proofs.ReadLemmas.{is_read}
-use Rattle.walrus_parse.proofs.WholeLemmas.{handed}
+use Rattle.walrus_named_bodies.proofs.CodeLemmas.{handed}
 use Rattle.walrus_parse.proofs.parse.ModuleConfigParse.parse.Goals as goal
 
 pub returns-in_err-parse_into-clause-refused : goal.returns-in_err-parse_into-clause-refused

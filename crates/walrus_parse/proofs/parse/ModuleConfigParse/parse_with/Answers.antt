@@ -8,7 +8,7 @@ use Rattle.walrus_named_bodies.specs.walrus_item_names.walrus_module.walrus_body
 use Rattle.walrus_parse.specs.Parsed.{HandsOn, read_features}
 use Rattle.walrus_parse.specs.Refusals.{IsRefusal}
 use Rattle.walrus_parse.proofs.ReadLemmas.{is_read, leaves_so}
-use Rattle.walrus_parse.proofs.WholeLemmas.{handed}
+use Rattle.walrus_named_bodies.proofs.CodeLemmas.{handed}
 use Rattle.walrus_parse.proofs.parse.ModuleConfigParse.parse_with.Goals as goal
 
 pub returns-in_err-found-clause-refused : goal.returns-in_err-found-clause-refused
