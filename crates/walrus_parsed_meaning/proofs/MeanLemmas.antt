@@ -54,7 +54,7 @@ use Rattle.walrus_parsed_linked.specs.walrus_parsed_items.Items.{ReadModulesHave
 use Rattle.walrus_parsed_linked.specs.walrus_parsed_items.walrus_into_laws.Groups.{GroupsMean, ReadTypesAreDeclared, kept}
 use Rattle.walrus_parsed_linked.specs.walrus_parsed_items.walrus_into_laws.Meaning.{CustomsMean, OrderedStay, OthersStay, own_custom, type_id}
 use Rattle.walrus_parsed_linked.specs.walrus_parsed_items.walrus_into_laws.Renamed.{retyped_table}
-use Rattle.walrus_parsed_linked.specs.walrus_parsed_items.walrus_parse.Named.{all_names}
+use Rattle.walrus_named_bodies.specs.Named.{all_names}
 use Rattle.walrus_parsed_linked.specs.walrus_parsed_items.walrus_parse.Parsed.{named_in, read_features}
 use Rattle.walrus_parsed_linked.specs.walrus_parsed_items.walrus_parse.walrus_item_names.Holder.{Holder}
 use Rattle.walrus_parsed_linked.specs.walrus_parsed_items.walrus_parse.walrus_item_names.Names.{bare_function, bare_global, bare_local, bare_tag, bare_type}

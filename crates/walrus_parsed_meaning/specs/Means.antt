@@ -56,7 +56,7 @@ use Rattle.walrus_handler_types.specs.walrus_tree.walrus_walks.walrus_types.Item
 use Rattle.walrus_parsed_groups.specs.Added.{added}
 use Rattle.walrus_parsed_groups.specs.Files.{bodies_handle, sent}
 use Rattle.walrus_parsed_linked.specs.walrus_parsed_items.walrus_into_laws.Meaning.{OthersStay, own_custom}
-use Rattle.walrus_parsed_linked.specs.walrus_parsed_items.walrus_parse.Named.{all_names}
+use Rattle.walrus_named_bodies.specs.Named.{all_names}
 use Rattle.walrus_parsed_linked.specs.walrus_parsed_items.walrus_parse.Parsed.{IsReadAs, read_features}
 use Rattle.walrus_parsed_linked.specs.walrus_parsed_items.walrus_parse.walrus_item_names.Holder.{Holder, holder}
 use Rattle.walrus_parsed_linked.specs.walrus_parsed_items.walrus_parse.walrus_item_names.Names.{name_at}
