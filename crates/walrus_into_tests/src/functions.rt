@@ -4,7 +4,6 @@ ghost use Rattle.std.specs.Prelude.{◌≡◌, ◌<◌, length, IfOk};
 ghost use Rattle.walrus_index_maps.specs.Views.{ids};
 
 use std::alloc::{AllocError, Global};
-use std::test::Fail;
 use walrus_arena::{FunctionId, TypeId};
 use walrus_collections::ModuleFunctions;
 use walrus_collections::module_items::FunctionKind;
@@ -69,19 +68,16 @@ fn names(maps: &IndicesToIds, index: u32, id: usize) -> bool {
     }
 }
 
-fn adds_as_read(alloc: Global) -> Result<bool, AllocError> {
-    let mut maps = two_types(alloc)?;
-    let mut functions = ModuleFunctions::new(alloc);
-    add_three(&mut maps, &mut functions)?;
-    Ok(
-        is_as(&functions, FunctionId::from_index(0), 3, Some(0))
-            && is_as(&functions, FunctionId::from_index(1), 5, None)
-            && is_as(&functions, FunctionId::from_index(2), 3, None)
-            && !functions.contains(FunctionId::from_index(3))
-            && names(&maps, 0, 0)
-            && names(&maps, 1, 1)
-            && names(&maps, 2, 2),
-    )
+// Whether there are just those of the file, each as it was read.
+fn are_as_read(functions: &ModuleFunctions) -> bool {
+    is_as(functions, FunctionId::from_index(0), 3, Some(0))
+        && is_as(functions, FunctionId::from_index(1), 5, None)
+        && is_as(functions, FunctionId::from_index(2), 3, None)
+        && !functions.contains(FunctionId::from_index(3))
+}
+
+fn are_named(maps: &IndicesToIds) -> bool {
+    names(maps, 0, 0) && names(maps, 1, 1) && names(maps, 2, 2)
 }
 
 // Whether this function has the body at this place.
@@ -90,15 +86,6 @@ fn is_pair(pairs: &[FunctionBody], at: usize, id: usize, place: u64) -> bool {
         Some(pair) => pair.function().index() == id && pair.chunk.place == place,
         None => false,
     }
-}
-
-// Whether the file's functions get so many of these bodies, the first ones, in turn.
-fn gives(alloc: Global, bodies: &[Chunk], count: usize) -> Result<bool, AllocError> {
-    let mut maps = two_types(alloc)?;
-    let mut functions = ModuleFunctions::new(alloc);
-    add_three(&mut maps, &mut functions)?;
-    let pairs = pair_bodies(alloc, &functions, bodies)?;
-    Ok(pairs.len() == count && is_pair(&pairs, 0, 1, 1) && (count < 2 || is_pair(&pairs, 1, 2, 4)))
 }
 
 // As many bodies as there are here, and one more.
@@ -117,37 +104,81 @@ const BODIES: [Chunk<'static>; 3] = [
     },
 ];
 
-fn adds_one(alloc: Global) -> Result<bool, AllocError> {
+// Whether these are so many of the bodies, the first ones, in turn.
+fn are_pairs(pairs: &[FunctionBody], count: usize) -> bool {
+    pairs.len() == count && is_pair(pairs, 0, 1, 1) && (count < 2 || is_pair(pairs, 1, 2, 4))
+}
+
+// Whether the functions get so many of these bodies.
+fn give(
+    alloc: Global,
+    functions: &ModuleFunctions,
+    bodies: &[Chunk],
+    count: usize,
+) -> Result<bool, AllocError> {
+    Ok(are_pairs(&pair_bodies(alloc, functions, bodies)?, count))
+}
+
+// What is asked of the file's functions: what was added, or, of so many bodies, how many they get in turn.
+#[derive(Clone, Copy)]
+enum Ask {
+    Added,
+    Bodies(usize, usize),
+}
+
+fn holds(
+    alloc: Global,
+    maps: &IndicesToIds,
+    functions: &ModuleFunctions,
+    ask: Ask,
+) -> Result<bool, AllocError> {
+    match ask {
+        Ask::Added => Ok(are_as_read(functions) && are_named(maps)),
+        Ask::Bodies(left, count) => match BODIES.get(..left) {
+            Some(bodies) => give(alloc, functions, bodies, count),
+            None => Ok(false),
+        },
+    }
+}
+
+fn adds(
+    alloc: Global,
+    maps: &mut IndicesToIds,
+    functions: &mut ModuleFunctions,
+    ask: Ask,
+) -> Result<bool, AllocError>
+    requires { length (ids maps.old).types ≡ 2 }
+{
+    add_three(maps, functions)?;
+    holds(alloc, maps, functions, ask)
+}
+
+fn is_so(alloc: Global, ask: Ask) -> Result<bool, AllocError> {
+    let mut maps = two_types(alloc)?;
     let mut functions = ModuleFunctions::new(alloc);
-    let id = add_bodiless(TypeId::from_index(7), &mut functions)?;
-    Ok(id.index() == 0 && is_as(&functions, id, 7, None))
+    adds(alloc, &mut maps, &mut functions, ask)
+}
+
+// What is too much of either is left out.
+#[test]
+fn functions_of_a_file(rt: HostRuntime) {
+    for ask in [
+        Ask::Added,
+        Ask::Bodies(2, 2),
+        Ask::Bodies(1, 1),
+        Ask::Bodies(3, 2),
+    ] {
+        assert!(rt; is_so(rt.alloc(), ask) == Ok(true));
+    }
+}
+
+fn adds_one(functions: &mut ModuleFunctions) -> Result<bool, AllocError> {
+    let id = add_bodiless(TypeId::from_index(7), functions)?;
+    Ok(id.index() == 0 && is_as(functions, id, 7, None))
 }
 
 #[test]
-fn functions_are_added_as_they_were_read(rt: HostRuntime) -> Result<(), Fail> {
-    let added = adds_as_read(rt.alloc())?;
-    assert!(rt; added);
-    Ok(())
-}
-
-#[test]
-fn own_functions_get_the_bodies_in_turn(rt: HostRuntime) -> Result<(), Fail> {
-    let given = gives(rt.alloc(), &BODIES[..2], 2)?;
-    assert!(rt; given);
-    Ok(())
-}
-
-#[test]
-fn what_is_too_much_of_either_is_left_out(rt: HostRuntime) -> Result<(), Fail> {
-    let fewer = gives(rt.alloc(), &BODIES[..1], 1)?;
-    let more = gives(rt.alloc(), &BODIES, 2)?;
-    assert!(rt; fewer && more);
-    Ok(())
-}
-
-#[test]
-fn one_function_without_a_body_is_added(rt: HostRuntime) -> Result<(), Fail> {
-    let added = adds_one(rt.alloc())?;
-    assert!(rt; added);
-    Ok(())
+fn one_function_without_a_body_is_added(rt: HostRuntime) {
+    let mut functions = ModuleFunctions::new(rt.alloc());
+    assert!(rt; adds_one(&mut functions) == Ok(true));
 }

@@ -1,7 +1,6 @@
 //! Names of a file of one function of one local, given to the items of a module.
 use crate::names::{CUT, LOCAL};
 use std::alloc::{AllocError, Global};
-use std::test::Fail;
 use walrus_builder::FunctionBuilder;
 use walrus_config::ModuleConfig;
 use walrus_index_maps::IndicesToIds;
@@ -70,19 +69,22 @@ fn are_called(module: &Module, function: &str, local: &str) -> bool {
     }
 }
 
-// Whether they are, once the names of this payload are given.
-fn gives(
+// Whether they are, once the names of this payload are given to a function and a local that are added.
+fn are_given(
     alloc: Global,
-    payload: &[u8],
-    skips_empty: bool,
-    function: &str,
-    local: &str,
+    maps: &mut IndicesToIds,
+    module: &mut Module,
+    (payload, skips_empty, function, local): Row,
 ) -> Result<bool, AllocError> {
+    add_function(alloc, maps, module)?;
+    give(alloc, maps, payload, skips_empty, module)?;
+    Ok(are_called(module, function, local))
+}
+
+fn gives(alloc: Global, row: Row) -> Result<bool, AllocError> {
     let mut maps = IndicesToIds::new(alloc);
     let mut module = Module::with_config(alloc, ModuleConfig::new());
-    add_function(alloc, &mut maps, &mut module)?;
-    give(alloc, &maps, payload, skips_empty, &mut module)?;
-    Ok(are_called(&module, function, local))
+    are_given(alloc, &mut maps, &mut module, row)
 }
 
 // The function 0: a, and then b.
@@ -91,22 +93,21 @@ const TWICE: &[u8] = b"\x01\x04\x01\x00\x01a\x01\x04\x01\x00\x01b";
 // Its local 0: x, and then the empty name.
 const EMPTIED: &[u8] = b"\x02\x06\x01\x00\x01\x00\x01x\x02\x05\x01\x00\x01\x00\x00";
 
-#[test]
-fn items_have_the_names_of_the_file(rt: HostRuntime) -> Result<(), Fail> {
-    let local = gives(rt.alloc(), LOCAL, false, "", "x")?;
-    assert!(rt; local);
-    let function = gives(rt.alloc(), CUT, false, "a", "")?;
-    assert!(rt; function);
-    Ok(())
-}
+// A payload, whether empty names are skipped, and what the function and the local are called then.
+type Row = (&'static [u8], bool, &'static str, &'static str);
+
+// The last name wins.
+const ROWS: [Row; 5] = [
+    (LOCAL, false, "", "x"),
+    (CUT, false, "a", ""),
+    (TWICE, false, "b", ""),
+    (EMPTIED, false, "", ""),
+    (EMPTIED, true, "", "x"),
+];
 
 #[test]
-fn the_last_name_wins(rt: HostRuntime) -> Result<(), Fail> {
-    let last = gives(rt.alloc(), TWICE, false, "b", "")?;
-    assert!(rt; last);
-    let emptied = gives(rt.alloc(), EMPTIED, false, "", "")?;
-    assert!(rt; emptied);
-    let skipped = gives(rt.alloc(), EMPTIED, true, "", "x")?;
-    assert!(rt; skipped);
-    Ok(())
+fn items_have_the_names_of_the_file(rt: HostRuntime) {
+    for row in ROWS {
+        assert!(rt; gives(rt.alloc(), row) == Ok(true));
+    }
 }

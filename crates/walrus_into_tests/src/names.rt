@@ -1,6 +1,5 @@
 //! Names of a file of one function of one local.
 use std::alloc::{AllocError, Global};
-use std::test::Fail;
 use walrus_arena::{FunctionId, LocalId, TypeId};
 use walrus_index_maps::IndicesToIds;
 use walrus_payload_readers::{Bearer, Given};
@@ -25,6 +24,19 @@ fn is_only(names: &[Given<'_>], bearer: Bearer, name: &str) -> bool {
 }
 
 // Whether a section of this name and payload gives just this name.
+fn gives(
+    alloc: Global,
+    maps: &IndicesToIds,
+    section: &str,
+    payload: &[u8],
+    bearer: Bearer,
+    name: &str,
+) -> Result<bool, AllocError> {
+    let mut names = Vec::new(alloc);
+    read_section_names(maps, section, payload, &mut names)?;
+    Ok(is_only(names.as_slice(), bearer, name))
+}
+
 fn gives_one(
     alloc: Global,
     section: &str,
@@ -33,9 +45,7 @@ fn gives_one(
     name: &str,
 ) -> Result<bool, AllocError> {
     let maps = one_of_each(alloc)?;
-    let mut names = Vec::new(alloc);
-    read_section_names(&maps, section, payload, &mut names)?;
-    Ok(is_only(names.as_slice(), bearer, name))
+    gives(alloc, &maps, section, payload, bearer, name)
 }
 
 // The function 0, and its local 0: x.
@@ -44,24 +54,22 @@ pub const LOCAL: &[u8] = &[0x02, 0x06, 0x01, 0x00, 0x01, 0x00, 0x01, 0x78];
 // The function 0: a. The next name is cut short.
 pub const CUT: &[u8] = &[0x01, 0x07, 0x02, 0x00, 0x01, 0x61, 0x01, 0x05, 0x62];
 
-#[test]
-fn a_local_has_a_name(rt: HostRuntime) -> Result<(), Fail> {
-    let read = gives_one(rt.alloc(), "name", LOCAL, Bearer::Local(0, 0), "x")?;
-    assert!(rt; read);
-    Ok(())
+fn gives_local(alloc: Global, section: &str) -> Result<bool, AllocError> {
+    gives_one(alloc, section, LOCAL, Bearer::Local(0, 0), "x")
 }
 
 #[test]
-fn what_stands_before_a_fault_is_read(rt: HostRuntime) -> Result<(), Fail> {
+fn a_local_has_a_name(rt: HostRuntime) {
+    assert!(rt; gives_local(rt.alloc(), "name") == Ok(true));
+}
+
+#[test]
+fn other_sections_give_no_names(rt: HostRuntime) {
+    assert!(rt; gives_local(rt.alloc(), "names") == Ok(false));
+}
+
+#[test]
+fn what_stands_before_a_fault_is_read(rt: HostRuntime) {
     let bearer = Bearer::Item(Space::Function, 0);
-    let read = gives_one(rt.alloc(), "name", CUT, bearer, "a")?;
-    assert!(rt; read);
-    Ok(())
-}
-
-#[test]
-fn other_sections_give_no_names(rt: HostRuntime) -> Result<(), Fail> {
-    let read = gives_one(rt.alloc(), "names", LOCAL, Bearer::Local(0, 0), "x")?;
-    assert!(rt; !read);
-    Ok(())
+    assert!(rt; gives_one(rt.alloc(), "name", CUT, bearer, "a") == Ok(true));
 }

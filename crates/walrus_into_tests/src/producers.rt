@@ -1,6 +1,5 @@
 //! Producers of a file.
 use std::alloc::{AllocError, Global};
-use std::test::Fail;
 use walrus_customs::ProducerField;
 use walrus_payloads_into::{producers_of, read_fields};
 
@@ -22,19 +21,25 @@ fn ends_with(fields: &[ProducerField], count: usize, of: &str, name: &str, versi
 }
 
 // The same of the producers of a module with this one section.
-fn gives(
-    alloc: Global,
-    section: &str,
-    payload: &[u8],
-    count: usize,
-    of: &str,
-    name: &str,
-    version: &str,
-) -> Result<bool, AllocError> {
+fn are_given(alloc: Global, fields: Vec<ProducerField>, count: usize) -> Result<bool, AllocError> {
+    let producers = producers_of(alloc, fields)?;
+    Ok(ends_with(
+        producers.fields(),
+        count,
+        "processed-by",
+        "walrus",
+        "0.28.0",
+    ))
+}
+
+fn read(alloc: Global, section: &str, payload: &[u8]) -> Result<Vec<ProducerField>, AllocError> {
     let mut fields = Vec::new(alloc);
     read_fields(alloc, section, payload, &mut fields)?;
-    let producers = producers_of(alloc, fields)?;
-    Ok(ends_with(producers.fields(), count, of, name, version))
+    Ok(fields)
+}
+
+fn gives(alloc: Global, section: &str, payload: &[u8], count: usize) -> Result<bool, AllocError> {
+    are_given(alloc, read(alloc, section, payload)?, count)
 }
 
 // The field `sdk`: kit, 2.
@@ -43,47 +48,17 @@ const KIT: &[u8] = b"\x01\x03sdk\x01\x03kit\x012";
 // The field `processed-by`: walrus, 0.27.0.
 const OLD: &[u8] = b"\x01\x0cprocessed-by\x01\x06walrus\x060.27.0";
 
-#[test]
-fn the_entry_is_behind_what_was_read(rt: HostRuntime) -> Result<(), Fail> {
-    let read = gives(
-        rt.alloc(),
-        "producers",
-        KIT,
-        2,
-        "processed-by",
-        "walrus",
-        "0.28.0",
-    )?;
-    assert!(rt; read);
-    Ok(())
-}
+// Sections, and how many fields there are then, of which the last is this tool's entry: behind what was read, in the place of an older one,
+// and alone, where the section has another name.
+const ROWS: [(&str, &[u8], usize); 3] = [
+    ("producers", KIT, 2),
+    ("producers", OLD, 1),
+    ("producer", KIT, 1),
+];
 
 #[test]
-fn an_older_entry_is_replaced(rt: HostRuntime) -> Result<(), Fail> {
-    let read = gives(
-        rt.alloc(),
-        "producers",
-        OLD,
-        1,
-        "processed-by",
-        "walrus",
-        "0.28.0",
-    )?;
-    assert!(rt; read);
-    Ok(())
-}
-
-#[test]
-fn a_section_of_another_name_has_no_fields(rt: HostRuntime) -> Result<(), Fail> {
-    let read = gives(
-        rt.alloc(),
-        "producer",
-        KIT,
-        1,
-        "processed-by",
-        "walrus",
-        "0.28.0",
-    )?;
-    assert!(rt; read);
-    Ok(())
+fn the_entry_is_added(rt: HostRuntime) {
+    for (section, payload, count) in ROWS {
+        assert!(rt; gives(rt.alloc(), section, payload, count) == Ok(true));
+    }
 }

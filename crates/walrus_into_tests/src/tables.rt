@@ -1,6 +1,5 @@
 //! A table, a global and element segments of a file in which the type 0 has the id 4, and the functions 0 and 1 the ids 7 and 5.
 use std::alloc::Global;
-use std::test::Fail;
 use walrus_arena::{ElementId, FunctionId, GlobalId, ImportId, TableId, TypeId};
 use walrus_index_maps::IndicesToIds;
 use walrus_tables_into::section_values::{Global as ReadGlobal, GlobalOrigin, Limits};
@@ -36,8 +35,7 @@ fn become_ref() -> RefType {
 }
 
 // From the import 3, of 64 bits (flag 4), with a maximum (flag 1).
-fn add_table(alloc: Global, tables: &mut ModuleTables) -> Result<(), IntoError> {
-    let maps = named(alloc)?;
+fn read_table(alloc: Global) -> Result<Vec<Table>, IntoError> {
     let limits = Limits {
         flags: 5,
         minimum: 2,
@@ -52,7 +50,7 @@ fn add_table(alloc: Global, tables: &mut ModuleTables) -> Result<(), IntoError> 
         init: None,
         import: Some(3),
     })?;
-    add_tables(alloc, list.as_slice(), &maps, tables)
+    Ok(list)
 }
 
 fn has_table(tables: &ModuleTables) -> bool {
@@ -69,15 +67,29 @@ fn has_table(tables: &ModuleTables) -> bool {
         && table.init.is_none()
 }
 
-fn add_global(alloc: Global, globals: &mut ModuleGlobals) -> Result<(), IntoError> {
-    let maps = named(alloc)?;
+fn adds_table(
+    alloc: Global,
+    maps: &IndicesToIds,
+    tables: &mut ModuleTables,
+) -> Result<bool, IntoError> {
+    let list = read_table(alloc)?;
+    add_tables(alloc, list.as_slice(), maps, tables)?;
+    Ok(has_table(tables))
+}
+
+fn table_becomes_one(alloc: Global, maps: &IndicesToIds) -> Result<bool, IntoError> {
+    let mut tables = ModuleTables::new(alloc);
+    adds_table(alloc, maps, &mut tables)
+}
+
+fn read_global(alloc: Global) -> Result<Vec<ReadGlobal>, IntoError> {
     let mut list = Vec::new(alloc);
     list.push(ReadGlobal {
         ty: ValRecord::Ref(READ),
         mutable: true,
         origin: GlobalOrigin::Import(1),
     })?;
-    add_globals(alloc, list.as_slice(), &maps, globals)
+    Ok(list)
 }
 
 fn has_global(globals: &ModuleGlobals) -> bool {
@@ -93,25 +105,44 @@ fn has_global(globals: &ModuleGlobals) -> bool {
     is_brought && global.mutable && !global.shared && global.ty == ValType::Ref(become_ref())
 }
 
+fn adds_global(
+    alloc: Global,
+    maps: &IndicesToIds,
+    globals: &mut ModuleGlobals,
+) -> Result<bool, IntoError> {
+    let list = read_global(alloc)?;
+    add_globals(alloc, list.as_slice(), maps, globals)?;
+    Ok(has_global(globals))
+}
+
+fn global_becomes_one(alloc: Global, maps: &IndicesToIds) -> Result<bool, IntoError> {
+    let mut globals = ModuleGlobals::new(alloc);
+    adds_global(alloc, maps, &mut globals)
+}
+
+fn declared(alloc: Global, numbers: &[u32]) -> Result<Element, IntoError> {
+    Ok(Element {
+        mode: Mode::Declared,
+        items: ElementItems::Functions(Vec::from_slice(alloc, numbers)?),
+    })
+}
+
 // Declared segments: one of the functions 1 and 0, and one of this function.
+fn read_segments(alloc: Global, number: u32) -> Result<Vec<Element>, IntoError> {
+    let mut list = Vec::new(alloc);
+    list.push(declared(alloc, &[1, 0])?)?;
+    list.push(declared(alloc, &[number])?)?;
+    Ok(list)
+}
+
 fn add_segments(
     alloc: Global,
+    maps: &IndicesToIds,
     number: u32,
     elements: &mut ModuleElements,
 ) -> Result<(), IntoError> {
-    let maps = named(alloc)?;
-    let numbers = vec![in alloc; 1u32, 0]?;
-    let more = vec![in alloc; number]?;
-    let mut list = Vec::new(alloc);
-    list.push(Element {
-        mode: Mode::Declared,
-        items: ElementItems::Functions(numbers),
-    })?;
-    list.push(Element {
-        mode: Mode::Declared,
-        items: ElementItems::Functions(more),
-    })?;
-    add_elements(alloc, list.as_slice(), &maps, elements)
+    let list = read_segments(alloc, number)?;
+    add_elements(alloc, list.as_slice(), maps, elements)
 }
 
 fn are_ends(list: &[FunctionId], first: FunctionId, last: FunctionId) -> bool {
@@ -139,54 +170,77 @@ fn has_segment(
     }
 }
 
-#[test]
-fn a_table_becomes_one(rt: HostRuntime) -> Result<(), Fail> {
-    let mut tables = ModuleTables::new(rt.alloc());
-    let is_added = add_table(rt.alloc(), &mut tables).is_ok();
-    assert!(rt; is_added && has_table(&tables));
-    Ok(())
-}
-
-#[test]
-fn a_global_becomes_one(rt: HostRuntime) -> Result<(), Fail> {
-    let mut globals = ModuleGlobals::new(rt.alloc());
-    let is_added = add_global(rt.alloc(), &mut globals).is_ok();
-    assert!(rt; is_added && has_global(&globals));
-    Ok(())
-}
-
-#[test]
-fn segments_become_some(rt: HostRuntime) -> Result<(), Fail> {
-    let mut elements = ModuleElements::new(rt.alloc());
-    let is_added = add_segments(rt.alloc(), 0, &mut elements).is_ok();
-    let one = has_segment(
-        &elements,
+// The segment of the functions 5 and 7, which begins and ends with these.
+fn has_first(elements: &ModuleElements) -> bool {
+    has_segment(
+        elements,
         ElementId::from_index(0),
         FunctionId::from_index(5),
         FunctionId::from_index(7),
-    );
-    let other = has_segment(
-        &elements,
+    )
+}
+
+fn has_second(elements: &ModuleElements) -> bool {
+    has_segment(
+        elements,
         ElementId::from_index(1),
         FunctionId::from_index(7),
         FunctionId::from_index(7),
-    );
-    assert!(rt; is_added && one && other);
-    Ok(())
+    )
+}
+
+fn adds_segments(
+    alloc: Global,
+    maps: &IndicesToIds,
+    elements: &mut ModuleElements,
+) -> Result<bool, IntoError> {
+    add_segments(alloc, maps, 0, elements)?;
+    Ok(has_first(elements) && has_second(elements))
+}
+
+fn segments_become_some(alloc: Global, maps: &IndicesToIds) -> Result<bool, IntoError> {
+    let mut elements = ModuleElements::new(alloc);
+    adds_segments(alloc, maps, &mut elements)
 }
 
 // There is no function 2: the first segment stays.
+fn is_refused(alloc: Global, maps: &IndicesToIds, elements: &mut ModuleElements) -> bool {
+    add_segments(alloc, maps, 2, elements) == Err(IntoError::Unknown)
+        && has_first(elements)
+        && !elements.contains(ElementId::from_index(1))
+}
+
+fn refused_segment_ends_them(alloc: Global, maps: &IndicesToIds) -> Result<bool, IntoError> {
+    let mut elements = ModuleElements::new(alloc);
+    Ok(is_refused(alloc, maps, &mut elements))
+}
+
+// What becomes of what was read.
+#[derive(Clone, Copy)]
+enum Ask {
+    Table,
+    Global,
+    Segments,
+    RefusedSegment,
+}
+
+fn holds(alloc: Global, maps: &IndicesToIds, ask: Ask) -> Result<bool, IntoError> {
+    match ask {
+        Ask::Table => table_becomes_one(alloc, maps),
+        Ask::Global => global_becomes_one(alloc, maps),
+        Ask::Segments => segments_become_some(alloc, maps),
+        Ask::RefusedSegment => refused_segment_ends_them(alloc, maps),
+    }
+}
+
+fn is_so(alloc: Global, ask: Ask) -> Result<bool, IntoError> {
+    let maps = named(alloc)?;
+    holds(alloc, &maps, ask)
+}
+
 #[test]
-fn a_refused_segment_ends_them(rt: HostRuntime) -> Result<(), Fail> {
-    let mut elements = ModuleElements::new(rt.alloc());
-    let is_refused = add_segments(rt.alloc(), 2, &mut elements) == Err(IntoError::Unknown);
-    let one = has_segment(
-        &elements,
-        ElementId::from_index(0),
-        FunctionId::from_index(5),
-        FunctionId::from_index(7),
-    );
-    let other = elements.contains(ElementId::from_index(1));
-    assert!(rt; is_refused && one && !other);
-    Ok(())
+fn items_become_those_of_a_module(rt: HostRuntime) {
+    for ask in [Ask::Table, Ask::Global, Ask::Segments, Ask::RefusedSegment] {
+        assert!(rt; matches!(is_so(rt.alloc(), ask), Ok(true)));
+    }
 }

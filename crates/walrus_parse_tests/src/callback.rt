@@ -1,8 +1,9 @@
 //! What a callback is handed of a file, and what it answers.
 
+use crate::helpers::{Ask, has, refused};
+use crate::locations::later;
 use crate::read::{EMPTY, NOP, RETURNS};
 use std::alloc::Global;
-use std::test::Fail;
 use walrus_config::ModuleConfig;
 use walrus_counts::count;
 use walrus_errors::{ModuleError, Result};
@@ -25,28 +26,55 @@ fn check(alloc: Global, module: &Module<()>, indices: &IndicesToIds, functions: 
     Ok(())
 }
 
-// Whether the callback sees so many functions.
-fn sees(alloc: Global, bytes: &[u8], functions: u32) -> bool {
-    let read: Result<Module<()>> = ModuleConfig::new().parse_with(
-        alloc,
-        bytes,
-        InstrLocId::new,
-        |module: &mut Module<()>, indices: &IndicesToIds| check(alloc, module, indices, functions),
-    );
-    read.is_ok()
+/// What a callback does.
+#[derive(Clone, Copy)]
+pub(crate) enum Act {
+    Nothing,
+    /// It refuses a module that hasn't so many functions.
+    Sees(u32),
+    /// It takes the function of this index as the start.
+    Starts(u32),
 }
 
-#[test]
-fn a_callback_sees_the_module(rt: HostRuntime) -> Result<(), Fail> {
-    let alloc = rt.alloc();
-    assert!(rt; sees(alloc, RETURNS, 2));
-    assert!(rt; !sees(alloc, RETURNS, 1));
-    assert!(rt; sees(alloc, NOP, 1));
-    assert!(rt; sees(alloc, EMPTY, 0));
+fn call(alloc: Global, module: &mut Module<()>, indices: &IndicesToIds, act: Act) -> Result<()> {
+    match act {
+        Act::Nothing => {}
+        Act::Sees(functions) => check(alloc, module, indices, functions)?,
+        Act::Starts(index) => module.start = indices.get_func(index).ok(),
+    }
     Ok(())
 }
 
-// Why such a callback's module isn't answered, if it isn't.
+/// The file, read with that callback, where each location is answered by one so many numbers later.
+pub(crate) fn read_with(alloc: Global, bytes: &[u8], by: u32, act: Act) -> Result<Module<()>> {
+    ModuleConfig::new().parse_with(
+        alloc,
+        bytes,
+        |place: u32| later(place, by),
+        |module: &mut Module<()>, indices: &IndicesToIds| call(alloc, module, indices, act),
+    )
+}
+
+// Whether the callback sees so many functions.
+fn sees(alloc: Global, bytes: &[u8], functions: u32) -> bool {
+    refused(read_with(alloc, bytes, 0, Act::Sees(functions))).is_none()
+}
+
+const SEEN: [(&[u8], u32, bool); 4] = [
+    (RETURNS, 2, true),
+    (RETURNS, 1, false),
+    (NOP, 1, true),
+    (EMPTY, 0, true),
+];
+
+#[test]
+fn a_callback_sees_the_module(rt: HostRuntime) {
+    for (bytes, functions, wanted) in SEEN {
+        assert!(rt; sees(rt.alloc(), bytes, functions) == wanted);
+    }
+}
+
+// Why the module of a callback that refuses isn't answered, if it isn't.
 fn refusal(alloc: Global, bytes: &[u8]) -> Option<ModuleError> {
     let read: Result<Module<()>> = ModuleConfig::new().parse_with(
         alloc,
@@ -54,47 +82,28 @@ fn refusal(alloc: Global, bytes: &[u8]) -> Option<ModuleError> {
         InstrLocId::new,
         |_module: &mut Module<()>, _indices: &IndicesToIds| Err(ModuleError::NoTree),
     );
-    match read {
-        Ok(_) => None,
-        Err(error) => Some(error),
-    }
+    refused(read)
 }
 
 // What refuses the file comes first.
 #[test]
-fn its_refusal_is_answered(rt: HostRuntime) -> Result<(), Fail> {
-    let alloc = rt.alloc();
-    assert!(rt; matches!(refusal(alloc, EMPTY), Some(ModuleError::NoTree)));
-    assert!(rt;
-        matches!(
-            refusal(alloc, b"\0asm"),
-            Some(ModuleError::Header { offset: 0 })
-        )
-    );
-    Ok(())
+fn its_refusal_is_answered(rt: HostRuntime) {
+    assert!(rt; refusal(rt.alloc(), EMPTY) == Some(ModuleError::NoTree));
+    assert!(rt; refusal(rt.alloc(), b"\0asm") == Some(ModuleError::Header { offset: 0 }));
 }
 
 // Whether a module is answered whose start function is the one that the callback gave it.
 fn is_changed(alloc: Global, bytes: &[u8], index: u32) -> bool {
-    let read: Result<Module<()>> = ModuleConfig::new().parse_with(
+    has(
         alloc,
-        bytes,
-        InstrLocId::new,
-        |module: &mut Module<()>, indices: &IndicesToIds| {
-            module.start = indices.get_func(index).ok();
-            Ok(())
-        },
-    );
-    match read {
-        Ok(module) => module.start.is_some(),
-        Err(_) => false,
-    }
+        read_with(alloc, bytes, 0, Act::Starts(index)),
+        Ask::Start,
+    )
 }
 
 #[test]
-fn what_it_changes_is_answered(rt: HostRuntime) -> Result<(), Fail> {
-    let alloc = rt.alloc();
-    assert!(rt; is_changed(alloc, RETURNS, 1));
-    assert!(rt; !is_changed(alloc, RETURNS, 2));
-    Ok(())
+fn what_it_changes_is_answered(rt: HostRuntime) {
+    for (index, wanted) in [(1, true), (2, false)] {
+        assert!(rt; is_changed(rt.alloc(), RETURNS, index) == wanted);
+    }
 }

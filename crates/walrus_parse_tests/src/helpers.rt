@@ -1,6 +1,9 @@
 //! What is looked at of a file that is read.
 ghost use Rattle.std.specs.Prelude.{◌≤◌};
 
+use crate::locations::are_at;
+use crate::names::{are_called, are_sections};
+use crate::producers::are_producers;
 use inspect_lines::Counts;
 use std::alloc::{AllocError, Global};
 use walrus_config::ModuleConfig;
@@ -9,10 +12,70 @@ use walrus_errors::{ModuleError, Result};
 use walrus_module::Module;
 use walrus_parse::{FromBuffer, Parse};
 
-// The counts of the module that the bytes are, under the default flags.
-fn counts(alloc: Global, bytes: &[u8]) -> Result<Counts> {
-    let module: Module<()> = Module::from_buffer(alloc, bytes)?;
-    count(alloc, &module)
+/// The call that reads a file.
+#[derive(Clone, Copy)]
+pub(crate) enum Call {
+    FromBuffer,
+    FromBufferWithConfig,
+    Parse,
+}
+
+/// The file, read under these flags, or under the default ones by the call that takes none.
+pub(crate) fn read_by(
+    alloc: Global,
+    call: Call,
+    config: &ModuleConfig,
+    bytes: &[u8],
+) -> Result<Module<()>> {
+    match call {
+        Call::FromBuffer => Module::from_buffer(alloc, bytes),
+        Call::FromBufferWithConfig => Module::from_buffer_with_config(alloc, bytes, config),
+        Call::Parse => config.parse(alloc, bytes),
+    }
+}
+
+/// What is asked of a module.
+#[derive(Clone, Copy)]
+pub(crate) enum Ask<'a> {
+    /// so many items, in the order of `listed`
+    Counts([u64; 11]),
+    /// what its first function and its first two locals are called
+    Names([&'a str; 3]),
+    /// what its first three custom sections are called
+    Sections([&'a str; 3]),
+    /// its producers: the field of each, its name and its version
+    Producers(&'a [[&'a str; 3]]),
+    /// the numbers of its locations
+    Places(&'a [u32]),
+    /// a start function
+    Start,
+}
+
+fn meets(alloc: Global, module: &Module<()>, ask: Ask<'_>) -> bool {
+    match ask {
+        Ask::Counts(counts) => are_counted(alloc, module, counts),
+        Ask::Names(names) => are_called(module, names),
+        Ask::Sections(names) => are_sections(module, names),
+        Ask::Producers(entries) => are_producers(module, entries),
+        Ask::Places(places) => are_at(alloc, module, places),
+        Ask::Start => module.start.is_some(),
+    }
+}
+
+/// Whether a module was read that meets this. (The one function that lets modules go, since each that does is dear to prove.)
+pub(crate) fn has(alloc: Global, read: Result<Module<()>>, ask: Ask<'_>) -> bool {
+    match read {
+        Ok(module) => meets(alloc, &module, ask),
+        Err(_) => false,
+    }
+}
+
+/// Why nothing was read, if nothing was.
+pub(crate) fn refused<T: Drop>(read: Result<T>) -> Option<ModuleError> {
+    match read {
+        Ok(_) => None,
+        Err(error) => Some(error),
+    }
 }
 
 // Counts in the order of their lines.
@@ -32,12 +95,17 @@ fn listed(counts: &Counts) -> [u64; 11] {
     ]
 }
 
-/// Whether the bytes are a module of so many items.
-pub(crate) fn holds(alloc: Global, bytes: &[u8], expected: [u64; 11]) -> bool {
-    match counts(alloc, bytes) {
+fn are_counted(alloc: Global, module: &Module<()>, expected: [u64; 11]) -> bool {
+    match count(alloc, module) {
         Ok(found) => listed(&found) == expected,
         Err(_) => false,
     }
+}
+
+/// Whether the bytes are a module of so many items.
+pub(crate) fn holds(alloc: Global, bytes: &[u8], expected: [u64; 11]) -> bool {
+    let read = read_by(alloc, Call::FromBuffer, &ModuleConfig::new(), bytes);
+    has(alloc, read, Ask::Counts(expected))
 }
 
 /// Why the bytes are refused under these flags, if they are.
@@ -46,11 +114,7 @@ pub(crate) fn fault_under(
     config: &ModuleConfig,
     bytes: &[u8],
 ) -> Option<ModuleError> {
-    let read: Result<Module<()>> = config.parse(alloc, bytes);
-    match read {
-        Ok(_) => None,
-        Err(error) => Some(error),
-    }
+    refused(read_by(alloc, Call::Parse, config, bytes))
 }
 
 /// Why the bytes are refused under the default flags, if they are.

@@ -1,13 +1,12 @@
 //! Names of a file, given to its items.
 ghost use Rattle.std.specs.Prelude.{◌<◌};
 
+use crate::helpers::{Ask, Call, has, read_by};
 use crate::read::{CUSTOMS, LOCALS, NOP};
 use std::alloc::Global;
 use walrus_arena::UntypedCustomSectionId;
 use walrus_config::ModuleConfig;
-use walrus_errors::Result;
 use walrus_module::Module;
-use walrus_parse::{FromBuffer, Parse};
 
 // The local 0 of the function 0 is x.
 const LOCAL: &[u8] =
@@ -45,46 +44,43 @@ fn local_name(module: &Module<()>, number: usize) -> &str {
     }
 }
 
-// Whether the first function, and the first two locals, are called so.
-fn are_called(module: &Module<()>, function: &str, first: &str, second: &str) -> bool {
+/// Whether the first function, and the first two locals, are called so.
+pub(crate) fn are_called(module: &Module<()>, names: [&str; 3]) -> bool {
     match module.funcs.iter().next() {
         Some(own) => {
-            text(&own.name) == function
-                && local_name(module, 0) == first
-                && local_name(module, 1) == second
+            text(&own.name) == names[0]
+                && local_name(module, 0) == names[1]
+                && local_name(module, 1) == names[2]
         }
         None => false,
     }
 }
 
 // Whether they are, once the file is read, with synthetic names or without.
-fn gives(alloc: Global, bytes: &[u8], synthetic: bool, function: &str, locals: [&str; 2]) -> bool {
+fn gives(alloc: Global, bytes: &[u8], synthetic: bool, names: [&str; 3]) -> bool {
     let mut config = ModuleConfig::new();
     config.generate_synthetic_names_for_anonymous_items(synthetic);
-    let read: Result<Module<()>> = Module::from_buffer_with_config(alloc, bytes, &config);
-    match read {
-        Ok(module) => are_called(&module, function, locals[0], locals[1]),
-        Err(_) => false,
-    }
+    let read = read_by(alloc, Call::FromBufferWithConfig, &config, bytes);
+    has(alloc, read, Ask::Names(names))
 }
 
 // Files, whether synthetic names are wanted, and what the function and the first two locals are called then.
-const NAMES: [(&[u8], bool, &str, [&str; 2]); 9] = [
-    (LOCAL, false, "", ["x", ""]),
-    (FUNCTION, false, "a", ["", ""]),
-    (FIRST, false, "a", ["", ""]),
-    (NO_NAMES, false, "", ["", ""]),
-    (UNKNOWN, false, "", ["", ""]),
-    (LOCALS, true, "f0", ["l0", "l1"]),
-    (LOCALS, false, "", ["", ""]),
-    (LOCAL, true, "f0", ["x", ""]),
-    (FUNCTION, true, "a", ["", ""]),
+const NAMES: [(&[u8], bool, [&str; 3]); 9] = [
+    (LOCAL, false, ["", "x", ""]),
+    (FUNCTION, false, ["a", "", ""]),
+    (FIRST, false, ["a", "", ""]),
+    (NO_NAMES, false, ["", "", ""]),
+    (UNKNOWN, false, ["", "", ""]),
+    (LOCALS, true, ["f0", "l0", "l1"]),
+    (LOCALS, false, ["", "", ""]),
+    (LOCAL, true, ["f0", "x", ""]),
+    (FUNCTION, true, ["a", "", ""]),
 ];
 
 #[test]
 fn items_have_the_names_of_the_file(rt: HostRuntime) {
-    for (bytes, synthetic, function, locals) in NAMES {
-        assert!(rt; gives(rt.alloc(), bytes, synthetic, function, locals));
+    for (bytes, synthetic, names) in NAMES {
+        assert!(rt; gives(rt.alloc(), bytes, synthetic, names));
     }
 }
 
@@ -101,17 +97,16 @@ fn section_name(module: &Module<()>, number: usize) -> &str
     }
 }
 
-// Whether the first three custom sections of the file are called so.
+/// Whether the first three custom sections are called so.
+pub(crate) fn are_sections(module: &Module<()>, names: [&str; 3]) -> bool {
+    section_name(module, 0) == names[0]
+        && section_name(module, 1) == names[1]
+        && section_name(module, 2) == names[2]
+}
+
 fn has_sections(alloc: Global, bytes: &[u8], names: [&str; 3]) -> bool {
-    let read: Result<Module<()>> = ModuleConfig::new().parse(alloc, bytes);
-    match read {
-        Ok(module) => {
-            section_name(&module, 0) == names[0]
-                && section_name(&module, 1) == names[1]
-                && section_name(&module, 2) == names[2]
-        }
-        Err(_) => false,
-    }
+    let read = read_by(alloc, Call::Parse, &ModuleConfig::new(), bytes);
+    has(alloc, read, Ask::Sections(names))
 }
 
 // Files and the names of their first three custom sections: sections of names are none of the module's own.

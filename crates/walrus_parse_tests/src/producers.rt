@@ -1,13 +1,12 @@
 //! What a file says made it, with the entry of this tool.
+use crate::helpers::{Ask, Call, has, read_by};
 use crate::read::{CUSTOMS, EMPTY};
 use std::alloc::Global;
 use walrus_config::ModuleConfig;
-use walrus_errors::Result;
 use walrus_module::Module;
-use walrus_parse::Parse;
 
-// Whether the producers are these: the field of each, its name and its version.
-fn are_producers(module: &Module<()>, entries: &[[&str; 3]]) -> bool {
+/// Whether the producers are these: the field of each, its name and its version.
+pub(crate) fn are_producers(module: &Module<()>, entries: &[[&str; 3]]) -> bool {
     let mut count: usize = 0;
     for field in module.producers.fields() {
         for value in field.values() {
@@ -25,11 +24,8 @@ fn are_producers(module: &Module<()>, entries: &[[&str; 3]]) -> bool {
 
 // Whether they are, once the file is read under the default flags.
 fn made_by(alloc: Global, bytes: &[u8], entries: &[[&str; 3]]) -> bool {
-    let read: Result<Module<()>> = ModuleConfig::new().parse(alloc, bytes);
-    match read {
-        Ok(module) => are_producers(&module, entries),
-        Err(_) => false,
-    }
+    let read = read_by(alloc, Call::Parse, &ModuleConfig::new(), bytes);
+    has(alloc, read, Ask::Producers(entries))
 }
 
 // Files without a section of them, with the entry, with one of an older version, with another field before it, with two such entries, with two

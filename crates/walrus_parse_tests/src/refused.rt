@@ -2,7 +2,6 @@
 use crate::helpers::{fault, fault_under, misreads};
 use crate::read::{CATCHES, NOP};
 use std::alloc::Global;
-use std::test::Fail;
 use walrus_config::ModuleConfig;
 use walrus_errors::{Form, Limited, ModuleError, Space};
 
@@ -126,12 +125,11 @@ fn what_files_may_not_hold(rt: HostRuntime) {
 
 // The legacy exception operators where they are switched off.
 #[test]
-fn operators_that_are_switched_off(rt: HostRuntime) -> Result<(), Fail> {
+fn operators_that_are_switched_off(rt: HostRuntime) {
     let mut config = ModuleConfig::new();
     config.legacy_exceptions(false);
     let error = ModuleError::Operator { offset: 39 };
     assert!(rt; fault_under(rt.alloc(), &config, CATCHES) == Some(error));
-    Ok(())
 }
 
 // The fault of the first bytes of a file of four sections, by how many they are: where they end inside a section, at its size.
@@ -163,10 +161,8 @@ fn ends(alloc: Global, length: usize) -> bool {
 
 // Each front of a file.
 #[test]
-fn files_that_are_cut(rt: HostRuntime) -> Result<(), Fail> {
-    let alloc = rt.alloc();
+fn files_that_are_cut(rt: HostRuntime) {
     for length in 0..33 {
-        assert!(rt; ends(alloc, length));
+        assert!(rt; ends(rt.alloc(), length));
     }
-    Ok(())
 }

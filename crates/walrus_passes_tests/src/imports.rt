@@ -1,7 +1,6 @@
 //! A module of imported items and of its own in each space, of which the imported ones are used.
-use crate::modules::{answers, empty, live, live_types};
+use crate::modules::{Step, leave, live, live_types};
 use std::alloc::{AllocError, Global};
-use std::test::Fail;
 use walrus_arena::{FunctionId, GlobalId, MemoryId, TableId, TypeId};
 use walrus_builder::FunctionBuilder;
 use walrus_forms::{RefType, ValType};
@@ -64,7 +63,8 @@ fn add_segments(
     Ok(())
 }
 
-fn fill(alloc: Global, module: &mut Module) -> Result<(), AllocError> {
+/// Adds all of these.
+pub(crate) fn fill(alloc: Global, module: &mut Module) -> Result<(), AllocError> {
     let ty = module.types.add(&[], &[])?;
     add_imports(module, ty)?;
     let function = add_caller(alloc, module)?;
@@ -89,16 +89,28 @@ fn has(module: &Module, counts: [usize; 9]) -> bool {
     ] == counts
 }
 
-// The imported tag goes, and all that the module has of its own but for the function and the segments. A second gc
-// deletes nothing.
+/// Whether all of them live.
+pub(crate) fn are_all_live(module: &Module) -> bool {
+    has(module, [1, 2, 2, 2, 2, 2, 1, 1, 5])
+}
+
+/// Whether those alone live that are used.
+pub(crate) fn are_used_live(module: &Module) -> bool {
+    has(module, [1, 2, 1, 1, 1, 0, 1, 1, 4])
+}
+
+// A second gc deletes nothing.
+const STEPS: [Step; 6] = [
+    Step::EachSpace,
+    Step::AllLive,
+    Step::Gc(0),
+    Step::UsedLive,
+    Step::Gc(0),
+    Step::UsedLive,
+];
+
+// The imported tag goes, and all that the module has of its own but for the function and the segments.
 #[test]
-fn imported_items_are_used(rt: HostRuntime) -> Result<(), Fail> {
-    let mut module = empty(rt.alloc());
-    fill(rt.alloc(), &mut module)?;
-    assert!(rt; has(&module, [1, 2, 2, 2, 2, 2, 1, 1, 5]));
-    assert!(rt; answers(rt.alloc(), &mut module, 0));
-    assert!(rt; has(&module, [1, 2, 1, 1, 1, 0, 1, 1, 4]));
-    assert!(rt; answers(rt.alloc(), &mut module, 0));
-    assert!(rt; has(&module, [1, 2, 1, 1, 1, 0, 1, 1, 4]));
-    Ok(())
+fn imported_items_are_used(rt: HostRuntime) {
+    assert!(rt; matches!(leave(rt.alloc(), &STEPS, [1, 2, 1, 1, 4]), Ok(true)));
 }

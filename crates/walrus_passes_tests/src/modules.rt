@@ -1,5 +1,6 @@
 //! Small modules, made by steps, and how many items they have.
 use crate::asked::{keep, refuse, uses};
+use crate::imports::{are_all_live, are_used_live, fill};
 use std::alloc::{AllocError, Global};
 use walrus_arena::{
     DataId, ExportId, FunctionId, GlobalId, Id, ImportId, InstrSeqId, LocalId, MemoryId, TableId,
@@ -84,6 +85,10 @@ pub(crate) enum Step {
     Found(usize),
     /// The body is not to be nested.
     NotNested(usize),
+    /// Imported items and own ones in each space. All of them are to live, or those alone that are used.
+    EachSpace,
+    AllLive,
+    UsedLive,
     /// A gc, and what is used before it, which both answer this: 0 for `Ok`, 1 for `NotLinked`, 2 for `NoTree`, 3 for a dead function, 4 for a dead type,
     /// 5 for a shared global, 6 for an exact type, 7 for a section that refuses, 8 for want of memory.
     Gc(usize),
@@ -242,8 +247,8 @@ fn answer(refusal: Option<ModuleError>) -> usize {
     }
 }
 
-/// Whether `Used::new` and then a gc answer what this number says.
-pub(crate) fn answers(alloc: Global, module: &mut Module, wanted: usize) -> bool {
+// Whether `Used::new` and then a gc answer what this number says.
+fn answers(alloc: Global, module: &mut Module, wanted: usize) -> bool {
     answer(Used::new(alloc, module).err()) == wanted
         && answer(gc::run(alloc, module).err()) == wanted
 }
@@ -389,6 +394,9 @@ fn take(alloc: Global, module: &mut Module, step: Step) -> Result<bool, AllocErr
         Step::Unused(index) => return Ok(!uses(alloc, module, function(index))),
         Step::Found(index) => return Ok(finds(module, function(index))),
         Step::NotNested(index) => return is_not_nested(alloc, module, function(index)),
+        Step::AllLive => return Ok(are_all_live(module)),
+        Step::UsedLive => return Ok(are_used_live(module)),
+        Step::EachSpace => fill(alloc, module)?,
         Step::Uninitialize(function) => uninitialize(module, function),
         Step::Start(index) => module.start = Some(function(index)),
         Step::Call { caller, .. } => put_in(module, caller, step)?,
@@ -435,10 +443,6 @@ pub(crate) fn live_types(module: &Module) -> usize {
     count
 }
 
-pub(crate) fn empty(alloc: Global) -> Module {
-    Module::with_config(alloc, ModuleConfig::new())
-}
-
 // Whether so many types, functions, tables, elements and imports live.
 fn has(module: &Module, counts: [usize; 5]) -> bool {
     [
@@ -450,14 +454,23 @@ fn has(module: &Module, counts: [usize; 5]) -> bool {
     ] == counts
 }
 
-/// Whether each gc among these steps answers what it is to, and they leave so many types, functions, tables, elements
-/// and imports.
-pub(crate) fn leave(alloc: Global, steps: &[Step], counts: [usize; 5]) -> Result<bool, AllocError> {
-    let mut module = empty(alloc);
+fn are_taken(
+    alloc: Global,
+    module: &mut Module,
+    steps: &[Step],
+    counts: [usize; 5],
+) -> Result<bool, AllocError> {
     for step in steps {
-        if !take(alloc, &mut module, *step)? {
+        if !take(alloc, module, *step)? {
             return Ok(false);
         }
     }
-    Ok(has(&module, counts))
+    Ok(has(module, counts))
+}
+
+/// Whether each gc among these steps answers what it is to, and they leave so many types, functions, tables, elements
+/// and imports.
+pub(crate) fn leave(alloc: Global, steps: &[Step], counts: [usize; 5]) -> Result<bool, AllocError> {
+    let mut module = Module::with_config(alloc, ModuleConfig::new());
+    are_taken(alloc, &mut module, steps, counts)
 }
