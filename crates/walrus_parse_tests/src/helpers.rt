@@ -40,9 +40,9 @@ pub(crate) enum Ask<'a> {
     /// so many items, in the order of `listed`
     Counts([u64; 11]),
     /// what its first function and its first two locals are called
-    Names([&'a str; 3]),
+    Names(&'a str, &'a str, &'a str),
     /// what its first three custom sections are called
-    Sections([&'a str; 3]),
+    Sections(&'a str, &'a str, &'a str),
     /// its producers: the field of each, its name and its version
     Producers(&'a [[&'a str; 3]]),
     /// the numbers of its locations
@@ -54,8 +54,8 @@ pub(crate) enum Ask<'a> {
 fn meets(alloc: Global, module: &Module<()>, ask: Ask<'_>) -> bool {
     match ask {
         Ask::Counts(counts) => are_counted(alloc, module, counts),
-        Ask::Names(names) => are_called(module, names),
-        Ask::Sections(names) => are_sections(module, names),
+        Ask::Names(function, first, second) => are_called(module, [function, first, second]),
+        Ask::Sections(first, second, third) => are_sections(module, [first, second, third]),
         Ask::Producers(entries) => are_producers(module, entries),
         Ask::Places(places) => are_at(alloc, module, places),
         Ask::Start => module.start.is_some(),

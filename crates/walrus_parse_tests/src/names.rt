@@ -61,7 +61,7 @@ fn gives(alloc: Global, bytes: &[u8], synthetic: bool, names: [&str; 3]) -> bool
     let mut config = ModuleConfig::new();
     config.generate_synthetic_names_for_anonymous_items(synthetic);
     let read = read_by(alloc, Call::FromBufferWithConfig, &config, bytes);
-    has(alloc, read, Ask::Names(names))
+    has(alloc, read, Ask::Names(names[0], names[1], names[2]))
 }
 
 // Files, whether synthetic names are wanted, and what the function and the first two locals are called then.
@@ -106,7 +106,7 @@ pub(crate) fn are_sections(module: &Module<()>, names: [&str; 3]) -> bool {
 
 fn has_sections(alloc: Global, bytes: &[u8], names: [&str; 3]) -> bool {
     let read = read_by(alloc, Call::Parse, &ModuleConfig::new(), bytes);
-    has(alloc, read, Ask::Sections(names))
+    has(alloc, read, Ask::Sections(names[0], names[1], names[2]))
 }
 
 // Files and the names of their first three custom sections: sections of names are none of the module's own.
