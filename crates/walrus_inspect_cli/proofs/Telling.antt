@@ -1,6 +1,6 @@
 -- Lemmas: what a module that was read tells.
 use Rattle.std.specs.Prelude.{◌<◌, All}
-use Rattle.std.proofs.Common.{◌≡◌, ℕ, Bool, true, false, List, [], ◌∷◌, Option, Some, Result, Ok, Err, IfOk, IfErr, refl, subst, inl, inr}
+use Rattle.std.proofs.Common.{◌≡◌, ℕ, Bool, true, false, List, [], ◌∷◌, Option, Some, Result, Ok, Err, IfOk, IfErr, refl, subst, inl, inr, arith}
 use Rattle.inspect_program.specs.inspect_lines.declared.counts.Counts.{Counts}
 use Rattle.inspect_program.specs.walrus_config.declared.config.ModuleConfig.{ModuleConfig}
 use Rattle.inspect_program.specs.walrus_errors.declared.error.ModuleError.{ModuleError}
@@ -67,16 +67,16 @@ pub record Laws : Type 0 where
 
 -- want of memory is a refusal of each file that is read
 wanted : (bytes : List ℕ) (config : ModuleConfig) (m : Whole NoSection) (e : ModuleError) → IsRead config bytes m → e ≡ Memory → IsRefusal (read_features config) bytes e
-wanted bytes config m e read is = inl (is, read.2.reads.short)
+wanted bytes config m e read is = inl (is, read.1.1.reads.short)
 
 untold : Laws → (bytes : List ℕ) (config : ModuleConfig) (m : Whole NoSection) (e : ModuleError) → All (λ b. b < 256) bytes → IsRead config bytes m → IsUntold true (parts m) e → e ≡ Memory
-untold laws bytes config m e small read (inl refused) = (laws.pass config bytes m read.0 small (read.1, read.2) []).memory_alone (λ x h. absurd h) e refused
+untold laws bytes config m e small read (inl refused) = (laws.pass config bytes m read.0 small read.1 []).memory_alone (λ x h. absurd (omega (arith, h.1))) e refused
 untold laws bytes config m e small read (inr h) =
-    cause_is_memory (HaveNoTree (items (h.0).funcs)) (linked_have_trees h.0 (laws.keeps (parts m) h.0 [] (laws.linked config bytes m read.0 small (read.1, read.2)) h.1)) e h.2
+    cause_is_memory (HaveNoTree (items (h.0).funcs)) (linked_have_trees h.0 (laws.keeps (parts m) h.0 [] (laws.linked config bytes m read.0 small read.1) h.1)) e h.2
 
 uncounted : Laws → (bytes : List ℕ) (config : ModuleConfig) (m : Whole NoSection) (e : ModuleError) → All (λ b. b < 256) bytes → IsRead config bytes m → IsUncounted (parts m) e → e ≡ Memory
 uncounted laws bytes config m e small read h =
-    cause_is_memory (HaveNoTree (items m.funcs)) (linked_have_trees (parts m) (laws.linked config bytes m read.0 small (read.1, read.2))) e h
+    cause_is_memory (HaveNoTree (items m.funcs)) (linked_have_trees (parts m) (laws.linked config bytes m read.0 small read.1)) e h
 
 pub inspected : Laws → (kept : Bool) (bytes : List ℕ) (config : ModuleConfig) (m : Whole NoSection) (r : Result Counts ModuleError) → All (λ b. b < 256) bytes → IsRead config bytes m
     → (kept ≡ false → IfOk r (AreCounts (parts m))) → (kept ≡ true → IfOk r (AreKeptCounts (parts m)))
