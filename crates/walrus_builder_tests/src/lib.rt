@@ -2,26 +2,32 @@
 #![tactic(auto)]
 
 #[cfg(test)]
-mod asks;
-#[cfg(test)]
-mod blocks;
-#[cfg(test)]
 mod calls;
 #[cfg(test)]
-mod common;
+mod constants;
 #[cfg(test)]
-mod control;
+mod forms;
 #[cfg(test)]
-mod copies;
+mod instrs;
 #[cfg(test)]
-mod functions;
+mod laws;
 #[cfg(test)]
-mod memory;
-#[cfg(test)]
-mod reference;
+mod others;
 #[cfg(test)]
 mod rows;
 #[cfg(test)]
+mod shapes;
+#[cfg(test)]
+mod small;
+#[cfg(test)]
+mod steps;
+#[cfg(test)]
+mod table;
+#[cfg(test)]
+mod types;
+#[cfg(test)]
+mod view;
+#[cfg(test)]
 mod walks;
 #[cfg(test)]
-mod writing;
+mod words;

@@ -1,346 +1,255 @@
-//! Instructions as rows of a table.
-use walrus_arena::TypeId;
-use walrus_instr::{
-    AtomicOp, AtomicWidth, BinaryOp, Bits128, Instr, InstrLocId, LoadKind, LoadSimdKind, MemArg,
-    StoreKind, TernaryOp, UnaryOp, Value,
-};
-use walrus_types::{HeapType, RefType, ValType};
+//! The rows: words with a blank between them, and a row a line, but for lines that begin with `//`.
+//!
+//! An instruction is the name of its form (`FORMS` of `forms`), and what is in its fields in their order behind commas: numbers of ids, names of types, of a
+//! place in memory the alignment and the offset. Labels, handlers and clauses come last, those of a `try` and a `try_table` as a kind, a tag and a label behind
+//! colons.
 
-/// The number of an instruction's form, as the tables of calls count them, and three numbers of its fields in their order.
-/// Of an operator, a type, a constant or a place in memory the number says whether it is the one of the tests; of a list it
-/// is the length. (Texts in place of numbers take twice as long to prove.)
-pub type Row = (u32, usize, usize, usize);
+/// Each form of instruction once, and behind `|` what it names, by the table of operators in the order of its fields. A count, a lane, a depth, an offset
+/// or the number of a field is no id and has no word; nor has a sequence that is held.
+pub const FORMS: &str = "block,1
+loop,2
+if_else,3,4
+try,5,catch:0:6,all:7,delegate:0 | tag
+try_table,8,catch:0:0,ref:0:0,all:0,all_ref:0 | tag label tag label label label
+br_table,5,8,3 | label label label
+unreachable
+br,3 | label
+br_if,3 | label
+br_on_null,3 | label
+br_on_non_null,3 | label
+return
+throw,3 | tag
+throw_ref
+rethrow,3
+br_on_cast,3,5,7 | label type type
+br_on_cast_fail,3,5,7 | label type type
+call,3 | function
+call_indirect,3,5 | type table
+call_ref,3 | type
+return_call,3 | function
+return_call_indirect,3,5 | type table
+return_call_ref,3 | type
+drop
+select,3 | type
+v128_const,17 | value
+unop_popcnt
+binop_rotr
+tern_op_nmadd
+i64_add128
+i64_sub128
+v128_bitselect
+i8x16_swizzle
+i8x16_shuffle,7,24
+local_get,3 | local
+local_set,3 | local
+local_tee,3 | local
+global_get,3 | global
+global_set,3 | global
+table_get,3 | table
+table_set,3 | table
+table_grow,3 | table
+table_size,3 | table
+table_fill,3 | table
+table_init,3,5 | table element
+elem_drop,3 | element
+table_copy,3,5 | table table
+load_f64,3,8,4096 | memory
+store_v128,3,8,4096 | memory
+load_simd_lane,3,8,4096 | memory
+memory_size,3 | memory
+memory_grow,3 | memory
+memory_init,3,5 | memory data
+data_drop,3 | data
+memory_copy,3,5 | memory memory
+memory_fill,3 | memory
+atomic_rmw_xchg,3,8,4096 | memory
+cmpxchg_i64_16,3,8,4096 | memory
+atomic_notify,3,8,4096 | memory
+atomic_wait_64,3,8,4096 | memory
+atomic_fence
+ref_null,3 | type
+ref_is_null
+ref_func,3 | function
+ref_eq
+ref_as_non_null
+ref_test,5 | type
+ref_cast,7 | type
+ref_i31
+i31_get_s
+i31_get_u
+any_convert_extern
+extern_convert_any
+struct_new,3 | type
+struct_new_default,3 | type
+struct_get,3,5 | type
+struct_get_s,3,5 | type
+struct_get_u,3,5 | type
+struct_set,3,5 | type
+array_new,3 | type
+array_new_default,3 | type
+array_new_fixed,3,5 | type
+array_new_data,3,5 | type data
+array_new_elem,3,5 | type element
+array_init_data,3,5 | type data
+array_init_elem,3,5 | type element
+array_get,3 | type
+array_get_s,3 | type
+array_get_u,3 | type
+array_set,3 | type
+array_len
+array_fill,3 | type
+array_copy,3,5 | type type";
 
-pub const UNREACHABLE: u32 = 1;
+/// The same of types that name no id, of two clauses, and of lists whose items differ.
+pub const MORE: &str = "select,i32
+br_on_cast,0,anyref,0 | label type
+try_table,8,ref:0:0,all:0 | tag label label
+select,i64
+br_on_cast,3,externref,i31ref | label
+br_on_cast_fail,3,externref,i31ref | label
+ref_null,funcref
+ref_test,funcref
+ref_cast,funcref
+br_table,2,3,1 | label label label
+try_table,8,catch:6:3,ref:6:3,all:3,all_ref:3 | tag label tag label label label
+try,8,catch:6:3,all:3,delegate:4 | tag";
 
-pub const RETURN: u32 = 6;
+/// Bodies that are filled by steps: `built`, the type of the body's own sequence, the steps, and behind `|` the sequences, as they are and copied: how
+/// many, and behind each `;` the number, type (with the location of the `end`) and instructions of one.
+///
+/// Types of sequences are `-` of none, `#` and the number of a type, or one result. A step is an instruction, with a location behind `@` if it has one, which is
+/// added to the sequence at hand: the body's own, or what `in=` names. Others there are `block=`, `loop=` and `if=`, with a type and the constants that fill them,
+/// and the same with `_at` and a position; `refused`, a block whose closure fails; `at=` a position and `list=` with a location, and an instruction. `type=`,
+/// `end=` and `push=` write the sequence as it is lent, and `fill=` gives it the instructions of the body's own, and an `end`. `seq=` adds a sequence of a type,
+/// `seqs=` so many, and `nest` 100,000 blocks, each in the one before, of which the last is at hand then.
+pub const BUILT: &str = "// Constants, whose floats are their bits.
+built - i32_const,-7 i64_const,-8 f32_const,2143289345 f64_const,9 | 1; 0 - i32_const,-7 i64_const,-8 f32_const,2143289345 f64_const,9
+// Blocks with what fills them, at the end and before.
+built - drop block=i64,1 loop=-,2 if=i64,3,4 block_at=1,-,5 loop_at=0,i64,6 if_at=0,-,7,8 | 9; 0 - if_else,7,8 loop,6 drop block,5 block,1 loop,2 if_else,3,4; 1 i64 i32_const,1; 2 - i32_const,2; 3 i64 i32_const,3; 4 i64 i32_const,4; 5 - i32_const,5; 6 i64 i32_const,6; 7 - i32_const,7; 8 - i32_const,8
+built - block=-,2 loop=-,3 if=-,4,5 | 5; 0 - block,1 loop,2 if_else,3,4; 1 - i32_const,2; 2 - i32_const,3; 3 - i32_const,4; 4 - i32_const,5
+// Instructions at positions.
+built - drop return at=1,array_len at=3,ref_eq | 1; 0 - drop array_len return ref_eq
+// A block that is refused leaves the sequence with what is before it.
+built - drop refused | any; 0 - drop
+// A sequence that is added is empty and stands apart.
+built - seq=f32 | 2; 0 -; 1 f32
+built - seq=f32 in=1 return | 2; 0 -; 1 f32 return
+// What is pushed to the list stands behind what is called.
+built - drop return list=5,ref_eq | 1; 0 - drop return ref_eq@5
+// A part of a `try` that passes exceptions on.
+built - seq=- try,1,delegate:4 | 2; 0 - try,1,delegate:4; 1 -
+// A sequence that is lent, one that is filled, and one with locations.
+built - seqs=2 in=1 type=i64 end=9 push=7,drop | 3; 0 -; 1 i64@9 drop@7; 2 -
+built - seqs=2 drop@3 return@4 in=1 fill=5 | 3; 0 -; 1 -@5 drop@3 return@4; 2 -
+built - seqs=2 in=1 drop@8 return ref_eq@6 | 3; 0 -; 1 - drop@8 return ref_eq@6; 2 -
+// A branch to itself.
+built - seqs=3 seq=f32 in=4 push=7,br,4 return end=9 | 5; 4 f32@9 br,4@7 return
+// Two names, each form once, types without ids, and hooks by their counts: see `table`.
+names -
+forms -
+more -
+counts - seq=- seq=#0 seq=0 seqs=5";
 
-pub const CALL: u32 = 12;
+/// The same behind a walk that changes: the body, or as `listed` a list of copies. The walk adds 10 to functions, 20 to locals and 1 to constants, and puts
+/// `unreachable` in place of `drop`.
+pub const CHANGED: &str =
+    "// What two sequences name, each where it stands; and in a list of copies.
+changed - seq=- call,1 local_get,2 drop block,1 in=1 local_tee,2@7 return_call,1@7 drop@7 memory_size,3@7 | 2; 0 - call,11 local_get,22 unreachable block,1; 1 - local_tee,22@7 return_call,11@7 unreachable@7 memory_size,3@7
+listed - seq=- call,1 local_get,2 drop block,1 in=1 local_tee,2@7 return_call,1@7 drop@7 memory_size,3@7 | 2; 0 - call,11 local_get,22 unreachable block,1; 1 - local_tee,22@7 return_call,11@7 unreachable@7 memory_size,3@7
+// A sequence that two instructions hold is handed over twice, the second time as it was left.
+changed - seq=- block,1 loop,1 in=1 i32_const,5 | 2; 0 - block,1 loop,1; 1 - i32_const,7";
 
-pub const RETURN_CALL: u32 = 15;
+/// What is told by the walk in `order`, that of a `body`, and that which is `changing`.
+pub const TOLD: &str = "// A block that holds an `if`, and a legacy `try` with two handlers.
+order - seqs=6 in=1 i32_const,4 drop in=2 i32_const,3 drop in=3 i32_const,2 drop in=4 i32_const,7 drop in=5 i32_const,8 drop in=6 i32_const,9 drop in=3 if_else,2,1 i32_const,5 drop in=0 i32_const,1 drop block,3 i32_const,6 drop try,4,catch:0:5,all:6 i32_const,10 drop | start 1 drop block start 2 drop if-else start 3 drop end start 4 drop end 5 drop end 6 drop try tag start 7 drop end start 8 drop end start 9 drop end 10 drop end
+// A shared sequence is told of twice.
+order - seq=- block,1 block,1 | start block start end block start end end
+// Three blocks.
+order - block=-,2 loop=-,3 if=-,4,5 | start block start 2 end start 3 end if-else start 4 end start 5 end end
+// Four blocks, each in the one before, and five in the last of them.
+order - seqs=9 block,1 in=1 block,2 in=2 block,3 in=3 block,4 in=4 block,5 block,6 block,7 block,8 block,9 | start block start block start block start block start block start end block start end block start end block start end block start end end end end end end
+// The type of the own sequence is told of by the walk of the sequence alone.
+order #0 block=#0,2 drop | start type block start type 2 end drop end
+body #0 block=#0,2 drop | start block start type 2 end drop end
+// In the walk that changes a sequence is done before what it holds; what its last instruction holds comes first.
+changing - seqs=6 in=1 i32_const,4 drop in=2 i32_const,3 drop in=3 i32_const,2 drop in=4 i32_const,7 drop in=5 i32_const,8 drop in=6 i32_const,9 drop in=3 if_else,2,1 i32_const,5 drop in=0 i32_const,1 drop block,3 i32_const,6 drop try,4,catch:0:5,all:6 i32_const,10 drop | start 1 drop block 6 drop try tag 10 drop end start 7 drop end start 8 drop end start 9 drop end start 2 drop if-else 5 drop end start 3 drop end start 4 drop end
+changing - seqs=9 block,1 in=1 block,2 in=2 block,3 in=3 block,4 in=4 block,5 block,6 block,7 block,8 block,9 | start block end start block end start block end start block end start block block block block block end start end start end start end start end start end";
 
-pub const DROP: u32 = 18;
+/// Whether the sequence of a number is a tree, only nests, or neither.
+pub const TREES: &str = "// Empty, and a number that isn't there.
+trees - seqs=3 | 0:tree 4:none
+// Held by themselves, or by none.
+trees - loop,0 | 0:none 7:none
+trees - seqs=3 block,1 block,2 in=0 loop,0 | 0:none
+trees - seqs=3 block,1 block,2 in=2 loop,0 | 0:none
+trees - seqs=3 block,1 block,2 in=2 loop,2 | 0:none
+trees - seqs=3 block,1 block,2 in=2 block,4 | 0:none
+// What isn't reached isn't looked at.
+trees - seqs=3 block,1 block,2 in=3 loop,3 | 0:tree
+// Labels: itself, what is around it, what is beside it, what it holds, what isn't there.
+trees - seqs=3 block,1 block,2 in=2 br,2 | 0:tree
+trees - seqs=3 block,1 block,2 in=2 br_if,0 | 0:tree
+trees - seqs=3 block,1 block,2 in=2 br,1 | 0:nests
+trees - seqs=3 block,1 block,2 in=1 br_on_null,2 | 0:nests
+trees - seqs=3 block,1 block,2 in=0 br_if,1 | 0:nests
+trees - seqs=3 block,1 block,2 in=1 br,4 | 0:nests
+trees - seqs=3 block,1 block,2 in=2 br_table,0,0,2 | 0:tree
+trees - seqs=3 block,1 block,2 in=2 br_table,0,0,1 | 0:nests
+trees - seqs=3 block,1 block,2 in=2 br_table,1,0,2 | 0:nests
+// Arms of an `if`: what is beside them, and one that holds the other.
+trees - seqs=3 if_else,1,2 in=1 br,1 | 0:tree
+trees - seqs=3 if_else,1,2 in=1 br,2 | 0:nests
+trees - seqs=3 if_else,1,2 in=2 br,1 | 0:nests
+trees - seqs=3 if_else,1,2 in=2 block,1 | 0:nests
+// A handler is inside what is around the `try`: with its own two frames are open.
+trees - seqs=3 try,1,catch:0:2,all:3 in=3 rethrow,0 | 0:tree
+trees - seqs=3 try,1,catch:0:2,all:3 in=3 rethrow,1 | 0:tree
+trees - seqs=3 try,1,catch:0:2,all:3 in=3 rethrow,2 | 0:nests
+trees - seqs=3 try,1,catch:0:2,all:3 in=3 br,1 | 0:nests
+trees - seqs=3 try,1,catch:0:2,all:3 in=3 br,2 | 0:nests
+trees - seqs=3 try,1,catch:0:2,all:3 in=1 loop,3 | 0:nests
+// A sequence that is held twice: the body only nests, one of its sequences is a tree.
+trees - seqs=3 block,1 in=1 block,3 in=0 if_else,2,3 | 0:nests 1:tree
+// The frame of the `try` doesn't count for `delegate`: in a body one is open. Nothing stands behind it.
+trees - seqs=3 try,1,delegate:0 | 0:tree
+trees - seqs=3 try,1,delegate:1 | 0:nests
+trees - seqs=3 try,1,all:2,delegate:0 | 0:tree
+trees - seqs=3 try,1,delegate:0,all:2 | 0:nests
+trees - seqs=3 try,1,delegate:0,delegate:0 | 0:nests
+// Clauses: the own sequence of a `try_table` isn't around it.
+trees - seqs=3 block,1 in=1 try_table,2,catch:0:0 | 0:tree
+trees - seqs=3 block,1 in=1 try_table,2,all_ref:1 | 0:tree
+trees - seqs=3 block,1 in=1 try_table,2,all:2 | 0:nests
+trees - seqs=3 block,1 in=1 try_table,2,ref:0:3 | 0:nests";
 
-pub const LOCAL_GET: u32 = 29;
+/// The same of a nest of 100,000 blocks, which has 100,001 frames with the body's.
+pub const NESTS: &str = "trees - nest br,0 | 0:tree
+trees - nest rethrow,100000 | 0:tree
+trees - nest rethrow,100001 | 0:nests";
 
-pub const LOCAL_TEE: u32 = 31;
+/// The nest changed to its innermost sequence, and how many bytes are told of it: 100,001 times ` start` and ` end`, and 100,000 times ` block`.
+pub const LONG: &str = "changed - nest i32_const,5 | 100001; 100000 - i32_const,6
+length - nest | 1600010";
 
-pub const LOAD: u32 = 48;
-
-pub const MEMORY_SIZE: u32 = 51;
-
-pub const REF_EQ: u32 = 73;
-
-pub const ARRAY_LEN: u32 = 99;
-
-pub const BLOCK: u32 = 110;
-
-pub const LOOP: u32 = 111;
-
-pub const IF_ELSE: u32 = 112;
-
-pub const ARG: MemArg = MemArg {
-    align: 8,
-    offset: 4096,
-};
-
-/// A nullable reference to the type of this number.
-pub fn to_type(number: u32) -> RefType {
-    RefType {
-        nullable: true,
-        heap_type: HeapType::Concrete(TypeId::from_index(number as usize)),
-    }
-}
-
-// The number of the type that a nullable reference names, or one past those of the tests for each reference that names none.
-fn number(ty: &RefType) -> usize {
-    match ty.heap_type {
-        HeapType::Concrete(id) if ty.nullable => id.index(),
-        _ => abstract_number(ty),
-    }
-}
-
-fn abstract_number(ty: &RefType) -> usize {
-    if *ty == RefType::FUNCREF {
-        101
-    } else if *ty == RefType::EXTERNREF {
-        102
-    } else if *ty == RefType::I31REF {
-        103
-    } else {
-        0
-    }
-}
-
-fn selected(ty: &Option<ValType>) -> usize {
-    match ty {
-        Some(ValType::Ref(ty)) => number(ty),
-        Some(ValType::I64) => 104,
-        _ => 0,
-    }
-}
-
-fn is_count(op: &UnaryOp) -> bool {
-    matches!(op, UnaryOp::I32Popcnt)
-}
-
-fn is_rotation(op: &BinaryOp) -> bool {
-    matches!(op, BinaryOp::I64Rotr)
-}
-
-fn is_sum(op: &TernaryOp) -> bool {
-    matches!(op, TernaryOp::F32x4RelaxedNmadd)
-}
-
-fn block_row(instr: &Instr) -> Option<Row> {
-    let row = match instr {
-        Instr::Block { seq } => (110, seq.index(), 0, 0),
-        Instr::Loop { seq } => (111, seq.index(), 0, 0),
-        Instr::IfElse {
-            consequent,
-            alternative,
-        } => (112, consequent.index(), alternative.index(), 0),
-        Instr::Try { seq, catches } => (113, seq.index(), catches.len(), 0),
-        Instr::TryTable { seq, catches } => (114, seq.index(), catches.len(), 0),
-        _ => return None,
-    };
-    Some(row)
-}
-
-fn branch_row(instr: &Instr) -> Option<Row> {
-    let row = match instr {
-        Instr::Unreachable => (1, 0, 0, 0),
-        Instr::Br { block } => (2, block.index(), 0, 0),
-        Instr::BrIf { block } => (3, block.index(), 0, 0),
-        Instr::BrTable { blocks, default } => (0, blocks.len(), default.index(), 0),
-        Instr::BrOnNull { block } => (4, block.index(), 0, 0),
-        Instr::BrOnNonNull { block } => (5, block.index(), 0, 0),
-        Instr::BrOnCast {
-            block,
-            from_ty,
-            to_ty,
-        } => (10, block.index(), number(from_ty), number(to_ty)),
-        Instr::BrOnCastFail {
-            block,
-            from_ty,
-            to_ty,
-        } => (11, block.index(), number(from_ty), number(to_ty)),
-        Instr::Return => (6, 0, 0, 0),
-        Instr::Throw { tag } => (7, tag.index(), 0, 0),
-        Instr::ThrowRef => (8, 0, 0, 0),
-        Instr::Rethrow { relative_depth } => (9, *relative_depth as usize, 0, 0),
-        _ => return None,
-    };
-    Some(row)
-}
-
-fn call_row(instr: &Instr) -> Option<Row> {
-    let row = match instr {
-        Instr::Call { func } => (12, func.index(), 0, 0),
-        Instr::CallIndirect { ty, table } => (13, ty.index(), table.index(), 0),
-        Instr::CallRef { ty } => (14, ty.index(), 0, 0),
-        Instr::ReturnCall { func } => (15, func.index(), 0, 0),
-        Instr::ReturnCallIndirect { ty, table } => (16, ty.index(), table.index(), 0),
-        Instr::ReturnCallRef { ty } => (17, ty.index(), 0, 0),
-        _ => return None,
-    };
-    Some(row)
-}
-
-fn operator_row(instr: &Instr) -> Option<Row> {
-    let row = match instr {
-        Instr::Drop => (18, 0, 0, 0),
-        Instr::Select { ty } => (19, selected(ty), 0, 0),
-        Instr::Const { value } => (
-            20,
-            usize::from(*value == Value::V128(Bits128::new(17))),
-            0,
-            0,
-        ),
-        Instr::Unop { op } => (21, usize::from(is_count(op)), 0, 0),
-        Instr::Binop { op } => (22, usize::from(is_rotation(op)), 0, 0),
-        Instr::TernOp { op } => (23, usize::from(is_sum(op)), 0, 0),
-        Instr::I64Add128 => (24, 0, 0, 0),
-        Instr::I64Sub128 => (25, 0, 0, 0),
-        Instr::V128Bitselect => (26, 0, 0, 0),
-        Instr::I8x16Swizzle => (27, 0, 0, 0),
-        Instr::I8x16Shuffle { indices } => (28, indices[7] as usize, indices[8] as usize, 0),
-        _ => return None,
-    };
-    Some(row)
-}
-
-fn variable_row(instr: &Instr) -> Option<Row> {
-    let row = match instr {
-        Instr::LocalGet { local } => (29, local.index(), 0, 0),
-        Instr::LocalSet { local } => (30, local.index(), 0, 0),
-        Instr::LocalTee { local } => (31, local.index(), 0, 0),
-        Instr::GlobalGet { global } => (32, global.index(), 0, 0),
-        Instr::GlobalSet { global } => (33, global.index(), 0, 0),
-        _ => return None,
-    };
-    Some(row)
-}
-
-fn table_row(instr: &Instr) -> Option<Row> {
-    let row = match instr {
-        Instr::TableGet { table } => (40, table.index(), 0, 0),
-        Instr::TableSet { table } => (41, table.index(), 0, 0),
-        Instr::TableGrow { table } => (42, table.index(), 0, 0),
-        Instr::TableSize { table } => (43, table.index(), 0, 0),
-        Instr::TableFill { table } => (44, table.index(), 0, 0),
-        Instr::TableInit { table, elem } => (45, table.index(), elem.index(), 0),
-        Instr::ElemDrop { elem } => (46, elem.index(), 0, 0),
-        Instr::TableCopy { src, dst } => (47, src.index(), dst.index(), 0),
-        _ => return None,
-    };
-    Some(row)
-}
-
-fn memory_row(instr: &Instr) -> Option<Row> {
-    let row = match instr {
-        Instr::Load { memory, kind, arg } => (
-            48,
-            memory.index(),
-            usize::from(*kind == LoadKind::F64),
-            usize::from(*arg == ARG),
-        ),
-        Instr::Store { memory, kind, arg } => (
-            49,
-            memory.index(),
-            usize::from(*kind == StoreKind::V128),
-            usize::from(*arg == ARG),
-        ),
-        Instr::LoadSimd { memory, kind, arg } => (
-            50,
-            memory.index(),
-            usize::from(*kind == LoadSimdKind::V128Load8Lane(2)),
-            usize::from(*arg == ARG),
-        ),
-        Instr::MemorySize { memory } => (51, memory.index(), 0, 0),
-        Instr::MemoryGrow { memory } => (52, memory.index(), 0, 0),
-        Instr::MemoryInit { memory, data } => (53, memory.index(), data.index(), 0),
-        Instr::DataDrop { data } => (54, data.index(), 0, 0),
-        Instr::MemoryCopy { src, dst } => (55, src.index(), dst.index(), 0),
-        Instr::MemoryFill { memory } => (56, memory.index(), 0, 0),
-        _ => return None,
-    };
-    Some(row)
-}
-
-fn atomic_row(instr: &Instr) -> Option<Row> {
-    let row = match instr {
-        Instr::AtomicRmw {
-            memory,
-            op,
-            width,
-            arg,
-        } => (
-            57,
-            memory.index(),
-            usize::from(*op == AtomicOp::Xchg && *width == AtomicWidth::I64_16),
-            usize::from(*arg == ARG),
-        ),
-        Instr::Cmpxchg { memory, width, arg } => (
-            58,
-            memory.index(),
-            usize::from(*width == AtomicWidth::I64_16),
-            usize::from(*arg == ARG),
-        ),
-        Instr::AtomicNotify { memory, arg } => (59, memory.index(), usize::from(*arg == ARG), 0),
-        Instr::AtomicWait {
-            memory,
-            arg,
-            sixty_four,
-        } => (
-            60,
-            memory.index(),
-            usize::from(*arg == ARG),
-            usize::from(*sixty_four),
-        ),
-        Instr::AtomicFence => (61, 0, 0, 0),
-        _ => return None,
-    };
-    Some(row)
-}
-
-fn reference_row(instr: &Instr) -> Option<Row> {
-    let row = match instr {
-        Instr::RefNull { ty } => (70, number(ty), 0, 0),
-        Instr::RefIsNull => (71, 0, 0, 0),
-        Instr::RefFunc { func } => (72, func.index(), 0, 0),
-        Instr::RefEq => (73, 0, 0, 0),
-        Instr::RefAsNonNull => (74, 0, 0, 0),
-        Instr::RefTest { ty } => (75, number(ty), 0, 0),
-        Instr::RefCast { ty } => (76, number(ty), 0, 0),
-        Instr::RefI31 => (77, 0, 0, 0),
-        Instr::I31GetS => (78, 0, 0, 0),
-        Instr::I31GetU => (79, 0, 0, 0),
-        Instr::AnyConvertExtern => (80, 0, 0, 0),
-        Instr::ExternConvertAny => (81, 0, 0, 0),
-        _ => return None,
-    };
-    Some(row)
-}
-
-fn structure_row(instr: &Instr) -> Option<Row> {
-    let row = match instr {
-        Instr::StructNew { ty } => (82, ty.index(), 0, 0),
-        Instr::StructNewDefault { ty } => (83, ty.index(), 0, 0),
-        Instr::StructGet { ty, field } => (84, ty.index(), *field as usize, 0),
-        Instr::StructGetS { ty, field } => (85, ty.index(), *field as usize, 0),
-        Instr::StructGetU { ty, field } => (86, ty.index(), *field as usize, 0),
-        Instr::StructSet { ty, field } => (87, ty.index(), *field as usize, 0),
-        _ => return None,
-    };
-    Some(row)
-}
-
-fn array_row(instr: &Instr) -> Option<Row> {
-    let row = match instr {
-        Instr::ArrayNew { ty } => (88, ty.index(), 0, 0),
-        Instr::ArrayNewDefault { ty } => (89, ty.index(), 0, 0),
-        Instr::ArrayNewFixed { ty, size } => (90, ty.index(), *size as usize, 0),
-        Instr::ArrayNewData { ty, data } => (91, ty.index(), data.index(), 0),
-        Instr::ArrayNewElem { ty, elem } => (92, ty.index(), elem.index(), 0),
-        Instr::ArrayGet { ty } => (95, ty.index(), 0, 0),
-        Instr::ArrayGetS { ty } => (96, ty.index(), 0, 0),
-        Instr::ArrayGetU { ty } => (97, ty.index(), 0, 0),
-        Instr::ArraySet { ty } => (98, ty.index(), 0, 0),
-        Instr::ArrayLen => (99, 0, 0, 0),
-        Instr::ArrayFill { ty } => (100, ty.index(), 0, 0),
-        Instr::ArrayCopy { src, dst } => (101, src.index(), dst.index(), 0),
-        Instr::ArrayInitData { ty, data } => (93, ty.index(), data.index(), 0),
-        Instr::ArrayInitElem { ty, elem } => (94, ty.index(), elem.index(), 0),
-        _ => return None,
-    };
-    Some(row)
-}
-
-// Asked a family at a time, since a match on all forms is proved far more slowly than these together.
-fn row(instr: &Instr) -> Option<Row> {
-    let control = block_row(instr)
-        .or(branch_row(instr))
-        .or(call_row(instr))
-        .or(operator_row(instr))
-        .or(variable_row(instr));
-    let memory = table_row(instr).or(memory_row(instr)).or(atomic_row(instr));
-    let reference = reference_row(instr)
-        .or(structure_row(instr))
-        .or(array_row(instr));
-    control.or(memory).or(reference)
-}
-
-/// Just these instructions, each with this location.
-pub fn are_rows_at(instrs: &[(Instr, InstrLocId)], rows: &[Row], at: InstrLocId) -> bool {
-    let mut agree = instrs.len() == rows.len();
-    for ((instr, place), wanted) in instrs.iter().zip(rows) {
-        agree &= *place == at && row(instr) == Some(*wanted);
-    }
-    agree
-}
-
-/// Just these instructions, without locations.
-pub fn are_rows(instrs: &[(Instr, InstrLocId)], rows: &[Row]) -> bool {
-    are_rows_at(instrs, rows, InstrLocId::default())
-}
+/// Constant expressions: whether they have a short form, their operators, and what those name.
+pub const CONSTANTS: &str = "// In a short form where a single operator has one.
+short i32_const:7 | 7
+long i32_const:7,i32_const:8,i32_add | 7 8
+long i64_const:1,i64_const:2,i64_mul | value value
+// Types, each by the id that it names.
+long i32_const:7,v128_const:9,global_get:1,i32_add,ref_null:exact4,ref_func:2,ref_null:anyref,array_new_fixed:4:3 | 7 value global type function type
+// Short forms tell the same.
+short i32_const:3 | 3
+short global_get:0 | global
+short ref_null:eqref
+short ref_func:0 | function
+// Each other form alone.
+short i32_const:-7 | value
+short i64_const:-8 | value
+short f32_const:9 | value
+short f64_const:10 | value
+short v128_const:11 | value
+short global_get:3 | global
+short ref_null:i31ref
+short ref_func:3 | function
+long ref_i31";

@@ -1,15 +1,6 @@
-//! Walks over sequences, bodies that are trees, and what walks share.
+//! The visitor of the tests, and what the walks tell it.
 
-mod bodies;
-pub mod changing;
-mod constants;
-mod forms;
-pub mod hooks;
-mod laws;
-mod log;
+pub mod log;
 mod log_mut;
-pub mod refused;
 mod renamer;
-mod sizes;
-pub mod tests;
-pub mod trees;
+pub mod told;

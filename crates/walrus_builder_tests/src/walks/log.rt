@@ -1,7 +1,8 @@
 //! A visitor that writes down what it is told.
 ghost use Rattle.std.specs.Prelude.{⊤};
 
-use std::alloc::Global;
+use crate::words::nth;
+use std::alloc::{AllocError, Global};
 use walrus_arena::{
     DataId, ElementId, FunctionId, GlobalId, InstrSeqId, LocalId, MemoryId, TableId, TagId, TypeId,
 };
@@ -10,56 +11,59 @@ use walrus_walks::Visitor;
 
 #[derive(Drop)]
 pub struct Log {
-    pub text: String,
+    /// Words, each with a blank before it.
+    pub text: Vec<u8>,
     pub refused: bool,
     /// How many instructions it was told of.
     pub instrs: usize,
 }
 
 impl Log {
-    pub fn new(alloc: Global) -> Self {
-        Log {
-            text: String::new(alloc),
+    /// With room for that many bytes, so that so much takes no memory in a walk.
+    pub fn new(alloc: Global, room: usize) -> Result<Self, AllocError> {
+        Ok(Log {
+            text: Vec::with_capacity(alloc, room)?,
             refused: false,
             instrs: 0,
-        }
+        })
     }
 
-    /// Whether it was told this.
-    pub fn says(&self, text: &str) -> bool {
-        !self.refused && self.text.as_str() == text
+    /// Whether it was told just this.
+    pub fn says(&self, text: &[u8]) -> bool {
+        !self.refused && self.text.as_slice() == text
     }
 
-    pub fn word(&mut self, word: &str) {
-        if self.text.push_str(word).is_err() || self.text.push(' ').is_err() {
+    fn write(&mut self, word: &[u8]) {
+        if self.text.push(b' ').is_err() || self.text.extend_from_slice(word).is_err() {
             self.refused = true;
         }
     }
+
+    pub fn word(&mut self, word: &str) {
+        self.write(word.as_bytes())
+    }
 }
 
-fn form(instr: &Instr) -> Option<&'static str> {
+// The forms that have a word, since they are told of before what they hold.
+const FORMS: &str = "drop block if-else try";
+
+fn form(instr: &Instr) -> Option<u32> {
     match instr {
-        Instr::Drop => Some("drop"),
-        Instr::Block { .. } => Some("block"),
-        Instr::IfElse { .. } => Some("if-else"),
-        Instr::Try { .. } => Some("try"),
+        Instr::Drop => Some(0),
+        Instr::Block { .. } => Some(1),
+        Instr::IfElse { .. } => Some(2),
+        Instr::Try { .. } => Some(3),
         _ => None,
     }
 }
 
-fn constant(value: &Value) -> &'static str {
+// Small numbers of 32 bits are told apart.
+const VALUES: &str = "value 1 2 3 4 5 6 7 8 9 10";
+
+fn constant(value: &Value) -> u32 {
     match value {
-        Value::I32(1) => "1",
-        Value::I32(2) => "2",
-        Value::I32(3) => "3",
-        Value::I32(4) => "4",
-        Value::I32(5) => "5",
-        Value::I32(6) => "6",
-        Value::I32(7) => "7",
-        Value::I32(8) => "8",
-        Value::I32(9) => "9",
-        Value::I32(10) => "10",
-        _ => "value",
+        Value::I32(number) if *number > 0 && *number < 11 => number.cast_unsigned(),
+        _ => 0,
     }
 }
 
@@ -76,13 +80,13 @@ impl Visitor for Log {
 
     fn visit_instr(&mut self, instr: &Instr, _place: &InstrLocId) {
         self.instrs = self.instrs.wrapping_add(1);
-        if let Some(word) = form(instr) {
-            self.word(word);
+        if let Some(place) = form(instr) {
+            self.write(nth(FORMS, place));
         }
     }
 
     fn visit_value(&mut self, value: &Value) {
-        self.word(constant(value))
+        self.write(nth(VALUES, constant(value)))
     }
 
     fn visit_instr_seq_id(&mut self, _id: &InstrSeqId) {

@@ -3,7 +3,7 @@
 ghost use Rattle.std.specs.Prelude.{⊤};
 
 use super::log::Log;
-use super::renamer::{add_one, move_function, move_local, replace_drop};
+use super::renamer::{add_one, later, replace_drop};
 use walrus_arena::{
     DataId, ElementId, FunctionId, GlobalId, InstrSeqId, LocalId, MemoryId, TableId, TagId, TypeId,
 };
@@ -37,7 +37,7 @@ impl VisitorMut for Log {
 
     fn visit_local_id_mut(&mut self, id: &mut LocalId) {
         self.word("local");
-        move_local(id)
+        *id = later(*id, 20)
     }
 
     fn visit_memory_id_mut(&mut self, _id: &mut MemoryId) {
@@ -54,7 +54,7 @@ impl VisitorMut for Log {
 
     fn visit_function_id_mut(&mut self, id: &mut FunctionId) {
         self.word("function");
-        move_function(id)
+        *id = later(*id, 10)
     }
 
     fn visit_data_id_mut(&mut self, _id: &mut DataId) {

@@ -2,30 +2,13 @@
 ghost use Rattle.std.specs.Prelude.{◌≡◌};
 ghost use Rattle.walrus_walks.specs.Tree.{children};
 
-use walrus_arena::{FunctionId, LocalId};
+use crate::forms::id;
+use walrus_arena::Id;
 use walrus_instr::{Instr, Value};
 
-const LATER_FUNCTIONS: u32 = 10;
-
-const LATER_LOCALS: u32 = 20;
-
-// By value, since the range of an id behind a reference isn't known.
-fn later_function(id: FunctionId) -> FunctionId {
-    FunctionId::from_index((id.index() as u32).wrapping_add(LATER_FUNCTIONS) as usize)
-}
-
-fn later_local(id: LocalId) -> LocalId {
-    LocalId::from_index((id.index() as u32).wrapping_add(LATER_LOCALS) as usize)
-}
-
-/// Moves the function to a later number.
-pub fn move_function(id: &mut FunctionId) {
-    *id = later_function(*id);
-}
-
-/// Moves the local to a later number.
-pub fn move_local(id: &mut LocalId) {
-    *id = later_local(*id);
+/// The id that is so many numbers later. (By value, since the range of an id behind a reference isn't known.)
+pub fn later<S>(before: Id<S>, by: u64) -> Id<S> {
+    id((before.index() as u64).wrapping_add(by))
 }
 
 /// Adds one to a constant.
