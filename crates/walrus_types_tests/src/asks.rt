@@ -1,81 +1,131 @@
-//! What is asked of a table, so that one function owns it.
-use crate::steps::{Num, Step, table};
-use crate::{adds, copies, edits, groups};
-use std::alloc::Global;
-use walrus_types::{IrError, ModuleTypes};
+//! What is asked of a table of types.
 
-// What is asked of a table.
-#[derive(Clone, Copy)]
-enum Ask {
-    Found,
-    Pairs,
-    Deletes,
-    GroupGoes,
-    ManyGo,
-    OthersAreFound,
-    Names,
-    Iterates,
-    Ring,
-    OtherCount,
-    TypeIsCopied,
-    GroupIsCopied,
+use crate::forms::{function, is_form, is_function};
+use crate::steps::name;
+use crate::words::{are_ids, cut, head, id, is_id, number};
+use std::alloc::{AllocError, Global};
+use walrus_arena::TypeId;
+use walrus_types::{ModuleTypes, Type};
+
+fn is_found(
+    alloc: Global,
+    types: &ModuleTypes,
+    args: &[u8],
+    wanted: &[u8],
+) -> Result<bool, AllocError> {
+    let ty = function(alloc, args)?;
+    Ok(is_id(types.find(ty.params(), ty.results()), wanted))
 }
 
-fn holds(alloc: Global, types: &mut ModuleTypes, ask: Ask) -> Result<bool, IrError> {
-    match ask {
-        Ask::Found => Ok(adds::is_found(types)),
-        Ask::Pairs => Ok(adds::adds_pairs(types)?),
-        Ask::Deletes => Ok(edits::adds_and_deletes(types)?),
-        Ask::GroupGoes => Ok(edits::group_goes(types)),
-        Ask::ManyGo => Ok(edits::many_go(types)),
-        Ask::OthersAreFound => Ok(edits::others_are_found(types)),
-        Ask::Names => Ok(edits::takes_name(alloc, types)?),
-        Ask::Iterates => Ok(edits::iterates_all(types)),
-        Ask::Ring => groups::adds_ring(alloc, types),
-        Ask::OtherCount => groups::refuses_count(alloc, types),
-        Ask::TypeIsCopied => Ok(copies::copies_added(alloc, types)?),
-        Ask::GroupIsCopied => Ok(copies::copies_group(types)?),
+fn are_live(types: &ModuleTypes, wanted: &[u8]) -> bool {
+    let mut agree = true;
+    let mut rest = wanted;
+    for ty in types.iter() {
+        let (word, behind) = cut(rest, b',');
+        rest = behind;
+        agree &= is_id(Some(ty.id()), word);
+    }
+    agree && rest.is_empty()
+}
+
+fn are_groups(types: &ModuleTypes, wanted: &[u8]) -> bool {
+    let mut agree = true;
+    let mut rest = wanted;
+    for group in types.rec_groups() {
+        let (word, behind) = cut(rest, b',');
+        rest = behind;
+        agree &= !word.is_empty()
+            && group.types.len() == number(word) as usize
+            && group.is_explicit() == (head(word) == b'+');
+    }
+    agree && rest.is_empty()
+}
+
+// Whether a copy of the type's group has these members, and a mark where a `+` stands; or the type has no group.
+fn is_home(types: &ModuleTypes, id: TypeId, wanted: &[u8]) -> Result<bool, AllocError> {
+    let Some(group) = types.rec_group_for_type(id) else {
+        return Ok(head(wanted) == b'-');
+    };
+    let copy = group.clone()?;
+    Ok(are_ids(copy.types.as_slice(), wanted) && copy.is_explicit() == (head(wanted) == b'+'))
+}
+
+fn has_name(ty: &Type, letter: &[u8]) -> bool {
+    match &ty.name {
+        Some(found) => found.as_str() == name(head(letter)) && !letter.is_empty(),
+        None => letter.is_empty(),
     }
 }
 
-// Whether it holds of the table after these steps.
-fn is_so(alloc: Global, steps: &[Step], ask: Ask) -> Result<bool, IrError> {
-    let mut types = table(alloc, steps)?;
-    holds(alloc, &mut types, ask)
+fn is_kind(ty: &Type, wanted: &[u8]) -> bool {
+    let (form, mark) = cut(wanted, b'/');
+    let (_, args) = cut(form, b':');
+    let (_, below) = cut(mark, b'<');
+    let has_form = match ty.as_function() {
+        Some(ty) => head(form) == b'f' && is_function(ty, args),
+        None => is_form(ty.kind(), form),
+    };
+    has_form && ty.is_final == (head(mark) != b'o') && is_id(ty.supertype, below)
 }
 
-const ROWS: [(&[Step], Ask); 12] = [
-    (&[Step::Gives(Num::I64)], Ask::Found),
-    // a type with its entry type
-    (&[Step::Maps(Num::F64, Num::F32)], Ask::Pairs),
-    (&[], Ask::Deletes),
-    (&[Step::Param(Num::I32)], Ask::GroupGoes),
-    (&[Step::Ring(3), Step::Ring(2), Step::Alone], Ask::ManyGo),
-    (
-        &[
-            Step::Param(Num::I32),
-            Step::Param(Num::I64),
-            Step::Param(Num::F32),
-            Step::Param(Num::F64),
-            Step::Param(Num::V128),
-            Step::Function,
-            Step::Struct,
-            Step::Array,
-        ],
-        Ask::OthersAreFound,
-    ),
-    (&[Step::Maps(Num::I32, Num::F32)], Ask::Names),
-    (&[Step::Function, Step::Param(Num::F64)], Ask::Iterates),
-    // two that name each other
-    (&[], Ask::Ring),
-    (&[], Ask::OtherCount),
-    (&[Step::Function], Ask::TypeIsCopied),
-    (&[Step::Function, Step::Param(Num::I32)], Ask::GroupIsCopied),
-];
+fn names(alloc: Global, ty: &Type, wanted: &[u8]) -> Result<bool, AllocError> {
+    let mut names = Vec::new(alloc);
+    ty.referenced_types(&mut names)?;
+    Ok(are_ids(names.as_slice(), wanted))
+}
 
-#[test]
-fn tables_do_what_is_asked(rt: HostRuntime) {
-    for (steps, ask) in ROWS {
-        assert!(rt; matches!(is_so(rt.alloc(), steps, ask), Ok(true)));
+// Whether it has that id, name and form, and names those types.
+fn is_type(alloc: Global, ty: &Type, args: &[u8], wanted: &[u8]) -> Result<bool, AllocError> {
+    let (number, letter) = cut(args, b',');
+    let (kind, named) = cut(wanted, b';');
+    Ok(
+        is_id(Some(ty.id()), number)
+            && has_name(ty, letter)
+            && is_kind(ty, kind)
+            && names(alloc, ty, named)?,
+    )
+}
+
+fn copies(alloc: Global, ty: &Type, args: &[u8], wanted: &[u8]) -> Result<bool, AllocError> {
+    is_type(alloc, &ty.clone()?, args, wanted)
+}
+
+// Whether the live type is that, and a copy of it, too.
+fn is_copied(
+    alloc: Global,
+    types: &ModuleTypes,
+    args: &[u8],
+    wanted: &[u8],
+) -> Result<bool, AllocError> {
+    let id = id(args);
+    if !types.contains(id) {
+        return Ok(false);
+    }
+    let ty = types.get(id);
+    Ok(is_type(alloc, ty, args, wanted)? && copies(alloc, ty, args, wanted)?)
+}
+
+/// Whether the table answers so:
+///
+/// - `find`: the function type is found under this id;
+/// - `name`: a type of this name is;
+/// - `live`: the ids of the live types;
+/// - `groups`: the sizes of the groups, with a `+` before those that are marked;
+/// - `home`: the members of the type's group;
+/// - `type`: the type of this id, and of this name, has this form, and behind a `;` names these types, and so has its copy.
+pub(crate) fn answers(
+    alloc: Global,
+    types: &ModuleTypes,
+    ask: &[u8],
+    wanted: &[u8],
+) -> Result<bool, AllocError> {
+    let (_, args) = cut(ask, b':');
+    match head(ask) {
+        b'f' => is_found(alloc, types, args, wanted),
+        b'n' => Ok(is_id(types.by_name(name(head(args))), wanted)),
+        b'l' => Ok(are_live(types, wanted)),
+        b'g' => Ok(are_groups(types, wanted)),
+        b'h' => is_home(types, id(args), wanted),
+        _ => is_copied(alloc, types, args, wanted),
     }
 }

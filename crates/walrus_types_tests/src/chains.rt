@@ -2,7 +2,7 @@
 // long, the adds wouldn't end within a test's time.
 ghost use Rattle.std.specs.Prelude.{◌<◌, ◌^◌};
 
-use crate::steps::remove;
+use crate::steps::goes;
 use std::alloc::AllocError;
 use walrus_arena::TypeId;
 use walrus_types::{HeapType, ModuleTypes, RefType, ValType};
@@ -38,7 +38,7 @@ fn is_found(types: &ModuleTypes, index: usize) -> bool
 // Deletes each tenth type.
 fn thin_out(types: &mut ModuleTypes) {
     for tenth in 0..LENGTH / 10 {
-        remove(types, TypeId::from_index(10 * tenth));
+        goes(types, TypeId::from_index(10 * tenth), b'd');
     }
 }
 

@@ -1,31 +1,35 @@
 //! Tests of arenas, of the forms of types and their records, and of the type table, each call with ample memory.
+//!
+//! Most are rows of a text: words say what is done and what is to come of it, so that one interpreter serves all of them.
 #![tactic(auto)]
 
 #[cfg(test)]
-mod adds;
+mod arenas;
 #[cfg(test)]
 mod asks;
 #[cfg(test)]
 mod chains;
 #[cfg(test)]
-mod copies;
+mod conversions;
 #[cfg(test)]
 mod edited;
 #[cfg(test)]
-mod edits;
-#[cfg(test)]
-mod emission;
-#[cfg(test)]
 mod forms;
 #[cfg(test)]
-mod groups;
+mod locals;
 #[cfg(test)]
 mod orders;
 #[cfg(test)]
 mod records;
 #[cfg(test)]
-mod rounds;
+mod sections;
 #[cfg(test)]
 mod steps;
 #[cfg(test)]
-mod texts;
+mod tables;
+#[cfg(test)]
+mod values;
+#[cfg(test)]
+mod words;
+#[cfg(test)]
+mod writing;

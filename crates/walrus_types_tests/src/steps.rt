@@ -1,102 +1,40 @@
-//! Tables that are made step by step.
+//! What is done to a table of types, step by step, each a word: a call, what it is given behind a `:`, and behind an `@` what it is to give.
+
+use crate::asks::answers;
+use crate::forms::{form, function, is_form};
+use crate::records::supertype;
+use crate::sections::are_read;
+use crate::values::{Word, list};
+use crate::words::{are_ids, cut, head, id, is_id, number};
 use std::alloc::{AllocError, Global};
 use walrus_arena::TypeId;
 use walrus_types::{
-    ArrayType, CompositeType, EmittedTypes, FieldType, HeapType, IrError, ModuleTypes, NewType,
-    RefType, StorageType, StructType, ValType,
+    CompositeType, FieldType, HeapType, IrError, ModuleTypes, NewType, RefType, StorageType,
+    StructType, ValType,
 };
 
-/// A value type that names no type.
-#[derive(Clone, Copy)]
-pub enum Num {
-    I32,
-    I64,
-    F32,
-    F64,
-    V128,
-    /// A nullable reference to functions.
-    Func,
-    /// A nullable reference to what the host has.
-    Extern,
-}
-
-/// What is done to a table. (Steps name types by their numbers, so that a constant can hold them.)
-#[derive(Clone, Copy)]
-pub enum Step {
-    /// A function type without parameters and results.
-    Function,
-    Param(Num),
-    Params(Num, Num),
-    /// Twenty-one parameters, the last of this type.
-    Many(Num),
-    Gives(Num),
-    /// From this parameter to this result.
-    Maps(Num, Num),
-    /// The type of a body's own block with this result.
-    Entry(Option<Num>),
-    /// A structure type without fields.
-    Struct,
-    /// One immutable field of this type, and two.
-    Field(Num),
-    Fields(Num, Num),
-    /// One immutable field that refers to the type of this id, and two.
-    Link(u32),
-    Links(u32, u32),
-    /// An array type of immutable bytes.
-    Array,
-    /// A final one, by the call for all forms.
-    Final,
-    /// One that isn't final.
-    Open,
-    /// A final one with this supertype.
-    Below(u32),
-    /// A marked group of so many structures, each of which refers to the next, and the last to the first.
-    Ring(usize),
-    /// A marked group of one structure without fields.
-    Alone,
-    /// The type is written over as a final one.
-    Close(u32),
-    Delete(u32),
-}
-
-fn value_type(num: Num) -> ValType {
-    match num {
-        Num::I32 => ValType::I32,
-        Num::I64 => ValType::I64,
-        Num::F32 => ValType::F32,
-        Num::F64 => ValType::F64,
-        Num::V128 => ValType::V128,
-        Num::Func => ValType::Ref(RefType::FUNCREF),
-        Num::Extern => ValType::Ref(RefType::EXTERNREF),
-    }
-}
-
-fn field_type(num: Num) -> FieldType {
-    immutable(StorageType::Val(value_type(num)))
-}
-
-fn id(number: u32) -> TypeId {
-    TypeId::from_index(number as usize)
-}
-
-pub fn immutable(element_type: StorageType) -> FieldType {
+// An immutable field that refers to the type.
+fn link(to: TypeId) -> FieldType {
     FieldType {
-        element_type,
+        element_type: StorageType::Val(ValType::Ref(RefType {
+            nullable: true,
+            heap_type: HeapType::Concrete(to),
+        })),
         mutable: false,
     }
 }
 
-/// An immutable field that refers to the type.
-pub fn link(to: TypeId) -> FieldType {
-    immutable(StorageType::Val(ValType::Ref(RefType {
-        nullable: true,
-        heap_type: HeapType::Concrete(to),
-    })))
+// The fields of a structure that refers to the type, or of one without fields.
+fn fields(alloc: Global, to: Option<TypeId>) -> Result<Vec<FieldType>, AllocError> {
+    match to {
+        Some(to) => Ok(Vec::from_slice(alloc, &[link(to)])?),
+        None => Ok(Vec::new(alloc)),
+    }
 }
 
-/// A final structure of these fields.
-pub fn member(alloc: Global, fields: &[FieldType]) -> Result<NewType, IrError> {
-    let fields = Vec::from_slice(alloc, fields)?;
+/// A final structure that refers to the type, or one without fields.
+pub(crate) fn member(alloc: Global, to: Option<TypeId>) -> Result<NewType, AllocError> {
+    let fields = fields(alloc, to)?;
     Ok(NewType {
         kind: CompositeType::Struct(StructType { fields }),
         is_final: true,
@@ -104,211 +42,215 @@ pub fn member(alloc: Global, fields: &[FieldType]) -> Result<NewType, IrError> {
     })
 }
 
-/// Structures that each refer to the next, and the last to the first.
-pub fn ring(alloc: Global, ids: &[TypeId]) -> Result<Vec<NewType>, IrError> {
+// By its step, the members of a group: `ring`s of structures each refer to the next, and the last to the first, those of `group`s have no
+// fields, and from `half` the first is left out.
+fn members(alloc: Global, ids: &[TypeId], step: u8) -> Result<Vec<NewType>, IrError> {
     let mut members = Vec::new(alloc);
     for k in 0..ids.len() {
         let next = if k + 1 < ids.len() { k + 1 } else { 0 };
-        members.push(member(alloc, &[link(ids[next])])?)?;
+        let to = if step == b'g' { None } else { Some(ids[next]) };
+        if step != b'h' || k > 0 {
+            members.push(member(alloc, to)?)?;
+        }
     }
     Ok(members)
 }
 
-fn alone(alloc: Global) -> Result<Vec<NewType>, IrError> {
-    let mut members = Vec::new(alloc);
-    members.push(member(alloc, &[])?)?;
-    Ok(members)
-}
-
-fn bytes() -> FieldType {
-    immutable(StorageType::I8)
-}
-
-fn array() -> CompositeType {
-    CompositeType::Array(ArrayType { field: bytes() })
-}
-
-fn add(
-    types: &mut ModuleTypes,
-    params: &[ValType],
-    results: &[ValType],
-) -> Result<Option<TypeId>, AllocError> {
-    Ok(Some(types.add(params, results)?))
-}
-
-fn add_function(types: &mut ModuleTypes, step: Step) -> Result<Option<TypeId>, AllocError> {
-    match step {
-        Step::Function => add(types, &[], &[]),
-        Step::Param(param) => add(types, &[value_type(param)], &[]),
-        Step::Params(first, second) => add(types, &[value_type(first), value_type(second)], &[]),
-        Step::Many(last) => add(types, &many(value_type(last)), &[]),
-        Step::Gives(result) => add(types, &[], &[value_type(result)]),
-        Step::Maps(param, result) => add(types, &[value_type(param)], &[value_type(result)]),
-        _ => Ok(None),
+// Whether a group of so many types is added, with these ids; a `half` is refused.
+fn adds_group(alloc: Global, types: &mut ModuleTypes, call: &[u8], wanted: &[u8]) -> bool {
+    let step = head(call);
+    match types.add_rec_group(number(call) as usize, |ids| members(alloc, ids, step)) {
+        Ok(ids) => wanted.is_empty() || are_ids(ids.as_slice(), wanted),
+        Err(refused) => step == b'h' && refused == IrError::WrongCount,
     }
 }
 
-fn add_entry(types: &mut ModuleTypes, step: Step) -> Result<Option<TypeId>, AllocError> {
-    match step {
-        Step::Entry(None) => Ok(Some(types.add_entry_ty(&[])?)),
-        Step::Entry(Some(result)) => Ok(Some(types.add_entry_ty(&[value_type(result)])?)),
-        _ => Ok(None),
-    }
-}
-
-fn many(last: ValType) -> [ValType; 21] {
-    let mut params = [ValType::I32; 21];
-    params[20] = last;
-    params
-}
-
-fn add_fields(
+// Adds the function type, or the type of a body's own block with these results.
+fn add_function(
     alloc: Global,
     types: &mut ModuleTypes,
-    fields: &[FieldType],
-) -> Result<Option<TypeId>, AllocError> {
-    let fields = Vec::from_slice(alloc, fields)?;
-    Ok(Some(types.add_struct(fields)?))
+    step: u8,
+    args: &[u8],
+) -> Result<TypeId, AllocError> {
+    let ty = function(alloc, args)?;
+    if step == b'f' {
+        types.add(ty.params(), ty.results())
+    } else {
+        types.add_entry_ty(ty.results())
+    }
 }
 
-fn add_structure(
+// Adds it by the call for its form, or by that for all forms where it is told whether it is final.
+fn add(alloc: Global, types: &mut ModuleTypes, call: &[u8]) -> Result<TypeId, AllocError> {
+    let (plain, mark) = cut(call, b'/');
+    let (_, args) = cut(plain, b':');
+    if !mark.is_empty() {
+        return add_composite(alloc, types, plain, mark);
+    }
+    match head(call) {
+        b's' => types.add_struct(list(alloc, args)?),
+        b'a' => types.add_array(FieldType::of(args)),
+        step => add_function(alloc, types, step, args),
+    }
+}
+
+fn add_composite(
     alloc: Global,
     types: &mut ModuleTypes,
-    step: Step,
-) -> Result<Option<TypeId>, AllocError> {
-    match step {
-        Step::Struct => add_fields(alloc, types, &[]),
-        Step::Field(num) => add_fields(alloc, types, &[field_type(num)]),
-        Step::Fields(first, second) => {
-            add_fields(alloc, types, &[field_type(first), field_type(second)])
-        }
-        Step::Link(to) => add_fields(alloc, types, &[link(id(to))]),
-        Step::Links(first, second) => {
-            add_fields(alloc, types, &[link(id(first)), link(id(second))])
-        }
-        _ => Ok(None),
-    }
+    plain: &[u8],
+    mark: &[u8],
+) -> Result<TypeId, AllocError> {
+    let (_, below) = cut(mark, b'<');
+    let supertype = if below.is_empty() {
+        None
+    } else {
+        Some(id(below))
+    };
+    types.add_composite(form(alloc, plain)?, head(mark) == b'f', supertype)
 }
 
-fn add_form(
-    types: &mut ModuleTypes,
-    is_final: bool,
-    supertype: Option<TypeId>,
-) -> Result<Option<TypeId>, AllocError> {
-    Ok(Some(types.add_composite(array(), is_final, supertype)?))
-}
-
-fn add_array(types: &mut ModuleTypes, step: Step) -> Result<Option<TypeId>, AllocError> {
-    match step {
-        Step::Array => Ok(Some(types.add_array(bytes())?)),
-        Step::Final => add_form(types, true, None),
-        Step::Open => add_form(types, false, None),
-        Step::Below(to) => add_form(types, true, Some(id(to))),
-        _ => Ok(None),
-    }
-}
-
-fn add_group(alloc: Global, types: &mut ModuleTypes, step: Step) -> Result<(), IrError> {
-    match step {
-        Step::Ring(count) => {
-            types.add_rec_group(count, |ids| ring(alloc, ids))?;
-        }
-        Step::Alone => {
-            types.add_rec_group(1, |_| alone(alloc))?;
-        }
-        _ => {}
-    }
-    Ok(())
-}
-
-/// Deletes the type, if it is live.
-pub fn remove(types: &mut ModuleTypes, id: TypeId) {
-    if types.contains(id) {
-        types.delete(id);
-    }
-}
-
-fn close(types: &mut ModuleTypes, id: TypeId) {
-    if types.contains(id) {
-        types.get_mut(id).is_final = true;
-    }
-}
-
-fn edit(types: &mut ModuleTypes, step: Step) {
-    match step {
-        Step::Close(number) => close(types, id(number)),
-        Step::Delete(number) => remove(types, id(number)),
-        _ => {}
-    }
-}
-
-// The id of the single type that the step adds, if it adds one.
-fn add_single(
+// Whether the type is added, or an equal one found, under this id, which is live then.
+fn adds(
     alloc: Global,
     types: &mut ModuleTypes,
-    step: Step,
-) -> Result<Option<TypeId>, AllocError> {
-    let function = add_function(types, step)?;
-    let entry = add_entry(types, step)?;
-    let structure = add_structure(alloc, types, step)?;
-    let array = add_array(types, step)?;
-    Ok(function.or(entry).or(structure).or(array))
+    call: &[u8],
+    wanted: &[u8],
+) -> Result<bool, AllocError> {
+    let id = add(alloc, types, call)?;
+    Ok(types.contains(id) && (wanted.is_empty() || is_id(Some(id), wanted)))
 }
 
-/// Takes the step, and answers the id where it adds a single type.
-pub fn take(alloc: Global, types: &mut ModuleTypes, step: Step) -> Result<Option<TypeId>, IrError> {
-    edit(types, step);
-    add_group(alloc, types, step)?;
-    Ok(add_single(alloc, types, step)?)
+// Whether the type and that of its body's own block are added, or found, under these ids.
+fn adds_both(
+    alloc: Global,
+    types: &mut ModuleTypes,
+    args: &[u8],
+    wanted: &[u8],
+) -> Result<bool, AllocError> {
+    let ty = function(alloc, args)?;
+    let (id, entry) = types.add_with_entry_ty(ty.params(), ty.results())?;
+    let (first, second) = cut(wanted, b',');
+    Ok(is_id(Some(id), first) && is_id(Some(entry), second))
 }
 
-fn take_all(alloc: Global, types: &mut ModuleTypes, steps: &[Step]) -> Result<(), IrError> {
-    for step in steps {
-        take(alloc, types, *step)?;
+/// Whether the live type goes: alone, with its group, or tried; or whether it stays where it is to be kept.
+pub(crate) fn goes(types: &mut ModuleTypes, id: TypeId, step: u8) -> bool {
+    if !types.contains(id) {
+        return false;
     }
-    Ok(())
-}
-
-/// The table after these steps.
-pub fn table(alloc: Global, steps: &[Step]) -> Result<ModuleTypes, IrError> {
-    let mut types = ModuleTypes::new(alloc);
-    take_all(alloc, &mut types, steps)?;
-    Ok(types)
-}
-
-/// What is written of it.
-pub fn written(alloc: Global, steps: &[Step]) -> Result<EmittedTypes, IrError> {
-    table(alloc, steps)?.emit()
-}
-
-/// The types of the ids 0, 1 and so on are written at these indices.
-pub fn are_at(emitted: &EmittedTypes, wanted: &[Option<u32>]) -> bool {
-    let mut agree = true;
-    for (index, id) in wanted.iter().zip(0..u32::MAX) {
-        agree &= emitted.indices.get(TypeId::from_index(id as usize)) == *index;
+    let mut gone = true;
+    match step {
+        b'd' => types.delete(id),
+        b'o' => types.delete_entire_group(id),
+        _ => gone = types.try_delete(id),
     }
-    agree
+    gone == (step != b'k') && types.contains(id) != gone
 }
 
-/// These are the ids of these numbers.
-pub fn are_ids(ids: &[TypeId], wanted: &[usize]) -> bool {
-    let mut agree = ids.len() == wanted.len();
-    for (id, index) in ids.iter().zip(wanted) {
-        agree &= id.index() == *index;
+// Deletes the types whose marks are `1`.
+fn delete_marked(types: &mut ModuleTypes, args: &[u8]) {
+    let mut marks = [false; 8];
+    for at in 0..8 {
+        marks[at] = at < args.len() && args[at] == b'1';
     }
-    agree
+    if args.len() <= 8 {
+        types.delete_marked(&marks[..args.len()]);
+    }
 }
 
-/// Names the type, if it is live.
-pub fn name(
+/// The name of a letter.
+pub(crate) fn name(letter: u8) -> &'static str {
+    match letter {
+        b'a' => "a",
+        b'b' => "b",
+        _ => "t",
+    }
+}
+
+// Names the live type.
+fn gives_name(
     alloc: Global,
     types: &mut ModuleTypes,
     id: TypeId,
-    text: &str,
-) -> Result<(), AllocError> {
-    let given = String::from_str(alloc, text)?;
-    if types.contains(id) {
+    letter: u8,
+) -> Result<bool, AllocError> {
+    let given = String::from_str(alloc, name(letter))?;
+    let is_live = types.contains(id);
+    if is_live {
         types.get_mut(id).name = Some(given);
     }
+    Ok(is_live)
+}
+
+// Writes the live type over as a final one.
+fn closes(types: &mut ModuleTypes, id: TypeId) -> bool {
+    let is_live = types.contains(id);
+    if is_live {
+        types.get_mut(id).is_final = true;
+    }
+    is_live
+}
+
+// Adds a structure without fields, and then so many each of which refers to the one before.
+fn add_chain(alloc: Global, types: &mut ModuleTypes, count: u32) -> Result<(), AllocError> {
+    let mut last = types.add_struct(fields(alloc, None)?)?;
+    for _ in 0..count {
+        last = types.add_struct(fields(alloc, Some(last))?)?;
+    }
     Ok(())
+}
+
+/// Takes a step, and answers whether it gave what it is to give:
+///
+/// - `func`, `struct`, `array`, `entry`: adds the type, which then has this id;
+/// - `both`: adds the function type with the type of its body's own block, of these ids;
+/// - `ring`, `group`, `half`: adds a marked group (see `members`);
+/// - `chain`: adds so many structures, each of which refers to the one before, behind one without fields;
+/// - `parse`: reads a section by its letters, and gives its types these ids;
+/// - `delete`, `out`, `try`: deletes the live type, alone, with its group, or if no sibling names it; `keep`: tries to, in vain;
+/// - `marked`: deletes the types whose marks are `1`;
+/// - `write`: writes the type over as a final one; `name`: names it;
+/// - `?`: asks (see `answers`).
+pub(crate) fn take(alloc: Global, types: &mut ModuleTypes, step: &[u8]) -> Result<bool, IrError> {
+    let (call, wanted) = cut(step, b'@');
+    let (_, args) = cut(call, b':');
+    match head(call) {
+        b'f' | b's' | b'a' | b'e' => Ok(adds(alloc, types, call, wanted)?),
+        b'b' => Ok(adds_both(alloc, types, args, wanted)?),
+        b'r' | b'g' | b'h' => Ok(adds_group(alloc, types, call, wanted)),
+        b'c' => {
+            add_chain(alloc, types, number(args))?;
+            Ok(true)
+        }
+        b'p' => Ok(are_read(alloc, types, args, wanted)?),
+        b'd' | b'o' | b't' | b'k' => Ok(goes(types, id(args), head(call))),
+        b'm' => {
+            delete_marked(types, args);
+            Ok(true)
+        }
+        b'w' => Ok(closes(types, id(args))),
+        b'n' => {
+            let (of, name) = cut(args, b',');
+            Ok(gives_name(alloc, types, id(of), head(name))?)
+        }
+        _ => {
+            let (_, ask) = cut(call, b'?');
+            Ok(answers(alloc, types, ask, wanted)?)
+        }
+    }
+}
+
+fn copies_member(member: &NewType, form: &str) -> Result<bool, AllocError> {
+    let copy = member.clone()?;
+    Ok(is_form(&copy.kind, form.as_bytes()) && copy.is_final && copy.supertype.is_none())
+}
+
+fn is_member_copied(alloc: Global) -> Result<bool, AllocError> {
+    let member = member(alloc, Some(TypeId::from_index(7)))?;
+    copies_member(&member, "struct:7")
+}
+
+#[test]
+fn copies_of_members(rt: HostRuntime) {
+    assert!(rt; is_member_copied(rt.alloc()) == Ok(true));
 }

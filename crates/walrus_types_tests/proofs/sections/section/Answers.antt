@@ -1,7 +1,7 @@
 use Rattle.std.proofs.Common.{◌+◌, ◌≤◌, arith, length}
 use Rattle.walrus_types_tests.proofs.Below.{section_grows}
-use Rattle.walrus_types_tests.proofs.records.section.Goals as goal
-use Rattle.walrus_types_tests.proofs.records.section.Goals.{then-not-is_empty, else-not-is_empty}
+use Rattle.walrus_types_tests.proofs.sections.section.Goals as goal
+use Rattle.walrus_types_tests.proofs.sections.section.Goals.{then-not-is_empty, else-not-is_empty}
 
 pub loop-entry-preserved : goal.loop-entry-preserved
 loop-entry-preserved c =

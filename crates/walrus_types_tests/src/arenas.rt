@@ -5,7 +5,6 @@ ghost use Rattle.std.specs.Prelude.{◌≡◌, []};
 use std::alloc::{AllocError, Global};
 use std::cell::Cell;
 use std::mem::size_of;
-use std::test::Fail;
 use walrus_arena::{
     ArenaSet, FunctionId, FunctionSpace, Id, IdHashMap, IdHashSet, Tombstone, TombstoneArena,
     TypeId, TypeSpace, laws,
@@ -63,8 +62,8 @@ enum Step {
     Add(u32, u32),
     // The word of these that the id picks, which is this.
     AddById(u32),
-    // Two behind a reserve, in an empty arena.
-    AddReserved,
+    // A word behind a reserve, with room for another, and its id.
+    AddReserved(u32, u32),
     Next(u32),
     Delete(u32),
     Count(usize),
@@ -88,11 +87,10 @@ fn adds_by_id(arena: &mut Words, wanted: u32) -> Result<bool, AllocError> {
     Ok(added == id(wanted) && word_at(arena, added) == 1)
 }
 
-fn adds_reserved(arena: &mut Words) -> Result<bool, AllocError> {
+fn adds_reserved(arena: &mut Words, word: u32, wanted: u32) -> Result<bool, AllocError> {
     arena.reserve(2)?;
-    let first = arena.alloc_reserved(Word(7));
-    let second = arena.alloc_with_id(|given| Word(if given.index() == 1 { 5 } else { 0 }))?;
-    Ok(first == id(0) && second == id(1) && word_at(arena, second) == 5)
+    let added = arena.alloc_reserved(Word(word));
+    Ok(added == id(wanted) && word_at(arena, added) == word)
 }
 
 fn word_at(arena: &Words, id: TypeId) -> u32 {
@@ -145,7 +143,7 @@ fn holds(arena: &mut Words, step: Step) -> Result<bool, AllocError> {
         }
         Step::Add(word, id) => adds(arena, word, id),
         Step::AddById(id) => adds_by_id(arena, id),
-        Step::AddReserved => adds_reserved(arena),
+        Step::AddReserved(word, id) => adds_reserved(arena, word, id),
         Step::Next(index) => Ok(arena.next_id() == id(index)),
         Step::Delete(index) => Ok(goes(arena, id(index))),
         Step::Count(count) => Ok(arena.len() == count),
@@ -182,10 +180,13 @@ const STEPS: [Step; 10] = [
     Step::Sum(7),
 ];
 
+const RESERVED: [Step; 2] = [Step::AddReserved(7, 0), Step::AddById(1)];
+
 #[test]
 fn arena(rt: HostRuntime) {
-    assert!(rt; are_so(rt.alloc(), &STEPS) == Ok(true));
-    assert!(rt; are_so(rt.alloc(), &[Step::AddReserved]) == Ok(true));
+    for steps in [STEPS.as_slice(), RESERVED.as_slice()] {
+        assert!(rt; are_so(rt.alloc(), steps) == Ok(true));
+    }
 }
 
 // What is done to a set, with what it gives.
@@ -260,15 +261,14 @@ fn is_indexed(alloc: Global) -> Result<bool, AllocError> {
 }
 
 #[test]
-fn set(rt: HostRuntime) -> Result<(), Fail> {
-    assert!(rt; is_changed(rt.alloc())? && is_indexed(rt.alloc())?);
-    Ok(())
+fn set(rt: HostRuntime) {
+    assert!(rt; is_changed(rt.alloc()) == Ok(true) && is_indexed(rt.alloc()) == Ok(true));
 }
 
 fn is_mapped(alloc: Global, id: FunctionId) -> Result<bool, AllocError> {
     let mut names: IdHashMap<FunctionSpace, u8> = IdHashMap::new(alloc);
     names.insert(id, 5)?;
-    Ok(names.get(&id).copied() == Some(5))
+    Ok(matches!(names.get(&id), Some(5)))
 }
 
 fn is_seen(alloc: Global, id: FunctionId) -> Result<bool, AllocError> {
@@ -278,10 +278,9 @@ fn is_seen(alloc: Global, id: FunctionId) -> Result<bool, AllocError> {
 }
 
 #[test]
-fn maps(rt: HostRuntime) -> Result<(), Fail> {
+fn maps(rt: HostRuntime) {
     let id = FunctionId::from_index(3);
-    assert!(rt; is_mapped(rt.alloc(), id)? && is_seen(rt.alloc(), id)?);
-    Ok(())
+    assert!(rt; is_mapped(rt.alloc(), id) == Ok(true) && is_seen(rt.alloc(), id) == Ok(true));
 }
 
 #[test]
@@ -294,8 +293,8 @@ fn laws_can_be_cited(rt: HostRuntime) {
 
 #[test]
 fn ids_take_four_bytes(rt: HostRuntime) {
-    assert!(rt; size_of::<TypeId>() == 4 && size_of::<Option<TypeId>>() == 8);
-    assert!(rt; TypeId::from_index(4294967295).number() == 4294967295);
+    let sizes = size_of::<TypeId>() == 4 && size_of::<Option<TypeId>>() == 8;
+    assert!(rt; sizes && TypeId::from_index(4294967295).number() == 4294967295);
 }
 
 fn text_begins(alloc: Global, id: TypeId, text: &str) -> Result<bool, AllocError> {

@@ -1,8 +1,10 @@
 // Single types between ids and indices, and the types that they name.
+use crate::forms::is_form;
+use std::alloc::{AllocError, Global};
 use walrus_arena::TypeId;
 use walrus_forms::{
-    AbstractHeapType, FieldRecord, FieldType, HeapRecord, HeapType, RefRecord, RefType,
-    StorageRecord, StorageType, ValRecord, ValType, laws,
+    AbstractHeapType, CompositeRecord, FieldRecord, FieldType, HeapRecord, HeapType, RefRecord,
+    RefType, StorageRecord, StorageType, ValRecord, ValType, laws,
 };
 
 // A field of references to the values of the type 7 alone, and its record where that has the index 1.
@@ -54,8 +56,9 @@ fn records_of_single_types(rt: HostRuntime) {
         assert!(rt; heap_is_told(ty, record));
     }
     let i31 = HeapRecord::Abstract(AbstractHeapType::I31);
-    assert!(rt; is_told(field(), RECORD, RefType::I31REF, i31));
-    assert!(rt; is_plain(StorageType::I16, ValType::V128));
+    assert!(rt;
+        is_told(field(), RECORD, RefType::I31REF, i31) && is_plain(StorageType::I16, ValType::V128)
+    );
 }
 
 // Of two types, whether the records are those of the field and of plain types.
@@ -70,8 +73,31 @@ fn are_plain(ids: &[TypeId]) -> bool {
 #[test]
 fn single_types_of_records(rt: HostRuntime) {
     let ids = [TypeId::from_index(4), TypeId::from_index(7)];
-    assert!(rt; is_field(&ids));
-    assert!(rt; are_plain(&ids));
+    assert!(rt; is_field(&ids) && are_plain(&ids));
+}
+
+// A mutable field of references without null to the values of the type of index 1 alone.
+const EXACT: FieldRecord = FieldRecord {
+    element_type: StorageRecord::Val(ValRecord::Ref(RefRecord {
+        nullable: false,
+        heap_type: HeapRecord::Exact(1),
+    })),
+    mutable: true,
+};
+
+// Of two types, whether that of an array of it names the second.
+fn names_second(alloc: Global, ids: &[TypeId], wanted: &str) -> Result<bool, AllocError> {
+    if ids.len() != 2 {
+        return Ok(false);
+    }
+    let record = CompositeRecord::Array { field: EXACT };
+    Ok(is_form(&record.resolve(alloc, ids)?, wanted.as_bytes()))
+}
+
+#[test]
+fn forms_of_records(rt: HostRuntime) {
+    let ids = [TypeId::from_index(8), TypeId::from_index(3)];
+    assert!(rt; names_second(rt.alloc(), &ids, "array:3=!*") == Ok(true));
 }
 
 fn is_seven(id: Option<TypeId>) -> bool {
@@ -100,10 +126,12 @@ fn have_none(storage: StorageRecord, value: ValRecord) -> bool {
 
 #[test]
 fn names(rt: HostRuntime) {
-    assert!(rt; names_seven(field()));
-    assert!(rt; name_none(RefType::ANYREF, HeapType::Abstract(AbstractHeapType::Eq)));
-    assert!(rt; have_indices(RECORD, HeapRecord::Concrete(5)));
-    assert!(rt; have_none(StorageRecord::I8, ValRecord::I32));
+    let eq = HeapType::Abstract(AbstractHeapType::Eq);
+    assert!(rt; names_seven(field()) && name_none(RefType::ANYREF, eq));
+    assert!(rt;
+        have_indices(RECORD, HeapRecord::Concrete(5))
+            && have_none(StorageRecord::I8, ValRecord::I32)
+    );
 }
 
 #[test]

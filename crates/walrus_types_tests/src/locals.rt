@@ -1,0 +1,37 @@
+// Locals, and their copies.
+use std::alloc::{AllocError, Global};
+use walrus_arena::LocalId;
+use walrus_types::{Local, ModuleLocals, ValType};
+
+fn adds_locals(locals: &mut ModuleLocals) -> Result<bool, AllocError> {
+    let a = locals.add(ValType::V128)?;
+    let b = locals.add(ValType::I32)?;
+    Ok(a == LocalId::from_index(0) && b == LocalId::from_index(1))
+}
+
+#[test]
+fn locals(rt: HostRuntime) {
+    let mut locals = ModuleLocals::new(rt.alloc());
+    assert!(rt; adds_locals(&mut locals) == Ok(true));
+}
+
+fn is_copy(copy: &Local) -> bool {
+    copy.id().index() == 3
+        && copy.ty() == ValType::F64
+        && matches!(&copy.name, Some(name) if name.as_str() == "x")
+}
+
+fn copies_local(local: &Local) -> Result<bool, AllocError> {
+    Ok(is_copy(&local.clone()?))
+}
+
+fn is_copied(alloc: Global) -> Result<bool, AllocError> {
+    let mut local = Local::new(LocalId::from_index(3), ValType::F64);
+    local.name = Some(String::from_str(alloc, "x")?);
+    copies_local(&local)
+}
+
+#[test]
+fn copies_of_locals(rt: HostRuntime) {
+    assert!(rt; is_copied(rt.alloc()) == Ok(true));
+}
