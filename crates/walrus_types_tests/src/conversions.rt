@@ -1,24 +1,97 @@
-// Single types between ids and indices, and the types that they name.
+//! Single types between ids and indices, and the types that they name.
+
 use crate::forms::is_form;
+use crate::values::Word;
+use crate::words::{cut, head, is_id, is_number};
 use std::alloc::{AllocError, Global};
 use walrus_arena::TypeId;
 use walrus_forms::{
-    AbstractHeapType, CompositeRecord, FieldRecord, FieldType, HeapRecord, HeapType, RefRecord,
-    RefType, StorageRecord, StorageType, ValRecord, ValType, laws,
+    CompositeRecord, FieldRecord, FieldType, HeapRecord, RefRecord, RefType, StorageRecord,
+    StorageType, ValRecord, ValType, laws,
 };
 
-// A field of references to the values of the type 7 alone, and its record where that has the index 1.
-fn field() -> FieldType {
-    FieldType {
-        element_type: StorageType::Val(ValType::Ref(RefType {
-            nullable: true,
-            heap_type: HeapType::Exact(TypeId::from_index(7)),
-        })),
-        mutable: true,
+// Where the types 3, 4 and 7 have the indices 5, 0 and 1.
+const INDICES: [Option<u32>; 8] = [None, None, None, Some(5), Some(0), None, None, Some(1)];
+
+// Whether the reference has that record and names that type, and its record that index; and likewise its heap type.
+fn is_reference(ty: RefType, record: RefRecord, id: &[u8], index: &[u8]) -> bool {
+    let heap = ty.heap_type;
+    let heap_record = record.heap_type;
+    is_id(ty.type_id(), id)
+        && is_id(heap.type_id(), id)
+        && is_number(record.type_index(), index)
+        && is_number(heap_record.type_index(), index)
+        && ty.describe(&INDICES) == record
+        && heap.describe(&INDICES) == heap_record
+}
+
+fn is_value(ty: ValType, record: ValRecord, id: &[u8], index: &[u8]) -> bool {
+    let has_parts = match (&ty, &record) {
+        (ValType::Ref(ty), ValRecord::Ref(record)) => is_reference(*ty, *record, id, index),
+        _ => true,
+    };
+    has_parts
+        && is_id(ty.type_id(), id)
+        && is_number(record.type_index(), index)
+        && ty.describe(&INDICES) == record
+}
+
+fn is_storage(ty: StorageType, record: StorageRecord, id: &[u8], index: &[u8]) -> bool {
+    let has_parts = match (&ty, &record) {
+        (StorageType::Val(ty), StorageRecord::Val(record)) => is_value(*ty, *record, id, index),
+        _ => true,
+    };
+    has_parts
+        && is_id(ty.type_id(), id)
+        && is_id(ty.unpack().type_id(), id)
+        && is_number(record.type_index(), index)
+        && ty.describe(&INDICES) == record
+}
+
+fn is_field(ty: FieldType, record: FieldRecord, id: &[u8], index: &[u8]) -> bool {
+    is_storage(ty.element_type, record.element_type, id, index)
+        && is_id(ty.type_id(), id)
+        && is_number(record.type_index(), index)
+        && ty.describe(&INDICES) == record
+}
+
+fn is_row(row: &[u8]) -> bool {
+    let (ty, rest) = cut(row, b' ');
+    let (record, rest) = cut(rest, b' ');
+    let (id, index) = cut(rest, b' ');
+    is_field(FieldType::of(ty), FieldRecord::of(record), id, index)
+}
+
+// A field with ids, with indices, the type that it names, and its index.
+const FIELDS: &str = "\
+4 0 4 0
+3 5 3 5
+7=* 1=* 7 1
+# one without an index
+2= 0= 2 0
+i31 i31 - -
+any any - -
+eq eq - -
+v128 v128 - -
+i32 i32 - -
+i8 i8 - -
+i16 i16 - -";
+
+#[test]
+fn fields_are_described(rt: HostRuntime) {
+    let mut rest = FIELDS.as_bytes();
+    for _ in 0..FIELDS.len() {
+        if rest.is_empty() {
+            break;
+        }
+        let (row, behind) = cut(rest, b'\n');
+        rest = behind;
+        assert!(rt; head(row) == b'#' || is_row(row));
     }
 }
 
-const RECORD: FieldRecord = FieldRecord {
+// A mutable field of references to the values of the type of index 1 alone.
+const FIELD: FieldRecord = FieldRecord {
     element_type: StorageRecord::Val(ValRecord::Ref(RefRecord {
         nullable: true,
         heap_type: HeapRecord::Exact(1),
@@ -26,58 +99,8 @@ const RECORD: FieldRecord = FieldRecord {
     mutable: true,
 };
 
-// Where the types 4 and 7 have the indices 0 and 1.
-const INDICES: [Option<u32>; 8] = [None, None, None, None, Some(0), None, None, Some(1)];
-
-fn heap_is_told(ty: HeapType, record: HeapRecord) -> bool {
-    ty.describe(&INDICES) == record
-}
-
-// Whether the field has this record, and the reference that one.
-fn is_told(field: FieldType, record: FieldRecord, ty: RefType, heap: HeapRecord) -> bool {
-    field.describe(&INDICES) == record && ty.describe(&INDICES).heap_type == heap
-}
-
-fn is_plain(storage: StorageType, value: ValType) -> bool {
-    storage.describe(&INDICES) == StorageRecord::I16 && value.describe(&INDICES) == ValRecord::V128
-}
-
-#[test]
-fn records_of_single_types(rt: HostRuntime) {
-    let heaps = [
-        (
-            HeapType::Concrete(TypeId::from_index(4)),
-            HeapRecord::Concrete(0),
-        ),
-        // one without an index
-        (HeapType::Exact(TypeId::from_index(2)), HeapRecord::Exact(0)),
-    ];
-    for (ty, record) in heaps {
-        assert!(rt; heap_is_told(ty, record));
-    }
-    let i31 = HeapRecord::Abstract(AbstractHeapType::I31);
-    assert!(rt;
-        is_told(field(), RECORD, RefType::I31REF, i31) && is_plain(StorageType::I16, ValType::V128)
-    );
-}
-
-// Of two types, whether the records are those of the field and of plain types.
-fn is_field(ids: &[TypeId]) -> bool {
-    ids.len() == 2 && RECORD.resolve(ids) == field()
-}
-
-fn are_plain(ids: &[TypeId]) -> bool {
-    StorageRecord::I8.resolve(ids) == StorageType::I8 && ValRecord::F64.resolve(ids) == ValType::F64
-}
-
-#[test]
-fn single_types_of_records(rt: HostRuntime) {
-    let ids = [TypeId::from_index(4), TypeId::from_index(7)];
-    assert!(rt; is_field(&ids) && are_plain(&ids));
-}
-
-// A mutable field of references without null to the values of the type of index 1 alone.
-const EXACT: FieldRecord = FieldRecord {
+// The same without null.
+const NON_NULL: FieldRecord = FieldRecord {
     element_type: StorageRecord::Val(ValRecord::Ref(RefRecord {
         nullable: false,
         heap_type: HeapRecord::Exact(1),
@@ -85,53 +108,29 @@ const EXACT: FieldRecord = FieldRecord {
     mutable: true,
 };
 
-// Of two types, whether that of an array of it names the second.
-fn names_second(alloc: Global, ids: &[TypeId], wanted: &str) -> Result<bool, AllocError> {
+// Of two types, whether the field names the second, and plain types stay.
+fn are_resolved(ids: &[TypeId], wanted: &str) -> bool {
+    ids.len() == 2
+        && FIELD.resolve(ids) == FieldType::of(wanted.as_bytes())
+        && StorageRecord::I8.resolve(ids) == StorageType::I8
+        && ValRecord::F64.resolve(ids) == ValType::F64
+}
+
+// Of two types, whether the array names the second.
+fn is_resolved(alloc: Global, ids: &[TypeId], wanted: &str) -> Result<bool, AllocError> {
     if ids.len() != 2 {
         return Ok(false);
     }
-    let record = CompositeRecord::Array { field: EXACT };
+    let record = CompositeRecord::Array { field: NON_NULL };
     Ok(is_form(&record.resolve(alloc, ids)?, wanted.as_bytes()))
 }
 
 #[test]
-fn forms_of_records(rt: HostRuntime) {
-    let ids = [TypeId::from_index(8), TypeId::from_index(3)];
-    assert!(rt; names_second(rt.alloc(), &ids, "array:3=!*") == Ok(true));
-}
-
-fn is_seven(id: Option<TypeId>) -> bool {
-    match id {
-        Some(id) => id.index() == 7,
-        None => false,
-    }
-}
-
-fn names_seven(field: FieldType) -> bool {
-    let storage = field.element_type;
-    is_seven(field.type_id()) && is_seven(storage.type_id()) && is_seven(storage.unpack().type_id())
-}
-
-fn name_none(reference: RefType, heap: HeapType) -> bool {
-    reference.type_id().is_none() && heap.type_id().is_none()
-}
-
-fn have_indices(field: FieldRecord, heap: HeapRecord) -> bool {
-    field.type_index() == Some(1) && heap.type_index() == Some(5)
-}
-
-fn have_none(storage: StorageRecord, value: ValRecord) -> bool {
-    storage.type_index().is_none() && value.type_index().is_none()
-}
-
-#[test]
-fn names(rt: HostRuntime) {
-    let eq = HeapType::Abstract(AbstractHeapType::Eq);
-    assert!(rt; names_seven(field()) && name_none(RefType::ANYREF, eq));
-    assert!(rt;
-        have_indices(RECORD, HeapRecord::Concrete(5))
-            && have_none(StorageRecord::I8, ValRecord::I32)
-    );
+fn types_of_records(rt: HostRuntime) {
+    let ids = [TypeId::from_index(4), TypeId::from_index(7)];
+    assert!(rt; are_resolved(&ids, "7=*"));
+    let others = [TypeId::from_index(8), TypeId::from_index(3)];
+    assert!(rt; is_resolved(rt.alloc(), &others, "array:3=!*") == Ok(true));
 }
 
 #[test]

@@ -59,20 +59,9 @@ pub(crate) fn is_form(form: &CompositeType, word: &[u8]) -> bool {
     }
 }
 
-// Whether a copy of the function or structure type alone, without its form, is the same.
-fn copies_part(form: &CompositeType, word: &[u8]) -> Result<bool, AllocError> {
-    let (_, args) = cut(word, b':');
-    if let Some(ty) = form.as_function() {
-        return Ok(is_function(&ty.clone()?, args));
-    }
-    match form.as_struct() {
-        Some(ty) => Ok(are(ty.clone()?.fields.as_slice(), args)),
-        None => Ok(true),
-    }
-}
-
+// (A form is copied by way of its function or structure type.)
 fn copies_form(form: &CompositeType, word: &[u8]) -> Result<bool, AllocError> {
-    Ok(is_form(&form.clone()?, word) && copies_part(form, word)?)
+    Ok(is_form(&form.clone()?, word))
 }
 
 // Whether copies of the form are the same. The types that it names stand behind the others then.

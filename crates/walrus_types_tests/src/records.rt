@@ -1,6 +1,7 @@
-//! Records as words: of forms as those of types, with indices in place of ids. Behind the form of a type stands a `/` with `final` or `open`, if it is
-//! told, and a `<` with its supertype; a form alone is final, without supertype. Types of a group stand with `&` between them, a marked group
-//! with `+` before it.
+//! Records as words: forms as those of types, with indices in place of ids.
+//!
+//! Behind the form of a type stands a `/` with `final` or `open`, where it is told, and a `<` with its supertype; a form alone is final, without
+//! supertype. Types of a group stand with `&` between them, a marked group with `+` before it.
 
 use crate::values::{Word, are, list};
 use crate::words::{cut, head, number};
@@ -39,8 +40,8 @@ fn is_record(form: &CompositeRecord, word: &[u8]) -> bool {
     }
 }
 
-/// The supertype that a word's mark tells.
-pub(crate) fn supertype(mark: &[u8]) -> Option<u32> {
+// The supertype that a word's mark tells.
+fn supertype(mark: &[u8]) -> Option<u32> {
     let (_, number_of) = cut(mark, b'<');
     if number_of.is_empty() {
         None

@@ -2,7 +2,6 @@
 
 use crate::asks::answers;
 use crate::forms::{form, function, is_form};
-use crate::records::supertype;
 use crate::sections::are_read;
 use crate::values::{Word, list};
 use crate::words::{are_ids, cut, head, id, is_id, number};

@@ -64,11 +64,6 @@ ring:2@0,1 ?type:0@struct:1;1 ?type:1@struct:0;0 keep:0
 # a group of another count than was asked for is refused, and leaves no id behind
 half:2 func:>@0";
 
-#[test]
-fn equal_types_are_merged(rt: HostRuntime) {
-    assert!(rt; all_are_so(rt.alloc(), ADDS));
-}
-
 // What is deleted, named and copied.
 const EDITS: &str = "\
 # a type goes, alone or tried
@@ -89,11 +84,6 @@ func:> func:f64> ?live@0,1 ?groups@1,1
 # a copy says what its original was made of
 func:> func:i64,v128>f32/open<0@1 name:1,t ?type:1,t@func:i64,v128>f32/open<0;0
 func:> func:i32> ?home:1@1";
-
-#[test]
-fn types_are_edited(rt: HostRuntime) {
-    assert!(rt; all_are_so(rt.alloc(), EDITS));
-}
 
 // Groups stand by rising id. Those that are marked, and types that name a type or have a supertype, stay; single types between them are sorted.
 const WRITTEN: &str = "\
@@ -119,11 +109,6 @@ chain:600 | 601
 func:i64> func:i32> ring:2 func:i32>i64 || func:i32> func:i64> +struct:3&struct:2 func:i32>i64 @1,0,2,3,4
 func:i64> func:i32> ring:2 delete:0 func:i64> || func:i32> +struct:2&struct:1 func:i64> @-,0,1,2,3";
 
-#[test]
-fn types_are_written(rt: HostRuntime) {
-    assert!(rt; all_are_so(rt.alloc(), WRITTEN));
-}
-
 // Types that are added in the opposite order of that in which they are written: functions, structures, arrays; by parameters and then results,
 // or fields; open ones before final ones.
 const ORDER: &str = "\
@@ -138,11 +123,6 @@ array:i8/final array:i8/open struct: func:i64> | func:i64> struct: array:i8/open
 # of one rank, by a parameter past the twentieth and by what stands behind references, between others
 func:extern,i32> func:func,i64> func:v128> func:f64> func:f32,i32> func:i32,i32,i32,i32,i32,i32,i32,i32,i32,i32,i32,i32,i32,i32,i32,i32,i32,i32,i32,i32,i64> func:i32,i32,i32,i32,i32,i32,i32,i32,i32,i32,i32,i32,i32,i32,i32,i32,i32,i32,i32,i32,i32> | func:i32,i32,i32,i32,i32,i32,i32,i32,i32,i32,i32,i32,i32,i32,i32,i32,i32,i32,i32,i32,i32> func:i32,i32,i32,i32,i32,i32,i32,i32,i32,i32,i32,i32,i32,i32,i32,i32,i32,i32,i32,i32,i64> func:f32,i32> func:f64> func:v128> func:func,i64> func:extern,i32> @6,5,4,3,2,1,0";
 
-#[test]
-fn types_are_ordered(rt: HostRuntime) {
-    assert!(rt; all_are_so(rt.alloc(), ORDER));
-}
-
 // What is refused when it is written.
 const FAULTS: &str = "\
 # a name of what was deleted, of an entry type, and of a later type
@@ -153,11 +133,6 @@ struct:1 func:> | !later
 entry:>i64 struct:3,0 struct:9 func:> | !later
 # behind the first block
 chain:600 struct:1000 | !dead";
-
-#[test]
-fn names_at_fault(rt: HostRuntime) {
-    assert!(rt; all_are_so(rt.alloc(), FAULTS));
-}
 
 // The ids that types of a section get, letter by letter (see `sections`).
 const SECTIONS: &str = "\
@@ -172,6 +147,15 @@ parse:li0@0,1,2 | func:i32> func:i64> struct:1 @1,0,2
 parse:il1@0,1,2 | func:i32> func:i64> struct:1 @0,1,2";
 
 #[test]
-fn sections_are_read(rt: HostRuntime) {
-    assert!(rt; all_are_so(rt.alloc(), SECTIONS));
+fn tables_are_changed(rt: HostRuntime) {
+    for rows in [ADDS, EDITS, SECTIONS] {
+        assert!(rt; all_are_so(rt.alloc(), rows));
+    }
+}
+
+#[test]
+fn tables_are_written(rt: HostRuntime) {
+    for rows in [WRITTEN, ORDER, FAULTS] {
+        assert!(rt; all_are_so(rt.alloc(), rows));
+    }
 }

@@ -35,11 +35,20 @@ pub(crate) fn id(word: &[u8]) -> TypeId {
     TypeId::from_index(number(word) as usize)
 }
 
-/// Whether it is the id of the word's number, or none where the word has no number (`-`, or nothing).
+/// Whether it is the number of the word, or none where the word has no number (`-`, or nothing).
+pub(crate) fn is_number(found: Option<u32>, word: &[u8]) -> bool {
+    let is_none = word.is_empty() || word[0] == b'-';
+    match found {
+        Some(found) => !is_none && found == number(word),
+        None => is_none,
+    }
+}
+
+/// Whether it is the id of the word's number, or none.
 pub(crate) fn is_id(found: Option<TypeId>, word: &[u8]) -> bool {
     match found {
-        Some(found) => head(word) != b'-' && !word.is_empty() && found.number() == number(word),
-        None => head(word) == b'-' || word.is_empty(),
+        Some(id) => is_number(Some(id.number()), word),
+        None => is_number(None, word),
     }
 }
 

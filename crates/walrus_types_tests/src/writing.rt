@@ -4,7 +4,7 @@ ghost use Rattle.walrus_forms.specs.Records.{type_group};
 ghost use Rattle.walrus_types.specs.Parsing.{AreBelow};
 
 use crate::records::is_group;
-use crate::words::{are_ids, cut, head, number};
+use crate::words::{are_ids, cut, head, is_number, number};
 use std::alloc::{AllocError, Global};
 use walrus_arena::TypeId;
 use walrus_types::{EmittedTypes, GroupRecord, IrError, ModuleTypes, TypeIndices};
@@ -20,25 +20,17 @@ fn are_groups(groups: &[GroupRecord], words: &[u8]) -> bool {
     agree && rest.is_empty()
 }
 
-// Whether the type of this number has the index of a word, or none.
-fn has_index(indices: &TypeIndices, number_of: u32, word: &[u8]) -> bool {
-    match indices.get(TypeId::from_index(number_of as usize)) {
-        Some(index) => head(word) != b'-' && index == number(word),
-        None => head(word) == b'-',
-    }
-}
-
 // Whether the types of the ids 0, 1 and so on have these indices, and the next none.
 fn are_indices(indices: &TypeIndices, list: &[u8]) -> bool {
     let mut agree = true;
     let mut rest = list;
     for at in 0..u32::MAX {
-        if rest.is_empty() {
-            return agree && has_index(indices, at, "-".as_bytes());
-        }
         let (word, behind) = cut(rest, b',');
+        agree &= is_number(indices.get(TypeId::from_index(at as usize)), word);
+        if rest.is_empty() {
+            break;
+        }
         rest = behind;
-        agree &= has_index(indices, at, word);
     }
     agree
 }
@@ -127,8 +119,13 @@ fn is_settled(alloc: Global, types: &ModuleTypes) -> Result<bool, IrError> {
     is_steady(alloc, &first)
 }
 
-/// Whether the table writes what stands behind a `|`, if anything does: groups, behind an `@` the index of each type, and behind a `#` the ids in their order;
-/// a number where so many types stand at their own; or a fault behind a `!`. Behind two `|` what is written is read and written again, and nothing changes.
+/// Whether the table writes what stands behind a `|`, if anything does:
+///
+/// - the groups (see `records`), behind an `@` the index of each type, and behind a `#` the ids in their order;
+/// - a number, where so many types are written, each at its own;
+/// - behind a `!` the fault of the first name with which anything is wrong.
+///
+/// Behind two `|` what is written is also read by a new table and written again, and nothing changes.
 pub(crate) fn are_so(alloc: Global, types: &ModuleTypes, rest: &[u8]) -> Result<bool, IrError> {
     let (mark, words) = cut(rest, b' ');
     if rest.is_empty() {
