@@ -4,7 +4,6 @@ ghost use Rattle.std.specs.Prelude.{◌≡◌, []};
 
 use std::alloc::{AllocError, Global};
 use std::cell::Cell;
-use std::mem::size_of;
 use walrus_arena::{
     ArenaSet, FunctionId, FunctionSpace, Id, IdHashMap, IdHashSet, Tombstone, TombstoneArena,
     TypeId, TypeSpace, laws,
@@ -47,11 +46,6 @@ fn told(alloc: Global) -> Result<u32, AllocError> {
     let mut arena = TombstoneArena::new(alloc);
     delete_first_of_two(&mut arena, &told)?;
     Ok(told.get())
-}
-
-#[test]
-fn deleting_is_told_once(rt: HostRuntime) {
-    assert!(rt; told(rt.alloc()) == Ok(1));
 }
 
 // What is done to an arena, with what it gives.
@@ -187,6 +181,8 @@ fn arena(rt: HostRuntime) {
     for steps in [STEPS.as_slice(), RESERVED.as_slice()] {
         assert!(rt; are_so(rt.alloc(), steps) == Ok(true));
     }
+    // deleting is told once
+    assert!(rt; told(rt.alloc()) == Ok(1));
 }
 
 // What is done to a set, with what it gives.
@@ -260,11 +256,6 @@ fn is_indexed(alloc: Global) -> Result<bool, AllocError> {
     stand(&mut set)
 }
 
-#[test]
-fn set(rt: HostRuntime) {
-    assert!(rt; is_changed(rt.alloc()) == Ok(true) && is_indexed(rt.alloc()) == Ok(true));
-}
-
 fn is_mapped(alloc: Global, id: FunctionId) -> Result<bool, AllocError> {
     let mut names: IdHashMap<FunctionSpace, u8> = IdHashMap::new(alloc);
     names.insert(id, 5)?;
@@ -278,8 +269,9 @@ fn is_seen(alloc: Global, id: FunctionId) -> Result<bool, AllocError> {
 }
 
 #[test]
-fn maps(rt: HostRuntime) {
+fn sets_and_maps(rt: HostRuntime) {
     let id = FunctionId::from_index(3);
+    assert!(rt; is_changed(rt.alloc()) == Ok(true) && is_indexed(rt.alloc()) == Ok(true));
     assert!(rt; is_mapped(rt.alloc(), id) == Ok(true) && is_seen(rt.alloc(), id) == Ok(true));
 }
 
@@ -291,12 +283,6 @@ fn laws_can_be_cited(rt: HostRuntime) {
     laws::ids_go_by_number::<TypeSpace>();
 }
 
-#[test]
-fn ids_take_four_bytes(rt: HostRuntime) {
-    let sizes = size_of::<TypeId>() == 4 && size_of::<Option<TypeId>>() == 8;
-    assert!(rt; sizes && TypeId::from_index(4294967295).number() == 4294967295);
-}
-
 fn text_begins(alloc: Global, id: TypeId, text: &str) -> Result<bool, AllocError> {
     let told = format!(in alloc; "{id:?}")?;
     Ok(told.as_str().starts_with(text))
@@ -305,4 +291,5 @@ fn text_begins(alloc: Global, id: TypeId, text: &str) -> Result<bool, AllocError
 #[test]
 fn ids_are_told_by_number(rt: HostRuntime) {
     assert!(rt; text_begins(rt.alloc(), id(3), "Id { index: 3,") == Ok(true));
+    assert!(rt; TypeId::from_index(4294967295).number() == 4294967295);
 }

@@ -2,7 +2,7 @@
 
 use crate::forms::is_form;
 use crate::values::Word;
-use crate::words::{cut, head, is_id, is_number};
+use crate::words::{cut, is_id, is_number};
 use std::alloc::{AllocError, Global};
 use walrus_arena::TypeId;
 use walrus_forms::{
@@ -55,39 +55,12 @@ fn is_field(ty: FieldType, record: FieldRecord, id: &[u8], index: &[u8]) -> bool
         && ty.describe(&INDICES) == record
 }
 
-fn is_row(row: &[u8]) -> bool {
+/// Whether a field with ids is that with indices, the third word is the type that it names, and the fourth its index there.
+pub(crate) fn is_described(row: &[u8]) -> bool {
     let (ty, rest) = cut(row, b' ');
     let (record, rest) = cut(rest, b' ');
     let (id, index) = cut(rest, b' ');
     is_field(FieldType::of(ty), FieldRecord::of(record), id, index)
-}
-
-// A field with ids, with indices, the type that it names, and its index.
-const FIELDS: &str = "\
-4 0 4 0
-3 5 3 5
-7=* 1=* 7 1
-# one without an index
-2= 0= 2 0
-i31 i31 - -
-any any - -
-eq eq - -
-v128 v128 - -
-i32 i32 - -
-i8 i8 - -
-i16 i16 - -";
-
-#[test]
-fn fields_are_described(rt: HostRuntime) {
-    let mut rest = FIELDS.as_bytes();
-    for _ in 0..FIELDS.len() {
-        if rest.is_empty() {
-            break;
-        }
-        let (row, behind) = cut(rest, b'\n');
-        rest = behind;
-        assert!(rt; head(row) == b'#' || is_row(row));
-    }
 }
 
 // A mutable field of references to the values of the type of index 1 alone.

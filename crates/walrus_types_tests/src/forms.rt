@@ -64,51 +64,28 @@ fn copies_form(form: &CompositeType, word: &[u8]) -> Result<bool, AllocError> {
     Ok(is_form(&form.clone()?, word))
 }
 
-// Whether copies of the form are the same. The types that it names stand behind the others then.
+// Whether a copy of the form is the same. The types that it names stand behind the others then.
 fn is_copied(alloc: Global, names: &mut Vec<TypeId>, word: &[u8]) -> Result<bool, AllocError> {
     let form = form(alloc, word)?;
     form.push_names(names)?;
     Ok(is_form(&form, word) && copies_form(&form, word)?)
 }
 
-fn are_copied(alloc: Global, names: &mut Vec<TypeId>, words: &[u8]) -> Result<bool, AllocError> {
-    let mut agree = true;
-    let mut rest = words;
-    for _ in 0..words.len() {
-        if rest.is_empty() {
-            break;
-        }
-        let (word, behind) = cut(rest, b' ');
-        rest = behind;
-        agree &= is_copied(alloc, names, word)?;
-    }
-    Ok(agree)
-}
-
-// Whether copies of the forms are the same, and these are the types that they name.
-fn are_forms(alloc: Global, words: &str, wanted: &str) -> Result<bool, AllocError> {
+/// Whether a copy of a row's form is the same, and the types that it names stand behind what was there, the type 9.
+pub(crate) fn has_names(alloc: Global, row: &[u8]) -> Result<bool, AllocError> {
+    let (word, wanted) = cut(row, b' ');
     let mut names = Vec::new(alloc);
-    names.push(TypeId::from_index(9))?;
-    Ok(
-        are_copied(alloc, &mut names, words.as_bytes())?
-            && are_ids(names.as_slice(), wanted.as_bytes()),
-    )
+    names.extend_from_slice(&[TypeId::from_index(9)])?;
+    Ok(is_copied(alloc, &mut names, word)? && are_ids(names.as_slice(), wanted))
 }
 
-// Copies are the same, and names stand in the order of the forms behind what was there, the type 9.
-#[test]
-fn copies_and_names(rt: HostRuntime) {
-    let forms = "func:i64,5>2 func:i64,v128>f32 struct:i8*,7 struct:i8*,i16 array:i8* array:i16*";
-    assert!(rt; are_forms(rt.alloc(), forms, "9,5,2,7") == Ok(true));
-}
-
-// Whether each is below the next.
-fn are_rising(text: &str) -> bool {
-    let (first, behind) = cut(text.as_bytes(), b' ');
+/// Whether each value type is below the next.
+pub(crate) fn are_rising(row: &[u8]) -> bool {
+    let (first, behind) = cut(row, b' ');
     let mut last = ValType::of(first);
     let mut rest = behind;
     let mut agree = true;
-    for _ in 0..text.len() {
+    for _ in 0..row.len() {
         if rest.is_empty() {
             break;
         }
@@ -121,13 +98,6 @@ fn are_rising(text: &str) -> bool {
     agree
 }
 
-// Numbers, the vector type, and references: those without null first, each by heap types, and these by names, subtypes and numbers.
-#[test]
-fn values_are_ordered(rt: HostRuntime) {
-    let row = "i32 i64 f32 f64 v128 func! noexn! 0! 7! func noexn 2 3 1=";
-    assert!(rt; are_rising(row) && are_rising("v128 noexn! func extern"));
-}
-
 // What types take in memory.
 #[test]
 fn types_are_compact(rt: HostRuntime) {
@@ -138,6 +108,8 @@ fn types_are_compact(rt: HostRuntime) {
         (size_of::<Option<ValType>>(), 20),
         (size_of::<StorageType>(), 20),
         (size_of::<FieldType>(), 24),
+        (size_of::<TypeId>(), 4),
+        (size_of::<Option<TypeId>>(), 8),
     ];
     for (size, wanted) in sizes {
         assert!(rt; size == wanted);
@@ -169,16 +141,14 @@ fn values_are_shown(alloc: Global, values: &str, texts: &str) -> Result<bool, Al
 
 // The texts of types are those of the text format (Core Specification, text format: types).
 #[test]
-fn texts_of_references(rt: HostRuntime) {
-    let texts =
+fn texts_of_types(rt: HostRuntime) {
+    let references =
         "(ref null func),(ref null extern),(ref null any),(ref null none),(ref null noextern),(ref null nofunc),\
                  (ref null eq),(ref null struct),(ref null array),(ref null i31),(ref null exn),";
-    assert!(rt; are_shown(rt.alloc(), &reference_constants(), texts) == Ok(true));
-}
-
-#[test]
-fn texts_of_values(rt: HostRuntime) {
     let values = "i32,i64,f32,f64,v128,12!=,12,noexn!";
     let texts = "i32,i64,f32,f64,v128,(ref (exact 12)),(ref null 12),(ref noexn),";
-    assert!(rt; values_are_shown(rt.alloc(), values, texts) == Ok(true));
+    assert!(rt;
+        are_shown(rt.alloc(), &reference_constants(), references) == Ok(true)
+            && values_are_shown(rt.alloc(), values, texts) == Ok(true)
+    );
 }

@@ -22,6 +22,8 @@ mod orders;
 #[cfg(test)]
 mod records;
 #[cfg(test)]
+mod rows;
+#[cfg(test)]
 mod sections;
 #[cfg(test)]
 mod steps;

@@ -9,12 +9,6 @@ fn adds_locals(locals: &mut ModuleLocals) -> Result<bool, AllocError> {
     Ok(a == LocalId::from_index(0) && b == LocalId::from_index(1))
 }
 
-#[test]
-fn locals(rt: HostRuntime) {
-    let mut locals = ModuleLocals::new(rt.alloc());
-    assert!(rt; adds_locals(&mut locals) == Ok(true));
-}
-
 fn is_copy(copy: &Local) -> bool {
     copy.id().index() == 3
         && copy.ty() == ValType::F64
@@ -31,7 +25,12 @@ fn is_copied(alloc: Global) -> Result<bool, AllocError> {
     copies_local(&local)
 }
 
+fn are_added(alloc: Global) -> Result<bool, AllocError> {
+    let mut locals = ModuleLocals::new(alloc);
+    adds_locals(&mut locals)
+}
+
 #[test]
-fn copies_of_locals(rt: HostRuntime) {
-    assert!(rt; is_copied(rt.alloc()) == Ok(true));
+fn locals(rt: HostRuntime) {
+    assert!(rt; are_added(rt.alloc()) == Ok(true) && is_copied(rt.alloc()) == Ok(true));
 }

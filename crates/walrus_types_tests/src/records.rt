@@ -96,33 +96,8 @@ fn copies_group(alloc: Global, group: &GroupRecord, word: &[u8]) -> Result<bool,
     Ok(is_group(&copy, word) && copy == *group)
 }
 
-// Whether a copy of the group, with copies of its type and of that type's form, is the same.
-fn is_copied(alloc: Global, word: &[u8]) -> Result<bool, AllocError> {
+/// Whether a copy of the group, with copies of its type and of that type's form, is the same.
+pub(crate) fn is_copied(alloc: Global, word: &[u8]) -> Result<bool, AllocError> {
     let group = group(alloc, word)?;
     copies_group(alloc, &group, word)
-}
-
-fn are_copied(alloc: Global, words: &str) -> bool {
-    let mut agree = true;
-    let mut rest = words.as_bytes();
-    for _ in 0..words.len() {
-        if rest.is_empty() {
-            break;
-        }
-        let (word, behind) = cut(rest, b' ');
-        rest = behind;
-        agree &= is_copied(alloc, word) == Ok(true);
-    }
-    agree
-}
-
-// Of each form, of open types below others, and of marked groups.
-const COPIED: &str = "\
-func:f32>1=!,v128 func:f64>i32,v128 struct:1=!* struct:i8* array:i8* \
-struct:1=!*/open<4 array:i8*/open<5 \
-+struct:1=!*/open<4 +func:i64>";
-
-#[test]
-fn copies(rt: HostRuntime) {
-    assert!(rt; are_copied(rt.alloc(), COPIED));
 }

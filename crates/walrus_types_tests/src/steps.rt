@@ -1,7 +1,8 @@
 //! What is done to a table of types, step by step, each a word: a call, what it is given behind a `:`, and behind an `@` what it is to give.
 
 use crate::asks::answers;
-use crate::forms::{form, function, is_form};
+use crate::chains::is_low;
+use crate::forms::{form, function};
 use crate::sections::are_read;
 use crate::values::{Word, list};
 use crate::words::{are_ids, cut, head, id, is_id, number};
@@ -31,14 +32,19 @@ fn fields(alloc: Global, to: Option<TypeId>) -> Result<Vec<FieldType>, AllocErro
     }
 }
 
-/// A final structure that refers to the type, or one without fields.
-pub(crate) fn member(alloc: Global, to: Option<TypeId>) -> Result<NewType, AllocError> {
+// A final structure that refers to the type, or one without fields.
+fn member(alloc: Global, to: Option<TypeId>) -> Result<NewType, AllocError> {
     let fields = fields(alloc, to)?;
     Ok(NewType {
         kind: CompositeType::Struct(StructType { fields }),
         is_final: true,
         supertype: None,
     })
+}
+
+// A copy of it.
+fn copied_member(alloc: Global, to: Option<TypeId>) -> Result<NewType, AllocError> {
+    member(alloc, to)?.clone()
 }
 
 // By its step, the members of a group: `ring`s of structures each refer to the next, and the last to the first, those of `group`s have no
@@ -49,7 +55,7 @@ fn members(alloc: Global, ids: &[TypeId], step: u8) -> Result<Vec<NewType>, IrEr
         let next = if k + 1 < ids.len() { k + 1 } else { 0 };
         let to = if step == b'g' { None } else { Some(ids[next]) };
         if step != b'h' || k > 0 {
-            members.push(member(alloc, to)?)?;
+            members.push(copied_member(alloc, to)?)?;
         }
     }
     Ok(members)
@@ -205,6 +211,7 @@ fn add_chain(alloc: Global, types: &mut ModuleTypes, count: u32) -> Result<(), A
 /// - `both`: adds the function type with the type of its body's own block, of these ids;
 /// - `ring`, `group`, `half`: adds a marked group (see `members`);
 /// - `chain`: adds so many structures, each of which refers to the one before, behind one without fields;
+/// - `long`: a long chain of function types is found by a low index (see `chains`);
 /// - `parse`: reads a section by its letters, and gives its types these ids;
 /// - `delete`, `out`, `try`: deletes the live type, alone, with its group, or if no sibling names it; `keep`: tries to, in vain;
 /// - `marked`: deletes the types whose marks are `1`;
@@ -221,6 +228,7 @@ pub(crate) fn take(alloc: Global, types: &mut ModuleTypes, step: &[u8]) -> Resul
             add_chain(alloc, types, number(args))?;
             Ok(true)
         }
+        b'l' => Ok(is_low(types)?),
         b'p' => Ok(are_read(alloc, types, args, wanted)?),
         b'd' | b'o' | b't' | b'k' => Ok(goes(types, id(args), head(call))),
         b'm' => {
@@ -237,19 +245,4 @@ pub(crate) fn take(alloc: Global, types: &mut ModuleTypes, step: &[u8]) -> Resul
             Ok(answers(alloc, types, ask, wanted)?)
         }
     }
-}
-
-fn copies_member(member: &NewType, form: &str) -> Result<bool, AllocError> {
-    let copy = member.clone()?;
-    Ok(is_form(&copy.kind, form.as_bytes()) && copy.is_final && copy.supertype.is_none())
-}
-
-fn is_member_copied(alloc: Global) -> Result<bool, AllocError> {
-    let member = member(alloc, Some(TypeId::from_index(7)))?;
-    copies_member(&member, "struct:7")
-}
-
-#[test]
-fn copies_of_members(rt: HostRuntime) {
-    assert!(rt; is_member_copied(rt.alloc()) == Ok(true));
 }

@@ -57,22 +57,12 @@ fn is_copied(alloc: Global, emitted: &EmittedTypes, words: &[u8]) -> Result<bool
     Ok(are_written(&emitted.clone(alloc)?, words))
 }
 
-fn are_indices_copied(emitted: &EmittedTypes, words: &[u8]) -> Result<bool, AllocError> {
-    let (_, rest) = cut(words, b'@');
-    let (indices, _) = cut(rest, b'#');
-    Ok(are_indices(&emitted.indices.clone()?, indices))
-}
-
 // Whether what is written is this, and copies say the same.
 fn is_written(alloc: Global, emitted: &EmittedTypes, words: &[u8]) -> Result<bool, AllocError> {
     if b'0' <= head(words) && head(words) <= b'9' {
         return Ok(is_in_order(emitted, number(words)));
     }
-    Ok(
-        are_written(emitted, words)
-            && is_copied(alloc, emitted, words)?
-            && are_indices_copied(emitted, words)?,
-    )
+    Ok(are_written(emitted, words) && is_copied(alloc, emitted, words)?)
 }
 
 fn word_of(fault: IrError) -> &'static str {
