@@ -111,9 +111,7 @@ func:i32>f32 name:0,a ?name:a@0 ?name:b@-
 func:> func:f64> ?live@0,1 ?groups@1,1
 # a copy says what its original was made of
 func:> func:i64,v128>f32/open<0@1 name:1,t ?type:1,t@func:i64,v128>f32/open<0;0
-func:> func:i32> ?home:1@1
-# the index of a long chain is low, and follows deletes
-long";
+func:> func:i32> ?home:1@1";
 
 // Groups stand by rising id. Those that are marked, and types that name a type or have a supertype, stay; single types between them are sorted.
 const WRITTEN: &str = "\
@@ -181,6 +179,11 @@ fn tables_are_changed(rt: HostRuntime) {
     for rows in [ADDS, EDITS, SECTIONS] {
         assert!(rt; all_are_right(rt.alloc(), rows));
     }
+}
+
+#[test]
+fn the_index_of_a_long_chain_is_low(rt: HostRuntime) {
+    assert!(rt; all_are_right(rt.alloc(), "long"));
 }
 
 #[test]
