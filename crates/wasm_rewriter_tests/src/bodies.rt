@@ -1,88 +1,8 @@
-//! Worked values.
-
+//! Numbers and a body that are written.
+use crate::words::bytes_of;
 use rewriter_bodies::{CodeWriter, check_body, measure_body, write_s32, write_u32};
 use std::alloc::AllocError;
-use wasm_model::fault::{Fault, Form, Space};
 use wasm_model::options::Options;
-
-#[test]
-fn sizes(rt: HostRuntime) {
-    let options = Options::new();
-    let cases: [(&[u8], u32); 5] = [
-        (&[0x00, 0x10, 0x04, 0x0b], 1),
-        (&[0x00, 0x01, 0x0b], 0),
-        (&[0x00, 0x41, 0x07, 0x1a, 0x0b], 2),
-        (&[0x80, 0x00, 0x0f, 0x41, 0x07, 0x1a, 0x0b], 1),
-        (
-            &[0x00, 0x01, 0x41, 0x80, 0x00, 0x01, 0x0f, 0x01, 0x0f, 0x0b],
-            2,
-        ),
-    ];
-    for (body, size) in cases {
-        assert!(rt; check_body(&options, 5, body, 27) == Ok(size));
-    }
-}
-
-#[test]
-fn faults(rt: HostRuntime) {
-    let mut stable = Options::new();
-    stable.legacy_exceptions = false;
-    let cases: [(&[u8], Options, Fault); 9] = [
-        (
-            &[0x00, 0x10, 0x05, 0x0b],
-            Options::new(),
-            Fault::Index {
-                space: Space::Function,
-                offset: 28,
-            },
-        ),
-        (
-            &[0x01, 0x01, 0x7f, 0x0b],
-            Options::new(),
-            Fault::Unsupported {
-                form: Form::Later,
-                offset: 27,
-            },
-        ),
-        (
-            &[0x00, 0x0b, 0x0b],
-            Options::new(),
-            Fault::Nesting { offset: 29 },
-        ),
-        (
-            &[0x00, 0x01, 0x05, 0x0b],
-            Options::new(),
-            Fault::Nesting { offset: 29 },
-        ),
-        (
-            &[0x00, 0x19, 0x0b],
-            Options::new(),
-            Fault::Nesting { offset: 28 },
-        ),
-        (&[0x00, 0x19, 0x0b], stable, Fault::Operator { offset: 28 }),
-        (
-            &[0x00, 0x0f, 0x20, 0x00, 0x0b],
-            Options::new(),
-            Fault::Unsupported {
-                form: Form::Later,
-                offset: 29,
-            },
-        ),
-        (
-            &[0x00, 0xfc, 0x12, 0x0b],
-            Options::new(),
-            Fault::Operator { offset: 28 },
-        ),
-        (
-            &[0x00, 0x27, 0x0b],
-            Options::new(),
-            Fault::Operator { offset: 28 },
-        ),
-    ];
-    for (body, options, fault) in cases {
-        assert!(rt; check_body(&options, 5, body, 27) == Err(fault));
-    }
-}
 
 fn write_numbers(out: &mut Vec<u8>) -> Result<(), AllocError> {
     write_u32(out, 624_485)?;
@@ -93,30 +13,40 @@ fn write_numbers(out: &mut Vec<u8>) -> Result<(), AllocError> {
     Ok(())
 }
 
-#[test]
-fn numbers(rt: HostRuntime) -> Result<(), AllocError> {
-    let mut out = Vec::new(rt.alloc());
-    write_numbers(&mut out)?;
-    let wanted: &[u8] = &[
-        0xe5, 0x8e, 0x26, 0xc0, 0xbb, 0x78, 0x3f, 0xc0, 0x00, 0x40, 0xbf, 0x7f,
-    ];
-    assert!(rt; out.as_slice() == wanted);
-    Ok(())
+fn are_written(out: &mut Vec<u8>) -> Result<bool, AllocError> {
+    write_numbers(out)?;
+    let wanted = bytes_of(b"e58e26 c0bb78 3f c000 40 bf7f");
+    Ok(out.as_slice() == wanted.as_slice())
 }
 
-// Writes a body behind a count and its size, and says whether it has that size.
-fn writes_body(writer: &mut CodeWriter) -> Result<bool, AllocError> {
-    let options = Options::new();
-    let body: &[u8] = &[0x00, 0x01, 0x10, 0x01, 0x0f, 0x41, 0x07, 0x1a, 0x0b];
-    let new_function: &[u32] = &[0, 200];
+#[test]
+fn numbers(rt: HostRuntime) {
+    let mut out = Vec::new(rt.alloc());
+    assert!(rt; are_written(&mut out) == Ok(true));
+}
+
+// Behind a count and a size.
+fn write_head(writer: &mut CodeWriter) -> Result<(), AllocError> {
     write_u32(&mut writer.bytes, 1)?;
-    write_u32(&mut writer.bytes, 6)?;
-    let Ok(_) = check_body(&options, new_function.len(), body, 27) else {
+    write_u32(&mut writer.bytes, 6)
+}
+
+// Writes a body with these new numbers of functions, and says whether it has that size.
+fn writes_body(
+    writer: &mut CodeWriter,
+    options: &Options,
+    new_function: &[u32],
+    body: &[u8],
+) -> Result<bool, AllocError> {
+    if body.len() > 96 {
+        return Ok(false);
+    }
+    let Ok(_) = check_body(options, new_function.len(), body, 27) else {
         return Ok(false);
     };
-    let bytes = measure_body(&options, new_function, body);
+    let bytes = measure_body(options, new_function, body);
     if writer.bytes.len() < 100 && bytes < 100 {
-        writer.write_body(&options, new_function, 2, body)?;
+        writer.write_body(options, new_function, 2, body)?;
     }
     Ok(bytes == 6)
 }
@@ -128,13 +58,20 @@ fn is_written(writer: &CodeWriter, bytes: &[u8], places: &[(u32, u32)]) -> bool 
     }
 }
 
+// Whether a body of a `nop`, a call of function 1, and a number behind a return is written so.
+fn is_so(writer: &mut CodeWriter) -> Result<bool, AllocError> {
+    write_head(writer)?;
+    let body = bytes_of(b"00 01 1001 0f 4107 1a 0b");
+    let wanted = bytes_of(b"01 06 00 10c801 0f 0b");
+    let is_sized = writes_body(writer, &Options::new(), &[0, 200], body.as_slice())?;
+    Ok(is_sized && is_written(writer, wanted.as_slice(), &[(4, 3), (6, 6), (10, 7)]))
+}
+
 #[test]
 fn bodies(rt: HostRuntime) {
     let mut writer = CodeWriter {
         bytes: Vec::new(rt.alloc()),
         places: Some(Vec::new(rt.alloc())),
     };
-    assert!(rt; writes_body(&mut writer) == Ok(true));
-    let bytes = [0x01, 0x06, 0x00, 0x10, 0xc8, 0x01, 0x0f, 0x0b];
-    assert!(rt; is_written(&writer, &bytes, &[(4, 3), (6, 6), (10, 7)]));
+    assert!(rt; is_so(&mut writer) == Ok(true));
 }

@@ -1,27 +1,6 @@
-// What faults say, and where they stand.
-use crate::pieces::{HEADER, fault_in};
-use std::alloc::{AllocError, Global};
-use std::fmt::Display;
+//! What faults say, and where they stand.
+use crate::shown::are_shown;
 use wasm_rewriter::{Fault, Form, Limited, Space};
-
-fn push_shown<T: Display>(alloc: Global, text: &mut String, value: &T) -> Result<(), AllocError> {
-    text.push_str(format!(in alloc; "{value};")?.as_str())
-}
-
-// The texts of these, each with a `;` behind it.
-fn shown<T: Display>(alloc: Global, values: &[T]) -> Result<String, AllocError> {
-    let mut text = String::new(alloc);
-    for value in values {
-        push_shown(alloc, &mut text, value)?;
-    }
-    Ok(text)
-}
-
-// (A text in each row takes far longer to prove. No text has a `;` of its own where the two are equal, as there are
-// as many as values.)
-fn are_shown<T: Display>(alloc: Global, values: &[T], texts: &str) -> Result<bool, AllocError> {
-    Ok(shown(alloc, values)?.as_str() == texts)
-}
 
 fn stand_at(faults: &[Fault], offset: Option<u64>) -> bool {
     let mut agree = true;
@@ -55,27 +34,8 @@ fn faults_in_the_bytes_tell_their_place(rt: HostRuntime) {
         Fault::Limit { of, offset },
     ];
     let texts =
-        "not a WebAssembly module;section out of order;section size is wrong;counts do not agree;index of a function is out of range;a function type is needed;not a constant expression;offset has the wrong type;blocks do not nest;operator may not stand here;unknown operator;not supported: select;duplicate export name;number out of bounds;limit passed: types;";
-    assert!(rt; are_shown(rt.alloc(), &faults, texts) == Ok(true));
-    assert!(rt; stand_at(&faults, Some(5)));
-}
-
-// Whether a module of this section is refused by its reader, with this text and at this place.
-fn is_unread(alloc: Global, section: &[u8], text: &str, offset: u64) -> Result<bool, AllocError> {
-    let Some(fault) = fault_in(alloc, &[HEADER, section])? else {
-        return Ok(false);
-    };
-    let is_read = matches!(fault, Fault::Read(_));
-    let faults = [fault];
-    Ok(is_read && stand_at(&faults, Some(offset)) && are_shown(alloc, &faults, text)?)
-}
-
-#[test]
-fn faults_of_reading_tell_their_place(rt: HostRuntime) {
-    assert!(rt; is_unread(rt.alloc(), b"\x01", "unexpected end;", 9) == Ok(true));
-    // a size that goes on
-    let long = b"\x01\x80\x80\x80\x80\x80";
-    assert!(rt; is_unread(rt.alloc(), long, "number is too long;", 13) == Ok(true));
+        b"not a WebAssembly module;section out of order;section size is wrong;counts do not agree;index of a function is out of range;a function type is needed;not a constant expression;offset has the wrong type;blocks do not nest;operator may not stand here;unknown operator;not supported: select;duplicate export name;number out of bounds;limit passed: types";
+    assert!(rt; are_shown(rt.alloc(), &faults, texts) && stand_at(&faults, Some(5)));
 }
 
 #[test]
@@ -94,9 +54,8 @@ fn faults_outside_the_bytes_have_no_place(rt: HostRuntime) {
         Fault::PlacesFault { written: 0 },
     ];
     let texts =
-        "output limit passed: file;reference to a deleted type;instructions form no tree;import and item do not agree;out of memory;input is too long;input can not be read;output can not be written after 3 bytes;places can not be written after 0 bytes;";
-    assert!(rt; are_shown(rt.alloc(), &faults, texts) == Ok(true));
-    assert!(rt; stand_at(&faults, None));
+        b"output limit passed: file;reference to a deleted type;instructions form no tree;import and item do not agree;out of memory;input is too long;input can not be read;output can not be written after 3 bytes;places can not be written after 0 bytes";
+    assert!(rt; are_shown(rt.alloc(), &faults, texts) && stand_at(&faults, None));
 }
 
 #[test]
@@ -113,8 +72,8 @@ fn items_have_names(rt: HostRuntime) {
         Space::Local,
         Space::Label,
     ];
-    let names = "type;function;table;memory;tag;global;element;data;local;label;";
-    assert!(rt; are_shown(rt.alloc(), &spaces, names) == Ok(true));
+    let names = b"type;function;table;memory;tag;global;element;data;local;label";
+    assert!(rt; are_shown(rt.alloc(), &spaces, names));
 }
 
 #[test]
@@ -128,8 +87,8 @@ fn forms_have_names(rt: HostRuntime) {
         Form::Select,
         Form::Later,
     ];
-    let names = "shared table;shared global;shared type;exact type;continuation type;select;later;";
-    assert!(rt; are_shown(rt.alloc(), &forms, names) == Ok(true));
+    let names = b"shared table;shared global;shared type;exact type;continuation type;select;later";
+    assert!(rt; are_shown(rt.alloc(), &forms, names));
 }
 
 #[test]
@@ -152,6 +111,6 @@ fn limits_have_names(rt: HostRuntime) {
         Limited::String,
     ];
     let names =
-        "types;imports;functions;globals;tags;exports;tables;memories;elements;data;locals;body;file;list;string;";
-    assert!(rt; are_shown(rt.alloc(), &limits, names) == Ok(true));
+        b"types;imports;functions;globals;tags;exports;tables;memories;elements;data;locals;body;file;list;string";
+    assert!(rt; are_shown(rt.alloc(), &limits, names));
 }

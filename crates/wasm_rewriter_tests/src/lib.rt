@@ -4,11 +4,7 @@
 #[cfg(test)]
 mod bodies;
 #[cfg(test)]
-mod calls;
-#[cfg(test)]
 mod devices;
-#[cfg(test)]
-mod examples;
 #[cfg(test)]
 mod faults;
 #[cfg(test)]
@@ -18,12 +14,22 @@ mod numbering;
 #[cfg(test)]
 mod pieces;
 #[cfg(test)]
-mod prefixes;
-#[cfg(test)]
 mod program;
 #[cfg(test)]
 mod reading;
 #[cfg(test)]
+mod refusing;
+#[cfg(test)]
+mod rewriting;
+#[cfg(test)]
+mod rows;
+#[cfg(test)]
 mod runs;
 #[cfg(test)]
+mod shown;
+#[cfg(test)]
 mod standard;
+#[cfg(test)]
+mod table;
+#[cfg(test)]
+mod words;

@@ -1,100 +1,50 @@
-//! A small module, numbered by hand.
-
-ghost use Rattle.std.specs.Prelude.{◌≡◌, ◌<◌, IfOk, All, vec_len};
-ghost use Rattle.wasm_model.specs.Features.{Features};
-ghost use Rattle.rewriter_module.specs.Meaning.{IsSound};
-
-use rewriter_module::{Export, Function, FunctionType, Module, Numbering};
+//! Rows of modules that are numbered.
+use crate::words::{bytes_of, cut, number as number_of};
+use rewriter_module::Numbering;
 use rewriter_part::number;
-use std::alloc::{AllocError, Global};
-use wasm_model::types::ValType;
+use rewriter_reader::parse;
+use std::alloc::Global;
+use wasm_rewriter::{Fault, Options};
 
-fn function(type_index: u32, size: u32, body: &'static [u8]) -> Function<'static>
-    ensures { (result.type_index ≡ type_index) × (result.size ≡ size) × (result.body.now ≡ body.now) }
-{
-    Function {
-        type_index,
-        size,
-        place: 0,
-        body,
+// The new numbers of what is kept of a module.
+fn numbered(alloc: Global, bytes: &[u8], options: &Options) -> Result<Numbering, Fault> {
+    if bytes.len() > 1 << 30 {
+        return Err(Fault::InputTooLong);
     }
+    let module = parse(alloc, bytes, options)?;
+    let numbering = number(alloc, &module)?;
+    Ok(numbering)
 }
 
-fn functions(alloc: Global) -> Result<Vec<Function<'static>>, AllocError>
-    ensures len { IfOk result (λ fs. vec_len fs ≡ 8) }
-    ensures typed { IfOk result (λ fs. All (λ f. f.type_index < 4) fs.items) }
-    ensures sound { IfOk result (λ fs. (features : Features) →
-        IsSound (record { features = features; functions = 8 }) fs.items) }
-{
-    let functions = vec![in alloc;
-        // exported, calls the next, and behind a `return` the last
-        function(2, 2, b"\x00\x10\x01\x0f\x10\x07\x0b"),
-        // calls the next
-        function(1, 1, b"\x00\x10\x02\x0b"),
-        function(0, 2, b"\x00\x41\x07\x01\x1a\x0b"),
-        // these call one another; the first of them calls another one
-        function(3, 2, b"\x00\x10\x04\x10\x06\x0b"),
-        function(3, 1, b"\x00\x10\x03\x0b"),
-        // the start function
-        function(1, 0, b"\x00\x0b"),
-        function(3, 0, b"\x00\x0b"),
-        function(3, 0, b"\x00\x0b"),
-    ]?;
-    Ok(functions)
+// Whether these are the numbers of words.
+fn are(numbers: &[u32], words: &[u8]) -> bool {
+    let mut rest = words;
+    for number in numbers {
+        let (word, next) = cut(rest, b' ');
+        if word.is_empty() || u64::from(*number) != number_of(word, 10) {
+            return false;
+        }
+        rest = next;
+    }
+    rest.is_empty()
 }
 
-fn takes(alloc: Global, params: &[ValType]) -> Result<FunctionType, AllocError> {
-    Ok(FunctionType {
-        params: Vec::from_slice(alloc, params)?,
-        results: Vec::new(alloc),
-    })
+fn are_so(numbers: &Numbering, words: &[u8]) -> bool {
+    let (functions, rest) = cut(words, b'|');
+    let (new_function, rest) = cut(rest, b'|');
+    let (types, new_type) = cut(rest, b'|');
+    are(numbers.functions.as_slice(), functions)
+        && are(numbers.new_function.as_slice(), new_function)
+        && are(numbers.types.as_slice(), types)
+        && are(numbers.new_type.as_slice(), new_type)
 }
 
-fn types(alloc: Global) -> Result<Vec<FunctionType>, AllocError>
-    ensures { IfOk result (λ ts. vec_len ts ≡ 4) }
-{
-    let types = vec![in alloc;
-        takes(alloc, &[ValType::I32])?,
-        takes(alloc, &[])?,
-        takes(alloc, &[ValType::I32])?,
-        takes(alloc, &[ValType::I64])?,
-    ]?;
-    Ok(types)
-}
-
-fn exports(alloc: Global) -> Result<Vec<Export<'static>>, AllocError>
-    ensures { IfOk result (λ es. All (λ e. e.function < 8) es.items) }
-{
-    let exports = vec![in alloc;
-        Export {
-            name: "a",
-            function: 0
-        },
-    ]?;
-    Ok(exports)
-}
-
-fn numbered(alloc: Global) -> Result<Numbering, AllocError> {
-    let input = Module {
-        types: types(alloc)?,
-        functions: functions(alloc)?,
-        exports: exports(alloc)?,
-        start: Some(5),
-    };
-    number(alloc, &input)
-}
-
-fn are_worked(numbers: &Numbering) -> bool {
-    numbers.functions.as_slice() == [0, 2, 1, 5].as_slice()
-        && numbers.new_function.as_slice() == [0, 2, 1, 0, 0, 3, 0, 0].as_slice()
-        && numbers.types.as_slice() == [1, 0].as_slice()
-        && numbers.new_type.as_slice() == [1, 0, 1, 0].as_slice()
-}
-
-/// What calls reach from the export and the start function is kept: larger functions first, those
-/// of one size by their numbers. The third type is the first one again.
-#[test]
-fn numbers_a_small_module(rt: HostRuntime) -> Result<(), AllocError> {
-    assert!(rt; are_worked(&numbered(rt.alloc())?));
-    Ok(())
+/// Whether a module is numbered as its row says.
+pub fn is_numbered(alloc: Global, row: &[u8]) -> bool {
+    let (_, rest) = cut(row, b'|');
+    let (bytes, words) = cut(rest, b'|');
+    match numbered(alloc, bytes_of(bytes).as_slice(), &Options::new()) {
+        Ok(numbers) => are_so(&numbers, words),
+        Err(_) => false,
+    }
 }

@@ -1,139 +1,122 @@
-// Where devices fail, and what stands then.
+//! Where devices fail, and what stands then.
 use crate::devices::sink_of;
-use crate::pieces::{EXPORT, HEADER, NOP_CODE, exported, smallest, with_places};
-use std::alloc::{AllocError, Global};
-use std::test::Fail;
-use wasm_rewriter::{Fault, MemorySource, SinkFail, Space, Summary, run};
+use crate::pieces::with_places;
+use crate::words::{Bytes, bytes_of};
+use std::alloc::Global;
+use wasm_rewriter::{Fault, MemorySink, MemorySource, SinkFail, Space, Summary, run};
 
 // Where the devices of a run fail: the reader before this read, and the two writers.
 type Failing = (Option<u64>, SinkFail, SinkFail);
 
-// Whether a run on these bytes answers this, and both sinks took these bytes.
+const NOWHERE: Failing = (None, SinkFail::Never, SinkFail::Never);
+
+// Whether a run answers this, and both sinks took these bytes.
+fn is_run(
+    alloc: Global,
+    source: &mut MemorySource<'_>,
+    (sink, places): (&mut MemorySink, &mut MemorySink),
+    answer: Result<Summary, Fault>,
+    (bytes, lines): (&[u8], &[u8]),
+) -> bool {
+    let found = run(alloc, source, sink, places, &with_places());
+    found == answer && sink.bytes() == bytes && places.bytes() == lines
+}
+
+// The same of a run on these bytes whose devices fail so.
 fn runs(
     alloc: Global,
-    bytes: &[u8],
+    input: &[u8],
     failing: Failing,
     answer: Result<Summary, Fault>,
     taken: (&[u8], &[u8]),
-) -> Result<bool, AllocError> {
+) -> bool {
     let (failing_read, fail, places_fail) = failing;
-    let mut source = MemorySource::new(bytes, failing_read);
-    let mut sink = sink_of(alloc, 40, fail)?;
-    let mut places = sink_of(alloc, 8, places_fail)?;
-    let found = run(alloc, &mut source, &mut sink, &mut places, &with_places());
-    Ok(found == answer && sink.bytes() == taken.0 && places.bytes() == taken.1)
+    let Ok(mut sink) = sink_of(alloc, 40, fail) else {
+        return false;
+    };
+    let Ok(mut places) = sink_of(alloc, 8, places_fail) else {
+        return false;
+    };
+    let mut source = MemorySource::new(input, failing_read);
+    is_run(alloc, &mut source, (&mut sink, &mut places), answer, taken)
 }
 
-fn is_counted(alloc: Global, input: &[u8], output: &[u8]) -> Result<bool, AllocError> {
+// Whether a run on a function of one `nop` answers this, and the sinks took so many bytes of what is written and of the line of
+// its place.
+fn leaves(
+    alloc: Global,
+    failing: Failing,
+    answer: Result<Summary, Fault>,
+    (bytes, line): (usize, usize),
+) -> bool {
+    let input = bytes_of(b"header type function export nop");
+    let output = bytes_of(b"header type function export code");
+    let place = Bytes::of(b"4 3\n");
+    let taken = (output.first(bytes), place.first(line));
+    runs(alloc, input.as_slice(), failing, answer, taken)
+}
+
+fn is_counted(alloc: Global) -> bool {
     let answer = Ok(Summary {
         bytes: 31,
         places: 1,
     });
-    let failing = (None, SinkFail::Never, SinkFail::Never);
-    runs(alloc, input, failing, answer, (output, b"4 3\n"))
-}
-
-// Whether a run whose writer fails so answers how many bytes were written, which are these.
-fn is_cut(
-    alloc: Global,
-    input: &[u8],
-    front: &[u8],
-    fail: SinkFail,
-    written: u64,
-) -> Result<bool, AllocError> {
-    let answer = Err(Fault::WriterFault { written });
-    let failing = (None, fail, SinkFail::Never);
-    runs(alloc, input, failing, answer, (front, b""))
+    leaves(alloc, NOWHERE, answer, (31, 4))
 }
 
 // A writer that fails has the first bytes.
-fn is_cut_anywhere(alloc: Global, input: &[u8], output: &[u8]) -> Result<bool, AllocError> {
-    if output.len() != 31 {
-        return Ok(false);
-    }
-    let mut agree = is_cut(alloc, input, output, SinkFail::Flush, 31)?;
-    for written in 0..31u64 {
-        let front = &output[..written as usize];
-        agree &= is_cut(alloc, input, front, SinkFail::After(written), written)?;
-        agree &= is_cut(alloc, input, front, SinkFail::Zero(written), written)?;
-    }
-    Ok(agree)
+fn is_cut(alloc: Global, fail: SinkFail, written: u64) -> bool {
+    let failing = (None, fail, SinkFail::Never);
+    let answer = Err(Fault::WriterFault { written });
+    leaves(alloc, failing, answer, (written as usize, 0))
 }
 
-// As `is_cut`, of the writer of places.
-fn is_listing_cut(
-    alloc: Global,
-    input: &[u8],
-    taken: (&[u8], &[u8]),
-    fail: SinkFail,
-    written: u64,
-) -> Result<bool, AllocError> {
-    let answer = Err(Fault::PlacesFault { written });
+// A writer of places that fails has the first of the lines, behind all bytes.
+fn is_listing_cut(alloc: Global, fail: SinkFail, written: u64) -> bool {
     let failing = (None, SinkFail::Never, fail);
-    runs(alloc, input, failing, answer, taken)
+    let answer = Err(Fault::PlacesFault { written });
+    leaves(alloc, failing, answer, (31, written as usize))
 }
 
-// A writer of places that fails has the first of the lines.
-fn is_listing_cut_anywhere(alloc: Global, input: &[u8], output: &[u8]) -> Result<bool, AllocError> {
-    let fates: [(SinkFail, u64, &[u8]); 5] = [
-        (SinkFail::After(0), 0, b""),
-        (SinkFail::After(1), 1, b"4"),
-        (SinkFail::Zero(2), 2, b"4 "),
-        (SinkFail::After(3), 3, b"4 3"),
-        (SinkFail::Flush, 4, b"4 3\n"),
-    ];
-    let mut agree = true;
-    for (fail, written, lines) in fates {
-        agree &= is_listing_cut(alloc, input, (output, lines), fail, written)?;
-    }
-    Ok(agree)
-}
-
-fn is_unread(alloc: Global, input: &[u8], failing_read: u64) -> Result<bool, AllocError> {
+// Behind a read that fails nothing is written.
+fn is_unread(alloc: Global, failing_read: u64) -> bool {
     let failing = (Some(failing_read), SinkFail::Never, SinkFail::Never);
-    runs(alloc, input, failing, Err(Fault::ReaderFault), (b"", b""))
+    leaves(alloc, failing, Err(Fault::ReaderFault), (0, 0))
 }
 
-// What is asked of runs on a function of one `nop`. (One function owns it and what is written of it.)
-#[derive(Clone, Copy)]
-enum Ask {
-    IsCounted,
-    IsCut,
-    IsListingCut,
-    IsUnread,
-}
-
-fn holds(alloc: Global, input: &[u8], output: &[u8], ask: Ask) -> Result<bool, AllocError> {
-    match ask {
-        Ask::IsCounted => is_counted(alloc, input, output),
-        Ask::IsCut => is_cut_anywhere(alloc, input, output),
-        Ask::IsListingCut => is_listing_cut_anywhere(alloc, input, output),
-        Ask::IsUnread => Ok(is_unread(alloc, input, 0)? && is_unread(alloc, input, 1)?),
-    }
-}
-
-fn is_so(alloc: Global, ask: Ask) -> Result<bool, AllocError> {
-    let input = exported(alloc, NOP_CODE)?;
-    let output = smallest(alloc)?;
-    holds(alloc, &input, &output, ask)
-}
+const LISTING_CUTS: [(SinkFail, u64); 5] = [
+    (SinkFail::After(0), 0),
+    (SinkFail::After(1), 1),
+    (SinkFail::Zero(2), 2),
+    (SinkFail::After(3), 3),
+    (SinkFail::Flush, 4),
+];
 
 #[test]
-fn runs_do_what_is_asked(rt: HostRuntime) {
-    for ask in [Ask::IsCounted, Ask::IsCut, Ask::IsListingCut, Ask::IsUnread] {
-        assert!(rt; is_so(rt.alloc(), ask) == Ok(true));
+fn a_run_tells_which_device_failed_and_how_much_it_took(rt: HostRuntime) {
+    assert!(rt; is_counted(rt.alloc()) && is_cut(rt.alloc(), SinkFail::Flush, 31));
+    for written in 0..31u64 {
+        for fail in [SinkFail::After(written), SinkFail::Zero(written)] {
+            assert!(rt; is_cut(rt.alloc(), fail, written));
+        }
     }
+    for (fail, written) in LISTING_CUTS {
+        assert!(rt; is_listing_cut(rt.alloc(), fail, written));
+    }
+    assert!(rt; is_unread(rt.alloc(), 0) && is_unread(rt.alloc(), 1));
 }
 
-#[test]
-fn nothing_is_written_of_what_is_refused(rt: HostRuntime) -> Result<(), Fail> {
-    // An export of a function that isn't there.
-    let refused = [HEADER, EXPORT].concat(rt.alloc())?;
+// Whether nothing is written of what is refused: an export of a function that isn't there.
+fn is_refused(alloc: Global) -> bool {
+    let refused = bytes_of(b"header export");
     let answer = Err(Fault::Index {
         space: Space::Function,
         offset: 14,
     });
-    let failing = (None, SinkFail::Never, SinkFail::Never);
-    assert!(rt; runs(rt.alloc(), &refused, failing, answer, (b"", b""))?);
-    Ok(())
+    runs(alloc, refused.as_slice(), NOWHERE, answer, (b"", b""))
+}
+
+#[test]
+fn nothing_is_written_of_what_is_refused(rt: HostRuntime) {
+    assert!(rt; is_refused(rt.alloc()));
 }

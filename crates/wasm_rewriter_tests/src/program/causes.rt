@@ -1,59 +1,69 @@
 // What is said of files, whole.
 use super::folder::Folder;
-use rewriter_program::{Mistake, Targets, job_of, rewrite_files};
-use std::test::Fail;
+use crate::shown::is_shown;
+use rewriter_program::{Failure, Job, Mistake, Targets, job_of, rewrite_files};
+use std::io;
+use wasm_rewriter::Fault;
 
 // The least module.
 const EMPTY: [u8; 8] = [0x00, 0x61, 0x73, 0x6d, 0x01, 0x00, 0x00, 0x00];
 
-const UNREAD: &str =
-    "error: input can not be read\n  none/input: No such file or directory (os error 2)";
+const UNREAD: &[u8] =
+    b"error: input can not be read\n  none/input: No such file or directory (os error 2)";
 
-const UNWRITTEN: &str =
-    "error: output can not be written after 0 bytes\n  none/output: No such file or directory (os error 2)";
+const UNWRITTEN: &[u8] =
+    b"error: output can not be written after 0 bytes\n  none/output: No such file or directory (os error 2)";
 
-const UNPLACED: &str =
-    "error: places can not be written after 0 bytes\n  none/places: No such file or directory (os error 2)";
+const UNPLACED: &[u8] =
+    b"error: places can not be written after 0 bytes\n  none/places: No such file or directory (os error 2)";
+
+// Whether this is said of the job.
+fn is_said(rt: &HostRuntime, job: &Job<'_>, wanted: &[u8]) -> bool {
+    let Ok(targets) = Targets::of(rt, job) else {
+        return false;
+    };
+    match rewrite_files(rt, job, &targets) {
+        Ok(()) => false,
+        Err(failure) => is_shown(rt.alloc(), &failure, wanted),
+    }
+}
 
 // Whether this is said of a run over these files.
-fn says(rt: &HostRuntime, input: &str, output: &str, wanted: &str) -> Result<bool, Fail> {
+fn says(rt: &HostRuntime, input: &str, output: &str, wanted: &[u8]) -> bool {
     let words = ["wasm_rewriter", "--places", "none/places", input, output];
-    let Ok(job) = job_of(rt.alloc(), &words) else {
-        return Ok(false);
-    };
-    let targets = Targets::of(rt, &job)?;
-    Ok(match rewrite_files(rt, &job, &targets) {
-        Ok(()) => false,
-        Err(failure) => failure.to_string(rt.alloc())?.as_str() == wanted,
-    })
+    match job_of(rt.alloc(), &words) {
+        Ok(job) => is_said(rt, &job, wanted),
+        Err(_) => false,
+    }
 }
 
-// The same for files of the folder.
-fn says_in(rt: &HostRuntime, folder: &Folder, output: &str, wanted: &str) -> Result<bool, Fail> {
-    let input = folder.at("input")?;
-    says(rt, &input, output, wanted)
-}
-
-// Whether each fault is told of its own file, in a folder that has an input.
-fn are_told(rt: &HostRuntime, folder: &Folder) -> Result<bool, Fail> {
-    folder.add("input", &EMPTY)?;
-    let output = folder.at("output")?;
-    Ok(
-        says(rt, "none/input", "none/output", UNREAD)?
-            && says_in(rt, folder, "none/output", UNWRITTEN)?
-            && says_in(rt, folder, &output, UNPLACED)?,
-    )
+/// Whether each fault is told of its own file, in a folder that has an input.
+pub fn are_told(rt: &HostRuntime, folder: &Folder<'_>) -> bool {
+    let input = folder.at("input");
+    let output = folder.at("output");
+    folder.add("input", &EMPTY)
+        && says(rt, "none/input", "none/output", UNREAD)
+        && says(rt, input.as_str(), "none/output", UNWRITTEN)
+        && says(rt, input.as_str(), output.as_str(), UNPLACED)
 }
 
 #[test]
-fn each_fault_of_a_file_names_that_file(rt: HostRuntime) -> Result<(), Fail> {
-    let folder = Folder::new(&rt, "faults")?;
-    assert!(rt; are_told(&rt, &folder)?);
-    folder.remove()
+fn a_fault_of_a_file_has_its_cause(rt: HostRuntime) {
+    let missing = Failure {
+        fault: Fault::ReaderFault,
+        cause: Some(("in.wasm", io::Error::from_raw_os_error(2))),
+    };
+    let text = b"error: input can not be read\n  in.wasm: No such file or directory (os error 2)";
+    assert!(rt; is_shown(rt.alloc(), &missing, text));
+    let header = Failure::from(Fault::Header { offset: 0 });
+    assert!(rt; is_shown(rt.alloc(), &header, b"error at 0: not a WebAssembly module"));
 }
 
 #[test]
 fn mistakes_name_the_two_words(rt: HostRuntime) {
-    assert!(rt; Mistake::PlacesIsOutput.text() == "OUTPUT and FILE are one file");
-    assert!(rt; Mistake::PlacesIsInput.text() == "INPUT and FILE are one file");
+    let (output, input) = (Mistake::PlacesIsOutput, Mistake::PlacesIsInput);
+    assert!(rt;
+        output.text() == "OUTPUT and FILE are one file"
+            && input.text() == "INPUT and FILE are one file"
+    );
 }

@@ -1,97 +1,111 @@
-// A folder of a test's own.
+// A folder of a test's own. (It owns nothing, and a call that fails is a `false`.)
+use crate::shown::written;
+use crate::words::Bytes;
 use std::fs::Permissions;
-use std::os::unix::fs::{MetadataExt, PermissionsExt, symlink};
-use std::test::Fail;
+use std::os::unix::fs::{MetadataExt, PermissionsExt};
+use std::rt::Files;
 use std::{fs, process};
 
-#[derive(Drop)]
+#[derive(Clone, Copy)]
 pub struct Folder<'a> {
     rt: &'a HostRuntime,
-    path: String,
+    path: Bytes,
 }
 
 impl<'a> Folder<'a> {
-    pub fn new(rt: &'a HostRuntime, name: &str) -> Result<Folder<'a>, Fail> {
+    /// The folder of that name, which isn't there yet.
+    pub fn new(rt: &'a HostRuntime, name: &str) -> Folder<'a> {
         let number = process::id(rt.process());
-        let path = format!(in rt.alloc(); "/tmp/wasm_rewriter-{number}-{name}")?;
-        fs::create_dir(rt, path.as_str())?;
-        Ok(Folder { rt, path })
+        let mut path = Bytes::of(b"/tmp/wasm_rewriter-");
+        path.push_all(written(rt.alloc(), &number).as_slice());
+        path.push_all(b"-");
+        path.push_all(name.as_bytes());
+        Folder { rt, path }
+    }
+
+    pub fn make(&self) -> bool {
+        self.rt.create_dir(self.path.as_str()).is_ok()
     }
 
     /// The path of a file of that name.
-    pub fn at(&self, name: &str) -> Result<String, Fail> {
-        Ok(format!(in self.rt.alloc(); "{}/{name}", self.path)?)
+    pub fn at(&self, name: &str) -> Bytes {
+        let mut path = self.path;
+        path.push_all(b"/");
+        path.push_all(name.as_bytes());
+        path
     }
 
-    /// A new file of that name, and its path.
-    pub fn with(&self, name: &str, bytes: &[u8]) -> Result<String, Fail> {
-        let path = self.at(name)?;
-        fs::write(self.rt, path.as_str(), bytes)?;
-        Ok(path)
+    /// Adds a file of that name.
+    pub fn add(&self, name: &str, bytes: &[u8]) -> bool {
+        fs::write(self.rt, self.at(name).as_str(), bytes).is_ok()
     }
 
-    /// A new file of that name.
-    pub fn add(&self, name: &str, bytes: &[u8]) -> Result<(), Fail> {
-        self.with(name, bytes)?;
-        Ok(())
+    /// Adds a folder of that name.
+    pub fn add_folder(&self, name: &str) -> bool {
+        self.rt.create_dir(self.at(name).as_str()).is_ok()
     }
 
-    /// A new folder of that name.
-    pub fn with_folder(&self, name: &str) -> Result<(), Fail> {
-        let path = self.at(name)?;
-        fs::create_dir(self.rt, path.as_str())?;
-        Ok(())
+    /// Adds a link of that name, which leads to `to`.
+    pub fn add_link(&self, to: &str, name: &str) -> bool {
+        self.rt.symlink(to, self.at(name).as_str()).is_ok()
     }
 
-    /// A new link of that name, which leads to `to`.
-    pub fn with_link(&self, to: &str, name: &str) -> Result<(), Fail> {
-        let path = self.at(name)?;
-        symlink(self.rt, to, path.as_str())?;
-        Ok(())
+    /// Gives the file another name.
+    pub fn add_name(&self, name: &str, other: &str) -> bool {
+        self.rt
+            .hard_link(self.at(name).as_str(), self.at(other).as_str())
+            .is_ok()
     }
 
-    /// Another name of the file.
-    pub fn with_other_name(&self, name: &str, other: &str) -> Result<(), Fail> {
-        let path = self.at(name)?;
-        let other = self.at(other)?;
-        fs::hard_link(self.rt, path.as_str(), other.as_str())?;
-        Ok(())
-    }
-
-    pub fn is_link(&self, name: &str) -> Result<bool, Fail> {
-        let path = self.at(name)?;
-        Ok(fs::symlink_metadata(self.rt, path.as_str())?.is_symlink())
+    pub fn is_link(&self, name: &str) -> bool {
+        match self.rt.symlink_metadata(self.at(name).as_str()) {
+            Ok(there) => there.is_symlink(),
+            Err(_) => false,
+        }
     }
 
     /// Gives the file these permissions.
-    pub fn set_mode(&self, name: &str, mode: u32) -> Result<(), Fail> {
-        let path = self.at(name)?;
-        fs::set_permissions(self.rt, path.as_str(), Permissions::from_mode(mode))?;
-        Ok(())
+    pub fn set_mode(&self, name: &str, mode: u32) -> bool {
+        self.rt
+            .set_permissions(self.at(name).as_str(), Permissions::from_mode(mode))
+            .is_ok()
     }
 
-    /// The file's permissions.
-    pub fn mode(&self, name: &str) -> Result<u32, Fail> {
-        let path = self.at(name)?;
-        Ok(fs::metadata(self.rt, path.as_str())?.mode() & 0o777)
+    /// Whether the file has these permissions.
+    pub fn has_mode(&self, name: &str, mode: u32) -> bool {
+        match self.rt.metadata(self.at(name).as_str()) {
+            Ok(there) => there.mode() & 0o777 == mode,
+            Err(_) => false,
+        }
+    }
+
+    /// Whether the file is of the system's own user, who may write all.
+    pub fn is_of_root(&self, name: &str) -> bool {
+        match self.rt.metadata(self.at(name).as_str()) {
+            Ok(there) => there.uid() == 0,
+            Err(_) => false,
+        }
     }
 
     /// Whether the file has these bytes.
-    pub fn holds(&self, name: &str, bytes: &[u8]) -> Result<bool, Fail> {
-        let path = self.at(name)?;
-        Ok(match fs::read(self.rt, path.as_str()) {
+    pub fn holds(&self, name: &str, bytes: &[u8]) -> bool {
+        match fs::read(self.rt, self.at(name).as_str()) {
             Ok(found) => found.as_slice() == bytes,
             Err(_) => false,
-        })
+        }
     }
 
-    /// How many files it has.
-    pub fn count(&self) -> Result<usize, Fail> {
-        Ok(fs::read_dir(self.rt, self.path.as_str())?.count())
+    /// Whether it has so many files.
+    pub fn has(&self, count: u64) -> bool {
+        match fs::read_dir(self.rt, self.path.as_str()) {
+            Ok(names) => names.count() as u64 == count,
+            Err(_) => false,
+        }
     }
 
-    pub fn remove(self) -> Result<(), Fail> {
-        fs::remove_dir_all(self.rt, self.path.as_str())?;
-        Ok(())
+    pub fn remove(&self) -> bool {
+        self.rt
+            .remove_dir_all(self.rt.alloc(), self.path.as_str())
+            .is_ok()
     }
 }

@@ -1,12 +1,46 @@
 // Words, and what is said of them.
 use super::host::{Failing, Host};
+use crate::shown::is_shown;
+use crate::words::{cut, text_of};
 use rewriter_program::{job_of, run_words, status, words_of};
-use std::alloc::{AllocError, Global};
+use std::alloc::Global;
+use std::fmt::Display;
 use wasm_rewriter::Options;
 
-// Whether the flag chooses these options, beside which the files are named.
-fn is_chosen(alloc: Global, flag: &str, options: Options) -> bool {
-    let words = ["wasm_rewriter", flag, "in", "out"];
+#[derive(Clone, Copy)]
+enum Flag {
+    Stable,
+    NoLegacy,
+    NoNames,
+    NoProducers,
+    Places,
+}
+
+fn word(flag: Flag) -> &'static str {
+    match flag {
+        Flag::Stable => "--stable",
+        Flag::NoLegacy => "--no-legacy",
+        Flag::NoNames => "--no-names",
+        Flag::NoProducers => "--no-producers",
+        Flag::Places => "--places=FILE",
+    }
+}
+
+fn chosen(flag: Flag) -> Options {
+    let mut options = Options::new();
+    match flag {
+        Flag::Stable => options.only_stable_features = true,
+        Flag::NoLegacy => options.legacy_exceptions = false,
+        Flag::NoNames => options.names = false,
+        Flag::NoProducers => options.producers = false,
+        Flag::Places => options.places = true,
+    }
+    options
+}
+
+// Whether the word chooses these options, beside which the files are named.
+fn is_chosen(alloc: Global, word: &str, options: Options) -> bool {
+    let words = ["wasm_rewriter", word, "in", "out"];
     match job_of(alloc, &words) {
         Ok(job) => {
             job.options == options
@@ -19,100 +53,93 @@ fn is_chosen(alloc: Global, flag: &str, options: Options) -> bool {
 
 #[test]
 fn each_flag_chooses_an_option(rt: HostRuntime) {
-    let plain = Options::new();
-    let rows = [
-        (
-            "--stable",
-            Options {
-                only_stable_features: true,
-                ..plain
-            },
-        ),
-        (
-            "--no-legacy",
-            Options {
-                legacy_exceptions: false,
-                ..plain
-            },
-        ),
-        (
-            "--no-names",
-            Options {
-                names: false,
-                ..plain
-            },
-        ),
-        (
-            "--no-producers",
-            Options {
-                producers: false,
-                ..plain
-            },
-        ),
-        (
-            "--places=FILE",
-            Options {
-                places: true,
-                ..plain
-            },
-        ),
-    ];
-    for (flag, options) in rows {
-        assert!(rt; is_chosen(rt.alloc(), flag, options));
+    for flag in [
+        Flag::Stable,
+        Flag::NoLegacy,
+        Flag::NoNames,
+        Flag::NoProducers,
+        Flag::Places,
+    ] {
+        assert!(rt; is_chosen(rt.alloc(), word(flag), chosen(flag)));
     }
+}
+
+// A few words.
+#[derive(Clone, Copy)]
+struct Words<'a> {
+    words: [&'a str; 5],
+    count: usize,
+}
+
+impl<'a> Words<'a> {
+    // The program's name, and those of a row.
+    fn of(row: &'a [u8]) -> Self {
+        let mut words = Words {
+            words: ["wasm_rewriter"; 5],
+            count: 1,
+        };
+        let mut rest = row;
+        for at in 1..5 {
+            if !rest.is_empty() {
+                let (word, next) = cut(rest, b' ');
+                words.words[at] = text_of(word);
+                words.count = at + 1;
+                rest = next;
+            }
+        }
+        words
+    }
+
+    fn as_slice(&self) -> &[&'a str] {
+        &self.words[..self.count.min(5)]
+    }
+}
+
+fn is_wrong(rt: &HostRuntime, row: &[u8]) -> bool {
+    run_words(rt, Words::of(row).as_slice()) == 2
 }
 
 #[test]
 fn wrong_words_are_refused(rt: HostRuntime) {
-    let rows: [&[&str]; 5] = [
-        &["wasm_rewriter"],
-        &["wasm_rewriter", "in"],
-        &["wasm_rewriter", "--fast", "in", "out"],
-        &["wasm_rewriter", "--places"],
-        &["wasm_rewriter", "--places", "-", "in", "-"],
-    ];
-    for words in rows {
-        assert!(rt; run_words(&rt, words) == 2);
-    }
+    assert!(rt; is_wrong(&rt, b"") && is_wrong(&rt, b"in") && is_wrong(&rt, b"--fast in out"));
+    assert!(rt; is_wrong(&rt, b"--places") && is_wrong(&rt, b"--places - in -"));
 }
 
-// What is said of words that are wrong, or that ask for something else.
-fn said(alloc: Global, words: &[&str]) -> Result<String, AllocError> {
-    match job_of(alloc, words) {
-        Ok(_) => Ok(String::new(alloc)),
-        Err(error) => error.to_string(alloc),
+// Whether this is said of words that are wrong, or that ask for something else.
+fn is_said(alloc: Global, row: &[u8], text: &[u8]) -> bool {
+    match job_of(alloc, Words::of(row).as_slice()) {
+        Ok(_) => false,
+        Err(error) => is_shown(alloc, &error, text),
     }
-}
-
-fn is_said(alloc: Global, words: &[&str], text: &str) -> Result<bool, AllocError> {
-    Ok(said(alloc, words)?.as_str() == text)
 }
 
 #[test]
 fn wrong_words_and_the_version_are_told(rt: HostRuntime) {
-    let rows: [(&[&str], &str); 4] = [
-        (
-            &["wasm_rewriter", "input"],
-            "error: the following required arguments were not provided:\n  <OUTPUT>\n\nUsage: wasm_rewriter <INPUT> <OUTPUT>\n\nFor more information, try '--help'.\n",
-        ),
-        (
-            &["wasm_rewriter", "input", "output", "other"],
-            "error: unexpected argument 'other' found\n\nUsage: wasm_rewriter [OPTIONS] <INPUT> <OUTPUT>\n\nFor more information, try '--help'.\n",
-        ),
-        (
-            &["wasm_rewriter", "--places"],
-            "error: a value is required for '--places <FILE>' but none was supplied\n\nFor more information, try '--help'.\n",
-        ),
-        (&["wasm_rewriter", "--version"], "wasm_rewriter 0.28.0\n"),
-    ];
-    for (words, text) in rows {
-        assert!(rt; is_said(rt.alloc(), words, text) == Ok(true));
+    let missing =
+        b"error: the following required arguments were not provided:\n  <OUTPUT>\n\nUsage: wasm_rewriter <INPUT> <OUTPUT>\n\nFor more information, try '--help'.\n";
+    assert!(rt; is_said(rt.alloc(), b"input", missing));
+    let other =
+        b"error: unexpected argument 'other' found\n\nUsage: wasm_rewriter [OPTIONS] <INPUT> <OUTPUT>\n\nFor more information, try '--help'.\n";
+    assert!(rt; is_said(rt.alloc(), b"input output other", other));
+    let no_value =
+        b"error: a value is required for '--places <FILE>' but none was supplied\n\nFor more information, try '--help'.\n";
+    assert!(rt; is_said(rt.alloc(), b"--places", no_value));
+    assert!(rt; is_said(rt.alloc(), b"--version", b"wasm_rewriter 0.28.0\n"));
+}
+
+fn has_part<T: Display>(alloc: Global, value: &T, part: &str) -> bool {
+    match value.to_string(alloc) {
+        Ok(text) => text.contains(part),
+        Err(_) => false,
     }
 }
 
 // Whether the help has this part.
-fn helps(alloc: Global, part: &str) -> Result<bool, AllocError> {
-    Ok(said(alloc, &["wasm_rewriter", "--help"])?.contains(part))
+fn helps(alloc: Global, part: &str) -> bool {
+    match job_of(alloc, &["wasm_rewriter", "--help"]) {
+        Ok(_) => false,
+        Err(error) => has_part(alloc, &error, part),
+    }
 }
 
 #[test]
@@ -123,22 +150,18 @@ fn help_is_told(rt: HostRuntime) {
         "A fault's offset is counted from the start of INPUT, and a place from the function count of the code section, both in bytes and in decimal.\n",
     ];
     for part in parts {
-        assert!(rt; helps(rt.alloc(), part) == Ok(true));
+        assert!(rt; helps(rt.alloc(), part));
     }
 }
 
-// What is said of the words that the program was started with.
-fn said_at_start(host: &Host<'_>) -> Result<String, AllocError> {
-    match words_of(host) {
-        Ok(_) => Ok(String::new(host.rt.alloc())),
-        Err(error) => error.to_string(host.rt.alloc()),
-    }
-}
-
-fn are_wrong(host: &Host<'_>) -> Result<bool, AllocError> {
+// Whether the words that the program was started with are wrong.
+fn are_wrong(host: &Host<'_>) -> bool {
     let text =
-        "error: a word is no UTF-8 text\n\nUsage: wasm_rewriter [OPTIONS] <INPUT> <OUTPUT>\n\nFor more information, try '--help'.\n";
-    Ok(said_at_start(host)?.as_str() == text && status(host) == 2)
+        b"error: a word is no UTF-8 text\n\nUsage: wasm_rewriter [OPTIONS] <INPUT> <OUTPUT>\n\nFor more information, try '--help'.\n";
+    match words_of(host) {
+        Ok(_) => false,
+        Err(error) => is_shown(host.rt.alloc(), &error, text) && status(host) == 2,
+    }
 }
 
 #[test]
@@ -148,5 +171,5 @@ fn words_that_are_no_text_are_wrong(rt: HostRuntime) {
         failing: Failing::Nothing,
         printed: "",
     };
-    assert!(rt; are_wrong(&host) == Ok(true));
+    assert!(rt; are_wrong(&host));
 }

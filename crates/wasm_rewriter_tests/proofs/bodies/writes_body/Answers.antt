@@ -9,6 +9,6 @@ measure_body-bytes-requires-clause-reads c =
 pub write_body-requires-clause-reads : goal.write_body-requires-clause-reads
 write_body-requires-clause-reads c =
     let it = c.in-Ok.ensures.size 2 in
-    let size : c.len.result ≡ length c.write_u32-2.new.out.items = search rules in
+    let size : c.len.result ≡ length c.args.writer.now.bytes.items = search rules in
     let measured = c.measure_body-bytes.ensures 2 it.0 it.1 in
     (it.0, it.1, omega (arith, size, measured))
