@@ -124,6 +124,21 @@ fn cuts(alloc: Global, sent: Sent, fail: SinkFail, cut: Option<u64>, count: usiz
     }
 }
 
+fn has_room_for_three(sink: &mut MemorySink) -> bool {
+    sink.write(b"ab") == Ok(2)
+        && sink.write(b"cd").is_err()
+        && sink.write(b"c").is_err()
+        && sink.bytes() == b"ab".as_slice()
+}
+
+// Whether a write past the room fails.
+fn is_refused(alloc: Global) -> bool {
+    match sink_of(alloc, 3, SinkFail::Never) {
+        Ok(mut sink) => has_room_for_three(&mut sink),
+        Err(_) => false,
+    }
+}
+
 // What is sent, where its sink fails, the cut, and how many bytes are there. A flush that fails comes after all bytes, and a place is
 // a line.
 const FATES: [(Sent, SinkFail, Option<u64>, usize); 9] = [
@@ -148,24 +163,6 @@ fn a_sink_that_fails_has_the_first_bytes(rt: HostRuntime) {
             assert!(rt; cuts(rt.alloc(), Sent::Module, fail, Some(count), count as usize));
         }
     }
-}
-
-fn has_room_for_three(sink: &mut MemorySink) -> bool {
-    sink.write(b"ab") == Ok(2)
-        && sink.write(b"cd").is_err()
-        && sink.write(b"c").is_err()
-        && sink.bytes() == b"ab".as_slice()
-}
-
-fn is_refused(alloc: Global) -> bool {
-    match sink_of(alloc, 3, SinkFail::Never) {
-        Ok(mut sink) => has_room_for_three(&mut sink),
-        Err(_) => false,
-    }
-}
-
-#[test]
-fn a_write_past_the_room_fails(rt: HostRuntime) {
     assert!(rt; is_refused(rt.alloc()));
 }
 

@@ -59,7 +59,7 @@ fn faults_outside_the_bytes_have_no_place(rt: HostRuntime) {
 }
 
 #[test]
-fn items_have_names(rt: HostRuntime) {
+fn items_forms_and_limits_have_names(rt: HostRuntime) {
     let spaces = [
         Space::Type,
         Space::Function,
@@ -74,10 +74,6 @@ fn items_have_names(rt: HostRuntime) {
     ];
     let names = b"type;function;table;memory;tag;global;element;data;local;label";
     assert!(rt; are_shown(rt.alloc(), &spaces, names));
-}
-
-#[test]
-fn forms_have_names(rt: HostRuntime) {
     let forms = [
         Form::SharedTable,
         Form::SharedGlobal,
@@ -89,10 +85,6 @@ fn forms_have_names(rt: HostRuntime) {
     ];
     let names = b"shared table;shared global;shared type;exact type;continuation type;select;later";
     assert!(rt; are_shown(rt.alloc(), &forms, names));
-}
-
-#[test]
-fn limits_have_names(rt: HostRuntime) {
     let limits = [
         Limited::Types,
         Limited::Imports,

@@ -84,6 +84,16 @@ fn is_unread(alloc: Global, failing_read: u64) -> bool {
     leaves(alloc, failing, Err(Fault::ReaderFault), (0, 0))
 }
 
+// Whether nothing is written of what is refused: an export of a function that isn't there.
+fn is_refused(alloc: Global) -> bool {
+    let refused = bytes_of(b"header export");
+    let answer = Err(Fault::Index {
+        space: Space::Function,
+        offset: 14,
+    });
+    runs(alloc, refused.as_slice(), NOWHERE, answer, (b"", b""))
+}
+
 const LISTING_CUTS: [(SinkFail, u64); 5] = [
     (SinkFail::After(0), 0),
     (SinkFail::After(1), 1),
@@ -104,19 +114,5 @@ fn a_run_tells_which_device_failed_and_how_much_it_took(rt: HostRuntime) {
         assert!(rt; is_listing_cut(rt.alloc(), fail, written));
     }
     assert!(rt; is_unread(rt.alloc(), 0) && is_unread(rt.alloc(), 1));
-}
-
-// Whether nothing is written of what is refused: an export of a function that isn't there.
-fn is_refused(alloc: Global) -> bool {
-    let refused = bytes_of(b"header export");
-    let answer = Err(Fault::Index {
-        space: Space::Function,
-        offset: 14,
-    });
-    runs(alloc, refused.as_slice(), NOWHERE, answer, (b"", b""))
-}
-
-#[test]
-fn nothing_is_written_of_what_is_refused(rt: HostRuntime) {
     assert!(rt; is_refused(rt.alloc()));
 }

@@ -61,9 +61,6 @@ fn a_fault_of_a_file_has_its_cause(rt: HostRuntime) {
 
 #[test]
 fn mistakes_name_the_two_words(rt: HostRuntime) {
-    let (output, input) = (Mistake::PlacesIsOutput, Mistake::PlacesIsInput);
-    assert!(rt;
-        output.text() == "OUTPUT and FILE are one file"
-            && input.text() == "INPUT and FILE are one file"
-    );
+    assert!(rt; Mistake::PlacesIsOutput.text() == "OUTPUT and FILE are one file");
+    assert!(rt; Mistake::PlacesIsInput.text() == "INPUT and FILE are one file");
 }

@@ -13,14 +13,28 @@ use std::os::fd::AsRawFd;
 use std::rt::Files;
 use std::test::Fail;
 
-// A function of one `nop`, exported.
-fn input() -> Bytes {
-    bytes_of(b"header type function export nop")
+// Adds a module of a function of one `nop`, exported.
+fn adds_input(folder: &Folder<'_>, name: &str) -> bool {
+    folder.add(
+        name,
+        bytes_of(b"header type function export nop").as_slice(),
+    )
 }
 
-// Without the `nop`.
-fn output() -> Bytes {
-    bytes_of(b"header type function export code")
+// Whether the file still has that module.
+fn has_input(folder: &Folder<'_>, name: &str) -> bool {
+    folder.holds(
+        name,
+        bytes_of(b"header type function export nop").as_slice(),
+    )
+}
+
+// Whether the file has it without the `nop`.
+fn has_output(folder: &Folder<'_>, name: &str) -> bool {
+    folder.holds(
+        name,
+        bytes_of(b"header type function export code").as_slice(),
+    )
 }
 
 // The status of a run over these files.
@@ -77,25 +91,25 @@ fn all_end(rt: &HostRuntime, folder: &Folder<'_>, rows: &[u8]) -> bool {
 
 /// To a new file, and to one that a link names.
 pub fn is_rewritten(rt: &HostRuntime, folder: &Folder<'_>) -> bool {
-    folder.add("input", input().as_slice())
+    adds_input(folder, "input")
         && folder.add_link("none", "link")
         && ends(rt, folder, b"places input output 0 4")
-        && folder.holds("output", output().as_slice())
+        && has_output(folder, "output")
         && folder.holds("places", b"4 3\n")
         && ends(rt, folder, b"places input link 0 5")
-        && folder.holds("none", output().as_slice())
+        && has_output(folder, "none")
         && folder.is_link("link")
 }
 
 /// With its permissions, through a link.
 pub fn is_written_over(rt: &HostRuntime, folder: &Folder<'_>) -> bool {
-    folder.add("input", input().as_slice())
+    adds_input(folder, "input")
         && folder.set_mode("input", 0o640)
         && folder.add_link("input", "link")
         && ends(rt, folder, b"places input link 0 3")
-        && folder.holds("input", output().as_slice())
+        && has_output(folder, "input")
         && folder.is_link("link")
-        && folder.has_mode("input", 0o640)
+        && matches!(folder.mode_and_owner("input"), Some((0o640, _)))
 }
 
 /// What is no module leaves the files.
@@ -108,7 +122,7 @@ pub fn is_refused(rt: &HostRuntime, folder: &Folder<'_>) -> bool {
 
 // Two files, each also by other names, a link to a file that isn't there, and a folder.
 fn add_names(folder: &Folder<'_>) -> bool {
-    folder.add("in", input().as_slice())
+    adds_input(folder, "in")
         && folder.add("out", b"old")
         && folder.add_name("out", "hard")
         && folder.add_link("in", "in-link")
@@ -135,7 +149,7 @@ out none out 2 7";
 pub fn are_refused(rt: &HostRuntime, folder: &Folder<'_>) -> bool {
     add_names(folder)
         && all_end(rt, folder, TWICE)
-        && folder.holds("in", input().as_slice())
+        && has_input(folder, "in")
         && folder.holds("out", b"old")
 }
 
@@ -147,9 +161,7 @@ none/output input output 3 2";
 
 /// Files that can't be opened.
 pub fn is_unopened(rt: &HostRuntime, folder: &Folder<'_>) -> bool {
-    folder.add("input", input().as_slice())
-        && all_end(rt, folder, UNOPENED)
-        && folder.holds("output", output().as_slice())
+    adds_input(folder, "input") && all_end(rt, folder, UNOPENED) && has_output(folder, "output")
 }
 
 // Where this process has the file that is open by that number.
@@ -220,7 +232,7 @@ fn is_denied(rt: &HostRuntime, folder: &Folder<'_>) -> bool {
 pub fn stays(rt: &HostRuntime, folder: &Folder<'_>) -> bool {
     folder.add("file", b"old")
         && folder.set_mode("file", 0o444)
-        && (folder.is_of_root("file") || is_denied(rt, folder))
+        && (folder.mode_and_owner("file") == Some((0o444, 0)) || is_denied(rt, folder))
 }
 
 // Whether three bytes stand in the pipe, and no more.
@@ -255,9 +267,9 @@ pub fn are_printed(rt: &HostRuntime, folder: &Folder<'_>) -> bool {
         failing: Failing::Nothing,
         printed: printed.as_str(),
     };
-    folder.add("input", input().as_slice())
+    adds_input(folder, "input")
         && status_of(&host, "-", from.as_str(), to.as_str()) == 0
-        && folder.holds("output", output().as_slice())
+        && has_output(folder, "output")
         && folder.holds("printed", b"4 3\n")
         && folder.has(3)
 }
@@ -281,7 +293,7 @@ pub fn is_spared(rt: &HostRuntime, folder: &Folder<'_>) -> bool {
         failing: Failing::Nothing,
         printed: "",
     };
-    if !folder.add("input", input().as_slice()) {
+    if !adds_input(folder, "input") {
         return false;
     }
     let path = next_path(rt, from.as_str());
@@ -289,5 +301,5 @@ pub fn is_spared(rt: &HostRuntime, folder: &Folder<'_>) -> bool {
         && status_of(rt, path.as_str(), from.as_str(), to.as_str()) == 3
         && ends(&host, folder, b"link input output 3 3")
         && ends(&host, folder, b"places input link 3 3")
-        && folder.holds("input", input().as_slice())
+        && has_input(folder, "input")
 }

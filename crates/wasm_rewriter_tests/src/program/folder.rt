@@ -71,19 +71,11 @@ impl<'a> Folder<'a> {
             .is_ok()
     }
 
-    /// Whether the file has these permissions.
-    pub fn has_mode(&self, name: &str, mode: u32) -> bool {
+    /// The file's permissions, and the number of its owner.
+    pub fn mode_and_owner(&self, name: &str) -> Option<(u32, u32)> {
         match self.rt.metadata(self.at(name).as_str()) {
-            Ok(there) => there.mode() & 0o777 == mode,
-            Err(_) => false,
-        }
-    }
-
-    /// Whether the file is of the system's own user, who may write all.
-    pub fn is_of_root(&self, name: &str) -> bool {
-        match self.rt.metadata(self.at(name).as_str()) {
-            Ok(there) => there.uid() == 0,
-            Err(_) => false,
+            Ok(there) => Some((there.mode() & 0o777, there.uid())),
+            Err(_) => None,
         }
     }
 
