@@ -3,15 +3,17 @@
 #![tactic(auto)]
 
 #[cfg(test)]
-mod faults;
-#[cfg(test)]
 mod features;
-#[cfg(test)]
-mod outcomes;
 #[cfg(test)]
 mod reader;
 #[cfg(test)]
+mod reading;
+#[cfg(test)]
 mod references;
+#[cfg(test)]
+mod texts;
+#[cfg(test)]
+mod told;
 #[cfg(test)]
 mod types;
 #[cfg(test)]
