@@ -1,23 +1,10 @@
 //! What indices name, in each space.
 
+use crate::index_maps::SPACES;
 use crate::maps::{body, push};
 use std::alloc::{AllocError, Global};
-use std::process::Abort;
-use std::test::Fail;
 use walrus_arena::Id;
 use walrus_index_maps::{IndicesToIds, Space, UnknownIndex};
-
-const SPACES: [Space; 9] = [
-    Space::Type,
-    Space::Function,
-    Space::Table,
-    Space::Memory,
-    Space::Tag,
-    Space::Global,
-    Space::Element,
-    Space::Data,
-    Space::Local,
-];
 
 // The place of an id that was found.
 fn place<S>(found: Result<Id<S>, UnknownIndex>) -> Result<usize, UnknownIndex> {
@@ -54,22 +41,24 @@ fn only_this(ids: &IndicesToIds, space: Space) -> bool {
 }
 
 // Whether two ids that are pushed to the space have the indices 0 and 1, and nothing else has.
-fn two(alloc: Global, space: Space) -> Result<bool, AllocError> {
+fn are_two(ids: &mut IndicesToIds, space: Space) -> Result<bool, AllocError> {
+    let first = push(ids, space, 7)?;
+    let second = push(ids, space, 4)?;
+    let names = named(ids, space, 0) == Ok(7) && named(ids, space, 1) == Ok(4);
+    let past = named(ids, space, 2) == Err(UnknownIndex(space));
+    Ok(first == 0 && second == 1 && names && past && only_this(ids, space))
+}
+
+fn has_own_list(alloc: Global, space: Space) -> Result<bool, AllocError> {
     let mut ids = IndicesToIds::new(alloc);
-    let first = push(&mut ids, space, 7)?;
-    let second = push(&mut ids, space, 4)?;
-    let names = named(&ids, space, 0) == Ok(7) && named(&ids, space, 1) == Ok(4);
-    let past = named(&ids, space, 2) == Err(UnknownIndex(space));
-    Ok(first == 0 && second == 1 && names && past && only_this(&ids, space))
+    are_two(&mut ids, space)
 }
 
 #[test]
-fn each_space_has_its_own_list(rt: HostRuntime) -> Result<(), Fail> {
+fn each_space_has_its_own_list(rt: HostRuntime) {
     for space in SPACES {
-        let fine = two(rt.alloc(), space)?;
-        assert!(rt; fine);
+        assert!(rt; has_own_list(rt.alloc(), space) == Ok(true));
     }
-    Ok(())
 }
 
 /// Whether locals are of one function, and types can be named anew.
@@ -83,9 +72,15 @@ pub(crate) fn are_named(ids: &mut IndicesToIds) -> bool {
         && named(ids, Space::Type, 131) == Err(UnknownIndex(Space::Type))
 }
 
+fn is_text(text: Result<String, AllocError>, wanted: &str) -> bool {
+    match text {
+        Ok(text) => text.as_str() == wanted,
+        Err(_) => false,
+    }
+}
+
 #[test]
-fn an_unknown_index_says_of_what(rt: HostRuntime) -> Result<(), Fail> {
-    let text = format!(in rt.alloc(); "{}", UnknownIndex(Space::Element))?;
-    assert!(rt; text.as_str() == "index of a element is out of range");
-    Ok(())
+fn an_unknown_index_says_of_what(rt: HostRuntime) {
+    let text = format!(in rt.alloc(); "{}", UnknownIndex(Space::Element));
+    assert!(rt; is_text(text, "index of a element is out of range"));
 }

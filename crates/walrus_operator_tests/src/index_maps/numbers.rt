@@ -1,22 +1,9 @@
 //! What number each id is written as, in each space.
 
+use crate::index_maps::SPACES;
 use crate::maps::{body, give, id};
 use std::alloc::{AllocError, Global};
-use std::process::Abort;
-use std::test::Fail;
 use walrus_index_maps::{IdsToIndices, Space};
-
-const SPACES: [Space; 9] = [
-    Space::Type,
-    Space::Function,
-    Space::Table,
-    Space::Memory,
-    Space::Tag,
-    Space::Global,
-    Space::Element,
-    Space::Data,
-    Space::Local,
-];
 
 // Numbers of the space alone: id 7 has the first.
 fn numbers(alloc: Global, space: Space) -> Result<IdsToIndices, AllocError> {
@@ -50,14 +37,16 @@ fn only_this(numbers: &IdsToIndices, space: Space) -> bool {
     true
 }
 
+fn has_own_numbers(alloc: Global, space: Space) -> Result<bool, AllocError> {
+    let numbers = numbers(alloc, space)?;
+    Ok(only_this(&numbers, space))
+}
+
 #[test]
-fn each_space_has_its_own_numbers(rt: HostRuntime) -> Result<(), Fail> {
+fn each_space_has_its_own_numbers(rt: HostRuntime) {
     for space in SPACES {
-        let numbers = numbers(rt.alloc(), space)?;
-        let fine = only_this(&numbers, space);
-        assert!(rt; fine);
+        assert!(rt; has_own_numbers(rt.alloc(), space) == Ok(true));
     }
-    Ok(())
 }
 
 /// Whether the next id has the next number: the largest id that has one, and its number.
@@ -99,9 +88,18 @@ fn are_apart(numbers: &IdsToIndices) -> bool {
     true
 }
 
+fn are_apart_in(numbers: &mut IdsToIndices, rows: &[Row]) -> Result<bool, AllocError> {
+    set(numbers, rows)?;
+    Ok(are_apart(numbers))
+}
+
+fn are_apart_once_set(alloc: Global, rows: &[Row]) -> Result<bool, AllocError> {
+    let mut numbers = IdsToIndices::new(alloc);
+    are_apart_in(&mut numbers, rows)
+}
+
 #[test]
-fn functions_that_share_a_local_have_their_own_numbers(rt: HostRuntime) -> Result<(), Fail> {
-    let mut numbers = IdsToIndices::new(rt.alloc());
+fn functions_that_share_a_local_have_their_own_numbers(rt: HostRuntime) {
     let rows = [
         (1, 5, 10),
         (2, 5, 20),
@@ -110,7 +108,5 @@ fn functions_that_share_a_local_have_their_own_numbers(rt: HostRuntime) -> Resul
         (3, 5, 30),
         (2, 5, 21),
     ];
-    set(&mut numbers, &rows)?;
-    assert!(rt; are_apart(&numbers));
-    Ok(())
+    assert!(rt; are_apart_once_set(rt.alloc(), &rows) == Ok(true));
 }
