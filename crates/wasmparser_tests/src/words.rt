@@ -45,25 +45,34 @@ fn digit(byte: u8) -> u8 {
     }
 }
 
-// A decimal number without its sign.
-fn unsigned(word: &[u8]) -> u64 {
-    let mut number = 0u64;
+// A decimal number of 32 bits.
+fn size(word: &[u8]) -> u32 {
+    let mut size = 0u32;
     for byte in word {
-        if *byte != b'-' {
-            number = number
-                .saturating_mul(10)
-                .saturating_add(u64::from(digit(*byte)));
-        }
+        size = size
+            .saturating_mul(10)
+            .saturating_add(u32::from(digit(*byte)));
     }
-    number
+    size
 }
 
+// A decimal number.
 fn number(word: &[u8]) -> i128 {
-    let size = i128::from(unsigned(word));
-    if !word.is_empty() && word[0] == b'-' {
-        0i128.saturating_sub(size)
+    let mut number = 0i128;
+    let mut is_negative = false;
+    for byte in word {
+        if *byte == b'-' {
+            is_negative = true;
+        } else {
+            number = number
+                .saturating_mul(10)
+                .saturating_add(i128::from(digit(*byte)));
+        }
+    }
+    if is_negative {
+        0i128.saturating_sub(number)
     } else {
-        size
+        number
     }
 }
 
@@ -139,7 +148,7 @@ impl<'a> Words<'a> {
 
     /// A number that isn't told, of 32 bits.
     pub fn size(&mut self) -> u32 {
-        (unsigned(self.next()) % 0x1_0000_0000) as u32
+        size(self.next())
     }
 
     pub fn ask(&mut self, is_so: bool) {
