@@ -40,9 +40,10 @@ pub const REFERENCES: [RefType; 28] = [
 const NAMES: &str =
     "FUNCREF FUNC EXTERNREF EXTERN ANYREF ANY NULLREF NONE NULLEXTERNREF NOEXTERN NULLFUNCREF NOFUNC EQREF EQ STRUCTREF STRUCT ARRAYREF ARRAY I31REF I31 EXNREF EXN NULLEXNREF NOEXN CONTREF CONT NULLCONTREF NOCONT";
 
-/// The type of this name.
-pub fn constant(name: &[u8]) -> RefType {
-    let at = place(NAMES.as_bytes(), name) as usize;
+/// The type that the next word names.
+pub fn constant(words: &mut Words<'_>) -> RefType {
+    let at = place(NAMES.as_bytes(), words.next()) as usize;
+    words.ask(at < 28);
     if at < 28 {
         REFERENCES[at]
     } else {
@@ -131,9 +132,9 @@ fn tell_default(ty: RefType, words: &mut Words<'_>) {
 }
 
 fn ask_difference(words: &mut Words<'_>) {
-    let whole = constant(words.next());
-    let part = constant(words.next());
-    let left = constant(words.next());
+    let whole = constant(words);
+    let part = constant(words);
+    let left = constant(words);
     words.ask(RefType::difference(whole, part) == left);
 }
 
@@ -153,11 +154,11 @@ pub fn call(step: &[u8], words: &mut Words<'_>) -> bool {
             words.ask(is_lower(first, second));
         }
         2 => {
-            let ty = constant(words.next());
+            let ty = constant(words);
             tell_kinds(ty, words);
         }
         3 => {
-            let ty = constant(words.next());
+            let ty = constant(words);
             tell_default(ty, words);
         }
         4 => ask_difference(words),

@@ -15,7 +15,7 @@ use wasm_types::{RecGroup, SubType};
 fn tell_constant(read: Result<RefType>, words: &mut Words<'_>) {
     match read {
         Ok(ty) => {
-            let wanted = constant(words.next());
+            let wanted = constant(words);
             words.ask(ty == wanted);
         }
         Err(_) => words.ask(false),
