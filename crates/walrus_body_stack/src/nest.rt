@@ -61,6 +61,9 @@ const LONGER: usize = 4064;
 // is never copied to grow.
 const ROOM: usize = 2048;
 
+// Room that a body's list begins with: enough for most, so that it isn't copied to grow.
+const FIRST: usize = 64;
+
 // A list of more is given as it is, less its room, where all of it is asked for; what is shorter is copied.
 const SHORT: usize = 256;
 
@@ -81,6 +84,9 @@ fn grow(list: &mut Vec<(Instr, InstrLocId)>) -> Result<(), AllocError>
     ensures room { OnOk result (vec_len list.new < vec_capacity list.new) }
     ensures rest { list.new.items ≡ list.old.items }
 {
+    if list.capacity() == 0 {
+        return list.reserve(FIRST);
+    }
     list.reserve(1)
 }
 

@@ -59,12 +59,13 @@ impl Stack {
         }
     }
 
-    /// What was built.
+    /// What was built, without room to spare.
     pub fn into_builder(self) -> FunctionBuilder
         ensures blocks { contents result.builder ≡ blocks self }
         ensures ty { heading result ≡ heading_of self }
     {
-        let Stack { builder, .. } = self;
+        let Stack { mut builder, .. } = self;
+        builder.shrink_to_fit();
         builder
     }
 

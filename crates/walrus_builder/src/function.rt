@@ -148,6 +148,15 @@ impl FunctionBuilder {
         seq.end = end;
     }
 
+    /// Gives back the room that its list of sequences has to spare, once no more are to come. Takes no memory.
+    pub fn shrink_to_fit(&mut self)
+        ensures seqs { contents self.new.builder ≡ contents self.old.builder }
+        ensures ty { self.new.ty ≡ self.old.ty }
+        ensures name { self.new.name ≡ self.old.name }
+    {
+        self.builder.shrink_to_fit();
+    }
+
     /// Adds an empty sequence that no instruction holds yet, and gives its id.
     ///
     /// # Errors

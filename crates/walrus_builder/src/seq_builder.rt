@@ -40,7 +40,7 @@ impl InstrSeqBuilder {
         ensures { IfOk result (λ b. contents b ≡ empty_seq 0 ty ∷ []) }
     {
         let id = InstrSeqId::from_index(0);
-        let mut seqs = Vec::new(alloc);
+        let mut seqs = Vec::with_capacity(alloc, 1)?;
         seqs.push(InstrSeq::new(alloc, id, ty))?;
         Ok(InstrSeqBuilder { alloc, seqs, id })
     }
@@ -75,6 +75,14 @@ impl InstrSeqBuilder {
         ensures value { slice_get self.old.seqs id ≡ Some result.now }
     {
         &mut self.seqs[id.index()]
+    }
+
+    // Gives back the room that the list has to spare.
+    pub(crate) fn shrink_to_fit(&mut self)
+        ensures id { self.new.id ≡ self.old.id }
+        ensures seqs { self.new.seqs ≡ self.old.seqs }
+    {
+        self.seqs.shrink_to_fit();
     }
 
     // Takes the body's own sequence at hand.
