@@ -10,15 +10,16 @@ use Rattle.walrus_items.specs.walrus_forms.declared.value.StorageType.TheVariant
 use Rattle.walrus_items.specs.walrus_forms.declared.value.FieldType.{FieldType}
 use Rattle.walrus_items.specs.walrus_forms.Forms.{Form, FunctionForm, StructForm, ArrayForm}
 use Rattle.walrus_items.specs.walrus_forms.Kinds.{Kind}
+use Rattle.walrus_items.specs.walrus_forms.ValueOrder.{abstract_place}
 
 -- the hash with one more number in it
 abbrev pub next_hash : ℕ → ℕ → ℕ
 next_hash hash number = ((hash * 16777619) % 2 ^ 64 + number) % 2 ^ 64
 
 abbrev pub heap_number : HeapType → ℕ
-heap_number (Abstract _) = 8
-heap_number (Concrete id) = 9 + id
-heap_number (Exact id) = 9 + id
+heap_number (Abstract ty) = 8 + abstract_place ty
+heap_number (Concrete id) = 20 + id
+heap_number (Exact id) = 20 + id
 
 abbrev pub value_number : ValType → ℕ
 value_number I32 = 1

@@ -29,8 +29,8 @@ fn heap_number(ty: &HeapType) -> u64
     ensures { result ≡ heap_number ty.now }
 {
     match ty {
-        HeapType::Abstract(_) => 8,
-        HeapType::Concrete(id) | HeapType::Exact(id) => 9 + u64::from(id.number()),
+        HeapType::Abstract(ty) => 8 + *ty as u64,
+        HeapType::Concrete(id) | HeapType::Exact(id) => 20 + u64::from(id.number()),
     }
 }
 
