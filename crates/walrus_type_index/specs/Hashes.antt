@@ -1,8 +1,9 @@
 -- A number of each kind, by which most types are told apart. Any function of kinds would do: no answer rests on how numbers spread.
-use Rattle.std.specs.Prelude.{ℕ, ◌+◌, ◌*◌, ◌^◌, ◌%◌, List, [], ◌∷◌, Option, None, slice_index_or}
+use Rattle.std.specs.Prelude.{ℕ, ◌+◌, ◌*◌, ◌^◌, ◌%◌, List, [], ◌∷◌, Option, None, slice_index_or, if◌then◌else◌}
 use Rattle.std.specs.Option.{option_map_or}
 use Rattle.walrus_items.specs.walrus_forms.declared.value.HeapType.{HeapType}
 use Rattle.walrus_items.specs.walrus_forms.declared.value.HeapType.TheVariants.{Abstract, Concrete, Exact}
+use Rattle.walrus_items.specs.walrus_forms.declared.value.RefType.{RefType}
 use Rattle.walrus_items.specs.walrus_forms.declared.value.ValType.{ValType}
 use Rattle.walrus_items.specs.walrus_forms.declared.value.ValType.TheVariants.{I32, I64, F32, F64, V128, Ref}
 use Rattle.walrus_items.specs.walrus_forms.declared.value.StorageType.{StorageType}
@@ -21,13 +22,17 @@ heap_number (Abstract ty) = 8 + abstract_place ty
 heap_number (Concrete id) = 20 + id
 heap_number (Exact id) = 20 + id
 
+-- references without null have their numbers behind those with it, as many as heap types have
+abbrev pub ref_number : RefType → ℕ
+ref_number ty = if ty.nullable then heap_number ty.heap_type else heap_number ty.heap_type + (2 ^ 32 + 12)
+
 abbrev pub value_number : ValType → ℕ
 value_number I32 = 1
 value_number I64 = 2
 value_number F32 = 3
 value_number F64 = 4
 value_number V128 = 5
-value_number (Ref ty) = heap_number ty.heap_type
+value_number (Ref ty) = ref_number ty
 
 abbrev pub storage_number : StorageType → ℕ
 storage_number I8 = 6

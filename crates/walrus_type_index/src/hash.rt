@@ -1,18 +1,18 @@
 //! Hashes of kinds, by which most types are told apart with no look at them.
 //!
 //! Equal kinds have equal hashes. No answer rests on more: how they spread is a matter of speed.
-ghost use Rattle.std.specs.Prelude.{◌≡◌};
+ghost use Rattle.std.specs.Prelude.{◌≡◌, ◌<◌, ◌^◌};
 ghost use Rattle.walrus_items.specs.Items.{kind_of};
 ghost use Rattle.walrus_items.specs.walrus_forms.Forms.{FunctionForm};
 ghost use Rattle.walrus_type_index.specs.Places.{kinds_in, hashed_at};
-ghost use Rattle.walrus_type_index.specs.Hashes.{next_hash, heap_number, value_number, storage_number, values_hash, fields_hash, form_hash, hash_of, hash_at};
+ghost use Rattle.walrus_type_index.specs.Hashes.{next_hash, heap_number, ref_number, value_number, storage_number, values_hash, fields_hash, form_hash, hash_of, hash_at};
 ghost use Rattle.walrus_type_index.specs.Targets.{target_kind};
 
 use crate::node::Hashed;
 use crate::order::Target;
 use walrus_items::Type;
 use walrus_items::arena::{TombstoneArena, TypeId, TypeSpace};
-use walrus_items::forms::{CompositeType, FieldType, HeapType, StorageType, ValType};
+use walrus_items::forms::{CompositeType, FieldType, HeapType, RefType, StorageType, ValType};
 
 // The prime of the hash FNV-1. It is small, so that types that differ in an id alone stay in the order of these: a walk of the tree
 // then goes through memory much as the types were added.
@@ -25,12 +25,27 @@ fn next_hash(hash: u64, number: u64) -> u64
     hash.wrapping_mul(FACTOR).wrapping_add(number)
 }
 
+// How many numbers heap types have: one for each abstract type, and one for each id.
+const HEAP_NUMBERS: u64 = (1 << 32) + 12;
+
 fn heap_number(ty: &HeapType) -> u64
-    ensures { result ≡ heap_number ty.now }
+    ensures number { result ≡ heap_number ty.now }
+    ensures small { result < 2 ^ 33 }
 {
     match ty {
         HeapType::Abstract(ty) => 8 + *ty as u64,
         HeapType::Concrete(id) | HeapType::Exact(id) => 20 + u64::from(id.number()),
+    }
+}
+
+fn ref_number(ty: &RefType) -> u64
+    ensures { result ≡ ref_number ty.now }
+{
+    let number = heap_number(&ty.heap_type);
+    if ty.nullable {
+        number
+    } else {
+        number + HEAP_NUMBERS
     }
 }
 
@@ -43,7 +58,7 @@ fn value_number(ty: &ValType) -> u64
         ValType::F32 => 3,
         ValType::F64 => 4,
         ValType::V128 => 5,
-        ValType::Ref(ty) => heap_number(&ty.heap_type),
+        ValType::Ref(ty) => ref_number(ty),
     }
 }
 
