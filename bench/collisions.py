@@ -6,10 +6,11 @@
 Exports are read by both programs, types by walrus_inspect alone. The names of one row all collide under the hasher of
 the kit's hash tables, whose seed is fixed; those of the next differ in their last bytes alone, behind a long prefix that
 all have; those of the last are plain. Types are function types of ten parameters, in no order, behind fifty more that all
-have in common, or without these; those of the last row all have one hash, so that they are found by comparing them. A time is the
-least of the rounds, from the start of the program to its end. Wanted is a factor of at most 2.3 a doubling. The sizes
-take turns, so that what else the machine does meets all of them alike. With --instructions those of the processor are
-counted by valgrind, which no other work and no cache disturbs, in place of the time.
+have in common, or without these; those of the last row are of ten lists of 14 parameters, and all have one hash, so that
+they are found by comparing them. A time is the least of the rounds, from the start of the program to its end. Wanted is a
+factor of at most 2.3 a doubling. The sizes take turns, so that what else the machine does meets all of them alike. With
+--instructions those of the processor are counted by valgrind, which no other work and no cache disturbs, in place of the
+time.
 """
 import argparse
 import os
@@ -53,19 +54,31 @@ def exporting(name):
     return module
 
 
-def typing(front, kinds=(b"\x7f", b"\x7e", b"\x7d", b"\x7c")):
-    """What makes a module of so many function types with these parameters in common, and ten more of these four types."""
+def typing(front, lists=(b"\x7f", b"\x7e", b"\x7d", b"\x7c")):
+    """What makes a module of so many function types with these parameters in common, and behind them ten of these four lists."""
 
     def module(count):
         # ten digits of base 4, another number below 4^10 for each type
-        own = [[kinds[(number * 421_773 % 4**10) >> 2 * k & 3] for k in range(10)] for number in range(count)]
-        return HEADER + section(1, vector([b"\x60" + vector(front + digits) + b"\x00" for digits in own]))
+        own = [b"".join(lists[(number * 421_773 % 4**10) >> 2 * k & 3] for k in range(10)) for number in range(count)]
+        return HEADER + section(1, vector([b"\x60" + unsigned(len(front + types)) + front + types + b"\x00" for types in own]))
 
     return module
 
 
-# funcref, externref, anyref and eqref, of which the index of types makes one number
-ABSTRACT = (b"\x70", b"\x6f", b"\x6e", b"\x6d")
+# The numbers that specs/Hashes.antt of walrus_type_index gives to value types, each with the byte that spells it.
+NUMBERS = {1: 0x7F, 2: 0x7E, 3: 0x7D, 4: 0x7C, 5: 0x7B}
+NUMBERS |= dict(enumerate((0x70, 0x6F, 0x6E, 0x71, 0x72, 0x73, 0x6D, 0x6B, 0x6A, 0x6C, 0x69, 0x74), 8))
+# Four lists of one length and one hash: the sums of their numbers times powers of 16777619 are equal modulo 2^64, so that any
+# two rows of as many of them have one hash, too. Such lists are found by reducing the lattice of the differences of two.
+COLLIDING_LISTS = [
+    bytes(NUMBERS[number] for number in numbers)
+    for numbers in (
+        (1, 5, 2, 17, 4, 4, 2, 15, 5, 1, 9, 5, 3, 19),
+        (9, 10, 8, 17, 1, 10, 1, 1, 11, 15, 2, 9, 11, 1),
+        (10, 12, 10, 19, 19, 1, 1, 11, 14, 11, 1, 5, 8, 16),
+        (2, 8, 3, 1, 12, 12, 5, 3, 1, 11, 12, 1, 9, 16),
+    )
+]
 NAMES = {
     "names that collide": lambda number: COLLIDING + free(number),
     "names with a long prefix": lambda number: PREFIX + free(number),
@@ -74,9 +87,9 @@ NAMES = {
 ROWS = [
     *[(f"{kind}, wasm_rewriter", REWRITER, exporting(name)) for kind, name in NAMES.items()],
     *[(f"{kind}, walrus_inspect", INSPECTOR, exporting(name)) for kind, name in NAMES.items()],
-    ("types with a long front, walrus_inspect", INSPECTOR, typing([b"\x7f"] * 50)),
-    ("plain types, walrus_inspect", INSPECTOR, typing([])),
-    ("types that collide, walrus_inspect", INSPECTOR, typing([], ABSTRACT)),
+    ("types with a long front, walrus_inspect", INSPECTOR, typing(b"\x7f" * 50)),
+    ("plain types, walrus_inspect", INSPECTOR, typing(b"")),
+    ("types that collide, walrus_inspect", INSPECTOR, typing(b"", COLLIDING_LISTS)),
 ]
 
 
