@@ -7,24 +7,24 @@ use Rattle.std.proofs.Math.ListN.{length-map}
 use Rattle.std.proofs.lemmas.Bool.Decides.{nat_tests}
 use Rattle.std.proofs.lemmas.List.Elements.{All-nil, All-cons}
 use Rattle.std.proofs.lemmas.Option.{none-some}
-use Rattle.walrus_type_index.specs.walrus_items.walrus_forms.declared.value.HeapType.{HeapType}
-use Rattle.walrus_type_index.specs.walrus_items.walrus_forms.declared.value.HeapType.TheVariants.{Abstract, Concrete, Exact}
-use Rattle.walrus_type_index.specs.walrus_items.walrus_forms.declared.value.ValType.{ValType}
-use Rattle.walrus_type_index.specs.walrus_items.walrus_forms.declared.value.ValType.TheVariants.{I32, I64, F32, F64, V128, Ref}
-use Rattle.walrus_type_index.specs.walrus_items.walrus_forms.declared.value.StorageType.{StorageType}
-use Rattle.walrus_type_index.specs.walrus_items.walrus_forms.declared.value.StorageType.TheVariants.{Val, I8, I16}
-use Rattle.walrus_type_index.specs.walrus_items.walrus_forms.declared.value.FieldType.{FieldType}
-use Rattle.walrus_type_index.specs.walrus_items.walrus_forms.Values.{unpacked, heap_name, value_name, field_name}
-use Rattle.walrus_type_index.specs.walrus_items.walrus_forms.Forms.{Form, FunctionForm, StructForm, ArrayForm, form_names}
-use Rattle.walrus_type_index.specs.walrus_items.walrus_forms.Kinds.{Kind, kind_names}
-use Rattle.walrus_type_index.specs.walrus_items.walrus_forms.Renaming.{HeapBelow, ValueBelow, FieldBelow, FormBelow, KindBelow, renamed_heap, renamed_value, renamed_field, renamed_storage, renamed_form, renamed_kind}
-use Rattle.walrus_types.specs.declared.error.IrError.{IrError}
-use Rattle.walrus_types.specs.declared.error.IrError.TheVariants.{Dead, EntryOnly, Later}
-use Rattle.walrus_type_index.specs.walrus_items.Items.{Item, Group}
-use Rattle.walrus_types.specs.Table.{Table, type_at}
-use Rattle.walrus_types.specs.Emission.{written_kind, is_written, written_in, fault_at, first_fault, group_names, groups_fault, described_group}
+use Rattle.walrus_type_arenas.specs.walrus_type_index.walrus_items.walrus_forms.declared.value.HeapType.{HeapType}
+use Rattle.walrus_type_arenas.specs.walrus_type_index.walrus_items.walrus_forms.declared.value.HeapType.TheVariants.{Abstract, Concrete, Exact}
+use Rattle.walrus_type_arenas.specs.walrus_type_index.walrus_items.walrus_forms.declared.value.ValType.{ValType}
+use Rattle.walrus_type_arenas.specs.walrus_type_index.walrus_items.walrus_forms.declared.value.ValType.TheVariants.{I32, I64, F32, F64, V128, Ref}
+use Rattle.walrus_type_arenas.specs.walrus_type_index.walrus_items.walrus_forms.declared.value.StorageType.{StorageType}
+use Rattle.walrus_type_arenas.specs.walrus_type_index.walrus_items.walrus_forms.declared.value.StorageType.TheVariants.{Val, I8, I16}
+use Rattle.walrus_type_arenas.specs.walrus_type_index.walrus_items.walrus_forms.declared.value.FieldType.{FieldType}
+use Rattle.walrus_type_arenas.specs.walrus_type_index.walrus_items.walrus_forms.Values.{unpacked, heap_name, value_name, field_name}
+use Rattle.walrus_type_arenas.specs.walrus_type_index.walrus_items.walrus_forms.Forms.{Form, FunctionForm, StructForm, ArrayForm, form_names}
+use Rattle.walrus_type_arenas.specs.walrus_type_index.walrus_items.walrus_forms.Kinds.{Kind, kind_names}
+use Rattle.walrus_type_arenas.specs.walrus_type_index.walrus_items.walrus_forms.Renaming.{HeapBelow, ValueBelow, FieldBelow, FormBelow, KindBelow, renamed_heap, renamed_value, renamed_field, renamed_storage, renamed_form, renamed_kind}
+use Rattle.walrus_type_arenas.specs.declared.error.IrError.{IrError}
+use Rattle.walrus_type_arenas.specs.declared.error.IrError.TheVariants.{Dead, EntryOnly, Later}
+use Rattle.walrus_type_arenas.specs.walrus_type_index.walrus_items.Items.{Item, Group}
+use Rattle.walrus_type_arenas.specs.Table.{Table, type_at}
+use Rattle.walrus_type_arenas.specs.Emission.{written_kind, is_written, written_in, fault_at, first_fault, group_names, groups_fault, described_group}
 use Rattle.walrus_types.specs.Parsing.{AreBelow}
-use Rattle.walrus_types.proofs.EmitLemmas.{first-fault-append}
+use Rattle.walrus_type_arenas.proofs.EmitLemmas.{first-fault-append}
 
 or-none : (a b : Option IrError) → option_or a b ≡ None → (a ≡ None) × (b ≡ None)
 or-none None b e = (refl, e)

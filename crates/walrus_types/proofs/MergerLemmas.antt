@@ -6,21 +6,21 @@ use Rattle.std.proofs.lemmas.Bool.{cases_Bool, cases_lt, cases_eq, eqb-true, and
 use Rattle.std.proofs.lemmas.Option.{slice_get_within, slice_get-map, slice_get-get_or, get_or_from_slice_get}
 use Rattle.std.proofs.lemmas.List.{get_or_append_left, get_or-append-add, length-map, append-nil}
 use Rattle.std.proofs.lemmas.List.FromFn.{length-range_with_len, get_or-range_with_len}
-use Rattle.walrus_type_index.proofs.walrus_forms.walrus_arena.ArenaLemmas.{live-within}
-use Rattle.walrus_type_index.specs.walrus_items.walrus_forms.Kinds.{Kind, kind_names}
-use Rattle.walrus_type_index.specs.walrus_items.walrus_forms.Records.{TypeGroup}
-use Rattle.walrus_type_index.specs.walrus_items.walrus_forms.Renaming.{KindBelow, at, renamed_kind}
-use Rattle.walrus_type_index.specs.walrus_items.walrus_forms.Same.{same_kind}
-use Rattle.walrus_type_index.proofs.walrus_forms.EqLemmas.{same-kind-law}
-use Rattle.walrus_type_index.proofs.walrus_forms.RenamingLemmas.{In, in-mapped, of-mapped, in-any, any-in, kinds-agree, kinds-twice, kinds-names, kinds-below}
-use Rattle.walrus_type_index.specs.walrus_items.Items.{Item}
-use Rattle.walrus_types.specs.Groups.{new_items}
-use Rattle.walrus_types.specs.Table.{next_id, type_at, names_itself, merges, latest_id}
-use Rattle.walrus_types.specs.TypeLaws.{IsLatest}
+use Rattle.walrus_type_arenas.proofs.walrus_type_index.walrus_forms.walrus_arena.ArenaLemmas.{live-within}
+use Rattle.walrus_type_arenas.specs.walrus_type_index.walrus_items.walrus_forms.Kinds.{Kind, kind_names}
+use Rattle.walrus_type_arenas.specs.walrus_type_index.walrus_items.walrus_forms.Records.{TypeGroup}
+use Rattle.walrus_type_arenas.specs.walrus_type_index.walrus_items.walrus_forms.Renaming.{KindBelow, at, renamed_kind}
+use Rattle.walrus_type_arenas.specs.walrus_type_index.walrus_items.walrus_forms.Same.{same_kind}
+use Rattle.walrus_type_arenas.proofs.walrus_type_index.walrus_forms.EqLemmas.{same-kind-law}
+use Rattle.walrus_type_arenas.proofs.walrus_type_index.walrus_forms.RenamingLemmas.{In, in-mapped, of-mapped, in-any, any-in, kinds-agree, kinds-twice, kinds-names, kinds-below}
+use Rattle.walrus_type_arenas.specs.walrus_type_index.walrus_items.Items.{Item}
+use Rattle.walrus_type_arenas.specs.Groups.{new_items}
+use Rattle.walrus_type_arenas.specs.Table.{next_id, type_at, names_itself, merges, latest_id}
+use Rattle.walrus_type_arenas.specs.TypeLaws.{IsLatest}
 use Rattle.walrus_types.specs.Parsing.{Parsed, with_group, merged, parsed_group, parsed, unparsed, AreBelow}
 use Rattle.walrus_types.specs.Mergers.{Entry, is_single, entries_of, IsEqual, StandsFor, IsSame, ParsingCarriesSame}
-use Rattle.walrus_types.proofs.GroupLemmas.{length-new_items}
-use Rattle.walrus_types.proofs.LawLemmas.{latest-law}
+use Rattle.walrus_type_arenas.proofs.GroupLemmas.{length-new_items}
+use Rattle.walrus_type_arenas.proofs.LawLemmas.{latest-law}
 
 -- look-ups in a list with more behind it
 at-left : (xs ys : List ℕ) (i : ℕ) → i < length xs → at (xs ++ ys) i ≡ at xs i

@@ -6,17 +6,17 @@ use Rattle.std.proofs.lemmas.Bool.{false≢true, cases_Bool, cases_lt}
 use Rattle.std.proofs.lemmas.List.{length-map}
 use Rattle.std.proofs.lemmas.List.Kept.{AllPairs-filter}
 use Rattle.std.proofs.lemmas.Option.{slice_get-get_or, same_Some, none-some}
-use Rattle.walrus_type_index.specs.walrus_items.walrus_arena.Arena.{entries_from}
-use Rattle.walrus_type_index.specs.walrus_items.walrus_forms.Kinds.{Kind}
-use Rattle.walrus_type_index.specs.walrus_items.walrus_forms.Records.{TypeGroup}
-use Rattle.walrus_type_index.specs.walrus_items.walrus_forms.Renaming.{renamed_kind}
-use Rattle.walrus_type_index.specs.walrus_items.Items.{Group}
-use Rattle.walrus_types.specs.Table.{Table, group_at}
-use Rattle.walrus_types.specs.TypeLaws.{AreGrouped}
+use Rattle.walrus_type_arenas.specs.walrus_type_index.walrus_items.walrus_arena.Arena.{entries_from}
+use Rattle.walrus_type_arenas.specs.walrus_type_index.walrus_items.walrus_forms.Kinds.{Kind}
+use Rattle.walrus_type_arenas.specs.walrus_type_index.walrus_items.walrus_forms.Records.{TypeGroup}
+use Rattle.walrus_type_arenas.specs.walrus_type_index.walrus_items.walrus_forms.Renaming.{renamed_kind}
+use Rattle.walrus_type_arenas.specs.walrus_type_index.walrus_items.Items.{Group}
+use Rattle.walrus_type_arenas.specs.Table.{Table, group_at}
+use Rattle.walrus_type_arenas.specs.TypeLaws.{AreGrouped}
 use Rattle.walrus_types.specs.Mergers.{Entry, is_single, entries_of}
-use Rattle.walrus_types.specs.Emission.{written_kind, is_written, written_groups, key_of, no_group, AreInOrder, AreIndices, written_in, written_types, described_group}
+use Rattle.walrus_type_arenas.specs.Emission.{written_kind, is_written, written_groups, key_of, no_group, AreInOrder, AreIndices, written_in, written_types, described_group}
 use Rattle.walrus_types.specs.Inverse.{AreInverse}
-use Rattle.walrus_types.proofs.DeleteLemmas.{contains-filter}
+use Rattle.walrus_type_arenas.proofs.DeleteLemmas.{contains-filter}
 use Rattle.walrus_types.proofs.Places.{Has, Once, Turns, turns_of, has_contains, once_of, map_at, at_map, seat}
 
 -- the groups in these slots that pass

@@ -2,12 +2,12 @@
 use Rattle.std.proofs.Common.{◌≡◌, ◌∙◌, ℕ, false, List, [], ◌∷◌, ◌++◌, length, map, Option, Some, None, refl, sym, ap}
 use Rattle.std.specs.Option.{option_map}
 use Rattle.std.proofs.lemmas.List.{length-map, map-append}
-use Rattle.walrus_type_index.specs.walrus_items.walrus_forms.Kinds.{Kind}
-use Rattle.walrus_type_index.specs.walrus_items.declared.subtype.Type.{«Type» as TypeItem}
-use Rattle.walrus_type_index.specs.walrus_items.declared.subtype.RecGroup.{RecGroup}
-use Rattle.walrus_type_index.specs.walrus_items.Items.{Item, Group, item_of, group_of, kind_of}
-use Rattle.walrus_types.specs.Table.{Table, IsGrouped, Merges, equal_type, table_of}
-use Rattle.walrus_types.proofs.TableLemmas.{grouped-added}
+use Rattle.walrus_type_arenas.specs.walrus_type_index.walrus_items.walrus_forms.Kinds.{Kind}
+use Rattle.walrus_type_arenas.specs.walrus_type_index.walrus_items.declared.subtype.Type.{«Type» as TypeItem}
+use Rattle.walrus_type_arenas.specs.walrus_type_index.walrus_items.declared.subtype.RecGroup.{RecGroup}
+use Rattle.walrus_type_arenas.specs.walrus_type_index.walrus_items.Items.{Item, Group, item_of, group_of, kind_of}
+use Rattle.walrus_type_arenas.specs.Table.{Table, IsGrouped, Merges, equal_type, table_of}
+use Rattle.walrus_type_arenas.proofs.TableLemmas.{grouped-added}
 
 -- one more type in a table, in a group of its own
 pub type-pushed : (types types_then : List (Option TypeItem)) (groups groups_then : List (Option RecGroup)) (homes homes_then : List ℕ) (ty : TypeItem) (group : RecGroup) (id : ℕ)

@@ -5,13 +5,13 @@ use Rattle.std.specs.Option.{MatchOption}
 use Rattle.std.proofs.lemmas.Bool.{eqb-true}
 use Rattle.std.proofs.lemmas.List.{drop_more, length-map, map-append, map_more, take-append-drop}
 use Rattle.std.proofs.lemmas.List.FromFn.{length-range_with_len}
-use Rattle.walrus_type_index.specs.walrus_items.walrus_forms.Kinds.{Kind}
-use Rattle.walrus_type_index.specs.walrus_items.walrus_forms.declared.record.TypeRecord.{TypeRecord}
-use Rattle.walrus_type_index.specs.walrus_items.walrus_forms.declared.record.GroupRecord.{GroupRecord}
-use Rattle.walrus_type_index.specs.walrus_items.walrus_forms.Records.{TypeGroup, record_kind, type_group}
-use Rattle.walrus_type_index.specs.walrus_items.walrus_forms.Renaming.{KindBelow, at, renamed_kind}
-use Rattle.walrus_types.specs.Groups.{AddsGroup}
-use Rattle.walrus_types.specs.Table.{Table, next_id, Adds, equal_type}
+use Rattle.walrus_type_arenas.specs.walrus_type_index.walrus_items.walrus_forms.Kinds.{Kind}
+use Rattle.walrus_type_arenas.specs.walrus_type_index.walrus_items.walrus_forms.declared.record.TypeRecord.{TypeRecord}
+use Rattle.walrus_type_arenas.specs.walrus_type_index.walrus_items.walrus_forms.declared.record.GroupRecord.{GroupRecord}
+use Rattle.walrus_type_arenas.specs.walrus_type_index.walrus_items.walrus_forms.Records.{TypeGroup, record_kind, type_group}
+use Rattle.walrus_type_arenas.specs.walrus_type_index.walrus_items.walrus_forms.Renaming.{KindBelow, at, renamed_kind}
+use Rattle.walrus_type_arenas.specs.Groups.{AddsGroup}
+use Rattle.walrus_type_arenas.specs.Table.{Table, next_id, Adds, equal_type}
 use Rattle.walrus_types.specs.Parsing.{Parsed, with_group, merged, added, known_ids, parsed_group, parsed, unparsed, AreBelow, IsPartOf}
 
 tables-same : (t u : Table) → t.types ≡ u.types → t.groups ≡ u.groups → t ≡ u

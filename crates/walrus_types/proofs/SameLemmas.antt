@@ -3,14 +3,14 @@ use Rattle.std.proofs.Common.{◌≡◌, ℕ, Bool, refl, ap, ◌∙◌, Option,
 use Rattle.std.specs.Bool.{beq}
 use Rattle.std.specs.Option.{option_eq}
 use Rattle.std.proofs.Math.Bool.{and-true}
-use Rattle.walrus_type_index.specs.walrus_items.declared.subtype.Type.{«Type» as TypeItem}
-use Rattle.walrus_type_index.specs.walrus_items.contracts.subtype.TypePartialEq.TheImpl.{ghosts as type_eq}
-use Rattle.walrus_type_index.proofs.walrus_forms.FormLemmas.{composite_eq-forms}
-use Rattle.walrus_type_index.specs.walrus_items.walrus_arena.contracts.id.IdPartialEq.TheImpl as id_impl
-use Rattle.walrus_type_index.specs.walrus_items.walrus_arena.contracts.id.TypeSpace.{the_row as type_space}
-use Rattle.walrus_type_index.specs.walrus_items.walrus_forms.Forms.{form_of}
-use Rattle.walrus_type_index.specs.walrus_items.Items.{kind_of}
-use Rattle.walrus_type_index.specs.walrus_items.walrus_forms.Same.{same_form, same_kind}
+use Rattle.walrus_type_arenas.specs.walrus_type_index.walrus_items.declared.subtype.Type.{«Type» as TypeItem}
+use Rattle.walrus_type_arenas.specs.walrus_type_index.walrus_items.contracts.subtype.TypePartialEq.TheImpl.{ghosts as type_eq}
+use Rattle.walrus_type_arenas.proofs.walrus_type_index.walrus_forms.FormLemmas.{composite_eq-forms}
+use Rattle.walrus_type_arenas.specs.walrus_type_index.walrus_items.walrus_arena.contracts.id.IdPartialEq.TheImpl as id_impl
+use Rattle.walrus_type_arenas.specs.walrus_type_index.walrus_items.walrus_arena.contracts.id.TypeSpace.{the_row as type_space}
+use Rattle.walrus_type_arenas.specs.walrus_type_index.walrus_items.walrus_forms.Forms.{form_of}
+use Rattle.walrus_type_arenas.specs.walrus_type_index.walrus_items.Items.{kind_of}
+use Rattle.walrus_type_arenas.specs.walrus_type_index.walrus_items.walrus_forms.Same.{same_form, same_kind}
 
 id_eq-nat : (x y : ℕ) → (id_impl.eq-value type_space).it x y ≡ nat_eq x y
 id_eq-nat x y = and-true (nat_eq x y)

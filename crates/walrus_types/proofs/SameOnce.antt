@@ -4,12 +4,12 @@ use Rattle.std.specs.List.{slice_get}
 use Rattle.std.proofs.lemmas.Bool.{cases_lt, cases_eq, eqb-true, and_parts, cases_Bool}
 use Rattle.std.proofs.lemmas.List.{length-map}
 use Rattle.std.proofs.lemmas.Option.{slice_get-get_or, slice_get_within}
-use Rattle.walrus_type_index.specs.walrus_items.walrus_forms.Forms.{StructForm}
-use Rattle.walrus_type_index.specs.walrus_items.walrus_forms.Kinds.{Kind, kind_names}
-use Rattle.walrus_type_index.specs.walrus_items.walrus_forms.Records.{TypeGroup}
-use Rattle.walrus_type_index.specs.walrus_items.walrus_forms.Renaming.{KindBelow, at, renamed_kind}
-use Rattle.walrus_type_index.proofs.walrus_forms.RenamingLemmas.{In, in-any, kinds-agree, kinds-below}
-use Rattle.walrus_types.specs.Table.{names_itself}
+use Rattle.walrus_type_arenas.specs.walrus_type_index.walrus_items.walrus_forms.Forms.{StructForm}
+use Rattle.walrus_type_arenas.specs.walrus_type_index.walrus_items.walrus_forms.Kinds.{Kind, kind_names}
+use Rattle.walrus_type_arenas.specs.walrus_type_index.walrus_items.walrus_forms.Records.{TypeGroup}
+use Rattle.walrus_type_arenas.specs.walrus_type_index.walrus_items.walrus_forms.Renaming.{KindBelow, at, renamed_kind}
+use Rattle.walrus_type_arenas.proofs.walrus_type_index.walrus_forms.RenamingLemmas.{In, in-any, kinds-agree, kinds-below}
+use Rattle.walrus_type_arenas.specs.Table.{names_itself}
 use Rattle.walrus_types.specs.Parsing.{AreBelow}
 use Rattle.walrus_types.specs.Mergers.{Entry, is_single, entries_of, IsEqual, StandsFor, IsSame, SameIsOne}
 use Rattle.walrus_types.proofs.MergerLemmas.{get-left, get-split, kind-at}

@@ -1,16 +1,16 @@
-pub use Rattle.walrus_type_index.specs.walrus_items.Items
-pub mod Emission
-pub mod Groups
-pub mod Highest
+pub use Rattle.walrus_type_arenas.specs.walrus_type_index.walrus_items.Items
+pub use Rattle.walrus_type_arenas.specs.Emission
+pub use Rattle.walrus_type_arenas.specs.Groups
+pub use Rattle.walrus_type_arenas.specs.Highest
 pub mod Inverse
 pub mod Merged
 pub mod Mergers
 pub mod Pairs
 pub mod Parsing
-pub mod Ranks
-pub mod Table
+pub use Rattle.walrus_type_arenas.specs.Ranks
+pub use Rattle.walrus_type_arenas.specs.Table
 pub mod TableLends
-pub mod TypeLaws
+pub use Rattle.walrus_type_arenas.specs.TypeLaws
 -- Passed on to crates above, which then list this one alone.
-pub use Rattle.walrus_type_index.specs.walrus_items.walrus_forms as walrus_forms
-pub use Rattle.walrus_type_index.specs.walrus_items as walrus_items
+pub use Rattle.walrus_type_arenas.specs.walrus_type_index.walrus_items.walrus_forms as walrus_forms
+pub use Rattle.walrus_type_arenas.specs.walrus_type_index.walrus_items as walrus_items

@@ -1,7 +1,7 @@
 -- What adds and deletes keep of a table, so that what it emits is read back as it was.
 use Rattle.std.specs.Prelude.{◌≡◌, ℕ, ◌<◌, true, false, [], ◌∷◌, length, Contains, Some}
-use Rattle.walrus_type_index.specs.walrus_items.Items.{Item, Group}
-use Rattle.walrus_types.specs.Table.{Table, type_at, group_at, names_itself, merges}
+use Rattle.walrus_type_arenas.specs.walrus_type_index.walrus_items.Items.{Item, Group}
+use Rattle.walrus_type_arenas.specs.Table.{Table, type_at, group_at, names_itself, merges}
 
 -- the group of a type that stands alone and isn't written as a group
 abbrev pub single_group : ℕ → Group

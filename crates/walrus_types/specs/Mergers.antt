@@ -1,10 +1,10 @@
 -- Which types of a type section stand for which, and what it means that ids carry this.
 use Rattle.std.specs.Prelude.{◌≡◌, ◌↔◌, ◌<◌, ◌⊎◌, ℕ, Bool, true, false, not, ◌&&◌, ◌==◌, List, [], ◌∷◌, ◌++◌, length, map, Some, None}
 use Rattle.std.specs.List.{slice_get}
-use Rattle.walrus_type_index.specs.walrus_items.walrus_forms.Kinds.{Kind}
-use Rattle.walrus_type_index.specs.walrus_items.walrus_forms.Records.{TypeGroup}
-use Rattle.walrus_type_index.specs.walrus_items.walrus_forms.Renaming.{at, renamed_kind}
-use Rattle.walrus_types.specs.Table.{type_at, names_itself}
+use Rattle.walrus_type_arenas.specs.walrus_type_index.walrus_items.walrus_forms.Kinds.{Kind}
+use Rattle.walrus_type_arenas.specs.walrus_type_index.walrus_items.walrus_forms.Records.{TypeGroup}
+use Rattle.walrus_type_arenas.specs.walrus_type_index.walrus_items.walrus_forms.Renaming.{at, renamed_kind}
+use Rattle.walrus_type_arenas.specs.Table.{type_at, names_itself}
 use Rattle.walrus_types.specs.Parsing.{Parsed, parsed, unparsed, AreBelow}
 
 -- a type of a section: whether it is single, so that it stands in no written group, and its kind

@@ -1,7 +1,7 @@
 -- What a table is after two kinds were added to it.
 use Rattle.std.specs.Prelude.{ℕ}
-use Rattle.walrus_type_index.specs.walrus_items.walrus_forms.Kinds.{Kind}
-use Rattle.walrus_types.specs.Table.{Table, Merges}
+use Rattle.walrus_type_arenas.specs.walrus_type_index.walrus_items.walrus_forms.Kinds.{Kind}
+use Rattle.walrus_type_arenas.specs.Table.{Table, Merges}
 
 -- an equal live type is answered for the first kind, or else there is one more, and then so for the second
 pub record MergesBoth (first : Kind) (first_id : ℕ) (second : Kind) (second_id : ℕ) (old new : Table) : Type 0 where

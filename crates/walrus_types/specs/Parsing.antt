@@ -1,11 +1,11 @@
 -- What a table is after the groups of a type section were added to it, one after another.
 use Rattle.std.specs.Prelude.{◌≡◌, ℕ, ◌+◌, ⊤, Bool, false, List, [], ◌∷◌, ◌++◌, All, length, map, Option, Some, None}
 use Rattle.std.specs.List.{range_with_len}
-use Rattle.walrus_type_index.specs.walrus_items.walrus_forms.Kinds.{Kind}
-use Rattle.walrus_type_index.specs.walrus_items.walrus_forms.Records.{TypeGroup}
-use Rattle.walrus_type_index.specs.walrus_items.walrus_forms.Renaming.{KindBelow, at, renamed_kind}
-use Rattle.walrus_types.specs.Groups.{new_items, group_slot}
-use Rattle.walrus_types.specs.Table.{Table, next_id, equal_type}
+use Rattle.walrus_type_arenas.specs.walrus_type_index.walrus_items.walrus_forms.Kinds.{Kind}
+use Rattle.walrus_type_arenas.specs.walrus_type_index.walrus_items.walrus_forms.Records.{TypeGroup}
+use Rattle.walrus_type_arenas.specs.walrus_type_index.walrus_items.walrus_forms.Renaming.{KindBelow, at, renamed_kind}
+use Rattle.walrus_type_arenas.specs.Groups.{new_items, group_slot}
+use Rattle.walrus_type_arenas.specs.Table.{Table, next_id, equal_type}
 
 -- what was parsed so far: for each type of the section the id of what stands for it, and the table
 pub record Parsed : Type 0 where

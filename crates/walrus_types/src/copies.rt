@@ -1,6 +1,6 @@
 //! Copies of what was written.
 ghost use Rattle.std.specs.Prelude.{◌≡◌, IfOk, map};
-ghost use Rattle.walrus_type_index.specs.walrus_items.walrus_forms.Records.{type_group};
+ghost use Rattle.walrus_type_arenas.specs.walrus_type_index.walrus_items.walrus_forms.Records.{type_group};
 
 use crate::emit::{EmittedTypes, TypeIndices};
 use std::alloc::{AllocError, Global};

@@ -1,11 +1,11 @@
 //! The iterators of a type table. Each goes by rising id.
 ghost use Rattle.std.specs.Prelude.{◌≡◌, map};
 ghost use Rattle.std.specs.Iterator.{YieldsFirstBy, item_count};
-ghost use Rattle.walrus_type_index.specs.walrus_items.Items.{item_of, group_of};
+ghost use Rattle.walrus_type_arenas.specs.walrus_type_index.walrus_items.Items.{item_of, group_of};
 
 use std::marker::Model;
-use walrus_type_index::arena::{Iter, RecGroupSpace, TypeSpace};
-use walrus_type_index::items::{RecGroup, Type};
+use walrus_type_arenas::type_index::arena::{Iter, RecGroupSpace, TypeSpace};
+use walrus_type_arenas::type_index::items::{RecGroup, Type};
 
 /// The live types of a table, seen as the list of those that are left.
 #[derive(Drop)]
@@ -15,7 +15,7 @@ pub struct Types<'a> {
 
 impl<'a> Model for Types<'a> {
     ghost use Rattle.std.specs.Prelude.{List, map};
-    ghost use Rattle.walrus_type_index.specs.walrus_items.Items.{Item, item_of};
+    ghost use Rattle.walrus_type_arenas.specs.walrus_type_index.walrus_items.Items.{Item, item_of};
 
     ghost Value = { List Item };
 
@@ -53,7 +53,7 @@ pub struct RecGroups<'a> {
 
 impl<'a> Model for RecGroups<'a> {
     ghost use Rattle.std.specs.Prelude.{List, map};
-    ghost use Rattle.walrus_type_index.specs.walrus_items.Items.{Group, group_of};
+    ghost use Rattle.walrus_type_arenas.specs.walrus_type_index.walrus_items.Items.{Group, group_of};
 
     ghost Value = { List Group };
 

@@ -1,15 +1,15 @@
 //! Laws of the words that the contracts of this crate cite. Each function is its contract alone.
 ghost use Rattle.std.specs.Prelude.{◌≡◌, ℕ, Bool};
-ghost use Rattle.walrus_type_index.specs.walrus_items.Items.{Item, kind_of};
-ghost use Rattle.walrus_types.specs.TypeLaws.{AreGrouped, FindsLatest};
+ghost use Rattle.walrus_type_arenas.specs.walrus_type_index.walrus_items.Items.{Item, kind_of};
+ghost use Rattle.walrus_type_arenas.specs.TypeLaws.{AreGrouped, FindsLatest};
 ghost use Rattle.walrus_types.specs.Mergers.{ParsingCarriesSame, SameIsOne};
-ghost use Rattle.walrus_type_index.specs.walrus_items.walrus_forms.Same.{same_kind};
-ghost use Rattle.walrus_type_index.specs.walrus_items.walrus_forms.Order.{kind_cmp};
-ghost use Rattle.walrus_type_index.specs.walrus_items.contracts.subtype.TypeOrd.TheImpl.{ghosts as type_ord};
-ghost use Rattle.walrus_type_index.specs.walrus_items.contracts.subtype.TypePartialEq.TheImpl.{ghosts as type_eq};
+ghost use Rattle.walrus_type_arenas.specs.walrus_type_index.walrus_items.walrus_forms.Same.{same_kind};
+ghost use Rattle.walrus_type_arenas.specs.walrus_type_index.walrus_items.walrus_forms.Order.{kind_cmp};
+ghost use Rattle.walrus_type_arenas.specs.walrus_type_index.walrus_items.contracts.subtype.TypeOrd.TheImpl.{ghosts as type_ord};
+ghost use Rattle.walrus_type_arenas.specs.walrus_type_index.walrus_items.contracts.subtype.TypePartialEq.TheImpl.{ghosts as type_eq};
 
 use crate::table::ModuleTypes;
-use walrus_type_index::items::Type;
+use walrus_type_arenas::type_index::items::Type;
 
 /// Two types are equal exactly where their form, finality, supertype and entry mark are.
 pub fn equal_types_are_of_one_kind(a: &Type, b: &Type)

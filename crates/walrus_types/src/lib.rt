@@ -2,16 +2,13 @@
 #![tactic(auto)]
 
 mod copies;
-mod delete;
 mod emit;
 mod error;
 mod group;
-mod index;
 mod iter;
 pub mod laws;
 mod pair;
 mod parse;
-mod rank;
 mod table;
 
 pub use emit::{EmittedTypes, TypeIndices};
@@ -19,16 +16,16 @@ pub use error::IrError;
 pub use group::NewType;
 pub use iter::{RecGroups, Types};
 pub use table::ModuleTypes;
-pub use walrus_type_index::forms::{
+pub use walrus_type_arenas::type_index::forms::{
     AbstractHeapType, ArrayType, CompositeRecord, CompositeType, FieldRecord, FieldType,
     FunctionType, GroupRecord, HeapRecord, HeapType, RefRecord, RefType, StorageRecord,
     StorageType, StructType, TypeRecord, ValRecord, ValType,
 };
-pub use walrus_type_index::items::{Local, ModuleLocals, RecGroup, Type};
+pub use walrus_type_arenas::type_index::items::{Local, ModuleLocals, RecGroup, Type};
 
 // Passed on to crates above, which then list this one alone.
 pub mod arena {
-    pub use walrus_type_index::arena::{
+    pub use walrus_type_arenas::type_index::arena::{
         DataId, ElementId, FunctionId, GlobalId, InstrSeqId, LocalId, MemoryId, TableId, TagId,
         TypeId,
     };

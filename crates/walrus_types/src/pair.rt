@@ -1,19 +1,18 @@
 //! Adding a function type and the type of its body's own block, both or neither.
 ghost use Rattle.std.specs.Prelude.{◌≡◌, true, false, IfOk, OnErr, None};
-ghost use Rattle.walrus_type_index.specs.walrus_items.walrus_forms.Forms.{form_of};
-ghost use Rattle.walrus_type_index.specs.walrus_items.walrus_forms.Kinds.{function_kind, entry_kind, declared_kind};
-ghost use Rattle.walrus_type_index.specs.walrus_items.Items.{kind_of};
-ghost use Rattle.walrus_types.specs.Table.{next_id, equal_type};
+ghost use Rattle.walrus_type_arenas.specs.walrus_type_index.walrus_items.walrus_forms.Forms.{form_of};
+ghost use Rattle.walrus_type_arenas.specs.walrus_type_index.walrus_items.walrus_forms.Kinds.{function_kind, entry_kind, declared_kind};
+ghost use Rattle.walrus_type_arenas.specs.walrus_type_index.walrus_items.Items.{kind_of};
+ghost use Rattle.walrus_type_arenas.specs.Table.{next_id, equal_type};
 ghost use Rattle.walrus_types.specs.Pairs.{MergesBoth};
 
-use crate::group::{Single, push_single, reserve_singles};
-use crate::index::look_up;
 use crate::table::ModuleTypes;
 use std::alloc::AllocError;
-use walrus_type_index::arena::TypeId;
-use walrus_type_index::forms::{CompositeType, FunctionType, ValType};
-use walrus_type_index::items::Type;
-use walrus_type_index::settle;
+use walrus_type_arenas::type_index::arena::TypeId;
+use walrus_type_arenas::type_index::forms::{CompositeType, FunctionType, ValType};
+use walrus_type_arenas::type_index::items::Type;
+use walrus_type_arenas::type_index::settle;
+use walrus_type_arenas::{Single, look_up, push_single, reserve_singles};
 
 impl ModuleTypes {
     /// The ids of the final function type without supertype of these parameters and results, and of the

@@ -2,31 +2,35 @@
 ghost use Rattle.std.specs.Prelude.{◌≡◌, ◌↔◌, ◌+◌, ◌<◌, ◌^◌, length, ℕ, true, not, Contains, [], map, IfOk, IfErr, OnOk, OnErr, IfSome, MatchOption, IsTrue, Some, None};
 ghost use Rattle.std.specs.Bool.{OnTrue, OnFalse};
 ghost use Rattle.std.specs.Borrow.{sem};
-ghost use Rattle.walrus_type_index.specs.walrus_items.walrus_forms.Forms.{form_of, params_of, results_of};
-ghost use Rattle.walrus_type_index.specs.walrus_items.walrus_forms.Kinds.{function_kind, entry_kind, struct_kind, array_kind, declared_kind};
-ghost use Rattle.walrus_type_index.specs.walrus_items.Items.{Group, item_of, group_of};
-ghost use Rattle.walrus_types.specs.Table.{next_id, type_at, IsLive, IsFunctionType, found_type, named_type, entries, Merges, HasMember, Deletes, DeletesAll, DeletesGroup, group_at, is_named_in, marked};
-ghost use Rattle.walrus_type_index.specs.walrus_items.walrus_arena.Arena.{entries_from};
+ghost use Rattle.walrus_type_arenas.specs.walrus_type_index.walrus_items.walrus_forms.Forms.{form_of, params_of, results_of};
+ghost use Rattle.walrus_type_arenas.specs.walrus_type_index.walrus_items.walrus_forms.Kinds.{function_kind, entry_kind, struct_kind, array_kind, declared_kind};
+ghost use Rattle.walrus_type_arenas.specs.walrus_type_index.walrus_items.Items.{Group, item_of, group_of};
+ghost use Rattle.walrus_type_arenas.specs.Table.{next_id, type_at, IsLive, IsFunctionType, found_type, named_type, entries, Merges, HasMember, Deletes, DeletesAll, DeletesGroup, group_at, is_named_in, marked};
+ghost use Rattle.walrus_type_arenas.specs.walrus_type_index.walrus_items.walrus_arena.Arena.{entries_from};
 ghost use Rattle.std.specs.Fn.{FnOnceTakesAt, FnOnceReturnsAt};
 ghost use Rattle.std.specs.List.{range_with_len};
-ghost use Rattle.walrus_types.specs.Groups.{AddsGroup, IsBuilt, IsCause, member_kind};
-ghost use Rattle.walrus_types.specs.TypeLaws.{AreGrouped};
+ghost use Rattle.walrus_type_arenas.specs.Groups.{AddsGroup, IsBuilt, IsCause, member_kind};
+ghost use Rattle.walrus_type_arenas.specs.TypeLaws.{AreGrouped};
 ghost use Rattle.walrus_types.specs.TableLends.{lends_type};
 
-use crate::delete::{clear_each, clear_marked, home_of, leave_group, members_name, sweep};
 use crate::error::IrError;
-use crate::group::{NewType, Single, ids_from, push_single, push_types, reserve_singles, types_of};
-use crate::index::{later, lent_function, look_up};
+use crate::group::NewType;
 use crate::iter::{RecGroups, Types};
 use std::alloc::{AllocError, Global};
 use std::marker::Model;
 use std::mem;
-use walrus_type_index::arena::{RecGroupId, RecGroupSpace, TombstoneArena, TypeId, TypeSpace};
-use walrus_type_index::forms::{
+use walrus_type_arenas::type_index::arena::{
+    RecGroupId, RecGroupSpace, TombstoneArena, TypeId, TypeSpace,
+};
+use walrus_type_arenas::type_index::forms::{
     ArrayType, CompositeType, FieldType, FunctionType, StructType, ValType,
 };
-use walrus_type_index::items::{RecGroup, Type};
-use walrus_type_index::{Spare, Target, Tree, lend, settle};
+use walrus_type_arenas::type_index::items::{RecGroup, Type};
+use walrus_type_arenas::type_index::{Spare, Tree, lend, settle};
+use walrus_type_arenas::{
+    Single, append_counted, append_members, clear_each, clear_marked, found_function, home_of,
+    ids_from, leave_group, look_up, members_name, push_single, reserve_singles, sweep,
+};
 
 /// The types of a module by id, each in one recursion group.
 ///
@@ -46,8 +50,8 @@ pub struct ModuleTypes {
 }
 
 impl Model for ModuleTypes {
-    ghost use Rattle.walrus_type_index.specs.Places.{kinds_in};
-    ghost use Rattle.walrus_types.specs.Table.{Table, table_of, IsSound};
+    ghost use Rattle.walrus_type_arenas.specs.walrus_type_index.Places.{kinds_in};
+    ghost use Rattle.walrus_type_arenas.specs.Table.{Table, table_of, IsSound};
 
     ghost Value = { Table };
 
@@ -242,12 +246,7 @@ impl ModuleTypes {
     pub fn find(&self, params: &[ValType], results: &[ValType]) -> Option<TypeId>
         ensures { result ≡ found_type params.now results.now self.now }
     {
-        let target = Target::Function(params, results);
-        let plain = self.index.latest(&self.types, target, false);
-        let own = self.index.latest(&self.types, target, true);
-        let found = later(plain, own);
-        let lent = lent_function(&self.lent, &self.types, params, results);
-        later(found, lent)
+        found_function(&self.index, &self.lent, &self.types, params, results)
     }
 
     /// The live types, by rising id.
@@ -379,10 +378,16 @@ impl ModuleTypes {
         }
         let ids = ids_from(self.alloc, first, count)?;
         let members = build(ids.as_slice())?;
-        if members.len() != count {
-            return Err(IrError::WrongCount);
-        }
-        self.append_group(true, members)?;
+        settle(&mut self.index, &mut self.lent, &self.types);
+        append_counted(
+            self.alloc,
+            &mut self.types,
+            &mut self.groups,
+            &mut self.homes,
+            &mut self.index,
+            count,
+            members,
+        )?;
         Ok(ids)
     }
 
@@ -396,25 +401,15 @@ impl ModuleTypes {
         ensures added { OnOk result (AddsGroup explicit (map member_kind members.items) self.old self.new) }
         ensures refused { OnErr result (self.new ≡ self.old) }
     {
-        let count = members.len();
-        if count == 0 {
-            return Ok(());
-        }
-        let first = self.types.next_id();
-        let ids = ids_from(self.alloc, first, count)?;
-        let types = types_of(self.alloc, first, members)?;
-        self.types.reserve(count)?;
-        self.homes.reserve(count)?;
-        self.groups.reserve(1)?;
         settle(&mut self.index, &mut self.lent, &self.types);
-        let home = self.groups.alloc_reserved(RecGroup::new(explicit, ids));
-        push_types(
+        append_members(
+            self.alloc,
             &mut self.types,
+            &mut self.groups,
             &mut self.homes,
             &mut self.index,
-            types,
-            home,
-        );
-        Ok(())
+            explicit,
+            members,
+        )
     }
 }

@@ -1,4 +1,4 @@
-use Rattle.walrus_type_index.proofs.OrderLemmas.{type_ord-kinds}
+use Rattle.walrus_type_arenas.proofs.walrus_type_index.OrderLemmas.{type_ord-kinds}
 use Rattle.walrus_types.proofs.laws.types_are_ordered_by_kind.Goals as goal
 
 pub returns : goal.returns

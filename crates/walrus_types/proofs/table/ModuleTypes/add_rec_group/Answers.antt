@@ -1,13 +1,22 @@
-use Rattle.std.proofs.Common.{◌∙◌, ℕ, inr, ap, sym}
+use Rattle.std.proofs.Common.{◌≡◌, ◌∙◌, ℕ, Vec, Global, Result, Ok, map, ap, subst, true}
+use Rattle.std.specs.Fn.{FnOnceReturnsAt}
 use Rattle.std.specs.List.{range_with_len}
-use Rattle.walrus_types.proofs.GroupLemmas.{next-seen}
+use Rattle.std.proofs.lemmas.Result.{err_from_is_err_and}
+use Rattle.walrus_type_arenas.specs.declared.error.IrError.{IrError}
+use Rattle.walrus_type_arenas.specs.declared.group.NewType.{NewType}
+use Rattle.walrus_type_arenas.specs.Groups.{AddsGroup, member_kind}
+use Rattle.walrus_type_arenas.specs.Table.{Table, next_id, table_of}
+use Rattle.walrus_type_arenas.proofs.GroupLemmas.{next-seen}
+use Rattle.walrus_types.proofs.CauseLemmas.{cause-of}
 use Rattle.walrus_types.proofs.table.ModuleTypes.add_rec_group.Goals as goal
 
-pub returns-then-len-count-clause-cause : goal.returns-then-len-count-clause-cause
-returns-then-len-count-clause-cause g c =
+pub returns-in_err-append_counted-clause-cause : goal.returns-in_err-append_counted-clause-cause
+returns-in_err-append_counted-clause-cause g c =
     let next = next-seen c.self.inside.types.slots c.self.inside.groups.slots c.next_id-first.result c.args.self.now c.self.view_is c.next_id-first.ensures in
     let shown = c.as_slice.ensures.value ∙ c.in_ok-ids.ensures ∙ ap (λ (n : ℕ). range_with_len n c.args.count) next in
-    inr (c.in_ok-members.members, (c.as_slice.result, c.in_ok-members.ensures, shown), λ same. c.if-len-count.true (c.len.ensures ∙ c.in_ok-members.members.ok.0 ∙ same))
+    let p = err_from_is_err_and c.from_residual-in_err-append_counted.result c.from_residual-in_err-append_counted.ensures.1 in
+    rw (p.1, p.2) (cause-of (λ (made : Result (Vec NewType Global) IrError). made ≡ Ok c.in_ok-members.members) (FnOnceReturnsAt g.F.FnOnce c.args.build (range_with_len (next_id c.args.self.now) c.args.count)) c.args.count c.in_err-append_counted.field-0.0
+    (λ made e. rw e (c.as_slice.result, c.in_ok-members.ensures, shown)) c.in_err-append_counted.ensures.cause)
 
 pub returns-clause-added : goal.returns-clause-added
 returns-clause-added g c =
@@ -16,6 +25,7 @@ returns-clause-added g c =
     record {
       members = c.in_ok-members.members;
       returned = (c.as_slice.result, c.in_ok-members.ensures, shown);
-      counted = sym c.in_ok-members.members.ok.0 ∙ sym c.len.ensures ∙ c.if-len-count.false;
-      added = c.in_ok-append_group.ensures.added;
+      counted = c.in_ok-append_counted.ensures.counted;
+      added = subst (λ (t : Table). AddsGroup true (map member_kind c.in_ok-members.members.items) t (table_of c.append_counted.new.types.slots c.append_counted.new.groups.slots))
+          c.self.view_is c.in_ok-append_counted.ensures.added;
     }

@@ -1,13 +1,13 @@
 use Rattle.std.proofs.Common.{◌≡◌, ◌∙◌, ℕ, ◌+◌, false, List, [], ◌∷◌, ◌++◌, Option, Some, length, length-append, arith, refl, ap, sym, subst}
 use Rattle.std.specs.Option.{option_map}
 use Rattle.std.proofs.lemmas.List.{length-map}
-use Rattle.walrus_type_index.specs.walrus_items.walrus_forms.Kinds.{Kind}
-use Rattle.walrus_type_index.specs.walrus_items.Items.{Group, group_of, item_of, kind_of}
-use Rattle.walrus_type_index.specs.walrus_items.declared.subtype.RecGroup.{RecGroup}
-use Rattle.walrus_type_index.specs.walrus_items.declared.subtype.Type.{«Type» as TypeItem}
-use Rattle.walrus_type_index.specs.Places.{kinds_in}
-use Rattle.walrus_type_index.specs.Ordered.{IsOrdered}
-use Rattle.walrus_types.specs.Table.{Merges, next_id, table_of}
+use Rattle.walrus_type_arenas.specs.walrus_type_index.walrus_items.walrus_forms.Kinds.{Kind}
+use Rattle.walrus_type_arenas.specs.walrus_type_index.walrus_items.Items.{Group, group_of, item_of, kind_of}
+use Rattle.walrus_type_arenas.specs.walrus_type_index.walrus_items.declared.subtype.RecGroup.{RecGroup}
+use Rattle.walrus_type_arenas.specs.walrus_type_index.walrus_items.declared.subtype.Type.{«Type» as TypeItem}
+use Rattle.walrus_type_arenas.specs.walrus_type_index.Places.{kinds_in}
+use Rattle.walrus_type_arenas.specs.walrus_type_index.Ordered.{IsOrdered}
+use Rattle.walrus_type_arenas.specs.Table.{Merges, next_id, table_of}
 use Rattle.walrus_types.proofs.PairLemmas.{type-pushed, new-merges, found-merges}
 use Rattle.walrus_types.proofs.table.ModuleTypes.add_then_entry.Goals as goal
 

@@ -1,6 +1,6 @@
 use Rattle.std.proofs.Common.{◌∙◌, ℕ, List, find, ap}
-use Rattle.walrus_type_index.specs.walrus_items.Items.{Item, has_name}
-use Rattle.walrus_types.proofs.TableLemmas.{entries-seen}
+use Rattle.walrus_type_arenas.specs.walrus_type_index.walrus_items.Items.{Item, has_name}
+use Rattle.walrus_type_arenas.proofs.TableLemmas.{entries-seen}
 use Rattle.walrus_types.proofs.table.ModuleTypes.by_name.Goals as goal
 
 pub loop-id-init : goal.loop-id-init

@@ -1,7 +1,7 @@
 use Rattle.std.proofs.Common.{◌≡◌, ℕ, map, find}
-use Rattle.walrus_type_index.specs.walrus_items.declared.subtype.Type.{«Type» as TypeItem}
-use Rattle.walrus_type_index.specs.walrus_items.Items.{Item, item_of, has_name}
-use Rattle.walrus_types.specs.Table.{entries}
+use Rattle.walrus_type_arenas.specs.walrus_type_index.walrus_items.declared.subtype.Type.{«Type» as TypeItem}
+use Rattle.walrus_type_arenas.specs.walrus_type_index.walrus_items.Items.{Item, item_of, has_name}
+use Rattle.walrus_type_arenas.specs.Table.{entries}
 use Rattle.walrus_types.proofs.table.ModuleTypes.by_name.Given as goal
 
 abbrev pub invariant-loop-id : goal.invariant-loop-id

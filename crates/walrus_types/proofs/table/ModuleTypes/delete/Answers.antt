@@ -1,7 +1,7 @@
 use Rattle.std.proofs.Common.{◌∙◌, ap, sym, slice_index, slice_index_or, None}
-use Rattle.walrus_types.proofs.TableLemmas.{held}
-use Rattle.walrus_types.proofs.IndexLemmas.{lives-seen, lent-dead}
-use Rattle.walrus_types.proofs.DeleteLemmas.{live-inside, home-live, deletes, deletes-grouped}
+use Rattle.walrus_type_arenas.proofs.TableLemmas.{held}
+use Rattle.walrus_type_arenas.proofs.IndexLemmas.{lives-seen, lent-dead}
+use Rattle.walrus_type_arenas.proofs.DeleteLemmas.{live-inside, home-live, deletes, deletes-grouped}
 use Rattle.walrus_types.proofs.table.ModuleTypes.delete.Goals as goal
 
 pub leave_group-requires : goal.leave_group-requires

@@ -1,11 +1,11 @@
-use Rattle.walrus_type_index.specs.Places.{kinds_in}
-use Rattle.walrus_type_index.specs.Ordered.{IsOrdered}
+use Rattle.walrus_type_arenas.specs.walrus_type_index.Places.{kinds_in}
+use Rattle.walrus_type_arenas.specs.walrus_type_index.Ordered.{IsOrdered}
 use Rattle.std.proofs.Common.{Option, subst, ℕ, List, map, ◌∙◌, ap, sym, slice_index}
 use Rattle.std.specs.Option.{option_map}
 use Rattle.std.proofs.lemmas.List.{set-set}
-use Rattle.walrus_type_index.specs.walrus_items.Items.{item_of}
-use Rattle.walrus_types.specs.Table.{clear_all}
-use Rattle.walrus_types.proofs.DeleteLemmas.{live-inside, home-live, deletes-group, deletes-group-grouped}
+use Rattle.walrus_type_arenas.specs.walrus_type_index.walrus_items.Items.{item_of}
+use Rattle.walrus_type_arenas.specs.Table.{clear_all}
+use Rattle.walrus_type_arenas.proofs.DeleteLemmas.{live-inside, home-live, deletes-group, deletes-group-grouped}
 use Rattle.walrus_types.proofs.table.ModuleTypes.delete_entire_group.Goals as goal
 
 pub index_mut-group-requires : goal.index_mut-group-requires

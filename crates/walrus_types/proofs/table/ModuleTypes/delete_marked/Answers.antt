@@ -1,11 +1,11 @@
 use Rattle.std.proofs.Common.{Option, ℕ, List, map, ◌∙◌, ap, sym, subst}
 use Rattle.std.specs.Option.{option_map, option_and_then}
-use Rattle.walrus_type_index.specs.Places.{kinds_in}
-use Rattle.walrus_type_index.specs.Ordered.{IsOrdered}
-use Rattle.walrus_type_index.specs.walrus_items.Items.{Item, item_of, group_of}
-use Rattle.walrus_types.specs.Table.{Table, clear_all, marked, with_live}
-use Rattle.walrus_types.proofs.MarkLemmas.{groups-left}
-use Rattle.walrus_types.proofs.SweepLemmas.{grouped-swept}
+use Rattle.walrus_type_arenas.specs.walrus_type_index.Places.{kinds_in}
+use Rattle.walrus_type_arenas.specs.walrus_type_index.Ordered.{IsOrdered}
+use Rattle.walrus_type_arenas.specs.walrus_type_index.walrus_items.Items.{Item, item_of, group_of}
+use Rattle.walrus_type_arenas.specs.Table.{Table, clear_all, marked, with_live}
+use Rattle.walrus_type_arenas.proofs.MarkLemmas.{groups-left}
+use Rattle.walrus_type_arenas.proofs.SweepLemmas.{grouped-swept}
 use Rattle.walrus_types.proofs.table.ModuleTypes.delete_marked.Goals as goal
 
 pub invariant_of-self : goal.invariant_of-self

@@ -1,17 +1,17 @@
 use Rattle.std.proofs.Common.{◌≡◌, ◌∙◌, ℕ, [], List, Bor, Vec, Global, Result, IfOk, IfErr, None, Some, length, map, refl, sym, ap, subst}
-use Rattle.walrus_type_index.specs.walrus_items.walrus_forms.Records.{TypeGroup, type_group}
-use Rattle.walrus_type_index.specs.walrus_items.walrus_forms.declared.record.GroupRecord.{GroupRecord}
-use Rattle.walrus_type_index.specs.walrus_items.declared.subtype.RecGroup.{RecGroup}
-use Rattle.walrus_type_index.specs.walrus_items.Items.{group_of}
-use Rattle.walrus_types.specs.declared.error.IrError.{IrError}
-use Rattle.walrus_types.specs.Table.{Table, table_of}
-use Rattle.walrus_types.specs.Emission.{IsEmission, IsRefusal, index_at, groups_fault, described_group, written_types}
+use Rattle.walrus_type_arenas.specs.walrus_type_index.walrus_items.walrus_forms.Records.{TypeGroup, type_group}
+use Rattle.walrus_type_arenas.specs.walrus_type_index.walrus_items.walrus_forms.declared.record.GroupRecord.{GroupRecord}
+use Rattle.walrus_type_arenas.specs.walrus_type_index.walrus_items.declared.subtype.RecGroup.{RecGroup}
+use Rattle.walrus_type_arenas.specs.walrus_type_index.walrus_items.Items.{group_of}
+use Rattle.walrus_type_arenas.specs.declared.error.IrError.{IrError}
+use Rattle.walrus_type_arenas.specs.Table.{Table, table_of}
+use Rattle.walrus_type_arenas.specs.Emission.{IsEmission, IsRefusal, index_at, groups_fault, described_group, written_types}
 use Rattle.walrus_types.specs.Inverse.{AreInverse}
 use Rattle.walrus_types.specs.Mergers.{entries_of}
 use Rattle.walrus_types.specs.Parsing.{AreBelow}
 use Rattle.walrus_types.proofs.BelowLemmas.{groups-below}
-use Rattle.walrus_types.proofs.EmitLemmas.{shown-groups, arranged-by, fault-by, described-by, below-by, fault-refuses}
-use Rattle.walrus_types.proofs.LawLemmas.{grouped-law}
+use Rattle.walrus_type_arenas.proofs.EmitLemmas.{shown-groups, arranged-by, fault-by, described-by, below-by, fault-refuses}
+use Rattle.walrus_type_arenas.proofs.LawLemmas.{grouped-law}
 use Rattle.walrus_types.proofs.OnceLemmas.{inverse-law, counted-law}
 use Rattle.walrus_types.proofs.table.ModuleTypes.emit.Goals as goal
 

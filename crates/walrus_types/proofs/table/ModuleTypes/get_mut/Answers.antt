@@ -1,13 +1,13 @@
 use Rattle.std.proofs.Common.{◌∙◌, ℕ, Option, Some, List, map, slice_set, ap, sym, subst, refl}
 use Rattle.std.specs.Option.{option_map}
 use Rattle.std.proofs.lemmas.List.{map-set}
-use Rattle.walrus_type_index.specs.walrus_items.Items.{Item, item_of, group_of}
-use Rattle.walrus_type_index.specs.Ordered.{IsOrdered}
-use Rattle.walrus_type_index.specs.Places.{kinds_in}
-use Rattle.walrus_types.specs.Table.{Table}
-use Rattle.walrus_types.proofs.TableLemmas.{grouped-written, at-map}
-use Rattle.walrus_types.proofs.DeleteLemmas.{live-inside}
-use Rattle.walrus_types.proofs.IndexLemmas.{lives-seen, lent-written}
+use Rattle.walrus_type_arenas.specs.walrus_type_index.walrus_items.Items.{Item, item_of, group_of}
+use Rattle.walrus_type_arenas.specs.walrus_type_index.Ordered.{IsOrdered}
+use Rattle.walrus_type_arenas.specs.walrus_type_index.Places.{kinds_in}
+use Rattle.walrus_type_arenas.specs.Table.{Table}
+use Rattle.walrus_type_arenas.proofs.TableLemmas.{grouped-written, at-map}
+use Rattle.walrus_type_arenas.proofs.DeleteLemmas.{live-inside}
+use Rattle.walrus_type_arenas.proofs.IndexLemmas.{lives-seen, lent-written}
 use Rattle.walrus_types.proofs.table.ModuleTypes.get_mut.Goals as goal
 
 pub lend-requires-clause-lives : goal.lend-requires-clause-lives

@@ -1,9 +1,9 @@
 use Rattle.std.proofs.Common.{◌≡◌, ◌∙◌, ℕ, List, [], ◌∷◌, ◌++◌, Some, Option, length, ap, sym, subst, false}
-use Rattle.walrus_type_index.specs.walrus_items.Items.{Group}
-use Rattle.walrus_type_index.specs.walrus_items.declared.subtype.RecGroup.{RecGroup}
-use Rattle.walrus_type_index.specs.walrus_items.declared.subtype.Type.{«Type» as TypeItem}
-use Rattle.walrus_type_index.specs.Places.{kinds_in}
-use Rattle.walrus_type_index.specs.Ordered.{IsOrdered}
+use Rattle.walrus_type_arenas.specs.walrus_type_index.walrus_items.Items.{Group}
+use Rattle.walrus_type_arenas.specs.walrus_type_index.walrus_items.declared.subtype.RecGroup.{RecGroup}
+use Rattle.walrus_type_arenas.specs.walrus_type_index.walrus_items.declared.subtype.Type.{«Type» as TypeItem}
+use Rattle.walrus_type_arenas.specs.walrus_type_index.Places.{kinds_in}
+use Rattle.walrus_type_arenas.specs.walrus_type_index.Ordered.{IsOrdered}
 use Rattle.walrus_types.proofs.PairLemmas.{type-pushed}
 use Rattle.walrus_types.proofs.table.ModuleTypes.insert.Goals as goal
 

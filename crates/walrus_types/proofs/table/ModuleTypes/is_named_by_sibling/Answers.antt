@@ -1,7 +1,7 @@
 use Rattle.std.proofs.Common.{◌∙◌, ap}
-use Rattle.walrus_type_index.specs.walrus_items.Items.{Group, group_of}
-use Rattle.walrus_types.specs.Table.{Table, is_named_in}
-use Rattle.walrus_types.proofs.DeleteLemmas.{one-group, member-live}
+use Rattle.walrus_type_arenas.specs.walrus_type_index.walrus_items.Items.{Group, group_of}
+use Rattle.walrus_type_arenas.specs.Table.{Table, is_named_in}
+use Rattle.walrus_type_arenas.proofs.DeleteLemmas.{one-group, member-live}
 use Rattle.walrus_types.proofs.table.ModuleTypes.is_named_by_sibling.Goals as goal
 
 pub returns-in-Some : goal.returns-in-Some

@@ -1,8 +1,8 @@
 use Rattle.std.proofs.Common.{◌∙◌, ℕ, List, map, ap}
-use Rattle.walrus_type_index.specs.walrus_items.declared.subtype.Type.{«Type» as TypeItem}
-use Rattle.walrus_type_index.specs.walrus_items.Items.{Item, item_of}
-use Rattle.walrus_types.specs.Table.{Table, entries}
-use Rattle.walrus_types.proofs.TableLemmas.{items-seen}
+use Rattle.walrus_type_arenas.specs.walrus_type_index.walrus_items.declared.subtype.Type.{«Type» as TypeItem}
+use Rattle.walrus_type_arenas.specs.walrus_type_index.walrus_items.Items.{Item, item_of}
+use Rattle.walrus_type_arenas.specs.Table.{Table, entries}
+use Rattle.walrus_type_arenas.proofs.TableLemmas.{items-seen}
 use Rattle.walrus_types.proofs.table.ModuleTypes.iter.Goals as goal
 
 pub returns : goal.returns

@@ -1,5 +1,5 @@
-use Rattle.walrus_type_index.proofs.OrderedLemmas.{ordered-none}
-use Rattle.walrus_types.proofs.TableLemmas.{grouped-nil}
+use Rattle.walrus_type_arenas.proofs.walrus_type_index.OrderedLemmas.{ordered-none}
+use Rattle.walrus_type_arenas.proofs.TableLemmas.{grouped-nil}
 use Rattle.walrus_types.proofs.table.ModuleTypes.new.Goals as goal
 
 pub invariant_of-result : goal.invariant_of-result

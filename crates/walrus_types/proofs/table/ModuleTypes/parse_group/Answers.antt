@@ -3,12 +3,12 @@ use Rattle.std.specs.List.{range_with_len}
 use Rattle.std.proofs.lemmas.List.{length-map}
 use Rattle.std.proofs.lemmas.List.FromFn.{length-range_with_len}
 use Rattle.std.proofs.lemmas.Result.{on_ok_weaker}
-use Rattle.walrus_type_index.specs.walrus_items.walrus_forms.Kinds.{Kind}
-use Rattle.walrus_type_index.specs.walrus_items.walrus_forms.declared.record.TypeRecord.{TypeRecord}
-use Rattle.walrus_type_index.specs.walrus_items.walrus_forms.Records.{TypeGroup, record_kind}
-use Rattle.walrus_type_index.specs.walrus_items.walrus_forms.Renaming.{KindBelow, renamed_kind, at}
-use Rattle.walrus_types.specs.Groups.{member_kind}
-use Rattle.walrus_types.specs.Table.{next_id}
+use Rattle.walrus_type_arenas.specs.walrus_type_index.walrus_items.walrus_forms.Kinds.{Kind}
+use Rattle.walrus_type_arenas.specs.walrus_type_index.walrus_items.walrus_forms.declared.record.TypeRecord.{TypeRecord}
+use Rattle.walrus_type_arenas.specs.walrus_type_index.walrus_items.walrus_forms.Records.{TypeGroup, record_kind}
+use Rattle.walrus_type_arenas.specs.walrus_type_index.walrus_items.walrus_forms.Renaming.{KindBelow, renamed_kind, at}
+use Rattle.walrus_type_arenas.specs.Groups.{member_kind}
+use Rattle.walrus_type_arenas.specs.Table.{next_id}
 use Rattle.walrus_types.specs.Parsing.{Parsed, parsed_group}
 use Rattle.walrus_types.proofs.ParseLemmas.{single-group, group-parsed}
 use Rattle.walrus_types.proofs.table.ModuleTypes.parse_group.Goals as goal

@@ -1,5 +1,5 @@
 use Rattle.std.proofs.Common.{◌≡◌, ◌∙◌, ℕ, ◌+◌, length, map, take, drop, List, ap, sym, subst}
-use Rattle.walrus_type_index.specs.walrus_items.walrus_forms.Records.{type_group}
+use Rattle.walrus_type_arenas.specs.walrus_type_index.walrus_items.walrus_forms.Records.{type_group}
 use Rattle.walrus_types.specs.Parsing.{Parsed, parsed, parsed_group, unparsed, AreBelow}
 use Rattle.walrus_types.proofs.ParseLemmas.{states-same, parsed-more, next-below, group-sized, part-of, on_err}
 use Rattle.walrus_types.proofs.table.ModuleTypes.parse_types.Goals as goal

@@ -1,5 +1,5 @@
 use Rattle.std.proofs.Common.{◌≡◌, map, take, drop, length}
-use Rattle.walrus_type_index.specs.walrus_items.walrus_forms.Records.{type_group}
+use Rattle.walrus_type_arenas.specs.walrus_type_index.walrus_items.walrus_forms.Records.{type_group}
 use Rattle.walrus_types.specs.Parsing.{parsed, unparsed, AreBelow}
 use Rattle.walrus_types.proofs.table.ModuleTypes.parse_types.Given as goal
 

@@ -1,7 +1,7 @@
 use Rattle.std.proofs.Common.{◌≡◌, ◌∙◌, ap, None, slice_index, slice_index_or}
 use Rattle.std.proofs.lemmas.Grind.{get_or_default_zero}
-use Rattle.walrus_types.specs.Table.{type_at, HasMember}
-use Rattle.walrus_types.proofs.TableLemmas.{home-lists, match-group}
+use Rattle.walrus_type_arenas.specs.Table.{type_at, HasMember}
+use Rattle.walrus_type_arenas.proofs.TableLemmas.{home-lists, match-group}
 use Rattle.walrus_types.proofs.table.ModuleTypes.rec_group_for_type.Goals as goal
 
 pub returns : goal.returns

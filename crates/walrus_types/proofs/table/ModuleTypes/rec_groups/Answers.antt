@@ -1,10 +1,10 @@
 use Rattle.std.proofs.Common.{◌∙◌, ℕ, List, map, ap}
-use Rattle.walrus_type_index.specs.walrus_items.walrus_arena.Arena.{entries_from}
-use Rattle.walrus_type_index.specs.walrus_items.declared.subtype.RecGroup.{RecGroup}
-use Rattle.walrus_type_index.specs.walrus_items.Items.{Group, group_of}
-use Rattle.walrus_types.specs.Table.{Table}
-use Rattle.walrus_types.proofs.LawLemmas.{grouped-law}
-use Rattle.walrus_types.proofs.TableLemmas.{items-seen}
+use Rattle.walrus_type_arenas.specs.walrus_type_index.walrus_items.walrus_arena.Arena.{entries_from}
+use Rattle.walrus_type_arenas.specs.walrus_type_index.walrus_items.declared.subtype.RecGroup.{RecGroup}
+use Rattle.walrus_type_arenas.specs.walrus_type_index.walrus_items.Items.{Group, group_of}
+use Rattle.walrus_type_arenas.specs.Table.{Table}
+use Rattle.walrus_type_arenas.proofs.LawLemmas.{grouped-law}
+use Rattle.walrus_type_arenas.proofs.TableLemmas.{items-seen}
 use Rattle.walrus_types.proofs.table.ModuleTypes.rec_groups.Goals as goal
 
 pub returns-clause-grouped : goal.returns-clause-grouped

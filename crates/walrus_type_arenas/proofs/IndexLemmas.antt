@@ -1,0 +1,84 @@
+-- What a table's index knows, through the lists of the code.
+use Rattle.std.proofs.Common.{◌≡◌, ◌∙◌, ℕ, Bool, cond, not, List, [], ◌∷◌, ◌++◌, length, Option, Some, None, true, false, ◌==◌, slice_index_or, slice_set, IsSome, filter, refl, subst, sym, ap, arith, ⊎_elim, length-append}
+use Rattle.std.specs.Option.{option_map}
+use Rattle.std.specs.Prelude.{is_some}
+use Rattle.walrus_type_index.specs.walrus_items.declared.subtype.Type.{«Type» as TypeItem}
+use Rattle.walrus_type_index.specs.walrus_items.Items.{kind_of}
+use Rattle.walrus_type_index.specs.declared.node.Hashed.{Hashed}
+use Rattle.walrus_type_index.specs.Places.{kinds_in}
+use Rattle.walrus_type_index.specs.Ordered.{IsOrdered, is_marked, lives_at}
+use Rattle.walrus_type_index.proofs.OrderedLemmas.{ordered-written, ordered-dead, ordered-swept, ordered-new}
+use Rattle.walrus_type_index.specs.walrus_items.walrus_forms.Kinds.{Kind}
+use Rattle.walrus_type_arenas.proofs.MarkLemmas.{IsCleared}
+use Rattle.walrus_type_arenas.proofs.TableLemmas.{at-map}
+use Rattle.walrus_type_index.proofs.walrus_forms.walrus_arena.ArenaLemmas.{at-kept, at-last, at-other, live-within}
+use Rattle.std.proofs.lemmas.List.{get_or-set_same, get_or_past}
+use Rattle.std.proofs.lemmas.Bool.{eq-eqb, false≢true, cases_lt}
+
+some-kind : (slot : Option TypeItem) → IsSome slot → is_some (option_map kind_of slot) ≡ true
+some-kind None live = live
+some-kind (Some ty) live = refl
+
+-- a live type, as the index sees it
+pub lives-seen : (slots : List (Option TypeItem)) (id : ℕ) → IsSome (slice_index_or slots id None) → lives_at (kinds_in slots) id ≡ true
+lives-seen slots id live = ap is_some (at-map kind_of slots id) ∙ some-kind (slice_index_or slots id None) live
+
+-- the kinds at ids at which slots agree
+kinds-agree : (slots more : List (Option TypeItem)) (y : ℕ) → slice_index_or slots y None ≡ slice_index_or more y None
+    → slice_index_or (kinds_in slots) y None ≡ slice_index_or (kinds_in more) y None
+kinds-agree slots more y same = at-map kind_of slots y ∙ ap (option_map kind_of) same ∙ sym (at-map kind_of more y)
+
+-- the kinds apart from a slot that is set
+kinds-apart : (slots : List (Option TypeItem)) (slot : Option TypeItem) (id y : ℕ) → (id == y) ≡ false
+    → slice_index_or (kinds_in slots) y None ≡ slice_index_or (kinds_in (slice_set slots id slot)) y None
+kinds-apart slots slot id y apart =
+    kinds-agree slots (slice_set slots id slot) y (sym (at-other slots slot id y (λ e. false≢true (sym apart ∙ eq-eqb id y (sym e)))))
+
+-- a lent type changes
+pub lent-written : (slots : List (Option TypeItem)) (index : List Hashed) (id : ℕ) (old new : TypeItem) → slice_index_or slots id None ≡ Some old
+    → IsOrdered (Some id) index (kinds_in slots) → IsOrdered (Some id) index (kinds_in (slice_set slots id (Some new)))
+lent-written slots index id old new at o =
+    ordered-written id index (kinds_in slots) (kinds_in (slice_set slots id (Some new))) o (kinds-apart slots (Some new) id)
+    (ap is_some (at-map kind_of (slice_set slots id (Some new)) id ∙ ap (option_map kind_of) (get_or-set_same slots id (Some new) None (live-within slots id old at))))
+
+-- a type that is out of the index is deleted
+pub lent-dead : (slots : List (Option TypeItem)) (index : List Hashed) (id : ℕ) (old : TypeItem) → slice_index_or slots id None ≡ Some old
+    → IsOrdered (Some id) index (kinds_in slots) → IsOrdered None index (kinds_in (slice_set slots id None))
+lent-dead slots index id old at o =
+    ordered-dead id index (kinds_in slots) (kinds_in (slice_set slots id None)) o (kinds-apart slots None id)
+    (ap is_some (at-map kind_of (slice_set slots id None) id ∙ ap (option_map kind_of) (get_or-set_same slots id None None (live-within slots id old at))))
+
+kind-left : (dies : Bool) (slot : Option TypeItem) → option_map kind_of (cond dies None slot) ≡ cond dies None (option_map kind_of slot)
+kind-left true slot = refl
+kind-left false slot = refl
+
+-- the types of the marked ids died, and these are taken out of the index
+pub swept_order : (old new : List (Option TypeItem)) (marks : List Bool) (index : List Hashed) → IsOrdered None index (kinds_in old) → IsCleared marks old new
+    → IsOrdered None (filter (λ x. not (is_marked marks x.id)) index) (kinds_in new)
+swept_order old new marks index o cleared =
+    ordered-swept (is_marked marks) index (kinds_in old) (kinds_in new) o
+    (λ id. at-map kind_of new id
+    ∙ ap (option_map kind_of) (cleared id)
+    ∙ kind-left (is_marked marks id) (slice_index_or old id None)
+    ∙ ap (λ (k : Option Kind). cond (is_marked marks id) None k) (sym (at-map kind_of old id)))
+
+-- the slots apart from one that is added
+slots-apart : (slots : List (Option TypeItem)) (ty : TypeItem) (y : ℕ) → (length slots == y) ≡ false
+    → slice_index_or slots y None ≡ slice_index_or (slots ++ Some ty ∷ []) y None
+slots-apart slots ty y apart = ⊎_elim
+    (λ less. sym (at-kept slots (Some ty) y less))
+    (λ past. ⊎_elim
+    (λ beyond. get_or_past slots y None past ∙ sym (get_or_past (slots ++ Some ty ∷ []) y None (omega (arith, length-append slots (Some ty ∷ []), beyond))))
+    (λ upto. let here : length slots ≡ y = omega (arith, past, upto) in absurd (false≢true (sym apart ∙ eq-eqb (length slots) y here)))
+    (cases_lt (length slots) y))
+    (cases_lt y (length slots))
+
+-- a type was added, and is yet to be entered
+pub one-born : (slots : List (Option TypeItem)) (ty : TypeItem) (index : List Hashed) (id : ℕ) → id ≡ length slots
+    → IsOrdered None index (kinds_in slots) → IsOrdered (Some id) index (kinds_in (slots ++ Some ty ∷ []))
+one-born slots ty index id is o =
+    subst (λ (k : ℕ). IsOrdered (Some k) index (kinds_in (slots ++ Some ty ∷ []))) (sym is)
+    (ordered-new (length slots) index (kinds_in slots) (kinds_in (slots ++ Some ty ∷ [])) o
+    (ap is_some (at-map kind_of slots (length slots) ∙ ap (option_map kind_of) (get_or_past slots (length slots) None (omega arith))))
+    (λ y apart. kinds-agree slots (slots ++ Some ty ∷ []) y (slots-apart slots ty y apart))
+    (ap is_some (at-map kind_of (slots ++ Some ty ∷ []) (length slots) ∙ ap (option_map kind_of) (at-last slots (Some ty) (length slots) refl))))

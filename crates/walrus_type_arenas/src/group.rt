@@ -1,0 +1,247 @@
+//! Adding recursion groups to a table.
+ghost use Rattle.std.specs.Prelude.{◌≡◌, ◌+◌, ◌<◌, ◌≤◌, ◌^◌, ℕ, List, [], ◌∷◌, ◌++◌, length, map, Some, None, false, IfOk, OnOk, vec_len, vec_capacity, IfErr, OnErr, Ok, true};
+ghost use Rattle.std.specs.List.{range_with_len};
+ghost use Rattle.walrus_type_index.specs.walrus_items.Items.{item_of};
+ghost use Rattle.walrus_type_index.specs.Places.{kinds_in};
+ghost use Rattle.walrus_type_index.specs.Ordered.{IsOrdered};
+ghost use Rattle.walrus_type_arenas.specs.Groups.{new_items, member_kind, AddsGroup, IsCause};
+ghost use Rattle.walrus_type_arenas.specs.Table.{table_of, IsSound};
+
+use crate::error::IrError;
+use std::alloc::{AllocError, Global};
+use walrus_type_index::arena::{RecGroupId, RecGroupSpace, TombstoneArena, TypeId, TypeSpace};
+use walrus_type_index::forms::CompositeType;
+use walrus_type_index::items::{RecGroup, Type};
+use walrus_type_index::{Spare, Tree, enter};
+
+/// What a new member of a recursion group is to be.
+#[derive(Drop)]
+pub struct NewType {
+    pub kind: CompositeType,
+    /// Whether no type has it as supertype.
+    pub is_final: bool,
+    /// The type that it declares to be below.
+    pub supertype: Option<TypeId>,
+}
+
+impl NewType {
+    /// An equal member.
+    ///
+    /// # Errors
+    ///
+    /// Want of memory.
+    pub fn clone(&self) -> Result<Self, AllocError>
+        ensures { IfOk result (λ copy. member_kind copy ≡ member_kind self.now) }
+    {
+        Ok(NewType {
+            kind: self.kind.clone()?,
+            is_final: self.is_final,
+            supertype: self.supertype,
+        })
+    }
+}
+
+/// So many ids from this one on. Asks that they fit.
+pub fn ids_from(alloc: Global, first: TypeId, count: usize) -> Result<Vec<TypeId>, AllocError>
+    requires { first + count < 2 ^ 32 }
+    ensures { IfOk result (λ ids. ids.items ≡ range_with_len first count) }
+{
+    let mut ids = Vec::new(alloc);
+    for k in 0..count {
+        ids.push(TypeId::from_index(first.index() + k))?;
+    }
+    Ok(ids)
+}
+
+// The types of these members, the first of which has this id, each with the memory to enter it into the
+// index.
+fn types_of(
+    alloc: Global,
+    first: TypeId,
+    members: Vec<NewType>,
+) -> Result<Vec<(Type, Spare)>, AllocError>
+    requires { first + length members.items < 2 ^ 32 }
+    ensures { IfOk result (λ types. map (λ new. Some (item_of new.0)) types.items ≡ new_items first (map member_kind members.items)) }
+{
+    let mut types = Vec::new(alloc);
+    let mut next = first.index();
+    for member in members {
+        let NewType {
+            kind,
+            is_final,
+            supertype,
+        } = member;
+        let id = TypeId::from_index(next);
+        let spare = Spare::new(alloc, id)?;
+        types.push((Type::new(id, kind, is_final, supertype, false), spare))?;
+        next += 1;
+    }
+    Ok(types)
+}
+
+// Adds the type, and enters it into the index. Asks for room.
+fn push_type(types: &mut TombstoneArena<Type, TypeSpace>, index: &mut Tree, ty: Type, spare: Spare)
+    requires room { 0 < types.old.room }
+    requires ordered { IsOrdered None index.old (kinds_in types.old.slots) }
+    ensures types { types.new.slots ≡ types.old.slots ++ Some ty ∷ [] }
+    ensures room { types.new.room + 1 ≡ types.old.room }
+    ensures ordered { IsOrdered None index.new (kinds_in types.new.slots) }
+{
+    let id = types.alloc_reserved(ty);
+    enter(index, types, spare.with_id(id));
+}
+
+/// What a type that is alone in its group needs beside itself: the list of the group's members, and memory to enter it into the index.
+#[derive(Drop)]
+pub struct Single {
+    pub members: Vec<TypeId>,
+    pub spare: Spare,
+}
+
+impl Single {
+    /// For the type of this id.
+    ///
+    /// # Errors
+    ///
+    /// Want of memory.
+    pub fn new(alloc: Global, id: TypeId) -> Result<Single, AllocError>
+        ensures { IfOk result (λ single. single.members.items ≡ id ∷ []) }
+    {
+        let mut members = Vec::new(alloc);
+        members.push(id)?;
+        let spare = Spare::new(alloc, id)?;
+        Ok(Single { members, spare })
+    }
+}
+
+/// Makes room for so many types, each alone in its group.
+pub fn reserve_singles(
+    types: &mut TombstoneArena<Type, TypeSpace>,
+    groups: &mut TombstoneArena<RecGroup, RecGroupSpace>,
+    homes: &mut Vec<RecGroupId>,
+    count: usize,
+) -> Result<(), AllocError>
+    ensures types { types.new.slots ≡ types.old.slots }
+    ensures groups { groups.new.slots ≡ groups.old.slots }
+    ensures homes { homes.new.items ≡ homes.old.items }
+    ensures types_room { OnOk result (count ≤ types.new.room) }
+    ensures groups_room { OnOk result (count ≤ groups.new.room) }
+    ensures homes_room { OnOk result (vec_len homes.new + count ≤ vec_capacity homes.new) }
+{
+    types.reserve(count)?;
+    groups.reserve(count)?;
+    homes.reserve(count)
+}
+
+/// Adds the type, alone in its group, and enters it into the index. Asks for room.
+pub fn push_single(
+    types: &mut TombstoneArena<Type, TypeSpace>,
+    groups: &mut TombstoneArena<RecGroup, RecGroupSpace>,
+    homes: &mut Vec<RecGroupId>,
+    index: &mut Tree,
+    ty: Type,
+    single: Single,
+)
+    requires types { 0 < types.old.room }
+    requires groups { 0 < groups.old.room }
+    requires homes { vec_len homes.old < vec_capacity homes.old }
+    requires ordered { IsOrdered None index.old (kinds_in types.old.slots) }
+    ensures types { types.new.slots ≡ types.old.slots ++ Some ty ∷ [] }
+    ensures types_room { types.new.room + 1 ≡ types.old.room }
+    ensures groups { groups.new.slots ≡ groups.old.slots ++ Some (record { types = single.members; explicit = false }) ∷ [] }
+    ensures groups_room { groups.new.room + 1 ≡ groups.old.room }
+    ensures homes { homes.new.items ≡ homes.old.items ++ length groups.old.slots ∷ [] }
+    ensures homes_len { vec_len homes.new ≡ vec_len homes.old + 1 }
+    ensures homes_room { vec_capacity homes.new ≡ vec_capacity homes.old }
+    ensures ordered { IsOrdered None index.new (kinds_in types.new.slots) }
+{
+    let home = groups.alloc_reserved(RecGroup::new(false, single.members));
+    homes.push_reserved(home);
+    push_type(types, index, ty, single.spare);
+}
+
+// Adds these types, all of one group, and enters them into the index. Asks for room.
+fn push_types(
+    types: &mut TombstoneArena<Type, TypeSpace>,
+    homes: &mut Vec<RecGroupId>,
+    index: &mut Tree,
+    new: Vec<(Type, Spare)>,
+    home: RecGroupId,
+)
+    requires types { length new.items ≤ types.old.room }
+    requires homes { vec_len homes.old + length new.items ≤ vec_capacity homes.old }
+    requires ordered { IsOrdered None index.old (kinds_in types.old.slots) }
+    ensures types { types.new.slots ≡ types.old.slots ++ map (λ one. Some one.0) new.items }
+    ensures homes { homes.new.items ≡ homes.old.items ++ map (λ _. home) new.items }
+    ensures ordered { IsOrdered None index.new (kinds_in types.new.slots) }
+{
+    for (ty, spare) in new {
+        push_type(types, index, ty, spare);
+        homes.push_reserved(home);
+    }
+}
+
+/// Adds a group of these types, which is written as one or not; none for no types. No type is lent. Asks that their ids fit.
+///
+/// # Errors
+///
+/// Want of memory. What is in the table stays as it was.
+pub fn append_members(
+    alloc: Global,
+    types: &mut TombstoneArena<Type, TypeSpace>,
+    groups: &mut TombstoneArena<RecGroup, RecGroupSpace>,
+    homes: &mut Vec<RecGroupId>,
+    index: &mut Tree,
+    explicit: bool,
+    members: Vec<NewType>,
+) -> Result<(), AllocError>
+    requires fits { length types.old.slots + length members.items < 2 ^ 32 }
+    requires sound { IsSound None index.old (kinds_in types.old.slots) (table_of types.old.slots groups.old.slots) homes.old.items }
+    ensures sound { IsSound None index.new (kinds_in types.new.slots) (table_of types.new.slots groups.new.slots) homes.new.items }
+    ensures added { OnOk result (AddsGroup explicit (map member_kind members.items) (table_of types.old.slots groups.old.slots) (table_of types.new.slots groups.new.slots)) }
+    ensures refused { OnErr result (table_of types.new.slots groups.new.slots ≡ table_of types.old.slots groups.old.slots) }
+{
+    let count = members.len();
+    if count == 0 {
+        return Ok(());
+    }
+    let first = types.next_id();
+    let ids = ids_from(alloc, first, count)?;
+    let made = types_of(alloc, first, members)?;
+    types.reserve(count)?;
+    homes.reserve(count)?;
+    groups.reserve(1)?;
+    let home = groups.alloc_reserved(RecGroup::new(explicit, ids));
+    push_types(types, homes, index, made, home);
+    Ok(())
+}
+
+/// Adds a group of these types, which is written as one, if they are as many as were asked for. No type is lent. Asks that so many
+/// ids fit.
+///
+/// # Errors
+///
+/// `WrongCount` where they are another count, `Memory` for want of memory. What is in the table stays as it was.
+pub fn append_counted(
+    alloc: Global,
+    types: &mut TombstoneArena<Type, TypeSpace>,
+    groups: &mut TombstoneArena<RecGroup, RecGroupSpace>,
+    homes: &mut Vec<RecGroupId>,
+    index: &mut Tree,
+    count: usize,
+    members: Vec<NewType>,
+) -> Result<(), IrError>
+    requires fits { length types.old.slots + count < 2 ^ 32 }
+    requires sound { IsSound None index.old (kinds_in types.old.slots) (table_of types.old.slots groups.old.slots) homes.old.items }
+    ensures sound { IsSound None index.new (kinds_in types.new.slots) (table_of types.new.slots groups.new.slots) homes.new.items }
+    ensures added { OnOk result (AddsGroup true (map member_kind members.items) (table_of types.old.slots groups.old.slots) (table_of types.new.slots groups.new.slots)) }
+    ensures counted { OnOk result (length members.items ≡ count) }
+    ensures cause { IfErr result (IsCause (λ made. made ≡ Ok members) count) }
+    ensures refused { OnErr result (table_of types.new.slots groups.new.slots ≡ table_of types.old.slots groups.old.slots) }
+{
+    if members.len() != count {
+        return Err(IrError::WrongCount);
+    }
+    append_members(alloc, types, groups, homes, index, true, members)?;
+    Ok(())
+}

@@ -1,0 +1,79 @@
+//! What is asked of the index of a table.
+ghost use Rattle.std.specs.Prelude.{◌≡◌, [], length, None};
+ghost use Rattle.walrus_type_index.specs.walrus_items.walrus_forms.Kinds.{function_kind};
+ghost use Rattle.walrus_type_index.specs.walrus_items.Items.{kind_of};
+ghost use Rattle.walrus_type_index.specs.Places.{kinds_in};
+ghost use Rattle.walrus_type_index.specs.Ordered.{IsOrdered};
+ghost use Rattle.walrus_type_arenas.specs.Table.{table_of, equal_type, found_type};
+ghost use Rattle.walrus_type_arenas.specs.Highest.{later_of, if_of_kind};
+
+use walrus_type_index::arena::{TombstoneArena, TypeId, TypeSpace};
+use walrus_type_index::forms::ValType;
+use walrus_type_index::items::Type;
+use walrus_type_index::{Spare, Target, Tree};
+
+/// The type that stands for this one, which is to have the id `next`. No type is lent.
+pub fn look_up(
+    index: &Tree,
+    types: &TombstoneArena<Type, TypeSpace>,
+    ty: &Type,
+    next: TypeId,
+) -> Option<TypeId>
+    requires ordered { IsOrdered None index.now (kinds_in types.now.slots) }
+    requires next { next ≡ length types.now.slots }
+    ensures { result ≡ equal_type (kind_of ty.now) (table_of types.now.slots []) }
+{
+    if ty.names(next) {
+        return None;
+    }
+    index.latest(types, Target::Like(ty), false)
+}
+
+// The higher of both.
+fn later(a: Option<TypeId>, b: Option<TypeId>) -> Option<TypeId>
+    ensures { result ≡ later_of a b }
+{
+    match (a, b) {
+        (Some(x), Some(y)) if x.index() < y.index() => Some(y),
+        (Some(x), _) => Some(x),
+        (None, found) => found,
+    }
+}
+
+// The lent type, if it is the final function type without supertype of these lists.
+fn lent_function(
+    lent: &Option<Spare>,
+    types: &TombstoneArena<Type, TypeSpace>,
+    params: &[ValType],
+    results: &[ValType],
+) -> Option<TypeId>
+    ensures { result ≡ if_of_kind (kinds_in types.now.slots) (function_kind params.now results.now) lent.now }
+{
+    let Some(spare) = lent else {
+        return None;
+    };
+    let id = spare.id();
+    match types.get(id) {
+        Some(ty) if ty.is_function_of(params, results) => Some(id),
+        _ => None,
+    }
+}
+
+/// The latest final function type without supertype of just these parameters and results.
+pub fn found_function(
+    index: &Tree,
+    lent: &Option<Spare>,
+    types: &TombstoneArena<Type, TypeSpace>,
+    params: &[ValType],
+    results: &[ValType],
+) -> Option<TypeId>
+    requires { IsOrdered lent.now index.now (kinds_in types.now.slots) }
+    ensures { result ≡ found_type params.now results.now (table_of types.now.slots []) }
+{
+    let target = Target::Function(params, results);
+    let plain = index.latest(types, target, false);
+    let own = index.latest(types, target, true);
+    let found = later(plain, own);
+    let lent = lent_function(lent, types, params, results);
+    later(found, lent)
+}
