@@ -3,8 +3,8 @@
 
 mod copies;
 mod emit;
-mod error;
-mod group;
+pub mod error;
+pub mod group;
 mod iter;
 pub mod laws;
 mod pair;
