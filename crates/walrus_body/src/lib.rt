@@ -18,14 +18,27 @@ pub use wasm_operators::{Flow, OpCode};
 pub mod laws {
     /// Operators: their table, what they spell, what each names, and the instruction that each is paired with.
     pub mod operators {
-        pub use walrus_operator_laws::laws as instructions;
         pub use walrus_operator_writer::laws as writing;
         pub use walrus_operators::laws as reading;
-        pub use walrus_pairing_laws::laws as pairing;
         pub use wasm_immediates::laws as immediates;
         pub use wasm_operator_bytes::laws as bytes;
         pub use wasm_operator_names::laws as names;
         pub use wasm_operators::laws as table;
+
+        /// Operators, and the instructions that they are paired with.
+        pub mod instructions {
+            pub use walrus_operator_laws::laws::{
+                operators_are_told, operators_come_back, plain_operators_are_answered,
+                plain_operators_are_read, turns_number_without_gaps,
+            };
+        }
+
+        /// Instructions, and the operators that they are paired with.
+        pub mod pairing {
+            pub use walrus_operator_laws::laws::{
+                forms_are_told, instructions_come_back, names_are_told, operators_are_sent,
+            };
+        }
     }
 
     /// Bodies: their grammar, their normal form, what each operator of a body that is read asks and does, the trees that are read, and

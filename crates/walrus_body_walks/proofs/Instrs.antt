@@ -31,7 +31,7 @@ use Rattle.walrus_roots.specs.declared.item.Item.{Item}
 use Rattle.walrus_roots.specs.Items.{item}
 use Rattle.walrus_operator_laws.specs.walrus_pairing.Read.{at, instr_at}
 use Rattle.walrus_operator_laws.specs.walrus_pairing.Write.{operator_at}
-use Rattle.walrus_pairing_laws.specs.Told.{NamesAreTold, all, is_reversed, told_all}
+use Rattle.walrus_operator_laws.specs.Told.{NamesAreTold, all, is_reversed, told_all}
 use Rattle.walrus_operator_laws.specs.Laws.{OperatorComesBack, Renames}
 use Rattle.walrus_operator_laws.proofs.Forth.{bytes_found, objects_found}
 use Rattle.walrus_handler_laws.specs.walrus_body_steps.walrus_body_nesting.declared.frames.Opener.{Opener}

@@ -15,7 +15,7 @@ use Rattle.walrus_marks.specs.walrus_instr.declared.seq.InstrSeqType.{InstrSeqTy
 use Rattle.walrus_walks.specs.Events.{block_names}
 use Rattle.walrus_handler_laws.specs.walrus_tree.walrus_builder.Built.{Seq, seq_of}
 use Rattle.walrus_roots.specs.declared.item.Item.{Item}
-use Rattle.walrus_pairing_laws.specs.Told.{NamesAreTold}
+use Rattle.walrus_operator_laws.specs.Told.{NamesAreTold}
 use Rattle.walrus_operator_laws.specs.Laws.{OperatorComesBack}
 use Rattle.walrus_handler_laws.specs.walrus_body_steps.walrus_body_nesting.Opens.{type_at}
 use Rattle.walrus_handler_laws.specs.walrus_body_steps.walrus_body_nesting.Stands.{Turn, Otherwise, Handles, HandlesAll, Part, Finish, Ended, with, none, lies, StandsAs}

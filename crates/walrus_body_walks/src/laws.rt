@@ -7,7 +7,7 @@ pub fn walks_name_answers()
     ensures { WalksNameAnswers }
 {
     walrus_operator_laws::laws::operators_come_back();
-    walrus_pairing_laws::laws::names_are_told();
+    walrus_operator_laws::laws::names_are_told();
     wasm_operator_names::laws::names_are_renamed();
     wasm_operator_ranges::laws::operators_in_range_are_spelled();
 }
@@ -17,7 +17,7 @@ pub fn tries_have_answers()
     ensures { TriesHaveAnswers }
 {
     walrus_operator_laws::laws::operators_come_back();
-    walrus_pairing_laws::laws::names_are_told();
+    walrus_operator_laws::laws::names_are_told();
     wasm_operator_names::laws::names_are_renamed();
     wasm_operator_ranges::laws::operators_in_range_are_spelled();
 }

@@ -30,7 +30,7 @@ use Rattle.walrus_operator_codes.specs.Runs.{byte, object}
 use Rattle.walrus_pairing.specs.Looks.{Or, ◌>>=◌}
 use Rattle.walrus_pairing.specs.Types.{written_heap, written_value}
 use Rattle.walrus_pairing.specs.Write.{op, operator_at, seen_of}
-use Rattle.walrus_pairing_laws.specs.Told.{all}
+use Rattle.walrus_operator_laws.specs.Told.{all}
 use Rattle.walrus_meaning.specs.walrus_body_writer.Spelled.{AreWritten, IsWritten, Text, block, cast, clause, clauses, flags, label, opening, type_in, written, written_instr}
 use Rattle.walrus_body_laws.specs.Laws.{place_in, placed_of, text_ops}
 use Rattle.walrus_body_laws.specs.Renaming.{TextsAreRenamed, renamed_placed}

@@ -11,7 +11,7 @@ use Rattle.walrus_instr.specs.declared.seq.InstrSeq.{InstrSeq}
 use Rattle.walrus_builder.specs.Functions.{seqs_of}
 use Rattle.walrus_tree.specs.Text.{operators}
 use Rattle.walrus_pairing.specs.Looks.{Or}
-use Rattle.walrus_pairing_laws.specs.Told.{all}
+use Rattle.walrus_operator_laws.specs.Told.{all}
 use Rattle.walrus_meaning.specs.walrus_body_writer.Spelled.{AreWritten, Text}
 use Rattle.walrus_body_laws.specs.Laws.{placed_of, text_ops}
 use Rattle.walrus_body_laws.specs.Naming.{LocalsAgree}

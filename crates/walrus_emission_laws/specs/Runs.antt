@@ -21,7 +21,7 @@ use Rattle.walrus_builder.specs.Functions.{seqs_of}
 use Rattle.walrus_tree.specs.Text.{operators}
 use Rattle.walrus_meaning.specs.walrus_local_function.declared.local_function.LocalFunction.{LocalFunction}
 use Rattle.walrus_pairing.specs.Looks.{Look}
-use Rattle.walrus_pairing_laws.specs.Sends.{Sends}
+use Rattle.walrus_operator_laws.specs.Sends.{Sends}
 use Rattle.walrus_meaning.specs.walrus_body_writer.Spelled.{AreWritten}
 use Rattle.walrus_body_laws.specs.Laws.{text_ops}
 use Rattle.walrus_body_laws.specs.Renaming.{KeepsLabels}

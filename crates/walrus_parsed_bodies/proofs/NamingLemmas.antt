@@ -24,7 +24,7 @@ use Rattle.walrus_operator_laws.proofs.Types.{value_again}
 use Rattle.walrus_operator_laws.specs.Laws.{Renames}
 use Rattle.walrus_operator_laws.specs.walrus_pairing.Looks.{Or, ◌>>=◌}
 use Rattle.walrus_operator_laws.specs.walrus_pairing.Types.{read_value, written_heap, written_value}
-use Rattle.walrus_pairing_laws.specs.Told.{all}
+use Rattle.walrus_operator_laws.specs.Told.{all}
 use Rattle.walrus_parsed_items.proofs.ListLemmas.{some_is}
 
 heap_written : (h : HeapType) → written_heap (all Types) h ≡ Ok (own_heap h)

@@ -22,8 +22,8 @@ use Rattle.walrus_operator_codes.specs.Ternary.{ternary_vectors, ternary_code}
 use Rattle.walrus_pairing.specs.Looks.{Look}
 use Rattle.walrus_pairing.specs.Write.{seen_of, op, of_code, bare_code, numeric, lane_items}
 use Rattle.walrus_pairing.specs.Read.{instr_at}
-use Rattle.walrus_pairing_laws.specs.Laws.{IsPlain}
-use Rattle.walrus_pairing_laws.specs.Back.{some_is}
+use Rattle.walrus_operator_laws.specs.InstrLaws.{IsPlain}
+use Rattle.walrus_operator_laws.specs.Back.{some_is}
 
 -- ---- the sixteen bytes of a number
 

@@ -28,9 +28,9 @@ use Rattle.walrus_operator_codes.specs.Access.{load_code, store_code, simd_code,
 use Rattle.walrus_pairing.specs.Looks.{Or, ◌>>=◌}
 use Rattle.walrus_pairing.specs.Types.{written_heap, written_value}
 use Rattle.walrus_pairing.specs.Write.{seen_of, op, either, of_code, bare_code, numeric, variable, memory_op, object_op, plain_at, select, operator_at, lane_items, access_of, test_code, cast_code}
-use Rattle.walrus_pairing_laws.specs.Told.{all, told_all, is_reversed, SameNames, NamesAreTold}
-use Rattle.walrus_pairing_laws.specs.Back.{some_is, ok_is}
-use Rattle.walrus_pairing_laws.specs.Together.{either_is}
+use Rattle.walrus_operator_laws.specs.Told.{all, told_all, is_reversed, SameNames, NamesAreTold}
+use Rattle.walrus_operator_laws.specs.Back.{some_is, ok_is}
+use Rattle.walrus_operator_laws.specs.Together.{either_is}
 
 -- the operator is this one, whose names are told
 as_told : (i : Instr) (code : OpCode) (items : List Item) (s : Seen) → SameNames i (seen_of code items) → op code items ≡ Ok (Some s) → SameNames i s

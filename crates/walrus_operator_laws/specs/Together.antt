@@ -16,9 +16,9 @@ use Rattle.walrus_pairing.specs.Looks.{Look, Or}
 use Rattle.walrus_pairing.specs.Types.{written_heap, written_value, read_value}
 use Rattle.walrus_pairing.specs.Write.{seen_of, either, of_code, bare_code, numeric, variable, memory_op, object_op, plain_at, select, operator_at}
 use Rattle.walrus_pairing.specs.Read.{instr_at}
-use Rattle.walrus_pairing_laws.specs.Laws.{Undoes, IsPlain, InstrComesBack, FormsAreTold}
-use Rattle.walrus_pairing_laws.specs.Back.{some_is, ok_is, read_again, variable_back, memory_back, object_back}
-use Rattle.walrus_pairing_laws.specs.Numeric.{numeric_back, bare_back}
+use Rattle.walrus_operator_laws.specs.InstrLaws.{Undoes, IsPlain, InstrComesBack, FormsAreTold}
+use Rattle.walrus_operator_laws.specs.Back.{some_is, ok_is, read_again, variable_back, memory_back, object_back}
+use Rattle.walrus_operator_laws.specs.Numeric.{numeric_back, bare_back}
 
 -- an answer is one of the two
 pub either_is : (a b : Or (Option Seen)) (s : Seen) → either a b ≡ Ok (Some s) → (a ≡ Ok (Some s)) ⊎ (b ≡ Ok (Some s))

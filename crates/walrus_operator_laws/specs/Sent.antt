@@ -24,12 +24,12 @@ use Rattle.walrus_operator_codes.specs.Access.{load_code, store_code, simd_code,
 use Rattle.walrus_pairing.specs.Looks.{Or, ◌>>=◌, Look, found}
 use Rattle.walrus_pairing.specs.Types.{written_heap, written_value, written_abstract}
 use Rattle.walrus_pairing.specs.Write.{seen_of, op, either, of_code, bare_code, numeric, variable, memory_op, object_op, plain_at, select, operator_at, lane_items, access_of, test_code, cast_code, one, two, counted, access, heap}
-use Rattle.walrus_pairing_laws.specs.Back.{some_is, ok_is}
-use Rattle.walrus_pairing_laws.specs.Together.{either_is}
+use Rattle.walrus_operator_laws.specs.Back.{some_is, ok_is}
+use Rattle.walrus_operator_laws.specs.Together.{either_is}
 use Rattle.std.specs.Prelude.{ℕ, ◌≡◌, List, [], ◌∷◌, map, Option, Some, None, Ok, Err, if◌then◌else◌, refl, false}
 use Rattle.wasm_operator_names.specs.Names.{Renaming, renamed_heap, renamed_value, renamed_item}
-use Rattle.walrus_pairing_laws.specs.Sends.{Sends, IsSent, OperatorsAreSent}
-use Rattle.walrus_pairing_laws.specs.Told.{all}
+use Rattle.walrus_operator_laws.specs.Sends.{Sends, IsSent, OperatorsAreSent}
+use Rattle.walrus_operator_laws.specs.Told.{all}
 use Rattle.wasm_ref_types.specs.declared.heap.HeapType.TheVariants.{Abstract as WAbstract, Concrete as WConcrete, Exact as WExact}
 use Rattle.wasm_ref_types.specs.declared.index.UnpackedIndex.TheVariants.{Module}
 

@@ -6,7 +6,7 @@ use Rattle.wasm_operator_names.specs.Names.{Renaming, renamed_operator}
 use Rattle.walrus_instr.specs.declared.instr.Instr.{Instr}
 use Rattle.walrus_pairing.specs.Looks.{Look}
 use Rattle.walrus_pairing.specs.Write.{operator_at}
-use Rattle.walrus_pairing_laws.specs.Told.{all}
+use Rattle.walrus_operator_laws.specs.Told.{all}
 
 -- each id that is found is sent to its new number
 abbrev pub Sends : Renaming → Look → Type 0

@@ -32,7 +32,7 @@ use Rattle.walrus_pairing.specs.Looks.{Look, Or, ◌>>=◌, found}
 use Rattle.walrus_pairing.specs.Types.{written_abstract, written_heap, read_abstract, read_heap}
 use Rattle.walrus_pairing.specs.Write.{seen_of, op, one, two, counted, access, heap, log_of, access_of, test_code, cast_code, variable, memory_op, object_op}
 use Rattle.walrus_pairing.specs.Read.{instr_at, arg_of, to, heap_at, access_at}
-use Rattle.walrus_pairing_laws.specs.Laws.{Undoes, IsAligned, IsPlain}
+use Rattle.walrus_operator_laws.specs.InstrLaws.{Undoes, IsAligned, IsPlain}
 
 -- what was given is what is given
 pub some_is : (s t : Seen) → op s.code s.items ≡ Ok (Some t) → s ≡ t

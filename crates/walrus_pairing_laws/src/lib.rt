@@ -1,4 +1,0 @@
-//! Laws of the pairing of operators with instructions.
-#![tactic(auto)]
-
-pub mod laws;
