@@ -1,6 +1,6 @@
 //! Instructions of a code and of immediates that name something: what they name is looked up, then the code is.
 ghost use Rattle.std.specs.Prelude.{◌≡◌};
-ghost use Rattle.walrus_operators.specs.wasm_immediates.Items as items;
+ghost use Rattle.walrus_operators.specs.wasm_immediates.Items.{Access, Byte, DataSegments, ElementSegments, Functions, Globals, Heap, Locals, Memories, Names, Number, Tables, Tags, Types};
 ghost use Rattle.walrus_index_maps.specs.Views.{ids};
 ghost use Rattle.walrus_pairing.specs.Looks.{id_of};
 ghost use Rattle.walrus_pairing.specs.Read.{pair_at, single_at};
@@ -34,7 +34,7 @@ macro_rules! id {
 // What follows for the frequent kinds is inlined, so that where the kind is known no other is tested.
 #[inline(always)]
 pub(crate) fn read_local(code: OpCode, n: u32, function: FunctionId, maps: &IndicesToIds) -> Read
-    ensures { result ≡ single_at (id_of (ids maps.now) function) code (items.Names items.Locals n) }
+    ensures { result ≡ single_at (id_of (ids maps.now) function) code (Names Locals n) }
 {
     let local = id!(maps.get_local(function, n));
     if code.prefix != 0 {
@@ -50,7 +50,7 @@ pub(crate) fn read_local(code: OpCode, n: u32, function: FunctionId, maps: &Indi
 
 #[inline(always)]
 pub(crate) fn read_global(code: OpCode, n: u32, maps: &IndicesToIds) -> Read
-    ensures { result ≡ single_at (id_of (ids maps.now) 0) code (items.Names items.Globals n) }
+    ensures { result ≡ single_at (id_of (ids maps.now) 0) code (Names Globals n) }
 {
     let global = id!(maps.get_global(n));
     if code.prefix != 0 {
@@ -65,7 +65,7 @@ pub(crate) fn read_global(code: OpCode, n: u32, maps: &IndicesToIds) -> Read
 
 #[inline(always)]
 pub(crate) fn read_function(code: OpCode, n: u32, maps: &IndicesToIds) -> Read
-    ensures { result ≡ single_at (id_of (ids maps.now) 0) code (items.Names items.Functions n) }
+    ensures { result ≡ single_at (id_of (ids maps.now) 0) code (Names Functions n) }
 {
     let func = id!(maps.get_func(n));
     if code.prefix != 0 {
@@ -81,7 +81,7 @@ pub(crate) fn read_function(code: OpCode, n: u32, maps: &IndicesToIds) -> Read
 
 #[inline(always)]
 pub(crate) fn read_access(code: OpCode, access: MemoryAccess, maps: &IndicesToIds) -> Read
-    ensures { result ≡ single_at (id_of (ids maps.now) 0) code (items.Access «access») }
+    ensures { result ≡ single_at (id_of (ids maps.now) 0) code (Access «access») }
 {
     let memory = id!(maps.get_memory(access.memory));
     let arg = arg_of(access)?;
@@ -94,7 +94,7 @@ pub(crate) fn read_lane_access(
     lane: u8,
     maps: &IndicesToIds,
 ) -> Read
-    ensures { result ≡ pair_at (id_of (ids maps.now) 0) code (items.Access «access») (items.Byte lane) }
+    ensures { result ≡ pair_at (id_of (ids maps.now) 0) code (Access «access») (Byte lane) }
 {
     let memory = id!(maps.get_memory(access.memory));
     let arg = arg_of(access)?;
@@ -105,21 +105,21 @@ pub(crate) fn read_lane_access(
 }
 
 pub(crate) fn read_counted(code: OpCode, ty: u32, n: u32, maps: &IndicesToIds) -> Read
-    ensures { result ≡ pair_at (id_of (ids maps.now) 0) code (items.Names items.Types ty) (items.Number n) }
+    ensures { result ≡ pair_at (id_of (ids maps.now) 0) code (Names Types ty) (Number n) }
 {
     let id = id!(maps.get_type(ty));
     Ok(type_number_instr(code, id, n))
 }
 
 pub(crate) fn read_reference(code: OpCode, ty: HeapType, maps: &IndicesToIds) -> Read
-    ensures { result ≡ single_at (id_of (ids maps.now) 0) code (items.Heap ty) }
+    ensures { result ≡ single_at (id_of (ids maps.now) 0) code (Heap ty) }
 {
     let own = read_heap(ty, maps)?;
     Ok(heap_instr(code, own))
 }
 
 pub(crate) fn read_tag(code: OpCode, n: u32, maps: &IndicesToIds) -> Read
-    ensures { result ≡ single_at (id_of (ids maps.now) 0) code (items.Names items.Tags n) }
+    ensures { result ≡ single_at (id_of (ids maps.now) 0) code (Names Tags n) }
 {
     let tag = id!(maps.get_tag(n));
     if code.prefix != 0 || code.number != 0x08 {
@@ -129,21 +129,21 @@ pub(crate) fn read_tag(code: OpCode, n: u32, maps: &IndicesToIds) -> Read
 }
 
 pub(crate) fn read_type(code: OpCode, n: u32, maps: &IndicesToIds) -> Read
-    ensures { result ≡ single_at (id_of (ids maps.now) 0) code (items.Names items.Types n) }
+    ensures { result ≡ single_at (id_of (ids maps.now) 0) code (Names Types n) }
 {
     let id = id!(maps.get_type(n));
     Ok(type_instr(code, id))
 }
 
 pub(crate) fn read_table(code: OpCode, n: u32, maps: &IndicesToIds) -> Read
-    ensures { result ≡ single_at (id_of (ids maps.now) 0) code (items.Names items.Tables n) }
+    ensures { result ≡ single_at (id_of (ids maps.now) 0) code (Names Tables n) }
 {
     let id = id!(maps.get_table(n));
     Ok(table_instr(code, id))
 }
 
 pub(crate) fn read_memory(code: OpCode, n: u32, maps: &IndicesToIds) -> Read
-    ensures { result ≡ single_at (id_of (ids maps.now) 0) code (items.Names items.Memories n) }
+    ensures { result ≡ single_at (id_of (ids maps.now) 0) code (Names Memories n) }
 {
     let memory = id!(maps.get_memory(n));
     match code.prefix {
@@ -161,7 +161,7 @@ pub(crate) fn read_memory(code: OpCode, n: u32, maps: &IndicesToIds) -> Read
 }
 
 pub(crate) fn read_data(code: OpCode, n: u32, maps: &IndicesToIds) -> Read
-    ensures { result ≡ single_at (id_of (ids maps.now) 0) code (items.Names items.DataSegments n) }
+    ensures { result ≡ single_at (id_of (ids maps.now) 0) code (Names DataSegments n) }
 {
     let data = id!(maps.get_data(n));
     if code.prefix != 0xfc || code.number != 9 {
@@ -171,7 +171,7 @@ pub(crate) fn read_data(code: OpCode, n: u32, maps: &IndicesToIds) -> Read
 }
 
 pub(crate) fn read_element(code: OpCode, n: u32, maps: &IndicesToIds) -> Read
-    ensures { result ≡ single_at (id_of (ids maps.now) 0) code (items.Names items.ElementSegments n) }
+    ensures { result ≡ single_at (id_of (ids maps.now) 0) code (Names ElementSegments n) }
 {
     let elem = id!(maps.get_element(n));
     if code.prefix != 0xfc || code.number != 13 {
@@ -181,7 +181,7 @@ pub(crate) fn read_element(code: OpCode, n: u32, maps: &IndicesToIds) -> Read
 }
 
 pub(crate) fn read_type_table(code: OpCode, m: u32, n: u32, maps: &IndicesToIds) -> Read
-    ensures { result ≡ pair_at (id_of (ids maps.now) 0) code (items.Names items.Types m) (items.Names items.Tables n) }
+    ensures { result ≡ pair_at (id_of (ids maps.now) 0) code (Names Types m) (Names Tables n) }
 {
     let ty = id!(maps.get_type(m));
     let table = id!(maps.get_table(n));
@@ -196,7 +196,7 @@ pub(crate) fn read_type_table(code: OpCode, m: u32, n: u32, maps: &IndicesToIds)
 }
 
 pub(crate) fn read_data_memory(code: OpCode, m: u32, n: u32, maps: &IndicesToIds) -> Read
-    ensures { result ≡ pair_at (id_of (ids maps.now) 0) code (items.Names items.DataSegments m) (items.Names items.Memories n) }
+    ensures { result ≡ pair_at (id_of (ids maps.now) 0) code (Names DataSegments m) (Names Memories n) }
 {
     let data = id!(maps.get_data(m));
     let memory = id!(maps.get_memory(n));
@@ -207,7 +207,7 @@ pub(crate) fn read_data_memory(code: OpCode, m: u32, n: u32, maps: &IndicesToIds
 }
 
 pub(crate) fn read_memory_memory(code: OpCode, m: u32, n: u32, maps: &IndicesToIds) -> Read
-    ensures { result ≡ pair_at (id_of (ids maps.now) 0) code (items.Names items.Memories m) (items.Names items.Memories n) }
+    ensures { result ≡ pair_at (id_of (ids maps.now) 0) code (Names Memories m) (Names Memories n) }
 {
     let dst = id!(maps.get_memory(m));
     let src = id!(maps.get_memory(n));
@@ -218,7 +218,7 @@ pub(crate) fn read_memory_memory(code: OpCode, m: u32, n: u32, maps: &IndicesToI
 }
 
 pub(crate) fn read_element_table(code: OpCode, m: u32, n: u32, maps: &IndicesToIds) -> Read
-    ensures { result ≡ pair_at (id_of (ids maps.now) 0) code (items.Names items.ElementSegments m) (items.Names items.Tables n) }
+    ensures { result ≡ pair_at (id_of (ids maps.now) 0) code (Names ElementSegments m) (Names Tables n) }
 {
     let elem = id!(maps.get_element(m));
     let table = id!(maps.get_table(n));
@@ -229,7 +229,7 @@ pub(crate) fn read_element_table(code: OpCode, m: u32, n: u32, maps: &IndicesToI
 }
 
 pub(crate) fn read_table_table(code: OpCode, m: u32, n: u32, maps: &IndicesToIds) -> Read
-    ensures { result ≡ pair_at (id_of (ids maps.now) 0) code (items.Names items.Tables m) (items.Names items.Tables n) }
+    ensures { result ≡ pair_at (id_of (ids maps.now) 0) code (Names Tables m) (Names Tables n) }
 {
     let dst = id!(maps.get_table(m));
     let src = id!(maps.get_table(n));
@@ -240,7 +240,7 @@ pub(crate) fn read_table_table(code: OpCode, m: u32, n: u32, maps: &IndicesToIds
 }
 
 pub(crate) fn read_type_data(code: OpCode, m: u32, n: u32, maps: &IndicesToIds) -> Read
-    ensures { result ≡ pair_at (id_of (ids maps.now) 0) code (items.Names items.Types m) (items.Names items.DataSegments n) }
+    ensures { result ≡ pair_at (id_of (ids maps.now) 0) code (Names Types m) (Names DataSegments n) }
 {
     let ty = id!(maps.get_type(m));
     let data = id!(maps.get_data(n));
@@ -255,7 +255,7 @@ pub(crate) fn read_type_data(code: OpCode, m: u32, n: u32, maps: &IndicesToIds) 
 }
 
 pub(crate) fn read_type_element(code: OpCode, m: u32, n: u32, maps: &IndicesToIds) -> Read
-    ensures { result ≡ pair_at (id_of (ids maps.now) 0) code (items.Names items.Types m) (items.Names items.ElementSegments n) }
+    ensures { result ≡ pair_at (id_of (ids maps.now) 0) code (Names Types m) (Names ElementSegments n) }
 {
     let ty = id!(maps.get_type(m));
     let elem = id!(maps.get_element(n));
@@ -270,7 +270,7 @@ pub(crate) fn read_type_element(code: OpCode, m: u32, n: u32, maps: &IndicesToId
 }
 
 pub(crate) fn read_type_type(code: OpCode, m: u32, n: u32, maps: &IndicesToIds) -> Read
-    ensures { result ≡ pair_at (id_of (ids maps.now) 0) code (items.Names items.Types m) (items.Names items.Types n) }
+    ensures { result ≡ pair_at (id_of (ids maps.now) 0) code (Names Types m) (Names Types n) }
 {
     let dst = id!(maps.get_type(m));
     let src = id!(maps.get_type(n));

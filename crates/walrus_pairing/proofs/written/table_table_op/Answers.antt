@@ -1,0 +1,11 @@
+use Rattle.std.proofs.Common.{refl, sym, ◌∙◌}
+use Rattle.walrus_pairing.proofs.written.table_table_op.Goals as goal
+
+pub returns-in-None : goal.returns-in-None
+returns-in-None c = rw (sym c.get_table_index.ensures ∙ c.in-None.is) refl
+
+pub returns-in-None-get_table_index : goal.returns-in-None-get_table_index
+returns-in-None-get_table_index c = rw (sym c.get_table_index.ensures ∙ c.in-Some.is, sym c.get_table_index-2.ensures ∙ c.in-None-get_table_index.is) refl
+
+pub returns : goal.returns
+returns c = rw (sym c.get_table_index.ensures ∙ c.in-Some.is, sym c.get_table_index-2.ensures ∙ c.in-Some-get_table_index.is) refl

@@ -1,0 +1,11 @@
+use Rattle.std.proofs.Common.{refl, sym, ◌∙◌}
+use Rattle.walrus_pairing.proofs.written.type_element_op.Goals as goal
+
+pub returns-in-None : goal.returns-in-None
+returns-in-None c = rw (sym c.get_type_index.ensures ∙ c.in-None.is) refl
+
+pub returns-in-None-get_element_index : goal.returns-in-None-get_element_index
+returns-in-None-get_element_index c = rw (sym c.get_type_index.ensures ∙ c.in-Some.is, sym c.get_element_index.ensures ∙ c.in-None-get_element_index.is) refl
+
+pub returns : goal.returns
+returns c = rw (sym c.get_type_index.ensures ∙ c.in-Some.is, sym c.get_element_index.ensures ∙ c.in-Some-get_element_index.is) refl

@@ -1,0 +1,11 @@
+use Rattle.std.proofs.Common.{refl, sym, ◌∙◌}
+use Rattle.walrus_pairing.proofs.written.type_type_op.Goals as goal
+
+pub returns-in-None : goal.returns-in-None
+returns-in-None c = rw (sym c.get_type_index.ensures ∙ c.in-None.is) refl
+
+pub returns-in-None-get_type_index : goal.returns-in-None-get_type_index
+returns-in-None-get_type_index c = rw (sym c.get_type_index.ensures ∙ c.in-Some.is, sym c.get_type_index-2.ensures ∙ c.in-None-get_type_index.is) refl
+
+pub returns : goal.returns
+returns c = rw (sym c.get_type_index.ensures ∙ c.in-Some.is, sym c.get_type_index-2.ensures ∙ c.in-Some-get_type_index.is) refl
