@@ -1,7 +1,7 @@
 #!/usr/bin/env python3
 """Counts the lines of definitions in the crates of the grammar, for docs/DEFINITIONS.md (*The measure*).
 
-    bench/definitions.py [--files] [CRATE ..]
+    bench/definitions.py [--files] [CRATE ..]      (CRATE/FILE for a file of its specs/ alone)
 
 A definition is an `abbrev`, a `record`, a `data` or a `syntax` of specs/, with its equations and fields. Not counted: imports, lines that name
 modules, comments, blank lines; lemmas, and in a format the fields that are proofs (`PROOFS`); files that hold lemmas, laws or computed examples alone.
@@ -13,7 +13,7 @@ import re
 import sys
 
 ROOT = os.path.dirname(os.path.dirname(os.path.abspath(__file__)))
-CRATES = """wasm_formats wasm_file_formats wasm_immediates wasm_operators wasm_operator_names wasm_grammar wasm_sections wasm_body_grammar wasm_modules
+CRATES = """wasm_formats wasm_file_formats wasm_immediates wasm_operators wasm_operator_bytes/Names wasm_grammar wasm_sections wasm_body_grammar wasm_modules
 wasm_module_rules wasm_ruled_modules wasm_module_spellings wasm_name_payloads wasm_named_modules""".split()
 SKIP = re.compile(r"\s*((pub )?use |pub mod |mod \w+$|--|module )")
 HEAD = re.compile(r"\s*(?:pub )?(?:abbrev|record|data|syntax) (?:pub )?(\S+)")
@@ -53,7 +53,8 @@ def main():
     whole, most = 0, (0, "")
     for crate in [it for it in words if it != "--files"] or CRATES:
         lines = 0
-        for file in sorted(glob.glob(f"{ROOT}/crates/{crate}/specs/*.antt")):
+        crate, _, alone = crate.partition("/")
+        for file in sorted(glob.glob(f"{ROOT}/crates/{crate}/specs/{alone or '*'}.antt")):
             text = text_of(file)
             own = 0 if OTHERS.match(text) else definitions(text)
             most = max(most, (text.count("\n"), os.path.relpath(file, ROOT)))

@@ -8,7 +8,7 @@ pub use Rattle.wasm_operators.specs.Operators as OperatorTable
 pub use Rattle.wasm_operators.specs.Table
 pub use Rattle.wasm_immediates.specs.Items
 pub use Rattle.wasm_operator_bytes.specs.Bytes as OperatorBytes
-pub use Rattle.wasm_operator_names.specs.Names as OperatorNames
+pub use Rattle.wasm_operator_bytes.specs.Names as OperatorNames
 pub use Rattle.walrus_operators.specs.Copies as OperatorCopies
 pub use Rattle.walrus_operators.specs.Immediates
 pub use Rattle.walrus_operators.specs.Operators

@@ -21,9 +21,21 @@ pub mod laws {
         pub use walrus_operator_writer::laws as writing;
         pub use walrus_operators::laws as reading;
         pub use wasm_immediates::laws as immediates;
-        pub use wasm_operator_bytes::laws as bytes;
-        pub use wasm_operator_names::laws as names;
         pub use wasm_operators::laws as table;
+
+        /// What is written for operators.
+        pub mod bytes {
+            pub use wasm_operator_bytes::laws::{
+                written_operators_are_read_back, written_operators_are_shortest,
+            };
+        }
+
+        /// What operators name, and operators renamed.
+        pub mod names {
+            pub use wasm_operator_bytes::laws::{
+                names_are_renamed, renamings_compose, the_same_numbers_keep_an_operator,
+            };
+        }
 
         /// Operators, and the instructions that they are paired with.
         pub mod instructions {

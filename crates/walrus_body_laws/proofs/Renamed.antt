@@ -11,7 +11,7 @@ use Rattle.wasm_immediates.specs.declared.clause.Clause.TheVariants as handlers
 use Rattle.wasm_immediates.specs.Items.{Types, Tags, Labels, Item, Names, Byte, Heap, Block, ManyLabels, ManyClauses}
 use Rattle.wasm_operators.specs.declared.op_code.OpCode.{OpCode}
 use Rattle.wasm_operators.specs.Operators.{Seen}
-use Rattle.wasm_operator_names.specs.Names.{Renaming, renamed_block, renamed_clause, renamed_item, renamed_operator}
+use Rattle.wasm_operator_bytes.specs.Names.{Renaming, renamed_block, renamed_clause, renamed_item, renamed_operator}
 use Rattle.walrus_forms.specs.declared.value.RefType.{RefType}
 use Rattle.walrus_instr.specs.declared.instr.Instr.{Instr}
 use Rattle.walrus_instr.specs.declared.instr.Instr.TheVariants as instrs

@@ -2,7 +2,7 @@
 use Rattle.std.specs.Prelude.{◌≡◌, ℕ, List, map}
 use Rattle.walrus_instr.specs.declared.seq.InstrSeq.{InstrSeq}
 use Rattle.wasm_immediates.specs.Items.{Labels}
-use Rattle.wasm_operator_names.specs.Names.{Renaming, renamed_operator}
+use Rattle.wasm_operator_bytes.specs.Names.{Renaming, renamed_operator}
 use Rattle.wasm_normal_form.specs.Roles.{Placed, placed}
 use Rattle.walrus_pairing.specs.Looks.{Look}
 use Rattle.walrus_operator_laws.specs.Sends.{Sends}

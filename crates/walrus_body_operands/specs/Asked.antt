@@ -12,7 +12,7 @@ use Rattle.wasm_immediates.specs.declared.block_type.BlockType.{BlockType}
 use Rattle.wasm_immediates.specs.declared.clause.Clause.{Clause}
 use Rattle.wasm_immediates.specs.Items.{Space, Heap, Block}
 use Rattle.wasm_operators.specs.declared.op_code.OpCode.{OpCode}
-use Rattle.walrus_operator_laws.specs.wasm_operator_names.Names.{Name, heap_names, value_names, block_names, clause_names}
+use Rattle.walrus_operator_laws.specs.wasm_operator_bytes.Names.{Name, heap_names, value_names, block_names, clause_names}
 use Rattle.wasm_formats.specs.declared.fault.Space.{Space as Kind}
 use Rattle.wasm_formats.specs.declared.fault.Space.TheVariants as spaces
 use Rattle.wasm_formats.specs.declared.fault.Form.TheVariants as unsupported

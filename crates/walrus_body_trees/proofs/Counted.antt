@@ -11,7 +11,7 @@ use Rattle.wasm_immediates.specs.Items.{Labels, Names, Space}
 use Rattle.wasm_operators.specs.declared.entry.Flow.{Flow}
 use Rattle.wasm_operators.specs.declared.entry.Flow.TheVariants as flows
 use Rattle.wasm_operators.specs.Operators.{Seen, flow_of}
-use Rattle.wasm_operator_names.specs.Names.{operator_names}
+use Rattle.wasm_operator_bytes.specs.Names.{operator_names}
 use Rattle.wasm_operator_ranges.specs.Ranges.{OperatorFits}
 use Rattle.wasm_grammar.specs.Values.{first_of}
 use Rattle.wasm_grammar.specs.Modules as grammar

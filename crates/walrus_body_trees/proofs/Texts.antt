@@ -11,7 +11,7 @@ use Rattle.wasm_operators.specs.Operators.{Seen}
 use Rattle.wasm_operators.specs.Table.{structure_rows}
 use Rattle.wasm_operators.specs.declared.entry.Kind.TheVariants as kinds
 use Rattle.wasm_operators.specs.Operators.{kind_of}
-use Rattle.wasm_operator_names.specs.Names.{Renaming, renamed_item, renamed_operator}
+use Rattle.wasm_operator_bytes.specs.Names.{Renaming, renamed_item, renamed_operator}
 use Rattle.wasm_operator_ranges.specs.Ranges.{OperatorFits}
 use Rattle.wasm_normal_form.specs.Roles.{Placed, placed, cuts, is_if, else_op, end_op, Role, Passes, Runs, Opens, Turns, Ends, role}
 use Rattle.wasm_normal_form.specs.Trees.{Tree, Close, Arm, Skip, Run, Nest, flat, prepend, open_in, innermost}

@@ -11,7 +11,7 @@ use Rattle.wasm_immediates.specs.Items.{Types, Tags, Labels, Item, Names, Byte, 
 use Rattle.wasm_operators.specs.declared.op_code.OpCode.{OpCode}
 use Rattle.wasm_operators.specs.declared.entry.Flow.TheVariants as flows
 use Rattle.wasm_operators.specs.Operators.{Seen}
-use Rattle.wasm_operator_names.specs.Names.{Renaming, renamed_block, renamed_clause, renamed_heap, renamed_item, renamed_operator}
+use Rattle.wasm_operator_bytes.specs.Names.{Renaming, renamed_block, renamed_clause, renamed_heap, renamed_item, renamed_operator}
 use Rattle.wasm_operator_ranges.specs.Ranges.{OperatorFits}
 use Rattle.wasm_normal_form.specs.Normal.{picked, with_pick}
 use Rattle.walrus_forms.specs.declared.value.HeapType.{HeapType}

@@ -6,7 +6,7 @@ use Rattle.wasm_body_grammar.specs.Bodies.{Parts, body, body_of}
 use Rattle.wasm_normal_form.specs.Roles.{Placed, placed}
 use Rattle.wasm_normal_form.specs.Trees.{tree_of}
 use Rattle.wasm_normal_form.specs.Normal.{normal, normal_ops}
-use Rattle.wasm_operator_names.specs.Names.{Renaming, renamed_block, renamed_operator}
+use Rattle.wasm_operator_bytes.specs.Names.{Renaming, renamed_block, renamed_operator}
 use Rattle.wasm_immediates.specs.declared.block_type.BlockType.{BlockType}
 use Rattle.wasm_immediates.specs.Items.{Space, Labels}
 use Rattle.walrus_instr.specs.declared.seq.InstrSeqType.{InstrSeqType}

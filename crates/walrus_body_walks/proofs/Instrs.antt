@@ -12,8 +12,8 @@ use Rattle.walrus_operator_laws.specs.walrus_pairing.wasm_immediates.declared.cl
 use Rattle.walrus_operator_laws.specs.walrus_pairing.wasm_immediates.Items.{Labels, Tags, Item as Word, Names, Byte, Heap, ManyLabels}
 use Rattle.wasm_operator_ranges.specs.wasm_operator_bytes.wasm_operators.declared.op_code.OpCode.{OpCode}
 use Rattle.wasm_operator_ranges.specs.wasm_operator_bytes.wasm_operators.Operators.{Seen}
-use Rattle.wasm_operator_names.specs.Names.{Name, Renaming, operator_names, renamed_operator}
-use Rattle.wasm_operator_names.specs.Laws.{NamesAreRenamed, renamed_name}
+use Rattle.wasm_operator_bytes.specs.Names.{Name, Renaming, operator_names, renamed_operator}
+use Rattle.wasm_operator_bytes.specs.NameLaws.{NamesAreRenamed, renamed_name}
 use Rattle.wasm_operator_ranges.specs.Ranges.{OperatorFits}
 use Rattle.walrus_handler_laws.specs.walrus_body_steps.wasm_body_grammar.Rules.{space_of}
 use Rattle.walrus_walks.specs.walrus_forms.declared.value.HeapType.{HeapType}

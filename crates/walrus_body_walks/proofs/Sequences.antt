@@ -4,7 +4,7 @@ use Rattle.std.specs.Prelude.{◌==◌, slice_get, if◌then◌else◌}
 use Rattle.std.specs.List.{AllByRecursion}
 use Rattle.wasm_operator_ranges.specs.wasm_operator_bytes.wasm_operators.wasm_features.declared.WasmFeatures.{WasmFeatures}
 use Rattle.wasm_operator_ranges.specs.wasm_operator_bytes.wasm_operators.Operators.{Seen}
-use Rattle.wasm_operator_names.specs.Laws.{NamesAreRenamed}
+use Rattle.wasm_operator_bytes.specs.NameLaws.{NamesAreRenamed}
 use Rattle.walrus_operator_laws.specs.walrus_pairing.wasm_immediates.Items.{Tags}
 use Rattle.walrus_handler_laws.specs.walrus_body_steps.wasm_normal_form.Trees.{Tree as OpTree, Close, Arm, Skip, Run, Nest}
 use Rattle.walrus_walks.specs.walrus_forms.declared.value.ValType.{ValType}

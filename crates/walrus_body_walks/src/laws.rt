@@ -8,7 +8,7 @@ pub fn walks_name_answers()
 {
     walrus_operator_laws::laws::operators_come_back();
     walrus_operator_laws::laws::names_are_told();
-    wasm_operator_names::laws::names_are_renamed();
+    wasm_operator_bytes::laws::names_are_renamed();
     wasm_operator_ranges::laws::operators_in_range_are_spelled();
 }
 
@@ -18,7 +18,7 @@ pub fn tries_have_answers()
 {
     walrus_operator_laws::laws::operators_come_back();
     walrus_operator_laws::laws::names_are_told();
-    wasm_operator_names::laws::names_are_renamed();
+    wasm_operator_bytes::laws::names_are_renamed();
     wasm_operator_ranges::laws::operators_in_range_are_spelled();
 }
 

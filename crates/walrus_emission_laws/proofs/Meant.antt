@@ -11,7 +11,7 @@ use Rattle.wasm_immediates.specs.declared.clause.Clause.{Clause}
 use Rattle.wasm_immediates.specs.Items.{Types, Labels, Names, Byte, Heap, Block, ManyClauses}
 use Rattle.wasm_operators.specs.Operators.{Seen}
 use Rattle.wasm_normal_form.specs.Roles.{Placed, placed}
-use Rattle.wasm_operator_names.specs.Names.{Renaming, renamed_operator}
+use Rattle.wasm_operator_bytes.specs.Names.{Renaming, renamed_operator}
 use Rattle.walrus_forms.specs.declared.value.HeapType.{HeapType}
 use Rattle.walrus_forms.specs.declared.value.HeapType.TheVariants.{Abstract, Concrete, Exact}
 use Rattle.walrus_forms.specs.declared.value.RefType.{RefType}

@@ -2,8 +2,8 @@
 use Rattle.std.proofs.Common.{◌≡◌, List, [], ◌∷◌, map, ap, subst, sym, refl, ◌∙◌}
 use Rattle.wasm_immediates.specs.Items.{Labels}
 use Rattle.wasm_operators.specs.Operators.{Seen}
-use Rattle.wasm_operator_names.specs.Laws.{after}
-use Rattle.wasm_operator_names.specs.Names.{Renaming, renamed_operator}
+use Rattle.wasm_operator_bytes.specs.NameLaws.{after}
+use Rattle.wasm_operator_bytes.specs.Names.{Renaming, renamed_operator}
 use Rattle.wasm_normal_form.specs.Normal.{normal_ops}
 use Rattle.wasm_normal_form.specs.Roles.{Placed}
 use Rattle.wasm_runs.specs.Programs.{operators as codes}

@@ -5,8 +5,8 @@ use Rattle.wasm_normal_form.specs.Normal.{normal, normal_ops}
 use Rattle.wasm_normal_form.specs.Roles.{Placed}
 use Rattle.wasm_normal_form.specs.Trees.{tree_of}
 use Rattle.wasm_immediates.specs.declared.block_type.BlockType.{BlockType}
-use Rattle.wasm_operator_names.specs.Laws.{after}
-use Rattle.wasm_operator_names.specs.Names.{Renaming}
+use Rattle.wasm_operator_bytes.specs.NameLaws.{after}
+use Rattle.wasm_operator_bytes.specs.Names.{Renaming}
 use Rattle.wasm_body_grammar.specs.Bodies.{Parts}
 use Rattle.wasm_body_grammar.specs.Rules.{Around}
 use Rattle.walrus_builder.specs.Built.{seq_of}

@@ -4,8 +4,8 @@ use Rattle.std.specs.List.{AllByRecursion}
 use Rattle.wasm_normal_form.specs.Normal.{normal}
 use Rattle.wasm_normal_form.specs.Trees.{tree_of}
 use Rattle.wasm_immediates.specs.declared.block_type.BlockType.{BlockType}
-use Rattle.wasm_operator_names.specs.Laws.{after}
-use Rattle.wasm_operator_names.specs.Names.{Renaming}
+use Rattle.wasm_operator_bytes.specs.NameLaws.{after}
+use Rattle.wasm_operator_bytes.specs.Names.{Renaming}
 use Rattle.wasm_body_grammar.specs.Bodies.{Parts}
 use Rattle.wasm_body_grammar.specs.Rules.{Around}
 use Rattle.wasm_runs.specs.Programs.{Signature, operators as codes}

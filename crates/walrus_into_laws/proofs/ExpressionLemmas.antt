@@ -6,7 +6,7 @@ use Rattle.std.specs.Global.{Vec}
 use Rattle.walrus_tables_into.specs.walrus_meaning.walrus_local_function.walrus_body_locals.wasm_grammar.Modules as grammar
 use Rattle.walrus_tables_into.specs.walrus_meaning.walrus_local_function.walrus_body_locals.wasm_grammar.Modules.{Expr, Origin}
 use Rattle.walrus_tables_into.specs.walrus_meaning.walrus_local_function.walrus_body_locals.wasm_grammar.wasm_operators.wasm_features.declared.WasmFeatures.{WasmFeatures}
-use Rattle.walrus_tables_into.specs.walrus_meaning.walrus_local_function.walrus_body_locals.wasm_body_grammar.wasm_operator_names.Names.{Renaming, renamed_operator}
+use Rattle.walrus_tables_into.specs.walrus_meaning.walrus_local_function.walrus_body_locals.wasm_body_grammar.wasm_operator_bytes.Names.{Renaming, renamed_operator}
 use Rattle.wasm_spelled_modules.specs.Spelled.{IsSpelled, InitIsSpelled, OriginIsSpelled, ModeIsSpelled, ItemsAreSpelled}
 use Rattle.walrus_tables_into.specs.walrus_meaning.Words.{own_expr}
 use Rattle.walrus_tables_into.specs.walrus_meaning.Meaning.{own_table, own_value_of, own_global, own_element_mode, own_elements, own_element, own_data_mode, own_segment}

@@ -8,7 +8,7 @@ use Rattle.wasm_references.specs.wasm_formats.declared.fault.Space.{Space}
 use Rattle.wasm_references.specs.wasm_formats.declared.fault.Space.TheVariants as spaces
 use Rattle.wasm_references.specs.wasm_grammar.Modules as grammar
 use Rattle.wasm_references.specs.wasm_immediates.Items as immediates
-use Rattle.wasm_references.specs.wasm_operator_names.Names.{Name, operator_names, block_names}
+use Rattle.wasm_references.specs.wasm_operator_bytes.Names.{Name, operator_names, block_names}
 use Rattle.wasm_references.specs.References as abstract
 use Rattle.walrus_operator_laws.specs.Told.{told as told_name, told_all}
 use Rattle.walrus_walks.specs.walrus_forms.declared.value.ValType.{ValType}

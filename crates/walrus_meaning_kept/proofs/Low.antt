@@ -9,7 +9,7 @@ use Rattle.wasm_references.specs.wasm_grammar.Modules.{Item, Expr, Origin, Impor
 use Rattle.wasm_references.specs.wasm_immediates.Items as immediates
 use Rattle.wasm_references.specs.wasm_immediates.declared.block_type.BlockType.{BlockType}
 use Rattle.wasm_references.specs.wasm_operators.Operators.{Seen}
-use Rattle.wasm_references.specs.wasm_operator_names.Names.{Name, operator_names, block_names}
+use Rattle.wasm_references.specs.wasm_operator_bytes.Names.{Name, operator_names, block_names}
 use Rattle.wasm_references.specs.References.{Numbered, item, ref_items, value_items, local_items, name_items, names_items, no_locals, expr_items, body_items, origin_items, function_items, init_items, table_items, global_items, tag_items, mode_items, held_items, element_items, segment_items, slot, named_by, HasElement, HasData, RefersIn, Refers}
 use Rattle.walrus_walks.specs.walrus_forms.Kinds.{kind_names}
 use Rattle.walrus_walks.specs.walrus_forms.Values.{ref_name, value_name}

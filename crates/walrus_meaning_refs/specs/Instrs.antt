@@ -2,7 +2,7 @@
 use Rattle.std.specs.Prelude.{ℕ, ◌↔◌, List, [], ◌∷◌, ◌++◌, map, drop, Contains, slice_get}
 use Rattle.std.specs.List.{flat_map}
 use Rattle.wasm_references.specs.wasm_immediates.declared.block_type.BlockType.{BlockType}
-use Rattle.wasm_references.specs.wasm_operator_names.Names.{Name, operator_names, block_names}
+use Rattle.wasm_references.specs.wasm_operator_bytes.Names.{Name, operator_names, block_names}
 use Rattle.wasm_references.specs.wasm_immediates.Items.{Space, Labels}
 use Rattle.walrus_walks.specs.walrus_instr.declared.instr.Instr.{Instr}
 use Rattle.walrus_walks.specs.walrus_instr.declared.seq.InstrSeq.{InstrSeq}

@@ -3,8 +3,8 @@ use Rattle.std.specs.Prelude.{ℕ, ◌≡◌, ◌==◌, List, [], ◌∷◌, Opt
 use Rattle.std.specs.Option.{option_map}
 use Rattle.std.proofs.Common.{ap, subst, ◌∙◌, inl, inr}
 use Rattle.std.proofs.lemmas.Bool.{cases_Bool}
-use Rattle.wasm_operator_names.specs.wasm_immediates.Items.{Item}
-use Rattle.wasm_operator_names.specs.wasm_operators.declared.op_code.OpCode.{OpCode}
+use Rattle.wasm_operator_bytes.specs.wasm_immediates.Items.{Item}
+use Rattle.wasm_operator_bytes.specs.wasm_operators.declared.op_code.OpCode.{OpCode}
 use Rattle.walrus_pairing.specs.walrus_instr.declared.instr.Instr.{Instr}
 use Rattle.walrus_pairing.specs.walrus_instr.declared.instr.Instr.TheVariants as instrs
 use Rattle.walrus_pairing.specs.walrus_operator_codes.Runs.{in_runs, byte}

@@ -1,11 +1,11 @@
 -- Operators as instructions: which have one, and what comes back of it.
 use Rattle.std.specs.Prelude.{ℕ, ◌≡◌, ◌≢◌, true, Some, None, Ok}
 use Rattle.wasm_features.specs.declared.WasmFeatures.{WasmFeatures}
-use Rattle.wasm_operator_names.specs.wasm_immediates.Items.{Space}
-use Rattle.wasm_operator_names.specs.wasm_operators.declared.entry.Entry.{Entry}
-use Rattle.wasm_operator_names.specs.wasm_operators.Table.{find_code}
-use Rattle.wasm_operator_names.specs.wasm_operators.Operators.{Seen}
-use Rattle.wasm_operator_names.specs.Names.{Renaming, renamed_operator}
+use Rattle.wasm_operator_bytes.specs.wasm_immediates.Items.{Space}
+use Rattle.wasm_operator_bytes.specs.wasm_operators.declared.entry.Entry.{Entry}
+use Rattle.wasm_operator_bytes.specs.wasm_operators.Table.{find_code}
+use Rattle.wasm_operator_bytes.specs.wasm_operators.Operators.{Seen}
+use Rattle.wasm_operator_bytes.specs.Names.{Renaming, renamed_operator}
 use Rattle.wasm_operator_ranges.specs.Ranges.{OperatorFits}
 use Rattle.walrus_pairing.specs.walrus_instr.declared.instr.Instr.{Instr}
 use Rattle.walrus_pairing.specs.walrus_operators.declared.operator.Operator.{Operator}

@@ -11,4 +11,4 @@ pub mod Sends
 pub mod Sent
 -- Passed on to crates above, which then list this one alone.
 pub use Rattle.walrus_pairing.specs as walrus_pairing
-pub use Rattle.wasm_operator_names.specs as wasm_operator_names
+pub use Rattle.wasm_operator_bytes.specs as wasm_operator_bytes

@@ -9,7 +9,7 @@ use Rattle.wasm_ref_types.specs.Reference.{reference}
 use Rattle.wasm_immediates.specs.Items.{Types, Functions, Tables, Memories, Tags, Globals, ElementSegments, DataSegments, Locals, Item, Names, Number, S32, S64, Bits, Byte, Bytes, Heap, Access, ManyValues}
 use Rattle.wasm_operators.specs.declared.op_code.OpCode.{OpCode}
 use Rattle.wasm_operators.specs.Operators.{Seen}
-use Rattle.wasm_operator_names.specs.Names.{heap_names, value_names, operator_names}
+use Rattle.wasm_operator_bytes.specs.Names.{heap_names, value_names, operator_names}
 use Rattle.walrus_forms.specs.declared.value.HeapType.{HeapType}
 use Rattle.walrus_forms.specs.declared.value.HeapType.TheVariants.{Abstract, Concrete, Exact}
 use Rattle.walrus_forms.specs.declared.value.RefType.{RefType}

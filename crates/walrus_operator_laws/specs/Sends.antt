@@ -2,7 +2,7 @@
 use Rattle.std.specs.Prelude.{ℕ, ◌≡◌, Some, Ok}
 use Rattle.wasm_immediates.specs.Items.{Space}
 use Rattle.wasm_operators.specs.Operators.{Seen}
-use Rattle.wasm_operator_names.specs.Names.{Renaming, renamed_operator}
+use Rattle.wasm_operator_bytes.specs.Names.{Renaming, renamed_operator}
 use Rattle.walrus_instr.specs.declared.instr.Instr.{Instr}
 use Rattle.walrus_pairing.specs.Looks.{Look}
 use Rattle.walrus_pairing.specs.Write.{operator_at}

@@ -27,7 +27,7 @@ use Rattle.walrus_pairing.specs.Write.{seen_of, op, either, of_code, bare_code, 
 use Rattle.walrus_operator_laws.specs.Back.{some_is, ok_is}
 use Rattle.walrus_operator_laws.specs.Together.{either_is}
 use Rattle.std.specs.Prelude.{ℕ, ◌≡◌, List, [], ◌∷◌, map, Option, Some, None, Ok, Err, if◌then◌else◌, refl, false}
-use Rattle.wasm_operator_names.specs.Names.{Renaming, renamed_heap, renamed_value, renamed_item}
+use Rattle.wasm_operator_bytes.specs.Names.{Renaming, renamed_heap, renamed_value, renamed_item}
 use Rattle.walrus_operator_laws.specs.Sends.{Sends, IsSent, OperatorsAreSent}
 use Rattle.walrus_operator_laws.specs.Told.{all}
 use Rattle.wasm_ref_types.specs.declared.heap.HeapType.TheVariants.{Abstract as WAbstract, Concrete as WConcrete, Exact as WExact}

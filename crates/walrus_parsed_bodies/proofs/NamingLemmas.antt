@@ -5,11 +5,11 @@ use Rattle.std.proofs.Common.{ap, sym, ◌∙◌}
 use Rattle.walrus_operator_laws.specs.walrus_pairing.wasm_immediates.Items.{Types}
 use Rattle.walrus_operator_laws.specs.walrus_pairing.wasm_immediates.declared.block_type.BlockType.{BlockType}
 use Rattle.walrus_operator_laws.specs.walrus_pairing.wasm_immediates.declared.block_type.BlockType.TheVariants as blocks
-use Rattle.wasm_body_grammar.specs.wasm_operator_names.Names.{Renaming, renamed_block, renamed_value}
-use Rattle.wasm_body_grammar.specs.wasm_operator_names.wasm_ref_types.Reference.{reference}
-use Rattle.wasm_body_grammar.specs.wasm_operator_names.wasm_ref_types.declared.heap.HeapType.{HeapType as WrittenHeap}
-use Rattle.wasm_body_grammar.specs.wasm_operator_names.wasm_ref_types.declared.value.ValType.{ValType as WrittenValue}
-use Rattle.wasm_body_grammar.specs.wasm_operator_names.wasm_ref_types.declared.value.ValType.TheVariants as values
+use Rattle.wasm_body_grammar.specs.wasm_operator_bytes.Names.{Renaming, renamed_block, renamed_value}
+use Rattle.wasm_body_grammar.specs.wasm_operator_bytes.wasm_ref_types.Reference.{reference}
+use Rattle.wasm_body_grammar.specs.wasm_operator_bytes.wasm_ref_types.declared.heap.HeapType.{HeapType as WrittenHeap}
+use Rattle.wasm_body_grammar.specs.wasm_operator_bytes.wasm_ref_types.declared.value.ValType.{ValType as WrittenValue}
+use Rattle.wasm_body_grammar.specs.wasm_operator_bytes.wasm_ref_types.declared.value.ValType.TheVariants as values
 use Rattle.walrus_parsed_items.specs.walrus_into_laws.walrus_meaning.walrus_local_function.walrus_function_parser.walrus_body_rules.Sights.{Sight, look, value_block}
 use Rattle.walrus_parsed_items.specs.walrus_body_trees.Laws.{IsNaming}
 use Rattle.walrus_forms.specs.declared.value.HeapType.{HeapType}

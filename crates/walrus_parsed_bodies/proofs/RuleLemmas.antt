@@ -14,11 +14,11 @@ use Rattle.wasm_body_grammar.specs.wasm_grammar.Modules as grammar
 use Rattle.wasm_body_grammar.specs.wasm_grammar.States.{count_of, types_of}
 use Rattle.wasm_body_grammar.specs.wasm_grammar.TypeWords.{value_from}
 use Rattle.wasm_body_grammar.specs.wasm_grammar.Values.{must}
-use Rattle.wasm_operator_names.specs.wasm_immediates.Items.{Space, Types, Functions, Tables, Memories, Tags, Globals, ElementSegments, DataSegments, Locals, Labels}
-use Rattle.wasm_operator_names.specs.wasm_immediates.declared.block_type.BlockType.{BlockType}
-use Rattle.wasm_operator_names.specs.wasm_immediates.declared.block_type.BlockType.TheVariants as blocks
+use Rattle.wasm_operator_bytes.specs.wasm_immediates.Items.{Space, Types, Functions, Tables, Memories, Tags, Globals, ElementSegments, DataSegments, Locals, Labels}
+use Rattle.wasm_operator_bytes.specs.wasm_immediates.declared.block_type.BlockType.{BlockType}
+use Rattle.wasm_operator_bytes.specs.wasm_immediates.declared.block_type.BlockType.TheVariants as blocks
 use Rattle.walrus_parsed_items.specs.walrus_parse.walrus_file_bodies.walrus_items_into.wasm_module_rules.Keeps.{first_none, must_holds}
-use Rattle.wasm_operator_names.specs.Names.{Name, block_names, operator_names, value_names}
+use Rattle.wasm_operator_bytes.specs.Names.{Name, block_names, operator_names, value_names}
 use Rattle.wasm_body_grammar.specs.wasm_operators.Operators.{flow_of}
 use Rattle.wasm_ruled_modules.specs.Rules.{AreBelow, AreOperators, GroupsBelow}
 use Rattle.walrus_parsed_items.specs.walrus_parse.walrus_file_bodies.walrus_items_into.walrus_module_env.wasm_run_names.Picks.{block_pick, form_pick, kind_pick}

@@ -3,8 +3,8 @@ use Rattle.std.specs.Prelude.{ℕ, ◌≡◌, ◌<◌, List, All, Some}
 use Rattle.std.specs.List.{AllByRecursion}
 use Rattle.wasm_body_grammar.specs.Rules.{space_of}
 use Rattle.wasm_body_grammar.specs.wasm_grammar.Modules.{Placed}
-use Rattle.wasm_operator_names.specs.wasm_immediates.Items.{Space, Locals, Labels}
-use Rattle.wasm_operator_names.specs.Names.{Name, operator_names}
+use Rattle.wasm_operator_bytes.specs.wasm_immediates.Items.{Space, Locals, Labels}
+use Rattle.wasm_operator_bytes.specs.Names.{Name, operator_names}
 use Rattle.walrus_arena.specs.Arena.{item_at}
 use Rattle.walrus_config.specs.declared.config.ModuleConfig.{ModuleConfig}
 use Rattle.walrus_parsed_items.specs.walrus_parse.walrus_file_bodies.Ready.{bodies_in}

@@ -19,7 +19,7 @@ use walrus_parsed_items::into_laws::types_into::laws::{new_types_stand, types_na
 use walrus_parsed_items::laws::read_modules_have_items;
 use wasm_body_grammar::laws::bodies_read_once;
 use wasm_import_links::laws::read_modules_are_full;
-use wasm_operator_names::laws::names_are_renamed;
+use wasm_operator_bytes::laws::names_are_renamed;
 use wasm_ruled_modules::laws::read_modules_are_ruled;
 
 /// In a module that was read each function is imported, or has a body of distinct arguments, one for each parameter of its type, whose

@@ -26,15 +26,15 @@ use Rattle.walrus_operator_laws.specs.walrus_pairing.wasm_immediates.Items.{Type
 use Rattle.walrus_operator_laws.specs.walrus_pairing.wasm_immediates.declared.block_type.BlockType.TheVariants as blocks
 use Rattle.walrus_operator_laws.specs.walrus_pairing.wasm_immediates.declared.block_type.BlockType.{BlockType}
 use Rattle.wasm_inexact_modules.specs.Inexact.{InexactBlock, InexactItem, InexactOperator, InexactValues, InexactWord}
-use Rattle.walrus_operator_laws.specs.wasm_operator_names.Names.{Renaming, renamed_operator}
+use Rattle.walrus_operator_laws.specs.wasm_operator_bytes.Names.{Renaming, renamed_operator}
 use Rattle.wasm_operator_ranges.specs.Ranges.{OperatorFits}
 use Rattle.walrus_module_env.specs.walrus_body_parser.wasm_operators.Operators.{Seen}
 use Rattle.walrus_module_env.specs.walrus_body_parser.wasm_operators.declared.op_code.OpCode.{OpCode}
-use Rattle.walrus_operator_laws.specs.wasm_operator_names.wasm_ref_types.Reference.{reference as written_reference}
-use Rattle.walrus_operator_laws.specs.wasm_operator_names.wasm_ref_types.declared.heap.HeapType.TheVariants as written
-use Rattle.walrus_operator_laws.specs.wasm_operator_names.wasm_ref_types.declared.index.UnpackedIndex.TheVariants.{Module}
-use Rattle.walrus_operator_laws.specs.wasm_operator_names.wasm_ref_types.declared.value.ValType.TheVariants as words
-use Rattle.walrus_operator_laws.specs.wasm_operator_names.wasm_ref_types.declared.value.ValType.{ValType as WrittenValue}
+use Rattle.walrus_operator_laws.specs.wasm_operator_bytes.wasm_ref_types.Reference.{reference as written_reference}
+use Rattle.walrus_operator_laws.specs.wasm_operator_bytes.wasm_ref_types.declared.heap.HeapType.TheVariants as written
+use Rattle.walrus_operator_laws.specs.wasm_operator_bytes.wasm_ref_types.declared.index.UnpackedIndex.TheVariants.{Module}
+use Rattle.walrus_operator_laws.specs.wasm_operator_bytes.wasm_ref_types.declared.value.ValType.TheVariants as words
+use Rattle.walrus_operator_laws.specs.wasm_operator_bytes.wasm_ref_types.declared.value.ValType.{ValType as WrittenValue}
 
 -- ---- plain instructions
 

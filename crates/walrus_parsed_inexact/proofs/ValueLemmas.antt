@@ -23,12 +23,12 @@ use Rattle.walrus_operator_laws.specs.walrus_pairing.Types.{read_abstract, read_
 use Rattle.walrus_operator_laws.specs.walrus_pairing.wasm_immediates.Items.{Item, Names, Number, S32, S64, Bits, Byte, Bytes, Heap, Block, Access, ManyLabels, ManyValues, ManyClauses}
 use Rattle.walrus_operator_laws.specs.walrus_pairing.wasm_immediates.declared.block_type.BlockType.TheVariants as blocks
 use Rattle.wasm_inexact_modules.specs.Inexact.{InexactField, InexactForm, InexactHeap, InexactItem, InexactOperator, InexactRef, InexactValue, InexactValues, InexactWord, InexactWritten}
-use Rattle.walrus_operator_laws.specs.wasm_operator_names.Names.{Renaming, renamed_item, renamed_operator, renamed_heap as renamed_written, renamed_value as renamed_word}
+use Rattle.walrus_operator_laws.specs.wasm_operator_bytes.Names.{Renaming, renamed_item, renamed_operator, renamed_heap as renamed_written, renamed_value as renamed_word}
 use Rattle.walrus_module_env.specs.walrus_body_parser.wasm_operators.Operators.{Seen}
-use Rattle.walrus_operator_laws.specs.wasm_operator_names.wasm_ref_types.declared.heap.HeapType.TheVariants as written
-use Rattle.walrus_operator_laws.specs.wasm_operator_names.wasm_ref_types.declared.heap.HeapType.{HeapType as WrittenHeap}
-use Rattle.walrus_operator_laws.specs.wasm_operator_names.wasm_ref_types.declared.value.ValType.TheVariants as words
-use Rattle.walrus_operator_laws.specs.wasm_operator_names.wasm_ref_types.declared.value.ValType.{ValType as WrittenValue}
+use Rattle.walrus_operator_laws.specs.wasm_operator_bytes.wasm_ref_types.declared.heap.HeapType.TheVariants as written
+use Rattle.walrus_operator_laws.specs.wasm_operator_bytes.wasm_ref_types.declared.heap.HeapType.{HeapType as WrittenHeap}
+use Rattle.walrus_operator_laws.specs.wasm_operator_bytes.wasm_ref_types.declared.value.ValType.TheVariants as words
+use Rattle.walrus_operator_laws.specs.wasm_operator_bytes.wasm_ref_types.declared.value.ValType.{ValType as WrittenValue}
 
 -- ---- tests
 

@@ -11,8 +11,8 @@ use Rattle.walrus_handler_types.specs.walrus_body_steps.wasm_body_grammar.wasm_g
 use Rattle.walrus_handler_types.specs.walrus_body_steps.wasm_body_grammar.wasm_grammar.walrus_forms.Forms.{params_of}
 use Rattle.walrus_handler_types.specs.walrus_body_steps.wasm_body_grammar.wasm_grammar.walrus_forms.Kinds.{Kind}
 use Rattle.walrus_handler_types.specs.walrus_body_steps.wasm_body_grammar.wasm_grammar.walrus_forms.Renaming.{at, renamed_kind, renamed_value}
-use Rattle.walrus_handler_types.specs.walrus_body_steps.wasm_body_grammar.wasm_operator_names.wasm_immediates.Items.{Locals}
-use Rattle.walrus_handler_types.specs.walrus_body_steps.wasm_body_grammar.wasm_operator_names.wasm_immediates.declared.block_type.BlockType.{BlockType}
+use Rattle.walrus_handler_types.specs.walrus_body_steps.wasm_body_grammar.wasm_operator_bytes.wasm_immediates.Items.{Locals}
+use Rattle.walrus_handler_types.specs.walrus_body_steps.wasm_body_grammar.wasm_operator_bytes.wasm_immediates.declared.block_type.BlockType.{BlockType}
 use Rattle.wasm_name_payloads.specs.Names.{Given, local_count, names_of}
 use Rattle.wasm_ruled_modules.specs.Rules.{ReadModulesAreRuled}
 use Rattle.walrus_parsed_linked.specs.walrus_parsed_items.walrus_parse.walrus_file_bodies.Laws.{BodiesReadFiles}

@@ -18,8 +18,8 @@ use Rattle.walrus_handler_types.specs.walrus_body_steps.wasm_body_grammar.wasm_g
 use Rattle.walrus_handler_types.specs.walrus_body_steps.wasm_body_grammar.wasm_grammar.walrus_forms.Kinds.{function_kind}
 use Rattle.walrus_handler_types.specs.walrus_body_steps.wasm_body_grammar.wasm_grammar.walrus_forms.Same.{same_kind}
 use Rattle.walrus_handler_types.specs.walrus_body_steps.wasm_body_grammar.wasm_grammar.walrus_forms.declared.value.ValType.{ValType}
-use Rattle.walrus_handler_types.specs.walrus_body_steps.wasm_body_grammar.wasm_operator_names.wasm_immediates.Items.{Space, Types, Functions, Tables, Memories, Tags, Globals, ElementSegments, DataSegments, Locals, Labels}
-use Rattle.walrus_handler_types.specs.walrus_body_steps.wasm_body_grammar.wasm_operator_names.wasm_immediates.declared.block_type.BlockType.{BlockType}
+use Rattle.walrus_handler_types.specs.walrus_body_steps.wasm_body_grammar.wasm_operator_bytes.wasm_immediates.Items.{Space, Types, Functions, Tables, Memories, Tags, Globals, ElementSegments, DataSegments, Locals, Labels}
+use Rattle.walrus_handler_types.specs.walrus_body_steps.wasm_body_grammar.wasm_operator_bytes.wasm_immediates.declared.block_type.BlockType.{BlockType}
 use Rattle.walrus_handler_types.specs.walrus_body_steps.wasm_normal_form.Normal.{normal}
 use Rattle.walrus_handler_types.specs.walrus_body_steps.wasm_normal_form.Trees.{tree_of}
 use Rattle.walrus_handler_types.specs.walrus_tree.walrus_walks.walrus_types.Items.{Item}

@@ -6,7 +6,7 @@ use Rattle.walrus_handler_types.specs.walrus_body_steps.wasm_body_grammar.Codes.
 use Rattle.walrus_handler_types.specs.walrus_body_steps.wasm_body_grammar.wasm_formats.wasm_features.declared.WasmFeatures.{WasmFeatures}
 use Rattle.walrus_handler_types.specs.walrus_body_steps.wasm_body_grammar.wasm_grammar.Modules as grammar
 use Rattle.walrus_handler_types.specs.walrus_body_steps.wasm_body_grammar.wasm_grammar.walrus_forms.Kinds.{Kind}
-use Rattle.walrus_handler_types.specs.walrus_body_steps.wasm_body_grammar.wasm_operator_names.wasm_immediates.declared.block_type.BlockType.{BlockType}
+use Rattle.walrus_handler_types.specs.walrus_body_steps.wasm_body_grammar.wasm_operator_bytes.wasm_immediates.declared.block_type.BlockType.{BlockType}
 use Rattle.wasm_ruled_modules.specs.Rules.{around_bodies}
 use Rattle.walrus_parsed_linked.specs.walrus_parsed_items.walrus_body_trees.Laws.{renamed}
 use Rattle.walrus_parsed_linked.specs.walrus_parsed_items.walrus_parse.walrus_file_bodies.walrus_items_into.walrus_module_env.wasm_run_names.Picks.{block_pick}

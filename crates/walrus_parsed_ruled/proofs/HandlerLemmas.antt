@@ -27,8 +27,8 @@ use Rattle.wasm_ruled_normal.specs.wasm_normal_form.wasm_immediates.declared.blo
 use Rattle.wasm_ruled_normal.specs.wasm_ruled_modules.wasm_module_rules.wasm_modules.wasm_body_grammar.wasm_operators.Operators.{flow_of}
 use Rattle.wasm_ruled_normal.specs.wasm_ruled_modules.wasm_module_rules.wasm_modules.wasm_body_grammar.wasm_operators.declared.entry.Flow.{Flow}
 use Rattle.wasm_ruled_normal.specs.wasm_ruled_modules.wasm_module_rules.wasm_modules.wasm_body_grammar.wasm_operators.declared.entry.Flow.TheVariants as flows
-use Rattle.wasm_ruled_normal.specs.wasm_ruled_modules.wasm_module_rules.wasm_modules.wasm_body_grammar.wasm_operator_names.Laws.{same}
-use Rattle.wasm_ruled_normal.specs.wasm_ruled_modules.wasm_module_rules.wasm_modules.wasm_body_grammar.wasm_operator_names.Names.{Name, heap_names, item_names, operator_names, value_names}
+use Rattle.wasm_ruled_normal.specs.wasm_ruled_modules.wasm_module_rules.wasm_modules.wasm_body_grammar.wasm_operator_bytes.NameLaws.{same}
+use Rattle.wasm_ruled_normal.specs.wasm_ruled_modules.wasm_module_rules.wasm_modules.wasm_body_grammar.wasm_operator_bytes.Names.{Name, heap_names, item_names, operator_names, value_names}
 use Rattle.wasm_ruled_normal.specs.wasm_normal_form.Bodies.{is_used, local_in}
 use Rattle.wasm_ruled_normal.specs.wasm_normal_form.Normal.{normal_from, normal_ops, with_pick}
 use Rattle.wasm_ruled_normal.specs.wasm_normal_form.Roles.{Placed, cuts, else_op, is_if}

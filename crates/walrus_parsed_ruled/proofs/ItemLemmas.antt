@@ -18,7 +18,7 @@ use Rattle.wasm_ruled_normal.specs.wasm_normal_form.wasm_immediates.Items.{Space
 use Rattle.wasm_ruled_normal.specs.wasm_normal_form.wasm_immediates.declared.clause.Clause.{Clause}
 use Rattle.wasm_ruled_normal.specs.wasm_normal_form.wasm_immediates.declared.clause.Clause.TheVariants as handlers
 use Rattle.wasm_ruled_normal.specs.wasm_ruled_modules.wasm_module_rules.wasm_modules.wasm_body_grammar.wasm_operators.Operators.{Seen}
-use Rattle.wasm_ruled_normal.specs.wasm_ruled_modules.wasm_module_rules.wasm_modules.wasm_body_grammar.wasm_operator_names.Names.{Name, Renaming, clause_names, heap_names, item_names, label_name, renamed_item, renamed_operator}
+use Rattle.wasm_ruled_normal.specs.wasm_ruled_modules.wasm_module_rules.wasm_modules.wasm_body_grammar.wasm_operator_bytes.Names.{Name, Renaming, clause_names, heap_names, item_names, label_name, renamed_item, renamed_operator}
 use Rattle.wasm_ruled_normal.specs.wasm_ruled_modules.wasm_module_rules.wasm_modules.wasm_body_grammar.wasm_formats.Stops.{Index}
 use Rattle.wasm_ruled_normal.specs.wasm_ruled_modules.wasm_module_rules.wasm_modules.wasm_body_grammar.wasm_formats.declared.fault.Space.TheVariants as spaces
 use Rattle.wasm_ruled_normal.specs.wasm_ruled_modules.wasm_module_rules.wasm_modules.wasm_body_grammar.wasm_grammar.Exprs.{Known, heap_test, item_test, items_test}

@@ -7,6 +7,9 @@ pub mod Leaves
 pub mod Operators
 pub mod Signs
 pub mod Appended
+pub mod Names
+pub mod NameLaws
+pub mod Renamed
 -- Passed on to crates above, which then list this one alone.
 pub use Rattle.wasm_operators.specs.wasm_immediates as wasm_immediates
 pub use Rattle.wasm_operators.specs as wasm_operators

@@ -4,6 +4,7 @@ ghost use Rattle.wasm_operators.specs.wasm_features.declared.WasmFeatures.{WasmF
 ghost use Rattle.wasm_operators.specs.Spellings.{SpellsOperator};
 ghost use Rattle.wasm_operator_bytes.specs.Bytes.{operator_bytes};
 ghost use Rattle.wasm_operator_bytes.specs.Laws.{ReadsBack, WritesShortest};
+ghost use Rattle.wasm_operator_bytes.specs.NameLaws.{NamesAreRenamed, RenamesTwice, SameIsSame};
 
 /// What is written for an operator that has a spelling is one, and none is shorter.
 pub fn written_operators_are_shortest()
@@ -13,4 +14,20 @@ pub fn written_operators_are_shortest()
 /// What is written for an operator that has a spelling is read as that operator, whatever follows.
 pub fn written_operators_are_read_back()
     ensures { (features : WasmFeatures) → ReadsBack features }
+{}
+
+/// What a renamed operator names is what it named, renamed: types also inside block types, heap types and value types, labels and
+/// tags also inside lists and handlers, and memories inside accesses.
+pub fn names_are_renamed()
+    ensures { NamesAreRenamed }
+{}
+
+/// A renaming that keeps each number keeps each operator.
+pub fn the_same_numbers_keep_an_operator()
+    ensures { SameIsSame }
+{}
+
+/// To rename twice is to rename once, by one number after the other.
+pub fn renamings_compose()
+    ensures { RenamesTwice }
 {}

@@ -1,5 +1,5 @@
-//! What is written for an operator: definitions, laws as functions with nothing to do, and the numbers in it, which are written in their
-//! shortest spelling (Core Specification, binary format: values).
+//! What is written for an operator, what it names, and operators renamed: definitions, laws as functions with nothing to do, and the numbers
+//! in it, which are written in their shortest spelling (Core Specification, binary format: values).
 #![tactic(auto)]
 
 pub mod laws;

@@ -14,7 +14,7 @@ use Rattle.wasm_ruled_modules.specs.wasm_module_rules.wasm_modules.wasm_body_gra
 use Rattle.wasm_ruled_modules.specs.wasm_module_rules.wasm_modules.wasm_body_grammar.wasm_operators.Table.{structure_rows}
 use Rattle.wasm_ruled_modules.specs.wasm_module_rules.wasm_modules.wasm_body_grammar.wasm_operators.declared.entry.Flow.{Flow}
 use Rattle.wasm_ruled_modules.specs.wasm_module_rules.wasm_modules.wasm_body_grammar.wasm_operators.declared.entry.Flow.TheVariants as flows
-use Rattle.wasm_ruled_modules.specs.wasm_module_rules.wasm_modules.wasm_body_grammar.wasm_operator_names.Names.{item_names, operator_names}
+use Rattle.wasm_ruled_modules.specs.wasm_module_rules.wasm_modules.wasm_body_grammar.wasm_operator_bytes.Names.{item_names, operator_names}
 use Rattle.wasm_normal_form.specs.Normal.{closed, normal_from, normal_ops, picked, with_pick}
 use Rattle.wasm_normal_form.specs.Roles.{placed, Passes as PassesOn, Runs, Opens, Turns, Ends, cuts, else_op, end_op, is_if, is_if_in, role_in}
 use Rattle.wasm_normal_form.specs.Trees.{Tree, Close, Arm, Skip, Run, Nest, flat, innermost, open_in, prepend, tree_of}

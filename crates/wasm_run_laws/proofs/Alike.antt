@@ -9,7 +9,7 @@ use Rattle.wasm_immediates.specs.declared.clause.Clause.TheVariants as clauses
 use Rattle.wasm_operators.specs.declared.entry.Flow.{Flow}
 use Rattle.wasm_operators.specs.declared.entry.Flow.TheVariants as flows
 use Rattle.wasm_operators.specs.Operators.{Seen, flow_of}
-use Rattle.wasm_operator_names.specs.Names.{renamed_operator}
+use Rattle.wasm_operator_bytes.specs.Names.{renamed_operator}
 use Rattle.wasm_normal_form.specs.Roles.{cuts_in, cuts, is_if_in, is_if}
 use Rattle.wasm_normal_form.specs.Trees.{Tree, Close, Arm, Skip, Run, Nest}
 use Rattle.wasm_normal_form.specs.Normal.{normal_from, picked}

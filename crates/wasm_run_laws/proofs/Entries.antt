@@ -14,7 +14,7 @@ use Rattle.wasm_immediates.specs.declared.clause.Clause.{Clause}
 use Rattle.wasm_immediates.specs.declared.clause.Clause.TheVariants as handlers
 use Rattle.wasm_immediates.specs.Items.{Types, Functions, Tables, Memories, Tags, Globals, ElementSegments, DataSegments, Locals, Labels, Item, Names, Number, S32, S64, Bits, Byte, Bytes, Heap, Block, Access, ManyLabels, ManyValues, ManyClauses}
 use Rattle.wasm_operators.specs.Operators.{Seen}
-use Rattle.wasm_operator_names.specs.Names.{Renaming, renamed_index, renamed_heap, renamed_value, renamed_block, renamed_clause, renamed_item, renamed_operator}
+use Rattle.wasm_operator_bytes.specs.Names.{Renaming, renamed_index, renamed_heap, renamed_value, renamed_block, renamed_clause, renamed_item, renamed_operator}
 use Rattle.wasm_normal_form.specs.Roles.{Placed}
 use Rattle.wasm_normal_form.specs.Normal.{with_pick, picked}
 use Rattle.wasm_normal_form.specs.Bodies.{renamed_local, with_locals}

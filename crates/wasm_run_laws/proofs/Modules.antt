@@ -6,9 +6,9 @@ use Rattle.std.specs.Option.{option_map}
 use Rattle.wasm_immediates.specs.declared.block_type.BlockType.{BlockType}
 use Rattle.wasm_immediates.specs.Items.{Functions}
 use Rattle.wasm_operators.specs.Operators.{Seen}
-use Rattle.wasm_operator_names.specs.Names.{renamed_operator}
-use Rattle.wasm_operator_names.specs.Laws.{same}
-use Rattle.wasm_operator_names.specs.Renamed.{same_is_same}
+use Rattle.wasm_operator_bytes.specs.Names.{renamed_operator}
+use Rattle.wasm_operator_bytes.specs.NameLaws.{same}
+use Rattle.wasm_operator_bytes.specs.Renamed.{same_is_same}
 use Rattle.wasm_normal_form.specs.Normal.{picked, normal}
 use Rattle.wasm_normal_form.specs.Laws.{TreeIsOne, NormalNests}
 use Rattle.wasm_runs.specs.Outcomes.{Outcome, Ending}

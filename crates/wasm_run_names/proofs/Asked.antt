@@ -16,7 +16,7 @@ use Rattle.wasm_operators.specs.declared.entry.Kind.TheVariants as kinds
 use Rattle.wasm_operators.specs.Kinds.{forms}
 use Rattle.wasm_operators.specs.Table.{Row, find, find_byte, find_code, structure_rows, call_rows, plain_rows, fb_rows, fc_rows, fd_rows, fe_rows}
 use Rattle.wasm_operators.specs.Operators.{Seen, is_on, kind_of, allowed, flow_in}
-use Rattle.wasm_operator_names.specs.Names.{Name, heap_names, item_names}
+use Rattle.wasm_operator_bytes.specs.Names.{Name, heap_names, item_names}
 use Rattle.wasm_run_laws.specs.wasm_runs.Programs.{label_in, function_in}
 use Rattle.wasm_run_names.specs.Asked.{NamesAsked, OperatorsNameWhatIsAsked}
 

@@ -7,7 +7,7 @@ use Rattle.wasm_immediates.specs.declared.clause.Clause.{Clause}
 use Rattle.wasm_immediates.specs.Items.{Space, Functions, Labels, Item, Block, ManyClauses}
 use Rattle.wasm_operators.specs.declared.op_code.OpCode.{OpCode}
 use Rattle.wasm_operators.specs.Operators.{Seen}
-use Rattle.wasm_operator_names.specs.Names.{Name, operator_names}
+use Rattle.wasm_operator_bytes.specs.Names.{Name, operator_names}
 use Rattle.wasm_normal_form.specs.Roles.{Placed, placed}
 use Rattle.wasm_normal_form.specs.Trees.{Tree, tree_of}
 

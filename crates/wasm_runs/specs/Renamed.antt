@@ -2,7 +2,7 @@
 use Rattle.std.specs.Prelude.{ℕ, List, map}
 use Rattle.std.specs.List.{AllByRecursion}
 use Rattle.wasm_immediates.specs.Items.{Functions, Locals, Labels}
-use Rattle.wasm_operator_names.specs.Names.{Renaming, renamed_value, renamed_item}
+use Rattle.wasm_operator_bytes.specs.Names.{Renaming, renamed_value, renamed_item}
 use Rattle.wasm_runs.specs.Outcomes.{Outcome, Enter}
 use Rattle.wasm_runs.specs.Programs.{Signature, Shown, Plain, Typed, Executed, Event}
 

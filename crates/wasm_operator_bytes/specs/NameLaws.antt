@@ -2,7 +2,7 @@
 use Rattle.std.specs.Prelude.{ℕ, ◌≡◌, List, map}
 use Rattle.wasm_operators.specs.wasm_immediates.Items.{Space}
 use Rattle.wasm_operators.specs.Operators.{Seen}
-use Rattle.wasm_operator_names.specs.Names.{Name, Renaming, operator_names, renamed_operator}
+use Rattle.wasm_operator_bytes.specs.Names.{Name, Renaming, operator_names, renamed_operator}
 
 -- a name, renamed
 abbrev pub renamed_name : Renaming → Name → Name

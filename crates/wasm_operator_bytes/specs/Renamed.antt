@@ -15,8 +15,8 @@ use Rattle.wasm_operators.specs.wasm_immediates.declared.clause.Clause.{Clause}
 use Rattle.wasm_operators.specs.wasm_immediates.declared.clause.Clause.TheVariants as handlers
 use Rattle.wasm_operators.specs.wasm_immediates.Items.{Space, Labels, Item, Names, Number, S32, S64, Bits, Byte, Bytes, Heap, Block, Access, ManyLabels, ManyValues, ManyClauses}
 use Rattle.wasm_operators.specs.Operators.{Seen}
-use Rattle.wasm_operator_names.specs.Names.{Name, Renaming, index_names, renamed_index, heap_names, renamed_heap, value_names, renamed_value, block_names, renamed_block, clause_names, renamed_clause, label_name, item_names, renamed_item, operator_names, renamed_operator}
-use Rattle.wasm_operator_names.specs.Laws.{renamed_name, same, after, NamesAreRenamed, SameIsSame, RenamesTwice}
+use Rattle.wasm_operator_bytes.specs.Names.{Name, Renaming, index_names, renamed_index, heap_names, renamed_heap, value_names, renamed_value, block_names, renamed_block, clause_names, renamed_clause, label_name, item_names, renamed_item, operator_names, renamed_operator}
+use Rattle.wasm_operator_bytes.specs.NameLaws.{renamed_name, same, after, NamesAreRenamed, SameIsSame, RenamesTwice}
 
 -- ---- lists
 
