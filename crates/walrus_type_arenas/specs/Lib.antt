@@ -1,3 +1,4 @@
+pub mod Counts
 pub mod Emission
 pub mod Groups
 pub mod Highest

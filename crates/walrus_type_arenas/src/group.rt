@@ -1,10 +1,11 @@
 //! Adding recursion groups to a table.
-ghost use Rattle.std.specs.Prelude.{◌≡◌, ◌+◌, ◌<◌, ◌≤◌, ◌^◌, ℕ, List, [], ◌∷◌, ◌++◌, length, map, Some, None, false, IfOk, OnOk, vec_len, vec_capacity, IfErr, OnErr, Ok, true};
+ghost use Rattle.std.specs.Prelude.{◌≡◌, ◌+◌, ◌<◌, ◌≤◌, ◌^◌, ℕ, List, [], ◌∷◌, ◌++◌, length, map, Some, None, false, IfOk, OnOk, vec_len, vec_capacity, IfErr, OnErr, true};
 ghost use Rattle.std.specs.List.{range_with_len};
 ghost use Rattle.walrus_type_index.specs.walrus_items.Items.{item_of};
 ghost use Rattle.walrus_type_index.specs.Places.{kinds_in};
 ghost use Rattle.walrus_type_index.specs.Ordered.{IsOrdered};
-ghost use Rattle.walrus_type_arenas.specs.Groups.{new_items, member_kind, AddsGroup, IsCause};
+ghost use Rattle.walrus_type_arenas.specs.Counts.{IsMiscount};
+ghost use Rattle.walrus_type_arenas.specs.Groups.{new_items, member_kind, AddsGroup};
 ghost use Rattle.walrus_type_arenas.specs.Table.{table_of, IsSound};
 
 use crate::error::IrError;
@@ -236,7 +237,7 @@ pub fn append_counted(
     ensures sound { IsSound None index.new (kinds_in types.new.slots) (table_of types.new.slots groups.new.slots) homes.new.items }
     ensures added { OnOk result (AddsGroup true (map member_kind members.items) (table_of types.old.slots groups.old.slots) (table_of types.new.slots groups.new.slots)) }
     ensures counted { OnOk result (length members.items ≡ count) }
-    ensures cause { IfErr result (IsCause (λ made. made ≡ Ok members) count) }
+    ensures cause { IfErr result (IsMiscount (length members.items) count) }
     ensures refused { OnErr result (table_of types.new.slots groups.new.slots ≡ table_of types.old.slots groups.old.slots) }
 {
     if members.len() != count {

@@ -1,9 +1,7 @@
-use Rattle.std.proofs.Common.{◌≡◌, ◌∙◌, ℕ, Vec, Global, Result, Ok, map, ap, subst, true}
+use Rattle.std.proofs.Common.{◌∙◌, ℕ, map, ap, subst, true}
 use Rattle.std.specs.Fn.{FnOnceReturnsAt}
 use Rattle.std.specs.List.{range_with_len}
 use Rattle.std.proofs.lemmas.Result.{err_from_is_err_and}
-use Rattle.walrus_type_arenas.specs.declared.error.IrError.{IrError}
-use Rattle.walrus_type_arenas.specs.declared.group.NewType.{NewType}
 use Rattle.walrus_type_arenas.specs.Groups.{AddsGroup, member_kind}
 use Rattle.walrus_type_arenas.specs.Table.{Table, next_id, table_of}
 use Rattle.walrus_type_arenas.proofs.GroupLemmas.{next-seen}
@@ -15,8 +13,8 @@ returns-in_err-append_counted-clause-cause g c =
     let next = next-seen c.self.inside.types.slots c.self.inside.groups.slots c.next_id-first.result c.args.self.now c.self.view_is c.next_id-first.ensures in
     let shown = c.as_slice.ensures.value ∙ c.in_ok-ids.ensures ∙ ap (λ (n : ℕ). range_with_len n c.args.count) next in
     let p = err_from_is_err_and c.from_residual-in_err-append_counted.result c.from_residual-in_err-append_counted.ensures.1 in
-    rw (p.1, p.2) (cause-of (λ (made : Result (Vec NewType Global) IrError). made ≡ Ok c.in_ok-members.members) (FnOnceReturnsAt g.F.FnOnce c.args.build (range_with_len (next_id c.args.self.now) c.args.count)) c.args.count c.in_err-append_counted.field-0.0
-    (λ made e. rw e (c.as_slice.result, c.in_ok-members.ensures, shown)) c.in_err-append_counted.ensures.cause)
+    rw (p.1, p.2) (cause-of (FnOnceReturnsAt g.F.FnOnce c.args.build (range_with_len (next_id c.args.self.now) c.args.count)) c.args.count c.in_err-append_counted.field-0.0
+    c.in_ok-members.members (c.as_slice.result, c.in_ok-members.ensures, shown) c.in_err-append_counted.ensures.cause)
 
 pub returns-clause-added : goal.returns-clause-added
 returns-clause-added g c =
