@@ -7,15 +7,6 @@ returns-in-0-number c = rw (c.in-0.is, c.in-0-number.is) refl
 pub returns-in-10 : goal.returns-in-10
 returns-in-10 c = rw (c.in-0.is, c.in-10.is) refl
 
-pub returns-in-15 : goal.returns-in-15
-returns-in-15 c = rw (c.in-0.is, c.in-15.is) refl
-
-pub returns-in-26 : goal.returns-in-26
-returns-in-26 c = rw (c.in-0.is, c.in-26.is) refl
-
-pub returns-in-27 : goal.returns-in-27
-returns-in-27 c = rw (c.in-0.is, c.in-27.is) refl
-
 pub returns-in-209 : goal.returns-in-209
 returns-in-209 c = rw (c.in-0.is, c.in-209.is) refl
 
@@ -24,15 +15,6 @@ returns-in-211 c = rw (c.in-0.is, c.in-211.is) refl
 
 pub returns-in-212 : goal.returns-in-212
 returns-in-212 c = rw (c.in-0.is, c.in-212.is) refl
-
-pub returns-in-15-number : goal.returns-in-15-number
-returns-in-15-number c = rw (c.in-251.is, c.in-15-number.is) refl
-
-pub returns-in-26-number : goal.returns-in-26-number
-returns-in-26-number c = rw (c.in-251.is, c.in-26-number.is) refl
-
-pub returns-in-27-number : goal.returns-in-27-number
-returns-in-27-number c = rw (c.in-251.is, c.in-27-number.is) refl
 
 pub returns-in-28 : goal.returns-in-28
 returns-in-28 c = rw (c.in-251.is, c.in-28.is) refl
