@@ -1,20 +1,12 @@
-//! A module of the tests' own, and the bodies of its first function.
+//! A module of the tests' own, and what indices name in it.
 
-ghost use Rattle.std.specs.Prelude.{◌<◌, ◌≤◌, ◌+◌, length};
-
+use crate::forms::{EMPTY, id};
 use std::alloc::{AllocError, Global};
-use walrus_arena::{DataId, FunctionId, LocalId, MemoryId, TagId, TypeId};
-use walrus_body_env::{AcceptAll, BodyEnv, BodyError};
-use walrus_body_writer::Output;
-use walrus_index_maps::{IdsToIndices, IndicesToIds};
+use walrus_arena::{LocalId, MemoryId, TagId, TypeId};
+use walrus_body_env::BodyEnv;
+use walrus_index_maps::IndicesToIds;
 use walrus_instr::InstrSeqType;
-use walrus_items::ModuleLocals;
-use walrus_local_function::LocalFunction;
 use walrus_types::ValType;
-use wasm_features::WasmFeatures;
-use wasm_reader::BinaryReader;
-
-const EMPTY: InstrSeqType = InstrSeqType::Simple(None);
 
 /// What bodies ask of it. Of its types the first has neither parameters nor results, the second and the third have the parameters
 /// `one`, the third has the results `one`; none but the first is a pick. Its tags are of the second, its handlers of the third.
@@ -101,70 +93,11 @@ impl<'a> BodyEnv for TestModule<'a> {
 /// Three types, three functions, a tag and a data segment.
 pub(crate) fn indices(alloc: Global) -> Result<IndicesToIds, AllocError> {
     let mut indices = IndicesToIds::new(alloc);
-    for number in 0..3usize {
-        indices.push_type(TypeId::from_index(number))?;
-        indices.push_func(FunctionId::from_index(number))?;
+    for number in 0..3u64 {
+        indices.push_type(id(number))?;
+        indices.push_func(id(number))?;
     }
-    indices.push_tag(TagId::from_index(0))?;
-    indices.push_data(DataId::from_index(0))?;
+    indices.push_tag(id(0))?;
+    indices.push_data(id(0))?;
     Ok(indices)
-}
-
-/// Reads a body, so many bytes behind the beginning of the code section's contents, and adds its locals.
-pub(crate) fn read(
-    alloc: Global,
-    module: &TestModule<'_>,
-    behind: u32,
-    bytes: &[u8],
-    features: WasmFeatures,
-    locals: &mut ModuleLocals,
-) -> Result<LocalFunction, BodyError>
-    requires small { length bytes.now < 1000000 }
-    requires near { behind < 1000 }
-{
-    let mut indices = indices(alloc)?;
-    let body = BinaryReader::new_features(
-        bytes,
-        module.code_start as u64 + behind as u64,
-        features,
-    );
-    let args = Vec::new(alloc);
-    let ty = TypeId::from_index(0);
-    let function = FunctionId::from_index(0);
-    LocalFunction::parse(
-        alloc,
-        module,
-        &mut indices,
-        locals,
-        function,
-        ty,
-        EMPTY,
-        args,
-        body,
-        &mut AcceptAll,
-    )
-}
-
-// The first tag, function and data segment have numbers.
-fn maps(alloc: Global) -> Result<IdsToIndices, AllocError> {
-    let mut maps = IdsToIndices::new(alloc);
-    maps.push_tag(TagId::from_index(0))?;
-    maps.push_func(FunctionId::from_index(0))?;
-    maps.set_data_index(DataId::from_index(0), 0)?;
-    Ok(maps)
-}
-
-/// Writes what was read: its locals, and its operators.
-pub(crate) fn write(
-    alloc: Global,
-    function: &LocalFunction,
-    locals: &ModuleLocals,
-    out: &mut Output,
-) -> Result<(), BodyError> {
-    let mut maps = maps(alloc)?;
-    let facts = function.emit_facts(alloc)?;
-    let used = facts.used_locals.as_slice();
-    let id = FunctionId::from_index(0);
-    function.emit_locals(alloc, used, locals, id, &mut maps, &mut out.bytes)?;
-    function.emit_instructions(alloc, id, &maps, out)
 }

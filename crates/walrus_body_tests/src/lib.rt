@@ -1,0 +1,28 @@
+//! Tests of bodies that are read, in a module of their own, and written again, of bodies and locals that are written, and of frames, each
+//! call with ample memory.
+#![tactic(auto)]
+
+#[cfg(test)]
+mod bench;
+#[cfg(test)]
+mod built;
+#[cfg(test)]
+mod forms;
+#[cfg(test)]
+mod frames;
+#[cfg(test)]
+mod handlers;
+#[cfg(test)]
+mod locals;
+#[cfg(test)]
+mod module;
+#[cfg(test)]
+mod read;
+#[cfg(test)]
+mod rows;
+#[cfg(test)]
+mod table;
+#[cfg(test)]
+mod validators;
+#[cfg(test)]
+mod words;
