@@ -13,7 +13,6 @@ pub use Rattle.walrus_operators.specs.Copies as OperatorCopies
 pub use Rattle.walrus_operators.specs.Immediates
 pub use Rattle.walrus_operators.specs.Operators
 pub use Rattle.walrus_operator_writer.specs.Appended
-pub mod Lists
 -- Operators and instructions.
 pub use Rattle.walrus_pairing.specs.Looks
 pub use Rattle.walrus_pairing.specs.Read as PairedInstructions

@@ -2,8 +2,6 @@
 //! written of them, and why a body is refused.
 #![tactic(auto)]
 
-mod lists;
-
 pub use walrus_body_env::{AcceptAll, BodyEnv, BodyError, Validator};
 pub use walrus_body_frames::{BlockKind, ControlFrame, IfElseState, ValidationContext};
 pub use walrus_body_names::FunctionFacts;
@@ -20,7 +18,6 @@ pub use wasm_operators::{Flow, OpCode};
 pub mod laws {
     /// Operators: their table, what they spell, what each names, and the instruction that each is paired with.
     pub mod operators {
-        pub use crate::lists::only_three_operators_hold_lists;
         pub use walrus_operator_writer::laws as writing;
         pub use walrus_operators::laws as reading;
         pub use wasm_immediates::laws as immediates;
