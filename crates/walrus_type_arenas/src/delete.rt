@@ -10,7 +10,7 @@ ghost use Rattle.walrus_type_arenas.specs.Table.{IsLive, Deletes, DeletesGroup, 
 
 use walrus_type_index::arena::{RecGroupId, RecGroupSpace, TombstoneArena, TypeId, TypeSpace};
 use walrus_type_index::items::{RecGroup, Type};
-use walrus_type_index::{Tree, is_marked, lend};
+use walrus_type_index::{Index, is_marked, lend};
 
 /// Takes a type out of its group, which goes where none is left.
 pub fn leave_group(
@@ -30,7 +30,7 @@ pub fn leave_group(
 }
 
 // Deletes a type, if it lives. No type is lent.
-fn clear(types: &mut TombstoneArena<Type, TypeSpace>, index: &mut Tree, id: TypeId)
+fn clear(types: &mut TombstoneArena<Type, TypeSpace>, index: &mut Index, id: TypeId)
     requires { IsOrdered None index.old (kinds_in types.old.slots) }
     ensures types { types.new.slots ≡ slice_set types.old.slots id None }
     ensures ordered { IsOrdered None index.new (kinds_in types.new.slots) }
@@ -43,7 +43,7 @@ fn clear(types: &mut TombstoneArena<Type, TypeSpace>, index: &mut Tree, id: Type
 }
 
 /// Deletes these types, those of them that live, each by a search of the index. No type is lent.
-pub fn clear_each(types: &mut TombstoneArena<Type, TypeSpace>, index: &mut Tree, ids: &[TypeId])
+pub fn clear_each(types: &mut TombstoneArena<Type, TypeSpace>, index: &mut Index, ids: &[TypeId])
     requires { IsOrdered None index.old (kinds_in types.old.slots) }
     ensures types { map (option_map item_of) types.new.slots ≡ clear_all ids.now (map (option_map item_of) types.old.slots) }
     ensures ordered { IsOrdered None index.new (kinds_in types.new.slots) }
@@ -83,7 +83,7 @@ fn has_marked(marks: &[bool]) -> bool
 }
 
 /// Deletes the types of the marked ids, those of them that live, and then takes them out of the index in one walk of it. No type is lent.
-pub fn clear_marked(types: &mut TombstoneArena<Type, TypeSpace>, index: &mut Tree, marks: &[bool])
+pub fn clear_marked(types: &mut TombstoneArena<Type, TypeSpace>, index: &mut Index, marks: &[bool])
     requires { IsOrdered None index.old (kinds_in types.old.slots) }
     ensures types { map (option_map item_of) types.new.slots ≡ clear_all (marked marks.now) (map (option_map item_of) types.old.slots) }
     ensures ordered { IsOrdered None index.new (kinds_in types.new.slots) }

@@ -3,7 +3,7 @@ ghost use Rattle.std.specs.Prelude.{◌≡◌, ◌+◌, ◌<◌, ◌≤◌, ◌^
 ghost use Rattle.std.specs.List.{range_with_len};
 ghost use Rattle.walrus_type_index.specs.walrus_items.Items.{item_of};
 ghost use Rattle.walrus_type_index.specs.Places.{kinds_in};
-ghost use Rattle.walrus_type_index.specs.Ordered.{IsOrdered};
+ghost use Rattle.walrus_type_index.specs.Ordered.{IsIndex, IsOrdered};
 ghost use Rattle.walrus_type_arenas.specs.Counts.{IsMiscount};
 ghost use Rattle.walrus_type_arenas.specs.Groups.{new_items, member_kind, AddsGroup};
 ghost use Rattle.walrus_type_arenas.specs.Table.{table_of, IsSound};
@@ -13,7 +13,7 @@ use std::alloc::{AllocError, Global};
 use walrus_type_index::arena::{RecGroupId, RecGroupSpace, TombstoneArena, TypeId, TypeSpace};
 use walrus_type_index::forms::CompositeType;
 use walrus_type_index::items::{RecGroup, Type};
-use walrus_type_index::{Spare, Tree, enter};
+use walrus_type_index::{Index, Spare, enter};
 
 /// What a new member of a recursion group is to be.
 #[derive(Drop)]
@@ -81,7 +81,7 @@ fn types_of(
 }
 
 // Adds the type, and enters it into the index. Asks for room.
-fn push_type(types: &mut TombstoneArena<Type, TypeSpace>, index: &mut Tree, ty: Type, spare: Spare)
+fn push_type(types: &mut TombstoneArena<Type, TypeSpace>, index: &mut Index, ty: Type, spare: Spare)
     requires room { 0 < types.old.room }
     requires ordered { IsOrdered None index.old (kinds_in types.old.slots) }
     ensures types { types.new.slots ≡ types.old.slots ++ Some ty ∷ [] }
@@ -115,13 +115,17 @@ impl Single {
     }
 }
 
-/// Makes room for so many types, each alone in its group.
+/// Makes room for so many types, each alone in its group, and lets the index have more trees.
 pub fn reserve_singles(
+    alloc: Global,
     types: &mut TombstoneArena<Type, TypeSpace>,
     groups: &mut TombstoneArena<RecGroup, RecGroupSpace>,
     homes: &mut Vec<RecGroupId>,
+    index: &mut Index,
     count: usize,
 ) -> Result<(), AllocError>
+    requires { IsIndex (kinds_in types.old.slots) index.old }
+    ensures index { index.new ≡ index.old }
     ensures types { types.new.slots ≡ types.old.slots }
     ensures groups { groups.new.slots ≡ groups.old.slots }
     ensures homes { homes.new.items ≡ homes.old.items }
@@ -129,6 +133,7 @@ pub fn reserve_singles(
     ensures groups_room { OnOk result (count ≤ groups.new.room) }
     ensures homes_room { OnOk result (vec_len homes.new + count ≤ vec_capacity homes.new) }
 {
+    index.widen(alloc, types)?;
     types.reserve(count)?;
     groups.reserve(count)?;
     homes.reserve(count)
@@ -139,7 +144,7 @@ pub fn push_single(
     types: &mut TombstoneArena<Type, TypeSpace>,
     groups: &mut TombstoneArena<RecGroup, RecGroupSpace>,
     homes: &mut Vec<RecGroupId>,
-    index: &mut Tree,
+    index: &mut Index,
     ty: Type,
     single: Single,
 )
@@ -165,7 +170,7 @@ pub fn push_single(
 fn push_types(
     types: &mut TombstoneArena<Type, TypeSpace>,
     homes: &mut Vec<RecGroupId>,
-    index: &mut Tree,
+    index: &mut Index,
     new: Vec<(Type, Spare)>,
     home: RecGroupId,
 )
@@ -192,7 +197,7 @@ pub fn append_members(
     types: &mut TombstoneArena<Type, TypeSpace>,
     groups: &mut TombstoneArena<RecGroup, RecGroupSpace>,
     homes: &mut Vec<RecGroupId>,
-    index: &mut Tree,
+    index: &mut Index,
     explicit: bool,
     members: Vec<NewType>,
 ) -> Result<(), AllocError>
@@ -209,6 +214,7 @@ pub fn append_members(
     let first = types.next_id();
     let ids = ids_from(alloc, first, count)?;
     let made = types_of(alloc, first, members)?;
+    index.widen(alloc, types)?;
     types.reserve(count)?;
     homes.reserve(count)?;
     groups.reserve(1)?;
@@ -228,7 +234,7 @@ pub fn append_counted(
     types: &mut TombstoneArena<Type, TypeSpace>,
     groups: &mut TombstoneArena<RecGroup, RecGroupSpace>,
     homes: &mut Vec<RecGroupId>,
-    index: &mut Tree,
+    index: &mut Index,
     count: usize,
     members: Vec<NewType>,
 ) -> Result<(), IrError>

@@ -10,11 +10,11 @@ ghost use Rattle.walrus_type_arenas.specs.Highest.{later_of, if_of_kind};
 use walrus_type_index::arena::{TombstoneArena, TypeId, TypeSpace};
 use walrus_type_index::forms::ValType;
 use walrus_type_index::items::Type;
-use walrus_type_index::{Spare, Target, Tree};
+use walrus_type_index::{Index, Spare, Target};
 
 /// The type that stands for this one, which is to have the id `next`. No type is lent.
 pub fn look_up(
-    index: &Tree,
+    index: &Index,
     types: &TombstoneArena<Type, TypeSpace>,
     ty: &Type,
     next: TypeId,
@@ -61,7 +61,7 @@ fn lent_function(
 
 /// The latest final function type without supertype of just these parameters and results.
 pub fn found_function(
-    index: &Tree,
+    index: &Index,
     lent: &Option<Spare>,
     types: &TombstoneArena<Type, TypeSpace>,
     params: &[ValType],

@@ -21,7 +21,7 @@ pub use members::{is_single, resolve, resolve_all};
 
 // Passed on to crates above, which then list this one alone.
 pub mod type_index {
-    pub use walrus_type_index::{Spare, Tree, lend, settle};
+    pub use walrus_type_index::{Index, Spare, lend, settle};
 
     pub mod arena {
         pub use walrus_type_index::arena::{

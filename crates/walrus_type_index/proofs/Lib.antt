@@ -2,6 +2,7 @@ pub mod KindTotal
 pub mod OrderLemmas
 pub mod OrderedLemmas
 pub mod Tied
+pub mod DirectoryLemmas
 pub mod TreeLemmas
 -- Passed on to crates above, which then list this one alone.
 pub use Rattle.walrus_items.proofs.walrus_forms as walrus_forms

@@ -67,7 +67,7 @@ filter-has : (y id : ℕ) (xs : List Hashed) → has y (filter (λ x. not (x.id 
 filter-has y id xs = filter-passes (λ z. not (z == id)) y xs ∙ ap (λ (b : Bool). not b && has y xs) (eq-turned y id)
 
 -- putting keeps the order
-all-put : (P : Hashed → Type 0) (test : Hashed → Bool) (new : Hashed) (xs : List Hashed) → P new → AllByRecursion P xs → AllByRecursion P (put_in test new xs)
+pub all-put : (P : Hashed → Type 0) (test : Hashed → Bool) (new : Hashed) (xs : List Hashed) → P new → AllByRecursion P xs → AllByRecursion P (put_in test new xs)
 all-put P test new [] p a = (p, tt)
 all-put P test new (x ∷ xs) p a =
     elim (cases_Bool (test x)) as (λ _. AllByRecursion P (cond (test x) (new ∷ x ∷ xs) (x ∷ put_in test new xs))) [
@@ -75,7 +75,7 @@ all-put P test new (x ∷ xs) p a =
       | inr other ↦ subst (λ (b : Bool). AllByRecursion P (cond b (new ∷ x ∷ xs) (x ∷ put_in test new xs))) (sym other) (a.0, all-put P test new xs p a.1)
     ]
 
-all-filter : (P : Hashed → Type 0) (p : Hashed → Bool) (xs : List Hashed) → AllByRecursion P xs → AllByRecursion P (filter p xs)
+pub all-filter : (P : Hashed → Type 0) (p : Hashed → Bool) (xs : List Hashed) → AllByRecursion P xs → AllByRecursion P (filter p xs)
 all-filter P p [] a = tt
 all-filter P p (x ∷ xs) a =
     elim (cases_Bool (p x)) as (λ _. AllByRecursion P (cond (p x) (x ∷ filter p xs) (filter p xs))) [

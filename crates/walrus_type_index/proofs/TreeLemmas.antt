@@ -22,7 +22,7 @@ use Rattle.walrus_type_index.proofs.Tied.{tied}
 abbrev pub Sorted : List (Option Kind) → List Hashed → Type 0
 Sorted ks xs = IsStrictlySortedBy (hashed_cmp ks) xs
 
-all-front : (P : Hashed → Type 0) (l m : List Hashed) → AllByRecursion P (l ++ m) → AllByRecursion P l
+pub all-front : (P : Hashed → Type 0) (l m : List Hashed) → AllByRecursion P (l ++ m) → AllByRecursion P l
 all-front P [] m a = tt
 all-front P (x ∷ l) m a = (a.0, all-front P l m a.1)
 
@@ -70,13 +70,13 @@ less-equal e = false≢true (ap is_eq e)
 less-greater : Less ≡ Greater → ⊥
 less-greater e = false≢true (ap is_gt e)
 
-then-first : (o p : Ordering) → ordering_then o p ≡ Equal → o ≡ Equal
+pub then-first : (o p : Ordering) → ordering_then o p ≡ Equal → o ≡ Equal
 then-first Less p e = e
 then-first Equal p e = refl
 then-first Greater p e = e
 
 -- putting
-put-step : (b : Bool) (new x : Hashed) (t u m v : List Hashed) → v ≡ u ++ m → cond b (new ∷ x ∷ (t ++ m)) (x ∷ v) ≡ cond b (new ∷ x ∷ t) (x ∷ u) ++ m
+pub put-step : (b : Bool) (new x : Hashed) (t u m v : List Hashed) → v ≡ u ++ m → cond b (new ∷ x ∷ (t ++ m)) (x ∷ v) ≡ cond b (new ∷ x ∷ t) (x ∷ u) ++ m
 put-step true new x t u m v e = refl
 put-step false new x t u m v e = ap (λ (zs : List Hashed). x ∷ zs) e
 
@@ -107,7 +107,7 @@ pub last-right : (test : Hashed → Bool) (l : List Hashed) (k : Hashed) (r : Li
 last-right test [] k r found hit = ap (λ (b : Bool). last_in test (cond b (Some k.id) found) r) hit
 last-right test (x ∷ l) k r found hit = last-right test l k r (cond (test x) (Some x.id) found) hit
 
-last-none : (test : Hashed → Bool) (found : Option ℕ) (xs : List Hashed) → AllByRecursion (λ x. test x ≡ false) xs → last_in test found xs ≡ found
+pub last-none : (test : Hashed → Bool) (found : Option ℕ) (xs : List Hashed) → AllByRecursion (λ x. test x ≡ false) xs → last_in test found xs ≡ found
 last-none test found [] none = refl
 last-none test found (x ∷ xs) none = ap (λ (b : Bool). last_in test (cond b (Some x.id) found) xs) none.0 ∙ last-none test found xs none.1
 
@@ -144,7 +144,7 @@ last-left ks hash kind own l k r found s past =
     (all-map (λ y. hashed_cmp ks k y ≡ Less) (λ y. is_upto ks hash kind own y ≡ false) (λ y less. ap not (later-past ks hash kind own k y past less)) r (after-mid (hashed_cmp ks) l k r s))
 
 -- taking out the one that ties
-or-none : (o : Option Hashed) → option_or o None ≡ o
+pub or-none : (o : Option Hashed) → option_or o None ≡ o
 or-none None = refl
 or-none (Some x) = refl
 
@@ -153,7 +153,7 @@ pub record Split (hit : Hashed → Bool) (whole left : List Hashed) (which : Opt
   pub rest : filter (λ x. not (hit x)) whole ≡ left
   pub found : find hit whole ≡ which
 
-all-stay : (hit : Hashed → Bool) (xs : List Hashed) → AllByRecursion (λ x. hit x ≡ false) xs → Split hit xs xs None
+pub all-stay : (hit : Hashed → Bool) (xs : List Hashed) → AllByRecursion (λ x. hit x ≡ false) xs → Split hit xs xs None
 all-stay hit [] none = record { rest = refl; found = refl }
 all-stay hit (x ∷ xs) none =
     let behind = all-stay hit xs none.1 in
@@ -163,7 +163,7 @@ all-stay hit (x ∷ xs) none =
     }
 
 -- it is before, behind or at the middle
-split-left : (hit : Hashed → Bool) (l : List Hashed) (k : Hashed) (r : List Hashed) → AllByRecursion (λ x. hit x ≡ false) (k ∷ r)
+pub split-left : (hit : Hashed → Bool) (l : List Hashed) (k : Hashed) (r : List Hashed) → AllByRecursion (λ x. hit x ≡ false) (k ∷ r)
     → Split hit (l ++ k ∷ r) (filter (λ x. not (hit x)) l ++ k ∷ r) (find hit l)
 split-left hit l k r none =
     let behind = all-stay hit (k ∷ r) none in
@@ -172,7 +172,7 @@ split-left hit l k r none =
       found = find-append hit l (k ∷ r) ∙ ap (option_or (find hit l)) behind.found ∙ or-none (find hit l);
     }
 
-split-right : (hit : Hashed → Bool) (l r : List Hashed) → AllByRecursion (λ x. hit x ≡ false) l → Split hit (l ++ r) (l ++ filter (λ x. not (hit x)) r) (find hit r)
+pub split-right : (hit : Hashed → Bool) (l r : List Hashed) → AllByRecursion (λ x. hit x ≡ false) l → Split hit (l ++ r) (l ++ filter (λ x. not (hit x)) r) (find hit r)
 split-right hit l r none =
     let before = all-stay hit l none in
     record {
@@ -237,7 +237,7 @@ then-tied Less p e = absurd (less-equal e)
 then-tied Equal p e = e
 then-tied Greater p e = absurd (false≢true (sym (ap is_gt e)))
 
-number-tied : (a b : ℕ) → nat_cmp a b ≡ Equal → a ≡ b
+pub number-tied : (a b : ℕ) → nat_cmp a b ≡ Equal → a ≡ b
 number-tied a b e = subst (λ (o : Ordering). MatchOrdering o (a < b) (a ≡ b) (b < a)) e (Rattle.std.specs.Cmp.ranks a b)
 
 -- hashed ids that tie have one id
@@ -399,3 +399,6 @@ latest-exact ks kind own (y ∷ ys) i =
 -- one that passes stays between what is left of the others
 pub kept-mid : (p : Hashed → Bool) (l : List Hashed) (k : Hashed) (r : List Hashed) → p k ≡ true → filter p (l ++ k ∷ r) ≡ filter p l ++ k ∷ filter p r
 kept-mid p l k r passes = filter-append p l (k ∷ r) ∙ ap (λ (b : Bool). filter p l ++ cond b (k ∷ filter p r) (filter p r)) passes
+
+pub gone-mid : (p : Hashed → Bool) (l : List Hashed) (k : Hashed) (r : List Hashed) → p k ≡ false → filter p (l ++ k ∷ r) ≡ filter p l ++ filter p r
+gone-mid p l k r fails = filter-append p l (k ∷ r) ∙ ap (λ (b : Bool). filter p l ++ cond b (k ∷ filter p r) (filter p r)) fails

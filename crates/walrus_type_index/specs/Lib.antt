@@ -4,5 +4,6 @@ pub mod Places
 pub mod Hashes
 pub mod Targets
 pub mod Tree
+pub mod Directory
 -- Passed on to crates above, which then list this one alone.
 pub use Rattle.walrus_items.specs as walrus_items

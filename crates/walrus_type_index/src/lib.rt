@@ -2,6 +2,7 @@
 #![tactic(auto)]
 
 mod hash;
+mod index;
 pub mod laws;
 mod lent;
 mod marks;
@@ -9,9 +10,10 @@ mod node;
 mod order;
 mod tree;
 
+pub use index::Index;
 pub use lent::{enter, lend, settle};
 pub use marks::is_marked;
-pub use node::{Hashed, Spare, Tree};
+pub use node::{Hashed, Spare};
 pub use order::Target;
 
 // Passed on to crates above, which then list this one alone.

@@ -12,7 +12,7 @@ pub struct Hashed {
 /// Ids of types in order. Balanced by height, so that a search looks at few of them.
 #[cycle(tree)]
 #[derive(Drop)]
-pub struct Tree {
+pub(crate) struct Tree {
     pub(crate) top: Option<Box<Node>>,
 }
 

@@ -1,13 +1,15 @@
 //! A balanced tree of the ids of a table's types, in the order of their types.
-ghost use Rattle.std.specs.Prelude.{◌≡◌, [], ◌∷◌, ◌++◌, ◌==◌, not, filter, find, None, Some, IfOk};
+ghost use Rattle.std.specs.Prelude.{◌≡◌, ◌≤◌, [], ◌∷◌, ◌++◌, ◌==◌, not, filter, find, None, Some, IfOk};
 ghost use Rattle.std.specs.Option.{option_map};
 ghost use Rattle.std.specs.List.Sorted.{IsStrictlySortedBy};
-ghost use Rattle.walrus_type_index.specs.Places.{kinds_in, hashed_cmp, is_before, is_tied, is_upto, last_in, last_of, put_in, entered};
+ghost use Rattle.walrus_type_index.specs.Places.{kinds_in, hashed_cmp, is_before, is_tied, is_upto, hashed_at, last_in, last_of, put_in};
+ghost use Rattle.walrus_type_index.specs.Hashes.{hash_of};
+ghost use Rattle.walrus_type_index.specs.Directory.{is_later};
 ghost use Rattle.walrus_type_index.specs.Targets.{target_kind};
 ghost use Rattle.walrus_type_index.specs.Ordered.{IsIndex, is_marked};
 ghost use Rattle.walrus_type_index.specs.Tree.{node_ids, ids_of};
 
-use crate::hash::{hashed, target_hash};
+use crate::index::is_later;
 use crate::marks::is_marked;
 use crate::node::{Hashed, Node, Spare, Tree};
 use crate::order::{Target, compare_hashed, compare_key, compare_wanted};
@@ -51,8 +53,8 @@ impl Spare {
 }
 
 impl Tree {
-    /// No ids. Takes no memory.
-    pub fn new() -> Tree
+    // No ids.
+    pub(crate) fn new() -> Tree
         ensures { result ≡ [] }
     {
         Tree { top: None }
@@ -77,24 +79,19 @@ impl Tree {
         Tree { top: Some(node) }
     }
 
-    /// Puts the id where it belongs.
-    pub fn put(&mut self, types: &TombstoneArena<Type, TypeSpace>, mut spare: Spare)
-        requires { IsStrictlySortedBy (hashed_cmp (kinds_in types.now.slots)) self.old }
-        ensures { self.new ≡ entered (kinds_in types.now.slots) spare self.old }
+    // Takes the id out, if it is in.
+    pub(crate) fn take(
+        &mut self,
+        types: &TombstoneArena<Type, TypeSpace>,
+        hashed: Hashed,
+    ) -> Option<Spare>
+        requires index { IsIndex (kinds_in types.now.slots) self.old }
+        requires hashed { hashed ≡ hashed_at (kinds_in types.now.slots) hashed.id }
+        ensures rest { self.new ≡ filter (λ x. not (x.id == hashed.id)) self.old }
+        ensures taken { result ≡ option_map (λ x. x.id) (find (λ x. x.id == hashed.id) self.old) }
     {
         let tree = mem::replace(self, Tree::new());
-        spare.node.hashed = hashed(types, spare.node.hashed.id);
-        *self = put(tree, types, spare.node);
-    }
-
-    /// Takes the id out, if it is in.
-    pub fn take(&mut self, types: &TombstoneArena<Type, TypeSpace>, id: TypeId) -> Option<Spare>
-        requires { IsIndex (kinds_in types.now.slots) self.old }
-        ensures rest { self.new ≡ filter (λ x. not (x.id == id)) self.old }
-        ensures taken { result ≡ option_map (λ x. x.id) (find (λ x. x.id == id) self.old) }
-    {
-        let tree = mem::replace(self, Tree::new());
-        let (rest, taken) = take(tree, types, &hashed(types, id));
+        let (rest, taken) = take(tree, types, &hashed);
         *self = rest;
         match taken {
             Some(node) => Some(Spare { node }),
@@ -102,25 +99,27 @@ impl Tree {
         }
     }
 
-    /// Takes out the marked ids, in one walk. Takes no memory.
-    pub fn sweep(&mut self, marks: &[bool])
+    // Takes out the marked ids, in one walk.
+    pub(crate) fn sweep(&mut self, marks: &[bool])
         ensures { self.new ≡ filter (λ x. not (is_marked marks.now x.id)) self.old }
     {
         let tree = mem::replace(self, Tree::new());
         *self = unmarked(tree, marks);
     }
 
-    /// The last id of a type of the kind that is looked for, of those that name themselves or of the others.
-    pub fn latest(
+    // The last id of a type of the kind that is looked for, which has this hash, of those that name themselves or of the others.
+    pub(crate) fn latest(
         &self,
         types: &TombstoneArena<Type, TypeSpace>,
+        hash: u64,
         target: Target<'_>,
         own: bool,
     ) -> Option<TypeId>
-        requires { IsIndex (kinds_in types.now.slots) self.now }
+        requires index { IsIndex (kinds_in types.now.slots) self.now }
+        requires hash { hash ≡ hash_of (target_kind target) }
         ensures { result ≡ last_of (kinds_in types.now.slots) (target_kind target.entry) own self.now }
     {
-        match last(self, types, target_hash(target), target, own, None) {
+        match last(self, types, hash, target, own, None) {
             Some(id) => {
                 if compare_key(types, id, target, own).is_eq() {
                     Some(id)
@@ -232,7 +231,7 @@ fn settled(node: Box<Node>, before: u64, now: u64) -> Box<Node>
 }
 
 // The tree with one more id.
-fn put(tree: Tree, types: &TombstoneArena<Type, TypeSpace>, mut new: Box<Node>) -> Tree
+pub(crate) fn put(tree: Tree, types: &TombstoneArena<Type, TypeSpace>, mut new: Box<Node>) -> Tree
     requires { IsStrictlySortedBy (hashed_cmp (kinds_in types.now.slots)) tree }
     ensures { result ≡ put_in (is_before (kinds_in types.now.slots) new.value.hashed) new.value.hashed tree }
 {
@@ -401,6 +400,26 @@ fn unmarked(tree: Tree, marks: &[bool]) -> Tree
                 return join(before, behind);
             }
             between(before, bare, behind)
+        }
+    }
+}
+
+// The ids whose places, of hashes with so many bits left out, are no later than this one, and the others.
+pub(crate) fn split(tree: Tree, shift: u32, place: usize) -> (Tree, Tree)
+    requires { shift ≤ 63 }
+    ensures before { result.0 ≡ filter (λ x. not (is_later shift place x)) tree }
+    ensures behind { result.1 ≡ filter (is_later shift place) tree }
+{
+    match tree.open() {
+        None => (Tree::new(), Tree::new()),
+        Some(node) => {
+            let (left, bare, right) = apart(node);
+            let (first, second) = split(left, shift, place);
+            let (third, fourth) = split(right, shift, place);
+            if is_later(bare.hashed, shift, place) {
+                return (join(first, third), between(second, bare, fourth));
+            }
+            (between(first, bare, third), join(second, fourth))
         }
     }
 }

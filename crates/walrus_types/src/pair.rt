@@ -78,7 +78,14 @@ impl ModuleTypes {
         let entry_id = TypeId::from_index(next as usize);
         let single = Single::new(self.alloc, id)?;
         let entry_single = Single::new(self.alloc, entry_id)?;
-        reserve_singles(&mut self.types, &mut self.groups, &mut self.homes, 2)?;
+        reserve_singles(
+            self.alloc,
+            &mut self.types,
+            &mut self.groups,
+            &mut self.homes,
+            &mut self.index,
+            2,
+        )?;
         let entry = Type::new(entry_id, entry, true, None, true);
         settle(&mut self.index, &mut self.lent, &self.types);
         push_single(

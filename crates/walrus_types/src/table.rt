@@ -26,7 +26,7 @@ use walrus_type_arenas::type_index::forms::{
     ArrayType, CompositeType, FieldType, FunctionType, StructType, ValType,
 };
 use walrus_type_arenas::type_index::items::{RecGroup, Type};
-use walrus_type_arenas::type_index::{Spare, Tree, lend, settle};
+use walrus_type_arenas::type_index::{Index, Spare, lend, settle};
 use walrus_type_arenas::{
     Single, append_counted, append_members, clear_each, clear_marked, found_function, home_of,
     ids_from, leave_group, look_up, members_name, push_single, reserve_singles, sweep,
@@ -44,7 +44,7 @@ pub struct ModuleTypes {
     // The group of each type ever added.
     pub(crate) homes: Vec<RecGroupId>,
     // The live types in the order of the index, the lent one aside.
-    pub(crate) index: Tree,
+    pub(crate) index: Index,
     // The type that was lent for writing last, until the index takes it back.
     pub(crate) lent: Option<Spare>,
 }
@@ -70,7 +70,7 @@ impl ModuleTypes {
             types: TombstoneArena::new(alloc),
             groups: TombstoneArena::new(alloc),
             homes: Vec::new(alloc),
-            index: Tree::new(),
+            index: Index::new(alloc),
             lent: None,
         }
     }
@@ -192,7 +192,14 @@ impl ModuleTypes {
             return Ok(found);
         }
         let single = Single::new(self.alloc, id)?;
-        reserve_singles(&mut self.types, &mut self.groups, &mut self.homes, 1)?;
+        reserve_singles(
+            self.alloc,
+            &mut self.types,
+            &mut self.groups,
+            &mut self.homes,
+            &mut self.index,
+            1,
+        )?;
         push_single(
             &mut self.types,
             &mut self.groups,
