@@ -8,7 +8,7 @@ use Rattle.wasm_normal_form.specs.Roles.{Placed, placed}
 use Rattle.wasm_normal_form.specs.Normal.{size}
 use Rattle.wasm_normal_form.specs.Places.{code_bytes, if_placed, pairs_from}
 use Rattle.walrus_body_names.specs.walrus_body_writer.Spelled.{Text, written, text_bytes, text_places, AreWritten}
-use Rattle.walrus_body_names.specs.walrus_body_writer.Visiting.{text_size}
+use Rattle.walrus_body_names.specs.walrus_body_writer.walrus_body_text.Visiting.{text_size}
 
 -- the place that a location stands for, if it stands for one
 abbrev pub place_in : InstrLocId → Option ℕ

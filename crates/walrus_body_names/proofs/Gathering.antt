@@ -6,7 +6,7 @@ use Rattle.std.specs.Prelude.{◌||◌}
 use Rattle.walrus_instr.specs.declared.instr.Instr.{Instr}
 use Rattle.walrus_instr.specs.declared.seq.InstrLocId.{InstrLocId}
 use Rattle.walrus_body_writer.specs.walrus_tree.Text.{Piece}
-use Rattle.walrus_body_writer.specs.Visiting.{text_size}
+use Rattle.walrus_body_writer.specs.walrus_body_text.Visiting.{text_size}
 use Rattle.walrus_body_names.proofs.Same.{same_lists, same_on, same_then}
 use Rattle.walrus_body_names.specs.declared.facts.Facts.{Facts}
 use Rattle.walrus_body_names.specs.Facts.{IsTold}

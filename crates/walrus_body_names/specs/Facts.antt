@@ -1,7 +1,7 @@
 -- What is known of a body before it is written.
 use Rattle.std.specs.Prelude.{◌≡◌, ◌+◌, ◌++◌, ◌||◌}
 use Rattle.walrus_body_writer.specs.walrus_tree.Text.{Piece}
-use Rattle.walrus_body_writer.specs.Visiting.{weight}
+use Rattle.walrus_body_writer.specs.walrus_body_text.Visiting.{weight}
 use Rattle.walrus_body_names.specs.declared.facts.Facts.{Facts}
 use Rattle.walrus_body_names.specs.Names.{HaveSame, has_any, local_in, piece_names, segment_in}
 

@@ -5,8 +5,8 @@ ghost use Rattle.std.specs.Bool.{OnTrue};
 ghost use Rattle.walrus_body_writer.specs.walrus_tree.walrus_builder.Functions.{seqs_of};
 ghost use Rattle.walrus_body_writer.specs.walrus_tree.Text.{operators};
 ghost use Rattle.walrus_body_writer.specs.walrus_tree.Trees.{IsTree};
-ghost use Rattle.walrus_body_writer.specs.Emitting.{IsCause};
-ghost use Rattle.walrus_body_writer.specs.Visiting.{text_size};
+ghost use Rattle.walrus_body_writer.specs.walrus_body_text.Walking.{IsCause};
+ghost use Rattle.walrus_body_writer.specs.walrus_body_text.Visiting.{text_size};
 ghost use Rattle.walrus_body_names.specs.Names.{AreSet, HaveSame, are_constants, has_any, is_constant, local_in, segment_in, text_names};
 
 use crate::distinct::distinct;

@@ -5,7 +5,7 @@ ghost use Rattle.std.specs.Option.{option_to_list};
 ghost use Rattle.walrus_body_writer.specs.walrus_tree.walrus_builder.Functions.{seqs_of};
 ghost use Rattle.walrus_body_writer.specs.walrus_tree.Text.{operators};
 ghost use Rattle.walrus_body_writer.specs.walrus_tree.Trees.{IsTree};
-ghost use Rattle.walrus_body_writer.specs.Emitting.{IsCause};
+ghost use Rattle.walrus_body_writer.specs.walrus_body_text.Walking.{IsCause};
 ghost use Rattle.walrus_body_names.specs.Names.{local_in, segment_in, text_names};
 
 use std::alloc::{AllocError, Global};

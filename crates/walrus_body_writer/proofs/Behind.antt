@@ -2,13 +2,13 @@
 use Rattle.std.proofs.Common.{ℕ, ◌≡◌, Bool, List, [], refl, true, subst, sym}
 use Rattle.std.specs.Bool.{OnTrue}
 use Rattle.std.specs.Prelude.{MatchBool}
-use Rattle.walrus_body_env.specs.declared.error.BodyError.{BodyError}
-use Rattle.walrus_body_env.specs.declared.error.BodyError.TheVariants.{Memory}
-use Rattle.walrus_tree.specs.walrus_walks.walrus_instr.declared.seq.InstrSeq.{InstrSeq}
+use Rattle.walrus_body_text.specs.walrus_body_env.declared.error.BodyError.{BodyError}
+use Rattle.walrus_body_text.specs.walrus_body_env.declared.error.BodyError.TheVariants.{Memory}
+use Rattle.walrus_body_text.specs.walrus_tree.walrus_walks.walrus_instr.declared.seq.InstrSeq.{InstrSeq}
 use Rattle.walrus_pairing.specs.Looks.{Look}
 use Rattle.walrus_pairing.specs.declared.error.PairError.{PairError}
-use Rattle.walrus_tree.specs.Text.{operators}
-use Rattle.walrus_tree.specs.Trees.{IsTree}
+use Rattle.walrus_body_text.specs.walrus_tree.Text.{operators}
+use Rattle.walrus_body_text.specs.walrus_tree.Trees.{IsTree}
 use Rattle.walrus_body_writer.specs.declared.output.Output.{Output}
 use Rattle.walrus_body_writer.specs.Outputs.{IsSame, Joins, Wrote}
 use Rattle.walrus_body_writer.specs.Refusals.{IsRefusal, LeavesOff, fault_of}

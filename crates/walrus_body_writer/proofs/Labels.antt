@@ -1,21 +1,21 @@
 -- The numbers of labels, by how deep sequences lie.
-use Rattle.std.proofs.Common.{ℕ, zero, suc, ◌+◌, ◌-◌, ◌<◌, ◌≡◌, false, List, [], ◌∷◌, ◌++◌, length, map, Some, Ok, refl, sym, ap, subst, arith, inl, inr, ◌∙◌, true≢false}
-use Rattle.std.specs.Prelude.{slice_get, slice_set, slice_index_or, ◌==◌}
+use Rattle.std.proofs.Common.{ℕ, ◌+◌, ◌-◌, ◌≡◌, false, List, [], ◌∷◌, ◌++◌, length, map, Some, Ok, refl, sym, ap, subst, arith, inl, inr, ◌∙◌, true≢false}
+use Rattle.std.specs.Prelude.{slice_get, slice_index_or, ◌==◌}
 use Rattle.std.proofs.lemmas.Bool.{cases_Bool, eqb-true, eq-eqb}
 use Rattle.std.proofs.lemmas.Option.{get_or_from_slice_get}
-use Rattle.walrus_tree.specs.walrus_walks.walrus_instr.declared.instr.Instr.{Instr}
-use Rattle.walrus_tree.specs.walrus_walks.walrus_instr.declared.instr.Instr.TheVariants.{TryTable, Br, BrIf, BrTable, BrOnNull, BrOnNonNull, BrOnCast, BrOnCastFail}
-use Rattle.walrus_tree.specs.walrus_walks.walrus_instr.declared.instr.TryTableCatch.{TryTableCatch}
-use Rattle.walrus_tree.specs.walrus_walks.walrus_instr.declared.instr.TryTableCatch.TheVariants as parts
-use Rattle.walrus_tree.specs.walrus_walks.walrus_instr.declared.seq.InstrSeq.{InstrSeq}
+use Rattle.walrus_body_text.specs.walrus_tree.walrus_walks.walrus_instr.declared.instr.Instr.{Instr}
+use Rattle.walrus_body_text.specs.walrus_tree.walrus_walks.walrus_instr.declared.instr.Instr.TheVariants.{TryTable, Br, BrIf, BrTable, BrOnNull, BrOnNonNull, BrOnCast, BrOnCastFail}
+use Rattle.walrus_body_text.specs.walrus_tree.walrus_walks.walrus_instr.declared.instr.TryTableCatch.{TryTableCatch}
+use Rattle.walrus_body_text.specs.walrus_tree.walrus_walks.walrus_instr.declared.instr.TryTableCatch.TheVariants as parts
+use Rattle.walrus_body_text.specs.walrus_tree.walrus_walks.walrus_instr.declared.seq.InstrSeq.{InstrSeq}
 use Rattle.wasm_immediates.specs.declared.clause.Clause.{Clause}
 use Rattle.walrus_pairing.specs.walrus_operator_codes.Runs.{byte}
 use Rattle.walrus_pairing.specs.Looks.{Look, Or, ◌>>=◌}
 use Rattle.walrus_pairing.specs.Write.{op}
 use Rattle.wasm_immediates.specs.Items.{Labels, Names, Block, ManyLabels, ManyClauses}
-use Rattle.walrus_tree.specs.Trees.{Has, HasAll, clause_label, IsWithin}
+use Rattle.walrus_body_text.specs.walrus_tree.Trees.{Has, HasAll, clause_label, IsWithin}
 use Rattle.walrus_body_writer.specs.Spelled.{label, block, branch, clause, clauses, cast, type_in, written_instr}
-use Rattle.walrus_body_writer.specs.Doing.{AreDeep, label_by}
+use Rattle.walrus_body_text.specs.Doing.{AreDeep, label_by}
 
 -- by its depth: how many sequences lie between
 label_at : (d r o : ℕ) → r + d + 1 ≡ o → o - d - 1 ≡ r
@@ -82,24 +82,3 @@ module _ (look : Look) (b : List InstrSeq) (ds around : List ℕ) (height : ℕ)
   instr_same (BrOnCast k from to) h = ap (λ (l : ℕ). cast look 24 (λ _. l) k from to) (one k h.named.0)
   instr_same (BrOnCastFail k from to) h = ap (λ (l : ℕ). cast look 25 (λ _. l) k from to) (one k h.named.0)
   instr_same _ h = refl
-
--- ---- a sequence is entered
-
-other_stays : (ds : List ℕ) (k j v : ℕ) → (j ≡ k → ⊥) → slice_get (slice_set ds k v) j ≡ slice_get ds j
-other_stays [] k j v h = refl
-other_stays (d ∷ ds) zero zero v h = absurd (h refl)
-other_stays (d ∷ ds) zero (suc j) v h = refl
-other_stays (d ∷ ds) (suc k) zero v h = refl
-other_stays (d ∷ ds) (suc k) (suc j) v h = other_stays ds k j v (λ e. h (ap suc e))
-
-set_here : (ds : List ℕ) (k v : ℕ) → k < length ds → slice_get (slice_set ds k v) k ≡ Some v
-set_here [] k v l = absurd (omega (arith, l))
-set_here (d ∷ ds) zero v l = refl
-set_here (d ∷ ds) (suc k) v l = set_here ds k v (omega (arith, l))
-
-deep_others : (ds around : List ℕ) (k v : ℕ) → (Has around k → ⊥) → AreDeep ds around → AreDeep (slice_set ds k v) around
-deep_others ds [] k v not h = tt
-deep_others ds (j ∷ js) k v not h = (other_stays ds k j v (λ e. not (inl e)) ∙ h.0, deep_others ds js k v (λ g. not (inr g)) h.1)
-
-pub deep_entered : (ds around : List ℕ) (k : ℕ) → k < length ds → (Has around k → ⊥) → AreDeep ds around → AreDeep (slice_set ds k (length around)) (k ∷ around)
-deep_entered ds around k l not h = (set_here ds k (length around) l, deep_others ds around k (length around) not h)

@@ -1,26 +1,26 @@
 -- Refusals, and what is answered behind them.
 use Rattle.std.proofs.Common.{ℕ, subst, ◌⊎◌, inl, inr, ◌≡◌, List, [], ◌∷◌, ◌++◌, Option, Some, None, Ok, Err, refl, sym, ◌∙◌}
 use Rattle.std.specs.Prelude.{Result}
-use Rattle.walrus_tree.specs.walrus_walks.walrus_instr.declared.instr.Instr.{Instr}
-use Rattle.walrus_tree.specs.walrus_walks.walrus_instr.declared.instr.Instr.TheVariants as instrs
-use Rattle.walrus_tree.specs.walrus_walks.walrus_instr.walrus_forms.declared.value.ValType.{ValType}
+use Rattle.walrus_body_text.specs.walrus_tree.walrus_walks.walrus_instr.declared.instr.Instr.{Instr}
+use Rattle.walrus_body_text.specs.walrus_tree.walrus_walks.walrus_instr.declared.instr.Instr.TheVariants as instrs
+use Rattle.walrus_body_text.specs.walrus_tree.walrus_walks.walrus_instr.walrus_forms.declared.value.ValType.{ValType}
 use Rattle.walrus_pairing.specs.Answers.{IsAnswer, IsSelectAnswer}
 use Rattle.walrus_pairing.specs.Seen.{as_seen}
-use Rattle.walrus_tree.specs.walrus_walks.walrus_instr.declared.seq.InstrSeq.{InstrSeq}
+use Rattle.walrus_body_text.specs.walrus_tree.walrus_walks.walrus_instr.declared.seq.InstrSeq.{InstrSeq}
 use Rattle.wasm_operators.specs.Operators.{Seen}
 use Rattle.walrus_pairing.specs.walrus_operators.declared.operator.Operator.{Operator}
 use Rattle.walrus_pairing.specs.declared.error.PairError.{PairError}
 use Rattle.walrus_pairing.specs.declared.error.PairError.TheVariants as errors
 use Rattle.walrus_pairing.specs.Looks.{Look, Or}
 use Rattle.walrus_body_writer.specs.declared.output.Output.{Output}
-use Rattle.walrus_tree.specs.Trees.{IsTree}
-use Rattle.walrus_tree.specs.Text.{Catch, operators}
+use Rattle.walrus_body_text.specs.walrus_tree.Trees.{IsTree}
+use Rattle.walrus_body_text.specs.walrus_tree.Text.{Catch, operators}
 use Rattle.wasm_immediates.specs.Items.{Tags, Types}
-use Rattle.walrus_tree.specs.walrus_walks.walrus_instr.declared.seq.InstrLocId.{InstrLocId}
+use Rattle.walrus_body_text.specs.walrus_tree.walrus_walks.walrus_instr.declared.seq.InstrLocId.{InstrLocId}
 use Rattle.walrus_pairing.specs.Write.{either, plain_at, operator_at}
-use Rattle.walrus_body_writer.specs.declared.todo.Closer.{Closer}
-use Rattle.walrus_body_writer.specs.declared.todo.Closer.TheVariants as closers
-use Rattle.walrus_body_writer.specs.Doing.{piece_of}
+use Rattle.walrus_body_text.specs.declared.todo.Closer.{Closer}
+use Rattle.walrus_body_text.specs.declared.todo.Closer.TheVariants as closers
+use Rattle.walrus_body_text.specs.Doing.{piece_of}
 use Rattle.walrus_body_writer.specs.Emitting.{IsDone}
 use Rattle.walrus_body_writer.specs.Spelled.{Text, written, written_instr}
 use Rattle.walrus_body_writer.specs.Outputs.{PutsIf, IsPut, Wrote}

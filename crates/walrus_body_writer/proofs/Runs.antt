@@ -1,109 +1,53 @@
--- Instructions that hold no sequence, one after another at a place of an open sequence.
-use Rattle.std.proofs.Common.{ℕ, ◌≤◌, ◌≡◌, false, List, [], ◌∷◌, ◌++◌, length, Option, Some, Ok, Err, refl, sym, ap, subst, arith, ◌∙◌, append-nil, inl, inr}
-use Rattle.std.specs.Prelude.{slice_get, Result, OnErr, IfErr, IsErr, IsErrAnd}
-use Rattle.walrus_tree.specs.walrus_walks.walrus_instr.declared.instr.Instr.{Instr}
-use Rattle.walrus_tree.specs.walrus_walks.walrus_instr.declared.seq.InstrLocId.{InstrLocId}
-use Rattle.walrus_tree.specs.walrus_walks.walrus_instr.declared.seq.InstrSeq.{InstrSeq}
-use Rattle.walrus_tree.specs.Text.{Piece, Operator}
-use Rattle.walrus_tree.specs.TextLaws.{TextIsPlain}
+-- Instructions that hold no sequence, written one after another at a place of an open sequence.
+use Rattle.std.proofs.Common.{◌≡◌, false, List, [], ◌∷◌, ◌++◌, Some, Ok, Err, sym, subst}
+use Rattle.std.specs.Prelude.{slice_get, Result, IfErr, IsErr, IsErrAnd}
+use Rattle.walrus_body_text.specs.walrus_tree.walrus_walks.walrus_instr.declared.instr.Instr.{Instr}
+use Rattle.walrus_body_text.specs.walrus_tree.walrus_walks.walrus_instr.declared.seq.InstrLocId.{InstrLocId}
+use Rattle.walrus_body_text.specs.walrus_tree.walrus_walks.walrus_instr.declared.seq.InstrSeq.{InstrSeq}
 use Rattle.walrus_pairing.specs.Looks.{Look}
 use Rattle.walrus_pairing.specs.declared.error.PairError.{PairError}
 use Rattle.walrus_pairing.specs.declared.error.PairError.TheVariants as errors
-use Rattle.walrus_body_writer.specs.declared.todo.Place.{Place}
-use Rattle.walrus_body_writer.specs.declared.todo.Todo.{Todo}
-use Rattle.walrus_body_writer.specs.declared.todo.Todo.TheVariants.{Inside}
-use Rattle.walrus_body_writer.specs.declared.todo.Met.TheVariants.{AnInstr}
-use Rattle.walrus_body_writer.specs.declared.depths.Depths.{Depths}
+use Rattle.walrus_body_text.specs.declared.todo.Place.{Place}
+use Rattle.walrus_body_text.specs.declared.todo.Todo.{Todo}
+use Rattle.walrus_body_text.specs.declared.todo.Todo.TheVariants.{Inside}
+use Rattle.walrus_body_text.specs.declared.todo.Met.TheVariants.{AnInstr}
+use Rattle.walrus_body_text.specs.declared.depths.Depths.{Depths}
+use Rattle.walrus_body_text.specs.Doing.{holds, label_by, left}
+use Rattle.walrus_body_text.specs.Walking.{state, advanced}
+use Rattle.walrus_body_text.proofs.Runs.{behind, it_is, it_passed}
 use Rattle.walrus_body_writer.specs.declared.output.Output.{Output}
 use Rattle.walrus_body_writer.specs.Spelled.{Text, written_instr}
-use Rattle.walrus_body_writer.specs.Doing.{holds, label_by, left}
 use Rattle.walrus_body_writer.specs.Refusals.{IsLarge, value_in}
-use Rattle.walrus_body_writer.specs.Emitting.{State, state, advanced, Advances, AdvancesAt, AdvancesIn, Good, Passed, IsDone, Goes, GoesOn, GoesOff}
-use Rattle.walrus_body_writer.specs.Visiting.{Tells, TellsOn, TellsOff, ToldPart}
-use Rattle.walrus_body_writer.proofs.Lefts.{holds_none}
-use Rattle.walrus_body_writer.proofs.Steps.{passed, falls, refuses, writes_on}
-use Rattle.walrus_body_writer.proofs.Folds.{tells_on}
+use Rattle.walrus_body_writer.specs.Emitting.{IsDone, Goes, GoesOn, GoesOff}
+use Rattle.walrus_body_writer.proofs.Steps.{refuses, writes_on}
 
 -- one of them, which stands there
-module _ (b : List InstrSeq) (at : Place) (seq : InstrSeq) (i : Instr × InstrLocId) (found : slice_get b at.seq ≡ Some seq) (stands : slice_get seq.instrs.items at.next ≡ Some i) (none : holds i.0 ≡ false) where
-  abbrev behind : List Todo → Depths → State
-  behind ts d = state (ts ++ Inside (advanced at) ∷ []) d
+module _ (b : List InstrSeq) (at : Place) (seq : InstrSeq) (i : Instr × InstrLocId) (found : slice_get b at.seq ≡ Some seq) (stands : slice_get seq.instrs.items at.next ≡ Some i) (none : holds i.0 ≡ false)
+    (look : Look) (d : Depths) (old new : Output) where
+  pub turn_writes : IsDone (IsLarge look (value_in b i.0)) (written_instr look b (label_by d.depths.items d.height) i.0) i.1 old new (Ok tt) → GoesOn look b d (Inside at) (Inside (advanced at)) old new
+  turn_writes w = λ plain all first ts g.
+      let W : Instr × InstrLocId → Type 0 = λ j. IsDone (IsLarge look (value_in b j.0)) (written_instr look b (label_by d.depths.items d.height) j.0) j.1 old new (Ok tt) in
+      writes_on look b all first g.front (left b [] (ts ++ Inside at ∷ [])) (behind at ts d) old new g.parts g.wrote (AnInstr at.seq at.next) (it_passed b at seq i found stands none ts d plain g.good) (λ q j f s. subst W (it_is b at seq i found stands none q j f s) w)
 
-  advances : (ts : List Todo) (d : Depths) → Advances b (Inside at) (AnInstr at.seq at.next) (state ts d) (behind ts d)
-  advances ts d =
-      let xs : List Todo = ts ++ Inside (advanced at) ∷ [] in
-      let F : Option InstrSeq → Type 0 = λ o. AdvancesAt (Inside at) (AnInstr at.seq at.next) o (state ts d) (behind ts d) in
-      let G : Option (Instr × InstrLocId) → Type 0 = λ o. AdvancesIn (Inside at) (AnInstr at.seq at.next) seq o (state ts d) (behind ts d) in
-      subst F (sym found) (subst G (sym stands) (record { is = refl; marks = refl; depths = refl; height = refl; todo = sym (ap (λ (z : List Todo). xs ++ z) (holds_none i.0 none) ∙ append-nil xs) }))
-
-  it_passed : (ts : List Todo) (d : Depths) → TextIsPlain → Good b (state (ts ++ Inside at ∷ []) d) → Passed b (left b [] (ts ++ Inside at ∷ [])) (AnInstr at.seq at.next) (behind ts d)
-  it_passed ts d plain good = passed b plain (ts ++ Inside at ∷ []) ts (Inside at) d (AnInstr at.seq at.next) (behind ts d) refl good (advances ts d)
-
-  it_is : (q : InstrSeq) (j : Instr × InstrLocId) → slice_get b at.seq ≡ Some q → slice_get q.instrs.items at.next ≡ Some j → i ≡ j
-  it_is q j f s = cc
-
-  less : (ts : List Todo) (d : Depths) → TextIsPlain → Good b (state (ts ++ Inside at ∷ []) d) → length (left b [] (ts ++ Inside (advanced at) ∷ [])) ≤ length (left b [] (ts ++ Inside at ∷ []))
-  less ts d plain good = let l = falls b (left b [] (ts ++ Inside at ∷ [])) (AnInstr at.seq at.next) (behind ts d) (it_passed ts d plain good) in omega (arith, l)
-
-  module _ (look : Look) (d : Depths) (old new : Output) where
-    pub turn_writes : IsDone (IsLarge look (value_in b i.0)) (written_instr look b (label_by d.depths.items d.height) i.0) i.1 old new (Ok tt) → GoesOn look b d (Inside at) (Inside (advanced at)) old new
-    turn_writes w = λ plain all first ts g.
-        let W : Instr × InstrLocId → Type 0 = λ j. IsDone (IsLarge look (value_in b j.0)) (written_instr look b (label_by d.depths.items d.height) j.0) j.1 old new (Ok tt) in
-        (writes_on look b all first g.front (left b [] (ts ++ Inside at ∷ [])) (behind ts d) old new g.parts g.wrote (AnInstr at.seq at.next) (it_passed ts d plain g.good) (λ q j f s. subst W (it_is q j f s) w), less ts d plain g.good)
-
-    pub turn_refuses : (e : PairError) → IsDone (IsLarge look (value_in b i.0)) (written_instr look b (label_by d.depths.items d.height) i.0) i.1 old new (Err e) → GoesOff look b d (Inside at) e old new
-    turn_refuses e w = λ plain all first ts g.
-        let W : Instr × InstrLocId → Type 0 = λ j. IsDone (IsLarge look (value_in b j.0)) (written_instr look b (label_by d.depths.items d.height) j.0) j.1 old new (Err e) in
-        refuses look b all first g.front (left b [] (ts ++ Inside at ∷ [])) (behind ts d) old new g.parts g.wrote (AnInstr at.seq at.next) e (it_passed ts d plain g.good) (λ q j f s. subst W (it_is q j f s) w)
-
-  module _ {V : Type 0} (step : V → Piece × InstrLocId → V → Type 0) (same : V → V → Type 0) (old new : V) where
-    pub turn_tells : ((around : List ℕ) → step old (Operator around i.0, i.1) new) → TellsOn step b (Inside at) (Inside (advanced at)) old new
-    turn_tells w = λ plain all first ts d g.
-        let W : Instr × InstrLocId → Type 0 = λ j. (around : List ℕ) → step old (Operator around j.0, j.1) new in
-        (tells_on step b all first g.front (left b [] (ts ++ Inside at ∷ [])) (behind ts d) old new g.parts g.told (AnInstr at.seq at.next) (it_passed ts d plain g.good) (λ q j f s. subst W (it_is q j f s) w), less ts d plain g.good)
-
--- memory was wanted there
-pub wants_there : {V : Type 0} (step : V → Piece × InstrLocId → V → Type 0) (same : V → V → Type 0) (b : List InstrSeq) (top : Todo) (old new : V) → same old new → TellsOff step same b top old new
-wants_there step same b top old new h = λ plain all first ts d g. record { front = g.front; back = left b [] (ts ++ top ∷ []); parts = g.parts; last = old; told = g.told; kept = inr h }
+  pub turn_refuses : (e : PairError) → IsDone (IsLarge look (value_in b i.0)) (written_instr look b (label_by d.depths.items d.height) i.0) i.1 old new (Err e) → GoesOff look b d (Inside at) e old new
+  turn_refuses e w = λ plain all first ts g.
+      let W : Instr × InstrLocId → Type 0 = λ j. IsDone (IsLarge look (value_in b j.0)) (written_instr look b (label_by d.depths.items d.height) j.0) j.1 old new (Err e) in
+      refuses look b all first g.front (left b [] (ts ++ Inside at ∷ [])) (behind at ts d) old new g.parts g.wrote (AnInstr at.seq at.next) e (it_passed b at seq i found stands none ts d plain g.good) (λ q j f s. subst W (it_is b at seq i found stands none q j f s) w)
 
 -- ---- one run behind another
 
 pub writes_none : (look : Look) (b : List InstrSeq) (d : Depths) (top : Todo) (out : Output) → GoesOn look b d top top out out
-writes_none look b d top out = λ plain all first ts g. (g, omega arith)
+writes_none look b d top out = λ plain all first ts g. g
 
 pub writes_more : (look : Look) (b : List InstrSeq) (d : Depths) (top mid next : Todo) (old out new : Output) → GoesOn look b d top mid old out → GoesOn look b d mid next out new → GoesOn look b d top next old new
-writes_more look b d top mid next old out new h k = λ plain all first ts g.
-    let f = h plain all first ts g in
-    let s = k plain all first ts f.0 in
-    (s.0, let x = f.1 in let y = s.1 in omega (arith, x, y))
+writes_more look b d top mid next old out new h k = λ plain all first ts g. k plain all first ts (h plain all first ts g)
 
 pub refuses_more : (look : Look) (b : List InstrSeq) (d : Depths) (top mid : Todo) (e : PairError) (old out new : Output) → GoesOn look b d top mid old out → GoesOff look b d mid e out new → GoesOff look b d top e old new
-refuses_more look b d top mid e old out new h k = λ plain all first ts g. k plain all first ts (h plain all first ts g).0
-
-module _ {V : Type 0} (step : V → Piece × InstrLocId → V → Type 0) (same : V → V → Type 0) (b : List InstrSeq) where
-  pub tells_none : (top : Todo) (v : V) → TellsOn step b top top v v
-  tells_none top v = λ plain all first ts d g. (g, omega arith)
-
-  pub tells_more : (top mid next : Todo) (old v new : V) → TellsOn step b top mid old v → TellsOn step b mid next v new → TellsOn step b top next old new
-  tells_more top mid next old v new h k = λ plain all first ts d g.
-      let f = h plain all first ts d g in
-      let s = k plain all first ts d f.0 in
-      (s.0, let x = f.1 in let y = s.1 in omega (arith, x, y))
-
-  pub wants_more : (top mid : Todo) (old v new : V) → TellsOn step b top mid old v → TellsOff step same b mid v new → TellsOff step same b top old new
-  wants_more top mid old v new h k = λ plain all first ts d g. k plain all first ts d (h plain all first ts d g).0
+refuses_more look b d top mid e old out new h k = λ plain all first ts g. k plain all first ts (h plain all first ts g)
 
 -- ---- in the words of the loops
 
-pub on_err : {A E : Type 0} (r : Result A E) (P : Type 0) → P → OnErr r P
-on_err (Ok x) P p = tt
-on_err (Err e) P p = p
-
 -- what is left as it was taken from the list
-pub taken_tells : {V : Type 0} (step : V → Piece × InstrLocId → V → Type 0) (b : List InstrSeq) (all : Text) (first : V) (items ts : List Todo) (top : Todo) (d : Depths) (v : V) → items ≡ ts ++ top ∷ [] → Tells step b all first (state items d) v
-    → Tells step b all first (state (ts ++ top ∷ []) d) v
-taken_tells step b all first items ts top d v e h = let F : List Todo → Type 0 = λ z. Tells step b all first (state z d) v in subst F e h
-
 pub taken_goes : (look : Look) (b : List InstrSeq) (all : Text) (first : Output) (items ts : List Todo) (top : Todo) (d : Depths) (out : Output) → items ≡ ts ++ top ∷ [] → Goes look b all first (state items d) out
     → Goes look b all first (state (ts ++ top ∷ []) d) out
 taken_goes look b all first items ts top d out e h = let F : List Todo → Type 0 = λ z. Goes look b all first (state z d) out in subst F e h
@@ -111,10 +55,3 @@ taken_goes look b all first items ts top d out e h = let F : List Todo → Type 
 pub if_memory : {A : Type 0} (r : Result A PairError) (P : PairError → Type 0) → P errors.Memory → IsErr r × IsErrAnd r (λ (e : PairError). e ≡ errors.Memory) → IfErr r P
 if_memory (Ok x) P p h = tt
 if_memory (Err e) P p h = subst P (sym h.1) p
-
--- a first part was told, and no more
-pub told_part : {V : Type 0} (step : V → Piece × InstrLocId → V → Type 0) (same : V → V → Type 0) (b : List InstrSeq) (all : Text) (first : V) (s : State) (v : V) → Tells step b all first s v → ToldPart step same all first v
-told_part step same b all first s v h = record { front = h.front; back = left b [] s.todo; parts = h.parts; last = v; told = h.told; kept = inl refl }
-
-pub told_same : {V : Type 0} (step : V → Piece × InstrLocId → V → Type 0) (same : V → V → Type 0) (b : List InstrSeq) (all : Text) (first : V) (s : State) (v new : V) → Tells step b all first s v → same v new → ToldPart step same all first new
-told_same step same b all first s v new h k = record { front = h.front; back = left b [] s.todo; parts = h.parts; last = v; told = h.told; kept = inr k }

@@ -1,26 +1,26 @@
 -- Why a body isn't written, and what a refusal leaves.
 use Rattle.std.specs.Prelude.{◌≡◌, ◌⊎◌, List, [], ◌∷◌, ◌++◌, Option, Some, None, Err, slice_get}
-use Rattle.walrus_tree.specs.walrus_walks.walrus_instr.walrus_forms.declared.value.ValType.{ValType}
-use Rattle.walrus_tree.specs.walrus_walks.walrus_instr.declared.instr.Instr.{Instr}
-use Rattle.walrus_tree.specs.walrus_walks.walrus_instr.declared.instr.Instr.TheVariants.{Block, Loop, IfElse, Try, TryTable, Select}
-use Rattle.walrus_tree.specs.walrus_walks.walrus_instr.declared.seq.InstrSeq.{InstrSeq}
-use Rattle.walrus_tree.specs.walrus_walks.walrus_instr.declared.seq.InstrSeqType.{InstrSeqType}
-use Rattle.walrus_tree.specs.walrus_walks.walrus_instr.declared.seq.InstrSeqType.TheVariants.{Simple, MultiValue}
+use Rattle.walrus_body_text.specs.walrus_tree.walrus_walks.walrus_instr.walrus_forms.declared.value.ValType.{ValType}
+use Rattle.walrus_body_text.specs.walrus_tree.walrus_walks.walrus_instr.declared.instr.Instr.{Instr}
+use Rattle.walrus_body_text.specs.walrus_tree.walrus_walks.walrus_instr.declared.instr.Instr.TheVariants.{Block, Loop, IfElse, Try, TryTable, Select}
+use Rattle.walrus_body_text.specs.walrus_tree.walrus_walks.walrus_instr.declared.seq.InstrSeq.{InstrSeq}
+use Rattle.walrus_body_text.specs.walrus_tree.walrus_walks.walrus_instr.declared.seq.InstrSeqType.{InstrSeqType}
+use Rattle.walrus_body_text.specs.walrus_tree.walrus_walks.walrus_instr.declared.seq.InstrSeqType.TheVariants.{Simple, MultiValue}
 use Rattle.walrus_index_maps.specs.declared.space.Space.{Space as Named}
 use Rattle.walrus_index_maps.specs.declared.space.Space.TheVariants as words
 use Rattle.walrus_pairing.specs.declared.error.PairError.{PairError}
 use Rattle.walrus_pairing.specs.declared.error.PairError.TheVariants as errors
 use Rattle.walrus_pairing.specs.Answers.{IsLargeType}
 use Rattle.walrus_pairing.specs.Looks.{Look, Or}
-use Rattle.walrus_tree.specs.Text.{Piece, Operator, operators}
-use Rattle.walrus_tree.specs.Trees.{IsTree}
+use Rattle.walrus_body_text.specs.walrus_tree.Text.{Piece, Operator, operators}
+use Rattle.walrus_body_text.specs.walrus_tree.Trees.{IsTree}
 use Rattle.wasm_formats.specs.declared.fault.Form.TheVariants as forms
 use Rattle.wasm_formats.specs.declared.fault.Limited.TheVariants as limits
 use Rattle.wasm_formats.specs.declared.fault.Space.{Space}
 use Rattle.wasm_formats.specs.declared.fault.Space.TheVariants as spaces
 use Rattle.wasm_immediates.specs.Items.{Types}
-use Rattle.walrus_body_env.specs.declared.error.BodyError.{BodyError}
-use Rattle.walrus_body_env.specs.declared.error.BodyError.TheVariants as faults
+use Rattle.walrus_body_text.specs.walrus_body_env.declared.error.BodyError.{BodyError}
+use Rattle.walrus_body_text.specs.walrus_body_env.declared.error.BodyError.TheVariants as faults
 use Rattle.walrus_body_writer.specs.declared.output.Output.{Output}
 use Rattle.walrus_body_writer.specs.Spelled.{Text, type_in, written}
 use Rattle.walrus_body_writer.specs.Outputs.{Wrote}

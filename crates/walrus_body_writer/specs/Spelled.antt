@@ -1,16 +1,16 @@
 -- What is written for a body: each piece of its text as an operator, in its shortest spelling, with numbers for what it names; or why
 -- it isn't written.
 use Rattle.std.specs.Prelude.{ℕ, suc, ◌+◌, ◌==◌, Bool, true, false, List, [], ◌∷◌, ◌++◌, map, length, Option, Some, None, Ok, Err, slice_get, if◌then◌else◌}
-use Rattle.walrus_tree.specs.walrus_walks.walrus_instr.walrus_forms.declared.value.RefType.{RefType}
-use Rattle.walrus_tree.specs.walrus_walks.walrus_instr.declared.instr.Instr.{Instr}
-use Rattle.walrus_tree.specs.walrus_walks.walrus_instr.declared.instr.Instr.TheVariants.{Block as BlockInstr, Loop, IfElse, Try, TryTable, Br, BrIf, BrTable, BrOnNull, BrOnNonNull, BrOnCast, BrOnCastFail, Rethrow}
-use Rattle.walrus_tree.specs.walrus_walks.walrus_instr.declared.instr.TryTableCatch.{TryTableCatch}
-use Rattle.walrus_tree.specs.walrus_walks.walrus_instr.declared.instr.TryTableCatch.TheVariants as parts
-use Rattle.walrus_tree.specs.walrus_walks.walrus_instr.declared.seq.InstrLocId.{InstrLocId}
-use Rattle.walrus_tree.specs.walrus_walks.walrus_instr.declared.seq.InstrSeq.{InstrSeq}
-use Rattle.walrus_tree.specs.walrus_walks.walrus_instr.declared.seq.InstrSeqType.{InstrSeqType}
-use Rattle.walrus_tree.specs.walrus_walks.walrus_instr.declared.seq.InstrSeqType.TheVariants.{Simple, MultiValue}
-use Rattle.walrus_tree.specs.Text.{Piece, Operator, Else, Catch, CatchAll, Delegate, End}
+use Rattle.walrus_body_text.specs.walrus_tree.walrus_walks.walrus_instr.walrus_forms.declared.value.RefType.{RefType}
+use Rattle.walrus_body_text.specs.walrus_tree.walrus_walks.walrus_instr.declared.instr.Instr.{Instr}
+use Rattle.walrus_body_text.specs.walrus_tree.walrus_walks.walrus_instr.declared.instr.Instr.TheVariants.{Block as BlockInstr, Loop, IfElse, Try, TryTable, Br, BrIf, BrTable, BrOnNull, BrOnNonNull, BrOnCast, BrOnCastFail, Rethrow}
+use Rattle.walrus_body_text.specs.walrus_tree.walrus_walks.walrus_instr.declared.instr.TryTableCatch.{TryTableCatch}
+use Rattle.walrus_body_text.specs.walrus_tree.walrus_walks.walrus_instr.declared.instr.TryTableCatch.TheVariants as parts
+use Rattle.walrus_body_text.specs.walrus_tree.walrus_walks.walrus_instr.declared.seq.InstrLocId.{InstrLocId}
+use Rattle.walrus_body_text.specs.walrus_tree.walrus_walks.walrus_instr.declared.seq.InstrSeq.{InstrSeq}
+use Rattle.walrus_body_text.specs.walrus_tree.walrus_walks.walrus_instr.declared.seq.InstrSeqType.{InstrSeqType}
+use Rattle.walrus_body_text.specs.walrus_tree.walrus_walks.walrus_instr.declared.seq.InstrSeqType.TheVariants.{Simple, MultiValue}
+use Rattle.walrus_body_text.specs.walrus_tree.Text.{Piece, Operator, Else, Catch, CatchAll, Delegate, End}
 use Rattle.wasm_immediates.specs.declared.block_type.BlockType.{BlockType}
 use Rattle.wasm_immediates.specs.declared.block_type.BlockType.TheVariants as blocks
 use Rattle.wasm_immediates.specs.declared.clause.Clause.{Clause}
@@ -22,6 +22,7 @@ use Rattle.walrus_pairing.specs.walrus_operator_codes.Runs.{byte, object}
 use Rattle.walrus_pairing.specs.Looks.{Look, Or, ◌>>=◌, found}
 use Rattle.walrus_pairing.specs.Types.{type_of, written_heap, written_value}
 use Rattle.walrus_pairing.specs.Write.{op, operator_at}
+pub use Rattle.walrus_body_text.specs.Doing.{Text}
 
 -- how many sequences lie between a label and here (Core Specification, labels)
 abbrev pub label : List ℕ → ℕ → ℕ
@@ -95,9 +96,6 @@ written look b (Catch tag) = found look Tags tag >>= λ n. op (byte 0x07) (Names
 written look b CatchAll = op (byte 0x19) []
 written look b (Delegate depth) = op (byte 0x18) (Names Labels depth ∷ [])
 written look b End = op (byte 0x0b) []
-
-abbrev pub Text : Type 0
-Text = List (Piece × InstrLocId)
 
 -- the bytes of what is written
 abbrev pub bytes_of : Or (Option Seen) → List ℕ

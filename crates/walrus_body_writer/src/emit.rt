@@ -2,37 +2,37 @@
 
 ghost use Rattle.std.specs.Prelude.{List, IfErr, IfOk, MatchBool, OnOk};
 ghost use Rattle.std.specs.Bool.{OnTrue};
-ghost use Rattle.walrus_tree.specs.walrus_builder.Functions.{seqs_of};
+ghost use Rattle.walrus_body_text.specs.walrus_tree.walrus_builder.Functions.{seqs_of};
 ghost use Rattle.walrus_index_maps.specs.Views.{indices};
 ghost use Rattle.walrus_pairing.specs.Looks.{number_of};
 ghost use Rattle.walrus_pairing.specs.Seen.{as_seen};
-ghost use Rattle.walrus_tree.specs.Trees.{IsTree};
-ghost use Rattle.walrus_tree.specs.Text.{operators};
-ghost use Rattle.walrus_body_writer.specs.Doing.{label_by, piece_of};
+ghost use Rattle.walrus_body_text.specs.walrus_tree.Trees.{IsTree};
+ghost use Rattle.walrus_body_text.specs.walrus_tree.Text.{operators};
+ghost use Rattle.walrus_body_text.specs.Doing.{label_by, piece_of};
 ghost use Rattle.walrus_body_writer.specs.Spelled.{written, written_instr};
-ghost use Rattle.walrus_body_writer.specs.Emitting.{GoesOff, GoesOn, IsDone, Writes, state};
+ghost use Rattle.walrus_body_text.specs.Walking.{state};
+ghost use Rattle.walrus_body_writer.specs.Emitting.{GoesOff, GoesOn, IsDone, Writes};
 ghost use Rattle.walrus_body_writer.specs.Numbers.{look_of};
 ghost use Rattle.walrus_body_writer.specs.Outputs.{IsEnded, IsPut, Wrote};
-ghost use Rattle.walrus_body_writer.specs.Tested.{Skips};
+ghost use Rattle.walrus_body_text.specs.Tested.{Skips};
 ghost use Rattle.walrus_body_writer.specs.Refusals.{IsLarge, IsRefusal, LeavesOff, value_in};
 
-use crate::depths::Depths;
 use crate::frequent::{append_end, append_frequent, append_holder};
 use crate::numbers::{Numbers, Written};
 use crate::operators::{closer_of, written_of};
 use crate::output::Output;
 use crate::refusal::fault_of;
-use crate::todo::{Closer, Met, Place, Todo};
-use crate::todos::Todos;
-use crate::walk::{advance, item_at, plain_at, seq_at};
 use std::alloc::Global;
 use walrus_arena::{FunctionId, InstrSeqId};
-use walrus_body_env::BodyError;
+use walrus_body_text::body_env::BodyError;
+use walrus_body_text::tree::builder::FunctionBuilder;
+use walrus_body_text::tree::check_tree;
+use walrus_body_text::tree::instr::{Instr, InstrLocId, InstrSeq};
+use walrus_body_text::{
+    Closer, Depths, Met, Place, Todo, Todos, advance, item_at, plain_at, seq_at,
+};
 use walrus_index_maps::IdsToIndices;
 use walrus_pairing::PairError;
-use walrus_tree::builder::FunctionBuilder;
-use walrus_tree::check_tree;
-use walrus_tree::instr::{Instr, InstrLocId, InstrSeq};
 
 // Puts what is written there.
 fn put(out: &mut Output, operator: Written, place: InstrLocId) -> Result<(), PairError>
@@ -261,9 +261,9 @@ fn write_tree(
     ensures written { IfOk result (λ fine. OnTrue fine (Wrote (look_of numbers.now) seqs.now (operators seqs.now entry) out.old out.new)) }
     ensures left { IfErr result (λ e. IsTree seqs.now entry → LeavesOff (look_of numbers.now) seqs.now (operators seqs.now entry) out.old e out.new) }
 {
-    walrus_tree::laws::trees_are_nested();
-    walrus_tree::laws::text_is_plain();
-    walrus_tree::laws::trees_are_sound();
+    walrus_body_text::tree::laws::trees_are_nested();
+    walrus_body_text::tree::laws::text_is_plain();
+    walrus_body_text::tree::laws::trees_are_sound();
     let mut depths = Depths::new(alloc, seqs.len())?;
     let mut todo = Todos::new(alloc, Todo::Enter(entry, Closer::End));
     while let Some(top) = todo.pop() {

@@ -8,17 +8,17 @@ ghost use Rattle.walrus_pairing.specs.walrus_operator_codes.Runs as codes;
 ghost use Rattle.walrus_pairing.specs.Looks.{Look, word};
 ghost use Rattle.walrus_pairing.specs.Write.{access, access_of, constant, lane_items, log_of, one, op, seen_of};
 ghost use Rattle.walrus_body_writer.specs.Appended.{IsAppended, named};
-ghost use Rattle.walrus_body_writer.specs.Doing.{label_by, piece_of};
+ghost use Rattle.walrus_body_text.specs.Doing.{label_by, piece_of};
 ghost use Rattle.walrus_body_writer.specs.Numbers.{look_of};
 ghost use Rattle.walrus_body_writer.specs.Refusals.{IsLarge, value_in, value_of};
 ghost use Rattle.walrus_body_writer.specs.Spelled.{opening, type_in, written, written_instr};
 
-use crate::depths::Depths;
 use crate::numbers::Numbers;
 use crate::operators::{block_type, type_of};
-use crate::todo::Closer;
 use std::alloc::AllocError;
 use walrus_arena::{FunctionId, GlobalId, InstrSeqId, LocalId, MemoryId};
+use walrus_body_text::tree::instr::{Instr, InstrSeq};
+use walrus_body_text::{Closer, Depths};
 use walrus_index_maps::Space;
 use walrus_operator_writer::{
     write_access, write_bits32, write_bits64, write_block_type, write_byte, write_code,
@@ -30,7 +30,6 @@ use walrus_pairing::access_codes::operator_codes::{
     byte, code_of_binary, code_of_unary, lane_of_binary, lane_of_unary,
 };
 use walrus_pairing::access_codes::{code_of_load, code_of_store};
-use walrus_tree::instr::{Instr, InstrSeq};
 use wasm_immediates::{BlockType, MemoryAccess};
 use wasm_operators::OpCode;
 

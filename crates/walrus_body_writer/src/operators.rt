@@ -6,20 +6,19 @@ ghost use Rattle.std.specs.declared.vec.Vec.{Vec};
 ghost use Rattle.walrus_pairing.specs.Looks.{Look};
 ghost use Rattle.walrus_pairing.specs.Seen.{as_seen};
 ghost use Rattle.walrus_body_writer.specs.Spelled.{block, branch, cast, clause, clauses, opening, type_in, written, written_instr};
-ghost use Rattle.walrus_body_writer.specs.Doing.{label_by, piece_of};
+ghost use Rattle.walrus_body_text.specs.Doing.{label_by, piece_of};
 ghost use Rattle.walrus_body_writer.specs.Numbers.{clauses_in, look_of};
 ghost use Rattle.walrus_body_writer.specs.Refusals.{Gives, IsLarge, value_in, value_of};
 
-use crate::depths::Depths;
 use crate::numbers::{Numbers, Written, op};
-use crate::todo::Closer;
 use std::alloc::{AllocError, Global};
 use walrus_arena::{InstrSeqId, TypeId};
+use walrus_body_text::tree::instr::type_table::{RefType, ValType};
+use walrus_body_text::tree::instr::{Instr, InstrSeq, InstrSeqType, TryTableCatch};
+use walrus_body_text::{Closer, Depths};
 use walrus_pairing::operator_codes::{byte, object};
 use walrus_pairing::operators::Immediates;
 use walrus_pairing::{PairError, operator_of, write_heap, write_value};
-use walrus_tree::instr::type_table::{RefType, ValType};
-use walrus_tree::instr::{Instr, InstrSeq, InstrSeqType, TryTableCatch};
 use wasm_immediates::{BlockType, Clause};
 
 /// The type of a sequence.

@@ -5,9 +5,9 @@ ghost use Rattle.walrus_pairing.specs.walrus_operators.Operators.{seen};
 ghost use Rattle.walrus_body_writer.specs.Outputs.{IsCut, IsNoted, IsSame, Joins, Puts, moved};
 
 use std::alloc::{AllocError, Global};
+use walrus_body_text::tree::instr::InstrLocId;
 use walrus_operator_writer::write_operator;
 use walrus_pairing::operators::Operator;
-use walrus_tree::instr::InstrLocId;
 
 /// Bytes that are written, and the places of the operators among them.
 #[derive(Drop)]

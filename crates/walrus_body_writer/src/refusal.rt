@@ -3,7 +3,7 @@
 ghost use Rattle.std.specs.Prelude.{◌≡◌};
 ghost use Rattle.walrus_body_writer.specs.Refusals.{fault_of, space_of};
 
-use walrus_body_env::BodyError;
+use walrus_body_text::body_env::BodyError;
 use walrus_index_maps::Space as Named;
 use walrus_pairing::PairError;
 use wasm_formats::{Form, Limited, Space};

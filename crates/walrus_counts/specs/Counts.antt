@@ -4,7 +4,7 @@ use Rattle.walrus_arena.specs.Arena.{Arena, ids}
 use Rattle.walrus_errors.specs.declared.error.ModuleError.{ModuleError}
 use Rattle.walrus_errors.specs.declared.error.ModuleError.TheVariants.{Memory, NoTree}
 use Rattle.walrus_module.specs.Parts.{Module}
-use Rattle.walrus_module.specs.walrus_body_writer.Visiting.{text_size}
+use Rattle.walrus_module.specs.walrus_body_writer.walrus_body_text.Visiting.{text_size}
 use Rattle.walrus_module.specs.walrus_builder.Functions.{seqs_of}
 use Rattle.walrus_module.specs.walrus_collections.LookUps.{items}
 use Rattle.walrus_module.specs.walrus_module_items.declared.function.Function.{Function}

@@ -8,10 +8,10 @@ ghost use Rattle.walrus_body_names.specs.walrus_pairing.Looks.{number_of};
 ghost use Rattle.walrus_body_names.specs.walrus_tree.Text.{operators};
 ghost use Rattle.walrus_body_names.specs.walrus_tree.Trees.{IsTree};
 ghost use Rattle.walrus_body_names.specs.Names.{AreSet, are_constants, has_any, local_in, segment_in, text_names};
-ghost use Rattle.walrus_body_names.specs.walrus_body_writer.Emitting.{IsCause as IsTreeCause};
+ghost use Rattle.walrus_body_names.specs.walrus_body_writer.walrus_body_text.Walking.{IsCause as IsTreeCause};
 ghost use Rattle.walrus_body_names.specs.walrus_body_writer.Outputs.{Wrote};
 ghost use Rattle.walrus_body_names.specs.walrus_body_writer.Refusals.{IsRefusal};
-ghost use Rattle.walrus_body_names.specs.walrus_body_writer.Visiting.{text_size};
+ghost use Rattle.walrus_body_names.specs.walrus_body_writer.walrus_body_text.Visiting.{text_size};
 ghost use Rattle.walrus_local_numbers.specs.Declared.{IsOfFunction, declared, has_lost, has_number, local_ids, with_numbers};
 ghost use Rattle.walrus_local_numbers.specs.Written.{IsCause, Writes};
 

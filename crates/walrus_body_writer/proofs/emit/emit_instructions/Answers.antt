@@ -1,7 +1,7 @@
 use Rattle.std.proofs.Common.{refl}
 use Rattle.walrus_index_maps.specs.Views.{indices}
 use Rattle.walrus_pairing.specs.Looks.{number_of}
-use Rattle.walrus_tree.specs.walrus_builder.Functions.{seqs_of}
+use Rattle.walrus_body_text.specs.walrus_tree.walrus_builder.Functions.{seqs_of}
 use Rattle.walrus_body_writer.proofs.Behind.{behind, if_true, memory_wanted, on_true, refused_behind}
 use Rattle.walrus_body_writer.proofs.emit.emit_instructions.Goals as goal
 

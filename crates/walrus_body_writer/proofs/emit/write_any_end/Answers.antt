@@ -1,5 +1,5 @@
 use Rattle.walrus_pairing.specs.Seen.{as_seen}
-use Rattle.walrus_body_writer.specs.Doing.{piece_of}
+use Rattle.walrus_body_text.specs.Doing.{piece_of}
 use Rattle.walrus_body_writer.specs.Numbers.{look_of}
 use Rattle.walrus_body_writer.specs.Spelled.{written}
 use Rattle.walrus_body_writer.proofs.Refused.{done, end_gives}

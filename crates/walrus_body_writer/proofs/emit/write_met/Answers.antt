@@ -1,6 +1,7 @@
 use Rattle.std.proofs.Common.{sym, subst}
-use Rattle.walrus_body_writer.specs.declared.todo.Met.{Met}
-use Rattle.walrus_body_writer.specs.Emitting.{Writes, state}
+use Rattle.walrus_body_text.specs.declared.todo.Met.{Met}
+use Rattle.walrus_body_text.specs.Walking.{state}
+use Rattle.walrus_body_writer.specs.Emitting.{Writes}
 use Rattle.walrus_body_writer.specs.Numbers.{look_of}
 use Rattle.walrus_body_writer.proofs.emit.write_met.Goals as goal
 

@@ -1,6 +1,6 @@
 use Rattle.std.proofs.Common.{sym, subst}
-use Rattle.walrus_body_writer.specs.declared.todo.Todo.{Todo}
-use Rattle.walrus_body_writer.specs.declared.todo.Todo.TheVariants.{Inside}
+use Rattle.walrus_body_text.specs.declared.todo.Todo.{Todo}
+use Rattle.walrus_body_text.specs.declared.todo.Todo.TheVariants.{Inside}
 use Rattle.walrus_body_writer.specs.Emitting.{GoesOff, GoesOn}
 use Rattle.walrus_body_writer.specs.Numbers.{look_of}
 use Rattle.walrus_body_writer.proofs.emit.write_on.Goals as goal

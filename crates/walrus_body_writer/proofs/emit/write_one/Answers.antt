@@ -1,7 +1,7 @@
 use Rattle.std.proofs.Common.{◌∙◌, Ok, refl, subst}
 use Rattle.std.specs.Prelude.{Bool}
 use Rattle.walrus_body_writer.specs.Appended.{IsAppended}
-use Rattle.walrus_body_writer.specs.Doing.{label_by}
+use Rattle.walrus_body_text.specs.Doing.{label_by}
 use Rattle.walrus_body_writer.specs.Numbers.{look_of}
 use Rattle.walrus_body_writer.specs.Refusals.{IsLarge, value_in}
 use Rattle.walrus_body_writer.specs.Spelled.{written_instr}

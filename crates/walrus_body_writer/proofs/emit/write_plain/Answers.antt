@@ -1,12 +1,12 @@
 use Rattle.std.proofs.Common.{◌≡◌, Some, arith}
 use Rattle.std.specs.Prelude.{slice_get}
 use Rattle.std.proofs.lemmas.Option.{slice_get_within}
-use Rattle.walrus_body_writer.specs.declared.todo.Place.{Place}
-use Rattle.walrus_body_writer.specs.declared.todo.Todo.TheVariants.{Inside}
-use Rattle.walrus_body_writer.specs.Emitting.{advanced}
+use Rattle.walrus_body_text.specs.declared.todo.Place.{Place}
+use Rattle.walrus_body_text.specs.declared.todo.Todo.TheVariants.{Inside}
+use Rattle.walrus_body_text.specs.Walking.{advanced}
 use Rattle.walrus_body_writer.specs.Numbers.{look_of}
 use Rattle.walrus_body_writer.proofs.Runs.{refuses_more, turn_refuses, turn_writes, writes_more, writes_none}
-use Rattle.walrus_body_writer.proofs.Tests.{skips_more, skips_none, turn_skips}
+use Rattle.walrus_body_text.proofs.Tests.{skips_more, skips_none, turn_skips}
 use Rattle.walrus_body_writer.proofs.emit.write_plain.Goals as goal
 
 pub returns-in-Err-clause-off : goal.returns-in-Err-clause-off

@@ -1,6 +1,6 @@
 use Rattle.std.proofs.Common.{◌-◌, length}
-use Rattle.walrus_body_writer.specs.declared.todo.Todo.TheVariants.{Inside}
-use Rattle.walrus_body_writer.specs.Tested.{Skips}
+use Rattle.walrus_body_text.specs.declared.todo.Todo.TheVariants.{Inside}
+use Rattle.walrus_body_text.specs.Tested.{Skips}
 use Rattle.walrus_body_writer.specs.Emitting.{GoesOn}
 use Rattle.walrus_body_writer.specs.Numbers.{look_of}
 use Rattle.walrus_body_writer.proofs.emit.write_plain.Given as goal

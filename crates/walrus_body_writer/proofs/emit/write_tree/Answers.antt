@@ -1,15 +1,16 @@
 use Rattle.std.proofs.Common.{ap, refl, sym, [], ◌∷◌, ◌++◌}
-use Rattle.walrus_tree.specs.Text.{operators}
-use Rattle.walrus_tree.specs.Trees.{IsTree}
-use Rattle.walrus_body_writer.specs.Doing.{left}
-use Rattle.walrus_body_writer.specs.Emitting.{state}
+use Rattle.walrus_body_text.specs.walrus_tree.Text.{operators}
+use Rattle.walrus_body_text.specs.walrus_tree.Trees.{IsTree}
+use Rattle.walrus_body_text.specs.Doing.{left}
+use Rattle.walrus_body_text.specs.Walking.{state}
 use Rattle.walrus_body_writer.specs.Numbers.{look_of}
 use Rattle.walrus_body_writer.specs.Refusals.{LeavesOff}
-use Rattle.walrus_body_writer.proofs.Steps.{passed, refuses, starts, writes_on}
+use Rattle.walrus_body_text.proofs.Steps.{passed, starts}
+use Rattle.walrus_body_writer.proofs.Steps.{refuses, writes_on}
 use Rattle.walrus_body_writer.proofs.Outs.{wrote_none}
 use Rattle.walrus_body_writer.proofs.Runs.{if_memory, taken_goes}
 use Rattle.walrus_body_writer.proofs.Refused.{wants}
-use Rattle.walrus_body_writer.proofs.Tests.{met_is, met_none, met_some, test_goes, test_starts, test_strays}
+use Rattle.walrus_body_text.proofs.Tests.{met_is, met_none, met_some, test_goes, test_starts, test_strays}
 use Rattle.walrus_body_writer.proofs.emit.write_tree.Goals as goal
 
 pub loop-top-init : goal.loop-top-init
@@ -46,7 +47,7 @@ loop-top-preserved c =
           (test_goes b entry c.loop-top.todo ts c.in-Some.top next d c.in-Some.ensures.items i.tested c.in-Ok.ensures.tested met new
           (met_some _ met _ c.in-Some-2.is c.in_ok-met.ensures.tested) (met_is _ met _ c.in-Some-2.is c.in_ok-met.ensures.advanced)).tested;
       goes = λ tree.
-          let r = (c.in-Ok.ensures.on plain all first ts (taken_goes look b all first c.loop-top.todo ts c.in-Some.top d c.loop-top.out c.in-Some.ensures.items (i.goes tree))).0 in
+          let r = c.in-Ok.ensures.on plain all first ts (taken_goes look b all first c.loop-top.todo ts c.in-Some.top d c.loop-top.out c.in-Some.ensures.items (i.goes tree)) in
           let h = passed b plain (ts ++ next ∷ []) ts next d met new refl r.good (met_is _ met _ c.in-Some-2.is c.in_ok-met.ensures.advanced) in
           writes_on look b all first r.front (left b [] (ts ++ next ∷ [])) new c.write_on.new.out c.write_met.new.out r.parts r.wrote met h (c.in-Ok-write_met.ensures c.advance.new.todo);
     }
@@ -83,7 +84,7 @@ returns-in-Err-write_met-clause-left c = λ tree.
     let met = c.in-Some-2.met in
     let new = state c.advance.new.todo c.advance.new.depths in
     let plain = c.text_is_plain.ensures.plain in
-    let r = (c.in-Ok.ensures.on plain all first ts (taken_goes look b all first c.loop-top.todo ts c.in-Some.top d c.loop-top.out c.in-Some.ensures.items (c.loop-top.invariant.goes tree))).0 in
+    let r = c.in-Ok.ensures.on plain all first ts (taken_goes look b all first c.loop-top.todo ts c.in-Some.top d c.loop-top.out c.in-Some.ensures.items (c.loop-top.invariant.goes tree)) in
     let h = passed b plain (ts ++ next ∷ []) ts next d met new refl r.good (met_is _ met _ c.in-Some-2.is c.in_ok-met.ensures.advanced) in
     refuses look b all first r.front (left b [] (ts ++ next ∷ [])) new c.write_on.new.out c.write_met.new.out r.parts r.wrote met c.in-Err-write_met.error h (c.in-Err-write_met.ensures c.advance.new.todo)
 
@@ -98,7 +99,7 @@ returns-in_err-met-clause-left c =
     let d = c.loop-top.depths in
     if_memory c.from_residual-in_err-met.result (λ e. IsTree b entry → LeavesOff look b all first e c.write_on.new.out)
     (λ tree.
-    let i = (c.in-Ok.ensures.on c.text_is_plain.ensures.plain all first ts (taken_goes look b all first c.loop-top.todo ts c.in-Some.top d c.loop-top.out c.in-Some.ensures.items (c.loop-top.invariant.goes tree))).0 in
+    let i = c.in-Ok.ensures.on c.text_is_plain.ensures.plain all first ts (taken_goes look b all first c.loop-top.todo ts c.in-Some.top d c.loop-top.out c.in-Some.ensures.items (c.loop-top.invariant.goes tree)) in
     wants look b all i.front (left b [] (ts ++ c.in-Ok.next ∷ [])) first c.write_on.new.out i.parts i.wrote) c.from_residual-in_err-met.ensures
 
 pub returns-in_default-2-clause-tree : goal.returns-in_default-2-clause-tree

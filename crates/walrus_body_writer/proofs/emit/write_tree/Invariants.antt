@@ -1,9 +1,10 @@
 use Rattle.std.proofs.Common.{◌+◌}
-use Rattle.walrus_tree.specs.Text.{operators}
-use Rattle.walrus_tree.specs.Trees.{IsTree}
-use Rattle.walrus_body_writer.specs.Emitting.{state, Goes}
+use Rattle.walrus_body_text.specs.walrus_tree.Text.{operators}
+use Rattle.walrus_body_text.specs.walrus_tree.Trees.{IsTree}
+use Rattle.walrus_body_text.specs.Walking.{state}
+use Rattle.walrus_body_writer.specs.Emitting.{Goes}
 use Rattle.walrus_body_writer.specs.Numbers.{look_of}
-use Rattle.walrus_body_writer.specs.Tested.{IsTested, turns, work}
+use Rattle.walrus_body_text.specs.Tested.{IsTested, turns, work}
 use Rattle.walrus_body_writer.proofs.emit.write_tree.Given as goal
 
 abbrev pub invariant-loop-top : goal.invariant-loop-top

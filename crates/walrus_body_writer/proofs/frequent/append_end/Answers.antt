@@ -1,9 +1,9 @@
 use Rattle.std.proofs.Common.{[], sym, subst}
 use Rattle.wasm_operators.specs.declared.op_code.OpCode.{OpCode}
 use Rattle.walrus_pairing.specs.Write.{op}
-use Rattle.walrus_body_writer.specs.declared.todo.Closer.{Closer}
+use Rattle.walrus_body_text.specs.declared.todo.Closer.{Closer}
 use Rattle.walrus_body_writer.specs.Appended.{IsAppended}
-use Rattle.walrus_body_writer.specs.Doing.{piece_of}
+use Rattle.walrus_body_text.specs.Doing.{piece_of}
 use Rattle.walrus_body_writer.specs.Spelled.{written}
 use Rattle.walrus_body_writer.proofs.frequent.append_end.Goals as goal
 

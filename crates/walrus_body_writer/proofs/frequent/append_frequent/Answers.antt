@@ -5,7 +5,7 @@ use Rattle.wasm_operators.specs.declared.op_code.OpCode.{OpCode}
 use Rattle.walrus_pairing.specs.walrus_operator_codes.Binary.{binary_lane}
 use Rattle.walrus_pairing.specs.walrus_operator_codes.Unary.{unary_lane}
 use Rattle.walrus_pairing.specs.Write.{access, lane_items, one, op}
-use Rattle.walrus_body_writer.specs.Doing.{label_by}
+use Rattle.walrus_body_text.specs.Doing.{label_by}
 use Rattle.walrus_body_writer.specs.Numbers.{look_of}
 use Rattle.walrus_body_writer.proofs.Straight.{call_is, const_is, global_get_is, global_set_is, load_is, local_get_is, local_set_is, local_tee_is, store_is, straight, unop_is, binop_is}
 use Rattle.walrus_body_writer.proofs.frequent.append_frequent.Goals as goal

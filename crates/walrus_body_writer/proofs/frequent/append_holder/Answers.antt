@@ -1,5 +1,5 @@
 use Rattle.std.proofs.Common.{sym, subst}
-use Rattle.walrus_tree.specs.walrus_walks.walrus_instr.declared.instr.Instr.{Instr}
+use Rattle.walrus_body_text.specs.walrus_tree.walrus_walks.walrus_instr.declared.instr.Instr.{Instr}
 use Rattle.walrus_body_writer.specs.Appended.{IsAppended}
 use Rattle.walrus_body_writer.specs.Numbers.{look_of}
 use Rattle.walrus_body_writer.specs.Refusals.{IsLarge, value_in}

@@ -1,7 +1,7 @@
 use Rattle.std.proofs.Common.{◌≡◌, drop}
 use Rattle.walrus_body_writer.specs.Spelled.{clauses}
 use Rattle.walrus_body_writer.specs.Numbers.{look_of, put_before}
-use Rattle.walrus_body_writer.specs.Doing.{label_by}
+use Rattle.walrus_body_text.specs.Doing.{label_by}
 use Rattle.walrus_body_writer.proofs.operators.clauses_of.Given as goal
 
 abbrev pub invariant-loop-part : goal.invariant-loop-part

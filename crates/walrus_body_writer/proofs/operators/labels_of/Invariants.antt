@@ -1,5 +1,5 @@
 use Rattle.std.proofs.Common.{◌≡◌, ◌++◌, drop, map}
-use Rattle.walrus_body_writer.specs.Doing.{label_by}
+use Rattle.walrus_body_text.specs.Doing.{label_by}
 use Rattle.walrus_body_writer.proofs.operators.labels_of.Given as goal
 
 abbrev pub invariant-loop-id : goal.invariant-loop-id

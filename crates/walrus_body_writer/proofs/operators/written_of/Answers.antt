@@ -1,14 +1,14 @@
 use Rattle.std.proofs.Common.{ℕ, ◌≡◌, refl, sym, subst}
 use Rattle.std.specs.declared.alloc.Global.{Global}
 use Rattle.std.specs.declared.vec.Vec.{Vec}
-use Rattle.walrus_tree.specs.walrus_walks.walrus_instr.walrus_forms.declared.value.RefType.{RefType}
-use Rattle.walrus_tree.specs.walrus_walks.walrus_instr.declared.instr.Instr.TheVariants as instrs
-use Rattle.walrus_tree.specs.walrus_walks.walrus_instr.declared.instr.LegacyCatch.{LegacyCatch}
-use Rattle.walrus_tree.specs.walrus_walks.walrus_instr.declared.instr.TryTableCatch.{TryTableCatch}
+use Rattle.walrus_body_text.specs.walrus_tree.walrus_walks.walrus_instr.walrus_forms.declared.value.RefType.{RefType}
+use Rattle.walrus_body_text.specs.walrus_tree.walrus_walks.walrus_instr.declared.instr.Instr.TheVariants as instrs
+use Rattle.walrus_body_text.specs.walrus_tree.walrus_walks.walrus_instr.declared.instr.LegacyCatch.{LegacyCatch}
+use Rattle.walrus_body_text.specs.walrus_tree.walrus_walks.walrus_instr.declared.instr.TryTableCatch.{TryTableCatch}
 use Rattle.walrus_body_writer.proofs.Refused.{IsOther, answered}
-use Rattle.walrus_tree.specs.walrus_walks.walrus_instr.declared.instr.Instr.{Instr}
+use Rattle.walrus_body_text.specs.walrus_tree.walrus_walks.walrus_instr.declared.instr.Instr.{Instr}
 use Rattle.walrus_pairing.specs.Seen.{as_seen}
-use Rattle.walrus_body_writer.specs.Doing.{label_by}
+use Rattle.walrus_body_text.specs.Doing.{label_by}
 use Rattle.walrus_body_writer.specs.Numbers.{look_of}
 use Rattle.walrus_body_writer.specs.Refusals.{Gives, IsLarge, value_in}
 use Rattle.walrus_body_writer.specs.Spelled.{written_instr}
