@@ -40,9 +40,9 @@ pub accepted : {V : Type 0} (p : Option BodyError × V) (w : V) → env.Answers 
 accepted (None, u) w h = ap (λ (z : _). (None, z)) (sym h.1)
 accepted (Some e, u) w h = absurd (let q = h.0 in cc)
 
-pub barred : {V : Type 0} (p : Option BodyError × V) (w : V) (e : BodyError) → env.Answers p (Err e) w → p.0 ≡ Some e
+pub barred : {V : Type 0} (p : Option BodyError × V) (w : V) (e : BodyError) → env.Answers p (Err e) w → p ≡ (Some e, w)
 barred (None, u) w e h = absurd (let q = h.0 in cc)
-barred (Some d, u) w e h = ap (λ (z : BodyError). Some z) (sym (same h.0))
+barred (Some d, u) w e h = ap (λ (z : _). (Some z, u)) (sym (same h.0)) ∙ ap (λ (z : _). (Some e, z)) (sym h.1)
   where
     same : {d e : BodyError} → (let r : Result (Unit {0}) BodyError = Err e in r ≡ Err d) → e ≡ d
     same q = cc

@@ -75,4 +75,4 @@ module _ {V : Type 0} (step : V → ℕ → ℕ → Written → Option BodyError
       → offset + length (rest old) ≡ end_of old → env.Answers (step v offset count written) (Err e) w → RunTold (Err e)
   run_barred e c t at h =
       let r = run_there c t in
-      record { value = inr (inr ((count, r.0), rest new, r.1, ap (λ (p : Option BodyError × V). p.0) (sym (told_there r.0 r.2 at)) ∙ barred (step v offset count written) w e h)); moves = r.4 }
+      record { value = inr (inr ((count, r.0), rest new, r.1, sym (told_there r.0 r.2 at) ∙ barred (step v offset count written) w e h)); moves = r.4 }

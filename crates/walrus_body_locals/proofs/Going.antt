@@ -24,7 +24,7 @@ use Rattle.walrus_body_nesting.specs.walrus_body_env.declared.error.BodyError.Th
 use Rattle.walrus_body_nesting.specs.walrus_body_env.Faults.{read_fault}
 use Rattle.walrus_body_locals.specs.Calls.{IsFaultOf}
 use Rattle.walrus_body_locals.specs.Told.{Telling, Fails, AnswersTold, Tells, Pass, pass_on, pass_entries}
-use Rattle.walrus_body_locals.specs.Locals.{IsRunOf, run_in, IsSeen, FailRuns, Adds, Declares}
+use Rattle.walrus_body_locals.specs.Locals.{IsRunOf, run_in, IsSeen, RefusesRuns, Adds, Declares}
 use Rattle.walrus_body_locals.proofs.Adding.{adds_none, adds_more}
 use Rattle.walrus_body_locals.proofs.Answering.{end_stays, reader_refuses}
 
@@ -92,6 +92,16 @@ module _ {V : Type 0} (told : Telling Run V) (function params count : ℕ) (old 
     within = λ h. moves.within (g.moves.within h);
   }
 
+  -- with it, too
+  passed_on : (more : ℕ) (ty : ValType) (t : Tells nexts told (IsRunOf j.types) new next w x (Ok (more, ty)))
+      → Pass next_total (reads_at old.window.features i.types) told (end_of old) params v g.mid (g.runs ++ t.value.0 ∷ []) (rest next) x
+  passed_on more ty t =
+      let run = t.value.0 in
+      let P : (List ℕ → Parsing Run) → Type 0 = λ p. p (rest new) ≡ Ok (run, rest next) in
+      let T : ℕ → Type 0 = λ end. told w (end - length (rest new)) run ≡ (None, x) in
+      pass_on next_total (reads_at old.window.features i.types) told (end_of old) g.runs params v g.mid (rest new) (rest next) w x run g.passed
+      (subst P same_reads t.value.1) (subst T (end_stays old new g.moves) t.value.2)
+
   pub going_on : (more : ℕ) (ty : ValType) → Tells nexts told (IsRunOf j.types) new next w x (Ok (more, ty)) → Adds function (repeat more (ty ∷ [])) ms ns j k
       → Going told function params count old next ls ns i k v x (total + more) (done + 1)
   going_on more ty t a =
@@ -101,14 +111,11 @@ module _ {V : Type 0} (told : Telling Run V) (function params count : ℕ) (old 
       ap (λ (n : ℕ). repeat n (ty ∷ [])) t.value.3.0 ∙ ap (λ (z : ValType). repeat run.0 (z ∷ [])) named in
       let F : List ValType → Type 0 = λ tys. Adds function tys ms ns j k in
       let G : List ValType → Type 0 = λ tys. Adds function tys ls ns i k in
-      let P : (List ℕ → Parsing Run) → Type 0 = λ p. p (rest new) ≡ Ok (run, rest next) in
-      let T : ℕ → Type 0 = λ end. told w (end - length (rest new)) run ≡ (None, x) in
       record {
         mid = g.mid;
         runs = g.runs ++ run ∷ [];
         counted = g.counted;
-        passed = pass_on next_total (reads_at old.window.features i.types) told (end_of old) g.runs params v g.mid (rest new) (rest next) w x run g.passed
-            (subst P same_reads t.value.1) (subst T (end_stays old new g.moves) t.value.2);
+        passed = passed_on more ty t;
         many = length-append g.runs (run ∷ []) ∙ ap (λ (n : ℕ). n + 1) g.many;
         total_is = ap (λ (n : ℕ). n + more) g.total_is ∙ ap (λ (n : ℕ). fold next_total params g.runs + n) t.value.3.0 ∙ sym (fold-append next_total params g.runs (run ∷ []));
         adds = subst G (sym (own_more i.types g.runs run)) (adds_more function (own_types i.types g.runs) (repeat run.0 (renamed_value (at i.types) run.1 ∷ [])) ls ms ns i j k g.adds (subst F own a));
@@ -117,11 +124,15 @@ module _ {V : Type 0} (told : Telling Run V) (function params count : ℕ) (old 
 
   -- ---- in words of the grammar
 
+  in_words : (runs : List Run) (later : List ℕ) (z : V) → Pass next_total (reads_at old.window.features i.types) told (end_of old) params v g.mid runs later z
+      → (a : Around) → IsSeen old.window.features i.types a → Pass next_total (λ t. (grammar.run a t).parse) told (end_of old) params v g.mid runs later z
+  in_words runs later z h a s =
+      let F : WasmFeatures → Type 0 = λ f. Pass next_total (λ t. (run_in f (length i.types) t).parse) told (end_of old) params v g.mid runs later z in
+      let G : ℕ → Type 0 = λ n. Pass next_total (λ t. (run_in a.features n t).parse) told (end_of old) params v g.mid runs later z in
+      subst G (sym s.types_are) (subst F (sym s.features_are) h)
+
   passed_in : (a : Around) → IsSeen old.window.features i.types a → Pass next_total (λ t. (grammar.run a t).parse) told (end_of old) params v g.mid g.runs (rest new) w
-  passed_in a s =
-      let F : WasmFeatures → Type 0 = λ f. Pass next_total (λ t. (run_in f (length i.types) t).parse) told (end_of old) params v g.mid g.runs (rest new) w in
-      let G : ℕ → Type 0 = λ n. Pass next_total (λ t. (run_in a.features n t).parse) told (end_of old) params v g.mid g.runs (rest new) w in
-      subst G (sym s.types_are) (subst F (sym s.features_are) g.passed)
+  passed_in a s = in_words g.runs (rest new) w g.passed a s
 
   pub going_done : count ≡ done → Declares told function params old new i.types ls ms i j v w
   going_done e = record {
@@ -136,31 +147,38 @@ module _ {V : Type 0} (told : Telling Run V) (function params count : ℕ) (old 
     adds = g.adds;
   }
 
-  pub going_fails : (e : BodyError) → done < count → Tells nexts told (IsRunOf j.types) new next w x (Err e)
-      → (e ≡ faults.Memory) ⊎ ((a : Around) → IsSeen old.window.features i.types a → FailRuns told (grammar.run a) params (end_of old) v (rest old) e)
+  pub going_fails : (e : BodyError) → done < count → Tells nexts told (IsRunOf j.types) new next w x (Err e) → RefusesRuns told params old i.types v x e
   going_fails e l t = go t.value
     where
-      fails_in : (a : Around) → IsSeen old.window.features i.types a → Fails nexts told (end_of new) w (rest new) e → Fails (grammar.run a (fold next_total params g.runs)).parse told (end_of old) w (rest new) e
+      fails_in : (a : Around) → IsSeen old.window.features i.types a → Fails nexts told (end_of new) w (rest new) x e → Fails (grammar.run a (fold next_total params g.runs)).parse told (end_of old) w (rest new) x e
       fails_in a s h =
-          let A : (List ℕ → Parsing Run) → Type 0 = λ p. Fails p told (end_of new) w (rest new) e in
-          let B : ℕ → Type 0 = λ end. Fails wants told end w (rest new) e in
-          let F : WasmFeatures → Type 0 = λ f. Fails (run_in f (length i.types) (fold next_total params g.runs)).parse told (end_of old) w (rest new) e in
-          let G : ℕ → Type 0 = λ n. Fails (run_in a.features n (fold next_total params g.runs)).parse told (end_of old) w (rest new) e in
+          let A : (List ℕ → Parsing Run) → Type 0 = λ p. Fails p told (end_of new) w (rest new) x e in
+          let B : ℕ → Type 0 = λ end. Fails wants told end w (rest new) x e in
+          let F : WasmFeatures → Type 0 = λ f. Fails (run_in f (length i.types) (fold next_total params g.runs)).parse told (end_of old) w (rest new) x e in
+          let G : ℕ → Type 0 = λ n. Fails (run_in a.features n (fold next_total params g.runs)).parse told (end_of old) w (rest new) x e in
           subst G (sym s.types_are) (subst F (sym s.features_are) (subst B (end_stays old new g.moves) (subst A same_reads h)))
 
-      go : AnswersTold nexts told (IsRunOf j.types) new next w x (Err e) → (e ≡ faults.Memory) ⊎ ((a : Around) → IsSeen old.window.features i.types a → FailRuns told (grammar.run a) params (end_of old) v (rest old) e)
-      go (inl m) = inl m
+      go : AnswersTold nexts told (IsRunOf j.types) new next w x (Err e) → RefusesRuns told params old i.types v x e
+      go (inl m) =
+          let few : length g.runs ≤ count = (let n = g.many in omega (arith, l, n)) in
+          inl (m.0, λ a s. inr (count, g.mid, g.runs, rest new, g.counted, few, in_words g.runs (rest new) x (subst (λ (z : V). Pass next_total (reads_at old.window.features i.types) told (end_of old) params v g.mid g.runs (rest new) z) (sym m.1) g.passed) a s))
       go (inr h) = inr (λ a s. inr (count, g.mid, g.runs, rest new, w, g.counted, (let m = g.many in omega (arith, l, m)), passed_in a s, fails_in a s h))
+
+  -- it was read, and memory is wanted as its locals are added
+  pub going_short : (more : ℕ) (ty : ValType) → done < count → Tells nexts told (IsRunOf j.types) new next w x (Ok (more, ty)) → RefusesRuns told params old i.types v x faults.Memory
+  going_short more ty l t =
+      let run = t.value.0 in
+      let few : length (g.runs ++ run ∷ []) ≤ count = (let m = g.many in let n = length-append g.runs (run ∷ []) in omega (arith, l, m, n)) in
+      inl (refl, λ a s. inr (count, g.mid, g.runs ++ run ∷ [], rest next, g.counted, few, in_words (g.runs ++ run ∷ []) (rest next) x (passed_on more ty t) a s))
 
 -- ---- the count itself is refused
 
 pub count_fails : {V : Type 0} (told : Telling Run V) (params : ℕ) (old new : Cursor) (types : List ℕ) (v : V) (e : Error) → unsigned_at 32 (rest old) ≡ Err (fault e.kind (end_of new - e.offset)) → e.offset ≤ end_of new → Forward old new
-    → (read_fault e ≡ faults.Memory) ⊎ ((a : Around) → IsSeen old.window.features types a → FailRuns told (grammar.run a) params (end_of old) v (rest old) (read_fault e))
+    → RefusesRuns told params old types v v (read_fault e)
 count_fails told params old new types v e read le moves = go (reader_refuses (end_of new) e le)
   where
-    go : (read_fault e ≡ faults.Memory) ⊎ IsFaultOf (end_of new) (stop (Read e.kind) (end_of new - e.offset)) (read_fault e)
-        → (read_fault e ≡ faults.Memory) ⊎ ((a : Around) → IsSeen old.window.features types a → FailRuns told (grammar.run a) params (end_of old) v (rest old) (read_fault e))
-    go (inl m) = inl m
+    go : (read_fault e ≡ faults.Memory) ⊎ IsFaultOf (end_of new) (stop (Read e.kind) (end_of new - e.offset)) (read_fault e) → RefusesRuns told params old types v v (read_fault e)
+    go (inl m) = inl (m, λ a s. inl refl)
     go (inr h) =
         let F : ℕ → Type 0 = λ end. IsFaultOf end (stop (Read e.kind) (end_of new - e.offset)) (read_fault e) in
-        inr (λ a s. inl (stop (Read e.kind) (end_of new - e.offset), rw read refl, subst F (end_stays old new moves) h))
+        inr (λ a s. inl (stop (Read e.kind) (end_of new - e.offset), rw read refl, subst F (end_stays old new moves) h, refl))

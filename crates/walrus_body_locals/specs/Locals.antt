@@ -23,6 +23,7 @@ use Rattle.walrus_body_nesting.specs.wasm_body_grammar.Rules.{Around}
 use Rattle.walrus_body_nesting.specs.wasm_body_grammar.Bodies as grammar
 use Rattle.walrus_body_nesting.specs.wasm_body_grammar.Bodies.{Run, next_total, most_locals, declared}
 use Rattle.walrus_body_nesting.specs.walrus_body_env.declared.error.BodyError.{BodyError}
+use Rattle.walrus_body_nesting.specs.walrus_body_env.declared.error.BodyError.TheVariants.{Memory}
 use Rattle.walrus_body_locals.specs.Calls.{IsFaultOf}
 use Rattle.walrus_body_locals.specs.Told.{Telling, Pass, Fails}
 
@@ -62,13 +63,20 @@ abbrev pub PassRuns : {V : Type 0} → Telling Run V → (ℕ → Format Run) �
 PassRuns told run params end v bytes runs later w =
     (mid : List ℕ) × (u32.parse bytes ≡ Ok (length runs, mid)) × Pass next_total (λ total. (run total).parse) told end params v mid runs later w
 
--- the count is refused, or it stands there, some runs behind it pass, and the next one doesn't
-abbrev pub FailRuns : {V : Type 0} → Telling Run V → (ℕ → Format Run) → ℕ → ℕ → V → List ℕ → BodyError → Type 0
-FailRuns {V} told run params end v bytes e =
-    ((s : Stop) × (u32.parse bytes ≡ Err s) × IsFaultOf end s e)
-    ⊎ ((count : ℕ) × (mid : List ℕ) × (runs : List Run) × (later : List ℕ) × (w : V) × (u32.parse bytes ≡ Ok (count, mid)) × (length runs < count)
-    × Pass next_total (λ total. (run total).parse) told end params v mid runs later w
-    × Fails (run (fold next_total params runs)).parse told end w later e)
+-- the validator was told of some runs at the front of the bytes, behind their count, and accepts each; or of none
+abbrev pub SomeRuns : {V : Type 0} → Telling Run V → (ℕ → Format Run) → ℕ → ℕ → V → List ℕ → V → Type 0
+SomeRuns told run params end v bytes w =
+    (w ≡ v)
+    ⊎ ((count : ℕ) × (mid : List ℕ) × (runs : List Run) × (later : List ℕ) × (u32.parse bytes ≡ Ok (count, mid)) × (length runs ≤ count)
+    × Pass next_total (λ total. (run total).parse) told end params v mid runs later w)
+
+-- the count is refused, and the validator is as it was; or it stands there, some runs behind it pass, and the next one doesn't
+abbrev pub FailRuns : {V : Type 0} → Telling Run V → (ℕ → Format Run) → ℕ → ℕ → V → List ℕ → V → BodyError → Type 0
+FailRuns {V} told run params end v bytes w e =
+    ((s : Stop) × (u32.parse bytes ≡ Err s) × IsFaultOf end s e × (w ≡ v))
+    ⊎ ((count : ℕ) × (mid : List ℕ) × (runs : List Run) × (later : List ℕ) × (u : V) × (u32.parse bytes ≡ Ok (count, mid)) × (length runs < count)
+    × Pass next_total (λ total. (run total).parse) told end params v mid runs later u
+    × Fails (run (fold next_total params runs)).parse told end u later w e)
 
 -- ---- what is added
 
@@ -110,3 +118,9 @@ pub record Declares {V : Type 0} (told : Telling Run V) (function params : ℕ) 
   pub read : (a : Around) → IsSeen old.window.features types a → (grammar.runs a params).parse (rest old) ≡ Ok (runs, rest new)
   pub passed : (a : Around) → IsSeen old.window.features types a → PassRuns told (grammar.run a) params (end_of old) v (rest old) runs (rest new) w
   pub adds : Adds function (map (renamed_value (at types)) (declared runs)) ls ms i j
+
+-- in a file with these types, the locals are refused so; or memory is wanted behind some runs
+abbrev pub RefusesRuns : {V : Type 0} → Telling Run V → ℕ → Cursor → List ℕ → V → V → BodyError → Type 0
+RefusesRuns told params old types v w e =
+    ((e ≡ Memory) × ((a : Around) → IsSeen old.window.features types a → SomeRuns told (grammar.run a) params (end_of old) v (rest old) w))
+    ⊎ ((a : Around) → IsSeen old.window.features types a → FailRuns told (grammar.run a) params (end_of old) v (rest old) w e)

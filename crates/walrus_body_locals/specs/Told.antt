@@ -13,16 +13,17 @@ use Rattle.walrus_body_locals.specs.Calls.{IsFaultOf}
 abbrev pub Telling : Type 0 → Type 0 → Type 0
 Telling A V = V → ℕ → A → Option BodyError × V
 
--- in bytes that end at this offset, the next entry is refused: reading stops, or the validator refuses it
-abbrev pub Fails : {A V : Type 0} → (List ℕ → Parsing A) → Telling A V → ℕ → V → List ℕ → BodyError → Type 0
-Fails {A} parse told end v bytes e =
-    ((s : Stop) × (parse bytes ≡ Err s) × IsFaultOf end s e) ⊎ ((x : A) × (later : List ℕ) × (parse bytes ≡ Ok (x, later)) × ((told v (end - length bytes) x).0 ≡ Some e))
+-- in bytes that end at this offset, the next entry is refused: reading stops, and the validator is as it was; or it is told of the entry, refuses
+-- it, and is left so
+abbrev pub Fails : {A V : Type 0} → (List ℕ → Parsing A) → Telling A V → ℕ → V → List ℕ → V → BodyError → Type 0
+Fails {A} parse told end v bytes w e =
+    ((s : Stop) × (parse bytes ≡ Err s) × IsFaultOf end s e × (w ≡ v)) ⊎ ((x : A) × (later : List ℕ) × (parse bytes ≡ Ok (x, later)) × (told v (end - length bytes) x ≡ (Some e, w)))
 
--- the answer of a call that reads an entry, of which the validator is told
+-- the answer of a call that reads an entry, of which the validator is told; where memory is wanted it isn't
 abbrev pub AnswersTold : {X A V : Type 0} → (List ℕ → Parsing A) → Telling A V → (X → A → Type 0) → Cursor → Cursor → V → V → Result X BodyError → Type 0
 AnswersTold {X} {A} parse told Is old new v w (Ok x) =
     (y : A) × (parse (rest old) ≡ Ok (y, rest new)) × (told v (end_of old - length (rest old)) y ≡ (None, w)) × Is x y
-AnswersTold parse told Is old new v w (Err e) = (e ≡ Memory) ⊎ Fails parse told (end_of old) v (rest old) e
+AnswersTold parse told Is old new v w (Err e) = ((e ≡ Memory) × (w ≡ v)) ⊎ Fails parse told (end_of old) v (rest old) w e
 
 pub record Tells {X A V : Type 0} (parse : List ℕ → Parsing A) (told : Telling A V) (Is : X → A → Type 0) (old new : Cursor) (v w : V) (result : Result X BodyError) : Type 0 where
   pub value : AnswersTold parse told Is old new v w result

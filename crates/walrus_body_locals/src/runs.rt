@@ -1,16 +1,13 @@
 //! Runs of locals.
 
-ghost use Rattle.std.specs.Prelude.{◌≡◌, ◌⊎◌, ◌≤◌, ◌+◌, ◌∷◌, [], length, IfOk, IfErr, OnOk};
+ghost use Rattle.std.specs.Prelude.{◌≡◌, ◌≤◌, ◌+◌, ◌∷◌, [], length, IfOk, IfErr, OnOk};
 ghost use Rattle.std.specs.List.{repeat};
-ghost use Rattle.wasm_reader.specs.Cursor.{Forward, rest, end_of};
+ghost use Rattle.wasm_reader.specs.Cursor.{Forward};
 ghost use Rattle.wasm_reader.specs.Reading.{plain};
 ghost use Rattle.walrus_index_maps.specs.Views.{ids};
-ghost use Rattle.walrus_body_nesting.specs.wasm_body_grammar.Rules.{Around};
-ghost use Rattle.walrus_body_nesting.specs.wasm_body_grammar.Bodies.{run};
-ghost use Rattle.walrus_body_nesting.specs.walrus_body_env.declared.error.BodyError.TheVariants.{Memory as WantsMemory};
 ghost use Rattle.walrus_body_locals.specs.Calls.{Parses};
 ghost use Rattle.walrus_body_locals.specs.Told.{Tells};
-ghost use Rattle.walrus_body_locals.specs.Locals.{Adds, Declares, FailRuns, IsRunOf, IsSeen, Leaves, count_in, run_in, run_told};
+ghost use Rattle.walrus_body_locals.specs.Locals.{Adds, Declares, IsRunOf, Leaves, RefusesRuns, count_in, run_in, run_told};
 
 use crate::value_types::read_type;
 use std::alloc::{AllocError, Global};
@@ -40,7 +37,7 @@ fn read_count(reader: &mut BinaryReader<'_>, total: usize) -> Result<u32, BodyEr
     Ok(count)
 }
 
-// A run behind so many locals, of which the validator is told: how many locals, and their type.
+// A run behind so many locals, of which the validator is told once it was read: how many locals, and their type.
 fn read_run<V: Validator>(
     alloc: Global,
     reader: &mut BinaryReader<'_>,
@@ -84,7 +81,8 @@ fn declare(
 ///
 /// The first that is due: as a count or a type is read; `Limit` at a count where there are more than 50,000 locals with it, before its
 /// type is read; at a type `Unsupported` or `Index`; as the validator refuses a run; want of memory. Locals that were added
-/// stay, and the function's next indices name them, but for at most the last.
+/// stay, and the function's next indices name them, but for at most the last. The validator was told of the runs in front of the
+/// fault, and of the one that it refuses itself, of no other.
 pub fn read_locals<V: Validator>(
     alloc: Global,
     reader: &mut BinaryReader<'_>,
@@ -95,7 +93,7 @@ pub fn read_locals<V: Validator>(
     validator: &mut V,
 ) -> Result<(), BodyError>
     ensures declared { OnOk result (Declares (run_told V.locals_step) function params reader.old reader.new (ids indices.old).types locals.old locals.new (ids indices.old) (ids indices.new) validator.old validator.new) }
-    ensures refused { IfErr result (λ e. (e ≡ WantsMemory) ⊎ ((a : Around) → IsSeen reader.old.window.features (ids indices.old).types a → FailRuns (run_told V.locals_step) (run a) params (end_of reader.old) validator.old (rest reader.old) e)) }
+    ensures refused { IfErr result (λ e. RefusesRuns (run_told V.locals_step) params reader.old (ids indices.old).types validator.old validator.new e) }
     ensures kept { Leaves function locals.old locals.new (ids indices.old) (ids indices.new) }
     ensures moves { Forward reader.old reader.new }
 {

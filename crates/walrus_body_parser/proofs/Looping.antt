@@ -158,38 +158,43 @@ module _ {V : Type 0} (s : Sight) (told : Validating V) (code : ℕ) (old : Curs
 
     -- ---- the next one is refused
 
-    fails_here : (e : BodyError) → Fails (parser_of old.window.features s (point_of (parser_of old.window.features s) told (end_of old) first g.ops)) (op_told told.op) (end_of old) w (rest now) e
-        ⊎ Lacks (parser_of old.window.features s) told (end_of old) first s g.ops (rest now) e → RefusesTree s told code old v e
-    fails_here e (inl h) =
+    fails_here : (u : V) (e : BodyError) → Fails (parser_of old.window.features s (point_of (parser_of old.window.features s) told (end_of old) first g.ops)) (op_told told.op) (end_of old) w (rest now) u e
+        ⊎ (Lacks (parser_of old.window.features s) told (end_of old) first s g.ops (rest now) e × (u ≡ w)) → RefusesTree s told code old v u e
+    fails_here u e (inl h) =
         inr (record { ops = g.ops; later = rest now; left = w; passed = g.passed; fails = inl (inr (ap (λ (p : Point). is_closed p.frames) g.point), h) })
-    fails_here e (inr h) = inr (record { ops = g.ops; later = rest now; left = w; passed = g.passed; fails = inr (inl h) })
+    fails_here u e (inr h) = inr (record { ops = g.ops; later = rest now; left = w; passed = g.passed; fails = inr (inl h) })
 
-    pub goes_fails : (next : Cursor) (after : Stack) (u : V) (e : BodyError) → ReadsNext s told.op code now stack w next after u (Err e) → RefusesTree s told code old v e
-    goes_fails next after u e (inl m) = inl m
+    pub goes_fails : (next : Cursor) (after : Stack) (u : V) (e : BodyError) → ReadsNext s told.op code now stack w next after u (Err e) → RefusesTree s told code old v u e
+    goes_fails next after u e (inl m) =
+        let F : V → Type 0 = λ z. PassOps (parser_of old.window.features s) told (end_of old) first v (rest old) g.ops (rest now) z in
+        inl (m.0, (g.ops, rest now, subst F (sym m.1) g.passed))
     goes_fails next after u e (inr (inl h)) =
-        let A : (List ℕ → Parsing (ℕ × Seen)) → Type 0 = λ p. Fails p (op_told told.op) (end_of now) w (rest now) e in
-        let B : ℕ → Type 0 = λ end. Fails (parser_of old.window.features s (point_of (parser_of old.window.features s) told (end_of old) first g.ops)) (op_told told.op) end w (rest now) e in
-        fails_here e (inl (subst B (end_stays old now g.moves) (subst A same_next h)))
-    goes_fails next after u e (inr (inr h)) =
+        let A : (List ℕ → Parsing (ℕ × Seen)) → Type 0 = λ p. Fails p (op_told told.op) (end_of now) w (rest now) u e in
+        let B : ℕ → Type 0 = λ end. Fails (parser_of old.window.features s (point_of (parser_of old.window.features s) told (end_of old) first g.ops)) (op_told told.op) end w (rest now) u e in
+        fails_here u e (inl (subst B (end_stays old now g.moves) (subst A same_next h)))
+    goes_fails next after u e (inr (inr (h, kept))) =
         let x = h.0 in
         let hinders = h.3 in
         let reads = g.means [] in
         let by = opened_by s (blocks stack) (inner stack) (around stack) (ids_of (opens stack)) reads.0 x.1 reads.1 hinders.1 hinders.0 hinders.2 g.good in
         let P : (List ℕ → Parsing (ℕ × Seen)) → Type 0 = λ p. p (rest now) ≡ Ok (x, h.1) in
-        fails_here e (inr (record {
-          op = x;
-          later = h.1;
-          stands = subst P same_next h.2;
-          seqs = blocks stack;
-          inner = inner stack;
-          around = around stack;
-          behind = are_open;
-          reached = hinders.1;
-          by = by.0;
-          opens = by.1;
-          lacks = hinders.2;
-          is = hinders.3 ∙ ap (λ (k : ℕ). faults.TypeForm (Some (k - length (rest now)))) (end_stays old now g.moves);
-        }))
+        fails_here u e (inr (
+          record {
+            op = x;
+            later = h.1;
+            stands = subst P same_next h.2;
+            seqs = blocks stack;
+            inner = inner stack;
+            around = around stack;
+            behind = are_open;
+            reached = hinders.1;
+            by = by.0;
+            opens = by.1;
+            lacks = hinders.2;
+            is = hinders.3 ∙ ap (λ (k : ℕ). faults.TypeForm (Some (k - length (rest now)))) (end_stays old now g.moves);
+          },
+          kept,
+        ))
 
   -- ---- the body is closed
 
@@ -208,13 +213,13 @@ module _ {V : Type 0} (s : Sight) (told : Validating V) (code : ℕ) (old : Curs
           stands = subst S (append-nil g.ops) (g.means []);
         }
 
-    pub goes_barred : (end : ℕ) (u : V) (e : BodyError) → rest now ≡ [] → end ≡ end_of old → env.Answers (told.finish w end) (Err e) u → RefusesTree s told code old v e
+    pub goes_barred : (end : ℕ) (u : V) (e : BodyError) → rest now ≡ [] → end ≡ end_of old → env.Answers (told.finish w end) (Err e) u → RefusesTree s told code old v u e
     goes_barred end u e none at t =
-        let T : ℕ → Type 0 = λ k. (told.finish w k).0 ≡ Some e in
+        let T : ℕ → Type 0 = λ k. told.finish w k ≡ (Some e, u) in
         inr (record { ops = g.ops; later = rest now; left = w; passed = g.passed; fails = inr (inr (none, ends_closed, subst T at (barred (told.finish w end) u e t))) })
 
     -- what follows the end is refused at its first byte
-    pub goes_left : (offset : ℕ) → 0 < length (rest now) → offset ≡ end_of old - length (rest now) → RefusesTree s told code old v (faults.Nesting (Some offset))
+    pub goes_left : (offset : ℕ) → 0 < length (rest now) → offset ≡ end_of old - length (rest now) → RefusesTree s told code old v w (faults.Nesting (Some offset))
     goes_left offset some at =
         let N : Point → Type 0 = λ p. parser_of old.window.features s p (rest now) ≡ Err (stop Nesting (length (rest now))) in
         inr (record {
@@ -222,7 +227,7 @@ module _ {V : Type 0} (s : Sight) (told : Validating V) (code : ℕ) (old : Curs
           later = rest now;
           left = w;
           passed = g.passed;
-          fails = inl (inl some, inl (stop Nesting (length (rest now)), subst N (sym g.point) refl, ap (λ (k : ℕ). Some (faults.Nesting (Some k))) (sym at)));
+          fails = inl (inl some, inl (stop Nesting (length (rest now)), subst N (sym g.point) refl, ap (λ (k : ℕ). Some (faults.Nesting (Some k))) (sym at), refl));
         })
 
 -- ---- where the reader stands

@@ -80,29 +80,29 @@ module _ {V : Type 0} (s : Sight) (step : V → ℕ → Seen → Option BodyErro
   passes_next : operator_test s frames (seen op) ≡ None → reads_next s step code old stack v (rest old) ≡ Ok (found, rest new)
   passes_next e = rw (op_read, e) refl
 
-  stops_next : (after : Stack) (w : V) (e : BodyError) (t : Trouble) → operator_test s frames (seen op) ≡ Some t → fault_at t offset ≡ Some e → Nexts new after w (Err e)
-  stops_next after w e t q f =
+  stops_next : (after : Stack) (e : BodyError) (t : Trouble) → operator_test s frames (seen op) ≡ Some t → fault_at t offset ≡ Some e → Nexts new after v (Err e)
+  stops_next after e t q f =
       let F : ℕ → Type 0 = λ k. fault_at t k ≡ Some e in
-      inr (inl (inl (stop t left, fails_next t q, subst F at f)))
+      inr (inl (inl (stop t left, fails_next t q, subst F at f, refl)))
 
   -- a test whose trouble is that of all tests
-  fails_so : (after : Stack) (w : V) (e : BodyError) (test : Option Trouble) → operator_test s frames (seen op) ≡ test → Fails test offset e → Nexts new after w (Err e)
-  fails_so after w e None q f = absurd f
-  fails_so after w e (Some t) q f = stops_next after w e t q f
+  fails_so : (after : Stack) (e : BodyError) (test : Option Trouble) → operator_test s frames (seen op) ≡ test → Fails test offset e → Nexts new after v (Err e)
+  fails_so after e None q f = absurd f
+  fails_so after e (Some t) q f = stops_next after e t q f
 
-  fails_items : (after : Stack) (w : V) (e : BodyError) (i : Option Trouble) → items ≡ i → Fails i offset e → Nexts new after w (Err e)
-  fails_items after w e None q f = absurd f
-  fails_items after w e (Some t) q f = stops_next after w e t (test_is ∙ first_fails items turning t q) f
+  fails_items : (after : Stack) (e : BodyError) (i : Option Trouble) → items ≡ i → Fails i offset e → Nexts new after v (Err e)
+  fails_items after e None q f = absurd f
+  fails_items after e (Some t) q f = stops_next after e t (test_is ∙ first_fails items turning t q) f
 
-  pub items_refused : (after : Stack) (w : V) (e : BodyError) → IsRefusal items offset e → Nexts new after w (Err e)
-  items_refused after w e (inl m) = inl m
-  items_refused after w e (inr f) = fails_items after w e items refl f
+  pub items_refused : (after : Stack) (e : BodyError) → IsRefusal items offset e → Nexts new after v (Err e)
+  items_refused after e (inl m) = inl (m, refl)
+  items_refused after e (inr f) = fails_items after e items refl f
 
-  pub change_refused : (after : Stack) (w : V) (e : BodyError) → items ≡ None → Refuses s stack (seen op) offset e → Nexts new after w (Err e)
-  change_refused after w e none (inl (inl m)) = inl m
-  change_refused after w e none (inl (inr f)) = fails_so after w e turning (test_is ∙ first_passes items turning none) f
-  change_refused after w e none (inr h) =
-      inr (inr (found, rest new, passes_next (test_is ∙ first_passes items turning none ∙ h.0), (h.0, h.1, h.2, h.3 ∙ ap (λ (k : ℕ). faults.TypeForm (Some k)) at)))
+  pub change_refused : (after : Stack) (e : BodyError) → items ≡ None → Refuses s stack (seen op) offset e → Nexts new after v (Err e)
+  change_refused after e none (inl (inl m)) = inl (m, refl)
+  change_refused after e none (inl (inr f)) = fails_so after e turning (test_is ∙ first_passes items turning none) f
+  change_refused after e none (inr h) =
+      inr (inr ((found, rest new, passes_next (test_is ∙ first_passes items turning none ∙ h.0), (h.0, h.1, h.2, h.3 ∙ ap (λ (k : ℕ). faults.TypeForm (Some k)) at)), refl))
 
   -- it may stand there
   turns : (p : InstrLocId) (after : Stack) (done : Bool) → StepOf s (seen op) p stack done after → turning ≡ None
@@ -110,7 +110,7 @@ module _ {V : Type 0} (s : Sight) (step : V → ℕ → Seen → Option BodyErro
 
   pub told_refused : (p : InstrLocId) (after : Stack) (done : Bool) (w : V) (e : BodyError) → items ≡ None → StepOf s (seen op) p stack done after → env.Answers (step v offset (seen op)) (Err e) w → Nexts new after w (Err e)
   told_refused p after done w e none h t =
-      let F : ℕ → Type 0 = λ k. (step v k (seen op)).0 ≡ Some e in
+      let F : ℕ → Type 0 = λ k. step v k (seen op) ≡ (Some e, w) in
       inr (inl (inr (found, rest new, passes_next (test_is ∙ first_passes items turning none ∙ turns p after done h), subst F at (barred (step v offset (seen op)) w e t))))
 
   pub next_read : (p : InstrLocId) (after : Stack) (done : Bool) (w : V) → items ≡ None → place_in p ≡ Some (place_at code old) → StepOf s (seen op) p stack done after → env.Answers (step v offset (seen op)) (Ok tt) w

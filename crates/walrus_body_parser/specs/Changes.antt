@@ -66,12 +66,13 @@ module _ {V : Type 0} (s : Sight) (step : V → ℕ → Seen → Option BodyErro
   abbrev pub HindersNext : BodyError → Type 0
   HindersNext e = (x : ℕ × Seen) × (later : List ℕ) × (reads_next (rest old) ≡ Ok (x, later)) × Hinders s stack x.1 (end_of old - length (rest old)) e
 
-  -- the operator was read, the open sequences changed and the validator told; or it is refused
+  -- the operator was read, the open sequences changed and the validator told; or it is refused, and the validator is as it was, unless it was told
+  -- of what passed the rules, and refuses it
   abbrev pub ReadsNext : Cursor → Stack → V → Result Bool BodyError → Type 0
   ReadsNext new after w (Ok done) =
       (x : ℕ × Seen) × (reads_next (rest old) ≡ Ok (x, rest new)) × (step v (end_of old - length (rest old)) x.1 ≡ (None, w))
       × Steps (meaning s) x.1 (Some (place_at code old)) (blocks stack) (opens stack) done (blocks after) (opens after)
-  ReadsNext new after w (Err e) = (e ≡ faults.Memory) ⊎ Fails reads_next (op_told step) (end_of old) v (rest old) e ⊎ HindersNext e
+  ReadsNext new after w (Err e) = ((e ≡ faults.Memory) × (w ≡ v)) ⊎ Fails reads_next (op_told step) (end_of old) v (rest old) w e ⊎ (HindersNext e × (w ≡ v))
 
   -- so it was with one that can't end the body; or nothing was read
   abbrev pub ReadsIf : Cursor → Stack → V → Result Bool BodyError → Type 0

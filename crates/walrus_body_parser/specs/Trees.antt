@@ -45,6 +45,10 @@ module _ {V : Type 0} (parser : Parser) (told : Validating V) (end place : ℕ) 
   abbrev pub PassOps : V → List ℕ → List (ℕ × Seen) → List ℕ → V → Type 0
   PassOps v bytes ops later w = Pass next_point parser (op_told told.op) end (opened place) v bytes ops later w
 
+  -- the validator was told of some operators at the front of the bytes, and accepts each
+  abbrev pub SomeOps : V → List ℕ → V → Type 0
+  SomeOps v bytes w = (ops : List (ℕ × Seen)) × (later : List ℕ) × PassOps v bytes ops later w
+
   abbrev pub point_of : List (ℕ × Seen) → Point
   point_of ops = fold next_point (opened place) ops
 
@@ -76,14 +80,14 @@ module _ {V : Type 0} (parser : Parser) (told : Validating V) (end place : ℕ) 
   abbrev pub IsDue : Point → List ℕ → Type 0
   IsDue p bytes = (0 < length bytes) ⊎ (is_closed p.frames ≡ false)
 
-  -- behind some that pass: the next one is refused, or lacks a type; or the validator refuses the end
-  pub record FailOps (s : Sight) (v : V) (bytes : List ℕ) (e : BodyError) : Type 0 where
+  -- behind some that pass, of which the validator was told: the next one is refused, or lacks a type; or the validator refuses the end
+  pub record FailOps (s : Sight) (v : V) (bytes : List ℕ) (w : V) (e : BodyError) : Type 0 where
     pub ops : List (ℕ × Seen)
     pub later : List ℕ
     pub left : V
     pub passed : PassOps v bytes ops later left
-    pub fails : (IsDue (point_of ops) later × Fails (parser (point_of ops)) (op_told told.op) end left later e) ⊎ Lacks s ops later e
-        ⊎ ((later ≡ []) × (is_closed (point_of ops).frames ≡ true) × ((told.finish left end).0 ≡ Some e))
+    pub fails : (IsDue (point_of ops) later × Fails (parser (point_of ops)) (op_told told.op) end left later w e) ⊎ (Lacks s ops later e × (w ≡ left))
+        ⊎ ((later ≡ []) × (is_closed (point_of ops).frames ≡ true) × (told.finish left end ≡ (Some e, w)))
 
 -- ---- what a call answers
 
@@ -93,5 +97,8 @@ pub record ReadsTree {V : Type 0} (s : Sight) (told : Validating V) (code : ℕ)
   pub read : EndOps (parser_of old.window.features s) told (end_of old) (place_at code old) v (rest old) ops w
   pub stands : StandsAs (meaning s) b (normal same (tree_of (ops_from (place_at code old) ops)))
 
-abbrev pub RefusesTree : {V : Type 0} → Sight → Validating V → ℕ → Cursor → V → BodyError → Type 0
-RefusesTree s told code old v e = (e ≡ faults.Memory) ⊎ FailOps (parser_of old.window.features s) told (end_of old) (place_at code old) s v (rest old) e
+-- memory is wanted behind some operators; or it is refused
+abbrev pub RefusesTree : {V : Type 0} → Sight → Validating V → ℕ → Cursor → V → V → BodyError → Type 0
+RefusesTree s told code old v w e =
+    ((e ≡ faults.Memory) × SomeOps (parser_of old.window.features s) told (end_of old) (place_at code old) v (rest old) w)
+    ⊎ FailOps (parser_of old.window.features s) told (end_of old) (place_at code old) s v (rest old) w e

@@ -166,7 +166,8 @@ fn read_opening<S: Scope, V: Validator>(
 /// # Errors
 ///
 /// The first that is due: as the operator is read; at its first byte `Operator`, `Index`, `TypeForm`, `Nesting`, `Position`,
-/// `Unsupported` and `Bounds`, by their numbers; as the validator refuses it; want of memory.
+/// `Unsupported` and `Bounds`, by their numbers; as the validator refuses it; want of memory. Unless the validator refuses it, it was
+/// told nothing.
 #[inline(always)]
 #[tactic(auto, using(crate::proofs::Frequent::kind_so, crate::proofs::Frequent::end_so))]
 pub(crate) fn read_operator<S: Scope, V: Validator>(

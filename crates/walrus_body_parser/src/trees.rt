@@ -24,7 +24,8 @@ use wasm_reader::BinaryReader;
 /// # Errors
 ///
 /// The first that is due, as each operator is refused; behind them `EndOfFile` where the body isn't closed, `Nesting` at what follows its
-/// end, and as the validator refuses the end; want of memory.
+/// end, and as the validator refuses the end; want of memory. The validator was told of the operators in front of the fault, and of the
+/// one that it refuses itself, of no other.
 pub fn read_tree<S: Scope, V: Validator>(
     scope: &S,
     alloc: Global,
@@ -40,7 +41,7 @@ pub fn read_tree<S: Scope, V: Validator>(
     ensures ty { IfOk result (λ f. heading f ≡ heading builder) }
     ensures entry { IfOk result (λ f. type_at (contents f.builder) 0 ≡ type_at (contents builder.builder) 0) }
     ensures read { IfOk result (λ f. ReadsTree (S.sight scope.now) (validating V.op_step V.finish_step) code_start body.entry validator.old validator.new (contents f.builder)) }
-    ensures refused { IfErr result (λ e. RefusesTree (S.sight scope.now) (validating V.op_step V.finish_step) code_start body.entry validator.old e) }
+    ensures refused { IfErr result (λ e. RefusesTree (S.sight scope.now) (validating V.op_step V.finish_step) code_start body.entry validator.old validator.new e) }
 {
     let mut reader = OperatorReader::new(body);
     let mut stack = Stack::new(alloc, builder);

@@ -1,5 +1,5 @@
 -- Lemmas: whole bodies.
-use Rattle.std.proofs.Common.{ℕ, zero, suc, ◌≡◌, ◌⊎◌, ◌<◌, ◌≤◌, ◌+◌, ◌-◌, Bool, true, false, List, [], ◌∷◌, ◌++◌, length, map, Option, Some, Result, Ok, Err, IfOk, IfErr, if◌then◌else◌, refl, sym, ap, subst, inl, inr, ◌∙◌, arith}
+use Rattle.std.proofs.Common.{ℕ, zero, suc, ◌≡◌, ◌<◌, ◌≤◌, ◌+◌, ◌-◌, Bool, true, false, List, [], ◌∷◌, ◌++◌, length, map, Option, Some, Result, Ok, Err, IfOk, IfErr, if◌then◌else◌, refl, sym, ap, subst, inl, inr, ◌∙◌, arith}
 use Rattle.std.specs.Prelude.{fold}
 use Rattle.std.specs.List.{repeat}
 use Rattle.std.proofs.lemmas.Bool.{eq-eqb}
@@ -20,7 +20,7 @@ use Rattle.walrus_instr.specs.walrus_items.declared.local.Local.{Local}
 use Rattle.walrus_index_maps.specs.Maps.{Ids}
 use Rattle.walrus_body_parser.specs.walrus_body_locals.wasm_body_grammar.Rules as grammar
 use Rattle.walrus_body_parser.specs.walrus_body_locals.wasm_body_grammar.Rules.{Around}
-use Rattle.walrus_body_parser.specs.walrus_body_locals.wasm_body_grammar.Bodies.{Run, run, Point, next_total, next_point, declared, opened, is_closed, operator, operator_in, takes_some, runs, body}
+use Rattle.walrus_body_parser.specs.walrus_body_locals.wasm_body_grammar.Bodies.{Run, Point, next_total, next_point, declared, opened, is_closed, operator, operator_in, takes_some, runs, body}
 use Rattle.walrus_body_parser.specs.walrus_body_locals.wasm_normal_form.Trees.{tree_of}
 use Rattle.walrus_instr.specs.declared.seq.InstrSeqType.{InstrSeqType}
 use Rattle.walrus_body_parser.specs.walrus_body_stack.walrus_builder.Built.{Building, Seq, seq_of, contents}
@@ -33,12 +33,12 @@ use Rattle.walrus_body_parser.specs.walrus_body_rules.Sights.{Sight, room}
 use Rattle.walrus_body_parser.specs.walrus_body_rules.Rules.{operator_test}
 use Rattle.walrus_body_parser.specs.walrus_body_rules.Agreeing.{Sees, tests_agree}
 use Rattle.walrus_body_parser.specs.walrus_body_locals.Told.{Telling, Pass}
-use Rattle.walrus_body_parser.specs.walrus_body_locals.Locals.{run_told, IsSeen, FailRuns, Adds, ids_from, with_locals}
+use Rattle.walrus_body_parser.specs.walrus_body_locals.Locals.{run_told, IsSeen, RefusesRuns, Adds, ids_from, with_locals}
 use Rattle.walrus_body_parser.specs.Points.{op_told, place_at, ops_from}
-use Rattle.walrus_body_parser.specs.Trees.{Validating, Parser, parser_of, EndOps, FailOps, ReadsTree, RefusesTree}
+use Rattle.walrus_body_parser.specs.Trees.{Validating, Parser, parser_of, EndOps, SomeOps, FailOps, ReadsTree, RefusesTree}
 use Rattle.walrus_body_parser.proofs.Takes.{operator_takes}
 use Rattle.walrus_function_parser.specs.Parsed as parsed
-use Rattle.walrus_function_parser.specs.Parsed.{IsAround, seen_by, Begins, Parses, FailsBehind, Refuses}
+use Rattle.walrus_function_parser.specs.Parsed.{IsAround, seen_by, Begins, Parses, FailsBehind, IsRefused}
 
 -- how the operators of a body of so many locals are parsed in a file
 abbrev pub parser_in : Around → ℕ → Parser
@@ -206,20 +206,28 @@ module _ {V : Type 0} (s : Sight) (told : parsed.Telling V) (params code : ℕ) 
         stands = λ pick h. picks_stand sees pick b (tree_of (ops_from place t.ops)) h t.stands;
       }
 
-  pub refuses_so : (e : BodyError) → RefusesTree sees told.rest code mid left e → (e ≡ Memory) ⊎ Refuses s told params code old ls ms j v e
-  refuses_so e (inl m) = inl m
-  refuses_so e (inr h) =
+  pub refuses_so : (w : V) (e : BodyError) → RefusesTree sees told.rest code mid left w e → IsRefused s told params code old ls ms j v w e
+  refuses_so w e (inl m) =
       let moves = begins.moves in
       let place = place_at code mid in
-      let F : WasmFeatures → Type 0 = λ f. FailOps (parser_of f sees) told.rest (end_of mid) place sees left (rest mid) e in
-      let E : ℕ → Type 0 = λ n. FailOps (parser_of old.window.features sees) told.rest n place sees left (rest mid) e in
+      let F : WasmFeatures → Type 0 = λ f. SomeOps (parser_of f sees) told.rest (end_of mid) place left (rest mid) w in
+      let E : ℕ → Type 0 = λ n. SomeOps (parser_of old.window.features sees) told.rest n place left (rest mid) w in
+      inl (m.0, inr (mid, left, begins, subst E (end_stays old mid moves) (subst F (ap (λ (w : Window). w.features) moves.window) m.1)))
+  refuses_so w e (inr h) =
+      let moves = begins.moves in
+      let place = place_at code mid in
+      let F : WasmFeatures → Type 0 = λ f. FailOps (parser_of f sees) told.rest (end_of mid) place sees left (rest mid) w e in
+      let E : ℕ → Type 0 = λ n. FailOps (parser_of old.window.features sees) told.rest n place sees left (rest mid) w e in
       inr (inr (record { mid = mid; left = left; begins = begins; fails = subst E (end_stays old mid moves) (subst F (ap (λ (w : Window). w.features) moves.window) h) }))
 
-pub locals_refused : {V : Type 0} (s : Sight) (told : parsed.Telling V) (params code : ℕ) (old : Cursor) (ls ms : List Local) (j : Ids) (v : V) (e : BodyError)
-    → (e ≡ Memory) ⊎ ((a : Around) → IsSeen old.window.features s.ids.types a → FailRuns (run_told told.run) (run a) params (end_of old) v (rest old) e)
-    → (e ≡ Memory) ⊎ Refuses s told params code old ls ms j v e
-locals_refused s told params code old ls ms j v e (inl m) = inl m
-locals_refused s told params code old ls ms j v e (inr h) = inr (inl h)
+  -- memory is wanted between its locals and its operators
+  pub short_so : IsRefused s told params code old ls ms j v left Memory
+  short_so = inl (refl, inr (mid, left, begins, ([], rest mid, (refl, refl))))
+
+pub locals_refused : {V : Type 0} (s : Sight) (told : parsed.Telling V) (params code : ℕ) (old : Cursor) (ls ms : List Local) (j : Ids) (v w : V) (e : BodyError)
+    → RefusesRuns (run_told told.run) params old s.ids.types v w e → IsRefused s told params code old ls ms j v w e
+locals_refused s told params code old ls ms j v w e (inl m) = inl (m.0, inl m.1)
+locals_refused s told params code old ls ms j v w e (inr h) = inr (inl h)
 
 pub both_ok : {T E : Type 0} (P Q R : T → Type 0) (r : Result T E) → ((x : T) → P x → Q x → R x) → IfOk r P → IfOk r Q → IfOk r R
 both_ok P Q R (Ok x) f p q = f x p q

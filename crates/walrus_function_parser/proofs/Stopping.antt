@@ -1,5 +1,5 @@
 -- Lemmas: where a body is refused, its reading stops, or another is to blame.
-use Rattle.std.proofs.Common.{ℕ, zero, suc, ◌≡◌, ◌⊎◌, ◌<◌, ◌≤◌, ◌+◌, ◌-◌, Bool, true, false, List, [], ◌∷◌, length, Some, Ok, Err, refl, sym, ap, subst, inl, inr, ◌∙◌, arith}
+use Rattle.std.proofs.Common.{ℕ, zero, suc, ◌≡◌, ◌⊎◌, ◌<◌, ◌≤◌, ◌+◌, ◌-◌, Bool, true, false, List, [], ◌∷◌, length, Option, Some, Ok, Err, refl, sym, ap, subst, inl, inr, ◌∙◌, arith}
 use Rattle.std.specs.Prelude.{fold}
 use Rattle.wasm_reader.specs.declared.error.ErrorKind.TheVariants as kinds
 use Rattle.wasm_reader.specs.Cursor.{Cursor, rest, end_of, IsWithin}
@@ -24,7 +24,7 @@ use Rattle.walrus_body_parser.specs.Points.{op_told, place_at}
 use Rattle.walrus_body_parser.specs.Trees.{Validating, Parser, parser_of, PassOps, point_of, IsDue, FailOps}
 use Rattle.walrus_body_parser.specs.Trees as trees
 use Rattle.walrus_function_parser.specs.Parsed as parsed
-use Rattle.walrus_function_parser.specs.Parsed.{IsAround, seen_by, StopsFor, Bars, Lacks, IsCause, FailsBehind, Refuses}
+use Rattle.walrus_function_parser.specs.Parsed.{IsAround, seen_by, StopsFor, Bars, Lacks, IsCause, FailsBehind, IsRefused}
 use Rattle.walrus_function_parser.proofs.Bodies.{parser_in, entry_shorter, pass_all, parsers_agree, sees_more, is_seen, place_behind}
 
 -- ---- what is refused behind entries that pass is where parsing stops
@@ -77,27 +77,31 @@ module _ {V : Type 0} (s : Sight) (told : parsed.Telling V) (params code : ℕ) 
   abbrev Cause : Type 0
   Cause = StopsFor s told params code old a e ⊎ Bars s told params code old e ⊎ Lacks s told params code old j e
 
-  run_cause : (count : ℕ) (rs : List Run) (v w : V) (mid later : List ℕ) → u32.parse (rest old) ≡ Ok (count, mid) → length rs < count
-      → Pass next_total (λ total. (run a total).parse) (run_told told.run) (end_of old) params v mid rs later w → Fails (run a (fold next_total params rs)).parse (run_told told.run) (end_of old) w later e → Cause
-  run_cause count rs v w mid later counted less passed (inl h) =
+  -- what the validator answers
+  answer : {p : Option BodyError × V} {w : V} → p ≡ (Some e, w) → p.0 ≡ Some e
+  answer h = ap (λ (q : Option BodyError × V). q.0) h
+
+  run_cause : (count : ℕ) (rs : List Run) (v w u : V) (mid later : List ℕ) → u32.parse (rest old) ≡ Ok (count, mid) → length rs < count
+      → Pass next_total (λ total. (run a total).parse) (run_told told.run) (end_of old) params v mid rs later w → Fails (run a (fold next_total params rs)).parse (run_told told.run) (end_of old) w later u e → Cause
+  run_cause count rs v w u mid later counted less passed (inl h) =
       let all = fail_entries next_total (run a) (run_told told.run) (end_of old) rs count params v w mid later h.0 less passed h.1 in
       inl (h.0, runs_first a params (place_at code old) (rest old) h.0 (rw (counted, all) refl), h.2)
-  run_cause count rs v w mid later counted less passed (inr h) = inr (inl (inl (w, end_of old - length later, h.0, h.3)))
+  run_cause count rs v w u mid later counted less passed (inr h) = inr (inl (inl (w, end_of old - length later, h.0, answer h.3)))
 
-  runs_cause : (v : V) → FailRuns (run_told told.run) (run a) params (end_of old) v (rest old) e → Cause
-  runs_cause v (inl h) = inl (h.0, runs_first a params (place_at code old) (rest old) h.0 (let p = h.1 in rw p refl), h.2)
-  runs_cause v (inr h) = run_cause h.0 h.2 v h.4 h.1 h.3 h.5 h.6 h.7 h.8
+  runs_cause : (v w : V) → FailRuns (run_told told.run) (run a) params (end_of old) v (rest old) w e → Cause
+  runs_cause v w (inl h) = inl (h.0, runs_first a params (place_at code old) (rest old) h.0 (let p = h.1 in rw p refl), h.2)
+  runs_cause v w (inr h) = run_cause h.0 h.2 v h.4 w h.1 h.3 h.5 h.6 h.7 h.8
 
-  operators_cause : (rs : List Run) (behind : ℕ) (v : V) (bytes : List ℕ) → (runs a params).parse (rest old) ≡ Ok (rs, bytes) → place_at code old + (length (rest old) - length bytes) ≡ behind
-      → FailOps (parser_in a (fold next_total params rs)) told.rest (end_of old) behind (seen_by s j) v bytes e → Cause
-  operators_cause rs behind v bytes read place f = go f.fails
+  operators_cause : (rs : List Run) (behind : ℕ) (v w : V) (bytes : List ℕ) → (runs a params).parse (rest old) ≡ Ok (rs, bytes) → place_at code old + (length (rest old) - length bytes) ≡ behind
+      → FailOps (parser_in a (fold next_total params rs)) told.rest (end_of old) behind (seen_by s j) v bytes w e → Cause
+  operators_cause rs behind v w bytes read place f = go f.fails
     where
       next : Point
       next = fold next_point (opened behind) f.ops
 
-      go : (IsDue (parser_in a (fold next_total params rs)) told.rest (end_of old) behind next f.later × Fails (parser_in a (fold next_total params rs) next) (op_told told.rest.op) (end_of old) f.left f.later e)
-          ⊎ trees.Lacks (parser_in a (fold next_total params rs)) told.rest (end_of old) behind (seen_by s j) f.ops f.later e
-          ⊎ ((f.later ≡ []) × (is_closed next.frames ≡ true) × ((told.rest.finish f.left (end_of old)).0 ≡ Some e)) → Cause
+      go : (IsDue (parser_in a (fold next_total params rs)) told.rest (end_of old) behind next f.later × Fails (parser_in a (fold next_total params rs) next) (op_told told.rest.op) (end_of old) f.left f.later w e)
+          ⊎ (trees.Lacks (parser_in a (fold next_total params rs)) told.rest (end_of old) behind (seen_by s j) f.ops f.later e × (w ≡ f.left))
+          ⊎ ((f.later ≡ []) × (is_closed next.frames ≡ true) × (told.rest.finish f.left (end_of old) ≡ (Some e, w))) → Cause
       go (inl (due, inl h)) =
           inl (
             h.0,
@@ -105,20 +109,20 @@ module _ {V : Type 0} (s : Sight) (told : parsed.Telling V) (params code : ℕ) 
                 (operators_stop a (fold next_total params rs) behind (end_of old) told.rest v f.left bytes f.later f.ops h.0 f.passed due h.1),
             h.2,
           )
-      go (inl (due, inr h)) = inr (inl (inr (inl (f.left, end_of old - length f.later, h.0.1, h.3))))
-      go (inr (inl h)) = inr (inr (end_of old - length f.later, h.inner.ty, h.op.1, h.lacks, h.is))
-      go (inr (inr h)) = inr (inl (inr (inr (f.left, end_of old, h.2))))
+      go (inl (due, inr h)) = inr (inl (inr (inl (f.left, end_of old - length f.later, h.0.1, answer h.3))))
+      go (inr (inl (h, kept))) = inr (inr (end_of old - length f.later, h.inner.ty, h.op.1, h.lacks, h.is))
+      go (inr (inr h)) = inr (inl (inr (inr (f.left, end_of old, answer h.2))))
 
-pub causes : {V : Type 0} (s : Sight) (told : parsed.Telling V) (params code : ℕ) (old : Cursor) (ls ms : List Local) (j : Ids) (v : V) (e : BodyError) → IsWithin old → code ≤ old.window.start + old.position
-    → (e ≡ Memory) ⊎ Refuses s told params code old ls ms j v e → (e ≡ Memory) ⊎ IsCause s told params code old j e
-causes s told params code old ls ms j v e within begins (inl m) = inl m
-causes s told params code old ls ms j v e within begins (inr (inl h)) = inr (λ a around. runs_cause s told params code old j e a v (h a (is_seen s old.window.features params a around)))
-causes s told params code old ls ms j v e within begins (inr (inr h)) = inr (λ a around.
+pub causes : {V : Type 0} (s : Sight) (told : parsed.Telling V) (params code : ℕ) (old : Cursor) (ls ms : List Local) (j : Ids) (v w : V) (e : BodyError) → IsWithin old → code ≤ old.window.start + old.position
+    → IsRefused s told params code old ls ms j v w e → (e ≡ Memory) ⊎ IsCause s told params code old j e
+causes s told params code old ls ms j v w e within begins (inl m) = inl m.0
+causes s told params code old ls ms j v w e within begins (inr (inl h)) = inr (λ a around. runs_cause s told params code old j e a v w (h a (is_seen s old.window.features params a around)))
+causes s told params code old ls ms j v w e within begins (inr (inr h)) = inr (λ a around.
     let features = old.window.features in
     let sees = seen_by s j in
     let mid = h.mid in
     let rs = h.begins.declares.runs in
-    let P : Parser → Type 0 = λ p. FailOps p told.rest (end_of old) (place_at code mid) sees h.left (rest mid) e in
-    operators_cause s told params code old j e a rs (place_at code mid) h.left (rest mid) (h.begins.declares.read a (is_seen s features params a around))
+    let P : Parser → Type 0 = λ p. FailOps p told.rest (end_of old) (place_at code mid) sees h.left (rest mid) w e in
+    operators_cause s told params code old j e a rs (place_at code mid) h.left w (rest mid) (h.begins.declares.read a (is_seen s features params a around))
     (place_behind code old mid h.begins.moves within begins)
     (subst P (parsers_agree sees features a (fold next_total params rs) around.features_are (sees_more s a params rs ls ms j around.sees h.begins.declares.adds)) h.fails))

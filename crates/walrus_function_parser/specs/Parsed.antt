@@ -24,10 +24,10 @@ use Rattle.walrus_body_parser.specs.walrus_body_rules.Agreeing.{Sees}
 use Rattle.walrus_body_parser.specs.walrus_body_steps.Meanings.{meaning}
 use Rattle.walrus_body_parser.specs.walrus_body_steps.Picks.{ArePicks}
 use Rattle.walrus_body_parser.specs.walrus_body_locals.Calls.{IsFaultOf}
-use Rattle.walrus_body_parser.specs.walrus_body_locals.Locals.{run_told, IsSeen, FailRuns, Declares}
+use Rattle.walrus_body_parser.specs.walrus_body_locals.Locals.{run_told, IsSeen, SomeRuns, FailRuns, Declares}
 use Rattle.walrus_body_parser.specs.Points.{place_at, ops_from}
 use Rattle.walrus_body_parser.specs.Changes.{LacksType}
-use Rattle.walrus_body_parser.specs.Trees.{Validating, parser_of, EndOps, FailOps}
+use Rattle.walrus_body_parser.specs.Trees.{Validating, parser_of, EndOps, SomeOps, FailOps}
 
 -- what is seen of a module from the body of a function, by what indices name
 module _ {E : Type 0} (params results : E → ℕ → Option (List ValType)) (block handler : E → List ValType → List ValType → Option InstrSeqType) (tag : E → ℕ → Option ℕ) (wide : E → ℕ → Bool) (counted : E → Bool) where
@@ -79,18 +79,28 @@ module _ {V : Type 0} (s : Sight) (told : Telling V) (params code : ℕ) (old : 
     pub typed : type_at b 0 ≡ Some entry
     pub stands : (pick : BlockType → BlockType) → ArePicks (seen_by s j) pick → StandsAs (meaning (seen_by s j)) b (normal pick (tree_of (ops_from (place_at code mid) ops)))
 
+  -- the validator was told of a first part of the body, and accepts all of it: some runs of its locals, or all of these and some operators
+  abbrev pub PassesPart : List Local → List Local → Ids → V → V → Type 0
+  PassesPart ls ms j v w =
+      ((a : Around) → IsSeen old.window.features s.ids.types a → SomeRuns (run_told told.run) (run a) params (end_of old) v (rest old) w)
+      ⊎ ((mid : Cursor) × (left : V) × Begins mid ls ms j v left × SomeOps (parser_of old.window.features (seen_by s j)) told.rest (end_of old) (place_at code mid) left (rest mid) w)
+
   -- its locals stand there, and behind operators that pass the next one is refused, or the end
-  pub record FailsBehind (ls ms : List Local) (j : Ids) (v : V) (e : BodyError) : Type 0 where
+  pub record FailsBehind (ls ms : List Local) (j : Ids) (v w : V) (e : BodyError) : Type 0 where
     pub mid : Cursor
     pub left : V
     pub begins : Begins mid ls ms j v left
-    pub fails : FailOps (parser_of old.window.features (seen_by s j)) told.rest (end_of old) (place_at code mid) (seen_by s j) left (rest mid) e
+    pub fails : FailOps (parser_of old.window.features (seen_by s j)) told.rest (end_of old) (place_at code mid) (seen_by s j) left (rest mid) w e
 
-  -- the first refusal of it: among its locals, or behind them
-  abbrev pub Refuses : List Local → List Local → Ids → V → BodyError → Type 0
-  Refuses ls ms j v e =
-      ((a : Around) → IsSeen old.window.features s.ids.types a → FailRuns (run_told told.run) (run a) params (end_of old) v (rest old) e)
-      ⊎ FailsBehind ls ms j v e
+  -- the first refusal of it: among its locals, or behind them; of what is in front the validator was told, and of what it refuses itself
+  abbrev pub Refuses : List Local → List Local → Ids → V → V → BodyError → Type 0
+  Refuses ls ms j v w e =
+      ((a : Around) → IsSeen old.window.features s.ids.types a → FailRuns (run_told told.run) (run a) params (end_of old) v (rest old) w e)
+      ⊎ FailsBehind ls ms j v w e
+
+  -- memory is wanted behind a part that passes; or it is refused so
+  abbrev pub IsRefused : List Local → List Local → Ids → V → V → BodyError → Type 0
+  IsRefused ls ms j v w e = ((e ≡ faults.Memory) × PassesPart ls ms j v w) ⊎ Refuses ls ms j v w e
 
   -- ---- in words of the grammar
 

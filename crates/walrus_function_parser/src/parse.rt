@@ -6,7 +6,7 @@ ghost use Rattle.walrus_body_parser.specs.walrus_body_stack.walrus_builder.Built
 ghost use Rattle.walrus_index_maps.specs.Views.{ids};
 ghost use Rattle.walrus_body_parser.specs.walrus_body_locals.walrus_body_env.declared.error.BodyError.TheVariants.{Memory as WantsMemory};
 ghost use Rattle.walrus_body_parser.specs.walrus_body_locals.Locals.{Leaves};
-ghost use Rattle.walrus_function_parser.specs.Parsed.{IsCause, Parses, Refuses, sight_of, telling};
+ghost use Rattle.walrus_function_parser.specs.Parsed.{IsCause, IsRefused, Parses, sight_of, telling};
 
 use std::alloc::Global;
 use walrus_arena::{FunctionId, TypeId};
@@ -32,7 +32,7 @@ use wasm_reader::BinaryReader;
 /// The first that is due, from left to right: where the bytes spell no body (Core Specification, binary format: code section), where a
 /// rule for bodies is broken, also in code that is dropped, or as the validator refuses; `TypeForm` where the environment has no type
 /// for a handler that is reached; want of memory. Locals that were added stay, and the function's next indices name them, but for at
-/// most the last.
+/// most the last. The validator was told of the runs and operators in front of the fault, and of what it refuses itself, of nothing else.
 pub fn parse_function<E: BodyEnv, V: Validator>(
     alloc: Global,
     env: &E,
@@ -50,7 +50,7 @@ pub fn parse_function<E: BodyEnv, V: Validator>(
     ensures parsed { IfOk result (λ f. Parses (sight_of E.type_params E.type_results E.block_type E.handler_type E.tag_type E.is_wide E.has_data_count env.now function (ids indices.old)) (telling V.locals_step V.op_step V.finish_step) params (E.code_start env.now) body.entry entry locals.old locals.new (ids indices.new) validator.old validator.new (contents f.builder)) }
     ensures ty { IfOk result (λ f. f.ty ≡ ty) }
     ensures name { IfOk result (λ f. f.name ≡ None) }
-    ensures refused { IfErr result (λ e. (e ≡ WantsMemory) ⊎ Refuses (sight_of E.type_params E.type_results E.block_type E.handler_type E.tag_type E.is_wide E.has_data_count env.now function (ids indices.old)) (telling V.locals_step V.op_step V.finish_step) params (E.code_start env.now) body.entry locals.old locals.new (ids indices.new) validator.old e) }
+    ensures refused { IfErr result (λ e. IsRefused (sight_of E.type_params E.type_results E.block_type E.handler_type E.tag_type E.is_wide E.has_data_count env.now function (ids indices.old)) (telling V.locals_step V.op_step V.finish_step) params (E.code_start env.now) body.entry locals.old locals.new (ids indices.new) validator.old validator.new e) }
     ensures stops { IfErr result (λ e. (e ≡ WantsMemory) ⊎ IsCause (sight_of E.type_params E.type_results E.block_type E.handler_type E.tag_type E.is_wide E.has_data_count env.now function (ids indices.old)) (telling V.locals_step V.op_step V.finish_step) params (E.code_start env.now) body.entry (ids indices.new) e) }
     ensures kept { Leaves function locals.old locals.new (ids indices.old) (ids indices.new) }
 {

@@ -6,7 +6,7 @@ ghost use Rattle.walrus_function_parser.specs.walrus_body_parser.walrus_body_sta
 ghost use Rattle.walrus_index_maps.specs.Views.{ids};
 ghost use Rattle.walrus_body_names.specs.walrus_body_env.declared.error.BodyError.TheVariants.{Memory as WantsMemory};
 ghost use Rattle.walrus_function_parser.specs.walrus_body_locals.Locals.{Leaves};
-ghost use Rattle.walrus_function_parser.specs.Parsed.{IsCause, Parses, Refuses, sight_of, telling};
+ghost use Rattle.walrus_function_parser.specs.Parsed.{IsCause, IsRefused, Parses, sight_of, telling};
 
 use crate::local_function::LocalFunction;
 use std::alloc::Global;
@@ -31,7 +31,8 @@ impl LocalFunction {
     /// The first that is due, from left to right: where the bytes spell no body (Core Specification, binary format: code section), where
     /// a rule for bodies is broken, also in code that is dropped, or as the validator refuses; `TypeForm` where the environment has no
     /// type for a handler that is reached; want of memory. Locals that were added stay, and the function's next indices name them, but
-    /// for at most the last.
+    /// for at most the last. The validator was told of the runs and operators in front of the fault, and of what it refuses itself, of
+    /// nothing else.
     pub fn parse<E: BodyEnv, V: Validator>(
         alloc: Global,
         env: &E,
@@ -50,7 +51,7 @@ impl LocalFunction {
         ensures ty { IfOk result (λ f. f.builder.ty ≡ ty) }
         ensures name { IfOk result (λ f. f.builder.name ≡ None) }
         ensures args { IfOk result (λ f. f.args ≡ args) }
-        ensures refused { IfErr result (λ e. (e ≡ WantsMemory) ⊎ Refuses (sight_of E.type_params E.type_results E.block_type E.handler_type E.tag_type E.is_wide E.has_data_count env.now function (ids indices.old)) (telling V.locals_step V.op_step V.finish_step) (length args.items) (E.code_start env.now) body.entry locals.old locals.new (ids indices.new) validator.old e) }
+        ensures refused { IfErr result (λ e. IsRefused (sight_of E.type_params E.type_results E.block_type E.handler_type E.tag_type E.is_wide E.has_data_count env.now function (ids indices.old)) (telling V.locals_step V.op_step V.finish_step) (length args.items) (E.code_start env.now) body.entry locals.old locals.new (ids indices.new) validator.old validator.new e) }
         ensures stops { IfErr result (λ e. (e ≡ WantsMemory) ⊎ IsCause (sight_of E.type_params E.type_results E.block_type E.handler_type E.tag_type E.is_wide E.has_data_count env.now function (ids indices.old)) (telling V.locals_step V.op_step V.finish_step) (length args.items) (E.code_start env.now) body.entry (ids indices.new) e) }
         ensures kept { Leaves function locals.old locals.new (ids indices.old) (ids indices.new) }
     {

@@ -43,7 +43,7 @@ use Rattle.walrus_module_env.specs.walrus_body_parser.Trees.{FailOps, IsDue, Par
 use Rattle.walrus_module_env.specs.walrus_collections.walrus_local_function.walrus_body_locals.Locals.{Leaves, run_told}
 use Rattle.walrus_module_env.specs.walrus_collections.walrus_local_function.walrus_body_locals.Told.{Fails as Refused}
 use Rattle.walrus_module_env.specs.walrus_collections.walrus_module_items.declared.tag.Tag.{Tag}
-use Rattle.walrus_module_env.specs.walrus_collections.walrus_local_function.walrus_function_parser.Parsed.{Bars, IsAround, IsCause, Lacks, Refuses, StopsFor, Telling, seen_by}
+use Rattle.walrus_module_env.specs.walrus_collections.walrus_local_function.walrus_function_parser.Parsed.{Bars, IsAround, IsCause, IsRefused, Lacks, Refuses, StopsFor, Telling, seen_by}
 use Rattle.walrus_module_env.specs.Handled.{SeesAside}
 use Rattle.walrus_module_bodies.specs.Reading.{IsBodyFault, TagsStand}
 use Rattle.walrus_module_bodies.proofs.AsideLemmas.{sees_aside}
@@ -86,15 +86,15 @@ quiet s told params code old fault run op finish (inr (inl (v, offset, o, is))) 
 quiet s told params code old fault run op finish (inr (inr (v, offset, is))) = absurd (let x = sym (finish v offset) ∙ is in cc)
 
 -- behind these operators the next one is refused, or the end
-module _ {V : Type 0} (told : Telling V) (parser : Parser) (end place : ℕ) (ops : List (ℕ × Seen)) (later : List ℕ) (left : V) (fault : BodyError) where
+module _ {V : Type 0} (told : Telling V) (parser : Parser) (end place : ℕ) (ops : List (ℕ × Seen)) (later : List ℕ) (left w : V) (fault : BodyError) where
   abbrev point : Point
   point = point_of parser told.rest end place ops
 
   abbrev HasFailed : Type 0
-  HasFailed = IsDue parser told.rest end place point later × Refused (parser point) (op_told told.rest.op) end left later fault
+  HasFailed = IsDue parser told.rest end place point later × Refused (parser point) (op_told told.rest.op) end left later w fault
 
   abbrev HasEnded : Type 0
-  HasEnded = (later ≡ []) × (is_closed point.frames ≡ true) × ((told.rest.finish left end).0 ≡ Some fault)
+  HasEnded = (later ≡ []) × (is_closed point.frames ≡ true) × (told.rest.finish left end ≡ (Some fault, w))
 
 is_memory : (fault : BodyError) → (fault ≡ faults.Memory) ⊎ (fault ≡ faults.Memory → ⊥)
 is_memory faults.Memory = inl refl
@@ -197,7 +197,7 @@ module _ (e : ModuleEnv) (function : ℕ) (h : List ValType → List ValType →
 
   -- ---- a refusal
 
-  module _ {V : Type 0} (told : Telling V) (params code : ℕ) (old : Cursor) (i j : Ids) (tags : TagsStand e.tags.now types j) (ls ms : List Local) (v : V) (fault : BodyError) (a : Around)
+  module _ {V : Type 0} (told : Telling V) (params code : ℕ) (old : Cursor) (i j : Ids) (tags : TagsStand e.tags.now types j) (ls ms : List Local) (v w : V) (fault : BodyError) (a : Around)
       (around : IsAround (sight_in e function i) old.window.features params a) where
     abbrev features : WasmFeatures
     features = old.window.features
@@ -208,16 +208,16 @@ module _ (e : ModuleEnv) (function : ℕ) (h : List ValType → List ValType →
     total_around : IsAround (total_for i) features params a
     total_around = record { features_are = around.features_are; sees = sees_aside (sight_in e function i) total h (alike i) a params around.sees }
 
-    fails_total : (parser : Parser) (place : ℕ) (left : V) (bytes : List ℕ) → FailOps parser told.rest (end_of old) place (some_for j) left bytes fault → FailOps parser told.rest (end_of old) place (total_for j) left bytes fault
+    fails_total : (parser : Parser) (place : ℕ) (left : V) (bytes : List ℕ) → FailOps parser told.rest (end_of old) place (some_for j) left bytes w fault → FailOps parser told.rest (end_of old) place (total_for j) left bytes w fault
     fails_total parser place left bytes f = record { ops = f.ops; later = f.later; left = f.left; passed = f.passed; fails = go f.fails }
       where
-        go : HasFailed told parser (end_of old) place f.ops f.later f.left fault ⊎ trees.Lacks parser told.rest (end_of old) place (some_for j) f.ops f.later fault ⊎ HasEnded told parser (end_of old) place f.ops f.later f.left fault
-            → HasFailed told parser (end_of old) place f.ops f.later f.left fault ⊎ trees.Lacks parser told.rest (end_of old) place (total_for j) f.ops f.later fault ⊎ HasEnded told parser (end_of old) place f.ops f.later f.left fault
+        go : HasFailed told parser (end_of old) place f.ops f.later f.left w fault ⊎ (trees.Lacks parser told.rest (end_of old) place (some_for j) f.ops f.later fault × (w ≡ f.left)) ⊎ HasEnded told parser (end_of old) place f.ops f.later f.left w fault
+            → HasFailed told parser (end_of old) place f.ops f.later f.left w fault ⊎ (trees.Lacks parser told.rest (end_of old) place (total_for j) f.ops f.later fault × (w ≡ f.left)) ⊎ HasEnded told parser (end_of old) place f.ops f.later f.left w fault
         go (inl x) = inl x
-        go (inr (inl x)) = let r = written_results j x.opens.0 x.inner.ty x.opens.3 in absurd (not_some j tags x.inner.ty x.op.1 r.0 r.1 x.lacks)
+        go (inr (inl (x, kept))) = let r = written_results j x.opens.0 x.inner.ty x.opens.3 in absurd (not_some j tags x.inner.ty x.op.1 r.0 r.1 x.lacks)
         go (inr (inr x)) = inr (inr x)
 
-    refuses_total : Refuses (some_for i) told params code old ls ms j v fault → Refuses (total_for i) told params code old ls ms j v fault
+    refuses_total : Refuses (some_for i) told params code old ls ms j v w fault → Refuses (total_for i) told params code old ls ms j v w fault
     refuses_total (inl x) = inl x
     refuses_total (inr x) =
         let rs = x.begins.declares.runs in
@@ -229,14 +229,14 @@ module _ (e : ModuleEnv) (function : ℕ) (h : List ValType → List ValType →
           mid = x.mid;
           left = x.left;
           begins = record { declares = x.begins.declares; moves = x.begins.moves };
-          fails = subst (λ (p : Parser). FailOps p told.rest (end_of old) (place_at code x.mid) (total_for j) x.left (rest x.mid) fault) parsers
+          fails = subst (λ (p : Parser). FailOps p told.rest (end_of old) (place_at code x.mid) (total_for j) x.left (rest x.mid) w fault) parsers
               (fails_total (parser_of features (some_for j)) (place_at code x.mid) x.left (rest x.mid) x.fails);
         })
 
     pub stops_for : IsWithin old → code ≤ old.window.start + old.position → ((v : V) (offset : ℕ) (r : Run) → (run_told told.run v offset r).0 ≡ None)
         → ((v : V) (offset : ℕ) (op : Seen) → (told.rest.op v offset op).0 ≡ None) → ((v : V) (offset : ℕ) → (told.rest.finish v offset).0 ≡ None)
-        → (fault ≡ faults.Memory → ⊥) → Refuses (some_for i) told params code old ls ms j v fault → StopsFor (total_for i) told params code old a fault
-    stops_for within begins run op finish other refused = go (causes (total_for i) told params code old ls ms j v fault within begins (inr (refuses_total refused)))
+        → (fault ≡ faults.Memory → ⊥) → Refuses (some_for i) told params code old ls ms j v w fault → StopsFor (total_for i) told params code old a fault
+    stops_for within begins run op finish other refused = go (causes (total_for i) told params code old ls ms j v w fault within begins (inr (refuses_total refused)))
       where
         cause : StopsFor (total_for i) told params code old a fault ⊎ Bars (total_for i) told params code old fault ⊎ Lacks (total_for i) told params code old j fault → StopsFor (total_for i) told params code old a fault
         cause (inl x) = x
@@ -250,21 +250,25 @@ module _ (e : ModuleEnv) (function : ℕ) (h : List ValType → List ValType →
 -- ---- what the call answers
 
 pub body_fault : FilesAreSeen → (e : ModuleEnv) (function : ℕ) (i j : Ids) (s : Sight) → SeesAside s (sight_in e function i) → ((ps rs : List ValType) → s.handler_type ps rs ≡ Some (Simple None))
-    → {V : Type 0} (told : Telling V) (params code : ℕ) → code ≡ e.code_start → (old : Cursor) (ls ms : List Local) (v : V) (fault : BodyError) → TagsStand e.tags.now e.types.now i → Leaves function ls ms i j
+    → {V : Type 0} (told : Telling V) (params code : ℕ) → code ≡ e.code_start → (old : Cursor) (ls ms : List Local) (v w : V) (fault : BodyError) → TagsStand e.tags.now e.types.now i → Leaves function ls ms i j
     → IsWithin old → code ≤ old.window.start + old.position → ((v : V) (offset : ℕ) (r : Run) → (run_told told.run v offset r).0 ≡ None)
     → ((v : V) (offset : ℕ) (op : Seen) → (told.rest.op v offset op).0 ≡ None) → ((v : V) (offset : ℕ) → (told.rest.finish v offset).0 ≡ None)
-    → Refuses s told params code old ls ms j v fault → (fault ≡ faults.Memory) ⊎ IsBodyFault e function params old i fault
-body_fault seen e function i j s aside all told params code codes old ls ms v fault tags leaves within begins run op finish refused = go (is_memory fault)
+    → IsRefused s told params code old ls ms j v w fault → (fault ≡ faults.Memory) ⊎ IsBodyFault e function params old i fault
+body_fault seen e function i j s aside all told params code codes old ls ms v w fault tags leaves within begins run op finish refusal = go refusal
   where
     later : TagsStand e.tags.now e.types.now j
     later = subst (TagsStand e.tags.now e.types.now) (sym leaves.named) tags
 
-    stops : (fault ≡ faults.Memory → ⊥) → IsBodyFault e function params old i fault
-    stops other a filed =
-        let it = stops_for e function s.handler_type all told params code old i j later ls ms v fault a (seen e i function params old.window.features a filed) within begins run op finish other
-        (subst (λ (x : Sight). Refuses x told params code old ls ms j v fault) aside refused) in
+    stops : Refuses s told params code old ls ms j v w fault → (fault ≡ faults.Memory → ⊥) → IsBodyFault e function params old i fault
+    stops refused other a filed =
+        let it = stops_for e function s.handler_type all told params code old i j later ls ms v w fault a (seen e i function params old.window.features a filed) within begins run op finish other
+        (subst (λ (x : Sight). Refuses x told params code old ls ms j v w fault) aside refused) in
         (it.0, subst (λ (n : ℕ). (body a params (place_at n old)).parse (rest old) ≡ Err it.0) codes it.1, it.2)
 
-    go : (fault ≡ faults.Memory) ⊎ (fault ≡ faults.Memory → ⊥) → (fault ≡ faults.Memory) ⊎ IsBodyFault e function params old i fault
-    go (inl m) = inl m
-    go (inr other) = inr (stops other)
+    refuses : Refuses s told params code old ls ms j v w fault → (fault ≡ faults.Memory) ⊎ (fault ≡ faults.Memory → ⊥) → (fault ≡ faults.Memory) ⊎ IsBodyFault e function params old i fault
+    refuses refused (inl m) = inl m
+    refuses refused (inr other) = inr (stops refused other)
+
+    go : IsRefused s told params code old ls ms j v w fault → (fault ≡ faults.Memory) ⊎ IsBodyFault e function params old i fault
+    go (inl m) = inl m.0
+    go (inr refused) = refuses refused (is_memory fault)

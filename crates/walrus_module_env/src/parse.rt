@@ -6,7 +6,7 @@ ghost use Rattle.walrus_builder.specs.Built.{contents};
 ghost use Rattle.walrus_index_maps.specs.Views.{ids};
 ghost use Rattle.walrus_collections.specs.walrus_local_function.walrus_body_locals.walrus_body_env.declared.error.BodyError.TheVariants.{Memory as WantsMemory};
 ghost use Rattle.walrus_collections.specs.walrus_local_function.walrus_body_locals.Locals.{Leaves};
-ghost use Rattle.walrus_collections.specs.walrus_local_function.walrus_function_parser.Parsed.{Parses, Refuses, telling};
+ghost use Rattle.walrus_collections.specs.walrus_local_function.walrus_function_parser.Parsed.{IsRefused, Parses, telling};
 ghost use Rattle.walrus_module_env.specs.Around.{sight_in};
 ghost use Rattle.walrus_module_env.specs.Parsed.{IsBodyOfFile, IsFaultInFile};
 
@@ -33,7 +33,8 @@ impl<'a> ModuleEnv<'a> {
     ///
     /// The first that is due, from left to right: where the bytes spell no body, where a rule for bodies is broken, also in code that is
     /// dropped, or as the validator refuses; `TypeForm` where the module has no type for a handler that is reached; want of memory. Locals
-    /// that were added stay, and the function's next indices name them, but for at most the last.
+    /// that were added stay, and the function's next indices name them, but for at most the last. The validator was told of the runs and
+    /// operators in front of the fault, and of what it refuses itself, of nothing else.
     pub fn parse_body<V: Validator>(
         &self,
         alloc: Global,
@@ -53,7 +54,7 @@ impl<'a> ModuleEnv<'a> {
         ensures ty { IfOk result (λ f. f.builder.ty ≡ ty) }
         ensures name { IfOk result (λ f. f.builder.name ≡ None) }
         ensures args { IfOk result (λ f. f.args ≡ args) }
-        ensures refused { IfErr result (λ e. (e ≡ WantsMemory) ⊎ Refuses (sight_in self.now function (ids indices.old)) (telling V.locals_step V.op_step V.finish_step) (length args.items) self.now.code_start body.entry locals.old locals.new (ids indices.new) validator.old e) }
+        ensures refused { IfErr result (λ e. IsRefused (sight_in self.now function (ids indices.old)) (telling V.locals_step V.op_step V.finish_step) (length args.items) self.now.code_start body.entry locals.old locals.new (ids indices.new) validator.old validator.new e) }
         ensures stops { IfErr result (λ e. (e ≡ WantsMemory) ⊎ IsFaultInFile self.now function (ids indices.old) (telling V.locals_step V.op_step V.finish_step) (length args.items) body.entry (ids indices.new) e) }
         ensures kept { Leaves function locals.old locals.new (ids indices.old) (ids indices.new) }
     {

@@ -3,7 +3,7 @@ use Rattle.std.proofs.lemmas.Result.{err_from_is_err_and}
 use Rattle.walrus_index_maps.specs.Views.{ids}
 use Rattle.walrus_body_locals.specs.Locals.{run_told}
 use Rattle.walrus_body_locals.proofs.Adding.{adds_none, adds_leaves, leaves_more}
-use Rattle.walrus_body_locals.proofs.Going.{count_fails, going_start, going_on, going_done, going_fails, own_types}
+use Rattle.walrus_body_locals.proofs.Going.{count_fails, going_start, going_on, going_done, going_fails, going_short, own_types}
 use Rattle.walrus_body_locals.proofs.runs.read_locals.Goals as goal
 
 pub returns-in_err-count-clause-refused : goal.returns-in_err-count-clause-refused
@@ -25,6 +25,12 @@ returns-in_err-more-clause-refused g c =
     let p = err_from_is_err_and c.from_residual-in_err-more.result c.from_residual-in_err-more.ensures.1 in
     rw (p.1, p.2) (going_fails (run_told g.V.Validator.locals_step) c.args.function c.args.params c.in_ok-count.count c.args.reader.now c.loop.reader c.read_run.new.reader c.args.locals.now c.loop.locals c.loop.locals
     (ids c.args.indices.now) (ids c.loop.indices) (ids c.loop.indices) c.args.validator.now c.loop.validator c.read_run.new.validator c.loop.total c.loop.counter c.loop.invariant c.in_err-more.field-0.0 c.loop-test.true c.in_err-more.ensures.read)
+
+pub returns-in_err-declare-clause-refused : goal.returns-in_err-declare-clause-refused
+returns-in_err-declare-clause-refused g c =
+    let p = err_from_is_err_and c.from_residual-in_err-declare.result c.from_residual-in_err-declare.ensures.1 in
+    rw (p.1, p.2) (going_short (run_told g.V.Validator.locals_step) c.args.function c.args.params c.in_ok-count.count c.args.reader.now c.loop.reader c.read_run.new.reader c.args.locals.now c.loop.locals c.declare.new.locals
+    (ids c.args.indices.now) (ids c.loop.indices) (ids c.declare.new.indices) c.args.validator.now c.loop.validator c.read_run.new.validator c.loop.total c.loop.counter c.loop.invariant c.in_ok-more.more c.in_ok-more.ty c.loop-test.true c.in_ok-more.ensures.read)
 
 pub returns-in_err-declare-clause-kept : goal.returns-in_err-declare-clause-kept
 returns-in_err-declare-clause-kept g c =

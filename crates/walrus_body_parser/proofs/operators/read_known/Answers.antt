@@ -22,7 +22,7 @@ pub returns-in_err-instr-clause-read : goal.returns-in_err-instr-clause-read
 returns-in_err-instr-clause-read g c =
     let p = err_from_is_err_and c.from_residual-in_err-instr.result c.from_residual-in_err-instr.ensures.1 in
     rw (p.1, p.2) (items_refused (g.S.Scope.sight c.args.scope.now) g.V.Validator.op_step c.args.code_start c.args.reader.now c.next_known.new.reader c.args.stack.now c.args.validator.now c.in_ok-op.op c.original_position-offset.result
-    (c.original_position-offset.ensures ∙ offset_is c.args.reader.now c.requires.within) c.in_ok-op.ensures.read c.in_ok-op.ensures.listed c.args.stack.now c.args.validator.now c.in_err-instr.field-0.0 (elim c.in_err-instr.ensures [ inl m ↦ inl m.0 | inr f ↦ inr f ]))
+    (c.original_position-offset.ensures ∙ offset_is c.args.reader.now c.requires.within) c.in_ok-op.ensures.read c.in_ok-op.ensures.listed c.args.stack.now c.in_err-instr.field-0.0 (elim c.in_err-instr.ensures [ inl m ↦ inl m.0 | inr f ↦ inr f ]))
 
 pub returns-in_err-op-2-clause-read : goal.returns-in_err-op-2-clause-read
 returns-in_err-op-2-clause-read g c =

@@ -17,13 +17,13 @@ pub returns-in_err-step-clause-read : goal.returns-in_err-step-clause-read
 returns-in_err-step-clause-read g c =
     let p = err_from_is_err_and c.from_residual-in_err-step.result c.from_residual-in_err-step.ensures.1 in
     rw (p.1, p.2) (items_refused (g.S.Scope.sight c.args.scope.now) g.V.Validator.op_step c.args.code_start c.args.reader.now c.next_known.new.reader c.args.stack.now c.args.validator.now c.in_ok-op.op c.original_position-offset.result
-    (c.original_position-offset.ensures ∙ offset_is c.args.reader.now c.requires.within) c.in_ok-op.ensures.read c.in_ok-op.ensures.listed c.args.stack.now c.args.validator.now c.in_err-step.field-0.0 (elim c.in_err-step.ensures [ inl m ↦ inl m.0 | inr f ↦ inr f ]))
+    (c.original_position-offset.ensures ∙ offset_is c.args.reader.now c.requires.within) c.in_ok-op.ensures.read c.in_ok-op.ensures.listed c.args.stack.now c.in_err-step.field-0.0 (elim c.in_err-step.ensures [ inl m ↦ inl m.0 | inr f ↦ inr f ]))
 
 pub returns-in_err-done-clause-read : goal.returns-in_err-done-clause-read
 returns-in_err-done-clause-read g c =
     let p = err_from_is_err_and c.from_residual-in_err-done.result c.from_residual-in_err-done.ensures.1 in
     rw (p.1, p.2) (change_refused (g.S.Scope.sight c.args.scope.now) g.V.Validator.op_step c.args.code_start c.args.reader.now c.next_known.new.reader c.args.stack.now c.args.validator.now c.in_ok-op.op c.original_position-offset.result
-    (c.original_position-offset.ensures ∙ offset_is c.args.reader.now c.requires.within) c.in_ok-op.ensures.read c.in_ok-op.ensures.listed c.change.new.stack c.args.validator.now c.in_err-done.field-0.0 c.in_ok-step.ensures.0
+    (c.original_position-offset.ensures ∙ offset_is c.args.reader.now c.requires.within) c.in_ok-op.ensures.read c.in_ok-op.ensures.listed c.change.new.stack c.in_err-done.field-0.0 c.in_ok-step.ensures.0
     (c.in_err-done.ensures.changed (seen c.in_ok-op.op) c.in_ok-step.ensures.1))
 
 pub returns-in_err-op-2-clause-read : goal.returns-in_err-op-2-clause-read

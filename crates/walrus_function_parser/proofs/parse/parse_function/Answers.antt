@@ -9,8 +9,8 @@ use Rattle.walrus_body_parser.specs.walrus_body_locals.walrus_body_nesting.Opens
 use Rattle.walrus_body_parser.specs.walrus_body_stack.Frames.{heading}
 use Rattle.walrus_body_parser.specs.walrus_body_rules.Sights.{Sight}
 use Rattle.walrus_body_parser.specs.Trees.{ReadsTree, RefusesTree}
-use Rattle.walrus_function_parser.specs.Parsed.{Begins, IsCause, Parses, Refuses, seen_by, sight_of, telling}
-use Rattle.walrus_function_parser.proofs.Bodies.{both_ok, of_ok, of_err, is_within, locals_refused, parses_so, refuses_so}
+use Rattle.walrus_function_parser.specs.Parsed.{Begins, IsCause, IsRefused, Parses, seen_by, sight_of, telling}
+use Rattle.walrus_function_parser.proofs.Bodies.{both_ok, of_ok, of_err, is_within, locals_refused, parses_so, refuses_so, short_so}
 use Rattle.walrus_function_parser.proofs.Stopping.{causes}
 use Rattle.walrus_function_parser.proofs.parse.parse_function.Goals as goal
 
@@ -19,7 +19,7 @@ returns-in_err-read_locals-clause-refused g c =
     let p = err_from_is_err_and c.from_residual.result c.from_residual.ensures.1 in
     let s : Sight = sight_of g.E.BodyEnv.type_params g.E.BodyEnv.type_results g.E.BodyEnv.block_type g.E.BodyEnv.handler_type g.E.BodyEnv.tag_type g.E.BodyEnv.is_wide g.E.BodyEnv.has_data_count c.args.env.now c.args.function (ids c.args.indices.now) in
     rw (p.1, p.2) (locals_refused s (telling g.V.Validator.locals_step g.V.Validator.op_step g.V.Validator.finish_step) c.args.params (g.E.BodyEnv.code_start c.args.env.now) c.args.body c.args.locals.now c.read_locals.new.locals
-    (ids c.read_locals.new.indices) c.args.validator.now c.in_err-read_locals.field-0.0 c.in_err-read_locals.ensures.refused)
+    (ids c.read_locals.new.indices) c.args.validator.now c.read_locals.new.validator c.in_err-read_locals.field-0.0 c.in_err-read_locals.ensures.refused)
 
 pub returns-in_err-read_locals-clause-stops : goal.returns-in_err-read_locals-clause-stops
 returns-in_err-read_locals-clause-stops g c =
@@ -28,9 +28,9 @@ returns-in_err-read_locals-clause-stops g c =
     let told = telling g.V.Validator.locals_step g.V.Validator.op_step g.V.Validator.finish_step in
     let start = c.original_position-start.ensures in
     let within = is_within c.args.body c.original_position-start.result start.place start.left in
-    rw (p.1, p.2) (causes s told c.args.params (g.E.BodyEnv.code_start c.args.env.now) c.args.body c.args.locals.now c.read_locals.new.locals (ids c.read_locals.new.indices) c.args.validator.now c.in_err-read_locals.field-0.0
+    rw (p.1, p.2) (causes s told c.args.params (g.E.BodyEnv.code_start c.args.env.now) c.args.body c.args.locals.now c.read_locals.new.locals (ids c.read_locals.new.indices) c.args.validator.now c.read_locals.new.validator c.in_err-read_locals.field-0.0
     within c.requires.begins (locals_refused s told c.args.params (g.E.BodyEnv.code_start c.args.env.now) c.args.body c.args.locals.now c.read_locals.new.locals
-    (ids c.read_locals.new.indices) c.args.validator.now c.in_err-read_locals.field-0.0 c.in_err-read_locals.ensures.refused))
+    (ids c.read_locals.new.indices) c.args.validator.now c.read_locals.new.validator c.in_err-read_locals.field-0.0 c.in_err-read_locals.ensures.refused))
 
 pub returns-clause-parsed : goal.returns-clause-parsed
 returns-clause-parsed g c =
@@ -53,6 +53,19 @@ returns-clause-parsed g c =
     (λ f e t. parses_so s told c.args.params code c.args.body mid c.args.locals.now c.read_locals.new.locals j c.args.validator.now left begins c.args.entry w (contents f.builder) within c.requires.begins t (e ∙ typed))
     c.read_tree.ensures.entry (subst (F (seen_by s j)) c.code_start-code_start.ensures (subst S c.new-scope.ensures c.read_tree.ensures.read))
 
+pub returns-in_err-builder-clause-refused : goal.returns-in_err-builder-clause-refused
+returns-in_err-builder-clause-refused g c =
+    let s : Sight = sight_of g.E.BodyEnv.type_params g.E.BodyEnv.type_results g.E.BodyEnv.block_type g.E.BodyEnv.handler_type g.E.BodyEnv.tag_type g.E.BodyEnv.is_wide g.E.BodyEnv.has_data_count c.args.env.now c.args.function (ids c.args.indices.now) in
+    let told = telling g.V.Validator.locals_step g.V.Validator.op_step g.V.Validator.finish_step in
+    let code = g.E.BodyEnv.code_start c.args.env.now in
+    let mid = c.read_locals.new.reader in
+    let j = ids c.read_locals.new.indices in
+    let left = c.read_locals.new.validator in
+    let begins : Begins s told c.args.params code c.args.body mid c.args.locals.now c.read_locals.new.locals j c.args.validator.now left =
+    record { declares = c.in_ok-read_locals.ensures.declared; moves = c.read_locals.ensures.moves } in
+    let p = err_from_is_err_and c.from_residual-in_err-builder.result c.from_residual-in_err-builder.ensures.1 in
+    rw (p.1, p.2) (short_so s told c.args.params code c.args.body mid c.args.locals.now c.read_locals.new.locals j c.args.validator.now left begins)
+
 pub returns-clause-refused : goal.returns-clause-refused
 returns-clause-refused g c =
     let s : Sight = sight_of g.E.BodyEnv.type_params g.E.BodyEnv.type_results g.E.BodyEnv.block_type g.E.BodyEnv.handler_type g.E.BodyEnv.tag_type g.E.BodyEnv.is_wide g.E.BodyEnv.has_data_count c.args.env.now c.args.function (ids c.args.indices.now) in
@@ -63,10 +76,10 @@ returns-clause-refused g c =
     let left = c.read_locals.new.validator in
     let begins : Begins s told c.args.params code c.args.body mid c.args.locals.now c.read_locals.new.locals j c.args.validator.now left =
     record { declares = c.in_ok-read_locals.ensures.declared; moves = c.read_locals.ensures.moves } in
-    let F : Sight → ℕ → Type 0 = λ z n. IfErr c.read_tree.result (λ e. RefusesTree z told.rest n mid left e) in
+    let F : Sight → ℕ → Type 0 = λ z n. IfErr c.read_tree.result (λ e. RefusesTree z told.rest n mid left c.read_tree.new.validator e) in
     let S : Sight → Type 0 = λ z. F z c.code_start-code_start.result in
-    of_err (λ e. RefusesTree (seen_by s j) told.rest code mid left e) (λ e. (e ≡ Memory) ⊎ Refuses s told c.args.params code c.args.body c.args.locals.now c.read_locals.new.locals j c.args.validator.now e) c.read_tree.result
-    (λ e h. refuses_so s told c.args.params code c.args.body mid c.args.locals.now c.read_locals.new.locals j c.args.validator.now left begins e h) (subst (F (seen_by s j)) c.code_start-code_start.ensures (subst S c.new-scope.ensures c.read_tree.ensures.refused))
+    of_err (λ e. RefusesTree (seen_by s j) told.rest code mid left c.read_tree.new.validator e) (λ e. IsRefused s told c.args.params code c.args.body c.args.locals.now c.read_locals.new.locals j c.args.validator.now c.read_tree.new.validator e) c.read_tree.result
+    (λ e h. refuses_so s told c.args.params code c.args.body mid c.args.locals.now c.read_locals.new.locals j c.args.validator.now left begins c.read_tree.new.validator e h) (subst (F (seen_by s j)) c.code_start-code_start.ensures (subst S c.new-scope.ensures c.read_tree.ensures.refused))
 
 pub returns-clause-stops : goal.returns-clause-stops
 returns-clause-stops g c =
@@ -76,8 +89,8 @@ returns-clause-stops g c =
     let j = ids c.read_locals.new.indices in
     let start = c.original_position-start.ensures in
     let within = is_within c.args.body c.original_position-start.result start.place start.left in
-    of_err (λ e. (e ≡ Memory) ⊎ Refuses s told c.args.params code c.args.body c.args.locals.now c.read_locals.new.locals j c.args.validator.now e) (λ e. (e ≡ Memory) ⊎ IsCause s told c.args.params code c.args.body j e) c.read_tree.result
-    (λ e h. causes s told c.args.params code c.args.body c.args.locals.now c.read_locals.new.locals j c.args.validator.now e within c.requires.begins h) (returns-clause-refused g c)
+    of_err (λ e. IsRefused s told c.args.params code c.args.body c.args.locals.now c.read_locals.new.locals j c.args.validator.now c.read_tree.new.validator e) (λ e. (e ≡ Memory) ⊎ IsCause s told c.args.params code c.args.body j e) c.read_tree.result
+    (λ e h. causes s told c.args.params code c.args.body c.args.locals.now c.read_locals.new.locals j c.args.validator.now c.read_tree.new.validator e within c.requires.begins h) (returns-clause-refused g c)
 
 pub returns-clause-ty : goal.returns-clause-ty
 returns-clause-ty g c = of_ok (λ f. heading f ≡ heading c.in_ok-builder.builder) (λ f. f.ty ≡ c.args.ty) c.read_tree.result (λ f e. ap (λ (h : ℕ × Option (String Global)). h.0) e ∙ c.in_ok-builder.ensures.type_is) c.read_tree.ensures.ty

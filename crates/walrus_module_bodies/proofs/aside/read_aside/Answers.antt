@@ -1,4 +1,4 @@
-use Rattle.std.proofs.Common.{◌+◌, ◌≤◌, ℕ, ⊎_elim, inl, length, refl, subst, sym}
+use Rattle.std.proofs.Common.{◌+◌, ◌≤◌, ℕ, length, refl, subst, sym}
 use Rattle.walrus_index_maps.specs.Views.{ids}
 use Rattle.walrus_module_env.specs.walrus_body_parser.walrus_body_stack.walrus_builder.Built.{contents}
 use Rattle.walrus_module_env.specs.walrus_body_parser.walrus_body_stack.walrus_body_env.contracts.validator.AcceptAllValidator.TheImpl.{ghosts}
@@ -23,10 +23,7 @@ returns-clause-stops c =
     let i = ids c.args.indices.now in
     let any = c.new-any.ensures in
     of_err c.parse.result
-    (λ fault h. ⊎_elim
-    (λ m. inl m)
-    (λ refused. body_fault c.files_are_seen.ensures e c.args.function i (ids c.parse.new.indices) _ (one_aside e c.args.function i _ _ _ _ _ _ _ any.params any.results any.blocks any.tags any.memories any.counted) any.handlers
-    (telling ghosts.locals_step ghosts.op_step ghosts.finish_step) (length c.args.args.items) _ any.start c.args.body _ _ _ fault c.requires.tags c.parse.ensures.kept
-    c.requires.within (subst (λ (n : ℕ). n ≤ c.args.body.window.start + c.args.body.position) (sym any.start) c.requires.begins) (λ v offset r. refl) (λ v offset op. refl) (λ v offset. refl) refused)
-    h)
+    (λ fault h. body_fault c.files_are_seen.ensures e c.args.function i (ids c.parse.new.indices) _ (one_aside e c.args.function i _ _ _ _ _ _ _ any.params any.results any.blocks any.tags any.memories any.counted) any.handlers
+    (telling ghosts.locals_step ghosts.op_step ghosts.finish_step) (length c.args.args.items) _ any.start c.args.body _ _ _ _ fault c.requires.tags c.parse.ensures.kept
+    c.requires.within (subst (λ (n : ℕ). n ≤ c.args.body.window.start + c.args.body.position) (sym any.start) c.requires.begins) (λ v offset r. refl) (λ v offset op. refl) (λ v offset. refl) h)
     c.parse.ensures.refused
