@@ -133,7 +133,7 @@ pub fn reserve_singles(
     ensures groups_room { OnOk result (count ≤ groups.new.room) }
     ensures homes_room { OnOk result (vec_len homes.new + count ≤ vec_capacity homes.new) }
 {
-    index.widen(alloc, types)?;
+    index.widen(alloc, types, count)?;
     types.reserve(count)?;
     groups.reserve(count)?;
     homes.reserve(count)
@@ -214,7 +214,7 @@ pub fn append_members(
     let first = types.next_id();
     let ids = ids_from(alloc, first, count)?;
     let made = types_of(alloc, first, members)?;
-    index.widen(alloc, types)?;
+    index.widen(alloc, types, count)?;
     types.reserve(count)?;
     homes.reserve(count)?;
     groups.reserve(1)?;

@@ -13,7 +13,7 @@ use Rattle.std.proofs.lemmas.List.Elements.{filter-append}
 use Rattle.std.proofs.lemmas.List.Folds.{find-append}
 use Rattle.walrus_items.specs.walrus_forms.Kinds.{Kind}
 use Rattle.walrus_items.specs.walrus_forms.Order.{kind_cmp}
-use Rattle.walrus_type_index.specs.Places.{Hashed, kinds_in, names_itself, place_of, place_at, place_cmp, id_cmp, hashed_cmp, hashed_at, is_tied, key_cmp, wanted_cmp, is_before, is_upto, is_exactly, last_in, last_of, put_in}
+use Rattle.walrus_type_index.specs.Places.{Hashed, kinds_in, names_itself, place_of, place_at, place_cmp, id_cmp, hashed_cmp, hashed_at, is_tied, key_cmp, wanted_cmp, is_before, is_upto, is_exactly, last_in, last_at, last_of, put_in}
 use Rattle.walrus_type_index.specs.Hashes.{hash_of, hash_at}
 use Rattle.walrus_type_index.specs.Ordered.{IsIndex}
 use Rattle.walrus_type_index.proofs.KindTotal.{hashed_ids, spot_cmp, spots}
@@ -103,18 +103,41 @@ put-right ks new l k r s past =
     (all-map (λ x. hashed_cmp ks x k ≡ Less) (λ x. is_before ks new x ≡ false) (λ x less. not-before (hashed_cmp ks) (hashed_ids ks) new x k past less) l (before-mid (hashed_cmp ks) l k r s)) past
 
 -- looking
-pub last-right : (test : Hashed → Bool) (l : List Hashed) (k : Hashed) (r : List Hashed) (found : Option ℕ) → test k ≡ true → last_in test found (l ++ k ∷ r) ≡ last_in test (Some k.id) r
-last-right test [] k r found hit = ap (λ (b : Bool). last_in test (cond b (Some k.id) found) r) hit
-last-right test (x ∷ l) k r found hit = last-right test l k r (cond (test x) (Some x.id) found) hit
+pub last-right : (test : Hashed → Bool) (l : List Hashed) (k : Hashed) (r : List Hashed) (found : Option Hashed) → test k ≡ true → last_at test found (l ++ k ∷ r) ≡ last_at test (Some k) r
+last-right test [] k r found hit = ap (λ (b : Bool). last_at test (cond b (Some k) found) r) hit
+last-right test (x ∷ l) k r found hit = last-right test l k r (cond (test x) (Some x) found) hit
+
+-- the one that is found has the last id that passes
+ids-step : (b : Bool) (x : Hashed) (found : Option Hashed) → option_map (λ h. h.id) (cond b (Some x) found) ≡ cond b (Some x.id) (option_map (λ h. h.id) found)
+ids-step true x found = refl
+ids-step false x found = refl
+
+pub last-ids : (test : Hashed → Bool) (found : Option Hashed) (xs : List Hashed) → option_map (λ h. h.id) (last_at test found xs) ≡ last_in test (option_map (λ h. h.id) found) xs
+last-ids test found [] = refl
+last-ids test found (x ∷ xs) = last-ids test (cond (test x) (Some x) found) xs ∙ ap (λ (o : Option ℕ). last_in test o xs) (ids-step (test x) x found)
+
+-- what holds of all holds of the one that is found
+holds-step : (P : Hashed → Type 0) (b : Bool) (x : Hashed) (found : Option Hashed) → P x → ((y : Hashed) → found ≡ Some y → P y) → (y : Hashed) → cond b (Some x) found ≡ Some y → P y
+holds-step P true x found it f y e = subst P (ap (λ (o : Option Hashed). option_map_or (λ h. h) o x) e) it
+holds-step P false x found it f y e = f y e
+
+pub last-holds : (P : Hashed → Type 0) (test : Hashed → Bool) (found : Option Hashed) (xs : List Hashed) → AllByRecursion P xs → ((y : Hashed) → found ≡ Some y → P y)
+    → (y : Hashed) → last_at test found xs ≡ Some y → P y
+last-holds P test found [] a f = f
+last-holds P test found (x ∷ xs) a f = last-holds P test (cond (test x) (Some x) found) xs a.1 (holds-step P (test x) x found a.0 f)
 
 pub last-none : (test : Hashed → Bool) (found : Option ℕ) (xs : List Hashed) → AllByRecursion (λ x. test x ≡ false) xs → last_in test found xs ≡ found
 last-none test found [] none = refl
 last-none test found (x ∷ xs) none = ap (λ (b : Bool). last_in test (cond b (Some x.id) found) xs) none.0 ∙ last-none test found xs none.1
 
-last-past : (test : Hashed → Bool) (l : List Hashed) (k : Hashed) (r : List Hashed) (found : Option ℕ) → test k ≡ false → AllByRecursion (λ x. test x ≡ false) r
-    → last_in test found (l ++ k ∷ r) ≡ last_in test found l
-last-past test [] k r found no_it none = last-none test found (k ∷ r) (no_it, none)
-last-past test (x ∷ l) k r found no_it none = last-past test l k r (cond (test x) (Some x.id) found) no_it none
+last_at-none : (test : Hashed → Bool) (found : Option Hashed) (xs : List Hashed) → AllByRecursion (λ x. test x ≡ false) xs → last_at test found xs ≡ found
+last_at-none test found [] none = refl
+last_at-none test found (x ∷ xs) none = ap (λ (b : Bool). last_at test (cond b (Some x) found) xs) none.0 ∙ last_at-none test found xs none.1
+
+last-past : (test : Hashed → Bool) (l : List Hashed) (k : Hashed) (r : List Hashed) (found : Option Hashed) → test k ≡ false → AllByRecursion (λ x. test x ≡ false) r
+    → last_at test found (l ++ k ∷ r) ≡ last_at test found l
+last-past test [] k r found no_it none = last_at-none test found (k ∷ r) (no_it, none)
+last-past test (x ∷ l) k r found no_it none = last-past test l k r (cond (test x) (Some x) found) no_it none
 
 then-less : (o p q : Ordering) → ordering_then o (ordering_then p q) ≡ Less → is_gt (ordering_then o p) ≡ false
 then-less Less p q e = refl
@@ -137,8 +160,8 @@ later-past ks hash kind own k y past less = elim (cases_Bool (is_gt (wanted_cmp 
   | inr no_it ↦ absurd (false≢true (sym (upto spots (spot ks k) (spot ks y) (hash, (Some kind, own)) (spots-rise ks k y less) no_it) ∙ past))
 ]
 
-pub last-left : (ks : List (Option Kind)) (hash : ℕ) (kind : Kind) (own : Bool) (l : List Hashed) (k : Hashed) (r : List Hashed) (found : Option ℕ) → Sorted ks (l ++ k ∷ r)
-    → is_gt (wanted_cmp ks hash kind own k) ≡ true → last_in (is_upto ks hash kind own) found (l ++ k ∷ r) ≡ last_in (is_upto ks hash kind own) found l
+pub last-left : (ks : List (Option Kind)) (hash : ℕ) (kind : Kind) (own : Bool) (l : List Hashed) (k : Hashed) (r : List Hashed) (found : Option Hashed) → Sorted ks (l ++ k ∷ r)
+    → is_gt (wanted_cmp ks hash kind own k) ≡ true → last_at (is_upto ks hash kind own) found (l ++ k ∷ r) ≡ last_at (is_upto ks hash kind own) found l
 last-left ks hash kind own l k r found s past =
     last-past (is_upto ks hash kind own) l k r found (ap not past)
     (all-map (λ y. hashed_cmp ks k y ≡ Less) (λ y. is_upto ks hash kind own y ≡ false) (λ y less. ap not (later-past ks hash kind own k y past less)) r (after-mid (hashed_cmp ks) l k r s))
@@ -395,6 +418,20 @@ latest-exact ks kind own (y ∷ ys) i =
           exact-from ks kind own y ys i.sorted i.hashed
           ∙ ap (λ (b : Bool). if_exact ks kind own (last_in (is_upto ks (hash_of kind) kind own) (cond (not b) (Some y.id) None) ys)) (sym upto_it)
     ]
+
+pub latest-found : (ks : List (Option Kind)) (hash : ℕ) (kind : Kind) (own : Bool) (xs : List Hashed) (found : Option Hashed) → IsIndex ks xs → hash ≡ hash_of kind
+    → found ≡ last_at (is_upto ks hash kind own) None xs → last_of ks kind own xs ≡ if_exact ks kind own (option_map (λ h. h.id) found)
+latest-found ks hash kind own xs found i h e =
+    latest-exact ks kind own xs i
+    ∙ ap (if_exact ks kind own)
+    (sym (last-ids (is_upto ks (hash_of kind) kind own) None xs) ∙ ap (λ (r : ℕ). option_map (λ h. h.id) (last_at (is_upto ks r kind own) None xs)) (sym h) ∙ ap (λ (o : Option Hashed). option_map (λ h. h.id) o) (sym e))
+
+-- one of another hash isn't of the kind
+pub other-hash : (ks : List (Option Kind)) (kind : Kind) (own : Bool) (x : Hashed) → x.hash ≡ hash_at ks x.id → (x.hash ≡ hash_of kind → ⊥) → is_exactly ks kind own x.id ≡ false
+other-hash ks kind own x right other = elim (cases_Bool (is_exactly ks kind own x.id)) as (λ _. is_exactly ks kind own x.id ≡ false) [
+  | inl hit ↦ absurd (other (right ∙ place-hash x.id (slice_index_or ks x.id None) kind own (eq-is (key_cmp ks kind own x.id) hit)))
+  | inr no_it ↦ no_it
+]
 
 -- one that passes stays between what is left of the others
 pub kept-mid : (p : Hashed → Bool) (l : List Hashed) (k : Hashed) (r : List Hashed) → p k ≡ true → filter p (l ++ k ∷ r) ≡ filter p l ++ k ∷ filter p r

@@ -69,6 +69,11 @@ abbrev pub last_in : (Hashed → Bool) → Option ℕ → List Hashed → Option
 last_in test found [] = found
 last_in test found (x ∷ xs) = last_in test (if test x then Some x.id else found) xs
 
+-- the last that passes, else what was found before
+abbrev pub last_at : (Hashed → Bool) → Option Hashed → List Hashed → Option Hashed
+last_at test found [] = found
+last_at test found (x ∷ xs) = last_at test (if test x then Some x else found) xs
+
 -- the last id of just this kind
 abbrev pub last_of : List (Option Kind) → Kind → Bool → List Hashed → Option ℕ
 last_of kinds kind own index = last_in (λ x. is_exactly kinds kind own x.id) None index

@@ -120,22 +120,19 @@ impl Index {
         }
     }
 
-    /// Has more trees where there are many types. What is in them stays.
-    ///
-    /// # Errors
-    ///
-    /// Want of memory.
-    pub fn widen(
+    // Twice the trees, where they are fewer than these. What is in them stays. Answers whether they were.
+    fn double_below(
         &mut self,
         alloc: Global,
         types: &TombstoneArena<Type, TypeSpace>,
-    ) -> Result<(), AllocError>
+        wanted: usize,
+    ) -> Result<bool, AllocError>
         requires { IsIndex (kinds_in types.now.slots) self.old }
         ensures { self.new ≡ self.old }
     {
         let count = self.trees.len();
-        if count >= types.next_id().index() / 2 || self.shift <= 32 {
-            return Ok(());
+        if count >= wanted || self.shift <= 32 {
+            return Ok(false);
         }
         let room = Vec::with_capacity(alloc, count * 2 + 1)?;
         let trees = mem::replace(&mut self.trees, Vec::new(alloc));
@@ -144,6 +141,29 @@ impl Index {
         let (trees, last) = halved(trees, last, room, self.shift);
         self.trees = trees;
         self.last = last;
+        Ok(true)
+    }
+
+    /// Has about as many trees as there are types with so many more, at most 2^31. What is in them stays.
+    ///
+    /// # Errors
+    ///
+    /// Want of memory.
+    pub fn widen(
+        &mut self,
+        alloc: Global,
+        types: &TombstoneArena<Type, TypeSpace>,
+        more: usize,
+    ) -> Result<(), AllocError>
+        requires { IsIndex (kinds_in types.now.slots) self.old }
+        ensures { self.new ≡ self.old }
+    {
+        let wanted = types.next_id().index().saturating_add(more);
+        for _ in 0..31 {
+            if !self.double_below(alloc, types, wanted)? {
+                break;
+            }
+        }
         Ok(())
     }
 

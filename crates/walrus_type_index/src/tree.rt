@@ -2,7 +2,7 @@
 ghost use Rattle.std.specs.Prelude.{◌≡◌, ◌≤◌, [], ◌∷◌, ◌++◌, ◌==◌, not, filter, find, None, Some, IfOk};
 ghost use Rattle.std.specs.Option.{option_map};
 ghost use Rattle.std.specs.List.Sorted.{IsStrictlySortedBy};
-ghost use Rattle.walrus_type_index.specs.Places.{kinds_in, hashed_cmp, is_before, is_tied, is_upto, hashed_at, last_in, last_of, put_in};
+ghost use Rattle.walrus_type_index.specs.Places.{kinds_in, hashed_cmp, is_before, is_tied, is_upto, hashed_at, last_at, last_of, put_in};
 ghost use Rattle.walrus_type_index.specs.Hashes.{hash_of};
 ghost use Rattle.walrus_type_index.specs.Directory.{is_later};
 ghost use Rattle.walrus_type_index.specs.Targets.{target_kind};
@@ -120,9 +120,9 @@ impl Tree {
         ensures { result ≡ last_of (kinds_in types.now.slots) (target_kind target.entry) own self.now }
     {
         match last(self, types, hash, target, own, None) {
-            Some(id) => {
-                if compare_key(types, id, target, own).is_eq() {
-                    Some(id)
+            Some(found) => {
+                if found.hash == hash && compare_key(types, found.id, target, own).is_eq() {
+                    Some(found.id)
                 } else {
                     None
                 }
@@ -424,17 +424,17 @@ pub(crate) fn split(tree: Tree, shift: u32, place: usize) -> (Tree, Tree)
     }
 }
 
-// The last id that is no later than what is looked for, which has this hash.
+// The last that is no later than what is looked for, which has this hash.
 fn last(
     tree: &Tree,
     types: &TombstoneArena<Type, TypeSpace>,
     hash: u64,
     target: Target<'_>,
     own: bool,
-    found: Option<TypeId>,
-) -> Option<TypeId>
+    found: Option<Hashed>,
+) -> Option<Hashed>
     requires { IsStrictlySortedBy (hashed_cmp (kinds_in types.now.slots)) tree.now }
-    ensures { result ≡ last_in (is_upto (kinds_in types.now.slots) hash (target_kind target.entry) own) found tree.now }
+    ensures { result ≡ last_at (is_upto (kinds_in types.now.slots) hash (target_kind target.entry) own) found tree.now }
 {
     match &tree.top {
         None => found,
@@ -442,7 +442,7 @@ fn last(
             if compare_wanted(types, node.hashed, hash, target, own).is_gt() {
                 return last(&node.left, types, hash, target, own, found);
             }
-            last(&node.right, types, hash, target, own, Some(node.hashed.id))
+            last(&node.right, types, hash, target, own, Some(node.hashed))
         }
     }
 }

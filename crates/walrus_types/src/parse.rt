@@ -30,6 +30,7 @@ impl ModuleTypes {
         ensures table { OnOk result (self.new ≡ (parsed (map type_group groups.now) (unparsed self.old)).table) }
         ensures refused { OnErr result (IsPartOf (map type_group groups.now) self.old self.new) }
     {
+        self.widen_index(groups.len());
         let mut ids = Vec::new(self.alloc());
         for group in groups {
             self.parse_group(group, &mut ids)?;

@@ -174,6 +174,13 @@ impl ModuleTypes {
         self.types.next_id()
     }
 
+    // Lets the index have trees for so many more types, as far as there is memory: each that is added asks for its own again.
+    pub(crate) fn widen_index(&mut self, count: usize)
+        ensures { self.new ≡ self.old }
+    {
+        let _ = self.index.widen(self.alloc, &self.types, count);
+    }
+
     // The id of the type that stands for one of this kind, which is added where there is none.
     pub(crate) fn insert(
         &mut self,

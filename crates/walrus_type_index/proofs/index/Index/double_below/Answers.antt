@@ -2,7 +2,7 @@ use Rattle.std.proofs.Common.{◌∙◌, ◌-◌, ap, sym, subst, arith}
 use Rattle.walrus_type_index.specs.Places.{kinds_in}
 use Rattle.walrus_type_index.proofs.TreeLemmas.{Sorted}
 use Rattle.walrus_type_index.proofs.DirectoryLemmas.{widened}
-use Rattle.walrus_type_index.proofs.index.Index.widen.Goals as goal
+use Rattle.walrus_type_index.proofs.index.Index.double_below.Goals as goal
 
 pub invariant_of-self : goal.invariant_of-self
 invariant_of-self c =
