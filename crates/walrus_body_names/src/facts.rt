@@ -29,8 +29,13 @@ pub struct FunctionFacts {
     pub used_locals: Vec<LocalId>,
 }
 
-// How many hints are kept.
+// How many hints are kept at first. As many again come where locals have no room among them.
 const HINTS: usize = 512;
+
+// Where the hint of a local is, among so many, a power of two.
+fn slot_of(id: LocalId, count: usize) -> usize {
+    id.index() & count.wrapping_sub(1)
+}
 
 // Counts operators and gathers what they name.
 #[derive(Drop)]
@@ -47,7 +52,7 @@ struct Facts {
 fn is_there(found: &[LocalId], hints: &[usize], id: LocalId) -> bool
     ensures { OnTrue result (Contains found.now id) }
 {
-    let slot = id.index() % HINTS;
+    let slot = slot_of(id, hints.len());
     if slot >= hints.len() {
         return false;
     }
@@ -70,8 +75,11 @@ fn gather(found: &mut Vec<LocalId>, hints: &mut Vec<usize>, id: LocalId) -> Resu
         return Ok(());
     }
     let at = found.len();
+    if at >= hints.len() {
+        hints.resize(hints.len().saturating_mul(2), 0)?;
+    }
     found.push(id)?;
-    let slot = id.index() % HINTS;
+    let slot = slot_of(id, hints.len());
     if slot < hints.len() {
         hints[slot] = at;
     }
