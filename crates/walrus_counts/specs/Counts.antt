@@ -29,8 +29,8 @@ kind_size (Uninitialized ty) = 0
 abbrev pub operator_count : Arena Function → ℕ
 operator_count a = sum_by (λ (f : Function). kind_size f.kind) (items a)
 
--- each of the numbers counts the items of its kind
-pub record AreCounts (m : Module) (c : Counts) : Type 0 where
+-- each of the numbers counts the items of its kind, and there are so many operators
+pub record AreCountsWith (operators : ℕ) (m : Module) (c : Counts) : Type 0 where
   pub types_are : c.types ≡ type_count m.types
   pub functions_are : c.functions ≡ length (ids m.funcs)
   pub tables_are : c.tables ≡ length (ids m.tables)
@@ -41,7 +41,11 @@ pub record AreCounts (m : Module) (c : Counts) : Type 0 where
   pub data_are : c.data ≡ length (ids m.data_segments)
   pub imports_are : c.imports ≡ length (ids m.imports)
   pub exports_are : c.exports ≡ length (ids m.exports)
-  pub operators_are : c.operators ≡ operator_count m.funcs
+  pub operators_are : c.operators ≡ operators
+
+-- each of the numbers counts the items of its kind, that of operators those of all bodies
+abbrev pub AreCounts : Module → Counts → Type 0
+AreCounts m c = AreCountsWith (operator_count m.funcs) m c
 
 -- it has a body whose sequences form no tree
 abbrev pub HasNoTree : FunctionKind → Type 0

@@ -5,7 +5,7 @@ ghost use Rattle.walrus_arena.specs.Arena.{ids};
 ghost use Rattle.walrus_errors.specs.declared.error.ModuleError.TheVariants.{Memory};
 ghost use Rattle.walrus_module.specs.Parts.{parts};
 ghost use Rattle.walrus_module.specs.walrus_collections.LookUps.{items};
-ghost use Rattle.walrus_counts.specs.Counts.{AreCounts, HasNoTree, HaveNoTree, IsCause, kind_size, operator_count, type_count};
+ghost use Rattle.walrus_counts.specs.Counts.{AreCounts, AreCountsWith, HasNoTree, HaveNoTree, IsCause, kind_size, operator_count, type_count};
 
 use inspect_lines::Counts;
 use std::alloc::Global;
@@ -82,15 +82,14 @@ fn operator_count(alloc: Global, functions: &ModuleFunctions) -> Result<u64>
     Ok(count)
 }
 
-/// How many items of each kind live in the module. Goes through all of them, and through all bodies.
+/// How many items of each kind live in the module, if its bodies have so many operators.
 ///
 /// # Errors
 ///
-/// `NoTree` only where the sequences of a body form no tree; else want of memory alone.
-#[tactic(auto, using(crate::proofs::CauseLemmas::wanted))]
-pub fn count<B>(alloc: Global, module: &Module<B>) -> Result<Counts>
-    ensures counted { IfOk result (AreCounts (parts module.now)) }
-    ensures refused { IfErr result (IsCause (HaveNoTree (items module.now.funcs))) }
+/// Want of memory alone.
+pub fn count_items<B>(module: &Module<B>, operators: u64) -> Result<Counts>
+    ensures counted { IfOk result (AreCountsWith operators (parts module.now)) }
+    ensures refused { IfErr result (λ e. e ≡ Memory) }
 {
     Ok(Counts {
         types: type_count(&module.types)?,
@@ -103,6 +102,21 @@ pub fn count<B>(alloc: Global, module: &Module<B>) -> Result<Counts>
         data: live_count(&module.data_segments)?,
         imports: live_count(&module.imports)?,
         exports: live_count(&module.exports)?,
-        operators: operator_count(alloc, &module.funcs)?,
+        operators,
     })
+}
+
+/// How many items of each kind live in the module. Goes through all of them, and through all bodies.
+///
+/// # Errors
+///
+/// `NoTree` only where the sequences of a body form no tree; else want of memory alone.
+#[tactic(auto, using(crate::proofs::CauseLemmas::wanted))]
+pub fn count<B>(alloc: Global, module: &Module<B>) -> Result<Counts>
+    ensures counted { IfOk result (AreCounts (parts module.now)) }
+    ensures refused { IfErr result (IsCause (HaveNoTree (items module.now.funcs))) }
+{
+    let operators = operator_count(alloc, &module.funcs)?;
+    let counts = count_items(module, operators)?;
+    Ok(counts)
 }

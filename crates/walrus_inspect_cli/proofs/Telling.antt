@@ -1,6 +1,6 @@
 -- Lemmas: what a module that was read tells.
 use Rattle.std.specs.Prelude.{◌<◌, All}
-use Rattle.std.proofs.Common.{◌≡◌, ℕ, Bool, true, false, List, [], ◌∷◌, Option, Some, Result, Ok, Err, IfOk, IfErr, refl, subst, inl, inr, arith}
+use Rattle.std.proofs.Common.{◌≡◌, ℕ, Bool, true, false, List, [], ◌∷◌, Option, Some, Result, Ok, Err, IfOk, IfErr, refl, sym, subst, inl, inr, arith}
 use Rattle.inspect_program.specs.inspect_lines.declared.counts.Counts.{Counts}
 use Rattle.inspect_program.specs.walrus_config.declared.config.ModuleConfig.{ModuleConfig}
 use Rattle.inspect_program.specs.walrus_errors.declared.error.ModuleError.{ModuleError}
@@ -11,7 +11,7 @@ use Rattle.walrus_counts.specs.walrus_module.declared.module.Module.{Module as W
 use Rattle.walrus_counts.specs.walrus_module.walrus_collections.LookUps.{items}
 use Rattle.walrus_inspect_cli.proofs.Trees.{cause_is_memory, linked_have_trees}
 use Rattle.walrus_inspect_cli.specs.declared.none.NoSection.{NoSection}
-use Rattle.walrus_inspect_cli.specs.Inspected.{AreKeptCounts, Inspects, IsUncounted, IsUntold}
+use Rattle.walrus_inspect_cli.specs.Inspected.{AreKeptCounts, AreTold, Inspects, IsUncounted, IsUntold}
 use Rattle.walrus_parsed_inexact.specs.walrus_parsed_linked.walrus_parsed_items.walrus_parse.Parsed.{IsRead, read_features}
 use Rattle.walrus_parsed_inexact.specs.walrus_parsed_linked.walrus_parsed_items.walrus_parse.Refusals.{IsRefusal}
 use Rattle.walrus_parsed_inexact.specs.Passed.{ReadModulesPass}
@@ -85,3 +85,9 @@ inspected laws false bytes config m (Ok c) small read whole part plain dropped =
 inspected laws true bytes config m (Ok c) small read whole part plain dropped = (m, read, part refl)
 inspected laws false bytes config m (Err e) small read whole part plain dropped = wanted bytes config m e read (uncounted laws bytes config m e small read (plain refl))
 inspected laws true bytes config m (Err e) small read whole part plain dropped = wanted bytes config m e read (untold laws bytes config m e small read (dropped refl))
+
+-- what is counted with one body in memory is that of the whole module
+pub counted : (bytes : List ℕ) (config : ModuleConfig) (kept : Bool) (r : Result Counts ModuleError) → kept ≡ false → IfOk r (λ c. (m : Whole NoSection) × IsRead config bytes m × AreCounts (parts m) c)
+    → IfErr r (λ e. IsRefusal (read_features config) bytes e) → Inspects bytes config kept r
+counted bytes config kept (Ok c) whole ok err = (ok.0, ok.1, subst (λ (b : Bool). AreTold b (parts ok.0) c) (sym whole) ok.2)
+counted bytes config kept (Err e) whole ok err = err

@@ -12,6 +12,7 @@ use inspect_program::errors::Result;
 use inspect_program::lines::Counts;
 use std::alloc::Global;
 use std::mem;
+use walrus_counted_files::count_file;
 use walrus_counts::count;
 use walrus_parse::parse_into;
 use walrus_parsed_inexact::laws::modules_that_are_read_pass;
@@ -34,13 +35,24 @@ impl Inspector for Modules {
         config: ModuleConfig,
         kept: bool,
     ) -> Result<Counts> {
-        modules_that_are_read_are_linked::<NoSection>();
-        modules_that_are_read_pass::<NoSection>();
-        gc_keeps_linked();
-        let mut module = Module::<NoSection>::with_config(alloc, config);
-        parse_into(alloc, bytes, &mut module)?;
-        count_in(alloc, module, kept)
+        // Synthetic names are those of functions with bodies.
+        if kept || config.generate_synthetic_names_for_anonymous_items {
+            return count_whole(alloc, bytes, config, kept);
+        }
+        count_file::<NoSection>(alloc, &config, bytes)
     }
+}
+
+// Counts the items of the module that the bytes spell, or just what is kept of it, with all bodies in memory.
+fn count_whole(alloc: Global, bytes: &[u8], config: ModuleConfig, kept: bool) -> Result<Counts>
+    ensures { Inspects bytes.now config kept result }
+{
+    modules_that_are_read_are_linked::<NoSection>();
+    modules_that_are_read_pass::<NoSection>();
+    gc_keeps_linked();
+    let mut module = Module::<NoSection>::with_config(alloc, config);
+    parse_into(alloc, bytes, &mut module)?;
+    count_in(alloc, module, kept)
 }
 
 // Counts the items of what is kept of the module.

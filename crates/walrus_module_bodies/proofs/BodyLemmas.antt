@@ -31,7 +31,7 @@ use Rattle.walrus_functions_into.specs.declared.bodies.FunctionBody.{FunctionBod
 use Rattle.walrus_module_bodies.specs.declared.file.FileEnv.{FileEnv}
 use Rattle.walrus_module_bodies.specs.Envs.{IsEnv}
 use Rattle.walrus_module_bodies.specs.Reading.{GivesHandlers, IsBodyFault, IsHandledBody, TagsStand}
-use Rattle.walrus_module_bodies.specs.Steps.{Fails, HasArguments, IsFiledLater, IsModuleOf, IsReady, IsStep, State, cursor_of}
+use Rattle.walrus_module_bodies.specs.Steps.{Fails, HasArguments, IsFiledLater, IsModuleOf, IsReady, IsStep, State, cursor_of, state}
 use Rattle.walrus_module_bodies.proofs.ArgumentLemmas.{many_ids}
 use Rattle.walrus_module_bodies.proofs.StepLemmas.{IsFormed, formed, tags_grow}
 
@@ -145,3 +145,20 @@ module _ (grow : EntryTypesGrow) (file : FileEnv) (features : WasmFeatures) (b :
     given = subst (λ (o : Option Function). IfSome o (λ (item : Function). new.functions ≡ with_item old.functions b.number (record item { kind = kinds.Local f }))) ready.live
         (subst (λ (n : ℕ). IfSome (item_at old.functions n) (λ (item : Function). new.functions ≡ with_item old.functions n (record item { kind = kinds.Local f }))) is given);
   }
+
+-- so it is in each collection that has the function so
+pub read_for : (grow : EntryTypesGrow) (file : FileEnv) (features : WasmFeatures) (b : FunctionBody) (old : State) (ready : IsReady old b) (before : Arena Function) → item_at before b.number ≡ item_at old.functions b.number
+    → (function ty : ℕ) (is : function ≡ b.number) (got : Function) (found : item_at old.functions function ≡ Some got) (ty_got : ty ≡ type_of got.kind) (entry : ℕ) (mid : Table)
+    → IfSome (results_at old.types ty) (λ (results : List ValType). Merges (entry_kind results) entry old.types mid)
+    → (params : List ValType) (named : List Local) (numbered : Ids) (args : List ℕ) → HasArguments function params old.locals named old.ids numbered args → (from : Cursor) → from ≡ cursor_of file features b
+    → TablesGrowOn → IfSome (params_at mid ty) (λ (ps : List ValType). params ≡ ps) → (types : Table) (locals : List Local) (i : Ids) (given : Arena Function) (f : LocalFunction)
+    → IsHandledBody file mid types function (length args) from numbered i named locals (contents f.builder.builder)
+    → GivesHandlers file mid types function (length args) from numbered i named locals (contents f.builder.builder) → Grows mid types
+    → f.builder.ty ≡ ty → f.builder.name ≡ None → f.args.items ≡ args → Leaves function named locals numbered i
+    → IfSome (item_at before b.number) (λ (item : Function). given ≡ with_item before b.number (record item { kind = kinds.Local f }))
+    → IsStep file features b (record old { functions = before }) (state types locals i given)
+read_for grow file features b old ready before same function ty is got found ty_got entry mid entered params named numbered args h from from_is on listed types locals i given f read handled grown f_ty f_name f_args left gives =
+    let there : item_at before function ≡ Some got = ap (item_at before) is ∙ same ∙ sym (ap (item_at old.functions) is) ∙ found in
+    stepped grow file features b (record old { functions = before }) (record { item = ready.item; live = same ∙ ready.live; typed = ready.typed; no_locals = ready.no_locals }) function ty is got there ty_got entry mid entered
+    params named numbered args h from from_is on listed (state types locals i given) f read handled grown f_ty f_name f_args left
+    (subst (λ (n : ℕ). IfSome (item_at before n) (λ (item : Function). given ≡ with_item before n (record item { kind = kinds.Local f }))) (sym is) gives)

@@ -3,5 +3,5 @@ mod AsideLemmas
 mod BodyLemmas
 mod LawLemmas
 mod ReadingLemmas
-mod StepLemmas
+pub mod StepLemmas
 mod StopLemmas

@@ -1,5 +1,5 @@
 -- Bodies of a file that are read one after another into their module.
-use Rattle.std.specs.Prelude.{ℕ, ◌≡◌, ◌≢◌, ◌⊎◌, ◌<◌, ◌+◌, List, [], ◌∷◌, length, All, Some, None, Err}
+use Rattle.std.specs.Prelude.{ℕ, ◌≡◌, ◌≢◌, ◌⊎◌, ◌<◌, ◌+◌, List, [], ◌∷◌, length, All, IfSome, Some, None, Err}
 use Rattle.wasm_features.specs.declared.WasmFeatures.{WasmFeatures}
 use Rattle.wasm_reader.specs.Cursor.{Cursor}
 use Rattle.walrus_arena.specs.Arena.{Arena, item_at, with_item}
@@ -94,6 +94,12 @@ pub record IsStep (file : FileEnv) (features : WasmFeatures) (b : FunctionBody) 
   pub args_are : body.args.items ≡ ids_from (length old.locals) params
   pub left : Leaves b.number named new.locals numbered new.ids
   pub given : new.functions ≡ with_item old.functions b.number (record item { kind = kinds.Local body })
+
+-- this is read for its function, in each collection that has the function so: whoever gives it to the function there has made a step
+abbrev pub ReadsFor : FileEnv → WasmFeatures → FunctionBody → State → Table → List Local → Ids → LocalFunction → Type 0
+ReadsFor file features b old types locals i f = (before given : Arena Function) → item_at before b.number ≡ item_at old.functions b.number
+    → IfSome (item_at before b.number) (λ (item : Function). given ≡ with_item before b.number (record item { kind = kinds.Local f }))
+    → IsStep file features b (record old { functions = before }) (state types locals i given)
 
 -- so are all of these, in turn
 abbrev pub Steps : FileEnv → WasmFeatures → List FunctionBody → State → State → Type 0

@@ -10,6 +10,7 @@ mod handled;
 pub mod laws;
 
 pub use bodies::read_bodies;
+pub use body::read_function;
 pub use file::FileEnv;
 
 // Passed on to crates above, which then list this one alone.

@@ -20,6 +20,7 @@ use walrus_file_bodies::items_into::tables_into::sections_into::index_maps::Indi
 use walrus_file_bodies::items_into::tables_into::sections_into::known_sections::{Chunk, Sections};
 use walrus_file_bodies::items_into::tables_into::sections_into::operators::immediate_forms::reader::features::WasmFeatures;
 use walrus_file_bodies::module_bodies::{FileEnv, read_bodies};
+use walrus_functions_into::FunctionBody;
 use walrus_item_names::module::collections::{ModuleFunctions, ModuleMemories, ModuleTags};
 
 // How many types live. They are held in memory, so there are never 2^64.
@@ -46,6 +47,35 @@ fn chunks_of<'s, 'a>(sections: &'s Sections<'a>) -> &'s [Chunk<'a>]
     }
 }
 
+/// What stands while the bodies of a file are read into the collections that its sections fill, and each body with its function.
+///
+/// # Errors
+///
+/// Want of memory.
+pub fn bodies_of<'e, 'a>(
+    alloc: Global,
+    sections: &Sections<'a>,
+    tags: &'e ModuleTags,
+    memories: &'e ModuleMemories,
+    types: &ModuleTypes,
+    functions: &ModuleFunctions,
+) -> Result<(FileEnv<'e>, Vec<FunctionBody<'a>>), AllocError>
+    requires { length (entries types.now) ≡ next_id types.now }
+    ensures file { IfOk result (λ it. IsFileOf sections.now types.now tags.now memories.now it.0) }
+    ensures bodies { IfOk result (λ it. it.1.items ≡ bodies_in sections.now functions.now) }
+{
+    let own_types = count_types(types)?;
+    let bodies = pair_bodies(alloc, functions, chunks_of(sections))?;
+    let file = FileEnv {
+        tags,
+        memories,
+        own_types,
+        has_data_count: sections.data_count.is_some(),
+        code_start: sections.code_start,
+    };
+    Ok((file, bodies))
+}
+
 /// Reads the bodies of a file whose items are in these collections.
 ///
 /// # Errors
@@ -67,15 +97,7 @@ pub(crate) fn read_code(
     ensures read { OnOk result ((file : FileEnv) × IsFileOf sections.now types.old tags.now memories.now file × Steps file features (bodies_in sections.now functions.old) (state types.old locals.old (ids maps.old) functions.old) (state types.new locals.new (ids maps.new) functions.new)) }
     ensures stops { IfErr result (λ error. IsCodeRefusal features sections.now tags.now memories.now (bodies_in sections.now functions.old) (state types.old locals.old (ids maps.old) functions.old) error) }
 {
-    let own_types = count_types(types)?;
-    let bodies = pair_bodies(alloc, functions, chunks_of(sections))?;
-    let file = FileEnv {
-        tags,
-        memories,
-        own_types,
-        has_data_count: sections.data_count.is_some(),
-        code_start: sections.code_start,
-    };
+    let (file, bodies) = bodies_of(alloc, sections, tags, memories, &*types, &*functions)?;
     match read_bodies(
         alloc,
         file,

@@ -63,7 +63,11 @@ fn make_names(
 }
 
 /// Names what has a number: synthetic names first, if they are wanted, then those of the file's sections `name`.
-pub(crate) fn name_items(
+///
+/// # Errors
+///
+/// Want of memory.
+pub fn name_items(
     alloc: Global,
     synthetic: bool,
     customs: &[Custom<'_>],

@@ -17,7 +17,7 @@ fn place_of(place: Option<u64>) -> u64
 }
 
 /// The same refusal, of the module.
-pub(crate) fn module_error(fault: BodyError) -> ModuleError
+pub fn module_error(fault: BodyError) -> ModuleError
     ensures { result ≡ module_error fault }
 {
     match fault {

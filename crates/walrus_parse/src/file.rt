@@ -14,12 +14,12 @@ use walrus_named_bodies::file_bodies::items_into::tables_into::sections_into::op
 // A file has at most so many bytes.
 const MAX_FILE: usize = 1 << 30;
 
-// The sections of a file, with its bodies as so many bytes.
-pub(crate) fn read_file<'a>(
-    alloc: Global,
-    features: WasmFeatures,
-    wasm: &'a [u8],
-) -> Result<Sections<'a>>
+/// The sections of a file, with its bodies as so many bytes (Core Specification, binary format: modules).
+///
+/// # Errors
+///
+/// `InputTooLong` past 2^30 bytes; else the first fault of the sections, at its place; want of memory.
+pub fn read_file<'a>(alloc: Global, features: WasmFeatures, wasm: &'a [u8]) -> Result<Sections<'a>>
     ensures short { OnOk result (length wasm.now ≤ 2 ^ 30) }
     ensures read { IfOk result (λ sections. ReadsSections features wasm.now (state_of sections)) }
     ensures refused { IfErr result (λ error. IsRefusal features wasm.now error) }

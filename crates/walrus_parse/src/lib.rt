@@ -5,6 +5,7 @@ mod file;
 mod parse;
 mod whole;
 
+pub use file::read_file;
 pub use parse::{FromBuffer, Parse};
 pub use whole::parse_into;
 

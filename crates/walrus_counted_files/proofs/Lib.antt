@@ -1,0 +1,4 @@
+mod CountLemmas
+mod NameLemmas
+mod SlotLemmas
+mod WholeLemmas
