@@ -10,7 +10,7 @@ ghost use Rattle.walrus_ir.specs.Pairs.{MergesBoth};
 ghost use Rattle.walrus_ir.specs.Functions.{seqs_of};
 ghost use Rattle.walrus_ir.specs.Text.{operators};
 ghost use Rattle.walrus_ir.specs.Trees.{IsTree};
-ghost use Rattle.walrus_body.specs.Walking.{IsCause};
+ghost use Rattle.walrus_body.specs.Emitting.{IsCause};
 ghost use Rattle.walrus_body.specs.Names.{AreSet, segment_in, text_names};
 
 pub mod readme;

@@ -40,7 +40,7 @@ pub use Rattle.walrus_body_frames.specs.Frames
 -- Functions with a body: what they name, and what is written of them.
 pub use Rattle.walrus_local_function.specs.Locals as FunctionLends
 pub use Rattle.walrus_body_names.specs.Names
-pub use Rattle.walrus_body_writer.specs.walrus_body_text.Walking
+pub use Rattle.walrus_body_writer.specs.walrus_body_text.Walking as Emitting
 pub use Rattle.walrus_body_writer.specs.Outputs
 pub use Rattle.walrus_body_writer.specs.Refusals
 pub use Rattle.walrus_body_writer.specs.Spelled
