@@ -20,6 +20,8 @@ use walrus_named_bodies::item_names::module::Module;
 /// that the flags ask for: the counts are those of a module that is read from them. Bodies are read one after another, and each is let go
 /// of once its operators are counted. Asks for flags that want no synthetic names.
 ///
+/// For a program that ends next: the memory of the module's other items isn't given back.
+///
 /// # Errors
 ///
 /// `InputTooLong` past 2^30 bytes; else the first fault of the file, at its place; want of memory, in place of what would come later.
