@@ -1,4 +1,5 @@
 mod CountLemmas
+mod DataLemmas
 mod NameLemmas
 mod SlotLemmas
 mod WholeLemmas

@@ -2,10 +2,11 @@
 use Rattle.std.proofs.Common.{◌≡◌, ℕ, List, Result, Ok, Err, IfOk, length, ap, ◌∙◌, arith}
 use Rattle.inspect_lines.specs.declared.counts.Counts.{Counts}
 use Rattle.walrus_arena.specs.Arena.{Arena}
-use Rattle.walrus_counted_files.specs.Counted.{AreGiven, WouldBe}
+use Rattle.walrus_counted_files.specs.Counted.{AreGiven, HasSame, WouldBe}
 use Rattle.walrus_counts.specs.Counts.{AreCounts, AreCountsWith, operator_count}
 use Rattle.walrus_counts.specs.walrus_module.Parts.{parts}
 use Rattle.walrus_counts.specs.walrus_module.declared.module.Module.{Module as Whole}
+use Rattle.walrus_counts.specs.walrus_module.walrus_module_items.declared.data.Data.{Data}
 use Rattle.walrus_counts.specs.walrus_module.walrus_module_items.declared.function.Function.{Function}
 use Rattle.walrus_config.specs.declared.config.ModuleConfig.{ModuleConfig}
 use Rattle.walrus_errors.specs.declared.error.ModuleError.{ModuleError}
@@ -31,8 +32,9 @@ would_be functions given named operators types reads filled are_given alike = re
         let f = ap sizes filled ∙ file_sizes types 0 reads in omega (arith, a, b, c, d, e, f)
 
 -- counts of a module are those of what it would be
-pub counts_of : {B : Type 0} (m : Whole B) (whole : Arena Function) (operators : ℕ) (c : Counts) → WouldBe m.funcs whole operators → AreCountsWith operators (parts m) c → AreCounts (parts (record m { funcs = whole })) c
-counts_of m whole operators c h counts = record {
+pub counts_of : {B : Type 0} (m : Whole B) (whole : Arena Function) (full : Arena Data) (operators : ℕ) (c : Counts) → WouldBe m.funcs whole operators → HasSame m.data_segments full → AreCountsWith operators (parts m) c
+    → AreCounts (parts (record m { funcs = whole; data_segments = full })) c
+counts_of m whole full operators c h same counts = record {
   types_are = counts.types_are;
   functions_are = counts.functions_are ∙ ap length h.ids_are;
   tables_are = counts.tables_are;
@@ -40,15 +42,16 @@ counts_of m whole operators c h counts = record {
   tags_are = counts.tags_are;
   globals_are = counts.globals_are;
   elements_are = counts.elements_are;
-  data_are = counts.data_are;
+  data_are = counts.data_are ∙ ap length same;
   imports_are = counts.imports_are;
   exports_are = counts.exports_are;
   operators_are = counts.operators_are ∙ h.operators_are;
 }
 
--- a module that was read but for its bodies, and their count, tell the counts of the whole one
-pub counted_whole : {B : Type 0} (config : ModuleConfig) (bytes : List ℕ) (m : Whole B) (whole : Arena Function) (operators : ℕ) (found : Ids) (r : Result Counts ModuleError) → m.config ≡ config
-    → IsModuleOf config bytes m.start m.producers (spaces m.types m.imports whole m.tables m.memories m.tags m.globals m.exports m.elements m.data_segments m.customs) m.locals m.name found
-    → WouldBe m.funcs whole operators → IfOk r (AreCountsWith operators (parts m)) → IfOk r (λ c. (n : Whole B) × IsRead config bytes n × AreCounts (parts n) c)
-counted_whole config bytes m whole operators found (Ok c) flags is would counts = (record m { funcs = whole }, (found, (flags, is)), counts_of m whole operators c would counts)
-counted_whole config bytes m whole operators found (Err e) flags is would counts = counts
+-- a module that was read but for its bodies, and their count, and for the bytes of its data segments, tell the counts of the whole one
+pub counted_whole : {B : Type 0} (config : ModuleConfig) (bytes : List ℕ) (m : Whole B) (whole : Arena Function) (full : Arena Data) (operators : ℕ) (found : Ids) (r : Result Counts ModuleError) → m.config ≡ config
+    → IsModuleOf config bytes m.start m.producers (spaces m.types m.imports whole m.tables m.memories m.tags m.globals m.exports m.elements full m.customs) m.locals m.name found
+    → WouldBe m.funcs whole operators → HasSame m.data_segments full → IfOk r (AreCountsWith operators (parts m)) → IfOk r (λ c. (n : Whole B) × IsRead config bytes n × AreCounts (parts n) c)
+counted_whole config bytes m whole full operators found (Ok c) flags is would same counts =
+    (record m { funcs = whole; data_segments = full }, (found, (flags, is)), counts_of m whole full operators c would same counts)
+counted_whole config bytes m whole full operators found (Err e) flags is would same counts = counts

@@ -1,8 +1,9 @@
--- Functions whose bodies are counted, and kept nowhere.
+-- Functions whose bodies are counted, and kept nowhere, and data segments whose bytes aren't kept.
 use Rattle.std.specs.Prelude.{ℕ, ◌≡◌, ◌+◌, map}
 use Rattle.std.specs.Option.{option_map}
 use Rattle.walrus_arena.specs.Arena.{Arena, ids}
 use Rattle.walrus_counts.specs.Counts.{operator_count}
+use Rattle.walrus_counts.specs.walrus_module.walrus_module_items.declared.data.Data.{Data}
 use Rattle.walrus_counts.specs.walrus_module.walrus_module_items.declared.function.Function.{Function}
 use Rattle.walrus_counts.specs.walrus_module.walrus_module_items.declared.function.FunctionKind.TheVariants.{Uninitialized}
 
@@ -23,3 +24,7 @@ pub record AreGiven (functions given : Arena Function) (operators : ℕ) : Type 
 pub record WouldBe (functions whole : Arena Function) (operators : ℕ) : Type 0 where
   pub ids_are : ids functions ≡ ids whole
   pub operators_are : operators ≡ operator_count whole
+
+-- with their bytes, which aren't kept, these would be those
+abbrev pub HasSame : Arena Data → Arena Data → Type 0
+HasSame segments full = ids segments ≡ ids full

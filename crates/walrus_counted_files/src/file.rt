@@ -18,7 +18,7 @@ use walrus_named_bodies::item_names::module::Module;
 
 /// How many items of each kind live in the module that these bytes spell (Core Specification, binary format: modules), with the features
 /// that the flags ask for: the counts are those of a module that is read from them. Bodies are read one after another, and each is let go
-/// of once its operators are counted. Asks for flags that want no synthetic names.
+/// of once its operators are counted; so are the bytes of each data segment. Asks for flags that want no synthetic names.
 ///
 /// For a program that ends next: the memory of the module's other items isn't given back.
 ///

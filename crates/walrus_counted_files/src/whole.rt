@@ -2,7 +2,8 @@
 
 ghost use Rattle.std.specs.Prelude.{◌≡◌, false, IfErr, IfOk};
 ghost use Rattle.walrus_arena.specs.Arena.{Arena};
-ghost use Rattle.walrus_counted_files.specs.Counted.{WouldBe};
+ghost use Rattle.walrus_counted_files.specs.Counted.{HasSame, WouldBe};
+ghost use Rattle.walrus_counts.specs.walrus_module.walrus_module_items.declared.data.Data.{Data};
 ghost use Rattle.walrus_counts.specs.walrus_module.walrus_module_items.declared.function.Function.{Function};
 ghost use Rattle.walrus_named_bodies.specs.walrus_item_names.walrus_module.walrus_body_writer.walrus_pairing.walrus_index_maps.Views.{ids};
 ghost use Rattle.walrus_named_bodies.specs.walrus_file_bodies.walrus_items_into.Spaces.{spaces};
@@ -36,7 +37,7 @@ use walrus_named_bodies::local_counts::few_are_numbered;
 use walrus_named_bodies::name_items;
 use walrus_parse::read_file;
 
-/// Reads a file into the collections of an empty module, but for its bodies, whose operators are counted; the start function and the producers
+/// Reads a file into the collections of an empty module, but for its bodies, whose operators are counted, and the bytes of its data segments; the start function and the producers
 /// are answered, the ids that numbers name, and that count. Asks for flags that want no synthetic names, which are those of functions with
 /// bodies.
 ///
@@ -63,7 +64,7 @@ pub(crate) fn count_module<B: Drop>(
 ) -> Result<(Option<FunctionId>, ModuleProducers, IndicesToIds, u64)>
     requires empty { IsEmpty (spaces types.old imports.old functions.old tables.old memories.old tags.old globals.old exports.old elements.old segments.old customs.old) locals.old own.old }
     requires plain { config.now.generate_synthetic_names_for_anonymous_items ≡ false }
-    ensures read { IfOk result (λ told. (whole : Arena Function) × IsModuleOf config.now wasm.now told.0 told.1 (spaces types.new imports.new whole tables.new memories.new tags.new globals.new exports.new elements.new segments.new customs.new) locals.new own.new (ids told.2) × WouldBe functions.new whole told.3) }
+    ensures read { IfOk result (λ told. (whole : Arena Function) × (full : Arena Data) × IsModuleOf config.now wasm.now told.0 told.1 (spaces types.new imports.new whole tables.new memories.new tags.new globals.new exports.new elements.new full customs.new) locals.new own.new (ids told.2) × WouldBe functions.new whole told.3 × HasSame segments.new full) }
     ensures refused { IfErr result (λ error. IsRefusal (read_features config.now) wasm.now error) }
 {
     filled_modules_are_ready::<B>();
@@ -73,11 +74,24 @@ pub(crate) fn count_module<B: Drop>(
     bodies_read_files::<B>();
     bodies_stop_files::<B>();
     let features = config.features();
-    let sections = read_file(alloc, features, wasm)?;
+    let mut sections = read_file(alloc, features, wasm)?;
     let mut maps = IndicesToIds::new(alloc);
     let start = match read_items(
-        alloc, &sections, &mut maps, types, imports, functions, tables, memories, tags, globals,
-        exports, elements, segments, customs,
+        alloc,
+        &mut sections,
+        &mut maps,
+        types,
+        imports,
+        functions,
+        tables,
+        memories,
+        tags,
+        globals,
+        exports,
+        elements,
+        segments,
+        customs,
+        false,
     ) {
         Ok(start) => start,
         Err(_) => return Err(ModuleError::Memory),

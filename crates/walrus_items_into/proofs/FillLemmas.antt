@@ -1,5 +1,7 @@
 -- Lemmas: what the parts say of a new module, put together.
-use Rattle.std.proofs.Common.{◌≡◌, ◌∙◌, ℕ, zero, suc, ◌+◌, List, [], ◌∷◌, ◌++◌, length, Option, Result, Ok, Err, IfOk, refl, sym, ap, subst, arith}
+use Rattle.std.proofs.Common.{◌≡◌, ◌∙◌, ℕ, zero, suc, ◌+◌, Bool, true, false, List, [], ◌∷◌, ◌++◌, length, Option, None, Some, Result, Ok, Err, IfOk, refl, sym, ap, subst, arith}
+use Rattle.std.specs.Bool.{OnFalse, OnTrue}
+use Rattle.walrus_arena.specs.Arena.{Arena}
 use Rattle.std.specs.List.{range_with_len}
 use Rattle.walrus_read_laws.specs.walrus_tables_into.walrus_sections_into.walrus_instr.walrus_types.Table.{Table}
 use Rattle.walrus_read_laws.specs.walrus_tables_into.walrus_sections_into.walrus_instr.walrus_types.Parsing.{AreBelow, parsed, unparsed}
@@ -14,15 +16,18 @@ use Rattle.walrus_read_laws.specs.walrus_tables_into.walrus_sections_into.Number
 use Rattle.walrus_module_env.specs.walrus_collections.walrus_module_items.declared.function.Function.{Function}
 use Rattle.walrus_read_laws.specs.walrus_tables_into.walrus_sections_into.declared.error.IntoError.{IntoError}
 use Rattle.walrus_read_laws.specs.walrus_tables_into.walrus_sections_into.Becomes.{look_of}
-use Rattle.walrus_read_laws.specs.walrus_tables_into.walrus_sections_into.Slots.{Filled, IsMemoryOf}
+use Rattle.walrus_read_laws.specs.walrus_tables_into.walrus_sections_into.Slots.{Become, Filled, IsMemoryOf}
 use Rattle.walrus_read_laws.specs.walrus_tables_into.walrus_sections_into.Imports.{IsImportOf}
 use Rattle.walrus_read_laws.specs.walrus_tables_into.walrus_sections_into.Tags.{IsTagOf}
 use Rattle.walrus_read_laws.specs.walrus_tables_into.walrus_sections_into.Exports.{IsExportOf, StartBecomes}
-use Rattle.walrus_read_laws.specs.walrus_tables_into.walrus_sections_into.Segments.{IsSegmentOf}
+use Rattle.walrus_read_laws.specs.walrus_tables_into.walrus_sections_into.Segments.{AreHeld, IsHeldOf, IsSegmentOf}
 use Rattle.walrus_read_laws.specs.walrus_tables_into.Tables.{IsTableOf}
 use Rattle.walrus_read_laws.specs.walrus_tables_into.Globals.{IsGlobalOf}
 use Rattle.walrus_read_laws.specs.walrus_tables_into.Elements.{IsElementOf}
 use Rattle.walrus_read_laws.specs.walrus_tables_into.Customs.{IsCustomOf, plain}
+use Rattle.walrus_read_laws.specs.walrus_tables_into.walrus_sections_into.walrus_known_sections.declared.items.Data.{Data as ReadData}
+use Rattle.walrus_read_laws.specs.walrus_tables_into.walrus_sections_into.walrus_pairing.Looks.{Look}
+use Rattle.walrus_module_env.specs.walrus_collections.walrus_module_items.declared.data.Data.{Data}
 use Rattle.walrus_items_into.specs.Filled.{AreRead, IsFilledFrom, IsNew}
 use Rattle.walrus_items_into.specs.Numbers.{numbers_of, types_in, with_items}
 use Rattle.walrus_items_into.specs.Spaces.{Spaces}
@@ -68,6 +73,37 @@ over {X} {Y} {R} {xs} {ys} {old} {new} e h = subst (λ (xs : List X). Filled R x
 
 emptied : {X Y : Type 0} (R : ℕ → X → Y → Type 0) (xs : List X) (old new : List (Option Y)) → old ≡ [] → Filled R xs old new → Filled R xs [] new
 emptied {X} {Y} R xs old new e h = subst (λ (slots : List (Option Y)). Filled R xs slots new) e h
+
+-- ---- data segments, with their bytes or without
+
+become_kept : (look : Look) (xs : List ReadData) (ys : List (Option Data)) (slot : ℕ) → Become (IsHeldOf true look) xs ys slot → Become (IsSegmentOf look) xs ys slot
+become_kept look [] [] slot h = tt
+become_kept look [] (y ∷ ys) slot h = absurd h
+become_kept look (x ∷ xs) [] slot h = absurd h
+become_kept look (x ∷ xs) (None ∷ ys) slot h = absurd h
+become_kept look (x ∷ xs) (Some y ∷ ys) slot h = (subst (IsSegmentOf look slot x) (sym h.0.2) h.0.1, become_kept look xs ys (suc slot) h.1)
+
+become_hollow : (look : Look) (xs : List ReadData) (ys : List (Option Data)) (slot : ℕ) → Become (IsHeldOf false look) xs ys slot → (zs : List (Option Data)) × Become (IsSegmentOf look) xs zs slot × AreHeld false zs ys
+become_hollow look [] [] slot h = ([], tt, tt)
+become_hollow look [] (y ∷ ys) slot h = absurd h
+become_hollow look (x ∷ xs) [] slot h = absurd h
+become_hollow look (x ∷ xs) (None ∷ ys) slot h = absurd h
+become_hollow look (x ∷ xs) (Some y ∷ ys) slot h = let r = become_hollow look xs ys (suc slot) h.1 in (Some h.0.0 ∷ r.0, (h.0.1, r.1), (h.0.2, r.2))
+
+-- where bytes are kept, what is held is what was read
+pub on_kept : (keeps : Bool) (look : Look) (xs : List ReadData) (old new : List (Option Data)) (P : Type 0) → Filled (IsHeldOf keeps look) xs old new → (Filled (IsSegmentOf look) xs old new → P) → OnTrue keeps P
+on_kept true look xs old new P h go = go (record { more = h.more; behind = h.behind; become = become_kept look xs h.more (length old) h.become })
+on_kept false look xs old new P h go = tt
+
+-- where they aren't, there is what would be held
+pub on_hollow : (keeps : Bool) (look : Look) (xs : List ReadData) (old : List (Option Data)) (new : Arena Data) (P : Type 0) → old ≡ [] → Filled (IsHeldOf keeps look) xs old new.slots
+    → ((full : Arena Data) → AreHeld false full.slots new.slots → Filled (IsSegmentOf look) xs old full.slots → P) → OnFalse keeps P
+on_hollow true look xs old new P none h go = tt
+on_hollow false look xs old new P none h go =
+    let r = become_hollow look xs h.more (length old) h.become in
+    let all : new.slots ≡ h.more = h.behind ∙ ap (λ (l : List (Option Data)). l ++ h.more) none in
+    let full : Arena Data = record new { slots = r.0 } in
+    go full (subst (AreHeld false r.0) (sym all) r.2) (record { more = r.0; behind = ap (λ (l : List (Option Data)). l ++ r.0) (sym none); become = r.1 })
 
 functions_are : (reads all : List ReadFunction) (types others : List ℕ) (old new : List (Option Function)) → old ≡ [] → reads ≡ all → types ≡ others
     → new ≡ old ++ functions_from types (length old) reads → new ≡ functions_from others 0 all

@@ -12,7 +12,7 @@ use Rattle.walrus_read_laws.specs.walrus_tables_into.walrus_sections_into.declar
 use Rattle.walrus_read_laws.specs.walrus_tables_into.walrus_sections_into.Becomes.{look_of}
 use Rattle.walrus_functions_into.specs.walrus_types_into.Into.{TypesNameBelow, NewTypesStand}
 use Rattle.walrus_read_laws.specs.Whole.{AreNumbered, LackNothing, ReadSectionsLackNothing}
-use Rattle.walrus_items_into.specs.Filled.{AreRead}
+use Rattle.walrus_items_into.specs.Filled.{AreRead, WereRead}
 use Rattle.walrus_items_into.specs.Numbers.{numbers_of}
 use Rattle.walrus_items_into.proofs.FillLemmas.{below}
 use Rattle.walrus_items_into.proofs.FiledLemmas.{many}
@@ -28,9 +28,24 @@ all_numbered s names stand read = record {
   globals = many (numbers_of s).globals s.globals.items (λ x. Some (global_of x)) refl;
 }
 
-pub nothing_lacks : (s : Sections) (l : Ids) → ReadSectionsLackNothing → TypesNameBelow → NewTypesStand → AreRead s → l ≡ numbers_of s → LackNothing (look_of l) s
+nothing_lacks : (s : Sections) (l : Ids) → ReadSectionsLackNothing → TypesNameBelow → NewTypesStand → AreRead s → l ≡ numbers_of s → LackNothing (look_of l) s
 nothing_lacks s l law names stand read same =
     subst (λ (l : Ids). LackNothing (look_of l) s) (sym same) (law read.0 read.1 s (numbers_of s) read.2 read.3 (all_numbered s names stand read))
+
+-- nor does what is left of it
+pub left_lacks : (left : Sections) (l : Ids) → ReadSectionsLackNothing → TypesNameBelow → NewTypesStand → WereRead left l → LackNothing (look_of l) left
+left_lacks left l law names stand (s, same, read, numbered) =
+    let n = nothing_lacks s l law names stand read numbered in
+    subst (LackNothing (look_of l)) (sym same) (record {
+      imports = n.imports;
+      tables = n.tables;
+      tags = n.tags;
+      globals = n.globals;
+      exports = n.exports;
+      start = n.start;
+      elements = n.elements;
+      segments = n.segments;
+    })
 
 only_memory : (e : IntoError) → (e ≡ errors.Unknown → ⊥) → e ≡ errors.Memory
 only_memory errors.Memory h = refl

@@ -1,5 +1,6 @@
 -- Collections of a module, and index maps, that the sections of a file have filled.
-use Rattle.std.specs.Prelude.{ℕ, ◌<◌, ◌≡◌, List, [], All, Option}
+use Rattle.std.specs.Prelude.{ℕ, ◌<◌, ◌≡◌, false, List, [], All, Option}
+use Rattle.walrus_arena.specs.Arena.{Arena}
 use Rattle.walrus_module_env.specs.walrus_body_parser.wasm_operators.wasm_features.declared.WasmFeatures.{WasmFeatures}
 use Rattle.walrus_functions_into.specs.wasm_sections.Laws.{ReadsSections}
 use Rattle.walrus_read_laws.specs.walrus_tables_into.walrus_sections_into.walrus_index_maps.Maps.{Ids, no_ids}
@@ -12,17 +13,26 @@ use Rattle.walrus_read_laws.specs.walrus_tables_into.walrus_sections_into.Slots.
 use Rattle.walrus_read_laws.specs.walrus_tables_into.walrus_sections_into.Imports.{IsImportOf}
 use Rattle.walrus_read_laws.specs.walrus_tables_into.walrus_sections_into.Tags.{IsTagOf}
 use Rattle.walrus_read_laws.specs.walrus_tables_into.walrus_sections_into.Exports.{IsExportOf, StartBecomes}
-use Rattle.walrus_read_laws.specs.walrus_tables_into.walrus_sections_into.Segments.{IsSegmentOf}
+use Rattle.walrus_read_laws.specs.walrus_tables_into.walrus_sections_into.Segments.{AreHeld, IsSegmentOf}
 use Rattle.walrus_read_laws.specs.walrus_tables_into.Tables.{IsTableOf}
 use Rattle.walrus_read_laws.specs.walrus_tables_into.Globals.{IsGlobalOf}
 use Rattle.walrus_read_laws.specs.walrus_tables_into.Elements.{IsElementOf}
 use Rattle.walrus_read_laws.specs.walrus_tables_into.Customs.{IsCustomOf, plain}
+use Rattle.walrus_module_env.specs.walrus_collections.walrus_module_items.declared.data.Data.{Data}
 use Rattle.walrus_items_into.specs.Spaces.{Spaces}
 use Rattle.walrus_items_into.specs.Numbers.{numbers_of, types_in}
 
 -- they are those of a file, which is so many bytes
 abbrev pub AreRead : Sections → Type 0
 AreRead s = (features : WasmFeatures) × (bytes : List ℕ) × All (λ b. b < 256) bytes × ReadsSections features bytes (state_of s)
+
+-- what is left of them once their types are let go of
+abbrev pub untyped : Sections → Sections
+untyped s = record s { types = [] }
+
+-- what is left of sections of a file, all of which these ids number
+abbrev pub WereRead : Sections → Ids → Type 0
+WereRead left i = (s : Sections) × (left ≡ untyped s) × AreRead s × (i ≡ numbers_of s)
 
 module _ {B : Type 0} where
   -- nothing was there, and no number names anything
@@ -57,3 +67,9 @@ module _ {B : Type 0} where
     pub segments : Filled (IsSegmentOf (look_of i)) s.segments.items [] m.segments.slots
     pub customs : Filled IsCustomOf (plain s.customs.items) [] m.customs.slots
     pub start : StartBecomes (look_of i) s.start begin
+
+  -- so it is but for the bytes of its data segments: these would be the segments
+  pub record IsHollowFrom (s : Sections) (begin : Option ℕ) (i : Ids) (m : Spaces B) : Type 0 where
+    pub full : Arena Data
+    pub held : AreHeld false full.slots m.segments.slots
+    pub filled : IsFilledFrom s begin i (record m { segments = full })

@@ -1,12 +1,12 @@
 //! The items of a file.
 
-ghost use Rattle.std.specs.Prelude.{◌≡◌, IfOk, IfErr};
+ghost use Rattle.std.specs.Prelude.{◌≡◌, IfOk, IfErr, OnOk};
+ghost use Rattle.std.specs.Bool.{OnFalse, OnTrue};
 ghost use Rattle.walrus_read_laws.specs.walrus_tables_into.walrus_sections_into.walrus_index_maps.Views.{ids};
 ghost use Rattle.walrus_read_laws.specs.walrus_tables_into.walrus_sections_into.declared.error.IntoError.TheVariants.{Memory};
 ghost use Rattle.walrus_read_laws.specs.walrus_tables_into.walrus_sections_into.Becomes.{look_of};
 ghost use Rattle.walrus_read_laws.specs.Whole.{LackNothing};
-ghost use Rattle.walrus_items_into.specs.Filled.{AreRead, IsFilledFrom, IsNew};
-ghost use Rattle.walrus_items_into.specs.Numbers.{numbers_of};
+ghost use Rattle.walrus_items_into.specs.Filled.{AreRead, IsFilledFrom, IsHollowFrom, IsNew, WereRead, untyped};
 ghost use Rattle.walrus_items_into.specs.Spaces.{spaces};
 
 use crate::numbers::number_items;
@@ -32,8 +32,7 @@ use walrus_read_laws::tables_into::{add_customs, add_elements, add_globals, add_
 
 // What was read lacks nothing that its own map names: a law, which runs nothing.
 fn lacks_nothing(_sections: &Sections<'_>, _maps: &IndicesToIds)
-    requires read { AreRead _sections.now }
-    requires numbered { ids _maps.now ≡ numbers_of _sections.now }
+    requires { WereRead _sections.now (ids _maps.now) }
     ensures { LackNothing (look_of (ids _maps.now)) _sections.now }
 {
     read_sections_lack_nothing();
@@ -43,14 +42,15 @@ fn lacks_nothing(_sections: &Sections<'_>, _maps: &IndicesToIds)
 
 /// Fills the collections of a new module with what was read of a file, and gives its start function, if it has one: types first, then
 /// functions, which have no bodies yet, and when each number names its item all that names items. Asks for the sections of a file that
-/// was read, and for collections and a map in which nothing was yet.
+/// was read, and for collections and a map in which nothing was yet. The types are let go of as they are put into the table.
+/// Of data segments the bytes are kept if that is wanted.
 ///
 /// # Errors
 ///
 /// Want of memory alone: nothing that was read names what isn't there. Some of the items may be there.
 pub fn read_items<B: Drop>(
     alloc: Global,
-    sections: &Sections<'_>,
+    sections: &mut Sections<'_>,
     maps: &mut IndicesToIds,
     types: &mut ModuleTypes,
     imports: &mut ModuleImports,
@@ -63,19 +63,22 @@ pub fn read_items<B: Drop>(
     elements: &mut ModuleElements,
     segments: &mut ModuleData,
     customs: &mut CustomSections<B>,
+    keeps_bytes: bool,
 ) -> Result<Option<FunctionId>, IntoError>
-    requires read { AreRead sections.now }
+    requires read { AreRead sections.old }
     requires new { IsNew (ids maps.old) (spaces types.old imports.old functions.old tables.old memories.old tags.old globals.old exports.old elements.old segments.old customs.old) }
-    ensures filled { IfOk result (λ start. IsFilledFrom sections.now start (ids maps.new) (spaces types.new imports.new functions.new tables.new memories.new tags.new globals.new exports.new elements.new segments.new customs.new)) }
+    ensures filled { IfOk result (λ start. OnTrue keeps_bytes (IsFilledFrom sections.old start (ids maps.new) (spaces types.new imports.new functions.new tables.new memories.new tags.new globals.new exports.new elements.new segments.new customs.new))) }
+    ensures hollow { IfOk result (λ start. OnFalse keeps_bytes (IsHollowFrom sections.old start (ids maps.new) (spaces types.new imports.new functions.new tables.new memories.new tags.new globals.new exports.new elements.new segments.new customs.new))) }
+    ensures left { OnOk result (sections.new ≡ untyped sections.old) }
     ensures refused { IfErr result (λ e. e ≡ Memory) }
 {
     types_name_below();
     new_types_stand();
     read_functions_stand();
-    read_types_into(&sections.types, types, maps)?;
+    read_types_into(&mut sections.types, types, maps)?;
     add_functions(sections.functions.as_slice(), maps, functions)?;
-    number_items(sections, maps)?;
-    lacks_nothing(sections, maps);
+    number_items(&*sections, maps)?;
+    lacks_nothing(&*sections, maps);
     add_imports(sections.imports.as_slice(), maps, imports)?;
     add_tables(alloc, sections.tables.as_slice(), maps, tables)?;
     add_memories(sections.memories.as_slice(), memories)?;
@@ -83,7 +86,13 @@ pub fn read_items<B: Drop>(
     add_globals(alloc, sections.globals.as_slice(), maps, globals)?;
     add_exports(sections.exports.as_slice(), maps, exports)?;
     add_elements(alloc, sections.elements.as_slice(), maps, elements)?;
-    add_segments(alloc, sections.segments.as_slice(), maps, segments)?;
+    add_segments(
+        alloc,
+        sections.segments.as_slice(),
+        maps,
+        segments,
+        keeps_bytes,
+    )?;
     add_customs(sections.customs.as_slice(), customs)?;
     read_start(sections.start, maps)
 }

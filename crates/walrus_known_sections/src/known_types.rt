@@ -7,6 +7,7 @@ ghost use Rattle.walrus_known_sections.specs.Types.{kinds_in, form_fault, is_fun
 
 use std::alloc::{AllocError, Global};
 use std::marker::Model;
+use std::mem;
 use walrus_forms::{CompositeRecord, GroupRecord, TypeRecord};
 
 /// The groups of types that were read, and of each type by its number whether it is a function type. Contracts see the groups.
@@ -83,6 +84,16 @@ impl KnownTypes {
         ensures { map type_group result.now ≡ self.now }
     {
         self.groups.as_slice()
+    }
+
+    /// Lets go of the groups: none are left here. Takes no memory.
+    pub fn take_groups(&mut self) -> Vec<GroupRecord>
+        ensures groups { map type_group result.items ≡ self.old }
+        ensures left { self.new ≡ [] }
+    {
+        let alloc = *self.groups.allocator();
+        self.functions = Vec::new(alloc);
+        mem::replace(&mut self.groups, Vec::new(alloc))
     }
 
     /// One more group.

@@ -63,11 +63,24 @@ fn read_module<B: Drop>(
     bodies_read_files::<B>();
     bodies_stop_files::<B>();
     let features = config.features();
-    let sections = read_file(alloc, features, wasm)?;
+    let mut sections = read_file(alloc, features, wasm)?;
     let mut maps = IndicesToIds::new(alloc);
     let start = match read_items(
-        alloc, &sections, &mut maps, types, imports, functions, tables, memories, tags, globals,
-        exports, elements, segments, customs,
+        alloc,
+        &mut sections,
+        &mut maps,
+        types,
+        imports,
+        functions,
+        tables,
+        memories,
+        tags,
+        globals,
+        exports,
+        elements,
+        segments,
+        customs,
+        true,
     ) {
         Ok(start) => start,
         Err(_) => return Err(ModuleError::Memory),

@@ -1,2 +1,3 @@
 pub mod OperatorLemmas
 pub mod Lookups
+mod SegmentLemmas

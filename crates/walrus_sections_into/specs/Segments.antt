@@ -1,5 +1,5 @@
 -- Data segments, as they were read and in a module.
-use Rattle.std.specs.Prelude.{ℕ, ◌≡◌, Some, None}
+use Rattle.std.specs.Prelude.{ℕ, ◌≡◌, Bool, true, false, List, [], ◌∷◌, Option, Some, None}
 use Rattle.wasm_immediates.specs.Items.{Memories}
 use Rattle.walrus_instr.specs.Constants.{ops_of}
 use Rattle.walrus_pairing.specs.Looks.{Look}
@@ -23,3 +23,26 @@ pub record IsSegmentOf (look : Look) (slot : ℕ) (read : ReadData) (d : Data) :
   pub mode : ModeBecomes look read.mode d.kind
   pub bytes : d.value.items ≡ read.bytes.now
   pub no_name : d.name ≡ None
+
+-- the same segment, but that it has no bytes
+pub record IsHollow (whole held : Data) : Type 0 where
+  pub id : held.id ≡ whole.id
+  pub kind : held.kind ≡ whole.kind
+  pub name : held.name ≡ whole.name
+  pub empty : held.value.items ≡ []
+
+-- it is held with its bytes, if they are kept
+abbrev pub IsHeld : Bool → Data → Data → Type 0
+IsHeld true whole held = held ≡ whole
+IsHeld false whole held = IsHollow whole held
+
+-- what is held of a segment that was read
+abbrev pub IsHeldOf : Bool → Look → ℕ → ReadData → Data → Type 0
+IsHeldOf keeps look slot read held = (whole : Data) × IsSegmentOf look slot read whole × IsHeld keeps whole held
+
+-- so each of these is held
+abbrev pub AreHeld : Bool → List (Option Data) → List (Option Data) → Type 0
+AreHeld keeps [] [] = Unit {0}
+AreHeld keeps (None ∷ xs) (None ∷ ys) = AreHeld keeps xs ys
+AreHeld keeps (Some x ∷ xs) (Some y ∷ ys) = IsHeld keeps x y × AreHeld keeps xs ys
+AreHeld keeps _ _ = ⊥

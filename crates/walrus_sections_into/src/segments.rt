@@ -1,6 +1,7 @@
 //! Data segments.
 
-ghost use Rattle.std.specs.Prelude.{◌≡◌, IfOk, IfErr, OnOk, OnErr};
+ghost use Rattle.std.specs.Prelude.{◌≡◌, [], IfOk, IfErr, OnOk, OnErr};
+ghost use Rattle.std.specs.Bool.{OnFalse, OnTrue};
 ghost use Rattle.std.specs.List.{Any};
 ghost use Rattle.walrus_arena.specs.Arena.{next_id};
 ghost use Rattle.walrus_meaning.specs.walrus_linked.walrus_collections.Added.{Adds};
@@ -8,7 +9,7 @@ ghost use Rattle.walrus_index_maps.specs.Views.{ids};
 ghost use Rattle.walrus_sections_into.specs.Becomes.{look_of};
 ghost use Rattle.walrus_sections_into.specs.Lacks.{DataLacks, PlaceLacks};
 ghost use Rattle.walrus_sections_into.specs.Slots.{Filled, FilledInPart};
-ghost use Rattle.walrus_sections_into.specs.Segments.{IsSegmentOf, ModeBecomes};
+ghost use Rattle.walrus_sections_into.specs.Segments.{IsHeldOf, ModeBecomes};
 ghost use Rattle.walrus_sections_into.specs.declared.error.IntoError.TheVariants.{Memory, Unknown};
 
 use crate::error::IntoError;
@@ -45,23 +46,36 @@ fn copied(alloc: Global, bytes: &[u8]) -> Result<Vec<u8>, IntoError>
     Ok(copy)
 }
 
+// A segment's bytes, if they are kept.
+fn kept(alloc: Global, value: Vec<u8>, keeps_bytes: bool) -> Vec<u8>
+    ensures kept { OnTrue keeps_bytes (result ≡ value) }
+    ensures empty { OnFalse keeps_bytes (result.items ≡ []) }
+{
+    if keeps_bytes {
+        return value;
+    }
+    Vec::new(alloc)
+}
+
+// The bytes are copied in any case: where they aren't kept, the segment that has them stands in the proof alone.
 fn add_segment(
     alloc: Global,
     segment: &Data<'_>,
     maps: &IndicesToIds,
     into: &mut ModuleData,
+    keeps_bytes: bool,
 ) -> Result<(), IntoError>
-    ensures added { OnOk result (Adds (IsSegmentOf (look_of (ids maps.now)) (next_id into.old) segment.now) into.old into.new) }
+    ensures added { OnOk result (Adds (IsHeldOf keeps_bytes (look_of (ids maps.now)) (next_id into.old) segment.now) into.old into.new) }
     ensures refused { OnErr result (into.new ≡ into.old) }
     ensures unknown { IfErr result (λ e. e ≡ Unknown → DataLacks (look_of (ids maps.now)) segment.now) }
 {
     let kind = read_mode(alloc, &segment.mode, maps)?;
     let value = copied(alloc, segment.bytes)?;
-    into.add(kind, value)?;
+    into.add(kind, kept(alloc, value, keeps_bytes))?;
     Ok(())
 }
 
-/// Adds the data segments, in their order.
+/// Adds the data segments, in their order, with their bytes or, where these aren't kept, with none.
 ///
 /// # Errors
 ///
@@ -72,13 +86,14 @@ pub fn add_segments(
     segments: &[Data<'_>],
     maps: &IndicesToIds,
     into: &mut ModuleData,
+    keeps_bytes: bool,
 ) -> Result<(), IntoError>
-    ensures added { OnOk result (Filled (IsSegmentOf (look_of (ids maps.now))) segments.now into.old.slots into.new.slots) }
-    ensures in_part { OnErr result (FilledInPart (IsSegmentOf (look_of (ids maps.now))) segments.now into.old.slots into.new.slots) }
+    ensures added { OnOk result (Filled (IsHeldOf keeps_bytes (look_of (ids maps.now))) segments.now into.old.slots into.new.slots) }
+    ensures in_part { OnErr result (FilledInPart (IsHeldOf keeps_bytes (look_of (ids maps.now))) segments.now into.old.slots into.new.slots) }
     ensures unknown { IfErr result (λ e. e ≡ Unknown → Any (DataLacks (look_of (ids maps.now))) segments.now) }
 {
     for segment in segments {
-        add_segment(alloc, segment, maps, into)?;
+        add_segment(alloc, segment, maps, into, keeps_bytes)?;
     }
     Ok(())
 }

@@ -3,7 +3,7 @@ use Rattle.std.proofs.Common.{◌≡◌, ◌∙◌, ℕ, ◌+◌, ◌<◌, Resul
 use Rattle.std.specs.List.{range_with_len}
 use Rattle.std.specs.Option.{MatchOption}
 use Rattle.std.proofs.lemmas.Bool.{eqb-true}
-use Rattle.std.proofs.lemmas.List.{drop_more, length-map, map-append, map_more, take-append-drop}
+use Rattle.std.proofs.lemmas.List.{append_assoc, append-nil, drop_more, length-map, map-append, map_more, take-append-drop}
 use Rattle.std.proofs.lemmas.List.FromFn.{length-range_with_len}
 use Rattle.walrus_type_arenas.specs.walrus_type_index.walrus_items.walrus_forms.Kinds.{Kind}
 use Rattle.walrus_type_arenas.specs.walrus_type_index.walrus_items.walrus_forms.declared.record.TypeRecord.{TypeRecord}
@@ -122,6 +122,23 @@ part-of groups i group old new less is table = record {
       ∙ ap (λ (gs : List TypeGroup). map type_group (take i groups) ++ gs) (rest-is groups i group less is);
   table = table;
 }
+
+-- of these groups the last ones are left, and the others were added to the table, with these ids
+pub record IsParsedTo (groups left : List TypeGroup) (old : Table) (here : Parsed) : Type 0 where
+  pub before : List TypeGroup
+  pub split : groups ≡ before ++ left
+  pub state : here ≡ parsed before (unparsed old)
+
+pub parsed-one : (groups left : List TypeGroup) (group : TypeGroup) (old : Table) (here next : Parsed) → IsParsedTo groups (group ∷ left) old here → next ≡ parsed_group group here
+    → IsParsedTo groups left old next
+parsed-one groups left group old here next p is = record {
+  before = p.before ++ group ∷ [];
+  split = p.split ∙ sym (append_assoc p.before (group ∷ []) left);
+  state = is ∙ ap (λ (s : Parsed). parsed_group group s) p.state ∙ sym (parsed-append p.before (group ∷ []) (unparsed old));
+}
+
+pub parsed-part : (groups left : List TypeGroup) (group : TypeGroup) (old : Table) (here : Parsed) → IsParsedTo groups (group ∷ left) old here → IsPartOf groups old here.table
+parsed-part groups left group old here p = record { before = p.before; refused = group; after = left; split = p.split; table = ap (λ (s : Parsed). s.table) p.state }
 
 pub states-same : (s t : Parsed) → s.ids ≡ t.ids → s.table ≡ t.table → s ≡ t
 states-same s t ids table =

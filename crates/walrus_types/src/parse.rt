@@ -38,6 +38,26 @@ impl ModuleTypes {
         Ok(ids)
     }
 
+    /// Adds the groups of a type section as [`parse_types`](ModuleTypes::parse_types) does, and lets go of each once it is added, so that its
+    /// memory serves for what is added next.
+    ///
+    /// # Errors
+    ///
+    /// Want of memory. The groups before the refused one stay added.
+    pub fn parse_own_types(&mut self, groups: Vec<GroupRecord>) -> Result<Vec<TypeId>, AllocError>
+        requires { AreBelow 0 (map type_group groups.items) }
+        ensures ids { IfOk result (λ ids. ids.items ≡ (parsed (map type_group groups.items) (unparsed self.old)).ids) }
+        ensures table { OnOk result (self.new ≡ (parsed (map type_group groups.items) (unparsed self.old)).table) }
+        ensures refused { OnErr result (IsPartOf (map type_group groups.items) self.old self.new) }
+    {
+        self.widen_index(groups.len());
+        let mut ids = Vec::new(self.alloc());
+        for group in groups {
+            self.parse_group(&group, &mut ids)?;
+        }
+        Ok(ids)
+    }
+
     // Adds a group, and to `ids` those of its types.
     fn parse_group(&mut self, group: &GroupRecord, ids: &mut Vec<TypeId>) -> Result<(), AllocError>
         requires { let g = type_group group.now in All (KindBelow (length ids.old.items + length g.kinds)) g.kinds }

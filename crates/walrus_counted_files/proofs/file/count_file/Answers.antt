@@ -10,4 +10,4 @@ returns-in_err-start-clause-refused g c =
 pub returns-clause-counted : goal.returns-clause-counted
 returns-clause-counted g c =
     let read = c.in_ok-start.ensures.read in
-    counted_whole c.args.config.now c.args.wasm.now _ read.0 _ _ c.count_items-counts.result c.with_config-module.ensures.config read.1 read.2 c.count_items-counts.ensures.counted
+    counted_whole c.args.config.now c.args.wasm.now _ read.0 read.1 _ _ c.count_items-counts.result c.with_config-module.ensures.config read.2 read.3 read.4 c.count_items-counts.ensures.counted
