@@ -25,6 +25,6 @@ pub record WouldBe (functions whole : Arena Function) (operators : ℕ) : Type 0
   pub ids_are : ids functions ≡ ids whole
   pub operators_are : operators ≡ operator_count whole
 
--- with their bytes, which aren't kept, these would be those
+-- with their bytes, which aren't kept, these would be those, with the same ids
 abbrev pub HasSame : Arena Data → Arena Data → Type 0
 HasSame segments full = ids segments ≡ ids full

@@ -37,9 +37,9 @@ use walrus_named_bodies::local_counts::few_are_numbered;
 use walrus_named_bodies::name_items;
 use walrus_parse::read_file;
 
-/// Reads a file into the collections of an empty module, but for its bodies, whose operators are counted, and the bytes of its data segments; the start function and the producers
-/// are answered, the ids that numbers name, and that count. Asks for flags that want no synthetic names, which are those of functions with
-/// bodies.
+/// Reads a file into the collections of an empty module, but for its bodies, whose operators are counted, and the bytes of its data
+/// segments; the start function and the producers are answered, the ids that numbers name, and that count. Asks for flags that want no
+/// synthetic names, which are those of functions with bodies.
 ///
 /// # Errors
 ///

@@ -79,13 +79,6 @@ impl KnownTypes {
         Some(self.functions[index])
     }
 
-    /// The groups.
-    pub fn groups(&self) -> &[GroupRecord]
-        ensures { map type_group result.now ≡ self.now }
-    {
-        self.groups.as_slice()
-    }
-
     /// Lets go of the groups: none are left here. Takes no memory.
     pub fn take_groups(&mut self) -> Vec<GroupRecord>
         ensures groups { map type_group result.items ≡ self.old }
