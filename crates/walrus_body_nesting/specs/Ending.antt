@@ -1,5 +1,5 @@
 -- Lemmas: an operator that ends a block, or the body, over what open sequences grow into.
-use Rattle.std.proofs.Common.{ℕ, ◌<◌, ◌≤◌, ◌≡◌, Bool, true, false, List, [], ◌∷◌, ◌++◌, length, Option, Some, None, refl, sym, ap, subst, arith, ◌∙◌, append-nil}
+use Rattle.std.proofs.Common.{ℕ, ◌+◌, ◌<◌, ◌≤◌, ◌≡◌, Bool, true, false, List, [], ◌∷◌, ◌++◌, length, Option, Some, None, refl, sym, ap, subst, arith, ◌∙◌, append-nil}
 use Rattle.std.specs.Prelude.{slice_get}
 use Rattle.std.proofs.lemmas.List.{append_assoc}
 use Rattle.walrus_body_env.specs.walrus_instr.declared.instr.Instr.{Instr}
@@ -13,9 +13,10 @@ use Rattle.wasm_normal_form.specs.Trees.{Tree, Close, Arm, Nest, prepend, innerm
 use Rattle.wasm_normal_form.specs.Normal.{picked, end_place, closed, normal_from}
 use Rattle.walrus_body_nesting.specs.declared.frames.Reach.{Reach}
 use Rattle.walrus_body_nesting.specs.declared.frames.Reach.TheVariants.{Live, Cut, Dropped}
-use Rattle.walrus_body_nesting.specs.Stands.{Otherwise, Part, part, Finish, Ended, block, Meaning, place_in, with, none, lies, Enters, StandsAs}
-use Rattle.walrus_body_nesting.specs.Opens.{Open, is_bare, ids_of, Falling, same, Grower, kept, joined, joins, grown, Later, IsBegun, Makes, Grows, Unless, before_of, IsReached, IsBody, Reads, type_at}
+use Rattle.walrus_body_nesting.specs.Stands.{Otherwise, Part, part, Finish, Ended, block, Meaning, place_in, with, none, lies, Enters, StandsAs, total, tree_size}
+use Rattle.walrus_body_nesting.specs.Opens.{Open, is_bare, ids_of, Falling, same, Grower, kept, joined, joins, grown, Later, IsBegun, Makes, nothing, IsSized, Grows, Unless, before_of, IsReached, IsBody, weight, instrs_at, AreBare, Reads, type_at}
 use Rattle.walrus_body_nesting.specs.Seqs.{get_last, length_edited, length_begun, falling_up, away_past, later_added, later_filled, later_now, filled_later, found_type, type_of_found, with_met, fresh_begun}
+use Rattle.walrus_body_nesting.specs.Sizes.{total_begun, total_filled, bare_begun, bare_filled, Keeps, hold_nested, hold_left, hold_ended, hold_start}
 use Rattle.walrus_body_nesting.specs.Grown.{unless_map, sound_on}
 
 -- once the block is closed, its sequences stand later
@@ -75,6 +76,22 @@ bare_closes m b ids around o p e before c k l fb fa g =
 abbrev nest_grower : Seen → Option ℕ → Tree → (ℕ → Bool) → Grower → Grower
 nest_grower by p u met c = record { grow = λ t. c.grow (Nest (picked same by) p u t); met = met; by = c.by }
 
+nest_sized : (by : Seen) (p : Option ℕ) (u : Tree) (grow : Tree → Tree) → IsSized grow → IsSized (λ t. grow (Nest (picked same by) p u t))
+nest_sized by p u grow h t = let a = h (Nest (picked same by) p u t) in let b = h (Nest (picked same by) p u nothing) in omega (arith, a, b)
+
+closed_size : (w : Bool) (op : Seen) (p : Option ℕ) → tree_size (closed w op p) ≡ 0
+closed_size true op p = refl
+closed_size false op p = refl
+
+-- what is made of a block that ends
+nest_weight : (by op : Seen) (p q : Option ℕ) (w : Bool) (met : ℕ → Bool) (x y : Grower) → IsSized x.grow → IsSized y.grow → weight (nest_grower by p (x.grow (closed w op q)) met y) ≡ weight y + weight x + 1
+nest_weight by op p q w met x y h k =
+    let u = x.grow (closed w op q) in
+    let a = k (Nest (picked same by) p u nothing) in
+    let b = h (closed w op q) in
+    let z = closed_size w op q in
+    omega (arith, a, b, z)
+
 nest_grows : (m : Meaning) (b c : List Seq) (all ids around : List ℕ) (o o' : Open) (before : ℕ → Bool) (y x : Grower) (i : Instr) (ms : List Part) (f : Finish) (u : Tree)
     → ((l : List Seq) → Later c ids l → Later b all l)
     → (z : Closes m b c ids (o'.seq ∷ around) o x.met ms f u) → IsBegun m (o'.seq ∷ around) o.opener o.ty y.by → Makes o.opener i (block o.first ms f)
@@ -89,12 +106,14 @@ nest_grows m b c all ids around o o' before y x i ms f u weak z begun made g = r
       (block o.first ms f, begun.nests i (block o.first ms f) made, refl, v.fresh, v.seq, v.found, subst T (sym v.typed) begun.opens, z.met, subst U (sym v.typed) v.lie, lie);
   fresh = z.fresh;
   begun = g.begun;
+  sized = nest_sized y.by (place_in o.place) u x.grow g.sized;
 }
 
 -- how an operator closes the innermost sequence's block
 pub record Closing (m : Meaning) (b c : List Seq) (ids : List ℕ) (o : Open) (op : Seen) (p : Option ℕ) (ms : List Part) (f : Finish) : Type 0 where
   pub weak : (l : List Seq) → Later c ids l → Later b (o.seq ∷ ids) l
   pub more : length b ≤ length c
+  pub keeps : instrs_at b o.seq ≡ [] → AreBare b ids → Keeps b c o ids
   pub closes : (before : ℕ → Bool) (x : Grower) → Grows m b (o.seq ∷ ids) ids o before x → Closes m b c ids ids o before ms f (x.grow (closed (is_bare o.kind) op p))
 
 joined_reached : (r : Reach) (by : Seen) (q : Option ℕ) (w : Bool) (op : Seen) (p : Option ℕ) (k g : Tree → Tree) → IsReached r
@@ -131,9 +150,9 @@ pub end_reads : (m : Meaning) (b c : List Seq) (o o' : Open) (os : List Open) (i
     → Closing m b c (ids_of (o' ∷ os)) o op p ms f → Makes o.opener i (block o.first ms f) → IsReached o.reach
     → Reads m false b (o ∷ (o' ∷ os)) (prepend Ends op p ts) w
     → Reads m false c (record o' { instrs = o'.instrs ++ (i, o.place) ∷ [] } ∷ os) ts w
-end_reads m b c o o' os i op p ms f ts w h made n ([], a, r) = absurd a
-end_reads m b c o o' os i op p ms f ts w h made n (x ∷ [], a, r) = absurd a.1
-end_reads m b c o o' os i op p ms f ts w h made n (x ∷ (y ∷ cs), a, r) =
+end_reads m b c o o' os i op p ms f ts w h made n ([], a, r, k) = absurd a
+end_reads m b c o o' os i op p ms f ts w h made n (x ∷ [], a, r, k) = absurd a.1
+end_reads m b c o o' os i op p ms f ts w h made n (x ∷ (y ∷ cs), a, r, holds) =
     let ids = ids_of (o' ∷ os) in
     let g = unless_reached o.reach _ n a.0 in
     let z = h.closes y.met x g in
@@ -147,19 +166,25 @@ end_reads m b c o o' os i op p ms f ts w h made n (x ∷ (y ∷ cs), a, r) =
       grown_met o' (o'.instrs ++ (i, o.place) ∷ []) os y k z.met cs ts
           ∙ outer_joined o' os (joins o x (kept o.reach x.grow (is_bare o.kind) (Close op p)) y.grow) k y cs ts (joined_reached o.reach x.by (place_in o.place) (is_bare o.kind) op p x.grow y.grow n)
           ∙ sym (grown_end o o' os x y cs op p ts) ∙ r,
+      (
+          let outer = unless_reached o'.reach _ (holds.around.1.0 n) a.1.0 in
+          hold_nested b c o o' os x y _ cs (i, o.place) n (nest_weight x.by op (place_in o.place) p (is_bare o.kind) z.met x y g.sized outer.sized) (h.keeps holds.bare.0 holds.bare.1) holds
+          ),
     )
 
 -- the end of a block that wasn't
 pub end_dropped : (m : Meaning) (b c : List Seq) (o o' : Open) (os : List Open) (op : Seen) (p : Option ℕ) (ts : List Tree) (w : Tree)
-    → ((l : List Seq) → Later c (ids_of (o' ∷ os)) l → Later b (o.seq ∷ ids_of (o' ∷ os)) l) → length b ≤ length c → o.reach ≡ Dropped
+    → ((l : List Seq) → Later c (ids_of (o' ∷ os)) l → Later b (o.seq ∷ ids_of (o' ∷ os)) l) → length b ≤ length c
+    → (instrs_at b o.seq ≡ [] → AreBare b (ids_of (o' ∷ os)) → Keeps b c o (ids_of (o' ∷ os))) → o.reach ≡ Dropped
     → Reads m false b (o ∷ (o' ∷ os)) (prepend Ends op p ts) w → Reads m false c (o' ∷ os) ts w
-end_dropped m b c o o' os op p ts w weak more e ([], a, r) = absurd a
-end_dropped m b c o o' os op p ts w weak more e (x ∷ [], a, r) = absurd a.1
-end_dropped m b c o o' os op p ts w weak more e (x ∷ (y ∷ cs), a, r) = (
+end_dropped m b c o o' os op p ts w weak more keeps e ([], a, r, h) = absurd a
+end_dropped m b c o o' os op p ts w weak more keeps e (x ∷ [], a, r, h) = absurd a.1
+end_dropped m b c o o' os op p ts w weak more keeps e (x ∷ (y ∷ cs), a, r, h) = (
   y ∷ cs,
   sound_on m (o' ∷ os) b c (o.seq ∷ ids_of (o' ∷ os)) (ids_of (o' ∷ os)) (y ∷ cs) weak more a.1,
   outer_joined o' os (joins o x (kept o.reach x.grow (is_bare o.kind) (Close op p)) y.grow) y.grow y cs ts (joined_dropped o.reach x.by (place_in o.place) _ y.grow e)
       ∙ sym (grown_end o o' os x y cs op p ts) ∙ r,
+  hold_left b c o o' os x y cs e (keeps h.bare.0 h.bare.1) h,
 )
 
 pub plain_closing : (m : Meaning) (b : List Seq) (ids : List ℕ) (o : Open) (op : Seen) (p : Option ℕ) (f : Finish) (e : InstrLocId) → IsEnd m op p f e → Falling (length b) (o.seq ∷ ids) → is_bare o.kind ≡ false
@@ -167,6 +192,7 @@ pub plain_closing : (m : Meaning) (b : List Seq) (ids : List ℕ) (o : Open) (op
 plain_closing m b ids o op p f e k fa bare = record {
   weak = later_filled o.instrs e b o.seq ids;
   more = omega (arith, length_edited (filled_with o.instrs e) b o.seq);
+  keeps = λ own others. record { bare = bare_filled o.instrs e b o.seq ids fa.1 others; total_is = total_filled o.instrs e b o.seq fa.0 own };
   closes = λ before x g.
       let T : Bool → Type 0 = λ w. Closes m b (edited (filled_with o.instrs e) b o.seq) ids ids o before o.turns f (x.grow (closed w op p)) in
       subst T (sym bare) (plain_closes m b ids ids o op p f e before x k fa.0 fa.1 g);
@@ -182,6 +208,10 @@ bare_closing m b ids o op p e k fa bare =
     record {
       weak = λ l h. later_filled o.instrs e b o.seq ids l (later_added b1 x ids l h);
       more = omega (arith, length_edited f b o.seq, length_begun b1 x);
+      keeps = λ own others. record {
+        bare = bare_begun b1 (length b1) o.ty ids (bare_filled o.instrs e b o.seq ids fa.1 others);
+        total_is = total_begun b1 (length b1) o.ty ∙ total_filled o.instrs e b o.seq fa.0 own;
+      };
       closes = λ before y g.
           let T : Bool → Type 0 = λ w. Closes m b (b1 ++ x ∷ []) ids ids o before (o.turns ++ part Otherwise (length b1) ∷ []) Ended (y.grow (closed w op p)) in
           subst T (sym bare) (bare_closes m b ids ids o p e before y k fa.0 (falling_up o.seq (length b) ids (let q = fa.0 in omega (arith, q)) fa.1) fa.1 g);
@@ -196,16 +226,22 @@ kept_reached Dropped g w op p n = absurd n
 
 pub body_reads : (m : Meaning) (b : List Seq) (o : Open) (op : Seen) (p : Option ℕ) (e : InstrLocId) (ts : List Tree) (w : Tree) → IsEnd m op p Ended e → Falling (length b) (o.seq ∷ []) → IsBody o
     → Reads m false b (o ∷ []) (prepend Ends op p ts) w → StandsAs m (edited (filled_with o.instrs e) b o.seq) w
-body_reads m b o op p e ts w k fa h ([], a, r) = absurd a
-body_reads m b o op p e ts w k fa h (x ∷ (y ∷ cs), a, r) = absurd a.1
-body_reads m b o op p e ts w k fa h (x ∷ [], a, r) =
+body_reads m b o op p e ts w k fa h ([], a, r, holds) = absurd a
+body_reads m b o op p e ts w k fa h (x ∷ (y ∷ cs), a, r, holds) = absurd a.1
+body_reads m b o op p e ts w k fa h (x ∷ [], a, r, holds) =
     let c = edited (filled_with o.instrs e) b o.seq in
-    let z = plain_closes m b [] [] o op p Ended e none x k fa.0 fa.1 (unless_reached o.reach _ h.reached a.0) in
+    let g = unless_reached o.reach _ h.reached a.0 in
+    let z = plain_closes m b [] [] o op p Ended e none x k fa.0 fa.1 g in
     let is : x.grow (Close op (end_place op p)) ≡ w = ap (λ (v : Bool). x.grow (closed v op p)) (sym (ap is_bare h.kind)) ∙ sym (kept_reached o.reach x.grow (is_bare o.kind) op p h.reached) ∙ r in
     let A : ℕ → Type 0 = λ k. Enters m c [] k o.ty none o.turns Ended (x.grow (Close op (end_place op p))) z.met in
     let B : List Part → Type 0 = λ ms. Enters m c [] 0 o.ty none ms Ended (x.grow (Close op (end_place op p))) z.met in
     let C : Tree → Type 0 = λ t. Enters m c [] 0 o.ty none [] Ended t z.met in
-    record { ty = o.ty; done = z.met; enters = subst C is (subst B h.turns (subst A h.first (z.enters c (later_now c [])))) }
+    record {
+      ty = o.ty;
+      done = z.met;
+      enters = subst C is (subst B h.turns (subst A h.first (z.enters c (later_now c []))));
+      just = hold_ended b o x e h.reached fa.0 holds ∙ (let s = g.sized (Close op (end_place op p)) in omega (arith, s)) ∙ ap tree_size is;
+    }
 
 -- ---- before the first operator
 
@@ -224,6 +260,7 @@ start_grows m b o by one first seq turns empty s at typed = record {
       subst T (sym turns) (subst A (sym first) (record { seq = x; fresh = refl; found = at_zero; typed = known; lie = subst K seq (subst F (sym is) lie) }));
   fresh = λ j l. with_met 0 j none (omega (arith, l, one));
   begun = tt;
+  sized = λ t. omega arith;
 }
   where
     start_type : (later : List Seq) (x s : Seq) (ty : InstrSeqType) → slice_get later 0 ≡ Some x → type_at later 0 ≡ type_at b 0 → slice_get b 0 ≡ Some s → s.ty ≡ ty → x.ty ≡ ty
@@ -235,11 +272,12 @@ unfolding structure_rows
 grown_start o by [] e q = refl
 grown_start o by (t ∷ ts) e q = ap (λ (r : Reach). kept r (λ v. v) (is_bare o.kind) t) e ∙ ap (λ (w : Bool). normal_from same t w false) q
 
-pub starts : (m : Meaning) (b : List Seq) (o : Open) (ts : List Tree) (s : Seq) → length b ≡ 1 → IsBody o → o.seq ≡ 0 → o.instrs ≡ [] → o.reach ≡ Live → slice_get b 0 ≡ Some s → s.ty ≡ o.ty
+pub starts : (m : Meaning) (b : List Seq) (o : Open) (ts : List Tree) (s : Seq) → length b ≡ 1 → total b ≡ 0 → IsBody o → o.seq ≡ 0 → o.instrs ≡ [] → o.reach ≡ Live → slice_get b 0 ≡ Some s → s.ty ≡ o.ty
     → Reads m false b (o ∷ []) ts (normal_from same (innermost ts) false false)
-starts m b o ts s one h seq empty live at typed =
+starts m b o ts s one none_yet h seq empty live at typed =
     let F : Reach → Type 0 = λ r. Unless r (Grows m b (o.seq ∷ []) [] o none (record { grow = λ t. t; met = with 0 none; by = end_op })) in (
       record { grow = λ t. t; met = with 0 none; by = end_op } ∷ [],
       (subst F (sym live) (start_grows m b o end_op one h.first seq h.turns empty s at typed), tt),
       grown_start o end_op ts live (ap is_bare h.kind),
+      hold_start b o _ one none_yet empty refl,
     )

@@ -1,6 +1,7 @@
 pub mod Stands
 pub mod Opens
 pub mod Seqs
+pub mod Sizes
 pub mod Grown
 pub mod Turning
 pub mod Ending

@@ -1,5 +1,5 @@
 -- Open sequences of a body that is read, and the tree that they grow into.
-use Rattle.std.specs.Prelude.{◌≡◌, ◌≢◌, ℕ, ◌<◌, ◌≤◌, Bool, true, false, List, [], ◌∷◌, ◌++◌, length, Option, Some, Ok, slice_get}
+use Rattle.std.specs.Prelude.{◌≡◌, ◌≢◌, ℕ, zero, suc, ◌+◌, ◌<◌, ◌≤◌, Bool, true, false, List, [], ◌∷◌, ◌++◌, length, Option, Some, Ok, slice_get}
 use Rattle.std.specs.Option.{option_map}
 use Rattle.std.specs.Global.{Vec}
 use Rattle.walrus_body_env.specs.walrus_instr.declared.instr.Instr.{Instr}
@@ -18,7 +18,7 @@ use Rattle.walrus_body_nesting.specs.declared.frames.Opener.{Opener}
 use Rattle.walrus_body_nesting.specs.declared.frames.Opener.TheVariants as openers
 use Rattle.walrus_body_nesting.specs.declared.frames.Reach.{Reach}
 use Rattle.walrus_body_nesting.specs.declared.frames.Reach.TheVariants.{Live, Cut, Dropped}
-use Rattle.walrus_body_nesting.specs.Stands.{Turn, Otherwise, Part, part, Finish, Ended, Block, parts_of, finish_of, EndsOnce, Meaning, place_in, none, lies, Enters, StandsAs}
+use Rattle.walrus_body_nesting.specs.Stands.{Turn, Otherwise, Part, part, Finish, Ended, Block, parts_of, finish_of, EndsOnce, Meaning, place_in, none, lies, Enters, StandsAs, total, tree_size}
 
 -- an open sequence: what opened its block, where, and the block's type and first sequence; itself, what kind of part it is and the parts
 -- begun behind the first one; whether what comes next is reached; its instructions
@@ -163,6 +163,10 @@ abbrev pub Begun : Meaning → List ℕ → Opener → InstrSeqType → Seen →
 Begun m [] g ty by = Unit {0}
 Begun m (k ∷ around) g ty by = IsBegun m (k ∷ around) g ty by
 
+-- what is made of what follows has, beside that, what was read so far
+abbrev pub IsSized : (Tree → Tree) → Type 0
+IsSized grow = (t : Tree) → tree_size (grow t) ≡ tree_size (grow nothing) + tree_size t
+
 -- whatever follows: if it lies behind the open sequence's instructions, then the whole block stands
 pub record Grows (m : Meaning) (b : List Seq) (ids around : List ℕ) (o : Open) (before : ℕ → Bool) (c : Grower) : Type 0 where
   pub grows : (later : List Seq) → Later b ids later → (s : Seq) (more : List (Instr × InstrLocId)) → slice_get later o.seq ≡ Some s → s.instrs ≡ o.instrs ++ more
@@ -170,6 +174,7 @@ pub record Grows (m : Meaning) (b : List Seq) (ids around : List ℕ) (o : Open)
       → Enters m later around o.first o.ty before (o.turns ++ ms) f (c.grow t) done
   pub fresh : (j : ℕ) → length b ≤ j → c.met j ≡ false
   pub begun : Begun m around o.opener o.ty c.by
+  pub sized : IsSized c.grow
 
 abbrev pub Unless : Reach → Type 0 → Type 0
 Unless Live A = A
@@ -206,10 +211,51 @@ abbrev pub Shaped : List Seq → List Open → Type 0
 Shaped b [] = ⊥
 Shaped b (o ∷ os) = Falling (length b) (ids_of (o ∷ os)) × EndsIn o os
 
+-- ---- how many instructions there are
+
+-- those of what was read of a block so far
+abbrev pub weight : Grower → ℕ
+weight c = tree_size (c.grow nothing)
+
+abbrev pub weight_in : Reach → Grower → ℕ
+weight_in Live c = weight c
+weight_in Cut c = weight c
+weight_in Dropped c = 0
+
+abbrev pub weights : List Open → List Grower → ℕ
+weights (o ∷ os) (c ∷ cs) = weight_in o.reach c + weights os cs
+weights _ _ = 0
+
+-- those of open sequences
+abbrev pub held : List Open → ℕ
+held [] = 0
+held (o ∷ os) = length o.instrs + held os
+
+abbrev pub instrs_at : List Seq → ℕ → List (Instr × InstrLocId)
+instrs_at [] k = []
+instrs_at (s ∷ b) zero = s.instrs
+instrs_at (s ∷ b) (suc k) = instrs_at b k
+
+-- these hold none, while they are open
+abbrev pub AreBare : List Seq → List ℕ → Type 0
+AreBare b [] = Unit {0}
+AreBare b (k ∷ ks) = (instrs_at b k ≡ []) × AreBare b ks
+
+-- what is around one that is reached is reached, too
+abbrev pub AreAround : Reach → List Open → Type 0
+AreAround r [] = Unit {0}
+AreAround r (o ∷ os) = (IsReached r → IsReached o.reach) × AreAround o.reach os
+
+-- what was read of the open blocks is all that the sequences hold
+pub record Holds (b : List Seq) (os : List Open) (cs : List Grower) : Type 0 where
+  pub bare : AreBare b (ids_of os)
+  pub around : AreAround Dropped os
+  pub sums : weights os cs ≡ total b + held os
+
 -- with what is to come of these sequences, the body will stand as the tree; or, closed, it does
 abbrev pub Reads : Meaning → Bool → List Seq → List Open → List Tree → Tree → Type 0
 Reads m true b os ts w = StandsAs m b w
-Reads m false b os ts w = (cs : List Grower) × AreSound m os b (ids_of os) cs × (grown os cs ts ≡ w)
+Reads m false b os ts w = (cs : List Grower) × AreSound m os b (ids_of os) cs × (grown os cs ts ≡ w) × Holds b os cs
 
 abbrev pub Good : Bool → List Seq → List Open → Type 0
 Good true b os = Unit {0}

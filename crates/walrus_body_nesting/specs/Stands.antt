@@ -1,5 +1,5 @@
 -- When sequences stand as a tree.
-use Rattle.std.specs.Prelude.{◌≡◌, ℕ, ◌==◌, Bool, true, false, List, [], ◌∷◌, Option, Some, None, if◌then◌else◌, slice_get}
+use Rattle.std.specs.Prelude.{◌≡◌, ℕ, ◌+◌, ◌==◌, length, Bool, true, false, List, [], ◌∷◌, Option, Some, None, if◌then◌else◌, slice_get}
 use Rattle.walrus_body_env.specs.walrus_instr.declared.instr.Instr.{Instr}
 use Rattle.walrus_body_env.specs.walrus_instr.declared.instr.LegacyCatch.{LegacyCatch}
 use Rattle.walrus_body_env.specs.walrus_instr.declared.instr.LegacyCatch.TheVariants as legacy
@@ -7,7 +7,7 @@ use Rattle.walrus_body_env.specs.walrus_instr.declared.seq.InstrLocId.{InstrLocI
 use Rattle.walrus_body_env.specs.walrus_instr.declared.seq.InstrSeqType.{InstrSeqType}
 use Rattle.walrus_builder.specs.Built.{Seq}
 use Rattle.wasm_body_grammar.specs.wasm_operators.Operators.{Seen}
-use Rattle.wasm_normal_form.specs.Trees.{Tree, Close, Arm, Run, Nest}
+use Rattle.wasm_normal_form.specs.Trees.{Tree, Close, Arm, Skip, Run, Nest}
 
 -- what begins a further part of a block: an `else`, or the `catch` of a tag, or `catch_all`, of a legacy `try`
 pub data Turn : Type 0 where
@@ -102,8 +102,22 @@ pub record Enters (m : Meaning) (b : List Seq) (around : List ℕ) (k : ℕ) (ty
   pub typed : seq.ty ≡ ty
   pub lie : lies m t b around k ty (with k met) seq.instrs seq.end ms f done
 
--- the sequences of a body, from its own on, stand as the tree
+-- the operators of a tree, but for those that only mark where sequences end
+abbrev pub tree_size : Tree → ℕ
+tree_size (Close o p) = 0
+tree_size (Arm o p t) = tree_size t
+tree_size (Skip o p t) = tree_size t
+tree_size (Run o p t) = tree_size t + 1
+tree_size (Nest o p u t) = tree_size u + tree_size t + 1
+
+-- the instructions of all sequences
+abbrev pub total : List Seq → ℕ
+total [] = 0
+total (s ∷ b) = length s.instrs + total b
+
+-- the sequences of a body, from its own on, stand as the tree, and what isn't entered holds nothing
 pub record StandsAs (m : Meaning) (b : List Seq) (t : Tree) : Type 0 where
   pub ty : InstrSeqType
   pub done : ℕ → Bool
   pub enters : Enters m b [] 0 ty none [] Ended t done
+  pub just : total b ≡ tree_size t

@@ -221,7 +221,7 @@ end_at m Dropped b c o v u os i op p ms f at e t k made y h =
     subst G (sym y) (record {
       shaped = shaped_left b c o v os more h;
       kinds = t;
-      means = λ ts w z. end_dropped m b c o v os op p ts w k.weak more at (as_role m b (o ∷ (v ∷ os)) op p Ends ts w e z);
+      means = λ ts w z. end_dropped m b c o v os op p ts w k.weak more k.keeps at (as_role m b (o ∷ (v ∷ os)) op p Ends ts w e z);
     })
 
 pub end_steps : (m : Meaning) (b c : List Seq) (o v u : Open) (os : List Open) (i : Instr) (op : Seen) (p : Option ℕ) (ms : List Part) (f : Finish) → role op ≡ Ends

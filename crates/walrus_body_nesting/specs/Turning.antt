@@ -12,12 +12,21 @@ use Rattle.wasm_normal_form.specs.Trees.{Tree, Arm, prepend}
 use Rattle.walrus_body_nesting.specs.declared.frames.Reach.{Reach}
 use Rattle.walrus_body_nesting.specs.declared.frames.Reach.TheVariants.{Live, Cut, Dropped}
 use Rattle.walrus_body_nesting.specs.Stands.{Turn, Part, part, Meaning, place_in, with, lies, Enters}
-use Rattle.walrus_body_nesting.specs.Opens.{Open, is_bare, ids_of, Falling, Grower, kept, joined, joins, up, grown, reach_on, turned_to, Later, Grows, Unless, before_of, Reads}
+use Rattle.walrus_body_nesting.specs.Opens.{Open, is_bare, ids_of, Falling, Grower, kept, joined, joins, up, grown, reach_on, turned_to, Later, nothing, IsSized, Grows, Unless, before_of, weight_in, Reads}
 use Rattle.walrus_body_nesting.specs.Seqs.{length_edited, length_begun, later_begun, later_filled, filled_later, last_type, fresh_begun}
-use Rattle.walrus_body_nesting.specs.Grown.{sound_on}
+use Rattle.walrus_body_nesting.specs.Sizes.{hold_turned}
+use Rattle.walrus_body_nesting.specs.Grown.{unless_map, sound_on}
 
 abbrev turn_grower : ℕ → Seen → Option ℕ → Grower → Grower
 turn_grower n op p c = record { grow = λ t. c.grow (Arm op p t); met = with n c.met; by = c.by }
+
+turn_sized : (op : Seen) (p : Option ℕ) (grow : Tree → Tree) → IsSized grow → IsSized (λ t. grow (Arm op p t))
+turn_sized op p grow h t = let a = h (Arm op p t) in let b = h (Arm op p nothing) in omega (arith, a, b)
+
+turn_weight : (r : Reach) (n : ℕ) (op : Seen) (p : Option ℕ) (c : Grower) → Unless r (IsSized c.grow) → weight_in (reach_on r) (turn_grower n op p c) ≡ weight_in r c
+turn_weight Live n op p c h = let a = h (Arm op p nothing) in omega (arith, a)
+turn_weight Cut n op p c h = let a = h (Arm op p nothing) in omega (arith, a)
+turn_weight Dropped n op p c h = refl
 
 turn_grows : (m : Meaning) (b : List Seq) (ty : InstrSeqType) (ids around : List ℕ) (o : Open) (turn : Turn) (kind : Frame) (op : Seen) (e : InstrLocId) (before : ℕ → Bool) (c : Grower)
     → o.seq < length b → Falling o.seq ids → m.turns o.ty op turn ty
@@ -42,6 +51,7 @@ turn_grows m b ty ids around o turn kind op e before c l fa turns g =
           (ap place_in (sym at.3), fresh n (omega arith), s, found, subst Y (sym (last_type b1 x (n ∷ ids) later s h found)) turns, subst F (sym items) lie));
       fresh = fresh_begun b1 x c.met fresh;
       begun = g.begun;
+      sized = turn_sized op (place_in e) c.grow g.sized;
     }
 
 -- where the block isn't reached, nothing is claimed of its parts
@@ -73,8 +83,8 @@ pub turn_reads : (m : Meaning) (b : List Seq) (ty : InstrSeqType) (o : Open) (os
     → Reads m false b (o ∷ os) (prepend Turns op (place_in e) ts) w
     → Reads m false (edited (filled_with o.instrs e) b o.seq ++ empty_seq (length (edited (filled_with o.instrs e) b o.seq)) ty ∷ [])
     (turned_to turn (length (edited (filled_with o.instrs e) b o.seq)) kind o ∷ os) ts w
-turn_reads m b ty o os turn kind op e ts w fa bare x ([], a, r) = absurd a
-turn_reads m b ty o os turn kind op e ts w fa bare x (c ∷ cs, a, r) =
+turn_reads m b ty o os turn kind op e ts w fa bare x ([], a, r, h) = absurd a
+turn_reads m b ty o os turn kind op e ts w fa bare x (c ∷ cs, a, r, h) =
     let b1 = edited (filled_with o.instrs e) b o.seq in
     let s = empty_seq (length b1) ty in (
       turn_grower (length b1) op (place_in e) c ∷ cs,
@@ -84,4 +94,5 @@ turn_reads m b ty o os turn kind op e ts w fa bare x (c ∷ cs, a, r) =
             (λ later h. later_filled o.instrs e b o.seq (ids_of os) later (later_begun b1 s (ids_of os) later h)) (omega (arith, length_begun b1 s, length_edited (filled_with o.instrs e) b o.seq)) a.1,
       ),
       grown_turn (length b1) turn kind op (place_in e) o os c cs ts bare ∙ r,
+      hold_turned b ty o os c _ cs turn kind e fa (turn_weight o.reach (length b1) op (place_in e) c (unless_map o.reach _ _ (λ g. g.sized) a.0)) h,
     )

@@ -27,7 +27,7 @@ use Rattle.walrus_body_locals.specs.walrus_body_nesting.declared.frames.Opener.T
 use Rattle.walrus_body_locals.specs.walrus_body_nesting.declared.frames.Reach.TheVariants.{Live}
 use Rattle.walrus_body_locals.specs.walrus_body_nesting.Opens.{Open, Grower, begun, ids_of, kinds_of, left_kinds, same, type_at, IsReached, AreSound, Shaped, Good, Reads}
 use Rattle.walrus_body_locals.specs.walrus_body_nesting.Ending.{unless_reached}
-use Rattle.walrus_body_locals.specs.walrus_body_nesting.Stands.{StandsAs}
+use Rattle.walrus_body_locals.specs.walrus_body_nesting.Stands.{StandsAs, total}
 use Rattle.walrus_body_operands.specs.walrus_body_stack.declared.stack.Stack.{Stack}
 use Rattle.walrus_body_operands.specs.walrus_body_stack.Frames.{inner, around, opens, blocks}
 use Rattle.walrus_body_operands.specs.walrus_body_rules.Sights.{Sight}
@@ -89,10 +89,10 @@ module _ {V : Type 0} (s : Sight) (told : Validating V) (code : ℕ) (old : Curs
     pub within : IsWithin now
     pub begins : code ≤ now.window.start + now.position
 
-  pub goes_start : (stack : Stack) (ty : InstrSeqType) → length (blocks stack) ≡ 1 → type_at (blocks stack) 0 ≡ Some ty → opens stack ≡ begun openers.Block no_place ty Plain 0 Live ∷ []
+  pub goes_start : (stack : Stack) (ty : InstrSeqType) → length (blocks stack) ≡ 1 → total (blocks stack) ≡ 0 → type_at (blocks stack) 0 ≡ Some ty → opens stack ≡ begun openers.Block no_place ty Plain 0 Live ∷ []
       → IsWithin old → code ≤ old.window.start + old.position → Goes false (blocks stack) (opens stack) old v
-  goes_start stack ty one typed is within begins =
-      let start = bodies_start s stack ty one typed is in
+  goes_start stack ty one none typed is within begins =
+      let start = bodies_start s stack ty one none typed is in
       record {
         ops = [];
         passed = (refl, refl);

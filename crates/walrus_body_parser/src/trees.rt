@@ -5,6 +5,7 @@ ghost use Rattle.wasm_reader.specs.Cursor.{IsWithin, end_of};
 ghost use Rattle.walrus_body_operands.specs.walrus_body_stack.walrus_builder.Built.{contents};
 ghost use Rattle.walrus_body_operands.specs.walrus_body_stack.walrus_builder.Functions.{seqs_of};
 ghost use Rattle.walrus_body_locals.specs.walrus_body_nesting.Opens.{type_at};
+ghost use Rattle.walrus_body_locals.specs.walrus_body_nesting.Stands.{total};
 ghost use Rattle.walrus_body_operands.specs.walrus_body_stack.Frames.{heading};
 ghost use Rattle.walrus_body_parser.specs.Trees.{ReadsTree, RefusesTree, validating};
 
@@ -35,6 +36,7 @@ pub fn read_tree<S: Scope, V: Validator>(
     code_start: u64,
 ) -> Result<FunctionBuilder, BodyError>
     requires empty { length (seqs_of builder) ≡ 1 }
+    requires bare { total (contents builder.builder) ≡ 0 }
     requires within { IsWithin body }
     requires begins { code_start ≤ body.window.start + body.position }
     requires ends { end_of body < code_start + 4294967295 }

@@ -14,7 +14,7 @@ use Rattle.walrus_body_stack.specs.wasm_normal_form.Normal.{normal}
 use Rattle.walrus_body_stack.specs.walrus_body_nesting.declared.frames.Opener.{Opener}
 use Rattle.walrus_body_stack.specs.walrus_body_nesting.declared.frames.Opener.TheVariants as openers
 use Rattle.walrus_body_stack.specs.walrus_body_nesting.declared.frames.Reach.TheVariants.{Live}
-use Rattle.walrus_body_stack.specs.walrus_body_nesting.Stands.{Otherwise, Handles, HandlesAll, place_in}
+use Rattle.walrus_body_stack.specs.walrus_body_nesting.Stands.{Otherwise, Handles, HandlesAll, place_in, total}
 use Rattle.walrus_body_stack.specs.walrus_body_nesting.Opens.{ids_of, ran, reach_on, begun, type_at, same, Unless, Shaped, Reads, Steps}
 use Rattle.walrus_body_stack.specs.declared.stack.Stack.{Stack}
 use Rattle.walrus_body_stack.specs.Frames.{inner, around, opens, blocks, IsOpened, IsTurned, IsEnded, IsHanded, IsTrying, other_test, handler_test}
@@ -27,7 +27,7 @@ StepOf s op p old done new = Steps (meaning s) op (place_in p) (blocks old) (ope
 
 -- before the first operator: whatever comes, the body will stand as the normal form of its tree, block types as they are written
 abbrev pub BodiesStart : Type 0
-BodiesStart = (s : Sight) (new : Stack) (ty : InstrSeqType) → length (blocks new) ≡ 1 → type_at (blocks new) 0 ≡ Some ty → opens new ≡ begun openers.Block no_place ty Plain 0 Live ∷ []
+BodiesStart = (s : Sight) (new : Stack) (ty : InstrSeqType) → length (blocks new) ≡ 1 → total (blocks new) ≡ 0 → type_at (blocks new) 0 ≡ Some ty → opens new ≡ begun openers.Block no_place ty Plain 0 Live ∷ []
     → (Shaped (blocks new) (opens new)) × ((ops : List Placed) → Reads (meaning s) false (blocks new) (opens new) (open_in ops) (normal same (tree_of ops)))
 
 abbrev pub PassesAreSteps : Type 0

@@ -1,5 +1,5 @@
 -- What stands as a normal form with block types as they are written stands as it with their picks.
-use Rattle.std.proofs.Common.{ℕ, ◌≡◌, Bool, true, false, List, [], ◌∷◌, map, refl, ap, subst, ◌∙◌}
+use Rattle.std.proofs.Common.{ℕ, ◌+◌, ◌≡◌, Bool, true, false, List, [], ◌∷◌, map, refl, sym, ap, subst, ◌∙◌}
 use Rattle.walrus_body_stack.specs.walrus_instr.declared.instr.Instr.{Instr}
 use Rattle.walrus_body_stack.specs.walrus_instr.declared.seq.InstrLocId.{InstrLocId}
 use Rattle.walrus_body_stack.specs.walrus_instr.declared.seq.InstrSeqType.{InstrSeqType}
@@ -11,7 +11,7 @@ use Rattle.walrus_body_stack.specs.wasm_normal_form.Trees.{Tree, Close, Arm, Ski
 use Rattle.walrus_body_stack.specs.wasm_normal_form.Normal.{with_pick, picked, normal_from, normal}
 use Rattle.walrus_body_stack.specs.walrus_body_nesting.declared.frames.Opener.{Opener}
 use Rattle.walrus_body_stack.specs.walrus_body_nesting.declared.frames.Opener.TheVariants as openers
-use Rattle.walrus_body_stack.specs.walrus_body_nesting.Stands.{Part, Finish, lies, StandsAs}
+use Rattle.walrus_body_stack.specs.walrus_body_nesting.Stands.{Part, Finish, lies, StandsAs, tree_size}
 use Rattle.walrus_body_stack.specs.walrus_body_nesting.Opens.{same}
 use Rattle.walrus_body_rules.specs.Sights.{Sight, written_block}
 use Rattle.walrus_body_steps.specs.Meanings.{IsOpener, OpensOf, meaning}
@@ -32,6 +32,13 @@ with_picks pick (Arm o p t) = Arm o p (with_picks pick t)
 with_picks pick (Skip o p t) = Skip o p (with_picks pick t)
 with_picks pick (Run o p t) = Run o p (with_picks pick t)
 with_picks pick (Nest o p u t) = Nest (picked pick o) p (with_picks pick u) (with_picks pick t)
+
+pub picked_size : (pick : BlockType → BlockType) (t : Tree) → tree_size (with_picks pick t) ≡ tree_size t
+picked_size pick (Close o p) = refl
+picked_size pick (Arm o p t) = picked_size pick t
+picked_size pick (Skip o p t) = picked_size pick t
+picked_size pick (Run o p t) = ap (λ (n : ℕ). n + 1) (picked_size pick t)
+picked_size pick (Nest o p u t) = ap (λ (n : ℕ). n + tree_size (with_picks pick t) + 1) (picked_size pick u) ∙ ap (λ (n : ℕ). tree_size u + n + 1) (picked_size pick t)
 
 pub normal_picked : (pick : BlockType → BlockType) (t : Tree) (bare dropped : Bool) → with_picks pick (normal_from same t bare dropped) ≡ normal_from pick t bare dropped
 normal_picked pick (Close o p) true dropped = refl
@@ -96,4 +103,5 @@ picks_stand s pick b t alike stands =
       ty = stands.ty;
       done = stands.done;
       enters = record { seq = n.seq; fresh = n.fresh; found = n.found; typed = n.typed; lie = lies_picked s pick (normal same t) b [] 0 stands.ty _ n.seq.instrs n.seq.end [] _ stands.done alike n.lie };
+      just = stands.just ∙ sym (picked_size pick (normal same t));
     })

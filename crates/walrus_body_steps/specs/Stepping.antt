@@ -17,7 +17,7 @@ use Rattle.walrus_body_stack.specs.walrus_body_nesting.declared.frames.Opener.{O
 use Rattle.walrus_body_stack.specs.walrus_body_nesting.declared.frames.Opener.TheVariants as openers
 use Rattle.walrus_body_stack.specs.walrus_body_nesting.declared.frames.Reach.{Reach}
 use Rattle.walrus_body_stack.specs.walrus_body_nesting.declared.frames.Reach.TheVariants.{Live, Cut, Dropped}
-use Rattle.walrus_body_stack.specs.walrus_body_nesting.Stands.{Turn, Otherwise, Handles, HandlesAll, Part, part, Finish, Ended, Delegated, block, place_in}
+use Rattle.walrus_body_stack.specs.walrus_body_nesting.Stands.{Turn, Otherwise, Handles, HandlesAll, Part, part, Finish, Ended, Delegated, block, place_in, total}
 use Rattle.walrus_body_stack.specs.walrus_body_nesting.Opens.{Open, is_bare, ids_of, kinds_of, same, reach_in, reach_on, begun, Unless, IsBegun, Makes, IsBody, Shaped, Reads, Steps, type_at}
 use Rattle.walrus_body_stack.specs.walrus_body_nesting.Ending.{IsEnd, IsBareEnd, Closing, plain_closing, bare_closing, starts}
 use Rattle.walrus_body_stack.specs.walrus_body_nesting.Steps.{steps_as, nop_steps, run_steps, begin_steps, turn_steps, end_steps, body_steps}
@@ -67,20 +67,20 @@ unless Dropped A x = tt
 some_type : (x y : InstrSeqType) → (let some : InstrSeqType → Option InstrSeqType = λ t. Some t in some x ≡ some y) → x ≡ y
 some_type x y e = cc
 
-start_reads : (s : Sight) (b : List Seq) (ty : InstrSeqType) (ops : List Placed) → length b ≡ 1 → type_at b 0 ≡ Some ty
+start_reads : (s : Sight) (b : List Seq) (ty : InstrSeqType) (ops : List Placed) → length b ≡ 1 → total b ≡ 0 → type_at b 0 ≡ Some ty
     → Reads (meaning s) false b (begun openers.Block no_place ty Plain 0 Live ∷ []) (open_in ops) (normal same (tree_of ops))
-start_reads s [] ty ops e t = absurd (omega (arith, e))
-start_reads s (x ∷ b) ty ops e t =
-    starts (meaning s) (x ∷ b) (begun openers.Block no_place ty Plain 0 Live) (open_in ops) x e (record { first = refl; turns = refl; kind = refl; reached = tt }) refl refl refl refl (some_type x.ty ty t)
+start_reads s [] ty ops e n t = absurd (omega (arith, e))
+start_reads s (x ∷ b) ty ops e n t =
+    starts (meaning s) (x ∷ b) (begun openers.Block no_place ty Plain 0 Live) (open_in ops) x e n (record { first = refl; turns = refl; kind = refl; reached = tt }) refl refl refl refl (some_type x.ty ty t)
 
 pub bodies_start : BodiesStart
-bodies_start s new ty one typed is =
+bodies_start s new ty one none typed is =
     let b = blocks new in
     let o : Open = begun openers.Block no_place ty Plain 0 Live in
     let S : List Open → Type 0 = λ os. Shaped b os in
     let R : List Placed → List Open → Type 0 = λ ops os. Reads (meaning s) false b os (open_in ops) (normal same (tree_of ops)) in
     let body : IsBody o = record { first = refl; turns = refl; kind = refl; reached = tt } in
-    (subst S (sym is) ((omega (arith, one), tt), body), λ ops. subst (R ops) (sym is) (start_reads s b ty ops one typed))
+    (subst S (sym is) ((omega (arith, one), tt), body), λ ops. subst (R ops) (sym is) (start_reads s b ty ops one none typed))
 
 pub passes_are_steps : PassesAreSteps
 passes_are_steps s old op p e h = nop_steps (meaning s) (blocks old) (opens old) op (place_in p) e h

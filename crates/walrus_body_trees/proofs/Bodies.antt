@@ -1,5 +1,5 @@
 -- Lemmas: bodies that meet the grammar.
-use Rattle.std.proofs.Common.{◌≡◌, ℕ, ◌<◌, Bool, true, false, List, [], ◌∷◌, ◌++◌, All, subst, map, refl, ap, ◌∙◌}
+use Rattle.std.proofs.Common.{◌≡◌, ℕ, ◌<◌, Bool, true, false, List, [], ◌∷◌, ◌++◌, All, subst, map, refl, sym, ap, ◌∙◌}
 use Rattle.std.specs.Prelude.{fold}
 use Rattle.std.proofs.lemmas.List.Elements.{All-nil, All-cons, All-head, All-tail}
 use Rattle.wasm_features.specs.declared.WasmFeatures.{WasmFeatures}
@@ -18,13 +18,15 @@ use Rattle.walrus_builder.specs.Functions.{seqs_of}
 use Rattle.walrus_tree.specs.Text.{operators}
 use Rattle.walrus_tree.specs.TextLaws.{TreesAreNested, TextIsPlain}
 use Rattle.walrus_meaning.specs.Bodies.{own_piece}
+use Rattle.wasm_immediates.specs.declared.block_type.BlockType.{BlockType}
 use Rattle.walrus_operator_laws.specs.Laws.{OperatorComesBack}
 use Rattle.walrus_body_nesting.specs.Opens.{same}
-use Rattle.walrus_body_trees.specs.Laws.{BodiesAreTrees, BodiesMeanTheirs, IsBody, meant, ops_of, renamed}
+use Rattle.walrus_body_trees.specs.Laws.{BodiesAreTrees, BodiesMeanTheirs, BodiesHoldTheirs, IsBody, meant, ops_of, renamed}
 use Rattle.walrus_body_trees.proofs.Counted.{AllFit, Counts, CountsAll, counts, first_counts, normal_counts}
 use Rattle.walrus_body_trees.proofs.Standing.{stands_tree}
 use Rattle.walrus_meaning.specs.walrus_local_function.walrus_body_parser.walrus_body_steps.Picks.{normal_picked}
 use Rattle.walrus_body_trees.proofs.Texts.{body_tells, first_fits, fit_all, normal_fits}
+use Rattle.walrus_body_trees.proofs.Sizes.{body_size}
 
 abbrev AreSpelled : Type 0
 AreSpelled = (features : WasmFeatures) → SpelledIfFits (SpellsOperator features) operator_bytes (OperatorFits features)
@@ -61,17 +63,17 @@ known spelled a params place bytes parts (small, spells, rules) =
     let fits = fit spelled a locals parts.1 (opened parts.0.0) spells.1 bytes_are.1 spells.4 in
     record { fits = fits; counts = counts a locals a.features parts.1 (opened parts.0.0) spells.1 fits spells.4 rules.1.0 parts.0.0 }
 
-normal_counted : (a : Around) (parts : Parts) → Known a parts → Counts a.features 1 (normal same (tree_of (ops_of parts)))
-normal_counted a parts k = normal_counts a.features same (tree_of (ops_of parts)) 1 false false (first_counts a 0 a.features (open_in (ops_of parts)) 1 k.counts)
+normal_counted : (a : Around) (pick : BlockType → BlockType) (parts : Parts) → Known a parts → Counts a.features 1 (normal pick (tree_of (ops_of parts)))
+normal_counted a pick parts k = normal_counts a.features pick (tree_of (ops_of parts)) 1 false false (first_counts a 0 a.features (open_in (ops_of parts)) 1 k.counts)
 
 pub trees : OperatorComesBack → AreSpelled → BodiesAreTrees
 trees back spelled a params place bytes parts is_body s b stands =
-    stands_tree back a.features s b _ (normal_counted a parts (known spelled a params place bytes parts is_body)) stands
+    stands_tree back a.features s b _ (normal_counted a same parts (known spelled a params place bytes parts is_body)) stands
 
 pub means : OperatorComesBack → AreSpelled → TreesAreNested → TextIsPlain → BodiesMeanTheirs
 means back spelled nested plain a params place bytes parts is_body s r pick naming own local stands =
     let k = known spelled a params place bytes parts is_body in
-    let c = normal_counted a parts k in
+    let c = normal_counted a same parts k in
     let t = tree_of (ops_of parts) in
     let b = seqs_of local.builder in
     let n = nested b 0 (stands_tree back a.features s b (normal same t) c stands) in
@@ -83,3 +85,10 @@ means back spelled nested plain a params place bytes parts is_body s r pick nami
     twice : {A B C : Type 0} (f : A → B) (g : B → C) (xs : List A) → map g (map f xs) ≡ map (λ x. g (f x)) xs
     twice f g [] = refl
     twice f g (x ∷ xs) = ap (λ l. g (f x) ∷ l) (twice f g xs)
+
+pub holds : OperatorComesBack → AreSpelled → TreesAreNested → TextIsPlain → BodiesHoldTheirs
+holds back spelled nested plain a params place bytes parts is_body s pick b stands =
+    let c = normal_counted a pick parts (known spelled a params place bytes parts is_body) in
+    let t = normal pick (tree_of (ops_of parts)) in
+    let n = nested b 0 (stands_tree back a.features s b t c stands) in
+    body_size back plain a.features s b n.rank n.is_rank t c stands n.ranked ∙ sym stands.just

@@ -4,4 +4,5 @@ mod Standing
 mod Shapes
 mod Words
 mod Texts
+mod Sizes
 mod Bodies

@@ -110,6 +110,14 @@ seen_at [] k x e = absurd cc
 seen_at (y ∷ b) zero x e = (y, refl, let f = e in cc)
 seen_at (y ∷ b) (suc k) x e = seen_at b k x e
 
+-- the first sequence of a body lies as the tree
+pub body_lies : (s : Sight) (b : List InstrSeq) (t : OpTree) (h : StandsAs (meaning s) (map seq_of b) t)
+    → (y : InstrSeq) × (slice_get b 0 ≡ Some y) × lies (meaning s) t (map seq_of b) [] 0 h.ty (with 0 none) y.instrs.items y.end [] Ended h.done
+body_lies s b t h =
+    let n = h.enters in
+    let y = seen_at b 0 n.seq n.found in
+    (y.0, y.1, subst (λ (z : Seq). lies (meaning s) t (map seq_of b) [] 0 h.ty (with 0 none) z.instrs z.end [] Ended h.done) y.2 n.lie)
+
 -- ---- what lies as a tree
 
 -- the instructions of sequence k from here on, and the further parts of its block, stand as trees
@@ -214,11 +222,9 @@ module _ (back : OperatorComesBack) (features : WasmFeatures) (s : Sight) (b : L
 
   pub stands_tree : (t : OpTree) → Counts features 1 t → StandsAs (meaning s) (map seq_of b) t → IsTree b 0
   stands_tree t c h =
-      let n = h.enters in
-      let y = seen_at b 0 n.seq n.found in
-      let l = laid t [] 0 h.ty (with 0 none) y.0.instrs.items y.0.end [] Ended h.done c
-      (subst (λ (z : Seq). Lies t [] 0 h.ty (with 0 none) z.instrs z.end [] Ended h.done) y.2 n.lie) in
-      let once = new_one 0 none h.done (ids l.inner ++ ids l.outer) n.fresh l.stays l.new in
+      let y = body_lies s b t h in
+      let l = laid t [] 0 h.ty (with 0 none) y.0.instrs.items y.0.end [] Ended h.done c y.2 in
+      let once = new_one 0 none h.done (ids l.inner ++ ids l.outer) h.enters.fresh l.stays l.new in
       record {
         inside = l.inner;
         stands = (refl, y.0, y.1, l.within, l.held, tt);

@@ -47,7 +47,7 @@ use Rattle.walrus_body_trees.proofs.Counted.{AllFit, Counts}
 use Rattle.walrus_body_trees.proofs.Instrs.{seqs_in, made_children, run_stands}
 use Rattle.walrus_body_trees.proofs.Shapes.{bare_is, code_is}
 use Rattle.walrus_body_trees.proofs.Words.{run_means, nest_means}
-use Rattle.walrus_body_trees.proofs.Standing.{Stays, with_here, with_stays, not_both, seen_at, laid}
+use Rattle.walrus_body_trees.proofs.Standing.{Stays, with_here, with_stays, not_both, seen_at, body_lies, laid}
 
 -- ---- each operator of a tree fits its code
 
@@ -99,7 +99,7 @@ module _ (features : WasmFeatures) where
 
 -- ---- what stands behind sequences
 
-abbrev turn_piece : Turn → Piece
+abbrev pub turn_piece : Turn → Piece
 turn_piece Otherwise = Else
 turn_piece (Handles tag) = Catch tag
 turn_piece HandlesAll = CatchAll
@@ -132,7 +132,7 @@ made_after (openers.TryTable cs) i q h = ap after h.0 ∙ ap (λ (ms : List Part
 
 -- ---- ranks
 
-abbrev AllRanked : (ℕ → ℕ) → List ℕ → Type 0
+abbrev pub AllRanked : (ℕ → ℕ) → List ℕ → Type 0
 AllRanked rank [] = Unit {0}
 AllRanked rank (k ∷ ks) = (0 < rank k) × AllRanked rank ks
 
@@ -140,7 +140,7 @@ falls_ranked : (rank : ℕ → ℕ) (n : ℕ) (ks : List ℕ) → Falls rank n k
 falls_ranked rank n [] h = tt
 falls_ranked rank n (k ∷ ks) h = (h.0, falls_ranked rank n ks h.2)
 
-ranked_split : (rank : ℕ → ℕ) (xs ys : List ℕ) → AllRanked rank (xs ++ ys) → AllRanked rank xs × AllRanked rank ys
+pub ranked_split : (rank : ℕ → ℕ) (xs ys : List ℕ) → AllRanked rank (xs ++ ys) → AllRanked rank xs × AllRanked rank ys
 ranked_split rank [] ys h = (tt, h)
 ranked_split rank (x ∷ xs) ys h = let p = ranked_split rank xs ys h.1 in ((h.0, p.0), p.1)
 
@@ -164,40 +164,56 @@ met_later met half ks stays h j a = stays j (h j a)
 
 -- ---- texts
 
-abbrev Line : Type 0
+abbrev pub Line : Type 0
 Line = Piece × InstrLocId
 
 abbrev pub told : List InstrSeq → Line → Placed
 told b p = placed (own_seen b p.0) (place_in p.1)
 
+-- the text of sequence k from these instructions on, and of the further parts of its block
+abbrev pub rest : List InstrSeq → List ℕ → ℕ → List (Instr × InstrLocId) → InstrLocId → List Part → Finish → List Line
+rest b around k is e ms f = of_instrs (text b (k ∷ around)) (k ∷ around) is ++ (first_piece ms f, e) ∷ of_parts (text b around) (seqs_in ms) (next_pieces ms f)
+
+-- it begins with the first instruction and what that holds
+pub first_text : (b : List InstrSeq) (around : List ℕ) (k : ℕ) (i : Instr × InstrLocId) (is : List (Instr × InstrLocId)) (e : InstrLocId) (ms : List Part) (f : Finish) (xs : List Line)
+    → of_parts (text b (k ∷ around)) (children i.0) (after i.0) ≡ xs → rest b around k (i ∷ is) e ms f ≡ (Operator (k ∷ around) i.0, i.1) ∷ (xs ++ rest b around k is e ms f)
+first_text b around k i is e ms f xs h =
+    let later = of_instrs (text b (k ∷ around)) (k ∷ around) is in
+    let behind = (first_piece ms f, e) ∷ of_parts (text b around) (seqs_in ms) (next_pieces ms f) in
+    let line : Line = (Operator (k ∷ around) i.0, i.1) in
+    ap (λ (l : List Line). line ∷ ((l ++ later) ++ behind)) h ∙ ap (λ (l : List Line). line ∷ l) (append_assoc xs later behind)
+
+-- an instruction that holds no sequence has no text but itself
+pub none_text : (b : List InstrSeq) (around : List ℕ) (i : Instr) → children i ≡ [] → of_parts (text b around) (children i) (after i) ≡ []
+none_text b around i h = ap (λ (ks : List ℕ). of_parts (text b around) ks (after i)) h
+
+-- what a ranked sequence holds is ranked
+pub held : (b : List InstrSeq) (rank : ℕ → ℕ) (is_rank : IsRank b rank) (k : ℕ) (y : InstrSeq) → 0 < rank k → slice_get b k ≡ Some y → AllRanked rank (children_in y.instrs.items)
+held b rank is_rank k y some found =
+    let h = is_rank k some in
+    subst (λ (z : InstrSeq). AllRanked rank (children_in z.instrs.items)) (some_seq h.0 y (sym h.1 ∙ found)) (falls_ranked rank (rank k) (children_in h.0.instrs.items) h.2)
+
+module _ (plain : TextIsPlain) (b : List InstrSeq) (rank : ℕ → ℕ) (is_rank : IsRank b rank) where
+  -- the text of a sequence, and what stands behind it
+  pub seq_text : (around : List ℕ) (k : ℕ) (y : InstrSeq) (ms : List Part) (f : Finish) → 0 < rank k → slice_get b k ≡ Some y
+      → of_parts (text b around) (k ∷ seqs_in ms) (pieces ms f) ≡ rest b around k y.instrs.items y.end ms f
+  seq_text around k y ms f some found =
+      let nested : IsNested b k = record { rank = rank; is_rank = is_rank; ranked = some } in
+      let later = of_parts (text b around) (seqs_in ms) (next_pieces ms f) in
+      ap (λ (l : List Line). l ++ later) (plain b around k (first_piece ms f) y nested found) ∙ append_assoc (of_instrs (text b (k ∷ around)) (k ∷ around) y.instrs.items) ((first_piece ms f, y.end) ∷ []) later
+
+  -- the text of what a block holds
+  pub block_text : (around : List ℕ) (g : Opener) (i : Instr) (q : stands.Block) (y : InstrSeq) → Makes g i q → 0 < rank q.first → slice_get b q.first ≡ Some y
+      → of_parts (text b around) (children i) (after i) ≡ rest b around q.first y.instrs.items y.end q.more q.finish
+  block_text around g i q y makes some found =
+      ap (λ (ks : List ℕ). of_parts (text b around) ks (after i)) (made_children g i q makes) ∙ ap (of_parts (text b around) (q.first ∷ seqs_in q.more)) (made_after g i q makes)
+      ∙ seq_text around q.first y q.more q.finish some found
+
 module _ (back : OperatorComesBack) (plain : TextIsPlain) (features : WasmFeatures) (s : Sight) (r : Renaming) (naming : IsNaming s r) (pick : BlockType → BlockType) (own : AreOwn s r pick) (b : List InstrSeq)
     (rank : ℕ → ℕ) (is_rank : IsRank b rank) where
-  abbrev T : List ℕ → ℕ → Piece → List Line
-  T = text b
-
   -- what stands where the tree stands
   abbrev Tells : List Line → Tree → Type 0
   Tells lines t = map (told b) lines ≡ map (renamed r) (flat (with_picks pick t))
-
-  -- the text of sequence k from these instructions on, and of the further parts of its block
-  abbrev rest : List ℕ → ℕ → List (Instr × InstrLocId) → InstrLocId → List Part → Finish → List Line
-  rest around k is e ms f = of_instrs (T (k ∷ around)) (k ∷ around) is ++ (first_piece ms f, e) ∷ of_parts (T around) (seqs_in ms) (next_pieces ms f)
-
-  abbrev Ranked : List ℕ → Type 0
-  Ranked ks = AllRanked rank ks
-
-  held : (k : ℕ) (y : InstrSeq) → 0 < rank k → slice_get b k ≡ Some y → Ranked (children_in y.instrs.items)
-  held k y some found =
-      let h = is_rank k some in
-      subst (λ (z : InstrSeq). Ranked (children_in z.instrs.items)) (some_seq h.0 y (sym h.1 ∙ found)) (falls_ranked rank (rank k) (children_in h.0.instrs.items) h.2)
-
-  -- the text of a sequence, and what stands behind it
-  seq_text : (around : List ℕ) (k : ℕ) (y : InstrSeq) (ms : List Part) (f : Finish) → 0 < rank k → slice_get b k ≡ Some y
-      → of_parts (T around) (k ∷ seqs_in ms) (pieces ms f) ≡ rest around k y.instrs.items y.end ms f
-  seq_text around k y ms f some found =
-      let nested : IsNested b k = record { rank = rank; is_rank = is_rank; ranked = some } in
-      let later = of_parts (T around) (seqs_in ms) (next_pieces ms f) in
-      ap (λ (l : List Line). l ++ later) (plain b around k (first_piece ms f) y nested found) ∙ append_assoc (of_instrs (T (k ∷ around)) (k ∷ around) y.instrs.items) ((first_piece ms f, y.end) ∷ []) later
 
   same_placed : (o o' : Seen) (p p' : Option ℕ) → o ≡ o' → p ≡ p' → placed o p ≡ placed o' p'
   same_placed o o' p p' e f = ap (λ (x : Seen). placed x p) e ∙ ap (placed o') f
@@ -228,8 +244,8 @@ module _ (back : OperatorComesBack) (plain : TextIsPlain) (features : WasmFeatur
   two_more xs ys os ps e f = map-append (told b) xs ys ∙ ap (λ (l : List Placed). l ++ map (told b) ys) e ∙ ap (λ (l : List Placed). map (renamed r) os ++ l) f ∙ sym (map-append (renamed r) os ps)
 
   tells : (t : Tree) (around : List ℕ) (k : ℕ) (ty : InstrSeqType) (met : ℕ → Bool) (is : List (Instr × InstrLocId)) (e : InstrLocId) (ms : List Part) (f : Finish) (done : ℕ → Bool)
-      → Counts features (suc (length around)) t → Fits features t → AreDistinct (k ∷ around) → AllMet met (k ∷ around) → Ranked (children_in is) → Ranked (seqs_in ms)
-      → lies (meaning s) t (map seq_of b) around k ty met is e ms f done → Tells (rest around k is e ms f) t
+      → Counts features (suc (length around)) t → Fits features t → AreDistinct (k ∷ around) → AllMet met (k ∷ around) → AllRanked rank (children_in is) → AllRanked rank (seqs_in ms)
+      → lies (meaning s) t (map seq_of b) around k ty met is e ms f done → Tells (rest b around k is e ms f) t
   tells (Close o p) around k ty met [] e [] f done c fits d m ri rm (ends, place, same) =
       ap (λ (x : Placed). x ∷ []) (same_placed (own_seen b (first_piece [] f)) (renamed_operator r o) (place_in e) p (end_tells o f ends fits) (sym place))
   tells (Close o p) around k ty met [] e (n ∷ ms) f done c fits d m ri rm h = absurd h
@@ -238,11 +254,11 @@ module _ (back : OperatorComesBack) (plain : TextIsPlain) (features : WasmFeatur
   tells (Arm o p t) around k ty met [] e (n ∷ ms) f done c fits d m ri rm (place, fresh, x, found, turns, lie) =
       let y = seen_at b n.seq x found in
       let outer : AllMet met around = λ j a. m j (inr a) in
-      let later = tells t around n.seq ty (with n.seq met) y.0.instrs.items y.0.end ms f done c fits.1 (fresh_apart met around n.seq outer fresh d.1) (met_one met around n.seq outer) (held n.seq y.0 rm.0 y.1) rm.1
+      let later = tells t around n.seq ty (with n.seq met) y.0.instrs.items y.0.end ms f done c fits.1 (fresh_apart met around n.seq outer fresh d.1) (met_one met around n.seq outer) (held b rank is_rank n.seq y.0 rm.0 y.1) rm.1
       (subst (λ (z : Seq). lies (meaning s) t (map seq_of b) around n.seq ty (with n.seq met) z.instrs z.end ms f done) y.2 lie) in
-      one_more (turn_piece n.turn, e) (of_parts (T around) (n.seq ∷ seqs_in ms) (pieces ms f)) (placed o p) (flat (with_picks pick t))
+      one_more (turn_piece n.turn, e) (of_parts (text b around) (n.seq ∷ seqs_in ms) (pieces ms f)) (placed o p) (flat (with_picks pick t))
       (same_placed (own_seen b (turn_piece n.turn)) (renamed_operator r o) (place_in e) p (turn_tells o n.turn ty x.ty turns fits.0) (sym place))
-      (ap (map (told b)) (seq_text around n.seq y.0 ms f rm.0 y.1) ∙ later)
+      (ap (map (told b)) (seq_text plain b rank is_rank around n.seq y.0 ms f rm.0 y.1) ∙ later)
   tells (Arm o p t) around k ty met (i ∷ is) e ms f done c fits d m ri rm h = absurd h
   tells (Skip o p t) around k ty met [] e [] f done c fits d m ri rm h = absurd h
   tells (Skip o p t) around k ty met [] e (n ∷ ms) f done c fits d m ri rm h = absurd h
@@ -251,44 +267,34 @@ module _ (back : OperatorComesBack) (plain : TextIsPlain) (features : WasmFeatur
   tells (Run o p t) around k ty met [] e (n ∷ ms) f done c fits d m ri rm h = absurd h
   tells (Run o p t) around k ty met (i ∷ is) e ms f done c fits d m ri rm (runs, place, lie) =
       let stands_in = run_stands back features s (k ∷ around) o i.0 runs c.0 c.1 in
-      let inner = subst (λ (ks : List ℕ). Ranked (ks ++ children_in is)) stands_in.1 ri in
+      let inner = subst (λ (ks : List ℕ). AllRanked rank (ks ++ children_in is)) stands_in.1 ri in
       let later = tells t around k ty met is e ms f done c.2 fits.1 d m inner rm lie in
-      let nothing : of_parts (T (k ∷ around)) (children i.0) (after i.0) ≡ [] = ap (λ (ks : List ℕ). of_parts (T (k ∷ around)) ks (after i.0)) stands_in.1 in
-      one_more (Operator (k ∷ around) i.0, i.1) ((of_parts (T (k ∷ around)) (children i.0) (after i.0) ++ of_instrs (T (k ∷ around)) (k ∷ around) is) ++ (first_piece ms f, e) ∷ of_parts (T around) (seqs_in ms) (next_pieces ms f))
-      (placed o p) (flat (with_picks pick t))
-      (same_placed (own_seen b (Operator (k ∷ around) i.0)) (renamed_operator r o) (place_in i.1) p (run_means back features s r naming b (k ∷ around) d o i.0 runs fits.0) (sym place))
-      (ap (λ (l : List Line). map (told b) ((l ++ of_instrs (T (k ∷ around)) (k ∷ around) is) ++ (first_piece ms f, e) ∷ of_parts (T around) (seqs_in ms) (next_pieces ms f))) nothing ∙ later)
+      ap (map (told b)) (first_text b around k i is e ms f [] (none_text b (k ∷ around) i.0 stands_in.1))
+      ∙ one_more (Operator (k ∷ around) i.0, i.1) (rest b around k is e ms f) (placed o p) (flat (with_picks pick t))
+      (same_placed (own_seen b (Operator (k ∷ around) i.0)) (renamed_operator r o) (place_in i.1) p (run_means back features s r naming b (k ∷ around) d o i.0 runs fits.0) (sym place)) later
   tells (Nest o p u t) around k ty met [] e [] f done c fits d m ri rm h = absurd h
   tells (Nest o p u t) around k ty met [] e (n ∷ ms) f done c fits d m ri rm h = absurd h
   tells (Nest o p u t) around k ty met (i ∷ is) e ms f done c fits d m ri rm (q, (g, makes, opener), place, fresh, x, found, opens, half, inside, lie) =
       let y = seen_at b q.first x found in
-      let kids = made_children g i.0 q makes in
       let split = ranked_split rank (children i.0) (children_in is) ri in
-      let ranks = subst Ranked kids split.0 in
+      let ranks = subst (AllRanked rank) (made_children g i.0 q makes) split.0 in
       let lie_in = subst (λ (z : Seq). lies (meaning s) u (map seq_of b) (k ∷ around) q.first x.ty (with q.first met) z.instrs z.end q.more q.finish half) y.2 inside in
       let laid_in = laid back features s b u (k ∷ around) q.first x.ty (with q.first met) y.0.instrs.items y.0.end q.more q.finish half c.0 lie_in in
       let inner = tells u (k ∷ around) q.first x.ty (with q.first met) y.0.instrs.items y.0.end q.more q.finish half c.0 fits.1 (fresh_apart met (k ∷ around) q.first m fresh d) (met_one met (k ∷ around) q.first m)
-      (held q.first y.0 ranks.0 y.1) ranks.1 lie_in in
+      (held b rank is_rank q.first y.0 ranks.0 y.1) ranks.1 lie_in in
       let met_half : AllMet half (k ∷ around) = λ j a. laid_in.stays j (with_stays q.first met j (m j a)) in
       let later = tells t around k ty half is e ms f done c.1 fits.2 d met_half split.1 rm lie in
-      let behind = (first_piece ms f, e) ∷ of_parts (T around) (seqs_in ms) (next_pieces ms f) in
-      let parts_is : of_parts (T (k ∷ around)) (children i.0) (after i.0) ≡ rest (k ∷ around) q.first y.0.instrs.items y.0.end q.more q.finish =
-      ap (λ (ks : List ℕ). of_parts (T (k ∷ around)) ks (after i.0)) kids ∙ ap (of_parts (T (k ∷ around)) (q.first ∷ seqs_in q.more)) (made_after g i.0 q makes)
-      ∙ seq_text (k ∷ around) q.first y.0 q.more q.finish ranks.0 y.1 in
+      let block = rest b (k ∷ around) q.first y.0.instrs.items y.0.end q.more q.finish in
       let typed = subst (λ (z : Seq). (meaning s).opens o z.ty) y.2 opens in
-      one_more (Operator (k ∷ around) i.0, i.1) ((of_parts (T (k ∷ around)) (children i.0) (after i.0) ++ of_instrs (T (k ∷ around)) (k ∷ around) is) ++ behind)
-      (placed (picked pick o) p) (flat (with_picks pick u) ++ flat (with_picks pick t))
+      ap (map (told b)) (first_text b around k i is e ms f block (block_text plain b rank is_rank (k ∷ around) g i.0 q y.0 makes ranks.0 y.1))
+      ∙ one_more (Operator (k ∷ around) i.0, i.1) (block ++ rest b around k is e ms f) (placed (picked pick o) p) (flat (with_picks pick u) ++ flat (with_picks pick t))
       (same_placed (own_seen b (Operator (k ∷ around) i.0)) (renamed_operator r (picked pick o)) (place_in i.1) p
       (nest_means back features s r naming b (k ∷ around) d pick own o g i.0 q y.0 makes opener typed y.1 fits.0) (sym place))
-      (ap (map (told b)) (append_assoc (of_parts (T (k ∷ around)) (children i.0) (after i.0)) (of_instrs (T (k ∷ around)) (k ∷ around) is) behind)
-      ∙ ap (λ (l : List Line). map (told b) (l ++ rest around k is e ms f)) parts_is
-      ∙ two_more (rest (k ∷ around) q.first y.0.instrs.items y.0.end q.more q.finish) (rest around k is e ms f) (flat (with_picks pick u)) (flat (with_picks pick t)) inner later)
+      (two_more block (rest b around k is e ms f) (flat (with_picks pick u)) (flat (with_picks pick t)) inner later)
 
   pub body_tells : (t : Tree) → Counts features 1 t → Fits features t → StandsAs (meaning s) (map seq_of b) t → 0 < rank 0 → map (told b) (operators b 0) ≡ map (renamed r) (flat (with_picks pick t))
   body_tells t c fits h ranked =
-      let n = h.enters in
-      let y = seen_at b 0 n.seq n.found in
-      let lie = subst (λ (z : Seq). lies (meaning s) t (map seq_of b) [] 0 h.ty (with 0 none) z.instrs z.end [] Ended h.done) y.2 n.lie in
+      let n = body_lies s b t h in
       let nested : IsNested b 0 = record { rank = rank; is_rank = is_rank; ranked = ranked } in
       let only : AllMet (with 0 none) (0 ∷ []) = met_one none [] 0 (λ j a. absurd a) in
-      ap (map (told b)) (plain b [] 0 End y.0 nested y.1) ∙ tells t [] 0 h.ty (with 0 none) y.0.instrs.items y.0.end [] Ended h.done c fits ((λ a. a), tt) only (held 0 y.0 ranked y.1) tt lie
+      ap (map (told b)) (plain b [] 0 End n.0 nested n.1) ∙ tells t [] 0 h.ty (with 0 none) n.0.instrs.items n.0.end [] Ended h.done c fits ((λ a. a), tt) only (held b rank is_rank 0 n.0 ranked n.1) tt n.2

@@ -13,13 +13,15 @@ use Rattle.walrus_instr.specs.declared.seq.InstrSeqType.{InstrSeqType}
 use Rattle.walrus_instr.specs.declared.seq.InstrSeq.{InstrSeq}
 use Rattle.walrus_builder.specs.Built.{seq_of}
 use Rattle.walrus_tree.specs.Trees.{IsTree}
-use Rattle.walrus_body_nesting.specs.Stands.{StandsAs}
+use Rattle.walrus_tree.specs.Text.{operators}
+use Rattle.walrus_body_nesting.specs.Stands.{StandsAs, total}
 use Rattle.walrus_body_nesting.specs.Opens.{same}
 use Rattle.walrus_body_rules.specs.Sights.{Sight, look, written_block}
 use Rattle.walrus_meaning.specs.walrus_local_function.walrus_body_parser.walrus_body_steps.Meanings.{meaning}
 use Rattle.walrus_meaning.specs.walrus_local_function.declared.local_function.LocalFunction.{LocalFunction}
 use Rattle.walrus_builder.specs.Functions.{seqs_of}
 use Rattle.walrus_meaning.specs.Words.{own_block}
+use Rattle.walrus_meaning.specs.walrus_body_writer.walrus_body_text.Visiting.{text_size}
 use Rattle.walrus_meaning.specs.Bodies.{own_operators}
 
 -- the operators of a body, each with the place that it carries
@@ -60,3 +62,8 @@ BodiesMeanTheirs = (a : Around) (params place : ℕ) (bytes : List ℕ) (parts :
     → (s : Sight) (r : Renaming) (pick : BlockType → BlockType) → IsNaming s r → AreOwn s r pick
     → (local : LocalFunction) → StandsAs (meaning s) (map seq_of (seqs_of local.builder)) (normal same (tree_of (ops_of parts)))
     → map meant (own_operators local) ≡ map (renamed r) (normal_ops pick (ops_of parts))
+
+-- a body whose sequences stand for the normal form has as many operators, those that only mark where sequences end aside, as its sequences hold instructions
+abbrev pub BodiesHoldTheirs : Type 0
+BodiesHoldTheirs = (a : Around) (params place : ℕ) (bytes : List ℕ) (parts : Parts) → IsBody a params place bytes parts
+    → (s : Sight) (pick : BlockType → BlockType) (b : List InstrSeq) → StandsAs (meaning s) (map seq_of b) (normal pick (tree_of (ops_of parts))) → text_size (operators b 0) ≡ total (map seq_of b)

@@ -30,6 +30,9 @@ impl Model for InstrSeqBuilder {
     ghost invariant = { λ b. b.id < length b.seqs.items };
 }
 
+// Room for sequences that is asked for where there is more than the first: most functions that have some have several.
+const SOME: usize = 8;
+
 impl InstrSeqBuilder {
     /// One empty sequence of this type, at hand.
     ///
@@ -162,6 +165,9 @@ impl InstrSeqBuilder {
             return Err(AllocError);
         }
         let id = InstrSeqId::from_index(self.seqs.len());
+        if self.seqs.capacity() < SOME {
+            self.seqs.reserve(SOME)?;
+        }
         self.seqs.push(InstrSeq::new(self.alloc, id, ty))?;
         Ok(id)
     }

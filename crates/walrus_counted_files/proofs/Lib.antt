@@ -1,5 +1,6 @@
 mod CountLemmas
 mod DataLemmas
+mod HeldLemmas
 mod NameLemmas
 mod SlotLemmas
 mod WholeLemmas

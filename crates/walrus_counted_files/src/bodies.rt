@@ -1,12 +1,14 @@
 //! Bodies are read and counted, one after another.
 
-ghost use Rattle.std.specs.Prelude.{◌≡◌, ◌⊎◌, All, IfErr, IfOk, OnOk, Some};
+ghost use Rattle.std.specs.Prelude.{◌≡◌, ◌⊎◌, ◌<◌, All, IfErr, IfOk, IfSome, OnOk, Some, map};
 ghost use Rattle.walrus_arena.specs.Arena.{Arena, IsLive, item_at};
 ghost use Rattle.walrus_counted_files.specs.Counted.{AreGiven};
 ghost use Rattle.walrus_counts.specs.Counts.{kind_size};
+ghost use Rattle.walrus_counts.specs.walrus_module.walrus_builder.Built.{seq_of};
 ghost use Rattle.walrus_counts.specs.walrus_module.walrus_local_function.declared.local_function.LocalFunction.{LocalFunction};
 ghost use Rattle.walrus_counts.specs.walrus_module.walrus_module_items.declared.function.Function.{Function};
 ghost use Rattle.walrus_counts.specs.walrus_module.walrus_module_items.declared.function.FunctionKind.TheVariants as kinds;
+ghost use Rattle.walrus_named_bodies.specs.walrus_file_bodies.walrus_body_trees.walrus_body_nesting.Stands.{total};
 ghost use Rattle.walrus_named_bodies.specs.walrus_file_bodies.walrus_items_into.walrus_functions_into.Bodies.{is_bodiless};
 ghost use Rattle.walrus_named_bodies.specs.walrus_file_bodies.walrus_module_bodies.Reading.{TagsStand};
 ghost use Rattle.walrus_named_bodies.specs.walrus_file_bodies.walrus_module_bodies.Steps.{AreApart, Fails, IsFiledLater, IsPlaced, IsReady, ReadsFor, Steps, StopsIn, state};
@@ -18,6 +20,8 @@ use walrus_arena::FunctionId;
 use walrus_body_env::BodyError;
 use walrus_function_types::laws::{found_types_stay, tables_grow_on};
 use walrus_functions_into::FunctionBody;
+use walrus_instr::InstrSeq;
+use walrus_module_bodies::laws::bodies_hold_theirs;
 use walrus_module_bodies::{FileEnv, read_function};
 use walrus_module_items::FunctionKind;
 use walrus_named_bodies::file_bodies::items_into::module_env::body_env::instr::type_table::{
@@ -35,7 +39,27 @@ fn is_bodiless(functions: &ModuleFunctions, function: FunctionId) -> bool
     matches!(functions.get(function).kind, FunctionKind::Uninitialized(_))
 }
 
-// Reads the body of a function that has none yet, and counts its operators. Nobody has the body then.
+// What bytes are.
+fn are_bytes(bytes: &[u8])
+    ensures { All (λ x. x < 256) bytes.now }
+{}
+
+// How many instructions these sequences hold.
+fn held(seqs: &[InstrSeq]) -> Option<u64>
+    ensures { IfSome result (λ n. n ≡ total (map seq_of seqs.now)) }
+{
+    let mut count: u64 = 0;
+    for seq in seqs {
+        let Some(more) = count.checked_add(seq.instrs.as_slice().len() as u64) else {
+            return None;
+        };
+        count = more;
+    }
+    Some(count)
+}
+
+// Reads the body of a function that has none yet, and counts its operators: each instruction that its sequences hold is one. Nobody has
+// the body then.
 fn count_body(
     alloc: Global,
     file: &FileEnv<'_>,
@@ -61,11 +85,12 @@ fn count_body(
     let read = read_function(
         alloc, file, features, types, indices, locals, functions, body,
     )?;
-    match read.size(alloc) {
-        Ok(size) => Ok(size),
-        // A body that is read is a tree: memory was wanted.
-        Err(_) => Err(BodyError::Memory),
-    }
+    are_bytes(body.chunk.bytes);
+    bodies_hold_theirs();
+    let Some(size) = held(read.builder().seqs()) else {
+        return Err(BodyError::Memory);
+    };
+    Ok(size)
 }
 
 /// Reads bodies in turn, each for a function that has none yet, and counts their operators; each is let go of before the next is read. All

@@ -40,6 +40,15 @@ value_of RF64 = F64
 value_of RV128 = V128
 value_of (RRef ty) = Ref (ref_of ty)
 
+-- a number's or a vector's type; a reference type is taken for a vector's
+abbrev pub plain_of : ValRecord → ValType
+plain_of RI32 = I32
+plain_of RI64 = I64
+plain_of RF32 = F32
+plain_of RF64 = F64
+plain_of RV128 = V128
+plain_of (RRef ty) = V128
+
 abbrev pub storage_of : StorageRecord → StorageType
 storage_of (RVal ty) = Val (value_of ty)
 storage_of RI8 = I8

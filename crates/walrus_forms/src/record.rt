@@ -2,7 +2,7 @@
 //! types).
 ghost use Rattle.std.specs.Prelude.{◌≡◌, ◌<◌, IfOk, IfSome, All, length, map};
 ghost use Rattle.walrus_forms.specs.Forms.{form_of};
-ghost use Rattle.walrus_forms.specs.Records.{heap_of, ref_of, value_of, storage_of, field_of, record_form, record_kind, type_group};
+ghost use Rattle.walrus_forms.specs.Records.{heap_of, ref_of, value_of, storage_of, field_of, record_form, record_kind, type_group, plain_of};
 ghost use Rattle.walrus_forms.specs.Values.{heap_name, ref_name, value_name, storage_name, field_name};
 ghost use Rattle.walrus_forms.specs.Renaming.{HeapBelow, RefBelow, ValueBelow, StorageBelow, FieldBelow, FormBelow, renamed_heap, renamed_ref, renamed_value, renamed_field, renamed_storage, renamed_form, at};
 
@@ -134,6 +134,21 @@ impl RefRecord {
     }
 }
 
+// The type of a number or a vector. It stands apart, so that it is one look-up, and a list of types goes without jumps.
+#[inline(never)]
+fn plain_value(value: ValRecord) -> ValType
+    ensures { result ≡ plain_of value }
+{
+    match value {
+        ValRecord::I32 => ValType::I32,
+        ValRecord::I64 => ValType::I64,
+        ValRecord::F32 => ValType::F32,
+        ValRecord::F64 => ValType::F64,
+        ValRecord::V128 => ValType::V128,
+        ValRecord::Ref(_) => ValType::V128,
+    }
+}
+
 impl ValRecord {
     /// The index of the type that it names, if it names one.
     pub fn type_index(&self) -> Option<u32>
@@ -152,12 +167,8 @@ impl ValRecord {
         ensures { result ≡ renamed_value (at ids.now) (value_of self) }
     {
         match self {
-            ValRecord::I32 => ValType::I32,
-            ValRecord::I64 => ValType::I64,
-            ValRecord::F32 => ValType::F32,
-            ValRecord::F64 => ValType::F64,
-            ValRecord::V128 => ValType::V128,
             ValRecord::Ref(ty) => ValType::Ref(ty.resolve(ids)),
+            plain => plain_value(plain),
         }
     }
 }

@@ -14,7 +14,7 @@ use Rattle.walrus_body_steps.specs.walrus_body_nesting.declared.frames.Opener.{O
 use Rattle.walrus_body_steps.specs.walrus_body_nesting.declared.frames.Opener.TheVariants as openers
 use Rattle.walrus_body_steps.specs.walrus_body_nesting.Opens.{Makes, type_at}
 use Rattle.walrus_body_steps.specs.walrus_body_nesting.Stands as stands
-use Rattle.walrus_body_steps.specs.walrus_body_nesting.Stands.{Turn, Otherwise, Handles, HandlesAll, Part, Finish, EndsOnce, parts_of, lies, StandsAs}
+use Rattle.walrus_body_steps.specs.walrus_body_nesting.Stands.{Turn, Otherwise, Handles, HandlesAll, Part, Finish, EndsOnce, parts_of, lies, StandsAs, total}
 use Rattle.walrus_body_steps.specs.walrus_body_rules.walrus_forms.declared.value.ValType.{ValType}
 use Rattle.walrus_body_steps.specs.walrus_body_rules.Sights.{Sight, block_of, function_block, handler_of, look, results_of, tag_params, written_block}
 use Rattle.walrus_body_steps.specs.Meanings.{AreClauses, IsClause, IsOpener, OpensOf, RunsAs, TurnsTo, meaning}
@@ -201,8 +201,8 @@ module _ (s v : Sight) (wide : Widens s v) where
           lies_kept t around k ty half is e ms f done r.1 g lie,
         )
 
-    pub stands_kept : (t : Tree) → StandsAs (meaning s) b t → StandsAs (meaning v) c t
-    stands_kept t stands =
+    pub stands_kept : (t : Tree) → total c ≡ total b → StandsAs (meaning s) b t → StandsAs (meaning v) c t
+    stands_kept t same stands =
         let n = stands.enters in
         subst (λ (w : Sight). StandsAs (meaning w) c t) u_is (record {
           ty = stands.ty;
@@ -214,10 +214,11 @@ module _ (s v : Sight) (wide : Widens s v) where
             typed = n.typed;
             lie = lies_kept t [] 0 stands.ty _ n.seq.instrs n.seq.end [] _ stands.done (entered 0 n.seq tells.body n.found) tt n.lie;
           };
+          just = same ∙ stands.just;
         })
 
 pub handlers_stand : HandlersStand
-handlers_stand s v b c js told t wide tells are = stands_kept s v wide b c js told tells (shifted are) t
+handlers_stand s v b c js told t wide tells are same = stands_kept s v wide b c js told tells (shifted are) t same
   where
     shifted : AreTyped s v told b c → AreTyped s (u s v wide) told b c
     shifted are j x found = let r = are j x found in (r.0, r.1, subst (λ (w : Sight). IsTyped s w (told j) x.ty r.0) (sym (u_is s v wide)) r.2)

@@ -1,7 +1,7 @@
 -- What is left of a body whose handlers are given their types.
 use Rattle.std.specs.Prelude.{◌≡◌, ℕ, List, [], Option, Some, None, slice_get}
 use Rattle.walrus_body_steps.specs.walrus_body_nesting.wasm_normal_form.Trees.{Tree}
-use Rattle.walrus_body_steps.specs.walrus_body_nesting.Stands.{StandsAs}
+use Rattle.walrus_body_steps.specs.walrus_body_nesting.Stands.{StandsAs, total}
 use Rattle.walrus_body_steps.specs.walrus_body_rules.walrus_forms.declared.value.ValType.{ValType}
 use Rattle.walrus_body_steps.specs.walrus_body_rules.Sights.{Sight, results_of}
 use Rattle.walrus_body_steps.specs.Meanings.{meaning}
@@ -39,4 +39,4 @@ AreTyped s u told b c = (j : ℕ) (x : Seq) → slice_get b j ≡ Some x → (ty
 
 abbrev pub HandlersStand : Type 0
 HandlersStand = (s u : Sight) (b c : List Seq) (js : List ℕ) (told : ℕ → Option Handler) (t : Tree) → Widens s u → TellsHandlers s.tag_type b js told → AreTyped s u told b c
-    → StandsAs (meaning s) b t → StandsAs (meaning u) c t
+    → total c ≡ total b → StandsAs (meaning s) b t → StandsAs (meaning u) c t

@@ -9,6 +9,7 @@ use Rattle.walrus_forms.proofs.EqLemmas.{same-kind-law}
 use Rattle.walrus_function_types.specs.FunctionTypes.{form_params, form_results}
 use Rattle.walrus_function_types.specs.Growth.{Grows}
 use Rattle.walrus_function_types.proofs.GrowthLemmas.{found_stays, function_grows, grows_on, grows_same, lives_on}
+use Rattle.walrus_handlers.specs.walrus_body_steps.walrus_body_nesting.Stands.{total}
 use Rattle.walrus_handlers.specs.walrus_body_steps.walrus_body_rules.Sights.{Sight, results_of}
 use Rattle.walrus_handlers.specs.walrus_handler_laws.declared.handler.Handler.{Handler}
 use Rattle.walrus_handlers.specs.walrus_handler_laws.Handlers.{told_by, tree_ids}
@@ -25,7 +26,8 @@ use Rattle.walrus_handlers.specs.walrus_tree.walrus_walks.walrus_instr.declared.
 use Rattle.walrus_handlers.specs.walrus_tree.walrus_walks.walrus_instr.declared.seq.InstrSeqType.TheVariants.{Simple, MultiValue}
 use Rattle.walrus_handlers.specs.walrus_tree.walrus_walks.walrus_types.Items.{Item}
 use Rattle.walrus_handlers.specs.walrus_tree.walrus_walks.walrus_types.Table.{Adds, Merges, Table, entries, equal_type, found_type, latest_id, latest_in, merges, names_itself, next_id, type_at}
-use Rattle.walrus_handler_types.specs.Giving.{Finds, FindsIf, GivenTypesGrow, Gives, GivesAt, GivesTree, GivesType, ListsGive, PicksHandlers, SeesLists, TreesAreTyped, block_results, caught, listed}
+use Rattle.walrus_handler_types.specs.Giving.{Finds, FindsIf, GivenTypesGrow, Gives, GivesAt, GivesTree, GivesType, ListsGive, PicksHandlers, SeesLists, TreesAreTyped, block_results, caught}
+use Rattle.walrus_handlers.specs.Gathering.{listed}
 use Rattle.walrus_handler_types.proofs.Ordering.{ids_there, told_there}
 
 -- ---- searches
@@ -178,7 +180,7 @@ each_later P Q f (x ∷ xs) h = (f x h.0, each_later P Q f xs h.1)
 
 pub lists_give : ListsGive
 lists_give tags b t hs old new c are gives =
-    same_given (listed hs) (told_by tags b js) js (each_later (λ j. j < length b) (λ j. listed hs j ≡ told_by tags b js j) (λ j lt. ap (option_and_then (λ h. h)) (are.told j lt)) js (ids_there b t)) (map seq_of b) c old new gives
+    same_given (listed hs) (told_by tags b js) js (each_later (λ j. j < length b) (λ j. listed hs j ≡ told_by tags b js j) are.told js (ids_there b t)) (map seq_of b) c old new gives
   where
     js : List ℕ
     js = tree_ids t
@@ -286,3 +288,18 @@ trees_are_typed tags b t c old new later s u gives grown sees picks j x found =
     let told : ℕ → Option Handler = told_by tags b (tree_ids t) in
     let r = become told old (tree_ids t) (map seq_of b) c old new (grows_same old old refl) gives j x found in
     (r.ty, r.there, typed_by told old (tree_ids t) c j x s u new later (λ h is. told_there tags b t j h is) grown sees picks r)
+
+-- ---- what is given types holds what it held
+
+total_typed : (ty : InstrSeqType) (b : List Seq) (k : ℕ) → total (edited (with_type ty) b k) ≡ total b
+total_typed ty [] k = refl
+total_typed ty (s ∷ b) zero = refl
+total_typed ty (s ∷ b) (suc k) = ap (λ (n : ℕ). length s.instrs + n) (total_typed ty b k)
+
+total_at : (k : ℕ) (h : Option Handler) (b c : List Seq) (old new : Table) → GivesAt k h b old c new → total c ≡ total b
+total_at k None b c old new g = ap total g.0
+total_at k (Some h) b c old new (x, found, ty, gives, is) = ap total is ∙ total_typed ty b k
+
+pub total_given : (told : ℕ → Option Handler) (ks : List ℕ) (b c : List Seq) (old new : Table) → Gives told ks b old c new → total c ≡ total b
+total_given told [] b c old new g = ap total g.0
+total_given told (k ∷ ks) b c old new (mid, t, one, rest) = total_given told ks mid c t new rest ∙ total_at k (told k) b mid old t one

@@ -1,6 +1,5 @@
 -- The types that handlers are given by a table of types, which has those that it lacked added.
 use Rattle.std.specs.Prelude.{◌≡◌, ℕ, List, [], ◌∷◌, map, Option, Some, None, MatchOption, slice_get}
-use Rattle.std.specs.Option.{option_and_then}
 use Rattle.walrus_function_types.specs.FunctionTypes.{params_at, results_at}
 use Rattle.walrus_function_types.specs.Growth.{Grows}
 use Rattle.walrus_handlers.specs.walrus_body_steps.walrus_body_rules.Sights.{Sight, value_list}
@@ -13,7 +12,7 @@ use Rattle.walrus_handlers.specs.walrus_tree.walrus_walks.walrus_instr.declared.
 use Rattle.walrus_handlers.specs.walrus_tree.walrus_walks.walrus_instr.declared.seq.InstrSeqType.TheVariants.{Simple, MultiValue}
 use Rattle.walrus_handlers.specs.walrus_tree.walrus_walks.walrus_types.Table.{Table}
 use Rattle.walrus_handlers.specs.walrus_handler_laws.declared.handler.Handler.{Handler}
-use Rattle.walrus_handlers.specs.Gathering.{AreHandlers}
+use Rattle.walrus_handlers.specs.Gathering.{AreHandlers, listed}
 use Rattle.walrus_handlers.specs.walrus_handler_laws.Handlers.{told_by, tree_ids}
 use Rattle.walrus_handlers.specs.walrus_handler_laws.Retyping.{AreTyped, with_type}
 
@@ -49,10 +48,6 @@ GivesAt k (Some h) b old c new = (x : Seq) × (slice_get b k ≡ Some x) × (ty 
 abbrev pub Gives : (ℕ → Option Handler) → List ℕ → List Seq → Table → List Seq → Table → Type 0
 Gives told [] b old c new = (c ≡ b) × (new ≡ old)
 Gives told (k ∷ ks) b old c new = (mid : List Seq) × (t : Table) × GivesAt k (told k) b old mid t × Gives told ks mid t c new
-
--- the handler that a sequence is, if it is one, by a list of them
-abbrev pub listed : List (Option Handler) → ℕ → Option Handler
-listed hs j = option_and_then (λ h. h) (slice_get hs j)
 
 -- the sequences of a tree, in the order of the text, each as the handler that it is, if it is one
 abbrev pub tree_handlers : (ℕ → Option ℕ) → (b : List InstrSeq) → IsTree b 0 → List (Option Handler)

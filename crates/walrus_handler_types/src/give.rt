@@ -2,7 +2,8 @@
 
 ghost use Rattle.std.specs.Prelude.{◌≡◌, ◌<◌, ℕ, IfOk, OnErr, OnOk, Some, is_some, length, take};
 ghost use Rattle.std.specs.List.{AllByRecursion, list_any};
-ghost use Rattle.walrus_handler_types.specs.Giving.{Finds, FindsIf, Gives, GivesAt, GivesType, listed};
+ghost use Rattle.walrus_handler_types.specs.Giving.{Finds, FindsIf, Gives, GivesAt, GivesType};
+ghost use Rattle.walrus_handlers.specs.Gathering.{listed};
 ghost use Rattle.walrus_handlers.specs.walrus_handler_laws.Handlers.{tree_ids};
 ghost use Rattle.walrus_handlers.specs.walrus_tree.Trees.{IsTree};
 ghost use Rattle.walrus_handlers.specs.walrus_tree.walrus_builder.Built.{contents};

@@ -3,6 +3,7 @@ use Rattle.std.proofs.Common.{◌≡◌, ◌∙◌, ℕ, zero, suc, ◌+◌, ◌
 use Rattle.std.proofs.lemmas.List.{drop_more}
 use Rattle.std.specs.Prelude.{◌==◌, Option, Some, None, replicate, slice_get, slice_index_or, slice_set, if◌then◌else◌}
 use Rattle.std.specs.List.{FoldsTo}
+use Rattle.std.specs.Option.{option_and_then}
 use Rattle.walrus_handler_laws.specs.walrus_tree.Once.{TreesAreWalkedOnce, begun}
 use Rattle.walrus_handler_laws.specs.walrus_tree.Trees.{IsTree}
 use Rattle.walrus_handler_laws.specs.walrus_tree.walrus_builder.Built.{Seq, seq_of}
@@ -12,7 +13,7 @@ use Rattle.walrus_handler_laws.specs.walrus_tree.walrus_walks.walrus_instr.decla
 use Rattle.walrus_handler_laws.specs.walrus_tree.walrus_walks.walrus_instr.declared.seq.InstrLocId.{InstrLocId}
 use Rattle.walrus_handler_laws.specs.walrus_tree.walrus_walks.walrus_instr.declared.seq.InstrSeq.{InstrSeq}
 use Rattle.walrus_handler_laws.specs.declared.handler.Handler.{Handler}
-use Rattle.walrus_handlers.specs.Gathering.{AreHandlers, put, put_all, put_event}
+use Rattle.walrus_handlers.specs.Gathering.{AreHandlers, listed, put, put_all, put_event}
 use Rattle.walrus_handler_laws.specs.Handlers.{Slot, all_slots, handler_in, seq_slots, slots, slots_in, tree_ids}
 use Rattle.walrus_handler_laws.proofs.Counting.{count, held_once, once_if, seqs_of}
 
@@ -145,8 +146,9 @@ untold_length (suc n) = ap suc (untold_length n)
 pub gathered : (tags : ℕ → Option ℕ) (b : List InstrSeq) (t : IsTree b 0) → TreesAreWalkedOnce → (told hs : List (Option Handler)) → told ≡ replicate (length b) None
     → hs ≡ put_events tags (map seq_of b) (walk b 0) told → AreHandlers tags b (tree_ids t) hs
 gathered tags b t once told hs none e = record {
-  many = ap length is ∙ put_length xs told ∙ ap length none ∙ untold_length (length b);
-  told = λ j lt. ap (λ (l : List (Option Handler)). slice_get l j) is ∙ put_found xs told j (held_once tags b t j) (ap (λ (l : List (Option Handler)). slice_get l j) none ∙ untold_at (length b) j lt);
+  short = let e : length hs ≡ length b = ap length is ∙ put_length xs told ∙ ap length none ∙ untold_length (length b) in omega (arith, e);
+  told = λ j lt. ap (λ (l : List (Option Handler)). listed l j) is
+      ∙ ap (option_and_then (λ (h : Option Handler). h)) (put_found xs told j (held_once tags b t j) (ap (λ (l : List (Option Handler)). slice_get l j) none ∙ untold_at (length b) j lt));
 }
   where
     xs : List Slot

@@ -1,6 +1,6 @@
 -- Lemmas: where no sequence has a legacy `try`, none is a handler.
 use Rattle.std.proofs.Common.{◌≡◌, ◌∙◌, ℕ, zero, suc, ◌<◌, Bool, true, false, List, [], ◌∷◌, ◌++◌, length, map, refl, sym, ap, arith}
-use Rattle.std.specs.Prelude.{◌==◌, ◌||◌, Option, Some, None, replicate, slice_get, if◌then◌else◌}
+use Rattle.std.specs.Prelude.{◌==◌, ◌||◌, Option, None, slice_get, if◌then◌else◌}
 use Rattle.std.proofs.lemmas.Bool.{false≢true}
 use Rattle.walrus_handler_laws.specs.walrus_tree.Trees.{IsTree}
 use Rattle.walrus_handler_laws.specs.walrus_tree.walrus_builder.Built.{Seq, seq_of}
@@ -10,8 +10,7 @@ use Rattle.walrus_handler_laws.specs.walrus_tree.walrus_walks.walrus_instr.decla
 use Rattle.walrus_handler_laws.specs.walrus_tree.walrus_walks.walrus_instr.declared.seq.InstrSeq.{InstrSeq}
 use Rattle.walrus_handler_laws.specs.declared.handler.Handler.{Handler}
 use Rattle.walrus_handler_laws.specs.Handlers.{Slot, all_slots, handler_in, seq_slots, slots, slots_in, tree_ids}
-use Rattle.walrus_handlers.specs.Gathering.{AreHandlers, has_try, have_try, is_try}
-use Rattle.walrus_handlers.proofs.Gathers.{untold_at, untold_length}
+use Rattle.walrus_handlers.specs.Gathering.{AreHandlers, has_try, have_try, is_try, listed}
 
 -- none of these sequences is a handler
 abbrev NoHandlers : List Slot → Type 0
@@ -56,9 +55,8 @@ none_in (x ∷ xs) j h = by (x.seq == j) (none_in xs j h.1)
     by true e = h.0
     by false e = e
 
-pub untried : (tags : ℕ → Option ℕ) (b : List InstrSeq) (t : IsTree b 0) (hs : List (Option Handler)) → have_try b ≡ false → hs ≡ replicate (length b) None → AreHandlers tags b (tree_ids t) hs
+pub untried : (tags : ℕ → Option ℕ) (b : List InstrSeq) (t : IsTree b 0) (hs : List (Option Handler)) → have_try b ≡ false → hs ≡ [] → AreHandlers tags b (tree_ids t) hs
 untried tags b t hs e none = record {
-  many = ap length none ∙ untold_length (length b);
-  told = λ j lt. ap (λ (l : List (Option Handler)). slice_get l j) none ∙ untold_at (length b) j lt
-      ∙ ap (λ (o : Option Handler). Some o) (sym (none_in (all_slots tags (map seq_of b) (tree_ids t)) j (of_all tags b (tree_ids t) e)));
+  short = let l = ap (λ (l : List (Option Handler)). length l) none in omega (arith, l);
+  told = λ j lt. ap (λ (l : List (Option Handler)). listed l j) none ∙ sym (none_in (all_slots tags (map seq_of b) (tree_ids t)) j (of_all tags b (tree_ids t) e));
 }

@@ -1,6 +1,7 @@
 -- Handlers in a list by sequence.
-use Rattle.std.specs.Prelude.{◌≡◌, ℕ, ◌<◌, Bool, true, false, List, [], ◌∷◌, length, Option, Some, None, slice_get, slice_set}
+use Rattle.std.specs.Prelude.{◌≡◌, ℕ, ◌<◌, ◌≤◌, Bool, true, false, List, [], ◌∷◌, length, Option, Some, None, slice_get, slice_set}
 use Rattle.std.specs.List.{list_any}
+use Rattle.std.specs.Option.{option_and_then}
 use Rattle.walrus_handler_laws.specs.walrus_tree.walrus_builder.Built.{Seq}
 use Rattle.walrus_handler_laws.specs.walrus_tree.walrus_walks.Events.{Event, StartOf}
 use Rattle.walrus_handler_laws.specs.walrus_tree.walrus_walks.walrus_instr.declared.instr.Instr.{Instr}
@@ -10,10 +11,14 @@ use Rattle.walrus_handler_laws.specs.walrus_tree.walrus_walks.walrus_instr.decla
 use Rattle.walrus_handler_laws.specs.declared.handler.Handler.{Handler}
 use Rattle.walrus_handler_laws.specs.Handlers.{Slot, slots_in, told_by}
 
+-- the handler that a sequence is, by a list of them; those past its end are none
+abbrev pub listed : List (Option Handler) → ℕ → Option Handler
+listed hs j = option_and_then (λ h. h) (slice_get hs j)
+
 -- by sequence, each is told as the handler that it is, if it is one
 pub record AreHandlers (tags : ℕ → Option ℕ) (b : List InstrSeq) (js : List ℕ) (hs : List (Option Handler)) : Type 0 where
-  pub many : length hs ≡ length b
-  pub told : (j : ℕ) → j < length b → slice_get hs j ≡ Some (told_by tags b js j)
+  pub short : length hs ≤ length b
+  pub told : (j : ℕ) → j < length b → listed hs j ≡ told_by tags b js j
 
 -- what a sequence is, put in the list, as far as that reaches
 abbrev pub put : ℕ → Option Handler → List (Option Handler) → List (Option Handler)

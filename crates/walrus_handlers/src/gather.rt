@@ -212,7 +212,7 @@ fn have_try(seqs: &[InstrSeq]) -> bool
     seqs.iter().any(|seq| has_try(seq.instrs.as_slice()))
 }
 
-/// By sequence of a body that forms a tree, the handler that it is, if it is one. Takes time in proportion to the sequences and to the
+/// By sequence of a body that forms a tree, the handler that it is, if it is one; a list of none where there is no legacy `try`. Takes time in proportion to the sequences and to the
 /// instructions of the tree.
 ///
 /// # Errors
@@ -229,14 +229,14 @@ pub fn handlers<E: BodyEnv>(
 {
     tree::laws::trees_are_nested();
     tree::laws::trees_are_walked_once();
+    if !have_try(body.seqs()) {
+        return Ok(Vec::new(alloc));
+    }
     let count = body.seqs().len();
     if count > u32::MAX as usize {
         return Err(AllocError);
     }
     let told = untold(alloc, count)?;
-    if !have_try(body.seqs()) {
-        return Ok(told);
-    }
     let mut gatherer = Gatherer {
         env,
         seqs: body.seqs(),

@@ -45,6 +45,19 @@ fn push_id<S>(list: &mut Vec<Id<S>>, id: Id<S>) -> Result<u32, AllocError>
     Ok(index as u32)
 }
 
+// Room that a function's locals begin with. It takes no more memory than room for one.
+const FIRST: usize = 6;
+
+// The same for a function's locals.
+fn push_local_id<S>(list: &mut Vec<Id<S>>, id: Id<S>) -> Result<u32, AllocError>
+    ensures { MatchResult result (λ index. (index ≡ length list.old.items) × (list.new.items ≡ list.old.items ++ id ∷ [])) (λ _. list.new.items ≡ list.old.items) }
+{
+    if list.capacity() == 0 {
+        list.reserve(FIRST)?;
+    }
+    push_id(list, id)
+}
+
 // The id at an index of the space.
 fn id_at<S>(list: &[Id<S>], index: u32, space: Space) -> Result<Id<S>, UnknownIndex>
     ensures { result ≡ ok_or (slice_get list.now index) (record { 0 = space }) }
@@ -268,7 +281,7 @@ impl IndicesToIds {
     {
         let at = function.number() as usize;
         self.reach_function(at)?;
-        let index = push_id(&mut self.locals[at], id)?;
+        let index = push_local_id(&mut self.locals[at], id)?;
         Ok(index)
     }
 

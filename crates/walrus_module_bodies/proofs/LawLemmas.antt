@@ -2,34 +2,41 @@
 use Rattle.std.proofs.Common.{ℕ, ◌≡◌, ◌≢◌, ◌+◌, Bool, List, [], ◌∷◌, ◌++◌, length, refl, ap, sym, ◌∙◌, subst, if◌then◌else◌}
 use Rattle.std.proofs.lemmas.Bool.{eq-eqb}
 use Rattle.std.proofs.lemmas.List.Elements.{All-head, All-tail}
-use Rattle.std.specs.Prelude.{All, Ok, Option, Some}
+use Rattle.std.specs.Prelude.{All, Ok, Option, Some, ◌<◌}
 use Rattle.wasm_features.specs.declared.WasmFeatures.{WasmFeatures}
 use Rattle.wasm_reader.specs.Cursor.{rest}
 use Rattle.walrus_arena.specs.Arena.{Arena, item_at}
 use Rattle.walrus_arena.proofs.ArenaLemmas.{at-other}
+use Rattle.walrus_body_trees.specs.Laws as trees
+use Rattle.walrus_body_trees.specs.walrus_body_text.Visiting.{text_size}
 use Rattle.walrus_forms.specs.declared.value.ValType.{ValType}
 use Rattle.walrus_types.specs.Table.{Table}
 use Rattle.walrus_function_types.specs.FunctionTypes.{params_at}
 use Rattle.walrus_function_types.specs.Growth.{EntryTypesGrow, FoundTypesStay, TablesGrowOn}
 use Rattle.walrus_function_types.proofs.GrowthLemmas.{grows_same}
 use Rattle.walrus_handler_types.proofs.Growing.{params_grow}
+use Rattle.walrus_handler_types.specs.walrus_tree.Text.{operators}
 use Rattle.walrus_index_maps.specs.Maps.{Ids}
 use Rattle.walrus_module_env.specs.walrus_body_parser.walrus_body_rules.wasm_body_grammar.Bodies.{Parts, body, body_of, declared}
 use Rattle.walrus_module_env.specs.walrus_body_parser.walrus_body_rules.wasm_body_grammar.Codes.{Code}
 use Rattle.walrus_module_env.specs.walrus_body_parser.walrus_body_rules.wasm_body_grammar.Laws.{ReadsBody}
 use Rattle.walrus_module_env.specs.walrus_body_parser.walrus_body_rules.wasm_body_grammar.Rules.{Around}
 use Rattle.walrus_module_env.specs.walrus_body_parser.walrus_body_rules.wasm_grammar.Modules.{Body}
+use Rattle.walrus_module_env.specs.walrus_body_parser.walrus_body_stack.walrus_body_nesting.Stands.{total}
+use Rattle.walrus_module_env.specs.walrus_body_parser.walrus_body_stack.walrus_builder.Built.{contents}
+use Rattle.walrus_module_env.specs.walrus_body_parser.walrus_body_stack.walrus_builder.Functions.{seqs_of}
 use Rattle.walrus_module_env.specs.declared.env.ModuleEnv.{ModuleEnv}
-use Rattle.walrus_module_env.specs.Around.{IsFiled}
+use Rattle.walrus_module_env.specs.Around.{IsFiled, sight_in}
 use Rattle.walrus_module_env.specs.walrus_body_parser.Points.{place_at}
 use Rattle.walrus_module_env.specs.walrus_collections.walrus_local_function.walrus_body_locals.Locals.{ids_from, with_more}
 use Rattle.walrus_module_env.specs.walrus_collections.walrus_module_items.declared.function.Function.{Function}
 use Rattle.walrus_module_env.specs.walrus_collections.walrus_module_items.declared.function.FunctionKind.TheVariants as kinds
 use Rattle.walrus_module_env.specs.walrus_collections.walrus_module_items.Functions.{type_of}
 use Rattle.walrus_functions_into.specs.declared.bodies.FunctionBody.{FunctionBody}
+use Rattle.walrus_module_env.specs.wasm_run_names.Picks.{block_pick}
 use Rattle.walrus_module_bodies.specs.declared.file.FileEnv.{FileEnv}
 use Rattle.walrus_module_bodies.specs.Envs.{IsEnv}
-use Rattle.walrus_module_bodies.specs.Laws.{AreCodesOf, AreRead, IsCodeOf, NamesAll, StepsReadCodes}
+use Rattle.walrus_module_bodies.specs.Laws.{AreCodesOf, AreRead, BodiesHoldTheirs, IsCodeOf, NamesAll, StepsReadCodes}
 use Rattle.walrus_module_bodies.specs.Steps.{AreApart, IsModuleOf, IsReady, IsStep, State, Steps, cursor_of}
 use Rattle.walrus_module_bodies.proofs.ArgumentLemmas.{many_ids}
 use Rattle.walrus_module_bodies.proofs.BodyLemmas.{placed_there}
@@ -79,6 +86,17 @@ module _ (enter : EntryTypesGrow) (stay : FoundTypesStay) (on : TablesGrowOn) (f
             (subst (λ (n : ℕ). ReadsBody a n b.chunk.place b.chunk.bytes.now (body_of parts)) many own)),
         it.1 ∙ ap (λ (n : ℕ). n + length (declared r.runs)) many,
       )
+
+  step_holds : trees.BodiesHoldTheirs → (b : FunctionBody) (old new : State) → IsModuleOf file features old.types old.ids a → IsReady old b → All (λ (x : ℕ). x < 256) b.chunk.bytes.now → (s : IsStep file features b old new)
+      → text_size (operators (seqs_of s.body.builder) 0) ≡ total (contents s.body.builder.builder)
+  step_holds hold b old new of ready small s =
+      let e = env_of file new.types in
+      let from = cursor_of file features b in
+      let it = s.read (env_of file s.mid) e new.types (env_is file s.mid) (grows_same new.types new.types refl) (env_is file new.types) a (step_filed b old new of ready s) in
+      let r = it.0 in
+      let parts : Parts = ((r.place, r.runs), r.ops) in
+      let found = (body a (length s.params) (place_at e.code_start from)).found (rest from) parts small r.read in
+      hold a (length s.params) (place_at e.code_start from) (rest from) parts (small, found.0, found.1) (sight_in e b.number new.ids) (block_pick a) (seqs_of s.body.builder) r.stands
 
   -- another function's code is it still
   code_on : (b d : FunctionBody) (c : Code) (old new : State) → IsStep file features b old new → d.number ≢ b.number → IsCodeOf old d c → IsCodeOf new d c
@@ -133,3 +151,6 @@ module _ (enter : EntryTypesGrow) (stay : FoundTypesStay) (on : TablesGrowOn) (f
 
 pub steps_read : EntryTypesGrow → FoundTypesStay → TablesGrowOn → StepsReadCodes
 steps_read enter stay on file features a bs codes old new of ready apart are steps = all_read enter stay on file features a bs codes old new of ready apart are steps
+
+pub bodies_hold : EntryTypesGrow → FoundTypesStay → TablesGrowOn → trees.BodiesHoldTheirs → BodiesHoldTheirs
+bodies_hold enter stay on hold file features a b old new of ready small s = step_holds enter stay on file features a hold b old new of ready small s

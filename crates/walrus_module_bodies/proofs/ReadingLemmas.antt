@@ -7,9 +7,9 @@ use Rattle.wasm_reader.specs.Cursor.{Cursor, rest}
 use Rattle.walrus_function_types.specs.Growth.{Grows}
 use Rattle.walrus_index_maps.specs.Maps.{Ids}
 use Rattle.walrus_body_trees.specs.Laws.{BodiesAreTrees}
-use Rattle.walrus_handler_types.specs.Giving.{Gives, GivesTree, listed}
+use Rattle.walrus_handler_types.specs.Giving.{Gives, GivesTree}
 use Rattle.walrus_handler_types.proofs.Growing.{lists_give}
-use Rattle.walrus_handler_types.specs.walrus_handlers.Gathering.{AreHandlers}
+use Rattle.walrus_handler_types.specs.walrus_handlers.Gathering.{AreHandlers, listed}
 use Rattle.walrus_handler_types.specs.walrus_handler_laws.Handlers.{tree_ids}
 use Rattle.walrus_handler_types.specs.walrus_handler_laws.declared.handler.Handler.{Handler}
 use Rattle.walrus_module_env.specs.walrus_body_parser.walrus_body_steps.Picks.{ArePicks}

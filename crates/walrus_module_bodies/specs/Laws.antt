@@ -8,11 +8,16 @@ use Rattle.walrus_index_maps.specs.Maps.{Ids}
 use Rattle.walrus_module_env.specs.walrus_body_parser.walrus_body_rules.wasm_body_grammar.Codes.{Code, ReadsCodes}
 use Rattle.walrus_module_env.specs.walrus_body_parser.walrus_body_rules.wasm_body_grammar.Rules.{Around}
 use Rattle.walrus_module_env.specs.walrus_body_parser.walrus_body_rules.wasm_grammar.Modules.{Body}
+use Rattle.walrus_module_env.specs.walrus_body_parser.walrus_body_stack.walrus_body_nesting.Stands.{total}
+use Rattle.walrus_module_env.specs.walrus_body_parser.walrus_body_stack.walrus_builder.Built.{contents}
+use Rattle.walrus_module_env.specs.walrus_body_parser.walrus_body_stack.walrus_builder.Functions.{seqs_of}
+use Rattle.walrus_body_trees.specs.walrus_body_text.Visiting.{text_size}
+use Rattle.walrus_handler_types.specs.walrus_tree.Text.{operators}
 use Rattle.walrus_module_env.specs.walrus_collections.walrus_module_items.declared.function.Function.{Function}
 use Rattle.walrus_module_env.specs.walrus_collections.walrus_module_items.Functions.{type_of}
 use Rattle.walrus_functions_into.specs.declared.bodies.FunctionBody.{FunctionBody}
 use Rattle.walrus_module_bodies.specs.declared.file.FileEnv.{FileEnv}
-use Rattle.walrus_module_bodies.specs.Steps.{AreApart, IsModuleOf, IsReady, State, Steps}
+use Rattle.walrus_module_bodies.specs.Steps.{AreApart, IsModuleOf, IsReady, IsStep, State, Steps}
 
 -- the grammar has the body so: the same bytes at their place, of a function with as many parameters
 pub record IsCodeOf (s : State) (b : FunctionBody) (c : Code) : Type 0 where
@@ -43,3 +48,8 @@ pub record AreRead (a : Around) (codes : List Code) (bs : List FunctionBody) (ol
 abbrev pub StepsReadCodes : Type 0
 StepsReadCodes = (file : FileEnv) (features : WasmFeatures) (a : Around) (bs : List FunctionBody) (codes : List Code) (old new : State) → IsModuleOf file features old.types old.ids a → All (IsReady old) bs → AreApart bs
     → AreCodesOf old bs codes → Steps file features bs old new → AreRead a codes bs old.ids new.ids
+
+-- a body that was read has as many operators, but for those that only mark where sequences end, as its sequences hold instructions
+abbrev pub BodiesHoldTheirs : Type 0
+BodiesHoldTheirs = (file : FileEnv) (features : WasmFeatures) (a : Around) (b : FunctionBody) (old new : State) → IsModuleOf file features old.types old.ids a → IsReady old b
+    → All (λ (x : ℕ). x < 256) b.chunk.bytes.now → (s : IsStep file features b old new) → text_size (operators (seqs_of s.body.builder) 0) ≡ total (contents s.body.builder.builder)

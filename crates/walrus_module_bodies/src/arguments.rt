@@ -63,6 +63,11 @@ pub(crate) fn entry_type(
 ) -> Result<TypeId, AllocError>
     ensures { IfOk result (λ entry. IfSome (results_at types.old ty) (λ results. Merges (entry_kind results) entry types.old types.new)) }
 {
+    if function_at(&*types, ty).is_some() {
+        if let Some(entry) = types.entry_ty(ty) {
+            return Ok(entry);
+        }
+    }
     let results = results_of(alloc, &*types, ty)?;
     types.add_entry_ty(results.as_slice())
 }

@@ -5,7 +5,7 @@ use Rattle.walrus_function_types.specs.Growth.{Grows}
 use Rattle.walrus_function_types.proofs.GrowthLemmas.{grows_on}
 use Rattle.walrus_index_maps.specs.Maps.{Ids}
 use Rattle.walrus_handler_types.specs.Giving.{GivesTree}
-use Rattle.walrus_handler_types.proofs.Growing.{function_results_grow, params_grow, picks_grow, tree_types_grow, trees_are_typed}
+use Rattle.walrus_handler_types.proofs.Growing.{function_results_grow, params_grow, picks_grow, total_given, tree_types_grow, trees_are_typed}
 use Rattle.walrus_handler_types.specs.walrus_handler_laws.Handlers.{told_by, tree_ids}
 use Rattle.walrus_handler_types.specs.walrus_handler_laws.Retyping.{AreTyped, HandlersStand, Widens}
 use Rattle.walrus_handler_types.specs.walrus_handler_laws.Handlers.{TreesTell}
@@ -38,7 +38,8 @@ module _ (e f : ModuleEnv) (function : ℕ) (j : Ids) (s : Sight) (aside : SeesA
 
 pub handled_bodies_stand : HandlersStand → TreesTell → HandledBodiesStand
 handled_bodies_stand stand tell e f function j s b t c new body aside stands gives later =
-    stand s (sight_in f function j) (map seq_of b) c (tree_ids t) (told_by s.tag_type b (tree_ids t)) body (widens e f function j s aside grown later.own later.tags) (tell s.tag_type b t) typed stands
+    stand s (sight_in f function j) (map seq_of b) c (tree_ids t) (told_by s.tag_type b (tree_ids t)) body (widens e f function j s aside grown later.own later.tags) (tell s.tag_type b t) typed
+    (total_given (told_by s.tag_type b (tree_ids t)) (tree_ids t) (map seq_of b) c e.types.now new own) stands
   where
     grown : Grows e.types.now f.types.now
     grown = grows_on e.types.now new f.types.now (tree_types_grow (tag_type_at e.tags.now) b t e.types.now c new gives) later.types

@@ -12,7 +12,7 @@ use Rattle.walrus_parsed_items.specs.walrus_into_laws.walrus_meaning.walrus_link
 use Rattle.walrus_parsed_items.specs.walrus_into_laws.walrus_meaning.walrus_linked.walrus_local_function.walrus_body_locals.walrus_body_nesting.declared.frames.Opener.{Opener}
 use Rattle.walrus_parsed_items.specs.walrus_into_laws.walrus_meaning.walrus_linked.walrus_local_function.walrus_body_locals.walrus_body_nesting.declared.frames.Opener.TheVariants as openers
 use Rattle.walrus_parsed_items.specs.walrus_parse.walrus_file_bodies.walrus_items_into.walrus_module_env.walrus_body_parser.walrus_body_steps.Meanings.{IsOpener, OpensOf, meaning}
-use Rattle.walrus_parsed_items.specs.walrus_parse.walrus_file_bodies.walrus_items_into.walrus_module_env.walrus_body_parser.walrus_body_steps.Picks.{ArePicks, normal_picked, with_picks}
+use Rattle.walrus_parsed_items.specs.walrus_parse.walrus_file_bodies.walrus_items_into.walrus_module_env.walrus_body_parser.walrus_body_steps.Picks.{ArePicks, normal_picked, picked_size, with_picks}
 use Rattle.walrus_parsed_items.specs.walrus_into_laws.walrus_meaning.walrus_linked.walrus_local_function.walrus_function_parser.walrus_body_rules.Sights.{Sight, written_block}
 use Rattle.walrus_parsed_items.specs.walrus_parse.walrus_module.walrus_builder.Built.{Seq}
 use Rattle.walrus_parsed_items.specs.walrus_into_laws.walrus_meaning.walrus_linked.walrus_body_writer.walrus_body_env.walrus_instr.declared.instr.Instr.{Instr}
@@ -110,4 +110,5 @@ stands_as_written s pick b t alike stands =
       ty = here.ty;
       done = here.done;
       enters = record { seq = n.seq; fresh = n.fresh; found = n.found; typed = n.typed; lie = lies_was s pick (normal same t) b [] 0 here.ty _ n.seq.instrs n.seq.end [] _ here.done alike n.lie };
+      just = here.just ∙ picked_size pick (normal same t);
     }

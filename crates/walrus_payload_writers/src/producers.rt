@@ -1,5 +1,6 @@
 //! The section `producers` (WebAssembly tool conventions).
 
+ghost use Rattle.std.specs.Prelude.{◌≡◌, [], IsOk};
 ghost use Rattle.wasm_name_payloads.specs.Written.{field_bytes, producers_bytes, value_bytes};
 ghost use Rattle.walrus_customs.specs.Producers.{field_of, fields_of, value_of, values_of};
 ghost use Rattle.walrus_payload_writers.specs.Writes.{Writes};
@@ -49,9 +50,11 @@ fn write_fields(out: &mut Vec<u8>, fields: &[ProducerField]) -> Result<()>
 ///
 /// # Errors
 ///
-/// Want of memory; `OutputLimit` of a file where the section alone is longer than one may be. What was there stands at the front.
+/// Want of memory, unless there are no fields; `OutputLimit` of a file where the section alone is longer than one may be. What was there
+/// stands at the front.
 pub fn write_producers(out: &mut Vec<u8>, fields: &[ProducerField]) -> Result<()>
-    ensures { Writes (producers_section (fields_of fields.now)) out.old.items out.new.items result }
+    ensures writes { Writes (producers_section (fields_of fields.now)) out.old.items out.new.items result }
+    ensures none { fields.now ≡ [] → IsOk result }
 {
     if fields.is_empty() {
         return Ok(());

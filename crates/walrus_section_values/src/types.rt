@@ -7,6 +7,7 @@ ghost use Rattle.walrus_forms.specs.Records.{heap_of as heap_told, ref_of as ref
 ghost use Rattle.wasm_grammar.specs.TypeWords.{abstract_of, heap_of, ref_of, value_of};
 ghost use Rattle.wasm_grammar.specs.Values.{must, named_below, ref_type, value_type};
 ghost use Rattle.walrus_section_reader.specs.Parses.{ParsesExactly};
+ghost use Rattle.walrus_section_values.specs.Plain.{plain_of};
 
 use std::alloc::Global;
 use walrus_forms::{AbstractHeapType, HeapRecord, RefRecord, ValRecord};
@@ -73,15 +74,26 @@ pub fn value_record(ty: ValType) -> Option<ValRecord>
     ensures { option_map value_told result ≡ value_of ty }
 {
     match ty {
-        ValType::I32 => Some(ValRecord::I32),
-        ValType::I64 => Some(ValRecord::I64),
-        ValType::F32 => Some(ValRecord::F32),
-        ValType::F64 => Some(ValRecord::F64),
-        ValType::V128 => Some(ValRecord::V128),
         ValType::Ref(ty) => match ref_record(ty) {
             Some(ty) => Some(ValRecord::Ref(ty)),
             None => None,
         },
+        plain => Some(plain_record(plain)),
+    }
+}
+
+// The type of a number or a vector. It stands apart, so that it is one look-up, and a list of types goes without jumps.
+#[inline(never)]
+fn plain_record(ty: ValType) -> ValRecord
+    ensures { value_told result ≡ plain_of ty }
+{
+    match ty {
+        ValType::I32 => ValRecord::I32,
+        ValType::I64 => ValRecord::I64,
+        ValType::F32 => ValRecord::F32,
+        ValType::F64 => ValRecord::F64,
+        ValType::V128 => ValRecord::V128,
+        ValType::Ref(_) => ValRecord::V128,
     }
 }
 

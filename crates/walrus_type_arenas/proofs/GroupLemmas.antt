@@ -99,9 +99,9 @@ grouped-group types news groups homes tail count home explicit g is_home sized_n
     }
 
 -- types that were made, as a table shows them
-pub shown-made : {X : Type 0} (made : List X) (f : X → TypeItem) → map (option_map item_of) (map (λ (x : X). Some (f x)) made) ≡ map (λ (x : X). Some (item_of (f x))) made
-shown-made [] f = refl
-shown-made (x ∷ made) f = ap (λ (xs : List (Option Item)). Some (item_of (f x)) ∷ xs) (shown-made made f)
+pub shown-made : (made : List TypeItem) → map (option_map item_of) (map (λ (x : TypeItem). Some x) made) ≡ map (λ (x : TypeItem). Some (item_of x)) made
+shown-made [] = refl
+shown-made (x ∷ made) = ap (λ (xs : List (Option Item)). Some (item_of x) ∷ xs) (shown-made made)
 
 pub entries_from-append : {X : Type 0} (id : ℕ) (xs ys : List (Option X)) (next : ℕ) → id + length xs ≡ next
     → entries_from id (xs ++ ys) ≡ entries_from id xs ++ entries_from next ys
@@ -121,41 +121,41 @@ const-at (x ∷ xs) home zero less = refl
 const-at (x ∷ xs) home (suc i) less = const-at xs home i (omega arith)
 
 -- a new group in a table
-pub group-pushed : {X : Type 0} (types : List (Option TypeItem)) (groups : List (Option RecGroup)) (homes : List ℕ) (made : List X) (f : X → TypeItem) (kinds : List Kind)
+pub group-pushed : (types : List (Option TypeItem)) (groups : List (Option RecGroup)) (homes : List ℕ) (made : List TypeItem) (kinds : List Kind)
     (group : RecGroup) (n home : ℕ) (explicit : Bool)
     → IsGrouped (map (option_map item_of) types) (map (option_map group_of) groups) homes
     → length types ≡ n → length groups ≡ home
-    → map (λ (x : X). Some (item_of (f x))) made ≡ new_items n kinds
+    → map (λ (x : TypeItem). Some (item_of x)) made ≡ new_items n kinds
     → group_of group ≡ record { explicit = explicit; types = range_with_len n (length kinds) }
-    → IsGrouped (map (option_map item_of) (types ++ map (λ (x : X). Some (f x)) made)) (map (option_map group_of) (groups ++ Some group ∷ [])) (homes ++ map (λ (x : X). home) made)
-group-pushed {X} types groups homes made f kinds group n home explicit g is_n is_home shown alone =
+    → IsGrouped (map (option_map item_of) (types ++ map (λ (x : TypeItem). Some x) made)) (map (option_map group_of) (groups ++ Some group ∷ [])) (homes ++ map (λ (x : TypeItem). home) made)
+group-pushed types groups homes made kinds group n home explicit g is_n is_home shown alone =
     let count_types : n ≡ length (map (option_map item_of) types) = sym (length-map types (option_map item_of) ∙ is_n) in
-    let there : map (λ (x : X). Some (item_of (f x))) made ≡ new_items (length (map (option_map item_of) types)) kinds =
+    let there : map (λ (x : TypeItem). Some (item_of x)) made ≡ new_items (length (map (option_map item_of) types)) kinds =
     shown ∙ ap (λ (k : ℕ). new_items k kinds) count_types in
-    let more_types : map (option_map item_of) (types ++ map (λ (x : X). Some (f x)) made) ≡ map (option_map item_of) types ++ new_items (length (map (option_map item_of) types)) kinds =
-    map-append (option_map item_of) types (map (λ (x : X). Some (f x)) made)
-    ∙ ap (λ (xs : List (Option Item)). map (option_map item_of) types ++ xs) (shown-made made f ∙ there) in
+    let more_types : map (option_map item_of) (types ++ map (λ (x : TypeItem). Some x) made) ≡ map (option_map item_of) types ++ new_items (length (map (option_map item_of) types)) kinds =
+    map-append (option_map item_of) types (map (λ (x : TypeItem). Some x) made)
+    ∙ ap (λ (xs : List (Option Item)). map (option_map item_of) types ++ xs) (shown-made made ∙ there) in
     let alone_here : group_of group ≡ record { explicit = explicit; types = range_with_len (length (map (option_map item_of) types)) (length kinds) } =
     alone ∙ ap (λ (k : ℕ). let h : Group = record { explicit = explicit; types = range_with_len k (length kinds) } in h) count_types in
     let more_groups : map (option_map group_of) (groups ++ Some group ∷ [])
     ≡ map (option_map group_of) groups ++ Some (record { explicit = explicit; types = range_with_len (length (map (option_map item_of) types)) (length kinds) }) ∷ [] =
     map-append (option_map group_of) groups (Some group ∷ []) ∙ ap (λ (h : Group). map (option_map group_of) groups ++ Some h ∷ []) alone_here in
     let count_made : length made ≡ length kinds =
-    sym (length-map made (λ (x : X). Some (item_of (f x)))) ∙ ap (λ (xs : List (Option Item)). length xs) shown ∙ length-new_items n kinds in
+    sym (length-map made (λ (x : TypeItem). Some (item_of x))) ∙ ap (λ (xs : List (Option Item)). length xs) shown ∙ length-new_items n kinds in
     rw (more_types, more_groups)
     (grouped-group (map (option_map item_of) types) (new_items (length (map (option_map item_of) types)) kinds) (map (option_map group_of) groups) homes
-    (map (λ (x : X). home) made) (length kinds) home explicit g
+    (map (λ (x : TypeItem). home) made) (length kinds) home explicit g
     (length-map groups (option_map group_of) ∙ is_home)
     (length-new_items (length (map (option_map item_of) types)) kinds)
-    (length-map made (λ (x : X). home) ∙ count_made)
+    (length-map made (λ (x : TypeItem). home) ∙ count_made)
     (λ i less. const-at made home i (omega arith))
     (new-some (length (map (option_map item_of) types)) kinds))
 
 -- as many types are made as there are kinds
-pub made-length : {X : Type 0} (made : List X) (f : X → TypeItem) (kinds : List Kind) (n : ℕ) → map (λ (x : X). Some (item_of (f x))) made ≡ new_items n kinds
+pub made-length : (made : List TypeItem) (kinds : List Kind) (n : ℕ) → map (λ (x : TypeItem). Some (item_of x)) made ≡ new_items n kinds
     → length made ≡ length kinds
-made-length {X} made f kinds n shown =
-    sym (length-map made (λ (x : X). Some (item_of (f x)))) ∙ ap (λ (xs : List (Option Item)). length xs) shown ∙ length-new_items n kinds
+made-length made kinds n shown =
+    sym (length-map made (λ (x : TypeItem). Some (item_of x))) ∙ ap (λ (xs : List (Option Item)). length xs) shown ∙ length-new_items n kinds
 
 -- a group with a member takes a slot
 some-slot : (explicit : Bool) (n count : ℕ) → 0 < count → group_slot explicit (range_with_len n count) ≡ Some (record { explicit = explicit; types = range_with_len n count }) ∷ []
@@ -163,18 +163,18 @@ some-slot explicit n zero some = absurd (omega arith)
 some-slot explicit n (suc count) some = refl
 
 -- the table with a new group is as it should be
-pub adds-group : {X : Type 0} (types : List (Option TypeItem)) (groups : List (Option RecGroup)) (made : List X) (f : X → TypeItem) (kinds : List Kind) (group : RecGroup) (n : ℕ) (explicit : Bool) (t : Table)
+pub adds-group : (types : List (Option TypeItem)) (groups : List (Option RecGroup)) (made : List TypeItem) (kinds : List Kind) (group : RecGroup) (n : ℕ) (explicit : Bool) (t : Table)
     → table_of types groups ≡ t → length types ≡ n
-    → map (λ (x : X). Some (item_of (f x))) made ≡ new_items n kinds
+    → map (λ (x : TypeItem). Some (item_of x)) made ≡ new_items n kinds
     → group_of group ≡ record { explicit = explicit; types = range_with_len n (length kinds) }
     → 0 < length kinds
-    → AddsGroup explicit kinds t (table_of (types ++ map (λ (x : X). Some (f x)) made) (groups ++ Some group ∷ []))
-adds-group {X} types groups made f kinds group n explicit t view is_n shown alone some =
+    → AddsGroup explicit kinds t (table_of (types ++ map (λ (x : TypeItem). Some x) made) (groups ++ Some group ∷ []))
+adds-group types groups made kinds group n explicit t view is_n shown alone some =
     let next : n ≡ next_id t = sym (length-map types (option_map item_of) ∙ is_n) ∙ ap (λ (u : Table). length u.types) view in
     record {
       types =
-          map-append (option_map item_of) types (map (λ (x : X). Some (f x)) made)
-          ∙ ap (λ (xs : List (Option Item)). map (option_map item_of) types ++ xs) (shown-made made f ∙ shown ∙ ap (λ (k : ℕ). new_items k kinds) next)
+          map-append (option_map item_of) types (map (λ (x : TypeItem). Some x) made)
+          ∙ ap (λ (xs : List (Option Item)). map (option_map item_of) types ++ xs) (shown-made made ∙ shown ∙ ap (λ (k : ℕ). new_items k kinds) next)
           ∙ ap (λ (u : Table). u.types ++ new_items (next_id t) kinds) view;
       groups =
           map-append (option_map group_of) groups (Some group ∷ [])

@@ -10,8 +10,7 @@ use Rattle.walrus_type_index.specs.walrus_items.walrus_forms.Forms.{is_function}
 use Rattle.walrus_type_index.specs.walrus_items.walrus_forms.Kinds.{Kind, kind_names, function_kind}
 use Rattle.walrus_type_index.specs.walrus_items.Items.{Item, Group, item_of, group_of, has_name}
 use Rattle.walrus_type_index.specs.walrus_items.walrus_forms.Same.{same_kind}
-use Rattle.walrus_type_index.specs.Ordered.{IsOrdered, is_marked}
-use Rattle.walrus_type_index.specs.declared.node.Hashed.{Hashed}
+use Rattle.walrus_type_index.specs.Ordered.{Indexed, IsHeld, is_marked}
 -- whether a type of an id and kind names itself
 pub use Rattle.walrus_type_index.specs.Places.{names_itself}
 
@@ -159,7 +158,7 @@ pub record IsGrouped (types : List (Option Item)) (groups : List (Option Group))
   pub once : (group : ℕ) (g : Group) → slice_index_or groups group None ≡ Some g → AllPairs (λ x y. x ≢ y) g.types
   pub homes_rise : RiseBelow (length groups) homes
 
--- what holds of every table: types are grouped, and the index has those of these kinds in order
-pub record IsSound (lent : Option ℕ) (index : List Hashed) (kinds : List (Option Kind)) (t : Table) (homes : List ℕ) : Type 0 where
-  pub ordered : IsOrdered lent index kinds
+-- what holds of every table: types are grouped, and the index has those of these kinds in order, with a place for each id
+pub record IsSound (lent : Option ℕ) (index : Indexed) (kinds : List (Option Kind)) (t : Table) (homes : List ℕ) : Type 0 where
+  pub held : IsHeld lent index kinds
   pub grouped : IsGrouped t.types t.groups homes

@@ -1,12 +1,12 @@
 //! Deleting types from a table.
-ghost use Rattle.std.specs.Prelude.{◌≡◌, ◌<◌, length, slice_index, ℕ, Bool, true, false, not, [], map, filter, Contains, Some, None, IsSome, slice_set, if◌then◌else◌};
-ghost use Rattle.std.specs.Bool.{OnTrue, OnFalse};
+ghost use Rattle.std.specs.Prelude.{◌≡◌, ◌<◌, length, slice_index, ℕ, false, not, [], map, filter, Some, None, slice_set, if◌then◌else◌};
+ghost use Rattle.std.specs.Bool.{OnFalse};
 ghost use Rattle.std.specs.Option.{option_map, option_and_then};
 ghost use Rattle.walrus_type_index.specs.walrus_items.walrus_arena.Arena.{IsLive as HasLive, item_at};
 ghost use Rattle.walrus_type_index.specs.walrus_items.Items.{Group, group_of, item_of};
 ghost use Rattle.walrus_type_index.specs.Places.{kinds_in};
-ghost use Rattle.walrus_type_index.specs.Ordered.{IsOrdered, is_marked};
-ghost use Rattle.walrus_type_arenas.specs.Table.{IsLive, Deletes, DeletesGroup, group_at, is_named_in, is_named_at, clear_all, marked, without_member, without_marked, table_of};
+ghost use Rattle.walrus_type_index.specs.Ordered.{IsHeld, is_marked};
+ghost use Rattle.walrus_type_arenas.specs.Table.{is_named_in, is_named_at, clear_all, marked, without_member, without_marked, table_of};
 
 use walrus_type_index::arena::{RecGroupId, RecGroupSpace, TombstoneArena, TypeId, TypeSpace};
 use walrus_type_index::items::{RecGroup, Type};
@@ -31,9 +31,9 @@ pub fn leave_group(
 
 // Deletes a type, if it lives. No type is lent.
 fn clear(types: &mut TombstoneArena<Type, TypeSpace>, index: &mut Index, id: TypeId)
-    requires { IsOrdered None index.old (kinds_in types.old.slots) }
+    requires { IsHeld None index.old (kinds_in types.old.slots) }
     ensures types { types.new.slots ≡ slice_set types.old.slots id None }
-    ensures ordered { IsOrdered None index.new (kinds_in types.new.slots) }
+    ensures held { IsHeld None index.new (kinds_in types.new.slots) }
 {
     if types.contains(id) {
         let mut lent = None;
@@ -44,9 +44,9 @@ fn clear(types: &mut TombstoneArena<Type, TypeSpace>, index: &mut Index, id: Typ
 
 /// Deletes these types, those of them that live, each by a search of the index. No type is lent.
 pub fn clear_each(types: &mut TombstoneArena<Type, TypeSpace>, index: &mut Index, ids: &[TypeId])
-    requires { IsOrdered None index.old (kinds_in types.old.slots) }
+    requires { IsHeld None index.old (kinds_in types.old.slots) }
     ensures types { map (option_map item_of) types.new.slots ≡ clear_all ids.now (map (option_map item_of) types.old.slots) }
-    ensures ordered { IsOrdered None index.new (kinds_in types.new.slots) }
+    ensures held { IsHeld None index.new (kinds_in types.new.slots) }
 {
     for id in ids {
         clear(types, index, *id);
@@ -84,9 +84,9 @@ fn has_marked(marks: &[bool]) -> bool
 
 /// Deletes the types of the marked ids, those of them that live, and then takes them out of the index in one walk of it. No type is lent.
 pub fn clear_marked(types: &mut TombstoneArena<Type, TypeSpace>, index: &mut Index, marks: &[bool])
-    requires { IsOrdered None index.old (kinds_in types.old.slots) }
+    requires { IsHeld None index.old (kinds_in types.old.slots) }
     ensures types { map (option_map item_of) types.new.slots ≡ clear_all (marked marks.now) (map (option_map item_of) types.old.slots) }
-    ensures ordered { IsOrdered None index.new (kinds_in types.new.slots) }
+    ensures held { IsHeld None index.new (kinds_in types.new.slots) }
 {
     if !has_marked(marks) {
         return;

@@ -1,9 +1,9 @@
 //! Adding recursion groups to a table.
-ghost use Rattle.std.specs.Prelude.{◌≡◌, ◌+◌, ◌<◌, ◌≤◌, ◌^◌, ℕ, List, [], ◌∷◌, ◌++◌, length, map, Some, None, false, IfOk, OnOk, vec_len, vec_capacity, IfErr, OnErr, true};
+ghost use Rattle.std.specs.Prelude.{◌≡◌, ◌+◌, ◌<◌, ◌≤◌, ◌^◌, [], ◌∷◌, ◌++◌, length, map, Some, None, false, IfOk, OnOk, vec_len, vec_capacity, IfErr, OnErr, true};
 ghost use Rattle.std.specs.List.{range_with_len};
 ghost use Rattle.walrus_type_index.specs.walrus_items.Items.{item_of};
 ghost use Rattle.walrus_type_index.specs.Places.{kinds_in};
-ghost use Rattle.walrus_type_index.specs.Ordered.{IsIndex, IsOrdered};
+ghost use Rattle.walrus_type_index.specs.Ordered.{IsHeld};
 ghost use Rattle.walrus_type_arenas.specs.Counts.{IsMiscount};
 ghost use Rattle.walrus_type_arenas.specs.Groups.{new_items, member_kind, AddsGroup};
 ghost use Rattle.walrus_type_arenas.specs.Table.{table_of, IsSound};
@@ -13,7 +13,7 @@ use std::alloc::{AllocError, Global};
 use walrus_type_index::arena::{RecGroupId, RecGroupSpace, TombstoneArena, TypeId, TypeSpace};
 use walrus_type_index::forms::CompositeType;
 use walrus_type_index::items::{RecGroup, Type};
-use walrus_type_index::{Index, Spare, enter};
+use walrus_type_index::{Index, enter};
 
 /// What a new member of a recursion group is to be.
 #[derive(Drop)]
@@ -54,15 +54,10 @@ pub fn ids_from(alloc: Global, first: TypeId, count: usize) -> Result<Vec<TypeId
     Ok(ids)
 }
 
-// The types of these members, the first of which has this id, each with the memory to enter it into the
-// index.
-fn types_of(
-    alloc: Global,
-    first: TypeId,
-    members: Vec<NewType>,
-) -> Result<Vec<(Type, Spare)>, AllocError>
+// The types of these members, the first of which has this id.
+fn types_of(alloc: Global, first: TypeId, members: Vec<NewType>) -> Result<Vec<Type>, AllocError>
     requires { first + length members.items < 2 ^ 32 }
-    ensures { IfOk result (λ types. map (λ new. Some (item_of new.0)) types.items ≡ new_items first (map member_kind members.items)) }
+    ensures { IfOk result (λ types. map (λ new. Some (item_of new)) types.items ≡ new_items first (map member_kind members.items)) }
 {
     let mut types = Vec::new(alloc);
     let mut next = first.index();
@@ -73,49 +68,44 @@ fn types_of(
             supertype,
         } = member;
         let id = TypeId::from_index(next);
-        let spare = Spare::new(alloc, id)?;
-        types.push((Type::new(id, kind, is_final, supertype, false), spare))?;
+        types.push(Type::new(id, kind, is_final, supertype, false))?;
         next += 1;
     }
     Ok(types)
 }
 
-// Adds the type, and enters it into the index. Asks for room.
-fn push_type(types: &mut TombstoneArena<Type, TypeSpace>, index: &mut Index, ty: Type, spare: Spare)
+// Adds the type, and enters it into the index. Asks for room. Takes no memory.
+fn push_type(types: &mut TombstoneArena<Type, TypeSpace>, index: &mut Index, ty: Type)
     requires room { 0 < types.old.room }
-    requires ordered { IsOrdered None index.old (kinds_in types.old.slots) }
+    requires index_room { length types.old.slots + 1 ≤ index.old.room }
+    requires held { IsHeld None index.old (kinds_in types.old.slots) }
     ensures types { types.new.slots ≡ types.old.slots ++ Some ty ∷ [] }
     ensures room { types.new.room + 1 ≡ types.old.room }
-    ensures ordered { IsOrdered None index.new (kinds_in types.new.slots) }
+    ensures index_room { index.new.room ≡ index.old.room }
+    ensures held { IsHeld None index.new (kinds_in types.new.slots) }
 {
     let id = types.alloc_reserved(ty);
-    enter(index, types, spare.with_id(id));
+    enter(index, types, id);
 }
 
-/// What a type that is alone in its group needs beside itself: the list of the group's members, and memory to enter it into the index.
-#[derive(Drop)]
-pub struct Single {
-    pub members: Vec<TypeId>,
-    pub spare: Spare,
+/// The list of the members of a group that has this type alone.
+///
+/// # Errors
+///
+/// Want of memory.
+pub fn one_member(alloc: Global, id: TypeId) -> Result<Vec<TypeId>, AllocError>
+    ensures { IfOk result (λ members. members.items ≡ id ∷ []) }
+{
+    let mut members = Vec::new(alloc);
+    members.push(id)?;
+    Ok(members)
 }
 
-impl Single {
-    /// For the type of this id.
-    ///
-    /// # Errors
-    ///
-    /// Want of memory.
-    pub fn new(alloc: Global, id: TypeId) -> Result<Single, AllocError>
-        ensures { IfOk result (λ single. single.members.items ≡ id ∷ []) }
-    {
-        let mut members = Vec::new(alloc);
-        members.push(id)?;
-        let spare = Spare::new(alloc, id)?;
-        Ok(Single { members, spare })
-    }
-}
-
-/// Makes room for so many types, each alone in its group, and lets the index have more trees.
+/// Makes room for so many types, each alone in its group, in the index, too. No type is lent.
+///
+/// # Errors
+///
+/// Want of memory.
 pub fn reserve_singles(
     alloc: Global,
     types: &mut TombstoneArena<Type, TypeSpace>,
@@ -124,65 +114,69 @@ pub fn reserve_singles(
     index: &mut Index,
     count: usize,
 ) -> Result<(), AllocError>
-    requires { IsIndex (kinds_in types.old.slots) index.old }
-    ensures index { index.new ≡ index.old }
+    requires { IsHeld None index.old (kinds_in types.old.slots) }
+    ensures held { IsHeld None index.new (kinds_in types.new.slots) }
     ensures types { types.new.slots ≡ types.old.slots }
     ensures groups { groups.new.slots ≡ groups.old.slots }
     ensures homes { homes.new.items ≡ homes.old.items }
+    ensures index_room { OnOk result (length types.new.slots + count ≤ index.new.room) }
     ensures types_room { OnOk result (count ≤ types.new.room) }
     ensures groups_room { OnOk result (count ≤ groups.new.room) }
     ensures homes_room { OnOk result (vec_len homes.new + count ≤ vec_capacity homes.new) }
 {
-    index.widen(alloc, types, count)?;
+    index.reserve(alloc, types, count)?;
     types.reserve(count)?;
     groups.reserve(count)?;
     homes.reserve(count)
 }
 
-/// Adds the type, alone in its group, and enters it into the index. Asks for room.
+/// Adds the type, alone in its group, whose list of members is given, and enters it into the index. Asks for room. Takes no memory.
 pub fn push_single(
     types: &mut TombstoneArena<Type, TypeSpace>,
     groups: &mut TombstoneArena<RecGroup, RecGroupSpace>,
     homes: &mut Vec<RecGroupId>,
     index: &mut Index,
     ty: Type,
-    single: Single,
+    members: Vec<TypeId>,
 )
     requires types { 0 < types.old.room }
     requires groups { 0 < groups.old.room }
     requires homes { vec_len homes.old < vec_capacity homes.old }
-    requires ordered { IsOrdered None index.old (kinds_in types.old.slots) }
+    requires index { length types.old.slots + 1 ≤ index.old.room }
+    requires held { IsHeld None index.old (kinds_in types.old.slots) }
     ensures types { types.new.slots ≡ types.old.slots ++ Some ty ∷ [] }
     ensures types_room { types.new.room + 1 ≡ types.old.room }
-    ensures groups { groups.new.slots ≡ groups.old.slots ++ Some (record { types = single.members; explicit = false }) ∷ [] }
+    ensures groups { groups.new.slots ≡ groups.old.slots ++ Some (record { types = members; explicit = false }) ∷ [] }
     ensures groups_room { groups.new.room + 1 ≡ groups.old.room }
     ensures homes { homes.new.items ≡ homes.old.items ++ length groups.old.slots ∷ [] }
     ensures homes_len { vec_len homes.new ≡ vec_len homes.old + 1 }
     ensures homes_room { vec_capacity homes.new ≡ vec_capacity homes.old }
-    ensures ordered { IsOrdered None index.new (kinds_in types.new.slots) }
+    ensures index_room { index.new.room ≡ index.old.room }
+    ensures held { IsHeld None index.new (kinds_in types.new.slots) }
 {
-    let home = groups.alloc_reserved(RecGroup::new(false, single.members));
+    let home = groups.alloc_reserved(RecGroup::new(false, members));
     homes.push_reserved(home);
-    push_type(types, index, ty, single.spare);
+    push_type(types, index, ty);
 }
 
-// Adds these types, all of one group, and enters them into the index. Asks for room.
+// Adds these types, all of one group, and enters them into the index. Asks for room. Takes no memory.
 fn push_types(
     types: &mut TombstoneArena<Type, TypeSpace>,
     homes: &mut Vec<RecGroupId>,
     index: &mut Index,
-    new: Vec<(Type, Spare)>,
+    new: Vec<Type>,
     home: RecGroupId,
 )
     requires types { length new.items ≤ types.old.room }
     requires homes { vec_len homes.old + length new.items ≤ vec_capacity homes.old }
-    requires ordered { IsOrdered None index.old (kinds_in types.old.slots) }
-    ensures types { types.new.slots ≡ types.old.slots ++ map (λ one. Some one.0) new.items }
+    requires index { length types.old.slots + length new.items ≤ index.old.room }
+    requires held { IsHeld None index.old (kinds_in types.old.slots) }
+    ensures types { types.new.slots ≡ types.old.slots ++ map (λ one. Some one) new.items }
     ensures homes { homes.new.items ≡ homes.old.items ++ map (λ _. home) new.items }
-    ensures ordered { IsOrdered None index.new (kinds_in types.new.slots) }
+    ensures held { IsHeld None index.new (kinds_in types.new.slots) }
 {
-    for (ty, spare) in new {
-        push_type(types, index, ty, spare);
+    for ty in new {
+        push_type(types, index, ty);
         homes.push_reserved(home);
     }
 }
@@ -214,7 +208,7 @@ pub fn append_members(
     let first = types.next_id();
     let ids = ids_from(alloc, first, count)?;
     let made = types_of(alloc, first, members)?;
-    index.widen(alloc, types, count)?;
+    index.reserve(alloc, types, count)?;
     types.reserve(count)?;
     homes.reserve(count)?;
     groups.reserve(1)?;

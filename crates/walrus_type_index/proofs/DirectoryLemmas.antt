@@ -1,7 +1,7 @@
 -- Lists of ids over a directory: what is looked for lies in the tree of its place alone.
-use Rattle.std.proofs.Common.{◌≡◌, ◌∙◌, ℕ, zero, suc, ◌+◌, ◌/◌, ◌^◌, ◌<◌, ◌≤◌, ◌==◌, Bool, true, false, cond, not, List, [], ◌∷◌, ◌++◌, length, filter, find, slice_index_or, slice_set, Option, Some, None, inl, inr, refl, sym, ap, subst, arith, Ordering, Less, Equal, Greater}
+use Rattle.std.proofs.Common.{◌≡◌, ◌∙◌, ℕ, zero, suc, ◌+◌, ◌/◌, ◌^◌, ◌<◌, ◌≤◌, ◌==◌, Bool, true, false, cond, not, List, [], ◌∷◌, ◌++◌, length, filter, find, slice_index_or, slice_set, Option, Some, None, is_some, inl, inr, refl, sym, ap, subst, arith, Ordering, Less, Equal, Greater}
 use Rattle.std.specs.Ordering.{ordering_then, nat_cmp, is_lt, MatchOrdering}
-use Rattle.std.specs.Option.{option_or}
+use Rattle.std.specs.Option.{option_map, option_or}
 use Rattle.std.specs.List.{AllByRecursion}
 use Rattle.std.specs.List.Sorted.{IsStrictlySortedBy}
 use Rattle.std.specs.Cmp.{ranks}
@@ -11,11 +11,11 @@ use Rattle.std.proofs.lemmas.Bool.{cases_lt, cases_Bool, false≢true, eqb-true,
 use Rattle.std.proofs.lemmas.List.Elements.{filter-append}
 use Rattle.std.proofs.lemmas.List.Folds.{find-append}
 use Rattle.walrus_items.specs.walrus_forms.Kinds.{Kind}
-use Rattle.walrus_type_index.specs.Places.{Hashed, id_cmp, key_cmp, hashed_at, hashed_cmp, is_before, is_exactly, last_in, last_of, put_in, entered}
+use Rattle.walrus_type_index.specs.Places.{Hashed, id_cmp, key_cmp, hashed_at, hashed_cmp, is_before, is_tied, is_exactly, last_in, last_of, put_in, entered}
 use Rattle.walrus_type_index.specs.Hashes.{hash_of, hash_at}
 use Rattle.walrus_type_index.specs.Ordered.{IsIndex}
 use Rattle.walrus_type_index.specs.Directory.{place_of, joined, AreSpread, tree_at, last_set, is_later, halves, last_half, changed_to}
-use Rattle.walrus_type_index.proofs.TreeLemmas.{Sorted, all-map, all-front, sorted-front, put-step, last-none, split-right, all-stay, or-none, exact-wanted, then-first, number-tied}
+use Rattle.walrus_type_index.proofs.TreeLemmas.{Sorted, all-map, all-front, sorted-front, put-step, last-none, split-right, all-stay, or-none, exact-wanted, then-first, number-tied, left-at, found-at}
 use Rattle.walrus_type_index.proofs.OrderedLemmas.{all-put, all-filter}
 
 -- all of a list
@@ -95,48 +95,30 @@ tree-index ks trees p last i = record {
   hashed = tree-all (λ x. x.hash ≡ hash_at ks x.id) trees p last i.hashed;
 }
 
-pub tree-inside : (trees : List (List Hashed)) (p : ℕ) (last d : List Hashed) → p < length trees → slice_index_or trees p d ≡ tree_at trees p last
+pub tree-inside : {A : Type 0} (trees : List A) (p : ℕ) (last d : A) → p < length trees → slice_index_or trees p d ≡ tree_at trees p last
 tree-inside [] p last d less = absurd (omega (arith, less))
 tree-inside (tree ∷ trees) zero last d less = refl
 tree-inside (tree ∷ trees) (suc p) last d less = tree-inside trees p last d (omega (arith, less))
 
-pub tree-past : (trees : List (List Hashed)) (p : ℕ) (last : List Hashed) → length trees ≤ p → last ≡ tree_at trees p last
+pub tree-past : {A : Type 0} (trees : List A) (p : ℕ) (last : A) → length trees ≤ p → last ≡ tree_at trees p last
 tree-past [] p last up = refl
 tree-past (tree ∷ trees) zero last up = absurd (omega (arith, up))
 tree-past (tree ∷ trees) (suc p) last up = tree-past trees p last (omega (arith, up))
 
-pub last-inside : (trees : List (List Hashed)) (p : ℕ) (last new : List Hashed) → p < length trees → last ≡ last_set trees p last new
+pub last-inside : {A : Type 0} (trees : List A) (p : ℕ) (last new : A) → p < length trees → last ≡ last_set trees p last new
 last-inside [] p last new less = absurd (omega (arith, less))
 last-inside (tree ∷ trees) zero last new less = refl
 last-inside (tree ∷ trees) (suc p) last new less = last-inside trees p last new (omega (arith, less))
 
-pub last-past : (trees : List (List Hashed)) (p : ℕ) (last new : List Hashed) → length trees ≤ p → new ≡ last_set trees p last new
+pub last-past : {A : Type 0} (trees : List A) (p : ℕ) (last new : A) → length trees ≤ p → new ≡ last_set trees p last new
 last-past [] p last new up = refl
 last-past (tree ∷ trees) zero last new up = absurd (omega (arith, up))
 last-past (tree ∷ trees) (suc p) last new up = last-past trees p last new (omega (arith, up))
 
-set-twice : (trees : List (List Hashed)) (p : ℕ) (a b : List Hashed) → slice_set (slice_set trees p a) p b ≡ slice_set trees p b
-set-twice [] p a b = refl
-set-twice (tree ∷ trees) zero a b = refl
-set-twice (tree ∷ trees) (suc p) a b = ap (λ (ts : List (List Hashed)). tree ∷ ts) (set-twice trees p a b)
-
-last-twice : (trees : List (List Hashed)) (p : ℕ) (last a b : List Hashed) → last_set (slice_set trees p a) p (last_set trees p last a) b ≡ last_set trees p last b
-last-twice [] p last a b = refl
-last-twice (tree ∷ trees) zero last a b = refl
-last-twice (tree ∷ trees) (suc p) last a b = last-twice trees p last a b
-
--- what a tree was made of, while it was out of the directory
+-- one tree became another
 pub record Put (trees : List (List Hashed)) (p : ℕ) (last new : List Hashed) (trees_now : List (List Hashed)) (last_now : List Hashed) : Type 0 where
   pub trees_are : trees_now ≡ slice_set trees p new
   pub last_is : last_now ≡ last_set trees p last new
-
-pub put-back : (trees out : List (List Hashed)) (p : ℕ) (last last_out none new : List Hashed) (trees_now : List (List Hashed)) (last_now : List Hashed)
-    → out ≡ slice_set trees p none → last_out ≡ last_set trees p last none → trees_now ≡ slice_set out p new → last_now ≡ last_set out p last_out new
-    → Put trees p last new trees_now last_now
-put-back trees out p last last_out none new trees_now last_now o lo t l = record {
-  trees_are = t ∙ ap (λ (ts : List (List Hashed)). slice_set ts p new) o ∙ set-twice trees p none new;
-  last_is = l ∙ ap (λ (ts : List (List Hashed)). last_set ts p last_out new) o ∙ ap (λ (xs : List Hashed). last_set (slice_set trees p none) p xs new) lo ∙ last-twice trees p last none new;
-}
 
 pub spread-put : (shift : ℕ) (f : List Hashed → List Hashed) (new : Hashed) → ((P : Hashed → Type 0) → P new → (xs : List Hashed) → AllByRecursion P xs → AllByRecursion P (f xs))
     → (trees : List (List Hashed)) (p place : ℕ) (last : List Hashed) → place_of shift new.hash ≡ place + p → AreSpread shift trees place last
@@ -273,12 +255,12 @@ put-done ks shift id hashed trees p last new trees_now last_now h at s put e =
 
 pub take-done : (ks : List (Option Kind)) (shift id : ℕ) (hashed : Hashed) (trees : List (List Hashed)) (p : ℕ) (last new : List Hashed) (trees_now : List (List Hashed)) (last_now : List Hashed)
     → hashed ≡ hashed_at ks id → p ≡ place_of shift hashed.hash → IsIndex ks (joined trees last) → AreSpread shift trees 0 last → Put trees p last new trees_now last_now
-    → new ≡ filter (λ x. not (x.id == hashed.id)) (tree_at trees p last)
+    → new ≡ filter (λ x. not (is_tied ks hashed x)) (tree_at trees p last)
     → AreSpread shift trees_now 0 last_now × (joined trees_now last_now ≡ filter (λ x. not (x.id == id)) (joined trees last))
 take-done ks shift id hashed trees p last new trees_now last_now h at i s put e =
     let f : List Hashed → List Hashed = filter (λ x. not (x.id == id)) in
     let place : place_of shift (hash_at ks id) ≡ 0 + p = ap (λ (x : Hashed). place_of shift x.hash) (sym h) ∙ sym at ∙ zero-plus p in
-    let is : new ≡ f (tree_at trees p last) = e ∙ ap (λ (y : Hashed). filter (λ x. not (x.id == y.id)) (tree_at trees p last)) h in (
+    let is : new ≡ f (tree_at trees p last) = e ∙ left-at ks id (tree_at trees p last) hashed (tree-index ks trees p last i).hashed h in (
       spread-now shift f trees p last new trees_now last_now put is
           (spread-put shift f (hashed_at ks id) (λ P a xs all. all-filter P (λ x. not (x.id == id)) xs all) trees p 0 last place s),
       joined-now f trees p last new trees_now last_now put is
@@ -286,14 +268,40 @@ take-done ks shift id hashed trees p last new trees_now last_now h at i s put e 
           (subst (λ (k : ℕ). AllByRecursion (Here shift (λ x. x.id == id) k) (joined trees last)) place (id-here ks shift id (joined trees last) i.hashed)) s,
     )
 
-pub take-found : (ks : List (Option Kind)) (shift id : ℕ) (hashed : Hashed) (trees : List (List Hashed)) (p : ℕ) (last : List Hashed)
+take-found : (ks : List (Option Kind)) (shift id : ℕ) (hashed : Hashed) (trees : List (List Hashed)) (p : ℕ) (last : List Hashed)
     → hashed ≡ hashed_at ks id → p ≡ place_of shift hashed.hash → IsIndex ks (joined trees last) → AreSpread shift trees 0 last
-    → find (λ x. x.id == hashed.id) (tree_at trees p last) ≡ find (λ x. x.id == id) (joined trees last)
+    → find (is_tied ks hashed) (tree_at trees p last) ≡ find (λ x. x.id == id) (joined trees last)
 take-found ks shift id hashed trees p last h at i s =
     let place : place_of shift (hash_at ks id) ≡ 0 + p = ap (λ (x : Hashed). place_of shift x.hash) (sym h) ∙ sym at ∙ zero-plus p in
-    ap (λ (y : Hashed). find (λ x. x.id == y.id) (tree_at trees p last)) h
+    found-at ks id (tree_at trees p last) hashed (tree-index ks trees p last i).hashed h
     ∙ sym (found-joined shift (λ x. x.id == id) trees p 0 last
     (subst (λ (k : ℕ). AllByRecursion (Here shift (λ x. x.id == id) k) (joined trees last)) place (id-here ks shift id (joined trees last) i.hashed)) s)
+
+found-id : (id : ℕ) (xs : List Hashed) → true ≡ is_some (find (λ x. x.id == id) xs) → Some id ≡ option_map (λ (x : Hashed). x.id) (find (λ x. x.id == id) xs)
+found-id id [] e = absurd (false≢true (sym e))
+found-id id (x ∷ xs) e = elim (cases_Bool (x.id == id)) as (λ _. Some id ≡ option_map (λ (y : Hashed). y.id) (cond (x.id == id) (Some x) (find (λ y. y.id == id) xs))) [
+  | inl same ↦ ap Some (sym (eqb-true x.id id same)) ∙ ap (λ (b : Bool). option_map (λ (y : Hashed). y.id) (cond b (Some x) (find (λ y. y.id == id) xs))) (sym same)
+  | inr other ↦
+      let here : cond (x.id == id) (Some x) (find (λ y. y.id == id) xs) ≡ find (λ y. y.id == id) xs = ap (λ (b : Bool). cond b (Some x) (find (λ y. y.id == id) xs)) other in
+      found-id id xs (e ∙ ap (λ (o : Option Hashed). is_some o) here) ∙ ap (option_map (λ (y : Hashed). y.id)) (sym here)
+]
+
+found-none : (o : Option Hashed) → false ≡ is_some o → None ≡ option_map (λ (x : Hashed). x.id) o
+found-none None e = refl
+found-none (Some x) e = absurd (false≢true e)
+
+-- what is answered where it was in, and where it wasn't
+pub took-it : (ks : List (Option Kind)) (shift id : ℕ) (hashed : Hashed) (trees : List (List Hashed)) (p : ℕ) (last : List Hashed)
+    → hashed ≡ hashed_at ks id → p ≡ place_of shift hashed.hash → IsIndex ks (joined trees last) → AreSpread shift trees 0 last → true ≡ is_some (find (is_tied ks hashed) (tree_at trees p last))
+    → Some id ≡ option_map (λ (x : Hashed). x.id) (find (λ x. x.id == id) (joined trees last))
+took-it ks shift id hashed trees p last h at i s met =
+    found-id id (joined trees last) (met ∙ ap (λ (o : Option Hashed). is_some o) (take-found ks shift id hashed trees p last h at i s))
+
+pub took-none : (ks : List (Option Kind)) (shift id : ℕ) (hashed : Hashed) (trees : List (List Hashed)) (p : ℕ) (last : List Hashed)
+    → hashed ≡ hashed_at ks id → p ≡ place_of shift hashed.hash → IsIndex ks (joined trees last) → AreSpread shift trees 0 last → false ≡ is_some (find (is_tied ks hashed) (tree_at trees p last))
+    → None ≡ option_map (λ (x : Hashed). x.id) (find (λ x. x.id == id) (joined trees last))
+took-none ks shift id hashed trees p last h at i s met =
+    found-none (find (λ x. x.id == id) (joined trees last)) (met ∙ ap (λ (o : Option Hashed). is_some o) (take-found ks shift id hashed trees p last h at i s))
 
 -- sweeping
 pub spread-swept : (shift : ℕ) (p : Hashed → Bool) (trees : List (List Hashed)) (place : ℕ) (last : List Hashed) → AreSpread shift trees place last
@@ -409,10 +417,6 @@ pub record Halved (shift : ℕ) (trees : List (List Hashed)) (last : List Hashed
   pub trees_are : done ++ halves shift left (length done) last ≡ halves shift trees 0 last
   pub last_is : last_half shift left (length done) last ≡ last_half shift trees 0 last
 
-lists-three : (a b c : List (List Hashed)) → (a ++ b) ++ c ≡ a ++ (b ++ c)
-lists-three [] b c = refl
-lists-three (x ∷ a) b c = ap (λ (zs : List (List Hashed)). x ∷ zs) (lists-three a b c)
-
 two-more : (a : List (List Hashed)) (x y : List Hashed) → length ((a ++ x ∷ []) ++ y ∷ []) ≡ suc (suc (length a))
 two-more [] x y = refl
 two-more (z ∷ a) x y = ap suc (two-more a x y)
@@ -433,11 +437,6 @@ halved-more shift trees last done tree left h =
       last_is = ap (λ (k : ℕ). last_half shift left k last) (two-more done low high) ∙ h.last_is;
     }
 
-pub halved-first : (shift : ℕ) (trees : List (List Hashed)) (last : List Hashed) (wide left : List (List Hashed)) → wide ≡ [] → left ≡ trees → Halved shift trees last wide left
-halved-first shift trees last wide left none all =
-    subst (λ (done : List (List Hashed)). Halved shift trees last done left) (sym none)
-    (subst (λ (ts : List (List Hashed)). Halved shift trees last [] ts) (sym all) (record { trees_are = refl; last_is = refl }))
-
 pub halved-last : (shift : ℕ) (trees : List (List Hashed)) (last : List Hashed) (done left : List (List Hashed)) (count : ℕ) (before behind : List Hashed) (now : List (List Hashed))
     → Halved shift trees last done left → left ≡ [] → count ≡ length done → before ≡ filter (λ x. not (is_later shift count x)) last → behind ≡ filter (is_later shift count) last → now ≡ done ++ before ∷ []
     → (now ≡ halves shift trees 0 last) × (behind ≡ last_half shift trees 0 last)
@@ -447,16 +446,14 @@ halved-last shift trees last done left count before behind now h none counted b 
       a ∙ ap (λ (k : ℕ). filter (is_later shift k) last) counted ∙ e.last_is,
     )
 
-pub widened : (ks : List (Option Kind)) (old shift : ℕ) (trees taken : List (List Hashed)) (last last_taken : List Hashed) (now : List (List Hashed)) (last_now : List Hashed)
-    → taken ≡ trees → last_taken ≡ last → old ≡ suc shift → now ≡ halves shift taken 0 last_taken → last_now ≡ last_half shift taken 0 last_taken → Sorted ks (joined trees last) → AreSpread old trees 0 last
+pub widened : (ks : List (Option Kind)) (old shift : ℕ) (trees : List (List Hashed)) (last : List Hashed) (now : List (List Hashed)) (last_now : List Hashed)
+    → old ≡ suc shift → now ≡ halves shift trees 0 last → last_now ≡ last_half shift trees 0 last → Sorted ks (joined trees last) → AreSpread old trees 0 last
     → AreSpread shift now 0 last_now × (joined now last_now ≡ joined trees last)
-widened ks old shift trees taken last last_taken now last_now t l o n ln sorted s =
-    let now_is : now ≡ halves shift trees 0 last = n ∙ ap (λ (ts : List (List Hashed)). halves shift ts 0 last_taken) t ∙ ap (halves shift trees 0) l in
-    let last_is : last_now ≡ last_half shift trees 0 last = ln ∙ ap (λ (ts : List (List Hashed)). last_half shift ts 0 last_taken) t ∙ ap (last_half shift trees 0) l in (
-      subst (λ (ts : List (List Hashed)). AreSpread shift ts 0 last_now) (sym now_is) (subst (λ (xs : List Hashed). AreSpread shift (halves shift trees 0 last) 0 xs) (sym last_is)
-          (spread-halves shift trees 0 0 last refl (subst (λ (k : ℕ). AreSpread k trees 0 last) o s))),
-      ap (λ (ts : List (List Hashed)). joined ts last_now) now_is ∙ ap (joined (halves shift trees 0 last)) last_is ∙ halves-joined ks shift trees 0 last sorted,
-    )
+widened ks old shift trees last now last_now o now_is last_is sorted s = (
+  subst (λ (ts : List (List Hashed)). AreSpread shift ts 0 last_now) (sym now_is) (subst (λ (xs : List Hashed). AreSpread shift (halves shift trees 0 last) 0 xs) (sym last_is)
+      (spread-halves shift trees 0 0 last refl (subst (λ (k : ℕ). AreSpread k trees 0 last) o s))),
+  ap (λ (ts : List (List Hashed)). joined ts last_now) now_is ∙ ap (joined (halves shift trees 0 last)) last_is ∙ halves-joined ks shift trees 0 last sorted,
+)
 
 pub swept-done : (shift : ℕ) (p : Hashed → Bool) (trees : List (List Hashed)) (last : List Hashed) (now : List (List Hashed)) (last_now : List Hashed)
     → now ≡ changed_to (filter p) (length trees) trees → last_now ≡ filter p last → AreSpread shift trees 0 last → AreSpread shift now 0 last_now × (joined now last_now ≡ filter p (joined trees last))

@@ -1,5 +1,5 @@
 -- An index over lends, deletes and adds.
-use Rattle.std.proofs.Common.{◌≡◌, ◌∙◌, ℕ, ◌<◌, ◌≤◌, ◌==◌, ◌||◌, ◌&&◌, Bool, true, false, cond, not, List, [], ◌∷◌, filter, find, slice_index_or, Option, Some, None, inl, inr, refl, sym, ap, subst, arith, Ordering, Less, Equal, Greater, eq-eqb}
+use Rattle.std.proofs.Common.{◌≡◌, ◌∙◌, ℕ, ◌<◌, ◌≤◌, ◌==◌, ◌||◌, ◌&&◌, Bool, true, false, cond, not, zero, suc, List, [], ◌∷◌, length, filter, find, slice_index_or, Option, Some, None, inl, inr, refl, sym, ap, subst, arith, Ordering, Less, Equal, Greater, eq-eqb}
 use Rattle.std.specs.Ordering.{ordering_then, ordering_reverse, nat_cmp, is_gt, is_lt, is_eq, MatchOrdering}
 use Rattle.std.specs.Prelude.{is_some}
 use Rattle.std.specs.Option.{option_map, option_map_or}
@@ -179,10 +179,20 @@ not-self : (b : Bool) → (b && not true) ≡ false
 not-self true = refl
 not-self false = refl
 
+-- a lent id isn't in
+pub lent-out : (id : ℕ) (index : List Hashed) (ks : List (Option Kind)) → IsOrdered (Some id) index ks → has id index ≡ false
+lent-out id index ks o = o.listed id ∙ ap (λ (b : Bool). lives_at ks id && not b) (eq-eqb id id refl) ∙ not-self (lives_at ks id)
+
+-- what lives has a number
+pub lives-below : (id : ℕ) (ks : List (Option Kind)) → lives_at ks id ≡ true → id < length ks
+lives-below id [] e = absurd (false≢true e)
+lives-below zero (k ∷ ks) e = omega arith
+lives-below (suc id) (k ∷ ks) e = let h = lives-below id ks e in omega (arith, h)
+
 pub ordered-settled : (id : ℕ) (index : List Hashed) (ks : List (Option Kind)) → IsOrdered (Some id) index ks
     → IsOrdered None (entered ks id index) ks
 ordered-settled id index ks o = record {
-  sorted = index-put ks id index o.sorted (o.listed id ∙ ap (λ (b : Bool). lives_at ks id && not b) (eq-eqb id id refl) ∙ not-self (lives_at ks id));
+  sorted = index-put ks id index o.sorted (lent-out id index ks o);
   listed = λ y. put-has (is_before ks (hashed_at ks id)) y (hashed_at ks id) index ∙ ap (λ (b : Bool). (id == y) || b) (o.listed y)
       ∙ settled (lives_at ks y) (id == y) (λ e. ap (λ (k : ℕ). lives_at ks k) (sym (eqb-true id y e)) ∙ o.lent_lives id refl);
   lent_lives = λ y e. absurd cc;

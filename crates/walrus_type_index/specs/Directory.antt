@@ -19,13 +19,13 @@ AreSpread shift [] place last = AllByRecursion (λ x. place ≤ place_of shift x
 AreSpread shift (tree ∷ trees) place last = AllByRecursion (λ x. place_of shift x.hash ≡ place) tree × AreSpread shift trees (suc place) last
 
 -- the tree of that place
-abbrev pub tree_at : List (List Hashed) → ℕ → List Hashed → List Hashed
+abbrev pub tree_at : {A : Type 0} → List A → ℕ → A → A
 tree_at [] place last = last
 tree_at (tree ∷ trees) zero last = tree
 tree_at (tree ∷ trees) (suc place) last = tree_at trees place last
 
 -- the last tree, after another was put at that place
-abbrev pub last_set : List (List Hashed) → ℕ → List Hashed → List Hashed → List Hashed
+abbrev pub last_set : {A : Type 0} → List A → ℕ → A → A → A
 last_set [] place last new = new
 last_set (tree ∷ trees) zero last new = last
 last_set (tree ∷ trees) (suc place) last new = last_set trees place last new

@@ -34,6 +34,15 @@ value_number F64 = 4
 value_number V128 = 5
 value_number (Ref ty) = ref_number ty
 
+-- of a number's or a vector's type; a reference type has 0
+abbrev pub plain_number : ValType → ℕ
+plain_number I32 = 1
+plain_number I64 = 2
+plain_number F32 = 3
+plain_number F64 = 4
+plain_number V128 = 5
+plain_number (Ref ty) = 0
+
 abbrev pub storage_number : StorageType → ℕ
 storage_number I8 = 6
 storage_number I16 = 7

@@ -1,5 +1,5 @@
 -- What a table's index holds.
-use Rattle.std.specs.Prelude.{◌≡◌, ◌≤◌, ℕ, Bool, true, false, not, ◌&&◌, ◌==◌, List, Option, Some, None, is_some, slice_index_or}
+use Rattle.std.specs.Prelude.{◌≡◌, ◌≤◌, ℕ, length, Bool, true, false, not, ◌&&◌, ◌==◌, List, Option, Some, None, is_some, slice_index_or}
 use Rattle.std.specs.List.{AllByRecursion, list_any}
 use Rattle.std.specs.List.Sorted.{IsStrictlySortedBy}
 use Rattle.walrus_items.specs.walrus_forms.Kinds.{Kind}
@@ -30,6 +30,16 @@ pub record IsOrdered (lent : Option ℕ) (index : List Hashed) (kinds : List (Op
   pub sorted : IsIndex kinds index
   pub listed : (id : ℕ) → has id index ≡ (lives_at kinds id && not (is_at lent id))
   pub lent_lives : (id : ℕ) → lent ≡ Some id → lives_at kinds id ≡ true
+
+-- what an index holds, and below which number ids have a place in it
+pub record Indexed : Type 0 where
+  pub ids : List Hashed
+  pub room : ℕ
+
+-- it has the live types in order, the one that is lent aside, and a place for each id
+pub record IsHeld (lent : Option ℕ) (index : Indexed) (kinds : List (Option Kind)) : Type 0 where
+  pub ordered : IsOrdered lent index.ids kinds
+  pub room : length kinds ≤ index.room
 
 -- the last of a kind, and no later one is of it
 pub record IsLast (ks : List (Option Kind)) (kind : Kind) (own : Bool) (index : List Hashed) (id : ℕ) : Type 0 where

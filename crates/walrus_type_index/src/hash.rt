@@ -5,14 +5,17 @@ ghost use Rattle.std.specs.Prelude.{◌≡◌, ◌<◌, ◌^◌};
 ghost use Rattle.walrus_items.specs.Items.{kind_of};
 ghost use Rattle.walrus_items.specs.walrus_forms.Forms.{FunctionForm};
 ghost use Rattle.walrus_type_index.specs.Places.{kinds_in, hashed_at};
-ghost use Rattle.walrus_type_index.specs.Hashes.{next_hash, heap_number, ref_number, value_number, storage_number, values_hash, fields_hash, form_hash, hash_of, hash_at};
+ghost use Rattle.walrus_type_index.specs.Hashes.{next_hash, heap_number, ref_number, value_number, storage_number, values_hash, fields_hash, form_hash, hash_of, hash_at, plain_number};
 ghost use Rattle.walrus_type_index.specs.Targets.{target_kind};
 
 use crate::node::Hashed;
 use crate::order::Target;
 use walrus_items::Type;
 use walrus_items::arena::{TombstoneArena, TypeId, TypeSpace};
-use walrus_items::forms::{CompositeType, FieldType, HeapType, RefType, StorageType, ValType};
+use walrus_items::forms::{
+    CompositeRecord, CompositeType, FieldType, GroupRecord, HeapType, RefType, StorageType,
+    ValRecord, ValType,
+};
 
 // The prime of the hash FNV-1. It is small, so that types that differ in an id alone stay in the order of these: a walk of the tree
 // then goes through memory much as the types were added.
@@ -49,8 +52,10 @@ fn ref_number(ty: &RefType) -> u64
     }
 }
 
-fn value_number(ty: &ValType) -> u64
-    ensures { result ≡ value_number ty.now }
+// Of a number's or a vector's type. It stands apart, so that it is one look-up, and a list of types goes without jumps.
+#[inline(never)]
+fn plain_number(ty: &ValType) -> u64
+    ensures { result ≡ plain_number ty.now }
 {
     match ty {
         ValType::I32 => 1,
@@ -58,7 +63,16 @@ fn value_number(ty: &ValType) -> u64
         ValType::F32 => 3,
         ValType::F64 => 4,
         ValType::V128 => 5,
+        ValType::Ref(_) => 0,
+    }
+}
+
+fn value_number(ty: &ValType) -> u64
+    ensures { result ≡ value_number ty.now }
+{
+    match ty {
         ValType::Ref(ty) => ref_number(ty),
+        plain => plain_number(plain),
     }
 }
 
@@ -116,6 +130,7 @@ pub(crate) fn target_hash(target: Target<'_>) -> u64
     match target {
         Target::Like(ty) => type_hash(ty),
         Target::Function(params, results) => function_hash(params, results),
+        Target::Entry(results) => function_hash(&[], results),
     }
 }
 
@@ -134,4 +149,39 @@ pub(crate) fn hashed(types: &TombstoneArena<Type, TypeSpace>, id: TypeId) -> Has
 {
     let hash = hash_at(types, id);
     Hashed { hash, id }
+}
+
+// As `plain_number`, of a record. No answer rests on it.
+#[inline(never)]
+fn record_number(ty: &ValRecord) -> u64 {
+    match ty {
+        ValRecord::I32 => 1,
+        ValRecord::I64 => 2,
+        ValRecord::F32 => 3,
+        ValRecord::F64 => 4,
+        ValRecord::V128 => 5,
+        ValRecord::Ref(_) => 0,
+    }
+}
+
+fn records_hash(start: u64, values: &[ValRecord]) -> u64 {
+    let mut hash = start;
+    for value in values {
+        hash = next_hash(hash, record_number(value));
+    }
+    next_hash(hash, 0)
+}
+
+/// The hash by which the first type of a group will be looked up, where it is a function type that names no type. No answer rests on it.
+pub(crate) fn group_hash(group: &GroupRecord) -> u64 {
+    let Some(first) = group.types.first() else {
+        return 0;
+    };
+    match &first.kind {
+        CompositeRecord::Function { params, results } => {
+            let hash = records_hash(0, params.as_slice());
+            records_hash(hash, results.as_slice())
+        }
+        _ => 0,
+    }
 }

@@ -1,45 +1,45 @@
 //! A directory over small trees, each with the ids whose hashes begin with the same bits: a search of one tree of all types would meet
 //! some twenty nodes, most of them out of the caches. Types whose hashes begin alike share one tree, so that a search takes no more than
 //! a logarithm of their count, whatever the types are.
-ghost use Rattle.std.specs.Prelude.{◌≡◌, ◌≤◌, ◌+◌, ◌*◌, [], ◌==◌, not, filter, find, length, slice_set, vec_capacity};
+ghost use Rattle.std.specs.Prelude.{◌≡◌, ◌≤◌, ◌<◌, ◌+◌, [], ◌==◌, false, not, filter, find, length, OnOk, OnErr};
 ghost use Rattle.std.specs.Option.{option_map};
 ghost use Rattle.std.specs.List.Sorted.{IsStrictlySortedBy};
 ghost use Rattle.walrus_type_index.specs.Places.{kinds_in, hashed_cmp, last_of, entered};
 ghost use Rattle.walrus_type_index.specs.Targets.{target_kind};
-ghost use Rattle.walrus_type_index.specs.Ordered.{IsIndex, is_marked};
-ghost use Rattle.walrus_type_index.specs.Directory.{place_of, tree_at, last_set, is_later, halves, last_half, changed_to};
+ghost use Rattle.walrus_type_index.specs.Ordered.{IsIndex, has, is_marked};
+ghost use Rattle.walrus_type_index.specs.Directory.{place_of, is_later};
 
-use crate::hash::{hashed, target_hash};
-use crate::node::{Hashed, Spare, Tree};
+use crate::forest::Forest;
+use crate::hash::{group_hash, hashed, target_hash};
+use crate::node::Hashed;
 use crate::order::Target;
-use crate::tree::{put, split};
 use std::alloc::{AllocError, Global};
 use std::marker::Model;
-use std::mem;
 use walrus_items::Type;
 use walrus_items::arena::{TombstoneArena, TypeId, TypeSpace};
+use walrus_items::forms::GroupRecord;
 
-/// Ids of types in order. A search looks at few of them.
+/// Ids of types in order, with room for ids below a number. A search looks at few of them.
 #[derive(Drop)]
 pub struct Index {
-    // The trees of the first places.
-    trees: Vec<Tree>,
-    // The ids of all further places.
-    last: Tree,
+    // A tree for each of the first places, and one for all further ones.
+    forest: Forest,
     // How many bits of a hash its place leaves out, the lowest aside.
     shift: u32,
+    // How many looks ahead met their hash: it is kept so that they are made. No answer rests on it.
+    met: u64,
 }
 
 impl Model for Index {
-    ghost use Rattle.std.specs.Prelude.{List, ◌≤◌};
-    ghost use Rattle.walrus_type_index.specs.declared.node.Hashed.{Hashed};
+    ghost use Rattle.std.specs.Prelude.{◌≤◌};
     ghost use Rattle.walrus_type_index.specs.Directory.{joined, AreSpread};
+    ghost use Rattle.walrus_type_index.specs.Ordered.{Indexed};
 
-    ghost Value = { List Hashed };
+    ghost Value = { Indexed };
 
-    ghost view = { λ i. joined i.trees.items i.last };
+    ghost view = { λ i. record { ids = joined i.forest.trees i.forest.last; room = i.forest.room } };
 
-    ghost invariant = { λ i. (i.shift ≤ 63) × AreSpread i.shift i.trees.items 0 i.last };
+    ghost invariant = { λ i. (i.shift ≤ 63) × AreSpread i.shift i.forest.trees 0 i.forest.last };
 }
 
 // The bits of a hash that are its place.
@@ -58,65 +58,15 @@ pub(crate) fn is_later(hashed: Hashed, shift: u32, place: usize) -> bool
     place < place_of(hashed.hash, shift)
 }
 
-// The tree of that place.
-fn tree_of<'a>(trees: &'a [Tree], last: &'a Tree, place: usize) -> &'a Tree
-    ensures { result.now ≡ tree_at trees.now place last.now }
-{
-    if place < trees.len() {
-        return &trees[place];
-    }
-    last
-}
-
-// Puts a tree at that place, and answers the one that was there.
-fn exchange(trees: &mut Vec<Tree>, last: &mut Tree, place: usize, tree: Tree) -> Tree
-    ensures taken { result ≡ tree_at trees.old.items place last.old }
-    ensures trees { trees.new.items ≡ slice_set trees.old.items place tree }
-    ensures last { last.new ≡ last_set trees.old.items place last.old tree }
-{
-    if place < trees.len() {
-        return mem::replace(&mut trees[place], tree);
-    }
-    mem::replace(last, tree)
-}
-
-// Takes the marked ids out of all these trees.
-fn sweep_all(trees: &mut Vec<Tree>, marks: &[bool])
-    ensures { trees.new.items ≡ changed_to (filter (λ x. not (is_marked marks.now x.id))) (length trees.old.items) trees.old.items }
-{
-    let count = trees.len();
-    for place in 0..count {
-        trees[place].sweep(marks);
-    }
-}
-
-// Each of these trees in two, in a list that has room for them, and what is then last.
-fn halved(trees: Vec<Tree>, last: Tree, mut wide: Vec<Tree>, shift: u32) -> (Vec<Tree>, Tree)
-    requires shift { shift ≤ 63 }
-    requires empty { wide.items ≡ [] }
-    requires room { length trees.items * 2 + 1 ≤ vec_capacity wide }
-    ensures trees { result.0.items ≡ halves shift trees.items 0 last }
-    ensures last { result.1 ≡ last_half shift trees.items 0 last }
-{
-    for tree in trees {
-        let (before, behind) = split(tree, shift, wide.len());
-        wide.push_reserved(before);
-        wide.push_reserved(behind);
-    }
-    let (before, behind) = split(last, shift, wide.len());
-    wide.push_reserved(before);
-    (wide, behind)
-}
-
 impl Index {
     /// No ids. Takes no memory.
     pub fn new(alloc: Global) -> Index
-        ensures { result ≡ [] }
+        ensures { result ≡ record { ids = []; room = 0 } }
     {
         Index {
-            trees: Vec::new(alloc),
-            last: Tree::new(),
+            forest: Forest::new(alloc),
             shift: 63,
+            met: 0,
         }
     }
 
@@ -127,38 +77,36 @@ impl Index {
         types: &TombstoneArena<Type, TypeSpace>,
         wanted: usize,
     ) -> Result<bool, AllocError>
-        requires { IsIndex (kinds_in types.now.slots) self.old }
+        requires { IsIndex (kinds_in types.now.slots) self.old.ids }
         ensures { self.new ≡ self.old }
     {
-        let count = self.trees.len();
-        if count >= wanted || self.shift <= 32 {
+        if self.forest.count() >= wanted || self.shift <= 32 {
             return Ok(false);
         }
-        let room = Vec::with_capacity(alloc, count * 2 + 1)?;
-        let trees = mem::replace(&mut self.trees, Vec::new(alloc));
-        let last = mem::replace(&mut self.last, Tree::new());
-        self.shift -= 1;
-        let (trees, last) = halved(trees, last, room, self.shift);
-        self.trees = trees;
-        self.last = last;
+        let shift = self.shift - 1;
+        self.forest.halve(alloc, shift)?;
+        self.shift = shift;
         Ok(true)
     }
 
-    /// Has about as many trees as there are types with so many more, at most 2^31. What is in them stays.
+    /// Has room for the ids of so many more types, and about as many trees as there are then, at most 2^31. What is in them stays.
     ///
     /// # Errors
     ///
     /// Want of memory.
-    pub fn widen(
+    pub fn reserve(
         &mut self,
         alloc: Global,
         types: &TombstoneArena<Type, TypeSpace>,
         more: usize,
     ) -> Result<(), AllocError>
-        requires { IsIndex (kinds_in types.now.slots) self.old }
-        ensures { self.new ≡ self.old }
+        requires { IsIndex (kinds_in types.now.slots) self.old.ids }
+        ensures ids { self.new.ids ≡ self.old.ids }
+        ensures kept { self.old.room ≤ self.new.room }
+        ensures room { OnOk result (length types.now.slots + more ≤ self.new.room) }
     {
         let wanted = types.next_id().index().saturating_add(more);
+        self.forest.reserve(wanted)?;
         for _ in 0..31 {
             if !self.double_below(alloc, types, wanted)? {
                 break;
@@ -167,40 +115,53 @@ impl Index {
         Ok(())
     }
 
-    /// Puts the id where it belongs.
-    pub fn put(&mut self, types: &TombstoneArena<Type, TypeSpace>, mut spare: Spare)
-        requires { IsStrictlySortedBy (hashed_cmp (kinds_in types.now.slots)) self.old }
-        ensures { self.new ≡ entered (kinds_in types.now.slots) spare self.old }
+    /// Looks where a group's first type would stand. A search takes most of its time for its first looks, which wait for memory; what is
+    /// looked for in some groups ahead is waited for at once. What is in stays. Takes no memory.
+    #[inline(always)]
+    pub fn look_ahead(&mut self, group: &GroupRecord)
+        ensures { self.new ≡ self.old }
     {
-        let id = spare.node.hashed.id;
-        let hashed = hashed(types, id);
-        let place = place_of(hashed.hash, self.shift);
-        spare.node.hashed = hashed;
-        let tree = exchange(&mut self.trees, &mut self.last, place, Tree::new());
-        let more = put(tree, types, spare.node);
-        exchange(&mut self.trees, &mut self.last, place, more);
+        let hash = group_hash(group);
+        let place = place_of(hash, self.shift);
+        if self.forest.top_hash(place) == hash {
+            self.met = self.met.wrapping_add(1);
+        }
     }
 
-    /// Takes the id out, if it is in.
-    pub fn take(&mut self, types: &TombstoneArena<Type, TypeSpace>, id: TypeId) -> Option<Spare>
-        requires { IsIndex (kinds_in types.now.slots) self.old }
-        ensures rest { self.new ≡ filter (λ x. not (x.id == id)) self.old }
-        ensures taken { result ≡ option_map (λ x. x.id) (find (λ x. x.id == id) self.old) }
+    /// Puts the id, which isn't in, where it belongs. Asks for room. Takes no memory.
+    pub fn put(&mut self, types: &TombstoneArena<Type, TypeSpace>, id: TypeId)
+        requires sorted { IsStrictlySortedBy (hashed_cmp (kinds_in types.now.slots)) self.old.ids }
+        requires room { id < self.old.room }
+        requires out { has id self.old.ids ≡ false }
+        ensures ids { self.new.ids ≡ entered (kinds_in types.now.slots) id self.old.ids }
+        ensures room { self.new.room ≡ self.old.room }
     {
         let hashed = hashed(types, id);
         let place = place_of(hashed.hash, self.shift);
-        let mut tree = exchange(&mut self.trees, &mut self.last, place, Tree::new());
-        let taken = tree.take(types, hashed);
-        exchange(&mut self.trees, &mut self.last, place, tree);
-        taken
+        self.forest.put(place, types, hashed);
+    }
+
+    /// Takes the id out, if it is in. Takes no memory.
+    pub fn take(&mut self, types: &TombstoneArena<Type, TypeSpace>, id: TypeId) -> Option<TypeId>
+        requires { IsIndex (kinds_in types.now.slots) self.old.ids }
+        ensures rest { self.new.ids ≡ filter (λ x. not (x.id == id)) self.old.ids }
+        ensures room { self.new.room ≡ self.old.room }
+        ensures taken { result ≡ option_map (λ x. x.id) (find (λ x. x.id == id) self.old.ids) }
+    {
+        let hashed = hashed(types, id);
+        let place = place_of(hashed.hash, self.shift);
+        if self.forest.take(place, types, hashed) {
+            return Some(id);
+        }
+        None
     }
 
     /// Takes out the marked ids, in one walk. Takes no memory.
     pub fn sweep(&mut self, marks: &[bool])
-        ensures { self.new ≡ filter (λ x. not (is_marked marks.now x.id)) self.old }
+        ensures ids { self.new.ids ≡ filter (λ x. not (is_marked marks.now x.id)) self.old.ids }
+        ensures room { self.new.room ≡ self.old.room }
     {
-        sweep_all(&mut self.trees, marks);
-        self.last.sweep(marks);
+        self.forest.sweep(marks);
     }
 
     /// The last id of a type of the kind that is looked for, of those that name themselves or of the others.
@@ -210,11 +171,11 @@ impl Index {
         target: Target<'_>,
         own: bool,
     ) -> Option<TypeId>
-        requires { IsIndex (kinds_in types.now.slots) self.now }
-        ensures { result ≡ last_of (kinds_in types.now.slots) (target_kind target.entry) own self.now }
+        requires { IsIndex (kinds_in types.now.slots) self.now.ids }
+        ensures { result ≡ last_of (kinds_in types.now.slots) (target_kind target.entry) own self.now.ids }
     {
         let hash = target_hash(target);
         let place = place_of(hash, self.shift);
-        tree_of(self.trees.as_slice(), &self.last, place).latest(types, hash, target, own)
+        self.forest.latest(place, types, hash, target, own)
     }
 }

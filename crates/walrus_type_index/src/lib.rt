@@ -1,19 +1,21 @@
 //! An ordered index of the types of a table.
 #![tactic(auto)]
 
+mod flat;
+mod forest;
 mod hash;
 mod index;
 pub mod laws;
 mod lent;
 mod marks;
 mod node;
+mod node_list;
 mod order;
-mod tree;
 
 pub use index::Index;
 pub use lent::{enter, lend, settle};
 pub use marks::is_marked;
-pub use node::{Hashed, Spare};
+pub use node::Hashed;
 pub use order::Target;
 
 // Passed on to crates above, which then list this one alone.

@@ -1,9 +1,9 @@
 //! How the types of a table are ordered.
-ghost use Rattle.std.specs.Prelude.{◌≡◌, ℕ, Some, None};
+ghost use Rattle.std.specs.Prelude.{◌≡◌, ℕ, Some, None, true};
 ghost use Rattle.std.specs.Ordering.{ordering_then, bool_cmp, is_lt, nat_cmp};
 ghost use Rattle.std.specs.Option.{option_cmp, option_map};
 ghost use Rattle.walrus_items.specs.walrus_arena.Arena.{item_at};
-ghost use Rattle.walrus_items.specs.walrus_forms.Kinds.{function_kind};
+ghost use Rattle.walrus_items.specs.walrus_forms.Forms.{FunctionForm};
 ghost use Rattle.walrus_items.specs.walrus_forms.Order.{kind_cmp};
 ghost use Rattle.walrus_items.specs.Items.{kind_of};
 ghost use Rattle.walrus_type_index.specs.Places.{kinds_in, id_cmp, key_cmp, place_cmp, hashed_cmp, wanted_cmp, place_of, names_itself};
@@ -15,11 +15,12 @@ use walrus_items::Type;
 use walrus_items::arena::{TombstoneArena, TypeId, TypeSpace};
 use walrus_items::forms::{CompositeType, ValType};
 
-/// What a search looks for: the kind of a type, or that of a final function type without supertype.
+/// What a search looks for: the kind of a type, that of a final function type without supertype, or that of a body's own block.
 #[derive(Clone, Copy)]
 pub enum Target<'a> {
     Like(&'a Type),
     Function(&'a [ValType], &'a [ValType]),
+    Entry(&'a [ValType]),
 }
 
 // How the one stands to the other: by hash, and only then by the types.
@@ -83,9 +84,9 @@ fn compare_kinds(x: &Type, y: &Type) -> Ordering
     x.cmp(y)
 }
 
-// How a type stands to the final function type without supertype of these lists.
-fn compare_function(ty: &Type, params: &[ValType], results: &[ValType]) -> Ordering
-    ensures { result ≡ kind_cmp (kind_of ty.now) (function_kind params.now results.now) }
+// How a type stands to the final function type without supertype of these lists, that of a body's own block or not.
+fn compare_function(ty: &Type, params: &[ValType], results: &[ValType], entry: bool) -> Ordering
+    ensures { result ≡ kind_cmp (kind_of ty.now) (record { form = FunctionForm params.now results.now; final = true; supertype = None; entry = entry }) }
 {
     match ty.kind() {
         CompositeType::Function(own) => own
@@ -94,7 +95,7 @@ fn compare_function(ty: &Type, params: &[ValType], results: &[ValType]) -> Order
             .then(own.results().cmp(results))
             .then(ty.is_final.cmp(&true))
             .then(ty.supertype.is_some().cmp(&false))
-            .then(ty.is_entry().cmp(&false)),
+            .then(ty.is_entry().cmp(&entry)),
         _ => Ordering::Greater,
     }
 }
@@ -104,7 +105,8 @@ fn compare_target(ty: &Type, target: Target<'_>) -> Ordering
 {
     match target {
         Target::Like(other) => compare_kinds(ty, other),
-        Target::Function(params, results) => compare_function(ty, params, results),
+        Target::Function(params, results) => compare_function(ty, params, results, false),
+        Target::Entry(results) => compare_function(ty, &[], results, true),
     }
 }
 

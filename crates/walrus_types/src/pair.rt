@@ -12,7 +12,7 @@ use walrus_type_arenas::type_index::arena::TypeId;
 use walrus_type_arenas::type_index::forms::{CompositeType, FunctionType, ValType};
 use walrus_type_arenas::type_index::items::Type;
 use walrus_type_arenas::type_index::settle;
-use walrus_type_arenas::{Single, look_up, push_single, reserve_singles};
+use walrus_type_arenas::{look_up, one_member, push_single, reserve_singles};
 
 impl ModuleTypes {
     /// The ids of the final function type without supertype of these parameters and results, and of the
@@ -76,8 +76,9 @@ impl ModuleTypes {
             return Err(AllocError);
         };
         let entry_id = TypeId::from_index(next as usize);
-        let single = Single::new(self.alloc, id)?;
-        let entry_single = Single::new(self.alloc, entry_id)?;
+        let members = one_member(self.alloc, id)?;
+        let entry_members = one_member(self.alloc, entry_id)?;
+        settle(&mut self.index, &mut self.lent, &self.types);
         reserve_singles(
             self.alloc,
             &mut self.types,
@@ -87,14 +88,13 @@ impl ModuleTypes {
             2,
         )?;
         let entry = Type::new(entry_id, entry, true, None, true);
-        settle(&mut self.index, &mut self.lent, &self.types);
         push_single(
             &mut self.types,
             &mut self.groups,
             &mut self.homes,
             &mut self.index,
             ty,
-            single,
+            members,
         );
         if let Some(found) = look_up(&self.index, &self.types, &entry, entry_id) {
             return Ok((id, found));
@@ -105,7 +105,7 @@ impl ModuleTypes {
             &mut self.homes,
             &mut self.index,
             entry,
-            entry_single,
+            entry_members,
         );
         Ok((id, entry_id))
     }

@@ -9,6 +9,7 @@ ghost use Rattle.walrus_types.specs.Parsing.{Parsed, parsed, parsed_group, unpar
 use crate::group::NewType;
 use crate::table::ModuleTypes;
 use std::alloc::AllocError;
+use std::collections::VecDeque;
 use walrus_type_arenas::type_index::arena::TypeId;
 use walrus_type_arenas::type_index::forms::{GroupRecord, TypeRecord};
 use walrus_type_arenas::{ids_from, is_single, resolve, resolve_all};
@@ -30,7 +31,7 @@ impl ModuleTypes {
         ensures table { OnOk result (self.new ≡ (parsed (map type_group groups.now) (unparsed self.old)).table) }
         ensures refused { OnErr result (IsPartOf (map type_group groups.now) self.old self.new) }
     {
-        self.widen_index(groups.len());
+        self.reserve_index(groups.len());
         let mut ids = Vec::new(self.alloc());
         for group in groups {
             self.parse_group(group, &mut ids)?;
@@ -50,9 +51,12 @@ impl ModuleTypes {
         ensures table { OnOk result (self.new ≡ (parsed (map type_group groups.items) (unparsed self.old)).table) }
         ensures refused { OnErr result (IsPartOf (map type_group groups.items) self.old self.new) }
     {
-        self.widen_index(groups.len());
+        self.reserve_index(groups.len());
         let mut ids = Vec::new(self.alloc());
-        for group in groups {
+        let mut left = VecDeque::from_vec(groups);
+        let mut seen = 0;
+        while let Some(group) = left.pop_front() {
+            seen = self.look_ahead(&left, seen);
             self.parse_group(&group, &mut ids)?;
         }
         Ok(ids)

@@ -5,7 +5,7 @@ ghost use Rattle.std.specs.Borrow.{sem};
 ghost use Rattle.walrus_type_arenas.specs.walrus_type_index.walrus_items.walrus_forms.Forms.{form_of, params_of, results_of};
 ghost use Rattle.walrus_type_arenas.specs.walrus_type_index.walrus_items.walrus_forms.Kinds.{function_kind, entry_kind, struct_kind, array_kind, declared_kind};
 ghost use Rattle.walrus_type_arenas.specs.walrus_type_index.walrus_items.Items.{Group, item_of, group_of};
-ghost use Rattle.walrus_type_arenas.specs.Table.{next_id, type_at, IsLive, IsFunctionType, found_type, named_type, entries, Merges, HasMember, Deletes, DeletesAll, DeletesGroup, group_at, is_named_in, marked};
+ghost use Rattle.walrus_type_arenas.specs.Table.{next_id, type_at, IsLive, IsFunctionType, equal_type, found_type, named_type, entries, Merges, HasMember, Deletes, DeletesAll, DeletesGroup, group_at, is_named_in, marked};
 ghost use Rattle.walrus_type_arenas.specs.walrus_type_index.walrus_items.walrus_arena.Arena.{entries_from};
 ghost use Rattle.std.specs.Fn.{FnOnceTakesAt, FnOnceReturnsAt};
 ghost use Rattle.std.specs.List.{range_with_len};
@@ -17,19 +17,21 @@ use crate::error::IrError;
 use crate::group::NewType;
 use crate::iter::{RecGroups, Types};
 use std::alloc::{AllocError, Global};
+use std::collections::VecDeque;
 use std::marker::Model;
 use std::mem;
 use walrus_type_arenas::type_index::arena::{
     RecGroupId, RecGroupSpace, TombstoneArena, TypeId, TypeSpace,
 };
 use walrus_type_arenas::type_index::forms::{
-    ArrayType, CompositeType, FieldType, FunctionType, StructType, ValType,
+    ArrayType, CompositeType, FieldType, FunctionType, GroupRecord, StructType, ValType,
 };
 use walrus_type_arenas::type_index::items::{RecGroup, Type};
-use walrus_type_arenas::type_index::{Index, Spare, lend, settle};
+use walrus_type_arenas::type_index::{Index, lend, settle};
 use walrus_type_arenas::{
-    Single, append_counted, append_members, clear_each, clear_marked, found_function, home_of,
-    ids_from, leave_group, look_up, members_name, push_single, reserve_singles, sweep,
+    append_counted, append_members, clear_each, clear_marked, found_function, home_of, ids_from,
+    leave_group, look_up, look_up_entry, members_name, one_member, push_single, reserve_singles,
+    sweep,
 };
 
 /// The types of a module by id, each in one recursion group.
@@ -43,10 +45,10 @@ pub struct ModuleTypes {
     pub(crate) groups: TombstoneArena<RecGroup, RecGroupSpace>,
     // The group of each type ever added.
     pub(crate) homes: Vec<RecGroupId>,
-    // The live types in the order of the index, the lent one aside.
+    // The live types in the order of the index, the lent one aside, with room for each type ever added.
     pub(crate) index: Index,
     // The type that was lent for writing last, until the index takes it back.
-    pub(crate) lent: Option<Spare>,
+    pub(crate) lent: Option<TypeId>,
 }
 
 impl Model for ModuleTypes {
@@ -58,6 +60,20 @@ impl Model for ModuleTypes {
     ghost view = { λ t. table_of t.types.slots t.groups.slots };
 
     ghost invariant = { λ t. IsSound t.lent t.index (kinds_in t.types.slots) (table_of t.types.slots t.groups.slots) t.homes.items };
+}
+
+// How many groups a look ahead looks for at once.
+const AHEAD: usize = 32;
+
+fn look_ahead(index: &mut Index, groups: &VecDeque<GroupRecord>)
+    ensures { index.new ≡ index.old }
+{
+    for at in 0..AHEAD {
+        let Some(group) = groups.get(at) else {
+            break;
+        };
+        index.look_ahead(group);
+    }
 }
 
 impl ModuleTypes {
@@ -174,11 +190,23 @@ impl ModuleTypes {
         self.types.next_id()
     }
 
-    // Lets the index have trees for so many more types, as far as there is memory: each that is added asks for its own again.
-    pub(crate) fn widen_index(&mut self, count: usize)
+    // Lets the index have room for so many more types, as far as there is memory: each that is added asks for its own again.
+    pub(crate) fn reserve_index(&mut self, count: usize)
         ensures { self.new ≡ self.old }
     {
-        let _ = self.index.widen(self.alloc, &self.types, count);
+        let _ = self.index.reserve(self.alloc, &self.types, count);
+    }
+
+    // Looks where the first types of the next groups would stand, unless it has done so for some of them; answers for how many it has then,
+    // the first aside.
+    pub(crate) fn look_ahead(&mut self, groups: &VecDeque<GroupRecord>, seen: usize) -> usize
+        ensures { self.new ≡ self.old }
+    {
+        if seen > 0 {
+            return seen - 1;
+        }
+        look_ahead(&mut self.index, groups);
+        AHEAD
     }
 
     // The id of the type that stands for one of this kind, which is added where there is none.
@@ -198,7 +226,7 @@ impl ModuleTypes {
         if let Some(found) = look_up(&self.index, &self.types, &ty, id) {
             return Ok(found);
         }
-        let single = Single::new(self.alloc, id)?;
+        let members = one_member(self.alloc, id)?;
         reserve_singles(
             self.alloc,
             &mut self.types,
@@ -213,7 +241,7 @@ impl ModuleTypes {
             &mut self.homes,
             &mut self.index,
             ty,
-            single,
+            members,
         );
         Ok(id)
     }
@@ -260,7 +288,7 @@ impl ModuleTypes {
     pub fn find(&self, params: &[ValType], results: &[ValType]) -> Option<TypeId>
         ensures { result ≡ found_type params.now results.now self.now }
     {
-        found_function(&self.index, &self.lent, &self.types, params, results)
+        found_function(&self.index, self.lent, &self.types, params, results)
     }
 
     /// The live types, by rising id.
@@ -303,6 +331,18 @@ impl ModuleTypes {
         let results = Vec::from_slice(self.alloc, results)?;
         let ty = FunctionType::new(params, results);
         self.insert(CompositeType::Function(ty), true, None, false)
+    }
+
+    /// The type of the own block of a body of this live function type, if there is one: what [`add_entry_ty`](ModuleTypes::add_entry_ty)
+    /// would answer without adding one. Takes no memory.
+    pub fn entry_ty(&mut self, id: TypeId) -> Option<TypeId>
+        requires { IsFunctionType self.old id }
+        ensures found { IfSome (type_at self.old id) (λ item. result ≡ equal_type (entry_kind (results_of item.kind.form)) self.old) }
+        ensures same { self.new ≡ self.old }
+    {
+        settle(&mut self.index, &mut self.lent, &self.types);
+        let results = self.results(id);
+        look_up_entry(&self.index, &self.types, results, self.types.next_id())
     }
 
     /// The id of the type of a body's own block with these results, which is never written.

@@ -87,6 +87,9 @@ entry:>@0 func:>@1 entry:>@0
 func:>i64 ?find:>i64@0 ?find:>@-
 # a type with its entry type: the first is there before; then the entry type of the second is, and then both are
 func:f64>f32 both:f64>f32@0,1 both:i32>f32@2,1 both:i32>f32@2,1 both:i32>i64@3,4
+# that of a body's own block is found by a function type once it is there; and not where it would name itself, or does
+func:i32>i64@0 in:0@- entry:>i64@1 in:0@1 func:f32>i64@2 in:2@1
+func:>1@0 in:0@- entry:>1@1 in:0@-
 # two that name each other, none of which goes alone
 ring:2@0,1 ?type:0@struct:1;1 ?type:1@struct:0;0 keep:0
 # a group of another count than was asked for is refused, and leaves no id behind
@@ -165,6 +168,8 @@ chain:600 struct:1000 | !dead";
 // The ids that types of a section get, letter by letter (see `sections`).
 const SECTIONS: &str = "\
 parse:lsil@0,1,2,0 | func:i32> func:i64> struct: @1,2,0
+# the same of forty, which is more than are looked for ahead, where the section is taken
+use:lsillsillsillsillsillsillsillsillsillsil@0,1,2,0,0,1,2,0,0,1,2,0,0,1,2,0,0,1,2,0,0,1,2,0,0,1,2,0,0,1,2,0,0,1,2,0,0,1,2,0 | func:i32> func:i64> struct: @1,2,0
 parse:l0i@0,1,2 ?type:1@struct:0;0 | func:i64> struct:0 func:i32> @0,1,2
 # an equal type is found in the latest group
 parse:lm-l@0,1,1 ?groups@1,+1

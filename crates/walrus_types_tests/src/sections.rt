@@ -113,3 +113,15 @@ pub(crate) fn are_read(
     let ids = types.parse_types(groups.as_slice())?;
     Ok(are_ids(ids.as_slice(), wanted))
 }
+
+/// Whether it does so where it takes the section.
+pub(crate) fn are_taken(
+    alloc: Global,
+    types: &mut ModuleTypes,
+    letters: &[u8],
+    wanted: &[u8],
+) -> Result<bool, AllocError> {
+    let groups = section(alloc, letters)?;
+    let ids = types.parse_own_types(groups)?;
+    Ok(are_ids(ids.as_slice(), wanted))
+}

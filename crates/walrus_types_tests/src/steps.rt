@@ -3,7 +3,7 @@
 use crate::asks::answers;
 use crate::chains::is_low;
 use crate::forms::{form, function};
-use crate::sections::are_read;
+use crate::sections::{are_read, are_taken};
 use crate::values::{Word, list};
 use crate::words::{are_ids, cut, head, id, is_id, number};
 use std::alloc::{AllocError, Global};
@@ -163,6 +163,11 @@ fn delete_marked(types: &mut ModuleTypes, args: &[u8]) {
     }
 }
 
+// Whether the type of the own block of a body of this live function type has this id, or isn't there.
+fn has_entry(types: &mut ModuleTypes, id: TypeId, wanted: &[u8]) -> bool {
+    types.contains(id) && types.get(id).is_function() && is_id(types.entry_ty(id), wanted)
+}
+
 /// The name of a letter.
 pub(crate) fn name(letter: u8) -> &'static str {
     match letter {
@@ -212,7 +217,8 @@ fn add_chain(alloc: Global, types: &mut ModuleTypes, count: u32) -> Result<(), A
 /// - `ring`, `group`, `half`: adds a marked group (see `members`);
 /// - `chain`: adds so many structures, each of which refers to the one before, behind one without fields;
 /// - `long`: a long chain of function types is found by a low index (see `chains`);
-/// - `parse`: reads a section by its letters, and gives its types these ids;
+/// - `in`: the type of the own block of a body of this live function type is found under this id, or there is none;
+/// - `parse`: reads a section by its letters, and gives its types these ids; `use`: does so by the call that takes the section;
 /// - `delete`, `out`, `try`: deletes the live type, alone, with its group, or if no sibling names it; `keep`: tries to, in vain;
 /// - `marked`: deletes the types whose marks are `1`;
 /// - `write`: writes the type over as a final one; `name`: names it;
@@ -229,7 +235,9 @@ pub(crate) fn take(alloc: Global, types: &mut ModuleTypes, step: &[u8]) -> Resul
             Ok(true)
         }
         b'l' => Ok(is_low(types)?),
+        b'i' => Ok(has_entry(types, id(args), wanted)),
         b'p' => Ok(are_read(alloc, types, args, wanted)?),
+        b'u' => Ok(are_taken(alloc, types, args, wanted)?),
         b'd' | b'o' | b't' | b'k' => Ok(goes(types, id(args), head(call))),
         b'm' => {
             delete_marked(types, args);

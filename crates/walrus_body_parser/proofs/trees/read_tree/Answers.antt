@@ -4,6 +4,7 @@ use Rattle.std.proofs.lemmas.Result.{err_from_is_err_and}
 use Rattle.wasm_reader.specs.Cursor.{Cursor, rest}
 use Rattle.walrus_body_operands.specs.walrus_body_stack.walrus_builder.Built.{Seq}
 use Rattle.walrus_body_locals.specs.walrus_body_nesting.Opens.{type_at}
+use Rattle.walrus_body_locals.specs.walrus_body_nesting.Stands.{total}
 use Rattle.walrus_body_operands.specs.walrus_body_stack.Frames.{blocks, opens}
 use Rattle.walrus_body_parser.specs.Changes.{ReadsIf}
 use Rattle.walrus_body_parser.specs.Trees.{validating, ReadsTree}
@@ -18,7 +19,7 @@ loop-done-init g c =
     let F : List Seq → Type 0 = λ l. type_at l 0 ≡ Some o.0 in
     let G : Cursor → Type 0 = λ r. Goes (g.S.Scope.sight c.args.scope.now) (validating g.V.Validator.op_step g.V.Validator.finish_step) c.args.code_start c.args.body c.args.validator.now false (blocks c.new-stack.result) (opens c.new-stack.result) r c.args.validator.now in (
       subst G (sym c.new-reader.ensures)
-          (goes_start (g.S.Scope.sight c.args.scope.now) (validating g.V.Validator.op_step g.V.Validator.finish_step) c.args.code_start c.args.body c.args.validator.now c.new-stack.result o.0 (one c.args.builder.builder (blocks c.new-stack.result) b c.requires.empty) (subst F (sym b) o.1) o.2 c.requires.within c.requires.begins),
+          (goes_start (g.S.Scope.sight c.args.scope.now) (validating g.V.Validator.op_step g.V.Validator.finish_step) c.args.code_start c.args.body c.args.validator.now c.new-stack.result o.0 (one c.args.builder.builder (blocks c.new-stack.result) b c.requires.empty) (ap total b ∙ c.requires.bare) (subst F (sym b) o.1) o.2 c.requires.within c.requires.begins),
       c.new-stack.ensures.ty,
       ap (λ (l : List Seq). type_at l 0) b,
     )

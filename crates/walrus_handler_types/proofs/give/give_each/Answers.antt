@@ -1,6 +1,7 @@
 use Rattle.std.proofs.Common.{◌≡◌, ◌∙◌, ◌+◌, ℕ, List, [], ◌∷◌, ◌++◌, take, Option, sym, ap, subst}
 use Rattle.std.proofs.lemmas.List.{take_more}
-use Rattle.walrus_handler_types.specs.Giving.{Gives, GivesAt, listed}
+use Rattle.walrus_handler_types.specs.Giving.{Gives, GivesAt}
+use Rattle.walrus_handlers.specs.Gathering.{listed}
 use Rattle.walrus_handlers.specs.walrus_handler_laws.declared.handler.Handler.{Handler}
 use Rattle.walrus_handlers.specs.walrus_tree.walrus_builder.Built.{contents}
 use Rattle.walrus_handler_types.proofs.Growing.{gives_more}

@@ -1,5 +1,6 @@
 use Rattle.std.proofs.Common.{◌≡◌, length, take}
-use Rattle.walrus_handler_types.specs.Giving.{Gives, listed}
+use Rattle.walrus_handler_types.specs.Giving.{Gives}
+use Rattle.walrus_handlers.specs.Gathering.{listed}
 use Rattle.walrus_handlers.specs.walrus_tree.walrus_builder.Built.{contents}
 use Rattle.walrus_handlers.specs.walrus_tree.walrus_builder.Functions.{seqs_of}
 use Rattle.walrus_handler_types.proofs.give.give_each.Given as goal

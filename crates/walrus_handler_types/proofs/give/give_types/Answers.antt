@@ -1,6 +1,7 @@
 use Rattle.std.proofs.Common.{◌≡◌, ◌∙◌, ◌<◌, ℕ, List, length, take, OnErr, OnOk, Result, Ok, Err, sym, subst}
 use Rattle.std.specs.List.{AllByRecursion}
-use Rattle.walrus_handler_types.specs.Giving.{Gives, listed}
+use Rattle.walrus_handler_types.specs.Giving.{Gives}
+use Rattle.walrus_handlers.specs.Gathering.{listed}
 use Rattle.walrus_handlers.specs.walrus_handler_laws.Handlers.{tree_ids}
 use Rattle.walrus_handlers.specs.walrus_tree.Trees.{IsTree}
 use Rattle.walrus_handlers.specs.walrus_tree.walrus_builder.Built.{contents}

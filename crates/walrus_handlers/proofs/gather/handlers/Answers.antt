@@ -1,4 +1,4 @@
-use Rattle.std.proofs.Common.{◌≡◌, ◌∙◌, ℕ, List, length, map, Option, None, refl, sym, ap, subst, arith}
+use Rattle.std.proofs.Common.{◌≡◌, ◌∙◌, ℕ, List, [], length, map, Option, None, refl, sym, ap, subst, arith}
 use Rattle.std.specs.Prelude.{replicate}
 use Rattle.walrus_handler_laws.specs.walrus_tree.walrus_builder.Built.{seq_of}
 use Rattle.walrus_handler_laws.specs.walrus_tree.walrus_builder.Functions.{seqs_of}
@@ -35,7 +35,7 @@ returns-clause-told g c = λ t.
 
 pub returns-clause-ids : goal.returns-clause-ids
 returns-clause-ids g c =
-    let m = (returns-clause-told g c c.requires).many in
+    let m = (returns-clause-told g c c.requires).short in
     let n = c.if-count.false in
     let s = ap (λ (l : List InstrSeq). length l) c.seqs-count.ensures in
     omega (arith, m, n, s)
@@ -43,5 +43,4 @@ returns-clause-ids g c =
 pub returns-then-not-have_try-clause-told : goal.returns-then-not-have_try-clause-told
 returns-then-not-have_try-clause-told g c = λ t.
     let b = seqs_of c.args.body.now in
-    untried (g.E.BodyEnv.tag_type c.args.env.now) b t c.in_ok-told.told.items (sym (ap have_try c.seqs.ensures) ∙ sym c.have_try.ensures ∙ c.if-not-have_try.true)
-    (c.in_ok-told.ensures ∙ ap (λ (l : List InstrSeq). replicate (length l) (let o : Option Handler = None in o)) c.seqs-count.ensures)
+    untried (g.E.BodyEnv.tag_type c.args.env.now) b t c.new.result.items (sym (ap have_try c.seqs.ensures) ∙ sym c.have_try.ensures ∙ c.if-not-have_try.true) c.new.ensures.items

@@ -12,5 +12,5 @@ loop-id-preserved c = record {
       ∙ map-set (option_map item_of) c.loop-id.types.slots c.id-item.result None
       ∙ clear_all-more c.args.ids.now c.loop-id.id-index c.id-item.result (map (option_map item_of) c.args.types.now.slots) (map (option_map item_of) c.loop-id.types.slots)
       c.loop-id-test.true c.id-item.is c.loop-id.invariant.types;
-  ordered = c.clear.ensures.ordered;
+  held = c.clear.ensures.held;
 }

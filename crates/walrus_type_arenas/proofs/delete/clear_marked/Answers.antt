@@ -1,9 +1,7 @@
-use Rattle.std.proofs.Common.{◌≡◌, ℕ, Bool, false, List, None, refl, sym, subst}
+use Rattle.std.proofs.Common.{◌≡◌, ℕ, Bool, false, refl, subst}
 use Rattle.std.specs.Bool.{OnFalse}
-use Rattle.walrus_type_index.specs.Ordered.{IsOrdered, is_marked}
-use Rattle.walrus_type_index.specs.declared.node.Hashed.{Hashed}
-use Rattle.walrus_type_index.specs.Places.{kinds_in}
-use Rattle.walrus_type_arenas.proofs.IndexLemmas.{swept_order}
+use Rattle.walrus_type_index.specs.Ordered.{is_marked}
+use Rattle.walrus_type_arenas.proofs.IndexLemmas.{held-swept}
 use Rattle.walrus_type_arenas.proofs.MarkLemmas.{cleared-shown, none-cleared}
 use Rattle.walrus_type_arenas.proofs.delete.clear_marked.Goals as goal
 
@@ -15,7 +13,7 @@ returns-then-not-has_marked-clause-types c =
 pub returns-clause-types : goal.returns-clause-types
 returns-clause-types c = cleared-shown c.args.marks.now c.args.types.now.slots c.kill_marked.new.types.slots c.kill_marked.ensures.sized c.kill_marked.ensures.each
 
-pub returns-clause-ordered : goal.returns-clause-ordered
-returns-clause-ordered c =
-    subst (λ (xs : List Hashed). IsOrdered None xs (kinds_in c.kill_marked.new.types.slots)) (sym c.sweep.ensures)
-    (swept_order c.args.types.now.slots c.kill_marked.new.types.slots c.args.marks.now c.args.index.now c.requires c.kill_marked.ensures.each)
+pub returns-clause-held : goal.returns-clause-held
+returns-clause-held c =
+    held-swept c.args.types.now.slots c.kill_marked.new.types.slots c.args.marks.now c.args.index.now c.sweep.new.self c.requires c.kill_marked.ensures.sized c.kill_marked.ensures.each
+    c.sweep.ensures.ids c.sweep.ensures.room

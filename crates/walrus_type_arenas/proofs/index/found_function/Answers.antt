@@ -9,10 +9,10 @@ pub returns : goal.returns
 returns c =
     let slots = c.args.types.now.slots in
     let kind = function_kind c.args.params.now c.args.results.now in
-    let own : Option ℕ = last_of (kinds_in slots) kind true c.args.index.now in
+    let own : Option ℕ = last_of (kinds_in slots) kind true c.args.index.now.ids in
     c.later.ensures
     ∙ ap (λ (a : Option ℕ). later_of a c.lent_function-lent.result) (c.later-found.ensures
     ∙ ap (λ (b : Option ℕ). later_of c.latest-plain.result b) c.latest-own.ensures
     ∙ ap (λ (a : Option ℕ). later_of a own) c.latest-plain.ensures)
-    ∙ ap (λ (b : Option ℕ). later_of (later_of (last_of (kinds_in slots) kind Rattle.std.proofs.Common.false c.args.index.now) own) b) c.lent_function-lent.ensures
-    ∙ finds-function slots c.args.lent.now c.args.index.now kind c.requires
+    ∙ ap (λ (b : Option ℕ). later_of (later_of (last_of (kinds_in slots) kind Rattle.std.proofs.Common.false c.args.index.now.ids) own) b) c.lent_function-lent.ensures
+    ∙ finds-function slots c.args.lent c.args.index.now.ids kind c.requires.ordered

@@ -1,10 +1,25 @@
-use Rattle.std.proofs.Common.{List, None, sym, subst}
+use Rattle.std.proofs.Common.{◌<◌, List, None, length, sym, subst, refl, arith}
 use Rattle.walrus_type_index.specs.Ordered.{IsOrdered}
 use Rattle.walrus_type_index.specs.Places.{Hashed, kinds_in}
-use Rattle.walrus_type_index.proofs.OrderedLemmas.{ordered-settled}
+use Rattle.walrus_type_index.proofs.OrderedLemmas.{ordered-settled, lent-out, lives-below}
 use Rattle.walrus_type_index.proofs.lent.enter.Goals as goal
 
-pub returns : goal.returns
-returns c =
+pub put-requires-clause-sorted : goal.put-requires-clause-sorted
+put-requires-clause-sorted c = c.requires.ordered.sorted.sorted
+
+pub put-requires-clause-room : goal.put-requires-clause-room
+put-requires-clause-room c =
     let ks = kinds_in c.args.types.now.slots in
-    subst (λ (xs : List Hashed). IsOrdered None xs ks) (sym c.put.ensures) (ordered-settled c.args.spare c.args.index.now ks c.requires)
+    let less : c.args.id < length ks = lives-below c.args.id ks (c.requires.ordered.lent_lives c.args.id refl) in
+    omega (arith, less, c.requires.room)
+
+pub put-requires-clause-out : goal.put-requires-clause-out
+put-requires-clause-out c = lent-out c.args.id c.args.index.now.ids (kinds_in c.args.types.now.slots) c.requires.ordered
+
+pub returns-clause-held : goal.returns-clause-held
+returns-clause-held c =
+    let ks = kinds_in c.args.types.now.slots in
+    record {
+      ordered = subst (λ (xs : List Hashed). IsOrdered None xs ks) (sym c.put.ensures.ids) (ordered-settled c.args.id c.args.index.now.ids ks c.requires.ordered);
+      room = omega (arith, c.put.ensures.room, c.requires.room);
+    }

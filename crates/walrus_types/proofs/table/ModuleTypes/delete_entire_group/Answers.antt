@@ -1,5 +1,5 @@
 use Rattle.walrus_type_arenas.specs.walrus_type_index.Places.{kinds_in}
-use Rattle.walrus_type_arenas.specs.walrus_type_index.Ordered.{IsOrdered}
+use Rattle.walrus_type_arenas.specs.walrus_type_index.Ordered.{IsHeld}
 use Rattle.std.proofs.Common.{Option, subst, ℕ, List, map, ◌∙◌, ap, sym, slice_index}
 use Rattle.std.specs.Option.{option_map}
 use Rattle.std.proofs.lemmas.List.{set-set}
@@ -16,7 +16,7 @@ pub invariant_of-self : goal.invariant_of-self
 invariant_of-self c =
     let cleared = c.clear_each.ensures.types ∙ ap (λ (ids : List ℕ). clear_all ids (map (option_map item_of) c.self.inside.types.slots)) (c.as_slice-2.ensures.value ∙ ap (λ v. v.items) c.replace-members.ensures.value) in
     record {
-      ordered = subst (λ (l : Option ℕ). IsOrdered l c.clear_each.new.index (kinds_in c.clear_each.new.types.slots)) (sym c.settle.ensures.lent) c.clear_each.ensures.ordered;
+      held = subst (λ (l : Option ℕ). IsHeld l c.clear_each.new.index (kinds_in c.clear_each.new.types.slots)) (sym c.settle.ensures.lent) c.clear_each.ensures.held;
       grouped = rw (c.delete.ensures.deleted, set-set) (deletes-group-grouped c.self.inside.types.slots c.self.inside.groups.slots c.self.inside.homes.items c.self.invariant.grouped c.clear_each.new.types.slots c.home_of-home.result
           c.index_mut-group.result.now c.index_mut-group.ensures.value cleared);
     }

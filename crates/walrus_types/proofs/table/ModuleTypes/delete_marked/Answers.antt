@@ -1,7 +1,7 @@
 use Rattle.std.proofs.Common.{Option, ℕ, List, map, ◌∙◌, ap, sym, subst}
 use Rattle.std.specs.Option.{option_map, option_and_then}
 use Rattle.walrus_type_arenas.specs.walrus_type_index.Places.{kinds_in}
-use Rattle.walrus_type_arenas.specs.walrus_type_index.Ordered.{IsOrdered}
+use Rattle.walrus_type_arenas.specs.walrus_type_index.Ordered.{IsHeld}
 use Rattle.walrus_type_arenas.specs.walrus_type_index.walrus_items.Items.{Item, item_of, group_of}
 use Rattle.walrus_type_arenas.specs.Table.{Table, clear_all, marked, with_live}
 use Rattle.walrus_type_arenas.proofs.MarkLemmas.{groups-left}
@@ -13,7 +13,7 @@ invariant_of-self c =
     let types = map (option_map item_of) c.self.inside.types.slots in
     let groups = map (option_map group_of) c.self.inside.groups.slots in
     record {
-      ordered = subst (λ (l : Option ℕ). IsOrdered l c.clear_marked.new.index (kinds_in c.clear_marked.new.types.slots)) (sym c.settle.ensures.lent) c.clear_marked.ensures.ordered;
+      held = subst (λ (l : Option ℕ). IsHeld l c.clear_marked.new.index (kinds_in c.clear_marked.new.types.slots)) (sym c.settle.ensures.lent) c.clear_marked.ensures.held;
       grouped =
           rw (c.sweep.ensures, groups-left c.args.marks.now types groups c.self.inside.homes.items c.self.invariant.grouped, c.clear_marked.ensures.types)
           (grouped-swept (marked c.args.marks.now) types groups c.self.inside.homes.items c.self.invariant.grouped);

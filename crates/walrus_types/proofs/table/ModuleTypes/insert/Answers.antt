@@ -3,7 +3,7 @@ use Rattle.walrus_type_arenas.specs.walrus_type_index.walrus_items.Items.{Group}
 use Rattle.walrus_type_arenas.specs.walrus_type_index.walrus_items.declared.subtype.RecGroup.{RecGroup}
 use Rattle.walrus_type_arenas.specs.walrus_type_index.walrus_items.declared.subtype.Type.{«Type» as TypeItem}
 use Rattle.walrus_type_arenas.specs.walrus_type_index.Places.{kinds_in}
-use Rattle.walrus_type_arenas.specs.walrus_type_index.Ordered.{IsOrdered}
+use Rattle.walrus_type_arenas.specs.walrus_type_index.Ordered.{IsHeld}
 use Rattle.walrus_types.proofs.PairLemmas.{type-pushed}
 use Rattle.walrus_types.proofs.table.ModuleTypes.insert.Goals as goal
 
@@ -12,10 +12,10 @@ invariant_of-self-2 c =
     let slots = c.self.inside.types.slots in
     let groups = c.self.inside.groups.slots in
     let homes = c.self.inside.homes.items in
-    let group : RecGroup = record { types = c.in_ok-single.single.members; explicit = false } in
-    let members : c.in_ok-single.single.members.items ≡ c.next_id-id.result ∷ [] = c.in_ok-single.ensures in
+    let group : RecGroup = record { types = c.in_ok-members.members; explicit = false } in
+    let members : c.in_ok-members.members.items ≡ c.next_id-id.result ∷ [] = c.in_ok-members.ensures in
     record {
-      ordered = subst (λ (l : Option ℕ). IsOrdered l c.push_single.new.index (kinds_in c.push_single.new.types.slots)) (sym c.settle.ensures.lent) c.push_single.ensures.ordered;
+      held = subst (λ (l : Option ℕ). IsHeld l c.push_single.new.index (kinds_in c.push_single.new.types.slots)) (sym c.settle.ensures.lent) c.push_single.ensures.held;
       grouped = type-pushed slots c.push_single.new.types.slots groups c.push_single.new.groups.slots homes c.push_single.new.homes.items c.new-ty.result group c.next_id-id.result
           c.self.invariant.grouped (sym c.next_id-id.ensures) (ap (λ (xs : List ℕ). let g : Group = record { explicit = false; types = xs } in g) members)
           (c.push_single.ensures.types ∙ ap (λ (xs : List (Option TypeItem)). xs ++ Some c.new-ty.result ∷ []) c.reserve_singles.ensures.types)
