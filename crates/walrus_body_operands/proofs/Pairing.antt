@@ -1,7 +1,7 @@
 -- Lemmas: operators that are paired by themselves.
 use Rattle.std.specs.Prelude.{ℕ, ◌≡◌, ◌≢◌, ◌&&◌, ◌||◌, ◌^◌, nat_lt, not, Bool, true, false, List, [], ◌∷◌, length, Option, Some, None, Result, Ok, Err, refl}
 use Rattle.std.specs.Prelude.{slice_get}
-use Rattle.std.specs.Option.{ok_or, option_map}
+use Rattle.std.specs.Option.{is_some, ok_or, option_map}
 use Rattle.wasm_ref_types.specs.declared.heap.HeapType.{HeapType}
 use Rattle.walrus_forms.specs.declared.value.HeapType.{HeapType as OwnHeap}
 use Rattle.std.proofs.Common.{ap, sym, subst, ◌∙◌, inl, inr}
@@ -46,6 +46,10 @@ use Rattle.walrus_body_operands.proofs.Tests.{first_none, first_assoc, uncounted
 
 some_same : (a b : MemoryAccess) → ◌≡◌ {A = Option MemoryAccess} (Some a) (Some b) → a ≡ b
 some_same a b e = cc
+
+or_none : (b : Bool) → b || false ≡ true → b ≡ true
+or_none true is = refl
+or_none false is = is
 
 -- ---- none is without an instruction
 
@@ -345,6 +349,22 @@ module _ (s : Sight) (labels : ℕ) (code : OpCode) where
   })
   access_told imm.Zero a is = absurd cc
 
+  -- the names alone are asked of what accesses none
+  abbrev pub behind : Option MemoryAccess → Option Trouble
+  behind None = None
+  behind (Some a) = within_test a
+
+  told_of : (x : Immediates) (o : Option MemoryAccess) → accessed x ≡ o → names_alone x || is_some o ≡ true → ToldFirst x (behind o)
+  told_of x None is alone = record {
+    first = asked (items_of x);
+    test = sym (first_none (asked (items_of x)));
+    told = plain_told x (or_none (names_alone x) alone);
+  }
+  told_of x (Some a) is alone = access_told x a is
+
+  pub alone_told : (x : Immediates) → names_alone x || is_some (accessed x) ≡ true → ToldFirst x (behind (accessed x))
+  alone_told x alone = told_of x (accessed x) refl alone
+
   -- ---- with a heap type
 
   pub heap_told_first : (ty : HeapType) → heap_test s ty ≡ None → (own : OwnHeap) → read_heap (look s Types) ty ≡ Ok own → of_items (look s) code (Heap ty ∷ []) ≡ Ok (heap_at code own)
@@ -395,7 +415,7 @@ runs_as s around code (imm.Lane b) i plain is = is
 runs_as s around code (imm.AccessLane a b) i plain is = is
 runs_as s around code imm.Zero i plain is = is
 
-pub alone_plain : (x : Immediates) → names_alone x ≡ true → holds_labels (kind_is x) ≡ false
+alone_plain : (x : Immediates) → names_alone x ≡ true → holds_labels (kind_is x) ≡ false
 alone_plain imm.Bare is = refl
 alone_plain (imm.Block ty) is = absurd cc
 alone_plain (imm.TryTable ty cs) is = absurd cc
@@ -469,7 +489,7 @@ segment_plain (imm.Lane b) is = absurd cc
 segment_plain (imm.AccessLane a b) is = absurd cc
 segment_plain imm.Zero is = absurd cc
 
-pub access_plain : (x : Immediates) (a : MemoryAccess) → accessed x ≡ Some a → holds_labels (kind_is x) ≡ false
+access_plain : (x : Immediates) (a : MemoryAccess) → accessed x ≡ Some a → holds_labels (kind_is x) ≡ false
 access_plain imm.Bare a is = absurd cc
 access_plain (imm.Block ty) a is = absurd cc
 access_plain (imm.TryTable ty cs) a is = absurd cc
@@ -505,6 +525,16 @@ access_plain (imm.Vector bytes) a is = absurd cc
 access_plain (imm.Lane b) a is = absurd cc
 access_plain (imm.AccessLane c b) a is = refl
 access_plain imm.Zero a is = absurd cc
+
+alone_of : (x : Immediates) (o : Option MemoryAccess) → accessed x ≡ o → names_alone x || is_some o ≡ true → holds_labels (kind_is x) ≡ false
+alone_of x None is alone = alone_plain x (or_none (names_alone x) alone)
+alone_of x (Some a) is alone = access_plain x a is
+
+pub alone_then : (x : Immediates) → names_alone x || is_some (accessed x) ≡ true → accessed x ≡ None → names_alone x ≡ true
+alone_then x alone none = or_none (names_alone x) (subst (λ (o : Option MemoryAccess). names_alone x || is_some o ≡ true) none alone)
+
+pub either_plain : (x : Immediates) → names_alone x || is_some (accessed x) ≡ true → holds_labels (kind_is x) ≡ false
+either_plain x alone = alone_of x (accessed x) refl alone
 
 pub heap_plain : (x : Immediates) (ty : HeapType) → items_of x ≡ Heap ty ∷ [] → holds_labels (kind_is x) ≡ false
 heap_plain imm.Bare ty is = refl

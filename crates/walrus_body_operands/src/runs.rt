@@ -133,15 +133,6 @@ fn paired<S: Scope>(scope: &S, op: &Operator, offset: u64) -> Result<Instr, Body
     }
 }
 
-#[inline(always)]
-pub(crate) fn plain<S: Scope>(scope: &S, op: &Operator, offset: u64) -> Result<Instr, BodyError>
-    requires runs { RunsListed op.now }
-    requires alone { names_alone op.now.immediates ≡ true }
-    ensures { (labels : ℕ) (around : List ℕ) → Meets result (items_test (S.sight scope.now) labels (seen op.now)) offset (RunsAs (S.sight scope.now) around op.now.code (items_of op.now.immediates)) }
-{
-    paired(scope, op, offset)
-}
-
 // The instruction, where there is a data count section.
 fn counted<S: Scope>(scope: &S, instr: Instr, offset: u64) -> Result<Instr, BodyError>
     ensures { Meets result (must ((S.sight scope.now).has_data_count || false) Position) offset (λ same. same ≡ instr) }
@@ -195,20 +186,31 @@ fn within<S: Scope>(
     Ok(instr)
 }
 
-// Of an operator that accesses a memory.
+// The access of an operator that has one.
 #[inline(always)]
-pub(crate) fn on_memory<S: Scope>(
-    scope: &S,
-    op: &Operator,
-    access: MemoryAccess,
-    offset: u64,
-) -> Result<Instr, BodyError>
+fn access_of(immediates: &Immediates) -> Option<MemoryAccess>
+    ensures { result ≡ accessed immediates.now }
+{
+    match immediates {
+        Immediates::Access(access) => Some(*access),
+        Immediates::AccessLane(access, _) => Some(*access),
+        _ => None,
+    }
+}
+
+// Of an operator that accesses a memory, or of which no more is asked than that its names are there. Both go one way, as all of the
+// pairing is inlined: what would be twice as large isn't.
+#[inline(always)]
+fn plain<S: Scope>(scope: &S, op: &Operator, offset: u64) -> Result<Instr, BodyError>
     requires runs { RunsListed op.now }
-    requires access { accessed op.now.immediates ≡ Some access }
+    requires alone { (names_alone op.now.immediates || is_some (accessed op.now.immediates)) ≡ true }
     ensures { (labels : ℕ) (around : List ℕ) → Meets result (items_test (S.sight scope.now) labels (seen op.now)) offset (RunsAs (S.sight scope.now) around op.now.code (items_of op.now.immediates)) }
 {
     match paired(scope, op, offset) {
-        Ok(instr) => within(scope, access, instr, offset),
+        Ok(instr) => match access_of(&op.immediates) {
+            Some(access) => within(scope, access, instr, offset),
+            None => Ok(instr),
+        },
         Err(fault) => Err(fault),
     }
 }
@@ -292,8 +294,6 @@ pub(crate) fn run<S: Scope, L: Labels>(
         }
         Immediates::Heap(ty) => on_heap(scope, op, *ty, offset),
         Immediates::Select(types) => select(scope, types.as_slice(), offset),
-        Immediates::Access(access) => on_memory(scope, op, *access, offset),
-        Immediates::AccessLane(access, _) => on_memory(scope, op, *access, offset),
         Immediates::DataMemory(_, _) | Immediates::Data(_) | Immediates::TypeData(_, _) => {
             on_segment(scope, op, offset)
         }
@@ -306,6 +306,7 @@ pub(crate) fn run<S: Scope, L: Labels>(
         | Immediates::Local(_)
         | Immediates::Global(_)
         | Immediates::Table(_)
+        | Immediates::Access(_)
         | Immediates::Memory(_)
         | Immediates::I32(_)
         | Immediates::I64(_)
@@ -320,6 +321,7 @@ pub(crate) fn run<S: Scope, L: Labels>(
         | Immediates::TypeType(_, _)
         | Immediates::Vector(_)
         | Immediates::Lane(_)
+        | Immediates::AccessLane(_, _)
         | Immediates::Zero => plain(scope, op, offset),
     }
 }

@@ -15,7 +15,7 @@ ghost use Rattle.walrus_body_operands.specs.Steps.{IsStep};
 use crate::faults::no_item;
 use crate::labels::Labels;
 use crate::opens::{tag_id, try_table};
-use crate::runs::{on_memory, plain, run};
+use crate::runs::run;
 use crate::scope::Scope;
 use crate::types::block_type;
 use std::alloc::Global;
@@ -26,7 +26,7 @@ use walrus_body_steps::body_stack::cuts;
 use walrus_instr::{Instr, InstrSeqType};
 use walrus_operators::{Immediates, Operator};
 use wasm_formats::Space;
-use wasm_immediates::{BlockType, MemoryAccess};
+use wasm_immediates::BlockType;
 use wasm_operators::Flow;
 
 /// What an operator does to the open sequences of a body.
@@ -165,97 +165,6 @@ fn stand<S: Scope, L: Labels>(
     }
 }
 
-// An operator that names nothing but what is to be there, and behind which a run goes on.
-fn goes<S: Scope>(scope: &S, op: &Operator, offset: u64) -> Result<Step, BodyError>
-    requires listed { IsListed op.now }
-    requires goes { flow_of op.now.code ≡ Some Flow.Goes }
-    requires alone { names_alone op.now.immediates ≡ true }
-    ensures { (labels : ℕ) (around : List ℕ) → Meets result (items_test (S.sight scope.now) labels (seen op.now)) offset (IsStep (S.sight scope.now) around (seen op.now)) }
-{
-    match plain(scope, op, offset) {
-        Ok(instr) => Ok(Step::Run { instr, cuts: false }),
-        Err(fault) => Err(fault),
-    }
-}
-
-// An operator that accesses a memory, and behind which a run goes on.
-fn reaches<S: Scope>(
-    scope: &S,
-    op: &Operator,
-    access: MemoryAccess,
-    offset: u64,
-) -> Result<Step, BodyError>
-    requires listed { IsListed op.now }
-    requires goes { flow_of op.now.code ≡ Some Flow.Goes }
-    requires access { accessed op.now.immediates ≡ Some access }
-    ensures { (labels : ℕ) (around : List ℕ) → Meets result (items_test (S.sight scope.now) labels (seen op.now)) offset (IsStep (S.sight scope.now) around (seen op.now)) }
-{
-    match on_memory(scope, op, access, offset) {
-        Ok(instr) => Ok(Step::Run { instr, cuts: false }),
-        Err(fault) => Err(fault),
-    }
-}
-
-// By what the operator does to a run.
-#[inline(never)]
-fn by_flow<S: Scope, L: Labels>(
-    scope: &S,
-    alloc: Global,
-    op: &Operator,
-    labels: &L,
-    offset: u64,
-) -> Result<Step, BodyError>
-    requires { IsListed op.now }
-    ensures { AnswersIf (holds_list (kind_is op.now.immediates)) result (items_test (S.sight scope.now) (known_labels (flow_of op.now.code) (length (L.ids labels.now))) (seen op.now)) offset (IsStep (S.sight scope.now) (L.ids labels.now) (seen op.now)) }
-{
-    let Some(flow) = op.code.flow() else {
-        return stand(scope, alloc, op, labels, false, offset);
-    };
-    match flow {
-        Flow::Passes => Ok(Step::Pass),
-        Flow::Else => Ok(Step::Else),
-        Flow::CatchAll => Ok(Step::CatchAll),
-        Flow::End => Ok(Step::End),
-        Flow::OpensBlock => open(scope, op, Opener::Block, offset),
-        Flow::OpensLoop => open(scope, op, Opener::Loop, offset),
-        Flow::OpensIf => open(scope, op, Opener::If, offset),
-        Flow::OpensTry => open(scope, op, Opener::Try, offset),
-        Flow::OpensTryTable => open_table(scope, alloc, op, labels, offset),
-        Flow::Catch => catch(scope, op, offset),
-        Flow::Delegate => delegate(op, labels, offset),
-        Flow::Goes
-        | Flow::Traps
-        | Flow::Branches
-        | Flow::Chooses
-        | Flow::Selects
-        | Flow::Returns
-        | Flow::Calls
-        | Flow::CallsIndirectly
-        | Flow::TailCalls
-        | Flow::TailCallsIndirectly
-        | Flow::Throws
-        | Flow::ThrowsOrTraps => stand(scope, alloc, op, labels, cuts(Some(flow)), offset),
-    }
-}
-
-// Of an operator without immediates.
-fn bare<S: Scope, L: Labels>(
-    scope: &S,
-    alloc: Global,
-    op: &Operator,
-    labels: &L,
-    offset: u64,
-) -> Result<Step, BodyError>
-    requires listed { IsListed op.now }
-    requires bare { op.now.immediates ≡ Immediates.Bare }
-    ensures { AnswersIf (holds_list (kind_is op.now.immediates)) result (items_test (S.sight scope.now) (known_labels (flow_of op.now.code) (length (L.ids labels.now))) (seen op.now)) offset (IsStep (S.sight scope.now) (L.ids labels.now) (seen op.now)) }
-{
-    match op.code.flow() {
-        Some(Flow::Goes) => goes(scope, op, offset),
-        _ => by_flow(scope, alloc, op, labels, offset),
-    }
-}
-
 /// The instruction of an operator that stands in a sequence, and behind which the next is reached. All of it is inlined: where the form of
 /// the immediates is known, no other is tested.
 ///
@@ -317,7 +226,7 @@ pub fn opening<S: Scope, L: Labels>(
         Some(Flow::OpensBlock) => open(scope, op, Opener::Block, offset),
         Some(Flow::OpensLoop) => open(scope, op, Opener::Loop, offset),
         Some(Flow::OpensIf) => open(scope, op, Opener::If, offset),
-        _ => by_flow(scope, alloc, op, labels, offset),
+        _ => step_of(scope, alloc, op, labels, offset),
     }
 }
 
@@ -328,6 +237,7 @@ pub fn opening<S: Scope, L: Labels>(
 /// At this offset, where what the operator names isn't there or may not stand there: `Index`, `TypeForm` (of a block type), `Position`
 /// (a data segment with no data count), `Unsupported` and `Bounds`, of those that are due the one of the lowest number, and of `Index`
 /// the first in the order of the bytes. Want of memory, for the labels of a `br_table` and the clauses of a `try_table` alone.
+#[inline(never)]
 pub fn step_of<S: Scope, L: Labels>(
     scope: &S,
     alloc: Global,
@@ -338,11 +248,32 @@ pub fn step_of<S: Scope, L: Labels>(
     requires { IsListed op.now }
     ensures { AnswersIf (holds_list (kind_is op.now.immediates)) result (items_test (S.sight scope.now) (known_labels (flow_of op.now.code) (length (L.ids labels.now))) (seen op.now)) offset (IsStep (S.sight scope.now) (L.ids labels.now) (seen op.now)) }
 {
-    match &op.immediates {
-        Immediates::Bare => bare(scope, alloc, op, labels, offset),
-        Immediates::Local(_) | Immediates::Global(_) | Immediates::I32(_) | Immediates::I64(_) =>
-            goes(scope, op, offset),
-        Immediates::Access(access) => reaches(scope, op, *access, offset),
-        _ => by_flow(scope, alloc, op, labels, offset),
+    let Some(flow) = op.code.flow() else {
+        return stand(scope, alloc, op, labels, false, offset);
+    };
+    match flow {
+        Flow::Passes => Ok(Step::Pass),
+        Flow::Else => Ok(Step::Else),
+        Flow::CatchAll => Ok(Step::CatchAll),
+        Flow::End => Ok(Step::End),
+        Flow::OpensBlock => open(scope, op, Opener::Block, offset),
+        Flow::OpensLoop => open(scope, op, Opener::Loop, offset),
+        Flow::OpensIf => open(scope, op, Opener::If, offset),
+        Flow::OpensTry => open(scope, op, Opener::Try, offset),
+        Flow::OpensTryTable => open_table(scope, alloc, op, labels, offset),
+        Flow::Catch => catch(scope, op, offset),
+        Flow::Delegate => delegate(op, labels, offset),
+        Flow::Goes
+        | Flow::Traps
+        | Flow::Branches
+        | Flow::Chooses
+        | Flow::Selects
+        | Flow::Returns
+        | Flow::Calls
+        | Flow::CallsIndirectly
+        | Flow::TailCalls
+        | Flow::TailCallsIndirectly
+        | Flow::Throws
+        | Flow::ThrowsOrTraps => stand(scope, alloc, op, labels, cuts(Some(flow)), offset),
     }
 }

@@ -4,5 +4,6 @@ pub mod Takes
 mod Reading
 mod Looping
 mod Frequent
+mod Running
 -- Passed on to crates above, which then list this one alone.
 pub use Rattle.walrus_body_locals.proofs as walrus_body_locals

@@ -39,7 +39,7 @@ use Rattle.walrus_body_locals.proofs.Answering.{end_stays, accepted, barred}
 use Rattle.walrus_body_parser.proofs.Takes.{offset_is}
 use Rattle.walrus_body_parser.specs.Points.{operator_seen, op_told, place_at, ops_from}
 use Rattle.walrus_body_parser.specs.Changes.{LacksType, point_at, reads_next, ReadsNext}
-use Rattle.walrus_body_parser.specs.Trees.{Validating, parser_of, PassOps, point_of, AreOpen, Lacks, ReadsTree, RefusesTree}
+use Rattle.walrus_body_parser.specs.Trees.{Validating, parser_of, PassOps, point_of, AreOpen, Lacks, Goes, ReadsTree, RefusesTree}
 
 -- the place behind what was read
 behind_is : {A : Type 0} (start : ℕ) (f : Format A) (bytes later : List ℕ) (x : ℕ × A) → (ends_at start f).parse bytes ≡ Ok (x, later) → x.0 ≡ start + (length bytes - length later)
@@ -78,19 +78,8 @@ module _ {V : Type 0} (s : Sight) (told : Validating V) (code : ℕ) (old : Curs
   abbrev first : ℕ
   first = place_at code old
 
-  -- some operators were read, and the validator accepted them
-  pub record Goes (done : Bool) (b : List Seq) (os : List Open) (now : Cursor) (w : V) : Type 0 where
-    pub ops : List (ℕ × Seen)
-    pub passed : PassOps (parser_of old.window.features s) told (end_of old) first v (rest old) ops (rest now) w
-    pub point : fold next_point (opened first) ops ≡ record { place = place_at code now; frames = left_kinds done os }
-    pub good : Good done b os
-    pub means : (ys : List (ℕ × Seen)) → Reads (meaning s) done b os (open_in (ops_from (place_at code now) ys)) (normal same (tree_of (ops_from first (ops ++ ys))))
-    pub moves : Forward old now
-    pub within : IsWithin now
-    pub begins : code ≤ now.window.start + now.position
-
   pub goes_start : (stack : Stack) (ty : InstrSeqType) → length (blocks stack) ≡ 1 → total (blocks stack) ≡ 0 → type_at (blocks stack) 0 ≡ Some ty → opens stack ≡ begun openers.Block no_place ty Plain 0 Live ∷ []
-      → IsWithin old → code ≤ old.window.start + old.position → Goes false (blocks stack) (opens stack) old v
+      → IsWithin old → code ≤ old.window.start + old.position → Goes s told code old v false (blocks stack) (opens stack) old v
   goes_start stack ty one none typed is within begins =
       let start = bodies_start s stack ty one none typed is in
       record {
@@ -104,7 +93,7 @@ module _ {V : Type 0} (s : Sight) (told : Validating V) (code : ℕ) (old : Curs
         begins = begins;
       }
 
-  module _ (stack : Stack) (now : Cursor) (w : V) (g : Goes false (blocks stack) (opens stack) now w) where
+  module _ (stack : Stack) (now : Cursor) (w : V) (g : Goes s told code old v false (blocks stack) (opens stack) now w) where
     -- the next one is parsed so too
     same_next : reads_next s told.op code now stack w ≡ parser_of old.window.features s (point_of (parser_of old.window.features s) told (end_of old) first g.ops)
     same_next =
@@ -112,7 +101,7 @@ module _ {V : Type 0} (s : Sight) (told : Validating V) (code : ℕ) (old : Curs
         ∙ ap (λ (p : Point). parser_of old.window.features s p) (sym g.point)
 
     pub goes_on : (next : Cursor) (after : Stack) (u : V) (done : Bool) → ReadsNext s told.op code now stack w next after u (Ok done) → length (rest next) < length (rest now) → Forward now next
-        → Goes done (blocks after) (opens after) next u
+        → Goes s told code old v done (blocks after) (opens after) next u
     goes_on next after u done r takes moves =
         let x = r.0 in
         let n = length (rest now) in
@@ -198,7 +187,7 @@ module _ {V : Type 0} (s : Sight) (told : Validating V) (code : ℕ) (old : Curs
 
   -- ---- the body is closed
 
-  module _ (b : List Seq) (os : List Open) (now : Cursor) (w : V) (g : Goes true b os now w) where
+  module _ (b : List Seq) (os : List Open) (now : Cursor) (w : V) (g : Goes s told code old v true b os now w) where
     ends_closed : is_closed (point_of (parser_of old.window.features s) told (end_of old) first g.ops).frames ≡ true
     ends_closed = ap (λ (p : Point). is_closed p.frames) g.point
 

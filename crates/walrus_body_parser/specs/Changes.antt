@@ -74,8 +74,7 @@ module _ {V : Type 0} (s : Sight) (step : V → ℕ → Seen → Option BodyErro
       × Steps (meaning s) x.1 (Some (place_at code old)) (blocks stack) (opens stack) done (blocks after) (opens after)
   ReadsNext new after w (Err e) = ((e ≡ faults.Memory) × (w ≡ v)) ⊎ Fails reads_next (op_told step) (end_of old) v (rest old) w e ⊎ (HindersNext e × (w ≡ v))
 
-  -- so it was with one that can't end the body; or nothing was read
-  abbrev pub ReadsIf : Cursor → Stack → V → Result Bool BodyError → Type 0
-  ReadsIf new after w (Ok true) = ReadsNext new after w (Ok false)
-  ReadsIf new after w (Ok false) = (new ≡ old) × (after ≡ stack) × (w ≡ v)
-  ReadsIf new after w (Err e) = ReadsNext new after w (Err e)
+  -- so it was with one that can't end the body
+  abbrev pub ReadsOn : Cursor → Stack → V → Result (Unit {0}) BodyError → Type 0
+  ReadsOn new after w (Ok x) = ReadsNext new after w (Ok false)
+  ReadsOn new after w (Err e) = ReadsNext new after w (Err e)

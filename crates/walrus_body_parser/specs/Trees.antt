@@ -1,7 +1,7 @@
 -- The operators of a body, up to its end, and the tree that they are read as.
-use Rattle.std.specs.Prelude.{◌≡◌, ◌⊎◌, ◌<◌, ℕ, ◌-◌, true, false, List, [], ◌∷◌, ◌++◌, length, fold, Option, Some, None, Ok}
+use Rattle.std.specs.Prelude.{◌≡◌, ◌⊎◌, ◌<◌, ◌≤◌, ◌+◌, ℕ, ◌-◌, Bool, true, false, List, [], ◌∷◌, ◌++◌, length, fold, Option, Some, None, Result, Ok, Err}
 use Rattle.wasm_features.specs.declared.WasmFeatures.{WasmFeatures}
-use Rattle.wasm_reader.specs.Cursor.{Cursor, rest, end_of}
+use Rattle.wasm_reader.specs.Cursor.{Cursor, Forward, IsWithin, rest, end_of}
 use Rattle.wasm_formats.specs.Stops.{Parsing}
 use Rattle.walrus_body_operands.specs.walrus_body_stack.walrus_builder.Built.{Seq}
 use Rattle.walrus_body_operands.specs.walrus_body_rules.wasm_body_grammar.wasm_operators.Operators.{Seen}
@@ -11,7 +11,9 @@ use Rattle.walrus_body_locals.specs.wasm_normal_form.Normal.{normal}
 use Rattle.walrus_body_locals.specs.walrus_body_env.declared.error.BodyError.{BodyError}
 use Rattle.walrus_body_locals.specs.walrus_body_env.declared.error.BodyError.TheVariants as faults
 use Rattle.walrus_body_locals.specs.walrus_body_nesting.Stands.{StandsAs}
-use Rattle.walrus_body_locals.specs.walrus_body_nesting.Opens.{Open, Good, IsReached, Reads, kinds_of, same}
+use Rattle.walrus_body_locals.specs.walrus_body_nesting.Opens.{Open, Good, IsReached, Reads, kinds_of, left_kinds, same}
+use Rattle.walrus_body_operands.specs.walrus_body_stack.declared.stack.Stack.{Stack}
+use Rattle.walrus_body_operands.specs.walrus_body_stack.Frames.{blocks, opens}
 use Rattle.walrus_body_operands.specs.walrus_body_rules.Sights.{Sight}
 use Rattle.walrus_body_operands.specs.walrus_body_steps.Meanings.{OpensOf, meaning}
 use Rattle.walrus_body_locals.specs.Told.{Pass, Fails}
@@ -102,3 +104,23 @@ abbrev pub RefusesTree : {V : Type 0} → Sight → Validating V → ℕ → Cur
 RefusesTree s told code old v w e =
     ((e ≡ faults.Memory) × SomeOps (parser_of old.window.features s) told (end_of old) (place_at code old) v (rest old) w)
     ⊎ FailOps (parser_of old.window.features s) told (end_of old) (place_at code old) s v (rest old) w e
+
+-- ---- on the way
+
+module _ {V : Type 0} (s : Sight) (told : Validating V) (code : ℕ) (old : Cursor) (v : V) where
+  -- some operators were read, and the validator accepted them; with those that come next they will stand as the tree of all in normal form
+  pub record Goes (done : Bool) (b : List Seq) (os : List Open) (now : Cursor) (w : V) : Type 0 where
+    pub ops : List (ℕ × Seen)
+    pub passed : PassOps (parser_of old.window.features s) told (end_of old) (place_at code old) v (rest old) ops (rest now) w
+    pub point : fold next_point (opened (place_at code old)) ops ≡ record { place = place_at code now; frames = left_kinds done os }
+    pub good : Good done b os
+    pub means : (ys : List (ℕ × Seen)) → Reads (meaning s) done b os (open_in (ops_from (place_at code now) ys)) (normal same (tree_of (ops_from (place_at code old) (ops ++ ys))))
+    pub moves : Forward old now
+    pub within : IsWithin now
+    pub begins : code ≤ now.window.start + now.position
+
+-- whatever was read before, so it goes on with what a call read; or the tree is refused
+abbrev pub Follows : {V : Type 0} → Sight → Validating V → ℕ → Cursor → Stack → V → Cursor → Stack → V → Result (Unit {0}) BodyError → Type 0
+Follows {V} s told code now stack w next after u (Ok x) =
+    (old : Cursor) (v : V) → Goes s told code old v false (blocks stack) (opens stack) now w → Goes s told code old v false (blocks after) (opens after) next u
+Follows {V} s told code now stack w next after u (Err e) = (old : Cursor) (v : V) → Goes s told code old v false (blocks stack) (opens stack) now w → RefusesTree s told code old v u e

@@ -1,7 +1,6 @@
 //! Operators are read, one after another.
 
 ghost use Rattle.std.specs.Prelude.{◌≡◌, ◌<◌, ◌≤◌, ◌+◌, length, true, IfOk, OnOk, Some, Err};
-ghost use Rattle.std.specs.Bool.{OnTrue};
 ghost use Rattle.wasm_reader.specs.Cursor.{Cursor, Forward, IsWithin, end_of, rest};
 ghost use Rattle.walrus_body_operands.specs.walrus_body_rules.wasm_body_grammar.wasm_operators.declared.entry.Entry.{Entry};
 ghost use Rattle.walrus_body_operands.specs.walrus_body_rules.wasm_body_grammar.wasm_operators.Table.{find_code};
@@ -11,8 +10,9 @@ ghost use Rattle.walrus_body_locals.specs.walrus_body_nesting.Opens.{Shaped};
 ghost use Rattle.walrus_body_operands.specs.walrus_body_stack.Frames.{blocks, heading_of, opens};
 ghost use Rattle.walrus_body_locals.specs.Calls.{Parses};
 ghost use Rattle.walrus_body_operands.specs.Listed.{IsListed, keeps_on};
-ghost use Rattle.walrus_body_parser.specs.Changes.{ReadsIf, ReadsNext, entry_of};
+ghost use Rattle.walrus_body_parser.specs.Changes.{ReadsNext, ReadsOn, entry_of};
 ghost use Rattle.walrus_body_parser.specs.Points.{IsRefusedAs};
+ghost use Rattle.walrus_body_parser.specs.Trees.{Follows, validating};
 
 use crate::steps::change;
 use std::alloc::Global;
@@ -211,14 +211,14 @@ fn read_known<S: Scope, V: Validator>(
     stack: &mut Stack,
     validator: &mut V,
     code_start: u64,
-) -> Result<bool, BodyError>
+) -> Result<(), BodyError>
     requires shaped { Shaped (blocks stack.old) (opens stack.old) }
     requires within { IsWithin reader.old }
     requires begins { code_start ≤ reader.old.window.start + reader.old.position }
     requires ends { end_of reader.old < code_start + 4294967295 }
     requires next { (e : Entry) × IsNext reader.old e × (e.kind ≡ kind) × (keeps_on (Some e.flow) ≡ true) }
-    ensures read { ReadsIf (S.sight scope.now) V.op_step code_start reader.old stack.old validator.old reader.new stack.new validator.new result }
-    ensures takes { IfOk result (λ read. OnTrue read (length (rest reader.new) < length (rest reader.old))) }
+    ensures read { ReadsOn (S.sight scope.now) V.op_step code_start reader.old stack.old validator.old reader.new stack.new validator.new result }
+    ensures takes { OnOk result (length (rest reader.new) < length (rest reader.old)) }
     ensures ty { OnOk result (heading_of stack.new ≡ heading_of stack.old) }
     ensures entry { OnOk result (entry_of stack.new ≡ entry_of stack.old) }
     ensures moves { Forward reader.old reader.new }
@@ -229,7 +229,7 @@ fn read_known<S: Scope, V: Validator>(
     let instr = instr_on(scope, alloc, &op, &*stack, offset)?;
     stack.run(instr, place, false)?;
     validator.op(offset, &op)?;
-    Ok(true)
+    Ok(())
 }
 
 // Whether the next operator is reached behind one that does this to a run.
@@ -240,14 +240,14 @@ fn goes_on(flow: Flow) -> bool
     matches!(flow, Flow::Goes | Flow::Calls | Flow::Chooses)
 }
 
-/// Reads an operator as [`read_operator`] does where it is a frequent one, which never ends the body; says whether it was. Else nothing
-/// is read.
+/// Reads operators as [`read_operator`] does, as long as they are frequent ones, none of which ends the body. The loop stands here: all of
+/// the reading is inlined in it, for each kind anew, and what has so many copies is never inlined itself.
 ///
 /// # Errors
 ///
 /// As [`read_operator`].
-#[inline(always)]
-#[tactic(auto, using(crate::proofs::Frequent::next_so))]
+#[inline(never)]
+#[tactic(auto, using(crate::proofs::Frequent::next_so, crate::proofs::Running::runs_start))]
 pub(crate) fn read_frequent<S: Scope, V: Validator>(
     scope: &S,
     alloc: Global,
@@ -255,105 +255,111 @@ pub(crate) fn read_frequent<S: Scope, V: Validator>(
     stack: &mut Stack,
     validator: &mut V,
     code_start: u64,
-) -> Result<bool, BodyError>
+) -> Result<(), BodyError>
     requires shaped { Shaped (blocks stack.old) (opens stack.old) }
     requires within { IsWithin reader.old }
     requires begins { code_start ≤ reader.old.window.start + reader.old.position }
     requires ends { end_of reader.old < code_start + 4294967295 }
-    ensures read { ReadsIf (S.sight scope.now) V.op_step code_start reader.old stack.old validator.old reader.new stack.new validator.new result }
-    ensures takes { IfOk result (λ read. OnTrue read (length (rest reader.new) < length (rest reader.old))) }
+    ensures follows { Follows (S.sight scope.now) (validating V.op_step V.finish_step) code_start reader.old stack.old validator.old reader.new stack.new validator.new result }
+    ensures shaped { OnOk result (Shaped (blocks stack.new) (opens stack.new)) }
+    ensures within { OnOk result (IsWithin reader.new) }
+    ensures begins { OnOk result (code_start ≤ reader.new.window.start + reader.new.position) }
+    ensures ends { OnOk result (end_of reader.new < code_start + 4294967295) }
+    ensures left { OnOk result (length (rest reader.new) ≤ length (rest reader.old)) }
     ensures ty { OnOk result (heading_of stack.new ≡ heading_of stack.old) }
     ensures entry { OnOk result (entry_of stack.new ≡ entry_of stack.old) }
-    ensures moves { Forward reader.old reader.new }
 {
-    let Some(entry) = reader.next_entry() else {
-        return Ok(false);
-    };
-    if !goes_on(entry.flow) {
-        return Ok(false);
-    }
-    match entry.kind {
-        Kind::Bare => read_known(
-            Kind::Bare,
-            scope,
-            alloc,
-            reader,
-            stack,
-            validator,
-            code_start,
-        ),
-        Kind::Label => read_known(
-            Kind::Label,
-            scope,
-            alloc,
-            reader,
-            stack,
-            validator,
-            code_start,
-        ),
-        Kind::Function => read_known(
-            Kind::Function,
-            scope,
-            alloc,
-            reader,
-            stack,
-            validator,
-            code_start,
-        ),
-        Kind::Local => read_known(
-            Kind::Local,
-            scope,
-            alloc,
-            reader,
-            stack,
-            validator,
-            code_start,
-        ),
-        Kind::Global => read_known(
-            Kind::Global,
-            scope,
-            alloc,
-            reader,
-            stack,
-            validator,
-            code_start,
-        ),
-        Kind::Access => read_known(
-            Kind::Access,
-            scope,
-            alloc,
-            reader,
-            stack,
-            validator,
-            code_start,
-        ),
-        Kind::I32 => read_known(
-            Kind::I32,
-            scope,
-            alloc,
-            reader,
-            stack,
-            validator,
-            code_start,
-        ),
-        Kind::I64 => read_known(
-            Kind::I64,
-            scope,
-            alloc,
-            reader,
-            stack,
-            validator,
-            code_start,
-        ),
-        Kind::F64 => read_known(
-            Kind::F64,
-            scope,
-            alloc,
-            reader,
-            stack,
-            validator,
-            code_start,
-        ),
-        _ => Ok(false),
+    loop {
+        let Some(entry) = reader.next_entry() else {
+            return Ok(());
+        };
+        if !goes_on(entry.flow) {
+            return Ok(());
+        }
+        // Each kind returns by itself: where they met, what the others hold would be written for each.
+        match entry.kind {
+            Kind::Bare => read_known(
+                Kind::Bare,
+                scope,
+                alloc,
+                reader,
+                stack,
+                validator,
+                code_start,
+            )?,
+            Kind::Label => read_known(
+                Kind::Label,
+                scope,
+                alloc,
+                reader,
+                stack,
+                validator,
+                code_start,
+            )?,
+            Kind::Function => read_known(
+                Kind::Function,
+                scope,
+                alloc,
+                reader,
+                stack,
+                validator,
+                code_start,
+            )?,
+            Kind::Local => read_known(
+                Kind::Local,
+                scope,
+                alloc,
+                reader,
+                stack,
+                validator,
+                code_start,
+            )?,
+            Kind::Global => read_known(
+                Kind::Global,
+                scope,
+                alloc,
+                reader,
+                stack,
+                validator,
+                code_start,
+            )?,
+            Kind::Access => read_known(
+                Kind::Access,
+                scope,
+                alloc,
+                reader,
+                stack,
+                validator,
+                code_start,
+            )?,
+            Kind::I32 => read_known(
+                Kind::I32,
+                scope,
+                alloc,
+                reader,
+                stack,
+                validator,
+                code_start,
+            )?,
+            Kind::I64 => read_known(
+                Kind::I64,
+                scope,
+                alloc,
+                reader,
+                stack,
+                validator,
+                code_start,
+            )?,
+            Kind::F64 => read_known(
+                Kind::F64,
+                scope,
+                alloc,
+                reader,
+                stack,
+                validator,
+                code_start,
+            )?,
+            _ => return Ok(()),
+        }
     }
 }

@@ -49,10 +49,7 @@ pub fn read_tree<S: Scope, V: Validator>(
     let mut stack = Stack::new(alloc, builder);
     let mut done = false;
     while !done {
-        let read = read_frequent(scope, alloc, &mut reader, &mut stack, validator, code_start)?;
-        if read {
-            continue;
-        }
+        read_frequent(scope, alloc, &mut reader, &mut stack, validator, code_start)?;
         done = read_operator(scope, alloc, &mut reader, &mut stack, validator, code_start)?;
     }
     let end = reader.original_position();

@@ -1,5 +1,5 @@
 -- What a contract sees of the records of a type section: kinds whose names are indices of the section.
-use Rattle.std.specs.Prelude.{Bool, List, map}
+use Rattle.std.specs.Prelude.{Bool, true, false, List, map}
 use Rattle.walrus_forms.specs.declared.value.HeapType.{HeapType}
 use Rattle.walrus_forms.specs.declared.value.HeapType.TheVariants.{Abstract, Concrete, Exact}
 use Rattle.walrus_forms.specs.declared.value.RefType.{RefType}
@@ -48,6 +48,15 @@ plain_of RF32 = F32
 plain_of RF64 = F64
 plain_of RV128 = V128
 plain_of (RRef ty) = V128
+
+-- whether it is a reference type
+abbrev pub is_ref : ValRecord → Bool
+is_ref RI32 = false
+is_ref RI64 = false
+is_ref RF32 = false
+is_ref RF64 = false
+is_ref RV128 = false
+is_ref (RRef ty) = true
 
 abbrev pub storage_of : StorageRecord → StorageType
 storage_of (RVal ty) = Val (value_of ty)

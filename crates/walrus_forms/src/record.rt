@@ -1,8 +1,9 @@
 //! The records of a type section: types that name one another by index (Core Specification, recursive
 //! types).
-ghost use Rattle.std.specs.Prelude.{◌≡◌, ◌<◌, IfOk, IfSome, All, length, map};
+ghost use Rattle.std.specs.Prelude.{◌≡◌, ◌+◌, ◌<◌, ◌++◌, [], ◌∷◌, IfOk, IfSome, All, length, map, vec_len, vec_capacity};
+ghost use Rattle.std.specs.List.{list_any};
 ghost use Rattle.walrus_forms.specs.Forms.{form_of};
-ghost use Rattle.walrus_forms.specs.Records.{heap_of, ref_of, value_of, storage_of, field_of, record_form, record_kind, type_group, plain_of};
+ghost use Rattle.walrus_forms.specs.Records.{heap_of, ref_of, value_of, storage_of, field_of, record_form, record_kind, type_group, plain_of, is_ref};
 ghost use Rattle.walrus_forms.specs.Values.{heap_name, ref_name, value_name, storage_name, field_name};
 ghost use Rattle.walrus_forms.specs.Renaming.{HeapBelow, RefBelow, ValueBelow, StorageBelow, FieldBelow, FormBelow, renamed_heap, renamed_ref, renamed_value, renamed_field, renamed_storage, renamed_form, at};
 
@@ -134,8 +135,8 @@ impl RefRecord {
     }
 }
 
-// The type of a number or a vector. It stands apart, so that it is one look-up, and a list of types goes without jumps.
-#[inline(never)]
+// The type of a number or a vector.
+#[inline(always)]
 fn plain_value(value: ValRecord) -> ValType
     ensures { result ≡ plain_of value }
 {
@@ -146,6 +147,23 @@ fn plain_value(value: ValRecord) -> ValType
         ValRecord::F64 => ValType::F64,
         ValRecord::V128 => ValType::V128,
         ValRecord::Ref(_) => ValType::V128,
+    }
+}
+
+// The same, apart: beside a test for a reference type it would be a jump for each type, not one look-up.
+#[inline(never)]
+fn plain_apart(value: ValRecord) -> ValType
+    ensures { result ≡ plain_of value }
+{
+    plain_value(value)
+}
+
+fn is_ref(value: &ValRecord) -> bool
+    ensures { result ≡ is_ref value.now }
+{
+    match value {
+        ValRecord::Ref(_) => true,
+        _ => false,
     }
 }
 
@@ -168,7 +186,7 @@ impl ValRecord {
     {
         match self {
             ValRecord::Ref(ty) => ValType::Ref(ty.resolve(ids)),
-            plain => plain_value(plain),
+            plain => plain_apart(plain),
         }
     }
 }
@@ -219,6 +237,54 @@ impl FieldRecord {
     }
 }
 
+// Pushes the type that the value describes. Numbers are pushed apart, so that none waits for a reference's type.
+#[inline]
+fn push_value(types: &mut Vec<ValType>, value: ValRecord, ids: &[TypeId])
+    requires room { vec_len types.old < vec_capacity types.old }
+    requires names { ValueBelow (length ids.now) (value_of value) }
+    ensures items { types.new.items ≡ types.old.items ++ renamed_value (at ids.now) (value_of value) ∷ [] }
+    ensures len { vec_len types.new ≡ vec_len types.old + 1 }
+    ensures capacity { vec_capacity types.new ≡ vec_capacity types.old }
+{
+    match value {
+        ValRecord::Ref(ty) => types.push_reserved(ValType::Ref(RefType {
+            nullable: ty.nullable,
+            heap_type: ty.heap_type.resolve(ids),
+        })),
+        plain => types.push_reserved(plain_apart(plain)),
+    }
+}
+
+fn has_ref(values: &[ValRecord]) -> bool
+    ensures { result ≡ list_any is_ref values.now }
+{
+    values.iter().any(|value| is_ref(value))
+}
+
+// Pushes the type of a number or a vector.
+#[inline(always)]
+fn push_plain(types: &mut Vec<ValType>, value: ValRecord)
+    requires room { vec_len types.old < vec_capacity types.old }
+    ensures items { types.new.items ≡ types.old.items ++ plain_of value ∷ [] }
+    ensures len { vec_len types.new ≡ vec_len types.old + 1 }
+    ensures capacity { vec_capacity types.new ≡ vec_capacity types.old }
+{
+    // Names what a value type may hold, as the borrow checker asks.
+    let _held: Option<(HeapType, RefType)> = None;
+    types.push_reserved(plain_value(value));
+}
+
+// The types of numbers and vectors. Without a test for references it is one look-up for each, and no jumps.
+fn resolve_plain(alloc: Global, values: &[ValRecord]) -> Result<Vec<ValType>, AllocError>
+    ensures { IfOk result (λ types. types.items ≡ map plain_of values.now) }
+{
+    let mut types = Vec::with_capacity(alloc, values.len())?;
+    for value in values {
+        push_plain(&mut types, *value);
+    }
+    Ok(types)
+}
+
 // The types that the values describe, where each index names the id that the list has there.
 fn resolve_values(
     alloc: Global,
@@ -228,11 +294,36 @@ fn resolve_values(
     requires { All (ValueBelow (length ids.now)) (map value_of values.now) }
     ensures { IfOk result (λ types. types.items ≡ map (renamed_value (at ids.now)) (map value_of values.now)) }
 {
+    if !has_ref(values) {
+        return resolve_plain(alloc, values);
+    }
     let mut types = Vec::with_capacity(alloc, values.len())?;
     for value in values {
-        types.extend_from_slice(&[value.resolve(ids)])?;
+        push_value(&mut types, *value, ids);
     }
     Ok(types)
+}
+
+// Pushes the type that the field describes.
+#[inline]
+fn push_field(types: &mut Vec<FieldType>, field: FieldRecord, ids: &[TypeId])
+    requires room { vec_len types.old < vec_capacity types.old }
+    requires names { FieldBelow (length ids.now) (field_of field) }
+    ensures items { types.new.items ≡ types.old.items ++ renamed_field (at ids.now) (field_of field) ∷ [] }
+    ensures len { vec_len types.new ≡ vec_len types.old + 1 }
+    ensures capacity { vec_capacity types.new ≡ vec_capacity types.old }
+{
+    let element_type = match field.element_type {
+        StorageRecord::Val(ValRecord::Ref(ty)) => StorageType::Val(ValType::Ref(RefType {
+            nullable: ty.nullable,
+            heap_type: ty.heap_type.resolve(ids),
+        })),
+        plain => plain.resolve(ids),
+    };
+    types.push_reserved(FieldType {
+        element_type,
+        mutable: field.mutable,
+    });
 }
 
 // The types that the fields describe, where each index names the id that the list has there.
@@ -246,7 +337,7 @@ fn resolve_fields(
 {
     let mut types = Vec::with_capacity(alloc, fields.len())?;
     for field in fields {
-        types.extend_from_slice(&[field.resolve(ids)])?;
+        push_field(&mut types, *field, ids);
     }
     Ok(types)
 }

@@ -21,7 +21,8 @@ mod unary;
 
 pub use access::{cmpxchg_of, load_of, rmw_of, simd_of, store_of};
 pub use binary::{binary_of, code_of_binary, lane_of_binary};
-pub use ternary::{code_of_ternary, ternary_of};
+pub use numeric::{Numeric, numeric_of};
+pub use ternary::code_of_ternary;
 pub use unary::unary_of;
 
 // Passed on to crates above, which then list this one alone.

@@ -11,7 +11,7 @@ use walrus_codes::operator_table::OpCode;
 
 /// A numeric operator without immediates, or none.
 #[derive(Clone, Copy)]
-pub(crate) enum Numeric {
+pub enum Numeric {
     /// None.
     Nothing,
     /// Of one operand.
@@ -37,9 +37,9 @@ fn at(table: &[Numeric], first: u32, number: u32) -> Numeric
     }
 }
 
-/// The operator that has this code.
+/// The operator without immediates that has this code.
 #[inline]
-pub(crate) fn numeric_of(code: OpCode) -> Numeric
+pub fn numeric_of(code: OpCode) -> Numeric
     ensures unary { unary result ≡ bare_unary_at code }
     ensures binary { binary result ≡ bare_binary_at code }
     ensures ternary { ternary result ≡ ternary_at code }

@@ -1,20 +1,9 @@
 //! Codes of the operators of three operands (Core Specification, binary format: vector instructions).
 ghost use Rattle.std.specs.Prelude.{◌≡◌};
-ghost use Rattle.walrus_codes.specs.Ternary.{ternary_at, ternary_code};
+ghost use Rattle.walrus_codes.specs.Ternary.{ternary_code};
 
-use crate::numeric::{Numeric, numeric_of};
 use walrus_codes::instr::TernaryOp;
 use walrus_codes::operator_table::OpCode;
-
-/// The operator of three operands that has this code, if one has.
-pub fn ternary_of(code: OpCode) -> Option<TernaryOp>
-    ensures { result ≡ ternary_at code }
-{
-    match numeric_of(code) {
-        Numeric::Ternary(op) => Some(op),
-        _ => None,
-    }
-}
 
 /// The code of an operator of three operands.
 pub fn code_of_ternary(op: TernaryOp) -> OpCode

@@ -1,7 +1,8 @@
 //! Instructions of a code and of immediates without names, and those of many codes that name an id.
-ghost use Rattle.std.specs.Prelude.{◌≡◌, [], ◌∷◌};
+ghost use Rattle.std.specs.Prelude.{◌≡◌, [], ◌∷◌, None, option_map};
 ghost use Rattle.walrus_operator_codes.specs.walrus_instr.declared.instr.Instr.TheVariants as instrs;
 ghost use Rattle.walrus_operator_codes.specs.walrus_instr.declared.instr.Value.TheVariants as constants;
+ghost use Rattle.walrus_operator_codes.specs.Ternary.{ternary_at};
 ghost use Rattle.walrus_pairing.specs.Read as read;
 
 use crate::error::PairError;
@@ -9,7 +10,7 @@ use walrus_arena::{MemoryId, TableId, TypeId};
 use walrus_forms::{HeapType, RefType};
 use walrus_instr::{Bits128, Instr, MemArg, Value};
 use walrus_operator_codes::{
-    binary_of, cmpxchg_of, load_of, rmw_of, simd_of, store_of, ternary_of, unary_of,
+    Numeric, binary_of, cmpxchg_of, load_of, numeric_of, rmw_of, simd_of, store_of, unary_of,
 };
 use walrus_operators::immediate_forms::MemoryAccess;
 use walrus_operators::operator_table::OpCode;
@@ -68,6 +69,19 @@ fn numeric_instr(code: OpCode, lane: Option<u8>) -> Option<Instr>
     Some(Instr::Binop { op })
 }
 
+// Of a numeric operator without a lane: one look-up, whatever the count of its operands.
+#[inline(always)]
+fn operator_instr(code: OpCode) -> Option<Instr>
+    ensures { result ≡ read.first (read.numeric_at code None) (option_map instrs.TernOp (ternary_at code)) }
+{
+    match numeric_of(code) {
+        Numeric::Unary(op) => Some(Instr::Unop { op }),
+        Numeric::Binary(op) => Some(Instr::Binop { op }),
+        Numeric::Ternary(op) => Some(Instr::TernOp { op }),
+        Numeric::Nothing => None,
+    }
+}
+
 // Without immediates.
 #[inline(always)]
 pub(crate) fn no_immediates_instr(code: OpCode) -> Option<Instr>
@@ -76,13 +90,7 @@ pub(crate) fn no_immediates_instr(code: OpCode) -> Option<Instr>
     if let Some(instr) = bare_instr(code) {
         return Some(instr);
     }
-    if let Some(instr) = numeric_instr(code, None) {
-        return Some(instr);
-    }
-    let Some(op) = ternary_of(code) else {
-        return None;
-    };
-    Some(Instr::TernOp { op })
+    operator_instr(code)
 }
 
 // Of a byte: a lane, or the byte 00 of a fence.

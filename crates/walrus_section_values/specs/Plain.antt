@@ -1,4 +1,5 @@
 -- Types of numbers and vectors, as they are read.
+use Rattle.std.specs.Prelude.{Bool, true, false}
 use Rattle.wasm_ref_types.specs.declared.value.ValType.{ValType as ReadValue}
 use Rattle.wasm_ref_types.specs.declared.value.ValType.TheVariants as values
 use Rattle.walrus_forms.specs.declared.value.ValType.{ValType}
@@ -12,3 +13,12 @@ plain_of values.F32 = F32
 plain_of values.F64 = F64
 plain_of values.V128 = V128
 plain_of (values.Ref ty) = V128
+
+-- whether it is a reference type
+abbrev pub is_ref : ReadValue → Bool
+is_ref values.I32 = false
+is_ref values.I64 = false
+is_ref values.F32 = false
+is_ref values.F64 = false
+is_ref values.V128 = false
+is_ref (values.Ref ty) = true

@@ -13,7 +13,8 @@ pub use limits::{
     Limits, MemoryType, read_limits, read_memory_limits, read_memory_numbers, read_table_limits,
 };
 pub use types::{
-    heap_record, is_named_below, read_ref_type, read_value_type, ref_record, value_record,
+    heap_record, is_named_below, plain_record, read_ref_type, read_value_type, ref_record,
+    value_record,
 };
 pub use values::{read_below, read_index, read_name, read_u32, read_zero, take_byte};
 

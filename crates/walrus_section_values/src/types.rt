@@ -78,13 +78,13 @@ pub fn value_record(ty: ValType) -> Option<ValRecord>
             Some(ty) => Some(ValRecord::Ref(ty)),
             None => None,
         },
-        plain => Some(plain_record(plain)),
+        plain => Some(plain_apart(plain)),
     }
 }
 
-// The type of a number or a vector. It stands apart, so that it is one look-up, and a list of types goes without jumps.
-#[inline(never)]
-fn plain_record(ty: ValType) -> ValRecord
+/// The type of a number or a vector that was read. A reference type is taken for a vector's.
+#[inline(always)]
+pub fn plain_record(ty: ValType) -> ValRecord
     ensures { value_told result ≡ plain_of ty }
 {
     match ty {
@@ -95,6 +95,14 @@ fn plain_record(ty: ValType) -> ValRecord
         ValType::V128 => ValRecord::V128,
         ValType::Ref(_) => ValRecord::V128,
     }
+}
+
+// The same, apart: beside a test for a reference type it would be a jump for each type, not one look-up.
+#[inline(never)]
+fn plain_apart(ty: ValType) -> ValRecord
+    ensures { value_told result ≡ plain_of ty }
+{
+    plain_record(ty)
 }
 
 /// Whether the type that is named, if one is, is one of so many.

@@ -1,11 +1,12 @@
 -- What a table's index knows, through the lists of the code.
 use Rattle.std.proofs.Common.{◌≡◌, ◌∙◌, ℕ, ◌+◌, ◌≤◌, Bool, cond, not, List, [], ◌∷◌, ◌++◌, length, Option, Some, None, true, false, ◌==◌, slice_index_or, slice_set, IsSome, filter, refl, subst, sym, ap, arith, ⊎_elim, length-append}
-use Rattle.std.specs.Option.{option_map}
+use Rattle.std.specs.Option.{option_map, option_map_or}
 use Rattle.std.specs.Prelude.{is_some}
 use Rattle.walrus_type_index.specs.walrus_items.declared.subtype.Type.{«Type» as TypeItem}
 use Rattle.walrus_type_index.specs.walrus_items.Items.{kind_of}
 use Rattle.walrus_type_index.specs.declared.node.Hashed.{Hashed}
-use Rattle.walrus_type_index.specs.Places.{kinds_in}
+use Rattle.walrus_type_index.specs.Hashes.{hash_of, hash_at}
+use Rattle.walrus_type_index.specs.Places.{kinds_in, hashed_at}
 use Rattle.walrus_type_index.specs.Ordered.{Indexed, IsOrdered, IsHeld, is_marked, lives_at}
 use Rattle.walrus_type_index.proofs.OrderedLemmas.{ordered-written, ordered-dead, ordered-swept, ordered-new}
 use Rattle.walrus_type_index.specs.walrus_items.walrus_forms.Kinds.{Kind}
@@ -125,3 +126,11 @@ held-grown lent ks before after h ids room = record {
   ordered = subst (λ (xs : List Hashed). IsOrdered lent xs ks) (sym ids) h.ordered;
   room = omega (arith, h.room, room);
 }
+
+-- the hash of a type that was added
+pub hash-born : (slots : List (Option TypeItem)) (ty : TypeItem) (hash id : ℕ) → id ≡ length slots → hash ≡ hash_of (kind_of ty)
+    → record { hash = hash; id = id } ≡ hashed_at (kinds_in (slots ++ Some ty ∷ [])) id
+hash-born slots ty hash id is known =
+    let added = slots ++ Some ty ∷ [] in
+    let at : slice_index_or (kinds_in added) id None ≡ Some (kind_of ty) = at-map kind_of added id ∙ ap (option_map kind_of) (at-last slots (Some ty) id (sym is)) in
+    ap (λ (h : ℕ). let x : Hashed = record { hash = h; id = id } in x) (known ∙ sym (ap (λ (k : Option Kind). option_map_or hash_of k 0) at))

@@ -1,7 +1,8 @@
 //! Adding recursion groups to a table.
 ghost use Rattle.std.specs.Prelude.{◌≡◌, ◌+◌, ◌<◌, ◌≤◌, ◌^◌, [], ◌∷◌, ◌++◌, length, map, Some, None, false, IfOk, OnOk, vec_len, vec_capacity, IfErr, OnErr, true};
 ghost use Rattle.std.specs.List.{range_with_len};
-ghost use Rattle.walrus_type_index.specs.walrus_items.Items.{item_of};
+ghost use Rattle.walrus_type_index.specs.walrus_items.Items.{item_of, kind_of};
+ghost use Rattle.walrus_type_index.specs.Hashes.{hash_of};
 ghost use Rattle.walrus_type_index.specs.Places.{kinds_in};
 ghost use Rattle.walrus_type_index.specs.Ordered.{IsHeld};
 ghost use Rattle.walrus_type_arenas.specs.Counts.{IsMiscount};
@@ -13,7 +14,7 @@ use std::alloc::{AllocError, Global};
 use walrus_type_index::arena::{RecGroupId, RecGroupSpace, TombstoneArena, TypeId, TypeSpace};
 use walrus_type_index::forms::CompositeType;
 use walrus_type_index::items::{RecGroup, Type};
-use walrus_type_index::{Index, enter};
+use walrus_type_index::{Hashed, Index, enter_hashed, type_hash};
 
 /// What a new member of a recursion group is to be.
 #[derive(Drop)]
@@ -47,7 +48,7 @@ pub fn ids_from(alloc: Global, first: TypeId, count: usize) -> Result<Vec<TypeId
     requires { first + count < 2 ^ 32 }
     ensures { IfOk result (λ ids. ids.items ≡ range_with_len first count) }
 {
-    let mut ids = Vec::new(alloc);
+    let mut ids = Vec::with_capacity(alloc, count)?;
     for k in 0..count {
         ids.push(TypeId::from_index(first.index() + k))?;
     }
@@ -59,7 +60,7 @@ fn types_of(alloc: Global, first: TypeId, members: Vec<NewType>) -> Result<Vec<T
     requires { first + length members.items < 2 ^ 32 }
     ensures { IfOk result (λ types. map (λ new. Some (item_of new)) types.items ≡ new_items first (map member_kind members.items)) }
 {
-    let mut types = Vec::new(alloc);
+    let mut types = Vec::with_capacity(alloc, members.len())?;
     let mut next = first.index();
     for member in members {
         let NewType {
@@ -84,8 +85,23 @@ fn push_type(types: &mut TombstoneArena<Type, TypeSpace>, index: &mut Index, ty:
     ensures index_room { index.new.room ≡ index.old.room }
     ensures held { IsHeld None index.new (kinds_in types.new.slots) }
 {
+    let hash = type_hash(&ty);
+    push_hashed(types, index, ty, hash);
+}
+
+// The same, where the hash of the type is known.
+fn push_hashed(types: &mut TombstoneArena<Type, TypeSpace>, index: &mut Index, ty: Type, hash: u64)
+    requires room { 0 < types.old.room }
+    requires index_room { length types.old.slots + 1 ≤ index.old.room }
+    requires held { IsHeld None index.old (kinds_in types.old.slots) }
+    requires hash { hash ≡ hash_of (kind_of ty) }
+    ensures types { types.new.slots ≡ types.old.slots ++ Some ty ∷ [] }
+    ensures room { types.new.room + 1 ≡ types.old.room }
+    ensures index_room { index.new.room ≡ index.old.room }
+    ensures held { IsHeld None index.new (kinds_in types.new.slots) }
+{
     let id = types.alloc_reserved(ty);
-    enter(index, types, id);
+    enter_hashed(index, types, Hashed { hash, id });
 }
 
 /// The list of the members of a group that has this type alone.
@@ -96,8 +112,8 @@ fn push_type(types: &mut TombstoneArena<Type, TypeSpace>, index: &mut Index, ty:
 pub fn one_member(alloc: Global, id: TypeId) -> Result<Vec<TypeId>, AllocError>
     ensures { IfOk result (λ members. members.items ≡ id ∷ []) }
 {
-    let mut members = Vec::new(alloc);
-    members.push(id)?;
+    let mut members = Vec::with_capacity(alloc, 1)?;
+    members.push_reserved(id);
     Ok(members)
 }
 
@@ -154,9 +170,39 @@ pub fn push_single(
     ensures index_room { index.new.room ≡ index.old.room }
     ensures held { IsHeld None index.new (kinds_in types.new.slots) }
 {
+    let hash = type_hash(&ty);
+    push_single_hashed(types, groups, homes, index, ty, hash, members);
+}
+
+/// The same, where the hash of the type is known.
+pub fn push_single_hashed(
+    types: &mut TombstoneArena<Type, TypeSpace>,
+    groups: &mut TombstoneArena<RecGroup, RecGroupSpace>,
+    homes: &mut Vec<RecGroupId>,
+    index: &mut Index,
+    ty: Type,
+    hash: u64,
+    members: Vec<TypeId>,
+)
+    requires types { 0 < types.old.room }
+    requires groups { 0 < groups.old.room }
+    requires homes { vec_len homes.old < vec_capacity homes.old }
+    requires index { length types.old.slots + 1 ≤ index.old.room }
+    requires held { IsHeld None index.old (kinds_in types.old.slots) }
+    requires hash { hash ≡ hash_of (kind_of ty) }
+    ensures types { types.new.slots ≡ types.old.slots ++ Some ty ∷ [] }
+    ensures types_room { types.new.room + 1 ≡ types.old.room }
+    ensures groups { groups.new.slots ≡ groups.old.slots ++ Some (record { types = members; explicit = false }) ∷ [] }
+    ensures groups_room { groups.new.room + 1 ≡ groups.old.room }
+    ensures homes { homes.new.items ≡ homes.old.items ++ length groups.old.slots ∷ [] }
+    ensures homes_len { vec_len homes.new ≡ vec_len homes.old + 1 }
+    ensures homes_room { vec_capacity homes.new ≡ vec_capacity homes.old }
+    ensures index_room { index.new.room ≡ index.old.room }
+    ensures held { IsHeld None index.new (kinds_in types.new.slots) }
+{
     let home = groups.alloc_reserved(RecGroup::new(false, members));
     homes.push_reserved(home);
-    push_type(types, index, ty);
+    push_hashed(types, index, ty, hash);
 }
 
 // Adds these types, all of one group, and enters them into the index. Asks for room. Takes no memory.

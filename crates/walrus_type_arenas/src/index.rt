@@ -4,6 +4,7 @@ ghost use Rattle.std.specs.List.{filter_map, list_any};
 ghost use Rattle.walrus_type_index.specs.walrus_items.walrus_forms.Values.{value_name};
 ghost use Rattle.walrus_type_index.specs.walrus_items.walrus_forms.Kinds.{entry_kind, function_kind};
 ghost use Rattle.walrus_type_index.specs.walrus_items.Items.{kind_of};
+ghost use Rattle.walrus_type_index.specs.Hashes.{hash_of};
 ghost use Rattle.walrus_type_index.specs.Places.{kinds_in, names_itself};
 ghost use Rattle.walrus_type_index.specs.Ordered.{IsHeld};
 ghost use Rattle.walrus_type_arenas.specs.Table.{table_of, equal_type, found_type};
@@ -12,7 +13,7 @@ ghost use Rattle.walrus_type_arenas.specs.Highest.{later_of, if_of_kind};
 use walrus_type_index::arena::{TombstoneArena, TypeId, TypeSpace};
 use walrus_type_index::forms::ValType;
 use walrus_type_index::items::Type;
-use walrus_type_index::{Index, Target};
+use walrus_type_index::{Index, Target, type_hash};
 
 /// The type that stands for this one, which is to have the id `next`. No type is lent.
 pub fn look_up(
@@ -25,10 +26,26 @@ pub fn look_up(
     requires next { next ≡ length types.now.slots }
     ensures { result ≡ equal_type (kind_of ty.now) (table_of types.now.slots []) }
 {
+    look_up_hashed(index, types, ty, type_hash(ty), next)
+}
+
+/// The same, where the hash of the type is known.
+pub fn look_up_hashed(
+    index: &Index,
+    types: &TombstoneArena<Type, TypeSpace>,
+    ty: &Type,
+    hash: u64,
+    next: TypeId,
+) -> Option<TypeId>
+    requires held { IsHeld None index.now (kinds_in types.now.slots) }
+    requires hash { hash ≡ hash_of (kind_of ty.now) }
+    requires next { next ≡ length types.now.slots }
+    ensures { result ≡ equal_type (kind_of ty.now) (table_of types.now.slots []) }
+{
     if ty.names(next) {
         return None;
     }
-    index.latest(types, Target::Like(ty), false)
+    index.latest_hashed(types, Target::Like(ty), hash, false)
 }
 
 // Whether one of these names the type.

@@ -14,14 +14,15 @@ pub use delete::{clear_each, clear_marked, home_of, leave_group, members_name, s
 pub use emit::{group_records, groups_in_order, indices_of, written_of};
 pub use error::IrError;
 pub use group::{
-    NewType, append_counted, append_members, ids_from, one_member, push_single, reserve_singles,
+    NewType, append_counted, append_members, ids_from, one_member, push_single, push_single_hashed,
+    reserve_singles,
 };
-pub use index::{found_function, look_up, look_up_entry};
+pub use index::{found_function, look_up, look_up_entry, look_up_hashed};
 pub use members::{is_single, resolve, resolve_all};
 
 // Passed on to crates above, which then list this one alone.
 pub mod type_index {
-    pub use walrus_type_index::{Index, lend, settle};
+    pub use walrus_type_index::{Index, group_hash, lend, settle, type_hash};
 
     pub mod arena {
         pub use walrus_type_index::arena::{

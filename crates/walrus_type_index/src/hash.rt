@@ -113,7 +113,8 @@ fn function_hash(params: &[ValType], results: &[ValType]) -> u64
     values_hash(values_hash(0, params), results)
 }
 
-fn type_hash(ty: &Type) -> u64
+/// The hash of a type's kind.
+pub fn type_hash(ty: &Type) -> u64
     ensures { result ≡ hash_of (kind_of ty.now) }
 {
     match ty.kind() {
@@ -152,7 +153,7 @@ pub(crate) fn hashed(types: &TombstoneArena<Type, TypeSpace>, id: TypeId) -> Has
 }
 
 // As `plain_number`, of a record. No answer rests on it.
-#[inline(never)]
+#[inline(always)]
 fn record_number(ty: &ValRecord) -> u64 {
     match ty {
         ValRecord::I32 => 1,
@@ -173,7 +174,7 @@ fn records_hash(start: u64, values: &[ValRecord]) -> u64 {
 }
 
 /// The hash by which the first type of a group will be looked up, where it is a function type that names no type. No answer rests on it.
-pub(crate) fn group_hash(group: &GroupRecord) -> u64 {
+pub fn group_hash(group: &GroupRecord) -> u64 {
     let Some(first) = group.types.first() else {
         return 0;
     };

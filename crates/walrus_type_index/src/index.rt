@@ -4,20 +4,20 @@
 ghost use Rattle.std.specs.Prelude.{◌≡◌, ◌≤◌, ◌<◌, ◌+◌, [], ◌==◌, false, not, filter, find, length, OnOk, OnErr};
 ghost use Rattle.std.specs.Option.{option_map};
 ghost use Rattle.std.specs.List.Sorted.{IsStrictlySortedBy};
-ghost use Rattle.walrus_type_index.specs.Places.{kinds_in, hashed_cmp, last_of, entered};
+ghost use Rattle.walrus_type_index.specs.Hashes.{hash_of};
+ghost use Rattle.walrus_type_index.specs.Places.{kinds_in, hashed_at, hashed_cmp, last_of, entered};
 ghost use Rattle.walrus_type_index.specs.Targets.{target_kind};
 ghost use Rattle.walrus_type_index.specs.Ordered.{IsIndex, has, is_marked};
 ghost use Rattle.walrus_type_index.specs.Directory.{place_of, is_later};
 
 use crate::forest::Forest;
-use crate::hash::{group_hash, hashed, target_hash};
+use crate::hash::{hashed, target_hash};
 use crate::node::Hashed;
 use crate::order::Target;
 use std::alloc::{AllocError, Global};
 use std::marker::Model;
 use walrus_items::Type;
 use walrus_items::arena::{TombstoneArena, TypeId, TypeSpace};
-use walrus_items::forms::GroupRecord;
 
 /// Ids of types in order, with room for ids below a number. A search looks at few of them.
 #[derive(Drop)]
@@ -115,28 +115,27 @@ impl Index {
         Ok(())
     }
 
-    /// Looks where a group's first type would stand. A search takes most of its time for its first looks, which wait for memory; what is
-    /// looked for in some groups ahead is waited for at once. What is in stays. Takes no memory.
+    /// Looks where a type of this hash would stand. A search takes most of its time for its first looks, which wait for memory; what is
+    /// looked for in some groups ahead is waited for at once, if nothing else is done in between. What is in stays. Takes no memory.
     #[inline(always)]
-    pub fn look_ahead(&mut self, group: &GroupRecord)
+    pub fn look_ahead(&mut self, hash: u64)
         ensures { self.new ≡ self.old }
     {
-        let hash = group_hash(group);
         let place = place_of(hash, self.shift);
         if self.forest.top_hash(place) == hash {
             self.met = self.met.wrapping_add(1);
         }
     }
 
-    /// Puts the id, which isn't in, where it belongs. Asks for room. Takes no memory.
-    pub fn put(&mut self, types: &TombstoneArena<Type, TypeSpace>, id: TypeId)
+    /// Puts the id, which isn't in, where it belongs. It comes with the hash of its type. Asks for room. Takes no memory.
+    pub fn put(&mut self, types: &TombstoneArena<Type, TypeSpace>, hashed: Hashed)
         requires sorted { IsStrictlySortedBy (hashed_cmp (kinds_in types.now.slots)) self.old.ids }
-        requires room { id < self.old.room }
-        requires out { has id self.old.ids ≡ false }
-        ensures ids { self.new.ids ≡ entered (kinds_in types.now.slots) id self.old.ids }
+        requires room { hashed.id < self.old.room }
+        requires out { has hashed.id self.old.ids ≡ false }
+        requires hash { hashed ≡ hashed_at (kinds_in types.now.slots) hashed.id }
+        ensures ids { self.new.ids ≡ entered (kinds_in types.now.slots) hashed.id self.old.ids }
         ensures room { self.new.room ≡ self.old.room }
     {
-        let hashed = hashed(types, id);
         let place = place_of(hashed.hash, self.shift);
         self.forest.put(place, types, hashed);
     }
@@ -174,7 +173,21 @@ impl Index {
         requires { IsIndex (kinds_in types.now.slots) self.now.ids }
         ensures { result ≡ last_of (kinds_in types.now.slots) (target_kind target.entry) own self.now.ids }
     {
-        let hash = target_hash(target);
+        self.latest_hashed(types, target, target_hash(target), own)
+    }
+
+    /// The same, where the hash of what is looked for is known.
+    pub fn latest_hashed(
+        &self,
+        types: &TombstoneArena<Type, TypeSpace>,
+        target: Target<'_>,
+        hash: u64,
+        own: bool,
+    ) -> Option<TypeId>
+        requires index { IsIndex (kinds_in types.now.slots) self.now.ids }
+        requires hash { hash ≡ hash_of (target_kind target) }
+        ensures { result ≡ last_of (kinds_in types.now.slots) (target_kind target.entry) own self.now.ids }
+    {
         let place = place_of(hash, self.shift);
         self.forest.latest(place, types, hash, target, own)
     }

@@ -1,9 +1,11 @@
 //! The one type that is lent, and its way back.
 ghost use Rattle.std.specs.Prelude.{◌≡◌, true, None, Some};
-ghost use Rattle.walrus_type_index.specs.Places.{kinds_in};
+ghost use Rattle.walrus_type_index.specs.Places.{kinds_in, hashed_at};
 ghost use Rattle.walrus_type_index.specs.Ordered.{IsHeld, lives_at};
 
+use crate::hash::hashed;
 use crate::index::Index;
+use crate::node::Hashed;
 use walrus_items::Type;
 use walrus_items::arena::{TombstoneArena, TypeId, TypeSpace};
 
@@ -13,7 +15,17 @@ pub fn enter(index: &mut Index, types: &TombstoneArena<Type, TypeSpace>, id: Typ
     ensures held { IsHeld None index.new (kinds_in types.now.slots) }
     ensures room { index.new.room ≡ index.old.room }
 {
-    index.put(types, id);
+    enter_hashed(index, types, hashed(types, id));
+}
+
+/// The same, where the hash of the type is known.
+pub fn enter_hashed(index: &mut Index, types: &TombstoneArena<Type, TypeSpace>, hashed: Hashed)
+    requires held { IsHeld (Some hashed.id) index.old (kinds_in types.now.slots) }
+    requires hash { hashed ≡ hashed_at (kinds_in types.now.slots) hashed.id }
+    ensures held { IsHeld None index.new (kinds_in types.now.slots) }
+    ensures room { index.new.room ≡ index.old.room }
+{
+    index.put(types, hashed);
 }
 
 /// Puts the type that was lent back into the index. Takes no memory.

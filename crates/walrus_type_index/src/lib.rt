@@ -12,8 +12,9 @@ mod node;
 mod node_list;
 mod order;
 
+pub use hash::{group_hash, type_hash};
 pub use index::Index;
-pub use lent::{enter, lend, settle};
+pub use lent::{enter, enter_hashed, lend, settle};
 pub use marks::is_marked;
 pub use node::Hashed;
 pub use order::Target;

@@ -1,8 +1,15 @@
 -- Lemmas: values in other words, collected one by one.
-use Rattle.std.proofs.Common.{◌≡◌, ◌∙◌, ℕ, suc, zero, ◌+◌, ◌<◌, List, [], ◌∷◌, ◌++◌, length, map, take, Option, Some, None, slice_index_or, refl, sym, ap, arith, add-one}
+use Rattle.std.proofs.Common.{◌≡◌, ◌∙◌, ℕ, false, suc, zero, ◌+◌, ◌<◌, List, [], ◌∷◌, ◌++◌, length, map, take, Option, Some, None, slice_index_or, refl, sym, ap, arith, add-one}
 use Rattle.std.specs.Option.{option_map}
 use Rattle.std.proofs.Math.Seq.{take-suc}
 use Rattle.std.proofs.lemmas.List.{map_push}
+use Rattle.std.specs.List.{list_any}
+use Rattle.wasm_grammar.specs.TypeWords.{value_of}
+use Rattle.wasm_ref_types.specs.declared.value.ValType.{ValType as ReadValue}
+use Rattle.wasm_ref_types.specs.declared.value.ValType.TheVariants as values
+use Rattle.walrus_forms.specs.declared.value.ValType.{ValType}
+use Rattle.walrus_forms.specs.declared.value.ValType.TheVariants.{I32, I64, F32, F64, V128}
+use Rattle.walrus_section_values.specs.Plain.{is_ref, plain_of}
 use Rattle.wasm_sections.specs.TypeNames.{both, told_all}
 
 module _ {A B : Type 0} (f : A → Option B) where
@@ -44,3 +51,16 @@ module _ {A B : Type 0} (f : A → Option B) where
       ∙ ap (λ (o : Option (List B)). both last o (f (slice_index_or xs i x))) so_far
       ∙ ap (λ (o : Option B). both last (Some (map view items)) o) (ap f (sym is) ∙ sym told)
       ∙ ap (λ (ys : List B). Some ys) (sym (map_push view items r) ∙ ap (map view) (sym push)))
+
+-- numbers and vectors
+abbrev plus : ValType → Option (List ValType) → Option (List ValType)
+plus ty all = both (λ y ys. y ∷ ys) (Some ty) all
+
+pub told_plain : (types : List ReadValue) → list_any is_ref types ≡ false → Some (map plain_of types) ≡ told_all value_of types
+told_plain [] h = refl
+told_plain (values.I32 ∷ types) h = ap (plus I32) (told_plain types h)
+told_plain (values.I64 ∷ types) h = ap (plus I64) (told_plain types h)
+told_plain (values.F32 ∷ types) h = ap (plus F32) (told_plain types h)
+told_plain (values.F64 ∷ types) h = ap (plus F64) (told_plain types h)
+told_plain (values.V128 ∷ types) h = ap (plus V128) (told_plain types h)
+told_plain (values.Ref ty ∷ types) h = absurd cc

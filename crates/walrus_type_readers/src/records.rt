@@ -1,21 +1,53 @@
 //! Subtypes that were read, as records of a type section.
 
 ghost use Rattle.std.specs.Prelude.{◌≡◌, IfOk, map, option_map};
+ghost use Rattle.std.specs.List.{list_any};
 ghost use Rattle.walrus_forms.specs.Records.{field_of as field_told, record_form, record_kind, storage_of as storage_told, value_of as value_told};
 ghost use Rattle.wasm_grammar.specs.TypeWords.{value_of};
+ghost use Rattle.walrus_section_values.specs.Plain.{is_ref, plain_of};
 ghost use Rattle.wasm_sections.specs.TypeNames.{composite_form, field_of, form_of, kind_of, storage_of, super_of, told_all};
 
 use crate::names::index_number;
 use std::alloc::{AllocError, Global};
 use walrus_forms::{CompositeRecord, FieldRecord, StorageRecord, TypeRecord, ValRecord};
-use walrus_section_values::value_record;
+use walrus_section_values::{plain_record, value_record};
 use wasm_composite_types::{CompositeInnerType, CompositeType, FieldType, StorageType};
 use wasm_ref_types::{PackedIndex, ValType};
 use wasm_types::SubType;
 
+fn is_ref(ty: ValType) -> bool
+    ensures { result ≡ is_ref ty }
+{
+    match ty {
+        ValType::Ref(_) => true,
+        _ => false,
+    }
+}
+
+fn has_ref(types: &[ValType]) -> bool
+    ensures { result ≡ list_any is_ref types.now }
+{
+    types.iter().any(|ty| is_ref(*ty))
+}
+
+// The records of numbers and vectors. Without a test for references it is one look-up for each, and no jumps.
+fn plain_records(alloc: Global, types: &[ValType]) -> Result<Vec<ValRecord>, AllocError>
+    ensures { IfOk result (λ records. map value_told records.items ≡ map plain_of types.now) }
+{
+    let mut records = Vec::with_capacity(alloc, types.len())?;
+    for ty in types {
+        records.push_reserved(plain_record(*ty));
+    }
+    Ok(records)
+}
+
 fn value_records(alloc: Global, types: &[ValType]) -> Result<Option<Vec<ValRecord>>, AllocError>
     ensures { IfOk result (λ records. option_map (λ v. map value_told v.items) records ≡ told_all value_of types.now) }
 {
+    if !has_ref(types) {
+        let records = plain_records(alloc, types)?;
+        return Ok(Some(records));
+    }
     let mut records = Vec::with_capacity(alloc, types.len())?;
     for ty in types {
         let Some(record) = value_record(*ty) else {

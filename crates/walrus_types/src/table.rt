@@ -27,11 +27,11 @@ use walrus_type_arenas::type_index::forms::{
     ArrayType, CompositeType, FieldType, FunctionType, GroupRecord, StructType, ValType,
 };
 use walrus_type_arenas::type_index::items::{RecGroup, Type};
-use walrus_type_arenas::type_index::{Index, lend, settle};
+use walrus_type_arenas::type_index::{Index, group_hash, lend, settle, type_hash};
 use walrus_type_arenas::{
     append_counted, append_members, clear_each, clear_marked, found_function, home_of, ids_from,
-    leave_group, look_up, look_up_entry, members_name, one_member, push_single, reserve_singles,
-    sweep,
+    leave_group, look_up_entry, look_up_hashed, members_name, one_member, push_single_hashed,
+    reserve_singles, sweep,
 };
 
 /// The types of a module by id, each in one recursion group.
@@ -65,14 +65,21 @@ impl Model for ModuleTypes {
 // How many groups a look ahead looks for at once.
 const AHEAD: usize = 32;
 
+// The hashes come first, so that the looks, which wait for memory, wait at once.
 fn look_ahead(index: &mut Index, groups: &VecDeque<GroupRecord>)
     ensures { index.new ≡ index.old }
 {
+    let mut hashes = [0; AHEAD];
+    let mut count = 0;
     for at in 0..AHEAD {
         let Some(group) = groups.get(at) else {
             break;
         };
-        index.look_ahead(group);
+        hashes[at] = group_hash(group);
+        count = at + 1;
+    }
+    for next in 0..count {
+        index.look_ahead(hashes[next]);
     }
 }
 
@@ -223,7 +230,8 @@ impl ModuleTypes {
         settle(&mut self.index, &mut self.lent, &self.types);
         let id = self.types.next_id();
         let ty = Type::new(id, kind, is_final, supertype, entry);
-        if let Some(found) = look_up(&self.index, &self.types, &ty, id) {
+        let hash = type_hash(&ty);
+        if let Some(found) = look_up_hashed(&self.index, &self.types, &ty, hash, id) {
             return Ok(found);
         }
         let members = one_member(self.alloc, id)?;
@@ -235,12 +243,13 @@ impl ModuleTypes {
             &mut self.index,
             1,
         )?;
-        push_single(
+        push_single_hashed(
             &mut self.types,
             &mut self.groups,
             &mut self.homes,
             &mut self.index,
             ty,
+            hash,
             members,
         );
         Ok(id)

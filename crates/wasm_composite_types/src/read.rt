@@ -5,7 +5,7 @@ ghost use Rattle.wasm_ref_types.specs.wasm_features.Features.{GcTypes, enables, 
 ghost use Rattle.wasm_ref_types.specs.wasm_reader.declared.error.ErrorKind.TheVariants.{Feature};
 ghost use Rattle.wasm_ref_types.specs.wasm_reader.Cursor.{end_of};
 ghost use Rattle.wasm_ref_types.specs.wasm_reader.Reading.{Reads, plain};
-ghost use Rattle.wasm_ref_types.specs.wasm_reader.Items.{ReadsUnlessMemory, vec_at};
+ghost use Rattle.wasm_ref_types.specs.wasm_reader.Items.{ReadsUnlessMemory, items_at, seen_items, vec_at};
 ghost use Rattle.wasm_composite_types.specs.Readings.{mutable_at, form_after, form_at, composite_after};
 
 use crate::field::{FieldType, StorageType};
@@ -88,6 +88,30 @@ impl<'a> FromReader<'a> for FieldType {
     ghost is_final = { field_final };
 }
 
+// The most items that a list has room for at first.
+const ROOM: usize = 16;
+
+// So many items. Most lists are short, and get their room at once; a greater count reserves no more.
+fn read_items<'a, T: FromReader<'a>>(
+    alloc: Global,
+    reader: &mut BinaryReader<'a>,
+    count: usize,
+) -> Result<Vec<T>>
+    ensures { ReadsUnlessMemory (items_at (T.reading reader.old.window.features) count) (seen_items T.seen) reader.old reader.new result }
+{
+    let Ok(mut items) = Vec::with_capacity(alloc, count.min(ROOM)) else {
+        return Err(reader.out_of_memory());
+    };
+    for _ in 0..count {
+        let item = T::from_reader(alloc, reader)?;
+        if items.push(item).is_err() {
+            return Err(reader.out_of_memory());
+        }
+    }
+    Ok(items)
+}
+
+#[tactic(auto, unfolding(wasm_reader::specs::Items::vec_at))]
 fn read_list<'a, T: FromReader<'a>>(
     alloc: Global,
     reader: &mut BinaryReader<'a>,
@@ -95,7 +119,9 @@ fn read_list<'a, T: FromReader<'a>>(
 ) -> Result<TypeList<T>>
     ensures { ReadsUnlessMemory (vec_at limit (T.reading reader.old.window.features)) (map T.seen) reader.old reader.new result }
 {
-    Ok(TypeList::from_vec(reader.read_vec(alloc, limit)?))
+    let count = reader.read_size(limit)?;
+    let items = read_items(alloc, reader, count)?;
+    Ok(TypeList::from_vec(items))
 }
 
 impl<'a> FromReader<'a> for FuncType {

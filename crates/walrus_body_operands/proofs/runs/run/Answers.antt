@@ -86,20 +86,6 @@ returns-in-Heap g c =
     let op = c.args.op.now in
     answers (holds_list (kind_is op.immediates)) c.on_heap.result (items_test s (length ids) (seen op)) c.args.offset (RunsAs s ids op.code (items_of op.immediates)) (c.on_heap.ensures (length ids) ids)
 
-pub returns-in-Access : goal.returns-in-Access
-returns-in-Access g c =
-    let s = g.S.Scope.sight c.args.scope.now in
-    let ids = g.L.Labels.ids c.args.labels.now in
-    let op = c.args.op.now in
-    answers (holds_list (kind_is op.immediates)) c.on_memory.result (items_test s (length ids) (seen op)) c.args.offset (RunsAs s ids op.code (items_of op.immediates)) (c.on_memory.ensures (length ids) ids)
-
-pub returns-in-AccessLane : goal.returns-in-AccessLane
-returns-in-AccessLane g c =
-    let s = g.S.Scope.sight c.args.scope.now in
-    let ids = g.L.Labels.ids c.args.labels.now in
-    let op = c.args.op.now in
-    answers (holds_list (kind_is op.immediates)) c.on_memory-in-AccessLane.result (items_test s (length ids) (seen op)) c.args.offset (RunsAs s ids op.code (items_of op.immediates)) (c.on_memory-in-AccessLane.ensures (length ids) ids)
-
 pub returns-in-Bare : goal.returns-in-Bare
 returns-in-Bare g c =
     let s = g.S.Scope.sight c.args.scope.now in

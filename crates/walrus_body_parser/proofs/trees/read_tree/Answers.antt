@@ -1,15 +1,12 @@
 use Rattle.std.proofs.Common.{◌≡◌, ◌<◌, List, Some, Ok, Bool, false, length, subst, sym, ap, ◌∙◌}
-use Rattle.std.specs.Bool.{OnTrue}
 use Rattle.std.proofs.lemmas.Result.{err_from_is_err_and}
 use Rattle.wasm_reader.specs.Cursor.{Cursor, rest}
 use Rattle.walrus_body_operands.specs.walrus_body_stack.walrus_builder.Built.{Seq}
 use Rattle.walrus_body_locals.specs.walrus_body_nesting.Opens.{type_at}
 use Rattle.walrus_body_locals.specs.walrus_body_nesting.Stands.{total}
 use Rattle.walrus_body_operands.specs.walrus_body_stack.Frames.{blocks, opens}
-use Rattle.walrus_body_parser.specs.Changes.{ReadsIf}
-use Rattle.walrus_body_parser.specs.Trees.{validating, ReadsTree}
-use Rattle.walrus_body_parser.proofs.Frequent.{goes_same}
-use Rattle.walrus_body_parser.proofs.Looping.{Goes, one, goes_start, goes_on, goes_fails, goes_done, goes_barred, goes_left, none_left, some_left, offset_in, offset_end}
+use Rattle.walrus_body_parser.specs.Trees.{Goes, validating, ReadsTree}
+use Rattle.walrus_body_parser.proofs.Looping.{one, goes_start, goes_on, goes_fails, goes_done, goes_barred, goes_left, none_left, some_left, offset_in, offset_end}
 use Rattle.walrus_body_parser.proofs.trees.read_tree.Goals as goal
 
 pub loop-done-init : goal.loop-done-init
@@ -24,35 +21,19 @@ loop-done-init g c =
       ap (λ (l : List Seq). type_at l 0) b,
     )
 
-pub returns-in_err-read-clause-refused : goal.returns-in_err-read-clause-refused
-returns-in_err-read-clause-refused g c =
+pub returns-in_err-read_frequent-clause-refused : goal.returns-in_err-read_frequent-clause-refused
+returns-in_err-read_frequent-clause-refused g c =
     let p = err_from_is_err_and c.from_residual.result c.from_residual.ensures.1 in
     let F : Bool → Type 0 = λ d. Goes (g.S.Scope.sight c.args.scope.now) (validating g.V.Validator.op_step g.V.Validator.finish_step) c.args.code_start c.args.body c.args.validator.now d (blocks c.loop-done.stack) (opens c.loop-done.stack) c.loop-done.reader c.loop-done.validator in
     let here = subst F c.loop-done-test.true c.loop-done.invariant.0 in
-    rw (p.1, p.2) (goes_fails (g.S.Scope.sight c.args.scope.now) (validating g.V.Validator.op_step g.V.Validator.finish_step) c.args.code_start c.args.body c.args.validator.now c.loop-done.stack c.loop-done.reader c.loop-done.validator here
-    c.read_frequent.new.reader c.read_frequent.new.stack c.read_frequent.new.validator c.in_err-read.field-0.0 c.in_err-read.ensures.read)
-
-pub loop-done-preserved-then-read : goal.loop-done-preserved-then-read
-loop-done-preserved-then-read g c =
-    let F : Bool → Type 0 = λ d. Goes (g.S.Scope.sight c.args.scope.now) (validating g.V.Validator.op_step g.V.Validator.finish_step) c.args.code_start c.args.body c.args.validator.now d (blocks c.loop-done.stack) (opens c.loop-done.stack) c.loop-done.reader c.loop-done.validator in
-    let here = subst F c.loop-done-test.true c.loop-done.invariant.0 in
-    let R : Bool → Type 0 = λ b. ReadsIf (g.S.Scope.sight c.args.scope.now) g.V.Validator.op_step c.args.code_start c.loop-done.reader c.loop-done.stack c.loop-done.validator c.read_frequent.new.reader c.read_frequent.new.stack c.read_frequent.new.validator (Ok b) in
-    let T : Bool → Type 0 = λ b. OnTrue b (length (rest c.read_frequent.new.reader) < length (rest c.loop-done.reader)) in
-    let G : Bool → Type 0 = λ d. Goes (g.S.Scope.sight c.args.scope.now) (validating g.V.Validator.op_step g.V.Validator.finish_step) c.args.code_start c.args.body c.args.validator.now d (blocks c.read_frequent.new.stack) (opens c.read_frequent.new.stack) c.read_frequent.new.reader c.read_frequent.new.validator in (
-      subst G (sym c.loop-done-test.true)
-          (goes_on (g.S.Scope.sight c.args.scope.now) (validating g.V.Validator.op_step g.V.Validator.finish_step) c.args.code_start c.args.body c.args.validator.now c.loop-done.stack c.loop-done.reader c.loop-done.validator here
-          c.read_frequent.new.reader c.read_frequent.new.stack c.read_frequent.new.validator false (subst R c.if-read.true c.in_ok-read.ensures.read) (subst T c.if-read.true c.in_ok-read.ensures.takes) c.read_frequent.ensures.moves),
-      c.in_ok-read.ensures.ty ∙ c.loop-done.invariant.1,
-      c.in_ok-read.ensures.entry ∙ c.loop-done.invariant.2,
-    )
+    rw (p.1, p.2) (c.in_err-read_frequent.ensures.follows c.args.body c.args.validator.now here)
 
 pub returns-in_err-done-clause-refused : goal.returns-in_err-done-clause-refused
 returns-in_err-done-clause-refused g c =
     let p = err_from_is_err_and c.from_residual-in_err-done.result c.from_residual-in_err-done.ensures.1 in
     let F : Bool → Type 0 = λ d. Goes (g.S.Scope.sight c.args.scope.now) (validating g.V.Validator.op_step g.V.Validator.finish_step) c.args.code_start c.args.body c.args.validator.now d (blocks c.loop-done.stack) (opens c.loop-done.stack) c.loop-done.reader c.loop-done.validator in
     let here = subst F c.loop-done-test.true c.loop-done.invariant.0 in
-    let R : Bool → Type 0 = λ b. ReadsIf (g.S.Scope.sight c.args.scope.now) g.V.Validator.op_step c.args.code_start c.loop-done.reader c.loop-done.stack c.loop-done.validator c.read_frequent.new.reader c.read_frequent.new.stack c.read_frequent.new.validator (Ok b) in
-    let on = goes_same (g.S.Scope.sight c.args.scope.now) (validating g.V.Validator.op_step g.V.Validator.finish_step) c.args.code_start c.args.body c.args.validator.now c.loop-done.stack c.read_frequent.new.stack c.loop-done.reader c.read_frequent.new.reader c.loop-done.validator c.read_frequent.new.validator (subst R c.if-read.false c.in_ok-read.ensures.read) here in
+    let on = c.in_ok-read_frequent.ensures.follows c.args.body c.args.validator.now here in
     rw (p.1, p.2) (goes_fails (g.S.Scope.sight c.args.scope.now) (validating g.V.Validator.op_step g.V.Validator.finish_step) c.args.code_start c.args.body c.args.validator.now c.read_frequent.new.stack c.read_frequent.new.reader c.read_frequent.new.validator on
     c.read_operator.new.reader c.read_operator.new.stack c.read_operator.new.validator c.in_err-done.field-0.0 c.in_err-done.ensures.read)
 
@@ -60,12 +41,11 @@ pub loop-done-preserved : goal.loop-done-preserved
 loop-done-preserved g c =
     let F : Bool → Type 0 = λ d. Goes (g.S.Scope.sight c.args.scope.now) (validating g.V.Validator.op_step g.V.Validator.finish_step) c.args.code_start c.args.body c.args.validator.now d (blocks c.loop-done.stack) (opens c.loop-done.stack) c.loop-done.reader c.loop-done.validator in
     let here = subst F c.loop-done-test.true c.loop-done.invariant.0 in
-    let R : Bool → Type 0 = λ b. ReadsIf (g.S.Scope.sight c.args.scope.now) g.V.Validator.op_step c.args.code_start c.loop-done.reader c.loop-done.stack c.loop-done.validator c.read_frequent.new.reader c.read_frequent.new.stack c.read_frequent.new.validator (Ok b) in
-    let on = goes_same (g.S.Scope.sight c.args.scope.now) (validating g.V.Validator.op_step g.V.Validator.finish_step) c.args.code_start c.args.body c.args.validator.now c.loop-done.stack c.read_frequent.new.stack c.loop-done.reader c.read_frequent.new.reader c.loop-done.validator c.read_frequent.new.validator (subst R c.if-read.false c.in_ok-read.ensures.read) here in (
+    let on = c.in_ok-read_frequent.ensures.follows c.args.body c.args.validator.now here in (
       goes_on (g.S.Scope.sight c.args.scope.now) (validating g.V.Validator.op_step g.V.Validator.finish_step) c.args.code_start c.args.body c.args.validator.now c.read_frequent.new.stack c.read_frequent.new.reader c.read_frequent.new.validator on
           c.read_operator.new.reader c.read_operator.new.stack c.read_operator.new.validator c.in_ok-done.done c.in_ok-done.ensures.read c.in_ok-done.ensures.takes c.read_operator.ensures.moves,
-      c.in_ok-done.ensures.ty ∙ c.in_ok-read.ensures.ty ∙ c.loop-done.invariant.1,
-      c.in_ok-done.ensures.entry ∙ c.in_ok-read.ensures.entry ∙ c.loop-done.invariant.2,
+      c.in_ok-done.ensures.ty ∙ c.in_ok-read_frequent.ensures.ty ∙ c.loop-done.invariant.1,
+      c.in_ok-done.ensures.entry ∙ c.in_ok-read_frequent.ensures.entry ∙ c.loop-done.invariant.2,
     )
 
 pub returns-then-not-eof-clause-refused : goal.returns-then-not-eof-clause-refused

@@ -4,8 +4,7 @@ use Rattle.walrus_body_operands.specs.walrus_body_stack.walrus_builder.Built.{co
 use Rattle.walrus_body_locals.specs.walrus_body_nesting.Opens.{type_at}
 use Rattle.walrus_body_operands.specs.walrus_body_stack.Frames.{blocks, heading, heading_of, opens}
 use Rattle.walrus_body_parser.specs.Changes.{entry_of}
-use Rattle.walrus_body_parser.specs.Trees.{validating}
-use Rattle.walrus_body_parser.proofs.Looping.{Goes}
+use Rattle.walrus_body_parser.specs.Trees.{Goes, validating}
 use Rattle.walrus_body_parser.proofs.trees.read_tree.Given as goal
 
 abbrev pub invariant-loop-done : goal.invariant-loop-done

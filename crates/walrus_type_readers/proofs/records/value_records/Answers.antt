@@ -1,7 +1,8 @@
-use Rattle.std.proofs.Common.{◌∙◌, sym, ap}
+use Rattle.std.proofs.Common.{◌∙◌, List, Some, sym, ap}
 use Rattle.walrus_forms.specs.Records.{value_of as value_told}
 use Rattle.wasm_grammar.specs.TypeWords.{value_of}
-use Rattle.walrus_type_readers.proofs.ToldLemmas.{told_more, told_not}
+use Rattle.walrus_forms.specs.declared.value.ValType.{ValType}
+use Rattle.walrus_type_readers.proofs.ToldLemmas.{told_more, told_not, told_plain}
 use Rattle.walrus_type_readers.proofs.records.value_records.Goals as goal
 
 pub returns-in_default : goal.returns-in_default
@@ -9,3 +10,6 @@ returns-in_default c = sym (told_not value_of _ _ c.ty-item.result c.loop-ty-tes
 
 pub loop-ty-preserved : goal.loop-ty-preserved
 loop-ty-preserved c = told_more value_of value_told _ _ c.ty-item.result c.in-Some.record _ _ c.loop-ty-test.true c.ty-item.is c.in-Some.ensures c.loop-ty.invariant c.in_ok-push.ensures.items
+
+pub returns-then-not-has_ref : goal.returns-then-not-has_ref
+returns-then-not-has_ref c = ap (λ (types : List ValType). Some types) c.in_ok-records.ensures ∙ told_plain c.args.types.now cc

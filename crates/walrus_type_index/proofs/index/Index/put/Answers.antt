@@ -18,21 +18,21 @@ pub put-requires-clause-out : goal.put-requires-clause-out
 put-requires-clause-out c =
     let i = c.self.inside in
     let all = joined i.forest.trees i.forest.last in
-    ap (λ (x : Hashed). count x.id all) c.hashed-hashed.ensures ∙ has-out c.args.id all (ap (λ (v : Indexed). has c.args.id v.ids) c.self.view_is ∙ c.requires.out)
+    ap (λ (x : Hashed). count x.id all) c.requires.hash ∙ has-out c.args.hashed.id all (ap (λ (v : Indexed). has c.args.hashed.id v.ids) c.self.view_is ∙ c.requires.out)
 
 pub invariant_of-self : goal.invariant_of-self
 invariant_of-self c =
     let i = c.self.inside in
     let ks = kinds_in c.args.types.now.slots in (
       c.self.invariant.0,
-      (put-done ks i.shift c.args.id c.hashed-hashed.result i.forest.trees c.place_of-place.result i.forest.last _ c.put.new.self.trees c.put.new.self.last
-          c.hashed-hashed.ensures c.place_of-place.ensures c.self.invariant.1 (record { trees_are = c.put.ensures.trees; last_is = c.put.ensures.last }) refl).0,
+      (put-done ks i.shift c.args.hashed.id c.args.hashed i.forest.trees c.place_of-place.result i.forest.last _ c.put.new.self.trees c.put.new.self.last
+          c.requires.hash c.place_of-place.ensures c.self.invariant.1 (record { trees_are = c.put.ensures.trees; last_is = c.put.ensures.last }) refl).0,
     )
 
 pub returns-clause-ids : goal.returns-clause-ids
 returns-clause-ids c =
     let i = c.self.inside in
     let ks = kinds_in c.args.types.now.slots in
-    (put-done ks i.shift c.args.id c.hashed-hashed.result i.forest.trees c.place_of-place.result i.forest.last _ c.put.new.self.trees c.put.new.self.last
-    c.hashed-hashed.ensures c.place_of-place.ensures c.self.invariant.1 (record { trees_are = c.put.ensures.trees; last_is = c.put.ensures.last }) refl).1
-    ∙ ap (λ (v : Indexed). entered ks c.args.id v.ids) c.self.view_is
+    (put-done ks i.shift c.args.hashed.id c.args.hashed i.forest.trees c.place_of-place.result i.forest.last _ c.put.new.self.trees c.put.new.self.last
+    c.requires.hash c.place_of-place.ensures c.self.invariant.1 (record { trees_are = c.put.ensures.trees; last_is = c.put.ensures.last }) refl).1
+    ∙ ap (λ (v : Indexed). entered ks c.args.hashed.id v.ids) c.self.view_is

@@ -1,0 +1,12 @@
+use Rattle.std.proofs.Common.{length}
+use Rattle.wasm_reader.specs.Cursor.{rest}
+use Rattle.walrus_body_parser.specs.Trees.{validating}
+use Rattle.walrus_body_parser.proofs.Running.{Running}
+use Rattle.walrus_body_parser.proofs.operators.read_frequent.Given as goal
+
+abbrev pub invariant-loop-entry : goal.invariant-loop-entry
+invariant-loop-entry g l =
+    Running (g.S.Scope.sight l.fn.scope) (validating g.V.Validator.op_step g.V.Validator.finish_step) l.fn.code_start l.fn.reader l.fn.stack l.fn.validator l.reader l.stack l.validator
+
+abbrev pub decreases-loop-entry : goal.decreases-loop-entry
+decreases-loop-entry g l = length (rest l.reader)
