@@ -2,8 +2,6 @@
 use Rattle.std.proofs.Common.{◌≡◌, ◌∙◌, ◌==◌, ◌&&◌, ◌<◌, ◌≤◌, ℕ, zero, suc, List, [], ◌∷◌, ◌++◌, length, take, get_or, set, replicate, Option, Some, None, if◌then◌else◌, refl, ap, sym, arith, inl, inr}
 use Rattle.std.proofs.lemmas.Bool.{cases_Bool, cases_lt, eqb-true, eqb-false, ne_eqb, eq-eqb}
 use Rattle.std.proofs.lemmas.List.{get_or-set_same, get_or-set_other, take_all}
-use Rattle.std.specs.declared.alloc.Global.{Global}
-use Rattle.std.specs.declared.vec.Vec.{Vec}
 use Rattle.std.specs.declared.cmp.Ordering.{Ordering}
 use Rattle.std.specs.declared.cmp.Ordering.TheVariants.{Less, Equal, Greater}
 use Rattle.std.specs.Ordering.{is_eq, nat_cmp, ordering_then}
@@ -49,39 +47,39 @@ set_is xs given at number l = same_numbering _ _ given (λ i. written xs at numb
 -- ---- lists of functions
 
 -- one more empty list says nothing
-one_more : (vs : List (Vec ℕ Global)) (v : Vec ℕ Global) → v.items ≡ [] → (f : ℕ) → items_at (vs ++ v ∷ []) f ≡ items_at vs f
+one_more : (vs : List (List ℕ)) (v : List ℕ) → v ≡ [] → (f : ℕ) → items_at (vs ++ v ∷ []) f ≡ items_at vs f
 one_more [] v e zero = e
 one_more [] v e (suc f) = refl
 one_more (x ∷ vs) v e zero = refl
 one_more (x ∷ vs) v e (suc f) = one_more vs v e f
 
-pub one_more_list : (vs : List (Vec ℕ Global)) (v : Vec ℕ Global) → v.items ≡ [] → items_at (vs ++ v ∷ []) ≡ items_at vs
+pub one_more_list : (vs : List (List ℕ)) (v : List ℕ) → v ≡ [] → items_at (vs ++ v ∷ []) ≡ items_at vs
 one_more_list vs v e = agree _ _ (one_more vs v e)
 
-pub list_at : (vs : List (Vec ℕ Global)) (f : ℕ) (v : Vec ℕ Global) → f < length vs → get_or vs f v ≡ v → items_at vs f ≡ v.items
+pub list_at : (vs : List (List ℕ)) (f : ℕ) (v : List ℕ) → f < length vs → get_or vs f v ≡ v → items_at vs f ≡ v
 list_at [] f v l e = absurd (omega (arith, l))
-list_at (x ∷ vs) zero v l e = ap (λ (w : Vec ℕ Global). w.items) e
+list_at (x ∷ vs) zero v l e = e
 list_at (x ∷ vs) (suc f) v l e = list_at vs f v (omega (arith, l)) e
 
-pub no_list : (vs : List (Vec ℕ Global)) (f : ℕ) → length vs ≤ f → items_at vs f ≡ []
+pub no_list : (vs : List (List ℕ)) (f : ℕ) → length vs ≤ f → items_at vs f ≡ []
 no_list [] f l = refl
 no_list (x ∷ vs) zero l = absurd (omega (arith, l))
 no_list (x ∷ vs) (suc f) l = no_list vs f (omega (arith, l))
 
 -- one list was written
-here : (vs : List (Vec ℕ Global)) (at : ℕ) (v : Vec ℕ Global) → at < length vs → items_at (set vs at v) at ≡ v.items
+here : (vs : List (List ℕ)) (at : ℕ) (v : List ℕ) → at < length vs → items_at (set vs at v) at ≡ v
 here [] at v l = absurd (omega (arith, l))
 here (x ∷ vs) zero v l = refl
 here (x ∷ vs) (suc at) v l = here vs at v (omega (arith, l))
 
-elsewhere : (vs : List (Vec ℕ Global)) (at : ℕ) (v : Vec ℕ Global) (f : ℕ) → (f ≡ at → ⊥) → items_at (set vs at v) f ≡ items_at vs f
+elsewhere : (vs : List (List ℕ)) (at : ℕ) (v : List ℕ) (f : ℕ) → (f ≡ at → ⊥) → items_at (set vs at v) f ≡ items_at vs f
 elsewhere [] at v f n = refl
 elsewhere (x ∷ vs) zero v zero n = absurd (n refl)
 elsewhere (x ∷ vs) zero v (suc f) n = refl
 elsewhere (x ∷ vs) (suc at) v zero n = refl
 elsewhere (x ∷ vs) (suc at) v (suc f) n = elsewhere vs at v f (λ e. n (ap suc e))
 
-pub written_list : (vs : List (Vec ℕ Global)) (at id : ℕ) (v : Vec ℕ Global) → at < length vs → v.items ≡ items_at vs at ++ id ∷ []
+pub written_list : (vs : List (List ℕ)) (at id : ℕ) (v : List ℕ) → at < length vs → v ≡ items_at vs at ++ id ∷ []
     → items_at (set vs at v) ≡ with_last at id (items_at vs)
 written_list vs at id v l e = agree _ _ (λ f. each f)
   where
@@ -91,7 +89,7 @@ written_list vs at id v l e = agree _ _ (λ f. each f)
       | inr other ↦ rw other (elsewhere vs at v f (eqb-false f at other))
     ]
 
-pub same_list : (vs : List (Vec ℕ Global)) (at : ℕ) (v : Vec ℕ Global) → at < length vs → v.items ≡ items_at vs at → items_at (set vs at v) ≡ items_at vs
+pub same_list : (vs : List (List ℕ)) (at : ℕ) (v : List ℕ) → at < length vs → v ≡ items_at vs at → items_at (set vs at v) ≡ items_at vs
 same_list vs at v l e = agree _ _ (λ f. each f)
   where
     each : (f : ℕ) → items_at (set vs at v) f ≡ items_at vs f

@@ -1,8 +1,6 @@
 -- What contracts see of the maps.
 use Rattle.std.specs.Prelude.{ℕ, zero, suc, ◌==◌, List, [], ◌∷◌, Option, Some, None, if◌then◌else◌, slice_index_or}
 use Rattle.std.specs.BTreeMap.{get}
-use Rattle.std.specs.declared.alloc.Global.{Global}
-use Rattle.std.specs.declared.vec.Vec.{Vec}
 use Rattle.std.specs.declared.cmp.Ordering.{Ordering}
 use Rattle.std.specs.Ordering.{on, nat_cmp, then_cmp}
 use Rattle.walrus_index_maps.specs.declared.numbers.Numbers.{Numbers}
@@ -13,13 +11,13 @@ use Rattle.walrus_index_maps.specs.declared.ids_to_indices.IdsToIndices.{IdsToIn
 use Rattle.walrus_index_maps.specs.Maps.{Ids, Numbering, Indices}
 
 -- the list of a function, empty where there is none
-abbrev pub items_at : List (Vec ℕ Global) → ℕ → List ℕ
+abbrev pub items_at : List (List ℕ) → ℕ → List ℕ
 items_at [] f = []
-items_at (v ∷ vs) zero = v.items
-items_at (v ∷ vs) (suc f) = items_at vs f
+items_at (ids ∷ lists) zero = ids
+items_at (ids ∷ lists) (suc f) = items_at lists f
 
 abbrev pub ids : IndicesToIds → Ids
-ids m = record { types = m.types.items; functions = m.funcs.items; tables = m.tables.items; memories = m.memories.items; tags = m.tags.items; globals = m.globals.items; elements = m.elements.items; segments = m.segments.items; locals = items_at m.locals.items }
+ids m = record { types = m.types.items; functions = m.funcs; tables = m.tables; memories = m.memories; tags = m.tags; globals = m.globals; elements = m.elements; segments = m.segments; locals = items_at m.locals.items }
 
 abbrev pub numbering : {S : Type 0} → Numbers S → Numbering
 numbering m = record { number = λ id. slice_index_or m.numbers.items id None; given = m.given }

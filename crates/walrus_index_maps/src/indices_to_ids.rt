@@ -5,11 +5,13 @@ ghost use Rattle.walrus_index_maps.specs.Maps.{no_ids, with_last};
 ghost use Rattle.walrus_index_maps.specs.Views.{ids};
 ghost use Rattle.walrus_index_maps.specs.declared.space.Space.TheVariants as spaces;
 
+use crate::id_list::IdList;
 use crate::space::Space;
 use std::alloc::{AllocError, Global};
 use thiserror::Error;
 use walrus_arena::{
-    DataId, ElementId, FunctionId, GlobalId, Id, LocalId, MemoryId, TableId, TagId, TypeId,
+    DataId, DataSpace, ElementId, ElementSpace, FunctionId, FunctionSpace, GlobalId, GlobalSpace,
+    Id, LocalId, LocalSpace, MemoryId, MemorySpace, TableId, TableSpace, TagId, TagSpace, TypeId,
 };
 
 /// An index that names nothing.
@@ -22,15 +24,15 @@ pub struct UnknownIndex(pub Space);
 pub struct IndicesToIds {
     alloc: Global,
     types: Vec<TypeId>,
-    funcs: Vec<FunctionId>,
-    tables: Vec<TableId>,
-    memories: Vec<MemoryId>,
-    tags: Vec<TagId>,
-    globals: Vec<GlobalId>,
-    elements: Vec<ElementId>,
-    segments: Vec<DataId>,
+    funcs: IdList<FunctionSpace>,
+    tables: IdList<TableSpace>,
+    memories: IdList<MemorySpace>,
+    tags: IdList<TagSpace>,
+    globals: IdList<GlobalSpace>,
+    elements: IdList<ElementSpace>,
+    segments: IdList<DataSpace>,
     // By the function's number.
-    locals: Vec<Vec<LocalId>>,
+    locals: Vec<IdList<LocalSpace>>,
 }
 
 // Appends an id, and gives its index. A list of 2^32 ids can't hold another.
@@ -43,19 +45,6 @@ fn push_id<S>(list: &mut Vec<Id<S>>, id: Id<S>) -> Result<u32, AllocError>
     }
     list.push(id)?;
     Ok(index as u32)
-}
-
-// Room that a function's locals begin with. It takes no more memory than room for one.
-const FIRST: usize = 6;
-
-// The same for a function's locals.
-fn push_local_id<S>(list: &mut Vec<Id<S>>, id: Id<S>) -> Result<u32, AllocError>
-    ensures { MatchResult result (λ index. (index ≡ length list.old.items) × (list.new.items ≡ list.old.items ++ id ∷ [])) (λ _. list.new.items ≡ list.old.items) }
-{
-    if list.capacity() == 0 {
-        list.reserve(FIRST)?;
-    }
-    push_id(list, id)
 }
 
 // The id at an index of the space.
@@ -73,13 +62,13 @@ impl IndicesToIds {
         IndicesToIds {
             alloc,
             types: Vec::new(alloc),
-            funcs: Vec::new(alloc),
-            tables: Vec::new(alloc),
-            memories: Vec::new(alloc),
-            tags: Vec::new(alloc),
-            globals: Vec::new(alloc),
-            elements: Vec::new(alloc),
-            segments: Vec::new(alloc),
+            funcs: IdList::new(alloc),
+            tables: IdList::new(alloc),
+            memories: IdList::new(alloc),
+            tags: IdList::new(alloc),
+            globals: IdList::new(alloc),
+            elements: IdList::new(alloc),
+            segments: IdList::new(alloc),
             locals: Vec::new(alloc),
         }
     }
@@ -114,7 +103,7 @@ impl IndicesToIds {
     pub fn push_func(&mut self, id: FunctionId) -> Result<u32, AllocError>
         ensures { MatchResult result (λ index. (index ≡ length (ids self.old).functions) × (ids self.new ≡ record (ids self.old) { functions = (ids self.old).functions ++ id ∷ [] })) (λ _. ids self.new ≡ ids self.old) }
     {
-        push_id(&mut self.funcs, id)
+        self.funcs.push(id)
     }
 
     /// The function that an index names.
@@ -125,7 +114,7 @@ impl IndicesToIds {
     pub fn get_func(&self, index: u32) -> Result<FunctionId, UnknownIndex>
         ensures { result ≡ ok_or (slice_get (ids self.now).functions index) (record { 0 = spaces.Function }) }
     {
-        id_at(self.funcs.as_slice(), index, Space::Function)
+        self.funcs.get(index).ok_or(UnknownIndex(Space::Function))
     }
 
     /// The next index of a table names this one. Gives the index.
@@ -136,7 +125,7 @@ impl IndicesToIds {
     pub fn push_table(&mut self, id: TableId) -> Result<u32, AllocError>
         ensures { MatchResult result (λ index. (index ≡ length (ids self.old).tables) × (ids self.new ≡ record (ids self.old) { tables = (ids self.old).tables ++ id ∷ [] })) (λ _. ids self.new ≡ ids self.old) }
     {
-        push_id(&mut self.tables, id)
+        self.tables.push(id)
     }
 
     /// The table that an index names.
@@ -147,7 +136,7 @@ impl IndicesToIds {
     pub fn get_table(&self, index: u32) -> Result<TableId, UnknownIndex>
         ensures { result ≡ ok_or (slice_get (ids self.now).tables index) (record { 0 = spaces.Table }) }
     {
-        id_at(self.tables.as_slice(), index, Space::Table)
+        self.tables.get(index).ok_or(UnknownIndex(Space::Table))
     }
 
     /// The next index of a memory names this one. Gives the index.
@@ -158,7 +147,7 @@ impl IndicesToIds {
     pub fn push_memory(&mut self, id: MemoryId) -> Result<u32, AllocError>
         ensures { MatchResult result (λ index. (index ≡ length (ids self.old).memories) × (ids self.new ≡ record (ids self.old) { memories = (ids self.old).memories ++ id ∷ [] })) (λ _. ids self.new ≡ ids self.old) }
     {
-        push_id(&mut self.memories, id)
+        self.memories.push(id)
     }
 
     /// The memory that an index names.
@@ -169,7 +158,7 @@ impl IndicesToIds {
     pub fn get_memory(&self, index: u32) -> Result<MemoryId, UnknownIndex>
         ensures { result ≡ ok_or (slice_get (ids self.now).memories index) (record { 0 = spaces.Memory }) }
     {
-        id_at(self.memories.as_slice(), index, Space::Memory)
+        self.memories.get(index).ok_or(UnknownIndex(Space::Memory))
     }
 
     /// The next index of a tag names this one. Gives the index.
@@ -180,7 +169,7 @@ impl IndicesToIds {
     pub fn push_tag(&mut self, id: TagId) -> Result<u32, AllocError>
         ensures { MatchResult result (λ index. (index ≡ length (ids self.old).tags) × (ids self.new ≡ record (ids self.old) { tags = (ids self.old).tags ++ id ∷ [] })) (λ _. ids self.new ≡ ids self.old) }
     {
-        push_id(&mut self.tags, id)
+        self.tags.push(id)
     }
 
     /// The tag that an index names.
@@ -191,7 +180,7 @@ impl IndicesToIds {
     pub fn get_tag(&self, index: u32) -> Result<TagId, UnknownIndex>
         ensures { result ≡ ok_or (slice_get (ids self.now).tags index) (record { 0 = spaces.Tag }) }
     {
-        id_at(self.tags.as_slice(), index, Space::Tag)
+        self.tags.get(index).ok_or(UnknownIndex(Space::Tag))
     }
 
     /// The next index of a global names this one. Gives the index.
@@ -202,7 +191,7 @@ impl IndicesToIds {
     pub fn push_global(&mut self, id: GlobalId) -> Result<u32, AllocError>
         ensures { MatchResult result (λ index. (index ≡ length (ids self.old).globals) × (ids self.new ≡ record (ids self.old) { globals = (ids self.old).globals ++ id ∷ [] })) (λ _. ids self.new ≡ ids self.old) }
     {
-        push_id(&mut self.globals, id)
+        self.globals.push(id)
     }
 
     /// The global that an index names.
@@ -213,7 +202,7 @@ impl IndicesToIds {
     pub fn get_global(&self, index: u32) -> Result<GlobalId, UnknownIndex>
         ensures { result ≡ ok_or (slice_get (ids self.now).globals index) (record { 0 = spaces.Global }) }
     {
-        id_at(self.globals.as_slice(), index, Space::Global)
+        self.globals.get(index).ok_or(UnknownIndex(Space::Global))
     }
 
     /// The next index of a element segment names this one. Gives the index.
@@ -224,7 +213,7 @@ impl IndicesToIds {
     pub fn push_element(&mut self, id: ElementId) -> Result<u32, AllocError>
         ensures { MatchResult result (λ index. (index ≡ length (ids self.old).elements) × (ids self.new ≡ record (ids self.old) { elements = (ids self.old).elements ++ id ∷ [] })) (λ _. ids self.new ≡ ids self.old) }
     {
-        push_id(&mut self.elements, id)
+        self.elements.push(id)
     }
 
     /// The element segment that an index names.
@@ -235,7 +224,7 @@ impl IndicesToIds {
     pub fn get_element(&self, index: u32) -> Result<ElementId, UnknownIndex>
         ensures { result ≡ ok_or (slice_get (ids self.now).elements index) (record { 0 = spaces.Element }) }
     {
-        id_at(self.elements.as_slice(), index, Space::Element)
+        self.elements.get(index).ok_or(UnknownIndex(Space::Element))
     }
 
     /// The next index of a data segment names this one. Gives the index.
@@ -246,7 +235,7 @@ impl IndicesToIds {
     pub fn push_data(&mut self, id: DataId) -> Result<u32, AllocError>
         ensures { MatchResult result (λ index. (index ≡ length (ids self.old).segments) × (ids self.new ≡ record (ids self.old) { segments = (ids self.old).segments ++ id ∷ [] })) (λ _. ids self.new ≡ ids self.old) }
     {
-        push_id(&mut self.segments, id)
+        self.segments.push(id)
     }
 
     /// The data segment that an index names.
@@ -257,7 +246,7 @@ impl IndicesToIds {
     pub fn get_data(&self, index: u32) -> Result<DataId, UnknownIndex>
         ensures { result ≡ ok_or (slice_get (ids self.now).segments index) (record { 0 = spaces.Data }) }
     {
-        id_at(self.segments.as_slice(), index, Space::Data)
+        self.segments.get(index).ok_or(UnknownIndex(Space::Data))
     }
 
     /// The index names this type from now on, if it named one.
@@ -281,7 +270,7 @@ impl IndicesToIds {
     {
         let at = function.number() as usize;
         self.reach_function(at)?;
-        let index = push_local_id(&mut self.locals[at], id)?;
+        let index = self.locals[at].push(id)?;
         Ok(index)
     }
 
@@ -292,7 +281,7 @@ impl IndicesToIds {
         ensures same { ids self.new ≡ ids self.old }
     {
         while self.locals.len() <= at {
-            self.locals.push(Vec::new(self.alloc))?;
+            self.locals.push(IdList::new(self.alloc))?;
         }
         Ok(())
     }
@@ -306,7 +295,7 @@ impl IndicesToIds {
         ensures { result ≡ ok_or (slice_get ((ids self.now).locals function) index) (record { 0 = spaces.Local }) }
     {
         match self.locals.get(function.index()) {
-            Some(locals) => id_at(locals.as_slice(), index, Space::Local),
+            Some(locals) => locals.get(index).ok_or(UnknownIndex(Space::Local)),
             None => Err(UnknownIndex(Space::Local)),
         }
     }

@@ -2,6 +2,7 @@
 //! id is written as.
 #![tactic(auto)]
 
+mod id_list;
 mod ids_to_indices;
 mod indices_to_ids;
 mod locals;
