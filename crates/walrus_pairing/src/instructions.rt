@@ -266,7 +266,7 @@ pub(crate) fn arg_of(access: MemoryAccess) -> Result<MemArg, PairError>
         return Err(PairError::Alignment);
     }
     Ok(MemArg {
-        align: 2u32.pow(access.align),
+        align: 1 << access.align,
         offset: access.offset,
     })
 }
