@@ -16,7 +16,7 @@ use Rattle.walrus_body_stack.specs.declared.frame.Sort.TheVariants as sorts
 use Rattle.walrus_body_stack.specs.declared.frame.Frame.{Frame}
 use Rattle.walrus_body_stack.specs.declared.stack.Stack.{Stack}
 use Rattle.walrus_body_stack.specs.Held.{Held, Nested, joined}
-use Rattle.walrus_body_stack.specs.Frames.{opener_of, kind_of, turns_of, top, below, handlers_around, clauses_around, open_of, opens_of, inner, opens, blocks, filled, IsMade, IsClosed, IsCompleted, IsTrying}
+use Rattle.walrus_body_stack.specs.Frames.{opener_of, kind_of, turns_of, top, below, handlers_around, clauses_around, open_of, opens_of, inner, opens, blocks, filled, IsMade, IsStraight, IsClosed, IsCompleted, IsTrying}
 
 abbrev pub Clauses : Type 0
 Clauses = Vec TryTableCatch
@@ -164,3 +164,9 @@ made_so f g hs ks cs ds b c d e i h1 h2 h3 h4 h5 made =
     let F4 : List Seq → Type 0 = λ x. IsMade g.sort g.ty g.first g.seq ks ds x d i in
     let F5 : List Seq → Type 0 = λ x. IsMade g.sort g.ty g.first g.seq ks ds c x i in
     subst F5 (sym h5) (subst F4 h4 (subst F3 h3 (subst F2 h2 (subst F1 h1 made))))
+
+pub straight_so : (f g : Frame) (i : Instr) (hs : List (List Part)) (cs : List Clauses) (b c : List Seq) → f ≡ g → c ≡ b → IsStraight f i → IsMade g.sort g.ty g.first g.seq hs cs b c i
+straight_so f g i hs cs b c is same direct =
+    let F : Frame → Type 0 = λ x. IsMade x.sort x.ty x.first x.seq hs cs b b i in
+    let G : List Seq → Type 0 = λ x. IsMade g.sort g.ty g.first g.seq hs cs b x i in
+    subst G (sym same) (subst F is (direct.made hs cs b))

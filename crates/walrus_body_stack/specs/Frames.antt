@@ -20,6 +20,7 @@ use Rattle.walrus_body_nesting.specs.Stands.{Turn, Otherwise, Part, part, Finish
 use Rattle.walrus_body_nesting.specs.Opens.{Open, is_bare, reach_in, begun, turned_to, nested, Makes}
 use Rattle.walrus_body_stack.specs.declared.frame.Sort.{Sort}
 use Rattle.walrus_body_stack.specs.declared.frame.Sort.TheVariants as sorts
+use Rattle.walrus_body_stack.specs.declared.frame.Frame.{Frame}
 use Rattle.walrus_body_stack.specs.Held.{Held}
 use Rattle.walrus_body_stack.specs.declared.stack.Stack.{Stack}
 
@@ -172,6 +173,12 @@ pub record IsFirst (g : Opener) (s : Sort) (hs ks : List (List Part)) (cs ds : L
 abbrev pub IsMade : Sort → InstrSeqType → ℕ → ℕ → List (List Part) → List (Vec TryTableCatch) → List Seq → List Seq → Instr → Type 0
 IsMade sorts.Then ty first k hs cs b c i = (c ≡ b ++ empty_seq (length b) ty ∷ []) × (i ≡ instr.IfElse first (length b))
 IsMade s ty first k hs cs b c i = (c ≡ b) × Makes (opener_of s cs) i (block first (turns_of s k hs) Ended)
+
+-- it is that instruction whatever else is open, and nothing but sequences is kept for it
+pub record IsStraight (f : Frame) (i : Instr) : Type 0 where
+  pub made : (hs : List (List Part)) (cs : List (Vec TryTableCatch)) (b : List Seq) → IsMade f.sort f.ty f.first f.seq hs cs b b i
+  pub handlers : (hs : List (List Part)) → handlers_around f.sort hs ≡ hs
+  pub clauses : (cs : List (Vec TryTableCatch)) → clauses_around f.sort cs ≡ cs
 
 -- no `else` was added
 pub record IsClosed (place : InstrLocId) (finish : Finish) (old new : Stack) : Type 0 where

@@ -4,7 +4,8 @@ use Rattle.walrus_instr.specs.declared.instr.Instr.{Instr}
 use Rattle.walrus_instr.specs.declared.seq.InstrLocId.{InstrLocId}
 use Rattle.walrus_body_nesting.specs.declared.frames.Reach.{Reach}
 use Rattle.walrus_body_nesting.specs.declared.frames.Reach.TheVariants.{Live, Cut, Dropped}
-use Rattle.walrus_body_nesting.specs.Opens.{reach_on}
+use Rattle.walrus_instr.specs.declared.seq.InstrSeqType.{InstrSeqType}
+use Rattle.walrus_body_nesting.specs.Opens.{reach_in, reach_on}
 use Rattle.walrus_body_stack.specs.declared.frame.Frame.{Frame}
 use Rattle.walrus_body_stack.specs.declared.frame.Sort.{Sort}
 
@@ -47,6 +48,10 @@ as_frame f n = record { inner = record { frame = f; instrs = n.inner.instrs }; o
 -- this is the innermost
 abbrev pub entered : Frame → Nested → Nested
 entered f n = record { inner = bare f; outer = n.inner ∷ n.outer }
+
+-- the first sequence of a block, in a sequence that is reached so
+abbrev pub first_frame : ℕ → Sort → InstrLocId → InstrSeqType → Reach → Frame
+first_frame k s p ty r = record { ty = ty; place = p; first = k; seq = k; sort = s; reach = reach_in r }
 
 -- its instructions were taken
 abbrev pub emptied : Nested → Nested

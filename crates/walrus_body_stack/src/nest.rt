@@ -1,10 +1,11 @@
 //! Open sequences with their instructions, which lie in one list.
 
-ghost use Rattle.std.specs.Prelude.{◌≡◌, ◌≤◌, ◌<◌, [], ◌∷◌, ◌++◌, length, take, drop, slice_get, IfOk, OnOk, OnErr};
+ghost use Rattle.std.specs.Prelude.{◌≡◌, ◌≤◌, ◌<◌, [], ◌∷◌, ◌++◌, length, take, drop, slice_get, true, IfOk, OnOk, OnErr};
 ghost use Rattle.std.specs.Option.{option_map};
 ghost use Rattle.std.specs.Vec.{vec_len, vec_capacity};
 ghost use Rattle.walrus_body_nesting.specs.declared.frames.Reach.TheVariants.{Cut as cut_reach};
 ghost use Rattle.walrus_body_stack.specs.Held.{IsLeft, added, as_frame, bare, emptied, entered, seqs_in};
+ghost use Rattle.walrus_body_stack.specs.Slots.{further, lower};
 
 use crate::frame::Frame;
 use crate::pile::Pile;
@@ -127,6 +128,23 @@ fn keep(spare: &mut Vec<(Instr, InstrLocId)>, done: Vec<(Instr, InstrLocId)>) {
     }
 }
 
+// Goes on with the list that was set aside last.
+#[inline(never)]
+fn rejoin(
+    list: &mut Vec<(Instr, InstrLocId)>,
+    aside: &mut Pile<Vec<(Instr, InstrLocId)>>,
+    spare: &mut Vec<(Instr, InstrLocId)>,
+)
+    ensures list { list.new.items ≡ lower true 0 list.old.items aside.old }
+    ensures aside { aside.new ≡ further true aside.old }
+{
+    let last = match aside.pop() {
+        Some(last) => last,
+        None => Vec::new(*list.allocator()),
+    };
+    keep(spare, mem::replace(list, last));
+}
+
 // What is there.
 #[inline(always)]
 fn seq_of(slot: Option<Slot>) -> Option<InstrSeqId>
@@ -224,8 +242,9 @@ impl Nest {
         Ok(())
     }
 
-    // Enters a sequence whose instructions lie behind those around it.
-    fn enter_here(&mut self, frame: Frame) -> Result<(), AllocError>
+    /// Enters a sequence, which has no instructions so far: they are to lie behind those around it.
+    #[inline(always)]
+    pub(crate) fn enter(&mut self, frame: Frame) -> Result<(), AllocError>
         ensures { OnOk result (self.new ≡ entered frame self.old) }
     {
         let Ok(begin) = u16::try_from(self.list.len()) else {
@@ -240,8 +259,9 @@ impl Nest {
         Ok(())
     }
 
-    // Enters one that has a list of its own.
-    fn enter_apart(&mut self, frame: Frame) -> Result<(), AllocError>
+    /// The same, with a list of its own.
+    #[inline(never)]
+    pub(crate) fn enter_apart(&mut self, frame: Frame) -> Result<(), AllocError>
         ensures { OnOk result (self.new ≡ entered frame self.old) }
     {
         let room = roomy(&mut self.spare)?;
@@ -258,15 +278,10 @@ impl Nest {
         Ok(())
     }
 
-    /// Enters a sequence, which has no instructions so far.
-    pub(crate) fn enter(&mut self, frame: Frame) -> Result<(), AllocError>
-        ensures { OnOk result (self.new ≡ entered frame self.old) }
-    {
-        if self.list.len() < LONG {
-            self.enter_here(frame)
-        } else {
-            self.enter_apart(frame)
-        }
+    /// Whether what is entered gets a list of its own.
+    #[inline(always)]
+    pub(crate) fn is_long(&self) -> bool {
+        self.list.len() >= LONG
     }
 
     /// Takes the innermost one's instructions.
@@ -278,24 +293,23 @@ impl Nest {
     }
 
     /// Leaves the innermost, if there is one around it; says whether there is.
+    #[inline(always)]
     pub(crate) fn leave(&mut self) -> bool
         ensures { IsLeft result self.old self.new }
     {
+        let begin = usize::from(self.inner.begin);
+        let apart = self.inner.apart;
         let Some(slot) = self.outer.pop() else {
             return false;
         };
-        let begin = usize::from(self.inner.begin);
-        if self.inner.apart {
-            let last = match self.aside.pop() {
-                Some(last) => last,
-                None => Vec::new(*self.list.allocator()),
-            };
-            keep(&mut self.spare, mem::replace(&mut self.list, last));
+        // It is put in its place at once, so that it is copied but once.
+        self.inner = slot;
+        if apart {
+            rejoin(&mut self.list, &mut self.aside, &mut self.spare);
             self.outer.give_up();
         } else if self.list.len() > begin {
             self.list.truncate(begin);
         }
-        self.inner = slot;
         true
     }
 

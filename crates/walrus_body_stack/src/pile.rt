@@ -1,6 +1,7 @@
 //! A pile, whose top is taken first.
 
-ghost use Rattle.std.specs.Prelude.{◌≡◌, [], ◌∷◌, MatchOption, OnOk, OnErr, length, slice_get};
+ghost use Rattle.std.specs.Prelude.{◌≡◌, ◌<◌, [], ◌∷◌, MatchOption, OnOk, OnErr, length, slice_get};
+ghost use Rattle.std.specs.Vec.{vec_len, vec_capacity};
 
 use std::alloc::{AllocError, Global};
 use std::marker::Model;
@@ -26,6 +27,15 @@ impl<T> Model for Pile<T> {
 // Room for so many items is kept in any case.
 const ROOM: usize = 512;
 
+// Growth stands apart, so that what is inlined stays small.
+#[inline(never)]
+fn grow<T>(items: &mut Vec<T>) -> Result<(), AllocError>
+    ensures room { OnOk result (vec_len items.new < vec_capacity items.new) }
+    ensures rest { items.new.items ≡ items.old.items }
+{
+    items.reserve(1)
+}
+
 impl<T: Drop> Pile<T> {
     /// None. Takes no memory.
     pub(crate) fn new(alloc: Global) -> Self
@@ -45,11 +55,15 @@ impl<T: Drop> Pile<T> {
     }
 
     /// Puts this on top.
+    #[inline(always)]
     pub(crate) fn push(&mut self, item: T) -> Result<(), AllocError>
         ensures pushed { OnOk result (self.new ≡ item ∷ self.old) }
         ensures refused { OnErr result (self.new ≡ self.old) }
     {
-        self.items.push(item)?;
+        if self.items.len() == self.items.capacity() {
+            grow(&mut self.items)?;
+        }
+        self.items.push_reserved(item);
         Ok(())
     }
 

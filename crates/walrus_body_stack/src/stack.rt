@@ -1,14 +1,14 @@
 //! The open sequences of a body that is read.
 
-ghost use Rattle.std.specs.Prelude.{◌≡◌, ◌<◌, [], ◌∷◌, ◌++◌, length, slice_get, IfOk, OnErr, OnOk, Some};
+ghost use Rattle.std.specs.Prelude.{◌≡◌, ◌<◌, [], ◌∷◌, ◌++◌, length, slice_get, IfOk, IfSome, OnErr, OnOk, Some};
 ghost use Rattle.walrus_body_nesting.specs.wasm_body_grammar.Frames.{Plain};
 ghost use Rattle.walrus_body_nesting.specs.walrus_builder.Built.{contents, empty_seq, no_place};
 ghost use Rattle.walrus_body_nesting.specs.walrus_builder.Functions.{seqs_of};
 ghost use Rattle.walrus_body_nesting.specs.declared.frames.Opener.TheVariants as openers;
 ghost use Rattle.walrus_body_nesting.specs.declared.frames.Reach.TheVariants.{Live};
 ghost use Rattle.walrus_body_nesting.specs.Opens.{Shaped, begun, ids_of, ran, type_at};
-ghost use Rattle.walrus_body_stack.specs.Frames.{IsEnded, IsFirst, IsHanded, IsMade, IsOpened, IsTrying, around, below, blocks, clauses_around, filled, handlers_around, heading, heading_of, inner, opens, top};
-ghost use Rattle.walrus_body_stack.specs.Held.{emptied, joined};
+ghost use Rattle.walrus_body_stack.specs.Frames.{IsEnded, IsFirst, IsHanded, IsMade, IsOpened, IsStraight, IsTrying, around, below, blocks, clauses_around, filled, handlers_around, heading, heading_of, inner, opens, top};
+ghost use Rattle.walrus_body_stack.specs.Held.{emptied, entered, first_frame, joined};
 ghost use Rattle.walrus_instr.specs.declared.seq.InstrSeqType.{InstrSeqType as BlockTy};
 
 use crate::frame::{Frame, Sort, inner_reach};
@@ -30,6 +30,22 @@ pub struct Stack {
     // The handlers of each legacy `try` that is open, and the clauses of each `try_table`.
     pub(crate) handlers: Pile<Handlers>,
     pub(crate) clauses: Pile<Vec<TryTableCatch>>,
+}
+
+// The instruction of a block that ends with this sequence, where the sequences are all that is needed.
+#[inline(always)]
+fn straight(frame: Frame) -> Option<Instr>
+    ensures { IfSome result (λ instr. IsStraight frame instr) }
+{
+    match frame.sort {
+        Sort::Block => Some(Instr::Block { seq: frame.first }),
+        Sort::Loop => Some(Instr::Loop { seq: frame.first }),
+        Sort::Else => Some(Instr::IfElse {
+            consequent: frame.first,
+            alternative: frame.seq,
+        }),
+        Sort::Then | Sort::Try | Sort::Catch | Sort::CatchAll | Sort::TryTable => None,
+    }
 }
 
 impl Stack {
@@ -125,6 +141,7 @@ impl Stack {
     }
 
     // An empty sequence of this type.
+    #[inline(always)]
     pub(crate) fn fresh(&mut self, ty: InstrSeqType) -> Result<InstrSeqId, AllocError>
         ensures ty { OnOk result (heading_of self.new ≡ heading_of self.old) }
         ensures id { IfOk result (λ id. id ≡ length (blocks self.old)) }
@@ -138,6 +155,7 @@ impl Stack {
     }
 
     // The first part of a block, and what has to be kept of the block.
+    #[inline(always)]
     fn noted(&mut self, opener: Opener) -> Result<Sort, AllocError>
         ensures builder { self.new.builder ≡ self.old.builder }
         ensures nest { self.new.nest ≡ self.old.nest }
@@ -164,6 +182,7 @@ impl Stack {
     /// # Errors
     ///
     /// Want of memory.
+    #[inline(always)]
     pub fn open(
         &mut self,
         opener: Opener,
@@ -174,18 +193,43 @@ impl Stack {
         ensures opened { OnOk result (IsOpened opener place ty self.old self.new) }
     {
         let own = ty;
-        let reach = inner_reach(self.nest.reach());
         let seq = self.fresh(ty)?;
         let sort = self.noted(opener)?;
-        let frame = Frame {
+        if self.nest.is_long() {
+            return self.enter_apart(seq, sort, place, own);
+        }
+        let reach = inner_reach(self.nest.reach());
+        self.nest.enter(Frame {
             ty: own,
             place,
             first: seq,
             seq,
             sort,
             reach,
-        };
-        self.nest.enter(frame)
+        })
+    }
+
+    // Enters the first sequence of a block, with a list of its own. It stands apart, so that elsewhere the frame is made where it is to be.
+    #[inline(never)]
+    fn enter_apart(
+        &mut self,
+        seq: InstrSeqId,
+        sort: Sort,
+        place: InstrLocId,
+        ty: InstrSeqType,
+    ) -> Result<(), AllocError>
+        ensures nest { OnOk result (self.new.nest ≡ entered (first_frame seq sort place ty self.old.nest.inner.frame.reach) self.old.nest) }
+        ensures rest { self.new ≡ record self.old { nest = self.new.nest } }
+    {
+        let reach = inner_reach(self.nest.reach());
+        self.nest.enter_apart(Frame {
+            ty,
+            place,
+            first: seq,
+            seq,
+            sort,
+            reach,
+        })
     }
 
     // Gives the innermost sequence its instructions, and its end this location.
@@ -270,6 +314,27 @@ impl Stack {
     ///
     /// Want of memory.
     pub fn end(&mut self, place: InstrLocId) -> Result<bool, AllocError>
+        requires { Shaped (blocks self.old) (opens self.old) }
+        ensures ty { OnOk result (heading_of self.new ≡ heading_of self.old) }
+        ensures ended { IfOk result (λ done. IsEnded done place self.old self.new) }
+    {
+        let frame = self.nest.frame();
+        let opened = frame.place;
+        let reach = frame.reach;
+        let Some(instr) = straight(frame) else {
+            return self.end_any(place);
+        };
+        self.close(place)?;
+        if !self.nest.leave() {
+            return Ok(true);
+        }
+        self.nested(instr, opened, reach)?;
+        Ok(false)
+    }
+
+    // The same for any block, whose instruction may need more than its sequences.
+    #[inline(never)]
+    fn end_any(&mut self, place: InstrLocId) -> Result<bool, AllocError>
         requires { Shaped (blocks self.old) (opens self.old) }
         ensures ty { OnOk result (heading_of self.new ≡ heading_of self.old) }
         ensures ended { IfOk result (λ done. IsEnded done place self.old self.new) }
