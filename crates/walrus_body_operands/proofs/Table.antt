@@ -1,7 +1,7 @@
 -- Lemmas: what the table of operators says of immediates, by what an operator does to a run.
-use Rattle.std.specs.Prelude.{ℕ, ℤ, ◌≡◌, ◌⊎◌, ◌&&◌, ◌||◌, not, Bool, true, false, Option, Some, refl}
+use Rattle.std.specs.Prelude.{ℕ, ◌≡◌, ◌&&◌, ◌||◌, not, Bool, true, false, Option, Some, refl}
 use Rattle.std.specs.Option.{is_some}
-use Rattle.std.proofs.Common.{ap, sym, subst, ◌∙◌, inl, inr}
+use Rattle.std.proofs.Common.{ap, sym, subst, ◌∙◌}
 use Rattle.std.proofs.lemmas.Bool.{and_parts}
 use Rattle.wasm_operators.specs.declared.entry.Entry.{Entry}
 use Rattle.wasm_operators.specs.declared.entry.Flow.{Flow}
@@ -13,14 +13,12 @@ use Rattle.wasm_operators.specs.Table.{structure_rows, call_rows, plain_rows, fb
 use Rattle.wasm_operators.specs.Operators.{op_code, flow_in, flow_of}
 use Rattle.walrus_body_steps.specs.wasm_normal_form.Roles.{Runs, role_in}
 use Rattle.walrus_forms.specs.declared.value.RefType.{RefType}
-use Rattle.walrus_operators.specs.declared.immediates.Immediates.{Immediates}
-use Rattle.walrus_operators.specs.declared.immediates.Immediates.TheVariants as imm
 use Rattle.walrus_operators.specs.declared.operator.Operator.{Operator}
 use Rattle.walrus_operators.specs.Immediates.{kind_is}
 use Rattle.walrus_operator_laws.proofs.Rows.{TablePasses, table_holds}
 use Rattle.walrus_body_steps.specs.Meanings.{cast_at}
 use Rattle.walrus_body_operands.specs.Asked.{labelled_at}
-use Rattle.walrus_body_operands.specs.Listed.{IsListed, RunsListed, opened_by, begins_block, is_bare, names_alone, names_tag, names_label}
+use Rattle.walrus_body_operands.specs.Listed.{IsListed, RunsListed, opened_by, begins_block, is_bare, names_tag, names_label}
 
 -- ---- which kinds an operator may have that does this to a run
 

@@ -44,6 +44,13 @@ abbrev pub begins_block : Kind → Bool
 begins_block kinds.Block = true
 begins_block _ = false
 
+-- what it does opens a block that has nothing but its instructions
+abbrev pub opens_plain : Flow → Bool
+opens_plain flows.OpensBlock = true
+opens_plain flows.OpensLoop = true
+opens_plain flows.OpensIf = true
+opens_plain _ = false
+
 abbrev pub opened_by : Kind → Bool
 opened_by kinds.Block = true
 opened_by kinds.TryTable = true

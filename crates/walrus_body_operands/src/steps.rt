@@ -1,15 +1,15 @@
 //! What an operator does to the open sequences of a body.
 
 ghost use Rattle.std.specs.Prelude.{◌≡◌, ◌-◌, ◌&&◌, ℕ, List, length, not, true, false, Some};
-ghost use Rattle.wasm_operators.specs.Operators.{flow_of};
+ghost use Rattle.wasm_operators.specs.Operators.{Seen, flow_of};
 ghost use Rattle.walrus_body_steps.specs.wasm_normal_form.Roles.{cuts_in};
 ghost use Rattle.walrus_operators.specs.Immediates.{kind_is};
 ghost use Rattle.walrus_operators.specs.Operators.{seen};
 ghost use Rattle.walrus_body_steps.specs.walrus_body_rules.Rules.{items_test};
 ghost use Rattle.walrus_body_steps.specs.walrus_body_rules.Sights.{Sight};
-ghost use Rattle.walrus_body_steps.specs.Meanings.{IsOpener};
+ghost use Rattle.walrus_body_steps.specs.Meanings.{IsOpener, OpensOf};
 ghost use Rattle.walrus_body_operands.specs.Asked.{AnswersIf, Meets};
-ghost use Rattle.walrus_body_operands.specs.Listed.{IsListed, RunsListed, accessed, begins_block, holds_list, keeps_on, known_labels, names_alone, names_label, names_tag, opened_by};
+ghost use Rattle.walrus_body_operands.specs.Listed.{IsListed, RunsListed, accessed, begins_block, holds_list, keeps_on, known_labels, names_alone, names_label, names_tag, opened_by, opens_plain};
 ghost use Rattle.walrus_body_operands.specs.Steps.{IsStep};
 
 use crate::faults::no_item;
@@ -206,27 +206,37 @@ pub fn end_of<S: Scope, L: Labels>(
     Ok(Step::End)
 }
 
-/// The same as [`step_of`], for an operator that most likely opens a block, a loop or an `if`.
+/// How an operator begins that opens a block, a loop or an `if`.
+#[inline(always)]
+pub fn opener_of(flow: Flow) -> Opener
+    requires { opens_plain flow ≡ true }
+    ensures { (s : Sight) (around : List ℕ) (op : Seen) → flow_of op.code ≡ Some flow → IsOpener s around op result }
+{
+    match flow {
+        Flow::OpensBlock => Opener::Block,
+        Flow::OpensLoop => Opener::Loop,
+        Flow::OpensIf => Opener::If,
+        _ => unreachable!(),
+    }
+}
+
+/// The type of the block that an operator opens which names nothing else.
 ///
 /// # Errors
 ///
 /// As [`step_of`].
 #[inline(always)]
-pub fn opening<S: Scope, L: Labels>(
+pub fn opened_type<S: Scope>(
     scope: &S,
-    alloc: Global,
     op: &Operator,
-    labels: &L,
     offset: u64,
-) -> Result<Step, BodyError>
-    requires { IsListed op.now }
-    ensures { AnswersIf (holds_list (kind_is op.now.immediates)) result (items_test (S.sight scope.now) (known_labels (flow_of op.now.code) (length (L.ids labels.now))) (seen op.now)) offset (IsStep (S.sight scope.now) (L.ids labels.now) (seen op.now)) }
+) -> Result<InstrSeqType, BodyError>
+    requires { begins_block (kind_is op.now.immediates) ≡ true }
+    ensures { (labels : ℕ) → Meets result (items_test (S.sight scope.now) labels (seen op.now)) offset (OpensOf (S.sight scope.now) (seen op.now)) }
 {
-    match op.code.flow() {
-        Some(Flow::OpensBlock) => open(scope, op, Opener::Block, offset),
-        Some(Flow::OpensLoop) => open(scope, op, Opener::Loop, offset),
-        Some(Flow::OpensIf) => open(scope, op, Opener::If, offset),
-        _ => step_of(scope, alloc, op, labels, offset),
+    match block_type(scope, block_of(&op.immediates), offset) {
+        Ok(ty) => Ok(ty),
+        Err(fault) => Err(fault),
     }
 }
 

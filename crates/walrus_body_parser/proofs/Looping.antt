@@ -25,7 +25,7 @@ use Rattle.walrus_body_locals.specs.walrus_body_env.declared.error.BodyError.The
 use Rattle.walrus_body_locals.specs.walrus_body_env.Faults as env
 use Rattle.walrus_body_locals.specs.walrus_body_nesting.declared.frames.Opener.TheVariants as openers
 use Rattle.walrus_body_locals.specs.walrus_body_nesting.declared.frames.Reach.TheVariants.{Live}
-use Rattle.walrus_body_locals.specs.walrus_body_nesting.Opens.{Open, Grower, begun, ids_of, kinds_of, left_kinds, same, type_at, IsReached, AreSound, Shaped, Good, Reads}
+use Rattle.walrus_body_locals.specs.walrus_body_nesting.Opens.{Open, Grower, begun, ids_of, kinds_of, left_kinds, same, type_at, IsReached, AreSound, Shaped, Reads}
 use Rattle.walrus_body_locals.specs.walrus_body_nesting.Ending.{unless_reached}
 use Rattle.walrus_body_locals.specs.walrus_body_nesting.Stands.{StandsAs, total}
 use Rattle.walrus_body_operands.specs.walrus_body_stack.declared.stack.Stack.{Stack}

@@ -1,6 +1,7 @@
 //! Operators are read, one after another.
 
 ghost use Rattle.std.specs.Prelude.{◌≡◌, ◌<◌, ◌≤◌, ◌+◌, length, true, IfOk, OnOk, Some, Err};
+ghost use Rattle.walrus_operators.specs.Immediates.{kind_is};
 ghost use Rattle.wasm_reader.specs.Cursor.{Cursor, Forward, IsWithin, end_of, rest};
 ghost use Rattle.walrus_body_operands.specs.walrus_body_rules.wasm_body_grammar.wasm_operators.declared.entry.Entry.{Entry};
 ghost use Rattle.walrus_body_operands.specs.walrus_body_rules.wasm_body_grammar.wasm_operators.Table.{find_code};
@@ -9,8 +10,9 @@ ghost use Rattle.walrus_operators.specs.Operators.{seen, IsNext, IsNextOf, Reads
 ghost use Rattle.walrus_body_locals.specs.walrus_body_nesting.Opens.{Shaped};
 ghost use Rattle.walrus_body_operands.specs.walrus_body_stack.Frames.{blocks, heading_of, opens};
 ghost use Rattle.walrus_body_locals.specs.Calls.{Parses};
-ghost use Rattle.walrus_body_operands.specs.Listed.{IsListed, keeps_on};
+ghost use Rattle.walrus_body_operands.specs.Listed.{IsListed, keeps_on, opens_plain};
 ghost use Rattle.walrus_body_parser.specs.Changes.{ReadsNext, ReadsOn, entry_of};
+ghost use Rattle.walrus_body_parser.specs.Forms.{IsForm};
 ghost use Rattle.walrus_body_parser.specs.Points.{IsRefusedAs};
 ghost use Rattle.walrus_body_parser.specs.Trees.{Follows, validating};
 
@@ -18,7 +20,7 @@ use crate::steps::change;
 use std::alloc::Global;
 use walrus_body_locals::body_env::{BodyError, Validator};
 use walrus_body_operands::body_stack::Stack;
-use walrus_body_operands::{Scope, end_of, instr_on, opening, step_of};
+use walrus_body_operands::{Scope, end_of, instr_on, opened_type, opener_of, step_of};
 use walrus_instr::InstrLocId;
 use walrus_operators::operator_table::{Flow, Kind};
 use walrus_operators::{Operator, OperatorError, OperatorReader};
@@ -61,12 +63,48 @@ fn next_known(
     requires next { IsNextOf reader.old kind }
     ensures read { Parses (operator reader.old.window.features).parse (λ op x. seen op ≡ x) reader.old reader.new result }
     ensures listed { IfOk result (λ op. IsListed op) }
+    ensures kind { IfOk result (λ op. kind_is op.immediates ≡ kind) }
     ensures takes { OnOk result (length (rest reader.new) < length (rest reader.old)) }
     ensures entry { IfOk result (λ op. (e : Entry) → IsNext reader.old e → find_code op.code.prefix op.code.number ≡ Some e) }
 {
     match reader.read_as(kind, alloc) {
         Ok(op) => Ok(op),
         Err(error) => Err(fault(error)),
+    }
+}
+
+// By what the next operator is read.
+#[derive(Clone, Copy)]
+enum Form {
+    // It opens a block, a loop or an `if`.
+    Opens(Flow),
+    // It is an `end`.
+    Ends,
+    // Nothing is known of it.
+    Any,
+}
+
+// By what the next operator is read.
+#[inline(always)]
+#[tactic(auto, using(crate::proofs::Frequent::opens_so, crate::proofs::Frequent::ends_so))]
+fn next_form(reader: &OperatorReader<'_>) -> Form
+    ensures { IsForm reader.now result }
+{
+    let Some(entry) = reader.next_entry() else {
+        return Form::Any;
+    };
+    match entry.kind {
+        Kind::Block => match entry.flow {
+            Flow::OpensBlock => Form::Opens(Flow::OpensBlock),
+            Flow::OpensLoop => Form::Opens(Flow::OpensLoop),
+            Flow::OpensIf => Form::Opens(Flow::OpensIf),
+            _ => Form::Any,
+        },
+        Kind::Bare => match entry.flow {
+            Flow::End => Form::Ends,
+            _ => Form::Any,
+        },
+        _ => Form::Any,
     }
 }
 
@@ -129,22 +167,24 @@ fn read_end<S: Scope, V: Validator>(
     Ok(done)
 }
 
-// Reads one that has a block type.
+// Reads one that has a block type, and opens a block, a loop or an `if`.
 #[inline(never)]
 fn read_opening<S: Scope, V: Validator>(
+    flow: Flow,
     scope: &S,
     alloc: Global,
     reader: &mut OperatorReader<'_>,
     stack: &mut Stack,
     validator: &mut V,
     code_start: u64,
-) -> Result<bool, BodyError>
+) -> Result<(), BodyError>
     requires shaped { Shaped (blocks stack.old) (opens stack.old) }
     requires within { IsWithin reader.old }
     requires begins { code_start ≤ reader.old.window.start + reader.old.position }
     requires ends { end_of reader.old < code_start + 4294967295 }
-    requires next { IsNextOf reader.old Kind.Block }
-    ensures read { ReadsNext (S.sight scope.now) V.op_step code_start reader.old stack.old validator.old reader.new stack.new validator.new result }
+    requires opens { opens_plain flow ≡ true }
+    requires next { (e : Entry) × IsNext reader.old e × (e.kind ≡ Kind.Block) × (e.flow ≡ flow) }
+    ensures read { ReadsOn (S.sight scope.now) V.op_step code_start reader.old stack.old validator.old reader.new stack.new validator.new result }
     ensures takes { OnOk result (length (rest reader.new) < length (rest reader.old)) }
     ensures ty { OnOk result (heading_of stack.new ≡ heading_of stack.old) }
     ensures entry { OnOk result (entry_of stack.new ≡ entry_of stack.old) }
@@ -153,10 +193,11 @@ fn read_opening<S: Scope, V: Validator>(
     let offset = reader.original_position();
     let place = InstrLocId::new((offset - code_start) as u32);
     let op = next_known(Kind::Block, alloc, reader)?;
-    let step = opening(scope, alloc, &op, &*stack, offset)?;
-    let done = change(scope, stack, step, place, offset)?;
+    let ty = opened_type(scope, &op, offset)?;
+    let opener = opener_of(flow);
+    stack.open(opener, place, ty)?;
     validator.op(offset, &op)?;
-    Ok(done)
+    Ok(())
 }
 
 /// Reads an operator inside the open sequences, changes them, and then tells the validator of it; says whether it ended the body. Asks
@@ -169,7 +210,6 @@ fn read_opening<S: Scope, V: Validator>(
 /// `Unsupported` and `Bounds`, by their numbers; as the validator refuses it; want of memory. Unless the validator refuses it, it was
 /// told nothing.
 #[inline(always)]
-#[tactic(auto, using(crate::proofs::Frequent::kind_so, crate::proofs::Frequent::end_so))]
 pub(crate) fn read_operator<S: Scope, V: Validator>(
     scope: &S,
     alloc: Global,
@@ -188,16 +228,20 @@ pub(crate) fn read_operator<S: Scope, V: Validator>(
     ensures entry { OnOk result (entry_of stack.new ≡ entry_of stack.old) }
     ensures moves { Forward reader.old reader.new }
 {
-    let Some(entry) = reader.next_entry() else {
-        return read_any(scope, alloc, reader, stack, validator, code_start);
-    };
-    match entry.kind {
-        Kind::Block => read_opening(scope, alloc, reader, stack, validator, code_start),
-        Kind::Bare => match entry.flow {
-            Flow::End => read_end(scope, alloc, reader, stack, validator, code_start),
-            _ => read_any(scope, alloc, reader, stack, validator, code_start),
-        },
-        _ => read_any(scope, alloc, reader, stack, validator, code_start),
+    // Each answer is looked at where it was written: handed on, all of it would be copied.
+    match next_form(reader) {
+        Form::Opens(flow) => {
+            read_opening(flow, scope, alloc, reader, stack, validator, code_start)?;
+            Ok(false)
+        }
+        Form::Ends => {
+            let done = read_end(scope, alloc, reader, stack, validator, code_start)?;
+            Ok(done)
+        }
+        Form::Any => {
+            let done = read_any(scope, alloc, reader, stack, validator, code_start)?;
+            Ok(done)
+        }
     }
 }
 

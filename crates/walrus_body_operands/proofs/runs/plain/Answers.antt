@@ -1,4 +1,4 @@
-use Rattle.std.proofs.Common.{◌≡◌, ◌∙◌, Option, None, Some, Ok, Result, true, sym}
+use Rattle.std.proofs.Common.{◌≡◌, ◌∙◌, Ok, Result, true, sym}
 use Rattle.walrus_instr.specs.declared.instr.Instr.{Instr}
 use Rattle.walrus_operator_laws.specs.walrus_pairing.Read.{instr_at}
 use Rattle.walrus_operators.specs.Immediates.{items_of}

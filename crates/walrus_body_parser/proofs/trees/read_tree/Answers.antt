@@ -1,4 +1,4 @@
-use Rattle.std.proofs.Common.{◌≡◌, ◌<◌, List, Some, Ok, Bool, false, length, subst, sym, ap, ◌∙◌}
+use Rattle.std.proofs.Common.{◌≡◌, List, Some, Bool, false, subst, sym, ap, ◌∙◌}
 use Rattle.std.proofs.lemmas.Result.{err_from_is_err_and}
 use Rattle.wasm_reader.specs.Cursor.{Cursor, rest}
 use Rattle.walrus_body_operands.specs.walrus_body_stack.walrus_builder.Built.{Seq}
