@@ -49,6 +49,7 @@ struct Facts {
 }
 
 // Whether a hint shows that the local is among these.
+#[inline(always)]
 fn is_there(found: &[LocalId], hints: &[usize], id: LocalId) -> bool
     ensures { OnTrue result (Contains found.now id) }
 {
@@ -66,14 +67,12 @@ fn is_there(found: &[LocalId], hints: &[usize], id: LocalId) -> bool
     false
 }
 
-// Puts the local behind those that were found, if no hint shows that it is among them.
-fn gather(found: &mut Vec<LocalId>, hints: &mut Vec<usize>, id: LocalId) -> Result<(), AllocError>
+// Puts the local behind those that were found. It isn't inlined, as mostly it is among them.
+#[inline(never)]
+fn add(found: &mut Vec<LocalId>, hints: &mut Vec<usize>, id: LocalId) -> Result<(), AllocError>
     ensures told { OnOk result (HaveSame found.new.items (found.old.items ++ id ∷ [])) }
     ensures refused { OnErr result (found.new.items ≡ found.old.items) }
 {
-    if is_there(found.as_slice(), hints.as_slice(), id) {
-        return Ok(());
-    }
     let at = found.len();
     if at >= hints.len() {
         hints.resize(hints.len().saturating_mul(2), 0)?;
@@ -86,7 +85,20 @@ fn gather(found: &mut Vec<LocalId>, hints: &mut Vec<usize>, id: LocalId) -> Resu
     Ok(())
 }
 
+// The same, if no hint shows that it is among them.
+#[inline(always)]
+fn gather(found: &mut Vec<LocalId>, hints: &mut Vec<usize>, id: LocalId) -> Result<(), AllocError>
+    ensures told { OnOk result (HaveSame found.new.items (found.old.items ++ id ∷ [])) }
+    ensures refused { OnErr result (found.new.items ≡ found.old.items) }
+{
+    if is_there(found.as_slice(), hints.as_slice(), id) {
+        return Ok(());
+    }
+    add(found, hints, id)
+}
+
 // Gathers the local that an instruction names, if it names one.
+#[inline(always)]
 fn gather_named(
     found: &mut Vec<LocalId>,
     hints: &mut Vec<usize>,

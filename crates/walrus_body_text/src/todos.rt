@@ -1,8 +1,9 @@
 //! The list of what is left to do.
 
-ghost use Rattle.std.specs.Prelude.{◌≡◌, [], ◌∷◌, ◌++◌, MatchOption, OnOk};
+ghost use Rattle.std.specs.Prelude.{◌≡◌, ◌<◌, [], ◌∷◌, ◌++◌, MatchOption, OnOk};
+ghost use Rattle.std.specs.Vec.{vec_len, vec_capacity};
 
-use crate::todo::Todo;
+use crate::todo::{Closer, Place, Todo};
 use std::alloc::{AllocError, Global};
 use std::marker::Model;
 
@@ -24,12 +25,36 @@ impl Model for Todos {
     ghost view = { λ t. with_next t.rest.items t.next };
 }
 
-// Puts this into the list. It isn't inlined: mostly nothing is kept apart that the list has to take.
+// Makes room for one more. It isn't inlined, as mostly there is some.
 #[inline(never)]
+fn grow(rest: &mut Vec<Todo>) -> Result<(), AllocError>
+    ensures items { rest.new.items ≡ rest.old.items }
+    ensures room { OnOk result (vec_len rest.new < vec_capacity rest.new) }
+{
+    rest.reserve(1)
+}
+
+#[inline(always)]
+fn make_room(rest: &mut Vec<Todo>) -> Result<(), AllocError>
+    ensures items { rest.new.items ≡ rest.old.items }
+    ensures room { OnOk result (vec_len rest.new < vec_capacity rest.new) }
+{
+    if rest.len() < rest.capacity() {
+        return Ok(());
+    }
+    grow(rest)
+}
+
+// Puts this into the list.
+#[inline(always)]
 fn put(rest: &mut Vec<Todo>, one: Todo) -> Result<(), AllocError>
     ensures { OnOk result (rest.new.items ≡ rest.old.items ++ one ∷ []) }
 {
-    rest.extend_from_slice(&[one])
+    // The prover has to meet the types of what an item holds, before it is pushed.
+    let _held: Option<(Closer, Place)> = None;
+    make_room(rest)?;
+    rest.push_reserved(one);
+    Ok(())
 }
 
 impl Todos {
