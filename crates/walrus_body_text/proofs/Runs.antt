@@ -11,11 +11,11 @@ use Rattle.walrus_body_text.specs.declared.todo.Todo.{Todo}
 use Rattle.walrus_body_text.specs.declared.todo.Todo.TheVariants.{Inside}
 use Rattle.walrus_body_text.specs.declared.todo.Met.TheVariants.{AnInstr}
 use Rattle.walrus_body_text.specs.declared.depths.Depths.{Depths}
-use Rattle.walrus_body_text.specs.Doing.{Text, holds, left}
+use Rattle.walrus_body_text.specs.Doing.{Text, depths_after, height_after, holds, left, place_of}
 use Rattle.walrus_body_text.specs.Walking.{State, state, advanced, Advances, AdvancesAt, AdvancesIn, Good, Passed}
 use Rattle.walrus_body_text.specs.Visiting.{Tells, TellsOn, TellsOff, ToldPart}
 use Rattle.walrus_body_text.proofs.Lefts.{holds_none}
-use Rattle.walrus_body_text.proofs.Steps.{passed}
+use Rattle.walrus_body_text.proofs.Steps.{opens, passed}
 use Rattle.walrus_body_text.proofs.Folds.{tells_on}
 
 -- what is left behind the instruction at a place
@@ -69,6 +69,14 @@ on_err (Err e) P p = p
 pub taken_tells : {V : Type 0} (step : V → Piece × InstrLocId → V → Type 0) (b : List InstrSeq) (all : Text) (first : V) (items ts : List Todo) (top : Todo) (d : Depths) (v : V) → items ≡ ts ++ top ∷ [] → Tells step b all first (state items d) v
     → Tells step b all first (state (ts ++ top ∷ []) d) v
 taken_tells step b all first items ts top d v e h = let F : List Todo → Type 0 = λ z. Tells step b all first (state z d) v in subst F e h
+
+-- the same once it is open
+pub open_tells : {V : Type 0} (step : V → Piece × InstrLocId → V → Type 0) (b : List InstrSeq) (all : Text) (first : V) → TextIsPlain → (items ts : List Todo) (top : Todo) (at : Place) (d e : Depths) (v : V) → items ≡ ts ++ top ∷ [] → at ≡ place_of top
+    → e.depths.items ≡ depths_after d.depths.items d.height top → e.height ≡ height_after d.height top → Tells step b all first (state items d) v → Tells step b all first (state (ts ++ Inside at ∷ []) e) v
+open_tells step b all first plain items ts top at d e v is same lie high h =
+    let t = taken_tells step b all first items ts top d v is h in
+    let o = opens b plain ts top at d e t.good same lie high in
+    record { good = o.good; front = t.front; parts = t.parts ∙ ap (λ (z : Text). t.front ++ z) o.same; told = t.told }
 
 -- a first part was told, and no more
 pub told_part : {V : Type 0} (step : V → Piece × InstrLocId → V → Type 0) (same : V → V → Type 0) (b : List InstrSeq) (all : Text) (first : V) (s : State) (v : V) → Tells step b all first s v → ToldPart step same all first v

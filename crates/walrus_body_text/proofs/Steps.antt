@@ -12,6 +12,7 @@ use Rattle.walrus_tree.specs.Text.{Piece, Operator, after, of_parts, of_instrs, 
 use Rattle.walrus_tree.specs.TextLaws.{TextIsPlain, AreSound}
 use Rattle.walrus_body_text.specs.declared.todo.Closer.TheVariants.{End}
 use Rattle.walrus_body_text.specs.declared.todo.Met.{Met}
+use Rattle.walrus_body_text.specs.declared.todo.Place.{Place}
 use Rattle.walrus_body_text.specs.declared.todo.Todo.{Todo}
 use Rattle.walrus_body_text.specs.declared.todo.Todo.TheVariants.{Enter, Inside}
 use Rattle.walrus_body_text.specs.declared.depths.Depths.{Depths}
@@ -194,6 +195,41 @@ module _ (b : List InstrSeq) (plain : TextIsPlain) (ts : List Todo) (top : Todo)
 
   pub passed_at : (met : Met) (new : State) → Advances b top met (record { todo = ts; marks = old.marks; depths = old.depths; height = old.height }) new → Passed b (left b [] (ts ++ top ∷ [])) met new
   passed_at met new h = at_passed top_of met new h
+
+  -- what is next may be entered first: the text that is left stays
+  opened_text : left b [] (ts ++ top ∷ []) ≡ left b [] (ts ++ Inside (place_of top) ∷ [])
+  opened_text =
+      let t = top_of in
+      let at = place_of top in
+      let env = at.seq ∷ opened [] ts in
+      left_last b ts top ∙ ap (λ (z : Text). z ++ left b [] ts) (t.text_is ∙ sym (ap (rest_of (text b env) env (piece_of at.closer) at.next) t.found)) ∙ sym (left_last b ts (Inside at))
+
+  opened_good : (e : Depths) → e.depths.items ≡ depths_after old.depths old.height top → e.height ≡ height_after old.height top → Good b (state (ts ++ Inside (place_of top) ∷ []) e)
+  opened_good e lie high =
+      let t = top_of in
+      let at = place_of top in
+      let env = at.seq ∷ opened [] ts in
+      let on : opened [] (ts ++ Inside at ∷ []) ≡ env = opened_append [] ts (Inside at ∷ []) in
+      record {
+        rank = g.rank;
+        is_rank = g.is_rank;
+        ranked = ranked_append g.rank [] ts (Inside at ∷ []) (ranked_front g.rank [] ts (top ∷ []) g.ranked) (t.some, t.below, tt);
+        deep = subst (AreDeep e.depths.items) (sym on) (subst (λ (z : List ℕ). AreDeep z env) (sym lie) t.deep);
+        height = high ∙ t.high ∙ ap length (sym on);
+        sized = ap length lie ∙ t.sized;
+        sound = subst AreSound opened_text g.sound;
+      }
+
+-- what is next was entered, and is open
+pub record Opens (b : List InstrSeq) (ts : List Todo) (top : Todo) (at : Place) (e : Depths) : Type 0 where
+  pub good : Good b (state (ts ++ Inside at ∷ []) e)
+  pub same : left b [] (ts ++ top ∷ []) ≡ left b [] (ts ++ Inside at ∷ [])
+
+pub opens : (b : List InstrSeq) → TextIsPlain → (ts : List Todo) (top : Todo) (at : Place) (d e : Depths) → Good b (state (ts ++ top ∷ []) d) → at ≡ place_of top
+    → e.depths.items ≡ depths_after d.depths.items d.height top → e.height ≡ height_after d.height top → Opens b ts top at e
+opens b plain ts top at d e good is lie high =
+    let F : Place → Type 0 = λ p. Opens b ts top p e in
+    subst F (sym is) (record { good = opened_good b plain ts top (state ts d) good e lie high; same = opened_text b plain ts top (state ts d) good })
 
 -- a turn of a loop over the list
 pub passed : (b : List InstrSeq) → TextIsPlain → (items ts : List Todo) (top : Todo) (d : Depths) (met : Met) (new : State) → items ≡ ts ++ top ∷ [] → Good b (state items d) → Advances b top met (state ts d) new → Passed b (left b [] items) met new

@@ -1,6 +1,6 @@
 -- One step of the test along the text.
 use Rattle.std.proofs.Common.{ℕ, zero, suc, replicate, ◌+◌, ◌-◌, ◌<◌, ◌≤◌, ◌≡◌, ◌&&◌, Bool, true, false, List, [], ◌∷◌, ◌++◌, drop, length, Option, Some, None, refl, sym, ap, subst, arith, ◌∙◌, ◌⊎◌, inl, inr, append-nil, true≢false}
-use Rattle.std.specs.Prelude.{IfSome, is_some, slice_get, slice_index_or, slice_set}
+use Rattle.std.specs.Prelude.{IfSome, OnSome, is_some, slice_get, slice_index_or, slice_set}
 use Rattle.std.proofs.lemmas.Bool.{cases_lt}
 use Rattle.std.proofs.lemmas.List.{length-replicate, length-set}
 use Rattle.std.proofs.lemmas.Option.{slice_get_past}
@@ -56,6 +56,19 @@ met_is o met P is h = let F : Option Met → Type 0 = λ z. IfSome z P in subst 
 
 pub met_none : (o : Option Met) (p : Bool) → o ≡ None → is_some o ≡ p → p ≡ false
 met_none o p is e = sym e ∙ ap is_some is
+
+-- the same of what is entered
+pub place_some : (o : Option Place) (at : Place) (p : Bool) → o ≡ Some at → is_some o ≡ p → p ≡ true
+place_some o at p is e = sym e ∙ ap is_some is
+
+pub place_is : (o : Option Place) (at : Place) (P : Place → Type 0) → o ≡ Some at → IfSome o P → P at
+place_is o at P is h = let F : Option Place → Type 0 = λ z. IfSome z P in subst F is h
+
+pub place_on : (o : Option Place) (at : Place) (P : Type 0) → o ≡ Some at → OnSome o P → P
+place_on o at P is h = let F : Option Place → Type 0 = λ z. OnSome z P in subst F is h
+
+pub place_none : (o : Option Place) (p : Bool) → o ≡ None → is_some o ≡ p → p ≡ false
+place_none o p is e = sym e ∙ ap is_some is
 
 -- ---- turns that are left
 
@@ -313,6 +326,43 @@ test_starts b entry items d is marks low =
       forth = tree_part b d.marks.items entry End fresh;
       back = part_tree b d.marks.items entry End;
     })
+
+-- what is next was entered, and is open
+pub record Begins (b : List InstrSeq) (entry : ℕ) (items ts : List Todo) (at : Place) (d e : Depths) : Type 0 where
+  pub tested : IsTested b entry (state (ts ++ Inside at ∷ []) e)
+  pub less : work b e.marks.items + turns b (ts ++ Inside at ∷ []) ≤ work b d.marks.items + turns b items
+
+module _ (b : List InstrSeq) (entry : ℕ) (items ts : List Todo) (top : Todo) (d : Depths) (is : items ≡ ts ++ top ∷ []) (t : IsTested b entry (state items d)) where
+  abbrev taken : IsTested b entry (state (ts ++ top ∷ []) d)
+  taken = let F : List Todo → Type 0 = λ z. IsTested b entry (state z d) in subst F is t
+
+  pub test_begins : (at : Place) (e : Depths) → at ≡ place_of top → may_begin d.marks.items top ≡ true → e.marks.items ≡ marks_after d.marks.items top → e.height ≡ height_after d.height top → Begins b entry items ts at d e
+  test_begins at e same may marks high =
+      let g = begun b ts top d taken.marked may in
+      let here = Inside (place_of top) in
+      let list : List Todo = ts ++ here ∷ [] in
+      let on : opened [] list ≡ (place_of top).seq ∷ opened [] ts = opened_append [] ts (here ∷ []) in
+      let L : List ℕ → Type 0 = Marked (marks_after d.marks.items top) (height_after d.height top) in
+      let N : ℕ → Type 0 = λ z. Marked (marks_after d.marks.items top) z (opened [] list) in
+      let M : List Mark → Type 0 = λ z. Marked z e.height (opened [] list) in
+      let Q : List Mark → Type 0 = λ z. IsPart b z list in
+      let B : Place → Type 0 = λ z. Begins b entry items ts z d e in
+      let one = turns_last b ts top in
+      let two = turns_last b ts here in
+      let was = ap (turns b) is in
+      let own : work b e.marks.items ≡ work b (marks_after d.marks.items top) = ap (work b) marks in
+      let l = g.less in
+      subst B (sym same) (record {
+        tested = record {
+          marked = record { sized = ap length marks ∙ g.sized; marked = subst M (sym marks) (subst N (sym high) (subst L (sym on) g.marked)) };
+          forth = λ q. subst Q (sym marks) (g.forth (taken.forth q));
+          back = λ p. taken.back (g.back (subst Q marks p));
+        };
+        less = omega (arith, one, two, was, own, l);
+      })
+
+  pub test_begins_none : may_begin d.marks.items top ≡ false → IsTree b entry → ⊥
+  test_begins_none w q = may_not b ts top d taken.marked w (taken.forth q)
 
 -- a turn of a loop over the list
 pub record Kept (b : List InstrSeq) (entry : ℕ) (items : List Todo) (d : Depths) (new : State) : Type 0 where

@@ -13,7 +13,7 @@ pub use size::body_size;
 pub use todo::{Closer, Met, Place, Todo};
 pub use todos::Todos;
 pub use visit::{TextVisitor, visit_once, visit_text};
-pub use walk::{advance, item_at, plain_at, seq_at};
+pub use walk::{advance, begin, item_at, plain_at, seq_at};
 
 // Passed on to crates above, which then list this one alone.
 pub mod body_env {

@@ -15,7 +15,7 @@ ghost use Rattle.walrus_body_text.specs.Visiting.{IsLeft, TellsOff, TellsOn, Tol
 use crate::depths::Depths;
 use crate::todo::{Closer, Met, Place, Todo};
 use crate::todos::Todos;
-use crate::walk::{advance, item_at, plain_at, seq_at};
+use crate::walk::{advance, begin, item_at, plain_at, seq_at};
 use std::alloc::{AllocError, Global};
 use walrus_arena::InstrSeqId;
 use walrus_body_env::BodyError;
@@ -106,26 +106,6 @@ fn tell_plain<V: TextVisitor>(
     })
 }
 
-// The same of what is next, if it is open.
-fn tell_on<V: TextVisitor>(
-    visitor: &mut V,
-    seqs: &[InstrSeq],
-    depths: &Depths,
-    top: Todo,
-) -> Result<Todo, AllocError>
-    ensures told { IfOk result (λ next. TellsOn V.step seqs.now top next visitor.old visitor.new) }
-    ensures tested { IfOk result (λ next. Skips seqs.now depths.now top next) }
-    ensures refused { OnErr result (TellsOff V.step V.same seqs.now top visitor.old visitor.new) }
-{
-    match top {
-        Todo::Enter(_, _) => Ok(top),
-        Todo::Inside(place) => match tell_plain(visitor, seqs, depths, place) {
-            Ok(next) => Ok(Todo::Inside(next)),
-            Err(error) => Err(error),
-        },
-    }
-}
-
 // Tells the text of a tree; false where the sequences form none.
 fn visit_tree<V: TextVisitor>(
     alloc: Global,
@@ -143,8 +123,11 @@ fn visit_tree<V: TextVisitor>(
     let mut depths = Depths::new(alloc, seqs.len())?;
     let mut todo = Todos::new(alloc, Todo::Enter(entry, Closer::End));
     while let Some(top) = todo.pop() {
-        let next = tell_on(visitor, seqs, &depths, top)?;
-        let Some(met) = advance(seqs, next, &mut todo, &mut depths)? else {
+        let Some(place) = begin(&mut depths, top)? else {
+            return Ok(false);
+        };
+        let next = tell_plain(visitor, seqs, &depths, place)?;
+        let Some(met) = advance(seqs, Todo::Inside(next), &mut todo, &mut depths)? else {
             return Ok(false);
         };
         tell_met(visitor, seqs, met)?;

@@ -13,8 +13,13 @@ use std::alloc::AllocError;
 use walrus_arena::InstrSeqId;
 use walrus_tree::instr::{Instr, InstrLocId, InstrSeq};
 
-// Enters the sequence that is next, if it isn't open; none where it is unknown, or was entered before.
-fn begin(depths: &mut Depths, top: Todo) -> Result<Option<Place>, AllocError>
+/// Enters the sequence that is next, if it isn't open; none where it is unknown, or was entered before.
+///
+/// # Errors
+///
+/// Want of memory.
+#[inline(always)]
+pub fn begin(depths: &mut Depths, top: Todo) -> Result<Option<Place>, AllocError>
     ensures tested { IfOk result (λ at. is_some at ≡ may_begin depths.old.marks.items top) }
     ensures place { IfOk result (λ at. IfSome at (λ place. place ≡ place_of top)) }
     ensures marks { IfOk result (λ at. OnSome at (depths.new.marks.items ≡ marks_after depths.old.marks.items top)) }

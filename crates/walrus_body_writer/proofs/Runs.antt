@@ -1,9 +1,10 @@
 -- Instructions that hold no sequence, written one after another at a place of an open sequence.
-use Rattle.std.proofs.Common.{◌≡◌, false, List, [], ◌∷◌, ◌++◌, Some, Ok, Err, sym, subst}
+use Rattle.std.proofs.Common.{◌≡◌, false, List, [], ◌∷◌, ◌++◌, Some, Ok, Err, sym, ap, subst, ◌∙◌}
 use Rattle.std.specs.Prelude.{slice_get, Result, IfErr, IsErr, IsErrAnd}
 use Rattle.walrus_body_text.specs.walrus_tree.walrus_walks.walrus_instr.declared.instr.Instr.{Instr}
 use Rattle.walrus_body_text.specs.walrus_tree.walrus_walks.walrus_instr.declared.seq.InstrLocId.{InstrLocId}
 use Rattle.walrus_body_text.specs.walrus_tree.walrus_walks.walrus_instr.declared.seq.InstrSeq.{InstrSeq}
+use Rattle.walrus_body_text.specs.walrus_tree.TextLaws.{TextIsPlain}
 use Rattle.walrus_pairing.specs.Looks.{Look}
 use Rattle.walrus_pairing.specs.declared.error.PairError.{PairError}
 use Rattle.walrus_pairing.specs.declared.error.PairError.TheVariants as errors
@@ -12,9 +13,10 @@ use Rattle.walrus_body_text.specs.declared.todo.Todo.{Todo}
 use Rattle.walrus_body_text.specs.declared.todo.Todo.TheVariants.{Inside}
 use Rattle.walrus_body_text.specs.declared.todo.Met.TheVariants.{AnInstr}
 use Rattle.walrus_body_text.specs.declared.depths.Depths.{Depths}
-use Rattle.walrus_body_text.specs.Doing.{holds, label_by, left}
+use Rattle.walrus_body_text.specs.Doing.{depths_after, height_after, holds, label_by, left, place_of}
 use Rattle.walrus_body_text.specs.Walking.{state, advanced}
 use Rattle.walrus_body_text.proofs.Runs.{behind, it_is, it_passed}
+use Rattle.walrus_body_text.proofs.Steps.{opens}
 use Rattle.walrus_body_writer.specs.declared.output.Output.{Output}
 use Rattle.walrus_body_writer.specs.Spelled.{Text, written_instr}
 use Rattle.walrus_body_writer.specs.Refusals.{IsLarge, value_in}
@@ -51,6 +53,14 @@ refuses_more look b d top mid e old out new h k = λ plain all first ts g. k pla
 pub taken_goes : (look : Look) (b : List InstrSeq) (all : Text) (first : Output) (items ts : List Todo) (top : Todo) (d : Depths) (out : Output) → items ≡ ts ++ top ∷ [] → Goes look b all first (state items d) out
     → Goes look b all first (state (ts ++ top ∷ []) d) out
 taken_goes look b all first items ts top d out e h = let F : List Todo → Type 0 = λ z. Goes look b all first (state z d) out in subst F e h
+
+-- the same once it is open
+pub open_goes : (look : Look) (b : List InstrSeq) (all : Text) (first : Output) → TextIsPlain → (items ts : List Todo) (top : Todo) (at : Place) (d e : Depths) (out : Output) → items ≡ ts ++ top ∷ [] → at ≡ place_of top
+    → e.depths.items ≡ depths_after d.depths.items d.height top → e.height ≡ height_after d.height top → Goes look b all first (state items d) out → Goes look b all first (state (ts ++ Inside at ∷ []) e) out
+open_goes look b all first plain items ts top at d e out is same lie high h =
+    let t = taken_goes look b all first items ts top d out is h in
+    let o = opens b plain ts top at d e t.good same lie high in
+    record { good = o.good; front = t.front; parts = t.parts ∙ ap (λ (z : Text). t.front ++ z) o.same; wrote = t.wrote }
 
 pub if_memory : {A : Type 0} (r : Result A PairError) (P : PairError → Type 0) → P errors.Memory → IsErr r × IsErrAnd r (λ (e : PairError). e ≡ errors.Memory) → IfErr r P
 if_memory (Ok x) P p h = tt

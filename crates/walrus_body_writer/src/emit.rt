@@ -29,7 +29,7 @@ use walrus_body_text::tree::builder::FunctionBuilder;
 use walrus_body_text::tree::check_tree;
 use walrus_body_text::tree::instr::{Instr, InstrLocId, InstrSeq};
 use walrus_body_text::{
-    Closer, Depths, Met, Place, Todo, Todos, advance, item_at, plain_at, seq_at,
+    Closer, Depths, Met, Place, Todo, Todos, advance, begin, item_at, plain_at, seq_at,
 };
 use walrus_index_maps::IdsToIndices;
 use walrus_pairing::PairError;
@@ -227,28 +227,6 @@ fn write_plain(
     })
 }
 
-// The same of what is next, if it is open.
-fn write_on(
-    alloc: Global,
-    numbers: &Numbers<'_>,
-    seqs: &[InstrSeq],
-    depths: &Depths,
-    top: Todo,
-    out: &mut Output,
-) -> Result<Todo, PairError>
-    ensures on { IfOk result (λ next. GoesOn (look_of numbers.now) seqs.now depths.now top next out.old out.new) }
-    ensures tested { IfOk result (λ next. Skips seqs.now depths.now top next) }
-    ensures off { IfErr result (λ e. GoesOff (look_of numbers.now) seqs.now depths.now top e out.old out.new) }
-{
-    match top {
-        Todo::Enter(_, _) => Ok(top),
-        Todo::Inside(place) => match write_plain(alloc, numbers, seqs, depths, place, out) {
-            Ok(next) => Ok(Todo::Inside(next)),
-            Err(error) => Err(error),
-        },
-    }
-}
-
 // Writes the sequences of a tree; false where they form none.
 fn write_tree(
     alloc: Global,
@@ -267,11 +245,14 @@ fn write_tree(
     let mut depths = Depths::new(alloc, seqs.len())?;
     let mut todo = Todos::new(alloc, Todo::Enter(entry, Closer::End));
     while let Some(top) = todo.pop() {
-        let next = match write_on(alloc, numbers, seqs, &depths, top, out) {
+        let Some(place) = begin(&mut depths, top)? else {
+            return Ok(false);
+        };
+        let next = match write_plain(alloc, numbers, seqs, &depths, place, out) {
             Ok(next) => next,
             Err(error) => return Err(error),
         };
-        let Some(met) = advance(seqs, next, &mut todo, &mut depths)? else {
+        let Some(met) = advance(seqs, Todo::Inside(next), &mut todo, &mut depths)? else {
             return Ok(false);
         };
         match write_met(alloc, numbers, seqs, &depths, met, out) {
