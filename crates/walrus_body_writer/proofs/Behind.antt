@@ -1,4 +1,4 @@
--- A body that was written behind nothing, and then put behind what was written.
+-- A body that was written apart, and then put behind what was written.
 use Rattle.std.proofs.Common.{ℕ, ◌≡◌, Bool, List, [], refl, true, subst, sym}
 use Rattle.std.specs.Bool.{OnTrue}
 use Rattle.std.specs.Prelude.{MatchBool}
@@ -10,9 +10,10 @@ use Rattle.walrus_pairing.specs.declared.error.PairError.{PairError}
 use Rattle.walrus_body_text.specs.walrus_tree.Text.{operators}
 use Rattle.walrus_body_text.specs.walrus_tree.Trees.{IsTree}
 use Rattle.walrus_body_writer.specs.declared.output.Output.{Output}
-use Rattle.walrus_body_writer.specs.Outputs.{IsSame, Joins, Wrote}
+use Rattle.walrus_body_writer.specs.Outputs.{IsAside, IsSame, IsTaken, Wrote, is_short}
+use Rattle.walrus_body_writer.specs.Spelled.{Text}
 use Rattle.walrus_body_writer.specs.Refusals.{IsRefusal, LeavesOff, fault_of}
-use Rattle.walrus_body_writer.proofs.Outs.{wrote_behind, wrote_none, wrote_same}
+use Rattle.walrus_body_writer.proofs.Outs.{wrote_none, wrote_same, wrote_taken}
 use Rattle.walrus_body_writer.proofs.Refused.{refusal, wants}
 
 pub on_true : (x : Bool) (P : Type 0) → x ≡ true → OnTrue x P → P
@@ -34,12 +35,15 @@ module _ (look : Look) (b c : List InstrSeq) (k : ℕ) (is : c ≡ b) (first : k
       let G : ℕ → Type 0 = λ n. IsTree b n → ⊥ in
       subst G first (subst F is h)
 
-  module _ (start more old new : Output) (none : start.bytes.items ≡ []) (nowhere : start.places.items ≡ []) (same : start.keeps_places ≡ old.keeps_places) (j : Joins more old new) where
+  module _ (start more old new : Output) (aside : IsAside old start) (taken : IsTaken more old new) where
+    on : (t : Text) → Wrote look b t start more → Wrote look b t old new
+    on t w = wrote_taken look b t start more old new (is_short old) aside taken w
+
     pub behind : Wrote look c (operators c k) start more → Wrote look b (operators b 0) old new
     behind w =
         let F : List InstrSeq → Type 0 = λ z. Wrote look z (operators z k) start more in
         let G : ℕ → Type 0 = λ n. Wrote look b (operators b n) start more in
-        wrote_behind look b (operators b 0) start more old new none nowhere same (subst G first (subst F is w)) j
+        on (operators b 0) (subst G first (subst F is w))
 
     pub refused_behind : (e : PairError) (fault : BodyError) → fault ≡ fault_of e → (IsTree c k → LeavesOff look c (operators c k) start e more) → IsTree b k → IsRefusal look b old fault new
     refused_behind e fault it left tree =
@@ -47,7 +51,7 @@ module _ (look : Look) (b c : List InstrSeq) (k : ℕ) (is : c ≡ b) (first : k
         let G : ℕ → Type 0 = λ n. LeavesOff look b (operators b n) start e more in
         let h = subst G first (subst F is left tree) in
         let H : BodyError → Type 0 = λ f. IsRefusal look b old f new in
-        subst H (sym it) (refusal look b old (subst (IsTree b) first tree) e new (record { front = h.front; back = h.back; parts = h.parts; wrote = wrote_behind look b h.front start more old new none nowhere same h.wrote j; due = h.due }))
+        subst H (sym it) (refusal look b old (subst (IsTree b) first tree) e new (record { front = h.front; back = h.back; parts = h.parts; wrote = on h.front h.wrote; due = h.due }))
 
 -- memory was wanted, and nothing was put there
 pub memory_wanted : (look : Look) (b : List InstrSeq) (old new : Output) → IsSame old new → IsRefusal look b old Memory new

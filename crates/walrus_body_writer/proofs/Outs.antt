@@ -1,6 +1,6 @@
 -- What is written behind what was written.
-use Rattle.std.proofs.Common.{ℕ, ◌+◌, ◌≡◌, Bool, true, false, List, [], ◌∷◌, ◌++◌, length, Option, Some, None, Ok, Err, refl, sym, ap, arith, ◌∙◌, length-append}
-use Rattle.std.specs.Prelude.{if◌then◌else◌}
+use Rattle.std.proofs.Common.{ℕ, ◌+◌, ◌≡◌, Bool, true, false, List, [], ◌∷◌, ◌++◌, length, Option, Some, None, Ok, Err, refl, sym, ap, subst, arith, ◌∙◌, length-append}
+use Rattle.std.specs.Prelude.{MatchBool, if◌then◌else◌}
 use Rattle.std.proofs.lemmas.List.{append-nil, append_assoc}
 use Rattle.walrus_body_text.specs.walrus_tree.walrus_walks.walrus_instr.declared.seq.InstrLocId.{InstrLocId}
 use Rattle.walrus_body_text.specs.walrus_tree.walrus_walks.walrus_instr.declared.seq.InstrSeq.{InstrSeq}
@@ -9,7 +9,7 @@ use Rattle.wasm_operators.specs.Operators.{Seen}
 use Rattle.walrus_pairing.specs.Looks.{Look, Or}
 use Rattle.walrus_body_writer.specs.declared.output.Output.{Output}
 use Rattle.walrus_body_writer.specs.Spelled.{Text, written, bytes_of, piece_bytes, text_bytes, pair_of, text_places, IsWritten, AreWritten}
-use Rattle.walrus_body_writer.specs.Outputs.{Joins, PutsIf, IsSame, Wrote, moved}
+use Rattle.walrus_body_writer.specs.Outputs.{Joins, PutsIf, IsNothing, IsSame, Wrote, moved}
 
 abbrev pub Pairs : Type 0
 Pairs = List (InstrLocId × ℕ)
@@ -139,3 +139,24 @@ module _ (look : Look) (b : List InstrSeq) where
     keeps = j.keeps;
     written = w.written;
   }
+
+-- ---- what was written apart
+
+module _ (look : Look) (b : List InstrSeq) (t : Text) (start more old new : Output) where
+  wrote_from : IsSame old start → Wrote look b t start more → Wrote look b t old more
+  wrote_from same w =
+      let pairs : ℕ → Pairs = λ n. text_places look b n t in
+      record {
+        bytes = w.bytes ∙ ap (λ (z : List ℕ). z ++ text_bytes look b t) same.bytes;
+        places =
+            w.places ∙ ap (λ (n : ℕ). if start.keeps_places then start.places.items ++ pairs n else start.places.items) (ap length same.bytes)
+            ∙ ap (λ (z : Pairs). if start.keeps_places then z ++ pairs (length old.bytes.items) else z) same.places
+            ∙ ap (λ (k : Bool). if k then old.places.items ++ pairs (length old.bytes.items) else old.places.items) same.keeps;
+        keeps = w.keeps ∙ same.keeps;
+        written = w.written;
+      }
+
+  -- stands behind what was written
+  pub wrote_taken : (short : Bool) → MatchBool short (IsSame old start) (IsNothing old start) → MatchBool short (new ≡ more) (Joins more old new) → Wrote look b t start more → Wrote look b t old new
+  wrote_taken true same is w = let F : Output → Type 0 = λ z. Wrote look b t old z in subst F (sym is) (wrote_from same w)
+  wrote_taken false none j w = wrote_behind look b t start more old new none.bytes none.places none.keeps w j

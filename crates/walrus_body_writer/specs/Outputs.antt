@@ -1,5 +1,5 @@
 -- What is written behind what was written.
-use Rattle.std.specs.Prelude.{◌≡◌, ℕ, ◌+◌, take, List, [], ◌∷◌, ◌++◌, length, Option, Some, None, Result, Ok, Err, ◌⊎◌, if◌then◌else◌}
+use Rattle.std.specs.Prelude.{◌≡◌, ◌==◌, ◌&&◌, leb, ℕ, ◌+◌, Bool, MatchBool, take, List, [], ◌∷◌, ◌++◌, length, Option, Some, None, Result, Ok, Err, ◌⊎◌, if◌then◌else◌}
 use Rattle.walrus_body_text.specs.walrus_tree.walrus_walks.walrus_instr.declared.seq.InstrLocId.{InstrLocId}
 use Rattle.walrus_body_text.specs.walrus_tree.walrus_walks.walrus_instr.declared.seq.InstrSeq.{InstrSeq}
 use Rattle.wasm_operators.specs.Operators.{Seen}
@@ -60,6 +60,24 @@ pub record Joins (more old new : Output) : Type 0 where
   pub bytes : new.bytes.items ≡ old.bytes.items ++ more.bytes.items
   pub places : new.places.items ≡ old.places.items ++ moved (length old.bytes.items) more.places.items
   pub keeps : new.keeps_places ≡ old.keeps_places
+
+-- no places, and at most 64 bytes
+abbrev pub is_short : Output → Bool
+is_short out = (length out.places.items == 0) && leb (length out.bytes.items) 64
+
+-- nothing was written
+pub record IsNothing (old new : Output) : Type 0 where
+  pub bytes : new.bytes.items ≡ []
+  pub places : new.places.items ≡ []
+  pub keeps : new.keeps_places ≡ old.keeps_places
+
+-- where more is written apart: the same again if that is short, else nothing
+abbrev pub IsAside : Output → Output → Type 0
+IsAside old own = MatchBool (is_short old) (IsSame old own) (IsNothing old own)
+
+-- it was taken, or put behind
+abbrev pub IsTaken : Output → Output → Output → Type 0
+IsTaken own old new = MatchBool (is_short old) (new ≡ own) (Joins own old new)
 
 -- the text was written, each piece of it: its bytes stand behind what was there, and where places are kept, so do its places
 pub record Wrote (look : Look) (b : List InstrSeq) (t : Text) (old new : Output) : Type 0 where

@@ -287,15 +287,18 @@ pub fn emit_instructions(
 {
     let entry = body.func_body_id();
     let numbers = Numbers { maps, function };
-    let mut own = Output::new(alloc, out.keeps_places);
+    let mut own = match out.aside(alloc) {
+        Ok(own) => own,
+        Err(_) => return Err(BodyError::Memory),
+    };
     match write_tree(alloc, &numbers, body.seqs(), entry, &mut own) {
-        Ok(true) => match out.append(&own) {
+        Ok(true) => match out.take(own) {
             Ok(()) => Ok(()),
             Err(_) => Err(BodyError::Memory),
         },
         Ok(false) => Err(BodyError::NoTree),
         Err(error) => match check_tree(alloc, body, entry) {
-            Ok(true) => match out.append(&own) {
+            Ok(true) => match out.take(own) {
                 Ok(()) => Err(fault_of(error)),
                 Err(_) => Err(BodyError::Memory),
             },

@@ -1,8 +1,8 @@
 //! Where operators are written to.
 
-ghost use Rattle.std.specs.Prelude.{◌≡◌, ◌++◌, [], ◌∷◌, OnErr, OnOk, if◌then◌else◌, length, take};
+ghost use Rattle.std.specs.Prelude.{◌≡◌, ◌++◌, [], ◌∷◌, IfOk, OnErr, OnOk, if◌then◌else◌, length, take};
 ghost use Rattle.walrus_pairing.specs.walrus_operators.Operators.{seen};
-ghost use Rattle.walrus_body_writer.specs.Outputs.{IsCut, IsNoted, IsSame, Joins, Puts, moved};
+ghost use Rattle.walrus_body_writer.specs.Outputs.{IsAside, IsCut, IsNoted, IsSame, IsTaken, Joins, Puts, is_short, moved};
 
 use std::alloc::{AllocError, Global};
 use walrus_body_text::tree::instr::InstrLocId;
@@ -82,12 +82,8 @@ impl Output {
         Ok(())
     }
 
-    /// Puts what was written elsewhere behind what was written here.
-    ///
-    /// # Errors
-    ///
-    /// Want of memory. The bytes and places are as they were.
-    pub(crate) fn append(&mut self, more: &Output) -> Result<(), AllocError>
+    // Puts what was written elsewhere behind what was written here. Where memory is wanted the bytes and places are as they were.
+    fn append(&mut self, more: &Output) -> Result<(), AllocError>
         ensures joined { OnOk result (Joins more.now self.old self.new) }
         ensures unjoined { OnErr result (IsSame self.old self.new) }
     {
@@ -102,6 +98,44 @@ impl Output {
             return Err(refused);
         }
         Ok(())
+    }
+
+    // Whether no place and so few bytes were written, as of a body's locals, that to copy them takes no time.
+    fn is_short(&self) -> bool
+        ensures { result ≡ is_short self.now }
+    {
+        self.places.is_empty() && self.bytes.len() <= 64
+    }
+
+    /// Where more may be written apart: behind a copy of what was written if that is short, else behind nothing.
+    ///
+    /// # Errors
+    ///
+    /// Want of memory.
+    pub(crate) fn aside(&self, alloc: Global) -> Result<Self, AllocError>
+        ensures { IfOk result (λ own. IsAside self.now own) }
+    {
+        let mut own = Output::new(alloc, self.keeps_places);
+        if self.is_short() {
+            own.bytes.extend_from_slice(self.bytes.as_slice())?;
+        }
+        Ok(own)
+    }
+
+    /// Takes what was written apart, so that it stands behind what was written.
+    ///
+    /// # Errors
+    ///
+    /// Want of memory. The bytes and places are as they were.
+    pub(crate) fn take(&mut self, own: Output) -> Result<(), AllocError>
+        ensures taken { OnOk result (IsTaken own self.old self.new) }
+        ensures untaken { OnErr result (IsSame self.old self.new) }
+    {
+        if self.is_short() {
+            *self = own;
+            return Ok(());
+        }
+        self.append(&own)
     }
 
     /// Puts an operator behind what was written, in its shortest spelling.
