@@ -12,7 +12,7 @@ use std::alloc::AllocError;
 /// # Errors
 ///
 /// Want of memory. What was there stands at the front, here and below.
-#[inline]
+#[inline(always)]
 #[tactic(auto, using(crate::proofs::Keeps::keeps_all))]
 pub fn write_byte(out: &mut Vec<u8>, byte: u8) -> Result<(), AllocError>
     ensures { Appends (byte ∷ []) out.old.items out.new.items result }
@@ -26,7 +26,7 @@ pub fn write_byte(out: &mut Vec<u8>, byte: u8) -> Result<(), AllocError>
 /// # Errors
 ///
 /// Want of memory.
-#[inline]
+#[inline(always)]
 #[tactic(auto, using(crate::proofs::Keeps::keeps_all))]
 pub fn write_bytes(out: &mut Vec<u8>, bytes: &[u8]) -> Result<(), AllocError>
     ensures { Appends bytes.now out.old.items out.new.items result }
