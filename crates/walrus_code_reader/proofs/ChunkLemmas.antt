@@ -8,8 +8,8 @@ use Rattle.wasm_reader.specs.Cursor.{Cursor, rest, end_of, Forward, IsWithin}
 use Rattle.wasm_reader.specs.Reading.{bytes_at}
 use Rattle.wasm_reader.specs.Spellings.{ok_is}
 use Rattle.wasm_formats.specs.Stops.{Parsing, ◌>>=◌}
-use Rattle.wasm_sections.specs.Sections as grammar
-use Rattle.wasm_sections.specs.Sections.{ChunkEntry, chunk_entry, behind_chunk}
+use Rattle.walrus_known_sections.specs.wasm_sections.Sections as grammar
+use Rattle.walrus_known_sections.specs.wasm_sections.Sections.{ChunkEntry, chunk_entry, behind_chunk}
 use Rattle.walrus_section_reader.specs.declared.fault.Fault.{Fault}
 use Rattle.walrus_section_reader.specs.Parses.{ParsesExactly, Parses}
 use Rattle.walrus_section_reader.specs.Repeats.{joined, fails_as, fails_then}

@@ -4,7 +4,7 @@ use Rattle.std.specs.Global.{Vec}
 use Rattle.wasm_reader.specs.Cursor.{Cursor}
 use Rattle.wasm_formats.specs.Stops.{Parsing}
 use Rattle.wasm_formats.specs.Lists.{parse_entries}
-use Rattle.wasm_sections.specs.Sections.{ChunkEntry, CodeEntry, chunk_entry, behind_chunk}
+use Rattle.walrus_known_sections.specs.wasm_sections.Sections.{ChunkEntry, CodeEntry, chunk_entry, behind_chunk}
 use Rattle.walrus_known_sections.specs.declared.items.Chunk.{Chunk}
 use Rattle.walrus_code_reader.specs.declared.code.Code.{Code}
 

@@ -4,7 +4,7 @@ ghost use Rattle.std.specs.Prelude.{◌≡◌, ◌+◌, ◌-◌, ◌≤◌, IfOk
 ghost use Rattle.wasm_reader.specs.Cursor.{IsWithin};
 ghost use Rattle.wasm_reader.specs.Reading.{plain};
 ghost use Rattle.wasm_formats.specs.Joined.{ends_at};
-ghost use Rattle.wasm_sections.specs.Sections.{behind_chunk, body_size, chunk_entry};
+ghost use Rattle.walrus_known_sections.specs.wasm_sections.Sections.{behind_chunk, body_size, chunk_entry};
 ghost use Rattle.walrus_section_reader.specs.Parses.{Parses, ParsesExactly};
 ghost use Rattle.walrus_code_reader.specs.Code.{chunk_entry_of, chunks_at, chunks_of, code_place, ends_behind, place_behind};
 

@@ -5,7 +5,7 @@ ghost use Rattle.wasm_reader.specs.Cursor.{end_of, rest};
 ghost use Rattle.wasm_reader.specs.Reading.{plain};
 ghost use Rattle.wasm_formats.specs.Joined.{ends_at};
 ghost use Rattle.wasm_formats.specs.Wholes.{sized, whole};
-ghost use Rattle.wasm_sections.specs.Sections.{code, code_size, function_count, own_functions, set_bodies};
+ghost use Rattle.walrus_known_sections.specs.wasm_sections.Sections.{code, code_size, function_count, own_functions, set_bodies};
 ghost use Rattle.walrus_section_reader.specs.Parses.{Parses, ParsesExactly, ParsesWhole};
 ghost use Rattle.walrus_known_sections.specs.State.{state_of};
 ghost use Rattle.walrus_code_reader.specs.Code.{code_entry_of, code_place};

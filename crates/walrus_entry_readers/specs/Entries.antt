@@ -3,8 +3,8 @@ use Rattle.std.specs.Prelude.{ℕ, Option, Some, None}
 use Rattle.std.proofs.Common.{inl, inr}
 use Rattle.std.specs.Global.{Vec}
 use Rattle.walrus_operators.specs.declared.operator.Operator.{Operator}
-use Rattle.wasm_grammar.specs.Modules.{Expr}
-use Rattle.wasm_sections.specs.Entities as grammar
+use Rattle.walrus_known_sections.specs.wasm_sections.wasm_grammar.Modules.{Expr}
+use Rattle.walrus_known_sections.specs.wasm_sections.Entities as grammar
 use Rattle.walrus_section_values.specs.Globals.{expr_of}
 use Rattle.walrus_known_sections.specs.Items.{table_type_of, global_type_of}
 use Rattle.walrus_known_sections.specs.declared.items.TableType.{TableType}

@@ -5,12 +5,12 @@ use Rattle.std.specs.Borrow.{Bor}
 use Rattle.std.proofs.Common.{ap, sym, ◌∙◌, subst, arith, length-drop}
 use Rattle.wasm_features.specs.declared.WasmFeatures.{WasmFeatures}
 use Rattle.wasm_reader.specs.Cursor.{Window, Cursor, rest, end_of, IsWithin, shrunk}
-use Rattle.wasm_formats.specs.Stops.{Stop, stop, Parsing, ◌>>=◌}
-use Rattle.wasm_formats.specs.Formats.{Format, refused}
-use Rattle.wasm_formats.specs.Joined.{after, tested}
-use Rattle.wasm_grammar.specs.Values.{name, byte_below}
-use Rattle.wasm_grammar.specs.States.{State}
-use Rattle.wasm_sections.specs.Entities.{Entity, ImportEntry, import_by, entity, entity_read, import_test, import_entry}
+use Rattle.walrus_known_sections.specs.wasm_sections.wasm_grammar.wasm_formats.Stops.{Stop, stop, Parsing, ◌>>=◌}
+use Rattle.walrus_known_sections.specs.wasm_sections.wasm_grammar.wasm_formats.Formats.{Format, refused}
+use Rattle.walrus_known_sections.specs.wasm_sections.wasm_grammar.wasm_formats.Joined.{after, tested}
+use Rattle.walrus_known_sections.specs.wasm_sections.wasm_grammar.Values.{name, byte_below}
+use Rattle.walrus_known_sections.specs.wasm_sections.wasm_grammar.States.{State}
+use Rattle.walrus_known_sections.specs.wasm_sections.Entities.{Entity, ImportEntry, import_by, entity, entity_read, import_test, import_entry}
 use Rattle.walrus_section_reader.specs.declared.fault.Fault.{Fault}
 use Rattle.walrus_section_reader.specs.declared.fault.FaultKind.{FaultKind}
 use Rattle.walrus_section_reader.specs.Faults.{trouble_of, fault_of}

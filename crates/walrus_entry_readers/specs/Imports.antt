@@ -1,14 +1,14 @@
 -- Imports as they are read, in words of the grammar.
 use Rattle.std.specs.Prelude.{ℕ, nat_lt, List, length, Option}
-use Rattle.wasm_formats.specs.declared.fault.Limited.TheVariants as limits
-use Rattle.wasm_formats.specs.Stops.{Trouble, Limit}
-use Rattle.wasm_formats.specs.Formats.{Format}
-use Rattle.wasm_formats.specs.Joined.{after}
-use Rattle.wasm_grammar.specs.Values.{must, first_of, name, byte_below}
-use Rattle.wasm_grammar.specs.States.{State, room_test}
+use Rattle.walrus_known_sections.specs.wasm_sections.wasm_grammar.wasm_formats.declared.fault.Limited.TheVariants as limits
+use Rattle.walrus_known_sections.specs.wasm_sections.wasm_grammar.wasm_formats.Stops.{Trouble, Limit}
+use Rattle.walrus_known_sections.specs.wasm_sections.wasm_grammar.wasm_formats.Formats.{Format}
+use Rattle.walrus_known_sections.specs.wasm_sections.wasm_grammar.wasm_formats.Joined.{after}
+use Rattle.walrus_known_sections.specs.wasm_sections.wasm_grammar.Values.{must, first_of, name, byte_below}
+use Rattle.walrus_known_sections.specs.wasm_sections.wasm_grammar.States.{State, room_test}
 use Rattle.std.specs.Borrow.{Bor}
-use Rattle.wasm_sections.specs.Entities as grammar
-use Rattle.wasm_sections.specs.Entities.{import_by}
+use Rattle.walrus_known_sections.specs.wasm_sections.Entities as grammar
+use Rattle.walrus_known_sections.specs.wasm_sections.Entities.{import_by}
 use Rattle.walrus_section_values.specs.Limits.{memory_type_of}
 use Rattle.walrus_known_sections.specs.Items.{table_type_of, global_type_of}
 use Rattle.walrus_entry_readers.specs.Entries.{tag_type_of}

@@ -3,8 +3,8 @@ use Rattle.std.specs.Prelude.{◌≡◌, Bool, Result}
 use Rattle.std.proofs.Common.{subst}
 use Rattle.wasm_features.specs.declared.WasmFeatures.{WasmFeatures}
 use Rattle.wasm_reader.specs.Cursor.{Cursor}
-use Rattle.wasm_grammar.specs.Modules.{Expr}
-use Rattle.wasm_grammar.specs.Exprs.{Known, expr, offset}
+use Rattle.walrus_known_sections.specs.wasm_sections.wasm_grammar.Modules.{Expr}
+use Rattle.walrus_known_sections.specs.wasm_sections.wasm_grammar.Exprs.{Known, expr, offset}
 use Rattle.walrus_section_reader.specs.declared.fault.Fault.{Fault}
 use Rattle.walrus_section_reader.specs.Parses.{Parses}
 

@@ -9,4 +9,6 @@ pub mod Known
 pub mod Imports
 pub mod ImportLemmas
 -- Passed on to crates above, which then list this one alone.
+pub use Rattle.walrus_operators.specs as walrus_operators
+pub use Rattle.walrus_section_values.specs as walrus_section_values
 pub use Rattle.walrus_known_sections.specs as walrus_known_sections

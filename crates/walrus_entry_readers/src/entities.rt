@@ -1,12 +1,12 @@
 //! Functions, tables, memories, tags and globals.
 
 ghost use Rattle.std.specs.Prelude.{◌≡◌, OnOk};
-ghost use Rattle.wasm_formats.specs.Led.{led};
-ghost use Rattle.wasm_formats.specs.Joined.{after};
+ghost use Rattle.walrus_known_sections.specs.wasm_sections.wasm_grammar.wasm_formats.Led.{led};
+ghost use Rattle.walrus_known_sections.specs.wasm_sections.wasm_grammar.wasm_formats.Joined.{after};
 ghost use Rattle.wasm_reader.specs.Reading.{plain};
-ghost use Rattle.wasm_grammar.specs.States.{function_type, known};
-ghost use Rattle.wasm_grammar.specs.Exprs.{expr, offset};
-ghost use Rattle.wasm_sections.specs.Entities.{add_function, function_entry, add_global, add_memory, add_table, add_tag, global_entry, global_type, initialised, memory_entry, mutability, table_apart, table_entry, table_some, table_type, table_wants, tag_entry, tag_type};
+ghost use Rattle.walrus_known_sections.specs.wasm_sections.wasm_grammar.States.{function_type, known};
+ghost use Rattle.walrus_known_sections.specs.wasm_sections.wasm_grammar.Exprs.{expr, offset};
+ghost use Rattle.walrus_known_sections.specs.wasm_sections.Entities.{add_function, function_entry, add_global, add_memory, add_table, add_tag, global_entry, global_type, initialised, memory_entry, mutability, table_apart, table_entry, table_some, table_type, table_wants, tag_entry, tag_type};
 ghost use Rattle.walrus_section_reader.specs.Parses.{Parses, ParsesExactly};
 ghost use Rattle.walrus_section_values.specs.Globals.{expr_of};
 ghost use Rattle.walrus_section_values.specs.Limits.{memory_type_of};

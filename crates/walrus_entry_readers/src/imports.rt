@@ -1,14 +1,14 @@
 //! The import section (Core Specification, binary format: import section).
 
 ghost use Rattle.std.specs.Prelude.{◌≡◌, length, OnOk, option_map, Some, None};
-ghost use Rattle.wasm_formats.specs.Joined.{after};
-ghost use Rattle.wasm_formats.specs.Bytes.{literal};
-ghost use Rattle.wasm_formats.specs.Stops.{Read};
-ghost use Rattle.wasm_formats.specs.Wholes.{u32};
+ghost use Rattle.walrus_known_sections.specs.wasm_sections.wasm_grammar.wasm_formats.Joined.{after};
+ghost use Rattle.walrus_known_sections.specs.wasm_sections.wasm_grammar.wasm_formats.Bytes.{literal};
+ghost use Rattle.walrus_known_sections.specs.wasm_sections.wasm_grammar.wasm_formats.Stops.{Read};
+ghost use Rattle.walrus_known_sections.specs.wasm_sections.wasm_grammar.wasm_formats.Wholes.{u32};
 ghost use Rattle.wasm_reader.specs.declared.error.ErrorKind.TheVariants as kinds;
-ghost use Rattle.wasm_grammar.specs.States.{has_room, limited, type_count};
-ghost use Rattle.wasm_grammar.specs.Values.{byte_below, limits, ref_type, value_type};
-ghost use Rattle.wasm_sections.specs.Entities.{add_entity, add_import, entity, entity_read, import_entry, import_of, next_number, space_of, with_import};
+ghost use Rattle.walrus_known_sections.specs.wasm_sections.wasm_grammar.States.{has_room, limited, type_count};
+ghost use Rattle.walrus_known_sections.specs.wasm_sections.wasm_grammar.Values.{byte_below, limits, ref_type, value_type};
+ghost use Rattle.walrus_known_sections.specs.wasm_sections.Entities.{add_entity, add_import, entity, entity_read, import_entry, import_of, next_number, space_of, with_import};
 ghost use Rattle.walrus_section_reader.specs.Faults.{trouble_of};
 ghost use Rattle.walrus_section_reader.specs.Parses.{ParsesExactly};
 ghost use Rattle.walrus_entry_readers.specs.Entries.{tag_type_of};
@@ -275,7 +275,7 @@ pub struct Imports;
 impl<'a> Entry<'a> for Imports {
     type Value = ImportEntry<'a>;
 
-    ghost use Rattle.wasm_sections.specs.Entities as grammar;
+    ghost use Rattle.walrus_known_sections.specs.wasm_sections.Entities as grammar;
     ghost use Rattle.walrus_entry_readers.specs.Imports.{import_entry_of};
 
     ghost Seen = { grammar.ImportEntry };

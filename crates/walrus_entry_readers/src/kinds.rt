@@ -19,7 +19,7 @@ impl<'a> Entry<'a> for Functions {
     type Value = u32;
 
     ghost use Rattle.std.specs.Prelude.{ℕ};
-    ghost use Rattle.wasm_sections.specs.Entities.{function_entry, add_function};
+    ghost use Rattle.walrus_known_sections.specs.wasm_sections.Entities.{function_entry, add_function};
 
     ghost Seen = { ℕ };
 
@@ -48,8 +48,8 @@ pub struct Tables;
 impl<'a> Entry<'a> for Tables {
     type Value = TableEntry;
 
-    ghost use Rattle.wasm_sections.specs.Entities.{table_entry, add_table};
-    ghost use Rattle.wasm_sections.specs.Entities as grammar;
+    ghost use Rattle.walrus_known_sections.specs.wasm_sections.Entities.{table_entry, add_table};
+    ghost use Rattle.walrus_known_sections.specs.wasm_sections.Entities as grammar;
     ghost use Rattle.walrus_entry_readers.specs.Entries.{table_entry_of};
 
     ghost Seen = { grammar.TableEntry };
@@ -79,8 +79,8 @@ pub struct Memories;
 impl<'a> Entry<'a> for Memories {
     type Value = MemoryType;
 
-    ghost use Rattle.wasm_sections.specs.Entities.{memory_entry, add_memory};
-    ghost use Rattle.wasm_sections.specs.Entities as grammar;
+    ghost use Rattle.walrus_known_sections.specs.wasm_sections.Entities.{memory_entry, add_memory};
+    ghost use Rattle.walrus_known_sections.specs.wasm_sections.Entities as grammar;
     ghost use Rattle.walrus_section_values.specs.Limits.{memory_type_of};
 
     ghost Seen = { grammar.MemoryType };
@@ -110,8 +110,8 @@ pub struct Tags;
 impl<'a> Entry<'a> for Tags {
     type Value = u32;
 
-    ghost use Rattle.wasm_sections.specs.Entities.{tag_entry, add_tag};
-    ghost use Rattle.wasm_sections.specs.Entities as grammar;
+    ghost use Rattle.walrus_known_sections.specs.wasm_sections.Entities.{tag_entry, add_tag};
+    ghost use Rattle.walrus_known_sections.specs.wasm_sections.Entities as grammar;
     ghost use Rattle.walrus_entry_readers.specs.Entries.{tag_type_of};
 
     ghost Seen = { grammar.TagType };
@@ -141,8 +141,8 @@ pub struct Globals;
 impl<'a> Entry<'a> for Globals {
     type Value = GlobalEntry;
 
-    ghost use Rattle.wasm_sections.specs.Entities.{global_entry, add_global};
-    ghost use Rattle.wasm_sections.specs.Entities as grammar;
+    ghost use Rattle.walrus_known_sections.specs.wasm_sections.Entities.{global_entry, add_global};
+    ghost use Rattle.walrus_known_sections.specs.wasm_sections.Entities as grammar;
     ghost use Rattle.walrus_entry_readers.specs.Entries.{global_entry_of};
 
     ghost Seen = { grammar.GlobalEntry };

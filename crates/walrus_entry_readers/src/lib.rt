@@ -13,3 +13,20 @@ pub use walrus_known_sections::{
     Chunk, Custom, Data, Each, Element, ElementItems, Entry, Export, Function, GlobalType, Import,
     KnownTypes, Memory, Mode, Sections, Table, TableType, Tag, in_room,
 };
+
+// Passed on to crates above, which then list this one alone.
+pub mod formats {
+    pub use walrus_section_values::section_reader::{Limited, Space};
+}
+
+pub mod operators {
+    pub use walrus_operators::Operator;
+}
+
+pub mod section_reader {
+    pub use walrus_section_values::section_reader::{Fault, FaultKind, Result};
+}
+
+pub mod section_values {
+    pub use walrus_section_values::{read_index, read_name, read_ref_type, read_u32, read_zero};
+}

@@ -13,15 +13,15 @@ use Rattle.std.proofs.lemmas.Map.Text.{is_eq-slice_cmp}
 use Rattle.std.proofs.lemmas.Slice.Eq.{bytes_eq-Decides}
 use Rattle.wasm_reader.specs.Cursor.{Cursor, rest, end_of, Forward}
 use Rattle.wasm_formats.specs.Stops.{DuplicateExport, Stop, stop, Parsing, ◌>>=◌}
-use Rattle.wasm_grammar.specs.Modules as grammar
-use Rattle.wasm_grammar.specs.States.{State}
-use Rattle.wasm_sections.specs.Exports.{ExportEntry, same_name, has_name, kind_space, export_entry, add_export}
-use Rattle.walrus_section_reader.specs.declared.fault.Fault.{Fault}
-use Rattle.walrus_section_reader.specs.declared.fault.FaultKind.TheVariants as faults
-use Rattle.walrus_section_reader.specs.Faults.{fault_of}
-use Rattle.walrus_section_reader.specs.Parses.{Parses}
-use Rattle.walrus_section_reader.specs.Repeats.{joined, same_end, fails_at, fails_as}
-use Rattle.walrus_section_reader.specs.Steps.{put_in, entries_by}
+use Rattle.walrus_known_sections.specs.wasm_sections.wasm_grammar.Modules as grammar
+use Rattle.walrus_known_sections.specs.wasm_sections.wasm_grammar.States.{State}
+use Rattle.walrus_known_sections.specs.wasm_sections.Exports.{ExportEntry, same_name, has_name, kind_space, export_entry, add_export}
+use Rattle.walrus_section_values.specs.walrus_section_reader.declared.fault.Fault.{Fault}
+use Rattle.walrus_section_values.specs.walrus_section_reader.declared.fault.FaultKind.TheVariants as faults
+use Rattle.walrus_section_values.specs.walrus_section_reader.Faults.{fault_of}
+use Rattle.walrus_section_values.specs.walrus_section_reader.Parses.{Parses}
+use Rattle.walrus_section_values.specs.walrus_section_reader.Repeats.{joined, same_end, fails_at, fails_as}
+use Rattle.walrus_section_values.specs.walrus_section_reader.Steps.{put_in, entries_by}
 use Rattle.walrus_known_sections.specs.declared.items.Export.{Export}
 use Rattle.walrus_known_sections.specs.declared.sections.Sections.{Sections}
 use Rattle.walrus_known_sections.specs.Items.{export_of}

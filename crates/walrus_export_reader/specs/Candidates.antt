@@ -5,12 +5,12 @@ use Rattle.std.specs.List.{list_any}
 use Rattle.wasm_formats.specs.declared.fault.Limited.TheVariants as limits
 use Rattle.wasm_reader.specs.Cursor.{Cursor, rest, end_of, Forward}
 use Rattle.wasm_formats.specs.Stops.{DuplicateExport, stop, Parsing}
-use Rattle.wasm_grammar.specs.States.{State, count_of}
-use Rattle.wasm_sections.specs.Exports.{ExportEntry, has_name, kind_space, export_entry}
-use Rattle.walrus_section_reader.specs.declared.fault.Fault.{Fault}
-use Rattle.walrus_section_reader.specs.declared.fault.FaultKind.TheVariants as faults
-use Rattle.walrus_section_reader.specs.Faults.{fault_of}
-use Rattle.walrus_section_reader.specs.Parses.{stop_of}
+use Rattle.walrus_known_sections.specs.wasm_sections.wasm_grammar.States.{State, count_of}
+use Rattle.walrus_known_sections.specs.wasm_sections.Exports.{ExportEntry, has_name, kind_space, export_entry}
+use Rattle.walrus_section_values.specs.walrus_section_reader.declared.fault.Fault.{Fault}
+use Rattle.walrus_section_values.specs.walrus_section_reader.declared.fault.FaultKind.TheVariants as faults
+use Rattle.walrus_section_values.specs.walrus_section_reader.Faults.{fault_of}
+use Rattle.walrus_section_values.specs.walrus_section_reader.Parses.{stop_of}
 use Rattle.walrus_export_reader.specs.declared.candidates.Candidate.{Candidate}
 
 abbrev pub front_of : Bor (List ℕ) × ℕ → List ℕ × ℕ

@@ -3,11 +3,11 @@ use Rattle.std.specs.Prelude.{ℕ, suc, ◌+◌, ◌-◌, ◌≤◌, ◌≡◌, 
 use Rattle.std.specs.List.{list_any}
 use Rattle.wasm_reader.specs.Cursor.{Cursor, rest, end_of, Forward}
 use Rattle.wasm_formats.specs.Stops.{DuplicateExport, stop, Parsing}
-use Rattle.wasm_grammar.specs.States.{State}
-use Rattle.wasm_sections.specs.Exports.{same_name, export_entry, add_export}
-use Rattle.walrus_section_reader.specs.declared.fault.Fault.{Fault}
-use Rattle.walrus_section_reader.specs.Parses.{stop_of, FailsAs}
-use Rattle.walrus_section_reader.specs.Steps.{step_of, entries_by}
+use Rattle.walrus_known_sections.specs.wasm_sections.wasm_grammar.States.{State}
+use Rattle.walrus_known_sections.specs.wasm_sections.Exports.{same_name, export_entry, add_export}
+use Rattle.walrus_section_values.specs.walrus_section_reader.declared.fault.Fault.{Fault}
+use Rattle.walrus_section_values.specs.walrus_section_reader.Parses.{stop_of, FailsAs}
+use Rattle.walrus_section_values.specs.walrus_section_reader.Steps.{step_of, entries_by}
 use Rattle.walrus_known_sections.specs.declared.sections.Sections.{Sections}
 use Rattle.walrus_known_sections.specs.State.{state_of}
 use Rattle.walrus_export_reader.specs.Repeats.{names_of, name_at}

@@ -2,16 +2,16 @@
 
 ghost use Rattle.std.specs.Prelude.{◌≡◌, OnOk};
 ghost use Rattle.wasm_formats.specs.Joined.{after};
-ghost use Rattle.wasm_grammar.specs.States.{count_of};
-ghost use Rattle.wasm_grammar.specs.Values.{byte_below, name};
-ghost use Rattle.wasm_sections.specs.Exports.{add_export, kind_space};
-ghost use Rattle.walrus_section_reader.specs.Parses.{ParsesExactly};
+ghost use Rattle.walrus_known_sections.specs.wasm_sections.wasm_grammar.States.{count_of};
+ghost use Rattle.walrus_known_sections.specs.wasm_sections.wasm_grammar.Values.{byte_below, name};
+ghost use Rattle.walrus_known_sections.specs.wasm_sections.Exports.{add_export, kind_space};
+ghost use Rattle.walrus_section_values.specs.walrus_section_reader.Parses.{ParsesExactly};
 ghost use Rattle.walrus_known_sections.specs.State.{state_of};
 ghost use Rattle.walrus_export_reader.specs.Candidates.{IsTested, ReadsCandidate, entry_of, front_of};
 
 use std::alloc::AllocError;
 use walrus_known_sections::{Export, Sections};
-use walrus_section_reader::{Fault, FaultKind, Limited, Result, Space};
+use walrus_section_values::section_reader::{Fault, FaultKind, Limited, Result, Space};
 use walrus_section_values::{read_below, read_name, read_u32};
 use wasm_reader::BinaryReader;
 use wasm_reader::limits::MAX_WASM_EXPORTS;

@@ -2,9 +2,9 @@
 
 ghost use Rattle.std.specs.Prelude.{◌≡◌, ◌+◌, ◌≤◌, ℕ, All, IfErr, IfOk, [], length};
 ghost use Rattle.wasm_reader.specs.Cursor.{Forward};
-ghost use Rattle.wasm_sections.specs.Exports.{add_export, export_entry};
-ghost use Rattle.walrus_section_reader.specs.Parses.{Parses};
-ghost use Rattle.walrus_section_reader.specs.Steps.{entries_by, vec_by};
+ghost use Rattle.walrus_known_sections.specs.wasm_sections.Exports.{add_export, export_entry};
+ghost use Rattle.walrus_section_values.specs.walrus_section_reader.Parses.{Parses};
+ghost use Rattle.walrus_section_values.specs.walrus_section_reader.Steps.{entries_by, vec_by};
 ghost use Rattle.walrus_known_sections.specs.State.{state_of};
 ghost use Rattle.walrus_export_reader.specs.Repeats.{names_of};
 ghost use Rattle.walrus_export_reader.specs.Verdicts.{Checks, ReadsCandidates, ended_by, export_step};
@@ -13,7 +13,7 @@ use crate::candidates::{add_candidate, read_candidate};
 use crate::repeats::first_repeat;
 use std::alloc::{AllocError, Global as Alloc};
 use walrus_known_sections::Sections;
-use walrus_section_reader::{Entries, Fault, FaultKind, Result};
+use walrus_section_values::section_reader::{Entries, Fault, FaultKind, Result};
 use wasm_reader::BinaryReader;
 
 // So many exports and their places, up to the first that is refused whether or not its name is new.
@@ -102,8 +102,8 @@ pub struct Exports;
 impl<'a> Entries<'a> for Exports {
     type Into = Sections<'a>;
 
-    ghost use Rattle.wasm_grammar.specs.States.{State};
-    ghost use Rattle.walrus_section_reader.specs.Steps.{vec_by};
+    ghost use Rattle.walrus_known_sections.specs.wasm_sections.wasm_grammar.States.{State};
+    ghost use Rattle.walrus_section_values.specs.walrus_section_reader.Steps.{vec_by};
     ghost use Rattle.walrus_known_sections.specs.State.{state_of};
     ghost use Rattle.walrus_export_reader.specs.Verdicts.{export_step};
 

@@ -3,11 +3,11 @@ use Rattle.std.specs.Prelude.{ℕ, Result, Ok}
 use Rattle.std.proofs.Common.{subst}
 use Rattle.wasm_reader.specs.Cursor.{Window, Cursor}
 use Rattle.wasm_reader.specs.Reading.{plain}
-use Rattle.wasm_formats.specs.Joined.{checked}
-use Rattle.wasm_formats.specs.Wholes.{u32}
-use Rattle.wasm_grammar.specs.States.{State}
-use Rattle.wasm_sections.specs.Sections.{data_test}
-use Rattle.wasm_sections.specs.Segments.{data_entry, add_data}
+use Rattle.walrus_section_frames.specs.walrus_known_sections.wasm_sections.wasm_grammar.wasm_formats.Joined.{checked}
+use Rattle.walrus_section_frames.specs.walrus_known_sections.wasm_sections.wasm_grammar.wasm_formats.Wholes.{u32}
+use Rattle.walrus_section_frames.specs.walrus_known_sections.wasm_sections.wasm_grammar.States.{State}
+use Rattle.walrus_section_frames.specs.walrus_known_sections.wasm_sections.Sections.{data_test}
+use Rattle.walrus_section_frames.specs.walrus_known_sections.wasm_sections.Segments.{data_entry, add_data}
 use Rattle.walrus_section_reader.specs.declared.fault.Fault.{Fault}
 use Rattle.walrus_section_reader.specs.Parses.{ParsesExactly, Parses}
 use Rattle.walrus_section_reader.specs.Repeats.{then_parses, unless_memory}

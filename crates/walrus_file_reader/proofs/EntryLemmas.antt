@@ -4,12 +4,12 @@ use Rattle.std.proofs.Common.{ap, sym, ◌∙◌, subst, arith, length-drop, inl
 use Rattle.wasm_features.specs.declared.WasmFeatures.{WasmFeatures}
 use Rattle.wasm_reader.specs.Cursor.{Cursor, Window, rest, end_of, Forward}
 use Rattle.wasm_reader.specs.Reading.{plain}
-use Rattle.wasm_formats.specs.Stops.{Trouble, Stop, Parsing, ◌>>=◌}
-use Rattle.wasm_formats.specs.Formats.{Format, Inside, done_is, done_refused}
-use Rattle.wasm_formats.specs.Bytes.{byte}
-use Rattle.wasm_formats.specs.Joined.{checked, tested_ok}
-use Rattle.wasm_grammar.specs.States.{State}
-use Rattle.wasm_sections.specs.Sections.{Section, order_test, section, put, ends_with}
+use Rattle.walrus_section_frames.specs.walrus_known_sections.wasm_sections.wasm_grammar.wasm_formats.Stops.{Trouble, Stop, Parsing, ◌>>=◌}
+use Rattle.walrus_section_frames.specs.walrus_known_sections.wasm_sections.wasm_grammar.wasm_formats.Formats.{Format, Inside, done_is, done_refused}
+use Rattle.walrus_section_frames.specs.walrus_known_sections.wasm_sections.wasm_grammar.wasm_formats.Bytes.{byte}
+use Rattle.walrus_section_frames.specs.walrus_known_sections.wasm_sections.wasm_grammar.wasm_formats.Joined.{checked, tested_ok}
+use Rattle.walrus_section_frames.specs.walrus_known_sections.wasm_sections.wasm_grammar.States.{State}
+use Rattle.walrus_section_frames.specs.walrus_known_sections.wasm_sections.Sections.{Section, order_test, section, put, ends_with}
 use Rattle.walrus_section_reader.specs.declared.fault.Fault.{Fault}
 use Rattle.walrus_section_reader.specs.Parses.{stop_of, ParsesExactly, FailsAs, Parses}
 use Rattle.walrus_section_reader.specs.Repeats.{joined, same_end, fails_as, fails_then}

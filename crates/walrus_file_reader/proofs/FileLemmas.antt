@@ -6,15 +6,15 @@ use Rattle.std.proofs.lemmas.List.{length-append}
 use Rattle.wasm_features.specs.declared.WasmFeatures.{WasmFeatures}
 use Rattle.wasm_reader.specs.Cursor.{Cursor, Window, rest, end_of}
 use Rattle.wasm_reader.specs.Reading.{plain}
-use Rattle.wasm_formats.specs.Stops.{Count, Header, Stop, stop, Parsing, ◌>>=◌}
-use Rattle.wasm_formats.specs.Formats.{Small, done_is, done_refused, step_ok, step_err}
-use Rattle.wasm_formats.specs.Files.{parse_all, ended_at}
-use Rattle.wasm_file_formats.specs.Headers.{behind, behind_is, parted_ok}
-use Rattle.wasm_grammar.specs.States.{State, nothing_yet}
-use Rattle.wasm_sections.specs.Laws.{ReadsSections, StopsSections}
-use Rattle.wasm_sections.specs.Modules.{magic, header, has_bodies, has_data, FileEntry, file}
-use Rattle.wasm_sections.specs.Modules as grammar
-use Rattle.wasm_sections.specs.Sections.{SectionEntry, section_entry, section_takes, next}
+use Rattle.walrus_section_frames.specs.walrus_known_sections.wasm_sections.wasm_grammar.wasm_formats.Stops.{Count, Header, Stop, stop, Parsing, ◌>>=◌}
+use Rattle.walrus_section_frames.specs.walrus_known_sections.wasm_sections.wasm_grammar.wasm_formats.Formats.{Small, done_is, done_refused, step_ok, step_err}
+use Rattle.walrus_section_frames.specs.walrus_known_sections.wasm_sections.wasm_grammar.wasm_formats.Files.{parse_all, ended_at}
+use Rattle.walrus_section_frames.specs.walrus_known_sections.wasm_sections.wasm_file_formats.Headers.{behind, behind_is, parted_ok}
+use Rattle.walrus_section_frames.specs.walrus_known_sections.wasm_sections.wasm_grammar.States.{State, nothing_yet}
+use Rattle.walrus_section_frames.specs.walrus_known_sections.wasm_sections.Laws.{ReadsSections, StopsSections}
+use Rattle.walrus_section_frames.specs.walrus_known_sections.wasm_sections.Modules.{magic, header, has_bodies, has_data, FileEntry, file}
+use Rattle.walrus_section_frames.specs.walrus_known_sections.wasm_sections.Modules as grammar
+use Rattle.walrus_section_frames.specs.walrus_known_sections.wasm_sections.Sections.{SectionEntry, section_entry, section_takes, next}
 use Rattle.walrus_section_reader.specs.declared.fault.Fault.{Fault}
 use Rattle.walrus_section_reader.specs.declared.fault.FaultKind.TheVariants as faults
 use Rattle.walrus_section_reader.specs.Faults.{fault_of, error_of, IsMemory}

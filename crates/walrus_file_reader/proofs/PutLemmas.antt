@@ -3,18 +3,18 @@ use Rattle.std.specs.Prelude.{ℕ, ◌-◌, ◌≡◌, List, length, fold, Resul
 use Rattle.std.proofs.Common.{ap, sym, ◌∙◌, subst}
 use Rattle.wasm_reader.specs.Cursor.{Cursor}
 use Rattle.wasm_features.specs.declared.WasmFeatures.{WasmFeatures}
-use Rattle.wasm_formats.specs.Stops.{Stop, Parsing, ◌>>=◌}
-use Rattle.wasm_formats.specs.Formats.{Format}
-use Rattle.wasm_formats.specs.Joined.{built, checked}
-use Rattle.wasm_formats.specs.Lists.{vec, parse_entries}
-use Rattle.wasm_formats.specs.Wholes.{u32, whole, sized}
-use Rattle.wasm_file_formats.specs.Counted.{counted}
-use Rattle.wasm_grammar.specs.States.{State}
-use Rattle.wasm_sections.specs.TypeSection.{GroupEntry, group, add_group, type_group}
-use Rattle.wasm_sections.specs.Entities.{import_entry, add_import, function_entry, add_function, table_entry, add_table, memory_entry, add_memory, tag_entry, add_tag, global_entry, add_global}
-use Rattle.wasm_sections.specs.Exports.{export_entry, add_export, start_function, set_start}
-use Rattle.wasm_sections.specs.Segments.{element_entry, add_element, data_entry, add_data}
-use Rattle.wasm_sections.specs.Sections.{Section, CustomSection, TypeSection, ImportSection, FunctionSection, TableSection, MemorySection, TagSection, GlobalSection, ExportSection, StartSection, ElementSection, DataCountSection, CodeSection, DataSection, custom_once, types_once, imports_once, functions_once, tables_once, memories_once, tags_once, globals_once, exports_once, start_once, elements_once, count_once, code_once, data_once, list_of, custom, add_custom, code, set_bodies, set_count, data_test, put}
+use Rattle.walrus_section_frames.specs.walrus_known_sections.wasm_sections.wasm_grammar.wasm_formats.Stops.{Stop, Parsing, ◌>>=◌}
+use Rattle.walrus_section_frames.specs.walrus_known_sections.wasm_sections.wasm_grammar.wasm_formats.Formats.{Format}
+use Rattle.walrus_section_frames.specs.walrus_known_sections.wasm_sections.wasm_grammar.wasm_formats.Joined.{built, checked}
+use Rattle.walrus_section_frames.specs.walrus_known_sections.wasm_sections.wasm_grammar.wasm_formats.Lists.{vec, parse_entries}
+use Rattle.walrus_section_frames.specs.walrus_known_sections.wasm_sections.wasm_grammar.wasm_formats.Wholes.{u32, whole, sized}
+use Rattle.walrus_section_frames.specs.walrus_known_sections.wasm_sections.wasm_file_formats.Counted.{counted}
+use Rattle.walrus_section_frames.specs.walrus_known_sections.wasm_sections.wasm_grammar.States.{State}
+use Rattle.walrus_section_frames.specs.walrus_known_sections.wasm_sections.TypeSection.{GroupEntry, group, add_group, type_group}
+use Rattle.walrus_section_frames.specs.walrus_known_sections.wasm_sections.Entities.{import_entry, add_import, function_entry, add_function, table_entry, add_table, memory_entry, add_memory, tag_entry, add_tag, global_entry, add_global}
+use Rattle.walrus_section_frames.specs.walrus_known_sections.wasm_sections.Exports.{export_entry, add_export, start_function, set_start}
+use Rattle.walrus_section_frames.specs.walrus_known_sections.wasm_sections.Segments.{element_entry, add_element, data_entry, add_data}
+use Rattle.walrus_section_frames.specs.walrus_known_sections.wasm_sections.Sections.{Section, CustomSection, TypeSection, ImportSection, FunctionSection, TableSection, MemorySection, TagSection, GlobalSection, ExportSection, StartSection, ElementSection, DataCountSection, CodeSection, DataSection, custom_once, types_once, imports_once, functions_once, tables_once, memories_once, tags_once, globals_once, exports_once, start_once, elements_once, count_once, code_once, data_once, list_of, custom, add_custom, code, set_bodies, set_count, data_test, put}
 use Rattle.walrus_section_reader.specs.declared.fault.Fault.{Fault}
 use Rattle.walrus_section_reader.specs.Parses.{Parses}
 use Rattle.walrus_section_reader.specs.Repeats.{same_parse}

@@ -1,12 +1,12 @@
 -- Sections that are put into the state as they are read.
 use Rattle.std.specs.Prelude.{ℕ, ◌-◌, List, length, Ok}
 use Rattle.wasm_features.specs.declared.WasmFeatures.{WasmFeatures}
-use Rattle.wasm_formats.specs.Stops.{Parsing, ◌>>=◌}
-use Rattle.wasm_formats.specs.Joined.{checked}
-use Rattle.wasm_formats.specs.Wholes.{u32, whole, sized}
-use Rattle.wasm_grammar.specs.States.{State}
-use Rattle.wasm_sections.specs.Sections.{code, section, section_entry, data_test, put, next, set_bodies}
-use Rattle.wasm_sections.specs.Segments.{data_entry, add_data}
+use Rattle.walrus_section_frames.specs.walrus_known_sections.wasm_sections.wasm_grammar.wasm_formats.Stops.{Parsing, ◌>>=◌}
+use Rattle.walrus_section_frames.specs.walrus_known_sections.wasm_sections.wasm_grammar.wasm_formats.Joined.{checked}
+use Rattle.walrus_section_frames.specs.walrus_known_sections.wasm_sections.wasm_grammar.wasm_formats.Wholes.{u32, whole, sized}
+use Rattle.walrus_section_frames.specs.walrus_known_sections.wasm_sections.wasm_grammar.States.{State}
+use Rattle.walrus_section_frames.specs.walrus_known_sections.wasm_sections.Sections.{code, section, section_entry, data_test, put, next, set_bodies}
+use Rattle.walrus_section_frames.specs.walrus_known_sections.wasm_sections.Segments.{data_entry, add_data}
 use Rattle.walrus_section_reader.specs.Steps.{step_of, entries_by}
 
 -- the code section, whose contents end so many bytes before this offset as are left

@@ -1,11 +1,11 @@
 -- A file from its first byte to its last, in words of the grammar.
 use Rattle.std.specs.Prelude.{ℕ, ◌+◌, ◌≡◌, ◌⊎◌, ◌&&◌, List, length, Result}
 use Rattle.wasm_features.specs.declared.WasmFeatures.{WasmFeatures}
-use Rattle.wasm_formats.specs.Stops.{Count, Stop, ◌>>=◌}
-use Rattle.wasm_formats.specs.Files.{ended_at}
-use Rattle.wasm_grammar.specs.States.{State}
-use Rattle.wasm_sections.specs.Laws.{StopsSections}
-use Rattle.wasm_sections.specs.Modules.{header, has_bodies, has_data}
+use Rattle.walrus_section_frames.specs.walrus_known_sections.wasm_sections.wasm_grammar.wasm_formats.Stops.{Count, Stop, ◌>>=◌}
+use Rattle.walrus_section_frames.specs.walrus_known_sections.wasm_sections.wasm_grammar.wasm_formats.Files.{ended_at}
+use Rattle.walrus_section_frames.specs.walrus_known_sections.wasm_sections.wasm_grammar.States.{State}
+use Rattle.walrus_section_frames.specs.walrus_known_sections.wasm_sections.Laws.{StopsSections}
+use Rattle.walrus_section_frames.specs.walrus_known_sections.wasm_sections.Modules.{header, has_bodies, has_data}
 use Rattle.walrus_errors.specs.declared.error.ModuleError.{ModuleError}
 use Rattle.walrus_section_reader.specs.declared.fault.Fault.{Fault}
 use Rattle.walrus_section_reader.specs.Faults.{trouble_of, error_of, IsMemory}

@@ -2,13 +2,13 @@
 
 ghost use Rattle.wasm_reader.specs.Cursor.{end_of};
 ghost use Rattle.walrus_section_reader.specs.Parses.{Parses};
-ghost use Rattle.walrus_known_sections.specs.State.{state_of};
+ghost use Rattle.walrus_section_frames.specs.walrus_known_sections.State.{state_of};
 ghost use Rattle.walrus_file_reader.specs.Contents.{section_put};
 
 use crate::pieces::{Data, read_code};
 use std::alloc::Global as Alloc;
 use walrus_export_reader::Exports;
-use walrus_known_sections::{Each, Sections};
+use walrus_section_frames::known_sections::{Each, Sections};
 use walrus_section_frames::{DataCount, Start, put_custom_section};
 use walrus_section_reader::{Fault, FaultKind, Many, Result, read_section};
 use walrus_segment_readers::Elements;

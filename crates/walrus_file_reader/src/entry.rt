@@ -2,15 +2,15 @@
 
 ghost use Rattle.std.specs.Prelude.{◌≡◌, ◌+◌, ◌<◌, OnOk, length};
 ghost use Rattle.wasm_reader.specs.Cursor.{rest};
-ghost use Rattle.wasm_sections.specs.Sections.{ends_with};
+ghost use Rattle.walrus_section_frames.specs.walrus_known_sections.wasm_sections.Sections.{ends_with};
 ghost use Rattle.walrus_section_reader.specs.Parses.{Parses};
-ghost use Rattle.walrus_known_sections.specs.State.{state_of};
+ghost use Rattle.walrus_section_frames.specs.walrus_known_sections.State.{state_of};
 ghost use Rattle.walrus_code_reader.specs.Code.{code_place};
 ghost use Rattle.walrus_file_reader.specs.Contents.{section_step};
 
 use crate::contents::read_contents;
 use std::alloc::Global as Alloc;
-use walrus_known_sections::Sections;
+use walrus_section_frames::known_sections::Sections;
 use walrus_section_frames::{rank, read_section_id};
 use walrus_section_reader::Result;
 use wasm_reader::BinaryReader;

@@ -1,9 +1,9 @@
 //! The whole file.
 
 ghost use Rattle.std.specs.Prelude.{◌≡◌, ◌+◌, IfErr, IfOk};
-ghost use Rattle.wasm_sections.specs.Laws.{ReadsSections};
+ghost use Rattle.walrus_section_frames.specs.walrus_known_sections.wasm_sections.Laws.{ReadsSections};
 ghost use Rattle.walrus_section_reader.specs.Parses.{ParsesWhole};
-ghost use Rattle.walrus_known_sections.specs.State.{state_of};
+ghost use Rattle.walrus_section_frames.specs.walrus_known_sections.State.{state_of};
 ghost use Rattle.walrus_code_reader.specs.Code.{code_place};
 ghost use Rattle.walrus_file_reader.specs.Files.{IsRefused, file_steps, rounds, sections_to_end};
 
@@ -11,8 +11,8 @@ use crate::entry::read_one;
 use crate::header::read_header;
 use std::alloc::Global as Alloc;
 use walrus_errors::ModuleError;
-use walrus_known_sections::Sections;
 use walrus_section_frames::has_all;
+use walrus_section_frames::known_sections::Sections;
 use walrus_section_reader::{Fault, FaultKind, Result};
 use wasm_features::WasmFeatures;
 use wasm_reader::BinaryReader;

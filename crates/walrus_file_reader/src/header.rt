@@ -2,7 +2,7 @@
 
 ghost use Rattle.std.specs.Prelude.{◌≡◌};
 ghost use Rattle.wasm_reader.specs.Reading.{plain};
-ghost use Rattle.wasm_sections.specs.Modules.{header, magic};
+ghost use Rattle.walrus_section_frames.specs.walrus_known_sections.wasm_sections.Modules.{header, magic};
 ghost use Rattle.walrus_section_reader.specs.Parses.{ParsesExactly};
 
 use walrus_section_reader::{Fault, FaultKind, Result};

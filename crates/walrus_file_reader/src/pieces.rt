@@ -3,20 +3,20 @@
 ghost use Rattle.std.specs.Prelude.{◌≡◌, ℕ};
 ghost use Rattle.wasm_reader.specs.Cursor.{end_of};
 ghost use Rattle.wasm_reader.specs.Reading.{plain};
-ghost use Rattle.wasm_formats.specs.Joined.{checked};
-ghost use Rattle.wasm_formats.specs.Stops.{Count};
-ghost use Rattle.wasm_formats.specs.Wholes.{u32};
-ghost use Rattle.wasm_grammar.specs.Values.{must};
-ghost use Rattle.wasm_sections.specs.Sections.{data_test};
+ghost use Rattle.walrus_section_frames.specs.walrus_known_sections.wasm_sections.wasm_grammar.wasm_formats.Joined.{checked};
+ghost use Rattle.walrus_section_frames.specs.walrus_known_sections.wasm_sections.wasm_grammar.wasm_formats.Stops.{Count};
+ghost use Rattle.walrus_section_frames.specs.walrus_known_sections.wasm_sections.wasm_grammar.wasm_formats.Wholes.{u32};
+ghost use Rattle.walrus_section_frames.specs.walrus_known_sections.wasm_sections.wasm_grammar.Values.{must};
+ghost use Rattle.walrus_section_frames.specs.walrus_known_sections.wasm_sections.Sections.{data_test};
 ghost use Rattle.walrus_section_reader.specs.Parses.{Parses, ParsesExactly};
-ghost use Rattle.walrus_known_sections.specs.State.{state_of};
+ghost use Rattle.walrus_section_frames.specs.walrus_known_sections.State.{state_of};
 ghost use Rattle.walrus_file_reader.specs.Contents.{code_put};
 
 use std::alloc::Global as Alloc;
 use walrus_code_reader::{read_code_section, set_bodies};
-use walrus_known_sections::{Each, Sections};
+use walrus_section_frames::known_sections::{Each, Sections};
+use walrus_section_frames::section_values::read_u32;
 use walrus_section_reader::{Entries, Fault, FaultKind, Result, read_entries};
-use walrus_section_values::read_u32;
 use walrus_segment_readers::Segments;
 use wasm_reader::BinaryReader;
 
@@ -61,8 +61,8 @@ pub struct Data;
 impl<'a> Entries<'a> for Data {
     type Into = Sections<'a>;
 
-    ghost use Rattle.wasm_grammar.specs.States.{State};
-    ghost use Rattle.walrus_known_sections.specs.State.{state_of};
+    ghost use Rattle.walrus_section_frames.specs.walrus_known_sections.wasm_sections.wasm_grammar.States.{State};
+    ghost use Rattle.walrus_section_frames.specs.walrus_known_sections.State.{state_of};
     ghost use Rattle.walrus_file_reader.specs.Contents.{data_put};
 
     ghost State = { State };

@@ -1,15 +1,15 @@
 -- Lemmas: functions of a module that was read have few locals.
 use Rattle.std.proofs.Common.{◌≡◌, ◌≤◌, ◌⊎◌, inl, inr, ℕ, zero, suc, ◌+◌, List, [], ◌∷◌, length, slice_get, Option, Some, None, refl, subst, arith}
-use Rattle.wasm_body_grammar.specs.wasm_formats.wasm_features.declared.WasmFeatures.{WasmFeatures}
-use Rattle.wasm_body_grammar.specs.wasm_grammar.walrus_forms.Kinds.{Kind}
-use Rattle.wasm_body_grammar.specs.wasm_formats.declared.fault.Space.TheVariants as spaces
-use Rattle.wasm_body_grammar.specs.wasm_grammar.Modules.{Function, Origin, Imported, Own, Body, Module}
-use Rattle.wasm_body_grammar.specs.wasm_grammar.States.{State, types_of}
-use Rattle.wasm_sections.specs.Entities.{Entity, FunctionOf, TableOf, MemoryOf, GlobalOf, TagOf, ImportEntry, add_entity, with_import, import_of, TableEntry, add_table}
-use Rattle.wasm_body_grammar.specs.Bodies.{most_locals}
-use Rattle.wasm_body_grammar.specs.Codes.{kind_params, param_count}
-use Rattle.wasm_body_grammar.specs.Rules.{Around}
-use Rattle.wasm_module_rules.specs.Linked.{Each}
+use Rattle.wasm_ruled_modules.specs.wasm_module_rules.wasm_modules.wasm_body_grammar.wasm_formats.wasm_features.declared.WasmFeatures.{WasmFeatures}
+use Rattle.wasm_ruled_modules.specs.wasm_module_rules.wasm_modules.wasm_body_grammar.wasm_grammar.walrus_forms.Kinds.{Kind}
+use Rattle.wasm_ruled_modules.specs.wasm_module_rules.wasm_modules.wasm_body_grammar.wasm_formats.declared.fault.Space.TheVariants as spaces
+use Rattle.wasm_ruled_modules.specs.wasm_module_rules.wasm_modules.wasm_body_grammar.wasm_grammar.Modules.{Function, Origin, Imported, Own, Body, Module}
+use Rattle.wasm_ruled_modules.specs.wasm_module_rules.wasm_modules.wasm_body_grammar.wasm_grammar.States.{State, types_of}
+use Rattle.wasm_ruled_modules.specs.wasm_module_rules.wasm_modules.wasm_sections.Entities.{Entity, FunctionOf, TableOf, MemoryOf, GlobalOf, TagOf, ImportEntry, add_entity, with_import, import_of, TableEntry, add_table}
+use Rattle.wasm_ruled_modules.specs.wasm_module_rules.wasm_modules.wasm_body_grammar.Bodies.{most_locals}
+use Rattle.wasm_ruled_modules.specs.wasm_module_rules.wasm_modules.wasm_body_grammar.Codes.{kind_params, param_count}
+use Rattle.wasm_ruled_modules.specs.wasm_module_rules.wasm_modules.wasm_body_grammar.Rules.{Around}
+use Rattle.wasm_ruled_modules.specs.wasm_module_rules.Linked.{Each}
 use Rattle.wasm_name_payloads.specs.Names.{body_locals, function_locals, first_slot}
 use Rattle.wasm_ruled_modules.specs.Keeping.{EntriesKeep, file_kept}
 use Rattle.wasm_ruled_modules.specs.Rules.{around_bodies, HasBody, OriginRuled}

@@ -3,26 +3,26 @@ use Rattle.std.proofs.Common.{◌≡◌, ◌≤◌, inl, inr, Bool, true, false,
 use Rattle.std.specs.List.{filter_map, cons_option}
 use Rattle.std.specs.Option.{option_map}
 use Rattle.std.proofs.lemmas.List.Concat.{flat_map-append}
-use Rattle.wasm_body_grammar.specs.wasm_formats.wasm_features.declared.WasmFeatures.{WasmFeatures}
-use Rattle.wasm_body_grammar.specs.wasm_formats.wasm_features.Features.{GcTypes, enables}
-use Rattle.wasm_composite_types.specs.declared.form.CompositeInnerType.{CompositeInnerType}
-use Rattle.wasm_composite_types.specs.declared.form.CompositeInnerType.TheVariants.{Func, Array, Struct, Cont}
-use Rattle.wasm_composite_types.specs.declared.form.CompositeType.{CompositeType}
-use Rattle.wasm_composite_types.specs.Spellings.{SpellsForm, SpellsEither, SpellsComposite}
-use Rattle.wasm_types.specs.declared.subtype.SubType.{SubType}
-use Rattle.wasm_types.specs.Spellings.{SpellsSub}
-use Rattle.wasm_body_grammar.specs.wasm_grammar.walrus_forms.declared.value.ValType.{ValType}
-use Rattle.wasm_body_grammar.specs.wasm_grammar.walrus_forms.declared.value.FieldType.{FieldType}
-use Rattle.wasm_body_grammar.specs.wasm_grammar.walrus_forms.Forms.{Form, FunctionForm, StructForm, ArrayForm, params_of}
-use Rattle.wasm_body_grammar.specs.wasm_grammar.walrus_forms.Kinds.{Kind, declared_kind}
-use Rattle.wasm_body_grammar.specs.wasm_grammar.walrus_forms.Records.{TypeGroup}
-use Rattle.wasm_body_grammar.specs.wasm_formats.Bytes.{either_type}
-use Rattle.wasm_body_grammar.specs.wasm_formats.Led.{led}
-use Rattle.wasm_body_grammar.specs.wasm_formats.Lists.{SpellsEntries}
-use Rattle.wasm_body_grammar.specs.wasm_grammar.States.{State, types_of}
-use Rattle.wasm_body_grammar.specs.wasm_grammar.TypeWords.{value_of}
-use Rattle.wasm_sections.specs.TypeNames.{both, told_all, field_of, form_of, composite_form, super_of, kind_of}
-use Rattle.wasm_sections.specs.TypeSection.{Measured, behind, measured, explicit, GroupEntry, single, sub_apart, sub_some, sub_wants, rectype, placed, members, group, type_group, add_group}
+use Rattle.wasm_ruled_modules.specs.wasm_module_rules.wasm_modules.wasm_body_grammar.wasm_formats.wasm_features.declared.WasmFeatures.{WasmFeatures}
+use Rattle.wasm_ruled_modules.specs.wasm_module_rules.wasm_modules.wasm_body_grammar.wasm_formats.wasm_features.Features.{GcTypes, enables}
+use Rattle.wasm_ruled_modules.specs.wasm_module_rules.wasm_modules.wasm_types.wasm_composite_types.declared.form.CompositeInnerType.{CompositeInnerType}
+use Rattle.wasm_ruled_modules.specs.wasm_module_rules.wasm_modules.wasm_types.wasm_composite_types.declared.form.CompositeInnerType.TheVariants.{Func, Array, Struct, Cont}
+use Rattle.wasm_ruled_modules.specs.wasm_module_rules.wasm_modules.wasm_types.wasm_composite_types.declared.form.CompositeType.{CompositeType}
+use Rattle.wasm_ruled_modules.specs.wasm_module_rules.wasm_modules.wasm_types.wasm_composite_types.Spellings.{SpellsForm, SpellsEither, SpellsComposite}
+use Rattle.wasm_ruled_modules.specs.wasm_module_rules.wasm_modules.wasm_types.declared.subtype.SubType.{SubType}
+use Rattle.wasm_ruled_modules.specs.wasm_module_rules.wasm_modules.wasm_types.Spellings.{SpellsSub}
+use Rattle.wasm_ruled_modules.specs.wasm_module_rules.wasm_modules.wasm_body_grammar.wasm_grammar.walrus_forms.declared.value.ValType.{ValType}
+use Rattle.wasm_ruled_modules.specs.wasm_module_rules.wasm_modules.wasm_body_grammar.wasm_grammar.walrus_forms.declared.value.FieldType.{FieldType}
+use Rattle.wasm_ruled_modules.specs.wasm_module_rules.wasm_modules.wasm_body_grammar.wasm_grammar.walrus_forms.Forms.{Form, FunctionForm, StructForm, ArrayForm, params_of}
+use Rattle.wasm_ruled_modules.specs.wasm_module_rules.wasm_modules.wasm_body_grammar.wasm_grammar.walrus_forms.Kinds.{Kind, declared_kind}
+use Rattle.wasm_ruled_modules.specs.wasm_module_rules.wasm_modules.wasm_body_grammar.wasm_grammar.walrus_forms.Records.{TypeGroup}
+use Rattle.wasm_ruled_modules.specs.wasm_module_rules.wasm_modules.wasm_body_grammar.wasm_formats.Bytes.{either_type}
+use Rattle.wasm_ruled_modules.specs.wasm_module_rules.wasm_modules.wasm_body_grammar.wasm_formats.Led.{led}
+use Rattle.wasm_ruled_modules.specs.wasm_module_rules.wasm_modules.wasm_body_grammar.wasm_formats.Lists.{SpellsEntries}
+use Rattle.wasm_ruled_modules.specs.wasm_module_rules.wasm_modules.wasm_body_grammar.wasm_grammar.States.{State, types_of}
+use Rattle.wasm_ruled_modules.specs.wasm_module_rules.wasm_modules.wasm_body_grammar.wasm_grammar.TypeWords.{value_of}
+use Rattle.wasm_ruled_modules.specs.wasm_module_rules.wasm_modules.wasm_sections.TypeNames.{both, told_all, field_of, form_of, composite_form, super_of, kind_of}
+use Rattle.wasm_ruled_modules.specs.wasm_module_rules.wasm_modules.wasm_sections.TypeSection.{Measured, behind, measured, explicit, GroupEntry, single, sub_apart, sub_some, sub_wants, rectype, placed, members, group, type_group, add_group}
 
 -- ---- types with few parameters
 

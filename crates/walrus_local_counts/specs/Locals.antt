@@ -1,9 +1,9 @@
 -- How many locals functions have (Core Specification, implementation limitations: syntactic limits).
 use Rattle.std.specs.Prelude.{ℕ, ◌^◌, ◌<◌, ◌≤◌, List, length}
-use Rattle.wasm_body_grammar.specs.wasm_formats.wasm_features.declared.WasmFeatures.{WasmFeatures}
-use Rattle.wasm_body_grammar.specs.wasm_grammar.Modules.{Module}
-use Rattle.wasm_body_grammar.specs.Bodies.{most_locals}
-use Rattle.wasm_module_rules.specs.wasm_modules.Modules.{Reads}
+use Rattle.wasm_ruled_modules.specs.wasm_module_rules.wasm_modules.wasm_body_grammar.wasm_formats.wasm_features.declared.WasmFeatures.{WasmFeatures}
+use Rattle.wasm_ruled_modules.specs.wasm_module_rules.wasm_modules.wasm_body_grammar.wasm_grammar.Modules.{Module}
+use Rattle.wasm_ruled_modules.specs.wasm_module_rules.wasm_modules.wasm_body_grammar.Bodies.{most_locals}
+use Rattle.wasm_ruled_modules.specs.wasm_module_rules.wasm_modules.Modules.{Reads}
 use Rattle.wasm_name_payloads.specs.Names.{local_count}
 use Rattle.walrus_index_maps.specs.Maps.{Ids}
 use Rattle.walrus_payloads_into.specs.Numbered.{locals_in, IsNumbered}

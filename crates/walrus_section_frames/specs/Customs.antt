@@ -8,8 +8,8 @@ use Rattle.wasm_reader.specs.Spellings.{ok_is}
 use Rattle.wasm_reader.specs.Cursor.{Cursor, rest, end_of}
 use Rattle.wasm_formats.specs.Stops.{Stop, Parsing}
 use Rattle.wasm_formats.specs.Wholes.{sized}
-use Rattle.wasm_grammar.specs.States.{State}
-use Rattle.wasm_sections.specs.Sections.{CustomEntry, custom, add_custom}
+use Rattle.walrus_entry_readers.specs.walrus_known_sections.wasm_sections.wasm_grammar.States.{State}
+use Rattle.walrus_entry_readers.specs.walrus_known_sections.wasm_sections.Sections.{CustomEntry, custom, add_custom}
 use Rattle.walrus_section_reader.specs.declared.fault.Fault.{Fault}
 use Rattle.walrus_section_reader.specs.Parses.{stop_of}
 use Rattle.walrus_section_reader.specs.Steps.{stepped}

@@ -2,15 +2,15 @@
 
 ghost use Rattle.std.specs.Prelude.{◌≡◌, OnOk};
 ghost use Rattle.wasm_formats.specs.Wholes.{sized};
-ghost use Rattle.wasm_sections.specs.Sections.{add_custom, custom};
+ghost use Rattle.walrus_entry_readers.specs.walrus_known_sections.wasm_sections.Sections.{add_custom, custom};
 ghost use Rattle.walrus_section_reader.specs.Parses.{Parses, ParsesExactly};
 ghost use Rattle.walrus_entry_readers.specs.walrus_known_sections.State.{state_of};
 ghost use Rattle.walrus_section_frames.specs.Customs.{ReadsWhole, custom_entry_of, custom_put};
 
 use std::alloc::AllocError;
+use walrus_entry_readers::section_values::read_name;
 use walrus_entry_readers::{Custom, Sections};
 use walrus_section_reader::{Result, open_section};
-use walrus_section_values::read_name;
 use wasm_reader::BinaryReader;
 
 /// A name, and all bytes behind it. Of these nothing is asked. Takes no memory.

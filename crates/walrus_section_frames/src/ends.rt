@@ -1,7 +1,7 @@
 //! What a file must not lack at its end.
 
 ghost use Rattle.std.specs.Prelude.{◌≡◌, ◌&&◌};
-ghost use Rattle.wasm_sections.specs.Modules.{has_bodies, has_data};
+ghost use Rattle.walrus_entry_readers.specs.walrus_known_sections.wasm_sections.Modules.{has_bodies, has_data};
 ghost use Rattle.walrus_entry_readers.specs.walrus_known_sections.State.{state_of};
 
 use walrus_entry_readers::Sections;

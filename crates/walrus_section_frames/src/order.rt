@@ -5,9 +5,9 @@ ghost use Rattle.wasm_reader.specs.Reading.{plain};
 ghost use Rattle.wasm_formats.specs.Bytes.{byte};
 ghost use Rattle.wasm_formats.specs.Joined.{checked};
 ghost use Rattle.wasm_formats.specs.Stops.{SectionOrder};
-ghost use Rattle.wasm_grammar.specs.Values.{must};
-ghost use Rattle.wasm_sections.specs.Sections.{order_test};
-ghost use Rattle.wasm_sections.specs.Sections.{rank as rank_of};
+ghost use Rattle.walrus_entry_readers.specs.walrus_known_sections.wasm_sections.wasm_grammar.Values.{must};
+ghost use Rattle.walrus_entry_readers.specs.walrus_known_sections.wasm_sections.Sections.{order_test};
+ghost use Rattle.walrus_entry_readers.specs.walrus_known_sections.wasm_sections.Sections.{rank as rank_of};
 ghost use Rattle.walrus_section_reader.specs.Parses.{ParsesExactly};
 
 use walrus_section_reader::{Fault, FaultKind, Result};

@@ -3,15 +3,15 @@
 ghost use Rattle.std.specs.Prelude.{◌≡◌, length, OnOk};
 ghost use Rattle.wasm_formats.specs.declared.fault.Space.TheVariants as spaces;
 ghost use Rattle.wasm_reader.specs.Reading.{plain};
-ghost use Rattle.wasm_sections.specs.Exports.{set_start, start_function};
-ghost use Rattle.wasm_sections.specs.Sections.{set_count};
+ghost use Rattle.walrus_entry_readers.specs.walrus_known_sections.wasm_sections.Exports.{set_start, start_function};
+ghost use Rattle.walrus_entry_readers.specs.walrus_known_sections.wasm_sections.Sections.{set_count};
 ghost use Rattle.walrus_section_reader.specs.Parses.{Parses};
 ghost use Rattle.walrus_entry_readers.specs.walrus_known_sections.State.{state_of};
 
 use std::alloc::{AllocError, Global as Alloc};
+use walrus_entry_readers::section_values::{read_index, read_u32};
 use walrus_entry_readers::{Entry, Sections};
 use walrus_section_reader::{Result, Space};
-use walrus_section_values::{read_index, read_u32};
 use wasm_reader::BinaryReader;
 
 fn function_count(sections: &Sections<'_>) -> usize
@@ -47,7 +47,7 @@ impl<'a> Entry<'a> for Start {
 
     ghost use Rattle.std.specs.Prelude.{ℕ};
     ghost use Rattle.wasm_reader.specs.Reading.{plain};
-    ghost use Rattle.wasm_sections.specs.Exports.{set_start, start_function};
+    ghost use Rattle.walrus_entry_readers.specs.walrus_known_sections.wasm_sections.Exports.{set_start, start_function};
 
     ghost Seen = { ℕ };
 
@@ -80,7 +80,7 @@ impl<'a> Entry<'a> for DataCount {
     ghost use Rattle.std.specs.Prelude.{ℕ};
     ghost use Rattle.wasm_reader.specs.Reading.{plain};
     ghost use Rattle.wasm_formats.specs.Wholes.{u32};
-    ghost use Rattle.wasm_sections.specs.Sections.{set_count};
+    ghost use Rattle.walrus_entry_readers.specs.walrus_known_sections.wasm_sections.Sections.{set_count};
 
     ghost Seen = { ℕ };
 

@@ -5,18 +5,18 @@ use Rattle.std.proofs.Common.{subst}
 use Rattle.std.proofs.lemmas.List.{map_push}
 use Rattle.wasm_reader.specs.Cursor.{Window, Cursor}
 use Rattle.wasm_reader.specs.Reading.{plain}
-use Rattle.wasm_formats.specs.declared.fault.Space.TheVariants as spaces
-use Rattle.wasm_formats.specs.Stops.{Parsing, ◌>>=◌}
-use Rattle.wasm_formats.specs.Formats.{Format}
-use Rattle.wasm_formats.specs.Wholes.{u32}
-use Rattle.wasm_grammar.specs.Modules.{Expr}
-use Rattle.wasm_grammar.specs.Exprs.{expr, Known}
-use Rattle.wasm_grammar.specs.Values.{index}
-use Rattle.walrus_operators.specs.declared.operator.Operator.{Operator}
-use Rattle.walrus_section_reader.specs.declared.fault.Fault.{Fault}
-use Rattle.walrus_section_reader.specs.Parses.{Parses, ParsesExactly}
-use Rattle.walrus_section_reader.specs.Repeats.{Collects, collects, collects_none, listed_at, unless_memory, then_parses}
-use Rattle.walrus_section_values.specs.Globals.{expr_of}
+use Rattle.walrus_entry_readers.specs.walrus_known_sections.wasm_sections.wasm_grammar.wasm_formats.declared.fault.Space.TheVariants as spaces
+use Rattle.walrus_entry_readers.specs.walrus_known_sections.wasm_sections.wasm_grammar.wasm_formats.Stops.{Parsing, ◌>>=◌}
+use Rattle.walrus_entry_readers.specs.walrus_known_sections.wasm_sections.wasm_grammar.wasm_formats.Formats.{Format}
+use Rattle.walrus_entry_readers.specs.walrus_known_sections.wasm_sections.wasm_grammar.wasm_formats.Wholes.{u32}
+use Rattle.walrus_entry_readers.specs.walrus_known_sections.wasm_sections.wasm_grammar.Modules.{Expr}
+use Rattle.walrus_entry_readers.specs.walrus_known_sections.wasm_sections.wasm_grammar.Exprs.{expr, Known}
+use Rattle.walrus_entry_readers.specs.walrus_known_sections.wasm_sections.wasm_grammar.Values.{index}
+use Rattle.walrus_entry_readers.specs.walrus_operators.declared.operator.Operator.{Operator}
+use Rattle.walrus_entry_readers.specs.walrus_section_values.walrus_section_reader.declared.fault.Fault.{Fault}
+use Rattle.walrus_entry_readers.specs.walrus_section_values.walrus_section_reader.Parses.{Parses, ParsesExactly}
+use Rattle.walrus_entry_readers.specs.walrus_section_values.walrus_section_reader.Repeats.{Collects, collects, collects_none, listed_at, unless_memory, then_parses}
+use Rattle.walrus_entry_readers.specs.walrus_section_values.Globals.{expr_of}
 
 abbrev pub numbers_of : Vec ℕ → List ℕ
 numbers_of v = v.items

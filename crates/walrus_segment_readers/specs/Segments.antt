@@ -5,20 +5,20 @@ use Rattle.std.proofs.Common.{subst, arith}
 use Rattle.std.proofs.lemmas.List.{get_or-map, length-map}
 use Rattle.std.proofs.Math.ListN.{get_or-eq_default}
 use Rattle.wasm_reader.specs.Cursor.{Cursor}
-use Rattle.wasm_formats.specs.Formats.{Format}
-use Rattle.wasm_formats.specs.Joined.{after}
+use Rattle.walrus_entry_readers.specs.walrus_known_sections.wasm_sections.wasm_grammar.wasm_formats.Formats.{Format}
+use Rattle.walrus_entry_readers.specs.walrus_known_sections.wasm_sections.wasm_grammar.wasm_formats.Joined.{after}
 use Rattle.walrus_forms.specs.Records.{ref_of}
 use Rattle.wasm_features.specs.declared.WasmFeatures.{WasmFeatures}
-use Rattle.wasm_grammar.specs.Exprs.{Known, offset}
-use Rattle.wasm_grammar.specs.Modules as modules
-use Rattle.wasm_sections.specs.Segments as grammar
-use Rattle.walrus_section_reader.specs.declared.fault.Fault.{Fault}
-use Rattle.walrus_section_reader.specs.Parses.{Parses}
-use Rattle.walrus_section_values.specs.Globals.{expr_of}
-use Rattle.walrus_known_sections.specs.Items.{table_of, memory_of}
-use Rattle.walrus_known_sections.specs.Leads.{after_ok, after_err}
-use Rattle.walrus_known_sections.specs.declared.items.Table.{Table}
-use Rattle.walrus_known_sections.specs.declared.items.Memory.{Memory}
+use Rattle.walrus_entry_readers.specs.walrus_known_sections.wasm_sections.wasm_grammar.Exprs.{Known, offset}
+use Rattle.walrus_entry_readers.specs.walrus_known_sections.wasm_sections.wasm_grammar.Modules as modules
+use Rattle.walrus_entry_readers.specs.walrus_known_sections.wasm_sections.Segments as grammar
+use Rattle.walrus_entry_readers.specs.walrus_section_values.walrus_section_reader.declared.fault.Fault.{Fault}
+use Rattle.walrus_entry_readers.specs.walrus_section_values.walrus_section_reader.Parses.{Parses}
+use Rattle.walrus_entry_readers.specs.walrus_section_values.Globals.{expr_of}
+use Rattle.walrus_entry_readers.specs.walrus_known_sections.Items.{table_of, memory_of}
+use Rattle.walrus_entry_readers.specs.walrus_known_sections.Leads.{after_ok, after_err}
+use Rattle.walrus_entry_readers.specs.walrus_known_sections.declared.items.Table.{Table}
+use Rattle.walrus_entry_readers.specs.walrus_known_sections.declared.items.Memory.{Memory}
 use Rattle.walrus_segment_readers.specs.Lists.{exprs_of, numbers_of}
 use Rattle.walrus_segment_readers.specs.declared.segments.ElementForm.{ElementForm}
 use Rattle.walrus_segment_readers.specs.declared.segments.ElementForm.TheVariants as forms

@@ -1,21 +1,22 @@
 //! What element segments list: functions, and constant expressions.
 
 ghost use Rattle.std.specs.Prelude.{◌≡◌, length, map};
-ghost use Rattle.wasm_formats.specs.declared.fault.Space.TheVariants as spaces;
-ghost use Rattle.wasm_grammar.specs.Exprs.{expr};
-ghost use Rattle.wasm_grammar.specs.States.{known};
-ghost use Rattle.wasm_grammar.specs.Values.{index};
-ghost use Rattle.wasm_sections.specs.Segments.{expressions, functions};
-ghost use Rattle.walrus_section_reader.specs.Parses.{Parses};
-ghost use Rattle.walrus_section_reader.specs.Repeats.{listed_at};
+ghost use Rattle.walrus_entry_readers.specs.walrus_known_sections.wasm_sections.wasm_grammar.wasm_formats.declared.fault.Space.TheVariants as spaces;
+ghost use Rattle.walrus_entry_readers.specs.walrus_known_sections.wasm_sections.wasm_grammar.Exprs.{expr};
+ghost use Rattle.walrus_entry_readers.specs.walrus_known_sections.wasm_sections.wasm_grammar.States.{known};
+ghost use Rattle.walrus_entry_readers.specs.walrus_known_sections.wasm_sections.wasm_grammar.Values.{index};
+ghost use Rattle.walrus_entry_readers.specs.walrus_known_sections.wasm_sections.Segments.{expressions, functions};
+ghost use Rattle.walrus_entry_readers.specs.walrus_section_values.walrus_section_reader.Parses.{Parses};
+ghost use Rattle.walrus_entry_readers.specs.walrus_section_values.walrus_section_reader.Repeats.{listed_at};
 ghost use Rattle.walrus_segment_readers.specs.Lists.{exprs_of, many_at, numbers_of};
-ghost use Rattle.walrus_known_sections.specs.State.{state_of};
+ghost use Rattle.walrus_entry_readers.specs.walrus_known_sections.State.{state_of};
 
 use std::alloc::Global as Alloc;
+use walrus_entry_readers::formats::Space;
+use walrus_entry_readers::operators::Operator;
+use walrus_entry_readers::section_reader::Result;
+use walrus_entry_readers::section_values::{read_index, read_u32};
 use walrus_entry_readers::{Sections, read_init};
-use walrus_operators::Operator;
-use walrus_section_reader::{Result, Space};
-use walrus_section_values::{read_index, read_u32};
 use wasm_reader::BinaryReader;
 
 // So many indices of functions, each of one of `functions`.

@@ -1,30 +1,31 @@
 //! Element and data segments (Core Specification, binary format: element section, data section).
 
 ghost use Rattle.std.specs.Prelude.{◌≡◌, length, slice_index_or, OnOk, None};
-ghost use Rattle.wasm_formats.specs.declared.fault.Space.TheVariants as spaces;
-ghost use Rattle.wasm_formats.specs.Joined.{after};
+ghost use Rattle.walrus_entry_readers.specs.walrus_known_sections.wasm_sections.wasm_grammar.wasm_formats.declared.fault.Space.TheVariants as spaces;
+ghost use Rattle.walrus_entry_readers.specs.walrus_known_sections.wasm_sections.wasm_grammar.wasm_formats.Joined.{after};
 ghost use Rattle.wasm_reader.specs.Reading.{plain, seen_bytes};
-ghost use Rattle.wasm_grammar.specs.Exprs.{offset};
-ghost use Rattle.wasm_grammar.specs.States.{has_room, known, type_count};
-ghost use Rattle.wasm_grammar.specs.Values.{index, ref_type};
-ghost use Rattle.wasm_sections.specs.Segments.{add_data, add_element, contents, data_entry, data_flags, data_form, element_entry, element_flags, element_form, expressions, functions, into_memory, into_table, kind_of_functions, memory_is_wide, named_memory, named_table, element_of as grammar_element_of, segment_of, table_is_wide, typed};
+ghost use Rattle.walrus_entry_readers.specs.walrus_known_sections.wasm_sections.wasm_grammar.Exprs.{offset};
+ghost use Rattle.walrus_entry_readers.specs.walrus_known_sections.wasm_sections.wasm_grammar.States.{has_room, known, type_count};
+ghost use Rattle.walrus_entry_readers.specs.walrus_known_sections.wasm_sections.wasm_grammar.Values.{index, ref_type};
+ghost use Rattle.walrus_entry_readers.specs.walrus_known_sections.wasm_sections.Segments.{add_data, add_element, contents, data_entry, data_flags, data_form, element_entry, element_flags, element_form, expressions, functions, into_memory, into_table, kind_of_functions, memory_is_wide, named_memory, named_table, element_of as grammar_element_of, segment_of, table_is_wide, typed};
 ghost use Rattle.walrus_forms.specs.Records.{ref_of};
-ghost use Rattle.walrus_section_reader.specs.Parses.{Parses, ParsesExactly};
-ghost use Rattle.walrus_section_values.specs.Globals.{expr_of};
+ghost use Rattle.walrus_entry_readers.specs.walrus_section_values.walrus_section_reader.Parses.{Parses, ParsesExactly};
+ghost use Rattle.walrus_entry_readers.specs.walrus_section_values.Globals.{expr_of};
 ghost use Rattle.walrus_segment_readers.specs.Lists.{exprs_of, numbers_of};
-ghost use Rattle.walrus_known_sections.specs.Items.{data_of, element_of};
+ghost use Rattle.walrus_entry_readers.specs.walrus_known_sections.Items.{data_of, element_of};
 ghost use Rattle.walrus_segment_readers.specs.Segments.{both_of, data_form_of, element_form_of, joined, kind_of_functions_of};
-ghost use Rattle.walrus_known_sections.specs.State.{state_of};
+ghost use Rattle.walrus_entry_readers.specs.walrus_known_sections.State.{state_of};
 
 use crate::lists::{read_expressions, read_functions};
 use std::alloc::{AllocError, Global as Alloc};
+use walrus_entry_readers::formats::{Limited, Space};
+use walrus_entry_readers::operators::Operator;
+use walrus_entry_readers::section_reader::{Fault, FaultKind, Result};
+use walrus_entry_readers::section_values::{read_index, read_ref_type, read_u32, read_zero};
 use walrus_entry_readers::{
     Data, Element, ElementItems, Entry, Mode, Sections, in_room, read_place,
 };
 use walrus_forms::{AbstractHeapType, HeapRecord, RefRecord};
-use walrus_operators::Operator;
-use walrus_section_reader::{Fault, FaultKind, Limited, Result, Space};
-use walrus_section_values::{read_index, read_ref_type, read_u32, read_zero};
 use wasm_reader::limits::{MAX_WASM_DATA_SEGMENTS, MAX_WASM_ELEMENT_SEGMENTS};
 use wasm_reader::{BinaryReader, ErrorKind};
 
@@ -419,7 +420,7 @@ impl<'a> Entry<'a> for Segments {
     type Value = (u32, DataForm<'a>);
 
     ghost use Rattle.wasm_reader.specs.Reading.{plain};
-    ghost use Rattle.wasm_sections.specs.Segments as grammar;
+    ghost use Rattle.walrus_entry_readers.specs.walrus_known_sections.wasm_sections.Segments as grammar;
     ghost use Rattle.walrus_segment_readers.specs.Segments.{both_of, data_form_of};
 
     ghost Seen = { grammar.DataEntry };
@@ -589,7 +590,7 @@ impl<'a> Entry<'a> for Elements {
     type Value = (u32, ElementForm);
 
     ghost use Rattle.wasm_reader.specs.Reading.{plain};
-    ghost use Rattle.wasm_sections.specs.Segments as grammar;
+    ghost use Rattle.walrus_entry_readers.specs.walrus_known_sections.wasm_sections.Segments as grammar;
     ghost use Rattle.walrus_segment_readers.specs.Segments.{both_of, element_form_of};
 
     ghost Seen = { grammar.ElementEntry };

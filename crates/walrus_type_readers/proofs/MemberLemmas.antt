@@ -5,15 +5,15 @@ use Rattle.std.specs.List.{list_any, filter_map, cons_option}
 use Rattle.std.proofs.lemmas.Bool.{lt-ltb, le-ltb}
 use Rattle.std.proofs.lemmas.List.{map_push, append_assoc}
 use Rattle.wasm_types.specs.declared.subtype.SubType.{SubType}
-use Rattle.wasm_formats.specs.Stops.{Trouble}
-use Rattle.wasm_formats.specs.declared.fault.Space.TheVariants as spaces
-use Rattle.wasm_formats.specs.declared.fault.Form.TheVariants as unsupported
-use Rattle.wasm_formats.specs.declared.fault.Limited.TheVariants as limits
+use Rattle.walrus_known_sections.specs.wasm_sections.wasm_grammar.wasm_formats.Stops.{Trouble}
+use Rattle.walrus_known_sections.specs.wasm_sections.wasm_grammar.wasm_formats.declared.fault.Space.TheVariants as spaces
+use Rattle.walrus_known_sections.specs.wasm_sections.wasm_grammar.wasm_formats.declared.fault.Form.TheVariants as unsupported
+use Rattle.walrus_known_sections.specs.wasm_sections.wasm_grammar.wasm_formats.declared.fault.Limited.TheVariants as limits
 use Rattle.walrus_forms.specs.declared.record.TypeRecord.{TypeRecord}
 use Rattle.walrus_forms.specs.Kinds.{Kind}
 use Rattle.walrus_forms.specs.Records.{record_kind}
-use Rattle.wasm_sections.specs.TypeNames.{kind_of, sub_names}
-use Rattle.wasm_sections.specs.TypeSection.{sub_test, members_test, at_place}
+use Rattle.walrus_known_sections.specs.wasm_sections.TypeNames.{kind_of, sub_names}
+use Rattle.walrus_known_sections.specs.wasm_sections.TypeSection.{sub_test, members_test, at_place}
 use Rattle.walrus_section_reader.specs.declared.fault.Fault.{Fault}
 use Rattle.walrus_section_reader.specs.declared.fault.FaultKind.TheVariants as faults
 use Rattle.walrus_section_reader.specs.Faults.{fault_of, no_memory}

@@ -15,11 +15,11 @@ use Rattle.wasm_types.specs.Placed.{Placed, placed_at, placed}
 use Rattle.walrus_forms.specs.Records.{TypeGroup, type_group}
 use Rattle.walrus_forms.specs.Kinds.{Kind}
 use Rattle.walrus_forms.specs.declared.record.GroupRecord.{GroupRecord}
-use Rattle.wasm_formats.specs.Stops.{Trouble, stop, Parsing, ◌>>=◌, value_at}
-use Rattle.wasm_formats.specs.Parts.{inner_tested}
-use Rattle.wasm_grammar.specs.States.{State, type_count}
-use Rattle.wasm_sections.specs.TypeNames.{kind_of}
-use Rattle.wasm_sections.specs.TypeSection.{GroupEntry, rectype, sub_test, members_test, group_test, at_place, members, is_explicit, type_group as read_group}
+use Rattle.walrus_known_sections.specs.wasm_sections.wasm_grammar.wasm_formats.Stops.{Trouble, stop, Parsing, ◌>>=◌, value_at}
+use Rattle.walrus_known_sections.specs.wasm_sections.wasm_grammar.wasm_formats.Parts.{inner_tested}
+use Rattle.walrus_known_sections.specs.wasm_sections.wasm_grammar.States.{State, type_count}
+use Rattle.walrus_known_sections.specs.wasm_sections.TypeNames.{kind_of}
+use Rattle.walrus_known_sections.specs.wasm_sections.TypeSection.{GroupEntry, rectype, sub_test, members_test, group_test, at_place, members, is_explicit, type_group as read_group}
 use Rattle.walrus_section_reader.specs.declared.fault.Fault.{Fault}
 use Rattle.walrus_section_reader.specs.declared.fault.FaultKind.TheVariants as faults
 use Rattle.walrus_section_reader.specs.Faults.{read_fault, trouble_of}

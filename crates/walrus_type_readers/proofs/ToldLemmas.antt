@@ -4,13 +4,13 @@ use Rattle.std.specs.Option.{option_map}
 use Rattle.std.proofs.Math.Seq.{take-suc}
 use Rattle.std.proofs.lemmas.List.{map_push}
 use Rattle.std.specs.List.{list_any}
-use Rattle.wasm_grammar.specs.TypeWords.{value_of}
+use Rattle.walrus_known_sections.specs.wasm_sections.wasm_grammar.TypeWords.{value_of}
 use Rattle.wasm_ref_types.specs.declared.value.ValType.{ValType as ReadValue}
 use Rattle.wasm_ref_types.specs.declared.value.ValType.TheVariants as values
 use Rattle.walrus_forms.specs.declared.value.ValType.{ValType}
 use Rattle.walrus_forms.specs.declared.value.ValType.TheVariants.{I32, I64, F32, F64, V128}
 use Rattle.walrus_section_values.specs.Plain.{is_ref, plain_of}
-use Rattle.wasm_sections.specs.TypeNames.{both, told_all}
+use Rattle.walrus_known_sections.specs.wasm_sections.TypeNames.{both, told_all}
 
 module _ {A B : Type 0} (f : A → Option B) where
   abbrev first : B → List B → List B

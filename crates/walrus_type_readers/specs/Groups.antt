@@ -10,10 +10,10 @@ use Rattle.walrus_forms.specs.declared.record.TypeRecord.{TypeRecord}
 use Rattle.walrus_forms.specs.declared.record.GroupRecord.{GroupRecord}
 use Rattle.walrus_forms.specs.Kinds.{Kind}
 use Rattle.walrus_forms.specs.Records.{TypeGroup, record_kind, type_group}
-use Rattle.wasm_formats.specs.Stops.{Trouble, Parsing, ◌>>=◌}
-use Rattle.wasm_grammar.specs.States.{State}
-use Rattle.wasm_sections.specs.TypeNames.{kind_of}
-use Rattle.wasm_sections.specs.TypeSection.{GroupEntry, Measured, rectype, members_test, sub_test, at_place, group, add_group, type_group as read_group}
+use Rattle.walrus_known_sections.specs.wasm_sections.wasm_grammar.wasm_formats.Stops.{Trouble, Parsing, ◌>>=◌}
+use Rattle.walrus_known_sections.specs.wasm_sections.wasm_grammar.States.{State}
+use Rattle.walrus_known_sections.specs.wasm_sections.TypeNames.{kind_of}
+use Rattle.walrus_known_sections.specs.wasm_sections.TypeSection.{GroupEntry, Measured, rectype, members_test, sub_test, at_place, group, add_group, type_group as read_group}
 use Rattle.walrus_section_reader.specs.declared.fault.Fault.{Fault}
 use Rattle.walrus_section_reader.specs.Faults.{trouble_of, no_memory}
 use Rattle.walrus_section_reader.specs.Steps.{stepped, put_in}

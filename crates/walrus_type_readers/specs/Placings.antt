@@ -11,16 +11,16 @@ use Rattle.wasm_reader.specs.Text.{size_at}
 use Rattle.wasm_types.specs.declared.subtype.SubType.{SubType}
 use Rattle.wasm_types.specs.Readings.{sub_at, sub_after}
 use Rattle.wasm_types.specs.Placed.{Placed, placed_sub_at, placed_after, placed_at}
-use Rattle.wasm_formats.specs.Stops.{Trouble, Read, Parsing, ◌>>=◌, value_at}
-use Rattle.wasm_formats.specs.Formats.{Format, Inside}
-use Rattle.wasm_formats.specs.Joined.{checked, tested}
-use Rattle.wasm_formats.specs.Lists.{parse_entries}
-use Rattle.wasm_formats.specs.Wholes.{u32}
-use Rattle.wasm_formats.specs.Led.{led}
-use Rattle.wasm_formats.specs.Bytes.{either}
-use Rattle.wasm_file_formats.specs.Barred.{barred}
-use Rattle.wasm_grammar.specs.Values.{must}
-use Rattle.wasm_sections.specs.TypeSection.{sub, Measured, measured, behind, Explicit, explicit, GroupEntry, rectype, single, sub_apart, sub_some, sub_wants, single_apart, single_some, single_wants, placed, members, is_explicit}
+use Rattle.walrus_known_sections.specs.wasm_sections.wasm_grammar.wasm_formats.Stops.{Trouble, Read, Parsing, ◌>>=◌, value_at}
+use Rattle.walrus_known_sections.specs.wasm_sections.wasm_grammar.wasm_formats.Formats.{Format, Inside}
+use Rattle.walrus_known_sections.specs.wasm_sections.wasm_grammar.wasm_formats.Joined.{checked, tested}
+use Rattle.walrus_known_sections.specs.wasm_sections.wasm_grammar.wasm_formats.Lists.{parse_entries}
+use Rattle.walrus_known_sections.specs.wasm_sections.wasm_grammar.wasm_formats.Wholes.{u32}
+use Rattle.walrus_known_sections.specs.wasm_sections.wasm_grammar.wasm_formats.Led.{led}
+use Rattle.walrus_known_sections.specs.wasm_sections.wasm_grammar.wasm_formats.Bytes.{either}
+use Rattle.walrus_known_sections.specs.wasm_sections.wasm_file_formats.Barred.{barred}
+use Rattle.walrus_known_sections.specs.wasm_sections.wasm_grammar.Values.{must}
+use Rattle.walrus_known_sections.specs.wasm_sections.TypeSection.{sub, Measured, measured, behind, Explicit, explicit, GroupEntry, rectype, single, sub_apart, sub_some, sub_wants, single_apart, single_some, single_wants, placed, members, is_explicit}
 use Rattle.walrus_section_reader.specs.Steps.{put_in}
 
 -- a member by the number of bytes that are left at its first byte

@@ -2,7 +2,7 @@
 
 ghost use Rattle.std.specs.Prelude.{◌≡◌, nat_le};
 ghost use Rattle.std.specs.List.{filter_map, list_any};
-ghost use Rattle.wasm_sections.specs.TypeNames.{field_index, index_number, inner_names, sub_names, super_names, value_index};
+ghost use Rattle.walrus_known_sections.specs.wasm_sections.TypeNames.{field_index, index_number, inner_names, sub_names, super_names, value_index};
 
 use wasm_composite_types::{CompositeInnerType, FieldType};
 use wasm_ref_types::{PackedIndex, UnpackedIndex, ValType};

@@ -3,9 +3,9 @@
 ghost use Rattle.std.specs.Prelude.{◌≡◌, IfOk, map, option_map};
 ghost use Rattle.std.specs.List.{list_any};
 ghost use Rattle.walrus_forms.specs.Records.{field_of as field_told, record_form, record_kind, storage_of as storage_told, value_of as value_told};
-ghost use Rattle.wasm_grammar.specs.TypeWords.{value_of};
+ghost use Rattle.walrus_known_sections.specs.wasm_sections.wasm_grammar.TypeWords.{value_of};
 ghost use Rattle.walrus_section_values.specs.Plain.{is_ref, plain_of};
-ghost use Rattle.wasm_sections.specs.TypeNames.{composite_form, field_of, form_of, kind_of, storage_of, super_of, told_all};
+ghost use Rattle.walrus_known_sections.specs.wasm_sections.TypeNames.{composite_form, field_of, form_of, kind_of, storage_of, super_of, told_all};
 
 use crate::names::index_number;
 use std::alloc::{AllocError, Global};

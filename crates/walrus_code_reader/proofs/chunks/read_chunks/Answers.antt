@@ -1,7 +1,7 @@
 use Rattle.std.proofs.Common.{subst, sym, ◌∙◌, ◌+◌, ap, map, List}
 use Rattle.std.proofs.lemmas.List.{map-append}
 use Rattle.std.proofs.lemmas.Result.{err_from_is_err_and}
-use Rattle.wasm_sections.specs.Sections.{ChunkEntry}
+use Rattle.walrus_known_sections.specs.wasm_sections.Sections.{ChunkEntry}
 use Rattle.walrus_code_reader.specs.Code.{chunk_entry_of, chunks_of}
 use Rattle.walrus_code_reader.proofs.ChunkLemmas.{Chunked, chunked, chunked_not}
 use Rattle.walrus_code_reader.proofs.chunks.read_chunks.Goals as goal

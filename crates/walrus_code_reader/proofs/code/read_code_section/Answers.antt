@@ -1,7 +1,7 @@
 use Rattle.std.proofs.Common.{refl}
 use Rattle.std.proofs.lemmas.Result.{err_from_is_err_and}
 use Rattle.wasm_formats.specs.Wholes.{sized, whole}
-use Rattle.wasm_sections.specs.Sections.{code}
+use Rattle.walrus_known_sections.specs.wasm_sections.Sections.{code}
 use Rattle.walrus_section_reader.specs.Windows.{not_opened, not_parsed, parsed}
 use Rattle.walrus_known_sections.specs.Leads.{handed_on}
 use Rattle.walrus_known_sections.specs.State.{state_of}

@@ -1,5 +1,5 @@
 use Rattle.std.proofs.Common.{refl, arith, ◌-◌, ◌+◌, ◌≡◌}
-use Rattle.wasm_sections.specs.Sections.{code_size}
+use Rattle.walrus_known_sections.specs.wasm_sections.Sections.{code_size}
 use Rattle.walrus_code_reader.specs.Code.{code_entry_of}
 use Rattle.walrus_code_reader.proofs.ChunkLemmas.{chunks_are}
 use Rattle.walrus_code_reader.proofs.code.set_bodies.Goals as goal

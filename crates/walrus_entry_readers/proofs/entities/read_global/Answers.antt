@@ -1,10 +1,10 @@
-use Rattle.wasm_formats.specs.declared.fault.Limited.TheVariants as limited
-use Rattle.wasm_formats.specs.declared.fault.Space.TheVariants as spaces
-use Rattle.wasm_grammar.specs.States.{has_room}
-use Rattle.wasm_formats.specs.Joined.{after}
-use Rattle.wasm_grammar.specs.Exprs.{expr}
-use Rattle.wasm_grammar.specs.States.{known}
-use Rattle.wasm_sections.specs.Entities.{global_type}
+use Rattle.walrus_known_sections.specs.wasm_sections.wasm_grammar.wasm_formats.declared.fault.Limited.TheVariants as limited
+use Rattle.walrus_known_sections.specs.wasm_sections.wasm_grammar.wasm_formats.declared.fault.Space.TheVariants as spaces
+use Rattle.walrus_known_sections.specs.wasm_sections.wasm_grammar.States.{has_room}
+use Rattle.walrus_known_sections.specs.wasm_sections.wasm_grammar.wasm_formats.Joined.{after}
+use Rattle.walrus_known_sections.specs.wasm_sections.wasm_grammar.Exprs.{expr}
+use Rattle.walrus_known_sections.specs.wasm_sections.wasm_grammar.States.{known}
+use Rattle.walrus_known_sections.specs.wasm_sections.Entities.{global_type}
 use Rattle.walrus_entry_readers.specs.Entries.{global_entry_of}
 use Rattle.walrus_known_sections.specs.State.{state_of}
 use Rattle.walrus_known_sections.specs.Leads.{room_read}

@@ -1,12 +1,12 @@
 use Rattle.std.proofs.Common.{refl}
 use Rattle.wasm_reader.specs.declared.error.ErrorKind.TheVariants as kinds
 use Rattle.wasm_reader.specs.Reading.{plain}
-use Rattle.wasm_formats.specs.Stops.{Read}
-use Rattle.wasm_formats.specs.Bytes.{literal}
-use Rattle.wasm_formats.specs.Joined.{after}
-use Rattle.wasm_grammar.specs.Exprs.{expr}
-use Rattle.wasm_grammar.specs.States.{known}
-use Rattle.wasm_sections.specs.Entities.{table_type}
+use Rattle.walrus_known_sections.specs.wasm_sections.wasm_grammar.wasm_formats.Stops.{Read}
+use Rattle.walrus_known_sections.specs.wasm_sections.wasm_grammar.wasm_formats.Bytes.{literal}
+use Rattle.walrus_known_sections.specs.wasm_sections.wasm_grammar.wasm_formats.Joined.{after}
+use Rattle.walrus_known_sections.specs.wasm_sections.wasm_grammar.Exprs.{expr}
+use Rattle.walrus_known_sections.specs.wasm_sections.wasm_grammar.States.{known}
+use Rattle.walrus_known_sections.specs.wasm_sections.Entities.{table_type}
 use Rattle.walrus_section_reader.specs.Repeats.{unless_memory}
 use Rattle.walrus_entry_readers.specs.Entries.{init_table_of, initialised_of}
 use Rattle.walrus_known_sections.specs.State.{state_of}

@@ -1,9 +1,9 @@
 use Rattle.std.proofs.Common.{refl}
 use Rattle.std.proofs.lemmas.Result.{err_from_is_err_and}
-use Rattle.wasm_formats.specs.Joined.{after}
-use Rattle.wasm_grammar.specs.Exprs.{expr}
-use Rattle.wasm_grammar.specs.States.{known}
-use Rattle.wasm_sections.specs.Entities.{global_type}
+use Rattle.walrus_known_sections.specs.wasm_sections.wasm_grammar.wasm_formats.Joined.{after}
+use Rattle.walrus_known_sections.specs.wasm_sections.wasm_grammar.Exprs.{expr}
+use Rattle.walrus_known_sections.specs.wasm_sections.wasm_grammar.States.{known}
+use Rattle.walrus_known_sections.specs.wasm_sections.Entities.{global_type}
 use Rattle.walrus_section_values.specs.Globals.{expr_of}
 use Rattle.walrus_section_reader.specs.Repeats.{unless_memory}
 use Rattle.walrus_entry_readers.specs.Entries.{global_entry_of}

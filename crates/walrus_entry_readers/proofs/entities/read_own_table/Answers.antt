@@ -1,7 +1,7 @@
 use Rattle.std.proofs.Common.{refl}
 use Rattle.std.proofs.lemmas.Result.{err_from_is_err_and}
-use Rattle.wasm_formats.specs.Led.{led}
-use Rattle.wasm_sections.specs.Entities.{initialised, table_type, table_apart, table_some, table_wants}
+use Rattle.walrus_known_sections.specs.wasm_sections.wasm_grammar.wasm_formats.Led.{led}
+use Rattle.walrus_known_sections.specs.wasm_sections.Entities.{initialised, table_type, table_apart, table_some, table_wants}
 use Rattle.walrus_section_reader.specs.Repeats.{unless_memory}
 use Rattle.walrus_entry_readers.specs.Entries.{table_entry_of}
 use Rattle.walrus_known_sections.specs.Items.{table_type_of}

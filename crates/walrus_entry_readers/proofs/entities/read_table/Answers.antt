@@ -1,8 +1,8 @@
-use Rattle.wasm_formats.specs.declared.fault.Limited.TheVariants as limited
-use Rattle.wasm_formats.specs.declared.fault.Space.TheVariants as spaces
-use Rattle.wasm_grammar.specs.States.{has_room}
-use Rattle.wasm_formats.specs.Led.{led}
-use Rattle.wasm_sections.specs.Entities.{initialised, table_type, table_apart, table_some, table_wants}
+use Rattle.walrus_known_sections.specs.wasm_sections.wasm_grammar.wasm_formats.declared.fault.Limited.TheVariants as limited
+use Rattle.walrus_known_sections.specs.wasm_sections.wasm_grammar.wasm_formats.declared.fault.Space.TheVariants as spaces
+use Rattle.walrus_known_sections.specs.wasm_sections.wasm_grammar.States.{has_room}
+use Rattle.walrus_known_sections.specs.wasm_sections.wasm_grammar.wasm_formats.Led.{led}
+use Rattle.walrus_known_sections.specs.wasm_sections.Entities.{initialised, table_type, table_apart, table_some, table_wants}
 use Rattle.walrus_entry_readers.specs.Entries.{table_entry_of}
 use Rattle.walrus_known_sections.specs.State.{state_of}
 use Rattle.walrus_known_sections.specs.Leads.{room_read}

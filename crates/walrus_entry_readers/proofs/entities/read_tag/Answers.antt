@@ -1,7 +1,7 @@
-use Rattle.wasm_formats.specs.declared.fault.Limited.TheVariants as limited
-use Rattle.wasm_formats.specs.declared.fault.Space.TheVariants as spaces
-use Rattle.wasm_grammar.specs.States.{has_room}
-use Rattle.wasm_sections.specs.Entities.{tag_type}
+use Rattle.walrus_known_sections.specs.wasm_sections.wasm_grammar.wasm_formats.declared.fault.Limited.TheVariants as limited
+use Rattle.walrus_known_sections.specs.wasm_sections.wasm_grammar.wasm_formats.declared.fault.Space.TheVariants as spaces
+use Rattle.walrus_known_sections.specs.wasm_sections.wasm_grammar.States.{has_room}
+use Rattle.walrus_known_sections.specs.wasm_sections.Entities.{tag_type}
 use Rattle.walrus_section_reader.specs.Repeats.{unless_memory}
 use Rattle.walrus_entry_readers.specs.Entries.{tag_type_of}
 use Rattle.walrus_known_sections.specs.State.{state_of}

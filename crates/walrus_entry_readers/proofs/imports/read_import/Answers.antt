@@ -1,6 +1,6 @@
 use Rattle.std.proofs.Common.{sym, subst, Err}
 use Rattle.std.proofs.lemmas.Result.{err_from_is_err_and}
-use Rattle.wasm_sections.specs.Entities.{import_entry}
+use Rattle.walrus_known_sections.specs.wasm_sections.Entities.{import_entry}
 use Rattle.walrus_section_reader.specs.declared.fault.Fault.{Fault}
 use Rattle.walrus_section_reader.specs.Parses.{ParsesExactly}
 use Rattle.walrus_entry_readers.specs.Imports.{import_entry_of}

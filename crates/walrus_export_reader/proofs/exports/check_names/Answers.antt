@@ -1,6 +1,6 @@
 use Rattle.std.proofs.Common.{arith, subst, sym}
 use Rattle.std.specs.Prelude.{Err}
-use Rattle.walrus_section_reader.specs.declared.fault.Fault.{Fault}
+use Rattle.walrus_section_values.specs.walrus_section_reader.declared.fault.Fault.{Fault}
 use Rattle.walrus_export_reader.specs.Repeats.{names_of}
 use Rattle.walrus_export_reader.specs.Verdicts.{Checks}
 use Rattle.walrus_export_reader.proofs.Judged.{names_new, name_twice}

@@ -1,5 +1,5 @@
 use Rattle.wasm_reader.specs.Cursor.{end_of}
-use Rattle.walrus_known_sections.specs.State.{state_of}
+use Rattle.walrus_section_frames.specs.walrus_known_sections.State.{state_of}
 use Rattle.walrus_file_reader.proofs.PutLemmas.{types, imports, functions, tables, memories, globals, exports, elements, segments, tags, put_as}
 use Rattle.walrus_file_reader.proofs.contents.read_contents.Goals as goal
 

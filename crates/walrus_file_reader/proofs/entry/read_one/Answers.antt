@@ -1,7 +1,7 @@
 use Rattle.std.proofs.Common.{refl}
 use Rattle.std.proofs.lemmas.Result.{err_from_is_err_and}
-use Rattle.walrus_known_sections.specs.Leads.{handed_on}
-use Rattle.walrus_known_sections.specs.State.{state_of}
+use Rattle.walrus_section_frames.specs.walrus_known_sections.Leads.{handed_on}
+use Rattle.walrus_section_frames.specs.walrus_known_sections.State.{state_of}
 use Rattle.walrus_file_reader.specs.Contents.{section_step}
 use Rattle.walrus_file_reader.proofs.EntryLemmas.{shorter, contents_fail, contents_read}
 use Rattle.walrus_file_reader.proofs.entry.read_one.Goals as goal

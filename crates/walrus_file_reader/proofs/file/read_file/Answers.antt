@@ -1,6 +1,6 @@
 use Rattle.std.proofs.lemmas.Result.{err_from_is_err_and}
 use Rattle.std.proofs.Common.{◌∙◌, sym}
-use Rattle.walrus_known_sections.specs.State.{state_of}
+use Rattle.walrus_section_frames.specs.walrus_known_sections.State.{state_of}
 use Rattle.walrus_file_reader.specs.Files.{file_steps}
 use Rattle.walrus_file_reader.proofs.FileLemmas.{handed_whole, no_header, behind_header, header_then}
 use Rattle.walrus_file_reader.proofs.file.read_file.Goals as goal

@@ -1,7 +1,7 @@
 use Rattle.std.proofs.Common.{arith}
 use Rattle.std.proofs.lemmas.Result.{err_from_is_err_and}
 use Rattle.walrus_section_reader.specs.Windows.{runs_on, run_stops, run_ends}
-use Rattle.walrus_known_sections.specs.State.{state_of}
+use Rattle.walrus_section_frames.specs.walrus_known_sections.State.{state_of}
 use Rattle.walrus_file_reader.specs.Contents.{section_step}
 use Rattle.walrus_file_reader.specs.Files.{rounds}
 use Rattle.walrus_file_reader.proofs.FileLemmas.{as_rounds, handed_whole, runs_none, some_left, none_left}

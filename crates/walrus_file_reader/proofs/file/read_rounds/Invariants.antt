@@ -1,4 +1,4 @@
-use Rattle.walrus_known_sections.specs.State.{state_of}
+use Rattle.walrus_section_frames.specs.walrus_known_sections.State.{state_of}
 use Rattle.walrus_code_reader.specs.Code.{code_place}
 use Rattle.walrus_section_reader.specs.Windows.{Runs}
 use Rattle.walrus_file_reader.specs.Contents.{section_step}

@@ -1,8 +1,8 @@
 use Rattle.std.proofs.Common.{ap, sym, subst, arith}
 use Rattle.std.proofs.lemmas.List.{get_or_default}
-use Rattle.wasm_grammar.specs.States.{State}
+use Rattle.walrus_section_frames.specs.walrus_known_sections.wasm_sections.wasm_grammar.States.{State}
 use Rattle.walrus_errors.specs.declared.error.ModuleError.{ModuleError}
-use Rattle.walrus_known_sections.specs.State.{state_of}
+use Rattle.walrus_section_frames.specs.walrus_known_sections.State.{state_of}
 use Rattle.walrus_file_reader.specs.Files.{IsRefused}
 use Rattle.walrus_file_reader.proofs.FileLemmas.{begins, file_read, file_refused}
 use Rattle.walrus_file_reader.proofs.file.read_sections.Goals as goal

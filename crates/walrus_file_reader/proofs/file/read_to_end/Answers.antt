@@ -1,6 +1,6 @@
 use Rattle.std.proofs.lemmas.Result.{err_from_is_err_and}
 use Rattle.std.proofs.Common.{◌∙◌, sym}
-use Rattle.walrus_known_sections.specs.State.{state_of}
+use Rattle.walrus_section_frames.specs.walrus_known_sections.State.{state_of}
 use Rattle.walrus_file_reader.specs.Files.{sections_to_end}
 use Rattle.walrus_file_reader.proofs.FileLemmas.{handed_whole, rounds_fail, lacks, has_them}
 use Rattle.walrus_file_reader.proofs.file.read_to_end.Goals as goal

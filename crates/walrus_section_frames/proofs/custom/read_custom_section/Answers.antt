@@ -1,6 +1,6 @@
 use Rattle.std.proofs.Common.{refl}
 use Rattle.std.proofs.lemmas.Result.{err_from_is_err_and}
-use Rattle.wasm_sections.specs.Sections.{custom}
+use Rattle.walrus_entry_readers.specs.walrus_known_sections.wasm_sections.Sections.{custom}
 use Rattle.walrus_section_frames.proofs.Exact.{not_opened, not_parsed, parsed}
 use Rattle.walrus_section_frames.specs.Customs.{custom_entry_of}
 use Rattle.walrus_section_frames.proofs.custom.read_custom_section.Goals as goal

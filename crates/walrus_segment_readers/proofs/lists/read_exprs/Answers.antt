@@ -1,12 +1,12 @@
 use Rattle.std.proofs.Common.{arith, refl}
 use Rattle.std.proofs.lemmas.Result.{err_from_is_err_and}
-use Rattle.wasm_grammar.specs.Exprs.{expr}
-use Rattle.wasm_grammar.specs.States.{known}
-use Rattle.walrus_section_reader.specs.Repeats.{collects_not, collected, listed_at}
-use Rattle.walrus_section_values.specs.Globals.{expr_of}
+use Rattle.walrus_entry_readers.specs.walrus_known_sections.wasm_sections.wasm_grammar.Exprs.{expr}
+use Rattle.walrus_entry_readers.specs.walrus_known_sections.wasm_sections.wasm_grammar.States.{known}
+use Rattle.walrus_entry_readers.specs.walrus_section_values.walrus_section_reader.Repeats.{collects_not, collected, listed_at}
+use Rattle.walrus_entry_readers.specs.walrus_section_values.Globals.{expr_of}
 use Rattle.walrus_segment_readers.specs.Lists.{exprs_of, expr_under, exprs_none, exprs_more}
-use Rattle.walrus_known_sections.specs.Leads.{handed_on}
-use Rattle.walrus_known_sections.specs.State.{state_of}
+use Rattle.walrus_entry_readers.specs.walrus_known_sections.Leads.{handed_on}
+use Rattle.walrus_entry_readers.specs.walrus_known_sections.State.{state_of}
 use Rattle.walrus_segment_readers.proofs.lists.read_exprs.Goals as goal
 
 pub loop-init : goal.loop-init

@@ -1,8 +1,8 @@
-use Rattle.wasm_grammar.specs.Exprs.{expr}
-use Rattle.wasm_grammar.specs.States.{known}
-use Rattle.walrus_section_reader.specs.Repeats.{Collects}
+use Rattle.walrus_entry_readers.specs.walrus_known_sections.wasm_sections.wasm_grammar.Exprs.{expr}
+use Rattle.walrus_entry_readers.specs.walrus_known_sections.wasm_sections.wasm_grammar.States.{known}
+use Rattle.walrus_entry_readers.specs.walrus_section_values.walrus_section_reader.Repeats.{Collects}
 use Rattle.walrus_segment_readers.specs.Lists.{exprs_of}
-use Rattle.walrus_known_sections.specs.State.{state_of}
+use Rattle.walrus_entry_readers.specs.walrus_known_sections.State.{state_of}
 use Rattle.walrus_segment_readers.proofs.lists.read_exprs.Given as goal
 
 abbrev pub invariant-loop : goal.invariant-loop

@@ -1,11 +1,11 @@
 use Rattle.std.proofs.Common.{arith, refl, ℕ}
 use Rattle.std.proofs.lemmas.Result.{err_from_is_err_and}
 use Rattle.wasm_reader.specs.Reading.{plain}
-use Rattle.wasm_formats.specs.declared.fault.Space.TheVariants as spaces
-use Rattle.wasm_grammar.specs.Values.{index}
-use Rattle.walrus_section_reader.specs.Repeats.{collects_none, collects, collects_not, collected, unless_memory, listed_at}
+use Rattle.walrus_entry_readers.specs.walrus_known_sections.wasm_sections.wasm_grammar.wasm_formats.declared.fault.Space.TheVariants as spaces
+use Rattle.walrus_entry_readers.specs.walrus_known_sections.wasm_sections.wasm_grammar.Values.{index}
+use Rattle.walrus_entry_readers.specs.walrus_section_values.walrus_section_reader.Repeats.{collects_none, collects, collects_not, collected, unless_memory, listed_at}
 use Rattle.walrus_segment_readers.specs.Lists.{numbers_of}
-use Rattle.walrus_known_sections.specs.Leads.{handed_on}
+use Rattle.walrus_entry_readers.specs.walrus_known_sections.Leads.{handed_on}
 use Rattle.walrus_segment_readers.proofs.lists.read_indices.Goals as goal
 
 pub loop-init : goal.loop-init

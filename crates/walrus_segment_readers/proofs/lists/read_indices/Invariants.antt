@@ -1,6 +1,6 @@
-use Rattle.wasm_formats.specs.declared.fault.Space.TheVariants as spaces
-use Rattle.wasm_grammar.specs.Values.{index}
-use Rattle.walrus_section_reader.specs.Repeats.{Collects}
+use Rattle.walrus_entry_readers.specs.walrus_known_sections.wasm_sections.wasm_grammar.wasm_formats.declared.fault.Space.TheVariants as spaces
+use Rattle.walrus_entry_readers.specs.walrus_known_sections.wasm_sections.wasm_grammar.Values.{index}
+use Rattle.walrus_entry_readers.specs.walrus_section_values.walrus_section_reader.Repeats.{Collects}
 use Rattle.walrus_segment_readers.proofs.lists.read_indices.Given as goal
 
 abbrev pub invariant-loop : goal.invariant-loop

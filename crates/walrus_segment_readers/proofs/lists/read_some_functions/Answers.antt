@@ -1,5 +1,5 @@
-use Rattle.wasm_formats.specs.declared.fault.Space.TheVariants as spaces
-use Rattle.wasm_grammar.specs.Values.{index}
+use Rattle.walrus_entry_readers.specs.walrus_known_sections.wasm_sections.wasm_grammar.wasm_formats.declared.fault.Space.TheVariants as spaces
+use Rattle.walrus_entry_readers.specs.walrus_known_sections.wasm_sections.wasm_grammar.Values.{index}
 use Rattle.walrus_segment_readers.specs.Lists.{numbers_of, many_parse}
 use Rattle.walrus_segment_readers.proofs.lists.read_some_functions.Goals as goal
 

@@ -1,8 +1,8 @@
-use Rattle.wasm_sections.specs.Segments.{contents, into_memory}
+use Rattle.walrus_entry_readers.specs.walrus_known_sections.wasm_sections.Segments.{contents, into_memory}
 use Rattle.wasm_reader.specs.Reading.{seen_bytes}
-use Rattle.walrus_section_reader.specs.Repeats.{unless_memory}
-use Rattle.walrus_section_values.specs.Globals.{expr_of}
-use Rattle.walrus_known_sections.specs.State.{state_of}
+use Rattle.walrus_entry_readers.specs.walrus_section_values.walrus_section_reader.Repeats.{unless_memory}
+use Rattle.walrus_entry_readers.specs.walrus_section_values.Globals.{expr_of}
+use Rattle.walrus_entry_readers.specs.walrus_known_sections.State.{state_of}
 use Rattle.walrus_segment_readers.specs.Segments.{after_joined}
 use Rattle.walrus_segment_readers.proofs.segments.read_active_data.Goals as goal
 

@@ -1,6 +1,6 @@
-use Rattle.wasm_sections.specs.Segments.{functions, into_table}
-use Rattle.walrus_section_values.specs.Globals.{expr_of}
-use Rattle.walrus_known_sections.specs.State.{state_of}
+use Rattle.walrus_entry_readers.specs.walrus_known_sections.wasm_sections.Segments.{functions, into_table}
+use Rattle.walrus_entry_readers.specs.walrus_section_values.Globals.{expr_of}
+use Rattle.walrus_entry_readers.specs.walrus_known_sections.State.{state_of}
 use Rattle.walrus_segment_readers.specs.Lists.{numbers_of}
 use Rattle.walrus_segment_readers.specs.Segments.{after_joined}
 use Rattle.walrus_segment_readers.proofs.segments.read_active_functions.Goals as goal

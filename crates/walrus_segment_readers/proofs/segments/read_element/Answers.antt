@@ -1,12 +1,12 @@
 use Rattle.std.proofs.Common.{ℕ}
 use Rattle.wasm_reader.specs.Reading.{plain}
-use Rattle.wasm_formats.specs.declared.fault.Limited.TheVariants as limited
-use Rattle.wasm_formats.specs.declared.fault.Space.TheVariants as spaces
-use Rattle.wasm_formats.specs.Joined.{after}
-use Rattle.wasm_grammar.specs.States.{has_room}
-use Rattle.wasm_sections.specs.Segments.{element_flags, element_form}
-use Rattle.walrus_known_sections.specs.Leads.{room_read}
-use Rattle.walrus_known_sections.specs.State.{state_of}
+use Rattle.walrus_entry_readers.specs.walrus_known_sections.wasm_sections.wasm_grammar.wasm_formats.declared.fault.Limited.TheVariants as limited
+use Rattle.walrus_entry_readers.specs.walrus_known_sections.wasm_sections.wasm_grammar.wasm_formats.declared.fault.Space.TheVariants as spaces
+use Rattle.walrus_entry_readers.specs.walrus_known_sections.wasm_sections.wasm_grammar.wasm_formats.Joined.{after}
+use Rattle.walrus_entry_readers.specs.walrus_known_sections.wasm_sections.wasm_grammar.States.{has_room}
+use Rattle.walrus_entry_readers.specs.walrus_known_sections.wasm_sections.Segments.{element_flags, element_form}
+use Rattle.walrus_entry_readers.specs.walrus_known_sections.Leads.{room_read}
+use Rattle.walrus_entry_readers.specs.walrus_known_sections.State.{state_of}
 use Rattle.walrus_segment_readers.specs.Segments.{both_of, element_form_of}
 use Rattle.walrus_segment_readers.proofs.segments.read_element.Goals as goal
 

@@ -1,9 +1,9 @@
-use Rattle.wasm_sections.specs.Segments.{named_table, typed}
+use Rattle.walrus_entry_readers.specs.walrus_known_sections.wasm_sections.Segments.{named_table, typed}
 use Rattle.wasm_reader.specs.Reading.{plain}
 use Rattle.walrus_forms.specs.Records.{ref_of}
-use Rattle.walrus_section_values.specs.Globals.{expr_of}
-use Rattle.walrus_known_sections.specs.Leads.{by_window}
-use Rattle.walrus_known_sections.specs.State.{state_of}
+use Rattle.walrus_entry_readers.specs.walrus_section_values.Globals.{expr_of}
+use Rattle.walrus_entry_readers.specs.walrus_known_sections.Leads.{by_window}
+use Rattle.walrus_entry_readers.specs.walrus_known_sections.State.{state_of}
 use Rattle.walrus_segment_readers.specs.Lists.{exprs_of}
 use Rattle.walrus_segment_readers.specs.Segments.{both_of, after_joined}
 use Rattle.std.proofs.Common.{ℕ}

@@ -1,7 +1,7 @@
-use Rattle.wasm_sections.specs.Segments.{kind_of_functions, named_table}
+use Rattle.walrus_entry_readers.specs.walrus_known_sections.wasm_sections.Segments.{kind_of_functions, named_table}
 use Rattle.wasm_reader.specs.Reading.{plain}
-use Rattle.walrus_section_values.specs.Globals.{expr_of}
-use Rattle.walrus_known_sections.specs.State.{state_of}
+use Rattle.walrus_entry_readers.specs.walrus_section_values.Globals.{expr_of}
+use Rattle.walrus_entry_readers.specs.walrus_known_sections.State.{state_of}
 use Rattle.walrus_segment_readers.specs.Segments.{both_of, kind_of_functions_of, after_joined}
 use Rattle.std.proofs.Common.{ℕ}
 use Rattle.walrus_segment_readers.proofs.segments.read_functions_into.Goals as goal

@@ -1,6 +1,6 @@
-use Rattle.wasm_grammar.specs.States.{known}
-use Rattle.walrus_section_values.specs.Globals.{expr_of}
-use Rattle.walrus_known_sections.specs.State.{state_of}
+use Rattle.walrus_entry_readers.specs.walrus_known_sections.wasm_sections.wasm_grammar.States.{known}
+use Rattle.walrus_entry_readers.specs.walrus_section_values.Globals.{expr_of}
+use Rattle.walrus_entry_readers.specs.walrus_known_sections.State.{state_of}
 use Rattle.walrus_segment_readers.specs.Segments.{offset_wide}
 use Rattle.walrus_segment_readers.proofs.segments.read_into_table.Goals as goal
 

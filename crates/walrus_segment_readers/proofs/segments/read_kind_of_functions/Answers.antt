@@ -1,12 +1,12 @@
 use Rattle.std.proofs.Common.{refl}
 use Rattle.wasm_reader.specs.declared.error.ErrorKind.TheVariants as kinds
 use Rattle.wasm_reader.specs.Reading.{plain}
-use Rattle.wasm_formats.specs.Stops.{Read}
-use Rattle.wasm_formats.specs.Bytes.{literal}
-use Rattle.walrus_section_reader.specs.Repeats.{unless_memory}
-use Rattle.walrus_known_sections.specs.State.{state_of}
-use Rattle.walrus_known_sections.specs.Leads.{after_last}
-use Rattle.wasm_sections.specs.Segments.{functions}
+use Rattle.walrus_entry_readers.specs.walrus_known_sections.wasm_sections.wasm_grammar.wasm_formats.Stops.{Read}
+use Rattle.walrus_entry_readers.specs.walrus_known_sections.wasm_sections.wasm_grammar.wasm_formats.Bytes.{literal}
+use Rattle.walrus_entry_readers.specs.walrus_section_values.walrus_section_reader.Repeats.{unless_memory}
+use Rattle.walrus_entry_readers.specs.walrus_known_sections.State.{state_of}
+use Rattle.walrus_entry_readers.specs.walrus_known_sections.Leads.{after_last}
+use Rattle.walrus_entry_readers.specs.walrus_known_sections.wasm_sections.Segments.{functions}
 use Rattle.walrus_segment_readers.specs.Lists.{numbers_of}
 use Rattle.walrus_segment_readers.specs.Segments.{kind_of_functions_of}
 use Rattle.walrus_segment_readers.proofs.segments.read_kind_of_functions.Goals as goal

@@ -1,13 +1,13 @@
-use Rattle.wasm_sections.specs.Segments.{into_table}
+use Rattle.walrus_entry_readers.specs.walrus_known_sections.wasm_sections.Segments.{into_table}
 use Rattle.wasm_reader.specs.Reading.{plain}
-use Rattle.wasm_grammar.specs.Values.{index}
-use Rattle.walrus_section_reader.specs.Repeats.{unless_memory}
-use Rattle.walrus_section_values.specs.Globals.{expr_of}
-use Rattle.walrus_known_sections.specs.Leads.{by_window}
-use Rattle.walrus_known_sections.specs.State.{state_of}
+use Rattle.walrus_entry_readers.specs.walrus_known_sections.wasm_sections.wasm_grammar.Values.{index}
+use Rattle.walrus_entry_readers.specs.walrus_section_values.walrus_section_reader.Repeats.{unless_memory}
+use Rattle.walrus_entry_readers.specs.walrus_section_values.Globals.{expr_of}
+use Rattle.walrus_entry_readers.specs.walrus_known_sections.Leads.{by_window}
+use Rattle.walrus_entry_readers.specs.walrus_known_sections.State.{state_of}
 use Rattle.walrus_segment_readers.specs.Segments.{after_joined}
 use Rattle.std.proofs.Common.{ℕ, length}
-use Rattle.wasm_formats.specs.declared.fault.Space.TheVariants as spaces
+use Rattle.walrus_entry_readers.specs.walrus_known_sections.wasm_sections.wasm_grammar.wasm_formats.declared.fault.Space.TheVariants as spaces
 use Rattle.walrus_segment_readers.proofs.segments.read_named_table.Goals as goal
 
 pub returns : goal.returns

@@ -1,9 +1,9 @@
 use Rattle.std.proofs.Common.{ℕ}
 use Rattle.wasm_reader.specs.Reading.{plain}
-use Rattle.wasm_sections.specs.Segments.{data_flags, data_form}
-use Rattle.walrus_section_reader.specs.Repeats.{unless_memory}
-use Rattle.walrus_known_sections.specs.Leads.{by_window}
-use Rattle.walrus_known_sections.specs.State.{state_of}
+use Rattle.walrus_entry_readers.specs.walrus_known_sections.wasm_sections.Segments.{data_flags, data_form}
+use Rattle.walrus_entry_readers.specs.walrus_section_values.walrus_section_reader.Repeats.{unless_memory}
+use Rattle.walrus_entry_readers.specs.walrus_known_sections.Leads.{by_window}
+use Rattle.walrus_entry_readers.specs.walrus_known_sections.State.{state_of}
 use Rattle.walrus_segment_readers.specs.Segments.{after_joined, data_form_of}
 use Rattle.walrus_segment_readers.proofs.segments.read_own_data.Goals as goal
 

@@ -1,10 +1,10 @@
-use Rattle.wasm_sections.specs.Segments.{expressions}
-use Rattle.wasm_grammar.specs.Values.{ref_type}
-use Rattle.wasm_grammar.specs.States.{type_count}
+use Rattle.walrus_entry_readers.specs.walrus_known_sections.wasm_sections.Segments.{expressions}
+use Rattle.walrus_entry_readers.specs.walrus_known_sections.wasm_sections.wasm_grammar.Values.{ref_type}
+use Rattle.walrus_entry_readers.specs.walrus_known_sections.wasm_sections.wasm_grammar.States.{type_count}
 use Rattle.walrus_forms.specs.Records.{ref_of}
-use Rattle.walrus_section_reader.specs.Repeats.{unless_memory}
-use Rattle.walrus_known_sections.specs.Leads.{by_window}
-use Rattle.walrus_known_sections.specs.State.{state_of}
+use Rattle.walrus_entry_readers.specs.walrus_section_values.walrus_section_reader.Repeats.{unless_memory}
+use Rattle.walrus_entry_readers.specs.walrus_known_sections.Leads.{by_window}
+use Rattle.walrus_entry_readers.specs.walrus_known_sections.State.{state_of}
 use Rattle.walrus_segment_readers.specs.Lists.{exprs_of}
 use Rattle.walrus_segment_readers.specs.Segments.{after_joined}
 use Rattle.walrus_segment_readers.proofs.segments.read_typed.Goals as goal

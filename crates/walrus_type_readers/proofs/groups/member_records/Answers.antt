@@ -3,7 +3,7 @@ use Rattle.std.specs.List.{filter_map}
 use Rattle.std.proofs.lemmas.Result.{err_from_is_err_and}
 use Rattle.walrus_forms.specs.Records.{record_kind}
 use Rattle.wasm_types.specs.declared.subtype.SubType.{SubType}
-use Rattle.wasm_sections.specs.TypeSection.{members_test}
+use Rattle.walrus_known_sections.specs.wasm_sections.TypeSection.{members_test}
 use Rattle.walrus_type_readers.specs.Groups.{kind_in}
 use Rattle.walrus_type_readers.proofs.MemberLemmas.{later_tests, later_kinds, first_fails}
 use Rattle.walrus_type_readers.proofs.groups.member_records.Goals as goal

@@ -1,7 +1,7 @@
 use Rattle.std.proofs.Common.{◌≡◌, ◌++◌, map}
 use Rattle.std.specs.List.{filter_map}
 use Rattle.walrus_forms.specs.Records.{record_kind}
-use Rattle.wasm_sections.specs.TypeSection.{members_test}
+use Rattle.walrus_known_sections.specs.wasm_sections.TypeSection.{members_test}
 use Rattle.walrus_type_readers.specs.Groups.{kind_in}
 use Rattle.walrus_type_readers.proofs.groups.member_records.Given as goal
 

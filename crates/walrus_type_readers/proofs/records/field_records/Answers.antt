@@ -1,6 +1,6 @@
 use Rattle.std.proofs.Common.{◌∙◌, sym, ap}
 use Rattle.walrus_forms.specs.Records.{field_of as field_told}
-use Rattle.wasm_sections.specs.TypeNames.{field_of}
+use Rattle.walrus_known_sections.specs.wasm_sections.TypeNames.{field_of}
 use Rattle.walrus_type_readers.proofs.ToldLemmas.{told_more, told_not}
 use Rattle.walrus_type_readers.proofs.records.field_records.Goals as goal
 

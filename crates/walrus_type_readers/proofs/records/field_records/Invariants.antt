@@ -1,6 +1,6 @@
 use Rattle.std.proofs.Common.{◌≡◌, map, take, Some}
 use Rattle.walrus_forms.specs.Records.{field_of as field_told}
-use Rattle.wasm_sections.specs.TypeNames.{field_of, told_all}
+use Rattle.walrus_known_sections.specs.wasm_sections.TypeNames.{field_of, told_all}
 use Rattle.walrus_type_readers.proofs.records.field_records.Given as goal
 
 abbrev pub invariant-loop-field : goal.invariant-loop-field

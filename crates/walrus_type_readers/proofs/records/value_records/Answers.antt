@@ -1,6 +1,6 @@
 use Rattle.std.proofs.Common.{◌∙◌, List, Some, sym, ap}
 use Rattle.walrus_forms.specs.Records.{value_of as value_told}
-use Rattle.wasm_grammar.specs.TypeWords.{value_of}
+use Rattle.walrus_known_sections.specs.wasm_sections.wasm_grammar.TypeWords.{value_of}
 use Rattle.walrus_forms.specs.declared.value.ValType.{ValType}
 use Rattle.walrus_type_readers.proofs.ToldLemmas.{told_more, told_not, told_plain}
 use Rattle.walrus_type_readers.proofs.records.value_records.Goals as goal

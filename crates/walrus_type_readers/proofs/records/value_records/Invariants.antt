@@ -1,7 +1,7 @@
 use Rattle.std.proofs.Common.{◌≡◌, map, take, Some}
 use Rattle.walrus_forms.specs.Records.{value_of as value_told}
-use Rattle.wasm_grammar.specs.TypeWords.{value_of}
-use Rattle.wasm_sections.specs.TypeNames.{told_all}
+use Rattle.walrus_known_sections.specs.wasm_sections.wasm_grammar.TypeWords.{value_of}
+use Rattle.walrus_known_sections.specs.wasm_sections.TypeNames.{told_all}
 use Rattle.walrus_type_readers.proofs.records.value_records.Given as goal
 
 abbrev pub invariant-loop-ty : goal.invariant-loop-ty

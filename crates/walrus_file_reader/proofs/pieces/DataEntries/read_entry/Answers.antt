@@ -1,4 +1,4 @@
-use Rattle.walrus_known_sections.specs.State.{state_of}
+use Rattle.walrus_section_frames.specs.walrus_known_sections.State.{state_of}
 use Rattle.walrus_file_reader.proofs.DataLemmas.{data_reads}
 use Rattle.walrus_file_reader.proofs.pieces.DataEntries.read_entry.Goals as goal
 
