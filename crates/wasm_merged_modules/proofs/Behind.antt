@@ -24,7 +24,7 @@ use Rattle.wasm_normal_modules.specs.wasm_ruled_renamed.wasm_ruled_normal.wasm_r
 use Rattle.wasm_normal_modules.specs.wasm_ruled_renamed.wasm_ruled_normal.wasm_ruled_modules.wasm_module_rules.wasm_modules.wasm_body_grammar.wasm_formats.wasm_features.declared.WasmFeatures.{WasmFeatures}
 use Rattle.wasm_normal_modules.specs.wasm_ruled_renamed.wasm_ruled_normal.wasm_ruled_modules.wasm_module_rules.wasm_modules.wasm_body_grammar.wasm_grammar.Modules.{Module}
 use Rattle.wasm_normal_modules.specs.wasm_ruled_renamed.wasm_ruled_normal.wasm_ruled_modules.wasm_module_rules.wasm_modules.wasm_body_grammar.wasm_grammar.States.{types_of}
-use Rattle.wasm_ruled_normal.proofs.Picks.{all_at, latest_has, types_below}
+use Rattle.wasm_normal_modules.proofs.wasm_ruled_renamed.wasm_ruled_normal.Picks.{all_at, latest_has, types_below}
 use Rattle.wasm_merged_modules.proofs.Groups.{group_seen, seen, somes}
 use Rattle.wasm_merged_modules.proofs.Merged.{get_left, kept_are, kept_many, kind_there, kinds_joined, many, orderly, somes_at}
 use Rattle.wasm_merged_modules.proofs.Orders.{at_range, range_joined}

@@ -2,20 +2,20 @@
 -- normal forms.
 use Rattle.std.specs.Prelude.{ℕ, ◌≡◌, ◌<◌, ◌+◌, true, List, length, map, Option}
 use Rattle.std.specs.List.{AllByRecursion}
-use Rattle.wasm_ruled_normal.specs.Normal.{located, text_of}
-use Rattle.wasm_ruled_normal.specs.wasm_normal_form.Bodies.{is_used, new_number, used_keys}
-use Rattle.wasm_ruled_normal.specs.wasm_normal_form.Locals.{Key}
-use Rattle.wasm_ruled_normal.specs.wasm_normal_form.Normal.{normal_ops}
-use Rattle.wasm_ruled_normal.specs.wasm_normal_form.Roles.{Placed, placed}
-use Rattle.wasm_ruled_normal.specs.wasm_ruled_modules.Rules.{GroupsBelow, IsBody}
-use Rattle.wasm_ruled_normal.specs.wasm_ruled_modules.wasm_module_rules.wasm_modules.wasm_body_grammar.Rules.{Around, room}
-use Rattle.wasm_ruled_normal.specs.wasm_ruled_modules.wasm_module_rules.wasm_modules.wasm_body_grammar.wasm_grammar.Modules as grammar
-use Rattle.wasm_ruled_normal.specs.wasm_ruled_modules.wasm_module_rules.wasm_modules.wasm_body_grammar.wasm_grammar.walrus_forms.Renaming.{renamed_value}
-use Rattle.wasm_ruled_normal.specs.wasm_ruled_modules.wasm_module_rules.wasm_modules.wasm_body_grammar.wasm_operator_bytes.NameLaws.{same}
-use Rattle.wasm_ruled_normal.specs.wasm_ruled_modules.wasm_module_rules.wasm_modules.wasm_body_grammar.wasm_operator_bytes.Names.{Name, Renaming, operator_names, renamed_operator}
-use Rattle.wasm_ruled_normal.specs.wasm_ruled_modules.wasm_module_rules.wasm_modules.wasm_body_grammar.wasm_operator_bytes.wasm_immediates.Items.{Space, Types, Locals, Labels}
-use Rattle.wasm_ruled_normal.specs.wasm_ruled_modules.wasm_module_rules.wasm_modules.wasm_body_grammar.wasm_operators.Operators.{Seen}
-use Rattle.wasm_ruled_normal.specs.wasm_run_names.Picks.{block_pick}
+use Rattle.wasm_ruled_renamed.specs.wasm_ruled_normal.Normal.{located, text_of}
+use Rattle.wasm_ruled_renamed.specs.wasm_ruled_normal.wasm_normal_form.Bodies.{is_used, new_number, used_keys}
+use Rattle.wasm_ruled_renamed.specs.wasm_ruled_normal.wasm_normal_form.Locals.{Key}
+use Rattle.wasm_ruled_renamed.specs.wasm_ruled_normal.wasm_normal_form.Normal.{normal_ops}
+use Rattle.wasm_ruled_renamed.specs.wasm_ruled_normal.wasm_normal_form.Roles.{Placed, placed}
+use Rattle.wasm_ruled_renamed.specs.wasm_ruled_normal.wasm_ruled_modules.Rules.{GroupsBelow, IsBody}
+use Rattle.wasm_ruled_renamed.specs.wasm_ruled_normal.wasm_ruled_modules.wasm_module_rules.wasm_modules.wasm_body_grammar.Rules.{Around, room}
+use Rattle.wasm_ruled_renamed.specs.wasm_ruled_normal.wasm_ruled_modules.wasm_module_rules.wasm_modules.wasm_body_grammar.wasm_grammar.Modules as grammar
+use Rattle.wasm_ruled_renamed.specs.wasm_ruled_normal.wasm_ruled_modules.wasm_module_rules.wasm_modules.wasm_body_grammar.wasm_grammar.walrus_forms.Renaming.{renamed_value}
+use Rattle.wasm_ruled_renamed.specs.wasm_ruled_normal.wasm_ruled_modules.wasm_module_rules.wasm_modules.wasm_body_grammar.wasm_operator_bytes.NameLaws.{same}
+use Rattle.wasm_ruled_renamed.specs.wasm_ruled_normal.wasm_ruled_modules.wasm_module_rules.wasm_modules.wasm_body_grammar.wasm_operator_bytes.Names.{Name, Renaming, operator_names, renamed_operator}
+use Rattle.wasm_ruled_renamed.specs.wasm_ruled_normal.wasm_ruled_modules.wasm_module_rules.wasm_modules.wasm_body_grammar.wasm_operator_bytes.wasm_immediates.Items.{Space, Types, Locals, Labels}
+use Rattle.wasm_ruled_renamed.specs.wasm_ruled_normal.wasm_ruled_modules.wasm_module_rules.wasm_modules.wasm_body_grammar.wasm_operators.Operators.{Seen}
+use Rattle.wasm_ruled_renamed.specs.wasm_ruled_normal.wasm_run_names.Picks.{block_pick}
 use Rattle.wasm_ruled_renamed.specs.Bodies.{normal_renamed, with_numbers}
 use Rattle.wasm_ruled_renamed.specs.Renamed.{renamed_placed}
 

@@ -3,10 +3,10 @@
 ghost use Rattle.wasm_normal_modules.specs.Modules.{BlockTypesAreTheirPicks, NormalFormsOfReadModulesAreRuled, NormalModulesAreRuled, OwnNormalFormsAreRuled, ReadModulesBringNoTypes, ReadModulesMeetRules, RulesHoldCounted};
 ghost use Rattle.wasm_normal_modules.specs.Numbered.{NamesDecide, NumberedOperatorsAreNormal};
 
-use wasm_ruled_normal::laws::normal_operators_are_ruled;
 use wasm_ruled_renamed::laws::{
     normal_bodies_are_ruled, renamed_operators_are_ruled, retyped_types_serve,
 };
+use wasm_ruled_renamed::ruled_normal::laws::normal_operators_are_ruled;
 
 /// The normal form of a module that meets the rules meets them, with its types sent elsewhere.
 pub fn normal_modules_are_ruled()
