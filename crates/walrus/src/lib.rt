@@ -1,6 +1,7 @@
 //! WebAssembly modules as a program edits them: a module's collections of items under ids, its flags and refusals.
 #![tactic(auto)]
 
+pub use walrus_collections::local_function::LocalFunction;
 pub use walrus_collections::{
     Collection, ExportOf, ImportOf, Items, LocalFunctions, ModuleData, ModuleElements,
     ModuleExports, ModuleFunctions, ModuleGlobals, ModuleImports, ModuleMemories, ModuleTables,
@@ -9,21 +10,20 @@ pub use walrus_collections::{
 pub use walrus_config::ModuleConfig;
 pub use walrus_customs::{ModuleProducers, ProducerField, ProducerValue, RawCustomSection};
 pub use walrus_errors::{ErrorKind, Form, Limited, ModuleError, Result, Space};
-pub use walrus_local_function::LocalFunction;
-pub use walrus_meaning::module::Module;
+pub use walrus_meaning_kept::module::Module;
 pub use walrus_module_items::{
     Data, DataKind, Element, ElementItems, ElementKind, Export, ExportItem, FuncParams,
     FuncResults, Function, FunctionKind, Global, GlobalKind, Import, ImportKind, ImportedFunction,
     Memory, Table, Tag, TagKind,
 };
-pub use walrus_parse::{FromBuffer, Parse, parse_into};
+pub use walrus_parsed_ruled::parse::{FromBuffer, Parse, parse_into};
 pub use walrus_sections::{
     CodeTransform, CustomSection, ModuleCustomSections, Section, SectionFault, Sections,
 };
 
 /// What of a module is used, and dropping the rest.
 pub mod passes {
-    pub use walrus_passes_laws::passes::{Used, gc};
+    pub use walrus_meaning_kept::passes::{Used, gc};
     pub use walrus_roots::{Item, Roots};
 }
 
@@ -38,21 +38,29 @@ pub mod laws {
             adds_keep_linked, deleted_exports_keep_linked, replaces_keep_linked,
         };
         pub use walrus_linked_changes::{deletes_keep_linked, writes_keep_linked};
-        pub use walrus_meaning::linked::{empty_is_linked, imports_keep_linked, own_ids_are_kept};
+        pub use walrus_meaning_kept::linked::{
+            empty_is_linked, imports_keep_linked, own_ids_are_kept,
+        };
     }
 
     /// What a module means.
-    pub use walrus_meaning as meaning;
+    pub mod meaning {
+        pub use walrus_meaning_kept::meaning::{adds_are_seen, empty_means_empty, items_are_seen};
+    }
 
     /// What passes keep of a module.
-    pub use walrus_passes_laws as passes;
+    pub mod passes {
+        pub use walrus_meaning_kept::passes_laws::{
+            gc_keeps_linked, linked_are_served, second_gc_deletes_nothing,
+        };
+    }
 
     /// What a module is that was read: linked, it means its file, and meets the rules; and so does what a callback is handed.
     pub mod read {
-        pub use walrus_parsed_linked::laws::modules_that_are_read_are_linked;
-        pub use walrus_parsed_meaning::laws::modules_that_are_read_mean_their_files;
         pub use walrus_parsed_ruled::laws as ruled;
-        pub use walrus_sent_laws::laws as sent;
+        pub use walrus_parsed_ruled::parsed_linked::laws::modules_that_are_read_are_linked;
+        pub use walrus_parsed_ruled::parsed_meaning::laws::modules_that_are_read_mean_their_files;
+        pub use walrus_parsed_ruled::sent_laws::laws as sent;
     }
 
     /// What is reached is the least that holds the roots and is closed, and is what is reached in the module that is meant.
@@ -60,7 +68,7 @@ pub mod laws {
         pub use walrus_meaning_kept::laws::{
             kept_is_meant, passes_keep_what_is_meant, references_are_meant,
         };
-        pub use walrus_references::kept_is_least;
+        pub use walrus_meaning_kept::references::kept_is_least;
         pub use wasm_references::kept_is_least as meant_kept_is_least;
     }
 }

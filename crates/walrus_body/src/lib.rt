@@ -4,8 +4,8 @@
 
 pub use walrus_body_env::{AcceptAll, BodyEnv, BodyError, Validator};
 pub use walrus_body_frames::{BlockKind, ControlFrame, IfElseState, ValidationContext};
-pub use walrus_body_names::FunctionFacts;
-pub use walrus_body_writer::Output;
+pub use walrus_emission_laws::body_names::FunctionFacts;
+pub use walrus_emission_laws::body_writer::Output;
 pub use walrus_index_maps::{IdsToIndices, IndicesToIds, Space as IndexSpace, UnknownIndex};
 pub use walrus_local_function::LocalFunction;
 pub use walrus_operator_writer::write_operator;
@@ -56,13 +56,13 @@ pub mod laws {
     /// Bodies: their grammar, their normal form, what each operator of a body that is read asks and does, the trees that are read, and
     /// what is written of them.
     pub mod bodies {
-        pub use walrus_body_laws::laws as writing;
         pub use walrus_body_operands::laws as operands;
         pub use walrus_body_rules::laws as rules;
-        pub use walrus_body_steps::laws as steps;
-        pub use walrus_body_trees::laws as trees;
+        pub use walrus_emission_laws::body_laws::laws as writing;
+        pub use walrus_emission_laws::body_steps::laws as steps;
+        pub use walrus_emission_laws::body_trees::laws as trees;
         pub use walrus_emission_laws::laws as emission;
-        pub use walrus_local_numbers::laws as locals;
+        pub use walrus_emission_laws::local_numbers::laws as locals;
         pub use wasm_body_grammar::laws as grammar;
         pub use wasm_normal_form::laws as normal_form;
         pub use wasm_normal_laws::normal_bodies_are_normal;
@@ -70,8 +70,8 @@ pub mod laws {
 
     /// Runs: that a body and its normal form have equal traces.
     pub mod runs {
-        pub use wasm_run_laws::laws as normal_forms;
+        pub use walrus_emission_laws::run_laws::laws as normal_forms;
+        pub use walrus_emission_laws::runs::laws as machine;
         pub use wasm_run_names::laws as names;
-        pub use wasm_runs::laws as machine;
     }
 }

@@ -3,24 +3,24 @@ use Rattle.std.proofs.Common.{◌≡◌, ℕ, ◌<◌, Bool, true, false, List, 
 use Rattle.std.specs.Prelude.{fold}
 use Rattle.std.proofs.lemmas.List.Elements.{All-nil, All-cons, All-head, All-tail}
 use Rattle.wasm_features.specs.declared.WasmFeatures.{WasmFeatures}
-use Rattle.wasm_formats.specs.Bytes.{either_type}
-use Rattle.wasm_formats.specs.Lists.{SpellsEntries}
-use Rattle.wasm_operators.specs.Operators.{Seen}
-use Rattle.wasm_operators.specs.Spellings.{SpellsEither, SpellsOperator}
-use Rattle.wasm_operator_bytes.specs.Bytes.{operator_bytes}
+use Rattle.walrus_meaning.specs.walrus_local_function.walrus_body_locals.walrus_body_nesting.wasm_formats.Bytes.{either_type}
+use Rattle.walrus_meaning.specs.walrus_local_function.walrus_body_locals.walrus_body_nesting.wasm_formats.Lists.{SpellsEntries}
+use Rattle.walrus_meaning.specs.walrus_local_function.walrus_body_parser.wasm_operators.Operators.{Seen}
+use Rattle.walrus_meaning.specs.walrus_local_function.walrus_body_parser.wasm_operators.Spellings.{SpellsEither, SpellsOperator}
+use Rattle.walrus_meaning.specs.walrus_local_function.walrus_body_locals.wasm_body_grammar.wasm_operator_bytes.Bytes.{operator_bytes}
 use Rattle.wasm_operator_ranges.specs.Ranges.{OperatorFits}
 use Rattle.wasm_operator_ranges.specs.Laws.{SpelledIfFits}
-use Rattle.wasm_body_grammar.specs.Rules.{Around}
-use Rattle.wasm_body_grammar.specs.Bodies.{Parts, Point, is_closed, next_point, next_total, operator, operator_in, opened}
-use Rattle.wasm_normal_form.specs.Trees.{Tree, flat, open_in, tree_of}
-use Rattle.wasm_normal_form.specs.Normal.{normal}
-use Rattle.walrus_builder.specs.Functions.{seqs_of}
+use Rattle.walrus_meaning.specs.walrus_local_function.walrus_body_locals.wasm_body_grammar.Rules.{Around}
+use Rattle.walrus_meaning.specs.walrus_local_function.walrus_body_locals.wasm_body_grammar.Bodies.{Parts, Point, is_closed, next_point, next_total, operator, operator_in, opened}
+use Rattle.walrus_meaning.specs.walrus_local_function.walrus_body_locals.wasm_normal_form.Trees.{Tree, flat, open_in, tree_of}
+use Rattle.walrus_meaning.specs.walrus_local_function.walrus_body_locals.wasm_normal_form.Normal.{normal}
+use Rattle.walrus_meaning.specs.walrus_module.walrus_builder.Functions.{seqs_of}
 use Rattle.walrus_tree.specs.Text.{operators}
 use Rattle.walrus_tree.specs.TextLaws.{TreesAreNested, TextIsPlain}
 use Rattle.walrus_meaning.specs.Bodies.{own_piece}
-use Rattle.wasm_immediates.specs.declared.block_type.BlockType.{BlockType}
+use Rattle.walrus_meaning.specs.walrus_body_writer.walrus_pairing.wasm_immediates.declared.block_type.BlockType.{BlockType}
 use Rattle.walrus_operator_laws.specs.Laws.{OperatorComesBack}
-use Rattle.walrus_body_nesting.specs.Opens.{same}
+use Rattle.walrus_meaning.specs.walrus_local_function.walrus_body_locals.walrus_body_nesting.Opens.{same}
 use Rattle.walrus_body_trees.specs.Laws.{BodiesAreTrees, BodiesMeanTheirs, BodiesHoldTheirs, IsBody, meant, ops_of, renamed}
 use Rattle.walrus_body_trees.proofs.Counted.{AllFit, Counts, CountsAll, counts, first_counts, normal_counts}
 use Rattle.walrus_body_trees.proofs.Standing.{stands_tree}

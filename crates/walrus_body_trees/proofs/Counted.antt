@@ -3,24 +3,24 @@ use Rattle.std.proofs.Common.{ℕ, suc, ◌<◌, ◌≡◌, ◌-◌, Bool, true,
 use Rattle.std.specs.Prelude.{nat_lt}
 use Rattle.std.proofs.lemmas.Bool.{ltb-true}
 use Rattle.wasm_features.specs.declared.WasmFeatures.{WasmFeatures}
-use Rattle.wasm_formats.specs.Stops.{Trouble}
-use Rattle.wasm_formats.specs.Bytes.{either_type}
-use Rattle.wasm_formats.specs.Lists.{SpellsEntries, EntryRules}
-use Rattle.wasm_immediates.specs.declared.block_type.BlockType.{BlockType}
-use Rattle.wasm_immediates.specs.Items.{Labels, Names, Space}
-use Rattle.wasm_operators.specs.declared.entry.Flow.{Flow}
-use Rattle.wasm_operators.specs.declared.entry.Flow.TheVariants as flows
-use Rattle.wasm_operators.specs.Operators.{Seen, flow_of}
-use Rattle.wasm_operator_bytes.specs.Names.{operator_names}
+use Rattle.walrus_meaning.specs.walrus_local_function.walrus_body_locals.walrus_body_nesting.wasm_formats.Stops.{Trouble}
+use Rattle.walrus_meaning.specs.walrus_local_function.walrus_body_locals.walrus_body_nesting.wasm_formats.Bytes.{either_type}
+use Rattle.walrus_meaning.specs.walrus_local_function.walrus_body_locals.walrus_body_nesting.wasm_formats.Lists.{SpellsEntries, EntryRules}
+use Rattle.walrus_meaning.specs.walrus_body_writer.walrus_pairing.wasm_immediates.declared.block_type.BlockType.{BlockType}
+use Rattle.walrus_meaning.specs.walrus_body_writer.walrus_pairing.wasm_immediates.Items.{Labels, Names, Space}
+use Rattle.walrus_meaning.specs.walrus_local_function.walrus_body_parser.wasm_operators.declared.entry.Flow.{Flow}
+use Rattle.walrus_meaning.specs.walrus_local_function.walrus_body_parser.wasm_operators.declared.entry.Flow.TheVariants as flows
+use Rattle.walrus_meaning.specs.walrus_local_function.walrus_body_parser.wasm_operators.Operators.{Seen, flow_of}
+use Rattle.walrus_meaning.specs.walrus_local_function.walrus_body_locals.wasm_body_grammar.wasm_operator_bytes.Names.{operator_names}
 use Rattle.wasm_operator_ranges.specs.Ranges.{OperatorFits}
-use Rattle.wasm_grammar.specs.Values.{first_of}
-use Rattle.wasm_grammar.specs.Modules as grammar
-use Rattle.wasm_body_grammar.specs.Frames.{Frame, Plain, Choice, Trying, Catching, Caught, Turned, turned, label_count}
-use Rattle.wasm_body_grammar.specs.Rules.{Around, names_test, room, turned_test, operator_test}
-use Rattle.wasm_body_grammar.specs.Bodies.{Point, is_closed, frames_of, next_point, operator, operator_in, placed as placed_from}
-use Rattle.wasm_normal_form.specs.Roles.{placed, Role, Passes, Runs, Opens, Turns, Ends, role, role_in, cuts, is_if, end_op}
-use Rattle.wasm_normal_form.specs.Normal.{normal_from}
-use Rattle.wasm_normal_form.specs.Trees.{Tree, Close, Arm, Skip, Run, Nest, prepend, open_in, innermost}
+use Rattle.walrus_meaning.specs.walrus_local_function.walrus_body_locals.wasm_grammar.Values.{first_of}
+use Rattle.walrus_meaning.specs.walrus_local_function.walrus_body_locals.wasm_grammar.Modules as grammar
+use Rattle.walrus_meaning.specs.walrus_local_function.walrus_body_locals.wasm_body_grammar.Frames.{Frame, Plain, Choice, Trying, Catching, Caught, Turned, turned, label_count}
+use Rattle.walrus_meaning.specs.walrus_local_function.walrus_body_locals.wasm_body_grammar.Rules.{Around, names_test, room, turned_test, operator_test}
+use Rattle.walrus_meaning.specs.walrus_local_function.walrus_body_locals.wasm_body_grammar.Bodies.{Point, is_closed, frames_of, next_point, operator, operator_in, placed as placed_from}
+use Rattle.walrus_meaning.specs.walrus_local_function.walrus_body_locals.wasm_normal_form.Roles.{placed, Role, Passes, Runs, Opens, Turns, Ends, role, role_in, cuts, is_if, end_op}
+use Rattle.walrus_meaning.specs.walrus_local_function.walrus_body_locals.wasm_normal_form.Normal.{normal_from}
+use Rattle.walrus_meaning.specs.walrus_local_function.walrus_body_locals.wasm_normal_form.Trees.{Tree, Close, Arm, Skip, Run, Nest, prepend, open_in, innermost}
 
 -- a label that the operator names alone is below n
 abbrev pub Names1 : ℕ → Seen → Type 0

@@ -6,3 +6,5 @@ mod Words
 mod Texts
 mod Sizes
 mod Bodies
+-- Passed on to crates above, which then list this one alone.
+pub use Rattle.walrus_operator_laws.proofs as walrus_operator_laws

@@ -3,18 +3,18 @@ use Rattle.std.proofs.Common.{ℕ, zero, suc, ◌≡◌, ◌⊎◌, Bool, true, 
 use Rattle.std.specs.Prelude.{◌==◌, slice_get, if◌then◌else◌}
 use Rattle.std.proofs.lemmas.List.{append_assoc}
 use Rattle.wasm_features.specs.declared.WasmFeatures.{WasmFeatures}
-use Rattle.wasm_operators.specs.Operators.{Seen}
-use Rattle.wasm_normal_form.specs.Trees.{Tree as OpTree, Close, Arm, Skip, Run, Nest}
-use Rattle.walrus_instr.specs.declared.instr.Instr.{Instr}
-use Rattle.walrus_instr.specs.declared.seq.InstrLocId.{InstrLocId}
-use Rattle.walrus_instr.specs.declared.seq.InstrSeq.{InstrSeq}
-use Rattle.walrus_instr.specs.declared.seq.InstrSeqType.{InstrSeqType}
-use Rattle.walrus_builder.specs.Built.{Seq, seq_of}
-use Rattle.walrus_walks.specs.Tree.{children_in}
+use Rattle.walrus_meaning.specs.walrus_local_function.walrus_body_parser.wasm_operators.Operators.{Seen}
+use Rattle.walrus_meaning.specs.walrus_local_function.walrus_body_locals.wasm_normal_form.Trees.{Tree as OpTree, Close, Arm, Skip, Run, Nest}
+use Rattle.walrus_meaning.specs.walrus_body_writer.walrus_body_env.walrus_instr.declared.instr.Instr.{Instr}
+use Rattle.walrus_meaning.specs.walrus_body_writer.walrus_body_env.walrus_instr.declared.seq.InstrLocId.{InstrLocId}
+use Rattle.walrus_meaning.specs.walrus_body_writer.walrus_body_env.walrus_instr.declared.seq.InstrSeq.{InstrSeq}
+use Rattle.walrus_meaning.specs.walrus_body_writer.walrus_body_env.walrus_instr.declared.seq.InstrSeqType.{InstrSeqType}
+use Rattle.walrus_meaning.specs.walrus_module.walrus_builder.Built.{Seq, seq_of}
+use Rattle.walrus_meaning.specs.walrus_body_writer.walrus_tree.walrus_walks.Tree.{children_in}
 use Rattle.walrus_tree.specs.Trees.{Has, AreDistinct, AreWithin, Trees, Nothing, Tree, ids, Stand, IsTree}
 use Rattle.walrus_operator_laws.specs.Laws.{OperatorComesBack}
-use Rattle.walrus_body_nesting.specs.Stands.{Part, Finish, Ended, Delegated, with, none, lies, StandsAs}
-use Rattle.walrus_body_rules.specs.Sights.{Sight}
+use Rattle.walrus_meaning.specs.walrus_local_function.walrus_body_locals.walrus_body_nesting.Stands.{Part, Finish, Ended, Delegated, with, none, lies, StandsAs}
+use Rattle.walrus_meaning.specs.walrus_local_function.walrus_body_parser.walrus_body_rules.Sights.{Sight}
 use Rattle.walrus_meaning.specs.walrus_local_function.walrus_body_parser.walrus_body_steps.Meanings.{EndsAs, meaning}
 use Rattle.walrus_body_trees.proofs.Counted.{Counts, Hands}
 use Rattle.walrus_body_trees.proofs.Instrs.{Finishes, seqs_in, made_children, made_within, run_stands}

@@ -3,38 +3,38 @@ use Rattle.std.proofs.Common.{ℕ, zero, suc, ◌<◌, ◌≡◌, Bool, true, fa
 use Rattle.std.specs.Prelude.{◌+◌, ◌-◌, ◌==◌, ◌&&◌, ◌/◌, ◌%◌, nat_le, nat_lt, slice_get, if◌then◌else◌}
 use Rattle.std.proofs.lemmas.Bool.{and_parts, eqb-true, leb-true, ltb-true}
 use Rattle.wasm_features.specs.declared.WasmFeatures.{WasmFeatures}
-use Rattle.wasm_ref_types.specs.declared.heap.HeapType.{HeapType as WrittenHeap}
-use Rattle.wasm_immediates.specs.declared.block_type.BlockType.{BlockType}
-use Rattle.wasm_immediates.specs.declared.clause.Clause.{Clause}
-use Rattle.wasm_immediates.specs.declared.clause.Clause.TheVariants as handlers
-use Rattle.wasm_immediates.specs.Items.{Types, Tags, Labels, Item, Names, Byte, Heap, Block, ManyLabels, ManyClauses}
-use Rattle.wasm_operators.specs.declared.op_code.OpCode.{OpCode}
-use Rattle.wasm_operators.specs.declared.entry.Flow.TheVariants as flows
-use Rattle.wasm_operators.specs.Operators.{Seen}
-use Rattle.wasm_operator_bytes.specs.Names.{Renaming, renamed_block, renamed_clause, renamed_heap, renamed_item, renamed_operator}
+use Rattle.walrus_meaning.specs.walrus_local_function.walrus_body_locals.wasm_ref_types.declared.heap.HeapType.{HeapType as WrittenHeap}
+use Rattle.walrus_meaning.specs.walrus_body_writer.walrus_pairing.wasm_immediates.declared.block_type.BlockType.{BlockType}
+use Rattle.walrus_meaning.specs.walrus_body_writer.walrus_pairing.wasm_immediates.declared.clause.Clause.{Clause}
+use Rattle.walrus_meaning.specs.walrus_body_writer.walrus_pairing.wasm_immediates.declared.clause.Clause.TheVariants as handlers
+use Rattle.walrus_meaning.specs.walrus_body_writer.walrus_pairing.wasm_immediates.Items.{Types, Tags, Labels, Item, Names, Byte, Heap, Block, ManyLabels, ManyClauses}
+use Rattle.walrus_meaning.specs.walrus_local_function.walrus_body_parser.wasm_operators.declared.op_code.OpCode.{OpCode}
+use Rattle.walrus_meaning.specs.walrus_local_function.walrus_body_parser.wasm_operators.declared.entry.Flow.TheVariants as flows
+use Rattle.walrus_meaning.specs.walrus_local_function.walrus_body_parser.wasm_operators.Operators.{Seen}
+use Rattle.walrus_meaning.specs.walrus_local_function.walrus_body_locals.wasm_body_grammar.wasm_operator_bytes.Names.{Renaming, renamed_block, renamed_clause, renamed_heap, renamed_item, renamed_operator}
 use Rattle.wasm_operator_ranges.specs.Ranges.{OperatorFits}
-use Rattle.wasm_normal_form.specs.Normal.{picked, with_pick}
-use Rattle.walrus_forms.specs.declared.value.HeapType.{HeapType}
-use Rattle.walrus_forms.specs.declared.value.HeapType.TheVariants.{Abstract, Concrete, Exact}
-use Rattle.walrus_instr.specs.declared.instr.Instr.{Instr}
-use Rattle.walrus_instr.specs.declared.instr.Instr.TheVariants as instrs
-use Rattle.walrus_instr.specs.declared.instr.TryTableCatch.{TryTableCatch}
-use Rattle.walrus_instr.specs.declared.seq.InstrSeq.{InstrSeq}
+use Rattle.walrus_meaning.specs.walrus_local_function.walrus_body_locals.wasm_normal_form.Normal.{picked, with_pick}
+use Rattle.walrus_meaning.specs.walrus_body_writer.walrus_pairing.walrus_forms.declared.value.HeapType.{HeapType}
+use Rattle.walrus_meaning.specs.walrus_body_writer.walrus_pairing.walrus_forms.declared.value.HeapType.TheVariants.{Abstract, Concrete, Exact}
+use Rattle.walrus_meaning.specs.walrus_body_writer.walrus_body_env.walrus_instr.declared.instr.Instr.{Instr}
+use Rattle.walrus_meaning.specs.walrus_body_writer.walrus_body_env.walrus_instr.declared.instr.Instr.TheVariants as instrs
+use Rattle.walrus_meaning.specs.walrus_body_writer.walrus_body_env.walrus_instr.declared.instr.TryTableCatch.{TryTableCatch}
+use Rattle.walrus_meaning.specs.walrus_body_writer.walrus_body_env.walrus_instr.declared.seq.InstrSeq.{InstrSeq}
 use Rattle.walrus_tree.specs.Trees.{Has, AreDistinct}
-use Rattle.walrus_operator_codes.specs.Runs.{Run, in_runs, byte, object}
-use Rattle.walrus_pairing.specs.Looks.{Or}
-use Rattle.walrus_pairing.specs.Types.{written_heap, read_heap}
-use Rattle.walrus_pairing.specs.Read.{at, of_bytes, of_objects, instr_at}
-use Rattle.walrus_pairing.specs.Write.{operator_at, seen_of}
+use Rattle.walrus_meaning.specs.walrus_body_writer.walrus_pairing.walrus_operator_codes.Runs.{Run, in_runs, byte, object}
+use Rattle.walrus_meaning.specs.walrus_body_writer.walrus_pairing.Looks.{Or}
+use Rattle.walrus_meaning.specs.walrus_body_writer.walrus_pairing.Types.{written_heap, read_heap}
+use Rattle.walrus_meaning.specs.walrus_body_writer.walrus_pairing.Read.{at, of_bytes, of_objects, instr_at}
+use Rattle.walrus_meaning.specs.walrus_body_writer.walrus_pairing.Write.{operator_at, seen_of}
 use Rattle.walrus_operator_laws.specs.Laws.{OperatorComesBack, Renames, all}
 use Rattle.walrus_operator_laws.proofs.Types.{heap_again}
 use Rattle.walrus_meaning.specs.Words.{own_heap, own_block, plain_or_nop}
 use Rattle.walrus_meaning.specs.Bodies.{depth_of, block_of, null_flags, own_clause, own_instr}
-use Rattle.walrus_body_nesting.specs.declared.frames.Opener.{Opener}
-use Rattle.walrus_body_nesting.specs.declared.frames.Opener.TheVariants as openers
-use Rattle.walrus_body_nesting.specs.Stands as stands
-use Rattle.walrus_body_nesting.specs.Opens.{Makes}
-use Rattle.walrus_body_rules.specs.Sights.{Sight, look}
+use Rattle.walrus_meaning.specs.walrus_local_function.walrus_body_locals.walrus_body_nesting.declared.frames.Opener.{Opener}
+use Rattle.walrus_meaning.specs.walrus_local_function.walrus_body_locals.walrus_body_nesting.declared.frames.Opener.TheVariants as openers
+use Rattle.walrus_meaning.specs.walrus_local_function.walrus_body_locals.walrus_body_nesting.Stands as stands
+use Rattle.walrus_meaning.specs.walrus_local_function.walrus_body_locals.walrus_body_nesting.Opens.{Makes}
+use Rattle.walrus_meaning.specs.walrus_local_function.walrus_body_parser.walrus_body_rules.Sights.{Sight, look}
 use Rattle.walrus_meaning.specs.walrus_local_function.walrus_body_parser.walrus_body_steps.Meanings.{AreLabels, RunsAs, IsClause, AreClauses, IsOpener, OpensOf, branch_at, cast_at, reference}
 use Rattle.walrus_body_trees.specs.Laws.{IsNaming, AreOwn}
 use Rattle.walrus_body_trees.proofs.Instrs.{has_at}

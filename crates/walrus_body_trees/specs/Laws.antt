@@ -1,25 +1,25 @@
 -- What a body that is read stands as.
 use Rattle.std.specs.Prelude.{ℕ, ◌<◌, ◌≡◌, ◌==◌, List, map, All, Option, Some, None, if◌then◌else◌}
-use Rattle.wasm_grammar.specs.Modules as grammar
-use Rattle.wasm_body_grammar.specs.Rules.{Around}
-use Rattle.wasm_body_grammar.specs.Bodies.{Parts, body, body_of}
-use Rattle.wasm_normal_form.specs.Roles.{Placed, placed}
-use Rattle.wasm_normal_form.specs.Trees.{tree_of}
-use Rattle.wasm_normal_form.specs.Normal.{normal, normal_ops}
-use Rattle.wasm_operator_bytes.specs.Names.{Renaming, renamed_block, renamed_operator}
-use Rattle.wasm_immediates.specs.declared.block_type.BlockType.{BlockType}
-use Rattle.wasm_immediates.specs.Items.{Space, Labels}
-use Rattle.walrus_instr.specs.declared.seq.InstrSeqType.{InstrSeqType}
-use Rattle.walrus_instr.specs.declared.seq.InstrSeq.{InstrSeq}
-use Rattle.walrus_builder.specs.Built.{seq_of}
+use Rattle.walrus_meaning.specs.walrus_local_function.walrus_body_locals.wasm_grammar.Modules as grammar
+use Rattle.walrus_meaning.specs.walrus_local_function.walrus_body_locals.wasm_body_grammar.Rules.{Around}
+use Rattle.walrus_meaning.specs.walrus_local_function.walrus_body_locals.wasm_body_grammar.Bodies.{Parts, body, body_of}
+use Rattle.walrus_meaning.specs.walrus_local_function.walrus_body_locals.wasm_normal_form.Roles.{Placed, placed}
+use Rattle.walrus_meaning.specs.walrus_local_function.walrus_body_locals.wasm_normal_form.Trees.{tree_of}
+use Rattle.walrus_meaning.specs.walrus_local_function.walrus_body_locals.wasm_normal_form.Normal.{normal, normal_ops}
+use Rattle.walrus_meaning.specs.walrus_local_function.walrus_body_locals.wasm_body_grammar.wasm_operator_bytes.Names.{Renaming, renamed_block, renamed_operator}
+use Rattle.walrus_meaning.specs.walrus_body_writer.walrus_pairing.wasm_immediates.declared.block_type.BlockType.{BlockType}
+use Rattle.walrus_meaning.specs.walrus_body_writer.walrus_pairing.wasm_immediates.Items.{Space, Labels}
+use Rattle.walrus_meaning.specs.walrus_body_writer.walrus_body_env.walrus_instr.declared.seq.InstrSeqType.{InstrSeqType}
+use Rattle.walrus_meaning.specs.walrus_body_writer.walrus_body_env.walrus_instr.declared.seq.InstrSeq.{InstrSeq}
+use Rattle.walrus_meaning.specs.walrus_module.walrus_builder.Built.{seq_of}
 use Rattle.walrus_tree.specs.Trees.{IsTree}
 use Rattle.walrus_tree.specs.Text.{operators}
-use Rattle.walrus_body_nesting.specs.Stands.{StandsAs, total}
-use Rattle.walrus_body_nesting.specs.Opens.{same}
-use Rattle.walrus_body_rules.specs.Sights.{Sight, look, written_block}
+use Rattle.walrus_meaning.specs.walrus_local_function.walrus_body_locals.walrus_body_nesting.Stands.{StandsAs, total}
+use Rattle.walrus_meaning.specs.walrus_local_function.walrus_body_locals.walrus_body_nesting.Opens.{same}
+use Rattle.walrus_meaning.specs.walrus_local_function.walrus_body_parser.walrus_body_rules.Sights.{Sight, look, written_block}
 use Rattle.walrus_meaning.specs.walrus_local_function.walrus_body_parser.walrus_body_steps.Meanings.{meaning}
 use Rattle.walrus_meaning.specs.walrus_local_function.declared.local_function.LocalFunction.{LocalFunction}
-use Rattle.walrus_builder.specs.Functions.{seqs_of}
+use Rattle.walrus_meaning.specs.walrus_module.walrus_builder.Functions.{seqs_of}
 use Rattle.walrus_meaning.specs.Words.{own_block}
 use Rattle.walrus_meaning.specs.walrus_body_writer.walrus_body_text.Visiting.{text_size}
 use Rattle.walrus_meaning.specs.Bodies.{own_operators}

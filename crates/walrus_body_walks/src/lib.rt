@@ -2,3 +2,16 @@
 #![tactic(auto)]
 
 pub mod laws;
+
+// Passed on to crates above, which then list this one alone.
+pub mod handler_laws {
+    pub mod laws {
+        pub use walrus_handler_laws::laws::trees_tell;
+    }
+}
+
+pub mod operator_laws {
+    pub mod laws {
+        pub use walrus_operator_laws::laws::operators_come_back;
+    }
+}

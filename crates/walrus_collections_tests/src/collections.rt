@@ -1,10 +1,10 @@
 //! Adds, look-ups and deletes.
 use std::alloc::AllocError;
 use walrus_arena::{FunctionId, ImportId, TableId};
-use walrus_collections::{ModuleExports, ModuleImports, ModuleTables};
 use walrus_errors::ModuleError;
 use walrus_forms::RefType;
 use walrus_instr::ConstExpr;
+use walrus_module::collections::{ModuleExports, ModuleImports, ModuleTables};
 use walrus_module_items::Table;
 
 fn is_found(exports: &ModuleExports, function: FunctionId) -> bool {

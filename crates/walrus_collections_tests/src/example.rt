@@ -3,11 +3,11 @@ use crate::held::are_held;
 use crate::modules::{add_caller, unit_type};
 use std::alloc::{AllocError, Global};
 use walrus_arena::{FunctionId, GlobalId, MemoryId, TableId};
-use walrus_collections::{Collection, ModuleFunctions};
 use walrus_errors::ModuleError;
 use walrus_forms::{RefType, ValType};
 use walrus_instr::{ConstExpr, Value};
 use walrus_module::Module;
+use walrus_module::collections::{Collection, ModuleFunctions};
 use walrus_module_items::{DataKind, ElementItems, ElementKind};
 
 // Adds the imports of the module: a function, a table, a memory, a global and a tag.

@@ -2,14 +2,14 @@
 use walrus_arena::{
     DataId, ElementId, ExportId, FunctionId, GlobalId, ImportId, MemoryId, TableId, TagId, TypeId,
 };
-use walrus_collections::{
+use walrus_forms::{RefType, ValType};
+use walrus_instr::{ConstExpr, Instr, Value};
+use walrus_module::Module;
+use walrus_module::collections::{
     ModuleData, ModuleElements, ModuleExports, ModuleFunctions, ModuleGlobals, ModuleImports,
     ModuleMemories, ModuleTables, ModuleTags,
 };
-use walrus_forms::{RefType, ValType};
-use walrus_instr::{ConstExpr, Instr, Value};
-use walrus_local_function::LocalFunction;
-use walrus_module::Module;
+use walrus_module::local_function::LocalFunction;
 use walrus_module_items::{
     DataKind, ElementItems, ElementKind, ExportItem, FunctionKind, Global, GlobalKind, ImportKind,
     TagKind,

@@ -3,13 +3,13 @@ use crate::example::{count, with_body};
 use std::alloc::{AllocError, Global};
 use walrus_arena::{FunctionId, ImportId, LocalId, TypeId};
 use walrus_builder::FunctionBuilder;
-use walrus_collections::{
+use walrus_forms::{RefType, ValType};
+use walrus_module::Module;
+use walrus_module::collections::{
     ModuleExports, ModuleFunctions, ModuleGlobals, ModuleImports, ModuleMemories, ModuleTables,
     ModuleTags,
 };
-use walrus_forms::{RefType, ValType};
-use walrus_local_function::LocalFunction;
-use walrus_module::Module;
+use walrus_module::local_function::LocalFunction;
 use walrus_module_items::{FunctionKind, GlobalKind, ImportKind, TagKind};
 use walrus_types::ModuleTypes;
 

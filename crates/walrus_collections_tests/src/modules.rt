@@ -3,8 +3,8 @@ use std::alloc::{AllocError, Global};
 use walrus_arena::{FunctionId, TypeId};
 use walrus_builder::FunctionBuilder;
 use walrus_config::ModuleConfig;
-use walrus_local_function::LocalFunction;
 use walrus_module::Module;
+use walrus_module::local_function::LocalFunction;
 
 // A module without items.
 pub fn empty(alloc: Global) -> Module {

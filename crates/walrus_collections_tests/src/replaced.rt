@@ -2,10 +2,10 @@
 use crate::modules::{add_caller, unit_type};
 use std::alloc::{AllocError, Global};
 use walrus_arena::FunctionId;
-use walrus_collections::ModuleFunctions;
 use walrus_errors::ModuleError;
 use walrus_instr::{Instr, Value};
 use walrus_module::Module;
+use walrus_module::collections::ModuleFunctions;
 use walrus_module_items::FunctionKind;
 
 // The first function of a module, and the second.

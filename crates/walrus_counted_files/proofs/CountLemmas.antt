@@ -12,12 +12,12 @@ use Rattle.walrus_counts.specs.walrus_module.walrus_module_items.declared.functi
 use Rattle.walrus_counts.specs.walrus_module.walrus_types.Table.{Table}
 use Rattle.walrus_counts.specs.walrus_module.walrus_types.walrus_items.declared.local.Local.{Local}
 use Rattle.walrus_function_types.specs.Growth.{FoundTypesStay, TablesGrowOn}
-use Rattle.walrus_functions_into.specs.Bodies.{is_bodiless}
-use Rattle.walrus_functions_into.specs.declared.bodies.FunctionBody.{FunctionBody}
+use Rattle.walrus_parse.specs.walrus_file_bodies.walrus_items_into.walrus_functions_into.Bodies.{is_bodiless}
+use Rattle.walrus_parse.specs.walrus_file_bodies.walrus_items_into.walrus_functions_into.declared.bodies.FunctionBody.{FunctionBody}
 use Rattle.walrus_counts.specs.walrus_module.walrus_module_items.declared.function.FunctionKind.{FunctionKind}
-use Rattle.walrus_module_bodies.proofs.StepLemmas.{Going, drop_one, going_first, going_last, going_next, going_ready, going_stops}
-use Rattle.walrus_module_bodies.specs.Steps.{AreApart, Fails, IsReady, IsStep, ReadsFor, State, Steps, StopsIn, state}
-use Rattle.walrus_module_bodies.specs.declared.file.FileEnv.{FileEnv}
+use Rattle.walrus_parse.proofs.walrus_module_bodies.StepLemmas.{Going, drop_one, going_first, going_last, going_next, going_ready, going_stops}
+use Rattle.walrus_parse.specs.walrus_file_bodies.walrus_module_bodies.Steps.{AreApart, Fails, IsReady, IsStep, ReadsFor, State, Steps, StopsIn, state}
+use Rattle.walrus_parse.specs.walrus_file_bodies.walrus_module_bodies.declared.file.FileEnv.{FileEnv}
 use Rattle.walrus_parse.specs.walrus_module.walrus_body_writer.walrus_body_env.declared.error.BodyError.{BodyError}
 use Rattle.walrus_parse.specs.walrus_module.walrus_body_writer.walrus_pairing.walrus_index_maps.Maps.{Ids}
 use Rattle.walrus_parse.specs.walrus_module.walrus_body_writer.walrus_pairing.wasm_immediates.wasm_features.declared.WasmFeatures.{WasmFeatures}

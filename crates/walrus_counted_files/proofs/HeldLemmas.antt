@@ -10,16 +10,16 @@ use Rattle.walrus_counts.specs.walrus_module.walrus_module_items.declared.functi
 use Rattle.walrus_counts.specs.walrus_module.walrus_module_items.declared.function.FunctionKind.TheVariants as kinds
 use Rattle.walrus_counts.specs.walrus_module.walrus_types.Table.{Table}
 use Rattle.walrus_counts.specs.walrus_module.walrus_types.walrus_items.declared.local.Local.{Local}
-use Rattle.walrus_functions_into.specs.declared.bodies.FunctionBody.{FunctionBody}
-use Rattle.walrus_module_bodies.specs.Laws.{BodiesHoldTheirs}
-use Rattle.walrus_module_bodies.specs.Steps.{IsFiledLater, IsReady, IsStep, ReadsFor, State, state}
-use Rattle.walrus_module_bodies.specs.declared.file.FileEnv.{FileEnv}
+use Rattle.walrus_parse.specs.walrus_file_bodies.walrus_items_into.walrus_functions_into.declared.bodies.FunctionBody.{FunctionBody}
+use Rattle.walrus_parse.specs.walrus_file_bodies.walrus_module_bodies.Laws.{BodiesHoldTheirs}
+use Rattle.walrus_parse.specs.walrus_file_bodies.walrus_module_bodies.Steps.{IsFiledLater, IsReady, IsStep, ReadsFor, State, state}
+use Rattle.walrus_parse.specs.walrus_file_bodies.walrus_module_bodies.declared.file.FileEnv.{FileEnv}
 use Rattle.walrus_parse.specs.walrus_module.walrus_body_writer.walrus_pairing.walrus_index_maps.Maps.{Ids}
 use Rattle.walrus_parse.specs.walrus_module.walrus_body_writer.walrus_pairing.wasm_immediates.wasm_features.declared.WasmFeatures.{WasmFeatures}
 use Rattle.walrus_instr.specs.declared.seq.InstrSeq.{InstrSeq}
 use Rattle.walrus_counts.specs.walrus_module.walrus_builder.Built.{seq_of}
-use Rattle.walrus_module_bodies.proofs.StepLemmas.{drop_one}
-use Rattle.walrus_named_bodies.specs.walrus_file_bodies.walrus_body_trees.walrus_body_nesting.Stands.{total}
+use Rattle.walrus_parse.proofs.walrus_module_bodies.StepLemmas.{drop_one}
+use Rattle.walrus_parse.specs.walrus_named_bodies.walrus_file_bodies.walrus_body_trees.walrus_body_nesting.Stands.{total}
 
 total_step : (all : List InstrSeq) (at : ℕ) (other : InstrSeq) → at < length all
     → total (map seq_of (drop at all)) ≡ length (slice_index_or all at other).instrs.items + total (map seq_of (drop (at + 1) all))

@@ -10,8 +10,8 @@ use Rattle.walrus_counts.specs.walrus_module.walrus_module_items.declared.data.D
 use Rattle.walrus_counts.specs.walrus_module.walrus_module_items.declared.function.Function.{Function}
 use Rattle.walrus_config.specs.declared.config.ModuleConfig.{ModuleConfig}
 use Rattle.walrus_errors.specs.declared.error.ModuleError.{ModuleError}
-use Rattle.walrus_named_bodies.specs.walrus_file_bodies.walrus_items_into.Spaces.{spaces}
-use Rattle.walrus_named_bodies.specs.walrus_item_names.walrus_module.walrus_body_writer.walrus_pairing.walrus_index_maps.Maps.{Ids}
+use Rattle.walrus_parse.specs.walrus_named_bodies.walrus_file_bodies.walrus_items_into.Spaces.{spaces}
+use Rattle.walrus_parse.specs.walrus_named_bodies.walrus_item_names.walrus_module.walrus_body_writer.walrus_pairing.walrus_index_maps.Maps.{Ids}
 use Rattle.walrus_parse.specs.Parsed.{IsModuleOf, IsRead}
 use Rattle.walrus_parse.specs.walrus_file_bodies.walrus_items_into.walrus_functions_into.Functions.{functions_from}
 use Rattle.walrus_parse.specs.walrus_file_bodies.walrus_items_into.walrus_functions_into.walrus_types_into.walrus_known_sections.declared.items.Function.{Function as ReadFunction}

@@ -8,28 +8,27 @@ ghost use Rattle.walrus_counts.specs.walrus_module.walrus_builder.Built.{seq_of}
 ghost use Rattle.walrus_counts.specs.walrus_module.walrus_local_function.declared.local_function.LocalFunction.{LocalFunction};
 ghost use Rattle.walrus_counts.specs.walrus_module.walrus_module_items.declared.function.Function.{Function};
 ghost use Rattle.walrus_counts.specs.walrus_module.walrus_module_items.declared.function.FunctionKind.TheVariants as kinds;
-ghost use Rattle.walrus_named_bodies.specs.walrus_file_bodies.walrus_body_trees.walrus_body_nesting.Stands.{total};
-ghost use Rattle.walrus_named_bodies.specs.walrus_file_bodies.walrus_items_into.walrus_functions_into.Bodies.{is_bodiless};
-ghost use Rattle.walrus_named_bodies.specs.walrus_file_bodies.walrus_module_bodies.Reading.{TagsStand};
-ghost use Rattle.walrus_named_bodies.specs.walrus_file_bodies.walrus_module_bodies.Steps.{AreApart, Fails, IsFiledLater, IsPlaced, IsReady, ReadsFor, Steps, StopsIn, state};
-ghost use Rattle.walrus_named_bodies.specs.walrus_item_names.walrus_module.walrus_body_writer.walrus_body_env.declared.error.BodyError.TheVariants.{Memory as WantsMemory};
-ghost use Rattle.walrus_named_bodies.specs.walrus_item_names.walrus_module.walrus_body_writer.walrus_pairing.walrus_index_maps.Views.{ids};
+ghost use Rattle.walrus_parse.specs.walrus_named_bodies.walrus_file_bodies.walrus_body_trees.walrus_body_nesting.Stands.{total};
+ghost use Rattle.walrus_parse.specs.walrus_named_bodies.walrus_file_bodies.walrus_items_into.walrus_functions_into.Bodies.{is_bodiless};
+ghost use Rattle.walrus_parse.specs.walrus_named_bodies.walrus_file_bodies.walrus_module_bodies.Reading.{TagsStand};
+ghost use Rattle.walrus_parse.specs.walrus_named_bodies.walrus_file_bodies.walrus_module_bodies.Steps.{AreApart, Fails, IsFiledLater, IsPlaced, IsReady, ReadsFor, Steps, StopsIn, state};
+ghost use Rattle.walrus_parse.specs.walrus_named_bodies.walrus_item_names.walrus_module.walrus_body_writer.walrus_body_env.declared.error.BodyError.TheVariants.{Memory as WantsMemory};
+ghost use Rattle.walrus_parse.specs.walrus_named_bodies.walrus_item_names.walrus_module.walrus_body_writer.walrus_pairing.walrus_index_maps.Views.{ids};
 
 use std::alloc::Global;
 use walrus_arena::FunctionId;
 use walrus_body_env::BodyError;
 use walrus_function_types::laws::{found_types_stay, tables_grow_on};
-use walrus_functions_into::FunctionBody;
 use walrus_instr::InstrSeq;
-use walrus_module_bodies::laws::bodies_hold_theirs;
-use walrus_module_bodies::{FileEnv, read_function};
-use walrus_module_items::FunctionKind;
-use walrus_named_bodies::file_bodies::items_into::module_env::body_env::instr::type_table::{
-    ModuleLocals, ModuleTypes,
-};
-use walrus_named_bodies::file_bodies::items_into::tables_into::sections_into::index_maps::IndicesToIds;
-use walrus_named_bodies::file_bodies::items_into::tables_into::sections_into::operators::immediate_forms::reader::features::WasmFeatures;
-use walrus_named_bodies::item_names::module::collections::ModuleFunctions;
+use walrus_parse::collections::ModuleFunctions;
+use walrus_parse::features::WasmFeatures;
+use walrus_parse::functions_into::FunctionBody;
+use walrus_parse::index_maps::IndicesToIds;
+use walrus_parse::items::ModuleLocals;
+use walrus_parse::module_bodies::laws::bodies_hold_theirs;
+use walrus_parse::module_bodies::{FileEnv, read_function};
+use walrus_parse::module_items::FunctionKind;
+use walrus_parse::types::ModuleTypes;
 
 // Whether the function has a type, and no body yet.
 fn is_bodiless(functions: &ModuleFunctions, function: FunctionId) -> bool

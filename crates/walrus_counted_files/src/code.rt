@@ -4,26 +4,23 @@ ghost use Rattle.std.specs.Prelude.{◌≡◌, length, IfErr, IfOk};
 ghost use Rattle.walrus_arena.specs.Arena.{Arena};
 ghost use Rattle.walrus_counted_files.specs.Counted.{AreGiven};
 ghost use Rattle.walrus_counts.specs.walrus_module.walrus_module_items.declared.function.Function.{Function};
-ghost use Rattle.walrus_named_bodies.specs.Code.{IsCodeRefusal};
-ghost use Rattle.walrus_named_bodies.specs.walrus_file_bodies.Ready.{AreReady, IsFileOf, bodies_in};
-ghost use Rattle.walrus_named_bodies.specs.walrus_file_bodies.walrus_module_bodies.Steps.{Steps, state};
-ghost use Rattle.walrus_named_bodies.specs.walrus_file_bodies.walrus_module_bodies.declared.file.FileEnv.{FileEnv};
-ghost use Rattle.walrus_named_bodies.specs.walrus_item_names.walrus_module.walrus_body_writer.walrus_pairing.walrus_index_maps.Views.{ids};
-ghost use Rattle.walrus_named_bodies.specs.walrus_item_names.walrus_module.walrus_types.Table.{entries, next_id};
+ghost use Rattle.walrus_parse.specs.walrus_named_bodies.Code.{IsCodeRefusal};
+ghost use Rattle.walrus_parse.specs.walrus_named_bodies.walrus_file_bodies.Ready.{AreReady, IsFileOf, bodies_in};
+ghost use Rattle.walrus_parse.specs.walrus_named_bodies.walrus_file_bodies.walrus_module_bodies.Steps.{Steps, state};
+ghost use Rattle.walrus_parse.specs.walrus_named_bodies.walrus_file_bodies.walrus_module_bodies.declared.file.FileEnv.{FileEnv};
+ghost use Rattle.walrus_parse.specs.walrus_named_bodies.walrus_item_names.walrus_module.walrus_body_writer.walrus_pairing.walrus_index_maps.Views.{ids};
+ghost use Rattle.walrus_parse.specs.walrus_named_bodies.walrus_item_names.walrus_module.walrus_types.Table.{entries, next_id};
 
 use crate::bodies::count_bodies;
 use std::alloc::Global;
 use walrus_errors::Result;
-use walrus_named_bodies::file_bodies::items_into::module_env::body_env::instr::type_table::{
-    ModuleLocals, ModuleTypes,
-};
-use walrus_named_bodies::file_bodies::items_into::tables_into::sections_into::index_maps::IndicesToIds;
-use walrus_named_bodies::file_bodies::items_into::tables_into::sections_into::known_sections::Sections;
-use walrus_named_bodies::file_bodies::items_into::tables_into::sections_into::operators::immediate_forms::reader::features::WasmFeatures;
-use walrus_named_bodies::item_names::module::collections::{
-    ModuleFunctions, ModuleMemories, ModuleTags,
-};
-use walrus_named_bodies::{bodies_of, module_error};
+use walrus_parse::collections::{ModuleFunctions, ModuleMemories, ModuleTags};
+use walrus_parse::features::WasmFeatures;
+use walrus_parse::index_maps::IndicesToIds;
+use walrus_parse::items::ModuleLocals;
+use walrus_parse::known_sections::Sections;
+use walrus_parse::named_bodies::{bodies_of, module_error};
+use walrus_parse::types::ModuleTypes;
 
 /// Reads the bodies of a file whose items are in these collections, and counts their operators. The functions are given none.
 ///

@@ -14,7 +14,7 @@ use std::mem;
 use walrus_config::ModuleConfig;
 use walrus_counts::count_items;
 use walrus_errors::Result;
-use walrus_named_bodies::item_names::module::Module;
+use walrus_parse::module::Module;
 
 /// How many items of each kind live in the module that these bytes spell (Core Specification, binary format: modules), with the features
 /// that the flags ask for: the counts are those of a module that is read from them. Bodies are read one after another, and each is let go

@@ -5,8 +5,8 @@ ghost use Rattle.walrus_arena.specs.Arena.{Arena};
 ghost use Rattle.walrus_counted_files.specs.Counted.{HasSame, WouldBe};
 ghost use Rattle.walrus_counts.specs.walrus_module.walrus_module_items.declared.data.Data.{Data};
 ghost use Rattle.walrus_counts.specs.walrus_module.walrus_module_items.declared.function.Function.{Function};
-ghost use Rattle.walrus_named_bodies.specs.walrus_item_names.walrus_module.walrus_body_writer.walrus_pairing.walrus_index_maps.Views.{ids};
-ghost use Rattle.walrus_named_bodies.specs.walrus_file_bodies.walrus_items_into.Spaces.{spaces};
+ghost use Rattle.walrus_parse.specs.walrus_named_bodies.walrus_item_names.walrus_module.walrus_body_writer.walrus_pairing.walrus_index_maps.Views.{ids};
+ghost use Rattle.walrus_parse.specs.walrus_named_bodies.walrus_file_bodies.walrus_items_into.Spaces.{spaces};
 ghost use Rattle.walrus_parse.specs.Parsed.{IsEmpty, IsModuleOf, read_features};
 ghost use Rattle.walrus_parse.specs.Refusals.{IsRefusal};
 
@@ -16,26 +16,24 @@ use walrus_arena::FunctionId;
 use walrus_config::ModuleConfig;
 use walrus_customs::ModuleProducers;
 use walrus_errors::{ModuleError, Result};
-use walrus_named_bodies::file_bodies::items_into::laws::{
-    filled_modules_are_numbered, named_locals_count,
-};
-use walrus_named_bodies::file_bodies::items_into::module_env::body_env::instr::type_table::{
-    ModuleLocals, ModuleTypes,
-};
-use walrus_named_bodies::file_bodies::items_into::read_items;
-use walrus_named_bodies::file_bodies::items_into::tables_into::sections::Sections as CustomSections;
-use walrus_named_bodies::file_bodies::items_into::tables_into::sections_into::index_maps::IndicesToIds;
-use walrus_named_bodies::file_bodies::laws::{
-    bodies_read_files, bodies_stop_files, filled_modules_are_ready,
-};
-use walrus_named_bodies::file_bodies::payloads_into::producers_in;
-use walrus_named_bodies::item_names::module::collections::{
+use walrus_parse::collections::{
     ModuleData, ModuleElements, ModuleExports, ModuleFunctions, ModuleGlobals, ModuleImports,
     ModuleMemories, ModuleTables, ModuleTags,
 };
-use walrus_named_bodies::local_counts::few_are_numbered;
-use walrus_named_bodies::name_items;
+use walrus_parse::file_bodies::items_into::laws::named_locals_count;
+use walrus_parse::file_bodies::laws::{
+    bodies_read_files, bodies_stop_files, filled_modules_are_ready,
+};
+use walrus_parse::index_maps::IndicesToIds;
+use walrus_parse::items::ModuleLocals;
+use walrus_parse::items_into::laws::filled_modules_are_numbered;
+use walrus_parse::items_into::read_items;
+use walrus_parse::local_counts::few_are_numbered;
+use walrus_parse::named_bodies::name_items;
+use walrus_parse::payloads_into::producers_in;
 use walrus_parse::read_file;
+use walrus_parse::sections::Sections as CustomSections;
+use walrus_parse::types::ModuleTypes;
 
 /// Reads a file into the collections of an empty module, but for its bodies, whose operators are counted, and the bytes of its data
 /// segments; the start function and the producers are answered, the ids that numbers name, and that count. Asks for flags that want no

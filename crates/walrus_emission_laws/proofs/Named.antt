@@ -10,15 +10,15 @@ use Rattle.wasm_normal_form.specs.Locals.{Key, in_order, numbered}
 use Rattle.walrus_instr.specs.declared.seq.InstrSeq.{InstrSeq}
 use Rattle.walrus_builder.specs.Functions.{seqs_of}
 use Rattle.walrus_tree.specs.Text.{operators}
-use Rattle.walrus_pairing.specs.Looks.{Or}
-use Rattle.walrus_operator_laws.specs.Told.{all}
-use Rattle.walrus_meaning.specs.walrus_body_writer.Spelled.{AreWritten, Text}
+use Rattle.walrus_body_trees.specs.walrus_operator_laws.walrus_pairing.Looks.{Or}
+use Rattle.walrus_body_trees.specs.walrus_operator_laws.Told.{all}
+use Rattle.walrus_body_trees.specs.walrus_meaning.walrus_body_writer.Spelled.{AreWritten, Text}
 use Rattle.walrus_body_laws.specs.Laws.{placed_of, text_ops}
 use Rattle.walrus_body_laws.specs.Naming.{LocalsAgree}
 use Rattle.walrus_body_laws.specs.Renaming.{TextsAreRenamed}
 use Rattle.walrus_body_names.specs.Names.{HaveSame, local_in, text_names}
 use Rattle.walrus_local_numbers.specs.Declared.{has_number, types_of}
-use Rattle.walrus_meaning.specs.Bodies.{named_locals, own_operators, own_piece, own_seen}
+use Rattle.walrus_body_trees.specs.walrus_meaning.Bodies.{named_locals, own_operators, own_piece, own_seen}
 use Rattle.walrus_emission_laws.specs.Laws.{LocalsAreMeant}
 use Rattle.walrus_emission_laws.proofs.Meant.{piece_is}
 

@@ -7,7 +7,7 @@ use Rattle.wasm_operators.specs.Operators.{Seen}
 use Rattle.wasm_operator_bytes.specs.NameLaws.{RenamesTwice, after}
 use Rattle.wasm_operator_bytes.specs.Names.{Renaming}
 use Rattle.walrus_body_trees.specs.Laws.{BodiesMeanTheirs, meant, ops_of, renamed}
-use Rattle.walrus_meaning.specs.Bodies.{own_operators}
+use Rattle.walrus_body_trees.specs.walrus_meaning.Bodies.{own_operators}
 use Rattle.wasm_grammar.specs.Modules.{Placed as Meant}
 use Rattle.walrus_emission_laws.specs.Laws.{BodiesAreMeant, ReadBodiesAreWritten, sent}
 

@@ -6,23 +6,23 @@ use Rattle.wasm_normal_form.specs.Trees.{tree_of}
 use Rattle.wasm_immediates.specs.declared.block_type.BlockType.{BlockType}
 use Rattle.wasm_operator_bytes.specs.NameLaws.{after}
 use Rattle.wasm_operator_bytes.specs.Names.{Renaming}
-use Rattle.wasm_body_grammar.specs.Bodies.{Parts}
-use Rattle.wasm_body_grammar.specs.Rules.{Around}
+use Rattle.walrus_body_trees.specs.walrus_body_nesting.wasm_body_grammar.Bodies.{Parts}
+use Rattle.walrus_body_trees.specs.walrus_body_nesting.wasm_body_grammar.Rules.{Around}
 use Rattle.wasm_runs.specs.Programs.{Signature, operators as codes}
 use Rattle.wasm_run_laws.specs.Laws.{RunsRenamed}
 use Rattle.wasm_run_laws.specs.Stands.{normal_code, PicksKeep, AreTypedSo}
 use Rattle.walrus_builder.specs.Built.{seq_of}
-use Rattle.walrus_body_nesting.specs.Opens.{same}
-use Rattle.walrus_body_nesting.specs.Stands.{StandsAs}
-use Rattle.walrus_body_rules.specs.Sights.{Sight}
+use Rattle.walrus_body_trees.specs.walrus_body_nesting.Opens.{same}
+use Rattle.walrus_body_trees.specs.walrus_body_nesting.Stands.{StandsAs}
+use Rattle.walrus_body_trees.specs.walrus_meaning.walrus_local_function.walrus_body_parser.walrus_body_rules.Sights.{Sight}
 use Rattle.walrus_body_steps.specs.Meanings.{meaning}
 use Rattle.walrus_body_trees.specs.Laws.{AreOwn, IsBody, IsNaming, ops_of}
 use Rattle.walrus_builder.specs.Functions.{seqs_of}
 use Rattle.walrus_tree.specs.Text.{operators}
-use Rattle.walrus_meaning.specs.walrus_local_function.declared.local_function.LocalFunction.{LocalFunction}
-use Rattle.walrus_pairing.specs.Looks.{Look}
-use Rattle.walrus_operator_laws.specs.Sends.{Sends}
-use Rattle.walrus_meaning.specs.walrus_body_writer.Spelled.{AreWritten}
+use Rattle.walrus_body_trees.specs.walrus_meaning.walrus_local_function.declared.local_function.LocalFunction.{LocalFunction}
+use Rattle.walrus_body_trees.specs.walrus_operator_laws.walrus_pairing.Looks.{Look}
+use Rattle.walrus_body_trees.specs.walrus_operator_laws.Sends.{Sends}
+use Rattle.walrus_body_trees.specs.walrus_meaning.walrus_body_writer.Spelled.{AreWritten}
 use Rattle.walrus_body_laws.specs.Laws.{text_ops}
 use Rattle.walrus_body_laws.specs.Renaming.{KeepsLabels}
 

@@ -2,3 +2,36 @@
 #![tactic(auto)]
 
 pub mod laws;
+
+// Passed on to crates above, which then list this one alone.
+pub mod body_laws {
+    pub use walrus_body_laws::laws;
+}
+
+pub mod body_names {
+    pub use walrus_body_names::FunctionFacts;
+}
+
+pub mod body_steps {
+    pub use walrus_body_steps::laws;
+}
+
+pub mod body_trees {
+    pub use walrus_body_trees::laws;
+}
+
+pub mod body_writer {
+    pub use walrus_body_names::body_writer::Output;
+}
+
+pub mod local_numbers {
+    pub use walrus_local_numbers::laws;
+}
+
+pub mod run_laws {
+    pub use wasm_run_laws::laws;
+}
+
+pub mod runs {
+    pub use wasm_runs::laws;
+}

@@ -5,3 +5,7 @@ mod ReadyLemmas
 mod CountLemmas
 pub mod StopLemmas
 mod ReadLemmas
+-- Passed on to crates above, which then list this one alone.
+pub use Rattle.walrus_items_into.proofs.walrus_operator_laws as walrus_operator_laws
+pub use Rattle.walrus_items_into.proofs.walrus_handler_types as walrus_handler_types
+pub use Rattle.walrus_items_into.proofs.walrus_module_bodies as walrus_module_bodies

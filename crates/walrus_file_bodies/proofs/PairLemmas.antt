@@ -11,8 +11,8 @@ use Rattle.walrus_items_into.specs.walrus_tables_into.walrus_sections_into.walru
 use Rattle.walrus_items_into.specs.walrus_tables_into.walrus_sections_into.walrus_module_items.declared.function.Function.{Function}
 use Rattle.walrus_items_into.specs.wasm_module_rules.Linked.{Each}
 use Rattle.walrus_items_into.specs.wasm_sections.Within.{BodiesFit, ChunksFit}
-use Rattle.walrus_module_bodies.specs.declared.file.FileEnv.{FileEnv}
-use Rattle.walrus_module_bodies.specs.Steps.{AreApart, IsPlaced}
+use Rattle.walrus_items_into.specs.walrus_module_bodies.declared.file.FileEnv.{FileEnv}
+use Rattle.walrus_items_into.specs.walrus_module_bodies.Steps.{AreApart, IsPlaced}
 
 -- ---- what holds of each of them
 

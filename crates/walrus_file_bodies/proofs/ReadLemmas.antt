@@ -23,8 +23,8 @@ use Rattle.walrus_items_into.specs.walrus_tables_into.walrus_sections_into.walru
 use Rattle.walrus_items_into.specs.walrus_tables_into.walrus_sections_into.walrus_module_items.declared.function.Function.{Function}
 use Rattle.walrus_items_into.specs.wasm_module_rules.wasm_modules.Modules.{around, codes}
 use Rattle.walrus_items_into.specs.wasm_sections.Within.{ChunksFit, bodies_inside}
-use Rattle.walrus_module_bodies.specs.Laws.{AreCodesOf, NamesAll, StepsReadCodes}
-use Rattle.walrus_module_bodies.specs.Steps.{State, state}
+use Rattle.walrus_items_into.specs.walrus_module_bodies.Laws.{AreCodesOf, NamesAll, StepsReadCodes}
+use Rattle.walrus_items_into.specs.walrus_module_bodies.Steps.{State, state}
 use Rattle.walrus_file_bodies.specs.Laws.{BodiesReadFiles}
 use Rattle.walrus_file_bodies.specs.Read.{AreCounted}
 use Rattle.walrus_file_bodies.proofs.StopLemmas.{chunks_fit_in, count_in, functions_counted}

@@ -29,8 +29,8 @@ use Rattle.walrus_items_into.specs.wasm_sections.Within.{bodies_inside}
 use Rattle.walrus_items_into.specs.Filled.{IsFilledFrom}
 use Rattle.walrus_items_into.specs.Laws.{FilledFunctionsStand, FilledModulesAreFiled, IsEnvOf}
 use Rattle.walrus_items_into.specs.Spaces.{Spaces}
-use Rattle.walrus_module_bodies.specs.declared.file.FileEnv.{FileEnv}
-use Rattle.walrus_module_bodies.specs.Envs.{IsEnv}
+use Rattle.walrus_items_into.specs.walrus_module_bodies.declared.file.FileEnv.{FileEnv}
+use Rattle.walrus_items_into.specs.walrus_module_bodies.Envs.{IsEnv}
 use Rattle.walrus_file_bodies.specs.Ready.{FilledModulesAreReady, IsFileOf, bodies_in}
 use Rattle.walrus_file_bodies.proofs.DeclaredLemmas.{read_types_are_plain}
 use Rattle.walrus_file_bodies.proofs.PairLemmas.{all_have, are_apart, are_placed, chunks_fit}

@@ -30,8 +30,8 @@ use Rattle.walrus_items_into.specs.wasm_module_rules.Reading.{file_linked}
 use Rattle.walrus_items_into.specs.wasm_module_rules.wasm_modules.Modules.{around}
 use Rattle.walrus_items_into.specs.wasm_sections.Laws.{ReadsSections}
 use Rattle.walrus_items_into.specs.wasm_sections.Within.{ChunksFit, bodies_inside}
-use Rattle.walrus_module_bodies.specs.declared.file.FileEnv.{FileEnv}
-use Rattle.walrus_module_bodies.specs.Steps.{AreApart, state}
+use Rattle.walrus_items_into.specs.walrus_module_bodies.declared.file.FileEnv.{FileEnv}
+use Rattle.walrus_items_into.specs.walrus_module_bodies.Steps.{AreApart, state}
 use Rattle.walrus_file_bodies.specs.Laws.{BodiesStopFiles}
 use Rattle.walrus_file_bodies.specs.Read.{AreCounted, Waits, coded_by, env_is, env_of, grows_none, stops_stop}
 use Rattle.walrus_file_bodies.proofs.CountLemmas.{count_at, read_at}

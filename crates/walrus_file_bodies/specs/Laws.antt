@@ -15,8 +15,8 @@ use Rattle.walrus_items_into.specs.walrus_tables_into.walrus_sections_into.walru
 use Rattle.walrus_items_into.specs.walrus_tables_into.walrus_sections_into.walrus_instr.walrus_types.walrus_items.declared.local.Local.{Local}
 use Rattle.walrus_items_into.specs.walrus_tables_into.walrus_sections_into.walrus_known_sections.declared.sections.Sections.{Sections}
 use Rattle.walrus_items_into.specs.walrus_tables_into.walrus_sections_into.walrus_known_sections.State.{state_of}
-use Rattle.walrus_module_bodies.specs.declared.file.FileEnv.{FileEnv}
-use Rattle.walrus_module_bodies.specs.Steps.{State, Steps, StopsIn, state}
+use Rattle.walrus_items_into.specs.walrus_module_bodies.declared.file.FileEnv.{FileEnv}
+use Rattle.walrus_items_into.specs.walrus_module_bodies.Steps.{State, Steps, StopsIn, state}
 use Rattle.walrus_file_bodies.specs.Ready.{IsFileOf, bodies_in}
 
 -- the fault that is told where reading stops so, in bytes that end at this offset

@@ -33,9 +33,9 @@ use Rattle.walrus_items_into.specs.walrus_tables_into.walrus_sections_into.walru
 use Rattle.walrus_items_into.specs.walrus_tables_into.walrus_sections_into.walrus_module_items.Functions.{type_of}
 use Rattle.walrus_items_into.specs.wasm_sections.Within.{ChunksFit}
 use Rattle.walrus_items_into.specs.walrus_tables_into.walrus_sections_into.walrus_collections.walrus_local_function.walrus_tree.walrus_builder.Built.{Seq, contents}
-use Rattle.walrus_module_bodies.specs.declared.file.FileEnv.{FileEnv}
-use Rattle.walrus_module_bodies.specs.Envs.{IsEnv}
-use Rattle.walrus_module_bodies.specs.Steps.{AreApart, Fails, IsModuleOf, IsStep, State, Steps, StopsIn, cursor_of}
+use Rattle.walrus_items_into.specs.walrus_module_bodies.declared.file.FileEnv.{FileEnv}
+use Rattle.walrus_items_into.specs.walrus_module_bodies.Envs.{IsEnv}
+use Rattle.walrus_items_into.specs.walrus_module_bodies.Steps.{AreApart, Fails, IsModuleOf, IsStep, State, Steps, StopsIn, cursor_of}
 use Rattle.walrus_file_bodies.specs.Laws.{IsTold}
 
 -- ---- bodies that are to be read

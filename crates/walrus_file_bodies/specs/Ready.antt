@@ -18,9 +18,9 @@ use Rattle.walrus_items_into.specs.wasm_module_rules.wasm_modules.Modules.{aroun
 use Rattle.walrus_items_into.specs.wasm_sections.Laws.{ReadsSections}
 use Rattle.walrus_items_into.specs.Filled.{IsFilledFrom}
 use Rattle.walrus_items_into.specs.Spaces.{Spaces}
-use Rattle.walrus_module_bodies.specs.declared.file.FileEnv.{FileEnv}
-use Rattle.walrus_module_bodies.specs.Reading.{TagsStand}
-use Rattle.walrus_module_bodies.specs.Steps.{AreApart, IsFiledLater, IsModuleOf, IsPlaced, IsReady, State, state}
+use Rattle.walrus_items_into.specs.walrus_module_bodies.declared.file.FileEnv.{FileEnv}
+use Rattle.walrus_items_into.specs.walrus_module_bodies.Reading.{TagsStand}
+use Rattle.walrus_items_into.specs.walrus_module_bodies.Steps.{AreApart, IsFiledLater, IsModuleOf, IsPlaced, IsReady, State, state}
 
 -- what stands while the bodies of this file are read into a module of these types, tags and memories
 pub record IsFileOf (s : Sections) (types : Table) (tags : Arena Tag) (memories : Arena Memory) (file : FileEnv) : Type 0 where

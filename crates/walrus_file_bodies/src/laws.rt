@@ -5,7 +5,7 @@ ghost use Rattle.walrus_file_bodies.specs.Ready.{FilledModulesAreReady};
 
 use walrus_function_types::laws::{entry_types_grow, found_types_stay, tables_grow_on};
 use walrus_items_into::laws::{filled_functions_stand, filled_modules_are_filed};
-use walrus_module_bodies::laws::steps_read_codes;
+use walrus_items_into::module_bodies::laws::steps_read_codes;
 
 /// What reading bodies asks for holds where the sections of a file have filled a new module: the bodies lie in the file, each is of a
 /// function of its own that has a live function type and no locals, and the module stays that of the file while types are added.

@@ -6,10 +6,14 @@ pub mod laws;
 // Passed on to crates above, which then list this one alone.
 pub mod body_trees {
     pub mod laws {
-        pub use walrus_module_bodies::body_trees::laws::{
+        pub use walrus_items_into::body_trees::laws::{
             bodies_are_trees, bodies_mean_their_normal_form,
         };
     }
+}
+
+pub mod functions_into {
+    pub use walrus_items_into::functions_into::FunctionBody;
 }
 
 pub mod items_into {
@@ -87,10 +91,28 @@ pub mod items_into {
     }
 }
 
+pub mod locations {
+    pub use walrus_items_into::locations::send_locations;
+}
+
 pub mod module_bodies {
-    pub use walrus_module_bodies::{FileEnv, read_bodies};
+    pub use walrus_items_into::module_bodies::{FileEnv, read_bodies, read_function};
+
+    pub mod laws {
+        pub use walrus_items_into::module_bodies::laws::bodies_hold_theirs;
+    }
+}
+
+pub mod module_items {
+    pub use walrus_items_into::module_items::FunctionKind;
 }
 
 pub mod payloads_into {
     pub use walrus_items_into::payloads_into::{names_in, producers_in};
+}
+
+pub mod spelled_modules {
+    pub mod laws {
+        pub use walrus_items_into::spelled_modules::laws::read_sections_are_spelled;
+    }
 }

@@ -5,10 +5,10 @@ use Rattle.inspect_program.specs.inspect_lines.declared.counts.Counts.{Counts}
 use Rattle.inspect_program.specs.walrus_config.declared.config.ModuleConfig.{ModuleConfig}
 use Rattle.inspect_program.specs.walrus_errors.declared.error.ModuleError.{ModuleError}
 use Rattle.inspect_program.specs.walrus_errors.declared.error.ModuleError.TheVariants.{Memory}
-use Rattle.walrus_counts.specs.Counts.{AreCounts, HaveNoTree}
-use Rattle.walrus_counts.specs.walrus_module.Parts.{Module, parts}
-use Rattle.walrus_counts.specs.walrus_module.declared.module.Module.{Module as Whole}
-use Rattle.walrus_counts.specs.walrus_module.walrus_collections.LookUps.{items}
+use Rattle.walrus_counted_files.specs.walrus_counts.Counts.{AreCounts, HaveNoTree}
+use Rattle.walrus_counted_files.specs.walrus_counts.walrus_module.Parts.{Module, parts}
+use Rattle.walrus_counted_files.specs.walrus_counts.walrus_module.declared.module.Module.{Module as Whole}
+use Rattle.walrus_counted_files.specs.walrus_counts.walrus_module.walrus_collections.LookUps.{items}
 use Rattle.walrus_inspect_cli.proofs.Trees.{cause_is_memory, linked_have_trees}
 use Rattle.walrus_inspect_cli.specs.declared.none.NoSection.{NoSection}
 use Rattle.walrus_inspect_cli.specs.Inspected.{AreKeptCounts, AreTold, Inspects, IsUncounted, IsUntold}

@@ -4,13 +4,13 @@ use Rattle.std.proofs.Common.{◌≡◌, ℕ, suc, List, [], ◌∷◌, map, Opt
 use Rattle.inspect_program.specs.walrus_errors.declared.error.ModuleError.{ModuleError}
 use Rattle.inspect_program.specs.walrus_errors.declared.error.ModuleError.TheVariants as errors
 use Rattle.walrus_arena.specs.Arena.{entries_from}
-use Rattle.walrus_counts.specs.Counts.{HasNoTree, HaveNoTree, IsCause}
-use Rattle.walrus_counts.specs.walrus_module.Parts.{Module}
-use Rattle.walrus_counts.specs.walrus_module.walrus_collections.LookUps.{items}
-use Rattle.walrus_counts.specs.walrus_module.walrus_module_items.declared.function.Function.{Function}
-use Rattle.walrus_counts.specs.walrus_module.walrus_module_items.declared.function.FunctionKind.{FunctionKind}
-use Rattle.walrus_counts.specs.walrus_module.walrus_module_items.declared.function.FunctionKind.TheVariants.{Import, Local, Uninitialized}
-use Rattle.walrus_counts.specs.walrus_module.walrus_types.Table.{Table}
+use Rattle.walrus_counted_files.specs.walrus_counts.Counts.{HasNoTree, HaveNoTree, IsCause}
+use Rattle.walrus_counted_files.specs.walrus_counts.walrus_module.Parts.{Module}
+use Rattle.walrus_counted_files.specs.walrus_counts.walrus_module.walrus_collections.LookUps.{items}
+use Rattle.walrus_counted_files.specs.walrus_counts.walrus_module.walrus_module_items.declared.function.Function.{Function}
+use Rattle.walrus_counted_files.specs.walrus_counts.walrus_module.walrus_module_items.declared.function.FunctionKind.{FunctionKind}
+use Rattle.walrus_counted_files.specs.walrus_counts.walrus_module.walrus_module_items.declared.function.FunctionKind.TheVariants.{Import, Local, Uninitialized}
+use Rattle.walrus_counted_files.specs.walrus_counts.walrus_module.walrus_types.Table.{Table}
 use Rattle.walrus_parsed_inexact.specs.walrus_passes_laws.walrus_passes.walrus_linked.Linked.{IsLinked, IsWhole}
 
 -- the function that has no tree, and where it lives

@@ -3,10 +3,10 @@ use Rattle.std.specs.Prelude.{ℕ, Bool, true, false, ◌⊎◌, List, [], Resul
 use Rattle.inspect_program.specs.inspect_lines.declared.counts.Counts.{Counts}
 use Rattle.inspect_program.specs.walrus_config.declared.config.ModuleConfig.{ModuleConfig}
 use Rattle.inspect_program.specs.walrus_errors.declared.error.ModuleError.{ModuleError}
-use Rattle.walrus_counts.specs.Counts.{AreCounts, HaveNoTree, IsCause}
-use Rattle.walrus_counts.specs.walrus_module.Parts.{Module, parts}
-use Rattle.walrus_counts.specs.walrus_module.walrus_collections.LookUps.{items}
-use Rattle.walrus_counts.specs.walrus_module.declared.module.Module.{Module as Whole}
+use Rattle.walrus_counted_files.specs.walrus_counts.Counts.{AreCounts, HaveNoTree, IsCause}
+use Rattle.walrus_counted_files.specs.walrus_counts.walrus_module.Parts.{Module, parts}
+use Rattle.walrus_counted_files.specs.walrus_counts.walrus_module.walrus_collections.LookUps.{items}
+use Rattle.walrus_counted_files.specs.walrus_counts.walrus_module.declared.module.Module.{Module as Whole}
 use Rattle.walrus_inspect_cli.specs.declared.none.NoSection.{NoSection}
 use Rattle.walrus_parsed_inexact.specs.walrus_parsed_linked.walrus_parsed_items.walrus_parse.Parsed.{IsRead, read_features}
 use Rattle.walrus_parsed_inexact.specs.walrus_parsed_linked.walrus_parsed_items.walrus_parse.Refusals.{IsRefusal}

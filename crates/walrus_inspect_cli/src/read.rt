@@ -1,8 +1,8 @@
 //! A file becomes a module, and its items are counted.
 
 ghost use Rattle.std.specs.Prelude.{◌≡◌, IfErr, IfOk, false, true};
-ghost use Rattle.walrus_counts.specs.Counts.{AreCounts};
-ghost use Rattle.walrus_counts.specs.walrus_module.Parts.{parts};
+ghost use Rattle.walrus_counted_files.specs.walrus_counts.Counts.{AreCounts};
+ghost use Rattle.walrus_counted_files.specs.walrus_counts.walrus_module.Parts.{parts};
 ghost use Rattle.walrus_inspect_cli.specs.Inspected.{AreKeptCounts, Inspects, IsUncounted, IsUntold};
 
 use crate::none::NoSection;
@@ -13,13 +13,13 @@ use inspect_program::lines::Counts;
 use std::alloc::Global;
 use std::mem;
 use walrus_counted_files::count_file;
-use walrus_counts::count;
-use walrus_parse::parse_into;
+use walrus_counted_files::counts::count;
+use walrus_counted_files::parse::parse_into;
 use walrus_parsed_inexact::laws::modules_that_are_read_pass;
+use walrus_parsed_inexact::module::Module;
 use walrus_parsed_inexact::parsed_linked::laws::modules_that_are_read_are_linked;
+use walrus_parsed_inexact::passes::gc;
 use walrus_parsed_inexact::passes_laws::gc_keeps_linked;
-use walrus_passes::gc;
-use walrus_passes::module::Module;
 
 /// Counts the items of modules.
 #[derive(Clone, Copy)]

@@ -2,15 +2,15 @@
 use Rattle.std.proofs.Common.{◌≡◌, ℕ, Bool, false, List, [], ◌∷◌, ◌++◌, Option, Some, None, refl, subst, inl, inr}
 use Rattle.std.specs.Option.{option_map}
 use Rattle.std.specs.List.{AllByRecursion, cons_option, filter_map}
-use Rattle.walrus_tables_into.specs.walrus_meaning.walrus_local_function.walrus_body_locals.wasm_grammar.States.{State}
-use Rattle.walrus_tables_into.specs.walrus_meaning.walrus_local_function.walrus_body_locals.wasm_grammar.wasm_operators.wasm_features.declared.WasmFeatures.{WasmFeatures}
-use Rattle.walrus_tables_into.specs.walrus_meaning.walrus_local_function.walrus_body_locals.wasm_grammar.walrus_forms.Forms.{Form}
-use Rattle.walrus_tables_into.specs.walrus_meaning.walrus_local_function.walrus_body_locals.wasm_grammar.walrus_forms.Kinds.{Kind, declared_kind}
-use Rattle.walrus_tables_into.specs.walrus_meaning.walrus_local_function.walrus_body_locals.wasm_grammar.walrus_forms.Records.{TypeGroup}
-use Rattle.walrus_functions_into.specs.wasm_sections.TypeNames.{kind_of}
-use Rattle.walrus_functions_into.specs.wasm_sections.TypeSection.{Measured, members, type_group}
-use Rattle.walrus_functions_into.specs.wasm_sections.Entities.{Entity, FunctionOf, TableOf, MemoryOf, GlobalOf, TagOf, ImportEntry, add_entity, with_import, import_of, TableEntry, add_table}
-use Rattle.walrus_functions_into.specs.walrus_types_into.wasm_ruled_modules.Keeping.{EntriesKeep, file_kept}
+use Rattle.walrus_parse.specs.walrus_file_bodies.walrus_items_into.walrus_tables_into.walrus_meaning.walrus_local_function.walrus_body_locals.wasm_grammar.States.{State}
+use Rattle.walrus_parse.specs.walrus_file_bodies.walrus_items_into.walrus_tables_into.walrus_meaning.walrus_local_function.walrus_body_locals.wasm_grammar.wasm_operators.wasm_features.declared.WasmFeatures.{WasmFeatures}
+use Rattle.walrus_parse.specs.walrus_file_bodies.walrus_items_into.walrus_tables_into.walrus_meaning.walrus_local_function.walrus_body_locals.wasm_grammar.walrus_forms.Forms.{Form}
+use Rattle.walrus_parse.specs.walrus_file_bodies.walrus_items_into.walrus_tables_into.walrus_meaning.walrus_local_function.walrus_body_locals.wasm_grammar.walrus_forms.Kinds.{Kind, declared_kind}
+use Rattle.walrus_parse.specs.walrus_file_bodies.walrus_items_into.walrus_tables_into.walrus_meaning.walrus_local_function.walrus_body_locals.wasm_grammar.walrus_forms.Records.{TypeGroup}
+use Rattle.walrus_parse.specs.walrus_file_bodies.walrus_items_into.walrus_functions_into.wasm_sections.TypeNames.{kind_of}
+use Rattle.walrus_parse.specs.walrus_file_bodies.walrus_items_into.walrus_functions_into.wasm_sections.TypeSection.{Measured, members, type_group}
+use Rattle.walrus_parse.specs.walrus_file_bodies.walrus_items_into.walrus_functions_into.wasm_sections.Entities.{Entity, FunctionOf, TableOf, MemoryOf, GlobalOf, TagOf, ImportEntry, add_entity, with_import, import_of, TableEntry, add_table}
+use Rattle.walrus_parse.specs.walrus_file_bodies.walrus_items_into.walrus_functions_into.walrus_types_into.wasm_ruled_modules.Keeping.{EntriesKeep, file_kept}
 use Rattle.walrus_into_laws.specs.Groups.{AreDeclared, ReadTypesAreDeclared}
 
 abbrev Plain : List Kind → Type 0

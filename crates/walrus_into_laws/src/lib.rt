@@ -1,7 +1,7 @@
 //! Laws of what was read of a file and put into a module: it fills the collections, and means what was read, renamed.
 #![tactic(auto)]
 
-ghost use Rattle.walrus_tables_into.specs.walrus_meaning.walrus_local_function.walrus_body_locals.wasm_grammar.Modules.{Custom};
+ghost use Rattle.walrus_parse.specs.walrus_file_bodies.walrus_items_into.walrus_tables_into.walrus_meaning.walrus_local_function.walrus_body_locals.wasm_grammar.Modules.{Custom};
 ghost use Rattle.walrus_into_laws.specs.Functions.{FunctionsFill};
 ghost use Rattle.walrus_into_laws.specs.Meaning.{ImportsMean, FunctionsMean, TablesMean, MemoriesMean, TagsMean, GlobalsMean, ExportsMean, StartMeans, ElementsMean, SegmentsMean, CustomsMean, ModuleMeans, OrderedStay};
 
@@ -79,15 +79,55 @@ pub fn customs_mean<B>()
 pub fn module_means()
     ensures { ModuleMeans }
 {
-    wasm_spelled_modules::laws::read_sections_are_spelled();
-    walrus_functions_into::types_into::laws::types_name_below();
+    walrus_parse::spelled_modules::laws::read_sections_are_spelled();
+    walrus_parse::file_bodies::items_into::functions_into::types_into::laws::types_name_below();
     groups::read_types_are_declared();
     groups::groups_mean();
 }
 
 // Passed on to crates above, which then list this one alone.
+pub mod body_trees {
+    pub mod laws {
+        pub use walrus_parse::body_trees::laws::{bodies_are_trees, bodies_mean_their_normal_form};
+    }
+}
+
+pub mod file_bodies {
+    pub mod laws {
+        pub use walrus_parse::file_bodies::laws::bodies_read_files;
+    }
+}
+
+pub mod functions_into {
+    pub mod laws {
+        pub use walrus_parse::file_bodies::items_into::functions_into::laws::read_functions_stand;
+    }
+}
+
+pub mod items_into {
+    pub mod laws {
+        pub use walrus_parse::file_bodies::items_into::laws::{
+            filled_functions_stand, filled_modules_are_filed, named_locals_count,
+        };
+    }
+}
+
+pub mod module_env {
+    pub mod laws {
+        pub use walrus_parse::file_bodies::items_into::module_env::laws::{
+            blocks_are_named, picks_are_seen,
+        };
+    }
+}
+
+pub mod parse {
+    pub use walrus_parse::{FromBuffer, Parse, parse_into};
+}
+
 pub mod types_into {
     pub mod laws {
-        pub use walrus_functions_into::types_into::laws::{new_types_stand, types_name_below};
+        pub use walrus_parse::file_bodies::items_into::functions_into::types_into::laws::{
+            new_types_stand, types_name_below,
+        };
     }
 }

@@ -5,8 +5,8 @@ ghost use Rattle.walrus_index_maps.specs.Views.{ids};
 
 use std::alloc::{AllocError, Global};
 use walrus_arena::{FunctionId, TypeId};
-use walrus_collections::ModuleFunctions;
-use walrus_collections::module_items::FunctionKind;
+use walrus_functions_into::collections::ModuleFunctions;
+use walrus_functions_into::module_items::FunctionKind;
 use walrus_functions_into::{FunctionBody, add_bodiless, add_functions, pair_bodies};
 use walrus_index_maps::IndicesToIds;
 use walrus_known_sections::{Chunk, Function};

@@ -1,20 +1,20 @@
 -- Lemmas: how many locals functions have, by the bodies that they get in turn.
 use Rattle.std.proofs.Common.{◌≡◌, ◌∙◌, ◌<◌, ℕ, zero, suc, ◌+◌, List, [], ◌∷◌, length, map, slice_get, Option, Some, None, refl, sym, ap, subst, arith}
 use Rattle.std.specs.List.{AllZip}
-use Rattle.walrus_functions_into.specs.wasm_module_rules.wasm_modules.Modules.{module_of}
+use Rattle.walrus_module_bodies.specs.walrus_functions_into.wasm_module_rules.wasm_modules.Modules.{module_of}
 use Rattle.wasm_name_payloads.specs.Names.{function_locals, first_slot}
-use Rattle.walrus_module_env.specs.walrus_body_parser.walrus_body_rules.wasm_grammar.Modules.{Body, Module}
-use Rattle.walrus_module_env.specs.walrus_body_parser.walrus_body_rules.wasm_body_grammar.Codes.{param_count, with_bodies}
+use Rattle.walrus_module_bodies.specs.walrus_module_env.walrus_body_parser.walrus_body_rules.wasm_grammar.Modules.{Body, Module}
+use Rattle.walrus_module_bodies.specs.walrus_module_env.walrus_body_parser.walrus_body_rules.wasm_body_grammar.Codes.{param_count, with_bodies}
 use Rattle.walrus_read_laws.specs.walrus_tables_into.walrus_sections_into.walrus_forms.Renaming.{at}
-use Rattle.walrus_functions_into.specs.declared.bodies.FunctionBody.{FunctionBody}
-use Rattle.walrus_functions_into.specs.Bodies.{bodiless, bodiless_from, paired}
-use Rattle.walrus_functions_into.specs.Functions.{functions_from}
-use Rattle.walrus_functions_into.specs.Laws.{ReadBodiesArePaired, read_bodies}
+use Rattle.walrus_module_bodies.specs.walrus_functions_into.declared.bodies.FunctionBody.{FunctionBody}
+use Rattle.walrus_module_bodies.specs.walrus_functions_into.Bodies.{bodiless, bodiless_from, paired}
+use Rattle.walrus_module_bodies.specs.walrus_functions_into.Functions.{functions_from}
+use Rattle.walrus_module_bodies.specs.walrus_functions_into.Laws.{ReadBodiesArePaired, read_bodies}
 use Rattle.walrus_read_laws.specs.walrus_tables_into.walrus_sections_into.walrus_index_maps.Maps.{Ids}
 use Rattle.walrus_read_laws.specs.walrus_tables_into.walrus_sections_into.walrus_known_sections.declared.items.Function.{Function as ReadFunction}
 use Rattle.walrus_read_laws.specs.walrus_tables_into.walrus_sections_into.walrus_known_sections.Items.{function_of}
 use Rattle.walrus_read_laws.specs.walrus_tables_into.walrus_sections_into.walrus_known_sections.State.{state_of}
-use Rattle.walrus_module_env.specs.walrus_collections.walrus_module_items.declared.function.Function.{Function}
+use Rattle.walrus_module_bodies.specs.walrus_module_env.walrus_collections.walrus_module_items.declared.function.Function.{Function}
 use Rattle.walrus_items_into.specs.Laws.{NamedLocalsCount}
 use Rattle.walrus_items_into.specs.Numbers.{types_in}
 

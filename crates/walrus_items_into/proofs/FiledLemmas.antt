@@ -4,23 +4,23 @@ use Rattle.std.proofs.lemmas.Bool.{cases_lt}
 use Rattle.std.specs.Option.{option_map, option_and_then}
 use Rattle.std.specs.List.{flat_map}
 use Rattle.std.proofs.lemmas.List.{length-map, length-append}
-use Rattle.walrus_module_env.specs.walrus_body_parser.wasm_operators.wasm_features.declared.WasmFeatures.{WasmFeatures}
-use Rattle.walrus_functions_into.specs.wasm_sections.Laws.{ReadsSections}
-use Rattle.walrus_functions_into.specs.wasm_module_rules.wasm_modules.Modules.{around, module_of}
-use Rattle.walrus_functions_into.specs.wasm_module_rules.Reading.{bodies_length}
+use Rattle.walrus_module_bodies.specs.walrus_module_env.walrus_body_parser.wasm_operators.wasm_features.declared.WasmFeatures.{WasmFeatures}
+use Rattle.walrus_module_bodies.specs.walrus_functions_into.wasm_sections.Laws.{ReadsSections}
+use Rattle.walrus_module_bodies.specs.walrus_functions_into.wasm_module_rules.wasm_modules.Modules.{around, module_of}
+use Rattle.walrus_module_bodies.specs.walrus_functions_into.wasm_module_rules.Reading.{bodies_length}
 use Rattle.wasm_name_payloads.specs.Names.{local_count, function_locals, first_slot}
 use Rattle.walrus_read_laws.specs.walrus_tables_into.walrus_sections_into.walrus_forms.Records.{TypeGroup}
 use Rattle.walrus_read_laws.specs.walrus_tables_into.walrus_sections_into.walrus_forms.Renaming.{at}
 use Rattle.walrus_read_laws.specs.walrus_tables_into.walrus_sections_into.walrus_instr.walrus_types.Table.{Table, next_id}
-use Rattle.walrus_functions_into.specs.walrus_types_into.Into.{TypesNameBelow, NewTypesStand}
-use Rattle.walrus_module_env.specs.declared.env.ModuleEnv.{ModuleEnv}
-use Rattle.walrus_module_env.specs.Around.{IsFiled}
-use Rattle.walrus_module_env.specs.Filled.{AreFiled, HasBehind, ReadTypesAreFiled}
+use Rattle.walrus_module_bodies.specs.walrus_functions_into.walrus_types_into.Into.{TypesNameBelow, NewTypesStand}
+use Rattle.walrus_module_bodies.specs.walrus_module_env.declared.env.ModuleEnv.{ModuleEnv}
+use Rattle.walrus_module_bodies.specs.walrus_module_env.Around.{IsFiled}
+use Rattle.walrus_module_bodies.specs.walrus_module_env.Filled.{AreFiled, HasBehind, ReadTypesAreFiled}
 use Rattle.walrus_payloads_into.specs.Numbered.{ids_in, locals_of, locals_in, IsNumbered}
-use Rattle.walrus_module_env.specs.walrus_body_parser.walrus_body_rules.wasm_body_grammar.wasm_formats.declared.fault.Space.{Space}
-use Rattle.walrus_module_env.specs.walrus_body_parser.walrus_body_rules.wasm_body_grammar.wasm_formats.declared.fault.Space.TheVariants as spaces
-use Rattle.walrus_module_env.specs.walrus_body_parser.walrus_body_rules.wasm_grammar.Modules.{Body, Function as GrammarFunction, Memory as GrammarMemory}
-use Rattle.walrus_module_env.specs.walrus_body_parser.walrus_body_rules.wasm_grammar.States.{count_of}
+use Rattle.walrus_module_bodies.specs.walrus_module_env.walrus_body_parser.walrus_body_rules.wasm_body_grammar.wasm_formats.declared.fault.Space.{Space}
+use Rattle.walrus_module_bodies.specs.walrus_module_env.walrus_body_parser.walrus_body_rules.wasm_body_grammar.wasm_formats.declared.fault.Space.TheVariants as spaces
+use Rattle.walrus_module_bodies.specs.walrus_module_env.walrus_body_parser.walrus_body_rules.wasm_grammar.Modules.{Body, Function as GrammarFunction, Memory as GrammarMemory}
+use Rattle.walrus_module_bodies.specs.walrus_module_env.walrus_body_parser.walrus_body_rules.wasm_grammar.States.{count_of}
 use Rattle.walrus_arena.specs.Arena.{Arena}
 use Rattle.walrus_read_laws.specs.walrus_tables_into.walrus_sections_into.walrus_index_maps.Maps.{Ids}
 use Rattle.walrus_read_laws.specs.walrus_tables_into.walrus_sections_into.walrus_known_sections.declared.items.Memory.{Memory as ReadMemory}
@@ -28,7 +28,7 @@ use Rattle.walrus_read_laws.specs.walrus_tables_into.walrus_sections_into.walrus
 use Rattle.walrus_read_laws.specs.walrus_tables_into.walrus_sections_into.walrus_known_sections.Items.{function_of, table_of, memory_of, tag_of, element_of, data_of}
 use Rattle.walrus_read_laws.specs.walrus_tables_into.walrus_section_values.Globals.{global_of}
 use Rattle.walrus_read_laws.specs.walrus_tables_into.walrus_sections_into.walrus_known_sections.State.{state_of}
-use Rattle.walrus_module_env.specs.walrus_collections.walrus_module_items.declared.memory.Memory.{Memory}
+use Rattle.walrus_module_bodies.specs.walrus_module_env.walrus_collections.walrus_module_items.declared.memory.Memory.{Memory}
 use Rattle.walrus_read_laws.specs.walrus_tables_into.walrus_sections_into.Numbers.{upto}
 use Rattle.walrus_read_laws.specs.walrus_tables_into.walrus_sections_into.Slots.{Become, IsMemoryOf}
 use Rattle.walrus_items_into.specs.Filled.{IsFilledFrom}

@@ -5,15 +5,15 @@ use Rattle.walrus_arena.specs.Arena.{Arena}
 use Rattle.std.specs.List.{range_with_len}
 use Rattle.walrus_read_laws.specs.walrus_tables_into.walrus_sections_into.walrus_instr.walrus_types.Table.{Table}
 use Rattle.walrus_read_laws.specs.walrus_tables_into.walrus_sections_into.walrus_instr.walrus_types.Parsing.{AreBelow, parsed, unparsed}
-use Rattle.walrus_functions_into.specs.walrus_types_into.Into.{no_types, with_types, TypesNameBelow, NewTypesStand}
-use Rattle.walrus_functions_into.specs.Functions.{AreTyped, functions_from, with_functions}
-use Rattle.walrus_functions_into.specs.Laws.{ReadFunctionsStand}
+use Rattle.walrus_module_bodies.specs.walrus_functions_into.walrus_types_into.Into.{no_types, with_types, TypesNameBelow, NewTypesStand}
+use Rattle.walrus_module_bodies.specs.walrus_functions_into.Functions.{AreTyped, functions_from, with_functions}
+use Rattle.walrus_module_bodies.specs.walrus_functions_into.Laws.{ReadFunctionsStand}
 use Rattle.walrus_read_laws.specs.walrus_tables_into.walrus_sections_into.walrus_index_maps.Maps.{Ids, no_ids}
 use Rattle.walrus_read_laws.specs.walrus_tables_into.walrus_sections_into.walrus_known_sections.declared.items.Function.{Function as ReadFunction}
 use Rattle.walrus_read_laws.specs.walrus_tables_into.walrus_sections_into.walrus_known_sections.declared.sections.Sections.{Sections}
 use Rattle.walrus_read_laws.specs.walrus_tables_into.walrus_sections_into.walrus_known_sections.State.{state_of}
 use Rattle.walrus_read_laws.specs.walrus_tables_into.walrus_sections_into.Numbers.{upto}
-use Rattle.walrus_module_env.specs.walrus_collections.walrus_module_items.declared.function.Function.{Function}
+use Rattle.walrus_module_bodies.specs.walrus_module_env.walrus_collections.walrus_module_items.declared.function.Function.{Function}
 use Rattle.walrus_read_laws.specs.walrus_tables_into.walrus_sections_into.declared.error.IntoError.{IntoError}
 use Rattle.walrus_read_laws.specs.walrus_tables_into.walrus_sections_into.Becomes.{look_of}
 use Rattle.walrus_read_laws.specs.walrus_tables_into.walrus_sections_into.Slots.{Become, Filled, IsMemoryOf}
@@ -27,7 +27,7 @@ use Rattle.walrus_read_laws.specs.walrus_tables_into.Elements.{IsElementOf}
 use Rattle.walrus_read_laws.specs.walrus_tables_into.Customs.{IsCustomOf, plain}
 use Rattle.walrus_read_laws.specs.walrus_tables_into.walrus_sections_into.walrus_known_sections.declared.items.Data.{Data as ReadData}
 use Rattle.walrus_read_laws.specs.walrus_tables_into.walrus_sections_into.walrus_pairing.Looks.{Look}
-use Rattle.walrus_module_env.specs.walrus_collections.walrus_module_items.declared.data.Data.{Data}
+use Rattle.walrus_module_bodies.specs.walrus_module_env.walrus_collections.walrus_module_items.declared.data.Data.{Data}
 use Rattle.walrus_items_into.specs.Filled.{AreRead, IsFilledFrom, IsNew}
 use Rattle.walrus_items_into.specs.Numbers.{numbers_of, types_in, with_items}
 use Rattle.walrus_items_into.specs.Spaces.{Spaces}

@@ -1,15 +1,15 @@
 -- Lemmas: the functions of a module that a file filled.
 use Rattle.std.proofs.Common.{◌≡◌, ◌∙◌, List, Option, sym, ap, subst}
-use Rattle.walrus_functions_into.specs.wasm_module_rules.Linked.{Each}
+use Rattle.walrus_module_bodies.specs.walrus_functions_into.wasm_module_rules.Linked.{Each}
 use Rattle.walrus_read_laws.specs.walrus_tables_into.walrus_sections_into.walrus_instr.walrus_types.Table.{Table, IsFunctionType}
-use Rattle.walrus_functions_into.specs.walrus_types_into.Into.{TypesNameBelow, NewTypesStand}
-use Rattle.walrus_functions_into.specs.Bodies.{bodiless_from}
-use Rattle.walrus_functions_into.specs.Functions.{functions_from}
-use Rattle.walrus_functions_into.specs.Laws.{ArePaired, ReadFunctionsStand, ReadBodiesArePaired}
+use Rattle.walrus_module_bodies.specs.walrus_functions_into.walrus_types_into.Into.{TypesNameBelow, NewTypesStand}
+use Rattle.walrus_module_bodies.specs.walrus_functions_into.Bodies.{bodiless_from}
+use Rattle.walrus_module_bodies.specs.walrus_functions_into.Functions.{functions_from}
+use Rattle.walrus_module_bodies.specs.walrus_functions_into.Laws.{ArePaired, ReadFunctionsStand, ReadBodiesArePaired}
 use Rattle.walrus_read_laws.specs.walrus_tables_into.walrus_sections_into.walrus_index_maps.Maps.{Ids}
 use Rattle.walrus_read_laws.specs.walrus_tables_into.walrus_sections_into.walrus_known_sections.State.{state_of}
-use Rattle.walrus_module_env.specs.walrus_collections.walrus_module_items.declared.function.Function.{Function}
-use Rattle.walrus_module_env.specs.walrus_collections.walrus_module_items.Functions.{type_of}
+use Rattle.walrus_module_bodies.specs.walrus_module_env.walrus_collections.walrus_module_items.declared.function.Function.{Function}
+use Rattle.walrus_module_bodies.specs.walrus_module_env.walrus_collections.walrus_module_items.Functions.{type_of}
 use Rattle.walrus_items_into.specs.Laws.{FilledFunctionsStand}
 use Rattle.walrus_items_into.specs.Numbers.{types_in}
 

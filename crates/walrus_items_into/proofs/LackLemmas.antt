@@ -10,7 +10,7 @@ use Rattle.walrus_read_laws.specs.walrus_tables_into.walrus_sections_into.walrus
 use Rattle.walrus_read_laws.specs.walrus_tables_into.walrus_sections_into.declared.error.IntoError.{IntoError}
 use Rattle.walrus_read_laws.specs.walrus_tables_into.walrus_sections_into.declared.error.IntoError.TheVariants as errors
 use Rattle.walrus_read_laws.specs.walrus_tables_into.walrus_sections_into.Becomes.{look_of}
-use Rattle.walrus_functions_into.specs.walrus_types_into.Into.{TypesNameBelow, NewTypesStand}
+use Rattle.walrus_module_bodies.specs.walrus_functions_into.walrus_types_into.Into.{TypesNameBelow, NewTypesStand}
 use Rattle.walrus_read_laws.specs.Whole.{AreNumbered, LackNothing, ReadSectionsLackNothing}
 use Rattle.walrus_items_into.specs.Filled.{AreRead, WereRead}
 use Rattle.walrus_items_into.specs.Numbers.{numbers_of}

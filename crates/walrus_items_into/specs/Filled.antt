@@ -1,13 +1,13 @@
 -- Collections of a module, and index maps, that the sections of a file have filled.
 use Rattle.std.specs.Prelude.{ℕ, ◌<◌, ◌≡◌, false, List, [], All, Option}
 use Rattle.walrus_arena.specs.Arena.{Arena}
-use Rattle.walrus_module_env.specs.walrus_body_parser.wasm_operators.wasm_features.declared.WasmFeatures.{WasmFeatures}
-use Rattle.walrus_functions_into.specs.wasm_sections.Laws.{ReadsSections}
+use Rattle.walrus_module_bodies.specs.walrus_module_env.walrus_body_parser.wasm_operators.wasm_features.declared.WasmFeatures.{WasmFeatures}
+use Rattle.walrus_module_bodies.specs.walrus_functions_into.wasm_sections.Laws.{ReadsSections}
 use Rattle.walrus_read_laws.specs.walrus_tables_into.walrus_sections_into.walrus_index_maps.Maps.{Ids, no_ids}
-use Rattle.walrus_functions_into.specs.walrus_types_into.Into.{no_types}
+use Rattle.walrus_module_bodies.specs.walrus_functions_into.walrus_types_into.Into.{no_types}
 use Rattle.walrus_read_laws.specs.walrus_tables_into.walrus_sections_into.walrus_known_sections.declared.sections.Sections.{Sections}
 use Rattle.walrus_read_laws.specs.walrus_tables_into.walrus_sections_into.walrus_known_sections.State.{state_of}
-use Rattle.walrus_functions_into.specs.Functions.{functions_from}
+use Rattle.walrus_module_bodies.specs.walrus_functions_into.Functions.{functions_from}
 use Rattle.walrus_read_laws.specs.walrus_tables_into.walrus_sections_into.Becomes.{look_of}
 use Rattle.walrus_read_laws.specs.walrus_tables_into.walrus_sections_into.Slots.{Filled, IsMemoryOf}
 use Rattle.walrus_read_laws.specs.walrus_tables_into.walrus_sections_into.Imports.{IsImportOf}
@@ -18,7 +18,7 @@ use Rattle.walrus_read_laws.specs.walrus_tables_into.Tables.{IsTableOf}
 use Rattle.walrus_read_laws.specs.walrus_tables_into.Globals.{IsGlobalOf}
 use Rattle.walrus_read_laws.specs.walrus_tables_into.Elements.{IsElementOf}
 use Rattle.walrus_read_laws.specs.walrus_tables_into.Customs.{IsCustomOf, plain}
-use Rattle.walrus_module_env.specs.walrus_collections.walrus_module_items.declared.data.Data.{Data}
+use Rattle.walrus_module_bodies.specs.walrus_module_env.walrus_collections.walrus_module_items.declared.data.Data.{Data}
 use Rattle.walrus_items_into.specs.Spaces.{Spaces}
 use Rattle.walrus_items_into.specs.Numbers.{numbers_of, types_in}
 

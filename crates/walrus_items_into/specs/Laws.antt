@@ -2,26 +2,26 @@
 use Rattle.std.specs.Prelude.{ℕ, ◌+◌, ◌<◌, ◌≡◌, List, [], length, slice_get, Option, Some}
 use Rattle.std.specs.List.{AllZip}
 use Rattle.std.specs.Option.{is_some}
-use Rattle.walrus_module_env.specs.walrus_body_parser.wasm_operators.wasm_features.declared.WasmFeatures.{WasmFeatures}
-use Rattle.walrus_functions_into.specs.wasm_sections.Laws.{ReadsSections}
-use Rattle.walrus_functions_into.specs.wasm_module_rules.wasm_modules.Modules.{around, module_of}
+use Rattle.walrus_module_bodies.specs.walrus_module_env.walrus_body_parser.wasm_operators.wasm_features.declared.WasmFeatures.{WasmFeatures}
+use Rattle.walrus_module_bodies.specs.walrus_functions_into.wasm_sections.Laws.{ReadsSections}
+use Rattle.walrus_module_bodies.specs.walrus_functions_into.wasm_module_rules.wasm_modules.Modules.{around, module_of}
 use Rattle.wasm_name_payloads.specs.Names.{local_count}
 use Rattle.walrus_read_laws.specs.walrus_tables_into.walrus_sections_into.walrus_instr.walrus_types.Table.{next_id, IsFunctionType}
-use Rattle.walrus_module_env.specs.walrus_body_parser.walrus_body_rules.wasm_grammar.Modules.{Body}
+use Rattle.walrus_module_bodies.specs.walrus_module_env.walrus_body_parser.walrus_body_rules.wasm_grammar.Modules.{Body}
 use Rattle.walrus_payloads_into.specs.Numbered.{IsNumbered}
-use Rattle.walrus_module_env.specs.declared.env.ModuleEnv.{ModuleEnv}
-use Rattle.walrus_module_env.specs.Around.{IsFiled}
-use Rattle.walrus_module_env.specs.Filled.{HasBehind}
+use Rattle.walrus_module_bodies.specs.walrus_module_env.declared.env.ModuleEnv.{ModuleEnv}
+use Rattle.walrus_module_bodies.specs.walrus_module_env.Around.{IsFiled}
+use Rattle.walrus_module_bodies.specs.walrus_module_env.Filled.{HasBehind}
 use Rattle.walrus_read_laws.specs.walrus_tables_into.walrus_sections_into.walrus_index_maps.Maps.{Ids}
 use Rattle.walrus_read_laws.specs.walrus_tables_into.walrus_sections_into.walrus_known_sections.declared.sections.Sections.{Sections}
 use Rattle.walrus_read_laws.specs.walrus_tables_into.walrus_sections_into.walrus_known_sections.State.{state_of}
-use Rattle.walrus_functions_into.specs.wasm_module_rules.Linked.{Each}
-use Rattle.walrus_functions_into.specs.Bodies.{bodiless, paired}
-use Rattle.walrus_functions_into.specs.declared.bodies.FunctionBody.{FunctionBody}
-use Rattle.walrus_functions_into.specs.Laws.{ArePaired, code_of, read_bodies}
+use Rattle.walrus_module_bodies.specs.walrus_functions_into.wasm_module_rules.Linked.{Each}
+use Rattle.walrus_module_bodies.specs.walrus_functions_into.Bodies.{bodiless, paired}
+use Rattle.walrus_module_bodies.specs.walrus_functions_into.declared.bodies.FunctionBody.{FunctionBody}
+use Rattle.walrus_module_bodies.specs.walrus_functions_into.Laws.{ArePaired, code_of, read_bodies}
 use Rattle.walrus_read_laws.specs.walrus_tables_into.walrus_sections_into.walrus_known_sections.declared.items.Function.{Function as ReadFunction}
-use Rattle.walrus_module_env.specs.walrus_collections.walrus_module_items.declared.function.Function.{Function}
-use Rattle.walrus_module_env.specs.walrus_collections.walrus_module_items.Functions.{type_of}
+use Rattle.walrus_module_bodies.specs.walrus_module_env.walrus_collections.walrus_module_items.declared.function.Function.{Function}
+use Rattle.walrus_module_bodies.specs.walrus_module_env.walrus_collections.walrus_module_items.Functions.{type_of}
 use Rattle.walrus_items_into.specs.Filled.{IsFilledFrom}
 use Rattle.walrus_items_into.specs.Spaces.{Spaces}
 

@@ -3,7 +3,7 @@
 use Rattle.std.specs.Prelude.{◌++◌, length}
 use Rattle.walrus_read_laws.specs.walrus_tables_into.walrus_sections_into.walrus_index_maps.Maps.{Ids, no_ids}
 use Rattle.walrus_read_laws.specs.walrus_tables_into.walrus_sections_into.walrus_instr.walrus_types.Parsing.{Parsed, parsed, unparsed}
-use Rattle.walrus_functions_into.specs.walrus_types_into.Into.{no_types}
+use Rattle.walrus_module_bodies.specs.walrus_functions_into.walrus_types_into.Into.{no_types}
 use Rattle.walrus_read_laws.specs.walrus_tables_into.walrus_sections_into.Numbers.{upto}
 use Rattle.walrus_read_laws.specs.walrus_tables_into.walrus_sections_into.walrus_known_sections.declared.sections.Sections.{Sections}
 

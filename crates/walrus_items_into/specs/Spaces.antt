@@ -2,15 +2,15 @@
 use Rattle.walrus_arena.specs.Arena.{Arena}
 use Rattle.walrus_read_laws.specs.walrus_tables_into.walrus_sections_into.walrus_instr.walrus_types.Table.{Table as TypeTable}
 use Rattle.walrus_read_laws.specs.walrus_tables_into.walrus_sections.declared.section.Section.{Section}
-use Rattle.walrus_module_env.specs.walrus_collections.walrus_module_items.declared.import.Import.{Import}
-use Rattle.walrus_module_env.specs.walrus_collections.walrus_module_items.declared.function.Function.{Function}
-use Rattle.walrus_module_env.specs.walrus_collections.walrus_module_items.declared.table.Table.{Table}
-use Rattle.walrus_module_env.specs.walrus_collections.walrus_module_items.declared.memory.Memory.{Memory}
-use Rattle.walrus_module_env.specs.walrus_collections.walrus_module_items.declared.tag.Tag.{Tag}
-use Rattle.walrus_module_env.specs.walrus_collections.walrus_module_items.declared.global.Global.{Global}
-use Rattle.walrus_module_env.specs.walrus_collections.walrus_module_items.declared.export.Export.{Export}
-use Rattle.walrus_module_env.specs.walrus_collections.walrus_module_items.declared.element.Element.{Element}
-use Rattle.walrus_module_env.specs.walrus_collections.walrus_module_items.declared.data.Data.{Data}
+use Rattle.walrus_module_bodies.specs.walrus_module_env.walrus_collections.walrus_module_items.declared.import.Import.{Import}
+use Rattle.walrus_module_bodies.specs.walrus_module_env.walrus_collections.walrus_module_items.declared.function.Function.{Function}
+use Rattle.walrus_module_bodies.specs.walrus_module_env.walrus_collections.walrus_module_items.declared.table.Table.{Table}
+use Rattle.walrus_module_bodies.specs.walrus_module_env.walrus_collections.walrus_module_items.declared.memory.Memory.{Memory}
+use Rattle.walrus_module_bodies.specs.walrus_module_env.walrus_collections.walrus_module_items.declared.tag.Tag.{Tag}
+use Rattle.walrus_module_bodies.specs.walrus_module_env.walrus_collections.walrus_module_items.declared.global.Global.{Global}
+use Rattle.walrus_module_bodies.specs.walrus_module_env.walrus_collections.walrus_module_items.declared.export.Export.{Export}
+use Rattle.walrus_module_bodies.specs.walrus_module_env.walrus_collections.walrus_module_items.declared.element.Element.{Element}
+use Rattle.walrus_module_bodies.specs.walrus_module_env.walrus_collections.walrus_module_items.declared.data.Data.{Data}
 
 pub record Spaces (B : Type 0) : Type 0 where
   pub types : TypeTable

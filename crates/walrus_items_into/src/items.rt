@@ -12,15 +12,15 @@ ghost use Rattle.walrus_items_into.specs.Spaces.{spaces};
 use crate::numbers::number_items;
 use std::alloc::Global;
 use walrus_arena::FunctionId;
-use walrus_functions_into::add_functions;
-use walrus_functions_into::laws::read_functions_stand;
-use walrus_functions_into::types_into::laws::{new_types_stand, types_name_below};
-use walrus_functions_into::types_into::read_types_into;
-use walrus_module_env::body_env::instr::type_table::ModuleTypes;
-use walrus_module_env::collections::{
+use walrus_module_bodies::collections::{
     ModuleData, ModuleElements, ModuleExports, ModuleFunctions, ModuleGlobals, ModuleImports,
     ModuleMemories, ModuleTables, ModuleTags,
 };
+use walrus_module_bodies::functions_into::add_functions;
+use walrus_module_bodies::functions_into::laws::read_functions_stand;
+use walrus_module_bodies::types::ModuleTypes;
+use walrus_module_bodies::types_into::laws::{new_types_stand, types_name_below};
+use walrus_module_bodies::types_into::read_types_into;
 use walrus_read_laws::read_sections_lack_nothing;
 use walrus_read_laws::tables_into::sections::Sections as CustomSections;
 use walrus_read_laws::tables_into::sections_into::index_maps::IndicesToIds;

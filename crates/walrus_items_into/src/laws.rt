@@ -2,9 +2,9 @@
 
 ghost use Rattle.walrus_items_into.specs.Laws.{FilledFunctionsStand, FilledModulesAreFiled, FilledModulesAreNumbered, NamedLocalsCount};
 
-use walrus_functions_into::laws::{read_bodies_are_paired, read_functions_stand};
-use walrus_functions_into::types_into::laws::{new_types_stand, types_name_below};
-use walrus_module_env::laws::read_types_are_filed;
+use walrus_module_bodies::functions_into::laws::{read_bodies_are_paired, read_functions_stand};
+use walrus_module_bodies::module_env::laws::read_types_are_filed;
+use walrus_module_bodies::types_into::laws::{new_types_stand, types_name_below};
 
 /// Bodies see the file whose sections filled their module.
 pub fn filled_modules_are_filed<B>()

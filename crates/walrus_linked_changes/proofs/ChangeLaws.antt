@@ -1,20 +1,20 @@
 -- Deletes and writes, as the calls say what they do.
 use Rattle.std.proofs.Common.{◌≡◌, List, ap, subst, sym}
 use Rattle.walrus_arena.specs.Arena.{Arena}
-use Rattle.walrus_linked.specs.walrus_module_items.declared.import.Import.{Import}
-use Rattle.walrus_linked.specs.walrus_module_items.declared.export.Export.{Export}
-use Rattle.walrus_linked.specs.walrus_module_items.declared.function.Function.{Function as FunctionItem}
-use Rattle.walrus_linked.specs.walrus_module_items.declared.table.Table.{Table as TableItem}
-use Rattle.walrus_linked.specs.walrus_module_items.declared.memory.Memory.{Memory as MemoryItem}
-use Rattle.walrus_linked.specs.walrus_module_items.declared.global.Global.{Global as GlobalItem}
-use Rattle.walrus_linked.specs.walrus_module_items.declared.tag.Tag.{Tag as TagItem}
-use Rattle.walrus_linked.specs.walrus_module_items.declared.data.Data.{Data as DataItem}
-use Rattle.walrus_linked.specs.walrus_module_items.declared.element.Element.{Element as ElementItem}
+use Rattle.walrus_linked_edits.specs.walrus_linked.walrus_module_items.declared.import.Import.{Import}
+use Rattle.walrus_linked_edits.specs.walrus_linked.walrus_module_items.declared.export.Export.{Export}
+use Rattle.walrus_linked_edits.specs.walrus_linked.walrus_module_items.declared.function.Function.{Function as FunctionItem}
+use Rattle.walrus_linked_edits.specs.walrus_linked.walrus_module_items.declared.table.Table.{Table as TableItem}
+use Rattle.walrus_linked_edits.specs.walrus_linked.walrus_module_items.declared.memory.Memory.{Memory as MemoryItem}
+use Rattle.walrus_linked_edits.specs.walrus_linked.walrus_module_items.declared.global.Global.{Global as GlobalItem}
+use Rattle.walrus_linked_edits.specs.walrus_linked.walrus_module_items.declared.tag.Tag.{Tag as TagItem}
+use Rattle.walrus_linked_edits.specs.walrus_linked.walrus_module_items.declared.data.Data.{Data as DataItem}
+use Rattle.walrus_linked_edits.specs.walrus_linked.walrus_module_items.declared.element.Element.{Element as ElementItem}
 use Rattle.walrus_walks.specs.Events.{Event}
-use Rattle.walrus_linked.specs.walrus_module.Parts.{Module}
-use Rattle.walrus_linked.specs.walrus_module.Items.{Lives, given_out}
-use Rattle.walrus_linked.specs.Names.{function_names, table_names, global_names, tag_names, data_kind_names, element_names}
-use Rattle.walrus_linked.specs.Linked.{IsLinked}
+use Rattle.walrus_linked_edits.specs.walrus_linked.walrus_module.Parts.{Module}
+use Rattle.walrus_linked_edits.specs.walrus_linked.walrus_module.Items.{Lives, given_out}
+use Rattle.walrus_linked_edits.specs.walrus_linked.Names.{function_names, table_names, global_names, tag_names, data_kind_names, element_names}
+use Rattle.walrus_linked_edits.specs.walrus_linked.Linked.{IsLinked}
 use Rattle.walrus_linked_edits.specs.Edits.{AreLive}
 use Rattle.walrus_linked_edits.proofs.ChangedExports.{export_set}
 use Rattle.walrus_linked_changes.specs.Changes.{DeletesKeepLinked, WritesKeepLinked}

@@ -1,17 +1,17 @@
 -- A module without items that nothing else names: what was linked stays so.
 use Rattle.std.proofs.Common.{◌≡◌, ◌∙◌, ℕ, Some, Contains, refl, sym, ap}
 use Rattle.walrus_arena.specs.Arena.{Arena, item_at}
-use Rattle.walrus_linked.specs.walrus_module_items.declared.import.Import.{Import}
-use Rattle.walrus_linked.specs.walrus_module_items.declared.export.Export.{Export}
-use Rattle.walrus_linked.specs.walrus_module_items.declared.function.Function.{Function}
+use Rattle.walrus_linked_edits.specs.walrus_linked.walrus_module_items.declared.import.Import.{Import}
+use Rattle.walrus_linked_edits.specs.walrus_linked.walrus_module_items.declared.export.Export.{Export}
+use Rattle.walrus_linked_edits.specs.walrus_linked.walrus_module_items.declared.function.Function.{Function}
 use Rattle.wasm_formats.specs.declared.fault.Space.{Space}
 use Rattle.wasm_formats.specs.declared.fault.Space.TheVariants as spaces
-use Rattle.walrus_linked.specs.walrus_module.Parts.{Module}
+use Rattle.walrus_linked_edits.specs.walrus_linked.walrus_module.Parts.{Module}
 use Rattle.walrus_roots.specs.declared.item.Item.{Item}
 use Rattle.walrus_roots.specs.Items.{item, space_number}
-use Rattle.walrus_linked.specs.walrus_module.Items.{LivesIn, brought, given_out}
-use Rattle.walrus_linked.specs.Names.{names}
-use Rattle.walrus_linked.specs.Linked.{IsLinked, IsWhole, GroupsAreWritten, import_in}
+use Rattle.walrus_linked_edits.specs.walrus_linked.walrus_module.Items.{LivesIn, brought, given_out}
+use Rattle.walrus_linked_edits.specs.walrus_linked.Names.{names}
+use Rattle.walrus_linked_edits.specs.walrus_linked.Linked.{IsLinked, IsWhole, GroupsAreWritten, import_in}
 use Rattle.walrus_linked_changes.specs.Changes.{AreUnnamed}
 
 -- items of two spaces differ

@@ -2,12 +2,12 @@
 use Rattle.std.proofs.Common.{◌≡◌, ◌∙◌, ℕ, Some, slice_set, sym, ap, inl, inr}
 use Rattle.std.proofs.lemmas.Bool.{cases_eq}
 use Rattle.walrus_arena.specs.Arena.{Arena, item_at}
-use Rattle.walrus_linked.specs.walrus_module_items.declared.import.Import.{Import}
-use Rattle.walrus_linked.specs.walrus_module_items.declared.import.ImportKind.{ImportKind}
-use Rattle.walrus_linked.specs.walrus_module.Parts.{Module}
+use Rattle.walrus_linked_edits.specs.walrus_linked.walrus_module_items.declared.import.Import.{Import}
+use Rattle.walrus_linked_edits.specs.walrus_linked.walrus_module_items.declared.import.ImportKind.{ImportKind}
+use Rattle.walrus_linked_edits.specs.walrus_linked.walrus_module.Parts.{Module}
 use Rattle.walrus_roots.specs.declared.item.Item.{Item}
-use Rattle.walrus_linked.specs.walrus_module.Items.{brought}
-use Rattle.walrus_linked.specs.Linked.{IsLinked, import_of}
+use Rattle.walrus_linked_edits.specs.walrus_linked.walrus_module.Items.{brought}
+use Rattle.walrus_linked_edits.specs.walrus_linked.Linked.{IsLinked, import_of}
 use Rattle.walrus_linked_changes.proofs.SlotLemmas.{besides, this}
 
 module _ (m : Module) (xs : Arena Import) (k : ℕ) (old new : Import) (at : item_at m.imports k ≡ Some old) (is : xs.slots ≡ slice_set m.imports.slots k (Some new)) (same : new.kind ≡ old.kind) where

@@ -1,13 +1,13 @@
 -- A memory that is deleted or written: what was linked stays so.
 use Rattle.std.proofs.Common.{◌≡◌, ◌∙◌, ℕ, Option, Some, None, slice_set, refl, sym, ap, inl, arith}
 use Rattle.walrus_arena.specs.Arena.{Arena, item_at}
-use Rattle.walrus_linked.specs.walrus_module_items.declared.memory.Memory.{Memory}
+use Rattle.walrus_linked_edits.specs.walrus_linked.walrus_module_items.declared.memory.Memory.{Memory}
 use Rattle.wasm_formats.specs.declared.fault.Space.{Space}
 use Rattle.wasm_formats.specs.declared.fault.Space.TheVariants as spaces
-use Rattle.walrus_linked.specs.walrus_module.Parts.{Module}
+use Rattle.walrus_linked_edits.specs.walrus_linked.walrus_module.Parts.{Module}
 use Rattle.walrus_roots.specs.declared.item.Item.{Item}
 use Rattle.walrus_roots.specs.Items.{item}
-use Rattle.walrus_linked.specs.Linked.{IsLinked}
+use Rattle.walrus_linked_edits.specs.walrus_linked.Linked.{IsLinked}
 use Rattle.walrus_linked_edits.proofs.ChangeLemmas.{InSpace, after_change, none_has}
 use Rattle.walrus_linked_changes.specs.Changes.{IsUnnamed}
 use Rattle.walrus_linked_changes.proofs.SlotLemmas.{says_at, says_kept, live_at, live_kept, says_same, set_live}

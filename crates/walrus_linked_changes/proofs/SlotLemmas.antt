@@ -7,7 +7,7 @@ use Rattle.std.proofs.lemmas.List.Elements.{Contains-append_right}
 use Rattle.walrus_arena.proofs.ArenaLemmas.{live-within, at-other, at-deleted}
 use Rattle.walrus_types.specs.Items.{Item as TypeItem}
 use Rattle.walrus_types.specs.Table.{clear_all}
-use Rattle.walrus_linked.proofs.SlotLemmas.{and_then_some, some_of, is_some_at}
+use Rattle.walrus_linked_edits.proofs.walrus_linked.SlotLemmas.{and_then_some, some_of, is_some_at}
 
 abbrev at_id : {T : Type 0} → List (Option T) → ℕ → Option T
 at_id slots id = slice_index_or slots id None

@@ -1,16 +1,16 @@
 -- A table that is deleted or written: what was linked stays so.
 use Rattle.std.proofs.Common.{◌≡◌, ◌∙◌, ℕ, Option, Some, None, Contains, slice_set, refl, sym, ap, inl, arith}
 use Rattle.walrus_arena.specs.Arena.{Arena, item_at}
-use Rattle.walrus_linked.specs.walrus_module_items.declared.table.Table.{Table}
+use Rattle.walrus_linked_edits.specs.walrus_linked.walrus_module_items.declared.table.Table.{Table}
 use Rattle.wasm_formats.specs.declared.fault.Space.{Space}
 use Rattle.wasm_formats.specs.declared.fault.Space.TheVariants as spaces
-use Rattle.walrus_linked.specs.walrus_module.Parts.{Module}
+use Rattle.walrus_linked_edits.specs.walrus_linked.walrus_module.Parts.{Module}
 use Rattle.walrus_roots.specs.declared.item.Item.{Item}
 use Rattle.walrus_roots.specs.Items.{item}
 use Rattle.walrus_marks.specs.Named.{items_of}
-use Rattle.walrus_linked.specs.walrus_module.Items.{Lives}
-use Rattle.walrus_linked.specs.Names.{named_by, table_names}
-use Rattle.walrus_linked.specs.Linked.{IsLinked}
+use Rattle.walrus_linked_edits.specs.walrus_linked.walrus_module.Items.{Lives}
+use Rattle.walrus_linked_edits.specs.walrus_linked.Names.{named_by, table_names}
+use Rattle.walrus_linked_edits.specs.walrus_linked.Linked.{IsLinked}
 use Rattle.walrus_linked_edits.proofs.PushLemmas.{or_new}
 use Rattle.walrus_linked_edits.proofs.ChangeLemmas.{InSpace, after_change}
 use Rattle.walrus_linked_changes.specs.Changes.{IsUnnamed}

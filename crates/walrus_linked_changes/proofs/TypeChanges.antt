@@ -9,19 +9,19 @@ use Rattle.walrus_types.specs.Items.{Item as TypeItem, Group}
 use Rattle.walrus_types.specs.Table.{Table, IsLive, Deletes, type_at, group_at, clear_all, nonempty_group, without_member}
 use Rattle.walrus_types.specs.TypeLaws.{AreGrouped}
 use Rattle.walrus_types.proofs.DeleteLemmas.{contains-filter}
-use Rattle.walrus_linked.specs.walrus_local_function.declared.local_function.LocalFunction.{LocalFunction}
-use Rattle.walrus_linked.specs.walrus_module_items.declared.function.FunctionKind.{FunctionKind}
-use Rattle.walrus_linked.specs.walrus_module_items.declared.function.FunctionKind.TheVariants as functions
+use Rattle.walrus_linked_edits.specs.walrus_linked.walrus_local_function.declared.local_function.LocalFunction.{LocalFunction}
+use Rattle.walrus_linked_edits.specs.walrus_linked.walrus_module_items.declared.function.FunctionKind.{FunctionKind}
+use Rattle.walrus_linked_edits.specs.walrus_linked.walrus_module_items.declared.function.FunctionKind.TheVariants as functions
 use Rattle.wasm_formats.specs.declared.fault.Space.{Space}
 use Rattle.wasm_formats.specs.declared.fault.Space.TheVariants as spaces
-use Rattle.walrus_linked.specs.walrus_module.Parts.{Module}
+use Rattle.walrus_linked_edits.specs.walrus_linked.walrus_module.Parts.{Module}
 use Rattle.walrus_roots.specs.declared.item.Item.{Item}
 use Rattle.walrus_roots.specs.Items.{item, space_number}
 use Rattle.walrus_marks.specs.Named.{items_of}
-use Rattle.walrus_linked.specs.Names.{named_by, type_names}
-use Rattle.walrus_linked.specs.Linked.{IsLinked, IsWhole, HasArguments, GroupsAreWritten}
-use Rattle.walrus_linked.proofs.GroupLemmas.{written_on}
-use Rattle.walrus_linked.proofs.SlotLemmas.{some_of}
+use Rattle.walrus_linked_edits.specs.walrus_linked.Names.{named_by, type_names}
+use Rattle.walrus_linked_edits.specs.walrus_linked.Linked.{IsLinked, IsWhole, HasArguments, GroupsAreWritten}
+use Rattle.walrus_linked_edits.proofs.walrus_linked.GroupLemmas.{written_on}
+use Rattle.walrus_linked_edits.proofs.walrus_linked.SlotLemmas.{some_of}
 use Rattle.walrus_linked_edits.proofs.GrownTypes.{type_of_item, item_of_type}
 use Rattle.walrus_linked_changes.specs.Changes.{AreUnnamed, IsMember}
 use Rattle.walrus_linked_changes.proofs.SlotLemmas.{still, other, still_all, other_all}

@@ -4,22 +4,22 @@ use Rattle.walrus_arena.specs.Arena.{item_at, with_item}
 use Rattle.walrus_items.specs.Items.{Group}
 use Rattle.walrus_types.specs.Table.{Deletes, DeletesGroup, IsLive, group_at}
 use Rattle.walrus_types.specs.TypeLaws.{AreGrouped}
-use Rattle.walrus_linked.specs.walrus_module_items.declared.import.Import.{Import}
-use Rattle.walrus_linked.specs.walrus_module_items.declared.export.Export.{Export}
-use Rattle.walrus_linked.specs.walrus_module_items.declared.function.Function.{Function}
-use Rattle.walrus_linked.specs.walrus_module_items.declared.table.Table.{Table}
-use Rattle.walrus_linked.specs.walrus_module_items.declared.memory.Memory.{Memory}
-use Rattle.walrus_linked.specs.walrus_module_items.declared.global.Global.{Global}
-use Rattle.walrus_linked.specs.walrus_module_items.declared.tag.Tag.{Tag}
-use Rattle.walrus_linked.specs.walrus_module_items.declared.data.Data.{Data}
-use Rattle.walrus_linked.specs.walrus_module_items.declared.element.Element.{Element}
+use Rattle.walrus_linked_edits.specs.walrus_linked.walrus_module_items.declared.import.Import.{Import}
+use Rattle.walrus_linked_edits.specs.walrus_linked.walrus_module_items.declared.export.Export.{Export}
+use Rattle.walrus_linked_edits.specs.walrus_linked.walrus_module_items.declared.function.Function.{Function}
+use Rattle.walrus_linked_edits.specs.walrus_linked.walrus_module_items.declared.table.Table.{Table}
+use Rattle.walrus_linked_edits.specs.walrus_linked.walrus_module_items.declared.memory.Memory.{Memory}
+use Rattle.walrus_linked_edits.specs.walrus_linked.walrus_module_items.declared.global.Global.{Global}
+use Rattle.walrus_linked_edits.specs.walrus_linked.walrus_module_items.declared.tag.Tag.{Tag}
+use Rattle.walrus_linked_edits.specs.walrus_linked.walrus_module_items.declared.data.Data.{Data}
+use Rattle.walrus_linked_edits.specs.walrus_linked.walrus_module_items.declared.element.Element.{Element}
 use Rattle.wasm_formats.specs.declared.fault.Space.TheVariants as spaces
-use Rattle.walrus_linked.specs.walrus_module.Parts.{Module}
+use Rattle.walrus_linked_edits.specs.walrus_linked.walrus_module.Parts.{Module}
 use Rattle.walrus_roots.specs.declared.item.Item.{Item}
 use Rattle.walrus_roots.specs.Items.{item}
-use Rattle.walrus_linked.specs.walrus_module.Items.{Lives, brought, given_out}
-use Rattle.walrus_linked.specs.Names.{names, function_names, table_names, global_names, tag_names, data_kind_names, element_names}
-use Rattle.walrus_linked.specs.Linked.{IsLinked, IsWhole, function_import, global_import, tag_import}
+use Rattle.walrus_linked_edits.specs.walrus_linked.walrus_module.Items.{Lives, brought, given_out}
+use Rattle.walrus_linked_edits.specs.walrus_linked.Names.{names, function_names, table_names, global_names, tag_names, data_kind_names, element_names}
+use Rattle.walrus_linked_edits.specs.walrus_linked.Linked.{IsLinked, IsWhole, function_import, global_import, tag_import}
 use Rattle.walrus_linked_edits.specs.Edits.{AreLive}
 
 -- only these items name one of them: no other live item, no import, no export, and the start function is none of them

@@ -16,3 +16,5 @@ pub mod PushLemmas
 pub mod ReplacedExport
 pub mod ReplacedImport
 pub mod ReplacedTypes
+-- Passed on to crates above, which then list this one alone.
+pub use Rattle.walrus_linked.proofs as walrus_linked

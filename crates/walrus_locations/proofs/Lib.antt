@@ -1,2 +1,4 @@
 mod ReplaceLemmas
 mod SendLemmas
+-- Passed on to crates above, which then list this one alone.
+pub use Rattle.walrus_collections.proofs as walrus_collections

@@ -4,13 +4,13 @@ use Rattle.std.specs.Prelude.{MatchOption, slice_get}
 use Rattle.std.specs.List.{flat_map}
 use Rattle.std.specs.Option.{option_map}
 use Rattle.std.proofs.lemmas.List.Elements.{filter_map-append}
-use Rattle.wasm_references.specs.wasm_formats.declared.fault.Space.{Space}
-use Rattle.wasm_references.specs.wasm_formats.declared.fault.Space.TheVariants as spaces
-use Rattle.wasm_references.specs.wasm_grammar.Modules as grammar
-use Rattle.wasm_references.specs.wasm_immediates.Items as immediates
-use Rattle.wasm_references.specs.wasm_operator_bytes.Names.{Name, operator_names, block_names}
-use Rattle.wasm_references.specs.References as abstract
-use Rattle.walrus_operator_laws.specs.Told.{told as told_name, told_all}
+use Rattle.walrus_meaning_refs.specs.wasm_references.wasm_formats.declared.fault.Space.{Space}
+use Rattle.walrus_meaning_refs.specs.wasm_references.wasm_formats.declared.fault.Space.TheVariants as spaces
+use Rattle.walrus_meaning_refs.specs.wasm_references.wasm_grammar.Modules as grammar
+use Rattle.walrus_meaning_refs.specs.wasm_references.wasm_immediates.Items as immediates
+use Rattle.walrus_meaning_refs.specs.wasm_references.wasm_operator_bytes.Names.{Name, operator_names, block_names}
+use Rattle.walrus_meaning_refs.specs.wasm_references.References as abstract
+use Rattle.walrus_meaning_refs.specs.walrus_operator_laws.Told.{told as told_name, told_all}
 use Rattle.walrus_walks.specs.walrus_forms.declared.value.ValType.{ValType}
 use Rattle.walrus_items.specs.declared.local.Local.{Local}
 use Rattle.walrus_walks.specs.walrus_types.Table.{Table as TypeTable}
@@ -29,12 +29,12 @@ use Rattle.walrus_passes_laws.specs.walrus_references.walrus_module_items.declar
 use Rattle.walrus_passes_laws.specs.walrus_references.walrus_module_items.Functions.{type_of}
 use Rattle.walrus_roots.specs.declared.item.Item.{Item}
 use Rattle.walrus_roots.specs.Items.{item, space_number}
-use Rattle.walrus_meaning.specs.walrus_linked.Linked.{IsWhole}
+use Rattle.walrus_meaning_refs.specs.walrus_meaning.walrus_linked.Linked.{IsWhole}
 use Rattle.walrus_passes_laws.specs.walrus_references.References.{BodyNames, KindNames, function_items, local_items, named_by}
 use Rattle.walrus_passes_laws.proofs.BodyLemmas.{entry_alone, walk_named}
 use Rattle.walrus_passes_laws.proofs.WalkLemmas.{body_told}
-use Rattle.walrus_meaning.specs.Bodies.{own_piece}
-use Rattle.walrus_meaning.specs.Meaning.{own_function, own_origin}
+use Rattle.walrus_meaning_refs.specs.walrus_meaning.Bodies.{own_piece}
+use Rattle.walrus_meaning_refs.specs.walrus_meaning.Meaning.{own_function, own_origin}
 use Rattle.walrus_meaning_refs.specs.Instrs.{of_items as kept_name, unlabelled}
 use Rattle.walrus_meaning_refs.specs.Items.{own_item, own_items}
 use Rattle.walrus_meaning_refs.specs.Bodies.{parts_of, body_names, BodiesNameWhatIsTold}

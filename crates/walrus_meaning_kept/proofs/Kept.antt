@@ -3,12 +3,12 @@ use Rattle.std.proofs.Common.{◌≡◌, ◌∙◌, ◌⊎◌, ◌↔◌, ℕ, L
 use Rattle.std.specs.Prelude.{Decides, MatchOption}
 use Rattle.std.specs.HashSet.{keys}
 use Rattle.std.specs.Option.{option_map}
-use Rattle.wasm_references.specs.wasm_formats.declared.fault.Space.{Space}
-use Rattle.wasm_references.specs.wasm_formats.declared.fault.Space.TheVariants as spaces
-use Rattle.wasm_references.specs.wasm_grammar.Modules as grammar
-use Rattle.wasm_references.specs.References as abstract
-use Rattle.wasm_references.specs.Roots as roots
-use Rattle.wasm_references.specs.Kept as kept
+use Rattle.walrus_meaning_refs.specs.wasm_references.wasm_formats.declared.fault.Space.{Space}
+use Rattle.walrus_meaning_refs.specs.wasm_references.wasm_formats.declared.fault.Space.TheVariants as spaces
+use Rattle.walrus_meaning_refs.specs.wasm_references.wasm_grammar.Modules as grammar
+use Rattle.walrus_meaning_refs.specs.wasm_references.References as abstract
+use Rattle.walrus_meaning_refs.specs.wasm_references.Roots as roots
+use Rattle.walrus_meaning_refs.specs.wasm_references.Kept as kept
 use Rattle.walrus_arena.specs.Arena.{Arena, item_at, IsLive}
 use Rattle.walrus_walks.specs.walrus_types.Table.{Table as TypeTable}
 use Rattle.walrus_walks.specs.walrus_types.TypeLaws.{AreGrouped}
@@ -17,8 +17,8 @@ use Rattle.walrus_walks.specs.Plain.{HeldAreNested, WalkIsPlain}
 use Rattle.walrus_tree.specs.TextLaws.{TreesAreNested}
 use Rattle.walrus_walks.specs.walrus_instr.declared.const_expr.ConstExpr.{ConstExpr}
 use Rattle.walrus_marks.specs.Chains.{root, refers}
-use Rattle.walrus_meaning.specs.walrus_module.Parts.{Module}
-use Rattle.walrus_meaning.specs.walrus_module.Items.{brought, given_out}
+use Rattle.walrus_meaning_refs.specs.walrus_meaning.walrus_module.Parts.{Module}
+use Rattle.walrus_meaning_refs.specs.walrus_meaning.walrus_module.Items.{brought, given_out}
 use Rattle.walrus_passes_laws.specs.walrus_references.walrus_module_items.declared.import.Import.{Import}
 use Rattle.walrus_passes_laws.specs.walrus_references.walrus_module_items.declared.import.ImportKind.{ImportKind}
 use Rattle.walrus_passes_laws.specs.walrus_references.walrus_module_items.declared.import.ImportKind.TheVariants as kinds
@@ -37,7 +37,7 @@ use Rattle.walrus_passes_laws.specs.walrus_references.walrus_module_items.declar
 use Rattle.walrus_passes_laws.specs.walrus_references.walrus_module_items.declared.export.ExportItem.TheVariants as exported
 use Rattle.walrus_roots.specs.declared.item.Item.{Item}
 use Rattle.walrus_roots.specs.Items.{item, space_number, IsShared, PushesShared}
-use Rattle.walrus_meaning.specs.walrus_linked.Linked.{IsLinked, IsWhole}
+use Rattle.walrus_meaning_refs.specs.walrus_meaning.walrus_linked.Linked.{IsLinked, IsWhole}
 use Rattle.walrus_passes_laws.specs.walrus_references.References.{Refers, RefersIn, Named, named_by, table_items, global_items, tag_items, element_items, data_items, HasElement, HasData, IsActiveIn, IsCopiedInto}
 use Rattle.walrus_passes_laws.specs.walrus_references.Roots.{Root, exports, starts, is_active, fills_import, declares, is_pushed}
 use Rattle.walrus_passes_laws.specs.walrus_references.Kept.{IsReached, IsSpared, Kept}
@@ -49,9 +49,9 @@ use Rattle.walrus_passes_laws.specs.walrus_passes.UsedItems.{HasJust}
 use Rattle.walrus_passes_laws.specs.walrus_passes.declared.used.Used.{Used}
 use Rattle.walrus_passes_laws.proofs.walrus_passes.RestLemmas.{rest_as}
 use Rattle.walrus_passes_laws.proofs.walrus_passes.TypeLemmas.{types_as}
-use Rattle.walrus_meaning.specs.Words.{own_expr}
-use Rattle.walrus_meaning.specs.Meaning.{slots_of, means, own_given, own_export, own_function, own_table, own_memory, own_global, own_tag, own_element, own_element_mode, own_segment, own_data_mode}
-use Rattle.walrus_meaning.proofs.MeaningLemmas.{items_seen}
+use Rattle.walrus_meaning_refs.specs.walrus_meaning.Words.{own_expr}
+use Rattle.walrus_meaning_refs.specs.walrus_meaning.Meaning.{slots_of, means, own_given, own_export, own_function, own_table, own_memory, own_global, own_tag, own_element, own_element_mode, own_segment, own_data_mode}
+use Rattle.walrus_meaning_refs.proofs.walrus_meaning.MeaningLemmas.{items_seen}
 use Rattle.walrus_meaning_refs.specs.Items.{own_item, own_items}
 use Rattle.walrus_meaning_refs.specs.Bodies.{BodiesNameWhatIsTold}
 use Rattle.walrus_meaning_refs.specs.Locals.{type_of_local}

@@ -3,14 +3,14 @@ use Rattle.std.proofs.Common.{◌≡◌, ◌∙◌, ◌<◌, ℕ, List, [], ◌�
 use Rattle.std.specs.Prelude.{MatchOption}
 use Rattle.std.specs.List.{flat_map}
 use Rattle.std.specs.Option.{option_to_list}
-use Rattle.wasm_references.specs.wasm_formats.declared.fault.Space.{Space}
-use Rattle.wasm_references.specs.wasm_formats.declared.fault.Space.TheVariants as spaces
-use Rattle.wasm_references.specs.wasm_grammar.Modules.{Item, Expr, Origin, Imported, Own, Placed, Body, Function, Table, Global, Mode, Passive, Declared, Active, Elements, Functions, Expressions, Element}
-use Rattle.wasm_references.specs.wasm_immediates.Items as immediates
-use Rattle.wasm_references.specs.wasm_immediates.declared.block_type.BlockType.{BlockType}
-use Rattle.wasm_references.specs.wasm_operators.Operators.{Seen}
-use Rattle.wasm_references.specs.wasm_operator_bytes.Names.{Name, operator_names, block_names}
-use Rattle.wasm_references.specs.References.{Numbered, item, ref_items, value_items, local_items, name_items, names_items, no_locals, expr_items, body_items, origin_items, function_items, init_items, table_items, global_items, tag_items, mode_items, held_items, element_items, segment_items, slot, named_by, HasElement, HasData, RefersIn, Refers}
+use Rattle.walrus_meaning_refs.specs.wasm_references.wasm_formats.declared.fault.Space.{Space}
+use Rattle.walrus_meaning_refs.specs.wasm_references.wasm_formats.declared.fault.Space.TheVariants as spaces
+use Rattle.walrus_meaning_refs.specs.wasm_references.wasm_grammar.Modules.{Item, Expr, Origin, Imported, Own, Placed, Body, Function, Table, Global, Mode, Passive, Declared, Active, Elements, Functions, Expressions, Element}
+use Rattle.walrus_meaning_refs.specs.wasm_references.wasm_immediates.Items as immediates
+use Rattle.walrus_meaning_refs.specs.wasm_references.wasm_immediates.declared.block_type.BlockType.{BlockType}
+use Rattle.walrus_meaning_refs.specs.wasm_references.wasm_operators.Operators.{Seen}
+use Rattle.walrus_meaning_refs.specs.wasm_references.wasm_operator_bytes.Names.{Name, operator_names, block_names}
+use Rattle.walrus_meaning_refs.specs.wasm_references.References.{Numbered, item, ref_items, value_items, local_items, name_items, names_items, no_locals, expr_items, body_items, origin_items, function_items, init_items, table_items, global_items, tag_items, mode_items, held_items, element_items, segment_items, slot, named_by, HasElement, HasData, RefersIn, Refers}
 use Rattle.walrus_walks.specs.walrus_forms.Kinds.{kind_names}
 use Rattle.walrus_walks.specs.walrus_forms.Values.{ref_name, value_name}
 use Rattle.walrus_walks.specs.walrus_forms.declared.value.RefType.{RefType}

@@ -1,6 +1,6 @@
 -- Items of a module in memory among those of what it means.
 use Rattle.std.proofs.Common.{◌≡◌, List, Contains, sym, ap, subst}
-use Rattle.wasm_references.specs.wasm_grammar.Modules as grammar
+use Rattle.walrus_meaning_refs.specs.wasm_references.wasm_grammar.Modules as grammar
 use Rattle.walrus_roots.specs.declared.item.Item.{Item}
 use Rattle.walrus_meaning_refs.specs.Items.{own_item, own_items}
 use Rattle.walrus_meaning_refs.proofs.Sets.{In, in_of, contains_of, in_map, map_in}

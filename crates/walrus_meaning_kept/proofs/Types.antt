@@ -3,10 +3,10 @@ use Rattle.std.proofs.Common.{◌≡◌, ◌∙◌, ◌⊎◌, ◌+◌, ℕ, zer
 use Rattle.std.specs.Prelude.{slice_get, slice_index_or}
 use Rattle.std.specs.List.{flat_map}
 use Rattle.std.proofs.lemmas.Bool.{false≢true}
-use Rattle.wasm_references.specs.wasm_formats.declared.fault.Space.TheVariants as spaces
-use Rattle.wasm_references.specs.wasm_grammar.Modules as grammar
-use Rattle.wasm_references.specs.References as abstract
-use Rattle.wasm_references.specs.References.{Numbered, numbered, IsType, TypeRefers}
+use Rattle.walrus_meaning_refs.specs.wasm_references.wasm_formats.declared.fault.Space.TheVariants as spaces
+use Rattle.walrus_meaning_refs.specs.wasm_references.wasm_grammar.Modules as grammar
+use Rattle.walrus_meaning_refs.specs.wasm_references.References as abstract
+use Rattle.walrus_meaning_refs.specs.wasm_references.References.{Numbered, numbered, IsType, TypeRefers}
 use Rattle.walrus_arena.specs.Arena.{entries_from}
 use Rattle.walrus_walks.specs.walrus_forms.Kinds.{Kind, kind_names}
 use Rattle.walrus_walks.specs.walrus_forms.Records.{TypeGroup}
@@ -15,9 +15,9 @@ use Rattle.walrus_walks.specs.walrus_types.Table.{Table as TypeTable, type_at, g
 use Rattle.walrus_walks.specs.walrus_types.TypeLaws.{AreGrouped}
 use Rattle.walrus_roots.specs.declared.item.Item.{Item}
 use Rattle.walrus_roots.specs.Items.{item}
-use Rattle.walrus_meaning.specs.walrus_module.Items.{written, written_type}
+use Rattle.walrus_meaning_refs.specs.walrus_meaning.walrus_module.Items.{written, written_type}
 use Rattle.walrus_passes_laws.specs.walrus_references.References.{named_by, type_items, IsInGroup}
-use Rattle.walrus_meaning.specs.Meaning.{plain_kind, group_kinds, has_kinds, own_groups, type_ids}
+use Rattle.walrus_meaning_refs.specs.walrus_meaning.Meaning.{plain_kind, group_kinds, has_kinds, own_groups, type_ids}
 use Rattle.walrus_meaning_refs.specs.Items.{own_item, own_items}
 use Rattle.walrus_meaning_kept.specs.Meant.{GroupIsWritten}
 use Rattle.walrus_meaning_kept.proofs.Owned.{item_of, owned_forth, owned_back}

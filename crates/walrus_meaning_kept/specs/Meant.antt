@@ -2,26 +2,26 @@
 -- locals, the block types of the parts of its bodies, and the segments that tables and memories list.
 use Rattle.std.specs.Prelude.{◌≡◌, ◌⊎◌, ◌↔◌, ℕ, true, List, [], Option, Some, None, IsSome, Contains}
 use Rattle.std.specs.HashSet.{keys}
-use Rattle.wasm_references.specs.wasm_formats.declared.fault.Space.{Space}
-use Rattle.wasm_references.specs.wasm_formats.declared.fault.Space.TheVariants as spaces
-use Rattle.wasm_references.specs.wasm_immediates.declared.block_type.BlockType.{BlockType}
-use Rattle.wasm_references.specs.References as abstract
-use Rattle.wasm_references.specs.References.{Numbered}
-use Rattle.wasm_references.specs.Kept.{Kept as KeptOf}
+use Rattle.walrus_meaning_refs.specs.wasm_references.wasm_formats.declared.fault.Space.{Space}
+use Rattle.walrus_meaning_refs.specs.wasm_references.wasm_formats.declared.fault.Space.TheVariants as spaces
+use Rattle.walrus_meaning_refs.specs.wasm_references.wasm_immediates.declared.block_type.BlockType.{BlockType}
+use Rattle.walrus_meaning_refs.specs.wasm_references.References as abstract
+use Rattle.walrus_meaning_refs.specs.wasm_references.References.{Numbered}
+use Rattle.walrus_meaning_refs.specs.wasm_references.Kept.{Kept as KeptOf}
 use Rattle.walrus_arena.specs.Arena.{item_at}
 use Rattle.walrus_walks.specs.walrus_types.Items.{Group}
 use Rattle.walrus_walks.specs.walrus_types.Table.{Table as TypeTable, HasMember}
 use Rattle.walrus_walks.specs.walrus_types.TypeLaws.{AreGrouped}
 use Rattle.walrus_passes_laws.specs.walrus_references.walrus_builder.Functions.{seqs_of}
-use Rattle.walrus_meaning.specs.walrus_module.Parts.{Module}
-use Rattle.walrus_meaning.specs.walrus_module.Items.{written_type}
-use Rattle.walrus_meaning.specs.walrus_linked.Linked.{IsLinked, IsWhole}
+use Rattle.walrus_meaning_refs.specs.walrus_meaning.walrus_module.Parts.{Module}
+use Rattle.walrus_meaning_refs.specs.walrus_meaning.walrus_module.Items.{written_type}
+use Rattle.walrus_meaning_refs.specs.walrus_meaning.walrus_linked.Linked.{IsLinked, IsWhole}
 use Rattle.walrus_passes_laws.specs.walrus_references.walrus_module_items.declared.function.Function.{Function}
 use Rattle.walrus_passes_laws.specs.walrus_references.walrus_module_items.declared.function.FunctionKind.{FunctionKind}
 use Rattle.walrus_passes_laws.specs.walrus_references.walrus_module_items.declared.function.FunctionKind.TheVariants as functions
 use Rattle.walrus_passes_laws.specs.walrus_references.walrus_module_items.declared.table.Table.{Table}
 use Rattle.walrus_passes_laws.specs.walrus_references.walrus_module_items.declared.memory.Memory.{Memory}
-use Rattle.walrus_meaning.specs.Meaning.{means, type_ids}
+use Rattle.walrus_meaning_refs.specs.walrus_meaning.Meaning.{means, type_ids}
 use Rattle.walrus_roots.specs.declared.item.Item.{Item}
 use Rattle.walrus_roots.specs.Items.{item, IsShared, PushesShared}
 use Rattle.walrus_passes_laws.specs.walrus_references.References.{Refers}

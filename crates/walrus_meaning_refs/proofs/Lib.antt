@@ -5,3 +5,5 @@ pub mod Items
 mod Locals
 pub mod Sets
 mod Walks
+-- Passed on to crates above, which then list this one alone.
+pub use Rattle.walrus_meaning.proofs as walrus_meaning

@@ -3,3 +3,7 @@ pub mod Bodies
 pub mod Instrs
 pub mod Items
 pub mod Locals
+-- Passed on to crates above, which then list this one alone.
+pub use Rattle.wasm_references.specs as wasm_references
+pub use Rattle.walrus_operator_laws.specs as walrus_operator_laws
+pub use Rattle.walrus_meaning.specs as walrus_meaning

@@ -3,7 +3,7 @@ use Rattle.std.proofs.Common.{ℕ, suc, ◌≡◌, ◌+◌, ◌==◌, ◌<◌, B
 use Rattle.std.specs.Prelude.{slice_index_or}
 use Rattle.std.proofs.lemmas.List.{append_assoc, length-append, take_more}
 use Rattle.walrus_forms.specs.declared.value.ValType.{ValType}
-use Rattle.walrus_types.specs.walrus_items.declared.local.Local.{Local}
+use Rattle.walrus_module_env.specs.walrus_body_parser.walrus_body_stack.walrus_instr.walrus_types.walrus_items.declared.local.Local.{Local}
 use Rattle.walrus_index_maps.specs.Maps.{Ids, with_last}
 use Rattle.walrus_module_env.specs.walrus_collections.walrus_local_function.walrus_body_locals.Locals.{locals_from, ids_from, with_more, with_locals}
 use Rattle.walrus_module_bodies.specs.Steps.{HasArguments}

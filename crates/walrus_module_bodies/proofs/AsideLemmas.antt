@@ -18,7 +18,7 @@ use Rattle.walrus_module_env.specs.walrus_body_parser.wasm_operators.wasm_immedi
 use Rattle.walrus_module_env.specs.walrus_body_parser.wasm_operators.wasm_immediates.declared.block_type.BlockType.TheVariants as blocks
 use Rattle.walrus_module_env.specs.walrus_body_parser.walrus_body_stack.walrus_builder.Built.{Seq}
 use Rattle.walrus_module_env.specs.walrus_body_parser.walrus_body_stack.walrus_instr.declared.seq.InstrSeqType.{InstrSeqType}
-use Rattle.walrus_types.specs.walrus_items.declared.local.Local.{Local}
+use Rattle.walrus_module_env.specs.walrus_body_parser.walrus_body_stack.walrus_instr.walrus_types.walrus_items.declared.local.Local.{Local}
 use Rattle.walrus_module_env.specs.declared.env.ModuleEnv.{ModuleEnv}
 use Rattle.walrus_module_env.specs.Around.{IsFiled, sight_in}
 use Rattle.walrus_module_env.specs.Env.{is_wide_at, own_pick, params_at, results_at, tag_type_at}

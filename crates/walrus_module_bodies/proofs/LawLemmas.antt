@@ -10,12 +10,12 @@ use Rattle.walrus_arena.proofs.ArenaLemmas.{at-other}
 use Rattle.walrus_body_trees.specs.Laws as trees
 use Rattle.walrus_body_trees.specs.walrus_body_text.Visiting.{text_size}
 use Rattle.walrus_forms.specs.declared.value.ValType.{ValType}
-use Rattle.walrus_types.specs.Table.{Table}
+use Rattle.walrus_module_env.specs.walrus_body_parser.walrus_body_stack.walrus_instr.walrus_types.Table.{Table}
 use Rattle.walrus_function_types.specs.FunctionTypes.{params_at}
 use Rattle.walrus_function_types.specs.Growth.{EntryTypesGrow, FoundTypesStay, TablesGrowOn}
 use Rattle.walrus_function_types.proofs.GrowthLemmas.{grows_same}
-use Rattle.walrus_handler_types.proofs.Growing.{params_grow}
-use Rattle.walrus_handler_types.specs.walrus_tree.Text.{operators}
+use Rattle.walrus_module_env.proofs.walrus_handler_types.Growing.{params_grow}
+use Rattle.walrus_module_env.specs.walrus_handler_types.walrus_tree.Text.{operators}
 use Rattle.walrus_index_maps.specs.Maps.{Ids}
 use Rattle.walrus_module_env.specs.walrus_body_parser.walrus_body_rules.wasm_body_grammar.Bodies.{Parts, body, body_of, declared}
 use Rattle.walrus_module_env.specs.walrus_body_parser.walrus_body_rules.wasm_body_grammar.Codes.{Code}
@@ -32,7 +32,7 @@ use Rattle.walrus_module_env.specs.walrus_collections.walrus_local_function.walr
 use Rattle.walrus_module_env.specs.walrus_collections.walrus_module_items.declared.function.Function.{Function}
 use Rattle.walrus_module_env.specs.walrus_collections.walrus_module_items.declared.function.FunctionKind.TheVariants as kinds
 use Rattle.walrus_module_env.specs.walrus_collections.walrus_module_items.Functions.{type_of}
-use Rattle.walrus_functions_into.specs.declared.bodies.FunctionBody.{FunctionBody}
+use Rattle.walrus_module_env.specs.walrus_functions_into.declared.bodies.FunctionBody.{FunctionBody}
 use Rattle.walrus_module_env.specs.wasm_run_names.Picks.{block_pick}
 use Rattle.walrus_module_bodies.specs.declared.file.FileEnv.{FileEnv}
 use Rattle.walrus_module_bodies.specs.Envs.{IsEnv}

@@ -7,11 +7,11 @@ use Rattle.wasm_reader.specs.Cursor.{Cursor, rest}
 use Rattle.walrus_function_types.specs.Growth.{Grows}
 use Rattle.walrus_index_maps.specs.Maps.{Ids}
 use Rattle.walrus_body_trees.specs.Laws.{BodiesAreTrees}
-use Rattle.walrus_handler_types.specs.Giving.{Gives, GivesTree}
-use Rattle.walrus_handler_types.proofs.Growing.{lists_give}
-use Rattle.walrus_handler_types.specs.walrus_handlers.Gathering.{AreHandlers, listed}
-use Rattle.walrus_handler_types.specs.walrus_handler_laws.Handlers.{tree_ids}
-use Rattle.walrus_handler_types.specs.walrus_handler_laws.declared.handler.Handler.{Handler}
+use Rattle.walrus_module_env.specs.walrus_handler_types.Giving.{Gives, GivesTree}
+use Rattle.walrus_module_env.proofs.walrus_handler_types.Growing.{lists_give}
+use Rattle.walrus_module_env.specs.walrus_handler_types.walrus_handlers.Gathering.{AreHandlers, listed}
+use Rattle.walrus_module_env.specs.walrus_handler_types.walrus_handler_laws.Handlers.{tree_ids}
+use Rattle.walrus_module_env.specs.walrus_handler_types.walrus_handler_laws.declared.handler.Handler.{Handler}
 use Rattle.walrus_module_env.specs.walrus_body_parser.walrus_body_steps.Picks.{ArePicks}
 use Rattle.walrus_module_env.specs.walrus_body_parser.walrus_body_stack.walrus_body_nesting.Opens.{same}
 use Rattle.wasm_features.specs.declared.WasmFeatures.{WasmFeatures}
@@ -21,13 +21,13 @@ use Rattle.walrus_forms.specs.Renaming.{at, renamed_value}
 use Rattle.walrus_module_env.specs.walrus_body_parser.walrus_body_rules.wasm_grammar.States.{types_of}
 use Rattle.walrus_module_env.specs.walrus_body_parser.walrus_body_stack.wasm_normal_form.Normal.{normal}
 use Rattle.walrus_module_env.specs.walrus_body_parser.walrus_body_stack.wasm_normal_form.Trees.{tree_of}
-use Rattle.walrus_handler_types.specs.walrus_tree.Trees.{IsTree}
+use Rattle.walrus_module_env.specs.walrus_handler_types.walrus_tree.Trees.{IsTree}
 use Rattle.walrus_module_env.specs.walrus_body_parser.walrus_body_stack.walrus_builder.Built.{Seq, contents, seq_of}
 use Rattle.walrus_module_env.specs.walrus_body_parser.walrus_body_stack.walrus_builder.Functions.{seqs_of}
 use Rattle.walrus_module_env.specs.walrus_body_parser.walrus_body_stack.walrus_builder.declared.function.FunctionBuilder.{FunctionBuilder}
 use Rattle.walrus_module_env.specs.walrus_body_parser.walrus_body_stack.walrus_instr.declared.seq.InstrSeq.{InstrSeq}
-use Rattle.walrus_types.specs.walrus_items.declared.local.Local.{Local}
-use Rattle.walrus_types.specs.Table.{Table}
+use Rattle.walrus_module_env.specs.walrus_body_parser.walrus_body_stack.walrus_instr.walrus_types.walrus_items.declared.local.Local.{Local}
+use Rattle.walrus_module_env.specs.walrus_body_parser.walrus_body_stack.walrus_instr.walrus_types.Table.{Table}
 use Rattle.walrus_module_env.specs.declared.env.ModuleEnv.{ModuleEnv}
 use Rattle.walrus_module_env.specs.Around.{IsFiled, sight_in}
 use Rattle.walrus_module_env.specs.Env.{tag_type_at}

@@ -8,8 +8,8 @@ use Rattle.walrus_arena.specs.Arena.{Arena, item_at}
 use Rattle.walrus_arena.proofs.ArenaLemmas.{at-other}
 use Rattle.walrus_forms.specs.declared.value.ValType.{ValType}
 use Rattle.walrus_forms.specs.Forms.{Form, FunctionForm, StructForm, ArrayForm, is_function}
-use Rattle.walrus_types.specs.Items.{Item}
-use Rattle.walrus_types.specs.Table.{IsFunctionType, Table, type_at}
+use Rattle.walrus_module_env.specs.walrus_body_parser.walrus_body_stack.walrus_instr.walrus_types.Items.{Item}
+use Rattle.walrus_module_env.specs.walrus_body_parser.walrus_body_stack.walrus_instr.walrus_types.Table.{IsFunctionType, Table, type_at}
 use Rattle.walrus_function_types.specs.FunctionTypes.{params_at, results_at}
 use Rattle.walrus_function_types.specs.Growth.{FoundTypesStay, Grows, TablesGrowOn}
 use Rattle.walrus_function_types.proofs.GrowthLemmas.{grows_same}
@@ -21,7 +21,7 @@ use Rattle.walrus_module_env.specs.walrus_collections.walrus_local_function.walr
 use Rattle.walrus_module_env.specs.walrus_collections.walrus_module_items.declared.function.Function.{Function}
 use Rattle.walrus_module_env.specs.walrus_collections.walrus_module_items.declared.function.FunctionKind.TheVariants as kinds
 use Rattle.walrus_module_env.specs.walrus_collections.walrus_module_items.Functions.{type_of}
-use Rattle.walrus_functions_into.specs.declared.bodies.FunctionBody.{FunctionBody}
+use Rattle.walrus_module_env.specs.walrus_functions_into.declared.bodies.FunctionBody.{FunctionBody}
 use Rattle.walrus_module_bodies.specs.declared.file.FileEnv.{FileEnv}
 use Rattle.walrus_module_bodies.specs.Reading.{TagsStand}
 use Rattle.walrus_module_bodies.specs.Steps.{AreApart, Fails, IsFiledLater, IsReady, IsStep, State, Steps, StopsIn}

@@ -9,10 +9,10 @@ use Rattle.walrus_forms.specs.declared.value.ValType.{ValType}
 use Rattle.walrus_forms.specs.Forms.{Form, FunctionForm, StructForm, ArrayForm}
 use Rattle.walrus_forms.specs.Kinds.{Kind, function_kind}
 use Rattle.walrus_forms.specs.Same.{same_kind}
-use Rattle.walrus_types.proofs.LawLemmas.{latest-law}
-use Rattle.walrus_types.specs.Items.{Item}
-use Rattle.walrus_types.specs.Table.{Table, found_type, type_at}
-use Rattle.walrus_types.specs.TypeLaws.{IsLatest}
+use Rattle.walrus_module_env.proofs.walrus_types.LawLemmas.{latest-law}
+use Rattle.walrus_module_env.specs.walrus_body_parser.walrus_body_stack.walrus_instr.walrus_types.Items.{Item}
+use Rattle.walrus_module_env.specs.walrus_body_parser.walrus_body_stack.walrus_instr.walrus_types.Table.{Table, found_type, type_at}
+use Rattle.walrus_module_env.specs.walrus_body_parser.walrus_body_stack.walrus_instr.walrus_types.TypeLaws.{IsLatest}
 use Rattle.walrus_function_types.specs.FunctionTypes.{form_params, form_results, params_at, results_at}
 use Rattle.walrus_index_maps.specs.Maps.{Ids}
 use Rattle.walrus_module_env.proofs.walrus_function_parser.Bodies.{parsers_agree, sees_more}
@@ -31,7 +31,7 @@ use Rattle.walrus_module_env.specs.walrus_body_parser.walrus_body_stack.walrus_i
 use Rattle.walrus_module_env.specs.walrus_body_parser.walrus_body_stack.walrus_instr.declared.seq.InstrSeqType.TheVariants.{Simple, MultiValue}
 use Rattle.walrus_module_env.specs.walrus_body_parser.walrus_body_rules.walrus_pairing.Types.{read_value}
 use Rattle.walrus_module_env.specs.walrus_body_parser.walrus_body_rules.walrus_pairing.declared.error.PairError.{PairError}
-use Rattle.walrus_types.specs.walrus_items.declared.local.Local.{Local}
+use Rattle.walrus_module_env.specs.walrus_body_parser.walrus_body_stack.walrus_instr.walrus_types.walrus_items.declared.local.Local.{Local}
 use Rattle.walrus_module_env.specs.declared.env.ModuleEnv.{ModuleEnv}
 use Rattle.walrus_module_env.specs.Around.{sight_in}
 use Rattle.walrus_module_env.specs.Env.{if_own, is_own, tag_type_at}

@@ -1,6 +1,6 @@
 -- A module around its bodies, while its types grow.
 use Rattle.std.specs.Prelude.{◌≡◌}
-use Rattle.walrus_types.specs.Table.{Table}
+use Rattle.walrus_module_env.specs.walrus_body_parser.walrus_body_stack.walrus_instr.walrus_types.Table.{Table}
 use Rattle.walrus_module_env.specs.declared.env.ModuleEnv.{ModuleEnv}
 use Rattle.walrus_module_bodies.specs.declared.file.FileEnv.{FileEnv}
 

@@ -12,10 +12,10 @@ use Rattle.walrus_module_env.specs.walrus_body_parser.walrus_body_stack.walrus_b
 use Rattle.walrus_module_env.specs.walrus_body_parser.walrus_body_stack.walrus_builder.Built.{contents}
 use Rattle.walrus_module_env.specs.walrus_body_parser.walrus_body_stack.walrus_builder.Functions.{seqs_of}
 use Rattle.walrus_body_trees.specs.walrus_body_text.Visiting.{text_size}
-use Rattle.walrus_handler_types.specs.walrus_tree.Text.{operators}
+use Rattle.walrus_module_env.specs.walrus_handler_types.walrus_tree.Text.{operators}
 use Rattle.walrus_module_env.specs.walrus_collections.walrus_module_items.declared.function.Function.{Function}
 use Rattle.walrus_module_env.specs.walrus_collections.walrus_module_items.Functions.{type_of}
-use Rattle.walrus_functions_into.specs.declared.bodies.FunctionBody.{FunctionBody}
+use Rattle.walrus_module_env.specs.walrus_functions_into.declared.bodies.FunctionBody.{FunctionBody}
 use Rattle.walrus_module_bodies.specs.declared.file.FileEnv.{FileEnv}
 use Rattle.walrus_module_bodies.specs.Steps.{AreApart, IsModuleOf, IsReady, IsStep, State, Steps}
 

@@ -4,11 +4,11 @@ use Rattle.wasm_reader.specs.Cursor.{Cursor, end_of, rest}
 use Rattle.walrus_arena.specs.Arena.{Arena, item_at}
 use Rattle.walrus_function_types.specs.Growth.{Grows}
 use Rattle.walrus_index_maps.specs.Maps.{Ids}
-use Rattle.walrus_handler_types.specs.Giving.{GivesTree}
+use Rattle.walrus_module_env.specs.walrus_handler_types.Giving.{GivesTree}
 use Rattle.walrus_module_env.specs.walrus_body_parser.walrus_body_stack.walrus_instr.declared.seq.InstrSeq.{InstrSeq}
-use Rattle.walrus_types.specs.walrus_items.declared.local.Local.{Local}
+use Rattle.walrus_module_env.specs.walrus_body_parser.walrus_body_stack.walrus_instr.walrus_types.walrus_items.declared.local.Local.{Local}
 use Rattle.walrus_forms.specs.Renaming.{at, renamed_value}
-use Rattle.walrus_handler_types.specs.walrus_tree.Trees.{IsTree}
+use Rattle.walrus_module_env.specs.walrus_handler_types.walrus_tree.Trees.{IsTree}
 use Rattle.walrus_module_env.specs.Env.{tag_type_at}
 use Rattle.walrus_module_env.specs.walrus_collections.walrus_local_function.walrus_body_locals.Locals.{Adds}
 use Rattle.walrus_module_env.specs.walrus_body_parser.walrus_body_steps.Meanings.{meaning}
@@ -24,7 +24,7 @@ use Rattle.walrus_module_env.specs.walrus_body_parser.walrus_body_stack.wasm_nor
 use Rattle.walrus_module_env.specs.walrus_body_parser.walrus_body_stack.wasm_normal_form.Normal.{normal}
 use Rattle.walrus_module_env.specs.walrus_body_parser.wasm_operators.wasm_immediates.declared.block_type.BlockType.{BlockType}
 use Rattle.walrus_module_env.specs.walrus_body_parser.walrus_body_stack.walrus_builder.Built.{Seq, seq_of}
-use Rattle.walrus_types.specs.Table.{IsFunctionType, Table}
+use Rattle.walrus_module_env.specs.walrus_body_parser.walrus_body_stack.walrus_instr.walrus_types.Table.{IsFunctionType, Table}
 use Rattle.walrus_module_env.specs.walrus_body_parser.Points.{place_at, ops_from}
 use Rattle.walrus_module_env.specs.walrus_collections.walrus_local_function.walrus_body_locals.Calls.{IsFaultOf}
 use Rattle.walrus_module_env.specs.walrus_collections.walrus_module_items.declared.tag.Tag.{Tag}

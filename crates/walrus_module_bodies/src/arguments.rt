@@ -2,7 +2,7 @@
 
 ghost use Rattle.std.specs.Prelude.{◌≡◌, IfOk, IfSome};
 ghost use Rattle.walrus_index_maps.specs.Views.{ids};
-ghost use Rattle.walrus_types.specs.Table.{Merges};
+ghost use Rattle.walrus_module_env.specs.walrus_body_parser.walrus_body_stack.walrus_instr.walrus_types.Table.{Merges};
 ghost use Rattle.walrus_forms.specs.Kinds.{entry_kind};
 ghost use Rattle.walrus_function_types.specs.FunctionTypes.{params_at, results_at};
 ghost use Rattle.walrus_module_bodies.specs.Steps.{HasArguments};

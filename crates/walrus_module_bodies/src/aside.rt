@@ -5,7 +5,7 @@ ghost use Rattle.wasm_reader.specs.Cursor.{IsWithin, end_of, rest};
 ghost use Rattle.walrus_index_maps.specs.Views.{ids};
 ghost use Rattle.walrus_module_env.specs.walrus_body_parser.walrus_body_stack.walrus_body_env.declared.error.BodyError.TheVariants.{Memory as WantsMemory};
 ghost use Rattle.walrus_module_env.specs.walrus_body_parser.walrus_body_rules.wasm_body_grammar.Rules.{Around};
-ghost use Rattle.walrus_handler_types.specs.walrus_tree.Trees.{IsTree};
+ghost use Rattle.walrus_module_env.specs.walrus_handler_types.walrus_tree.Trees.{IsTree};
 ghost use Rattle.walrus_module_env.specs.walrus_body_parser.walrus_body_stack.walrus_builder.Built.{contents};
 ghost use Rattle.walrus_module_env.specs.walrus_body_parser.walrus_body_stack.walrus_builder.Functions.{seqs_of};
 ghost use Rattle.walrus_module_env.specs.Around.{IsFiled};
@@ -15,13 +15,13 @@ ghost use Rattle.walrus_module_bodies.specs.Reading.{IsBodyAside, IsBodyFault, T
 use std::alloc::Global;
 use walrus_arena::{FunctionId, LocalId, TypeId};
 use walrus_body_trees::laws::bodies_are_trees;
-use walrus_handler_types::AnyHandler;
 use walrus_index_maps::IndicesToIds;
 use walrus_module_env::ModuleEnv;
 use walrus_module_env::body_env::instr::InstrSeqType;
 use walrus_module_env::body_env::instr::type_table::ModuleLocals;
 use walrus_module_env::body_env::{AcceptAll, BodyError};
 use walrus_module_env::collections::local_function::LocalFunction;
+use walrus_module_env::handlers::AnyHandler;
 use walrus_module_env::laws::files_are_seen;
 use wasm_reader::BinaryReader;
 

@@ -10,11 +10,11 @@ use crate::body::read_body;
 use crate::file::FileEnv;
 use std::alloc::Global;
 use walrus_function_types::laws::{found_types_stay, tables_grow_on};
-use walrus_functions_into::FunctionBody;
 use walrus_index_maps::IndicesToIds;
 use walrus_module_env::body_env::BodyError;
 use walrus_module_env::body_env::instr::type_table::{ModuleLocals, ModuleTypes};
 use walrus_module_env::collections::ModuleFunctions;
+use walrus_module_env::functions_into::FunctionBody;
 use wasm_features::WasmFeatures;
 
 /// Reads bodies in turn, each for a function that has none yet, and gives them to these (Core Specification, binary format: code

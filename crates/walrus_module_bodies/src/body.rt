@@ -12,13 +12,13 @@ use crate::file::FileEnv;
 use crate::handled::read_handled;
 use std::alloc::Global;
 use walrus_function_types::laws::{entry_types_grow, found_types_stay, tables_grow_on};
-use walrus_functions_into::{FunctionBody, give_body};
 use walrus_index_maps::IndicesToIds;
 use walrus_module_env::body_env::BodyError;
 use walrus_module_env::body_env::instr::InstrSeqType;
 use walrus_module_env::body_env::instr::type_table::{ModuleLocals, ModuleTypes};
 use walrus_module_env::collections::ModuleFunctions;
 use walrus_module_env::collections::local_function::LocalFunction;
+use walrus_module_env::functions_into::{FunctionBody, give_body};
 use wasm_features::WasmFeatures;
 use wasm_reader::BinaryReader;
 

@@ -17,12 +17,13 @@ use crate::aside::read_tree;
 use crate::file::FileEnv;
 use std::alloc::Global;
 use walrus_arena::{FunctionId, LocalId, TypeId};
-use walrus_handler_types::{give_types, handlers};
 use walrus_index_maps::IndicesToIds;
 use walrus_module_env::body_env::BodyError;
 use walrus_module_env::body_env::instr::InstrSeqType;
 use walrus_module_env::body_env::instr::type_table::{ModuleLocals, ModuleTypes};
 use walrus_module_env::collections::local_function::LocalFunction;
+use walrus_module_env::handler_types::give_types;
+use walrus_module_env::handlers::handlers;
 use walrus_module_env::laws::{handled_bodies_stand, picks_are_seen};
 use wasm_reader::BinaryReader;
 

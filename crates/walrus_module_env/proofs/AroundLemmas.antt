@@ -4,7 +4,7 @@ use Rattle.std.proofs.lemmas.List.Elements.{All-head}
 use Rattle.std.proofs.lemmas.Option.{slice_get_within}
 use Rattle.std.specs.Prelude.{Option, Some, None, Ok, unwrap_or, slice_get, slice_index_or}
 use Rattle.std.specs.Option.{option_map, option_map_or, option_and_then, is_some}
-use Rattle.walrus_collections.specs.walrus_local_function.walrus_body_locals.walrus_body_nesting.wasm_formats.wasm_features.declared.WasmFeatures.{WasmFeatures}
+use Rattle.walrus_functions_into.specs.walrus_collections.walrus_local_function.walrus_body_locals.walrus_body_nesting.wasm_formats.wasm_features.declared.WasmFeatures.{WasmFeatures}
 use Rattle.walrus_arena.specs.Arena.{item_at}
 use Rattle.walrus_forms.specs.declared.value.AbstractHeapType.{AbstractHeapType}
 use Rattle.walrus_forms.specs.declared.value.AbstractHeapType.TheVariants as kinds
@@ -18,23 +18,23 @@ use Rattle.walrus_forms.specs.Renaming.{FormBelow, HeapBelow, ValueBelow, at, re
 use Rattle.walrus_index_maps.specs.Maps.{Ids}
 use Rattle.walrus_types.specs.Items.{Item}
 use Rattle.walrus_types.proofs.LawLemmas.{latest-law}
-use Rattle.walrus_instr.specs.declared.seq.InstrSeqType.{InstrSeqType}
-use Rattle.walrus_instr.specs.declared.seq.InstrSeqType.TheVariants.{MultiValue}
-use Rattle.walrus_collections.specs.walrus_module_items.declared.memory.Memory.{Memory}
-use Rattle.walrus_collections.specs.walrus_local_function.walrus_body_locals.wasm_immediates.declared.block_type.BlockType.{BlockType}
-use Rattle.walrus_collections.specs.walrus_local_function.walrus_body_locals.wasm_immediates.declared.block_type.BlockType.TheVariants as blocks
-use Rattle.walrus_collections.specs.walrus_local_function.walrus_body_locals.wasm_immediates.Items.{Space, Types, Functions, Tables, Memories, Tags, Globals, ElementSegments, DataSegments, Locals, Labels}
-use Rattle.walrus_collections.specs.walrus_local_function.walrus_body_locals.wasm_grammar.Modules as modules
-use Rattle.walrus_collections.specs.walrus_local_function.walrus_body_locals.wasm_grammar.States.{types_of}
-use Rattle.walrus_collections.specs.walrus_local_function.walrus_body_locals.wasm_grammar.TypeWords.{abstract_from, value_from}
-use Rattle.walrus_collections.specs.walrus_local_function.walrus_body_locals.wasm_grammar.Values.{must}
-use Rattle.walrus_collections.specs.walrus_local_function.walrus_body_locals.wasm_body_grammar.Rules as grammar
-use Rattle.walrus_collections.specs.walrus_local_function.walrus_body_locals.wasm_body_grammar.Rules.{Around, found_in, pick, form_test, kind_test}
-use Rattle.walrus_collections.specs.walrus_local_function.walrus_function_parser.walrus_body_rules.walrus_pairing.Types.{read_abstract, read_value}
-use Rattle.walrus_collections.specs.walrus_local_function.walrus_function_parser.walrus_body_rules.Sights.{Sight, block_of, function_block, room, written_block}
-use Rattle.walrus_collections.specs.walrus_local_function.walrus_function_parser.walrus_body_rules.Rules.{block_test, has_wide}
-use Rattle.walrus_collections.specs.walrus_local_function.walrus_function_parser.Parsed.{IsAround}
-use Rattle.walrus_collections.specs.walrus_local_function.walrus_body_locals.walrus_body_nesting.wasm_formats.Stops.{TypeForm}
+use Rattle.walrus_body_env.specs.walrus_instr.declared.seq.InstrSeqType.{InstrSeqType}
+use Rattle.walrus_body_env.specs.walrus_instr.declared.seq.InstrSeqType.TheVariants.{MultiValue}
+use Rattle.walrus_functions_into.specs.walrus_collections.walrus_module_items.declared.memory.Memory.{Memory}
+use Rattle.walrus_functions_into.specs.walrus_collections.walrus_local_function.walrus_body_locals.wasm_immediates.declared.block_type.BlockType.{BlockType}
+use Rattle.walrus_functions_into.specs.walrus_collections.walrus_local_function.walrus_body_locals.wasm_immediates.declared.block_type.BlockType.TheVariants as blocks
+use Rattle.walrus_functions_into.specs.walrus_collections.walrus_local_function.walrus_body_locals.wasm_immediates.Items.{Space, Types, Functions, Tables, Memories, Tags, Globals, ElementSegments, DataSegments, Locals, Labels}
+use Rattle.walrus_functions_into.specs.walrus_collections.walrus_local_function.walrus_body_locals.wasm_grammar.Modules as modules
+use Rattle.walrus_functions_into.specs.walrus_collections.walrus_local_function.walrus_body_locals.wasm_grammar.States.{types_of}
+use Rattle.walrus_functions_into.specs.walrus_collections.walrus_local_function.walrus_body_locals.wasm_grammar.TypeWords.{abstract_from, value_from}
+use Rattle.walrus_functions_into.specs.walrus_collections.walrus_local_function.walrus_body_locals.wasm_grammar.Values.{must}
+use Rattle.walrus_functions_into.specs.walrus_collections.walrus_local_function.walrus_body_locals.wasm_body_grammar.Rules as grammar
+use Rattle.walrus_functions_into.specs.walrus_collections.walrus_local_function.walrus_body_locals.wasm_body_grammar.Rules.{Around, found_in, pick, form_test, kind_test}
+use Rattle.walrus_functions_into.specs.walrus_collections.walrus_local_function.walrus_function_parser.walrus_body_rules.walrus_pairing.Types.{read_abstract, read_value}
+use Rattle.walrus_functions_into.specs.walrus_collections.walrus_local_function.walrus_function_parser.walrus_body_rules.Sights.{Sight, block_of, function_block, room, written_block}
+use Rattle.walrus_functions_into.specs.walrus_collections.walrus_local_function.walrus_function_parser.walrus_body_rules.Rules.{block_test, has_wide}
+use Rattle.walrus_functions_into.specs.walrus_collections.walrus_local_function.walrus_function_parser.Parsed.{IsAround}
+use Rattle.walrus_functions_into.specs.walrus_collections.walrus_local_function.walrus_body_locals.walrus_body_nesting.wasm_formats.Stops.{TypeForm}
 use Rattle.wasm_run_names.specs.Picks.{form_pick, kind_pick, block_pick}
 use Rattle.walrus_module_env.specs.declared.env.ModuleEnv.{ModuleEnv}
 use Rattle.walrus_module_env.specs.Env.{form_params, form_results, own_found, own_pick}

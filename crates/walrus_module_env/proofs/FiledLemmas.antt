@@ -21,7 +21,7 @@ use Rattle.walrus_types.specs.Parsing.{AreBelow, Parsed, added, known_ids, merge
 use Rattle.walrus_types.proofs.LawLemmas.{latest-law}
 use Rattle.walrus_types.proofs.MergerLemmas.{get-left, kind-at}
 use Rattle.walrus_types.proofs.Places.{range_at}
-use Rattle.walrus_types_into.specs.Into.{TypesStand, no_types}
+use Rattle.walrus_functions_into.specs.walrus_types_into.Into.{TypesStand, no_types}
 use Rattle.walrus_module_env.specs.Filled.{AreRising, AreFiled, HasBehind}
 use Rattle.walrus_module_env.proofs.PickLemmas.{some_is, none_some}
 

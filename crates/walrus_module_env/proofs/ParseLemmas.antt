@@ -2,15 +2,15 @@
 use Rattle.std.proofs.Common.{◌≡◌, ◌⊎◌, ◌∙◌, inl, inr, ℕ, List, Result, Ok, Err, IfOk, IfErr, sym, ap, subst}
 use Rattle.wasm_reader.specs.Cursor.{Cursor}
 use Rattle.walrus_forms.specs.Renaming.{at}
-use Rattle.walrus_builder.specs.Built.{Seq}
+use Rattle.walrus_handler_types.specs.walrus_tree.walrus_builder.Built.{Seq}
 use Rattle.walrus_index_maps.specs.Maps.{Ids}
-use Rattle.walrus_instr.specs.declared.seq.InstrSeqType.{InstrSeqType}
+use Rattle.walrus_body_env.specs.walrus_instr.declared.seq.InstrSeqType.{InstrSeqType}
 use Rattle.walrus_types.specs.walrus_items.declared.local.Local.{Local}
-use Rattle.walrus_collections.specs.walrus_body_parser.Points.{place_at}
-use Rattle.walrus_collections.specs.walrus_local_function.walrus_body_locals.wasm_grammar.States.{types_of}
-use Rattle.walrus_collections.specs.walrus_local_function.walrus_body_locals.walrus_body_env.declared.error.BodyError.{BodyError}
-use Rattle.walrus_collections.specs.walrus_local_function.walrus_body_locals.walrus_body_env.declared.error.BodyError.TheVariants.{Memory}
-use Rattle.walrus_collections.specs.walrus_local_function.walrus_function_parser.Parsed.{Telling, Parses, IsCause}
+use Rattle.walrus_functions_into.specs.walrus_collections.walrus_body_parser.Points.{place_at}
+use Rattle.walrus_functions_into.specs.walrus_collections.walrus_local_function.walrus_body_locals.wasm_grammar.States.{types_of}
+use Rattle.walrus_functions_into.specs.walrus_collections.walrus_local_function.walrus_body_locals.walrus_body_env.declared.error.BodyError.{BodyError}
+use Rattle.walrus_functions_into.specs.walrus_collections.walrus_local_function.walrus_body_locals.walrus_body_env.declared.error.BodyError.TheVariants.{Memory}
+use Rattle.walrus_functions_into.specs.walrus_collections.walrus_local_function.walrus_function_parser.Parsed.{Telling, Parses, IsCause}
 use Rattle.wasm_run_names.specs.Picks.{block_pick}
 use Rattle.walrus_module_env.specs.declared.env.ModuleEnv.{ModuleEnv}
 use Rattle.walrus_module_env.specs.Filled.{AreFiled}

@@ -15,8 +15,8 @@ use Rattle.walrus_forms.proofs.EqLemmas.{same-kind-law}
 use Rattle.walrus_types.specs.Items.{Item}
 use Rattle.walrus_types.specs.Table.{Table, type_at, latest_id}
 use Rattle.walrus_types.specs.TypeLaws.{IsLatest, FindsLatest}
-use Rattle.walrus_instr.specs.declared.seq.InstrSeqType.TheVariants.{MultiValue}
-use Rattle.walrus_collections.specs.walrus_local_function.walrus_body_locals.wasm_body_grammar.Rules.{serves, leads, latest_from, found_in}
+use Rattle.walrus_body_env.specs.walrus_instr.declared.seq.InstrSeqType.TheVariants.{MultiValue}
+use Rattle.walrus_functions_into.specs.walrus_collections.walrus_local_function.walrus_body_locals.wasm_body_grammar.Rules.{serves, leads, latest_from, found_in}
 use Rattle.walrus_module_env.specs.Env.{if_own, own_found}
 use Rattle.walrus_module_env.specs.Filled.{IsTypeAt, AreFiled}
 

@@ -1,22 +1,22 @@
 -- What is seen of a module from the body of a function, and the file that the module is read from.
 use Rattle.std.specs.Prelude.{◌≡◌, ℕ, Option, Some, None, length, slice_get, slice_index_or}
 use Rattle.std.specs.Option.{option_map, option_and_then}
-use Rattle.walrus_collections.specs.walrus_local_function.walrus_body_locals.walrus_body_nesting.wasm_formats.wasm_features.declared.WasmFeatures.{WasmFeatures}
+use Rattle.walrus_functions_into.specs.walrus_collections.walrus_local_function.walrus_body_locals.walrus_body_nesting.wasm_formats.wasm_features.declared.WasmFeatures.{WasmFeatures}
 use Rattle.walrus_arena.specs.Arena.{item_at}
 use Rattle.walrus_forms.specs.Renaming.{at}
 use Rattle.walrus_index_maps.specs.Maps.{Ids}
-use Rattle.walrus_instr.specs.BlockTypes.{picked}
-use Rattle.walrus_instr.specs.declared.seq.InstrSeqType.{InstrSeqType}
-use Rattle.walrus_instr.specs.declared.seq.InstrSeqType.TheVariants.{Simple, MultiValue}
-use Rattle.walrus_collections.specs.walrus_local_function.walrus_body_locals.wasm_immediates.declared.block_type.BlockType.{BlockType}
-use Rattle.walrus_collections.specs.walrus_local_function.walrus_body_locals.wasm_immediates.declared.block_type.BlockType.TheVariants as blocks
-use Rattle.walrus_collections.specs.walrus_local_function.walrus_body_locals.wasm_immediates.Items.{Types}
-use Rattle.walrus_collections.specs.walrus_local_function.walrus_function_parser.walrus_body_rules.walrus_pairing.Types.{read_value}
-use Rattle.walrus_collections.specs.walrus_module_items.declared.memory.Memory.{Memory}
-use Rattle.walrus_collections.specs.walrus_local_function.walrus_body_locals.wasm_grammar.Modules as grammar
-use Rattle.walrus_collections.specs.walrus_local_function.walrus_body_locals.wasm_grammar.States.{types_of}
-use Rattle.walrus_collections.specs.walrus_local_function.walrus_body_locals.wasm_body_grammar.Rules.{Around}
-use Rattle.walrus_collections.specs.walrus_local_function.walrus_function_parser.walrus_body_rules.Sights.{Sight, look, value_block}
+use Rattle.walrus_body_env.specs.walrus_instr.BlockTypes.{picked}
+use Rattle.walrus_body_env.specs.walrus_instr.declared.seq.InstrSeqType.{InstrSeqType}
+use Rattle.walrus_body_env.specs.walrus_instr.declared.seq.InstrSeqType.TheVariants.{Simple, MultiValue}
+use Rattle.walrus_functions_into.specs.walrus_collections.walrus_local_function.walrus_body_locals.wasm_immediates.declared.block_type.BlockType.{BlockType}
+use Rattle.walrus_functions_into.specs.walrus_collections.walrus_local_function.walrus_body_locals.wasm_immediates.declared.block_type.BlockType.TheVariants as blocks
+use Rattle.walrus_functions_into.specs.walrus_collections.walrus_local_function.walrus_body_locals.wasm_immediates.Items.{Types}
+use Rattle.walrus_functions_into.specs.walrus_collections.walrus_local_function.walrus_function_parser.walrus_body_rules.walrus_pairing.Types.{read_value}
+use Rattle.walrus_functions_into.specs.walrus_collections.walrus_module_items.declared.memory.Memory.{Memory}
+use Rattle.walrus_functions_into.specs.walrus_collections.walrus_local_function.walrus_body_locals.wasm_grammar.Modules as grammar
+use Rattle.walrus_functions_into.specs.walrus_collections.walrus_local_function.walrus_body_locals.wasm_grammar.States.{types_of}
+use Rattle.walrus_functions_into.specs.walrus_collections.walrus_local_function.walrus_body_locals.wasm_body_grammar.Rules.{Around}
+use Rattle.walrus_functions_into.specs.walrus_collections.walrus_local_function.walrus_function_parser.walrus_body_rules.Sights.{Sight, look, value_block}
 use Rattle.walrus_module_env.specs.declared.env.ModuleEnv.{ModuleEnv}
 use Rattle.walrus_module_env.specs.Env.{params_at, results_at, own_pick, tag_type_at, is_wide_at}
 use Rattle.walrus_module_env.specs.Filled.{AreFiled}

@@ -4,11 +4,11 @@ use Rattle.std.specs.Option.{option_map, option_map_or}
 use Rattle.walrus_arena.specs.Arena.{Arena, item_at}
 use Rattle.walrus_forms.specs.declared.value.ValType.{ValType}
 use Rattle.walrus_types.specs.Table.{Table, found_type}
-use Rattle.walrus_instr.specs.BlockTypes.{picked}
-use Rattle.walrus_instr.specs.declared.seq.InstrSeqType.{InstrSeqType}
-use Rattle.walrus_instr.specs.declared.seq.InstrSeqType.TheVariants.{Simple, MultiValue}
-use Rattle.walrus_collections.specs.walrus_module_items.declared.memory.Memory.{Memory}
-use Rattle.walrus_collections.specs.walrus_module_items.declared.tag.Tag.{Tag}
+use Rattle.walrus_body_env.specs.walrus_instr.BlockTypes.{picked}
+use Rattle.walrus_body_env.specs.walrus_instr.declared.seq.InstrSeqType.{InstrSeqType}
+use Rattle.walrus_body_env.specs.walrus_instr.declared.seq.InstrSeqType.TheVariants.{Simple, MultiValue}
+use Rattle.walrus_functions_into.specs.walrus_collections.walrus_module_items.declared.memory.Memory.{Memory}
+use Rattle.walrus_functions_into.specs.walrus_collections.walrus_module_items.declared.tag.Tag.{Tag}
 -- the parameters and results of a form, and of a live function type
 pub use Rattle.walrus_function_types.specs.FunctionTypes.{form_params, form_results, params_at, results_at}
 

@@ -7,7 +7,7 @@ use Rattle.walrus_forms.specs.Renaming.{KindBelow, at, renamed_kind}
 use Rattle.walrus_types.specs.Items.{Item}
 use Rattle.walrus_types.specs.Table.{Table, next_id, type_at}
 use Rattle.walrus_types.specs.Parsing.{AreBelow, parsed, unparsed}
-use Rattle.walrus_types_into.specs.Into.{no_types}
+use Rattle.walrus_functions_into.specs.walrus_types_into.Into.{no_types}
 
 -- the index names a live type of this kind, with ids in the place of its names; its id is one of those that the file's types have
 pub record IsTypeAt (ids : List ℕ) (own : ℕ) (t : Table) (index : ℕ) (kind : Kind) : Type 0 where

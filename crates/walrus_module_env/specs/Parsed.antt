@@ -3,26 +3,26 @@ use Rattle.std.specs.Prelude.{◌≡◌, ◌⊎◌, ℕ, List, map, Some, Ok}
 use Rattle.std.specs.Option.{option_map}
 use Rattle.walrus_forms.specs.declared.value.ValType.{ValType}
 use Rattle.walrus_forms.specs.Renaming.{at, renamed_value}
-use Rattle.walrus_instr.specs.declared.seq.InstrSeqType.{InstrSeqType}
-use Rattle.walrus_instr.specs.declared.seq.InstrSeqType.TheVariants.{MultiValue}
-use Rattle.walrus_collections.specs.walrus_local_function.walrus_body_locals.wasm_immediates.declared.block_type.BlockType.{BlockType}
-use Rattle.walrus_collections.specs.walrus_local_function.walrus_body_locals.wasm_grammar.States.{types_of}
-use Rattle.walrus_collections.specs.walrus_local_function.walrus_function_parser.walrus_body_rules.Sights.{written_block}
+use Rattle.walrus_body_env.specs.walrus_instr.declared.seq.InstrSeqType.{InstrSeqType}
+use Rattle.walrus_body_env.specs.walrus_instr.declared.seq.InstrSeqType.TheVariants.{MultiValue}
+use Rattle.walrus_functions_into.specs.walrus_collections.walrus_local_function.walrus_body_locals.wasm_immediates.declared.block_type.BlockType.{BlockType}
+use Rattle.walrus_functions_into.specs.walrus_collections.walrus_local_function.walrus_body_locals.wasm_grammar.States.{types_of}
+use Rattle.walrus_functions_into.specs.walrus_collections.walrus_local_function.walrus_function_parser.walrus_body_rules.Sights.{written_block}
 use Rattle.wasm_reader.specs.Cursor.{Cursor, rest}
-use Rattle.walrus_builder.specs.Built.{Seq}
+use Rattle.walrus_handler_types.specs.walrus_tree.walrus_builder.Built.{Seq}
 use Rattle.walrus_index_maps.specs.Maps.{Ids}
-use Rattle.walrus_collections.specs.walrus_body_parser.wasm_operators.Operators.{Seen}
-use Rattle.walrus_collections.specs.walrus_body_parser.walrus_body_steps.Meanings.{meaning}
-use Rattle.walrus_collections.specs.walrus_body_parser.walrus_body_steps.Picks.{ArePicks}
-use Rattle.walrus_collections.specs.walrus_body_parser.Points.{place_at, ops_from}
-use Rattle.walrus_collections.specs.walrus_local_function.walrus_body_locals.wasm_body_grammar.Rules.{Around, found_in}
-use Rattle.walrus_collections.specs.walrus_local_function.walrus_body_locals.wasm_body_grammar.Bodies.{Run, body}
-use Rattle.walrus_collections.specs.walrus_local_function.walrus_body_locals.wasm_normal_form.Trees.{tree_of}
-use Rattle.walrus_collections.specs.walrus_local_function.walrus_body_locals.wasm_normal_form.Normal.{normal}
-use Rattle.walrus_collections.specs.walrus_local_function.walrus_body_locals.walrus_body_env.declared.error.BodyError.{BodyError}
-use Rattle.walrus_collections.specs.walrus_local_function.walrus_body_locals.walrus_body_nesting.Stands.{StandsAs}
-use Rattle.walrus_collections.specs.walrus_local_function.walrus_function_parser.Parsed.{IsAround, Telling, StopsFor, Bars, Lacks}
-use Rattle.walrus_collections.specs.walrus_local_function.walrus_body_locals.walrus_body_nesting.wasm_formats.wasm_features.declared.WasmFeatures.{WasmFeatures}
+use Rattle.walrus_functions_into.specs.walrus_collections.walrus_body_parser.wasm_operators.Operators.{Seen}
+use Rattle.walrus_functions_into.specs.walrus_collections.walrus_body_parser.walrus_body_steps.Meanings.{meaning}
+use Rattle.walrus_functions_into.specs.walrus_collections.walrus_body_parser.walrus_body_steps.Picks.{ArePicks}
+use Rattle.walrus_functions_into.specs.walrus_collections.walrus_body_parser.Points.{place_at, ops_from}
+use Rattle.walrus_functions_into.specs.walrus_collections.walrus_local_function.walrus_body_locals.wasm_body_grammar.Rules.{Around, found_in}
+use Rattle.walrus_functions_into.specs.walrus_collections.walrus_local_function.walrus_body_locals.wasm_body_grammar.Bodies.{Run, body}
+use Rattle.walrus_functions_into.specs.walrus_collections.walrus_local_function.walrus_body_locals.wasm_normal_form.Trees.{tree_of}
+use Rattle.walrus_functions_into.specs.walrus_collections.walrus_local_function.walrus_body_locals.wasm_normal_form.Normal.{normal}
+use Rattle.walrus_functions_into.specs.walrus_collections.walrus_local_function.walrus_body_locals.walrus_body_env.declared.error.BodyError.{BodyError}
+use Rattle.walrus_functions_into.specs.walrus_collections.walrus_local_function.walrus_body_locals.walrus_body_nesting.Stands.{StandsAs}
+use Rattle.walrus_functions_into.specs.walrus_collections.walrus_local_function.walrus_function_parser.Parsed.{IsAround, Telling, StopsFor, Bars, Lacks}
+use Rattle.walrus_functions_into.specs.walrus_collections.walrus_local_function.walrus_body_locals.walrus_body_nesting.wasm_formats.wasm_features.declared.WasmFeatures.{WasmFeatures}
 use Rattle.wasm_run_names.specs.Picks.{block_pick}
 use Rattle.walrus_module_env.specs.declared.env.ModuleEnv.{ModuleEnv}
 use Rattle.walrus_module_env.specs.Env.{own_found}

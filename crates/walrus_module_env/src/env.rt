@@ -5,9 +5,9 @@ ghost use Rattle.walrus_module_env.specs.Env.{if_own, is_own};
 
 use walrus_arena::{LocalId, MemoryId, TagId, TypeId};
 use walrus_body_env::BodyEnv;
-use walrus_collections::{ModuleMemories, ModuleTags};
+use walrus_body_env::instr::InstrSeqType;
 use walrus_function_types::function_at;
-use walrus_instr::InstrSeqType;
+use walrus_functions_into::collections::{ModuleMemories, ModuleTags};
 use walrus_types::{ModuleTypes, ValType};
 
 /// What bodies ask of the module that their file is read into (Core Specification, validation: contexts): its types, tags and memories,
@@ -47,7 +47,7 @@ fn if_own(own: usize, ty: Option<InstrSeqType>) -> Option<InstrSeqType>
 
 impl<'a> BodyEnv for ModuleEnv<'a> {
     ghost use Rattle.std.specs.Prelude.{None};
-    ghost use Rattle.walrus_instr.specs.BlockTypes.{picked};
+    ghost use Rattle.walrus_body_env.specs.walrus_instr.BlockTypes.{picked};
     ghost use Rattle.walrus_module_env.specs.Env.{is_wide_at, own_pick, params_at, results_at, tag_type_at};
 
     ghost type_params = { λ e ty. params_at e.types.now ty };

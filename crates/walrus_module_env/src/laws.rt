@@ -5,8 +5,8 @@ ghost use Rattle.walrus_module_env.specs.First.{FirstTypesStay};
 ghost use Rattle.walrus_module_env.specs.Handled.{HandledBodiesStand};
 ghost use Rattle.walrus_module_env.specs.Parsed.{FilesAreSeen, PicksAreSeen, PicksAreNamed, BlocksAreNamed};
 
+use walrus_functions_into::types_into::laws::new_types_stand;
 use walrus_handler_types::laws::{handlers_stand, trees_tell};
-use walrus_types_into::laws::new_types_stand;
 
 /// A body sees the file whose sections were read into its module.
 pub fn files_are_seen()

@@ -22,12 +22,44 @@ pub mod body_env {
 }
 
 pub mod collections {
-    pub use walrus_collections::{
+    pub use walrus_functions_into::collections::{
         ModuleData, ModuleElements, ModuleExports, ModuleFunctions, ModuleGlobals, ModuleImports,
         ModuleMemories, ModuleTables, ModuleTags,
     };
 
     pub mod local_function {
-        pub use walrus_collections::local_function::LocalFunction;
+        pub use walrus_functions_into::local_function::LocalFunction;
+    }
+}
+
+pub mod functions_into {
+    pub use walrus_functions_into::{FunctionBody, add_functions, give_body, pair_bodies};
+
+    pub mod laws {
+        pub use walrus_functions_into::laws::{read_bodies_are_paired, read_functions_stand};
+    }
+}
+
+pub mod handler_types {
+    pub use walrus_handler_types::give_types;
+}
+
+pub mod handlers {
+    pub use walrus_handler_types::{AnyHandler, handlers};
+}
+
+pub mod locations {
+    pub use walrus_functions_into::locations::send_locations;
+}
+
+pub mod module_items {
+    pub use walrus_functions_into::module_items::FunctionKind;
+}
+
+pub mod types_into {
+    pub use walrus_functions_into::types_into::read_types_into;
+
+    pub mod laws {
+        pub use walrus_functions_into::types_into::laws::{new_types_stand, types_name_below};
     }
 }

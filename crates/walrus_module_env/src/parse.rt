@@ -2,21 +2,21 @@
 
 ghost use Rattle.std.specs.Prelude.{◌≡◌, ◌⊎◌, ◌<◌, ◌≤◌, ◌+◌, length, None, IfOk, IfErr};
 ghost use Rattle.wasm_reader.specs.Cursor.{end_of};
-ghost use Rattle.walrus_builder.specs.Built.{contents};
+ghost use Rattle.walrus_handler_types.specs.walrus_tree.walrus_builder.Built.{contents};
 ghost use Rattle.walrus_index_maps.specs.Views.{ids};
-ghost use Rattle.walrus_collections.specs.walrus_local_function.walrus_body_locals.walrus_body_env.declared.error.BodyError.TheVariants.{Memory as WantsMemory};
-ghost use Rattle.walrus_collections.specs.walrus_local_function.walrus_body_locals.Locals.{Leaves};
-ghost use Rattle.walrus_collections.specs.walrus_local_function.walrus_function_parser.Parsed.{IsRefused, Parses, telling};
+ghost use Rattle.walrus_functions_into.specs.walrus_collections.walrus_local_function.walrus_body_locals.walrus_body_env.declared.error.BodyError.TheVariants.{Memory as WantsMemory};
+ghost use Rattle.walrus_functions_into.specs.walrus_collections.walrus_local_function.walrus_body_locals.Locals.{Leaves};
+ghost use Rattle.walrus_functions_into.specs.walrus_collections.walrus_local_function.walrus_function_parser.Parsed.{IsRefused, Parses, telling};
 ghost use Rattle.walrus_module_env.specs.Around.{sight_in};
 ghost use Rattle.walrus_module_env.specs.Parsed.{IsBodyOfFile, IsFaultInFile};
 
 use crate::env::ModuleEnv;
 use std::alloc::Global;
 use walrus_arena::{FunctionId, LocalId, TypeId};
+use walrus_body_env::instr::InstrSeqType;
 use walrus_body_env::{BodyError, Validator};
-use walrus_collections::local_function::LocalFunction;
+use walrus_functions_into::local_function::LocalFunction;
 use walrus_index_maps::IndicesToIds;
-use walrus_instr::InstrSeqType;
 use walrus_types::ModuleLocals;
 use wasm_reader::BinaryReader;
 

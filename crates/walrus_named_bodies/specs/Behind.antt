@@ -1,6 +1,6 @@
 -- The bodies of a file are read into a module that its sections fill, and behind them its items are named.
 use Rattle.std.specs.Prelude.{◌≡◌, Bool}
-use Rattle.wasm_name_payloads.specs.Names.{names_of}
+use Rattle.walrus_payload_readers.specs.wasm_name_payloads.Names.{names_of}
 use Rattle.walrus_item_names.specs.Gives.{GivesNames}
 use Rattle.walrus_item_names.specs.Holder.{Holder}
 use Rattle.walrus_item_names.specs.walrus_module.walrus_body_writer.walrus_pairing.wasm_immediates.wasm_features.declared.WasmFeatures.{WasmFeatures}

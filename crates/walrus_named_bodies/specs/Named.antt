@@ -1,6 +1,6 @@
 -- The names of a module that was read.
 use Rattle.std.specs.Prelude.{Bool, List, [], ◌++◌, false, if◌then◌else◌}
-use Rattle.wasm_name_payloads.specs.Names.{Given}
+use Rattle.walrus_payload_readers.specs.wasm_name_payloads.Names.{Given}
 use Rattle.walrus_item_names.specs.walrus_module.walrus_body_writer.walrus_pairing.walrus_index_maps.Maps.{Ids}
 use Rattle.walrus_item_names.specs.Holder.{Holder}
 use Rattle.walrus_item_names.specs.Sent.{sent_names}

@@ -104,6 +104,10 @@ pub mod file_bodies {
     }
 }
 
+pub mod functions_into {
+    pub use walrus_file_bodies::functions_into::FunctionBody;
+}
+
 pub mod item_names {
     pub mod module {
         pub use walrus_item_names::module::Module;
@@ -119,4 +123,26 @@ pub mod item_names {
 
 pub mod local_counts {
     pub use walrus_local_counts::few_are_numbered;
+}
+
+pub mod locations {
+    pub use walrus_file_bodies::locations::send_locations;
+}
+
+pub mod module_bodies {
+    pub use walrus_file_bodies::module_bodies::{FileEnv, read_function};
+
+    pub mod laws {
+        pub use walrus_file_bodies::module_bodies::laws::bodies_hold_theirs;
+    }
+}
+
+pub mod module_items {
+    pub use walrus_file_bodies::module_items::FunctionKind;
+}
+
+pub mod spelled_modules {
+    pub mod laws {
+        pub use walrus_file_bodies::spelled_modules::laws::read_sections_are_spelled;
+    }
 }

@@ -2,7 +2,7 @@
 
 ghost use Rattle.std.specs.Prelude.{OnOk};
 ghost use Rattle.walrus_item_names.specs.walrus_module.walrus_local_function.walrus_body_locals.wasm_grammar.Modules.{Module};
-ghost use Rattle.wasm_name_payloads.specs.Names.{names_of};
+ghost use Rattle.walrus_payload_readers.specs.wasm_name_payloads.Names.{names_of};
 ghost use Rattle.walrus_item_names.specs.walrus_module.walrus_body_writer.walrus_pairing.walrus_index_maps.Views.{ids};
 ghost use Rattle.walrus_item_names.specs.Gives.{GivesNames};
 ghost use Rattle.walrus_item_names.specs.Holder.{holder};

@@ -8,9 +8,9 @@ use Rattle.walrus_named_bodies.specs.walrus_item_names.walrus_module.walrus_body
 use Rattle.walrus_named_bodies.specs.walrus_item_names.walrus_module.walrus_local_function.walrus_body_locals.walrus_body_nesting.Faults.{fault_at}
 use Rattle.walrus_errors.specs.declared.error.ModuleError.{ModuleError}
 use Rattle.walrus_file_reader.specs.Files.{IsRefused}
-use Rattle.walrus_section_reader.specs.Faults.{error_at, trouble_of}
-use Rattle.walrus_section_reader.specs.declared.fault.FaultKind.{FaultKind}
-use Rattle.walrus_section_reader.specs.declared.fault.FaultKind.TheVariants as faults
+use Rattle.walrus_named_bodies.specs.walrus_file_bodies.walrus_items_into.walrus_tables_into.walrus_section_values.walrus_section_reader.Faults.{error_at, trouble_of}
+use Rattle.walrus_named_bodies.specs.walrus_file_bodies.walrus_items_into.walrus_tables_into.walrus_section_values.walrus_section_reader.declared.fault.FaultKind.{FaultKind}
+use Rattle.walrus_named_bodies.specs.walrus_file_bodies.walrus_items_into.walrus_tables_into.walrus_section_values.walrus_section_reader.declared.fault.FaultKind.TheVariants as faults
 use Rattle.walrus_named_bodies.specs.Refusals.{module_error}
 use Rattle.walrus_parse.specs.Refusals.{IsRefusal, refusal}
 

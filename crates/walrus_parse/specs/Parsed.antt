@@ -10,8 +10,8 @@ use Rattle.walrus_named_bodies.specs.walrus_item_names.walrus_module.walrus_loca
 use Rattle.walrus_named_bodies.specs.walrus_file_bodies.walrus_items_into.wasm_module_rules.wasm_modules.Modules.{around, codes, module_of, IsShort, Reads}
 use Rattle.walrus_named_bodies.specs.walrus_item_names.walrus_module.walrus_local_function.walrus_body_locals.wasm_body_grammar.Codes.{ReadsCodes}
 use Rattle.walrus_named_bodies.specs.walrus_file_bodies.walrus_items_into.wasm_sections.Laws.{ReadsSections}
-use Rattle.wasm_name_payloads.specs.Names.{names_of}
-use Rattle.wasm_name_payloads.specs.Producers.{processed, producers_of}
+use Rattle.walrus_named_bodies.specs.wasm_name_payloads.Names.{names_of}
+use Rattle.walrus_named_bodies.specs.wasm_name_payloads.Producers.{processed, producers_of}
 use Rattle.walrus_arena.specs.Arena.{Arena}
 use Rattle.walrus_config.specs.Config.{feature_names}
 use Rattle.walrus_config.specs.declared.config.ModuleConfig.{ModuleConfig}
@@ -27,7 +27,7 @@ use Rattle.walrus_named_bodies.specs.walrus_item_names.Holder.{Holder, holder}
 use Rattle.walrus_named_bodies.specs.walrus_item_names.walrus_module.walrus_types.walrus_items.declared.local.Local.{Local}
 use Rattle.walrus_named_bodies.specs.walrus_file_bodies.walrus_items_into.Filled.{IsFilledFrom}
 use Rattle.walrus_named_bodies.specs.walrus_file_bodies.walrus_items_into.Spaces.{Spaces, spaces}
-use Rattle.walrus_locations.specs.Sent.{FunctionsSent}
+use Rattle.walrus_named_bodies.specs.walrus_locations.Sent.{FunctionsSent}
 use Rattle.walrus_named_bodies.specs.walrus_item_names.walrus_module.declared.module.Module.{Module as Whole}
 use Rattle.walrus_named_bodies.specs.walrus_item_names.walrus_module.walrus_module_items.declared.function.Function.{Function}
 use Rattle.walrus_named_bodies.specs.walrus_file_bodies.walrus_items_into.walrus_tables_into.walrus_sections_into.walrus_known_sections.State.{state_of}

@@ -3,7 +3,7 @@
 ghost use Rattle.std.specs.Prelude.{ℕ, ◌⊎◌, List, Err, IfErr, IfOk, Ok};
 ghost use Rattle.walrus_config.specs.Config.{default_config};
 ghost use Rattle.walrus_config.specs.declared.config.ModuleConfig.{ModuleConfig as Flags};
-ghost use Rattle.walrus_locations.specs.Sent.{AnswersLocations};
+ghost use Rattle.walrus_named_bodies.specs.walrus_locations.Sent.{AnswersLocations};
 ghost use Rattle.walrus_named_bodies.specs.walrus_item_names.walrus_module.declared.module.Module.{Module as Whole};
 ghost use Rattle.walrus_parse.specs.Parsed.{HandsOn, IsRead, read_features};
 ghost use Rattle.walrus_parse.specs.Refusals.{IsRefusal};
@@ -12,10 +12,10 @@ use crate::whole::parse_into;
 use std::alloc::Global;
 use walrus_config::ModuleConfig;
 use walrus_errors::Result;
-use walrus_locations::send_locations;
 use walrus_named_bodies::file_bodies::items_into::module_env::body_env::instr::InstrLocId;
 use walrus_named_bodies::file_bodies::items_into::tables_into::sections_into::index_maps::IndicesToIds;
 use walrus_named_bodies::item_names::module::Module;
+use walrus_named_bodies::locations::send_locations;
 
 /// Reading with flags.
 pub trait Parse {

@@ -8,10 +8,10 @@ use inspect_lines::Counts;
 use std::alloc::{AllocError, Global};
 use walrus_config::ModuleConfig;
 use walrus_counted_files::count_file;
-use walrus_counts::count;
+use walrus_counted_files::counts::count;
+use walrus_counted_files::module::Module;
+use walrus_counted_files::parse::{FromBuffer, Parse};
 use walrus_errors::{ModuleError, Result};
-use walrus_module::Module;
-use walrus_parse::{FromBuffer, Parse};
 
 /// The call that reads a file.
 #[derive(Clone, Copy)]

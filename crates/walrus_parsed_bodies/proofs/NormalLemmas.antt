@@ -6,7 +6,7 @@ use Rattle.walrus_parsed_items.specs.walrus_into_laws.walrus_meaning.walrus_link
 use Rattle.walrus_parsed_items.specs.walrus_into_laws.walrus_meaning.walrus_linked.walrus_local_function.walrus_body_locals.wasm_normal_form.Roles.{Placed, Role, Passes, Runs, Opens, Turns, Ends, cuts, is_if, role}
 use Rattle.walrus_parsed_items.specs.walrus_into_laws.walrus_meaning.walrus_linked.walrus_local_function.walrus_body_locals.wasm_normal_form.Trees.{Tree, Close, Arm, Skip, Run, Nest, flat, innermost, open_in, prepend, tree_of}
 use Rattle.wasm_operator_bytes.specs.Names.{Name, block_names, item_names, operator_names}
-use Rattle.wasm_body_grammar.specs.wasm_operators.Operators.{Seen}
+use Rattle.walrus_parsed_items.specs.walrus_body_trees.walrus_body_nesting.wasm_body_grammar.wasm_operators.Operators.{Seen}
 use Rattle.std.specs.List.{flat_map}
 use Rattle.walrus_parsed_items.proofs.ListLemmas.{AllOf, all_join}
 

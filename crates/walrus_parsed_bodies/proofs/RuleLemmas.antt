@@ -5,22 +5,22 @@ use Rattle.std.specs.Option.{option_map, unwrap_or}
 use Rattle.std.proofs.Common.{arith, inl}
 use Rattle.std.proofs.lemmas.Bool.{ltb-true}
 use Rattle.std.proofs.lemmas.List.{length-append}
-use Rattle.wasm_body_grammar.specs.Frames.{Frame, turned}
-use Rattle.wasm_body_grammar.specs.Bodies.{frames_of}
-use Rattle.wasm_body_grammar.specs.Rules.{Around, found_in, latest_from, leads, names_test, pick, room, serves, space_of}
-use Rattle.wasm_body_grammar.specs.wasm_formats.Stops.{Index}
-use Rattle.wasm_body_grammar.specs.wasm_formats.declared.fault.Space.TheVariants as spaces
-use Rattle.wasm_body_grammar.specs.wasm_grammar.Modules as grammar
-use Rattle.wasm_body_grammar.specs.wasm_grammar.States.{count_of, types_of}
-use Rattle.wasm_body_grammar.specs.wasm_grammar.TypeWords.{value_from}
-use Rattle.wasm_body_grammar.specs.wasm_grammar.Values.{must}
+use Rattle.walrus_parsed_items.specs.walrus_body_trees.walrus_body_nesting.wasm_body_grammar.Frames.{Frame, turned}
+use Rattle.walrus_parsed_items.specs.walrus_body_trees.walrus_body_nesting.wasm_body_grammar.Bodies.{frames_of}
+use Rattle.walrus_parsed_items.specs.walrus_body_trees.walrus_body_nesting.wasm_body_grammar.Rules.{Around, found_in, latest_from, leads, names_test, pick, room, serves, space_of}
+use Rattle.walrus_parsed_items.specs.walrus_body_trees.walrus_body_nesting.wasm_body_grammar.wasm_formats.Stops.{Index}
+use Rattle.walrus_parsed_items.specs.walrus_body_trees.walrus_body_nesting.wasm_body_grammar.wasm_formats.declared.fault.Space.TheVariants as spaces
+use Rattle.walrus_parsed_items.specs.walrus_body_trees.walrus_body_nesting.wasm_body_grammar.wasm_grammar.Modules as grammar
+use Rattle.walrus_parsed_items.specs.walrus_body_trees.walrus_body_nesting.wasm_body_grammar.wasm_grammar.States.{count_of, types_of}
+use Rattle.walrus_parsed_items.specs.walrus_body_trees.walrus_body_nesting.wasm_body_grammar.wasm_grammar.TypeWords.{value_from}
+use Rattle.walrus_parsed_items.specs.walrus_body_trees.walrus_body_nesting.wasm_body_grammar.wasm_grammar.Values.{must}
 use Rattle.wasm_operator_bytes.specs.wasm_immediates.Items.{Space, Types, Functions, Tables, Memories, Tags, Globals, ElementSegments, DataSegments, Locals, Labels}
 use Rattle.wasm_operator_bytes.specs.wasm_immediates.declared.block_type.BlockType.{BlockType}
 use Rattle.wasm_operator_bytes.specs.wasm_immediates.declared.block_type.BlockType.TheVariants as blocks
 use Rattle.walrus_parsed_items.specs.walrus_parse.walrus_file_bodies.walrus_items_into.wasm_module_rules.Keeps.{first_none, must_holds}
 use Rattle.wasm_operator_bytes.specs.Names.{Name, block_names, operator_names, value_names}
-use Rattle.wasm_body_grammar.specs.wasm_operators.Operators.{flow_of}
-use Rattle.wasm_ruled_modules.specs.Rules.{AreBelow, AreOperators, GroupsBelow}
+use Rattle.walrus_parsed_items.specs.walrus_body_trees.walrus_body_nesting.wasm_body_grammar.wasm_operators.Operators.{flow_of}
+use Rattle.walrus_parsed_items.specs.wasm_import_links.wasm_ruled_modules.Rules.{AreBelow, AreOperators, GroupsBelow}
 use Rattle.walrus_parsed_items.specs.walrus_parse.walrus_file_bodies.walrus_items_into.walrus_module_env.wasm_run_names.Picks.{block_pick, form_pick, kind_pick}
 use Rattle.walrus_forms.proofs.RenamingLemmas.{In, kinds-below}
 use Rattle.walrus_forms.specs.Forms.{Form, FunctionForm, StructForm, ArrayForm, form_names}

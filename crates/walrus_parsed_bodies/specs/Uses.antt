@@ -1,15 +1,15 @@
 -- What the bodies of a module that was read name: items that live.
 use Rattle.std.specs.Prelude.{ℕ, ◌≡◌, ◌<◌, List, All, Some}
 use Rattle.std.specs.List.{AllByRecursion}
-use Rattle.wasm_body_grammar.specs.Rules.{space_of}
-use Rattle.wasm_body_grammar.specs.wasm_grammar.Modules.{Placed}
+use Rattle.walrus_parsed_items.specs.walrus_body_trees.walrus_body_nesting.wasm_body_grammar.Rules.{space_of}
+use Rattle.walrus_parsed_items.specs.walrus_body_trees.walrus_body_nesting.wasm_body_grammar.wasm_grammar.Modules.{Placed}
 use Rattle.wasm_operator_bytes.specs.wasm_immediates.Items.{Space, Locals, Labels}
 use Rattle.wasm_operator_bytes.specs.Names.{Name, operator_names}
 use Rattle.walrus_arena.specs.Arena.{item_at}
 use Rattle.walrus_config.specs.declared.config.ModuleConfig.{ModuleConfig}
 use Rattle.walrus_parsed_items.specs.walrus_parse.walrus_file_bodies.Ready.{bodies_in}
 use Rattle.walrus_parsed_items.specs.walrus_parse.walrus_file_bodies.walrus_items_into.walrus_functions_into.declared.bodies.FunctionBody.{FunctionBody}
-use Rattle.walrus_operator_laws.specs.walrus_pairing.walrus_index_maps.Maps.{Ids}
+use Rattle.walrus_parsed_items.specs.walrus_body_trees.walrus_operator_laws.walrus_pairing.walrus_index_maps.Maps.{Ids}
 use Rattle.walrus_parsed_items.specs.walrus_into_laws.walrus_meaning.walrus_linked.walrus_local_function.declared.local_function.LocalFunction.{LocalFunction}
 use Rattle.walrus_parsed_items.specs.walrus_into_laws.walrus_meaning.Bodies.{own_operators}
 use Rattle.walrus_parsed_items.specs.walrus_parse.walrus_module.Items.{LivesIn}

@@ -5,6 +5,7 @@ ghost use Rattle.walrus_parsed_bodies.specs.Uses.{NamesOfReadBodiesLive};
 ghost use Rattle.walrus_parsed_bodies.specs.Whole.{ReadFunctionsAreWhole};
 
 use walrus_function_types::laws::{entry_types_grow, found_types_stay, tables_grow_on};
+use walrus_parsed_items::body_grammar::laws::bodies_read_once;
 use walrus_parsed_items::body_trees::laws::{bodies_are_trees, bodies_mean_their_normal_form};
 use walrus_parsed_items::file_bodies::items_into::laws::{
     filled_functions_stand, filled_modules_are_filed,
@@ -13,14 +14,13 @@ use walrus_parsed_items::file_bodies::items_into::module_env::laws::{
     blocks_are_named, picks_are_seen,
 };
 use walrus_parsed_items::file_bodies::laws::bodies_read_files;
+use walrus_parsed_items::import_links::laws::read_modules_are_full;
 use walrus_parsed_items::into_laws::groups::read_types_are_declared;
 use walrus_parsed_items::into_laws::ordered_stay;
 use walrus_parsed_items::into_laws::types_into::laws::{new_types_stand, types_name_below};
 use walrus_parsed_items::laws::read_modules_have_items;
-use wasm_body_grammar::laws::bodies_read_once;
-use wasm_import_links::laws::read_modules_are_full;
+use walrus_parsed_items::ruled_modules::laws::read_modules_are_ruled;
 use wasm_operator_bytes::laws::names_are_renamed;
-use wasm_ruled_modules::laws::read_modules_are_ruled;
 
 /// In a module that was read each function is imported, or has a body of distinct arguments, one for each parameter of its type, whose
 /// sequences form a tree in which each label names a sequence around it.

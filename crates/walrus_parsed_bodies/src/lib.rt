@@ -4,6 +4,12 @@
 pub mod laws;
 
 // Passed on to crates above, which then list this one alone.
+pub mod body_grammar {
+    pub mod laws {
+        pub use walrus_parsed_items::body_grammar::laws::bodies_read_once;
+    }
+}
+
 pub mod file_bodies {
     pub mod items_into {
         pub mod laws {
@@ -16,6 +22,34 @@ pub mod file_bodies {
     pub mod laws {
         pub use walrus_parsed_items::file_bodies::laws::bodies_read_files;
     }
+}
+
+pub mod import_links {
+    pub mod laws {
+        pub use walrus_parsed_items::import_links::laws::read_modules_are_full;
+    }
+}
+
+pub mod into_laws {
+    pub mod groups {
+        pub use walrus_parsed_items::into_laws::groups::groups_mean;
+    }
+}
+
+pub mod items_into {
+    pub mod laws {
+        pub use walrus_parsed_items::items_into::laws::named_locals_count;
+    }
+}
+
+pub mod module_env {
+    pub mod laws {
+        pub use walrus_parsed_items::file_bodies::items_into::module_env::laws::picks_are_seen;
+    }
+}
+
+pub mod parse {
+    pub use walrus_parsed_items::parse::{FromBuffer, Parse, parse_into};
 }
 
 pub mod parsed_items {
@@ -39,5 +73,11 @@ pub mod parsed_items {
         pub use walrus_parsed_items::laws::{
             names_of_read_items_live, read_modules_have_items, read_modules_have_links,
         };
+    }
+}
+
+pub mod ruled_modules {
+    pub mod laws {
+        pub use walrus_parsed_items::ruled_modules::laws::read_modules_are_ruled;
     }
 }

@@ -6,55 +6,55 @@ use Rattle.std.specs.Option.{option_map}
 use Rattle.std.proofs.lemmas.List.{length-append, map-append}
 use Rattle.std.proofs.lemmas.List.Concat.{flat_map-append}
 use Rattle.walrus_arena.specs.Arena.{Arena, item_at}
-use Rattle.walrus_parse.proofs.walrus_file_bodies.PairLemmas.{are_apart, chunks_fit}
-use Rattle.walrus_parse.proofs.walrus_file_bodies.StopLemmas.{bodies_wait, chunks_fit_in, count_in}
-use Rattle.walrus_parse.specs.walrus_file_bodies.Laws.{BodiesReadFiles}
-use Rattle.walrus_parse.specs.walrus_file_bodies.Read.{HasLocals, Waits, coded_by, grows_none, names_on, step_filed, step_names, step_on, steps_grow}
-use Rattle.walrus_parse.specs.walrus_file_bodies.Ready.{bodies_in}
-use Rattle.walrus_parse.specs.walrus_file_bodies.walrus_items_into.Laws.{FilledFunctionsStand, FilledModulesAreFiled}
-use Rattle.walrus_parse.specs.walrus_file_bodies.walrus_items_into.Numbers.{types_in}
-use Rattle.walrus_parse.specs.walrus_file_bodies.walrus_items_into.walrus_functions_into.Laws.{read_bodies}
-use Rattle.walrus_parse.specs.walrus_file_bodies.walrus_items_into.walrus_functions_into.declared.bodies.FunctionBody.{FunctionBody}
-use Rattle.walrus_parse.specs.walrus_file_bodies.walrus_items_into.walrus_module_env.Env.{own_pick, tag_type_at}
-use Rattle.walrus_parse.specs.walrus_file_bodies.walrus_items_into.walrus_module_env.Filled.{AreFiled}
-use Rattle.walrus_parse.specs.walrus_file_bodies.walrus_items_into.walrus_tables_into.walrus_sections_into.Becomes.{look_of}
-use Rattle.walrus_parse.specs.walrus_file_bodies.walrus_items_into.walrus_tables_into.walrus_sections_into.Numbers.{upto}
-use Rattle.walrus_parse.specs.walrus_file_bodies.walrus_items_into.walrus_tables_into.walrus_sections_into.Slots.{Become, Filled}
-use Rattle.walrus_parse.specs.walrus_file_bodies.walrus_items_into.walrus_tables_into.walrus_sections_into.Tags.{IsTagOf}
-use Rattle.walrus_parse.specs.walrus_file_bodies.walrus_items_into.walrus_tables_into.walrus_sections_into.walrus_known_sections.Items.{chunk_of, tag_of}
-use Rattle.walrus_parse.specs.walrus_file_bodies.walrus_items_into.walrus_tables_into.walrus_sections_into.walrus_known_sections.State.{state_of}
-use Rattle.walrus_parse.specs.walrus_file_bodies.walrus_items_into.walrus_tables_into.walrus_sections_into.walrus_known_sections.declared.items.Tag.{Tag as ReadTag}
-use Rattle.walrus_parse.specs.walrus_file_bodies.walrus_items_into.wasm_module_rules.wasm_modules.Modules.{around}
-use Rattle.walrus_parse.specs.walrus_file_bodies.walrus_items_into.wasm_sections.Within.{ChunksFit, bodies_inside}
-use Rattle.walrus_parse.specs.walrus_file_bodies.walrus_module_bodies.Steps.{IsStep, State, Steps, state}
-use Rattle.walrus_parse.specs.walrus_file_bodies.walrus_module_bodies.declared.file.FileEnv.{FileEnv}
+use Rattle.walrus_parsed_linked.proofs.walrus_parse.walrus_file_bodies.PairLemmas.{are_apart, chunks_fit}
+use Rattle.walrus_parsed_linked.proofs.walrus_parse.walrus_file_bodies.StopLemmas.{bodies_wait, chunks_fit_in, count_in}
+use Rattle.walrus_parsed_linked.specs.walrus_parsed_items.walrus_parse.walrus_file_bodies.Laws.{BodiesReadFiles}
+use Rattle.walrus_parsed_linked.specs.walrus_parsed_items.walrus_parse.walrus_file_bodies.Read.{HasLocals, Waits, coded_by, grows_none, names_on, step_filed, step_names, step_on, steps_grow}
+use Rattle.walrus_parsed_linked.specs.walrus_parsed_items.walrus_parse.walrus_file_bodies.Ready.{bodies_in}
+use Rattle.walrus_parsed_linked.specs.walrus_parsed_items.walrus_parse.walrus_file_bodies.walrus_items_into.Laws.{FilledFunctionsStand, FilledModulesAreFiled}
+use Rattle.walrus_parsed_linked.specs.walrus_parsed_items.walrus_parse.walrus_file_bodies.walrus_items_into.Numbers.{types_in}
+use Rattle.walrus_parsed_linked.specs.walrus_parsed_items.walrus_parse.walrus_file_bodies.walrus_items_into.walrus_functions_into.Laws.{read_bodies}
+use Rattle.walrus_parsed_linked.specs.walrus_parsed_items.walrus_parse.walrus_file_bodies.walrus_items_into.walrus_functions_into.declared.bodies.FunctionBody.{FunctionBody}
+use Rattle.walrus_parsed_linked.specs.walrus_parsed_items.walrus_parse.walrus_file_bodies.walrus_items_into.walrus_module_env.Env.{own_pick, tag_type_at}
+use Rattle.walrus_parsed_linked.specs.walrus_parsed_items.walrus_parse.walrus_file_bodies.walrus_items_into.walrus_module_env.Filled.{AreFiled}
+use Rattle.walrus_parsed_linked.specs.walrus_parsed_items.walrus_parse.walrus_file_bodies.walrus_items_into.walrus_tables_into.walrus_sections_into.Becomes.{look_of}
+use Rattle.walrus_parsed_linked.specs.walrus_parsed_items.walrus_parse.walrus_file_bodies.walrus_items_into.walrus_tables_into.walrus_sections_into.Numbers.{upto}
+use Rattle.walrus_parsed_linked.specs.walrus_parsed_items.walrus_parse.walrus_file_bodies.walrus_items_into.walrus_tables_into.walrus_sections_into.Slots.{Become, Filled}
+use Rattle.walrus_parsed_linked.specs.walrus_parsed_items.walrus_parse.walrus_file_bodies.walrus_items_into.walrus_tables_into.walrus_sections_into.Tags.{IsTagOf}
+use Rattle.walrus_parsed_linked.specs.walrus_parsed_items.walrus_parse.walrus_file_bodies.walrus_items_into.walrus_tables_into.walrus_sections_into.walrus_known_sections.Items.{chunk_of, tag_of}
+use Rattle.walrus_parsed_linked.specs.walrus_parsed_items.walrus_parse.walrus_file_bodies.walrus_items_into.walrus_tables_into.walrus_sections_into.walrus_known_sections.State.{state_of}
+use Rattle.walrus_parsed_linked.specs.walrus_parsed_items.walrus_parse.walrus_file_bodies.walrus_items_into.walrus_tables_into.walrus_sections_into.walrus_known_sections.declared.items.Tag.{Tag as ReadTag}
+use Rattle.walrus_parsed_linked.specs.walrus_parsed_items.walrus_parse.walrus_file_bodies.walrus_items_into.wasm_module_rules.wasm_modules.Modules.{around}
+use Rattle.walrus_parsed_linked.specs.walrus_parsed_items.walrus_parse.walrus_file_bodies.walrus_items_into.wasm_sections.Within.{ChunksFit, bodies_inside}
+use Rattle.walrus_parsed_linked.specs.walrus_parsed_items.walrus_parse.walrus_file_bodies.walrus_module_bodies.Steps.{IsStep, State, Steps, state}
+use Rattle.walrus_parsed_linked.specs.walrus_parsed_items.walrus_parse.walrus_file_bodies.walrus_module_bodies.declared.file.FileEnv.{FileEnv}
 use Rattle.walrus_forms.specs.Renaming.{at}
 use Rattle.walrus_function_types.specs.FunctionTypes.{params_at, results_at}
 use Rattle.walrus_function_types.specs.Growth.{EntryTypesGrow, FoundTypesStay, Grows, TablesGrowOn}
-use Rattle.walrus_handler_laws.specs.Handlers.{TreesTell, told_by, tree_ids}
-use Rattle.walrus_handler_laws.specs.Retyping.{Widens}
-use Rattle.walrus_handler_laws.specs.declared.handler.Handler.{Handler}
-use Rattle.walrus_handler_laws.specs.walrus_body_steps.walrus_body_nesting.Opens.{same}
-use Rattle.walrus_handler_laws.specs.walrus_body_steps.walrus_body_nesting.wasm_formats.Formats.{Small}
-use Rattle.walrus_handler_laws.specs.walrus_body_steps.walrus_body_rules.Sights.{Sight}
-use Rattle.walrus_handler_laws.specs.walrus_body_steps.wasm_body_grammar.Bodies.{Parts, body, body_of}
-use Rattle.walrus_handler_laws.specs.walrus_body_steps.wasm_body_grammar.Codes.{Code, ReadsCodes}
-use Rattle.walrus_handler_laws.specs.walrus_body_steps.wasm_body_grammar.Laws.{BodiesReadOnce, ReadsBody}
-use Rattle.walrus_handler_laws.specs.walrus_body_steps.wasm_body_grammar.Rules.{Around}
-use Rattle.walrus_handler_laws.specs.walrus_body_steps.wasm_grammar.Modules as grammar
-use Rattle.walrus_handler_laws.specs.walrus_body_steps.wasm_grammar.States.{types_of}
-use Rattle.walrus_handler_laws.specs.walrus_body_steps.wasm_normal_form.Normal.{normal}
-use Rattle.walrus_handler_types.proofs.Growing.{tree_types_grow}
-use Rattle.walrus_handler_types.specs.Giving.{tree_handlers}
-use Rattle.walrus_operator_laws.specs.Laws.{OperatorComesBack}
-use Rattle.walrus_operator_laws.specs.walrus_pairing.walrus_index_maps.Maps.{Ids}
-use Rattle.walrus_operator_laws.specs.walrus_pairing.wasm_immediates.wasm_features.declared.WasmFeatures.{WasmFeatures}
-use Rattle.walrus_parse.specs.Parsed.{read_features}
-use Rattle.walrus_parse.specs.walrus_item_names.Holder.{Holder}
-use Rattle.walrus_parse.specs.walrus_item_names.Names.{bare_type}
-use Rattle.walrus_parse.specs.walrus_module.walrus_builder.Built.{contents, seq_of}
-use Rattle.walrus_parse.specs.walrus_module.walrus_module_items.declared.tag.Tag.{Tag}
-use Rattle.walrus_parse.specs.walrus_module.walrus_types.Table.{Table}
+use Rattle.walrus_parsed_linked.specs.walrus_parsed_items.walrus_parse.walrus_file_bodies.walrus_items_into.walrus_module_env.walrus_handler_types.walrus_handler_laws.Handlers.{TreesTell, told_by, tree_ids}
+use Rattle.walrus_parsed_linked.specs.walrus_parsed_items.walrus_parse.walrus_file_bodies.walrus_items_into.walrus_module_env.walrus_handler_types.walrus_handler_laws.Retyping.{Widens}
+use Rattle.walrus_parsed_linked.specs.walrus_parsed_items.walrus_parse.walrus_file_bodies.walrus_items_into.walrus_module_env.walrus_handler_types.walrus_handler_laws.declared.handler.Handler.{Handler}
+use Rattle.walrus_parsed_linked.specs.walrus_parsed_items.walrus_parse.walrus_file_bodies.walrus_items_into.walrus_module_env.walrus_handler_types.walrus_handler_laws.walrus_body_steps.walrus_body_nesting.Opens.{same}
+use Rattle.walrus_parsed_linked.specs.walrus_parsed_items.walrus_parse.walrus_file_bodies.walrus_items_into.walrus_module_env.walrus_handler_types.walrus_handler_laws.walrus_body_steps.walrus_body_nesting.wasm_formats.Formats.{Small}
+use Rattle.walrus_parsed_linked.specs.walrus_parsed_items.walrus_parse.walrus_file_bodies.walrus_items_into.walrus_module_env.walrus_handler_types.walrus_handler_laws.walrus_body_steps.walrus_body_rules.Sights.{Sight}
+use Rattle.walrus_parsed_linked.specs.walrus_parsed_items.walrus_parse.walrus_file_bodies.walrus_items_into.walrus_module_env.walrus_handler_types.walrus_handler_laws.walrus_body_steps.wasm_body_grammar.Bodies.{Parts, body, body_of}
+use Rattle.walrus_parsed_linked.specs.walrus_parsed_items.walrus_parse.walrus_file_bodies.walrus_items_into.walrus_module_env.walrus_handler_types.walrus_handler_laws.walrus_body_steps.wasm_body_grammar.Codes.{Code, ReadsCodes}
+use Rattle.walrus_parsed_linked.specs.walrus_parsed_items.walrus_parse.walrus_file_bodies.walrus_items_into.walrus_module_env.walrus_handler_types.walrus_handler_laws.walrus_body_steps.wasm_body_grammar.Laws.{BodiesReadOnce, ReadsBody}
+use Rattle.walrus_parsed_linked.specs.walrus_parsed_items.walrus_parse.walrus_file_bodies.walrus_items_into.walrus_module_env.walrus_handler_types.walrus_handler_laws.walrus_body_steps.wasm_body_grammar.Rules.{Around}
+use Rattle.walrus_parsed_linked.specs.walrus_parsed_items.walrus_parse.walrus_file_bodies.walrus_items_into.walrus_module_env.walrus_handler_types.walrus_handler_laws.walrus_body_steps.wasm_grammar.Modules as grammar
+use Rattle.walrus_parsed_linked.specs.walrus_parsed_items.walrus_parse.walrus_file_bodies.walrus_items_into.walrus_module_env.walrus_handler_types.walrus_handler_laws.walrus_body_steps.wasm_grammar.States.{types_of}
+use Rattle.walrus_parsed_linked.specs.walrus_parsed_items.walrus_parse.walrus_file_bodies.walrus_items_into.walrus_module_env.walrus_handler_types.walrus_handler_laws.walrus_body_steps.wasm_normal_form.Normal.{normal}
+use Rattle.walrus_parsed_linked.proofs.walrus_parse.walrus_handler_types.Growing.{tree_types_grow}
+use Rattle.walrus_parsed_linked.specs.walrus_parsed_items.walrus_parse.walrus_file_bodies.walrus_items_into.walrus_module_env.walrus_handler_types.Giving.{tree_handlers}
+use Rattle.walrus_parsed_linked.specs.walrus_operator_laws.Laws.{OperatorComesBack}
+use Rattle.walrus_parsed_linked.specs.walrus_operator_laws.walrus_pairing.walrus_index_maps.Maps.{Ids}
+use Rattle.walrus_parsed_linked.specs.walrus_operator_laws.walrus_pairing.wasm_immediates.wasm_features.declared.WasmFeatures.{WasmFeatures}
+use Rattle.walrus_parsed_linked.specs.walrus_parsed_items.walrus_parse.Parsed.{read_features}
+use Rattle.walrus_parsed_linked.specs.walrus_parsed_items.walrus_parse.walrus_item_names.Holder.{Holder}
+use Rattle.walrus_parsed_linked.specs.walrus_parsed_items.walrus_parse.walrus_item_names.Names.{bare_type}
+use Rattle.walrus_parsed_linked.specs.walrus_parsed_items.walrus_parse.walrus_module.walrus_builder.Built.{contents, seq_of}
+use Rattle.walrus_parsed_linked.specs.walrus_parsed_items.walrus_parse.walrus_module.walrus_module_items.declared.tag.Tag.{Tag}
+use Rattle.walrus_parsed_linked.specs.walrus_parsed_items.walrus_parse.walrus_module.walrus_types.Table.{Table}
 use Rattle.walrus_parsed_groups.specs.Added.{Signature}
 use Rattle.walrus_parsed_groups.specs.Catches.{catches}
 use Rattle.walrus_parsed_groups.specs.Files.{ReadModulesHaveHandlers, bodies_handle, body_handles, sent}

@@ -12,3 +12,5 @@ mod ReadLemmas
 mod TellLemmas
 mod NamedLemmas
 mod HandlerLemmas
+-- Passed on to crates above, which then list this one alone.
+pub use Rattle.walrus_parsed_linked.proofs as walrus_parsed_linked

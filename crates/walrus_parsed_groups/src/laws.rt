@@ -5,15 +5,14 @@ ghost use Rattle.walrus_parsed_groups.specs.Groups.{ReadModulesHaveGroups};
 ghost use Rattle.walrus_parsed_groups.specs.Texts.{ReadModulesTellTexts};
 
 use walrus_function_types::laws::{entry_types_grow, found_types_stay, tables_grow_on};
-use walrus_handler_laws::laws::trees_tell;
-use walrus_into_laws::groups::{groups_mean, read_types_are_declared};
-use walrus_into_laws::types_into::laws::types_name_below;
-use walrus_operator_laws::laws::operators_come_back;
-use walrus_parse::file_bodies::items_into::laws::{
-    filled_functions_stand, filled_modules_are_filed,
-};
-use walrus_parse::file_bodies::laws::bodies_read_files;
-use wasm_body_grammar::laws::bodies_read_once;
+use walrus_parsed_linked::body_grammar::laws::bodies_read_once;
+use walrus_parsed_linked::handler_laws::laws::trees_tell;
+use walrus_parsed_linked::into_laws::groups::{groups_mean, read_types_are_declared};
+use walrus_parsed_linked::items_into::laws::filled_modules_are_filed;
+use walrus_parsed_linked::operator_laws::laws::operators_come_back;
+use walrus_parsed_linked::parsed_bodies::file_bodies::items_into::laws::filled_functions_stand;
+use walrus_parsed_linked::parsed_bodies::file_bodies::laws::bodies_read_files;
+use walrus_parsed_linked::parsed_items::into_laws::types_into::laws::types_name_below;
 use wasm_operator_ranges::laws::operators_in_range_are_spelled;
 
 /// The groups of types of a module that was read are those of its file, but for single types that are merged with earlier ones, each type's

@@ -8,7 +8,7 @@ use Rattle.walrus_into_laws.specs.walrus_meaning.walrus_local_function.walrus_bo
 use Rattle.walrus_into_laws.specs.walrus_meaning.walrus_local_function.walrus_body_locals.wasm_grammar.Modules.{Expr}
 use Rattle.walrus_into_laws.specs.walrus_meaning.walrus_local_function.walrus_body_locals.wasm_grammar.Values.{must}
 use Rattle.wasm_module_rules.specs.Keeps.{first_none, must_holds}
-use Rattle.wasm_ruled_modules.specs.Rules.{AreKnown, IsExpr}
+use Rattle.wasm_import_links.specs.wasm_ruled_modules.Rules.{AreKnown, IsExpr}
 use Rattle.walrus_into_laws.specs.walrus_meaning.walrus_body_writer.walrus_pairing.walrus_operator_codes.wasm_operators.Operators.{Seen}
 use Rattle.walrus_into_laws.specs.walrus_meaning.walrus_local_function.walrus_body_locals.wasm_body_grammar.wasm_operator_bytes.Names.{renamed_heap, renamed_item, renamed_operator}
 use Rattle.walrus_into_laws.specs.walrus_meaning.walrus_local_function.walrus_body_locals.wasm_ref_types.declared.heap.HeapType.{HeapType as Read}
@@ -26,8 +26,8 @@ use Rattle.walrus_marks.specs.Named.{items_of}
 use Rattle.walrus_marks.specs.walrus_walks.ConstEvents.{ExprsTellOps, expr_names, op_names}
 use Rattle.walrus_marks.specs.walrus_walks.Events.{Event, events_of, ref_names}
 use Rattle.walrus_into_laws.specs.walrus_meaning.Words.{const_seen, own_expr, own_heap}
-use Rattle.walrus_parse.specs.walrus_file_bodies.walrus_items_into.walrus_tables_into.walrus_sections.walrus_roots.Items.{item}
-use Rattle.walrus_parse.specs.walrus_file_bodies.walrus_items_into.walrus_tables_into.walrus_sections.walrus_roots.declared.item.Item.{Item}
+use Rattle.walrus_into_laws.specs.walrus_parse.walrus_file_bodies.walrus_items_into.walrus_tables_into.walrus_sections.walrus_roots.Items.{item}
+use Rattle.walrus_into_laws.specs.walrus_parse.walrus_file_bodies.walrus_items_into.walrus_tables_into.walrus_sections.walrus_roots.declared.item.Item.{Item}
 use Rattle.walrus_parsed_items.proofs.ListLemmas.{AllOf, cons_head, cons_tail, items_join}
 
 -- of what is known, it holds of each item

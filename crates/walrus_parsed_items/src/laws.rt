@@ -5,17 +5,15 @@ ghost use Rattle.walrus_parsed_items.specs.Links.{ReadModulesHaveLinks};
 ghost use Rattle.walrus_parsed_items.specs.Named.{NamesOfReadItemsLive};
 
 use walrus_function_types::laws::{found_types_stay, tables_grow_on};
+use walrus_into_laws::file_bodies::laws::bodies_read_files;
+use walrus_into_laws::functions_into::laws::read_functions_stand;
 use walrus_into_laws::groups::read_types_are_declared;
+use walrus_into_laws::types_into::laws::{new_types_stand, types_name_below};
 use walrus_into_laws::{functions_fill, module_means, ordered_stay};
-use walrus_parse::file_bodies::items_into::functions_into::laws::read_functions_stand;
-use walrus_parse::file_bodies::items_into::functions_into::types_into::laws::{
-    new_types_stand, types_name_below,
-};
-use walrus_parse::file_bodies::laws::bodies_read_files;
 use walrus_walks::visit_laws::expressions_tell_their_operators;
 use wasm_import_links::laws::{read_modules_are_full, read_modules_link};
+use wasm_import_links::ruled_modules::laws::read_modules_are_ruled;
 use wasm_module_rules::laws::read_modules_are_linked;
-use wasm_ruled_modules::laws::read_modules_are_ruled;
 
 /// A module that was read means the items of the file's module, each at its place, types inside them under the ids that their numbers are
 /// found to have; groups of types and bodies aside (Core Specification, binary format: modules).

@@ -4,10 +4,10 @@ use Rattle.std.specs.Option.{option_map}
 use Rattle.std.proofs.Common.{ap, sym, ◌∙◌, subst, arith, inl, inr}
 use Rattle.std.proofs.lemmas.List.{length-map}
 use Rattle.std.proofs.lemmas.Option.{get_or_from_slice_get, slice_get_within}
-use Rattle.walrus_handler_types.specs.walrus_body_steps.wasm_body_grammar.Rules.{Around, space_of}
-use Rattle.walrus_handler_types.specs.walrus_body_steps.walrus_body_nesting.wasm_formats.declared.fault.Space.{Space}
-use Rattle.walrus_handler_types.specs.walrus_body_steps.walrus_body_nesting.wasm_formats.declared.fault.Space.TheVariants as spaces
-use Rattle.walrus_handler_types.specs.walrus_body_steps.wasm_grammar.States.{types_of}
+use Rattle.walrus_parsed_locals.specs.walrus_parsed_bodies.walrus_parsed_items.walrus_parse.walrus_file_bodies.walrus_items_into.walrus_module_env.walrus_handler_types.walrus_body_steps.wasm_body_grammar.Rules.{Around, space_of}
+use Rattle.walrus_parsed_locals.specs.walrus_parsed_bodies.walrus_parsed_items.walrus_parse.walrus_file_bodies.walrus_items_into.walrus_module_env.walrus_handler_types.walrus_body_steps.walrus_body_nesting.wasm_formats.declared.fault.Space.{Space}
+use Rattle.walrus_parsed_locals.specs.walrus_parsed_bodies.walrus_parsed_items.walrus_parse.walrus_file_bodies.walrus_items_into.walrus_module_env.walrus_handler_types.walrus_body_steps.walrus_body_nesting.wasm_formats.declared.fault.Space.TheVariants as spaces
+use Rattle.walrus_parsed_locals.specs.walrus_parsed_bodies.walrus_parsed_items.walrus_parse.walrus_file_bodies.walrus_items_into.walrus_module_env.walrus_handler_types.walrus_body_steps.wasm_grammar.States.{types_of}
 use Rattle.walrus_parsed_locals.specs.walrus_parsed_bodies.walrus_parsed_items.walrus_into_laws.walrus_meaning.walrus_linked.walrus_body_writer.walrus_pairing.wasm_immediates.Items.{Space as Numbered, Types, Functions, Tables, Memories, Tags, Globals, ElementSegments, DataSegments, Locals, Labels}
 use Rattle.walrus_parsed_locals.specs.walrus_parsed_bodies.walrus_parsed_items.walrus_parse.walrus_file_bodies.walrus_items_into.wasm_module_rules.wasm_modules.Modules.{around}
 use Rattle.walrus_parsed_locals.specs.walrus_parsed_bodies.walrus_parsed_items.walrus_parse.walrus_file_bodies.walrus_items_into.wasm_sections.Within.{ChunksFit}
@@ -38,9 +38,9 @@ use Rattle.walrus_parsed_locals.specs.walrus_parsed_bodies.walrus_parsed_items.w
 use Rattle.walrus_parsed_locals.specs.walrus_parsed_bodies.walrus_parsed_items.walrus_into_laws.walrus_meaning.walrus_linked.Linked.{GroupsAreWritten}
 use Rattle.walrus_parsed_locals.specs.walrus_parsed_bodies.walrus_parsed_items.walrus_into_laws.walrus_meaning.walrus_linked.Names.{body_events, body_names, function_names, local_names, named_by, names, names_in, type_names, used_types}
 use Rattle.walrus_parsed_locals.specs.walrus_parsed_bodies.walrus_parsed_items.walrus_into_laws.walrus_meaning.walrus_linked.walrus_local_function.declared.local_function.LocalFunction.{LocalFunction}
-use Rattle.walrus_marks.specs.Named.{items_of}
-use Rattle.walrus_marks.specs.walrus_walks.Events.{Event, NamesLocal, events_of}
-use Rattle.walrus_marks.specs.walrus_walks.Walk.{body_walk}
+use Rattle.walrus_body_walks.specs.walrus_marks.Named.{items_of}
+use Rattle.walrus_body_walks.specs.walrus_marks.walrus_walks.Events.{Event, NamesLocal, events_of}
+use Rattle.walrus_body_walks.specs.walrus_marks.walrus_walks.Walk.{body_walk}
 use Rattle.walrus_parsed_locals.specs.walrus_parsed_bodies.walrus_parsed_items.walrus_into_laws.walrus_meaning.walrus_linked.walrus_module.Items.{Lives, written}
 use Rattle.walrus_parsed_locals.specs.walrus_parsed_bodies.walrus_parsed_items.walrus_into_laws.walrus_meaning.walrus_linked.walrus_module.Parts.{Module, parts}
 use Rattle.walrus_parsed_locals.specs.walrus_parsed_bodies.walrus_parsed_items.walrus_parse.walrus_file_bodies.walrus_module_bodies.Steps.{State, state}

@@ -6,6 +6,7 @@ ghost use Rattle.walrus_parsed_linked.specs.Types.{NamesOfReadTypesLive};
 
 use walrus_body_walks::laws::{handlers_have_answers, walks_name_answers};
 use walrus_function_types::laws::{entry_types_grow, found_types_stay, tables_grow_on};
+use walrus_parsed_locals::import_links::laws::read_modules_are_full;
 use walrus_parsed_locals::parsed_bodies::file_bodies::items_into::laws::{
     filled_functions_stand, filled_modules_are_filed,
 };
@@ -19,8 +20,7 @@ use walrus_parsed_locals::parsed_bodies::parsed_items::into_laws::types_into::la
 use walrus_parsed_locals::parsed_bodies::parsed_items::laws::{
     names_of_read_items_live, read_modules_have_items, read_modules_have_links,
 };
-use wasm_import_links::laws::read_modules_are_full;
-use wasm_ruled_modules::laws::read_modules_are_ruled;
+use walrus_parsed_locals::ruled_modules::laws::read_modules_are_ruled;
 
 /// In a module that was read, what the type of each index of the file names lives: the types of its form, and its supertype.
 pub fn names_of_read_types_live<B>()

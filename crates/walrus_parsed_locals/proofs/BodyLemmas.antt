@@ -4,9 +4,9 @@ use Rattle.std.specs.List.{filter, flat_map, range_with_len}
 use Rattle.std.specs.Option.{unwrap_or}
 use Rattle.std.proofs.Common.{ap, sym, ◌∙◌, subst, arith, inl, inr}
 use Rattle.std.proofs.lemmas.List.{length-append, length-map}
-use Rattle.wasm_body_grammar.specs.Rules.{Around}
-use Rattle.wasm_body_grammar.specs.wasm_grammar.Modules as grammar
-use Rattle.wasm_body_grammar.specs.wasm_operator_bytes.wasm_immediates.Items.{Locals}
+use Rattle.walrus_parsed_bodies.specs.walrus_parsed_items.walrus_body_trees.walrus_body_nesting.wasm_body_grammar.Rules.{Around}
+use Rattle.walrus_parsed_bodies.specs.walrus_parsed_items.walrus_body_trees.walrus_body_nesting.wasm_body_grammar.wasm_grammar.Modules as grammar
+use Rattle.walrus_parsed_bodies.specs.walrus_parsed_items.walrus_body_trees.walrus_body_nesting.wasm_body_grammar.wasm_operator_bytes.wasm_immediates.Items.{Locals}
 use Rattle.walrus_parsed_bodies.specs.walrus_parsed_items.walrus_into_laws.walrus_meaning.walrus_local_function.walrus_body_locals.wasm_normal_form.Bodies.{is_used, local_in, locals_named, new_number, used_keys}
 use Rattle.walrus_parsed_bodies.specs.walrus_parsed_items.walrus_into_laws.walrus_meaning.walrus_local_function.walrus_body_locals.wasm_normal_form.Locals.{Key, in_order, numbered}
 use Rattle.walrus_parsed_bodies.specs.walrus_parsed_items.walrus_into_laws.walrus_meaning.walrus_local_function.walrus_body_locals.wasm_normal_form.Normal.{normal_ops}
@@ -14,8 +14,8 @@ use Rattle.walrus_parsed_bodies.specs.walrus_parsed_items.walrus_into_laws.walru
 use Rattle.walrus_parsed_bodies.specs.walrus_parsed_items.walrus_parse.walrus_file_bodies.walrus_items_into.walrus_module_env.wasm_run_names.Picks.{block_pick}
 use Rattle.walrus_parsed_bodies.specs.walrus_parsed_items.walrus_into_laws.walrus_meaning.walrus_local_function.walrus_body_locals.Locals.{ids_from}
 use Rattle.walrus_parsed_bodies.specs.walrus_parsed_items.walrus_body_trees.Laws.{meant, renamed}
-use Rattle.wasm_body_grammar.specs.wasm_grammar.walrus_forms.Renaming.{at, renamed_value}
-use Rattle.wasm_body_grammar.specs.wasm_grammar.walrus_forms.declared.value.ValType.{ValType}
+use Rattle.walrus_parsed_bodies.specs.walrus_parsed_items.walrus_body_trees.walrus_body_nesting.wasm_body_grammar.wasm_grammar.walrus_forms.Renaming.{at, renamed_value}
+use Rattle.walrus_parsed_bodies.specs.walrus_parsed_items.walrus_body_trees.walrus_body_nesting.wasm_body_grammar.wasm_grammar.walrus_forms.declared.value.ValType.{ValType}
 use Rattle.walrus_parsed_bodies.specs.walrus_parsed_items.walrus_into_laws.walrus_meaning.walrus_body_writer.walrus_pairing.walrus_index_maps.Maps.{Ids}
 use Rattle.walrus_parsed_bodies.specs.walrus_parsed_items.walrus_into_laws.walrus_meaning.walrus_body_writer.walrus_pairing.walrus_items.declared.local.Local.{Local}
 use Rattle.walrus_parsed_bodies.specs.walrus_parsed_items.walrus_into_laws.walrus_meaning.walrus_local_function.declared.local_function.LocalFunction.{LocalFunction}

@@ -7,7 +7,7 @@ use Rattle.std.proofs.lemmas.Bool.{cases_lt, eqb-true, le-ltb, lt-ltb}
 use Rattle.std.proofs.lemmas.List.{map-append}
 use Rattle.std.proofs.lemmas.List.FromFn.{length-range_with_len}
 use Rattle.std.proofs.lemmas.Option.{slice_get-map}
-use Rattle.wasm_body_grammar.specs.wasm_grammar.walrus_forms.declared.value.ValType.{ValType}
+use Rattle.walrus_parsed_bodies.specs.walrus_parsed_items.walrus_body_trees.walrus_body_nesting.wasm_body_grammar.wasm_grammar.walrus_forms.declared.value.ValType.{ValType}
 use Rattle.walrus_parsed_bodies.specs.walrus_parsed_items.walrus_into_laws.walrus_meaning.walrus_local_function.walrus_body_locals.wasm_normal_form.Bodies.{new_number}
 use Rattle.walrus_parsed_bodies.specs.walrus_parsed_items.walrus_into_laws.walrus_meaning.walrus_local_function.walrus_body_locals.wasm_normal_form.Locals.{Key, in_order, insert_key, is_less, key_cmp, numbered, position}
 use Rattle.walrus_parsed_locals.proofs.KeyLemmas.{at_position, has, has_order, has_passing, moved, numbers, passing}

@@ -1,21 +1,21 @@
 -- Lemmas: a body that meets the rules names locals of its function alone, and so does its normal form.
 use Rattle.std.specs.Prelude.{ℕ, ◌≡◌, ◌+◌, true, nat_lt, List, [], ◌∷◌, length, map, Some, None}
 use Rattle.std.proofs.lemmas.Bool.{ltb-true}
-use Rattle.wasm_body_grammar.specs.Bodies.{frames_of}
-use Rattle.wasm_body_grammar.specs.Frames.{Frame, turned}
-use Rattle.wasm_body_grammar.specs.Rules.{Around, names_test, room, space_of}
-use Rattle.wasm_body_grammar.specs.wasm_formats.Stops.{Index}
-use Rattle.wasm_body_grammar.specs.wasm_grammar.Modules as grammar
-use Rattle.wasm_body_grammar.specs.wasm_grammar.Values.{must}
-use Rattle.wasm_body_grammar.specs.wasm_operator_bytes.wasm_immediates.Items.{Space, Types, Functions, Tables, Memories, Tags, Globals, ElementSegments, DataSegments, Locals, Labels}
-use Rattle.wasm_body_grammar.specs.wasm_operator_bytes.wasm_immediates.declared.block_type.BlockType.{BlockType}
+use Rattle.walrus_parsed_bodies.specs.walrus_parsed_items.walrus_body_trees.walrus_body_nesting.wasm_body_grammar.Bodies.{frames_of}
+use Rattle.walrus_parsed_bodies.specs.walrus_parsed_items.walrus_body_trees.walrus_body_nesting.wasm_body_grammar.Frames.{Frame, turned}
+use Rattle.walrus_parsed_bodies.specs.walrus_parsed_items.walrus_body_trees.walrus_body_nesting.wasm_body_grammar.Rules.{Around, names_test, room, space_of}
+use Rattle.walrus_parsed_bodies.specs.walrus_parsed_items.walrus_body_trees.walrus_body_nesting.wasm_body_grammar.wasm_formats.Stops.{Index}
+use Rattle.walrus_parsed_bodies.specs.walrus_parsed_items.walrus_body_trees.walrus_body_nesting.wasm_body_grammar.wasm_grammar.Modules as grammar
+use Rattle.walrus_parsed_bodies.specs.walrus_parsed_items.walrus_body_trees.walrus_body_nesting.wasm_body_grammar.wasm_grammar.Values.{must}
+use Rattle.walrus_parsed_bodies.specs.walrus_parsed_items.walrus_body_trees.walrus_body_nesting.wasm_body_grammar.wasm_operator_bytes.wasm_immediates.Items.{Space, Types, Functions, Tables, Memories, Tags, Globals, ElementSegments, DataSegments, Locals, Labels}
+use Rattle.walrus_parsed_bodies.specs.walrus_parsed_items.walrus_body_trees.walrus_body_nesting.wasm_body_grammar.wasm_operator_bytes.wasm_immediates.declared.block_type.BlockType.{BlockType}
 use Rattle.walrus_parsed_bodies.specs.walrus_parsed_items.walrus_parse.walrus_file_bodies.walrus_items_into.wasm_module_rules.Keeps.{first_none, must_holds}
 use Rattle.walrus_parsed_bodies.specs.walrus_parsed_items.walrus_into_laws.walrus_meaning.walrus_local_function.walrus_body_locals.wasm_normal_form.Bodies.{locals_named}
 use Rattle.walrus_parsed_bodies.specs.walrus_parsed_items.walrus_into_laws.walrus_meaning.walrus_local_function.walrus_body_locals.wasm_normal_form.Normal.{normal_ops}
 use Rattle.walrus_parsed_bodies.specs.walrus_parsed_items.walrus_into_laws.walrus_meaning.walrus_local_function.walrus_body_locals.wasm_normal_form.Roles.{placed}
-use Rattle.wasm_body_grammar.specs.wasm_operator_bytes.Names.{Name, operator_names}
-use Rattle.wasm_body_grammar.specs.wasm_operators.Operators.{flow_of}
-use Rattle.wasm_ruled_modules.specs.Rules.{AreOperators, IsBody}
+use Rattle.walrus_parsed_bodies.specs.walrus_parsed_items.walrus_body_trees.walrus_body_nesting.wasm_body_grammar.wasm_operator_bytes.Names.{Name, operator_names}
+use Rattle.walrus_parsed_bodies.specs.walrus_parsed_items.walrus_body_trees.walrus_body_nesting.wasm_body_grammar.wasm_operators.Operators.{flow_of}
+use Rattle.walrus_parsed_bodies.specs.walrus_parsed_items.wasm_import_links.wasm_ruled_modules.Rules.{AreOperators, IsBody}
 use Rattle.walrus_parsed_locals.proofs.NameLemmas.{AllOf, Below, LocalBelow, LocalsBelow, NameBelow, items_below, locals_below}
 use Rattle.walrus_parsed_locals.proofs.NormalLemmas.{normal_ops_in}
 

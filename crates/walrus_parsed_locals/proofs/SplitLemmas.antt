@@ -5,7 +5,7 @@ use Rattle.std.proofs.Math.Bool.{and-true}
 use Rattle.std.proofs.lemmas.Bool.{and_left, and_right}
 use Rattle.std.proofs.lemmas.List.{append-nil}
 use Rattle.std.proofs.lemmas.List.Elements.{filter-append}
-use Rattle.wasm_body_grammar.specs.wasm_grammar.walrus_forms.declared.value.ValType.{ValType}
+use Rattle.walrus_parsed_bodies.specs.walrus_parsed_items.walrus_body_trees.walrus_body_nesting.wasm_body_grammar.wasm_grammar.walrus_forms.declared.value.ValType.{ValType}
 use Rattle.walrus_parsed_bodies.specs.walrus_parsed_items.walrus_into_laws.walrus_meaning.walrus_local_function.walrus_body_locals.wasm_normal_form.Locals.{Key, in_order, numbered}
 use Rattle.walrus_parsed_locals.proofs.KeyLemmas.{has, moved, none_pass, numbered_append, order_moved, pass_moved, passing}
 use Rattle.walrus_parsed_locals.proofs.NameLemmas.{AllOf, Below, has_moved, none_before, none_behind}

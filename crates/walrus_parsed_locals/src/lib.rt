@@ -4,6 +4,40 @@
 pub mod laws;
 
 // Passed on to crates above, which then list this one alone.
+pub mod body_grammar {
+    pub mod laws {
+        pub use walrus_parsed_bodies::body_grammar::laws::bodies_read_once;
+    }
+}
+
+pub mod import_links {
+    pub mod laws {
+        pub use walrus_parsed_bodies::import_links::laws::read_modules_are_full;
+    }
+}
+
+pub mod into_laws {
+    pub mod groups {
+        pub use walrus_parsed_bodies::into_laws::groups::groups_mean;
+    }
+}
+
+pub mod items_into {
+    pub mod laws {
+        pub use walrus_parsed_bodies::items_into::laws::named_locals_count;
+    }
+}
+
+pub mod module_env {
+    pub mod laws {
+        pub use walrus_parsed_bodies::module_env::laws::picks_are_seen;
+    }
+}
+
+pub mod parse {
+    pub use walrus_parsed_bodies::parse::{FromBuffer, Parse, parse_into};
+}
+
 pub mod parsed_bodies {
     pub mod file_bodies {
         pub mod items_into {
@@ -47,5 +81,11 @@ pub mod parsed_bodies {
                 names_of_read_items_live, read_modules_have_items, read_modules_have_links,
             };
         }
+    }
+}
+
+pub mod ruled_modules {
+    pub mod laws {
+        pub use walrus_parsed_bodies::ruled_modules::laws::read_modules_are_ruled;
     }
 }

@@ -10,4 +10,4 @@ mod NameLemmas
 mod SizeLemmas
 mod MeanLemmas
 -- Passed on to crates above, which then list this one alone.
-pub use Rattle.walrus_parsed_linked.proofs as walrus_parsed_linked
+pub use Rattle.walrus_parsed_groups.proofs.walrus_parsed_linked as walrus_parsed_linked

@@ -8,37 +8,37 @@ use Rattle.std.proofs.lemmas.List.{append_assoc, length-append, map-append}
 use Rattle.std.proofs.lemmas.List.Elements.{All-head, All-tail}
 use Rattle.std.proofs.lemmas.Option.{slice_get-map}
 use Rattle.walrus_arena.specs.Arena.{Arena}
-use Rattle.walrus_handler_types.specs.walrus_body_steps.wasm_body_grammar.wasm_grammar.walrus_forms.Forms.{Form, FunctionForm, StructForm, ArrayForm, params_of}
-use Rattle.walrus_handler_types.specs.walrus_body_steps.wasm_body_grammar.wasm_grammar.walrus_forms.Kinds.{Kind}
-use Rattle.walrus_handler_types.specs.walrus_body_steps.wasm_body_grammar.wasm_grammar.walrus_forms.Renaming.{at, renamed_form, renamed_kind, renamed_value}
-use Rattle.walrus_handler_types.specs.walrus_body_steps.wasm_body_grammar.wasm_grammar.walrus_forms.declared.value.ValType.{ValType}
-use Rattle.walrus_parsed_linked.specs.walrus_parsed_items.walrus_parse.walrus_module.walrus_types.walrus_items.declared.local.Local.{Local}
-use Rattle.walrus_handler_types.specs.walrus_tree.walrus_walks.walrus_types.Items.{Item}
-use Rattle.walrus_parsed_linked.specs.walrus_parsed_items.walrus_parse.walrus_module.walrus_types.Table.{Table, type_at}
+use Rattle.walrus_parsed_groups.specs.walrus_parsed_linked.walrus_parsed_items.walrus_parse.walrus_file_bodies.walrus_items_into.walrus_module_env.walrus_handler_types.walrus_body_steps.wasm_body_grammar.wasm_grammar.walrus_forms.Forms.{Form, FunctionForm, StructForm, ArrayForm, params_of}
+use Rattle.walrus_parsed_groups.specs.walrus_parsed_linked.walrus_parsed_items.walrus_parse.walrus_file_bodies.walrus_items_into.walrus_module_env.walrus_handler_types.walrus_body_steps.wasm_body_grammar.wasm_grammar.walrus_forms.Kinds.{Kind}
+use Rattle.walrus_parsed_groups.specs.walrus_parsed_linked.walrus_parsed_items.walrus_parse.walrus_file_bodies.walrus_items_into.walrus_module_env.walrus_handler_types.walrus_body_steps.wasm_body_grammar.wasm_grammar.walrus_forms.Renaming.{at, renamed_form, renamed_kind, renamed_value}
+use Rattle.walrus_parsed_groups.specs.walrus_parsed_linked.walrus_parsed_items.walrus_parse.walrus_file_bodies.walrus_items_into.walrus_module_env.walrus_handler_types.walrus_body_steps.wasm_body_grammar.wasm_grammar.walrus_forms.declared.value.ValType.{ValType}
+use Rattle.walrus_parsed_groups.specs.walrus_parsed_linked.walrus_parsed_items.walrus_parse.walrus_module.walrus_types.walrus_items.declared.local.Local.{Local}
+use Rattle.walrus_parsed_groups.specs.walrus_parsed_linked.walrus_parsed_items.walrus_parse.walrus_file_bodies.walrus_items_into.walrus_module_env.walrus_handler_types.walrus_tree.walrus_walks.walrus_types.Items.{Item}
+use Rattle.walrus_parsed_groups.specs.walrus_parsed_linked.walrus_parsed_items.walrus_parse.walrus_module.walrus_types.Table.{Table, type_at}
 use Rattle.walrus_function_types.specs.Growth.{EntryTypesGrow, FoundTypesStay, Grows, TablesGrowOn}
-use Rattle.walrus_handler_types.specs.walrus_body_steps.wasm_body_grammar.Bodies.{Parts, body_of, declared}
-use Rattle.walrus_handler_types.specs.walrus_body_steps.wasm_body_grammar.Codes.{ReadsCodes}
-use Rattle.walrus_handler_types.specs.walrus_body_steps.wasm_body_grammar.Laws.{BodiesReadOnce, ReadsBody}
-use Rattle.walrus_handler_types.specs.walrus_body_steps.wasm_body_grammar.Rules.{Around}
-use Rattle.walrus_handler_types.specs.walrus_body_steps.wasm_body_grammar.wasm_formats.Formats.{Small}
-use Rattle.walrus_handler_types.specs.walrus_body_steps.wasm_body_grammar.wasm_formats.wasm_features.declared.WasmFeatures.{WasmFeatures}
-use Rattle.walrus_handler_types.specs.walrus_body_steps.wasm_body_grammar.wasm_grammar.Modules as grammar
-use Rattle.walrus_parsed_linked.specs.walrus_parsed_items.walrus_parse.walrus_file_bodies.walrus_items_into.wasm_sections.Within.{ChunksFit}
-use Rattle.walrus_parsed_linked.specs.walrus_parsed_items.walrus_parse.walrus_file_bodies.walrus_items_into.walrus_tables_into.walrus_sections_into.walrus_known_sections.Items.{chunk_of}
-use Rattle.walrus_parsed_linked.specs.walrus_parsed_items.walrus_parse.walrus_file_bodies.walrus_module_bodies.declared.file.FileEnv.{FileEnv}
-use Rattle.walrus_parsed_linked.specs.walrus_parsed_items.walrus_into_laws.walrus_meaning.walrus_module.walrus_builder.Built.{contents}
-use Rattle.walrus_parsed_linked.specs.walrus_parsed_items.walrus_parse.walrus_module.walrus_module_items.declared.function.FunctionKind.TheVariants as kinds
-use Rattle.walrus_parsed_linked.specs.walrus_parsed_items.walrus_parse.walrus_item_names.Names.{bare_function, bare_local, bare_type}
+use Rattle.walrus_parsed_groups.specs.walrus_parsed_linked.walrus_parsed_items.walrus_parse.walrus_file_bodies.walrus_items_into.walrus_module_env.walrus_handler_types.walrus_body_steps.wasm_body_grammar.Bodies.{Parts, body_of, declared}
+use Rattle.walrus_parsed_groups.specs.walrus_parsed_linked.walrus_parsed_items.walrus_parse.walrus_file_bodies.walrus_items_into.walrus_module_env.walrus_handler_types.walrus_body_steps.wasm_body_grammar.Codes.{ReadsCodes}
+use Rattle.walrus_parsed_groups.specs.walrus_parsed_linked.walrus_parsed_items.walrus_parse.walrus_file_bodies.walrus_items_into.walrus_module_env.walrus_handler_types.walrus_body_steps.wasm_body_grammar.Laws.{BodiesReadOnce, ReadsBody}
+use Rattle.walrus_parsed_groups.specs.walrus_parsed_linked.walrus_parsed_items.walrus_parse.walrus_file_bodies.walrus_items_into.walrus_module_env.walrus_handler_types.walrus_body_steps.wasm_body_grammar.Rules.{Around}
+use Rattle.walrus_parsed_groups.specs.walrus_parsed_linked.walrus_parsed_items.walrus_parse.walrus_file_bodies.walrus_items_into.walrus_module_env.walrus_handler_types.walrus_body_steps.wasm_body_grammar.wasm_formats.Formats.{Small}
+use Rattle.walrus_parsed_groups.specs.walrus_parsed_linked.walrus_parsed_items.walrus_parse.walrus_file_bodies.walrus_items_into.walrus_module_env.walrus_handler_types.walrus_body_steps.wasm_body_grammar.wasm_formats.wasm_features.declared.WasmFeatures.{WasmFeatures}
+use Rattle.walrus_parsed_groups.specs.walrus_parsed_linked.walrus_parsed_items.walrus_parse.walrus_file_bodies.walrus_items_into.walrus_module_env.walrus_handler_types.walrus_body_steps.wasm_body_grammar.wasm_grammar.Modules as grammar
+use Rattle.walrus_parsed_groups.specs.walrus_parsed_linked.walrus_parsed_items.walrus_parse.walrus_file_bodies.walrus_items_into.wasm_sections.Within.{ChunksFit}
+use Rattle.walrus_parsed_groups.specs.walrus_parsed_linked.walrus_parsed_items.walrus_parse.walrus_file_bodies.walrus_items_into.walrus_tables_into.walrus_sections_into.walrus_known_sections.Items.{chunk_of}
+use Rattle.walrus_parsed_groups.specs.walrus_parsed_linked.walrus_parsed_items.walrus_parse.walrus_file_bodies.walrus_module_bodies.declared.file.FileEnv.{FileEnv}
+use Rattle.walrus_parsed_groups.specs.walrus_parsed_linked.walrus_parsed_items.walrus_into_laws.walrus_meaning.walrus_module.walrus_builder.Built.{contents}
+use Rattle.walrus_parsed_groups.specs.walrus_parsed_linked.walrus_parsed_items.walrus_parse.walrus_module.walrus_module_items.declared.function.FunctionKind.TheVariants as kinds
+use Rattle.walrus_parsed_groups.specs.walrus_parsed_linked.walrus_parsed_items.walrus_parse.walrus_item_names.Names.{bare_function, bare_local, bare_type}
 use Rattle.walrus_function_types.specs.FunctionTypes.{form_params, params_at}
-use Rattle.walrus_parsed_linked.specs.walrus_parsed_items.walrus_into_laws.walrus_meaning.walrus_local_function.walrus_body_locals.Locals.{Adds, ids_from, locals_from, with_more}
+use Rattle.walrus_parsed_groups.specs.walrus_parsed_linked.walrus_parsed_items.walrus_into_laws.walrus_meaning.walrus_local_function.walrus_body_locals.Locals.{Adds, ids_from, locals_from, with_more}
 use Rattle.walrus_parsed_meaning.specs.Means.{AreApart, LocalIs}
-use Rattle.walrus_parsed_linked.specs.walrus_parsed_items.walrus_parse.walrus_module.walrus_module_items.declared.function.Function.{Function}
-use Rattle.walrus_parsed_linked.specs.walrus_parsed_items.walrus_parse.walrus_file_bodies.walrus_items_into.walrus_functions_into.declared.bodies.FunctionBody.{FunctionBody}
-use Rattle.walrus_operator_laws.specs.walrus_pairing.walrus_index_maps.Maps.{Ids}
-use Rattle.walrus_parsed_linked.specs.walrus_parsed_items.walrus_parse.walrus_file_bodies.walrus_module_bodies.Steps.{IsStep, State, Steps}
-use Rattle.walrus_parsed_linked.proofs.walrus_parsed_bodies.SlotLemmas.{NoneOf, set_cases}
-use Rattle.walrus_parsed_linked.specs.walrus_parsed_items.walrus_parse.walrus_file_bodies.Read.{Waits, coded_by, env_is, env_of, grows_none, others_keep, read_body_reads, step_filed, step_on}
-use Rattle.walrus_parsed_linked.specs.walrus_parsed_items.walrus_parse.walrus_module.walrus_module_items.Functions.{type_of}
+use Rattle.walrus_parsed_groups.specs.walrus_parsed_linked.walrus_parsed_items.walrus_parse.walrus_module.walrus_module_items.declared.function.Function.{Function}
+use Rattle.walrus_parsed_groups.specs.walrus_parsed_linked.walrus_parsed_items.walrus_parse.walrus_file_bodies.walrus_items_into.walrus_functions_into.declared.bodies.FunctionBody.{FunctionBody}
+use Rattle.walrus_parsed_groups.specs.walrus_parsed_linked.walrus_operator_laws.walrus_pairing.walrus_index_maps.Maps.{Ids}
+use Rattle.walrus_parsed_groups.specs.walrus_parsed_linked.walrus_parsed_items.walrus_parse.walrus_file_bodies.walrus_module_bodies.Steps.{IsStep, State, Steps}
+use Rattle.walrus_parsed_groups.proofs.walrus_parsed_linked.walrus_parsed_bodies.SlotLemmas.{NoneOf, set_cases}
+use Rattle.walrus_parsed_groups.specs.walrus_parsed_linked.walrus_parsed_items.walrus_parse.walrus_file_bodies.Read.{Waits, coded_by, env_is, env_of, grows_none, others_keep, read_body_reads, step_filed, step_on}
+use Rattle.walrus_parsed_groups.specs.walrus_parsed_linked.walrus_parsed_items.walrus_parse.walrus_module.walrus_module_items.Functions.{type_of}
 
 pub some_is : {A : Type 0} (x y : A) → Some x ≡ Some y → x ≡ y
 some_is x y e = cc

@@ -2,25 +2,25 @@
 -- form.
 use Rattle.std.specs.Prelude.{ℕ, suc, false, List, [], ◌∷◌, ◌++◌, map, Option, Some, None}
 use Rattle.std.specs.Option.{option_map}
-use Rattle.walrus_handler_types.specs.walrus_body_steps.wasm_body_grammar.Codes.{param_count}
-use Rattle.walrus_handler_types.specs.walrus_body_steps.wasm_body_grammar.wasm_formats.wasm_features.declared.WasmFeatures.{WasmFeatures}
-use Rattle.walrus_handler_types.specs.walrus_body_steps.wasm_body_grammar.wasm_grammar.Modules as grammar
-use Rattle.walrus_handler_types.specs.walrus_body_steps.wasm_body_grammar.wasm_grammar.walrus_forms.Kinds.{Kind}
-use Rattle.walrus_handler_types.specs.walrus_body_steps.wasm_body_grammar.wasm_operator_bytes.wasm_immediates.declared.block_type.BlockType.{BlockType}
-use Rattle.wasm_ruled_modules.specs.Rules.{around_bodies}
-use Rattle.walrus_parsed_linked.specs.walrus_parsed_items.walrus_body_trees.Laws.{renamed}
-use Rattle.walrus_parsed_linked.specs.walrus_parsed_items.walrus_parse.walrus_file_bodies.walrus_items_into.walrus_module_env.wasm_run_names.Picks.{block_pick}
-use Rattle.walrus_parsed_linked.specs.walrus_parsed_items.walrus_into_laws.Groups.{kept}
-use Rattle.walrus_operator_laws.specs.walrus_pairing.walrus_index_maps.Maps.{Ids}
-use Rattle.walrus_handler_types.specs.walrus_body_steps.wasm_normal_form.Bodies.{normal_body}
-use Rattle.walrus_handler_types.specs.walrus_body_steps.wasm_normal_form.Normal.{normal_ops}
-use Rattle.walrus_handler_types.specs.walrus_body_steps.wasm_normal_form.Roles.{Placed}
-use Rattle.walrus_parsed_linked.specs.walrus_parsed_items.walrus_parse.walrus_file_bodies.walrus_items_into.walrus_tables_into.walrus_sections_into.Becomes.{look_of}
+use Rattle.walrus_parsed_groups.specs.walrus_parsed_linked.walrus_parsed_items.walrus_parse.walrus_file_bodies.walrus_items_into.walrus_module_env.walrus_handler_types.walrus_body_steps.wasm_body_grammar.Codes.{param_count}
+use Rattle.walrus_parsed_groups.specs.walrus_parsed_linked.walrus_parsed_items.walrus_parse.walrus_file_bodies.walrus_items_into.walrus_module_env.walrus_handler_types.walrus_body_steps.wasm_body_grammar.wasm_formats.wasm_features.declared.WasmFeatures.{WasmFeatures}
+use Rattle.walrus_parsed_groups.specs.walrus_parsed_linked.walrus_parsed_items.walrus_parse.walrus_file_bodies.walrus_items_into.walrus_module_env.walrus_handler_types.walrus_body_steps.wasm_body_grammar.wasm_grammar.Modules as grammar
+use Rattle.walrus_parsed_groups.specs.walrus_parsed_linked.walrus_parsed_items.walrus_parse.walrus_file_bodies.walrus_items_into.walrus_module_env.walrus_handler_types.walrus_body_steps.wasm_body_grammar.wasm_grammar.walrus_forms.Kinds.{Kind}
+use Rattle.walrus_parsed_groups.specs.walrus_parsed_linked.walrus_parsed_items.walrus_parse.walrus_file_bodies.walrus_items_into.walrus_module_env.walrus_handler_types.walrus_body_steps.wasm_body_grammar.wasm_operator_bytes.wasm_immediates.declared.block_type.BlockType.{BlockType}
+use Rattle.walrus_parsed_groups.specs.walrus_parsed_linked.walrus_parsed_items.wasm_import_links.wasm_ruled_modules.Rules.{around_bodies}
+use Rattle.walrus_parsed_groups.specs.walrus_parsed_linked.walrus_parsed_items.walrus_body_trees.Laws.{renamed}
+use Rattle.walrus_parsed_groups.specs.walrus_parsed_linked.walrus_parsed_items.walrus_parse.walrus_file_bodies.walrus_items_into.walrus_module_env.wasm_run_names.Picks.{block_pick}
+use Rattle.walrus_parsed_groups.specs.walrus_parsed_linked.walrus_parsed_items.walrus_into_laws.Groups.{kept}
+use Rattle.walrus_parsed_groups.specs.walrus_parsed_linked.walrus_operator_laws.walrus_pairing.walrus_index_maps.Maps.{Ids}
+use Rattle.walrus_parsed_groups.specs.walrus_parsed_linked.walrus_parsed_items.walrus_parse.walrus_file_bodies.walrus_items_into.walrus_module_env.walrus_handler_types.walrus_body_steps.wasm_normal_form.Bodies.{normal_body}
+use Rattle.walrus_parsed_groups.specs.walrus_parsed_linked.walrus_parsed_items.walrus_parse.walrus_file_bodies.walrus_items_into.walrus_module_env.walrus_handler_types.walrus_body_steps.wasm_normal_form.Normal.{normal_ops}
+use Rattle.walrus_parsed_groups.specs.walrus_parsed_linked.walrus_parsed_items.walrus_parse.walrus_file_bodies.walrus_items_into.walrus_module_env.walrus_handler_types.walrus_body_steps.wasm_normal_form.Roles.{Placed}
+use Rattle.walrus_parsed_groups.specs.walrus_parsed_linked.walrus_parsed_items.walrus_parse.walrus_file_bodies.walrus_items_into.walrus_tables_into.walrus_sections_into.Becomes.{look_of}
 use Rattle.walrus_parsed_groups.specs.Added.{single}
-use Rattle.walrus_parsed_linked.specs.walrus_parsed_items.walrus_into_laws.Meaning.{type_id}
-use Rattle.walrus_parsed_linked.specs.walrus_parsed_items.walrus_into_laws.Renamed.{each, retyped_element, retyped_global, retyped_segment, retyped_table, retyped_tag}
-use Rattle.walrus_parsed_linked.specs.walrus_parsed_locals.Locals.{typed}
-use Rattle.walrus_parsed_linked.specs.walrus_parsed_bodies.Texts.{naming, text_of}
+use Rattle.walrus_parsed_groups.specs.walrus_parsed_linked.walrus_parsed_items.walrus_into_laws.Meaning.{type_id}
+use Rattle.walrus_parsed_groups.specs.walrus_parsed_linked.walrus_parsed_items.walrus_into_laws.Renamed.{each, retyped_element, retyped_global, retyped_segment, retyped_table, retyped_tag}
+use Rattle.walrus_parsed_groups.specs.walrus_parsed_linked.walrus_parsed_locals.Locals.{typed}
+use Rattle.walrus_parsed_groups.specs.walrus_parsed_linked.walrus_parsed_bodies.Texts.{naming, text_of}
 
 -- what block types of a file's bodies are picked as
 abbrev pub picks : WasmFeatures → grammar.Module → BlockType → BlockType

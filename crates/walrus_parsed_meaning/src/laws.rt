@@ -7,19 +7,17 @@ use walrus_parsed_groups::body_grammar::laws::bodies_read_once;
 use walrus_parsed_groups::file_bodies::items_into::laws::{
     filled_modules_are_filed, named_locals_count,
 };
+use walrus_parsed_groups::file_bodies::laws::bodies_read_files;
 use walrus_parsed_groups::into_laws::groups::{groups_mean, read_types_are_declared};
+use walrus_parsed_groups::into_laws::{customs_mean, ordered_stay};
+use walrus_parsed_groups::items_into::laws::filled_functions_stand;
 use walrus_parsed_groups::laws::{read_modules_have_groups, read_modules_have_handlers};
-use walrus_parsed_linked::laws::modules_that_are_read_are_linked;
-use walrus_parsed_linked::parsed_bodies::file_bodies::items_into::laws::filled_functions_stand;
-use walrus_parsed_linked::parsed_bodies::file_bodies::laws::bodies_read_files;
-use walrus_parsed_linked::parsed_bodies::laws::bodies_of_read_modules_mean_theirs;
-use walrus_parsed_linked::parsed_items::into_laws::types_into::laws::{
-    new_types_stand, types_name_below,
-};
-use walrus_parsed_linked::parsed_items::into_laws::{customs_mean, ordered_stay};
-use walrus_parsed_linked::parsed_items::laws::read_modules_have_items;
-use walrus_parsed_linked::parsed_locals::laws::bodies_of_read_modules_have_their_locals;
-use wasm_ruled_modules::laws::read_modules_are_ruled;
+use walrus_parsed_groups::parsed_bodies::laws::bodies_of_read_modules_mean_theirs;
+use walrus_parsed_groups::parsed_items::laws::read_modules_have_items;
+use walrus_parsed_groups::parsed_linked::laws::modules_that_are_read_are_linked;
+use walrus_parsed_groups::parsed_locals::laws::bodies_of_read_modules_have_their_locals;
+use walrus_parsed_groups::ruled_modules::laws::read_modules_are_ruled;
+use walrus_parsed_groups::types_into::laws::{new_types_stand, types_name_below};
 
 /// A module that was read means the module that its bytes read as: the same items, each index the id of what it names, bodies in their
 /// normal forms with the block types that are picked, single types merged with equal earlier ones, and behind these the types of

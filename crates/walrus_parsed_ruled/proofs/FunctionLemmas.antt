@@ -7,24 +7,24 @@ use Rattle.std.proofs.lemmas.Option.{slice_get-map}
 use Rattle.walrus_types.specs.walrus_forms.Forms.{Form, FunctionForm, StructForm, ArrayForm}
 use Rattle.walrus_types.specs.walrus_forms.Kinds.{Kind}
 use Rattle.walrus_types.specs.walrus_forms.Renaming.{at, renamed_value}
-use Rattle.wasm_ruled_normal.specs.wasm_normal_form.wasm_immediates.wasm_features.declared.WasmFeatures.{WasmFeatures}
-use Rattle.wasm_ruled_normal.specs.wasm_normal_form.wasm_immediates.Items.{Space, Types, Functions, Tables, Memories, Tags, Globals, ElementSegments, DataSegments, Locals, Labels}
-use Rattle.wasm_ruled_normal.specs.wasm_normal_form.wasm_immediates.declared.block_type.BlockType.{BlockType}
-use Rattle.wasm_ruled_normal.specs.wasm_normal_form.wasm_immediates.declared.block_type.BlockType.TheVariants as blocks
-use Rattle.wasm_ruled_normal.specs.wasm_ruled_modules.wasm_module_rules.wasm_modules.wasm_body_grammar.wasm_grammar.Modules as grammar
-use Rattle.wasm_ruled_normal.specs.wasm_ruled_modules.wasm_module_rules.wasm_modules.wasm_body_grammar.wasm_grammar.States.{form_test, types_of}
-use Rattle.wasm_ruled_normal.specs.wasm_ruled_modules.wasm_module_rules.wasm_modules.wasm_body_grammar.Codes.{param_count}
-use Rattle.wasm_ruled_normal.specs.wasm_ruled_modules.wasm_module_rules.wasm_modules.wasm_body_grammar.Rules.{Around}
-use Rattle.wasm_ruled_normal.specs.wasm_ruled_modules.wasm_module_rules.Linked.{Each, IsFunctionType}
-use Rattle.wasm_ruled_normal.specs.wasm_normal_form.Bodies.{is_used, new_number, used_keys}
-use Rattle.wasm_ruled_normal.specs.wasm_normal_form.Locals.{Key}
-use Rattle.wasm_ruled_normal.specs.wasm_normal_form.Normal.{normal_ops}
-use Rattle.wasm_ruled_normal.specs.wasm_normal_form.Roles.{Placed}
-use Rattle.wasm_ruled_normal.specs.wasm_ruled_modules.Rules.{GroupsBelow, HasBody, IsBody, OriginRuled, around_bodies}
-use Rattle.wasm_ruled_normal.specs.wasm_run_names.Picks.{block_pick, form_pick, kind_pick}
-use Rattle.wasm_ruled_renamed.specs.Bodies.{normal_renamed}
-use Rattle.wasm_normal_modules.specs.Modules.{by_types, normal_function, normal_origin}
-use Rattle.wasm_normal_modules.specs.Numbered.{ComesTo, NumberedOperatorsAreNormal}
+use Rattle.wasm_merged_modules.specs.wasm_normal_modules.wasm_ruled_renamed.wasm_ruled_normal.wasm_normal_form.wasm_immediates.wasm_features.declared.WasmFeatures.{WasmFeatures}
+use Rattle.wasm_merged_modules.specs.wasm_normal_modules.wasm_ruled_renamed.wasm_ruled_normal.wasm_normal_form.wasm_immediates.Items.{Space, Types, Functions, Tables, Memories, Tags, Globals, ElementSegments, DataSegments, Locals, Labels}
+use Rattle.wasm_merged_modules.specs.wasm_normal_modules.wasm_ruled_renamed.wasm_ruled_normal.wasm_normal_form.wasm_immediates.declared.block_type.BlockType.{BlockType}
+use Rattle.wasm_merged_modules.specs.wasm_normal_modules.wasm_ruled_renamed.wasm_ruled_normal.wasm_normal_form.wasm_immediates.declared.block_type.BlockType.TheVariants as blocks
+use Rattle.wasm_merged_modules.specs.wasm_normal_modules.wasm_ruled_renamed.wasm_ruled_normal.wasm_ruled_modules.wasm_module_rules.wasm_modules.wasm_body_grammar.wasm_grammar.Modules as grammar
+use Rattle.wasm_merged_modules.specs.wasm_normal_modules.wasm_ruled_renamed.wasm_ruled_normal.wasm_ruled_modules.wasm_module_rules.wasm_modules.wasm_body_grammar.wasm_grammar.States.{form_test, types_of}
+use Rattle.wasm_merged_modules.specs.wasm_normal_modules.wasm_ruled_renamed.wasm_ruled_normal.wasm_ruled_modules.wasm_module_rules.wasm_modules.wasm_body_grammar.Codes.{param_count}
+use Rattle.wasm_merged_modules.specs.wasm_normal_modules.wasm_ruled_renamed.wasm_ruled_normal.wasm_ruled_modules.wasm_module_rules.wasm_modules.wasm_body_grammar.Rules.{Around}
+use Rattle.wasm_merged_modules.specs.wasm_normal_modules.wasm_ruled_renamed.wasm_ruled_normal.wasm_ruled_modules.wasm_module_rules.Linked.{Each, IsFunctionType}
+use Rattle.wasm_merged_modules.specs.wasm_normal_modules.wasm_ruled_renamed.wasm_ruled_normal.wasm_normal_form.Bodies.{is_used, new_number, used_keys}
+use Rattle.wasm_merged_modules.specs.wasm_normal_modules.wasm_ruled_renamed.wasm_ruled_normal.wasm_normal_form.Locals.{Key}
+use Rattle.wasm_merged_modules.specs.wasm_normal_modules.wasm_ruled_renamed.wasm_ruled_normal.wasm_normal_form.Normal.{normal_ops}
+use Rattle.wasm_merged_modules.specs.wasm_normal_modules.wasm_ruled_renamed.wasm_ruled_normal.wasm_normal_form.Roles.{Placed}
+use Rattle.wasm_merged_modules.specs.wasm_normal_modules.wasm_ruled_renamed.wasm_ruled_normal.wasm_ruled_modules.Rules.{GroupsBelow, HasBody, IsBody, OriginRuled, around_bodies}
+use Rattle.wasm_merged_modules.specs.wasm_normal_modules.wasm_ruled_renamed.wasm_ruled_normal.wasm_run_names.Picks.{block_pick, form_pick, kind_pick}
+use Rattle.wasm_merged_modules.specs.wasm_normal_modules.wasm_ruled_renamed.Bodies.{normal_renamed}
+use Rattle.wasm_merged_modules.specs.wasm_normal_modules.Modules.{by_types, normal_function, normal_origin}
+use Rattle.wasm_merged_modules.specs.wasm_normal_modules.Numbered.{ComesTo, NumberedOperatorsAreNormal}
 use Rattle.walrus_types.specs.walrus_forms.walrus_arena.Arena.{item_at}
 use Rattle.walrus_parsed_meaning.specs.walrus_parsed_linked.walrus_parsed_items.walrus_into_laws.walrus_meaning.walrus_body_writer.walrus_pairing.walrus_index_maps.Maps.{Ids}
 use Rattle.walrus_parsed_meaning.specs.walrus_parsed_linked.walrus_parsed_items.walrus_into_laws.Meaning.{OthersStay, type_id}

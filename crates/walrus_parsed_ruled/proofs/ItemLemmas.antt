@@ -11,25 +11,25 @@ use Rattle.walrus_types.specs.walrus_forms.declared.value.HeapType.TheVariants a
 use Rattle.walrus_types.specs.walrus_forms.declared.value.RefType.{RefType}
 use Rattle.walrus_types.specs.walrus_forms.declared.value.ValType.{ValType}
 use Rattle.walrus_types.specs.walrus_forms.declared.value.ValType.TheVariants as values
-use Rattle.wasm_ruled_normal.specs.wasm_normal_form.wasm_immediates.wasm_ref_types.declared.heap.HeapType.{HeapType as ReadHeap}
-use Rattle.wasm_ruled_normal.specs.wasm_normal_form.wasm_immediates.wasm_ref_types.declared.heap.HeapType.TheVariants.{Abstract, Concrete, Exact}
-use Rattle.wasm_ruled_normal.specs.wasm_normal_form.wasm_immediates.wasm_ref_types.declared.index.UnpackedIndex.TheVariants.{Module, RecGroup, Id}
-use Rattle.wasm_ruled_normal.specs.wasm_normal_form.wasm_immediates.Items.{Space, Types, Functions, Tables, Memories, Tags, Globals, ElementSegments, DataSegments, Locals, Labels, Item, Names, Number, S32, S64, Bits, Byte, Bytes, Heap as HeapItem, Block, Access, ManyLabels, ManyValues, ManyClauses}
-use Rattle.wasm_ruled_normal.specs.wasm_normal_form.wasm_immediates.declared.clause.Clause.{Clause}
-use Rattle.wasm_ruled_normal.specs.wasm_normal_form.wasm_immediates.declared.clause.Clause.TheVariants as handlers
-use Rattle.wasm_ruled_normal.specs.wasm_ruled_modules.wasm_module_rules.wasm_modules.wasm_body_grammar.wasm_operators.Operators.{Seen}
-use Rattle.wasm_ruled_normal.specs.wasm_ruled_modules.wasm_module_rules.wasm_modules.wasm_body_grammar.wasm_operator_bytes.Names.{Name, Renaming, clause_names, heap_names, item_names, label_name, renamed_item, renamed_operator}
-use Rattle.wasm_ruled_normal.specs.wasm_ruled_modules.wasm_module_rules.wasm_modules.wasm_body_grammar.wasm_formats.Stops.{Index}
-use Rattle.wasm_ruled_normal.specs.wasm_ruled_modules.wasm_module_rules.wasm_modules.wasm_body_grammar.wasm_formats.declared.fault.Space.TheVariants as spaces
-use Rattle.wasm_ruled_normal.specs.wasm_ruled_modules.wasm_module_rules.wasm_modules.wasm_body_grammar.wasm_grammar.Exprs.{Known, heap_test, item_test, items_test}
-use Rattle.wasm_ruled_normal.specs.wasm_ruled_modules.wasm_module_rules.wasm_modules.wasm_body_grammar.wasm_grammar.Modules as grammar
-use Rattle.wasm_ruled_normal.specs.wasm_ruled_modules.wasm_module_rules.wasm_modules.wasm_body_grammar.wasm_grammar.TypeWords.{heap_of}
-use Rattle.wasm_ruled_normal.specs.wasm_ruled_modules.wasm_module_rules.Keeps.{first_none, must_holds}
-use Rattle.wasm_ruled_normal.specs.wasm_ruled_modules.wasm_module_rules.Linked.{Each}
-use Rattle.wasm_ruled_normal.specs.wasm_ruled_modules.Rules.{AreExprs, AreKnown, GlobalsSee, IsInit, IsPlaced, ItemsBelow, ItemsKnown, own_init}
-use Rattle.wasm_ruled_normal.proofs.Tests.{all_join}
-use Rattle.wasm_normal_modules.specs.Modules as normal
-use Rattle.wasm_normal_modules.specs.Numbered.{NamesDecide}
+use Rattle.wasm_merged_modules.specs.wasm_normal_modules.wasm_ruled_renamed.wasm_ruled_normal.wasm_normal_form.wasm_immediates.wasm_ref_types.declared.heap.HeapType.{HeapType as ReadHeap}
+use Rattle.wasm_merged_modules.specs.wasm_normal_modules.wasm_ruled_renamed.wasm_ruled_normal.wasm_normal_form.wasm_immediates.wasm_ref_types.declared.heap.HeapType.TheVariants.{Abstract, Concrete, Exact}
+use Rattle.wasm_merged_modules.specs.wasm_normal_modules.wasm_ruled_renamed.wasm_ruled_normal.wasm_normal_form.wasm_immediates.wasm_ref_types.declared.index.UnpackedIndex.TheVariants.{Module, RecGroup, Id}
+use Rattle.wasm_merged_modules.specs.wasm_normal_modules.wasm_ruled_renamed.wasm_ruled_normal.wasm_normal_form.wasm_immediates.Items.{Space, Types, Functions, Tables, Memories, Tags, Globals, ElementSegments, DataSegments, Locals, Labels, Item, Names, Number, S32, S64, Bits, Byte, Bytes, Heap as HeapItem, Block, Access, ManyLabels, ManyValues, ManyClauses}
+use Rattle.wasm_merged_modules.specs.wasm_normal_modules.wasm_ruled_renamed.wasm_ruled_normal.wasm_normal_form.wasm_immediates.declared.clause.Clause.{Clause}
+use Rattle.wasm_merged_modules.specs.wasm_normal_modules.wasm_ruled_renamed.wasm_ruled_normal.wasm_normal_form.wasm_immediates.declared.clause.Clause.TheVariants as handlers
+use Rattle.wasm_merged_modules.specs.wasm_normal_modules.wasm_ruled_renamed.wasm_ruled_normal.wasm_ruled_modules.wasm_module_rules.wasm_modules.wasm_body_grammar.wasm_operators.Operators.{Seen}
+use Rattle.wasm_merged_modules.specs.wasm_normal_modules.wasm_ruled_renamed.wasm_ruled_normal.wasm_ruled_modules.wasm_module_rules.wasm_modules.wasm_body_grammar.wasm_operator_bytes.Names.{Name, Renaming, clause_names, heap_names, item_names, label_name, renamed_item, renamed_operator}
+use Rattle.wasm_merged_modules.specs.wasm_normal_modules.wasm_ruled_renamed.wasm_ruled_normal.wasm_ruled_modules.wasm_module_rules.wasm_modules.wasm_body_grammar.wasm_formats.Stops.{Index}
+use Rattle.wasm_merged_modules.specs.wasm_normal_modules.wasm_ruled_renamed.wasm_ruled_normal.wasm_ruled_modules.wasm_module_rules.wasm_modules.wasm_body_grammar.wasm_formats.declared.fault.Space.TheVariants as spaces
+use Rattle.wasm_merged_modules.specs.wasm_normal_modules.wasm_ruled_renamed.wasm_ruled_normal.wasm_ruled_modules.wasm_module_rules.wasm_modules.wasm_body_grammar.wasm_grammar.Exprs.{Known, heap_test, item_test, items_test}
+use Rattle.wasm_merged_modules.specs.wasm_normal_modules.wasm_ruled_renamed.wasm_ruled_normal.wasm_ruled_modules.wasm_module_rules.wasm_modules.wasm_body_grammar.wasm_grammar.Modules as grammar
+use Rattle.wasm_merged_modules.specs.wasm_normal_modules.wasm_ruled_renamed.wasm_ruled_normal.wasm_ruled_modules.wasm_module_rules.wasm_modules.wasm_body_grammar.wasm_grammar.TypeWords.{heap_of}
+use Rattle.wasm_merged_modules.specs.wasm_normal_modules.wasm_ruled_renamed.wasm_ruled_normal.wasm_ruled_modules.wasm_module_rules.Keeps.{first_none, must_holds}
+use Rattle.wasm_merged_modules.specs.wasm_normal_modules.wasm_ruled_renamed.wasm_ruled_normal.wasm_ruled_modules.wasm_module_rules.Linked.{Each}
+use Rattle.wasm_merged_modules.specs.wasm_normal_modules.wasm_ruled_renamed.wasm_ruled_normal.wasm_ruled_modules.Rules.{AreExprs, AreKnown, GlobalsSee, IsInit, IsPlaced, ItemsBelow, ItemsKnown, own_init}
+use Rattle.wasm_merged_modules.proofs.wasm_ruled_normal.Tests.{all_join}
+use Rattle.wasm_merged_modules.specs.wasm_normal_modules.Modules as normal
+use Rattle.wasm_merged_modules.specs.wasm_normal_modules.Numbered.{NamesDecide}
 use Rattle.walrus_parsed_meaning.specs.walrus_parsed_linked.walrus_parsed_items.walrus_into_laws.walrus_meaning.walrus_body_writer.walrus_body_env.walrus_instr.declared.const_expr.ConstExpr.{ConstExpr}
 use Rattle.walrus_parsed_meaning.specs.walrus_parsed_linked.walrus_parsed_items.walrus_into_laws.walrus_meaning.walrus_body_writer.walrus_body_env.walrus_instr.declared.const_expr.ConstOp.{ConstOp}
 use Rattle.walrus_parsed_meaning.specs.walrus_parsed_linked.walrus_parsed_items.walrus_into_laws.walrus_meaning.walrus_body_writer.walrus_body_env.walrus_instr.declared.const_expr.ConstOp.TheVariants as consts

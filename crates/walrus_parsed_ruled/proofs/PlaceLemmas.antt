@@ -7,9 +7,9 @@ use Rattle.std.proofs.lemmas.List.{get_or-append-add, get_or_append_left, length
 use Rattle.std.proofs.lemmas.List.FromFn.{get_or-range_with_len, length-range_with_len}
 use Rattle.std.proofs.lemmas.Option.{get_or_from_slice_get, slice_get-get_or, slice_get_within}
 use Rattle.walrus_types.specs.walrus_forms.declared.value.ValType.{ValType}
-use Rattle.wasm_ruled_normal.specs.wasm_normal_form.Locals.{Key, in_order, insert_key, is_less, key_cmp, numbered, position}
-use Rattle.wasm_ruled_normal.specs.wasm_normal_form.Bodies.{is_used, new_number, used_keys}
-use Rattle.wasm_ruled_normal.specs.wasm_normal_form.Roles.{Placed}
+use Rattle.wasm_merged_modules.specs.wasm_normal_modules.wasm_ruled_renamed.wasm_ruled_normal.wasm_normal_form.Locals.{Key, in_order, insert_key, is_less, key_cmp, numbered, position}
+use Rattle.wasm_merged_modules.specs.wasm_normal_modules.wasm_ruled_renamed.wasm_ruled_normal.wasm_normal_form.Bodies.{is_used, new_number, used_keys}
+use Rattle.wasm_merged_modules.specs.wasm_normal_modules.wasm_ruled_renamed.wasm_ruled_normal.wasm_normal_form.Roles.{Placed}
 use Rattle.walrus_parsed_meaning.specs.walrus_parsed_linked.walrus_parsed_items.walrus_parse.walrus_module.walrus_tree.Trees.{AreDistinct, Has}
 use Rattle.walrus_types.specs.walrus_items.declared.local.Local.{Local}
 use Rattle.walrus_parsed_meaning.specs.walrus_parsed_linked.walrus_parsed_items.walrus_into_laws.walrus_meaning.walrus_local_function.declared.local_function.LocalFunction.{LocalFunction}

@@ -9,21 +9,21 @@ use Rattle.walrus_types.specs.walrus_forms.Records.{TypeGroup}
 use Rattle.walrus_types.specs.walrus_forms.Renaming.{RefBelow, ValueBelow, at, renamed_kind}
 use Rattle.walrus_types.specs.walrus_forms.Same.{same_kind}
 use Rattle.walrus_types.specs.Mergers.{ParsingCarriesSame}
-use Rattle.wasm_ruled_normal.specs.wasm_normal_form.wasm_immediates.wasm_features.declared.WasmFeatures.{WasmFeatures}
-use Rattle.wasm_ruled_normal.specs.wasm_normal_form.wasm_immediates.declared.block_type.BlockType.{BlockType}
-use Rattle.wasm_ruled_normal.specs.wasm_ruled_modules.wasm_module_rules.wasm_modules.wasm_body_grammar.wasm_grammar.Exprs.{Known}
-use Rattle.wasm_ruled_normal.specs.wasm_ruled_modules.wasm_module_rules.wasm_modules.wasm_body_grammar.wasm_grammar.Modules as grammar
-use Rattle.wasm_ruled_normal.specs.wasm_ruled_modules.wasm_module_rules.wasm_modules.wasm_body_grammar.wasm_grammar.States.{types_of}
-use Rattle.wasm_ruled_normal.specs.wasm_ruled_modules.wasm_module_rules.wasm_modules.wasm_body_grammar.Codes.{param_count}
-use Rattle.wasm_ruled_normal.specs.wasm_ruled_modules.wasm_module_rules.Linked.{Each, IsFunctionType}
-use Rattle.wasm_ruled_normal.specs.wasm_ruled_modules.Rules.{GroupsBelow, IsInit, IsPlaced, ItemsBelow, ItemsKnown, around_bodies, knows, knows_imported, memory_wide, own_init, table_wide}
-use Rattle.wasm_ruled_normal.specs.Normal.{NormalOperatorsAreRuled}
-use Rattle.wasm_ruled_normal.specs.wasm_run_names.Picks.{block_pick}
-use Rattle.wasm_normal_modules.proofs.Slots.{each_both, get_some}
+use Rattle.wasm_merged_modules.specs.wasm_normal_modules.wasm_ruled_renamed.wasm_ruled_normal.wasm_normal_form.wasm_immediates.wasm_features.declared.WasmFeatures.{WasmFeatures}
+use Rattle.wasm_merged_modules.specs.wasm_normal_modules.wasm_ruled_renamed.wasm_ruled_normal.wasm_normal_form.wasm_immediates.declared.block_type.BlockType.{BlockType}
+use Rattle.wasm_merged_modules.specs.wasm_normal_modules.wasm_ruled_renamed.wasm_ruled_normal.wasm_ruled_modules.wasm_module_rules.wasm_modules.wasm_body_grammar.wasm_grammar.Exprs.{Known}
+use Rattle.wasm_merged_modules.specs.wasm_normal_modules.wasm_ruled_renamed.wasm_ruled_normal.wasm_ruled_modules.wasm_module_rules.wasm_modules.wasm_body_grammar.wasm_grammar.Modules as grammar
+use Rattle.wasm_merged_modules.specs.wasm_normal_modules.wasm_ruled_renamed.wasm_ruled_normal.wasm_ruled_modules.wasm_module_rules.wasm_modules.wasm_body_grammar.wasm_grammar.States.{types_of}
+use Rattle.wasm_merged_modules.specs.wasm_normal_modules.wasm_ruled_renamed.wasm_ruled_normal.wasm_ruled_modules.wasm_module_rules.wasm_modules.wasm_body_grammar.Codes.{param_count}
+use Rattle.wasm_merged_modules.specs.wasm_normal_modules.wasm_ruled_renamed.wasm_ruled_normal.wasm_ruled_modules.wasm_module_rules.Linked.{Each, IsFunctionType}
+use Rattle.wasm_merged_modules.specs.wasm_normal_modules.wasm_ruled_renamed.wasm_ruled_normal.wasm_ruled_modules.Rules.{GroupsBelow, IsInit, IsPlaced, ItemsBelow, ItemsKnown, around_bodies, knows, knows_imported, memory_wide, own_init, table_wide}
+use Rattle.wasm_merged_modules.specs.wasm_normal_modules.wasm_ruled_renamed.wasm_ruled_normal.Normal.{NormalOperatorsAreRuled}
+use Rattle.wasm_merged_modules.specs.wasm_normal_modules.wasm_ruled_renamed.wasm_ruled_normal.wasm_run_names.Picks.{block_pick}
+use Rattle.wasm_merged_modules.proofs.wasm_normal_modules.Slots.{each_both, get_some}
 use Rattle.wasm_merged_modules.proofs.Merged.{kind_there, many}
-use Rattle.wasm_normal_modules.specs.Modules as normal
-use Rattle.wasm_normal_modules.specs.Modules.{MeetsRules, OriginPicked, RulesHoldCounted}
-use Rattle.wasm_normal_modules.specs.Numbered.{NamesDecide, NumberedOperatorsAreNormal}
+use Rattle.wasm_merged_modules.specs.wasm_normal_modules.Modules as normal
+use Rattle.wasm_merged_modules.specs.wasm_normal_modules.Modules.{MeetsRules, OriginPicked, RulesHoldCounted}
+use Rattle.wasm_merged_modules.specs.wasm_normal_modules.Numbered.{NamesDecide, NumberedOperatorsAreNormal}
 use Rattle.wasm_merged_modules.specs.Merged as merged
 use Rattle.wasm_merged_modules.specs.Merged.{MergedFilesAreRuled, UnfoundKindsAreMissing, ids_of, is_filled, kept_of, kinds_of, merged_module, merged_types, single}
 use Rattle.walrus_config.specs.declared.config.ModuleConfig.{ModuleConfig}

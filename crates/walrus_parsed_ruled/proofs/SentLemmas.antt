@@ -2,13 +2,13 @@
 use Rattle.std.specs.Prelude.{ℕ, ◌≡◌, true, List, ◌++◌, map, Option, Some, None, refl}
 use Rattle.std.specs.Option.{option_map}
 use Rattle.std.proofs.Common.{ap, sym, subst}
-use Rattle.wasm_ruled_normal.specs.wasm_normal_form.Locals.{Key}
-use Rattle.wasm_ruled_normal.specs.wasm_normal_form.wasm_immediates.wasm_features.declared.WasmFeatures.{WasmFeatures}
-use Rattle.wasm_ruled_normal.specs.wasm_ruled_modules.wasm_module_rules.wasm_modules.wasm_body_grammar.wasm_grammar.Modules as grammar
-use Rattle.wasm_ruled_normal.specs.wasm_ruled_modules.wasm_module_rules.wasm_modules.wasm_body_grammar.wasm_operator_bytes.NameLaws.{same}
-use Rattle.wasm_ruled_normal.specs.wasm_ruled_modules.wasm_module_rules.wasm_modules.wasm_body_grammar.wasm_operator_bytes.Names.{Renaming, renamed_operator}
-use Rattle.wasm_ruled_renamed.specs.Bodies.{with_numbers}
-use Rattle.wasm_ruled_renamed.specs.Renamed.{renamed_placed}
+use Rattle.wasm_merged_modules.specs.wasm_normal_modules.wasm_ruled_renamed.wasm_ruled_normal.wasm_normal_form.Locals.{Key}
+use Rattle.wasm_merged_modules.specs.wasm_normal_modules.wasm_ruled_renamed.wasm_ruled_normal.wasm_normal_form.wasm_immediates.wasm_features.declared.WasmFeatures.{WasmFeatures}
+use Rattle.wasm_merged_modules.specs.wasm_normal_modules.wasm_ruled_renamed.wasm_ruled_normal.wasm_ruled_modules.wasm_module_rules.wasm_modules.wasm_body_grammar.wasm_grammar.Modules as grammar
+use Rattle.wasm_merged_modules.specs.wasm_normal_modules.wasm_ruled_renamed.wasm_ruled_normal.wasm_ruled_modules.wasm_module_rules.wasm_modules.wasm_body_grammar.wasm_operator_bytes.NameLaws.{same}
+use Rattle.wasm_merged_modules.specs.wasm_normal_modules.wasm_ruled_renamed.wasm_ruled_normal.wasm_ruled_modules.wasm_module_rules.wasm_modules.wasm_body_grammar.wasm_operator_bytes.Names.{Renaming, renamed_operator}
+use Rattle.wasm_merged_modules.specs.wasm_normal_modules.wasm_ruled_renamed.Bodies.{with_numbers}
+use Rattle.wasm_merged_modules.specs.wasm_normal_modules.wasm_ruled_renamed.Renamed.{renamed_placed}
 use Rattle.walrus_types.specs.walrus_items.declared.local.Local.{Local as LocalItem}
 use Rattle.walrus_parsed_meaning.specs.walrus_parsed_linked.walrus_parsed_items.walrus_into_laws.walrus_meaning.Bodies.{depth_of, local_ids, own_body}
 use Rattle.walrus_parsed_meaning.specs.walrus_parsed_linked.walrus_parsed_items.walrus_into_laws.walrus_meaning.walrus_local_function.declared.local_function.LocalFunction.{LocalFunction}

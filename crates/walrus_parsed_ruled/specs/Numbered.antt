@@ -1,8 +1,8 @@
 -- What a module means, with the locals of each body numbered as the rules of bodies count them: by their places among those of its function (Core
 -- Specification, functions).
 use Rattle.std.specs.Prelude.{ℕ, List, map}
-use Rattle.wasm_ruled_normal.specs.wasm_ruled_modules.wasm_module_rules.wasm_modules.wasm_body_grammar.wasm_grammar.Modules as grammar
-use Rattle.wasm_ruled_normal.specs.wasm_ruled_modules.wasm_module_rules.wasm_modules.wasm_body_grammar.wasm_operator_bytes.NameLaws.{same}
+use Rattle.wasm_merged_modules.specs.wasm_normal_modules.wasm_ruled_renamed.wasm_ruled_normal.wasm_ruled_modules.wasm_module_rules.wasm_modules.wasm_body_grammar.wasm_grammar.Modules as grammar
+use Rattle.wasm_merged_modules.specs.wasm_normal_modules.wasm_ruled_renamed.wasm_ruled_normal.wasm_ruled_modules.wasm_module_rules.wasm_modules.wasm_body_grammar.wasm_operator_bytes.NameLaws.{same}
 use Rattle.walrus_types.specs.walrus_items.declared.local.Local.{Local}
 use Rattle.walrus_parsed_meaning.specs.walrus_parsed_linked.walrus_parsed_items.walrus_into_laws.walrus_meaning.Bodies.{depth_of, local_ids, own_body}
 use Rattle.walrus_parsed_meaning.specs.walrus_parsed_linked.walrus_parsed_items.walrus_into_laws.walrus_meaning.Meaning.{means, own_origin, slots_of}
@@ -11,8 +11,8 @@ use Rattle.walrus_parsed_meaning.specs.walrus_parsed_linked.walrus_parsed_items.
 use Rattle.walrus_parsed_meaning.specs.walrus_parsed_linked.walrus_parsed_items.walrus_parse.walrus_module.walrus_module_items.declared.function.Function.{Function}
 use Rattle.walrus_parsed_meaning.specs.walrus_parsed_linked.walrus_parsed_items.walrus_parse.walrus_module.walrus_module_items.declared.function.FunctionKind.{FunctionKind}
 use Rattle.walrus_parsed_meaning.specs.walrus_parsed_linked.walrus_parsed_items.walrus_parse.walrus_module.walrus_module_items.declared.function.FunctionKind.TheVariants as kinds
-use Rattle.wasm_ruled_renamed.specs.Bodies.{with_numbers}
-use Rattle.wasm_ruled_renamed.specs.Renamed.{renamed_placed}
+use Rattle.wasm_merged_modules.specs.wasm_normal_modules.wasm_ruled_renamed.Bodies.{with_numbers}
+use Rattle.wasm_merged_modules.specs.wasm_normal_modules.wasm_ruled_renamed.Renamed.{renamed_placed}
 
 -- a body whose locals have these ids, each named by its place among them: how many stand before it
 abbrev pub numbered_body : List ℕ → grammar.Body → grammar.Body

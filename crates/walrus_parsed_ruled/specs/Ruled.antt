@@ -1,10 +1,10 @@
 -- A module that was read means a module that meets the rules.
 use Rattle.std.specs.Prelude.{ℕ, ◌≡◌, ◌<◌, true, false, List, All, map}
-use Rattle.wasm_ruled_normal.specs.wasm_ruled_modules.wasm_module_rules.wasm_modules.wasm_body_grammar.wasm_grammar.Modules as grammar
-use Rattle.wasm_ruled_normal.specs.wasm_normal_form.wasm_immediates.wasm_features.declared.WasmFeatures.{WasmFeatures}
-use Rattle.wasm_ruled_normal.specs.wasm_ruled_modules.wasm_module_rules.Linked.{Each}
-use Rattle.wasm_ruled_normal.specs.wasm_ruled_modules.Rules.{around_bodies}
-use Rattle.wasm_normal_modules.specs.Modules.{MeetsRules, OriginPicked}
+use Rattle.wasm_merged_modules.specs.wasm_normal_modules.wasm_ruled_renamed.wasm_ruled_normal.wasm_ruled_modules.wasm_module_rules.wasm_modules.wasm_body_grammar.wasm_grammar.Modules as grammar
+use Rattle.wasm_merged_modules.specs.wasm_normal_modules.wasm_ruled_renamed.wasm_ruled_normal.wasm_normal_form.wasm_immediates.wasm_features.declared.WasmFeatures.{WasmFeatures}
+use Rattle.wasm_merged_modules.specs.wasm_normal_modules.wasm_ruled_renamed.wasm_ruled_normal.wasm_ruled_modules.wasm_module_rules.Linked.{Each}
+use Rattle.wasm_merged_modules.specs.wasm_normal_modules.wasm_ruled_renamed.wasm_ruled_normal.wasm_ruled_modules.Rules.{around_bodies}
+use Rattle.wasm_merged_modules.specs.wasm_normal_modules.Modules.{MeetsRules, OriginPicked}
 use Rattle.wasm_merged_modules.specs.Merged.{merged_module, single}
 use Rattle.walrus_config.specs.declared.config.ModuleConfig.{ModuleConfig}
 use Rattle.walrus_parsed_meaning.specs.walrus_parsed_linked.walrus_parsed_items.walrus_into_laws.walrus_meaning.walrus_body_writer.walrus_pairing.walrus_index_maps.Maps.{Ids}

@@ -7,10 +7,10 @@ use walrus_parsed_meaning::laws::modules_that_are_read_mean_their_files;
 use walrus_sent_laws::instr::InstrLocId;
 use walrus_types::laws::parsing_carries_same;
 use wasm_merged_modules::laws::{merged_files_are_ruled, new_kinds_stand_behind};
-use wasm_normal_modules::laws::{
+use wasm_merged_modules::normal_modules::laws::{
     normal_forms_of_read_modules_are_ruled, numbered_operators_are_normal,
 };
-use wasm_ruled_normal::laws::normal_operators_are_ruled;
+use wasm_merged_modules::ruled_normal::laws::normal_operators_are_ruled;
 
 /// What a module means that was read from a file, its locals numbered function by function, is the normal form of the file's module, its types merged, with
 /// the types of handlers behind them.

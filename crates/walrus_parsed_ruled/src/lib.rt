@@ -2,3 +2,24 @@
 #![tactic(auto)]
 
 pub mod laws;
+
+// Passed on to crates above, which then list this one alone.
+pub mod parse {
+    pub use walrus_parsed_meaning::parse::{FromBuffer, Parse, parse_into};
+}
+
+pub mod parsed_linked {
+    pub mod laws {
+        pub use walrus_parsed_meaning::parsed_linked::laws::modules_that_are_read_are_linked;
+    }
+}
+
+pub mod parsed_meaning {
+    pub mod laws {
+        pub use walrus_parsed_meaning::laws::modules_that_are_read_mean_their_files;
+    }
+}
+
+pub mod sent_laws {
+    pub use walrus_sent_laws::laws;
+}

@@ -3,9 +3,9 @@
 ghost use Rattle.walrus_parsed_served.specs.Served.{ReadModulesAreServed, SentModulesAreServed};
 ghost use Rattle.walrus_parsed_served.specs.Stays.{ReadTypesStayInGroups};
 
+use walrus_parsed_groups::file_bodies::laws::bodies_read_files;
 use walrus_parsed_groups::laws::read_modules_have_handlers;
-use walrus_parsed_linked::laws::modules_that_are_read_are_linked;
-use walrus_parsed_linked::parsed_bodies::file_bodies::laws::bodies_read_files;
+use walrus_parsed_groups::parsed_linked::laws::modules_that_are_read_are_linked;
 use walrus_passes_laws::linked_are_served;
 use walrus_sent_laws::instr::InstrLocId;
 

@@ -4,6 +4,29 @@
 pub mod laws;
 
 // Passed on to crates above, which then list this one alone.
+pub mod items_into {
+    pub mod laws {
+        pub use walrus_parsed_groups::file_bodies::items_into::laws::filled_modules_are_filed;
+        pub use walrus_parsed_groups::items_into::laws::filled_functions_stand;
+    }
+}
+
+pub mod module {
+    pub use walrus_sent_laws::module::Module;
+}
+
+pub mod module_env {
+    pub mod laws {
+        pub use walrus_parsed_groups::module_env::laws::picks_are_seen;
+    }
+}
+
+pub mod operator_laws {
+    pub mod laws {
+        pub use walrus_parsed_groups::operator_laws::laws::operators_come_back;
+    }
+}
+
 pub mod parsed_groups {
     pub mod laws {
         pub use walrus_parsed_groups::laws::read_modules_have_handlers;
@@ -12,14 +35,18 @@ pub mod parsed_groups {
 
 pub mod parsed_items {
     pub mod laws {
-        pub use walrus_parsed_linked::parsed_items::laws::read_modules_have_items;
+        pub use walrus_parsed_groups::parsed_items::laws::read_modules_have_items;
     }
 }
 
 pub mod parsed_linked {
     pub mod laws {
-        pub use walrus_parsed_linked::laws::modules_that_are_read_are_linked;
+        pub use walrus_parsed_groups::parsed_linked::laws::modules_that_are_read_are_linked;
     }
+}
+
+pub mod passes {
+    pub use walrus_passes_laws::passes::gc;
 }
 
 pub mod passes_laws {

@@ -7,8 +7,8 @@ use crate::modules::{Step, leave};
 use std::alloc::{AllocError, Global};
 use walrus_arena::FunctionId;
 use walrus_index_maps::IdsToIndices;
-use walrus_module::Module;
 use walrus_passes::Used;
+use walrus_passes::module::Module;
 use walrus_roots::Roots;
 use walrus_sections::{CodeTransform, CustomSection, SectionFault};
 

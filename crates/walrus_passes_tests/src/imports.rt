@@ -5,9 +5,9 @@ use walrus_arena::{FunctionId, GlobalId, MemoryId, TableId, TypeId};
 use walrus_builder::FunctionBuilder;
 use walrus_forms::{RefType, ValType};
 use walrus_instr::{ConstExpr, Value};
-use walrus_local_function::LocalFunction;
-use walrus_module::Module;
 use walrus_module_items::{DataKind, ElementItems, ElementKind};
+use walrus_passes::local_function::LocalFunction;
+use walrus_passes::module::Module;
 
 // An import in each space, of which the function and the tag have this type.
 fn add_imports(module: &mut Module, ty: TypeId) -> Result<(), AllocError> {

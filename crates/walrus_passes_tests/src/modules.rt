@@ -11,10 +11,10 @@ use walrus_config::ModuleConfig;
 use walrus_errors::{Form, ModuleError, Space};
 use walrus_forms::{FieldType, HeapType, RefType, StorageType, ValType};
 use walrus_instr::{ConstExpr, Instr, InstrSeqType, Value};
-use walrus_local_function::LocalFunction;
-use walrus_module::Module;
-use walrus_module::collections::Collection;
 use walrus_module_items::{DataKind, ElementItems, ElementKind, FunctionKind};
+use walrus_passes::collections::Collection;
+use walrus_passes::local_function::LocalFunction;
+use walrus_passes::module::Module;
 use walrus_passes::{Used, gc};
 use walrus_sections::SectionFault;
 

@@ -10,6 +10,12 @@ pub fn read_sections_lack_nothing()
 {}
 
 // Passed on to crates above, which then list this one alone.
+pub mod spelled_modules {
+    pub mod laws {
+        pub use wasm_spelled_modules::laws::read_sections_are_spelled;
+    }
+}
+
 pub mod tables_into {
     pub use walrus_tables_into::{add_customs, add_elements, add_globals, add_tables};
 

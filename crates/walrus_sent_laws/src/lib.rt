@@ -7,3 +7,7 @@ pub mod laws;
 pub mod instr {
     pub use walrus_walks::instr::InstrLocId;
 }
+
+pub mod module {
+    pub use walrus_meaning::module::Module;
+}

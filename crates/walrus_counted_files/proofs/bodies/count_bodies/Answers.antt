@@ -2,8 +2,8 @@ use Rattle.std.proofs.Common.{drop, inl, inr, refl, ⊎_elim}
 use Rattle.std.proofs.lemmas.Result.{err_from_is_err_and}
 use Rattle.walrus_counted_files.proofs.CountLemmas.{counting_first, counting_last, counting_next, counting_ready, counting_stops}
 use Rattle.walrus_counted_files.proofs.bodies.count_bodies.Goals as goal
-use Rattle.walrus_module_bodies.proofs.StepLemmas.{going_filed, going_tags}
-use Rattle.walrus_module_bodies.specs.Steps.{state}
+use Rattle.walrus_parse.proofs.walrus_module_bodies.StepLemmas.{going_filed, going_tags}
+use Rattle.walrus_parse.specs.walrus_file_bodies.walrus_module_bodies.Steps.{state}
 use Rattle.walrus_parse.specs.walrus_module.walrus_body_writer.walrus_pairing.walrus_index_maps.Views.{ids}
 
 pub loop-body-init : goal.loop-body-init

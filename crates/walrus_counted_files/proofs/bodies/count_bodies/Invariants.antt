@@ -1,7 +1,7 @@
 use Rattle.std.proofs.Common.{drop}
 use Rattle.walrus_counted_files.proofs.CountLemmas.{Counting}
 use Rattle.walrus_counted_files.proofs.bodies.count_bodies.Given as goal
-use Rattle.walrus_module_bodies.specs.Steps.{state}
+use Rattle.walrus_parse.specs.walrus_file_bodies.walrus_module_bodies.Steps.{state}
 use Rattle.walrus_parse.specs.walrus_module.walrus_body_writer.walrus_pairing.walrus_index_maps.Views.{ids}
 
 abbrev pub invariant-loop-body : goal.invariant-loop-body

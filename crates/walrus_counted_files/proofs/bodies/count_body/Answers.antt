@@ -4,7 +4,7 @@ use Rattle.walrus_arena.specs.Arena.{item_at}
 use Rattle.walrus_counts.specs.walrus_module.walrus_builder.Built.{seq_of}
 use Rattle.walrus_counts.specs.walrus_module.walrus_builder.Functions.{seqs_of}
 use Rattle.walrus_instr.specs.declared.seq.InstrSeq.{InstrSeq}
-use Rattle.walrus_named_bodies.specs.walrus_file_bodies.walrus_body_trees.walrus_body_nesting.Stands.{total}
+use Rattle.walrus_parse.specs.walrus_named_bodies.walrus_file_bodies.walrus_body_trees.walrus_body_nesting.Stands.{total}
 use Rattle.walrus_counted_files.proofs.CountLemmas.{bodiless_size}
 use Rattle.walrus_counted_files.proofs.HeldLemmas.{body_held}
 use Rattle.walrus_counted_files.proofs.bodies.count_body.Goals as goal

@@ -1,7 +1,7 @@
 use Rattle.std.proofs.Common.{◌∙◌}
-use Rattle.walrus_named_bodies.specs.walrus_item_names.walrus_module.walrus_body_writer.walrus_pairing.walrus_index_maps.Views.{ids}
-use Rattle.walrus_named_bodies.specs.walrus_file_bodies.walrus_module_bodies.Steps.{state}
-use Rattle.walrus_named_bodies.proofs.CodeLemmas.{ready_over}
+use Rattle.walrus_parse.specs.walrus_named_bodies.walrus_item_names.walrus_module.walrus_body_writer.walrus_pairing.walrus_index_maps.Views.{ids}
+use Rattle.walrus_parse.specs.walrus_named_bodies.walrus_file_bodies.walrus_module_bodies.Steps.{state}
+use Rattle.walrus_parse.proofs.walrus_named_bodies.CodeLemmas.{ready_over}
 use Rattle.walrus_counted_files.proofs.code.count_code.Goals as goal
 
 pub count_bodies-requires-clause-placed : goal.count_bodies-requires-clause-placed

@@ -7,21 +7,21 @@ use Rattle.walrus_counted_files.proofs.NameLemmas.{embodied, gives_whole, stand_
 use Rattle.walrus_counted_files.proofs.WholeLemmas.{would_be}
 use Rattle.walrus_counted_files.proofs.whole.count_module.Goals as goal
 use Rattle.walrus_errors.specs.declared.error.ModuleError.{ModuleError}
-use Rattle.walrus_named_bodies.specs.Named.{all_names}
-use Rattle.walrus_named_bodies.specs.walrus_file_bodies.Ready.{bodies_in}
-use Rattle.walrus_named_bodies.specs.walrus_file_bodies.walrus_items_into.Spaces.{spaces}
-use Rattle.walrus_named_bodies.specs.walrus_file_bodies.walrus_items_into.walrus_tables_into.walrus_sections_into.walrus_index_maps.Views.{ids}
-use Rattle.walrus_named_bodies.specs.walrus_file_bodies.walrus_items_into.walrus_tables_into.walrus_sections_into.walrus_known_sections.State.{state_of}
-use Rattle.walrus_named_bodies.specs.walrus_file_bodies.walrus_items_into.walrus_tables_into.walrus_sections_into.walrus_known_sections.declared.sections.Sections.{Sections}
-use Rattle.walrus_named_bodies.specs.walrus_file_bodies.walrus_items_into.walrus_payloads_into.Customs.{customs_of}
-use Rattle.walrus_named_bodies.specs.walrus_file_bodies.walrus_items_into.wasm_module_rules.wasm_modules.Modules.{module_of}
-use Rattle.walrus_named_bodies.specs.walrus_file_bodies.walrus_module_bodies.Steps.{Steps, state}
-use Rattle.walrus_named_bodies.specs.walrus_item_names.Gives.{GivesNames}
-use Rattle.walrus_named_bodies.specs.walrus_item_names.Holder.{Holder, holder}
-use Rattle.walrus_named_bodies.specs.walrus_item_names.walrus_module.walrus_body_writer.walrus_pairing.wasm_immediates.wasm_features.declared.WasmFeatures.{WasmFeatures}
-use Rattle.walrus_named_bodies.specs.walrus_item_names.walrus_module.walrus_types.Table.{Table, entries, next_id}
-use Rattle.walrus_named_bodies.specs.walrus_item_names.walrus_module.walrus_types.walrus_items.declared.local.Local.{Local}
-use Rattle.walrus_named_bodies.proofs.CodeLemmas.{handed}
+use Rattle.walrus_parse.specs.walrus_named_bodies.Named.{all_names}
+use Rattle.walrus_parse.specs.walrus_named_bodies.walrus_file_bodies.Ready.{bodies_in}
+use Rattle.walrus_parse.specs.walrus_named_bodies.walrus_file_bodies.walrus_items_into.Spaces.{spaces}
+use Rattle.walrus_parse.specs.walrus_named_bodies.walrus_file_bodies.walrus_items_into.walrus_tables_into.walrus_sections_into.walrus_index_maps.Views.{ids}
+use Rattle.walrus_parse.specs.walrus_named_bodies.walrus_file_bodies.walrus_items_into.walrus_tables_into.walrus_sections_into.walrus_known_sections.State.{state_of}
+use Rattle.walrus_parse.specs.walrus_named_bodies.walrus_file_bodies.walrus_items_into.walrus_tables_into.walrus_sections_into.walrus_known_sections.declared.sections.Sections.{Sections}
+use Rattle.walrus_parse.specs.walrus_named_bodies.walrus_file_bodies.walrus_items_into.walrus_payloads_into.Customs.{customs_of}
+use Rattle.walrus_parse.specs.walrus_named_bodies.walrus_file_bodies.walrus_items_into.wasm_module_rules.wasm_modules.Modules.{module_of}
+use Rattle.walrus_parse.specs.walrus_named_bodies.walrus_file_bodies.walrus_module_bodies.Steps.{Steps, state}
+use Rattle.walrus_parse.specs.walrus_named_bodies.walrus_item_names.Gives.{GivesNames}
+use Rattle.walrus_parse.specs.walrus_named_bodies.walrus_item_names.Holder.{Holder, holder}
+use Rattle.walrus_parse.specs.walrus_named_bodies.walrus_item_names.walrus_module.walrus_body_writer.walrus_pairing.wasm_immediates.wasm_features.declared.WasmFeatures.{WasmFeatures}
+use Rattle.walrus_parse.specs.walrus_named_bodies.walrus_item_names.walrus_module.walrus_types.Table.{Table, entries, next_id}
+use Rattle.walrus_parse.specs.walrus_named_bodies.walrus_item_names.walrus_module.walrus_types.walrus_items.declared.local.Local.{Local}
+use Rattle.walrus_parse.proofs.walrus_named_bodies.CodeLemmas.{handed}
 use Rattle.walrus_parse.proofs.TypeLemmas.{all_live}
 use Rattle.walrus_parse.proofs.WholeLemmas.{code_refused, file_typed, is_whole, ready_left, refusal_typed, small, steps_typed}
 use Rattle.walrus_parse.specs.Parsed.{ReadsAs, read_features}

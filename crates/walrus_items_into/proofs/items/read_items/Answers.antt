@@ -1,6 +1,6 @@
 use Rattle.std.proofs.Common.{◌∙◌, List, length, ap}
 use Rattle.std.specs.Bool.{OnFalse, OnTrue}
-use Rattle.walrus_functions_into.specs.Functions.{with_functions}
+use Rattle.walrus_module_bodies.specs.walrus_functions_into.Functions.{with_functions}
 use Rattle.walrus_read_laws.specs.walrus_tables_into.Customs.{plain}
 use Rattle.walrus_read_laws.specs.walrus_tables_into.Tables.{TableLacks}
 use Rattle.walrus_read_laws.specs.walrus_tables_into.Globals.{GlobalLacks}

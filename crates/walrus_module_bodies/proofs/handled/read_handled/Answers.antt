@@ -1,9 +1,9 @@
 use Rattle.std.proofs.Common.{inl, inr, length, refl, take, ⊎_elim}
 use Rattle.std.proofs.lemmas.Result.{err_from_is_err_and}
 use Rattle.walrus_index_maps.specs.Views.{ids}
-use Rattle.walrus_handler_types.proofs.Growing.{given_types_grow}
-use Rattle.walrus_handler_types.specs.walrus_handlers.Gathering.{listed}
-use Rattle.walrus_handler_types.specs.walrus_handler_laws.Handlers.{tree_ids}
+use Rattle.walrus_module_env.proofs.walrus_handler_types.Growing.{given_types_grow}
+use Rattle.walrus_module_env.specs.walrus_handler_types.walrus_handlers.Gathering.{listed}
+use Rattle.walrus_module_env.specs.walrus_handler_types.walrus_handler_laws.Handlers.{tree_ids}
 use Rattle.walrus_module_env.specs.walrus_body_parser.walrus_body_stack.walrus_builder.Built.{contents}
 use Rattle.walrus_module_env.specs.Env.{tag_type_at}
 use Rattle.walrus_module_bodies.proofs.ReadingLemmas.{gives_handlers, handled_read, lent_tree}

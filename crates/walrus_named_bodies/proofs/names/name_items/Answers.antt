@@ -1,6 +1,6 @@
 use Rattle.std.proofs.Common.{List, map, ap, ◌∙◌, subst}
 use Rattle.std.proofs.lemmas.Result.{on_ok_weaker}
-use Rattle.wasm_name_payloads.specs.Names.{Given, names_of}
+use Rattle.walrus_payload_readers.specs.wasm_name_payloads.Names.{Given, names_of}
 use Rattle.walrus_item_names.specs.walrus_module.walrus_body_writer.walrus_pairing.walrus_index_maps.Views.{ids}
 use Rattle.walrus_item_names.specs.Gives.{GivesNames, gives_both}
 use Rattle.walrus_item_names.specs.Holder.{Holder, holder}

@@ -1,7 +1,7 @@
 use Rattle.std.proofs.Common.{◌≡◌, ◌∙◌, ap, sym, subst, length, refl, List, [], Option}
 use Rattle.std.specs.declared.alloc.Global.{Global as Alloc}
 use Rattle.std.specs.declared.string.String.{String}
-use Rattle.wasm_name_payloads.specs.Names.{names_of}
+use Rattle.walrus_named_bodies.specs.wasm_name_payloads.Names.{names_of}
 use Rattle.walrus_errors.specs.declared.error.ModuleError.{ModuleError}
 use Rattle.walrus_named_bodies.specs.walrus_file_bodies.Ready.{bodies_in}
 use Rattle.walrus_named_bodies.specs.walrus_file_bodies.walrus_items_into.Spaces.{spaces}

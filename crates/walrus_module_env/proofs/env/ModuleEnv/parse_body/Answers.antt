@@ -1,8 +1,8 @@
 use Rattle.std.proofs.Common.{◌≡◌, ◌⊎◌, length}
-use Rattle.walrus_builder.specs.Built.{contents}
+use Rattle.walrus_handler_types.specs.walrus_tree.walrus_builder.Built.{contents}
 use Rattle.walrus_index_maps.specs.Views.{ids}
-use Rattle.walrus_collections.specs.walrus_local_function.walrus_body_locals.walrus_body_env.declared.error.BodyError.TheVariants.{Memory}
-use Rattle.walrus_collections.specs.walrus_local_function.walrus_function_parser.Parsed.{IsCause, Parses, telling}
+use Rattle.walrus_functions_into.specs.walrus_collections.walrus_local_function.walrus_body_locals.walrus_body_env.declared.error.BodyError.TheVariants.{Memory}
+use Rattle.walrus_functions_into.specs.walrus_collections.walrus_local_function.walrus_function_parser.Parsed.{IsCause, Parses, telling}
 use Rattle.walrus_module_env.specs.Around.{sight_in}
 use Rattle.walrus_module_env.specs.Parsed.{IsBodyOfFile, IsFaultInFile}
 use Rattle.walrus_module_env.proofs.ParseLemmas.{is_read, is_fault, of_ok, of_err}
