@@ -104,6 +104,11 @@ fn push_hashed(types: &mut TombstoneArena<Type, TypeSpace>, index: &mut Index, t
     enter_hashed(index, types, Hashed { hash, id });
 }
 
+// How many members the list of a new group has room for. So it takes a piece of memory of the size that the list of a record of a type
+// section has: where records are let go of as their types are added, each piece serves at once, where for a smaller list the allocator
+// would cut up what was given back, and join it first.
+const ROOM: usize = 16;
+
 /// The list of the members of a group that has this type alone.
 ///
 /// # Errors
@@ -112,7 +117,7 @@ fn push_hashed(types: &mut TombstoneArena<Type, TypeSpace>, index: &mut Index, t
 pub fn one_member(alloc: Global, id: TypeId) -> Result<Vec<TypeId>, AllocError>
     ensures { IfOk result (λ members. members.items ≡ id ∷ []) }
 {
-    let mut members = Vec::with_capacity(alloc, 1)?;
+    let mut members = Vec::with_capacity(alloc, ROOM)?;
     members.push_reserved(id);
     Ok(members)
 }
