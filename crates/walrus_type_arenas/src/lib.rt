@@ -22,7 +22,7 @@ pub use members::{is_single, resolve, resolve_all};
 
 // Passed on to crates above, which then list this one alone.
 pub mod type_index {
-    pub use walrus_type_index::{Index, group_hash, lend, settle, type_hash};
+    pub use walrus_type_index::{AHEAD, Index, group_hash, lend, settle, type_hash};
 
     pub mod arena {
         pub use walrus_type_index::arena::{

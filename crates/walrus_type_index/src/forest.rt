@@ -11,6 +11,7 @@ ghost use Rattle.walrus_type_index.specs.Flat.{slots, count};
 ghost use Rattle.walrus_type_index.specs.Forest.{AreTrees};
 
 use crate::flat::{NONE, latest, put, split, take, unmarked};
+use crate::index::{AHEAD, place_of};
 use crate::node::Hashed;
 use crate::node_list::FlatNode;
 use crate::order::Target;
@@ -120,14 +121,38 @@ impl Forest {
         self.tops.len()
     }
 
-    // The hash of the top node of the tree of that place. No answer rests on it.
+    // The node of this number, or another one where there is none. It is no jump, so that no look waits for the one before it.
     #[inline(always)]
-    pub(crate) fn top_hash(&self, place: usize) -> u64 {
-        let top = top_of(self.tops.as_slice(), self.last, place);
-        match self.nodes.get(top as usize) {
-            Some(node) => node.hash,
-            None => 0,
+    fn near(&self, number: u32) -> FlatNode {
+        let last = self.nodes.len().saturating_sub(1);
+        match self.nodes.get(last.min(number as usize)) {
+            Some(node) => *node,
+            None => FlatNode::apart(),
         }
+    }
+
+    // Looks at the top nodes of the trees of these hashes, and at the nodes below on the way to them. The looks of one kind, which wait for
+    // memory, wait at once. No answer rests on what is met.
+    pub(crate) fn met(&self, hashes: &[u64; AHEAD], shift: u32) -> u64
+        requires { shift ≤ 63 }
+    {
+        let mut places = [0; AHEAD];
+        for at in 0..AHEAD {
+            places[at] = top_of(self.tops.as_slice(), self.last, place_of(hashes[at], shift));
+        }
+        for at in 0..AHEAD {
+            let top = self.near(places[at]);
+            places[at] = if hashes[at] < top.hash {
+                top.left
+            } else {
+                top.right
+            };
+        }
+        let mut met: u64 = 0;
+        for at in 0..AHEAD {
+            met = met.wrapping_add(self.near(places[at]).hash);
+        }
+        met
     }
 
     // Has a node for each id below that number.

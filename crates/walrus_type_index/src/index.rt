@@ -26,7 +26,7 @@ pub struct Index {
     forest: Forest,
     // How many bits of a hash its place leaves out, the lowest aside.
     shift: u32,
-    // How many looks ahead met their hash: it is kept so that they are made. No answer rests on it.
+    // What looks ahead met: it is kept so that they are made. No answer rests on it.
     met: u64,
 }
 
@@ -42,8 +42,11 @@ impl Model for Index {
     ghost invariant = { λ i. (i.shift ≤ 63) × AreSpread i.shift i.forest.trees 0 i.forest.last };
 }
 
+/// How many types a look ahead looks for at once.
+pub const AHEAD: usize = 32;
+
 // The bits of a hash that are its place.
-fn place_of(hash: u64, shift: u32) -> usize
+pub(crate) fn place_of(hash: u64, shift: u32) -> usize
     requires { shift ≤ 63 }
     ensures { result ≡ place_of shift hash }
 {
@@ -115,16 +118,13 @@ impl Index {
         Ok(())
     }
 
-    /// Looks where a type of this hash would stand. A search takes most of its time for its first looks, which wait for memory; what is
-    /// looked for in some groups ahead is waited for at once, if nothing else is done in between. What is in stays. Takes no memory.
-    #[inline(always)]
-    pub fn look_ahead(&mut self, hash: u64)
+    /// Looks where types of these hashes would stand. A search takes most of its time for its first looks, which wait for memory; what is
+    /// looked for in some groups ahead is waited for at once. What is in stays. Takes no memory.
+    pub fn look_ahead(&mut self, hashes: &[u64; AHEAD])
         ensures { self.new ≡ self.old }
     {
-        let place = place_of(hash, self.shift);
-        if self.forest.top_hash(place) == hash {
-            self.met = self.met.wrapping_add(1);
-        }
+        let met = self.forest.met(hashes, self.shift);
+        self.met = self.met.wrapping_add(met);
     }
 
     /// Puts the id, which isn't in, where it belongs. It comes with the hash of its type. Asks for room. Takes no memory.

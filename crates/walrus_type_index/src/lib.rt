@@ -13,7 +13,7 @@ mod node_list;
 mod order;
 
 pub use hash::{group_hash, type_hash};
-pub use index::Index;
+pub use index::{AHEAD, Index};
 pub use lent::{enter, enter_hashed, lend, settle};
 pub use marks::is_marked;
 pub use node::Hashed;

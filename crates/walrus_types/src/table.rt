@@ -27,7 +27,7 @@ use walrus_type_arenas::type_index::forms::{
     ArrayType, CompositeType, FieldType, FunctionType, GroupRecord, StructType, ValType,
 };
 use walrus_type_arenas::type_index::items::{RecGroup, Type};
-use walrus_type_arenas::type_index::{Index, group_hash, lend, settle, type_hash};
+use walrus_type_arenas::type_index::{AHEAD, Index, group_hash, lend, settle, type_hash};
 use walrus_type_arenas::{
     append_counted, append_members, clear_each, clear_marked, found_function, home_of, ids_from,
     leave_group, look_up_entry, look_up_hashed, members_name, one_member, push_single_hashed,
@@ -62,25 +62,18 @@ impl Model for ModuleTypes {
     ghost invariant = { λ t. IsSound t.lent t.index (kinds_in t.types.slots) (table_of t.types.slots t.groups.slots) t.homes.items };
 }
 
-// How many groups a look ahead looks for at once.
-const AHEAD: usize = 32;
-
 // The hashes come first, so that the looks, which wait for memory, wait at once.
 fn look_ahead(index: &mut Index, groups: &VecDeque<GroupRecord>)
     ensures { index.new ≡ index.old }
 {
     let mut hashes = [0; AHEAD];
-    let mut count = 0;
     for at in 0..AHEAD {
         let Some(group) = groups.get(at) else {
             break;
         };
         hashes[at] = group_hash(group);
-        count = at + 1;
     }
-    for next in 0..count {
-        index.look_ahead(hashes[next]);
-    }
+    index.look_ahead(&hashes);
 }
 
 impl ModuleTypes {

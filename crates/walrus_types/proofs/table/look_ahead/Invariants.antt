@@ -1,8 +1,5 @@
-use Rattle.std.proofs.Common.{◌≡◌, ◌≤◌}
+use Rattle.std.proofs.Common.{◌≡◌}
 use Rattle.walrus_types.proofs.table.look_ahead.Given as goal
 
 abbrev pub invariant-loop-at : goal.invariant-loop-at
-invariant-loop-at l = (l.index ≡ l.fn.index) × (l.count ≤ 32)
-
-abbrev pub invariant-loop-next : goal.invariant-loop-next
-invariant-loop-next l = (l.index ≡ l.fn.index) × (l.count ≤ 32)
+invariant-loop-at l = l.index ≡ l.fn.index
