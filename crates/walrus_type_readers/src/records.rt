@@ -41,6 +41,7 @@ fn plain_records(alloc: Global, types: &[ValType]) -> Result<Vec<ValRecord>, All
     Ok(records)
 }
 
+#[inline(always)]
 fn value_records(alloc: Global, types: &[ValType]) -> Result<Option<Vec<ValRecord>>, AllocError>
     ensures { IfOk result (λ records. option_map (λ v. map value_told v.items) records ≡ told_all value_of types.now) }
 {
