@@ -92,6 +92,7 @@ impl<'a> FromReader<'a> for FieldType {
 const ROOM: usize = 16;
 
 // So many items. Most lists are short, and get their room at once; a greater count reserves no more.
+#[inline(always)]
 fn read_items<'a, T: FromReader<'a>>(
     alloc: Global,
     reader: &mut BinaryReader<'a>,
@@ -111,6 +112,7 @@ fn read_items<'a, T: FromReader<'a>>(
     Ok(items)
 }
 
+#[inline(always)]
 #[tactic(auto, unfolding(wasm_reader::specs::Items::vec_at))]
 fn read_list<'a, T: FromReader<'a>>(
     alloc: Global,
@@ -216,6 +218,7 @@ pub fn expect_gc(reader: &BinaryReader<'_>, offset: u64) -> Result<()>
 
 impl CompositeInnerType {
     // The form that begins with this byte, which stands at this offset.
+    #[inline(always)]
     #[tactic(auto, unfolding(crate::specs::Readings::form_after))]
     fn read_after(
         alloc: Global,
@@ -255,6 +258,7 @@ impl CompositeInnerType {
 /// # Errors
 ///
 /// Those of its bytes, and want of memory.
+#[inline(always)]
 #[tactic(auto, unfolding(crate::specs::Readings::composite_after))]
 pub fn read_composite_after(
     alloc: Global,
