@@ -53,6 +53,7 @@ impl SubType {
     }
 
     // The subtype that begins with this byte, which stands at this offset.
+    #[inline(always)]
     #[tactic(auto, unfolding(crate::specs::Readings::sub_after))]
     fn read_after(
         alloc: Global,
