@@ -3,6 +3,7 @@ pub use Rattle.walrus_type_arenas.specs.Emission
 pub use Rattle.walrus_type_arenas.specs.Groups
 pub use Rattle.walrus_type_arenas.specs.Highest
 pub mod Inverse
+pub mod Last
 pub mod Merged
 pub mod Mergers
 pub mod Pairs

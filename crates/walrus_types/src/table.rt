@@ -11,6 +11,7 @@ ghost use Rattle.std.specs.Fn.{FnOnceTakesAt, FnOnceReturnsAt};
 ghost use Rattle.std.specs.List.{range_with_len};
 ghost use Rattle.walrus_type_arenas.specs.Groups.{AddsGroup, IsBuilt, IsCause, member_kind};
 ghost use Rattle.walrus_type_arenas.specs.TypeLaws.{AreGrouped};
+ghost use Rattle.walrus_types.specs.Last.{IsHighest};
 ghost use Rattle.walrus_types.specs.TableLends.{lends_type};
 
 use crate::error::IrError;
@@ -176,6 +177,20 @@ impl ModuleTypes {
         settle(&mut self.index, &mut self.lent, &self.types);
         clear_marked(&mut self.types, &mut self.index, marks);
         sweep(&mut self.groups, marks);
+    }
+
+    /// The highest id of a live type. It is looked for from the last id that was given out, so that types aren't gone through.
+    pub fn highest(&self) -> Option<TypeId>
+        ensures { MatchOption result ((id : ℕ) → IsLive self.now id → ⊥) (IsHighest self.now) }
+    {
+        let count = self.next_id().index();
+        for past in 0..count {
+            let id = TypeId::from_index(count - 1 - past);
+            if self.contains(id) {
+                return Some(id);
+            }
+        }
+        None
     }
 
     // Where its lists take their memory.
