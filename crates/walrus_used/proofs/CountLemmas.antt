@@ -1,5 +1,5 @@
 -- What is looked at, and what lives, has an id below the counts.
-use Rattle.std.proofs.Common.{◌≡◌, ◌+◌, ◌<◌, ◌≤◌, ◌⊎◌, ℕ, zero, suc, List, [], ◌∷◌, length, map, get_or, Option, Some, None, Contains, refl, sym, subst, inl, inr, arith}
+use Rattle.std.proofs.Common.{◌≡◌, ◌+◌, ◌<◌, ◌≤◌, ◌⊎◌, ℕ, zero, suc, List, [], ◌∷◌, length, map, get_or, Option, Some, None, Contains, refl, sym, ap, subst, inl, inr, arith}
 use Rattle.std.specs.Prelude.{◌↔◌, IsSome, IsTrue, MatchOption, slice_get}
 use Rattle.std.proofs.lemmas.List.{get_or_past}
 use Rattle.std.specs.List.{fold}
@@ -9,6 +9,7 @@ use Rattle.wasm_formats.specs.declared.fault.Space.TheVariants as spaces
 use Rattle.walrus_arena.specs.Arena.{entries_from}
 use Rattle.walrus_items.specs.Items.{Item as TypeItem, Group}
 use Rattle.walrus_types.specs.Table.{Table as TypeTable, type_at, IsLive as IsLiveType}
+use Rattle.walrus_types.specs.Last.{IsHighest}
 use Rattle.walrus_types.specs.TypeLaws.{AreGrouped}
 use Rattle.walrus_references.specs.walrus_module_items.declared.function.Function.{Function}
 use Rattle.walrus_references.specs.walrus_module.Parts.{Module}
@@ -23,7 +24,7 @@ use Rattle.walrus_references.specs.Kept.{IsReached}
 use Rattle.walrus_references.specs.walrus_module.Items.{written, Lives, LivesIn}
 use Rattle.walrus_used.specs.Looks.{Looks, LooksIn, AreActive}
 use Rattle.walrus_used.specs.Counts.{counts_of, past_id, past_group, past_types}
-use Rattle.walrus_used.proofs.LooksLemmas.{none_in, cases_in, named_below, reached_looked, looked_reached}
+use Rattle.walrus_used.proofs.LooksLemmas.{none_in, first_in, cases_in, named_below, reached_looked, looked_reached}
 
 some_below : {A : Type 0} (slots : List (Option A)) (id : ℕ) → IsSome (get_or slots id None) → id < length slots
 some_below slots id h = elim (cases_lt id (length slots)) as (λ _. id < length slots) [
@@ -90,6 +91,31 @@ groups_these (h ∷ gs) n g id c d = elim (cases_in h gs g c) as (λ _. id < fol
   | inr rest ↦ groups_these gs (past_group n h) g id rest d
 ]
 
+-- no count is past a bound of the ids
+past_within : (n id bound : ℕ) → n ≤ bound → id < bound → past_id n id ≤ bound
+past_within n id bound is small = elim (cases_lt id n) as (λ _. past_id n id ≤ bound) [ inl below ↦ rw (lt-ltb id n below) is | inr past ↦ rw (le-ltb id n past) omega (arith, small) ]
+
+all_within : (ids : List ℕ) (n bound : ℕ) → n ≤ bound → ((id : ℕ) → Contains ids id → id < bound) → fold past_id n ids ≤ bound
+all_within [] n bound is all = is
+all_within (id ∷ ids) n bound is all = all_within ids (past_id n id) bound (past_within n id bound is (all id (first_in id ids))) (λ i c. all i (suc c.0, omega (arith, c.1), c.2))
+
+groups_within : (gs : List Group) (n bound : ℕ) → n ≤ bound → ((g : Group) → Contains gs g → (id : ℕ) → Contains g.types id → id < bound) → fold past_group n gs ≤ bound
+groups_within [] n bound is all = is
+groups_within (g ∷ gs) n bound is all = groups_within gs (past_group n g) bound (all_within g.types n bound is (all g (first_in g gs))) (λ h c. all h (suc c.0, omega (arith, c.1), c.2))
+
+group_there : (n : ℕ) (slots : List (Option Group)) (g : Group) → Contains (map (λ (e : ℕ × Group). e.1) (entries_from n slots)) g → (place : ℕ) × (get_or slots place None ≡ Some g)
+group_there n [] g c = absurd (none_in g c)
+group_there n (None ∷ slots) g c = (let there = group_there (n + 1) slots g c in (suc there.0, there.1))
+group_there n (Some h ∷ slots) g c = elim (cases_in h (map (λ (e : ℕ × Group). e.1) (entries_from (n + 1) slots)) g c) as (λ _. (place : ℕ) × (get_or (Some h ∷ slots) place None ≡ Some g)) [
+  | inl e ↦ (0, ap (λ (k : Group). Some k) e)
+  | inr rest ↦ (let there = group_there (n + 1) slots g rest in (suc there.0, there.1))
+]
+
+types_within : (t : TypeTable) → AreGrouped t → (bound : ℕ) → ((id : ℕ) → IsLiveType t id → id < bound) → past_types t ≤ bound
+types_within t grouped bound all = groups_within (map (λ (e : ℕ × Group). e.1) (entries_from 0 t.groups)) 0 bound (omega arith) (λ g c id member. (let there = group_there 0 t.groups g c in
+    let live = grouped.live there.0 g there.1 id member in
+    all id (some_is (type_at t id) live.0 live.1)))
+
 -- the ids of live types are below what is past all groups
 pub types_below : (t : TypeTable) → AreGrouped t → (n : ℕ) → n ≡ fold past_group 0 (map (λ (e : ℕ × Group). e.1) (entries_from 0 t.groups)) → (id : ℕ) → IsLiveType t id → id < n
 types_below t grouped n is id live = go (type_at t id) refl live
@@ -101,6 +127,16 @@ types_below t grouped n is id live = go (type_at t id) refl live
         let has = in_group.1 in
         let below = groups_these (map (λ (e : ℕ × Group). e.1) (entries_from 0 t.groups)) 0 in_group.0 id (group_in 0 has.place t.groups in_group.0 has.live) has.listed in
         omega (arith, below, is)
+
+-- one more than the last live type
+pub past_highest : (t : TypeTable) → AreGrouped t → (id : ℕ) → IsHighest t id → id + 1 ≡ past_types t
+past_highest t grouped id last =
+    let below = types_below t grouped (past_types t) refl id last.live in
+    let within = types_within t grouped (id + 1) (λ other live. (let above = last.above other live in omega (arith, above))) in
+    omega (arith, below, within)
+
+pub past_none : (t : TypeTable) → AreGrouped t → ((id : ℕ) → IsLiveType t id → ⊥) → 0 ≡ past_types t
+past_none t grouped none = (let within = types_within t grouped 0 (λ id live. absurd (none id live)) in omega (arith, within))
 
 module _ (m : Module) (grouped : AreGrouped m.types) where
   type_below : (id : ℕ) → IsLiveType m.types id → id < past_types m.types

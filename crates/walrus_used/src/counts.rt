@@ -1,60 +1,32 @@
 //! What is reached in a module.
 ghost use Rattle.std.specs.Prelude.{◌≡◌, ◌<◌, ◌≤◌, ◌^◌, ℕ, IfOk, slice_index_or};
-ghost use Rattle.std.specs.List.{fold};
 ghost use Rattle.std.specs.Bool.{OnTrue};
 ghost use Rattle.walrus_marks.specs.Chains.{IsReached};
 ghost use Rattle.walrus_references.specs.References.{Refers};
 ghost use Rattle.walrus_references.specs.Roots.{Root};
 ghost use Rattle.walrus_references.specs.walrus_module.Parts.{parts};
 ghost use Rattle.walrus_used.specs.Asked.{AllHold};
-ghost use Rattle.walrus_used.specs.Counts.{counts_of, past_id, past_types};
+ghost use Rattle.walrus_used.specs.Counts.{counts_of, past_types};
 
 use crate::module_names::ModuleNames;
 use crate::segments::element_segments;
 use crate::sweep::{Check, Reached, reach_asking};
 use std::alloc::{AllocError, Global};
-use walrus_arena::TypeId;
 use walrus_marks::Claims;
 use walrus_references::module::Module;
 use walrus_roots::Item;
 use walrus_types::ModuleTypes;
-
-// The count, or one more than the id.
-fn past(count: usize, id: TypeId) -> usize
-    requires { count ≤ 2 ^ 32 }
-    ensures past { result ≡ past_id count id }
-    ensures bounded { result ≤ 2 ^ 32 }
-{
-    if id.index() < count {
-        count
-    } else {
-        id.index() + 1
-    }
-}
-
-// The count, or one more than the highest of these ids.
-fn past_all(count: usize, members: &[TypeId]) -> usize
-    requires { count ≤ 2 ^ 32 }
-    ensures past { result ≡ fold past_id count members.now }
-    ensures bounded { result ≤ 2 ^ 32 }
-{
-    let mut above = count;
-    for member in members {
-        above = past(above, *member);
-    }
-    above
-}
 
 /// One more than the highest id of a live type.
 pub fn type_count(types: &ModuleTypes) -> usize
     ensures count { result ≡ past_types types.now }
     ensures bounded { result ≤ 2 ^ 32 }
 {
-    let mut count = 0;
-    for group in types.rec_groups() {
-        count = past_all(count, group.types.as_slice());
+    walrus_types::laws::types_are_grouped(types);
+    match types.highest() {
+        Some(id) => id.index() + 1,
+        None => 0,
     }
-    count
 }
 
 /// How many ids were given out in each space, by the number of the space; of types, one more than the highest live one.
