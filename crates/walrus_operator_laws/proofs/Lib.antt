@@ -12,3 +12,4 @@ pub mod Accesses
 pub mod Renamed
 pub mod Read
 pub mod Answered
+mod ListRows

@@ -1,4 +1,5 @@
 //! Laws: functions with nothing to do, whose contracts hold of all operators and instructions.
+ghost use Rattle.walrus_operator_laws.specs.Lists.{ListsAreThree};
 ghost use Rattle.walrus_operator_laws.specs.Laws.{OperatorComesBack, OperatorsAreTold, PlainIsAnswered, PlainIsRead};
 ghost use Rattle.walrus_operator_laws.specs.Turns.{TurnsNumber};
 ghost use Rattle.walrus_operator_laws.specs.InstrLaws.{InstrComesBack, FormsAreTold};
@@ -55,4 +56,10 @@ pub fn names_are_told()
 /// The operator of an instruction under a map is the one under no map, where each id is its own number, renamed as the map renames.
 pub fn operators_are_sent()
     ensures { OperatorsAreSent }
+{}
+
+/// The operators whose immediates hold a list, which alone may be refused memory as they are read, are `br_table`, `try_table` and the
+/// `select` with types.
+pub fn only_three_operators_hold_lists()
+    ensures { ListsAreThree }
 {}

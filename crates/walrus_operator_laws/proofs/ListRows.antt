@@ -5,7 +5,7 @@ use Rattle.std.proofs.lemmas.Bool.{cases_Bool, or_cases, and_parts, false≢true
 use Rattle.wasm_operators.specs.declared.entry.Entry.{Entry}
 use Rattle.wasm_operators.specs.Kinds.{takes_memory}
 use Rattle.wasm_operators.specs.Table.{Row, find, find_byte, find_code, structure_rows, call_rows, plain_rows, fb_rows, fc_rows, fd_rows, fe_rows}
-use Rattle.wasm_operator_lists.specs.Lists.{holds_list, is_one_of_three, ListsAreThree}
+use Rattle.walrus_operator_laws.specs.Lists.{holds_list, is_one_of_three, ListsAreThree}
 
 lists : Option Entry → Bool
 lists e = option_map_or (λ (e : Entry). takes_memory e.kind) e false

@@ -1,5 +1,0 @@
-use Rattle.wasm_operator_lists.proofs.ListRows.{lists_are_three}
-use Rattle.wasm_operator_lists.proofs.laws.only_three_operators_hold_lists.Goals as goal
-
-pub returns : goal.returns
-returns c = lists_are_three
