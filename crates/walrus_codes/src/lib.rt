@@ -1,5 +1,5 @@
-//! Codes behind a prefix, and those of operators of one operand and of accesses to memory (Core Specification, binary format: numeric
-//! instructions, memory instructions, vector instructions; the proposal on threads).
+//! Codes behind a prefix, and those of accesses to memory (Core Specification, binary format: memory instructions, vector instructions; the
+//! proposal on threads).
 #![tactic(auto)]
 
 // A code, written out: a call for each would be a good part of what the proofs of the large matches take.
@@ -14,13 +14,11 @@ macro_rules! code {
 
 mod access;
 mod code;
-mod unary;
 
 pub use access::{
     code_of_cmpxchg, code_of_load, code_of_rmw, code_of_simd, code_of_store, lane_of_simd,
 };
-pub use code::{atomic, bulk, byte, object, pick, vector};
-pub use unary::{code_of_unary, lane_of_unary};
+pub use code::{atomic, bulk, byte, object, pick, saturating, vector};
 
 // Passed on to crates above, which then list this one alone.
 pub mod instr {

@@ -23,10 +23,10 @@ pub use access::{cmpxchg_of, load_of, rmw_of, simd_of, store_of};
 pub use binary::{binary_of, code_of_binary, lane_of_binary};
 pub use numeric::{Numeric, numeric_of};
 pub use ternary::code_of_ternary;
-pub use unary::unary_of;
+pub use unary::{code_of_unary, lane_of_unary, unary_of};
 
 // Passed on to crates above, which then list this one alone.
 pub use walrus_codes::{
     atomic, byte, code_of_cmpxchg, code_of_load, code_of_rmw, code_of_simd, code_of_store,
-    code_of_unary, lane_of_simd, lane_of_unary, object,
+    lane_of_simd, object,
 };
