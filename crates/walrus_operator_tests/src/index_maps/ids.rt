@@ -40,18 +40,20 @@ fn only_this(ids: &IndicesToIds, space: Space) -> bool {
     true
 }
 
-// Whether two ids that are pushed to the space have the indices 0 and 1, and nothing else has.
-fn are_two(ids: &mut IndicesToIds, space: Space) -> Result<bool, AllocError> {
+// Whether three ids that are pushed to the space, of which two follow each other, have the indices 0 to 2, and nothing else has.
+fn are_three(ids: &mut IndicesToIds, space: Space) -> Result<bool, AllocError> {
     let first = push(ids, space, 7)?;
-    let second = push(ids, space, 4)?;
-    let names = named(ids, space, 0) == Ok(7) && named(ids, space, 1) == Ok(4);
-    let past = named(ids, space, 2) == Err(UnknownIndex(space));
-    Ok(first == 0 && second == 1 && names && past && only_this(ids, space))
+    let second = push(ids, space, 8)?;
+    let third = push(ids, space, 4)?;
+    let row = named(ids, space, 0) == Ok(7) && named(ids, space, 1) == Ok(8);
+    let names = row && named(ids, space, 2) == Ok(4);
+    let past = named(ids, space, 3) == Err(UnknownIndex(space));
+    Ok(first == 0 && second == 1 && third == 2 && names && past && only_this(ids, space))
 }
 
 fn has_own_list(alloc: Global, space: Space) -> Result<bool, AllocError> {
     let mut ids = IndicesToIds::new(alloc);
-    are_two(&mut ids, space)
+    are_three(&mut ids, space)
 }
 
 #[test]
