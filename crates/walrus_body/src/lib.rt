@@ -70,8 +70,8 @@ pub mod laws {
 
     /// Runs: that a body and its normal form have equal traces.
     pub mod runs {
+        pub use walrus_emission_laws::machine::laws as machine;
         pub use walrus_emission_laws::run_laws::laws as normal_forms;
-        pub use walrus_emission_laws::runs::laws as machine;
         pub use wasm_run_names::laws as names;
     }
 }

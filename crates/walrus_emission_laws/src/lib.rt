@@ -32,6 +32,6 @@ pub mod run_laws {
     pub use wasm_run_laws::laws;
 }
 
-pub mod runs {
+pub mod machine {
     pub use wasm_runs::laws;
 }
