@@ -5,8 +5,8 @@ use std::alloc::{AllocError, Global};
 use std::marker::Model;
 use walrus_arena::Id;
 
-/// A list of ids. Those at its beginning that follow each other take no memory each, and none is looked at to tell one: so it is with
-/// all that a module is read with.
+/// A list of ids. Those at its beginning that follow each other are a number and a count: they take no memory, and none is looked up.
+/// As a module is read, it gives its items ids that follow each other, space by space.
 #[derive(Drop)]
 pub(crate) struct IdList<S> {
     // The number of the first id, and how many follow each other from it on.
