@@ -2,12 +2,14 @@
 """Times the parsing of function bodies into trees, and their parsing and emission together, against a loop in C that only decodes the
 same operators, and prints the ratios, the memory an instruction and the time an operator.
 
-    bench/bodies.py [--rounds N] [--seed N] [--only WORD]
+    bench/bodies.py [--rounds N] [--seed N] [--only WORD] [--small-pages]
 
 Each body stands in a file, and is in normal form: what is written is the body again. A time is the processor's, the system's calls
 included, of a whole run less that of one that does no more than load the file (the loop in C: that reads an empty one), the least of the
 rounds; memory is the greatest that a run holds, less that of one that loads the file, over the instructions of the tree: of few
-instructions it says nothing.
+instructions it says nothing. The C library is asked for large pages, as the programs in bin/ do, unless --small-pages is given: a tree
+takes some fifty times the memory of its code, of which the loop in C touches none, and the kernel's work for new pages of 4 KiB was a
+third of the time of parsing.
 """
 import argparse
 import os
@@ -17,6 +19,7 @@ import sys
 import tempfile
 
 sys.path.insert(0, os.path.dirname(os.path.abspath(__file__)))
+from compare import LARGE_PAGES  # noqa: E402
 from operators import signed, unsigned  # noqa: E402
 
 ROOT = os.path.dirname(os.path.dirname(os.path.abspath(__file__)))
@@ -121,15 +124,15 @@ def body(chance, count, some_locals, depth):
     return b"\x01" + unsigned(some_locals) + b"\x7f", used + code + b"\x0b"
 
 
-def measured(*words):
+def measured(settings, *words):
     """The seconds of the processor that one run takes, the kilobytes that it holds at most, and what it prints."""
-    run = subprocess.run(words, capture_output=True, text=True, check=True)
+    run = subprocess.run(words, capture_output=True, text=True, check=True, env={**os.environ, **settings})
     took, held = run.stderr.split()[-2:]
     return int(took) / 1e6, int(held), run.stdout
 
 
-def least(rounds, *words):
-    runs = [measured(*words) for _ in range(rounds)]
+def least(rounds, settings, *words):
+    runs = [measured(settings, *words) for _ in range(rounds)]
     return min(it[0] for it in runs), min(it[1] for it in runs), runs[0][2]
 
 
@@ -138,7 +141,9 @@ def main():
     words.add_argument("--rounds", type=int, default=5)
     words.add_argument("--seed", type=int, default=1)
     words.add_argument("--only", default="")
+    words.add_argument("--small-pages", action="store_true")
     asked = words.parse_args()
+    settings = {} if asked.small_pages else LARGE_PAGES
     with tempfile.TemporaryDirectory() as folder:
         loop = f"{folder}/operators"
         subprocess.run(["gcc", "-O2", "-o", loop, f"{ROOT}/bench/operators.c"], check=True)
@@ -158,10 +163,10 @@ def main():
             for name, text in ((file, declared + operators), (code, operators)):
                 with open(name, "wb") as it:
                     it.write(text)
-            theirs = least(asked.rounds, runner, loop, code, "read")
-            decoded = theirs[0] - least(asked.rounds, runner, loop, "/dev/null", "read")[0]
+            theirs = least(asked.rounds, settings, runner, loop, code, "read")
+            decoded = theirs[0] - least(asked.rounds, settings, runner, loop, "/dev/null", "read")[0]
             seen = int(theirs[2].split()[0])
-            load, parse, both = (least(asked.rounds, runner, ours, "body", file, way) for way in ("load", "parse", "both"))
+            load, parse, both = (least(asked.rounds, settings, runner, ours, "body", file, way) for way in ("load", "parse", "both"))
             instructions, written = (int(both[2].split()[k]) for k in (0, 2))
             if written != len(declared) + len(operators):
                 sys.exit(f"{what}: of {len(declared) + len(operators)} bytes {written} are written")

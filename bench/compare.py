@@ -41,10 +41,14 @@ def install():
     sys.exit(f"{' '.join(missing)} could not be installed")
 
 
-def measured(words):
+# What bin/program sets: the C library asks for large pages.
+LARGE_PAGES = {"GLIBC_TUNABLES": "glibc.malloc.hugetlb=1"}
+
+
+def measured(words, settings=None):
     """The seconds by the clock and of the processor, and the bytes of memory, that a command takes."""
     began = time.monotonic()
-    process = subprocess.Popen(words, stdout=subprocess.DEVNULL, stderr=subprocess.PIPE)
+    process = subprocess.Popen(words, stdout=subprocess.DEVNULL, stderr=subprocess.PIPE, env={**os.environ, **(settings or {})})
     said = process.stderr.read()
     _, status, usage = os.wait4(process.pid, 0)
     took = time.monotonic() - began

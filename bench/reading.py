@@ -1,10 +1,11 @@
 #!/usr/bin/env python3
 """Times walrus_inspect against wasm-opt --all-features without passes on files of six shapes, each of three sizes, and prints a table.
 
-    bench/reading.py [--rounds N] [--scale N] [FILE..]
+    bench/reading.py [--rounds N] [--scale N] [--small-pages] [FILE..]
 
 A time is the least of the rounds, in seconds by the clock; memory is the most that was resident. wasm-opt reads the file and writes it again.
-Wanted are 15 times less time and half of the memory, and at most 2.2 times the time for twice the count. --scale divides the counts. Files
+Wanted are 15 times less time and half of the memory, and at most 2.2 times the time for twice the count. walrus_inspect runs as
+bin/walrus_inspect starts it, which has the C library ask for large pages, unless --small-pages is given. --scale divides the counts. Files
 that are named are measured instead. binaryen is installed where it is missing.
 """
 import argparse
@@ -13,7 +14,7 @@ import subprocess
 import sys
 import tempfile
 
-from compare import install, measured
+from compare import LARGE_PAGES, install, measured
 
 ROOT = os.path.dirname(os.path.dirname(os.path.abspath(__file__)))
 CRATE = f"{ROOT}/crates/walrus_inspect_cli"
@@ -28,14 +29,14 @@ def build():
         subprocess.run(["rt", "run", "--", "--version"], cwd=CRATE, check=True, stdout=subprocess.DEVNULL)
 
 
-def least(command, rounds):
-    clocks, _, memories = zip(*(measured(command) for _ in range(rounds)))
+def least(command, rounds, settings=None):
+    clocks, _, memories = zip(*(measured(command, settings) for _ in range(rounds)))
     return min(clocks), max(memories)
 
 
-def row(what, file, rounds, before):
+def row(what, file, rounds, settings, before):
     """Prints the figures of a file, beside those of the one before it, and returns our time."""
-    ours, memory = least([PROGRAM, file], rounds)
+    ours, memory = least([PROGRAM, file], rounds, settings)
     theirs, much = least(["wasm-opt", "--all-features", file, "-o", os.devnull], rounds)
     size = os.path.getsize(file)
     doubled = f"{ours / before:.2f}" if before else ""
@@ -47,13 +48,15 @@ def main():
     words = argparse.ArgumentParser(description="Times walrus_inspect against wasm-opt.")
     words.add_argument("--rounds", type=int, default=3)
     words.add_argument("--scale", type=int, default=1)
+    words.add_argument("--small-pages", action="store_true")
     words.add_argument("files", nargs="*")
     asked = words.parse_args()
+    settings = None if asked.small_pages else LARGE_PAGES
     install()
     build()
     print("| What | MB | `walrus_inspect`, s | Times the half | `wasm-opt`, s | Times ours | MiB | Of `wasm-opt`'s |\n|---|---|---|---|---|---|---|---|")
     for file in asked.files:
-        row(os.path.basename(file), file, asked.rounds, None)
+        row(os.path.basename(file), file, asked.rounds, settings, None)
     with tempfile.TemporaryDirectory() as folder:
         for shape, most in COUNTS.items() if not asked.files else ():
             before = None
@@ -62,7 +65,7 @@ def main():
                 file = f"{folder}/{shape}.wasm"
                 # In a process of its own: what this one has resident counts as its children's too.
                 subprocess.run([sys.executable, f"{ROOT}/bench/make_file.py", "--count", str(count), shape, file], check=True)
-                before = row(f"{shape}, {count:,}", file, asked.rounds, before)
+                before = row(f"{shape}, {count:,}", file, asked.rounds, settings, before)
 
 
 if __name__ == "__main__":
