@@ -90,7 +90,7 @@ fn push_type(types: &mut TombstoneArena<Type, TypeSpace>, index: &mut Index, ty:
 }
 
 // The same, where the hash of the type is known.
-fn push_hashed(types: &mut TombstoneArena<Type, TypeSpace>, index: &mut Index, ty: Type, hash: u64)
+fn push_hashed(types: &mut TombstoneArena<Type, TypeSpace>, index: &mut Index, ty: Type, hash: u128)
     requires room { 0 < types.old.room }
     requires index_room { length types.old.slots + 1 ≤ index.old.room }
     requires held { IsHeld None index.old (kinds_in types.old.slots) }
@@ -186,7 +186,7 @@ pub fn push_single_hashed(
     homes: &mut Vec<RecGroupId>,
     index: &mut Index,
     ty: Type,
-    hash: u64,
+    hash: u128,
     members: Vec<TypeId>,
 )
     requires types { 0 < types.old.room }

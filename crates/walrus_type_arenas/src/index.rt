@@ -34,7 +34,7 @@ pub fn look_up_hashed(
     index: &Index,
     types: &TombstoneArena<Type, TypeSpace>,
     ty: &Type,
-    hash: u64,
+    hash: u128,
     next: TypeId,
 ) -> Option<TypeId>
     requires held { IsHeld None index.now (kinds_in types.now.slots) }

@@ -38,7 +38,7 @@ sorted-behind c (x ∷ l) m s = sorted-behind c l m s.1
 
 -- places rise with hashes
 place-rises : (shift a b : ℕ) → a ≤ b → place_of shift a ≤ place_of shift b
-place-rises shift a b up = shr_mono shift (shr_mono 1 up)
+place-rises shift a b up = shr_mono shift (shr_mono 65 up)
 
 hash-below : (shift a b : ℕ) → place_of shift a < place_of shift b → a < b
 hash-below shift a b less = elim (cases_lt a b) as (λ _. a < b) [
@@ -330,7 +330,7 @@ swept-more f trees k now tree new n less t e =
 
 -- widening
 place-half : (shift hash : ℕ) → place_of shift hash / 2 ≡ place_of (suc shift) hash
-place-half shift hash = shr-shr (hash / 2) shift 1 ∙ ap (λ (k : ℕ). hash / 2 / 2 ^ k) (omega arith)
+place-half shift hash = shr-shr (hash / 2 ^ 65) shift 1 ∙ ap (λ (k : ℕ). hash / 2 ^ 65 / 2 ^ k) (omega arith)
 
 later-is : (shift place : ℕ) (x : Hashed) → is_later shift place x ≡ true → place < place_of shift x.hash
 later-is shift place x e = ltb-true place (place_of shift x.hash) e

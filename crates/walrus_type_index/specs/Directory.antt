@@ -4,9 +4,9 @@ use Rattle.std.specs.Bool.{nat_lt}
 use Rattle.std.specs.List.{AllByRecursion}
 use Rattle.walrus_type_index.specs.Places.{Hashed}
 
--- the first bits of a hash
+-- the first of the 63 highest bits of a hash
 abbrev pub place_of : ℕ → ℕ → ℕ
-place_of shift hash = hash / 2 / 2 ^ shift
+place_of shift hash = hash / 2 ^ 65 / 2 ^ shift
 
 -- the ids of all trees, the last one of which has all further places
 abbrev pub joined : List (List Hashed) → List Hashed → List Hashed

@@ -1,5 +1,5 @@
 -- A number of each kind, by which most types are told apart. Any function of kinds would do: no answer rests on how numbers spread.
-use Rattle.std.specs.Prelude.{ℕ, ◌+◌, ◌*◌, ◌^◌, ◌%◌, List, [], ◌∷◌, Option, None, slice_index_or, if◌then◌else◌}
+use Rattle.std.specs.Prelude.{ℕ, ◌+◌, ◌*◌, ◌/◌, ◌^◌, ◌%◌, List, [], ◌∷◌, Option, None, slice_index_or, if◌then◌else◌}
 use Rattle.std.specs.Option.{option_map_or}
 use Rattle.walrus_items.specs.walrus_forms.declared.value.HeapType.{HeapType}
 use Rattle.walrus_items.specs.walrus_forms.declared.value.HeapType.TheVariants.{Abstract, Concrete, Exact}
@@ -13,9 +13,21 @@ use Rattle.walrus_items.specs.walrus_forms.Forms.{Form, FunctionForm, StructForm
 use Rattle.walrus_items.specs.walrus_forms.Kinds.{Kind}
 use Rattle.walrus_items.specs.walrus_forms.ValueOrder.{abstract_place}
 
+-- the first half of a hash with one more number in it
+abbrev pub next_first : ℕ → ℕ → ℕ
+next_first hash number = ((hash * 16777619) % 2 ^ 64 + number) % 2 ^ 64
+
+-- both halves of a product in one
+abbrev pub folded : ℕ → ℕ
+folded product = (product / 2 ^ 64 + product % 2 ^ 64) % 2 ^ 64
+
+-- the second half with one more number in it
+abbrev pub next_second : ℕ → ℕ → ℕ
+next_second hash number = let sum = (hash + number) % 2 ^ 64 in folded (sum * ((sum + 11400714819323198485) % 2 ^ 64))
+
 -- the hash with one more number in it
 abbrev pub next_hash : ℕ → ℕ → ℕ
-next_hash hash number = ((hash * 16777619) % 2 ^ 64 + number) % 2 ^ 64
+next_hash hash number = next_first (hash / 2 ^ 64) number * 2 ^ 64 + next_second (hash % 2 ^ 64) number
 
 abbrev pub heap_number : HeapType → ℕ
 heap_number (Abstract ty) = 8 + abstract_place ty

@@ -257,7 +257,7 @@ fn begin(nodes: &mut [FlatNode], hashed: Hashed) -> u32
 
 // The id of a node, and its hash.
 #[inline(always)]
-fn hashed(hash: u64, top: u32) -> Hashed
+fn hashed(hash: u128, top: u32) -> Hashed
     ensures hash { result.hash ≡ hash }
     ensures id { result.id ≡ top }
 {
@@ -377,7 +377,7 @@ fn last(
     nodes: &[FlatNode],
     top: u32,
     types: &TombstoneArena<Type, TypeSpace>,
-    hash: u64,
+    hash: u128,
     target: Target<'_>,
     own: bool,
 ) -> Option<Hashed>
@@ -404,7 +404,7 @@ pub(crate) fn latest(
     nodes: &[FlatNode],
     top: u32,
     types: &TombstoneArena<Type, TypeSpace>,
-    hash: u64,
+    hash: u128,
     target: Target<'_>,
     own: bool,
 ) -> Option<TypeId>

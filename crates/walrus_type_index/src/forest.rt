@@ -133,7 +133,7 @@ impl Forest {
 
     // Looks at the top nodes of the trees of these hashes, and at the nodes below on the way to them. The looks of one kind, which wait for
     // memory, wait at once. No answer rests on what is met.
-    pub(crate) fn met(&self, hashes: &[u64; AHEAD], shift: u32) -> u64
+    pub(crate) fn met(&self, hashes: &[u128; AHEAD], shift: u32) -> u64
         requires { shift ≤ 63 }
     {
         let mut places = [0; AHEAD];
@@ -150,7 +150,7 @@ impl Forest {
         }
         let mut met: u64 = 0;
         for at in 0..AHEAD {
-            met = met.wrapping_add(self.near(places[at]).hash);
+            met = met.wrapping_add(self.near(places[at]).height as u64);
         }
         met
     }
@@ -244,7 +244,7 @@ impl Forest {
         &self,
         place: usize,
         types: &TombstoneArena<Type, TypeSpace>,
-        hash: u64,
+        hash: u128,
         target: Target<'_>,
         own: bool,
     ) -> Option<TypeId>

@@ -5,7 +5,7 @@ ghost use Rattle.std.specs.Prelude.{◌≡◌, ◌<◌, ◌^◌};
 ghost use Rattle.walrus_items.specs.Items.{kind_of};
 ghost use Rattle.walrus_items.specs.walrus_forms.Forms.{FunctionForm};
 ghost use Rattle.walrus_type_index.specs.Places.{kinds_in, hashed_at};
-ghost use Rattle.walrus_type_index.specs.Hashes.{next_hash, heap_number, ref_number, value_number, storage_number, values_hash, fields_hash, form_hash, hash_of, hash_at, plain_number};
+ghost use Rattle.walrus_type_index.specs.Hashes.{next_first, next_second, next_hash, heap_number, ref_number, value_number, storage_number, values_hash, fields_hash, form_hash, hash_of, hash_at, plain_number};
 ghost use Rattle.walrus_type_index.specs.Targets.{target_kind};
 
 use crate::node::Hashed;
@@ -21,11 +21,35 @@ use walrus_items::forms::{
 // then goes through memory much as the types were added.
 const FACTOR: u64 = 0x0100_0193;
 
-// The hash with one more number in it.
-fn next_hash(hash: u64, number: u64) -> u64
-    ensures { result ≡ next_hash hash number }
+// What the second half's other factor is ahead of its first one: some odd number.
+const AHEAD: u64 = 0x9e37_79b9_7f4a_7c15;
+
+// The first half, by which types are ordered, with one more number in it.
+fn next_first(hash: u64, number: u64) -> u64
+    ensures { result ≡ next_first hash number }
 {
     hash.wrapping_mul(FACTOR).wrapping_add(number)
+}
+
+// The second half with one more number in it.
+fn next_second(hash: u64, number: u64) -> u64
+    ensures { result ≡ next_second hash number }
+{
+    let sum = hash.wrapping_add(number);
+    let product = sum as u128 * sum.wrapping_add(AHEAD) as u128;
+    ((product >> 64) as u64).wrapping_add((product % HALF) as u64)
+}
+
+// 2^64.
+const HALF: u128 = 0x1_0000_0000_0000_0000;
+
+// The hash with one more number in it.
+fn next_hash(hash: u128, number: u64) -> u128
+    ensures { result ≡ next_hash hash number }
+{
+    let first = next_first((hash >> 64) as u64, number);
+    let second = next_second((hash % HALF) as u64, number);
+    first as u128 * HALF + second as u128
 }
 
 // How many numbers heap types have: one for each abstract type, and one for each id.
@@ -87,7 +111,7 @@ fn storage_number(ty: &StorageType) -> u64
 }
 
 // The hash with these value types in it, and with their end.
-fn values_hash(start: u64, values: &[ValType]) -> u64
+fn values_hash(start: u128, values: &[ValType]) -> u128
     ensures { result ≡ values_hash start values.now }
 {
     let mut hash = start;
@@ -97,7 +121,7 @@ fn values_hash(start: u64, values: &[ValType]) -> u64
     next_hash(hash, 0)
 }
 
-fn fields_hash(start: u64, fields: &[FieldType]) -> u64
+fn fields_hash(start: u128, fields: &[FieldType]) -> u128
     ensures { result ≡ fields_hash start fields.now }
 {
     let mut hash = start;
@@ -107,14 +131,14 @@ fn fields_hash(start: u64, fields: &[FieldType]) -> u64
     hash
 }
 
-fn function_hash(params: &[ValType], results: &[ValType]) -> u64
+fn function_hash(params: &[ValType], results: &[ValType]) -> u128
     ensures { result ≡ form_hash (FunctionForm params.now results.now) }
 {
     values_hash(values_hash(0, params), results)
 }
 
 /// The hash of a type's kind.
-pub fn type_hash(ty: &Type) -> u64
+pub fn type_hash(ty: &Type) -> u128
     ensures { result ≡ hash_of (kind_of ty.now) }
 {
     match ty.kind() {
@@ -125,7 +149,7 @@ pub fn type_hash(ty: &Type) -> u64
 }
 
 /// The hash of what is looked for.
-pub(crate) fn target_hash(target: Target<'_>) -> u64
+pub(crate) fn target_hash(target: Target<'_>) -> u128
     ensures { result ≡ hash_of (target_kind target.entry) }
 {
     match target {
@@ -135,7 +159,7 @@ pub(crate) fn target_hash(target: Target<'_>) -> u64
     }
 }
 
-fn hash_at(types: &TombstoneArena<Type, TypeSpace>, id: TypeId) -> u64
+fn hash_at(types: &TombstoneArena<Type, TypeSpace>, id: TypeId) -> u128
     ensures { result ≡ hash_at (kinds_in types.now.slots) id }
 {
     match types.get(id) {
@@ -165,7 +189,7 @@ fn record_number(ty: &ValRecord) -> u64 {
     }
 }
 
-fn records_hash(start: u64, values: &[ValRecord]) -> u64 {
+fn records_hash(start: u128, values: &[ValRecord]) -> u128 {
     let mut hash = start;
     for value in values {
         hash = next_hash(hash, record_number(value));
@@ -174,7 +198,7 @@ fn records_hash(start: u64, values: &[ValRecord]) -> u64 {
 }
 
 /// The hash by which the first type of a group will be looked up, where it is a function type that names no type. No answer rests on it.
-pub fn group_hash(group: &GroupRecord) -> u64 {
+pub fn group_hash(group: &GroupRecord) -> u128 {
     let Some(first) = group.types.first() else {
         return 0;
     };

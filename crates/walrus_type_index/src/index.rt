@@ -24,7 +24,7 @@ use walrus_items::arena::{TombstoneArena, TypeId, TypeSpace};
 pub struct Index {
     // A tree for each of the first places, and one for all further ones.
     forest: Forest,
-    // How many bits of a hash its place leaves out, the lowest aside.
+    // How many of the first 63 bits of a hash its place leaves out.
     shift: u32,
     // What looks ahead met: it is kept so that they are made. No answer rests on it.
     met: u64,
@@ -46,11 +46,12 @@ impl Model for Index {
 pub const AHEAD: usize = 32;
 
 // The bits of a hash that are its place.
-pub(crate) fn place_of(hash: u64, shift: u32) -> usize
+pub(crate) fn place_of(hash: u128, shift: u32) -> usize
     requires { shift ≤ 63 }
     ensures { result ≡ place_of shift hash }
 {
-    ((hash >> 1) >> shift) as usize
+    let first = (hash >> 65) as usize;
+    first >> shift
 }
 
 // Whether the id's place is later than this one.
@@ -120,7 +121,7 @@ impl Index {
 
     /// Looks where types of these hashes would stand. A search takes most of its time for its first looks, which wait for memory; what is
     /// looked for in some groups ahead is waited for at once. What is in stays. Takes no memory.
-    pub fn look_ahead(&mut self, hashes: &[u64; AHEAD])
+    pub fn look_ahead(&mut self, hashes: &[u128; AHEAD])
         ensures { self.new ≡ self.old }
     {
         let met = self.forest.met(hashes, self.shift);
@@ -181,7 +182,7 @@ impl Index {
         &self,
         types: &TombstoneArena<Type, TypeSpace>,
         target: Target<'_>,
-        hash: u64,
+        hash: u128,
         own: bool,
     ) -> Option<TypeId>
         requires index { IsIndex (kinds_in types.now.slots) self.now.ids }

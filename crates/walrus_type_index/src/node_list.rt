@@ -3,7 +3,7 @@
 // A node of a tree. Where its sides have no node, there are none.
 #[derive(Clone, Copy)]
 pub(crate) struct FlatNode {
-    pub(crate) hash: u64,
+    pub(crate) hash: u128,
     pub(crate) left: u32,
     pub(crate) right: u32,
     // What the sides are kept near each other by. No answer rests on it.

@@ -114,7 +114,7 @@ fn compare_target(ty: &Type, target: Target<'_>) -> Ordering
 pub(crate) fn compare_wanted(
     types: &TombstoneArena<Type, TypeSpace>,
     hashed: Hashed,
-    hash: u64,
+    hash: u128,
     target: Target<'_>,
     own: bool,
 ) -> Ordering
