@@ -5,7 +5,7 @@ use Rattle.std.specs.Prelude.{is_some}
 use Rattle.walrus_type_index.specs.walrus_items.declared.subtype.Type.{«Type» as TypeItem}
 use Rattle.walrus_type_index.specs.walrus_items.Items.{kind_of}
 use Rattle.walrus_type_index.specs.declared.node.Hashed.{Hashed}
-use Rattle.walrus_type_index.specs.Hashes.{hash_of, hash_at}
+use Rattle.walrus_type_index.specs.Hashes.{hash_of}
 use Rattle.walrus_type_index.specs.Places.{kinds_in, hashed_at}
 use Rattle.walrus_type_index.specs.Ordered.{Indexed, IsOrdered, IsHeld, is_marked, lives_at}
 use Rattle.walrus_type_index.proofs.OrderedLemmas.{ordered-written, ordered-dead, ordered-swept, ordered-new}

@@ -7,6 +7,7 @@ pub mod IndexLemmas
 pub mod LawLemmas
 pub mod MarkLemmas
 pub mod RankLemmas
+pub mod SparedLemmas
 pub mod SweepLemmas
 pub mod TableLemmas
 -- Passed on to crates above, which then list this one alone.

@@ -1,14 +1,16 @@
 -- Marks of ids, and what is left without the marked ones.
-use Rattle.std.proofs.Common.{◌≡◌, ◌∙◌, ℕ, zero, suc, ◌+◌, ◌<◌, ◌≤◌, Bool, true, false, cond, not, List, [], ◌∷◌, length, map, filter, Contains, Option, Some, None, inl, inr, refl, sym, ap, arith, ⊎_elim, slice_index_or, slice_set}
+use Rattle.std.proofs.Common.{◌≡◌, ◌∙◌, ℕ, zero, suc, ◌+◌, ◌<◌, ◌≤◌, Bool, true, false, cond, not, ◌&&◌, List, [], ◌∷◌, length, map, filter, Contains, Option, Some, None, inl, inr, refl, sym, ap, subst, arith, ⊎_elim, slice_index, slice_index_or, slice_set}
 use Rattle.std.specs.Prelude.{is_some}
-use Rattle.std.specs.Option.{option_map, option_and_then}
+use Rattle.std.specs.Option.{option_map, option_map_or, option_and_then}
+use Rattle.std.proofs.Math.Bool.{and-false}
 use Rattle.std.proofs.lemmas.Bool.{cases_Bool, cases_eq, cases_lt, false≢true}
-use Rattle.std.proofs.lemmas.List.{ext_get_or, get_or_past, get_or-set_same, length-map, length-set}
+use Rattle.std.proofs.lemmas.List.{ext_get_or, get_or_past, get_or-set_other, get_or-set_same, length-map, length-set}
 use Rattle.walrus_type_index.proofs.walrus_forms.walrus_arena.ArenaLemmas.{at-other}
 use Rattle.walrus_type_index.specs.Ordered.{is_marked}
 use Rattle.walrus_type_index.specs.walrus_items.declared.subtype.Type.{«Type» as TypeItem}
-use Rattle.walrus_type_index.specs.walrus_items.Items.{Item, Group, item_of}
-use Rattle.walrus_type_arenas.specs.Table.{IsGrouped, clear_all, marked, marked_from, nonempty_group, with_live, without_marked}
+use Rattle.walrus_type_index.specs.walrus_items.Items.{Item, Group, item_of, group_of}
+use Rattle.walrus_type_index.specs.walrus_items.declared.subtype.RecGroup.{RecGroup}
+use Rattle.walrus_type_arenas.specs.Table.{IsGrouped, clear_all, is_explicit_at, is_spared, marked, marked_from, nonempty_group, table_of, with_live, without_marked}
 use Rattle.walrus_type_arenas.proofs.TableLemmas.{at-map}
 use Rattle.walrus_type_arenas.proofs.DeleteLemmas.{at-cleared, cleared-at, cons-cases, cons-here, cons-later, length-clear_all, nothing}
 
@@ -71,17 +73,28 @@ cleared-shown marks old new same cleared =
     ∙ ap (λ (o : Option Item). cond (is_marked marks i) None o) (sym (at-map item_of old i))
     ∙ sym (cleared-marked marks seen i))
 
-pub none-cleared : (marks : List Bool) (old : List (Option TypeItem)) → ((id : ℕ) → is_marked marks id ≡ false) → IsCleared marks old old
-none-cleared marks old none id = sym (ap (λ (b : Bool). cond b None (slice_index_or old id None)) (none id))
+-- which ids stay marked
+abbrev left : List Bool → (ℕ → Bool) → ℕ → Bool
+left marks spared id = is_marked marks id && not (spared id)
 
--- so far, and from there on
-pub record IsClearedTo (marks : List Bool) (place : ℕ) (old new : List (Option TypeItem)) : Type 0 where
+-- so far the marked ids' types died and the spared ids' marks are off, and from there on all is as it was
+pub record IsKilledTo (spared : ℕ → Bool) (place : ℕ) (marks now : List Bool) (old new : List (Option TypeItem)) : Type 0 where
   pub sized : length new ≡ length old
-  pub before : (id : ℕ) → id < place → slice_index_or new id None ≡ cond (is_marked marks id) None (slice_index_or old id None)
-  pub behind : (id : ℕ) → place ≤ id → slice_index_or new id None ≡ slice_index_or old id None
+  pub counted : length now ≡ length marks
+  pub before : (id : ℕ) → id < place → is_marked now id ≡ left marks spared id
+  pub behind : (id : ℕ) → place ≤ id → is_marked now id ≡ is_marked marks id
+  pub dead : (id : ℕ) → id < place → slice_index_or new id None ≡ cond (left marks spared id) None (slice_index_or old id None)
+  pub same : (id : ℕ) → place ≤ id → slice_index_or new id None ≡ slice_index_or old id None
 
-pub cleared-none : (marks : List Bool) (old : List (Option TypeItem)) → IsClearedTo marks 0 old old
-cleared-none marks old = record { sized = refl; before = λ id less. absurd (omega (arith, less)); behind = λ id far. refl }
+pub killed-none : (spared : ℕ → Bool) (marks : List Bool) (old : List (Option TypeItem)) → IsKilledTo spared 0 marks marks old old
+killed-none spared marks old = record {
+  sized = refl;
+  counted = refl;
+  before = λ id less. absurd (omega (arith, less));
+  behind = λ id far. refl;
+  dead = λ id less. absurd (omega (arith, less));
+  same = λ id far. refl;
+}
 
 set-none : (slots : List (Option TypeItem)) (id : ℕ) → slice_index_or (slice_set slots id None) id None ≡ None
 set-none slots id = ⊎_elim
@@ -89,46 +102,121 @@ set-none slots id = ⊎_elim
     (λ past. get_or_past (slice_set slots id None) id None (omega (arith, length-set slots id None, past)))
     (cases_lt id (length slots))
 
-pub cleared-one : (marks : List Bool) (place id : ℕ) (old now after : List (Option TypeItem)) → id ≡ place → is_marked marks id ≡ true → after ≡ slice_set now id None
-    → IsClearedTo marks place old now → IsClearedTo marks (place + 1) old after
-cleared-one marks place id old now after is dies step c = record {
-  sized = ap (λ (slots : List (Option TypeItem)). length slots) step ∙ length-set now id None ∙ c.sized;
-  before = λ k less. ⊎_elim
-      (λ same. ap (λ (slots : List (Option TypeItem)). slice_index_or slots k None) step
-      ∙ ap (λ (i : ℕ). slice_index_or (slice_set now id None) i None) same
-      ∙ set-none now id
-      ∙ sym (ap (λ (b : Bool). cond b None (slice_index_or old k None)) (ap (is_marked marks) same ∙ dies)))
-      (λ apart. ap (λ (slots : List (Option TypeItem)). slice_index_or slots k None) step
-      ∙ at-other now None id k apart
-      ∙ c.before k (omega (arith, less, apart, is)))
-      (cases_eq k id);
-  behind = λ k far. ap (λ (slots : List (Option TypeItem)). slice_index_or slots k None) step
-      ∙ at-other now None id k (λ same. omega (arith, far, same, is))
-      ∙ c.behind k (omega (arith, far));
+-- the mark of the next id comes to this, and its slot to that
+killed-next : (spared : ℕ → Bool) (place : ℕ) (marks now after : List Bool) (old slots new : List (Option TypeItem)) → length new ≡ length slots → length after ≡ length now
+    → is_marked after place ≡ left marks spared place → slice_index_or new place None ≡ cond (left marks spared place) None (slice_index_or old place None)
+    → ((id : ℕ) → (id ≡ place → ⊥) → is_marked after id ≡ is_marked now id) → ((id : ℕ) → (id ≡ place → ⊥) → slice_index_or new id None ≡ slice_index_or slots id None)
+    → IsKilledTo spared place marks now old slots → IsKilledTo spared (place + 1) marks after old new
+killed-next spared place marks now after old slots new sized counted mark slot marks-same slots-same k = record {
+  sized = sized ∙ k.sized;
+  counted = counted ∙ k.counted;
+  before = λ id less. ⊎_elim
+      (λ is. subst (λ (i : ℕ). is_marked after i ≡ left marks spared i) (sym is) mark)
+      (λ apart. marks-same id apart ∙ k.before id (omega (arith, less, apart)))
+      (cases_eq id place);
+  behind = λ id far. marks-same id (λ is. omega (arith, far, is)) ∙ k.behind id (omega (arith, far));
+  dead = λ id less. ⊎_elim
+      (λ is. subst (λ (i : ℕ). slice_index_or new i None ≡ cond (left marks spared i) None (slice_index_or old i None)) (sym is) slot)
+      (λ apart. slots-same id apart ∙ k.dead id (omega (arith, less, apart)))
+      (cases_eq id place);
+  same = λ id far. slots-same id (λ is. omega (arith, far, is)) ∙ k.same id (omega (arith, far));
 }
 
-pub cleared-not : (marks : List Bool) (place id : ℕ) (old now : List (Option TypeItem)) → id ≡ place → is_marked marks id ≡ false
-    → IsClearedTo marks place old now → IsClearedTo marks (place + 1) old now
-cleared-not marks place id old now is stays c = record {
-  sized = c.sized;
-  before = λ k less. ⊎_elim
-      (λ same. c.behind k (omega (arith, same, is)) ∙ sym (ap (λ (b : Bool). cond b None (slice_index_or old k None)) (ap (is_marked marks) same ∙ stays)))
-      (λ apart. c.before k (omega (arith, less, apart, is)))
-      (cases_eq k id);
-  behind = λ k far. c.behind k (omega (arith, far));
-}
+-- an id that isn't marked
+pub killed-not : (spared : ℕ → Bool) (place id : ℕ) (marks now : List Bool) (old slots : List (Option TypeItem)) → id ≡ place → is_marked now id ≡ false
+    → IsKilledTo spared place marks now old slots → IsKilledTo spared (place + 1) marks now old slots
+killed-not spared place id marks now old slots is stays k =
+    let unmarked : is_marked marks place ≡ false = sym (k.behind place (omega arith)) ∙ ap (is_marked now) (sym is) ∙ stays in
+    let none : left marks spared place ≡ false = ap (λ (b : Bool). b && not (spared place)) unmarked in
+    killed-next spared place marks now now old slots slots refl refl
+    (k.behind place (omega arith) ∙ unmarked ∙ sym none)
+    (k.same place (omega arith) ∙ sym (ap (λ (b : Bool). cond b None (slice_index_or old place None)) none))
+    (λ i apart. refl)
+    (λ i apart. refl)
+    k
+
+-- a marked id: whether it is spared is told by the slots as they are there
+pub killed-one : (spared : ℕ → Bool) (place id : ℕ) (marks now after : List Bool) (old slots new : List (Option TypeItem)) (b : Bool) → id ≡ place → is_marked now id ≡ true
+    → id < length now → b ≡ spared id
+    → new ≡ cond b slots (slice_set slots id None) → after ≡ cond b (slice_set now id false) now
+    → IsKilledTo spared place marks now old slots → IsKilledTo spared (place + 1) marks after old new
+killed-one spared place id marks now after old slots new true is marked less told types marks-new k =
+    let none : left marks spared place ≡ false = ap (λ (b : Bool). is_marked marks place && not b) (ap spared (sym is) ∙ sym told) ∙ and-false (is_marked marks place) in
+    killed-next spared place marks now after old slots new
+    (ap (λ (xs : List (Option TypeItem)). length xs) types)
+    (ap (λ (xs : List Bool). length xs) marks-new ∙ length-set now id false)
+    (ap (λ (xs : List Bool). is_marked xs place) marks-new ∙ ap (is_marked (slice_set now id false)) (sym is) ∙ get_or-set_same now id false false less ∙ sym none)
+    (ap (λ (xs : List (Option TypeItem)). slice_index_or xs place None) types ∙ k.same place (omega arith) ∙ sym (ap (λ (b : Bool). cond b None (slice_index_or old place None)) none))
+    (λ i apart. ap (λ (xs : List Bool). is_marked xs i) marks-new ∙ get_or-set_other now id i false false (λ same. apart (same ∙ is)))
+    (λ i apart. ap (λ (xs : List (Option TypeItem)). slice_index_or xs i None) types)
+    k
+killed-one spared place id marks now after old slots new false is marked less told types marks-new k =
+    let here : is_marked marks place ≡ true = sym (k.behind place (omega arith)) ∙ ap (is_marked now) (sym is) ∙ marked in
+    let goes : left marks spared place ≡ true = ap (λ (b : Bool). b && not (spared place)) here ∙ ap (λ (b : Bool). not b) (ap spared (sym is) ∙ sym told) in
+    killed-next spared place marks now after old slots new
+    (ap (λ (xs : List (Option TypeItem)). length xs) types ∙ length-set slots id None)
+    (ap (λ (xs : List Bool). length xs) marks-new)
+    (ap (λ (xs : List Bool). is_marked xs place) marks-new ∙ ap (is_marked now) (sym is) ∙ marked ∙ sym goes)
+    (ap (λ (xs : List (Option TypeItem)). slice_index_or xs place None) types ∙ ap (λ (i : ℕ). slice_index_or (slice_set slots id None) i None) (sym is) ∙ set-none slots id ∙ sym (ap (λ (b : Bool). cond b None (slice_index_or old place None)) goes))
+    (λ i apart. ap (λ (xs : List Bool). is_marked xs i) marks-new)
+    (λ i apart. ap (λ (xs : List (Option TypeItem)). slice_index_or xs i None) types ∙ at-other slots None id i (λ same. apart (same ∙ is)))
+    k
+
+-- whether a type is spared is told by its own slot and the groups
+pub spared-same : (slots old : List (Option TypeItem)) (groups : List (Option RecGroup)) (homes : List ℕ) (id : ℕ) → slice_index_or slots id None ≡ slice_index_or old id None
+    → is_spared (table_of slots groups) homes id ≡ is_spared (table_of old groups) homes id
+spared-same slots old groups homes id same =
+    ap (λ (o : Option Item). option_map_or (λ (item : Item). item.kind.entry && not (is_explicit_at (map (option_map group_of) groups) (slice_index homes id))) o false)
+    (at-map item_of slots id ∙ ap (option_map item_of) same ∙ sym (at-map item_of old id))
+
+-- a marked id is below their number
+marked-below : (marks : List Bool) (id : ℕ) → is_marked marks id ≡ true → id < length marks
+marked-below marks id m = ⊎_elim
+    (λ less. less)
+    (λ far. absurd (false≢true (sym (get_or_past marks id false far) ∙ m)))
+    (cases_lt id (length marks))
+
+-- what a call did with a marked id
+pub killed-step : (groups : List (Option RecGroup)) (homes : List ℕ) (place id : ℕ) (marks now after : List Bool) (old slots new : List (Option TypeItem)) → id ≡ place → is_marked now id ≡ true
+    → new ≡ cond (is_spared (table_of slots groups) homes id) slots (slice_set slots id None) → after ≡ cond (is_spared (table_of slots groups) homes id) (slice_set now id false) now
+    → IsKilledTo (is_spared (table_of old groups) homes) place marks now old slots → IsKilledTo (is_spared (table_of old groups) homes) (place + 1) marks after old new
+killed-step groups homes place id marks now after old slots new is marked types marks-new k =
+    killed-one (is_spared (table_of old groups) homes) place id marks now after old slots new (is_spared (table_of slots groups) homes id) is marked
+    (marked-below now id marked)
+    (spared-same slots old groups homes id (k.same id (omega (arith, is)))) types marks-new k
+
+-- a dead id isn't spared
+spared-none : (old : List (Option TypeItem)) (groups : List (Option RecGroup)) (homes : List ℕ) (id : ℕ) → slice_index_or old id None ≡ None
+    → is_spared (table_of old groups) homes id ≡ false
+spared-none old groups homes id none =
+    ap (λ (o : Option Item). option_map_or (λ (item : Item). item.kind.entry && not (is_explicit_at (map (option_map group_of) groups) (slice_index homes id))) o false)
+    (at-map item_of old id ∙ ap (option_map item_of) none)
 
 none-either : (b : Bool) (o : Option TypeItem) → o ≡ None → cond b None o ≡ o
 none-either true o none = sym none
 none-either false o none = refl
 
-pub cleared-all : (marks : List Bool) (place : ℕ) (old new : List (Option TypeItem)) → length old ≤ place → IsClearedTo marks place old new → IsCleared marks old new
-cleared-all marks place old new all c id = ⊎_elim
-    (λ less. c.before id less)
-    (λ far.
-    let none : slice_index_or old id None ≡ None = get_or_past old id None (omega (arith, all, far)) in
-    c.behind id far ∙ sym (none-either (is_marked marks id) (slice_index_or old id None) none))
-    (cases_lt id place)
+and-true : (b : Bool) → (b && true) ≡ b
+and-true true = refl
+and-true false = refl
+
+module _ (groups : List (Option RecGroup)) (homes : List ℕ) (place : ℕ) (marks now : List Bool) (old new : List (Option TypeItem)) (all : length old ≤ place)
+    (k : IsKilledTo (is_spared (table_of old groups) homes) place marks now old new) where
+  pub killed-left : (id : ℕ) → is_marked now id ≡ left marks (is_spared (table_of old groups) homes) id
+  killed-left id = ⊎_elim
+      (λ less. k.before id less)
+      (λ far.
+      let none : is_spared (table_of old groups) homes id ≡ false = spared-none old groups homes id (get_or_past old id None (omega (arith, all, far))) in
+      k.behind id far ∙ sym (and-true (is_marked marks id)) ∙ sym (ap (λ (b : Bool). is_marked marks id && not b) none))
+      (cases_lt id place)
+
+  pub killed-each : IsCleared now old new
+  killed-each id = ⊎_elim
+      (λ less. k.dead id less ∙ ap (λ (b : Bool). cond b None (slice_index_or old id None)) (sym (k.before id less)))
+      (λ far.
+      let none : slice_index_or old id None ≡ None = get_or_past old id None (omega (arith, all, far)) in
+      k.same id far ∙ sym (none-either (is_marked now id) (slice_index_or old id None) none))
+      (cases_lt id place)
 
 -- the groups
 filter-alike : (p q : ℕ → Bool) (xs : List ℕ) → ((x : ℕ) → Contains xs x → p x ≡ q x) → filter p xs ≡ filter q xs

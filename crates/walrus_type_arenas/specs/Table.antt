@@ -1,5 +1,5 @@
 -- What a contract sees of a type table: the types and the groups by id, live or dead.
-use Rattle.std.specs.Prelude.{◌≡◌, ◌≢◌, ℕ, suc, ◌<◌, ◌≤◌, Bool, false, not, ◌&&◌, ◌==◌, List, [], ◌∷◌, ◌++◌, length, map, filter, find, Contains, AllPairs, Option, Some, None, is_some, IsSome, IsTrue, MatchOption, slice_index, slice_index_or, slice_set, if◌then◌else◌}
+use Rattle.std.specs.Prelude.{◌≡◌, ◌≢◌, ℕ, suc, ◌<◌, ◌≤◌, Bool, true, false, not, ◌&&◌, ◌==◌, List, [], ◌∷◌, ◌++◌, length, map, filter, find, Contains, AllPairs, Option, Some, None, is_some, IsSome, IsTrue, MatchOption, slice_index, slice_index_or, slice_set, if◌then◌else◌}
 use Rattle.std.specs.List.{list_any}
 use Rattle.std.specs.Option.{option_map, option_map_or, option_and_then}
 use Rattle.walrus_type_index.specs.walrus_items.walrus_arena.Arena.{entries_from}
@@ -120,6 +120,21 @@ marked marks = marked_from 0 marks
 abbrev pub DeletesGroup : ℕ → Table → Table → Type 0
 DeletesGroup id old new = (place : ℕ) (group : Group) → group_at old place ≡ Some group → Contains group.types id
     → new ≡ record { types = clear_all group.types old.types; groups = slice_set old.groups place None }
+
+-- whether the group of this id lives and is explicit
+abbrev pub is_explicit_at : List (Option Group) → ℕ → Bool
+is_explicit_at groups place = option_map_or (λ group. group.explicit) (slice_index_or groups place None) false
+
+-- whether the type is an entry type, and its home no explicit group
+abbrev pub is_spared : Table → List ℕ → ℕ → Bool
+is_spared t homes id = option_map_or (λ item. item.kind.entry && not (is_explicit_at t.groups (slice_index homes id))) (type_at t id) false
+
+-- the type is an entry type in no explicit group
+pub record IsSpared (t : Table) (id : ℕ) : Type 0 where
+  pub item : Item
+  pub live : type_at t id ≡ Some item
+  pub entry : item.kind.entry ≡ true
+  pub alone : (group : Group) → HasMember t id group → group.explicit ≡ true → ⊥
 
 -- a group without its members that aren't among these types
 abbrev pub with_live : List (Option Item) → Group → Option Group

@@ -1,12 +1,12 @@
 //! Deleting types from a table.
-ghost use Rattle.std.specs.Prelude.{◌≡◌, ◌<◌, length, slice_index, ℕ, false, not, [], map, filter, Some, None, slice_set, if◌then◌else◌};
+ghost use Rattle.std.specs.Prelude.{◌≡◌, ◌<◌, ◌&&◌, length, slice_index, ℕ, false, not, [], map, filter, Some, None, slice_set, if◌then◌else◌};
 ghost use Rattle.std.specs.Bool.{OnFalse};
 ghost use Rattle.std.specs.Option.{option_map, option_and_then};
 ghost use Rattle.walrus_type_index.specs.walrus_items.walrus_arena.Arena.{IsLive as HasLive, item_at};
 ghost use Rattle.walrus_type_index.specs.walrus_items.Items.{Group, group_of, item_of};
 ghost use Rattle.walrus_type_index.specs.Places.{kinds_in};
 ghost use Rattle.walrus_type_index.specs.Ordered.{IsHeld, is_marked};
-ghost use Rattle.walrus_type_arenas.specs.Table.{is_named_in, is_named_at, clear_all, marked, without_member, without_marked, table_of};
+ghost use Rattle.walrus_type_arenas.specs.Table.{is_named_in, is_named_at, is_explicit_at, is_spared, clear_all, marked, without_member, without_marked, table_of};
 
 use walrus_type_index::arena::{RecGroupId, RecGroupSpace, TombstoneArena, TypeId, TypeSpace};
 use walrus_type_index::items::{RecGroup, Type};
@@ -53,46 +53,99 @@ pub fn clear_each(types: &mut TombstoneArena<Type, TypeSpace>, index: &mut Index
     }
 }
 
-// Deletes a type, if it lives. The index isn't looked at.
-fn kill(types: &mut TombstoneArena<Type, TypeSpace>, id: TypeId)
-    ensures { types.new.slots ≡ slice_set types.old.slots id None }
+// Whether the group of this id lives and is explicit.
+fn is_explicit(groups: &TombstoneArena<RecGroup, RecGroupSpace>, place: RecGroupId) -> bool
+    ensures { result ≡ is_explicit_at (map (option_map group_of) groups.now.slots) place }
 {
-    if types.contains(id) {
-        types.delete(id);
+    match groups.get(place) {
+        Some(group) => group.is_explicit(),
+        None => false,
     }
 }
 
-// Deletes the types of the marked ids, those of them that live. The index isn't looked at.
-fn kill_marked(types: &mut TombstoneArena<Type, TypeSpace>, marks: &[bool])
-    ensures sized { length types.new.slots ≡ length types.old.slots }
-    ensures each { (id : ℕ) → item_at types.new id ≡ (if is_marked marks.now id then None else item_at types.old id) }
+// Whether the type is spared. Groups are looked at for entry types alone.
+fn is_spared(
+    types: &TombstoneArena<Type, TypeSpace>,
+    groups: &TombstoneArena<RecGroup, RecGroupSpace>,
+    homes: &[RecGroupId],
+    id: TypeId,
+) -> bool
+    requires { length homes.now ≡ length types.now.slots }
+    ensures { result ≡ is_spared (table_of types.now.slots groups.now.slots) homes.now id }
 {
+    match types.get(id) {
+        Some(ty) => ty.is_entry() && !is_explicit(groups, home_of(homes, id)),
+        None => false,
+    }
+}
+
+// Deletes the type, if it lives, or takes the mark off it where it is spared. Answers whether it was deleted. The index isn't looked at.
+fn kill(
+    types: &mut TombstoneArena<Type, TypeSpace>,
+    groups: &TombstoneArena<RecGroup, RecGroupSpace>,
+    homes: &[RecGroupId],
+    marks: &mut [bool],
+    id: TypeId,
+) -> bool
+    requires sized { length homes.now ≡ length types.old.slots }
+    requires marked { id < length marks.old }
+    ensures types { types.new.slots ≡ (if is_spared (table_of types.old.slots groups.now.slots) homes.now id then types.old.slots else slice_set types.old.slots id None) }
+    ensures marks { marks.new ≡ (if is_spared (table_of types.old.slots groups.now.slots) homes.now id then slice_set marks.old id false else marks.old) }
+    ensures same { OnFalse result (types.new.slots ≡ types.old.slots) }
+{
+    if is_spared(types, groups, homes, id) {
+        marks[id.index()] = false;
+        return false;
+    }
+    if !types.contains(id) {
+        return false;
+    }
+    types.delete(id);
+    true
+}
+
+// Deletes the types of the marked ids, those of them that live and aren't spared, and takes the marks off the spared ones. Answers whether
+// any was deleted. The index isn't looked at.
+fn kill_unkept(
+    types: &mut TombstoneArena<Type, TypeSpace>,
+    groups: &TombstoneArena<RecGroup, RecGroupSpace>,
+    homes: &[RecGroupId],
+    marks: &mut [bool],
+) -> bool
+    requires { length homes.now ≡ length types.old.slots }
+    ensures sized { length types.new.slots ≡ length types.old.slots }
+    ensures left { (id : ℕ) → is_marked marks.new id ≡ is_marked marks.old id && not (is_spared (table_of types.old.slots groups.now.slots) homes.now id) }
+    ensures each { (id : ℕ) → item_at types.new id ≡ (if is_marked marks.new id then None else item_at types.old id) }
+    ensures same { OnFalse result (types.new.slots ≡ types.old.slots) }
+{
+    let mut killed = false;
     for index in 0..types.next_id().index() {
         let id = TypeId::from_index(index);
         if is_marked(marks, id) {
-            kill(types, id);
+            killed = kill(types, groups, homes, marks, id) || killed;
         }
     }
+    killed
 }
 
-// Whether an id is marked.
-fn has_marked(marks: &[bool]) -> bool
-    ensures { OnFalse result ((id : ℕ) → is_marked marks.now id ≡ false) }
-{
-    marks.iter().any(|mark| *mark)
-}
-
-/// Deletes the types of the marked ids, those of them that live, and then takes them out of the index in one walk of it. No type is lent.
-pub fn clear_marked(types: &mut TombstoneArena<Type, TypeSpace>, index: &mut Index, marks: &[bool])
-    requires { IsHeld None index.old (kinds_in types.old.slots) }
-    ensures types { map (option_map item_of) types.new.slots ≡ clear_all (marked marks.now) (map (option_map item_of) types.old.slots) }
+/// Deletes the types of the marked ids, those of them that live and aren't spared, takes the marks off the spared ones, and then
+/// takes what was deleted out of the index in one walk of it. No type is lent.
+pub fn clear_unkept(
+    types: &mut TombstoneArena<Type, TypeSpace>,
+    groups: &TombstoneArena<RecGroup, RecGroupSpace>,
+    homes: &[RecGroupId],
+    index: &mut Index,
+    marks: &mut [bool],
+)
+    requires sized { length homes.now ≡ length types.old.slots }
+    requires held { IsHeld None index.old (kinds_in types.old.slots) }
+    ensures left { (id : ℕ) → is_marked marks.new id ≡ is_marked marks.old id && not (is_spared (table_of types.old.slots groups.now.slots) homes.now id) }
+    ensures types { map (option_map item_of) types.new.slots ≡ clear_all (marked marks.new) (map (option_map item_of) types.old.slots) }
     ensures held { IsHeld None index.new (kinds_in types.new.slots) }
 {
-    if !has_marked(marks) {
-        return;
+    if kill_unkept(types, groups, homes, marks) {
+        index.sweep(marks);
     }
-    kill_marked(types, marks);
-    index.sweep(marks);
 }
 
 // Whether that type lives and names this one.

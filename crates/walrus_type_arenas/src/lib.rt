@@ -10,7 +10,7 @@ mod index;
 mod members;
 mod rank;
 
-pub use delete::{clear_each, clear_marked, home_of, leave_group, members_name, sweep};
+pub use delete::{clear_each, clear_unkept, home_of, leave_group, members_name, sweep};
 pub use emit::{group_records, groups_in_order, indices_of, written_of};
 pub use error::IrError;
 pub use group::{
