@@ -3,7 +3,7 @@ use Rattle.std.proofs.Common.{◌≡◌, ◌∙◌, ℕ, ◌+◌, ◌<◌, Resul
 use Rattle.std.specs.List.{range_with_len}
 use Rattle.std.specs.Option.{MatchOption}
 use Rattle.std.proofs.lemmas.Bool.{eqb-true}
-use Rattle.std.proofs.lemmas.List.{append_assoc, append-nil, drop_more, length-map, map-append, map_more, take-append-drop}
+use Rattle.std.proofs.lemmas.List.{append_assoc, drop_more, length-map, map-append, map_more, take-append-drop}
 use Rattle.std.proofs.lemmas.List.FromFn.{length-range_with_len}
 use Rattle.walrus_type_arenas.specs.walrus_type_index.walrus_items.walrus_forms.Kinds.{Kind}
 use Rattle.walrus_type_arenas.specs.walrus_type_index.walrus_items.walrus_forms.declared.record.TypeRecord.{TypeRecord}

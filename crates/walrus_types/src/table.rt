@@ -5,7 +5,7 @@ ghost use Rattle.std.specs.Borrow.{sem};
 ghost use Rattle.walrus_type_arenas.specs.walrus_type_index.walrus_items.walrus_forms.Forms.{form_of, params_of, results_of};
 ghost use Rattle.walrus_type_arenas.specs.walrus_type_index.walrus_items.walrus_forms.Kinds.{function_kind, entry_kind, struct_kind, array_kind, declared_kind};
 ghost use Rattle.walrus_type_arenas.specs.walrus_type_index.walrus_items.Items.{Group, item_of, group_of};
-ghost use Rattle.walrus_type_arenas.specs.Table.{next_id, type_at, IsLive, IsFunctionType, equal_type, found_type, named_type, entries, Merges, HasMember, Deletes, DeletesAll, DeletesGroup, group_at, is_named_in, marked};
+ghost use Rattle.walrus_type_arenas.specs.Table.{next_id, type_at, IsLive, IsFunctionType, equal_type, found_type, named_type, entries, Merges, HasMember, Deletes, DeletesAll, DeletesGroup, group_at, is_named_in, IsSpared, marked};
 ghost use Rattle.walrus_type_arenas.specs.walrus_type_index.walrus_items.walrus_arena.Arena.{entries_from};
 ghost use Rattle.std.specs.Fn.{FnOnceTakesAt, FnOnceReturnsAt};
 ghost use Rattle.std.specs.List.{range_with_len};
@@ -30,7 +30,7 @@ use walrus_type_arenas::type_index::forms::{
 use walrus_type_arenas::type_index::items::{RecGroup, Type};
 use walrus_type_arenas::type_index::{AHEAD, Index, group_hash, lend, settle, type_hash};
 use walrus_type_arenas::{
-    append_counted, append_members, clear_each, clear_marked, found_function, home_of, ids_from,
+    append_counted, append_members, clear_each, clear_unkept, found_function, home_of, ids_from,
     leave_group, look_up_entry, look_up_hashed, members_name, one_member, push_single_hashed,
     reserve_singles, sweep,
 };
@@ -169,13 +169,21 @@ impl ModuleTypes {
         self.groups.delete(home);
     }
 
-    /// Deletes the types of the marked ids, those of them that live. Each group keeps the other members, and goes where there
-    /// is none. Ids past the marks aren't marked. Takes no memory.
-    pub fn delete_marked(&mut self, marks: &[bool])
-        ensures { DeletesAll (marked marks.now) self.old self.new }
+    /// Deletes the types of the marked ids, those of them that live, but for entry types that are in no explicit group, from which
+    /// it takes the marks. Each group keeps the other members, and goes where there is none. Ids past the marks aren't marked.
+    /// Takes no memory.
+    pub fn delete_unkept(&mut self, marks: &mut [bool])
+        ensures left { (id : ℕ) → Contains (marked marks.new) id ↔ (Contains (marked marks.old) id × (IsSpared self.old id → ⊥)) }
+        ensures gone { DeletesAll (marked marks.new) self.old self.new }
     {
         settle(&mut self.index, &mut self.lent, &self.types);
-        clear_marked(&mut self.types, &mut self.index, marks);
+        clear_unkept(
+            &mut self.types,
+            &self.groups,
+            self.homes.as_slice(),
+            &mut self.index,
+            marks,
+        );
         sweep(&mut self.groups, marks);
     }
 

@@ -108,6 +108,10 @@ func:i32> func:i64> func:f32> func:f64> func:v128> func:> struct: array:i8 \
 ?find:i32>@0 ?find:i64>@1 ?find:f32>@2 ?find:f64>@3 ?find:v128>@4 marked:001 \
 ?find:i32>@0 ?find:i64>@1 ?find:f32>@- ?find:f64>@3 ?find:v128>@4 marked:1001001 \
 ?find:i32>@- ?find:i64>@1 ?find:f32>@- ?find:f64>@- ?find:v128>@4 ?live@1,4,5,7
+# entry types stay and lose their marks, the last one by itself, too, and are found after
+entry:>i32 func:i32> entry:>i64 func:>i64 marked:0111@0101 ?live@0,2 ?groups@1,1 entry:>i64@2 entry:>i32@0 marked:101@000 ?live@0,2
+# but one in a marked group goes, and a mark of what is dead stays
+entry:>i32 group:2 join:1,0 marked:111@011 ?live@0 ?groups@1 marked:111@011 ?live@0
 # a name
 func:i32>f32 name:0,a ?name:a@0 ?name:b@-
 # all are told

@@ -152,15 +152,20 @@ pub(crate) fn goes(types: &mut ModuleTypes, id: TypeId, step: u8) -> bool {
     gone == (step != b'k') && types.contains(id) != gone
 }
 
-// Deletes the types whose marks are `1`.
-fn delete_marked(types: &mut ModuleTypes, args: &[u8]) {
+// Deletes the types whose marks are `1`. Answers whether the marks are then these, where they are told.
+fn delete_unkept(types: &mut ModuleTypes, args: &[u8], wanted: &[u8]) -> bool {
     let mut marks = [false; 8];
     for at in 0..8 {
         marks[at] = at < args.len() && args[at] == b'1';
     }
     if args.len() <= 8 {
-        types.delete_marked(&marks[..args.len()]);
+        types.delete_unkept(&mut marks[..args.len()]);
     }
+    let mut agree = true;
+    for at in 0..8 {
+        agree = agree && (at >= wanted.len() || marks[at] == (wanted[at] == b'1'));
+    }
+    agree
 }
 
 // Whether the type of the own block of a body of this live function type has this id, or isn't there.
@@ -201,6 +206,16 @@ fn closes(types: &mut ModuleTypes, id: TypeId) -> bool {
     is_live
 }
 
+// Writes a copy of the second live type over the first.
+fn joins(types: &mut ModuleTypes, to: TypeId, from: TypeId) -> Result<bool, AllocError> {
+    if !types.contains(to) || !types.contains(from) {
+        return Ok(false);
+    }
+    let copy = types.get(from).clone()?;
+    *types.get_mut(to) = copy;
+    Ok(true)
+}
+
 // Adds a structure without fields, and then so many each of which refers to the one before.
 fn add_chain(alloc: Global, types: &mut ModuleTypes, count: u32) -> Result<(), AllocError> {
     let mut last = types.add_struct(fields(alloc, None)?)?;
@@ -220,8 +235,8 @@ fn add_chain(alloc: Global, types: &mut ModuleTypes, count: u32) -> Result<(), A
 /// - `in`: the type of the own block of a body of this live function type is found under this id, or there is none;
 /// - `parse`: reads a section by its letters, and gives its types these ids; `use`: does so by the call that takes the section;
 /// - `delete`, `out`, `try`: deletes the live type, alone, with its group, or if no sibling names it; `keep`: tries to, in vain;
-/// - `marked`: deletes the types whose marks are `1`;
-/// - `write`: writes the type over as a final one; `name`: names it;
+/// - `marked`: deletes the types whose marks are `1`, which are these then;
+/// - `write`: writes the type over as a final one; `name`: names it; `join`: writes a copy of the second one over it;
 /// - `?`: asks (see `answers`).
 pub(crate) fn take(alloc: Global, types: &mut ModuleTypes, step: &[u8]) -> Result<bool, IrError> {
     let (call, wanted) = cut(step, b'@');
@@ -239,11 +254,12 @@ pub(crate) fn take(alloc: Global, types: &mut ModuleTypes, step: &[u8]) -> Resul
         b'p' => Ok(are_read(alloc, types, args, wanted)?),
         b'u' => Ok(are_taken(alloc, types, args, wanted)?),
         b'd' | b'o' | b't' | b'k' => Ok(goes(types, id(args), head(call))),
-        b'm' => {
-            delete_marked(types, args);
-            Ok(true)
-        }
+        b'm' => Ok(delete_unkept(types, args, wanted)),
         b'w' => Ok(closes(types, id(args))),
+        b'j' => {
+            let (to, from) = cut(args, b',');
+            Ok(joins(types, id(to), id(from))?)
+        }
         b'n' => {
             let (of, name) = cut(args, b',');
             Ok(gives_name(alloc, types, id(of), head(name))?)

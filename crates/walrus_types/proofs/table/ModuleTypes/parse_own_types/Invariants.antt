@@ -1,4 +1,4 @@
-use Rattle.std.proofs.Common.{ℕ, map, length}
+use Rattle.std.proofs.Common.{map, length}
 use Rattle.walrus_type_arenas.specs.walrus_type_index.walrus_items.walrus_forms.Records.{type_group}
 use Rattle.walrus_types.specs.Parsing.{AreBelow}
 use Rattle.walrus_types.proofs.ParseLemmas.{IsParsedTo}
