@@ -1,4 +1,6 @@
--- A number of each kind, by which most types are told apart. Any function of kinds would do: no answer rests on how numbers spread.
+-- A number of each kind, by which types are told apart. Any function of kinds would do: no answer rests on how numbers spread.
+-- It has two halves of 64 bits. By the first one types that differ in an id alone lie in the order of these; but a file can be made whose
+-- types all have one first half, as that is linear in their numbers. The second one isn't linear, so that such types differ in it.
 use Rattle.std.specs.Prelude.{ℕ, ◌+◌, ◌*◌, ◌/◌, ◌^◌, ◌%◌, List, [], ◌∷◌, Option, None, slice_index_or, if◌then◌else◌}
 use Rattle.std.specs.Option.{option_map_or}
 use Rattle.walrus_items.specs.walrus_forms.declared.value.HeapType.{HeapType}
@@ -71,8 +73,8 @@ fields_hash hash (field ∷ fields) = fields_hash (next_hash hash (storage_numbe
 
 abbrev pub form_hash : Form → ℕ
 form_hash (FunctionForm params results) = values_hash (values_hash 0 params) results
-form_hash (StructForm fields) = fields_hash 1 fields
-form_hash (ArrayForm field) = next_hash 2 (storage_number field.element_type)
+form_hash (StructForm fields) = fields_hash (2 ^ 64) fields
+form_hash (ArrayForm field) = next_hash (2 * 2 ^ 64) (storage_number field.element_type)
 
 abbrev pub hash_of : Kind → ℕ
 hash_of kind = form_hash kind.form

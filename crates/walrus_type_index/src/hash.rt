@@ -17,31 +17,31 @@ use walrus_items::forms::{
     ValRecord, ValType,
 };
 
-// The prime of the hash FNV-1. It is small, so that types that differ in an id alone stay in the order of these: a walk of the tree
-// then goes through memory much as the types were added.
+// 2^64: a hash has two halves of 64 bits.
+const HALF: u128 = 0x1_0000_0000_0000_0000;
+
+// The prime of the hash FNV-1, the first half's factor. It is small, so that types that differ in an id alone stay in the order of these:
+// a walk of the tree then goes through memory much as the types were added.
 const FACTOR: u64 = 0x0100_0193;
 
-// What the second half's other factor is ahead of its first one: some odd number.
-const AHEAD: u64 = 0x9e37_79b9_7f4a_7c15;
+// By how much the second factor of the second half is more than its first one: the golden ratio's bits, as good as any odd number.
+const APART: u64 = 0x9e37_79b9_7f4a_7c15;
 
-// The first half, by which types are ordered, with one more number in it.
-fn next_first(hash: u64, number: u64) -> u64
-    ensures { result ≡ next_first hash number }
+// The first half with one more number in it. It is linear, so that whoever knows the factor can make types that all have one.
+fn next_first(half: u64, number: u64) -> u64
+    ensures { result ≡ next_first half number }
 {
-    hash.wrapping_mul(FACTOR).wrapping_add(number)
+    half.wrapping_mul(FACTOR).wrapping_add(number)
 }
 
-// The second half with one more number in it.
-fn next_second(hash: u64, number: u64) -> u64
-    ensures { result ≡ next_second hash number }
+// The second half with one more number in it. It goes by a square, for whose like no way is known to many types of one half.
+fn next_second(half: u64, number: u64) -> u64
+    ensures { result ≡ next_second half number }
 {
-    let sum = hash.wrapping_add(number);
-    let product = sum as u128 * sum.wrapping_add(AHEAD) as u128;
+    let sum = half.wrapping_add(number);
+    let product = sum as u128 * sum.wrapping_add(APART) as u128;
     ((product >> 64) as u64).wrapping_add((product % HALF) as u64)
 }
-
-// 2^64.
-const HALF: u128 = 0x1_0000_0000_0000_0000;
 
 // The hash with one more number in it.
 fn next_hash(hash: u128, number: u64) -> u128
@@ -143,8 +143,8 @@ pub fn type_hash(ty: &Type) -> u128
 {
     match ty.kind() {
         CompositeType::Function(own) => function_hash(own.params(), own.results()),
-        CompositeType::Struct(own) => fields_hash(1, own.fields.as_slice()),
-        CompositeType::Array(own) => next_hash(2, storage_number(&own.field.element_type)),
+        CompositeType::Struct(own) => fields_hash(HALF, own.fields.as_slice()),
+        CompositeType::Array(own) => next_hash(2 * HALF, storage_number(&own.field.element_type)),
     }
 }
 
