@@ -6,8 +6,8 @@
 Exports are read by both programs, types by walrus_inspect alone. The names of one row all collide under the hasher of
 the kit's hash tables, whose seed is fixed; those of the next differ in their last bytes alone, behind a long prefix that
 all have; those of the last are plain. Types are function types of ten parameters, in no order, behind fifty more that all
-have in common, or without these; those of the last row are of ten lists of 14 parameters, and all have one hash, so that
-they are found by comparing them. A time is the least of the rounds, from the start of the program to its end. Wanted is a
+have in common, or without these; those of the last row are of ten lists of 14 parameters, and the first halves of their hashes are
+all the same. A time is the least of the rounds, from the start of the program to its end. Wanted is a
 factor of at most 2.3 a doubling. The sizes take turns, so that what else the machine does meets all of them alike. With
 --instructions those of the processor are counted by valgrind, which no other work and no cache disturbs, in place of the
 time.
@@ -68,8 +68,8 @@ def typing(front, lists=(b"\x7f", b"\x7e", b"\x7d", b"\x7c")):
 # The numbers that specs/Hashes.antt of walrus_type_index gives to value types, each with the byte that spells it.
 NUMBERS = {1: 0x7F, 2: 0x7E, 3: 0x7D, 4: 0x7C, 5: 0x7B}
 NUMBERS |= dict(enumerate((0x70, 0x6F, 0x6E, 0x71, 0x72, 0x73, 0x6D, 0x6B, 0x6A, 0x6C, 0x69, 0x74), 8))
-# Four lists of one length and one hash: the sums of their numbers times powers of 16777619 are equal modulo 2^64, so that any
-# two rows of as many of them have one hash, too. Such lists are found by reducing the lattice of the differences of two.
+# Four lists of one length and one first half of the hash: the sums of their numbers times powers of 16777619 are equal modulo 2^64, so that any
+# two rows of as many of them have one such half, too. Such lists are found by reducing the lattice of the differences of two.
 COLLIDING_LISTS = [
     bytes(NUMBERS[number] for number in numbers)
     for numbers in (
