@@ -1,5 +1,5 @@
 -- What is left of the types.
-use Rattle.std.proofs.Common.{◌≡◌, ◌∙◌, ◌⊎◌, ◌+◌, ◌<◌, ◌≤◌, ℕ, Bool, true, false, List, [], ◌∷◌, ◌++◌, Option, Some, None, Contains, length, length-append, suc, refl, sym, ap, subst, inl, inr, arith}
+use Rattle.std.proofs.Common.{◌≡◌, ◌∙◌, ◌⊎◌, ◌+◌, ◌<◌, ℕ, Bool, true, false, List, [], ◌∷◌, ◌++◌, Option, Some, None, Contains, length, length-append, suc, refl, sym, ap, subst, inl, inr, arith}
 use Rattle.std.specs.Prelude.{◌↔◌, Decides, IsSome, is_some, filter, if◌then◌else◌, slice_index_or}
 use Rattle.std.specs.Option.{option_and_then}
 use Rattle.std.proofs.Math.ListN.{get_or-map}
@@ -7,14 +7,14 @@ use Rattle.std.proofs.lemmas.List.{length-map}
 use Rattle.std.proofs.lemmas.List.Elements.{Contains-push, Contains-push_cases, Contains-append_left}
 use Rattle.std.proofs.lemmas.Bool.{cases_eq, false≢true}
 use Rattle.walrus_items.specs.Items.{Item as TypeItem, Group}
-use Rattle.walrus_types.specs.Table.{Table, type_at, group_at, HasMember, DeletesAll, clear_all, marked, marked_from, with_live, nonempty_group, IsLive}
+use Rattle.walrus_types.specs.Table.{Table, type_at, group_at, HasMember, IsSpared, DeletesAll, clear_all, marked, marked_from, with_live, nonempty_group, IsLive}
 use Rattle.walrus_types.specs.TypeLaws.{AreGrouped}
 use Rattle.walrus_types.proofs.DeleteLemmas.{nonempty-some, contains-filter, filter-contains, nothing, length-clear_all, at-cleared, cleared-at}
 use Rattle.walrus_types.proofs.SweepLemmas.{was-there, member-there}
 use Rattle.walrus_refusals.specs.walrus_used.walrus_module.Items.{written, written_type}
 use Rattle.walrus_refusals.specs.walrus_used.Counts.{past_types}
 use Rattle.walrus_refusals.proofs.walrus_used.CountLemmas.{types_below}
-use Rattle.walrus_passes.specs.DroppedTypes.{AreClosed, AreNeedless, IsInExplicit, IsNeedless}
+use Rattle.walrus_passes.specs.DroppedTypes.{AreClosed, AreUnkept}
 use Rattle.walrus_passes.specs.Part.{TypesRestAmong, left_of}
 
 later_in : (y : ℕ) (xs : List ℕ) (x : ℕ) → Contains xs x → Contains (y ∷ xs) x
@@ -35,12 +35,6 @@ some_one (Some x) h = (x, refl)
 some_is : {A : Type 0} (o : Option A) (x : A) → o ≡ Some x → IsSome o
 some_is o x at = subst IsSome (sym at) refl
 
-same_one : {A : Type 0} (o : Option A) (x y : A) → o ≡ Some x → o ≡ Some y → x ≡ y
-same_one o x y p q = (let both : Some x ≡ Some y = sym p ∙ q in cc)
-
-not_some : {A : Type 0} (o : Option A) (x : A) → o ≡ None → o ≡ Some x → ⊥
-not_some o x p q = (let e : None ≡ Some x = sym p ∙ q in absurd cc)
-
 written_there : (o : Option TypeItem) → IsSome (written o) → IsSome o
 written_there None h = h
 written_there (Some ty) h = refl
@@ -53,18 +47,19 @@ not_both false ty h entry = false≢true entry
 no_entry : (o : Option TypeItem) (ty : TypeItem) → o ≡ Some ty → IsSome (written o) → ty.kind.entry ≡ true → ⊥
 no_entry o ty at h entry = not_both ty.kind.entry ty (subst (λ (p : Option TypeItem). IsSome (written p)) at h) entry
 
--- ---- explicit groups
--- a type is in one group
-one_group : (t : Table) → AreGrouped t → (id : ℕ) (g h : Group) → HasMember t id g → HasMember t id h → g ≡ h
-one_group t grouped id g h a b =
-    let place = grouped.one id a.place b.place g h a.live a.listed b.live b.listed in
-    same_one (group_at t b.place) g h (subst (λ p. group_at t p ≡ Some g) place a.live) b.live
+-- the type is a member of an explicit group
+abbrev IsInExplicit : Table → ℕ → Type 0
+IsInExplicit t id = (group : Group) × HasMember t id group × (group.explicit ≡ true)
 
-pub explicit_if : (t : Table) → AreGrouped t → (id : ℕ) (g : Group) → HasMember t id g → (b : Bool) → b ≡ g.explicit → Decides b (IsInExplicit t id)
-explicit_if t grouped id g has b is = (λ so. (g, has, sym is ∙ so), λ other. is ∙ ap (λ (h : Group). h.explicit) (one_group t grouped id g other.0 has other.1) ∙ other.2)
+-- such a type lives
+written_or_in : (t : Table) → AreGrouped t → (id : ℕ) → IsSome (written_type t id) ⊎ IsInExplicit t id → IsLive t id
+written_or_in t grouped id (inl h) = written_there (type_at t id) h
+written_or_in t grouped id (inr ex) = (let there = grouped.live ex.1.place ex.0 ex.1.live id ex.1.listed in some_is (type_at t id) there.0 there.1)
 
-pub dead_alone : (t : Table) → AreGrouped t → (id : ℕ) → type_at t id ≡ None → Decides false (IsInExplicit t id)
-dead_alone t grouped id dead = (λ e. absurd (false≢true e), λ other. (let live = grouped.live other.1.place other.0 other.1.live id other.1.listed in absurd (not_some (type_at t id) live.0 dead live.1)))
+-- and isn't spared
+not_spared : (t : Table) (id : ℕ) → IsSome (written_type t id) ⊎ IsInExplicit t id → IsSpared t id → ⊥
+not_spared t id (inl h) s = no_entry (type_at t id) s.item s.live h s.entry
+not_spared t id (inr ex) s = s.alone ex.0 ex.1 ex.2
 
 -- ---- the types that don't stay, as they are listed
 pub none_listed : (N : ℕ → Type 0) (k : ℕ) → Contains [] k ↔ ((k < 0) × N k)
@@ -118,17 +113,8 @@ mark_listed N marks n id false sized is here before k =
     (sym (nothing_more (marked marks)) ∙ sym (marked_more 0 marks false))
     (one_passed N (marked marks) n id is (λ needless. false≢true (here.1 needless)) before k)
 
-pub all_listed : (stays : ℕ → Type 0) (t : Table) (ids : List ℕ) (n : ℕ) → AreGrouped t → past_types t ≤ n → ((k : ℕ) → Contains ids k ↔ ((k < n) × IsNeedless stays t k)) → AreNeedless stays t ids
-all_listed stays t ids n grouped all listed k = (
-  λ c. ((listed k).0 c).1,
-  λ needless.
-      let live : IsLive t k = elim needless.1 as (λ _. IsLive t k) [
-        | inl h ↦ written_there (type_at t k) h
-        | inr ex ↦ (let there = grouped.live ex.1.place ex.0 ex.1.live k ex.1.listed in some_is (type_at t k) there.0 there.1)
-      ] in
-      let below = types_below t grouped (past_types t) refl k live in
-      (listed k).1 (omega (arith, below, all), needless),
-)
+pub all_listed : (stays : ℕ → Type 0) (t : Table) (ids : List ℕ) (n : ℕ) → n ≡ past_types t → ((k : ℕ) → Contains ids k ↔ ((k < n) × (stays k → ⊥))) → AreUnkept stays t ids
+all_listed stays t ids n all listed = subst (λ (m : ℕ). (k : ℕ) → Contains ids k ↔ ((k < m) × (stays k → ⊥))) all listed
 
 -- ---- what is left once they are deleted
 abbrev lives : Table → ℕ → Bool
@@ -138,7 +124,8 @@ lives t id = is_some (type_at t id)
 all_left : (t : Table) (group : Group) → ((id : ℕ) → Contains group.types id → lives t id ≡ true) → group ≡ left_of t group
 all_left t group all = ap (λ (types : List ℕ). record { explicit = group.explicit; types = types }) (sym (filter_all (lives t) group.types all))
 
-module _ (stays : ℕ → Type 0) (sure : (id : ℕ) → ((stays id → ⊥) → ⊥) → stays id) (a b : Table) (ids : List ℕ) (grouped : AreGrouped a) (closed : AreClosed stays a) (listed : AreNeedless stays a ids) (gone : DeletesAll ids a b) where
+module _ (stays : ℕ → Type 0) (sure : (id : ℕ) → ((stays id → ⊥) → ⊥) → stays id) (a b : Table) (unkept ids : List ℕ) (grouped : AreGrouped a) (closed : AreClosed stays a) (listed : AreUnkept stays a unkept)
+    (left : (id : ℕ) → Contains ids id ↔ (Contains unkept id × (IsSpared a id → ⊥))) (gone : DeletesAll ids a b) where
   type_after : (k : ℕ) → type_at b k ≡ slice_index_or (clear_all ids a.types) k None
   type_after k = ap (λ (types : List (Option TypeItem)). slice_index_or types k None) gone.types
 
@@ -149,10 +136,13 @@ module _ (stays : ℕ → Type 0) (sure : (id : ℕ) → ((stays id → ⊥) →
   type_before k ty at = at-cleared ids a.types k ty (sym (type_after k) ∙ at)
 
   stays_same : (k : ℕ) → stays k → type_at b k ≡ type_at a k
-  stays_same k s = unlisted_same k (λ c. ((listed k).0 c).0 s)
+  stays_same k s = unlisted_same k (λ c. ((listed k).0 ((left k).0 c).0).1 s)
 
   unlisted_stays : (k : ℕ) → (Contains ids k → ⊥) → IsSome (written_type a k) ⊎ IsInExplicit a k → stays k
-  unlisted_stays k apart found = sure k (λ goes. apart ((listed k).1 (goes, found)))
+  unlisted_stays k apart found = sure k (λ goes. apart ((left k).1 (
+    (listed k).1 (types_below a grouped (past_types a) refl k (written_or_in a grouped k found), goes),
+    not_spared a k found,
+  )))
 
   group_after : (place : ℕ) → group_at b place ≡ option_and_then (with_live b.types) (group_at a place)
   group_after place =
@@ -196,10 +186,7 @@ module _ (stays : ℕ → Type 0) (sure : (id : ℕ) → ((stays id → ⊥) →
         let there = some_one (type_at b k) (written_there (type_at b k) h) in
         let was = type_before k there.0 there.1 in
         unlisted_stays k was.1 (inl (subst (λ (o : Option TypeItem). IsSome (written o)) (there.1 ∙ sym was.0) h));
-    entries = λ k ty at entry alone. unlisted_same k (λ c. elim ((listed k).0 c).1 as (λ _. ⊥) [
-      | inl h ↦ no_entry (type_at a k) ty at h entry
-      | inr ex ↦ alone ex.0 ex.1 ex.2
-    ]) ∙ at;
+    entries = λ k ty at entry alone. unlisted_same k (λ c. ((left k).0 c).1 (record { item = ty; live = at; entry = entry; alone = alone })) ∙ at;
     groups = λ place g at ex k c s. whole place g k at c (all_live place g at ex k c s);
     only_groups = whole_before;
     rest = λ place g at k c live.

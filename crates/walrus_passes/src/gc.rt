@@ -8,13 +8,13 @@ ghost use Rattle.walrus_arena.specs.Arena.{entries};
 ghost use Rattle.walrus_types.specs.Table.{marked};
 ghost use Rattle.walrus_sections.specs.Sections.{pushed};
 ghost use Rattle.walrus_passes.specs.Asked.{IsRefusedAsked, WithPushed};
-ghost use Rattle.walrus_passes.specs.DroppedTypes.{AreClosed, AreNeedless};
+ghost use Rattle.walrus_passes.specs.DroppedTypes.{AreClosed, AreUnkept};
 ghost use Rattle.walrus_passes.specs.Keeping.{IsHeld};
 ghost use Rattle.walrus_passes.specs.Part.{IsKeptPart, IsPart};
 
 use crate::drop::{drop_imports, drop_items};
 use crate::kept::{KeptItems, kept_items};
-use crate::types::needless_types;
+use crate::types::unkept_types;
 use std::alloc::Global;
 use walrus_errors::ModuleError;
 use walrus_refusals::used::module::Module;
@@ -22,15 +22,16 @@ use walrus_roots::Item;
 use walrus_sections::CustomSection;
 use wasm_formats::Space;
 
-// Deletes the items that aren't kept, of which the types are marked, and each import whose item isn't. Takes no memory.
-fn drop_unkept<B>(input: &mut Module<B>, kept: &KeptItems, types: &[bool])
+// Deletes the items that aren't kept, of which the types are marked, and each import whose item isn't. Entry types stay, but for those in
+// explicit groups, and lose their marks. Takes no memory.
+fn drop_unkept<B>(input: &mut Module<B>, kept: &KeptItems, types: &mut [bool])
     requires closed { AreClosed (λ id. IsHeld kept.now (item spaces.Type id)) input.old.types }
-    requires listed { AreNeedless (λ id. IsHeld kept.now (item spaces.Type id)) input.old.types (marked types.now) }
+    requires listed { AreUnkept (λ id. IsHeld kept.now (item spaces.Type id)) input.old.types (marked types.old) }
     ensures part { IsPart (IsHeld kept.now) (parts input.old) (parts input.new) }
     ensures customs { input.new.customs ≡ input.old.customs }
 {
     walrus_types::laws::types_are_grouped(&input.types);
-    input.types.delete_marked(types);
+    input.types.delete_unkept(types);
     drop_items(&mut input.funcs, kept, Space::Function);
     drop_items(&mut input.tables, kept, Space::Table);
     drop_items(&mut input.memories, kept, Space::Memory);
@@ -80,7 +81,7 @@ pub fn run_from_roots<B>(
     ensures refused { IfErr result (IsRefused (parts input.old) pushed.now) }
 {
     let kept = kept_items(alloc, input, pushed)?;
-    let types = needless_types(alloc, &input.types, &kept)?;
-    drop_unkept(input, &kept, types.as_slice());
+    let mut types = unkept_types(alloc, &input.types, &kept)?;
+    drop_unkept(input, &kept, types.as_mut_slice());
     Ok(())
 }

@@ -9,7 +9,8 @@ use Rattle.walrus_passes.proofs.gc.drop_unkept.Goals as goal
 
 pub returns-clause-part : goal.returns-clause-part
 returns-clause-part g c = record {
-  types = types_rest (λ id. IsHeld c.args.kept.now (item spaces.Type id)) (surely_held c.args.kept.now) c.args.input.now.types c.delete_marked.new.self (marked c.args.types.now) c.types_are_grouped.ensures c.requires.closed c.requires.listed c.delete_marked.ensures;
+  types = types_rest (λ id. IsHeld c.args.kept.now (item spaces.Type id)) (surely_held c.args.kept.now) c.args.input.now.types c.delete_unkept.new.self (marked c.args.types.now) (marked c.delete_unkept.new.marks) c.types_are_grouped.ensures c.requires.closed c.requires.listed
+      c.delete_unkept.ensures.left c.delete_unkept.ensures.gone;
   funcs = c.drop_items.ensures;
   tables = c.drop_items-2.ensures;
   memories = c.drop_items-3.ensures;

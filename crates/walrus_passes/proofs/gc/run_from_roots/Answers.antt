@@ -11,4 +11,4 @@ pub returns-clause-kept : goal.returns-clause-kept
 returns-clause-kept g c = part_as (IsHeld c.in_ok-kept.kept) (Kept (parts c.args.input.now) c.args.pushed.now) (parts c.args.input.now) (parts c.drop_unkept.new.input) c.in_ok-kept.ensures.kept c.drop_unkept.ensures.part
 
 pub drop_unkept-requires-clause-listed : goal.drop_unkept-requires-clause-listed
-drop_unkept-requires-clause-listed g c = rw c.as_slice.ensures.value c.in_ok-types.ensures
+drop_unkept-requires-clause-listed g c = rw c.as_mut_slice.ensures.value c.in_ok-types.ensures
