@@ -57,7 +57,7 @@ impl Stack {
         ensures opens { (ty : BlockTy) × (type_at (contents builder.builder) 0 ≡ Some ty) × (opens result ≡ begun openers.Block no_place ty Plain 0 Live ∷ []) }
     {
         let first = builder.func_body_id();
-        let ty = builder.seqs()[0].ty;
+        let ty = builder.seqs()[0].ty.get();
         let frame = Frame {
             ty,
             place: InstrLocId::default(),

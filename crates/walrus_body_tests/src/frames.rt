@@ -115,7 +115,7 @@ fn are_filled(seqs: &[InstrSeq], words: &[u8]) -> bool {
         let (word, more) = cut(rest, b' ');
         let (ty, word) = cut(word, b',');
         let (count, end) = cut(word, b',');
-        if seq.ty != block_type(ty)
+        if seq.ty.get() != block_type(ty)
             || seq.instrs.len() as u64 != number(count)
             || !is_end(&seq.end, end)
         {

@@ -36,7 +36,7 @@ fn have_types(seqs: &[InstrSeq], words: &[u8]) -> bool {
     let mut rest = words;
     for seq in seqs {
         let (word, more) = cut(rest, b',');
-        if word.is_empty() || seq.ty != block_type(word) {
+        if word.is_empty() || seq.ty.get() != block_type(word) {
             return false;
         }
         rest = more;

@@ -29,7 +29,7 @@ pub(crate) fn type_of(seqs: &[InstrSeq], id: InstrSeqId) -> InstrSeqType
     if index >= seqs.len() {
         return InstrSeqType::Simple(None);
     }
-    seqs[index].ty
+    seqs[index].ty.get()
 }
 
 // The type of a block that takes nothing.

@@ -8,7 +8,7 @@ ghost use Rattle.walrus_builder.specs.Functions.{lends_builder, lends_seq_of, se
 use crate::seq_builder::InstrSeqBuilder;
 use std::alloc::{AllocError, Global};
 use walrus_arena::{InstrSeqId, TypeId};
-use walrus_walks::instr::{Instr, InstrLocId, InstrSeq, InstrSeqType};
+use walrus_walks::instr::{Instr, InstrLocId, InstrSeq, InstrSeqType, SeqType};
 use walrus_walks::type_table::{ModuleTypes, ValType};
 
 /// A function that is built: its type, its name, and the sequences of its body, whose own is the first.
@@ -46,7 +46,7 @@ impl FunctionBuilder {
         // Last, so that nothing is refused once the types are added.
         let (ty, entry) = types.add_with_entry_ty(params, results)?;
         function.ty = ty;
-        function.builder.seqs[0].ty = InstrSeqType::MultiValue(entry);
+        function.builder.seqs[0].ty = SeqType::new(InstrSeqType::MultiValue(entry));
         Ok(function)
     }
 

@@ -3,7 +3,7 @@ use std::alloc::{AllocError, Global};
 use std::mem::size_of;
 use walrus_instr::{
     AtomicWidth, Bits128, ConstExpr, ConstOp, ExtendedLoad, Instr, InstrLocId, InstrSeq,
-    InstrSeqType, LoadKind, StoreKind, Value,
+    InstrSeqType, LoadKind, SeqType, StoreKind, Value,
 };
 use walrus_types::ValType;
 
@@ -18,7 +18,8 @@ fn instructions_are_compact(rt: HostRuntime) {
         (size_of::<Instr>(), 40),
         (size_of::<(Instr, InstrLocId)>(), 48),
         (size_of::<InstrSeqType>(), 24),
-        (size_of::<InstrSeq>(), 56),
+        (size_of::<SeqType>(), 8),
+        (size_of::<InstrSeq>(), 40),
     ];
     for (size, wanted) in sizes {
         assert!(rt; size == wanted);

@@ -6,7 +6,7 @@ use std::alloc::{AllocError, Global};
 use std::mem;
 use walrus_arena::InstrSeqId;
 use walrus_builder::{FunctionBuilder, InstrSeqBuilder};
-use walrus_instr::{Instr, InstrLocId, InstrSeq, InstrSeqType};
+use walrus_instr::{Instr, InstrLocId, InstrSeq, InstrSeqType, SeqType};
 
 /// The location of this number.
 pub fn location(text: &[u8]) -> InstrLocId {
@@ -164,7 +164,7 @@ fn step_at(
 // Writes a sequence that is lent: its type, or the location of its `end`.
 fn write(seq: &mut InstrSeq, is_type: bool, text: &[u8]) {
     if is_type {
-        seq.ty = block_type(text);
+        seq.ty = SeqType::new(block_type(text));
     } else {
         seq.end = location(text);
     }

@@ -349,7 +349,7 @@ pub fn are_instrs(instrs: &[(Instr, InstrLocId)], words: &[u8]) -> bool {
 // The type, and the location of the `end` behind an `@`, if it has one.
 fn is_header(seq: &InstrSeq, word: &[u8]) -> bool {
     let (ty, at) = cut(word, b'@');
-    seq.ty == block_type(ty) && is_place(&seq.end, at)
+    seq.ty.get() == block_type(ty) && is_place(&seq.end, at)
 }
 
 fn has_seq(seqs: &[InstrSeq], text: &[u8]) -> bool {

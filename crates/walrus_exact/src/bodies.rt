@@ -39,5 +39,5 @@ fn block_exact(ty: &InstrSeqType) -> bool
 pub fn seq_exact(index: usize, seq: &InstrSeq) -> bool
     ensures { result ≡ seq_exact index seq.now }
 {
-    (index != 0 && block_exact(&seq.ty)) || instrs_exact(seq.instrs.as_slice())
+    (index != 0 && block_exact(&seq.ty.get())) || instrs_exact(seq.instrs.as_slice())
 }

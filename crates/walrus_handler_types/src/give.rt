@@ -17,6 +17,7 @@ use walrus_handlers::Handler;
 use walrus_handlers::tree::builder::FunctionBuilder;
 use walrus_handlers::tree::builder::tree_walks::instr::InstrSeqType;
 use walrus_handlers::tree::builder::tree_walks::instr::type_table::{ModuleTypes, ValType};
+use walrus_instr::SeqType;
 
 // The block type of these parameters and results that is there, or else one that is added.
 fn found_or_added(
@@ -68,10 +69,10 @@ fn give_handler(
     ensures name { body.new.name ≡ body.old.name }
     ensures many { length (seqs_of body.new) ≡ length (seqs_of body.old) }
 {
-    let was = body.seqs()[id.index()].ty;
+    let was = body.seqs()[id.index()].ty.get();
     let ty = handler_type(alloc, types, handler, was)?;
     let seq = body.seq_mut(id);
-    seq.ty = ty;
+    seq.ty = SeqType::new(ty);
     Ok(())
 }
 

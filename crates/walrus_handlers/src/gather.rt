@@ -26,7 +26,7 @@ fn type_at(seqs: &[InstrSeq], id: InstrSeqId) -> Option<InstrSeqType>
     ensures { result ≡ type_at (map seq_of seqs.now) id }
 {
     match seqs.get(id.index()) {
-        Some(seq) => Some(seq.ty),
+        Some(seq) => Some(seq.ty.get()),
         None => None,
     }
 }

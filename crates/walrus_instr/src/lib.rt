@@ -9,6 +9,7 @@ pub mod laws;
 mod memory;
 mod operators;
 mod seq;
+mod seq_type;
 
 pub use bits::Bits128;
 pub use const_expr::{ConstExpr, ConstOp};
@@ -16,6 +17,7 @@ pub use instr::{Instr, LegacyCatch, ShuffleIndices, TryTableCatch, Value};
 pub use memory::{AtomicOp, AtomicWidth, ExtendedLoad, LoadKind, LoadSimdKind, MemArg, StoreKind};
 pub use operators::{BinaryOp, TernaryOp, UnaryOp};
 pub use seq::{InstrLocId, InstrSeq, InstrSeqType};
+pub use seq_type::SeqType;
 
 // Passed on to crates above, which then list this one alone.
 pub mod type_table {

@@ -7,6 +7,7 @@ ghost use Rattle.walrus_instr.specs.Lends.{lends_instrs};
 ghost use Rattle.walrus_instr.specs.declared.seq.InstrSeqType.TheVariants.{Simple, MultiValue};
 
 use crate::instr::Instr;
+use crate::seq_type::SeqType;
 use std::alloc::{AllocError, Global};
 use std::ops::{Deref, DerefMut};
 use walrus_types::arena::{InstrSeqId, TypeId};
@@ -134,7 +135,7 @@ impl InstrSeqType {
 pub struct InstrSeq {
     id: InstrSeqId,
     /// The type of the block.
-    pub ty: InstrSeqType,
+    pub ty: SeqType,
     /// Where the `end` stood.
     // It lies beside the type, which spares eight bytes.
     pub end: InstrLocId,
@@ -152,7 +153,7 @@ impl InstrSeq {
     {
         InstrSeq {
             id,
-            ty,
+            ty: SeqType::new(ty),
             instrs: Vec::new(alloc),
             end: InstrLocId::default(),
         }

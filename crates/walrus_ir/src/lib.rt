@@ -15,8 +15,8 @@ pub use walrus_builder::{
 };
 pub use walrus_instr::{
     AtomicOp, AtomicWidth, BinaryOp, Bits128, ConstExpr, ConstOp, ExtendedLoad, Instr, InstrLocId,
-    InstrSeq, InstrSeqType, LegacyCatch, LoadKind, LoadSimdKind, MemArg, ShuffleIndices, StoreKind,
-    TernaryOp, TryTableCatch, UnaryOp, Value,
+    InstrSeq, InstrSeqType, LegacyCatch, LoadKind, LoadSimdKind, MemArg, SeqType, ShuffleIndices,
+    StoreKind, TernaryOp, TryTableCatch, UnaryOp, Value,
 };
 pub use walrus_tree::check_tree;
 pub use walrus_types::{

@@ -27,8 +27,8 @@ pub use visitor_mut::VisitorMut;
 pub mod instr {
     pub use walrus_instr::{
         AtomicOp, AtomicWidth, BinaryOp, Instr, InstrLocId, InstrSeq, InstrSeqType, LegacyCatch,
-        LoadKind, LoadSimdKind, MemArg, ShuffleIndices, StoreKind, TernaryOp, TryTableCatch,
-        UnaryOp, Value,
+        LoadKind, LoadSimdKind, MemArg, SeqType, ShuffleIndices, StoreKind, TernaryOp,
+        TryTableCatch, UnaryOp, Value,
     };
 
     pub mod type_table {

@@ -81,9 +81,9 @@ impl Visit for InstrSeq {
 
     /// Tells of the type that the block type names.
     fn visit<V: Visitor>(&self, visitor: &mut V) {
-        match &self.ty {
-            InstrSeqType::Simple(ty) => visit_written(visitor, ty),
-            InstrSeqType::MultiValue(id) => visitor.visit_type_id(id),
+        match self.ty.get() {
+            InstrSeqType::Simple(ty) => visit_written(visitor, &ty),
+            InstrSeqType::MultiValue(id) => visitor.visit_type_id(&id),
         }
     }
 }

@@ -1,13 +1,13 @@
 //! What instructions and their parts name, to be changed.
 ghost use Rattle.std.specs.Prelude.{ℕ};
 ghost use Rattle.walrus_walks.specs.Events.{Event, NamesSeq};
-ghost use Rattle.walrus_walks.specs.Changes.{Threads, Handed, RefChanged, ValChanged, WrittenChanged, LegacyChanged, ClauseChanged, InstrChanged};
+ghost use Rattle.walrus_walks.specs.Changes.{Threads, Handed, RefChanged, ValChanged, WrittenChanged, BlockTypeChanged, LegacyChanged, ClauseChanged, InstrChanged};
 ghost use Rattle.walrus_walks.specs.Changing.{TypeChanged};
 
 use crate::visitor_mut::VisitorMut;
 use walrus_arena::InstrSeqId;
 use walrus_instr::type_table::{HeapType, RefType, ValType};
-use walrus_instr::{Instr, InstrSeq, InstrSeqType, LegacyCatch, TryTableCatch};
+use walrus_instr::{Instr, InstrSeq, InstrSeqType, LegacyCatch, SeqType, TryTableCatch};
 
 /// What hands a visitor the ids and constants in it, in the order of its fields.
 pub trait VisitMut {
@@ -43,6 +43,15 @@ fn visit_written_mut<V: VisitorMut>(visitor: &mut V, ty: &mut Option<ValType>)
 {
     if let Some(ty) = ty {
         visit_val_type_mut(visitor, ty)
+    }
+}
+
+fn visit_block_type_mut<V: VisitorMut>(visitor: &mut V, ty: &mut InstrSeqType)
+    ensures { BlockTypeChanged V.step visitor.old ty.old visitor.new ty.new }
+{
+    match ty {
+        InstrSeqType::Simple(ty) => visit_written_mut(visitor, ty),
+        InstrSeqType::MultiValue(id) => visitor.visit_type_id_mut(id),
     }
 }
 
@@ -82,10 +91,9 @@ impl VisitMut for InstrSeq {
 
     /// Hands over the type that the block type names.
     fn visit_mut<V: VisitorMut>(&mut self, visitor: &mut V) {
-        match &mut self.ty {
-            InstrSeqType::Simple(ty) => visit_written_mut(visitor, ty),
-            InstrSeqType::MultiValue(id) => visitor.visit_type_id_mut(id),
-        }
+        let mut ty = self.ty.get();
+        visit_block_type_mut(visitor, &mut ty);
+        self.ty = SeqType::new(ty);
     }
 }
 
