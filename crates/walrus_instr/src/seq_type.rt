@@ -107,16 +107,15 @@ impl SeqType {
             ValType::F32 => SeqType::of_form(Form::F32),
             ValType::F64 => SeqType::of_form(Form::F64),
             ValType::V128 => SeqType::of_form(Form::V128),
-            ValType::Ref(ty) => SeqType::of_reference(ty),
+            ValType::Ref(ty) => SeqType::of_reference(ty.nullable, ty.heap_type),
         }
     }
 
     // The block type of a reference.
-    fn of_reference(ty: RefType) -> Self
-        ensures { result ≡ Simple (Some (Ref ty)) }
+    fn of_reference(nullable: bool, heap_type: HeapType) -> Self
+        ensures { result ≡ Simple (Some (Ref (record { nullable = nullable; heap_type = heap_type }))) }
     {
-        let nullable = ty.nullable;
-        match ty.heap_type {
+        match heap_type {
             HeapType::Abstract(heap) => SeqType {
                 id: TypeId::from_index(0),
                 form: Form::Abstract,
