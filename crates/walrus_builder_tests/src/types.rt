@@ -15,7 +15,7 @@ fn begun(
     let f = FunctionBuilder::new(alloc, types, params, results)?;
     let is_begun = f.name.is_none() && f.func_body_id().index() == 0;
     Ok(match f.seqs() {
-        [own] if is_begun && types.find(params, results) == Some(f.ty()) => Some(own.ty),
+        [own] if is_begun && types.find(params, results) == Some(f.ty()) => Some(own.ty.get()),
         _ => None,
     })
 }
