@@ -4,7 +4,6 @@ use Rattle.walrus_types.specs.walrus_forms.declared.value.AbstractHeapType.{Abst
 use Rattle.walrus_types.specs.walrus_forms.declared.value.AbstractHeapType.TheVariants.{Func}
 use Rattle.walrus_types.specs.walrus_forms.declared.value.HeapType.{HeapType}
 use Rattle.walrus_types.specs.walrus_forms.declared.value.HeapType.TheVariants as heaps
-use Rattle.walrus_types.specs.walrus_forms.declared.value.RefType.{RefType}
 use Rattle.walrus_types.specs.walrus_forms.declared.value.ValType.{ValType}
 use Rattle.walrus_types.specs.walrus_forms.declared.value.ValType.TheVariants as values
 use Rattle.walrus_instr.specs.declared.seq.InstrSeqType.{InstrSeqType}
