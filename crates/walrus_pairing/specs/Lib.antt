@@ -4,6 +4,7 @@ pub mod Write
 pub mod Seen
 pub mod Answers
 pub mod Read
+pub mod Spaces
 -- Passed on to crates above, which then list this one alone.
 pub use Rattle.walrus_operator_codes.specs as walrus_operator_codes
 pub use Rattle.walrus_forms.specs as walrus_forms

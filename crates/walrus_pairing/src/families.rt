@@ -3,13 +3,13 @@ ghost use Rattle.std.specs.Prelude.{◌≡◌, false, Ok, Err, None, Some};
 ghost use Rattle.walrus_index_maps.specs.Views.{indices};
 ghost use Rattle.walrus_pairing.specs.Looks.{number_of};
 ghost use Rattle.walrus_pairing.specs.Seen.{as_seen, has_reserved_byte, is_fence};
+ghost use Rattle.walrus_pairing.specs.Spaces.{named_code};
 ghost use Rattle.walrus_pairing.specs.Write.{bare_code, test_code, cast_code, constant, numeric, variable, memory_op, object_op, lane_items};
 
+use crate::spaces::{Pair, Target};
 use crate::written::{
-    Written, access_op, data_memory_op, data_op, element_op, element_table_op, function_op,
-    global_op, heap_op, lane_access_op, local_op, memory_memory_op, memory_op, op, table_op,
-    table_table_op, tag_op, type_data_op, type_element_op, type_number_op, type_op, type_table_op,
-    type_type_op,
+    Written, access_op, function_op, global_op, heap_op, lane_access_op, local_op, one_op, op,
+    two_op, type_number_op,
 };
 use walrus_arena::FunctionId;
 use walrus_index_maps::IdsToIndices;
@@ -101,31 +101,109 @@ pub(crate) fn write_numeric(instr: &Instr) -> Written
     }
 }
 
+// The code of an instruction that names something, where others name as much: one function has them all, so that each family has an arm for
+// all that name the same.
+fn named_code(instr: &Instr) -> OpCode
+    ensures { result ≡ named_code instr.now }
+{
+    match instr {
+        Instr::Call { .. } => code!(0, 0x10),
+        Instr::CallIndirect { .. } => code!(0, 0x11),
+        Instr::ReturnCall { .. } => code!(0, 0x12),
+        Instr::ReturnCallIndirect { .. } => code!(0, 0x13),
+        Instr::CallRef { .. } => code!(0, 0x14),
+        Instr::ReturnCallRef { .. } => code!(0, 0x15),
+        Instr::LocalGet { .. } => code!(0, 0x20),
+        Instr::LocalSet { .. } => code!(0, 0x21),
+        Instr::LocalTee { .. } => code!(0, 0x22),
+        Instr::GlobalGet { .. } => code!(0, 0x23),
+        Instr::GlobalSet { .. } => code!(0, 0x24),
+        Instr::TableGet { .. } => code!(0, 0x25),
+        Instr::TableSet { .. } => code!(0, 0x26),
+        Instr::RefFunc { .. } => code!(0, 0xd2),
+        Instr::TableGrow { .. } => code!(0xfc, 15),
+        Instr::TableSize { .. } => code!(0xfc, 16),
+        Instr::TableFill { .. } => code!(0xfc, 17),
+        Instr::MemorySize { .. } => code!(0, 0x3f),
+        Instr::MemoryGrow { .. } => code!(0, 0x40),
+        Instr::MemoryFill { .. } => code!(0xfc, 11),
+        Instr::Load { kind, .. } => code_of_load(*kind),
+        Instr::Store { kind, .. } => code_of_store(*kind),
+        Instr::AtomicNotify { .. } => code!(0xfe, 0),
+        Instr::AtomicWait { sixty_four, .. } => atomic(if *sixty_four { 2 } else { 1 }),
+        Instr::AtomicRmw { op, width, .. } => code_of_rmw(*op, *width),
+        Instr::Cmpxchg { width, .. } => code_of_cmpxchg(*width),
+        Instr::StructNew { .. } => code!(0xfb, 0),
+        Instr::StructNewDefault { .. } => code!(0xfb, 1),
+        Instr::StructGet { .. } => code!(0xfb, 2),
+        Instr::StructGetS { .. } => code!(0xfb, 3),
+        Instr::StructGetU { .. } => code!(0xfb, 4),
+        Instr::StructSet { .. } => code!(0xfb, 5),
+        Instr::ArrayNew { .. } => code!(0xfb, 6),
+        Instr::ArrayNewDefault { .. } => code!(0xfb, 7),
+        Instr::ArrayNewFixed { .. } => code!(0xfb, 8),
+        Instr::ArrayNewData { .. } => code!(0xfb, 9),
+        Instr::ArrayNewElem { .. } => code!(0xfb, 10),
+        Instr::ArrayGet { .. } => code!(0xfb, 11),
+        Instr::ArrayGetS { .. } => code!(0xfb, 12),
+        Instr::ArrayGetU { .. } => code!(0xfb, 13),
+        Instr::ArraySet { .. } => code!(0xfb, 14),
+        Instr::ArrayFill { .. } => code!(0xfb, 16),
+        Instr::ArrayInitData { .. } => code!(0xfb, 18),
+        Instr::ArrayInitElem { .. } => code!(0xfb, 19),
+        _ => code!(0, 0),
+    }
+}
+
 pub(crate) fn write_variable(instr: &Instr, function: FunctionId, maps: &IdsToIndices) -> Written
     ensures { as_seen result ≡ variable (number_of (indices maps.now) function) instr.now }
 {
     match instr {
-        Instr::Throw { tag } => tag_op(code!(0, 0x08), *tag, maps),
-        Instr::Call { func } => function_op(code!(0, 0x10), *func, maps),
-        Instr::CallIndirect { ty, table } => type_table_op(code!(0, 0x11), *ty, *table, maps),
-        Instr::ReturnCall { func } => function_op(code!(0, 0x12), *func, maps),
-        Instr::ReturnCallIndirect { ty, table } => type_table_op(code!(0, 0x13), *ty, *table, maps),
-        Instr::CallRef { ty } => type_op(code!(0, 0x14), *ty, maps),
-        Instr::ReturnCallRef { ty } => type_op(code!(0, 0x15), *ty, maps),
-        Instr::LocalGet { local } => local_op(code!(0, 0x20), *local, function, maps),
-        Instr::LocalSet { local } => local_op(code!(0, 0x21), *local, function, maps),
-        Instr::LocalTee { local } => local_op(code!(0, 0x22), *local, function, maps),
-        Instr::GlobalGet { global } => global_op(code!(0, 0x23), *global, maps),
-        Instr::GlobalSet { global } => global_op(code!(0, 0x24), *global, maps),
-        Instr::TableGet { table } => table_op(code!(0, 0x25), *table, maps),
-        Instr::TableSet { table } => table_op(code!(0, 0x26), *table, maps),
-        Instr::RefFunc { func } => function_op(code!(0, 0xd2), *func, maps),
-        Instr::TableInit { table, elem } => element_table_op(code!(0xfc, 12), *elem, *table, maps),
-        Instr::ElemDrop { elem } => element_op(code!(0xfc, 13), *elem, maps),
-        Instr::TableCopy { src, dst } => table_table_op(code!(0xfc, 14), *dst, *src, maps),
-        Instr::TableGrow { table } => table_op(code!(0xfc, 15), *table, maps),
-        Instr::TableSize { table } => table_op(code!(0xfc, 16), *table, maps),
-        Instr::TableFill { table } => table_op(code!(0xfc, 17), *table, maps),
+        Instr::Throw { tag } => one_op(code!(0, 0x08), Target::Tag, maps.get_tag_index(*tag)),
+        Instr::Call { func } | Instr::ReturnCall { func } | Instr::RefFunc { func } => {
+            function_op(named_code(instr), *func, maps)
+        }
+        Instr::CallIndirect { ty, table } | Instr::ReturnCallIndirect { ty, table } => two_op(
+            named_code(instr),
+            Pair::TypeTable,
+            maps.get_type_index(*ty),
+            maps.get_table_index(*table),
+        ),
+        Instr::CallRef { ty } | Instr::ReturnCallRef { ty } => {
+            one_op(named_code(instr), Target::Type, maps.get_type_index(*ty))
+        }
+        Instr::LocalGet { local } | Instr::LocalSet { local } | Instr::LocalTee { local } => {
+            local_op(named_code(instr), *local, function, maps)
+        }
+        Instr::GlobalGet { global } | Instr::GlobalSet { global } => {
+            global_op(named_code(instr), *global, maps)
+        }
+        Instr::TableGet { table }
+        | Instr::TableSet { table }
+        | Instr::TableGrow { table }
+        | Instr::TableSize { table }
+        | Instr::TableFill { table } => one_op(
+            named_code(instr),
+            Target::Table,
+            maps.get_table_index(*table),
+        ),
+        Instr::TableInit { table, elem } => two_op(
+            code!(0xfc, 12),
+            Pair::ElementTable,
+            maps.get_element_index(*elem),
+            maps.get_table_index(*table),
+        ),
+        Instr::ElemDrop { elem } => one_op(
+            code!(0xfc, 13),
+            Target::Element,
+            maps.get_element_index(*elem),
+        ),
+        Instr::TableCopy { src, dst } => two_op(
+            code!(0xfc, 14),
+            Pair::TableTable,
+            maps.get_table_index(*dst),
+            maps.get_table_index(*src),
+        ),
         _ => Ok(None),
     }
 }
@@ -134,8 +212,12 @@ pub(crate) fn write_memory(instr: &Instr, maps: &IdsToIndices) -> Written
     ensures { as_seen result ≡ memory_op (number_of (indices maps.now) 0) instr.now }
 {
     match instr {
-        Instr::Load { memory, kind, arg } => access_op(code_of_load(*kind), *memory, *arg, maps),
-        Instr::Store { memory, kind, arg } => access_op(code_of_store(*kind), *memory, *arg, maps),
+        Instr::Load { memory, arg, .. }
+        | Instr::Store { memory, arg, .. }
+        | Instr::AtomicNotify { memory, arg }
+        | Instr::AtomicWait { memory, arg, .. }
+        | Instr::AtomicRmw { memory, arg, .. }
+        | Instr::Cmpxchg { memory, arg, .. } => access_op(named_code(instr), *memory, *arg, maps),
         Instr::LoadSimd { memory, kind, arg } => lane_access_op(
             code_of_simd(*kind),
             *memory,
@@ -143,30 +225,28 @@ pub(crate) fn write_memory(instr: &Instr, maps: &IdsToIndices) -> Written
             lane_of_simd(*kind),
             maps,
         ),
-        Instr::MemorySize { memory } => memory_op(code!(0, 0x3f), *memory, maps),
-        Instr::MemoryGrow { memory } => memory_op(code!(0, 0x40), *memory, maps),
-        Instr::MemoryInit { memory, data } => data_memory_op(code!(0xfc, 8), *data, *memory, maps),
-        Instr::DataDrop { data } => data_op(code!(0xfc, 9), *data, maps),
-        Instr::MemoryCopy { src, dst } => memory_memory_op(code!(0xfc, 10), *dst, *src, maps),
-        Instr::MemoryFill { memory } => memory_op(code!(0xfc, 11), *memory, maps),
-        Instr::AtomicNotify { memory, arg } => access_op(code!(0xfe, 0), *memory, *arg, maps),
-        Instr::AtomicWait {
-            memory,
-            arg,
-            sixty_four,
-        } => {
-            let number = if *sixty_four { 2 } else { 1 };
-            access_op(atomic(number), *memory, *arg, maps)
+        Instr::MemorySize { memory }
+        | Instr::MemoryGrow { memory }
+        | Instr::MemoryFill { memory } => one_op(
+            named_code(instr),
+            Target::Memory,
+            maps.get_memory_index(*memory),
+        ),
+        Instr::MemoryInit { memory, data } => two_op(
+            code!(0xfc, 8),
+            Pair::DataMemory,
+            maps.get_data_index(*data),
+            maps.get_memory_index(*memory),
+        ),
+        Instr::DataDrop { data } => {
+            one_op(code!(0xfc, 9), Target::Data, maps.get_data_index(*data))
         }
-        Instr::AtomicRmw {
-            memory,
-            op,
-            width,
-            arg,
-        } => access_op(code_of_rmw(*op, *width), *memory, *arg, maps),
-        Instr::Cmpxchg { memory, width, arg } => {
-            access_op(code_of_cmpxchg(*width), *memory, *arg, maps)
-        }
+        Instr::MemoryCopy { src, dst } => two_op(
+            code!(0xfc, 10),
+            Pair::MemoryMemory,
+            maps.get_memory_index(*dst),
+            maps.get_memory_index(*src),
+        ),
         _ => Ok(None),
     }
 }
@@ -192,25 +272,42 @@ pub(crate) fn write_object(instr: &Instr, maps: &IdsToIndices) -> Written
         Instr::RefNull { ty } => heap_op(code!(0, 0xd0), ty.heap_type, maps),
         Instr::RefTest { ty } => heap_op(code_of_test(ty.nullable), ty.heap_type, maps),
         Instr::RefCast { ty } => heap_op(code_of_cast(ty.nullable), ty.heap_type, maps),
-        Instr::StructNew { ty } => type_op(code!(0xfb, 0), *ty, maps),
-        Instr::StructNewDefault { ty } => type_op(code!(0xfb, 1), *ty, maps),
-        Instr::StructGet { ty, field } => type_number_op(code!(0xfb, 2), *ty, *field, maps),
-        Instr::StructGetS { ty, field } => type_number_op(code!(0xfb, 3), *ty, *field, maps),
-        Instr::StructGetU { ty, field } => type_number_op(code!(0xfb, 4), *ty, *field, maps),
-        Instr::StructSet { ty, field } => type_number_op(code!(0xfb, 5), *ty, *field, maps),
-        Instr::ArrayNew { ty } => type_op(code!(0xfb, 6), *ty, maps),
-        Instr::ArrayNewDefault { ty } => type_op(code!(0xfb, 7), *ty, maps),
-        Instr::ArrayNewFixed { ty, size } => type_number_op(code!(0xfb, 8), *ty, *size, maps),
-        Instr::ArrayNewData { ty, data } => type_data_op(code!(0xfb, 9), *ty, *data, maps),
-        Instr::ArrayNewElem { ty, elem } => type_element_op(code!(0xfb, 10), *ty, *elem, maps),
-        Instr::ArrayGet { ty } => type_op(code!(0xfb, 11), *ty, maps),
-        Instr::ArrayGetS { ty } => type_op(code!(0xfb, 12), *ty, maps),
-        Instr::ArrayGetU { ty } => type_op(code!(0xfb, 13), *ty, maps),
-        Instr::ArraySet { ty } => type_op(code!(0xfb, 14), *ty, maps),
-        Instr::ArrayFill { ty } => type_op(code!(0xfb, 16), *ty, maps),
-        Instr::ArrayCopy { src, dst } => type_type_op(code!(0xfb, 17), *dst, *src, maps),
-        Instr::ArrayInitData { ty, data } => type_data_op(code!(0xfb, 18), *ty, *data, maps),
-        Instr::ArrayInitElem { ty, elem } => type_element_op(code!(0xfb, 19), *ty, *elem, maps),
+        Instr::StructNew { ty }
+        | Instr::StructNewDefault { ty }
+        | Instr::ArrayNew { ty }
+        | Instr::ArrayNewDefault { ty }
+        | Instr::ArrayGet { ty }
+        | Instr::ArrayGetS { ty }
+        | Instr::ArrayGetU { ty }
+        | Instr::ArraySet { ty }
+        | Instr::ArrayFill { ty } => {
+            one_op(named_code(instr), Target::Type, maps.get_type_index(*ty))
+        }
+        Instr::StructGet { ty, field: n }
+        | Instr::StructGetS { ty, field: n }
+        | Instr::StructGetU { ty, field: n }
+        | Instr::StructSet { ty, field: n }
+        | Instr::ArrayNewFixed { ty, size: n } => {
+            type_number_op(named_code(instr), *ty, *n, maps)
+        }
+        Instr::ArrayNewData { ty, data } | Instr::ArrayInitData { ty, data } => two_op(
+            named_code(instr),
+            Pair::TypeData,
+            maps.get_type_index(*ty),
+            maps.get_data_index(*data),
+        ),
+        Instr::ArrayNewElem { ty, elem } | Instr::ArrayInitElem { ty, elem } => two_op(
+            named_code(instr),
+            Pair::TypeElement,
+            maps.get_type_index(*ty),
+            maps.get_element_index(*elem),
+        ),
+        Instr::ArrayCopy { src, dst } => two_op(
+            code!(0xfb, 17),
+            Pair::TypeType,
+            maps.get_type_index(*dst),
+            maps.get_type_index(*src),
+        ),
         _ => Ok(None),
     }
 }

@@ -3,10 +3,13 @@ ghost use Rattle.std.specs.Prelude.{◌≡◌, [], ◌∷◌, None, option_map};
 ghost use Rattle.walrus_operator_codes.specs.walrus_instr.declared.instr.Instr.TheVariants as instrs;
 ghost use Rattle.walrus_operator_codes.specs.walrus_instr.declared.instr.Value.TheVariants as constants;
 ghost use Rattle.walrus_operator_codes.specs.Ternary.{ternary_at};
+ghost use Rattle.walrus_operators.specs.wasm_immediates.Items.{DataSegments, ElementSegments, Tables, Tags, Types};
 ghost use Rattle.walrus_pairing.specs.Read as read;
+ghost use Rattle.walrus_pairing.specs.Spaces.{first_of, second_of, space};
 
 use crate::error::PairError;
-use walrus_arena::{MemoryId, TableId, TypeId};
+use crate::spaces::{Pair, Target, id};
+use walrus_arena::{DataId, ElementId, MemoryId, TableId, TagId, TypeId};
 use walrus_forms::{HeapType, RefType};
 use walrus_instr::{Bits128, Instr, MemArg, Value};
 use walrus_operator_codes::{
@@ -165,7 +168,7 @@ pub(crate) fn f64_instr(code: OpCode, bits: Ieee64) -> Option<Instr>
     })
 }
 
-pub(crate) fn type_instr(code: OpCode, ty: TypeId) -> Option<Instr>
+fn type_instr(code: OpCode, ty: TypeId) -> Option<Instr>
     ensures { result ≡ read.type_at code ty }
 {
     match code.prefix {
@@ -190,7 +193,7 @@ pub(crate) fn type_instr(code: OpCode, ty: TypeId) -> Option<Instr>
     }
 }
 
-pub(crate) fn table_instr(code: OpCode, table: TableId) -> Option<Instr>
+fn table_instr(code: OpCode, table: TableId) -> Option<Instr>
     ensures { result ≡ read.table_at code «table» }
 {
     match code.prefix {
@@ -221,6 +224,159 @@ pub(crate) fn type_number_instr(code: OpCode, ty: TypeId, n: u32) -> Option<Inst
         4 => Some(Instr::StructGetU { ty, field: n }),
         5 => Some(Instr::StructSet { ty, field: n }),
         8 => Some(Instr::ArrayNewFixed { ty, size: n }),
+        _ => None,
+    }
+}
+
+fn memory_instr(code: OpCode, memory: MemoryId) -> Option<Instr>
+    ensures { result ≡ read.memory_at code «memory» }
+{
+    match code.prefix {
+        0 => match code.number {
+            0x3f => Some(Instr::MemorySize { memory }),
+            0x40 => Some(Instr::MemoryGrow { memory }),
+            _ => None,
+        },
+        0xfc => match code.number {
+            11 => Some(Instr::MemoryFill { memory }),
+            _ => None,
+        },
+        _ => None,
+    }
+}
+
+fn tag_instr(code: OpCode, tag: TagId) -> Option<Instr>
+    ensures { result ≡ read.name_at code Tags tag }
+{
+    if code.prefix != 0 || code.number != 0x08 {
+        return None;
+    }
+    Some(Instr::Throw { tag })
+}
+
+fn element_instr(code: OpCode, elem: ElementId) -> Option<Instr>
+    ensures { result ≡ read.name_at code ElementSegments elem }
+{
+    if code.prefix != 0xfc || code.number != 13 {
+        return None;
+    }
+    Some(Instr::ElemDrop { elem })
+}
+
+fn data_instr(code: OpCode, data: DataId) -> Option<Instr>
+    ensures { result ≡ read.name_at code DataSegments «data» }
+{
+    if code.prefix != 0xfc || code.number != 9 {
+        return None;
+    }
+    Some(Instr::DataDrop { data })
+}
+
+/// Of what has this number.
+pub(crate) fn name_instr(code: OpCode, target: Target, n: u32) -> Option<Instr>
+    ensures { result ≡ read.name_at code (space target) n }
+{
+    match target {
+        Target::Type => type_instr(code, id(n)),
+        Target::Table => table_instr(code, id(n)),
+        Target::Memory => memory_instr(code, id(n)),
+        Target::Tag => tag_instr(code, id(n)),
+        Target::Element => element_instr(code, id(n)),
+        Target::Data => data_instr(code, id(n)),
+    }
+}
+
+/// Of the two that have these numbers.
+pub(crate) fn pair_instr(code: OpCode, pair: Pair, m: u32, n: u32) -> Option<Instr>
+    ensures { result ≡ read.names_at code (space (first_of pair)) m (space (second_of pair)) n }
+{
+    match pair {
+        Pair::TypeTable => call_instr(code, id(m), id(n)),
+        Pair::DataMemory => {
+            if code.prefix != 0xfc || code.number != 8 {
+                return None;
+            }
+            Some(Instr::MemoryInit {
+                memory: id(n),
+                data: id(m),
+            })
+        }
+        Pair::MemoryMemory => {
+            if code.prefix != 0xfc || code.number != 10 {
+                return None;
+            }
+            Some(Instr::MemoryCopy {
+                src: id(n),
+                dst: id(m),
+            })
+        }
+        Pair::ElementTable => {
+            if code.prefix != 0xfc || code.number != 12 {
+                return None;
+            }
+            Some(Instr::TableInit {
+                table: id(n),
+                elem: id(m),
+            })
+        }
+        Pair::TableTable => {
+            if code.prefix != 0xfc || code.number != 14 {
+                return None;
+            }
+            Some(Instr::TableCopy {
+                src: id(n),
+                dst: id(m),
+            })
+        }
+        Pair::TypeData => array_data_instr(code, id(m), id(n)),
+        Pair::TypeElement => array_element_instr(code, id(m), id(n)),
+        Pair::TypeType => {
+            if code.prefix != 0xfb || code.number != 17 {
+                return None;
+            }
+            Some(Instr::ArrayCopy {
+                src: id(n),
+                dst: id(m),
+            })
+        }
+    }
+}
+
+fn call_instr(code: OpCode, ty: TypeId, table: TableId) -> Option<Instr>
+    ensures { result ≡ read.names_at code Types ty Tables «table» }
+{
+    if code.prefix != 0 {
+        return None;
+    }
+    match code.number {
+        0x11 => Some(Instr::CallIndirect { ty, table }),
+        0x13 => Some(Instr::ReturnCallIndirect { ty, table }),
+        _ => None,
+    }
+}
+
+fn array_data_instr(code: OpCode, ty: TypeId, data: DataId) -> Option<Instr>
+    ensures { result ≡ read.names_at code Types ty DataSegments «data» }
+{
+    if code.prefix != 0xfb {
+        return None;
+    }
+    match code.number {
+        9 => Some(Instr::ArrayNewData { ty, data }),
+        18 => Some(Instr::ArrayInitData { ty, data }),
+        _ => None,
+    }
+}
+
+fn array_element_instr(code: OpCode, ty: TypeId, elem: ElementId) -> Option<Instr>
+    ensures { result ≡ read.names_at code Types ty ElementSegments elem }
+{
+    if code.prefix != 0xfb {
+        return None;
+    }
+    match code.number {
+        10 => Some(Instr::ArrayNewElem { ty, elem }),
+        19 => Some(Instr::ArrayInitElem { ty, elem }),
         _ => None,
     }
 }

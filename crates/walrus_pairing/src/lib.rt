@@ -5,6 +5,7 @@ mod error;
 mod families;
 mod instructions;
 mod named;
+mod spaces;
 mod to_instr;
 mod to_operator;
 mod types;

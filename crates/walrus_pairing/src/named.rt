@@ -1,17 +1,20 @@
 //! Instructions of a code and of immediates that name something: what they name is looked up, then the code is.
 ghost use Rattle.std.specs.Prelude.{◌≡◌};
-ghost use Rattle.walrus_operators.specs.wasm_immediates.Items.{Access, Byte, DataSegments, ElementSegments, Functions, Globals, Heap, Locals, Memories, Names, Number, Tables, Tags, Types};
+ghost use Rattle.std.specs.Option.{ok_or};
+ghost use Rattle.walrus_operators.specs.wasm_immediates.Items.{Access, Byte, Functions, Globals, Heap, Locals, Names, Number, Types};
 ghost use Rattle.walrus_index_maps.specs.Views.{ids};
-ghost use Rattle.walrus_pairing.specs.Looks.{id_of};
+ghost use Rattle.walrus_pairing.specs.Looks.{id_of, word};
 ghost use Rattle.walrus_pairing.specs.Read.{pair_at, single_at};
+ghost use Rattle.walrus_pairing.specs.Spaces.{first_of, name_read, pair_read, second_of, space};
 
 use crate::error::PairError;
 use crate::instructions::{
-    access_instr, arg_of, heap_instr, table_instr, type_instr, type_number_instr,
+    access_instr, arg_of, heap_instr, name_instr, pair_instr, type_number_instr,
 };
+use crate::spaces::{Pair, Target, first_of, second_of};
 use crate::types::read_heap;
-use walrus_arena::FunctionId;
-use walrus_index_maps::IndicesToIds;
+use walrus_arena::{FunctionId, Id};
+use walrus_index_maps::{IndicesToIds, UnknownIndex};
 use walrus_instr::Instr;
 use walrus_operator_codes::simd_of;
 use walrus_operators::immediate_forms::MemoryAccess;
@@ -118,164 +121,43 @@ pub(crate) fn read_reference(code: OpCode, ty: HeapType, maps: &IndicesToIds) ->
     Ok(heap_instr(code, own))
 }
 
-pub(crate) fn read_tag(code: OpCode, n: u32, maps: &IndicesToIds) -> Read
-    ensures { result ≡ single_at (id_of (ids maps.now) 0) code (Names Tags n) }
+// The number of the id that was found.
+fn number_in<S>(found: Result<Id<S>, UnknownIndex>) -> Result<u32, UnknownIndex>
+    ensures { result ≡ found }
 {
-    let tag = id!(maps.get_tag(n));
-    if code.prefix != 0 || code.number != 0x08 {
-        return Ok(None);
-    }
-    Ok(Some(Instr::Throw { tag }))
-}
-
-pub(crate) fn read_type(code: OpCode, n: u32, maps: &IndicesToIds) -> Read
-    ensures { result ≡ single_at (id_of (ids maps.now) 0) code (Names Types n) }
-{
-    let id = id!(maps.get_type(n));
-    Ok(type_instr(code, id))
-}
-
-pub(crate) fn read_table(code: OpCode, n: u32, maps: &IndicesToIds) -> Read
-    ensures { result ≡ single_at (id_of (ids maps.now) 0) code (Names Tables n) }
-{
-    let id = id!(maps.get_table(n));
-    Ok(table_instr(code, id))
-}
-
-pub(crate) fn read_memory(code: OpCode, n: u32, maps: &IndicesToIds) -> Read
-    ensures { result ≡ single_at (id_of (ids maps.now) 0) code (Names Memories n) }
-{
-    let memory = id!(maps.get_memory(n));
-    match code.prefix {
-        0 => match code.number {
-            0x3f => Ok(Some(Instr::MemorySize { memory })),
-            0x40 => Ok(Some(Instr::MemoryGrow { memory })),
-            _ => Ok(None),
-        },
-        0xfc => match code.number {
-            11 => Ok(Some(Instr::MemoryFill { memory })),
-            _ => Ok(None),
-        },
-        _ => Ok(None),
+    match found {
+        Ok(id) => Ok(id.number()),
+        Err(unknown) => Err(unknown),
     }
 }
 
-pub(crate) fn read_data(code: OpCode, n: u32, maps: &IndicesToIds) -> Read
-    ensures { result ≡ single_at (id_of (ids maps.now) 0) code (Names DataSegments n) }
+// The number of the id that an index names.
+fn id_at(target: Target, n: u32, maps: &IndicesToIds) -> Result<u32, UnknownIndex>
+    ensures { result ≡ ok_or (id_of (ids maps.now) 0 (space target) n) (record { 0 = word (space target) }) }
 {
-    let data = id!(maps.get_data(n));
-    if code.prefix != 0xfc || code.number != 9 {
-        return Ok(None);
-    }
-    Ok(Some(Instr::DataDrop { data }))
-}
-
-pub(crate) fn read_element(code: OpCode, n: u32, maps: &IndicesToIds) -> Read
-    ensures { result ≡ single_at (id_of (ids maps.now) 0) code (Names ElementSegments n) }
-{
-    let elem = id!(maps.get_element(n));
-    if code.prefix != 0xfc || code.number != 13 {
-        return Ok(None);
-    }
-    Ok(Some(Instr::ElemDrop { elem }))
-}
-
-pub(crate) fn read_type_table(code: OpCode, m: u32, n: u32, maps: &IndicesToIds) -> Read
-    ensures { result ≡ pair_at (id_of (ids maps.now) 0) code (Names Types m) (Names Tables n) }
-{
-    let ty = id!(maps.get_type(m));
-    let table = id!(maps.get_table(n));
-    if code.prefix != 0 {
-        return Ok(None);
-    }
-    match code.number {
-        0x11 => Ok(Some(Instr::CallIndirect { ty, table })),
-        0x13 => Ok(Some(Instr::ReturnCallIndirect { ty, table })),
-        _ => Ok(None),
+    match target {
+        Target::Type => number_in(maps.get_type(n)),
+        Target::Table => number_in(maps.get_table(n)),
+        Target::Memory => number_in(maps.get_memory(n)),
+        Target::Tag => number_in(maps.get_tag(n)),
+        Target::Element => number_in(maps.get_element(n)),
+        Target::Data => number_in(maps.get_data(n)),
     }
 }
 
-pub(crate) fn read_data_memory(code: OpCode, m: u32, n: u32, maps: &IndicesToIds) -> Read
-    ensures { result ≡ pair_at (id_of (ids maps.now) 0) code (Names DataSegments m) (Names Memories n) }
+/// Of one name, but for functions, globals and locals.
+pub(crate) fn read_name(code: OpCode, target: Target, n: u32, maps: &IndicesToIds) -> Read
+    ensures { result ≡ name_read (id_of (ids maps.now) 0) code (space target) n }
 {
-    let data = id!(maps.get_data(m));
-    let memory = id!(maps.get_memory(n));
-    if code.prefix != 0xfc || code.number != 8 {
-        return Ok(None);
-    }
-    Ok(Some(Instr::MemoryInit { memory, data }))
+    let id = id!(id_at(target, n, maps));
+    Ok(name_instr(code, target, id))
 }
 
-pub(crate) fn read_memory_memory(code: OpCode, m: u32, n: u32, maps: &IndicesToIds) -> Read
-    ensures { result ≡ pair_at (id_of (ids maps.now) 0) code (Names Memories m) (Names Memories n) }
+/// Of two names.
+pub(crate) fn read_pair(code: OpCode, pair: Pair, m: u32, n: u32, maps: &IndicesToIds) -> Read
+    ensures { result ≡ pair_read (id_of (ids maps.now) 0) code (space (first_of pair)) m (space (second_of pair)) n }
 {
-    let dst = id!(maps.get_memory(m));
-    let src = id!(maps.get_memory(n));
-    if code.prefix != 0xfc || code.number != 10 {
-        return Ok(None);
-    }
-    Ok(Some(Instr::MemoryCopy { src, dst }))
-}
-
-pub(crate) fn read_element_table(code: OpCode, m: u32, n: u32, maps: &IndicesToIds) -> Read
-    ensures { result ≡ pair_at (id_of (ids maps.now) 0) code (Names ElementSegments m) (Names Tables n) }
-{
-    let elem = id!(maps.get_element(m));
-    let table = id!(maps.get_table(n));
-    if code.prefix != 0xfc || code.number != 12 {
-        return Ok(None);
-    }
-    Ok(Some(Instr::TableInit { table, elem }))
-}
-
-pub(crate) fn read_table_table(code: OpCode, m: u32, n: u32, maps: &IndicesToIds) -> Read
-    ensures { result ≡ pair_at (id_of (ids maps.now) 0) code (Names Tables m) (Names Tables n) }
-{
-    let dst = id!(maps.get_table(m));
-    let src = id!(maps.get_table(n));
-    if code.prefix != 0xfc || code.number != 14 {
-        return Ok(None);
-    }
-    Ok(Some(Instr::TableCopy { src, dst }))
-}
-
-pub(crate) fn read_type_data(code: OpCode, m: u32, n: u32, maps: &IndicesToIds) -> Read
-    ensures { result ≡ pair_at (id_of (ids maps.now) 0) code (Names Types m) (Names DataSegments n) }
-{
-    let ty = id!(maps.get_type(m));
-    let data = id!(maps.get_data(n));
-    if code.prefix != 0xfb {
-        return Ok(None);
-    }
-    match code.number {
-        9 => Ok(Some(Instr::ArrayNewData { ty, data })),
-        18 => Ok(Some(Instr::ArrayInitData { ty, data })),
-        _ => Ok(None),
-    }
-}
-
-pub(crate) fn read_type_element(code: OpCode, m: u32, n: u32, maps: &IndicesToIds) -> Read
-    ensures { result ≡ pair_at (id_of (ids maps.now) 0) code (Names Types m) (Names ElementSegments n) }
-{
-    let ty = id!(maps.get_type(m));
-    let elem = id!(maps.get_element(n));
-    if code.prefix != 0xfb {
-        return Ok(None);
-    }
-    match code.number {
-        10 => Ok(Some(Instr::ArrayNewElem { ty, elem })),
-        19 => Ok(Some(Instr::ArrayInitElem { ty, elem })),
-        _ => Ok(None),
-    }
-}
-
-pub(crate) fn read_type_type(code: OpCode, m: u32, n: u32, maps: &IndicesToIds) -> Read
-    ensures { result ≡ pair_at (id_of (ids maps.now) 0) code (Names Types m) (Names Types n) }
-{
-    let dst = id!(maps.get_type(m));
-    let src = id!(maps.get_type(n));
-    if code.prefix != 0xfb || code.number != 17 {
-        return Ok(None);
-    }
-    Ok(Some(Instr::ArrayCopy { src, dst }))
+    let first = id!(id_at(first_of(pair), m, maps));
+    let second = id!(id_at(second_of(pair), n, maps));
+    Ok(pair_instr(code, pair, first, second))
 }

@@ -11,11 +11,10 @@ use crate::instructions::{
     byte_instr, f32_instr, f64_instr, i32_instr, i64_instr, no_immediates_instr, run_instr,
 };
 use crate::named::{
-    Read, read_access, read_counted, read_data, read_data_memory, read_element, read_element_table,
-    read_function, read_global, read_lane_access, read_local, read_memory, read_memory_memory,
-    read_reference, read_table, read_table_table, read_tag, read_type, read_type_data,
-    read_type_element, read_type_table, read_type_type,
+    Read, read_access, read_counted, read_function, read_global, read_lane_access, read_local,
+    read_name, read_pair, read_reference,
 };
+use crate::spaces::{pair_of, target_of};
 use crate::types::{named_type, read_value};
 use walrus_arena::FunctionId;
 use walrus_index_maps::IndicesToIds;
@@ -53,40 +52,40 @@ fn rare_instr(op: &Operator, function: FunctionId, maps: &IndicesToIds) -> Read
     let code = op.code;
     match &op.immediates {
         Immediates::Bare => Ok(no_immediates_instr(code)),
-        Immediates::Tag(n) => read_tag(code, *n, maps),
         Immediates::Function(n) => read_function(code, *n, maps),
-        Immediates::TypeTable(m, n) => read_type_table(code, *m, *n, maps),
-        Immediates::Type(n) => read_type(code, *n, maps),
-        Immediates::Select(types) => select_instr(types.as_slice(), maps),
         Immediates::Local(n) => read_local(code, *n, function, maps),
         Immediates::Global(n) => read_global(code, *n, maps),
-        Immediates::Table(n) => read_table(code, *n, maps),
+        Immediates::Tag(n)
+        | Immediates::Type(n)
+        | Immediates::Table(n)
+        | Immediates::Memory(n)
+        | Immediates::Data(n)
+        | Immediates::Element(n) => read_name(code, target_of(&op.immediates), *n, maps),
+        Immediates::TypeTable(m, n)
+        | Immediates::DataMemory(m, n)
+        | Immediates::MemoryMemory(m, n)
+        | Immediates::ElementTable(m, n)
+        | Immediates::TableTable(m, n)
+        | Immediates::TypeData(m, n)
+        | Immediates::TypeElement(m, n)
+        | Immediates::TypeType(m, n) => read_pair(code, pair_of(&op.immediates), *m, *n, maps),
+        Immediates::Select(types) => select_instr(types.as_slice(), maps),
         Immediates::Access(access) => read_access(code, *access, maps),
-        Immediates::Memory(n) => read_memory(code, *n, maps),
         Immediates::I32(n) => Ok(i32_instr(code, *n)),
         Immediates::I64(n) => Ok(i64_instr(code, *n)),
         Immediates::F32(bits) => Ok(f32_instr(code, *bits)),
         Immediates::F64(bits) => Ok(f64_instr(code, *bits)),
         Immediates::Heap(ty) => read_reference(code, *ty, maps),
-        Immediates::DataMemory(m, n) => read_data_memory(code, *m, *n, maps),
-        Immediates::Data(n) => read_data(code, *n, maps),
-        Immediates::MemoryMemory(m, n) => read_memory_memory(code, *m, *n, maps),
-        Immediates::ElementTable(m, n) => read_element_table(code, *m, *n, maps),
-        Immediates::Element(n) => read_element(code, *n, maps),
-        Immediates::TableTable(m, n) => read_table_table(code, *m, *n, maps),
         Immediates::TypeNumber(m, n) => read_counted(code, *m, *n, maps),
-        Immediates::TypeData(m, n) => read_type_data(code, *m, *n, maps),
-        Immediates::TypeElement(m, n) => read_type_element(code, *m, *n, maps),
-        Immediates::TypeType(m, n) => read_type_type(code, *m, *n, maps),
         Immediates::Vector(bytes) => Ok(run_instr(code, *bytes)),
         Immediates::Lane(byte) => Ok(byte_instr(code, *byte)),
         Immediates::AccessLane(access, lane) => read_lane_access(code, *access, *lane, maps),
         Immediates::Zero => Ok(byte_instr(code, 0)),
-        Immediates::Block(_) => Ok(None),
-        Immediates::TryTable(_, _) => Ok(None),
-        Immediates::Label(_) => Ok(None),
-        Immediates::BrTable(_, _) => Ok(None),
-        Immediates::Cast(_, _, _, _) => Ok(None),
+        Immediates::Block(_)
+        | Immediates::TryTable(_, _)
+        | Immediates::Label(_)
+        | Immediates::BrTable(_, _)
+        | Immediates::Cast(_, _, _, _) => Ok(None),
     }
 }
 

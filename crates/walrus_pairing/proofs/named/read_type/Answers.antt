@@ -1,9 +1,0 @@
-use Rattle.std.proofs.Common.{refl}
-use Rattle.walrus_pairing.proofs.Found.{absent, present}
-use Rattle.walrus_pairing.proofs.named.read_type.Goals as goal
-
-pub returns-in-Err : goal.returns-in-Err
-returns-in-Err c = rw (absent _ _ _ _ c.get_type.ensures c.in-Err.is) refl
-
-pub returns : goal.returns
-returns c = rw (present _ _ _ _ c.get_type.ensures c.in-Ok.is, c.type_instr.ensures) refl

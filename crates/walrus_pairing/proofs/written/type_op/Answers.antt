@@ -1,8 +1,0 @@
-use Rattle.std.proofs.Common.{refl, sym, ◌∙◌}
-use Rattle.walrus_pairing.proofs.written.type_op.Goals as goal
-
-pub returns-in-None : goal.returns-in-None
-returns-in-None c = rw (sym c.get_type_index.ensures ∙ c.in-None.is) refl
-
-pub returns : goal.returns
-returns c = rw (sym c.get_type_index.ensures ∙ c.in-Some.is) refl
