@@ -1,5 +1,5 @@
-//! Codes behind a prefix, and those of accesses to memory (Core Specification, binary format: memory instructions, vector instructions; the
-//! proposal on threads).
+//! Codes on which wrong bodies are tried: behind a prefix, and those of loads and atomic operators (Core Specification, binary format: memory
+//! instructions; the proposal on threads). The others stand in `walrus_operator_codes`.
 #![tactic(auto)]
 
 // A code, written out: a call for each would be a good part of what the proofs of the large matches take.
@@ -15,10 +15,8 @@ macro_rules! code {
 mod access;
 mod code;
 
-pub use access::{
-    code_of_cmpxchg, code_of_load, code_of_rmw, code_of_simd, code_of_store, lane_of_simd,
-};
-pub use code::{atomic, bulk, byte, object, pick, saturating, vector};
+pub use access::{code_of_cmpxchg, code_of_load, code_of_rmw};
+pub use code::{atomic, saturating};
 
 // Passed on to crates above, which then list this one alone.
 pub mod instr {

@@ -4,9 +4,9 @@ ghost use Rattle.std.specs.Prelude.{◌≡◌, slice_get};
 ghost use Rattle.walrus_codes.specs.Runs.{in_runs};
 ghost use Rattle.walrus_codes.specs.Access.{byte_loads, atomic_loads, load_at, byte_stores, atomic_stores, store_at, vector_accesses, lane_accesses, simd_at, widths_in_order, at_widths, atomic_changes, rmw_at, cmpxchg_at};
 
+use crate::code::pick;
 use walrus_codes::instr::{AtomicOp, AtomicWidth, ExtendedLoad, LoadKind, LoadSimdKind, StoreKind};
 use walrus_codes::operator_table::OpCode;
-use walrus_codes::pick;
 
 #[tactic(auto, unfolding(walrus_codes::specs::Access::byte_loads))]
 fn load_of_byte(number: u32) -> Option<LoadKind>

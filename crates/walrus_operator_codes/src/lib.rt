@@ -14,19 +14,20 @@ macro_rules! code {
 
 mod access;
 mod binary;
+mod code;
 mod numeric;
 mod table;
 mod ternary;
 mod unary;
+mod written;
 
 pub use access::{cmpxchg_of, load_of, rmw_of, simd_of, store_of};
 pub use binary::{binary_of, code_of_binary, lane_of_binary};
+pub use code::{byte, object};
 pub use numeric::{Numeric, numeric_of};
 pub use ternary::code_of_ternary;
 pub use unary::{code_of_unary, lane_of_unary, unary_of};
+pub use written::{code_of_simd, code_of_store, lane_of_simd};
 
 // Passed on to crates above, which then list this one alone.
-pub use walrus_codes::{
-    atomic, byte, code_of_cmpxchg, code_of_load, code_of_rmw, code_of_simd, code_of_store,
-    lane_of_simd, object,
-};
+pub use walrus_codes::{atomic, code_of_cmpxchg, code_of_load, code_of_rmw};

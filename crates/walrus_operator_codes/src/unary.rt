@@ -3,10 +3,11 @@ ghost use Rattle.std.specs.Prelude.{◌≡◌, None};
 ghost use Rattle.walrus_codes.specs.Runs.{in_runs};
 ghost use Rattle.walrus_codes.specs.Unary.{unary_lanes, bare_unary_at, unary_at, unary_code, unary_lane};
 
+use crate::code::pick;
 use crate::numeric::{Numeric, numeric_of};
 use walrus_codes::instr::UnaryOp;
 use walrus_codes::operator_table::OpCode;
-use walrus_codes::{pick, saturating};
+use walrus_codes::saturating;
 
 #[tactic(auto, unfolding(walrus_codes::specs::Unary::unary_lanes))]
 fn unary_of_lane(number: u32, idx: u8) -> Option<UnaryOp>
