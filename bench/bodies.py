@@ -2,14 +2,14 @@
 """Times the parsing of function bodies into trees, and their parsing and emission together, against a loop in C that only decodes the
 same operators, and prints the ratios, the memory an instruction and the time an operator.
 
-    bench/bodies.py [--rounds N] [--seed N] [--only WORD] [--small-pages]
+    bench/bodies.py [--rounds N] [--seed N] [--only WORD]
 
 Each body stands in a file, and is in normal form: what is written is the body again. A time is the processor's, the system's calls
 included, of a whole run less that of one that does no more than load the file (the loop in C: that reads an empty one), the least of the
 rounds; memory is the greatest that a run holds, less that of one that loads the file, over the instructions of the tree: of few
-instructions it says nothing. The C library is asked for large pages, as the programs in bin/ do, unless --small-pages is given: a tree
-takes some fifty times the memory of its code, of which the loop in C touches none, and the kernel's work for new pages of 4 KiB was a
-third of the time of parsing.
+instructions it says nothing. Each is measured twice: with large pages, for which the programs in bin/ have the C library ask, and with
+small ones. A tree takes some twenty times the memory of its code, of which the loop in C touches none, and the kernel's work for new pages
+of 4 KiB is a third of the time of parsing; pages of 2 MiB round the memory up by as much at most.
 """
 import argparse
 import os
@@ -55,6 +55,8 @@ SHAPES = (
     ("the same, 1,000 deep", 10**6, 400, 1000),
     ("the same, 100,000 deep", 10**6, 400, 10**5),
 )
+
+PAGES = (("large pages", LARGE_PAGES), ("small pages", {}))
 
 
 def plain(chance, some_locals):
@@ -141,9 +143,7 @@ def main():
     words.add_argument("--rounds", type=int, default=5)
     words.add_argument("--seed", type=int, default=1)
     words.add_argument("--only", default="")
-    words.add_argument("--small-pages", action="store_true")
     asked = words.parse_args()
-    settings = {} if asked.small_pages else LARGE_PAGES
     with tempfile.TemporaryDirectory() as folder:
         loop = f"{folder}/operators"
         subprocess.run(["gcc", "-O2", "-o", loop, f"{ROOT}/bench/operators.c"], check=True)
@@ -155,7 +155,7 @@ def main():
         print("building walrus_bench", file=sys.stderr)
         subprocess.run(["rt", "run", "--", "body", "data/body", "both"], cwd=CRATE, check=True, stdout=subprocess.DEVNULL, stderr=subprocess.DEVNULL)
         ours, file, code = f"{CRATE}/out/walrus_bench", f"{folder}/body", f"{folder}/code"
-        first = None
+        first = {}
         for what, count, some_locals, depth in SHAPES:
             if asked.only not in what:
                 continue
@@ -163,22 +163,23 @@ def main():
             for name, text in ((file, declared + operators), (code, operators)):
                 with open(name, "wb") as it:
                     it.write(text)
-            theirs = least(asked.rounds, settings, runner, loop, code, "read")
-            decoded = theirs[0] - least(asked.rounds, settings, runner, loop, "/dev/null", "read")[0]
+            theirs = least(asked.rounds, {}, runner, loop, code, "read")
+            decoded = theirs[0] - least(asked.rounds, {}, runner, loop, "/dev/null", "read")[0]
             seen = int(theirs[2].split()[0])
-            load, parse, both = (least(asked.rounds, settings, runner, ours, "body", file, way) for way in ("load", "parse", "both"))
-            instructions, written = (int(both[2].split()[k]) for k in (0, 2))
-            if written != len(declared) + len(operators):
-                sys.exit(f"{what}: of {len(declared) + len(operators)} bytes {written} are written")
-            parsed, all_of_it = parse[0] - load[0], both[0] - load[0]
-            each = all_of_it / seen
-            first = first or each
-            memory = (parse[1] - load[1]) * 1024 / instructions
-            print(
-                f"{what}: {seen:,} operators, parsed {parsed * 1e9 / seen:.1f} ns each, and written {each * 1e9:.1f} ns, C {decoded * 1e9 / seen:.1f} ns,"
-                f" ratio {all_of_it / decoded:.2f}; {each / first:.2f} times the first; {memory:.1f} bytes an instruction",
-                flush=True,
-            )
+            for pages, settings in PAGES:
+                load, parse, both = (least(asked.rounds, settings, runner, ours, "body", file, way) for way in ("load", "parse", "both"))
+                instructions, written = (int(both[2].split()[k]) for k in (0, 2))
+                if written != len(declared) + len(operators):
+                    sys.exit(f"{what}: of {len(declared) + len(operators)} bytes {written} are written")
+                parsed, all_of_it = parse[0] - load[0], both[0] - load[0]
+                each = all_of_it / seen
+                first.setdefault(pages, each)
+                memory = (parse[1] - load[1]) * 1024 / instructions
+                print(
+                    f"{what}, {pages}: {seen:,} operators, parsed {parsed * 1e9 / seen:.1f} ns each, and written {each * 1e9:.1f} ns, C {decoded * 1e9 / seen:.1f} ns,"
+                    f" ratio {all_of_it / decoded:.2f}; {each / first[pages]:.2f} times the first; {memory:.1f} bytes an instruction",
+                    flush=True,
+                )
 
 
 if __name__ == "__main__":
