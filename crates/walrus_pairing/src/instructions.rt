@@ -3,13 +3,13 @@ ghost use Rattle.std.specs.Prelude.{◌≡◌, [], ◌∷◌, None, option_map};
 ghost use Rattle.walrus_operator_codes.specs.walrus_instr.declared.instr.Instr.TheVariants as instrs;
 ghost use Rattle.walrus_operator_codes.specs.walrus_instr.declared.instr.Value.TheVariants as constants;
 ghost use Rattle.walrus_operator_codes.specs.Ternary.{ternary_at};
-ghost use Rattle.walrus_operators.specs.wasm_immediates.Items.{DataSegments, ElementSegments, Tables, Tags, Types};
+ghost use Rattle.walrus_operators.specs.wasm_immediates.Items.{DataSegments, ElementSegments, Tables, Types};
 ghost use Rattle.walrus_pairing.specs.Read as read;
 ghost use Rattle.walrus_pairing.specs.Spaces.{first_of, second_of, space};
 
 use crate::error::PairError;
 use crate::spaces::{Pair, Target, id};
-use walrus_arena::{DataId, ElementId, MemoryId, TableId, TagId, TypeId};
+use walrus_arena::{DataId, ElementId, MemoryId, TableId, TypeId};
 use walrus_forms::{HeapType, RefType};
 use walrus_instr::{Bits128, Instr, MemArg, Value};
 use walrus_operator_codes::{
@@ -245,33 +245,6 @@ fn memory_instr(code: OpCode, memory: MemoryId) -> Option<Instr>
     }
 }
 
-fn tag_instr(code: OpCode, tag: TagId) -> Option<Instr>
-    ensures { result ≡ read.name_at code Tags tag }
-{
-    if code.prefix != 0 || code.number != 0x08 {
-        return None;
-    }
-    Some(Instr::Throw { tag })
-}
-
-fn element_instr(code: OpCode, elem: ElementId) -> Option<Instr>
-    ensures { result ≡ read.name_at code ElementSegments elem }
-{
-    if code.prefix != 0xfc || code.number != 13 {
-        return None;
-    }
-    Some(Instr::ElemDrop { elem })
-}
-
-fn data_instr(code: OpCode, data: DataId) -> Option<Instr>
-    ensures { result ≡ read.name_at code DataSegments «data» }
-{
-    if code.prefix != 0xfc || code.number != 9 {
-        return None;
-    }
-    Some(Instr::DataDrop { data })
-}
-
 /// Of what has this number.
 pub(crate) fn name_instr(code: OpCode, target: Target, n: u32) -> Option<Instr>
     ensures { result ≡ read.name_at code (space target) n }
@@ -280,9 +253,24 @@ pub(crate) fn name_instr(code: OpCode, target: Target, n: u32) -> Option<Instr>
         Target::Type => type_instr(code, id(n)),
         Target::Table => table_instr(code, id(n)),
         Target::Memory => memory_instr(code, id(n)),
-        Target::Tag => tag_instr(code, id(n)),
-        Target::Element => element_instr(code, id(n)),
-        Target::Data => data_instr(code, id(n)),
+        Target::Tag => {
+            if code.prefix != 0 || code.number != 0x08 {
+                return None;
+            }
+            Some(Instr::Throw { tag: id(n) })
+        }
+        Target::Element => {
+            if code.prefix != 0xfc || code.number != 13 {
+                return None;
+            }
+            Some(Instr::ElemDrop { elem: id(n) })
+        }
+        Target::Data => {
+            if code.prefix != 0xfc || code.number != 9 {
+                return None;
+            }
+            Some(Instr::DataDrop { data: id(n) })
+        }
     }
 }
 
