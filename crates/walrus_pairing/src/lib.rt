@@ -1,6 +1,16 @@
 //! Plain operators of files paired with instructions, both ways, over maps of indices and ids.
 #![tactic(auto)]
 
+// What there is, or the caller answers why there is nothing: three calls less than by `?`.
+macro_rules! got {
+    ($found:expr) => {
+        match $found {
+            Ok(found) => found,
+            Err(fault) => return Err(fault),
+        }
+    };
+}
+
 mod error;
 mod families;
 mod instructions;

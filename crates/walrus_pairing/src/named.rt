@@ -87,7 +87,7 @@ pub(crate) fn read_access(code: OpCode, access: MemoryAccess, maps: &IndicesToId
     ensures { result ≡ single_at (id_of (ids maps.now) 0) code (Access «access») }
 {
     let memory = id!(maps.get_memory(access.memory));
-    let arg = arg_of(access)?;
+    let arg = got!(arg_of(access));
     Ok(access_instr(code, memory, arg))
 }
 
@@ -100,7 +100,7 @@ pub(crate) fn read_lane_access(
     ensures { result ≡ pair_at (id_of (ids maps.now) 0) code (Access «access») (Byte lane) }
 {
     let memory = id!(maps.get_memory(access.memory));
-    let arg = arg_of(access)?;
+    let arg = got!(arg_of(access));
     match simd_of(code, Some(lane)) {
         Some(kind) => Ok(Some(Instr::LoadSimd { memory, kind, arg })),
         None => Ok(None),
@@ -117,7 +117,7 @@ pub(crate) fn read_counted(code: OpCode, ty: u32, n: u32, maps: &IndicesToIds) -
 pub(crate) fn read_reference(code: OpCode, ty: HeapType, maps: &IndicesToIds) -> Read
     ensures { result ≡ single_at (id_of (ids maps.now) 0) code (Heap ty) }
 {
-    let own = read_heap(ty, maps)?;
+    let own = got!(read_heap(ty, maps));
     Ok(heap_instr(code, own))
 }
 

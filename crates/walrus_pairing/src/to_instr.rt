@@ -37,10 +37,10 @@ fn select_instr(types: &[ValType], maps: &IndicesToIds) -> Read
     ensures { result ≡ select_at (slice_get (ids maps.now).types) types.now }
 {
     if let [ty] = types {
-        let ty = read_value(*ty, maps)?;
+        let ty = got!(read_value(*ty, maps));
         return Ok(Some(Instr::Select { ty: Some(ty) }));
     }
-    named_types(types, maps)?;
+    got!(named_types(types, maps));
     Err(PairError::Select)
 }
 

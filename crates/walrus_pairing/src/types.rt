@@ -53,11 +53,11 @@ pub fn write_heap(ty: HeapType, maps: &IdsToIndices) -> Result<written::HeapType
             ty: write_abstract(ty),
         }),
         HeapType::Concrete(id) => {
-            let number = type_number(maps, id)?;
+            let number = got!(type_number(maps, id));
             Ok(written::HeapType::Concrete(UnpackedIndex::Module(number)))
         }
         HeapType::Exact(id) => {
-            let number = type_number(maps, id)?;
+            let number = got!(type_number(maps, id));
             Ok(written::HeapType::Exact(UnpackedIndex::Module(number)))
         }
     }
@@ -134,15 +134,15 @@ pub fn read_heap(ty: written::HeapType, maps: &IndicesToIds) -> Result<HeapType,
     match ty {
         written::HeapType::Abstract { shared: true, .. } => Err(PairError::SharedType),
         written::HeapType::Abstract { shared: false, ty } => {
-            let ty = abstract_type(ty)?;
+            let ty = got!(abstract_type(ty));
             Ok(HeapType::Abstract(ty))
         }
         written::HeapType::Concrete(index) => {
-            let id = type_at(index, maps)?;
+            let id = got!(type_at(index, maps));
             Ok(HeapType::Concrete(id))
         }
         written::HeapType::Exact(index) => {
-            let id = type_at(index, maps)?;
+            let id = got!(type_at(index, maps));
             Ok(HeapType::Exact(id))
         }
     }
@@ -184,11 +184,11 @@ pub(crate) fn named_type(ty: written::ValType, maps: &IndicesToIds) -> Result<()
         written::ValType::Ref(ty) => match ty.heap_type() {
             written::HeapType::Abstract { .. } => Ok(()),
             written::HeapType::Concrete(index) => {
-                type_at(index, maps)?;
+                got!(type_at(index, maps));
                 Ok(())
             }
             written::HeapType::Exact(index) => {
-                type_at(index, maps)?;
+                got!(type_at(index, maps));
                 Ok(())
             }
         },

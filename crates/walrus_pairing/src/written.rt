@@ -85,7 +85,7 @@ pub(crate) fn type_number_op(code: OpCode, ty: TypeId, count: u32, maps: &IdsToI
 pub(crate) fn heap_op(code: OpCode, ty: HeapType, maps: &IdsToIndices) -> Written
     ensures { as_seen result ≡ heap (number_of (indices maps.now) 0) code ty }
 {
-    let ty = write_heap(ty, maps)?;
+    let ty = got!(write_heap(ty, maps));
     operator!(code, Immediates::Heap(ty))
 }
 
