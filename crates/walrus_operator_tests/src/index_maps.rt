@@ -1,12 +1,13 @@
-//! Tests of the maps of indices and ids, a row for each space.
+//! Maps of indices and ids, space by space.
 mod ids;
 mod numbers;
 
-pub(crate) use ids::are_named;
-pub(crate) use numbers::are_numbered;
+pub(crate) use ids::{are_named, are_three};
+pub(crate) use numbers::{are_apart_once_set, are_numbered, are_own};
 use walrus_index_maps::Space;
 
-const SPACES: [Space; 9] = [
+/// All that a map has.
+pub(crate) const SPACES: [Space; 9] = [
     Space::Type,
     Space::Function,
     Space::Table,

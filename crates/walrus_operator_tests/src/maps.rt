@@ -1,9 +1,9 @@
 //! Maps of 131 items in each space: no index is its own id, and no space has another's but the largest.
-ghost use Rattle.std.specs.Prelude.{◌≤◌, ◌<◌, ◌+◌, ◌^◌, OnOk};
+ghost use Rattle.std.specs.Prelude.{◌≡◌, ◌≤◌, ◌<◌, ◌+◌, ◌^◌, OnOk};
 ghost use Rattle.walrus_index_maps.specs.Views.{indices};
 ghost use Rattle.walrus_operator_tests.specs.Given.{given};
 
-use std::alloc::{AllocError, Global};
+use std::alloc::AllocError;
 use walrus_arena::{FunctionId, Id};
 use walrus_index_maps::{IdsToIndices, IndicesToIds, Space};
 
@@ -128,8 +128,7 @@ fn first_of(turn: u32) -> (Space, u32) {
 }
 
 // Indices 0 to 129 of each space, and 130 for the largest id.
-fn ids(alloc: Global) -> Result<IndicesToIds, AllocError> {
-    let mut ids = IndicesToIds::new(alloc);
+fn fill_ids(ids: &mut IndicesToIds) -> Result<(), AllocError> {
     for n in 0..1179u32 {
         let (space, first) = first_of(n);
         let id = if n / 9 == 130 {
@@ -137,25 +136,26 @@ fn ids(alloc: Global) -> Result<IndicesToIds, AllocError> {
         } else {
             first.saturating_add(n / 9)
         };
-        push(&mut ids, space, id)?;
+        push(ids, space, id)?;
     }
-    Ok(ids)
+    Ok(())
 }
 
 // Numbers 0 to 129 of the same; of data segments and locals the largest in place of 64.
-fn numbers(alloc: Global) -> Result<IdsToIndices, AllocError> {
-    let mut numbers = IdsToIndices::new(alloc);
+fn fill_numbers(numbers: &mut IdsToIndices) -> Result<(), AllocError>
+    requires { given (indices numbers.old) ≡ 0 }
+{
     for n in 0..1170u32 {
         let (space, first) = first_of(n);
         let number = if n / 9 == 64 { 4294967295 } else { n / 9 };
-        give(&mut numbers, space, first.saturating_add(n / 9), number)?;
+        give(numbers, space, first.saturating_add(n / 9), number)?;
     }
-    Ok(numbers)
+    Ok(())
 }
 
-/// Both.
-pub(crate) fn filled(alloc: Global) -> Result<Maps, AllocError> {
-    let ids = ids(alloc)?;
-    let numbers = numbers(alloc)?;
-    Ok(Maps { ids, numbers })
+/// Whether both have all items now.
+pub(crate) fn are_filled(maps: &mut Maps) -> bool
+    requires { given (indices maps.old.numbers) ≡ 0 }
+{
+    fill_ids(&mut maps.ids).is_ok() && fill_numbers(&mut maps.numbers).is_ok()
 }

@@ -2,12 +2,12 @@
 
 use crate::faults::{are_unknown, is_refused};
 use crate::index_maps::{are_named, are_numbered};
-use crate::maps::{Maps, filled};
+use crate::maps::Maps;
 use crate::operators::{Asked, is_answered, operators_stand};
 use crate::pairing::has_no_instr;
 use crate::rows::{CODES, FAULTS, FIELDS, NO_CODES, NO_INSTRUCTIONS, PADDED, RENUMBERED};
 use crate::words::cut;
-use std::alloc::{AllocError, Global};
+use std::alloc::Global;
 
 // What is asked of rows.
 #[derive(Clone, Copy)]
@@ -79,22 +79,12 @@ const ALL: [(Rows, u32); 7] = [
     (Rows::NoInstructions, 5),
 ];
 
-fn all_stand(alloc: Global, maps: &mut Maps) -> bool {
+/// Whether all stand, over maps that are filled.
+pub(crate) fn all_stand(alloc: Global, maps: &mut Maps) -> bool {
     for (rows, count) in ALL {
         if stand(alloc, maps, rows) != Some(count) {
             return false;
         }
     }
     are_numbered(&maps.numbers) && are_named(&mut maps.ids)
-}
-
-// One function has the maps, as that is dear to prove.
-fn all_stand_over_maps(alloc: Global) -> Result<bool, AllocError> {
-    let mut maps = filled(alloc)?;
-    Ok(all_stand(alloc, &mut maps))
-}
-
-#[test]
-fn all_rows(rt: HostRuntime) {
-    assert!(rt; all_stand_over_maps(rt.alloc()) == Ok(true));
 }

@@ -40,8 +40,8 @@ fn only_this(ids: &IndicesToIds, space: Space) -> bool {
     true
 }
 
-// Whether three ids that are pushed to the space, of which two follow each other, have the indices 0 to 2, and nothing else has.
-fn are_three(ids: &mut IndicesToIds, space: Space) -> Result<bool, AllocError> {
+/// Whether three ids that are pushed to the space, of which two follow each other, have the indices 0 to 2, and nothing else has.
+pub(crate) fn are_three(ids: &mut IndicesToIds, space: Space) -> Result<bool, AllocError> {
     let first = push(ids, space, 7)?;
     let second = push(ids, space, 8)?;
     let third = push(ids, space, 4)?;
@@ -49,18 +49,6 @@ fn are_three(ids: &mut IndicesToIds, space: Space) -> Result<bool, AllocError> {
     let names = row && named(ids, space, 2) == Ok(4);
     let past = named(ids, space, 3) == Err(UnknownIndex(space));
     Ok(first == 0 && second == 1 && third == 2 && names && past && only_this(ids, space))
-}
-
-fn has_own_list(alloc: Global, space: Space) -> Result<bool, AllocError> {
-    let mut ids = IndicesToIds::new(alloc);
-    are_three(&mut ids, space)
-}
-
-#[test]
-fn each_space_has_its_own_list(rt: HostRuntime) {
-    for space in SPACES {
-        assert!(rt; has_own_list(rt.alloc(), space) == Ok(true));
-    }
 }
 
 /// Whether locals are of one function, and types can be named anew.

@@ -1,16 +1,12 @@
 //! What number each id is written as, in each space.
+ghost use Rattle.std.specs.Prelude.{◌≡◌};
+ghost use Rattle.walrus_index_maps.specs.Views.{indices};
+ghost use Rattle.walrus_operator_tests.specs.Given.{given};
 
 use crate::index_maps::SPACES;
 use crate::maps::{body, give, id};
-use std::alloc::{AllocError, Global};
+use std::alloc::AllocError;
 use walrus_index_maps::{IdsToIndices, Space};
-
-// Numbers of the space alone: id 7 has the first.
-fn numbers(alloc: Global, space: Space) -> Result<IdsToIndices, AllocError> {
-    let mut numbers = IdsToIndices::new(alloc);
-    give(&mut numbers, space, 7, 0)?;
-    Ok(numbers)
-}
 
 fn number_of(numbers: &IdsToIndices, space: Space, at: u32) -> Option<u32> {
     match space {
@@ -37,16 +33,11 @@ fn only_this(numbers: &IdsToIndices, space: Space) -> bool {
     true
 }
 
-fn has_own_numbers(alloc: Global, space: Space) -> Result<bool, AllocError> {
-    let numbers = numbers(alloc, space)?;
-    Ok(only_this(&numbers, space))
-}
-
-#[test]
-fn each_space_has_its_own_numbers(rt: HostRuntime) {
-    for space in SPACES {
-        assert!(rt; has_own_numbers(rt.alloc(), space) == Ok(true));
-    }
+/// Whether an id that is given the first number of the space, where none has one, has it there alone.
+pub(crate) fn are_own(numbers: &mut IdsToIndices, space: Space) -> bool
+    requires { given (indices numbers.old) ≡ 0 }
+{
+    give(numbers, space, 7, 0).is_ok() && only_this(numbers, space)
 }
 
 /// Whether the next id has the next number: the largest id that has one, and its number.
@@ -88,25 +79,16 @@ fn are_apart(numbers: &IdsToIndices) -> bool {
     true
 }
 
-fn are_apart_in(numbers: &mut IdsToIndices, rows: &[Row]) -> Result<bool, AllocError> {
-    set(numbers, rows)?;
-    Ok(are_apart(numbers))
-}
+const ROWS: [Row; 6] = [
+    (1, 5, 10),
+    (2, 5, 20),
+    (1, 6, 11),
+    (1, 5, 12),
+    (3, 5, 30),
+    (2, 5, 21),
+];
 
-fn are_apart_once_set(alloc: Global, rows: &[Row]) -> Result<bool, AllocError> {
-    let mut numbers = IdsToIndices::new(alloc);
-    are_apart_in(&mut numbers, rows)
-}
-
-#[test]
-fn functions_that_share_a_local_have_their_own_numbers(rt: HostRuntime) {
-    let rows = [
-        (1, 5, 10),
-        (2, 5, 20),
-        (1, 6, 11),
-        (1, 5, 12),
-        (3, 5, 30),
-        (2, 5, 21),
-    ];
-    assert!(rt; are_apart_once_set(rt.alloc(), &rows) == Ok(true));
+/// Whether functions that share a local have their own numbers of it.
+pub(crate) fn are_apart_once_set(numbers: &mut IdsToIndices) -> bool {
+    set(numbers, &ROWS).is_ok() && are_apart(numbers)
 }

@@ -1,7 +1,7 @@
 use Rattle.std.proofs.Common.{◌≤◌}
 use Rattle.walrus_index_maps.specs.Views.{indices}
 use Rattle.walrus_operator_tests.specs.Given.{given}
-use Rattle.walrus_operator_tests.proofs.maps.numbers.Given as goal
+use Rattle.walrus_operator_tests.proofs.maps.fill_numbers.Given as goal
 
 abbrev pub invariant-loop-n : goal.invariant-loop-n
 invariant-loop-n l = given (indices l.numbers) ≤ l.n
