@@ -7,6 +7,7 @@ use Rattle.walrus_handlers.specs.walrus_tree.walrus_builder.Built.{seq_of}
 use Rattle.walrus_handlers.specs.walrus_tree.walrus_builder.Edited.{contents_at, written_edits}
 use Rattle.walrus_handlers.specs.walrus_tree.walrus_builder.Functions.{seqs_of}
 use Rattle.walrus_handlers.specs.walrus_tree.walrus_walks.walrus_instr.declared.seq.InstrSeq.{InstrSeq}
+use Rattle.walrus_handlers.specs.walrus_tree.walrus_walks.walrus_instr.declared.seq.InstrSeqType.{InstrSeqType}
 use Rattle.walrus_handler_types.proofs.give.give_handler.Goals as goal
 
 there : (xs : List InstrSeq) (k : ℕ) (d y : InstrSeq) → slice_get xs k ≡ Some y → slice_index_or xs k d ≡ y
@@ -25,6 +26,6 @@ returns-clause-given c =
       seq_of y,
       contents_at c.args.body.now.builder c.args.id ∙ ap (option_map seq_of) found,
       ty,
-      subst (λ (z : InstrSeq). GivesType c.args.handler z.ty c.args.types.now ty c.handler_type.new.types) same c.in_ok-ty.ensures.given,
-      written_edits (with_type ty) seqs c.args.id y _ found refl,
+      subst (λ (t : InstrSeqType). GivesType c.args.handler t c.args.types.now ty c.handler_type.new.types) (c.get-was.ensures ∙ ap (λ (z : InstrSeq). z.ty) same) c.in_ok-ty.ensures.given,
+      written_edits (with_type ty) seqs c.args.id y _ found (ap (λ (t : InstrSeqType). with_type t (seq_of y)) c.new.ensures),
     )
