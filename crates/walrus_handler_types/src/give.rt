@@ -13,6 +13,7 @@ use crate::lists::{block_results, caught};
 use crate::order::tree_order;
 use std::alloc::{AllocError, Global};
 use walrus_arena::InstrSeqId;
+use walrus_forms::{AbstractHeapType, HeapType, RefType};
 use walrus_handlers::Handler;
 use walrus_handlers::tree::builder::FunctionBuilder;
 use walrus_handlers::tree::builder::tree_walks::instr::InstrSeqType;
@@ -39,16 +40,16 @@ fn handler_type(
     alloc: Global,
     types: &mut ModuleTypes,
     handler: Handler,
-    was: InstrSeqType,
+    was: SeqType,
 ) -> Result<InstrSeqType, AllocError>
     ensures given { IfOk result (λ ty. GivesType handler was types.old ty types.new) }
     ensures refused { OnErr result (types.new ≡ types.old) }
 {
     let Some(params) = caught(alloc, types, handler.tag_type)? else {
-        return Ok(was);
+        return Ok(was.get());
     };
     let Some(results) = block_results(alloc, types, handler.block)? else {
-        return Ok(was);
+        return Ok(was.get());
     };
     found_or_added(types, params.as_slice(), results.as_slice())
 }
@@ -69,10 +70,13 @@ fn give_handler(
     ensures name { body.new.name ≡ body.old.name }
     ensures many { length (seqs_of body.new) ≡ length (seqs_of body.old) }
 {
-    let was = body.seqs()[id.index()].ty.get();
+    // The toolchain is told of these types so, which a block type may hold.
+    let _held: Option<(AbstractHeapType, HeapType, RefType, ValType)> = None;
+    let was = body.seqs()[id.index()].ty;
     let ty = handler_type(alloc, types, handler, was)?;
+    let given = SeqType::new(ty);
     let seq = body.seq_mut(id);
-    seq.ty = SeqType::new(ty);
+    seq.ty = given;
     Ok(())
 }
 

@@ -26,6 +26,6 @@ returns-clause-given c =
       seq_of y,
       contents_at c.args.body.now.builder c.args.id ∙ ap (option_map seq_of) found,
       ty,
-      subst (λ (t : InstrSeqType). GivesType c.args.handler t c.args.types.now ty c.handler_type.new.types) (c.get-was.ensures ∙ ap (λ (z : InstrSeq). z.ty) same) c.in_ok-ty.ensures.given,
-      written_edits (with_type ty) seqs c.args.id y _ found (ap (λ (t : InstrSeqType). with_type t (seq_of y)) c.new.ensures),
+      subst (λ (z : InstrSeq). GivesType c.args.handler z.ty c.args.types.now ty c.handler_type.new.types) same c.in_ok-ty.ensures.given,
+      written_edits (with_type ty) seqs c.args.id y _ found (ap (λ (t : InstrSeqType). with_type t (seq_of y)) c.new-given.ensures),
     )
