@@ -21,9 +21,7 @@ fn stands(alloc: Global, maps: &mut Maps, ask: Ask) -> bool
     requires { given (indices maps.old.numbers) ≡ 0 }
 {
     match ask {
-        Ask::Own(space) => {
-            are_three(&mut maps.ids, space) == Ok(true) && are_own(&mut maps.numbers, space)
-        }
+        Ask::Own(space) => { are_three(&mut maps.ids, space) && are_own(&mut maps.numbers, space) }
         Ask::Apart => are_apart_once_set(&mut maps.numbers),
         Ask::Rows => are_filled(maps) && all_stand(alloc, maps),
     }

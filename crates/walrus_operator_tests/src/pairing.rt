@@ -118,18 +118,19 @@ pub(crate) fn has_fields(maps: &Maps, operator: &Operator, words: &[u8]) -> bool
     u64::from(one) == number(first, 10) && u64::from(other) == number(second, 10)
 }
 
-/// Whether the code of a row has no instruction without immediates.
-pub(crate) fn has_no_instr(maps: &Maps, row: &[u8]) -> bool {
-    let (prefix, code) = cut(row, b' ');
-    let operator = Operator {
-        code: OpCode {
-            prefix: (number(prefix, 16) % 0x100) as u8,
-            number: (number(code, 10) % 0x10000) as u32,
-        },
+fn bare(prefix: u8, number: u32) -> Operator {
+    Operator {
+        code: OpCode { prefix, number },
         immediates: Immediates::Bare,
-    };
-    match instr_of(&operator, body(), &maps.ids) {
-        Ok(Some(_)) => false,
-        _ => true,
     }
+}
+
+/// Whether the code of a row has no instruction without immediates.
+pub(crate) fn has_no_instr(alloc: Global, maps: &Maps, row: &[u8]) -> bool {
+    let (prefix, code) = cut(row, b' ');
+    let operator = bare(
+        (number(prefix, 16) % 0x100) as u8,
+        (number(code, 10) % 0x10000) as u32,
+    );
+    made(alloc, maps, &operator, &[]) > 1
 }

@@ -46,7 +46,7 @@ fn stands(alloc: Global, maps: &Maps, rows: Rows, row: &[u8]) -> Option<u32> {
         Rows::Padded => once(is_answered(alloc, maps, Asked::Written, row)),
         Rows::Fields => once(is_answered(alloc, maps, Asked::Fields, row)),
         Rows::Renumbered => once(is_answered(alloc, maps, Asked::Renumbered, row)),
-        Rows::NoInstructions => once(has_no_instr(maps, row)),
+        Rows::NoInstructions => once(has_no_instr(alloc, maps, row)),
     }
 }
 

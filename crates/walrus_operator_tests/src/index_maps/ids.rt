@@ -40,26 +40,39 @@ fn only_this(ids: &IndicesToIds, space: Space) -> bool {
     true
 }
 
+fn is_pushed(ids: &mut IndicesToIds, space: Space, id: u32, index: u32) -> bool {
+    push(ids, space, id) == Ok(index)
+}
+
+fn names(ids: &IndicesToIds, space: Space, index: u32, id: usize) -> bool {
+    named(ids, space, index) == Ok(id)
+}
+
+fn names_nothing(ids: &IndicesToIds, space: Space, index: u32) -> bool {
+    named(ids, space, index) == Err(UnknownIndex(space))
+}
+
 /// Whether three ids that are pushed to the space, of which two follow each other, have the indices 0 to 2, and nothing else has.
-pub(crate) fn are_three(ids: &mut IndicesToIds, space: Space) -> Result<bool, AllocError> {
-    let first = push(ids, space, 7)?;
-    let second = push(ids, space, 8)?;
-    let third = push(ids, space, 4)?;
-    let row = named(ids, space, 0) == Ok(7) && named(ids, space, 1) == Ok(8);
-    let names = row && named(ids, space, 2) == Ok(4);
-    let past = named(ids, space, 3) == Err(UnknownIndex(space));
-    Ok(first == 0 && second == 1 && third == 2 && names && past && only_this(ids, space))
+pub(crate) fn are_three(ids: &mut IndicesToIds, space: Space) -> bool {
+    is_pushed(ids, space, 7, 0)
+        && is_pushed(ids, space, 8, 1)
+        && is_pushed(ids, space, 4, 2)
+        && names(ids, space, 0, 7)
+        && names(ids, space, 1, 8)
+        && names(ids, space, 2, 4)
+        && names_nothing(ids, space, 3)
+        && only_this(ids, space)
 }
 
 /// Whether locals are of one function, and types can be named anew.
 pub(crate) fn are_named(ids: &mut IndicesToIds) -> bool {
-    let locals = ids.get_local(body(), 129) == Ok(Id::from_index(1929))
+    let locals = names(ids, Space::Local, 129, 1929)
         && ids.get_local(Id::from_index(8), 0) == Err(UnknownIndex(Space::Local));
     ids.remap_type(0, Id::from_index(9));
     locals
-        && named(ids, Space::Type, 0) == Ok(9)
-        && named(ids, Space::Type, 129) == Ok(329)
-        && named(ids, Space::Type, 131) == Err(UnknownIndex(Space::Type))
+        && names(ids, Space::Type, 0, 9)
+        && names(ids, Space::Type, 129, 329)
+        && names_nothing(ids, Space::Type, 131)
 }
 
 fn is_text(text: Result<String, AllocError>, wanted: &str) -> bool {
