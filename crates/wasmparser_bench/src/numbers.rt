@@ -46,9 +46,9 @@ fn push(bytes: &mut Vec<u8>, mut n: u64) -> Result<()> {
         if n < 0x80 {
             break;
         }
-        bytes.push((n & 0x7f | 0x80) as u8)?;
-        n >>= 7;
+        bytes.push((n % 0x80) as u8 + 0x80)?;
+        n /= 0x80;
     }
-    bytes.push((n & 0x7f) as u8)?;
+    bytes.push((n % 0x80) as u8)?;
     Ok(())
 }
