@@ -3,7 +3,7 @@
 
     python3 bench/paths.py [MOST]
 
-Prints how many there are, and the crates with most of them; ends with status 1 where there are more than MOST (350,000).
+Prints how many there are, and the crates with most of them; ends with status 1 where there are more than MOST (375,000).
 """
 
 import functools
@@ -25,7 +25,7 @@ def crates():
 
 
 def main():
-    most = int(sys.argv[1]) if len(sys.argv) > 1 else 350_000
+    most = int(sys.argv[1]) if len(sys.argv) > 1 else 375_000
     below = crates()
 
     @functools.cache

@@ -70,7 +70,7 @@ module _ (look back : Look) where
     tells (instrs.TryTable k catches) s e = tables (instrs.TryTable k catches) k catches.items s refl e
     tells (instrs.Br k) s e = branches (instrs.Br k) 0x0c (number k) s refl e
     tells (instrs.BrIf k) s e = branches (instrs.BrIf k) 0x0d (number k) s refl e
-    tells (instrs.BrTable ks other) s e = holds (instrs.BrTable ks other) (byte 0x0e) (ManyLabels (map number ks.items) ∷ Names Labels (number other) ∷ []) s refl refl e
+    tells (instrs.BrTable other ks) s e = holds (instrs.BrTable other ks) (byte 0x0e) (ManyLabels (map number ks.items) ∷ Names Labels (number other) ∷ []) s refl refl e
     tells (instrs.BrOnNull k) s e = branches (instrs.BrOnNull k) 0xd5 (number k) s refl e
     tells (instrs.BrOnNonNull k) s e = branches (instrs.BrOnNonNull k) 0xd6 (number k) s refl e
     tells (instrs.BrOnCast k source target) s e = casts (instrs.BrOnCast k source target) 24 k source target s refl e

@@ -134,8 +134,8 @@ module _ (plain : OperatorsAreSent) (r : Renaming) (look : Look) (sends : Sends 
     instr_from (instrs.TryTable k catches) s e = table_from k catches s e
     instr_from (instrs.Br k) s e = branch_from 0x0c k s e
     instr_from (instrs.BrIf k) s e = branch_from 0x0d k s e
-    instr_from (instrs.BrTable ks other) s e =
-        from (written_instr all b number (instrs.BrTable ks other)) (byte 0x0e) (ManyLabels (map number ks.items) ∷ Names Labels (number other) ∷ []) (ManyLabels (map number ks.items) ∷ Names Labels (number other) ∷ []) s refl
+    instr_from (instrs.BrTable other ks) s e =
+        from (written_instr all b number (instrs.BrTable other ks)) (byte 0x0e) (ManyLabels (map number ks.items) ∷ Names Labels (number other) ∷ []) (ManyLabels (map number ks.items) ∷ Names Labels (number other) ∷ []) s refl
         (λ i. ManyLabels (labels_same (map number ks.items) i) ∷ Names Labels (keeps (number other) i) ∷ []) e
     instr_from (instrs.BrOnNull k) s e = branch_from 0xd5 k s e
     instr_from (instrs.BrOnNonNull k) s e = branch_from 0xd6 k s e

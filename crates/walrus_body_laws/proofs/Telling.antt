@@ -92,7 +92,7 @@ module _ (look : Look) (b : List InstrSeq) (number : ℕ → ℕ) where
       (λ ty. told_bind look (instrs.TryTable k catches) (clauses look number catches.items) (λ cs. op (byte 0x1f) (Block ty ∷ ManyClauses cs ∷ [])) (λ cs. (refl, refl, refl)))
   told (instrs.Br k) = (refl, refl, refl)
   told (instrs.BrIf k) = (refl, refl, refl)
-  told (instrs.BrTable ks other) = (refl, refl, refl)
+  told (instrs.BrTable other ks) = (refl, refl, refl)
   told (instrs.BrOnNull k) = (refl, refl, refl)
   told (instrs.BrOnNonNull k) = (refl, refl, refl)
   told (instrs.Rethrow depth) = (refl, refl, refl)

@@ -1,6 +1,5 @@
 pub mod Points
 pub mod Changes
-pub mod Forms
 pub mod Trees
 -- Passed on to crates above, which then list this one alone.
 pub use Rattle.walrus_body_locals.specs as walrus_body_locals

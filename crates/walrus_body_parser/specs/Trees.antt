@@ -120,7 +120,7 @@ module _ {V : Type 0} (s : Sight) (told : Validating V) (code : ℕ) (old : Curs
     pub begins : code ≤ now.window.start + now.position
 
 -- whatever was read before, so it goes on with what a call read; or the tree is refused
-abbrev pub Follows : {V : Type 0} → Sight → Validating V → ℕ → Cursor → Stack → V → Cursor → Stack → V → Result (Unit {0}) BodyError → Type 0
-Follows {V} s told code now stack w next after u (Ok x) =
-    (old : Cursor) (v : V) → Goes s told code old v false (blocks stack) (opens stack) now w → Goes s told code old v false (blocks after) (opens after) next u
+abbrev pub Follows : {V : Type 0} → Sight → Validating V → ℕ → Cursor → Stack → V → Cursor → Stack → V → Result Bool BodyError → Type 0
+Follows {V} s told code now stack w next after u (Ok done) =
+    (old : Cursor) (v : V) → Goes s told code old v false (blocks stack) (opens stack) now w → Goes s told code old v done (blocks after) (opens after) next u
 Follows {V} s told code now stack w next after u (Err e) = (old : Cursor) (v : V) → Goes s told code old v false (blocks stack) (opens stack) now w → RefusesTree s told code old v u e

@@ -7,12 +7,11 @@ ghost use Rattle.walrus_body_operands.specs.walrus_body_rules.wasm_body_grammar.
 ghost use Rattle.walrus_body_operands.specs.walrus_body_rules.wasm_body_grammar.wasm_operators.Table.{find_code};
 ghost use Rattle.walrus_body_locals.specs.wasm_body_grammar.Bodies.{operator};
 ghost use Rattle.walrus_operators.specs.Operators.{seen, IsNext, IsNextOf, ReadsOperator};
-ghost use Rattle.walrus_body_locals.specs.walrus_body_nesting.Opens.{Shaped};
+ghost use Rattle.walrus_body_locals.specs.walrus_body_nesting.Opens.{Good, Shaped};
 ghost use Rattle.walrus_body_operands.specs.walrus_body_stack.Frames.{blocks, heading_of, opens};
 ghost use Rattle.walrus_body_locals.specs.Calls.{Parses};
 ghost use Rattle.walrus_body_operands.specs.Listed.{IsListed, keeps_on, opens_plain};
 ghost use Rattle.walrus_body_parser.specs.Changes.{ReadsNext, ReadsOn, entry_of};
-ghost use Rattle.walrus_body_parser.specs.Forms.{IsForm};
 ghost use Rattle.walrus_body_parser.specs.Points.{IsRefusedAs};
 ghost use Rattle.walrus_body_parser.specs.Trees.{Follows, validating};
 
@@ -73,44 +72,17 @@ fn next_known(
     }
 }
 
-// By what the next operator is read.
-#[derive(Clone, Copy)]
-enum Form {
-    // It opens a block, a loop or an `if`.
-    Opens(Flow),
-    // It is an `end`.
-    Ends,
-    // Nothing is known of it.
-    Any,
-}
-
-// By what the next operator is read.
-#[inline(always)]
-#[tactic(auto, using(crate::proofs::Frequent::opens_so, crate::proofs::Frequent::ends_so))]
-fn next_form(reader: &OperatorReader<'_>) -> Form
-    ensures { IsForm reader.now result }
-{
-    let Some(entry) = reader.next_entry() else {
-        return Form::Any;
-    };
-    match entry.kind {
-        Kind::Block => match entry.flow {
-            Flow::OpensBlock => Form::Opens(Flow::OpensBlock),
-            Flow::OpensLoop => Form::Opens(Flow::OpensLoop),
-            Flow::OpensIf => Form::Opens(Flow::OpensIf),
-            _ => Form::Any,
-        },
-        Kind::Bare => match entry.flow {
-            Flow::End => Form::Ends,
-            _ => Form::Any,
-        },
-        _ => Form::Any,
-    }
-}
-
-// Reads any operator. It isn't inlined, as what it keeps on the stack would be set to zero for each of the others, too.
+/// Reads an operator inside the open sequences, changes them, and then tells the validator of it; says whether it ended the body. Asks
+/// for an end of the bytes that is less than 4294967295 behind the beginning of the code section's contents. It isn't inlined, as what it
+/// keeps on the stack would be set to zero for each of the others, too.
+///
+/// # Errors
+///
+/// The first that is due: as the operator is read; at its first byte `Operator`, `Index`, `TypeForm`, `Nesting`, `Position`,
+/// `Unsupported` and `Bounds`, by their numbers; as the validator refuses it; want of memory. Unless the validator refuses it, it was
+/// told nothing.
 #[inline(never)]
-fn read_any<S: Scope, V: Validator>(
+pub(crate) fn read_any<S: Scope, V: Validator>(
     scope: &S,
     alloc: Global,
     reader: &mut OperatorReader<'_>,
@@ -138,7 +110,7 @@ fn read_any<S: Scope, V: Validator>(
 }
 
 // Reads an `end`.
-#[inline(never)]
+#[inline(always)]
 fn read_end<S: Scope, V: Validator>(
     scope: &S,
     alloc: Global,
@@ -200,51 +172,6 @@ fn read_opening<S: Scope, V: Validator>(
     Ok(())
 }
 
-/// Reads an operator inside the open sequences, changes them, and then tells the validator of it; says whether it ended the body. Asks
-/// for an end of the bytes that is less than 4294967295 behind the beginning of the code section's contents. An `end`, and what has a block
-/// type alone, have functions of their own, in which what others keep on the stack has no part.
-///
-/// # Errors
-///
-/// The first that is due: as the operator is read; at its first byte `Operator`, `Index`, `TypeForm`, `Nesting`, `Position`,
-/// `Unsupported` and `Bounds`, by their numbers; as the validator refuses it; want of memory. Unless the validator refuses it, it was
-/// told nothing.
-#[inline(always)]
-pub(crate) fn read_operator<S: Scope, V: Validator>(
-    scope: &S,
-    alloc: Global,
-    reader: &mut OperatorReader<'_>,
-    stack: &mut Stack,
-    validator: &mut V,
-    code_start: u64,
-) -> Result<bool, BodyError>
-    requires shaped { Shaped (blocks stack.old) (opens stack.old) }
-    requires within { IsWithin reader.old }
-    requires begins { code_start ≤ reader.old.window.start + reader.old.position }
-    requires ends { end_of reader.old < code_start + 4294967295 }
-    ensures read { ReadsNext (S.sight scope.now) V.op_step code_start reader.old stack.old validator.old reader.new stack.new validator.new result }
-    ensures takes { OnOk result (length (rest reader.new) < length (rest reader.old)) }
-    ensures ty { OnOk result (heading_of stack.new ≡ heading_of stack.old) }
-    ensures entry { OnOk result (entry_of stack.new ≡ entry_of stack.old) }
-    ensures moves { Forward reader.old reader.new }
-{
-    // Each answer is looked at where it was written: handed on, all of it would be copied.
-    match next_form(reader) {
-        Form::Opens(flow) => {
-            read_opening(flow, scope, alloc, reader, stack, validator, code_start)?;
-            Ok(false)
-        }
-        Form::Ends => {
-            let done = read_end(scope, alloc, reader, stack, validator, code_start)?;
-            Ok(done)
-        }
-        Form::Any => {
-            let done = read_any(scope, alloc, reader, stack, validator, code_start)?;
-            Ok(done)
-        }
-    }
-}
-
 // One of a kind that is known, behind which the next is reached. All of it is inlined, for each kind anew.
 #[inline(always)]
 fn read_known<S: Scope, V: Validator>(
@@ -284,14 +211,32 @@ fn goes_on(flow: Flow) -> bool
     matches!(flow, Flow::Goes | Flow::Calls | Flow::Chooses)
 }
 
-/// Reads operators as [`read_operator`] does, as long as they are frequent ones, none of which ends the body. The loop stands here: all of
-/// the reading is inlined in it, for each kind anew, and what has so many copies is never inlined itself.
+// Whether one that does this to a run, and has a block type, opens a block, a loop or an `if`.
+#[inline(always)]
+fn is_opening(flow: Flow) -> bool
+    ensures { result ≡ opens_plain flow }
+{
+    matches!(flow, Flow::OpensBlock | Flow::OpensLoop | Flow::OpensIf)
+}
+
+// Whether it is an `end`.
+#[inline(always)]
+fn is_end(flow: Flow) -> bool
+    ensures { result ≡ true → flow ≡ Flow.End }
+{
+    matches!(flow, Flow::End)
+}
+
+/// Reads operators as [`read_any`] does, as long as they are frequent ones, those that open a block, a loop or an `if`, or `end`s; says
+/// whether the last one ended the body. The loop stands here: the reading of frequent ones and of `end`s is inlined in it, for each kind
+/// anew, and what has so many copies is never inlined itself. An opening has a function of its own, as what it keeps on the stack has no
+/// part in that.
 ///
 /// # Errors
 ///
-/// As [`read_operator`].
+/// As [`read_any`].
 #[inline(never)]
-#[tactic(auto, using(crate::proofs::Frequent::next_so, crate::proofs::Running::runs_start))]
+#[tactic(auto, using(crate::proofs::Frequent::next_so, crate::proofs::Frequent::steady_so, crate::proofs::Frequent::opening_so, crate::proofs::Frequent::ending_so, crate::proofs::Running::runs_start))]
 pub(crate) fn read_frequent<S: Scope, V: Validator>(
     scope: &S,
     alloc: Global,
@@ -299,13 +244,13 @@ pub(crate) fn read_frequent<S: Scope, V: Validator>(
     stack: &mut Stack,
     validator: &mut V,
     code_start: u64,
-) -> Result<(), BodyError>
+) -> Result<bool, BodyError>
     requires shaped { Shaped (blocks stack.old) (opens stack.old) }
     requires within { IsWithin reader.old }
     requires begins { code_start ≤ reader.old.window.start + reader.old.position }
     requires ends { end_of reader.old < code_start + 4294967295 }
     ensures follows { Follows (S.sight scope.now) (validating V.op_step V.finish_step) code_start reader.old stack.old validator.old reader.new stack.new validator.new result }
-    ensures shaped { OnOk result (Shaped (blocks stack.new) (opens stack.new)) }
+    ensures shaped { IfOk result (λ done. Good done (blocks stack.new) (opens stack.new)) }
     ensures within { OnOk result (IsWithin reader.new) }
     ensures begins { OnOk result (code_start ≤ reader.new.window.start + reader.new.position) }
     ensures ends { OnOk result (end_of reader.new < code_start + 4294967295) }
@@ -315,40 +260,11 @@ pub(crate) fn read_frequent<S: Scope, V: Validator>(
 {
     loop {
         let Some(entry) = reader.next_entry() else {
-            return Ok(());
+            return Ok(false);
         };
-        if !goes_on(entry.flow) {
-            return Ok(());
-        }
-        // Each kind returns by itself: where they met, what the others hold would be written for each.
+        // The kind says of most that they go on, and of the others which they may be. Each returns by itself: where they met, what the
+        // others hold would be written for each.
         match entry.kind {
-            Kind::Bare => read_known(
-                Kind::Bare,
-                scope,
-                alloc,
-                reader,
-                stack,
-                validator,
-                code_start,
-            )?,
-            Kind::Label => read_known(
-                Kind::Label,
-                scope,
-                alloc,
-                reader,
-                stack,
-                validator,
-                code_start,
-            )?,
-            Kind::Function => read_known(
-                Kind::Function,
-                scope,
-                alloc,
-                reader,
-                stack,
-                validator,
-                code_start,
-            )?,
             Kind::Local => read_known(
                 Kind::Local,
                 scope,
@@ -403,7 +319,42 @@ pub(crate) fn read_frequent<S: Scope, V: Validator>(
                 validator,
                 code_start,
             )?,
-            _ => return Ok(()),
+            Kind::Bare if goes_on(entry.flow) => read_known(
+                Kind::Bare,
+                scope,
+                alloc,
+                reader,
+                stack,
+                validator,
+                code_start,
+            )?,
+            Kind::Label if goes_on(entry.flow) => read_known(
+                Kind::Label,
+                scope,
+                alloc,
+                reader,
+                stack,
+                validator,
+                code_start,
+            )?,
+            Kind::Function if goes_on(entry.flow) => read_known(
+                Kind::Function,
+                scope,
+                alloc,
+                reader,
+                stack,
+                validator,
+                code_start,
+            )?,
+            Kind::Bare if is_end(entry.flow) => {
+                if read_end(scope, alloc, reader, stack, validator, code_start)? {
+                    return Ok(true);
+                }
+            }
+            Kind::Block if is_opening(entry.flow) => read_opening(
+                entry.flow, scope, alloc, reader, stack, validator, code_start,
+            )?,
+            _ => return Ok(false),
         }
     }
 }

@@ -9,7 +9,7 @@ ghost use Rattle.walrus_body_locals.specs.walrus_body_nesting.Stands.{total};
 ghost use Rattle.walrus_body_operands.specs.walrus_body_stack.Frames.{heading};
 ghost use Rattle.walrus_body_parser.specs.Trees.{ReadsTree, RefusesTree, validating};
 
-use crate::operators::{read_frequent, read_operator};
+use crate::operators::{read_any, read_frequent};
 use std::alloc::Global;
 use walrus_body_locals::body_env::{BodyError, Validator};
 use walrus_body_operands::Scope;
@@ -49,8 +49,10 @@ pub fn read_tree<S: Scope, V: Validator>(
     let mut stack = Stack::new(alloc, builder);
     let mut done = false;
     while !done {
-        read_frequent(scope, alloc, &mut reader, &mut stack, validator, code_start)?;
-        done = read_operator(scope, alloc, &mut reader, &mut stack, validator, code_start)?;
+        done = read_frequent(scope, alloc, &mut reader, &mut stack, validator, code_start)?;
+        if !done {
+            done = read_any(scope, alloc, &mut reader, &mut stack, validator, code_start)?;
+        }
     }
     let end = reader.original_position();
     if !reader.eof() {

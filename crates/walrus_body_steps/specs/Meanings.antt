@@ -45,7 +45,7 @@ abbrev pub RunsAs : Sight → List ℕ → OpCode → List Item → Instr → Ty
 RunsAs s around code (Names Labels n ∷ []) i =
     ((code ≡ op_code 0 0x09) × (i ≡ instrs.Rethrow n)) ⊎ ((k : ℕ) × (slice_get around n ≡ Some k) × (branch_at code k ≡ Some i))
 RunsAs s around code (ManyLabels ns ∷ Names Labels n ∷ []) i =
-    (ks : Vec ℕ) × (k : ℕ) × AreLabels around ns ks.items × (slice_get around n ≡ Some k) × (i ≡ instrs.BrTable ks k)
+    (ks : Vec ℕ) × (k : ℕ) × AreLabels around ns ks.items × (slice_get around n ≡ Some k) × (i ≡ instrs.BrTable k ks)
 RunsAs s around code (Byte b ∷ Names Labels n ∷ Heap x ∷ Heap y ∷ []) i =
     (k : ℕ) × (from : HeapType) × (to : HeapType) × (slice_get around n ≡ Some k) × (read_heap (look s Types) x ≡ Ok from) × (read_heap (look s Types) y ≡ Ok to)
     × (cast_at code k (reference (b % 2 == 1) from) (reference (b / 2 % 2 == 1) to) ≡ Some i)

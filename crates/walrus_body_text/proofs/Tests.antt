@@ -33,7 +33,7 @@ use Rattle.walrus_body_text.proofs.Steps.{drop_at, drop_past}
 pub none_named : (ms : List Mark) (n : ℕ) (i : Instr) → names_labels i ≡ false → within ms n i ≡ true
 none_named ms n (Br k) h = absurd cc
 none_named ms n (BrIf k) h = absurd cc
-none_named ms n (BrTable ks k) h = absurd cc
+none_named ms n (BrTable k ks) h = absurd cc
 none_named ms n (BrOnNull k) h = absurd cc
 none_named ms n (BrOnNonNull k) h = absurd cc
 none_named ms n (BrOnCast k from to) h = absurd cc

@@ -46,7 +46,7 @@ pub record IsPart (b : List InstrSeq) (ms : List Mark) (ts : List Todo) : Type 0
 abbrev pub names_labels : Instr → Bool
 names_labels (Br block) = true
 names_labels (BrIf block) = true
-names_labels (BrTable blocks other) = true
+names_labels (BrTable other blocks) = true
 names_labels (BrOnNull block) = true
 names_labels (BrOnNonNull block) = true
 names_labels (BrOnCast block from to) = true

@@ -185,7 +185,7 @@ module _ (s : Sight) (Good : Item → Type 0) (answers : AnswersAre s Good) wher
             go (Names Labels n ∷ []) e (inr (k, there, is)) = branch_fine op.code k i is
             go (ManyLabels ns ∷ Names Labels n ∷ []) e (ks, k, are, there, is) =
                 subst (Fine Good b S) (sym is)
-                (leaf S (instrs.BrTable ks k) (told_join Good (events_of (λ id. NamesSeq id ∷ []) ks.items) (NamesSeq k ∷ []) (told_each Good (λ id. NamesSeq id ∷ []) ks.items (labels_told ks.items)) (tt, tt)) (refl, refl))
+                (leaf S (instrs.BrTable k ks) (told_join Good (events_of (λ id. NamesSeq id ∷ []) ks.items) (NamesSeq k ∷ []) (told_each Good (λ id. NamesSeq id ∷ []) ks.items (labels_told ks.items)) (tt, tt)) (refl, refl))
             go (Byte flags ∷ Names Labels n ∷ Heap x ∷ Heap y ∷ []) e (k, from, to, there, f, t, is) =
                 cast_fine op.code k (flags % 2 == 1) (flags / 2 % 2 == 1) from to i (heap_told s Good answers x from f) (heap_told s Good answers y to t) is
             go _ e h = read_fine op i fits (ap (λ items. instr_at (look s) (record { code = op.code; items = items })) e ∙ h)

@@ -73,7 +73,7 @@ module _ (look : Look) (b : List InstrSeq) (ds around : List ℕ) (height : ℕ)
       ap (λ (x : Or (List Clause)). block look (type_in (slice_get b k)) >>= λ ty. x >>= λ cs. op (byte 0x1f) (Block ty ∷ ManyClauses cs ∷ [])) (all_clauses catches.items h.named)
   instr_same (Br k) h = ap (λ (l : ℕ). branch 0x0c (λ _. l) k) (one k h.named.0)
   instr_same (BrIf k) h = ap (λ (l : ℕ). branch 0x0d (λ _. l) k) (one k h.named.0)
-  instr_same (BrTable ks other) h =
+  instr_same (BrTable other ks) h =
       let r = front ks.items (other ∷ []) h.named in
       ap (λ (ls : List ℕ). op (byte 0x0e) (ManyLabels ls ∷ Names Labels (label_by ds height other) ∷ [])) (many ks.items r.0)
       ∙ ap (λ (l : ℕ). op (byte 0x0e) (ManyLabels (map (label around) ks.items) ∷ Names Labels l ∷ [])) (one other r.1.0)

@@ -80,7 +80,7 @@ written_instr look b number (TryTable k catches) =
     block look (type_in (slice_get b k)) >>= λ ty. clauses look number catches.items >>= λ cs. op (byte 0x1f) (Block ty ∷ ManyClauses cs ∷ [])
 written_instr look b number (Br k) = branch 0x0c number k
 written_instr look b number (BrIf k) = branch 0x0d number k
-written_instr look b number (BrTable ks other) = op (byte 0x0e) (ManyLabels (map number ks.items) ∷ Names Labels (number other) ∷ [])
+written_instr look b number (BrTable other ks) = op (byte 0x0e) (ManyLabels (map number ks.items) ∷ Names Labels (number other) ∷ [])
 written_instr look b number (BrOnNull k) = branch 0xd5 number k
 written_instr look b number (BrOnNonNull k) = branch 0xd6 number k
 written_instr look b number (BrOnCast k from to) = cast look 24 number k from to

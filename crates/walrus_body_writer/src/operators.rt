@@ -173,7 +173,7 @@ fn try_table(
 
 fn br_table(alloc: Global, depths: &Depths, ids: &[InstrSeqId], other: InstrSeqId) -> Written
     ensures { (look : Look) (b : List InstrSeq) (k : Vec ℕ Global) → k.items ≡ ids.now →
-        Gives ⊥ (written_instr look b (label_by depths.now.depths.items depths.now.height) (Instr.BrTable k other)) (as_seen result) }
+        Gives ⊥ (written_instr look b (label_by depths.now.depths.items depths.now.height) (Instr.BrTable other k)) (as_seen result) }
 {
     let labels = labels_of(alloc, depths, ids)?;
     let other = depths.label(other);

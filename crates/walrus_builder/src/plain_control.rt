@@ -52,7 +52,7 @@ impl InstrSeqBuilder {
         blocks: Vec<InstrSeqId>,
         default: InstrSeqId,
     ) -> Result<(), AllocError>
-        ensures { Edits self.old (pushes (Instr.BrTable blocks default)) result self.new }
+        ensures { Edits self.old (pushes (Instr.BrTable default blocks)) result self.new }
     {
         self.instr(Instr::BrTable { blocks, default })
     }

@@ -118,7 +118,7 @@ module _ (b : List InstrSeq) (number : ℕ → ℕ) where
   instr_is (instrs.TryTable k catches) w some = table_is k catches.items
   instr_is (instrs.Br k) w some = refl
   instr_is (instrs.BrIf k) w some = refl
-  instr_is (instrs.BrTable ks other) w some = refl
+  instr_is (instrs.BrTable other ks) w some = refl
   instr_is (instrs.BrOnNull k) w some = refl
   instr_is (instrs.BrOnNonNull k) w some = refl
   instr_is (instrs.BrOnCast k from to) w some = cast_is 24 k from to

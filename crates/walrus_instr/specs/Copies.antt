@@ -22,7 +22,7 @@ IsExprCopy expr copy = copy ≡ expr
 abbrev pub IsInstrCopy : Instr → Instr → Type 0
 IsInstrCopy (Try seq catches) copy = (more : Vec LegacyCatch Global) × (copy ≡ Try seq more) × (more.items ≡ catches.items)
 IsInstrCopy (TryTable seq catches) copy = (more : Vec TryTableCatch Global) × (copy ≡ TryTable seq more) × (more.items ≡ catches.items)
-IsInstrCopy (BrTable blocks default) copy = (more : Vec ℕ Global) × (copy ≡ BrTable more default) × (more.items ≡ blocks.items)
+IsInstrCopy (BrTable default blocks) copy = (more : Vec ℕ Global) × (copy ≡ BrTable default more) × (more.items ≡ blocks.items)
 IsInstrCopy instr copy = copy ≡ instr
 
 -- the same instruction at the same location

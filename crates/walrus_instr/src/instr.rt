@@ -78,8 +78,8 @@ pub enum Instr {
         block: InstrSeqId,
     },
     BrTable {
-        blocks: Vec<InstrSeqId>,
         default: InstrSeqId,
+        blocks: Vec<InstrSeqId>,
     },
     BrOnNull {
         block: InstrSeqId,

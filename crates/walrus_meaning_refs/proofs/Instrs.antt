@@ -172,7 +172,7 @@ module _ (b : List InstrSeq) where
   instr_told told around (instrs.TryTable k catches) h = table_told (depth_of around) k catches.items
   instr_told told around (instrs.Br k) h = same_refl []
   instr_told told around (instrs.BrIf k) h = same_refl []
-  instr_told told around (instrs.BrTable ks other) h = branches_told (depth_of around) ks.items other
+  instr_told told around (instrs.BrTable other ks) h = branches_told (depth_of around) ks.items other
   instr_told told around (instrs.BrOnNull k) h = same_refl []
   instr_told told around (instrs.BrOnNonNull k) h = same_refl []
   instr_told told around (instrs.BrOnCast k from to) h = cast_told from to

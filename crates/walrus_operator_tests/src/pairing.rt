@@ -59,7 +59,7 @@ fn is_back(
 fn made(alloc: Global, maps: &Maps, operator: &Operator, bytes: &[u8]) -> usize {
     match instr_of(operator, body(), &maps.ids) {
         Ok(Some(instr)) => {
-            if is_named(&instr, operator.code)
+            if is_named(alloc, &maps.numbers, &instr, operator.code)
                 && is_back(alloc, &instr, &maps.numbers, operator, bytes)
             {
                 0

@@ -144,7 +144,7 @@ instr_written b number (instrs.TryTable k catches) =
     then_written (block all (type_in (slice_get b k))) _ (block_given (type_in (slice_get b k))) (λ ty. then_written (clauses all number catches.items) _ (clauses_given number catches.items) (λ cs. tt))
 instr_written b number (instrs.Br k) = tt
 instr_written b number (instrs.BrIf k) = tt
-instr_written b number (instrs.BrTable ks other) = tt
+instr_written b number (instrs.BrTable other ks) = tt
 instr_written b number (instrs.BrOnNull k) = tt
 instr_written b number (instrs.BrOnNonNull k) = tt
 instr_written b number (instrs.BrOnCast k from to) = cast_written 24 number k from to

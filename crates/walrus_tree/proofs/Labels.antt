@@ -89,7 +89,7 @@ module _ (ms : List Mark) (n : ℕ) (around : List ℕ) (marked : Marked ms n ar
   within_right (TryTable _ catches) h = record { named = clauses_open_has catches.items h; counted = tt }
   within_right (Br block) h = record { named = (open_has block h, tt); counted = tt }
   within_right (BrIf block) h = record { named = (open_has block h, tt); counted = tt }
-  within_right (BrTable blocks other) h =
+  within_right (BrTable other blocks) h =
       let p = and_parts (all_open ms blocks.items) (open_at ms other) h in
       record { named = has_all_append around blocks.items (other ∷ []) (all_open_has blocks.items p.0) (open_has other p.1, tt); counted = tt }
   within_right (BrOnNull block) h = record { named = (open_has block h, tt); counted = tt }
@@ -104,7 +104,7 @@ module _ (ms : List Mark) (n : ℕ) (around : List ℕ) (marked : Marked ms n ar
   right_within (TryTable _ catches) h = has_clauses_open catches.items h.named
   right_within (Br block) h = has_open block h.named.0
   right_within (BrIf block) h = has_open block h.named.0
-  right_within (BrTable blocks other) h =
+  right_within (BrTable other blocks) h =
       and_made (all_open ms blocks.items) (open_at ms other) (has_all_open blocks.items (has_all_front around blocks.items (other ∷ []) h.named))
       (has_open other (has_all_back around blocks.items (other ∷ []) h.named).0)
   right_within (BrOnNull block) h = has_open block h.named.0

@@ -77,7 +77,7 @@ blocks_silent (block ∷ blocks) other = blocks_silent blocks other
 silent : (i : Instr) → begun (names i) ≡ []
 silent (Try _ catches) = none_begun legacy_names legacy_silent catches.items
 silent (TryTable _ catches) = none_begun clause_names clause_silent catches.items
-silent (BrTable blocks other) = blocks_silent blocks.items other
+silent (BrTable other blocks) = blocks_silent blocks.items other
 silent (BrOnCast block from to) = refs_silent from to
 silent (BrOnCastFail block from to) = refs_silent from to
 silent (Select ty) = written_silent ty

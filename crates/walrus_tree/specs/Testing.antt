@@ -53,7 +53,7 @@ abbrev pub within : List Mark → ℕ → Instr → Bool
 within ms n (TryTable _ catches) = clauses_open ms catches.items
 within ms n (Br block) = open_at ms block
 within ms n (BrIf block) = open_at ms block
-within ms n (BrTable blocks other) = all_open ms blocks.items && open_at ms other
+within ms n (BrTable other blocks) = all_open ms blocks.items && open_at ms other
 within ms n (BrOnNull block) = open_at ms block
 within ms n (BrOnNonNull block) = open_at ms block
 within ms n (BrOnCast block _ _) = open_at ms block

@@ -37,7 +37,7 @@ abbrev pub labels : Instr → List ℕ
 labels (TryTable _ catches) = map clause_label catches.items
 labels (Br block) = block ∷ []
 labels (BrIf block) = block ∷ []
-labels (BrTable blocks other) = blocks.items ++ other ∷ []
+labels (BrTable other blocks) = blocks.items ++ other ∷ []
 labels (BrOnNull block) = block ∷ []
 labels (BrOnNonNull block) = block ∷ []
 labels (BrOnCast block _ _) = block ∷ []

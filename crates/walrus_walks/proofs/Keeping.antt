@@ -34,7 +34,7 @@ module _ {V : Type 0} (step : V → Event → Event → V → Type 0) where
   instr_keeps v w (TryTable seq catches) j h = ap children h.1
   instr_keeps v w (Br block) j h = ap children h.1
   instr_keeps v w (BrIf block) j h = ap children h.1
-  instr_keeps v w (BrTable blocks other) j h = ap children h.2
+  instr_keeps v w (BrTable other blocks) j h = ap children h.2
   instr_keeps v w (BrOnNull block) j h = ap children h.1
   instr_keeps v w (BrOnNonNull block) j h = ap children h.1
   instr_keeps v w (BrOnCast block from to) j h = ap children h.3

@@ -1,4 +1,4 @@
-use Rattle.std.proofs.Common.{length}
+use Rattle.std.proofs.Common.{false, length}
 use Rattle.wasm_reader.specs.Cursor.{rest}
 use Rattle.walrus_body_parser.specs.Trees.{validating}
 use Rattle.walrus_body_parser.proofs.Running.{Running}
@@ -6,7 +6,7 @@ use Rattle.walrus_body_parser.proofs.operators.read_frequent.Given as goal
 
 abbrev pub invariant-loop-entry : goal.invariant-loop-entry
 invariant-loop-entry g l =
-    Running (g.S.Scope.sight l.fn.scope) (validating g.V.Validator.op_step g.V.Validator.finish_step) l.fn.code_start l.fn.reader l.fn.stack l.fn.validator l.reader l.stack l.validator
+    Running (g.S.Scope.sight l.fn.scope) (validating g.V.Validator.op_step g.V.Validator.finish_step) l.fn.code_start l.fn.reader l.fn.stack l.fn.validator false l.reader l.stack l.validator
 
 abbrev pub decreases-loop-entry : goal.decreases-loop-entry
 decreases-loop-entry g l = length (rest l.reader)

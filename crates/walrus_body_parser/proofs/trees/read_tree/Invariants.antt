@@ -1,10 +1,11 @@
-use Rattle.std.proofs.Common.{◌≡◌, length}
+use Rattle.std.proofs.Common.{◌≡◌, ◌+◌, length}
 use Rattle.wasm_reader.specs.Cursor.{rest}
 use Rattle.walrus_body_operands.specs.walrus_body_stack.walrus_builder.Built.{contents}
 use Rattle.walrus_body_locals.specs.walrus_body_nesting.Opens.{type_at}
 use Rattle.walrus_body_operands.specs.walrus_body_stack.Frames.{blocks, heading, heading_of, opens}
 use Rattle.walrus_body_parser.specs.Changes.{entry_of}
 use Rattle.walrus_body_parser.specs.Trees.{Goes, validating}
+use Rattle.walrus_body_parser.proofs.Running.{turns_left}
 use Rattle.walrus_body_parser.proofs.trees.read_tree.Given as goal
 
 abbrev pub invariant-loop-done : goal.invariant-loop-done
@@ -13,4 +14,4 @@ invariant-loop-done g l =
     × (heading_of l.stack ≡ heading l.fn.builder) × (entry_of l.stack ≡ type_at (contents l.fn.builder.builder) 0)
 
 abbrev pub decreases-loop-done : goal.decreases-loop-done
-decreases-loop-done g l = length (rest l.reader)
+decreases-loop-done g l = length (rest l.reader) + turns_left l.done

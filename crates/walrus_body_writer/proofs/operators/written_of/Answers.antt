@@ -35,7 +35,7 @@ other : (i : Instr)
     → ((k : ℕ) (cs : Vec TryTableCatch Global) → i ≡ instrs.TryTable k cs → ⊥)
     → ((k : ℕ) → i ≡ instrs.Br k → ⊥)
     → ((k : ℕ) → i ≡ instrs.BrIf k → ⊥)
-    → ((ks : Vec ℕ Global) (k : ℕ) → i ≡ instrs.BrTable ks k → ⊥)
+    → ((k : ℕ) (ks : Vec ℕ Global) → i ≡ instrs.BrTable k ks → ⊥)
     → ((k : ℕ) → i ≡ instrs.BrOnNull k → ⊥)
     → ((k : ℕ) → i ≡ instrs.BrOnNonNull k → ⊥)
     → ((k : ℕ) (from : RefType) (to : RefType) → i ≡ instrs.BrOnCast k from to → ⊥)
@@ -49,7 +49,7 @@ other (instrs.Try k cs) n0 n1 n2 n3 n4 n5 n6 n7 n8 n9 n10 n11 n12 = n3 k cs refl
 other (instrs.TryTable k cs) n0 n1 n2 n3 n4 n5 n6 n7 n8 n9 n10 n11 n12 = n4 k cs refl
 other (instrs.Br k) n0 n1 n2 n3 n4 n5 n6 n7 n8 n9 n10 n11 n12 = n5 k refl
 other (instrs.BrIf k) n0 n1 n2 n3 n4 n5 n6 n7 n8 n9 n10 n11 n12 = n6 k refl
-other (instrs.BrTable ks k) n0 n1 n2 n3 n4 n5 n6 n7 n8 n9 n10 n11 n12 = n7 ks k refl
+other (instrs.BrTable k ks) n0 n1 n2 n3 n4 n5 n6 n7 n8 n9 n10 n11 n12 = n7 k ks refl
 other (instrs.BrOnNull k) n0 n1 n2 n3 n4 n5 n6 n7 n8 n9 n10 n11 n12 = n8 k refl
 other (instrs.BrOnNonNull k) n0 n1 n2 n3 n4 n5 n6 n7 n8 n9 n10 n11 n12 = n9 k refl
 other (instrs.BrOnCast k from to) n0 n1 n2 n3 n4 n5 n6 n7 n8 n9 n10 n11 n12 = n10 k from to refl

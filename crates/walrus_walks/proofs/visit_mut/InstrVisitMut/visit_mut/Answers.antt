@@ -37,7 +37,7 @@ returns-in-BrTable g c =
     let lent = c.as_mut_slice-in-BrTable in
     let last = c.visit_instr_seq_id_mut in
     let after = with_items before r.new.items in
-    let G : Instr → Type 0 = λ i. InstrChanged step v i last.new.self (BrTable after last.new.id) in
+    let G : Instr → Type 0 = λ i. InstrChanged step v i last.new.self (BrTable last.new.id after) in
     let labels = threads_written (Handed step NamesSeq) v r.new.visitor before lent.result.now r.new.items lent.ensures.value r.auto.items r.ensures in
     subst G (sym c.in-BrTable.is) (after, last.new.id, refl, (r.new.visitor, labels, last.ensures))
 
