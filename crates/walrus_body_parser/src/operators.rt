@@ -10,7 +10,7 @@ ghost use Rattle.walrus_operators.specs.Operators.{seen, IsNext, IsNextOf, Reads
 ghost use Rattle.walrus_body_locals.specs.walrus_body_nesting.Opens.{Good, Shaped};
 ghost use Rattle.walrus_body_operands.specs.walrus_body_stack.Frames.{blocks, heading_of, opens};
 ghost use Rattle.walrus_body_locals.specs.Calls.{Parses};
-ghost use Rattle.walrus_body_operands.specs.Listed.{IsListed, keeps_on, opens_plain};
+ghost use Rattle.walrus_body_operands.specs.Listed.{IsListed, is_end, keeps_on, opens_plain};
 ghost use Rattle.walrus_body_parser.specs.Changes.{ReadsNext, ReadsOn, entry_of};
 ghost use Rattle.walrus_body_parser.specs.Points.{IsRefusedAs};
 ghost use Rattle.walrus_body_parser.specs.Trees.{Follows, validating};
@@ -222,7 +222,8 @@ fn is_opening(flow: Flow) -> bool
 // Whether it is an `end`.
 #[inline(always)]
 fn is_end(flow: Flow) -> bool
-    ensures { result ≡ true → flow ≡ Flow.End }
+    ensures told { result ≡ is_end flow }
+    ensures end { result ≡ true → flow ≡ Flow.End }
 {
     matches!(flow, Flow::End)
 }

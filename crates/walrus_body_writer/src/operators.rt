@@ -22,6 +22,7 @@ use walrus_pairing::{PairError, operator_of, write_heap, write_value};
 use wasm_immediates::{BlockType, Clause};
 
 /// The type of a sequence.
+#[inline(always)]
 pub(crate) fn type_of(seqs: &[InstrSeq], id: InstrSeqId) -> InstrSeqType
     ensures { result ≡ type_in (slice_get seqs.now id) }
 {
@@ -33,6 +34,7 @@ pub(crate) fn type_of(seqs: &[InstrSeq], id: InstrSeqId) -> InstrSeqType
 }
 
 // The type of a block that takes nothing.
+#[inline(always)]
 fn value_block(numbers: &Numbers<'_>, ty: &Option<ValType>) -> Result<BlockType, PairError>
     ensures { Gives (IsLarge (look_of numbers.now) ty.now) (block (look_of numbers.now) (InstrSeqType.Simple ty.now)) result }
 {
@@ -54,6 +56,7 @@ fn function_block(numbers: &Numbers<'_>, ty: TypeId) -> Result<BlockType, PairEr
 }
 
 /// The type of a block.
+#[inline(always)]
 pub(crate) fn block_type(numbers: &Numbers<'_>, ty: &InstrSeqType) -> Result<BlockType, PairError>
     ensures { Gives (IsLarge (look_of numbers.now) (value_of ty.now)) (block (look_of numbers.now) ty.now) result }
 {

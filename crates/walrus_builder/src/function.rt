@@ -162,6 +162,7 @@ impl FunctionBuilder {
     /// # Errors
     ///
     /// Want of memory. The sequences stay as they were.
+    #[inline(always)]
     pub fn dangling_instr_seq(&mut self, ty: InstrSeqType) -> Result<InstrSeqId, AllocError>
         ensures id { IfOk result (λ id. id ≡ length (seqs_of self.old)) }
         ensures added { IfOk result (λ id. contents self.new.builder ≡ contents self.old.builder ++ empty_seq id ty ∷ []) }

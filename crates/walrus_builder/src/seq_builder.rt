@@ -156,6 +156,7 @@ impl InstrSeqBuilder {
     }
 
     // Adds an empty sequence and gives its id.
+    #[inline(always)]
     pub(crate) fn add_seq(&mut self, ty: InstrSeqType) -> Result<InstrSeqId, AllocError>
         ensures id { self.new.id ≡ self.old.id }
         ensures added { IfOk result (λ id. (id ≡ length (contents self.old)) × (contents self.new ≡ contents self.old ++ empty_seq id ty ∷ [])) }

@@ -93,6 +93,7 @@ pub fn write_value_type(out: &mut Vec<u8>, ty: ValType) -> Result<(), AllocError
 /// # Errors
 ///
 /// Want of memory. What was there stands at the front.
+#[inline(always)]
 pub fn write_block_type(out: &mut Vec<u8>, ty: BlockType) -> Result<(), AllocError>
     ensures { Appends (block_bytes ty) out.old.items out.new.items result }
 {
