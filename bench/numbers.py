@@ -12,11 +12,11 @@ import sys
 import tempfile
 
 ROOT = os.path.dirname(os.path.dirname(os.path.abspath(__file__)))
-CRATE = f"{ROOT}/crates/wasmparser_bench"
+CRATE = f"{ROOT}/crates/walrus_bench"
 
 
 def measured(program, size):
-    done = subprocess.run([program, str(size)], capture_output=True, text=True, check=True)
+    done = subprocess.run([*program, str(size)], capture_output=True, text=True, check=True)
     return int(done.stderr), done.stdout
 
 
@@ -29,9 +29,9 @@ def main():
         loop = f"{folder}/numbers"
         subprocess.run(["gcc", "-O2", "-o", loop, f"{ROOT}/bench/numbers.c"], check=True)
         # proved and built anew where its sources are newer
-        print("building wasmparser_bench", file=sys.stderr)
-        subprocess.run(["rt", "run", "--", "16"], cwd=CRATE, check=True, stdout=subprocess.DEVNULL, stderr=subprocess.DEVNULL)
-        rounds = [(measured(f"{CRATE}/out/wasmparser_bench", asked.size), measured(loop, asked.size)) for _ in range(asked.rounds)]
+        print("building walrus_bench", file=sys.stderr)
+        subprocess.run(["rt", "run", "--", "numbers", "16"], cwd=CRATE, check=True, stdout=subprocess.DEVNULL, stderr=subprocess.DEVNULL)
+        rounds = [(measured([f"{CRATE}/out/walrus_bench", "numbers"], asked.size), measured([loop], asked.size)) for _ in range(asked.rounds)]
     if any(ours[1] != theirs[1] for ours, theirs in rounds):
         sys.exit("the two don't read the same")
     ours, theirs = min(r[0][0] for r in rounds), min(r[1][0] for r in rounds)

@@ -17,7 +17,8 @@ import sys
 import tempfile
 
 ROOT = os.path.dirname(os.path.dirname(os.path.abspath(__file__)))
-CRATE = f"{ROOT}/crates/wasmparser_bench"
+CRATE = f"{ROOT}/crates/walrus_bench"
+OURS = [f"{CRATE}/out/walrus_bench", "operators"]
 
 # loaded in front of the C library, it counts the calls for memory
 COUNTER = r"""
@@ -103,12 +104,12 @@ def make(size, seed):
 def measured(program, file, way):
     """The seconds of the processor that one run takes, and what it prints."""
     before = resource.getrusage(resource.RUSAGE_CHILDREN).ru_utime
-    done = subprocess.run([program, file, way], capture_output=True, text=True, check=True)
+    done = subprocess.run([*program, file, way], capture_output=True, text=True, check=True)
     return resource.getrusage(resource.RUSAGE_CHILDREN).ru_utime - before, done.stdout
 
 
 def calls(counter, file, way):
-    done = subprocess.run([f"{CRATE}/out/wasmparser_bench", file, way], capture_output=True, text=True, check=True, env={**os.environ, "LD_PRELOAD": counter})
+    done = subprocess.run([*OURS, file, way], capture_output=True, text=True, check=True, env={**os.environ, "LD_PRELOAD": counter})
     return int(done.stderr.split("calls ")[1])
 
 
@@ -129,10 +130,10 @@ def main():
             it.write(COUNTER)
         subprocess.run(["gcc", "-O2", "-shared", "-fPIC", "-o", f"{folder}/counter.so", f"{folder}/counter.c", "-ldl"], check=True)
         # proved and built anew where its sources are newer
-        print("building wasmparser_bench", file=sys.stderr)
-        subprocess.run(["rt", "run", "--", "data/code", "read"], cwd=CRATE, check=True, stdout=subprocess.DEVNULL, stderr=subprocess.DEVNULL)
+        print("building walrus_bench", file=sys.stderr)
+        subprocess.run(["rt", "run", "--", "operators", "data/code", "read"], cwd=CRATE, check=True, stdout=subprocess.DEVNULL, stderr=subprocess.DEVNULL)
         for way in ("read", "write"):
-            rounds = [(measured(f"{CRATE}/out/wasmparser_bench", file, way), measured(loop, file, way)) for _ in range(asked.rounds)]
+            rounds = [(measured(OURS, file, way), measured([loop], file, way)) for _ in range(asked.rounds)]
             if any(ours[1] != theirs[1] for ours, theirs in rounds):
                 sys.exit(f"the two don't see the same: {rounds[0]}")
             ours, theirs = min(r[0][0] for r in rounds), min(r[1][0] for r in rounds)

@@ -8,8 +8,8 @@ use Rattle.walrus_meaning.specs.walrus_local_function.walrus_body_locals.walrus_
 use Rattle.walrus_meaning.specs.walrus_local_function.walrus_body_parser.wasm_operators.Operators.{Seen}
 use Rattle.walrus_meaning.specs.walrus_local_function.walrus_body_parser.wasm_operators.Spellings.{SpellsEither, SpellsOperator}
 use Rattle.walrus_meaning.specs.walrus_local_function.walrus_body_locals.wasm_body_grammar.wasm_operator_bytes.Bytes.{operator_bytes}
-use Rattle.wasm_operator_ranges.specs.Ranges.{OperatorFits}
-use Rattle.wasm_operator_ranges.specs.Laws.{SpelledIfFits}
+use Rattle.wasm_operator_bytes.specs.Ranges.{OperatorFits}
+use Rattle.wasm_operator_bytes.specs.RangeLaws.{SpelledIfFits}
 use Rattle.walrus_meaning.specs.walrus_local_function.walrus_body_locals.wasm_body_grammar.Rules.{Around}
 use Rattle.walrus_meaning.specs.walrus_local_function.walrus_body_locals.wasm_body_grammar.Bodies.{Parts, Point, is_closed, next_point, next_total, operator, operator_in, opened}
 use Rattle.walrus_meaning.specs.walrus_local_function.walrus_body_locals.wasm_normal_form.Trees.{Tree, flat, open_in, tree_of}

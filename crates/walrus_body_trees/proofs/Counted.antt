@@ -12,7 +12,7 @@ use Rattle.walrus_meaning.specs.walrus_local_function.walrus_body_parser.wasm_op
 use Rattle.walrus_meaning.specs.walrus_local_function.walrus_body_parser.wasm_operators.declared.entry.Flow.TheVariants as flows
 use Rattle.walrus_meaning.specs.walrus_local_function.walrus_body_parser.wasm_operators.Operators.{Seen, flow_of}
 use Rattle.walrus_meaning.specs.walrus_local_function.walrus_body_locals.wasm_body_grammar.wasm_operator_bytes.Names.{operator_names}
-use Rattle.wasm_operator_ranges.specs.Ranges.{OperatorFits}
+use Rattle.wasm_operator_bytes.specs.Ranges.{OperatorFits}
 use Rattle.walrus_meaning.specs.walrus_local_function.walrus_body_locals.wasm_grammar.Values.{first_of}
 use Rattle.walrus_meaning.specs.walrus_local_function.walrus_body_locals.wasm_grammar.Modules as grammar
 use Rattle.walrus_meaning.specs.walrus_local_function.walrus_body_locals.wasm_body_grammar.Frames.{Frame, Plain, Choice, Trying, Catching, Caught, Turned, turned, label_count}

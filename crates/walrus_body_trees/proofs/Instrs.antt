@@ -7,7 +7,7 @@ use Rattle.walrus_meaning.specs.walrus_body_writer.walrus_pairing.wasm_immediate
 use Rattle.walrus_meaning.specs.walrus_body_writer.walrus_pairing.wasm_immediates.Items.{Space, Labels, Item, Names, Byte, Heap, ManyLabels}
 use Rattle.walrus_meaning.specs.walrus_local_function.walrus_body_parser.wasm_operators.declared.op_code.OpCode.{OpCode}
 use Rattle.walrus_meaning.specs.walrus_local_function.walrus_body_parser.wasm_operators.Operators.{Seen}
-use Rattle.wasm_operator_ranges.specs.Ranges.{OperatorFits}
+use Rattle.wasm_operator_bytes.specs.Ranges.{OperatorFits}
 use Rattle.walrus_meaning.specs.walrus_body_writer.walrus_pairing.walrus_forms.declared.value.RefType.{RefType}
 use Rattle.walrus_meaning.specs.walrus_body_writer.walrus_body_env.walrus_instr.declared.instr.Instr.{Instr}
 use Rattle.walrus_meaning.specs.walrus_body_writer.walrus_body_env.walrus_instr.declared.instr.Instr.TheVariants as instrs

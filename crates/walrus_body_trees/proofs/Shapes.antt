@@ -11,7 +11,7 @@ use Rattle.walrus_meaning.specs.walrus_local_function.walrus_body_parser.wasm_op
 use Rattle.walrus_meaning.specs.walrus_local_function.walrus_body_parser.wasm_operators.Table.{structure_rows, call_rows, plain_rows, fb_rows, fc_rows, fd_rows, fe_rows}
 use Rattle.walrus_meaning.specs.walrus_local_function.walrus_body_parser.wasm_operators.Kinds.{forms}
 use Rattle.walrus_meaning.specs.walrus_local_function.walrus_body_parser.wasm_operators.Operators.{Seen, flow_in, flow_of}
-use Rattle.wasm_operator_ranges.specs.Ranges.{ItemsFit, OperatorFits}
+use Rattle.wasm_operator_bytes.specs.Ranges.{ItemsFit, OperatorFits}
 use Rattle.walrus_meaning.specs.walrus_body_writer.walrus_pairing.walrus_operator_codes.Runs.{byte}
 use Rattle.walrus_operator_laws.proofs.Rows.{TablePasses, table_holds}
 use Rattle.walrus_operator_laws.proofs.Kept.{entry_of}

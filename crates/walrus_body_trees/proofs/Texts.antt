@@ -12,7 +12,7 @@ use Rattle.walrus_meaning.specs.walrus_local_function.walrus_body_parser.wasm_op
 use Rattle.walrus_meaning.specs.walrus_local_function.walrus_body_parser.wasm_operators.declared.entry.Kind.TheVariants as kinds
 use Rattle.walrus_meaning.specs.walrus_local_function.walrus_body_parser.wasm_operators.Operators.{kind_of}
 use Rattle.walrus_meaning.specs.walrus_local_function.walrus_body_locals.wasm_body_grammar.wasm_operator_bytes.Names.{Renaming, renamed_item, renamed_operator}
-use Rattle.wasm_operator_ranges.specs.Ranges.{OperatorFits}
+use Rattle.wasm_operator_bytes.specs.Ranges.{OperatorFits}
 use Rattle.walrus_meaning.specs.walrus_local_function.walrus_body_locals.wasm_normal_form.Roles.{Placed, placed, cuts, is_if, else_op, end_op, Role, Passes, Runs, Opens, Turns, Ends, role}
 use Rattle.walrus_meaning.specs.walrus_local_function.walrus_body_locals.wasm_normal_form.Trees.{Tree, Close, Arm, Skip, Run, Nest, flat, prepend, open_in, innermost}
 use Rattle.walrus_meaning.specs.walrus_local_function.walrus_body_locals.wasm_normal_form.Normal.{picked, normal_from}

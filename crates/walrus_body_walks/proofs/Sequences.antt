@@ -2,8 +2,8 @@
 use Rattle.std.proofs.Common.{ℕ, zero, suc, ◌≡◌, ◌⊎◌, Bool, true, false, List, [], ◌∷◌, map, Some, refl, sym, ap, subst, ◌∙◌, inl, inr, eq-eqb, eqb-true}
 use Rattle.std.specs.Prelude.{◌==◌, slice_get, if◌then◌else◌}
 use Rattle.std.specs.List.{AllByRecursion}
-use Rattle.wasm_operator_ranges.specs.wasm_operator_bytes.wasm_operators.wasm_features.declared.WasmFeatures.{WasmFeatures}
-use Rattle.wasm_operator_ranges.specs.wasm_operator_bytes.wasm_operators.Operators.{Seen}
+use Rattle.wasm_operator_bytes.specs.wasm_operators.wasm_features.declared.WasmFeatures.{WasmFeatures}
+use Rattle.wasm_operator_bytes.specs.wasm_operators.Operators.{Seen}
 use Rattle.wasm_operator_bytes.specs.NameLaws.{NamesAreRenamed}
 use Rattle.walrus_operator_laws.specs.walrus_pairing.wasm_immediates.Items.{Tags}
 use Rattle.walrus_handler_laws.specs.walrus_body_steps.wasm_normal_form.Trees.{Tree as OpTree, Close, Arm, Skip, Run, Nest}

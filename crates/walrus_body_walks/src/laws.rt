@@ -9,7 +9,7 @@ pub fn walks_name_answers()
     walrus_operator_laws::laws::operators_come_back();
     walrus_operator_laws::laws::names_are_told();
     wasm_operator_bytes::laws::names_are_renamed();
-    wasm_operator_ranges::laws::operators_in_range_are_spelled();
+    wasm_operator_bytes::laws::operators_in_range_are_spelled();
 }
 
 /// In the tree of such a body, what the block types of legacy `try`s name are such items, whatever types handlers have.
@@ -19,7 +19,7 @@ pub fn tries_have_answers()
     walrus_operator_laws::laws::operators_come_back();
     walrus_operator_laws::laws::names_are_told();
     wasm_operator_bytes::laws::names_are_renamed();
-    wasm_operator_ranges::laws::operators_in_range_are_spelled();
+    wasm_operator_bytes::laws::operators_in_range_are_spelled();
 }
 
 /// So it is of the block of each handler that the tree tells.

@@ -11,7 +11,7 @@ use Rattle.wasm_operator_bytes.specs.wasm_operators.declared.op_code.OpCode.{OpC
 use Rattle.wasm_operator_bytes.specs.wasm_operators.Table.{find_code, structure_rows, call_rows, plain_rows, fb_rows, fc_rows, fd_rows, fe_rows}
 use Rattle.wasm_operator_bytes.specs.wasm_operators.Kinds.{forms}
 use Rattle.wasm_operator_bytes.specs.wasm_operators.Operators.{is_on, kind_of, Seen}
-use Rattle.wasm_operator_ranges.specs.Ranges.{ItemFits, ItemsFit, OperatorFits}
+use Rattle.wasm_operator_bytes.specs.Ranges.{ItemFits, ItemsFit, OperatorFits}
 use Rattle.walrus_pairing.specs.walrus_operator_codes.Runs.{byte}
 use Rattle.walrus_operator_laws.proofs.Rows.{TablePasses, table_holds}
 

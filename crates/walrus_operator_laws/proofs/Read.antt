@@ -20,7 +20,7 @@ use Rattle.wasm_operator_bytes.specs.wasm_operators.declared.op_code.OpCode.{OpC
 use Rattle.wasm_operator_bytes.specs.wasm_operators.Table.{find_code, structure_rows, call_rows, plain_rows, fb_rows, fc_rows, fd_rows, fe_rows}
 use Rattle.wasm_operator_bytes.specs.wasm_operators.Kinds.{forms}
 use Rattle.wasm_operator_bytes.specs.wasm_operators.Operators.{op_code}
-use Rattle.wasm_operator_ranges.specs.Ranges.{ItemFits, ItemsFit}
+use Rattle.wasm_operator_bytes.specs.Ranges.{ItemFits, ItemsFit}
 use Rattle.walrus_forms.specs.declared.value.AbstractHeapType.TheVariants as types
 use Rattle.walrus_forms.specs.declared.value.HeapType.{HeapType}
 use Rattle.walrus_forms.specs.declared.value.HeapType.TheVariants.{Abstract, Concrete, Exact}

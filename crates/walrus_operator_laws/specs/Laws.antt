@@ -6,7 +6,7 @@ use Rattle.wasm_operator_bytes.specs.wasm_operators.declared.entry.Entry.{Entry}
 use Rattle.wasm_operator_bytes.specs.wasm_operators.Table.{find_code}
 use Rattle.wasm_operator_bytes.specs.wasm_operators.Operators.{Seen}
 use Rattle.wasm_operator_bytes.specs.Names.{Renaming, renamed_operator}
-use Rattle.wasm_operator_ranges.specs.Ranges.{OperatorFits}
+use Rattle.wasm_operator_bytes.specs.Ranges.{OperatorFits}
 use Rattle.walrus_pairing.specs.walrus_instr.declared.instr.Instr.{Instr}
 use Rattle.walrus_pairing.specs.walrus_operators.declared.operator.Operator.{Operator}
 use Rattle.walrus_pairing.specs.walrus_operators.Immediates.{kind_is}

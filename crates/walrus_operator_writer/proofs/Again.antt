@@ -8,9 +8,9 @@ use Rattle.walrus_operators.specs.wasm_operators.declared.op_code.OpCode.{OpCode
 use Rattle.walrus_operators.specs.wasm_operators.Kinds.{forms}
 use Rattle.walrus_operators.specs.wasm_operators.Operators.{kind_of, Seen, operator_at}
 use Rattle.walrus_operators.specs.wasm_operators.Taken.{either_taken}
-use Rattle.wasm_operator_ranges.specs.wasm_operator_bytes.Vecs.{parts_small}
-use Rattle.wasm_operator_ranges.specs.Ranges.{OperatorFits, ItemsFit}
-use Rattle.wasm_operator_ranges.proofs.Operators.{operator_fits, operator_written}
+use Rattle.wasm_operator_bytes.specs.Vecs.{parts_small}
+use Rattle.wasm_operator_bytes.specs.Ranges.{OperatorFits, ItemsFit}
+use Rattle.wasm_operator_bytes.proofs.Operators.{operator_fits, operator_written}
 use Rattle.walrus_operators.specs.declared.operator.Operator.{Operator}
 use Rattle.walrus_operators.specs.declared.reader.OperatorError.{OperatorError}
 use Rattle.walrus_operators.specs.declared.reader.OperatorError.TheVariants as errors

@@ -5,7 +5,7 @@ use Rattle.std.specs.List.{flat_map}
 use Rattle.std.specs.declared.alloc.AllocError.{AllocError}
 use Rattle.wasm_immediates.specs.Items.{Item}
 use Rattle.walrus_operators.specs.wasm_operators.declared.op_code.OpCode.{OpCode}
-use Rattle.wasm_operator_ranges.specs.wasm_operator_bytes.Bytes.{code_bytes, item_bytes}
+use Rattle.wasm_operator_bytes.specs.Bytes.{code_bytes, item_bytes}
 use Rattle.walrus_operator_writer.specs.Appended.{Keeps, Appends, AppendsItems, with_items}
 use Rattle.wasm_operator_bytes.proofs.Keeps.{keeps_on}
 pub use Rattle.wasm_operator_bytes.proofs.Appends.{nothing, appends_on}

@@ -2,7 +2,7 @@
 use Rattle.std.specs.Prelude.{ℕ, ◌≡◌, List, [], ◌∷◌, ◌++◌, Result, MatchResult}
 use Rattle.std.specs.declared.alloc.AllocError.{AllocError}
 use Rattle.wasm_immediates.specs.Items.{Item}
-use Rattle.wasm_operator_ranges.specs.wasm_operator_bytes.Bytes.{item_bytes}
+use Rattle.wasm_operator_bytes.specs.Bytes.{item_bytes}
 pub use Rattle.wasm_operator_bytes.specs.Appended.{Keeps, Appends}
 
 -- the items behind these bytes, one after another

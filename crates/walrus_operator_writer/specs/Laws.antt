@@ -5,8 +5,8 @@ use Rattle.wasm_ref_types.specs.wasm_reader.Cursor.{Cursor, rest}
 use Rattle.walrus_operators.specs.wasm_operators.Kinds.{forms}
 use Rattle.walrus_operators.specs.wasm_operators.Operators.{kind_of}
 use Rattle.walrus_operators.specs.wasm_operators.Spellings.{SpellsOperator}
-use Rattle.wasm_operator_ranges.specs.wasm_operator_bytes.Bytes.{operator_bytes}
-use Rattle.wasm_operator_ranges.specs.Ranges.{ItemsFit}
+use Rattle.wasm_operator_bytes.specs.Bytes.{operator_bytes}
+use Rattle.wasm_operator_bytes.specs.Ranges.{ItemsFit}
 use Rattle.walrus_operators.specs.declared.operator.Operator.{Operator}
 use Rattle.walrus_operators.specs.declared.reader.OperatorError.{OperatorError}
 use Rattle.walrus_operators.specs.Immediates.{items_of, kind_is}

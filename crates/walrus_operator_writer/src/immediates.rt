@@ -4,7 +4,7 @@ ghost use Rattle.std.specs.Prelude.{[], ◌∷◌, ◌++◌};
 ghost use Rattle.walrus_operators.specs.Immediates.{items_of};
 ghost use Rattle.walrus_operator_writer.specs.Appended.{Appends, AppendsItems};
 ghost use Rattle.walrus_operators.specs.wasm_immediates.Items as items;
-ghost use Rattle.wasm_operator_ranges.specs.wasm_operator_bytes.Bytes.{access_bytes, clause_bytes, unsigned_bytes, value_bytes, vec_bytes};
+ghost use Rattle.wasm_operator_bytes.specs.Bytes.{access_bytes, clause_bytes, unsigned_bytes, value_bytes, vec_bytes};
 
 use crate::types::{write_block_type, write_heap_type, write_value_type};
 use std::alloc::AllocError;

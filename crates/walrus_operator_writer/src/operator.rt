@@ -3,7 +3,7 @@
 ghost use Rattle.std.specs.Prelude.{◌≡◌, ◌++◌, ◌∷◌, MatchResult};
 ghost use Rattle.walrus_operators.specs.Operators.{seen};
 ghost use Rattle.walrus_operator_writer.specs.Appended.{Appends};
-ghost use Rattle.wasm_operator_ranges.specs.wasm_operator_bytes.Bytes.{code_bytes, operator_bytes, unsigned_bytes};
+ghost use Rattle.wasm_operator_bytes.specs.Bytes.{code_bytes, operator_bytes, unsigned_bytes};
 
 use crate::immediates::write_immediates;
 use std::alloc::AllocError;

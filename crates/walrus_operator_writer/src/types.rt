@@ -2,7 +2,7 @@
 
 ghost use Rattle.std.specs.Prelude.{◌≡◌, ◌∷◌};
 ghost use Rattle.walrus_operator_writer.specs.Appended.{Appends};
-ghost use Rattle.wasm_operator_ranges.specs.wasm_operator_bytes.Bytes.{abstract_code, heap_bytes, reference_parts, reference_bytes, value_bytes, block_bytes};
+ghost use Rattle.wasm_operator_bytes.specs.Bytes.{abstract_code, heap_bytes, reference_parts, reference_bytes, value_bytes, block_bytes};
 
 use std::alloc::AllocError;
 use wasm_immediates::BlockType;

@@ -1,3 +1,4 @@
+mod Alike
 mod Found
 mod Reserved
 mod Rest

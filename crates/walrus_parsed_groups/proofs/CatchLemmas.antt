@@ -10,9 +10,9 @@ use Rattle.walrus_parsed_linked.specs.walrus_operator_laws.walrus_pairing.wasm_i
 use Rattle.walrus_parsed_linked.specs.walrus_operator_laws.walrus_pairing.wasm_immediates.declared.block_type.BlockType.TheVariants as blocks
 use Rattle.walrus_parsed_linked.specs.walrus_operator_laws.walrus_pairing.wasm_immediates.Items.{Types}
 use Rattle.walrus_parsed_linked.specs.walrus_parsed_items.walrus_parse.walrus_file_bodies.walrus_items_into.walrus_module_env.walrus_handler_types.walrus_handler_laws.walrus_body_steps.wasm_normal_form.Trees.{Tree as OpTree, Close, Arm, Skip, Run, Nest}
-use Rattle.wasm_operator_ranges.specs.wasm_operator_bytes.wasm_operators.Operators.{Seen, flow_of}
-use Rattle.wasm_operator_ranges.specs.wasm_operator_bytes.wasm_operators.declared.entry.Flow.{Flow}
-use Rattle.wasm_operator_ranges.specs.wasm_operator_bytes.wasm_operators.declared.entry.Flow.TheVariants as flows
+use Rattle.wasm_operator_bytes.specs.wasm_operators.Operators.{Seen, flow_of}
+use Rattle.wasm_operator_bytes.specs.wasm_operators.declared.entry.Flow.{Flow}
+use Rattle.wasm_operator_bytes.specs.wasm_operators.declared.entry.Flow.TheVariants as flows
 use Rattle.walrus_forms.specs.declared.value.ValType.{ValType}
 use Rattle.walrus_parsed_linked.specs.walrus_operator_laws.walrus_pairing.walrus_instr.declared.instr.Instr.{Instr}
 use Rattle.walrus_parsed_linked.specs.walrus_operator_laws.walrus_pairing.walrus_instr.declared.instr.LegacyCatch.{LegacyCatch}

@@ -8,12 +8,12 @@ use Rattle.walrus_parsed_linked.specs.walrus_parsed_items.walrus_parse.walrus_fi
 use Rattle.walrus_parsed_linked.specs.walrus_parsed_items.walrus_parse.walrus_file_bodies.walrus_items_into.walrus_module_env.walrus_handler_types.walrus_handler_laws.walrus_body_steps.wasm_grammar.Modules as grammar
 use Rattle.walrus_parsed_linked.specs.walrus_operator_laws.walrus_pairing.wasm_immediates.declared.block_type.BlockType.{BlockType}
 use Rattle.walrus_parsed_linked.specs.walrus_operator_laws.walrus_pairing.wasm_immediates.Items.{Space, Labels, Item, Names, Byte, Heap, ManyLabels}
-use Rattle.wasm_operator_ranges.specs.wasm_operator_bytes.wasm_operators.declared.op_code.OpCode.{OpCode}
-use Rattle.wasm_operator_ranges.specs.wasm_operator_bytes.wasm_operators.Operators.{Seen}
-use Rattle.wasm_operator_ranges.specs.wasm_operator_bytes.wasm_operators.Spellings.{SpellsEither, SpellsOperator}
-use Rattle.wasm_operator_ranges.specs.wasm_operator_bytes.Bytes.{operator_bytes}
-use Rattle.wasm_operator_ranges.specs.Ranges.{OperatorFits}
-use Rattle.wasm_operator_ranges.specs.Laws.{SpelledIfFits}
+use Rattle.wasm_operator_bytes.specs.wasm_operators.declared.op_code.OpCode.{OpCode}
+use Rattle.wasm_operator_bytes.specs.wasm_operators.Operators.{Seen}
+use Rattle.wasm_operator_bytes.specs.wasm_operators.Spellings.{SpellsEither, SpellsOperator}
+use Rattle.wasm_operator_bytes.specs.Bytes.{operator_bytes}
+use Rattle.wasm_operator_bytes.specs.Ranges.{OperatorFits}
+use Rattle.wasm_operator_bytes.specs.RangeLaws.{SpelledIfFits}
 use Rattle.walrus_parsed_linked.specs.walrus_parsed_items.walrus_parse.walrus_file_bodies.walrus_items_into.walrus_module_env.walrus_handler_types.walrus_handler_laws.walrus_body_steps.wasm_body_grammar.Rules.{Around}
 use Rattle.walrus_parsed_linked.specs.walrus_parsed_items.walrus_parse.walrus_file_bodies.walrus_items_into.walrus_module_env.walrus_handler_types.walrus_handler_laws.walrus_body_steps.wasm_body_grammar.Bodies.{Parts, Point, body, body_of, is_closed, next_point, next_total, operator, operator_in, opened, placed as placed_from}
 use Rattle.walrus_parsed_linked.specs.walrus_parsed_items.walrus_parse.walrus_file_bodies.walrus_items_into.walrus_module_env.walrus_handler_types.walrus_handler_laws.walrus_body_steps.wasm_normal_form.Roles.{placed, Role, Passes, Runs, Opens, Turns, Ends, role, cuts, is_if}

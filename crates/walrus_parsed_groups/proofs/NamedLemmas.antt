@@ -38,15 +38,15 @@ use Rattle.walrus_parsed_linked.specs.walrus_parsed_items.walrus_parse.walrus_mo
 use Rattle.walrus_parsed_linked.specs.walrus_parsed_items.walrus_parse.walrus_module.walrus_types.Table.{Table, found_type, type_at}
 use Rattle.walrus_types.proofs.LawLemmas.{latest-law}
 use Rattle.walrus_types.specs.TypeLaws.{IsLatest}
-use Rattle.wasm_operator_ranges.specs.wasm_operator_bytes.wasm_operators.Operators.{Seen, flow_of}
-use Rattle.wasm_operator_ranges.specs.wasm_operator_bytes.wasm_operators.wasm_ref_types.Reference.{Reference}
-use Rattle.wasm_operator_ranges.specs.wasm_operator_bytes.wasm_operators.wasm_ref_types.declared.heap.AbstractHeapType.{AbstractHeapType as ReadAbstract}
-use Rattle.wasm_operator_ranges.specs.wasm_operator_bytes.wasm_operators.wasm_ref_types.declared.heap.AbstractHeapType.TheVariants as from
-use Rattle.wasm_operator_ranges.specs.wasm_operator_bytes.wasm_operators.wasm_ref_types.declared.heap.HeapType.{HeapType as ReadHeap}
-use Rattle.wasm_operator_ranges.specs.wasm_operator_bytes.wasm_operators.wasm_ref_types.declared.heap.HeapType.TheVariants.{Abstract as FromAbstract, Concrete as FromConcrete, Exact as FromExact}
-use Rattle.wasm_operator_ranges.specs.wasm_operator_bytes.wasm_operators.wasm_ref_types.declared.index.UnpackedIndex.TheVariants.{Module, RecGroup, Id}
-use Rattle.wasm_operator_ranges.specs.wasm_operator_bytes.wasm_operators.wasm_ref_types.declared.value.ValType.{ValType as ReadValue}
-use Rattle.wasm_operator_ranges.specs.wasm_operator_bytes.wasm_operators.wasm_ref_types.declared.value.ValType.TheVariants as values
+use Rattle.wasm_operator_bytes.specs.wasm_operators.Operators.{Seen, flow_of}
+use Rattle.wasm_operator_bytes.specs.wasm_operators.wasm_ref_types.Reference.{Reference}
+use Rattle.wasm_operator_bytes.specs.wasm_operators.wasm_ref_types.declared.heap.AbstractHeapType.{AbstractHeapType as ReadAbstract}
+use Rattle.wasm_operator_bytes.specs.wasm_operators.wasm_ref_types.declared.heap.AbstractHeapType.TheVariants as from
+use Rattle.wasm_operator_bytes.specs.wasm_operators.wasm_ref_types.declared.heap.HeapType.{HeapType as ReadHeap}
+use Rattle.wasm_operator_bytes.specs.wasm_operators.wasm_ref_types.declared.heap.HeapType.TheVariants.{Abstract as FromAbstract, Concrete as FromConcrete, Exact as FromExact}
+use Rattle.wasm_operator_bytes.specs.wasm_operators.wasm_ref_types.declared.index.UnpackedIndex.TheVariants.{Module, RecGroup, Id}
+use Rattle.wasm_operator_bytes.specs.wasm_operators.wasm_ref_types.declared.value.ValType.{ValType as ReadValue}
+use Rattle.wasm_operator_bytes.specs.wasm_operators.wasm_ref_types.declared.value.ValType.TheVariants as values
 use Rattle.walrus_parsed_groups.specs.Added.{Signature}
 use Rattle.walrus_parsed_groups.specs.Catches.{catches, opened_results, part_signature}
 use Rattle.walrus_parsed_groups.specs.Files.{block_gives, opened_gives, part_handles, sent, tag_takes, text_handles, type_params, type_results}

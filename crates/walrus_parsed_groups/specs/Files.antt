@@ -22,9 +22,9 @@ use Rattle.walrus_parsed_linked.specs.walrus_operator_laws.walrus_pairing.wasm_i
 use Rattle.walrus_parsed_linked.specs.walrus_operator_laws.walrus_pairing.wasm_immediates.declared.block_type.BlockType.TheVariants as blocks
 use Rattle.walrus_parsed_linked.specs.walrus_parsed_items.walrus_parse.Parsed.{IsReadAs}
 use Rattle.walrus_parsed_linked.specs.walrus_parsed_items.walrus_parse.walrus_module.declared.module.Module.{Module as Whole}
-use Rattle.wasm_operator_ranges.specs.wasm_operator_bytes.wasm_operators.Operators.{flow_of}
-use Rattle.wasm_operator_ranges.specs.wasm_operator_bytes.wasm_operators.declared.entry.Flow.{Flow}
-use Rattle.wasm_operator_ranges.specs.wasm_operator_bytes.wasm_operators.declared.entry.Flow.TheVariants as flows
+use Rattle.wasm_operator_bytes.specs.wasm_operators.Operators.{flow_of}
+use Rattle.wasm_operator_bytes.specs.wasm_operators.declared.entry.Flow.{Flow}
+use Rattle.wasm_operator_bytes.specs.wasm_operators.declared.entry.Flow.TheVariants as flows
 use Rattle.walrus_parsed_groups.specs.Added.{Signature}
 use Rattle.walrus_parsed_groups.specs.Groups.{handlers_of}
 use Rattle.walrus_parsed_groups.specs.Handlers.{signature_of, signatures}

@@ -27,7 +27,7 @@ use Rattle.walrus_parsed_served.specs.walrus_parsed_linked.walrus_operator_laws.
 use Rattle.walrus_parsed_served.specs.walrus_parsed_linked.walrus_operator_laws.walrus_pairing.wasm_immediates.declared.block_type.BlockType.{BlockType}
 use Rattle.wasm_inexact_modules.specs.Inexact.{InexactBlock, InexactItem, InexactOperator, InexactValues, InexactWord}
 use Rattle.walrus_parsed_served.specs.walrus_parsed_linked.walrus_operator_laws.wasm_operator_bytes.Names.{Renaming, renamed_operator}
-use Rattle.wasm_operator_ranges.specs.Ranges.{OperatorFits}
+use Rattle.wasm_operator_bytes.specs.Ranges.{OperatorFits}
 use Rattle.walrus_parsed_served.specs.walrus_parsed_linked.walrus_parsed_items.walrus_parse.walrus_file_bodies.walrus_items_into.walrus_module_env.walrus_body_parser.wasm_operators.Operators.{Seen}
 use Rattle.walrus_parsed_served.specs.walrus_parsed_linked.walrus_parsed_items.walrus_parse.walrus_file_bodies.walrus_items_into.walrus_module_env.walrus_body_parser.wasm_operators.declared.op_code.OpCode.{OpCode}
 use Rattle.walrus_parsed_served.specs.walrus_parsed_linked.walrus_operator_laws.wasm_operator_bytes.wasm_ref_types.Reference.{reference as written_reference}

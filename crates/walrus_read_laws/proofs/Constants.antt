@@ -21,7 +21,7 @@ use Rattle.walrus_tables_into.specs.walrus_meaning.walrus_local_function.walrus_
 use Rattle.walrus_tables_into.specs.walrus_meaning.walrus_local_function.walrus_body_locals.wasm_grammar.wasm_operators.wasm_ref_types.declared.heap.HeapType.TheVariants.{Abstract as WAbstract, Concrete as WConcrete, Exact as WExact}
 use Rattle.walrus_tables_into.specs.walrus_meaning.walrus_local_function.walrus_body_locals.wasm_grammar.wasm_operators.wasm_ref_types.declared.index.UnpackedIndex.TheVariants.{Module, RecGroup, Id}
 use Rattle.wasm_spelled_modules.specs.wasm_module_rules.Keeps.{must_holds, first_none}
-use Rattle.wasm_spelled_modules.specs.wasm_operator_ranges.Ranges.{Of, ItemsFit, OperatorFits}
+use Rattle.wasm_spelled_modules.specs.wasm_operator_bytes.Ranges.{Of, ItemsFit, OperatorFits}
 use Rattle.walrus_tables_into.specs.walrus_sections_into.walrus_forms.declared.value.AbstractHeapType.TheVariants as heaps
 use Rattle.walrus_tables_into.specs.walrus_sections_into.walrus_forms.declared.value.HeapType.{HeapType}
 use Rattle.walrus_tables_into.specs.walrus_sections_into.walrus_forms.declared.value.HeapType.TheVariants.{Abstract, Concrete, Exact}

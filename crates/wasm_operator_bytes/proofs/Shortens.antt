@@ -4,7 +4,7 @@ use Rattle.std.proofs.lemmas.Bool.{lt-ltb, le-ltb}
 use Rattle.std.proofs.lemmas.List.{append-nil}
 use Rattle.std.proofs.Math.Nat.{pow-suc, mul_assoc}
 use Rattle.std.specs.declared.alloc.AllocError.{AllocError}
-use Rattle.wasm_operator_bytes.specs.wasm_reader.Shortest.{shortest_unsigned, shortest_signed}
+use Rattle.wasm_operators.specs.wasm_reader.Shortest.{shortest_unsigned, shortest_signed}
 use Rattle.wasm_operator_bytes.specs.Bytes.{unsigned_bytes, signed_bytes}
 use Rattle.wasm_operator_bytes.specs.Signs.{signed_of}
 use Rattle.wasm_operator_bytes.specs.Appended.{Appends}

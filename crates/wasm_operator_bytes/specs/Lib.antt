@@ -10,6 +10,8 @@ pub mod Appended
 pub mod Names
 pub mod NameLaws
 pub mod Renamed
+pub mod Ranges
+pub mod RangeLaws
 -- Passed on to crates above, which then list this one alone.
 pub use Rattle.wasm_operators.specs.wasm_immediates as wasm_immediates
 pub use Rattle.wasm_operators.specs as wasm_operators

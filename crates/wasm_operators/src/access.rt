@@ -1,10 +1,19 @@
 //! Accesses to memory are read (Core Specification, binary format: memory instructions).
 
+ghost use Rattle.std.specs.Prelude.{◌≡◌};
 ghost use Rattle.wasm_immediates.specs.wasm_reader.Reading.{Reads, plain};
-ghost use Rattle.wasm_immediates.specs.Readings.{access_at, memory_at};
+ghost use Rattle.wasm_immediates.specs.Readings.{access_at, memory_at, has_memory};
 
 use wasm_immediates::MemoryAccess;
 use wasm_immediates::reader::{BinaryReader, Result};
+
+// Whether the flags of an access say that the index of a memory follows. (A function of its own, so that its wrong body breaks one goal.)
+#[inline]
+fn has_memory_index(flags: u32) -> bool
+    ensures { result ≡ has_memory flags }
+{
+    flags / 64 % 2 == 1
+}
 
 /// Where an operator accesses memory: nothing is tested of it. (It stands here, and not beside the struct, so that its wrong body is tried
 /// over one proof with those of the table.)
@@ -14,7 +23,7 @@ pub fn read_access(reader: &mut BinaryReader<'_>) -> Result<MemoryAccess>
     ensures { Reads access_at plain reader.old reader.new result }
 {
     let flags = reader.read_var_u32()?;
-    if flags / 64 % 2 == 1 {
+    if has_memory_index(flags) {
         let memory = reader.read_var_u32()?;
         let offset = reader.read_var_u64()?;
         return Ok(MemoryAccess {

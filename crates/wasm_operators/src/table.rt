@@ -1,7 +1,7 @@
 //! The table of operators: their entries by number.
 
 ghost use Rattle.std.specs.Prelude.{◌≡◌, None, slice_index_or};
-ghost use Rattle.wasm_operators.specs.Table.{find_code};
+ghost use Rattle.wasm_operators.specs.Table.{find, find_byte, find_code, fb_rows, fc_rows, fd_rows, fe_rows};
 
 use crate::entry::{Entry, Flow, Gate, Kind};
 
@@ -210,17 +210,53 @@ fn at(entries: &[Option<Entry>], number: u32) -> Option<Entry>
     }
 }
 
+// Each table by a function of its own, so that a wrong entry breaks the proof of one of them alone.
+#[inline]
+fn of_byte(number: u32) -> Option<Entry>
+    ensures { result ≡ find_byte number }
+{
+    at(&BYTES, number)
+}
+
+#[inline]
+fn of_object(number: u32) -> Option<Entry>
+    ensures { result ≡ find fb_rows number }
+{
+    at(&OBJECTS, number)
+}
+
+#[inline]
+fn of_bulk(number: u32) -> Option<Entry>
+    ensures { result ≡ find fc_rows number }
+{
+    at(&BULK, number)
+}
+
+#[inline]
+fn of_vector(number: u32) -> Option<Entry>
+    ensures { result ≡ find fd_rows number }
+{
+    at(&VECTORS, number)
+}
+
+#[inline]
+fn of_atomic(number: u32) -> Option<Entry>
+    ensures { result ≡ find fe_rows number }
+{
+    at(&ATOMICS, number)
+}
+
 // Of a number behind a prefix, where the prefix 0 stands for a byte alone.
 #[inline]
 pub(crate) fn code_entry(prefix: u8, number: u32) -> Option<Entry>
     ensures { result ≡ find_code prefix number }
 {
     match prefix {
-        0 => at(&BYTES, number),
-        0xfb => at(&OBJECTS, number),
-        0xfc => at(&BULK, number),
-        0xfd => at(&VECTORS, number),
-        0xfe => at(&ATOMICS, number),
+        0 => of_byte(number),
+        0xfb => of_object(number),
+        0xfc => of_bulk(number),
+        0xfd => of_vector(number),
+        0xfe => of_atomic(number),
         _ => None,
     }
 }

@@ -29,9 +29,9 @@ use Rattle.wasm_section_bytes.specs.Flags.{IsNotDeclared}
 use Rattle.wasm_section_bytes.specs.Files.{SectionFits, SectionsFit, sections_short}
 use Rattle.wasm_module_rules.specs.Linked.{Each}
 use Rattle.wasm_module_rules.specs.Keeps.{each_push, must_holds}
-use Rattle.wasm_operator_ranges.specs.wasm_operator_bytes.Vecs.{parts_small}
-use Rattle.wasm_operator_ranges.specs.Ranges.{OperatorFits}
-use Rattle.wasm_operator_ranges.proofs.Operators.{operator_fits}
+use Rattle.wasm_operator_bytes.specs.Vecs.{parts_small}
+use Rattle.wasm_operator_bytes.specs.Ranges.{OperatorFits}
+use Rattle.wasm_operator_bytes.proofs.Operators.{operator_fits}
 use Rattle.wasm_spelled_modules.specs.Spelled.{IsSpelled, InitIsSpelled, OriginIsSpelled, ModeIsSpelled, ItemsAreSpelled, is_external, ReadSectionsAreSpelled}
 use Rattle.wasm_spelled_modules.proofs.Codes.{kind_there}
 

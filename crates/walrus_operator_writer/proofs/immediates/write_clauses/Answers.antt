@@ -1,6 +1,6 @@
 use Rattle.std.proofs.Common.{length}
 use Rattle.std.proofs.lemmas.Result.{err_from_is_err_and}
-use Rattle.wasm_operator_ranges.specs.wasm_operator_bytes.Bytes.{clause_bytes, unsigned_bytes}
+use Rattle.wasm_operator_bytes.specs.Bytes.{clause_bytes, unsigned_bytes}
 use Rattle.walrus_operator_writer.proofs.Keeps.{keeps_on}
 use Rattle.walrus_operator_writer.proofs.Appends.{list_begins, list_goes_on, list_ends}
 use Rattle.walrus_operator_writer.proofs.immediates.write_clauses.Goals as goal

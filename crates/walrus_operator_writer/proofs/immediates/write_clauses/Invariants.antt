@@ -1,6 +1,6 @@
 use Rattle.std.proofs.Common.{◌≡◌, ◌++◌, length, take}
 use Rattle.std.specs.List.{flat_map}
-use Rattle.wasm_operator_ranges.specs.wasm_operator_bytes.Bytes.{clause_bytes, unsigned_bytes}
+use Rattle.wasm_operator_bytes.specs.Bytes.{clause_bytes, unsigned_bytes}
 use Rattle.walrus_operator_writer.proofs.immediates.write_clauses.Given as goal
 
 abbrev pub invariant-loop-clause : goal.invariant-loop-clause

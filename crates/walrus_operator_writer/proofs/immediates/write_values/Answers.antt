@@ -1,7 +1,7 @@
 use Rattle.std.proofs.Common.{◌++◌, ◌∙◌, length, ap}
 use Rattle.std.proofs.lemmas.Result.{err_from_is_err_and}
 use Rattle.wasm_ref_types.specs.declared.value.ValType.{ValType}
-use Rattle.wasm_operator_ranges.specs.wasm_operator_bytes.Bytes.{unsigned_bytes, value_bytes}
+use Rattle.wasm_operator_bytes.specs.Bytes.{unsigned_bytes, value_bytes}
 use Rattle.walrus_operator_writer.proofs.Keeps.{keeps_on}
 use Rattle.walrus_operator_writer.proofs.Appends.{list_begins, list_goes_on, list_ends}
 use Rattle.walrus_operator_writer.proofs.immediates.write_values.Goals as goal

@@ -1,4 +1,4 @@
-use Rattle.wasm_operator_bytes.specs.wasm_reader.Shortest.{shortest_unsigned}
+use Rattle.wasm_operators.specs.wasm_reader.Shortest.{shortest_unsigned}
 use Rattle.wasm_operator_bytes.specs.Bytes.{unsigned_bytes}
 use Rattle.wasm_operator_bytes.proofs.Shortens.{Shortens}
 use Rattle.wasm_operator_bytes.proofs.number.write_unsigned.Given as goal

@@ -1,23 +1,23 @@
 -- Types that stand under the features are spelled, and no others.
 use Rattle.std.proofs.Common.{◌≡◌, ◌⊎◌, inl, inr, ℕ, Bool, true, false, List, [], ◌∷◌, refl, arith}
-use Rattle.wasm_features.specs.declared.WasmFeatures.{WasmFeatures}
-use Rattle.wasm_operator_bytes.specs.wasm_ref_types.declared.heap.AbstractHeapType.{AbstractHeapType}
-use Rattle.wasm_operator_bytes.specs.wasm_ref_types.declared.heap.AbstractHeapType.TheVariants as kinds
-use Rattle.wasm_operator_bytes.specs.wasm_ref_types.declared.heap.HeapType.{HeapType}
-use Rattle.wasm_operator_bytes.specs.wasm_ref_types.declared.heap.HeapType.TheVariants.{Abstract, Concrete, Exact}
-use Rattle.wasm_operator_bytes.specs.wasm_ref_types.declared.value.ValType.{ValType}
-use Rattle.wasm_operator_bytes.specs.wasm_ref_types.declared.value.ValType.TheVariants.{I32, I64, F32, F64, V128, Ref}
-use Rattle.wasm_operator_bytes.specs.wasm_ref_types.declared.index.UnpackedIndex.TheVariants.{Module, RecGroup, Id}
-use Rattle.wasm_operator_bytes.specs.wasm_ref_types.Reference.{Reference, reference}
-use Rattle.wasm_operator_bytes.specs.wasm_ref_types.ReadTypes.{is_basic}
-use Rattle.wasm_operator_bytes.specs.wasm_ref_types.TypeSpellings.{HasGcTypes, IsAbstract, IsWrittenAbstract, SpellsAbstract, SpellsHeap, SpellsReference, SpellsValue}
-use Rattle.wasm_operator_bytes.specs.wasm_immediates.declared.block_type.BlockType.{BlockType}
-use Rattle.wasm_operator_bytes.specs.wasm_immediates.declared.block_type.BlockType.TheVariants as blocks
-use Rattle.wasm_operator_bytes.specs.wasm_immediates.Spellings.{SpellsBlock}
+use Rattle.wasm_operators.specs.wasm_features.declared.WasmFeatures.{WasmFeatures}
+use Rattle.wasm_operators.specs.wasm_ref_types.declared.heap.AbstractHeapType.{AbstractHeapType}
+use Rattle.wasm_operators.specs.wasm_ref_types.declared.heap.AbstractHeapType.TheVariants as kinds
+use Rattle.wasm_operators.specs.wasm_ref_types.declared.heap.HeapType.{HeapType}
+use Rattle.wasm_operators.specs.wasm_ref_types.declared.heap.HeapType.TheVariants.{Abstract, Concrete, Exact}
+use Rattle.wasm_operators.specs.wasm_ref_types.declared.value.ValType.{ValType}
+use Rattle.wasm_operators.specs.wasm_ref_types.declared.value.ValType.TheVariants.{I32, I64, F32, F64, V128, Ref}
+use Rattle.wasm_operators.specs.wasm_ref_types.declared.index.UnpackedIndex.TheVariants.{Module, RecGroup, Id}
+use Rattle.wasm_operators.specs.wasm_ref_types.Reference.{Reference, reference}
+use Rattle.wasm_operators.specs.wasm_ref_types.ReadTypes.{is_basic}
+use Rattle.wasm_operators.specs.wasm_ref_types.TypeSpellings.{HasGcTypes, IsAbstract, IsWrittenAbstract, SpellsAbstract, SpellsHeap, SpellsReference, SpellsValue}
+use Rattle.wasm_operators.specs.wasm_immediates.declared.block_type.BlockType.{BlockType}
+use Rattle.wasm_operators.specs.wasm_immediates.declared.block_type.BlockType.TheVariants as blocks
+use Rattle.wasm_operators.specs.wasm_immediates.Spellings.{SpellsBlock}
 use Rattle.wasm_operator_bytes.specs.Bytes.{abstract_code, heap_bytes, reference_parts, value_bytes, block_bytes}
-use Rattle.wasm_operator_ranges.specs.Ranges.{HeapFits, ReferenceFits, ValueFits, BlockFits}
-use Rattle.wasm_operator_ranges.specs.Laws.{SpelledIfFits}
-use Rattle.wasm_operator_ranges.proofs.Numbers.{index_spelled}
+use Rattle.wasm_operator_bytes.specs.Ranges.{HeapFits, ReferenceFits, ValueFits, BlockFits}
+use Rattle.wasm_operator_bytes.specs.RangeLaws.{SpelledIfFits}
+use Rattle.wasm_operator_bytes.proofs.Numbers.{index_spelled}
 
 module _ (features : WasmFeatures) where
   abbrev Stands : AbstractHeapType → Type 0

@@ -1,28 +1,28 @@
 -- Operators whose immediates are in their ranges are spelled, and no others.
 use Rattle.std.proofs.Common.{◌≡◌, ℕ, List, [], ◌∷◌, Some, refl, ap, sym, ◌∙◌, subst}
 use Rattle.std.specs.List.{flat_map}
-use Rattle.wasm_features.specs.declared.WasmFeatures.{WasmFeatures}
-use Rattle.wasm_operator_bytes.specs.wasm_ref_types.TypeSpellings.{SpellsHeap, SpellsValue}
-use Rattle.wasm_operator_bytes.specs.wasm_reader.Reading.{SpellsLittle, SpellsRun}
-use Rattle.wasm_operator_bytes.specs.wasm_reader.Numbers.{signed, Spells}
-use Rattle.wasm_operator_bytes.specs.wasm_reader.SmallSpellings.{SpellsByte}
-use Rattle.wasm_operator_bytes.specs.wasm_reader.Items.{SpellsVec}
-use Rattle.wasm_operator_bytes.specs.wasm_immediates.Items.{Item, Names, Number, S32, S64, Bits, Byte, Bytes, Heap, Block, Access, ManyLabels, ManyValues, ManyClauses, Form, index, number, s32, s64, bits, run, any_byte, below, zero_byte, heap, block, access, labels, values, clauses}
-use Rattle.wasm_operator_bytes.specs.wasm_immediates.Readings.{most}
-use Rattle.wasm_operator_bytes.specs.wasm_immediates.Spellings.{SpellsU32, SpellsBelow, SpellsBlock, SpellsAccess, SpellsClause, Made, SpellsItem, SpellsForms}
-use Rattle.wasm_operator_bytes.specs.wasm_operators.Kinds.{forms}
-use Rattle.wasm_operator_bytes.specs.wasm_operators.Operators.{Seen}
-use Rattle.wasm_operator_bytes.specs.wasm_operators.Spellings.{SpellsOperator}
-use Rattle.wasm_operator_bytes.specs.wasm_operators.Taken.{either_taken}
+use Rattle.wasm_operators.specs.wasm_features.declared.WasmFeatures.{WasmFeatures}
+use Rattle.wasm_operators.specs.wasm_ref_types.TypeSpellings.{SpellsHeap, SpellsValue}
+use Rattle.wasm_operators.specs.wasm_reader.Reading.{SpellsLittle, SpellsRun}
+use Rattle.wasm_operators.specs.wasm_reader.Numbers.{signed, Spells}
+use Rattle.wasm_operators.specs.wasm_reader.SmallSpellings.{SpellsByte}
+use Rattle.wasm_operators.specs.wasm_reader.Items.{SpellsVec}
+use Rattle.wasm_operators.specs.wasm_immediates.Items.{Item, Names, Number, S32, S64, Bits, Byte, Bytes, Heap, Block, Access, ManyLabels, ManyValues, ManyClauses, Form, index, number, s32, s64, bits, run, any_byte, below, zero_byte, heap, block, access, labels, values, clauses}
+use Rattle.wasm_operators.specs.wasm_immediates.Readings.{most}
+use Rattle.wasm_operators.specs.wasm_immediates.Spellings.{SpellsU32, SpellsBelow, SpellsBlock, SpellsAccess, SpellsClause, Made, SpellsItem, SpellsForms}
+use Rattle.wasm_operators.specs.Kinds.{forms}
+use Rattle.wasm_operators.specs.Operators.{Seen}
+use Rattle.wasm_operators.specs.Spellings.{SpellsOperator}
+use Rattle.wasm_operators.specs.Taken.{either_taken}
 use Rattle.wasm_operator_bytes.specs.Bytes.{unsigned_bytes, signed_bytes, heap_bytes, block_bytes, access_bytes, vec_bytes, value_bytes, clause_bytes, little_bytes, item_bytes, code_bytes, operator_bytes}
 use Rattle.wasm_operator_bytes.specs.Vecs.{Small, parts_small}
 use Rattle.wasm_operator_bytes.specs.Operators.{operator_short}
-use Rattle.wasm_operator_ranges.specs.Ranges.{IsU32, ValueFits, ClauseFits, Of, ItemFits, ItemsFit, OperatorFits}
-use Rattle.wasm_operator_ranges.specs.Laws.{SpelledIfFits, WritesIt}
-use Rattle.wasm_operator_ranges.proofs.Numbers.{u32_fits, s32_fits, s64_fits, little_fits, run_fits, byte_fits, below_fits}
-use Rattle.wasm_operator_ranges.proofs.Types.{heap_fits, value_fits, block_fits}
-use Rattle.wasm_operator_ranges.proofs.Leaves.{access_fits, clause_fits, list_fits}
-use Rattle.wasm_operator_ranges.proofs.Codes.{code_has}
+use Rattle.wasm_operator_bytes.specs.Ranges.{IsU32, ValueFits, ClauseFits, Of, ItemFits, ItemsFit, OperatorFits}
+use Rattle.wasm_operator_bytes.specs.RangeLaws.{SpelledIfFits, WritesIt}
+use Rattle.wasm_operator_bytes.proofs.Numbers.{u32_fits, s32_fits, s64_fits, little_fits, run_fits, byte_fits, below_fits}
+use Rattle.wasm_operator_bytes.proofs.Types.{heap_fits, value_fits, block_fits}
+use Rattle.wasm_operator_bytes.proofs.Leaves.{access_fits, clause_fits, list_fits}
+use Rattle.wasm_operator_bytes.proofs.Codes.{code_has}
 
 -- an item made of a value
 made_fits : {A : Type 0} (make : A → Item) (spells : List ℕ → A → Type 0) (written : A → List ℕ) (Fits : A → Type 0) → ((x : A) → item_bytes (make x) ≡ written x) → SpelledIfFits spells written Fits

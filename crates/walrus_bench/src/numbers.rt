@@ -1,10 +1,31 @@
-//! Numbers of one to five bytes.
+//! Times the reading of numbers of one to five bytes: `walrus_bench numbers BYTES`.
+//!
+//! What was read is printed on standard output, the microseconds that it took on standard error.
 
+use crate::words::number;
 use anyhow::Result;
+use std::time::Instant;
 use wasm_reader::BinaryReader;
 
+/// Does what the words say.
+pub(crate) fn run(rt: &HostRuntime, words: &[String]) -> Result<()> {
+    work(rt, number(words, 2))
+}
+
+/// Times so many bytes of numbers.
+pub(crate) fn work(rt: &HostRuntime, size: usize) -> Result<()> {
+    let mut bytes = Vec::new(rt.alloc());
+    push_numbers(&mut bytes, size.min(1 << 30))?;
+    let start = Instant::now(rt)?;
+    let sum = sum_of(&bytes);
+    let took = start.elapsed(rt)?;
+    println!(rt; "{} bytes, sum {sum}", bytes.len())?;
+    eprintln!(rt; "{}", took.as_micros())?;
+    Ok(())
+}
+
 #[inline(never)]
-pub(crate) fn sum_of(bytes: &[u8]) -> u64 {
+fn sum_of(bytes: &[u8]) -> u64 {
     let mut reader = BinaryReader::new(bytes, 0);
     let mut sum = 0u64;
     for _ in 0..bytes.len() {
@@ -17,7 +38,7 @@ pub(crate) fn sum_of(bytes: &[u8]) -> u64 {
 }
 
 // Numbers of one to five bytes in turn by chance, until there are so many bytes.
-pub(crate) fn push_numbers(bytes: &mut Vec<u8>, size: usize) -> Result<()> {
+fn push_numbers(bytes: &mut Vec<u8>, size: usize) -> Result<()> {
     let mut state = 12345u64;
     for _ in 0..size {
         if bytes.len() >= size {

@@ -1,8 +1,8 @@
 -- What has a spelling.
 use Rattle.std.specs.Prelude.{ℕ, ◌<◌, ◌≤◌, ◌≡◌, List, ◌++◌, length, All, Some, Ok}
-use Rattle.wasm_features.specs.declared.WasmFeatures.{WasmFeatures}
-use Rattle.wasm_operator_bytes.specs.wasm_operators.Operators.{Seen, operator_at}
-use Rattle.wasm_operator_bytes.specs.wasm_operators.Spellings.{SpellsOperator}
+use Rattle.wasm_operators.specs.wasm_features.declared.WasmFeatures.{WasmFeatures}
+use Rattle.wasm_operators.specs.Operators.{Seen, operator_at}
+use Rattle.wasm_operators.specs.Spellings.{SpellsOperator}
 use Rattle.wasm_operator_bytes.specs.Bytes.{operator_bytes}
 
 -- what is written for a value spells it exactly if it fits: no other bytes spell one that doesn't

@@ -3,20 +3,20 @@ use Rattle.std.proofs.Common.{◌≡◌, ◌+◌, ◌/◌, ◌%◌, ◌^◌, ◌
 use Rattle.std.specs.List.{All, flat_map}
 use Rattle.std.proofs.lemmas.Bool.{cases_Bool, eqb-true}
 use Rattle.std.proofs.lemmas.List.Elements.{All-nil, All-cons, All-head, All-tail}
-use Rattle.wasm_operator_bytes.specs.wasm_reader.Items.{SpellsItems, SpellsVec}
-use Rattle.wasm_operator_bytes.specs.wasm_reader.Numbers.{unsigned, Spells}
-use Rattle.wasm_operator_bytes.specs.wasm_reader.Spelled.{IsShortest-unsigned, spelled_unsigned}
-use Rattle.wasm_operator_bytes.specs.wasm_immediates.declared.memory_access.MemoryAccess.{MemoryAccess}
-use Rattle.wasm_operator_bytes.specs.wasm_immediates.declared.clause.Clause.{Clause}
-use Rattle.wasm_operator_bytes.specs.wasm_immediates.declared.clause.Clause.TheVariants as handlers
-use Rattle.wasm_operator_bytes.specs.wasm_immediates.Readings.{has_memory, most}
-use Rattle.wasm_operator_bytes.specs.wasm_immediates.Spellings.{SpellsMemory, SpellsAccess, SpellsClause}
+use Rattle.wasm_operators.specs.wasm_reader.Items.{SpellsItems, SpellsVec}
+use Rattle.wasm_operators.specs.wasm_reader.Numbers.{unsigned, Spells}
+use Rattle.wasm_operators.specs.wasm_reader.Spelled.{IsShortest-unsigned, spelled_unsigned}
+use Rattle.wasm_operators.specs.wasm_immediates.declared.memory_access.MemoryAccess.{MemoryAccess}
+use Rattle.wasm_operators.specs.wasm_immediates.declared.clause.Clause.{Clause}
+use Rattle.wasm_operators.specs.wasm_immediates.declared.clause.Clause.TheVariants as handlers
+use Rattle.wasm_operators.specs.wasm_immediates.Readings.{has_memory, most}
+use Rattle.wasm_operators.specs.wasm_immediates.Spellings.{SpellsMemory, SpellsAccess, SpellsClause}
 use Rattle.wasm_operator_bytes.specs.Bytes.{unsigned_bytes, access_bytes, clause_bytes, vec_bytes}
 use Rattle.wasm_operator_bytes.specs.Vecs.{Small, parts_small}
 use Rattle.wasm_operator_bytes.specs.Leaves.{bare_flags}
-use Rattle.wasm_operator_ranges.specs.Ranges.{IsU32, AccessFits, ClauseFits, ListFits}
-use Rattle.wasm_operator_ranges.specs.Laws.{SpelledIfFits}
-use Rattle.wasm_operator_ranges.proofs.Numbers.{u32_fits}
+use Rattle.wasm_operator_bytes.specs.Ranges.{IsU32, AccessFits, ClauseFits, ListFits}
+use Rattle.wasm_operator_bytes.specs.RangeLaws.{SpelledIfFits}
+use Rattle.wasm_operator_bytes.proofs.Numbers.{u32_fits}
 
 -- ---- accesses to memory
 

@@ -2,24 +2,24 @@
 -- types and instructions).
 use Rattle.std.specs.Prelude.{ℕ, ◌<◌, ◌≤◌, ◌^◌, ◌≡◌, ◌⊎◌, true, false, List, [], ◌∷◌, length, All, Some}
 use Rattle.std.specs.Int.Signed.{mag}
-use Rattle.wasm_features.specs.declared.WasmFeatures.{WasmFeatures}
-use Rattle.wasm_operator_bytes.specs.wasm_ref_types.declared.heap.HeapType.{HeapType}
-use Rattle.wasm_operator_bytes.specs.wasm_ref_types.declared.heap.HeapType.TheVariants.{Abstract, Concrete, Exact}
-use Rattle.wasm_operator_bytes.specs.wasm_ref_types.declared.value.ValType.{ValType}
-use Rattle.wasm_operator_bytes.specs.wasm_ref_types.declared.value.ValType.TheVariants.{Ref}
-use Rattle.wasm_operator_bytes.specs.wasm_ref_types.Reference.{Reference}
-use Rattle.wasm_operator_bytes.specs.wasm_ref_types.ReadTypes.{is_basic}
-use Rattle.wasm_operator_bytes.specs.wasm_ref_types.TypeSpellings.{HasGcTypes, IsAbstract, IsWritten}
-use Rattle.wasm_operator_bytes.specs.wasm_immediates.declared.block_type.BlockType.{BlockType}
-use Rattle.wasm_operator_bytes.specs.wasm_immediates.declared.block_type.BlockType.TheVariants as blocks
-use Rattle.wasm_operator_bytes.specs.wasm_immediates.declared.memory_access.MemoryAccess.{MemoryAccess}
-use Rattle.wasm_operator_bytes.specs.wasm_immediates.declared.clause.Clause.{Clause}
-use Rattle.wasm_operator_bytes.specs.wasm_immediates.declared.clause.Clause.TheVariants as handlers
-use Rattle.wasm_operator_bytes.specs.wasm_immediates.Items.{Item, Names, Number, S32, S64, Bits, Byte, Bytes, Heap, Block, Access, ManyLabels, ManyValues, ManyClauses, Form, index, number, s32, s64, bits, run, any_byte, below, zero_byte, heap, block, access, labels, values, clauses}
-use Rattle.wasm_operator_bytes.specs.wasm_immediates.Readings.{has_memory, most}
-use Rattle.wasm_operator_bytes.specs.wasm_operators.declared.entry.Kind.{Kind}
-use Rattle.wasm_operator_bytes.specs.wasm_operators.Kinds.{forms}
-use Rattle.wasm_operator_bytes.specs.wasm_operators.Operators.{kind_of, Seen}
+use Rattle.wasm_operators.specs.wasm_features.declared.WasmFeatures.{WasmFeatures}
+use Rattle.wasm_operators.specs.wasm_ref_types.declared.heap.HeapType.{HeapType}
+use Rattle.wasm_operators.specs.wasm_ref_types.declared.heap.HeapType.TheVariants.{Abstract, Concrete, Exact}
+use Rattle.wasm_operators.specs.wasm_ref_types.declared.value.ValType.{ValType}
+use Rattle.wasm_operators.specs.wasm_ref_types.declared.value.ValType.TheVariants.{Ref}
+use Rattle.wasm_operators.specs.wasm_ref_types.Reference.{Reference}
+use Rattle.wasm_operators.specs.wasm_ref_types.ReadTypes.{is_basic}
+use Rattle.wasm_operators.specs.wasm_ref_types.TypeSpellings.{HasGcTypes, IsAbstract, IsWritten}
+use Rattle.wasm_operators.specs.wasm_immediates.declared.block_type.BlockType.{BlockType}
+use Rattle.wasm_operators.specs.wasm_immediates.declared.block_type.BlockType.TheVariants as blocks
+use Rattle.wasm_operators.specs.wasm_immediates.declared.memory_access.MemoryAccess.{MemoryAccess}
+use Rattle.wasm_operators.specs.wasm_immediates.declared.clause.Clause.{Clause}
+use Rattle.wasm_operators.specs.wasm_immediates.declared.clause.Clause.TheVariants as handlers
+use Rattle.wasm_operators.specs.wasm_immediates.Items.{Item, Names, Number, S32, S64, Bits, Byte, Bytes, Heap, Block, Access, ManyLabels, ManyValues, ManyClauses, Form, index, number, s32, s64, bits, run, any_byte, below, zero_byte, heap, block, access, labels, values, clauses}
+use Rattle.wasm_operators.specs.wasm_immediates.Readings.{has_memory, most}
+use Rattle.wasm_operators.specs.declared.entry.Kind.{Kind}
+use Rattle.wasm_operators.specs.Kinds.{forms}
+use Rattle.wasm_operators.specs.Operators.{kind_of, Seen}
 
 -- u32
 abbrev pub IsU32 : ℕ → Type 0

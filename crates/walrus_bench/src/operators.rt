@@ -1,23 +1,57 @@
-//! Operators, read one by one and written again.
+//! Times the reading and writing of operators: `walrus_bench operators FILE read` reads those of a file one by one, with `write` for `read`
+//! it writes each again, with `load` it does neither. It prints what it saw.
 
+use crate::words::word;
+use anyhow::Result;
 use std::alloc::{AllocError, Global};
+use std::fs;
 use walrus_operator_writer::write_operator;
 use walrus_operators::{Immediates, OperatorReader};
 use wasm_reader::BinaryReader;
 
 // What was seen of operators: how many there are, a sum over them, and how many bytes were written.
 #[derive(Clone, Copy)]
-pub(crate) struct Seen {
-    pub(crate) operators: u64,
-    pub(crate) sum: u64,
-    pub(crate) written: usize,
+struct Seen {
+    operators: u64,
+    sum: u64,
+    written: usize,
 }
 
-pub(crate) const NOTHING: Seen = Seen {
+const NOTHING: Seen = Seen {
     operators: 0,
     sum: 0,
     written: 0,
 };
+
+/// Does what the words say.
+pub(crate) fn run(rt: &HostRuntime, words: &[String]) -> Result<()> {
+    work(rt, word(words, 2), word(words, 3))
+}
+
+/// Looks at the file's operators in this way.
+pub(crate) fn work(rt: &HostRuntime, file: &str, way: &str) -> Result<()> {
+    let bytes = fs::read(rt, file)?;
+    match way {
+        "read" => tell(rt, read_all(rt.alloc(), &bytes)),
+        "write" => write(rt, &bytes),
+        _ => tell(rt, NOTHING),
+    }
+}
+
+fn write(rt: &HostRuntime, bytes: &[u8]) -> Result<()> {
+    let mut out = Vec::new(rt.alloc());
+    out.reserve(bytes.len())?;
+    let seen = read_and_write(rt.alloc(), bytes, &mut out)?;
+    tell(rt, seen)
+}
+
+fn tell(rt: &HostRuntime, seen: Seen) -> Result<()> {
+    println!(rt;
+        "{} operators, sum {}, {} bytes written",
+        seen.operators, seen.sum, seen.written
+    )?;
+    Ok(())
+}
 
 // A number of an operator's immediates.
 #[inline]
@@ -38,7 +72,7 @@ fn number_of(immediates: &Immediates) -> u64 {
 }
 
 #[inline(never)]
-pub(crate) fn read_all(alloc: Global, bytes: &[u8]) -> Seen {
+fn read_all(alloc: Global, bytes: &[u8]) -> Seen {
     let mut reader = OperatorReader::new(BinaryReader::new(bytes, 0));
     let mut seen = NOTHING;
     for _ in 0..bytes.len() {
@@ -55,11 +89,7 @@ pub(crate) fn read_all(alloc: Global, bytes: &[u8]) -> Seen {
 }
 
 #[inline(never)]
-pub(crate) fn read_and_write(
-    alloc: Global,
-    bytes: &[u8],
-    out: &mut Vec<u8>,
-) -> Result<Seen, AllocError> {
+fn read_and_write(alloc: Global, bytes: &[u8], out: &mut Vec<u8>) -> Result<Seen, AllocError> {
     let mut reader = OperatorReader::new(BinaryReader::new(bytes, 0));
     let mut operators = 0u64;
     for _ in 0..bytes.len() {

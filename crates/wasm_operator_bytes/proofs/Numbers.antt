@@ -4,14 +4,14 @@ use Rattle.std.specs.List.{All}
 use Rattle.std.proofs.lemmas.List.Elements.{All-head, All-tail}
 use Rattle.std.proofs.Math.Nat.{pow-suc}
 use Rattle.std.specs.Int.Signed.{mag}
-use Rattle.wasm_operator_bytes.specs.wasm_reader.Numbers.{signed, Spells}
-use Rattle.wasm_operator_bytes.specs.wasm_reader.Reading.{little, SpellsLittle, SpellsRun}
-use Rattle.wasm_operator_bytes.specs.wasm_reader.SmallSpellings.{SpellsByte}
-use Rattle.wasm_operator_bytes.specs.wasm_reader.Spelled.{IsShortest-unsigned, IsShortest-signed, spelled_unsigned, spelled_signed}
-use Rattle.wasm_operator_bytes.specs.wasm_immediates.Spellings.{SpellsU32, SpellsBelow}
+use Rattle.wasm_operators.specs.wasm_reader.Numbers.{signed, Spells}
+use Rattle.wasm_operators.specs.wasm_reader.Reading.{little, SpellsLittle, SpellsRun}
+use Rattle.wasm_operators.specs.wasm_reader.SmallSpellings.{SpellsByte}
+use Rattle.wasm_operators.specs.wasm_reader.Spelled.{IsShortest-unsigned, IsShortest-signed, spelled_unsigned, spelled_signed}
+use Rattle.wasm_operators.specs.wasm_immediates.Spellings.{SpellsU32, SpellsBelow}
 use Rattle.wasm_operator_bytes.specs.Bytes.{unsigned_bytes, signed_bytes, little_bytes}
-use Rattle.wasm_operator_ranges.specs.Ranges.{IsU32}
-use Rattle.wasm_operator_ranges.specs.Laws.{SpelledIfFits}
+use Rattle.wasm_operator_bytes.specs.Ranges.{IsU32}
+use Rattle.wasm_operator_bytes.specs.RangeLaws.{SpelledIfFits}
 
 pub u32_fits : SpelledIfFits SpellsU32 unsigned_bytes IsU32
 u32_fits = record {

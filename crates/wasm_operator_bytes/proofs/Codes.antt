@@ -1,16 +1,16 @@
 -- A code that the table has is spelled: a byte below fb, or a prefix and a number.
 use Rattle.std.proofs.Common.{◌≡◌, ◌%◌, ◌^◌, ◌<◌, ◌≤◌, ◌==◌, ◌&&◌, ◌⊎◌, inl, inr, nat_le, ℕ, Bool, true, false, List, [], ◌∷◌, Option, Some, None, refl, arith}
 use Rattle.std.proofs.lemmas.Bool.{cases_Bool, cases_lt, eqb-true, leb-true, le-ltb, lt-leb}
-use Rattle.wasm_features.specs.declared.WasmFeatures.{WasmFeatures}
-use Rattle.wasm_operator_bytes.specs.wasm_operators.declared.entry.Entry.{Entry}
-use Rattle.wasm_operator_bytes.specs.wasm_operators.declared.entry.Kind.{Kind}
-use Rattle.wasm_operator_bytes.specs.wasm_operators.declared.op_code.OpCode.{OpCode}
-use Rattle.wasm_operator_bytes.specs.wasm_operators.Table.{Row, find, find_byte, find_code, structure_rows, call_rows, plain_rows, fb_rows, fc_rows, fd_rows, fe_rows}
-use Rattle.wasm_operator_bytes.specs.wasm_operators.Operators.{is_prefix, allowed, kind_of}
-use Rattle.wasm_operator_bytes.specs.wasm_operators.Spellings.{SpellsCode}
+use Rattle.wasm_operators.specs.wasm_features.declared.WasmFeatures.{WasmFeatures}
+use Rattle.wasm_operators.specs.declared.entry.Entry.{Entry}
+use Rattle.wasm_operators.specs.declared.entry.Kind.{Kind}
+use Rattle.wasm_operators.specs.declared.op_code.OpCode.{OpCode}
+use Rattle.wasm_operators.specs.Table.{Row, find, find_byte, find_code, structure_rows, call_rows, plain_rows, fb_rows, fc_rows, fd_rows, fe_rows}
+use Rattle.wasm_operators.specs.Operators.{is_prefix, allowed, kind_of}
+use Rattle.wasm_operators.specs.Spellings.{SpellsCode}
 use Rattle.wasm_operator_bytes.specs.Bytes.{unsigned_bytes, code_bytes}
 use Rattle.wasm_operator_bytes.specs.Operators.{prefix_not_zero}
-use Rattle.wasm_operator_ranges.proofs.Numbers.{u32_fits}
+use Rattle.wasm_operator_bytes.proofs.Numbers.{u32_fits}
 
 -- no row goes past the bound
 abbrev end_by : ℕ → List Row → Bool
