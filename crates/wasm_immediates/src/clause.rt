@@ -1,7 +1,7 @@
 //! The handlers of `try_table` (Core Specification, binary format: control instructions).
 
-ghost use Rattle.wasm_composite_types.specs.wasm_reader.Reading.{Reads, plain};
-ghost use Rattle.wasm_immediates.specs.Readings.{clause_at};
+ghost use Rattle.std.specs.Prelude.{◌≡◌, if◌then◌else◌};
+ghost use Rattle.wasm_immediates.specs.declared.clause.Clause.TheVariants.{Catch, CatchRef, CatchAll, CatchAllRef};
 
 use std::alloc::Global;
 use wasm_composite_types::reader::{BinaryReader, Error, ErrorKind, FromReader, Result};
@@ -35,6 +35,28 @@ pub enum Clause {
     },
 }
 
+// A handler of a tag, whose label takes the exception, or doesn't.
+fn of_tag(takes_exception: bool, tag: u32, label: u32) -> Clause
+    ensures { result ≡ (if takes_exception then CatchRef tag label else Catch tag label) }
+{
+    if takes_exception {
+        Clause::CatchRef { tag, label }
+    } else {
+        Clause::Catch { tag, label }
+    }
+}
+
+// A handler of all, whose label takes the exception, or doesn't.
+fn of_all(takes_exception: bool, label: u32) -> Clause
+    ensures { result ≡ (if takes_exception then CatchAllRef label else CatchAll label) }
+{
+    if takes_exception {
+        Clause::CatchAllRef { label }
+    } else {
+        Clause::CatchAll { label }
+    }
+}
+
 impl<'a> FromReader<'a> for Clause {
     ghost use Rattle.std.specs.Prelude.{false};
     ghost use Rattle.wasm_immediates.specs.declared.clause.Clause.{Clause};
@@ -52,23 +74,17 @@ impl<'a> FromReader<'a> for Clause {
     #[tactic(auto, unfolding(crate::specs::Readings::clause_at))]
     fn from_reader(_alloc: Global, reader: &mut BinaryReader<'a>) -> Result<Self> {
         let offset = reader.original_position();
-        match reader.read_u8()? {
-            0 => {
+        let byte = reader.read_u8()?;
+        match byte {
+            0 | 1 => {
                 let tag = reader.read_var_u32()?;
                 let label = reader.read_var_u32()?;
-                Ok(Clause::Catch { tag, label })
+                Ok(of_tag(byte == 1, tag, label))
             }
-            1 => {
-                let tag = reader.read_var_u32()?;
+            2 | 3 => {
                 let label = reader.read_var_u32()?;
-                Ok(Clause::CatchRef { tag, label })
+                Ok(of_all(byte == 3, label))
             }
-            2 => Ok(Clause::CatchAll {
-                label: reader.read_var_u32()?,
-            }),
-            3 => Ok(Clause::CatchAllRef {
-                label: reader.read_var_u32()?,
-            }),
             _ => Err(Error::new(ErrorKind::BadByte, offset)),
         }
     }
