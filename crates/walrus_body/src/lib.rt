@@ -39,7 +39,7 @@ pub mod laws {
 
         /// Operators, and the instructions that they are paired with.
         pub mod instructions {
-            pub use walrus_operator_laws::laws::{
+            pub use walrus_pairing::laws::{
                 operators_are_told, operators_come_back, plain_operators_are_answered,
                 plain_operators_are_read, turns_number_without_gaps,
             };
@@ -47,8 +47,9 @@ pub mod laws {
 
         /// Instructions, and the operators that they are paired with.
         pub mod pairing {
-            pub use walrus_operator_laws::laws::{
-                forms_are_told, instructions_come_back, names_are_told, operators_are_sent,
+            pub use walrus_emission_laws::body_trees::meaning::names_are_told;
+            pub use walrus_pairing::laws::{
+                forms_are_told, instructions_come_back, operators_are_sent,
             };
         }
     }

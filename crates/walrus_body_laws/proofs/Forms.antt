@@ -16,7 +16,7 @@ use Rattle.walrus_pairing.specs.Looks.{Look, Or, ◌>>=◌}
 use Rattle.walrus_pairing.specs.Types.{written_heap}
 use Rattle.walrus_pairing.specs.Write.{seen_of, op, operator_at}
 use Rattle.walrus_pairing.specs.Read.{instr_at}
-use Rattle.walrus_operator_laws.specs.InstrLaws.{IsPlain, InstrComesBack}
+use Rattle.walrus_pairing.specs.InstrLaws.{IsPlain, InstrComesBack}
 use Rattle.walrus_body_names.specs.walrus_body_writer.Spelled.{block, cast, clauses, flags, type_in, written_instr}
 use Rattle.walrus_body_laws.specs.Forms.{control_code, ControlIsTold}
 

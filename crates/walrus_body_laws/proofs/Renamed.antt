@@ -27,10 +27,10 @@ use Rattle.walrus_operator_codes.specs.Runs.{byte, object}
 use Rattle.walrus_pairing.specs.Looks.{Look, Or, ◌>>=◌}
 use Rattle.walrus_pairing.specs.Types.{written_heap, written_value}
 use Rattle.walrus_pairing.specs.Write.{op, seen_of}
-use Rattle.walrus_operator_laws.specs.Back.{ok_is, some_is}
-use Rattle.walrus_operator_laws.specs.Sends.{OperatorsAreSent, Sends}
-use Rattle.walrus_operator_laws.specs.Sent.{found_as, heap_as, value_as}
-use Rattle.walrus_operator_laws.specs.Told.{all}
+use Rattle.walrus_pairing.specs.Back.{ok_is, some_is}
+use Rattle.walrus_pairing.specs.Sends.{OperatorsAreSent, Sends}
+use Rattle.walrus_pairing.specs.Sent.{found_as, heap_as, value_as}
+use Rattle.walrus_pairing.specs.Laws.{all}
 use Rattle.walrus_body_names.specs.walrus_body_writer.Spelled.{AreWritten, IsWritten, Text, block, branch, cast, clause, clauses, flags, label, opening, type_in, written, written_instr}
 use Rattle.walrus_body_laws.specs.Laws.{place_in, placed_of, text_ops}
 use Rattle.walrus_body_laws.specs.Renaming.{KeepsLabels, TextsAreRenamed, renamed_placed}

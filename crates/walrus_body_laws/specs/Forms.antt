@@ -7,7 +7,7 @@ use Rattle.wasm_operators.specs.declared.op_code.OpCode.{OpCode}
 use Rattle.wasm_operators.specs.Operators.{Seen}
 use Rattle.walrus_operator_codes.specs.Runs.{byte, object}
 use Rattle.walrus_pairing.specs.Looks.{Look}
-use Rattle.walrus_operator_laws.specs.InstrLaws.{IsPlain, Undoes}
+use Rattle.walrus_pairing.specs.InstrLaws.{IsPlain, Undoes}
 use Rattle.walrus_body_names.specs.walrus_body_writer.Spelled.{written_instr}
 
 -- the code of an instruction that holds a label or the type of a block, which is another one for each form; none of all others

@@ -5,8 +5,8 @@ use Rattle.wasm_immediates.specs.Items.{Labels}
 use Rattle.wasm_operator_bytes.specs.Names.{Renaming, renamed_operator}
 use Rattle.wasm_normal_form.specs.Roles.{Placed, placed}
 use Rattle.walrus_pairing.specs.Looks.{Look}
-use Rattle.walrus_operator_laws.specs.Sends.{Sends}
-use Rattle.walrus_operator_laws.specs.Told.{all}
+use Rattle.walrus_pairing.specs.Sends.{Sends}
+use Rattle.walrus_pairing.specs.Laws.{all}
 use Rattle.walrus_body_names.specs.walrus_body_writer.Spelled.{Text, AreWritten}
 use Rattle.walrus_body_laws.specs.Laws.{text_ops}
 

@@ -33,7 +33,7 @@ pub fn trees_nest()
 pub fn texts_are_renamed()
     ensures { TextsAreRenamed }
 {
-    walrus_operator_laws::laws::operators_are_sent();
+    walrus_pairing::laws::operators_are_sent();
 }
 
 /// Instructions that have one operator, under maps that undo each other, are one and the same where they hold neither a label nor the type
@@ -41,5 +41,5 @@ pub fn texts_are_renamed()
 pub fn control_forms_are_told()
     ensures { ControlIsTold }
 {
-    walrus_operator_laws::laws::instructions_come_back();
+    walrus_pairing::laws::instructions_come_back();
 }

@@ -26,14 +26,14 @@ use Rattle.walrus_operators.specs.declared.immediates.Immediates.TheVariants as 
 use Rattle.walrus_operators.specs.declared.operator.Operator.{Operator}
 use Rattle.walrus_operators.specs.Immediates.{items_of, kind_is}
 use Rattle.walrus_operators.specs.Operators.{seen}
-use Rattle.walrus_operator_laws.specs.Plain.{holds_labels, is_no_step}
-use Rattle.walrus_operator_laws.proofs.Answered.{plain_is_answered}
+use Rattle.walrus_pairing.specs.Plain.{holds_labels, is_no_step}
+use Rattle.walrus_pairing.proofs.Answered.{plain_is_answered}
 use Rattle.walrus_body_steps.specs.walrus_operator_codes.Access.{simd_at}
-use Rattle.walrus_operator_laws.specs.walrus_pairing.declared.error.PairError.{PairError}
-use Rattle.walrus_operator_laws.specs.walrus_pairing.declared.error.PairError.TheVariants as pairs
-use Rattle.walrus_operator_laws.specs.walrus_pairing.Looks.{Look, Or, ◌>>=◌, found}
-use Rattle.walrus_operator_laws.specs.walrus_pairing.Types.{read_heap}
-use Rattle.walrus_operator_laws.specs.walrus_pairing.Read.{name_at, names_at, counted_at, heap_at, arg_of, simd_access, access_at, of_items, instr_at}
+use Rattle.walrus_pairing.specs.declared.error.PairError.{PairError}
+use Rattle.walrus_pairing.specs.declared.error.PairError.TheVariants as pairs
+use Rattle.walrus_pairing.specs.Looks.{Look, Or, ◌>>=◌, found}
+use Rattle.walrus_pairing.specs.Types.{read_heap}
+use Rattle.walrus_pairing.specs.Read.{name_at, names_at, counted_at, heap_at, arg_of, simd_access, access_at, of_items, instr_at}
 use Rattle.walrus_body_steps.specs.walrus_body_env.declared.error.BodyError.{BodyError}
 use Rattle.walrus_body_steps.specs.walrus_body_nesting.Faults.{Fails}
 use Rattle.walrus_body_steps.specs.walrus_body_rules.Sights.{Sight, look, room}

@@ -15,7 +15,7 @@ use Rattle.walrus_body_steps.specs.wasm_normal_form.Roles.{Runs, role_in}
 use Rattle.walrus_forms.specs.declared.value.RefType.{RefType}
 use Rattle.walrus_operators.specs.declared.operator.Operator.{Operator}
 use Rattle.walrus_operators.specs.Immediates.{kind_is}
-use Rattle.walrus_operator_laws.proofs.Rows.{TablePasses, table_holds}
+use Rattle.walrus_pairing.proofs.Rows.{TablePasses, table_holds}
 use Rattle.walrus_body_steps.specs.Meanings.{cast_at}
 use Rattle.walrus_body_operands.specs.Asked.{labelled_at}
 use Rattle.walrus_body_operands.specs.Listed.{IsListed, RunsListed, opened_by, begins_block, is_bare, names_tag, names_label}

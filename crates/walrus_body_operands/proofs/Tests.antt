@@ -17,7 +17,7 @@ use Rattle.wasm_immediates.specs.declared.clause.Clause.TheVariants as clauses
 use Rattle.wasm_immediates.specs.Items.{Space, Types, Labels, Names, Byte, Heap, Block, ManyLabels, ManyValues, ManyClauses}
 use Rattle.wasm_operators.specs.declared.op_code.OpCode.{OpCode}
 use Rattle.wasm_operators.specs.Operators.{Seen}
-use Rattle.walrus_operator_laws.specs.wasm_operator_bytes.Names.{Name, index_names, heap_names, value_names, block_names, clause_names, label_name, operator_names}
+use Rattle.walrus_pairing.specs.wasm_operator_bytes.Names.{Name, index_names, heap_names, value_names, block_names, clause_names, label_name, operator_names}
 use Rattle.wasm_formats.specs.declared.fault.Space.TheVariants as spaces
 use Rattle.wasm_formats.specs.declared.fault.Form.TheVariants as unsupported
 use Rattle.wasm_formats.specs.Stops.{Trouble, Index, Position, Unsupported}

@@ -12,7 +12,7 @@ use Rattle.wasm_ref_types.specs.declared.index.UnpackedIndex.TheVariants.{Module
 use Rattle.wasm_ref_types.specs.declared.value.ValType.{ValType}
 use Rattle.wasm_ref_types.specs.declared.value.ValType.TheVariants.{I32, I64, F32, F64, V128, Ref}
 use Rattle.wasm_immediates.specs.Items.{Types}
-use Rattle.walrus_operator_laws.specs.wasm_operator_bytes.Names.{heap_names}
+use Rattle.walrus_pairing.specs.wasm_operator_bytes.Names.{heap_names}
 use Rattle.wasm_formats.specs.declared.fault.Form.TheVariants as unsupported
 use Rattle.wasm_formats.specs.Stops.{Trouble, Unsupported}
 use Rattle.walrus_body_steps.specs.wasm_grammar.TypeWords.{heap_of}
@@ -21,9 +21,9 @@ use Rattle.walrus_forms.specs.declared.value.HeapType.{HeapType as OwnHeap}
 use Rattle.walrus_forms.specs.declared.value.RefType.{RefType}
 use Rattle.walrus_forms.specs.declared.value.ValType.{ValType as OwnValue}
 use Rattle.walrus_forms.specs.declared.value.ValType.TheVariants.{Ref as OwnRef}
-use Rattle.walrus_operator_laws.specs.walrus_pairing.declared.error.PairError.{PairError}
-use Rattle.walrus_operator_laws.specs.walrus_pairing.Looks.{Or, ◌>>=◌}
-use Rattle.walrus_operator_laws.specs.walrus_pairing.Types.{read_heap, read_value}
+use Rattle.walrus_pairing.specs.declared.error.PairError.{PairError}
+use Rattle.walrus_pairing.specs.Looks.{Or, ◌>>=◌}
+use Rattle.walrus_pairing.specs.Types.{read_heap, read_value}
 use Rattle.walrus_body_steps.specs.walrus_body_env.declared.error.BodyError.{BodyError}
 use Rattle.walrus_body_steps.specs.walrus_body_nesting.Faults.{Fails}
 use Rattle.walrus_body_steps.specs.walrus_body_rules.Sights.{Sight, look}

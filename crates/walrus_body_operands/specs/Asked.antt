@@ -12,7 +12,7 @@ use Rattle.wasm_immediates.specs.declared.block_type.BlockType.{BlockType}
 use Rattle.wasm_immediates.specs.declared.clause.Clause.{Clause}
 use Rattle.wasm_immediates.specs.Items.{Space, Heap, Block}
 use Rattle.wasm_operators.specs.declared.op_code.OpCode.{OpCode}
-use Rattle.walrus_operator_laws.specs.wasm_operator_bytes.Names.{Name, heap_names, value_names, block_names, clause_names}
+use Rattle.walrus_pairing.specs.wasm_operator_bytes.Names.{Name, heap_names, value_names, block_names, clause_names}
 use Rattle.wasm_formats.specs.declared.fault.Space.{Space as Kind}
 use Rattle.wasm_formats.specs.declared.fault.Space.TheVariants as spaces
 use Rattle.wasm_formats.specs.declared.fault.Form.TheVariants as unsupported
@@ -25,9 +25,9 @@ use Rattle.walrus_instr.specs.declared.instr.Instr.{Instr}
 use Rattle.walrus_instr.specs.declared.instr.Instr.TheVariants as instrs
 use Rattle.walrus_index_maps.specs.declared.space.Space.{Space as Mapped}
 use Rattle.walrus_index_maps.specs.declared.space.Space.TheVariants as mapped
-use Rattle.walrus_operator_laws.specs.walrus_pairing.declared.error.PairError.{PairError}
-use Rattle.walrus_operator_laws.specs.walrus_pairing.declared.error.PairError.TheVariants as pairs
-use Rattle.walrus_operator_laws.specs.walrus_pairing.Looks.{Or}
+use Rattle.walrus_pairing.specs.declared.error.PairError.{PairError}
+use Rattle.walrus_pairing.specs.declared.error.PairError.TheVariants as pairs
+use Rattle.walrus_pairing.specs.Looks.{Or}
 use Rattle.walrus_body_steps.specs.walrus_body_env.declared.error.BodyError.{BodyError}
 use Rattle.walrus_body_steps.specs.walrus_body_env.declared.error.BodyError.TheVariants as faults
 use Rattle.walrus_body_steps.specs.walrus_body_nesting.Faults.{Fails}

@@ -10,7 +10,7 @@ use Rattle.walrus_body_steps.specs.wasm_body_grammar.Rules.{turned_test}
 use Rattle.walrus_operators.specs.declared.operator.Operator.{Operator}
 use Rattle.walrus_operators.specs.Immediates.{kind_is}
 use Rattle.walrus_operators.specs.Operators.{seen}
-use Rattle.walrus_operator_laws.proofs.Kept.{entry_of}
+use Rattle.walrus_pairing.proofs.Kept.{entry_of}
 use Rattle.walrus_body_steps.specs.walrus_body_rules.Sights.{Sight}
 use Rattle.walrus_body_steps.specs.walrus_body_rules.Rules.{items_test, operator_test}
 use Rattle.walrus_body_operands.specs.Listed.{IsListed, known_labels}

@@ -2,8 +2,8 @@
 
 ghost use Rattle.std.specs.Prelude.{◌≡◌, Ok, Some};
 ghost use Rattle.wasm_immediates.specs.Items.{Types};
-ghost use Rattle.walrus_operator_laws.specs.wasm_operator_bytes.Names.{block_names, heap_names, index_names, value_names};
-ghost use Rattle.walrus_operator_laws.specs.walrus_pairing.Types as pairing;
+ghost use Rattle.walrus_pairing.specs.wasm_operator_bytes.Names.{block_names, heap_names, index_names, value_names};
+ghost use Rattle.walrus_pairing.specs.Types as pairing;
 ghost use Rattle.walrus_body_steps.specs.walrus_body_rules.Sights.{function_block, look, written_block};
 ghost use Rattle.walrus_body_operands.specs.Asked.{IsTested, Meets, heap_test, index_test, is_filed, is_filed_value, named, of_module, tests_of, value_named, value_test, written_test};
 
@@ -13,7 +13,7 @@ use walrus_arena::TypeId;
 use walrus_body_steps::body_env::BodyError;
 use walrus_forms::{HeapType, ValType};
 use walrus_instr::InstrSeqType;
-use walrus_operator_laws::pairing::{read_heap, read_value};
+use walrus_pairing::{read_heap, read_value};
 use wasm_formats::{Form, Space};
 use wasm_immediates::BlockType;
 use wasm_ref_types as written;

@@ -9,7 +9,7 @@ use Rattle.walrus_body_operands.specs.walrus_body_rules.wasm_body_grammar.wasm_o
 use Rattle.walrus_body_operands.specs.walrus_body_rules.wasm_body_grammar.wasm_operators.declared.entry.Flow.{Flow}
 use Rattle.walrus_body_operands.specs.walrus_body_rules.wasm_body_grammar.wasm_operators.declared.entry.Flow.TheVariants as flows
 use Rattle.walrus_operators.specs.Operators.{IsNext, IsNextOf}
-use Rattle.walrus_operator_laws.proofs.Rows.{TablePasses, table_holds}
+use Rattle.walrus_pairing.proofs.Rows.{TablePasses, table_holds}
 use Rattle.walrus_body_operands.specs.Listed.{keeps_on}
 
 -- what is asked of one of a known kind

@@ -19,7 +19,7 @@ use Rattle.walrus_tree.specs.Text.{operators}
 use Rattle.walrus_tree.specs.TextLaws.{TreesAreNested, TextIsPlain}
 use Rattle.walrus_meaning.specs.Bodies.{own_piece}
 use Rattle.walrus_meaning.specs.walrus_body_writer.walrus_pairing.wasm_immediates.declared.block_type.BlockType.{BlockType}
-use Rattle.walrus_operator_laws.specs.Laws.{OperatorComesBack}
+use Rattle.walrus_pairing.specs.Laws.{OperatorComesBack}
 use Rattle.walrus_meaning.specs.walrus_local_function.walrus_body_locals.walrus_body_nesting.Opens.{same}
 use Rattle.walrus_body_trees.specs.Laws.{BodiesAreTrees, BodiesMeanTheirs, BodiesHoldTheirs, IsBody, meant, ops_of, renamed}
 use Rattle.walrus_body_trees.proofs.Counted.{AllFit, Counts, CountsAll, counts, first_counts, normal_counts}

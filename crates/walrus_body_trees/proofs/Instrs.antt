@@ -19,7 +19,7 @@ use Rattle.walrus_tree.specs.Trees.{Has, HasAll, Delegates, IsWithin, clause_lab
 use Rattle.walrus_meaning.specs.walrus_body_writer.walrus_pairing.walrus_operator_codes.Runs.{Run, in_runs}
 use Rattle.walrus_meaning.specs.walrus_body_writer.walrus_pairing.Read.{at, of_bytes, of_objects, instr_at}
 use Rattle.walrus_meaning.specs.walrus_body_writer.walrus_pairing.Write.{operator_at}
-use Rattle.walrus_operator_laws.specs.Laws.{OperatorComesBack, all}
+use Rattle.walrus_pairing.specs.Laws.{OperatorComesBack, all}
 use Rattle.walrus_meaning.specs.walrus_local_function.walrus_body_locals.walrus_body_nesting.declared.frames.Opener.{Opener}
 use Rattle.walrus_meaning.specs.walrus_local_function.walrus_body_locals.walrus_body_nesting.declared.frames.Opener.TheVariants as openers
 use Rattle.walrus_meaning.specs.walrus_local_function.walrus_body_locals.walrus_body_nesting.Stands.{Part, Finish, Ended, Delegated, Block, parts_of, finish_of, EndsOnce}

@@ -7,4 +7,4 @@ mod Texts
 mod Sizes
 mod Bodies
 -- Passed on to crates above, which then list this one alone.
-pub use Rattle.walrus_operator_laws.proofs as walrus_operator_laws
+pub use Rattle.walrus_pairing.proofs as walrus_pairing

@@ -13,8 +13,8 @@ use Rattle.walrus_meaning.specs.walrus_local_function.walrus_body_parser.wasm_op
 use Rattle.walrus_meaning.specs.walrus_local_function.walrus_body_parser.wasm_operators.Operators.{Seen, flow_in, flow_of}
 use Rattle.wasm_operator_bytes.specs.Ranges.{ItemsFit, OperatorFits}
 use Rattle.walrus_meaning.specs.walrus_body_writer.walrus_pairing.walrus_operator_codes.Runs.{byte}
-use Rattle.walrus_operator_laws.proofs.Rows.{TablePasses, table_holds}
-use Rattle.walrus_operator_laws.proofs.Kept.{entry_of}
+use Rattle.walrus_pairing.proofs.Rows.{TablePasses, table_holds}
+use Rattle.walrus_pairing.proofs.Kept.{entry_of}
 
 abbrev has_code : ℕ → ℕ → ℕ → Bool
 has_code k prefix n = prefix == 0 && n == k

@@ -11,7 +11,7 @@ use Rattle.walrus_meaning.specs.walrus_body_writer.walrus_tree.walrus_walks.Tree
 use Rattle.walrus_tree.specs.Text.{End, operators}
 use Rattle.walrus_tree.specs.TextLaws.{TextIsPlain}
 use Rattle.walrus_meaning.specs.walrus_body_writer.walrus_body_text.Visiting.{weight, text_size}
-use Rattle.walrus_operator_laws.specs.Laws.{OperatorComesBack}
+use Rattle.walrus_pairing.specs.Laws.{OperatorComesBack}
 use Rattle.walrus_meaning.specs.walrus_local_function.walrus_body_locals.walrus_body_nesting.Stands.{Turn, Otherwise, Handles, HandlesAll, Part, Finish, Ended, Delegated, with, none, lies, tree_size, StandsAs}
 use Rattle.walrus_meaning.specs.walrus_local_function.walrus_body_parser.walrus_body_rules.Sights.{Sight}
 use Rattle.walrus_meaning.specs.walrus_local_function.walrus_body_parser.walrus_body_steps.Meanings.{meaning}

@@ -12,7 +12,7 @@ use Rattle.walrus_meaning.specs.walrus_body_writer.walrus_body_env.walrus_instr.
 use Rattle.walrus_meaning.specs.walrus_module.walrus_builder.Built.{Seq, seq_of}
 use Rattle.walrus_meaning.specs.walrus_body_writer.walrus_tree.walrus_walks.Tree.{children_in}
 use Rattle.walrus_tree.specs.Trees.{Has, AreDistinct, AreWithin, Trees, Nothing, Tree, ids, Stand, IsTree}
-use Rattle.walrus_operator_laws.specs.Laws.{OperatorComesBack}
+use Rattle.walrus_pairing.specs.Laws.{OperatorComesBack}
 use Rattle.walrus_meaning.specs.walrus_local_function.walrus_body_locals.walrus_body_nesting.Stands.{Part, Finish, Ended, Delegated, with, none, lies, StandsAs}
 use Rattle.walrus_meaning.specs.walrus_local_function.walrus_body_parser.walrus_body_rules.Sights.{Sight}
 use Rattle.walrus_meaning.specs.walrus_local_function.walrus_body_parser.walrus_body_steps.Meanings.{EndsAs, meaning}

@@ -31,7 +31,7 @@ use Rattle.walrus_tree.specs.Text.{Piece, Operator, Else, Catch, CatchAll, Deleg
 use Rattle.walrus_tree.specs.TextLaws.{TextIsPlain}
 use Rattle.walrus_meaning.specs.walrus_body_writer.walrus_pairing.walrus_operator_codes.Runs.{byte}
 use Rattle.walrus_meaning.specs.walrus_body_writer.walrus_pairing.Write.{seen_of}
-use Rattle.walrus_operator_laws.specs.Laws.{OperatorComesBack}
+use Rattle.walrus_pairing.specs.Laws.{OperatorComesBack}
 use Rattle.walrus_meaning.specs.Bodies.{own_seen}
 use Rattle.walrus_meaning.specs.walrus_local_function.walrus_body_locals.walrus_body_nesting.declared.frames.Opener.{Opener}
 use Rattle.walrus_meaning.specs.walrus_local_function.walrus_body_locals.walrus_body_nesting.declared.frames.Opener.TheVariants as openers

@@ -26,8 +26,8 @@ use Rattle.walrus_meaning.specs.walrus_body_writer.walrus_pairing.Looks.{Or}
 use Rattle.walrus_meaning.specs.walrus_body_writer.walrus_pairing.Types.{written_heap, read_heap}
 use Rattle.walrus_meaning.specs.walrus_body_writer.walrus_pairing.Read.{at, of_bytes, of_objects, instr_at}
 use Rattle.walrus_meaning.specs.walrus_body_writer.walrus_pairing.Write.{operator_at, seen_of}
-use Rattle.walrus_operator_laws.specs.Laws.{OperatorComesBack, Renames, all}
-use Rattle.walrus_operator_laws.proofs.Types.{heap_again}
+use Rattle.walrus_pairing.specs.Laws.{OperatorComesBack, Renames, all}
+use Rattle.walrus_pairing.proofs.TypesAgain.{heap_again}
 use Rattle.walrus_meaning.specs.Words.{own_heap, own_block, plain_or_nop}
 use Rattle.walrus_meaning.specs.Bodies.{depth_of, block_of, null_flags, own_clause, own_instr}
 use Rattle.walrus_meaning.specs.walrus_local_function.walrus_body_locals.walrus_body_nesting.declared.frames.Opener.{Opener}

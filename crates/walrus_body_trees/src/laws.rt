@@ -5,7 +5,7 @@ ghost use Rattle.walrus_body_trees.specs.Laws.{BodiesAreTrees, BodiesHoldTheirs,
 pub fn bodies_are_trees()
     ensures { BodiesAreTrees }
 {
-    walrus_operator_laws::laws::operators_come_back();
+    walrus_pairing::laws::operators_come_back();
     wasm_operator_bytes::laws::operators_in_range_are_spelled();
 }
 
@@ -14,7 +14,7 @@ pub fn bodies_are_trees()
 pub fn bodies_mean_their_normal_form()
     ensures { BodiesMeanTheirs }
 {
-    walrus_operator_laws::laws::operators_come_back();
+    walrus_pairing::laws::operators_come_back();
     wasm_operator_bytes::laws::operators_in_range_are_spelled();
     walrus_tree::laws::trees_are_nested();
     walrus_tree::laws::text_is_plain();
@@ -24,7 +24,7 @@ pub fn bodies_mean_their_normal_form()
 pub fn bodies_hold_their_operators()
     ensures { BodiesHoldTheirs }
 {
-    walrus_operator_laws::laws::operators_come_back();
+    walrus_pairing::laws::operators_come_back();
     wasm_operator_bytes::laws::operators_in_range_are_spelled();
     walrus_tree::laws::trees_are_nested();
     walrus_tree::laws::text_is_plain();

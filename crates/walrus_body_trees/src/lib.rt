@@ -2,3 +2,8 @@
 #![tactic(auto)]
 
 pub mod laws;
+
+// Passed on to crates above, which then list this one alone.
+pub mod meaning {
+    pub use walrus_meaning::names_are_told;
+}

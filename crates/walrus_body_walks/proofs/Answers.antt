@@ -13,8 +13,8 @@ use Rattle.walrus_walks.specs.Events.{block_names}
 use Rattle.walrus_walks.specs.Walk.{body_walk}
 use Rattle.walrus_handler_laws.specs.walrus_tree.walrus_builder.Built.{seq_of}
 use Rattle.walrus_roots.specs.declared.item.Item.{Item}
-use Rattle.walrus_operator_laws.specs.Told.{NamesAreTold}
-use Rattle.walrus_operator_laws.specs.Laws.{OperatorComesBack}
+use Rattle.walrus_body_trees.specs.walrus_meaning.Told.{NamesAreTold}
+use Rattle.walrus_pairing.specs.Laws.{OperatorComesBack}
 use Rattle.walrus_handler_laws.specs.walrus_body_steps.walrus_body_rules.Sights.{Sight}
 use Rattle.walrus_body_trees.specs.Laws.{ops_of}
 use Rattle.walrus_body_walks.specs.Answers.{AllAre, AnswersAre, HandlersAre, IsAnswer, Looked, OfParams, OfResults, OfBlock, OfHandler, block_items, value_items, without_handlers}

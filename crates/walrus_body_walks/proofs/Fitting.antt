@@ -6,7 +6,7 @@ use Rattle.wasm_operator_bytes.specs.wasm_operators.wasm_features.declared.WasmF
 use Rattle.walrus_handler_laws.specs.walrus_body_steps.wasm_body_grammar.wasm_formats.Bytes.{either_type}
 use Rattle.walrus_handler_laws.specs.walrus_body_steps.wasm_body_grammar.wasm_formats.Lists.{SpellsEntries}
 use Rattle.walrus_handler_laws.specs.walrus_body_steps.wasm_grammar.Modules as grammar
-use Rattle.walrus_operator_laws.specs.walrus_pairing.wasm_immediates.declared.block_type.BlockType.{BlockType}
+use Rattle.walrus_pairing.specs.wasm_immediates.declared.block_type.BlockType.{BlockType}
 use Rattle.wasm_operator_bytes.specs.wasm_operators.Operators.{Seen}
 use Rattle.wasm_operator_bytes.specs.wasm_operators.Spellings.{SpellsEither, SpellsOperator}
 use Rattle.wasm_operator_bytes.specs.Bytes.{operator_bytes}

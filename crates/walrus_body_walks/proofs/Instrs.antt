@@ -7,9 +7,9 @@ use Rattle.std.proofs.lemmas.List.Elements.{All-from_recursion, recursion_from_A
 use Rattle.std.proofs.lemmas.List.Sorted.{All-permutation, IsPermutation-reverse}
 use Rattle.wasm_operator_bytes.specs.wasm_operators.wasm_features.declared.WasmFeatures.{WasmFeatures}
 use Rattle.walrus_handler_laws.specs.walrus_body_steps.wasm_body_grammar.wasm_formats.declared.fault.Space.TheVariants as spaces
-use Rattle.walrus_operator_laws.specs.walrus_pairing.wasm_immediates.declared.clause.Clause.{Clause}
-use Rattle.walrus_operator_laws.specs.walrus_pairing.wasm_immediates.declared.clause.Clause.TheVariants as handlers
-use Rattle.walrus_operator_laws.specs.walrus_pairing.wasm_immediates.Items.{Labels, Tags, Item as Word, Names, Byte, Heap, ManyLabels}
+use Rattle.walrus_pairing.specs.wasm_immediates.declared.clause.Clause.{Clause}
+use Rattle.walrus_pairing.specs.wasm_immediates.declared.clause.Clause.TheVariants as handlers
+use Rattle.walrus_pairing.specs.wasm_immediates.Items.{Labels, Tags, Item as Word, Names, Byte, Heap, ManyLabels}
 use Rattle.wasm_operator_bytes.specs.wasm_operators.declared.op_code.OpCode.{OpCode}
 use Rattle.wasm_operator_bytes.specs.wasm_operators.Operators.{Seen}
 use Rattle.wasm_operator_bytes.specs.Names.{Name, Renaming, operator_names, renamed_operator}
@@ -29,11 +29,11 @@ use Rattle.walrus_handler_laws.specs.walrus_tree.walrus_builder.Built.{Seq}
 use Rattle.walrus_handler_laws.specs.walrus_tree.Trees.{Has}
 use Rattle.walrus_roots.specs.declared.item.Item.{Item}
 use Rattle.walrus_roots.specs.Items.{item}
-use Rattle.walrus_operator_laws.specs.walrus_pairing.Read.{at, instr_at}
-use Rattle.walrus_operator_laws.specs.walrus_pairing.Write.{operator_at}
-use Rattle.walrus_operator_laws.specs.Told.{NamesAreTold, all, is_reversed, told_all}
-use Rattle.walrus_operator_laws.specs.Laws.{OperatorComesBack, Renames}
-use Rattle.walrus_operator_laws.proofs.Forth.{bytes_found, objects_found}
+use Rattle.walrus_pairing.specs.Read.{at, instr_at}
+use Rattle.walrus_pairing.specs.Write.{operator_at}
+use Rattle.walrus_body_trees.specs.walrus_meaning.Told.{NamesAreTold, is_reversed, told_all}
+use Rattle.walrus_pairing.specs.Laws.{OperatorComesBack, Renames, all}
+use Rattle.walrus_pairing.proofs.Forth.{bytes_found, objects_found}
 use Rattle.walrus_handler_laws.specs.walrus_body_steps.walrus_body_nesting.declared.frames.Opener.{Opener}
 use Rattle.walrus_handler_laws.specs.walrus_body_steps.walrus_body_nesting.declared.frames.Opener.TheVariants as openers
 use Rattle.walrus_handler_laws.specs.walrus_body_steps.walrus_body_nesting.Opens.{Makes, type_at}

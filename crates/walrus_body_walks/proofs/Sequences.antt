@@ -5,7 +5,7 @@ use Rattle.std.specs.List.{AllByRecursion}
 use Rattle.wasm_operator_bytes.specs.wasm_operators.wasm_features.declared.WasmFeatures.{WasmFeatures}
 use Rattle.wasm_operator_bytes.specs.wasm_operators.Operators.{Seen}
 use Rattle.wasm_operator_bytes.specs.NameLaws.{NamesAreRenamed}
-use Rattle.walrus_operator_laws.specs.walrus_pairing.wasm_immediates.Items.{Tags}
+use Rattle.walrus_pairing.specs.wasm_immediates.Items.{Tags}
 use Rattle.walrus_handler_laws.specs.walrus_body_steps.wasm_normal_form.Trees.{Tree as OpTree, Close, Arm, Skip, Run, Nest}
 use Rattle.walrus_walks.specs.walrus_forms.declared.value.ValType.{ValType}
 use Rattle.walrus_marks.specs.walrus_instr.declared.instr.Instr.{Instr}
@@ -15,8 +15,8 @@ use Rattle.walrus_marks.specs.walrus_instr.declared.seq.InstrSeqType.{InstrSeqTy
 use Rattle.walrus_walks.specs.Events.{block_names}
 use Rattle.walrus_handler_laws.specs.walrus_tree.walrus_builder.Built.{Seq, seq_of}
 use Rattle.walrus_roots.specs.declared.item.Item.{Item}
-use Rattle.walrus_operator_laws.specs.Told.{NamesAreTold}
-use Rattle.walrus_operator_laws.specs.Laws.{OperatorComesBack}
+use Rattle.walrus_body_trees.specs.walrus_meaning.Told.{NamesAreTold}
+use Rattle.walrus_pairing.specs.Laws.{OperatorComesBack}
 use Rattle.walrus_handler_laws.specs.walrus_body_steps.walrus_body_nesting.Opens.{type_at}
 use Rattle.walrus_handler_laws.specs.walrus_body_steps.walrus_body_nesting.Stands.{Turn, Otherwise, Handles, HandlesAll, Part, Finish, Ended, with, none, lies, StandsAs}
 use Rattle.walrus_handler_laws.specs.walrus_body_steps.walrus_body_rules.Sights.{Sight, results_of, tag_params}

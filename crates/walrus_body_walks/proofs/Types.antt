@@ -8,9 +8,9 @@ use Rattle.wasm_operator_bytes.specs.wasm_ref_types.declared.index.UnpackedIndex
 use Rattle.wasm_operator_bytes.specs.wasm_ref_types.declared.index.UnpackedIndex.TheVariants.{Module, RecGroup, Id}
 use Rattle.wasm_operator_bytes.specs.wasm_ref_types.declared.value.ValType.{ValType as WrittenValue}
 use Rattle.wasm_operator_bytes.specs.wasm_ref_types.declared.value.ValType.TheVariants.{I32 as WI32, I64 as WI64, F32 as WF32, F64 as WF64, V128 as WV128, Ref as WRef}
-use Rattle.walrus_operator_laws.specs.walrus_pairing.wasm_immediates.declared.block_type.BlockType.{BlockType}
-use Rattle.walrus_operator_laws.specs.walrus_pairing.wasm_immediates.declared.block_type.BlockType.TheVariants as blocks
-use Rattle.walrus_operator_laws.specs.walrus_pairing.wasm_immediates.Items.{Types}
+use Rattle.walrus_pairing.specs.wasm_immediates.declared.block_type.BlockType.{BlockType}
+use Rattle.walrus_pairing.specs.wasm_immediates.declared.block_type.BlockType.TheVariants as blocks
+use Rattle.walrus_pairing.specs.wasm_immediates.Items.{Types}
 use Rattle.walrus_walks.specs.walrus_forms.declared.value.AbstractHeapType.{AbstractHeapType}
 use Rattle.walrus_walks.specs.walrus_forms.declared.value.HeapType.{HeapType}
 use Rattle.walrus_walks.specs.walrus_forms.declared.value.HeapType.TheVariants.{Abstract, Concrete, Exact}
@@ -22,10 +22,10 @@ use Rattle.walrus_marks.specs.walrus_instr.declared.seq.InstrSeqType.TheVariants
 use Rattle.walrus_walks.specs.Events.{Event, block_names, ref_names, val_names}
 use Rattle.walrus_roots.specs.declared.item.Item.{Item}
 use Rattle.walrus_roots.specs.Items.{item}
-use Rattle.walrus_operator_laws.specs.walrus_pairing.walrus_index_maps.declared.space.Space.TheVariants as words
-use Rattle.walrus_operator_laws.specs.walrus_pairing.declared.error.PairError.TheVariants as errors
-use Rattle.walrus_operator_laws.specs.walrus_pairing.Looks.{Or, ◌>>=◌}
-use Rattle.walrus_operator_laws.specs.walrus_pairing.Types.{read_abstract, read_heap, read_index, read_value}
+use Rattle.walrus_pairing.specs.walrus_index_maps.declared.space.Space.TheVariants as words
+use Rattle.walrus_pairing.specs.declared.error.PairError.TheVariants as errors
+use Rattle.walrus_pairing.specs.Looks.{Or, ◌>>=◌}
+use Rattle.walrus_pairing.specs.Types.{read_abstract, read_heap, read_index, read_value}
 use Rattle.walrus_handler_laws.specs.walrus_body_steps.walrus_body_rules.Sights.{Sight, block_of, function_block, handler_of, look, results_of, tag_params, value_block, value_list, written_block}
 use Rattle.walrus_body_walks.specs.Answers.{AllAre, AnswersAre, value_items}
 use Rattle.walrus_body_walks.proofs.Told.{Told, are_told, told_are, told_join}

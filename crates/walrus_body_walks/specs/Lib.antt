@@ -2,4 +2,4 @@ pub mod Answers
 pub mod Laws
 -- Passed on to crates above, which then list this one alone.
 pub use Rattle.walrus_marks.specs as walrus_marks
-pub use Rattle.walrus_operator_laws.specs as walrus_operator_laws
+pub use Rattle.walrus_pairing.specs as walrus_pairing

@@ -6,8 +6,8 @@ ghost use Rattle.walrus_body_walks.specs.Laws.{HandlersHaveAnswers, TriesHaveAns
 pub fn walks_name_answers()
     ensures { WalksNameAnswers }
 {
-    walrus_operator_laws::laws::operators_come_back();
-    walrus_operator_laws::laws::names_are_told();
+    walrus_pairing::laws::operators_come_back();
+    walrus_body_trees::meaning::names_are_told();
     wasm_operator_bytes::laws::names_are_renamed();
     wasm_operator_bytes::laws::operators_in_range_are_spelled();
 }
@@ -16,8 +16,8 @@ pub fn walks_name_answers()
 pub fn tries_have_answers()
     ensures { TriesHaveAnswers }
 {
-    walrus_operator_laws::laws::operators_come_back();
-    walrus_operator_laws::laws::names_are_told();
+    walrus_pairing::laws::operators_come_back();
+    walrus_body_trees::meaning::names_are_told();
     wasm_operator_bytes::laws::names_are_renamed();
     wasm_operator_bytes::laws::operators_in_range_are_spelled();
 }

@@ -10,8 +10,8 @@ pub mod handler_laws {
     }
 }
 
-pub mod operator_laws {
+pub mod pairing {
     pub mod laws {
-        pub use walrus_operator_laws::laws::operators_come_back;
+        pub use walrus_pairing::laws::operators_come_back;
     }
 }

@@ -27,10 +27,10 @@ use Rattle.walrus_instr.specs.declared.seq.InstrSeqType.TheVariants.{Simple, Mul
 use Rattle.walrus_builder.specs.Functions.{seqs_of}
 use Rattle.walrus_tree.specs.Text.{Piece, Operator, Else, Catch, CatchAll, Delegate, End, operators}
 use Rattle.walrus_operator_codes.specs.Runs.{byte, object}
-use Rattle.walrus_body_trees.specs.walrus_operator_laws.walrus_pairing.Looks.{Or, ◌>>=◌}
-use Rattle.walrus_body_trees.specs.walrus_operator_laws.walrus_pairing.Types.{written_heap, written_value}
-use Rattle.walrus_body_trees.specs.walrus_operator_laws.walrus_pairing.Write.{op, operator_at, seen_of}
-use Rattle.walrus_body_trees.specs.walrus_operator_laws.Told.{all}
+use Rattle.walrus_body_trees.specs.walrus_pairing.Looks.{Or, ◌>>=◌}
+use Rattle.walrus_body_trees.specs.walrus_pairing.Types.{written_heap, written_value}
+use Rattle.walrus_body_trees.specs.walrus_pairing.Write.{op, operator_at, seen_of}
+use Rattle.walrus_body_trees.specs.walrus_pairing.Laws.{all}
 use Rattle.walrus_body_trees.specs.walrus_meaning.walrus_body_writer.Spelled.{AreWritten, IsWritten, Text, block, cast, clause, clauses, flags, label, opening, type_in, written, written_instr}
 use Rattle.walrus_body_laws.specs.Laws.{place_in, placed_of, text_ops}
 use Rattle.walrus_body_laws.specs.Renaming.{TextsAreRenamed, renamed_placed}

@@ -10,8 +10,8 @@ use Rattle.wasm_normal_form.specs.Locals.{Key, in_order, numbered}
 use Rattle.walrus_instr.specs.declared.seq.InstrSeq.{InstrSeq}
 use Rattle.walrus_builder.specs.Functions.{seqs_of}
 use Rattle.walrus_tree.specs.Text.{operators}
-use Rattle.walrus_body_trees.specs.walrus_operator_laws.walrus_pairing.Looks.{Or}
-use Rattle.walrus_body_trees.specs.walrus_operator_laws.Told.{all}
+use Rattle.walrus_body_trees.specs.walrus_pairing.Looks.{Or}
+use Rattle.walrus_body_trees.specs.walrus_pairing.Laws.{all}
 use Rattle.walrus_body_trees.specs.walrus_meaning.walrus_body_writer.Spelled.{AreWritten, Text}
 use Rattle.walrus_body_laws.specs.Laws.{placed_of, text_ops}
 use Rattle.walrus_body_laws.specs.Naming.{LocalsAgree}

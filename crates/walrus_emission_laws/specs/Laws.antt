@@ -18,8 +18,8 @@ use Rattle.walrus_body_trees.specs.Laws.{AreOwn, IsBody, IsNaming, meant, ops_of
 use Rattle.walrus_builder.specs.Functions.{seqs_of}
 use Rattle.walrus_tree.specs.Text.{operators}
 use Rattle.walrus_body_trees.specs.walrus_meaning.walrus_local_function.declared.local_function.LocalFunction.{LocalFunction}
-use Rattle.walrus_body_trees.specs.walrus_operator_laws.walrus_pairing.Looks.{Look}
-use Rattle.walrus_body_trees.specs.walrus_operator_laws.Sends.{Sends}
+use Rattle.walrus_body_trees.specs.walrus_pairing.Looks.{Look}
+use Rattle.walrus_body_trees.specs.walrus_pairing.Sends.{Sends}
 use Rattle.walrus_body_trees.specs.walrus_meaning.walrus_body_writer.Spelled.{AreWritten}
 use Rattle.walrus_body_laws.specs.Laws.{text_ops}
 use Rattle.walrus_body_laws.specs.Renaming.{KeepsLabels}

@@ -17,7 +17,7 @@ pub mod body_steps {
 }
 
 pub mod body_trees {
-    pub use walrus_body_trees::laws;
+    pub use walrus_body_trees::{laws, meaning};
 }
 
 pub mod body_writer {

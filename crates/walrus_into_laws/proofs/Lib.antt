@@ -8,6 +8,6 @@ pub mod ModuleLemmas
 pub mod OrderLemmas
 pub mod Seeing
 -- Passed on to crates above, which then list this one alone.
-pub use Rattle.walrus_parse.proofs.walrus_operator_laws as walrus_operator_laws
+pub use Rattle.walrus_parse.proofs.walrus_pairing as walrus_pairing
 pub use Rattle.walrus_parse.proofs.walrus_handler_types as walrus_handler_types
 pub use Rattle.walrus_parse.proofs as walrus_parse

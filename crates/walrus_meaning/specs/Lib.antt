@@ -3,6 +3,8 @@ pub mod Laws
 pub mod Meaning
 pub mod Segments
 pub mod Words
+pub mod Told
+pub mod NamesTold
 -- Passed on to crates above, which then list this one alone.
 pub use Rattle.walrus_linked.specs.walrus_body_writer as walrus_body_writer
 pub use Rattle.walrus_linked.specs as walrus_linked

@@ -2,6 +2,7 @@
 #![tactic(auto)]
 
 ghost use Rattle.walrus_meaning.specs.Laws.{EmptyMeansEmpty, ItemsAreSeen, DeletesAreSeen, AddsAreSeen};
+ghost use Rattle.walrus_meaning.specs.Told.{NamesAreTold};
 ghost use Rattle.walrus_arena.specs.Arena.{Arena};
 
 /// A module without items means the empty module.
@@ -18,6 +19,12 @@ pub fn items_are_seen<A, B>()
 /// An item that is added is one more slot of its space, and nothing else changes.
 pub fn adds_are_seen()
     ensures { AddsAreSeen }
+{}
+
+/// What a visitor of an instruction is told that it names, field by field, is what its operator names: in the order of its immediates,
+/// and for `memory.init`, `memory.copy`, `table.init`, `table.copy` and `array.copy` in the reverse of it.
+pub fn names_are_told()
+    ensures { NamesAreTold }
 {}
 
 // Passed on to crates above, which then list this one alone.

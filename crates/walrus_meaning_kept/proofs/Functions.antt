@@ -10,7 +10,7 @@ use Rattle.walrus_meaning_refs.specs.wasm_references.wasm_grammar.Modules as gra
 use Rattle.walrus_meaning_refs.specs.wasm_references.wasm_immediates.Items as immediates
 use Rattle.walrus_meaning_refs.specs.wasm_references.wasm_operator_bytes.Names.{Name, operator_names, block_names}
 use Rattle.walrus_meaning_refs.specs.wasm_references.References as abstract
-use Rattle.walrus_meaning_refs.specs.walrus_operator_laws.Told.{told as told_name, told_all}
+use Rattle.walrus_meaning_refs.specs.walrus_meaning.Told.{told as told_name, told_all}
 use Rattle.walrus_walks.specs.walrus_forms.declared.value.ValType.{ValType}
 use Rattle.walrus_items.specs.declared.local.Local.{Local}
 use Rattle.walrus_walks.specs.walrus_types.Table.{Table as TypeTable}

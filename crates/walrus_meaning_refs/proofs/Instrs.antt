@@ -24,7 +24,7 @@ use Rattle.walrus_tree.specs.Text.{Piece, Operator, after, after_parts}
 use Rattle.walrus_tree.specs.Trees.{Delegates, IsWithin}
 use Rattle.walrus_meaning.specs.Bodies.{block_of, depth_of, own_clause, own_seen}
 use Rattle.walrus_meaning.specs.Words.{own_heap, own_block, plain_seen}
-use Rattle.walrus_operator_laws.specs.Told.{told, told_all, is_reversed}
+use Rattle.walrus_meaning.specs.Told.{told, told_all, is_reversed}
 use Rattle.walrus_meaning_refs.specs.Plain.{is_plain, PlainNameWhatIsTold}
 use Rattle.walrus_meaning_refs.specs.Instrs.{of_items, unlabelled, part_types, piece_names, seq_names, InstrsNameWhatIsTold}
 use Rattle.walrus_meaning_refs.proofs.Sets.{Same, same_refl, same_sym, same_trans, same_eq, same_cat, same_flat, same_turned, flat_append, flat_of_map, flat_of_flat, flat_same, have_same}

@@ -11,7 +11,7 @@ use Rattle.walrus_walks.specs.walrus_instr.declared.instr.Value.TheVariants as c
 use Rattle.walrus_meaning.specs.Words.{itself, plain_or_nop, plain_seen}
 use Rattle.walrus_meaning.specs.walrus_body_writer.walrus_pairing.Looks.{Or}
 use Rattle.walrus_meaning.specs.walrus_body_writer.walrus_pairing.Write.{operator_at}
-use Rattle.walrus_operator_laws.specs.Told.{NamesAreTold}
+use Rattle.walrus_meaning.specs.Told.{NamesAreTold}
 use Rattle.walrus_meaning_refs.specs.Plain.{PlainHaveOperators, PlainNameWhatIsTold, is_plain}
 
 -- there is one

@@ -4,7 +4,7 @@ use Rattle.walrus_walks.specs.Events.{Event, StartOf, EndOf, Visits, NamesSeq, N
 use Rattle.walrus_walks.specs.Walk.{body_walk}
 use Rattle.walrus_marks.specs.Named.{event_items, items_of}
 use Rattle.walrus_roots.specs.declared.item.Item.{Item}
-use Rattle.walrus_operator_laws.specs.Told.{told_all}
+use Rattle.walrus_meaning.specs.Told.{told_all}
 use Rattle.walrus_meaning_refs.specs.Instrs.{unlabelled}
 use Rattle.walrus_meaning_refs.specs.Bodies.{body_names, named_item, BodiesNameWhatIsTold, WalksNameItems}
 use Rattle.walrus_meaning_refs.proofs.Instrs.{out, out_append}

@@ -14,7 +14,7 @@ use Rattle.walrus_marks.specs.Named.{items_of}
 use Rattle.walrus_roots.specs.declared.item.Item.{Item}
 use Rattle.walrus_roots.specs.Items.{item}
 use Rattle.walrus_meaning.specs.Bodies.{own_piece}
-use Rattle.walrus_operator_laws.specs.Told.{told_all}
+use Rattle.walrus_meaning.specs.Told.{told_all}
 use Rattle.walrus_meaning_refs.specs.Instrs.{HaveSame, part_types, unlabelled}
 
 -- the block types of the parts of a body that no operator has

@@ -11,7 +11,7 @@ use Rattle.walrus_walks.specs.Tree.{children}
 use Rattle.walrus_tree.specs.Text.{Piece, Operator, after}
 use Rattle.walrus_tree.specs.Trees.{IsWithin}
 use Rattle.walrus_meaning.specs.Bodies.{block_of, own_seen}
-use Rattle.walrus_operator_laws.specs.Told.{told_all}
+use Rattle.walrus_meaning.specs.Told.{told_all}
 
 -- two lists have the same elements
 abbrev pub HaveSame : {A : Type 0} → List A → List A → Type 0

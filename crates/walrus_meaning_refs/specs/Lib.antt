@@ -5,5 +5,5 @@ pub mod Items
 pub mod Locals
 -- Passed on to crates above, which then list this one alone.
 pub use Rattle.wasm_references.specs as wasm_references
-pub use Rattle.walrus_operator_laws.specs as walrus_operator_laws
+pub use Rattle.walrus_pairing.specs as walrus_pairing
 pub use Rattle.walrus_meaning.specs as walrus_meaning

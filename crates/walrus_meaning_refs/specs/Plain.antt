@@ -4,7 +4,7 @@ use Rattle.walrus_walks.specs.walrus_instr.declared.instr.Instr.{Instr}
 use Rattle.walrus_walks.specs.walrus_instr.declared.instr.Instr.TheVariants as instrs
 use Rattle.walrus_meaning.specs.Words.{itself, plain_seen}
 use Rattle.walrus_meaning.specs.walrus_body_writer.walrus_pairing.Write.{operator_at}
-use Rattle.walrus_operator_laws.specs.Told.{SameNames}
+use Rattle.walrus_meaning.specs.Told.{SameNames}
 
 abbrev pub is_plain : Instr → Bool
 is_plain (instrs.Block _) = false

@@ -6,7 +6,7 @@ ghost use Rattle.walrus_meaning_refs.specs.Items.{ItemsNameWhatIsMeant};
 ghost use Rattle.walrus_meaning_refs.specs.Locals.{UsedLocalsAreDeclared};
 ghost use Rattle.walrus_meaning_refs.specs.Plain.{PlainHaveOperators, PlainNameWhatIsTold};
 
-use walrus_operator_laws::laws::names_are_told;
+use walrus_meaning::names_are_told;
 use walrus_tree::laws::{text_is_plain, trees_are_nested, trees_are_sound};
 use walrus_walks::laws::{held_are_nested, walk_is_plain};
 use walrus_walks::visit_laws::expressions_tell_their_operators;

@@ -6,5 +6,5 @@ mod ReadingLemmas
 pub mod StepLemmas
 mod StopLemmas
 -- Passed on to crates above, which then list this one alone.
-pub use Rattle.walrus_body_trees.proofs.walrus_operator_laws as walrus_operator_laws
+pub use Rattle.walrus_body_trees.proofs.walrus_pairing as walrus_pairing
 pub use Rattle.walrus_module_env.proofs.walrus_handler_types as walrus_handler_types

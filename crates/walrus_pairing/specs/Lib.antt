@@ -5,6 +5,16 @@ pub mod Seen
 pub mod Answers
 pub mod Read
 pub mod Spaces
+pub mod Plain
+pub mod Turns
+pub mod Laws
+pub mod InstrLaws
+pub mod Back
+pub mod Numeric
+pub mod Together
+pub mod Sends
+pub mod Sent
+pub mod Lists
 -- Passed on to crates above, which then list this one alone.
 pub use Rattle.walrus_operator_codes.specs as walrus_operator_codes
 pub use Rattle.walrus_forms.specs as walrus_forms
@@ -13,3 +23,4 @@ pub use Rattle.walrus_operator_codes.specs.walrus_instr as walrus_instr
 pub use Rattle.walrus_operator_codes.specs.walrus_items as walrus_items
 pub use Rattle.walrus_operators.specs as walrus_operators
 pub use Rattle.walrus_operators.specs.wasm_immediates as wasm_immediates
+pub use Rattle.wasm_operator_bytes.specs as wasm_operator_bytes

@@ -1,4 +1,5 @@
-//! Plain operators of files paired with instructions, both ways, over maps of indices and ids.
+//! Plain operators of files paired with instructions, both ways, over maps of indices and ids; laws of operators and the instructions that
+//! they are read as.
 #![tactic(auto)]
 
 // What there is, or the caller answers why there is nothing: three calls less than by `?`.
@@ -14,6 +15,7 @@ macro_rules! got {
 mod error;
 mod families;
 mod instructions;
+pub mod laws;
 mod named;
 mod spaces;
 mod to_instr;

@@ -11,7 +11,7 @@ use Rattle.walrus_parsed_items.specs.walrus_body_trees.walrus_body_nesting.wasm_
 use Rattle.walrus_parsed_items.specs.walrus_body_trees.walrus_body_nesting.wasm_body_grammar.wasm_formats.wasm_features.declared.WasmFeatures.{WasmFeatures}
 use Rattle.walrus_parsed_items.specs.walrus_body_trees.walrus_body_nesting.wasm_body_grammar.wasm_formats.Formats.{Small}
 use Rattle.walrus_parsed_items.specs.walrus_body_trees.walrus_body_nesting.wasm_body_grammar.wasm_grammar.Modules as grammar
-use Rattle.walrus_parsed_items.specs.walrus_body_trees.walrus_operator_laws.walrus_pairing.wasm_immediates.Items.{Space, Types, Functions, Tables, Memories, Tags, Globals, ElementSegments, DataSegments, Locals, Labels}
+use Rattle.walrus_parsed_items.specs.walrus_body_trees.walrus_pairing.wasm_immediates.Items.{Space, Types, Functions, Tables, Memories, Tags, Globals, ElementSegments, DataSegments, Locals, Labels}
 use Rattle.walrus_parsed_items.specs.walrus_into_laws.walrus_meaning.walrus_local_function.walrus_body_locals.wasm_normal_form.Normal.{normal_ops}
 use Rattle.walrus_parsed_items.specs.walrus_into_laws.walrus_meaning.walrus_local_function.walrus_body_locals.wasm_normal_form.Trees.{tree_of}
 use Rattle.walrus_parsed_items.specs.walrus_parse.walrus_file_bodies.walrus_items_into.walrus_module_env.wasm_run_names.Picks.{block_pick}
@@ -22,7 +22,7 @@ use Rattle.walrus_parsed_items.specs.walrus_body_trees.Laws.{AreOwn, BodiesMeanT
 use Rattle.walrus_parsed_items.specs.walrus_parse.walrus_file_bodies.Read.{Waits, coded_by, env_is, env_of, others_keep, read_body_reads, step_is_read, step_on, steps_grow}
 use Rattle.walrus_function_types.specs.Growth.{EntryTypesGrow, FoundTypesStay, Grows, TablesGrowOn}
 use Rattle.walrus_parsed_items.specs.walrus_parse.walrus_file_bodies.walrus_items_into.walrus_functions_into.declared.bodies.FunctionBody.{FunctionBody}
-use Rattle.walrus_parsed_items.specs.walrus_body_trees.walrus_operator_laws.walrus_pairing.walrus_index_maps.Maps.{Ids}
+use Rattle.walrus_parsed_items.specs.walrus_body_trees.walrus_pairing.walrus_index_maps.Maps.{Ids}
 use Rattle.walrus_parsed_items.specs.walrus_parse.walrus_file_bodies.walrus_items_into.walrus_tables_into.walrus_sections_into.walrus_known_sections.Items.{chunk_of}
 use Rattle.walrus_parsed_items.specs.walrus_into_laws.walrus_meaning.walrus_local_function.declared.local_function.LocalFunction.{LocalFunction}
 use Rattle.walrus_parsed_items.specs.walrus_into_laws.walrus_meaning.Bodies.{own_operators}
@@ -32,7 +32,7 @@ use Rattle.walrus_parsed_items.specs.walrus_parse.walrus_file_bodies.walrus_item
 use Rattle.walrus_parsed_items.specs.walrus_parse.walrus_file_bodies.walrus_items_into.walrus_module_env.Parsed.{BlocksAreNamed, PicksAreSeen}
 use Rattle.walrus_parsed_items.specs.walrus_into_laws.walrus_meaning.walrus_linked.walrus_module_items.declared.function.Function.{Function}
 use Rattle.walrus_parsed_items.specs.walrus_into_laws.walrus_meaning.walrus_linked.walrus_module_items.declared.function.FunctionKind.TheVariants as kinds
-use Rattle.walrus_parsed_items.specs.walrus_body_trees.walrus_operator_laws.walrus_pairing.Looks.{id_of}
+use Rattle.walrus_parsed_items.specs.walrus_body_trees.walrus_pairing.Looks.{id_of}
 use Rattle.walrus_parsed_bodies.proofs.PickLemmas.{stands_as_written}
 use Rattle.walrus_parsed_bodies.proofs.SlotLemmas.{NoneOf, set_cases}
 use Rattle.walrus_parsed_bodies.specs.Texts.{naming, text_of}

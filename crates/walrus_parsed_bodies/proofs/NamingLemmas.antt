@@ -2,9 +2,9 @@
 use Rattle.std.specs.Prelude.{ℕ, ◌≡◌, Option, Some, None, Ok, Err, refl}
 use Rattle.std.specs.Option.{option_map}
 use Rattle.std.proofs.Common.{ap, sym, ◌∙◌}
-use Rattle.walrus_parsed_items.specs.walrus_body_trees.walrus_operator_laws.walrus_pairing.wasm_immediates.Items.{Types}
-use Rattle.walrus_parsed_items.specs.walrus_body_trees.walrus_operator_laws.walrus_pairing.wasm_immediates.declared.block_type.BlockType.{BlockType}
-use Rattle.walrus_parsed_items.specs.walrus_body_trees.walrus_operator_laws.walrus_pairing.wasm_immediates.declared.block_type.BlockType.TheVariants as blocks
+use Rattle.walrus_parsed_items.specs.walrus_body_trees.walrus_pairing.wasm_immediates.Items.{Types}
+use Rattle.walrus_parsed_items.specs.walrus_body_trees.walrus_pairing.wasm_immediates.declared.block_type.BlockType.{BlockType}
+use Rattle.walrus_parsed_items.specs.walrus_body_trees.walrus_pairing.wasm_immediates.declared.block_type.BlockType.TheVariants as blocks
 use Rattle.walrus_parsed_items.specs.walrus_body_trees.walrus_body_nesting.wasm_body_grammar.wasm_operator_bytes.Names.{Renaming, renamed_block, renamed_value}
 use Rattle.walrus_parsed_items.specs.walrus_body_trees.walrus_body_nesting.wasm_body_grammar.wasm_operator_bytes.wasm_ref_types.Reference.{reference}
 use Rattle.walrus_parsed_items.specs.walrus_body_trees.walrus_body_nesting.wasm_body_grammar.wasm_operator_bytes.wasm_ref_types.declared.heap.HeapType.{HeapType as WrittenHeap}
@@ -16,15 +16,14 @@ use Rattle.walrus_forms.specs.declared.value.HeapType.{HeapType}
 use Rattle.walrus_forms.specs.declared.value.HeapType.TheVariants.{Abstract, Concrete, Exact}
 use Rattle.walrus_forms.specs.declared.value.ValType.{ValType}
 use Rattle.walrus_forms.specs.declared.value.ValType.TheVariants.{I32, I64, F32, F64, V128, Ref}
-use Rattle.walrus_parsed_items.specs.walrus_body_trees.walrus_operator_laws.walrus_pairing.walrus_instr.declared.seq.InstrSeqType.{InstrSeqType}
-use Rattle.walrus_parsed_items.specs.walrus_body_trees.walrus_operator_laws.walrus_pairing.walrus_instr.declared.seq.InstrSeqType.TheVariants.{Simple, MultiValue}
+use Rattle.walrus_parsed_items.specs.walrus_body_trees.walrus_pairing.walrus_instr.declared.seq.InstrSeqType.{InstrSeqType}
+use Rattle.walrus_parsed_items.specs.walrus_body_trees.walrus_pairing.walrus_instr.declared.seq.InstrSeqType.TheVariants.{Simple, MultiValue}
 use Rattle.walrus_parsed_items.specs.walrus_into_laws.walrus_meaning.Words.{own_block, own_heap, own_value}
 use Rattle.walrus_parsed_items.specs.walrus_parse.walrus_file_bodies.walrus_items_into.walrus_module_env.Around.{block_named}
-use Rattle.walrus_parsed_items.proofs.walrus_operator_laws.Types.{value_again}
-use Rattle.walrus_parsed_items.specs.walrus_body_trees.walrus_operator_laws.Laws.{Renames}
-use Rattle.walrus_parsed_items.specs.walrus_body_trees.walrus_operator_laws.walrus_pairing.Looks.{Or, ◌>>=◌}
-use Rattle.walrus_parsed_items.specs.walrus_body_trees.walrus_operator_laws.walrus_pairing.Types.{read_value, written_heap, written_value}
-use Rattle.walrus_parsed_items.specs.walrus_body_trees.walrus_operator_laws.Told.{all}
+use Rattle.walrus_parsed_items.proofs.walrus_pairing.TypesAgain.{value_again}
+use Rattle.walrus_parsed_items.specs.walrus_body_trees.walrus_pairing.Laws.{Renames, all}
+use Rattle.walrus_parsed_items.specs.walrus_body_trees.walrus_pairing.Looks.{Or, ◌>>=◌}
+use Rattle.walrus_parsed_items.specs.walrus_body_trees.walrus_pairing.Types.{read_value, written_heap, written_value}
 use Rattle.walrus_parsed_items.proofs.ListLemmas.{some_is}
 
 heap_written : (h : HeapType) → written_heap (all Types) h ≡ Ok (own_heap h)

@@ -25,7 +25,7 @@ use Rattle.walrus_parsed_items.specs.walrus_parse.walrus_file_bodies.Ready.{bodi
 use Rattle.walrus_function_types.specs.Growth.{FoundTypesStay, TablesGrowOn}
 use Rattle.walrus_parsed_items.specs.walrus_parse.walrus_file_bodies.walrus_items_into.walrus_functions_into.declared.bodies.FunctionBody.{FunctionBody}
 use Rattle.walrus_parsed_items.specs.walrus_into_laws.Groups.{ReadTypesAreDeclared}
-use Rattle.walrus_parsed_items.specs.walrus_body_trees.walrus_operator_laws.walrus_pairing.walrus_index_maps.Maps.{Ids}
+use Rattle.walrus_parsed_items.specs.walrus_body_trees.walrus_pairing.walrus_index_maps.Maps.{Ids}
 use Rattle.walrus_parsed_items.specs.walrus_into_laws.Meaning.{OrderedStay, OthersStay}
 use Rattle.walrus_parsed_items.specs.walrus_into_laws.Renamed.{retyped_element, retyped_global, retyped_segment, retyped_table, retyped_tag}
 use Rattle.walrus_parsed_items.specs.walrus_parse.walrus_file_bodies.walrus_items_into.Numbers.{numbers_of, types_in}
@@ -35,7 +35,7 @@ use Rattle.walrus_parsed_items.specs.walrus_into_laws.walrus_meaning.Bodies.{own
 use Rattle.walrus_parsed_items.specs.walrus_into_laws.walrus_meaning.Meaning.{means, own_element, own_global, own_segment, own_table, own_tag}
 use Rattle.walrus_parsed_items.specs.walrus_parse.walrus_module.Items.{LivesIn}
 use Rattle.walrus_parsed_items.specs.walrus_parse.walrus_module.Parts.{Module, parts}
-use Rattle.walrus_parsed_items.specs.walrus_body_trees.walrus_operator_laws.walrus_pairing.Looks.{id_of}
+use Rattle.walrus_parsed_items.specs.walrus_body_trees.walrus_pairing.Looks.{id_of}
 use Rattle.walrus_parsed_items.specs.walrus_parse.Parsed.{read_features}
 use Rattle.walrus_parsed_items.specs.walrus_parse.walrus_file_bodies.walrus_items_into.walrus_tables_into.walrus_sections_into.Becomes.{look_of}
 use Rattle.walrus_parsed_items.specs.walrus_into_laws.walrus_types_into.Into.{NewTypesStand, TypesNameBelow}

@@ -2,12 +2,12 @@
 use Rattle.std.proofs.Common.{ℕ, zero, suc, ◌<◌, ◌≡◌, ◌∙◌, inl, inr, Bool, true, false, List, [], ◌∷◌, ◌++◌, All, length, map, Option, Some, None, Ok, refl, sym, ap, subst}
 use Rattle.std.specs.Prelude.{◌+◌, ◌-◌, ◌==◌, ◌&&◌, fold, nat_le, nat_lt, slice_get, if◌then◌else◌}
 use Rattle.std.proofs.lemmas.List.Elements.{All-nil, All-cons, All-head, All-tail}
-use Rattle.walrus_parsed_linked.specs.walrus_operator_laws.walrus_pairing.wasm_immediates.wasm_features.declared.WasmFeatures.{WasmFeatures}
+use Rattle.walrus_parsed_linked.specs.walrus_pairing.wasm_immediates.wasm_features.declared.WasmFeatures.{WasmFeatures}
 use Rattle.walrus_parsed_linked.specs.walrus_parsed_items.walrus_parse.walrus_file_bodies.walrus_items_into.walrus_module_env.walrus_handler_types.walrus_handler_laws.walrus_body_steps.walrus_body_nesting.wasm_formats.Bytes.{either_type}
 use Rattle.walrus_parsed_linked.specs.walrus_parsed_items.walrus_parse.walrus_file_bodies.walrus_items_into.walrus_module_env.walrus_handler_types.walrus_handler_laws.walrus_body_steps.walrus_body_nesting.wasm_formats.Lists.{SpellsEntries}
 use Rattle.walrus_parsed_linked.specs.walrus_parsed_items.walrus_parse.walrus_file_bodies.walrus_items_into.walrus_module_env.walrus_handler_types.walrus_handler_laws.walrus_body_steps.wasm_grammar.Modules as grammar
-use Rattle.walrus_parsed_linked.specs.walrus_operator_laws.walrus_pairing.wasm_immediates.declared.block_type.BlockType.{BlockType}
-use Rattle.walrus_parsed_linked.specs.walrus_operator_laws.walrus_pairing.wasm_immediates.Items.{Space, Labels, Item, Names, Byte, Heap, ManyLabels}
+use Rattle.walrus_parsed_linked.specs.walrus_pairing.wasm_immediates.declared.block_type.BlockType.{BlockType}
+use Rattle.walrus_parsed_linked.specs.walrus_pairing.wasm_immediates.Items.{Space, Labels, Item, Names, Byte, Heap, ManyLabels}
 use Rattle.wasm_operator_bytes.specs.wasm_operators.declared.op_code.OpCode.{OpCode}
 use Rattle.wasm_operator_bytes.specs.wasm_operators.Operators.{Seen}
 use Rattle.wasm_operator_bytes.specs.wasm_operators.Spellings.{SpellsEither, SpellsOperator}
@@ -19,13 +19,13 @@ use Rattle.walrus_parsed_linked.specs.walrus_parsed_items.walrus_parse.walrus_fi
 use Rattle.walrus_parsed_linked.specs.walrus_parsed_items.walrus_parse.walrus_file_bodies.walrus_items_into.walrus_module_env.walrus_handler_types.walrus_handler_laws.walrus_body_steps.wasm_normal_form.Roles.{placed, Role, Passes, Runs, Opens, Turns, Ends, role, cuts, is_if}
 use Rattle.walrus_parsed_linked.specs.walrus_parsed_items.walrus_parse.walrus_file_bodies.walrus_items_into.walrus_module_env.walrus_handler_types.walrus_handler_laws.walrus_body_steps.wasm_normal_form.Trees.{Tree, Close, Arm, Skip, Run, Nest, innermost, open_in, prepend, tree_of}
 use Rattle.walrus_parsed_linked.specs.walrus_parsed_items.walrus_parse.walrus_file_bodies.walrus_items_into.walrus_module_env.walrus_handler_types.walrus_handler_laws.walrus_body_steps.wasm_normal_form.Normal.{normal, normal_from}
-use Rattle.walrus_parsed_linked.specs.walrus_operator_laws.walrus_pairing.walrus_instr.declared.instr.Instr.{Instr}
-use Rattle.walrus_parsed_linked.specs.walrus_operator_laws.walrus_pairing.walrus_instr.declared.instr.Instr.TheVariants as instrs
+use Rattle.walrus_parsed_linked.specs.walrus_pairing.walrus_instr.declared.instr.Instr.{Instr}
+use Rattle.walrus_parsed_linked.specs.walrus_pairing.walrus_instr.declared.instr.Instr.TheVariants as instrs
 use Rattle.walrus_parsed_linked.specs.walrus_parsed_items.walrus_parse.walrus_file_bodies.walrus_items_into.walrus_module_env.walrus_handler_types.walrus_handler_laws.walrus_tree.walrus_walks.Tree.{children}
-use Rattle.walrus_parsed_linked.specs.walrus_operator_laws.walrus_pairing.walrus_operator_codes.Runs.{Run as CodeRun, in_runs}
-use Rattle.walrus_parsed_linked.specs.walrus_operator_laws.Laws.{OperatorComesBack, all}
-use Rattle.walrus_parsed_linked.specs.walrus_operator_laws.walrus_pairing.Read.{at, of_bytes, of_objects, instr_at}
-use Rattle.walrus_parsed_linked.specs.walrus_operator_laws.walrus_pairing.Write.{operator_at}
+use Rattle.walrus_parsed_linked.specs.walrus_pairing.walrus_operator_codes.Runs.{Run as CodeRun, in_runs}
+use Rattle.walrus_parsed_linked.specs.walrus_pairing.Laws.{OperatorComesBack, all}
+use Rattle.walrus_parsed_linked.specs.walrus_pairing.Read.{at, of_bytes, of_objects, instr_at}
+use Rattle.walrus_parsed_linked.specs.walrus_pairing.Write.{operator_at}
 use Rattle.walrus_parsed_linked.specs.walrus_parsed_items.walrus_parse.walrus_file_bodies.walrus_items_into.walrus_module_env.walrus_handler_types.walrus_handler_laws.walrus_body_steps.walrus_body_rules.Sights.{Sight, look}
 use Rattle.walrus_parsed_linked.specs.walrus_parsed_items.walrus_parse.walrus_file_bodies.walrus_items_into.walrus_module_env.walrus_handler_types.walrus_handler_laws.walrus_body_steps.Meanings.{RunsAs}
 

@@ -13,9 +13,9 @@ use Rattle.walrus_forms.specs.Records.{TypeGroup}
 use Rattle.walrus_forms.specs.Same.{same_kind}
 use Rattle.walrus_forms.proofs.EqLemmas.{same-kind-law}
 use Rattle.walrus_function_types.proofs.GrowthLemmas.{front}
-use Rattle.walrus_parsed_linked.specs.walrus_operator_laws.walrus_pairing.walrus_instr.BlockTypes.{Makes, picked, short_form}
-use Rattle.walrus_parsed_linked.specs.walrus_operator_laws.walrus_pairing.walrus_instr.declared.seq.InstrSeqType.{InstrSeqType}
-use Rattle.walrus_parsed_linked.specs.walrus_operator_laws.walrus_pairing.walrus_instr.declared.seq.InstrSeqType.TheVariants.{MultiValue}
+use Rattle.walrus_parsed_linked.specs.walrus_pairing.walrus_instr.BlockTypes.{Makes, picked, short_form}
+use Rattle.walrus_parsed_linked.specs.walrus_pairing.walrus_instr.declared.seq.InstrSeqType.{InstrSeqType}
+use Rattle.walrus_parsed_linked.specs.walrus_pairing.walrus_instr.declared.seq.InstrSeqType.TheVariants.{MultiValue}
 use Rattle.walrus_parsed_linked.specs.walrus_parsed_items.walrus_into_laws.walrus_meaning.Meaning.{group_kinds, has_kinds, own_groups, plain_kind}
 use Rattle.walrus_parsed_linked.specs.walrus_parsed_items.walrus_parse.walrus_module.walrus_types.Items.{Group, Item}
 use Rattle.walrus_parsed_linked.specs.walrus_parsed_items.walrus_parse.walrus_module.walrus_types.Table.{Adds, Merges, Table, entries, equal_type, found_type, latest_id, latest_in, merges, names_itself, next_id, type_at}

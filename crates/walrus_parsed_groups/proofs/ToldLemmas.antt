@@ -3,21 +3,21 @@ use Rattle.std.proofs.Common.{◌≡◌, ◌∙◌, ℕ, zero, suc, ◌<◌, Boo
 use Rattle.std.specs.Prelude.{◌==◌, IsSome, slice_get, if◌then◌else◌}
 use Rattle.std.specs.List.{AllByRecursion}
 use Rattle.std.specs.Option.{option_map}
-use Rattle.walrus_parsed_linked.specs.walrus_operator_laws.walrus_pairing.wasm_immediates.wasm_features.declared.WasmFeatures.{WasmFeatures}
+use Rattle.walrus_parsed_linked.specs.walrus_pairing.wasm_immediates.wasm_features.declared.WasmFeatures.{WasmFeatures}
 use Rattle.walrus_parsed_linked.specs.walrus_parsed_items.walrus_parse.walrus_file_bodies.walrus_items_into.walrus_module_env.walrus_handler_types.walrus_handler_laws.walrus_body_steps.wasm_normal_form.Trees.{Tree as OpTree, Close, Arm, Skip, Run, Nest}
 use Rattle.wasm_operator_bytes.specs.wasm_operators.Operators.{Seen}
 use Rattle.walrus_forms.specs.declared.value.ValType.{ValType}
-use Rattle.walrus_parsed_linked.specs.walrus_operator_laws.walrus_pairing.walrus_instr.declared.instr.Instr.{Instr}
-use Rattle.walrus_parsed_linked.specs.walrus_operator_laws.walrus_pairing.walrus_instr.declared.instr.Instr.TheVariants as instrs
-use Rattle.walrus_parsed_linked.specs.walrus_operator_laws.walrus_pairing.walrus_instr.declared.instr.LegacyCatch.{LegacyCatch}
-use Rattle.walrus_parsed_linked.specs.walrus_operator_laws.walrus_pairing.walrus_instr.declared.instr.LegacyCatch.TheVariants as legacy
-use Rattle.walrus_parsed_linked.specs.walrus_operator_laws.walrus_pairing.walrus_instr.declared.seq.InstrLocId.{InstrLocId}
-use Rattle.walrus_parsed_linked.specs.walrus_operator_laws.walrus_pairing.walrus_instr.declared.seq.InstrSeq.{InstrSeq}
-use Rattle.walrus_parsed_linked.specs.walrus_operator_laws.walrus_pairing.walrus_instr.declared.seq.InstrSeqType.{InstrSeqType}
+use Rattle.walrus_parsed_linked.specs.walrus_pairing.walrus_instr.declared.instr.Instr.{Instr}
+use Rattle.walrus_parsed_linked.specs.walrus_pairing.walrus_instr.declared.instr.Instr.TheVariants as instrs
+use Rattle.walrus_parsed_linked.specs.walrus_pairing.walrus_instr.declared.instr.LegacyCatch.{LegacyCatch}
+use Rattle.walrus_parsed_linked.specs.walrus_pairing.walrus_instr.declared.instr.LegacyCatch.TheVariants as legacy
+use Rattle.walrus_parsed_linked.specs.walrus_pairing.walrus_instr.declared.seq.InstrLocId.{InstrLocId}
+use Rattle.walrus_parsed_linked.specs.walrus_pairing.walrus_instr.declared.seq.InstrSeq.{InstrSeq}
+use Rattle.walrus_parsed_linked.specs.walrus_pairing.walrus_instr.declared.seq.InstrSeqType.{InstrSeqType}
 use Rattle.walrus_parsed_linked.specs.walrus_parsed_items.walrus_parse.walrus_module.walrus_builder.Built.{Seq, seq_of}
 use Rattle.walrus_parsed_linked.specs.walrus_parsed_items.walrus_parse.walrus_file_bodies.walrus_items_into.walrus_module_env.walrus_handler_types.walrus_handler_laws.walrus_tree.walrus_walks.Tree.{children, children_in, handlers}
 use Rattle.walrus_parsed_linked.specs.walrus_parsed_items.walrus_parse.walrus_file_bodies.walrus_items_into.walrus_module_env.walrus_handler_types.walrus_handler_laws.walrus_tree.Trees.{IsTree, Nothing, Stand, Tree, Trees, ids}
-use Rattle.walrus_parsed_linked.specs.walrus_operator_laws.Laws.{OperatorComesBack}
+use Rattle.walrus_parsed_linked.specs.walrus_pairing.Laws.{OperatorComesBack}
 use Rattle.walrus_parsed_linked.specs.walrus_parsed_items.walrus_parse.walrus_file_bodies.walrus_items_into.walrus_module_env.walrus_handler_types.walrus_handler_laws.walrus_body_steps.walrus_body_nesting.declared.frames.Opener.{Opener}
 use Rattle.walrus_parsed_linked.specs.walrus_parsed_items.walrus_parse.walrus_file_bodies.walrus_items_into.walrus_module_env.walrus_handler_types.walrus_handler_laws.walrus_body_steps.walrus_body_nesting.declared.frames.Opener.TheVariants as openers
 use Rattle.walrus_parsed_linked.specs.walrus_parsed_items.walrus_parse.walrus_file_bodies.walrus_items_into.walrus_module_env.walrus_handler_types.walrus_handler_laws.walrus_body_steps.walrus_body_nesting.Opens.{Makes, type_at}

@@ -1,7 +1,7 @@
 -- The groups of types of a module that was read: those of its file, and behind them the types that its handlers have and the file hasn't.
 use Rattle.std.specs.Prelude.{ℕ, ◌≡◌, ◌<◌, false, List, [], ◌∷◌, ◌++◌, All, map, Option}
 use Rattle.std.specs.List.{AllByRecursion, flat_map}
-use Rattle.walrus_parsed_linked.specs.walrus_operator_laws.walrus_pairing.wasm_immediates.wasm_features.declared.WasmFeatures.{WasmFeatures}
+use Rattle.walrus_parsed_linked.specs.walrus_pairing.wasm_immediates.wasm_features.declared.WasmFeatures.{WasmFeatures}
 use Rattle.walrus_config.specs.declared.config.ModuleConfig.{ModuleConfig}
 use Rattle.walrus_parsed_linked.specs.walrus_parsed_items.walrus_parse.walrus_file_bodies.Ready.{bodies_in}
 use Rattle.walrus_forms.specs.Records.{TypeGroup}
@@ -10,7 +10,7 @@ use Rattle.walrus_parsed_linked.specs.walrus_parsed_items.walrus_parse.walrus_fi
 use Rattle.walrus_parsed_linked.specs.walrus_parsed_items.walrus_into_laws.Groups.{kept}
 use Rattle.walrus_parsed_linked.specs.walrus_parsed_items.walrus_parse.walrus_file_bodies.walrus_items_into.walrus_module_env.walrus_handler_types.walrus_handler_laws.declared.handler.Handler.{Handler}
 use Rattle.walrus_parsed_linked.specs.walrus_parsed_items.walrus_parse.walrus_file_bodies.walrus_items_into.walrus_module_env.walrus_handler_types.Giving.{tree_handlers}
-use Rattle.walrus_parsed_linked.specs.walrus_operator_laws.walrus_pairing.walrus_index_maps.Maps.{Ids}
+use Rattle.walrus_parsed_linked.specs.walrus_pairing.walrus_index_maps.Maps.{Ids}
 use Rattle.walrus_parsed_linked.specs.walrus_parsed_items.walrus_into_laws.walrus_meaning.Meaning.{own_groups}
 use Rattle.walrus_parsed_linked.specs.walrus_parsed_items.walrus_parse.walrus_module.declared.module.Module.{Module as Whole}
 use Rattle.walrus_parsed_linked.specs.walrus_parsed_items.walrus_parse.walrus_file_bodies.walrus_module_bodies.Steps.{State, Steps, state}

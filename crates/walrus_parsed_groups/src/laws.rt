@@ -9,7 +9,7 @@ use walrus_parsed_linked::body_grammar::laws::bodies_read_once;
 use walrus_parsed_linked::handler_laws::laws::trees_tell;
 use walrus_parsed_linked::into_laws::groups::{groups_mean, read_types_are_declared};
 use walrus_parsed_linked::items_into::laws::filled_modules_are_filed;
-use walrus_parsed_linked::operator_laws::laws::operators_come_back;
+use walrus_parsed_linked::pairing::laws::operators_come_back;
 use walrus_parsed_linked::parsed_bodies::file_bodies::items_into::laws::filled_functions_stand;
 use walrus_parsed_linked::parsed_bodies::file_bodies::laws::bodies_read_files;
 use walrus_parsed_linked::parsed_items::into_laws::types_into::laws::types_name_below;

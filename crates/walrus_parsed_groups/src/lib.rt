@@ -44,9 +44,9 @@ pub mod module_env {
     }
 }
 
-pub mod operator_laws {
+pub mod pairing {
     pub mod laws {
-        pub use walrus_parsed_linked::operator_laws::laws::operators_come_back;
+        pub use walrus_parsed_linked::pairing::laws::operators_come_back;
     }
 }
 

@@ -4,9 +4,9 @@ use Rattle.std.specs.List.{AllByRecursion, list_any}
 use Rattle.std.specs.Option.{option_map}
 use Rattle.std.specs.Prelude.{Bool, List, None, Option, Some, [], false, map, refl, slice_index_or, suc, zero, ℕ, ◌∷◌, ◌≡◌}
 use Rattle.walrus_parsed_served.specs.walrus_passes_laws.walrus_exact.Exact.{data_exact, element_exact, expr_exact, global_exact, heap_exact, held_exact, init_exact, op_exact, place_exact, ref_exact, table_exact, val_exact, value_exact}
-use Rattle.walrus_parsed_served.specs.walrus_parsed_linked.walrus_operator_laws.walrus_pairing.walrus_forms.Renaming.{renamed_ref}
-use Rattle.walrus_parsed_served.specs.walrus_parsed_linked.walrus_operator_laws.walrus_pairing.walrus_forms.declared.value.HeapType.TheVariants as heaps
-use Rattle.walrus_parsed_served.specs.walrus_parsed_linked.walrus_operator_laws.walrus_pairing.walrus_forms.declared.value.HeapType.{HeapType}
+use Rattle.walrus_parsed_served.specs.walrus_parsed_linked.walrus_pairing.walrus_forms.Renaming.{renamed_ref}
+use Rattle.walrus_parsed_served.specs.walrus_parsed_linked.walrus_pairing.walrus_forms.declared.value.HeapType.TheVariants as heaps
+use Rattle.walrus_parsed_served.specs.walrus_parsed_linked.walrus_pairing.walrus_forms.declared.value.HeapType.{HeapType}
 use Rattle.walrus_marks.specs.walrus_instr.Constants.{ops_of}
 use Rattle.walrus_marks.specs.walrus_instr.declared.const_expr.ConstExpr.TheVariants as exprs
 use Rattle.walrus_marks.specs.walrus_instr.declared.const_expr.ConstExpr.{ConstExpr}
@@ -32,7 +32,7 @@ use Rattle.walrus_parsed_served.specs.walrus_passes_laws.walrus_refusals.Written
 use Rattle.walrus_parsed_served.specs.walrus_parsed_linked.walrus_parsed_items.walrus_parse.walrus_file_bodies.walrus_items_into.wasm_sections.wasm_grammar.Modules as grammar
 use Rattle.wasm_inexact_modules.specs.Inexact.{InexactElements, InexactExpr, InexactInit, InexactMode, InexactOperator, InexactOrigin, InexactRef, InexactValue, InexactWritten}
 use Rattle.walrus_parsed_served.specs.walrus_parsed_linked.walrus_parsed_items.walrus_parse.walrus_file_bodies.walrus_items_into.wasm_module_rules.Linked.{Each}
-use Rattle.walrus_parsed_served.specs.walrus_parsed_linked.walrus_operator_laws.wasm_operator_bytes.Names.{renamed_operator}
+use Rattle.walrus_parsed_served.specs.walrus_parsed_linked.walrus_pairing.wasm_operator_bytes.Names.{renamed_operator}
 
 -- ---- slots
 

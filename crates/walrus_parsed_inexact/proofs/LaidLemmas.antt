@@ -18,7 +18,7 @@ use Rattle.walrus_marks.specs.walrus_instr.declared.seq.InstrLocId.{InstrLocId}
 use Rattle.walrus_marks.specs.walrus_instr.declared.seq.InstrSeq.{InstrSeq}
 use Rattle.walrus_marks.specs.walrus_instr.declared.seq.InstrSeqType.{InstrSeqType}
 use Rattle.walrus_marks.specs.Chains.{Chain, root, refers}
-use Rattle.walrus_parsed_served.specs.walrus_parsed_linked.walrus_operator_laws.Laws.{OperatorComesBack}
+use Rattle.walrus_parsed_served.specs.walrus_parsed_linked.walrus_pairing.Laws.{OperatorComesBack}
 use Rattle.walrus_parsed_inexact.proofs.InstrLemmas.{IsFine, IsLeaf, Knows, handler_inexact, opened_inexact, run_leaf}
 use Rattle.walrus_parsed_inexact.proofs.TreeLemmas.{TreeIs}
 use Rattle.walrus_parsed_inexact.proofs.ValueLemmas.{InexactType, any_false, or_false, type_false}

@@ -13,16 +13,16 @@ use Rattle.walrus_parsed_served.specs.walrus_parsed_linked.walrus_parsed_items.w
 use Rattle.walrus_parsed_served.specs.walrus_parsed_linked.walrus_parsed_items.walrus_parse.walrus_file_bodies.walrus_items_into.walrus_module_env.walrus_handler_types.walrus_tree.walrus_builder.Built.{contents, seq_of}
 use Rattle.walrus_parsed_served.specs.walrus_parsed_linked.walrus_parsed_items.walrus_parse.walrus_file_bodies.walrus_items_into.walrus_module_env.walrus_handler_types.walrus_tree.walrus_builder.Functions.{seqs_of}
 use Rattle.walrus_parsed_served.specs.walrus_parsed_linked.walrus_parsed_items.walrus_parse.walrus_file_bodies.Read.{Waits, env_is, env_of, grows_none, read_body_reads, step_filed, step_is_read, step_on, steps_grow}
-use Rattle.walrus_parsed_served.specs.walrus_parsed_linked.walrus_operator_laws.walrus_pairing.walrus_forms.Renaming.{at, renamed_value}
-use Rattle.walrus_parsed_served.specs.walrus_parsed_linked.walrus_operator_laws.walrus_pairing.walrus_forms.declared.value.ValType.{ValType}
+use Rattle.walrus_parsed_served.specs.walrus_parsed_linked.walrus_pairing.walrus_forms.Renaming.{at, renamed_value}
+use Rattle.walrus_parsed_served.specs.walrus_parsed_linked.walrus_pairing.walrus_forms.declared.value.ValType.{ValType}
 use Rattle.walrus_function_types.specs.Growth.{EntryTypesGrow, FoundTypesStay, Grows, TablesGrowOn}
 use Rattle.walrus_parsed_served.specs.walrus_parsed_linked.walrus_parsed_items.walrus_parse.walrus_file_bodies.walrus_items_into.walrus_functions_into.declared.bodies.FunctionBody.{FunctionBody}
 use Rattle.walrus_parsed_served.proofs.walrus_parsed_linked.walrus_parse.walrus_handler_types.Growing.{params_grow}
-use Rattle.walrus_parsed_served.specs.walrus_parsed_linked.walrus_operator_laws.walrus_pairing.walrus_index_maps.Maps.{Ids}
+use Rattle.walrus_parsed_served.specs.walrus_parsed_linked.walrus_pairing.walrus_index_maps.Maps.{Ids}
 use Rattle.walrus_marks.specs.walrus_instr.BlockTypes.{picked, short_form}
 use Rattle.walrus_marks.specs.walrus_instr.declared.seq.InstrSeqType.TheVariants.{Simple, MultiValue}
 use Rattle.walrus_marks.specs.walrus_instr.declared.seq.InstrSeqType.{InstrSeqType}
-use Rattle.walrus_parsed_served.specs.walrus_parsed_linked.walrus_operator_laws.walrus_pairing.walrus_items.declared.local.Local.{Local}
+use Rattle.walrus_parsed_served.specs.walrus_parsed_linked.walrus_pairing.walrus_items.declared.local.Local.{Local}
 use Rattle.walrus_parsed_served.specs.walrus_parsed_linked.walrus_parsed_items.walrus_parse.walrus_file_bodies.walrus_items_into.walrus_functions_into.walrus_types_into.walrus_known_sections.Items.{chunk_of}
 use Rattle.walrus_parsed_served.specs.walrus_parsed_linked.walrus_parsed_items.walrus_parse.walrus_file_bodies.walrus_module_bodies.Reading.{AddsRuns}
 use Rattle.walrus_parsed_served.specs.walrus_parsed_linked.walrus_parsed_items.walrus_parse.walrus_file_bodies.walrus_module_bodies.Steps.{IsStep, State, Steps, cursor_of}
@@ -32,7 +32,7 @@ use Rattle.walrus_parsed_served.specs.walrus_parsed_linked.walrus_parsed_items.w
 use Rattle.walrus_parsed_served.specs.walrus_parsed_linked.walrus_parsed_items.walrus_parse.walrus_file_bodies.walrus_items_into.walrus_module_env.Parsed.{IsRead, PicksAreSeen}
 use Rattle.walrus_parsed_served.specs.walrus_parsed_linked.walrus_parsed_items.walrus_parse.walrus_file_bodies.walrus_items_into.walrus_module_env.declared.env.ModuleEnv.{ModuleEnv}
 use Rattle.walrus_parsed_served.specs.walrus_parsed_linked.walrus_parsed_items.walrus_parse.walrus_file_bodies.walrus_items_into.walrus_module_env.walrus_collections.walrus_module_items.Functions.{type_of}
-use Rattle.walrus_parsed_served.specs.walrus_parsed_linked.walrus_operator_laws.Laws.{OperatorComesBack}
+use Rattle.walrus_parsed_served.specs.walrus_parsed_linked.walrus_pairing.Laws.{OperatorComesBack}
 use Rattle.walrus_parsed_served.proofs.walrus_parsed_linked.walrus_parsed_bodies.PickLemmas.{stands_as_written}
 use Rattle.walrus_parsed_inexact.proofs.InstrLemmas.{IsFine, Knows}
 use Rattle.walrus_parsed_inexact.proofs.LaidLemmas.{body_inexact}

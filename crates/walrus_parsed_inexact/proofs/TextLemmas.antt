@@ -3,10 +3,10 @@ use Rattle.std.proofs.Common.{subst}
 use Rattle.std.specs.List.{AllByRecursion, flat_map}
 use Rattle.std.specs.Option.{option_and_then, option_map}
 use Rattle.std.specs.Prelude.{List, None, Option, Some, [], map, refl, slice_get, slice_index_or, suc, zero, ℕ, ◌++◌, ◌∷◌, ◌≡◌}
-use Rattle.walrus_parsed_served.specs.walrus_parsed_linked.walrus_operator_laws.walrus_pairing.walrus_forms.Forms.{ArrayForm, Form, FunctionForm, StructForm}
-use Rattle.walrus_parsed_served.specs.walrus_parsed_linked.walrus_operator_laws.walrus_pairing.walrus_forms.Kinds.{Kind}
-use Rattle.walrus_parsed_served.specs.walrus_parsed_linked.walrus_operator_laws.walrus_pairing.walrus_forms.Records.{TypeGroup}
-use Rattle.walrus_parsed_served.specs.walrus_parsed_linked.walrus_operator_laws.walrus_pairing.walrus_forms.declared.value.ValType.{ValType}
+use Rattle.walrus_parsed_served.specs.walrus_parsed_linked.walrus_pairing.walrus_forms.Forms.{ArrayForm, Form, FunctionForm, StructForm}
+use Rattle.walrus_parsed_served.specs.walrus_parsed_linked.walrus_pairing.walrus_forms.Kinds.{Kind}
+use Rattle.walrus_parsed_served.specs.walrus_parsed_linked.walrus_pairing.walrus_forms.Records.{TypeGroup}
+use Rattle.walrus_parsed_served.specs.walrus_parsed_linked.walrus_pairing.walrus_forms.declared.value.ValType.{ValType}
 use Rattle.walrus_function_types.specs.FunctionTypes.{form_params, form_results}
 use Rattle.walrus_parsed_served.specs.walrus_parsed_groups.Added.{Signature}
 use Rattle.walrus_parsed_served.specs.walrus_parsed_groups.Files.{block_gives, bodies_handle, body_handles, opened_gives, part_handles, sent, tag_takes, text_handles, type_params, type_results}
@@ -18,9 +18,9 @@ use Rattle.walrus_parsed_served.specs.walrus_parsed_linked.walrus_parsed_items.w
 use Rattle.walrus_parsed_served.specs.walrus_parsed_linked.walrus_parsed_items.walrus_parse.walrus_file_bodies.walrus_items_into.wasm_sections.wasm_grammar.Modules as grammar
 use Rattle.walrus_parsed_served.specs.walrus_parsed_linked.walrus_parsed_items.walrus_parse.walrus_file_bodies.walrus_items_into.wasm_sections.wasm_grammar.States.{types_of}
 use Rattle.walrus_parsed_served.specs.walrus_parsed_linked.walrus_parsed_items.walrus_parse.walrus_file_bodies.walrus_items_into.wasm_sections.wasm_grammar.TypeWords.{value_of}
-use Rattle.walrus_parsed_served.specs.walrus_parsed_linked.walrus_operator_laws.walrus_pairing.wasm_immediates.Items.{Item, Names, Number, S32, S64, Bits, Byte, Bytes, Heap, Block, Access, ManyLabels, ManyValues, ManyClauses, Tags}
-use Rattle.walrus_parsed_served.specs.walrus_parsed_linked.walrus_operator_laws.walrus_pairing.wasm_immediates.declared.block_type.BlockType.TheVariants as blocks
-use Rattle.walrus_parsed_served.specs.walrus_parsed_linked.walrus_operator_laws.walrus_pairing.wasm_immediates.declared.block_type.BlockType.{BlockType}
+use Rattle.walrus_parsed_served.specs.walrus_parsed_linked.walrus_pairing.wasm_immediates.Items.{Item, Names, Number, S32, S64, Bits, Byte, Bytes, Heap, Block, Access, ManyLabels, ManyValues, ManyClauses, Tags}
+use Rattle.walrus_parsed_served.specs.walrus_parsed_linked.walrus_pairing.wasm_immediates.declared.block_type.BlockType.TheVariants as blocks
+use Rattle.walrus_parsed_served.specs.walrus_parsed_linked.walrus_pairing.wasm_immediates.declared.block_type.BlockType.{BlockType}
 use Rattle.wasm_inexact_modules.proofs.SpellLemmas.{told_inexact}
 use Rattle.wasm_inexact_modules.specs.Inexact.{InexactBlock, InexactBody, InexactForm, InexactGroups, InexactItem, InexactKinds, InexactOperator, InexactValues, ReadBodiesAreInexact}
 use Rattle.walrus_parsed_served.specs.walrus_parsed_linked.walrus_parsed_items.walrus_parse.walrus_file_bodies.walrus_items_into.walrus_module_env.walrus_handler_types.walrus_body_steps.wasm_normal_form.Trees.{Tree, Close, Arm, Skip, Run, Nest, tree_of}

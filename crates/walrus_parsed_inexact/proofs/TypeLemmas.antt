@@ -6,11 +6,11 @@ use Rattle.std.specs.Prelude.{Bool, List, MatchOption, None, Option, Some, [], f
 use Rattle.walrus_parsed_served.specs.walrus_parsed_linked.walrus_parsed_items.walrus_parse.walrus_file_bodies.walrus_items_into.walrus_module_env.walrus_handler_types.walrus_tree.walrus_builder.Built.{Seq, contents, seq_of}
 use Rattle.walrus_parsed_served.specs.walrus_passes_laws.walrus_exact.Exact.{form_exact}
 use Rattle.walrus_parsed_served.specs.walrus_parsed_linked.walrus_parsed_items.walrus_parse.walrus_file_bodies.Read.{steps_grow}
-use Rattle.walrus_parsed_served.specs.walrus_parsed_linked.walrus_operator_laws.walrus_pairing.walrus_forms.Forms.{ArrayForm, Form, FunctionForm, StructForm}
-use Rattle.walrus_parsed_served.specs.walrus_parsed_linked.walrus_operator_laws.walrus_pairing.walrus_forms.Kinds.{Kind, entry_kind, function_kind}
-use Rattle.walrus_parsed_served.specs.walrus_parsed_linked.walrus_operator_laws.walrus_pairing.walrus_forms.Records.{TypeGroup}
-use Rattle.walrus_parsed_served.specs.walrus_parsed_linked.walrus_operator_laws.walrus_pairing.walrus_forms.Renaming.{at, renamed_kind}
-use Rattle.walrus_parsed_served.specs.walrus_parsed_linked.walrus_operator_laws.walrus_pairing.walrus_forms.declared.value.ValType.{ValType}
+use Rattle.walrus_parsed_served.specs.walrus_parsed_linked.walrus_pairing.walrus_forms.Forms.{ArrayForm, Form, FunctionForm, StructForm}
+use Rattle.walrus_parsed_served.specs.walrus_parsed_linked.walrus_pairing.walrus_forms.Kinds.{Kind, entry_kind, function_kind}
+use Rattle.walrus_parsed_served.specs.walrus_parsed_linked.walrus_pairing.walrus_forms.Records.{TypeGroup}
+use Rattle.walrus_parsed_served.specs.walrus_parsed_linked.walrus_pairing.walrus_forms.Renaming.{at, renamed_kind}
+use Rattle.walrus_parsed_served.specs.walrus_parsed_linked.walrus_pairing.walrus_forms.declared.value.ValType.{ValType}
 use Rattle.walrus_function_types.proofs.GrowthLemmas.{grows_on}
 use Rattle.walrus_function_types.specs.FunctionTypes.{form_params, form_results, params_at, results_at}
 use Rattle.walrus_function_types.specs.Growth.{Grows}

@@ -4,7 +4,7 @@ use Rattle.walrus_parsed_served.specs.walrus_sent_laws.walrus_arena.Arena.{Arena
 use Rattle.walrus_config.specs.declared.config.ModuleConfig.{ModuleConfig}
 use Rattle.walrus_errors.specs.declared.error.ModuleError.TheVariants as refusals
 use Rattle.walrus_errors.specs.declared.error.ModuleError.{ModuleError}
-use Rattle.walrus_parsed_served.specs.walrus_parsed_linked.walrus_operator_laws.walrus_pairing.walrus_index_maps.Maps.{Ids}
+use Rattle.walrus_parsed_served.specs.walrus_parsed_linked.walrus_pairing.walrus_index_maps.Maps.{Ids}
 use Rattle.walrus_marks.specs.walrus_instr.declared.seq.InstrLocId.{InstrLocId}
 use Rattle.walrus_parsed_served.specs.walrus_sent_laws.walrus_locations.Sent.{FunctionsSent}
 use Rattle.walrus_parsed_served.specs.walrus_passes_laws.walrus_references.walrus_module.Parts.{Module, parts}

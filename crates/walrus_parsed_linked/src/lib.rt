@@ -36,9 +36,9 @@ pub mod module_env {
     }
 }
 
-pub mod operator_laws {
+pub mod pairing {
     pub mod laws {
-        pub use walrus_body_walks::operator_laws::laws::operators_come_back;
+        pub use walrus_body_walks::pairing::laws::operators_come_back;
     }
 }
 

@@ -12,7 +12,7 @@ use Rattle.walrus_parsed_groups.specs.walrus_parsed_linked.walrus_parsed_items.w
 use Rattle.walrus_parsed_groups.specs.walrus_parsed_linked.walrus_parsed_items.walrus_parse.walrus_file_bodies.walrus_items_into.walrus_tables_into.walrus_sections_into.Becomes.{look_of}
 use Rattle.walrus_parsed_groups.specs.walrus_parsed_linked.walrus_parsed_items.walrus_parse.walrus_file_bodies.walrus_items_into.walrus_tables_into.walrus_sections_into.walrus_known_sections.Items.{function_of}
 use Rattle.walrus_parsed_groups.specs.walrus_parsed_linked.walrus_parsed_items.walrus_parse.walrus_file_bodies.walrus_items_into.walrus_tables_into.walrus_sections_into.walrus_known_sections.declared.items.Function.{Function as ReadFunction}
-use Rattle.walrus_parsed_groups.specs.walrus_parsed_linked.walrus_operator_laws.walrus_pairing.walrus_index_maps.Maps.{Ids}
+use Rattle.walrus_parsed_groups.specs.walrus_parsed_linked.walrus_pairing.walrus_index_maps.Maps.{Ids}
 use Rattle.walrus_parsed_groups.specs.walrus_parsed_linked.walrus_parsed_items.Items.{brought_by, head_of, heads, same}
 use Rattle.walrus_parsed_groups.specs.walrus_parsed_linked.walrus_parsed_items.walrus_into_laws.Meaning.{type_id}
 use Rattle.walrus_parsed_meaning.specs.Means.{function_bodies}

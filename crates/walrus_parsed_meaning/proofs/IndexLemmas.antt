@@ -13,7 +13,7 @@ use Rattle.walrus_parsed_groups.specs.walrus_parsed_linked.walrus_parsed_items.w
 use Rattle.walrus_parsed_groups.specs.walrus_parsed_linked.walrus_parsed_items.walrus_parse.walrus_file_bodies.walrus_items_into.walrus_tables_into.walrus_section_values.declared.globals.Global.{Global as ReadGlobal}
 use Rattle.walrus_parsed_groups.specs.walrus_parsed_linked.walrus_parsed_items.walrus_parse.walrus_item_names.Names.{bare_global}
 use Rattle.walrus_parsed_groups.specs.walrus_parsed_linked.walrus_parsed_items.walrus_parse.walrus_module.walrus_module_items.declared.global.Global.{Global}
-use Rattle.walrus_parsed_groups.specs.walrus_parsed_linked.walrus_operator_laws.walrus_pairing.Looks.{Look}
+use Rattle.walrus_parsed_groups.specs.walrus_parsed_linked.walrus_pairing.Looks.{Look}
 
 -- ---- bodies
 

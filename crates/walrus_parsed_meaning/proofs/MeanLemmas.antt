@@ -36,7 +36,7 @@ use Rattle.walrus_parsed_groups.specs.walrus_parsed_linked.walrus_parsed_items.w
 use Rattle.walrus_function_types.specs.Growth.{EntryTypesGrow, FoundTypesStay, Grows, TablesGrowOn}
 use Rattle.walrus_parsed_groups.specs.walrus_parsed_linked.walrus_parsed_items.walrus_into_laws.walrus_types_into.Into.{NewTypesStand, TypesNameBelow}
 use Rattle.walrus_parsed_groups.specs.walrus_parsed_linked.walrus_parsed_items.walrus_into_laws.walrus_meaning.Meaning.{means, own_function, own_origin, slots_of, type_ids}
-use Rattle.walrus_parsed_groups.specs.walrus_parsed_linked.walrus_operator_laws.walrus_pairing.walrus_index_maps.Maps.{Ids}
+use Rattle.walrus_parsed_groups.specs.walrus_parsed_linked.walrus_pairing.walrus_index_maps.Maps.{Ids}
 use Rattle.walrus_parsed_groups.specs.walrus_parsed_linked.walrus_parsed_items.walrus_into_laws.walrus_meaning.walrus_linked.Linked.{IsLinked, IsWhole}
 use Rattle.walrus_parsed_groups.specs.walrus_parsed_linked.walrus_parsed_items.walrus_parse.walrus_module.walrus_module_items.Functions.{type_of}
 use Rattle.walrus_parsed_groups.specs.walrus_parsed_linked.walrus_parsed_items.walrus_parse.walrus_module.walrus_module_items.declared.function.FunctionKind.TheVariants as kinds

@@ -15,7 +15,7 @@ use Rattle.walrus_parsed_groups.specs.walrus_parsed_linked.walrus_parsed_items.w
 use Rattle.walrus_parsed_groups.specs.walrus_parsed_linked.walrus_parsed_items.walrus_parse.walrus_file_bodies.walrus_items_into.walrus_tables_into.walrus_sections_into.walrus_known_sections.Types.{kinds_in}
 use Rattle.walrus_function_types.specs.Growth.{FoundTypesStay, TablesGrowOn}
 use Rattle.walrus_parsed_groups.specs.walrus_parsed_linked.walrus_parsed_items.walrus_into_laws.walrus_types_into.Into.{NewTypesStand, TypesNameBelow}
-use Rattle.walrus_parsed_groups.specs.walrus_parsed_linked.walrus_operator_laws.walrus_pairing.walrus_index_maps.Maps.{Ids}
+use Rattle.walrus_parsed_groups.specs.walrus_parsed_linked.walrus_pairing.walrus_index_maps.Maps.{Ids}
 use Rattle.walrus_parsed_groups.specs.walrus_parsed_linked.walrus_parsed_items.walrus_parse.walrus_module.declared.module.Module.{Module as Whole}
 use Rattle.walrus_parsed_groups.specs.walrus_parsed_linked.walrus_parsed_items.walrus_parse.walrus_module.walrus_types.Table.{Table, type_at}
 use Rattle.walrus_parsed_groups.proofs.walrus_parsed_linked.walrus_parsed_bodies.WholeLemmas.{bare_same}

@@ -30,7 +30,7 @@ use Rattle.walrus_body_names.specs.walrus_body_writer.Spelled.{AreWritten}
 use Rattle.walrus_body_names.specs.walrus_pairing.Looks.{number_of}
 use Rattle.walrus_body_names.specs.walrus_tree.Text.{operators}
 use Rattle.walrus_local_numbers.specs.Declared.{local_ids, with_numbers}
-use Rattle.walrus_operator_laws.specs.Sends.{Sends}
+use Rattle.walrus_pairing.specs.Sends.{Sends}
 use Rattle.walrus_parsed_locals.specs.Locals.{typed}
 use Rattle.walrus_parsed_numbers.specs.Numbers.{AreUsed}
 

@@ -10,7 +10,7 @@ use Rattle.walrus_instr.specs.declared.instr.Instr.{Instr}
 use Rattle.walrus_instr.specs.declared.const_expr.ConstOp.{ConstOp}
 use Rattle.walrus_pairing.specs.Looks.{Look, Or}
 use Rattle.walrus_pairing.specs.Read.{instr_at}
-use Rattle.walrus_operator_laws.proofs.Renamed.{operator_comes_back}
+use Rattle.walrus_pairing.proofs.Renamed.{operator_comes_back}
 use Rattle.walrus_sections_into.specs.Consts.{instr_const, plain_of, plain_is}
 use Rattle.walrus_sections_into.specs.Becomes.{renames_by, OpBecomes}
 use Rattle.walrus_forms.specs.declared.value.RefType.{RefType}

@@ -1,6 +1,6 @@
 use Rattle.walrus_operators.specs.Immediates.{items_of}
 use Rattle.walrus_operators.specs.Operators.{seen}
-use Rattle.walrus_operator_laws.specs.walrus_pairing.Read.{instr_at}
+use Rattle.walrus_pairing.specs.Read.{instr_at}
 use Rattle.walrus_body_steps.specs.walrus_body_rules.Rules.{items_test}
 use Rattle.walrus_body_steps.specs.walrus_body_rules.Sights.{look}
 use Rattle.walrus_body_steps.specs.Meanings.{RunsAs}

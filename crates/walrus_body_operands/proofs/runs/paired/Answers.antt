@@ -2,8 +2,8 @@ use Rattle.std.proofs.Common.{ℕ, Option, Ok, sym, ap, ◌∙◌}
 use Rattle.walrus_index_maps.specs.Maps.{Ids}
 use Rattle.walrus_instr.specs.declared.instr.Instr.{Instr}
 use Rattle.walrus_operators.specs.Operators.{seen}
-use Rattle.walrus_operator_laws.specs.walrus_pairing.Looks.{Or, id_of}
-use Rattle.walrus_operator_laws.specs.walrus_pairing.Read.{instr_at}
+use Rattle.walrus_pairing.specs.Looks.{Or, id_of}
+use Rattle.walrus_pairing.specs.Read.{instr_at}
 use Rattle.walrus_body_steps.specs.walrus_body_rules.Sights.{look}
 use Rattle.walrus_body_operands.proofs.Pairing.{answered}
 use Rattle.walrus_body_operands.proofs.runs.paired.Goals as goal

@@ -1,6 +1,6 @@
 use Rattle.std.proofs.Common.{◌≡◌, ◌∙◌, Ok, Result, true, sym}
 use Rattle.walrus_instr.specs.declared.instr.Instr.{Instr}
-use Rattle.walrus_operator_laws.specs.walrus_pairing.Read.{instr_at}
+use Rattle.walrus_pairing.specs.Read.{instr_at}
 use Rattle.walrus_operators.specs.Immediates.{items_of}
 use Rattle.walrus_operators.specs.Operators.{seen}
 use Rattle.walrus_body_steps.specs.walrus_body_env.declared.error.BodyError.{BodyError}

@@ -1,6 +1,6 @@
 use Rattle.std.proofs.Common.{◌≡◌, true, sym, ap, ◌∙◌}
 use Rattle.walrus_index_maps.specs.Maps.{Ids}
-use Rattle.walrus_operator_laws.specs.walrus_pairing.Types.{read_heap}
+use Rattle.walrus_pairing.specs.Types.{read_heap}
 use Rattle.std.specs.Prelude.{slice_get, Err}
 use Rattle.wasm_immediates.specs.Items.{Types}
 use Rattle.walrus_body_steps.specs.walrus_body_rules.Sights.{look}

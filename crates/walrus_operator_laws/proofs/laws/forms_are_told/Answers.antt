@@ -1,5 +1,0 @@
-use Rattle.walrus_operator_laws.specs.Together as lemmas
-use Rattle.walrus_operator_laws.proofs.laws.forms_are_told.Goals as goal
-
-pub returns : goal.returns
-returns c = lemmas.forms_are_told

@@ -1,5 +1,0 @@
-use Rattle.walrus_operator_laws.specs.Together as lemmas
-use Rattle.walrus_operator_laws.proofs.laws.instructions_come_back.Goals as goal
-
-pub returns : goal.returns
-returns c = lemmas.instr_comes_back

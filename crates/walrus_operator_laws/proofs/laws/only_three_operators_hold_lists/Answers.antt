@@ -1,5 +1,0 @@
-use Rattle.walrus_operator_laws.proofs.ListRows.{lists_are_three}
-use Rattle.walrus_operator_laws.proofs.laws.only_three_operators_hold_lists.Goals as goal
-
-pub returns : goal.returns
-returns c = lists_are_three

@@ -1,5 +1,0 @@
-use Rattle.walrus_operator_laws.proofs.Turns as lemmas
-use Rattle.walrus_operator_laws.proofs.laws.turns_number_without_gaps.Goals as goal
-
-pub returns : goal.returns
-returns c = lemmas.turns_number
