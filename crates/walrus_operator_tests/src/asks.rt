@@ -3,7 +3,7 @@ ghost use Rattle.std.specs.Prelude.{◌≡◌};
 ghost use Rattle.walrus_index_maps.specs.Views.{indices};
 ghost use Rattle.walrus_operator_tests.specs.Given.{given};
 
-use crate::maps::{Maps, are_filled, are_kept};
+use crate::maps::{Maps, are_apart, are_named, are_numbered, fill_ids, fill_numbers};
 use crate::table::all_stand;
 use std::alloc::{AllocError, Global};
 use walrus_index_maps::{IdsToIndices, IndicesToIds, Space, UnknownIndex};
@@ -11,7 +11,12 @@ use walrus_index_maps::{IdsToIndices, IndicesToIds, Space, UnknownIndex};
 fn stand(alloc: Global, maps: &mut Maps) -> bool
     requires { given (indices maps.old.numbers) ≡ 0 }
 {
-    are_filled(maps) && all_stand(alloc, maps) && are_kept(maps)
+    fill_ids(&mut maps.ids)
+        && fill_numbers(&mut maps.numbers)
+        && all_stand(alloc, maps)
+        && are_numbered(&maps.numbers)
+        && are_apart(&mut maps.numbers)
+        && are_named(&mut maps.ids)
 }
 
 fn holds(alloc: Global) -> bool {

@@ -167,8 +167,8 @@ fn item(turn: u32) -> (Space, u32, u32) {
     }
 }
 
-// Each index names nothing before its turn, and then its id.
-fn fill_ids(ids: &mut IndicesToIds) -> bool {
+/// Each index names nothing before its turn, and then its id.
+pub(crate) fn fill_ids(ids: &mut IndicesToIds) -> bool {
     for turn in 0..1188u32 {
         let (space, id, _) = item(turn);
         if named(ids, space, turn / 9) != Err(UnknownIndex(space))
@@ -180,8 +180,8 @@ fn fill_ids(ids: &mut IndicesToIds) -> bool {
     true
 }
 
-// Whether each index names its id still, locals are of one function, and types can be named anew.
-fn are_named(ids: &mut IndicesToIds) -> bool {
+/// Whether each index names its id still, locals are of one function, and types can be named anew.
+pub(crate) fn are_named(ids: &mut IndicesToIds) -> bool {
     for turn in 0..1188u32 {
         let (space, id, _) = item(turn);
         if named(ids, space, turn / 9) != Ok(id) {
@@ -194,8 +194,8 @@ fn are_named(ids: &mut IndicesToIds) -> bool {
         && place(ids.get_local(id(8), 0)) == Err(UnknownIndex(Space::Local))
 }
 
-// Each id has no number before its turn, and then its own.
-fn fill_numbers(numbers: &mut IdsToIndices) -> bool
+/// Each id has no number before its turn, and then its own.
+pub(crate) fn fill_numbers(numbers: &mut IdsToIndices) -> bool
     requires { given (indices numbers.old) ≡ 0 }
 {
     for turn in 0..1170u32 {
@@ -213,19 +213,22 @@ fn fill_numbers(numbers: &mut IdsToIndices) -> bool
     true
 }
 
-// The number of an id in a space, for each two of them: that of the first item of each space in its own alone.
-fn is_own(numbers: &IdsToIndices, turn: u32) -> bool {
-    let (space, _, _) = item(turn % 9);
-    let (_, id, _) = item(turn / 9);
-    number_of(numbers, space, id) == if turn % 9 == turn / 9 { Some(0) } else { None }
-}
-
-// Whether each id has its number still, in its own space alone, and no other has one.
-fn are_numbered(numbers: &IdsToIndices) -> bool {
+/// Whether each id has its number still, in its own space alone, and no other has one.
+pub(crate) fn are_numbered(numbers: &IdsToIndices) -> bool {
     for turn in 0..1188u32 {
         let (space, id, number) = item(turn);
         let wanted = if turn < 1170 { Some(number) } else { None };
-        if number_of(numbers, space, id) != wanted || !is_own(numbers, turn % 81) {
+        if number_of(numbers, space, id) != wanted {
+            return false;
+        }
+        // The first item of each space, in each space.
+        let (_, id, _) = item(turn / 9 % 9);
+        let wanted = if turn / 9 % 9 == turn % 9 {
+            Some(0)
+        } else {
+            None
+        };
+        if number_of(numbers, space, id) != wanted {
             return false;
         }
     }
@@ -257,8 +260,8 @@ const HELD: [Row; 9] = [
     (1, 4294967295, 0),
 ];
 
-// Whether functions that share a local have their own numbers of it.
-fn are_apart(numbers: &mut IdsToIndices) -> bool {
+/// Whether functions that share a local have their own numbers of it.
+pub(crate) fn are_apart(numbers: &mut IdsToIndices) -> bool {
     for (function, local, number) in SET {
         if numbers
             .set_local_index(id(function), id(local), number)
@@ -274,16 +277,4 @@ fn are_apart(numbers: &mut IdsToIndices) -> bool {
         }
     }
     true
-}
-
-/// Whether both have all items now.
-pub(crate) fn are_filled(maps: &mut Maps) -> bool
-    requires { given (indices maps.old.numbers) ≡ 0 }
-{
-    fill_ids(&mut maps.ids) && fill_numbers(&mut maps.numbers)
-}
-
-/// Whether both still have what they were filled with, and what they are given behind it.
-pub(crate) fn are_kept(maps: &mut Maps) -> bool {
-    are_numbered(&maps.numbers) && are_apart(&mut maps.numbers) && are_named(&mut maps.ids)
 }

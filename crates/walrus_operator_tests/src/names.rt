@@ -230,8 +230,8 @@ macro_rules! codes {
     };
 }
 
-// A prefix and the number behind it, and two ids, or zeros. The prefix ff stands for none: its number 1 for a form of the table above.
-fn named(instr: &Instr) -> (u8, u32, u32, u32) {
+/// A prefix and the number behind it, and two ids, or zeros. The prefix ff stands for none: its number 1 for a form of the table above.
+pub(crate) fn named(instr: &Instr) -> (u8, u32, u32, u32) {
     codes! {
         instr;
         0 [
@@ -275,12 +275,6 @@ fn named(instr: &Instr) -> (u8, u32, u32, u32) {
         Instr::RefCast { ty } => (0xfb, if ty.is_nullable() { 23 } else { 22 }, 0, 0),
         _ => (0xff, 0, 0, 0)
     }
-}
-
-/// The ids of two fields, in the order in which the operator has their indices.
-pub(crate) fn ids_of(instr: &Instr) -> (u32, u32) {
-    let (_, _, first, second) = named(instr);
-    (first, second)
 }
 
 /// Whether this is the code of the instruction's name.

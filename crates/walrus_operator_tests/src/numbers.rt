@@ -1,12 +1,12 @@
 //! What an operator's immediates are: their form, and their numbers one by one.
 
-use crate::words::{cut, nth, number};
+use crate::words::{cut, number};
 use walrus_operators::Immediates;
 use wasm_immediates::{BlockType, Clause, MemoryAccess};
 use wasm_ref_types::{AbstractHeapType, HeapType, UnpackedIndex, ValType};
 
-// The forms in the order of the arms below: one text, as a text an arm would be dear.
-const FORMS: &str =
+/// The forms in the order of the arms below: one text, as a text an arm would be dear.
+pub(crate) const FORMS: &str =
     "bare block handlers tag label labels function type-table type values local global table access memory i32 i64 f32 f64 heap data-memory data memory-memory element-table element table-table type-number type-data type-element type-type cast vector lane access-lane zero";
 
 /// The place of their form in the text.
@@ -48,11 +48,6 @@ pub(crate) fn place(immediates: &Immediates) -> usize {
         Immediates::AccessLane(_, _) => 33,
         Immediates::Zero => 34,
     }
-}
-
-/// Whether their form is of this name.
-pub(crate) fn form_is(immediates: &Immediates, name: &[u8]) -> bool {
-    nth(FORMS.as_bytes(), place(immediates)) == name
 }
 
 // The number that an abstract type's byte is. A number below zero counts from 2^64 down.

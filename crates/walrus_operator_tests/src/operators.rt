@@ -2,7 +2,7 @@
 
 use crate::maps::Maps;
 use crate::rows::IMMEDIATES;
-use crate::view::{Asked, END, answer, holds};
+use crate::view::{Asked, END, answer};
 use crate::words::{as_slice, bytes_of, code, cut, text_of};
 use std::alloc::Global;
 use wasm_operators::OpCode;
@@ -48,7 +48,8 @@ fn has_immediates(
         word
     };
     let bytes = as_slice(&bytes);
-    ends_early(alloc, maps, bytes) && holds(alloc, maps, bytes, (b'c', code, form, numbers, word))
+    let asked = (b'c', code, form, numbers, word);
+    ends_early(alloc, maps, bytes) && answer(alloc, maps, WasmFeatures::all(), bytes, asked).0 == 0
 }
 
 // With how many immediates the code stands: with each of its form. None where it doesn't, or there are none.
@@ -118,11 +119,14 @@ pub(crate) fn codes_stand(alloc: Global, maps: &Maps, row: &[u8]) -> Option<u32>
 /// Whether what this kind of row asks stands of the operator of a row.
 pub(crate) fn is_answered(alloc: Global, maps: &Maps, kind: u8, row: &[u8]) -> bool {
     let (bytes, words) = cut(row, b' ');
-    let (_, code, _, _, _) = NOTHING;
-    holds(
+    let (_, code, form, numbers, _) = NOTHING;
+    let asked = (kind, code, form, numbers, words);
+    answer(
         alloc,
         maps,
+        WasmFeatures::all(),
         as_slice(&bytes_of(bytes)),
-        (kind, code, &[], &[], words),
+        asked,
     )
+    .0 == 0
 }

@@ -1,10 +1,10 @@
 //! What pairing makes of operators.
 
 use crate::maps::{Maps, body};
-use crate::names::{ids_of, is_named};
+use crate::names::{is_named, named};
 use crate::numbers::place;
 use crate::view::is_written;
-use crate::words::{code, cut, nth, number};
+use crate::words::{code, cut, number};
 use std::alloc::Global;
 use walrus_index_maps::{IdsToIndices, Space};
 use walrus_instr::Instr;
@@ -12,9 +12,9 @@ use walrus_operators::{Immediates, Operator};
 use walrus_pairing::{PairError, instr_of, operator_of};
 use wasm_operators::OpCode;
 
-// What pairing makes, one text: `back` where the instruction has the code of its name, and its operator is of the same form and written as the
-// same bytes, `none` where there is no instruction, or the refusal, of an index by its space.
-const MADE: &str =
+/// What pairing makes, one text: `back` where the instruction has the code of its name, and its operator is of the same form and written as the
+/// same bytes, `none` where there is no instruction, or the refusal, of an index by its space.
+pub(crate) const MADE: &str =
     "back other none shared select alignment no-type no-function no-table no-memory no-tag no-global no-element no-data no-local no-label";
 
 fn refused(fault: PairError) -> usize {
@@ -60,8 +60,8 @@ pub(crate) fn gives(
 
 fn has_ids(instr: &Instr, words: &[u8]) -> bool {
     let (one, other) = cut(words, b' ');
-    let ids = ids_of(instr);
-    ids.0 as u64 == number(one, 10) && ids.1 as u64 == number(other, 10)
+    let (_, _, first, second) = named(instr);
+    first as u64 == number(one, 10) && second as u64 == number(other, 10)
 }
 
 // Whether the instruction has these ids in its fields, or, where none are asked for, the code of its name, and gives the operator back.
@@ -107,17 +107,6 @@ pub(crate) fn made(
         Ok(None) => 2,
         Err(fault) => refused(fault),
     }
-}
-
-/// Whether this word of the text is what pairing makes of the operator of these bytes.
-pub(crate) fn becomes(
-    alloc: Global,
-    maps: &Maps,
-    operator: &Operator,
-    bytes: &[u8],
-    word: &[u8],
-) -> bool {
-    nth(MADE.as_bytes(), made(alloc, maps, operator, bytes, &[])) == word
 }
 
 /// Whether the code of a row has no instruction without immediates.

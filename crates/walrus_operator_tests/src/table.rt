@@ -8,31 +8,31 @@ use crate::rows::ROWS;
 use crate::words::{cut, first, number};
 use std::alloc::Global;
 
-// How many operators, codes or rows a row asks of, if all stand.
-fn stands(alloc: Global, maps: &Maps, kind: u8, words: &[u8]) -> Option<u32> {
-    let stands = match kind {
-        b'c' => return codes_stand(alloc, maps, words),
-        b'f' => is_refused(alloc, maps, words),
-        b'm' => has_no_instr(alloc, maps, words),
-        _ => is_answered(alloc, maps, kind, words),
-    };
-    if stands { Some(1) } else { None }
-}
-
-// The sum of a kind behind one more row, if it stands. It is 0 again behind the row of the sum.
+// The sum of a kind behind one more row, of operators, codes or rows, if it stands. It is 0 again behind the row of the sum.
 fn sum_with(alloc: Global, maps: &Maps, sum: u32, row: &[u8]) -> Option<u32> {
     let (kind, words) = cut(row, b' ');
-    let kind = first(kind);
-    if kind == b's' {
-        return if number(words, 10) == sum as u64 {
-            Some(0)
-        } else {
-            None
-        };
-    }
-    match stands(alloc, maps, kind, words) {
-        Some(count) => Some(sum.saturating_add(count)),
-        None => None,
+    let stands = match first(kind) {
+        b's' => {
+            return if number(words, 10) == sum as u64 {
+                Some(0)
+            } else {
+                None
+            };
+        }
+        b'c' => {
+            return match codes_stand(alloc, maps, words) {
+                Some(count) => Some(sum.saturating_add(count)),
+                None => None,
+            };
+        }
+        b'f' => is_refused(alloc, maps, words),
+        b'm' => has_no_instr(alloc, maps, words),
+        kind => is_answered(alloc, maps, kind, words),
+    };
+    if stands {
+        Some(sum.saturating_add(1))
+    } else {
+        None
     }
 }
 

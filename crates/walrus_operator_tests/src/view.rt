@@ -1,9 +1,9 @@
 //! What reading answers of bytes, and what is asked of the operator that they are.
 
 use crate::maps::Maps;
-use crate::numbers::{form_is, has_numbers};
-use crate::pairing::{becomes, made};
-use crate::words::{as_slice, bytes_of};
+use crate::numbers::{FORMS, has_numbers, place};
+use crate::pairing::{MADE, made};
+use crate::words::{as_slice, bytes_of, nth};
 use std::alloc::Global;
 use walrus_operator_writer::write_operator;
 use walrus_operators::{Operator, OperatorError, OperatorReader};
@@ -38,11 +38,11 @@ fn is_so(alloc: Global, maps: &Maps, operator: &Operator, bytes: &[u8], asked: A
     match kind {
         b'c' => {
             operator.code == code
-                && form_is(&operator.immediates, form)
+                && nth(FORMS.as_bytes(), place(&operator.immediates)) == form
                 && has_numbers(&operator.immediates, numbers)
                 && is_written(alloc, operator, bytes)
                 && is_copied(alloc, operator, bytes)
-                && becomes(alloc, maps, operator, bytes, words)
+                && nth(MADE.as_bytes(), made(alloc, maps, operator, bytes, &[])) == words
         }
         b'p' => is_written(alloc, operator, as_slice(&bytes_of(words))),
         b'r' => made(alloc, maps, operator, as_slice(&bytes_of(words)), &[]) == 0,
@@ -92,9 +92,4 @@ pub(crate) fn answer(
         }
         Err(OperatorError::Unknown(offset)) => (2, 0, offset),
     }
-}
-
-/// Whether the bytes are an operator of which that stands. All features are on.
-pub(crate) fn holds(alloc: Global, maps: &Maps, bytes: &[u8], asked: Asked<'_>) -> bool {
-    answer(alloc, maps, WasmFeatures::all(), bytes, asked).0 == 0
 }
