@@ -6,8 +6,6 @@ mod asks;
 #[cfg(test)]
 mod faults;
 #[cfg(test)]
-mod index_maps;
-#[cfg(test)]
 mod maps;
 #[cfg(test)]
 mod names;

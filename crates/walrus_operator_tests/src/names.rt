@@ -1,41 +1,63 @@
 //! The code of each instruction by its name, from the standard's index of instructions and the proposals on threads and wide arithmetic: an
 //! exchange of two forms in definitions and code alike is found here.
 
-use crate::maps::body;
+use crate::maps::id;
+use crate::pairing::gives;
 use std::alloc::Global;
 use walrus_index_maps::IdsToIndices;
 use walrus_instr::{
-    AtomicOp, AtomicWidth, BinaryOp, ExtendedLoad, Instr, LoadKind, LoadSimdKind, StoreKind,
-    TernaryOp, UnaryOp, Value,
+    AtomicOp, AtomicWidth, BinaryOp, ExtendedLoad, Instr, LoadKind, LoadSimdKind, MemArg,
+    StoreKind, TernaryOp, UnaryOp, Value,
 };
-use walrus_pairing::operator_of;
 use wasm_operators::OpCode;
 
-// A prefix, and the number behind it.
-type Code = (u8, u32);
-
-// No code.
-const NONE: Code = (0xff, 0);
-
-// That of the form of a numeric or vector operator, which stands in a table below.
-const FORM: Code = (0xff, 1);
-
+// The form of an instruction with a part that tells its code.
 #[derive(Clone, Copy)]
 enum Form {
     Unary(UnaryOp),
     Binary(BinaryOp),
     Ternary(TernaryOp),
+    Load(LoadKind),
+    Store(StoreKind),
+    Vector(LoadSimdKind),
+    Change(AtomicOp, AtomicWidth),
+    Cmpxchg(AtomicWidth),
+    Wait(bool),
 }
 
-// The forms of enums, each with its code: a prefix, and the names with their numbers behind it. Each lane is 0.
+// The forms of enums, each with its code: a prefix, and the names with their numbers behind it. Each lane is 0. Then those of accesses: what
+// is extended with its signed, unsigned and atomic number; what is plain or atomic with the number of each; and the changes, each with the number
+// of its first width.
 macro_rules! forms {
-    ($($kind:ident $of:ident { $($prefix:literal [$($name:ident $({ $lane:ident })? $number:literal),*])* })*) => {
-        [$($($(($prefix, $number, Form::$kind($of::$name $({ $lane: 0 })?)),)*)*)*]
+    (
+        names { $($kind:ident $of:ident { $($prefix:literal [$($name:ident $({ $lane:ident })? $(($lane_number:literal))? $number:literal),*])* })* }
+        extended { $($extended:ident $signed:literal $unsigned:literal $atomically:literal),* }
+        atomic { $($either:ident $either_of:ident $either_name:ident $plain:literal $atomic:literal),* }
+        changes { $($op:ident [$($width:ident $change:literal),*])* }
+        exchanges { $($exchanged:ident $exchange:literal),* }
+        waits { $($sixty_four:literal $wait:literal),* }
+    ) => {
+        [
+            $($($(($prefix, $number, Form::$kind($of::$name $({ $lane: 0 })? $(($lane_number))?)),)*)*)*
+            $(
+                (0, $signed, Form::Load(LoadKind::$extended { kind: ExtendedLoad::SignExtend })),
+                (0, $unsigned, Form::Load(LoadKind::$extended { kind: ExtendedLoad::ZeroExtend })),
+                (0xfe, $atomically, Form::Load(LoadKind::$extended { kind: ExtendedLoad::ZeroExtendAtomic })),
+            )*
+            $(
+                (0, $plain, Form::$either($either_of::$either_name { atomic: false })),
+                (0xfe, $atomic, Form::$either($either_of::$either_name { atomic: true })),
+            )*
+            $($((0xfe, $change, Form::Change(AtomicOp::$op, AtomicWidth::$width)),)*)*
+            $((0xfe, $exchange, Form::Cmpxchg(AtomicWidth::$exchanged)),)*
+            $((0xfe, $wait, Form::Wait($sixty_four)),)*
+        ]
     };
 }
 
 // All forms, each once. (A match on their names would be dear, as each name in it is a part of the proof.)
-static FORMS: [(u8, u32, Form); 368] = forms! {
+static FORMS: [(u8, u32, Form); 478] = forms! {
+    names {
     Unary UnaryOp {
         0 [
             I32Eqz 0x45, I64Eqz 0x50, I32Clz 0x67, I32Ctz 0x68, I32Popcnt 0x69, I64Clz 0x79, I64Ctz 0x7a, I64Popcnt 0x7b, F32Abs 0x8b,
@@ -110,173 +132,154 @@ static FORMS: [(u8, u32, Form); 368] = forms! {
             I16x8RelaxedLaneselect 266, I32x4RelaxedLaneselect 267, I64x2RelaxedLaneselect 268, I32x4RelaxedDotI8x16I7x16AddS 275
         ]
     }
+    Load LoadKind {
+        0 [F32 0x2a, F64 0x2b]
+        0xfd [V128 0]
+    }
+    Store StoreKind {
+        0 [F32 0x38, F64 0x39]
+        0xfd [V128 11]
+    }
+    Vector LoadSimdKind {
+        0xfd [
+            V128Load8x8S 1, V128Load8x8U 2, V128Load16x4S 3, V128Load16x4U 4, V128Load32x2S 5, V128Load32x2U 6, Splat8 7, Splat16 8, Splat32 9,
+            Splat64 10, V128Load8Lane (0) 84, V128Load16Lane (0) 85, V128Load32Lane (0) 86, V128Load64Lane (0) 87, V128Store8Lane (0) 88,
+            V128Store16Lane (0) 89, V128Store32Lane (0) 90, V128Store64Lane (0) 91, V128Load32Zero 92, V128Load64Zero 93
+        ]
+    }
+    }
+    extended {
+        I32_8 0x2c 0x2d 18, I32_16 0x2e 0x2f 19, I64_8 0x30 0x31 20, I64_16 0x32 0x33 21, I64_32 0x34 0x35 22
+    }
+    atomic {
+        Load LoadKind I32 0x28 16, Load LoadKind I64 0x29 17, Store StoreKind I32 0x36 23, Store StoreKind I64 0x37 24,
+        Store StoreKind I32_8 0x3a 25, Store StoreKind I32_16 0x3b 26, Store StoreKind I64_8 0x3c 27, Store StoreKind I64_16 0x3d 28,
+        Store StoreKind I64_32 0x3e 29
+    }
+    changes {
+        Add [I32 30, I64 31, I32_8 32, I32_16 33, I64_8 34, I64_16 35, I64_32 36]
+        Sub [I32 37, I64 38, I32_8 39, I32_16 40, I64_8 41, I64_16 42, I64_32 43]
+        And [I32 44, I64 45, I32_8 46, I32_16 47, I64_8 48, I64_16 49, I64_32 50]
+        Or [I32 51, I64 52, I32_8 53, I32_16 54, I64_8 55, I64_16 56, I64_32 57]
+        Xor [I32 58, I64 59, I32_8 60, I32_16 61, I64_8 62, I64_16 63, I64_32 64]
+        Xchg [I32 65, I64 66, I32_8 67, I32_16 68, I64_8 69, I64_16 70, I64_32 71]
+    }
+    exchanges {
+        I32 72, I64 73, I32_8 74, I32_16 75, I64_8 76, I64_16 77, I64_32 78
+    }
+    waits {
+        false 1, true 2
+    }
 };
 
-fn form_of(code: OpCode) -> Option<Form> {
-    for (prefix, number, form) in &FORMS {
-        if *prefix == code.prefix && *number == code.number {
-            return Some(*form);
-        }
-    }
-    None
-}
-
-fn instr(form: Form) -> Instr {
-    match form {
+// An instruction of the form, any memory and place, gives this code.
+fn has_code(alloc: Global, numbers: &IdsToIndices, form: Form, code: OpCode) -> bool {
+    let memory = id(800);
+    let arg = MemArg {
+        align: 1,
+        offset: 0,
+    };
+    let instr = match form {
         Form::Unary(op) => Instr::Unop { op },
         Form::Binary(op) => Instr::Binop { op },
         Form::Ternary(op) => Instr::TernOp { op },
-    }
-}
-
-fn has_code(alloc: Global, numbers: &IdsToIndices, instr: &Instr, code: OpCode) -> bool {
-    match operator_of(alloc, instr, body(), numbers) {
-        Ok(Some(operator)) => {
-            operator.code.prefix == code.prefix && operator.code.number == code.number
-        }
-        _ => false,
-    }
+        Form::Load(kind) => Instr::Load { memory, kind, arg },
+        Form::Store(kind) => Instr::Store { memory, kind, arg },
+        Form::Vector(kind) => Instr::LoadSimd { memory, kind, arg },
+        Form::Change(op, width) => Instr::AtomicRmw {
+            memory,
+            op,
+            width,
+            arg,
+        },
+        Form::Cmpxchg(width) => Instr::Cmpxchg { memory, width, arg },
+        Form::Wait(sixty_four) => Instr::AtomicWait {
+            memory,
+            arg,
+            sixty_four,
+        },
+    };
+    gives(alloc, numbers, &instr, code, 0, &[])
 }
 
 // Whether the form whose code this is by its name has it. As this is asked of each code, no two forms have one code, so that what comes
 // back to the operator of a code is the form of that name.
 fn is_of_its_form(alloc: Global, numbers: &IdsToIndices, code: OpCode) -> bool {
-    match form_of(code) {
-        Some(form) => has_code(alloc, numbers, &instr(form), code),
-        None => false,
+    for (prefix, number, form) in &FORMS {
+        if *prefix == code.prefix && *number == code.number {
+            return has_code(alloc, numbers, *form, code);
+        }
     }
+    false
 }
 
-// The code of an enum's forms: a prefix, and the names with their numbers behind it, and of others what stands behind them.
-macro_rules! code {
-    ($of:expr, $forms:ident { $($prefix:literal [$($name:ident $number:literal),*])* } $($other:pat => $code:expr),*) => {
+// The code of each instruction by its name: a prefix, and the names with their numbers behind it, and what stands behind the code: two ids of its
+// fields, in the order in which the operator has their indices.
+macro_rules! codes {
+    (
+        $of:expr;
+        $($prefix:literal [$($name:ident $number:literal),*])*
+        ids { $($ids_prefix:literal [$($of_ids:ident { $first:ident, $second:ident } $ids_number:literal),*])* }
+        $($other:pat => $code:expr),*
+    ) => {
         match $of {
-            $($($forms::$name { .. } => ($prefix, $number),)*)*
+            $($(Instr::$name { .. } => ($prefix, $number, 0, 0),)*)*
+            $($(Instr::$of_ids { $first, $second } => ($ids_prefix, $ids_number, $first.number(), $second.number()),)*)*
             $($other => $code,)*
         }
     };
 }
 
-fn constant(value: Value) -> Code {
-    code! { value, Value { 0 [I32 0x41, I64 0x42, F32 0x43, F64 0x44] 0xfd [V128 12] } }
-}
-
-// The code of an access, or of the atomic one.
-fn either(atomic: bool, plain: u32, number: u32) -> Code {
-    if atomic { (0xfe, number) } else { (0, plain) }
-}
-
-fn extended(kind: ExtendedLoad, signed: u32, unsigned: u32, atomic: u32) -> Code {
-    match kind {
-        ExtendedLoad::SignExtend => (0, signed),
-        ExtendedLoad::ZeroExtend => (0, unsigned),
-        ExtendedLoad::ZeroExtendAtomic => (0xfe, atomic),
-    }
-}
-
-fn load(kind: LoadKind) -> Code {
-    match kind {
-        LoadKind::I32 { atomic } => either(atomic, 0x28, 16),
-        LoadKind::I64 { atomic } => either(atomic, 0x29, 17),
-        LoadKind::F32 => (0, 0x2a),
-        LoadKind::F64 => (0, 0x2b),
-        LoadKind::V128 => (0xfd, 0),
-        LoadKind::I32_8 { kind } => extended(kind, 0x2c, 0x2d, 18),
-        LoadKind::I32_16 { kind } => extended(kind, 0x2e, 0x2f, 19),
-        LoadKind::I64_8 { kind } => extended(kind, 0x30, 0x31, 20),
-        LoadKind::I64_16 { kind } => extended(kind, 0x32, 0x33, 21),
-        LoadKind::I64_32 { kind } => extended(kind, 0x34, 0x35, 22),
-    }
-}
-
-fn store(kind: StoreKind) -> Code {
-    match kind {
-        StoreKind::I32 { atomic } => either(atomic, 0x36, 23),
-        StoreKind::I64 { atomic } => either(atomic, 0x37, 24),
-        StoreKind::F32 => (0, 0x38),
-        StoreKind::F64 => (0, 0x39),
-        StoreKind::V128 => (0xfd, 11),
-        StoreKind::I32_8 { atomic } => either(atomic, 0x3a, 25),
-        StoreKind::I32_16 { atomic } => either(atomic, 0x3b, 26),
-        StoreKind::I64_8 { atomic } => either(atomic, 0x3c, 27),
-        StoreKind::I64_16 { atomic } => either(atomic, 0x3d, 28),
-        StoreKind::I64_32 { atomic } => either(atomic, 0x3e, 29),
-    }
-}
-
-fn vector(kind: LoadSimdKind) -> Code {
-    code! { kind, LoadSimdKind {
-        0xfd [
-            V128Load8x8S 1, V128Load8x8U 2, V128Load16x4S 3, V128Load16x4U 4, V128Load32x2S 5, V128Load32x2U 6, Splat8 7, Splat16 8, Splat32 9,
-            Splat64 10, V128Load8Lane 84, V128Load16Lane 85, V128Load32Lane 86, V128Load64Lane 87, V128Store8Lane 88, V128Store16Lane 89,
-            V128Store32Lane 90, V128Store64Lane 91, V128Load32Zero 92, V128Load64Zero 93
-        ]
-    } }
-}
-
-// The place of a width among the codes of a change.
-fn place(width: AtomicWidth) -> u32 {
-    match width {
-        AtomicWidth::I32 => 0,
-        AtomicWidth::I64 => 1,
-        AtomicWidth::I32_8 => 2,
-        AtomicWidth::I32_16 => 3,
-        AtomicWidth::I64_8 => 4,
-        AtomicWidth::I64_16 => 5,
-        AtomicWidth::I64_32 => 6,
-    }
-}
-
-fn first(op: AtomicOp) -> u32 {
-    match op {
-        AtomicOp::Add => 30,
-        AtomicOp::Sub => 37,
-        AtomicOp::And => 44,
-        AtomicOp::Or => 51,
-        AtomicOp::Xor => 58,
-        AtomicOp::Xchg => 65,
-    }
-}
-
-fn code_of(instr: &Instr) -> Code {
-    code! { instr, Instr {
+/// A prefix and the number behind it, and two ids, or zeros. The prefix ff stands for none: its number 1 for a form of the table above.
+pub(crate) fn named(instr: &Instr) -> (u8, u32, u32, u32) {
+    codes! {
+        instr;
         0 [
-            Unreachable 0x00, Throw 0x08, ThrowRef 0x0a, Return 0x0f, Call 0x10, CallIndirect 0x11, ReturnCall 0x12, ReturnCallIndirect 0x13,
-            CallRef 0x14, ReturnCallRef 0x15, Drop 0x1a, LocalGet 0x20, LocalSet 0x21, LocalTee 0x22, GlobalGet 0x23, GlobalSet 0x24,
-            TableGet 0x25, TableSet 0x26, MemorySize 0x3f, MemoryGrow 0x40, RefNull 0xd0, RefIsNull 0xd1, RefFunc 0xd2, RefEq 0xd3,
-            RefAsNonNull 0xd4
+            Unreachable 0x00, Throw 0x08, ThrowRef 0x0a, Return 0x0f, Call 0x10, ReturnCall 0x12, CallRef 0x14, ReturnCallRef 0x15, Drop 0x1a,
+            LocalGet 0x20, LocalSet 0x21, LocalTee 0x22, GlobalGet 0x23, GlobalSet 0x24, TableGet 0x25, TableSet 0x26, MemorySize 0x3f,
+            MemoryGrow 0x40, RefNull 0xd0, RefIsNull 0xd1, RefFunc 0xd2, RefEq 0xd3, RefAsNonNull 0xd4
         ]
         0xfb [
             StructNew 0, StructNewDefault 1, StructGet 2, StructGetS 3, StructGetU 4, StructSet 5, ArrayNew 6, ArrayNewDefault 7,
-            ArrayNewFixed 8, ArrayNewData 9, ArrayNewElem 10, ArrayGet 11, ArrayGetS 12, ArrayGetU 13, ArraySet 14, ArrayLen 15, ArrayFill 16,
-            ArrayCopy 17, ArrayInitData 18, ArrayInitElem 19, AnyConvertExtern 26, ExternConvertAny 27, RefI31 28, I31GetS 29, I31GetU 30
+            ArrayNewFixed 8, ArrayGet 11, ArrayGetS 12, ArrayGetU 13, ArraySet 14, ArrayLen 15, ArrayFill 16, AnyConvertExtern 26,
+            ExternConvertAny 27, RefI31 28, I31GetS 29, I31GetU 30
         ]
-        0xfc [
-            MemoryInit 8, DataDrop 9, MemoryCopy 10, MemoryFill 11, TableInit 12, ElemDrop 13, TableCopy 14, TableGrow 15, TableSize 16,
-            TableFill 17, I64Add128 19, I64Sub128 20
-        ]
+        0xfc [DataDrop 9, MemoryFill 11, ElemDrop 13, TableGrow 15, TableSize 16, TableFill 17, I64Add128 19, I64Sub128 20]
         0xfd [I8x16Shuffle 13, I8x16Swizzle 14, V128Bitselect 82]
         0xfe [AtomicNotify 0, AtomicFence 3]
-    }
-        Instr::Unop { .. } | Instr::Binop { .. } | Instr::TernOp { .. } => FORM,
-        Instr::Const { value } => constant(*value),
-        Instr::Select { ty: None } => (0, 0x1b),
-        Instr::Select { ty: Some(_) } => (0, 0x1c),
-        Instr::RefTest { ty } => (0xfb, if ty.is_nullable() { 21 } else { 20 }),
-        Instr::RefCast { ty } => (0xfb, if ty.is_nullable() { 23 } else { 22 }),
-        Instr::Load { kind, .. } => load(*kind),
-        Instr::Store { kind, .. } => store(*kind),
-        Instr::LoadSimd { kind, .. } => vector(*kind),
-        Instr::AtomicRmw { op, width, .. } => (0xfe, first(*op).saturating_add(place(*width))),
-        Instr::Cmpxchg { width, .. } => (0xfe, place(*width).saturating_add(72)),
-        Instr::AtomicWait { sixty_four, .. } => (0xfe, if *sixty_four { 2 } else { 1 }),
-        _ => NONE
+        ids {
+            0 [CallIndirect { ty, table } 0x11, ReturnCallIndirect { ty, table } 0x13]
+            0xfb [
+                ArrayNewData { ty, data } 9, ArrayNewElem { ty, elem } 10, ArrayCopy { dst, src } 17, ArrayInitData { ty, data } 18,
+                ArrayInitElem { ty, elem } 19
+            ]
+            0xfc [MemoryInit { data, memory } 8, MemoryCopy { dst, src } 10, TableInit { elem, table } 12, TableCopy { dst, src } 14]
+        }
+        Instr::Unop { .. }
+        | Instr::Binop { .. }
+        | Instr::TernOp { .. }
+        | Instr::Load { .. }
+        | Instr::Store { .. }
+        | Instr::LoadSimd { .. }
+        | Instr::AtomicRmw { .. }
+        | Instr::Cmpxchg { .. }
+        | Instr::AtomicWait { .. } => (0xff, 1, 0, 0),
+        Instr::Const { value: Value::I32(_) } => (0, 0x41, 0, 0),
+        Instr::Const { value: Value::I64(_) } => (0, 0x42, 0, 0),
+        Instr::Const { value: Value::F32(_) } => (0, 0x43, 0, 0),
+        Instr::Const { value: Value::F64(_) } => (0, 0x44, 0, 0),
+        Instr::Const { value: Value::V128(_) } => (0xfd, 12, 0, 0),
+        Instr::Select { ty: None } => (0, 0x1b, 0, 0),
+        Instr::Select { ty: Some(_) } => (0, 0x1c, 0, 0),
+        Instr::RefTest { ty } => (0xfb, if ty.is_nullable() { 21 } else { 20 }, 0, 0),
+        Instr::RefCast { ty } => (0xfb, if ty.is_nullable() { 23 } else { 22 }, 0, 0),
+        _ => (0xff, 0, 0, 0)
     }
 }
 
 /// Whether this is the code of the instruction's name.
 pub(crate) fn is_named(alloc: Global, numbers: &IdsToIndices, instr: &Instr, code: OpCode) -> bool {
-    let (prefix, number) = code_of(instr);
+    let (prefix, number, _, _) = named(instr);
     if prefix == 0xff {
         return number == 1 && is_of_its_form(alloc, numbers, code);
     }

@@ -1,15 +1,16 @@
 //! What an operator's immediates are: their form, and their numbers one by one.
 
-use crate::words::nth;
+use crate::words::{cut, number};
 use walrus_operators::Immediates;
 use wasm_immediates::{BlockType, Clause, MemoryAccess};
 use wasm_ref_types::{AbstractHeapType, HeapType, UnpackedIndex, ValType};
 
-// The forms in the order of the arms below: one text, as a text an arm would be dear.
-const FORMS: &str =
+/// The forms in the order of the arms below: one text, as a text an arm would be dear.
+pub(crate) const FORMS: &str =
     "bare block handlers tag label labels function type-table type values local global table access memory i32 i64 f32 f64 heap data-memory data memory-memory element-table element table-table type-number type-data type-element type-type cast vector lane access-lane zero";
 
-fn place(immediates: &Immediates) -> usize {
+/// The place of their form in the text.
+pub(crate) fn place(immediates: &Immediates) -> usize {
     match immediates {
         Immediates::Bare => 0,
         Immediates::Block(_) => 1,
@@ -49,62 +50,43 @@ fn place(immediates: &Immediates) -> usize {
     }
 }
 
-/// Their form.
-pub(crate) fn form(immediates: &Immediates) -> &'static [u8] {
-    nth(FORMS.as_bytes(), place(immediates))
-}
-
-// A number below zero counts from 2^64 down.
-fn below(n: u8) -> u64 {
-    0u64.wrapping_sub(u64::from(n))
-}
-
-fn signed(n: i64) -> u64 {
-    n.cast_unsigned()
-}
-
-// The number that an abstract type's byte is.
+// The number that an abstract type's byte is. A number below zero counts from 2^64 down.
 fn of_abstract(ty: AbstractHeapType) -> u64 {
-    below(match ty {
-        AbstractHeapType::Func => 16,
-        AbstractHeapType::Extern => 17,
-        AbstractHeapType::Any => 18,
-        AbstractHeapType::None => 15,
-        AbstractHeapType::NoExtern => 14,
-        AbstractHeapType::NoFunc => 13,
-        AbstractHeapType::Eq => 19,
-        AbstractHeapType::Struct => 21,
-        AbstractHeapType::Array => 22,
-        AbstractHeapType::I31 => 20,
-        AbstractHeapType::Exn => 23,
-        AbstractHeapType::NoExn => 12,
-        _ => 98,
-    })
+    match ty {
+        AbstractHeapType::Func => 0xffff_ffff_ffff_fff0,
+        AbstractHeapType::Extern => 0xffff_ffff_ffff_ffef,
+        AbstractHeapType::Any => 0xffff_ffff_ffff_ffee,
+        AbstractHeapType::None => 0xffff_ffff_ffff_fff1,
+        AbstractHeapType::NoExtern => 0xffff_ffff_ffff_fff2,
+        AbstractHeapType::NoFunc => 0xffff_ffff_ffff_fff3,
+        AbstractHeapType::Eq => 0xffff_ffff_ffff_ffed,
+        AbstractHeapType::Struct => 0xffff_ffff_ffff_ffeb,
+        AbstractHeapType::Array => 0xffff_ffff_ffff_ffea,
+        AbstractHeapType::I31 => 0xffff_ffff_ffff_ffec,
+        AbstractHeapType::Exn => 0xffff_ffff_ffff_ffe9,
+        AbstractHeapType::NoExn => 0xffff_ffff_ffff_fff4,
+        _ => 0xffff_ffff_ffff_ff80,
+    }
 }
 
 // A shared type is 100 below the same type that isn't.
 fn of_heap(ty: HeapType) -> u64 {
     match ty {
-        HeapType::Abstract { shared, ty } => {
-            if shared {
-                of_abstract(ty).wrapping_sub(100)
-            } else {
-                of_abstract(ty)
-            }
-        }
-        HeapType::Concrete(UnpackedIndex::Module(index)) => u64::from(index),
-        _ => below(99),
+        HeapType::Abstract { shared: false, ty } => of_abstract(ty),
+        HeapType::Abstract { shared: true, ty } => of_abstract(ty).wrapping_sub(100),
+        HeapType::Concrete(UnpackedIndex::Module(index)) => index as u64,
+        _ => 0xffff_ffff_ffff_ff80,
     }
 }
 
 // A nullable reference is the number of its heap type, any other is 2^24 below it, where no index leads.
 fn of_value(ty: ValType) -> u64 {
     match ty {
-        ValType::I32 => below(1),
-        ValType::I64 => below(2),
-        ValType::F32 => below(3),
-        ValType::F64 => below(4),
-        ValType::V128 => below(5),
+        ValType::I32 => 0xffff_ffff_ffff_ffff,
+        ValType::I64 => 0xffff_ffff_ffff_fffe,
+        ValType::F32 => 0xffff_ffff_ffff_fffd,
+        ValType::F64 => 0xffff_ffff_ffff_fffc,
+        ValType::V128 => 0xffff_ffff_ffff_fffb,
         ValType::Ref(ty) => {
             if ty.is_nullable() {
                 of_heap(ty.heap_type())
@@ -118,30 +100,22 @@ fn of_value(ty: ValType) -> u64 {
 // A type by its index is 2^32 above the index.
 fn of_block(ty: BlockType) -> u64 {
     match ty {
-        BlockType::Empty => below(64),
+        BlockType::Empty => 0xffff_ffff_ffff_ffc0,
         BlockType::Value(ty) => of_value(ty),
-        BlockType::Type(index) => u64::from(index).wrapping_add(4294967296),
+        BlockType::Type(index) => (index as u64).wrapping_add(4294967296),
     }
 }
 
-fn one(at: usize, n: u64) -> Option<u64> {
-    if at == 0 { Some(n) } else { None }
-}
-
-fn two(at: usize, first: u32, second: u32) -> Option<u64> {
-    match at {
-        0 => Some(u64::from(first)),
-        1 => Some(u64::from(second)),
-        _ => None,
+// One of the first so many of four.
+fn one_of(at: usize, count: usize, one: u64, two: u64, three: u64, four: u64) -> Option<u64> {
+    if at >= count {
+        return None;
     }
-}
-
-fn of_access(at: usize, access: &MemoryAccess) -> Option<u64> {
     match at {
-        0 => Some(u64::from(access.align)),
-        1 => Some(u64::from(access.memory)),
-        2 => Some(access.offset),
-        _ => None,
+        0 => Some(one),
+        1 => Some(two),
+        2 => Some(three),
+        _ => Some(four),
     }
 }
 
@@ -154,8 +128,8 @@ fn of_clause(at: usize, clause: &Clause) -> u64 {
     };
     match at {
         0 => kind,
-        1 => u64::from(tag),
-        _ => u64::from(label),
+        1 => tag as u64,
+        _ => label as u64,
     }
 }
 
@@ -174,12 +148,12 @@ fn of_handlers(at: usize, ty: BlockType, clauses: &[Clause]) -> Option<u64> {
 // The last, and the others in their order.
 fn of_labels(at: usize, labels: &[u32], otherwise: u32) -> Option<u64> {
     if at == 0 {
-        return Some(u64::from(otherwise));
+        return Some(otherwise as u64);
     }
     if at > labels.len() {
         return None;
     }
-    Some(u64::from(labels[at - 1]))
+    Some(labels[at - 1] as u64)
 }
 
 fn of_values(at: usize, types: &[ValType]) -> Option<u64> {
@@ -193,11 +167,11 @@ fn of_vector(at: usize, bytes: &[u8]) -> Option<u64> {
     if at >= bytes.len() {
         return None;
     }
-    Some(u64::from(bytes[at]))
+    Some(bytes[at] as u64)
 }
 
-/// The number at a place among them, if that many are there.
-pub(crate) fn number_at(immediates: &Immediates, at: usize) -> Option<u64> {
+// The number at a place among them, if that many are there.
+fn number_at(immediates: &Immediates, at: usize) -> Option<u64> {
     match immediates {
         Immediates::Bare | Immediates::Zero => None,
         Immediates::Tag(n)
@@ -209,7 +183,7 @@ pub(crate) fn number_at(immediates: &Immediates, at: usize) -> Option<u64> {
         | Immediates::Table(n)
         | Immediates::Memory(n)
         | Immediates::Data(n)
-        | Immediates::Element(n) => one(at, u64::from(*n)),
+        | Immediates::Element(n) => one_of(at, 1, *n as u64, 0, 0, 0),
         Immediates::TypeTable(m, n)
         | Immediates::DataMemory(m, n)
         | Immediates::MemoryMemory(m, n)
@@ -218,32 +192,57 @@ pub(crate) fn number_at(immediates: &Immediates, at: usize) -> Option<u64> {
         | Immediates::TypeNumber(m, n)
         | Immediates::TypeData(m, n)
         | Immediates::TypeElement(m, n)
-        | Immediates::TypeType(m, n) => two(at, *m, *n),
-        Immediates::Access(access) => of_access(at, access),
-        Immediates::AccessLane(access, lane) => {
-            if at == 3 {
-                Some(u64::from(*lane))
-            } else {
-                of_access(at, access)
-            }
-        }
-        Immediates::I32(n) => one(at, signed(i64::from(*n))),
-        Immediates::I64(n) => one(at, signed(*n)),
-        Immediates::F32(x) => one(at, u64::from(x.bits())),
-        Immediates::F64(x) => one(at, x.bits()),
-        Immediates::Lane(lane) => one(at, u64::from(*lane)),
-        Immediates::Block(ty) => one(at, of_block(*ty)),
-        Immediates::Heap(ty) => one(at, of_heap(*ty)),
-        Immediates::Cast(flags, label, from, to) => match at {
-            0 => Some(u64::from(*flags)),
-            1 => Some(u64::from(*label)),
-            2 => Some(of_heap(*from)),
-            3 => Some(of_heap(*to)),
-            _ => None,
-        },
+        | Immediates::TypeType(m, n) => one_of(at, 2, *m as u64, *n as u64, 0, 0),
+        Immediates::Access(access) => one_of(
+            at,
+            3,
+            access.align as u64,
+            access.memory as u64,
+            access.offset,
+            0,
+        ),
+        Immediates::AccessLane(access, lane) => one_of(
+            at,
+            4,
+            access.align as u64,
+            access.memory as u64,
+            access.offset,
+            *lane as u64,
+        ),
+        Immediates::I32(n) => one_of(at, 1, (*n as i64).cast_unsigned(), 0, 0, 0),
+        Immediates::I64(n) => one_of(at, 1, n.cast_unsigned(), 0, 0, 0),
+        Immediates::F32(x) => one_of(at, 1, x.bits() as u64, 0, 0, 0),
+        Immediates::F64(x) => one_of(at, 1, x.bits(), 0, 0, 0),
+        Immediates::Lane(lane) => one_of(at, 1, *lane as u64, 0, 0, 0),
+        Immediates::Block(ty) => one_of(at, 1, of_block(*ty), 0, 0, 0),
+        Immediates::Heap(ty) => one_of(at, 1, of_heap(*ty), 0, 0, 0),
+        Immediates::Cast(flags, label, from, to) => one_of(
+            at,
+            4,
+            *flags as u64,
+            *label as u64,
+            of_heap(*from),
+            of_heap(*to),
+        ),
         Immediates::Vector(bytes) => of_vector(at, bytes),
         Immediates::Select(types) => of_values(at, types.as_slice()),
         Immediates::BrTable(labels, otherwise) => of_labels(at, labels.as_slice(), *otherwise),
         Immediates::TryTable(ty, clauses) => of_handlers(at, *ty, clauses.as_slice()),
     }
+}
+
+/// Whether they have these numbers and no other, all in one word. A `-` alone is none.
+pub(crate) fn has_numbers(immediates: &Immediates, words: &[u8]) -> bool {
+    let mut rest = words;
+    for at in 0..=words.len() {
+        if rest.is_empty() || rest == "-".as_bytes() {
+            return number_at(immediates, at).is_none();
+        }
+        let (word, next) = cut(rest, b',');
+        if number_at(immediates, at) != Some(number(word, 10)) {
+            return false;
+        }
+        rest = next;
+    }
+    false
 }

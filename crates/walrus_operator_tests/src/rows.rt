@@ -1,93 +1,205 @@
 //! The rows, by the standard's tables of instructions: words with a space between them, and a row a line. Bytes stand as two digits each,
 //! `-` is none. Codes are ranges: of one byte in hexadecimal where the prefix is 00, else of decimal numbers behind the prefix.
 
-/// All operators: a prefix, the first and the last code, the form of the immediates, and what pairing makes of them.
-pub(crate) const CODES: &str = "00 00 00 bare back
-00 01 01 bare none
-00 02 04 block none
-00 05 05 bare none
-00 06 06 block none
-00 07 07 tag none
-00 08 08 tag back
-00 09 09 label none
-00 0a 0a bare back
-00 0b 0b bare none
-00 0c 0d label none
-00 0e 0e labels none
-00 0f 0f bare back
-00 10 10 function back
-00 11 11 type-table back
-00 12 12 function back
-00 13 13 type-table back
-00 14 15 type back
-00 18 18 label none
-00 19 19 bare none
-00 1a 1b bare back
-00 1c 1c values back
-00 1f 1f handlers none
-00 20 22 local back
-00 23 24 global back
-00 25 26 table back
-00 28 3e access back
-00 3f 40 memory back
-00 41 41 i32 back
-00 42 42 i64 back
-00 43 43 f32 back
-00 44 44 f64 back
-00 45 c4 bare back
-00 d0 d0 heap back
-00 d1 d1 bare back
-00 d2 d2 function back
-00 d3 d4 bare back
-00 d5 d6 label none
-fb 0 1 type back
-fb 2 5 type-number back
-fb 6 7 type back
-fb 8 8 type-number back
-fb 9 9 type-data back
-fb 10 10 type-element back
-fb 11 14 type back
-fb 15 15 bare back
-fb 16 16 type back
-fb 17 17 type-type back
-fb 18 18 type-data back
-fb 19 19 type-element back
-fb 20 23 heap back
-fb 24 25 cast none
-fb 26 30 bare back
-fc 0 7 bare back
-fc 8 8 data-memory back
-fc 9 9 data back
-fc 10 10 memory-memory back
-fc 11 11 memory back
-fc 12 12 element-table back
-fc 13 13 element back
-fc 14 14 table-table back
-fc 15 17 table back
-fc 19 22 bare back
-fd 0 11 access back
-fd 12 13 vector back
-fd 14 20 bare back
-fd 21 34 lane back
-fd 35 83 bare back
-fd 84 91 access-lane back
-fd 92 93 access back
-fd 94 153 bare back
-fd 155 161 bare back
-fd 163 164 bare back
-fd 167 174 bare back
-fd 177 177 bare back
-fd 181 186 bare back
-fd 188 193 bare back
-fd 195 196 bare back
-fd 199 206 bare back
-fd 209 209 bare back
-fd 213 225 bare back
-fd 227 237 bare back
-fd 239 275 bare back
-fe 0 2 access back
-fe 3 3 zero back
-fe 16 78 access back";
+/// All rows, each with a first word that says what is asked, and behind each kind the sum of what it asks of: of operators, codes or rows.
+///
+/// - `code` are the codes of operators: a prefix, the first and the last code, the form of the immediates, and what pairing makes of them. Of
+///   the form `unknown` are those that are no operator's, up to the number 400 behind a prefix. 575 codes stand with all immediates of
+///   their forms.
+/// - `fault`: which feature is off, the bytes, and the fault with the count of missing bytes and its place. Where what an operator needs is
+///   off, the rest being on, the code is no operator's, and what follows isn't looked at. Of the faults: codes whose number is too long or
+///   too large; a heap type whose number is negative, its first byte that of no abstract type; block types below zero that are no value
+///   types; a handler's kind; flags of a cast; a fence; types before the table, whose index is too long; missing bytes of a float and a
+///   vector; missing labels.
+/// - `padded` numbers are read, and the shortest are written: of a memory 0 in so many words nothing, of a nullable abstract reference one
+///   byte.
+/// - `ids`: what indices name in the fields of instructions, index 130 being that of the largest id.
+/// - `renumbered`: what is written where ids have the largest number: those of the data segments and locals of index 64.
+/// - `missing`: codes of no operator, and some whose immediates are missing, have no instruction.
+pub(crate) const ROWS: &str = "code 00 00 00 bare back
+code 00 01 01 bare none
+code 00 02 04 block none
+code 00 05 05 bare none
+code 00 06 06 block none
+code 00 07 07 tag none
+code 00 08 08 tag back
+code 00 09 09 label none
+code 00 0a 0a bare back
+code 00 0b 0b bare none
+code 00 0c 0d label none
+code 00 0e 0e labels none
+code 00 0f 0f bare back
+code 00 10 10 function back
+code 00 11 11 type-table back
+code 00 12 12 function back
+code 00 13 13 type-table back
+code 00 14 15 type back
+code 00 18 18 label none
+code 00 19 19 bare none
+code 00 1a 1b bare back
+code 00 1c 1c values back
+code 00 1f 1f handlers none
+code 00 20 22 local back
+code 00 23 24 global back
+code 00 25 26 table back
+code 00 28 3e access back
+code 00 3f 40 memory back
+code 00 41 41 i32 back
+code 00 42 42 i64 back
+code 00 43 43 f32 back
+code 00 44 44 f64 back
+code 00 45 c4 bare back
+code 00 d0 d0 heap back
+code 00 d1 d1 bare back
+code 00 d2 d2 function back
+code 00 d3 d4 bare back
+code 00 d5 d6 label none
+code fb 0 1 type back
+code fb 2 5 type-number back
+code fb 6 7 type back
+code fb 8 8 type-number back
+code fb 9 9 type-data back
+code fb 10 10 type-element back
+code fb 11 14 type back
+code fb 15 15 bare back
+code fb 16 16 type back
+code fb 17 17 type-type back
+code fb 18 18 type-data back
+code fb 19 19 type-element back
+code fb 20 23 heap back
+code fb 24 25 cast none
+code fb 26 30 bare back
+code fc 0 7 bare back
+code fc 8 8 data-memory back
+code fc 9 9 data back
+code fc 10 10 memory-memory back
+code fc 11 11 memory back
+code fc 12 12 element-table back
+code fc 13 13 element back
+code fc 14 14 table-table back
+code fc 15 17 table back
+code fc 19 22 bare back
+code fd 0 11 access back
+code fd 12 13 vector back
+code fd 14 20 bare back
+code fd 21 34 lane back
+code fd 35 83 bare back
+code fd 84 91 access-lane back
+code fd 92 93 access back
+code fd 94 153 bare back
+code fd 155 161 bare back
+code fd 163 164 bare back
+code fd 167 174 bare back
+code fd 177 177 bare back
+code fd 181 186 bare back
+code fd 188 193 bare back
+code fd 195 196 bare back
+code fd 199 206 bare back
+code fd 209 209 bare back
+code fd 213 225 bare back
+code fd 227 237 bare back
+code fd 239 275 bare back
+code fe 0 2 access back
+code fe 3 3 zero back
+code fe 16 78 access back
+sum 2116
+code 00 16 17 unknown
+code 00 1d 1e unknown
+code 00 27 27 unknown
+code 00 c5 cf unknown
+code 00 d7 fa unknown
+code 00 ff ff unknown
+code fb 31 400 unknown
+code fc 18 18 unknown
+code fc 23 400 unknown
+code fd 154 154 unknown
+code fd 162 162 unknown
+code fd 165 166 unknown
+code fd 175 176 unknown
+code fd 178 180 unknown
+code fd 187 187 unknown
+code fd 194 194 unknown
+code fd 197 198 unknown
+code fd 207 208 unknown
+code fd 210 212 unknown
+code fd 226 226 unknown
+code fd 238 238 unknown
+code fd 276 400 unknown
+code fe 4 15 unknown
+code fe 79 400 unknown
+code fc 16383 16383 unknown
+code fd 16000 16000 unknown
+sum 1283
+fault legacy 0640 unknown 0 11
+fault - 0640 none 0 0
+fault legacy 0700 unknown 0 11
+fault - 0700 none 0 0
+fault legacy 0900 unknown 0 11
+fault - 0900 none 0 0
+fault legacy 1800 unknown 0 11
+fault - 1800 none 0 0
+fault legacy 19 unknown 0 11
+fault - 19 none 0 0
+fault wide fc13 unknown 0 11
+fault - fc13 none 0 0
+fault wide fc14 unknown 0 11
+fault - fc14 none 0 0
+fault wide fc15 unknown 0 11
+fault - fc15 none 0 0
+fault wide fc16 unknown 0 11
+fault - fc16 none 0 0
+fault - - end 1 11
+fault - fd end 1 12
+fault - fc808080808000 long 0 16
+fault - fc8080808010 large 0 16
+fault - d0f07f bad 0 12
+fault - 0250 bad 0 12
+fault - 02c07f bad 0 12
+fault - 1f400104 bad 0 14
+fault - fb1804007070 bad 0 13
+fault - fe0301 bad 0 13
+fault - 1105808080808000 long 0 17
+fault - 430000 end 2 12
+fault - fd0c00 end 15 13
+fault - 0effffffff0f00 end 1 18
+sum 32
+padded fc8000 fc00
+padded 20818000 2001
+padded 41ff7f 417f
+padded 42c08000 42c000
+padded 2842008000 280200
+padded d08000 d000
+padded 026370 0270
+padded 1c8100636f 1c016f
+padded 0e8100800001 0e010001
+sum 9
+ids 110100 201 600
+ids 130100 201 600
+ids fb090100 201 1600
+ids fb0a0100 201 1400
+ids fb110100 201 200
+ids fb120100 201 1600
+ids fb130100 201 1400
+ids fc080100 1601 800
+ids fc0a0001 800 801
+ids fc0c0100 1401 600
+ids fc0e0001 600 601
+ids 1182018201 4294967295 4294967295
+ids fb0982018201 4294967295 4294967295
+ids fb0a82018201 4294967295 4294967295
+ids fc0882018201 4294967295 4294967295
+sum 15
+renumbered fc0940 fc09ffffffff0f
+renumbered 2040 20ffffffff0f
+renumbered 2140 21ffffffff0f
+renumbered 2240 22ffffffff0f
+sum 4
+missing fd 154
+missing fd 226
+missing fd 276
+missing fe 3
+missing 01 69
+sum 5";
 
 /// What follows the codes of each form: its bytes, its numbers, and what pairing makes of it. `back` is an instruction that gives the same
 /// operator, where the code has one; `none` is no instruction, and all else a refusal. The maps have 131 items of each space.
@@ -329,111 +441,3 @@ values 01638001 128 back
 values 0163ffff3f 1048575 no-type
 values 027f63ffff3f -1,1048575 no-type
 values 027f6f -1,-17 select";
-
-/// What is no operator, up to the number 400 behind a prefix.
-pub(crate) const NO_CODES: &str = "00 16 17
-00 1d 1e
-00 27 27
-00 c5 cf
-00 d7 fa
-00 ff ff
-fb 31 400
-fc 18 18
-fc 23 400
-fd 154 154
-fd 162 162
-fd 165 166
-fd 175 176
-fd 178 180
-fd 187 187
-fd 194 194
-fd 197 198
-fd 207 208
-fd 210 212
-fd 226 226
-fd 238 238
-fd 276 400
-fe 4 15
-fe 79 400
-fc 16383 16383
-fd 16000 16000";
-
-/// Which feature is off, the bytes, and the fault with the count of missing bytes and its place. Where what an operator needs is off, the
-/// rest being on, the code is no operator's, and what follows isn't looked at.
-///
-/// Of the faults: codes whose number is too long or too large; a heap type whose number is negative, its first byte that of no abstract
-/// type; block types below zero that are no value types; a handler's kind; flags of a cast; a fence; types before the table, whose index
-/// is too long; missing bytes of a float and a vector; missing labels.
-pub(crate) const FAULTS: &str = "legacy 0640 unknown 0 11
-- 0640 none 0 0
-legacy 0700 unknown 0 11
-- 0700 none 0 0
-legacy 0900 unknown 0 11
-- 0900 none 0 0
-legacy 1800 unknown 0 11
-- 1800 none 0 0
-legacy 19 unknown 0 11
-- 19 none 0 0
-wide fc13 unknown 0 11
-- fc13 none 0 0
-wide fc14 unknown 0 11
-- fc14 none 0 0
-wide fc15 unknown 0 11
-- fc15 none 0 0
-wide fc16 unknown 0 11
-- fc16 none 0 0
-- - end 1 11
-- fd end 1 12
-- fc808080808000 long 0 16
-- fc8080808010 large 0 16
-- d0f07f bad 0 12
-- 0250 bad 0 12
-- 02c07f bad 0 12
-- 1f400104 bad 0 14
-- fb1804007070 bad 0 13
-- fe0301 bad 0 13
-- 1105808080808000 long 0 17
-- 430000 end 2 12
-- fd0c00 end 15 13
-- 0effffffff0f00 end 1 18";
-
-/// Padded numbers are read, and the shortest are written: of a memory 0 in so many words nothing, of a nullable abstract reference one byte.
-pub(crate) const PADDED: &str = "fc8000 fc00
-20818000 2001
-41ff7f 417f
-42c08000 42c000
-2842008000 280200
-d08000 d000
-026370 0270
-1c8100636f 1c016f
-0e8100800001 0e010001";
-
-/// What indices name in the fields of instructions, index 130 being that of the largest id.
-pub(crate) const FIELDS: &str = "110100 201 600
-130100 201 600
-fb090100 201 1600
-fb0a0100 201 1400
-fb110100 201 200
-fb120100 201 1600
-fb130100 201 1400
-fc080100 1601 800
-fc0a0001 800 801
-fc0c0100 1401 600
-fc0e0001 600 601
-1182018201 4294967295 4294967295
-fb0982018201 4294967295 4294967295
-fb0a82018201 4294967295 4294967295
-fc0882018201 4294967295 4294967295";
-
-/// What is written where ids have the largest number: those of the data segments and locals of index 64.
-pub(crate) const RENUMBERED: &str = "fc0940 fc09ffffffff0f
-2040 20ffffffff0f
-2140 21ffffffff0f
-2240 22ffffffff0f";
-
-/// Codes of no operator, and some whose immediates are missing.
-pub(crate) const NO_INSTRUCTIONS: &str = "fd 154
-fd 226
-fd 276
-fe 3
-01 69";

@@ -1,5 +1,7 @@
 //! Rows and words of texts, and the numbers and bytes that words stand for.
 
+use wasm_operators::OpCode;
+
 /// What stands before the first such byte, and what stands behind it; all and nothing where there is none.
 pub(crate) fn cut(text: &[u8], by: u8) -> (&[u8], &[u8]) {
     for at in 0..text.len() {
@@ -21,6 +23,11 @@ pub(crate) fn nth(text: &[u8], number: usize) -> &[u8] {
     word
 }
 
+/// The first byte of a word, 0 where there is none.
+pub(crate) fn first(word: &[u8]) -> u8 {
+    if word.is_empty() { 0 } else { word[0] }
+}
+
 // What a digit stands for, of those behind 9 too.
 fn digit(byte: u8) -> u8 {
     if byte < b'a' {
@@ -38,9 +45,7 @@ pub(crate) fn number(word: &[u8], base: u64) -> u64 {
         if *byte == b'-' {
             is_negative = true;
         } else {
-            number = number
-                .wrapping_mul(base)
-                .wrapping_add(u64::from(digit(*byte)));
+            number = number.wrapping_mul(base).wrapping_add(digit(*byte) as u64);
         }
     }
     if is_negative {
@@ -50,76 +55,65 @@ pub(crate) fn number(word: &[u8], base: u64) -> u64 {
     }
 }
 
-/// The base that codes are written to in the table.
-pub(crate) fn base(prefix: u64) -> u64 {
-    if prefix == 0 { 16 } else { 10 }
+/// A prefix and a number as a code: of one byte in hexadecimal where the prefix is 00.
+pub(crate) fn code(prefix: &[u8], word: &[u8]) -> OpCode {
+    let prefix = (number(prefix, 16) % 0x100) as u8;
+    let base = if prefix == 0 { 16 } else { 10 };
+    OpCode {
+        prefix,
+        number: (number(word, base) % 0x1_0000) as u32,
+    }
 }
 
-/// A few bytes.
-#[derive(Clone, Copy)]
-pub(crate) struct Bytes {
-    bytes: [u8; 32],
-    len: usize,
+/// A few bytes, and how many they are.
+pub(crate) type Bytes = ([u8; 32], usize);
+
+pub(crate) fn as_slice(bytes: &Bytes) -> &[u8] {
+    if bytes.1 <= 32 {
+        &bytes.0[..bytes.1]
+    } else {
+        &bytes.0
+    }
 }
 
-impl Bytes {
-    fn new() -> Self {
-        Bytes {
-            bytes: [0; 32],
-            len: 0,
+// So many of three bytes, and behind them those of a word, of two digits each. A single `-` stands for none.
+fn behind(head: (u8, u8, u8), count: usize, word: &[u8]) -> Bytes {
+    let mut bytes = [0u8; 32];
+    bytes[0] = head.0;
+    bytes[1] = head.1;
+    bytes[2] = head.2;
+    let mut len = count;
+    let mut high = 0u8;
+    let mut is_low = false;
+    for byte in word {
+        let half = digit(*byte);
+        if is_low && len < 32 {
+            bytes[len] = high.wrapping_mul(16).wrapping_add(half);
+            len += 1;
         }
+        high = half;
+        is_low = !is_low;
     }
-
-    fn push(&mut self, byte: u8) {
-        let at = self.len;
-        if at < 32 {
-            self.bytes[at] = byte;
-            self.len = at + 1;
-        }
-    }
-
-    // Bytes of two digits each. A single `-` stands for none.
-    fn push_all(&mut self, word: &[u8]) {
-        let mut high = 0u8;
-        let mut is_low = false;
-        for byte in word {
-            let half = digit(*byte);
-            if is_low {
-                self.push(high.wrapping_mul(16).wrapping_add(half));
-            }
-            high = half;
-            is_low = !is_low;
-        }
-    }
-
-    pub(crate) fn as_slice(&self) -> &[u8] {
-        if self.len <= 32 {
-            &self.bytes[..self.len]
-        } else {
-            &self.bytes
-        }
-    }
+    (bytes, len)
 }
 
 /// The bytes of a word.
 pub(crate) fn bytes_of(word: &[u8]) -> Bytes {
-    let mut bytes = Bytes::new();
-    bytes.push_all(word);
-    bytes
+    behind((0, 0, 0), 0, word)
 }
 
-/// The code of this number behind a prefix, or of one byte where the prefix is 0, and the bytes of a word behind it.
-pub(crate) fn text_of(prefix: u64, number: u64, word: &[u8]) -> Bytes {
-    let mut bytes = Bytes::new();
-    if prefix != 0 {
-        bytes.push((prefix % 0x100) as u8);
-    }
-    if prefix != 0 && number >= 0x80 {
-        bytes.push((number % 0x80) as u8 + 0x80);
-        bytes.push((number / 0x80 % 0x80) as u8);
+/// The code, of one byte where the prefix is 0, and the bytes of a word behind it.
+pub(crate) fn text_of(code: OpCode, word: &[u8]) -> Bytes {
+    let low = (code.number % 0x80) as u8;
+    if code.prefix == 0 {
+        behind(((code.number % 0x100) as u8, 0, 0), 1, word)
+    } else if code.number < 0x80 {
+        behind((code.prefix, low, 0), 2, word)
     } else {
-        bytes.push((number % 0x100) as u8);
+        behind(
+            (code.prefix, low + 0x80, (code.number / 0x80 % 0x80) as u8),
+            3,
+            word,
+        )
     }
-    bytes.push_all(word);
-    bytes
 }

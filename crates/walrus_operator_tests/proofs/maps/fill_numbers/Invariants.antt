@@ -3,5 +3,5 @@ use Rattle.walrus_index_maps.specs.Views.{indices}
 use Rattle.walrus_operator_tests.specs.Given.{given}
 use Rattle.walrus_operator_tests.proofs.maps.fill_numbers.Given as goal
 
-abbrev pub invariant-loop-n : goal.invariant-loop-n
-invariant-loop-n l = given (indices l.numbers) ≤ l.n
+abbrev pub invariant-loop-turn : goal.invariant-loop-turn
+invariant-loop-turn l = given (indices l.numbers) ≤ l.turn
