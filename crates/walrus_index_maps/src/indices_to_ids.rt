@@ -11,7 +11,7 @@ use std::alloc::{AllocError, Global};
 use thiserror::Error;
 use walrus_arena::{
     DataId, DataSpace, ElementId, ElementSpace, FunctionId, FunctionSpace, GlobalId, GlobalSpace,
-    Id, LocalId, LocalSpace, MemoryId, MemorySpace, TableId, TableSpace, TagId, TagSpace, TypeId,
+    LocalId, LocalSpace, MemoryId, MemorySpace, TableId, TableSpace, TagId, TagSpace, TypeId,
 };
 
 /// An index that names nothing.
@@ -33,25 +33,6 @@ pub struct IndicesToIds {
     segments: IdList<DataSpace>,
     // By the function's number.
     locals: Vec<IdList<LocalSpace>>,
-}
-
-// Appends an id, and gives its index. A list of 2^32 ids can't hold another.
-fn push_id<S>(list: &mut Vec<Id<S>>, id: Id<S>) -> Result<u32, AllocError>
-    ensures { MatchResult result (λ index. (index ≡ length list.old.items) × (list.new.items ≡ list.old.items ++ id ∷ [])) (λ _. list.new.items ≡ list.old.items) }
-{
-    let index = list.len();
-    if index > u32::MAX as usize {
-        return Err(AllocError);
-    }
-    list.push(id)?;
-    Ok(index as u32)
-}
-
-// The id at an index of the space.
-fn id_at<S>(list: &[Id<S>], index: u32, space: Space) -> Result<Id<S>, UnknownIndex>
-    ensures { result ≡ ok_or (slice_get list.now index) (record { 0 = space }) }
-{
-    list.get(index as usize).copied().ok_or(UnknownIndex(space))
 }
 
 impl IndicesToIds {
@@ -81,7 +62,13 @@ impl IndicesToIds {
     pub fn push_type(&mut self, id: TypeId) -> Result<u32, AllocError>
         ensures { MatchResult result (λ index. (index ≡ length (ids self.old).types) × (ids self.new ≡ record (ids self.old) { types = (ids self.old).types ++ id ∷ [] })) (λ _. ids self.new ≡ ids self.old) }
     {
-        push_id(&mut self.types, id)
+        // A list of 2^32 ids can't hold another.
+        let index = self.types.len();
+        if index > u32::MAX as usize {
+            return Err(AllocError);
+        }
+        self.types.push(id)?;
+        Ok(index as u32)
     }
 
     /// The type that an index names.
@@ -92,7 +79,10 @@ impl IndicesToIds {
     pub fn get_type(&self, index: u32) -> Result<TypeId, UnknownIndex>
         ensures { result ≡ ok_or (slice_get (ids self.now).types index) (record { 0 = spaces.«Type» }) }
     {
-        id_at(self.types.as_slice(), index, Space::Type)
+        self.types
+            .get(index as usize)
+            .copied()
+            .ok_or(UnknownIndex(Space::Type))
     }
 
     /// The next index of a function names this one. Gives the index.

@@ -42,12 +42,14 @@ impl LocalNumbers {
     pub(crate) fn get(&self, function: FunctionId, id: LocalId) -> Option<u32>
         ensures { result ≡ local_numbers self.now function id }
     {
-        if let Some(Some(said)) = self.last.get(id.index())
-            && said.function == function.number()
+        let function = function.number();
+        let local = id.number();
+        if let Some(Some(said)) = self.last.get(local as usize)
+            && said.function == function
         {
             return Some(said.number);
         }
-        self.earlier.get(&(function.number(), id.number())).copied()
+        self.earlier.get(&(function, local)).copied()
     }
 
     /// Gives a local this number in a function, in place of the one that it had there.

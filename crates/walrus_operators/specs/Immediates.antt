@@ -105,6 +105,10 @@ IsOfOne kinds.Table = Unit {0}
 IsOfOne kinds.Memory = Unit {0}
 IsOfOne kinds.Data = Unit {0}
 IsOfOne kinds.Element = Unit {0}
+IsOfOne kinds.Label = Unit {0}
+IsOfOne kinds.Function = Unit {0}
+IsOfOne kinds.Local = Unit {0}
+IsOfOne kinds.Global = Unit {0}
 IsOfOne kind = ⊥
 
 abbrev pub IsOfTwo : Kind → Type 0
@@ -127,6 +131,10 @@ one_item kinds.Table n = Names Tables n ∷ []
 one_item kinds.Memory n = Names Memories n ∷ []
 one_item kinds.Data n = Names DataSegments n ∷ []
 one_item kinds.Element n = Names ElementSegments n ∷ []
+one_item kinds.Label n = Names Labels n ∷ []
+one_item kinds.Function n = Names Functions n ∷ []
+one_item kinds.Local n = Names Locals n ∷ []
+one_item kinds.Global n = Names Globals n ∷ []
 one_item kind n = []
 
 abbrev pub two_items : Kind → ℕ → ℕ → List Item

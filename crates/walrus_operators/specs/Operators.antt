@@ -55,10 +55,6 @@ pub record IsNext (c : Cursor) (e : Entry) : Type 0 where
   pub listed : find_code 0 byte ≡ Some e
   pub on : is_on c.window.features e.gate ≡ true
 
--- no such byte stands here
-abbrev pub NoneIsNext : Cursor → Type 0
-NoneIsNext c = (e : Entry) → IsNext c e → ⊥
-
 -- and these immediates follow it
 abbrev pub IsNextOf : Cursor → Kind → Type 0
 IsNextOf c kind = (e : Entry) × IsNext c e × (e.kind ≡ kind)

@@ -14,6 +14,16 @@ use wasm_immediates::{BlockType, Clause, read_below, read_zero};
 use wasm_operators::reader::{BinaryReader, FromReader, Result};
 use wasm_operators::{Kind, read_access};
 
+// What a call gives; a refusal is handed on. (`?` would convert it, though both are of one type: a call more for each, and longer proofs.)
+macro_rules! got {
+    ($call:expr) => {
+        match $call {
+            Ok(found) => found,
+            Err(error) => return Err(error),
+        }
+    };
+}
+
 // No list is longer than a u32 counts.
 const MOST: usize = 4294967295;
 
@@ -32,8 +42,8 @@ fn read_branch_table(alloc: Global, reader: &mut BinaryReader<'_>) -> Result<Imm
     ensures items { ReadsUnlessMemory (items_at reader.old.window.features (forms Kind.BrTable)) items_of reader.old reader.new result }
     ensures kind { IfOk result (λ x. kind_is x ≡ Kind.BrTable) }
 {
-    let labels = reader.read_vec::<u32>(alloc, MOST)?;
-    let otherwise = reader.read_var_u32()?;
+    let labels = got!(reader.read_vec::<u32>(alloc, MOST));
+    let otherwise = got!(reader.read_var_u32());
     Ok(Immediates::BrTable(labels, otherwise))
 }
 
@@ -42,7 +52,8 @@ fn read_select(alloc: Global, reader: &mut BinaryReader<'_>) -> Result<Immediate
     ensures items { ReadsUnlessMemory (items_at reader.old.window.features (forms Kind.Select)) items_of reader.old reader.new result }
     ensures kind { IfOk result (λ x. kind_is x ≡ Kind.Select) }
 {
-    Ok(Immediates::Select(reader.read_vec::<ValType>(alloc, MOST)?))
+    let types = got!(reader.read_vec::<ValType>(alloc, MOST));
+    Ok(Immediates::Select(types))
 }
 
 #[tactic(auto, unfolding(wasm_immediates::specs::Readings::items_at, wasm_immediates::specs::Readings::item_at))]
@@ -50,10 +61,10 @@ fn read_cast(alloc: Global, reader: &mut BinaryReader<'_>) -> Result<Immediates>
     ensures items { Reads (items_at reader.old.window.features (forms Kind.Cast)) items_of reader.old reader.new result }
     ensures kind { IfOk result (λ x. kind_is x ≡ Kind.Cast) }
 {
-    let flags = read_below(reader, 4)?;
-    let label = reader.read_var_u32()?;
-    let from = HeapType::from_reader(alloc, reader)?;
-    let to = HeapType::from_reader(alloc, reader)?;
+    let flags = got!(read_below(reader, 4));
+    let label = got!(reader.read_var_u32());
+    let from = got!(HeapType::from_reader(alloc, reader));
+    let to = got!(HeapType::from_reader(alloc, reader));
     Ok(Immediates::Cast(flags, label, from, to))
 }
 
@@ -62,11 +73,10 @@ fn read_vector(reader: &mut BinaryReader<'_>) -> Result<Immediates>
     ensures items { Reads (items_at reader.old.window.features (forms Kind.Vector)) items_of reader.old reader.new result }
     ensures kind { IfOk result (λ x. kind_is x ≡ Kind.Vector) }
 {
-    let bytes = reader.read_bytes(16)?;
-    Ok(Immediates::Vector([
-        bytes[0], bytes[1], bytes[2], bytes[3], bytes[4], bytes[5], bytes[6], bytes[7], bytes[8],
-        bytes[9], bytes[10], bytes[11], bytes[12], bytes[13], bytes[14], bytes[15],
-    ]))
+    let bytes = got!(reader.read_bytes(16));
+    let mut vector = [0; 16];
+    vector.copy_from_slice(bytes);
+    Ok(Immediates::Vector(vector))
 }
 
 #[tactic(auto, unfolding(wasm_immediates::specs::Readings::items_at, wasm_immediates::specs::Readings::item_at))]
@@ -74,12 +84,13 @@ fn read_access_lane(reader: &mut BinaryReader<'_>) -> Result<Immediates>
     ensures items { Reads (items_at reader.old.window.features (forms Kind.AccessLane)) items_of reader.old reader.new result }
     ensures kind { IfOk result (λ x. kind_is x ≡ Kind.AccessLane) }
 {
-    let access = read_access(reader)?;
-    let lane = reader.read_u8()?;
+    let access = got!(read_access(reader));
+    let lane = got!(reader.read_u8());
     Ok(Immediates::AccessLane(access, lane))
 }
 
 // Immediates of one index.
+#[inline(always)]
 fn of_one(kind: Kind, n: u32) -> Immediates
     requires { IsOfOne kind }
     ensures items { items_of result ≡ one_item kind n }
@@ -92,6 +103,10 @@ fn of_one(kind: Kind, n: u32) -> Immediates
         Kind::Memory => Immediates::Memory(n),
         Kind::Data => Immediates::Data(n),
         Kind::Element => Immediates::Element(n),
+        Kind::Label => Immediates::Label(n),
+        Kind::Function => Immediates::Function(n),
+        Kind::Local => Immediates::Local(n),
+        Kind::Global => Immediates::Global(n),
         _ => unreachable!(),
     }
 }
@@ -129,7 +144,7 @@ fn read_rare(kind: Kind, alloc: Global, reader: &mut BinaryReader<'_>) -> Result
         Kind::BrTable => read_branch_table(alloc, reader),
         Kind::Select => read_select(alloc, reader),
         Kind::Tag | Kind::Type | Kind::Table | Kind::Memory | Kind::Data | Kind::Element => {
-            let n = reader.read_var_u32()?;
+            let n = got!(reader.read_var_u32());
             Ok(of_one(kind, n))
         }
         Kind::TypeTable
@@ -141,18 +156,18 @@ fn read_rare(kind: Kind, alloc: Global, reader: &mut BinaryReader<'_>) -> Result
         | Kind::TypeData
         | Kind::TypeElement
         | Kind::TypeType => {
-            let first = reader.read_var_u32()?;
-            let second = reader.read_var_u32()?;
+            let first = got!(reader.read_var_u32());
+            let second = got!(reader.read_var_u32());
             Ok(of_two(kind, first, second))
         }
-        Kind::F32 => Ok(Immediates::F32(reader.read_f32()?)),
-        Kind::Heap => Ok(Immediates::Heap(HeapType::from_reader(alloc, reader)?)),
+        Kind::F32 => Ok(Immediates::F32(got!(reader.read_f32()))),
+        Kind::Heap => Ok(Immediates::Heap(got!(HeapType::from_reader(alloc, reader)))),
         Kind::Cast => read_cast(alloc, reader),
         Kind::Vector => read_vector(reader),
-        Kind::Lane => Ok(Immediates::Lane(reader.read_u8()?)),
+        Kind::Lane => Ok(Immediates::Lane(got!(reader.read_u8()))),
         Kind::AccessLane => read_access_lane(reader),
         Kind::Zero => {
-            read_zero(reader)?;
+            got!(read_zero(reader));
             Ok(Immediates::Zero)
         }
         Kind::Bare
@@ -181,15 +196,15 @@ pub(crate) fn read_immediates(
 {
     match kind {
         Kind::Bare => Ok(Immediates::Bare),
-        Kind::Block => Ok(Immediates::Block(BlockType::from_reader(alloc, reader)?)),
-        Kind::Label => Ok(Immediates::Label(reader.read_var_u32()?)),
-        Kind::Function => Ok(Immediates::Function(reader.read_var_u32()?)),
-        Kind::Local => Ok(Immediates::Local(reader.read_var_u32()?)),
-        Kind::Global => Ok(Immediates::Global(reader.read_var_u32()?)),
-        Kind::Access => Ok(Immediates::Access(read_access(reader)?)),
-        Kind::I32 => Ok(Immediates::I32(reader.read_var_i32()?)),
-        Kind::I64 => Ok(Immediates::I64(reader.read_var_i64()?)),
-        Kind::F64 => Ok(Immediates::F64(reader.read_f64()?)),
+        Kind::Block => Ok(Immediates::Block(got!(BlockType::from_reader(alloc, reader)))),
+        Kind::Label | Kind::Function | Kind::Local | Kind::Global => {
+            let n = got!(reader.read_var_u32());
+            Ok(of_one(kind, n))
+        }
+        Kind::Access => Ok(Immediates::Access(got!(read_access(reader)))),
+        Kind::I32 => Ok(Immediates::I32(got!(reader.read_var_i32()))),
+        Kind::I64 => Ok(Immediates::I64(got!(reader.read_var_i64()))),
+        Kind::F64 => Ok(Immediates::F64(got!(reader.read_f64()))),
         Kind::TryTable
         | Kind::Tag
         | Kind::BrTable

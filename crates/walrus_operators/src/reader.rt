@@ -1,20 +1,20 @@
 //! Operators are read one by one.
 
-ghost use Rattle.std.specs.Prelude.{◌≡◌, ◌==◌, ◌+◌, length, IfOk, MatchOption, Ok, Some};
+ghost use Rattle.std.specs.Prelude.{◌≡◌, ◌==◌, ◌+◌, length, slice_get, IfOk, Ok, Some};
 ghost use Rattle.wasm_operators.specs.wasm_reader.Cursor.{rest};
 ghost use Rattle.wasm_operators.specs.wasm_reader.Reading.{Reads, plain};
 ghost use Rattle.wasm_operators.specs.Operators.{code_at, IsKindOrPlace};
 ghost use Rattle.wasm_operators.specs.Table.{find_code};
 ghost use Rattle.wasm_operators.specs.declared.entry.Entry.{Entry as Row};
 ghost use Rattle.walrus_operators.specs.Immediates.{kind_is};
-ghost use Rattle.walrus_operators.specs.Operators.{IsNext, IsNextOf, NoneIsNext, ReadsOperator};
+ghost use Rattle.walrus_operators.specs.Operators.{IsNext, IsNextOf, ReadsOperator};
 
 use crate::operator::Operator;
 use crate::read::read_immediates;
 use std::alloc::Global;
 use std::marker::Model;
 use wasm_operators::reader::{BinaryReader, Error, Result};
-use wasm_operators::{Entry, Kind, OpCode};
+use wasm_operators::{Kind, OpCode};
 
 /// Why no operator was read.
 #[derive(Clone, Copy, PartialEq, Eq)]
@@ -105,29 +105,15 @@ impl<'a> OperatorReader<'a> {
         Ok(Operator { code, immediates })
     }
 
-    /// What the table says of the next operator, whose code stays to be read; none exactly where no byte is left, or that is no operator's
-    /// code by itself under the reader's features.
+    /// The next byte, which stays to be read; none where no byte is left.
     #[inline(always)]
-    pub fn next_entry(&self) -> Option<Entry>
-        ensures { MatchOption result (NoneIsNext self.now) (λ entry. IsNext self.now entry) }
+    pub fn peek(&self) -> Option<u8>
+        ensures { result ≡ slice_get (rest self.now) 0 }
     {
-        let Ok(byte) = self.reader.peek() else {
-            return None;
-        };
-        if byte >= 0xfb {
-            return None;
+        match self.reader.peek() {
+            Ok(byte) => Some(byte),
+            Err(_) => None,
         }
-        let code = OpCode {
-            prefix: 0,
-            number: u32::from(byte),
-        };
-        let Some(entry) = code.entry() else {
-            return None;
-        };
-        if !entry.gate.is_on(self.reader.features()) {
-            return None;
-        }
-        Some(entry)
     }
 
     /// The next operator, whose immediates are of this kind, refused as [`OperatorReader::read`] refuses it. Where the kind is written out,

@@ -24,7 +24,7 @@ impl BlockType {
         ensures { Reads type_index_at plain reader.old reader.new result }
     {
         let offset = reader.original_position();
-        let index = reader.read_var_s33()?;
+        let index = got!(reader.read_var_s33());
         if index < 0 || index >= 1 << 32 {
             return Err(Error::new(ErrorKind::BadByte, offset));
         }
@@ -35,7 +35,7 @@ impl BlockType {
     fn read_empty(reader: &mut BinaryReader<'_>) -> Result<BlockType>
         ensures { Reads empty_at plain reader.old reader.new result }
     {
-        reader.read_u8()?;
+        got!(reader.read_u8());
         Ok(BlockType::Empty)
     }
 }
@@ -57,12 +57,13 @@ impl<'a> FromReader<'a> for BlockType {
     #[inline]
     #[tactic(auto, unfolding(crate::specs::Readings::block_at))]
     fn from_reader(alloc: Global, reader: &mut BinaryReader<'a>) -> Result<Self> {
-        let byte = reader.peek()?;
+        let byte = got!(reader.peek());
         if byte == 0x40 {
             return BlockType::read_empty(reader);
         }
         if 0x40 < byte && byte < 0x80 {
-            return Ok(BlockType::Value(ValType::from_reader(alloc, reader)?));
+            let ty = got!(ValType::from_reader(alloc, reader));
+            return Ok(BlockType::Value(ty));
         }
         BlockType::read_index(reader)
     }

@@ -74,15 +74,15 @@ impl<'a> FromReader<'a> for Clause {
     #[tactic(auto, unfolding(crate::specs::Readings::clause_at))]
     fn from_reader(_alloc: Global, reader: &mut BinaryReader<'a>) -> Result<Self> {
         let offset = reader.original_position();
-        let byte = reader.read_u8()?;
+        let byte = got!(reader.read_u8());
         match byte {
             0 | 1 => {
-                let tag = reader.read_var_u32()?;
-                let label = reader.read_var_u32()?;
+                let tag = got!(reader.read_var_u32());
+                let label = got!(reader.read_var_u32());
                 Ok(of_tag(byte == 1, tag, label))
             }
             2 | 3 => {
-                let label = reader.read_var_u32()?;
+                let label = got!(reader.read_var_u32());
                 Ok(of_all(byte == 3, label))
             }
             _ => Err(Error::new(ErrorKind::BadByte, offset)),

@@ -1,6 +1,16 @@
 //! What may follow an operator's code (Core Specification, binary format: instructions): immediates, item by item.
 #![tactic(auto)]
 
+// What a call gives; a refusal is handed on. (`?` would convert it, though both are of one type: a call more for each, and longer proofs.)
+macro_rules! got {
+    ($call:expr) => {
+        match $call {
+            Ok(found) => found,
+            Err(error) => return Err(error),
+        }
+    };
+}
+
 mod block_type;
 mod clause;
 pub mod laws;

@@ -12,7 +12,7 @@ pub fn read_below(reader: &mut BinaryReader<'_>, bound: u8) -> Result<u8>
     ensures { Reads (below_at bound) plain reader.old reader.new result }
 {
     let offset = reader.original_position();
-    let byte = reader.read_u8()?;
+    let byte = got!(reader.read_u8());
     if byte >= bound {
         return Err(Error::new(ErrorKind::BadByte, offset));
     }
@@ -26,7 +26,7 @@ pub fn read_zero(reader: &mut BinaryReader<'_>) -> Result<()>
     ensures { Reads zero_at plain reader.old reader.new result }
 {
     let offset = reader.original_position();
-    if reader.read_u8()? != 0 {
+    if got!(reader.read_u8()) != 0 {
         return Err(Error::new(ErrorKind::BadByte, offset));
     }
     Ok(())

@@ -17,25 +17,21 @@ fn has_memory_index(flags: u32) -> bool
 
 /// Where an operator accesses memory: nothing is tested of it. (It stands here, and not beside the struct, so that its wrong body is tried
 /// over one proof with those of the table.)
-#[inline]
+#[inline(always)]
 #[tactic(auto, unfolding(wasm_immediates::specs::Readings::access_at, wasm_immediates::specs::Readings::memory_at))]
 pub fn read_access(reader: &mut BinaryReader<'_>) -> Result<MemoryAccess>
     ensures { Reads access_at plain reader.old reader.new result }
 {
     let flags = reader.read_var_u32()?;
-    if has_memory_index(flags) {
-        let memory = reader.read_var_u32()?;
-        let offset = reader.read_var_u64()?;
-        return Ok(MemoryAccess {
-            align: flags - 64,
-            memory,
-            offset,
-        });
-    }
+    let (align, memory) = if has_memory_index(flags) {
+        (flags - 64, reader.read_var_u32()?)
+    } else {
+        (flags, 0)
+    };
     let offset = reader.read_var_u64()?;
     Ok(MemoryAccess {
-        align: flags,
-        memory: 0,
+        align,
+        memory,
         offset,
     })
 }

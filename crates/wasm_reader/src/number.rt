@@ -159,7 +159,7 @@ impl<'a> BinaryReader<'a> {
     }
 
     /// An s32 of at most five bytes, refused as [`BinaryReader::read_var_u32`] is.
-    #[inline]
+    #[inline(always)]
     #[tactic(auto, using(crate::proofs::Small::small_signed))]
     pub fn read_var_i32(&mut self) -> Result<i32>
         ensures { Reads (signed_at 32) plain self.old self.new result }
